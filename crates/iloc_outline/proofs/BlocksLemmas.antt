@@ -31,11 +31,11 @@ use Rattle.iloc_spec_grammar.proofs.Readings.{IsNoKey, before_key_read, fields_p
 use Rattle.iloc_spec_grammar.proofs.RuleTests.{tests_denied, tests_different, tests_not}
 use Rattle.iloc_outline.specs.Blocks.{AreBegun, IsBlockRead, ReadsBlocks, body_of}
 use Rattle.iloc_outline.specs.Groups.{AreGroups, IsGroup, parts_in}
-use Rattle.iloc_outline.specs.Left.{IsLater, IsRemainder, piece_left, pieces_left, whole_text}
+use Rattle.iloc_pieces.specs.Left.{IsLater, IsRemainder, piece_left, pieces_left, whole_text}
 use Rattle.iloc_outline.specs.Parts.{Part, block_parts, blocks_parts, field_part, in_order, optional_front, optional_variants, printed_part, rank, ranked, singleton_part, transform_parts, unicode_parts, variant_parts, word_part}
 use Rattle.iloc_outline.specs.Reading.{IsBody, IsPrivateBody, IsTooMuch, Puts}
 use Rattle.iloc_outline.specs.Spans.{Spell, held_spans}
-use Rattle.iloc_outline.specs.declared.left.Left.{Left}
+use Rattle.iloc_pieces.specs.declared.left.Left.{Left}
 use Rattle.iloc_outline.specs.declared.reading.Reading.{Reading}
 use Rattle.iloc_outline.specs.declared.reading.Reading.TheVariants.{End, Next, Bad, Repeated, Full}
 use Rattle.iloc_outline.specs.declared.span.Role.{Role}

@@ -10,10 +10,10 @@ use Rattle.iloc_spec_grammar.specs.Reading.{starts_block}
 use Rattle.iloc_spec_grammar.proofs.PiecesLaws.{at_pieces}
 use Rattle.iloc_spec_grammar.proofs.Readings.{IsLong}
 use Rattle.iloc_outline.specs.Parts.{Part, printed_part, rank, singleton_part}
-use Rattle.iloc_outline.specs.Left.{IsSpanned, piece_left, pieces_left, bytes_left}
+use Rattle.iloc_pieces.specs.Left.{IsSpanned, piece_left, pieces_left, bytes_left}
 use Rattle.iloc_outline.specs.Spans.{AreShort, IsSpan, Spell, held_spans}
 use Rattle.iloc_outline.specs.Reading.{IsTooMuch, Puts, block_span}
-use Rattle.iloc_outline.specs.declared.left.Left.{Left}
+use Rattle.iloc_pieces.specs.declared.left.Left.{Left}
 use Rattle.iloc_outline.specs.declared.span.Span.{Span}
 use Rattle.iloc_outline.specs.declared.spans.Spans.{Spans}
 use Rattle.iloc_outline.proofs.SpansLemmas.{adds_then, not_edited, spell_put}

@@ -7,13 +7,13 @@ use Rattle.iloc_spec_grammar.specs.Syntax.{Text, Field, Fields, Attribute, IsWor
 use Rattle.iloc_spec_grammar.proofs.ReadBack.{all_append}
 use Rattle.iloc_outline.specs.Fields.{IsAfterValues, PrintsAsItIs, IsValueRead}
 use Rattle.iloc_outline.specs.Inserting.{IsPutFrom}
-use Rattle.iloc_outline.specs.Left.{IsRemainder, IsLater, IsPast, IsSpanned, piece_left, pieces_left, bytes_left, whole_text}
+use Rattle.iloc_pieces.specs.Left.{IsRemainder, IsLater, IsPast, IsSpanned, piece_left, pieces_left, bytes_left, whole_text}
 use Rattle.iloc_fronts.specs.Words.{IsUpToEight, word_number}
 use Rattle.iloc_outline.specs.Parts.{Part, field_part}
 use Rattle.iloc_outline.specs.Reading.{EndsInKey, IsFieldOfRole, IsTooMuch, ReadsFields, role_key}
 use Rattle.iloc_outline.specs.Spans.{IsSpan}
 use Rattle.iloc_outline.specs.declared.fields.Value.{Value}
-use Rattle.iloc_outline.specs.declared.left.Left.{Left}
+use Rattle.iloc_pieces.specs.declared.left.Left.{Left}
 use Rattle.iloc_outline.specs.declared.sorting.Inserted.{Inserted}
 use Rattle.iloc_outline.specs.declared.sorting.Inserted.TheVariants.{Put, There, Full}
 use Rattle.iloc_outline.specs.declared.span.Role.{Role}
@@ -21,10 +21,10 @@ use Rattle.iloc_outline.specs.declared.span.Role.TheVariants as roles
 use Rattle.iloc_outline.specs.declared.span.Span.{Span}
 use Rattle.iloc_outline.specs.declared.spans.Spans.{Spans}
 use Rattle.iloc_outline.proofs.GatherLemmas.{Gathers, gathers_few, gathers_full, gathers_none, gathers_put, gathers_puts, gathers_there, pieces_in}
-use Rattle.iloc_outline.proofs.LeftLemmas.{length_rest, length_text, past_none, past_past, spanned_none}
+use Rattle.iloc_pieces.proofs.LeftLemmas.{length_rest, length_text, past_none, past_past, spanned_none}
 use Rattle.iloc_outline.proofs.SpansLemmas.{field_short}
 use Rattle.iloc_outline.proofs.WordLemmas.{length-pieces_of}
-use Rattle.iloc_outline.proofs.WordNumbers.{field_key_fits, key_fits}
+use Rattle.iloc_pieces.proofs.WordNumbers.{field_key_fits, key_fits}
 
 -- ---- keys and fields
 

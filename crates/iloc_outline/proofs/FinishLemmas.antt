@@ -6,10 +6,10 @@ use Rattle.iloc_spec_grammar.specs.Meaning.{Fault, HasIdentifierFault, Identifie
 use Rattle.iloc_spec_grammar.specs.Meaning as faults
 use Rattle.iloc_spec_grammar.proofs.PiecesLaws.{pieces_nonempty}
 use Rattle.iloc_outline.specs.Blocks.{ReadsBlocks}
-use Rattle.iloc_outline.specs.Left.{pieces_left, bytes_left}
+use Rattle.iloc_pieces.specs.Left.{pieces_left, bytes_left}
 use Rattle.iloc_outline.specs.Outlines.{AreHeadRead, BeginsWithLanguage, IsFinished, IsIdentifierOutlined, IsLocaleOutlined, ReadsHead}
 use Rattle.iloc_outline.specs.Spans.{held_spans}
-use Rattle.iloc_outline.specs.declared.left.Left.{Left}
+use Rattle.iloc_pieces.specs.declared.left.Left.{Left}
 use Rattle.iloc_outline.specs.declared.outline.Head.TheVariants as heads
 use Rattle.iloc_outline.specs.declared.outline.Outline.{Outline}
 use Rattle.iloc_outline.specs.declared.outline.Outlined.TheVariants.{Normal}

@@ -14,11 +14,11 @@ use Rattle.iloc_spec_grammar.proofs.ReadingLaws.{take_first_passes}
 use Rattle.iloc_spec_grammar.proofs.RawLaws.{languages_table}
 use Rattle.iloc_spec_grammar.proofs.WordsLaws.{length-language, length-lower, length-normal, length-region, length-script, upper-lower}
 use Rattle.iloc_outline.specs.Identifier.{IsFrontRead, IsAfterFront, IsOnePast, front_text, raised}
-use Rattle.iloc_outline.specs.Left as left
-use Rattle.iloc_outline.specs.Left.{IsRemainder, IsLater, IsNextPiece, IsPast, IsSpanned, IsShortPiece, piece_left, pieces_left, whole_text}
+use Rattle.iloc_pieces.specs.Left as left
+use Rattle.iloc_pieces.specs.Left.{IsRemainder, IsLater, IsNextPiece, IsPast, IsSpanned, IsShortPiece, piece_left, pieces_left, whole_text}
 use Rattle.iloc_outline.specs.Parts.{front_pieces}
-use Rattle.iloc_outline.specs.declared.left.Left.{Left}
-use Rattle.iloc_outline.proofs.LeftLemmas.{length_piece, length_rest, length_text, next_at, past_first, past_next, short_language, short_word, spanned_all, spanned_both}
+use Rattle.iloc_pieces.specs.declared.left.Left.{Left}
+use Rattle.iloc_pieces.proofs.LeftLemmas.{length_piece, length_rest, length_text, next_at, past_first, past_next, short_language, short_word, spanned_all, spanned_both}
 
 -- ---- pieces that are passed, to another one or to the end
 

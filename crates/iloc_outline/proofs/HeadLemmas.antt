@@ -10,13 +10,13 @@ use Rattle.iloc_spec_grammar.proofs.PiecesLaws.{at_pieces}
 use Rattle.iloc_spec_grammar.proofs.ReadingLaws.{from_block_starts, front-from_block, refuses_more, refuses_repeat, starts_ends}
 use Rattle.iloc_spec_grammar.proofs.Readings.{after_language}
 use Rattle.iloc_outline.specs.Identifier.{IsAfterFront, IsFrontRead, front_text}
-use Rattle.iloc_outline.specs.Left.{IsRemainder, IsPast, piece_left, pieces_left, bytes_left, whole_text}
+use Rattle.iloc_pieces.specs.Left.{IsRemainder, IsPast, piece_left, pieces_left, bytes_left, whole_text}
 use Rattle.iloc_outline.specs.Outlines.{AreHeadRead, ReadsHead, parts_text}
 use Rattle.iloc_outline.specs.Parts.{front_pieces, printed_part, variant_parts}
 use Rattle.iloc_outline.specs.Reading.{AreWordsRead, ReadsWords}
 use Rattle.iloc_outline.specs.Spans.{IsSpan, Spell, held_spans}
 use Rattle.iloc_outline.specs.declared.identifier.Front.{Front}
-use Rattle.iloc_outline.specs.declared.left.Left.{Left}
+use Rattle.iloc_pieces.specs.declared.left.Left.{Left}
 use Rattle.iloc_outline.specs.declared.outline.Head.TheVariants as heads
 use Rattle.iloc_outline.specs.declared.outline.Outline.{Outline}
 use Rattle.iloc_outline.specs.declared.reading.Reading.{Reading}
@@ -27,7 +27,7 @@ use Rattle.iloc_subtags.specs.declared.parse_error.ParseError.TheVariants.{Inval
 use Rattle.iloc_outline.proofs.BlocksLemmas.{plain_variants}
 use Rattle.iloc_outline.proofs.BodyLemmas.{front_all}
 use Rattle.iloc_outline.proofs.Fronts.{begins_text, front_text-append}
-use Rattle.iloc_outline.proofs.LeftLemmas.{length_text, past_past}
+use Rattle.iloc_pieces.proofs.LeftLemmas.{length_text, past_past}
 use Rattle.iloc_outline.proofs.Meanings.{parts_dashes}
 use Rattle.iloc_outline.proofs.OutlineLemmas.{lower-append, lower-dashes}
 use Rattle.iloc_outline.proofs.SpansLemmas.{spell_length}

@@ -1,12 +1,8 @@
-pub mod Shapes
-pub mod Tests
+pub mod RoleLemmas
 pub mod Maps
 pub mod PartsInOrder
 pub mod PrintedBlocks
 pub mod PrintedParts
-pub mod LeftLemmas
-pub mod WordNumbers
-pub mod Masks
 pub mod Shifting
 pub mod Arranging
 pub mod SortingSteps
@@ -14,12 +10,9 @@ pub mod SpansLemmas
 pub mod GroupsLemmas
 pub mod GatherLemmas
 pub mod WordLemmas
-pub mod Ends
-pub mod Looks
 pub mod WordsInOrder
 pub mod ValueLemmas
 pub mod CopyingLemmas
-pub mod Tells
 pub mod Fronts
 pub mod BodyLemmas
 pub mod UnicodeLemmas

@@ -15,15 +15,15 @@ use Rattle.iloc_spec_grammar.proofs.ReadBack.{all_append}
 use Rattle.iloc_spec_grammar.proofs.RuleTests.{tests_all, tests_block, tests_fails, tests_word}
 use Rattle.iloc_spec_grammar.proofs.Singletons.{no_t, no_u, no_x}
 use Rattle.iloc_spec_grammar.proofs.ValuesLaws.{all_weaker, filter_all}
-use Rattle.iloc_outline.specs.Left.{IsEnd, IsLater, IsNextPiece, IsPast, IsSpanned, piece_left, pieces_left, bytes_left, whole_text}
+use Rattle.iloc_pieces.specs.Left.{IsEnd, IsLater, IsNextPiece, IsPast, IsSpanned, piece_left, pieces_left, bytes_left, whole_text}
 use Rattle.iloc_outline.specs.Parts.{block_parts, printed_part, rank, singleton_part}
 use Rattle.iloc_outline.specs.Reading.{IsBody, IsPrivateBody, IsPutOther, Puts, ReadsBlock, block_span}
 use Rattle.iloc_outline.specs.Spans.{held_spans}
-use Rattle.iloc_outline.specs.declared.left.Left.{Left}
+use Rattle.iloc_pieces.specs.declared.left.Left.{Left}
 use Rattle.iloc_outline.specs.declared.reading.Reading.{Reading}
 use Rattle.iloc_outline.specs.declared.reading.Reading.TheVariants.{End, Next, Bad}
 use Rattle.iloc_outline.specs.declared.spans.Spans.{Spans}
-use Rattle.iloc_outline.proofs.LeftLemmas.{between_short, past_next, pieces_end, short_private, spanned_end}
+use Rattle.iloc_pieces.proofs.LeftLemmas.{between_short, past_next, pieces_end, short_private, spanned_end}
 use Rattle.iloc_outline.proofs.SpansLemmas.{other_short}
 use Rattle.iloc_outline.proofs.BodyLemmas.{front_each, front_ends, front_goes_on, front_whole, puts_one, puts_singleton, singleton_span}
 

@@ -16,12 +16,12 @@ use Rattle.iloc_spec_grammar.proofs.Readings.{after_language, long_after_languag
 use Rattle.iloc_subtags.specs.declared.parse_error.ParseError.{ParseError}
 use Rattle.iloc_outline.specs.Blocks.{AreBlocksRead, ReadsBlocks}
 use Rattle.iloc_outline.specs.Identifier.{front_text}
-use Rattle.iloc_outline.specs.Left.{pieces_left, whole_text}
+use Rattle.iloc_pieces.specs.Left.{pieces_left, whole_text}
 use Rattle.iloc_outline.specs.Outlines.{Gives, IsIdentifierOutlined, IsLimit, IsLocaleOutlined, ReadsHead, parts_text}
 use Rattle.iloc_outline.specs.Parts.{Part, blocks_parts, front_pieces, variant_parts}
 use Rattle.iloc_outline.specs.Spans.{IsSpan, Spell, held_spans}
 use Rattle.iloc_outline.specs.declared.blocks.Blocks.TheVariants.{Refused, Full}
-use Rattle.iloc_outline.specs.declared.left.Left.{Left}
+use Rattle.iloc_pieces.specs.declared.left.Left.{Left}
 use Rattle.iloc_outline.specs.declared.outline.Outline.{Outline}
 use Rattle.iloc_outline.specs.declared.outline.Outlined.TheVariants as outlined
 use Rattle.iloc_outline.specs.declared.spans.Spans.{Spans}

@@ -11,7 +11,7 @@ use Rattle.iloc_spec_grammar.specs.Values.{spelled_value}
 use Rattle.iloc_spec_grammar.proofs.PiecesLaws.{at_pieces, pieces-join}
 use Rattle.iloc_spec_grammar.proofs.PartTexts.{join-dashes}
 use Rattle.iloc_spec_grammar.proofs.WordsLaws.{length-lower}
-use Rattle.iloc_outline.specs.Left.{IsEnd, IsRemainder, IsNextPiece, IsShortPiece, piece_left, pieces_left, bytes_left}
+use Rattle.iloc_pieces.specs.Left.{IsEnd, IsRemainder, IsNextPiece, IsShortPiece, piece_left, pieces_left, bytes_left}
 use Rattle.iloc_outline.specs.Printing.{bytes_from, edited_text, is_kept, kept_pieces, printed_role, span_text}
 use Rattle.iloc_spec_grammar.specs.Reading.{rest_of}
 use Rattle.iloc_outline.specs.Outlines.{Gives, parts_text}
@@ -26,8 +26,8 @@ use Rattle.iloc_outline.specs.declared.span.Role.{Role}
 use Rattle.iloc_outline.specs.declared.span.Role.TheVariants as roles
 use Rattle.iloc_outline.specs.contracts.span.Role.{the_type}
 use denote.Enum.Bare.{sameb}
-use Rattle.iloc_outline.specs.declared.left.Left.{Left}
-use Rattle.iloc_outline.proofs.LeftLemmas.{begins, first_within, length_piece, length_rest}
+use Rattle.iloc_pieces.specs.declared.left.Left.{Left}
+use Rattle.iloc_pieces.proofs.LeftLemmas.{begins, first_within, length_piece, length_rest}
 
 -- a short piece lies within the window, and its bytes are those from its place on
 module _ (l : Left) (h : IsRemainder l) (short : IsShortPiece (piece_left l)) where

@@ -17,16 +17,16 @@ use Rattle.iloc_subtags.specs.declared.parse_error.ParseError.TheVariants.{Inval
 use Rattle.iloc_subtags.specs.Judging.{error_of}
 use Rattle.iloc_outline.specs.Blocks.{AreBegun, IsBlockRead, body_of}
 use Rattle.iloc_outline.specs.Groups.{AreGroups, parts_in}
-use Rattle.iloc_outline.specs.Left.{IsEnd, IsLater, IsRemainder, IsNextPiece, IsSpanned, piece_left, pieces_left, whole_text}
+use Rattle.iloc_pieces.specs.Left.{IsEnd, IsLater, IsRemainder, IsNextPiece, IsSpanned, piece_left, pieces_left, whole_text}
 use Rattle.iloc_outline.specs.Parts.{Part, block_parts, rank}
 use Rattle.iloc_outline.specs.Reading.{IsTooMuch}
 use Rattle.iloc_outline.specs.Spans.{Spell}
-use Rattle.iloc_outline.specs.declared.left.Left.{Left}
+use Rattle.iloc_pieces.specs.declared.left.Left.{Left}
 use Rattle.iloc_outline.specs.declared.reading.Reading.TheVariants.{End, Next, Bad, Repeated, Full}
 use Rattle.iloc_outline.specs.declared.spans.Spans.{Spans}
 use Rattle.iloc_outline.proofs.BlocksLemmas.{IsAt, IsDone, IsRead, at_start, groups_of, is_bad, is_placed, is_second, no_letter, ranks, read_bad, read_end, read_full, read_next, read_repeated, repeats, stays, told}
 use Rattle.iloc_outline.proofs.SpansLemmas.{length-held, spell_length}
-use Rattle.iloc_outline.proofs.LeftLemmas.{past_first, single_short, spanned_next, spanned_none}
+use Rattle.iloc_pieces.proofs.LeftLemmas.{past_first, single_short, spanned_next, spanned_none}
 
 -- ---- the byte of a singleton
 

@@ -17,9 +17,9 @@ use Rattle.iloc_spec_grammar.proofs.RawLaws.{languages_table}
 use Rattle.iloc_spec_grammar.proofs.Singletons.{no_t}
 use Rattle.iloc_spec_grammar.proofs.WordsLaws.{length-language, length-transform_key, length-script, length-variant}
 use Rattle.iloc_outline.specs.Reading.{EndsInKey}
-use Rattle.iloc_outline.specs.Shape.{shape_of}
+use Rattle.iloc_pieces.specs.Shape.{shape_of}
 use Rattle.iloc_outline.proofs.BodyLemmas.{front_past, front_first}
-use Rattle.iloc_outline.proofs.Tests.{region_is, field_key_is}
+use Rattle.iloc_pieces.proofs.Tests.{region_is, field_key_is}
 
 -- ---- good blocks
 

@@ -14,17 +14,17 @@ use Rattle.iloc_spec_grammar.proofs.RuleTests.{tests_block, tests_fails}
 use Rattle.iloc_spec_grammar.proofs.Singletons.{no_u}
 use Rattle.iloc_spec_grammar.proofs.ValuesLaws.{all_weaker}
 use Rattle.iloc_spec_grammar.proofs.WordsLaws.{length-unicode_key}
-use Rattle.iloc_outline.specs.Left.{IsPast, IsSpanned, piece_left, pieces_left, bytes_left, whole_text}
+use Rattle.iloc_pieces.specs.Left.{IsPast, IsSpanned, piece_left, pieces_left, bytes_left, whole_text}
 use Rattle.iloc_outline.specs.Parts.{block_parts, field_part, in_order, rank, singleton_part, unicode_parts, word_part}
 use Rattle.iloc_outline.specs.Reading.{AreFieldsRead, AreWordsRead, EndsAtBlock, IsBody, Puts, ReadsBlock, ReadsFields, ReadsWords, block_span}
 use Rattle.iloc_outline.specs.Spans.{held_spans}
-use Rattle.iloc_outline.specs.declared.left.Left.{Left}
+use Rattle.iloc_pieces.specs.declared.left.Left.{Left}
 use Rattle.iloc_outline.specs.declared.reading.Reading.{Reading}
 use Rattle.iloc_outline.specs.declared.reading.Reading.TheVariants.{End, Next, Bad, Repeated, Full}
 use Rattle.iloc_outline.specs.declared.span.Role.TheVariants as roles
 use Rattle.iloc_outline.specs.declared.span.Role.TheVariants.{Singleton}
 use Rattle.iloc_outline.specs.declared.spans.Spans.{Spans}
-use Rattle.iloc_outline.proofs.LeftLemmas.{past_past}
+use Rattle.iloc_pieces.proofs.LeftLemmas.{past_past}
 use Rattle.iloc_outline.proofs.BodyLemmas.{front_ends, front_goes_on, front_single, front_whole, puts_singleton, puts_then, some_passed}
 
 -- an attribute or a key

@@ -9,12 +9,12 @@ use Rattle.iloc_spec_grammar.specs.Values.{spelled_value}
 use Rattle.iloc_spec_grammar.proofs.MapLaws.{same_is}
 use Rattle.iloc_spec_grammar.proofs.ReadBack.{all_append}
 use Rattle.iloc_outline.specs.Fields.{PrintsAsItIs, IsValueRead}
-use Rattle.iloc_outline.specs.Left.{IsRemainder, IsLater, IsNextPiece, IsPast, IsShortPiece, IsSpanned, piece_left, whole_text}
+use Rattle.iloc_pieces.specs.Left.{IsRemainder, IsLater, IsNextPiece, IsPast, IsShortPiece, IsSpanned, piece_left, whole_text}
 use Rattle.iloc_outline.specs.Reading.{IsOfField}
-use Rattle.iloc_outline.specs.declared.left.Left.{Left}
+use Rattle.iloc_pieces.specs.declared.left.Left.{Left}
 use Rattle.iloc_outline.specs.declared.span.Role.{Role}
 use Rattle.iloc_outline.specs.declared.span.Role.TheVariants as roles
-use Rattle.iloc_outline.proofs.LeftLemmas.{last_piece, past_next, past_none, pieces_end, short_attribute, spanned_end}
+use Rattle.iloc_pieces.proofs.LeftLemmas.{last_piece, past_next, past_none, pieces_end, short_attribute, spanned_end}
 
 -- ---- printing
 

@@ -14,21 +14,22 @@ use Rattle.iloc_spec_grammar.proofs.ReadBack.{all_append}
 use Rattle.iloc_spec_grammar.proofs.ReadingLaws.{keep_all, keep_while_passes}
 use Rattle.iloc_spec_grammar.proofs.ValuesLaws.{all_weaker}
 use Rattle.iloc_outline.specs.Inserting.{IsPutFrom}
-use Rattle.iloc_outline.specs.Left.{IsRemainder, IsLater, IsNextPiece, IsPast, piece_left, pieces_left, whole_text}
+use Rattle.iloc_pieces.specs.Left.{IsRemainder, IsLater, IsNextPiece, IsPast, piece_left, pieces_left, whole_text}
 use Rattle.iloc_fronts.specs.Words.{IsUpToEight, word_number}
 use Rattle.iloc_outline.specs.Parts.{Part, word_part}
 use Rattle.iloc_outline.specs.Reading.{IsOfWord, IsTooMuch, MayBe, ReadsWords, role_kind, words_of}
 use Rattle.iloc_outline.specs.Spans.{IsSpan}
-use Rattle.iloc_outline.specs.declared.left.Left.{Left}
+use Rattle.iloc_pieces.specs.declared.left.Left.{Left}
 use Rattle.iloc_outline.specs.declared.sorting.Inserted.{Inserted}
 use Rattle.iloc_outline.specs.declared.sorting.Inserted.TheVariants.{Put, There, Full}
 use Rattle.iloc_outline.specs.declared.span.Role.{Role}
 use Rattle.iloc_outline.specs.declared.span.Role.TheVariants as roles
 use Rattle.iloc_outline.specs.declared.spans.Spans.{Spans}
 use Rattle.iloc_outline.proofs.GatherLemmas.{Gathers, gathers_few, gathers_full, gathers_none, gathers_put, gathers_puts, gathers_there, pieces_in}
-use Rattle.iloc_outline.proofs.LeftLemmas.{last_piece, past_next, past_none, pieces_end, short_kind}
+use Rattle.iloc_pieces.proofs.LeftLemmas.{last_piece, past_next, past_none, pieces_end}
+use Rattle.iloc_outline.proofs.RoleLemmas.{short_kind}
 use Rattle.iloc_outline.proofs.WordLemmas.{ends_before, length-pieces_of, passing_cut, passing_more, span_of, word_fits, word_next, word_span}
-use Rattle.iloc_outline.proofs.WordNumbers.{word_order}
+use Rattle.iloc_pieces.proofs.WordNumbers.{word_order}
 
 -- ---- words differ where their numbers do
 

@@ -6,13 +6,13 @@ use Rattle.iloc_spec_grammar.specs.Syntax.{Text, code_x, front, blocks, language
 use Rattle.iloc_spec_grammar.specs.Meaning.{Fault}
 use Rattle.iloc_spec_grammar.specs.Computing.{first_fault}
 use Rattle.iloc_subtags.specs.Judging.{error_of}
-use Rattle.iloc_outline.specs.Left.{pieces_left, whole_text}
+use Rattle.iloc_pieces.specs.Left.{pieces_left, whole_text}
 use Rattle.iloc_outline.specs.Parts.{Part, blocks_parts, printed_part}
 use Rattle.iloc_outline.specs.Reading.{IsBody, IsPrivateBody, IsTooMuch}
 use Rattle.iloc_outline.specs.Spans.{Spell}
 use Rattle.iloc_outline.specs.declared.blocks.Blocks.{Blocks}
 use Rattle.iloc_outline.specs.declared.blocks.Blocks.TheVariants.{Good, Refused, Full}
-use Rattle.iloc_outline.specs.declared.left.Left.{Left}
+use Rattle.iloc_pieces.specs.declared.left.Left.{Left}
 use Rattle.iloc_outline.specs.declared.reading.Reading.{Reading}
 use Rattle.iloc_outline.specs.declared.span.Role.TheVariants.{Singleton}
 use Rattle.iloc_outline.specs.declared.spans.Spans.{Spans}

@@ -2,11 +2,11 @@
 use Rattle.std.specs.Prelude.{◌≡◌, ℕ, ◌-◌, Bool, false, List, ◌∷◌, ◌++◌, length, map, Option, Some, None}
 use Rattle.std.specs.List.{AllByRecursion, list_any}
 use Rattle.iloc_spec_grammar.specs.Syntax.{Text, Field, Attribute, is_word, IsWord, is_true, lower}
-use Rattle.iloc_outline.specs.Left.{IsPast, IsSpanned, piece_left, pieces_left, whole_text}
+use Rattle.iloc_pieces.specs.Left.{IsPast, IsSpanned, piece_left, pieces_left, whole_text}
 use Rattle.iloc_outline.specs.Parts.{printed_part, field_part}
 use Rattle.iloc_outline.specs.Reading.{IsFieldOfRole}
 use Rattle.iloc_outline.specs.declared.fields.Value.{Value}
-use Rattle.iloc_outline.specs.declared.left.Left.{Left}
+use Rattle.iloc_pieces.specs.declared.left.Left.{Left}
 use Rattle.iloc_outline.specs.declared.span.Role.{Role}
 
 -- after a key its values were passed, and a piece that is none is left, or nothing

@@ -3,10 +3,10 @@ use Rattle.std.specs.Prelude.{◌≡◌, ℕ, zero, suc, ◌+◌, ◌-◌, ◌�
 use Rattle.iloc_spec_grammar.specs.Syntax.{Text, join, lower, upper}
 use Rattle.iloc_spec_grammar.specs.Meaning.{normal_identifier}
 use Rattle.iloc_spec_grammar.specs.Reading.{front_of, after_region}
-use Rattle.iloc_outline.specs.Left.{IsLater, IsNextPiece, IsPast, IsSpanned, piece_left, pieces_left, whole_text}
+use Rattle.iloc_pieces.specs.Left.{IsLater, IsNextPiece, IsPast, IsSpanned, piece_left, pieces_left, whole_text}
 use Rattle.iloc_outline.specs.Parts.{front_pieces}
 use Rattle.iloc_outline.specs.declared.identifier.Front.{Front}
-use Rattle.iloc_outline.specs.declared.left.Left.{Left}
+use Rattle.iloc_pieces.specs.declared.left.Left.{Left}
 
 -- one piece was passed if it fits, and else none
 abbrev pub IsOnePast : Bool → Left → Option Left → Type 0

@@ -1,6 +1,3 @@
-pub mod Marks
-pub mod Shape
-pub mod Left
 pub mod Parts
 pub mod Spans
 pub mod Inserting

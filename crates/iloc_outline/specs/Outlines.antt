@@ -7,7 +7,7 @@ use Rattle.iloc_spec_grammar.specs.Reading.{after_head}
 use Rattle.iloc_subtags.specs.Judging.{Refusal}
 use Rattle.iloc_outline.specs.Blocks.{AreBegun}
 use Rattle.iloc_outline.specs.Identifier.{front_text}
-use Rattle.iloc_outline.specs.Left.{IsRemainder, IsLater, piece_left, pieces_left, whole_text}
+use Rattle.iloc_pieces.specs.Left.{IsRemainder, IsLater, piece_left, pieces_left, whole_text}
 use Rattle.iloc_outline.specs.Parts.{Part, printed_part, front_pieces, variant_parts}
 use Rattle.iloc_outline.specs.Spans.{Spell, held_spans}
 use Rattle.iloc_outline.specs.declared.outline.Head.{Head}

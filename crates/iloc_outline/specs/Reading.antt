@@ -5,10 +5,10 @@ use Rattle.std.specs.Char.{to_ascii_lowercase}
 use Rattle.iloc_spec_grammar.specs.Syntax.{Text, Kind, Field, Fields, code_t, front, first_piece, languages, Attribute, Variant, UnicodeKey, TransformKey, is_word, IsWord, IsKeyword, IsField, is_one_byte, lower, word_cmp, fields_pieces, AllDifferent}
 use Rattle.iloc_spec_grammar.specs.Reading.{passing}
 use Rattle.iloc_spec_grammar.specs.Computing.{is_block, repeats_variant}
-use Rattle.iloc_outline.specs.Left.{IsRemainder, IsPast, piece_left, pieces_left, whole_text}
+use Rattle.iloc_pieces.specs.Left.{IsRemainder, IsPast, piece_left, pieces_left, whole_text}
 use Rattle.iloc_outline.specs.Parts.{Part, printed_part, word_part, field_part, in_order, block_parts}
 use Rattle.iloc_outline.specs.Spans.{AddsParts, held_spans}
-use Rattle.iloc_outline.specs.declared.left.Left.{Left}
+use Rattle.iloc_pieces.specs.declared.left.Left.{Left}
 use Rattle.iloc_outline.specs.declared.reading.Reading.{Reading}
 use Rattle.iloc_outline.specs.declared.reading.Reading.TheVariants.{End, Next, Bad, Repeated, Full}
 use Rattle.iloc_outline.specs.declared.span.Role.{Role}

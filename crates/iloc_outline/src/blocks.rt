@@ -3,16 +3,16 @@ ghost use Rattle.std.specs.Prelude.{◌≡◌, ◌<◌, ◌+◌, ◌-◌, ◌^�
 ghost use Rattle.std.specs.Char.{is_ascii_alphanumeric, to_ascii_lowercase};
 ghost use Rattle.iloc_spec_grammar.specs.Syntax.{is_one_byte};
 ghost use Rattle.iloc_outline.specs.Blocks.{AreBegun, AreBlocksRead, IsBlockRead};
-ghost use Rattle.iloc_outline.specs.Left.{IsRemainder, IsLater, IsSpanned, piece_left, whole_text};
+ghost use Rattle.iloc_pieces.specs.Left.{IsRemainder, IsLater, IsSpanned, piece_left, whole_text};
 ghost use Rattle.iloc_outline.specs.Parts.{rank};
 
-use crate::left::{Left, is_alphanumeric, is_last, next, singleton};
 use crate::other::{read_other, read_private};
 use crate::reading::Reading;
 use crate::sorting::{has_block, place_block};
 use crate::spans::Spans;
 use crate::transform::read_transform;
 use crate::unicode::read_unicode;
+use iloc_pieces::left::{Left, is_alphanumeric, is_last, next, singleton};
 use iloc_subtags::ParseError;
 
 /// What the blocks of a text are.

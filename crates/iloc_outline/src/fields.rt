@@ -1,15 +1,17 @@
 //! Reads keywords of `u` and fields of `t`.
 ghost use Rattle.std.specs.Prelude.{◌≡◌, ◌<◌, ◌+◌, ◌^◌, false};
 ghost use Rattle.iloc_spec_grammar.specs.Syntax.{is_word};
-ghost use Rattle.iloc_outline.specs.Left.{IsRemainder, IsLater, IsShortPiece, piece_left};
+ghost use Rattle.iloc_pieces.specs.Left.{IsRemainder, IsLater, IsShortPiece, piece_left};
 ghost use Rattle.iloc_outline.specs.Reading.{AreFieldsRead, IsOfField, role_key};
 ghost use Rattle.iloc_outline.specs.Fields.{PrintsAsItIs, IsValueRead};
 
-use crate::left::{Left, is_attribute, is_field_key, is_key, is_last, is_true, next, word_number};
 use crate::reading::Reading;
 use crate::sorting::{Inserted, put_from};
 use crate::span::{Role, Span};
 use crate::spans::Spans;
+use iloc_pieces::left::{
+    Left, is_attribute, is_field_key, is_key, is_last, is_true, next, word_number,
+};
 
 // The subtags of a value, and what follows them.
 #[derive(Clone, Copy)]

@@ -2,9 +2,9 @@
 ghost use Rattle.std.specs.Prelude.{◌≡◌, true, if◌then◌else◌};
 ghost use Rattle.iloc_spec_grammar.specs.Syntax.{IsWord, Language, languages};
 ghost use Rattle.iloc_outline.specs.Identifier.{IsFrontRead, IsOnePast};
-ghost use Rattle.iloc_outline.specs.Left.{IsRemainder, IsShortPiece, piece_left};
+ghost use Rattle.iloc_pieces.specs.Left.{IsRemainder, IsShortPiece, piece_left};
 
-use crate::left::{Left, is_last, is_region, is_script, next};
+use iloc_pieces::left::{Left, is_last, is_region, is_script, next};
 
 /// What follows a language, and perhaps a script and a region, and where these begin.
 #[derive(Clone, Copy)]

@@ -1,9 +1,8 @@
 //! The outline of a text: what its parts are and in which order they are printed, without a value being built.
 //!
-//! A text is read from the left, piece by piece (`left`). Bit masks of sixteen bytes say where a piece ends and which of
-//! its bytes are digits (`marks`), and so give it a *shape*, by which it is tested for each kind of word (`shape`). A
-//! reader for each part puts what it reads into spans (`spans`): a variant, an attribute, a keyword, a field, or a
-//! singleton with what belongs to it. A span that comes too late is put in its place (`sorting`), and so are blocks.
+//! A text is read from the left, piece by piece (`iloc_pieces`). A reader for each part puts what it reads into spans
+//! (`spans`): a variant, an attribute, a keyword, a field, or a singleton with what belongs to it. A span that comes too
+//! late is put in its place (`sorting`), and so are blocks.
 //!
 //! `outline_identifier` and `outline_locale` promise that a text has the fault that they name, or that the outline's
 //! text is the normal text (`IsIdentifierOutlined`, `IsLocaleOutlined`). `Full` says that the text has more than 64
@@ -11,20 +10,17 @@
 //!
 //! Nothing calls it yet: what is told of a text at once stands in `iloc_told`. docs/DECISIONS.md says why.
 //!
-//! It stands on the grammar (`iloc_spec_grammar`), on `iloc_plain`, on the refusals of `iloc_subtags` and on definitions
-//! of `iloc_fronts`.
+//! It stands on the grammar (`iloc_spec_grammar`), on pieces (`iloc_pieces`), on `iloc_plain`, on the refusals of
+//! `iloc_subtags` and on definitions of `iloc_fronts`.
 #![tactic(auto)]
 
 pub mod blocks;
 pub mod fields;
 pub mod identifier;
-pub mod left;
-pub mod marks;
 pub mod other;
 pub mod outline;
 pub mod printing;
 pub mod reading;
-pub mod shape;
 pub mod sorting;
 pub mod span;
 pub mod spans;

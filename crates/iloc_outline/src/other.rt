@@ -2,13 +2,13 @@
 ghost use Rattle.std.specs.Prelude.{◌≡◌, ◌-◌, ◌<◌, ◌+◌, ◌^◌, ℕ, Bool, [], ◌∷◌, true};
 ghost use Rattle.std.specs.Char.{to_ascii_lowercase};
 ghost use Rattle.iloc_spec_grammar.specs.Syntax.{code_x, is_other_singleton};
-ghost use Rattle.iloc_outline.specs.Left.{IsRemainder, IsLater, IsSpanned, whole_text};
+ghost use Rattle.iloc_pieces.specs.Left.{IsRemainder, IsLater, IsSpanned, whole_text};
 ghost use Rattle.iloc_outline.specs.Reading.{IsBody, IsPrivateBody, IsPutOther, block_span};
 
-use crate::left::{Left, is_between, is_last, is_private, is_single, is_subtag, next};
 use crate::reading::Reading;
 use crate::span::{Role, Span};
 use crate::spans::Spans;
+use iloc_pieces::left::{Left, is_between, is_last, is_private, is_single, is_subtag, next};
 
 // The rank of `x`.
 const LAST: u64 = 255;

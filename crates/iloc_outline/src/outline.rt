@@ -4,11 +4,11 @@ ghost use Rattle.iloc_outline.specs.Outlines.{AreHeadRead, BeginsWithLanguage, I
 
 use crate::blocks::{Blocks, read_blocks};
 use crate::identifier::read_front;
-use crate::left::{Left, is_language, is_single, left_in};
 use crate::reading::Reading;
 use crate::span::Role;
 use crate::spans::Spans;
 use crate::words::read_words;
+use iloc_pieces::left::{Left, is_language, is_single, left_in};
 use iloc_subtags::ParseError;
 
 /// The first bytes of a text in lower case, but for the first letter of a script and a region of two letters. Spans follow.

@@ -4,17 +4,17 @@ ghost use Rattle.std.specs.Char.{to_ascii_lowercase};
 ghost use Rattle.std.specs.List.{AllByRecursion};
 ghost use Rattle.iloc_spec_grammar.specs.Syntax.{Text, dashes, lower, is_other_singleton, pieces};
 ghost use Rattle.iloc_outline.specs.Identifier.{front_text, raised};
-ghost use Rattle.iloc_outline.specs.Left.{IsRemainder, IsShortPiece, piece_left, pieces_left};
+ghost use Rattle.iloc_pieces.specs.Left.{IsRemainder, IsShortPiece, piece_left, pieces_left};
 ghost use Rattle.iloc_outline.specs.Outlines.{Gives, parts_text};
 ghost use Rattle.iloc_outline.specs.Parts.{Part};
 ghost use Rattle.iloc_outline.specs.Printing.{GivesShort, HasRoomForParts, behind_hyphen, edited_text, is_kept, kept_pieces, printed_role, span_text};
 ghost use Rattle.iloc_spec_grammar.specs.Reading.{rest_of};
 ghost use Rattle.iloc_outline.specs.Spans.{Spell};
 
-use crate::left::{Left, is_last, is_subtag, is_true, left_in, next};
 use crate::outline::Outline;
 use crate::span::{Role, Span};
 use crate::spans::Spans;
+use iloc_pieces::left::{Left, is_last, is_subtag, is_true, left_in, next};
 use iloc_plain::first_in_lower_case;
 
 // Copies `count` bytes from `at` on in lower case. Up to sixteen bytes more are stored behind them.

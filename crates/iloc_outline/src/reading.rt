@@ -1,7 +1,7 @@
 //! What some pieces are.
 ghost use Rattle.iloc_outline.specs.Reading.{EndsAtBlock, IsReadAs};
 
-use crate::left::{Left, is_single};
+use iloc_pieces::left::{Left, is_single};
 
 /// What the pieces from one on are.
 #[derive(Clone, Copy)]

@@ -43,7 +43,8 @@ impl Spans {
     #[inline(always)]
     pub fn put(&mut self, span: Span) -> bool
         ensures put { result ≡ true → held_spans self.new ≡ held_spans self.old ++ span ∷ [] }
-        ensures full { result ≡ false → (length (held_spans self.old) ≡ 64) × (self.new ≡ self.old) }
+        ensures full { result ≡ false
+            → (length (held_spans self.old) ≡ 64) × (self.new ≡ self.old) }
     {
         if self.count >= MOST {
             return false;

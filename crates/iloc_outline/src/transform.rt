@@ -2,16 +2,16 @@
 ghost use Rattle.std.specs.Prelude.{◌≡◌, ◌-◌, ◌<◌, ◌+◌, ◌^◌, ℕ, [], ◌∷◌, false};
 ghost use Rattle.std.specs.Char.{to_ascii_lowercase};
 ghost use Rattle.iloc_spec_grammar.specs.Syntax.{Language, code_t, is_word, languages};
-ghost use Rattle.iloc_outline.specs.Left.{IsRemainder, IsLater, IsSpanned, piece_left, whole_text};
+ghost use Rattle.iloc_pieces.specs.Left.{IsRemainder, IsLater, IsSpanned, piece_left, whole_text};
 ghost use Rattle.iloc_outline.specs.Reading.{IsBody, block_span};
 
 use crate::fields::read_fields;
 use crate::identifier::read_front;
-use crate::left::{Left, is_language, is_single};
 use crate::reading::Reading;
 use crate::span::{Role, Span};
 use crate::spans::Spans;
 use crate::words::read_words;
+use iloc_pieces::left::{Left, is_language, is_single};
 
 // The span of the singleton from one hyphen up to another.
 #[inline(always)]

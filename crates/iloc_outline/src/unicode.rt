@@ -2,15 +2,15 @@
 ghost use Rattle.std.specs.Prelude.{◌≡◌, ◌-◌, ◌<◌, ◌+◌, ◌^◌, ℕ, [], ◌∷◌};
 ghost use Rattle.std.specs.Char.{to_ascii_lowercase};
 ghost use Rattle.iloc_spec_grammar.specs.Syntax.{code_u};
-ghost use Rattle.iloc_outline.specs.Left.{IsRemainder, IsLater, IsSpanned, whole_text};
+ghost use Rattle.iloc_pieces.specs.Left.{IsRemainder, IsLater, IsSpanned, whole_text};
 ghost use Rattle.iloc_outline.specs.Reading.{IsBody};
 
 use crate::fields::read_fields;
-use crate::left::{Left, is_single};
 use crate::reading::Reading;
 use crate::span::{Role, Span};
 use crate::spans::Spans;
 use crate::words::read_words;
+use iloc_pieces::left::{Left, is_single};
 
 /// Reads attributes and keywords, one at least, up to the next block. The singleton begins at the hyphen at `start`.
 #[inline(always)]

@@ -1,14 +1,14 @@
 //! Reads variants and attributes.
 ghost use Rattle.std.specs.Prelude.{◌≡◌, ◌<◌, ◌+◌, ◌^◌};
 ghost use Rattle.iloc_spec_grammar.specs.Syntax.{is_word};
-ghost use Rattle.iloc_outline.specs.Left.{IsRemainder, IsLater, piece_left};
+ghost use Rattle.iloc_pieces.specs.Left.{IsRemainder, IsLater, piece_left};
 ghost use Rattle.iloc_outline.specs.Reading.{AreWordsRead, IsOfWord, role_kind};
 
-use crate::left::{Left, is_attribute, is_last, is_variant, next, word_number};
 use crate::reading::Reading;
 use crate::sorting::{Inserted, put_from};
 use crate::span::{Role, Span};
 use crate::spans::Spans;
+use iloc_pieces::left::{Left, is_attribute, is_last, is_variant, next, word_number};
 
 // Whether the piece is a word of this role.
 #[inline(always)]

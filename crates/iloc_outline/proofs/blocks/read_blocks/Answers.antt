@@ -2,13 +2,13 @@ use Rattle.std.proofs.Common.{◌≡◌, inl, inr, ℕ, List, [], true, sym, ap,
 use Rattle.std.specs.Char.{is_ascii_alphanumeric}
 use Rattle.iloc_spec_grammar.specs.Syntax.{Text}
 use Rattle.iloc_outline.specs.Blocks.{IsBlockRead}
-use Rattle.iloc_outline.specs.Left.{piece_left, pieces_left, whole_text}
+use Rattle.iloc_pieces.specs.Left.{piece_left, pieces_left, whole_text}
 use Rattle.iloc_outline.specs.Parts.{rank}
 use Rattle.iloc_outline.specs.declared.reading.Reading.{Reading}
 use Rattle.iloc_outline.specs.declared.reading.Reading.TheVariants.{Bad, End, Full, Next, Repeated}
 use Rattle.iloc_outline.specs.declared.spans.Spans.{Spans}
 use Rattle.iloc_outline.proofs.BlocksLemmas.{IsDone, IsRead, all_done}
-use Rattle.iloc_outline.proofs.LeftLemmas.{last_piece, single_short}
+use Rattle.iloc_pieces.proofs.LeftLemmas.{last_piece, single_short}
 use Rattle.iloc_outline.proofs.SingletonSteps as at
 use Rattle.iloc_outline.proofs.blocks.read_blocks.Goals as goal
 use Rattle.iloc_outline.proofs.blocks.read_blocks.Goals.{After-read_body-reading, Joined-rank-last-2, else-rank-last, else-rank-last-2, then-rank-last+else-has_block, then-rank-last-2}

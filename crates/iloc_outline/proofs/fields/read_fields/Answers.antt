@@ -4,7 +4,7 @@ use Rattle.iloc_outline.specs.contracts.span.Role.{the_type}
 use Rattle.iloc_outline.specs.declared.span.Role.TheVariants.{Field}
 use Rattle.iloc_outline.proofs.FieldLemmas.{ends_in_key, field_less, field_within, key_kind_fits, takes_end, takes_full, takes_more, takes_none, takes_past}
 use Rattle.iloc_outline.proofs.GatherLemmas.{gathers_from}
-use Rattle.iloc_outline.proofs.LeftLemmas.{short_key_kind}
+use Rattle.iloc_outline.proofs.RoleLemmas.{short_key_kind}
 use Rattle.iloc_outline.proofs.fields.read_fields.Goals as goal
 use Rattle.iloc_outline.proofs.fields.read_fields.Goals.{else-eq-via-then-eq+else-value-eq0, else-eq-via-else-eq}
 

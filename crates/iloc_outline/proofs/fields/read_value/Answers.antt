@@ -1,6 +1,6 @@
 use Rattle.std.proofs.Common.{◌≡◌, ◌||◌, Bool, sym, ap, ◌∙◌, arith}
-use Rattle.iloc_outline.specs.Left.{piece_left}
-use Rattle.iloc_outline.proofs.LeftLemmas.{short_attribute}
+use Rattle.iloc_pieces.specs.Left.{piece_left}
+use Rattle.iloc_pieces.proofs.LeftLemmas.{short_attribute}
 use Rattle.iloc_outline.proofs.ValueLemmas.{reaches_key, reaches_more, says_true, value_before, value_last}
 use Rattle.iloc_outline.proofs.WordLemmas.{end_within}
 use Rattle.iloc_outline.proofs.fields.read_value.Goals as goal

@@ -1,6 +1,6 @@
 use Rattle.std.proofs.Common.{Bool, None, sym, subst}
 use Rattle.iloc_outline.specs.Identifier.{IsOnePast}
-use Rattle.iloc_outline.proofs.LeftLemmas.{last_piece}
+use Rattle.iloc_pieces.proofs.LeftLemmas.{last_piece}
 use Rattle.iloc_outline.proofs.identifier.past_one.Goals as goal
 
 pub returns-then-is_last : goal.returns-then-is_last

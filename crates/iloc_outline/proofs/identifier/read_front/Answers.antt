@@ -1,7 +1,7 @@
 use Rattle.std.proofs.Common.{◌≡◌, ◌==◌, ◌&&◌, Bool, None, Some, cond, sym, ap, ◌∙◌}
-use Rattle.iloc_outline.specs.Left.{piece_left}
+use Rattle.iloc_pieces.specs.Left.{piece_left}
 use Rattle.iloc_outline.proofs.Fronts.{front_read, front_alone, front_to_script, front_to_region, third_left}
-use Rattle.iloc_outline.proofs.LeftLemmas.{short_language, short_script, short_region}
+use Rattle.iloc_pieces.proofs.LeftLemmas.{short_language, short_script, short_region}
 use Rattle.iloc_outline.proofs.identifier.read_front.Goals as goal
 use Rattle.iloc_outline.proofs.identifier.read_front.Goals.{then-has_region, else-has_region}
 

@@ -1,9 +1,9 @@
 -- Pieces of two to eight bytes up to the next block, of which one is a subtag.
 use Rattle.std.proofs.Common.{◌≡◌, ◌+◌, ◌-◌, true, [], refl, sym, ap, ◌∙◌}
 use Rattle.iloc_spec_grammar.specs.Syntax.{is_other_singleton}
-use Rattle.iloc_outline.specs.Left.{IsEnd, piece_left}
+use Rattle.iloc_pieces.specs.Left.{IsEnd, piece_left}
 use Rattle.iloc_outline.specs.declared.reading.Reading.TheVariants.{End, Next}
-use Rattle.iloc_outline.proofs.LeftLemmas.{between_short, last_piece, past_none}
+use Rattle.iloc_pieces.proofs.LeftLemmas.{between_short, last_piece, past_none}
 use Rattle.iloc_outline.proofs.OtherLemmas.{IsBetween, PassesOneMore, end_bad, end_put, more_odd, more_subtag, next_bad, next_odd, next_put, other_next, put_at}
 use Rattle.iloc_outline.proofs.other.read_other.Goals as goal
 use Rattle.iloc_outline.proofs.other.read_other.Goals.{then-is_subtag, else-is_subtag, then-not-is_good-2-via-then-not-is_good-2, then-not-is_good-2-via-else-not-is_good-2+then-not-is_single, After-is_last}

@@ -1,11 +1,11 @@
 -- Private subtags up to the end, one at least.
 use Rattle.std.proofs.Common.{◌+◌, false, [], ◌∷◌, ◌++◌, refl, sym, ap, ◌∙◌}
 use Rattle.iloc_spec_grammar.specs.Syntax.{PrivateSubtag, IsWord}
-use Rattle.iloc_outline.specs.Left.{IsEnd, piece_left}
+use Rattle.iloc_pieces.specs.Left.{IsEnd, piece_left}
 use Rattle.iloc_outline.specs.Reading.{block_span}
 use Rattle.iloc_outline.specs.Spans.{held_spans}
 use Rattle.iloc_outline.specs.declared.span.Span.{Span}
-use Rattle.iloc_outline.proofs.LeftLemmas.{last_piece, past_none, short_private}
+use Rattle.iloc_pieces.proofs.LeftLemmas.{last_piece, past_none, short_private}
 use Rattle.iloc_outline.proofs.OtherLemmas.{private_end, private_next, private_odd}
 use Rattle.iloc_outline.proofs.other.read_private.Goals as goal
 

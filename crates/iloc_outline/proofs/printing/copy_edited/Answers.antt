@@ -1,7 +1,7 @@
 use Rattle.std.proofs.Common.{◌+◌, ◌++◌, take, sym, ap, ◌∙◌, arith}
 use Rattle.std.specs.Prelude.{codes}
 use Rattle.iloc_spec_grammar.specs.Syntax.{dashes}
-use Rattle.iloc_outline.specs.Left.{pieces_left, bytes_left}
+use Rattle.iloc_pieces.specs.Left.{pieces_left, bytes_left}
 use Rattle.iloc_outline.specs.Printing.{bytes_from, kept_pieces}
 use Rattle.iloc_spec_grammar.specs.Reading.{rest_of}
 use Rattle.iloc_outline.proofs.PrintingLemmas.{bytes_here, field_told, no_field_told, written_kept, written_room, written_true}

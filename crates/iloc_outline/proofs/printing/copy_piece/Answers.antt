@@ -1,8 +1,8 @@
 use Rattle.std.proofs.Common.{◌+◌, ◌++◌, take, slice_set, ap, ◌∙◌, arith}
 use Rattle.std.proofs.lemmas.List.{length-set}
 use Rattle.iloc_spec_grammar.specs.Syntax.{lower}
-use Rattle.iloc_outline.specs.Left.{piece_left}
-use Rattle.iloc_outline.proofs.LeftLemmas.{length_piece}
+use Rattle.iloc_pieces.specs.Left.{piece_left}
+use Rattle.iloc_pieces.proofs.LeftLemmas.{length_piece}
 use Rattle.iloc_outline.proofs.PrintingLemmas.{piece_bytes, piece_inside, piece_put}
 use Rattle.iloc_outline.proofs.printing.copy_piece.Goals as goal
 

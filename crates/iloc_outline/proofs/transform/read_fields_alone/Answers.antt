@@ -1,7 +1,7 @@
 -- Fields up to the next block, or what is wrong.
 use Rattle.std.proofs.Common.{◌≡◌, false, [], ◌∷◌, ◌++◌, sym, ◌∙◌, subst}
 use Rattle.iloc_spec_grammar.specs.Syntax.{is_one_byte}
-use Rattle.iloc_outline.specs.Left.{piece_left}
+use Rattle.iloc_pieces.specs.Left.{piece_left}
 use Rattle.iloc_outline.specs.Spans.{held_spans}
 use Rattle.iloc_outline.proofs.TransformReading.{alone_read, fields_left, transform_single}
 use Rattle.iloc_outline.specs.declared.span.Role.TheVariants.{Field}

@@ -2,7 +2,7 @@ use Rattle.std.proofs.Common.{rules, ◌∙◌, sym, arith, inl, inr}
 use denote.Enum.Bare.{same_false, same_true}
 use Rattle.iloc_outline.specs.contracts.span.Role.{the_type}
 use Rattle.iloc_outline.proofs.GatherLemmas.{gathers_from}
-use Rattle.iloc_outline.proofs.LeftLemmas.{short_kind}
+use Rattle.iloc_outline.proofs.RoleLemmas.{short_kind}
 use Rattle.iloc_outline.proofs.WordLemmas.{end_within, word_fits}
 use Rattle.iloc_outline.proofs.WordsInOrder.{IsKept, walks_end, walks_full, walks_more, walks_none, walks_past, walks_repeat}
 use Rattle.iloc_outline.proofs.words.read_words.Goals as goal

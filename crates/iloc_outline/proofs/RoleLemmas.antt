@@ -1,0 +1,22 @@
+-- Words of a role are short.
+use Rattle.iloc_spec_grammar.specs.Syntax.{Text, IsWord}
+use Rattle.iloc_pieces.specs.Left.{IsShortPiece}
+use Rattle.iloc_pieces.proofs.LeftLemmas.{short_attribute, short_field_key, short_key, short_variant}
+use Rattle.iloc_outline.specs.Reading.{role_kind, role_key}
+use Rattle.iloc_outline.specs.declared.span.Role.{Role}
+use Rattle.iloc_outline.specs.declared.span.Role.TheVariants as roles
+
+-- a word of a role, and a key of one
+pub short_kind : (r : Role) (p : Text) → IsWord (role_kind r) p → IsShortPiece p
+short_kind roles.Variant p h = short_variant p h
+short_kind roles.Singleton p h = short_attribute p h
+short_kind roles.Attribute p h = short_attribute p h
+short_kind roles.Keyword p h = short_attribute p h
+short_kind roles.Field p h = short_attribute p h
+
+pub short_key_kind : (r : Role) (p : Text) → IsWord (role_key r) p → IsShortPiece p
+short_key_kind roles.Variant p h = short_key p h
+short_key_kind roles.Singleton p h = short_key p h
+short_key_kind roles.Attribute p h = short_key p h
+short_key_kind roles.Keyword p h = short_key p h
+short_key_kind roles.Field p h = short_field_key p h

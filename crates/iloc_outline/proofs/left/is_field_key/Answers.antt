@@ -1,6 +1,0 @@
-use Rattle.iloc_spec_grammar.specs.Syntax.{TransformKey}
-use Rattle.iloc_outline.proofs.Tells.{told_left}
-use Rattle.iloc_outline.proofs.left.is_field_key.Goals as goal
-
-pub returns : goal.returns
-returns c = told_left TransformKey tt c.requires _ c.is_field_key.ensures

@@ -1,6 +1,0 @@
-use Rattle.iloc_spec_grammar.specs.Syntax.{UnicodeKey}
-use Rattle.iloc_outline.proofs.Tells.{told_left}
-use Rattle.iloc_outline.proofs.left.is_key.Goals as goal
-
-pub returns : goal.returns
-returns c = told_left UnicodeKey tt c.requires _ c.is_key.ensures

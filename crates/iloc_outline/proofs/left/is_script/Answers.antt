@@ -1,6 +1,0 @@
-use Rattle.iloc_spec_grammar.specs.Syntax.{Script}
-use Rattle.iloc_outline.proofs.Tells.{told_left}
-use Rattle.iloc_outline.proofs.left.is_script.Goals as goal
-
-pub returns : goal.returns
-returns c = told_left Script tt c.requires _ c.is_script.ensures

@@ -1,6 +1,0 @@
-use Rattle.iloc_spec_grammar.specs.Syntax.{Subtag}
-use Rattle.iloc_outline.proofs.Tells.{told_left}
-use Rattle.iloc_outline.proofs.left.is_subtag.Goals as goal
-
-pub returns : goal.returns
-returns c = told_left Subtag tt c.requires _ c.is_subtag.ensures

@@ -1,0 +1,214 @@
+-- From marks to the first piece: how long it is, and its shape by the lowest bit that is set.
+use Rattle.std.proofs.Common.{◌≡◌, ℕ, zero, suc, ◌+◌, ◌-◌, ◌*◌, ◌^◌, ◌<◌, ◌≤◌, Bool, true, false, cond, not, ◌&&◌, List, [], ◌∷◌, length, map, take, bit_and, refl, sym, ap, ◌∙◌, subst, arith, pow-suc, ◌↔◌}
+use Rattle.std.specs.List.{prefix_len, slice_split, onto_first}
+use Rattle.std.specs.Int.Bits.{bit_xor, xor_self}
+use Rattle.std.specs.Char.{is_ascii_alphabetic, is_ascii_alphanumeric}
+use Rattle.std.proofs.lemmas.Bool.{false_from_ne_true}
+use Rattle.std.proofs.lemmas.Bool.Decides.{nat_tests}
+use Rattle.std.proofs.lemmas.List.Splits.{slice_split-cons_yes, slice_split-cons_no}
+use Rattle.std.proofs.lemmas.Nat.{xor_block, and_mask, pow_pos}
+use lib.Lanes.{mask_l}
+use Rattle.iloc_spec_grammar.specs.Syntax.{Text, letters_or_digits, pieces, first_piece}
+use Rattle.iloc_pieces.specs.Shape.{bits, shape_of}
+use Rattle.iloc_pieces.specs.Marks.{closed, no_letter, is_odd}
+use Rattle.iloc_fronts.specs.Run.{is_hyphen}
+use Rattle.iloc_pieces.proofs.Masks.{low}
+
+-- ---- the first piece of a text that is closed by a hyphen
+
+-- how many bytes come before the first hyphen
+abbrev pub before : Text → ℕ
+before v = prefix_len (λ b. not (is_hyphen b)) v
+
+-- where a hyphen is marked, the piece is what comes before the first one
+first_by : (a : Bool) (c k : ℕ) (t : Text) → is_hyphen c ≡ a
+    → 0 < cond a 1 0 + 2 * mask_l (map is_hyphen (take k (closed t)))
+    → (0 < mask_l (map is_hyphen (take k (closed t)))
+    → first_piece (slice_split is_hyphen t) ≡ take (before (take k (closed t))) (take k (closed t)))
+    → first_piece (slice_split is_hyphen (c ∷ t))
+    ≡ take (cond (not a) (1 + before (take k (closed t))) 0) (c ∷ take k (closed t))
+first_by true c k t e some h = ap first_piece (slice_split-cons_yes is_hyphen c t e)
+first_by false c k t e some h =
+    let more : 1 + before (take k (closed t)) ≡ suc (before (take k (closed t))) = omega arith in
+    ap first_piece (slice_split-cons_no is_hyphen c t e) ∙ onto (slice_split is_hyphen t)
+    ∙ ap (λ p. c ∷ p) (h (omega arith))
+    ∙ ap (λ n. take n (c ∷ take k (closed t))) (sym more)
+  where
+    onto : (ps : List Text) → first_piece (onto_first c ps) ≡ c ∷ first_piece ps
+    onto [] = refl
+    onto (p ∷ ps) = refl
+
+pub first_marked : (rest : Text) (k : ℕ) → 0 < mask_l (map is_hyphen (take k (closed rest)))
+    → first_piece (pieces rest) ≡ take (before (take k (closed rest))) (take k (closed rest))
+unfolding pieces
+first_marked rest zero some = absurd (omega arith)
+first_marked [] (suc k) some = refl
+first_marked (c ∷ t) (suc k) some = first_by (is_hyphen c) c k t refl some (first_marked t k)
+
+-- where none is marked, it is longer
+pub first_unmarked : (rest : Text) (k : ℕ) → mask_l (map is_hyphen (take k (closed rest))) ≡ 0
+    → k ≤ length (first_piece (pieces rest))
+unfolding pieces
+first_unmarked rest zero none = omega arith
+first_unmarked [] (suc k) none = absurd (omega arith)
+first_unmarked (c ∷ t) (suc k) none = by (is_hyphen c) refl none (first_unmarked t k)
+  where
+    onto : (ps : List Text) → length (first_piece (onto_first c ps)) ≡ suc (length (first_piece ps))
+    onto [] = refl
+    onto (p ∷ ps) = refl
+
+    by : (a : Bool) → is_hyphen c ≡ a → cond a 1 0 + 2 * mask_l (map is_hyphen (take k (closed t))) ≡ 0
+        → (mask_l (map is_hyphen (take k (closed t))) ≡ 0
+        → k ≤ length (first_piece (slice_split is_hyphen t)))
+        → suc k ≤ length (first_piece (slice_split is_hyphen (c ∷ t)))
+    by true e h later = absurd (omega arith)
+    by false e h later =
+        let next : k ≤ length (first_piece (slice_split is_hyphen t)) = later (omega arith) in
+        omega (
+          arith,
+          ap (λ ps. length (first_piece ps)) (slice_split-cons_no is_hyphen c t e)
+              ∙ onto (slice_split is_hyphen t),
+        )
+
+-- where one is marked, one stands among the bytes
+some_by : (b : Bool) (m n k : ℕ) → 0 < cond b 1 0 + 2 * m → (0 < m → n < k) → cond (not b) (1 + n) 0 < suc k
+some_by true m n k l h = omega arith
+some_by false m n k l h = let less : n < k = h (omega arith) in omega arith
+
+pub some_marked : (v : Text) → 0 < mask_l (map is_hyphen v) → before v < length v
+some_marked [] l = absurd (omega arith)
+some_marked (b ∷ v) l =
+    some_by (is_hyphen b) (mask_l (map is_hyphen v)) (before v) (length v) l (some_marked v)
+
+-- ---- the bits up to the lowest that is set
+
+odd_number : (m x : ℕ) → x ≡ 1 + 2 * m → bit_xor x (x - 1) ≡ 1
+odd_number m x e =
+    let one : x ≡ m * 2 ^ 1 + 1 = omega arith in
+    let less : x - 1 ≡ m * 2 ^ 1 + 0 = omega arith in
+    (λ j. bit_xor (one j) (less j)) ∙ xor_block 1 m m 1 0 (omega arith) (omega arith)
+    ∙ (λ j. xor_self m j * 2 + 1)
+
+even_number : (m k x : ℕ) → x ≡ 2 * m → 0 < m → bit_xor m (m - 1) ≡ k - 1 → 0 < k
+    → bit_xor x (x - 1) ≡ k * 2 - 1
+even_number m k x e some h l =
+    let one : x ≡ m * 2 ^ 1 + 0 = omega arith in
+    let less : x - 1 ≡ (m - 1) * 2 ^ 1 + 1 = omega arith in
+    (λ j. bit_xor (one j) (less j)) ∙ xor_block 1 m (m - 1) 0 1 (omega arith) (omega arith)
+    ∙ (λ j. h j * 2 + 1)
+    ∙ omega arith
+
+lowest_by : (a : Bool) (c m n : ℕ) → c ≡ cond a 1 0 → 0 < c + 2 * m
+    → (0 < m → bit_xor m (m - 1) ≡ 2 ^ suc n - 1)
+    → bit_xor (c + 2 * m) (c + 2 * m - 1) ≡ 2 ^ suc (cond (not a) (1 + n) 0) - 1
+lowest_by true c m n e l h = odd_number m (c + 2 * m) (omega arith)
+lowest_by false c m n e l h =
+    let some : 0 < m = omega arith in
+    let power : 2 ^ suc (1 + n) ≡ 2 ^ suc n * 2 = ap (λ k. 2 ^ suc k) (omega arith) ∙ pow-suc 2 (suc n) in
+    even_number m (2 ^ suc n) (c + 2 * m) (omega arith) some (h some) (pow_pos (suc n))
+    ∙ sym (ap (λ k. k - 1) power)
+
+lowest : (v : Text) → 0 < mask_l (map is_hyphen v)
+    → bit_xor (mask_l (map is_hyphen v)) (mask_l (map is_hyphen v) - 1) ≡ 2 ^ suc (before v) - 1
+lowest [] l = absurd (omega arith)
+lowest (b ∷ v) l =
+    lowest_by (is_hyphen b) (cond (is_hyphen b) 1 0) (mask_l (map is_hyphen v)) (before v) refl l (lowest v)
+
+-- ---- they mark the piece and its hyphen
+
+hyphen_no_letter : (b : ℕ) → is_hyphen b ≡ true → is_ascii_alphabetic b ≡ false
+hyphen_no_letter b h = grind (arith, nat_tests)
+
+some_later : (a : Bool) (m : ℕ) → 0 < cond a 1 0 + 2 * m → a ≡ false → 0 < m
+some_later true m l e = absurd (cc)
+some_later false m l e = omega arith
+
+-- the hyphen is the bit above the bits of the piece
+ended_by : (a : Bool) (b : ℕ) (v : Text) → is_hyphen b ≡ a
+    → (a ≡ false → mask_l (map no_letter (take (suc (before v)) v)) ≡ bits (take (before v) v))
+    → mask_l (map no_letter (take (suc (cond (not a) (1 + before v) 0)) (b ∷ v)))
+    ≡ bits (take (cond (not a) (1 + before v) 0) (b ∷ v))
+unfolding bits
+ended_by true b v e h = ap (λ (c : Bool). cond (not c) 1 0 + 2 * 0) (hyphen_no_letter b e)
+ended_by false b v e h =
+    let next : 1 + before v ≡ suc (before v) = omega arith in
+    ap (λ k. mask_l (map no_letter (take (suc k) (b ∷ v)))) next
+    ∙ letter_by (is_ascii_alphabetic b) _ _ (h refl)
+    ∙ sym (ap (λ k. bits (take k (b ∷ v))) next)
+  where
+    letter_by : (a : Bool) (m n : ℕ) → m ≡ n → cond (not a) 1 0 + 2 * m ≡ cond a 0 1 + 2 * n
+    letter_by true m n e = ap (λ k. 0 + 2 * k) e
+    letter_by false m n e = ap (λ k. 1 + 2 * k) e
+
+ended : (v : Text) → 0 < mask_l (map is_hyphen v)
+    → mask_l (map no_letter (take (suc (before v)) v)) ≡ bits (take (before v) v)
+ended [] l = absurd (omega arith)
+ended (b ∷ v) l =
+    ended_by (is_hyphen b) b v refl
+    (λ none. ended v (some_later (is_hyphen b) (mask_l (map is_hyphen v)) l none))
+
+-- no bit says that a byte is odd where all are letters and digits
+abbrev odd_in : Text → ℕ
+odd_in v = mask_l (map is_odd (take (suc (before v)) v))
+
+hyphen_not_odd : (b : ℕ) → is_hyphen b ≡ true → is_odd b ≡ false
+hyphen_not_odd b h = grind (arith, nat_tests)
+
+odd_is : (b : ℕ) → is_hyphen b ≡ false → is_odd b ≡ not (is_ascii_alphanumeric b)
+odd_is b h = grind (arith, nat_tests)
+
+clear_by : (a : Bool) (b : ℕ) (v : Text) → is_hyphen b ≡ a
+    → (a ≡ false → (odd_in v ≡ 0) ↔ (letters_or_digits (take (before v) v) ≡ true))
+    → (mask_l (map is_odd (take (suc (cond (not a) (1 + before v) 0)) (b ∷ v))) ≡ 0)
+    ↔ (letters_or_digits (take (cond (not a) (1 + before v) 0) (b ∷ v)) ≡ true)
+clear_by true b v e h = (λ _. refl, λ _. ap (λ (c : Bool). cond c 1 0 + 2 * 0) (hyphen_not_odd b e))
+clear_by false b v e h =
+    let next : 1 + before v ≡ suc (before v) = omega arith in
+    subst (λ (k : ℕ). (mask_l (map is_odd (take (suc k) (b ∷ v))) ≡ 0)
+    ↔ (letters_or_digits (take k (b ∷ v)) ≡ true)) (sym next)
+    (both (is_ascii_alphanumeric b) (is_odd b) (odd_in v) (letters_or_digits (take (before v) v)) (odd_is b e)
+    (h refl))
+  where
+    both : (a o : Bool) (m : ℕ) (r : Bool) → o ≡ not a → (m ≡ 0) ↔ (r ≡ true)
+        → (cond o 1 0 + 2 * m ≡ 0) ↔ ((a && r) ≡ true)
+    both true true m r e h = absurd (cc)
+    both true false m r e h = (λ l. h.0 (omega arith), λ l. ap (λ k. 0 + 2 * k) (h.1 l))
+    both false true m r e h = (λ l. absurd (omega arith), λ l. absurd (cc))
+    both false false m r e h = absurd (cc)
+
+clear : (v : Text) → 0 < mask_l (map is_hyphen v)
+    → (odd_in v ≡ 0) ↔ (letters_or_digits (take (before v) v) ≡ true)
+clear [] l = absurd (omega arith)
+clear (b ∷ v) l =
+    clear_by (is_hyphen b) b v refl
+    (λ none. clear v (some_later (is_hyphen b) (mask_l (map is_hyphen v)) l none))
+
+module _ (v : Text) (ends : ℕ) (are : ends ≡ mask_l (map is_hyphen v)) (some : 0 < ends) where
+  piece : bit_xor ends (ends - 1) ≡ 2 ^ suc (before v) - 1
+  piece = (λ j. bit_xor (are j) (are j - 1)) ∙ lowest v (omega (arith, are))
+
+  within : (q : ℕ → Bool) (x : ℕ) → x ≡ mask_l (map q v)
+      → bit_and x (bit_xor ends (ends - 1)) ≡ mask_l (map q (take (suc (before v)) v))
+  within q x marks =
+      (λ j. bit_and (marks j) (piece j)) ∙ and_mask (mask_l (map q v)) (suc (before v))
+      ∙ low q (suc (before v)) v
+
+  -- the shape of a piece with another byte
+  pub odd_shape : (odd : ℕ) → odd ≡ mask_l (map is_odd v) → (bit_and odd (bit_xor ends (ends - 1)) ≡ 0 → ⊥)
+      → 0 ≡ shape_of (take (before v) v)
+  unfolding shape_of
+  odd_shape odd marks other =
+      let none : letters_or_digits (take (before v) v) ≡ false =
+      false_from_ne_true _ (λ h. other (within is_odd odd marks ∙ (clear v (omega (arith, are))).1 h)) in
+      sym (ap (λ (a : Bool). cond a (bits (take (before v) v)) 0) none)
+
+  -- and of one of letters and digits
+  pub piece_shape : (odd others : ℕ) → odd ≡ mask_l (map is_odd v) → others ≡ mask_l (map no_letter v)
+      → bit_and odd (bit_xor ends (ends - 1)) ≡ 0
+      → bit_and others (bit_xor ends (ends - 1)) ≡ shape_of (take (before v) v)
+  unfolding shape_of
+  piece_shape odd others marks letters none =
+      let word : letters_or_digits (take (before v) v) ≡ true =
+      (clear v (omega (arith, are))).0 (sym (within is_odd odd marks) ∙ none) in
+      within no_letter others letters ∙ ended v (omega (arith, are))
+      ∙ sym (ap (λ (a : Bool). cond a (bits (take (before v) v)) 0) word)

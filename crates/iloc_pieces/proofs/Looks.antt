@@ -1,0 +1,150 @@
+-- The piece that marks tell, and the next one.
+use Rattle.std.proofs.Common.{◌≡◌, ◌≢◌, ℕ, suc, ◌+◌, ◌-◌, ◌<◌, ◌≤◌, [], ◌∷◌, ◌++◌, length, get_or, take, drop, refl, sym, ap, ◌∙◌, subst, arith, inl, inr, append-nil}
+use Rattle.std.proofs.lemmas.List.{drop-drop, drop-take, get_or-drop, get_or-take, length-append, length-take, length-take-le, drop-append-le}
+use Rattle.std.proofs.lemmas.Simd.{trailing_mask_l}
+use lib.Count.{count_trailing_zeros}
+use Rattle.iloc_spec_grammar.specs.Syntax.{Text, pieces, first_piece}
+use Rattle.iloc_spec_grammar.proofs.PartTexts.{join-dashes}
+use Rattle.iloc_pieces.specs.Left.{IsRemainder, HasShape, IsLong, IsNextPiece, IsShortPiece, piece_left, pieces_left, bytes_left}
+use Rattle.iloc_pieces.specs.Marks.{AreMarks, AreKnown, AreMarksSeen, closed}
+use Rattle.iloc_fronts.specs.Run.{is_hyphen}
+use Rattle.iloc_pieces.specs.Shape.{shape_of}
+use Rattle.iloc_pieces.specs.declared.left.Left.{Left}
+use Rattle.iloc_pieces.specs.declared.marks.Marks.{Marks}
+use Rattle.iloc_pieces.proofs.Ends.{before, first_marked, first_unmarked, some_marked}
+use Rattle.iloc_pieces.proofs.LeftLemmas.{first_within, first_cut, cut_after, length_piece, length_rest}
+
+-- what is known is seen
+pub seen_known : {rest : Text} {m : Marks} → AreKnown rest m → AreMarksSeen rest m
+seen_known k = record { known = k.known; few = k.few; enough = λ _. k.enough; marks = k.marks }
+
+-- where no hyphen is marked, the piece is long
+pub long_piece : {rest : Text} {m : Marks} (l : Left) → AreMarksSeen rest m → m.ends ≡ 0 → l.n ≡ 16 → l.shape ≡ 0
+    → IsLong rest l
+long_piece {rest} {m} l s none most shape = record {
+  most = most;
+  long = elim (s.enough none) [
+    | inl many ↦ omega (arith, reach)
+    | inr all ↦ absurd (omega (arith, reach, first_within rest, length-append rest (45 ∷ [])))
+  ];
+  shape = shape;
+}
+  where
+    reach : s.known ≤ length (first_piece (pieces rest))
+    reach = first_unmarked rest s.known (sym s.marks.ends ∙ none)
+
+module _ {rest : Text} {m : Marks} (s : AreMarksSeen rest m) (some : m.ends ≢ 0) where
+  abbrev seen : Text
+  seen = take s.known (closed rest)
+
+  above : 0 < m.ends
+  above = omega arith
+
+  inside : before seen < s.known
+  inside =
+      let l : before seen < length seen = some_marked seen (omega (arith, s.marks.ends)) in
+      omega (arith, length-take s.known (closed rest))
+
+  zeros : count_trailing_zeros 64 m.ends ≡ before seen
+  zeros =
+      let few : length seen ≤ 64 = omega (arith, length-take s.known (closed rest), s.few) in
+      ap (count_trailing_zeros 64) s.marks.ends
+      ∙ trailing_mask_l is_hyphen 64 seen few (omega (arith, s.marks.ends))
+
+  first : first_piece (pieces rest) ≡ take (before seen) seen
+  first = first_marked rest s.known (omega (arith, s.marks.ends))
+
+  -- a piece whose end is marked
+  pub short_piece : (l : Left) → l.marks ≡ m → l.n ≡ count_trailing_zeros 64 m.ends
+      → l.shape ≡ shape_of (take (before seen) seen) → HasShape rest l
+  short_piece l marks n shape =
+      let l : before seen < length seen = some_marked seen (omega (arith, s.marks.ends)) in
+      let long : length (first_piece (pieces rest)) ≡ before seen =
+      ap length first ∙ length-take-le (before seen) seen (omega arith) in
+      record {
+        few = omega (arith, inside, zeros, s.few);
+        long = n ∙ zeros ∙ sym long;
+        shape = shape ∙ ap shape_of (sym first);
+        known = s.known;
+        enough = omega (arith, inside, zeros);
+        most = s.few;
+        marks = subst (λ (r : Marks). AreMarks seen r) (sym marks) s.marks;
+      }
+
+seam : (p q : Text) → get_or (p ++ 45 ∷ q) (length p) 0 ≡ 45
+seam [] q = refl
+seam (b ∷ p) q = seam p q
+
+-- ---- the next piece
+
+module _ {l : Left} (h : IsRemainder l) (short : IsShortPiece (piece_left l)) (more : l.n ≢ l.len) where
+  abbrev past : ℕ
+  past = l.n + 1
+
+  -- what is left behind the piece and its hyphen
+  abbrev after : Text
+  after = take (l.len - past) (drop (l.at + past) l.window.now)
+
+  -- the text goes on behind the piece and its hyphen
+  pub not_last : past ≤ l.len
+  not_last = omega (arith, length_piece h short, length_rest h, first_within (bytes_left l))
+
+  after_is : drop past (bytes_left l) ≡ after
+  after_is =
+      let parts : l.len ≡ past + (l.len - past) = omega (arith, not_last) in
+      ap (λ n. drop past (take n (drop l.at l.window.now))) parts
+      ∙ drop-take past (l.len - past) (drop l.at l.window.now)
+      ∙ ap (take (l.len - past)) (drop-drop past l.at l.window.now)
+
+  cut : pieces_left l ≡ piece_left l ∷ pieces after
+  cut =
+      let long : suc (length (piece_left l)) ≡ past = omega (arith, length_piece h short) in
+      first_cut (bytes_left l) (omega (arith, length_piece h short, length_rest h, not_last))
+      ∙ ap (λ t. piece_left l ∷ pieces t) (ap (λ n. drop n (bytes_left l)) long ∙ after_is)
+
+  text : bytes_left l ≡ piece_left l ++ 45 ∷ after
+  text = cut_after (piece_left l ∷ []) (bytes_left l) after cut (λ e. cc)
+      ∙ ap (λ p. p ++ 45 ∷ after) (join-dashes (piece_left l) [] ∙ append-nil (piece_left l))
+
+  -- its marks
+  pub next_seen : (r : Marks) → ((v : Text) → AreMarks v l.marks → AreMarks (drop past v) r) → r.ends ≢ 0
+      → AreMarksSeen after r
+  next_seen r later some = elim h.piece [
+    | inl s ↦
+        let parts : s.known ≡ past + (s.known - past) = omega (arith, s.enough) in
+        let inside : past ≤ length (bytes_left l) = omega (arith, length_rest h, not_last) in
+        let there : drop past (take s.known (closed (bytes_left l))) ≡ take (s.known - past) (closed after) =
+        ap (λ n. drop past (take n (closed (bytes_left l)))) parts
+        ∙ drop-take past (s.known - past) (closed (bytes_left l))
+        ∙ ap (take (s.known - past))
+        (drop-append-le past (bytes_left l) (45 ∷ []) inside ∙ ap closed after_is) in
+        record {
+          known = s.known - past;
+          few = omega (arith, s.most);
+          enough = λ none. absurd (some none);
+          marks = subst (λ (v : Text). AreMarks v r) there (later _ s.marks);
+        }
+    | inr long ↦ absurd (omega (arith, long.long))
+  ]
+
+  -- what begins there is the next piece
+  pub next_piece : (m : Left) → IsRemainder m → m.at ≡ l.at + past → m.len ≡ l.len - past
+      → m.window.now ≡ l.window.now → IsNextPiece l m
+  next_piece m g at len window =
+      let rest : bytes_left m ≡ after = λ j. take (len j) (drop (at j) (window j)) in
+      let before : m.at - 1 ≡ l.at + l.n = omega arith in
+      let early : l.n < l.len = omega (arith, not_last) in
+      record {
+        left = g;
+        later = record {
+          after = omega arith;
+          hyphen = (λ j. get_or (window j) (before j) 0) ∙ sym (get_or-drop l.at l.window.now l.n 0)
+              ∙ sym (get_or-take l.len (drop l.at l.window.now) l.n 0 early)
+              ∙ (λ j. get_or (text j) (length_piece h short j) 0) ∙ seam (piece_left l) after;
+        };
+        less = omega (arith, not_last);
+        window = window;
+        end = omega (arith, not_last);
+        rest = text ∙ ap (λ t. piece_left l ++ 45 ∷ t) (sym rest);
+        pieces = cut ∙ ap (λ t. piece_left l ∷ pieces t) (sym rest);
+      }

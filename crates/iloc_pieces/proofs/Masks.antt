@@ -1,0 +1,147 @@
+-- Bytes as bits: of lanes, of the first and the later ones, and of one that is added.
+use Rattle.std.proofs.Common.{◌≡◌, ℕ, zero, suc, ◌+◌, ◌-◌, ◌*◌, ◌/◌, ◌%◌, ◌^◌, ◌<◌, ◌≤◌, Bool, true, false, cond, [], ◌∷◌, ◌++◌, length, map, take, drop, replicate, Fits, w8, bit_and, bit_or, refl, sym, ap, subst, ◌∙◌, arith, pow-suc}
+use Rattle.std.specs.Int.Bits.{or_zero_l, or_zero_r}
+use Rattle.std.proofs.Math.Nat.{mod-one, zero-mod, div-one, zero-div, div-div-eq-div-mul}
+use Rattle.std.proofs.Math.Arith.{mod-mul}
+use Rattle.std.proofs.lemmas.Bool.{agree_below, agree_below_at}
+use Rattle.std.proofs.lemmas.List.{length-map, length-take-le}
+use Rattle.std.proofs.lemmas.Nat.{and_mask, or_block, pow_pos}
+use Rattle.std.proofs.lemmas.Simd.{zip2_of_maps, splat_is_map, map-map, mask_l-mod, mask_l-lt}
+use lib.Lanes.{zip2, mask_l, top, Each1}
+use Rattle.iloc_spec_grammar.specs.Syntax.{Text}
+use Rattle.iloc_pieces.specs.Marks.{AreMarks, closed, no_letter, is_odd}
+use Rattle.iloc_fronts.specs.Run.{is_hyphen}
+use Rattle.iloc_pieces.specs.declared.marks.Marks.{Marks}
+
+-- ---- lanes
+
+-- two tests that agree on the 256 bytes
+same_map : (q r : ℕ → Bool) (v : Text) → Each1 (Fits w8) v → agree_below q r 256 ≡ true → map q v ≡ map r v
+same_map q r [] fits e = refl
+same_map q r (b ∷ v) fits e = λ j. agree_below_at q r 256 b e (fits.0).fits j ∷ same_map q r v fits.1 e j
+
+-- a mask of lanes that were computed from v tells the test exactly
+pub mask_is : (f : ℕ → ℕ) (p : ℕ → Bool) (v z : Text) → (length v ≡ 16) × Each1 (Fits w8) v → z ≡ map f v
+    → agree_below (λ b. top 7 (f b)) p 256 ≡ true → mask_l (map (top 7) z) % 2 ^ 64 ≡ mask_l (map p v)
+mask_is f p v z fits e all =
+    let few : length (map p v) ≤ 64 = omega (arith, length-map v p, fits.0) in
+    ap (λ l. mask_l (map (top 7) l) % 2 ^ 64) e
+    ∙ ap (λ l. mask_l l % 2 ^ 64) (map-map (top 7) f v ∙ same_map (λ b. top 7 (f b)) p v fits.1 all)
+    ∙ mask_l-mod (map p v) 64 few
+
+-- an operation with one byte in all lanes, on a vector that was computed lane by lane from v
+pub then_splat : (h : ℕ → ℕ → ℕ) (f : ℕ → ℕ) (v : Text) (n y : ℕ) {z : Text} → length v ≡ n → z ≡ map f v
+    → zip2 h z (replicate n y) ≡ map (λ b. h (f b) y) v
+then_splat h f v n y long e = zip2_of_maps h f (λ _. y) v e (splat_is_map v n y long)
+
+-- the same with the byte on the left
+pub splat_then : (h : ℕ → ℕ → ℕ) (f : ℕ → ℕ) (v : Text) (n y : ℕ) {z : Text} → length v ≡ n → z ≡ map f v
+    → zip2 h (replicate n y) z ≡ map (λ b. h y (f b)) v
+splat_then h f v n y long e = zip2_of_maps h (λ _. y) f v (splat_is_map v n y long) e
+
+-- ---- the first bits
+
+one_bit : (a m k : ℕ) → a < 2 → 0 < k → (a + 2 * m) % (k * 2) ≡ a + 2 * (m % k)
+one_bit a m k small l =
+    let half : (a + 2 * m) / 2 ≡ m = omega arith in
+    let low : (a + 2 * m) % 2 ≡ a = omega arith in
+    mod-mul (a + 2 * m) {m = k} {c = 2} l (omega arith) ∙ (λ j. (half j % k) * 2 + low j) ∙ omega arith
+
+bit_lt : (a : Bool) → cond a 1 0 < 2
+bit_lt true = omega arith
+bit_lt false = omega arith
+
+-- they mark the first bytes
+pub low : (q : ℕ → Bool) (n : ℕ) (v : Text) → mask_l (map q v) % 2 ^ n ≡ mask_l (map q (take n v))
+low q zero v = mod-one (mask_l (map q v))
+low q (suc n) [] = zero-mod (2 ^ suc n)
+low q (suc n) (b ∷ v) =
+    ap (λ k. (cond (q b) 1 0 + 2 * mask_l (map q v)) % k) (pow-suc 2 n)
+    ∙ one_bit (cond (q b) 1 0) (mask_l (map q v)) (2 ^ n) (bit_lt (q b)) (pow_pos n)
+    ∙ ap (λ m. cond (q b) 1 0 + 2 * m) (low q n v)
+
+pub masked : (q : ℕ → Bool) (n x e : ℕ) (v : Text) → e ≡ 2 ^ n → x ≡ mask_l (map q v)
+    → bit_and x (e - 1) ≡ mask_l (map q (take n v))
+masked q n x e v h marks = (λ j. bit_and (marks j) (h j - 1)) ∙ and_mask (mask_l (map q v)) n ∙ low q n v
+
+-- ---- the later bits
+
+one_less : (a m k : ℕ) → a < 2 → (a + 2 * m) / (2 * k) ≡ m / k
+one_less a m k small =
+    let half : (a + 2 * m) / 2 ≡ m = omega arith in
+    sym (div-div-eq-div-mul (a + 2 * m) 2 k) ∙ ap (λ n. n / k) half
+
+-- they mark what follows
+high : (q : ℕ → Bool) (n : ℕ) (v : Text) → mask_l (map q v) / 2 ^ n ≡ mask_l (map q (drop n v))
+high q zero v = div-one (mask_l (map q v))
+high q (suc n) [] = zero-div (2 ^ suc n)
+high q (suc n) (b ∷ v) =
+    let power : 2 ^ suc n ≡ 2 * 2 ^ n = omega (arith, pow-suc 2 n) in
+    ap (λ k. (cond (q b) 1 0 + 2 * mask_l (map q v)) / k) power
+    ∙ one_less (cond (q b) 1 0) (mask_l (map q v)) (2 ^ n) (bit_lt (q b)) ∙ high q n v
+
+-- so do the masks of the three tests
+pub later_marks : (v : Text) (n : ℕ) (m r : Marks) → AreMarks v m → r.ends ≡ m.ends / 2 ^ n
+    → r.others ≡ m.others / 2 ^ n → r.odd ≡ m.odd / 2 ^ n → AreMarks (drop n v) r
+later_marks v n m r are h o d = record {
+  ends = h ∙ ap (λ k. k / 2 ^ n) are.ends ∙ high is_hyphen n v;
+  others = o ∙ ap (λ k. k / 2 ^ n) are.others ∙ high no_letter n v;
+  odd = d ∙ ap (λ k. k / 2 ^ n) are.odd ∙ high is_odd n v;
+}
+
+-- ---- a hyphen behind the first bytes
+
+-- the bit of a byte that is added
+added : (q : ℕ → Bool) (p : Text) (b : ℕ)
+    → mask_l (map q (p ++ (b ∷ []))) ≡ mask_l (map q p) + cond (q b) (2 ^ length p) 0
+added q [] b = one (q b)
+  where
+    one : (a : Bool) → cond a 1 0 + 2 * 0 ≡ 0 + cond a 1 0
+    one true = refl
+    one false = refl
+added q (c ∷ p) b =
+    ap (λ m. cond (q c) 1 0 + 2 * m) (added q p b) ∙ more (q b) (cond (q c) 1 0) (mask_l (map q p))
+  where
+    more : (a : Bool) (c m : ℕ)
+        → c + 2 * (m + cond a (2 ^ length p) 0) ≡ c + 2 * m + cond a (2 ^ suc (length p)) 0
+    more true c m = omega (arith, pow-suc 2 (length p))
+    more false c m = omega arith
+
+above : (n m : ℕ) → m < 2 ^ n → bit_or m (2 ^ n) ≡ m + 2 ^ n
+above n m l =
+    let low : m ≡ 0 * 2 ^ n + m = omega arith in
+    let high : 2 ^ n ≡ 1 * 2 ^ n + 0 = omega arith in
+    (λ j. bit_or (low j) (high j)) ∙ or_block n 0 1 m 0 l (pow_pos n)
+    ∙ (λ j. or_zero_l 1 j * 2 ^ n + or_zero_r m j) ∙ omega arith
+
+module _ (v : Text) (n e : ℕ) (inside : n ≤ length v) (end : e ≡ 2 ^ n) where
+  -- the bit above the first n is set, and no other
+  ended : (q : ℕ → Bool) → q 45 ≡ true → (x : ℕ) → x ≡ mask_l (map q v)
+      → bit_or (bit_and x (e - 1)) e ≡ mask_l (map q (closed (take n v)))
+  ended q is x marks =
+      let p : Text = take n v in
+      let len : length p ≡ n = length-take-le n v inside in
+      let lanes : length (map q p) ≡ n = length-map p q ∙ len in
+      let small : mask_l (map q p) < 2 ^ n =
+      subst (λ (k : ℕ). mask_l (map q p) < 2 ^ k) lanes (mask_l-lt (map q p)) in
+      (λ j. bit_or (masked q n x e v end marks j) (end j)) ∙ above n (mask_l (map q p)) small
+      ∙ ap (λ k. mask_l (map q p) + 2 ^ k) (sym len)
+      ∙ sym (added q p 45 ∙ ap (λ (a : Bool). mask_l (map q p) + cond a (2 ^ length p) 0) is)
+
+  -- no bit is set there
+  not_ended : (q : ℕ → Bool) → q 45 ≡ false → (x : ℕ) → x ≡ mask_l (map q v)
+      → bit_and x (e - 1) ≡ mask_l (map q (closed (take n v)))
+  not_ended q clear x marks =
+      let p : Text = take n v in
+      let none : mask_l (map q p) ≡ mask_l (map q p) + 0 = omega arith in
+      masked q n x e v end marks ∙ none
+      ∙ sym (added q p 45 ∙ ap (λ (a : Bool). mask_l (map q p) + cond a (2 ^ length p) 0) clear)
+
+  pub closed_marks : (m r : Marks) → AreMarks v m → r.ends ≡ bit_or (bit_and m.ends (e - 1)) e
+      → r.others ≡ bit_or (bit_and m.others (e - 1)) e → r.odd ≡ bit_and m.odd (e - 1)
+      → AreMarks (closed (take n v)) r
+  closed_marks m r are h o d = record {
+    ends = h ∙ ended is_hyphen refl m.ends are.ends;
+    others = o ∙ ended no_letter refl m.others are.others;
+    odd = d ∙ not_ended is_odd refl m.odd are.odd;
+  }

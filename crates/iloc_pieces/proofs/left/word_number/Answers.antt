@@ -1,0 +1,16 @@
+use Rattle.std.proofs.Common.{List, ℕ, sym, ap, subst, ◌∙◌, arith}
+use Rattle.iloc_fronts.specs.Words.{IsUpToEight, word_number}
+use Rattle.iloc_pieces.proofs.LeftLemmas.{length_piece, piece_inside, short_bytes}
+use Rattle.iloc_pieces.proofs.left.word_number.Goals as goal
+
+pub number_at-requires-clause-inside : goal.number_at-requires-clause-inside
+number_at-requires-clause-inside c =
+    omega (arith, length_piece c.requires.left c.requires.word.few, piece_inside c.requires.left)
+
+pub number_at-requires-clause-word : goal.number_at-requires-clause-word
+number_at-requires-clause-word c =
+    subst (λ (p : List ℕ). IsUpToEight p)
+    (sym (short_bytes c.requires.left c.requires.word.few)) c.requires.word
+
+pub returns : goal.returns
+returns c = c.number_at.ensures ∙ ap word_number (short_bytes c.requires.left c.requires.word.few)

@@ -1,0 +1,85 @@
+-- What is left of a text, from a piece on.
+use Rattle.std.specs.Prelude.{◌≡◌, ◌≢◌, ◌⊎◌, ℕ, ◌+◌, ◌-◌, ◌≤◌, ◌<◌, List, [], ◌∷◌, ◌++◌, length, take, drop, slice_index}
+use Rattle.iloc_spec_grammar.specs.Syntax.{Text, pieces, first_piece, join, dashes}
+use Rattle.iloc_pieces.specs.Marks.{AreMarks, closed}
+use Rattle.iloc_pieces.specs.Shape.{shape_of}
+use Rattle.iloc_pieces.specs.declared.left.Left.{Left}
+
+-- the bytes that are left
+abbrev pub bytes_left : Left → Text
+bytes_left l = take l.len (drop l.at l.window.now)
+
+-- their pieces, and the first of them
+abbrev pub pieces_left : Left → List Text
+pieces_left l = pieces (bytes_left l)
+
+abbrev pub piece_left : Left → Text
+piece_left l = first_piece (pieces_left l)
+
+-- a piece that may be a word
+abbrev pub IsShortPiece : Text → Type 0
+IsShortPiece p = length p ≤ 8
+
+-- the length and the shape of a piece of fewer than sixteen bytes, and the marks of some bytes from it on, up to its
+-- end at least
+pub record HasShape (rest : Text) (l : Left) : Type 0 where
+  pub few : l.n < 16
+  pub long : l.n ≡ length (first_piece (pieces rest))
+  pub shape : l.shape ≡ shape_of (first_piece (pieces rest))
+  pub known : ℕ
+  pub enough : l.n < known
+  pub most : known ≤ 16
+  pub marks : AreMarks (take known (closed rest)) l.marks
+
+-- a longer piece
+pub record IsLong (rest : Text) (l : Left) : Type 0 where
+  pub most : l.n ≡ 16
+  pub long : 16 ≤ length (first_piece (pieces rest))
+  pub shape : l.shape ≡ 0
+
+-- the text lies within the window, and the piece is as said
+pub record IsRemainder (l : Left) : Type 0 where
+  pub inside : l.at + l.len ≤ length l.window.now
+  pub piece : HasShape (bytes_left l) l ⊎ IsLong (bytes_left l) l
+
+-- the whole text
+abbrev pub whole_text : Left → Text
+whole_text l = take (l.at + l.len) l.window.now
+
+-- a hyphen comes before the piece
+pub record IsLater (l : Left) : Type 0 where
+  pub after : 0 < l.at
+  pub hyphen : slice_index l.window.now (l.at - 1) ≡ 45
+
+-- m is one piece further than l
+pub record IsNextPiece (l m : Left) : Type 0 where
+  pub left : IsRemainder m
+  pub later : IsLater m
+  pub less : m.len < l.len
+  pub window : m.window.now ≡ l.window.now
+  pub end : m.at + m.len ≡ l.at + l.len
+  pub rest : bytes_left l ≡ piece_left l ++ 45 ∷ bytes_left m
+  pub pieces : pieces_left l ≡ piece_left l ∷ pieces_left m
+
+-- the bytes of the text from start to end are these pieces, each after a hyphen
+pub record IsSpanned (t : Text) (start end : ℕ) (ps : List Text) : Type 0 where
+  pub ascends : start ≤ end
+  pub inside : end ≤ length t
+  pub bytes : take (end - start) (drop start t) ≡ dashes ps
+
+-- from l to m these pieces are passed
+pub record IsPast (l m : Left) (ps : List Text) : Type 0 where
+  pub left : IsRemainder m
+  pub later : IsLater m
+  pub less : m.len ≤ l.len
+  pub end : m.at + m.len ≡ l.at + l.len
+  pub text : whole_text m ≡ whole_text l
+  pub pieces : pieces_left l ≡ ps ++ pieces_left m
+  pub spanned : IsLater l → (start : ℕ) (qs : List Text) → IsSpanned (whole_text l) start (l.at - 1) qs
+      → IsSpanned (whole_text l) start (m.at - 1) (qs ++ ps)
+  pub rest : ps ≢ [] → bytes_left l ≡ join ps ++ 45 ∷ bytes_left m
+
+-- l is the last piece
+pub record IsEnd (l : Left) : Type 0 where
+  pub all : l.n ≡ l.len
+  pub one : pieces_left l ≡ piece_left l ∷ []

@@ -1,0 +1,294 @@
+//! What is left of a text, from a piece on.
+ghost use Rattle.std.specs.Prelude.{◌≡◌, ◌≢◌, ◌↔◌, ◌+◌, ◌≤◌, ◌<◌, [], ◌∷◌, ◌++◌, IsTrue, true, length, take, drop, slice_index};
+ghost use Rattle.std.specs.Char.{is_ascii_alphanumeric, to_ascii_lowercase};
+ghost use Rattle.std.specs.Int.{is_in_range};
+ghost use Rattle.iloc_spec_grammar.specs.Syntax.{
+  Attribute,
+  IsWord,
+  Language,
+  PrivateSubtag,
+  Region,
+  Script,
+  Subtag,
+  TransformKey,
+  UnicodeKey,
+  Variant,
+  is_one_byte,
+  is_true,
+  is_word,
+  languages,
+  lower,
+};
+ghost use Rattle.iloc_pieces.specs.Left.{IsRemainder, IsNextPiece, IsShortPiece, piece_left, pieces_left, bytes_left};
+ghost use Rattle.iloc_pieces.specs.Marks.{AreMarksSeen};
+ghost use Rattle.iloc_fronts.specs.Words.{IsUpToEight, word_number};
+
+use crate::marks::{Marks, marks_at};
+use crate::shape;
+use iloc_tinystr::number_of;
+
+/// A piece of a text, and what is left of the text from it on.
+#[derive(Clone, Copy)]
+pub struct Left<'a> {
+    /// The text, and perhaps what follows it.
+    pub window: &'a [u8],
+    /// Where the piece begins.
+    pub at: usize,
+    /// How many bytes the text has from there on.
+    pub len: usize,
+    /// The length of the piece; sixteen if it is longer.
+    pub n: usize,
+    /// The shape of the piece; 0 if it is longer than fifteen bytes.
+    pub shape: usize,
+    /// The marks from the piece on.
+    pub marks: Marks,
+}
+
+/// The first `len` bytes of the window, at their first piece.
+#[inline(always)]
+pub fn left_in(window: &[u8], len: usize) -> Left<'_>
+    requires { len ≤ length window.now }
+    ensures left { IsRemainder result }
+    ensures rest { bytes_left result ≡ take len window.now }
+    ensures at { result.at ≡ 0 }
+    ensures len { result.len ≡ len }
+    ensures window { result.window.now ≡ window.now }
+{
+    look(window, 0, len, marks_at(window, 0, len))
+}
+
+// The piece at `at`, whose end the marks tell, if any end is marked.
+#[inline(always)]
+fn look(window: &[u8], at: usize, len: usize, marks: Marks) -> Left<'_>
+    requires inside { at + len ≤ length window.now }
+    requires seen { AreMarksSeen (take len (drop at window.now)) marks }
+    ensures left { IsRemainder result }
+    ensures at { result.at ≡ at }
+    ensures len { result.len ≡ len }
+    ensures window { result.window.now ≡ window.now }
+{
+    if marks.ends == 0 {
+        return Left {
+            window,
+            at,
+            len,
+            n: 16,
+            shape: 0,
+            marks,
+        };
+    }
+    let piece = marks.ends ^ (marks.ends - 1);
+    let shape = if marks.odd & piece != 0 {
+        0
+    } else {
+        marks.others & piece
+    };
+    Left {
+        window,
+        at,
+        len,
+        n: marks.ends.trailing_zeros() as usize,
+        shape: shape as usize,
+        marks,
+    }
+}
+
+/// Whether it is the last piece.
+#[inline(always)]
+pub fn is_last(left: Left<'_>) -> bool
+    ensures { result ≡ true ↔ left.entry.n ≡ left.entry.len }
+{
+    left.n == left.len
+}
+
+/// The next piece.
+#[inline(always)]
+pub fn next(left: Left<'_>) -> Left<'_>
+    requires left { IsRemainder left }
+    requires short { IsShortPiece (piece_left left) }
+    requires more { left.n ≢ left.len }
+    ensures { IsNextPiece left.entry result }
+{
+    let past = left.n + 1;
+    let marks = left.marks.after(past);
+    let at = left.at + past;
+    let len = left.len - past;
+    if marks.ends == 0 {
+        return look(left.window, at, len, marks_at(left.window, at, len));
+    }
+    look(left.window, at, len, marks)
+}
+
+/// Whether the piece is a language.
+#[inline(always)]
+pub fn is_language(left: Left<'_>) -> bool
+    requires { IsRemainder left }
+    ensures { result ≡ is_word (Language languages) (piece_left left.entry) }
+{
+    shape::is_language(left.shape)
+}
+
+/// Whether the piece is a script.
+#[inline(always)]
+pub fn is_script(left: Left<'_>) -> bool
+    requires { IsRemainder left }
+    ensures { result ≡ is_word Script (piece_left left.entry) }
+{
+    shape::is_script(left.shape)
+}
+
+/// Whether the piece is a region.
+#[inline(always)]
+pub fn is_region(left: Left<'_>) -> bool
+    requires { IsRemainder left }
+    ensures { result ≡ is_word Region (piece_left left.entry) }
+{
+    shape::is_region(left.shape)
+}
+
+/// Whether the piece is a variant.
+#[inline(always)]
+pub fn is_variant(left: Left<'_>) -> bool
+    requires { IsRemainder left }
+    ensures { result ≡ is_word Variant (piece_left left.entry) }
+{
+    shape::is_variant(left.shape)
+}
+
+/// Whether the piece is a key of `u`.
+#[inline(always)]
+pub fn is_key(left: Left<'_>) -> bool
+    requires { IsRemainder left }
+    ensures { result ≡ is_word UnicodeKey (piece_left left.entry) }
+{
+    shape::is_key(left.shape)
+}
+
+/// Whether the piece is a key of `t`.
+#[inline(always)]
+pub fn is_field_key(left: Left<'_>) -> bool
+    requires { IsRemainder left }
+    ensures { result ≡ is_word TransformKey (piece_left left.entry) }
+{
+    shape::is_field_key(left.shape)
+}
+
+/// Whether the piece is an attribute, or a subtag of a value.
+#[inline(always)]
+pub fn is_attribute(left: Left<'_>) -> bool
+    requires { IsRemainder left }
+    ensures { result ≡ is_word Attribute (piece_left left.entry) }
+{
+    shape::is_attribute(left.shape)
+}
+
+/// Whether the piece is a subtag of another extension.
+#[inline(always)]
+pub fn is_subtag(left: Left<'_>) -> bool
+    requires { IsRemainder left }
+    ensures { result ≡ is_word Subtag (piece_left left.entry) }
+{
+    shape::is_subtag(left.shape)
+}
+
+/// Whether the piece is a subtag after `x`.
+#[inline(always)]
+pub fn is_private(left: Left<'_>) -> bool
+    requires { IsRemainder left }
+    ensures { result ≡ is_word PrivateSubtag (piece_left left.entry) }
+{
+    shape::is_private(left.shape)
+}
+
+/// Whether the piece has one byte, as a singleton has.
+#[inline(always)]
+pub fn is_single(left: Left<'_>) -> bool
+    requires { IsRemainder left }
+    ensures { result ≡ is_one_byte (piece_left left.entry) }
+{
+    left.n == 1
+}
+
+/// Whether the piece has two to eight bytes, as a subtag has.
+#[inline(always)]
+pub fn is_between(left: Left<'_>) -> bool
+    requires { IsRemainder left }
+    ensures { result ≡ is_in_range 2 8 (length (piece_left left.entry)) }
+{
+    left.n >= 2 && left.n <= 8
+}
+
+/// Whether a piece of one byte is a letter or digit.
+#[inline(always)]
+pub fn is_alphanumeric(left: Left<'_>) -> bool
+    requires left { IsRemainder left }
+    requires single { is_one_byte (piece_left left) ≡ true }
+    ensures { result ≡ is_ascii_alphanumeric (slice_index (piece_left left.entry) 0) }
+{
+    left.shape != 0
+}
+
+/// The byte of a singleton, in lower case.
+#[inline(always)]
+pub fn singleton(left: Left<'_>) -> u8
+    requires left { IsRemainder left }
+    requires single { is_one_byte (piece_left left) ≡ true }
+    ensures { result ≡ to_ascii_lowercase (slice_index (piece_left left.entry) 0) }
+{
+    left.window[left.at].to_ascii_lowercase()
+}
+
+/// Whether the piece is `true`, in whatever case.
+#[inline(always)]
+pub fn is_true(left: Left<'_>) -> bool
+    requires left { IsRemainder left }
+    requires short { IsShortPiece (piece_left left) }
+    ensures { result ≡ is_true (lower (piece_left left.entry)) }
+{
+    if left.shape != 16 {
+        return false;
+    }
+    let mut bytes = [0u8; 4];
+    bytes.copy_from_slice(&left.window[left.at..left.at + 4]);
+    u32::from_le_bytes(bytes) | 0x2020_2020 == 0x6575_7274
+}
+
+// The number of the `n` bytes from `at` on, in lower case: that of eight bytes, the first highest, with zeros behind
+// fewer. Bit 5 makes a letter lower case, and digits have it.
+#[inline(always)]
+fn number_at(window: &[u8], at: usize, n: usize) -> u64
+    requires inside { at + n ≤ length window.now }
+    requires word { IsUpToEight (take n (drop at window.now)) }
+    ensures { result ≡ word_number (take n (drop at window.now)) }
+{
+    match window[at..].first_chunk::<8>() {
+        Some(bytes) => {
+            let unused = 64 - 8 * n;
+            ((u64::from_be_bytes(*bytes) | 0x2020_2020_2020_2020) >> unused) << unused
+        }
+        None => last_number(window, at, n),
+    }
+}
+
+// The same if fewer than eight bytes are there. It is a call of its own, so that longer windows pay nothing.
+#[inline(never)]
+fn last_number(window: &[u8], at: usize, n: usize) -> u64
+    requires inside { at + n ≤ length window.now }
+    requires word { IsUpToEight (take n (drop at window.now)) }
+    ensures { result ≡ word_number (take n (drop at window.now)) }
+{
+    let unused = 64 - 8 * n;
+    let piece = number_of(&window[at..at + n]);
+    ((piece.swap_bytes() | 0x2020_2020_2020_2020) >> unused) << unused
+}
+
+/// The number of a subtag, by which subtags are ordered: that of eight bytes in lower case, the first highest, with
+/// zeros behind a shorter one.
+#[inline(always)]
+pub fn word_number(left: Left<'_>) -> u64
+    requires left { IsRemainder left }
+    requires word { IsUpToEight (piece_left left) }
+    ensures { result ≡ word_number (piece_left left.entry) }
+{
+    number_at(left.window, left.at, left.n)
+}
