@@ -1,6 +1,6 @@
 //! What the outline of a text tells.
 ghost use Rattle.std.specs.Prelude.{◌≡◌, ◌⊎◌, ◌+◌, ◌≤◌, ◌<◌, ◌^◌, length, take};
-ghost use Rattle.iloc_told.specs.Told.{IsBeyond, IsNothingOnlyIf, IsTold, IsWritten};
+ghost use Rattle.iloc_told.specs.Told.{IsBeyond, IsNothingOnlyIf, IsTold, IsOutlineWritten};
 ghost use Rattle.iloc_told.specs.declared.Mode.TheVariants as Mode;
 
 use crate::Mode;
@@ -35,7 +35,7 @@ pub fn write_outlined(
     to: &mut [u8],
 ) -> Written
     requires { len + 16 ≤ length window.now }
-    ensures { IsWritten mode (take len window.now) to.new result }
+    ensures { IsOutlineWritten mode (take len window.now) to.new result }
 {
     if len >= TOO_MANY || to.len() < len + 16 {
         return Written::Nothing;
@@ -53,7 +53,7 @@ fn write_identifier(window: &[u8], len: usize, spans: &mut Spans, to: &mut [u8])
     requires inside { len ≤ length window.now }
     requires few { len < 2 ^ 16 }
     requires room { len + 16 ≤ length to.old }
-    ensures { IsWritten Mode.Langid (take len window.now) to.new result }
+    ensures { IsOutlineWritten Mode.Langid (take len window.now) to.new result }
 {
     if !begins_with_language(window, len) {
         return Written::Refused(ParseError::InvalidLanguage);
@@ -74,7 +74,7 @@ fn write_locale(window: &[u8], len: usize, spans: &mut Spans, to: &mut [u8]) -> 
     requires inside { len ≤ length window.now }
     requires few { len < 2 ^ 16 }
     requires room { len + 16 ≤ length to.old }
-    ensures { IsWritten Mode.Locale (take len window.now) to.new result }
+    ensures { IsOutlineWritten Mode.Locale (take len window.now) to.new result }
 {
     if !begins_with_language(window, len) {
         return Written::Refused(ParseError::InvalidLanguage);
