@@ -59,7 +59,8 @@ fn judge_other(alloc: Global, mode: Mode, text: &[u8]) -> Status
     let mut window = [0u8; WINDOW];
     let mut room = [0u8; ROOM];
     match tell_text(mode, text, &mut window, &mut room) {
-        Told::Ordered(_) | Told::Normal(_) => Status::Done,
+        Told::Ordered(_) => Status::Done,
+        Told::Normal(_) => Status::Done,
         Told::Refused(refusal) => Status::from(refusal),
         Told::Nothing => judge_parsed(alloc, mode, text),
     }
