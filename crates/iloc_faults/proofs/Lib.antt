@@ -1,0 +1,6 @@
+pub mod OnePlace
+pub mod Variants
+pub mod Words
+pub mod Bodies
+pub mod Claims
+pub mod Locales

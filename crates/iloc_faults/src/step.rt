@@ -143,20 +143,27 @@ fn part_of(byte: u8) -> Part {
     }
 }
 
-fn begin<'a>(mode: Mode, state: State<'a>, at: Left<'a>) -> Option<State<'a>> {
-    if !may_end(state.part) || !is_alphanumeric(at) {
-        return None;
-    }
+// Whether a block may begin with the piece after the part: it is a letter or digit.
+#[inline]
+fn may_begin(part: Part, at: Left<'_>) -> bool {
+    may_end(part) && is_alphanumeric(at)
+}
+
+// What was read with the singleton too, if a block may begin with it.
+fn read_singleton<'a>(mode: Mode, state: State<'a>, at: Left<'a>) -> Option<State<'a>> {
     let byte = singleton(at);
-    let bit = bit_of(byte);
     match mode {
         Mode::Langid => None,
-        Mode::Locale if state.seen & bit == 0 => Some(State {
-            part: part_of(byte),
-            variants: None,
-            seen: state.seen | bit,
-        }),
-        Mode::Locale => None,
+        Mode::Locale => {
+            if !may_begin(state.part, at) || state.seen & bit_of(byte) != 0 {
+                return None;
+            }
+            Some(State {
+                part: part_of(byte),
+                variants: None,
+                seen: state.seen | bit_of(byte),
+            })
+        }
         Mode::Data => match state.part {
             Part::Head(_) if byte == b'u' => Some(State {
                 part: Part::Subdivision,
@@ -168,25 +175,39 @@ fn begin<'a>(mode: Mode, state: State<'a>, at: Left<'a>) -> Option<State<'a>> {
     }
 }
 
-fn is_of_private(part: Part) -> bool {
-    part == Part::Private || part == Part::PrivateWord
+// Whether a piece of one byte is no singleton after the part: at the beginning, and after `x`.
+#[inline]
+fn takes_any(part: Part) -> bool {
+    matches!(part, Part::Start | Part::Private | Part::PrivateWord)
 }
 
+// Whether the piece begins a block after the part.
+#[inline]
+fn begins_block(part: Part, at: Left<'_>) -> bool {
+    is_single(at) && !takes_any(part)
+}
+
+/// What was read with the piece too, if that may come next.
 pub fn step<'a>(mode: Mode, state: State<'a>, at: Left<'a>) -> Option<State<'a>> {
-    if is_single(at) && !is_of_private(state.part) {
-        return begin(mode, state, at);
+    if begins_block(state.part, at) {
+        return read_singleton(mode, state, at);
     }
     read_inside(mode, state, at)
 }
 
+/// Why the piece, which may not come next, is refused.
 pub fn refusal(mode: Mode, part: Part, at: Left<'_>) -> ParseError {
+    if mode != Mode::Langid && begins_block(part, at) {
+        return if may_begin(part, at) {
+            ParseError::DuplicatedExtension
+        } else {
+            ParseError::InvalidExtension
+        };
+    }
     match part {
         Part::Start => ParseError::InvalidLanguage,
-        Part::Head(_) if mode != Mode::Locale || !is_single(at) => ParseError::InvalidSubtag,
+        Part::Head(_) => ParseError::InvalidSubtag,
         Part::Source(_) if is_variant(at) => ParseError::InvalidSubtag,
-        _ if is_single(at) && may_end(part) && !is_of_private(part) && is_alphanumeric(at) => {
-            ParseError::DuplicatedExtension
-        }
         _ => ParseError::InvalidExtension,
     }
 }
