@@ -4,3 +4,5 @@ pub mod Words
 pub mod Bodies
 pub mod Claims
 pub mod Locales
+pub mod Identifiers
+pub mod DataSteps
