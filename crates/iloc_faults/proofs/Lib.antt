@@ -6,3 +6,5 @@ pub mod Claims
 pub mod Locales
 pub mod Identifiers
 pub mod DataSteps
+pub mod Answers
+pub mod Going
