@@ -8,3 +8,5 @@ pub mod Identifiers
 pub mod DataSteps
 pub mod Answers
 pub mod Going
+pub mod Earlier
+pub mod StepReadings

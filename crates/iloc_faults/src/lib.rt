@@ -15,11 +15,13 @@
 ghost use Rattle.std.specs.Prelude.{◌≡◌, ◌↔◌, ◌≤◌, None, IfSome, length};
 ghost use Rattle.iloc_faults.specs.Places.{IsAccepted, IsFault};
 
+mod identifier;
 pub mod laws;
 mod state;
 mod step;
 #[cfg(test)]
 mod tests;
+
 mod walk;
 
 use iloc_subtags::ParseError;
