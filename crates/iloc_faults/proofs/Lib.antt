@@ -9,4 +9,5 @@ pub mod DataSteps
 pub mod Answers
 pub mod Going
 pub mod Earlier
+pub mod Bits
 pub mod StepReadings

@@ -1,9 +1,9 @@
 //! What may come next, and why another piece is refused.
-ghost use Rattle.std.specs.Prelude.{◌≡◌, ◌≢◌, ℕ, ◌^◌, List, IfSome, Some, true, codes, option_map, slice_index};
+ghost use Rattle.std.specs.Prelude.{◌≡◌, ◌≢◌, ℕ, ◌^◌, List, Some, true, codes, option_map, slice_index};
 ghost use Rattle.std.specs.Char.{is_ascii_alphanumeric, to_ascii_lowercase};
 ghost use Rattle.iloc_spec_grammar.specs.Syntax.{Text, is_one_byte, is_same, lower};
 ghost use Rattle.iloc_subtags.specs.Judging.{error_of};
-ghost use Rattle.iloc_pieces.specs.Left.{IsRemainder, IsShortPiece, piece_left};
+ghost use Rattle.iloc_pieces.specs.Left.{IsRemainder, piece_left};
 ghost use Rattle.iloc_told.specs.declared.Mode.TheVariants as modes;
 ghost use Rattle.iloc_faults.specs.Next as steps;
 ghost use Rattle.iloc_faults.specs.Next.{begins_block, block_next, inside_next, may_begin, part_of, piece_next, subdivision_next, when};
@@ -20,10 +20,10 @@ use iloc_subtags::{ParseError, Subtag};
 use iloc_told::Mode;
 
 // The subdivision of a data locale, or a `true` that it leaves out.
+#[tactic(auto, using(iloc_pieces::proofs::LeftLemmas::short_attribute))]
 fn read_subdivision(at: Left<'_>) -> Option<Part>
     requires { IsRemainder at }
-    ensures part { result ≡ subdivision_next (piece_left at.entry) }
-    ensures short { IfSome result (λ _. IsShortPiece (piece_left at.entry)) }
+    ensures { result ≡ subdivision_next (piece_left at.entry) }
 {
     if !is_attribute(at) {
         return None;
@@ -31,12 +31,9 @@ fn read_subdivision(at: Left<'_>) -> Option<Part>
     if is_true(at) {
         return Some(Part::SubdivisionKey);
     }
-    let Ok(word) = Subtag::try_from_utf8(&at.window[at.at..at.at + at.n]) else {
-        return None;
-    };
-    match named(&word) {
-        Some(_) => Some(Part::SubdivisionValue),
-        None => None,
+    match Subtag::try_from_utf8(&at.window[at.at..at.at + at.n]) {
+        Ok(word) => when(named(&word).is_some(), Part::SubdivisionValue),
+        Err(_) => None,
     }
 }
 
@@ -45,9 +42,13 @@ fn is_sd(at: Left<'_>) -> bool
     requires { IsRemainder at }
     ensures { result ≡ is_same (lower (piece_left at.entry)) (codes "sd") }
 {
-    at.n == 2
-        && at.window[at.at].to_ascii_lowercase() == b's'
-        && at.window[at.at + 1].to_ascii_lowercase() == b'd'
+    if at.n != 2 {
+        return false;
+    }
+    if at.window[at.at].to_ascii_lowercase() != b's' {
+        return false;
+    }
+    at.window[at.at + 1].to_ascii_lowercase() == b'd'
 }
 
 // The part, if this holds.
@@ -61,8 +62,7 @@ fn when(holds: bool, part: Part) -> Option<Part>
 // What was read once a piece of a block is read too.
 fn read_piece(part: Part, at: Left<'_>) -> Option<Part>
     requires { IsRemainder at }
-    ensures part { result ≡ piece_next part (piece_left at.entry) }
-    ensures short { IfSome result (λ _. IsShortPiece (piece_left at.entry)) }
+    ensures { result ≡ piece_next part (piece_left at.entry) }
 {
     match part {
         Part::FieldKey => when(is_attribute(at), Part::FieldValue),
@@ -122,17 +122,25 @@ fn read_inside<'a>(mode: Mode, state: State<'a>, at: Left<'a>) -> Option<State<'
             }),
             None => None,
         },
-        Part::Transform if is_field_key(at) => plain(seen, Some(Part::FieldKey)),
-        Part::Transform => plain(seen, when(is_language(at), Part::Source(Stage::Language))),
-        Part::Source(_) if is_field_key(at) => plain(seen, Some(Part::FieldKey)),
-        Part::Source(stage) => match read_word(mode, stage, state.variants, at) {
-            Some((stage, variants)) => Some(State {
-                part: Part::Source(stage),
-                variants,
-                seen,
-            }),
-            None => None,
-        },
+        Part::Transform => {
+            if is_field_key(at) {
+                return plain(seen, Some(Part::FieldKey));
+            }
+            plain(seen, when(is_language(at), Part::Source(Stage::Language)))
+        }
+        Part::Source(stage) => {
+            if is_field_key(at) {
+                return plain(seen, Some(Part::FieldKey));
+            }
+            match read_word(mode, stage, state.variants, at) {
+                Some((stage, variants)) => Some(State {
+                    part: Part::Source(stage),
+                    variants,
+                    seen,
+                }),
+                None => None,
+            }
+        }
         part => plain(seen, read_piece(part, at)),
     }
 }
