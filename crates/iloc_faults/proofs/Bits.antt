@@ -68,14 +68,14 @@ module _ (bits : ℕ) (seen : List ℕ) (h : AreSeen bits seen) (c : ℕ) (a : i
   pub seen_more : AreSeen (bit_or bits (2 ^ place)) (to_ascii_lowercase c ∷ seen)
   seen_more d k = elim (cases_eq (to_ascii_lowercase c) (to_ascii_lowercase d)) [
     | inl e ↦ (
-        λ _. or_left _ _ (ap (λ x. eq_by_cmp nat_cmp (to_ascii_lowercase d) x) e ∙ self_tied (to_ascii_lowercase d)),
-        λ _. let f : bit_place (to_ascii_lowercase d) ≡ place = ap bit_place (sym e) in
-            larger _ _ _ (bit_at_or bits (2 ^ place) (bit_place (to_ascii_lowercase d))) (ap (bit_at (2 ^ place)) f ∙ bit_at-pow_same place) (bit_small bits (bit_place (to_ascii_lowercase d))),
-      )
+      λ _. or_left _ _ (ap (λ x. eq_by_cmp nat_cmp (to_ascii_lowercase d) x) e ∙ self_tied (to_ascii_lowercase d)),
+      λ _. let f : bit_place (to_ascii_lowercase d) ≡ place = ap bit_place (sym e) in
+          larger _ _ _ (bit_at_or bits (2 ^ place) (bit_place (to_ascii_lowercase d))) (ap (bit_at (2 ^ place)) f ∙ bit_at-pow_same place) (bit_small bits (bit_place (to_ascii_lowercase d))),
+    )
     | inr n ↦
         let apart = places_apart c d a k (λ e. n (sym e)) in
         let same : bit_at (bit_or bits (2 ^ place)) (bit_place (to_ascii_lowercase d)) ≡ bit_at bits (bit_place (to_ascii_lowercase d)) =
-            smaller _ _ _ (bit_at_or bits (2 ^ place) (bit_place (to_ascii_lowercase d))) (bit_at-pow_other place (bit_place (to_ascii_lowercase d)) apart) in
+        smaller _ _ _ (bit_at_or bits (2 ^ place) (bit_place (to_ascii_lowercase d))) (bit_at-pow_other place (bit_place (to_ascii_lowercase d)) apart) in
         let no = untied (to_ascii_lowercase d) (to_ascii_lowercase c) n in
         (λ e. or_right _ _ ((h d k).0 (sym same ∙ e)), λ s. same ∙ (h d k).1 (rw no at s))
   ]
@@ -135,11 +135,11 @@ sd_of : (p : Text) → length p ≡ 2 → is_same (lower p) (codes "sd") ≡ ((t
 unfolding lower
 sd_of (a ∷ b ∷ []) e = one_test _ _
     (λ h. let k : to_ascii_lowercase a ∷ to_ascii_lowercase b ∷ [] ≡ 115 ∷ 100 ∷ [] = same_is (to_ascii_lowercase a ∷ to_ascii_lowercase b ∷ []) (codes "sd") h in
-        let x : to_ascii_lowercase a ≡ 115 = cc in
-        let y : to_ascii_lowercase b ≡ 100 = cc in
-        and_from _ _ (eq-eqb _ _ x) (eq-eqb _ _ y))
+    let x : to_ascii_lowercase a ≡ 115 = cc in
+    let y : to_ascii_lowercase b ≡ 100 = cc in
+    and_from _ _ (eq-eqb _ _ x) (eq-eqb _ _ y))
     (λ h. let k = and_parts _ _ h in
-        ap₂ (λ (u v : ℕ). is_same (u ∷ v ∷ []) (codes "sd")) {x = to_ascii_lowercase a} {y = 115} {u = to_ascii_lowercase b} {v = 100} (eqb-true _ _ k.0) (eqb-true _ _ k.1) ∙ same_itself (codes "sd"))
+    ap₂ (λ (u v : ℕ). is_same (u ∷ v ∷ []) (codes "sd")) {x = to_ascii_lowercase a} {y = 115} {u = to_ascii_lowercase b} {v = 100} (eqb-true _ _ k.0) (eqb-true _ _ k.1) ∙ same_itself (codes "sd"))
 sd_of [] e = absurd (omega arith)
 sd_of (a ∷ []) e = absurd (omega arith)
 sd_of (a ∷ b ∷ d ∷ p) e = absurd (omega arith)

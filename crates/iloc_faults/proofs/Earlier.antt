@@ -103,14 +103,14 @@ module _ {first earlier at : Left} (k : IsRemainder at) (word : IsWord Variant (
         let o = one_there k w.before less in
         let b = subst (IsBefore earlier at) o.2 w.before in
         let tie : eq_by_cmp word_cmp (lower (piece_left at)) (lower o.0) ≡ true =
-            ap (λ q. eq_by_cmp word_cmp (lower (piece_left at)) (lower q)) (sym (first_is b))
-            ∙ same_number (piece_left at) (piece_left earlier) word (here less)
-            ∙ ap (λ n. eq_by_cmp nat_cmp (word_number (piece_left at)) n) e ∙ self_tied (word_number (piece_left at)) in
+        ap (λ q. eq_by_cmp word_cmp (lower (piece_left at)) (lower q)) (sym (first_is b))
+        ∙ same_number (piece_left at) (piece_left earlier) word (here less)
+        ∙ ap (λ n. eq_by_cmp nat_cmp (word_number (piece_left at)) n) e ∙ self_tied (word_number (piece_left at)) in
         let test = eq_by_cmp word_cmp (lower (piece_left at)) in
         sym (ap (λ qs. list_any test (map lower qs)) (same_between h w.all ∙ ap (λ qs. w.done ++ qs) o.2)
-            ∙ ap (list_any test) (map-append lower w.done (o.0 ∷ o.1))
-            ∙ list_any-append test (map lower w.done) (map lower (o.0 ∷ o.1))
-            ∙ or_right _ _ (or_left _ _ tie))
+        ∙ ap (list_any test) (map-append lower w.done (o.0 ∷ o.1))
+        ∙ list_any-append test (map lower w.done) (map lower (o.0 ∷ o.1))
+        ∙ or_right _ _ (or_left _ _ tie))
 
     -- it is another
     pub walk_more : {m : Left} → earlier.at < at.at → word_number (piece_left earlier) ≢ word_number (piece_left at) → IsNextPiece earlier m → Walked first m at
@@ -119,7 +119,7 @@ module _ {first earlier at : Left} (k : IsRemainder at) (word : IsWord Variant (
         let b = subst (IsBefore earlier at) o.2 w.before in
         let test = eq_by_cmp word_cmp (lower (piece_left at)) in
         let tie : test (lower o.0) ≡ false =
-            ap (λ q. test (lower q)) (sym (first_is b)) ∙ same_number (piece_left at) (piece_left earlier) word (here less) ∙ untied _ _ e in
+        ap (λ q. test (lower q)) (sym (first_is b)) ∙ same_number (piece_left at) (piece_left earlier) word (here less) ∙ untied _ _ e in
         record {
           done = w.done ++ (o.0 ∷ []);
           rest = o.1;

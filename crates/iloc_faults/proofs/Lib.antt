@@ -11,3 +11,5 @@ pub mod Going
 pub mod Earlier
 pub mod Bits
 pub mod StepReadings
+pub mod Walks
+pub mod FaultAnswers

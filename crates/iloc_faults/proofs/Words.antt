@@ -53,10 +53,11 @@ good_end Region vs h = ap (all_different word_cmp) (append-nil vs) ∙ h
 -- a piece of one byte is no word of an identifier
 pub no_word : (p : Text) → is_one_byte p ≡ true → (is_word kinds.Script p ≡ false) × (is_word kinds.Region p ≡ false) × (is_word Variant p ≡ false)
 no_word p h =
-    let one : length p ≡ 1 = eqb-true _ _ h in
-    (false_from_ne_true _ (λ e. let k = length-script p e in absurd (omega arith)),
-    false_from_ne_true _ (λ e. let k = length-region p e in absurd (omega arith)),
-    false_from_ne_true _ (λ e. let k = length-variant p e in absurd (omega arith)))
+    let one : length p ≡ 1 = eqb-true _ _ h in (
+      false_from_ne_true _ (λ e. let k = length-script p e in absurd (omega arith)),
+      false_from_ne_true _ (λ e. let k = length-region p e in absurd (omega arith)),
+      false_from_ne_true _ (λ e. let k = length-variant p e in absurd (omega arith)),
+    )
 
 pub no_next : (mode : Mode) (stage : Stage) (vs : List Text) (p : Text) → is_word kinds.Script p ≡ false → is_word kinds.Region p ≡ false → is_word Variant p ≡ false → word_next mode stage vs p ≡ None
 no_next mode Language vs p a b c = rw (a, b, c)

@@ -21,7 +21,6 @@ mod state;
 mod step;
 #[cfg(test)]
 mod tests;
-
 mod walk;
 
 use iloc_subtags::ParseError;

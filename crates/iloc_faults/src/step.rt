@@ -9,8 +9,8 @@ ghost use Rattle.iloc_faults.specs.Next as steps;
 ghost use Rattle.iloc_faults.specs.Next.{begins_block, block_next, inside_next, may_begin, part_of, piece_next, subdivision_next, when};
 ghost use Rattle.iloc_faults.specs.States.{IsRead, IsReading, bare, bit_place, reached};
 
-use crate::state::{Part, Stage, State, may_end, takes_any};
 use crate::identifier::read_word;
+use crate::state::{Part, Stage, State, may_end, takes_any};
 use iloc_data_parts::region::named;
 use iloc_pieces::left::{
     Left, is_alphanumeric, is_attribute, is_between, is_field_key, is_key, is_language, is_private,
@@ -141,7 +141,7 @@ fn read_inside<'a>(mode: Mode, state: State<'a>, at: Left<'a>) -> Option<State<'
                 None => None,
             }
         }
-        part => plain(seen, read_piece(part, at)),
+        _ => plain(seen, read_piece(state.part, at)),
     }
 }
 

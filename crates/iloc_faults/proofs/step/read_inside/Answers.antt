@@ -1,8 +1,7 @@
 use Rattle.std.proofs.Common.{sym, ap, ◌∙◌, subst, option_map}
-use Rattle.iloc_pieces.specs.Left.{piece_left}
 use Rattle.iloc_faults.specs.declared.state.Part.TheVariants.{Head, Source}
 use Rattle.iloc_faults.specs.declared.state.Stage.TheVariants.{Language}
-use Rattle.iloc_faults.specs.Next.{when, piece_next}
+use Rattle.iloc_faults.specs.Next.{when}
 use Rattle.iloc_faults.specs.States.{bare}
 use Rattle.iloc_faults.proofs.StepReadings.{key_read, key_read_after, start_read, language_read, head_read, head_not, source_read, source_not, other_read}
 use Rattle.iloc_faults.proofs.step.read_inside.Goals as goal
@@ -40,4 +39,4 @@ returns-in-Some-read_word c vs seen h =
 pub returns-in_default : goal.returns-in_default
 returns-in_default c vs seen h =
     other_read c.args.mode c.args.at c.args.state.part vs seen c.args.state.seen h.seen_are c.in_default.not-Start c.in_default.not-Head c.in_default.not-Transform c.in_default.not-Source c.plain-in_default.result
-    (c.plain-in_default.ensures ∙ ap (option_map (bare c.args.state.seen)) (c.read_piece.ensures ∙ ap (λ q. piece_next q (piece_left c.args.at)) c.in_default.part-is))
+    (c.plain-in_default.ensures ∙ ap (option_map (bare c.args.state.seen)) c.read_piece.ensures)
