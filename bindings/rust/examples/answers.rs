@@ -13,7 +13,7 @@
 
 use icu_locale_c::extensions::unicode::{Attribute, Key, Value};
 use icu_locale_c::subtags::{Language, Region, Script, Variant};
-use icu_locale_c::{check, compare, normalize, normalizing_eq, strict_cmp, Locale, Mode, Priority, Refusal};
+use icu_locale_c::{check, compare, normalize, normalizing_eq, strict_cmp, Locale, Mode, ParseError, Priority};
 use std::collections::hash_map::DefaultHasher;
 use std::hash::{Hash, Hasher};
 use std::io::{self, BufRead, BufWriter, Write};
@@ -21,16 +21,16 @@ use std::mem;
 
 fn answer(mode: Mode, line: &[u8]) -> String {
     let normal = normalize(mode, line);
-    assert_eq!(check(mode, line).err(), normal.as_ref().err().copied());
-    normal.unwrap_or_else(|refusal| format!("! {refusal}"))
+    assert_eq!(check(mode, line).err(), normal.as_ref().err().cloned());
+    normal.unwrap_or_else(refused)
 }
 
-fn compare_pair(mode: Mode, first: &[u8], second: &[u8]) -> Result<String, Refusal> {
+fn compare_pair(mode: Mode, first: &[u8], second: &[u8]) -> Result<String, ParseError> {
     let order = strict_cmp(mode, first, second)? as i8;
     let same = normalizing_eq(mode, first, second)? as u8;
     let both = match compare(mode, first, second) {
         Ok(both) => (both as i8).to_string(),
-        Err(refusal) => format!("! {refusal}"),
+        Err(error) => refused(error),
     };
     Ok(format!("{order} {same} {both}"))
 }
@@ -137,14 +137,14 @@ fn against(it: &Locale, text: &[u8]) -> String {
     format!("{} {}", it.strict_cmp(text) as i8, is_meant as u8)
 }
 
-fn two_objects(first: &[u8], second: &[u8]) -> Result<String, Refusal> {
+fn two_objects(first: &[u8], second: &[u8]) -> Result<String, ParseError> {
     let one = Locale::try_from_utf8(first)?;
     let both = Locale::try_from_utf8(second).map_or_else(|_| "- - -".to_owned(), |other| compare_objects(&one, &other));
     Ok(format!("{both} {}", against(&one, second)))
 }
 
 /// A part that is cleared by an empty text.
-fn optional<T>(text: &[u8], parsed: fn(&[u8]) -> Result<T, Refusal>) -> Result<Option<T>, Refusal> {
+fn optional<T>(text: &[u8], parsed: fn(&[u8]) -> Result<T, ParseError>) -> Result<Option<T>, ParseError> {
     if text.is_empty() {
         Ok(None)
     } else {
@@ -168,7 +168,7 @@ fn lossy(text: &[u8]) -> String {
     String::from_utf8_lossy(text).into_owned()
 }
 
-fn take_step(slots: &mut [Locale; 4], words: &[&[u8]]) -> Result<String, Refusal> {
+fn take_step(slots: &mut [Locale; 4], words: &[&[u8]]) -> Result<String, ParseError> {
     let number = |word: &[u8]| word.first().map_or(0, |digit| (digit - b'0') as usize);
     let (at, text) = (number(words[1]), words.get(2).copied().unwrap_or(b""));
     let other = if text.len() == 1 { number(text) % 4 } else { 0 };
@@ -278,8 +278,8 @@ fn take_step(slots: &mut [Locale; 4], words: &[&[u8]]) -> Result<String, Refusal
     })
 }
 
-fn refused(refusal: Refusal) -> String {
-    format!("! {refusal}")
+fn refused(error: ParseError) -> String {
+    format!("! {}", error.kind())
 }
 
 fn answer_script(lines: &[Vec<u8>], out: &mut impl Write) -> io::Result<()> {
