@@ -182,7 +182,8 @@ icu_locale_status icu_locale_words(icu_locale_status status, uint8_t *buffer, si
  *  - Only the calls of this header write a handle, and only they read or write what it points to. It is not copied by
  *    = or memcpy: use icu_locale_copy. It may be moved to another place if the old one is no longer used.
  *  - A call that only reads takes const icu_locale_t *, and leaves the handle as it was. But it takes the locale out of
- *    the handle meanwhile, and puts it back. So no handle is itself defined const: it lies where it can be written.
+ *    the handle meanwhile, and puts it back. So no handle is itself defined const: it lies where it can be written. A
+ *    handle that is {0} may be, since such a call does not write to it: static const icu_locale_t und = ICU_LOCALE_UND;
  *  - During a call, also one that only reads, no other call uses its handles, in any thread. A handle may go to another
  *    thread if a lock, the start or end of a thread, or a sequentially consistent atomic orders that.
  *  - The pointer of a handle is not null. A handle is aligned as C aligns icu_locale_t, and overlaps no other argument.
