@@ -127,6 +127,23 @@ def shared():
     return wrong
 
 
+def calls_in(call):
+    """How many calls of Python and of C are made within this one: what it costs, on any machine."""
+    seen = []
+    sys.setprofile(lambda _frame, event, _given: seen.append(event))
+    try:
+        call()
+    finally:
+        sys.setprofile(None)
+    return sum(it in ("call", "c_call") for it in seen) - 1  # less that of setprofile
+
+
+def first_calls(locale):
+    """Whether the first read of a part makes few calls, and the next one fewer."""
+    read = lambda: locale.region
+    return calls_in(read) <= 13, calls_in(read) <= 2
+
+
 LONG = "de-aaaaa-bbbbb-ccccc-ddddd-eeeee-t-und-m0-abc-u-aaa-ca-islamic-civil-x-a-b-c-d-e"
 HELD = Locale("en-US-posix-u-foo-ca-buddhist")
 with_part = lambda **parts: raised(lambda: str(HELD.replace(**parts)))
@@ -234,6 +251,8 @@ CASES = [
     ("0x" in str(inspect.signature(Locale.replace)), False),
     (len({id(HELD.keywords) for _ in range(3)}), 1),
     ((HELD.replace(region="GB").region, HELD.region, HELD.replace(region=None).region), ("GB", "US", None)),
+    # A part that is read for the first time, and again: docs/BINDINGS.md says how long that takes.
+    (first_calls(Locale("en-GB")), (True, True)),
     ("run bindings/build" in loading("/dev/null"), True),
     ("of header" in loading(sys.executable) or "another library" in loading("libc.so.6"), True),
 ]

@@ -278,9 +278,11 @@ class _Buffer:
         self.at, self.needed_at = ctypes.addressof(self.bytes), ctypes.addressof(self.needed)
 
 
+# The room of a buffer that is kept for other calls.
+_USUAL = 256
 # Buffers that no call has now. A call has one for itself, also while another begins within it or in another thread.
 _free_buffers: Deque[_Buffer] = collections.deque(maxlen=8)
-_normalize = _library.icu_locale_normalize
+_normalize, _parse = _library.icu_locale_normalize, _library.icu_locale_parse
 
 
 def _quicker() -> Optional[Callable[[Any, Any], Optional[str]]]:
@@ -302,14 +304,14 @@ def _taken(room: int) -> _Buffer:
     try:
         buffer = _free_buffers.pop()
     except IndexError:
-        return _Buffer(max(room, 256))
+        return _Buffer(max(room, _USUAL))
     return buffer if room <= buffer.room else _Buffer(room)
 
 
 def _given_back(buffer: _Buffer) -> str:
     """The text that was written to a buffer, which another call may have then, unless it is long."""
     text = buffer.bytes.raw[: buffer.needed.value].decode("ascii")
-    if buffer.room <= 256:
+    if buffer.room <= _USUAL:
         _free_buffers.append(buffer)
     return text
 
@@ -450,15 +452,20 @@ class _Owned(_Handle):
 
     def read(self, function: Any, *given: Any) -> Optional[str]:
         """The text that a call writes, or None if there is no such part."""
-        room, needed, status = 64, ctypes.c_size_t(), _BUFFER_TOO_SMALL
-        while status == _BUFFER_TOO_SMALL:
-            buffer = ctypes.create_string_buffer(room)
-            status = _call(function, self, *given, buffer, room, ctypes.byref(needed))
-            room = needed.value
-        if status == _NOT_FOUND:
-            return None
-        _raise(status)
-        return buffer.raw[: needed.value].decode("ascii")
+        buffer = _taken(_USUAL)
+        try:
+            status = function(self, *given, buffer.at, buffer.room, buffer.needed_at)
+            if status == _BUFFER_TOO_SMALL:
+                buffer = _Buffer(buffer.needed.value)
+                status = function(self, *given, buffer.at, buffer.room, buffer.needed_at)
+        except ctypes.ArgumentError:
+            raise MemoryError from None
+        if status == _DONE:
+            return _given_back(buffer)
+        if status != _NOT_FOUND:
+            _raise(status)
+        _free_buffers.append(buffer)
+        return None
 
     def change(self, name: str, *texts: bytes) -> None:
         """Has the call of this name change the locale by the texts."""
@@ -499,7 +506,9 @@ class _Owned(_Handle):
 def _parsed(text: bytes) -> _Owned:
     """A handle of what the text means."""
     made = _Owned()
-    made.change("parse", text)
+    status = _call(_parse, made, text, len(text))
+    if status:
+        _raise(status, text)
     return made
 
 
@@ -513,10 +522,7 @@ def _once(read: Callable[["Locale"], _T]) -> Callable[["Locale"], _T]:
     @functools.wraps(read)
     def part(self: "Locale") -> Any:
         parts = self._parts
-        try:
-            return parts[name]
-        except KeyError:
-            return parts.setdefault(name, read(self))
+        return parts[name] if name in parts else parts.setdefault(name, read(self))
 
     return part
 
@@ -600,11 +606,16 @@ class Locale:
 
     def _read(self, function: Any, *given: Any) -> Optional[str]:
         """The text that a call writes, or None if there is no such part."""
-        handle = self._take()
+        handles = self._handles
+        try:
+            handle = handles.pop()
+        except IndexError:
+            handle = _parsed(self._source)
         try:
             return handle.read(function, *given)
         finally:
-            self._put(handle)
+            if not handles:
+                handles.append(handle)
 
     def _part(self, call: Any, *given: Any) -> str:
         """The text of a part that is there."""
