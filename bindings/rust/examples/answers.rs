@@ -1,6 +1,7 @@
 //! Answers each line of standard input, for tools/try_bindings.
 //!
 //! `answers langid|locale|data`: the normal form of each line, or `! ` and the words of the refusal.
+//! `answers faults-langid|faults-locale|faults-data`: where the fault of each line stands, as `3 5`; `-` if it has none.
 //! `answers pairs-langid|pairs-locale|pairs-data`: of each two lines the byte order of the first, normalized, against
 //! the second, whether they mean the same, and the order of both normal forms, as `-1 0 -1`. A refusal stands in the
 //! place of the last, or of all three if the first is refused.
@@ -23,6 +24,11 @@ fn answer(mode: Mode, line: &[u8]) -> String {
     let normal = normalize(mode, line);
     assert_eq!(check(mode, line).err(), normal.as_ref().err().cloned());
     normal.unwrap_or_else(refused)
+}
+
+fn fault(mode: Mode, line: &[u8]) -> String {
+    let at = |error: ParseError| format!("{} {}", error.range().start, error.range().end);
+    normalize(mode, line).map_or_else(at, |_| "-".to_owned())
 }
 
 fn compare_pair(mode: Mode, first: &[u8], second: &[u8]) -> Result<String, ParseError> {
@@ -298,12 +304,18 @@ fn mode_of(word: &str) -> Mode {
         "locale" => Mode::Locale,
         "data" => Mode::DataLocale,
         _ => {
-            panic!("usage: answers langid|locale|data|pairs-langid|pairs-locale|pairs-data|objects|two-objects|script")
+            panic!("usage: answers [pairs-|faults-]langid|locale|data, or answers objects|two-objects|script")
         }
     }
 }
 
 fn answer_texts(word: &str, lines: &[Vec<u8>], out: &mut impl Write) -> io::Result<()> {
+    if let Some(word) = word.strip_prefix("faults-") {
+        for line in lines {
+            writeln!(out, "{}", fault(mode_of(word), line))?;
+        }
+        return Ok(());
+    }
     match word.strip_prefix("pairs-") {
         None => {
             for line in lines {

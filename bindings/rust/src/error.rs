@@ -1,7 +1,8 @@
 //! Why a text is refused, and the error that names the text.
 
-use crate::sys;
+use crate::{sys, Mode};
 use std::fmt;
+use std::ops::Range;
 
 /// Why a text is refused, or why the library cannot be asked: what [`ParseError::kind`] returns.
 #[derive(Clone, Copy, Debug, PartialEq, Eq, Hash)]
@@ -52,16 +53,18 @@ impl fmt::Display for Refusal {
 /// A refused text. It prints why and of which text, as `Invalid subtag: 'en-'`.
 ///
 /// It holds a copy of the first 64 bytes of the text, and prints these. So making and cloning one allocates nothing.
-/// Two are equal if they have the same kind, and texts of one length that begin alike. It is compared with a
+/// Two are equal if they have the same kind and range, and texts of one length that begin alike. It is compared with a
 /// [`Refusal`] too:
 ///
 /// ```
 /// use icu_locale_c::{Locale, Refusal};
 ///
-/// let error = "en-".parse::<Locale>().unwrap_err();
-/// assert_eq!(error.to_string(), "Invalid subtag: 'en-'");
+/// let text = "en-toolonggg-US";
+/// let error = text.parse::<Locale>().unwrap_err();
+/// assert_eq!(error.to_string(), "Invalid subtag: 'en-toolonggg-US'");
 /// assert_eq!(error.kind(), Refusal::InvalidSubtag);
 /// assert_eq!(error, Refusal::InvalidSubtag);
+/// assert_eq!(&text[error.range()], "toolonggg");
 /// ```
 ///
 /// An error that says nothing of the text, such as [`Refusal::OutOfMemory`], prints its words alone.
@@ -69,6 +72,7 @@ impl fmt::Display for Refusal {
 pub struct ParseError {
     kind: Refusal,
     text: Beginning,
+    range: Range<usize>,
 }
 
 impl ParseError {
@@ -77,10 +81,40 @@ impl ParseError {
         self.kind
     }
 
-    /// The error of this kind. Its text is that of the parts, one after the other.
+    /// Where the fault stands, in bytes of the text that was refused.
+    ///
+    /// It is the first piece with which no text begins that has a meaning. So what is before it can be completed, and
+    /// what includes it cannot. If all pieces can be completed, the text ends too early, and the range is empty at its
+    /// end. A part that is refused, such as a [`Region`](crate::subtags::Region), is all at fault. The range is empty
+    /// at 0 if the error says nothing of the text.
+    pub fn range(&self) -> Range<usize> {
+        self.range.clone()
+    }
+
+    /// The error of this kind. Its text is that of the parts, one after the other, and is all at fault.
     pub(crate) fn of(kind: Refusal, parts: &[&[u8]]) -> Self {
         let text = Beginning::of(if kind.is_of_text() { parts } else { &[] });
-        ParseError { kind, text }
+        let range = 0..text.length;
+        ParseError { kind, text, range }
+    }
+
+    /// The same, of a text that was refused in the mode: the library is asked where its fault stands.
+    fn found(mut self, mode: Mode, text: &[u8]) -> Self {
+        if self.kind.is_of_text() {
+            let range = &mut self.range;
+            // SAFETY: pointer and length are those of a slice, and what is written to is borrowed alone. A text that
+            // has no fault writes nothing.
+            unsafe {
+                sys::icu_locale_find_fault(
+                    mode.number(),
+                    text.as_ptr(),
+                    text.len(),
+                    &mut range.start,
+                    &mut range.end,
+                )
+            };
+        }
+        self
     }
 }
 
@@ -100,7 +134,7 @@ impl fmt::Debug for ParseError {
         let mut shown = f.debug_struct("ParseError");
         shown.field("kind", &self.kind);
         if self.kind.is_of_text() {
-            shown.field("text", &format_args!("{}", self.text));
+            shown.field("text", &format_args!("{}", self.text)).field("range", &self.range);
         }
         shown.finish()
     }
@@ -146,6 +180,11 @@ impl fmt::Display for Beginning {
     }
 }
 
+/// The status of a text that was read in the mode, as a result.
+pub(crate) fn text_result(status: u32, mode: Mode, text: &[u8]) -> Result<(), ParseError> {
+    result(status, &[text]).map_err(|it| it.found(mode, text))
+}
+
 /// A status, as a result, with the text that was asked about, in parts. The functions here pass the numbers and the
 /// room that the others ask for.
 pub(crate) fn result(status: u32, parts: &[&[u8]]) -> Result<(), ParseError> {
@@ -164,7 +203,7 @@ pub(crate) fn result(status: u32, parts: &[&[u8]]) -> Result<(), ParseError> {
 #[cfg(test)]
 mod tests {
     use super::*;
-    use crate::{compare, normalize, Locale, Mode};
+    use crate::{check, compare, normalize, normalizing_eq, strict_cmp, Locale};
 
     #[test]
     fn a_refusal_honors_the_width() {
@@ -211,12 +250,45 @@ mod tests {
     }
 
     #[test]
+    fn a_fault_has_a_place() {
+        for mode in [Mode::Identifier, Mode::Locale, Mode::DataLocale] {
+            let at = |text: &[u8]| normalize(mode, text).unwrap_err().range();
+            let [is_locale, is_identifier] = [Mode::Locale, Mode::Identifier].map(|it| it == mode);
+            assert_eq!((at(b""), at(b"e-US"), at(b"en-")), (0..0, 0..1, 3..3));
+            assert_eq!((at(b"en--US"), at(b"en-US-toolonggg-posix")), (3..3, 6..15));
+            assert_eq!((at(b"en-US-\0\xff-posix"), at("en-\u{e9}\u{e9}".as_bytes())), (6..8, 3..7));
+            assert_eq!(at(b"en-a-foo-A-bar"), if is_locale { 9..10 } else { 3..4 });
+            assert_eq!(at(b"en-u-a8"), if is_identifier { 3..4 } else { 5..7 });
+            assert_eq!(at(b"en-u"), if is_identifier { 3..4 } else { 4..4 });
+            assert_eq!(check(mode, "en-!").unwrap_err().range(), 3..4);
+            assert_eq!(strict_cmp(mode, "en-!", "en").unwrap_err().range(), 3..4);
+            assert_eq!(normalizing_eq(mode, "en-!", "en").unwrap_err().range(), 3..4);
+            assert_eq!(compare(mode, "en-!", "e").unwrap_err().range(), 3..4);
+            assert_eq!(compare(mode, "en", "en-US-!").unwrap_err().range(), 6..7);
+        }
+        assert_eq!(Locale::try_from_utf8(b"en-t-de-posix-posix").unwrap_err().range(), 14..19);
+        assert_eq!(normalize(Mode::DataLocale, "en-u-sd-").unwrap_err().range(), 8..8);
+    }
+
+    #[test]
+    fn a_part_is_all_at_fault() {
+        use crate::subtags::{Language, Region};
+        let mut it = Locale::default();
+        assert_eq!(it.set_transform_language("de-u-foo").unwrap_err().range(), 3..4);
+        assert_eq!(it.set_field("m0", "ab").unwrap_err().range(), 0..5);
+        assert_eq!(it.set_other("u-foo").unwrap_err().range(), 0..5);
+        assert_eq!("USA".parse::<Region>().unwrap_err().range(), 0..3);
+        assert_eq!("".parse::<Language>().unwrap_err().range(), 0..0);
+        assert_eq!(result(sys::OUT_OF_MEMORY, &[b"en"]).unwrap_err().range(), 0..0);
+    }
+
+    #[test]
     fn an_error_is_a_value() {
         let error = |text: &str| text.parse::<Locale>().unwrap_err();
         let one = error("en-");
         assert_eq!((one.clone(), one.kind()), (error("en-"), Refusal::InvalidSubtag));
         assert!(one != error("fr-") && one == Refusal::InvalidSubtag && one != Refusal::OutOfMemory);
-        assert_eq!(format!("{one:?}"), "ParseError { kind: InvalidSubtag, text: 'en-' }");
+        assert_eq!(format!("{one:?}"), "ParseError { kind: InvalidSubtag, text: 'en-', range: 3..3 }");
         let boxed: Box<dyn std::error::Error + Send + Sync> = Box::new(one);
         assert!(boxed.source().is_none() && boxed.downcast_ref::<ParseError>().is_some());
     }

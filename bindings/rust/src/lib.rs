@@ -36,7 +36,7 @@ mod locale;
 mod parts;
 pub mod sys;
 
-use error::result;
+use error::{result, text_result};
 pub use error::{ParseError, Refusal};
 pub use locale::Locale;
 
@@ -125,7 +125,7 @@ pub fn normalize(mode: Mode, text: impl AsRef<[u8]>) -> Result<String, ParseErro
             &mut needed,
         )
     };
-    result(status, &[text])?;
+    text_result(status, mode, text)?;
     normal.truncate(needed);
     String::from_utf8(normal).map_err(|_| ParseError::of(Refusal::AnotherLibrary, &[]))
 }
@@ -135,7 +135,7 @@ pub fn check(mode: Mode, text: impl AsRef<[u8]>) -> Result<(), ParseError> {
     look_at_version()?;
     let text = text.as_ref();
     // SAFETY: pointer and length are those of a slice.
-    result(unsafe { sys::icu_locale_check(mode.number(), text.as_ptr(), text.len()) }, &[text])
+    text_result(unsafe { sys::icu_locale_check(mode.number(), text.as_ptr(), text.len()) }, mode, text)
 }
 
 /// The byte order of the text's normal form against other bytes, as they stand.
@@ -154,7 +154,7 @@ pub fn strict_cmp(mode: Mode, text: impl AsRef<[u8]>, other: impl AsRef<[u8]>) -
             &mut order,
         )
     };
-    result(status, &[text])?;
+    text_result(status, mode, text)?;
     Ok(order.cmp(&0))
 }
 
@@ -174,7 +174,7 @@ pub fn normalizing_eq(mode: Mode, text: impl AsRef<[u8]>, other: impl AsRef<[u8]
             &mut same,
         )
     };
-    result(status, &[text])?;
+    text_result(status, mode, text)?;
     Ok(same == 1)
 }
 
@@ -196,7 +196,7 @@ pub fn compare(mode: Mode, text: impl AsRef<[u8]>, other: impl AsRef<[u8]>) -> R
     };
     if status != sys::DONE {
         // The first text is refused first.
-        result(status, &[if check(mode, text).is_err() { text } else { other }])?;
+        text_result(status, mode, if check(mode, text).is_err() { text } else { other })?;
     }
     Ok(order.cmp(&0))
 }

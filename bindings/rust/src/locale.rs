@@ -1,7 +1,7 @@
 //! Locales that a program holds.
 
 use crate::parts::{Attribute, Key, Language, Region, Script, Value, Variant};
-use crate::{is_of_this_version, look_at_version, normalize, result, sys, Mode, ParseError, Priority, Refusal};
+use crate::{is_of_this_version, look_at_version, normalize, result, sys, text_result, Mode, ParseError, Priority, Refusal};
 use std::alloc::{handle_alloc_error, Layout};
 use std::borrow::Cow;
 use std::cell::UnsafeCell;
@@ -77,7 +77,12 @@ impl Locale {
 
     /// The locale that the text means.
     pub fn try_from_utf8(text: &[u8]) -> Result<Self, ParseError> {
-        Self::with(sys::icu_locale_parse, text)
+        look_at_version()?;
+        let made = Self::UNKNOWN;
+        // SAFETY: the handle is used here alone, and pointer and length are those of a slice.
+        let status = unsafe { sys::icu_locale_parse(made.handle(), text.as_ptr(), text.len()) };
+        text_result(status, Mode::Locale, text)?;
+        Ok(made)
     }
 
     /// An empty locale after one setting.
@@ -321,7 +326,9 @@ impl Locale {
     /// Sets the identifier of the extension `t`; an empty text removes it. Any other text than an identifier is refused
     /// as by [`check`](crate::check) for one.
     pub fn set_transform_language(&mut self, text: &str) -> Result<(), ParseError> {
-        self.try_set(sys::icu_locale_set_transform_language, text)
+        // SAFETY: the handle is used by this call alone, and pointer and length are those of a slice.
+        let status = unsafe { sys::icu_locale_set_transform_language(self.handle(), text.as_ptr(), text.len()) };
+        text_result(status, Mode::Identifier, text.as_bytes())
     }
 
     /// The fields of the extension `t`, by ascending key.
