@@ -15,6 +15,7 @@
 ghost use Rattle.std.specs.Prelude.{◌≡◌, ◌↔◌, ◌≤◌, None, IfSome, length};
 ghost use Rattle.iloc_faults.specs.Places.{IsAccepted, IsFault};
 
+mod identifier;
 pub mod laws;
 mod state;
 mod step;

@@ -1,4 +1,6 @@
 //! What was read of a text, as far as it decides what may come next.
+ghost use Rattle.std.specs.Prelude.{◌≡◌};
+ghost use Rattle.iloc_faults.specs.Next.{may_end, takes_any};
 
 use iloc_pieces::left::Left;
 
@@ -59,18 +61,31 @@ pub struct State<'a> {
     pub seen: u64,
 }
 
-/// Whether a text may end here.
+/// Whether a text may end after the part.
 #[inline]
-pub fn may_end(part: Part) -> bool {
-    !matches!(
-        part,
+pub fn may_end(part: Part) -> bool
+    ensures { result ≡ may_end part }
+{
+    match part {
         Part::Start
-            | Part::Transform
-            | Part::FieldKey
-            | Part::Unicode
-            | Part::Other
-            | Part::Private
-            | Part::Subdivision
-            | Part::SubdivisionKey
-    )
+        | Part::Transform
+        | Part::FieldKey
+        | Part::Unicode
+        | Part::Other
+        | Part::Private
+        | Part::Subdivision
+        | Part::SubdivisionKey => false,
+        _ => true,
+    }
+}
+
+/// Whether a piece of one byte is no singleton after the part: at the beginning, and after `x`.
+#[inline]
+pub fn takes_any(part: Part) -> bool
+    ensures { result ≡ takes_any part }
+{
+    match part {
+        Part::Start | Part::Private | Part::PrivateWord => true,
+        _ => false,
+    }
 }

@@ -1,140 +1,169 @@
 //! What may come next, and why another piece is refused.
+ghost use Rattle.std.specs.Prelude.{◌≡◌, ◌≢◌, ℕ, ◌^◌, List, Some, true, codes, option_map, slice_index};
+ghost use Rattle.std.specs.Char.{is_ascii_alphanumeric, to_ascii_lowercase};
+ghost use Rattle.iloc_spec_grammar.specs.Syntax.{Text, is_one_byte, is_same, lower};
+ghost use Rattle.iloc_subtags.specs.Judging.{error_of};
+ghost use Rattle.iloc_pieces.specs.Left.{IsRemainder, piece_left};
+ghost use Rattle.iloc_told.specs.declared.Mode.TheVariants as modes;
+ghost use Rattle.iloc_faults.specs.Next as steps;
+ghost use Rattle.iloc_faults.specs.Next.{begins_block, block_next, inside_next, may_begin, part_of, piece_next, subdivision_next, when};
+ghost use Rattle.iloc_faults.specs.States.{IsRead, IsReading, bare, bit_place, reached};
 
-use crate::state::{Part, Stage, State, may_end};
+use crate::identifier::read_word;
+use crate::state::{Part, Stage, State, may_end, takes_any};
 use iloc_data_parts::region::named;
 use iloc_pieces::left::{
     Left, is_alphanumeric, is_attribute, is_between, is_field_key, is_key, is_language, is_private,
-    is_region, is_script, is_single, is_subtag, is_true, is_variant, next, singleton, word_number,
+    is_single, is_subtag, is_true, is_variant, singleton,
 };
 use iloc_subtags::{ParseError, Subtag};
 use iloc_told::Mode;
 
-// The bit of a singleton, in lower case.
-#[inline]
-fn bit_of(byte: u8) -> u64 {
-    if byte < b'a' {
-        1 << (byte - b'0')
-    } else {
-        1 << (byte - b'a' + 10)
-    }
-}
-
-// Whether a piece from the first variant on, before the piece, is the same word.
-fn is_repeated(first: Left<'_>, at: Left<'_>) -> bool {
-    let word = word_number(at);
-    let mut earlier = first;
-    'variants: while earlier.at < at.at {
-        if word_number(earlier) == word {
-            return true;
-        }
-        earlier = next(earlier);
-    }
-    false
-}
-
-// Whether the piece, a variant, may follow the variants before it: a data locale has one at most.
-#[inline]
-fn is_new(mode: Mode, variants: Option<Left<'_>>, at: Left<'_>) -> bool {
-    match variants {
-        None => true,
-        Some(first) => mode != Mode::Data && !is_repeated(first, at),
-    }
-}
-
-// What was read of an identifier once the piece is read too, and its first variant.
-fn read_word<'a>(
-    mode: Mode,
-    stage: Stage,
-    variants: Option<Left<'a>>,
-    at: Left<'a>,
-) -> Option<(Stage, Option<Left<'a>>)> {
-    if stage == Stage::Language && is_script(at) {
-        return Some((Stage::Script, variants));
-    }
-    if stage != Stage::Region && is_region(at) {
-        return Some((Stage::Region, variants));
-    }
-    if is_variant(at) && is_new(mode, variants, at) {
-        return Some((Stage::Region, variants.or(Some(at))));
-    }
-    None
-}
-
 // The subdivision of a data locale, or a `true` that it leaves out.
-fn read_subdivision(at: Left<'_>) -> Option<Part> {
+#[tactic(auto, using(iloc_pieces::proofs::LeftLemmas::short_attribute))]
+fn read_subdivision(at: Left<'_>) -> Option<Part>
+    requires { IsRemainder at }
+    ensures { result ≡ subdivision_next (piece_left at.entry) }
+{
     if !is_attribute(at) {
         return None;
     }
     if is_true(at) {
         return Some(Part::SubdivisionKey);
     }
-    let word = Subtag::try_from_utf8(&at.window[at.at..at.at + at.n]).ok()?;
-    named(&word)?;
-    Some(Part::SubdivisionValue)
+    match Subtag::try_from_utf8(&at.window[at.at..at.at + at.n]) {
+        Ok(word) => when(named(&word).is_some(), Part::SubdivisionValue),
+        Err(_) => None,
+    }
 }
 
-fn is_sd(at: Left<'_>) -> bool {
-    at.n == 2
-        && at.window[at.at].to_ascii_lowercase() == b's'
-        && at.window[at.at + 1].to_ascii_lowercase() == b'd'
+// Whether the piece is `sd`, in whatever case.
+fn is_sd(at: Left<'_>) -> bool
+    requires { IsRemainder at }
+    ensures { result ≡ is_same (lower (piece_left at.entry)) (codes "sd") }
+{
+    if at.n != 2 {
+        return false;
+    }
+    if at.window[at.at].to_ascii_lowercase() != b's' {
+        return false;
+    }
+    at.window[at.at + 1].to_ascii_lowercase() == b'd'
 }
 
-fn if_so(holds: bool, part: Part) -> Option<Part> {
+// The part, if this holds.
+#[inline]
+fn when(holds: bool, part: Part) -> Option<Part>
+    ensures { result ≡ when holds part }
+{
     if holds { Some(part) } else { None }
 }
 
 // What was read once a piece of a block is read too.
-fn read_piece(part: Part, at: Left<'_>) -> Option<Part> {
+fn read_piece(part: Part, at: Left<'_>) -> Option<Part>
+    requires { IsRemainder at }
+    ensures { result ≡ piece_next part (piece_left at.entry) }
+{
     match part {
-        Part::FieldKey => if_so(is_attribute(at), Part::FieldValue),
+        Part::FieldKey => when(is_attribute(at), Part::FieldValue),
         Part::FieldValue => {
             if is_field_key(at) {
                 return Some(Part::FieldKey);
             }
-            if_so(is_attribute(at), Part::FieldValue)
+            when(is_attribute(at), Part::FieldValue)
         }
-        Part::Unicode | Part::Keyword => if_so(is_attribute(at) || is_key(at), Part::Keyword),
-        Part::Other => if_so(
-            is_between(at),
-            if is_subtag(at) {
-                Part::OtherWord
-            } else {
-                Part::Other
-            },
-        ),
-        Part::OtherWord => if_so(is_between(at), Part::OtherWord),
-        Part::Private | Part::PrivateWord => if_so(is_private(at), Part::PrivateWord),
-        Part::Subdivision => if_so(is_sd(at), Part::SubdivisionKey),
+        Part::Unicode | Part::Keyword => when(is_attribute(at) || is_key(at), Part::Keyword),
+        Part::Other => {
+            let word = is_subtag(at);
+            when(
+                is_between(at),
+                if word { Part::OtherWord } else { Part::Other },
+            )
+        }
+        Part::OtherWord => when(is_between(at), Part::OtherWord),
+        Part::Private | Part::PrivateWord => when(is_private(at), Part::PrivateWord),
+        Part::Subdivision => when(is_sd(at), Part::SubdivisionKey),
         Part::SubdivisionKey => read_subdivision(at),
-        Part::SubdivisionValue => if_so(is_attribute(at) && is_true(at), Part::SubdivisionValue),
+        Part::SubdivisionValue => when(is_attribute(at) && is_true(at), Part::SubdivisionValue),
         _ => None,
     }
 }
 
-// What was read once a piece is read that begins no block.
-fn read_inside<'a>(mode: Mode, state: State<'a>, at: Left<'a>) -> Option<State<'a>> {
-    let (part, variants) = match state.part {
-        Part::Start => (if_so(is_language(at), Part::Head(Stage::Language))?, None),
-        Part::Head(stage) => {
-            let (stage, variants) = read_word(mode, stage, state.variants, at)?;
-            (Part::Head(stage), variants)
-        }
-        Part::Transform | Part::Source(_) if is_field_key(at) => (Part::FieldKey, None),
-        Part::Transform => (if_so(is_language(at), Part::Source(Stage::Language))?, None),
-        Part::Source(stage) => {
-            let (stage, variants) = read_word(mode, stage, state.variants, at)?;
-            (Part::Source(stage), variants)
-        }
-        part => (read_piece(part, at)?, None),
-    };
-    Some(State {
-        part,
-        variants,
-        seen: state.seen,
-    })
+// The state with this part, and no variants.
+#[inline]
+fn plain<'a>(seen: u64, part: Option<Part>) -> Option<State<'a>>
+    ensures { result ≡ option_map (bare seen) part }
+{
+    match part {
+        Some(part) => Some(State {
+            part,
+            variants: None,
+            seen,
+        }),
+        None => None,
+    }
 }
 
-fn part_of(byte: u8) -> Part {
+// What was read once a piece is read that begins no block.
+fn read_inside<'a>(mode: Mode, state: State<'a>, at: Left<'a>) -> Option<State<'a>>
+    requires left { IsRemainder at }
+    requires read { (vs : List Text) × (seen : List ℕ) × IsRead state at vs seen }
+    ensures { (vs : List Text) (seen : List ℕ) → IsRead state.entry at.entry vs seen
+        → IsReading at.entry (inside_next mode state.entry.part vs seen (piece_left at.entry)) result }
+{
+    let seen = state.seen;
+    match state.part {
+        Part::Start => plain(seen, when(is_language(at), Part::Head(Stage::Language))),
+        Part::Head(stage) => match read_word(mode, stage, state.variants, at) {
+            Some((stage, variants)) => Some(State {
+                part: Part::Head(stage),
+                variants,
+                seen,
+            }),
+            None => None,
+        },
+        Part::Transform => {
+            if is_field_key(at) {
+                return plain(seen, Some(Part::FieldKey));
+            }
+            plain(seen, when(is_language(at), Part::Source(Stage::Language)))
+        }
+        Part::Source(stage) => {
+            if is_field_key(at) {
+                return plain(seen, Some(Part::FieldKey));
+            }
+            match read_word(mode, stage, state.variants, at) {
+                Some((stage, variants)) => Some(State {
+                    part: Part::Source(stage),
+                    variants,
+                    seen,
+                }),
+                None => None,
+            }
+        }
+        _ => plain(seen, read_piece(state.part, at)),
+    }
+}
+
+// The bit of a singleton, in lower case.
+#[inline]
+fn bit_of(byte: u8) -> u64
+    requires letter { is_ascii_alphanumeric byte ≡ true }
+    requires low { to_ascii_lowercase byte ≡ byte }
+    ensures { result ≡ 2 ^ bit_place byte }
+{
+    if byte < b'a' {
+        1 << (byte - b'0')
+    } else {
+        1 << (byte - 87)
+    }
+}
+
+// What was read with the singleton, in lower case.
+#[inline]
+fn part_of(byte: u8) -> Part
+    ensures { result ≡ part_of byte }
+{
     match byte {
         b't' => Part::Transform,
         b'u' => Part::Unicode,
@@ -143,50 +172,110 @@ fn part_of(byte: u8) -> Part {
     }
 }
 
-fn begin<'a>(mode: Mode, state: State<'a>, at: Left<'a>) -> Option<State<'a>> {
-    if !may_end(state.part) || !is_alphanumeric(at) {
+// Whether a block may begin with the piece after the part: it is a letter or digit.
+#[inline]
+fn may_begin(part: Part, at: Left<'_>) -> bool
+    requires left { IsRemainder at }
+    requires single { is_one_byte (piece_left at) ≡ true }
+    ensures { result ≡ may_begin part (slice_index (piece_left at.entry) 0) }
+{
+    may_end(part) && is_alphanumeric(at)
+}
+
+// What was read with the singleton of a locale too, if a block may begin with it.
+fn read_block<'a>(state: State<'a>, at: Left<'a>) -> Option<State<'a>>
+    requires left { IsRemainder at }
+    requires single { is_one_byte (piece_left at) ≡ true }
+    ensures { (vs : List Text) (seen : List ℕ) → IsRead state.entry at.entry vs seen
+        → IsReading at.entry (block_next modes.Locale state.entry.part seen
+        (slice_index (piece_left at.entry) 0)) result }
+{
+    if !may_begin(state.part, at) {
         return None;
     }
     let byte = singleton(at);
     let bit = bit_of(byte);
-    match mode {
-        Mode::Langid => None,
-        Mode::Locale if state.seen & bit == 0 => Some(State {
-            part: part_of(byte),
-            variants: None,
-            seen: state.seen | bit,
-        }),
-        Mode::Locale => None,
-        Mode::Data => match state.part {
-            Part::Head(_) if byte == b'u' => Some(State {
-                part: Part::Subdivision,
-                variants: None,
-                seen: state.seen,
-            }),
-            _ => None,
-        },
+    if state.seen & bit != 0 {
+        return None;
+    }
+    Some(State {
+        part: part_of(byte),
+        variants: None,
+        seen: state.seen | bit,
+    })
+}
+
+// The same of a data locale: `u` alone, after the identifier.
+fn read_data_block<'a>(state: State<'a>, at: Left<'a>) -> Option<State<'a>>
+    requires left { IsRemainder at }
+    requires single { is_one_byte (piece_left at) ≡ true }
+    ensures { (vs : List Text) (seen : List ℕ) → IsRead state.entry at.entry vs seen
+        → IsReading at.entry (block_next modes.Data state.entry.part seen
+        (slice_index (piece_left at.entry) 0)) result }
+{
+    match state.part {
+        Part::Head(_) if singleton(at) == b'u' => plain(state.seen, Some(Part::Subdivision)),
+        _ => None,
     }
 }
 
-fn is_of_private(part: Part) -> bool {
-    part == Part::Private || part == Part::PrivateWord
+// The same in the mode.
+fn read_singleton<'a>(mode: Mode, state: State<'a>, at: Left<'a>) -> Option<State<'a>>
+    requires left { IsRemainder at }
+    requires single { is_one_byte (piece_left at) ≡ true }
+    ensures { (vs : List Text) (seen : List ℕ) → IsRead state.entry at.entry vs seen
+        → IsReading at.entry (block_next mode state.entry.part seen
+        (slice_index (piece_left at.entry) 0)) result }
+{
+    match mode {
+        Mode::Langid => None,
+        Mode::Locale => read_block(state, at),
+        Mode::Data => read_data_block(state, at),
+    }
 }
 
-pub fn step<'a>(mode: Mode, state: State<'a>, at: Left<'a>) -> Option<State<'a>> {
-    if is_single(at) && !is_of_private(state.part) {
-        return begin(mode, state, at);
+// Whether the piece begins a block after the part.
+#[inline]
+fn begins_block(part: Part, at: Left<'_>) -> bool
+    requires { IsRemainder at }
+    ensures { result ≡ begins_block part (piece_left at.entry) }
+{
+    is_single(at) && !takes_any(part)
+}
+
+/// What was read with the piece too; `None` if the piece may not come next.
+pub fn step<'a>(mode: Mode, state: State<'a>, at: Left<'a>) -> Option<State<'a>>
+    requires left { IsRemainder at }
+    requires read { (vs : List Text) × (seen : List ℕ) × IsRead state at vs seen }
+    ensures { (vs : List Text) (seen : List ℕ) → IsRead state.entry at.entry vs seen
+        → IsReading at.entry (steps.next mode (reached state.entry.part vs seen) (piece_left at.entry)) result }
+{
+    if begins_block(state.part, at) {
+        return read_singleton(mode, state, at);
     }
     read_inside(mode, state, at)
 }
 
-pub fn refusal(mode: Mode, part: Part, at: Left<'_>) -> ParseError {
+/// Why the piece, which may not come next, is refused.
+pub fn refusal(mode: Mode, part: Part, at: Left<'_>) -> ParseError
+    requires { IsRemainder at }
+    ensures { result ≡ error_of (steps.refusal mode part (piece_left at.entry)) }
+{
+    match mode {
+        Mode::Langid => (),
+        _ => {
+            if begins_block(part, at) {
+                if may_begin(part, at) {
+                    return ParseError::DuplicatedExtension;
+                }
+                return ParseError::InvalidExtension;
+            }
+        }
+    }
     match part {
         Part::Start => ParseError::InvalidLanguage,
-        Part::Head(_) if mode != Mode::Locale || !is_single(at) => ParseError::InvalidSubtag,
+        Part::Head(_) => ParseError::InvalidSubtag,
         Part::Source(_) if is_variant(at) => ParseError::InvalidSubtag,
-        _ if is_single(at) && may_end(part) && !is_of_private(part) && is_alphanumeric(at) => {
-            ParseError::DuplicatedExtension
-        }
         _ => ParseError::InvalidExtension,
     }
 }
