@@ -22,8 +22,8 @@
  * Each function returns, ends no program and keeps nothing from one call to the next. Any number of threads may call
  * at the same time. The library promises no answer if the program breaks one of these rules:
  *
- *  - A pointer is valid for the bytes that the number beside it gives. Out-pointers (needed, order, same) are not
- *    null, and are aligned as C aligns their type.
+ *  - A pointer is valid for the bytes that the number beside it gives. Out-pointers (needed, order, same, start, end)
+ *    are not null, and are aligned as C aligns their type.
  *  - A call writes to its buffer and out-pointers. None of them overlaps another argument: a text cannot be normalized
  *    in place. Two texts that are only read may overlap, or be the same.
  *  - While a call runs, no other thread changes the bytes that it reads, or reads or changes what it writes.
@@ -78,7 +78,7 @@ extern "C" {
 
 /* Changes whenever a function of the library changes its form. icu_locale_version() gives the number of the header that
  * the library was made for. */
-#define ICU_LOCALE_VERSION 4
+#define ICU_LOCALE_VERSION 5
 
 /* How a text is parsed. Any other number is refused with ICU_LOCALE_UNKNOWN_NUMBER. */
 typedef uint32_t icu_locale_mode;
@@ -140,6 +140,19 @@ extern ICU_LOCALE_TELLS
 icu_locale_status icu_locale_check(icu_locale_mode mode, const uint8_t *text, size_t length)
     ICU_LOCALE_NOEXCEPT;
 
+/* Where the fault of a refused text stands. A piece is what stands before, between or behind hyphens.
+ *
+ *     DONE               the text has a meaning; *start and *end are as before
+ *     UNKNOWN_NUMBER     the mode is none; *start and *end are as before
+ *     any other status   that of icu_locale_check; the piece at fault goes from byte *start to before byte *end
+ *
+ * The piece at fault is the first with which no text begins that has a meaning. So what is before it can be completed to
+ * such a text, and what includes it cannot. If all pieces can be completed, the text ends too early: *start and *end are
+ * then its length. en-US-toolonggg gives 6 and 15, en--US gives 3 and 3, and en-u gives 4 and 4. Never allocates. */
+ICU_LOCALE_TAKES((4, 5)) ICU_LOCALE_TELLS
+icu_locale_status icu_locale_find_fault(icu_locale_mode mode, const uint8_t *text, size_t length,
+    size_t *start, size_t *end) ICU_LOCALE_NOEXCEPT;
+
 /* Writes -1, 0 or 1 to *order: the byte order of the text's normal form against other bytes. The other bytes are not
  * normalized. If the text is refused, *order is as before. */
 ICU_LOCALE_WRITES(6) ICU_LOCALE_TELLS
@@ -182,7 +195,8 @@ icu_locale_status icu_locale_words(icu_locale_status status, uint8_t *buffer, si
  *  - Only the calls of this header write a handle, and only they read or write what it points to. It is not copied by
  *    = or memcpy: use icu_locale_copy. It may be moved to another place if the old one is no longer used.
  *  - A call that only reads takes const icu_locale_t *, and leaves the handle as it was. But it takes the locale out of
- *    the handle meanwhile, and puts it back. So no handle is itself defined const: it lies where it can be written.
+ *    the handle meanwhile, and puts it back. So no handle is itself defined const: it lies where it can be written. A
+ *    handle that is {0} may be, since such a call does not write to it: static const icu_locale_t und = ICU_LOCALE_UND;
  *  - During a call, also one that only reads, no other call uses its handles, in any thread. A handle may go to another
  *    thread if a lock, the start or end of a thread, or a sequentially consistent atomic orders that.
  *  - The pointer of a handle is not null. A handle is aligned as C aligns icu_locale_t, and overlaps no other argument.

@@ -96,18 +96,23 @@ inline std::string shown(std::string_view text)
 #pragma clang diagnostic ignored "-Wweak-vtables" // a header has no other file for its table
 #endif
 
-/* A refused text, or a refused number. what() has the words of the status, and the text: Invalid subtag: 'en-'. */
+/* A refused text, or a refused number. what() has the words of the status, and the text: Invalid subtag: 'en-'. The
+ * fault stands in the text from start() to before end(), as find_fault says; a part that is refused is all at fault. */
 class error : public std::invalid_argument {
 public:
-    explicit error(icu_locale::status told) : std::invalid_argument(words(told)), told_(told) {}
-    error(icu_locale::status told, std::string_view text)
-        : std::invalid_argument(words(told) + ": " + detail::shown(text)), told_(told)
+    explicit error(icu_locale::status told) : std::invalid_argument(words(told)), told_(told), start_(0), end_(0) {}
+    error(icu_locale::status told, std::string_view text) : error(told, text, 0, text.size()) {}
+    error(icu_locale::status told, std::string_view text, std::size_t start, std::size_t end)
+        : std::invalid_argument(words(told) + ": " + detail::shown(text)), told_(told), start_(start), end_(end)
     {
     }
     icu_locale::status status() const noexcept { return told_; }
+    std::size_t start() const noexcept { return start_; }
+    std::size_t end() const noexcept { return end_; }
 
 private:
     icu_locale::status told_;
+    std::size_t start_, end_;
 };
 
 #if defined(__clang__)
@@ -158,13 +163,36 @@ inline status told(icu_locale_status number)
 
 } // namespace detail
 
+/* Why a text is refused, and where: the piece at fault goes from byte start to before byte end. */
+struct fault {
+    icu_locale::status status;
+    std::size_t start, end;
+};
+
+/* The fault of the text, or nothing if the text has a meaning. It stands at the first piece with which no text begins
+ * that has one, or at the end of a text that ends too early: icu_locale.h says more. */
+[[nodiscard]] inline std::optional<fault> find_fault(std::string_view text, mode as = mode::locale) noexcept
+{
+    fault found = {status::done, 0, text.size()};
+    found.status = static_cast<status>(icu_locale_find_fault(
+        static_cast<icu_locale_mode>(as), detail::bytes(text), text.size(), &found.start, &found.end));
+    return found.status == status::done ? std::nullopt : std::optional<fault>(found);
+}
+
 namespace detail {
 
+/* Throws the error of a text that was refused in the mode. */
+[[noreturn]] inline void refuse(status told, std::string_view text, mode as)
+{
+    const auto found = find_fault(text, as);
+    throw error(told, text, found ? found->start : 0, found ? found->end : text.size());
+}
+
 /* The value, or the error with the text that was refused. */
-template <class T> T value_of(result<T> made, std::string_view text)
+template <class T> T value_of(result<T> made, std::string_view text, mode as)
 {
     if (!made)
-        throw error(made.status(), text);
+        refuse(made.status(), text, as);
     return std::move(made).value();
 }
 
@@ -185,7 +213,7 @@ inline result<std::string> try_normalize(std::string_view text, mode as = mode::
 
 inline std::string normalize(std::string_view text, mode as = mode::locale)
 {
-    return detail::value_of(try_normalize(text, as), text);
+    return detail::value_of(try_normalize(text, as), text, as);
 }
 
 /* status::done if the text has a meaning; otherwise why it has none. */
@@ -205,7 +233,7 @@ inline result<int> try_strict_cmp(std::string_view text, std::string_view other,
 
 inline int strict_cmp(std::string_view text, std::string_view other, mode as = mode::locale)
 {
-    return detail::value_of(try_strict_cmp(text, other, as), text);
+    return detail::value_of(try_strict_cmp(text, other, as), text, as);
 }
 
 /* Whether both texts have the same meaning. */
@@ -219,7 +247,7 @@ inline result<bool> try_normalizing_eq(std::string_view text, std::string_view o
 
 inline bool normalizing_eq(std::string_view text, std::string_view other, mode as = mode::locale)
 {
-    return detail::value_of(try_normalizing_eq(text, other, as), text);
+    return detail::value_of(try_normalizing_eq(text, other, as), text, as);
 }
 
 /* The byte order of the normal forms of both texts: -1, 0 or 1. */
@@ -234,7 +262,7 @@ inline result<int> try_compare(std::string_view text, std::string_view other, mo
 inline int compare(std::string_view text, std::string_view other, mode as = mode::locale)
 {
     const auto order = try_compare(text, other, as);
-    return order ? *order : detail::value_of(order, check(text, as) == status::done ? other : text);
+    return order ? *order : detail::value_of(order, check(text, as) == status::done ? other : text, as);
 }
 
 /* A locale, with parts to read and to change. It starts as und, the unknown locale, and is und once it was moved from.
@@ -245,7 +273,7 @@ public:
     locale() noexcept = default;
 
     /* What the text means. */
-    explicit locale(std::string_view text) { accept(try_assign(text), text); }
+    explicit locale(std::string_view text) { accept(try_assign(text), text, mode::locale); }
 
     static result<locale> try_parse(std::string_view text)
     {
@@ -286,7 +314,7 @@ public:
 
     locale &assign(std::string_view text)
     {
-        accept(try_assign(text), text);
+        accept(try_assign(text), text, mode::locale);
         return *this;
     }
 
@@ -387,7 +415,10 @@ public:
     {
         return set(icu_locale_set_transform_language, text);
     }
-    void set_transform_language(std::string_view text) { accept(try_set_transform_language(text), text); }
+    void set_transform_language(std::string_view text)
+    {
+        accept(try_set_transform_language(text), text, mode::identifier);
+    }
 
     /* Fields of the extension t, as pairs of key and value, by ascending key. */
     std::vector<std::pair<std::string, std::string>> fields() const
@@ -501,6 +532,12 @@ private:
     {
         if (told != icu_locale::status::done)
             throw error(told, text);
+    }
+
+    static void accept(icu_locale::status told, std::string_view text, mode as)
+    {
+        if (told != icu_locale::status::done)
+            detail::refuse(told, text, as);
     }
 
     static void accept(icu_locale::status told, std::string_view key, std::string_view value)

@@ -124,6 +124,53 @@ def answered(text, is_identifier=False):
         return f"! {fault}"
 
 
+def means_data(text):
+    """Whether the text means a data locale: an identifier with one variant at most, and perhaps one subdivision."""
+    pieces = text.split(b"-")
+    head = next((at for at, it in enumerate(pieces) if at and len(it) == 1), len(pieces))
+    try:
+        identifier(pieces[:head], BAD_SUBTAG)
+    except Refused:
+        return False
+    if sum(is_word(VARIANT, it) for it in pieces[1:head]) > 1:
+        return False
+    block = [it.lower() for it in pieces[head:]]
+    values = [it for it in block[2:] if it != b"true"]
+    is_one = len(values) == 1 and is_word(b"([a-z]{2}|[0-9]{3})[a-z0-9]{1,4}", values[0])
+    return not block or block[:2] == [b"u", b"sd"] and is_one
+
+
+def is_accepted(text, mode):
+    """Whether the text means something in the mode, by its word."""
+    return means_data(text) if mode == "data" else not answered(text, mode == "langid").startswith("! ")
+
+
+# What is tried behind the first pieces of a text, to see whether a text that means something begins with them: a piece for
+# each thing that may be wanted there (an attribute, a value, a private word or a language; a field; a subdivision).
+TAILS = (b"", b"-foo", b"-m0-foo", b"-sd-usca", b"-usca")
+
+
+def place(text, mode):
+    """Where the fault of a refused text stands: the start and the end of the first piece with which no text begins that
+    means something; the end of the text if all its pieces can go on. It is searched by trying what may follow."""
+    ends = [at for at, it in enumerate(text) if it == ord("-")] + [len(text)]
+    first, last = 0, len(ends)  # the first that does not go on is one of these: what goes on, goes on if it is cut
+    while first < last:
+        middle = (first + last) // 2
+        if any(is_accepted(text[: ends[middle]] + tail, mode) for tail in TAILS):
+            first = middle + 1
+        else:
+            last = middle
+    if first == len(ends):
+        return len(text), len(text)
+    return (ends[first - 1] + 1 if first else 0), ends[first]
+
+
+def placed(text, mode):
+    """The same as callers print it, and `-` of a text that means something."""
+    return "-" if is_accepted(text, mode) else "%d %d" % place(text, mode)
+
+
 # What random texts are made of: words of each kind, some of each length, some in upper case.
 HEADS = [[b"en", b"EN", b"und", b"gsw", b"english", b"e", b"abcd"], [b"Latn", b"latn", b"CYRL"], [b"US", b"gb", b"419"]]
 VARIANTS = [b"posix", b"POSIX", b"1994", b"macos", b"valencia", b"fonipa", b"rozaj", b"biske", b"1abc"]

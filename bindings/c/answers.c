@@ -5,6 +5,8 @@
  *                              of each two lines the byte order of the first, normalized, against the second, whether
  *                              they mean the same, and the order of both normal forms, as "-1 0 -1"; a refusal stands
  *                              in the place of the last, or of all three if the first is refused
+ * answers faults-langid|faults-locale|faults-data
+ *                              where the fault of the line stands, as "3 5"; "-" if it has none
  * answers buffers              nothing, if each line is answered alike in buffers of every size, in every mode
  *
  * It asks for no memory itself. The status is 0 if it could read, write and answer all. */
@@ -72,6 +74,22 @@ static void answer_lines(icu_locale_mode mode)
     }
 }
 
+static void answer_faults(icu_locale_mode mode)
+{
+    while (read_line(&first)) {
+        size_t start = UNTOUCHED, end = UNTOUCHED;
+        icu_locale_status status = icu_locale_find_fault(mode, first.bytes, first.length, &start, &end);
+        if (status != icu_locale_check(mode, first.bytes, first.length))
+            stop("checking says otherwise");
+        if (status == ICU_LOCALE_DONE && (start != UNTOUCHED || end != UNTOUCHED))
+            stop("the place of no fault is written");
+        if (status == ICU_LOCALE_DONE)
+            puts("-");
+        else
+            printf("%lu %lu\n", (unsigned long)start, (unsigned long)end);
+    }
+}
+
 /* Compares the first line with the second in two ways, and returns why not, if it is refused. */
 static icu_locale_status compare(icu_locale_mode mode, int8_t *order, uint8_t *same)
 {
@@ -131,12 +149,16 @@ static void try_room(icu_locale_mode mode, size_t room, icu_locale_status known,
 
 static void try_mode(icu_locale_mode mode)
 {
-    size_t length;
+    size_t length, start = UNTOUCHED, end = UNTOUCHED;
     icu_locale_status status = icu_locale_normalize(mode, first.bytes, first.length, reply, sizeof reply, &length);
     if ((mode > ICU_LOCALE_DATA_LOCALE) != (status == ICU_LOCALE_UNKNOWN_NUMBER))
         stop("a mode is not known, or another is");
     if (icu_locale_check(mode, first.bytes, first.length) != status)
         stop("checking says otherwise");
+    if (icu_locale_find_fault(mode, first.bytes, first.length, &start, &end) != status)
+        stop("the fault that is found says otherwise");
+    if (mode > ICU_LOCALE_DATA_LOCALE && (start != UNTOUCHED || end != UNTOUCHED))
+        stop("an unknown mode has written");
     if (length > first.length + (mode == ICU_LOCALE_DATA_LOCALE ? 4 : 0))
         stop("a normal form is longer than the header says");
     for (size_t room = 0; room <= length + 1; room++)
@@ -207,9 +229,15 @@ int main(int count, char **words)
         answer_pairs(ICU_LOCALE_LOCALE);
     else if (strcmp(word, "pairs-data") == 0)
         answer_pairs(ICU_LOCALE_DATA_LOCALE);
+    else if (strcmp(word, "faults-langid") == 0)
+        answer_faults(ICU_LOCALE_IDENTIFIER);
+    else if (strcmp(word, "faults-locale") == 0)
+        answer_faults(ICU_LOCALE_LOCALE);
+    else if (strcmp(word, "faults-data") == 0)
+        answer_faults(ICU_LOCALE_DATA_LOCALE);
     else if (strcmp(word, "buffers") == 0)
         try_buffers(), try_words(), try_nothing();
     else
-        stop("usage: answers langid|locale|data|pairs-langid|pairs-locale|pairs-data|buffers");
+        stop("usage: answers [pairs-|faults-]langid|locale|data, or answers buffers");
     return ferror(stdin) || fflush(stdout) != 0;
 }

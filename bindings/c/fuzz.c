@@ -68,6 +68,20 @@ static void look_at_normal(icu_locale_mode mode, struct text text, struct text n
         stop("the normal form means something else");
 }
 
+/* The place of the fault is a piece of the text, or its end. What is before it is refused for no other reason. */
+static void look_at_fault(icu_locale_mode mode, struct text text, icu_locale_status status)
+{
+    size_t start = text.length + 1, end = 0, again = 0, last = 0;
+    if (icu_locale_find_fault(mode, text.bytes, text.length, &start, &end) != status)
+        stop("the fault that is found says otherwise");
+    if (status == ICU_LOCALE_DONE ? start != text.length + 1 || end != 0 : start > end || end > text.length)
+        stop("a fault stands beside its text");
+    if (status == ICU_LOCALE_DONE || end == text.length)
+        return;
+    if (icu_locale_find_fault(mode, text.bytes, end, &again, &last) == ICU_LOCALE_DONE || again != start || last != end)
+        stop("what follows a fault moves it");
+}
+
 /* Returns whether the text has a meaning. */
 static int look_at(icu_locale_mode mode, struct text text)
 {
@@ -76,6 +90,7 @@ static int look_at(icu_locale_mode mode, struct text text)
     icu_locale_status status = normalize(mode, text, text.length + 4, &buffer, &length);
     if (icu_locale_check(mode, text.bytes, text.length) != status || status == ICU_LOCALE_BUFFER_TOO_SMALL)
         stop("checking says otherwise");
+    look_at_fault(mode, text, status);
     note(mode, status, text, text.length > 24);
     if (status == ICU_LOCALE_DONE)
         look_at_normal(mode, text, (struct text){buffer, length});

@@ -22,7 +22,7 @@ struct text {
 
 static uint8_t line[LINE], large[LINE + 8];
 static unsigned long cases;
-static size_t *needed;
+static size_t *needed, *start, *end;
 static int8_t *order;
 static uint8_t *same;
 
@@ -73,6 +73,22 @@ static void look_at_normal(icu_locale_mode mode, struct text text)
             == ICU_LOCALE_BUFFER_TOO_SMALL && *needed == length);
     WANT(icu_locale_check(mode, text.at, text.length) == status);
     guarding_end(buffer);
+}
+
+/* The place of the fault is a piece of the text, or its end. */
+static void look_at_fault(icu_locale_mode mode, struct text text)
+{
+    *start = UNTOUCHED, *end = UNTOUCHED;
+    icu_locale_status status = icu_locale_find_fault(mode, text.at, text.length, start, end);
+    WANT(status == icu_locale_check(mode, text.at, text.length));
+    if (status == ICU_LOCALE_DONE) {
+        WANT(*start == UNTOUCHED && *end == UNTOUCHED);
+        return;
+    }
+    WANT(*start <= *end && *end <= text.length);
+    WANT(*start == 0 || text.at[*start - 1] == '-' || *start == text.length);
+    WANT(*end == text.length || text.at[*end] == '-');
+    WANT(*start == *end || memchr(text.at + *start, '-', *end - *start) == NULL);
 }
 
 static void look_at_two(icu_locale_mode mode, struct text text, struct text other)
@@ -241,11 +257,13 @@ int main(void)
 {
     size_t length;
     struct text before = placed(line, 0);
+    start = guarding_before(sizeof *start), end = guarding_before(sizeof *end);
     needed = guarding_before(sizeof *needed), order = guarding_before(1), same = guarding_before(1);
     while (read_line(&length)) {
         struct text text = placed(line, length);
         for (icu_locale_mode mode = ICU_LOCALE_IDENTIFIER; mode <= ICU_LOCALE_DATA_LOCALE; mode++) {
             look_at_normal(mode, text);
+            look_at_fault(mode, text);
             look_at_two(mode, text, before);
             look_at_two(mode, before, text);
         }

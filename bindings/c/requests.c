@@ -74,7 +74,10 @@ static icu_locale_status look_at_check(const char *text, int may_ask)
     icu_locale_status status = icu_locale_check(ICU_LOCALE_LOCALE, text_bytes(text), strlen(text));
     WANT(may_ask || refusing_requests() == 0);
     uint8_t buffer[128];
-    size_t needed;
+    size_t needed, start, end;
+    begin();
+    WANT(icu_locale_find_fault(ICU_LOCALE_LOCALE, text_bytes(text), strlen(text), &start, &end) == status);
+    WANT(refusing_requests() == 0);
     begin();
     WANT(icu_locale_normalize(ICU_LOCALE_LOCALE, text_bytes(text), strlen(text), buffer, sizeof buffer, &needed) == status);
     WANT(may_ask || refusing_requests() == 0);

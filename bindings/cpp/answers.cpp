@@ -1,4 +1,5 @@
-/* Answers each line of standard input, for tools/try_bindings, as bindings/c/answers.c does, without its buffers.
+/* Answers each line of standard input, for tools/try_bindings, as bindings/c/answers.c does, without its buffers. Where
+ * a fault stands is asked of the error that is thrown, too.
  *
  * answers objects       all parts of the locale that the line means, or "! " and the words of the refusal
  * answers two-objects   of each two lines the order of both locales, whether they are equal and are hashed alike, the byte
@@ -33,6 +34,19 @@ static std::string answer(const std::string &line, mode as)
     return normal ? *normal : refusal(normal.status());
 }
 
+static std::string fault_of(const std::string &line, mode as)
+{
+    const auto found = icu_locale::find_fault(line, as);
+    try {
+        icu_locale::normalize(line, as);
+    } catch (const icu_locale::error &refused) {
+        if (!found || found->status != refused.status() || found->start != refused.start() || found->end != refused.end())
+            std::abort();
+        return std::to_string(found->start) + " " + std::to_string(found->end);
+    }
+    return found ? "a fault of no refused text" : "-";
+}
+
 static std::string compare(const std::string &first, const std::string &second, mode as)
 {
     const auto order = icu_locale::try_strict_cmp(first, second, as);
@@ -51,7 +65,7 @@ static mode mode_of(const std::string &word)
         return mode::locale;
     if (word == "data")
         return mode::data_locale;
-    std::cerr << "usage: answers langid|locale|data|pairs-langid|pairs-locale|pairs-data|objects|two-objects|script\n";
+    std::cerr << "usage: answers [pairs-|faults-]langid|locale|data, or answers objects|two-objects|script\n";
     std::exit(2);
 }
 
@@ -309,25 +323,82 @@ static void try_errors()
             std::abort();
 }
 
+/* Where the error of a call says that the fault stands. */
+template <class Call> static std::pair<std::size_t, std::size_t> at(Call call)
+{
+    try {
+        call();
+    } catch (const icu_locale::error &refused) {
+        return {refused.start(), refused.end()};
+    }
+    std::abort();
+}
+
+/* Faults of each kind in each mode, by hand: docs/BINDINGS.md has the rule. */
+static void try_places()
+{
+    using place = std::pair<std::size_t, std::size_t>;
+    const mode as[] = {mode::identifier, mode::locale, mode::data_locale};
+    const std::string zero("en-US-\0\xff-posix", 14);
+    locale held("en");
+    for (const mode it : as) {
+        const bool is_locale = it == mode::locale;
+        const std::pair<place, place> cases[] = {
+            {at([&] { icu_locale::normalize("", it); }), {0, 0}},
+            {at([&] { icu_locale::normalize("e-US", it); }), {0, 1}},
+            {at([&] { icu_locale::normalize("en-", it); }), {3, 3}},
+            {at([&] { icu_locale::normalize("en-US-toolonggg-posix", it); }), {6, 15}},
+            {at([&] { icu_locale::normalize(zero, it); }), {6, 8}},
+            {at([&] { icu_locale::normalize("en-u-a8-foo", it); }), is_locale ? place{5, 7} : it == as[0] ? place{3, 4} : place{5, 7}},
+            {at([&] { icu_locale::normalize("en-a-foo-A-bar", it); }), is_locale ? place{9, 10} : place{3, 4}},
+            {at([&] { icu_locale::strict_cmp("en-!", "en", it); }), {3, 4}},
+            {at([&] { icu_locale::normalizing_eq("en-!", "en", it); }), {3, 4}},
+            {at([&] { icu_locale::compare("en-!", "e", it); }), {3, 4}},
+            {at([&] { icu_locale::compare("en", "en-US-!", it); }), {6, 7}},
+        };
+        for (const auto &[got, wanted] : cases)
+            if (got != wanted)
+                std::abort();
+    }
+    const std::pair<place, place> more[] = {
+        {at([] { icu_locale::normalize("en-u"); }), {4, 4}},
+        {at([] { icu_locale::normalize("en-t-de-posix-posix"); }), {14, 19}},
+        {at([] { icu_locale::normalize("en-u-sd-", mode::data_locale); }), {8, 8}},
+        {at([] { locale made("en-US-x"); }), {7, 7}},
+        {at([&] { held.assign("en-US-x-"); }), {8, 8}},
+        {at([&] { held.set_transform_language("de-u-foo"); }), {3, 4}},
+        {at([&] { held.set_region("USA"); }), {0, 3}},
+        {at([&] { held.set_keyword("ca", "r"); }), {0, 4}},
+        {at([] { icu_locale::try_normalize("e").value(); }), {0, 0}},
+        {at([] { icu_locale::normalize("en", static_cast<mode>(3)); }), {0, 2}},
+    };
+    for (const auto &[got, wanted] : more)
+        if (got != wanted)
+            std::abort();
+    if (icu_locale::find_fault("en-US") || icu_locale::find_fault("en-u", mode::identifier)->start != 3)
+        std::abort();
+}
+
 int main(int count, char **words)
 {
     std::ios::sync_with_stdio(false);
     const std::string word = count == 2 ? words[1] : "";
     const bool is_object = word == "objects", are_objects = word == "two-objects";
-    const bool pairs = word.rfind("pairs-", 0) == 0;
+    const bool pairs = word.rfind("pairs-", 0) == 0, faults = word.rfind("faults-", 0) == 0;
     std::string first, second;
     try_errors();
+    try_places();
     try_objects();
     if (word == "script")
         return answer_script();
-    const mode as = is_object || are_objects ? mode::locale : mode_of(pairs ? word.substr(6) : word);
+    const mode as = is_object || are_objects ? mode::locale : mode_of(word.substr(pairs ? 6 : faults ? 7 : 0));
     while (std::getline(std::cin, first)) {
         if ((pairs || are_objects) && !std::getline(std::cin, second))
             break;
         if (is_object || are_objects)
             std::cout << (is_object ? object(first) : two_objects(first, second)) << '\n';
         else
-            std::cout << (pairs ? compare(first, second, as) : answer(first, as)) << '\n';
+            std::cout << (pairs ? compare(first, second, as) : faults ? fault_of(first, as) : answer(first, as)) << '\n';
     }
     return std::cout.flush() ? 0 : 1;
 }

@@ -5,6 +5,8 @@ word after 'pairs-' asks of each two lines for the byte order of the first, norm
 mean the same, and the order of both normal forms, as '-1 0 -1'. A refusal stands in the place of the last, or of all
 three if the first is refused.
 
+Such a word after 'faults-' asks where the fault of each line stands, as '3 5', or '-' if it has none.
+
 The word 'objects' asks for all parts of the locale that the line means. 'two-objects' asks of each two lines for the
 order of both locales, whether they are equal and are hashed alike, the byte order of the first against the second line,
 and whether that line means it. 'script' asks for what each step on one of four locales gives, and the text of the locale
@@ -30,6 +32,19 @@ def checked(line, mode):
     normal = answered(normalize, line, mode)
     assert refusal is None or refusal == normal
     return normal
+
+
+def placed(line, mode):
+    """Where the fault stands, in bytes. A str has it at the same piece, by its characters."""
+    try:
+        normalize(line, mode)
+    except LocaleError as refusal:
+        text = refusal.text
+        before, after = text[: refusal.start], text[refusal.end :]
+        assert text == before + refusal.piece + after and (refusal.end, text) == (len(text) - len(after), text)
+        piece, before = (it if isinstance(it, bytes) else it.encode("utf-8", "surrogatepass") for it in (refusal.piece, before))
+        return f"{len(before)} {len(before) + len(piece)}"
+    return "-"
 
 
 def compared(first, second, mode):
@@ -163,6 +178,8 @@ def main(word):
         answers = [answered(two_objects, *pair) for pair in zip(lines[::2], lines[1::2])]
     elif word == "script":
         answers = script(lines)
+    elif word.startswith("faults-"):
+        answers = [placed(line, MODES[word[7:]]) for line in lines]
     elif word.startswith("pairs-"):
         mode = MODES[word[6:]]
         answers = [answered(compared, *pair, mode) for pair in zip(lines[::2], lines[1::2])]

@@ -71,6 +71,16 @@ def told(call, *words):
         return str(pickle.loads(pickle.dumps(refusal)))
 
 
+def place(call, *words):
+    """Where the refusal of a call says that the fault stands, after it was pickled."""
+    try:
+        return call(*words)
+    except LocaleError as refusal:
+        read = pickle.loads(pickle.dumps(refusal))
+        assert (read.text, read.piece, read.args) == (refusal.text, refusal.piece, refusal.args)
+        return read.start, read.end, read.piece
+
+
 def at_once():
     """What threads find that normalize texts of their own at the same time, of which each would be wrong if two shared room."""
     wrong = []
@@ -125,6 +135,23 @@ def shared():
     for it in threads:
         it.join()
     return wrong
+
+
+def calls_in(call):
+    """How many calls of Python and of C are made within this one: what it costs, on any machine."""
+    seen = []
+    sys.setprofile(lambda _frame, event, _given: seen.append(event))
+    try:
+        call()
+    finally:
+        sys.setprofile(None)
+    return sum(it in ("call", "c_call") for it in seen) - 1  # less that of setprofile
+
+
+def first_calls(locale):
+    """Whether the first read of a part makes few calls, and the next one fewer."""
+    read = lambda: locale.region
+    return calls_in(read) <= 13, calls_in(read) <= 2
 
 
 LONG = "de-aaaaa-bbbbb-ccccc-ddddd-eeeee-t-und-m0-abc-u-aaa-ca-islamic-civil-x-a-b-c-d-e"
@@ -230,10 +257,37 @@ CASES = [
     (told(lambda: HELD.replace(others={"a": "b"})), "Invalid extension: 'a-b'"),
     (told(lambda: HELD.replace(others={"ab": "cd"})), "Invalid extension: 'ab-cd'"),
     (LocaleError().words, ""),
+    ((LocaleError().piece, LocaleError("x", "en-").piece, LocaleError("x", "en-", 3).end), (None, "en-", 3)),
+    *((place(normalize, "", it), (0, 0, "")) for it in Mode),
+    *((place(normalize, "e-US", it), (0, 1, "e")) for it in Mode),
+    *((place(check, "en-", it), (3, 3, "")) for it in Mode),
+    *((place(normalize, "en--US", it), (3, 3, "")) for it in Mode),
+    *((place(strict_cmp, "en-US-toolonggg-posix", "en", it), (6, 15, "toolonggg")) for it in Mode),
+    *((place(normalizing_eq, "en-US-\0\0-posix", "en", it), (6, 8, "\0\0")) for it in Mode),
+    *((place(compare, "en-!", "e", it), (3, 4, "!")) for it in Mode),
+    *((place(compare, "en", "en-US-!", it), (6, 7, "!")) for it in Mode),
+    # characters of a str, also of one that cannot be encoded; bytes of bytes, unless they are UTF-8, which is shown as a str
+    *((place(normalize, "en-\u00e9\U0001f600-US", it), (3, 5, "\u00e9\U0001f600")) for it in Mode),
+    *((place(normalize, "en-\ud800-US", it), (3, 4, "\ud800")) for it in Mode),
+    *((place(normalize, b"en-US-\0\xff\xff-posix", it), (6, 9, b"\0\xff\xff")) for it in Mode),
+    *((place(normalize, "en-\u00e9".encode(), it), (3, 4, "\u00e9")) for it in Mode),
+    (place(Locale, "en-a-\u00e9\u00e9-!!-b-cc"), (11, 12, "b")),
+    ([place(normalize, "en-u", it) for it in Mode], [(3, 4, "u"), (4, 4, ""), (4, 4, "")]),
+    ([place(normalize, "en-u-a8", it) for it in Mode], [(3, 4, "u"), (5, 7, "a8"), (5, 7, "a8")]),
+    ([place(normalize, "en-a-foo-A-bar", it) for it in Mode], [(3, 4, "a"), (9, 10, "A"), (3, 4, "a")]),
+    (place(Locale, "en-t-de-posix-posix"), (14, 19, "posix")),
+    (place(Locale, FalseText("en-")), (3, 3, "")),
+    (place(normalize, "en-u-sd-", Mode.DATA_LOCALE), (8, 8, "")),
+    (place(lambda: HELD.replace(region="USA")), (0, 3, "USA")),
+    (place(lambda: HELD.replace(transform_language="de-u-foo")), (3, 4, "u")),
+    (place(lambda: HELD.replace(keywords={"ca": "r"})), (0, 4, "ca-r")),
+    (place(lambda: HELD.replace(keywords={"ca": "ab"})), (0, 23, "en-US-posix-u-foo-ca-ab")),
     (str(inspect.signature(Locale.replace)).count("= unchanged"), 10),
     ("0x" in str(inspect.signature(Locale.replace)), False),
     (len({id(HELD.keywords) for _ in range(3)}), 1),
     ((HELD.replace(region="GB").region, HELD.region, HELD.replace(region=None).region), ("GB", "US", None)),
+    # A part that is read for the first time, and again: docs/BINDINGS.md says how long that takes.
+    (first_calls(Locale("en-GB")), (True, True)),
     ("run bindings/build" in loading("/dev/null"), True),
     ("of header" in loading(sys.executable) or "another library" in loading("libc.so.6"), True),
 ]

@@ -58,7 +58,7 @@ __all__ = [
     "compare",
 ]
 
-HEADER = 4
+HEADER = 5
 HERE = pathlib.Path(__file__).resolve().parent
 TOP = HERE.parents[2]
 
@@ -92,11 +92,31 @@ class Priority(enum.IntEnum):
 
 
 class LocaleError(ValueError):
-    """A refused text: `words` says why, and `text` is the text, as bytes if it is no UTF-8. It prints both."""
+    """A refused text: `words` says why, and `text` is the text, as bytes if it is no UTF-8. It prints both.
 
-    def __init__(self, words: str = "", text: Union[str, bytes, None] = None) -> None:
-        super().__init__(words, text)
-        self.words, self.text = words, text
+    The fault stands at `piece`, which is text[start:end]: in characters of a str, and in bytes of bytes. It is the first
+    piece with which no text begins that has a meaning. So what is before it can be completed, and what includes it cannot.
+    If all pieces can be completed, the text ends too early, and `piece` is empty at its end. A part that is refused, such
+    as a region, is all at fault.
+
+    >>> try:
+    ...     normalize("en-toolonggg-US")
+    ... except LocaleError as refusal:
+    ...     print(refusal.start, refusal.end, refusal.piece)
+    3 12 toolonggg
+    """
+
+    def __init__(
+        self, words: str = "", text: Union[str, bytes, None] = None, start: int = 0, end: Optional[int] = None
+    ) -> None:
+        end = len(text or "") if end is None else end
+        super().__init__(words, text, start, end)
+        self.words, self.text, self.start, self.end = words, text, start, end
+
+    @property
+    def piece(self) -> Union[str, bytes, None]:
+        """Where the fault stands; empty if the text ends too early."""
+        return None if self.text is None else self.text[self.start : self.end]
 
     def __str__(self) -> str:
         if self.text is None:
@@ -130,6 +150,7 @@ class _Handle(ctypes.Structure):
 _DONE, _INVALID_SUBTAG, _INVALID_EXTENSION, _BUFFER_TOO_SMALL, _NOT_FOUND = 0, 2, 3, 6, 8
 _REFUSALS = {1: InvalidLanguage, 2: InvalidSubtag, 3: InvalidExtension, 4: DuplicatedExtension, 5: MemoryError}
 _NUMBER, _BYTES, _SIZE, _BYTE = ctypes.c_uint32, ctypes.c_char_p, ctypes.c_size_t, ctypes.c_uint8
+_PLACE = ctypes.POINTER(_SIZE)
 _ORDER, _SAME = ctypes.POINTER(ctypes.c_int8), ctypes.POINTER(ctypes.c_uint8)
 _LOCALE, _TRUTH = ctypes.POINTER(_Handle), ctypes.c_bool
 # (a place to write to is given by its address, which takes half the time)
@@ -138,6 +159,7 @@ _TEXT, _BUFFER = (_BYTES, _SIZE), (ctypes.c_void_p, _SIZE, ctypes.c_void_p)
 _FORMS = {
     "normalize": (_NUMBER, *_TEXT, *_BUFFER),
     "check": (_NUMBER, *_TEXT),
+    "find_fault": (_NUMBER, *_TEXT, _PLACE, _PLACE),
     "strict_cmp": (_NUMBER, *_TEXT, *_TEXT, _ORDER),
     "normalizing_eq": (_NUMBER, *_TEXT, *_TEXT, _SAME),
     "compare": (_NUMBER, *_TEXT, *_TEXT, _ORDER),
@@ -245,8 +267,9 @@ def _call(function: Any, *given: Any) -> Any:
         raise MemoryError from None
 
 
-def _raise(status: int, text: Optional[bytes] = None) -> None:
-    """Raises what the status stands for, unless it is done, with the text that was refused."""
+def _raise(status: int, text: Optional[bytes] = None, mode: Optional[Mode] = None) -> None:
+    """Raises what the status stands for, unless it is done, with the text that was refused. Of a text that was read in a
+    mode the library is asked where its fault stands; another text is all at fault."""
     if status == _DONE:
         return
     refusal = _REFUSALS.get(status)
@@ -257,10 +280,22 @@ def _raise(status: int, text: Optional[bytes] = None) -> None:
     said = words.raw[: needed.value].decode()
     if text is None or refusal is MemoryError:
         raise refusal(said)
-    raise refusal(said, _shown(text))
+    raise refusal(said, *_shown(text, mode))
 
 
-def _shown(text: bytes) -> Union[str, bytes]:
+def _shown(text: bytes, mode: Optional[Mode]) -> Tuple[Union[str, bytes], int, int]:
+    """The bytes as a str, if they are the UTF-8 of one; and where the fault stands in that."""
+    start, end = ctypes.c_size_t(), ctypes.c_size_t(len(text))
+    if mode is not None:
+        _call(_library.icu_locale_find_fault, mode, text, len(text), ctypes.byref(start), ctypes.byref(end))
+    shown = _decoded(text)
+    if isinstance(shown, bytes):
+        return shown, start.value, end.value
+    # A piece begins and ends beside a hyphen, or where the text does.
+    return shown, len(_decoded(text[: start.value])), len(_decoded(text[: end.value]))
+
+
+def _decoded(text: bytes) -> Union[str, bytes]:
     """The bytes as a str, if they are the UTF-8 of one."""
     try:
         return text.decode("utf-8", "surrogatepass")
@@ -278,9 +313,11 @@ class _Buffer:
         self.at, self.needed_at = ctypes.addressof(self.bytes), ctypes.addressof(self.needed)
 
 
+# The room of a buffer that is kept for other calls.
+_USUAL = 256
 # Buffers that no call has now. A call has one for itself, also while another begins within it or in another thread.
 _free_buffers: Deque[_Buffer] = collections.deque(maxlen=8)
-_normalize = _library.icu_locale_normalize
+_normalize, _parse = _library.icu_locale_normalize, _library.icu_locale_parse
 
 
 def _quicker() -> Optional[Callable[[Any, Any], Optional[str]]]:
@@ -302,14 +339,14 @@ def _taken(room: int) -> _Buffer:
     try:
         buffer = _free_buffers.pop()
     except IndexError:
-        return _Buffer(max(room, 256))
+        return _Buffer(max(room, _USUAL))
     return buffer if room <= buffer.room else _Buffer(room)
 
 
 def _given_back(buffer: _Buffer) -> str:
     """The text that was written to a buffer, which another call may have then, unless it is long."""
     text = buffer.bytes.raw[: buffer.needed.value].decode("ascii")
-    if buffer.room <= 256:
+    if buffer.room <= _USUAL:
         _free_buffers.append(buffer)
     return text
 
@@ -332,7 +369,7 @@ def normalize(text: Text, mode: Mode = Mode.LOCALE) -> str:
     buffer = _taken(room)
     status = _call(_normalize, mode, given, room - 4, buffer.at, room, buffer.needed_at)
     if status:
-        _raise(status, given)
+        _raise(status, given, mode)
     return _given_back(buffer)
 
 
@@ -344,8 +381,8 @@ def check(text: Text, mode: Mode = Mode.LOCALE) -> None:
     Traceback (most recent call last):
     icu_locale_c.InvalidSubtag: Invalid subtag: 'en-US-u-ca-buddhist'
     """
-    given = _bytes(text)
-    _raise(_call(_library.icu_locale_check, _number(Mode, mode), given, len(given)), given)
+    given, mode = _bytes(text), _number(Mode, mode)
+    _raise(_call(_library.icu_locale_check, mode, given, len(given)), given, mode)
 
 
 def strict_cmp(text: Text, other: Text, mode: Mode = Mode.LOCALE) -> int:
@@ -356,7 +393,7 @@ def strict_cmp(text: Text, other: Text, mode: Mode = Mode.LOCALE) -> int:
     """
     given, against, order, mode = _bytes(text), _bytes(other), ctypes.c_int8(), _number(Mode, mode)
     status = _call(_library.icu_locale_strict_cmp, mode, given, len(given), against, len(against), ctypes.byref(order))
-    _raise(status, given)
+    _raise(status, given, mode)
     return order.value
 
 
@@ -368,7 +405,7 @@ def normalizing_eq(text: Text, other: Text, mode: Mode = Mode.LOCALE) -> bool:
     """
     given, against, same, mode = _bytes(text), _bytes(other), ctypes.c_uint8(), _number(Mode, mode)
     status = _call(_library.icu_locale_normalizing_eq, mode, given, len(given), against, len(against), ctypes.byref(same))
-    _raise(status, given)
+    _raise(status, given, mode)
     return same.value == 1
 
 
@@ -382,7 +419,7 @@ def compare(text: Text, other: Text, mode: Mode = Mode.LOCALE) -> int:
     status = _call(_library.icu_locale_compare, mode, given, len(given), against, len(against), ctypes.byref(order))
     if status:
         # The first text is refused first.
-        _raise(status, given if _call(_library.icu_locale_check, mode, given, len(given)) else against)
+        _raise(status, given if _call(_library.icu_locale_check, mode, given, len(given)) else against, mode)
     return order.value
 
 
@@ -450,22 +487,28 @@ class _Owned(_Handle):
 
     def read(self, function: Any, *given: Any) -> Optional[str]:
         """The text that a call writes, or None if there is no such part."""
-        room, needed, status = 64, ctypes.c_size_t(), _BUFFER_TOO_SMALL
-        while status == _BUFFER_TOO_SMALL:
-            buffer = ctypes.create_string_buffer(room)
-            status = _call(function, self, *given, buffer, room, ctypes.byref(needed))
-            room = needed.value
-        if status == _NOT_FOUND:
-            return None
-        _raise(status)
-        return buffer.raw[: needed.value].decode("ascii")
+        buffer = _taken(_USUAL)
+        try:
+            status = function(self, *given, buffer.at, buffer.room, buffer.needed_at)
+            if status == _BUFFER_TOO_SMALL:
+                buffer = _Buffer(buffer.needed.value)
+                status = function(self, *given, buffer.at, buffer.room, buffer.needed_at)
+        except ctypes.ArgumentError:
+            raise MemoryError from None
+        if status == _DONE:
+            return _given_back(buffer)
+        if status != _NOT_FOUND:
+            _raise(status)
+        _free_buffers.append(buffer)
+        return None
 
     def change(self, name: str, *texts: bytes) -> None:
         """Has the call of this name change the locale by the texts."""
         given: List[Any] = []
         for text in texts:
             given += text, len(text)
-        _raise(_call(getattr(_library, f"icu_locale_{name}"), self, *given), b"-".join(texts))
+        mode = Mode.IDENTIFIER if name == "set_transform_language" else None
+        _raise(_call(getattr(_library, f"icu_locale_{name}"), self, *given), b"-".join(texts), mode)
 
     def set(self, part: str, text: Optional[Text]) -> None:
         if text is not _KEPT:
@@ -499,7 +542,9 @@ class _Owned(_Handle):
 def _parsed(text: bytes) -> _Owned:
     """A handle of what the text means."""
     made = _Owned()
-    made.change("parse", text)
+    status = _call(_parse, made, text, len(text))
+    if status:
+        _raise(status, text, Mode.LOCALE)
     return made
 
 
@@ -513,10 +558,7 @@ def _once(read: Callable[["Locale"], _T]) -> Callable[["Locale"], _T]:
     @functools.wraps(read)
     def part(self: "Locale") -> Any:
         parts = self._parts
-        try:
-            return parts[name]
-        except KeyError:
-            return parts.setdefault(name, read(self))
+        return parts[name] if name in parts else parts.setdefault(name, read(self))
 
     return part
 
@@ -600,11 +642,16 @@ class Locale:
 
     def _read(self, function: Any, *given: Any) -> Optional[str]:
         """The text that a call writes, or None if there is no such part."""
-        handle = self._take()
+        handles = self._handles
+        try:
+            handle = handles.pop()
+        except IndexError:
+            handle = _parsed(self._source)
         try:
             return handle.read(function, *given)
         finally:
-            self._put(handle)
+            if not handles:
+                handles.append(handle)
 
     def _part(self, call: Any, *given: Any) -> str:
         """The text of a part that is there."""

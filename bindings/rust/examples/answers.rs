@@ -1,6 +1,7 @@
 //! Answers each line of standard input, for tools/try_bindings.
 //!
 //! `answers langid|locale|data`: the normal form of each line, or `! ` and the words of the refusal.
+//! `answers faults-langid|faults-locale|faults-data`: where the fault of each line stands, as `3 5`; `-` if it has none.
 //! `answers pairs-langid|pairs-locale|pairs-data`: of each two lines the byte order of the first, normalized, against
 //! the second, whether they mean the same, and the order of both normal forms, as `-1 0 -1`. A refusal stands in the
 //! place of the last, or of all three if the first is refused.
@@ -13,7 +14,7 @@
 
 use icu_locale_c::extensions::unicode::{Attribute, Key, Value};
 use icu_locale_c::subtags::{Language, Region, Script, Variant};
-use icu_locale_c::{check, compare, normalize, normalizing_eq, strict_cmp, Locale, Mode, Priority, Refusal};
+use icu_locale_c::{check, compare, normalize, normalizing_eq, strict_cmp, Locale, Mode, ParseError, Priority};
 use std::collections::hash_map::DefaultHasher;
 use std::hash::{Hash, Hasher};
 use std::io::{self, BufRead, BufWriter, Write};
@@ -21,16 +22,21 @@ use std::mem;
 
 fn answer(mode: Mode, line: &[u8]) -> String {
     let normal = normalize(mode, line);
-    assert_eq!(check(mode, line).err(), normal.as_ref().err().copied());
-    normal.unwrap_or_else(|refusal| format!("! {refusal}"))
+    assert_eq!(check(mode, line).err(), normal.as_ref().err().cloned());
+    normal.unwrap_or_else(refused)
 }
 
-fn compare_pair(mode: Mode, first: &[u8], second: &[u8]) -> Result<String, Refusal> {
+fn fault(mode: Mode, line: &[u8]) -> String {
+    let at = |error: ParseError| format!("{} {}", error.range().start, error.range().end);
+    normalize(mode, line).map_or_else(at, |_| "-".to_owned())
+}
+
+fn compare_pair(mode: Mode, first: &[u8], second: &[u8]) -> Result<String, ParseError> {
     let order = strict_cmp(mode, first, second)? as i8;
     let same = normalizing_eq(mode, first, second)? as u8;
     let both = match compare(mode, first, second) {
         Ok(both) => (both as i8).to_string(),
-        Err(refusal) => format!("! {refusal}"),
+        Err(error) => refused(error),
     };
     Ok(format!("{order} {same} {both}"))
 }
@@ -137,14 +143,14 @@ fn against(it: &Locale, text: &[u8]) -> String {
     format!("{} {}", it.strict_cmp(text) as i8, is_meant as u8)
 }
 
-fn two_objects(first: &[u8], second: &[u8]) -> Result<String, Refusal> {
+fn two_objects(first: &[u8], second: &[u8]) -> Result<String, ParseError> {
     let one = Locale::try_from_utf8(first)?;
     let both = Locale::try_from_utf8(second).map_or_else(|_| "- - -".to_owned(), |other| compare_objects(&one, &other));
     Ok(format!("{both} {}", against(&one, second)))
 }
 
 /// A part that is cleared by an empty text.
-fn optional<T>(text: &[u8], parsed: fn(&[u8]) -> Result<T, Refusal>) -> Result<Option<T>, Refusal> {
+fn optional<T>(text: &[u8], parsed: fn(&[u8]) -> Result<T, ParseError>) -> Result<Option<T>, ParseError> {
     if text.is_empty() {
         Ok(None)
     } else {
@@ -168,7 +174,7 @@ fn lossy(text: &[u8]) -> String {
     String::from_utf8_lossy(text).into_owned()
 }
 
-fn take_step(slots: &mut [Locale; 4], words: &[&[u8]]) -> Result<String, Refusal> {
+fn take_step(slots: &mut [Locale; 4], words: &[&[u8]]) -> Result<String, ParseError> {
     let number = |word: &[u8]| word.first().map_or(0, |digit| (digit - b'0') as usize);
     let (at, text) = (number(words[1]), words.get(2).copied().unwrap_or(b""));
     let other = if text.len() == 1 { number(text) % 4 } else { 0 };
@@ -278,8 +284,8 @@ fn take_step(slots: &mut [Locale; 4], words: &[&[u8]]) -> Result<String, Refusal
     })
 }
 
-fn refused(refusal: Refusal) -> String {
-    format!("! {refusal}")
+fn refused(error: ParseError) -> String {
+    format!("! {}", error.kind())
 }
 
 fn answer_script(lines: &[Vec<u8>], out: &mut impl Write) -> io::Result<()> {
@@ -298,12 +304,18 @@ fn mode_of(word: &str) -> Mode {
         "locale" => Mode::Locale,
         "data" => Mode::DataLocale,
         _ => {
-            panic!("usage: answers langid|locale|data|pairs-langid|pairs-locale|pairs-data|objects|two-objects|script")
+            panic!("usage: answers [pairs-|faults-]langid|locale|data, or answers objects|two-objects|script")
         }
     }
 }
 
 fn answer_texts(word: &str, lines: &[Vec<u8>], out: &mut impl Write) -> io::Result<()> {
+    if let Some(word) = word.strip_prefix("faults-") {
+        for line in lines {
+            writeln!(out, "{}", fault(mode_of(word), line))?;
+        }
+        return Ok(());
+    }
     match word.strip_prefix("pairs-") {
         None => {
             for line in lines {

@@ -18,7 +18,7 @@ fn main() -> ExitCode {
         match change(&word) {
             Ok(locale) => println!("{locale}"),
             Err(refusal) => {
-                println!("{word}: {refusal}");
+                println!("{refusal}");
                 ended = ExitCode::FAILURE;
             }
         }

@@ -9,7 +9,7 @@ fn main() -> ExitCode {
         match normalize(Mode::Locale, &text) {
             Ok(normal) => println!("{normal}"),
             Err(refusal) => {
-                println!("{text}: {refusal}");
+                println!("{refusal}");
                 ended = ExitCode::FAILURE;
             }
         }

@@ -1,7 +1,7 @@
 //! Locales that a program holds.
 
 use crate::parts::{Attribute, Key, Language, Region, Script, Value, Variant};
-use crate::{is_of_this_version, look_at_version, normalize, result, sys, Mode, Priority, Refusal};
+use crate::{is_of_this_version, look_at_version, normalize, result, sys, text_result, Mode, ParseError, Priority, Refusal};
 use std::alloc::{handle_alloc_error, Layout};
 use std::borrow::Cow;
 use std::cell::UnsafeCell;
@@ -12,8 +12,8 @@ use std::{fmt, ptr};
 
 /// A locale, such as `en-US-u-ca-buddhist`, with parts to read and to change.
 ///
-/// The calls have the names of those of the crate `icu_locale_core`. A call that returns a `Result` returns
-/// `Refusal::OutOfMemory` if it is out of memory: parsing, [`set_field`](Self::set_field),
+/// The calls have the names of those of the crate `icu_locale_core`. A call that returns a `Result` returns an error of
+/// the kind `Refusal::OutOfMemory` if it is out of memory: parsing, [`set_field`](Self::set_field),
 /// [`set_other`](Self::set_other), [`set_private_extension`](Self::set_private_extension) and
 /// [`set_transform_language`](Self::set_transform_language). Any other call that allocates, also
 /// [`normalizing_eq`](Self::normalizing_eq), then ends as the collections of the standard library do, by
@@ -71,37 +71,43 @@ impl Locale {
     }
 
     /// The locale that the text means.
-    pub fn try_from_str(text: &str) -> Result<Self, Refusal> {
+    pub fn try_from_str(text: &str) -> Result<Self, ParseError> {
         Self::try_from_utf8(text.as_bytes())
     }
 
     /// The locale that the text means.
-    pub fn try_from_utf8(text: &[u8]) -> Result<Self, Refusal> {
-        Self::with(sys::icu_locale_parse, text)
-    }
-
-    /// An empty locale after one setting.
-    pub(crate) fn with(set: Setting, text: &[u8]) -> Result<Self, Refusal> {
+    pub fn try_from_utf8(text: &[u8]) -> Result<Self, ParseError> {
         look_at_version()?;
         let made = Self::UNKNOWN;
         // SAFETY: the handle is used here alone, and pointer and length are those of a slice.
-        result(unsafe { set(made.handle(), text.as_ptr(), text.len()) })?;
+        let status = unsafe { sys::icu_locale_parse(made.handle(), text.as_ptr(), text.len()) };
+        text_result(status, Mode::Locale, text)?;
         Ok(made)
     }
 
-    /// An empty locale with one keyword.
-    pub(crate) fn with_keyword(key: &[u8], value: &[u8]) -> Result<Self, Refusal> {
+    /// An empty locale after one setting.
+    pub(crate) fn with(set: Setting, text: &[u8]) -> Result<Self, ParseError> {
+        look_at_version()?;
+        let made = Self::UNKNOWN;
+        // SAFETY: the handle is used here alone, and pointer and length are those of a slice.
+        result(unsafe { set(made.handle(), text.as_ptr(), text.len()) }, &[text])?;
+        Ok(made)
+    }
+
+    /// An empty locale with one keyword. An error names this text.
+    pub(crate) fn with_keyword(key: &[u8], value: &[u8], text: &[u8]) -> Result<Self, ParseError> {
         look_at_version()?;
         let made = Self::UNKNOWN;
         // SAFETY: as in `with`.
-        result(unsafe {
+        let status = unsafe {
             sys::icu_locale_set_keyword(made.handle(), key.as_ptr(), key.len(), value.as_ptr(), value.len())
-        })?;
+        };
+        result(status, &[text])?;
         Ok(made)
     }
 
     /// The normal form of the text; the text itself if it is one.
-    pub fn normalize(text: &str) -> Result<Cow<'_, str>, Refusal> {
+    pub fn normalize(text: &str) -> Result<Cow<'_, str>, ParseError> {
         let normal = normalize(Mode::Locale, text)?;
         Ok(if normal == text {
             Cow::Borrowed(text)
@@ -111,7 +117,7 @@ impl Locale {
     }
 
     /// The normal form of the text; the text itself if it is one.
-    pub fn normalize_utf8(text: &[u8]) -> Result<Cow<'_, str>, Refusal> {
+    pub fn normalize_utf8(text: &[u8]) -> Result<Cow<'_, str>, ParseError> {
         let normal = normalize(Mode::Locale, text)?;
         match from_utf8(text) {
             Ok(text) if text == normal => Ok(Cow::Borrowed(text)),
@@ -319,8 +325,10 @@ impl Locale {
 
     /// Sets the identifier of the extension `t`; an empty text removes it. Any other text than an identifier is refused
     /// as by [`check`](crate::check) for one.
-    pub fn set_transform_language(&mut self, text: &str) -> Result<(), Refusal> {
-        self.try_set(sys::icu_locale_set_transform_language, text)
+    pub fn set_transform_language(&mut self, text: &str) -> Result<(), ParseError> {
+        // SAFETY: the handle is used by this call alone, and pointer and length are those of a slice.
+        let status = unsafe { sys::icu_locale_set_transform_language(self.handle(), text.as_ptr(), text.len()) };
+        text_result(status, Mode::Identifier, text.as_bytes())
     }
 
     /// The fields of the extension `t`, by ascending key.
@@ -348,11 +356,13 @@ impl Locale {
     }
 
     /// Sets the value of a field. A key that is none and a value that is none are an `InvalidExtension`.
-    pub fn set_field(&mut self, key: &str, value: &str) -> Result<(), Refusal> {
+    pub fn set_field(&mut self, key: &str, value: &str) -> Result<(), ParseError> {
         // SAFETY: the handle is used by this call alone, and pointers and lengths are those of slices.
-        result(unsafe {
+        let status = unsafe {
             sys::icu_locale_set_field(self.handle(), key.as_ptr(), key.len(), value.as_ptr(), value.len())
-        })
+        };
+        let hyphen = if value.is_empty() { "" } else { "-" };
+        result(status, &[key.as_bytes(), hyphen.as_bytes(), value.as_bytes()])
     }
 
     /// Removes the field with this key, and returns its value.
@@ -374,7 +384,7 @@ impl Locale {
 
     /// Sets the private extension, with its `x`; an empty text removes it. Any other text than such an extension is an
     /// `InvalidExtension`.
-    pub fn set_private_extension(&mut self, text: &str) -> Result<(), Refusal> {
+    pub fn set_private_extension(&mut self, text: &str) -> Result<(), ParseError> {
         self.try_set(sys::icu_locale_set_private, text)
     }
 
@@ -398,7 +408,7 @@ impl Locale {
 
     /// Sets the extension that the text is, such as `a-foo`, and leaves those with another singleton. Any other text is
     /// an `InvalidExtension`.
-    pub fn set_other(&mut self, text: &str) -> Result<(), Refusal> {
+    pub fn set_other(&mut self, text: &str) -> Result<(), ParseError> {
         self.try_set(sys::icu_locale_set_other, text)
     }
 
@@ -473,9 +483,9 @@ impl Locale {
         )
     }
 
-    fn try_set(&mut self, call: Setting, text: &str) -> Result<(), Refusal> {
+    fn try_set(&mut self, call: Setting, text: &str) -> Result<(), ParseError> {
         // SAFETY: the handle is used by this call alone, and pointer and length are those of a slice.
-        result(unsafe { call(self.handle(), text.as_ptr(), text.len()) })
+        result(unsafe { call(self.handle(), text.as_ptr(), text.len()) }, &[text.as_bytes()])
     }
 
     fn set(&mut self, call: Setting, text: &str) -> bool {
@@ -576,9 +586,9 @@ impl From<(Language, Option<Script>, Option<Region>)> for Locale {
 }
 
 impl FromStr for Locale {
-    type Err = Refusal;
+    type Err = ParseError;
 
-    fn from_str(text: &str) -> Result<Self, Refusal> {
+    fn from_str(text: &str) -> Result<Self, ParseError> {
         Self::try_from_str(text)
     }
 }
@@ -765,8 +775,8 @@ mod tests {
         assert!(it.has_other('A') && !it.has_other('b') && !it.has_other('u') && !it.has_other('\u{161}'));
         assert_eq!((it.other('a').as_deref(), it.other('u')), (Some("a-foo"), None));
         it.set_other("B-Foo-bar").unwrap();
-        assert_eq!(it.set_other("u-foo"), Err(Refusal::InvalidExtension));
-        assert_eq!(it.set_other(""), Err(Refusal::InvalidExtension));
+        assert_eq!(it.set_other("u-foo").unwrap_err(), Refusal::InvalidExtension);
+        assert_eq!(it.set_other("").unwrap_err(), Refusal::InvalidExtension);
         assert!(it.remove_other('a') && !it.remove_other('a') && !it.remove_other('\u{161}'));
         assert_eq!(it.to_string(), "en-b-foo-bar-u-ca-islamicc-hc-h12-nu-latn");
         let read = |value: Option<Value>| value.map(|it| it.to_string());

@@ -2,7 +2,7 @@
 //! locale.
 
 use crate::locale::Locale;
-use crate::{sys, Refusal};
+use crate::{sys, ParseError, Refusal};
 use std::cmp::Ordering;
 use std::fmt;
 use std::str::FromStr;
@@ -34,17 +34,17 @@ macro_rules! subtag {
 
         impl $name {
             /// The subtag of the text, in any case.
-            pub fn try_from_str(text: &str) -> Result<Self, Refusal> {
+            pub fn try_from_str(text: &str) -> Result<Self, ParseError> {
                 Self::try_from_utf8(text.as_bytes())
             }
 
             /// The subtag of the text, in any case.
-            pub fn try_from_utf8(text: &[u8]) -> Result<Self, Refusal> {
+            pub fn try_from_utf8(text: &[u8]) -> Result<Self, ParseError> {
                 if text.is_empty() {
-                    return Err(Refusal::$refusal);
+                    return Err(ParseError::of(Refusal::$refusal, &[]));
                 }
-                let parsed: fn(&[u8]) -> Result<Option<$name>, Refusal> = $parsed;
-                parsed(text)?.ok_or(Refusal::$refusal)
+                let parsed: fn(&[u8]) -> Result<Option<$name>, ParseError> = $parsed;
+                parsed(text)?.ok_or_else(|| ParseError::of(Refusal::$refusal, &[text]))
             }
 
             /// The normal form.
@@ -69,9 +69,9 @@ macro_rules! subtag {
         }
 
         impl FromStr for $name {
-            type Err = Refusal;
+            type Err = ParseError;
 
-            fn from_str(text: &str) -> Result<Self, Refusal> {
+            fn from_str(text: &str) -> Result<Self, ParseError> {
                 Self::try_from_str(text)
             }
         }
@@ -123,7 +123,7 @@ subtag!(
     /// The key of a keyword, such as `ca`.
     Key,
     InvalidExtension,
-    |text| Locale::with_keyword(text, b"").map(|it| it.keywords().pop().map(|(key, _)| key))
+    |text| Locale::with_keyword(text, b"", text).map(|it| it.keywords().pop().map(|(key, _)| key))
 );
 
 subtag!(
@@ -167,13 +167,13 @@ pub struct Value(String);
 
 impl Value {
     /// The value of the text, in any case.
-    pub fn try_from_str(text: &str) -> Result<Self, Refusal> {
+    pub fn try_from_str(text: &str) -> Result<Self, ParseError> {
         Self::try_from_utf8(text.as_bytes())
     }
 
     /// The value of the text, in any case.
-    pub fn try_from_utf8(text: &[u8]) -> Result<Self, Refusal> {
-        let parsed = Locale::with_keyword(b"ca", text)?;
+    pub fn try_from_utf8(text: &[u8]) -> Result<Self, ParseError> {
+        let parsed = Locale::with_keyword(b"ca", text, text)?;
         let value = parsed.keywords().pop().map(|(_, value)| value);
         Ok(value.unwrap_or_default())
     }
@@ -219,9 +219,9 @@ impl PartialEq<&str> for Value {
 }
 
 impl FromStr for Value {
-    type Err = Refusal;
+    type Err = ParseError;
 
-    fn from_str(text: &str) -> Result<Self, Refusal> {
+    fn from_str(text: &str) -> Result<Self, ParseError> {
         Self::try_from_str(text)
     }
 }

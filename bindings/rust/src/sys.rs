@@ -1,6 +1,6 @@
 //! The header `include/icu_locale.h`, which says what each function does, and what a caller owes.
 
-pub const VERSION: u32 = 4;
+pub const VERSION: u32 = 5;
 
 pub const IDENTIFIER: u32 = 0;
 pub const LOCALE: u32 = 1;
@@ -37,6 +37,14 @@ extern "C" {
     ) -> u32;
 
     pub fn icu_locale_check(mode: u32, text: *const u8, length: usize) -> u32;
+
+    pub fn icu_locale_find_fault(
+        mode: u32,
+        text: *const u8,
+        length: usize,
+        start: *mut usize,
+        end: *mut usize,
+    ) -> u32;
 
     pub fn icu_locale_strict_cmp(
         mode: u32,

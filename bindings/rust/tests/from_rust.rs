@@ -6,7 +6,7 @@
 
 use icu_locale_c::extensions::unicode::{Attribute, Key, Value};
 use icu_locale_c::subtags::{Language, Region, Script, Variant};
-use icu_locale_c::{check, compare, normalize, Locale, Mode, ParseError, Priority};
+use icu_locale_c::{check, compare, normalize, Locale, Mode, ParseError, Priority, Refusal};
 use std::cmp::Ordering;
 use std::collections::hash_map::DefaultHasher;
 use std::hash::{Hash, Hasher};
@@ -47,7 +47,7 @@ macro_rules! subtags {
                 assert_eq!(parsed.strict_cmp(b"~"), Ordering::Less);
             }
             for text in $wrong {
-                assert_eq!($kind::try_from_str(text), Err(ParseError::$refusal), "{text}");
+                assert_eq!($kind::try_from_str(text).unwrap_err(), Refusal::$refusal, "{text}");
             }
         }
     };
@@ -112,7 +112,7 @@ fn values() {
     assert_eq!((printed("PHONEBK"), printed("Islamic-TBLA")), ("phonebk".into(), "islamic-tbla".into()));
     assert_eq!(Value::try_from_utf8(b"ab-12345678").unwrap().subtag_count(), 2);
     for text in ["a", "abc-d", "123456789", "abc--def", "abc-", "-abc", "ab_c"] {
-        assert_eq!(Value::try_from_str(text), Err(ParseError::InvalidSubtag), "{text}");
+        assert_eq!(Value::try_from_str(text).unwrap_err(), Refusal::InvalidSubtag, "{text}");
     }
     assert!(value("ROC") == "roc" && value("roc") != "ROC" && value("") == "" && value("true") == "");
     assert!(value("islamic-tbla") == "islamic-tbla" && value("islamic-tbla") != "islamic");
@@ -155,25 +155,25 @@ fn locales_are_printed() {
 #[test]
 fn locales_are_refused() {
     for (text, refusal) in [
-        ("", ParseError::InvalidLanguage),
-        ("9a", ParseError::InvalidLanguage),
-        ("x-abc", ParseError::InvalidLanguage),
-        ("fr-", ParseError::InvalidSubtag),
-        ("fr--FR", ParseError::InvalidSubtag),
-        ("fr-FR-FR", ParseError::InvalidSubtag),
-        ("fr-scouse-scouse", ParseError::InvalidSubtag),
-        ("fr-u", ParseError::InvalidExtension),
-        ("fr-t", ParseError::InvalidExtension),
-        ("fr-x", ParseError::InvalidExtension),
-        ("fr-b", ParseError::InvalidExtension),
-        ("fr-u-co-phonebk-u-ca-roc", ParseError::DuplicatedExtension),
+        ("", Refusal::InvalidLanguage),
+        ("9a", Refusal::InvalidLanguage),
+        ("x-abc", Refusal::InvalidLanguage),
+        ("fr-", Refusal::InvalidSubtag),
+        ("fr--FR", Refusal::InvalidSubtag),
+        ("fr-FR-FR", Refusal::InvalidSubtag),
+        ("fr-scouse-scouse", Refusal::InvalidSubtag),
+        ("fr-u", Refusal::InvalidExtension),
+        ("fr-t", Refusal::InvalidExtension),
+        ("fr-x", Refusal::InvalidExtension),
+        ("fr-b", Refusal::InvalidExtension),
+        ("fr-u-co-phonebk-u-ca-roc", Refusal::DuplicatedExtension),
     ] {
-        assert_eq!(Locale::try_from_str(text), Err(refusal), "{text}");
-        assert_eq!(Locale::try_from_utf8(text.as_bytes()), Err(refusal), "{text}");
-        assert_eq!(Locale::normalize(text), Err(refusal), "{text}");
+        assert_eq!(Locale::try_from_str(text).unwrap_err(), refusal, "{text}");
+        assert_eq!(Locale::try_from_utf8(text.as_bytes()).unwrap_err(), refusal, "{text}");
+        assert_eq!(Locale::normalize(text).unwrap_err(), refusal, "{text}");
         assert_eq!(refused(Mode::Locale, text), refusal);
     }
-    assert_eq!(refused(Mode::Identifier, "fr-u-co-phonebk"), ParseError::InvalidSubtag);
+    assert_eq!(refused(Mode::Identifier, "fr-u-co-phonebk"), Refusal::InvalidSubtag);
 }
 
 #[test]
@@ -194,15 +194,15 @@ fn extensions_are_read() {
 #[test]
 fn setters_name_what_is_wrong() {
     let mut it = locale("fr-t-ru-m0-bgn-x-abc");
-    assert_eq!(it.set_field("mm", "bgn"), Err(ParseError::InvalidExtension));
-    assert_eq!(it.set_field("m0", "ab"), Err(ParseError::InvalidExtension));
-    assert_eq!(it.set_field("m0", ""), Err(ParseError::InvalidExtension));
-    assert_eq!(it.set_other("x-abc"), Err(ParseError::InvalidExtension));
-    assert_eq!(it.set_other("b"), Err(ParseError::InvalidExtension));
-    assert_eq!(it.set_private_extension("abc"), Err(ParseError::InvalidExtension));
-    assert_eq!(it.set_private_extension("x"), Err(ParseError::InvalidExtension));
-    assert_eq!(it.set_transform_language("r"), Err(ParseError::InvalidLanguage));
-    assert_eq!(it.set_transform_language("ru-u"), Err(ParseError::InvalidSubtag));
+    assert_eq!(it.set_field("mm", "bgn").unwrap_err(), Refusal::InvalidExtension);
+    assert_eq!(it.set_field("m0", "ab").unwrap_err(), Refusal::InvalidExtension);
+    assert_eq!(it.set_field("m0", "").unwrap_err(), Refusal::InvalidExtension);
+    assert_eq!(it.set_other("x-abc").unwrap_err(), Refusal::InvalidExtension);
+    assert_eq!(it.set_other("b").unwrap_err(), Refusal::InvalidExtension);
+    assert_eq!(it.set_private_extension("abc").unwrap_err(), Refusal::InvalidExtension);
+    assert_eq!(it.set_private_extension("x").unwrap_err(), Refusal::InvalidExtension);
+    assert_eq!(it.set_transform_language("r").unwrap_err(), Refusal::InvalidLanguage);
+    assert_eq!(it.set_transform_language("ru-u").unwrap_err(), Refusal::InvalidSubtag);
     assert_eq!(it.to_string(), "fr-t-ru-m0-bgn-x-abc");
     assert!(!it.normalizing_eq("r") && !it.normalizing_eq("fr-u") && it.normalizing_eq("FR-T-RU-M0-BGN-X-ABC"));
 }

@@ -16,6 +16,7 @@ ghost use Rattle.iloc_calls.specs.Answers.{
   TellsSame,
   growth,
 };
+ghost use Rattle.iloc_calls.specs.Faults.{FindsFault};
 ghost use Rattle.iloc_calls.specs.Numbers.{EndsAs, mode_number, number_of, words_of};
 
 mod attributes;
@@ -30,7 +31,7 @@ mod whole;
 use std::alloc::Global;
 
 /// The version of the header that this library was made for.
-pub const VERSION: u32 = 4;
+pub const VERSION: u32 = 5;
 
 /// Writes the normal text of what the text means into the buffer, and its length to `needed`.
 ///
@@ -60,6 +61,22 @@ pub extern "C" fn icu_locale_check(alloc: Global, mode: u32, text: &[u8]) -> u32
     ensures unknown { 2 < mode → result ≡ number_of Status.UnknownNumber }
 {
     iloc_calls::check(alloc, mode, text)
+}
+
+/// Why the text is refused, and the place of its fault; of another text nothing is written.
+#[unsafe(no_mangle)]
+pub extern "C" fn icu_locale_find_fault(
+    mode: u32,
+    text: &[u8],
+    start: &mut usize,
+    end: &mut usize,
+) -> u32
+    ensures known { (m : Mode) → mode ≡ mode_number m
+        → EndsAs (FindsFault m text.now (start.old, end.old) (start.new, end.new)) result }
+    ensures unknown { 2 < mode → (result ≡ number_of Status.UnknownNumber)
+        × (start.new ≡ start.old) × (end.new ≡ end.old) }
+{
+    iloc_calls::find_fault(mode, text, start, end)
 }
 
 /// Writes the byte order of the normal text against other bytes, as -1, 0 or 1.

@@ -2,3 +2,4 @@ pub mod AnswerLemmas
 pub mod Lengths
 pub mod Bounds
 pub mod HandedLemmas
+pub mod FaultLemmas

@@ -23,6 +23,7 @@ ghost use Rattle.iloc_calls.specs.Numbers.{EndsAs, mode_number, number_of, words
 mod answers;
 mod comparing;
 mod data;
+mod faults;
 mod filling;
 mod hashing;
 mod same;
@@ -30,6 +31,7 @@ mod status;
 
 use answers::{judge, mode_of};
 pub use comparing::number;
+pub use faults::find_fault;
 pub use filling::{hand_out, hand_out_found, hand_out_none};
 pub use hashing::hash_of_text;
 pub use same::tell_refused;

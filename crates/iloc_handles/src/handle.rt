@@ -70,12 +70,24 @@ impl Handle {
         }
     }
 
-    /// Takes the box out, if there is one.
+    // Whether it has no box. (What a handle owns is not seen through a `&`.)
+    fn is_empty(&mut self) -> bool
+        ensures same { self.new.value ≡ self.old.value }
+        ensures empty { IsTrue result ↔ (self.old.value ≡ None) }
+    {
+        self.at.is_null()
+    }
+
+    /// Takes the box out, if there is one. If there is none, nothing is written: the handle may stand where nothing can
+    /// be.
     pub fn take(&mut self, alloc: Global) -> Option<Box<Locale, Global>>
         ensures left { self.new.value ≡ None }
         ensures none { IfNone result (self.old.value ≡ None) }
         ensures some { IfSome result (λ boxed. self.old.value ≡ Some boxed.value) }
     {
+        if self.is_empty() {
+            return None;
+        }
         replace(self, Handle::empty()).into_box(alloc)
     }
 

@@ -1,12 +1,12 @@
 //! Refuses each request of the library for memory in turn, for `tools/try_bindings`.
 //!
-//! A call that returns a `Result` then returns `Refusal::OutOfMemory`, changes nothing, and leaves no block behind. Any
+//! A call that returns a `Result` then returns an error of the kind `Refusal::OutOfMemory`, changes nothing, and leaves no block behind. Any
 //! other call ends the process as the collections of the standard library do, so it is tried in a process of its own:
 //! `refused NAME NUMBER` grants so many requests. The last line is the number of cases.
 
 use icu_locale_c::extensions::unicode::{Attribute, Key, Value};
 use icu_locale_c::subtags::{Language, Region, Script, Variant};
-use icu_locale_c::{check, compare, normalize, normalizing_eq, strict_cmp, Locale, Mode, Refusal};
+use icu_locale_c::{check, compare, normalize, normalizing_eq, strict_cmp, Locale, Mode, ParseError, Refusal};
 use std::env;
 use std::os::raw::c_long;
 use std::os::unix::process::ExitStatusExt;
@@ -47,7 +47,7 @@ fn locale(text: &str) -> Locale {
     text.parse().expect("it is a locale")
 }
 
-type Trying = fn(&mut Locale) -> Result<(), Refusal>;
+type Trying = fn(&mut Locale) -> Result<(), ParseError>;
 
 /// The calls that return why they are refused.
 const TRYING: &[Trying] = &[
@@ -86,7 +86,7 @@ struct Parts {
 }
 
 impl Parts {
-    fn parsed() -> Result<Self, Refusal> {
+    fn parsed() -> Result<Self, ParseError> {
         Ok(Parts {
             region: Some("US".parse()?),
             variant: "posix".parse()?,
@@ -123,7 +123,8 @@ fn try_each(start: &str, call: Trying) -> usize {
         let told = call(&mut it);
         let was_refused = is_refused();
         grant(-1);
-        assert_eq!(told, if was_refused { Err(Refusal::OutOfMemory) } else { Ok(()) });
+        let kind = told.map_err(|it| it.kind());
+        assert_eq!(kind, if was_refused { Err(Refusal::OutOfMemory) } else { Ok(()) });
         if !was_refused {
             return granted as usize + 1;
         }
