@@ -53,3 +53,7 @@ abbrev pub IsEntry : Mode → Listing → ℕ → Text → Text → Type 0
 IsEntry mode l n line t =
     ((normal : Text) × IsNormalText languages mode line normal × (t ≡ accepted_entry l normal))
     ⊎ ((f : Fault) × IsFault mode line f × (t ≡ refused_entry l n line f))
+
+-- The listing for which nothing is asked.
+abbrev pub nothing_asked : Listing
+nothing_asked = record { places = false; numbers = false; only_refused = false }

@@ -3,7 +3,8 @@
 //!
 //! It promises that what `run_listed` writes is the listing of what it reads: for each line its entry, as
 //! `specs/Listing.antt` defines it in the words of the grammar. After `Ok` all is read and all is written; after an error
-//! the entries of the first lines are written, or a beginning of them.
+//! the entries of the first lines are written, or a beginning of them. An input has one listing, and without options that
+//! is the output of `iloc_program::run` (`laws`).
 //!
 //! It stands on the loop over numbered lines (`iloc_numbered`), on the answers of `iloc_program`, and on `fault_of` of
 //! `iloc_faults`. Each line is read twice, so that it takes longer than `iloc_program::run`.
@@ -14,6 +15,7 @@ ghost use Rattle.iloc_numbered.specs.Numbered.{ListsAll, ListsBeginning};
 ghost use Rattle.iloc_listing.specs.Listing.{IsEntry};
 
 mod entries;
+pub mod laws;
 mod quoting;
 
 use crate::entries::Listed;
