@@ -12,7 +12,7 @@ use Rattle.iloc_faults.specs.declared.Fault.{Fault}
 use Rattle.iloc_lines.specs.Answers.{reply}
 use Rattle.iloc_lines.proofs.PlainLemmas.{normal_reply}
 use Rattle.iloc_numbered.specs.declared.Listing.{Listing}
-use Rattle.iloc_numbered.specs.Numbered.{Adds}
+use Rattle.iloc_numbered.specs.Numbered.{AddsText}
 use Rattle.iloc_listing.specs.Listing.{IsEntry, accepted_entry, refused_entry}
 
 -- what means something has a normal text
@@ -22,7 +22,7 @@ normal_of Locale t (M, m) = (text M, (M, m, refl))
 normal_of Data t (d, m) = (data_text d, (d, m, refl))
 
 module _ (mode : Mode) (l : Listing) (n : ℕ) (line old : List ℕ) where
-  pub left_out : IsAccepted mode line → l.only_refused ≡ true → Adds (IsEntry mode l n line) old old
+  pub left_out : IsAccepted mode line → l.only_refused ≡ true → AddsText (IsEntry mode l n line) old old
   left_out accepted only =
       let normal = normal_of mode line accepted in (
         accepted_entry l normal.0,
@@ -30,7 +30,7 @@ module _ (mode : Mode) (l : Listing) (n : ℕ) (line old : List ℕ) where
         rw only (sym (append-nil old)),
       )
 
-  pub replied : (new : List ℕ) → IsAccepted mode line → l.only_refused ≡ false → new ≡ old ++ reply languages mode line → Adds (IsEntry mode l n line) old new
+  pub replied : (new : List ℕ) → IsAccepted mode line → l.only_refused ≡ false → new ≡ old ++ reply languages mode line → AddsText (IsEntry mode l n line) old new
   replied new accepted all e =
       let normal = normal_of mode line accepted in (
         accepted_entry l normal.0,
@@ -38,5 +38,5 @@ module _ (mode : Mode) (l : Listing) (n : ℕ) (line old : List ℕ) where
         e ∙ ap (λ (t : List ℕ). old ++ t) (sym (normal_reply mode line normal.0 normal.1)) ∙ rw all refl,
       )
 
-  pub refused : (f : Fault) (new : List ℕ) → IsFault mode line f → new ≡ old ++ refused_entry l n line f → Adds (IsEntry mode l n line) old new
+  pub refused : (f : Fault) (new : List ℕ) → IsFault mode line f → new ≡ old ++ refused_entry l n line f → AddsText (IsEntry mode l n line) old new
   refused f new is e = (refused_entry l n line f, inr (f, is, refl), e)
