@@ -4,6 +4,7 @@ use iloc_listing::{Listing, Mode, RunError, run_listed};
 use std::alloc::Global;
 
 // What is listed, the number of its first line, and what is written.
+#[derive(Clone, Copy)]
 struct Sample {
     mode: Mode,
     listing: Listing,
