@@ -79,24 +79,28 @@ export function wordsOf(code) {
 }
 
 function frozen(it) {
-  if (typeof it === 'object' && it !== null) Object.values(it).forEach(frozen);
-  return Object.freeze(it);
+  if (typeof it === 'object' && it !== null && !Object.isFrozen(it)) Object.values(Object.freeze(it)).forEach(frozen);
+  return it;
 }
 
 /** A locale, a language identifier or a data locale that does not change. */
 export class Locale {
-  #parts;
   #normal;
   #mode;
+  #found; // its parts, once they were asked for
   constructor(text, mode = 'locale') {
     this.#normal = text instanceof Locale && text.#mode === mode ? text.#normal : normalize(text instanceof Locale ? text.#normal : text, mode);
     this.#mode = mode;
     Object.freeze(this);
   }
 
+  get #parts() {
+    return this.#found ??= partsOfNormal(this.#normal);
+  }
+
   /** All parts, which do not change either. */
   get parts() {
-    return this.#parts ??= frozen(partsOfNormal(this.#normal));
+    return frozen(this.#parts);
   }
 
   get mode() {
@@ -104,23 +108,23 @@ export class Locale {
   }
 
   get language() {
-    return this.parts.language;
+    return this.#parts.language;
   }
 
   get script() {
-    return this.parts.script || undefined;
+    return this.#parts.script || undefined;
   }
 
   get region() {
-    return this.parts.region || undefined;
+    return this.#parts.region || undefined;
   }
 
   get variants() {
-    return this.parts.variants.join('-') || undefined;
+    return this.#parts.variants.join('-') || undefined;
   }
 
   get baseName() {
-    const { language, script, region, variants } = this.parts;
+    const { language, script, region, variants } = this.#parts;
     return [language, script, region, ...variants].filter(Boolean).join('-');
   }
 
@@ -145,31 +149,31 @@ export class Locale {
   }
 
   get calendar() {
-    return this.keywords.ca;
+    return this.#parts.keywords.ca;
   }
 
   get caseFirst() {
-    return this.keywords.kf;
+    return this.#parts.keywords.kf;
   }
 
   get collation() {
-    return this.keywords.co;
+    return this.#parts.keywords.co;
   }
 
   get firstDayOfWeek() {
-    return this.keywords.fw;
+    return this.#parts.keywords.fw;
   }
 
   get hourCycle() {
-    return this.keywords.hc;
+    return this.#parts.keywords.hc;
   }
 
   get numberingSystem() {
-    return this.keywords.nu;
+    return this.#parts.keywords.nu;
   }
 
   get numeric() {
-    return this.keywords.kn === '';
+    return this.#parts.keywords.kn === '';
   }
 
   /** Whether it is of the same mode and means the same as another one, or as a text. */
