@@ -41,7 +41,7 @@
 //! | `write_to_string`, `to_string_or_borrow`, `Locale::normalizing_eq`, `push`, `push_subtag`, `insert`, `try_insert`, `set`, `extend` and its kin, `union`, `new_double`, `from_iter`, `from_pairs`, `from_subtags`, `from_two_subtags`, `to_value`, `unicode_extension_value`, `to_locale`, `write_text`, `carry_v1` | taken; running out of memory is `AllocError`, or the refusal `OutOfMemory` |
 //! | `Locale::unknown`, `new` of `LiteMap`, `Fields`, `Transform` and `Extensions`, `from_langid`, `from_language`, `from_script`, `from_region`, `from_parts`, `from_unicode`, `into_locale`, `Fields::clear` | taken and kept: these allocate nothing |
 //! | `clone` of what may own memory | not taken: the value's own; running out of memory is `AllocError` |
-//! | subtags, data locales, `try_from_utf8_with_single_variant` and its kin, look-ups, removals, `retain`, iterators, comparisons, orders, hashes, `write_to` | none: these allocate nothing |
+//! | subtags, data locales, `try_from_utf8_with_single_variant` and its kin, look-ups, removals, `truncate_to_parent`, `retain`, iterators, comparisons, orders, hashes, `write_to` | none: these allocate nothing |
 //!
 //! In the Rust crate some of these modules are private, and `tinystr`, `writeable` and `litemap` are crates.
 #![tactic(auto)]
@@ -101,7 +101,7 @@ pub mod faults {
 /// Language identifiers.
 pub mod langid {
     pub use crate::together::identifiers as together;
-    pub use iloc_langid::{LanguageIdentifier, equality, hashes, orders};
+    pub use iloc_langid::{LanguageIdentifier, equality, fallback_chain, hashes, orders};
 }
 
 /// All extensions of a locale.
@@ -161,7 +161,7 @@ pub mod locale {
 /// Data locales: the parts of a locale by which data is looked up.
 pub mod data {
     pub use crate::together::data_locales as together;
-    pub use iloc_data::DataLocale;
+    pub use iloc_data::{DataLocale, fallback_chain};
 }
 
 /// What a locale prefers, and the keywords that say so.
