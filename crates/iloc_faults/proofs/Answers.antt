@@ -1,13 +1,13 @@
 -- The verdict, found piece by piece, says whether a text is accepted, and the fault of an identifier or a locale.
-use Rattle.std.proofs.Common.{◌≡◌, ◌≢◌, inl, inr, ℕ, Bool, true, false, not, cond, List, [], ◌∷◌, Option, Some, None, Result, Ok, Err, MatchResult, refl, sym, ap, ◌∙◌, subst, true≢false, ◌↔◌}
-use Rattle.iloc_spec_grammar.specs.Syntax.{Text, Language, languages, is_word, pieces, head, tail_blocks, first_piece, front, blocks, Identifier}
+use Rattle.std.proofs.Common.{◌≡◌, ◌≢◌, Bool, true, false, not, cond, List, [], ◌∷◌, Option, Some, None, Result, Ok, Err, MatchResult, refl, sym, ap, ◌∙◌, subst, true≢false, ◌↔◌}
+use Rattle.iloc_spec_grammar.specs.Syntax.{Text, Language, languages, is_word, pieces, head, tail_blocks, front, blocks, Identifier}
 use Rattle.iloc_spec_grammar.specs.Meaning.{Fault, Means, IdentifierMeans, HasFault, HasIdentifierFault, InvalidLanguage, InvalidSubtag}
 use Rattle.iloc_spec_grammar.specs.Tree.{meaning}
 use Rattle.iloc_spec_grammar.specs.Reading.{identifier_of, written_of}
 use Rattle.iloc_spec_grammar.specs.Computing.{identifier_result, locale_result, is_identifier, first_fault, unless_fault}
 use Rattle.iloc_spec_grammar.proofs.RawLaws.{languages_table}
 use Rattle.iloc_spec_grammar.proofs.PiecesLaws.{at_pieces}
-use Rattle.iloc_spec_grammar.proofs.ComputingLaws.{locale_answers, computed_means, computed_fault, computed_identifier, computed_identifier_fault, text_identifier_answers}
+use Rattle.iloc_spec_grammar.proofs.ComputingLaws.{locale_answers, computed_means, computed_identifier, text_identifier_answers}
 use Rattle.iloc_spec_parts.specs.SmallComputing.{small_result, after_identifier, small_identifier_result}
 use Rattle.iloc_spec_preferences.specs.DataLocales.{DataMeans, HasDataFault}
 use Rattle.iloc_spec_preferences.specs.DataComputing.{data_of_result, data_result}

@@ -1,10 +1,10 @@
 -- The bits of singletons, and what else the reader knows of bytes.
-use Rattle.std.proofs.Common.{◌≡◌, ◌≢◌, ◌↔◌, inl, inr, ℕ, ◌+◌, ◌*◌, ◌-◌, ◌<◌, ◌≤◌, ◌^◌, Bool, true, false, ◌==◌, ◌||◌, ◌&&◌, List, [], ◌∷◌, length, get_or, take, drop, Result, Ok, Err, Option, Some, None, IfSome, codes, nat_lt, max, refl, sym, ap, ap₂, ◌∙◌, subst, arith, true≢false, is_some, if◌then◌else◌}
+use Rattle.std.proofs.Common.{◌≡◌, ◌≢◌, inl, inr, ℕ, ◌+◌, ◌*◌, ◌-◌, ◌<◌, ◌≤◌, ◌^◌, Bool, true, false, ◌==◌, ◌||◌, ◌&&◌, List, [], ◌∷◌, length, get_or, take, drop, Result, Ok, Err, Option, Some, None, IfSome, codes, max, refl, sym, ap, ap₂, ◌∙◌, arith, true≢false, is_some}
 use Rattle.std.specs.Char.{is_ascii_alphanumeric, to_ascii_lowercase}
 use Rattle.std.specs.Ordering.{nat_cmp, eq_by_cmp}
 use Rattle.std.specs.Int.{bit_at}
 use lib.Bits.{bit_and, bit_or}
-use Rattle.std.proofs.lemmas.Bool.{cases_Bool, false_from_ne_true, eqb-true, eq-eqb, and_from, or_cases, or_left, or_right, or_parts, cases_eq, and_parts}
+use Rattle.std.proofs.lemmas.Bool.{cases_Bool, false_from_ne_true, eqb-true, eq-eqb, and_from, or_cases, or_left, or_right, cases_eq, and_parts}
 use Rattle.std.proofs.lemmas.Bool.Decides.{nat_tests}
 use Rattle.std.proofs.lemmas.Nat.Bits.{and_pow, bit_at_or, bit_at-pow_same, bit_at-pow_other, bit_at-zero}
 use Rattle.iloc_spec_grammar.specs.Syntax.{Text, languages, Language, Variant, UnicodeKey, TransformKey, Attribute, PrivateSubtag, Subtag, is_word, lower, is_same, read}
@@ -13,7 +13,7 @@ use Rattle.iloc_spec_grammar.proofs.WellRead.{attribute_is_word}
 use Rattle.iloc_spec_preferences.specs.DataLocales.{named_subdivision}
 use Rattle.iloc_spec_grammar.proofs.MapLaws.{same_itself, same_is}
 use Rattle.iloc_spec_grammar.proofs.WordsLaws.{length-lower}
-use Rattle.iloc_spec_grammar.proofs.Singletons.{tied, untied, self_tied}
+use Rattle.iloc_spec_grammar.proofs.Singletons.{untied, self_tied}
 use Rattle.iloc_pieces.specs.Left.{IsRemainder, IsShortPiece, piece_left}
 use Rattle.iloc_pieces.specs.declared.left.Left.{Left}
 use Rattle.iloc_pieces.proofs.LeftLemmas.{short_language, short_key, short_field_key, short_attribute, short_private, between_short, piece_inside, piece_byte, short_bytes, length_piece}

@@ -1,22 +1,20 @@
 -- What the fault of the rest of a locale is, by what was read last: that of the rules of the grammar.
-use Rattle.std.proofs.Common.{◌≡◌, inl, inr, ℕ, suc, Bool, true, false, not, cond, ◌&&◌, ◌||◌, ◌==◌, List, [], ◌∷◌, ◌++◌, length, Option, Some, None, MatchOption, nat_lt, refl, sym, ap, ap₂, ◌∙◌, arith, true≢false, append-nil}
-use Rattle.std.specs.List.{list_any, list_all}
+use Rattle.std.proofs.Common.{◌≡◌, ℕ, Bool, true, false, not, cond, ◌&&◌, ◌||◌, ◌==◌, List, [], ◌∷◌, length, Option, Some, None, nat_lt, refl, ◌∙◌}
+use Rattle.std.specs.List.{list_all}
 use Rattle.std.specs.Char.{is_ascii_alphanumeric, to_ascii_lowercase}
-use Rattle.std.specs.Ordering.{nat_cmp, eq_by_cmp}
-use Rattle.std.proofs.lemmas.Bool.{cases_Bool, and_parts, not-true, or_parts}
-use Rattle.iloc_spec_grammar.specs.Syntax.{Text, Block, code_t, code_u, code_x, Language, Variant, UnicodeKey, TransformKey, Attribute, Subtag, PrivateSubtag, languages, is_word, word_cmp, lower_singleton, is_one_byte, is_other_singleton, front, blocks}
-use Rattle.iloc_spec_grammar.specs.Meaning.{Fault, InvalidLanguage, InvalidSubtag, InvalidExtension, DuplicatedExtension}
-use Rattle.iloc_spec_grammar.specs.Reading.{unicode_of, transform_of}
+use Rattle.std.proofs.lemmas.Bool.{and_parts, not-true, or_parts}
+use Rattle.iloc_spec_grammar.specs.Syntax.{Text, Block, code_t, code_x, PrivateSubtag, languages, is_word, word_cmp, lower_singleton, is_other_singleton, front, blocks}
+use Rattle.iloc_spec_grammar.specs.Meaning.{Fault, InvalidSubtag, InvalidExtension, DuplicatedExtension}
+use Rattle.iloc_spec_grammar.specs.Reading.{transform_of}
 use Rattle.iloc_spec_grammar.specs.Computing.{all_different, is_transform, is_other, is_private, is_block, first_fault, repeats_variant}
-use Rattle.iloc_spec_grammar.proofs.Singletons.{IsKind, of_u, of_t, of_x, another, kind_of, two_more, lower_letter}
+use Rattle.iloc_spec_grammar.proofs.Singletons.{IsKind, of_u, of_t, of_x, another, kind_of, lower_letter}
 use Rattle.iloc_told.specs.declared.Mode.TheVariants.{Locale}
 use Rattle.iloc_faults.specs.declared.state.Part.{Part}
 use Rattle.iloc_faults.specs.declared.state.Part.TheVariants.{Head, Transform, Source, FieldKey, FieldValue, Unicode, Keyword, Other, OtherWord, Private, PrivateWord}
 use Rattle.iloc_faults.specs.declared.state.Stage.{Stage}
-use Rattle.iloc_faults.specs.declared.state.Stage.TheVariants as stages
-use Rattle.iloc_faults.specs.Next.{Reached, plain, may_end, takes_any, part_of, is_seen, word_next, on_next, verdict}
-use Rattle.iloc_faults.proofs.Words.{good, repeats, good_after, repeats_after, good_end, single_next, no_next, word_step}
-use Rattle.iloc_faults.proofs.Bodies.{and_true, one_is_some, of_unicode, unicode_is, has_length, other_is, after_value, after_key, after_value_is, after_key_is, after_word, key_no_attribute, key_no_language, key_no_script, key_no_region, key_no_variant, transform_none, repeats_none, transform_is, repeats_is}
+use Rattle.iloc_faults.specs.Next.{Reached, plain, may_end, takes_any, part_of, is_seen, verdict}
+use Rattle.iloc_faults.proofs.Words.{good, repeats, good_end}
+use Rattle.iloc_faults.proofs.Bodies.{and_true, of_unicode, unicode_is, has_length, after_value, after_key, after_word, repeats_none}
 
 -- the fault of the blocks that follow, if the block is good
 abbrev pub block_answer : Bool → List ℕ → List Text → Option Fault

@@ -1,8 +1,8 @@
 -- A data locale is accepted piece by piece exactly if the definitions accept it.
-use Rattle.std.proofs.Common.{◌≡◌, inl, inr, ℕ, zero, suc, ◌+◌, ◌≤◌, ◌<◌, Bool, true, false, not, cond, ◌&&◌, ◌||◌, ◌==◌, nat_le, List, [], ◌∷◌, ◌++◌, length, map, Option, Some, None, MatchOption, is_some, option_map, option_and_then, codes, Result, Ok, Err, ok_or, refl, sym, ap, ap₂, ◌∙◌, subst, arith, true≢false}
+use Rattle.std.proofs.Common.{◌≡◌, inl, inr, ℕ, zero, suc, ◌+◌, ◌≤◌, ◌<◌, Bool, true, false, cond, ◌&&◌, ◌==◌, nat_le, List, [], ◌∷◌, length, Option, Some, None, MatchOption, is_some, option_and_then, codes, Result, Ok, Err, refl, sym, ap, ◌∙◌, arith}
 use Rattle.std.specs.List.{list_all}
 use Rattle.std.specs.Char.{to_ascii_lowercase}
-use Rattle.std.proofs.lemmas.Bool.{cases_Bool, and_right, and_left, lt-leb, le-leb, eqb-true}
+use Rattle.std.proofs.lemmas.Bool.{cases_Bool, and_right, lt-leb, le-leb, eqb-true}
 use Rattle.iloc_spec_grammar.specs.Syntax.{Text, Block, code_u, code_x, Language, Variant, UnicodeKey, Attribute, languages, is_word, IsWord, lower, is_same, is_true, is_one_byte, front, blocks}
 use Rattle.iloc_spec_grammar.specs.Syntax as kinds
 use Rattle.iloc_spec_grammar.specs.Meaning.{Fault, normal_values}
@@ -10,16 +10,16 @@ use Rattle.iloc_spec_grammar.specs.Reading.{first_item, identifier_of}
 use Rattle.iloc_spec_grammar.proofs.Singletons.{two_more}
 use Rattle.iloc_spec_grammar.proofs.MapLaws.{same_is}
 use Rattle.iloc_spec_grammar.proofs.WordsLaws.{is_word-lower}
-use Rattle.iloc_spec_parts.specs.Small.{SmallIdentifier, SmallLocale}
+use Rattle.iloc_spec_parts.specs.Small.{SmallIdentifier}
 use Rattle.iloc_spec_parts.specs.SmallComputing.{is_u, has_small_keyword, is_small_block, keyword_read, small_identifier, small_identifier_result, blocks_result, after_identifier, has_small_variants}
-use Rattle.iloc_spec_preferences.specs.DataLocales.{DataLocale, named_subdivision, data_of_small, small_part}
+use Rattle.iloc_spec_preferences.specs.DataLocales.{named_subdivision}
 use Rattle.iloc_spec_preferences.specs.DataComputing.{data_of_result}
 use Rattle.iloc_told.specs.declared.Mode.TheVariants.{Data}
 use Rattle.iloc_faults.specs.declared.state.Part.TheVariants.{Head, Subdivision, SubdivisionKey, SubdivisionValue}
 use Rattle.iloc_faults.specs.declared.state.Stage.{Stage}
 use Rattle.iloc_faults.specs.declared.state.Stage.TheVariants as stages
 use Rattle.iloc_faults.specs.Next.{plain, started, after_region_next, after_script_next, word_next, verdict}
-use Rattle.iloc_faults.proofs.Words.{tail, single_next}
+use Rattle.iloc_faults.proofs.Words.{tail}
 use Rattle.iloc_faults.proofs.Bodies.{and_assoc, and_true}
 use Rattle.iloc_faults.proofs.Claims.{in_words}
 

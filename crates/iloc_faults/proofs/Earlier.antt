@@ -1,15 +1,15 @@
 -- The variants before a piece, walked over again.
-use Rattle.std.proofs.Common.{◌≡◌, ◌≢◌, inl, inr, ℕ, ◌+◌, ◌<◌, ◌≤◌, Bool, true, false, ◌||◌, List, [], ◌∷◌, ◌++◌, length, map, refl, sym, ap, ◌∙◌, subst, arith, append_assoc, append-nil, length-append}
-use Rattle.std.specs.List.{AllByRecursion, list_any}
+use Rattle.std.proofs.Common.{◌≡◌, ◌≢◌, ◌<◌, ◌≤◌, true, false, List, [], ◌∷◌, ◌++◌, length, map, refl, sym, ap, ◌∙◌, subst, arith, append_assoc, append-nil, length-append}
+use Rattle.std.specs.List.{list_any}
 use Rattle.std.specs.Ordering.{nat_cmp, eq_by_cmp, is_eq}
 use Rattle.std.proofs.lemmas.Bool.{or_from, or_right, or_left}
-use Rattle.std.proofs.lemmas.List.{map-append, append_cancel_left}
+use Rattle.std.proofs.lemmas.List.{map-append}
 use Rattle.std.proofs.lemmas.List.Folds.{list_any-append}
-use Rattle.iloc_spec_grammar.specs.Syntax.{Text, pieces, join, first_piece, Variant, IsWord, lower, word_cmp}
+use Rattle.iloc_spec_grammar.specs.Syntax.{Text, join, first_piece, Variant, IsWord, lower, word_cmp}
 use Rattle.iloc_spec_grammar.proofs.PiecesLaws.{join-pieces, pieces_nonempty}
 use Rattle.iloc_spec_grammar.proofs.Singletons.{self_tied, untied}
-use Rattle.iloc_fronts.specs.Words.{IsUpToEight, word_number}
-use Rattle.iloc_pieces.specs.Left.{IsRemainder, IsNextPiece, IsShortPiece, IsEnd, piece_left, pieces_left, bytes_left}
+use Rattle.iloc_fronts.specs.Words.{word_number}
+use Rattle.iloc_pieces.specs.Left.{IsRemainder, IsNextPiece, IsShortPiece, piece_left, pieces_left, bytes_left}
 use Rattle.iloc_pieces.specs.declared.left.Left.{Left}
 use Rattle.iloc_pieces.proofs.LeftLemmas.{cut_after, length_rest, last_piece, short_variant}
 use Rattle.iloc_pieces.proofs.WordNumbers.{variant_fits, word_order}

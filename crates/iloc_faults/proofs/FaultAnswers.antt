@@ -1,12 +1,12 @@
 -- What the walk says, in the words of the definitions.
-use Rattle.std.proofs.Common.{◌≡◌, ◌≢◌, ◌↔◌, ◌⊎◌, inl, inr, ℕ, ◌+◌, ◌≤◌, true, false, List, [], ◌∷◌, ◌++◌, length, Option, Some, None, IfSome, Result, Ok, Err, refl, sym, ap, ◌∙◌, subst, arith, length-append, true≢false}
+use Rattle.std.proofs.Common.{◌≡◌, ◌≢◌, ◌↔◌, inl, inr, ℕ, ◌≤◌, ◌∷◌, ◌++◌, length, Option, Some, None, IfSome, Result, Ok, Err, refl, sym, ap, ◌∙◌, subst, arith, length-append, true≢false}
 use Rattle.std.proofs.lemmas.List.Concat.{flat_map-append}
 use Rattle.iloc_spec_grammar.specs.Syntax.{Text, pieces, join, dashes, languages}
 use Rattle.iloc_spec_grammar.specs.Meaning as grammar
 use Rattle.iloc_spec_grammar.proofs.PiecesLaws.{at_pieces, join-pieces}
 use Rattle.iloc_spec_grammar.proofs.PartTexts.{join-dashes}
 use Rattle.iloc_spec_grammar.proofs.RawLaws.{languages_table}
-use Rattle.iloc_spec_preferences.specs.DataLocales.{DataMeans, HasDataFault}
+use Rattle.iloc_spec_preferences.specs.DataLocales.{HasDataFault}
 use Rattle.iloc_spec_preferences.proofs.DataLaws.{data_apart}
 use Rattle.iloc_subtags.specs.declared.parse_error.ParseError.{ParseError}
 use Rattle.iloc_subtags.specs.declared.parse_error.ParseError.TheVariants.{InvalidLanguage, InvalidSubtag, InvalidExtension, DuplicatedExtension, OutOfMemory}
@@ -19,7 +19,7 @@ use Rattle.iloc_told.specs.declared.Mode.{Mode}
 use Rattle.iloc_told.specs.declared.Mode.TheVariants.{Data}
 use Rattle.iloc_faults.specs.declared.Fault.{Fault}
 use Rattle.iloc_faults.specs.Next.{started, verdict}
-use Rattle.iloc_faults.specs.Places.{IsAccepted, IsPlace, IsFault, StandsAtPiece}
+use Rattle.iloc_faults.specs.Places.{IsAccepted, IsPlace, IsFault}
 use Rattle.iloc_faults.specs.States.{IsFound}
 use Rattle.iloc_faults.proofs.DataSteps.{fine}
 use Rattle.iloc_faults.proofs.Answers.{accepted_is, faulty_is}

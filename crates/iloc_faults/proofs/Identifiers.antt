@@ -1,10 +1,10 @@
 -- The fault of an identifier, found piece by piece, is that of the grammar.
-use Rattle.std.proofs.Common.{◌≡◌, inl, inr, ℕ, Bool, true, false, not, cond, ◌&&◌, List, [], ◌∷◌, ◌++◌, Option, Some, None, MatchOption, refl, sym, ap, ◌∙◌}
+use Rattle.std.proofs.Common.{◌≡◌, inl, inr, Bool, true, false, not, cond, ◌&&◌, List, [], ◌∷◌, Option, Some, None, MatchOption, refl, sym, ◌∙◌}
 use Rattle.std.specs.List.{list_any}
 use Rattle.std.specs.Ordering.{eq_by_cmp}
 use Rattle.std.proofs.lemmas.Bool.{cases_Bool}
 use Rattle.iloc_spec_grammar.specs.Syntax.{Text, Language, languages, is_word, word_cmp, is_one_byte}
-use Rattle.iloc_spec_grammar.specs.Meaning.{Fault, InvalidLanguage, InvalidSubtag}
+use Rattle.iloc_spec_grammar.specs.Meaning.{InvalidLanguage, InvalidSubtag}
 use Rattle.iloc_spec_grammar.specs.Reading.{identifier_of}
 use Rattle.iloc_spec_grammar.specs.Computing.{is_identifier}
 use Rattle.iloc_told.specs.declared.Mode.TheVariants.{Langid}

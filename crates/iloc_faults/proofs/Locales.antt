@@ -1,22 +1,20 @@
 -- The fault of a locale, found piece by piece, is that of the grammar.
-use Rattle.std.proofs.Common.{◌≡◌, inl, inr, ℕ, suc, Bool, true, false, not, cond, ◌&&◌, ◌||◌, ◌==◌, List, [], ◌∷◌, ◌++◌, length, map, Option, Some, None, MatchOption, option_map, nat_lt, refl, sym, ap, ap₂, ◌∙◌, subst, arith, true≢false, append-nil}
+use Rattle.std.proofs.Common.{◌≡◌, inl, inr, ℕ, Bool, true, false, not, cond, ◌&&◌, List, [], ◌∷◌, length, Option, Some, None, MatchOption, nat_lt, refl, ap, ◌∙◌}
 use Rattle.std.specs.List.{list_any, list_all}
 use Rattle.std.specs.Ordering.{eq_by_cmp}
 use Rattle.std.proofs.lemmas.Bool.{cases_Bool}
-use Rattle.iloc_spec_grammar.specs.Syntax.{Text, code_t, Language, Variant, UnicodeKey, TransformKey, Attribute, Subtag, PrivateSubtag, languages, is_word, word_cmp, is_one_byte, front, blocks}
-use Rattle.iloc_spec_grammar.specs.Syntax as kinds
-use Rattle.iloc_spec_grammar.specs.Meaning.{Fault, InvalidLanguage, InvalidSubtag, InvalidExtension, DuplicatedExtension}
-use Rattle.iloc_spec_grammar.specs.Reading.{unicode_of, transform_of, identifier_of}
-use Rattle.iloc_spec_grammar.specs.Computing.{all_different, is_transform, is_other, is_private, is_identifier, is_field, first_fault, repeats_variant}
+use Rattle.iloc_spec_grammar.specs.Syntax.{Text, Language, Variant, TransformKey, Attribute, Subtag, PrivateSubtag, languages, is_word, word_cmp, is_one_byte, front, blocks}
+use Rattle.iloc_spec_grammar.specs.Meaning.{Fault, InvalidLanguage, InvalidSubtag, InvalidExtension}
+use Rattle.iloc_spec_grammar.specs.Reading.{transform_of, identifier_of}
+use Rattle.iloc_spec_grammar.specs.Computing.{is_transform, is_other, is_private, is_identifier, is_field, first_fault, repeats_variant}
 use Rattle.iloc_spec_grammar.proofs.Singletons.{two_more}
 use Rattle.iloc_told.specs.declared.Mode.TheVariants.{Locale}
-use Rattle.iloc_faults.specs.declared.state.Part.{Part}
 use Rattle.iloc_faults.specs.declared.state.Part.TheVariants.{Head, Transform, Source, FieldKey, FieldValue, Unicode, Keyword, Other, OtherWord, Private, PrivateWord}
 use Rattle.iloc_faults.specs.declared.state.Stage.{Stage}
 use Rattle.iloc_faults.specs.declared.state.Stage.TheVariants as stages
 use Rattle.iloc_faults.specs.Next.{Reached, plain, started, word_next, on_next, verdict, refusal}
-use Rattle.iloc_faults.proofs.Words.{good, repeats, good_after, repeats_after, good_end, single_next, no_next, word_step}
-use Rattle.iloc_faults.proofs.Bodies.{and_true, one_is_some, of_unicode, has_length, other_is, values, fields, after_value, after_key, after_value_is, after_key_is, after_word, field_is, key_no_attribute, key_no_language, key_no_script, key_no_region, key_no_variant, transform_none, repeats_none, transform_is, repeats_is, identifier_is}
+use Rattle.iloc_faults.proofs.Words.{good, repeats, good_after, repeats_after, good_end, no_next, word_step}
+use Rattle.iloc_faults.proofs.Bodies.{and_true, one_is_some, of_unicode, has_length, other_is, values, fields, after_value, after_key, after_value_is, after_key_is, after_word, field_is, key_no_language, key_no_script, key_no_region, key_no_variant, transform_is, repeats_is, identifier_is}
 use Rattle.iloc_faults.proofs.Claims.{Claims, block_answer, transform_answer, head_answer, in_words, Differ, at_end, begins}
 
 many : (vs : List Text) (v : Text) → Rattle.iloc_faults.specs.Next.is_new Locale vs v ≡ not (list_any (eq_by_cmp word_cmp v) vs)

@@ -1,6 +1,6 @@
 -- A text has one place of its fault.
 use Rattle.std.proofs.Common.{◌≡◌, ◌⊎◌, inl, inr, ℕ, ◌+◌, List, [], ◌∷◌, ◌++◌, length, refl, sym, ap, ap₂, ◌∙◌, subst, append_assoc}
-use Rattle.iloc_spec_grammar.specs.Syntax.{Text, pieces, dashes}
+use Rattle.iloc_spec_grammar.specs.Syntax.{Text, dashes}
 use Rattle.iloc_told.specs.declared.Mode.{Mode}
 use Rattle.iloc_faults.specs.Places.{GoOn, StandsAtPiece, StandsAtEnd, IsPlace}
 

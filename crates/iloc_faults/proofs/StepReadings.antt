@@ -1,6 +1,6 @@
 -- What the functions of the reader say of one piece more.
-use Rattle.std.proofs.Common.{◌≡◌, ◌≢◌, inl, inr, ℕ, ◌+◌, ◌<◌, ◌≤◌, Bool, true, false, not, cond, ◌&&◌, List, [], ◌∷◌, ◌++◌, length, map, slice_index, true≢false, Option, Some, None, IfSome, option_map, refl, sym, ap, ◌∙◌, subst, arith, append_assoc}
-use Rattle.std.specs.List.{AllByRecursion, list_any}
+use Rattle.std.proofs.Common.{◌≡◌, ◌≢◌, ℕ, Bool, true, false, not, ◌&&◌, List, [], ◌∷◌, ◌++◌, map, slice_index, true≢false, Option, Some, None, IfSome, option_map, refl, sym, ap, ◌∙◌, subst, append_assoc}
+use Rattle.std.specs.List.{list_any}
 use Rattle.std.specs.Ordering.{eq_by_cmp}
 use Rattle.std.specs.Char.{to_ascii_lowercase}
 use Rattle.std.proofs.lemmas.Bool.{ne_eqb, and_parts}
@@ -11,7 +11,7 @@ use Rattle.iloc_spec_grammar.specs.Syntax as kinds
 use Rattle.iloc_spec_grammar.proofs.ReadBack.{all_append}
 use Rattle.iloc_told.specs.declared.Mode.{Mode}
 use Rattle.iloc_told.specs.declared.Mode.TheVariants.{Langid, Locale, Data}
-use Rattle.iloc_pieces.specs.Left.{IsRemainder, IsNextPiece, IsShortPiece, piece_left, pieces_left}
+use Rattle.iloc_pieces.specs.Left.{IsRemainder, IsShortPiece, piece_left, pieces_left}
 use Rattle.iloc_pieces.specs.declared.left.Left.{Left}
 use Rattle.iloc_pieces.proofs.LeftLemmas.{short_variant, short_region, short_script, short_field_key, single_short}
 use Rattle.iloc_faults.specs.declared.state.Part.{Part}
@@ -20,7 +20,7 @@ use Rattle.iloc_faults.specs.declared.state.Stage.{Stage}
 use Rattle.iloc_faults.specs.declared.state.Stage.TheVariants.{Language, Script, Region}
 use Rattle.iloc_faults.specs.declared.state.State.{State}
 use Rattle.iloc_faults.specs.Next.{Reached, plain, is_new, is_seen, when, may_begin, part_of, begins_block, after_region_next, after_script_next, word_next, piece_next, block_next, inside_next, next}
-use Rattle.iloc_faults.specs.States.{AreSeen, IsBefore, AreVariants, IsEarly, HasNone, IsRead, IsReading, IsWordRead, bare, reached}
+use Rattle.iloc_faults.specs.States.{AreSeen, AreVariants, IsEarly, HasNone, IsReading, IsWordRead, bare, reached}
 use Rattle.iloc_faults.proofs.Bits.{language_short, piece_short}
 
 -- ---- whether a variant is new

@@ -1,5 +1,5 @@
 -- What the walk over the pieces of a text says.
-use Rattle.std.proofs.Common.{◌≡◌, ◌≢◌, inl, inr, ℕ, zero, suc, ◌+◌, ◌-◌, ◌<◌, ◌≤◌, Bool, true, false, ◌==◌, List, [], ◌∷◌, ◌++◌, length, get_or, take, drop, Option, Some, None, refl, sym, ap, ◌∙◌, subst, arith, append_assoc, append-nil, length-append, take_all}
+use Rattle.std.proofs.Common.{◌≡◌, ◌≢◌, inl, inr, ℕ, zero, suc, ◌+◌, ◌-◌, ◌<◌, ◌≤◌, true, false, ◌==◌, List, [], ◌∷◌, ◌++◌, length, get_or, take, drop, Option, Some, None, refl, sym, ap, ◌∙◌, arith, append_assoc, append-nil, length-append, take_all}
 use Rattle.std.specs.List.{slice_split, onto_first}
 use Rattle.std.proofs.lemmas.Bool.{eq-eqb, ne_eqb, cases_lt}
 use Rattle.std.proofs.lemmas.List.{get_or-take, get_or-drop}
@@ -8,7 +8,7 @@ use Rattle.iloc_spec_grammar.specs.Syntax.{Text, pieces, dashes, first_piece}
 use Rattle.iloc_spec_grammar.specs.Meaning.{InvalidExtension}
 use Rattle.iloc_spec_grammar.proofs.PiecesLaws.{at_pieces}
 use Rattle.iloc_subtags.specs.Judging.{error_of}
-use Rattle.iloc_pieces.specs.Left.{IsRemainder, IsNextPiece, IsShortPiece, IsEnd, piece_left, pieces_left, bytes_left}
+use Rattle.iloc_pieces.specs.Left.{IsRemainder, IsNextPiece, piece_left, pieces_left, bytes_left}
 use Rattle.iloc_pieces.specs.declared.left.Left.{Left}
 use Rattle.iloc_pieces.proofs.LeftLemmas.{length_rest, next_at, last_piece}
 use Rattle.iloc_told.specs.declared.Mode.{Mode}
@@ -16,7 +16,6 @@ use Rattle.iloc_faults.specs.declared.Fault.{Fault}
 use Rattle.iloc_faults.specs.declared.state.Part.TheVariants.{Start}
 use Rattle.iloc_faults.specs.declared.state.State.{State}
 use Rattle.iloc_faults.specs.Next.{Reached, started, may_end, next, run, refusal, verdict}
-use Rattle.iloc_faults.specs.Places.{GoOn}
 use Rattle.iloc_faults.specs.States.{IsRead, IsReading, IsFound, reached}
 use Rattle.iloc_faults.proofs.Going.{run_append, verdict_run, goes_on, goes_no_longer}
 use Rattle.iloc_faults.proofs.Bits.{none_seen}

@@ -1,5 +1,4 @@
-use Rattle.std.proofs.Common.{◌≡◌, Option, sym, ◌∙◌, subst}
-use Rattle.std.proofs.lemmas.Bool.{not-false, not-true}
+use Rattle.std.proofs.Common.{Option, sym, ◌∙◌, subst}
 use Rattle.iloc_pieces.specs.declared.left.Left.{Left}
 use Rattle.iloc_faults.specs.States.{AreVariants}
 use Rattle.iloc_faults.proofs.StepReadings.{variant_first, variant_more}
