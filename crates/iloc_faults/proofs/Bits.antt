@@ -20,7 +20,7 @@ use Rattle.iloc_pieces.proofs.LeftLemmas.{short_language, short_key, short_field
 use Rattle.iloc_faults.specs.declared.state.Part.{Part}
 use Rattle.iloc_faults.specs.declared.state.Part.TheVariants.{Start, Head, Transform, Source, FieldKey, FieldValue, Unicode, Keyword, Other, OtherWord, Private, PrivateWord, Subdivision, SubdivisionKey, SubdivisionValue}
 use Rattle.iloc_faults.specs.Next.{is_seen, when, piece_next, subdivision_next}
-use Rattle.iloc_faults.specs.States.{AreSeen, bit_place}
+use Rattle.iloc_faults.specs.States.{AreSingletonsSeen, bit_place}
 
 -- ---- bits
 
@@ -35,7 +35,7 @@ smaller : (x y z : ℕ) → z ≡ max x y → y ≡ 0 → z ≡ x
 smaller x y z e f = omega arith
 
 -- nothing was seen
-pub none_seen : AreSeen 0 []
+pub none_seen : AreSingletonsSeen 0 []
 none_seen c a = (λ e. let z = bit_at-zero (bit_place (to_ascii_lowercase c)) in absurd (omega (arith, z, e)), λ e. absurd (true≢false (sym e)))
 
 -- bits are apart
@@ -45,7 +45,7 @@ places_apart c d h k n e = n (same e)
     same : bit_place (to_ascii_lowercase d) ≡ bit_place (to_ascii_lowercase c) → to_ascii_lowercase d ≡ to_ascii_lowercase c
     same e = grind (arith, nat_tests)
 
-module _ (bits : ℕ) (seen : List ℕ) (h : AreSeen bits seen) (c : ℕ) (a : is_ascii_alphanumeric c ≡ true) where
+module _ (bits : ℕ) (seen : List ℕ) (h : AreSingletonsSeen bits seen) (c : ℕ) (a : is_ascii_alphanumeric c ≡ true) where
   abbrev place : ℕ
   place = bit_place (to_ascii_lowercase c)
 
@@ -65,7 +65,7 @@ module _ (bits : ℕ) (seen : List ℕ) (h : AreSeen bits seen) (c : ℕ) (a : i
       let same : 1 * 2 ^ place ≡ 0 = sym (ap (λ x. x * 2 ^ place) one) ∙ sym (and_pow bits place) ∙ e in
       absurd (omega arith))
 
-  pub seen_more : AreSeen (bit_or bits (2 ^ place)) (to_ascii_lowercase c ∷ seen)
+  pub seen_more : AreSingletonsSeen (bit_or bits (2 ^ place)) (to_ascii_lowercase c ∷ seen)
   seen_more d k = elim (cases_eq (to_ascii_lowercase c) (to_ascii_lowercase d)) [
     | inl e ↦ (
       λ _. or_left _ _ (ap (λ x. eq_by_cmp nat_cmp (to_ascii_lowercase d) x) e ∙ self_tied (to_ascii_lowercase d)),
