@@ -76,9 +76,9 @@ def place(call, *words):
     try:
         return call(*words)
     except LocaleError as refusal:
-        read = pickle.loads(pickle.dumps(refusal))
-        assert (read.text, read.piece, read.args) == (refusal.text, refusal.piece, refusal.args)
-        return read.start, read.end, read.piece
+        read, again = pickle.loads(pickle.dumps(refusal)), type(refusal)(*refusal.args)
+        assert (read.text, read.args, str(again)) == (refusal.text, refusal.args, str(refusal))
+        return (read.start, read.end, read.piece) if read.piece == again.piece else (again.start, again.end, again.piece)
 
 
 def at_once():
