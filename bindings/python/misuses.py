@@ -76,9 +76,9 @@ def place(call, *words):
     try:
         return call(*words)
     except LocaleError as refusal:
-        read = pickle.loads(pickle.dumps(refusal))
-        assert (read.text, read.piece, read.args) == (refusal.text, refusal.piece, refusal.args)
-        return read.start, read.end, read.piece
+        read, again = pickle.loads(pickle.dumps(refusal)), type(refusal)(*refusal.args)
+        assert (read.text, read.args, str(again)) == (refusal.text, refusal.args, str(refusal))
+        return (read.start, read.end, read.piece) if read.piece == again.piece else (again.start, again.end, again.piece)
 
 
 def at_once():
@@ -155,6 +155,7 @@ def first_calls(locale):
 
 
 LONG = "de-aaaaa-bbbbb-ccccc-ddddd-eeeee-t-und-m0-abc-u-aaa-ca-islamic-civil-x-a-b-c-d-e"
+LONGER = "en-x" + "-abcdefgh" * 99
 HELD = Locale("en-US-posix-u-foo-ca-buddhist")
 with_part = lambda **parts: raised(lambda: str(HELD.replace(**parts)))
 
@@ -198,6 +199,7 @@ CASES = [
     (str(Locale(FalseText("EN-us"))), "en-US"),
     (str(Locale(memoryview(b"EN-us-x")[:5])), "en-US"),
     (str(Locale(LONG.upper())), LONG),
+    ((str(Locale(LONGER)), Locale(LONGER).private, Locale(LONGER).base_name), (LONGER, LONGER[3:], "en")),
     (with_part(), "en-US-posix-u-foo-ca-buddhist"),
     (with_part(language=None, script="latn", region=b"419"), "und-Latn-419-posix-u-foo-ca-buddhist"),
     (with_part(variants=(it for it in ["MACOS", "1994"]), attributes=()), "en-US-1994-macos-u-ca-buddhist"),
