@@ -2,8 +2,8 @@
 // the right one is not proved, but tested.
 import { BEYOND, CODES, DONE, WORDS, checked, modeOf } from './calls.mjs';
 
-// Pieces with which what can be gone on with may go on: a subtag, a value, a subdivision. (What an identifier goes on with is one.)
-const MORE = { langid: [], locale: ['foo'], data: ['foo', 'sd-zzzz', 'zzzz'] };
+// Pieces with which what can be gone on with may go on: a subtag or value, a subdivision. (What an identifier goes on with is one.)
+const MORE = { langid: [], locale: ['foo'], data: ['foo', 'sd-foo'] };
 
 // Whether an accepted text begins with this front and a hyphen, or is the front.
 function goesOn(front, mode) {
