@@ -148,6 +148,7 @@ test('places of faults', () => {
   assert.deepEqual(at('en-u-ca-foo', 'langid'), [3, 4, 'InvalidSubtag']);
   assert.deepEqual(at('en-x-toolongprivate'), [5, 19, 'InvalidExtension']);
   assert.deepEqual(at('en-u-sd-g!', 'data').slice(0, 2), [8, 10]);
+  assert.deepEqual(at('en-u-foo-bar', 'data').slice(0, 2), [5, 8]);
   assert.deepEqual(at('en-ä-US'), [3, 4, 'InvalidSubtag']); // (in units of the string)
   assert.deepEqual(at(Buffer.from('en-ä-US')), [3, 5, 'InvalidSubtag']); // (in bytes)
   assert.deepEqual(at('en-\u{1F600}€-US'), [3, 6, 'InvalidSubtag']);

@@ -71,7 +71,7 @@ async function usePage() {
       ['! The g', '! The g', '! The g', '! The g', 'de']);
     find('#clean').click();
     // a file of a million lines: the page stays awake, and what is saved has them all
-    const lines = ['zh-HANT-tw', 'de-DE-u-co-phonebk-ca-buddhist', 'en_US.UTF-8', 'sr-latn-rs-ekavsk-u-kn-true-nu-latn'];
+    const lines = ['zh-HANT-tw-u-ca-roc-nu-hanidec', 'de-DE-u-co-phonebk-ca-buddhist-kn', 'en_US.UTF-8@euro', 'sr-latn-rs-ekavsk-u-kn-true-nu-latn'];
     const text = `${lines.join('\r\n')}\r\n`.repeat(250000), file = new File([text], 'lines.txt', { type: 'text/plain' });
     const given = new DataTransfer();
     given.items.add(file);
@@ -98,7 +98,7 @@ async function usePage() {
     Object.assign(URL, { createObjectURL });
     HTMLAnchorElement.prototype.click = click;
     const all = await saved.text();
-    see('what is saved', [all.split('\n').length, all.slice(0, 22)], [1000001, 'zh-HANT-tw\tzh-Hant-TW\n']);
+    see('what is saved', [all.split('\n').length, all.slice(0, 62)], [1000001, 'zh-HANT-tw-u-ca-roc-nu-hanidec\tzh-Hant-TW-u-ca-roc-nu-hanidec\n']);
     find('#file').dispatchEvent(new Event('change', { bubbles: true }));
     await rest();
     find('#stop').click();

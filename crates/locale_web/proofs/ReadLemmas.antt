@@ -21,7 +21,7 @@ use Rattle.iloc_told.proofs.FrontAnswers.{no_language_refused}
 use Rattle.iloc_told.specs.Told.{HasRefusal}
 use Rattle.iloc_told.specs.declared.Mode.{Mode}
 use Rattle.iloc_told.specs.declared.Mode.TheVariants.{Langid, Locale, Data}
-use Rattle.locale_web.specs.Reading.{IsRead, IsNormalWithin}
+use Rattle.locale_web.specs.Reading.{IsReadInto, IsNormalWithin}
 use Rattle.locale_web.specs.declared.reading.Found.TheVariants as founds
 
 -- a text that begins with no language is refused
@@ -30,14 +30,14 @@ no_language mode t begins e f = no_language_refused mode t (false_from_ne_true _
 
 -- an identifier's outline gives its normal text, which is as long
 pub identifier_outlined : (t : List ℕ) (spans : Spans) (o : Outline) (i : Identifier) → IdentifierMeans languages (pieces t) i
-    → Gives t o spans (identifier_text i) → IsRead Langid t spans (founds.Outlined o)
+    → Gives t o spans (identifier_text i) → IsReadInto Langid t spans (founds.Outlined o)
 identifier_outlined t spans o i m g =
     let long : length (identifier_text i) ≡ length t = length-identifier_means languages t i m in
     (identifier_text i, record { meant = (i, m, refl); few = omega (arith, long) }, g)
 
 -- a locale's outline gives its normal text, which is no longer
 pub locale_outlined : (t : List ℕ) (spans : Spans) (o : Outline) (M : grammar.Locale) → Means languages t M
-    → Gives t o spans (text M) → IsRead Locale t spans (founds.Outlined o)
+    → Gives t o spans (text M) → IsReadInto Locale t spans (founds.Outlined o)
 locale_outlined t spans o M m g =
     let long : length (text M) ≤ length t = shortest languages t M m in
     (text M, record { meant = (M, m, refl); few = omega (arith, long) }, g)

@@ -30,12 +30,12 @@ pub record IsNormalWithin (mode : Mode) (t : Text) (more : ℕ) (normal : Text) 
 
 -- the outline and the spans give the normal text, or the parts are printed as it; or the text is
 -- refused, or past the limits
-abbrev pub IsRead : Mode → Text → Spans → Found → Type 0
-IsRead mode t spans (founds.Outlined o) =
+abbrev pub IsReadInto : Mode → Text → Spans → Found → Type 0
+IsReadInto mode t spans (founds.Outlined o) =
     (normal : Text) × IsNormalWithin mode t 0 normal × Gives t o spans normal
-IsRead mode t spans (founds.Parts p) = IsNormalWithin mode t 4 (data_text (parts.value_of p))
-IsRead mode t spans (founds.Refused e) = HasRefusal mode t e
-IsRead mode t spans founds.Beyond = IsPastLimits mode t
+IsReadInto mode t spans (founds.Parts p) = IsNormalWithin mode t 4 (data_text (parts.value_of p))
+IsReadInto mode t spans (founds.Refused e) = HasRefusal mode t e
+IsReadInto mode t spans founds.Beyond = IsPastLimits mode t
 
 -- the first bytes are the normal text; or the text is refused, or beyond what so much room is for
 abbrev pub IsPut : Mode → Text → ℕ → Text → Placed → Type 0

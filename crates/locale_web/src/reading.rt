@@ -5,7 +5,7 @@ ghost use Rattle.iloc_told.specs.declared.Mode.{Mode};
 ghost use Rattle.iloc_told.specs.declared.Mode.TheVariants as modes;
 ghost use Rattle.iloc_outline.specs.declared.spans.Spans.{Spans};
 ghost use Rattle.locale_web.specs.Answers.{IsJudged};
-ghost use Rattle.locale_web.specs.Reading.{IsPastLimits, IsRead};
+ghost use Rattle.locale_web.specs.Reading.{IsPastLimits, IsReadInto};
 
 use iloc_calls::Status;
 use iloc_data_parts::DataParts;
@@ -56,7 +56,7 @@ pub(crate) fn text_end(window: &[u8], len: usize) -> usize
 // Reads the first bytes as an identifier.
 fn read_identifier(window: &[u8], len: usize, spans: &mut Spans) -> Found
     requires { len ≤ length window.now }
-    ensures { IsRead modes.Langid (take len window.now) spans.new result }
+    ensures { IsReadInto modes.Langid (take len window.now) spans.new result }
 {
     if len > MOST {
         return Found::Beyond;
@@ -74,7 +74,7 @@ fn read_identifier(window: &[u8], len: usize, spans: &mut Spans) -> Found
 // Reads the first bytes as a locale.
 fn read_locale(window: &[u8], len: usize, spans: &mut Spans) -> Found
     requires { len ≤ length window.now }
-    ensures { IsRead modes.Locale (take len window.now) spans.new result }
+    ensures { IsReadInto modes.Locale (take len window.now) spans.new result }
 {
     if len > MOST {
         return Found::Beyond;
@@ -92,7 +92,7 @@ fn read_locale(window: &[u8], len: usize, spans: &mut Spans) -> Found
 // Parses all of the text as a data locale.
 #[tactic(auto, using(crate::proofs::ReadLemmas::parts_within))]
 fn read_data(text: &[u8]) -> Found
-    ensures { (spans : Spans) → IsRead modes.Data text.now spans result }
+    ensures { (spans : Spans) → IsReadInto modes.Data text.now spans result }
 {
     match DataParts::try_from_utf8(text) {
         Ok(parts) => Found::Parts(parts),
@@ -103,7 +103,7 @@ fn read_data(text: &[u8]) -> Found
 /// Reads the first bytes in the mode. The spans are those of its outline, if it has one.
 pub(crate) fn read(mode: Mode, window: &[u8], len: usize, spans: &mut Spans) -> Found
     requires { len ≤ length window.now }
-    ensures { IsRead mode (take len window.now) spans.new result }
+    ensures { IsReadInto mode (take len window.now) spans.new result }
 {
     match mode {
         Mode::Langid => read_identifier(window, len, spans),
