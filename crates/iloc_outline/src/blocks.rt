@@ -56,6 +56,28 @@ fn read_body<'a>(
     if byte == b'u' {
         return read_unicode(start, left, spans, in_order);
     }
+    read_another(byte, start, left, spans, in_order)
+}
+
+// The same of another singleton than `u`.
+#[inline(always)]
+fn read_another<'a>(
+    byte: u8,
+    start: usize,
+    left: Left<'a>,
+    spans: &mut Spans,
+    in_order: &mut bool,
+) -> Reading<'a>
+    requires left { IsRemainder left }
+    requires later { IsLater left }
+    requires few { left.at + left.len < 2 ^ 16 }
+    requires before { start < left.at }
+    requires letter { is_ascii_alphanumeric byte ≡ true }
+    requires another { byte ≢ code_u }
+    ensures { (c : ℕ) → to_ascii_lowercase c ≡ byte
+        → IsSpanned (whole_text left.entry) start (left.entry.at - 1) ((c ∷ []) ∷ [])
+        → IsBlockRead c left.entry spans.old spans.new in_order.old in_order.new result }
+{
     let mut at = left;
     match read_apart(byte, start, &mut at, spans, in_order) {
         Found::End => Reading::End,
@@ -66,7 +88,7 @@ fn read_body<'a>(
     }
 }
 
-// The same of another singleton than `u`: what it is, and in `left` the piece that comes next. It is a call of its own, so
+// The same: what it is, and in `left` the piece that comes next. It is a call of its own, so
 // that readers of `u` stay small. It hands on no piece by value, which costs more.
 #[inline(never)]
 fn read_apart<'a>(
