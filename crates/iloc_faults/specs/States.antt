@@ -37,8 +37,8 @@ pub record AreVariantsBetween (first at : Left) (ps : List Text) : Type 0 where
 -- the variants before the piece, in lower case; the first of them is given, if there is one
 abbrev pub AreVariantsRead : Option Left → Left → List Text → Type 0
 AreVariantsRead None at vs = vs ≡ []
-AreVariantsRead (Some first) at vs = (ps : List Text) × AreVariantsBetween first at ps × (vs ≡ map lower ps)
-    × (ps ≢ [])
+AreVariantsRead (Some first) at vs = (ps : List Text) × AreVariantsBetween first at ps
+    × (vs ≡ map lower ps) × (ps ≢ [])
 
 -- no variant comes before a region
 abbrev pub IsEarly : Stage → Option Left → Type 0

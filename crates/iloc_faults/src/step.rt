@@ -109,7 +109,8 @@ fn read_inside<'a>(mode: Mode, state: State<'a>, at: Left<'a>) -> Option<State<'
     requires left { IsRemainder at }
     requires read { (vs : List Text) × (seen : List ℕ) × IsRead state at vs seen }
     ensures { (vs : List Text) (seen : List ℕ) → IsRead state.entry at.entry vs seen
-        → IsPieceRead at.entry (inside_next mode state.entry.part vs seen (piece_left at.entry)) result }
+        → IsPieceRead at.entry
+        (inside_next mode state.entry.part vs seen (piece_left at.entry)) result }
 {
     let seen = state.seen;
     match state.part {
@@ -248,7 +249,8 @@ pub fn step<'a>(mode: Mode, state: State<'a>, at: Left<'a>) -> Option<State<'a>>
     requires left { IsRemainder at }
     requires read { (vs : List Text) × (seen : List ℕ) × IsRead state at vs seen }
     ensures { (vs : List Text) (seen : List ℕ) → IsRead state.entry at.entry vs seen
-        → IsPieceRead at.entry (steps.next mode (reached state.entry.part vs seen) (piece_left at.entry)) result }
+        → IsPieceRead at.entry
+        (steps.next mode (reached state.entry.part vs seen) (piece_left at.entry)) result }
 {
     if begins_block(state.part, at) {
         return read_singleton(mode, state, at);
