@@ -13,6 +13,7 @@ def arguments(doc):
     flag("--alone", "try each edit alone")
     flag("--whole", "check whole crates, and not only the functions with edits")
     flag("--times", "say what each check took")
+    flag("--types", "put them through the front end alone, which proves nothing: each must type-check")
     flag("--named", "those of tools/named_mutants.txt alone: each must be refused by a goal")
     words.add_argument(
         "--minutes", type=float, default=1e6, metavar="N",

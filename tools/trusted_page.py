@@ -1,8 +1,9 @@
-"""The parts of docs/REVIEW.md that tools/trusted makes of the sources, and whether they are current.
+"""The parts of docs/REVIEW.md and docs/CLAUSES.md that tools/trusted makes of the sources, and whether they are current.
 
 A part stands between `<!-- trusted: WHAT -->` and `<!-- /trusted -->`, where WHAT is one of
 
-- `counts`: how much there is to read, on each route;
+- `times`: how long each page takes to read;
+- `counts`: how much the contracts rest on;
 - `clause CALL NAME`: a clause of a contract, word for word;
 - `files PATH ..`: the definitions of these files on which the headline rests, word for word; after
   a path may stand the names of the first and of the last one;
@@ -26,7 +27,10 @@ ON_MEMORY = "ensures memory"  # the one kind of clause that stands apart: it say
 # what several types have, each its own: its value, its place in an enum, the items of its list, the
 # list with others, the words of an error, how a value of a map is lent
 ALIKE = ("value_of", "place", "items_of", "with_list", "words_of", "lends_value", "lends_slice", "lends_item")
-PAGE = "docs/REVIEW.md"
+PAGES = ("docs/REVIEW.md", "docs/CLAUSES.md")
+# how much is read in a minute
+WORDS, LINES = 220, 6
+CODE = re.compile(r"```text\n(.*?)```", re.S)
 PART = re.compile(r"<!-- trusted: (.+?) -->\n(.*?)<!-- /trusted -->", re.S)
 
 
@@ -77,14 +81,21 @@ def tell_unknown(sources):
     return 1 if sources.unknown else 0
 
 
-class Page:
+def reading(text):
+    """Returns how many words a page has, and how many lines of definitions and clauses."""
+    code = "\n".join(CODE.findall(text)).split("\n")
+    lines = [it for it in code if it.strip() and not it.strip().startswith("--")]
+    return len(re.sub(r"<!--.*?-->", "", CODE.sub("", text)).split()), len(lines)
+
+
+class Pages:
     """The headline's closures, and the parts that are made of them."""
 
     def __init__(self, sources):
         self.sources = sources
         self.whole = graph.closure_of(sources, headline(sources))
         self.plain = without_memory(sources, headline(sources))
-        self.placed, self.shown = set(), set()
+        self.placed, self.shown, self.texts = set(), set(), {}
 
     def part(self, what):
         kind, *words = what.split()
@@ -92,6 +103,15 @@ class Page:
         if made is None:
             raise Wrong(f"no part is called {kind!r}")
         return made(*words)
+
+    def part_times(self):
+        """Says how long each page takes. Its own words are left out, so that they do not change what they say."""
+        rows = [f"| Page | Words | Lines of definitions and clauses | Minutes, at {WORDS} words and {LINES} of these lines each |", "|---|---|---|---|"]
+        for path, text in self.texts.items():
+            own = lambda found: "" if found[1] == "times" else found[0]
+            words, lines = reading(PART.sub(own, text))
+            rows.append(f"| {path} | {words:,} | {lines:,} | {round(words / WORDS + lines / LINES)} |")
+        return "\n".join(rows)
 
     def part_counts(self):
         meaning = graph.named(self.sources, HEADLINE[0])
@@ -177,30 +197,40 @@ class Page:
         lines = sum(it.count() for it in every)
         read = sum(it.count() for it in self.plain.definitions)
         said = f"`specs/` of the library holds {len(every):,} definitions in {lines:,} lines."
-        said += f" This page shows {read:,} of these lines."
+        said += f" These pages show {read:,} of these lines."
         return f"{said} The headline rests on no other, but for memory and for the views of stop 8."
 
-    def made(self, text):
-        """Returns the page with its parts made anew, and what is wrong with it."""
-        wrong = []
+    def made_of(self, path, text, is_wanted, wrong):
+        """Returns the page of this text with those of its parts made anew that are wanted. Notes what cannot be made."""
 
         def one(found):
+            if not is_wanted(found[1]):
+                return found[0]
             try:
                 return f"<!-- trusted: {found[1]} -->\n{self.part(found[1])}\n<!-- /trusted -->"
             except (Wrong, TypeError) as why:
-                wrong.append(f"{PAGE}: the part '{found[1]}': {why}")
+                wrong.append(f"{path}: the part '{found[1]}': {why}")
                 return found[0]
 
-        made = PART.sub(one, text)
+        return PART.sub(one, text)
+
+    def made(self, texts):
+        """Returns the pages with their parts made anew, by their paths, and what is wrong with them."""
+        wrong = []
+        for path, text in texts.items():
+            self.texts[path] = self.made_of(path, text, lambda what: what != "times", wrong)
+        # (the last, since it counts all others)
+        made = {path: self.made_of(path, text, lambda what: what == "times", wrong) for path, text in self.texts.items()}
+        names = " and ".join(PAGES)
         for it in self.plain.definitions:
             if it not in self.placed:
-                wrong.append(f"{PAGE}: {it.where}: {it.name} is at no stop: name it in a part 'files'")
+                wrong.append(f"{names}: {it.where}: {it.name} is at no stop: name it in a part 'files'")
         for call, kind, _ in self.clauses():
             word, _, name = kind.partition(" ")
             if word != "ensures":
-                wrong.append(f"{PAGE}: {call} has a clause '{kind}': a call of the headline asks nothing of its callers")
+                wrong.append(f"{names}: {call} has a clause '{kind}': a call of the headline asks nothing of its callers")
             elif kind != ON_MEMORY and (call, name) not in self.shown:
-                wrong.append(f"{PAGE}: the clause {name!r} of {call} is not shown: add a part 'clause {call} {name}'")
+                wrong.append(f"{names}: the clause {name!r} of {call} is not shown: add a part 'clause {call} {name}'")
         for it, name in types.prelude_names(self.sources):
             wrong.append(f"{it.where}: {name} is a word of antt or of its prelude: name it otherwise")
         return made, wrong
@@ -231,38 +261,42 @@ def dedented(text):
 
 
 def read(sources):
-    path = os.path.join(sources.root, PAGE)
-    with open(path, encoding="utf-8") as it:
-        return path, it.read()
+    """Returns the texts of the pages by their paths."""
+    texts = {}
+    for path in PAGES:
+        with open(os.path.join(sources.root, path), encoding="utf-8") as it:
+            texts[path] = it.read()
+    return texts
 
 
 def write(sources):
-    path, text = read(sources)
-    made, wrong = Page(sources).made(text)
-    with open(path, "w", encoding="utf-8") as it:
-        it.write(made)
-    print("\n".join(wrong + [f"trusted: wrote {PAGE}"]))
+    made, wrong = Pages(sources).made(read(sources))
+    for path, text in made.items():
+        with open(os.path.join(sources.root, path), "w", encoding="utf-8") as it:
+            it.write(text)
+    print("\n".join(wrong + [f"trusted: wrote {path}" for path in PAGES]))
     return 1 if wrong else 0
 
 
 def check(sources):
-    """Says which parts of the page are not what the sources give, and which definitions have no sentence."""
-    _, text = read(sources)
-    page = Page(sources)
-    made, wrong = page.made(text)
+    """Says which parts of the pages are not what the sources give, and which definitions have no sentence."""
+    texts = read(sources)
+    made, wrong = Pages(sources).made(texts)
     wrong += [f"{it.where}: {it.name} cites {', '.join(sorted(names))}, which nothing in scope explains" for it, names in sources.unknown.items()]
     library = graph.closure_of(sources, graph.library(sources))
     wrong += [f"{it.where}: {it.name} has no sentence" for it in library.definitions if not it.sentence()]
     wrong += [f"the same text: {named(group)}" for group in same_text(sources)]
     wrong += [f"one name for two things: {named(group)}" for group in same_name(sources)]
-    parts = list(zip(PART.finditer(text), PART.finditer(made)))
-    for old, new in parts:
-        if old[2] != new[2]:
-            changes = difflib.unified_diff(old[2].split("\n"), new[2].split("\n"), lineterm="", n=0)
-            wrong.append(f"{PAGE}: the part '{old[1]}' is not current: run tools/trusted --write\n" + "\n".join(list(changes)[2:12]))
-    print("\n".join(wrong) if wrong else f"trusted: {PAGE} is current")
-    failed = min(len(wrong), len(parts)) or len(wrong)
-    print(f"{max(len(parts) - failed, 0)} passed, {failed} failed")
+    count = 0
+    for path, text in texts.items():
+        for old, new in zip(PART.finditer(text), PART.finditer(made[path])):
+            count += 1
+            if old[2] != new[2]:
+                changes = difflib.unified_diff(old[2].split("\n"), new[2].split("\n"), lineterm="", n=0)
+                wrong.append(f"{path}: the part '{old[1]}' is not current: run tools/trusted --write\n" + "\n".join(list(changes)[2:12]))
+    print("\n".join(wrong) if wrong else f"trusted: {' and '.join(PAGES)} are current")
+    failed = min(len(wrong), count) or len(wrong)
+    print(f"{max(count - failed, 0)} passed, {failed} failed")
     return 1 if wrong else 0
 
 

@@ -1,12 +1,11 @@
--- What is left of an identifier when what matters least is dropped (UTS #35, "Locale Inheritance
--- and Matching").
-use Rattle.std.specs.Prelude.{◌≡◌, ◌⊎◌, [], None}
+-- What is left of an identifier when its last parts are dropped (UTS #35, "Locale Inheritance and
+-- Matching").
+use Rattle.std.specs.Prelude.{◌≡◌, Some}
 use Rattle.icu_locale_core.specs.Syntax.{Identifier}
+use Rattle.icu_locale_core.specs.Parents.{parent_of}
 
--- each part is as it was, or is left out with all that stand after it
-pub record IsLeftOf (wanted left : Identifier) : Type 0 where
-  pub language : left.language ≡ wanted.language
-  pub script : (left.script ≡ wanted.script)
-      ⊎ ((left.script ≡ None) × (left.region ≡ None) × (left.variants ≡ []))
-  pub region : (left.region ≡ wanted.region) ⊎ ((left.region ≡ None) × (left.variants ≡ []))
-  pub variants : (left.variants ≡ wanted.variants) ⊎ (left.variants ≡ [])
+-- the identifier itself, or the parent of what is left of it
+pub data IsLeftOf (wanted : Identifier) : Identifier → Type 0 where
+  itself : IsLeftOf wanted wanted
+  parent : {left next : Identifier} → IsLeftOf wanted left → parent_of left ≡ Some next
+      → IsLeftOf wanted next

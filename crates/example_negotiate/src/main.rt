@@ -2,8 +2,9 @@
 //!
 //! The first line of the input names the locales that the program has. Each further line names those that a user asks
 //! for, the most wanted first, and is answered by the first of them that is there, with its extensions, or by `none`.
-//! One that is not there is looked up without what matters least: variants, region and script, in this order (UTS #35,
-//! "Locale Inheritance and Matching"). A text that is no locale is passed over.
+//! One that is not there is looked up without its last part, and so on: its variants from the last on, its region, its
+//! script and its language go in this order (UTS #35, "Locale Inheritance and Matching"). A text that is no locale is
+//! passed over.
 #![tactic(auto)]
 
 ghost use Rattle.std.specs.Prelude.{◌≡◌, Any, IsTrue};
@@ -28,28 +29,31 @@ fn read_all(alloc: Global, line: &str) -> Result<Vec<Locale>, AllocError> {
     Ok(locales)
 }
 
-/// Drops what matters least of the identifier, until it is there or the language alone is left; whether it is there.
+/// Whether one of the locales has this identifier.
+fn is_there(wanted: &LanguageIdentifier, available: &[Locale]) -> bool
+    ensures { IsTrue result → Any (λ one. value_of one.id ≡ value_of wanted.now) available.now }
+{
+    equality();
+    for one in available {
+        if one.id == *wanted {
+            return true;
+        }
+    }
+    false
+}
+
+/// Drops the last part of the identifier, until it is there or nothing is left; whether it is there.
 fn fall_back(wanted: &mut LanguageIdentifier, available: &[Locale]) -> bool
     ensures there { IsTrue result
         → Any (λ one. value_of one.id ≡ value_of wanted.new) available.now }
     ensures left { IsLeftOf (value_of wanted.old) (value_of wanted.new) }
 {
-    equality();
-    for _ in 0..4u8 {
-        for one in available {
-            if one.id == *wanted {
-                return true;
-            }
-        }
-        if !wanted.variants.is_empty() {
-            let _ = wanted.variants.clear();
-        } else if wanted.region.is_some() {
-            wanted.region = None;
-        } else {
-            wanted.script = None;
+    'parents: while !is_there(wanted, available) {
+        if !wanted.truncate_to_parent() {
+            return false;
         }
     }
-    false
+    true
 }
 
 /// The first of the wanted locales that is there, or what is left of it.

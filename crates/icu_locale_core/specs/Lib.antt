@@ -40,8 +40,10 @@ pub use Rattle.iloc_locale.specs.Retaining
 pub use Rattle.iloc_locale.specs.LocaleReading
 pub use Rattle.iloc_data.specs.Reads as DataReads
 pub use Rattle.iloc_data.specs.DataValue
+pub use Rattle.iloc_data.specs.DataParents
 pub use Rattle.iloc_data.specs.DataEquality
 pub use Rattle.iloc_json.specs.Json
+pub use Rattle.iloc_json.specs.Answers as JsonAnswers
 pub use Rattle.iloc_json.specs.Carrying
 pub use Rattle.iloc_lines.specs.Answers as ProgramAnswers
 pub use Rattle.iloc_lines.specs.Output as ProgramOutput
@@ -60,6 +62,7 @@ pub use Rattle.iloc_subtags.specs.ParseError as ParseErrorWords
 pub use Rattle.iloc_subtags.specs.RawForms
 pub use Rattle.iloc_word_set.specs.Ascending
 pub use Rattle.iloc_langid.specs.Unknown
+pub use Rattle.iloc_langid.specs.Parents
 pub use Rattle.iloc_fields.specs.FieldsReading
 pub use Rattle.iloc_fields.specs.ValueReading as FieldValueReading
 pub use Rattle.iloc_spec_parts.specs.SingleValues
@@ -96,6 +99,7 @@ pub use Rattle.iloc_spec_preferences.specs.DataExamples
 pub use Rattle.iloc_spec_preferences.specs.PreferenceExamples
 pub use Rattle.iloc_subtags.specs.Lengths
 pub use Rattle.iloc_told.specs.Modes
+pub use Rattle.iloc_told.specs.Told
 pub use Rattle.iloc_faults.specs.Places as FaultPlaces
 pub use Rattle.iloc_transform.specs.LangReading
 pub use Rattle.iloc_unicode.specs.Equality as UnicodePartEquality

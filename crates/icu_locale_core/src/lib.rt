@@ -22,6 +22,8 @@
 //! - `to_json` writes the JSON string of the printed text. It parses back to the same value, if that is well-formed.
 //! - `program::run` writes the answer to all that it read, or a beginning of it and then returns an error. This holds
 //!   if the contracts of reader and writer tell their bytes.
+//! - `faults::fault_of` says of every refused text where its fault stands: what comes before can be completed to an
+//!   accepted text, and nothing that includes it can. It allocates nothing.
 //! - Subtags allocate nothing, and short texts fit in place.
 //!
 //! A first example:
@@ -41,7 +43,7 @@
 //! | `write_to_string`, `to_string_or_borrow`, `Locale::normalizing_eq`, `push`, `push_subtag`, `insert`, `try_insert`, `set`, `extend` and its kin, `union`, `new_double`, `from_iter`, `from_pairs`, `from_subtags`, `from_two_subtags`, `to_value`, `unicode_extension_value`, `to_locale`, `write_text`, `carry_v1` | taken; running out of memory is `AllocError`, or the refusal `OutOfMemory` |
 //! | `Locale::unknown`, `new` of `LiteMap`, `Fields`, `Transform` and `Extensions`, `from_langid`, `from_language`, `from_script`, `from_region`, `from_parts`, `from_unicode`, `into_locale`, `Fields::clear` | taken and kept: these allocate nothing |
 //! | `clone` of what may own memory | not taken: the value's own; running out of memory is `AllocError` |
-//! | subtags, data locales, `try_from_utf8_with_single_variant` and its kin, look-ups, removals, `retain`, iterators, comparisons, orders, hashes, `write_to` | none: these allocate nothing |
+//! | subtags, data locales, `try_from_utf8_with_single_variant` and its kin, `fault_of`, look-ups, removals, `truncate_to_parent`, `retain`, iterators, comparisons, orders, hashes, `write_to` | none: these allocate nothing |
 //!
 //! In the Rust crate some of these modules are private, and `tinystr`, `writeable` and `litemap` are crates.
 #![tactic(auto)]
@@ -92,7 +94,9 @@ pub mod parser {
     pub use iloc_subtags::{ParseError, SubtagIterator};
 }
 
-/// Why a text is refused, and where.
+/// Why a text is refused, and where: `fault_of(Mode::Locale, b"en--US")` is `InvalidSubtag` from byte 3 to byte 3, the
+/// empty piece, since no accepted text begins with `en-` and a hyphen. It allocates nothing (docs/DEFINITIONS.md, "Where a
+/// fault stands").
 pub mod faults {
     pub use iloc_faults::{Fault, fault_of};
     pub use iloc_told::Mode;
@@ -101,7 +105,7 @@ pub mod faults {
 /// Language identifiers.
 pub mod langid {
     pub use crate::together::identifiers as together;
-    pub use iloc_langid::{LanguageIdentifier, equality, hashes, orders};
+    pub use iloc_langid::{LanguageIdentifier, equality, fallback_chain, hashes, orders};
 }
 
 /// All extensions of a locale.
@@ -161,7 +165,7 @@ pub mod locale {
 /// Data locales: the parts of a locale by which data is looked up.
 pub mod data {
     pub use crate::together::data_locales as together;
-    pub use iloc_data::DataLocale;
+    pub use iloc_data::{DataLocale, fallback_chain};
 }
 
 /// What a locale prefers, and the keywords that say so.

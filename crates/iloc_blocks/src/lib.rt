@@ -6,10 +6,10 @@
 //! If a bad block comes first, or after blocks in order, `read_ordered` tells that: the text has the fault of
 //! the grammar. A block that is not in order is read to its end, and may be bad too.
 //!
-//! `read_body` tells what follows one singleton, for `iloc_rewriting`, which brings other lines into order.
+//! `read_body` tells what follows one singleton. No other crate calls it.
 //!
-//! `None`, `Reading::Unordered` and `Reading::Other` say nothing: the caller parses the text as it would without this
-//! crate. So each caller keeps its own contract, and a shape that is not told here costs time and nothing else.
+//! `None`, `Reading::Unordered` and `Reading::Other` say nothing: the caller asks the outline of the text, as it would
+//! without this crate. So each caller keeps its own contract, and a shape that is not told here costs time and nothing else.
 //!
 //! Each kind of block has a walk of its own (`unicode`, `transform`, `other`), which says where the next block begins
 //! (`blocks`).

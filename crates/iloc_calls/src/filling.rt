@@ -145,6 +145,20 @@ pub(crate) fn hand_out_ordered(line: &Ordered<'_>, buffer: &mut [u8], needed: &m
     Status::Done
 }
 
+/// The same of these bytes.
+#[inline(always)]
+pub(crate) fn hand_out_bytes(bytes: &[u8], buffer: &mut [u8], needed: &mut usize) -> Status
+    ensures { HandsOut bytes.now buffer.old buffer.new needed.new result }
+{
+    let end = bytes.len();
+    *needed = end;
+    if end > buffer.len() {
+        return Status::BufferTooSmall;
+    }
+    copy_all(bytes, &mut buffer[..end]);
+    Status::Done
+}
+
 /// Hands out the text of a part that is there.
 pub fn hand_out_found<W: Writeable>(
     part: Option<&W>,

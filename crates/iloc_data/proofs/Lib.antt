@@ -3,3 +3,4 @@ mod ReadLemmas
 pub mod KeywordLemmas
 mod WholeLemmas
 mod FormatterLemmas
+mod ParentLemmas

@@ -1,11 +1,13 @@
 -- From the small locale that was read, or its refusal, to what the reader of data locales answers.
 use Rattle.std.specs.Prelude.{⊤}
-use Rattle.std.proofs.Common.{◌≡◌, ℕ, List, Option, Some, None, sym, ap, ◌∙◌, Result, Ok, Err, option_map}
+use Rattle.std.proofs.Common.{◌≡◌, ℕ, List, Option, Some, None, sym, ap, ◌∙◌, Result, Ok, Err, IfOk, option_map}
 use Rattle.iloc_spec_grammar.specs.Syntax.{languages, two_or_three}
 use Rattle.iloc_spec_grammar.specs.Meaning as meaning
 use Rattle.iloc_spec_grammar.specs.Meaning.{Means, Fault}
 use Rattle.iloc_spec_grammar.proofs.RawLaws.{languages_table, narrow_in_wide}
 use Rattle.iloc_langid.specs.SmallLocaleReads.{LocaleParts, small_locale_of, SmallLocaleTextReads}
+use Rattle.iloc_spec_parts.specs.Small.{locale_of_small}
+use Rattle.iloc_spec_parts.proofs.SmallLaws.{small_means}
 use Rattle.iloc_spec_preferences.specs.Subdivisions.{Subdivision}
 use Rattle.iloc_spec_preferences.specs.DataLocales as parts
 use Rattle.iloc_spec_preferences.specs.DataLocales.{DataMeans, HasDataFault, not_small, no_subdivision, made_of, small_part, data_text}
@@ -67,6 +69,19 @@ reads_back t d h = read_back t d h
 
 pub is_converted : (t : List ℕ) (d : parts.DataLocale) → DataMeans languages t d → (M : meaning.Locale) → Means languages t M → d ≡ language_priority (preferences M)
 is_converted t d h M m = agrees languages_table t d M h m
+
+-- a text that means a data locale is small, and so it means a locale
+pub is_meant : (t : List ℕ) (d : parts.DataLocale) → DataMeans languages t d
+    → (M : meaning.Locale) × Means languages t M × (d ≡ language_priority (preferences M))
+is_meant t d h =
+    let M : meaning.Locale = locale_of_small h.small in
+    let m : Means languages t M = small_means t h.small h.is_small in
+    (M, m, is_converted t d h M m)
+
+pub meant_of : (t : List ℕ) (r : Result DataLocale ParseError) → DataTextReads t r
+    → IfOk r (λ d. (M : meaning.Locale) × Means languages t M × (value_of d ≡ language_priority (preferences M)))
+meant_of t (Ok d) h = is_meant t (value_of d) h
+meant_of t (Err e) h = tt
 
 pub keeps_narrow : (t : List ℕ) (r : Result DataLocale ParseError) → DataTextReads t r → (d : parts.DataLocale) → DataMeans two_or_three t d → Accepts value_of ⊤ d r
 keeps_narrow t r h d n = data_accepts t r h d (ours t d n)

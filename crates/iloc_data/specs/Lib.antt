@@ -1,4 +1,5 @@
 pub mod DataValue
+pub mod DataParents
 pub mod DataEquality
 pub mod DataEqualityLaws
 pub mod Reads

@@ -1,5 +1,5 @@
 -- What the parser of data locales returns. It allocates nothing. This library's rule.
-use Rattle.std.specs.Prelude.{◌≡◌, ⊤, ℕ, Result, IfOk}
+use Rattle.std.specs.Prelude.{◌≡◌, ⊤, Result, IfOk}
 use Rattle.iloc_spec_grammar.specs.Syntax.{Text, languages, two_or_three}
 use Rattle.iloc_spec_grammar.specs.Meaning as meaning
 use Rattle.iloc_spec_grammar.specs.Meaning.{Means, Fault}
@@ -25,4 +25,6 @@ pub record IsDataAnswer (t : Text) (r : Result DataLocale ParseError) : Type 0 w
   pub back : IfOk r (λ d. DataMeans languages (data_text (value_of d)) (value_of d))
   pub converted : IfOk r (λ d. (M : meaning.Locale) → Means languages t M
       → value_of d ≡ language_priority (preferences M))
+  pub meant : IfOk r (λ d. (M : meaning.Locale) × Means languages t M
+      × (value_of d ≡ language_priority (preferences M)))
   pub narrow : (d : parts.DataLocale) → DataMeans two_or_three t d → Accepts value_of ⊤ d r

@@ -59,7 +59,7 @@ impl DataLocale {
     ///
     /// Accepted are an identifier with at most one variant, and after it nothing, or `u`, the key `sd` and a
     /// readable subdivision; if that is of another region than the one given, the region as a whole counts.
-    /// What is parsed is also the conversion of the locale that the text means.
+    /// Such a text means a locale, and what is parsed is also the conversion of that.
     ///
     /// Refuses with `InvalidLanguage` if the first piece is no language. With `InvalidExtension` it refuses a
     /// singleton that is no letter or digit, a `u` that neither a key nor an attribute follows, and one keyword that
@@ -76,6 +76,8 @@ impl DataLocale {
             (λ d. DataMeans languages (data_text (value_of d)) (value_of d)) }
         ensures converted { IfOk result (λ d. (M : meaning.Locale)
             → Means languages code_units.now M → value_of d ≡ language_priority (preferences M)) }
+        ensures meant { IfOk result (λ d. (M : meaning.Locale) × Means languages code_units.now M
+            × (value_of d ≡ language_priority (preferences M))) }
         ensures narrow { (d : parts.DataLocale) → DataMeans two_or_three code_units.now d
             → Accepts value_of ⊤ d result }
     {
@@ -96,6 +98,8 @@ impl DataLocale {
             (λ d. DataMeans languages (data_text (value_of d)) (value_of d)) }
         ensures converted { IfOk result (λ d. (M : meaning.Locale)
             → Means languages s.now M → value_of d ≡ language_priority (preferences M)) }
+        ensures meant { IfOk result (λ d. (M : meaning.Locale) × Means languages s.now M
+            × (value_of d ≡ language_priority (preferences M))) }
         ensures narrow { (d : parts.DataLocale) → DataMeans two_or_three s.now d
             → Accepts value_of ⊤ d result }
     {

@@ -19,12 +19,26 @@
 //! (`iloc_keyword_types`), and on types of keywords with fixed texts (`iloc_enum_keywords`).
 #![tactic(auto)]
 
+ghost use Rattle.std.specs.Prelude.{◌≡◌, ◌≤◌, Some, None, option_map};
+ghost use Rattle.iloc_spec_grammar.specs.Syntax.{languages};
+ghost use Rattle.iloc_spec_preferences.specs.DataLocales as parts;
+ghost use Rattle.iloc_spec_preferences.specs.DataLocales.{data_key, IsDataLocale};
+ghost use Rattle.iloc_data.specs.DataValue.{unknown_data};
+ghost use Rattle.iloc_data.specs.DataParents.{
+  region_of,
+  data_parent,
+  data_part_count,
+  IsUnknownAfter,
+  LacksLastDataPart,
+};
+
 pub mod comparing;
 pub mod conversions;
 pub mod data_locale;
 pub mod format_preferences;
 mod keywords;
 pub mod locale_preferences;
+pub mod parent;
 pub mod printing;
 mod region_keywords;
 mod region_part;
@@ -36,3 +50,19 @@ pub use data_locale::DataLocale;
 pub use format_preferences::FormatPreferences;
 pub use locale_preferences::LocalePreferences;
 pub use time_preferences::TimePreferences;
+
+/// The chain of parents of a data locale ends in `und`, after as many steps as it has parts; `und` has no
+/// parent. If its region is the one that it stands for, as in all that were parsed or converted, a parent is
+/// printed without the last part, or is `und`. A parent is a data locale if its child is, and data locales
+/// that stand for the same have parents that stand for the same.
+pub fn fallback_chain()
+    ensures ends { (d : parts.DataLocale) → IsUnknownAfter (data_part_count d) d }
+    ensures few { (d : parts.DataLocale) → data_part_count d ≤ 5 }
+    ensures last { data_parent unknown_data ≡ None }
+    ensures shorter { (d p : parts.DataLocale) → d.region ≡ region_of d → data_parent d ≡ Some p
+        → LacksLastDataPart d p }
+    ensures values { (d p : parts.DataLocale) → IsDataLocale languages d → data_parent d ≡ Some p
+        → IsDataLocale languages p }
+    ensures alike { (d e : parts.DataLocale) → data_key d ≡ data_key e
+        → option_map data_key (data_parent d) ≡ option_map data_key (data_parent e) }
+{}

@@ -1,10 +1,10 @@
 -- The bits of singletons, and what else the reader knows of bytes.
-use Rattle.std.proofs.Common.{◌≡◌, ◌≢◌, ◌↔◌, inl, inr, ℕ, ◌+◌, ◌*◌, ◌-◌, ◌<◌, ◌≤◌, ◌^◌, Bool, true, false, ◌==◌, ◌||◌, ◌&&◌, List, [], ◌∷◌, length, get_or, take, drop, Result, Ok, Err, Option, Some, None, IfSome, codes, nat_lt, max, refl, sym, ap, ap₂, ◌∙◌, subst, arith, true≢false, is_some, if◌then◌else◌}
+use Rattle.std.proofs.Common.{◌≡◌, ◌≢◌, inl, inr, ℕ, ◌+◌, ◌*◌, ◌-◌, ◌<◌, ◌≤◌, ◌^◌, Bool, true, false, ◌==◌, ◌||◌, ◌&&◌, List, [], ◌∷◌, length, get_or, take, drop, Result, Ok, Err, Option, Some, None, IfSome, codes, max, refl, sym, ap, ap₂, ◌∙◌, arith, true≢false, is_some}
 use Rattle.std.specs.Char.{is_ascii_alphanumeric, to_ascii_lowercase}
 use Rattle.std.specs.Ordering.{nat_cmp, eq_by_cmp}
 use Rattle.std.specs.Int.{bit_at}
 use lib.Bits.{bit_and, bit_or}
-use Rattle.std.proofs.lemmas.Bool.{cases_Bool, false_from_ne_true, eqb-true, eq-eqb, and_from, or_cases, or_left, or_right, or_parts, cases_eq, and_parts}
+use Rattle.std.proofs.lemmas.Bool.{cases_Bool, false_from_ne_true, eqb-true, eq-eqb, and_from, or_cases, or_left, or_right, cases_eq, and_parts}
 use Rattle.std.proofs.lemmas.Bool.Decides.{nat_tests}
 use Rattle.std.proofs.lemmas.Nat.Bits.{and_pow, bit_at_or, bit_at-pow_same, bit_at-pow_other, bit_at-zero}
 use Rattle.iloc_spec_grammar.specs.Syntax.{Text, languages, Language, Variant, UnicodeKey, TransformKey, Attribute, PrivateSubtag, Subtag, is_word, lower, is_same, read}
@@ -13,14 +13,14 @@ use Rattle.iloc_spec_grammar.proofs.WellRead.{attribute_is_word}
 use Rattle.iloc_spec_preferences.specs.DataLocales.{named_subdivision}
 use Rattle.iloc_spec_grammar.proofs.MapLaws.{same_itself, same_is}
 use Rattle.iloc_spec_grammar.proofs.WordsLaws.{length-lower}
-use Rattle.iloc_spec_grammar.proofs.Singletons.{tied, untied, self_tied}
+use Rattle.iloc_spec_grammar.proofs.Singletons.{untied, self_tied}
 use Rattle.iloc_pieces.specs.Left.{IsRemainder, IsShortPiece, piece_left}
 use Rattle.iloc_pieces.specs.declared.left.Left.{Left}
 use Rattle.iloc_pieces.proofs.LeftLemmas.{short_language, short_key, short_field_key, short_attribute, short_private, between_short, piece_inside, piece_byte, short_bytes, length_piece}
 use Rattle.iloc_faults.specs.declared.state.Part.{Part}
 use Rattle.iloc_faults.specs.declared.state.Part.TheVariants.{Start, Head, Transform, Source, FieldKey, FieldValue, Unicode, Keyword, Other, OtherWord, Private, PrivateWord, Subdivision, SubdivisionKey, SubdivisionValue}
 use Rattle.iloc_faults.specs.Next.{is_seen, when, piece_next, subdivision_next}
-use Rattle.iloc_faults.specs.States.{AreSeen, bit_place}
+use Rattle.iloc_faults.specs.States.{AreSingletonsSeen, bit_place}
 
 -- ---- bits
 
@@ -35,7 +35,7 @@ smaller : (x y z : ℕ) → z ≡ max x y → y ≡ 0 → z ≡ x
 smaller x y z e f = omega arith
 
 -- nothing was seen
-pub none_seen : AreSeen 0 []
+pub none_seen : AreSingletonsSeen 0 []
 none_seen c a = (λ e. let z = bit_at-zero (bit_place (to_ascii_lowercase c)) in absurd (omega (arith, z, e)), λ e. absurd (true≢false (sym e)))
 
 -- bits are apart
@@ -45,7 +45,7 @@ places_apart c d h k n e = n (same e)
     same : bit_place (to_ascii_lowercase d) ≡ bit_place (to_ascii_lowercase c) → to_ascii_lowercase d ≡ to_ascii_lowercase c
     same e = grind (arith, nat_tests)
 
-module _ (bits : ℕ) (seen : List ℕ) (h : AreSeen bits seen) (c : ℕ) (a : is_ascii_alphanumeric c ≡ true) where
+module _ (bits : ℕ) (seen : List ℕ) (h : AreSingletonsSeen bits seen) (c : ℕ) (a : is_ascii_alphanumeric c ≡ true) where
   abbrev place : ℕ
   place = bit_place (to_ascii_lowercase c)
 
@@ -65,7 +65,7 @@ module _ (bits : ℕ) (seen : List ℕ) (h : AreSeen bits seen) (c : ℕ) (a : i
       let same : 1 * 2 ^ place ≡ 0 = sym (ap (λ x. x * 2 ^ place) one) ∙ sym (and_pow bits place) ∙ e in
       absurd (omega arith))
 
-  pub seen_more : AreSeen (bit_or bits (2 ^ place)) (to_ascii_lowercase c ∷ seen)
+  pub seen_more : AreSingletonsSeen (bit_or bits (2 ^ place)) (to_ascii_lowercase c ∷ seen)
   seen_more d k = elim (cases_eq (to_ascii_lowercase c) (to_ascii_lowercase d)) [
     | inl e ↦ (
       λ _. or_left _ _ (ap (λ x. eq_by_cmp nat_cmp (to_ascii_lowercase d) x) e ∙ self_tied (to_ascii_lowercase d)),

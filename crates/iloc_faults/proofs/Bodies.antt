@@ -1,12 +1,12 @@
 -- What follows a singleton, one piece more: what the rules of the grammar ask of the rest.
-use Rattle.std.proofs.Common.{◌≡◌, inl, inr, ℕ, suc, ◌+◌, ◌<◌, Bool, true, false, not, cond, ◌&&◌, ◌||◌, List, [], ◌∷◌, ◌++◌, length, map, Option, Some, None, is_some, nat_lt, codes, refl, sym, ap, ap₂, ◌∙◌, arith, true≢false}
-use Rattle.std.specs.List.{list_any, list_all}
+use Rattle.std.proofs.Common.{◌≡◌, inl, inr, ℕ, suc, ◌+◌, Bool, true, false, cond, ◌&&◌, ◌||◌, List, [], ◌∷◌, length, map, Some, None, nat_lt, codes, refl, sym, ap, ap₂, ◌∙◌, arith, true≢false}
+use Rattle.std.specs.List.{list_all}
 use Rattle.std.specs.Int.{is_in_range}
-use Rattle.std.proofs.lemmas.Bool.{cases_Bool, false_from_ne_true, lt-ltb, eqb-true, eqb-false, and_right}
-use Rattle.iloc_spec_grammar.specs.Syntax.{Text, Field, Fields, Language, Script, Region, Variant, UnicodeKey, TransformKey, Attribute, Subtag, PrivateSubtag, languages, is_word, IsWord, lower, word_cmp, kept, Identifier}
-use Rattle.iloc_spec_grammar.specs.Reading.{take_first, skip_first, is_two, before_key, fields_from, optional_of, identifier_of, front_of, unicode_of, transform_of}
-use Rattle.iloc_spec_grammar.specs.Computing.{holds_if_some, all_different, is_identifier, is_keyword, is_unicode, is_field, is_transform, is_other, is_private, repeats_variant}
-use Rattle.iloc_spec_grammar.proofs.WordsLaws.{length-attribute, length-unicode_key, length-transform_key, length-script, length-region, length-variant}
+use Rattle.std.proofs.lemmas.Bool.{cases_Bool, false_from_ne_true, lt-ltb, eqb-true, eqb-false}
+use Rattle.iloc_spec_grammar.specs.Syntax.{Text, Fields, Language, Script, Region, Variant, UnicodeKey, TransformKey, Attribute, Subtag, languages, is_word, IsWord, lower, word_cmp}
+use Rattle.iloc_spec_grammar.specs.Reading.{take_first, skip_first, is_two, before_key, fields_from, identifier_of, front_of, unicode_of, transform_of}
+use Rattle.iloc_spec_grammar.specs.Computing.{holds_if_some, all_different, is_identifier, is_keyword, is_unicode, is_field, is_transform, is_other, repeats_variant}
+use Rattle.iloc_spec_grammar.proofs.WordsLaws.{length-attribute, length-unicode_key, length-transform_key, length-script, length-variant}
 use Rattle.iloc_faults.proofs.Words.{good, repeats}
 use Rattle.iloc_spec_grammar.proofs.Readings.{language_no_key, identifier_no_key}
 use Rattle.iloc_faults.specs.declared.state.Stage.{Stage}

@@ -1,22 +1,20 @@
 -- What the fault of the rest of a locale is, by what was read last: that of the rules of the grammar.
-use Rattle.std.proofs.Common.{◌≡◌, inl, inr, ℕ, suc, Bool, true, false, not, cond, ◌&&◌, ◌||◌, ◌==◌, List, [], ◌∷◌, ◌++◌, length, Option, Some, None, MatchOption, nat_lt, refl, sym, ap, ap₂, ◌∙◌, arith, true≢false, append-nil}
-use Rattle.std.specs.List.{list_any, list_all}
+use Rattle.std.proofs.Common.{◌≡◌, ℕ, Bool, true, false, not, cond, ◌&&◌, ◌||◌, ◌==◌, List, [], ◌∷◌, length, Option, Some, None, nat_lt, refl, ◌∙◌}
+use Rattle.std.specs.List.{list_all}
 use Rattle.std.specs.Char.{is_ascii_alphanumeric, to_ascii_lowercase}
-use Rattle.std.specs.Ordering.{nat_cmp, eq_by_cmp}
-use Rattle.std.proofs.lemmas.Bool.{cases_Bool, and_parts, not-true, or_parts}
-use Rattle.iloc_spec_grammar.specs.Syntax.{Text, Block, code_t, code_u, code_x, Language, Variant, UnicodeKey, TransformKey, Attribute, Subtag, PrivateSubtag, languages, is_word, word_cmp, lower_singleton, is_one_byte, is_other_singleton, front, blocks}
-use Rattle.iloc_spec_grammar.specs.Meaning.{Fault, InvalidLanguage, InvalidSubtag, InvalidExtension, DuplicatedExtension}
-use Rattle.iloc_spec_grammar.specs.Reading.{unicode_of, transform_of}
+use Rattle.std.proofs.lemmas.Bool.{and_parts, not-true, or_parts}
+use Rattle.iloc_spec_grammar.specs.Syntax.{Text, Block, code_t, code_x, PrivateSubtag, languages, is_word, word_cmp, lower_singleton, is_other_singleton, front, blocks}
+use Rattle.iloc_spec_grammar.specs.Meaning.{Fault, InvalidSubtag, InvalidExtension, DuplicatedExtension}
+use Rattle.iloc_spec_grammar.specs.Reading.{transform_of}
 use Rattle.iloc_spec_grammar.specs.Computing.{all_different, is_transform, is_other, is_private, is_block, first_fault, repeats_variant}
-use Rattle.iloc_spec_grammar.proofs.Singletons.{IsKind, of_u, of_t, of_x, another, kind_of, two_more, lower_letter}
+use Rattle.iloc_spec_grammar.proofs.Singletons.{IsKind, of_u, of_t, of_x, another, kind_of, lower_letter}
 use Rattle.iloc_told.specs.declared.Mode.TheVariants.{Locale}
 use Rattle.iloc_faults.specs.declared.state.Part.{Part}
 use Rattle.iloc_faults.specs.declared.state.Part.TheVariants.{Head, Transform, Source, FieldKey, FieldValue, Unicode, Keyword, Other, OtherWord, Private, PrivateWord}
 use Rattle.iloc_faults.specs.declared.state.Stage.{Stage}
-use Rattle.iloc_faults.specs.declared.state.Stage.TheVariants as stages
-use Rattle.iloc_faults.specs.Next.{Reached, plain, may_end, takes_any, part_of, is_seen, word_next, on_next, verdict}
-use Rattle.iloc_faults.proofs.Words.{good, repeats, good_after, repeats_after, good_end, single_next, no_next, word_step}
-use Rattle.iloc_faults.proofs.Bodies.{and_true, one_is_some, of_unicode, unicode_is, has_length, other_is, after_value, after_key, after_value_is, after_key_is, after_word, key_no_attribute, key_no_language, key_no_script, key_no_region, key_no_variant, transform_none, repeats_none, transform_is, repeats_is}
+use Rattle.iloc_faults.specs.Next.{Reached, plain, may_end, takes_any, part_of, is_seen, outcome}
+use Rattle.iloc_faults.proofs.Words.{good, repeats, good_end}
+use Rattle.iloc_faults.proofs.Bodies.{and_true, of_unicode, unicode_is, has_length, after_value, after_key, after_word, repeats_none}
 
 -- the fault of the blocks that follow, if the block is good
 abbrev pub block_answer : Bool → List ℕ → List Text → Option Fault
@@ -38,17 +36,17 @@ abbrev pub Differ : List Text → Type 0
 Differ vs = all_different word_cmp vs ≡ true
 
 pub record Claims (ps : List Text) : Type 0 where
-  pub keyword : (seen : List ℕ) → verdict Locale (plain seen Keyword) ps ≡ block_answer (list_all of_unicode (front ps)) seen ps
-  pub unicode : (seen : List ℕ) → verdict Locale (plain seen Unicode) ps ≡ block_answer (list_all of_unicode (front ps) && nat_lt 0 (length (front ps))) seen ps
-  pub other_word : (seen : List ℕ) → verdict Locale (plain seen OtherWord) ps ≡ block_answer (list_all has_length (front ps)) seen ps
-  pub other : (seen : List ℕ) → verdict Locale (plain seen Other) ps ≡ block_answer (is_other (front ps)) seen ps
-  pub field_value : (seen : List ℕ) → verdict Locale (plain seen FieldValue) ps ≡ block_answer (after_value (front ps)) seen ps
-  pub field_key : (seen : List ℕ) → verdict Locale (plain seen FieldKey) ps ≡ block_answer (after_key (front ps)) seen ps
-  pub source : (stage : Stage) (vs : List Text) (seen : List ℕ) → Differ vs → verdict Locale (in_words Source stage vs seen) ps ≡ transform_answer (after_word stage vs (front ps)) (repeats stage vs (front ps)) seen ps
-  pub transform : (seen : List ℕ) → verdict Locale (plain seen Transform) ps ≡ transform_answer (is_transform languages (transform_of (front ps))) (repeats_variant languages (front ps)) seen ps
-  pub private_word : (seen : List ℕ) → verdict Locale (plain seen PrivateWord) ps ≡ cond (list_all (is_word PrivateSubtag) ps) None (Some InvalidExtension)
-  pub private : (seen : List ℕ) → verdict Locale (plain seen Private) ps ≡ cond (is_private ps) None (Some InvalidExtension)
-  pub head : (stage : Stage) (vs : List Text) (seen : List ℕ) → Differ vs → verdict Locale (in_words Head stage vs seen) ps ≡ head_answer (good stage vs (front ps)) seen ps
+  pub keyword : (seen : List ℕ) → outcome Locale (plain seen Keyword) ps ≡ block_answer (list_all of_unicode (front ps)) seen ps
+  pub unicode : (seen : List ℕ) → outcome Locale (plain seen Unicode) ps ≡ block_answer (list_all of_unicode (front ps) && nat_lt 0 (length (front ps))) seen ps
+  pub other_word : (seen : List ℕ) → outcome Locale (plain seen OtherWord) ps ≡ block_answer (list_all has_length (front ps)) seen ps
+  pub other : (seen : List ℕ) → outcome Locale (plain seen Other) ps ≡ block_answer (is_other (front ps)) seen ps
+  pub field_value : (seen : List ℕ) → outcome Locale (plain seen FieldValue) ps ≡ block_answer (after_value (front ps)) seen ps
+  pub field_key : (seen : List ℕ) → outcome Locale (plain seen FieldKey) ps ≡ block_answer (after_key (front ps)) seen ps
+  pub source : (stage : Stage) (vs : List Text) (seen : List ℕ) → Differ vs → outcome Locale (in_words Source stage vs seen) ps ≡ transform_answer (after_word stage vs (front ps)) (repeats stage vs (front ps)) seen ps
+  pub transform : (seen : List ℕ) → outcome Locale (plain seen Transform) ps ≡ transform_answer (is_transform languages (transform_of (front ps))) (repeats_variant languages (front ps)) seen ps
+  pub private_word : (seen : List ℕ) → outcome Locale (plain seen PrivateWord) ps ≡ cond (list_all (is_word PrivateSubtag) ps) None (Some InvalidExtension)
+  pub private : (seen : List ℕ) → outcome Locale (plain seen Private) ps ≡ cond (is_private ps) None (Some InvalidExtension)
+  pub head : (stage : Stage) (vs : List Text) (seen : List ℕ) → Differ vs → outcome Locale (in_words Head stage vs seen) ps ≡ head_answer (good stage vs (front ps)) seen ps
 
 -- ---- nothing is left
 
@@ -95,21 +93,21 @@ or_false true = refl
 or_false false = refl
 
 module _ {ps : List Text} (at : Claims ps) where
-  of_block : (c : ℕ) (seen : List ℕ) → is_ascii_alphanumeric c ≡ true → verdict Locale (plain (to_ascii_lowercase c ∷ seen) (part_of (to_ascii_lowercase c))) ps ≡ body_fault c seen ps
+  of_block : (c : ℕ) (seen : List ℕ) → is_ascii_alphanumeric c ≡ true → outcome Locale (plain (to_ascii_lowercase c ∷ seen) (part_of (to_ascii_lowercase c))) ps ≡ body_fault c seen ps
   of_block c seen a = by (kind_of (to_ascii_lowercase c) (lower_letter c a))
     where
-      by : IsKind (to_ascii_lowercase c) → verdict Locale (plain (to_ascii_lowercase c ∷ seen) (part_of (to_ascii_lowercase c))) ps ≡ body_fault c seen ps
+      by : IsKind (to_ascii_lowercase c) → outcome Locale (plain (to_ascii_lowercase c ∷ seen) (part_of (to_ascii_lowercase c))) ps ≡ body_fault c seen ps
       by (of_u e) = rw e (rw unicode_is (at.unicode (117 ∷ seen)))
       by (of_t e) = rw e (at.transform (116 ∷ seen))
       by (of_x e) = rw e (rw or_false (at.private (120 ∷ seen)))
       by (another h) = let n = apart (to_ascii_lowercase c) h in rw (n.0, n.1, h, n.2) (at.other (to_ascii_lowercase c ∷ seen))
 
   pub begins : (c : ℕ) (part : Part) (vs : List Text) (seen : List ℕ) → may_end part ≡ true → takes_any part ≡ false
-      → verdict Locale (record { part = part; variants = vs; seen = seen }) ((c ∷ []) ∷ ps) ≡ first_fault languages seen (blocks ((c ∷ []) ∷ ps))
+      → outcome Locale (record { part = part; variants = vs; seen = seen }) ((c ∷ []) ∷ ps) ≡ first_fault languages seen (blocks ((c ∷ []) ∷ ps))
   begins c part vs seen e t = both (is_ascii_alphanumeric c) refl (is_seen seen c) refl ∙ shape (to_ascii_lowercase c == code_x) refl
     where
       both : (a : Bool) → is_ascii_alphanumeric c ≡ a → (s : Bool) → is_seen seen c ≡ s
-          → verdict Locale (record { part = part; variants = vs; seen = seen }) ((c ∷ []) ∷ ps) ≡ block_fault (is_ascii_alphanumeric c) (is_seen seen c) c seen ps
+          → outcome Locale (record { part = part; variants = vs; seen = seen }) ((c ∷ []) ∷ ps) ≡ block_fault (is_ascii_alphanumeric c) (is_seen seen c) c seen ps
       both false a s f = rw (t, e, a) refl
       both true a true f = rw (t, e, a, f) refl
       both true a false f = rw (t, e, a, f) (of_block c seen a)

@@ -1,8 +1,8 @@
 -- A data locale is accepted piece by piece exactly if the definitions accept it.
-use Rattle.std.proofs.Common.{◌≡◌, inl, inr, ℕ, zero, suc, ◌+◌, ◌≤◌, ◌<◌, Bool, true, false, not, cond, ◌&&◌, ◌||◌, ◌==◌, nat_le, List, [], ◌∷◌, ◌++◌, length, map, Option, Some, None, MatchOption, is_some, option_map, option_and_then, codes, Result, Ok, Err, ok_or, refl, sym, ap, ap₂, ◌∙◌, subst, arith, true≢false}
+use Rattle.std.proofs.Common.{◌≡◌, inl, inr, ℕ, zero, suc, ◌+◌, ◌≤◌, ◌<◌, Bool, true, false, cond, ◌&&◌, ◌==◌, nat_le, List, [], ◌∷◌, length, Option, Some, None, MatchOption, is_some, option_and_then, codes, Result, Ok, Err, refl, sym, ap, ◌∙◌, arith}
 use Rattle.std.specs.List.{list_all}
 use Rattle.std.specs.Char.{to_ascii_lowercase}
-use Rattle.std.proofs.lemmas.Bool.{cases_Bool, and_right, and_left, lt-leb, le-leb, eqb-true}
+use Rattle.std.proofs.lemmas.Bool.{cases_Bool, and_right, lt-leb, le-leb, eqb-true}
 use Rattle.iloc_spec_grammar.specs.Syntax.{Text, Block, code_u, code_x, Language, Variant, UnicodeKey, Attribute, languages, is_word, IsWord, lower, is_same, is_true, is_one_byte, front, blocks}
 use Rattle.iloc_spec_grammar.specs.Syntax as kinds
 use Rattle.iloc_spec_grammar.specs.Meaning.{Fault, normal_values}
@@ -10,16 +10,16 @@ use Rattle.iloc_spec_grammar.specs.Reading.{first_item, identifier_of}
 use Rattle.iloc_spec_grammar.proofs.Singletons.{two_more}
 use Rattle.iloc_spec_grammar.proofs.MapLaws.{same_is}
 use Rattle.iloc_spec_grammar.proofs.WordsLaws.{is_word-lower}
-use Rattle.iloc_spec_parts.specs.Small.{SmallIdentifier, SmallLocale}
+use Rattle.iloc_spec_parts.specs.Small.{SmallIdentifier}
 use Rattle.iloc_spec_parts.specs.SmallComputing.{is_u, has_small_keyword, is_small_block, keyword_read, small_identifier, small_identifier_result, blocks_result, after_identifier, has_small_variants}
-use Rattle.iloc_spec_preferences.specs.DataLocales.{DataLocale, named_subdivision, data_of_small, small_part}
+use Rattle.iloc_spec_preferences.specs.DataLocales.{named_subdivision}
 use Rattle.iloc_spec_preferences.specs.DataComputing.{data_of_result}
 use Rattle.iloc_told.specs.declared.Mode.TheVariants.{Data}
 use Rattle.iloc_faults.specs.declared.state.Part.TheVariants.{Head, Subdivision, SubdivisionKey, SubdivisionValue}
 use Rattle.iloc_faults.specs.declared.state.Stage.{Stage}
 use Rattle.iloc_faults.specs.declared.state.Stage.TheVariants as stages
-use Rattle.iloc_faults.specs.Next.{plain, started, after_region_next, after_script_next, word_next, verdict}
-use Rattle.iloc_faults.proofs.Words.{tail, single_next}
+use Rattle.iloc_faults.specs.Next.{plain, started, after_region_next, after_script_next, word_next, outcome}
+use Rattle.iloc_faults.proofs.Words.{tail}
 use Rattle.iloc_faults.proofs.Bodies.{and_assoc, and_true}
 use Rattle.iloc_faults.proofs.Claims.{in_words}
 
@@ -151,10 +151,10 @@ tail_of_other c ps h = elim (cases_Bool (to_ascii_lowercase c == code_x)) [ inl 
 -- ---- what follows is fine
 
 record Claims (ps : List Text) : Type 0 where
-  pub last : (seen : List ℕ) → fine (verdict Data (plain seen SubdivisionValue) ps) ≡ (trues (front ps) && empty (blocks ps))
-  pub value : (seen : List ℕ) → fine (verdict Data (plain seen SubdivisionKey) ps) ≡ (value (front ps) && empty (blocks ps))
-  pub key : (seen : List ℕ) → fine (verdict Data (plain seen Subdivision) ps) ≡ (keyword (front ps) && empty (blocks ps))
-  pub head : (stage : Stage) (vs : List Text) (seen : List ℕ) → length vs ≤ 1 → fine (verdict Data (in_words Head stage vs seen) ps) ≡ (few stage vs (front ps) && data_tail (blocks ps))
+  pub last : (seen : List ℕ) → fine (outcome Data (plain seen SubdivisionValue) ps) ≡ (trues (front ps) && empty (blocks ps))
+  pub value : (seen : List ℕ) → fine (outcome Data (plain seen SubdivisionKey) ps) ≡ (value (front ps) && empty (blocks ps))
+  pub key : (seen : List ℕ) → fine (outcome Data (plain seen Subdivision) ps) ≡ (keyword (front ps) && empty (blocks ps))
+  pub head : (stage : Stage) (vs : List Text) (seen : List ℕ) → length vs ≤ 1 → fine (outcome Data (in_words Head stage vs seen) ps) ≡ (few stage vs (front ps) && data_tail (blocks ps))
 
 at_end : Claims []
 at_end = record {
@@ -179,34 +179,34 @@ module _ (p : Text) (ps : List Text) (long : is_one_byte p ≡ false) (passed : 
   longer : front (p ∷ ps) ≡ p ∷ front ps
   longer = rw long refl
 
-  last : (seen : List ℕ) → fine (verdict Data (plain seen SubdivisionValue) (p ∷ ps)) ≡ (trues (front (p ∷ ps)) && empty (blocks (p ∷ ps)))
+  last : (seen : List ℕ) → fine (outcome Data (plain seen SubdivisionValue) (p ∷ ps)) ≡ (trues (front (p ∷ ps)) && empty (blocks (p ∷ ps)))
   last seen = rw (longer, passed) (rw trues_is (by (is_word Attribute p && is_true (lower p)) refl))
     where
-      by : (b : Bool) → (is_word Attribute p && is_true (lower p)) ≡ b → fine (verdict Data (plain seen SubdivisionValue) (p ∷ ps)) ≡ (((is_word Attribute p && is_true (lower p)) && trues (front ps)) && empty (blocks ps))
+      by : (b : Bool) → (is_word Attribute p && is_true (lower p)) ≡ b → fine (outcome Data (plain seen SubdivisionValue) (p ∷ ps)) ≡ (((is_word Attribute p && is_true (lower p)) && trues (front ps)) && empty (blocks ps))
       by true e = rw (long, e) (at.last seen)
       by false e = rw (long, e) refl
 
-  value_step : (seen : List ℕ) → fine (verdict Data (plain seen SubdivisionKey) (p ∷ ps)) ≡ (value (front (p ∷ ps)) && empty (blocks (p ∷ ps)))
+  value_step : (seen : List ℕ) → fine (outcome Data (plain seen SubdivisionKey) (p ∷ ps)) ≡ (value (front (p ∷ ps)) && empty (blocks (p ∷ ps)))
   value_step seen = rw (longer, passed) (rw value_is (by (is_word Attribute p) refl (is_true (lower p)) refl (is_some (named_subdivision (lower p))) refl))
     where
       by : (a : Bool) → is_word Attribute p ≡ a → (t : Bool) → is_true (lower p) ≡ t → (n : Bool) → is_some (named_subdivision (lower p)) ≡ n
-          → fine (verdict Data (plain seen SubdivisionKey) (p ∷ ps)) ≡ ((is_word Attribute p && cond (is_true (lower p)) (value (front ps)) (is_some (named_subdivision (lower p)) && trues (front ps))) && empty (blocks ps))
+          → fine (outcome Data (plain seen SubdivisionKey) (p ∷ ps)) ≡ ((is_word Attribute p && cond (is_true (lower p)) (value (front ps)) (is_some (named_subdivision (lower p)) && trues (front ps))) && empty (blocks ps))
       by false a t e n f = rw (long, a) refl
       by true a true e n f = rw (long, a, e) (at.value seen)
       by true a false e true f = rw (long, a, e, f) (at.last seen)
       by true a false e false f = rw (long, a, e, f) refl
 
-  key : (seen : List ℕ) → fine (verdict Data (plain seen Subdivision) (p ∷ ps)) ≡ (keyword (front (p ∷ ps)) && empty (blocks (p ∷ ps)))
+  key : (seen : List ℕ) → fine (outcome Data (plain seen Subdivision) (p ∷ ps)) ≡ (keyword (front (p ∷ ps)) && empty (blocks (p ∷ ps)))
   key seen = rw (longer, passed) (rw keyword_is (by (is_same (lower p) (codes "sd")) refl))
     where
-      by : (b : Bool) → is_same (lower p) (codes "sd") ≡ b → fine (verdict Data (plain seen Subdivision) (p ∷ ps)) ≡ ((is_same (lower p) (codes "sd") && value (front ps)) && empty (blocks ps))
+      by : (b : Bool) → is_same (lower p) (codes "sd") ≡ b → fine (outcome Data (plain seen Subdivision) (p ∷ ps)) ≡ ((is_same (lower p) (codes "sd") && value (front ps)) && empty (blocks ps))
       by true e = rw (long, e) (at.value seen)
       by false e = rw (long, e) refl
 
-  head : (stage : Stage) (vs : List Text) (seen : List ℕ) → length vs ≤ 1 → fine (verdict Data (in_words Head stage vs seen) (p ∷ ps)) ≡ (few stage vs (front (p ∷ ps)) && data_tail (blocks (p ∷ ps)))
+  head : (stage : Stage) (vs : List Text) (seen : List ℕ) → length vs ≤ 1 → fine (outcome Data (in_words Head stage vs seen) (p ∷ ps)) ≡ (few stage vs (front (p ∷ ps)) && data_tail (blocks (p ∷ ps)))
   head stage vs seen d = rw (longer, passed) (let s = word_step stage vs p (front ps) d in rw s.few_is (by (word_next Data stage vs p) refl s.keeps))
     where
-      by : (o : Option (Stage × List Text)) → word_next Data stage vs p ≡ o → MatchOption o (Unit {0}) (λ w. length w.1 ≤ 1) → fine (verdict Data (in_words Head stage vs seen) (p ∷ ps)) ≡ (few_after o (front ps) && data_tail (blocks ps))
+      by : (o : Option (Stage × List Text)) → word_next Data stage vs p ≡ o → MatchOption o (Unit {0}) (λ w. length w.1 ≤ 1) → fine (outcome Data (in_words Head stage vs seen) (p ∷ ps)) ≡ (few_after o (front ps) && data_tail (blocks ps))
       by None e k = rw (long, e) refl
       by (Some w) e k = rw (long, e) (at.head w.0 w.1 seen k)
 
@@ -219,10 +219,10 @@ claims ([] ∷ ps) = at_long [] ps refl refl (claims ps)
 claims ((c ∷ []) ∷ ps) = at_single c (claims ps)
 claims ((c ∷ d ∷ p) ∷ ps) = at_long (c ∷ d ∷ p) ps (two_more (length p)) refl (claims ps)
 
-pub data_verdict : (p : Text) (ps : List Text) → fine (verdict Data started (p ∷ ps)) ≡ (is_word (Language languages) p && (few stages.Language [] (front ps) && data_tail (blocks ps)))
+pub data_verdict : (p : Text) (ps : List Text) → fine (outcome Data started (p ∷ ps)) ≡ (is_word (Language languages) p && (few stages.Language [] (front ps) && data_tail (blocks ps)))
 data_verdict p ps = by (is_word (Language languages) p) refl
   where
-    by : (a : Bool) → is_word (Language languages) p ≡ a → fine (verdict Data started (p ∷ ps)) ≡ (is_word (Language languages) p && (few stages.Language [] (front ps) && data_tail (blocks ps)))
+    by : (a : Bool) → is_word (Language languages) p ≡ a → fine (outcome Data started (p ∷ ps)) ≡ (is_word (Language languages) p && (few stages.Language [] (front ps) && data_tail (blocks ps)))
     by false e = elim (cases_Bool (is_one_byte p)) [ inl o ↦ rw (o, e) refl | inr o ↦ rw (o, e) refl ]
     by true e = elim (cases_Bool (is_one_byte p)) [ inl o ↦ rw (o, e) ((claims ps).head stages.Language [] [] (omega arith)) | inr o ↦ rw (o, e) ((claims ps).head stages.Language [] [] (omega arith)) ]
 

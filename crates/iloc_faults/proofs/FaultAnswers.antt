@@ -1,12 +1,12 @@
 -- What the walk says, in the words of the definitions.
-use Rattle.std.proofs.Common.{◌≡◌, ◌≢◌, ◌↔◌, ◌⊎◌, inl, inr, ℕ, ◌+◌, ◌≤◌, true, false, List, [], ◌∷◌, ◌++◌, length, Option, Some, None, IfSome, Result, Ok, Err, refl, sym, ap, ◌∙◌, subst, arith, length-append, true≢false}
+use Rattle.std.proofs.Common.{◌≡◌, ◌≢◌, ◌↔◌, inl, inr, ℕ, ◌≤◌, ◌∷◌, ◌++◌, length, Option, Some, None, IfSome, Result, Ok, Err, refl, sym, ap, ◌∙◌, subst, arith, length-append, true≢false}
 use Rattle.std.proofs.lemmas.List.Concat.{flat_map-append}
 use Rattle.iloc_spec_grammar.specs.Syntax.{Text, pieces, join, dashes, languages}
 use Rattle.iloc_spec_grammar.specs.Meaning as grammar
 use Rattle.iloc_spec_grammar.proofs.PiecesLaws.{at_pieces, join-pieces}
 use Rattle.iloc_spec_grammar.proofs.PartTexts.{join-dashes}
 use Rattle.iloc_spec_grammar.proofs.RawLaws.{languages_table}
-use Rattle.iloc_spec_preferences.specs.DataLocales.{DataMeans, HasDataFault}
+use Rattle.iloc_spec_preferences.specs.DataLocales.{HasDataFault}
 use Rattle.iloc_spec_preferences.proofs.DataLaws.{data_apart}
 use Rattle.iloc_subtags.specs.declared.parse_error.ParseError.{ParseError}
 use Rattle.iloc_subtags.specs.declared.parse_error.ParseError.TheVariants.{InvalidLanguage, InvalidSubtag, InvalidExtension, DuplicatedExtension, OutOfMemory}
@@ -18,9 +18,9 @@ use Rattle.iloc_told.specs.Modes.{IsFaulty}
 use Rattle.iloc_told.specs.declared.Mode.{Mode}
 use Rattle.iloc_told.specs.declared.Mode.TheVariants.{Data}
 use Rattle.iloc_faults.specs.declared.Fault.{Fault}
-use Rattle.iloc_faults.specs.Next.{started, verdict}
-use Rattle.iloc_faults.specs.Places.{IsAccepted, IsPlace, IsFault, StandsAtPiece}
-use Rattle.iloc_faults.specs.States.{IsFound}
+use Rattle.iloc_faults.specs.Next.{started, outcome}
+use Rattle.iloc_faults.specs.Places.{IsAccepted, IsFaultPlace, IsFault}
+use Rattle.iloc_faults.specs.States.{IsFaultFound}
 use Rattle.iloc_faults.proofs.DataSteps.{fine}
 use Rattle.iloc_faults.proofs.Answers.{accepted_is, faulty_is}
 
@@ -35,14 +35,14 @@ refused Has f e h x = subst (Refusal Has ⊥) (sym h) (at f x)
     at grammar.DuplicatedExtension x = x
 
 -- what is found is no accepted text
-found_not : (mode : Mode) (t : Text) (f : Fault) → IsFound mode t f → ¬ (IsAccepted mode t)
+found_not : (mode : Mode) (t : Text) (f : Fault) → IsFaultFound mode t f → ¬ (IsAccepted mode t)
 found_not mode t f h a = true≢false (sym ((accepted_is mode t).0 a) ∙ ap fine h.has)
 
-pub good_is : (mode : Mode) (t : Text) (o : Option Fault) → (o ≡ None → verdict mode started (pieces t) ≡ None) → IfSome o (IsFound mode t) → (o ≡ None) ↔ IsAccepted mode t
+pub good_is : (mode : Mode) (t : Text) (o : Option Fault) → (o ≡ None → outcome mode started (pieces t) ≡ None) → IfSome o (IsFaultFound mode t) → (o ≡ None) ↔ IsAccepted mode t
 good_is mode t None good bad = (λ e. (accepted_is mode t).1 (ap fine (good refl)), λ a. refl)
 good_is mode t (Some f) good bad = (λ e. cc, λ a. absurd (found_not mode t f bad a))
 
-pub bad_is : (mode : Mode) (t : Text) → mode ≢ Data → (o : Option Fault) → IfSome o (IsFound mode t) → IfSome o (IsFault mode t)
+pub bad_is : (mode : Mode) (t : Text) → mode ≢ Data → (o : Option Fault) → IfSome o (IsFaultFound mode t) → IfSome o (IsFault mode t)
 bad_is mode t n None bad = tt
 bad_is mode t n (Some f) bad = record {
   refusal = refused (IsFaulty languages mode t) bad.fault f.refusal bad.refusal (faulty_is mode t bad.fault n bad.has);
@@ -65,10 +65,10 @@ data_read t p r h e = (value_of p, subst (PartsTextReads t) e h)
 pub data_not : (t : Text) (e : ParseError) (r : Result DataParts ParseError) → PartsTextReads t r → r ≡ Err e → ¬ (IsAccepted Data t)
 data_not t e r h k a = let f = faulty t e (subst (PartsTextReads t) k h) in data_apart languages_table t a.0 f.0 a.1 f.1
 
-pub data_is : (t : Text) (e : ParseError) (r : Result DataParts ParseError) → PartsTextReads t r → r ≡ Err e → (f g : Fault) → IsFound Data t f → g.refusal ≡ e → g.start ≡ f.start → g.end ≡ f.end → IsFault Data t g
+pub data_is : (t : Text) (e : ParseError) (r : Result DataParts ParseError) → PartsTextReads t r → r ≡ Err e → (f g : Fault) → IsFaultFound Data t f → g.refusal ≡ e → g.start ≡ f.start → g.end ≡ f.end → IsFault Data t g
 data_is t e r h k f g found x y z = record {
   refusal = subst (HasRefusal Data t) (sym x) (subst (PartsTextReads t) k h);
-  place = subst (λ (a : ℕ). IsPlace Data t a g.end) (sym y) (subst (λ (b : ℕ). IsPlace Data t f.start b) (sym z) found.place);
+  place = subst (λ (a : ℕ). IsFaultPlace Data t a g.end) (sym y) (subst (λ (b : ℕ). IsFaultPlace Data t f.start b) (sym z) found.place);
 }
 
 -- ---- the place lies within the text
@@ -76,7 +76,7 @@ data_is t e r h k f g found x y z = record {
 dashed : (t : Text) → dashes (pieces t) ≡ 45 ∷ t
 dashed t = at_pieces (λ ps. dashes ps ≡ 45 ∷ join ps) (λ p ps. ap (λ q. 45 ∷ q) (sym (join-dashes p ps))) t ∙ ap (λ q. 45 ∷ q) (join-pieces t)
 
-place_inside : (mode : Mode) (t : Text) (a b : ℕ) → IsPlace mode t a b → (a ≤ b) × (b ≤ length t)
+place_inside : (mode : Mode) (t : Text) (a b : ℕ) → IsFaultPlace mode t a b → (a ≤ b) × (b ≤ length t)
 place_inside mode t a b (inr p) = let x = p.from in let y = p.to in (omega arith, omega arith)
 place_inside mode t a b (inl p) =
     let x = p.from in

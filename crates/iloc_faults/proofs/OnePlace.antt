@@ -1,8 +1,8 @@
 -- A text has one place of its fault.
 use Rattle.std.proofs.Common.{◌≡◌, ◌⊎◌, inl, inr, ℕ, ◌+◌, List, [], ◌∷◌, ◌++◌, length, refl, sym, ap, ap₂, ◌∙◌, subst, append_assoc}
-use Rattle.iloc_spec_grammar.specs.Syntax.{Text, pieces, dashes}
+use Rattle.iloc_spec_grammar.specs.Syntax.{Text, dashes}
 use Rattle.iloc_told.specs.declared.Mode.{Mode}
-use Rattle.iloc_faults.specs.Places.{GoOn, StandsAtPiece, StandsAtEnd, IsPlace}
+use Rattle.iloc_faults.specs.Places.{GoOn, StandsAtPiece, StandsAtEnd, IsFaultPlace}
 
 -- fewer pieces go on too
 pub fewer : {mode : Mode} (ps qs : List Text) → GoOn mode (ps ++ qs) → GoOn mode ps
@@ -41,7 +41,7 @@ at_pieces x y = elim (same_cut x.before y.before x.piece y.piece x.after y.after
 piece_and_end : {mode : Mode} {t : Text} {a b c d : ℕ} → StandsAtPiece mode t a b → StandsAtEnd mode t c d → ⊥
 piece_and_end x y = x.no_longer (fewer (x.before ++ (x.piece ∷ [])) x.after (subst (GoOn _) (x.cut ∙ sym (append_assoc x.before (x.piece ∷ []) x.after)) y.go_on))
 
-pub one_place : (mode : Mode) (t : Text) (a b c d : ℕ) → IsPlace mode t a b → IsPlace mode t c d → (a ≡ c) × (b ≡ d)
+pub one_place : (mode : Mode) (t : Text) (a b c d : ℕ) → IsFaultPlace mode t a b → IsFaultPlace mode t c d → (a ≡ c) × (b ≡ d)
 one_place mode t a b c d (inl x) (inl y) = at_pieces x y
 one_place mode t a b c d (inl x) (inr y) = absurd (piece_and_end x y)
 one_place mode t a b c d (inr x) (inl y) = absurd (piece_and_end y x)

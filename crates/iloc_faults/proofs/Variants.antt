@@ -1,8 +1,8 @@
 -- Variants that differ, one more at the end.
-use Rattle.std.proofs.Common.{◌≡◌, inl, inr, Bool, true, false, not, ◌&&◌, ◌||◌, List, [], ◌∷◌, ◌++◌, refl, sym, ap, ap₂, ◌∙◌, subst, true≢false}
+use Rattle.std.proofs.Common.{◌≡◌, inl, inr, true, false, List, [], ◌∷◌, ◌++◌, refl, sym, ◌∙◌, true≢false}
 use Rattle.std.specs.List.{list_any}
 use Rattle.std.specs.Ordering.{eq_by_cmp}
-use Rattle.std.proofs.lemmas.Bool.{and_parts, and_left, and_right, and_from, or_cases, or_parts, or_from, or_left, or_right, not-true, not_from_true, not_from_false, cases_Bool, false_from_ne_true}
+use Rattle.std.proofs.lemmas.Bool.{and_parts, and_left, and_right, and_from, or_cases, or_parts, or_from, or_left, or_right, not-true, not_from_true, not_from_false, false_from_ne_true}
 use Rattle.std.proofs.lemmas.List.Folds.{list_any-append}
 use Rattle.iloc_spec_grammar.specs.Syntax.{Text, word_cmp, is_same}
 use Rattle.iloc_spec_grammar.specs.Computing.{all_different}

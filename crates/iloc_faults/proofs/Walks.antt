@@ -1,5 +1,5 @@
 -- What the walk over the pieces of a text says.
-use Rattle.std.proofs.Common.{◌≡◌, ◌≢◌, inl, inr, ℕ, zero, suc, ◌+◌, ◌-◌, ◌<◌, ◌≤◌, Bool, true, false, ◌==◌, List, [], ◌∷◌, ◌++◌, length, get_or, take, drop, Option, Some, None, refl, sym, ap, ◌∙◌, subst, arith, append_assoc, append-nil, length-append, take_all}
+use Rattle.std.proofs.Common.{◌≡◌, ◌≢◌, inl, inr, ℕ, zero, suc, ◌+◌, ◌-◌, ◌<◌, ◌≤◌, true, false, ◌==◌, List, [], ◌∷◌, ◌++◌, length, get_or, take, drop, Option, Some, None, refl, sym, ap, ◌∙◌, arith, append_assoc, append-nil, length-append, take_all}
 use Rattle.std.specs.List.{slice_split, onto_first}
 use Rattle.std.proofs.lemmas.Bool.{eq-eqb, ne_eqb, cases_lt}
 use Rattle.std.proofs.lemmas.List.{get_or-take, get_or-drop}
@@ -8,17 +8,16 @@ use Rattle.iloc_spec_grammar.specs.Syntax.{Text, pieces, dashes, first_piece}
 use Rattle.iloc_spec_grammar.specs.Meaning.{InvalidExtension}
 use Rattle.iloc_spec_grammar.proofs.PiecesLaws.{at_pieces}
 use Rattle.iloc_subtags.specs.Judging.{error_of}
-use Rattle.iloc_pieces.specs.Left.{IsRemainder, IsNextPiece, IsShortPiece, IsEnd, piece_left, pieces_left, bytes_left}
+use Rattle.iloc_pieces.specs.Left.{IsRemainder, IsNextPiece, piece_left, pieces_left, bytes_left}
 use Rattle.iloc_pieces.specs.declared.left.Left.{Left}
 use Rattle.iloc_pieces.proofs.LeftLemmas.{length_rest, next_at, last_piece}
 use Rattle.iloc_told.specs.declared.Mode.{Mode}
 use Rattle.iloc_faults.specs.declared.Fault.{Fault}
 use Rattle.iloc_faults.specs.declared.state.Part.TheVariants.{Start}
 use Rattle.iloc_faults.specs.declared.state.State.{State}
-use Rattle.iloc_faults.specs.Next.{Reached, started, may_end, next, run, refusal, verdict}
-use Rattle.iloc_faults.specs.Places.{GoOn}
-use Rattle.iloc_faults.specs.States.{IsRead, IsReading, IsFound, reached}
-use Rattle.iloc_faults.proofs.Going.{run_append, verdict_run, goes_on, goes_no_longer}
+use Rattle.iloc_faults.specs.Next.{Reached, started, may_end, next, piece_fault, outcome}
+use Rattle.iloc_faults.specs.States.{IsRead, IsPieceRead, IsFaultFound, reached}
+use Rattle.iloc_faults.proofs.Going.{run, run_append, verdict_run, goes_on, goes_no_longer}
 use Rattle.iloc_faults.proofs.Bits.{none_seen}
 
 -- ---- where a piece ends
@@ -105,7 +104,7 @@ walk_starts mode t at h e b = record {
 }
 
 -- nothing was read, and so the piece may not come next
-pub none_else : (at : Left) (o : Option Reached) (r : Option State) → ((s : State) → r ≢ Some s) → IsReading at o r → o ≡ None
+pub none_else : (at : Left) (o : Option Reached) (r : Option State) → ((s : State) → r ≢ Some s) → IsPieceRead at o r → o ≡ None
 none_else at o None n h = h
 none_else at o (Some s) n h = absurd (n s refl)
 
@@ -126,10 +125,10 @@ module _ {mode : Mode} {t : Text} {at : Left} {s : State} (w : IsWalked mode t a
   one_cut rest e = w.cut ∙ ap (λ ps. w.done ++ ps) e ∙ sym (append_assoc w.done (piece_left at ∷ []) rest)
 
   -- the piece may not come next
-  pub walk_stops : next mode now (piece_left at) ≡ None → (f : Fault) → f.refusal ≡ error_of (refusal mode s.part (piece_left at)) → f.start ≡ at.at → f.end ≡ at.at + length (piece_left at) → IsFound mode t f
+  pub walk_stops : next mode now (piece_left at) ≡ None → (f : Fault) → f.refusal ≡ error_of (piece_fault mode s.part (piece_left at)) → f.start ≡ at.at → f.end ≡ at.at + length (piece_left at) → IsFaultFound mode t f
   walk_stops e f r a b = let rest = some_left at in record {
-    fault = refusal mode s.part (piece_left at);
-    has = ap (verdict mode started) (w.cut ∙ ap (λ ps. w.done ++ ps) rest.1) ∙ verdict_run mode started now w.done (piece_left at ∷ rest.0) w.ran ∙ stops rest.0;
+    fault = piece_fault mode s.part (piece_left at);
+    has = ap (outcome mode started) (w.cut ∙ ap (λ ps. w.done ++ ps) rest.1) ∙ verdict_run mode started now w.done (piece_left at ∷ rest.0) w.ran ∙ stops rest.0;
     refusal = r;
     place = inl (record {
       before = w.done;
@@ -143,11 +142,11 @@ module _ {mode : Mode} {t : Text} {at : Left} {s : State} (w : IsWalked mode t a
     });
   }
     where
-      stops : (rest : List Text) → verdict mode now (piece_left at ∷ rest) ≡ Some (refusal mode s.part (piece_left at))
+      stops : (rest : List Text) → outcome mode now (piece_left at ∷ rest) ≡ Some (piece_fault mode s.part (piece_left at))
       stops rest = rw e refl
 
   -- it may, and another follows
-  pub walk_on : {m : Left} (q : State) → IsReading at (next mode now (piece_left at)) (Some q) → IsNextPiece at m → IsWalked mode t m q
+  pub walk_on : {m : Left} (q : State) → IsPieceRead at (next mode now (piece_left at)) (Some q) → IsNextPiece at m → IsWalked mode t m q
   walk_on {m = m} q r n = record {
     left = n.left;
     done = w.done ++ (piece_left at ∷ []);
@@ -160,7 +159,7 @@ module _ {mode : Mode} {t : Text} {at : Left} {s : State} (w : IsWalked mode t a
   }
 
   -- it may, and is the last one
-  pub walk_all : (q : State) → IsReading at (next mode now (piece_left at)) (Some q) → at.n ≡ at.len → IsAll mode t q
+  pub walk_all : (q : State) → IsPieceRead at (next mode now (piece_left at)) (Some q) → at.n ≡ at.len → IsAll mode t q
   walk_all q r e =
       let end = last_piece at w.left e r.3 in
       record {
@@ -170,13 +169,13 @@ module _ {mode : Mode} {t : Text} {at : Left} {s : State} (w : IsWalked mode t a
       }
 
 module _ {mode : Mode} {t : Text} {s : State} (w : IsAll mode t s) where
-  last_verdict : verdict mode started (pieces t) ≡ verdict mode (reached s.part w.variants w.seen) []
-  last_verdict = ap (verdict mode started) (sym (append-nil (pieces t))) ∙ verdict_run mode started (reached s.part w.variants w.seen) (pieces t) [] w.ran
+  last_verdict : outcome mode started (pieces t) ≡ outcome mode (reached s.part w.variants w.seen) []
+  last_verdict = ap (outcome mode started) (sym (append-nil (pieces t))) ∙ verdict_run mode started (reached s.part w.variants w.seen) (pieces t) [] w.ran
 
-  pub all_good : may_end s.part ≡ true → verdict mode started (pieces t) ≡ None
+  pub all_good : may_end s.part ≡ true → outcome mode started (pieces t) ≡ None
   all_good e = last_verdict ∙ rw e refl
 
-  pub all_short : may_end s.part ≡ false → (f : Fault) → f.refusal ≡ error_of InvalidExtension → f.start ≡ length t → f.end ≡ length t → IsFound mode t f
+  pub all_short : may_end s.part ≡ false → (f : Fault) → f.refusal ≡ error_of InvalidExtension → f.start ≡ length t → f.end ≡ length t → IsFaultFound mode t f
   all_short e f r a b = record {
     fault = InvalidExtension;
     has = last_verdict ∙ rw e refl;

@@ -1,8 +1,8 @@
 -- The words of an identifier, one piece more.
-use Rattle.std.proofs.Common.{◌≡◌, ◌≢◌, inl, inr, ℕ, Bool, true, false, not, cond, ◌&&◌, ◌||◌, List, [], ◌∷◌, ◌++◌, length, map, Option, Some, None, MatchOption, refl, sym, ap, ap₂, ◌∙◌, subst, arith, true≢false, append_assoc, append-nil}
+use Rattle.std.proofs.Common.{◌≡◌, inl, inr, Bool, true, false, not, ◌&&◌, List, [], ◌∷◌, ◌++◌, length, map, Option, Some, None, MatchOption, refl, sym, ap, ◌∙◌, arith, append_assoc, append-nil}
 use Rattle.std.specs.List.{list_any, list_all}
 use Rattle.std.specs.Ordering.{eq_by_cmp}
-use Rattle.std.proofs.lemmas.Bool.{and_right, cases_Bool, false_from_ne_true, eqb-true, not_from_false}
+use Rattle.std.proofs.lemmas.Bool.{and_right, cases_Bool, false_from_ne_true, eqb-true}
 use Rattle.iloc_spec_grammar.specs.Syntax.{Text, Variant, is_word, IsWord, lower, word_cmp, is_one_byte}
 use Rattle.iloc_spec_grammar.specs.Syntax as kinds
 use Rattle.iloc_spec_grammar.specs.Reading.{skip_first, passing}

@@ -1,6 +1,6 @@
 -- What may come next in a text, piece by piece, and what was read when it ends: a device of proofs.
 -- Restates UTS #35, section 3, and what a data locale is, as a reader from the left keeps to it.
-use Rattle.std.specs.Prelude.{◌≡◌, ℕ, Bool, true, false, not, ◌&&◌, ◌||◌, ◌==◌, List, [], ◌∷◌, ◌++◌, length, slice_index, Option, Some, None, option_map, is_some, if◌then◌else◌, codes}
+use Rattle.std.specs.Prelude.{ℕ, Bool, true, false, not, ◌&&◌, ◌||◌, ◌==◌, List, [], ◌∷◌, ◌++◌, length, slice_index, Option, Some, None, option_map, is_some, if◌then◌else◌, codes}
 use Rattle.std.specs.Char.{is_ascii_alphanumeric, to_ascii_lowercase}
 use Rattle.std.specs.Int.{is_in_range}
 use Rattle.std.specs.List.{list_any}
@@ -153,12 +153,6 @@ next mode r p = if begins_block r.part p
     then block_next mode r.part r.seen (slice_index p 0)
     else inside_next mode r.part r.variants r.seen p
 
--- what was read with more pieces
-abbrev pub run : Mode → Option Reached → List Text → Option Reached
-run mode None ps = None
-run mode (Some r) [] = Some r
-run mode (Some r) (p ∷ ps) = run mode (next mode r p) ps
-
 -- Why a text is refused as an identifier or a locale.
 
 -- the fault of a piece that begins a block and may not come next in a locale
@@ -173,9 +167,9 @@ inside_refusal (Source stage) p = if is_word Variant p then InvalidSubtag else I
 inside_refusal part p = InvalidExtension
 
 -- the fault of a piece that may not come next
-abbrev pub refusal : Mode → Part → Text → Fault
-refusal Langid part p = inside_refusal part p
-refusal _ part p = if begins_block part p then block_refusal part (slice_index p 0)
+abbrev pub piece_fault : Mode → Part → Text → Fault
+piece_fault Langid part p = inside_refusal part p
+piece_fault _ part p = if begins_block part p then block_refusal part (slice_index p 0)
     else inside_refusal part p
 
 -- what follows from the next state, or this fault if there is none
@@ -184,7 +178,7 @@ on_next fault go None = Some fault
 on_next fault go (Some r) = go r
 
 -- the fault of what follows, if it has one
-abbrev pub verdict : Mode → Reached → List Text → Option Fault
-verdict mode r [] = if may_end r.part then None else Some InvalidExtension
-verdict mode r (p ∷ ps) =
-    on_next (refusal mode r.part p) (λ s. verdict mode s ps) (next mode r p)
+abbrev pub outcome : Mode → Reached → List Text → Option Fault
+outcome mode r [] = if may_end r.part then None else Some InvalidExtension
+outcome mode r (p ∷ ps) =
+    on_next (piece_fault mode r.part p) (λ s. outcome mode s ps) (next mode r p)

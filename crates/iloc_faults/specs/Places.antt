@@ -42,10 +42,10 @@ pub record StandsAtEnd (mode : Mode) (t : Text) (start end : ℕ) : Type 0 where
   pub to : end ≡ length t
 
 -- where the fault of a refused text stands
-abbrev pub IsPlace : Mode → Text → ℕ → ℕ → Type 0
-IsPlace mode t start end = StandsAtPiece mode t start end ⊎ StandsAtEnd mode t start end
+abbrev pub IsFaultPlace : Mode → Text → ℕ → ℕ → Type 0
+IsFaultPlace mode t start end = StandsAtPiece mode t start end ⊎ StandsAtEnd mode t start end
 
 -- why the text is refused, and where its fault stands
 pub record IsFault (mode : Mode) (t : Text) (f : Fault) : Type 0 where
   pub refusal : HasRefusal mode t f.refusal
-  pub place : IsPlace mode t f.start f.end
+  pub place : IsFaultPlace mode t f.start f.end

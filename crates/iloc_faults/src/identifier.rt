@@ -5,7 +5,7 @@ ghost use Rattle.std.specs.Ordering.{eq_by_cmp};
 ghost use Rattle.iloc_spec_grammar.specs.Syntax.{Text, IsWord, Variant, lower, word_cmp};
 ghost use Rattle.iloc_pieces.specs.Left.{IsRemainder, piece_left};
 ghost use Rattle.iloc_faults.specs.Next.{after_region_next, after_script_next, is_new, word_next};
-ghost use Rattle.iloc_faults.specs.States.{AreVariants, IsBefore, IsEarly, IsWordRead};
+ghost use Rattle.iloc_faults.specs.States.{AreVariantsRead, AreVariantsBetween, IsEarly, IsWordRead};
 
 use crate::state::Stage;
 use iloc_pieces::left::{Left, is_region, is_script, is_variant, next, word_number};
@@ -15,8 +15,8 @@ use iloc_told::Mode;
 fn is_repeated(first: Left<'_>, at: Left<'_>) -> bool
     requires left { IsRemainder at }
     requires word { IsWord Variant (piece_left at) }
-    requires before { (ps : List Text) × IsBefore first at ps }
-    ensures { (ps : List Text) → IsBefore first.entry at.entry ps
+    requires before { (ps : List Text) × AreVariantsBetween first at ps }
+    ensures { (ps : List Text) → AreVariantsBetween first.entry at.entry ps
         → result ≡ list_any (eq_by_cmp word_cmp (lower (piece_left at.entry))) (map lower ps) }
 {
     let word = word_number(at);
@@ -34,8 +34,8 @@ fn is_repeated(first: Left<'_>, at: Left<'_>) -> bool
 fn is_new(mode: Mode, variants: Option<Left<'_>>, at: Left<'_>) -> bool
     requires left { IsRemainder at }
     requires word { IsWord Variant (piece_left at) }
-    requires before { (vs : List Text) × AreVariants variants at vs }
-    ensures { (vs : List Text) → AreVariants variants.entry at.entry vs
+    requires before { (vs : List Text) × AreVariantsRead variants at vs }
+    ensures { (vs : List Text) → AreVariantsRead variants.entry at.entry vs
         → result ≡ is_new mode vs (lower (piece_left at.entry)) }
 {
     match variants {
@@ -54,8 +54,8 @@ fn read_variant<'a>(
     at: Left<'a>,
 ) -> Option<(Stage, Option<Left<'a>>)>
     requires left { IsRemainder at }
-    requires before { (vs : List Text) × AreVariants variants at vs }
-    ensures { (vs : List Text) → AreVariants variants.entry at.entry vs
+    requires before { (vs : List Text) × AreVariantsRead variants at vs }
+    ensures { (vs : List Text) → AreVariantsRead variants.entry at.entry vs
         → IsWordRead at.entry (after_region_next mode vs (piece_left at.entry)) result }
 {
     if !is_variant(at) {
@@ -90,9 +90,9 @@ pub fn read_word<'a>(
     at: Left<'a>,
 ) -> Option<(Stage, Option<Left<'a>>)>
     requires left { IsRemainder at }
-    requires before { (vs : List Text) × AreVariants variants at vs }
+    requires before { (vs : List Text) × AreVariantsRead variants at vs }
     requires early { IsEarly stage variants }
-    ensures { (vs : List Text) → AreVariants variants.entry at.entry vs
+    ensures { (vs : List Text) → AreVariantsRead variants.entry at.entry vs
         → IsWordRead at.entry (word_next mode stage vs (piece_left at.entry)) result }
 {
     match stage {

@@ -7,7 +7,7 @@ ghost use Rattle.iloc_pieces.specs.Left.{IsRemainder, piece_left};
 ghost use Rattle.iloc_told.specs.declared.Mode.TheVariants as modes;
 ghost use Rattle.iloc_faults.specs.Next as steps;
 ghost use Rattle.iloc_faults.specs.Next.{begins_block, block_next, inside_next, may_begin, part_of, piece_next, subdivision_next, when};
-ghost use Rattle.iloc_faults.specs.States.{IsRead, IsReading, bare, bit_place, reached};
+ghost use Rattle.iloc_faults.specs.States.{IsRead, IsPieceRead, bare, bit_place, reached};
 
 use crate::identifier::read_word;
 use crate::state::{Part, Stage, State, may_end, takes_any};
@@ -109,7 +109,7 @@ fn read_inside<'a>(mode: Mode, state: State<'a>, at: Left<'a>) -> Option<State<'
     requires left { IsRemainder at }
     requires read { (vs : List Text) × (seen : List ℕ) × IsRead state at vs seen }
     ensures { (vs : List Text) (seen : List ℕ) → IsRead state.entry at.entry vs seen
-        → IsReading at.entry (inside_next mode state.entry.part vs seen (piece_left at.entry)) result }
+        → IsPieceRead at.entry (inside_next mode state.entry.part vs seen (piece_left at.entry)) result }
 {
     let seen = state.seen;
     match state.part {
@@ -187,7 +187,7 @@ fn read_block<'a>(state: State<'a>, at: Left<'a>) -> Option<State<'a>>
     requires left { IsRemainder at }
     requires single { is_one_byte (piece_left at) ≡ true }
     ensures { (vs : List Text) (seen : List ℕ) → IsRead state.entry at.entry vs seen
-        → IsReading at.entry (block_next modes.Locale state.entry.part seen
+        → IsPieceRead at.entry (block_next modes.Locale state.entry.part seen
         (slice_index (piece_left at.entry) 0)) result }
 {
     if !may_begin(state.part, at) {
@@ -210,7 +210,7 @@ fn read_data_block<'a>(state: State<'a>, at: Left<'a>) -> Option<State<'a>>
     requires left { IsRemainder at }
     requires single { is_one_byte (piece_left at) ≡ true }
     ensures { (vs : List Text) (seen : List ℕ) → IsRead state.entry at.entry vs seen
-        → IsReading at.entry (block_next modes.Data state.entry.part seen
+        → IsPieceRead at.entry (block_next modes.Data state.entry.part seen
         (slice_index (piece_left at.entry) 0)) result }
 {
     match state.part {
@@ -224,7 +224,7 @@ fn read_singleton<'a>(mode: Mode, state: State<'a>, at: Left<'a>) -> Option<Stat
     requires left { IsRemainder at }
     requires single { is_one_byte (piece_left at) ≡ true }
     ensures { (vs : List Text) (seen : List ℕ) → IsRead state.entry at.entry vs seen
-        → IsReading at.entry (block_next mode state.entry.part seen
+        → IsPieceRead at.entry (block_next mode state.entry.part seen
         (slice_index (piece_left at.entry) 0)) result }
 {
     match mode {
@@ -248,7 +248,7 @@ pub fn step<'a>(mode: Mode, state: State<'a>, at: Left<'a>) -> Option<State<'a>>
     requires left { IsRemainder at }
     requires read { (vs : List Text) × (seen : List ℕ) × IsRead state at vs seen }
     ensures { (vs : List Text) (seen : List ℕ) → IsRead state.entry at.entry vs seen
-        → IsReading at.entry (steps.next mode (reached state.entry.part vs seen) (piece_left at.entry)) result }
+        → IsPieceRead at.entry (steps.next mode (reached state.entry.part vs seen) (piece_left at.entry)) result }
 {
     if begins_block(state.part, at) {
         return read_singleton(mode, state, at);
@@ -259,7 +259,7 @@ pub fn step<'a>(mode: Mode, state: State<'a>, at: Left<'a>) -> Option<State<'a>>
 /// Why the piece, which may not come next, is refused.
 pub fn refusal(mode: Mode, part: Part, at: Left<'_>) -> ParseError
     requires { IsRemainder at }
-    ensures { result ≡ error_of (steps.refusal mode part (piece_left at.entry)) }
+    ensures { result ≡ error_of (steps.piece_fault mode part (piece_left at.entry)) }
 {
     match mode {
         Mode::Langid => (),

@@ -3,9 +3,9 @@ ghost use Rattle.std.specs.Prelude.{◌≡◌, ◌↔◌, ◌+◌, None, IfSome,
 ghost use Rattle.iloc_spec_grammar.specs.Syntax.{pieces};
 ghost use Rattle.iloc_pieces.specs.Left.{IsRemainder, piece_left};
 ghost use Rattle.iloc_told.specs.declared.Mode.TheVariants as modes;
-ghost use Rattle.iloc_faults.specs.Next.{started, verdict};
+ghost use Rattle.iloc_faults.specs.Next.{started, outcome};
 ghost use Rattle.iloc_faults.specs.Places.{IsAccepted, IsFault};
-ghost use Rattle.iloc_faults.specs.States.{IsFound};
+ghost use Rattle.iloc_faults.specs.States.{IsFaultFound};
 
 use crate::Fault;
 use crate::state::{Part, State, may_end};
@@ -31,8 +31,8 @@ fn end_of(at: Left<'_>) -> usize
 /// Why a text is refused as an identifier or a locale, and the place of its fault; `None` if it is accepted. Of a data
 /// locale the place alone counts.
 pub fn walk(mode: Mode, text: &[u8]) -> Option<Fault>
-    ensures good { result ≡ None → verdict mode started (pieces text.now) ≡ None }
-    ensures bad { IfSome result (IsFound mode text.now) }
+    ensures good { result ≡ None → outcome mode started (pieces text.now) ≡ None }
+    ensures bad { IfSome result (IsFaultFound mode text.now) }
 {
     let mut at = left_in(text, text.len());
     let mut state = State {

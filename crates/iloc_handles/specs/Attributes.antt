@@ -29,8 +29,10 @@ AddsAttribute t = Sets
     × (after ≡ with_attributes (set_of (attributes_of before ++ normal Attribute t ∷ [])) before))
     (Only faults.InvalidExtension (is_word Attribute t ≡ false)) (Unit {0})
 
--- the attribute is not among them any more; memory may be wanted, and then they stay
+-- the attribute is not among them any more; memory may be wanted only if it was there, and then they
+-- stay
 abbrev pub RemovesAttribute : Text → Changing
-RemovesAttribute t before after OutOfMemory = after ≡ before
+RemovesAttribute t before after OutOfMemory = HasWord Attribute t (attributes_of before)
+    × (after ≡ before)
 RemovesAttribute t before after status = Removes (λ M. HasWord Attribute t (attributes_of M))
     (λ M. with_attributes (without_word Attribute t (attributes_of M)) M) before after status

@@ -1,13 +1,13 @@
 //! What has a printed text and a parser.
 ghost use Rattle.std.specs.Prelude.{◌≡◌, ℕ, List, Result, IfOk};
 ghost use Rattle.std.specs.String.{string_bytes};
-ghost use Rattle.iloc_spec_grammar.specs.Syntax.{read, pieces};
+ghost use Rattle.iloc_spec_grammar.specs.Syntax.{read};
 ghost use Rattle.iloc_spec_grammar.specs.Values.{IsWellFormed};
 ghost use Rattle.iloc_subtags.specs.declared.parse_error.ParseError.{ParseError};
 ghost use Rattle.iloc_subtags.specs.declared.parse_error.ParseError.TheVariants.{OutOfMemory};
-ghost use Rattle.iloc_subtags.specs.Judging.{RunsOutOnlyIf};
-ghost use Rattle.iloc_langid.specs.Reads.{value_of as identifier_of, IdentifierReads, IdentifierWantsMemory};
-ghost use Rattle.iloc_locale.specs.LocaleReading.{value_of as locale_of, LocaleTextAnswers};
+ghost use Rattle.iloc_langid.specs.Reads.{value_of as identifier_of};
+ghost use Rattle.iloc_locale.specs.LocaleReading.{value_of as locale_of};
+ghost use Rattle.iloc_json.specs.Answers.{IsIdentifierAnswer, IsLocaleAnswer};
 ghost use Rattle.iloc_json.specs.Json.{SucceedsOr};
 
 use iloc_langid::LanguageIdentifier;
@@ -63,8 +63,7 @@ impl<K: WordKind<N>, const N: usize> TextValue for WordOf<K, N> {
 }
 
 impl TextValue for LanguageIdentifier {
-    ghost reads = { λ text r. IdentifierReads (pieces text) r
-        × RunsOutOnlyIf (IdentifierWantsMemory (pieces text)) r };
+    ghost reads = { IsIdentifierAnswer };
 
     ghost reads_back = { λ _. Unit {0} };
 
@@ -83,7 +82,7 @@ impl TextValue for LanguageIdentifier {
 
 /// A locale parses back if it is well-formed.
 impl TextValue for Locale {
-    ghost reads = { LocaleTextAnswers };
+    ghost reads = { IsLocaleAnswer };
 
     ghost reads_back = { λ locale. IsWellFormed (locale_of locale) };
 

@@ -3,8 +3,7 @@ use Rattle.std.proofs.Common.{◌≡◌, ℕ, ◌+◌, ◌-◌, ◌<◌, ◌≤�
 use Rattle.std.specs.Char.{to_ascii_lowercase}
 use Rattle.std.proofs.lemmas.List.{take-take, map-append}
 use Rattle.iloc_spec_grammar.specs.Syntax.{lower}
-use Rattle.iloc_rewriting.proofs.StoringLemmas.{take_two}
-use Rattle.iloc_told.proofs.CopyLemmas.{lower_front}
+use Rattle.iloc_told.proofs.CopyLemmas.{lower_front, take_two}
 
 -- sixteen bytes, and those that are left
 pub lower_step : (n : ℕ) (t : List ℕ) → 16 < n → n + 16 ≤ length t

@@ -1,7 +1,6 @@
 //! Lines that come in pieces, and their replies.
 ghost use Rattle.std.specs.Prelude.{
   ◌≡◌,
-  ◌≢◌,
   ◌+◌,
   ◌≤◌,
   ℕ,
@@ -39,11 +38,11 @@ use crate::reply_block::ReplyBlock;
 use crate::{Answers, RunError};
 use iloc_blocks::{BadBlock, Reading, read_ordered, read_varied};
 use iloc_fronts::may_begin;
+use iloc_outline::spans::Spans;
 use iloc_plain::{Plain, read_plain};
-use iloc_rewriting::rewrite;
 use iloc_subtags::ParseError;
-use iloc_told::told::{read_found, read_lead, tell_after_variants, tell_variants};
-use iloc_told::{Lead, Told, tell_subdivision};
+use iloc_told::told::{read_found, read_lead};
+use iloc_told::{Lead, Told, Written, tell_subdivision};
 use memchr::memchr_iter;
 use std::alloc::{AllocError, Global};
 use std::io::Write;
@@ -51,10 +50,6 @@ use std::simd::prelude::*;
 
 // The bytes that are asked of the reader at once.
 const BLOCK: usize = 65536;
-
-// The room for a line that is brought into order. It is made once for all lines of a piece of the input, so that it may be
-// larger than that of a call.
-const LINE_ROOM: usize = 256;
 
 // Room for what one read gives.
 pub(crate) fn new_block(alloc: Global) -> Result<Vec<u8>, AllocError>
@@ -149,13 +144,13 @@ fn plain_line(window: &[u8], len: usize) -> Option<Plain>
 }
 
 // Adds the reply to the line that this window begins with, if it is not plain: at once if it is told, and else as the
-// mode parses it. Sixteen bytes behind the line may be loaded. A line out of order is brought into order in the room.
+// mode parses it. Sixteen bytes behind the line may be loaded. The spans are room for the outline of a line.
 #[inline(always)]
 fn reply_to<A: Answers>(
     answers: &mut A,
     window: &[u8],
     len: usize,
-    room: &mut [u8],
+    spans: &mut Spans,
     replies: &mut ReplyBlock,
 ) -> Result<(), AllocError>
     requires { len + 16 ≤ length window.now }
@@ -172,14 +167,12 @@ fn reply_to<A: Answers>(
     }
     match read_lead(mode, window, len) {
         Lead::Refused(error) => write_refusal(error, replies),
-        Lead::Variant(n) => reply_to_varied(answers, window, len, n, replies),
-        Lead::Variants(at) => reply_to_variants(answers, window, len, at, room, replies),
-        Lead::Blocks(at) => reply_to_blocks(answers, window, len, at, room, replies),
-        Lead::AfterVariants(at) => { reply_after_variants(answers, window, len, at, room, replies) }
+        Lead::Variant(n) => reply_to_varied(answers, window, len, n, spans, replies),
+        Lead::Blocks(at) => reply_to_blocks(answers, window, len, at, spans, replies),
         Lead::Subdivision(at, start) => {
             reply_to_subdivision(answers, window, len, at, start, replies)
         }
-        Lead::Nothing => answers.reply(&window[..len], replies),
+        Lead::Nothing => reply_outlined(answers, window, len, spans, replies),
     }
 }
 
@@ -218,6 +211,7 @@ fn reply_told<A: Answers>(
 {
     match told {
         Told::Ordered(line) => replies.push_ordered(&line),
+        Told::Normal(text) => replies.push_line(text),
         Told::Refused(error) => write_refusal(error, replies),
         Told::Nothing => answers.reply(&window[..len], replies),
     }
@@ -230,6 +224,7 @@ fn reply_to_varied<A: Answers>(
     window: &[u8],
     len: usize,
     n: usize,
+    spans: &mut Spans,
     replies: &mut ReplyBlock,
 ) -> Result<(), AllocError>
     requires room { len + 16 ≤ length window.now }
@@ -239,27 +234,8 @@ fn reply_to_varied<A: Answers>(
 {
     match read_varied(window, len, n) {
         Some(line) => replies.push_ordered(&line),
-        None => answers.reply(&window[..len], replies),
+        None => reply_outlined(answers, window, len, spans, replies),
     }
-}
-
-// The same of one that may be a plain identifier of so many bytes, and two variants or more. It is no data locale.
-#[inline(always)]
-fn reply_to_variants<A: Answers>(
-    answers: &mut A,
-    window: &[u8],
-    len: usize,
-    at: usize,
-    room: &mut [u8],
-    replies: &mut ReplyBlock,
-) -> Result<(), AllocError>
-    requires mode { A.mode ≢ Mode.Data }
-    requires room { len + 16 ≤ length window.now }
-    ensures { OnOk result (held replies.new
-        ≡ held replies.old ++ reply languages A.mode (take len window.now)) }
-{
-    let told = tell_variants(window, len, at, room);
-    reply_told(answers, window, len, told, replies)
 }
 
 // The same of a locale that may be a plain identifier of so many bytes, and what follows it.
@@ -269,7 +245,7 @@ fn reply_to_blocks<A: Answers>(
     window: &[u8],
     len: usize,
     at: usize,
-    room: &mut [u8],
+    spans: &mut Spans,
     replies: &mut ReplyBlock,
 ) -> Result<(), AllocError>
     requires mode { A.mode ≡ Mode.Locale }
@@ -280,30 +256,29 @@ fn reply_to_blocks<A: Answers>(
     match read_ordered(window, len, at) {
         Reading::Ordered(line) => replies.push_ordered(&line),
         Reading::BadBlock(bad) => refuse(bad, replies),
-        Reading::Unordered => reply_to_unordered(answers, window, len, at, room, replies),
-        Reading::Other => answers.reply(&window[..len], replies),
+        Reading::Unordered | Reading::Other => {
+            reply_outlined(answers, window, len, spans, replies)
+        }
     }
 }
 
-// The same of one that is brought into order, if it can be.
+// The same of any line, by its outline. If that tells nothing, the line is parsed.
 #[inline(never)]
-fn reply_to_unordered<A: Answers>(
+fn reply_outlined<A: Answers>(
     answers: &mut A,
     window: &[u8],
     len: usize,
-    at: usize,
-    room: &mut [u8],
+    spans: &mut Spans,
     replies: &mut ReplyBlock,
 ) -> Result<(), AllocError>
-    requires mode { A.mode ≡ Mode.Locale }
-    requires room { len + 16 ≤ length window.now }
+    requires { len + 16 ≤ length window.now }
     ensures { OnOk result (held replies.new
         ≡ held replies.old ++ reply languages A.mode (take len window.now)) }
 {
-    match rewrite(window, len, at, room) {
-        Reading::Ordered(line) => replies.push_ordered(&line),
-        Reading::BadBlock(bad) => refuse(bad, replies),
-        Reading::Unordered | Reading::Other => answers.reply(&window[..len], replies),
+    match replies.push_outlined(answers.mode(), window, len, spans)? {
+        Written::Normal(_) => Ok(()),
+        Written::Refused(error) => write_refusal(error, replies),
+        Written::Nothing => answers.reply(&window[..len], replies),
     }
 }
 
@@ -317,25 +292,6 @@ fn refuse(bad: BadBlock, replies: &mut ReplyBlock) -> Result<(), AllocError>
         BadBlock::Misfit => write_refusal(ParseError::InvalidExtension, replies),
         BadBlock::Duplicated => write_refusal(ParseError::DuplicatedExtension, replies),
     }
-}
-
-// Adds the reply to a locale with two variants or more before the blocks.
-#[inline(never)]
-fn reply_after_variants<A: Answers>(
-    answers: &mut A,
-    window: &[u8],
-    len: usize,
-    at: usize,
-    room: &mut [u8],
-    replies: &mut ReplyBlock,
-) -> Result<(), AllocError>
-    requires mode { A.mode ≡ Mode.Locale }
-    requires room { len + 16 ≤ length window.now }
-    ensures { OnOk result (held replies.new
-        ≡ held replies.old ++ reply languages A.mode (take len window.now)) }
-{
-    let told = tell_after_variants(window, len, at, room);
-    reply_told(answers, window, len, told, replies)
 }
 
 // Adds the reply to the line that is pending, and forgets the line.
@@ -368,7 +324,7 @@ fn feed_lines<A: Answers>(
         held replies.old ++ output languages A.mode (bytes.now ++ next)
         ≡ held replies.new ++ output languages A.mode (pending.new.items ++ next)) }
 {
-    let mut room = [0u8; LINE_ROOM];
+    let mut spans = Spans::new();
     let mut rest = bytes;
     'lines: loop {
         let end = line_end(rest);
@@ -383,7 +339,7 @@ fn feed_lines<A: Answers>(
         } else if let Some(plain) = plain_line(rest, end) {
             replies.push_plain(&plain)?;
         } else {
-            reply_to(answers, rest, end, &mut room, replies)?;
+            reply_to(answers, rest, end, &mut spans, replies)?;
         }
         rest = &later[1..];
     }

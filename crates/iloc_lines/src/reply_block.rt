@@ -1,8 +1,10 @@
 //! The replies to a block of lines, as they are collected.
-ghost use Rattle.std.specs.Prelude.{◌≡◌, ◌+◌, ◌≤◌, [], ◌∷◌, ◌++◌, length, take, vec_len, OnOk, OnErr};
+ghost use Rattle.std.specs.Prelude.{◌≡◌, ◌+◌, ◌≤◌, [], ◌∷◌, ◌++◌, length, take, vec_len, IfOk, OnOk, OnErr};
 
 use iloc_blocks::Ordered;
+use iloc_outline::spans::Spans;
 use iloc_plain::{Plain, first_in_lower_case};
+use iloc_told::{Mode, Written, write_outlined};
 use iloc_writeable::Sink;
 use std::alloc::{AllocError, Global};
 use std::cmp::max;
@@ -22,6 +24,7 @@ pub struct ReplyBlock {
 
 impl ReplyBlock {
     ghost use Rattle.iloc_lines.specs.ReplyBlock.{held};
+    ghost use Rattle.iloc_lines.specs.Replies.{IsReplied};
     ghost use Rattle.iloc_spec_grammar.specs.Values.{identifier_text};
     ghost use Rattle.iloc_spec_grammar.specs.Syntax.{lower};
     ghost use Rattle.iloc_plain.specs.Plain.{AreWords, value_of};
@@ -97,6 +100,41 @@ impl ReplyBlock {
         self.put_lower(line.rest, line.len);
         self.put(b"\n", 1);
         Ok(())
+    }
+
+    /// Adds a text, and a newline.
+    #[inline(always)]
+    pub(crate) fn push_line(&mut self, text: &[u8]) -> Result<(), AllocError>
+        ensures { OnOk result (held self.new ≡ held self.old ++ (text.now ++ 10 ∷ [])) }
+    {
+        self.make_room(text.len() + 1)?;
+        self.put(text, text.len());
+        self.put(b"\n", 1);
+        Ok(())
+    }
+
+    /// Adds the normal text of the first `len` bytes as their outline gives it, and a newline; or nothing.
+    #[inline(always)]
+    pub(crate) fn push_outlined(
+        &mut self,
+        mode: Mode,
+        window: &[u8],
+        len: usize,
+        spans: &mut Spans,
+    ) -> Result<Written, AllocError>
+        requires { len + 16 ≤ length window.now }
+        ensures { IfOk result
+            (IsReplied mode (take len window.now) (held self.old) (held self.new)) }
+    {
+        self.make_room(len + 17)?;
+        let start = self.len;
+        let to = &mut self.room.as_mut_slice()[start..];
+        let written = write_outlined(mode, window, len, spans, to);
+        if let Written::Normal(count) = written {
+            self.len = start + count;
+            self.put(b"\n", 1);
+        }
+        Ok(written)
     }
 
     // Stores the first of these bytes in lower case behind those that count, and counts them.

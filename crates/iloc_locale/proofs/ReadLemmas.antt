@@ -129,7 +129,7 @@ pub reads_steps : (t : List ℕ) (r : Result Locale ParseError) → LocaleTextRe
 reads_steps t (Ok l) h = λ n u c. chain_means languages languages_table n t u (value_of l) c h
 reads_steps t (Err e) h = tt
 
-locales_judge : (t : List ℕ) → Judges (Means languages t) (HasFault languages t)
+pub locales_judge : (t : List ℕ) → Judges (Means languages t) (HasFault languages t)
 locales_judge t = record { one = one_meaning languages_table t; apart = accepted_no_fault languages_table t; one_fault = λ f g. one_fault t }
 
 pub reads_accepts : (t : List ℕ) (r : Result Locale ParseError) → LocaleTextReads t r → (M : meaning.Locale) → Means languages t M → Accepts value_of ⊤ M r

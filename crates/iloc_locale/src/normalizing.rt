@@ -4,7 +4,7 @@ ghost use Rattle.std.specs.Cow.{cow_str_bytes};
 ghost use Rattle.iloc_spec_grammar.specs.Syntax.{languages};
 ghost use Rattle.iloc_spec_grammar.specs.Meaning as meaning;
 ghost use Rattle.iloc_spec_grammar.specs.Meaning.{Means, Fault, HasFault};
-ghost use Rattle.iloc_spec_grammar.specs.Values.{IsValue, IsWellFormed, text};
+ghost use Rattle.iloc_spec_grammar.specs.Values.{IsValue, IsWellFormed, AreWellFormed, text};
 ghost use Rattle.iloc_writeable.specs.Writing.{IsLent};
 ghost use Rattle.iloc_spec_parts.specs.Small.{SmallLocale, IsSmall, HasSmallFault, locale_of_small};
 ghost use Rattle.iloc_subtags.specs.Judging.{Refusal, Accepts, Refuses, RunsOutOnlyIf};
@@ -32,6 +32,9 @@ impl Locale {
         ensures ok { IfOk result (λ text. IsNormalizedLocale input.now (cow_str_bytes text)
             × (IsLent text ↔ (input.now ≡ cow_str_bytes text))) }
         ensures err { IfErr result (Refusal (HasFault languages input.now) ⊤) }
+        ensures accepted { (M : meaning.Locale) → Means languages input.now M
+            → Accepts cow_str_bytes ⊤ (text M) result }
+        ensures refused { (f : Fault) → HasFault languages input.now f → Refuses ⊤ f result }
         ensures memory { RunsOutOnlyIf (NormalizingWantsMemory input.now) result }
     {
         match normalize_short(alloc, input) {
@@ -72,6 +75,9 @@ impl Locale {
         ensures ok { IfOk result (λ text. IsNormalizedLocale input.now (cow_str_bytes text)
             × (IsLent text ↔ (input.now ≡ cow_str_bytes text))) }
         ensures err { IfErr result (Refusal (HasFault languages input.now) ⊤) }
+        ensures accepted { (M : meaning.Locale) → Means languages input.now M
+            → Accepts cow_str_bytes ⊤ (text M) result }
+        ensures refused { (f : Fault) → HasFault languages input.now f → Refuses ⊤ f result }
         ensures memory { RunsOutOnlyIf (NormalizingWantsMemory input.now) result }
     {
         Self::normalize_utf8(alloc, input.as_bytes())
@@ -85,6 +91,7 @@ impl Locale {
     /// are in the normal case of their kinds.
     pub fn is_well_formed(&self) -> bool
         ensures exactly { IsTrue result ↔ IsWellFormed (value_of self.now) }
+        ensures tests { IsTrue result ↔ AreWellFormed (value_of self.now).extensions }
         ensures value { IsValue languages (value_of self.now) }
         ensures back { IsTrue result
             → Means languages (text (value_of self.now)) (value_of self.now) }

@@ -1,5 +1,5 @@
 //! Prints locales.
-ghost use Rattle.std.specs.Prelude.{◌≡◌, IfOk, IsOkAnd};
+ghost use Rattle.std.specs.Prelude.{◌≡◌, IfOk, IsOkAnd, OnErr};
 ghost use Rattle.std.specs.Cow.{cow_str_bytes};
 ghost use Rattle.iloc_spec_grammar.specs.Values.{IsWellFormed, text};
 ghost use Rattle.iloc_writeable.specs.Writing.{IsLent};
@@ -16,13 +16,14 @@ impl Locale {
     /// Returns the printed text, borrowed exactly if the locale is a language alone.
     ///
     /// The text of a well-formed locale parses as that locale and as no other. Allocates once, unless the text is
-    /// borrowed; `AllocError` if that fails.
+    /// borrowed; `AllocError` if that fails, and so never for a language alone.
     pub fn write_to_string(&self, alloc: Global) -> Result<CowStr<'_, Global>, AllocError>
         ensures text { IfOk result (λ t. cow_str_bytes t ≡ text (value_of self.now)) }
         ensures back { IsWellFormed (value_of self.now)
             → IfOk result (λ t. MeansOnly (cow_str_bytes t) (value_of self.now)) }
         ensures lent { IsLanguageAlone self.now → IsOkAnd result IsLent }
         ensures owned { IfOk result (λ t. IsLent t → IsLanguageAlone self.now) }
+        ensures memory { OnErr result (¬ (IsLanguageAlone self.now)) }
     {
         // (it states that every locale is a value, without which `back` would not be known)
         let _ = self.is_well_formed();

@@ -5,7 +5,7 @@ use Rattle.std.proofs.lemmas.List.{map-append, length-map}
 use Rattle.std.proofs.lemmas.List.Concat.{flat_map-append}
 use Rattle.iloc_spec_grammar.specs.Syntax.{Text, Field, Fields, Attribute, IsWord, is_word, join, fields_pieces, first_piece}
 use Rattle.iloc_spec_grammar.proofs.ReadBack.{all_append}
-use Rattle.iloc_outline.specs.Fields.{IsAfterValues, PrintsAsItIs, IsValueRead}
+use Rattle.iloc_outline.specs.Fields.{IsAfterValues, PrintsAsItIs, IsValueRead, next_of}
 use Rattle.iloc_outline.specs.Inserting.{IsPutFrom}
 use Rattle.iloc_pieces.specs.Left.{IsRemainder, IsLater, IsPast, IsSpanned, piece_left, pieces_left, bytes_left, whole_text}
 use Rattle.iloc_fronts.specs.Words.{IsUpToEight, word_number}
@@ -112,11 +112,11 @@ module _ (r : Role) (l at : Left) (old mid : Spans) (last : ℕ) (o n : Bool)
     pub field_within : v.end ≤ l.at + l.len
     field_within = omega (arith, spanned.inside, length_text w.past.left, w.past.end)
 
-    after : (next : Option Left) → v.next ≡ next → IsAfterValues at h.values next
+    after : (next : Option Left) → next_of v ≡ next → IsAfterValues at h.values next
     after next e = subst (IsAfterValues at h.values) e h.next
 
     -- what follows is shorter
-    pub field_less : (next : Left) → v.next ≡ Some next → next.len < at.len
+    pub field_less : (next : Left) → next_of v ≡ Some next → next.len < at.len
     field_less next e =
         let k = after (Some next) e in
         omega (
@@ -131,7 +131,7 @@ module _ (r : Role) (l at : Left) (old mid : Spans) (last : ℕ) (o n : Bool)
     pub ends_in_key : r ≡ roles.Field → IsWord (role_key r) (piece_left at) → v.count ≡ 0
         → EndsInKey (pieces_left l)
     unfolding is_word
-    ends_in_key e key zero = cut v.next h.next
+    ends_in_key e key zero = cut (next_of v) h.next
       where
         alone : h.values ≡ []
         alone = no_values h.values (omega (arith, h.count))
@@ -218,7 +218,7 @@ module _ (r : Role) (l at : Left) (old mid : Spans) (last : ℕ) (o n : Bool)
             (sym (map-append (field_part r) w.fields (field ∷ []))) (put i is room)
 
         -- one field more
-        pub takes_more : (next : Left) → v.next ≡ Some next → Takes r l next old new now o k
+        pub takes_more : (next : Left) → next_of v ≡ Some next → Takes r l next old new now o k
         takes_more next t =
             let a = after (Some next) t in
             record {
@@ -230,7 +230,7 @@ module _ (r : Role) (l at : Left) (old mid : Spans) (last : ℕ) (o n : Bool)
             }
 
         -- the last one
-        pub takes_end : v.next ≡ None
+        pub takes_end : next_of v ≡ None
             → (fs : Fields) × (pieces_left l ≡ fields_pieces fs) × ReadsFields r l fs old new o k
         takes_end t = (
           more,

@@ -17,7 +17,8 @@ use Rattle.iloc_outline.specs.Parts.{Part, word_part, field_part, in_order, vari
 use Rattle.iloc_outline.specs.declared.span.Role.{Role}
 use Rattle.iloc_outline.specs.declared.span.Role.TheVariants as roles
 use Rattle.iloc_outline.proofs.Maps.{map_of_carried}
-use Rattle.iloc_pieces.proofs.WordNumbers.{word_order, attribute_fits, variant_fits, key_fits, field_key_fits}
+use Rattle.iloc_fronts.proofs.WordNumbers.{word_order, attribute_fits, variant_fits}
+use Rattle.iloc_pieces.proofs.WordNumbers.{key_fits, field_key_fits}
 
 -- the first piece in lower case, by which a part is ordered
 abbrev name_of : Part → Text

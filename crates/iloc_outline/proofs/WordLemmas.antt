@@ -15,7 +15,7 @@ use Rattle.iloc_outline.specs.declared.span.Role.TheVariants as roles
 use Rattle.iloc_outline.specs.declared.span.Span.{Span}
 use Rattle.iloc_pieces.proofs.LeftLemmas.{length_piece, length_text, spanned_piece}
 use Rattle.iloc_outline.proofs.RoleLemmas.{short_kind}
-use Rattle.iloc_pieces.proofs.WordNumbers.{attribute_fits, variant_fits}
+use Rattle.iloc_fronts.proofs.WordNumbers.{attribute_fits, variant_fits}
 use Rattle.iloc_outline.proofs.SpansLemmas.{not_edited}
 
 -- ---- words

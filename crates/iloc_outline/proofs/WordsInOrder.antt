@@ -29,7 +29,7 @@ use Rattle.iloc_outline.proofs.GatherLemmas.{Gathers, gathers_few, gathers_full,
 use Rattle.iloc_pieces.proofs.LeftLemmas.{last_piece, past_next, past_none, pieces_end}
 use Rattle.iloc_outline.proofs.RoleLemmas.{short_kind}
 use Rattle.iloc_outline.proofs.WordLemmas.{ends_before, length-pieces_of, passing_cut, passing_more, span_of, word_fits, word_next, word_span}
-use Rattle.iloc_pieces.proofs.WordNumbers.{word_order}
+use Rattle.iloc_fronts.proofs.WordNumbers.{word_order}
 
 -- ---- words differ where their numbers do
 

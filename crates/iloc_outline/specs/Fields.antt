@@ -1,5 +1,5 @@
 -- What the values of a key are.
-use Rattle.std.specs.Prelude.{◌≡◌, ℕ, ◌-◌, Bool, false, List, ◌∷◌, ◌++◌, length, map, Option, Some, None}
+use Rattle.std.specs.Prelude.{◌≡◌, ℕ, ◌-◌, Bool, false, List, ◌∷◌, ◌++◌, length, map, Option, Some, None, if◌then◌else◌}
 use Rattle.std.specs.List.{AllByRecursion, list_any}
 use Rattle.iloc_spec_grammar.specs.Syntax.{Text, Field, Attribute, is_word, IsWord, is_true, lower}
 use Rattle.iloc_pieces.specs.Left.{IsPast, IsSpanned, piece_left, pieces_left, whole_text}
@@ -14,11 +14,15 @@ abbrev pub IsAfterValues : Left → List Text → Option Left → Type 0
 IsAfterValues key vs None = pieces_left key ≡ piece_left key ∷ vs
 IsAfterValues key vs (Some m) = IsPast key m (piece_left key ∷ vs) × (is_word Attribute (piece_left m) ≡ false)
 
+-- what follows the values
+abbrev pub next_of : Value → Option Left
+next_of v = if v.is_end then None else Some v.left
+
 -- the values after a key
 pub record IsValueRead (key : Left) (v : Value) : Type 0 where
   pub values : List Text
   pub each : AllByRecursion (IsWord Attribute) values
-  pub next : IsAfterValues key values v.next
+  pub next : IsAfterValues key values (next_of v)
   pub count : v.count ≡ length values
   pub trues : v.has_true ≡ list_any (λ w. is_true (lower w)) values
   pub end : (start : ℕ) (qs : List Text) → IsSpanned (whole_text key) start (key.at - 1) qs

@@ -11,6 +11,8 @@ use Rattle.iloc_outline.specs.Spans.{AddsParts, held_spans}
 use Rattle.iloc_pieces.specs.declared.left.Left.{Left}
 use Rattle.iloc_outline.specs.declared.reading.Reading.{Reading}
 use Rattle.iloc_outline.specs.declared.reading.Reading.TheVariants.{End, Next, Bad, Repeated, Full}
+use Rattle.iloc_outline.specs.declared.reading.Found.{Found}
+use Rattle.iloc_outline.specs.declared.reading.Found.TheVariants as found
 use Rattle.iloc_outline.specs.declared.span.Role.{Role}
 use Rattle.iloc_outline.specs.declared.span.Role.TheVariants as roles
 use Rattle.iloc_outline.specs.declared.span.Span.{Span}
@@ -154,3 +156,11 @@ EndsAtBlock (Next m) (Next k) = (m ≡ k) × (is_one_byte (piece_left m) ≡ tru
 EndsAtBlock (Next m) Bad = is_one_byte (piece_left m) ≡ false
 EndsAtBlock (Next m) _ = ¬ ⊤
 EndsAtBlock r s = r ≡ s
+
+-- what was found, and the piece that comes next, as one
+abbrev pub reading_at : Left → Found → Reading
+reading_at m found.End = End
+reading_at m found.Next = Next m
+reading_at m found.Bad = Bad
+reading_at m found.Repeated = Repeated
+reading_at m found.Full = Full

@@ -1,13 +1,14 @@
 //! Reads the blocks of a locale.
-ghost use Rattle.std.specs.Prelude.{◌≡◌, ◌<◌, ◌+◌, ◌-◌, ◌^◌, ℕ, [], ◌∷◌, true};
+ghost use Rattle.std.specs.Prelude.{◌≡◌, ◌≢◌, ◌<◌, ◌+◌, ◌-◌, ◌^◌, ℕ, [], ◌∷◌, true};
 ghost use Rattle.std.specs.Char.{is_ascii_alphanumeric, to_ascii_lowercase};
-ghost use Rattle.iloc_spec_grammar.specs.Syntax.{is_one_byte};
+ghost use Rattle.iloc_spec_grammar.specs.Syntax.{code_u, is_one_byte};
 ghost use Rattle.iloc_outline.specs.Blocks.{AreBegun, AreBlocksRead, IsBlockRead};
 ghost use Rattle.iloc_pieces.specs.Left.{IsRemainder, IsLater, IsSpanned, piece_left, whole_text};
 ghost use Rattle.iloc_outline.specs.Parts.{rank};
+ghost use Rattle.iloc_outline.specs.Reading.{reading_at};
 
 use crate::other::{read_other, read_private};
-use crate::reading::Reading;
+use crate::reading::{Found, Reading};
 use crate::sorting::{has_block, place_block};
 use crate::spans::Spans;
 use crate::transform::read_transform;
@@ -52,11 +53,76 @@ fn read_body<'a>(
         → IsSpanned (whole_text left.entry) start (left.entry.at - 1) ((c ∷ []) ∷ [])
         → IsBlockRead c left.entry spans.old spans.new in_order.old in_order.new result }
 {
-    match byte {
-        b'u' => read_unicode(start, left, spans, in_order),
-        b't' => read_transform(start, left, spans, in_order),
-        b'x' => read_private(start, left, spans),
-        _ => read_other(byte, start, left, spans, in_order),
+    if byte == b'u' {
+        return read_unicode(start, left, spans, in_order);
+    }
+    read_another(byte, start, left, spans, in_order)
+}
+
+// The same of another singleton than `u`.
+#[inline(always)]
+fn read_another<'a>(
+    byte: u8,
+    start: usize,
+    left: Left<'a>,
+    spans: &mut Spans,
+    in_order: &mut bool,
+) -> Reading<'a>
+    requires left { IsRemainder left }
+    requires later { IsLater left }
+    requires few { left.at + left.len < 2 ^ 16 }
+    requires before { start < left.at }
+    requires letter { is_ascii_alphanumeric byte ≡ true }
+    requires another { byte ≢ code_u }
+    ensures { (c : ℕ) → to_ascii_lowercase c ≡ byte
+        → IsSpanned (whole_text left.entry) start (left.entry.at - 1) ((c ∷ []) ∷ [])
+        → IsBlockRead c left.entry spans.old spans.new in_order.old in_order.new result }
+{
+    let mut at = left;
+    match read_apart(byte, start, &mut at, spans, in_order) {
+        Found::End => Reading::End,
+        Found::Next => Reading::Next(at),
+        Found::Bad => Reading::Bad,
+        Found::Repeated => Reading::Repeated,
+        Found::Full => Reading::Full,
+    }
+}
+
+// The same: what it is, and in `left` the piece that comes next. It is a call of its own, so
+// that readers of `u` stay small. It hands on no piece by value, which costs more.
+#[inline(never)]
+fn read_apart<'a>(
+    byte: u8,
+    start: usize,
+    left: &mut Left<'a>,
+    spans: &mut Spans,
+    in_order: &mut bool,
+) -> Found
+    requires left { IsRemainder left.old }
+    requires later { IsLater left.old }
+    requires few { left.old.at + left.old.len < 2 ^ 16 }
+    requires before { start < left.old.at }
+    requires letter { is_ascii_alphanumeric byte ≡ true }
+    requires another { byte ≢ code_u }
+    ensures { (c : ℕ) → to_ascii_lowercase c ≡ byte
+        → IsSpanned (whole_text left.old) start (left.old.at - 1) ((c ∷ []) ∷ [])
+        → IsBlockRead c left.old spans.old spans.new in_order.old in_order.new
+        (reading_at left.new result) }
+{
+    let reading = match byte {
+        b't' => read_transform(start, *left, spans, in_order),
+        b'x' => read_private(start, *left, spans),
+        _ => read_other(byte, start, *left, spans, in_order),
+    };
+    match reading {
+        Reading::End => Found::End,
+        Reading::Next(next) => {
+            *left = next;
+            Found::Next
+        }
+        Reading::Bad => Found::Bad,
+        Reading::Repeated => Found::Repeated,
+        Reading::Full => Found::Full,
     }
 }
 

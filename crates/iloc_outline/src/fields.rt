@@ -16,8 +16,10 @@ use iloc_pieces::left::{
 // The subtags of a value, and what follows them.
 #[derive(Clone, Copy)]
 struct Value<'a> {
-    // What follows; `None` if nothing does.
-    next: Option<Left<'a>>,
+    // The piece that follows, or the last one.
+    left: Left<'a>,
+    // Whether nothing follows.
+    is_end: bool,
     // Where it ends.
     end: usize,
     // How many subtags there are.
@@ -52,7 +54,8 @@ fn read_value(key: Left<'_>) -> Value<'_>
     'values: loop {
         if is_last(at) {
             return Value {
-                next: None,
+                left: at,
+                is_end: true,
                 end: at.at + at.n,
                 count,
                 has_true,
@@ -61,7 +64,8 @@ fn read_value(key: Left<'_>) -> Value<'_>
         at = next(at);
         if !is_attribute(at) {
             return Value {
-                next: Some(at),
+                left: at,
+                is_end: false,
                 end: at.at - 1,
                 count,
                 has_true,
@@ -114,10 +118,10 @@ pub fn read_fields<'a>(
         if let Inserted::Full = put_from(spans, from, &mut last, span, in_order) {
             return Reading::Full;
         }
-        match value.next {
-            Some(next) => at = next,
-            None => return Reading::End,
+        if value.is_end {
+            return Reading::End;
         }
+        at = value.left;
     }
     Reading::Next(at)
 }

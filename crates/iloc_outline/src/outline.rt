@@ -8,7 +8,9 @@ use crate::reading::Reading;
 use crate::span::Role;
 use crate::spans::Spans;
 use crate::words::read_words;
-use iloc_pieces::left::{Left, is_language, is_single, left_in};
+use iloc_fronts::front::first_len;
+use iloc_fronts::words::is_language;
+use iloc_pieces::left::{self, Left, is_single, left_in};
 use iloc_subtags::ParseError;
 
 /// The first bytes of a text in lower case, but for the first letter of a script and a region of two letters. Spans follow.
@@ -52,7 +54,19 @@ pub fn begins_with_language(window: &[u8], len: usize) -> bool
     requires { len ≤ length window.now }
     ensures { IsTrue result ↔ BeginsWithLanguage (take len window.now) }
 {
-    is_language(left_in(window, len))
+    if window.len() < 16 {
+        return begins_few(window, len);
+    }
+    is_language(window, first_len(window, len))
+}
+
+// The same if fewer than sixteen bytes are there. It is a call of its own, so that longer windows pay nothing.
+#[inline(never)]
+fn begins_few(window: &[u8], len: usize) -> bool
+    requires { len ≤ length window.now }
+    ensures { IsTrue result ↔ BeginsWithLanguage (take len window.now) }
+{
+    left::is_language(left_in(window, len))
 }
 
 /// Reads the identifier at the beginning of a text. In `in_order` it says whether its variants are in order.

@@ -18,6 +18,21 @@ pub enum Reading<'a> {
     Full,
 }
 
+/// What the pieces from one on are, without the piece that comes next.
+#[derive(Clone, Copy)]
+pub enum Found {
+    /// Good, up to the end of the text.
+    End,
+    /// Good, up to a piece that begins something else.
+    Next,
+    /// Not good.
+    Bad,
+    /// Variants, of which one comes twice.
+    Repeated,
+    /// More than there is room for.
+    Full,
+}
+
 impl<'a> Reading<'a> {
     /// The same of a block: what comes next has one byte, or it is bad.
     #[inline(always)]

@@ -1,24 +1,16 @@
--- The numbers of words: how they are computed, and that they have the order of the words.
-use Rattle.std.proofs.Common.{◌≡◌, ℕ, zero, suc, ◌+◌, ◌-◌, ◌*◌, ◌/◌, ◌%◌, ◌^◌, ◌<◌, ◌≤◌, ◌==◌, true, List, [], ◌∷◌, length, map, get_or, take, drop, replicate, ◌++◌, bit_or, refl, sym, ap, ◌∙◌, subst, arith, inl, inr, pow-suc}
+-- The numbers of words, and how they are computed.
+use Rattle.std.proofs.Common.{◌≡◌, ℕ, zero, suc, ◌+◌, ◌-◌, ◌*◌, ◌/◌, ◌%◌, ◌^◌, ◌<◌, ◌≤◌, true, List, [], ◌∷◌, length, map, get_or, take, drop, replicate, ◌++◌, bit_or, refl, sym, ap, ◌∙◌, subst, arith, pow-suc}
 use Rattle.std.specs.Int.{w64, swap_bytes, from_be_bytes, from_le_bytes}
-use Rattle.std.specs.List.{AllByRecursion}
-use Rattle.std.specs.Ordering.{is_lt, nat_cmp, ordering_then}
-use Rattle.std.specs.Cmp.{nat_cmp_is}
-use Rattle.std.specs.Cmp.Lexicographic.{slice_cmp}
-use Rattle.std.specs.declared.cmp.Ordering.TheVariants.{Less, Equal, Greater}
-use Rattle.std.specs.Char.{is_ascii_alphanumeric, to_ascii_lowercase}
 use Rattle.std.proofs.Math.Seq.{take-append_seam}
-use Rattle.std.proofs.lemmas.Bool.{and_parts, cases_lt, eqb-true}
-use Rattle.std.proofs.lemmas.Bool.Decides.{nat_tests}
+use Rattle.std.proofs.lemmas.Bool.{and_parts}
 use Rattle.std.proofs.lemmas.Nat.{le_bytes_8, or_block, or_of_8, pow-add}
 use Rattle.std.proofs.Math.Nat.{mul-add-div_right, mul-le-mul_right, zero-mul, mul_assoc, add-mul, div-eq_of_lt, mod-eq_of_lt}
 use Rattle.std.specs.List.{take-map}
 use Rattle.std.proofs.lemmas.List.{length-append, length-replicate, get_or-drop}
-use Rattle.iloc_spec_grammar.specs.Syntax.{Attribute, Variant, UnicodeKey, TransformKey, IsWord, letters_or_digits, lower, word_cmp}
-use Rattle.iloc_spec_grammar.proofs.MapLaws.{same_words}
-use Rattle.iloc_spec_grammar.proofs.WordsLaws.{length-attribute, length-variant, length-unicode_key, length-transform_key, length-lower, word_letters_or_digits}
+use Rattle.iloc_spec_grammar.specs.Syntax.{UnicodeKey, TransformKey, IsWord, letters_or_digits, lower}
+use Rattle.iloc_spec_grammar.proofs.WordsLaws.{length-unicode_key, length-transform_key, word_letters_or_digits}
 use Rattle.iloc_tinystr.specs.Number.{number}
-use Rattle.iloc_plain.proofs.LaneLemmas.{of_byte}
+use Rattle.iloc_fronts.proofs.WordBytes.{low_bit}
 use Rattle.iloc_fronts.specs.Words.{IsUpToEight, high_first, word_number}
 
 -- ---- eight bytes as one number
@@ -105,15 +97,6 @@ cut_number (suc m) (suc n) (b ∷ p) l h =
     ∙ (λ j. sym first j + cut_number m n p (omega arith) (λ i. h (suc i)) j)
 
 -- ---- the number of a word
-
--- bit 5 makes a letter lower case, and digits have it
-pub low_bit : (c : ℕ) → is_ascii_alphanumeric c ≡ true → bit_or c 32 ≡ to_ascii_lowercase c
-low_bit c h =
-    eqb-true _ _
-    (of_byte is_ascii_alphanumeric (λ b. bit_or b 32 == to_ascii_lowercase b) refl c (small c h) h)
-  where
-    small : (c : ℕ) → is_ascii_alphanumeric c ≡ true → c < 256
-    small c h = grind (arith, nat_tests)
 
 low_bits : (p : List ℕ) → letters_or_digits p ≡ true → map (λ b. bit_or b 32) p ≡ lower p
 unfolding lower
@@ -209,122 +192,7 @@ short_number_is p x few small word e =
     (e ∙ ap (swap_bytes w64) (sym (number-zeros p (8 - length p))) ∙ swapped z long bytes)
     ∙ ap word_number front
 
--- ---- the order of words
-
--- bytes above zero
-abbrev AreAbove : List ℕ → Type 0
-AreAbove p = AllByRecursion (λ b. (0 < b) × (b < 256)) p
-
-above_bytes : (p : List ℕ) → AreAbove p → Bytes p
-above_bytes [] h i = omega arith
-above_bytes (b ∷ p) h zero = h.0.1
-above_bytes (b ∷ p) h (suc i) = above_bytes p h.1 i
-
-above_word : (p : List ℕ) → letters_or_digits p ≡ true → AreAbove (lower p)
-unfolding lower
-above_word [] h = tt
-above_word (b ∷ p) h = let parts = and_parts _ _ h in (byte b parts.0, above_word p parts.1)
-  where
-    byte : (b : ℕ) → is_ascii_alphanumeric b ≡ true
-        → (0 < to_ascii_lowercase b) × (to_ascii_lowercase b < 256)
-    byte b e = (grind (arith, nat_tests), grind (arith, nat_tests))
-
-is_less : (x y : ℕ) → x < y → nat_cmp x y ≡ Less
-is_less x y l = sym (nat_cmp_is x y Less l)
-
-is_equal : (x y : ℕ) → x ≡ y → nat_cmp x y ≡ Equal
-is_equal x y e = sym (nat_cmp_is x y Equal e)
-
-is_greater : (x y : ℕ) → y < x → nat_cmp x y ≡ Greater
-is_greater x y l = sym (nat_cmp_is x y Greater l)
-
-first_counts : (a b w x y : ℕ) → a < b → x < w → a * w + x < b * w + y
-first_counts a b w x y l f = let next : suc a ≤ b = omega arith in omega (arith, mul-le-mul_right w next)
-
-rest_counts : (w x y : ℕ) → nat_cmp (w + x) (w + y) ≡ nat_cmp x y
-rest_counts w x y = elim (cases_lt x y) [
-  | inl less ↦
-      (let more : w + x < w + y = omega arith in is_less (w + x) (w + y) more ∙ sym (is_less x y less))
-  | inr other ↦ elim (cases_lt y x) [
-    | inl less ↦
-        (let more : w + y < w + x =
-        omega arith in is_greater (w + x) (w + y) more ∙ sym (is_greater x y less))
-    | inr same ↦
-        (let one : x ≡ y =
-        omega arith in is_equal (w + x) (w + y) (ap (λ n. w + n) one) ∙ sym (is_equal x y one))
-  ]
-]
-
-order : (n : ℕ) (p q : List ℕ) → length p ≤ n → length q ≤ n → AreAbove p → AreAbove q
-    → nat_cmp (high_first n p) (high_first n q) ≡ slice_cmp nat_cmp p q
-unfolding high_first
-order zero [] [] l m h k = refl
-order zero (a ∷ p) q l m h k = absurd (omega arith)
-order zero [] (b ∷ q) l m h k = absurd (omega arith)
-order (suc n) [] [] l m h k = refl
-order (suc n) [] (b ∷ q) l m h k =
-    is_less 0 (b * 256 ^ n + high_first n q)
-    (omega (arith, first_counts 0 b (256 ^ n) 0 (high_first n q) k.0.0 (pow_some n)))
-order (suc n) (a ∷ p) [] l m h k =
-    is_greater (a * 256 ^ n + high_first n p) 0
-    (omega (arith, first_counts 0 a (256 ^ n) 0 (high_first n p) h.0.0 (pow_some n)))
-order (suc n) (a ∷ p) (b ∷ q) l m h k =
-    elim (cases_lt a b) [
-      | inl less ↦ is_less _ _
-          (first_counts a b (256 ^ n) (high_first n p) (high_first n q) less
-          (number_fits n p (above_bytes p h.1)))
-          ∙ sym (ap (λ o. ordering_then o (slice_cmp nat_cmp p q)) (is_less a b less))
-      | inr other ↦ elim (cases_lt b a) [
-        | inl less ↦ is_greater _ _
-            (first_counts b a (256 ^ n) (high_first n q) (high_first n p) less
-            (number_fits n q (above_bytes q k.1)))
-            ∙ sym (ap (λ o. ordering_then o (slice_cmp nat_cmp p q)) (is_greater a b less))
-        | inr same ↦ (
-            let one : a ≡ b = omega arith in
-            ap (λ c. nat_cmp (c * 256 ^ n + high_first n p) (b * 256 ^ n + high_first n q)) one
-            ∙ rest_counts (b * 256 ^ n) (high_first n p) (high_first n q)
-            ∙ order n p q (omega arith) (omega arith) h.1 k.1
-            ∙ sym (ap (λ o. ordering_then o (slice_cmp nat_cmp p q)) (is_equal a b one)))
-      ]
-    ]
-
--- words are ordered as their numbers are
-pub word_order : (p q : List ℕ) → IsUpToEight p → IsUpToEight q
-    → nat_cmp (word_number p) (word_number q) ≡ word_cmp (lower p) (lower q)
-unfolding word_number
-word_order p q h k =
-    order 8 (lower p) (lower q) (omega (arith, length-lower p, h.few)) (omega (arith, length-lower q, k.few))
-    (above_word p h.bytes) (above_word q k.bytes)
-
--- a word with a lesser number is below
-pub lesser_below : (p q : List ℕ) → IsUpToEight p → IsUpToEight q → word_number p < word_number q
-    → is_lt (word_cmp (lower p) (lower q)) ≡ true
-lesser_below p q h k l = ap is_lt (sym (word_order p q h k) ∙ is_less (word_number p) (word_number q) l)
-
--- words with one number are the same but for the case
-pub equal_same : (p q : List ℕ) → IsUpToEight p → IsUpToEight q → word_number p ≡ word_number q
-    → lower p ≡ lower q
-equal_same p q h k e =
-    same_words (lower p) (lower q) (sym (word_order p q h k) ∙ is_equal (word_number p) (word_number q) e)
-
--- words of these kinds have numbers
-pub attribute_fits : (p : List ℕ) → IsWord Attribute p → IsUpToEight p
-attribute_fits p h =
-    record {
-      some = omega (arith, (length-attribute p h).0);
-      few = (length-attribute p h).1;
-      bytes =
-          word_letters_or_digits Attribute p h;
-    }
-
-pub variant_fits : (p : List ℕ) → IsWord Variant p → IsUpToEight p
-variant_fits p h =
-    record {
-      some = omega (arith, (length-variant p h).0);
-      few = (length-variant p h).1;
-      bytes =
-          word_letters_or_digits Variant p h;
-    }
+-- ---- words that have numbers
 
 pub key_fits : (p : List ℕ) → IsWord UnicodeKey p → IsUpToEight p
 key_fits p h =

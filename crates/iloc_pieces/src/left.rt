@@ -110,12 +110,14 @@ pub fn next(left: Left<'_>) -> Left<'_>
     ensures { IsNextPiece left.entry result }
 {
     let past = left.n + 1;
-    let marks = left.marks.after(past);
     let at = left.at + past;
     let len = left.len - past;
-    if marks.ends == 0 {
-        return look(left.window, at, len, marks_at(left.window, at, len));
-    }
+    let known = left.marks.after(past);
+    let marks = if known.ends == 0 {
+        marks_at(left.window, at, len)
+    } else {
+        known
+    };
     look(left.window, at, len, marks)
 }
 

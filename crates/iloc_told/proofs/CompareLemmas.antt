@@ -7,8 +7,7 @@ use Rattle.iloc_spec_grammar.specs.Values.{identifier_text}
 use Rattle.iloc_plain.specs.Plain.{value_of}
 use Rattle.iloc_blocks.specs.Ordered.{IsStored, ordered_text}
 use Rattle.iloc_blocks.specs.declared.ordered.Ordered.{Ordered}
-use Rattle.iloc_rewriting.proofs.StoringLemmas.{take_two}
-use Rattle.iloc_told.proofs.CopyLemmas.{lower_two, lower_front, ordered_length}
+use Rattle.iloc_told.proofs.CopyLemmas.{take_two, lower_two, lower_front, ordered_length}
 
 -- two texts that begin alike are alike exactly if what follows is
 parts_same : (xs ys vs ws : List ℕ) → xs ≡ ys → (vs ≡ ws) ↔ (xs ++ vs ≡ ys ++ ws)

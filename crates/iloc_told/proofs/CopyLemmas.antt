@@ -1,5 +1,5 @@
 -- Parts that are copied one after the other.
-use Rattle.std.proofs.Common.{◌≡◌, ℕ, ◌+◌, ◌-◌, ◌^◌, ◌<◌, ◌≤◌, List, ◌++◌, length, take, drop, sym, ap, ◌∙◌, arith, length-append, length-drop, length-take-le}
+use Rattle.std.proofs.Common.{◌≡◌, ℕ, zero, suc, ◌+◌, ◌-◌, ◌^◌, ◌<◌, ◌≤◌, List, [], ◌∷◌, ◌++◌, length, take, drop, refl, sym, ap, ◌∙◌, arith, length-append, length-drop, length-take-le}
 use Rattle.std.proofs.lemmas.List.{take-take, take-map, map-append}
 use Rattle.std.proofs.lemmas.Slice.{take-put_mid}
 use borrow.Rule.Slice.PartMut.{put_mid, same_len_mid}
@@ -10,9 +10,18 @@ use Rattle.iloc_spec_grammar.proofs.WordsLaws.{length-lower}
 use Rattle.iloc_plain.specs.Plain.{value_of}
 use Rattle.iloc_writeable.specs.Hints.{saturated}
 use Rattle.std.proofs.lemmas.Bool.Decides.{nat_tests}
-use Rattle.iloc_rewriting.proofs.StoringLemmas.{take_two}
 use Rattle.iloc_blocks.specs.Ordered.{IsStored, ordered_text}
 use Rattle.iloc_blocks.specs.declared.ordered.Ordered.{Ordered}
+
+take_nothing : (n : ℕ) → ◌≡◌ {A = List ℕ} (take n []) []
+take_nothing zero = refl
+take_nothing (suc n) = refl
+
+-- the first bytes, and more of them
+pub take_two : (a b : ℕ) (t : List ℕ) → take (a + b) t ≡ take a t ++ take b (drop a t)
+take_two zero b t = let same : 0 + b ≡ b = omega arith in ap (λ (m : ℕ). take m t) same
+take_two (suc a) b [] = take_nothing (suc a + b) ∙ sym (take_nothing b)
+take_two (suc a) b (x ∷ t) = let one : suc a + b ≡ suc (a + b) = omega arith in ap (λ (m : ℕ). take m (x ∷ t)) one ∙ ap (λ l. x ∷ l) (take_two a b t)
 
 -- bytes in lower case, and more of them
 pub lower_two : (a b : ℕ) (t : List ℕ) → lower (take a t) ++ lower (take b (drop a t)) ≡ lower (take (a + b) t)

@@ -4,6 +4,7 @@ mod CompareLemmas
 pub mod PlainAnswers
 pub mod RefusalLemmas
 pub mod FrontAnswers
+mod OutlinedLemmas
 mod FoundAnswers
 mod KeywordAnswers
 mod SubdivisionBlocks

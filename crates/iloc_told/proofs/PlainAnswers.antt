@@ -19,7 +19,7 @@ use Rattle.iloc_spec_preferences.proofs.SubdivisionLaws.{subdivision_back}
 use Rattle.iloc_plain.specs.Plain.{IsPlain, value_of}
 use Rattle.iloc_plain.specs.Shape.{plain_identifier}
 use Rattle.iloc_plain.specs.declared.plain.Plain.{Plain}
-use Rattle.iloc_blocks.specs.Ordered.{IsOrdered, IsOrderedIdentifier, IsVaried}
+use Rattle.iloc_blocks.specs.Ordered.{IsOrdered, IsVaried}
 use Rattle.iloc_blocks.specs.declared.ordered.Ordered.{Ordered}
 use Rattle.iloc_told.specs.Modes.{IsNormalText}
 use Rattle.iloc_told.specs.Told.{IsInOrder}
@@ -133,12 +133,6 @@ pub varied_in_order : (t : List ℕ) (o : Ordered) → IsVaried t o → (mode : 
 varied_in_order t o h mode = record {
   stored = h.is.stored;
   normal = subst (IsNormalText languages mode t) h.is.normal (few_normal t h.is.identifier h.is.means h.few mode);
-}
-
-pub identifier_in_order : (t : List ℕ) (o : Ordered) → IsOrderedIdentifier t o → (mode : Mode) → mode ≢ Data → IsInOrder mode t o
-identifier_in_order t o h mode other = record {
-  stored = h.stored;
-  normal = subst (IsNormalText languages mode t) h.normal (alone_normal t h.identifier h.means mode other);
 }
 
 pub ordered_in_order : (t : List ℕ) (o : Ordered) → IsOrdered t o → IsInOrder Locale t o

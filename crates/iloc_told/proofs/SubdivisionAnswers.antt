@@ -12,8 +12,8 @@ use Rattle.iloc_spec_grammar.specs.Values.{identifier_text}
 use Rattle.iloc_spec_grammar.proofs.MapLaws.{same_is}
 use Rattle.iloc_spec_grammar.proofs.WordsLaws.{is_word-lower, lower-lower}
 use Rattle.iloc_spec_grammar.proofs.CaseLaws.{pieces-lower}
-use Rattle.iloc_spec_grammar.proofs.PartTexts.{join-append}
-use Rattle.iloc_spec_grammar.proofs.PiecesLaws.{pieces-join}
+use Rattle.iloc_spec_grammar.proofs.PartTexts.{join-append, join-dashes}
+use Rattle.iloc_spec_grammar.proofs.PiecesLaws.{at_pieces, join-pieces, pieces-join}
 use Rattle.iloc_spec_grammar.proofs.ReadBack.{word_hyphen_free}
 use Rattle.iloc_spec_parts.specs.Small.{SmallLocale, IsSmall}
 use Rattle.iloc_spec_parts.proofs.SmallTrees.{tree_is_small}
@@ -29,7 +29,6 @@ use Rattle.iloc_blocks.proofs.BadBlocks.{pieces_both}
 use Rattle.iloc_blocks.proofs.OrderedLemmas.{cut_there, rest_there, room_there, varied_means, varied_text}
 use Rattle.iloc_blocks.proofs.PrintedBlocks.{printed_none}
 use Rattle.iloc_fronts.proofs.KeyLemmas.{one_word}
-use Rattle.iloc_rewriting.proofs.RewritingLemmas.{dashes_pieces}
 use Rattle.iloc_subtags.specs.declared.parse_error.ParseError.TheVariants.{InvalidExtension}
 use Rattle.iloc_told.specs.Modes.{IsNormalText}
 use Rattle.iloc_told.specs.Subdivisions.{IsSubdivisionBlock, value_named}
@@ -37,6 +36,10 @@ use Rattle.iloc_told.specs.Told.{HasRefusal}
 use Rattle.iloc_told.specs.declared.Mode.TheVariants.{Data}
 use Rattle.iloc_told.proofs.SubdivisionBlocks.{named_read}
 use Rattle.iloc_told.proofs.PlainAnswers.{few, variants_are, data_text_is, one_item}
+
+-- pieces of a text, each after a hyphen, are the text after one
+dashes_pieces : (t : List ℕ) → dashes (pieces t) ≡ 45 ∷ t
+dashes_pieces t = at_pieces (λ ps. dashes ps ≡ 45 ∷ join ps) (λ p ps. ap (λ l. 45 ∷ l) (sym (join-dashes p ps))) t ∙ ap (λ l. 45 ∷ l) (join-pieces t)
 
 -- ---- what stands before the block
 

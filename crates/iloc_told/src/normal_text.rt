@@ -1,5 +1,5 @@
 //! Normal texts that are told at once.
-ghost use Rattle.std.specs.Prelude.{◌≡◌, ◌≢◌, ◌+◌, ◌≤◌, IfOk, IfSome, length, take};
+ghost use Rattle.std.specs.Prelude.{◌≡◌, ◌≢◌, ◌+◌, ◌≤◌, ◌<◌, IfNone, IfOk, IfSome, length, take};
 ghost use Rattle.std.specs.Str.{IsUtf8};
 ghost use Rattle.std.specs.String.{string_bytes};
 ghost use Rattle.iloc_spec_grammar.specs.Syntax.{Text, languages};
@@ -20,9 +20,6 @@ use iloc_subtags::ParseError;
 use std::alloc::{AllocError, Global};
 use std::borrow::CowStr;
 use std::simd::prelude::*;
-
-// The room for a normal text: that of a plain identifier, and of what is brought into order.
-const NORMAL: usize = 16 + ROOM;
 
 /// The normal text of a plain identifier, borrowed exactly if the text is that already; or the refusal of a text of at most
 /// sixteen bytes that begins with no language. Both are the same in each mode. `None` says nothing of the text. Out of
@@ -74,7 +71,8 @@ fn own_front(alloc: Global, bytes: u8x16, len: usize) -> Result<String, AllocErr
 }
 
 /// The normal text in the mode of what the text means, borrowed exactly if the text is that already, or why the text
-/// is refused. `None` says nothing of the text. Out of memory comes only if the text is not normal.
+/// is refused. `None` says nothing of the text, which then has more than `MOST` bytes. Out of memory comes only if the
+/// text is not normal.
 #[inline(always)]
 pub fn normalize_told(
     alloc: Global,
@@ -82,7 +80,8 @@ pub fn normalize_told(
     input: &[u8],
 ) -> Option<Result<CowStr<'_, Global>, ParseError>>
     requires { mode ≢ Mode.Data }
-    ensures { IfSome result (IsNormalizedAs mode input.now) }
+    ensures normal { IfSome result (IsNormalizedAs mode input.now) }
+    ensures few { IfNone result (MOST < length input.now) }
 {
     if input.len() > MOST {
         return None;
@@ -91,50 +90,77 @@ pub fn normalize_told(
     put_in_front(input, &mut window);
     let mut room = [0u8; ROOM];
     match tell(mode, &window, input.len(), &mut room) {
-        Told::Ordered(line) => text_of(alloc, input, &window, &line),
+        Told::Ordered(line) => Some(text_of(alloc, input, &window, &line)),
+        Told::Normal(normal) => Some(whole_text(alloc, input, normal)),
         Told::Refused(refusal) => Some(Err(refusal)),
         Told::Nothing => None,
     }
 }
 
 // The normal text of an input that is told to be in order, and that stands in the front of the window: borrowed exactly if
-// it is the input. `None` if it is too long. It is a call, so that a refusal pays nothing for it.
+// it is the input. It is a call, so that a refusal pays nothing for it.
 #[inline(never)]
 fn text_of<'a>(
     alloc: Global,
     input: &'a [u8],
     window: &[u8],
     line: &Ordered<'_>,
-) -> Option<Result<CowStr<'a, Global>, ParseError>>
+) -> Result<CowStr<'a, Global>, ParseError>
     requires stored { IsStored line.now }
     requires utf8 { IsUtf8 (ordered_text line.now) }
+    requires few { line.now.plain.len + line.now.len ≤ MOST }
     requires front { take (length input.now) window.now ≡ input.now }
     requires room { length input.now + 16 ≤ length window.now }
     ensures { (mode : Mode) → IsNormalText languages mode input.now (ordered_text line.now)
-        → IfSome result (IsNormalizedAs mode input.now) }
+        → IsNormalizedAs mode input.now result }
 {
     if is_text_of(line, window, input.len()) {
-        return Some(Ok(CowStr::Borrowed(unsafe { str::from_utf8_unchecked(input) })));
+        return Ok(CowStr::Borrowed(unsafe { str::from_utf8_unchecked(input) }));
     }
-    own_text(alloc, line)
+    own_ordered(alloc, line)
 }
 
 // The same of an input that is not normal. It is a call, so that a normal input clears no room for a text.
 #[inline(never)]
-fn own_text<'a>(alloc: Global, line: &Ordered<'_>) -> Option<Result<CowStr<'a, Global>, ParseError>>
+fn own_ordered<'a>(alloc: Global, line: &Ordered<'_>) -> Result<CowStr<'a, Global>, ParseError>
     requires stored { IsStored line.now }
     requires utf8 { IsUtf8 (ordered_text line.now) }
+    requires few { line.now.plain.len + line.now.len ≤ MOST }
     ensures { (mode : Mode) (t : Text) → IsNormalText languages mode t (ordered_text line.now)
-        → t ≢ ordered_text line.now → IfSome result (IsNormalizedAs mode t) }
+        → t ≢ ordered_text line.now → IsNormalizedAs mode t result }
 {
     let len = line.plain.len + line.len;
-    if len > NORMAL {
-        return None;
-    }
-    let mut normal = [0u8; NORMAL];
+    let mut normal = [0u8; MOST];
     copy_ordered(line, &mut normal[..len]);
-    match String::from_str(alloc, unsafe { str::from_utf8_unchecked(&normal[..len]) }) {
-        Ok(text) => Some(Ok(CowStr::Owned(text))),
-        Err(AllocError) => Some(Err(ParseError::OutOfMemory)),
+    own_text(alloc, &normal[..len])
+}
+
+// The normal text of an input, borrowed exactly if it is the input.
+#[inline(never)]
+fn whole_text<'a>(
+    alloc: Global,
+    input: &'a [u8],
+    normal: &[u8],
+) -> Result<CowStr<'a, Global>, ParseError>
+    requires { IsUtf8 normal.now }
+    ensures { (mode : Mode) → IsNormalText languages mode input.now normal.now
+        → IsNormalizedAs mode input.now result }
+{
+    if input == normal {
+        return Ok(CowStr::Borrowed(unsafe { str::from_utf8_unchecked(input) }));
+    }
+    own_text(alloc, normal)
+}
+
+// The same of an input that is not normal.
+#[inline(always)]
+fn own_text<'a>(alloc: Global, normal: &[u8]) -> Result<CowStr<'a, Global>, ParseError>
+    requires { IsUtf8 normal.now }
+    ensures { (mode : Mode) (t : Text) → IsNormalText languages mode t normal.now
+        → t ≢ normal.now → IsNormalizedAs mode t result }
+{
+    match String::from_str(alloc, unsafe { str::from_utf8_unchecked(normal) }) {
+        Ok(text) => Ok(CowStr::Owned(text)),
+        Err(AllocError) => Err(ParseError::OutOfMemory),
     }
 }

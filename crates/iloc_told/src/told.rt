@@ -1,22 +1,20 @@
 //! What is told of a text at once, in each mode: first by its front, and then by what follows that.
-ghost use Rattle.std.specs.Prelude.{◌≡◌, ◌≢◌, ◌↔◌, ◌+◌, ◌<◌, ◌≤◌, IsTrue, true, length, take, get_or};
+ghost use Rattle.std.specs.Prelude.{◌≡◌, ◌⊎◌, ◌↔◌, ◌+◌, ◌<◌, ◌≤◌, ℕ, IsTrue, true, length, take, get_or};
 ghost use Rattle.iloc_spec_grammar.specs.Syntax.{Text};
 ghost use Rattle.iloc_spec_parts.specs.SmallComputing.{is_u};
 ghost use Rattle.iloc_fronts.specs.Front.{EndsInVariant, IsFound, IsFront};
 ghost use Rattle.iloc_fronts.specs.declared.front.Front.TheVariants as fronts;
-ghost use Rattle.iloc_blocks.specs.Ordered.{IsReading};
-ghost use Rattle.iloc_rewriting.specs.Words.{IsUnsorted};
-ghost use Rattle.iloc_told.specs.Told.{ArePlain, IsLead, IsTold, refusal_of};
+ghost use Rattle.iloc_told.specs.Told.{ArePlain, IsBeyond, IsLead, IsNothingOnlyIf, IsTold, refusal_of};
 
 use crate::Mode;
+use crate::outlined::tell_outlined;
 use crate::subdivisions::tell_subdivision;
 use iloc_blocks::{BadBlock, Ordered, Reading, read_ordered, read_varied};
 use iloc_fronts::{Block, Front, Keyword, find_block, read_front, read_keyword};
 use iloc_plain::read_plain;
-use iloc_rewriting::{Unsorted, rewrite, sort_identifier, sort_variants};
 use iloc_subtags::ParseError;
 
-/// The room of a call for a text that is brought into order. Longer ones are not told.
+/// The room of a call for a normal text, and for sixteen bytes behind it.
 pub const ROOM: usize = 128;
 
 /// What the front of a text tells.
@@ -27,14 +25,9 @@ pub enum Lead {
     /// Nothing, but a variant of so many bytes ends it, and what comes before may be a plain identifier: `tell_varied`
     /// tells more.
     Variant(usize),
-    /// Nothing, but it may be a plain identifier of so many bytes, and two variants or more: `tell_variants` tells more.
-    /// It is said of no data locale.
-    Variants(usize),
     /// Nothing, but it may be a plain identifier of so many bytes, and what a locale prints after it:
     /// `tell_blocks` tells more. It is said of locales alone.
     Blocks(usize),
-    /// The same with two variants or more before the blocks: `tell_after_variants` tells more.
-    AfterVariants(usize),
     /// Nothing, but it may be a plain identifier of so many bytes, perhaps a variant, and after so many bytes a keyword
     /// `sd`: `tell_subdivision` tells more. It is said of data locales alone.
     Subdivision(usize, usize),
@@ -47,18 +40,22 @@ pub enum Lead {
 pub enum Told<'a> {
     /// Its normal text: that of a plain identifier, and what follows it in lower case.
     Ordered(Ordered<'a>),
+    /// Its normal text.
+    Normal(&'a [u8]),
     /// Why it is refused.
     Refused(ParseError),
     /// Nothing.
     Nothing,
 }
 
-/// What is told in the mode of the first `len` bytes. Sixteen bytes after them are loaded too, and change nothing. A
-/// text out of order is brought into order in the room.
+/// What is told in the mode of the first `len` bytes. Sixteen bytes after them are loaded too, and change nothing. The
+/// normal text of a text out of order is written to the room.
 #[inline(never)]
 pub fn tell<'a>(mode: Mode, window: &'a [u8], len: usize, room: &'a mut [u8]) -> Told<'a>
     requires { len + 16 ≤ length window.now }
-    ensures { IsTold mode (take len window.now) result }
+    ensures told { IsTold mode (take len window.now) result }
+    ensures few { IsNothingOnlyIf ((mode ≡ Mode.Data)
+        ⊎ IsBeyond (length room.old) (take len window.now)) result }
 {
     match read_found(mode, window, len) {
         Lead::Refused(error) => return Told::Refused(error),
@@ -67,12 +64,10 @@ pub fn tell<'a>(mode: Mode, window: &'a [u8], len: usize, room: &'a mut [u8]) ->
     }
     match read_lead(mode, window, len) {
         Lead::Refused(error) => Told::Refused(error),
-        Lead::Variant(n) => tell_varied(window, len, n),
-        Lead::Variants(at) => tell_variants(window, len, at, room),
+        Lead::Variant(n) => tell_varied(mode, window, len, n, room),
         Lead::Blocks(at) => tell_blocks(window, len, at, room),
-        Lead::AfterVariants(at) => tell_after_variants(window, len, at, room),
         Lead::Subdivision(at, start) => tell_subdivision(window, len, at, start),
-        Lead::Nothing => Told::Nothing,
+        Lead::Nothing => tell_outlined(mode, window, len, room),
     }
 }
 
@@ -154,7 +149,7 @@ pub fn read_lead(mode: Mode, window: &[u8], len: usize) -> Lead
         Front::NoLanguage => Lead::Refused(ParseError::InvalidLanguage),
         Front::Misfit => Lead::Refused(ParseError::InvalidSubtag),
         Front::Variant(n) => Lead::Variant(n),
-        Front::Variants(tail) => lead_of_variants(mode, &window[..len], tail),
+        Front::Variants(_) => lead_of_variants(mode),
         Front::Block(block) => lead_of_block(mode, &window[..len], block),
         Front::Other => Lead::Nothing,
     }
@@ -162,15 +157,12 @@ pub fn read_lead(mode: Mode, window: &[u8], len: usize) -> Lead
 
 // The same of a text with two variants or more. A data locale has no more than one.
 #[inline(always)]
-fn lead_of_variants(mode: Mode, text: &[u8], tail: usize) -> Lead
-    requires { IsFront text.now (fronts.Variants tail) }
-    ensures { IsLead mode text.now result }
+fn lead_of_variants(mode: Mode) -> Lead
+    ensures { (t : Text) (tail : ℕ) → IsFront t (fronts.Variants tail) → IsLead mode t result }
 {
     match mode {
         Mode::Data => Lead::Refused(ParseError::InvalidSubtag),
-        Mode::Langid | Mode::Locale => {
-            Lead::Variants(text.len().wrapping_sub(tail.wrapping_add(1)))
-        }
+        Mode::Langid | Mode::Locale => Lead::Nothing,
     }
 }
 
@@ -182,21 +174,9 @@ fn lead_of_block(mode: Mode, text: &[u8], block: Block<'_>) -> Lead
 {
     match mode {
         Mode::Langid => Lead::Refused(ParseError::InvalidSubtag),
-        Mode::Locale => lead_of_locale(text.len(), block),
+        Mode::Locale => Lead::Blocks(text.len().wrapping_sub(block.tail.wrapping_add(1))),
         Mode::Data => lead_of_data(text, block),
     }
-}
-
-// The same of a locale. One variant takes at most nine bytes with its hyphen.
-#[inline(always)]
-fn lead_of_locale(len: usize, block: Block<'_>) -> Lead
-    ensures { (t : Text) → IsLead Mode.Locale t result }
-{
-    let at = len.wrapping_sub(block.tail.wrapping_add(1));
-    if block.tail.wrapping_sub(block.len) > 9 {
-        return Lead::AfterVariants(at);
-    }
-    Lead::Blocks(at)
 }
 
 // The same of a data locale. It has no block but that of `u`.
@@ -270,120 +250,42 @@ fn fault_after(block: Block<'_>) -> ParseError
     ParseError::InvalidExtension
 }
 
-/// What is told, in whatever mode, of the first `len` bytes, if a plain identifier comes before the hyphen and the variant
-/// that end them, which has `n` bytes.
+// What is told in the mode of the first `len` bytes, if a plain identifier comes before the hyphen and the variant that
+// end them, which has `n` bytes.
 #[inline(always)]
-pub fn tell_varied(window: &[u8], len: usize, n: usize) -> Told<'_>
+fn tell_varied<'a>(
+    mode: Mode,
+    window: &'a [u8],
+    len: usize,
+    n: usize,
+    room: &'a mut [u8],
+) -> Told<'a>
     requires room { len + 16 ≤ length window.now }
     requires variant { EndsInVariant (take len window.now) n }
-    ensures { (mode : Mode) → IsTold mode (take len window.now) result }
+    ensures told { IsTold mode (take len window.now) result }
+    ensures few { IsNothingOnlyIf ((mode ≡ Mode.Data)
+        ⊎ IsBeyond (length room.old) (take len window.now)) result }
 {
     match read_varied(window, len, n) {
         Some(line) => Told::Ordered(line),
-        None => Told::Nothing,
+        None => tell_outlined(mode, window, len, room),
     }
 }
 
-/// What is told, in another mode than that of data locales, of the first `len` bytes, if a plain identifier of `at` bytes
-/// and variants are all of them. Variants out of order are brought into order in the room.
+// What is told of the first `len` bytes as a locale, if a plain identifier of `at` bytes comes first, and what follows it
+// is in order; and else too.
 #[inline(always)]
-pub fn tell_variants<'a>(window: &[u8], len: usize, at: usize, room: &'a mut [u8]) -> Told<'a>
+fn tell_blocks<'a>(window: &'a [u8], len: usize, at: usize, room: &'a mut [u8]) -> Told<'a>
     requires { len + 16 ≤ length window.now }
-    ensures { (mode : Mode) → mode ≢ Mode.Data → IsTold mode (take len window.now) result }
-{
-    match sort_identifier(window, len, at, room) {
-        Ok(line) => Told::Ordered(line),
-        Err(why) => told_unsorted(why),
-    }
-}
-
-// What is told of a text whose variants are not brought into order.
-#[inline(always)]
-fn told_unsorted<'a>(why: Unsorted) -> Told<'a>
-    ensures { (t : Text) (mode : Mode) → mode ≢ Mode.Data → IsUnsorted t why
-        → IsTold mode t result }
-{
-    match why {
-        Unsorted::Repeated => Told::Refused(ParseError::InvalidSubtag),
-        Unsorted::Other => Told::Nothing,
-    }
-}
-
-/// What is told of the first `len` bytes as a locale, if a plain identifier of `at` bytes comes first. A text out of
-/// order is brought into order in the room.
-#[inline(always)]
-pub fn tell_blocks<'a>(window: &'a [u8], len: usize, at: usize, room: &'a mut [u8]) -> Told<'a>
-    requires { len + 16 ≤ length window.now }
-    ensures { IsTold Mode.Locale (take len window.now) result }
+    ensures told { IsTold Mode.Locale (take len window.now) result }
+    ensures few { IsNothingOnlyIf ((Mode.Locale ≡ Mode.Data)
+        ⊎ IsBeyond (length room.old) (take len window.now)) result }
 {
     match read_ordered(window, len, at) {
-        Reading::Unordered => told_by(rewrite(window, len, at, room)),
-        reading => told_by(reading),
-    }
-}
-
-// What a reading tells of a locale.
-#[inline(always)]
-fn told_by<'a>(reading: Reading<'a>) -> Told<'a>
-    ensures { (t : Text) → IsReading t reading.entry → IsTold Mode.Locale t result }
-{
-    match reading {
         Reading::Ordered(line) => Told::Ordered(line),
         Reading::BadBlock(bad) => Told::Refused(error_of(bad)),
-        Reading::Unordered | Reading::Other => Told::Nothing,
+        Reading::Unordered | Reading::Other => tell_outlined(Mode::Locale, window, len, room),
     }
-}
-
-/// What is told of the first `len` bytes as a locale, if a plain identifier of `at` bytes comes first, and two variants
-/// or more. A text out of order is brought into order in the room.
-#[inline(always)]
-pub fn tell_after_variants<'a>(
-    window: &'a [u8],
-    len: usize,
-    at: usize,
-    room: &'a mut [u8],
-) -> Told<'a>
-    requires { len + 16 ≤ length window.now }
-    ensures { IsTold Mode.Locale (take len window.now) result }
-{
-    match read_after_variants(window, len, at) {
-        Reading::Unordered => tell_resorted(window, len, at, room),
-        reading => told_by(reading),
-    }
-}
-
-// The same of one whose variants and blocks may have to be brought into order.
-#[inline(never)]
-fn tell_resorted<'a>(window: &'a [u8], len: usize, at: usize, room: &'a mut [u8]) -> Told<'a>
-    requires { len + 16 ≤ length window.now }
-    ensures { IsTold Mode.Locale (take len window.now) result }
-{
-    match rewrite(window, len, at, room) {
-        Reading::Other => tell_repeated(window, len, at),
-        reading => told_by(reading),
-    }
-}
-
-// The same of one that is not brought into order: whether a variant comes twice.
-#[inline(never)]
-fn tell_repeated<'a>(window: &[u8], len: usize, at: usize) -> Told<'a>
-    requires { len + 16 ≤ length window.now }
-    ensures { IsTold Mode.Locale (take len window.now) result }
-{
-    let mut sorted = [0u8; ROOM];
-    match sort_variants(window, len, at, &mut sorted) {
-        Ok(_) => Told::Nothing,
-        Err(why) => told_unsorted(why),
-    }
-}
-
-// The same as `read_ordered`. It is a call, since few lines have two variants.
-#[inline(never)]
-fn read_after_variants(window: &[u8], len: usize, at: usize) -> Reading<'_>
-    requires { len + 16 ≤ length window.now }
-    ensures { IsReading (take len window.now) result }
-{
-    read_ordered(window, len, at)
 }
 
 // Why a locale with this bad block is refused.

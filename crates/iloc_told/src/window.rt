@@ -1,13 +1,14 @@
 //! A text with room behind it, so that it can be told at once.
-ghost use Rattle.std.specs.Prelude.{◌≡◌, ◌≤◌, length, take};
-ghost use Rattle.iloc_told.specs.Told.{IsTold};
+ghost use Rattle.std.specs.Prelude.{◌≡◌, ◌⊎◌, ◌≤◌, ◌<◌, length, take};
+ghost use Rattle.iloc_told.specs.Told.{IsNothingOnlyIf, IsTold};
+ghost use Rattle.iloc_told.specs.declared.Mode.TheVariants as Mode;
 
 use crate::Mode;
 use crate::copying::{copy_all, copy_ends};
 use crate::told::{ROOM, Told, tell};
 
 /// How long a text may be that is looked at here.
-pub(crate) const MOST: usize = 48;
+pub const MOST: usize = 48;
 
 /// How much room a text needs: that, and sixteen bytes more.
 pub const WINDOW: usize = 64;
@@ -26,8 +27,8 @@ pub(crate) fn put_in_front(text: &[u8], window: &mut [u8; WINDOW])
     }
 }
 
-/// What is told of a text in the mode: nothing of one that is longer than `MOST`. It is copied to the window, and brought
-/// into order in the room.
+/// What is told of a text in the mode: nothing of one that is longer than `MOST`. It is copied to the window, and its
+/// normal text is written to the room if it is out of order.
 #[inline(always)]
 pub fn tell_text<'a>(
     mode: Mode,
@@ -35,7 +36,8 @@ pub fn tell_text<'a>(
     window: &'a mut [u8; WINDOW],
     room: &'a mut [u8; ROOM],
 ) -> Told<'a>
-    ensures { IsTold mode text.now result }
+    ensures told { IsTold mode text.now result }
+    ensures few { IsNothingOnlyIf ((mode ≡ Mode.Data) ⊎ (MOST < length text.now)) result }
 {
     if text.len() > MOST {
         return Told::Nothing;

@@ -29,6 +29,13 @@ fn front(out: &mut String, parts: &(Language, Option<Script>, Option<Region>)) {
     put_some(out, region);
 }
 
+// Says whether it is so, which ends here.
+fn says_truth(out: &mut String, is_so: bool) -> bool {
+    truth(out, is_so);
+    say(out, " ");
+    true
+}
+
 impl Answering<Rows> for LanguageIdentifier {
     fn read(alloc: Global, text: &[u8]) -> Result<Self, ParseError> {
         LanguageIdentifier::try_from_utf8(alloc, text)
@@ -59,11 +66,12 @@ impl Answering<Rows> for LanguageIdentifier {
         }
     }
 
-    fn step(&mut self, step: &Step<'_>, _out: &mut String) -> bool {
+    fn step(&mut self, step: &Step<'_>, out: &mut String) -> bool {
         match step.call {
             b"language" => replaces(&mut self.language, Language::try_from_utf8(step.first)),
             b"script" => fills(&mut self.script, Script::try_from_utf8(step.first)),
             b"region" => fills(&mut self.region, Region::try_from_utf8(step.first)),
+            b"parent" => says_truth(out, self.truncate_to_parent()),
             _ => replaces(&mut self.variants, variants(step.alloc, step.first)),
         }
     }
@@ -110,6 +118,7 @@ impl Answering<Rows> for DataLocale {
         match step.call {
             b"region" => fills(&mut self.region, Region::try_from_utf8(step.first)),
             b"subdivision" => fills(&mut self.subdivision, Subtag::try_from_utf8(step.first)),
+            b"parent" => says_truth(out, self.truncate_to_parent()),
             b"nosubdivision" => {
                 self.subdivision = None;
                 true

@@ -19,8 +19,8 @@ fn normal(out: &mut String, text: Result<CowStr<'_, Global>, ParseError>) {
     }
 }
 
-// Says the same of a text that is told at once. No contract says that it is: a shape that silently went the old way would
-// show nowhere else.
+// Says the same of a text that is told at once. No contract says that a plain text is: a shape that silently went the old
+// way would show nowhere else.
 fn at_once(out: &mut String, told: Option<Result<CowStr<'_, Global>, ParseError>>) {
     match told {
         Some(text) => normal(out, text),

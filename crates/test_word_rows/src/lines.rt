@@ -3,11 +3,9 @@
 //!
 //! `line-plain TEXT` says the normal text. In the other calls the second argument says how many bytes of the first are the
 //! line: `line-window` says the normal text, `line-front` what stands at the front, `line-block` the first block by the
-//! first piece of one byte, `line-keyword` what follows the singleton of the first block, and `line-ordered` of a line in the order of its normal text the plain identifier and
-//! the rest, what is wrong with its first bad block, or that the line is not in order. `line-bad` says what is wrong with
-//! the first bad block, and `line-rewritten` the line that is brought into order. `line-sorted` says the line whose
-//! variants are brought into order, and `line-identifier` the identifier whose variants are; both say if one comes twice.
-//! A line of which nothing is said is `not told`.
+//! first piece of one byte, `line-keyword` what follows the singleton of the first block, and `line-ordered` of a line in
+//! the order of its normal text the plain identifier and the rest, what is wrong with its first bad block, or that the
+//! line is not in order. A line of which nothing is said is `not told`.
 ghost use Rattle.std.specs.Prelude.{◌+◌, ◌≤◌, length, take};
 ghost use Rattle.iloc_plain.specs.Plain.{AreWords};
 ghost use Rattle.iloc_fronts.specs.Front.{EndsInVariant, IsFront};
@@ -16,8 +14,6 @@ ghost use Rattle.iloc_blocks.specs.Ordered.{IsStored};
 use iloc_blocks::{BadBlock, Ordered, Reading, read_ordered, read_varied};
 use iloc_fronts::{Block, Front, Keyword, find_block, read_front, read_keyword};
 use iloc_plain::{Plain, read_plain, read_plain_text};
-use iloc_rewriting::{Unsorted, rewrite, sort_identifier, sort_variants};
-use std::cmp::min;
 use test_page::argument::number_of;
 use test_page::{bytes, number, say};
 
@@ -175,68 +171,6 @@ fn ordered(window: &[u8], len: usize, out: &mut String) {
     }
 }
 
-// How many bytes of the line are the longest plain identifier that a hyphen follows; all if there is none.
-fn identifier_len(window: &[u8], len: usize) -> usize
-    requires { len + 16 ≤ length window.now }
-{
-    let mut found = len;
-    for at in 0..min(len, 17) {
-        if window[at] == b'-' && read_plain(window, at).is_some() {
-            found = at;
-        }
-    }
-    found
-}
-
-// Says what a line is that is brought into order, if sixteen bytes follow it at least.
-fn rewritten(window: &[u8], len: usize, out: &mut String) {
-    if window.len() < 16 || len > window.len() - 16 {
-        return say(out, "not told");
-    }
-    let at = identifier_len(window, len);
-    let mut room = [0u8; 128];
-    match rewrite(window, len, at, &mut room) {
-        Reading::Ordered(line) => in_order(&line, out),
-        Reading::BadBlock(BadBlock::Misfit) => say(out, "misfit"),
-        Reading::BadBlock(BadBlock::Duplicated) => say(out, "duplicated"),
-        Reading::Unordered | Reading::Other => say(out, "not told"),
-    }
-}
-
-// Says why variants are not in order.
-fn unsorted(why: Unsorted, out: &mut String) {
-    match why {
-        Unsorted::Repeated => say(out, "twice"),
-        Unsorted::Other => say(out, "not told"),
-    }
-}
-
-// Says the line with its variants in order, if sixteen bytes follow it at least.
-fn sorted(window: &[u8], len: usize, out: &mut String) {
-    if window.len() < 16 || len > window.len() - 16 {
-        return say(out, "not told");
-    }
-    let at = identifier_len(window, len);
-    let mut room = [0u8; 128];
-    match sort_variants(window, len, at, &mut room) {
-        Ok(len) => bytes(out, room.get(..len).unwrap_or(b"")),
-        Err(why) => unsorted(why, out),
-    }
-}
-
-// Says the identifier with its variants in order, if sixteen bytes follow the line at least.
-fn identifier(window: &[u8], len: usize, out: &mut String) {
-    if window.len() < 16 || len > window.len() - 16 {
-        return say(out, "not told");
-    }
-    let at = identifier_len(window, len);
-    let mut room = [0u8; 128];
-    match sort_identifier(window, len, at, &mut room) {
-        Ok(line) => in_order(&line, out),
-        Err(why) => unsorted(why, out),
-    }
-}
-
 /// The answer to a call.
 pub fn answer(what: &str, text: &[u8], len: &[u8], out: &mut String) {
     match what {
@@ -246,9 +180,6 @@ pub fn answer(what: &str, text: &[u8], len: &[u8], out: &mut String) {
         "block" => first_block(text, number_of(len), out),
         "keyword" => keyword(text, number_of(len), out),
         "ordered" => ordered(text, number_of(len), out),
-        "rewritten" => rewritten(text, number_of(len), out),
-        "sorted" => sorted(text, number_of(len), out),
-        "identifier" => identifier(text, number_of(len), out),
         _ => say(out, "no call"),
     }
 }

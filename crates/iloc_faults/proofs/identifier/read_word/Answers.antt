@@ -1,11 +1,9 @@
-use Rattle.std.proofs.Common.{◌≡◌, List, [], Some, None, Option, sym, ◌∙◌, subst}
-use Rattle.iloc_spec_grammar.specs.Syntax.{Text}
+use Rattle.std.proofs.Common.{Some, None, sym, ◌∙◌, subst}
 use Rattle.iloc_pieces.specs.Left.{piece_left}
-use Rattle.iloc_pieces.specs.declared.left.Left.{Left}
 use Rattle.iloc_faults.specs.declared.state.Stage.{Stage}
 use Rattle.iloc_faults.specs.declared.state.Stage.TheVariants.{Script}
 use Rattle.iloc_faults.specs.Next.{word_next}
-use Rattle.iloc_faults.specs.States.{AreVariants, IsEarly, IsWordRead}
+use Rattle.iloc_faults.specs.States.{IsEarly, IsWordRead}
 use Rattle.iloc_faults.proofs.StepReadings.{none_yet, script_read}
 use Rattle.iloc_faults.proofs.identifier.read_word.Goals as goal
 

@@ -1,7 +1,6 @@
 use Rattle.std.proofs.Common.{◌≡◌, ◌+◌, ◌==◌, ◌&&◌, get_or, true, false, sym, ap, ◌∙◌, arith}
 use Rattle.std.specs.Char.{to_ascii_lowercase}
 use Rattle.std.proofs.lemmas.Bool.{ne_eqb, eq-eqb}
-use Rattle.iloc_pieces.specs.Left.{piece_left}
 use Rattle.iloc_pieces.proofs.LeftLemmas.{piece_inside}
 use Rattle.iloc_faults.proofs.Bits.{two_long, not_two, sd_is}
 use Rattle.iloc_faults.proofs.step.is_sd.Goals as goal

@@ -1,9 +1,9 @@
-use Rattle.std.proofs.Common.{sym, ap, ◌∙◌, subst, option_map}
+use Rattle.std.proofs.Common.{sym, ap, ◌∙◌, option_map}
 use Rattle.iloc_faults.specs.declared.state.Part.TheVariants.{Head, Source}
 use Rattle.iloc_faults.specs.declared.state.Stage.TheVariants.{Language}
 use Rattle.iloc_faults.specs.Next.{when}
 use Rattle.iloc_faults.specs.States.{bare}
-use Rattle.iloc_faults.proofs.StepReadings.{key_read, key_read_after, start_read, language_read, head_read, head_not, source_read, source_not, other_read}
+use Rattle.iloc_faults.proofs.StepReadings.{key_read, key_read_after, start_read, language_read, head_read, source_read, other_read}
 use Rattle.iloc_faults.proofs.step.read_inside.Goals as goal
 
 pub returns-then-is_field_key : goal.returns-then-is_field_key

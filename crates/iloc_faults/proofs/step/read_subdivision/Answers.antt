@@ -1,4 +1,4 @@
-use Rattle.std.proofs.Common.{sym, ap, ◌∙◌, arith}
+use Rattle.std.proofs.Common.{sym, ap, ◌∙◌}
 use Rattle.iloc_spec_grammar.specs.Syntax.{Subtag, read}
 use Rattle.iloc_pieces.specs.Left.{piece_left}
 use Rattle.iloc_pieces.proofs.LeftLemmas.{short_attribute}

@@ -1,5 +1,5 @@
 use Rattle.std.proofs.Common.{sym, ◌∙◌}
-use Rattle.iloc_faults.proofs.StepReadings.{begins_read, inside_read, one_begins}
+use Rattle.iloc_faults.proofs.StepReadings.{begins_read, inside_read}
 use Rattle.iloc_faults.proofs.step.step.Goals as goal
 
 pub returns-then-begins_block : goal.returns-then-begins_block

@@ -1,6 +1,6 @@
 use Rattle.std.proofs.Common.{None}
 use Rattle.iloc_told.specs.declared.Mode.TheVariants.{Data}
-use Rattle.iloc_faults.proofs.FaultAnswers.{good_is, data_is, data_not, never_accepted}
+use Rattle.iloc_faults.proofs.FaultAnswers.{good_is, data_not, never_accepted}
 use Rattle.iloc_faults.proofs.walk.data_fault.Goals as goal
 
 pub returns-in-None-clause-accepted : goal.returns-in-None-clause-accepted

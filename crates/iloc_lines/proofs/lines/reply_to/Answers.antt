@@ -1,8 +1,7 @@
-use Rattle.std.proofs.Common.{ℕ, List, ◌≡◌, ◌≢◌, ◌++◌, OnOk, subst, sym, ◌∙◌, take}
+use Rattle.std.proofs.Common.{ℕ, List, ◌≡◌, ◌++◌, OnOk, subst, sym, ◌∙◌, take}
 use Rattle.iloc_lines.specs.ReplyBlock.{held}
 use Rattle.iloc_told.specs.Told.{HasRefusal}
 use Rattle.iloc_told.specs.declared.Mode.{Mode}
-use Rattle.iloc_told.specs.declared.Mode.TheVariants.{Data}
 use Rattle.iloc_lines.proofs.PlainLemmas.{refused_reply}
 use Rattle.iloc_lines.proofs.lines.reply_to.Goals as goal
 
@@ -26,9 +25,3 @@ returns-in-Refused-read_lead g c =
 
 pub reply_to_blocks-requires-clause-mode : goal.reply_to_blocks-requires-clause-mode
 reply_to_blocks-requires-clause-mode g c = sym c.mode-mode.ensures ∙ c.in-Blocks.ensures
-
-pub reply_after_variants-requires-clause-mode : goal.reply_after_variants-requires-clause-mode
-reply_after_variants-requires-clause-mode g c = sym c.mode-mode.ensures ∙ c.in-AfterVariants.ensures
-
-pub reply_to_variants-requires-clause-mode : goal.reply_to_variants-requires-clause-mode
-reply_to_variants-requires-clause-mode g c = subst (λ (m : Mode). m ≢ Data) c.mode-mode.ensures c.in-Variants.ensures

@@ -1,12 +1,24 @@
-use Rattle.std.proofs.Common.{◌≡◌, ◌≢◌, ◌∙◌, rules, sym, arith}
+use Rattle.std.proofs.Common.{◌≡◌, ◌≢◌, ◌∙◌, Bool, None, Option, Some, ap, arith, false, if◌then◌else◌, rules, sym, true}
 use denote.Enum.Bare.{same_false, same_true}
 use Rattle.iloc_outline.specs.contracts.span.Role.{the_type}
 use Rattle.iloc_outline.specs.declared.span.Role.TheVariants.{Field}
+use Rattle.iloc_outline.specs.Fields.{next_of}
+use Rattle.iloc_outline.specs.declared.fields.Value.{Value}
+use Rattle.iloc_pieces.specs.declared.left.Left.{Left}
 use Rattle.iloc_outline.proofs.FieldLemmas.{ends_in_key, field_less, field_within, key_kind_fits, takes_end, takes_full, takes_more, takes_none, takes_past}
 use Rattle.iloc_outline.proofs.GatherLemmas.{gathers_from}
 use Rattle.iloc_outline.proofs.RoleLemmas.{short_key_kind}
 use Rattle.iloc_outline.proofs.fields.read_fields.Goals as goal
 use Rattle.iloc_outline.proofs.fields.read_fields.Goals.{else-eq-via-then-eq+else-value-eq0, else-eq-via-else-eq}
+
+abbrev next : Value → Bool → Option Left
+next v b = if b then None else Some v.left
+
+goes_on : (v : Value) → v.is_end ≡ false → next_of v ≡ Some v.left
+goes_on v = ap (next v)
+
+ends : (v : Value) → v.is_end ≡ true → next_of v ≡ None
+ends v = ap (next v)
 
 pub keys-init : goal.keys-init
 keys-init c =
@@ -76,10 +88,10 @@ keys-preserved c =
     ] in
     takes_more _ c.args.left c.keys.at _ _ _ _ _ c.keys.invariant v.result v.ensures key some
     c.put_from.new.spans _ _ _ _ c.word_number.ensures c.is_edited.ensures c.put_from.result
-    c.put_from.ensures c.in_default.not-Full c.in-Some.next c.in-Some.is
+    c.put_from.ensures c.in_default.not-Full v.result.left (goes_on v.result c.if-value.false)
 
-pub returns-in-None : goal.returns-in-None
-returns-in-None c =
+pub returns-then-value : goal.returns-then-value
+returns-then-value c =
     let v = c.read_value-value in
     let key = sym c.is_key_of.ensures ∙ c.keys-test.true in
     let some : c.args.role ≡ Field → c.read_value-value.result.count ≢ 0 = λ t. elim c.else-eq.branch [
@@ -88,13 +100,13 @@ returns-in-None c =
     ] in
     takes_end _ c.args.left c.keys.at _ _ _ _ _ c.keys.invariant v.result v.ensures key some
     c.put_from.new.spans _ _ _ _ c.word_number.ensures c.is_edited.ensures c.put_from.result
-    c.put_from.ensures c.in_default.not-Full c.in-None.is
+    c.put_from.ensures c.in_default.not-Full (ends v.result c.if-value.true)
 
 pub keys-smaller : goal.keys-smaller
 keys-smaller c =
     let v = c.read_value-value in
     field_less c.args.role c.args.left c.keys.at _ _ _ _ _ c.keys.invariant v.result v.ensures
-    c.in-Some.next c.in-Some.is
+    v.result.left (goes_on v.result c.if-value.false)
 
 pub returns : goal.returns
 returns c =

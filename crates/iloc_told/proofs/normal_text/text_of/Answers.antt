@@ -18,5 +18,5 @@ returns-then-is_text_of c =
 
 pub returns : goal.returns
 returns c =
-    λ mode h. c.own_text.ensures mode c.args.input.now h
+    λ mode h. c.own_ordered.ensures mode c.args.input.now h
     (λ e. absurd (true≢false (sym (c.is_text_of.ensures.1 (c.requires.front ∙ e)) ∙ c.if-is_text_of.false)))

@@ -9,10 +9,6 @@ pub returns-in-Langid : goal.returns-in-Langid
 returns-in-Langid c =
     subst (λ (m : Mode). HasRefusal m c.args.text.now InvalidSubtag) (sym c.in-Langid.is) (block_is_refused c.args.text.now c.args.block c.requires)
 
-pub returns-in-Locale : goal.returns-in-Locale
-returns-in-Locale c =
-    subst (λ (m : Mode). IsLead m c.args.text.now c.lead_of_locale.result) (sym c.in-Locale.is) (c.lead_of_locale.ensures c.args.text.now)
-
 pub returns-in-Data : goal.returns-in-Data
 returns-in-Data c =
     subst (λ (m : Mode). IsLead m c.args.text.now c.lead_of_data.result) (sym c.in-Data.is) c.lead_of_data.ensures

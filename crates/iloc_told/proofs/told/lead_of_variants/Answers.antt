@@ -6,4 +6,4 @@ use Rattle.iloc_told.proofs.KeywordAnswers.{variants_refused}
 use Rattle.iloc_told.proofs.told.lead_of_variants.Goals as goal
 
 pub returns-in-Data : goal.returns-in-Data
-returns-in-Data c = subst (λ (m : Mode). HasRefusal m c.args.text.now InvalidSubtag) (sym c.in-Data.is) (variants_refused c.args.text.now c.args.tail c.requires)
+returns-in-Data c = λ t tail h. subst (λ (m : Mode). HasRefusal m t InvalidSubtag) (sym c.in-Data.is) (variants_refused t tail h)

@@ -7,3 +7,6 @@ returns-in-NoLanguage c = no_language_refused c.args.mode (take c.args.len c.arg
 
 pub returns-in-Misfit : goal.returns-in-Misfit
 returns-in-Misfit c = misfit_is_refused c.args.mode (take c.args.len c.args.window.now) c.in-Misfit.ensures
+
+pub returns-in-Variants : goal.returns-in-Variants
+returns-in-Variants c = c.lead_of_variants.ensures (take c.args.len c.args.window.now) c.in-Variants.field-0 c.in-Variants.ensures

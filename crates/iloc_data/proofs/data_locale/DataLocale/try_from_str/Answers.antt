@@ -1,7 +1,7 @@
 -- a text is read as its bytes are
 use Rattle.std.proofs.Common.{ℕ, List, subst}
 use Rattle.iloc_data.specs.Reads.{DataTextReads}
-use Rattle.iloc_data.proofs.ReadLemmas.{data_accepts, data_refuses, keeps_narrow}
+use Rattle.iloc_data.proofs.ReadLemmas.{data_accepts, data_refuses, meant_of, keeps_narrow}
 use Rattle.iloc_data.proofs.data_locale.DataLocale.try_from_str.Goals as goal
 
 pub returns-clause-reads : goal.returns-clause-reads
@@ -18,3 +18,6 @@ returns-clause-refused c = data_refuses c.args.s.now c.try_from_utf8.result (ret
 
 pub returns-clause-narrow : goal.returns-clause-narrow
 returns-clause-narrow c = keeps_narrow c.args.s.now c.try_from_utf8.result (returns-clause-reads c)
+
+pub returns-clause-meant : goal.returns-clause-meant
+returns-clause-meant c = meant_of c.args.s.now c.try_from_utf8.result (returns-clause-reads c)

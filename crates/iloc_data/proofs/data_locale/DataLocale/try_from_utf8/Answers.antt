@@ -1,7 +1,7 @@
 use Rattle.std.proofs.Common.{Ok, ◌∙◌}
 use Rattle.std.proofs.lemmas.Result.{err_from_is_err_and}
 use Rattle.iloc_data.specs.DataValue.{value_of}
-use Rattle.iloc_data.proofs.ReadLemmas.{accepted, data_accepts, data_refuses, not_read, not_without, no_part, reads_back, is_converted, keeps_narrow}
+use Rattle.iloc_data.proofs.ReadLemmas.{accepted, data_accepts, data_refuses, not_read, not_without, no_part, reads_back, is_converted, is_meant, keeps_narrow}
 use Rattle.iloc_data.proofs.data_locale.DataLocale.try_from_utf8.Goals as goal
 
 -- each way out reads the text as the definitions say; the other clauses follow from that
@@ -61,3 +61,6 @@ returns-clause-converted c = is_converted c.args.code_units.now (value_of c.made
 
 pub returns-clause-narrow : goal.returns-clause-narrow
 returns-clause-narrow c = keeps_narrow c.args.code_units.now (Ok c.made_of.result) (returns-clause-reads c)
+
+pub returns-clause-meant : goal.returns-clause-meant
+returns-clause-meant c = is_meant c.args.code_units.now (value_of c.made_of.result) (returns-clause-reads c)

@@ -8,5 +8,6 @@ returns c = record {
   memory = c.try_from_str.ensures.memory;
   back = c.try_from_str.ensures.back;
   converted = c.try_from_str.ensures.converted;
+  meant = c.try_from_str.ensures.meant;
   narrow = c.try_from_str.ensures.narrow;
 }

@@ -1,5 +1,5 @@
 -- A binary search finds the attribute exactly if it is there.
-use Rattle.std.proofs.Common.{refl, sym, ap, subst}
+use Rattle.std.proofs.Common.{refl, sym, ap, subst, remove}
 use Rattle.iloc_spec_grammar.specs.Syntax.{Attribute, word_cmp}
 use Rattle.iloc_spec_grammar.specs.Values.{StrictlyAscends}
 use Rattle.iloc_word_set.proofs.SetLaws.{search_new}
@@ -32,3 +32,12 @@ returns-in-Ok-without c =
     l.extensions.unicode.attributes c.in-Ok-without.kept found.at c.in-Ok.ensures.1 slice.ensures.words
     slice.ensures.ascending found.ensures.bound found.ensures.ok c.in-Ok-without.ensures in
     ((c.in-Ok.ensures.0, left.0), ap (λ ws. with_attributes ws (value_of l)) left.1)
+
+pub returns-in-Err-without : goal.returns-in-Err-without
+returns-in-Err-without c =
+    let slice = c.as_slice-attributes in
+    let found = c.in-Ok-binary_search in
+    let left = removed_word Attribute c.args.self.now.0.now c.in-Ok.attribute slice.result.now
+    c.args.locale.now.extensions.unicode.attributes (remove slice.result.now found.at) found.at c.in-Ok.ensures.1
+    slice.ensures.words slice.ensures.ascending found.ensures.bound found.ensures.ok refl in
+    ((c.in-Ok.ensures.0, left.0), refl)

@@ -7,11 +7,11 @@ use Rattle.iloc_langid.proofs.identifier.LanguageIdentifier.normalize_other.Goal
 pub returns-in-Some-clause-ok : goal.returns-in-Some-clause-ok
 returns-in-Some-clause-ok c =
     let t = c.args.input.now in
-    normal_text Langid t (IsNormalizedIdentifier t) (told_text t) c.in-Some.normal c.in-Some.ensures
+    normal_text Langid t (IsNormalizedIdentifier t) (told_text t) c.in-Some.normal c.in-Some.ensures.normal
 
 pub returns-in-Some-clause-err : goal.returns-in-Some-clause-err
-returns-in-Some-clause-err c = refused Langid c.args.input.now c.in-Some.normal c.in-Some.ensures
+returns-in-Some-clause-err c = refused Langid c.args.input.now c.in-Some.normal c.in-Some.ensures.normal
 
 pub returns-in-Some-clause-memory : goal.returns-in-Some-clause-memory
 returns-in-Some-clause-memory c =
-    runs_out Langid c.args.input.now (told_other c.args.input.now) c.in-Some.normal c.in-Some.ensures
+    runs_out Langid c.args.input.now (told_other c.args.input.now) c.in-Some.normal c.in-Some.ensures.normal

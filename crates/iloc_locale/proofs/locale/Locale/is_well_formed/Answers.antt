@@ -11,6 +11,9 @@ returns-clause-exactly c =
     let tested = well_formed_is (value_of c.args.self.now) (returns-clause-value c) in
     (λ t. tested.1 (c.is_well_formed.ensures.exactly.0 t), λ w. c.is_well_formed.ensures.exactly.1 (tested.0 w))
 
+pub returns-clause-tests : goal.returns-clause-tests
+returns-clause-tests c = c.is_well_formed.ensures.exactly
+
 pub returns-clause-back : goal.returns-clause-back
 returns-clause-back c = λ t. (returns-clause-exactly c).0 t
 

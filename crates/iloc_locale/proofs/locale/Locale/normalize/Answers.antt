@@ -1,9 +1,11 @@
--- a text is normalised as its bytes are
+-- a text is normalized as its bytes are
 use Rattle.std.specs.Prelude.{⊤}
 use Rattle.std.proofs.Common.{ℕ, List, IfErr, subst}
 use Rattle.iloc_spec_grammar.specs.Syntax.{languages}
-use Rattle.iloc_spec_grammar.specs.Meaning.{HasFault}
-use Rattle.iloc_subtags.specs.Judging.{Refusal, RunsOutOnlyIf}
+use Rattle.iloc_spec_grammar.specs.Meaning.{Locale, Means, Fault, HasFault}
+use Rattle.iloc_spec_grammar.specs.Values.{text}
+use Rattle.std.specs.Cow.{cow_str_bytes}
+use Rattle.iloc_subtags.specs.Judging.{Refusal, Accepts, Refuses, RunsOutOnlyIf}
 use Rattle.iloc_locale.specs.LocaleReading.{NormalizingWantsMemory}
 use Rattle.iloc_locale.proofs.locale.Locale.normalize.Goals as goal
 
@@ -12,3 +14,9 @@ returns-clause-err c = subst (λ (t : List ℕ). IfErr c.normalize_utf8.result (
 
 pub returns-clause-memory : goal.returns-clause-memory
 returns-clause-memory c = subst (λ (t : List ℕ). RunsOutOnlyIf (NormalizingWantsMemory t) c.normalize_utf8.result) c.as_bytes.ensures.value c.normalize_utf8.ensures.memory
+
+pub returns-clause-accepted : goal.returns-clause-accepted
+returns-clause-accepted c = subst (λ (t : List ℕ). (M : Locale) → Means languages t M → Accepts cow_str_bytes ⊤ (text M) c.normalize_utf8.result) c.as_bytes.ensures.value c.normalize_utf8.ensures.accepted
+
+pub returns-clause-refused : goal.returns-clause-refused
+returns-clause-refused c = subst (λ (t : List ℕ). (f : Fault) → HasFault languages t f → Refuses ⊤ f c.normalize_utf8.result) c.as_bytes.ensures.value c.normalize_utf8.ensures.refused

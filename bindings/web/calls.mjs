@@ -1,0 +1,151 @@
+// The calls of the proved module, and the memory that they share with this file. Nothing here is proved: it puts texts
+// into the memory and takes answers out of it. Tests compare what it answers with the vectors.
+import { bytes } from './module.mjs';
+
+export const MOST = 65535; // bytes of a text
+const SPARE = 16; // bytes behind each text, of anything: the module reads faster if they are there
+const ROOM = MOST + SPARE + 1;
+
+/** The name of each number with which a call ends. */
+export const CODES = ['Done', 'InvalidLanguage', 'InvalidSubtag', 'InvalidExtension', 'DuplicatedExtension', 'OutOfMemory',
+  'BufferTooSmall', 'UnknownNumber', 'NotFound', 'BeyondLimits'];
+export const DONE = 0;
+export const BEYOND = 9;
+const MODES = { langid: 0, locale: 1, data: 2 };
+
+const module = await WebAssembly.compile(bytes);
+const encoder = new TextEncoder();
+const decoder = new TextDecoder();
+
+// The module and its memory, which never grows, so that the views stay good.
+let calls, all, numbers;
+function begin(instance) {
+  calls = instance.exports;
+  all = new Uint8Array(calls.memory.buffer);
+  numbers = new DataView(calls.memory.buffer);
+}
+begin(await WebAssembly.instantiate(module, {}));
+
+/** All of the memory. */
+export const memoryOf = () => all;
+
+/**
+ * Makes a call. An engine stops one that reaches outside the memory, which no call of this file does; the module then takes no
+ * further call, so another one is begun.
+ */
+export function ask(name, ...words) {
+  try {
+    return calls[name](...words);
+  } catch (error) {
+    begin(new WebAssembly.Instance(module, {}));
+    throw new Error(`the module stopped in ${name}`, { cause: error });
+  }
+}
+
+// The places of two texts, of the room for a normal text, of two answers, and of a number.
+const [TEXT, OTHER, PLACE, ONE, TWO, NUMBER] = Array.from({ length: 6 }, (_, at) => Number(calls.__heap_base.value) + at * ROOM);
+if (NUMBER + 16 > all.length) throw new Error('the memory of the module is too small');
+const place = { text: BigInt(TEXT), other: BigInt(OTHER), room: BigInt(PLACE), one: BigInt(ONE), two: BigInt(TWO), number: BigInt(NUMBER),
+  more: BigInt(NUMBER + 8) };
+const room = BigInt(ROOM);
+
+// Numbers of the module are BigInts. Small ones are made once: to make one at each call takes longer.
+const few = Array.from({ length: 512 }, (_, at) => BigInt(at));
+const big = number => few[number] ?? BigInt(number);
+
+// Puts a text there as UTF-8, and returns how many bytes it has; more than MOST if it is too long.
+function put(text, at) {
+  if (typeof text === 'string') return putString(text, at);
+  if (!(text instanceof Uint8Array)) throw new TypeError('a text is a string or a Uint8Array');
+  if (text.length <= MOST) all.set(text, at);
+  return text.length;
+}
+
+function putString(text, at) {
+  const length = text.length;
+  if (length > MOST) return MOST + 1;
+  for (let i = 0; i < length; i++) {
+    const code = text.charCodeAt(i);
+    if (code > 127) return putEncoded(text, at);
+    all[at + i] = code;
+  }
+  return length;
+}
+
+function putEncoded(text, at) {
+  const { read, written } = encoder.encodeInto(text, all.subarray(at, at + MOST));
+  return read < text.length ? MOST + 1 : written;
+}
+
+// The text that stands there, which is ASCII.
+function take(at, length) {
+  if (length > 64) return decoder.decode(all.subarray(at, at + length));
+  let text = '';
+  for (let i = at; i < at + length; i++) text += String.fromCharCode(all[i]);
+  return text;
+}
+
+/** The number of a mode. */
+export function modeOf(mode) {
+  const number = Object.hasOwn(MODES, mode) ? MODES[mode] : undefined;
+  if (number === undefined) throw new TypeError(`no mode ${String(mode)}: a mode is 'langid', 'locale' or 'data'`);
+  return number;
+}
+
+/** Normalizes: the number with which the call ends. What it wrote is then `written()`. */
+export function normalizeInto(text, mode) {
+  const length = put(text, TEXT);
+  if (length > MOST) return BEYOND;
+  return ask('web_normalize', mode, place.text, big(length + SPARE), big(length), place.room, room, place.one, room, place.number);
+}
+
+/** The text that the last call wrote. */
+export function written() {
+  return take(ONE, numbers.getUint32(NUMBER, true)); // (its length is less than 2 ^ 32, and the order of bytes is the module's)
+}
+
+/** Checks: the number with which the call ends. */
+export function checked(text, mode) {
+  const length = put(text, TEXT);
+  if (length > MOST) return BEYOND;
+  return ask('web_check', mode, place.text, big(length + SPARE), big(length));
+}
+
+/** Finds the fault of a text: the number with which the call ends, and the first and the last byte of the place. */
+export function faultOf(text, mode) {
+  const length = put(text, TEXT);
+  if (length > MOST) return { status: BEYOND, start: 0, end: 0 };
+  const status = ask('web_find_fault', mode, place.text, big(length + SPARE), big(length), place.number, place.more);
+  return { status, start: numbers.getUint32(NUMBER, true), end: numbers.getUint32(NUMBER + 8, true) };
+}
+
+// Asks a call about two texts: its end, and the number that it wrote.
+function askBoth(name, text, other, mode) {
+  const length = put(text, TEXT), second = put(other, OTHER);
+  if (length > MOST || second > MOST) return [BEYOND, 0];
+  const status = ask(name, mode, place.text, big(length + SPARE), big(length), place.other, big(second + SPARE), big(second),
+    place.one, room, place.two, room, place.number);
+  return [status, numbers.getInt8(NUMBER)];
+}
+
+/** Compares: the call's end, and the order. */
+export function ordered(text, other, mode) {
+  return askBoth('web_compare', text, other, mode);
+}
+
+/** Whether both mean the same: the call's end, and 1 or 0. */
+export function sameness(text, other, mode) {
+  return askBoth('web_normalizing_eq', text, other, mode);
+}
+
+function wordsOfNumber(number) {
+  if (number === BEYOND) return 'Beyond the limits';
+  ask('web_words', number, place.one, room, place.number);
+  return written();
+}
+
+/** The words of each number. */
+export const WORDS = CODES.map((_, number) => wordsOfNumber(number));
+
+/** The version of the module's calls. */
+export const version = ask('web_version');

@@ -1,0 +1,24 @@
+// Finds where the fault of a refused text stands: the module's proved call, and from its bytes to the units of a string.
+import { BEYOND, CODES, DONE, WORDS, faultOf, modeOf } from './calls.mjs';
+
+// How many units of the string its first bytes are. A place is the end of a piece, so it is no place within a character.
+function unitsOf(text, bytes) {
+  let units = 0;
+  for (let at = 0; at < bytes; units++) {
+    const code = text.charCodeAt(units), isPair = code >= 0xd800 && code < 0xdc00 && (text.charCodeAt(units + 1) & 0xfc00) === 0xdc00;
+    at += code < 0x80 ? 1 : code < 0x800 ? 2 : isPair ? 4 : 3;
+    if (isPair) units++;
+  }
+  return units;
+}
+
+/**
+ * The fault of a text: its code and words, and the place of the first piece with which no accepted text goes on, in units of
+ * the string, or in bytes. The end of the text if more is wanted there. `null` if the text is accepted, or beyond the limits.
+ */
+export function findFault(text, mode = 'locale') {
+  const { status, start, end } = faultOf(text, modeOf(mode));
+  if (status === DONE || status === BEYOND) return null;
+  const place = typeof text === 'string' ? { start: unitsOf(text, start), end: unitsOf(text, end) } : { start, end };
+  return { code: CODES[status], message: WORDS[status], ...place };
+}

@@ -1,0 +1,118 @@
+// The module's calls at their edges, and with offsets and lengths outside the memory.
+import test from 'node:test';
+import assert from 'node:assert/strict';
+import { PACKAGE, chance, module, web } from './answers.mjs';
+
+const { exports: calls } = await WebAssembly.instantiate(await WebAssembly.compile(module.bytes), {});
+const base = Number(calls.__heap_base.value), all = new Uint8Array(calls.memory.buffer), numbers = new DataView(calls.memory.buffer);
+const [text, other, room, one, two, number] = [0, 1, 2, 3, 4, 5].map(i => BigInt(base + 1024 * i));
+const put = (it, at = text) => {
+  all.fill(46, Number(at), Number(at) + 1024);
+  all.set(Buffer.from(it), Number(at));
+  return BigInt(it.length);
+};
+const needed = () => Number(numbers.getBigUint64(Number(number), true));
+const read = at => Buffer.from(all.subarray(Number(at), Number(at) + 32)).toString().replace(/\.*$/, '');
+function normalize(mode, it, { buffer = 1024n, behind = 16n, place = 1024n } = {}) {
+  const length = put(it);
+  all.fill(46, Number(one), Number(one) + 1024);
+  const status = calls.web_normalize(mode, text, length + behind, length, room, place, one, buffer, number);
+  return [status, needed(), read(one)];
+}
+
+test('no import, and the exports that are wanted', () => {
+  const made = new WebAssembly.Module(module.bytes);
+  assert.deepEqual(WebAssembly.Module.imports(made), []);
+  assert.deepEqual(WebAssembly.Module.exports(made).map(it => it.name).sort(), ['__heap_base', 'memory', 'web_check', 'web_compare',
+    'web_find_fault', 'web_normalize', 'web_normalizing_eq', 'web_version', 'web_words']);
+});
+
+test('buffers', () => {
+  assert.deepEqual(normalize(1, 'EN-us'), [0, 5, 'en-US']);
+  assert.deepEqual(normalize(1, 'EN-us', { buffer: 5n }), [0, 5, 'en-US']);
+  assert.deepEqual(normalize(1, 'EN-us', { buffer: 4n }), [6, 5, '']);
+  assert.deepEqual(normalize(1, 'EN-us-POSIX', { buffer: 10n }), [6, 11, '']);
+  assert.deepEqual(normalize(2, 'und-u-sd-usca', { buffer: 15n }), [6, 16, '']);
+  assert.deepEqual(normalize(2, 'und-u-sd-usca', { buffer: 16n }), [0, 16, 'und-US-u-sd-usca']);
+  assert.deepEqual(normalize(1, 'EN-us', { buffer: 0n }), [6, 5, '']);
+});
+
+test('windows that end where the text ends, or before', () => {
+  for (const behind of [0n, 1n, 15n]) {
+    for (const mode of [0, 1, 2]) assert.deepEqual(normalize(mode, 'EN-us', { behind }), [0, 5, 'en-US']);
+  }
+  put('EN-us');
+  for (const mode of [0, 1, 2]) {
+    assert.equal(calls.web_check(mode, text, 2n, 2n), 0);
+    assert.equal(calls.web_check(mode, text, 2n, 5n), 0); // (all of the window, as it is shorter: `EN`)
+    assert.equal(calls.web_check(mode, text, 2n, (1n << 64n) - 1n), 0);
+    assert.equal(calls.web_check(mode, text, 3n, 1n << 63n), mode === 2 ? calls.web_check(2, text, 3n, 3n) : 2); // `EN-`
+  }
+});
+
+test('rooms: sixteen bytes more than the text, or nothing is written', () => {
+  for (const mode of [0, 1, 2]) {
+    assert.deepEqual(normalize(mode, 'EN-us', { place: 21n }), [0, 5, 'en-US']);
+    for (const place of [0n, 5n, 20n]) assert.deepEqual(normalize(mode, 'EN-us', { place }), [9, 0, '']);
+  }
+});
+
+test('numbers that are none', () => {
+  assert.deepEqual(normalize(3, 'en'), [7, 0, '']);
+  assert.equal(calls.web_check(4294967295 | 0, text, 18n, 2n), 7);
+  assert.equal(calls.web_words(9, one, 1024n, number), 7);
+  assert.equal(needed(), 0);
+  assert.equal(calls.web_words(6, one, 15n, number), 6);
+  assert.equal(needed(), 16);
+  assert.equal(calls.web_words(6, one, 16n, number), 0);
+  assert.equal(read(one).slice(0, 16), 'Buffer too small');
+});
+
+test('two texts', () => {
+  const both = (call, mode, a, b, first = 1024n, second = 1024n) => {
+    const length = put(a), more = put(b, other);
+    numbers.setInt8(Number(number), 77);
+    return [call(mode, text, length + 16n, length, other, more + 16n, more, one, first, two, second, number), numbers.getInt8(Number(number))];
+  };
+  const { web_compare, web_normalizing_eq } = calls;
+  assert.deepEqual(both(web_compare, 1, 'en', 'DE'), [0, 1]);
+  assert.deepEqual(both(web_compare, 1, 'DE', 'en'), [0, -1]);
+  assert.deepEqual(both(web_compare, 1, 'en', 'en-US', 1024n, 20n), [9, 77]);
+  assert.deepEqual(both(web_compare, 1, 'en', 'en-US', 17n), [9, 77]);
+  assert.deepEqual(both(web_compare, 1, 'en', 'en-US', 18n, 21n), [0, -1]);
+  assert.deepEqual(both(web_compare, 1, 'en', 'x'), [1, 77]);
+  assert.deepEqual(both(web_compare, 9, 'en', 'x'), [7, 77]);
+  assert.deepEqual(both(web_normalizing_eq, 1, 'en-u-kn-true', 'EN-u-kn'), [0, 1]);
+  assert.deepEqual(both(web_normalizing_eq, 1, 'en', 'x'), [0, 0]);
+  assert.deepEqual(both(web_normalizing_eq, 1, 'x', 'en'), [1, 77]);
+  assert.deepEqual(both(web_normalizing_eq, 1, 'en-t-de-1901-fonipa', 'EN-t-de-fonipa-1901'), [0, 1]);
+});
+
+// Offsets and lengths of every kind, many of them outside the memory. The engine stops the call, and the package says so by an
+// error; or it ends with a number that there is. The next call answers as ever. What a call may write is its caller's to say,
+// so the module's own memory below the base is put back.
+test('offsets and lengths outside the memory', async () => {
+  const { ask, memoryOf } = await import(`${PACKAGE}/calls.mjs`);
+  const next = chance(11), size = all.length, below = memoryOf().slice(0, base);
+  const edges = [0, 1, 2, 15, 16, 17, 21, base, base + 64, size - 1, size, size + 1, size - 16, 2 ** 31, 2 ** 32 - 1, 2 ** 32, 2 ** 40].map(BigInt);
+  edges.push((1n << 63n) - 1n, 1n << 63n, (1n << 64n) - 1n, (1n << 64n) - 16n, (1n << 64n) - BigInt(size));
+  const place = () => (next(2) ? edges[next(edges.length)] : BigInt(base + next(4096)));
+  const counts = { web_normalize: 8, web_check: 3, web_find_fault: 5, web_compare: 11, web_normalizing_eq: 11, web_words: 3 };
+  let stopped = 0, ended = 0;
+  for (let round = 0; round < 4000; round++) {
+    const name = Object.keys(counts)[next(6)];
+    const words = Array.from({ length: counts[name] }, () => (next(3) ? place() : BigInt(next(64))));
+    try {
+      const status = ask(name, next(4), ...words);
+      assert.ok(status >= 0 && status <= 9, `${name} ends with ${status}`);
+      ended++;
+    } catch (error) {
+      assert.ok(error.cause instanceof WebAssembly.RuntimeError, `${name}: ${error.cause ?? error}`);
+      stopped++;
+    }
+    memoryOf().set(below);
+    assert.equal(web.normalize('EN-us-u-kn-true'), 'en-US-u-kn');
+    assert.equal(web.check('en-'), 'InvalidSubtag');
+  }
+  assert.ok(stopped > 100 && ended > 100, `${stopped} stopped, ${ended} ended`);
+});

@@ -1,0 +1,202 @@
+-- The fallback chain: the last of a set taken out, one part fewer, and the end of the chain.
+use Rattle.std.proofs.Common.{◌≡◌, ℕ, zero, suc, ◌+◌, ◌-◌, ◌<◌, ◌≤◌, Bool, true, false, not, List, [], ◌∷◌, ◌++◌, length, take, get_or, filter, refl, sym, ap, ◌∙◌, subst, arith, true≢false, Option, Some, None, option_to_list, inl, inr, append_assoc, append-nil, length-append}
+use Rattle.std.specs.Prelude.{codes, if◌then◌else◌}
+use Rattle.std.specs.List.{AllByRecursion}
+use Rattle.std.specs.Option.{is_some}
+use Rattle.std.specs.declared.cmp.Ordering.TheVariants.{Less}
+use Rattle.iloc_spec_grammar.specs.Syntax.{Identifier, identifier_pieces, languages, Variant, is_word, lower, word_cmp, is_same}
+use Rattle.iloc_spec_grammar.specs.Values.{IsNormal, StrictlyAscends, IsIdentifierValue}
+use Rattle.iloc_spec_grammar.proofs.MapLaws.{word_cmp_total, same_itself, same_is}
+use Rattle.iloc_langid.specs.Unknown.{unknown_identifier}
+use Rattle.iloc_langid.specs.Parents.{but_last, is_unknown_language, parent_of, part_count, after_steps, LacksLastPart}
+
+-- the last of an ascending list
+
+last_holds : (P : List ℕ → Type 0) (fs : List (List ℕ)) (x : List ℕ) → AllByRecursion P (fs ++ x ∷ []) → P x
+last_holds P [] x h = h.0
+last_holds P (f ∷ fs) x h = last_holds P fs x h.1
+
+other_below : (f x : List ℕ) → word_cmp f x ≡ Less → is_same x f ≡ false
+other_below f x h = rw (word_cmp_total.antisymm x f, h) refl
+
+module _ (x : List ℕ) where
+  filtered : (fs : List (List ℕ)) → StrictlyAscends word_cmp (fs ++ x ∷ []) → filter (λ w. not (is_same x w)) (fs ++ x ∷ []) ≡ fs
+  filtered [] s = rw (same_itself x) refl
+  filtered (f ∷ fs) s = rw (other_below f x (last_holds (λ y. word_cmp f y ≡ Less) fs x s.0)) (ap (λ ws. f ∷ ws) (filtered fs s.1))
+
+-- the items before the last
+abbrev front : {X : Type 0} → X → List X → List X
+front x xs = take (length xs) (x ∷ xs)
+
+split_last : {X : Type 0} (w : X) (ws : List X) (x : X) → x ≡ get_or (w ∷ ws) (length ws) x → w ∷ ws ≡ front w ws ++ x ∷ []
+split_last w [] x e = ap (λ v. v ∷ []) (sym e)
+split_last w (v ∷ vs) x e = ap (λ us. w ∷ us) (split_last v vs x e)
+
+module _ (x w : List ℕ) (ws : List (List ℕ)) (is : x ≡ get_or (w ∷ ws) (length ws) x) where
+  without_last : StrictlyAscends word_cmp (w ∷ ws) → filter (λ v. not (is_same x v)) (w ∷ ws) ≡ front w ws
+  without_last s = ap (filter (λ v. not (is_same x v))) (split_last w ws x is) ∙ filtered x (front w ws) (subst (StrictlyAscends word_cmp) (split_last w ws x is) s)
+
+-- what taking out the last of a set leaves
+pub taken_out : (slice old new : List (List ℕ)) (x : List ℕ) → slice ≡ old → StrictlyAscends word_cmp old
+    → 0 < length slice → x ≡ get_or slice (length slice - 1) x → new ≡ filter (λ v. not (is_same x v)) old → but_last old ≡ Some new
+taken_out slice old new x same s some is left = by old s (subst (λ vs. 0 < length vs) same some) (subst (λ vs. x ≡ get_or vs (length vs - 1) x) same is) left
+  where
+    by : (ws : List (List ℕ)) → StrictlyAscends word_cmp ws → 0 < length ws → x ≡ get_or ws (length ws - 1) x
+        → new ≡ filter (λ v. not (is_same x v)) ws → but_last ws ≡ Some new
+    by [] s some is left = absurd (omega arith)
+    by (w ∷ ws) s some is left =
+        let n : suc (length ws) - 1 ≡ length ws = omega arith in
+        ap Some (sym (left ∙ without_last x w ws (subst (λ k. x ≡ get_or (w ∷ ws) k x) n is) s))
+
+-- parents
+
+pub unknown_language : (w : List ℕ) → w ≡ codes "und" → is_unknown_language w ≡ true
+unknown_language w e = subst (λ v. is_same v (codes "und") ≡ true) (sym e) (same_itself (codes "und"))
+
+pub known_language : (w : List ℕ) → (w ≡ codes "und" → false ≡ true) → is_unknown_language w ≡ false
+known_language w h = by (is_unknown_language w) refl
+  where
+    by : (b : Bool) → is_unknown_language w ≡ b → is_unknown_language w ≡ false
+    by true e = absurd (true≢false (sym (h (same_is w (codes "und") e))))
+    by false e = e
+
+of_some : {X : Type 0} {x y : X} → Some x ≡ Some y → x ≡ y
+of_some e = cc
+
+-- what holds of a parent in each case holds of all
+module _ (P : Identifier → Identifier → Type 0)
+    (variants : (l : List ℕ) (s r : Option (List ℕ)) (v : List ℕ) (vs : List (List ℕ))
+    → P (record { language = l; script = s; region = r; variants = v ∷ vs })
+    (record { language = l; script = s; region = r; variants = front v vs }))
+    (region : (l : List ℕ) (s : Option (List ℕ)) (r : List ℕ)
+    → P (record { language = l; script = s; region = Some r; variants = [] })
+    (record { language = l; script = s; region = None; variants = [] }))
+    (script : (l s : List ℕ)
+    → P (record { language = l; script = Some s; region = None; variants = [] })
+    (record { language = l; script = None; region = None; variants = [] }))
+    (language : (l : List ℕ) → is_unknown_language l ≡ false
+    → P (record { language = l; script = None; region = None; variants = [] }) unknown_identifier) where
+  at_language : (p : Identifier) (l : List ℕ) (b : Bool) → is_unknown_language l ≡ b
+      → (if b then None else Some unknown_identifier) ≡ Some p
+      → P (record { language = l; script = None; region = None; variants = [] }) p
+  at_language p l true h e = cc
+  at_language p l false h e = subst (P (record { language = l; script = None; region = None; variants = [] })) (of_some e) (language l h)
+
+  at_parts : (p : Identifier) (l : List ℕ) (s r : Option (List ℕ)) (vs : List (List ℕ))
+      → parent_of (record { language = l; script = s; region = r; variants = vs }) ≡ Some p
+      → P (record { language = l; script = s; region = r; variants = vs }) p
+  at_parts p l s r (v ∷ vs) e = subst (P (record { language = l; script = s; region = r; variants = v ∷ vs })) (of_some e) (variants l s r v vs)
+  at_parts p l s (Some r) [] e = subst (P (record { language = l; script = s; region = Some r; variants = [] })) (of_some e) (region l s r)
+  at_parts p l (Some s) None [] e = subst (P (record { language = l; script = Some s; region = None; variants = [] })) (of_some e) (script l s)
+  at_parts p l None None [] e = at_language p l (is_unknown_language l) refl e
+
+  by_parent : (i p : Identifier) → parent_of i ≡ Some p → P i p
+  by_parent i p e = at_parts p i.language i.script i.region i.variants e
+
+-- each parent has one part fewer
+
+front_length : {X : Type 0} (x : X) (xs : List X) → length (front x xs) ≡ length xs
+front_length x [] = refl
+front_length x (y ∷ ys) = ap suc (front_length y ys)
+
+pub one_fewer : (i p : Identifier) → parent_of i ≡ Some p → part_count i ≡ part_count p + 1
+one_fewer = by_parent (λ i p. part_count i ≡ part_count p + 1)
+    (λ l s r v vs. rw (front_length v vs) (omega arith))
+    (λ l s r. omega arith) (λ l s. omega arith) (λ l h. rw h refl)
+
+-- the chain ends
+
+at_unknown : (l : List ℕ) (b : Bool) → is_unknown_language l ≡ b
+    → (if b then None else Some unknown_identifier) ≡ None → is_unknown_language l ≡ true
+at_unknown l true h e = h
+at_unknown l false h e = cc
+
+at_end : (l : List ℕ) (s r : Option (List ℕ)) (vs : List (List ℕ))
+    → parent_of (record { language = l; script = s; region = r; variants = vs }) ≡ None
+    → record { language = l; script = s; region = r; variants = vs } ≡ unknown_identifier
+at_end l s r (v ∷ vs) e = cc
+at_end l s (Some r) [] e = cc
+at_end l (Some s) None [] e = cc
+at_end l None None [] e = ap (λ w. record { language = w; script = None; region = None; variants = [] }) (same_is l (codes "und") (at_unknown l (is_unknown_language l) refl e))
+
+only_unknown : (i : Identifier) → parent_of i ≡ None → i ≡ unknown_identifier
+only_unknown i e = at_end i.language i.script i.region i.variants e
+
+pub no_parent : parent_of unknown_identifier ≡ None
+no_parent = refl
+
+none_left : part_count unknown_identifier ≡ 0
+none_left = refl
+
+-- an identifier without a parent ends the chain, and another goes on from its parent
+
+nothing_left : (i : Identifier) (o : Option Identifier) → part_count i ≡ 0 → parent_of i ≡ o → i ≡ unknown_identifier
+nothing_left i None h e = only_unknown i e
+nothing_left i (Some p) h e = absurd (omega (arith, one_fewer i p e))
+
+goes_on : (n : ℕ) (i : Identifier) → part_count i ≡ suc n → (o : Option Identifier) → parent_of i ≡ o
+    → ((p : Identifier) → part_count p ≡ n → after_steps parent_of n p ≡ Some unknown_identifier)
+    → after_steps parent_of (suc n) i ≡ Some unknown_identifier
+goes_on n i h None e next = absurd (omega (arith, none_left, ap part_count (only_unknown i e)))
+goes_on n i h (Some p) e next = rw e (next p (omega (arith, one_fewer i p e)))
+
+pub chain_ends : (n : ℕ) (i : Identifier) → part_count i ≡ n → after_steps parent_of n i ≡ Some unknown_identifier
+chain_ends zero i h = ap Some (nothing_left i (parent_of i) h refl)
+chain_ends (suc n) i h = goes_on n i h (parent_of i) refl (λ p. chain_ends n p)
+
+pub few_parts : (i : Identifier) → part_count i ≤ length (identifier_pieces i)
+few_parts i = by (is_unknown_language i.language) refl
+  where
+    by : (b : Bool) → is_unknown_language i.language ≡ b → part_count i ≤ length (identifier_pieces i)
+    by true h = rw h (simp length-append (omega arith))
+    by false h = rw h (simp length-append (omega arith))
+
+-- what a parent lacks
+
+last_of : {X : Type 0} (x : X) (xs : List X) → (y : X) × (x ∷ xs ≡ front x xs ++ y ∷ [])
+last_of x [] = (x, refl)
+last_of x (y ∷ ys) = ((last_of y ys).0, ap (λ zs. x ∷ zs) (last_of y ys).1)
+
+pub lacks_last : (i p : Identifier) → parent_of i ≡ Some p → LacksLastPart i p
+lacks_last = by_parent LacksLastPart
+    (λ l s r v vs. let last = last_of v vs in
+    inl (last.0, ap (λ ws. l ∷ (option_to_list s ++ (option_to_list r ++ ws))) last.1 ∙ simp append_assoc))
+    (λ l s r. inl (r, simp append-nil)) (λ l s. inl (s, refl)) (λ l h. inr (refl, refl))
+
+-- a parent is an identifier
+
+all_front : (P : List ℕ → Type 0) (w : List ℕ) (ws : List (List ℕ)) → AllByRecursion P (w ∷ ws) → AllByRecursion P (front w ws)
+all_front P w [] h = tt
+all_front P w (v ∷ vs) h = (h.0, all_front P v vs h.1)
+
+front_ascends : (w : List ℕ) (ws : List (List ℕ)) → StrictlyAscends word_cmp (w ∷ ws) → StrictlyAscends word_cmp (front w ws)
+front_ascends w [] h = tt
+front_ascends w (v ∷ vs) h = (all_front (λ y. word_cmp w y ≡ Less) v vs h.0, front_ascends v vs h.1)
+
+unknown_value : IsIdentifierValue languages unknown_identifier
+unfolding is_word languages lower
+unknown_value = record { language = (refl, refl); script = tt; region = tt; variants = tt; ascending = tt }
+
+pub parent_value : (i p : Identifier) → IsIdentifierValue languages i → parent_of i ≡ Some p → IsIdentifierValue languages p
+parent_value i p v e = by_parent (λ i p. IsIdentifierValue languages i → IsIdentifierValue languages p)
+    (λ l s r w ws h. record {
+      language = h.language;
+      script = h.script;
+      region = h.region;
+      variants = all_front (IsNormal Variant) w ws h.variants;
+      ascending = front_ascends w ws h.ascending;
+    })
+    (λ l s r h. record { language = h.language; script = h.script; region = tt; variants = h.variants; ascending = h.ascending })
+    (λ l s h. record { language = h.language; script = tt; region = tt; variants = h.variants; ascending = h.ascending })
+    (λ l h v. unknown_value)
+    i p e v
+
+-- what leaving the language answers
+pub language_left : (l w : List ℕ) (s r : Option (List ℕ)) (vs ws : List (List ℕ)) → but_last vs ≡ None → ws ≡ vs
+    → false ≡ is_some r → false ≡ is_some s → (l ≡ codes "und" → false ≡ true) → w ≡ codes "und"
+    → parent_of (record { language = l; script = s; region = r; variants = vs })
+    ≡ Some (record { language = w; script = s; region = r; variants = ws })
+language_left l w s r (v ∷ vs) ws variants same region script known is = cc
+language_left l w s (Some r) [] ws variants same region script known is = absurd (true≢false (sym region))
+language_left l w (Some s) None [] ws variants same region script known is = absurd (true≢false (sym script))
+language_left l w None None [] ws variants same region script known is = rw (known_language l known, is, same) refl

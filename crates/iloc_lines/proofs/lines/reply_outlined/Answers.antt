@@ -1,0 +1,32 @@
+use Rattle.std.proofs.Common.{ℕ, List, [], ◌∷◌, ◌≡◌, ◌++◌, ◌∙◌, ap, OnOk, subst, take}
+use Rattle.iloc_lines.specs.Answers.{refusal_text}
+use Rattle.iloc_lines.specs.Replies.{IsReplied}
+use Rattle.iloc_lines.specs.ReplyBlock.{held}
+use Rattle.iloc_told.specs.declared.Mode.{Mode}
+use Rattle.iloc_told.specs.declared.outlined.Written.{Written}
+use Rattle.iloc_lines.proofs.PlainLemmas.{normal_reply, refused_reply}
+use Rattle.iloc_lines.proofs.lines.reply_outlined.Goals as goal
+
+pub returns-in-Normal : goal.returns-in-Normal
+returns-in-Normal g c =
+    let mode = g.A.Answers.mode in
+    let line = take c.args.len c.args.window.now in
+    let before = held c.args.replies.now in
+    let after = held c.push_outlined.new.self in
+    let told =
+    subst (λ (m : Mode). IsReplied m line before after c.in_ok-push_outlined.field-0) c.mode.ensures c.in_ok-push_outlined.ensures in
+    let is = subst (λ (w : Written). IsReplied mode line before after w) c.in-Normal.is told in
+    is.2 ∙ ap (λ (t : List ℕ). before ++ t) (normal_reply mode line is.0 is.1)
+
+pub returns-in-Refused : goal.returns-in-Refused
+returns-in-Refused g c =
+    let mode = g.A.Answers.mode in
+    let line = take c.args.len c.args.window.now in
+    let before = held c.args.replies.now in
+    let after = held c.push_outlined.new.self in
+    let told =
+    subst (λ (m : Mode). IsReplied m line before after c.in_ok-push_outlined.field-0) c.mode.ensures c.in_ok-push_outlined.ensures in
+    let is = subst (λ (w : Written). IsReplied mode line before after w) c.in-Refused.is told in
+    subst (λ (t : List ℕ). OnOk c.write_refusal.result (held c.write_refusal.new.replies ≡ before ++ t))
+    (refused_reply mode line c.in-Refused.error is.0)
+    (subst (λ (t : List ℕ). OnOk c.write_refusal.result (held c.write_refusal.new.replies ≡ t ++ (refusal_text c.in-Refused.error ++ 10 ∷ []))) is.1 c.write_refusal.ensures.text)

@@ -1,0 +1,16 @@
+-- What was written of a line behind the replies before it.
+use Rattle.std.specs.Prelude.{◌≡◌, [], ◌∷◌, ◌++◌}
+use Rattle.iloc_spec_grammar.specs.Syntax.{Text, languages}
+use Rattle.iloc_told.specs.Modes.{IsNormalText}
+use Rattle.iloc_told.specs.Told.{HasRefusal}
+use Rattle.iloc_told.specs.declared.Mode.{Mode}
+use Rattle.iloc_told.specs.declared.outlined.Written.{Written}
+use Rattle.iloc_told.specs.declared.outlined.Written.TheVariants.{Normal, Refused, Nothing}
+
+-- the normal text in the mode and a newline stand behind what was held; or nothing more does, and a
+-- refusal is that of the line
+abbrev pub IsReplied : Mode → Text → Text → Text → Written → Type 0
+IsReplied mode t old new (Normal n) = (normal : Text) × IsNormalText languages mode t normal
+    × (new ≡ old ++ (normal ++ 10 ∷ []))
+IsReplied mode t old new (Refused e) = HasRefusal mode t e × (new ≡ old)
+IsReplied mode t old new Nothing = new ≡ old

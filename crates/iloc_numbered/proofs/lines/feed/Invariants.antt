@@ -1,0 +1,12 @@
+use Rattle.std.proofs.Common.{◌≡◌, ℕ, List, ◌++◌, length}
+use Rattle.iloc_lines.specs.ReplyBlock.{held}
+use Rattle.iloc_numbered.specs.Feeding.{Feeds}
+use Rattle.iloc_numbered.proofs.lines.feed.Given as goal
+
+-- the first bytes of the piece were fed, and the rest is left
+abbrev pub invariant-lines : goal.invariant-lines
+invariant-lines g l = (taken : List ℕ) × (l.fn.piece ≡ taken ++ l.rest)
+    × Feeds (g.L.Lists.is_entry l.fn.listing) l.fn.number l.fn.pending.items taken (held l.fn.replies) (held l.replies) l.pending.items l.next
+
+abbrev pub decreases-lines : goal.decreases-lines
+decreases-lines g l = length l.rest

@@ -1,5 +1,0 @@
-pub mod Rewriting
-pub mod Repeats
-pub mod Words
-pub mod Fields
-pub mod Sorting

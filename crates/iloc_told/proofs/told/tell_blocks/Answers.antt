@@ -1,8 +1,0 @@
-use Rattle.std.proofs.Common.{take}
-use Rattle.iloc_told.proofs.told.tell_blocks.Goals as goal
-
-pub returns-in-Unordered : goal.returns-in-Unordered
-returns-in-Unordered c = c.told_by.ensures (take c.args.len c.args.window.now) c.rewrite.ensures
-
-pub returns-in_default : goal.returns-in_default
-returns-in_default c = c.told_by-in_default.ensures (take c.args.len c.args.window.now) c.read_ordered.ensures

@@ -1,0 +1,51 @@
+-- From outlines and parts to what a text is read as.
+use Rattle.std.proofs.Common.{◌≡◌, ◌↔◌, ℕ, ◌≤◌, ◌<◌, ◌^◌, Bool, true, false, IsTrue, List, length, refl, sym, ◌∙◌, true≢false, arith}
+use Rattle.std.proofs.lemmas.Bool.{false_from_ne_true}
+use Rattle.std.proofs.lemmas.Bool.Decides.{nat_tests}
+use Rattle.iloc_spec_grammar.specs.Syntax.{pieces, languages}
+use Rattle.iloc_spec_grammar.specs.Meaning as grammar
+use Rattle.iloc_spec_grammar.specs.Meaning.{Means, IdentifierMeans}
+use Rattle.iloc_spec_grammar.specs.Syntax.{Identifier}
+use Rattle.iloc_spec_grammar.specs.Values.{identifier_text, text}
+use Rattle.iloc_spec_grammar.proofs.AnySteps.{shortest, length-identifier_means}
+use Rattle.iloc_spec_preferences.specs.DataLocales.{DataMeans, data_text}
+use Rattle.iloc_writeable.specs.Hints.{saturated}
+use Rattle.iloc_calls.proofs.Bounds.{parts_fit}
+use Rattle.iloc_data_parts.specs.PartsReading as parts
+use Rattle.iloc_data_parts.specs.declared.parts.DataParts.{DataParts}
+use Rattle.iloc_outline.specs.Outlines.{BeginsWithLanguage, Gives}
+use Rattle.iloc_outline.specs.declared.outline.Outline.{Outline}
+use Rattle.iloc_outline.specs.declared.spans.Spans.{Spans}
+use Rattle.iloc_subtags.specs.declared.parse_error.ParseError.TheVariants.{InvalidLanguage}
+use Rattle.iloc_told.proofs.FrontAnswers.{no_language_refused}
+use Rattle.iloc_told.specs.Told.{HasRefusal}
+use Rattle.iloc_told.specs.declared.Mode.{Mode}
+use Rattle.iloc_told.specs.declared.Mode.TheVariants.{Langid, Locale, Data}
+use Rattle.locale_web.specs.Reading.{IsReadInto, IsNormalWithin}
+use Rattle.locale_web.specs.declared.reading.Found.TheVariants as founds
+
+-- a text that begins with no language is refused
+pub no_language : (mode : Mode) (t : List ℕ) (begins : Bool) → IsTrue begins ↔ BeginsWithLanguage t → begins ≡ false → HasRefusal mode t InvalidLanguage
+no_language mode t begins e f = no_language_refused mode t (false_from_ne_true _ (λ h. true≢false (sym (e.1 h) ∙ f)))
+
+-- an identifier's outline gives its normal text, which is as long
+pub identifier_outlined : (t : List ℕ) (spans : Spans) (o : Outline) (i : Identifier) → IdentifierMeans languages (pieces t) i
+    → Gives t o spans (identifier_text i) → IsReadInto Langid t spans (founds.Outlined o)
+identifier_outlined t spans o i m g =
+    let long : length (identifier_text i) ≡ length t = length-identifier_means languages t i m in
+    (identifier_text i, record { meant = (i, m, refl); few = omega (arith, long) }, g)
+
+-- a locale's outline gives its normal text, which is no longer
+pub locale_outlined : (t : List ℕ) (spans : Spans) (o : Outline) (M : grammar.Locale) → Means languages t M
+    → Gives t o spans (text M) → IsReadInto Locale t spans (founds.Outlined o)
+locale_outlined t spans o M m g =
+    let long : length (text M) ≤ length t = shortest languages t M m in
+    (text M, record { meant = (M, m, refl); few = omega (arith, long) }, g)
+
+-- the parts of a data locale have its normal text
+pub parts_within : (t : List ℕ) (p : DataParts) → DataMeans languages t (parts.value_of p) → IsNormalWithin Data t 4 (data_text (parts.value_of p))
+parts_within t p m = record { meant = (parts.value_of p, m, refl); few = parts_fit t p m }
+
+-- a length is not cut where it is a number of the machine
+pub saturated_fits : (n : ℕ) → n < 2 ^ 64 → n ≡ saturated n
+saturated_fits n fits = grind (arith, nat_tests)

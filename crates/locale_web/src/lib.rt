@@ -1,0 +1,188 @@
+//! Locales for a browser and for node: the calls of a WebAssembly module, whose memory is its caller's.
+//!
+//! A text is the first `len` bytes of a window, or all of a shorter one. Sixteen bytes of anything behind it make
+//! reading faster. Each call gives a number, and its contract says, number by number, what the caller finds: that of a
+//! status as the calls of the C library give it (`iloc_calls`), or `BEYOND` of a text beyond what is read at once.
+//!
+//! Identifiers and locales are read by their outline (`iloc_outline`): up to 64 pieces and 65,535 bytes. Data locales are
+//! parsed, however long they are (`iloc_data_parts`). No call takes memory, so the module asks its page for nothing.
+#![tactic(auto)]
+
+ghost use Rattle.std.specs.Prelude.{◌≡◌, ◌<◌, ◌≤◌, MatchOption, length, take};
+ghost use Rattle.iloc_told.specs.declared.Mode.{Mode};
+ghost use Rattle.iloc_calls.specs.declared.status.Status.{Status};
+ghost use Rattle.iloc_calls.specs.Answers.{HandsOut};
+ghost use Rattle.iloc_calls.specs.Faults.{FindsFault};
+ghost use Rattle.iloc_calls.specs.Numbers.{EndsAs, mode_number, number_of, words_of};
+ghost use Rattle.locale_web.specs.Answers.{
+  EndsWithin,
+  IsJudged,
+  IsOneBeyond,
+  NormalIsWritten,
+  NothingIsWritten,
+  OrderIsWritten,
+  SameIsWritten,
+  answer_number,
+};
+ghost use Rattle.locale_web.specs.Reading.{IsPastLimits};
+
+mod comparing;
+mod data;
+mod normalizing;
+mod reading;
+
+use comparing::{compare, tell_same};
+use iloc_calls::{Status, find_fault};
+use normalizing::{hand_out_bytes, normalize};
+use reading::{judge, mode_of, text_end};
+
+/// The version of these calls.
+pub const VERSION: u32 = 1;
+
+/// The number of a text beyond what is read at once.
+pub const BEYOND: u32 = 9;
+
+// The number of an answer.
+fn number(answer: Option<Status>) -> u32
+    ensures { result ≡ answer_number answer }
+{
+    match answer {
+        Some(status) => status.number(),
+        None => BEYOND,
+    }
+}
+
+/// Writes the normal text of what the text means into the buffer, and its length to `needed`. It is put into the room
+/// first, which is sixteen bytes larger than the text.
+///
+/// The mode is 0 for identifiers, 1 for locales and 2 for data locales.
+#[unsafe(no_mangle)]
+pub extern "C" fn web_normalize(
+    mode: u32,
+    window: &[u8],
+    len: usize,
+    room: &mut [u8],
+    buffer: &mut [u8],
+    needed: &mut usize,
+) -> u32
+    ensures known { (m : Mode) → mode ≡ mode_number m
+        → EndsWithin (NormalIsWritten m (take len window.now) buffer.old buffer.new needed.new)
+        (NothingIsWritten m (take len window.now) (length room.old) buffer.old buffer.new needed.new)
+        result }
+    ensures unknown { 2 < mode → (result ≡ number_of Status.UnknownNumber)
+        × (needed.new ≡ 0) × (buffer.new ≡ buffer.old) }
+{
+    match mode_of(mode) {
+        Some(mode) => number(normalize(mode, window, len, room, buffer, needed)),
+        None => {
+            *needed = 0;
+            Status::UnknownNumber.number()
+        }
+    }
+}
+
+/// Whether the text means something in the mode, or why not.
+#[unsafe(no_mangle)]
+pub extern "C" fn web_check(mode: u32, window: &[u8], len: usize) -> u32
+    ensures known { (m : Mode) → mode ≡ mode_number m
+        → EndsWithin (IsJudged m (take len window.now)) (IsPastLimits m (take len window.now)) result }
+    ensures unknown { 2 < mode → result ≡ number_of Status.UnknownNumber }
+{
+    match mode_of(mode) {
+        Some(mode) => number(judge(mode, window, len)),
+        None => Status::UnknownNumber.number(),
+    }
+}
+
+/// Writes the byte order of the normal texts of both, as -1, 0 or 1. They are put into `one` and `two`.
+#[unsafe(no_mangle)]
+pub extern "C" fn web_compare(
+    mode: u32,
+    window: &[u8],
+    len: usize,
+    other: &[u8],
+    other_len: usize,
+    one: &mut [u8],
+    two: &mut [u8],
+    order: &mut i8,
+) -> u32
+    ensures known { (m : Mode) → mode ≡ mode_number m
+        → EndsWithin (OrderIsWritten m (take len window.now) (take other_len other.now) order.old order.new)
+        (IsOneBeyond m (take len window.now) (length one.old) (take other_len other.now)
+        (length two.old) × (order.new ≡ order.old)) result }
+    ensures unknown { 2 < mode
+        → (result ≡ number_of Status.UnknownNumber) × (order.new ≡ order.old) }
+{
+    match mode_of(mode) {
+        Some(mode) => number(compare(mode, window, len, other, other_len, one, two, order)),
+        None => Status::UnknownNumber.number(),
+    }
+}
+
+/// Writes 1 if both texts have the same meaning, and else 0. Their normal texts are put into `one` and `two`.
+#[unsafe(no_mangle)]
+pub extern "C" fn web_normalizing_eq(
+    mode: u32,
+    window: &[u8],
+    len: usize,
+    other: &[u8],
+    other_len: usize,
+    one: &mut [u8],
+    two: &mut [u8],
+    same: &mut u8,
+) -> u32
+    ensures known { (m : Mode) → mode ≡ mode_number m
+        → EndsWithin (SameIsWritten m (take len window.now) (take other_len other.now) same.old same.new)
+        (IsOneBeyond m (take len window.now) (length one.old) (take other_len other.now)
+        (length two.old) × (same.new ≡ same.old)) result }
+    ensures unknown { 2 < mode
+        → (result ≡ number_of Status.UnknownNumber) × (same.new ≡ same.old) }
+{
+    match mode_of(mode) {
+        Some(mode) => number(tell_same(mode, window, len, other, other_len, one, two, same)),
+        None => Status::UnknownNumber.number(),
+    }
+}
+
+/// Why the text is refused, and the place of its fault, from `start` to `end`; of another text nothing is written. It reads
+/// a text of any length.
+#[unsafe(no_mangle)]
+pub extern "C" fn web_find_fault(
+    mode: u32,
+    window: &[u8],
+    len: usize,
+    start: &mut usize,
+    end: &mut usize,
+) -> u32
+    ensures known { (m : Mode) → mode ≡ mode_number m
+        → EndsAs (FindsFault m (take len window.now) (start.old, end.old) (start.new, end.new)) result }
+    ensures unknown { 2 < mode → (result ≡ number_of Status.UnknownNumber)
+        × (start.new ≡ start.old) × (end.new ≡ end.old) }
+{
+    find_fault(mode, &window[..text_end(window, len)], start, end)
+}
+
+/// Writes the words of a status into the buffer, and their length to `needed`.
+#[unsafe(no_mangle)]
+pub extern "C" fn web_words(status: u32, buffer: &mut [u8], needed: &mut usize) -> u32
+    ensures known { (told : Status) → status ≡ number_of told
+        → EndsAs (HandsOut (words_of told) buffer.old buffer.new needed.new) result }
+    ensures unknown { 8 < status → (result ≡ number_of Status.UnknownNumber)
+        × (needed.new ≡ 0) × (buffer.new ≡ buffer.old) }
+{
+    match Status::from_number(status) {
+        Some(status) => hand_out_bytes(status.words().as_bytes(), buffer, needed).number(),
+        None => {
+            *needed = 0;
+            Status::UnknownNumber.number()
+        }
+    }
+}
+
+/// The version of these calls.
+#[unsafe(no_mangle)]
+pub extern "C" fn web_version() -> u32
+    ensures { result ≡ VERSION }
+{
+    VERSION
+}

@@ -1,0 +1,121 @@
+//! Puts and hands out normal texts.
+ghost use Rattle.std.specs.Prelude.{◌≡◌, ◌↔◌, ◌+◌, ◌≤◌, IsTrue, MatchOption, length, take};
+ghost use Rattle.iloc_spec_grammar.specs.Syntax.{languages};
+ghost use Rattle.iloc_calls.specs.Answers.{HandsOut};
+ghost use Rattle.iloc_data_parts.specs.PartsReading.{value_of};
+ghost use Rattle.iloc_spec_preferences.specs.DataLocales.{data_text};
+ghost use Rattle.locale_web.specs.Answers.{NormalIsWritten, NothingIsWritten};
+ghost use Rattle.locale_web.specs.Reading.{IsPut};
+
+use crate::data::DataText;
+use crate::reading::{Found, read, text_end};
+use iloc_calls::{Status, hand_out};
+use iloc_data_parts::DataParts;
+use iloc_outline::printing::copy_outline;
+use iloc_outline::spans::Spans;
+use iloc_subtags::ParseError;
+use iloc_told::Mode;
+use iloc_told::copying::copy_all;
+
+// How much larger than a text its room is.
+const MORE: usize = 16;
+
+/// What was put into a room.
+#[derive(Drop)]
+pub(crate) enum Placed {
+    /// The normal text, of so many bytes.
+    Normal(usize),
+    /// Nothing: the text is refused.
+    Refused(ParseError),
+    /// Nothing: the text is beyond what the room is for.
+    Beyond,
+}
+
+// Puts the text of a data locale's parts, and gives its length.
+fn put_parts(parts: DataParts, to: &mut [u8]) -> usize
+    requires { length (data_text (value_of parts)) ≤ length to.old }
+    ensures within { result ≤ length to.new }
+    ensures text { take result to.new ≡ data_text (value_of parts) }
+{
+    let mut needed = 0;
+    match hand_out(&DataText { parts }, to, &mut needed) {
+        Status::Done => needed,
+        _ => unreachable!(),
+    }
+}
+
+// Whether so many bytes have room, and sixteen more.
+fn has_room(len: usize, to: &[u8]) -> bool
+    ensures { IsTrue result ↔ (len + 16 ≤ length to.now) }
+{
+    to.len() >= MORE && to.len() - MORE >= len
+}
+
+// Puts the normal text of what the first bytes mean into the front of a room that is large enough.
+fn put_first(mode: Mode, window: &[u8], len: usize, to: &mut [u8]) -> Placed
+    requires inside { len ≤ length window.now }
+    requires room { len + 16 ≤ length to.old }
+    ensures { IsPut mode (take len window.now) (length to.old) to.new result }
+{
+    let mut spans = Spans::new();
+    match read(mode, window, len, &mut spans) {
+        Found::Outlined(outline) => {
+            Placed::Normal(copy_outline(window, len, &outline, &spans, to))
+        }
+        Found::Parts(parts) => Placed::Normal(put_parts(parts, to)),
+        Found::Refused(error) => Placed::Refused(error),
+        Found::Beyond => Placed::Beyond,
+    }
+}
+
+/// Puts the normal text of what the text means into the front of a room.
+pub(crate) fn put(mode: Mode, window: &[u8], len: usize, to: &mut [u8]) -> Placed
+    ensures { IsPut mode (take len window.now) (length to.old) to.new result }
+{
+    let end = text_end(window, len);
+    if has_room(end, to) {
+        put_first(mode, window, end, to)
+    } else {
+        Placed::Beyond
+    }
+}
+
+/// Writes the bytes into the buffer if they fit, and their number to `needed`.
+#[tactic(auto, using(crate::proofs::ReadLemmas::saturated_fits))]
+pub(crate) fn hand_out_bytes(bytes: &[u8], buffer: &mut [u8], needed: &mut usize) -> Status
+    ensures { HandsOut bytes.now buffer.old buffer.new needed.new result }
+{
+    let end = bytes.len();
+    *needed = end;
+    if end > buffer.len() {
+        return Status::BufferTooSmall;
+    }
+    copy_all(bytes, &mut buffer[..end]);
+    Status::Done
+}
+
+/// Hands out the normal text of what the text means, which the room is for. `None` if the text is beyond that.
+pub(crate) fn normalize(
+    mode: Mode,
+    window: &[u8],
+    len: usize,
+    room: &mut [u8],
+    buffer: &mut [u8],
+    needed: &mut usize,
+) -> Option<Status>
+    ensures { MatchOption result
+        (NothingIsWritten mode (take len window.now) (length room.old) buffer.old buffer.new needed.new)
+        (NormalIsWritten mode (take len window.now) buffer.old buffer.new needed.new) }
+{
+    match put(mode, window, len, room) {
+        Placed::Normal(end) => Some(hand_out_bytes(&room[..end], buffer, needed)),
+        Placed::Refused(error) => {
+            *needed = 0;
+            Some(Status::from(error))
+        }
+        Placed::Beyond => {
+            *needed = 0;
+            None
+        }
+    }
+}
