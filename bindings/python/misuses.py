@@ -151,7 +151,7 @@ def calls_in(call):
 def first_calls(locale):
     """Whether the first read of a part makes few calls, and the next one fewer."""
     read = lambda: locale.region
-    return calls_in(read) <= 13, calls_in(read) <= 2
+    return calls_in(read) <= 11, calls_in(read) <= 2
 
 
 LONG = "de-aaaaa-bbbbb-ccccc-ddddd-eeeee-t-und-m0-abc-u-aaa-ca-islamic-civil-x-a-b-c-d-e"

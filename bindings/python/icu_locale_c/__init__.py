@@ -641,17 +641,31 @@ class Locale:
             self._put(handle)
 
     def _read(self, function: Any, *given: Any) -> Optional[str]:
-        """The text that a call writes, or None if there is no such part."""
+        """The text that a call writes, or None if there is no such part. It is `read` of a handle that no other call has;
+        the steps stand here themselves, since a part that is read first would take half as long again by calls."""
         handles = self._handles
         try:
             handle = handles.pop()
         except IndexError:
             handle = _parsed(self._source)
         try:
-            return handle.read(function, *given)
+            buffer = _free_buffers.pop()
+        except IndexError:
+            buffer = _Buffer(_USUAL)
+        try:
+            status = function(handle, *given, buffer.at, buffer.room, buffer.needed_at)
+            if status == _BUFFER_TOO_SMALL:
+                return handle.read(function, *given)
+            text = buffer.bytes.raw[: buffer.needed.value].decode("ascii") if status == _DONE else None
+        except ctypes.ArgumentError:
+            raise MemoryError from None
         finally:
             if not handles:
                 handles.append(handle)
+            _free_buffers.append(buffer)
+        if text is None and status != _NOT_FOUND:
+            _raise(status)
+        return text
 
     def _part(self, call: Any, *given: Any) -> str:
         """The text of a part that is there."""
