@@ -44,8 +44,9 @@ export function ask(name, ...words) {
 
 // The places of two texts, of the room for a normal text, of two answers, and of a number.
 const [TEXT, OTHER, PLACE, ONE, TWO, NUMBER] = Array.from({ length: 6 }, (_, at) => Number(calls.__heap_base.value) + at * ROOM);
-if (NUMBER + 8 > all.length) throw new Error('the memory of the module is too small');
-const place = { text: BigInt(TEXT), other: BigInt(OTHER), room: BigInt(PLACE), one: BigInt(ONE), two: BigInt(TWO), number: BigInt(NUMBER) };
+if (NUMBER + 16 > all.length) throw new Error('the memory of the module is too small');
+const place = { text: BigInt(TEXT), other: BigInt(OTHER), room: BigInt(PLACE), one: BigInt(ONE), two: BigInt(TWO), number: BigInt(NUMBER),
+  more: BigInt(NUMBER + 8) };
 const room = BigInt(ROOM);
 
 // Numbers of the module are BigInts. Small ones are made once: to make one at each call takes longer.
@@ -108,6 +109,14 @@ export function checked(text, mode) {
   const length = put(text, TEXT);
   if (length > MOST) return BEYOND;
   return ask('web_check', mode, place.text, big(length + SPARE), big(length));
+}
+
+/** Finds the fault of a text: the number with which the call ends, and the first and the last byte of the place. */
+export function faultOf(text, mode) {
+  const length = put(text, TEXT);
+  if (length > MOST) return { status: BEYOND, start: 0, end: 0 };
+  const status = ask('web_find_fault', mode, place.text, big(length + SPARE), big(length), place.number, place.more);
+  return { status, start: numbers.getUint32(NUMBER, true), end: numbers.getUint32(NUMBER + 8, true) };
 }
 
 // Asks a call about two texts: its end, and the number that it wrote.

@@ -24,7 +24,7 @@ test('no import, and the exports that are wanted', () => {
   const made = new WebAssembly.Module(module.bytes);
   assert.deepEqual(WebAssembly.Module.imports(made), []);
   assert.deepEqual(WebAssembly.Module.exports(made).map(it => it.name).sort(), ['__heap_base', 'memory', 'web_check', 'web_compare',
-    'web_normalize', 'web_normalizing_eq', 'web_version', 'web_words']);
+    'web_find_fault', 'web_normalize', 'web_normalizing_eq', 'web_version', 'web_words']);
 });
 
 test('buffers', () => {
@@ -97,10 +97,10 @@ test('offsets and lengths outside the memory', async () => {
   const edges = [0, 1, 2, 15, 16, 17, 21, base, base + 64, size - 1, size, size + 1, size - 16, 2 ** 31, 2 ** 32 - 1, 2 ** 32, 2 ** 40].map(BigInt);
   edges.push((1n << 63n) - 1n, 1n << 63n, (1n << 64n) - 1n, (1n << 64n) - 16n, (1n << 64n) - BigInt(size));
   const place = () => (next(2) ? edges[next(edges.length)] : BigInt(base + next(4096)));
-  const counts = { web_normalize: 8, web_check: 3, web_compare: 11, web_normalizing_eq: 11, web_words: 3 };
+  const counts = { web_normalize: 8, web_check: 3, web_find_fault: 5, web_compare: 11, web_normalizing_eq: 11, web_words: 3 };
   let stopped = 0, ended = 0;
   for (let round = 0; round < 4000; round++) {
-    const name = Object.keys(counts)[next(5)];
+    const name = Object.keys(counts)[next(6)];
     const words = Array.from({ length: counts[name] }, () => (next(3) ? place() : BigInt(next(64))));
     try {
       const status = ask(name, next(4), ...words);

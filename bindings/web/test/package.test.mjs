@@ -121,7 +121,7 @@ test('limits', () => {
   assert.equal(check(many, 'data'), 'InvalidSubtag');
   assert.throws(() => normalize(many), it => it.code === 'BeyondLimits' && it.start === undefined && it.end === undefined);
   assert.throws(() => compare('en', many), it => it.code === 'BeyondLimits' && it.text === many);
-  assert.equal(findFault(many), null);
+  assert.deepEqual(findFault(`${many}-!!`), { code: 'InvalidSubtag', message: 'Invalid subtag', start: many.length + 1, end: many.length + 3 });
   assert.equal(check('x'.repeat(65535)), 'InvalidLanguage');
   assert.equal(check('x'.repeat(65536)), 'BeyondLimits');
   assert.equal(check('ä'.repeat(32767)), 'InvalidLanguage');
@@ -151,6 +151,8 @@ test('places of faults', () => {
   assert.deepEqual(at('en-u-foo-bar', 'data').slice(0, 2), [5, 8]);
   assert.deepEqual(at('en-ä-US'), [3, 4, 'InvalidSubtag']); // (in units of the string)
   assert.deepEqual(at(Buffer.from('en-ä-US')), [3, 5, 'InvalidSubtag']); // (in bytes)
+  assert.deepEqual(at('en-\u{1F600}€-US'), [3, 6, 'InvalidSubtag']);
+  assert.deepEqual(at('en-\uD800-US'), [3, 4, 'InvalidSubtag']); // (half of a pair is read as U+FFFD)
   assert.equal(findFault('en-US'), null);
 });
 

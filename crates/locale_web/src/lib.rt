@@ -12,6 +12,7 @@ ghost use Rattle.std.specs.Prelude.{◌≡◌, ◌<◌, ◌≤◌, MatchOption, 
 ghost use Rattle.iloc_told.specs.declared.Mode.{Mode};
 ghost use Rattle.iloc_calls.specs.declared.status.Status.{Status};
 ghost use Rattle.iloc_calls.specs.Answers.{HandsOut};
+ghost use Rattle.iloc_calls.specs.Faults.{FindsFault};
 ghost use Rattle.iloc_calls.specs.Numbers.{EndsAs, mode_number, number_of, words_of};
 ghost use Rattle.locale_web.specs.Answers.{
   EndsWithin,
@@ -31,9 +32,9 @@ mod normalizing;
 mod reading;
 
 use comparing::{compare, tell_same};
-use iloc_calls::Status;
+use iloc_calls::{Status, find_fault};
 use normalizing::{hand_out_bytes, normalize};
-use reading::{judge, mode_of};
+use reading::{judge, mode_of, text_end};
 
 /// The version of these calls.
 pub const VERSION: u32 = 1;
@@ -145,6 +146,24 @@ pub extern "C" fn web_normalizing_eq(
         Some(mode) => number(tell_same(mode, window, len, other, other_len, one, two, same)),
         None => Status::UnknownNumber.number(),
     }
+}
+
+/// Why the text is refused, and the place of its fault, from `start` to `end`; of another text nothing is written. It reads
+/// a text of any length.
+#[unsafe(no_mangle)]
+pub extern "C" fn web_find_fault(
+    mode: u32,
+    window: &[u8],
+    len: usize,
+    start: &mut usize,
+    end: &mut usize,
+) -> u32
+    ensures known { (m : Mode) → mode ≡ mode_number m
+        → EndsAs (FindsFault m (take len window.now) (start.old, end.old) (start.new, end.new)) result }
+    ensures unknown { 2 < mode → (result ≡ number_of Status.UnknownNumber)
+        × (start.new ≡ start.old) × (end.new ≡ end.old) }
+{
+    find_fault(mode, &window[..text_end(window, len)], start, end)
 }
 
 /// Writes the words of a status into the buffer, and their length to `needed`.
