@@ -121,7 +121,7 @@ test('limits', () => {
   assert.equal(check(many, 'data'), 'InvalidSubtag');
   assert.throws(() => normalize(many), it => it.code === 'BeyondLimits' && it.start === undefined && it.end === undefined);
   assert.throws(() => compare('en', many), it => it.code === 'BeyondLimits' && it.text === many);
-  assert.deepEqual(findFault(`${many}-!`), { code: 'InvalidSubtag', message: 'Invalid subtag', start: many.length + 1, end: many.length + 2 });
+  assert.deepEqual(findFault(`${many}-!!`), { code: 'InvalidSubtag', message: 'Invalid subtag', start: many.length + 1, end: many.length + 3 });
   assert.equal(check('x'.repeat(65535)), 'InvalidLanguage');
   assert.equal(check('x'.repeat(65536)), 'BeyondLimits');
   assert.equal(check('ä'.repeat(32767)), 'InvalidLanguage');

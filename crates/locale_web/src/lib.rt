@@ -67,7 +67,8 @@ pub extern "C" fn web_normalize(
 ) -> u32
     ensures known { (m : Mode) → mode ≡ mode_number m
         → EndsWithin (NormalIsWritten m (take len window.now) buffer.old buffer.new needed.new)
-        (NothingIsWritten m (take len window.now) (length room.old) buffer.old buffer.new needed.new)
+        (NothingIsWritten m (take len window.now) (length room.old) buffer.old buffer.new
+        needed.new)
         result }
     ensures unknown { 2 < mode → (result ≡ number_of Status.UnknownNumber)
         × (needed.new ≡ 0) × (buffer.new ≡ buffer.old) }
@@ -85,7 +86,8 @@ pub extern "C" fn web_normalize(
 #[unsafe(no_mangle)]
 pub extern "C" fn web_check(mode: u32, window: &[u8], len: usize) -> u32
     ensures known { (m : Mode) → mode ≡ mode_number m
-        → EndsWithin (IsJudged m (take len window.now)) (IsPastLimits m (take len window.now)) result }
+        → EndsWithin (IsJudged m (take len window.now))
+        (IsPastLimits m (take len window.now)) result }
     ensures unknown { 2 < mode → result ≡ number_of Status.UnknownNumber }
 {
     match mode_of(mode) {
@@ -107,7 +109,8 @@ pub extern "C" fn web_compare(
     order: &mut i8,
 ) -> u32
     ensures known { (m : Mode) → mode ≡ mode_number m
-        → EndsWithin (OrderIsWritten m (take len window.now) (take other_len other.now) order.old order.new)
+        → EndsWithin (OrderIsWritten m (take len window.now) (take other_len other.now)
+        order.old order.new)
         (IsOneBeyond m (take len window.now) (length one.old) (take other_len other.now)
         (length two.old) × (order.new ≡ order.old)) result }
     ensures unknown { 2 < mode
@@ -132,7 +135,8 @@ pub extern "C" fn web_normalizing_eq(
     same: &mut u8,
 ) -> u32
     ensures known { (m : Mode) → mode ≡ mode_number m
-        → EndsWithin (SameIsWritten m (take len window.now) (take other_len other.now) same.old same.new)
+        → EndsWithin (SameIsWritten m (take len window.now) (take other_len other.now)
+        same.old same.new)
         (IsOneBeyond m (take len window.now) (length one.old) (take other_len other.now)
         (length two.old) × (same.new ≡ same.old)) result }
     ensures unknown { 2 < mode

@@ -104,7 +104,8 @@ pub(crate) fn normalize(
     needed: &mut usize,
 ) -> Option<Status>
     ensures { MatchOption result
-        (NothingIsWritten mode (take len window.now) (length room.old) buffer.old buffer.new needed.new)
+        (NothingIsWritten mode (take len window.now) (length room.old) buffer.old buffer.new
+        needed.new)
         (NormalIsWritten mode (take len window.now) buffer.old buffer.new needed.new) }
 {
     match put(mode, window, len, room) {
