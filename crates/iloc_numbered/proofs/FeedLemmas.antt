@@ -5,7 +5,7 @@ use Rattle.std.specs.List.{AllByRecursion}
 use Rattle.std.proofs.lemmas.List.Elements.{All-nil, All-append}
 use Rattle.iloc_lines.specs.Lines.{lines_of, ended, IsOneLine}
 use Rattle.iloc_lines.proofs.LineCuts.{lines_of-last}
-use Rattle.iloc_numbered.specs.Numbered.{Adds, AreEntries}
+use Rattle.iloc_numbered.specs.Numbered.{AddsText, AreEntries}
 use Rattle.iloc_numbered.specs.Feeding.{Feeds, Ends}
 use Rattle.iloc_numbered.proofs.EntryLemmas.{AreEntries-append, AreEntries-one, ended-append, AllByRecursion-append}
 
@@ -24,7 +24,7 @@ module _ (IsEntry : ℕ → List ℕ → List ℕ → Type 0) (n : ℕ) (pending
 
   -- a line that ends
   pub Feeds-line : (taken line mid new pending' pending2 : List ℕ) (next next2 : ℕ) → Feeds IsEntry n pending taken old mid pending' next
-      → IsOneLine line → Adds (IsEntry next (pending' ++ line)) mid new → next2 ≡ next + 1 → pending2 ≡ []
+      → IsOneLine line → AddsText (IsEntry next (pending' ++ line)) mid new → next2 ≡ next + 1 → pending2 ≡ []
       → Feeds IsEntry n pending (taken ++ (line ++ 10 ∷ [])) old new pending2 next2
   Feeds-line taken line mid new pending' pending2 next next2 f one (entry, is, added) e none =
       let whole = pending' ++ line in
@@ -73,7 +73,7 @@ Ends-nothing IsEntry n pending old none = subst (λ (t : List ℕ). Ends IsEntry
 })
 
 pub Ends-line : (IsEntry : ℕ → List ℕ → List ℕ → Type 0) (n : ℕ) (pending old new : List ℕ) (next : ℕ) → IsOneLine pending → 0 < length pending
-    → Adds (IsEntry n (pending ++ [])) old new → next ≡ n + 1 → Ends IsEntry n pending old new next
+    → AddsText (IsEntry n (pending ++ [])) old new → next ≡ n + 1 → Ends IsEntry n pending old new next
 Ends-line IsEntry n [] old new next one some a e = absurd (omega (arith, some))
 Ends-line IsEntry n (c ∷ pending) old new next one some (entry, is, added) e =
     let line = c ∷ pending in

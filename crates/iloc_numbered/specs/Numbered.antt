@@ -7,8 +7,8 @@ use Rattle.iloc_spec_grammar.specs.Syntax.{Text}
 use Rattle.iloc_lines.specs.Lines.{lines_of}
 
 -- A text that meets this was added.
-abbrev pub Adds : (Text → Type 0) → Text → Text → Type 0
-Adds Meets old new = (added : Text) × Meets added × (new ≡ old ++ added)
+abbrev pub AddsText : (Text → Type 0) → Text → Text → Type 0
+AddsText Meets old new = (added : Text) × Meets added × (new ≡ old ++ added)
 
 -- The entries of lines that are numbered from n on, one after the other.
 abbrev pub AreEntries : (ℕ → Text → Text → Type 0) → ℕ → List Text → Text → Type 0

@@ -9,7 +9,7 @@
 
 ghost use Rattle.std.specs.Prelude.{ℕ, IfOk, OnOk, OnErr};
 ghost use Rattle.iloc_lines.specs.ReplyBlock.{held};
-ghost use Rattle.iloc_numbered.specs.Numbered.{Adds, ListsAll, ListsBeginning};
+ghost use Rattle.iloc_numbered.specs.Numbered.{AddsText, ListsAll, ListsBeginning};
 
 mod lines;
 
@@ -43,7 +43,7 @@ pub trait Lists {
         line: &[u8],
         replies: &mut ReplyBlock,
     ) -> Result<(), AllocError>
-        ensures { OnOk result (Adds (is_entry listing number line.now)
+        ensures { OnOk result (AddsText (is_entry listing number line.now)
             (held replies.old) (held replies.new)) };
 }
 

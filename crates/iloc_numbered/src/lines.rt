@@ -5,7 +5,7 @@ ghost use Rattle.iloc_writeable.specs.Growth.{AddsBeginning};
 ghost use Rattle.iloc_lines.specs.Lines.{IsLineEnd, IsOneLine};
 ghost use Rattle.iloc_lines.specs.ReplyBlock.{held};
 ghost use Rattle.iloc_lines.specs.declared.RunError.TheVariants as RunError;
-ghost use Rattle.iloc_numbered.specs.Numbered.{Adds};
+ghost use Rattle.iloc_numbered.specs.Numbered.{AddsText};
 ghost use Rattle.iloc_numbered.specs.Feeding.{Feeds, Ends};
 
 use crate::{Listing, Lists, ReplyBlock, RunError};
@@ -57,7 +57,7 @@ fn end_line<L: Lists>(
 ) -> Result<u64, RunError>
     ensures next { IfOk result (λ next. next ≡ number + 1) }
     ensures pending { OnOk result (pending.new.items ≡ []) }
-    ensures replies { OnOk result (Adds (L.is_entry listing number (pending.old.items ++ end.now))
+    ensures replies { OnOk result (AddsText (L.is_entry listing number (pending.old.items ++ end.now))
         (held replies.old) (held replies.new)) }
 {
     let Some(next) = number.checked_add(1) else {
