@@ -92,6 +92,12 @@ pub mod parser {
     pub use iloc_subtags::{ParseError, SubtagIterator};
 }
 
+/// Why a text is refused, and where.
+pub mod faults {
+    pub use iloc_faults::{Fault, fault_of};
+    pub use iloc_told::Mode;
+}
+
 /// Language identifiers.
 pub mod langid {
     pub use crate::together::identifiers as together;
@@ -269,6 +275,11 @@ pub mod laws {
             by_example, data_hashes, data_locale_or_one_fault, data_locales, data_orders,
             subdivisions, wider_data_locales,
         };
+    }
+
+    /// Where the fault of a text stands.
+    pub mod faults {
+        pub use iloc_faults::laws::one_place;
     }
 
     /// What the program writes.

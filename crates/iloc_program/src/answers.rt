@@ -10,13 +10,14 @@ use std::alloc::{AllocError, Global};
 
 /// Answers lines as language identifiers.
 #[derive(Drop)]
-pub(crate) struct Identifiers {
+pub struct Identifiers {
     alloc: Global,
     identifier: LanguageIdentifier,
 }
 
 impl Identifiers {
-    pub(crate) fn new(alloc: Global) -> Self {
+    /// One that keeps its room from line to line.
+    pub fn new(alloc: Global) -> Self {
         Identifiers {
             alloc,
             identifier: LanguageIdentifier::unknown(),
@@ -46,13 +47,14 @@ impl Answers for Identifiers {
 
 /// Answers lines as locales.
 #[derive(Drop)]
-pub(crate) struct Locales {
+pub struct Locales {
     alloc: Global,
     locale: Locale,
 }
 
 impl Locales {
-    pub(crate) fn new(alloc: Global) -> Self {
+    /// One that keeps its room from line to line.
+    pub fn new(alloc: Global) -> Self {
         Locales {
             alloc,
             locale: Locale::unknown(alloc),
@@ -88,7 +90,7 @@ impl Answers for Locales {
 
 /// Answers lines as data locales.
 #[derive(Drop)]
-pub(crate) struct DataLocales;
+pub struct DataLocales;
 
 impl Answers for DataLocales {
     ghost use Rattle.iloc_told.specs.declared.Mode.TheVariants.{Data};

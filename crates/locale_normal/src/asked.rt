@@ -1,6 +1,6 @@
 //! What the arguments ask for.
 
-use iloc_program::Mode;
+use iloc_listing::{Listing, Mode};
 use std::env::FillError;
 use std::rt::Env;
 use std::str;
@@ -16,6 +16,8 @@ pub struct Options {
     pub cleans: bool,
     /// Whether the status says that a line was refused.
     pub tells: bool,
+    /// How lines are listed, if they are.
+    pub listing: Option<Listing>,
     /// The place of the first file among the arguments.
     pub first: usize,
 }
@@ -30,10 +32,60 @@ pub enum Asked {
     Nothing,
 }
 
+// What may be asked in any order, and more than once.
 #[derive(Clone, Copy)]
-enum Word {
+enum Flag {
     Clean,
     ExitStatus,
+    Where,
+    LineNumber,
+    OnlyRefused,
+}
+
+// The flags that were met.
+#[derive(Clone, Copy)]
+struct Flags {
+    cleans: bool,
+    tells: bool,
+    listing: Listing,
+}
+
+impl Flags {
+    fn new() -> Flags {
+        Flags {
+            cleans: false,
+            tells: false,
+            listing: Listing {
+                places: false,
+                numbers: false,
+                only_refused: false,
+            },
+        }
+    }
+
+    fn meet(&mut self, flag: Flag) {
+        match flag {
+            Flag::Clean => self.cleans = true,
+            Flag::ExitStatus => self.tells = true,
+            Flag::Where => self.listing.places = true,
+            Flag::LineNumber => self.listing.numbers = true,
+            Flag::OnlyRefused => self.listing.only_refused = true,
+        }
+    }
+
+    // How lines are listed, if any of it is asked for.
+    fn listing(&self) -> Option<Listing> {
+        let asked = self.listing;
+        if asked.places || asked.numbers || asked.only_refused {
+            return Some(asked);
+        }
+        None
+    }
+}
+
+#[derive(Clone, Copy)]
+enum Word {
+    Flag(Flag),
     Help,
     Version,
     End,
@@ -46,8 +98,11 @@ enum Word {
 
 fn word_of(text: &str) -> Word {
     match text {
-        "-c" | "--clean" => Word::Clean,
-        "-e" | "--exit-status" => Word::ExitStatus,
+        "-c" | "--clean" => Word::Flag(Flag::Clean),
+        "-e" | "--exit-status" => Word::Flag(Flag::ExitStatus),
+        "-w" | "--where" => Word::Flag(Flag::Where),
+        "-n" | "--line-number" => Word::Flag(Flag::LineNumber),
+        "-o" | "--only-refused" => Word::Flag(Flag::OnlyRefused),
         "-h" | "--help" => Word::Help,
         "-V" | "--version" => Word::Version,
         "--" => Word::End,
@@ -75,17 +130,13 @@ fn word_at(rt: &impl Env, at: usize) -> Word {
 /// What the arguments ask for: options, a mode, more options, files. It allocates nothing.
 pub fn read_arguments(rt: &impl Env) -> Asked {
     let mut mode = None;
-    let (mut cleans, mut tells) = (false, false);
+    let mut flags = Flags::new();
     for at in 1..usize::MAX {
         let first = match (word_at(rt, at), mode) {
             (Word::Help, _) => return Asked::Help,
             (Word::Version, _) => return Asked::Version,
-            (Word::Clean, _) => {
-                cleans = true;
-                continue;
-            }
-            (Word::ExitStatus, _) => {
-                tells = true;
+            (Word::Flag(flag), _) => {
+                flags.meet(flag);
                 continue;
             }
             (Word::Mode(found), None) => {
@@ -99,8 +150,9 @@ pub fn read_arguments(rt: &impl Env) -> Asked {
         return match mode {
             Some(mode) => Asked::Lines(Options {
                 mode,
-                cleans,
-                tells,
+                cleans: flags.cleans,
+                tells: flags.tells,
+                listing: flags.listing(),
                 first,
             }),
             None => Asked::Nothing,

@@ -20,6 +20,10 @@ With no FILE, or for a FILE -, it reads standard input.
                      around the line, CR before its end, and what follows . or @;
                      read _ as -
   -e, --exit-status  end with status 1 if a line was refused
+  -w, --where        write after a refusal a tab, the range of the bytes at which
+                     the fault stands, from 0 on, a tab, and these bytes
+  -n, --line-number  write the number of the line and a tab before a refusal
+  -o, --only-refused write nothing for lines that are accepted
   -h, --help         say this
   -V, --version      say the version
       --             end the options
@@ -27,6 +31,9 @@ With no FILE, or for a FILE -, it reads standard input.
 Example: printf 'EN-us\\nen-\\n' | locale_normal locale
 prints:  en-US
          ! Invalid subtag
+
+Example: printf 'EN-us\\nen-US-foo\\n' | locale_normal -n -o --where locale
+prints:  2\t! Invalid subtag\t6..9\tfoo
 
 Status: 0    all is answered
         1    an input cannot be read, the output cannot be written, memory is out,

@@ -108,10 +108,10 @@ impl Seen {
         }
     }
 
-    // Only the answer to a refused line begins with an exclamation mark.
+    // Only the answer to a refused line begins with an exclamation mark, or with the number of the line.
     fn look(&mut self, bytes: &[u8]) {
         for byte in bytes {
-            if self.is_start && *byte == b'!' {
+            if self.is_start && (*byte == b'!' || byte.is_ascii_digit()) {
                 self.is_refused = true;
             }
             self.is_start = *byte == b'\n';

@@ -3,13 +3,15 @@
 //! values that are read in place of others.
 //!
 //! `FailingSink` tells its text and counts its failures. The crate stands on the crates whose calls it makes, up to
-//! `iloc_program`.
+//! `iloc_listing`.
 #![tactic(auto)]
 
 pub mod failing;
 
 pub use failing::FailingSink;
 
+#[cfg(test)]
+mod listings;
 #[cfg(test)]
 mod lists;
 #[cfg(test)]

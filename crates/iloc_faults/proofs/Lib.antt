@@ -1,0 +1,15 @@
+pub mod OnePlace
+pub mod Variants
+pub mod Words
+pub mod Bodies
+pub mod Claims
+pub mod Locales
+pub mod Identifiers
+pub mod DataSteps
+pub mod Answers
+pub mod Going
+pub mod Earlier
+pub mod Bits
+pub mod StepReadings
+pub mod Walks
+pub mod FaultAnswers

@@ -1,0 +1,48 @@
+-- A text has one place of its fault.
+use Rattle.std.proofs.Common.{◌≡◌, ◌⊎◌, inl, inr, ℕ, ◌+◌, List, [], ◌∷◌, ◌++◌, length, refl, sym, ap, ap₂, ◌∙◌, subst, append_assoc}
+use Rattle.iloc_spec_grammar.specs.Syntax.{Text, dashes}
+use Rattle.iloc_told.specs.declared.Mode.{Mode}
+use Rattle.iloc_faults.specs.Places.{GoOn, StandsAtPiece, StandsAtEnd, IsFaultPlace}
+
+-- fewer pieces go on too
+pub fewer : {mode : Mode} (ps qs : List Text) → GoOn mode (ps ++ qs) → GoOn mode ps
+fewer ps qs g = record {
+  text = g.text;
+  accepted = g.accepted;
+  rest = qs ++ g.rest;
+  begins = g.begins ∙ append_assoc ps qs g.rest;
+}
+
+-- two fronts of the same pieces, each followed by one more: they are equal, or one of them begins with the other and its
+-- piece
+same_cut : (xs ys : List Text) (p q : Text) (ps qs : List Text) → xs ++ (p ∷ ps) ≡ ys ++ (q ∷ qs)
+    → ((xs ≡ ys) × (p ≡ q)) ⊎ (((zs : List Text) × (ys ≡ (xs ++ (p ∷ [])) ++ zs)) ⊎ ((zs : List Text) × (xs ≡ (ys ++ (q ∷ [])) ++ zs)))
+same_cut [] [] p q ps qs e = inl (refl, cc)
+same_cut [] (y ∷ ys) p q ps qs e = inr (inl (ys, cc))
+same_cut (x ∷ xs) [] p q ps qs e = inr (inr (xs, cc))
+same_cut (x ∷ xs) (y ∷ ys) p q ps qs e =
+    let head : x ≡ y = cc in
+    let tail : xs ++ (p ∷ ps) ≡ ys ++ (q ∷ qs) = cc in
+    elim (same_cut xs ys p q ps qs tail) [
+      | inl s ↦ inl (ap₂ ◌∷◌ head s.0, s.1)
+      | inr (inl s) ↦ inr (inl (s.0, ap₂ ◌∷◌ (sym head) s.1))
+      | inr (inr s) ↦ inr (inr (s.0, ap₂ ◌∷◌ head s.1))
+    ]
+
+at_pieces : {mode : Mode} {t : Text} {a b c d : ℕ} → StandsAtPiece mode t a b → StandsAtPiece mode t c d → (a ≡ c) × (b ≡ d)
+at_pieces x y = elim (same_cut x.before y.before x.piece y.piece x.after y.after (sym x.cut ∙ y.cut)) [
+  | inl s ↦
+      let first = x.from ∙ ap (λ ps. length (dashes ps)) s.0 ∙ sym y.from in
+      (first, x.to ∙ ap₂ ◌+◌ first (ap length s.1) ∙ sym y.to)
+  | inr (inl s) ↦ absurd (x.no_longer (fewer _ s.0 (subst (GoOn _) s.1 y.go_on)))
+  | inr (inr s) ↦ absurd (y.no_longer (fewer _ s.0 (subst (GoOn _) s.1 x.go_on)))
+]
+
+piece_and_end : {mode : Mode} {t : Text} {a b c d : ℕ} → StandsAtPiece mode t a b → StandsAtEnd mode t c d → ⊥
+piece_and_end x y = x.no_longer (fewer (x.before ++ (x.piece ∷ [])) x.after (subst (GoOn _) (x.cut ∙ sym (append_assoc x.before (x.piece ∷ []) x.after)) y.go_on))
+
+pub one_place : (mode : Mode) (t : Text) (a b c d : ℕ) → IsFaultPlace mode t a b → IsFaultPlace mode t c d → (a ≡ c) × (b ≡ d)
+one_place mode t a b c d (inl x) (inl y) = at_pieces x y
+one_place mode t a b c d (inl x) (inr y) = absurd (piece_and_end x y)
+one_place mode t a b c d (inr x) (inl y) = absurd (piece_and_end y x)
+one_place mode t a b c d (inr x) (inr y) = (x.from ∙ sym y.from, x.to ∙ sym y.to)

@@ -1,0 +1,184 @@
+-- What the walk over the pieces of a text says.
+use Rattle.std.proofs.Common.{◌≡◌, ◌≢◌, inl, inr, ℕ, zero, suc, ◌+◌, ◌-◌, ◌<◌, ◌≤◌, true, false, ◌==◌, List, [], ◌∷◌, ◌++◌, length, get_or, take, drop, Option, Some, None, refl, sym, ap, ◌∙◌, arith, append_assoc, append-nil, length-append, take_all}
+use Rattle.std.specs.List.{slice_split, onto_first}
+use Rattle.std.proofs.lemmas.Bool.{eq-eqb, ne_eqb, cases_lt}
+use Rattle.std.proofs.lemmas.List.{get_or-take, get_or-drop}
+use Rattle.std.proofs.lemmas.List.Concat.{flat_map-append}
+use Rattle.iloc_spec_grammar.specs.Syntax.{Text, pieces, dashes, first_piece}
+use Rattle.iloc_spec_grammar.specs.Meaning.{InvalidExtension}
+use Rattle.iloc_spec_grammar.proofs.PiecesLaws.{at_pieces}
+use Rattle.iloc_subtags.specs.Judging.{error_of}
+use Rattle.iloc_pieces.specs.Left.{IsRemainder, IsNextPiece, piece_left, pieces_left, bytes_left}
+use Rattle.iloc_pieces.specs.declared.left.Left.{Left}
+use Rattle.iloc_pieces.proofs.LeftLemmas.{length_rest, next_at, last_piece}
+use Rattle.iloc_told.specs.declared.Mode.{Mode}
+use Rattle.iloc_faults.specs.declared.Fault.{Fault}
+use Rattle.iloc_faults.specs.declared.state.Part.TheVariants.{Start}
+use Rattle.iloc_faults.specs.declared.state.State.{State}
+use Rattle.iloc_faults.specs.Next.{Reached, started, may_end, next, piece_fault, outcome}
+use Rattle.iloc_faults.specs.States.{IsRead, IsPieceRead, IsFaultFound, reached}
+use Rattle.iloc_faults.proofs.Going.{run, run_append, verdict_run, goes_on, goes_no_longer}
+use Rattle.iloc_faults.proofs.Bits.{none_seen}
+
+-- ---- where a piece ends
+
+onto : (c : ℕ) (ps : List Text) → length (first_piece (onto_first c ps)) ≡ suc (length (first_piece ps))
+onto c [] = refl
+onto c (p ∷ ps) = refl
+
+-- the first piece is as long as no hyphen comes
+first_long : (t : Text) (n : ℕ) → n ≤ length t → ((k : ℕ) → k < n → get_or t k 0 ≢ 45) → (n < length t → get_or t n 0 ≡ 45) → length (first_piece (pieces t)) ≡ n
+unfolding pieces
+first_long [] n l none ends = omega arith
+first_long (c ∷ t) zero l none ends = let e = eq-eqb c 45 (ends (omega arith)) in rw e refl
+first_long (c ∷ t) (suc n) l none ends =
+    let e = ne_eqb c 45 (none 0 (omega arith)) in
+    let h = first_long t n (omega arith) (λ k m. none (suc k) (omega arith)) (λ m. ends (omega arith)) in
+    rw e (onto c (slice_split (λ b. b == 45) t) ∙ ap suc h)
+
+-- from the piece on, no hyphen comes before the end
+pub record IsScanned (l : Left) (end : ℕ) : Type 0 where
+  pub from : l.at ≤ end
+  pub to : end ≤ l.at + l.len
+  pub none : (k : ℕ) → k < end - l.at → get_or l.window.now (l.at + k) 0 ≢ 45
+
+module _ {l : Left} (h : IsRemainder l) where
+  byte_is : (k : ℕ) → k < l.len → get_or (bytes_left l) k 0 ≡ get_or l.window.now (l.at + k) 0
+  byte_is k less = get_or-take l.len (drop l.at l.window.now) k 0 less ∙ get_or-drop l.at l.window.now k 0
+
+  pub scan_starts : IsScanned l l.at
+  scan_starts = record { from = omega arith; to = omega arith; none = λ k less. absurd (omega arith) }
+
+  pub scan_more : (end : ℕ) → IsScanned l end → end < l.at + l.len → get_or l.window.now end 0 ≢ 45 → IsScanned l (end + 1)
+  scan_more end s less other = record {
+    from = let f = s.from in omega arith;
+    to = omega arith;
+    none = λ k m e. by k m e;
+  }
+    where
+      by : (k : ℕ) → k < end + 1 - l.at → get_or l.window.now (l.at + k) 0 ≡ 45 → ⊥
+      by k m e = elim (cases_lt k (end - l.at)) [
+        | inl b ↦ s.none k b e
+        | inr b ↦ let f = s.from in let same : l.at + k ≡ end = omega arith in other (ap (λ i. get_or l.window.now i 0) (sym same) ∙ e)
+      ]
+
+  pub scan_ends : (end : ℕ) → IsScanned l end → (end < l.at + l.len → get_or l.window.now end 0 ≡ 45) → end ≡ l.at + length (piece_left l)
+  scan_ends end s ends =
+      let f = s.from in
+      let t = s.to in
+      let r = length_rest h in
+      let n : length (piece_left l) ≡ end - l.at = first_long (bytes_left l) (end - l.at) (omega arith)
+      (λ k less e. s.none k less (sym (byte_is k (omega arith)) ∙ e))
+      (λ less. byte_is (end - l.at) (omega arith) ∙ ap (λ i. get_or l.window.now i 0) (omega arith) ∙ ends (omega arith)) in
+      omega arith
+
+-- ---- the walk
+
+-- so far each piece came, and the state says what was read
+pub record IsWalked (mode : Mode) (t : Text) (at : Left) (s : State) : Type 0 where
+  pub left : IsRemainder at
+  pub done : List Text
+  pub variants : List Text
+  pub seen : List ℕ
+  pub start : at.at ≡ length (dashes done)
+  pub cut : pieces t ≡ done ++ pieces_left at
+  pub ran : run mode (Some started) done ≡ Some (reached s.part variants seen)
+  pub read : IsRead s at variants seen
+
+-- all of them came
+pub record IsAll (mode : Mode) (t : Text) (s : State) : Type 0 where
+  pub variants : List Text
+  pub seen : List ℕ
+  pub ran : run mode (Some started) (pieces t) ≡ Some (reached s.part variants seen)
+
+pub walk_starts : (mode : Mode) (t : Text) (at : Left) → IsRemainder at → at.at ≡ 0 → bytes_left at ≡ take (length t) t → IsWalked mode t at (record { part = Start; variants = None; seen = 0 })
+walk_starts mode t at h e b = record {
+  left = h;
+  done = [];
+  variants = [];
+  seen = [];
+  start = e;
+  cut = ap pieces (sym (b ∙ take_all (length t) t (omega arith)));
+  ran = refl;
+  read = record { seen_are = none_seen; variants_are = refl; early = tt };
+}
+
+-- nothing was read, and so the piece may not come next
+pub none_else : (at : Left) (o : Option Reached) (r : Option State) → ((s : State) → r ≢ Some s) → IsPieceRead at o r → o ≡ None
+none_else at o None n h = h
+none_else at o (Some s) n h = absurd (n s refl)
+
+-- the pieces that are left begin with the first
+some_left : (l : Left) → (rest : List Text) × (pieces_left l ≡ piece_left l ∷ rest)
+some_left l = at_pieces (λ ps. (rest : List Text) × (ps ≡ first_piece ps ∷ rest)) (λ p ps. (ps, refl)) (bytes_left l)
+
+module _ {mode : Mode} {t : Text} {at : Left} {s : State} (w : IsWalked mode t at s) where
+  -- what was read
+  abbrev now : Reached
+  now = reached s.part w.variants w.seen
+
+  -- one piece more
+  ran_one : (o : Option Reached) → next mode now (piece_left at) ≡ o → run mode (Some started) (w.done ++ (piece_left at ∷ [])) ≡ run mode o []
+  ran_one o e = run_append mode (Some started) w.done (piece_left at ∷ []) ∙ ap (λ q. run mode q (piece_left at ∷ [])) w.ran ∙ ap (λ q. run mode q []) e
+
+  one_cut : (rest : List Text) → pieces_left at ≡ piece_left at ∷ rest → pieces t ≡ (w.done ++ (piece_left at ∷ [])) ++ rest
+  one_cut rest e = w.cut ∙ ap (λ ps. w.done ++ ps) e ∙ sym (append_assoc w.done (piece_left at ∷ []) rest)
+
+  -- the piece may not come next
+  pub walk_stops : next mode now (piece_left at) ≡ None → (f : Fault) → f.refusal ≡ error_of (piece_fault mode s.part (piece_left at)) → f.start ≡ at.at → f.end ≡ at.at + length (piece_left at) → IsFaultFound mode t f
+  walk_stops e f r a b = let rest = some_left at in record {
+    fault = piece_fault mode s.part (piece_left at);
+    has = ap (outcome mode started) (w.cut ∙ ap (λ ps. w.done ++ ps) rest.1) ∙ verdict_run mode started now w.done (piece_left at ∷ rest.0) w.ran ∙ stops rest.0;
+    refusal = r;
+    place = inl (record {
+      before = w.done;
+      piece = piece_left at;
+      after = rest.0;
+      cut = w.cut ∙ ap (λ ps. w.done ++ ps) rest.1;
+      go_on = goes_on mode t w.done (pieces_left at) now w.cut w.ran;
+      no_longer = goes_no_longer mode (w.done ++ (piece_left at ∷ [])) (ran_one None e);
+      from = a ∙ w.start;
+      to = b ∙ ap (λ n. n + length (piece_left at)) (sym a);
+    });
+  }
+    where
+      stops : (rest : List Text) → outcome mode now (piece_left at ∷ rest) ≡ Some (piece_fault mode s.part (piece_left at))
+      stops rest = rw e refl
+
+  -- it may, and another follows
+  pub walk_on : {m : Left} (q : State) → IsPieceRead at (next mode now (piece_left at)) (Some q) → IsNextPiece at m → IsWalked mode t m q
+  walk_on {m = m} q r n = record {
+    left = n.left;
+    done = w.done ++ (piece_left at ∷ []);
+    variants = r.0;
+    seen = r.1;
+    start = let k = next_at w.left n in omega (arith, w.start, k, ap length (flat_map-append (λ (p : Text). 45 ∷ p) w.done (piece_left at ∷ [])), length-append (dashes w.done) (dashes (piece_left at ∷ [])), length-append (piece_left at) []);
+    cut = one_cut (pieces_left m) n.pieces;
+    ran = ran_one (Some (reached q.part r.0 r.1)) r.2;
+    read = r.4 m n;
+  }
+
+  -- it may, and is the last one
+  pub walk_all : (q : State) → IsPieceRead at (next mode now (piece_left at)) (Some q) → at.n ≡ at.len → IsAll mode t q
+  walk_all q r e =
+      let end = last_piece at w.left e r.3 in
+      record {
+        variants = r.0;
+        seen = r.1;
+        ran = ap (run mode (Some started)) (one_cut [] end.one ∙ append-nil (w.done ++ (piece_left at ∷ []))) ∙ ran_one (Some (reached q.part r.0 r.1)) r.2;
+      }
+
+module _ {mode : Mode} {t : Text} {s : State} (w : IsAll mode t s) where
+  last_verdict : outcome mode started (pieces t) ≡ outcome mode (reached s.part w.variants w.seen) []
+  last_verdict = ap (outcome mode started) (sym (append-nil (pieces t))) ∙ verdict_run mode started (reached s.part w.variants w.seen) (pieces t) [] w.ran
+
+  pub all_good : may_end s.part ≡ true → outcome mode started (pieces t) ≡ None
+  all_good e = last_verdict ∙ rw e refl
+
+  pub all_short : may_end s.part ≡ false → (f : Fault) → f.refusal ≡ error_of InvalidExtension → f.start ≡ length t → f.end ≡ length t → IsFaultFound mode t f
+  all_short e f r a b = record {
+    fault = InvalidExtension;
+    has = last_verdict ∙ rw e refl;
+    refusal = r;
+    place = inr (record { go_on = goes_on mode t (pieces t) [] (reached s.part w.variants w.seen) (sym (append-nil (pieces t))) w.ran; from = a; to = b });
+  }

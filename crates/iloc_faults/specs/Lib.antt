@@ -1,0 +1,3 @@
+pub mod Places
+pub mod Next
+pub mod States

@@ -1,0 +1,51 @@
+-- Where the fault of a text stands: everything before it can be completed to a text that means
+-- something, and nothing that includes it can. This library's rule.
+use Rattle.std.specs.Prelude.{◌≡◌, ◌⊎◌, ℕ, ◌+◌, List, [], ◌∷◌, ◌++◌, length}
+use Rattle.iloc_spec_grammar.specs.Syntax.{Text, pieces, dashes, languages, Identifier}
+use Rattle.iloc_spec_grammar.specs.Meaning.{Means, IdentifierMeans}
+use Rattle.iloc_spec_grammar.specs.Meaning as grammar
+use Rattle.iloc_spec_preferences.specs.DataLocales.{DataLocale, DataMeans}
+use Rattle.iloc_told.specs.Told.{HasRefusal}
+use Rattle.iloc_told.specs.declared.Mode.{Mode}
+use Rattle.iloc_told.specs.declared.Mode.TheVariants.{Langid, Locale, Data}
+use Rattle.iloc_faults.specs.declared.Fault.{Fault}
+
+-- the text means something in the mode
+abbrev pub IsAccepted : Mode → Text → Type 0
+IsAccepted Langid t = (i : Identifier) × IdentifierMeans languages (pieces t) i
+IsAccepted Locale t = (M : grammar.Locale) × Means languages t M
+IsAccepted Data t = (d : DataLocale) × DataMeans languages t d
+
+-- some accepted text begins with these pieces
+pub record GoOn (mode : Mode) (ps : List Text) : Type 0 where
+  pub text : Text
+  pub accepted : IsAccepted mode text
+  pub rest : List Text
+  pub begins : pieces text ≡ ps ++ rest
+
+-- the bytes of the first piece with which the pieces of the text no longer go on; before it each
+-- piece has its bytes and a hyphen
+pub record StandsAtPiece (mode : Mode) (t : Text) (start end : ℕ) : Type 0 where
+  pub before : List Text
+  pub piece : Text
+  pub after : List Text
+  pub cut : pieces t ≡ before ++ (piece ∷ after)
+  pub go_on : GoOn mode before
+  pub no_longer : ¬ (GoOn mode (before ++ (piece ∷ [])))
+  pub from : start ≡ length (dashes before)
+  pub to : end ≡ start + length piece
+
+-- the end of the text, if all of its pieces go on: it ends too early
+pub record StandsAtEnd (mode : Mode) (t : Text) (start end : ℕ) : Type 0 where
+  pub go_on : GoOn mode (pieces t)
+  pub from : start ≡ length t
+  pub to : end ≡ length t
+
+-- where the fault of a refused text stands
+abbrev pub IsFaultPlace : Mode → Text → ℕ → ℕ → Type 0
+IsFaultPlace mode t start end = StandsAtPiece mode t start end ⊎ StandsAtEnd mode t start end
+
+-- why the text is refused, and where its fault stands
+pub record IsFault (mode : Mode) (t : Text) (f : Fault) : Type 0 where
+  pub refusal : HasRefusal mode t f.refusal
+  pub place : IsFaultPlace mode t f.start f.end

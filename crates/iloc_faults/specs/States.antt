@@ -1,0 +1,85 @@
+-- What the states of the reader stand for: devices of its proof.
+use Rattle.std.specs.Prelude.{◌≡◌, ◌≢◌, ◌↔◌, ℕ, ◌+◌, ◌-◌, true, List, [], ◌++◌, map, nat_lt, Option, Some, None, ⊤, if◌then◌else◌}
+use Rattle.std.specs.List.{AllByRecursion}
+use Rattle.std.specs.Char.{is_ascii_alphanumeric, to_ascii_lowercase}
+use Rattle.std.specs.Int.{bit_at}
+use Rattle.iloc_spec_grammar.specs.Syntax.{Text, pieces, Variant, IsWord, lower}
+use Rattle.iloc_spec_grammar.specs.Meaning as grammar
+use Rattle.iloc_subtags.specs.Judging.{error_of}
+use Rattle.iloc_pieces.specs.Left.{IsRemainder, IsNextPiece, IsShortPiece, piece_left, pieces_left}
+use Rattle.iloc_pieces.specs.declared.left.Left.{Left}
+use Rattle.iloc_told.specs.declared.Mode.{Mode}
+use Rattle.iloc_faults.specs.declared.Fault.{Fault}
+use Rattle.iloc_faults.specs.declared.state.Part.{Part}
+use Rattle.iloc_faults.specs.declared.state.Part.TheVariants.{Head, Source}
+use Rattle.iloc_faults.specs.declared.state.Stage.{Stage}
+use Rattle.iloc_faults.specs.declared.state.Stage.TheVariants.{Language, Script, Region}
+use Rattle.iloc_faults.specs.declared.state.State.{State}
+use Rattle.iloc_faults.specs.Next.{Reached, started, is_seen, outcome}
+use Rattle.iloc_faults.specs.Places.{IsFaultPlace}
+
+-- the place of the bit of a singleton, in lower case: ten digits, then the letters
+abbrev pub bit_place : ℕ → ℕ
+bit_place c = if nat_lt c 97 then c - 48 else c - 87
+
+-- the bits are those of these singletons
+abbrev pub AreSingletonsSeen : ℕ → List ℕ → Type 0
+AreSingletonsSeen bits seen = (c : ℕ) → is_ascii_alphanumeric c ≡ true
+    → (bit_at bits (bit_place (to_ascii_lowercase c)) ≡ 1) ↔ (is_seen seen c ≡ true)
+
+-- from the first piece up to the other there are these variants
+pub record AreVariantsBetween (first at : Left) (ps : List Text) : Type 0 where
+  pub left : IsRemainder first
+  pub end : at.at + at.len ≡ first.at + first.len
+  pub cut : pieces_left first ≡ ps ++ pieces_left at
+  pub words : AllByRecursion (IsWord Variant) ps
+
+-- the variants before the piece, in lower case; the first of them is given, if there is one
+abbrev pub AreVariantsRead : Option Left → Left → List Text → Type 0
+AreVariantsRead None at vs = vs ≡ []
+AreVariantsRead (Some first) at vs = (ps : List Text) × AreVariantsBetween first at ps × (vs ≡ map lower ps)
+    × (ps ≢ [])
+
+-- no variant comes before a region
+abbrev pub IsEarly : Stage → Option Left → Type 0
+IsEarly Language first = first ≡ None
+IsEarly Script first = first ≡ None
+IsEarly Region first = ⊤
+
+abbrev pub HasNone : Part → Option Left → Type 0
+HasNone (Head stage) first = IsEarly stage first
+HasNone (Source stage) first = IsEarly stage first
+HasNone part first = ⊤
+
+-- before the piece, the state tells these variants and singletons
+pub record IsRead (s : State) (at : Left) (vs : List Text) (seen : List ℕ) : Type 0 where
+  pub seen_are : AreSingletonsSeen s.seen seen
+  pub variants_are : AreVariantsRead s.variants at vs
+  pub early : HasNone s.part s.variants
+
+-- this was read
+abbrev pub reached : Part → List Text → List ℕ → Reached
+reached part vs seen = record { part = part; variants = vs; seen = seen }
+
+-- what is read with the piece is o, and behind the piece the state tells it
+abbrev pub IsPieceRead : Left → Option Reached → Option State → Type 0
+IsPieceRead at o None = o ≡ None
+IsPieceRead at o (Some s) = (vs : List Text) × (seen : List ℕ) × (o ≡ Some (reached s.part vs seen))
+    × IsShortPiece (piece_left at) × ((m : Left) → IsNextPiece at m → IsRead s m vs seen)
+
+-- the same of a word of an identifier
+abbrev pub IsWordRead : Left → Option (Stage × List Text) → Option (Stage × Option Left) → Type 0
+IsWordRead at o None = o ≡ None
+IsWordRead at o (Some w) = (ws : List Text) × (o ≡ Some (w.0, ws)) × IsShortPiece (piece_left at)
+    × IsEarly w.0 w.1 × ((m : Left) → IsNextPiece at m → AreVariantsRead w.1 m ws)
+
+-- a state without variants
+abbrev pub bare : ℕ → Part → State
+bare bits part = record { part = part; variants = None; seen = bits }
+
+-- the text has this outcome, and its place
+pub record IsFaultFound (mode : Mode) (t : Text) (f : Fault) : Type 0 where
+  pub fault : grammar.Fault
+  pub has : outcome mode started (pieces t) ≡ Some fault
+  pub refusal : f.refusal ≡ error_of fault
+  pub place : IsFaultPlace mode t f.start f.end

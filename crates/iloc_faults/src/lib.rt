@@ -1,0 +1,61 @@
+//! Where the fault of a refused text stands.
+//!
+//! The first pieces of a text *go on* if some accepted text begins with them. The fault stands at the first piece with
+//! which the pieces no longer go on. If all of them go on, the text ends too early, and the fault stands at its end. So
+//! everything before the place can be completed, and nothing that includes it can (`specs/Places.antt`).
+//!
+//! `fault_of` reads the text piece by piece (`iloc_pieces`), and keeps what the next piece may be: a `State`. It
+//! promises that it returns `None` exactly for accepted texts, and else the refusal of the parser and the place. It
+//! allocates nothing. The law `one_place` says that a text has one place.
+//!
+//! It stands on the definitions, on pieces (`iloc_pieces`), on the modes of `iloc_told`, and on the reader of data locales
+//! (`iloc_data_parts`).
+#![tactic(auto)]
+
+ghost use Rattle.std.specs.Prelude.{◌≡◌, ◌↔◌, ◌≤◌, None, IfSome, length};
+ghost use Rattle.iloc_faults.specs.Places.{IsAccepted, IsFault};
+
+mod identifier;
+pub mod laws;
+mod state;
+mod step;
+#[cfg(test)]
+mod tests;
+mod walk;
+
+use iloc_subtags::ParseError;
+use iloc_told::Mode;
+
+/// Why a text is refused, and where.
+#[derive(Clone, Debug, Drop, PartialEq, Eq)]
+pub struct Fault {
+    /// Why: what the parser returns.
+    pub refusal: ParseError,
+    /// The first byte of the piece at which the fault stands; the length of the text if that ends too early.
+    pub start: usize,
+    /// The end of the piece; the length of the text if that ends too early.
+    pub end: usize,
+}
+
+/// Why a text is refused in the mode, and where its fault stands; `None` if the text is accepted.
+///
+/// The fault stands at the first piece with which no accepted text begins, or at the end of a text that ends too early.
+/// So what is before it can be completed, and what includes it cannot. This library's rule.
+///
+/// It allocates nothing. It takes time in proportion to the text, but for variants: each is compared with those before it.
+///
+/// ```text
+/// fault_of(Mode::Locale, b"en--US") // Some(Fault { refusal: InvalidSubtag, start: 3, end: 3 })
+/// fault_of(Mode::Locale, b"en-u")   // Some(Fault { refusal: InvalidExtension, start: 4, end: 4 })
+/// fault_of(Mode::Locale, b"en-US")  // None
+/// ```
+pub fn fault_of(mode: Mode, text: &[u8]) -> Option<Fault>
+    ensures accepted { (result ≡ None) ↔ IsAccepted mode text.now }
+    ensures refused { IfSome result (IsFault mode text.now) }
+    ensures inside { IfSome result (λ f. (f.start ≤ f.end) × (f.end ≤ length text.now)) }
+{
+    match mode {
+        Mode::Data => walk::data_fault(text),
+        _ => walk::walk(mode, text),
+    }
+}

@@ -1,0 +1,281 @@
+//! What may come next, and why another piece is refused.
+ghost use Rattle.std.specs.Prelude.{◌≡◌, ◌≢◌, ℕ, ◌^◌, List, Some, true, codes, option_map, slice_index};
+ghost use Rattle.std.specs.Char.{is_ascii_alphanumeric, to_ascii_lowercase};
+ghost use Rattle.iloc_spec_grammar.specs.Syntax.{Text, is_one_byte, is_same, lower};
+ghost use Rattle.iloc_subtags.specs.Judging.{error_of};
+ghost use Rattle.iloc_pieces.specs.Left.{IsRemainder, piece_left};
+ghost use Rattle.iloc_told.specs.declared.Mode.TheVariants as modes;
+ghost use Rattle.iloc_faults.specs.Next as steps;
+ghost use Rattle.iloc_faults.specs.Next.{begins_block, block_next, inside_next, may_begin, part_of, piece_next, subdivision_next, when};
+ghost use Rattle.iloc_faults.specs.States.{IsRead, IsPieceRead, bare, bit_place, reached};
+
+use crate::identifier::read_word;
+use crate::state::{Part, Stage, State, may_end, takes_any};
+use iloc_data_parts::region::named;
+use iloc_pieces::left::{
+    Left, is_alphanumeric, is_attribute, is_between, is_field_key, is_key, is_language, is_private,
+    is_single, is_subtag, is_true, is_variant, singleton,
+};
+use iloc_subtags::{ParseError, Subtag};
+use iloc_told::Mode;
+
+// The subdivision of a data locale, or a `true` that it leaves out.
+#[tactic(auto, using(iloc_pieces::proofs::LeftLemmas::short_attribute))]
+fn read_subdivision(at: Left<'_>) -> Option<Part>
+    requires { IsRemainder at }
+    ensures { result ≡ subdivision_next (piece_left at.entry) }
+{
+    if !is_attribute(at) {
+        return None;
+    }
+    if is_true(at) {
+        return Some(Part::SubdivisionKey);
+    }
+    match Subtag::try_from_utf8(&at.window[at.at..at.at + at.n]) {
+        Ok(word) => when(named(&word).is_some(), Part::SubdivisionValue),
+        Err(_) => None,
+    }
+}
+
+// Whether the piece is `sd`, in whatever case.
+fn is_sd(at: Left<'_>) -> bool
+    requires { IsRemainder at }
+    ensures { result ≡ is_same (lower (piece_left at.entry)) (codes "sd") }
+{
+    if at.n != 2 {
+        return false;
+    }
+    if at.window[at.at].to_ascii_lowercase() != b's' {
+        return false;
+    }
+    at.window[at.at + 1].to_ascii_lowercase() == b'd'
+}
+
+// The part, if this holds.
+#[inline]
+fn when(holds: bool, part: Part) -> Option<Part>
+    ensures { result ≡ when holds part }
+{
+    if holds { Some(part) } else { None }
+}
+
+// What was read once a piece of a block is read too.
+fn read_piece(part: Part, at: Left<'_>) -> Option<Part>
+    requires { IsRemainder at }
+    ensures { result ≡ piece_next part (piece_left at.entry) }
+{
+    match part {
+        Part::FieldKey => when(is_attribute(at), Part::FieldValue),
+        Part::FieldValue => {
+            if is_field_key(at) {
+                return Some(Part::FieldKey);
+            }
+            when(is_attribute(at), Part::FieldValue)
+        }
+        Part::Unicode | Part::Keyword => when(is_attribute(at) || is_key(at), Part::Keyword),
+        Part::Other => {
+            let word = is_subtag(at);
+            when(
+                is_between(at),
+                if word { Part::OtherWord } else { Part::Other },
+            )
+        }
+        Part::OtherWord => when(is_between(at), Part::OtherWord),
+        Part::Private | Part::PrivateWord => when(is_private(at), Part::PrivateWord),
+        Part::Subdivision => when(is_sd(at), Part::SubdivisionKey),
+        Part::SubdivisionKey => read_subdivision(at),
+        Part::SubdivisionValue => when(is_attribute(at) && is_true(at), Part::SubdivisionValue),
+        _ => None,
+    }
+}
+
+// The state with this part, and no variants.
+#[inline]
+fn plain<'a>(seen: u64, part: Option<Part>) -> Option<State<'a>>
+    ensures { result ≡ option_map (bare seen) part }
+{
+    match part {
+        Some(part) => Some(State {
+            part,
+            variants: None,
+            seen,
+        }),
+        None => None,
+    }
+}
+
+// What was read once a piece is read that begins no block.
+fn read_inside<'a>(mode: Mode, state: State<'a>, at: Left<'a>) -> Option<State<'a>>
+    requires left { IsRemainder at }
+    requires read { (vs : List Text) × (seen : List ℕ) × IsRead state at vs seen }
+    ensures { (vs : List Text) (seen : List ℕ) → IsRead state.entry at.entry vs seen
+        → IsPieceRead at.entry (inside_next mode state.entry.part vs seen (piece_left at.entry)) result }
+{
+    let seen = state.seen;
+    match state.part {
+        Part::Start => plain(seen, when(is_language(at), Part::Head(Stage::Language))),
+        Part::Head(stage) => match read_word(mode, stage, state.variants, at) {
+            Some((stage, variants)) => Some(State {
+                part: Part::Head(stage),
+                variants,
+                seen,
+            }),
+            None => None,
+        },
+        Part::Transform => {
+            if is_field_key(at) {
+                return plain(seen, Some(Part::FieldKey));
+            }
+            plain(seen, when(is_language(at), Part::Source(Stage::Language)))
+        }
+        Part::Source(stage) => {
+            if is_field_key(at) {
+                return plain(seen, Some(Part::FieldKey));
+            }
+            match read_word(mode, stage, state.variants, at) {
+                Some((stage, variants)) => Some(State {
+                    part: Part::Source(stage),
+                    variants,
+                    seen,
+                }),
+                None => None,
+            }
+        }
+        _ => plain(seen, read_piece(state.part, at)),
+    }
+}
+
+// The bit of a singleton, in lower case.
+#[inline]
+fn bit_of(byte: u8) -> u64
+    requires letter { is_ascii_alphanumeric byte ≡ true }
+    requires low { to_ascii_lowercase byte ≡ byte }
+    ensures { result ≡ 2 ^ bit_place byte }
+{
+    if byte < b'a' {
+        1 << (byte - b'0')
+    } else {
+        1 << (byte - 87)
+    }
+}
+
+// What was read with the singleton, in lower case.
+#[inline]
+fn part_of(byte: u8) -> Part
+    ensures { result ≡ part_of byte }
+{
+    match byte {
+        b't' => Part::Transform,
+        b'u' => Part::Unicode,
+        b'x' => Part::Private,
+        _ => Part::Other,
+    }
+}
+
+// Whether a block may begin with the piece after the part: it is a letter or digit.
+#[inline]
+fn may_begin(part: Part, at: Left<'_>) -> bool
+    requires left { IsRemainder at }
+    requires single { is_one_byte (piece_left at) ≡ true }
+    ensures { result ≡ may_begin part (slice_index (piece_left at.entry) 0) }
+{
+    may_end(part) && is_alphanumeric(at)
+}
+
+// What was read with the singleton of a locale too, if a block may begin with it.
+fn read_block<'a>(state: State<'a>, at: Left<'a>) -> Option<State<'a>>
+    requires left { IsRemainder at }
+    requires single { is_one_byte (piece_left at) ≡ true }
+    ensures { (vs : List Text) (seen : List ℕ) → IsRead state.entry at.entry vs seen
+        → IsPieceRead at.entry (block_next modes.Locale state.entry.part seen
+        (slice_index (piece_left at.entry) 0)) result }
+{
+    if !may_begin(state.part, at) {
+        return None;
+    }
+    let byte = singleton(at);
+    let bit = bit_of(byte);
+    if state.seen & bit != 0 {
+        return None;
+    }
+    Some(State {
+        part: part_of(byte),
+        variants: None,
+        seen: state.seen | bit,
+    })
+}
+
+// The same of a data locale: `u` alone, after the identifier.
+fn read_data_block<'a>(state: State<'a>, at: Left<'a>) -> Option<State<'a>>
+    requires left { IsRemainder at }
+    requires single { is_one_byte (piece_left at) ≡ true }
+    ensures { (vs : List Text) (seen : List ℕ) → IsRead state.entry at.entry vs seen
+        → IsPieceRead at.entry (block_next modes.Data state.entry.part seen
+        (slice_index (piece_left at.entry) 0)) result }
+{
+    match state.part {
+        Part::Head(_) if singleton(at) == b'u' => plain(state.seen, Some(Part::Subdivision)),
+        _ => None,
+    }
+}
+
+// The same in the mode.
+fn read_singleton<'a>(mode: Mode, state: State<'a>, at: Left<'a>) -> Option<State<'a>>
+    requires left { IsRemainder at }
+    requires single { is_one_byte (piece_left at) ≡ true }
+    ensures { (vs : List Text) (seen : List ℕ) → IsRead state.entry at.entry vs seen
+        → IsPieceRead at.entry (block_next mode state.entry.part seen
+        (slice_index (piece_left at.entry) 0)) result }
+{
+    match mode {
+        Mode::Langid => None,
+        Mode::Locale => read_block(state, at),
+        Mode::Data => read_data_block(state, at),
+    }
+}
+
+// Whether the piece begins a block after the part.
+#[inline]
+fn begins_block(part: Part, at: Left<'_>) -> bool
+    requires { IsRemainder at }
+    ensures { result ≡ begins_block part (piece_left at.entry) }
+{
+    is_single(at) && !takes_any(part)
+}
+
+/// What was read with the piece too; `None` if the piece may not come next.
+pub fn step<'a>(mode: Mode, state: State<'a>, at: Left<'a>) -> Option<State<'a>>
+    requires left { IsRemainder at }
+    requires read { (vs : List Text) × (seen : List ℕ) × IsRead state at vs seen }
+    ensures { (vs : List Text) (seen : List ℕ) → IsRead state.entry at.entry vs seen
+        → IsPieceRead at.entry (steps.next mode (reached state.entry.part vs seen) (piece_left at.entry)) result }
+{
+    if begins_block(state.part, at) {
+        return read_singleton(mode, state, at);
+    }
+    read_inside(mode, state, at)
+}
+
+/// Why the piece, which may not come next, is refused.
+pub fn refusal(mode: Mode, part: Part, at: Left<'_>) -> ParseError
+    requires { IsRemainder at }
+    ensures { result ≡ error_of (steps.piece_fault mode part (piece_left at.entry)) }
+{
+    match mode {
+        Mode::Langid => (),
+        _ => {
+            if begins_block(part, at) {
+                if may_begin(part, at) {
+                    return ParseError::DuplicatedExtension;
+                }
+                return ParseError::InvalidExtension;
+            }
+        }
+    }
+    match part {
+        Part::Start => ParseError::InvalidLanguage,
+        Part::Head(_) => ParseError::InvalidSubtag,
+        Part::Source(_) if is_variant(at) => ParseError::InvalidSubtag,
+        _ => ParseError::InvalidExtension,
+    }
+}

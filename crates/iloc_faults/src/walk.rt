@@ -1,0 +1,83 @@
+//! Walks over the pieces of a text until one may not come next.
+ghost use Rattle.std.specs.Prelude.{◌≡◌, ◌↔◌, ◌+◌, None, IfSome, length};
+ghost use Rattle.iloc_spec_grammar.specs.Syntax.{pieces};
+ghost use Rattle.iloc_pieces.specs.Left.{IsRemainder, piece_left};
+ghost use Rattle.iloc_told.specs.declared.Mode.TheVariants as modes;
+ghost use Rattle.iloc_faults.specs.Next.{started, outcome};
+ghost use Rattle.iloc_faults.specs.Places.{IsAccepted, IsFault};
+ghost use Rattle.iloc_faults.specs.States.{IsFaultFound};
+
+use crate::Fault;
+use crate::state::{Part, State, may_end};
+use crate::step::{refusal, step};
+use iloc_data_parts::DataParts;
+use iloc_pieces::left::{Left, is_last, left_in, next};
+use iloc_subtags::ParseError;
+use iloc_told::Mode;
+
+// Where the piece ends.
+fn end_of(at: Left<'_>) -> usize
+    requires { IsRemainder at }
+    ensures { result ≡ at.entry.at + length (piece_left at.entry) }
+{
+    let mut end = at.at;
+    let stop = at.at + at.len;
+    while end < stop && at.window[end] != b'-' {
+        end += 1;
+    }
+    end
+}
+
+/// Why a text is refused as an identifier or a locale, and the place of its fault; `None` if it is accepted. Of a data
+/// locale the place alone counts.
+pub fn walk(mode: Mode, text: &[u8]) -> Option<Fault>
+    ensures good { result ≡ None → outcome mode started (pieces text.now) ≡ None }
+    ensures bad { IfSome result (IsFaultFound mode text.now) }
+{
+    let mut at = left_in(text, text.len());
+    let mut state = State {
+        part: Part::Start,
+        variants: None,
+        seen: 0,
+    };
+    'pieces: loop {
+        let Some(then) = step(mode, state, at) else {
+            return Some(Fault {
+                refusal: refusal(mode, state.part, at),
+                start: at.at,
+                end: end_of(at),
+            });
+        };
+        state = then;
+        if is_last(at) {
+            break;
+        }
+        at = next(at);
+    }
+    if may_end(state.part) {
+        return None;
+    }
+    Some(Fault {
+        refusal: ParseError::InvalidExtension,
+        start: text.len(),
+        end: text.len(),
+    })
+}
+
+/// Why a text is no data locale, and the place of its fault; `None` if it is one.
+pub fn data_fault(text: &[u8]) -> Option<Fault>
+    ensures accepted { (result ≡ None) ↔ IsAccepted modes.Data text.now }
+    ensures refused { IfSome result (IsFault modes.Data text.now) }
+{
+    let Err(refusal) = DataParts::try_from_utf8(text) else {
+        return None;
+    };
+    match walk(Mode::Data, text) {
+        Some(found) => Some(Fault {
+            refusal,
+            start: found.start,
+            end: found.end,
+        }),
+        None => None,
+    }
+}
