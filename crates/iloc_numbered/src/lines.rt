@@ -57,7 +57,8 @@ fn end_line<L: Lists>(
 ) -> Result<u64, RunError>
     ensures next { IfOk result (λ next. next ≡ number + 1) }
     ensures pending { OnOk result (pending.new.items ≡ []) }
-    ensures replies { OnOk result (AddsText (L.is_entry listing number (pending.old.items ++ end.now))
+    ensures replies { OnOk result (AddsText
+        (L.is_entry listing number (pending.old.items ++ end.now))
         (held replies.old) (held replies.new)) }
 {
     let Some(next) = number.checked_add(1) else {
