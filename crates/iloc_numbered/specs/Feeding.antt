@@ -1,5 +1,5 @@
--- What becomes of a piece of an input, and of the line that is pending when it comes. This library's
--- rule.
+-- What becomes of a piece of an input, and of the line that is pending when it comes. This
+-- library's rule.
 use Rattle.std.specs.Prelude.{◌≡◌, ℕ, ◌+◌, List, ◌++◌, length}
 use Rattle.std.specs.List.{AllByRecursion}
 use Rattle.iloc_spec_grammar.specs.Syntax.{Text}
@@ -8,8 +8,8 @@ use Rattle.iloc_numbered.specs.Numbered.{AreEntries, IsListing}
 
 -- The pending bytes and the piece are lines that end, whose entries were added, and what is pending
 -- then.
-pub record Feeds (IsEntry : ℕ → Text → Text → Type 0) (n : ℕ) (pending piece old new pending' : Text)
-    (next : ℕ) : Type 0 where
+pub record Feeds (IsEntry : ℕ → Text → Text → Type 0) (n : ℕ)
+    (pending piece old new pending' : Text) (next : ℕ) : Type 0 where
   pub lines : List Text
   pub added : Text
   pub are_lines : AllByRecursion IsOneLine lines
