@@ -12,7 +12,7 @@ use Rattle.iloc_fronts.specs.Words.{word_number}
 use Rattle.iloc_pieces.specs.Left.{IsRemainder, IsNextPiece, IsShortPiece, piece_left, pieces_left, bytes_left}
 use Rattle.iloc_pieces.specs.declared.left.Left.{Left}
 use Rattle.iloc_pieces.proofs.LeftLemmas.{cut_after, length_rest, last_piece, short_variant}
-use Rattle.iloc_pieces.proofs.WordNumbers.{variant_fits, word_order}
+use Rattle.iloc_fronts.proofs.WordNumbers.{variant_fits, word_order}
 use Rattle.iloc_faults.specs.States.{AreVariantsBetween}
 
 -- no variant is left between them
