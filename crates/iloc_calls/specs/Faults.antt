@@ -2,7 +2,7 @@
 use Rattle.std.specs.Prelude.{◌≡◌, ℕ}
 use Rattle.iloc_spec_grammar.specs.Syntax.{Text}
 use Rattle.iloc_told.specs.declared.Mode.{Mode}
-use Rattle.iloc_faults.specs.Places.{IsAccepted, IsPlace}
+use Rattle.iloc_faults.specs.Places.{IsAccepted, IsFaultPlace}
 use Rattle.iloc_calls.specs.Answers.{JudgedAs}
 use Rattle.iloc_calls.specs.declared.status.Status.{Status}
 use Rattle.iloc_calls.specs.declared.status.Status.TheVariants.{Done, OutOfMemory}
@@ -12,4 +12,4 @@ use Rattle.iloc_calls.specs.declared.status.Status.TheVariants.{Done, OutOfMemor
 abbrev pub FindsFault : Mode → Text → ℕ × ℕ → ℕ × ℕ → Status → Type 0
 FindsFault mode t before after Done = IsAccepted mode t × (after ≡ before)
 FindsFault mode t before after OutOfMemory = ⊥
-FindsFault mode t before (start, end) status = JudgedAs mode t status × IsPlace mode t start end
+FindsFault mode t before (start, end) status = JudgedAs mode t status × IsFaultPlace mode t start end
