@@ -257,19 +257,30 @@ def worth(path, line):
     return path.split("/")[1].startswith("iloc_"), is_part, "self." in line, "=>" in line
 
 
+def calls_in(path):
+    """Yields each call of a file, as its key or as a name that only one call has, with the number and text of its line."""
+    for number, line, known, types in lines_of(path):
+        if line.startswith("//") or "fn " in line:
+            continue
+        for key, name in made_on(line, known, types):
+            if key or name in only_ones():
+                yield key, key or only_ones()[name], number, line
+
+
+def tried_keys():
+    """Returns the keys of the calls that tests, programs of rows and users' programs make."""
+    paths = [it for it in files() if re.match(rf"crates/(test_|example_|{CORE}/)", it)]
+    return {key for path in paths for _, key, _, _ in calls_in(path)}
+
+
 @functools.lru_cache(maxsize=None)
 def examples():
     """Returns for each call's key the path, the number and the text of a statement that makes it. A whole statement
     comes before a part of one. What is told by the name alone counts only if no line is told by the type."""
     found, guessed = {}, {}
     for path in files():
-        for number, line, known, types in lines_of(path):
-            if line.startswith("//") or "fn " in line:
-                continue
-            for key, name in made_on(line, known, types):
-                into = found if key else guessed if name in only_ones() else None
-                if into is not None:
-                    into.setdefault(key or only_ones()[name], []).append((path, number, line))
+        for is_typed, key, number, line in calls_in(path):
+            (found if is_typed else guessed).setdefault(key, []).append((path, number, line))
     return {key: best(lines) for key, lines in {**guessed, **found}.items()}
 
 

@@ -1,9 +1,9 @@
 """The public functions and implementations without a mutant: tools/edits --missing.
 
 It looks at the crates on which the public crate, the library for C, the module for browsers and the program stand, and
-at these. There each `pub fn` with a body, each default method of a trait, and each `impl` of a trait for a public type or
-a parameter needs a mutant: a file of edits/ that changes a text of its body. A body that is `{}`, as that of a law, has
-no text to change, and neither has a derived implementation.
+at these. There each `pub fn`, each default method of a trait, and each `impl` of a trait for a public type or a parameter
+needs a mutant: a file of edits/ that changes a text of its body. None is asked for an empty body, nor for a law, which
+takes and returns nothing; a derived implementation has no text.
 
 A line of tools/no_mutants.txt is what has none, as it is printed here, then `|`, and the reason. In it `*` stands for any
 text. A line that fits nothing without a mutant is a fault. This file needs nothing but Python."""
@@ -20,6 +20,7 @@ UNREAD = re.compile(rb"""'(?:\\[^\n]|[^'\\\n])'|"(?:\\.|[^"\\])*"|//[^\n]*""", r
 TYPE = re.compile(rb"^pub (?:struct|enum|type) (\w+)", re.M)
 IMPL = re.compile(rb"^(?:unsafe )?impl\b[^{;]*\{", re.M)
 PUBLIC = re.compile(rb"\bpub (?:const |unsafe |final )*\Z")
+LAW = re.compile(rb"fn \w+(?:<[^>]*>)?\(\)\s*(?:ensures|\{)")
 
 
 def read(path):
@@ -48,8 +49,9 @@ def edits_of(crate):
 
 
 def places(text, texts):
-    """Yields where a mutant changes the sources, as (file, place): the first byte that is another one."""
-    file, old = "", b""
+    """Yields where a mutant changes the sources, as (file, place): behind what the old text and the new one share. What an
+    earlier pair of lines replaced is found by no later one."""
+    texts, file, old = dict(texts), "", b""
     for line in text.split(b"\n"):
         key, _, rest = line.partition(b": ")
         if key == b"file":
@@ -57,8 +59,9 @@ def places(text, texts):
         elif key == b"old":
             old = rest
         elif line[:4] == b"new:" and old and old in texts.get(file, b""):
-            same = len(os.path.commonprefix([old, line[5:]]))
-            yield file, texts[file].find(old) + min(same, len(old) - 1)
+            at = texts[file].find(old)
+            yield file, at + len(os.path.commonprefix([old, line[5:]]))
+            texts[file] = texts[file].replace(old, b"\0" * len(old), 1)
 
 
 def in_one_line(head):
@@ -77,7 +80,7 @@ def is_for_public(head, types):
 def wanted(source, types):
     """Yields the name of each thing that needs a mutant, with the ranges of its bodies."""
     bare = without_texts(source)
-    every = [it for it in functions(bare) if bare[it[1] : it[2]].strip(b"{} \n")]
+    every = [it for it in functions(bare) if bare[it[1] : it[2]].strip(b"{} \n") and not LAW.match(bare, it[0])]
     for start, body, end, name, owner in every:
         if owner[:5] == "trait" or PUBLIC.search(bare, 0, start):
             yield f"{in_one_line(owner)}::{name}" if owner else name, [(body, end)]
