@@ -82,12 +82,12 @@ def call_rows(call, module):
     facts = [f"- Needs: {it}" for it in call.needs] + refusal_rows(call)
     facts += [f"- Memory: {call.memory}"] if call.memory else []
     facts += tried_row(f"{module}::{call.title}") + ([example_row(call)] if example_row(call) else [])
-    facts += [f"- States: `{it.fact}`" for it in call.item.clauses if is_law(call.item)]
-    labels = ", ".join(f"`{it.label}`" for it in call.item.clauses if it.label and it.kind != "requires")
+    facts += [f"- States: `{it.fact}`" for it in call.item.stated if is_law(call.item)]
+    labels = ", ".join(f"`{it.label}`" for it in call.item.stated if it.label and it.kind != "requires")
     named = f", clauses {labels}" if labels else ""
-    if call.item.clauses:
+    if call.item.stated:
         path = call.item.path
-        facts.append(f"- Contract: [{without_prefix(path, 'crates/')}](../../{path}#L{call.item.number}){named}")
+        facts.append(f"- Contract: [{without_prefix(path, 'crates/')}](../../{path}#L{call.item.line}){named}")
     return rows + facts + [""]
 
 
