@@ -9,8 +9,9 @@ import re
 
 import api_words
 from api_model import entries
-from api_source import CORE, home_of, joined, libraries, read
+from api_source import CORE, home_of, libraries, read
 from common import ROOT, without_prefix, without_suffix
+from trusted_rt import joined
 
 # The longest statement that is shown.
 LONGEST = 120
@@ -244,9 +245,9 @@ def whole(path, number, line):
         if len(lines[last + 1]) - len(lines[last + 1].lstrip()) <= depth and not said.startswith((")", "}", "]")):
             break
         last += 1
-        if said.endswith(";") and is_whole(joined(lines[first : last + 1])):
+        if said.endswith(";") and is_whole(joined(" ".join(lines[first : last + 1]))):
             break
-    text = re.sub(r" (?=[.?])", "", joined(lines[first : last + 1]))
+    text = re.sub(r" (?=[.?])", "", joined(" ".join(lines[first : last + 1])))
     return text if is_whole(text) and len(text) <= LONGEST else line
 
 
