@@ -1,5 +1,5 @@
 -- The pieces of a normal text, told from the left, are the parts of its locale.
-use Rattle.std.proofs.Common.{◌≡◌, ◌≢◌, ℕ, ◌≤◌, ◌==◌, Bool, true, false, cond, List, [], ◌∷◌, ◌++◌, length, flat_map, Option, Some, None, IfSome, option_map, option_to_list, nat_le, codes, refl, sym, ap, ◌∙◌, subst, arith, append_assoc, append-nil, true≢false}
+use Rattle.std.proofs.Common.{◌≡◌, ◌≢◌, ℕ, ◌≤◌, ◌==◌, Bool, true, false, cond, List, [], ◌∷◌, ◌++◌, length, map, flat_map, Option, Some, None, IfSome, option_map, option_to_list, nat_le, codes, refl, sym, ap, ◌∙◌, subst, arith, append_assoc, append-nil, true≢false}
 use Rattle.std.specs.Char.{to_ascii_lowercase, is_ascii_alphanumeric}
 use Rattle.std.specs.List.{AllByRecursion}
 use Rattle.std.proofs.lemmas.Bool.{false_from_ne_true, and_parts}
@@ -19,7 +19,7 @@ use Rattle.iloc_spec_grammar.proofs.ValuesLaws.{value_words, value_identifier, l
 use Rattle.iloc_spec_grammar.proofs.WordsLaws.{length-language, length-script, length-region, length-variant, length-attribute, length-unicode_key, length-transform_key, region_no_script, variant_no_script, variant_no_region}
 use Rattle.iloc_pieces.specs.Left.{IsShortPiece}
 use Rattle.iloc_pieces.proofs.LeftLemmas.{short_word}
-use Rattle.iloc_kinds.specs.Kinds.{Part, of_kind, identifier_parts, optional_parts, fields_parts, block_parts, transform_parts, unicode_parts, others_parts, private_parts, extensions_parts, parts_of, IsTextOf}
+use Rattle.iloc_kinds.specs.Kinds.{Part, of_kind, identifier_parts, optional_parts, fields_parts, block_parts, transform_parts, unicode_parts, others_parts, private_parts, extensions_parts, parts_of, IsOfKind, IsTextOf}
 use Rattle.iloc_kinds.specs.Steps.{AreShort, begun, inside, step, told, word_kind}
 use Rattle.iloc_kinds.specs.declared.kind.Kind.{Kind}
 use Rattle.iloc_kinds.specs.declared.kind.Kind.TheVariants as kinds
@@ -31,8 +31,21 @@ use Rattle.iloc_kinds.specs.declared.state.State.TheVariants as states
 abbrev pub IsPlain : Text → Type 0
 IsPlain p = IsShortPiece p × IsHyphenFree p
 
-plain_word : (k : words.Kind) → Bounds 8 k → (p : Text) → IsWord k p → IsPlain p
+pub plain_word : (k : words.Kind) → Bounds 8 k → (p : Text) → IsWord k p → IsPlain p
 plain_word k b p h = (short_word k b p h, word_hyphen_free k p h)
+
+pub plain_of : (w : Part) → IsOfKind w → IsPlain w.1
+plain_of (kinds.Language, p) h = plain_word (Language languages) languages_table.most p h
+plain_of (kinds.Script, p) h = plain_word Script tt p h
+plain_of (kinds.Region, p) h = plain_word Region tt p h
+plain_of (kinds.Variant, p) h = plain_word Variant tt p h
+plain_of (kinds.Singleton, p) h = plain_word PrivateSubtag tt p h.0
+plain_of (kinds.Attribute, p) h = plain_word Attribute tt p h
+plain_of (kinds.Key, p) h = plain_word UnicodeKey tt p h
+plain_of (kinds.Value, p) h = plain_word Attribute tt p h
+plain_of (kinds.Field, p) h = plain_word TransformKey tt p h
+plain_of (kinds.Other, p) h = plain_word Subtag tt p h
+plain_of (kinds.Private, p) h = plain_word PrivateSubtag tt p h
 
 -- ---- what a word is, by the state
 
@@ -172,32 +185,34 @@ Begins qs = (s : State) → is_open s ≡ true → told s qs ≡ told states.Oth
 
 pub record AreTold (s : State) (ps : List Text) (parts : List Part) : Type 0 where
   pub each : (qs : List Text) → Begins qs → told s (ps ++ qs) ≡ parts ++ told states.Other qs
-  pub plain : AllByRecursion IsPlain ps
+  pub words : AllByRecursion IsOfKind parts
 
 nothing_told : (s : State) → is_open s ≡ true → AreTold s [] []
-nothing_told s o = record { each = λ qs begins. begins s o; plain = tt }
+nothing_told s o = record { each = λ qs begins. begins s o; words = tt }
 
-one_told : {s next : State} {k : Kind} {ps : List Text} {parts : List Part} (p : Text) → step s p ≡ (k, next) → IsPlain p
+one_told : {s next : State} {k : Kind} {ps : List Text} {parts : List Part} (p : Text) → step s p ≡ (k, next) → IsOfKind (k, p)
     → AreTold next ps parts → AreTold s (p ∷ ps) ((k, p) ∷ parts)
-one_told {k = k} {ps = ps} p is plain h = record {
+one_told {k = k} {ps = ps} p is word h = record {
   each = λ qs begins. ap (λ w. (w.0, p) ∷ told w.1 (ps ++ qs)) is ∙ ap (λ ws. (k, p) ∷ ws) (h.each qs begins);
-  plain = (plain, h.plain);
+  words = (word, h.words);
 }
 
 -- words of one kind, which leave the state as it is
-each_told : (s : State) (k : Kind) (K : words.Kind) → Bounds 8 K → ((p : Text) → IsWord K p → step s p ≡ (k, s))
+each_told : (s : State) (k : Kind) (K : words.Kind) → ((p : Text) → IsWord K p → IsOfKind (k, p))
+    → ((p : Text) → IsWord K p → step s p ≡ (k, s))
     → (ws : List Text) → AllByRecursion (IsWord K) ws
     → {ps : List Text} {parts : List Part} → AreTold s ps parts → AreTold s (ws ++ ps) (of_kind k ws ++ parts)
 each_told s k K b is [] h rest = rest
 each_told s k K b is (w ∷ ws) h rest =
-    one_told w (is w h.0) (plain_word K b w h.0) (each_told s k K b is ws h.1 rest)
+    one_told w (is w h.0) (b w h.0) (each_told s k K b is ws h.1 rest)
 
-optional_told : (s : State) (k : Kind) (K : words.Kind) → Bounds 8 K → ((p : Text) → IsWord K p → step s p ≡ (k, s))
+optional_told : (s : State) (k : Kind) (K : words.Kind) → ((p : Text) → IsWord K p → IsOfKind (k, p))
+    → ((p : Text) → IsWord K p → step s p ≡ (k, s))
     → (o : Option Text) → IfSome o (IsWord K)
     → {ps : List Text} {parts : List Part} → AreTold s ps parts
     → AreTold s (option_to_list o ++ ps) (of_kind k (option_to_list o) ++ parts)
 optional_told s k K b is None h rest = rest
-optional_told s k K b is (Some w) h rest = one_told w (is w h) (plain_word K b w h) rest
+optional_told s k K b is (Some w) h rest = one_told w (is w h) (b w h) rest
 
 -- the same of equal lists
 told_as : {s : State} {ps qs : List Text} {xs ys : List Part} → ps ≡ qs → xs ≡ ys → AreTold s ps xs → AreTold s qs ys
@@ -214,9 +229,9 @@ after_language_told : {s : State} → TakesWords s → (i : Identifier) → HasW
 after_language_told {s} takes i h {ps} {parts} rest =
     told_as (three (option_to_list i.script) (option_to_list i.region) i.variants ps)
     (three (of_kind kinds.Script (option_to_list i.script)) (of_kind kinds.Region (option_to_list i.region)) (of_kind kinds.Variant i.variants) parts)
-    (optional_told s kinds.Script Script tt takes.script i.script h.script
-    (optional_told s kinds.Region Region tt takes.region i.region h.region
-    (each_told s kinds.Variant Variant tt takes.variant i.variants h.variants rest)))
+    (optional_told s kinds.Script Script (λ p h. h) takes.script i.script h.script
+    (optional_told s kinds.Region Region (λ p h. h) takes.region i.region h.region
+    (each_told s kinds.Variant Variant (λ p h. h) takes.variant i.variants h.variants rest)))
 
 -- an identifier, in front or after `t`
 identifier_told : {first s : State} → ((p : Text) → IsWord (Language languages) p → step first p ≡ (kinds.Language, s)) → TakesWords s
@@ -224,11 +239,11 @@ identifier_told : {first s : State} → ((p : Text) → IsWord (Language languag
     → {ps : List Text} {parts : List Part} → AreTold s ps parts
     → AreTold first (identifier_pieces i ++ ps) (identifier_parts i ++ parts)
 identifier_told is takes i h rest =
-    one_told i.language (is i.language h.language) (plain_word (Language languages) languages_table.most i.language h.language)
+    one_told i.language (is i.language h.language) h.language
     (after_language_told takes i h rest)
 
 -- fields: the first key comes in one state, and each other in another
-module _ (s : State) (k : Kind) (K : words.Kind) (b : Bounds 8 K) (o : is_open s ≡ true) (key : (p : Text) → IsWord K p → step s p ≡ (k, s)) (value : (p : Text) → IsWord Attribute p → step s p ≡ (kinds.Value, s)) where
+module _ (s : State) (k : Kind) (K : words.Kind) (b : (p : Text) → IsWord K p → IsOfKind (k, p)) (o : is_open s ≡ true) (key : (p : Text) → IsWord K p → step s p ≡ (k, s)) (value : (p : Text) → IsWord Attribute p → step s p ≡ (kinds.Value, s)) where
   abbrev pub AreFields : Fields → Type 0
   AreFields fs = AllByRecursion (λ f. IsWord K f.0 × AllByRecursion (IsWord Attribute) f.1) fs
 
@@ -236,33 +251,33 @@ module _ (s : State) (k : Kind) (K : words.Kind) (b : Bounds 8 K) (o : is_open s
       → (fs : Fields) → AreFields fs → AreTold first (fields_pieces fs) (fields_parts k fs)
   fields_told first i is [] h = nothing_told first i
   fields_told first i is (f ∷ fs) h =
-      one_told f.0 (is f.0 h.0.0) (plain_word K b f.0 h.0.0)
-      (each_told s kinds.Value Attribute tt value f.1 h.0.1 (fields_told s o key fs h.1))
+      one_told f.0 (is f.0 h.0.0) (b f.0 h.0.0)
+      (each_told s kinds.Value Attribute (λ p h. h) value f.1 h.0.1 (fields_told s o key fs h.1))
 
 -- what follows `u`
 unicode_told : (u : Unicode) → AllByRecursion (IsWord Attribute) u.attributes
     → AllByRecursion (λ f. IsWord UnicodeKey f.0 × AllByRecursion (IsWord Attribute) f.1) u.keywords
     → AreTold states.Attributes (unicode_pieces u) (of_kind kinds.Attribute u.attributes ++ fields_parts kinds.Key u.keywords)
 unicode_told u h f =
-    each_told states.Attributes kinds.Attribute Attribute tt attribute_in u.attributes h
-    (fields_told states.Keywords kinds.Key UnicodeKey tt refl key_in_keywords value_in_keywords states.Attributes refl key_in_attributes u.keywords f)
+    each_told states.Attributes kinds.Attribute Attribute (λ p h. h) attribute_in u.attributes h
+    (fields_told states.Keywords kinds.Key UnicodeKey (λ p h. h) refl key_in_keywords value_in_keywords states.Attributes refl key_in_attributes u.keywords f)
 
 -- what follows `t`
 transform_told : (o : Option Identifier) (fs : Fields) → IfSome o (HasWords languages)
     → AllByRecursion (λ f. IsWord TransformKey f.0 × AllByRecursion (IsWord Attribute) f.1) fs
     → AreTold states.Transform (optional_pieces o ++ fields_pieces fs) (optional_parts o ++ fields_parts kinds.Field fs)
 transform_told None fs h f =
-    fields_told states.Fields kinds.Field TransformKey tt refl field_in_fields value_in_fields states.Transform refl field_in_transform fs f
+    fields_told states.Fields kinds.Field TransformKey (λ p h. h) refl field_in_fields value_in_fields states.Transform refl field_in_transform fs f
 transform_told (Some i) fs h f =
     identifier_told language_in_transform source_takes i h
-    (fields_told states.Fields kinds.Field TransformKey tt refl field_in_fields value_in_fields states.Source refl field_in_source fs f)
+    (fields_told states.Fields kinds.Field TransformKey (λ p h. h) refl field_in_fields value_in_fields states.Source refl field_in_source fs f)
 
 -- ---- the parts that follow the identifier
 
 pub record AreRest (es : List Text) (parts : List Part) : Type 0 where
   pub are : told states.Other es ≡ parts
   pub begins : Begins es
-  pub plain : AllByRecursion IsPlain es
+  pub words : AllByRecursion IsOfKind parts
 
 told_alone : {s : State} {ps : List Text} {parts : List Part} → AreTold s ps parts → told s ps ≡ parts
 told_alone {s} {ps} {parts} h = ap (told s) (sym (append-nil ps)) ∙ h.each [] (λ s o. refl) ∙ append-nil parts
@@ -272,15 +287,19 @@ one_begins : (c : ℕ) (rest : List Text) → Begins ((c ∷ []) ∷ rest)
 one_begins c rest states.Private o = absurd (true≢false (sym o))
 one_begins c rest s o = refl
 
+byte_word : (c : ℕ) → is_ascii_alphanumeric c ≡ true → IsWord PrivateSubtag (c ∷ [])
+unfolding is_word
+byte_word c h = rw h refl
+
 -- a part with its singleton, and what follows it
-module _ (c : ℕ) (s : State) (is : begun (to_ascii_lowercase c) ≡ s) (plain : IsPlain (c ∷ [])) {es : List Text} {q : List Part} (r : AreRest es q) where
+module _ (c : ℕ) (s : State) (is : begun (to_ascii_lowercase c) ≡ s) (byte : is_ascii_alphanumeric c ≡ true) {es : List Text} {q : List Part} (r : AreRest es q) where
   some_told : (ps : List Text) → AreTold s ps (told s ps) → AreRest (printed_pieces (c, ps) ++ es) (block_parts c (told s ps) ++ q)
   some_told [] h = r
   some_told (p ∷ ps) h = record {
     are = ap (λ n. (kinds.Singleton, c ∷ []) ∷ told n ((p ∷ ps) ++ es)) is
         ∙ ap (λ l. (kinds.Singleton, c ∷ []) ∷ l) (h.each es r.begins ∙ ap (λ l. told s (p ∷ ps) ++ l) r.are);
     begins = one_begins c ((p ∷ ps) ++ es);
-    plain = (plain, all_append IsPlain (p ∷ ps) es h.plain r.plain);
+    words = ((byte_word c byte, refl), all_append IsOfKind (told s (p ∷ ps)) q h.words r.words);
   }
 
   block_told : {ps : List Text} {parts : List Part} → AreTold s ps parts → AreRest (printed_pieces (c, ps) ++ es) (block_parts c parts ++ q)
@@ -289,19 +308,12 @@ module _ (c : ℕ) (s : State) (is : begun (to_ascii_lowercase c) ≡ s) (plain 
       subst (λ (xs : List Part). AreRest (printed_pieces (c, ps) ++ es) (block_parts c xs ++ q)) e
       (some_told ps (told_as refl (sym e) h))
 
-byte_word : (c : ℕ) → is_ascii_alphanumeric c ≡ true → IsWord PrivateSubtag (c ∷ [])
-unfolding is_word
-byte_word c h = rw h refl
-
-plain_byte : (c : ℕ) → is_ascii_alphanumeric c ≡ true → IsPlain (c ∷ [])
-plain_byte c h = plain_word PrivateSubtag tt (c ∷ []) (byte_word c h)
-
 -- `u` and what follows it
 unicode_rest : (u : Unicode) → AllByRecursion (IsWord Attribute) u.attributes
     → AllByRecursion (λ f. IsWord UnicodeKey f.0 × AllByRecursion (IsWord Attribute) f.1) u.keywords
     → {es : List Text} {q : List Part} → AreRest es q → AreRest (unicode_spelling u ++ es) (unicode_parts u ++ q)
 unfolding unicode_spelling
-unicode_rest u h f r = block_told 117 states.Attributes refl (plain_byte 117 refl) r (unicode_told u h f)
+unicode_rest u h f r = block_told 117 states.Attributes refl refl r (unicode_told u h f)
 
 -- `t` and what follows it
 transform_rest : (m : Transform) → IfSome (option_map lower_identifier m.id) (HasWords languages)
@@ -309,7 +321,7 @@ transform_rest : (m : Transform) → IfSome (option_map lower_identifier m.id) (
     → {es : List Text} {q : List Part} → AreRest es q → AreRest (transform_spelling m ++ es) (transform_parts m ++ q)
 unfolding transform_spelling
 transform_rest m h f r =
-    block_told 116 states.Transform refl (plain_byte 116 refl) r
+    block_told 116 states.Transform refl refl r
     (told_as (ap (λ l. l ++ fields_pieces (spelled_fields m.fields)) (id_pieces-low m.id)) refl
     (transform_told (option_map lower_identifier m.id) (spelled_fields m.fields) h f))
 
@@ -320,11 +332,11 @@ private_told (w ∷ ws) = ap (λ l. (kinds.Private, w) ∷ l) (private_told ws)
 
 private_rest : (ws : List Text) → AllByRecursion (IsWord PrivateSubtag) ws → AreRest (private_spelling ws) (private_parts ws)
 unfolding private_spelling
-private_rest [] h = record { are = refl; begins = λ s o. refl; plain = tt }
+private_rest [] h = record { are = refl; begins = λ s o. refl; words = tt }
 private_rest (w ∷ ws) h = record {
   are = ap (λ l. (kinds.Singleton, 120 ∷ []) ∷ l) (private_told (w ∷ ws));
   begins = one_begins 120 (w ∷ ws);
-  plain = (plain_byte 120 refl, all_weaker (IsWord PrivateSubtag) IsPlain (plain_word PrivateSubtag tt) (w ∷ ws) h);
+  words = ((byte_word 120 refl, refl), all_mapped (IsWord PrivateSubtag) IsOfKind (λ w. (kinds.Private, w)) (λ w h. h) (w ∷ ws) h);
 }
 
 -- other extensions
@@ -344,8 +356,8 @@ unfolding other_spelling
 others_rest [] h r = r
 others_rest (o ∷ os) h {es} {q} r =
     let told = told_as (append-nil o.1) (append-nil (of_kind kinds.Other o.1))
-    (each_told states.Other kinds.Other Subtag tt other_in o.1 h.0.1 (nothing_told states.Other refl)) in
-    let n = block_told o.0 states.Other (ap begun h.0.0.1 ∙ others_begun o.0 h.0.0.0) (plain_byte o.0 (and_parts _ _ h.0.0.0).0)
+    (each_told states.Other kinds.Other Subtag (λ p h. h) other_in o.1 h.0.1 (nothing_told states.Other refl)) in
+    let n = block_told o.0 states.Other (ap begun h.0.0.1 ∙ others_begun o.0 h.0.0.0) (and_parts _ _ h.0.0.0).0
     (others_rest os h.1 r) told in
     subst (λ (l : List Text). AreRest l (others_parts (o ∷ os) ++ q)) (sym (append_assoc (printed_pieces o) (flat_map other_spelling os) es))
     (subst (λ (l : List Part). AreRest (printed_pieces o ++ (flat_map other_spelling os ++ es)) l) (sym (append_assoc (block_parts o.0 (of_kind kinds.Other o.1)) (others_parts os) q)) n)
@@ -405,10 +417,16 @@ module _ (e : Extensions) (v : IsExtensionsValue languages e) (w : AreWellFormed
       (others_rest (after_t e.others) (after_all IsOtherPart e.others others_are)
       (private_rest e.private private_are)))))
 
+-- the pieces of parts are those that are told
+pub told_pieces : (s : State) (ps : List Text) → map (λ (w : Part). w.1) (told s ps) ≡ ps
+told_pieces s [] = refl
+told_pieces s (p ∷ ps) = ap (λ l. p ∷ l) (told_pieces (step s p).1 ps)
+
 -- what the pieces of a normal text are
 pub record AreParts (M : Locale) (t : Text) : Type 0 where
   pub told : told states.Start (pieces t) ≡ parts_of M
   pub short : AreShort (pieces t)
+  pub words : AllByRecursion IsOfKind (parts_of M)
 
 pub text_told : (M : Locale) (t : Text) → IsTextOf M t → AreParts M t
 unfolding parts_of
@@ -418,9 +436,16 @@ text_told M t h =
     let id = identifier_told {first = states.Start} {s = states.Head} language_in_start head_takes M.id (value_words h.value.id) (nothing_told states.Head refl) in
     let front = told_as (append-nil (identifier_pieces M.id)) (append-nil (identifier_parts M.id)) id in
     let all = identifier_pieces M.id ++ extensions_spelling e in
-    let plain : AllByRecursion IsPlain all = all_append IsPlain (identifier_pieces M.id) (extensions_spelling e) front.plain rest.plain in
+    let are : told states.Start all ≡ parts_of M =
+    front.each (extensions_spelling e) rest.begins ∙ ap (λ l. identifier_parts M.id ++ l) rest.are in
+    let words : AllByRecursion IsOfKind (parts_of M) =
+    all_append IsOfKind (identifier_parts M.id) (extensions_parts e) front.words rest.words in
+    let plain : AllByRecursion IsPlain all =
+    subst (AllByRecursion IsPlain) (ap (map (λ (w : Part). w.1)) (sym are) ∙ told_pieces states.Start all)
+    (all_mapped IsOfKind IsPlain (λ w. w.1) plain_of (parts_of M) words) in
     let cut : pieces t ≡ all = ap pieces h.text ∙ pieces-join M.id.language _ (all_weaker IsPlain IsHyphenFree (λ p h. h.1) all plain) in
     record {
-      told = ap (told states.Start) cut ∙ front.each (extensions_spelling e) rest.begins ∙ ap (λ l. identifier_parts M.id ++ l) rest.are;
+      told = ap (told states.Start) cut ∙ are;
       short = subst AreShort (sym cut) (all_weaker IsPlain IsShortPiece (λ p h. h.0) all plain);
+      words = words;
     }

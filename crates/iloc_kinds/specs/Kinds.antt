@@ -1,7 +1,8 @@
 -- The parts of a locale's normal text, each a kind and a piece, and the rows that say where they
 -- stand. Restates the canonical syntax of UTS #35, section 3.2.1, with the names of its parts.
-use Rattle.std.specs.Prelude.{◌≡◌, ℕ, ◌+◌, List, [], ◌∷◌, ◌++◌, length, map, flat_map, Option, Some, None, option_map, option_to_list}
-use Rattle.iloc_spec_grammar.specs.Syntax.{Text, Block, code_t, code_u, code_x, Identifier, Fields, Unicode, Transform, languages}
+use Rattle.std.specs.Prelude.{◌≡◌, ⊤, ℕ, ◌+◌, ◌-◌, ◌≤◌, List, [], ◌∷◌, ◌++◌, length, take, drop, map, flat_map, Option, Some, None, option_map, option_to_list}
+use Rattle.iloc_spec_grammar.specs.Syntax.{Text, Block, code_t, code_u, code_x, Identifier, Fields, Unicode, Transform, IsWord, languages}
+use Rattle.iloc_spec_grammar.specs.Syntax as words
 use Rattle.iloc_spec_grammar.specs.Meaning.{Locale, Extensions}
 use Rattle.iloc_spec_grammar.specs.Values.{AreWellFormed, IsValue, lower_identifier, spelled_fields, text}
 use Rattle.iloc_spec_grammar.specs.Tree.{before_t, after_t}
@@ -66,6 +67,20 @@ extensions_parts e = others_parts (before_t e.others)
 unfoldable pub parts_of : Locale → List Part
 parts_of M = identifier_parts M.id ++ extensions_parts M.extensions
 
+-- the part is a word of its kind (UTS #35 3.1 and 3.2)
+abbrev pub IsOfKind : Part → Type 0
+IsOfKind (Language, p) = IsWord (words.Language languages) p
+IsOfKind (Script, p) = IsWord words.Script p
+IsOfKind (Region, p) = IsWord words.Region p
+IsOfKind (Variant, p) = IsWord words.Variant p
+IsOfKind (Singleton, p) = IsWord words.PrivateSubtag p × (length p ≡ 1)
+IsOfKind (Attribute, p) = IsWord words.Attribute p
+IsOfKind (Key, p) = IsWord words.UnicodeKey p
+IsOfKind (Value, p) = IsWord words.Attribute p
+IsOfKind (Field, p) = IsWord words.TransformKey p
+IsOfKind (Other, p) = IsWord words.Subtag p
+IsOfKind (Private, p) = IsWord words.PrivateSubtag p
+
 -- the normal text of a well-formed value
 pub record IsTextOf (M : Locale) (t : Text) : Type 0 where
   pub value : IsValue languages M
@@ -98,3 +113,10 @@ rows_from at ((kind, p) ∷ ps) =
 -- the rows of all parts of a text
 unfoldable pub rows_of : List Part → List ℕ
 rows_of ps = rows_from 0 ps
+
+-- each row says where its part stands in the text, and its kind
+abbrev pub ArePlaced : Text → List ℕ → List Part → Type 0
+ArePlaced t [] [] = ⊤
+ArePlaced t (start ∷ end ∷ number ∷ rows) ((kind, p) ∷ ps) = (start ≤ end) × (end ≤ length t)
+    × (take (end - start) (drop start t) ≡ p) × (number ≡ kind_number kind) × ArePlaced t rows ps
+ArePlaced t rows ps = ⊥

@@ -9,5 +9,6 @@
 #![tactic(auto)]
 
 pub mod kind;
+pub mod laws;
 pub mod rows;
 mod state;
