@@ -68,6 +68,10 @@ length_rows : (at : ℕ) (ps : List Part) → length (rows_from at ps) ≡ 3 * l
 length_rows at [] = refl
 length_rows at (p ∷ ps) = omega (arith, length_rows (at + length p.1 + 1) ps)
 
+pub length_rows_of : (ps : List Part) → length (rows_of ps) ≡ 3 * length ps
+unfolding rows_of
+length_rows_of ps = length_rows 0 ps
+
 -- the rows up to this piece stand in the table, and what was behind them still does
 pub record IsWritten (t : Text) (at : Left) (s : State) (from : ℕ) (before table : List ℕ) : Type 0 where
   pub left : IsRemainder at
