@@ -9,6 +9,9 @@ const ROOM = MOST + SPARE + 1;
 /** The name of each number with which a call ends. */
 export const CODES = ['Done', 'InvalidLanguage', 'InvalidSubtag', 'InvalidExtension', 'DuplicatedExtension', 'OutOfMemory',
   'BufferTooSmall', 'UnknownNumber', 'NotFound', 'BeyondLimits'];
+// The name of each number by which `web_parts` says what a piece is.
+const KINDS = ['language', 'script', 'region', 'variant', 'singleton', 'attribute', 'key', 'value', 'field', 'other', 'private'];
+const ROW = 3 * 8; // bytes of a row of its table: three numbers
 export const DONE = 0;
 export const BEYOND = 9;
 const MODES = { langid: 0, locale: 1, data: 2 };
@@ -47,7 +50,7 @@ const [TEXT, OTHER, PLACE, ONE, TWO, NUMBER] = Array.from({ length: 6 }, (_, at)
 if (NUMBER + 16 > all.length) throw new Error('the memory of the module is too small');
 const place = { text: BigInt(TEXT), other: BigInt(OTHER), room: BigInt(PLACE), one: BigInt(ONE), two: BigInt(TWO), number: BigInt(NUMBER),
   more: BigInt(NUMBER + 8) };
-const room = BigInt(ROOM);
+const room = BigInt(ROOM), rows = BigInt(ROOM / 8);
 
 // Numbers of the module are BigInts. Small ones are made once: to make one at each call takes longer.
 const few = Array.from({ length: 512 }, (_, at) => BigInt(at));
@@ -109,6 +112,23 @@ export function checked(text, mode) {
   const length = put(text, TEXT);
   if (length > MOST) return BEYOND;
   return ask('web_check', mode, place.text, big(length + SPARE), big(length));
+}
+
+/** Finds the parts of a text: the number with which the call ends, and its normal text and pieces, each with its place and kind. */
+export function partsOf(text, mode) {
+  const length = put(text, TEXT);
+  if (length > MOST) return { status: BEYOND, normal: '', pieces: [] };
+  const status = ask('web_parts', mode, place.text, big(length + SPARE), big(length), place.room, room, place.number, place.one, rows, place.more);
+  const normal = take(PLACE, numbers.getUint32(NUMBER, true)), pieces = [];
+  const end = status === DONE ? ONE + 8 * numbers.getUint32(NUMBER + 8, true) : ONE;
+  for (let at = ONE; at < end; at += ROW) pieces.push(pieceAt(at, normal));
+  return { status, normal, pieces };
+}
+
+// The piece of which a row of the table says where it stands and what it is.
+function pieceAt(at, normal) {
+  const [start, end, kind] = [0, 8, 16].map(more => numbers.getUint32(at + more, true));
+  return { text: normal.slice(start, end), start, end, kind: KINDS[kind] };
 }
 
 /** Finds the fault of a text: the number with which the call ends, and the first and the last byte of the place. */

@@ -48,6 +48,8 @@ export interface Piece {
   readonly text: string;
   /** Where it begins in the normal text. */
   readonly start: number;
+  /** Where it ends. */
+  readonly end: number;
   readonly kind: Kind;
   /** The singleton of its extension; empty in the identifier in front. */
   readonly of: string;
@@ -82,7 +84,7 @@ export interface Parts extends Identifier {
 /** The parts of what the text means. Throws as normalize does. */
 export function parts(text: Text, mode?: Mode): Parts;
 
-/** The parts of a normal text. Of any other text this says nothing of use. */
+/** The parts of a normal text of any mode. Throws as normalize does. */
 export function partsOfNormal(normal: string): Parts;
 
 export interface Fault {

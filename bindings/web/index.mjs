@@ -1,11 +1,11 @@
 // Unicode locale identifiers by a proved WebAssembly module. What is not proved: this file, calls.mjs, parts.mjs and
 // faults.mjs, and the way from the proof to the engine that runs the module. Tests compare all of it with the vectors.
-import { CODES, DONE, WORDS, checked, modeOf, normalizeInto, ordered, sameness, version, written } from './calls.mjs';
+import { CODES, DONE, WORDS, checked, modeOf, normalizeInto, ordered, partsOf, sameness, version, written } from './calls.mjs';
 import { findFault } from './faults.mjs';
-import { partsOfNormal } from './parts.mjs';
+import { partsBy } from './parts.mjs';
 import { isNarrow, size } from './module.mjs';
 
-export { findFault, isNarrow, partsOfNormal, size, version };
+export { findFault, isNarrow, size, version };
 
 /** A text that has no normal text, or is beyond the limits. */
 export class LocaleError extends RangeError {
@@ -70,7 +70,14 @@ export function normalizingEq(text, other, mode = 'locale') {
 
 /** The parts of what the text means. */
 export function parts(text, mode = 'locale') {
-  return partsOfNormal(normalize(text, mode));
+  const { status, normal, pieces } = partsOf(text, modeOf(mode));
+  if (status !== DONE) throw new LocaleError(status, text, mode);
+  return partsBy(normal, pieces);
+}
+
+/** The parts of a normal text of any mode: as a locale it means the same. */
+export function partsOfNormal(normal) {
+  return parts(normal);
 }
 
 /** The words of a code. */

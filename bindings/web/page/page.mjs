@@ -232,7 +232,7 @@ find('file').addEventListener('change', ({ target }) => target.files[0] && answe
 find('stop').addEventListener('click', () => { isStopped = true; });
 find('save').addEventListener('click', save);
 find('size').textContent = size.toLocaleString('en');
-find('not-proved').textContent = 'The place of a fault is proved too. The parts of a text are cut by JavaScript.';
+find('not-proved').textContent = 'The place of a fault and what each piece is are proved too.';
 find('form-of-module').textContent = isNarrow
   ? 'This browser has no 64-bit memory for WebAssembly, so a form of the module for 32 bits is used, made by a tool that nothing proves.' : '';
 follow();

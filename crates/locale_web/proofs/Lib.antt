@@ -1,3 +1,4 @@
+pub mod LocaleLemmas
 pub mod PartLemmas
 pub mod ReadLemmas
 pub mod SameLemmas

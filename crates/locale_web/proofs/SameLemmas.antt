@@ -1,5 +1,5 @@
 -- Two texts have one normal text exactly if they mean the same.
-use Rattle.std.proofs.Common.{◌≡◌, ℕ, ◌<◌, Bool, true, false, IsTrue, ◌↔◌, ◌⊎◌, List, inl, inr, refl, sym, ap, ◌∙◌, subst, true≢false, arith}
+use Rattle.std.proofs.Common.{◌≡◌, ℕ, Bool, true, false, IsTrue, ◌↔◌, ◌⊎◌, List, inl, inr, refl, sym, ap, ◌∙◌, subst, true≢false}
 use Rattle.std.specs.Int.{from_bool}
 use Rattle.iloc_spec_grammar.specs.Syntax.{pieces, languages}
 use Rattle.iloc_spec_grammar.specs.Meaning as meaning

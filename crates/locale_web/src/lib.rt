@@ -24,16 +24,19 @@ ghost use Rattle.locale_web.specs.Answers.{
   SameIsWritten,
   answer_number,
 };
+ghost use Rattle.locale_web.specs.Parts.{NoPartIsWritten, PartsAreWritten};
 ghost use Rattle.locale_web.specs.Reading.{IsPastLimits};
 
 mod comparing;
 mod data;
 mod normalizing;
+mod parts;
 mod reading;
 
 use comparing::{compare, tell_same};
 use iloc_calls::{Status, find_fault};
 use normalizing::{hand_out_bytes, normalize};
+use parts::find_parts;
 use reading::{judge, mode_of, text_end};
 
 /// The version of these calls.
@@ -145,6 +148,40 @@ pub extern "C" fn web_normalizing_eq(
     match mode_of(mode) {
         Some(mode) => number(tell_same(mode, window, len, other, other_len, one, two, same)),
         None => Status::UnknownNumber.number(),
+    }
+}
+
+/// Puts the normal text of what the text means into the room, and its length into `end`. Writes where each piece of it
+/// stands, and what it is, into the table, and how many numbers these are to `needed`.
+///
+/// Three numbers stand for a piece: where it begins, where it ends, and that of its kind, from 0: language, script,
+/// region, variant, singleton, attribute, key, value, field, other, private.
+#[unsafe(no_mangle)]
+pub extern "C" fn web_parts(
+    mode: u32,
+    window: &[u8],
+    len: usize,
+    room: &mut [u8],
+    end: &mut usize,
+    table: &mut [usize],
+    needed: &mut usize,
+) -> u32
+    ensures known { (m : Mode) → mode ≡ mode_number m
+        → EndsWithin (PartsAreWritten m (take len window.now) room.new end.new table.old table.new
+        needed.new)
+        (NoPartIsWritten m (take len window.now) (length room.old) end.new table.old table.new
+        needed.new)
+        result }
+    ensures unknown { 2 < mode → (result ≡ number_of Status.UnknownNumber)
+        × (end.new ≡ 0) × (needed.new ≡ 0) × (table.new ≡ table.old) }
+{
+    match mode_of(mode) {
+        Some(mode) => number(find_parts(mode, window, len, room, end, table, needed)),
+        None => {
+            *end = 0;
+            *needed = 0;
+            Status::UnknownNumber.number()
+        }
     }
 }
 

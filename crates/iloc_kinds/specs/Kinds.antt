@@ -1,0 +1,122 @@
+-- The parts of a locale's normal text, each a kind and a piece, and the rows that say where they
+-- stand. Restates the canonical syntax of UTS #35, section 3.2.1, with the names of its parts.
+use Rattle.std.specs.Prelude.{◌≡◌, ⊤, ℕ, ◌+◌, ◌-◌, ◌≤◌, List, [], ◌∷◌, ◌++◌, length, take, drop, map, flat_map, Option, Some, None, option_map, option_to_list}
+use Rattle.iloc_spec_grammar.specs.Syntax.{Text, Block, code_t, code_u, code_x, Identifier, Fields, Unicode, Transform, IsWord, languages}
+use Rattle.iloc_spec_grammar.specs.Syntax as words
+use Rattle.iloc_spec_grammar.specs.Meaning.{Locale, Extensions}
+use Rattle.iloc_spec_grammar.specs.Values.{AreWellFormed, IsValue, lower_identifier, spelled_fields, text}
+use Rattle.iloc_spec_grammar.specs.Tree.{before_t, after_t}
+use Rattle.iloc_kinds.specs.declared.kind.Kind.{Kind}
+use Rattle.iloc_kinds.specs.declared.kind.Kind.TheVariants.{Language, Script, Region, Variant, Singleton, Attribute, Key, Value, Field, Other, Private}
+
+-- a piece, and what it is
+abbrev pub Part : Type 0
+Part = Kind × Text
+
+-- the parts of a locale: what its text joins
+
+-- each piece of this kind
+abbrev pub of_kind : Kind → List Text → List Part
+of_kind kind ps = map (λ p. (kind, p)) ps
+
+-- a language, perhaps a script and a region, and variants (UTS #35 3.1, `unicode_language_id`)
+abbrev pub identifier_parts : Identifier → List Part
+identifier_parts i = (Language, i.language)
+    ∷ (of_kind Script (option_to_list i.script)
+    ++ (of_kind Region (option_to_list i.region) ++ of_kind Variant i.variants))
+
+-- none if the identifier is absent
+abbrev pub optional_parts : Option Identifier → List Part
+optional_parts None = []
+optional_parts (Some i) = identifier_parts i
+
+-- each key, of this kind, and its values (UTS #35 3.2, `ufield` and `tfield`)
+abbrev pub fields_parts : Kind → Fields → List Part
+fields_parts kind fs = flat_map (λ (key, values). (kind, key) ∷ of_kind Value values) fs
+
+-- a singleton, and what follows it; an empty part gives none
+abbrev pub block_parts : ℕ → List Part → List Part
+block_parts c [] = []
+block_parts c (p ∷ ps) = (Singleton, c ∷ []) ∷ (p ∷ ps)
+
+-- `t`, an identifier in lower case, and fields, of which an empty value is spelled `true` (UTS #35
+-- 3.2, `transformed_extensions`)
+abbrev pub transform_parts : Transform → List Part
+transform_parts m = block_parts code_t (optional_parts (option_map lower_identifier m.id)
+    ++ fields_parts Field (spelled_fields m.fields))
+
+-- `u`, attributes and keywords (UTS #35 3.2, `unicode_locale_extensions`)
+abbrev pub unicode_parts : Unicode → List Part
+unicode_parts u = block_parts code_u (of_kind Attribute u.attributes ++ fields_parts Key u.keywords)
+
+-- other extensions, each with its singleton (UTS #35 3.2, `other_extensions`)
+abbrev pub others_parts : List Block → List Part
+others_parts os = flat_map (λ (c, ws). block_parts c (of_kind Other ws)) os
+
+-- `x`, and private subtags (UTS #35 3.2, `pu_extensions`)
+abbrev pub private_parts : List Text → List Part
+private_parts ws = block_parts code_x (of_kind Private ws)
+
+-- others up to `t`, `t`, `u`, other others, and `x` (UTS #35 3.2.1)
+abbrev pub extensions_parts : Extensions → List Part
+extensions_parts e = others_parts (before_t e.others)
+    ++ (transform_parts e.transform
+    ++ (unicode_parts e.unicode ++ (others_parts (after_t e.others) ++ private_parts e.private)))
+
+-- the identifier in front, and the extensions (UTS #35 3.2, `unicode_locale_id`)
+unfoldable pub parts_of : Locale → List Part
+parts_of M = identifier_parts M.id ++ extensions_parts M.extensions
+
+-- the part is a word of its kind (UTS #35 3.1 and 3.2)
+abbrev pub IsOfKind : Part → Type 0
+IsOfKind (Language, p) = IsWord (words.Language languages) p
+IsOfKind (Script, p) = IsWord words.Script p
+IsOfKind (Region, p) = IsWord words.Region p
+IsOfKind (Variant, p) = IsWord words.Variant p
+IsOfKind (Singleton, p) = IsWord words.PrivateSubtag p × (length p ≡ 1)
+IsOfKind (Attribute, p) = IsWord words.Attribute p
+IsOfKind (Key, p) = IsWord words.UnicodeKey p
+IsOfKind (Value, p) = IsWord words.Attribute p
+IsOfKind (Field, p) = IsWord words.TransformKey p
+IsOfKind (Other, p) = IsWord words.Subtag p
+IsOfKind (Private, p) = IsWord words.PrivateSubtag p
+
+-- the normal text of a well-formed value
+pub record IsTextOf (M : Locale) (t : Text) : Type 0 where
+  pub value : IsValue languages M
+  pub tests : AreWellFormed M.extensions
+  pub text : t ≡ text M
+
+-- the rows of a table
+
+-- the number by which a caller knows a kind
+abbrev pub kind_number : Kind → ℕ
+kind_number Language = 0
+kind_number Script = 1
+kind_number Region = 2
+kind_number Variant = 3
+kind_number Singleton = 4
+kind_number Attribute = 5
+kind_number Key = 6
+kind_number Value = 7
+kind_number Field = 8
+kind_number Other = 9
+kind_number Private = 10
+
+-- three numbers of each part: where it begins, where it ends, and that of its kind; the first one
+-- begins at `at`, and each other behind the hyphen after the one before it
+abbrev pub rows_from : ℕ → List Part → List ℕ
+rows_from at [] = []
+rows_from at ((kind, p) ∷ ps) =
+    at ∷ (at + length p) ∷ kind_number kind ∷ rows_from (at + length p + 1) ps
+
+-- the rows of all parts of a text
+unfoldable pub rows_of : List Part → List ℕ
+rows_of ps = rows_from 0 ps
+
+-- each row says where its part stands in the text, and its kind
+abbrev pub ArePlaced : Text → List ℕ → List Part → Type 0
+ArePlaced t [] [] = ⊤
+ArePlaced t (start ∷ end ∷ number ∷ rows) ((kind, p) ∷ ps) = (start ≤ end) × (end ≤ length t)
+    × (take (end - start) (drop start t) ≡ p) × (number ≡ kind_number kind) × ArePlaced t rows ps
+ArePlaced t rows ps = ⊥

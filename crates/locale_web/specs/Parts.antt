@@ -1,0 +1,46 @@
+-- What a caller of the module finds after `web_parts`, by its number.
+use Rattle.std.specs.Prelude.{◌≡◌, ℕ, ◌≤◌, List, length, take}
+use Rattle.iloc_spec_grammar.specs.Syntax.{Text, Identifier, pieces, languages}
+use Rattle.iloc_spec_grammar.specs.Meaning as meaning
+use Rattle.iloc_spec_grammar.specs.Meaning.{Means, IdentifierMeans, without_extensions}
+use Rattle.iloc_spec_grammar.specs.Values.{text}
+use Rattle.iloc_spec_preferences.specs.DataLocales.{DataLocale, DataMeans, locale_of_data}
+use Rattle.iloc_kinds.specs.Kinds.{parts_of, rows_of}
+use Rattle.iloc_told.specs.Modes.{IsNormalText}
+use Rattle.iloc_told.specs.declared.Mode.{Mode}
+use Rattle.iloc_told.specs.declared.Mode.TheVariants.{Langid, Locale, Data}
+use Rattle.iloc_calls.specs.Answers.{HandsOut}
+use Rattle.iloc_calls.specs.declared.status.Status.{Status}
+use Rattle.iloc_calls.specs.declared.status.Status.TheVariants.{Done, BufferTooSmall}
+use Rattle.locale_web.specs.Answers.{IsJudged}
+use Rattle.locale_web.specs.Reading.{IsBeyondRoom}
+
+-- the locale of what the text means: an identifier alone, a locale, or what prints a data locale's
+-- parts
+abbrev pub MeansLocale : Mode → Text → meaning.Locale → Type 0
+MeansLocale Langid t M = (i : Identifier) × IdentifierMeans languages (pieces t) i
+    × (M ≡ without_extensions i)
+MeansLocale Locale t M = Means languages t M
+MeansLocale Data t M = (d : DataLocale) × DataMeans languages t d × (M ≡ locale_of_data d)
+
+-- the normal text of what the text means stands at the front of the room
+pub record IsInRoom (mode : Mode) (t room : Text) (end : ℕ) (M : meaning.Locale) : Type 0 where
+  pub meant : MeansLocale mode t M
+  pub inside : end ≤ length room
+  pub normal : IsNormalText languages mode t (take end room)
+  pub text : take end room ≡ text M
+
+-- it does, and the rows of its parts are handed out; of a text with a fault nothing is
+abbrev pub PartsAreWritten : Mode → Text → Text → ℕ → List ℕ → List ℕ → ℕ → Status → Type 0
+PartsAreWritten mode t room end before after needed Done = (M : meaning.Locale)
+    × IsInRoom mode t room end M × HandsOut (rows_of (parts_of M)) before after needed Done
+PartsAreWritten mode t room end before after needed BufferTooSmall = (M : meaning.Locale)
+    × IsInRoom mode t room end M
+    × HandsOut (rows_of (parts_of M)) before after needed BufferTooSmall
+PartsAreWritten mode t room end before after needed status =
+    IsJudged mode t status × (end ≡ 0) × (needed ≡ 0) × (after ≡ before)
+
+-- nothing is handed out, and the text is beyond what this room is for
+abbrev pub NoPartIsWritten : Mode → Text → ℕ → ℕ → List ℕ → List ℕ → ℕ → Type 0
+NoPartIsWritten mode t room end before after needed =
+    IsBeyondRoom mode t room × (end ≡ 0) × (needed ≡ 0) × (after ≡ before)
