@@ -149,10 +149,9 @@ class Reads:
     def place(self, text):
         """Returns the file, the start, the end and the name of the one function that a mutant changes, and its impl."""
         sources = {it: read(f"{self.folder}/{it}") for it in self.texts if it.endswith(".rt")}
-        where = [*places(text, sources)]
-        file, at = where[0] if len(where) == 1 else ("", 0)
-        inside = [it for it in functions(self.texts.get(file, "").encode()) if it[1] < at < it[2]]
-        return (file, *inside[0]) if inside else None
+        inside = lambda file, at: [(file, *it) for it in functions(self.texts[file].encode()) if it[1] < at < it[2]]
+        found = [(inside(file, at) or [None])[0] for file, at in places(text, sources)]
+        return found[0] if len({*found}) == 1 else None
 
     def answers(self, file, name):
         """Returns the answer files of a function, and of others that have its name in that module."""
