@@ -4,7 +4,7 @@ ghost use Rattle.iloc_outline.specs.Outlines.{AreHeadRead, BeginsWithLanguage, I
 
 use crate::blocks::{Blocks, read_blocks};
 use crate::identifier::read_front;
-use crate::reading::Reading;
+use crate::reading::Found;
 use crate::span::Role;
 use crate::spans::Spans;
 use crate::words::read_words;
@@ -84,19 +84,20 @@ pub fn read_head<'a>(
 {
     spans.clear();
     *in_order = true;
-    let front = read_front(left_in(window, len));
+    let mut left = left_in(window, len);
+    let front = read_front(&mut left);
     let outline = Outline {
         front: front.end,
         script: front.script,
         region: front.region,
     };
-    let Some(next) = front.next else {
+    if front.is_all {
         return Head::All(outline);
-    };
-    match read_words(Role::Variant, next, spans, in_order) {
-        Reading::End => Head::All(outline),
-        Reading::Next(next) if is_single(next) => Head::Block(outline, next),
-        Reading::Full => Head::Full,
+    }
+    match read_words(Role::Variant, &mut left, spans, in_order) {
+        Found::End => Head::All(outline),
+        Found::Next if is_single(left) => Head::Block(outline, left),
+        Found::Full => Head::Full,
         _ => Head::Refused(ParseError::InvalidSubtag),
     }
 }
@@ -143,13 +144,13 @@ pub fn outline_locale(window: &[u8], len: usize, spans: &mut Spans) -> Outlined
     ensures { IsLocaleOutlined (take len window.now) spans.new result }
 {
     let mut in_order = true;
-    let (outline, next) = match read_head(window, len, spans, &mut in_order) {
+    let (outline, mut left) = match read_head(window, len, spans, &mut in_order) {
         Head::All(outline) => return Outlined::Normal(finished(outline, len, spans, in_order)),
-        Head::Block(outline, next) => (outline, next),
+        Head::Block(outline, left) => (outline, left),
         Head::Refused(error) => return Outlined::Refused(error),
         Head::Full => return Outlined::Full,
     };
-    match read_blocks(next, spans, &mut in_order) {
+    match read_blocks(&mut left, spans, &mut in_order) {
         Blocks::Good => Outlined::Normal(finished(outline, len, spans, in_order)),
         Blocks::Refused(error) => Outlined::Refused(error),
         Blocks::Full => Outlined::Full,
