@@ -55,7 +55,35 @@ fn read_body(
     if byte == b'u' {
         return read_unicode(start, left, spans, in_order);
     }
-    read_apart(byte, start, left, spans, in_order)
+    read_another(byte, start, left, spans, in_order)
+}
+
+// The same of another singleton than `u`. The reader of it works on a copy, so that the cursor need not be stored.
+#[inline(always)]
+fn read_another(
+    byte: u8,
+    start: usize,
+    left: &mut Left<'_>,
+    spans: &mut Spans,
+    in_order: &mut bool,
+) -> Found
+    requires left { IsRemainder left.old }
+    requires later { IsLater left.old }
+    requires few { left.old.at + left.old.len < 2 ^ 16 }
+    requires before { start < left.old.at }
+    requires letter { is_ascii_alphanumeric byte ≡ true }
+    requires another { byte ≢ code_u }
+    ensures { (c : ℕ) → to_ascii_lowercase c ≡ byte
+        → IsSpanned (whole_text left.old) start (left.old.at - 1) ((c ∷ []) ∷ [])
+        → IsBlockRead c left.old left.new spans.old spans.new in_order.old in_order.new result }
+{
+    let mut next = *left;
+    let found = read_apart(byte, start, &mut next, spans, in_order);
+    *left = Left {
+        window: left.window,
+        ..next
+    };
+    found
 }
 
 // The same of another singleton than `u`. It is a call of its own, so that readers of `u` stay small.

@@ -37,11 +37,11 @@ pub enum Outlined {
 
 /// The identifier that comes first: language, script, region and variants.
 #[derive(Drop)]
-pub enum Head<'a> {
+pub enum Head {
     /// It is all of the text.
     All(Outline),
     /// A block follows.
-    Block(Outline, Left<'a>),
+    Block(Outline),
     /// It is refused.
     Refused(ParseError),
     /// More variants than there is room for.
@@ -71,12 +71,7 @@ fn begins_few(window: &[u8], len: usize) -> bool
 
 /// Reads the identifier at the beginning of a text. In `in_order` it says whether its variants are in order.
 #[inline(always)]
-pub fn read_head<'a>(
-    window: &'a [u8],
-    len: usize,
-    spans: &mut Spans,
-    in_order: &mut bool,
-) -> Head<'a>
+pub fn read_head(left: &mut Left<'_>, spans: &mut Spans, in_order: &mut bool) -> Head
     requires inside { len ≤ length window.now }
     requires few { len < 2 ^ 16 }
     requires begins { BeginsWithLanguage (take len window.now) }
@@ -84,8 +79,7 @@ pub fn read_head<'a>(
 {
     spans.clear();
     *in_order = true;
-    let mut left = left_in(window, len);
-    let front = read_front(&mut left);
+    let front = read_front(left);
     let outline = Outline {
         front: front.end,
         script: front.script,
@@ -94,9 +88,9 @@ pub fn read_head<'a>(
     if front.is_all {
         return Head::All(outline);
     }
-    match read_words(Role::Variant, &mut left, spans, in_order) {
+    match read_words(Role::Variant, left, spans, in_order) {
         Found::End => Head::All(outline),
-        Found::Next if is_single(left) => Head::Block(outline, left),
+        Found::Next if is_single(*left) => Head::Block(outline),
         Found::Full => Head::Full,
         _ => Head::Refused(ParseError::InvalidSubtag),
     }
@@ -126,10 +120,11 @@ pub fn outline_identifier(window: &[u8], len: usize, spans: &mut Spans) -> Outli
     requires begins { BeginsWithLanguage (take len window.now) }
     ensures { IsIdentifierOutlined (take len window.now) spans.new result }
 {
+    let mut left = left_in(window, len);
     let mut in_order = true;
-    match read_head(window, len, spans, &mut in_order) {
+    match read_head(&mut left, spans, &mut in_order) {
         Head::All(outline) => Outlined::Normal(finished(outline, len, spans, in_order)),
-        Head::Block(_, _) => Outlined::Refused(ParseError::InvalidSubtag),
+        Head::Block(_) => Outlined::Refused(ParseError::InvalidSubtag),
         Head::Refused(error) => Outlined::Refused(error),
         Head::Full => Outlined::Full,
     }
@@ -143,10 +138,11 @@ pub fn outline_locale(window: &[u8], len: usize, spans: &mut Spans) -> Outlined
     requires begins { BeginsWithLanguage (take len window.now) }
     ensures { IsLocaleOutlined (take len window.now) spans.new result }
 {
+    let mut left = left_in(window, len);
     let mut in_order = true;
-    let (outline, mut left) = match read_head(window, len, spans, &mut in_order) {
+    let outline = match read_head(&mut left, spans, &mut in_order) {
         Head::All(outline) => return Outlined::Normal(finished(outline, len, spans, in_order)),
-        Head::Block(outline, left) => (outline, left),
+        Head::Block(outline) => outline,
         Head::Refused(error) => return Outlined::Refused(error),
         Head::Full => return Outlined::Full,
     };
