@@ -79,10 +79,7 @@ fn read_another(
 {
     let mut next = *left;
     let found = read_apart(byte, start, &mut next, spans, in_order);
-    *left = Left {
-        window: left.window,
-        ..next
-    };
+    *left = next;
     found
 }
 

@@ -2,6 +2,7 @@
 ghost use Rattle.std.specs.Prelude.{◌≡◌, true, if◌then◌else◌};
 ghost use Rattle.iloc_spec_grammar.specs.Syntax.{IsWord, Language, languages};
 ghost use Rattle.iloc_outline.specs.Identifier.{IsFrontRead, IsOnePast};
+ghost use Rattle.iloc_outline.specs.Reading.{unless_end};
 ghost use Rattle.iloc_pieces.specs.Left.{IsRemainder, IsShortPiece, piece_left};
 
 use iloc_pieces::left::{Left, advance, is_last, is_region, is_script};
@@ -19,21 +20,21 @@ pub struct Front {
     pub region: usize,
 }
 
-// Passes the piece, if it fits. Whether one is left.
+// Passes the piece, if it fits. Whether the text ends with it.
 #[inline(always)]
-fn pass(fits: bool, left: &mut Left<'_>) -> bool
+fn ends_at(fits: bool, left: &mut Left<'_>) -> bool
     requires left { IsRemainder left.old }
     requires short { fits ≡ true → IsShortPiece (piece_left left.old) }
-    ensures { IsOnePast fits left.old left.new result }
+    ensures { IsOnePast fits left.old (unless_end result left.new) }
 {
     if !fits {
-        return true;
-    }
-    if is_last(*left) {
         return false;
     }
+    if is_last(*left) {
+        return true;
+    }
     advance(left);
-    true
+    false
 }
 
 // Where the piece begins, if that is asked; 0 if not.
@@ -58,17 +59,17 @@ pub fn read_front(left: &mut Left<'_>) -> Front
         script: 0,
         region: 0,
     };
-    if !pass(true, left) {
+    if ends_at(true, left) {
         return front;
     }
     let has_script = is_script(*left);
     front.script = place(has_script, *left);
-    if !pass(has_script, left) {
+    if ends_at(has_script, left) {
         return front;
     }
     let has_region = is_region(*left);
     front.region = place(has_region && left.n == 2, *left);
-    if !pass(has_region, left) {
+    if ends_at(has_region, left) {
         return front;
     }
     front.is_all = false;

@@ -99,7 +99,7 @@ fn put_other(
     requires start { start < 2 ^ 16 }
     requires end { end < 2 ^ 16 }
     ensures { IsPutOther (block_span byte start end edited) spans.old spans.new in_order.old
-        in_order.new found.entry result }
+        in_order.new found result }
 {
     if edited {
         *in_order = false;

@@ -1,5 +1,6 @@
 //! The outline of a text, as an identifier or as a locale.
 ghost use Rattle.std.specs.Prelude.{◌≡◌, ◌↔◌, ◌≤◌, ◌<◌, ◌+◌, ◌^◌, [], IsTrue, length, take};
+ghost use Rattle.iloc_pieces.specs.Left.{IsRemainder, bytes_left};
 ghost use Rattle.iloc_outline.specs.Outlines.{AreHeadRead, BeginsWithLanguage, IsFinished, IsIdentifierOutlined, IsLocaleOutlined};
 
 use crate::blocks::{Blocks, read_blocks};
@@ -72,10 +73,11 @@ fn begins_few(window: &[u8], len: usize) -> bool
 /// Reads the identifier at the beginning of a text. In `in_order` it says whether its variants are in order.
 #[inline(always)]
 pub fn read_head(left: &mut Left<'_>, spans: &mut Spans, in_order: &mut bool) -> Head
-    requires inside { len ≤ length window.now }
-    requires few { len < 2 ^ 16 }
-    requires begins { BeginsWithLanguage (take len window.now) }
-    ensures { AreHeadRead (take len window.now) spans.new in_order.new result }
+    requires left { IsRemainder left.old }
+    requires first { left.old.at ≡ 0 }
+    requires few { left.old.len < 2 ^ 16 }
+    requires begins { BeginsWithLanguage (bytes_left left.old) }
+    ensures { AreHeadRead (bytes_left left.old) left.new spans.new in_order.new result }
 {
     spans.clear();
     *in_order = true;

@@ -24,7 +24,7 @@ impl Found {
     #[inline(always)]
     pub fn at_block(self, next: &Left<'_>) -> Found
         requires { IsFoundAt next.now self }
-        ensures { EndsAtBlock next.now self.entry result }
+        ensures { EndsAtBlock next.now self result }
     {
         match self {
             Found::Next if !is_single(*next) => Found::Bad,
