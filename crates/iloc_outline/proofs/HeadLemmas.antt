@@ -1,5 +1,5 @@
 -- What the reader of a head says: an identifier that is all of a text, or ends at a block, or why it is none.
-use Rattle.std.proofs.Common.{◌≡◌, ◌≢◌, ◌≤◌, Bool, true, false, List, [], ◌∷◌, ◌++◌, length, map, flat_map, take, drop, None, Some, refl, sym, ap, ◌∙◌, subst, arith, append_assoc, append-nil, length-append, true≢false}
+use Rattle.std.proofs.Common.{◌≡◌, ◌≢◌, ◌⊎◌, inl, inr, ◌≤◌, Bool, true, false, List, [], ◌∷◌, ◌++◌, length, map, flat_map, take, drop, None, Some, refl, sym, ap, ◌∙◌, subst, arith, append_assoc, append-nil, length-append, true≢false}
 use Rattle.std.specs.List.{AllZip}
 use Rattle.std.proofs.lemmas.List.{append_cancel_left, take-append-drop, length-take-le}
 use Rattle.iloc_spec_grammar.specs.Syntax.{Text, Identifier, Language, AllDifferent, IsWord, dashes, first_piece, front, head, identifier_pieces, is_one_byte, is_word, join, languages, lower, pieces, word_cmp}
@@ -266,10 +266,8 @@ module _ (l : Left) (f : Front) (is : IsRemainder l) (first : l.at ≡ 0)
 
     -- neither of these
     pub head_other : (k : Left) (new : Spans) (n : Bool) (r : Found)
-        → AreWordsRead roles.Variant m k old new true n r → r ≢ End → r ≢ Next → r ≢ Full
+        → AreWordsRead roles.Variant m k old new true n r → (r ≡ Bad) ⊎ (r ≡ Repeated)
         → AreHeadRead (bytes_left l) k new n (heads.Refused InvalidSubtag)
-    head_other k new n End h e x f = absurd (e refl)
-    head_other k new n Next h e x f = absurd (x refl)
-    head_other k new n Bad h e x f = absurd (h tt)
-    head_other k new n Repeated h e x f = head_repeated k new n h
-    head_other k new n Full h e x f = absurd (f refl)
+    head_other k new n r h (inl e) = absurd (subst (AreWordsRead roles.Variant m k old new true n) e h tt)
+    head_other k new n r h (inr e) =
+        head_repeated k new n (subst (AreWordsRead roles.Variant m k old new true n) e h)

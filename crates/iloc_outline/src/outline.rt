@@ -92,9 +92,14 @@ pub fn read_head(left: &mut Left<'_>, spans: &mut Spans, in_order: &mut bool) ->
     }
     match read_words(Role::Variant, left, spans, in_order) {
         Found::End => Head::All(outline),
-        Found::Next if is_single(*left) => Head::Block(outline),
+        Found::Next => {
+            if !is_single(*left) {
+                return Head::Refused(ParseError::InvalidSubtag);
+            }
+            Head::Block(outline)
+        }
         Found::Full => Head::Full,
-        _ => Head::Refused(ParseError::InvalidSubtag),
+        Found::Bad | Found::Repeated => Head::Refused(ParseError::InvalidSubtag),
     }
 }
 
