@@ -79,7 +79,10 @@ fn read_another(
 {
     let mut next = *left;
     let found = read_apart(byte, start, &mut next, spans, in_order);
-    *left = next;
+    *left = Left {
+        window: left.window,
+        ..next
+    };
     found
 }
 
