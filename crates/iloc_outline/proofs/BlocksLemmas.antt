@@ -1,5 +1,5 @@
 -- Blocks of a text, one after another: what is known at each, and what one more adds.
-use Rattle.std.proofs.Common.{◌≡◌, ◌≢◌, ◌⊎◌, inl, inr, ℕ, ◌+◌, ◌<◌, ◌≤◌, ◌==◌, ◌&&◌, ◌||◌, Bool, true, false, not, cond, List, [], ◌∷◌, ◌++◌, length, take, drop, map, flat_map, refl, sym, ap, ◌∙◌, subst, arith, Option, Some, None, append_assoc, append-nil, length-append, true≢false, IfSome, eq-eqb, is_some, ap₂, ◌↔◌}
+use Rattle.std.proofs.Common.{◌≡◌, ◌≢◌, ◌⊎◌, inl, inr, ℕ, ◌+◌, ◌<◌, ◌≤◌, ◌==◌, ◌&&◌, ◌||◌, Bool, true, false, not, cond, List, [], ◌∷◌, ◌++◌, length, map, flat_map, refl, sym, ap, ◌∙◌, subst, arith, Option, Some, None, append_assoc, append-nil, length-append, true≢false, IfSome, eq-eqb, is_some, ap₂, ◌↔◌}
 use Rattle.std.specs.List.{AllByRecursion, list_any}
 use Rattle.std.specs.Bool.{IsTrue, MatchBool}
 use Rattle.std.specs.Char.{is_ascii_alphanumeric, to_ascii_lowercase}
@@ -14,7 +14,7 @@ use Rattle.std.proofs.lemmas.List.{map-append}
 use Rattle.std.proofs.lemmas.List.Concat.{flat_map-append}
 use Rattle.std.proofs.lemmas.List.Folds.{list_any-append}
 use Rattle.std.proofs.lemmas.Simd.{map-map}
-use Rattle.iloc_spec_grammar.specs.Syntax.{Text, Block, AllDifferent, HasWords, Identifier, IsAmong, IsIdentifier, Language, Transform, TransformKey, Unicode, Fields, code_t, code_u, code_x, front, blocks, first_piece, identifier_pieces, is_one_byte, is_word, languages, lower, lower_singleton, optional_pieces, pieces, transform_pieces, word_cmp}
+use Rattle.iloc_spec_grammar.specs.Syntax.{Text, Block, AllDifferent, HasWords, Identifier, IsAmong, IsIdentifier, Language, Transform, TransformKey, Unicode, Fields, code_t, code_u, code_x, front, blocks, first_piece, identifier_pieces, is_one_byte, is_word, languages, lower, lower_singleton, optional_pieces, transform_pieces, word_cmp}
 use Rattle.iloc_spec_grammar.specs.Meaning.{InvalidExtension, InvalidSubtag, DuplicatedExtension, map_of}
 use Rattle.iloc_spec_grammar.specs.Tree.{IsTransformBlock, block_pieces}
 use Rattle.iloc_spec_grammar.specs.Reading.{after_front, before_key, front_of, identifier_of, starts_block, transform_of, unicode_of}
@@ -42,7 +42,6 @@ use Rattle.iloc_outline.specs.declared.span.Role.{Role}
 use Rattle.iloc_outline.specs.declared.span.Role.TheVariants as roles
 use Rattle.iloc_outline.specs.declared.span.Role.TheVariants.{Singleton}
 use Rattle.iloc_outline.specs.declared.spans.Spans.{Spans}
-use Rattle.iloc_pieces.proofs.LeftLemmas.{in_window, past_in_window}
 use Rattle.iloc_outline.proofs.Maps.{flat-append, put_between}
 use Rattle.iloc_outline.proofs.SpansLemmas.{length-held, spell_length}
 use Rattle.iloc_outline.proofs.PartsInOrder.{all_in_order}
@@ -176,24 +175,6 @@ pub record IsRead (c : ℕ) (t : Text) (ps rest : List Text) (old new : Spans) (
 -- what a reading says, where the test for `x` answers b
 abbrev pub IsReadAt : Bool → ℕ → Left → Left → Spans → Spans → Bool → Bool → Found → Type 0
 IsReadAt b c l m old new o n r = MatchBool b (IsPrivateBody c l old new o n r) (IsBody c l m old new o n r)
-
--- it says the same of the piece in the window of the first one
-pub read_in_window : (c : ℕ) (l m : Left) (old new : Spans) (o n : Bool) (r : Found)
-    → IsBlockRead c l m old new o n r → IsBlockRead c l (in_window l m) old new o n r
-read_in_window c l m old new o n r = at (to_ascii_lowercase c == code_x) r
-  where
-    at : (b : Bool) (r : Found) → IsReadAt b c l m old new o n r → IsReadAt b c l (in_window l m) old new o n r
-    at true r h = h
-    at false End h = h
-    at false Next (ps, past, one, block) = (
-      ps,
-      past_in_window past,
-      subst (λ (t : Text). is_one_byte (first_piece (pieces (take m.len (drop m.at t)))) ≡ true) past.window one,
-      block,
-    )
-    at false Bad h = h
-    at false Repeated h = h
-    at false Full h = h
 
 -- the block is the last one
 pub read_end : (c : ℕ) (l k : Left) (old new : Spans) (o n : Bool) → IsBlockRead c l k old new o n End

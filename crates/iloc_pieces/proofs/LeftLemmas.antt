@@ -1,5 +1,5 @@
 -- Pieces that are passed, and the bytes that they are.
-use Rattle.std.proofs.Common.{◌≡◌, ◌≢◌, ◌⊎◌, ℕ, suc, ◌+◌, ◌-◌, ◌<◌, ◌≤◌, ◌==◌, true, List, [], ◌∷◌, ◌++◌, length, get_or, take, drop, refl, sym, ap, ◌∙◌, subst, arith, inl, inr, append_assoc, append-nil}
+use Rattle.std.proofs.Common.{◌≡◌, ◌≢◌, ℕ, suc, ◌+◌, ◌-◌, ◌<◌, ◌≤◌, ◌==◌, true, List, [], ◌∷◌, ◌++◌, length, get_or, take, drop, refl, sym, ap, ◌∙◌, subst, arith, inl, inr, append_assoc, append-nil}
 use Rattle.std.specs.Int.{is_in_range}
 use Rattle.std.specs.List.{AllByRecursion}
 use Rattle.std.proofs.Math.Seq.{take-add, take-append_seam, drop-cons}
@@ -9,7 +9,7 @@ use Rattle.iloc_spec_grammar.specs.Syntax.{Text, Kind, Language, Script, Region,
 use Rattle.iloc_spec_grammar.proofs.PartTexts.{join-append, join-dashes, dashes-append}
 use Rattle.iloc_spec_grammar.proofs.PiecesLaws.{at_pieces, join-pieces, pieces-join, pieces_hyphen_free}
 use Rattle.iloc_spec_grammar.proofs.RawLaws.{languages_table}
-use Rattle.iloc_pieces.specs.Left.{HasShape, IsLong, IsRemainder, IsLater, IsNextPiece, IsPast, IsEnd, IsSpanned, IsShortPiece, piece_left, pieces_left, bytes_left, whole_text}
+use Rattle.iloc_pieces.specs.Left.{IsRemainder, IsLater, IsNextPiece, IsPast, IsEnd, IsSpanned, IsShortPiece, piece_left, pieces_left, bytes_left, whole_text}
 use Rattle.iloc_pieces.specs.declared.left.Left.{Left}
 use Rattle.iloc_pieces.proofs.Shapes.{few_bytes}
 
@@ -328,48 +328,6 @@ past_past {l} {m} {k} {ps} {qs} p q =
 pub past_next : {l m k : Left} {ps : List Text} → IsPast l m ps → IsShortPiece (piece_left m) → IsNextPiece m k
     → IsPast l k (ps ++ (piece_left m ∷ []))
 past_next p short next = past_past p (past_first p.left short next)
-
--- m, in the window of l
-abbrev pub in_window : Left → Left → Left
-in_window l m =
-    record { window = l.window; at = m.at; len = m.len; n = m.n; shape = m.shape; marks = m.marks }
-
--- the same pieces are passed to it
-pub past_in_window : {l m : Left} {ps : List Text} → IsPast l m ps → IsPast l (in_window l m) ps
-past_in_window {l} {m} {ps} p = subst (λ (t : Text). IsPast l (at t) ps) p.window (record {
-  left = record { inside = p.left.inside; piece = piece p.left.piece };
-  later = record { after = p.later.after; hyphen = p.later.hyphen };
-  less = p.less;
-  window = p.window;
-  end = p.end;
-  text = p.text;
-  pieces = p.pieces;
-  spanned = p.spanned;
-  rest = p.rest;
-})
-  where
-    at : Text → Left
-    at t = record {
-      window = record { ref_ptr = l.window.ref_ptr; now = t };
-      at = m.at;
-      len = m.len;
-      n = m.n;
-      shape = m.shape;
-      marks = m.marks;
-    }
-
-    piece : HasShape (bytes_left m) m ⊎ IsLong (bytes_left m) m
-        → HasShape (bytes_left m) (at m.window.now) ⊎ IsLong (bytes_left m) (at m.window.now)
-    piece (inl h) = inl (record {
-      few = h.few;
-      long = h.long;
-      shape = h.shape;
-      known = h.known;
-      enough = h.enough;
-      most = h.most;
-      marks = h.marks;
-    })
-    piece (inr h) = inr (record { most = h.most; long = h.long; shape = h.shape })
 
 -- the text ends where it did
 pub same_end : {l m : Left} {ps : List Text} → IsPast l m ps → m.at + m.len ≡ l.at + l.len
