@@ -83,12 +83,7 @@ fn is_edited(role: Role, value: &Value) -> bool
 /// Reads the keywords or fields that come first, and puts their spans in order; of equal keys the first stays. A key of `t`
 /// has a value.
 #[inline(always)]
-pub fn read_fields(
-    role: Role,
-    left: &mut Left<'_>,
-    spans: &mut Spans,
-    in_order: &mut bool,
-) -> Found
+pub fn read_fields(role: Role, left: &mut Left<'_>, spans: &mut Spans, in_order: &mut bool) -> Found
     requires role { IsOfField role }
     requires left { IsRemainder left.old }
     requires later { IsLater left.old }

@@ -25,12 +25,7 @@ fn fits(role: Role, left: Left<'_>) -> bool
 /// Reads the words of this role that come first, attributes or variants, and puts their spans in order. A variant that comes
 /// twice is refused; of equal attributes the first stays.
 #[inline(always)]
-pub fn read_words(
-    role: Role,
-    left: &mut Left<'_>,
-    spans: &mut Spans,
-    in_order: &mut bool,
-) -> Found
+pub fn read_words(role: Role, left: &mut Left<'_>, spans: &mut Spans, in_order: &mut bool) -> Found
     requires role { IsOfWord role }
     requires left { IsRemainder left.old }
     requires later { IsLater left.old }

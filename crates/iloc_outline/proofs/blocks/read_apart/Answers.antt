@@ -1,5 +1,5 @@
 -- What follows `x`.
-use Rattle.std.proofs.Common.{◌≡◌, ◌==◌, sym, ap, subst, ◌∙◌}
+use Rattle.std.proofs.Common.{◌==◌, sym, ap, subst, ◌∙◌}
 use Rattle.iloc_outline.proofs.BlocksLemmas.{IsReadAt}
 use Rattle.iloc_outline.proofs.blocks.read_apart.Goals as goal
 

@@ -1,4 +1,4 @@
-use Rattle.std.proofs.Common.{◌≡◌, ◌≢◌, ◌∙◌, Bool, None, Option, Some, ap, arith, false, if◌then◌else◌, rules, sym, true}
+use Rattle.std.proofs.Common.{◌≡◌, ◌≢◌, ◌∙◌, Bool, None, Option, Some, ap, arith, false, rules, sym, true}
 use denote.Enum.Bare.{same_false, same_true}
 use Rattle.iloc_outline.specs.contracts.span.Role.{the_type}
 use Rattle.iloc_outline.specs.declared.span.Role.TheVariants.{Field}

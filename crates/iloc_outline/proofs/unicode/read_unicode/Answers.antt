@@ -2,7 +2,7 @@
 use Rattle.std.proofs.Common.{◌≡◌, false, sym, ◌∙◌, subst}
 use Rattle.iloc_spec_grammar.specs.Syntax.{is_one_byte}
 use Rattle.iloc_pieces.specs.Left.{piece_left}
-use Rattle.iloc_outline.specs.Reading.{AreWordsRead, EndsAtBlock}
+use Rattle.iloc_outline.specs.Reading.{AreWordsRead}
 use Rattle.iloc_outline.specs.declared.span.Role.TheVariants.{Attribute}
 use Rattle.iloc_outline.proofs.UnicodeLemmas.{unicode_single, words_alone, words_read}
 use Rattle.iloc_outline.proofs.unicode.read_unicode.Goals as goal
