@@ -24,7 +24,7 @@ test('no import, and the exports that are wanted', () => {
   const made = new WebAssembly.Module(module.bytes);
   assert.deepEqual(WebAssembly.Module.imports(made), []);
   assert.deepEqual(WebAssembly.Module.exports(made).map(it => it.name).sort(), ['__heap_base', 'memory', 'web_check', 'web_compare',
-    'web_find_fault', 'web_normalize', 'web_normalizing_eq', 'web_version', 'web_words']);
+    'web_find_fault', 'web_normalize', 'web_normalizing_eq', 'web_parts', 'web_version', 'web_words']);
 });
 
 test('buffers', () => {
@@ -68,6 +68,29 @@ test('numbers that are none', () => {
   assert.equal(read(one).slice(0, 16), 'Buffer too small');
 });
 
+// (a row is where a piece begins, where it ends, and its kind: 0 a language, 2 a region, 3 a variant, 4 a singleton, 6 a key, 7 a value)
+test('tables of parts', () => {
+  const parts = (mode, it, { place = 1024n, table = 64n } = {}) => {
+    const length = put(it);
+    all.fill(46, Number(one), Number(one) + 1024);
+    const status = calls.web_parts(mode, text, length + 16n, length, room, place, number, one, table, number + 8n);
+    const [end, count] = [0, 8].map(more => Number(numbers.getBigUint64(Number(number) + more, true)));
+    const rows = Array.from({ length: all[Number(one)] === 46 ? 0 : count }, (_, at) => Number(numbers.getBigUint64(Number(one) + 8 * at, true)));
+    return [status, Buffer.from(all.subarray(Number(room), Number(room) + end)).toString(), count, rows];
+  };
+  const rows = [0, 2, 0, 3, 5, 2, 6, 7, 4, 8, 10, 6];
+  assert.deepEqual(parts(1, 'EN-us-u-KN-true'), [0, 'en-US-u-kn', 12, rows]);
+  assert.deepEqual(parts(1, 'EN-us-u-KN-true', { table: 12n }), [0, 'en-US-u-kn', 12, rows]);
+  for (const table of [0n, 11n]) assert.deepEqual(parts(1, 'EN-us-u-KN-true', { table }), [6, 'en-US-u-kn', 12, []]);
+  assert.deepEqual(parts(1, 'EN-us-u-KN', { place: 26n }), [0, 'en-US-u-kn', 12, rows]);
+  assert.deepEqual(parts(1, 'EN-us-u-KN', { place: 25n }), [9, '', 0, []]);
+  assert.deepEqual(parts(0, 'DE-1901'), [0, 'de-1901', 6, [0, 2, 0, 3, 7, 3]]);
+  assert.deepEqual(parts(2, 'und-u-sd-usca'), [0, 'und-US-u-sd-usca', 15, [0, 3, 0, 4, 6, 2, 7, 8, 4, 9, 11, 6, 12, 16, 7]]);
+  assert.deepEqual(parts(0, 'en-u-kn'), [2, '', 0, []]);
+  assert.deepEqual(parts(1, 'x'), [1, '', 0, []]);
+  assert.deepEqual(parts(3, 'en'), [7, '', 0, []]);
+});
+
 test('two texts', () => {
   const both = (call, mode, a, b, first = 1024n, second = 1024n) => {
     const length = put(a), more = put(b, other);
@@ -97,10 +120,10 @@ test('offsets and lengths outside the memory', async () => {
   const edges = [0, 1, 2, 15, 16, 17, 21, base, base + 64, size - 1, size, size + 1, size - 16, 2 ** 31, 2 ** 32 - 1, 2 ** 32, 2 ** 40].map(BigInt);
   edges.push((1n << 63n) - 1n, 1n << 63n, (1n << 64n) - 1n, (1n << 64n) - 16n, (1n << 64n) - BigInt(size));
   const place = () => (next(2) ? edges[next(edges.length)] : BigInt(base + next(4096)));
-  const counts = { web_normalize: 8, web_check: 3, web_find_fault: 5, web_compare: 11, web_normalizing_eq: 11, web_words: 3 };
+  const counts = { web_normalize: 8, web_check: 3, web_find_fault: 5, web_compare: 11, web_normalizing_eq: 11, web_parts: 9, web_words: 3 };
   let stopped = 0, ended = 0;
   for (let round = 0; round < 4000; round++) {
-    const name = Object.keys(counts)[next(6)];
+    const name = Object.keys(counts)[next(7)];
     const words = Array.from({ length: counts[name] }, () => (next(3) ? place() : BigInt(next(64))));
     try {
       const status = ask(name, next(4), ...words);

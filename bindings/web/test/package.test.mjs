@@ -95,6 +95,17 @@ test('parts', () => {
     + 'language script region field value singleton attribute key value value key value singleton private private');
 });
 
+test('places of pieces', () => {
+  const shown = (text, mode) => parts(text, mode).pieces.map(({ start, end, of }) => `${start}-${end}${of}`).join(' ');
+  assert.equal(shown('EN-us-u-ca-foo-bar'), '0-2 3-5 6-7u 8-10u 11-14u 15-18u');
+  assert.equal(shown('en-t-DE-m0-true-x-u'), '0-2 3-4t 5-7t 8-10t 11-15t 16-17x 18-19x');
+  assert.equal(shown('und-u-sd-gbeng', 'data'), '0-3 4-6 7-8u 9-11u 12-17u');
+  assert.equal(shown('de-1901', 'langid'), '0-2 3-7');
+  assert.throws(() => parts('en-u-ca', 'langid'), it => it.code === 'InvalidSubtag' && it.mode === 'langid' && it.start === 3);
+  assert.throws(() => parts('en', 'other'), TypeError);
+  assert.throws(() => parts('x'.repeat(65536)), it => it.code === 'BeyondLimits');
+});
+
 test('refusals', () => {
   assert.throws(() => normalize('en_US'), error => error instanceof LocaleError && error instanceof RangeError && error.name === 'LocaleError'
     && error.code === 'InvalidLanguage' && error.message === 'The given language subtag is invalid' && error.start === 0 && error.end === 5);
