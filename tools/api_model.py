@@ -8,7 +8,6 @@ import api_words
 from api_source import ALIAS, CORE, HEAD, crate, ghost_uses, libraries, modules, sources
 from common import without_prefix
 
-INNER = re.compile(r"pub (?!\()|[A-Z]")
 OURS = ("Writeable", "Sink", "Word", "WordKind", "Store", "PreferenceKey", "JsonText", "TextValue")
 OF_STD = (
     "Clone Copy Debug Default Drop Display Eq Error From FromStr Hash IntoIterator Iterator Ord PartialEq "
