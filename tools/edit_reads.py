@@ -142,7 +142,7 @@ class Reads:
         seen, left = {*first}, [*first]
         while left:
             new = {*self.all_named(left.pop())} - seen
-            seen |= new
+            seen.update(new)
             left += new
         return sorted(it.sum for it in seen)
 
