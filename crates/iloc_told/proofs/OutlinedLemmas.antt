@@ -1,21 +1,11 @@
--- What an outline tells, and when it tells nothing.
-use Rattle.std.proofs.Common.{◌≡◌, ◌⊎◌, ◌↔◌, inl, inr, IsTrue, Bool, false, ℕ, ◌+◌, ◌≤◌, List, [], ◌∷◌, ◌++◌, length, length-append, sym, ap, ◌∙◌, arith}
-use Rattle.std.proofs.lemmas.Bool.{false_from_ne_true, true≢false}
+-- When an outline tells nothing.
+use Rattle.std.proofs.Common.{◌≡◌, ◌⊎◌, inl, inr, ℕ, ◌+◌, ◌≤◌, List, [], ◌∷◌, ◌++◌, length, length-append, sym, ap, ◌∙◌, arith}
 use Rattle.iloc_spec_grammar.specs.Syntax.{pieces, join, dashes}
 use Rattle.iloc_spec_grammar.proofs.PartTexts.{join-dashes}
 use Rattle.iloc_spec_grammar.proofs.PiecesLaws.{at_pieces, join-pieces}
-use Rattle.iloc_subtags.specs.declared.parse_error.ParseError.TheVariants.{InvalidLanguage}
-use Rattle.iloc_outline.specs.Outlines.{BeginsWithLanguage}
-use Rattle.iloc_told.specs.Told.{HasRefusal, IsBeyond, IsNothingOnlyIf}
-use Rattle.iloc_told.specs.declared.Mode.{Mode}
-use Rattle.iloc_told.proofs.FrontAnswers.{no_language_refused}
+use Rattle.iloc_told.specs.Told.{IsBeyond, IsNothingOnlyIf}
 use Rattle.iloc_told.specs.declared.told.Told.{Told}
 use Rattle.iloc_told.specs.declared.told.Told.TheVariants as told
-
--- a text that does not begin with a language is refused so
-pub unbegun_refused : (mode : Mode) (t : List ℕ) (begins : Bool) → IsTrue begins ↔ BeginsWithLanguage t → begins ≡ false → HasRefusal mode t InvalidLanguage
-unbegun_refused mode t begins is none =
-    no_language_refused mode t (false_from_ne_true _ (λ e. true≢false (sym (is.1 e) ∙ none)))
 
 -- a text has at most one piece more than bytes
 few_dashes : (ps : List (List ℕ)) → length ps ≤ length (dashes ps)

@@ -1,15 +1,14 @@
 //! What the front of a text tells of it as a data locale.
 ghost use Rattle.std.specs.Prelude.{◌≡◌, ◌↔◌, ◌+◌, ◌<◌, ◌≤◌, IsTrue, true, length, take, get_or};
 ghost use Rattle.iloc_spec_parts.specs.SmallComputing.{is_u};
-ghost use Rattle.iloc_fronts.specs.Front.{IsFound, IsFront};
+ghost use Rattle.iloc_fronts.specs.Front.{IsFront};
 ghost use Rattle.iloc_fronts.specs.declared.front.Front.TheVariants as fronts;
-ghost use Rattle.iloc_told.specs.Told.{ArePlain, IsLead, IsWritten};
+ghost use Rattle.iloc_told.specs.Told.{IsLead, IsWritten};
 ghost use Rattle.iloc_told.specs.declared.Mode.TheVariants as Mode;
 
 use crate::subdivisions::{write_subdivision, write_varied};
 use crate::writing::Written;
-use iloc_fronts::{Block, Front, Keyword, find_block, read_front, read_keyword};
-use iloc_plain::read_plain;
+use iloc_fronts::{Block, Front, Keyword, read_front, read_keyword};
 use iloc_subtags::ParseError;
 
 // What the front tells.
@@ -42,79 +41,9 @@ pub(crate) fn write_data(window: &[u8], len: usize, to: &mut [u8]) -> Written
     }
 }
 
-// What is told by the first piece of one byte, or else by the front.
+// What the front tells. A data locale has one variant at most.
 #[inline(always)]
 fn read_lead(window: &[u8], len: usize) -> Lead
-    requires { len + 16 ≤ length window.now }
-    ensures { IsLead (take len window.now) result }
-{
-    match read_found(window, len) {
-        Lead::Nothing => lead_of_front(window, len),
-        lead => lead,
-    }
-}
-
-// What is told by the first piece of one byte, before anything else is read.
-#[inline(always)]
-fn read_found(window: &[u8], len: usize) -> Lead
-    requires { len + 16 ≤ length window.now }
-    ensures { IsLead (take len window.now) result }
-{
-    match find_block(window, len) {
-        Some(block) => lead_of_found(window, len, block),
-        None => Lead::Nothing,
-    }
-}
-
-// The same of a text with such a piece. A data locale has no block but that of `u`.
-#[inline(always)]
-fn lead_of_found(window: &[u8], len: usize, block: Block<'_>) -> Lead
-    requires room { len + 16 ≤ length window.now }
-    requires found { IsFound (take len window.now) block }
-    ensures { IsLead (take len window.now) result }
-{
-    let singleton = block.window[0];
-    if singleton == b'U' || singleton == b'u' {
-        return lead_of_found_keyword(window, len, block);
-    }
-    if singleton.is_ascii_alphanumeric() {
-        return Lead::Refused(ParseError::InvalidSubtag);
-    }
-    Lead::Nothing
-}
-
-// The same if the piece is `u`. Most keywords are refused whatever comes before.
-#[inline(always)]
-fn lead_of_found_keyword(window: &[u8], len: usize, block: Block<'_>) -> Lead
-    requires room { len + 16 ≤ length window.now }
-    requires found { IsFound (take len window.now) block }
-    requires u { is_u (get_or block.window.now 0 0) ≡ true }
-    ensures { IsLead (take len window.now) result }
-{
-    let at = len - block.len - 1;
-    let error = ParseError::InvalidSubtag;
-    match read_keyword(block) {
-        Keyword::Attribute => Lead::Refused(error),
-        Keyword::Misfit => Lead::Refused(error),
-        Keyword::Many => Lead::Refused(error),
-        Keyword::Single if is_plain(window, at) => Lead::Refused(ParseError::InvalidExtension),
-        Keyword::Subdivision if is_plain(window, at) => Lead::Subdivision(at, at + 1),
-        Keyword::Single | Keyword::Subdivision | Keyword::Other => Lead::Nothing,
-    }
-}
-
-// Whether the first `at` bytes are a plain identifier.
-#[inline(always)]
-fn is_plain(window: &[u8], at: usize) -> bool
-    requires { 16 ≤ length window.now }
-    ensures { IsTrue result → ArePlain (take at window.now) }
-{
-    at <= 16 && read_plain(window, at).is_some()
-}
-
-// What is told by the front. A data locale has one variant at most.
-#[inline(always)]
-fn lead_of_front(window: &[u8], len: usize) -> Lead
     requires { len + 16 ≤ length window.now }
     ensures { IsLead (take len window.now) result }
 {

@@ -3,6 +3,7 @@ ghost use Rattle.std.specs.Prelude.{◌≡◌, ◌⊎◌, ◌+◌, ◌≤◌, le
 ghost use Rattle.iloc_told.specs.Told.{IsBeyond, IsNothingOnlyIf, IsTold};
 
 use crate::Mode;
+use crate::refusals::refused_at_once;
 use crate::writing::{Written, write_normal};
 use iloc_outline::spans::Spans;
 use iloc_subtags::ParseError;
@@ -30,6 +31,9 @@ pub fn tell<'a>(mode: Mode, window: &[u8], len: usize, room: &'a mut [u8]) -> To
     ensures few { IsNothingOnlyIf ((mode ≡ Mode.Data)
         ⊎ IsBeyond (length room.old) (take len window.now)) result }
 {
+    if let Some(error) = refused_at_once(mode, window, len) {
+        return Told::Refused(error);
+    }
     let mut spans = Spans::new();
     match write_normal(mode, window, len, &mut spans, room) {
         Written::Normal(end) => Told::Normal(&room[..end]),

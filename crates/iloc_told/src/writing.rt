@@ -1,12 +1,12 @@
 //! Writes the normal text of a text, in each mode.
 ghost use Rattle.std.specs.Prelude.{◌≡◌, ◌+◌, ◌≤◌, ◌<◌, ◌^◌, length, take};
+ghost use Rattle.iloc_outline.specs.Outlines.{BeginsWithLanguage};
 ghost use Rattle.iloc_told.specs.Told.{IsWritten};
 ghost use Rattle.iloc_told.specs.declared.Mode.TheVariants as Mode;
 
 use crate::Mode;
 use crate::leads::write_data;
-use iloc_fronts::find_block;
-use iloc_outline::outline::{Outlined, begins_with_language, outline_identifier, outline_locale};
+use iloc_outline::outline::{Outlined, outline_identifier, outline_locale};
 use iloc_outline::printing::copy_outline;
 use iloc_outline::spans::Spans;
 use iloc_subtags::ParseError;
@@ -25,9 +25,10 @@ pub enum Written {
     Nothing,
 }
 
-/// Writes the normal text in the mode of the first `len` bytes, if that is told of them. Sixteen bytes after them are
-/// loaded too, and change nothing. Up to sixteen bytes more are stored behind what is written.
-#[inline(never)]
+/// Writes the normal text in the mode of the first `len` bytes, if that is told of them. They begin with a language, as
+/// `refused_at_once` tells. Sixteen bytes after them are loaded too, and change nothing. Up
+/// to sixteen bytes more are stored behind what is written.
+#[inline(always)]
 pub fn write_normal(
     mode: Mode,
     window: &[u8],
@@ -35,7 +36,8 @@ pub fn write_normal(
     spans: &mut Spans,
     to: &mut [u8],
 ) -> Written
-    requires { len + 16 ≤ length window.now }
+    requires wide { len + 16 ≤ length window.now }
+    requires begins { BeginsWithLanguage (take len window.now) }
     ensures { IsWritten mode (take len window.now) to.new result }
 {
     if len >= TOO_MANY || to.len() < len + 16 {
@@ -48,20 +50,15 @@ pub fn write_normal(
     }
 }
 
-// The same of an identifier. Most texts with a block have it among their first bytes, and are refused for it.
+// The same of an identifier.
 #[inline(never)]
 fn write_identifier(window: &[u8], len: usize, spans: &mut Spans, to: &mut [u8]) -> Written
-    requires wide { len + 16 ≤ length window.now }
+    requires inside { len ≤ length window.now }
     requires few { len < 2 ^ 16 }
+    requires begins { BeginsWithLanguage (take len window.now) }
     requires room { len + 16 ≤ length to.old }
     ensures { IsWritten Mode.Langid (take len window.now) to.new result }
 {
-    if let Some(_) = find_block(window, len) {
-        return Written::Refused(ParseError::InvalidSubtag);
-    }
-    if !begins_with_language(window, len) {
-        return Written::Refused(ParseError::InvalidLanguage);
-    }
     match outline_identifier(window, len, spans) {
         Outlined::Normal(outline) => {
             let end = copy_outline(window, len, &outline, spans, to);
@@ -77,12 +74,10 @@ fn write_identifier(window: &[u8], len: usize, spans: &mut Spans, to: &mut [u8])
 fn write_locale(window: &[u8], len: usize, spans: &mut Spans, to: &mut [u8]) -> Written
     requires inside { len ≤ length window.now }
     requires few { len < 2 ^ 16 }
+    requires begins { BeginsWithLanguage (take len window.now) }
     requires room { len + 16 ≤ length to.old }
     ensures { IsWritten Mode.Locale (take len window.now) to.new result }
 {
-    if !begins_with_language(window, len) {
-        return Written::Refused(ParseError::InvalidLanguage);
-    }
     match outline_locale(window, len, spans) {
         Outlined::Normal(outline) => {
             let end = copy_outline(window, len, &outline, spans, to);

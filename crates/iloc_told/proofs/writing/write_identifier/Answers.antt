@@ -2,9 +2,6 @@ use Rattle.std.proofs.Common.{◌≡◌, length, length-take-le, take, arith}
 use Rattle.iloc_spec_grammar.specs.Syntax.{languages}
 use Rattle.iloc_spec_grammar.specs.Values.{identifier_text}
 use Rattle.iloc_spec_grammar.proofs.AnySteps.{length-identifier_means}
-use Rattle.iloc_told.specs.declared.Mode.TheVariants.{Langid}
-use Rattle.iloc_told.proofs.FrontAnswers.{found_is_refused}
-use Rattle.iloc_told.proofs.OutlinedLemmas.{unbegun_refused}
 use Rattle.iloc_told.proofs.writing.write_identifier.Goals as goal
 
 pub copy_outline-end-requires-clause-gives : goal.copy_outline-end-requires-clause-gives
@@ -14,15 +11,8 @@ copy_outline-end-requires-clause-gives c =
     let long : length (identifier_text i) ≡ length t = length-identifier_means languages t i m in
     record { normal = identifier_text i; gives = g; few = omega arith }
 
-pub returns-in-Some : goal.returns-in-Some
-returns-in-Some c = found_is_refused (take c.args.len c.args.window.now) _ c.in-Some.ensures
-
-pub returns-then-not-begins_with_language : goal.returns-then-not-begins_with_language
-returns-then-not-begins_with_language c =
-    unbegun_refused Langid (take c.args.len c.args.window.now) c.begins_with_language.result c.begins_with_language.ensures c.if-not-begins_with_language.true
-
 pub returns-in-Normal : goal.returns-in-Normal
 returns-in-Normal c =
     let (i, m, g) = c.in-Normal.ensures in
-    let whole : length (take c.args.len c.args.window.now) ≡ c.args.len = length-take-le c.args.len c.args.window.now (omega (arith, c.requires.wide)) in
+    let whole : length (take c.args.len c.args.window.now) ≡ c.args.len = length-take-le c.args.len c.args.window.now c.requires.inside in
     (omega (arith, whole, c.copy_outline-end.ensures.within), omega (arith, whole, c.requires.room), (i, m, c.copy_outline-end.ensures.text (identifier_text i) g))

@@ -2,18 +2,12 @@ use Rattle.std.proofs.Common.{◌≡◌, length, length-take-le, take, arith}
 use Rattle.iloc_spec_grammar.specs.Syntax.{languages}
 use Rattle.iloc_spec_grammar.specs.Values.{text}
 use Rattle.iloc_spec_grammar.proofs.AnySteps.{shortest}
-use Rattle.iloc_told.specs.declared.Mode.TheVariants.{Locale}
-use Rattle.iloc_told.proofs.OutlinedLemmas.{unbegun_refused}
 use Rattle.iloc_told.proofs.writing.write_locale.Goals as goal
 
 pub copy_outline-end-requires-clause-gives : goal.copy_outline-end-requires-clause-gives
 copy_outline-end-requires-clause-gives c =
     let h = c.in-Normal.ensures in
     record { normal = text h.0; gives = h.2; few = shortest languages (take c.args.len c.args.window.now) h.0 h.1 }
-
-pub returns-then-not-begins_with_language : goal.returns-then-not-begins_with_language
-returns-then-not-begins_with_language c =
-    unbegun_refused Locale (take c.args.len c.args.window.now) c.begins_with_language.result c.begins_with_language.ensures c.if-not-begins_with_language.true
 
 pub returns-in-Normal : goal.returns-in-Normal
 returns-in-Normal c =
