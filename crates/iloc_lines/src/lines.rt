@@ -37,7 +37,7 @@ use iloc_fronts::may_begin;
 use iloc_outline::spans::Spans;
 use iloc_plain::{Plain, read_plain};
 use iloc_subtags::ParseError;
-use iloc_told::{Written, refused_at_once};
+use iloc_told::{Lead, Written, read_lead};
 use memchr::memchr_iter;
 use std::alloc::{AllocError, Global};
 use std::io::Write;
@@ -153,10 +153,11 @@ fn reply_to<A: Answers>(
         ≡ held replies.old ++ reply languages A.mode (take len window.now)) }
 {
     let mode = answers.mode();
-    if let Some(error) = refused_at_once(mode, window, len) {
-        return write_refusal(error, replies);
-    }
-    match replies.push_told(mode, window, len, spans)? {
+    let lead = match read_lead(mode, window, len) {
+        Lead::Refused(error) => return write_refusal(error, replies),
+        lead => lead,
+    };
+    match replies.push_told(mode, lead, window, len, spans)? {
         Written::Normal(_) => Ok(()),
         Written::Refused(error) => write_refusal(error, replies),
         Written::Nothing => answers.reply(&window[..len], replies),

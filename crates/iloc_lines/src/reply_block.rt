@@ -3,7 +3,7 @@ ghost use Rattle.std.specs.Prelude.{◌≡◌, ◌+◌, ◌≤◌, [], ◌∷◌
 
 use iloc_outline::spans::Spans;
 use iloc_plain::Plain;
-use iloc_told::{Mode, Written, write_normal};
+use iloc_told::{Lead, Mode, Written, write_normal};
 use iloc_writeable::Sink;
 use std::alloc::{AllocError, Global};
 use std::cmp::max;
@@ -24,7 +24,7 @@ pub struct ReplyBlock {
 impl ReplyBlock {
     ghost use Rattle.iloc_lines.specs.ReplyBlock.{held};
     ghost use Rattle.iloc_lines.specs.Replies.{IsReplied};
-    ghost use Rattle.iloc_outline.specs.Outlines.{BeginsWithLanguage};
+    ghost use Rattle.iloc_told.specs.Told.{IsLead};
     ghost use Rattle.iloc_spec_grammar.specs.Values.{identifier_text};
     ghost use Rattle.iloc_plain.specs.Plain.{AreWords, value_of};
 
@@ -86,24 +86,25 @@ impl ReplyBlock {
         Ok(())
     }
 
-    /// Adds the normal text of the first `len` bytes, if it is told, and a newline; or nothing.
+    /// Adds the normal text of the first `len` bytes, of which their beginning tells this, and a newline; or nothing.
     #[inline(always)]
     pub(crate) fn push_told(
         &mut self,
         mode: Mode,
+        lead: Lead,
         window: &[u8],
         len: usize,
         spans: &mut Spans,
     ) -> Result<Written, AllocError>
         requires wide { len + 16 ≤ length window.now }
-        requires begins { BeginsWithLanguage (take len window.now) }
+        requires lead { IsLead mode (take len window.now) lead }
         ensures { IfOk result
             (IsReplied mode (take len window.now) (held self.old) (held self.new)) }
     {
         self.make_room(len + 17)?;
         let start = self.len;
         let to = &mut self.room.as_mut_slice()[start..];
-        let written = write_normal(mode, window, len, spans, to);
+        let written = write_normal(mode, lead, window, len, spans, to);
         if let Written::Normal(count) = written {
             self.len = start + count;
             self.put(b"\n", 1);

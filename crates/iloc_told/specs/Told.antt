@@ -1,11 +1,11 @@
 -- What is told of a text at once.
-use Rattle.std.specs.Prelude.{◌≡◌, ◌⊎◌, ℕ, ◌+◌, ◌^◌, ◌<◌, ◌≤◌, length, take, ⊤}
+use Rattle.std.specs.Prelude.{◌≡◌, ◌≢◌, ◌⊎◌, ℕ, ◌+◌, ◌^◌, ◌<◌, ◌≤◌, length, take, ⊤}
 use Rattle.iloc_spec_grammar.specs.Syntax.{Text, languages}
 use Rattle.iloc_subtags.specs.declared.parse_error.ParseError.{ParseError}
 use Rattle.iloc_subtags.specs.Judging.{Refusal}
 use Rattle.iloc_plain.specs.Plain.{IsPlain}
 use Rattle.iloc_plain.specs.declared.plain.Plain.{Plain}
-use Rattle.iloc_outline.specs.Outlines.{IsLimit}
+use Rattle.iloc_outline.specs.Outlines.{BeginsWithLanguage, IsLimit}
 use Rattle.iloc_told.specs.Modes.{IsNormalText, IsFaulty}
 use Rattle.iloc_told.specs.declared.Mode.{Mode}
 use Rattle.iloc_told.specs.declared.Mode.TheVariants.{Data}
@@ -24,12 +24,13 @@ HasRefusal mode t e = Refusal (IsFaulty languages mode t) ⊥ e
 abbrev pub ArePlain : Text → Type 0
 ArePlain t = (p : Plain) × IsPlain t p
 
--- what the front tells of a data locale is so
-abbrev pub IsLead : Text → Lead → Type 0
-IsLead t (lead.Refused e) = HasRefusal Data t e
-IsLead t (lead.Variant n) = ⊤
-IsLead t (lead.Subdivision n m) = ⊤
-IsLead t lead.Nothing = ⊤
+-- what the beginning tells is so
+abbrev pub IsLead : Mode → Text → Lead → Type 0
+IsLead mode t (lead.Refused e) = HasRefusal mode t e
+IsLead mode t lead.Outline = (mode ≢ Data) × BeginsWithLanguage t
+IsLead mode t (lead.Variant n) = mode ≡ Data
+IsLead mode t (lead.Subdivision n m) = mode ≡ Data
+IsLead mode t lead.Nothing = mode ≡ Data
 
 -- what is told is so
 abbrev pub IsTold : Mode → Text → Told → Type 0

@@ -1,51 +1,150 @@
-//! What the front of a text tells of it as a data locale.
+//! What the beginning of a text tells: why it is refused, or how its normal text is written.
 ghost use Rattle.std.specs.Prelude.{◌≡◌, ◌↔◌, ◌+◌, ◌<◌, ◌≤◌, IsTrue, true, length, take, get_or};
 ghost use Rattle.iloc_spec_parts.specs.SmallComputing.{is_u};
-ghost use Rattle.iloc_fronts.specs.Front.{IsFront};
+ghost use Rattle.iloc_fronts.specs.Front.{IsFound, IsFront};
 ghost use Rattle.iloc_fronts.specs.declared.front.Front.TheVariants as fronts;
-ghost use Rattle.iloc_told.specs.Told.{IsLead, IsWritten};
+ghost use Rattle.iloc_told.specs.Told.{ArePlain, IsLead};
 ghost use Rattle.iloc_told.specs.declared.Mode.TheVariants as Mode;
 
-use crate::subdivisions::{write_subdivision, write_varied};
-use crate::writing::Written;
-use iloc_fronts::{Block, Front, Keyword, read_front, read_keyword};
+use crate::Mode;
+use iloc_fronts::{Block, Front, Keyword, find_block, read_front, read_keyword};
+use iloc_outline::outline::begins_with_language;
+use iloc_plain::read_plain;
 use iloc_subtags::ParseError;
 
-// What the front tells.
+/// What the beginning of a text tells.
 #[derive(Drop)]
-pub(crate) enum Lead {
-    // Why the text is refused.
+pub enum Lead {
+    /// Why the text is refused.
     Refused(ParseError),
-    // Nothing, but it may be a plain identifier and a variant of so many bytes: `write_varied` tells more.
+    /// It begins with a language, and its outline tells the rest. It is said of identifiers and locales alone.
+    Outline,
+    /// It may be a plain identifier and a variant of so many bytes. This and what follows is said of data locales alone.
     Variant(usize),
-    // Nothing, but it may be a plain identifier of so many bytes, perhaps a variant, and after so many bytes a keyword
-    // `sd`: `write_subdivision` tells more.
+    /// It may be a plain identifier of so many bytes, perhaps a variant, and after so many bytes a keyword `sd`.
     Subdivision(usize, usize),
-    // Nothing.
+    /// Nothing.
     Nothing,
 }
 
-/// Writes the normal text of the first `len` bytes as a data locale, if that is told of them. Sixteen bytes after them
-/// are loaded too, and change nothing.
-#[inline(never)]
-pub(crate) fn write_data(window: &[u8], len: usize, to: &mut [u8]) -> Written
-    requires wide { len + 16 ≤ length window.now }
-    requires room { len + 16 ≤ length to.old }
-    ensures { IsWritten Mode.Data (take len window.now) to.new result }
+/// What the beginning of the first `len` bytes tells in the mode. Sixteen bytes after them are loaded too, and change
+/// nothing.
+#[inline(always)]
+pub fn read_lead(mode: Mode, window: &[u8], len: usize) -> Lead
+    requires { len + 16 ≤ length window.now }
+    ensures { IsLead mode (take len window.now) result }
 {
-    match read_lead(window, len) {
-        Lead::Refused(error) => Written::Refused(error),
-        Lead::Variant(n) => write_varied(window, len, n, to),
-        Lead::Subdivision(at, start) => write_subdivision(window, len, at, start, to),
-        Lead::Nothing => Written::Nothing,
+    match mode {
+        Mode::Langid => lead_of_identifier(window, len),
+        Mode::Locale => lead_of_locale(window, len),
+        Mode::Data => lead_of_data(window, len),
     }
 }
 
-// What the front tells. A data locale has one variant at most.
+// The same of an identifier. It has no piece of one byte.
 #[inline(always)]
-fn read_lead(window: &[u8], len: usize) -> Lead
+fn lead_of_identifier(window: &[u8], len: usize) -> Lead
     requires { len + 16 ≤ length window.now }
-    ensures { IsLead (take len window.now) result }
+    ensures { IsLead Mode.Langid (take len window.now) result }
+{
+    if let Some(_) = find_block(window, len) {
+        return Lead::Refused(ParseError::InvalidSubtag);
+    }
+    if begins_with_language(window, len) {
+        Lead::Outline
+    } else {
+        Lead::Refused(ParseError::InvalidLanguage)
+    }
+}
+
+// The same of a locale.
+#[inline(always)]
+fn lead_of_locale(window: &[u8], len: usize) -> Lead
+    requires { len + 16 ≤ length window.now }
+    ensures { IsLead Mode.Locale (take len window.now) result }
+{
+    if begins_with_language(window, len) {
+        Lead::Outline
+    } else {
+        Lead::Refused(ParseError::InvalidLanguage)
+    }
+}
+
+// The same of a data locale: by its first piece of one byte, or else by its front.
+#[inline(always)]
+fn lead_of_data(window: &[u8], len: usize) -> Lead
+    requires { len + 16 ≤ length window.now }
+    ensures { IsLead Mode.Data (take len window.now) result }
+{
+    match read_found(window, len) {
+        Lead::Nothing => lead_of_front(window, len),
+        lead => lead,
+    }
+}
+
+// What is told of a data locale by its first piece of one byte, before anything else is read.
+#[inline(always)]
+fn read_found(window: &[u8], len: usize) -> Lead
+    requires { len + 16 ≤ length window.now }
+    ensures { IsLead Mode.Data (take len window.now) result }
+{
+    match find_block(window, len) {
+        Some(block) => lead_of_found(window, len, block),
+        None => Lead::Nothing,
+    }
+}
+
+// The same of a text with such a piece. A data locale has no block but that of `u`.
+#[inline(always)]
+fn lead_of_found(window: &[u8], len: usize, block: Block<'_>) -> Lead
+    requires room { len + 16 ≤ length window.now }
+    requires found { IsFound (take len window.now) block }
+    ensures { IsLead Mode.Data (take len window.now) result }
+{
+    let singleton = block.window[0];
+    if singleton == b'U' || singleton == b'u' {
+        return lead_of_found_keyword(window, len, block);
+    }
+    if singleton.is_ascii_alphanumeric() {
+        return Lead::Refused(ParseError::InvalidSubtag);
+    }
+    Lead::Nothing
+}
+
+// The same if the piece is `u`. Most keywords are refused whatever comes before.
+#[inline(always)]
+fn lead_of_found_keyword(window: &[u8], len: usize, block: Block<'_>) -> Lead
+    requires room { len + 16 ≤ length window.now }
+    requires found { IsFound (take len window.now) block }
+    requires u { is_u (get_or block.window.now 0 0) ≡ true }
+    ensures { IsLead Mode.Data (take len window.now) result }
+{
+    let at = len - block.len - 1;
+    let error = ParseError::InvalidSubtag;
+    match read_keyword(block) {
+        Keyword::Attribute => Lead::Refused(error),
+        Keyword::Misfit => Lead::Refused(error),
+        Keyword::Many => Lead::Refused(error),
+        Keyword::Single if is_plain(window, at) => Lead::Refused(ParseError::InvalidExtension),
+        Keyword::Subdivision if is_plain(window, at) => Lead::Subdivision(at, at + 1),
+        Keyword::Single | Keyword::Subdivision | Keyword::Other => Lead::Nothing,
+    }
+}
+
+// Whether the first `at` bytes are a plain identifier.
+#[inline(always)]
+fn is_plain(window: &[u8], at: usize) -> bool
+    requires { 16 ≤ length window.now }
+    ensures { IsTrue result → ArePlain (take at window.now) }
+{
+    at <= 16 && read_plain(window, at).is_some()
+}
+
+// What is told by the front. A data locale has one variant at most.
+#[inline(always)]
+fn lead_of_front(window: &[u8], len: usize) -> Lead
+    requires { len + 16 ≤ length window.now }
+    ensures { IsLead Mode.Data (take len window.now) result }
 {
     match read_front(window, len) {
         Front::NoLanguage => Lead::Refused(ParseError::InvalidLanguage),
@@ -61,7 +160,7 @@ fn read_lead(window: &[u8], len: usize) -> Lead
 #[inline(always)]
 fn lead_of_block(text: &[u8], block: Block<'_>) -> Lead
     requires { IsFront text.now (fronts.Block block) }
-    ensures { IsLead text.now result }
+    ensures { IsLead Mode.Data text.now result }
 {
     let singleton = block.window[0];
     if singleton == b'u' || singleton == b'U' {
@@ -78,7 +177,7 @@ fn lead_of_block(text: &[u8], block: Block<'_>) -> Lead
 fn lead_of_keyword(text: &[u8], block: Block<'_>) -> Lead
     requires front { IsFront text.now (fronts.Block block) }
     requires u { is_u (get_or block.window.now 0 0) ≡ true }
-    ensures { IsLead text.now result }
+    ensures { IsLead Mode.Data text.now result }
 {
     match read_keyword(block) {
         Keyword::Attribute => Lead::Refused(ParseError::InvalidSubtag),
@@ -94,7 +193,7 @@ fn lead_of_keyword(text: &[u8], block: Block<'_>) -> Lead
 #[inline(always)]
 fn lead_of_subdivision(text: &[u8], block: Block<'_>) -> Lead
     requires { IsFront text.now (fronts.Block block) }
-    ensures { IsLead text.now result }
+    ensures { IsLead Mode.Data text.now result }
 {
     if comes_after_variants(block) {
         return Lead::Refused(ParseError::InvalidSubtag);

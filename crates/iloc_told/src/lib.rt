@@ -15,16 +15,15 @@ ghost use Rattle.std.specs.Prelude.{◌≡◌, ◌↔◌, Some};
 ghost use Rattle.iloc_told.specs.Modes.{word_of};
 
 pub mod copying;
-mod leads;
+pub mod leads;
 pub mod normal_text;
-pub mod refusals;
 mod subdivisions;
 pub mod told;
 pub mod window;
 pub mod writing;
 
+pub use leads::{Lead, read_lead};
 pub use normal_text::{normalize_short, normalize_told};
-pub use refusals::refused_at_once;
 pub use told::{Told, tell};
 pub use writing::{Written, write_normal};
 

@@ -25,7 +25,7 @@ struct Named {
 
 /// Writes the normal text of the first `len` bytes as a data locale, if they are a plain identifier and a variant of `n`
 /// bytes.
-#[inline(always)]
+#[inline(never)]
 pub(crate) fn write_varied(window: &[u8], len: usize, n: usize, to: &mut [u8]) -> Written
     requires wide { len + 16 ≤ length window.now }
     requires room { len + 16 ≤ length to.old }
@@ -40,7 +40,7 @@ pub(crate) fn write_varied(window: &[u8], len: usize, n: usize, to: &mut [u8]) -
 
 /// Writes the normal text of the first `len` bytes as a data locale, if they are a plain identifier of `at` bytes, perhaps
 /// a variant, and after `start` bytes `u`, `sd` and a piece of its value.
-#[inline(always)]
+#[inline(never)]
 pub(crate) fn write_subdivision(
     window: &[u8],
     len: usize,

@@ -3,7 +3,7 @@ ghost use Rattle.std.specs.Prelude.{◌≡◌, ◌⊎◌, ◌+◌, ◌≤◌, le
 ghost use Rattle.iloc_told.specs.Told.{IsBeyond, IsNothingOnlyIf, IsTold};
 
 use crate::Mode;
-use crate::refusals::refused_at_once;
+use crate::leads::read_lead;
 use crate::writing::{Written, write_normal};
 use iloc_outline::spans::Spans;
 use iloc_subtags::ParseError;
@@ -31,11 +31,9 @@ pub fn tell<'a>(mode: Mode, window: &[u8], len: usize, room: &'a mut [u8]) -> To
     ensures few { IsNothingOnlyIf ((mode ≡ Mode.Data)
         ⊎ IsBeyond (length room.old) (take len window.now)) result }
 {
-    if let Some(error) = refused_at_once(mode, window, len) {
-        return Told::Refused(error);
-    }
+    let lead = read_lead(mode, window, len);
     let mut spans = Spans::new();
-    match write_normal(mode, window, len, &mut spans, room) {
+    match write_normal(mode, lead, window, len, &mut spans, room) {
         Written::Normal(end) => Told::Normal(&room[..end]),
         Written::Refused(error) => Told::Refused(error),
         Written::Nothing => Told::Nothing,

@@ -1,11 +1,12 @@
 //! Writes the normal text of a text, in each mode.
 ghost use Rattle.std.specs.Prelude.{◌≡◌, ◌+◌, ◌≤◌, ◌<◌, ◌^◌, length, take};
 ghost use Rattle.iloc_outline.specs.Outlines.{BeginsWithLanguage};
-ghost use Rattle.iloc_told.specs.Told.{IsWritten};
+ghost use Rattle.iloc_told.specs.Told.{IsLead, IsWritten};
 ghost use Rattle.iloc_told.specs.declared.Mode.TheVariants as Mode;
 
 use crate::Mode;
-use crate::leads::write_data;
+use crate::leads::Lead;
+use crate::subdivisions::{write_subdivision, write_varied};
 use iloc_outline::outline::{Outlined, outline_identifier, outline_locale};
 use iloc_outline::printing::copy_outline;
 use iloc_outline::spans::Spans;
@@ -25,28 +26,52 @@ pub enum Written {
     Nothing,
 }
 
-/// Writes the normal text in the mode of the first `len` bytes, if that is told of them. They begin with a language, as
-/// `refused_at_once` tells. Sixteen bytes after them are loaded too, and change nothing. Up
-/// to sixteen bytes more are stored behind what is written.
+/// Writes the normal text in the mode of the first `len` bytes, of which their beginning tells this (`read_lead`). Sixteen
+/// bytes after them are loaded too, and change nothing. Up to sixteen bytes more are stored behind what is written.
 #[inline(always)]
 pub fn write_normal(
     mode: Mode,
+    lead: Lead,
     window: &[u8],
     len: usize,
     spans: &mut Spans,
     to: &mut [u8],
 ) -> Written
     requires wide { len + 16 ≤ length window.now }
-    requires begins { BeginsWithLanguage (take len window.now) }
+    requires lead { IsLead mode (take len window.now) lead }
     ensures { IsWritten mode (take len window.now) to.new result }
 {
     if len >= TOO_MANY || to.len() < len + 16 {
         return Written::Nothing;
     }
+    match lead {
+        Lead::Refused(error) => Written::Refused(error),
+        Lead::Outline => write_outlined(mode, window, len, spans, to),
+        Lead::Variant(n) => write_varied(window, len, n, to),
+        Lead::Subdivision(at, start) => write_subdivision(window, len, at, start, to),
+        Lead::Nothing => Written::Nothing,
+    }
+}
+
+// The same as the outline gives it.
+#[inline(always)]
+fn write_outlined(
+    mode: Mode,
+    window: &[u8],
+    len: usize,
+    spans: &mut Spans,
+    to: &mut [u8],
+) -> Written
+    requires inside { len ≤ length window.now }
+    requires few { len < 2 ^ 16 }
+    requires begins { BeginsWithLanguage (take len window.now) }
+    requires room { len + 16 ≤ length to.old }
+    ensures { IsWritten mode (take len window.now) to.new result }
+{
     match mode {
         Mode::Langid => write_identifier(window, len, spans, to),
         Mode::Locale => write_locale(window, len, spans, to),
-        Mode::Data => write_data(window, len, to),
+        Mode::Data => Written::Nothing,
     }
 }
 

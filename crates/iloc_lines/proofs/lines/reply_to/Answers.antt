@@ -8,14 +8,14 @@ use Rattle.iloc_told.specs.Told.{HasRefusal}
 use Rattle.iloc_lines.proofs.PlainLemmas.{normal_reply, refused_reply}
 use Rattle.iloc_lines.proofs.lines.reply_to.Goals as goal
 
-pub returns-in-Some : goal.returns-in-Some
-returns-in-Some g c =
+pub returns-in-Refused : goal.returns-in-Refused
+returns-in-Refused g c =
     let mode = g.A.Answers.mode in
     let line = take c.args.len c.args.window.now in
-    let told : HasRefusal mode line c.in-Some.error =
-    subst (λ (m : Mode). HasRefusal m line c.in-Some.error) c.mode-mode.ensures c.in-Some.ensures.some in
+    let told : HasRefusal mode line c.in-Refused.error =
+    subst (λ (m : Mode). HasRefusal m line c.in-Refused.error) c.mode-mode.ensures c.in-Refused.ensures in
     subst (λ (t : List ℕ). OnOk c.write_refusal.result (held c.write_refusal.new.replies ≡ held c.args.replies.now ++ t))
-    (refused_reply mode line c.in-Some.error told) c.write_refusal.ensures.text
+    (refused_reply mode line c.in-Refused.error told) c.write_refusal.ensures.text
 
 pub returns-in-Normal : goal.returns-in-Normal
 returns-in-Normal g c =
@@ -28,15 +28,15 @@ returns-in-Normal g c =
     let is = subst (λ (w : Written). IsReplied mode line before after w) c.in-Normal.is told in
     is.2 ∙ ap (λ (t : List ℕ). before ++ t) (normal_reply mode line is.0 is.1)
 
-pub returns-in-Refused : goal.returns-in-Refused
-returns-in-Refused g c =
+pub returns-in-Refused-2 : goal.returns-in-Refused-2
+returns-in-Refused-2 g c =
     let mode = g.A.Answers.mode in
     let line = take c.args.len c.args.window.now in
     let before = held c.args.replies.now in
     let after = held c.push_told.new.self in
     let told =
     subst (λ (m : Mode). IsReplied m line before after c.in_ok-push_told.field-0) c.mode-mode.ensures c.in_ok-push_told.ensures in
-    let is = subst (λ (w : Written). IsReplied mode line before after w) c.in-Refused.is told in
-    subst (λ (t : List ℕ). OnOk c.write_refusal-in-Refused.result (held c.write_refusal-in-Refused.new.replies ≡ before ++ t))
-    (refused_reply mode line c.in-Refused.error is.0)
-    (subst (λ (t : List ℕ). OnOk c.write_refusal-in-Refused.result (held c.write_refusal-in-Refused.new.replies ≡ t ++ (refusal_text c.in-Refused.error ++ 10 ∷ []))) is.1 c.write_refusal-in-Refused.ensures.text)
+    let is = subst (λ (w : Written). IsReplied mode line before after w) c.in-Refused-2.is told in
+    subst (λ (t : List ℕ). OnOk c.write_refusal-in-Refused-2.result (held c.write_refusal-in-Refused-2.new.replies ≡ before ++ t))
+    (refused_reply mode line c.in-Refused-2.error is.0)
+    (subst (λ (t : List ℕ). OnOk c.write_refusal-in-Refused-2.result (held c.write_refusal-in-Refused-2.new.replies ≡ t ++ (refusal_text c.in-Refused-2.error ++ 10 ∷ []))) is.1 c.write_refusal-in-Refused-2.ensures.text)

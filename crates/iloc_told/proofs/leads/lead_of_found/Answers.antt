@@ -2,7 +2,7 @@ use Rattle.std.proofs.Common.{◌≡◌, false, get_or, take, sym, ◌∙◌, ar
 use Rattle.std.proofs.lemmas.Bool.Decides.{nat_tests}
 use Rattle.iloc_spec_parts.specs.SmallComputing.{is_u}
 use Rattle.iloc_told.proofs.FoundAnswers.{other_found_refused}
-use Rattle.iloc_told.proofs.refusals.refused_for_block.Goals as goal
+use Rattle.iloc_told.proofs.leads.lead_of_found.Goals as goal
 
 pub returns-then-is_ascii_alphanumeric : goal.returns-then-is_ascii_alphanumeric
 returns-then-is_ascii_alphanumeric c =

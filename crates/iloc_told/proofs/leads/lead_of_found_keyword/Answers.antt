@@ -3,7 +3,7 @@ use Rattle.std.proofs.lemmas.List.{length-take-le, take-take}
 use Rattle.iloc_plain.specs.Plain.{IsPlain}
 use Rattle.iloc_told.specs.Told.{ArePlain}
 use Rattle.iloc_told.proofs.FoundAnswers.{found_attribute_refused, found_many_refused, found_misfit_refused, found_single_refused}
-use Rattle.iloc_told.proofs.refusals.refused_for_keyword.Goals as goal
+use Rattle.iloc_told.proofs.leads.lead_of_found_keyword.Goals as goal
 
 pub returns-in-Attribute : goal.returns-in-Attribute
 returns-in-Attribute c =

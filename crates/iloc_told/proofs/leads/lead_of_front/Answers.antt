@@ -2,7 +2,7 @@ use Rattle.std.proofs.Common.{take}
 use Rattle.iloc_told.specs.declared.Mode.TheVariants.{Data}
 use Rattle.iloc_told.proofs.FrontAnswers.{no_language_refused, misfit_is_refused}
 use Rattle.iloc_told.proofs.KeywordAnswers.{variants_refused}
-use Rattle.iloc_told.proofs.leads.read_lead.Goals as goal
+use Rattle.iloc_told.proofs.leads.lead_of_front.Goals as goal
 
 pub returns-in-NoLanguage : goal.returns-in-NoLanguage
 returns-in-NoLanguage c = no_language_refused Data (take c.args.len c.args.window.now) c.in-NoLanguage.ensures
