@@ -1,17 +1,16 @@
 -- From the first piece of a line to what stands at its front.
 use Rattle.std.proofs.Common.{◌≡◌, ◌≢◌, ℕ, zero, suc, ◌+◌, ◌-◌, ◌<◌, ◌≤◌, ◌==◌, Bool, true, false, cond, not, ◌&&◌, List, [], ◌∷◌, ◌++◌, length, get_or, take, drop, refl, sym, ap, ◌∙◌, subst, arith, inl, inr, append_assoc, append-nil}
-use Rattle.std.specs.Int.{is_in_range}
 use Rattle.std.specs.List.{slice_split, onto_first, list_all}
-use Rattle.std.proofs.lemmas.Bool.{cases_lt, cases_Bool, and_parts}
+use Rattle.std.proofs.lemmas.Bool.{cases_lt, cases_Bool}
 use Rattle.std.proofs.lemmas.Bool.Decides.{nat_tests}
 use Rattle.std.proofs.lemmas.List.{get_or-take, length-drop, length-take-le, take-take, drop-take}
 use Rattle.std.proofs.lemmas.List.Splits.{slice_split-cons_yes, slice_split-cons_no}
-use Rattle.iloc_spec_grammar.specs.Syntax.{pieces, join, first_piece, Kind, Attribute, Language, Script, Region, Subtag, TransformKey, UnicodeKey, Variant, is_word, IsWord, is_true, lower, languages}
+use Rattle.iloc_spec_grammar.specs.Syntax.{pieces, join, first_piece, Kind, Attribute, Language, Script, Region, UnicodeKey, Variant, is_word, IsWord, is_true, lower, languages}
 use Rattle.iloc_spec_grammar.specs.Meaning.{normal_values}
 use Rattle.iloc_spec_grammar.specs.Reading.{past, skip_first, starts_block, after_region}
 use Rattle.iloc_spec_grammar.proofs.PiecesLaws.{at_pieces, join-pieces}
 use Rattle.iloc_spec_grammar.proofs.PartTexts.{join-append}
-use Rattle.iloc_spec_grammar.proofs.WordsLaws.{length-language, length-script, length-region, length-variant, length-attribute, length-unicode_key, length-transform_key}
+use Rattle.iloc_spec_grammar.proofs.WordsLaws.{length-language, length-script, length-region, length-variant, length-attribute, length-unicode_key}
 use Rattle.iloc_spec_grammar.proofs.RawLaws.{languages_table}
 use Rattle.iloc_fronts.specs.Run.{IsRun, is_hyphen, fails}
 use Rattle.iloc_fronts.specs.Front.{IsFirst, IsOneVariant, EndsInVariant, GoesOnAs, IsFront}
@@ -125,16 +124,6 @@ short_region p h = omega (arith, (length-region p h).1)
 
 pub short_key : IsShort UnicodeKey
 short_key p h = omega (arith, length-unicode_key p h)
-
-pub short_field_key : IsShort TransformKey
-short_field_key p h = omega (arith, length-transform_key p h)
-
-pub short_subtag : IsShort Subtag
-unfolding is_word
-short_subtag p h = in_range (length p) (and_parts _ _ h).0
-  where
-    in_range : (n : ℕ) → is_in_range 2 8 n ≡ true → n ≤ 8
-    in_range n h = grind (arith, nat_tests)
 
 pub short_attribute : IsShort Attribute
 short_attribute p h = (length-attribute p h).1
@@ -266,15 +255,6 @@ module _ (w : List ℕ) (len n : ℕ) (room : len + 16 ≤ length w) (first : Is
 
       by : (length (first_piece (pieces text)) == 1) ≡ false → starts_block (pieces text) ≡ false
       by = at_pieces (λ ps. (length (first_piece ps) == 1) ≡ false → starts_block ps ≡ false) (λ p ps e. e) text
-
-  -- bytes that are too few or too many are so in the first piece
-  pub other_length : is_in_range 2 8 n ≡ false → is_in_range 2 8 (length (first_piece (pieces text))) ≡ false
-  other_length other = elim (cases_lt n 16) [
-    | inl less ↦ ap (λ p. is_in_range 2 8 (length p)) (short_first less) ∙ ap (is_in_range 2 8) (length-take-le n w (omega (arith, inside))) ∙ other
-    | inr more ↦
-        let many : 16 ≤ length (first_piece (pieces text)) = first.long (omega (arith, first.few)) in
-        grind (arith, nat_tests)
-  ]
 
   pub one_byte : n ≡ 1 → first_piece (pieces text) ≡ get_or w 0 0 ∷ []
   one_byte one = short_first (omega arith) ∙ ap (λ (m : ℕ). take m w) one ∙ front w (omega arith)

@@ -6,7 +6,7 @@ use Rattle.std.specs.Char.{is_ascii_alphabetic, is_ascii_alphanumeric, is_ascii_
 use Rattle.std.proofs.lemmas.Bool.{cases_lt}
 use Rattle.std.proofs.lemmas.Bool.Decides.{nat_tests}
 use Rattle.std.proofs.lemmas.List.{length-take-le}
-use Rattle.iloc_spec_grammar.specs.Syntax.{Attribute, Language, Script, Region, Subtag, TransformKey, UnicodeKey, Variant, is_word, letters, digits, letters_or_digits, languages}
+use Rattle.iloc_spec_grammar.specs.Syntax.{Attribute, Language, Script, Region, UnicodeKey, Variant, is_word, letters, digits, letters_or_digits, languages}
 use Rattle.iloc_fronts.specs.Run.{IsRun}
 
 pub all_pass : (p : ℕ → Bool) (n : ℕ) (w : List ℕ) → n ≤ length w → ((i : ℕ) → i < n → p (get_or w i 0) ≡ true) → list_all p (take n w) ≡ true
@@ -59,14 +59,6 @@ module _ (w : List ℕ) (n : ℕ) (wide : 16 ≤ length w) (few : n ≤ 16) wher
   pub key_is : is_word UnicodeKey (take n w) ≡ (n == 2) && (is_ascii_alphanumeric (get_or (take n w) 0 0) && is_ascii_alphabetic (get_or (take n w) 1 0))
   unfolding is_word
   key_is = ap (λ m. (m == 2) && (is_ascii_alphanumeric (get_or (take n w) 0 0) && is_ascii_alphabetic (get_or (take n w) 1 0))) long
-
-  pub field_key_is : is_word TransformKey (take n w) ≡ (n == 2) && (is_ascii_alphabetic (get_or (take n w) 0 0) && is_ascii_digit (get_or (take n w) 1 0))
-  unfolding is_word
-  field_key_is = ap (λ m. (m == 2) && (is_ascii_alphabetic (get_or (take n w) 0 0) && is_ascii_digit (get_or (take n w) 1 0))) long
-
-  pub subtag_is : is_word Subtag (take n w) ≡ is_in_range 2 8 n && letters_or_digits (take n w)
-  unfolding is_word
-  subtag_is = ap (λ m. is_in_range 2 8 m && letters_or_digits (take n w)) long
 
   pub attribute_is : is_word Attribute (take n w) ≡ is_in_range 3 8 n && letters_or_digits (take n w)
   unfolding is_word

@@ -1,15 +1,13 @@
 -- The bytes of words: the first two, and those of `true`.
-use Rattle.std.proofs.Common.{inl, inr, codes, take, ◌≡◌, ℕ, zero, suc, ◌<◌, ◌≤◌, true, false, List, [], ◌∷◌, length, map, get_or, bit_or, ◌==◌, refl, sym, ap, ◌∙◌, subst, arith, Bool, not, ◌||◌, nat_lt, ◌↔◌}
+use Rattle.std.proofs.Common.{inl, inr, codes, take, ◌≡◌, ℕ, ◌<◌, ◌≤◌, true, false, List, [], ◌∷◌, length, map, get_or, bit_or, ◌==◌, refl, sym, ap, ◌∙◌, subst, arith, Bool, not, ◌||◌, nat_lt, ◌↔◌}
 use Rattle.std.specs.Cmp.{Equal-is}
 use Rattle.std.specs.Char.{is_ascii_alphanumeric, to_ascii_lowercase}
-use Rattle.std.proofs.lemmas.Bool.{and_parts, eqb-true, cases_Bool, eq-eqb, agree_below}
+use Rattle.std.proofs.lemmas.Bool.{eqb-true, cases_Bool, eq-eqb, agree_below}
 use Rattle.std.proofs.lemmas.Bool.Decides.{nat_tests, Decides-ltb}
-use Rattle.std.proofs.lemmas.List.{length-map, length-take-le, get_or-take}
-use Rattle.iloc_spec_grammar.specs.Syntax.{UnicodeKey, is_word, IsWord, lower, is_same, is_true}
+use Rattle.std.proofs.lemmas.List.{length-map, length-take-le}
+use Rattle.iloc_spec_grammar.specs.Syntax.{lower, is_same, is_true}
 use Rattle.iloc_spec_grammar.proofs.MapLaws.{same_words, same_itself}
-use Rattle.iloc_spec_grammar.proofs.WordsLaws.{letter_is}
 use Rattle.iloc_plain.proofs.LaneLemmas.{of_byte}
-use Rattle.iloc_fronts.specs.Words.{two_number}
 
 -- ---- the bytes of pieces
 
@@ -42,33 +40,6 @@ same_letter l to from c small = (
 -- it makes no byte greater than a byte
 pub folded_fits : (c : ℕ) → c < 256 → bit_or c 32 < 256
 folded_fits c small = (Decides-ltb (bit_or c 32) 256).0 (of_byte (λ b. true) (λ b. nat_lt (bit_or b 32) 256) refl c small refl)
-
--- two letters or digits come first
-pub record BeginsTwo (p : List ℕ) : Type 0 where
-  pub long : 2 ≤ length p
-  pub first : is_ascii_alphanumeric (get_or p 0 0) ≡ true
-  pub second : is_ascii_alphanumeric (get_or p 1 0) ≡ true
-
-pub key_begins : (p : List ℕ) → IsWord UnicodeKey p → BeginsTwo p
-unfolding is_word
-key_begins [] h = absurd (cc)
-key_begins (a ∷ []) h = absurd (cc)
-key_begins (a ∷ b ∷ p) h = let parts = and_parts _ _ (and_parts _ _ h).1 in record { long = omega arith; first = parts.0; second = letter_is b parts.1 }
-
--- ... of a window that begins with it
-pub window_begins : (w : List ℕ) (n : ℕ) → n ≤ length w → BeginsTwo (take n w) → (is_ascii_alphanumeric (get_or w 0 0) ≡ true) × (is_ascii_alphanumeric (get_or w 1 0) ≡ true)
-window_begins w n inside h =
-    let long : 2 ≤ n = omega (arith, h.long, length-take-le n w inside) in
-    (ap is_ascii_alphanumeric (sym (get_or-take n w 0 0 (omega arith))) ∙ h.first, ap is_ascii_alphanumeric (sym (get_or-take n w 1 0 (omega arith))) ∙ h.second)
-
--- the number is that of the first two bytes
-pub number_in : (w : List ℕ) (n : ℕ) → 2 ≤ n → two_number (take 2 w) ≡ two_number (take n w)
-unfolding lower
-number_in w zero l = absurd (omega arith)
-number_in w (suc zero) l = absurd (omega arith)
-number_in [] (suc (suc n)) l = refl
-number_in (a ∷ []) (suc (suc n)) l = refl
-number_in (a ∷ b ∷ w) (suc (suc n)) l = refl
 
 pub true_word : (w : List ℕ) → is_true w ≡ true → codes "true" ≡ w
 unfolding is_true

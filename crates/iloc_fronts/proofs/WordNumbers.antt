@@ -1,47 +1,22 @@
--- The numbers of words: how they are computed, and that they have the order of the words.
-use Rattle.std.proofs.Common.{◌≡◌, ℕ, zero, suc, ◌+◌, ◌-◌, ◌*◌, ◌/◌, ◌%◌, ◌^◌, ◌<◌, ◌≤◌, true, List, [], ◌∷◌, length, map, get_or, take, bit_or, refl, sym, ap, ◌∙◌, subst, arith, inl, inr, pow-suc}
-use Rattle.std.specs.Int.{w64, swap_bytes, from_be_bytes, from_le_bytes}
+-- The numbers of words have the order of the words.
+use Rattle.std.proofs.Common.{◌≡◌, ℕ, zero, suc, ◌+◌, ◌*◌, ◌^◌, ◌<◌, ◌≤◌, true, List, [], ◌∷◌, length, get_or, refl, sym, ap, ◌∙◌, arith, inl, inr, pow-suc}
 use Rattle.std.specs.List.{AllByRecursion}
-use Rattle.std.specs.Ordering.{is_lt, nat_cmp, ordering_then}
+use Rattle.std.specs.Ordering.{nat_cmp, ordering_then}
 use Rattle.std.specs.Cmp.{nat_cmp_is}
 use Rattle.std.specs.Cmp.Lexicographic.{slice_cmp}
 use Rattle.std.specs.declared.cmp.Ordering.TheVariants.{Less, Equal, Greater}
 use Rattle.std.specs.Char.{is_ascii_alphanumeric, to_ascii_lowercase}
 use Rattle.std.proofs.lemmas.Bool.{and_parts, cases_lt}
 use Rattle.std.proofs.lemmas.Bool.Decides.{nat_tests}
-use Rattle.std.proofs.lemmas.Nat.{le_bytes_8, or_of_8, pow-add}
-use Rattle.std.proofs.Math.Nat.{mul-add-div_right, mul-le-mul_right, zero-mul, mul_assoc, add-mul, div-eq_of_lt, mod-eq_of_lt}
-use Rattle.std.specs.List.{take-map}
-use Rattle.std.proofs.lemmas.List.{length-map, length-take, length-take-le, take-take}
-use lib.Lanes.{number_l}
+use Rattle.std.proofs.Math.Nat.{mul-le-mul_right}
 use Rattle.iloc_spec_grammar.specs.Syntax.{Attribute, Variant, IsWord, letters_or_digits, lower, word_cmp}
-use Rattle.iloc_spec_grammar.proofs.MapLaws.{same_words}
 use Rattle.iloc_spec_grammar.proofs.WordsLaws.{length-attribute, length-variant, length-lower, word_letters_or_digits}
-use Rattle.iloc_fronts.proofs.WordBytes.{low_bit}
 use Rattle.iloc_fronts.specs.Words.{IsUpToEight, high_first, word_number}
 
--- ---- eight bytes as one number
+-- ---- how great they are
 
 abbrev Bytes : List ℕ → Type 0
 Bytes p = (i : ℕ) → get_or p i 0 < 256
-
-bytes_take : (k : ℕ) (p : List ℕ) → Bytes p → Bytes (take k p)
-bytes_take zero p h i = omega arith
-bytes_take (suc k) [] h i = h i
-bytes_take (suc k) (b ∷ p) h zero = h 0
-bytes_take (suc k) (b ∷ p) h (suc i) = bytes_take k p (λ j. h (suc j)) i
-
--- the first eight of them, the first highest
-pub eight_bytes : (p : List ℕ) → 8 ≤ length p → Bytes p → swap_bytes w64 (number_l 256 p % 2 ^ 64) ≡ high_first 8 p
-unfolding high_first
-eight_bytes (a ∷ b ∷ c ∷ d ∷ e ∷ f ∷ g ∷ h ∷ p) long small =
-    let bs : List ℕ = a ∷ b ∷ c ∷ d ∷ e ∷ f ∷ g ∷ h ∷ [] in
-    let low : number_l 256 (a ∷ b ∷ c ∷ d ∷ e ∷ f ∷ g ∷ h ∷ p) % 2 ^ 64 ≡ from_le_bytes w64 bs =
-    omega (arith, small 0, small 1, small 2, small 3, small 4, small 5, small 6, small 7) in
-    ap (from_be_bytes w64) (le_bytes_8 bs _ refl (bytes_take 8 (a ∷ b ∷ c ∷ d ∷ e ∷ f ∷ g ∷ h ∷ p) small) low) ∙ omega arith
-eight_bytes p long small = absurd (omega arith)
-
--- ---- the first of them, with zeros behind
 
 pow_some : (n : ℕ) → 0 < 256 ^ n
 pow_some zero = omega arith
@@ -54,72 +29,6 @@ number_fits (suc n) [] h = pow_some (suc n)
 number_fits (suc n) (b ∷ p) h =
     let few : b ≤ 255 = omega (arith, h 0) in
     omega (arith, pow-suc 256 n, number_fits n p (λ i. h (suc i)), mul-le-mul_right (256 ^ n) few)
-
-no_bytes : (n : ℕ) → high_first n [] ≡ 0
-unfolding high_first
-no_bytes zero = refl
-no_bytes (suc n) = refl
-
-nothing_left : (n k : ℕ) → n < k → n / k * k ≡ 0
-nothing_left n k l = ap (λ m. m * k) (div-eq_of_lt l) ∙ zero-mul k
-
-split_power : (m n : ℕ) → n ≤ m → 256 ^ m ≡ 256 ^ n * 256 ^ (m - n)
-split_power m n l = let all : n + (m - n) ≡ m = omega arith in ap (λ k. 256 ^ k) (sym all) ∙ pow-add 256 n (m - n)
-
-cut_number : (m n : ℕ) (p : List ℕ) → n ≤ m → Bytes p → high_first m p / 256 ^ (m - n) * 256 ^ (m - n) ≡ high_first m (take n p)
-unfolding high_first
-cut_number m zero p l h =
-    let whole : m - 0 ≡ m = omega arith in
-    ap (λ k. high_first m p / 256 ^ k * 256 ^ k) whole ∙ nothing_left (high_first m p) (256 ^ m) (number_fits m p h) ∙ sym (no_bytes m)
-cut_number zero (suc n) p l h = absurd (omega arith)
-cut_number (suc m) (suc n) [] l h = nothing_left 0 (256 ^ (suc m - suc n)) (pow_some (suc m - suc n))
-cut_number (suc m) (suc n) (b ∷ p) l h =
-    let k : ℕ = 256 ^ (m - n) in
-    let same : suc m - suc n ≡ m - n = omega arith in
-    let first : b * 256 ^ m ≡ b * 256 ^ n * k = ap (λ w. b * w) (split_power m n (omega arith)) ∙ sym (mul_assoc b (256 ^ n) k) in
-    let rest : (b * 256 ^ n * k + high_first m p) / k ≡ b * 256 ^ n + high_first m p / k = mul-add-div_right (pow_some (m - n)) (b * 256 ^ n) (high_first m p) in
-    (λ j. (first j + high_first m p) / 256 ^ same j * 256 ^ same j) ∙ ap (λ w. w * k) rest ∙ add-mul (b * 256 ^ n) (high_first m p / k) k
-    ∙ (λ j. sym first j + cut_number m n p (omega arith) (λ i. h (suc i)) j)
-
--- ---- the number of a word
-
-pub length_fits : (w : List ℕ) (n : ℕ) → 16 ≤ length w → IsUpToEight (take n w) → (0 < n) × (n ≤ 8)
-length_fits w n wide h = elim (cases_lt n 17) [
-  | inl few ↦ (let long : length (take n w) ≡ n = length-take-le n w (omega arith) in (omega (arith, h.some), omega (arith, h.few)))
-  | inr many ↦ absurd (omega (arith, length-take n w, h.few))
-]
-
--- bit 5 makes letters lower case, and digits have it
-low_bits : (p : List ℕ) → letters_or_digits p ≡ true → map (λ b. bit_or b 32) p ≡ lower p
-unfolding lower
-low_bits [] h = refl
-low_bits (b ∷ p) h = let parts = and_parts _ _ h in λ j. low_bit b parts.0 j ∷ low_bits p parts.1 j
-
-bytes_or : (p : List ℕ) → Bytes p → Bytes (map (λ b. bit_or b 32) p)
-bytes_or [] h i = h i
-bytes_or (b ∷ p) h zero = or_of_8 b 32 (h 0) (omega arith)
-bytes_or (b ∷ p) h (suc i) = bytes_or p (λ j. h (suc j)) i
-
-power_of : (k : ℕ) → 2 ^ (8 * k) ≡ 256 ^ k
-power_of zero = refl
-power_of (suc k) =
-    let more : 8 * suc k ≡ 8 + 8 * k = omega arith in
-    ap (λ j. 2 ^ j) more ∙ pow-add 2 8 (8 * k) ∙ ap (λ m. 256 * m) (power_of k) ∙ omega (arith, pow-suc 256 k)
-
-pub number_is : (w : List ℕ) (n x : ℕ) (z : List ℕ) → 16 ≤ length w → n ≤ 8 → Bytes w → letters_or_digits (take n w) ≡ true → z ≡ map (λ b. bit_or b 32) (take 16 w)
-    → x ≡ swap_bytes w64 (number_l 256 z % 2 ^ 64) → x / 2 ^ (64 - 8 * n) * 2 ^ (64 - 8 * n) % 2 ^ 64 ≡ word_number (take n w)
-unfolding word_number
-number_is w n x z wide few small word lanes e =
-    let low = map (λ b. bit_or b 32) (take 16 w) in
-    let long : 8 ≤ length low = omega (arith, length-map (take 16 w) (λ b. bit_or b 32), length-take-le 16 w wide) in
-    let bytes : Bytes low = bytes_or (take 16 w) (bytes_take 16 w small) in
-    let eight : x ≡ high_first 8 low = e ∙ ap (λ l. swap_bytes w64 (number_l 256 l % 2 ^ 64)) lanes ∙ eight_bytes low long bytes in
-    let bits : 64 - 8 * n ≡ 8 * (8 - n) = omega arith in
-    let power : 2 ^ (64 - 8 * n) ≡ 256 ^ (8 - n) = ap (λ j. 2 ^ j) bits ∙ power_of (8 - n) in
-    let first : take n low ≡ lower (take n w) = take-map (λ b. bit_or b 32) n (take 16 w) ∙ ap (map (λ b. bit_or b 32)) (take-take n 16 w (omega arith)) ∙ low_bits (take n w) word in
-    let cut : high_first 8 low / 256 ^ (8 - n) * 256 ^ (8 - n) ≡ high_first 8 (lower (take n w)) = cut_number 8 n low few bytes ∙ ap (high_first 8) first in
-    let fits : high_first 8 (lower (take n w)) < 2 ^ 64 = subst (λ (p : List ℕ). high_first 8 p < 256 ^ 8) first (number_fits 8 (take n low) (bytes_take n low bytes)) in
-    (λ j. eight j / power j * power j % 2 ^ 64) ∙ ap (λ m. m % 2 ^ 64) cut ∙ mod-eq_of_lt fits
 
 -- ---- the order of words
 
@@ -185,14 +94,6 @@ order (suc n) (a ∷ p) (b ∷ q) l m h k =
 pub word_order : (p q : List ℕ) → IsUpToEight p → IsUpToEight q → nat_cmp (word_number p) (word_number q) ≡ word_cmp (lower p) (lower q)
 unfolding word_number
 word_order p q h k = order 8 (lower p) (lower q) (omega (arith, length-lower p, h.few)) (omega (arith, length-lower q, k.few)) (above_word p h.bytes) (above_word q k.bytes)
-
--- a word with a lesser number is below
-pub lesser_below : (p q : List ℕ) → IsUpToEight p → IsUpToEight q → word_number p < word_number q → is_lt (word_cmp (lower p) (lower q)) ≡ true
-lesser_below p q h k l = ap is_lt (sym (word_order p q h k) ∙ is_less (word_number p) (word_number q) l)
-
--- words with one number are the same but for the case
-pub equal_same : (p q : List ℕ) → IsUpToEight p → IsUpToEight q → word_number p ≡ word_number q → lower p ≡ lower q
-equal_same p q h k e = same_words (lower p) (lower q) (sym (word_order p q h k) ∙ is_equal (word_number p) (word_number q) e)
 
 pub attribute_fits : (p : List ℕ) → IsWord Attribute p → IsUpToEight p
 attribute_fits p h = record { some = omega (arith, (length-attribute p h).0); few = (length-attribute p h).1; bytes = word_letters_or_digits Attribute p h }

@@ -129,9 +129,9 @@ pub fn read_front(window: &[u8], len: usize) -> Front<'_>
     }
 }
 
-/// What follows a language, perhaps a script and a region; `None` if nothing does.
+// What follows a language, perhaps a script and a region; `None` if nothing does.
 #[inline(always)]
-pub fn after_identifier(left: Left<'_>) -> Option<Left<'_>>
+fn after_identifier(left: Left<'_>) -> Option<Left<'_>>
     requires left { IsLeft left }
     requires language { IsWord (Language languages) (piece_of left) }
     ensures left { IfSome result IsLeft }
@@ -147,9 +147,9 @@ pub fn after_identifier(left: Left<'_>) -> Option<Left<'_>>
     past_one(is_region(next.window, next.n), next)
 }
 
-/// Passes over the first piece, if it fits. What is left; `None` if nothing is.
+// Passes over the first piece, if it fits. What is left; `None` if nothing is.
 #[inline(always)]
-pub fn past_one(fits: bool, left: Left<'_>) -> Option<Left<'_>>
+fn past_one(fits: bool, left: Left<'_>) -> Option<Left<'_>>
     requires left { IsLeft left }
     requires short { IsTrue fits → left.n < 16 }
     ensures left { IfSome result IsLeft }

@@ -2,15 +2,12 @@
 ghost use Rattle.std.specs.Prelude.{◌≡◌, ◌≤◌, ◌&&◌, true, false, length, take, get_or};
 ghost use Rattle.std.specs.Int.{is_in_range};
 ghost use Rattle.std.specs.Char.{is_ascii_alphanumeric};
-ghost use Rattle.iloc_fronts.specs.Words.{IsUpToEight, two_number, word_number};
+ghost use Rattle.iloc_fronts.specs.Words.{two_number};
 ghost use Rattle.iloc_spec_grammar.specs.Syntax.{
   Attribute,
   Language,
   Region,
   Script,
-  Subtag,
-  UnicodeKey,
-  TransformKey,
   Variant,
   is_true,
   is_word,
@@ -23,7 +20,6 @@ ghost use Rattle.iloc_spec_grammar.specs.Syntax.{
 
 use crate::run::{first_alphanumerics, first_digits, first_letters};
 use iloc_plain::is_language_length;
-use std::simd::prelude::*;
 
 // Whether the first `n` bytes are letters.
 #[inline(always)]
@@ -55,9 +51,9 @@ fn are_letters_or_digits(window: &[u8], n: usize) -> bool
     n <= first_alphanumerics(window)
 }
 
-/// Whether they are letters and digits, and at least `least` and at most eight.
+// Whether they are letters and digits, and at least `least` and at most eight.
 #[inline(always)]
-pub fn is_word_from(least: usize, window: &[u8], n: usize) -> bool
+fn is_word_from(least: usize, window: &[u8], n: usize) -> bool
     requires wide { 16 ≤ length window.now }
     requires few { n ≤ 16 }
     ensures { result ≡ is_in_range least 8 n && letters_or_digits (take n window.now) }
@@ -123,32 +119,6 @@ pub fn is_variant(window: &[u8], n: usize) -> bool
     are_letters_or_digits(window, n)
 }
 
-/// Whether the first `n` bytes are a key of `u`.
-#[inline(always)]
-pub fn is_key(window: &[u8], n: usize) -> bool
-    requires wide { 16 ≤ length window.now }
-    requires few { n ≤ 16 }
-    ensures { result ≡ is_word UnicodeKey (take n window.now) }
-{
-    if n != 2 {
-        return false;
-    }
-    if !window[0].is_ascii_alphanumeric() {
-        return false;
-    }
-    window[1].is_ascii_alphabetic()
-}
-
-/// Whether the first `n` bytes are a word of another extension.
-#[inline(always)]
-pub fn is_subtag(window: &[u8], n: usize) -> bool
-    requires wide { 16 ≤ length window.now }
-    requires few { n ≤ 16 }
-    ensures { result ≡ is_word Subtag (take n window.now) }
-{
-    is_word_from(2, window, n)
-}
-
 /// Whether the first `n` bytes are an attribute, or a piece of a value.
 #[inline(always)]
 pub fn is_attribute(window: &[u8], n: usize) -> bool
@@ -183,34 +153,4 @@ pub fn number_of_two(window: &[u8]) -> usize
     ensures { result ≡ two_number (take 2 window.now) }
 {
     256 * ((window[0] | 32) as usize) + (window[1] | 32) as usize
-}
-
-/// The number of the first `n` bytes, by which words are ordered. It is that of eight bytes, the first highest, and zeros
-/// stand behind a shorter word. Bit 5 makes a letter lower case, and digits have it.
-#[inline(always)]
-pub fn number_of_word(window: &[u8], n: usize) -> u64
-    requires wide { 16 ≤ length window.now }
-    requires word { IsUpToEight (take n window.now) }
-    ensures { result ≡ word_number (take n window.now) }
-{
-    let bytes = u8x16::from_slice(window) | u8x16::splat(32);
-    let first = u64x2::from_le_bytes(bytes).to_array()[0].swap_bytes();
-    let unused = 64 - 8 * n;
-    (first >> unused) << unused
-}
-
-/// Whether the first `n` bytes are a key of `t`.
-#[inline(always)]
-pub fn is_field_key(window: &[u8], n: usize) -> bool
-    requires wide { 16 ≤ length window.now }
-    requires few { n ≤ 16 }
-    ensures { result ≡ is_word TransformKey (take n window.now) }
-{
-    if n != 2 {
-        return false;
-    }
-    if !window[0].is_ascii_alphabetic() {
-        return false;
-    }
-    window[1].is_ascii_digit()
 }
