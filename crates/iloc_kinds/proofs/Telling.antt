@@ -101,7 +101,8 @@ en_is = refl
 region_no_key : (p : Text) → IsWord Region p → is_word TransformKey p ≡ false
 region_no_key p h =
     let i : Identifier = record { language = codes "en"; script = None; region = Some p; variants = [] } in
-    (identifier_no_key {T = languages} i (record { language = en_is; script = tt; region = h; variants = tt })).1.0
+    let words : HasWords languages i = record { language = en_is; script = tt; region = h; variants = tt } in
+    (identifier_no_key {T = languages} i words).1.0
 
 in_source : (p : Text) → 2 ≤ length p → is_word TransformKey p ≡ false
     → step states.Source p ≡ (word_kind p, states.Source)
