@@ -6,6 +6,7 @@ import re
 
 import api_examples
 import api_search
+from api_model import entries
 
 # Words of the language, which declare and are no names.
 NO_NAMES = {"abbrev", "let", "in", "pub", "record", "data", "module", "use", "where", "unfoldable"}
@@ -70,10 +71,16 @@ def parts_of_statements():
             yield f"the example of {'::'.join(names)} is part of a statement: {line} ({path}:{number})"
 
 
+def not_tried():
+    """Yields each call that no test, program of rows or user's program makes, as far as its type or its name tells."""
+    made, every = api_examples.tried_keys(), [it for entry in entries() if not entry.see and not entry.is_law for it in entry.calls]
+    yield from (f"{it.title}: no test makes this call: add a row" for it in every if it.key not in made)
+
+
 def faults(folder):
     """Returns what is wrong with the pages in a folder, each as a line; and how many things were looked at."""
     texts, found = texts_of(folder), api_search.items()
     places = {name: collections.Counter(re.findall(r'\bid="([^"]*)"', text)) for name, text in texts.items()}
     told = [*broken_links(texts, folder, places, found), *wrong_ids(places), *bound_links(texts), *not_found(found)]
-    told += parts_of_statements()
+    told += [*parts_of_statements(), *not_tried()]
     return told, len(texts) + len(api_search.WANTED)

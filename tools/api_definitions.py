@@ -1,68 +1,47 @@
 """Reads the definitions that contracts cite (`specs/*.antt`), and the page that tells them in words."""
 import functools
-import glob
-import os
 import re
 
-from api_source import libraries, place, read
-from common import ROOT, without_suffix
+from api_source import libraries, read, sources
 
-DECLARED = re.compile(
-    r"^(?:\s*(?:abbrev |unfoldable )|\s*(?=pub record |pub data )|(?=pub ))"
-    r"pub (?:record |data )?([\w']+(?:-[\w']+)*)"
-)
-TYPE = re.compile(r"^( *)(?:abbrev |unfoldable )?pub (record|data) ([\w']+)")
-CASES = re.compile(r"(?:pub )?([\w']+(?: [\w']+)*) :(?= |$)")
-USED = re.compile(r"use Rattle\.((?:[\w']+\.)+)\{([^}]*)\}|use Rattle\.([\w.']+) as ([\w']+)")
 WORDS = "docs/DEFINITIONS.md"
 
 
 class Block:
-    """A definition with its comment, or a remark between definitions."""
+    """A definition with its comment, or a remark between definitions: the text, and what it declares."""
 
-    def __init__(self, text, name, number):
-        self.text, self.name, self.number = text, name, number
-
-    def names(self):
-        """Returns the names that the block declares, without the cases and fields of its types."""
-        found = [DECLARED.match(line) for line in self.text.split("\n")]
-        return list(dict.fromkeys(it.group(1) for it in found if it))
-
-    def members(self):
-        """Returns each case or field of a type that the block declares: the type, whether it is a record, the name."""
-        found, owner = [], None
-        for line in self.text.split("\n"):
-            depth = len(line) - len(line.lstrip())
-            if declared := TYPE.match(line):
-                owner = declared
-            elif owner and line.strip() and depth <= len(owner.group(1)):
-                owner = None
-            elif owner and depth == len(owner.group(1)) + 2 and (cases := CASES.match(line, depth)):
-                found += [(owner.group(3), owner.group(2) == "record", it) for it in cases.group(1).split()]
-        return list(dict.fromkeys(found))
+    def __init__(self, text, declared):
+        self.text = text
+        public = [it for it in declared if re.match(r"[^=:]*\bpub ", it.lines[0])]
+        self.names = list(dict.fromkeys(it.name for it in public))
+        self.name = self.names[0] if self.names else ""
+        shapes = [it for it in public if it.kind in ("data", "record")]
+        self.members = [(it.name, it.kind == "record", name) for it in shapes for name in dict.fromkeys(it.members)]
 
     def anchors(self):
         """Returns the places of the block on its page."""
-        return self.names() + [f"{owner}.{name}" for owner, _, name in self.members()]
+        return self.names + [f"{owner}.{name}" for owner, _, name in self.members]
 
     def fields(self):
-        return {name for _, is_record, name in self.members() if is_record}
+        return {name for _, is_record, name in self.members if is_record}
 
 
 class Definitions:
     """A file of definitions: its blocks, and what the names in it mean."""
 
-    def __init__(self, crate, module, path):
-        self.crate, self.module, self.path = crate, module, path
-        self.text = read(path)
-        self.blocks = list(blocks_of(self.text))
+    def __init__(self, crate, module, read_module):
+        self.crate, self.module, self.path = crate, module, read_module.path
+        self.text = read_module.text
+        self.blocks = list(blocks_of(read_module))
         self.cases = self.read_cases()
-        self.own = {**self.cases, **{name: name for block in self.blocks for name in block.names()}}
-        self.used = names_used(self.text)
+        self.own = {**self.cases, **{name: name for block in self.blocks for name in block.names}}
+        named = [(shown, path, name) for shown, (path, name) in read_module.items.items()]
+        named += [(shown, path, "") for shown, path in read_module.modules.items()]
+        self.used = {shown: (path[1], ".".join(path[3:]), name) for shown, path, name in named if path[0] == "Rattle"}
 
     def read_cases(self):
         """Returns the place of each case of a type, by its name, if only one type has it."""
-        cases = [it for block in self.blocks for it in block.members() if not it[1]]
+        cases = [it for block in self.blocks for it in block.members if not it[1]]
         named = [name for _, _, name in cases]
         return {name: f"{owner}.{name}" for owner, _, name in cases if named.count(name) == 1}
 
@@ -77,31 +56,18 @@ class Definitions:
         return f"spec.{self.crate}.{self.module}.html"
 
 
-def blocks_of(text):
+def blocks_of(module):
     """Yields the blocks of a file: each ends at an empty line before the next declaration or remark."""
-    number, lines, first = 0, [], 1
-    for number, line in enumerate([*text.split("\n"), ""], 1):
+    lines, first = [], 1
+    for number, line in enumerate([*module.text.split("\n"), ""], 1):
         if line.strip():
             first = first if lines else number
             lines.append(line)
         elif lines:
             if not all(it.startswith(("use ", "pub use ", "pub mod ", "mod ")) for it in lines):
-                name = next((DECLARED.match(it).group(1) for it in lines if DECLARED.match(it)), "")
                 kept = [it for it in lines if not it.startswith(("use ", "pub use "))]
-                yield Block("\n".join(kept), name if name not in ("use", "mod") else "", first)
+                yield Block("\n".join(kept), [it for it in module.definitions if first <= it.line < number])
             lines = []
-
-
-def names_used(text):
-    """Returns where the names of other files are defined: (crate, module, name)."""
-    found = {}
-    for group, names, whole, alias in USED.findall(text):
-        for name in filter(None, map(str.strip, names.split(","))):
-            made, _, shown = name.partition(" as ")
-            found[shown or made] = (*place(group.rstrip(".")), made)
-        if whole:
-            found[alias] = (*place(whole), "")
-    return found
 
 
 @functools.lru_cache(maxsize=None)
@@ -109,11 +75,9 @@ def files():
     """Returns the files of definitions by crate and module."""
     found = {}
     for crate in libraries():
-        for path in sorted(glob.glob(f"{ROOT}/crates/{crate}/specs/**/*.antt", recursive=True)):
-            inner = os.path.relpath(path, f"{ROOT}/crates/{crate}/specs")
-            module = without_suffix(inner, ".antt").replace("/", ".")
-            if module != "Lib":
-                found[crate, module] = Definitions(crate, module, os.path.relpath(path, ROOT))
+        made = [it for it in sources().modules.values() if it.name[1] == crate and len(it.name) > 3]
+        for it in sorted(made, key=lambda one: one.path):
+            found[crate, ".".join(it.name[3:])] = Definitions(crate, ".".join(it.name[3:]), it)
     return found
 
 

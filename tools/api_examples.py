@@ -9,19 +9,13 @@ import re
 
 import api_words
 from api_model import entries
-from api_source import CORE, home_of, joined, libraries, read
+from api_source import CORE, libraries, read, sources
 from common import ROOT, without_prefix, without_suffix
+from trusted_rt import blanked, closing, joined
 
 # The longest statement that is shown.
 LONGEST = 120
 FIRST = ("crates/example_first_locale", "crates/example_recipes")
-FUNCTION = re.compile(
-    r"^( *)(?:pub(?:\([a-z]+\))? )?(?:final )?fn (\w+)([^(]*)\((.*?)\)"
-    r"(?=\s*(?:->|where|requires|ensures|\{|;))",
-    re.S | re.M,
-)
-USE = re.compile(r"^\s*use ([\w:]+?)::(?:\{([^}]*)\}|(\w+(?: as \w+)?));", re.M)
-IMPL = re.compile(r"^impl(?:<[^\n]*?>)? (?:[^\n]*? for )?(\w+)", re.M)
 STATIC = re.compile(r"\b([A-Z]\w*)(?:::<[^>()]*>)?::(\w+)(?:::<[^>()]*>)?\(")
 METHOD = re.compile(r"\b(\w+)((?:\.[a-z_]\w*)*)\.(\w+)(?:::<[^>()]*>)?\(")
 BARE = re.compile(r"(?<![\w.:])(\w+)(?:::<[^>()]*>)?\(")
@@ -58,11 +52,6 @@ def made_name(entry):
 
 
 @functools.lru_cache(maxsize=None)
-def by_path():
-    return {it.path: (by_home().get((it.crate, made_name(it)), it)) for it in entries()}
-
-
-@functools.lru_cache(maxsize=None)
 def calls_of(entry):
     return {it.name: it for it in by_home()[entry].calls}
 
@@ -77,23 +66,12 @@ def only_ones():
     return {name: keys[0] for name, keys in found.items() if len(keys) == 1}
 
 
-def names_of(text):
-    """Returns the types that a file knows by name, as (crate, name)."""
-    known = {}
-    for path, several, one in USE.findall(text):
-        for name in filter(None, map(str.strip, (several or one).split(","))):
-            made, _, shown = name.partition(" as ")
-            path = without_suffix(path.replace("crate::", f"{CORE}::"), "::self")
-            if path == "crate":
-                path = CORE
-            entry = by_path().get(f"{path}::{made}")
-            first = path.split("::")[0]
-            home = (entry.crate, made_name(entry)) if entry else (first, made)
-            if not entry and first.startswith("iloc_") and os.path.isdir(f"{ROOT}/crates/{first}"):
-                home = home_of(first, made)
-            if home in by_home():
-                known[shown or made] = home
-    return known
+def names_of(source):
+    """Returns the types that a module knows by name, as (crate, name); of a library not its own, whose calls say little."""
+    named = [it for it in source.names.items() if it[1][0] != "crate" or source.crate == CORE]
+    meant = {name: sources().rust_name(source, path) for name, path in named}
+    homes = {name: (it.crate, it.name) for name, it in meant.items() if it}
+    return {name: home for name, home in homes.items() if home in by_home()}
 
 
 def bare(kind):
@@ -178,26 +156,34 @@ def made_on(line, known, types):
         yield None, name
 
 
+@functools.lru_cache(maxsize=None)
+def owners():
+    """Returns the name of the type of each `impl`."""
+    return {it.item: it.type_name for it in sources().impls}
+
+
+def functions_of(path):
+    """Yields each function of a file with its module."""
+    for source in [it for made in sources().rust.values() for it in made.values() if it.path == path]:
+        for item in source.items:
+            yield from ((source, it) for it in (item, *item.inner) if it.kind == "fn")
+
+
 def lines_of(path):
     """Yields each line within a function, with its number, the names of the file and the types."""
-    text = read(path)
-    known = names_of(text)
-    owners = [(it.start(), known.get(it.group(1))) for it in IMPL.finditer(text)]
-    functions, macros = list(FUNCTION.finditer(text)), macros_of(text)
-    for n, found in enumerate(functions):
-        end = functions[n + 1].start() if n + 1 < len(functions) else len(text)
-        body = text[found.end() : end]
-        own = None
-        if found.group(1):
-            own = next((kind for at, kind in reversed(owners) if at < found.start()), None)
-        bound = {name: known[kind] for name, kind in BOUND.findall(found.group(3)) if kind in known}
+    macros = macros_of(read(path))
+    for source, item in functions_of(path):
+        opened = item.text.index("(")
+        start = closing(blanked(item.text), opened)
+        known = names_of(source)
+        own = known.get(owners().get(item.owner))
+        bound = {name: known[kind] for name, kind in BOUND.findall(item.text[:opened]) if kind in known}
         named = {**known, **bound}
-        first, lines = text.count("\n", 0, found.end()) + 1, body.split("\n")
+        first, lines = item.line + item.text.count("\n", 0, start), item.text[start:].split("\n")
         for number, line in enumerate(lines, first):
             if "(" not in line:
                 continue
-            above = "\n".join(lines[: number - first + 1])
-            types = types_in(found.group(4), above, named, own)
+            types = types_in(item.text[opened + 1 : start - 1], "\n".join(lines[: number - first + 1]), named, own)
             yield number, line.strip(), named, types
             for number, line in written_by(line, macros):
                 yield number, line, named, types
@@ -244,9 +230,9 @@ def whole(path, number, line):
         if len(lines[last + 1]) - len(lines[last + 1].lstrip()) <= depth and not said.startswith((")", "}", "]")):
             break
         last += 1
-        if said.endswith(";") and is_whole(joined(lines[first : last + 1])):
+        if said.endswith(";") and is_whole(joined(" ".join(lines[first : last + 1]))):
             break
-    text = re.sub(r" (?=[.?])", "", joined(lines[first : last + 1]))
+    text = re.sub(r" (?=[.?])", "", joined(" ".join(lines[first : last + 1])))
     return text if is_whole(text) and len(text) <= LONGEST else line
 
 
@@ -257,19 +243,30 @@ def worth(path, line):
     return path.split("/")[1].startswith("iloc_"), is_part, "self." in line, "=>" in line
 
 
+def calls_in(path):
+    """Yields each call of a file, as its key or as a name that only one call has, with the number and text of its line."""
+    for number, line, known, types in lines_of(path):
+        if line.startswith("//") or "fn " in line:
+            continue
+        for key, name in made_on(line, known, types):
+            if key or name in only_ones():
+                yield key, key or only_ones()[name], number, line
+
+
+def tried_keys():
+    """Returns the keys of the calls that tests, programs of rows and users' programs make."""
+    paths = [it for it in files() if re.match(rf"crates/(test_|example_|{CORE}/)", it)]
+    return {key for path in paths for _, key, _, _ in calls_in(path)}
+
+
 @functools.lru_cache(maxsize=None)
 def examples():
     """Returns for each call's key the path, the number and the text of a statement that makes it. A whole statement
     comes before a part of one. What is told by the name alone counts only if no line is told by the type."""
     found, guessed = {}, {}
     for path in files():
-        for number, line, known, types in lines_of(path):
-            if line.startswith("//") or "fn " in line:
-                continue
-            for key, name in made_on(line, known, types):
-                into = found if key else guessed if name in only_ones() else None
-                if into is not None:
-                    into.setdefault(key or only_ones()[name], []).append((path, number, line))
+        for is_typed, key, number, line in calls_in(path):
+            (found if is_typed else guessed).setdefault(key, []).append((path, number, line))
     return {key: best(lines) for key, lines in {**guessed, **found}.items()}
 
 

@@ -1,9 +1,8 @@
 """Checks that users of icu_locale_core need no other crate: it passes on each law of the crates of definitions
 and of the program, and each module of definitions that a contract cites which it passes on."""
 import trusted_graph as graph
-from common import ROOT
+from api_source import CORE, sources as all_sources
 
-CORE = "icu_locale_core"
 PROGRAM = "iloc_lines"
 
 
@@ -37,7 +36,7 @@ def cited(sources):
 
 def faults():
     """Returns what is not passed on, each as a line; and how many laws and modules were looked at."""
-    sources = graph.Sources(ROOT)
+    sources = all_sources()
     passed = set(graph.passed_on(sources, CORE))
     wanted = laws(sources)
     lib = sources.modules[("Rattle", CORE, "specs")]

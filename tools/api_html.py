@@ -16,7 +16,7 @@ from api_markdown import LAWS, json_types, trait_homes
 from api_markup import code, dim, esc, items, leads, marked, source, tag
 from api_model import model
 from api_names import Sources, call_at, entry_at, field_id, module_file, short, shown_entries
-from api_source import CORE, USED, place, read
+from api_source import CORE, ghost_uses, read
 from common import ROOT, without_prefix, without_suffix
 
 BESIDE = os.path.dirname(os.path.realpath(__file__))
@@ -46,40 +46,17 @@ def of_type(crate, name):
     return entry_at(found[0]) if found else ""
 
 
-class Meanings:
-    """What the names in the clauses of a file mean: by the nearest `ghost use` above the call."""
-
-    made = {}
-
-    def __init__(self, path):
-        self.uses = []
-        text = read(path)
-        for found in USED.finditer(text):
-            group, names, whole, alias = found.groups()
-            number = text.count("\n", 0, found.start()) + 1
-            for name in filter(None, map(str.strip, (names or "").split(","))):
-                made, _, shown = name.partition(" as ")
-                self.uses.append((number, shown or made, (*place(group.rstrip(".")), made)))
-            if whole:
-                self.uses.append((number, alias, (*place(whole), "")))
-
-    @classmethod
-    def of(cls, path):
-        if path not in cls.made:
-            cls.made[path] = cls(path)
-        return cls.made[path]
-
-    def address(self, token, number):
-        """Returns where a name in a clause of the call at this line is defined."""
-        first, _, rest = token.partition(".")
-        fits = [(at, home) for at, name, home in self.uses if name == first]
-        above = [home for at, home in fits if at <= number] or [home for _, home in fits]
-        if not above:
-            return ""
-        crate, module, name = above[-1]
-        if module.startswith("declared."):
-            return of_type(crate, without_suffix(module, ".TheVariants").rpartition(".")[2])
-        return api_definitions.address(crate, module, name or rest.split(".")[0])
+def meant(item, token):
+    """Returns where a name in a clause of the item is defined: by the nearest `ghost use` above it."""
+    first, _, rest = token.partition(".")
+    fits = [(at, home) for at, name, home in ghost_uses(item.path) if name == first]
+    above = [home for at, home in fits if at <= item.line] or [home for _, home in fits]
+    if not above:
+        return ""
+    crate, module, name = above[-1]
+    if module.startswith("declared."):
+        return of_type(crate, without_suffix(module, ".TheVariants").rpartition(".")[2])
+    return api_definitions.address(crate, module, name or rest.split(".")[0])
 
 
 def coloured(text, address, bound=(), start=0):
@@ -99,19 +76,18 @@ def signs(text):
 
 
 def clause_html(clause, item):
-    meanings = Meanings.of(item.path)
     bound = bound_in(clause.fact, of_function(item.signature))
-    fact = coloured(clause.fact, lambda token: meanings.address(token, item.number), bound)
+    fact = coloured(clause.fact, lambda token: meant(item, token), bound)
     label = " " + tag("b", clause.label, kind="l") if clause.label else ""
     return f"{tag('b', clause.kind, kind='k')}{label} {{ {fact} }}"
 
 
 def contract_html(item):
     """Returns the clauses of a call, and the file that has them."""
-    if not item.clauses:
+    if not item.stated:
         return ""
-    lines = "\n".join(clause_html(it, item) for it in item.clauses)
-    head = tag("summary", f"Contract ({source(item.path, item.number)})")
+    lines = "\n".join(clause_html(it, item) for it in item.stated)
+    head = tag("summary", f"Contract ({source(item.path, item.line)})")
     return tag("details", head + tag("pre", lines), open="")
 
 
@@ -198,7 +174,7 @@ def given_html(entry):
 
 def ghosts_html(entry):
     """Returns the members of a trait that contracts speak of."""
-    inner = entry.item.inner() if entry.kind == "trait" else []
+    inner = entry.item.inner if entry.kind == "trait" else []
     first = [(it, " ".join(" ".join(it.lines).split())) for it in inner]
     ghosts = [(it, text) for it, text in first if re.match(r"ghost (?!use)", text)]
     said = [f"{code(text)} {marked(it.sentence(), entry.path)}" for it, text in ghosts]

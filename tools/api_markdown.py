@@ -11,7 +11,7 @@ from common import ROOT, without_prefix
 HOME = "docs/api"
 KEYS = (
     '| macro `key!("ca")` of `extensions::unicode` | `extensions::unicode::key` '
-    "| | a function for each key of a keyword type, as `key::ca()` | |"
+    "| a function for each key of a keyword type, as `key::ca()` |"
 )
 INDEX = f"""# Public items
 
@@ -82,12 +82,12 @@ def call_rows(call, module):
     facts = [f"- Needs: {it}" for it in call.needs] + refusal_rows(call)
     facts += [f"- Memory: {call.memory}"] if call.memory else []
     facts += tried_row(f"{module}::{call.title}") + ([example_row(call)] if example_row(call) else [])
-    facts += [f"- States: `{it.fact}`" for it in call.item.clauses if is_law(call.item)]
-    labels = ", ".join(f"`{it.label}`" for it in call.item.clauses if it.label and it.kind != "requires")
+    facts += [f"- States: `{it.fact}`" for it in call.item.stated if is_law(call.item)]
+    labels = ", ".join(f"`{it.label}`" for it in call.item.stated if it.label and it.kind != "requires")
     named = f", clauses {labels}" if labels else ""
-    if call.item.clauses:
+    if call.item.stated:
         path = call.item.path
-        facts.append(f"- Contract: [{without_prefix(path, 'crates/')}](../../{path}#L{call.item.number}){named}")
+        facts.append(f"- Contract: [{without_prefix(path, 'crates/')}](../../{path}#L{call.item.line}){named}")
     return rows + facts + [""]
 
 
@@ -215,52 +215,34 @@ def allocator_table():
 
 
 def change(call):
-    """Returns what a Rust program changes at the call; nothing if only the name has to be there."""
-    title = f"{call.owner}::{call.name}"
-    if title in api_words.CHANGES:
-        return api_words.CHANGES[title]
-    takes = "`alloc` first" if re.search(r"\b_?alloc: Global", call.signature) else ""
-    fails = "`?`" if takes and "Result<" in call.signature or error_of(call.item) == "AllocError" else ""
-    return ", ".join(filter(None, [takes, fails]))
+    """Returns what a Rust program changes at the call, but for the allocator and `?` (allocator_table)."""
+    return api_words.CHANGES.get(f"{call.owner}::{call.name}", "")
 
 
 def rust_row(entry):
-    """Returns the row of a type: what stays, what changes, what has another name."""
-    same, changed, named = [], {}, []
+    """Returns the row of a type: what changes, and what has another name. None if all is as it is."""
+    changed, named = {}, []
     for call in entry.calls:
-        change_of = change(call)
-        if not call.rust:
-            continue
-        if call.rust.rpartition("::")[2] != call.name:
-            how = f" ({change_of})" if change_of else ""
-            named.append(f"`{without_prefix(call.rust, entry.rust + '::')}`: `{call.name}`{how}")
-        elif change_of:
-            changed.setdefault(change_of, []).append(f"`{call.name}`")
-        else:
-            same.append(f"`{call.name}`")
-    if entry.kind == "fn":
-        same, changed = [], {it: [f"`{entry.name}`"] for it in filter(None, map(change, entry.calls))}
-    said = "; ".join(f"{', '.join(names)}: {how}" for how, names in changed.items())
-    here = without_prefix(entry.path, f"{CORE}::")
+        if call.rust and call.rust.rpartition("::")[2] != call.name:
+            named.append(f"`{without_prefix(call.rust, entry.rust + '::')}`: `{call.name}`")
+        elif call.rust and change(call):
+            changed.setdefault(change(call), []).append(f"`{call.name}`")
+    said = [f"{', '.join(names)}: {how}" for how, names in changed.items()]
+    here = f"`{without_prefix(entry.path, f'{CORE}::')}`"
     there = api_words.BASES.get(entry.name) or f"`{without_prefix(entry.rust, f'{CORE}::')}`"
-    return f"| {there} | `{here}` | {', '.join(same)} | {said} | {'; '.join(named)} |"
+    return f"| {there} | {here} | {'; '.join(named + said)} |" if said or named or there != here else None
 
 
 def from_rust_table():
-    """Returns the table of the Rust crate's items, each with the one that stands for it here."""
-    rows = ["| Rust crate 2.4.0 | Here | As it is | Change | Rust's form: here |", "|---|---|---|---|---|"]
-    own = []
+    """Returns the table of the Rust crate's items that have another path, name or form here."""
+    rows = ["| Rust crate 2.4.0 | Here | Rust's call: ours |", "|---|---|---|"]
     for module in model():
         if module.short == KEYS_BY_NAME:
             rows.append(KEYS)
             continue
         for entry in module.entries:
             is_base = entry.calls and entry.calls[0].rust and not entry.rust
-            if entry.see:
-                continue
-            is_ours = entry.kind == "fn" and is_law(entry.calls[0].item)
-            if (entry.rust or is_base) and not is_ours:
+            is_law_of_ours = entry.kind == "fn" and entry.calls and is_law(entry.calls[0].item)
+            if not entry.see and (entry.rust or is_base) and not is_law_of_ours:
                 rows.append(rust_row(entry))
-            else:
-                own.append(f"`{without_prefix(entry.path, f'{CORE}::')}`")
-    return "\n".join(rows) + "\n\nOnly here: " + ", ".join(own) + "."
+    return "\n".join(filter(None, rows))

@@ -5,10 +5,9 @@ import functools
 import re
 
 import api_words
-from api_source import ALIAS, CORE, HEAD, citations, crate, libraries, modules
+from api_source import ALIAS, CORE, HEAD, crate, ghost_uses, libraries, modules, sources
 from common import without_prefix
 
-INNER = re.compile(r"pub (?!\()|[A-Z]")
 OURS = ("Writeable", "Sink", "Word", "WordKind", "Store", "PreferenceKey", "JsonText", "TextValue")
 OF_STD = (
     "Clone Copy Debug Default Drop Display Eq Error From FromStr Hash IntoIterator Iterator Ord PartialEq "
@@ -116,7 +115,7 @@ def explained(signature):
 
 def needs(item):
     """Returns the conditions of a call in words; a clause without words is shown as it is."""
-    facts = [it.fact for it in item.clauses if it.kind == "requires"]
+    facts = [it.fact for it in item.stated if it.kind == "requires"]
     return [fits(api_words.CONDITIONS, it) or f"`{it}`." for it in dict.fromkeys(facts)]
 
 
@@ -145,7 +144,7 @@ def unplaced():
 def enough(item):
     """Returns when the call surely allocates nothing."""
     found = []
-    for clause in item.clauses:
+    for clause in item.stated:
         ends = re.match(r"(?:(.*) → )?(?:IsOk result|IsOkAnd result IsLent)$", clause.fact)
         if ends and clause.kind == "ensures":
             premise = ends.group(1) or ""
@@ -164,10 +163,10 @@ def reader(home, made):
 
 def relation(item):
     """Returns the refusals of a parser and when it may run out of memory, of the relation that it states."""
-    for clause in item.clauses:
+    for clause in item.stated:
         for name in re.findall(r"\b[A-Z]\w+", clause.fact):
-            for home, _, made in citations(item.path).get(name, ()):
-                if words := reader(home, made):
+            for _, shown, (home, _, made) in ghost_uses(item.path):
+                if shown == name and (words := reader(home, made)):
                     return words
     return None
 
@@ -209,7 +208,7 @@ def refuses(item, owner, name):
 
 
 def facts(item):
-    return " ".join(it.fact for it in item.clauses)
+    return " ".join(it.fact for it in item.stated)
 
 
 def error_of(item):
@@ -220,7 +219,7 @@ def error_of(item):
 
 def is_law(item):
     """Returns whether the function is a law: it takes and returns nothing, and ensures a fact."""
-    return bool(re.match(r"pub fn \w+(?:<.*>)?\(\)$", item.signature)) and bool(item.clauses)
+    return bool(re.match(r"pub fn \w+(?:<.*>)?\(\)$", item.signature)) and bool(item.stated)
 
 
 def memory(item, wants):
@@ -355,20 +354,14 @@ def given_by(trait, whole, base, item, name):
 
 def given_of(home, name):
     """Returns the traits of the type, each with what its `impl` says."""
-    found = {it: "" for it in home.derived(name) if it in OF_STD}
-    for at in [crate(it) for it in libraries()]:
-        for trait, whole, base, item in at.given:
-            is_made_of = re.match(rf"(?:Try)?From<&?{name}\b", trait)
-            if (base == name or is_made_of) and (at.name == home.name or owns(at, home, name)):
+    found = {it: "" for it in home.items[name].derives if it in OF_STD}
+    for trait, whole, base, item in [one for it in libraries() for one in crate(it).given]:
+        if base == name or re.match(rf"(?:Try)?From<&?{name}\b", trait):
+            meant = sources().rust_name(item.module, (name,))
+            if item.crate == home.name or meant and meant.crate == home.name:
                 found.update(given_by(trait, whole, base, item, name))
     found.pop("Drop", None)
     return [Given(trait, api_words.GIVEN.get(trait, said)) for trait, said in found.items()]
-
-
-def owns(at, home, base):
-    """Returns whether the name means the type of this crate where the other crate says it."""
-    used = re.search(rf"\buse (?:\w+::)*(?:\{{[^}}]*\b{base}\b[^}}]*\}}|{base});", at.text)
-    return base not in at.items and used is not None and home.name in at.text
 
 
 def head_of(item, kind, made, shown, home):
@@ -398,7 +391,7 @@ def entry_of(module, home, made, shown, seen):
         entry.calls = [under_its_name(call_of(item, "", home, rust, made), shown)]
         entry.calls[0].rust = entry.rust = "" if entry.is_law else rust
     elif kind == "trait":
-        inner = [at for at in item.inner() if "fn " in at.signature]
+        inner = [at for at in item.inner if "fn " in at.signature]
         entry.calls = [call_of(at, shown, home, rust, made) for at in inner]
     else:
         entry.fields = fields_of(item) if kind in ("struct", "enum") else []
@@ -417,7 +410,7 @@ def under_its_name(call, shown):
 
 def in_order(calls, item):
     """Returns the calls, those beside the type first."""
-    return sorted(calls, key=lambda at: (at.path != item.path, at.path, at.number))
+    return sorted(calls, key=lambda at: (at.path != item.path, at.path, at.line))
 
 
 def base_entry(entry):

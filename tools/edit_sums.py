@@ -1,19 +1,18 @@
 """Sums that tell whether a verdict on a crate's edits still holds, and the record of verdicts."""
+import contextlib
+import fcntl
 import hashlib
 import os
 import re
-import threading
 
 from edit_places import functions
 from kit import LOGIC, ROOT, read, rtlib
 
 RECORD = f"{ROOT}/tools/edits.record"
 ABOUT = """\
-# Written by tools/edits: a line for each crate whose edits were all tried, and all refused.
-# crate, sum of its text, of its edits and of the contracts below it, how many were refused, how many of
-# these only by a limit of the prover or by a name that went, toolchain
+# Written by tools/edits: a line for each mutant that was tried and refused. The mutant, a sum of it and of
+# what its check reads (edit_reads.py), and by what it was refused.
 """
-WRITING = threading.Lock()
 # A character or a string, or a comment to the end of its line. (A name of antt may hold --, but no blank before and after it.)
 RUST = re.compile(rb"""'(?:\\.|[^'\\\n])'|"(?:\\.|[^"\\])*"|//[^\n]*""", re.S)
 ANTT = re.compile(rb'"[^"\n]*"|(?<!\S)--(?!\S)[^\n]*')
@@ -79,12 +78,6 @@ def sum_of(crate):
     return digest(LOGIC, repr(crate.of_kit), *below, *own)
 
 
-def whole_sum(crate, folder):
-    """Returns a sum of what a verdict on all edits of the crate rests on."""
-    edits = [part for it in edits_of(crate, folder)[0] for part in (os.path.basename(it), read(it))]
-    return digest(sum_of(crate), *edits)
-
-
 def edits_of(crate, folder):
     """Returns the paths of the crate's edits, and of what stands among them and is none."""
     there = files_of(crate.folder, folder)
@@ -94,14 +87,24 @@ def edits_of(crate, folder):
 
 
 def recorded():
+    """Returns the verdicts: the sum and by what it was refused, of each mutant."""
     rows = [it.split() for it in read(RECORD).decode().splitlines() if it.strip() and it[0] != "#"]
-    return {row[0]: row[1:] for row in rows}
+    return {row[0]: tuple(row[1:]) for row in rows if len(row) == 3}
 
 
-def record(name, row):
-    """Puts the crate's line into the record, or takes it out where there is none."""
-    with WRITING:
-        rows = sorted({**recorded(), name: row}.items())
-        with open(RECORD, "w") as it:
+@contextlib.contextmanager
+def alone():
+    """Keeps other processes from writing the record."""
+    with open(f"{ROOT}/out/edits.lock", "w") as lock:
+        fcntl.flock(lock, fcntl.LOCK_EX)
+        yield
+
+
+def record(rows, gone=()):
+    """Puts verdicts into the record, by the names of their mutants, and takes out those that are gone."""
+    with alone():
+        every = {name: row for name, row in {**recorded(), **rows}.items() if row and name not in gone}
+        with open(f"{RECORD}.new", "w") as it:
             it.write(ABOUT)
-            it.writelines(" ".join([name, *row]) + "\n" for name, row in rows if row)
+            it.writelines(" ".join([name, *row]) + "\n" for name, row in sorted(every.items()))
+        os.replace(f"{RECORD}.new", RECORD)

@@ -15,6 +15,7 @@ def arguments(doc):
     flag("--times", "say what each check took")
     flag("--types", "put them through the front end alone, which proves nothing: each must type-check")
     flag("--named", "those of tools/named_mutants.txt alone: each must be refused by a goal")
+    flag("--missing", "name the public functions and implementations that have no mutant, and no reason why")
     words.add_argument(
         "--minutes", type=float, default=1e6, metavar="N",
         help="start nothing that may end later",

@@ -211,13 +211,11 @@ class Sources:
         if head in ("crate", "self", "super"):
             inner = {"crate": (), "self": source.path_names, "super": source.path_names[:-1]}[head]
             return self.rust_path(source.crate, inner + tuple(path[1:]))
+        if len(path) > 1 and source.path_names + (head,) in self.rust[source.crate]:
+            return self.rust_path(source.crate, source.path_names + tuple(path))
         if head in source.names and source.names[head] != tuple(path):
             return self.rust_name(source, source.names[head] + tuple(path[1:]))
-        if head in self.rust:
-            return self.rust_path(head, tuple(path[1:]))
-        if source.path_names + (head,) in self.rust[source.crate]:
-            return self.rust_path(source.crate, source.path_names + tuple(path))
-        return None
+        return self.rust_path(head, tuple(path[1:])) if head in self.rust else None
 
     def types_in(self, source, text, without=()):
         """Returns the types that a text of Rust names."""

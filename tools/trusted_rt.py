@@ -1,8 +1,11 @@
 """The items of a crate's src/ that contracts go through: types, traits, `impl`s with their ghost members,
 and functions with their clauses. It reads them by their brackets, and knows no more of Rattle than that."""
+import functools
 import os
 import re
 from dataclasses import dataclass, field
+
+from common import without_prefix, without_suffix
 
 SKIP = re.compile(r"//[^\n]*|\"(?:[^\"\\]|\\.)*\"|b?'(?:[^'\\\n]|\\[^\n]{1,6}?)'", re.S)
 NAME = r"[A-Za-z_]\w*"
@@ -15,6 +18,21 @@ ITEM = re.compile(
 def blanked(text):
     """Returns the text with comments and quoted texts blank, all else where it was."""
     return SKIP.sub(lambda it: re.sub(r"[^\n]", " ", it[0]) if it[0][0] == "/" else " " * len(it[0]), text)
+
+
+def joined(text):
+    """Returns the text in one line, as a person writes a short signature."""
+    text = re.sub(r"\s+", " ", text).strip()
+    return text.replace("( ", "(").replace(", )", ")").replace("< ", "<").replace(", >", ">")
+
+
+@dataclass(eq=False)
+class Clause:
+    """A clause of a contract: requires or ensures, its label, and its fact."""
+
+    kind: str
+    label: str
+    fact: str
 
 
 @dataclass(eq=False)
@@ -30,6 +48,9 @@ class Item:
     text: str = ""  # all of it
     inner: list = field(default_factory=list)
     clauses: dict = field(default_factory=dict)  # name -> (kind, text, line)
+    stated: list = field(default_factory=list)  # the clauses, but for ghost ones, in their order
+    doc: list = field(default_factory=list)  # the lines after `///`
+    before: str = ""  # what stands before its name, as `pub fn`
     is_public: bool = False
     derives: tuple = ()
     owner: "Item" = None  # the trait or `impl` in which it stands
@@ -38,12 +59,31 @@ class Item:
 
     where = property(lambda self: f"{self.module.path}:{self.line}")
     crate = property(lambda self: self.module.crate)
+    path = property(lambda self: self.module.path)
+    lines = property(lambda self: self.text.split("\n"))
     group = property(lambda self: "members" if self.kind == "ghost" else "types")
 
+    @functools.cached_property
+    def signature(self):
+        """The text up to the clauses and the body, in one line."""
+        return without_suffix(joined(self.before + self.head), ",")
+
+    def paragraphs(self):
+        """Returns the paragraphs of the comment, without its examples."""
+        text = re.sub(r"```text\n.*?```", "", "\n".join(self.doc), flags=re.S)
+        return [" ".join(it.split()) for it in re.split(r"\n ?\n", text) if it.strip()]
+
     def sentence(self):
-        text = " ".join(self.comment).split("  ")[0].strip()
-        found = re.match(r"(.+?[.!])(?= [A-Z`]|$)", text)
+        """Returns the first sentence of the comment."""
+        text = (self.paragraphs() or [""])[0]
+        found = re.match(r"(.+?\.)(?= [A-Z`])", text)
         return (found[1] if found else text).strip()
+
+    def details(self):
+        """Returns what the comment says after its first sentence."""
+        whole = self.paragraphs()
+        rest = [without_prefix(whole[0], self.sentence()).strip()] + whole[1:] if whole else []
+        return [it for it in rest if it]
 
     def count(self):
         """Returns the lines of its text, without comments, attributes and blank lines."""
@@ -66,6 +106,9 @@ class Source:
     items: list = field(default_factory=list)
     ghost_uses: list = field(default_factory=list)
     names: dict = field(default_factory=dict)  # name -> path, by `use` lines
+    passed: list = field(default_factory=list)  # (path, name) of `pub use` lines
+    is_block: bool = False
+    doc: list = field(default_factory=list)  # of a block
     mods: set = field(default_factory=set)
 
 
@@ -83,19 +126,21 @@ def closing(text, at):
 
 
 def comment_above(lines, line):
-    """Returns the lines of the comment and the derives above a line, counted from 0."""
-    comment, derives, above = [], [], line - 1
+    """Returns the lines of the comment above a line, counted from 0, those that begin with `///`, and the derives."""
+    comment, doc, derives, above, is_doc = [], [], [], line - 1, True
     while above >= 0:
         bare = lines[above].strip()
         if bare.startswith("//"):
             comment.insert(0, bare.lstrip("/!").strip() or " ")
+            is_doc = is_doc and bare.startswith("///")
+            doc[:0] = [bare[4:].rstrip() or " "] if is_doc else []
         elif bare.startswith("#[") or bare.endswith("]") and "#[" in "\n".join(lines[max(0, above - 6) : above + 1]):
             if "derive" in bare:
-                derives += re.findall(NAME, bare.partition("derive")[2])
+                derives[:0] = re.findall(NAME, bare.partition("derive")[2].partition(";")[0])
         else:
             break
         above -= 1
-    return comment, tuple(it for it in derives if it[0].isupper())
+    return comment, doc, tuple(it for it in derives if it[0].isupper())
 
 
 def expanded(text):
@@ -161,10 +206,10 @@ class Reader:
         if kind == ["macro_rules!"]:
             return closing(self.blank, self.blank.index("{", at))
         line = self.line(start)
-        comment, derives = comment_above(self.lines, line)
+        comment, doc, derives = comment_above(self.lines, line)
         named = re.compile(rf"\s*({NAME})").match(self.blank, at)
         made = Item(source, kind[0], named[1] if named else "", line + 1, "", comment, is_public=is_public)
-        made.derives, made.owner = derives, owner
+        made.derives, made.owner, made.doc, made.before = derives, owner, doc, self.text[start:at]
         end = self.rest(source, made, at)
         made.text = self.text[start:end]
         (owner.inner if owner else source.items).append(made)
@@ -178,7 +223,8 @@ class Reader:
             inner = source.path_names + (name[1],)
             if name[2] == "{":
                 opened = self.blank.index("{", at)
-                block = Source(self.crate, inner, source.path)
+                doc = comment_above(self.lines, self.line(at))[1]
+                block = Source(self.crate, inner, source.path, is_block=True, doc=doc)
                 block.ghost_uses, self.made[inner] = list(source.ghost_uses), block
                 end = closing(self.blank, opened)
                 self.items(block, opened + 1, end - 1, None)
@@ -191,6 +237,7 @@ class Reader:
         if kind == ["use"]:
             for path, bound in expanded(text):
                 source.names[bound] = path
+                source.passed += [(path, bound)] if is_public else []
         elif owner:
             owner.uses.append((text, self.line(at) + 1))
         else:
@@ -198,16 +245,21 @@ class Reader:
         return stop + 1
 
     def ghost(self, source, start, at, owner):
-        """Reads a ghost member: `ghost name: { type };` or `ghost name = { term };`."""
+        """Reads a ghost member: `ghost name: { type };`, `ghost name: { type } = { term };` or `ghost name = { term };`."""
         named = re.compile(rf"\s*({NAME})\s*([:=])\s*\{{").match(self.blank, at)
         end = closing(self.blank, named.end() - 1)
         line = self.line(start)
-        made = Item(source, "ghost", named[1], line + 1, "", comment_above(self.lines, line)[0], owner=owner)
-        made.body, made.text = self.text[named.end() : end - 1], self.text[start:end]
+        comment, doc, _ = comment_above(self.lines, line)
+        made = Item(source, "ghost", named[1], line + 1, "", comment, owner=owner, doc=doc)
+        made.body = self.text[named.end() : end - 1]
+        default = re.compile(r"\s*=\s*\{").match(self.blank, end)
+        end = closing(self.blank, default.end() - 1) if default else end
+        stop = re.compile(r"\s*[;,]").match(self.blank, end)
+        end = stop.end() if stop else end
+        made.text = self.text[start:end]
         if owner:
             owner.inner.append(made)
-        stop = re.compile(r"\s*[;,]").match(self.blank, end)
-        return stop.end() if stop else end
+        return end
 
     def rest(self, source, made, at):
         """Reads what follows the item's name, and returns the place after its end."""
@@ -235,7 +287,9 @@ class Reader:
         end = closing(self.blank, opened)
         name = self.blank[found.end() : opened].strip().rstrip(":").strip()
         kind = found[0].rstrip("*")
-        made.clauses[(kind, name)] = (self.text[opened + 1 : end - 1].strip(), self.line(found.start()) + 1)
+        text = self.text[opened + 1 : end - 1].strip()
+        made.clauses[(kind, name)] = (text, self.line(found.start()) + 1)
+        made.stated += [Clause(found[0], name, re.sub(r"\s+", " ", text))] if kind != "ghost" else []
         stop = re.compile(r"\s*,").match(self.blank, end)
         return stop.end() if stop else end
 

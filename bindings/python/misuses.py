@@ -288,7 +288,7 @@ CASES = [
     ("0x" in str(inspect.signature(Locale.replace)), False),
     (len({id(HELD.keywords) for _ in range(3)}), 1),
     ((HELD.replace(region="GB").region, HELD.region, HELD.replace(region=None).region), ("GB", "US", None)),
-    # A part that is read for the first time, and again: docs/BINDINGS.md says how long that takes.
+    # A part that is read for the first time, and again: docs/SPEED.md says how long that takes.
     (first_calls(Locale("en-GB")), (True, True)),
     ("run bindings/build" in loading("/dev/null"), True),
     ("of header" in loading(sys.executable) or "another library" in loading("libc.so.6"), True),

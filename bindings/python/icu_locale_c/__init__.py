@@ -320,18 +320,24 @@ _free_buffers: Deque[_Buffer] = collections.deque(maxlen=8)
 _normalize, _parse = _library.icu_locale_normalize, _library.icu_locale_parse
 
 
-def _quicker() -> Optional[Callable[[Any, Any], Optional[str]]]:
-    """The module _quick for this library, if the wheel has it: it answers what it can, and else None."""
+def _address(function: Any) -> Any:
+    """Where a function of the library stands."""
+    return ctypes.cast(function, ctypes.c_void_p).value
+
+
+def _quicker() -> Tuple[Optional[Callable[[Any, Any], Optional[str]]], Dict[Any, Callable[[int], Any]]]:
+    """What the module _quick has for this library, if the wheel has it: how it normalizes, and how it reads each part that
+    one call gives. It answers what it can, and else None."""
     try:
         quick: Any = importlib.import_module(f"{__name__}._quick")
     except ImportError:
-        return None
-    quick.use(ctypes.cast(_normalize, ctypes.c_void_p).value)
-    found: Callable[[Any, Any], Optional[str]] = quick.normalize
-    return found
+        return None, {}
+    quick.use(_address(_normalize))
+    readers = [getattr(_library, f"icu_locale_{name}") for name, types in _FORMS.items() if types == (_LOCALE, *_BUFFER)]
+    return quick.normalize, {it: functools.partial(quick.part, _address(it)) for it in readers}
 
 
-_quick_normalize = _quicker()
+_quick_normalize, _quick_parts = _quicker()
 
 
 def _taken(room: int) -> _Buffer:
@@ -643,6 +649,10 @@ class Locale:
     def _read(self, function: Any, *given: Any) -> Optional[str]:
         """The text that a call writes, or None if there is no such part. It is `read` of a handle that no other call has;
         the steps stand here themselves, since a part that is read first would take half as long again by calls."""
+        if function in _quick_parts:
+            text = self._read_quickly(_quick_parts[function])
+            if text is not None:
+                return text or None
         handles = self._handles
         try:
             handle = handles.pop()
@@ -666,6 +676,14 @@ class Locale:
         if text is None and status != _NOT_FOUND:
             _raise(status)
         return text
+
+    def _read_quickly(self, read: Callable[[int], Any]) -> Any:
+        """The part as the module _quick reads it; False if there is none, and None if it leaves that to ctypes."""
+        handle = self._take()
+        try:
+            return read(ctypes.addressof(handle))
+        finally:
+            self._put(handle)
 
     def _part(self, call: Any, *given: Any) -> str:
         """The text of a part that is there."""

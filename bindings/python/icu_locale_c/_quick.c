@@ -1,5 +1,6 @@
-/* A quicker way to call icu_locale_normalize than ctypes, for short texts. A wheel has it if Python.h and a C compiler
- * were there. What it does not answer, it leaves to __init__.py: long texts, refusals, and arguments of another type. */
+/* A quicker way than ctypes to call icu_locale_normalize, and the calls that read a part of a locale, for short texts. A
+ * wheel has it if Python.h and a C compiler were there. What it does not answer, it leaves to __init__.py: long texts,
+ * refusals, and arguments of another type. */
 #define PY_SSIZE_T_CLEAN
 #define Py_LIMITED_API 0x03080000
 #include <Python.h>
@@ -8,8 +9,11 @@
 #include <stdint.h>
 
 enum { LONGEST = 252, MORE = 4 }; /* a normal form is at most four bytes longer than its text */
+enum { DONE = 0, NOT_FOUND = 8 }; /* statuses of icu_locale.h */
 
 typedef uint32_t (*call)(uint32_t mode, const uint8_t *text, size_t length, uint8_t *buffer, size_t room, size_t *needed);
+
+typedef uint32_t (*reader)(const void *locale, uint8_t *buffer, size_t room, size_t *needed);
 
 static call normalize_at;
 
@@ -35,6 +39,25 @@ static PyObject *quick_normalize(PyObject *self, PyObject *given)
     return PyUnicode_DecodeASCII((const char *)room, (Py_ssize_t)needed, NULL);
 }
 
+/* part(call, locale), by their addresses: the part, False if there is none, or None. */
+static PyObject *quick_part(PyObject *self, PyObject *given)
+{
+    Py_ssize_t at, locale;
+    uint8_t room[LONGEST + MORE];
+    size_t needed = 0;
+    (void)self;
+    if (!PyArg_ParseTuple(given, "nn", &at, &locale))
+        return nothing();
+    switch (((reader)(uintptr_t)at)((const void *)(uintptr_t)locale, room, sizeof room, &needed)) {
+    case DONE:
+        return PyUnicode_DecodeASCII((const char *)room, (Py_ssize_t)needed, NULL);
+    case NOT_FOUND:
+        Py_RETURN_FALSE;
+    default:
+        Py_RETURN_NONE;
+    }
+}
+
 /* use(address): where icu_locale_normalize of the library stands. */
 static PyObject *quick_use(PyObject *self, PyObject *address)
 {
@@ -48,6 +71,7 @@ static PyObject *quick_use(PyObject *self, PyObject *address)
 
 static PyMethodDef methods[] = {
     {"normalize", quick_normalize, METH_VARARGS, NULL},
+    {"part", quick_part, METH_VARARGS, NULL},
     {"use", quick_use, METH_O, NULL},
     {NULL, NULL, 0, NULL},
 };

@@ -1,5 +1,5 @@
 //! What a program relies on that comes from the crate `icu_locale_core`: what the tests of that crate ask, as far as this
-//! package has the calls, with texts of their own; and the names that docs/BINDINGS.md calls the same.
+//! package has the calls, with texts of their own; and the names that README.md calls the same.
 //!
 //! Not said here are its tests of what this package lacks: macros, parsers of single extensions, iterators of subtags,
 //! raw bytes, sizes, serialization, and preferences as types.
@@ -190,7 +190,7 @@ fn extensions_are_read() {
     assert_eq!(it.base_name(), "fr");
 }
 
-/// What the setters refuse, by the names that docs/BINDINGS.md gives; and nothing has changed then.
+/// What the setters refuse, by the names that README.md gives; and nothing has changed then.
 #[test]
 fn setters_name_what_is_wrong() {
     let mut it = locale("fr-t-ru-m0-bgn-x-abc");

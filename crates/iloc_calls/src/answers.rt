@@ -6,7 +6,7 @@ ghost use Rattle.iloc_calls.specs.Numbers.{EndsAs, mode_number, number_of, statu
 ghost use Rattle.iloc_told.specs.declared.Mode.{Mode};
 ghost use Rattle.iloc_told.specs.declared.Mode.TheVariants as modes;
 
-use crate::filling::{hand_out_bytes, hand_out_fitting_plain, hand_out_ordered, hand_out_within};
+use crate::filling::{hand_out_bytes, hand_out_fitting_plain, hand_out_within};
 use crate::status::Status;
 use iloc_data_parts::DataParts;
 use iloc_langid::LanguageIdentifier;
@@ -59,7 +59,6 @@ fn judge_other(alloc: Global, mode: Mode, text: &[u8]) -> Status
     let mut window = [0u8; WINDOW];
     let mut room = [0u8; ROOM];
     match tell_text(mode, text, &mut window, &mut room) {
-        Told::Ordered(_) => Status::Done,
         Told::Normal(_) => Status::Done,
         Told::Refused(refusal) => Status::from(refusal),
         Told::Nothing => judge_parsed(alloc, mode, text),
@@ -222,7 +221,6 @@ fn normalize_told(
     let mut window = [0u8; WINDOW];
     let mut room = [0u8; ROOM];
     match tell_text(mode, text, &mut window, &mut room) {
-        Told::Ordered(line) => hand_out_ordered(&line, buffer, needed).number(),
         Told::Normal(normal) => hand_out_bytes(normal, buffer, needed).number(),
         Told::Refused(refusal) => refuse(Status::from(refusal), needed).number(),
         Told::Nothing => normalize_parsed(alloc, mode, text, buffer, needed).number(),

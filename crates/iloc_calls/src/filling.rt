@@ -2,15 +2,13 @@
 ghost use Rattle.std.specs.Prelude.{◌≡◌, ◌+◌, ◌≤◌, length, option_map};
 ghost use Rattle.std.specs.Option.{option_copied};
 ghost use Rattle.iloc_spec_grammar.specs.Values.{identifier_text};
-ghost use Rattle.iloc_blocks.specs.Ordered.{IsStored, ordered_text};
 ghost use Rattle.iloc_plain.specs.Plain.{AreWords, value_of};
 ghost use Rattle.iloc_calls.specs.declared.status.Status.{Status};
 ghost use Rattle.iloc_calls.specs.Answers.{HandsOut, Tells};
 
 use crate::status::Status;
-use iloc_blocks::Ordered;
 use iloc_plain::Plain;
-use iloc_told::copying::{copy_all, copy_ends, copy_ordered};
+use iloc_told::copying::{copy_all, copy_ends};
 use iloc_writeable::{Sink, Writeable};
 use std::fmt;
 
@@ -126,22 +124,6 @@ pub(crate) fn hand_out_fitting_plain<const W: usize>(
     *needed = plain.len;
     let bytes = plain.bytes;
     copy_ends::<W>(&bytes.as_array()[..plain.len], &mut buffer[..plain.len]);
-    Status::Done
-}
-
-/// The same of a text whose normal text is its own but for the case of letters.
-#[tactic(auto, using(iloc_told::proofs::CopyLemmas::ordered_length, iloc_told::proofs::CopyLemmas::ordered_needed))]
-#[inline(always)]
-pub(crate) fn hand_out_ordered(line: &Ordered<'_>, buffer: &mut [u8], needed: &mut usize) -> Status
-    requires { IsStored line.now }
-    ensures { HandsOut (ordered_text line.now) buffer.old buffer.new needed.new result }
-{
-    let end = line.plain.len + line.len;
-    *needed = end;
-    if end > buffer.len() {
-        return Status::BufferTooSmall;
-    }
-    copy_ordered(line, &mut buffer[..end]);
     Status::Done
 }
 

@@ -1,5 +1,9 @@
 -- The text of a subdivision is a subtag, and read as the subdivision.
-use Rattle.std.proofs.Common.{◌≡◌, ℕ, List, ◌++◌, sym, ap₂, ◌∙◌, subst}
+use Rattle.std.proofs.Common.{◌≡◌, ℕ, List, ◌++◌, sym, ap₂, ◌∙◌, subst, true}
+use Rattle.std.specs.List.{list_all}
+use Rattle.std.specs.Cmp.{second_so}
+use Rattle.iloc_tinystr.specs.TinyText.{is_text_byte}
+use Rattle.iloc_subtags.specs.KindLaws.{subtag_fits}
 use Rattle.iloc_spec_grammar.specs.Syntax.{Subtag, lower}
 use Rattle.iloc_spec_grammar.specs.Values.{IsNormal}
 use Rattle.iloc_spec_preferences.specs.Subdivisions.{Subdivision, IsSubdivision, subdivision_text}
@@ -11,3 +15,7 @@ joined s h a b t e ea eb = e ∙ ap₂ ◌++◌ ea (eb ∙ sym h.suffix.1)
 
 pub joined_normal : (s : Subdivision) → IsSubdivision s → (t : List ℕ) → t ≡ subdivision_text s → IsNormal Subtag t
 joined_normal s h t e = subst (IsNormal Subtag) (sym e) (subdivision_is_subtag s h, sym (text_of_read (subdivision_text s) s (subdivision_back s h)))
+
+-- a subtag is ASCII, without zeros
+pub subtag_bytes : (w : List ℕ) → IsNormal Subtag w → list_all is_text_byte w ≡ true
+subtag_bytes w h = second_so _ _ (subtag_fits w h.0)

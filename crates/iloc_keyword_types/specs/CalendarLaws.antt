@@ -1,5 +1,5 @@
 -- Where the text of each calendar stands.
-use Rattle.std.specs.Prelude.{◌≡◌, ℕ, Some, slice_get, refl}
+use Rattle.std.specs.Prelude.{◌≡◌, Some, slice_get, refl}
 use Rattle.iloc_spec_preferences.specs.Keywords as keywords
 use Rattle.iloc_spec_preferences.specs.Keywords.{variants}
 use Rattle.iloc_keyword_types.specs.WordTables.{word_at}

@@ -11,10 +11,13 @@ ghost use Rattle.iloc_keyword_types.specs.Reads.{
 };
 ghost use Rattle.iloc_spec_grammar.specs.Syntax.{Subtag as subtag};
 ghost use Rattle.iloc_spec_grammar.specs.Values.{IsNormal, spelled_value};
+ghost use Rattle.iloc_tinystr.specs.Number.{number};
+ghost use Rattle.iloc_keyword_types.specs.WordTables.{word_at};
 
 use crate::preference_key::PreferenceKey;
 use crate::word_enum::{WordEnum, find_word};
-use iloc_subtags::{Subtag, UnicodeKey};
+use iloc_subtags::{Subtag, UnicodeKey, subtag_of_normal};
+use iloc_tinystr::ShortPiece;
 use iloc_word_list::{PreferencesParseError, Value};
 use std::alloc::{AllocError, Global};
 
@@ -26,6 +29,10 @@ pub trait EnumKeyword: WordEnum {
     /// Its key.
     fn key() -> UnicodeKey
         ensures { result ≡ key_of_keyword keyword };
+
+    /// The word of the variant as one number, its first byte lowest.
+    fn word_number(&self) -> u64
+        ensures { result ≡ number (word_at Self.words (Self.place self.now)) };
 
     /// Its words are those of the keyword.
     ghost same_words: { Self.words ≡ variants keyword };
@@ -59,7 +66,8 @@ fn only_word(value: &Value) -> Option<&str>
 pub fn give_keyword<E: EnumKeyword>(keyword: E) -> Value
     ensures { GivesVariant E.keyword (E.place keyword) result }
 {
-    Value::from_subtag(Some(known_subtag(keyword.word())))
+    let word = ShortPiece::of_number(keyword.word_number());
+    Value::from_subtag(Some(subtag_of_normal(word)))
 }
 
 /// The subtag of a text that is one in its normal case.

@@ -1,5 +1,5 @@
 -- The bytes of a block of replies, and the block as a sink.
-use Rattle.std.specs.Prelude.{◌≡◌, [], ◌++◌, take}
+use Rattle.std.specs.Prelude.{◌≡◌, ◌++◌, take}
 use Rattle.iloc_spec_grammar.specs.Syntax.{Text}
 use Rattle.iloc_lines.specs.declared.reply_block.ReplyBlock.{ReplyBlock}
 

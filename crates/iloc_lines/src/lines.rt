@@ -23,26 +23,21 @@ ghost use Rattle.std.specs.Prelude.{
 ghost use Rattle.std.specs.Io.KnownBytes.{Appends};
 ghost use Rattle.iloc_writeable.specs.Growth.{AddsBeginning};
 ghost use Rattle.iloc_lines.specs.ReplyBlock.{held};
-ghost use Rattle.iloc_told.specs.Told.{IsTold, refusal_of};
-ghost use Rattle.iloc_fronts.specs.Front.{EndsInVariant};
 ghost use Rattle.iloc_lines.specs.Lines.{IsLineEnd, IsOneLine};
 ghost use Rattle.iloc_plain.specs.Plain.{IsPlain};
 ghost use Rattle.std.specs.Simd.Lanes.{mask_l};
 ghost use Rattle.iloc_spec_grammar.specs.Syntax.{Text, languages};
-ghost use Rattle.iloc_lines.specs.Answers.{reply, output, refusal_text};
-ghost use Rattle.iloc_told.specs.declared.Mode.TheVariants as Mode;
+ghost use Rattle.iloc_lines.specs.Answers.{reply, output};
 ghost use Rattle.memchr.specs.Find.{Nowhere, Passes, is_byte};
 
 use crate::replies::write_refusal;
 use crate::reply_block::ReplyBlock;
 use crate::{Answers, RunError};
-use iloc_blocks::{BadBlock, Reading, read_ordered, read_varied};
 use iloc_fronts::may_begin;
 use iloc_outline::spans::Spans;
 use iloc_plain::{Plain, read_plain};
 use iloc_subtags::ParseError;
-use iloc_told::told::{read_found, read_lead};
-use iloc_told::{Lead, Told, Written, tell_subdivision};
+use iloc_told::{Lead, Written, read_lead};
 use memchr::memchr_iter;
 use std::alloc::{AllocError, Global};
 use std::io::Write;
@@ -158,139 +153,14 @@ fn reply_to<A: Answers>(
         ≡ held replies.old ++ reply languages A.mode (take len window.now)) }
 {
     let mode = answers.mode();
-    match read_found(mode, window, len) {
+    let lead = match read_lead(mode, window, len) {
         Lead::Refused(error) => return write_refusal(error, replies),
-        Lead::Subdivision(at, start) => {
-            return reply_to_subdivision(answers, window, len, at, start, replies);
-        }
-        _ => (),
-    }
-    match read_lead(mode, window, len) {
-        Lead::Refused(error) => write_refusal(error, replies),
-        Lead::Variant(n) => reply_to_varied(answers, window, len, n, spans, replies),
-        Lead::Blocks(at) => reply_to_blocks(answers, window, len, at, spans, replies),
-        Lead::Subdivision(at, start) => {
-            reply_to_subdivision(answers, window, len, at, start, replies)
-        }
-        Lead::Nothing => reply_outlined(answers, window, len, spans, replies),
-    }
-}
-
-// Adds the reply to a data locale that may have the keyword `sd` after so many bytes.
-#[inline(never)]
-fn reply_to_subdivision<A: Answers>(
-    answers: &mut A,
-    window: &[u8],
-    len: usize,
-    at: usize,
-    start: usize,
-    replies: &mut ReplyBlock,
-) -> Result<(), AllocError>
-    requires mode { A.mode ≡ Mode.Data }
-    requires room { len + 16 ≤ length window.now }
-    ensures { OnOk result (held replies.new
-        ≡ held replies.old ++ reply languages A.mode (take len window.now)) }
-{
-    let told = tell_subdivision(window, len, at, start);
-    reply_told(answers, window, len, told, replies)
-}
-
-// Adds the reply to the line of which this is told.
-#[inline(always)]
-fn reply_told<A: Answers>(
-    answers: &mut A,
-    window: &[u8],
-    len: usize,
-    told: Told<'_>,
-    replies: &mut ReplyBlock,
-) -> Result<(), AllocError>
-    requires within { len ≤ length window.now }
-    requires told { IsTold A.mode (take len window.now) told }
-    ensures { OnOk result (held replies.new
-        ≡ held replies.old ++ reply languages A.mode (take len window.now)) }
-{
-    match told {
-        Told::Ordered(line) => replies.push_ordered(&line),
-        Told::Normal(text) => replies.push_line(text),
-        Told::Refused(error) => write_refusal(error, replies),
-        Told::Nothing => answers.reply(&window[..len], replies),
-    }
-}
-
-// Adds the reply to a line that a variant of so many bytes ends, and that may begin with a plain identifier.
-#[inline(always)]
-fn reply_to_varied<A: Answers>(
-    answers: &mut A,
-    window: &[u8],
-    len: usize,
-    n: usize,
-    spans: &mut Spans,
-    replies: &mut ReplyBlock,
-) -> Result<(), AllocError>
-    requires room { len + 16 ≤ length window.now }
-    requires variant { EndsInVariant (take len window.now) n }
-    ensures { OnOk result (held replies.new
-        ≡ held replies.old ++ reply languages A.mode (take len window.now)) }
-{
-    match read_varied(window, len, n) {
-        Some(line) => replies.push_ordered(&line),
-        None => reply_outlined(answers, window, len, spans, replies),
-    }
-}
-
-// The same of a locale that may be a plain identifier of so many bytes, and what follows it.
-#[inline(never)]
-fn reply_to_blocks<A: Answers>(
-    answers: &mut A,
-    window: &[u8],
-    len: usize,
-    at: usize,
-    spans: &mut Spans,
-    replies: &mut ReplyBlock,
-) -> Result<(), AllocError>
-    requires mode { A.mode ≡ Mode.Locale }
-    requires room { len + 16 ≤ length window.now }
-    ensures { OnOk result (held replies.new
-        ≡ held replies.old ++ reply languages A.mode (take len window.now)) }
-{
-    match read_ordered(window, len, at) {
-        Reading::Ordered(line) => replies.push_ordered(&line),
-        Reading::BadBlock(bad) => refuse(bad, replies),
-        Reading::Unordered | Reading::Other => {
-            reply_outlined(answers, window, len, spans, replies)
-        }
-    }
-}
-
-// The same of any line, by its outline. If that tells nothing, the line is parsed.
-#[inline(never)]
-fn reply_outlined<A: Answers>(
-    answers: &mut A,
-    window: &[u8],
-    len: usize,
-    spans: &mut Spans,
-    replies: &mut ReplyBlock,
-) -> Result<(), AllocError>
-    requires { len + 16 ≤ length window.now }
-    ensures { OnOk result (held replies.new
-        ≡ held replies.old ++ reply languages A.mode (take len window.now)) }
-{
-    match replies.push_outlined(answers.mode(), window, len, spans)? {
+        lead => lead,
+    };
+    match replies.push_told(mode, lead, window, len, spans)? {
         Written::Normal(_) => Ok(()),
         Written::Refused(error) => write_refusal(error, replies),
         Written::Nothing => answers.reply(&window[..len], replies),
-    }
-}
-
-// Adds why a locale with this bad block is refused: each reason by a call of its own, so that it is stored at once.
-#[inline(always)]
-fn refuse(bad: BadBlock, replies: &mut ReplyBlock) -> Result<(), AllocError>
-    ensures { OnOk result (held replies.new
-        ≡ held replies.old ++ (refusal_text (refusal_of bad) ++ 10 ∷ [])) }
-{
-    match bad {
-        BadBlock::Misfit => write_refusal(ParseError::InvalidExtension, replies),
-        BadBlock::Duplicated => write_refusal(ParseError::DuplicatedExtension, replies),
     }
 }
 

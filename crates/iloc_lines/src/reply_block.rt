@@ -1,10 +1,9 @@
 //! The replies to a block of lines, as they are collected.
 ghost use Rattle.std.specs.Prelude.{◌≡◌, ◌+◌, ◌≤◌, [], ◌∷◌, ◌++◌, length, take, vec_len, IfOk, OnOk, OnErr};
 
-use iloc_blocks::Ordered;
 use iloc_outline::spans::Spans;
-use iloc_plain::{Plain, first_in_lower_case};
-use iloc_told::{Mode, Written, write_outlined};
+use iloc_plain::Plain;
+use iloc_told::{Lead, Mode, Written, write_normal};
 use iloc_writeable::Sink;
 use std::alloc::{AllocError, Global};
 use std::cmp::max;
@@ -25,10 +24,9 @@ pub struct ReplyBlock {
 impl ReplyBlock {
     ghost use Rattle.iloc_lines.specs.ReplyBlock.{held};
     ghost use Rattle.iloc_lines.specs.Replies.{IsReplied};
+    ghost use Rattle.iloc_told.specs.Told.{IsLead};
     ghost use Rattle.iloc_spec_grammar.specs.Values.{identifier_text};
-    ghost use Rattle.iloc_spec_grammar.specs.Syntax.{lower};
     ghost use Rattle.iloc_plain.specs.Plain.{AreWords, value_of};
-    ghost use Rattle.iloc_blocks.specs.Ordered.{IsStored, ordered_text};
 
     /// No bytes. It allocates nothing.
     pub fn new(alloc: Global) -> Self
@@ -88,72 +86,30 @@ impl ReplyBlock {
         Ok(())
     }
 
-    /// Adds the normal text of a line that has its order, and a newline.
+    /// Adds the normal text of the first `len` bytes, of which their beginning tells this, and a newline; or nothing.
     #[inline(always)]
-    pub(crate) fn push_ordered(&mut self, line: &Ordered<'_>) -> Result<(), AllocError>
-        requires { IsStored line.now }
-        ensures { OnOk result (held self.new ≡ held self.old
-            ++ (ordered_text line.now ++ 10 ∷ [])) }
-    {
-        self.make_room(line.len + 33)?;
-        self.put(line.plain.bytes.as_array(), line.plain.len);
-        self.put_lower(line.rest, line.len);
-        self.put(b"\n", 1);
-        Ok(())
-    }
-
-    /// Adds a text, and a newline.
-    #[inline(always)]
-    pub(crate) fn push_line(&mut self, text: &[u8]) -> Result<(), AllocError>
-        ensures { OnOk result (held self.new ≡ held self.old ++ (text.now ++ 10 ∷ [])) }
-    {
-        self.make_room(text.len() + 1)?;
-        self.put(text, text.len());
-        self.put(b"\n", 1);
-        Ok(())
-    }
-
-    /// Adds the normal text of the first `len` bytes as their outline gives it, and a newline; or nothing.
-    #[inline(always)]
-    pub(crate) fn push_outlined(
+    pub(crate) fn push_told(
         &mut self,
         mode: Mode,
+        lead: Lead,
         window: &[u8],
         len: usize,
         spans: &mut Spans,
     ) -> Result<Written, AllocError>
-        requires { len + 16 ≤ length window.now }
+        requires wide { len + 16 ≤ length window.now }
+        requires lead { IsLead mode (take len window.now) lead }
         ensures { IfOk result
             (IsReplied mode (take len window.now) (held self.old) (held self.new)) }
     {
         self.make_room(len + 17)?;
         let start = self.len;
         let to = &mut self.room.as_mut_slice()[start..];
-        let written = write_outlined(mode, window, len, spans, to);
+        let written = write_normal(mode, lead, window, len, spans, to);
         if let Written::Normal(count) = written {
             self.len = start + count;
             self.put(b"\n", 1);
         }
         Ok(written)
-    }
-
-    // Stores the first of these bytes in lower case behind those that count, and counts them.
-    #[inline(always)]
-    fn put_lower(&mut self, bytes: &[u8], count: usize)
-        requires bytes { count + 16 ≤ length bytes.now }
-        requires room { self.old.len + count + 16 ≤ vec_len self.old.room }
-        ensures held { held self.new ≡ held self.old ++ lower (take count bytes.now) }
-        ensures len { self.new.len ≡ self.old.len + count }
-        ensures room { vec_len self.new.room ≡ vec_len self.old.room }
-    {
-        let mut rest = bytes;
-        let mut left = count;
-        'parts: while left > 16 {
-            self.put(first_in_lower_case(rest).as_array(), 16);
-            rest = &rest[16..];
-            left -= 16;
-        }
-        self.put(first_in_lower_case(rest).as_array(), left);
     }
 
     /// Adds these bytes.

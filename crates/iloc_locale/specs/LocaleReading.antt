@@ -20,9 +20,10 @@ value_of l = record { id = langid.value_of l.id; extensions = extensions.value_o
 abbrev pub unknown_locale : meaning.Locale
 unknown_locale = meaning.without_extensions unknown_identifier
 
--- nothing but a language, which alone means the locale: the text is then lent
+-- nothing but a language: the text is then lent
 abbrev pub IsLanguageAlone : Locale → Type 0
-IsLanguageAlone l = Means languages (value_of l).id.language (value_of l)
+IsLanguageAlone l = langid.IsIdentifierLanguageAlone l.id
+    × ((value_of l).extensions ≡ meaning.no_extensions)
 
 -- What the readers of locales answer, by cases on the whole answer. The cases exclude one another,
 -- so each says both directions.

@@ -36,8 +36,8 @@ use Rattle.iloc_outline.specs.Parts.{Part, block_parts, blocks_parts, field_part
 use Rattle.iloc_outline.specs.Reading.{IsBody, IsPrivateBody, IsTooMuch, Puts}
 use Rattle.iloc_outline.specs.Spans.{Spell, held_spans}
 use Rattle.iloc_pieces.specs.declared.left.Left.{Left}
-use Rattle.iloc_outline.specs.declared.reading.Reading.{Reading}
-use Rattle.iloc_outline.specs.declared.reading.Reading.TheVariants.{End, Next, Bad, Repeated, Full}
+use Rattle.iloc_outline.specs.declared.reading.Found.{Found}
+use Rattle.iloc_outline.specs.declared.reading.Found.TheVariants.{End, Next, Bad, Repeated, Full}
 use Rattle.iloc_outline.specs.declared.span.Role.{Role}
 use Rattle.iloc_outline.specs.declared.span.Role.TheVariants as roles
 use Rattle.iloc_outline.specs.declared.span.Role.TheVariants.{Singleton}
@@ -173,15 +173,15 @@ pub record IsRead (c : ℕ) (t : Text) (ps rest : List Text) (old new : Spans) (
   pub puts : Puts t (block_parts (c, body)) ((c ∷ []) ∷ body) old new o n
 
 -- what a reading says, where the test for `x` answers b
-abbrev pub IsReadAt : Bool → ℕ → Left → Spans → Spans → Bool → Bool → Reading → Type 0
-IsReadAt b c l old new o n r = MatchBool b (IsPrivateBody c l old new o n r) (IsBody c l old new o n r)
+abbrev pub IsReadAt : Bool → ℕ → Left → Left → Spans → Spans → Bool → Bool → Found → Type 0
+IsReadAt b c l m old new o n r = MatchBool b (IsPrivateBody c l old new o n r) (IsBody c l m old new o n r)
 
 -- the block is the last one
-pub read_end : (c : ℕ) (l : Left) (old new : Spans) (o n : Bool) → IsBlockRead c l old new o n End
+pub read_end : (c : ℕ) (l k : Left) (old new : Spans) (o n : Bool) → IsBlockRead c l k old new o n End
     → IsRead c (whole_text l) (pieces_left l) [] old new o n
-read_end c l old new o n h = at (to_ascii_lowercase c == code_x) refl h
+read_end c l k old new o n h = at (to_ascii_lowercase c == code_x) refl h
   where
-    at : (b : Bool) → (to_ascii_lowercase c == code_x) ≡ b → IsReadAt b c l old new o n End
+    at : (b : Bool) → (to_ascii_lowercase c == code_x) ≡ b → IsReadAt b c l k old new o n End
         → IsRead c (whole_text l) (pieces_left l) [] old new o n
     at true e h = record {
       body = pieces_left l;
@@ -217,11 +217,11 @@ starts_at [] h = refl
 starts_at (p ∷ ps) h = h
 
 -- it was read, and the other singleton is reached
-pub read_next : (c : ℕ) (l k : Left) (old new : Spans) (o n : Bool) → IsBlockRead c l old new o n (Next k)
+pub read_next : (c : ℕ) (l k : Left) (old new : Spans) (o n : Bool) → IsBlockRead c l k old new o n Next
     → IsReadTo c l k old new o n
 read_next c l k old new o n h = at (to_ascii_lowercase c == code_x) refl h
   where
-    at : (b : Bool) → (to_ascii_lowercase c == code_x) ≡ b → IsReadAt b c l old new o n (Next k)
+    at : (b : Bool) → (to_ascii_lowercase c == code_x) ≡ b → IsReadAt b c l k old new o n Next
         → IsReadTo c l k old new o n
     at true e h = absurd (h tt)
     at false e h =
@@ -246,15 +246,15 @@ read_next c l k old new o n h = at (to_ascii_lowercase c == code_x) refl h
         }
 
 -- it is bad, and no variant is repeated
-pub read_bad : (c : ℕ) (l : Left) (old new : Spans) (o n : Bool) → IsBlockRead c l old new o n Bad
+pub read_bad : (c : ℕ) (l k : Left) (old new : Spans) (o n : Bool) → IsBlockRead c l k old new o n Bad
     → (is_block languages (c, body_of c (pieces_left l)) ≡ false)
     × (((to_ascii_lowercase c == code_t) && repeats_variant languages (body_of c (pieces_left l))) ≡ false)
-read_bad c l old new o n h = at (to_ascii_lowercase c == code_x) refl h
+read_bad c l k old new o n h = at (to_ascii_lowercase c == code_x) refl h
   where
     no_t : (k : ℕ) → (k == code_x) ≡ true → (k == code_t) ≡ false
     no_t k e = grind (arith, nat_tests)
 
-    at : (b : Bool) → (to_ascii_lowercase c == code_x) ≡ b → IsReadAt b c l old new o n Bad
+    at : (b : Bool) → (to_ascii_lowercase c == code_x) ≡ b → IsReadAt b c l k old new o n Bad
         → (is_block languages (c, cond b (pieces_left l) (front (pieces_left l))) ≡ false)
         × (((to_ascii_lowercase c == code_t) && repeats_variant languages
         (cond b (pieces_left l) (front (pieces_left l)))) ≡ false)
@@ -266,12 +266,12 @@ read_bad c l old new o n h = at (to_ascii_lowercase c == code_x) refl h
     )
 
 -- a variant is repeated after `t`
-pub read_repeated : (c : ℕ) (l : Left) (old new : Spans) (o n : Bool) → IsBlockRead c l old new o n Repeated
+pub read_repeated : (c : ℕ) (l k : Left) (old new : Spans) (o n : Bool) → IsBlockRead c l k old new o n Repeated
     → (is_block languages (c, body_of c (pieces_left l)) ≡ false)
     × (((to_ascii_lowercase c == code_t) && repeats_variant languages (body_of c (pieces_left l))) ≡ true)
-read_repeated c l old new o n h = at (to_ascii_lowercase c == code_x) h
+read_repeated c l k old new o n h = at (to_ascii_lowercase c == code_x) h
   where
-    at : (b : Bool) → IsReadAt b c l old new o n Repeated
+    at : (b : Bool) → IsReadAt b c l k old new o n Repeated
         → (is_block languages (c, cond b (pieces_left l) (front (pieces_left l))) ≡ false)
         × (((to_ascii_lowercase c == code_t) && repeats_variant languages
         (cond b (pieces_left l) (front (pieces_left l)))) ≡ true)
@@ -279,11 +279,11 @@ read_repeated c l old new o n h = at (to_ascii_lowercase c == code_x) h
     at false h = (repeated_bad c (front (pieces_left l)) h.0 h.1, and_from _ _ (eq-eqb _ _ h.0) h.1)
 
 -- there is no room for what the pieces may need
-pub read_full : (c : ℕ) (l : Left) (old new : Spans) (o n : Bool) → IsBlockRead c l old new o n Full
+pub read_full : (c : ℕ) (l k : Left) (old new : Spans) (o n : Bool) → IsBlockRead c l k old new o n Full
     → IsTooMuch old (1 + length (pieces_left l))
-read_full c l old new o n h = at (to_ascii_lowercase c == code_x) h
+read_full c l k old new o n h = at (to_ascii_lowercase c == code_x) h
   where
-    at : (b : Bool) → IsReadAt b c l old new o n Full → IsTooMuch old (1 + length (pieces_left l))
+    at : (b : Bool) → IsReadAt b c l k old new o n Full → IsTooMuch old (1 + length (pieces_left l))
     at true h = h
     at false h = h
 

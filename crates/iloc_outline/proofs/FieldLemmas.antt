@@ -5,12 +5,12 @@ use Rattle.std.proofs.lemmas.List.{map-append, length-map}
 use Rattle.std.proofs.lemmas.List.Concat.{flat_map-append}
 use Rattle.iloc_spec_grammar.specs.Syntax.{Text, Field, Fields, Attribute, IsWord, is_word, join, fields_pieces, first_piece}
 use Rattle.iloc_spec_grammar.proofs.ReadBack.{all_append}
-use Rattle.iloc_outline.specs.Fields.{IsAfterValues, PrintsAsItIs, IsValueRead, next_of}
+use Rattle.iloc_outline.specs.Fields.{IsAfterValues, PrintsAsItIs, IsValueRead}
 use Rattle.iloc_outline.specs.Inserting.{IsPutFrom}
 use Rattle.iloc_pieces.specs.Left.{IsRemainder, IsLater, IsPast, IsSpanned, piece_left, pieces_left, bytes_left, whole_text}
 use Rattle.iloc_fronts.specs.Words.{IsUpToEight, word_number}
 use Rattle.iloc_outline.specs.Parts.{Part, field_part}
-use Rattle.iloc_outline.specs.Reading.{EndsInKey, IsFieldOfRole, IsTooMuch, ReadsFields, role_key}
+use Rattle.iloc_outline.specs.Reading.{EndsInKey, IsFieldOfRole, IsTooMuch, ReadsFields, role_key, unless_end}
 use Rattle.iloc_outline.specs.Spans.{IsSpan}
 use Rattle.iloc_outline.specs.declared.fields.Value.{Value}
 use Rattle.iloc_pieces.specs.declared.left.Left.{Left}
@@ -104,7 +104,7 @@ module _ (r : Role) (l at : Left) (old mid : Spans) (last : ℕ) (o n : Bool)
   pub takes_past : ReadsFields r l w.fields old mid o n
   takes_past = taken r l w.fields old mid last o n w.each w.gathers
 
-  module _ (v : Value) (h : IsValueRead at v) where
+  module _ (to : Left) (v : Value) (h : IsValueRead at to v) where
     spanned : IsSpanned (whole_text at) (at.at - 1) v.end (piece_left at ∷ h.values)
     spanned = h.end (at.at - 1) [] (spanned_none w.past.left w.past.later)
 
@@ -112,11 +112,11 @@ module _ (r : Role) (l at : Left) (old mid : Spans) (last : ℕ) (o n : Bool)
     pub field_within : v.end ≤ l.at + l.len
     field_within = omega (arith, spanned.inside, length_text w.past.left, w.past.end)
 
-    after : (next : Option Left) → next_of v ≡ next → IsAfterValues at h.values next
+    after : (next : Option Left) → unless_end v.is_end to ≡ next → IsAfterValues at h.values next
     after next e = subst (IsAfterValues at h.values) e h.next
 
     -- what follows is shorter
-    pub field_less : (next : Left) → next_of v ≡ Some next → next.len < at.len
+    pub field_less : (next : Left) → unless_end v.is_end to ≡ Some next → next.len < at.len
     field_less next e =
         let k = after (Some next) e in
         omega (
@@ -131,7 +131,7 @@ module _ (r : Role) (l at : Left) (old mid : Spans) (last : ℕ) (o n : Bool)
     pub ends_in_key : r ≡ roles.Field → IsWord (role_key r) (piece_left at) → v.count ≡ 0
         → EndsInKey (pieces_left l)
     unfolding is_word
-    ends_in_key e key zero = cut (next_of v) h.next
+    ends_in_key e key zero = cut (unless_end v.is_end to) h.next
       where
         alone : h.values ≡ []
         alone = no_values h.values (omega (arith, h.count))
@@ -218,7 +218,7 @@ module _ (r : Role) (l at : Left) (old mid : Spans) (last : ℕ) (o n : Bool)
             (sym (map-append (field_part r) w.fields (field ∷ []))) (put i is room)
 
         -- one field more
-        pub takes_more : (next : Left) → next_of v ≡ Some next → Takes r l next old new now o k
+        pub takes_more : (next : Left) → unless_end v.is_end to ≡ Some next → Takes r l next old new now o k
         takes_more next t =
             let a = after (Some next) t in
             record {
@@ -230,7 +230,7 @@ module _ (r : Role) (l at : Left) (old mid : Spans) (last : ℕ) (o n : Bool)
             }
 
         -- the last one
-        pub takes_end : next_of v ≡ None
+        pub takes_end : unless_end v.is_end to ≡ None
             → (fs : Fields) × (pieces_left l ≡ fields_pieces fs) × ReadsFields r l fs old new o k
         takes_end t = (
           more,

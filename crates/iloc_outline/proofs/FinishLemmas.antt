@@ -46,7 +46,7 @@ module _ (t : Text) (o : Outline) (spans : Spans) (n : Bool) (h : ReadsHead t (p
 
 -- they are good
 pub finished_locale : (t : Text) (o : Outline) (before : Spans) (m : Bool) (l : Left) (spans : Spans)
-    (n : Bool) → AreHeadRead t before m (heads.Block o l) → ReadsBlocks l before spans m n
+    (n : Bool) → AreHeadRead t l before m (heads.Block o) → ReadsBlocks l before spans m n
     → (end : ℕ) (new : Spans) (r : Outline) → end ≡ length t → IsFinished o end n spans new r
     → IsLocaleOutlined t new (Normal r)
 finished_locale t o before m l spans n (is, later, same, single, cut, after, begun, h) b end new r e f =

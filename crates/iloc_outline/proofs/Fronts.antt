@@ -17,6 +17,7 @@ use Rattle.iloc_outline.specs.Identifier.{IsFrontRead, IsAfterFront, IsOnePast, 
 use Rattle.iloc_pieces.specs.Left as left
 use Rattle.iloc_pieces.specs.Left.{IsRemainder, IsLater, IsNextPiece, IsPast, IsSpanned, IsShortPiece, piece_left, pieces_left, whole_text}
 use Rattle.iloc_outline.specs.Parts.{front_pieces}
+use Rattle.iloc_outline.specs.Reading.{unless_end}
 use Rattle.iloc_pieces.specs.declared.left.Left.{Left}
 use Rattle.iloc_pieces.proofs.LeftLemmas.{length_piece, length_rest, length_text, next_at, past_first, past_next, short_language, short_word, spanned_all, spanned_both}
 
@@ -274,10 +275,12 @@ next_is : (l : Left) (o : Option Left) → IsAfter l o (front_pieces (front_of (
 next_is l None a e = a
 next_is l (Some m) a e = (a, sym e)
 
-pub front_read : (l : Left) (o : Option Left) (s r : ℕ) → IsRemainder l → IsWord (Language languages) (piece_left l)
-    → ReadsFront l o s r → IsFrontRead l (record { next = o; end = end_of l o; script = s; region = r })
+pub front_read : (l m : Left) (all : Bool) (s r : ℕ) → IsRemainder l → IsWord (Language languages) (piece_left l)
+    → ReadsFront l (unless_end all m) s r
+    → IsFrontRead l m (record { is_all = all; end = end_of l (unless_end all m); script = s; region = r })
 unfolding front_of
-front_read l o s r h language f =
+front_read l m all s r h language f =
+    let o = unless_end all m in
     let ps = pieces_left l in
     let words = front_pieces (front_of ps) in
     let i = front_of ps in

@@ -1,5 +1,5 @@
 -- What the reader of a head says: an identifier that is all of a text, or ends at a block, or why it is none.
-use Rattle.std.proofs.Common.{◌≡◌, ◌≢◌, ◌≤◌, Bool, true, false, List, [], ◌∷◌, ◌++◌, length, map, flat_map, take, drop, None, Some, refl, sym, ap, ◌∙◌, subst, arith, append_assoc, append-nil, length-append, true≢false}
+use Rattle.std.proofs.Common.{◌≡◌, ◌≢◌, ◌⊎◌, inl, inr, ◌≤◌, Bool, true, false, List, [], ◌∷◌, ◌++◌, length, map, flat_map, take, drop, None, Some, refl, sym, ap, ◌∙◌, subst, arith, append_assoc, append-nil, length-append, true≢false}
 use Rattle.std.specs.List.{AllZip}
 use Rattle.std.proofs.lemmas.List.{append_cancel_left, take-append-drop, length-take-le}
 use Rattle.iloc_spec_grammar.specs.Syntax.{Text, Identifier, Language, AllDifferent, IsWord, dashes, first_piece, front, head, identifier_pieces, is_one_byte, is_word, join, languages, lower, pieces, word_cmp}
@@ -19,8 +19,8 @@ use Rattle.iloc_outline.specs.declared.identifier.Front.{Front}
 use Rattle.iloc_pieces.specs.declared.left.Left.{Left}
 use Rattle.iloc_outline.specs.declared.outline.Head.TheVariants as heads
 use Rattle.iloc_outline.specs.declared.outline.Outline.{Outline}
-use Rattle.iloc_outline.specs.declared.reading.Reading.{Reading}
-use Rattle.iloc_outline.specs.declared.reading.Reading.TheVariants.{End, Next, Bad, Repeated, Full}
+use Rattle.iloc_outline.specs.declared.reading.Found.{Found}
+use Rattle.iloc_outline.specs.declared.reading.Found.TheVariants.{End, Next, Bad, Repeated}
 use Rattle.iloc_outline.specs.declared.span.Role.TheVariants as roles
 use Rattle.iloc_outline.specs.declared.spans.Spans.{Spans}
 use Rattle.iloc_subtags.specs.declared.parse_error.ParseError.TheVariants.{InvalidSubtag}
@@ -97,7 +97,7 @@ abbrev pub outline_of : Front → Outline
 outline_of f = record { front = f.end; script = f.script; region = f.region }
 
 module _ (l : Left) (f : Front) (is : IsRemainder l) (first : l.at ≡ 0)
-    (word : IsWord (Language languages) (piece_left l)) (read : IsFrontRead l f) where
+    (word : IsWord (Language languages) (piece_left l)) (m : Left) (read : IsFrontRead l m f) where
   abbrev i : Identifier
   i = front_of (pieces_left l)
 
@@ -171,7 +171,7 @@ module _ (l : Left) (f : Front) (is : IsRemainder l) (first : l.at ≡ 0)
 
   -- a language, a script and a region are all of the text
   pub head_front : (spans : Spans) → held_spans spans ≡ [] → IsAfterFront l None
-      → AreHeadRead (bytes_left l) spans true (heads.All (outline_of f))
+      → AreHeadRead (bytes_left l) m spans true (heads.All (outline_of f))
   head_front spans none cut =
       let left = no_items i.variants (after_front (pieces_left l)) (append_cancel_left (front_pieces i) _ []
       (sym (append_assoc (front_pieces i) i.variants (after_front (pieces_left l)))
@@ -188,7 +188,7 @@ module _ (l : Left) (f : Front) (is : IsRemainder l) (first : l.at ≡ 0)
       (λ _. subst (λ vs. flat_map printed_part (variant_parts vs) ≡ map lower vs) (sym nothing) refl)
 
   -- variants follow, or something else
-  module _ (m : Left) (after : IsAfterFront l (Some m)) (old : Spans) (none : held_spans old ≡ []) where
+  module _ (after : IsAfterFront l (Some m)) (old : Spans) (none : held_spans old ≡ []) where
     module _ (vs : List Text) (new : Spans) (n : Bool)
         (h : ReadsWords roles.Variant m vs old new true n) where
       same_words : vs ≡ i.variants
@@ -217,20 +217,20 @@ module _ (l : Left) (f : Front) (is : IsRemainder l) (first : l.at ≡ 0)
           (h.puts.order e).1)
 
     -- variants are the rest of the text
-    pub head_variants : (new : Spans) (n : Bool) → AreWordsRead roles.Variant m old new true n End
-        → AreHeadRead (bytes_left l) new n (heads.All (outline_of f))
-    head_variants new n h = read_up_to (pieces_left m) new n h (pieces_left l)
+    pub head_variants : (k : Left) (new : Spans) (n : Bool) → AreWordsRead roles.Variant m k old new true n End
+        → AreHeadRead (bytes_left l) k new n (heads.All (outline_of f))
+    head_variants k new n h = read_up_to (pieces_left m) new n h (pieces_left l)
         (after.0.pieces ∙ ap (λ ws. front_pieces i ++ ws) (same_words (pieces_left m) new n h) ∙ sym pieces_i)
 
     module _ (k : Left) (new : Spans) (n : Bool)
-        (h : AreWordsRead roles.Variant m old new true n (Next k)) where
+        (h : AreWordsRead roles.Variant m k old new true n Next) where
       before : IsPast l k (identifier_pieces i)
       before = subst (IsPast l k) (ap (λ ws. front_pieces i ++ ws) (same_words h.0 new n h.3) ∙ sym pieces_i)
           (past_past after.0 h.1)
 
       -- a block follows
       pub head_block : is_one_byte (piece_left k) ≡ true
-          → AreHeadRead (bytes_left l) new n (heads.Block (outline_of f) k)
+          → AreHeadRead (bytes_left l) k new n (heads.Block (outline_of f))
       head_block single =
           let both = head_words (pieces_left l) (pieces_left k) word before.pieces
           (single_starts (bytes_left k) single) in (
@@ -246,7 +246,7 @@ module _ (l : Left) (f : Front) (is : IsRemainder l) (first : l.at ≡ 0)
 
       -- something else follows
       pub head_stranger : is_one_byte (piece_left k) ≡ false
-          → AreHeadRead (bytes_left l) new n (heads.Refused InvalidSubtag)
+          → AreHeadRead (bytes_left l) k new n (heads.Refused InvalidSubtag)
       head_stranger longer = not_an_identifier begins
           (more_left (pieces_left l) word (λ e. true≢false
           (sym (starts_single (bytes_left k) (ap starts_block (sym left_over ∙ e) ∙ after_starts (pieces_left l)))
@@ -257,18 +257,17 @@ module _ (l : Left) (f : Front) (is : IsRemainder l) (first : l.at ≡ 0)
               (pieces_front_of (pieces_left l) word ∙ before.pieces)
 
     -- a variant comes twice
-    head_repeated : (new : Spans) (n : Bool) → AreWordsRead roles.Variant m old new true n Repeated
-        → AreHeadRead (bytes_left l) new n (heads.Refused InvalidSubtag)
-    head_repeated new n h = not_an_identifier begins
+    head_repeated : (k : Left) (new : Spans) (n : Bool)
+        → AreWordsRead roles.Variant m k old new true n Repeated
+        → AreHeadRead (bytes_left l) k new n (heads.Refused InvalidSubtag)
+    head_repeated k new n h = not_an_identifier begins
         (one_twice (pieces_left l) word (subst (λ ws. ¬ (AllDifferent word_cmp (map lower ws)))
         (variants_of (pieces_left l) (pieces_left m) after.1) h.1))
 
     -- neither of these
-    pub head_other : (new : Spans) (n : Bool) (r : Reading) → AreWordsRead roles.Variant m old new true n r
-        → r ≢ End → ((k : Left) → r ≢ Next k) → r ≢ Full
-        → AreHeadRead (bytes_left l) new n (heads.Refused InvalidSubtag)
-    head_other new n End h e x f = absurd (e refl)
-    head_other new n (Next k) h e x f = absurd (x k refl)
-    head_other new n Bad h e x f = absurd (h tt)
-    head_other new n Repeated h e x f = head_repeated new n h
-    head_other new n Full h e x f = absurd (f refl)
+    pub head_other : (k : Left) (new : Spans) (n : Bool) (r : Found)
+        → AreWordsRead roles.Variant m k old new true n r → (r ≡ Bad) ⊎ (r ≡ Repeated)
+        → AreHeadRead (bytes_left l) k new n (heads.Refused InvalidSubtag)
+    head_other k new n r h (inl e) = absurd (subst (AreWordsRead roles.Variant m k old new true n) e h tt)
+    head_other k new n r h (inr e) =
+        head_repeated k new n (subst (AreWordsRead roles.Variant m k old new true n) e h)

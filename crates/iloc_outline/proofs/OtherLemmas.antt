@@ -20,8 +20,8 @@ use Rattle.iloc_outline.specs.Parts.{block_parts, printed_part, rank, singleton_
 use Rattle.iloc_outline.specs.Reading.{IsBody, IsPrivateBody, IsPutOther, Puts, ReadsBlock, block_span}
 use Rattle.iloc_outline.specs.Spans.{held_spans}
 use Rattle.iloc_pieces.specs.declared.left.Left.{Left}
-use Rattle.iloc_outline.specs.declared.reading.Reading.{Reading}
-use Rattle.iloc_outline.specs.declared.reading.Reading.TheVariants.{End, Next, Bad}
+use Rattle.iloc_outline.specs.declared.reading.Found.{Found}
+use Rattle.iloc_outline.specs.declared.reading.Found.TheVariants.{End, Next, Bad}
 use Rattle.iloc_outline.specs.declared.spans.Spans.{Spans}
 use Rattle.iloc_pieces.proofs.LeftLemmas.{between_short, past_next, pieces_end, short_private, spanned_end}
 use Rattle.iloc_outline.proofs.SpansLemmas.{other_short}
@@ -221,7 +221,7 @@ none_kept (p ∷ ps) h = let parts = or_parts (is_word Subtag p) _ h in rw parts
 -- ---- what the reader says
 
 -- the same of the singleton as it is written, and of what was before the walk
-pub put_at : (c b start end : ℕ) (d : Bool) (old mid new : Spans) (o m n : Bool) (good r : Reading)
+pub put_at : (c b start end : ℕ) (d : Bool) (old mid new : Spans) (o m n : Bool) (good r : Found)
     → to_ascii_lowercase c ≡ b → mid ≡ old → m ≡ o
     → IsPutOther (block_span b start end d) mid new m n good r
     → IsPutOther (block_span (to_ascii_lowercase c) start end d) old new o n good r
@@ -234,8 +234,9 @@ module _ (c : ℕ) (l : Left) (other : is_other_singleton (to_ascii_lowercase c)
   no_t_of_other : (P : Type 0) → ¬ ((to_ascii_lowercase c ≡ code_t) × P)
   no_t_of_other P h = no_t (to_ascii_lowercase c) h.0 other
 
-  bad_other : (old new : Spans) (o n : Bool) → ¬ (IsOther (front (pieces_left l))) → IsBody c l old new o n Bad
-  bad_other old new o n bad = (other_bad c (front (pieces_left l)) other bad, no_t_of_other _)
+  bad_other : (k : Left) (old new : Spans) (o n : Bool) → ¬ (IsOther (front (pieces_left l)))
+      → IsBody c l k old new o n Bad
+  bad_other k old new o n bad = (other_bad c (front (pieces_left l)) other bad, no_t_of_other _)
 
   -- none is a subtag
   none_good : (ps : List Text) → list_any (is_word Subtag) ps ≡ false → ¬ (IsOther ps)
@@ -294,17 +295,17 @@ module _ (c : ℕ) (l : Left) (other : is_other_singleton (to_ascii_lowercase c)
     whole_body = front_whole (pieces_left l)
         (subst (AllByRecursion IsLong) (sym all_pieces) (long_pieces _ h.are.each))
 
-    pub end_bad : (old new : Spans) (o n : Bool) → g ≡ false → IsBody c l old new o n Bad
+    pub end_bad : (old new : Spans) (o n : Bool) → g ≡ false → IsBody c l m old new o n Bad
     end_bad old new o n e =
-        bad_other old new o n
+        bad_other m old new o n
         (subst (λ ps. ¬ (IsOther ps)) (sym (whole_body ∙ all_pieces)) (none_good _ (sym h.are.good ∙ e)))
 
-    pub end_put : (start : ℕ) (old new : Spans) (o n : Bool) (r : Reading) → g ≡ true → IsLater l
+    pub end_put : (start : ℕ) (old new : Spans) (o n : Bool) (r : Found) → g ≡ true → IsLater l
         → IsSpanned (whole_text l) start (l.at - 1) ((c ∷ []) ∷ [])
         → IsPutOther (block_span (to_ascii_lowercase c) start (m.at + m.n) d) old new o n End r
-        → IsBody c l old new o n r
+        → IsBody c l m old new o n r
     end_put start old new o n r e later spanned (inl full) =
-        subst (IsBody c l old new o n) (sym full.0) (omega (arith, full.1))
+        subst (IsBody c l m old new o n) (sym full.0) (omega (arith, full.1))
     end_put start old new o n r e later spanned (inr put) =
         let spans : IsSpanned (whole_text l) start (m.at + m.n) ((c ∷ []) ∷ pieces_left l) =
         subst (λ ps. IsSpanned (whole_text l) start (m.at + m.n) ((c ∷ []) ∷ ps)) (sym all_pieces)
@@ -312,24 +313,24 @@ module _ (c : ℕ) (l : Left) (other : is_other_singleton (to_ascii_lowercase c)
         let are : ArePieces (pieces_left l) true d =
         subst (λ ps. ArePieces ps true d) (sym all_pieces)
         (subst (λ x. ArePieces (h.words ++ (piece_left m ∷ [])) x d) e h.are) in
-        subst (IsBody c l old new o n) (sym put.0)
+        subst (IsBody c l m old new o n) (sym put.0)
         (good_other start (m.at + m.n) (pieces_left l) d old new o n are spans whole_body put.1 put.2)
 
   -- a piece of another length is reached
   module _ (m : Left) (g d : Bool) (h : PassesOther l m g d) where
     next_none : (old new : Spans) (o n : Bool) → is_one_byte (piece_left m) ≡ true → g ≡ false
-        → IsBody c l old new o n Bad
+        → IsBody c l m old new o n Bad
     next_none old new o n one e =
-        bad_other old new o n
+        bad_other m old new o n
         (subst (λ ps. ¬ (IsOther ps))
         (sym (front_ends l m h.words h.past.pieces (long_pieces h.words h.are.each) one))
         (none_good h.words (sym h.are.good ∙ e)))
 
     pub next_odd : (old new : Spans) (o n : Bool) → is_in_range 2 8 (length (piece_left m)) ≡ false
-        → is_one_byte (piece_left m) ≡ false → IsBody c l old new o n Bad
+        → is_one_byte (piece_left m) ≡ false → IsBody c l m old new o n Bad
     next_odd old new o n odd longer =
         let body = front_goes_on l m h.words h.past.pieces (long_pieces h.words h.are.each) longer in
-        bad_other old new o n
+        bad_other m old new o n
         (λ b. true≢false (sym (last_of h.words body.0 (subst (AllByRecursion IsBetween) body.1 b.lengths))
         ∙ odd))
       where
@@ -339,21 +340,21 @@ module _ (c : ℕ) (l : Left) (other : is_other_singleton (to_ascii_lowercase c)
         last_of (w ∷ ws) qs each = last_of ws qs each.1
 
     pub next_bad : (old new : Spans) (o n : Bool) → is_in_range 2 8 (length (piece_left m)) ≡ false → g ≡ false
-        → IsBody c l old new o n Bad
+        → IsBody c l m old new o n Bad
     next_bad old new o n odd e =
         elim (cases_Bool (is_one_byte (piece_left m)))
         [ inl one ↦ next_none old new o n one e | inr longer ↦ next_odd old new o n odd longer ]
 
-    pub next_put : (start : ℕ) (old new : Spans) (o n : Bool) (r : Reading) → is_one_byte (piece_left m) ≡ true
+    pub next_put : (start : ℕ) (old new : Spans) (o n : Bool) (r : Found) → is_one_byte (piece_left m) ≡ true
         → g ≡ true → IsLater l → IsSpanned (whole_text l) start (l.at - 1) ((c ∷ []) ∷ [])
-        → IsPutOther (block_span (to_ascii_lowercase c) start (m.at - 1) d) old new o n (Next m) r
-        → IsBody c l old new o n r
+        → IsPutOther (block_span (to_ascii_lowercase c) start (m.at - 1) d) old new o n Next r
+        → IsBody c l m old new o n r
     next_put start old new o n r one e later spanned (inl full) =
-        subst (IsBody c l old new o n) (sym full.0) (omega (arith, full.1))
+        subst (IsBody c l m old new o n) (sym full.0) (omega (arith, full.1))
     next_put start old new o n r one e later spanned (inr put) =
         let body = front_ends l m h.words h.past.pieces (long_pieces h.words h.are.each) one in
         let are = subst (λ x. ArePieces h.words x d) e h.are in
-        subst (IsBody c l old new o n) (sym put.0) (
+        subst (IsBody c l m old new o n) (sym put.0) (
           h.words,
           h.past,
           one,

@@ -22,7 +22,7 @@ use Rattle.iloc_outline.specs.Parts.{Part, block_parts, rank}
 use Rattle.iloc_outline.specs.Reading.{IsTooMuch}
 use Rattle.iloc_outline.specs.Spans.{Spell}
 use Rattle.iloc_pieces.specs.declared.left.Left.{Left}
-use Rattle.iloc_outline.specs.declared.reading.Reading.TheVariants.{End, Next, Bad, Repeated, Full}
+use Rattle.iloc_outline.specs.declared.reading.Found.TheVariants.{End, Next, Bad, Repeated, Full}
 use Rattle.iloc_outline.specs.declared.spans.Spans.{Spans}
 use Rattle.iloc_outline.proofs.BlocksLemmas.{IsAt, IsDone, IsRead, at_start, groups_of, is_bad, is_placed, is_second, no_letter, ranks, read_bad, read_end, read_full, read_next, read_repeated, repeats, stays, told}
 use Rattle.iloc_outline.proofs.SpansLemmas.{length-held, spell_length}
@@ -185,30 +185,31 @@ module _ {l : Left} {old : Spans} {o : Bool} {at : Left} {last : ℕ} {now : Spa
 
   module _ {m : Left} {mid : Spans} {p k : Bool} (x : Passed m mid p k) where
     -- what follows is bad
-    pub refuses_bad : IsBlockRead byte_at m now mid p k Bad → IsRefused l InvalidExtension
-    refuses_bad r = (
+    pub refuses_bad : (j : Left) → IsBlockRead byte_at m j now mid p k Bad → IsRefused l InvalidExtension
+    refuses_bad j r = (
       faults.InvalidExtension,
       is_bad byte_at behind l old o last now n at_block x.letter x.fresh.new
           (subst (λ qs. (is_block languages (byte_at, body_of byte_at qs) ≡ false)
           × (((to_ascii_lowercase byte_at == code_t) && repeats_variant languages (body_of byte_at qs))
-          ≡ false)) (sym (same_behind x.next)) (read_bad byte_at m now mid p k r)),
+          ≡ false)) (sym (same_behind x.next)) (read_bad byte_at m j now mid p k r)),
       refl,
     )
 
     -- a variant is repeated
-    pub refuses_repeated : IsBlockRead byte_at m now mid p k Repeated → IsRefused l InvalidSubtag
-    refuses_repeated r = (
+    pub refuses_repeated : (j : Left) → IsBlockRead byte_at m j now mid p k Repeated → IsRefused l InvalidSubtag
+    refuses_repeated j r = (
       faults.InvalidSubtag,
       repeats byte_at behind l old o last now n at_block x.letter x.fresh.new
           (subst (λ qs. (is_block languages (byte_at, body_of byte_at qs) ≡ false)
           × (((to_ascii_lowercase byte_at == code_t) && repeats_variant languages (body_of byte_at qs))
-          ≡ true)) (sym (same_behind x.next)) (read_repeated byte_at m now mid p k r)),
+          ≡ true)) (sym (same_behind x.next)) (read_repeated byte_at m j now mid p k r)),
       refl,
     )
 
     -- there is no room
-    pub too_many : IsBlockRead byte_at m now mid p k Full → IsTooMuch old (length (pieces_left l))
-    too_many r = omega (arith, read_full byte_at m now mid p k r, h.before.few, ap length x.next.pieces)
+    pub too_many : (j : Left) → IsBlockRead byte_at m j now mid p k Full
+        → IsTooMuch old (length (pieces_left l))
+    too_many j r = omega (arith, read_full byte_at m j now mid p k r, h.before.few, ap length x.next.pieces)
 
     -- the block is put behind the others, and rest follows
     pub stays_last : (rest : List Text) → IsRead byte_at (whole_text l) behind rest now mid p k → (r : ℕ)
@@ -242,11 +243,12 @@ module _ {l : Left} {old : Spans} {o : Bool} {at : Left} {last : ℕ} {now : Spa
         (subst (λ t. IsRead byte_at t (pieces_left m) rest now mid p k) (same_text x.next) r)
 
     -- the block is the last one
-    pub ends_here : IsBlockRead byte_at m now mid p k End → IsRead byte_at (whole_text l) behind [] now mid p k
-    ends_here r = read_here [] (read_end byte_at m now mid p k r)
+    pub ends_here : (j : Left) → IsBlockRead byte_at m j now mid p k End
+        → IsRead byte_at (whole_text l) behind [] now mid p k
+    ends_here j r = read_here [] (read_end byte_at m j now mid p k r)
 
     -- another one follows
-    pub goes_on : (j : Left) → IsBlockRead byte_at m now mid p k (Next j)
+    pub goes_on : (j : Left) → IsBlockRead byte_at m j now mid p k Next
         → IsRead byte_at (whole_text l) behind (pieces_left j) now mid p k
     goes_on j r = read_here (pieces_left j) (read_next byte_at m j now mid p k r).read
 
@@ -267,7 +269,7 @@ module _ {l : Left} {old : Spans} {o : Bool} {at : Left} {last : ℕ} {now : Spa
         )
 
     -- its singleton is reached
-    pub next_at : (j : Left) → IsBlockRead byte_at m now mid p k (Next j) → (top : ℕ) (placed : Spans)
+    pub next_at : (j : Left) → IsBlockRead byte_at m j now mid p k Next → (top : ℕ) (placed : Spans)
         → IsDone l old o (pieces_left j) top placed k → IsAt l old o j top placed k
     next_at j r top placed d =
         let to = read_next byte_at m j now mid p k r in
@@ -281,7 +283,7 @@ module _ {l : Left} {old : Spans} {o : Bool} {at : Left} {last : ℕ} {now : Spa
         }
 
     -- less is left
-    pub less_at : (j : Left) → IsBlockRead byte_at m now mid p k (Next j) → j.len < at.len
+    pub less_at : (j : Left) → IsBlockRead byte_at m j now mid p k Next → j.len < at.len
     less_at j r = omega (arith, (read_next byte_at m j now mid p k r).less, x.next.less)
 
 -- at the first singleton

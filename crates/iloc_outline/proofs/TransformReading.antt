@@ -12,11 +12,11 @@ use Rattle.iloc_spec_grammar.proofs.ReadBack.{all_append, fields_each, plain_fie
 use Rattle.iloc_spec_grammar.proofs.WordsLaws.{length-transform_key}
 use Rattle.iloc_pieces.specs.Left.{IsPast, IsSpanned, piece_left, pieces_left, bytes_left, whole_text}
 use Rattle.iloc_outline.specs.Parts.{block_parts, field_part, front_pieces, in_order, optional_front, optional_variants, rank, singleton_part, transform_parts, variant_parts}
-use Rattle.iloc_outline.specs.Reading.{AreFieldsRead, AreWordsRead, EndsAtBlock, EndsInKey, IsBody, IsReadAs, Puts, ReadsBlock, ReadsFields, ReadsWords, block_span}
+use Rattle.iloc_outline.specs.Reading.{AreFieldsRead, AreWordsRead, EndsAtBlock, EndsInKey, IsBody, IsFoundAt, Puts, ReadsBlock, ReadsFields, ReadsWords, block_span}
 use Rattle.iloc_outline.specs.Spans.{held_spans}
 use Rattle.iloc_pieces.specs.declared.left.Left.{Left}
-use Rattle.iloc_outline.specs.declared.reading.Reading.{Reading}
-use Rattle.iloc_outline.specs.declared.reading.Reading.TheVariants.{End, Next, Bad, Repeated, Full}
+use Rattle.iloc_outline.specs.declared.reading.Found.{Found}
+use Rattle.iloc_outline.specs.declared.reading.Found.TheVariants.{End, Next, Bad, Repeated, Full}
 use Rattle.iloc_outline.specs.declared.span.Role.{Role}
 use Rattle.iloc_outline.specs.declared.span.Role.TheVariants as roles
 use Rattle.iloc_outline.specs.declared.span.Role.TheVariants.{Singleton}
@@ -26,10 +26,10 @@ use Rattle.iloc_outline.proofs.BodyLemmas.{front_ends, front_first, front_goes_o
 use Rattle.iloc_outline.proofs.TransformLemmas.{AreFields, after_front_body, alone_bad, first_body, front_bad, long_front, no_repeat, pieces_front_of, repeats, variants_of, words_front, no_fields_first, no_fields_key, no_fields_later, none_repeats, transform_good}
 
 -- what is left after fields is a piece of a text
-pub fields_left : (r : Role) (l : Left) (old new : Spans) (o n : Bool) (s : Reading)
-    → AreFieldsRead r l old new o n s → IsReadAs s
-fields_left r l old new o n (Next m) h = h.1.left
-fields_left r l old new o n _ h = tt
+pub fields_left : (r : Role) (l m : Left) (old new : Spans) (o n : Bool) (s : Found)
+    → AreFieldsRead r l m old new o n s → IsFoundAt m s
+fields_left r l m old new o n Next h = h.1.left
+fields_left r l m old new o n _ h = tt
 
 -- ---- good blocks
 
@@ -123,17 +123,17 @@ module _ (c start : ℕ) (l : Left) (e : to_ascii_lowercase c ≡ code_t)
           (λ b. is_word (Language languages) (first_piece (cond b [] (p ∷ front ps))) ≡ false)
           [ true ↦ refl | false ↦ h ]
 
-  bad_alone : (old new : Spans) (o n : Bool)
-      → (front (pieces_left l) ≢ [] → ¬ (AreFields (front (pieces_left l)))) → IsBody c l old new o n Bad
-  bad_alone old new o n bad = (
+  bad_alone : (m : Left) (old new : Spans) (o n : Bool)
+      → (front (pieces_left l) ≢ [] → ¬ (AreFields (front (pieces_left l)))) → IsBody c l m old new o n Bad
+  bad_alone m old new o n bad = (
     alone_bad c (front (pieces_left l)) e body_none bad,
     λ h. none_repeats (front (pieces_left l)) body_none h.1,
   )
 
-  pub transform_single : (old new : Spans) (o n : Bool) → is_one_byte (piece_left l) ≡ true
-      → IsBody c l old new o n Bad
-  transform_single old new o n single =
-      bad_alone old new o n (λ some. absurd (some (front_single (pieces_left l) single)))
+  pub transform_single : (m : Left) (old new : Spans) (o n : Bool) → is_one_byte (piece_left l) ≡ true
+      → IsBody c l m old new o n Bad
+  transform_single m old new o n single =
+      bad_alone m old new o n (λ some. absurd (some (front_single (pieces_left l) single)))
 
   module _ (spanned : IsSpanned (whole_text l) start (l.at - 1) ((c ∷ []) ∷ []))
       (long : is_one_byte (piece_left l) ≡ false) (old mid : Spans) (o : Bool)
@@ -150,16 +150,16 @@ module _ (c start : ℕ) (l : Left) (e : to_ascii_lowercase c ≡ code_t)
         nonempty [] some = absurd (some refl)
         nonempty (f ∷ fs) some = omega arith
 
-    alone_end : (new : Spans) (n : Bool) → AreFieldsRead roles.Field l mid new o n End
-        → IsBody c l old new o n End
-    alone_end new n (fs, cut, h) =
+    alone_end : (k : Left) (new : Spans) (n : Bool) → AreFieldsRead roles.Field l k mid new o n End
+        → IsBody c l k old new o n End
+    alone_end k new n (fs, cut, h) =
         subst (λ ps. ReadsBlock c l ps old new o n) (sym cut)
         (good_alone new n fs h.each (λ empty. pieces_nonempty (bytes_left l) (cut ∙ ap fields_pieces empty))
         h.puts (ap front cut ∙ front_whole (fields_pieces fs) (long_fields fs h.each)))
 
-    alone_next : (new : Spans) (n : Bool) (k : Left) → AreFieldsRead roles.Field l mid new o n (Next k)
-        → is_one_byte (piece_left k) ≡ true → IsBody c l old new o n (Next k)
-    alone_next new n k (fs, past, no_key, either, h) one = (
+    alone_next : (k : Left) (new : Spans) (n : Bool) → AreFieldsRead roles.Field l k mid new o n Next
+        → is_one_byte (piece_left k) ≡ true → IsBody c l k old new o n Next
+    alone_next k new n (fs, past, no_key, either, h) one = (
       fields_pieces fs,
       past,
       one,
@@ -168,11 +168,11 @@ module _ (c start : ℕ) (l : Left) (e : to_ascii_lowercase c ≡ code_t)
           (front_ends l k (fields_pieces fs) past.pieces (long_fields fs h.each) one),
     )
 
-    alone_stranger : (new : Spans) (n : Bool) (k : Left) → AreFieldsRead roles.Field l mid new o n (Next k)
-        → is_one_byte (piece_left k) ≡ false → IsBody c l old new o n Bad
-    alone_stranger new n k (fs, past, no_key, either, h) longer =
+    alone_stranger : (k : Left) (new : Spans) (n : Bool) → AreFieldsRead roles.Field l k mid new o n Next
+        → is_one_byte (piece_left k) ≡ false → IsBody c l k old new o n Bad
+    alone_stranger k new n (fs, past, no_key, either, h) longer =
         let body = front_goes_on l k (fields_pieces fs) past.pieces (long_fields fs h.each) longer in
-        bad_alone old new o n (λ _ f. no_fields either (subst AreFields body.1 f))
+        bad_alone k old new o n (λ _ f. no_fields either (subst AreFields body.1 f))
       where
         more : List Text
         more = (front_goes_on l k (fields_pieces fs) past.pieces (long_fields fs h.each) longer).0
@@ -184,20 +184,19 @@ module _ (c start : ℕ) (l : Left) (e : to_ascii_lowercase c ≡ code_t)
             (subst AreFields (ap (λ gs. fields_pieces gs ++ (piece_left k ∷ more)) empty) f)
         no_fields (inr odd) f = no_fields_later (fields_pieces fs) (piece_left k) more no_key odd f
 
-    pub alone_read : (new : Spans) (n : Bool) (r s : Reading) → AreFieldsRead roles.Field l mid new o n r
-        → EndsAtBlock r s → IsBody c l old new o n s
-    alone_read new n End s h k = subst (IsBody c l old new o n) k (alone_end new n h)
-    alone_read new n (Next i) (Next j) h k =
-        subst (λ (i : Left). IsBody c l old new o n (Next i)) k.0 (alone_next new n i h k.1)
-    alone_read new n (Next i) Bad h k = alone_stranger new n i h k
-    alone_read new n (Next i) _ h k = absurd (k tt)
-    alone_read new n Bad s h k =
-        subst (IsBody c l old new o n) k
-        (bad_alone old new o n
+    pub alone_read : (k : Left) (new : Spans) (n : Bool) (r s : Found)
+        → AreFieldsRead roles.Field l k mid new o n r → EndsAtBlock k r s → IsBody c l k old new o n s
+    alone_read k new n End s h ends = subst (IsBody c l k old new o n) ends (alone_end k new n h)
+    alone_read k new n Next Next h ends = alone_next k new n h ends
+    alone_read k new n Next Bad h ends = alone_stranger k new n h ends
+    alone_read k new n Next _ h ends = absurd (ends tt)
+    alone_read k new n Bad s h ends =
+        subst (IsBody c l k old new o n) ends
+        (bad_alone k old new o n
         (λ _ f. no_fields_key (front (pieces_left l)) (body_ends_in_key (pieces_left l) h.1) f))
-    alone_read new n Repeated s h k = absurd (h tt)
-    alone_read new n Full s h k =
-        subst (IsBody c l old new o n) k
+    alone_read k new n Repeated s h ends = absurd (h tt)
+    alone_read k new n Full s h ends =
+        subst (IsBody c l k old new o n) ends
         (omega (
           arith,
           ap length put,
@@ -215,9 +214,10 @@ module _ (c start end : ℕ) (l : Left) (e : to_ascii_lowercase c ≡ code_t)
   one_more : length (held_spans mid) ≡ length (held_spans old) + 1
   one_more = ap length put ∙ length-append (held_spans old) _
 
-  bad_after : (new : Spans) (n : Bool) → AllDifferent word_cmp (map lower (front_of (pieces_left l)).variants)
-      → ¬ (AreFields (front (after_front (pieces_left l)))) → IsBody c l old new o n Bad
-  bad_after new n different bad = (
+  bad_after : (k : Left) (new : Spans) (n : Bool)
+      → AllDifferent word_cmp (map lower (front_of (pieces_left l)).variants)
+      → ¬ (AreFields (front (after_front (pieces_left l)))) → IsBody c l k old new o n Bad
+  bad_after k new n different bad = (
     front_bad c (front (pieces_left l)) e (first_body (pieces_left l) word)
         (λ f. bad (subst AreFields (after_front_body (pieces_left l) word) f)),
     λ h. no_repeat (pieces_left l) word different h.1,
@@ -241,8 +241,9 @@ module _ (c start end : ℕ) (l : Left) (e : to_ascii_lowercase c ≡ code_t)
       }) body
 
   -- language, script and region alone
-  pub front_alone : pieces_left l ≡ front_pieces (front_of (pieces_left l)) → IsBody c l old mid o o End
-  front_alone cut =
+  pub front_alone : (k : Left) → pieces_left l ≡ front_pieces (front_of (pieces_left l))
+      → IsBody c l k old mid o o End
+  front_alone k cut =
       let i = front_of (pieces_left l) in
       let none : i.variants ≡ [] =
       no_items i.variants (after_front (pieces_left l)) (append_cancel_left (front_pieces i) _ []
@@ -290,8 +291,8 @@ module _ (c start end : ℕ) (l : Left) (e : to_ascii_lowercase c ≡ code_t)
         ap (λ ws. front_pieces (front_of (pieces_left l)) ++ ws) (variants_all vs mid' o' h)
         ∙ sym (pieces_front (Some (front_of (pieces_left l))))
 
-    pub variants_end : (new : Spans) (n : Bool) → ReadsWords roles.Variant m (pieces_left m) mid new o n
-        → IsBody c l old new o n End
+    variants_end : (new : Spans) (n : Bool) → ReadsWords roles.Variant m (pieces_left m) mid new o n
+        → ReadsBlock c l (pieces_left l) old new o n
     variants_end new n h =
         let i = front_of (pieces_left l) in
         let all : pieces_left l ≡ identifier_pieces i ++ [] =
@@ -304,10 +305,10 @@ module _ (c start end : ℕ) (l : Left) (e : to_ascii_lowercase c ≡ code_t)
         (good_id new new n n [] (all_different (pieces_left m) new n h) tt (variants_put (pieces_left m) new n h)
         (puts_none (whole_text l) new n) body)
 
-    pub variants_repeated : (old new : Spans) (n : Bool)
+    variants_repeated : (k : Left) (new : Spans) (n : Bool)
         → ¬ (AllDifferent word_cmp (map lower (passing (is_word Variant) (pieces_left m))))
-        → IsBody c l old new o n Repeated
-    variants_repeated old new n h = (
+        → IsBody c l k old new o n Repeated
+    variants_repeated k new n h = (
       e,
       repeats (pieces_left l) word
           (subst (λ ws. ¬ (AllDifferent word_cmp (map lower ws)))
@@ -343,18 +344,18 @@ module _ (c start end : ℕ) (l : Left) (e : to_ascii_lowercase c ≡ code_t)
       long_all fs h = all_append IsLong (identifier_pieces (front_of (pieces_left l))) (fields_pieces fs)
           (long_front (pieces_left l) word) (long_fields fs h)
 
-      fields_end : (new : Spans) (n : Bool) → AreFieldsRead roles.Field k mid' new o' n End
-          → IsBody c l old new o n End
-      fields_end new n (fs, cut, h) =
+      fields_end : (j : Left) (new : Spans) (n : Bool) → AreFieldsRead roles.Field k j mid' new o' n End
+          → IsBody c l j old new o n End
+      fields_end j new n (fs, cut, h) =
           let ids = identifier_pieces (front_of (pieces_left l)) in
           let all : pieces_left l ≡ ids ++ fields_pieces fs = before.pieces ∙ ap (λ ps. ids ++ ps) cut in
           subst (λ ps. ReadsBlock c l ps old new o n) (sym all)
           (good_fields new n fs h
           (ap front all ∙ front_whole (ids ++ fields_pieces fs) (long_all fs h.each)))
 
-      fields_next : (new : Spans) (n : Bool) (j : Left) → AreFieldsRead roles.Field k mid' new o' n (Next j)
-          → is_one_byte (piece_left j) ≡ true → IsBody c l old new o n (Next j)
-      fields_next new n j (fs, later, no_key, either, h) one =
+      fields_next : (j : Left) (new : Spans) (n : Bool) → AreFieldsRead roles.Field k j mid' new o' n Next
+          → is_one_byte (piece_left j) ≡ true → IsBody c l j old new o n Next
+      fields_next j new n (fs, later, no_key, either, h) one =
           let both = past_past before later in (
             identifier_pieces (front_of (pieces_left l)) ++ fields_pieces fs,
             both,
@@ -362,11 +363,11 @@ module _ (c start end : ℕ) (l : Left) (e : to_ascii_lowercase c ≡ code_t)
             good_fields new n fs h (front_ends l j _ both.pieces (long_all fs h.each) one),
           )
 
-      fields_stranger : (new : Spans) (n : Bool) (j : Left)
-          → AreFieldsRead roles.Field k mid' new o' n (Next j) → is_one_byte (piece_left j) ≡ false
-          → IsBody c l old new o n Bad
-      fields_stranger new n j (fs, later, no_key, either, h) longer =
-          bad_after new n (all_different vs mid' o' words)
+      fields_stranger : (j : Left) (new : Spans) (n : Bool)
+          → AreFieldsRead roles.Field k j mid' new o' n Next → is_one_byte (piece_left j) ≡ false
+          → IsBody c l j old new o n Bad
+      fields_stranger j new n (fs, later, no_key, either, h) longer =
+          bad_after j new n (all_different vs mid' o' words)
           (λ f. no_fields either (subst AreFields (ap front left_over ∙ body.1) f))
         where
           body : (more : List Text) × (front (pieces_left k) ≡ fields_pieces fs ++ (piece_left j ∷ more))
@@ -379,21 +380,20 @@ module _ (c start end : ℕ) (l : Left) (e : to_ascii_lowercase c ≡ code_t)
               (subst AreFields (ap (λ gs. fields_pieces gs ++ (piece_left j ∷ body.0)) empty) f)
           no_fields (inr odd) f = no_fields_later (fields_pieces fs) (piece_left j) body.0 no_key odd f
 
-      fields_read : (new : Spans) (n : Bool) (r s : Reading) → AreFieldsRead roles.Field k mid' new o' n r
-          → EndsAtBlock r s → IsBody c l old new o n s
-      fields_read new n End s h ends = subst (IsBody c l old new o n) ends (fields_end new n h)
-      fields_read new n (Next i) (Next j) h ends =
-          subst (λ (i : Left). IsBody c l old new o n (Next i)) ends.0 (fields_next new n i h ends.1)
-      fields_read new n (Next i) Bad h ends = fields_stranger new n i h ends
-      fields_read new n (Next i) _ h ends = absurd (ends tt)
-      fields_read new n Bad s h ends =
-          subst (IsBody c l old new o n) ends
-          (bad_after new n (all_different vs mid' o' words)
+      fields_read : (j : Left) (new : Spans) (n : Bool) (r s : Found)
+          → AreFieldsRead roles.Field k j mid' new o' n r → EndsAtBlock j r s → IsBody c l j old new o n s
+      fields_read j new n End s h ends = subst (IsBody c l j old new o n) ends (fields_end j new n h)
+      fields_read j new n Next Next h ends = fields_next j new n h ends
+      fields_read j new n Next Bad h ends = fields_stranger j new n h ends
+      fields_read j new n Next _ h ends = absurd (ends tt)
+      fields_read j new n Bad s h ends =
+          subst (IsBody c l j old new o n) ends
+          (bad_after j new n (all_different vs mid' o' words)
           (λ f. no_fields_key (front (pieces_left k)) (body_ends_in_key (pieces_left k) h.1)
           (subst AreFields (ap front left_over) f)))
-      fields_read new n Repeated s h ends = absurd (h tt)
-      fields_read new n Full s h ends =
-          subst (IsBody c l old new o n) ends
+      fields_read j new n Repeated s h ends = absurd (h tt)
+      fields_read j new n Full s h ends =
+          subst (IsBody c l j old new o n) ends
           (omega (
             arith,
             one_more,
@@ -405,19 +405,19 @@ module _ (c start end : ℕ) (l : Left) (e : to_ascii_lowercase c ≡ code_t)
             length-append vs (pieces_left k),
           ))
 
-    pub variants_read : (mid' new : Spans) (o' n : Bool) (k : Left) (r s : Reading)
-        → AreWordsRead roles.Variant m mid mid' o o' (Next k) → AreFieldsRead roles.Field k mid' new o' n r
-        → EndsAtBlock r s → IsBody c l old new o n s
-    variants_read mid' new o' n k r s (vs, past, odd, words) =
-        fields_read k vs past odd mid' o' words new n r s
+    pub variants_read : (k j : Left) (mid' new : Spans) (o' n : Bool) (r s : Found)
+        → AreWordsRead roles.Variant m k mid mid' o o' Next → AreFieldsRead roles.Field k j mid' new o' n r
+        → EndsAtBlock j r s → IsBody c l j old new o n s
+    variants_read k j mid' new o' n r s (vs, past, odd, words) =
+        fields_read k vs past odd mid' o' words j new n r s
 
-    pub variants_alone : (new : Spans) (n : Bool) (r : Reading) → AreWordsRead roles.Variant m mid new o n r
-        → ((k : Left) → r ≢ Next k) → IsBody c l old new o n r
-    variants_alone new n End h ends = variants_end new n h
-    variants_alone new n (Next k) h ends = absurd (ends k refl)
-    variants_alone new n Bad h ends = absurd (h tt)
-    variants_alone new n Repeated h ends = variants_repeated old new n h.1
-    variants_alone new n Full h ends =
+    pub variants_alone : (k : Left) (new : Spans) (n : Bool) (r : Found)
+        → AreWordsRead roles.Variant m k mid new o n r → r ≢ Next → IsBody c l k old new o n r
+    variants_alone k new n End h ends = variants_end new n h
+    variants_alone k new n Next h ends = absurd (ends refl)
+    variants_alone k new n Bad h ends = absurd (h tt)
+    variants_alone k new n Repeated h ends = variants_repeated k new n h.1
+    variants_alone k new n Full h ends =
         omega (
           arith,
           one_more,

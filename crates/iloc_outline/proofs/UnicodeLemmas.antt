@@ -19,8 +19,8 @@ use Rattle.iloc_outline.specs.Parts.{block_parts, field_part, in_order, rank, si
 use Rattle.iloc_outline.specs.Reading.{AreFieldsRead, AreWordsRead, EndsAtBlock, IsBody, Puts, ReadsBlock, ReadsFields, ReadsWords, block_span}
 use Rattle.iloc_outline.specs.Spans.{held_spans}
 use Rattle.iloc_pieces.specs.declared.left.Left.{Left}
-use Rattle.iloc_outline.specs.declared.reading.Reading.{Reading}
-use Rattle.iloc_outline.specs.declared.reading.Reading.TheVariants.{End, Next, Bad, Repeated, Full}
+use Rattle.iloc_outline.specs.declared.reading.Found.{Found}
+use Rattle.iloc_outline.specs.declared.reading.Found.TheVariants.{End, Next, Bad, Repeated, Full}
 use Rattle.iloc_outline.specs.declared.span.Role.TheVariants as roles
 use Rattle.iloc_outline.specs.declared.span.Role.TheVariants.{Singleton}
 use Rattle.iloc_outline.specs.declared.spans.Spans.{Spans}
@@ -102,9 +102,9 @@ no_t_of_u : (c : ℕ) (P : Type 0) → to_ascii_lowercase c ≡ code_u → ¬ ((
 no_t_of_u c P e h = omega (arith, e, h.0)
 
 -- a singleton follows
-pub unicode_single : (c : ℕ) (l : Left) (old new : Spans) (o n : Bool) → to_ascii_lowercase c ≡ code_u
-    → is_one_byte (piece_left l) ≡ true → IsBody c l old new o n Bad
-unicode_single c l old new o n e single = (
+pub unicode_single : (c : ℕ) (l m : Left) (old new : Spans) (o n : Bool) → to_ascii_lowercase c ≡ code_u
+    → is_one_byte (piece_left l) ≡ true → IsBody c l m old new o n Bad
+unicode_single c l m old new o n e single = (
   ap (λ ps. is_block languages (c, ps)) (front_single (pieces_left l) single) ∙ single_empty c e,
   no_t_of_u c _ e,
 )
@@ -153,7 +153,7 @@ module _ (c start : ℕ) (l : Left) (e : to_ascii_lowercase c ≡ code_u)
 
   -- all pieces are attributes
   attributes_alone : (new : Spans) (n : Bool) → ReadsWords roles.Attribute l (pieces_left l) mid new o n
-      → IsBody c l old new o n End
+      → ReadsBlock c l (pieces_left l) old new o n
   attributes_alone new n h =
       let ws = pieces_left l in
       let all : AllByRecursion (IsWord Attribute) ws =
@@ -184,19 +184,18 @@ module _ (c start : ℕ) (l : Left) (e : to_ascii_lowercase c ≡ code_u)
         (subst (λ t. Puts t (in_order (map (field_part roles.Keyword) fs)) (fields_pieces fs) mid' new o' n)
         past.text h.puts)
 
-    pub keywords_end : (new : Spans) (n : Bool) → AreFieldsRead roles.Keyword m mid' new o' n End
-        → IsBody c l old new o n End
-    keywords_end new n (fs, cut, h) =
+    keywords_end : (k : Left) (new : Spans) (n : Bool) → AreFieldsRead roles.Keyword m k mid' new o' n End
+        → IsBody c l k old new o n End
+    keywords_end k new n (fs, cut, h) =
         let all : pieces_left l ≡ ws ++ fields_pieces fs = past.pieces ∙ ap (λ ps. ws ++ ps) cut in
         let long = long_words ws fs all_attributes h.each in
         subst (λ qs. ReadsBlock c l qs old new o n) (sym all)
         (good_block new n ws fs all_attributes h.each (λ empty. pieces_nonempty (bytes_left l) (all ∙ empty))
         (ap front all ∙ front_whole (ws ++ fields_pieces fs) long) (both_put new n fs h))
 
-    pub keywords_next : (new : Spans) (n : Bool) (k : Left)
-        → AreFieldsRead roles.Keyword m mid' new o' n (Next k) → is_one_byte (piece_left k) ≡ true
-        → IsBody c l old new o n (Next k)
-    keywords_next new n k (fs, later, no_key, either, h) one =
+    keywords_next : (k : Left) (new : Spans) (n : Bool) → AreFieldsRead roles.Keyword m k mid' new o' n Next
+        → is_one_byte (piece_left k) ≡ true → IsBody c l k old new o n Next
+    keywords_next k new n (fs, later, no_key, either, h) one =
         let both = past_past past later in
         let each = long_words ws fs all_attributes h.each in (
           ws ++ fields_pieces fs,
@@ -206,10 +205,9 @@ module _ (c start : ℕ) (l : Left) (e : to_ascii_lowercase c ≡ code_u)
               (front_ends l k (ws ++ fields_pieces fs) both.pieces each one) (both_put new n fs h),
         )
 
-    pub keywords_bad : (new : Spans) (n : Bool) (k : Left)
-        → AreFieldsRead roles.Keyword m mid' new o' n (Next k) → is_one_byte (piece_left k) ≡ false
-        → IsBody c l old new o n Bad
-    keywords_bad new n k (fs, later, no_key, either, h) long =
+    keywords_bad : (k : Left) (new : Spans) (n : Bool) → AreFieldsRead roles.Keyword m k mid' new o' n Next
+        → is_one_byte (piece_left k) ≡ false → IsBody c l k old new o n Bad
+    keywords_bad k new n (fs, later, no_key, either, h) long =
         let both = past_past past later in
         let body = front_goes_on l k (ws ++ fields_pieces fs) both.pieces
         (long_words ws fs all_attributes h.each) long in (
@@ -226,33 +224,32 @@ module _ (c start : ℕ) (l : Left) (e : to_ascii_lowercase c ≡ code_u)
             (sym (later.pieces ∙ ap (λ gs. fields_pieces gs ++ pieces_left k) no_fields)) ∙ none
         no_attribute (inr odd) = odd
 
-    pub keywords_full : (new : Spans) (n : Bool) → AreFieldsRead roles.Keyword m mid' new o' n Full
-        → IsBody c l old new o n Full
-    keywords_full new n h =
+    keywords_full : (k : Left) (new : Spans) (n : Bool) → AreFieldsRead roles.Keyword m k mid' new o' n Full
+        → IsBody c l k old new o n Full
+    keywords_full k new n h =
         omega (arith, one_more, words.puts.few, h, ap length past.pieces, length-append ws (pieces_left m))
 
-    keywords_read : (new : Spans) (n : Bool) (r s : Reading) → AreFieldsRead roles.Keyword m mid' new o' n r
-        → EndsAtBlock r s → IsBody c l old new o n s
-    keywords_read new n End s h k = subst (IsBody c l old new o n) k (keywords_end new n h)
-    keywords_read new n (Next i) (Next j) h k =
-        subst (λ (i : Left). IsBody c l old new o n (Next i)) k.0 (keywords_next new n i h k.1)
-    keywords_read new n (Next i) Bad h k = keywords_bad new n i h k
-    keywords_read new n (Next i) _ h k = absurd (k tt)
-    keywords_read new n Bad s h k = cc h.0
-    keywords_read new n Repeated s h k = absurd (h tt)
-    keywords_read new n Full s h k = subst (IsBody c l old new o n) k (keywords_full new n h)
+    keywords_read : (k : Left) (new : Spans) (n : Bool) (r s : Found)
+        → AreFieldsRead roles.Keyword m k mid' new o' n r → EndsAtBlock k r s → IsBody c l k old new o n s
+    keywords_read k new n End s h ends = subst (IsBody c l k old new o n) ends (keywords_end k new n h)
+    keywords_read k new n Next Next h ends = keywords_next k new n h ends
+    keywords_read k new n Next Bad h ends = keywords_bad k new n h ends
+    keywords_read k new n Next _ h ends = absurd (ends tt)
+    keywords_read k new n Bad s h ends = cc h.0
+    keywords_read k new n Repeated s h ends = absurd (h tt)
+    keywords_read k new n Full s h ends = subst (IsBody c l k old new o n) ends (keywords_full k new n h)
 
   -- the same where no attribute is left out
-  pub words_read : (mid' new : Spans) (o' n : Bool) (m : Left) (r s : Reading)
-      → AreWordsRead roles.Attribute l mid mid' o o' (Next m) → AreFieldsRead roles.Keyword m mid' new o' n r
-      → EndsAtBlock r s → IsBody c l old new o n s
-  words_read mid' new o' n m r s (ws, past, none, words) =
-      keywords_read m ws past none mid' o' words new n r s
+  pub words_read : (m k : Left) (mid' new : Spans) (o' n : Bool) (r s : Found)
+      → AreWordsRead roles.Attribute l m mid mid' o o' Next → AreFieldsRead roles.Keyword m k mid' new o' n r
+      → EndsAtBlock k r s → IsBody c l k old new o n s
+  words_read m k mid' new o' n r s (ws, past, none, words) =
+      keywords_read m ws past none mid' o' words k new n r s
 
-  pub words_alone : (new : Spans) (n : Bool) (r s : Reading) → AreWordsRead roles.Attribute l mid new o n r
-      → ((m : Left) → r ≢ Next m) → EndsAtBlock r s → IsBody c l old new o n s
-  words_alone new n End s h ends k = subst (IsBody c l old new o n) k (attributes_alone new n h)
-  words_alone new n (Next m) s h ends k = absurd (ends m refl)
-  words_alone new n Bad s h ends k = absurd (h tt)
-  words_alone new n Repeated s h ends k = cc h.0
-  words_alone new n Full s h ends k = subst (IsBody c l old new o n) k (omega (arith, one_more, h))
+  pub words_alone : (m : Left) (new : Spans) (n : Bool) (r s : Found)
+      → AreWordsRead roles.Attribute l m mid new o n r → r ≢ Next → EndsAtBlock m r s → IsBody c l m old new o n s
+  words_alone m new n End s h ends k = subst (IsBody c l m old new o n) k (attributes_alone new n h)
+  words_alone m new n Next s h ends k = absurd (ends refl)
+  words_alone m new n Bad s h ends k = absurd (h tt)
+  words_alone m new n Repeated s h ends k = cc h.0
+  words_alone m new n Full s h ends k = subst (IsBody c l m old new o n) k (omega (arith, one_more, h))

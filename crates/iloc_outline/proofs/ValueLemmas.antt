@@ -104,7 +104,7 @@ any_more vs v =
 module _ (key at : Left) (n : ℕ) (t : Bool) (h : Reaches key at n t) (later : IsLater key) where
   -- nothing follows
   pub value_last : at.n ≡ at.len
-      → IsValueRead key (record { left = at; is_end = true; end = at.at + at.n; count = n; has_true = t })
+      → IsValueRead key at (record { is_end = true; end = at.at + at.n; count = n; has_true = t })
   value_last last =
       let end = last_piece at h.past.left last h.short in
       record {
@@ -121,7 +121,7 @@ module _ (key at : Left) (n : ℕ) (t : Bool) (h : Reaches key at n t) (later : 
   module _ (next : Left) (k : IsNextPiece at next) where
     -- what follows is no value
     pub value_before : is_word Attribute (piece_left next) ≡ false
-        → IsValueRead key (record { left = next; is_end = false; end = next.at - 1; count = n; has_true = t })
+        → IsValueRead key next (record { is_end = false; end = next.at - 1; count = n; has_true = t })
     value_before none =
         let past = subst (IsPast key next) h.pieces (past_next h.past h.short k) in
         record {

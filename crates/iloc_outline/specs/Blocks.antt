@@ -13,7 +13,7 @@ use Rattle.iloc_outline.specs.Spans.{Spell}
 use Rattle.iloc_outline.specs.declared.blocks.Blocks.{Blocks}
 use Rattle.iloc_outline.specs.declared.blocks.Blocks.TheVariants.{Good, Refused, Full}
 use Rattle.iloc_pieces.specs.declared.left.Left.{Left}
-use Rattle.iloc_outline.specs.declared.reading.Reading.{Reading}
+use Rattle.iloc_outline.specs.declared.reading.Found.{Found}
 use Rattle.iloc_outline.specs.declared.span.Role.TheVariants.{Singleton}
 use Rattle.iloc_outline.specs.declared.spans.Spans.{Spans}
 
@@ -22,9 +22,9 @@ abbrev pub body_of : ℕ → List Text → List Text
 body_of c ps = if to_ascii_lowercase c == code_x then ps else front ps
 
 -- the block of the singleton c and the pieces from l on is good, and was put; or why not
-abbrev pub IsBlockRead : ℕ → Left → Spans → Spans → Bool → Bool → Reading → Type 0
-IsBlockRead c l old new o n r = MatchBool (to_ascii_lowercase c == code_x)
-    (IsPrivateBody c l old new o n r) (IsBody c l old new o n r)
+abbrev pub IsBlockRead : ℕ → Left → Left → Spans → Spans → Bool → Bool → Found → Type 0
+IsBlockRead c l m old new o n r = MatchBool (to_ascii_lowercase c == code_x)
+    (IsPrivateBody c l old new o n r) (IsBody c l m old new o n r)
 
 -- spans of the text, none of which is a singleton
 abbrev pub AreBegun : Text → Spans → Type 0

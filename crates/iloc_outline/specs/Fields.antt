@@ -1,10 +1,10 @@
 -- What the values of a key are.
-use Rattle.std.specs.Prelude.{◌≡◌, ℕ, ◌-◌, Bool, false, List, ◌∷◌, ◌++◌, length, map, Option, Some, None, if◌then◌else◌}
+use Rattle.std.specs.Prelude.{◌≡◌, ℕ, ◌-◌, Bool, false, List, ◌∷◌, ◌++◌, length, map, Option, Some, None}
 use Rattle.std.specs.List.{AllByRecursion, list_any}
 use Rattle.iloc_spec_grammar.specs.Syntax.{Text, Field, Attribute, is_word, IsWord, is_true, lower}
 use Rattle.iloc_pieces.specs.Left.{IsPast, IsSpanned, piece_left, pieces_left, whole_text}
 use Rattle.iloc_outline.specs.Parts.{printed_part, field_part}
-use Rattle.iloc_outline.specs.Reading.{IsFieldOfRole}
+use Rattle.iloc_outline.specs.Reading.{IsFieldOfRole, unless_end}
 use Rattle.iloc_outline.specs.declared.fields.Value.{Value}
 use Rattle.iloc_pieces.specs.declared.left.Left.{Left}
 use Rattle.iloc_outline.specs.declared.span.Role.{Role}
@@ -14,15 +14,11 @@ abbrev pub IsAfterValues : Left → List Text → Option Left → Type 0
 IsAfterValues key vs None = pieces_left key ≡ piece_left key ∷ vs
 IsAfterValues key vs (Some m) = IsPast key m (piece_left key ∷ vs) × (is_word Attribute (piece_left m) ≡ false)
 
--- what follows the values
-abbrev pub next_of : Value → Option Left
-next_of v = if v.is_end then None else Some v.left
-
--- the values after a key
-pub record IsValueRead (key : Left) (v : Value) : Type 0 where
+-- the values after a key, and m behind them
+pub record IsValueRead (key m : Left) (v : Value) : Type 0 where
   pub values : List Text
   pub each : AllByRecursion (IsWord Attribute) values
-  pub next : IsAfterValues key values (next_of v)
+  pub next : IsAfterValues key values (unless_end v.is_end m)
   pub count : v.count ≡ length values
   pub trues : v.has_true ≡ list_any (λ w. is_true (lower w)) values
   pub end : (start : ℕ) (qs : List Text) → IsSpanned (whole_text key) start (key.at - 1) qs

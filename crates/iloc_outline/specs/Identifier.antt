@@ -5,6 +5,7 @@ use Rattle.iloc_spec_grammar.specs.Meaning.{normal_identifier}
 use Rattle.iloc_spec_grammar.specs.Reading.{front_of, after_region}
 use Rattle.iloc_pieces.specs.Left.{IsLater, IsNextPiece, IsPast, IsSpanned, piece_left, pieces_left, whole_text}
 use Rattle.iloc_outline.specs.Parts.{front_pieces}
+use Rattle.iloc_outline.specs.Reading.{unless_end}
 use Rattle.iloc_outline.specs.declared.identifier.Front.{Front}
 use Rattle.iloc_pieces.specs.declared.left.Left.{Left}
 
@@ -30,8 +31,9 @@ IsAfterFront l None = pieces_left l ≡ front_pieces (front_of (pieces_left l))
 IsAfterFront l (Some m) = IsPast l m (front_pieces (front_of (pieces_left l)))
     × (pieces_left m ≡ after_region (pieces_left l))
 
-pub record IsFrontRead (l : Left) (f : Front) : Type 0 where
-  pub next : IsAfterFront l f.next
+-- it was read from l on, up to m where a piece is left
+pub record IsFrontRead (l m : Left) (f : Front) : Type 0 where
+  pub next : IsAfterFront l (unless_end f.is_all m)
   pub end : (start : ℕ) (qs : List Text) → IsLater l → IsSpanned (whole_text l) start (l.at - 1) qs
       → IsSpanned (whole_text l) start f.end (qs ++ front_pieces (front_of (pieces_left l)))
   -- at the beginning of a text: its bytes up to there are printed so

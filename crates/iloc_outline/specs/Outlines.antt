@@ -10,6 +10,7 @@ use Rattle.iloc_outline.specs.Identifier.{front_text}
 use Rattle.iloc_pieces.specs.Left.{IsRemainder, IsLater, piece_left, pieces_left, whole_text}
 use Rattle.iloc_outline.specs.Parts.{Part, printed_part, front_pieces, variant_parts}
 use Rattle.iloc_outline.specs.Spans.{Spell, held_spans}
+use Rattle.iloc_pieces.specs.declared.left.Left.{Left}
 use Rattle.iloc_outline.specs.declared.outline.Head.{Head}
 use Rattle.iloc_outline.specs.declared.outline.Head.TheVariants as heads
 use Rattle.iloc_outline.specs.declared.outline.Outline.{Outline}
@@ -72,10 +73,11 @@ pub record ReadsHead (t : Text) (ps : List Text) (o : Outline) (spans : Spans) (
       → front_text o.script o.region t ≡ join (front_pieces (normal_identifier written))
       ++ (parts_text (variant_parts written.variants) ++ lower rest)
 
-abbrev pub AreHeadRead : Text → Spans → Bool → Head → Type 0
-AreHeadRead t spans n (heads.All o) = ReadsHead t (pieces t) o spans n
-AreHeadRead t spans n (heads.Block o l) = IsRemainder l × IsLater l × (whole_text l ≡ t)
+-- the head of a text was read, up to l where a block follows
+abbrev pub AreHeadRead : Text → Left → Spans → Bool → Head → Type 0
+AreHeadRead t l spans n (heads.All o) = ReadsHead t (pieces t) o spans n
+AreHeadRead t l spans n (heads.Block o) = IsRemainder l × IsLater l × (whole_text l ≡ t)
     × (is_one_byte (piece_left l) ≡ true) × (pieces t ≡ head (pieces t) ++ pieces_left l)
     × (after_head (pieces t) ≡ pieces_left l) × AreBegun t spans × ReadsHead t (head (pieces t)) o spans n
-AreHeadRead t spans n (heads.Refused e) = Refusal (HasIdentifierFault languages (head (pieces t))) ⊥ e
-AreHeadRead t spans n heads.Full = IsLimit t
+AreHeadRead t l spans n (heads.Refused e) = Refusal (HasIdentifierFault languages (head (pieces t))) ⊥ e
+AreHeadRead t l spans n heads.Full = IsLimit t

@@ -1,5 +1,5 @@
 -- What the readers of parts find.
-use Rattle.std.specs.Prelude.{◌≡◌, ◌⊎◌, ℕ, ◌+◌, ◌<◌, ◌≤◌, Bool, true, false, List, [], ◌∷◌, ◌++◌, length, map, flat_map, ⊤}
+use Rattle.std.specs.Prelude.{◌≡◌, ◌⊎◌, ℕ, ◌+◌, ◌<◌, ◌≤◌, Bool, true, false, List, [], ◌∷◌, ◌++◌, length, map, flat_map, ⊤, Option, Some, None}
 use Rattle.std.specs.List.{AllByRecursion}
 use Rattle.std.specs.Char.{to_ascii_lowercase}
 use Rattle.iloc_spec_grammar.specs.Syntax.{Text, Kind, Field, Fields, code_t, front, first_piece, languages, Attribute, Variant, UnicodeKey, TransformKey, is_word, IsWord, IsKeyword, IsField, is_one_byte, lower, word_cmp, fields_pieces, AllDifferent}
@@ -9,10 +9,8 @@ use Rattle.iloc_pieces.specs.Left.{IsRemainder, IsPast, piece_left, pieces_left,
 use Rattle.iloc_outline.specs.Parts.{Part, printed_part, word_part, field_part, in_order, block_parts}
 use Rattle.iloc_outline.specs.Spans.{AddsParts, held_spans}
 use Rattle.iloc_pieces.specs.declared.left.Left.{Left}
-use Rattle.iloc_outline.specs.declared.reading.Reading.{Reading}
-use Rattle.iloc_outline.specs.declared.reading.Reading.TheVariants.{End, Next, Bad, Repeated, Full}
 use Rattle.iloc_outline.specs.declared.reading.Found.{Found}
-use Rattle.iloc_outline.specs.declared.reading.Found.TheVariants as found
+use Rattle.iloc_outline.specs.declared.reading.Found.TheVariants.{End, Next, Bad, Repeated, Full}
 use Rattle.iloc_outline.specs.declared.span.Role.{Role}
 use Rattle.iloc_outline.specs.declared.span.Role.TheVariants as roles
 use Rattle.iloc_outline.specs.declared.span.Span.{Span}
@@ -55,14 +53,15 @@ pub record ReadsWords (r : Role) (l : Left) (ps : List Text) (old new : Spans) (
   pub may_be : MayBe r ps
   pub puts : Puts (whole_text l) (in_order (map (word_part r) ps)) ps old new o n
 
-abbrev pub AreWordsRead : Role → Left → Spans → Spans → Bool → Bool → Reading → Type 0
-AreWordsRead r l old new o n End = ReadsWords r l (pieces_left l) old new o n
-AreWordsRead r l old new o n (Next m) = (ps : List Text) × IsPast l m ps
+-- from l on they were read, up to m where a piece is left
+abbrev pub AreWordsRead : Role → Left → Left → Spans → Spans → Bool → Bool → Found → Type 0
+AreWordsRead r l m old new o n End = ReadsWords r l (pieces_left l) old new o n
+AreWordsRead r l m old new o n Next = (ps : List Text) × IsPast l m ps
     × (is_word (role_kind r) (piece_left m) ≡ false) × ReadsWords r l ps old new o n
-AreWordsRead r l old new o n Bad = ¬ ⊤
-AreWordsRead r l old new o n Repeated = (r ≡ roles.Variant)
+AreWordsRead r l m old new o n Bad = ¬ ⊤
+AreWordsRead r l m old new o n Repeated = (r ≡ roles.Variant)
     × ¬ (AllDifferent word_cmp (map lower (words_of r (pieces_left l))))
-AreWordsRead r l old new o n Full = IsTooMuch old (length (pieces_left l))
+AreWordsRead r l m old new o n Full = IsTooMuch old (length (pieces_left l))
 
 -- Keywords and fields.
 
@@ -98,15 +97,16 @@ pub record EndsInKey (ps : List Text) : Type 0 where
   pub cut : ps ≡ fields_pieces fields ++ (key ∷ rest)
   pub none : is_word Attribute (first_piece rest) ≡ false
 
-abbrev pub AreFieldsRead : Role → Left → Spans → Spans → Bool → Bool → Reading → Type 0
-AreFieldsRead r l old new o n End =
+-- from l on fields were read, up to m where a piece is left
+abbrev pub AreFieldsRead : Role → Left → Left → Spans → Spans → Bool → Bool → Found → Type 0
+AreFieldsRead r l m old new o n End =
     (fs : Fields) × (pieces_left l ≡ fields_pieces fs) × ReadsFields r l fs old new o n
-AreFieldsRead r l old new o n (Next m) = (fs : Fields) × IsPast l m (fields_pieces fs)
+AreFieldsRead r l m old new o n Next = (fs : Fields) × IsPast l m (fields_pieces fs)
     × (is_word (role_key r) (piece_left m) ≡ false)
     × ((fs ≡ []) ⊎ (is_word Attribute (piece_left m) ≡ false)) × ReadsFields r l fs old new o n
-AreFieldsRead r l old new o n Bad = (r ≡ roles.Field) × EndsInKey (pieces_left l)
-AreFieldsRead r l old new o n Repeated = ¬ ⊤
-AreFieldsRead r l old new o n Full = IsTooMuch old (length (pieces_left l))
+AreFieldsRead r l m old new o n Bad = (r ≡ roles.Field) × EndsInKey (pieces_left l)
+AreFieldsRead r l m old new o n Repeated = ¬ ⊤
+AreFieldsRead r l m old new o n Full = IsTooMuch old (length (pieces_left l))
 
 -- What follows a singleton c.
 
@@ -121,46 +121,44 @@ pub record ReadsBlock (c : ℕ) (l : Left) (ps : List Text) (old new : Spans) (o
   pub good : is_block languages (c, ps) ≡ true
   pub puts : Puts (whole_text l) (block_parts (c, ps)) ((c ∷ []) ∷ ps) old new o n
 
-abbrev pub IsBody : ℕ → Left → Spans → Spans → Bool → Bool → Reading → Type 0
-IsBody c l old new o n End = ReadsBlock c l (pieces_left l) old new o n
-IsBody c l old new o n (Next m) = (ps : List Text) × IsPast l m ps × (is_one_byte (piece_left m) ≡ true)
+-- what follows it from l on was read, up to m where another block follows
+abbrev pub IsBody : ℕ → Left → Left → Spans → Spans → Bool → Bool → Found → Type 0
+IsBody c l m old new o n End = ReadsBlock c l (pieces_left l) old new o n
+IsBody c l m old new o n Next = (ps : List Text) × IsPast l m ps × (is_one_byte (piece_left m) ≡ true)
     × ReadsBlock c l ps old new o n
-IsBody c l old new o n Bad = (is_block languages (c, front (pieces_left l)) ≡ false)
+IsBody c l m old new o n Bad = (is_block languages (c, front (pieces_left l)) ≡ false)
     × ¬ ((to_ascii_lowercase c ≡ code_t) × (repeats_variant languages (front (pieces_left l)) ≡ true))
-IsBody c l old new o n Repeated = (to_ascii_lowercase c ≡ code_t)
+IsBody c l m old new o n Repeated = (to_ascii_lowercase c ≡ code_t)
     × (repeats_variant languages (front (pieces_left l)) ≡ true)
-IsBody c l old new o n Full = IsTooMuch old (1 + length (pieces_left l))
+IsBody c l m old new o n Full = IsTooMuch old (1 + length (pieces_left l))
 
 -- the same of `x`, which takes all the rest
-abbrev pub IsPrivateBody : ℕ → Left → Spans → Spans → Bool → Bool → Reading → Type 0
+abbrev pub IsPrivateBody : ℕ → Left → Spans → Spans → Bool → Bool → Found → Type 0
 IsPrivateBody c l old new o n End = (is_block languages (c, pieces_left l) ≡ true)
     × Puts (whole_text l) (block_parts (c, pieces_left l)) ((c ∷ []) ∷ pieces_left l) old new o n
-IsPrivateBody c l old new o n (Next m) = ¬ ⊤
+IsPrivateBody c l old new o n Next = ¬ ⊤
 IsPrivateBody c l old new o n Bad = is_block languages (c, pieces_left l) ≡ false
 IsPrivateBody c l old new o n Repeated = ¬ ⊤
 IsPrivateBody c l old new o n Full = IsTooMuch old (1 + length (pieces_left l))
 
 -- such a span was put, and the text is in order only if it is not edited; or there was no room for it
-abbrev pub IsPutOther : Span → Spans → Spans → Bool → Bool → Reading → Reading → Type 0
+abbrev pub IsPutOther : Span → Spans → Spans → Bool → Bool → Found → Found → Type 0
 IsPutOther span old new o n good r = (r ≡ Full) × IsTooMuch old 1
     ⊎ (r ≡ good) × (held_spans new ≡ held_spans old ++ span ∷ []) × (n ≡ true → (o ≡ true) × (span.edited ≡ false))
 
--- what is left is a piece of a text
-abbrev pub IsReadAs : Reading → Type 0
-IsReadAs (Next m) = IsRemainder m
-IsReadAs _ = ⊤
+-- m, unless the text ends before it
+abbrev pub unless_end : Bool → Left → Option Left
+unless_end true m = None
+unless_end false m = Some m
 
--- where a reading ends at a piece that is longer than a singleton, it is bad instead
-abbrev pub EndsAtBlock : Reading → Reading → Type 0
-EndsAtBlock (Next m) (Next k) = (m ≡ k) × (is_one_byte (piece_left m) ≡ true)
-EndsAtBlock (Next m) Bad = is_one_byte (piece_left m) ≡ false
-EndsAtBlock (Next m) _ = ¬ ⊤
-EndsAtBlock r s = r ≡ s
+-- if a piece is left, it is one of a text
+abbrev pub IsFoundAt : Left → Found → Type 0
+IsFoundAt m Next = IsRemainder m
+IsFoundAt m _ = ⊤
 
--- what was found, and the piece that comes next, as one
-abbrev pub reading_at : Left → Found → Reading
-reading_at m found.End = End
-reading_at m found.Next = Next m
-reading_at m found.Bad = Bad
-reading_at m found.Repeated = Repeated
-reading_at m found.Full = Full
+-- if what is left is longer than a singleton, it is bad instead
+abbrev pub EndsAtBlock : Left → Found → Found → Type 0
+EndsAtBlock m Next Next = is_one_byte (piece_left m) ≡ true
+EndsAtBlock m Next Bad = is_one_byte (piece_left m) ≡ false
+EndsAtBlock m Next _ = ¬ ⊤
+EndsAtBlock m r s = r ≡ s

@@ -5,15 +5,14 @@ ghost use Rattle.iloc_spec_grammar.specs.Syntax.{code_u, is_one_byte};
 ghost use Rattle.iloc_outline.specs.Blocks.{AreBegun, AreBlocksRead, IsBlockRead};
 ghost use Rattle.iloc_pieces.specs.Left.{IsRemainder, IsLater, IsSpanned, piece_left, whole_text};
 ghost use Rattle.iloc_outline.specs.Parts.{rank};
-ghost use Rattle.iloc_outline.specs.Reading.{reading_at};
 
 use crate::other::{read_other, read_private};
-use crate::reading::{Found, Reading};
+use crate::reading::Found;
 use crate::sorting::{has_block, place_block};
 use crate::spans::Spans;
 use crate::transform::read_transform;
 use crate::unicode::read_unicode;
-use iloc_pieces::left::{Left, is_alphanumeric, is_last, next, singleton};
+use iloc_pieces::left::{Left, advance, is_alphanumeric, is_last, singleton};
 use iloc_subtags::ParseError;
 
 /// What the blocks of a text are.
@@ -37,21 +36,21 @@ fn rank_of(byte: u8) -> u64
 
 // What follows the singleton, whose byte in lower case is given.
 #[inline(always)]
-fn read_body<'a>(
+fn read_body(
     byte: u8,
     start: usize,
-    left: Left<'a>,
+    left: &mut Left<'_>,
     spans: &mut Spans,
     in_order: &mut bool,
-) -> Reading<'a>
-    requires left { IsRemainder left }
-    requires later { IsLater left }
-    requires few { left.at + left.len < 2 ^ 16 }
-    requires before { start < left.at }
+) -> Found
+    requires left { IsRemainder left.old }
+    requires later { IsLater left.old }
+    requires few { left.old.at + left.old.len < 2 ^ 16 }
+    requires before { start < left.old.at }
     requires letter { is_ascii_alphanumeric byte ≡ true }
     ensures { (c : ℕ) → to_ascii_lowercase c ≡ byte
-        → IsSpanned (whole_text left.entry) start (left.entry.at - 1) ((c ∷ []) ∷ [])
-        → IsBlockRead c left.entry spans.old spans.new in_order.old in_order.new result }
+        → IsSpanned (whole_text left.old) start (left.old.at - 1) ((c ∷ []) ∷ [])
+        → IsBlockRead c left.old left.new spans.old spans.new in_order.old in_order.new result }
 {
     if byte == b'u' {
         return read_unicode(start, left, spans, in_order);
@@ -59,42 +58,12 @@ fn read_body<'a>(
     read_another(byte, start, left, spans, in_order)
 }
 
-// The same of another singleton than `u`.
+// The same of another singleton than `u`. The reader of it works on a copy, so that the cursor need not be stored.
 #[inline(always)]
-fn read_another<'a>(
+fn read_another(
     byte: u8,
     start: usize,
-    left: Left<'a>,
-    spans: &mut Spans,
-    in_order: &mut bool,
-) -> Reading<'a>
-    requires left { IsRemainder left }
-    requires later { IsLater left }
-    requires few { left.at + left.len < 2 ^ 16 }
-    requires before { start < left.at }
-    requires letter { is_ascii_alphanumeric byte ≡ true }
-    requires another { byte ≢ code_u }
-    ensures { (c : ℕ) → to_ascii_lowercase c ≡ byte
-        → IsSpanned (whole_text left.entry) start (left.entry.at - 1) ((c ∷ []) ∷ [])
-        → IsBlockRead c left.entry spans.old spans.new in_order.old in_order.new result }
-{
-    let mut at = left;
-    match read_apart(byte, start, &mut at, spans, in_order) {
-        Found::End => Reading::End,
-        Found::Next => Reading::Next(at),
-        Found::Bad => Reading::Bad,
-        Found::Repeated => Reading::Repeated,
-        Found::Full => Reading::Full,
-    }
-}
-
-// The same: what it is, and in `left` the piece that comes next. It is a call of its own, so
-// that readers of `u` stay small. It hands on no piece by value, which costs more.
-#[inline(never)]
-fn read_apart<'a>(
-    byte: u8,
-    start: usize,
-    left: &mut Left<'a>,
+    left: &mut Left<'_>,
     spans: &mut Spans,
     in_order: &mut bool,
 ) -> Found
@@ -106,43 +75,59 @@ fn read_apart<'a>(
     requires another { byte ≢ code_u }
     ensures { (c : ℕ) → to_ascii_lowercase c ≡ byte
         → IsSpanned (whole_text left.old) start (left.old.at - 1) ((c ∷ []) ∷ [])
-        → IsBlockRead c left.old spans.old spans.new in_order.old in_order.new
-        (reading_at left.new result) }
+        → IsBlockRead c left.old left.new spans.old spans.new in_order.old in_order.new result }
 {
-    let reading = match byte {
-        b't' => read_transform(start, *left, spans, in_order),
-        b'x' => read_private(start, *left, spans),
-        _ => read_other(byte, start, *left, spans, in_order),
+    let mut next = *left;
+    let found = read_apart(byte, start, &mut next, spans, in_order);
+    *left = Left {
+        window: left.window,
+        ..next
     };
-    match reading {
-        Reading::End => Found::End,
-        Reading::Next(next) => {
-            *left = next;
-            Found::Next
-        }
-        Reading::Bad => Found::Bad,
-        Reading::Repeated => Found::Repeated,
-        Reading::Full => Found::Full,
+    found
+}
+
+// The same of another singleton than `u`. It is a call of its own, so that readers of `u` stay small.
+#[inline(never)]
+fn read_apart(
+    byte: u8,
+    start: usize,
+    left: &mut Left<'_>,
+    spans: &mut Spans,
+    in_order: &mut bool,
+) -> Found
+    requires left { IsRemainder left.old }
+    requires later { IsLater left.old }
+    requires few { left.old.at + left.old.len < 2 ^ 16 }
+    requires before { start < left.old.at }
+    requires letter { is_ascii_alphanumeric byte ≡ true }
+    requires another { byte ≢ code_u }
+    ensures { (c : ℕ) → to_ascii_lowercase c ≡ byte
+        → IsSpanned (whole_text left.old) start (left.old.at - 1) ((c ∷ []) ∷ [])
+        → IsBlockRead c left.old left.new spans.old spans.new in_order.old in_order.new result }
+{
+    match byte {
+        b't' => read_transform(start, left, spans, in_order),
+        b'x' => read_private(start, left, spans),
+        _ => read_other(byte, start, left, spans, in_order),
     }
 }
 
 /// Reads the blocks from a singleton on, and puts them in the order of their singletons.
 #[inline(always)]
-pub fn read_blocks(left: Left<'_>, spans: &mut Spans, in_order: &mut bool) -> Blocks
-    requires left { IsRemainder left }
-    requires later { IsLater left }
-    requires few { left.at + left.len < 2 ^ 16 }
-    requires single { is_one_byte (piece_left left) ≡ true }
-    requires begun { AreBegun (whole_text left) spans.old }
-    ensures { AreBlocksRead left.entry spans.old spans.new in_order.old in_order.new result }
+pub fn read_blocks(left: &mut Left<'_>, spans: &mut Spans, in_order: &mut bool) -> Blocks
+    requires left { IsRemainder left.old }
+    requires later { IsLater left.old }
+    requires few { left.old.at + left.old.len < 2 ^ 16 }
+    requires single { is_one_byte (piece_left left.old) ≡ true }
+    requires begun { AreBegun (whole_text left.old) spans.old }
+    ensures { AreBlocksRead left.old spans.old spans.new in_order.old in_order.new result }
 {
-    let mut at = left;
     let mut last = 0;
     'singletons: loop {
-        if !is_alphanumeric(at) {
+        if !is_alphanumeric(*left) {
             return Blocks::Refused(ParseError::InvalidExtension);
         }
-        let byte = singleton(at);
+        let byte = singleton(*left);
         let rank = rank_of(byte);
         if rank <= last {
             if has_block(spans, rank) {
@@ -150,25 +135,26 @@ pub fn read_blocks(left: Left<'_>, spans: &mut Spans, in_order: &mut bool) -> Bl
             }
             *in_order = false;
         }
-        if is_last(at) {
+        if is_last(*left) {
             return Blocks::Refused(ParseError::InvalidExtension);
         }
         let from = spans.count;
-        let reading = read_body(byte, at.at - 1, next(at), spans, in_order);
-        match reading {
-            Reading::Bad => return Blocks::Refused(ParseError::InvalidExtension),
-            Reading::Repeated => return Blocks::Refused(ParseError::InvalidSubtag),
-            Reading::Full => return Blocks::Full,
-            Reading::End | Reading::Next(_) => (),
+        let start = left.at - 1;
+        advance(left);
+        let found = read_body(byte, start, left, spans, in_order);
+        match found {
+            Found::Bad => return Blocks::Refused(ParseError::InvalidExtension),
+            Found::Repeated => return Blocks::Refused(ParseError::InvalidSubtag),
+            Found::Full => return Blocks::Full,
+            Found::End | Found::Next => (),
         }
         if rank < last {
             place_block(spans, from, rank);
         } else {
             last = rank;
         }
-        match reading {
-            Reading::Next(next) => at = next,
-            _ => return Blocks::Good,
+        if let Found::End = found {
+            return Blocks::Good;
         }
     }
 }

@@ -5,19 +5,17 @@ ghost use Rattle.iloc_pieces.specs.Left.{IsRemainder, IsLater, IsShortPiece, pie
 ghost use Rattle.iloc_outline.specs.Reading.{AreFieldsRead, IsOfField, role_key};
 ghost use Rattle.iloc_outline.specs.Fields.{PrintsAsItIs, IsValueRead};
 
-use crate::reading::Reading;
+use crate::reading::Found;
 use crate::sorting::{Inserted, put_from};
 use crate::span::{Role, Span};
 use crate::spans::Spans;
 use iloc_pieces::left::{
-    Left, is_attribute, is_field_key, is_key, is_last, is_true, next, word_number,
+    Left, advance, is_attribute, is_field_key, is_key, is_last, is_true, word_number,
 };
 
 // The subtags of a value, and what follows them.
 #[derive(Clone, Copy)]
-struct Value<'a> {
-    // The piece that follows, or the last one.
-    left: Left<'a>,
+struct Value {
     // Whether nothing follows.
     is_end: bool,
     // Where it ends.
@@ -40,45 +38,42 @@ fn is_key_of(role: Role, left: Left<'_>) -> bool
     }
 }
 
-// The value that follows a key.
+// Reads the value that follows a key, up to the piece that follows it.
 #[inline(always)]
-fn read_value(key: Left<'_>) -> Value<'_>
-    requires left { IsRemainder key }
-    requires later { IsLater key }
-    requires short { IsShortPiece (piece_left key) }
-    ensures { IsValueRead key.entry result }
+fn read_value(left: &mut Left<'_>) -> Value
+    requires left { IsRemainder left.old }
+    requires later { IsLater left.old }
+    requires short { IsShortPiece (piece_left left.old) }
+    ensures { IsValueRead left.old left.new result }
 {
-    let mut at = key;
     let mut count = 0;
     let mut has_true = false;
     'values: loop {
-        if is_last(at) {
+        if is_last(*left) {
             return Value {
-                left: at,
                 is_end: true,
-                end: at.at + at.n,
+                end: left.at + left.n,
                 count,
                 has_true,
             };
         }
-        at = next(at);
-        if !is_attribute(at) {
+        advance(left);
+        if !is_attribute(*left) {
             return Value {
-                left: at,
                 is_end: false,
-                end: at.at - 1,
+                end: left.at - 1,
                 count,
                 has_true,
             };
         }
-        has_true = has_true || is_true(at);
+        has_true = has_true || is_true(*left);
         count += 1;
     }
 }
 
 // Whether a value may be printed otherwise than it is: `true` is left out, but for the only one of a field.
 #[inline(always)]
-fn is_edited(role: Role, value: &Value<'_>) -> bool
+fn is_edited(role: Role, value: &Value) -> bool
     requires { IsOfField role }
     ensures { result ≡ false → PrintsAsItIs role value.now.count value.now.has_true }
 {
@@ -88,40 +83,36 @@ fn is_edited(role: Role, value: &Value<'_>) -> bool
 /// Reads the keywords or fields that come first, and puts their spans in order; of equal keys the first stays. A key of `t`
 /// has a value.
 #[inline(always)]
-pub fn read_fields<'a>(
-    role: Role,
-    left: Left<'a>,
-    spans: &mut Spans,
-    in_order: &mut bool,
-) -> Reading<'a>
+pub fn read_fields(role: Role, left: &mut Left<'_>, spans: &mut Spans, in_order: &mut bool) -> Found
     requires role { IsOfField role }
-    requires left { IsRemainder left }
-    requires later { IsLater left }
-    requires few { left.at + left.len < 2 ^ 16 }
-    ensures { AreFieldsRead role left.entry spans.old spans.new in_order.old in_order.new result }
+    requires left { IsRemainder left.old }
+    requires later { IsLater left.old }
+    requires few { left.old.at + left.old.len < 2 ^ 16 }
+    ensures { AreFieldsRead role left.old left.new spans.old spans.new in_order.old in_order.new
+        result }
 {
     let from = spans.count;
-    let mut at = left;
     let mut last = 0;
-    'keys: while is_key_of(role, at) {
-        let value = read_value(at);
+    'keys: while is_key_of(role, *left) {
+        let word = word_number(*left);
+        let start = left.at - 1;
+        let value = read_value(left);
         if role == Role::Field && value.count == 0 {
-            return Reading::Bad;
+            return Found::Bad;
         }
         let span = Span {
-            word: word_number(at),
-            start: (at.at - 1) as u16,
+            word,
+            start: start as u16,
             end: value.end as u16,
             role,
             edited: is_edited(role, &value),
         };
         if let Inserted::Full = put_from(spans, from, &mut last, span, in_order) {
-            return Reading::Full;
+            return Found::Full;
         }
         if value.is_end {
-            return Reading::End;
+            return Found::End;
         }
-        at = value.left;
     }
-    Reading::Next(at)
+    Found::Next
 }

@@ -2,15 +2,16 @@
 ghost use Rattle.std.specs.Prelude.{◌≡◌, true, if◌then◌else◌};
 ghost use Rattle.iloc_spec_grammar.specs.Syntax.{IsWord, Language, languages};
 ghost use Rattle.iloc_outline.specs.Identifier.{IsFrontRead, IsOnePast};
+ghost use Rattle.iloc_outline.specs.Reading.{unless_end};
 ghost use Rattle.iloc_pieces.specs.Left.{IsRemainder, IsShortPiece, piece_left};
 
-use iloc_pieces::left::{Left, is_last, is_region, is_script, next};
+use iloc_pieces::left::{Left, advance, is_last, is_region, is_script};
 
-/// What follows a language, and perhaps a script and a region, and where these begin.
+/// A language, and perhaps a script and a region.
 #[derive(Clone, Copy)]
-pub struct Front<'a> {
-    /// The piece that follows, if there is one.
-    pub next: Option<Left<'a>>,
+pub struct Front {
+    /// Whether nothing follows.
+    pub is_all: bool,
     /// Where they end.
     pub end: usize,
     /// Where the script begins; 0 if there is none.
@@ -19,20 +20,21 @@ pub struct Front<'a> {
     pub region: usize,
 }
 
-// What follows the piece, if that fits; the piece itself if it does not.
+// Passes the piece, if it fits. Whether the text ends with it.
 #[inline(always)]
-fn past_one(fits: bool, left: Left<'_>) -> Option<Left<'_>>
-    requires left { IsRemainder left }
-    requires short { fits ≡ true → IsShortPiece (piece_left left) }
-    ensures { IsOnePast fits left.entry result }
+fn ends_at(fits: bool, left: &mut Left<'_>) -> bool
+    requires left { IsRemainder left.old }
+    requires short { fits ≡ true → IsShortPiece (piece_left left.old) }
+    ensures { IsOnePast fits left.old (unless_end result left.new) }
 {
     if !fits {
-        return Some(left);
+        return false;
     }
-    if is_last(left) {
-        return None;
+    if is_last(*left) {
+        return true;
     }
-    Some(next(left))
+    advance(left);
+    false
 }
 
 // Where the piece begins, if that is asked; 0 if not.
@@ -43,46 +45,34 @@ fn place(asked: bool, left: Left<'_>) -> usize
     if asked { left.at } else { 0 }
 }
 
-/// What follows a language, and perhaps a script and a region.
+/// Reads a language, and perhaps a script and a region.
 #[inline(always)]
-pub fn read_front(left: Left<'_>) -> Front<'_>
-    requires left { IsRemainder left }
-    requires language { IsWord (Language languages) (piece_left left) }
-    ensures { IsFrontRead left.entry result }
+pub fn read_front(left: &mut Left<'_>) -> Front
+    requires left { IsRemainder left.old }
+    requires language { IsWord (Language languages) (piece_left left.old) }
+    ensures { IsFrontRead left.old left.new result }
 {
     let whole = left.at + left.len;
-    let Some(second) = past_one(true, left) else {
-        return Front {
-            next: None,
-            end: whole,
-            script: 0,
-            region: 0,
-        };
+    let mut front = Front {
+        is_all: true,
+        end: whole,
+        script: 0,
+        region: 0,
     };
-    let has_script = is_script(second);
-    let script = place(has_script, second);
-    let Some(third) = past_one(has_script, second) else {
-        return Front {
-            next: None,
-            end: whole,
-            script,
-            region: 0,
-        };
-    };
-    let has_region = is_region(third);
-    let region = place(has_region && third.n == 2, third);
-    let Some(next) = past_one(has_region, third) else {
-        return Front {
-            next: None,
-            end: whole,
-            script,
-            region,
-        };
-    };
-    Front {
-        next: Some(next),
-        end: next.at - 1,
-        script,
-        region,
+    if ends_at(true, left) {
+        return front;
     }
+    let has_script = is_script(*left);
+    front.script = place(has_script, *left);
+    if ends_at(has_script, left) {
+        return front;
+    }
+    let has_region = is_region(*left);
+    front.region = place(has_region && left.n == 2, *left);
+    if ends_at(has_region, left) {
+        return front;
+    }
+    front.is_all = false;
+    front.end = left.at - 1;
+    front
 }

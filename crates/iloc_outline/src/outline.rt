@@ -1,10 +1,11 @@
 //! The outline of a text, as an identifier or as a locale.
 ghost use Rattle.std.specs.Prelude.{◌≡◌, ◌↔◌, ◌≤◌, ◌<◌, ◌+◌, ◌^◌, [], IsTrue, length, take};
+ghost use Rattle.iloc_pieces.specs.Left.{IsRemainder, bytes_left};
 ghost use Rattle.iloc_outline.specs.Outlines.{AreHeadRead, BeginsWithLanguage, IsFinished, IsIdentifierOutlined, IsLocaleOutlined};
 
 use crate::blocks::{Blocks, read_blocks};
 use crate::identifier::read_front;
-use crate::reading::Reading;
+use crate::reading::Found;
 use crate::span::Role;
 use crate::spans::Spans;
 use crate::words::read_words;
@@ -37,11 +38,11 @@ pub enum Outlined {
 
 /// The identifier that comes first: language, script, region and variants.
 #[derive(Drop)]
-pub enum Head<'a> {
+pub enum Head {
     /// It is all of the text.
     All(Outline),
     /// A block follows.
-    Block(Outline, Left<'a>),
+    Block(Outline),
     /// It is refused.
     Refused(ParseError),
     /// More variants than there is room for.
@@ -71,33 +72,34 @@ fn begins_few(window: &[u8], len: usize) -> bool
 
 /// Reads the identifier at the beginning of a text. In `in_order` it says whether its variants are in order.
 #[inline(always)]
-pub fn read_head<'a>(
-    window: &'a [u8],
-    len: usize,
-    spans: &mut Spans,
-    in_order: &mut bool,
-) -> Head<'a>
-    requires inside { len ≤ length window.now }
-    requires few { len < 2 ^ 16 }
-    requires begins { BeginsWithLanguage (take len window.now) }
-    ensures { AreHeadRead (take len window.now) spans.new in_order.new result }
+pub fn read_head(left: &mut Left<'_>, spans: &mut Spans, in_order: &mut bool) -> Head
+    requires left { IsRemainder left.old }
+    requires first { left.old.at ≡ 0 }
+    requires few { left.old.len < 2 ^ 16 }
+    requires begins { BeginsWithLanguage (bytes_left left.old) }
+    ensures { AreHeadRead (bytes_left left.old) left.new spans.new in_order.new result }
 {
     spans.clear();
     *in_order = true;
-    let front = read_front(left_in(window, len));
+    let front = read_front(left);
     let outline = Outline {
         front: front.end,
         script: front.script,
         region: front.region,
     };
-    let Some(next) = front.next else {
+    if front.is_all {
         return Head::All(outline);
-    };
-    match read_words(Role::Variant, next, spans, in_order) {
-        Reading::End => Head::All(outline),
-        Reading::Next(next) if is_single(next) => Head::Block(outline, next),
-        Reading::Full => Head::Full,
-        _ => Head::Refused(ParseError::InvalidSubtag),
+    }
+    match read_words(Role::Variant, left, spans, in_order) {
+        Found::End => Head::All(outline),
+        Found::Next => {
+            if !is_single(*left) {
+                return Head::Refused(ParseError::InvalidSubtag);
+            }
+            Head::Block(outline)
+        }
+        Found::Full => Head::Full,
+        Found::Bad | Found::Repeated => Head::Refused(ParseError::InvalidSubtag),
     }
 }
 
@@ -125,10 +127,11 @@ pub fn outline_identifier(window: &[u8], len: usize, spans: &mut Spans) -> Outli
     requires begins { BeginsWithLanguage (take len window.now) }
     ensures { IsIdentifierOutlined (take len window.now) spans.new result }
 {
+    let mut left = left_in(window, len);
     let mut in_order = true;
-    match read_head(window, len, spans, &mut in_order) {
+    match read_head(&mut left, spans, &mut in_order) {
         Head::All(outline) => Outlined::Normal(finished(outline, len, spans, in_order)),
-        Head::Block(_, _) => Outlined::Refused(ParseError::InvalidSubtag),
+        Head::Block(_) => Outlined::Refused(ParseError::InvalidSubtag),
         Head::Refused(error) => Outlined::Refused(error),
         Head::Full => Outlined::Full,
     }
@@ -142,14 +145,15 @@ pub fn outline_locale(window: &[u8], len: usize, spans: &mut Spans) -> Outlined
     requires begins { BeginsWithLanguage (take len window.now) }
     ensures { IsLocaleOutlined (take len window.now) spans.new result }
 {
+    let mut left = left_in(window, len);
     let mut in_order = true;
-    let (outline, next) = match read_head(window, len, spans, &mut in_order) {
+    let outline = match read_head(&mut left, spans, &mut in_order) {
         Head::All(outline) => return Outlined::Normal(finished(outline, len, spans, in_order)),
-        Head::Block(outline, next) => (outline, next),
+        Head::Block(outline) => outline,
         Head::Refused(error) => return Outlined::Refused(error),
         Head::Full => return Outlined::Full,
     };
-    match read_blocks(next, spans, &mut in_order) {
+    match read_blocks(&mut left, spans, &mut in_order) {
         Blocks::Good => Outlined::Normal(finished(outline, len, spans, in_order)),
         Blocks::Refused(error) => Outlined::Refused(error),
         Blocks::Full => Outlined::Full,

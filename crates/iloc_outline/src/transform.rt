@@ -7,7 +7,7 @@ ghost use Rattle.iloc_outline.specs.Reading.{IsBody, block_span};
 
 use crate::fields::read_fields;
 use crate::identifier::read_front;
-use crate::reading::Reading;
+use crate::reading::Found;
 use crate::span::{Role, Span};
 use crate::spans::Spans;
 use crate::words::read_words;
@@ -32,58 +32,58 @@ fn singleton(start: usize, end: usize) -> Span
 /// Reads an identifier and fields, one of both at least, up to the next block. The singleton begins at the hyphen at
 /// `start`.
 #[inline(always)]
-pub fn read_transform<'a>(
+pub fn read_transform(
     start: usize,
-    left: Left<'a>,
+    left: &mut Left<'_>,
     spans: &mut Spans,
     in_order: &mut bool,
-) -> Reading<'a>
-    requires left { IsRemainder left }
-    requires later { IsLater left }
-    requires few { left.at + left.len < 2 ^ 16 }
-    requires before { start < left.at }
+) -> Found
+    requires left { IsRemainder left.old }
+    requires later { IsLater left.old }
+    requires few { left.old.at + left.old.len < 2 ^ 16 }
+    requires before { start < left.old.at }
     ensures { (c : ℕ) → to_ascii_lowercase c ≡ code_t
-        → IsSpanned (whole_text left.entry) start (left.entry.at - 1) ((c ∷ []) ∷ [])
-        → IsBody c left.entry spans.old spans.new in_order.old in_order.new result }
+        → IsSpanned (whole_text left.old) start (left.old.at - 1) ((c ∷ []) ∷ [])
+        → IsBody c left.old left.new spans.old spans.new in_order.old in_order.new result }
 {
-    if !is_language(left) {
+    if !is_language(*left) {
         return read_fields_alone(start, left, spans, in_order);
     }
     let front = read_front(left);
     if !spans.put(singleton(start, front.end)) {
-        return Reading::Full;
+        return Found::Full;
     }
-    let Some(next) = front.next else {
-        return Reading::End;
-    };
-    match read_words(Role::Variant, next, spans, in_order) {
-        Reading::Next(next) => read_fields(Role::Field, next, spans, in_order).at_block(),
-        reading => reading,
+    if front.is_all {
+        return Found::End;
+    }
+    match read_words(Role::Variant, left, spans, in_order) {
+        Found::Next => read_fields(Role::Field, left, spans, in_order).at_block(left),
+        found => found,
     }
 }
 
 // Reads fields, one at least.
 #[inline(always)]
-fn read_fields_alone<'a>(
+fn read_fields_alone(
     start: usize,
-    left: Left<'a>,
+    left: &mut Left<'_>,
     spans: &mut Spans,
     in_order: &mut bool,
-) -> Reading<'a>
-    requires left { IsRemainder left }
-    requires later { IsLater left }
-    requires few { left.at + left.len < 2 ^ 16 }
-    requires before { start < left.at }
-    requires alone { is_word (Language languages) (piece_left left) ≡ false }
+) -> Found
+    requires left { IsRemainder left.old }
+    requires later { IsLater left.old }
+    requires few { left.old.at + left.old.len < 2 ^ 16 }
+    requires before { start < left.old.at }
+    requires alone { is_word (Language languages) (piece_left left.old) ≡ false }
     ensures { (c : ℕ) → to_ascii_lowercase c ≡ code_t
-        → IsSpanned (whole_text left.entry) start (left.entry.at - 1) ((c ∷ []) ∷ [])
-        → IsBody c left.entry spans.old spans.new in_order.old in_order.new result }
+        → IsSpanned (whole_text left.old) start (left.old.at - 1) ((c ∷ []) ∷ [])
+        → IsBody c left.old left.new spans.old spans.new in_order.old in_order.new result }
 {
-    if is_single(left) {
-        return Reading::Bad;
+    if is_single(*left) {
+        return Found::Bad;
     }
     if !spans.put(singleton(start, left.at - 1)) {
-        return Reading::Full;
+        return Found::Full;
     }
-    read_fields(Role::Field, left, spans, in_order).at_block()
+    read_fields(Role::Field, left, spans, in_order).at_block(left)
 }

@@ -6,7 +6,7 @@ ghost use Rattle.iloc_pieces.specs.Left.{IsRemainder, IsLater, IsSpanned, whole_
 ghost use Rattle.iloc_outline.specs.Reading.{IsBody};
 
 use crate::fields::read_fields;
-use crate::reading::Reading;
+use crate::reading::Found;
 use crate::span::{Role, Span};
 use crate::spans::Spans;
 use crate::words::read_words;
@@ -14,22 +14,22 @@ use iloc_pieces::left::{Left, is_single};
 
 /// Reads attributes and keywords, one at least, up to the next block. The singleton begins at the hyphen at `start`.
 #[inline(always)]
-pub fn read_unicode<'a>(
+pub fn read_unicode(
     start: usize,
-    left: Left<'a>,
+    left: &mut Left<'_>,
     spans: &mut Spans,
     in_order: &mut bool,
-) -> Reading<'a>
-    requires left { IsRemainder left }
-    requires later { IsLater left }
-    requires few { left.at + left.len < 2 ^ 16 }
-    requires before { start < left.at }
+) -> Found
+    requires left { IsRemainder left.old }
+    requires later { IsLater left.old }
+    requires few { left.old.at + left.old.len < 2 ^ 16 }
+    requires before { start < left.old.at }
     ensures { (c : ℕ) → to_ascii_lowercase c ≡ code_u
-        → IsSpanned (whole_text left.entry) start (left.entry.at - 1) ((c ∷ []) ∷ [])
-        → IsBody c left.entry spans.old spans.new in_order.old in_order.new result }
+        → IsSpanned (whole_text left.old) start (left.old.at - 1) ((c ∷ []) ∷ [])
+        → IsBody c left.old left.new spans.old spans.new in_order.old in_order.new result }
 {
-    if is_single(left) {
-        return Reading::Bad;
+    if is_single(*left) {
+        return Found::Bad;
     }
     let singleton = Span {
         word: b'u' as u64,
@@ -39,11 +39,11 @@ pub fn read_unicode<'a>(
         edited: false,
     };
     if !spans.put(singleton) {
-        return Reading::Full;
+        return Found::Full;
     }
-    let reading = match read_words(Role::Attribute, left, spans, in_order) {
-        Reading::Next(next) => read_fields(Role::Keyword, next, spans, in_order),
-        reading => reading,
+    let found = match read_words(Role::Attribute, left, spans, in_order) {
+        Found::Next => read_fields(Role::Keyword, left, spans, in_order),
+        found => found,
     };
-    reading.at_block()
+    found.at_block(left)
 }

@@ -4,11 +4,11 @@ ghost use Rattle.iloc_spec_grammar.specs.Syntax.{is_word};
 ghost use Rattle.iloc_pieces.specs.Left.{IsRemainder, IsLater, piece_left};
 ghost use Rattle.iloc_outline.specs.Reading.{AreWordsRead, IsOfWord, role_kind};
 
-use crate::reading::Reading;
+use crate::reading::Found;
 use crate::sorting::{Inserted, put_from};
 use crate::span::{Role, Span};
 use crate::spans::Spans;
-use iloc_pieces::left::{Left, is_attribute, is_last, is_variant, next, word_number};
+use iloc_pieces::left::{Left, advance, is_attribute, is_last, is_variant, word_number};
 
 // Whether the piece is a word of this role.
 #[inline(always)]
@@ -25,26 +25,21 @@ fn fits(role: Role, left: Left<'_>) -> bool
 /// Reads the words of this role that come first, attributes or variants, and puts their spans in order. A variant that comes
 /// twice is refused; of equal attributes the first stays.
 #[inline(always)]
-pub fn read_words<'a>(
-    role: Role,
-    left: Left<'a>,
-    spans: &mut Spans,
-    in_order: &mut bool,
-) -> Reading<'a>
+pub fn read_words(role: Role, left: &mut Left<'_>, spans: &mut Spans, in_order: &mut bool) -> Found
     requires role { IsOfWord role }
-    requires left { IsRemainder left }
-    requires later { IsLater left }
-    requires few { left.at + left.len < 2 ^ 16 }
-    ensures { AreWordsRead role left.entry spans.old spans.new in_order.old in_order.new result }
+    requires left { IsRemainder left.old }
+    requires later { IsLater left.old }
+    requires few { left.old.at + left.old.len < 2 ^ 16 }
+    ensures { AreWordsRead role left.old left.new spans.old spans.new in_order.old in_order.new
+        result }
 {
     let from = spans.count;
-    let mut at = left;
     let mut last = 0;
-    'words: while fits(role, at) {
+    'words: while fits(role, *left) {
         let span = Span {
-            word: word_number(at),
-            start: (at.at - 1) as u16,
-            end: (at.at + at.n) as u16,
+            word: word_number(*left),
+            start: (left.at - 1) as u16,
+            end: (left.at + left.n) as u16,
             role,
             edited: false,
         };
@@ -52,15 +47,15 @@ pub fn read_words<'a>(
             Inserted::Put => (),
             Inserted::There => {
                 if role == Role::Variant {
-                    return Reading::Repeated;
+                    return Found::Repeated;
                 }
             }
-            Inserted::Full => return Reading::Full,
+            Inserted::Full => return Found::Full,
         }
-        if is_last(at) {
-            return Reading::End;
+        if is_last(*left) {
+            return Found::End;
         }
-        at = next(at);
+        advance(left);
     }
-    Reading::Next(at)
+    Found::Next
 }

@@ -72,6 +72,7 @@ pub record IsPast (l m : Left) (ps : List Text) : Type 0 where
   pub left : IsRemainder m
   pub later : IsLater m
   pub less : m.len ≤ l.len
+  pub window : m.window.now ≡ l.window.now
   pub end : m.at + m.len ≡ l.at + l.len
   pub text : whole_text m ≡ whole_text l
   pub pieces : pieces_left l ≡ ps ++ pieces_left m

@@ -121,6 +121,17 @@ pub fn next(left: Left<'_>) -> Left<'_>
     look(left.window, at, len, marks)
 }
 
+/// Goes on to the next piece.
+#[inline(always)]
+pub fn advance(left: &mut Left<'_>)
+    requires left { IsRemainder left.old }
+    requires short { IsShortPiece (piece_left left.old) }
+    requires more { left.old.n ≢ left.old.len }
+    ensures { IsNextPiece left.old left.new }
+{
+    *left = next(*left);
+}
+
 /// Whether the piece is a language.
 #[inline(always)]
 pub fn is_language(left: Left<'_>) -> bool

@@ -59,6 +59,17 @@ impl<T: Copy> Few<T> {
         }
     }
 
+    /// The same items once more.
+    #[inline(always)]
+    pub fn copied(&self) -> Self
+        ensures { result ≡ self.now }
+    {
+        Few {
+            cells: self.cells,
+            len: self.len,
+        }
+    }
+
     /// The items.
     pub fn as_slice(&self) -> &[T]
         ensures items { result.now ≡ self.now }

@@ -255,7 +255,7 @@ impl<T: Copy> ShortWords<T> {
         match &self.kept {
             Kept::Empty(_) => Ok(ShortWords::new()),
             Kept::Inline(few) => Ok(ShortWords {
-                kept: Kept::from_short(few.as_slice()),
+                kept: Kept::Inline(few.copied()),
             }),
             Kept::Heap(items) => {
                 let all = copies(*items.allocator(), items.as_slice(), items.len())?;

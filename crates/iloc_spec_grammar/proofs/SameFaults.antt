@@ -1,14 +1,14 @@
 -- The fault of a text is the same by its blocks as by its tree.
-use Rattle.std.proofs.Common.{◌≡◌, ◌⊎◌, inl, inr, ℕ, Bool, true, false, cond, ◌==◌, ◌||◌, List, [], ◌∷◌, ◌++◌, refl, sym, ap, ◌∙◌, subst, true≢false, append-nil, Result, Ok, Err, MatchResult, ◌↔◌, map}
+use Rattle.std.proofs.Common.{◌≡◌, ◌⊎◌, inl, inr, ℕ, Bool, true, false, ◌||◌, List, [], ◌∷◌, ◌++◌, refl, sym, ap, ◌∙◌, subst, true≢false, Result, Ok, Err, MatchResult, ◌↔◌, map}
 use Rattle.std.specs.List.{list_any}
 use Rattle.std.specs.Char.{is_ascii_alphanumeric}
 use Rattle.std.specs.Cmp.{unsigned_tied}
 use Rattle.std.specs.Ordering.{nat_cmp, eq_by_cmp}
 use Rattle.std.proofs.Math.Bool.{or-false}
-use Rattle.std.proofs.lemmas.Bool.{or_cases, cases_Bool, eqb-true, false_from_ne_true}
+use Rattle.std.proofs.lemmas.Bool.{or_cases, cases_Bool, false_from_ne_true}
 use Rattle.iloc_spec_grammar.specs.Syntax.{pieces, AreLengths, Language, is_word, lower_singleton, head, first_piece}
 use Rattle.iloc_spec_grammar.specs.Tree.{HasSingleton, IsNew, TreeBlockFault, no_singleton, FirstBadBlock, here, later, HasTreeFault, no_language, no_identifier, bad_block}
-use Rattle.iloc_spec_grammar.specs.Meaning.{Locale, Means, Fault, RepeatsVariant, IsSecond, BlockFault, HasFault, in_head, in_block, HasBlockFault, not_a_language, not_an_identifier, after}
+use Rattle.iloc_spec_grammar.specs.Meaning.{Locale, Means, Fault, IsSecond, BlockFault, HasFault, in_head, in_block, HasBlockFault, not_a_language, not_an_identifier}
 use Rattle.iloc_spec_grammar.specs.Computing.{locale_result}
 use Rattle.iloc_spec_grammar.proofs.FaultLaws as trees
 use Rattle.iloc_spec_grammar.proofs.FaultLaws.{AreGood, letter}
@@ -47,23 +47,6 @@ second_letter T seen b (c ∷ cs) g s = elim (or_cases (eq_by_cmp nat_cmp (lower
   | inr e ↦ second_letter T (lower_singleton c ∷ seen) b cs g.1 e
 ]
 
--- a variant that is repeated in one block
-
-after_one : (b : ℕ × List (List ℕ)) → lower_singleton b ≡ 116 → after 116 (b ∷ []) ≡ b.1
-after_one b e = rw e (append-nil b.1)
-
-repeats_at : (T : ℕ → Bool) (b : ℕ × List (List ℕ)) → RepeatsVariant T (after 116 (b ∷ [])) → (lower_singleton b ≡ 116) × RepeatsVariant T b.1
-repeats_at T b r = elim (cases_Bool (lower_singleton b == 116)) [
-  | inl t ↦ let e = eqb-true (lower_singleton b) 116 t in (e, subst (RepeatsVariant T) (after_one b e) r)
-  | inr t ↦ absurd (none (ap (λ u. cond u b.1 [] ++ []) t) r.3)
-]
-  where
-    none : {ps qs : List (List ℕ)} {q : List ℕ} → ps ≡ [] → ps ≡ q ∷ qs → ⊥
-    none e k = cc
-
-repeats_one : (T : ℕ → Bool) (b : ℕ × List (List ℕ)) → lower_singleton b ≡ 116 → RepeatsVariant T b.1 → RepeatsVariant T (after 116 (b ∷ []))
-repeats_one T b e r = subst (RepeatsVariant T) (sym (after_one b e)) r
-
 t_letter : (b : ℕ × List (List ℕ)) → lower_singleton b ≡ 116 → HasSingleton b
 t_letter b e = letter b.0 (rw e refl)
 
@@ -71,18 +54,18 @@ t_letter b e = letter b.0 (rw e refl)
 
 pub tree_block_fault : (T : ℕ → Bool) (good : List (ℕ × List (List ℕ))) (b : ℕ × List (List ℕ)) {f : Fault} → AreGood T [] good → BlockFault T good b f → TreeBlockFault T (seen_after [] good) b f
 tree_block_fault T good b g (BlockFault.duplicated s) = TreeBlockFault.duplicated (second_letter T [] b good g s) (seen_is b good ∙ s)
-tree_block_fault T good b g (BlockFault.repeats_variant n r) = let k = repeats_at T b r in TreeBlockFault.repeats_variant (t_letter b k.0) (is_new b good n) k.0 k.1
+tree_block_fault T good b g (BlockFault.repeats_variant n r) = TreeBlockFault.repeats_variant (t_letter b r.0) (is_new b good n) r.0 r.1
 tree_block_fault T good b g (BlockFault.breaks_rule n m d) = elim (cases_Bool (is_ascii_alphanumeric b.0)) [
-  | inl e ↦ TreeBlockFault.breaks_rule e (is_new b good n) (λ x. m (repeats_one T b x.0 x.1)) (λ r. d (blocks_spelled ((e, refl, r), tt)))
+  | inl e ↦ TreeBlockFault.breaks_rule e (is_new b good n) m (λ r. d (blocks_spelled ((e, refl, r), tt)))
   | inr e ↦ no_singleton e
 ]
 
 pub block_fault_by_tree : (T : ℕ → Bool) (good : List (ℕ × List (List ℕ))) (b : ℕ × List (List ℕ)) {f : Fault} → AreGood T [] good → TreeBlockFault T (seen_after [] good) b f → BlockFault T good b f
 block_fault_by_tree T good b g (no_singleton e) =
-    BlockFault.breaks_rule (λ s. true≢false (sym (second_letter T [] b good g s) ∙ e)) (λ r. true≢false (sym (t_letter b (repeats_at T b r).0) ∙ e)) (λ k. true≢false (sym (good_blocks k.1).0.0 ∙ e))
+    BlockFault.breaks_rule (λ s. true≢false (sym (second_letter T [] b good g s) ∙ e)) (λ r. true≢false (sym (t_letter b r.0) ∙ e)) (λ k. true≢false (sym (good_blocks k.1).0.0 ∙ e))
 block_fault_by_tree T good b g (TreeBlockFault.duplicated a e) = BlockFault.duplicated (sym (seen_is b good) ∙ e)
-block_fault_by_tree T good b g (TreeBlockFault.repeats_variant a e t r) = BlockFault.repeats_variant (no_second b good e) (repeats_one T b t r)
-block_fault_by_tree T good b g (TreeBlockFault.breaks_rule a e n d) = BlockFault.breaks_rule (no_second b good e) (λ r. n (repeats_at T b r)) (λ k. d (good_blocks k.1).0.2)
+block_fault_by_tree T good b g (TreeBlockFault.repeats_variant a e t r) = BlockFault.repeats_variant (no_second b good e) (t, r)
+block_fault_by_tree T good b g (TreeBlockFault.breaks_rule a e n d) = BlockFault.breaks_rule (no_second b good e) n (λ k. d (good_blocks k.1).0.2)
 
 -- the first bad block
 

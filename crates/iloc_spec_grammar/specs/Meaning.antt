@@ -110,7 +110,8 @@ after s bs = flat_map (λ (c, ps). if to_ascii_lowercase c == s then ps else [])
 
 -- What blocks spell: each has a letter or digit for its singleton, and pieces; no singleton stands
 -- twice; and the pieces after `u`, `t`, `x` and the others are those of parts that follow their
--- rules (UTS #35 3.2, `extensions` and `pu_extensions`).
+-- rules. No block is left out: a letter or digit other than `u`, `t` and `x` is another singleton
+-- (UTS #35 3.2, `extensions` and `pu_extensions`).
 pub record SpellsExtensions (T : LanguageLengths) (bs : List Block) (w : Extensions) : Type 0 where
   pub blocks : AllByRecursion (λ (c, ps). (is_ascii_alphanumeric c ≡ true) × (0 < length ps)) bs
   pub different : AllDifferent nat_cmp (map (λ b. lower_singleton b) bs)
@@ -168,14 +169,18 @@ AreBlocks T bs = (w : Extensions) × SpellsExtensions T bs w
 abbrev pub IsSecond : List Block → Block → Type 0
 IsSecond earlier b = IsAmong nat_cmp (lower_singleton b) (map (λ c. lower_singleton c) earlier)
 
+-- it is a block of `t`, with a variant that stands twice
+abbrev pub RepeatsAfterT : LanguageLengths → Block → Type 0
+RepeatsAfterT T b = (lower_singleton b ≡ code_t) × RepeatsVariant T b.1
+
 -- What is wrong with a block: an earlier one has its singleton; or else a variant is repeated after
 -- `t`; or else the block alone breaks the rule of its singleton, or that is no letter or digit.
 pub data BlockFault (T : LanguageLengths) (earlier : List Block) (b : Block) : Fault → Type 0 where
   duplicated : IsSecond earlier b → BlockFault T earlier b DuplicatedExtension
-  repeats_variant : ¬ (IsSecond earlier b) → RepeatsVariant T (after code_t (b ∷ []))
+  repeats_variant : ¬ (IsSecond earlier b) → RepeatsAfterT T b
       → BlockFault T earlier b InvalidSubtag
-  breaks_rule : ¬ (IsSecond earlier b) → ¬ (RepeatsVariant T (after code_t (b ∷ [])))
-      → ¬ (AreBlocks T (b ∷ [])) → BlockFault T earlier b InvalidExtension
+  breaks_rule : ¬ (IsSecond earlier b) → ¬ (RepeatsAfterT T b) → ¬ (AreBlocks T (b ∷ []))
+      → BlockFault T earlier b InvalidExtension
 
 -- the first bad block from the left has the fault
 abbrev pub HasBlockFault : LanguageLengths → List Block → Fault → Type 0

@@ -5,6 +5,7 @@ use Rattle.std.specs.Int.RustNames.{bit_and, bit_or, bit_xor}
 use Rattle.std.proofs.lemmas.Bool.Decides.{nat_tests}
 use Rattle.std.specs.List.{list_all}
 use Rattle.std.specs.Char.{is_ascii_alphabetic, is_ascii_alphanumeric, is_ascii_digit}
+use Rattle.iloc_tinystr.specs.TinyText.{is_text_byte}
 use Rattle.iloc_tinystr.specs.Number.{number, bytes, flag, flags, spread, IsPacked}
 use Rattle.iloc_tinystr.proofs.ByBytes.{tried, kept, Bytewise, itself, constant, alike_made, ands, ors, xors, sums, of_both}
 use Rattle.iloc_tinystr.proofs.Packed.{below, wider}
@@ -31,6 +32,14 @@ module _ (x : ℕ) (small : x < 2 ^ 64) where
       let apart = of_both xors (of_both sums low (constant x 80 refl) refl) (of_both sums low (constant x 70 refl) refl) refl in
       let ascii = of_both xors own (constant x 128 refl) refl in
       (alike_made (of_both ands (of_both ands apart ascii refl) (constant x 128 refl) refl) (flag is_ascii_digit) refl).made
+
+  pub texts_are : bit_and (bit_and (bit_and x 9187201950435737471 + 9187201950435737471) (bit_xor x 9259542123273814144)) 9259542123273814144 ≡ flags is_text_byte x
+  unfolding flags spread
+  texts_are =
+      let own = itself x small in
+      let raised = of_both sums (of_both ands own (constant x 127 refl) refl) (constant x 127 refl) refl in
+      let ascii = of_both xors own (constant x 128 refl) refl in
+      (alike_made (of_both ands (of_both ands raised ascii refl) (constant x 128 refl) refl) (flag is_text_byte) refl).made
 
 pub high_bits_are : (n : ℕ) → n ≤ 8 → 9259542123273814144 / 2 ^ (64 - 8 * n) ≡ spread 128 n
 unfolding spread

@@ -60,7 +60,7 @@ fit-text (b ∷ text) h zero = omega (arith, (first-text b text h).1)
 fit-text (b ∷ text) h (suc i) = fit-text text (first-text b text h).2 i
 
 -- its last byte is not zero
-number-top : (text : List ℕ) → list_all is_text_byte text ≡ true → 256 ^ length text ≤ 256 * number text + 1
+pub number-top : (text : List ℕ) → list_all is_text_byte text ≡ true → 256 ^ length text ≤ 256 * number text + 1
 number-top [] h = omega arith
 number-top (b ∷ text) h =
     let t = first-text b text h in

@@ -2,6 +2,7 @@
 ghost use Rattle.std.specs.Prelude.{◌≡◌, ◌==◌, ◌≤◌};
 ghost use Rattle.std.specs.Char.{is_ascii_alphabetic, is_ascii_digit};
 ghost use Rattle.iloc_tinystr.specs.Number.{flags, spread};
+ghost use Rattle.iloc_tinystr.specs.TinyText.{is_text_byte};
 
 const HIGH: u64 = 0x8080_8080_8080_8080;
 
@@ -25,6 +26,16 @@ pub(crate) fn digit_flags(x: u64) -> u64
     let low = x & 0x7f7f_7f7f_7f7f_7f7f;
     // From `0` on, but not past `9`, and not above 127.
     ((low + 0x5050_5050_5050_5050) ^ (low + 0x4646_4646_4646_4646)) & (x ^ HIGH) & HIGH
+}
+
+// The high bit of each byte that is neither 0 nor above 127.
+#[tactic(auto, using(crate::proofs::Classes::texts_are))]
+#[inline(always)]
+pub(crate) fn text_flags(x: u64) -> u64
+    ensures { result ≡ flags is_text_byte x }
+{
+    let low = x & 0x7f7f_7f7f_7f7f_7f7f;
+    (low + 0x7f7f_7f7f_7f7f_7f7f) & (x ^ HIGH) & HIGH
 }
 
 // The high bit of each of the lowest bytes.

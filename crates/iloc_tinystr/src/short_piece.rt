@@ -9,7 +9,7 @@ ghost use Rattle.std.specs.List.{list_all};
 ghost use Rattle.iloc_tinystr.specs.Number.{number, bytes};
 ghost use Rattle.iloc_tinystr.specs.TinyText.{is_text_byte};
 
-use crate::flags::{digit_flags, high_bits, letter_flags};
+use crate::flags::{digit_flags, high_bits, letter_flags, text_flags};
 use crate::number::number_of;
 use std::marker::Model;
 
@@ -116,6 +116,15 @@ impl ShortPiece {
         ensures { result ≡ list_all is_ascii_alphanumeric self }
     {
         (letter_flags(self.packed) | digit_flags(self.packed)) == high_bits(self.len)
+    }
+
+    /// Whether all bytes are ASCII, and none is zero.
+    #[tactic(auto, using(crate::proofs::Classes::all_are))]
+    #[inline(always)]
+    pub fn is_text(self) -> bool
+        ensures { result ≡ list_all is_text_byte self }
+    {
+        text_flags(self.packed) == high_bits(self.len)
     }
 
     /// The piece with A to Z mapped onto a to z.

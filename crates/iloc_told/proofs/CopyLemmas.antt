@@ -1,17 +1,11 @@
 -- Parts that are copied one after the other.
-use Rattle.std.proofs.Common.{◌≡◌, ℕ, zero, suc, ◌+◌, ◌-◌, ◌^◌, ◌<◌, ◌≤◌, List, [], ◌∷◌, ◌++◌, length, take, drop, refl, sym, ap, ◌∙◌, arith, length-append, length-drop, length-take-le}
+use Rattle.std.proofs.Common.{◌≡◌, ℕ, zero, suc, ◌+◌, ◌-◌, ◌≤◌, List, [], ◌∷◌, ◌++◌, length, take, drop, refl, sym, ap, ◌∙◌, arith, length-drop, length-take-le}
 use Rattle.std.proofs.lemmas.List.{take-take, take-map, map-append}
 use Rattle.std.proofs.lemmas.Slice.{take-put_mid}
 use borrow.Rule.Slice.PartMut.{put_mid, same_len_mid}
 use Rattle.std.specs.Char.{to_ascii_lowercase}
 use Rattle.iloc_spec_grammar.specs.Syntax.{lower}
-use Rattle.iloc_spec_grammar.specs.Values.{identifier_text}
 use Rattle.iloc_spec_grammar.proofs.WordsLaws.{length-lower}
-use Rattle.iloc_plain.specs.Plain.{value_of}
-use Rattle.iloc_writeable.specs.Hints.{saturated}
-use Rattle.std.proofs.lemmas.Bool.Decides.{nat_tests}
-use Rattle.iloc_blocks.specs.Ordered.{IsStored, ordered_text}
-use Rattle.iloc_blocks.specs.declared.ordered.Ordered.{Ordered}
 
 take_nothing : (n : ℕ) → ◌≡◌ {A = List ℕ} (take n []) []
 take_nothing zero = refl
@@ -41,16 +35,6 @@ lower_part n a t few room =
     take-map to_ascii_lowercase n (take 16 (take (length t - a) (drop a t)))
     ∙ ap lower (take-take n 16 (take (length t - a) (drop a t)) few ∙ take-take n (length t - a) (drop a t) (omega (arith, few, room)))
 
--- how long the text of a line in order is
-pub ordered_length : (o : Ordered) → IsStored o → length (ordered_text o) ≡ o.plain.len + o.len
-ordered_length o h =
-    let a : length (ordered_text o) ≡ length (identifier_text (value_of o.plain)) + length (lower (take o.len o.rest.now)) = length-append _ _ in
-    let b : length (take o.plain.len o.plain.bytes) ≡ length (identifier_text (value_of o.plain)) = ap length h.words.normal in
-    let c : length (take o.plain.len o.plain.bytes) ≡ o.plain.len = length-take-le o.plain.len o.plain.bytes (omega (arith, h.words.wide, h.words.fits)) in
-    let d : length (lower (take o.len o.rest.now)) ≡ length (take o.len o.rest.now) = length-lower (take o.len o.rest.now) in
-    let e : length (take o.len o.rest.now) ≡ o.len = length-take-le o.len o.rest.now (omega (arith, h.room)) in
-    omega (arith, a, b, c, d, e)
-
 -- one part more, of k bytes up to the n-th
 module _ (at k n count : ℕ) (from to part : List ℕ) (few : k ≤ 16) (sum : n ≡ at + k) (fits : n ≤ count) (bytes : count + 16 ≤ length from)
     (room : length to ≡ count) (is : part ≡ take k (lower (take 16 (take (length from - at) (drop at from))))) where
@@ -77,10 +61,3 @@ unfolding lower
 sixteen k t part e is =
     is ∙ ap lower (sym (take-take 16 16 t (omega arith))) ∙ sym (take-map to_ascii_lowercase 16 (take 16 t))
     ∙ ap (λ (m : ℕ). take m (lower (take 16 t))) (sym e)
-
--- and the room that is asked for it
-pub ordered_needed : (o : Ordered) → IsStored o → o.plain.len + o.len < 2 ^ 64 → o.plain.len + o.len ≡ saturated (length (ordered_text o))
-ordered_needed o h fits =
-    let long = ordered_length o h in
-    let same : saturated (o.plain.len + o.len) ≡ o.plain.len + o.len = grind (arith, nat_tests) in
-    sym (ap saturated long ∙ same)

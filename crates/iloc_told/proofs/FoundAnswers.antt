@@ -15,10 +15,10 @@ use Rattle.iloc_fronts.specs.Keyword.{IsKeywordOf, after_singleton}
 use Rattle.iloc_fronts.specs.declared.front.Block.{Block}
 use Rattle.iloc_fronts.specs.declared.front.Front.TheVariants as fronts
 use Rattle.iloc_fronts.specs.declared.keyword.Keyword.TheVariants as keyword
-use Rattle.iloc_blocks.proofs.BadBlocks.{pieces_both}
 use Rattle.iloc_subtags.specs.declared.parse_error.ParseError.TheVariants.{InvalidExtension, InvalidSubtag}
 use Rattle.iloc_told.specs.Told.{HasRefusal}
 use Rattle.iloc_told.specs.declared.Mode.TheVariants.{Data}
+use Rattle.iloc_told.proofs.CutLemmas.{pieces_both}
 use Rattle.iloc_told.proofs.FrontAnswers.{misfit_refused, other_block_refused}
 use Rattle.iloc_told.proofs.KeywordAnswers.{attribute_refused, letter_u, many_refused, single_refused}
 use Rattle.iloc_told.proofs.KeywordAnswers.{misfit_refused as keyword_misfit_refused}

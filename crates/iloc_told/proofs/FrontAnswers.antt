@@ -1,9 +1,9 @@
 -- Lines that are refused for what stands at their front.
-use Rattle.std.proofs.Common.{◌≡◌, ◌≢◌, ◌⊎◌, inl, inr, ℕ, ◌==◌, Bool, true, false, cond, ◌&&◌, List, [], ◌∷◌, ◌++◌, get_or, Some, Result, Ok, Err, MatchResult, refl, sym, ap, ◌∙◌, subst}
+use Rattle.std.proofs.Common.{◌≡◌, ◌≢◌, ◌⊎◌, ◌↔◌, IsTrue, inl, inr, ℕ, ◌==◌, Bool, true, false, cond, ◌&&◌, List, [], ◌∷◌, ◌++◌, get_or, Some, Result, Ok, Err, MatchResult, refl, sym, ap, ◌∙◌, subst}
 use Rattle.std.specs.Prelude.{if◌then◌else◌}
 use Rattle.std.specs.Char.{is_ascii_alphanumeric, to_ascii_lowercase}
 use Rattle.std.specs.List.{AllByRecursion}
-use Rattle.std.proofs.lemmas.Bool.{cases_Bool, true≢false}
+use Rattle.std.proofs.lemmas.Bool.{cases_Bool, true≢false, false_from_ne_true}
 use Rattle.iloc_spec_grammar.specs.Syntax.{pieces, Language, is_word, IsWord, languages, front, blocks, head, tail_blocks, first_piece}
 use Rattle.iloc_spec_grammar.specs.Reading.{rest_of, from_block, starts_block, front_of, after_front, after_region, identifier_of}
 use Rattle.iloc_spec_grammar.specs.Meaning.{Fault, SpellsIdentifier, not_a_language, not_an_identifier, in_head}
@@ -22,6 +22,7 @@ use Rattle.iloc_subtags.specs.declared.parse_error.ParseError.TheVariants.{Inval
 use Rattle.iloc_fronts.specs.Front.{GoesOn, IsFound, IsFront, rest_of_block}
 use Rattle.iloc_fronts.specs.declared.front.Block.{Block}
 use Rattle.iloc_fronts.specs.declared.front.Front.TheVariants as fronts
+use Rattle.iloc_outline.specs.Outlines.{BeginsWithLanguage}
 use Rattle.iloc_told.specs.Told.{HasRefusal}
 use Rattle.iloc_told.specs.declared.Mode.{Mode}
 use Rattle.iloc_told.specs.declared.Mode.TheVariants.{Langid, Locale, Data}
@@ -49,6 +50,11 @@ pub no_language_refused : (mode : Mode) (t : List ℕ) → IsFront t fronts.NoLa
 no_language_refused Langid t h = not_a_language h
 no_language_refused Locale t h = in_head (not_a_language (head_language t ∙ h))
 no_language_refused Data t h = not_small (small.bad_head (small.no_language (head_language t ∙ h)))
+
+-- a text that does not begin with a language is refused so
+pub unbegun_refused : (mode : Mode) (t : List ℕ) (begins : Bool) → IsTrue begins ↔ BeginsWithLanguage t → begins ≡ false → HasRefusal mode t InvalidLanguage
+unbegun_refused mode t begins is none =
+    no_language_refused mode t (false_from_ne_true _ (λ e. true≢false (sym (is.1 e) ∙ none)))
 
 -- ---- a piece that fits nowhere
 

@@ -30,7 +30,6 @@ use Rattle.iloc_subtags.specs.declared.parse_error.ParseError.{ParseError}
 use Rattle.iloc_subtags.specs.declared.parse_error.ParseError.TheVariants.{InvalidSubtag, InvalidExtension}
 use Rattle.iloc_fronts.specs.Front.{GoesOn, IsFront, rest_of_block}
 use Rattle.iloc_fronts.specs.Keyword.{IsKeywordOf, IsSingle, after_singleton}
-use Rattle.iloc_blocks.proofs.BlockLemmas.{front_past}
 use Rattle.iloc_fronts.specs.declared.front.Block.{Block}
 use Rattle.iloc_fronts.specs.declared.front.Front.TheVariants as fronts
 use Rattle.iloc_fronts.specs.declared.keyword.Keyword.TheVariants as keyword
@@ -65,6 +64,10 @@ module _ (t : List ℕ) (b : Block) (l : BeginsWell t) (g : GoesOn (after_region
   found = blocks_left t l ∙ ap blocks (after_is ∙ pieces_of_block) ∙ ap (λ (x : Bool). cond x ((c, ps) ∷ []) (first ∷ blocks ps)) no_x
 
 -- ---- the variants before the block
+
+front_past : (xs qs : List (List ℕ)) → AllByRecursion IsLong xs → front (xs ++ qs) ≡ xs ++ front qs
+front_past [] qs h = refl
+front_past (x ∷ xs) qs h = ap (λ (b : Bool). cond b [] (x ∷ front (xs ++ qs))) h.0 ∙ ap (λ l. x ∷ l) (front_past xs qs h.1)
 
 module _ (t : List ℕ) (b : Block) (g : GoesOn (after_region (pieces t)) b) where
   abbrev after : List (List ℕ)

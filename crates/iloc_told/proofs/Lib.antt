@@ -1,8 +1,8 @@
 pub mod AsciiLemmas
 pub mod CopyLemmas
-mod CompareLemmas
+mod CutLemmas
+mod VariedLemmas
 pub mod PlainAnswers
-pub mod RefusalLemmas
 pub mod FrontAnswers
 mod OutlinedLemmas
 mod FoundAnswers

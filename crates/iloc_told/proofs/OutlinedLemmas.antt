@@ -1,37 +1,11 @@
--- What an outline tells, and when it tells nothing.
-use Rattle.std.proofs.Common.{◌≡◌, ◌≢◌, ◌⊎◌, ◌↔◌, inl, inr, IsTrue, Bool, false, ℕ, ◌+◌, ◌≤◌, List, [], ◌∷◌, ◌++◌, length, length-append, refl, sym, ap, ◌∙◌, arith}
-use Rattle.std.proofs.lemmas.Bool.{false_from_ne_true, true≢false}
-use Rattle.iloc_spec_grammar.specs.Syntax.{pieces, join, dashes, languages}
-use Rattle.iloc_spec_grammar.specs.Values.{identifier_text, text}
-use Rattle.iloc_spec_grammar.proofs.AnySteps.{shortest, length-identifier_means}
+-- When an outline tells nothing.
+use Rattle.std.proofs.Common.{◌≡◌, ◌⊎◌, inl, inr, ℕ, ◌+◌, ◌≤◌, List, [], ◌∷◌, ◌++◌, length, length-append, sym, ap, ◌∙◌, arith}
+use Rattle.iloc_spec_grammar.specs.Syntax.{pieces, join, dashes}
 use Rattle.iloc_spec_grammar.proofs.PartTexts.{join-dashes}
 use Rattle.iloc_spec_grammar.proofs.PiecesLaws.{at_pieces, join-pieces}
-use Rattle.iloc_subtags.specs.declared.parse_error.ParseError.TheVariants.{InvalidLanguage}
-use Rattle.iloc_outline.specs.Outlines.{BeginsWithLanguage}
-use Rattle.iloc_told.specs.Modes.{IsNormalText}
-use Rattle.iloc_told.specs.Told.{HasRefusal, IsBeyond, IsNothingOnlyIf}
-use Rattle.iloc_told.specs.declared.Mode.{Mode}
-use Rattle.iloc_told.specs.declared.Mode.TheVariants as modes
-use Rattle.iloc_told.proofs.FrontAnswers.{no_language_refused}
+use Rattle.iloc_told.specs.Told.{IsBeyond, IsNothingOnlyIf}
 use Rattle.iloc_told.specs.declared.told.Told.{Told}
 use Rattle.iloc_told.specs.declared.told.Told.TheVariants as told
-
--- the normal text of an identifier or of a locale is no longer than the text
-pub normal_short : (mode : Mode) → mode ≢ modes.Data → (t n : List ℕ) → IsNormalText languages mode t n → length n ≤ length t
-normal_short modes.Langid other t n (i, m, e) =
-    let a : length (identifier_text i) ≡ length t = length-identifier_means languages t i m in
-    let b : length n ≡ length (identifier_text i) = ap length e in
-    omega (arith, a, b)
-normal_short modes.Locale other t n (M, m, e) =
-    let a : length (text M) ≤ length t = shortest languages t M m in
-    let b : length n ≡ length (text M) = ap length e in
-    omega (arith, a, b)
-normal_short modes.Data other t n h = absurd (other refl)
-
--- a text that does not begin with a language is refused so
-pub unbegun_refused : (mode : Mode) (t : List ℕ) (begins : Bool) → IsTrue begins ↔ BeginsWithLanguage t → begins ≡ false → HasRefusal mode t InvalidLanguage
-unbegun_refused mode t begins is none =
-    no_language_refused mode t (false_from_ne_true _ (λ e. true≢false (sym (is.1 e) ∙ none)))
 
 -- a text has at most one piece more than bytes
 few_dashes : (ps : List (List ℕ)) → length ps ≤ length (dashes ps)
@@ -60,7 +34,6 @@ not_beyond t room short wide (inr (inr narrow)) = omega (arith, narrow, short, w
 -- so nothing is told of it only where nothing would be told of any
 pub few_told : (t : List ℕ) (room : ℕ) (Reason More : Type 0) (told : Told) → length t ≤ 48 → 64 ≤ room
     → IsNothingOnlyIf (Reason ⊎ IsBeyond room t) told → IsNothingOnlyIf (Reason ⊎ More) told
-few_told t room Reason More (told.Ordered o) short wide h = tt
 few_told t room Reason More (told.Normal n) short wide h = tt
 few_told t room Reason More (told.Refused e) short wide h = tt
 few_told t room Reason More told.Nothing short wide (inl r) = inl r

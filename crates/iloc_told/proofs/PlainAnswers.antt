@@ -1,5 +1,5 @@
 -- The normal text of a text that is told at once.
-use Rattle.std.proofs.Common.{suc, ◌≡◌, ◌≢◌, ℕ, ◌≤◌, List, [], ◌∷◌, ◌++◌, length, map, Option, Some, None, Result, IfSome, option_map, refl, sym, ap, ◌∙◌, subst, arith, append-nil}
+use Rattle.std.proofs.Common.{suc, ◌≡◌, ◌≢◌, ℕ, ◌≤◌, List, [], ◌∷◌, ◌++◌, length, map, Option, Some, None, Result, IfSome, option_map, refl, sym, ap, ◌∙◌, arith, append-nil}
 use Rattle.std.specs.Prelude.{if◌then◌else◌, option_to_list, option_and_then}
 use Rattle.std.specs.Result.{result_ok}
 use Rattle.iloc_spec_grammar.specs.Syntax.{pieces, lower, join, Region, languages, Identifier, identifier_pieces}
@@ -19,10 +19,7 @@ use Rattle.iloc_spec_preferences.proofs.SubdivisionLaws.{subdivision_back}
 use Rattle.iloc_plain.specs.Plain.{IsPlain, value_of}
 use Rattle.iloc_plain.specs.Shape.{plain_identifier}
 use Rattle.iloc_plain.specs.declared.plain.Plain.{Plain}
-use Rattle.iloc_blocks.specs.Ordered.{IsOrdered, IsVaried}
-use Rattle.iloc_blocks.specs.declared.ordered.Ordered.{Ordered}
 use Rattle.iloc_told.specs.Modes.{IsNormalText}
-use Rattle.iloc_told.specs.Told.{IsInOrder}
 use Rattle.iloc_told.specs.declared.Mode.{Mode}
 use Rattle.iloc_told.specs.declared.Mode.TheVariants.{Langid, Locale, Data}
 
@@ -128,12 +125,3 @@ module _ (t : List ℕ) (i : Identifier) (m : IdentifierMeans languages (pieces 
 pub plain_normal : (mode : Mode) (t : List ℕ) (p : Plain) → IsPlain t p → IsNormalText languages mode t (identifier_text (value_of p))
 unfolding plain_identifier
 plain_normal mode t p h = few_normal t (value_of p) h.means (omega arith) mode
-
-pub varied_in_order : (t : List ℕ) (o : Ordered) → IsVaried t o → (mode : Mode) → IsInOrder mode t o
-varied_in_order t o h mode = record {
-  stored = h.is.stored;
-  normal = subst (IsNormalText languages mode t) h.is.normal (few_normal t h.is.identifier h.is.means h.few mode);
-}
-
-pub ordered_in_order : (t : List ℕ) (o : Ordered) → IsOrdered t o → IsInOrder Locale t o
-ordered_in_order t o h = record { stored = h.stored; normal = (h.locale, h.means, sym h.normal) }

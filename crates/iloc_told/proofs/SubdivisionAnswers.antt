@@ -1,6 +1,7 @@
--- The normal text of a data locale with the keyword `sd`.
+-- The normal text of a data locale with a variant, or with the keyword `sd`.
 use Rattle.std.proofs.Common.{◌≡◌, ◌⊎◌, inl, inr, ℕ, suc, ◌+◌, ◌-◌, ◌<◌, ◌≤◌, Bool, true, false, List, [], ◌∷◌, ◌++◌, length, map, get_or, take, drop, codes, Option, None, Some, refl, sym, ap, ◌∙◌, subst, arith, append_assoc, append-nil}
 use Rattle.std.specs.Prelude.{if◌then◌else◌, option_map, option_and_then, option_to_list, Ok, Result}
+use Rattle.std.proofs.Math.Seq.{take-append-add}
 use Rattle.std.proofs.lemmas.Bool.{cases_Bool, cases_lt, eqb-true, both_ways}
 use Rattle.std.proofs.lemmas.List.{drop-append-le, drop-take, length-drop, length-take-le, map-append, take-take}
 use Rattle.std.specs.Char.{to_ascii_lowercase}
@@ -13,8 +14,7 @@ use Rattle.iloc_spec_grammar.proofs.MapLaws.{same_is}
 use Rattle.iloc_spec_grammar.proofs.WordsLaws.{is_word-lower, lower-lower}
 use Rattle.iloc_spec_grammar.proofs.CaseLaws.{pieces-lower}
 use Rattle.iloc_spec_grammar.proofs.PartTexts.{join-append, join-dashes}
-use Rattle.iloc_spec_grammar.proofs.PiecesLaws.{at_pieces, join-pieces, pieces-join}
-use Rattle.iloc_spec_grammar.proofs.ReadBack.{word_hyphen_free}
+use Rattle.iloc_spec_grammar.proofs.PiecesLaws.{at_pieces, join-pieces}
 use Rattle.iloc_spec_parts.specs.Small.{SmallLocale, IsSmall}
 use Rattle.iloc_spec_parts.proofs.SmallTrees.{tree_is_small}
 use Rattle.iloc_spec_preferences.specs.DataLocales.{DataLocale, DataMeans, agreed, data_text, made_of, whole_region, is_whole, no_subdivision, subdivision_keyword, subdivision_pieces}
@@ -23,19 +23,18 @@ use Rattle.iloc_spec_preferences.proofs.DataLaws.{sd_key}
 use Rattle.iloc_spec_preferences.proofs.SubdivisionLaws.{read_is_subdivision, subdivision_back, text_of_read}
 use Rattle.iloc_plain.specs.Shape.{plain_identifier}
 use Rattle.iloc_plain.specs.Plain.{value_of}
-use Rattle.iloc_blocks.specs.Ordered.{IsBefore, IsStored, IsTail, ordered_text}
-use Rattle.iloc_blocks.specs.declared.ordered.Ordered.{Ordered}
-use Rattle.iloc_blocks.proofs.BadBlocks.{pieces_both}
-use Rattle.iloc_blocks.proofs.OrderedLemmas.{cut_there, rest_there, room_there, varied_means, varied_text}
-use Rattle.iloc_blocks.proofs.PrintedBlocks.{printed_none}
+use Rattle.iloc_plain.specs.declared.plain.Plain.{Plain}
 use Rattle.iloc_fronts.proofs.KeyLemmas.{one_word}
 use Rattle.iloc_subtags.specs.declared.parse_error.ParseError.TheVariants.{InvalidExtension}
 use Rattle.iloc_told.specs.Modes.{IsNormalText}
-use Rattle.iloc_told.specs.Subdivisions.{IsSubdivisionBlock, value_named}
+use Rattle.iloc_told.specs.Subdivisions.{IsBefore, IsSubdivisionBlock, text_after, value_named}
 use Rattle.iloc_told.specs.Told.{HasRefusal}
 use Rattle.iloc_told.specs.declared.Mode.TheVariants.{Data}
+use Rattle.iloc_told.proofs.CopyLemmas.{lower_front}
+use Rattle.iloc_told.proofs.CutLemmas.{cut_there, from_hyphen, pieces_both}
 use Rattle.iloc_told.proofs.SubdivisionBlocks.{named_read}
-use Rattle.iloc_told.proofs.PlainAnswers.{few, variants_are, data_text_is, one_item}
+use Rattle.iloc_told.proofs.PlainAnswers.{few, few_normal, variants_are, data_text_is, one_item}
+use Rattle.iloc_told.proofs.VariedLemmas.{varied, varied_means, varied_text}
 
 -- pieces of a text, each after a hyphen, are the text after one
 dashes_pieces : (t : List ℕ) → dashes (pieces t) ≡ 45 ∷ t
@@ -44,92 +43,89 @@ dashes_pieces t = at_pieces (λ ps. dashes ps ≡ 45 ∷ join ps) (λ p ps. ap (
 -- ---- what stands before the block
 
 -- an identifier of this text, with at most one variant and the region of the plain one
-pub record IsHead (t : List ℕ) (o : Ordered) : Type 0 where
+pub record IsHead (t : List ℕ) (p : Plain) (normal : List ℕ) : Type 0 where
   pub identifier : Identifier
   pub means : IdentifierMeans languages (pieces t) identifier
   pub few : length identifier.variants ≤ 1
-  pub normal : identifier_text identifier ≡ ordered_text o
-  pub region : identifier.region ≡ (value_of o.plain).region
+  pub normal_is : identifier_text identifier ≡ normal
+  pub region : identifier.region ≡ (value_of p).region
 
--- the same of a shorter line
-abbrev pub cut_to : Ordered → ℕ → Ordered
-cut_to o n = record o { len = n }
+module _ (w to : List ℕ) (len at : ℕ) (p : Plain) (room : len + 16 ≤ length w) (b : IsBefore w len at to p) where
+  -- how long the plain identifier is
+  plain_long : length (identifier_text (value_of p)) ≡ at
+  plain_long =
+      let a : length (take at w) ≡ at = length-take-le at w (omega (arith, room, b.less)) in
+      let c : length (take p.len p.bytes) ≡ p.len = length-take-le p.len p.bytes (omega (arith, b.plain.words.wide, b.plain.words.fits)) in
+      sym (ap length b.plain.words.normal) ∙ c ∙ b.plain.long ∙ a
 
--- a word is one piece
-one_piece : (p : List ℕ) → IsWord Variant p → pieces p ≡ p ∷ []
-unfolding join
-one_piece p word = pieces-join p [] (word_hyphen_free Variant p word, tt)
+  -- the first bytes that were written
+  pub stored_front : (n : ℕ) → at + n ≤ len → take (at + n) to ≡ text_after p w at n
+  stored_front n inside =
+      let plain = identifier_text (value_of p) in
+      let rest = lower (take (len - at) (drop at w)) in
+      sym (take-take (at + n) len to inside) ∙ ap (take (at + n)) b.stored
+      ∙ ap (λ (m : ℕ). take (m + n) (plain ++ rest)) (sym plain_long) ∙ take-append-add plain rest n
+      ∙ ap (λ l. plain ++ l) (lower_front n (len - at) (drop at w) (omega (arith, inside)))
 
-abbrev varied : Identifier → List ℕ → Identifier
-varied i p = record { language = i.language; script = i.script; region = i.region; variants = lower p ∷ [] }
+  module _ (end : ℕ) (inside : end ≤ len) where
+    -- nothing between
+    none_between : end ≡ at → IsHead (take end w) p (text_after p w at (end - at))
+    unfolding plain_identifier lower
+    none_between same =
+        let none : end - at ≡ 0 = omega arith in
+        record {
+          identifier = value_of p;
+          means = subst (λ (m : ℕ). IdentifierMeans languages (pieces (take m w)) (value_of p)) (sym same) b.plain.means;
+          few = omega arith;
+          normal_is = sym (ap (λ (m : ℕ). text_after p w at m) none ∙ append-nil (identifier_text (value_of p)));
+          region = refl;
+        }
 
-module _ (w : List ℕ) (len at end : ℕ) (o : Ordered) (room : len + 16 ≤ length w) (b : IsBefore w len at o) (inside : end ≤ len) where
-  -- nothing between
-  none_between : end ≡ at → IsHead (take end w) (cut_to o (end - at))
-  unfolding plain_identifier lower
-  none_between same =
-      let none : end - at ≡ 0 = omega arith in
-      record {
-        identifier = value_of o.plain;
-        means = subst (λ (m : ℕ). IdentifierMeans languages (pieces (take m w)) (value_of o.plain)) (sym same) b.plain.means;
-        few = omega arith;
-        normal = sym (ap (λ (m : ℕ). identifier_text (value_of o.plain) ++ lower (take m o.rest.now)) none ∙ append-nil (identifier_text (value_of o.plain)));
-        region = refl;
-      }
-
-  -- a variant
-  one_between : at < end → IsWord Variant (take (end - at - 1) (take (length w - (at + 1)) (drop (at + 1) w))) → IsHead (take end w) (cut_to o (end - at))
-  one_between more word =
-      let next : at + 1 ≡ suc at = omega arith in
-      let p = take (end - at - 1) (drop (suc at) w) in
-      let same : take (end - at - 1) (take (length w - (at + 1)) (drop (at + 1) w)) ≡ p =
-      take-take (end - at - 1) (length w - (at + 1)) (drop (at + 1) w) (omega arith) ∙ ap (λ (m : ℕ). take (end - at - 1) (drop m w)) next in
-      let fits : IsWord Variant p = subst (IsWord Variant) same word in
-      let h : IsTail (pieces p) = record {
-        variants = p ∷ [];
-        rest = [];
-        cut = one_piece p fits;
-        each = (fits, tt);
-        ascending = (tt, tt);
-        extensions = printed_none 0;
-      } in
-      record {
-        identifier = varied (value_of o.plain) p;
-        means = subst (λ (s : List ℕ). IdentifierMeans languages (pieces s) (varied (value_of o.plain) p))
-            (sym (cut_there w end at (omega arith) more b.hyphen)) (varied_means o.plain (take at w) p b.plain h refl);
-        few = omega arith;
-        normal = varied_text o.plain (take at w) p b.plain h refl
-            ∙ ap (λ l. identifier_text (value_of o.plain) ++ lower l)
-            (sym (ap (take (end - at)) b.rest ∙ rest_there w end at (omega arith) more b.hyphen));
-        region = refl;
-      }
+    -- a variant
+    pub one_between : at < end → IsWord Variant (take (end - at - 1) (take (length w - (at + 1)) (drop (at + 1) w))) → IsHead (take end w) p (text_after p w at (end - at))
+    one_between more word =
+        let next : at + 1 ≡ suc at = omega arith in
+        let v = take (end - at - 1) (drop (suc at) w) in
+        let same : take (end - at - 1) (take (length w - (at + 1)) (drop (at + 1) w)) ≡ v =
+        take-take (end - at - 1) (length w - (at + 1)) (drop (at + 1) w) (omega arith) ∙ ap (λ (m : ℕ). take (end - at - 1) (drop m w)) next in
+        let fits : IsWord Variant v = subst (IsWord Variant) same word in
+        let far : end ≤ length w = omega arith in
+        record {
+          identifier = varied p (take at w) v b.plain fits;
+          means = subst (λ (s : List ℕ). IdentifierMeans languages (pieces s) (varied p (take at w) v b.plain fits))
+              (sym (cut_there w end at far more b.hyphen)) (varied_means p (take at w) v b.plain fits);
+          few = omega arith;
+          normal_is = varied_text p (take at w) v b.plain fits
+              ∙ ap (λ l. identifier_text (value_of p) ++ lower l) (sym (from_hyphen w end at far more b.hyphen));
+          region = refl;
+        }
 
   -- at most one variant
-  pub head_is : (start : ℕ) → end ≡ start - 1 → at < start → (0 < start - at - 1 → IsWord Variant (take (start - at - 1 - 1) (take (length w - (at + 1)) (drop (at + 1) w))))
-      → IsHead (take end w) (cut_to o (start - at - 1))
-  head_is start last behind variant =
-      let long : end - at ≡ start - at - 1 = omega arith in
-      subst (λ (n : ℕ). IsHead (take end w) (cut_to o n)) long (elim (cases_lt 0 (start - at - 1)) [
-        | inl some ↦ one_between (omega arith)
+  pub head_is : (start : ℕ) → start ≤ len → at < start → (0 < start - at - 1 → IsWord Variant (take (start - at - 1 - 1) (take (length w - (at + 1)) (drop (at + 1) w))))
+      → IsHead (take (start - 1) w) p (text_after p w at (start - at - 1))
+  head_is start inside behind variant =
+      let long : start - 1 - at ≡ start - at - 1 = omega arith in
+      let within : start - 1 ≤ len = omega arith in
+      subst (λ (n : ℕ). IsHead (take (start - 1) w) p (text_after p w at n)) long (elim (cases_lt 0 (start - at - 1)) [
+        | inl some ↦ one_between (start - 1) within (omega arith)
             (subst (λ (n : ℕ). IsWord Variant (take (n - 1) (take (length w - (at + 1)) (drop (at + 1) w)))) (sym long) (variant some))
-        | inr none ↦ none_between (omega arith)
+        | inr none ↦ none_between (start - 1) within (omega arith)
       ])
 
--- the line is stored, and a shorter one is too
-pub is_stored : (w : List ℕ) (len at n : ℕ) (o : Ordered) → len + 16 ≤ length w → IsBefore w len at o → n ≤ len - at → IsStored (cut_to o n)
-is_stored w len at n o room b less = record {
-  words = b.plain.words;
-  room = omega (arith, ap length b.rest, room_there w len at room b.less b.hyphen);
-}
+-- ---- one variant
 
-pub line_stored : (w : List ℕ) (len at : ℕ) (o : Ordered) → len + 16 ≤ length w → IsBefore w len at o → IsStored o
-line_stored w len at o room b = subst (λ (n : ℕ). IsStored (cut_to o n)) (sym b.long) (is_stored w len at (len - at) o room b (omega arith))
+-- the whole line
+pub varied_normal : (w to : List ℕ) (len at : ℕ) (p : Plain) → len + 16 ≤ length w → IsBefore w len at to p
+    → IsWord Variant (take (len - at - 1) (take (length w - (at + 1)) (drop (at + 1) w))) → IsNormalText languages Data (take len w) (take len to)
+varied_normal w to len at p room b word =
+    let h = one_between w to len at p room b len (omega arith) b.less word in
+    subst (IsNormalText languages Data (take len w)) (h.normal_is ∙ sym b.stored) (few_normal (take len w) h.identifier h.means h.few Data)
 
 -- ---- the line
 
-module _ (w : List ℕ) (len at start : ℕ) (o : Ordered) (room : len + 16 ≤ length w) (b : IsBefore w len at o) (behind : at < start) (inside : start < len)
+module _ (w to : List ℕ) (len at start : ℕ) (p : Plain) (room : len + 16 ≤ length w) (b : IsBefore w len at to p) (behind : at < start) (inside : start < len)
     (hyphen : get_or w (start - 1) 0 ≡ 45) (s : IsSubdivisionBlock (take (length w - start) (drop start w)) (len - start))
-    (h : IsHead (take (start - 1) w) (cut_to o (start - at - 1))) where
+    (h : IsHead (take (start - 1) w) p (text_after p w at (start - at - 1))) where
   abbrev pub i : Identifier
   i = h.identifier
 
@@ -156,7 +152,7 @@ module _ (w : List ℕ) (len at start : ℕ) (o : Ordered) (room : len + 16 ≤ 
   cut =
       let next : suc (start - 1) ≡ start = omega arith in
       let rest : len - (start - 1) - 1 ≡ len - start = omega arith in
-      cut_there w len (start - 1) room (omega arith) hyphen
+      cut_there w len (start - 1) (omega arith) (omega arith) hyphen
       ∙ ap (λ l. front ++ 45 ∷ l)
       ((λ j. take (rest j) (drop (next j) w)) ∙ sym (take-take (len - start) (length w - start) (drop start w) (omega arith)))
 
@@ -164,24 +160,27 @@ module _ (w : List ℕ) (len at start : ℕ) (o : Ordered) (room : len + 16 ≤ 
   parts = ap pieces cut ∙ pieces_both front block ∙ ap (λ l. pieces front ++ l) s.parts
 
   -- what follows the plain identifier
-  rest_is : take o.len o.rest.now ≡ take (start - at - 1) o.rest.now ++ 45 ∷ block
+  rest_is : take (len - at) (drop at w) ≡ take (start - at - 1) (drop at w) ++ 45 ∷ block
   rest_is =
       let whole : len ≡ at + (len - at) = omega arith in
       let part : start - 1 ≡ at + (start - at - 1) = omega arith in
       let all : drop at (take len w) ≡ take (len - at) (drop at w) = ap (λ (m : ℕ). drop at (take m w)) whole ∙ drop-take at (len - at) w in
       let some : drop at front ≡ take (start - at - 1) (drop at w) = ap (λ (m : ℕ). drop at (take m w)) part ∙ drop-take at (start - at - 1) w in
       let long : at ≤ length front = omega (arith, length-take-le (start - 1) w (omega arith)) in
-      (λ j. take (b.long j) (b.rest j)) ∙ take-take (len - at) (length w - at) (drop at w) (omega arith)
-      ∙ sym all ∙ ap (drop at) cut ∙ drop-append-le at front (45 ∷ block) long ∙ ap (λ l. l ++ 45 ∷ block) some
-      ∙ ap (λ l. l ++ 45 ∷ block) (sym (ap (take (start - at - 1)) b.rest ∙ take-take (start - at - 1) (length w - at) (drop at w) (omega arith)))
+      sym all ∙ ap (drop at) cut ∙ drop-append-le at front (45 ∷ block) long ∙ ap (λ l. l ++ 45 ∷ block) some
 
-  whole_line : ordered_text o ≡ identifier_text i ++ 45 ∷ lower block
+  whole_line : take len to ≡ identifier_text i ++ 45 ∷ lower block
   unfolding lower
   whole_line =
-      let t = identifier_text (value_of o.plain) in
-      let f = take (start - at - 1) o.rest.now in
-      ap (λ l. t ++ lower l) rest_is ∙ ap (λ l. t ++ l) (map-append to_ascii_lowercase f (45 ∷ block))
-      ∙ sym (append_assoc t (lower f) (lower (45 ∷ block))) ∙ ap (λ l. l ++ lower (45 ∷ block)) (sym h.normal)
+      let t = identifier_text (value_of p) in
+      let f = take (start - at - 1) (drop at w) in
+      b.stored ∙ ap (λ l. t ++ lower l) rest_is ∙ ap (λ l. t ++ l) (map-append to_ascii_lowercase f (45 ∷ block))
+      ∙ sym (append_assoc t (lower f) (lower (45 ∷ block))) ∙ ap (λ l. l ++ lower (45 ∷ block)) (sym h.normal_is)
+
+  first_line : take (start - 1) to ≡ identifier_text i
+  first_line =
+      let part : start - 1 ≡ at + (start - at - 1) = omega arith in
+      ap (λ (m : ℕ). take m to) part ∙ stored_front w to len at p room b (start - at - 1) (omega arith) ∙ sym h.normal_is
 
   -- what is read of it
   abbrev small : SmallLocale
@@ -240,11 +239,11 @@ module _ (w : List ℕ) (len at start : ℕ) (o : Ordered) (room : len + 16 ≤ 
       | inr other ↦ ap (λ (b : Bool). if b then n else whole_region r) other
     ]
 
-    pub dropped : (is_same r n.region ≡ false) ⊎ (is_whole n ≡ true) → IsNormalText languages Data (take len w) (identifier_text i)
+    pub dropped : (is_same r n.region ≡ false) ⊎ (is_whole n ≡ true) → IsNormalText languages Data (take len w) (take (start - 1) to)
     dropped e = (
       with_part (whole_region r),
       means_part (whole_region r) (whole_agreed e),
-      sym (data_text_is front i h.means h.few) ∙ ap (λ (o : Option (List ℕ)). data_text (made_of i.language i.script (option_map whole_region o) (first_item i.variants))) region,
+      first_line ∙ sym (data_text_is front i h.means h.few) ∙ ap (λ (o : Option (List ℕ)). data_text (made_of i.language i.script (option_map whole_region o) (first_item i.variants))) region,
     )
 
     -- the subdivision
@@ -285,7 +284,7 @@ module _ (w : List ℕ) (len at start : ℕ) (o : Ordered) (room : len + 16 ≤ 
           ∙ sym (append_assoc (option_to_list i.script) (option_to_list i.region ++ i.variants) keyword))
           ∙ join-append i.language (option_to_list i.script ++ (option_to_list i.region ++ i.variants)) keyword
 
-      pub kept : IsNormalText languages Data (take len w) (ordered_text o)
+      pub kept : IsNormalText languages Data (take len w) (take len to)
       kept = (
         with_part n,
         means_part n (ap (λ (b : Bool). if b then n else whole_region r) same),

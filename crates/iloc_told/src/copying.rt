@@ -1,9 +1,7 @@
 //! Copies of bytes. Few are copied in place, without a call.
 ghost use Rattle.std.specs.Prelude.{◌≡◌, ◌+◌, ◌≤◌, length, take};
 ghost use Rattle.iloc_spec_grammar.specs.Syntax.{lower};
-ghost use Rattle.iloc_blocks.specs.Ordered.{IsStored, ordered_text};
 
-use iloc_blocks::Ordered;
 use iloc_plain::first_in_lower_case;
 
 /// Copies the first and the last `W` bytes, which together are all of them. All are loaded before any is stored.
@@ -53,18 +51,4 @@ pub fn copy_lower(from: &[u8], count: usize, to: &mut [u8])
     }
     let part = first_in_lower_case(&from[at..]);
     copy_all(&part.as_array()[..count - at], &mut to[at..count]);
-}
-
-/// Copies the normal text of a text in order.
-#[tactic(auto, using(crate::proofs::CopyLemmas::ordered_length))]
-#[inline(always)]
-pub fn copy_ordered(line: &Ordered<'_>, to: &mut [u8])
-    requires stored { IsStored line.now }
-    requires room { length to.old ≡ line.now.plain.len + line.now.len }
-    ensures { to.new ≡ ordered_text line.now }
-{
-    let at = line.plain.len;
-    let bytes = line.plain.bytes;
-    copy_all(&bytes.as_array()[..at], &mut to[..at]);
-    copy_lower(line.rest, line.len, &mut to[at..]);
 }

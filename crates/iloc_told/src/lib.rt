@@ -1,31 +1,31 @@
 //! What is told of a text at once, without a value being built: its normal text, or why it is refused.
 //!
-//! A text is told as what the mode says: an identifier, a locale or a data locale. `told` puts together what the crates
-//! below tell of plain texts (`iloc_plain`), fronts (`iloc_fronts`) and blocks (`iloc_blocks`). What these do not tell of
-//! an identifier or a locale, its outline does (`outlined`, `iloc_outline`). Four kinds of callers stand on it: the lines of the program (`iloc_lines`), the calls for C
+//! A text is told as what the mode says: an identifier, a locale or a data locale. `write_normal` writes the normal text of
+//! identifiers and of locales as their outline gives it (`iloc_outline`), and that of data locales as their front tells it
+//! (`iloc_fronts`, `leads`). Four kinds of callers stand on it: the lines of the program (`iloc_lines`), the calls for C
 //! (`iloc_calls`), and `normalize` of identifiers and of locales (`normalize_short`, `normalize_told`).
 //!
-//! It promises that what is told is so, in the words of the grammar (`IsTold`): the text is the normal text of what the
-//! text means, or the text has the fault. `Nothing` and `None` say nothing: the caller then parses. Of identifiers and
-//! locales they come only if the text is beyond the outline (`IsBeyond`): more than 64 pieces, 65,536 bytes or more, or
-//! more than there is room for. So each shape may be left out.
+//! It promises that what is told is so, in the words of the grammar (`IsWritten`, `IsTold`): the text is the normal text of
+//! what the text means, or the text has the fault. `Nothing` and `None` say nothing: the caller then parses. Of identifiers
+//! and locales they come only if the text is beyond the outline (`IsBeyond`): more than 64 pieces, 65,536 bytes or more,
+//! or more than there is room for.
 #![tactic(auto)]
 
 ghost use Rattle.std.specs.Prelude.{◌≡◌, ◌↔◌, Some};
 ghost use Rattle.iloc_told.specs.Modes.{word_of};
 
-mod comparing;
 pub mod copying;
+pub mod leads;
 pub mod normal_text;
-pub mod outlined;
 mod subdivisions;
 pub mod told;
 pub mod window;
+pub mod writing;
 
+pub use leads::{Lead, read_lead};
 pub use normal_text::{normalize_short, normalize_told};
-pub use outlined::{Written, write_outlined};
-pub use subdivisions::tell_subdivision;
-pub use told::{Lead, Told, tell};
+pub use told::{Told, tell};
+pub use writing::{Written, write_normal};
 
 /// What a text is read as.
 #[derive(Clone, Copy, Debug, PartialEq, Eq)]

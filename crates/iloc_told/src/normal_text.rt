@@ -3,16 +3,12 @@ ghost use Rattle.std.specs.Prelude.{◌≡◌, ◌≢◌, ◌+◌, ◌≤◌, �
 ghost use Rattle.std.specs.Str.{IsUtf8};
 ghost use Rattle.std.specs.String.{string_bytes};
 ghost use Rattle.iloc_spec_grammar.specs.Syntax.{Text, languages};
-ghost use Rattle.iloc_blocks.specs.Ordered.{IsStored, ordered_text};
 ghost use Rattle.iloc_told.specs.Modes.{IsNormalText};
 ghost use Rattle.iloc_told.specs.NormalTexts.{IsNormalizedAs};
 
 use crate::Mode;
-use crate::comparing::is_text_of;
-use crate::copying::copy_ordered;
 use crate::told::{ROOM, Told, tell};
 use crate::window::{MOST, WINDOW, put_in_front};
-use iloc_blocks::Ordered;
 use iloc_fronts::begins_with_language;
 use iloc_plain::load::load;
 use iloc_plain::tell_normal;
@@ -90,54 +86,15 @@ pub fn normalize_told(
     put_in_front(input, &mut window);
     let mut room = [0u8; ROOM];
     match tell(mode, &window, input.len(), &mut room) {
-        Told::Ordered(line) => Some(text_of(alloc, input, &window, &line)),
-        Told::Normal(normal) => Some(whole_text(alloc, input, normal)),
+        Told::Normal(normal) => Some(text_of(alloc, input, normal)),
         Told::Refused(refusal) => Some(Err(refusal)),
         Told::Nothing => None,
     }
 }
 
-// The normal text of an input that is told to be in order, and that stands in the front of the window: borrowed exactly if
-// it is the input. It is a call, so that a refusal pays nothing for it.
+// The normal text of an input, borrowed exactly if it is the input. It is a call, so that a refusal pays nothing for it.
 #[inline(never)]
 fn text_of<'a>(
-    alloc: Global,
-    input: &'a [u8],
-    window: &[u8],
-    line: &Ordered<'_>,
-) -> Result<CowStr<'a, Global>, ParseError>
-    requires stored { IsStored line.now }
-    requires utf8 { IsUtf8 (ordered_text line.now) }
-    requires few { line.now.plain.len + line.now.len ≤ MOST }
-    requires front { take (length input.now) window.now ≡ input.now }
-    requires room { length input.now + 16 ≤ length window.now }
-    ensures { (mode : Mode) → IsNormalText languages mode input.now (ordered_text line.now)
-        → IsNormalizedAs mode input.now result }
-{
-    if is_text_of(line, window, input.len()) {
-        return Ok(CowStr::Borrowed(unsafe { str::from_utf8_unchecked(input) }));
-    }
-    own_ordered(alloc, line)
-}
-
-// The same of an input that is not normal. It is a call, so that a normal input clears no room for a text.
-#[inline(never)]
-fn own_ordered<'a>(alloc: Global, line: &Ordered<'_>) -> Result<CowStr<'a, Global>, ParseError>
-    requires stored { IsStored line.now }
-    requires utf8 { IsUtf8 (ordered_text line.now) }
-    requires few { line.now.plain.len + line.now.len ≤ MOST }
-    ensures { (mode : Mode) (t : Text) → IsNormalText languages mode t (ordered_text line.now)
-        → t ≢ ordered_text line.now → IsNormalizedAs mode t result }
-{
-    let len = line.plain.len + line.len;
-    let mut normal = [0u8; MOST];
-    copy_ordered(line, &mut normal[..len]);
-    own_text(alloc, &normal[..len])
-}
-
-// The normal text of an input, borrowed exactly if it is the input.
-#[inline(never)]
-fn whole_text<'a>(
     alloc: Global,
     input: &'a [u8],
     normal: &[u8],

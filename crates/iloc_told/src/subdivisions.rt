@@ -1,16 +1,16 @@
-//! Tells data locales with the keyword `sd`.
-ghost use Rattle.std.specs.Prelude.{◌≡◌, ◌+◌, ◌≤◌, IsTrue, MatchOption, if◌then◌else◌, length, slice_index, take};
+//! Tells data locales with the keyword `sd`, or with a variant.
+ghost use Rattle.std.specs.Prelude.{◌≡◌, ◌+◌, ◌≤◌, IfSome, IsTrue, MatchOption, if◌then◌else◌, length, slice_index, take};
 ghost use Rattle.std.specs.Char.{is_ascii_alphabetic};
 ghost use Rattle.iloc_spec_grammar.specs.Syntax.{Attribute, IsWord, Variant, is_same, lower};
 ghost use Rattle.iloc_spec_preferences.specs.DataLocales.{whole};
-ghost use Rattle.iloc_told.specs.Subdivisions.{IsNamed, IsSubdivisionBlock, value_named};
-ghost use Rattle.iloc_told.specs.Told.{IsTold};
+ghost use Rattle.iloc_told.specs.Subdivisions.{IsBefore, IsNamed, IsSubdivisionBlock, value_named};
+ghost use Rattle.iloc_told.specs.Told.{IsWritten};
 ghost use Rattle.iloc_told.specs.declared.Mode.TheVariants as Mode;
 
-use crate::told::Told;
-use iloc_blocks::Ordered;
-use iloc_blocks::ordered::cut_at;
+use crate::copying::copy_lower;
+use crate::writing::Written;
 use iloc_fronts::words::{is_attribute, is_region, is_true, is_variant};
+use iloc_plain::{Plain, read_plain};
 use iloc_subtags::ParseError;
 use iloc_tinystr::ShortPiece;
 
@@ -23,43 +23,76 @@ struct Named {
     is_whole: bool,
 }
 
-/// What is told of the first `len` bytes as a data locale, if a plain identifier of `at` bytes comes first, perhaps a
-/// variant, and after `start` bytes `u`, `sd` and a piece of its value.
-#[inline(always)]
-pub fn tell_subdivision(window: &[u8], len: usize, at: usize, start: usize) -> Told<'_>
-    requires { len + 16 ≤ length window.now }
-    ensures { IsTold Mode.Data (take len window.now) result }
+/// Writes the normal text of the first `len` bytes as a data locale, if they are a plain identifier and a variant of `n`
+/// bytes.
+#[inline(never)]
+pub(crate) fn write_varied(window: &[u8], len: usize, n: usize, to: &mut [u8]) -> Written
+    requires wide { len + 16 ≤ length window.now }
+    requires room { len + 16 ≤ length to.old }
+    ensures { IsWritten Mode.Data (take len window.now) to.new result }
+{
+    let at = len.wrapping_sub(n.wrapping_add(1));
+    match write_plain(window, len, at, to) {
+        Some(_) if is_one_variant(&window[at + 1..], len - at - 1) => Written::Normal(len),
+        _ => Written::Nothing,
+    }
+}
+
+/// Writes the normal text of the first `len` bytes as a data locale, if they are a plain identifier of `at` bytes, perhaps
+/// a variant, and after `start` bytes `u`, `sd` and a piece of its value.
+#[inline(never)]
+pub(crate) fn write_subdivision(
+    window: &[u8],
+    len: usize,
+    at: usize,
+    start: usize,
+    to: &mut [u8],
+) -> Written
+    requires wide { len + 16 ≤ length window.now }
+    requires room { len + 16 ≤ length to.old }
+    ensures { IsWritten Mode.Data (take len window.now) to.new result }
 {
     if start <= at || start >= len || window[start - 1] != b'-' {
-        return Told::Nothing;
+        return Written::Nothing;
     }
     let block = &window[start..];
     let left = len - start;
     if !has_subdivision(block, left) {
-        return Told::Nothing;
+        return Written::Nothing;
     }
-    let Some(line) = cut_at(window, len, at) else {
-        return Told::Nothing;
+    let Some(plain) = write_plain(window, len, at, to) else {
+        return Written::Nothing;
     };
     let between = start - at - 1;
     if between > 0 && !is_one_variant(&window[at + 1..], between - 1) {
-        return Told::Nothing;
+        return Written::Nothing;
     }
     let Some(named) = name_of(&block[5..], left - 5) else {
-        return Told::Refused(ParseError::InvalidExtension);
+        return Written::Refused(ParseError::InvalidExtension);
     };
-    let Some(region) = line.plain.region() else {
-        return Told::Nothing;
+    let Some(region) = plain.region() else {
+        return Written::Nothing;
     };
     if region == named.region && !named.is_whole {
-        return Told::Ordered(line);
+        return Written::Normal(len);
     }
-    let Ordered { plain, rest, .. } = line;
-    Told::Ordered(Ordered {
-        plain,
-        rest,
-        len: between,
-    })
+    Written::Normal(start - 1)
+}
+
+// Writes the plain identifier of `at` bytes, and in lower case what follows it, if that begins with a hyphen.
+#[inline(always)]
+fn write_plain(window: &[u8], len: usize, at: usize, to: &mut [u8]) -> Option<Plain>
+    requires wide { len + 16 ≤ length window.now }
+    requires room { len + 16 ≤ length to.old }
+    ensures { IfSome result (IsBefore window.now len at to.new) }
+{
+    if at > 16 || at >= len || window[at] != b'-' {
+        return None;
+    }
+    let plain = read_plain(window, at)?;
+    plain.store(to);
+    copy_lower(&window[at..], len - at, &mut to[at..len]);
+    Some(plain)
 }
 
 // Whether the first `n` bytes are a variant.

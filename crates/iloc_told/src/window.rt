@@ -28,7 +28,7 @@ pub(crate) fn put_in_front(text: &[u8], window: &mut [u8; WINDOW])
 }
 
 /// What is told of a text in the mode: nothing of one that is longer than `MOST`. It is copied to the window, and its
-/// normal text is written to the room if it is out of order.
+/// normal text is written to the room.
 #[inline(always)]
 pub fn tell_text<'a>(
     mode: Mode,

@@ -138,6 +138,13 @@ impl Stepping for Variants {
                 old.state(out);
                 true
             }
+            b"slice" => {
+                for word in self.as_slice() {
+                    put(out, word);
+                    say(out, " ");
+                }
+                true
+            }
             _ => {
                 tell(self, out);
                 true

@@ -11,7 +11,7 @@ use std::alloc::Global;
 use std::cmp::Ordering;
 use std::{fmt, str};
 use test_page::steps::{Step, fills, replaces};
-use test_page::told::told;
+use test_page::told::{told, whole};
 use test_page::{Answering, order, put, put_some, say, truth};
 
 /// Says what the value shows where it is looked into.
@@ -45,8 +45,9 @@ impl Answering<Rows> for LanguageIdentifier {
         self.total_cmp(other)
     }
 
-    fn tell(&self, _alloc: Global, call: &str, text: &[u8], out: &mut String) {
+    fn tell(&self, alloc: Global, call: &str, text: &[u8], out: &mut String) {
         match call {
+            "written" => whole(out, self.write_to_string(alloc)),
             "cmp" => order(out, self.strict_cmp(text)),
             "means" => match str::from_utf8(text) {
                 Ok(text) => truth(out, self.normalizing_eq(text)),
@@ -72,6 +73,10 @@ impl Answering<Rows> for LanguageIdentifier {
             b"script" => fills(&mut self.script, Script::try_from_utf8(step.first)),
             b"region" => fills(&mut self.region, Region::try_from_utf8(step.first)),
             b"parent" => says_truth(out, self.truncate_to_parent()),
+            b"clear" => {
+                self.clear();
+                true
+            }
             _ => replaces(&mut self.variants, variants(step.alloc, step.first)),
         }
     }

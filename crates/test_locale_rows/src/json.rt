@@ -3,6 +3,7 @@
 //!
 //! - `to KIND TEXT`: the compact text of the JSON string of what the text is parsed as, and whether it is parsed back the
 //!   same.
+//! - `write KIND TEXT`: the text of that, by the call that `to` stands on.
 //! - `from KIND DOCUMENT`: what is parsed from the one value of the document.
 //! - `each KIND DOCUMENT`: what is parsed from each item of the document, an array; and then the document, as it is
 //!   written with the JSON string of what was parsed in the place of each.
@@ -21,7 +22,7 @@ use iloc_subtags::{
 };
 use iloc_writeable::{IoSink, Writeable, write_to_io};
 use serde_json::Value;
-use std::alloc::Global;
+use std::alloc::{AllocError, Global};
 use std::str;
 use test_page::{Call, bytes, put, refused, say, truth};
 
@@ -80,6 +81,10 @@ fn told<T: JsonText + PartialEq + Drop>(
             Ok(value) => written(alloc, &value, out),
             Err(error) => refuse(out, &JsonError::from(error)),
         },
+        "write" => match T::read_text(alloc, text) {
+            Ok(value) => says(value.write_text(alloc), out),
+            Err(error) => refuse(out, &JsonError::from(error)),
+        },
         "io" => match T::read_text(alloc, text) {
             Ok(value) => to_writers(alloc, &value, out),
             Err(error) => refuse(out, &JsonError::from(error)),
@@ -111,14 +116,14 @@ fn refuse(out: &mut String, error: &JsonError) -> bool {
 // The text of the value's JSON string, and whether it is parsed back as the value.
 fn written<T: JsonText + PartialEq + Drop>(alloc: Global, value: &T, out: &mut String) -> bool {
     match value.to_json(alloc) {
-        Ok(json) => compact(alloc, &json, out) && read_back(alloc, value, &json, out),
+        Ok(json) => says(json.to_string(alloc), out) && read_back(alloc, value, &json, out),
         Err(error) => refuse(out, &error),
     }
 }
 
-// The text of a JSON value.
-fn compact(alloc: Global, json: &Value, out: &mut String) -> bool {
-    match json.to_string(alloc) {
+// Says the text that was written.
+fn says(text: Result<String, AllocError>, out: &mut String) -> bool {
+    match text {
         Ok(text) => {
             say(out, text.as_str());
             true
@@ -172,7 +177,7 @@ fn each<T: JsonText + Drop>(alloc: Global, document: &mut Value, out: &mut Strin
             say(out, " | ");
         }
     }
-    has_memory && compact(alloc, document, out)
+    has_memory && says(document.to_string(alloc), out)
 }
 
 // What is parsed from the item, whose place its JSON string takes.

@@ -10,7 +10,8 @@ use std::alloc::Global;
 use std::cmp::Ordering;
 use std::str;
 use test_page::steps::Step;
-use test_page::{Answering, Call, order, put, refused, say, truth};
+use test_page::told::whole;
+use test_page::{Answering, Ask, Call, order, put, refuse, refused, say, truth};
 
 // Says whether the text means the locale, or that an allocation failed.
 fn means(alloc: Global, locale: &Locale, text: &[u8], out: &mut String) {
@@ -53,6 +54,7 @@ impl Answering<Rows> for Locale {
                 means(alloc, self, text, out)
             }
             "debug" => debug(out, self),
+            "written" => whole(out, self.write_to_string(alloc)),
             "id" => put(out, self.as_langid()),
             "extensions" => put(out, &self.extensions),
             "data" => put(out, &DataLocale::from(self)),
@@ -128,8 +130,22 @@ fn both_keys<K: Ord + Drop>(
     }
 }
 
-/// Says how two locales compare as keys of a sorted map.
-pub fn keys(call: &Call<'_>, out: &mut String) {
+// Says how the key compares with a copy of it.
+fn copied_key<K: Ord + Clone + Drop>(read: Result<K, ParseError>, out: &mut String) {
+    match read {
+        Ok(key) => match key.clone() {
+            Ok(copy) => both_keys(Ok(key), Ok(copy), out),
+            Err(_) => refused(out),
+        },
+        Err(error) => refuse(out, error),
+    }
+}
+
+/// Says how two locales compare as keys of a sorted map, or how the first compares with a copy of it.
+pub fn keys(ask: Ask<'_>, call: &Call<'_>, out: &mut String) {
     let one = key(call.alloc, call.first);
-    both_keys(one, key(call.alloc, call.second), out)
+    match ask {
+        Ask::One("copy") => copied_key(one, out),
+        _ => both_keys(one, key(call.alloc, call.second), out),
+    }
 }

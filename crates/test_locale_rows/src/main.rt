@@ -48,11 +48,13 @@ impl Asking for Rows {
                 told::<Rows, LanguageIdentifier>(call.alloc, read, "", call.second, out)
             }
             "locale" => answer::<Rows, Locale>(ask, call, out),
-            "ordered" => locales::keys(call, out),
+            "ordered" => locales::keys(ask, call, out),
             "data" => answer::<Rows, DataLocale>(ask, call, out),
             "subdivision" => answer::<Rows, SubdivisionId>(ask, call, out),
             "extensions" => answer::<Rows, Extensions>(ask, call, out),
-            "to" | "from" | "each" | "io" | "carry" | "error" => json::answer(what, call, out),
+            "to" | "write" | "from" | "each" | "io" | "carry" | "error" => json::answer(
+                what, call, out,
+            ),
             "bench" => bench::answer(ask, call, out),
             _ => say(out, "no call"),
         }

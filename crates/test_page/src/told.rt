@@ -54,8 +54,8 @@ pub fn lent(out: &mut String, text: CowStr<'_, Global>) {
     }
 }
 
-// Says a printed text.
-fn whole(out: &mut String, text: Result<CowStr<'_, Global>, AllocError>) {
+/// Says a printed text, and whether it is borrowed, or that an allocation failed.
+pub fn whole(out: &mut String, text: Result<CowStr<'_, Global>, AllocError>) {
     match text {
         Ok(text) => lent(out, text),
         Err(_) => refused(out),

@@ -103,6 +103,11 @@ impl Answering<Rows> for Keywords {
                     pair(out, key, value);
                 }
             }
+            "slice" => {
+                for (key, value) in self.as_slice() {
+                    pair(out, key, value);
+                }
+            }
             _ => say(out, "no call"),
         }
     }
@@ -253,6 +258,10 @@ impl Answering<Rows> for Transform {
                 fills(&mut self.lang, read)
             }
             b"retain" => retains_fields(&mut self.fields, first, out),
+            b"empty" => {
+                self.fields.empty();
+                true
+            }
             b"nofields" => says_old(out, Ok(Some(self.fields.clear(alloc)))),
             _ => {
                 self.clear();

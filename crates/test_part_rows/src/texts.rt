@@ -1,12 +1,13 @@
-//! Calls of a text: its pieces, and the parsers that take a `str`.
+//! Calls of a text: its pieces, and the parsers that take a `str` or pieces.
 use iloc_other::{Other, Private};
-use iloc_subtags::{RegionKind, SubtagIterator, take_word};
+use iloc_subtags::{ParseError, RegionKind, SubtagIterator, take_word};
 use iloc_transform::{Transform, Value as FieldValue};
 use iloc_unicode::{Attributes, Keywords, Unicode};
 use iloc_word_list::Value;
+use iloc_writeable::Writeable;
 use std::alloc::Global;
 use std::str;
-use test_page::{Call, bytes, printed, put_some, say};
+use test_page::{Call, bytes, printed, put, put_some, refuse, say};
 
 // Says a piece in brackets, or `none`.
 fn piece(out: &mut String, piece: Option<&[u8]>) {
@@ -48,6 +49,38 @@ fn takes(out: &mut String, text: &[u8]) {
     piece(out, iter.peek())
 }
 
+// Says what was parsed from the pieces, and the piece that is next then; or why it was refused.
+fn parsed<W: Writeable + Drop>(
+    out: &mut String,
+    read: Result<W, ParseError>,
+    iter: &SubtagIterator<'_>,
+) {
+    match read {
+        Ok(value) => {
+            put(out, &value);
+            say(out, "|");
+            piece(out, iter.peek())
+        }
+        Err(error) => refuse(out, error),
+    }
+}
+
+// The parsers of pieces, as a locale calls them behind a singleton.
+fn of_pieces(alloc: Global, what: &str, text: &[u8], out: &mut String) {
+    let mut iter = SubtagIterator::new(text);
+    match what {
+        "keywords" => parsed(out, Keywords::try_from_iter(alloc, &mut iter), &iter),
+        "unicode" => parsed(out, Unicode::try_from_iter(alloc, &mut iter), &iter),
+        "transform" => parsed(out, Transform::try_from_iter(alloc, &mut iter), &iter),
+        "other" => parsed(out, Other::try_from_iter(alloc, b'o', &mut iter), &iter),
+        "private" => parsed(out, Private::try_from_iter(alloc, &mut iter), &iter),
+        _ => {
+            let read = Attributes::try_from_iter(alloc, &mut iter);
+            parsed(out, read.map_err(|_| ParseError::OutOfMemory), &iter)
+        }
+    }
+}
+
 // The parsers of a `str`.
 fn of_str(alloc: Global, what: &str, text: &str, out: &mut String) {
     match what {
@@ -63,13 +96,16 @@ fn of_str(alloc: Global, what: &str, text: &str, out: &mut String) {
     }
 }
 
-/// The answer to a call of a text. A call that none of the first is reads the text as a `str`.
+/// The answer to a call of a text. A call that none of the first is reads the text as a `str`, or its pieces (`iter`).
 pub fn answer(what: &str, call: &Call<'_>, out: &mut String) {
     match what {
         "pieces" => pieces(out, call.first),
         "looks" => looks(out, call.first),
         "takes" => takes(out, call.first),
         _ => match (what.split_once('-'), str::from_utf8(call.first)) {
+            (Some(("iter", what)), Ok(text)) => {
+                of_pieces(call.alloc, what, text.as_bytes(), out)
+            }
             (Some(("str", what)), Ok(text)) => of_str(call.alloc, what, text, out),
             _ => say(out, "no call"),
         },

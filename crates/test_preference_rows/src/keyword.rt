@@ -8,9 +8,9 @@ use iloc_word_list::Value;
 use iloc_writeable::Writeable;
 use std::alloc::Global;
 use std::fmt::Write;
-use test_page::{put, refused, say};
+use test_page::{put, put_some, refused, say};
 
-/// What a row asks of a keyword: `read`, `value` or `keyed`, or nothing for all three.
+/// What a row asks of a keyword: `read`, `value`, `keyed` or `own`, or nothing for the first three.
 #[derive(Drop)]
 pub struct Asked<'a> {
     pub alloc: Global,
@@ -84,6 +84,7 @@ fn answer<T: Shown + Drop>(keyword: &T, asked: &Asked<'_>, out: &mut String) {
         "read" => keyword.show(out),
         "value" => turned(keyword, asked.alloc, out),
         "keyed" => keyed::<T>(asked, out),
+        "own" => put_some(out, &T::unicode_extension_key()),
         _ => {
             keyword.show(out);
             say(out, " | ");

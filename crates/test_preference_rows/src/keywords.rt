@@ -2,7 +2,8 @@
 //!
 //! The value is parsed as the keyword. The line is its text, the value that it is turned into, and what is parsed from the
 //! value under the other key (of no third argument, the keyword's own), joined by `|`. `keyword-read-KEY`,
-//! `keyword-value-KEY` and `keyword-keyed-KEY` say one of the three. A refusal is `! `, its words, and what it prints.
+//! `keyword-value-KEY` and `keyword-keyed-KEY` say one of the three, `keyword-own-KEY` the key that the type has,
+//! `keyword-copy-KEY` a copy, and whether it is the same, `keyword-given-KEY` the value by the type's own call. A refusal is `! `, its words, and what it prints.
 //! `keyword-default TAB KEY` answers the text of the default, `keyword-key TAB KEY` the key that the function of its
 //! name makes, `keyword-memory` the refusal `OutOfMemory`.
 use crate::keyword::{Asked, default_of, refuse_keyword, told};
@@ -124,7 +125,9 @@ pub fn answer(name: &str, row: &Call<'_>, out: &mut String) {
     let (call, word) = name.split_once('-').unwrap_or(("", name));
     let named = str::from_utf8(row.first).unwrap_or("");
     match word {
-        _ if matches!(call, "is" | "owned") => variants::answer(call, word, row, out),
+        _ if matches!(call, "is" | "owned" | "copy" | "given") => variants::answer(
+            call, word, row, out,
+        ),
         "default" => default(named, out),
         "key" => key_named(named, out),
         "memory" => refuse_keyword(out, &PreferencesParseError::from(AllocError)),

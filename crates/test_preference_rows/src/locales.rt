@@ -4,9 +4,9 @@ use crate::told::{Answering, Making, made};
 use iloc_data::{DataLocale, LocalePreferences};
 use iloc_langid::LanguageIdentifier;
 use iloc_locale::Locale;
-use iloc_subtags::{Subtag, UnicodeKey};
+use iloc_subtags::{Language, Region, Script, Subtag, UnicodeKey};
 use std::alloc::Global;
-use test_page::{put, put_some, refused, say};
+use test_page::{order, put, put_some, refused, say, truth};
 
 impl Answering for Locale {
     fn tell(&mut self, alloc: Global, call: &str, out: &mut String) {
@@ -43,6 +43,7 @@ impl Answering for LanguageIdentifier {
         match call {
             "langid-prefs" => preferences(alloc, LocalePreferences::from(&*self), out),
             "langid-data" => put(out, &DataLocale::from(&*self)),
+            "langid-into" => into_others(self, out),
             _ => formatters::of_identifier(self, call, out),
         }
     }
@@ -50,6 +51,24 @@ impl Answering for LanguageIdentifier {
     fn tell_extended(&self, alloc: Global, by: &Self, then: &Self, call: &str, out: &mut String) {
         say(out, "no call")
     }
+}
+
+// Says whether what an identifier is turned into has its parts: language, script and region, alone and in a data
+// locale; and how what is made of these three again compares with it.
+fn into_others(identifier: &LanguageIdentifier, out: &mut String) {
+    let parts = <(Language, Option<Script>, Option<Region>)>::from(identifier);
+    let own = (identifier.language, identifier.script, identifier.region);
+    truth(out, parts == own);
+    let data = DataLocale::from(identifier);
+    say(out, " ");
+    truth(out, (data.language, data.script, data.region) == own);
+    say(out, " ");
+    truth(out, data.variant.as_ref() == identifier.variants.first());
+    let again = LanguageIdentifier::from(parts);
+    say(out, " ");
+    order(out, again.total_cmp(identifier));
+    say(out, " ");
+    truth(out, again == *identifier)
 }
 
 // Says the data locales of preferences, and the locale that they become.

@@ -1,6 +1,7 @@
 //! Keywords by `==` with a value that is written out here, one of each type, and struct keywords of a value that is
 //! handed over.
 use crate::keyword::{Shown, refuse_keyword};
+use crate::told::made;
 use iloc_enum_keywords::{
     CollationCaseFirst, CollationNumericOrdering, CollationType, CommonVariantType,
     CurrencyFormatStyle, EmojiPresentationStyle, FirstDay, HourCycle, LineBreakStyle,
@@ -14,7 +15,7 @@ use iloc_keyword_types::{
 use iloc_subtags::{CurrencyType, ParseError, Script, Subtag};
 use iloc_word_list::Value;
 use std::alloc::Global;
-use test_page::{Call, refuse, say, truth};
+use test_page::{Call, refuse, refused, say, truth};
 
 // Says whether what was parsed is that very keyword.
 fn is<T: PartialEq + Drop>(read: Result<T, PreferencesParseError>, wanted: T, out: &mut String) {
@@ -170,12 +171,56 @@ fn owned(word: &str, value: Value, out: &mut String) {
     }
 }
 
+// Says why it was refused: out of memory in the words that every parser has.
+fn refuse_read(out: &mut String, error: &PreferencesParseError) {
+    if matches!(error, PreferencesParseError::OutOfMemory) {
+        refused(out)
+    } else {
+        refuse_keyword(out, error)
+    }
+}
+
+// Says the copy, and whether it is the same.
+fn copied<T: Shown + Clone + PartialEq + Drop>(
+    read: Result<T, PreferencesParseError>,
+    out: &mut String,
+) {
+    match read {
+        Ok(keyword) => match keyword.clone() {
+            Ok(copy) => {
+                copy.show(out);
+                truth(out, copy == keyword)
+            }
+            Err(_) => refused(out),
+        },
+        Err(error) => refuse_read(out, &error),
+    }
+}
+
+// Says the value that the keyword gives by a call of its own.
+fn given(alloc: Global, word: &str, value: &Value, out: &mut String) {
+    match word {
+        "ca" => match CalendarAlgorithm::try_from(value) {
+            Ok(calendar) => made(out, calendar.to_value(alloc)),
+            Err(error) => refuse_read(out, &error),
+        },
+        _ => match DictionaryBreakScriptExclusions::try_from_value(alloc, value) {
+            Ok(excluded) => made(out, excluded.to_value(alloc)),
+            Err(error) => refuse_read(out, &error),
+        },
+    }
+}
+
 // Says what is asked of the value, which ends here.
 fn asked(alloc: Global, call: &str, word: &str, value: Value, out: &mut String) {
-    if call == "is" {
-        named(alloc, word, &value, out)
-    } else {
-        owned(word, value, out)
+    match call {
+        "is" => named(alloc, word, &value, out),
+        "copy" => copied(
+            DictionaryBreakScriptExclusions::try_from_value(alloc, &value),
+            out,
+        ),
+        "given" => given(alloc, word, &value, out),
+        _ => owned(word, value, out),
     }
 }
 

@@ -26,6 +26,21 @@ fn parts_in_order(rt: HostRuntime) -> Result<(), Fail> {
     Ok(())
 }
 
+/// Two pieces, of which the first stands first, and a text.
+fn short_pieces(sink: &mut String) -> fmt::Result {
+    sink.write_short_piece(*b"en\0\0\0\0\0\0", 2, true)?;
+    sink.write_short_piece(*b"german\0\0", 6, false)?;
+    sink.write_str("-x")
+}
+
+#[test]
+fn short_pieces_in_order(rt: HostRuntime) -> Result<(), Fail> {
+    let mut text = String::new(rt.alloc());
+    short_pieces(&mut text)?;
+    assert_eq!(rt; text.as_str(), "en-german-x");
+    Ok(())
+}
+
 /// Whether a sink with room for so many of the five writes fails once, at the next, and holds what came before.
 fn fails(alloc: Global, writes: u64) -> bool {
     let mut sink = FailingSink::new(alloc, writes);

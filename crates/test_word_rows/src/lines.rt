@@ -3,15 +3,12 @@
 //!
 //! `line-plain TEXT` says the normal text. In the other calls the second argument says how many bytes of the first are the
 //! line: `line-window` says the normal text, `line-front` what stands at the front, `line-block` the first block by the
-//! first piece of one byte, `line-keyword` what follows the singleton of the first block, and `line-ordered` of a line in
-//! the order of its normal text the plain identifier and the rest, what is wrong with its first bad block, or that the
-//! line is not in order. A line of which nothing is said is `not told`.
-ghost use Rattle.std.specs.Prelude.{◌+◌, ◌≤◌, length, take};
+//! first piece of one byte, and `line-keyword` what follows the singleton of the first block. A line of which nothing is
+//! said is `not told`.
+ghost use Rattle.std.specs.Prelude.{take};
 ghost use Rattle.iloc_plain.specs.Plain.{AreWords};
-ghost use Rattle.iloc_fronts.specs.Front.{EndsInVariant, IsFront};
-ghost use Rattle.iloc_blocks.specs.Ordered.{IsStored};
+ghost use Rattle.iloc_fronts.specs.Front.{IsFront};
 
-use iloc_blocks::{BadBlock, Ordered, Reading, read_ordered, read_varied};
 use iloc_fronts::{Block, Front, Keyword, find_block, read_front, read_keyword};
 use iloc_plain::{Plain, read_plain, read_plain_text};
 use test_page::argument::number_of;
@@ -123,54 +120,6 @@ fn keyword(window: &[u8], len: usize, out: &mut String) {
     )
 }
 
-// Says the normal text of the plain identifier, and what follows it in the line.
-fn in_order(line: &Ordered<'_>, out: &mut String)
-    requires { IsStored line.now }
-{
-    normal(&line.plain, out);
-    say(out, " ");
-    bytes(out, line.rest.get(..line.len).unwrap_or(b""))
-}
-
-// Says what a line is that a variant of `n` bytes ends.
-fn varied(window: &[u8], len: usize, n: usize, out: &mut String)
-    requires room { len + 16 ≤ length window.now }
-    requires variant { EndsInVariant (take len window.now) n }
-{
-    match read_varied(window, len, n) {
-        Some(line) => in_order(&line, out),
-        None => say(out, "not told"),
-    }
-}
-
-// Says what a line is that may be an identifier of `at` bytes, and blocks.
-fn with_blocks(window: &[u8], len: usize, at: usize, out: &mut String)
-    requires { len + 16 ≤ length window.now }
-{
-    match read_ordered(window, len, at) {
-        Reading::Ordered(line) => in_order(&line, out),
-        Reading::BadBlock(BadBlock::Misfit) => say(out, "bad block"),
-        Reading::BadBlock(BadBlock::Duplicated) => say(out, "duplicated"),
-        Reading::Unordered => say(out, "unordered"),
-        Reading::Other => say(out, "not told"),
-    }
-}
-
-// Says what is told of a line as a locale, if sixteen bytes follow it at least.
-fn ordered(window: &[u8], len: usize, out: &mut String) {
-    if window.len() < 16 || len > window.len() - 16 {
-        return say(out, "not told");
-    }
-    match read_front(window, len) {
-        Front::Block(block) => {
-            let at = len.wrapping_sub(block.tail.wrapping_add(1));
-            with_blocks(window, len, at, out)
-        }
-        Front::Variant(n) => varied(window, len, n, out),
-        _ => say(out, "not told"),
-    }
-}
-
 /// The answer to a call.
 pub fn answer(what: &str, text: &[u8], len: &[u8], out: &mut String) {
     match what {
@@ -179,7 +128,6 @@ pub fn answer(what: &str, text: &[u8], len: &[u8], out: &mut String) {
         "front" => front(text, number_of(len), out),
         "block" => first_block(text, number_of(len), out),
         "keyword" => keyword(text, number_of(len), out),
-        "ordered" => ordered(text, number_of(len), out),
         _ => say(out, "no call"),
     }
 }

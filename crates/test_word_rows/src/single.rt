@@ -1,5 +1,5 @@
 //! Calls of one kind of word, of short texts of two sizes, and of refusals.
-use crate::tiny::{joined, padded, resized};
+use crate::tiny::{by_piece, joined, padded, resized};
 use iloc_subtags::{CurrencyType, Language, ParseError, Region, Script, Subtag};
 use iloc_tinystr::TinyAsciiStr;
 use std::alloc::AllocError;
@@ -95,6 +95,7 @@ pub fn answer(call: &str, a: &[u8], b: &[u8], out: &mut String) {
     match call {
         "resized" => resized(a, out),
         "joined" => joined(a, b, out),
+        "by_piece" => by_piece(a, out),
         "old_raw" => old_raw(a, out),
         "unknown" => unknown(a, out),
         "alphabetic" => alphabetic(a, out),

@@ -112,6 +112,22 @@ pub fn resized(a: &[u8], out: &mut String) {
     }
 }
 
+/// Says the raw form of the piece that a text of at most eight bytes is, and of the text that this piece is again.
+pub fn by_piece(a: &[u8], out: &mut String) {
+    match TinyAsciiStr::<8>::try_from_utf8(a) {
+        Some(text) => {
+            let piece = text.to_piece();
+            bytes(out, piece.to_bytes().as_slice());
+            say(out, " ");
+            bytes(
+                out,
+                TinyAsciiStr::<8>::from_piece(piece).all_bytes().as_slice(),
+            );
+        }
+        None => say(out, "none"),
+    }
+}
+
 /// Says the raw form of the two texts, of at most three and four bytes, as one of seven.
 pub fn joined(a: &[u8], b: &[u8], out: &mut String) {
     let (Some(front), Some(end)) = (

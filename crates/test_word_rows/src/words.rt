@@ -5,7 +5,7 @@ use iloc_subtags::{
     SubdivisionSuffixKind, SubtagKind, TransformKeyKind, UnicodeKeyKind, VariantKind, Word,
     WordKind, WordOf,
 };
-use iloc_tinystr::TinyAsciiStr;
+use iloc_tinystr::{ShortPiece, TinyAsciiStr};
 use iloc_writeable::Writeable;
 use iloc_writeable::pieces::Pieces;
 use std::str;
@@ -60,6 +60,25 @@ fn calls<K: WordKind<N>, const N: usize>(text: &str, out: &mut String) {
     }
 }
 
+/// Says what the kind says of a piece: whether it is a word, whether one may have its length, its text in the case of the
+/// kind, and the refusal; and what the piece is as a word and as a piece again.
+fn of_piece<K: WordKind<N>, const N: usize>(text: &[u8], out: &mut String) {
+    let Some(piece) = ShortPiece::of(text) else {
+        return say(out, "no piece");
+    };
+    truth(out, K::accepts(piece));
+    say(out, " ");
+    truth(out, K::has_length(piece.len()));
+    say(out, " ");
+    bytes(out, K::normal(piece).to_bytes().as_slice());
+    field(out, K::refusal().words());
+    say(out, " ");
+    match WordOf::<K, N>::from_piece(piece) {
+        Ok(word) => bytes(out, word.to_piece().to_bytes().as_slice()),
+        Err(error) => refuse(out, error),
+    }
+}
+
 /// The order of a word's text against bytes.
 fn against<K: WordKind<N>, const N: usize>(text: &[u8], other: &[u8], out: &mut String) {
     match WordOf::<K, N>::try_from_utf8(text) {
@@ -108,6 +127,7 @@ fn of_kind<K: WordKind<N>, const N: usize>(what: &str, a: &[u8], b: &[u8], out: 
     match what {
         "word" => word::<K, N>(a, out),
         "raw" => raw::<K, N>(a, out),
+        "piece" => of_piece::<K, N>(a, out),
         "calls" => calls::<K, N>(text_of(a), out),
         "equals" => equals::<K, N>(a, text_of(b), out),
         "against" => against::<K, N>(a, b, out),

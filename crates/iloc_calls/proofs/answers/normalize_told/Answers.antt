@@ -1,20 +1,11 @@
 -- What is handed out of a text that is told is its normal text.
-use Rattle.iloc_blocks.specs.Ordered.{ordered_text}
 use Rattle.iloc_calls.proofs.HandedLemmas.{handed_out}
 use Rattle.iloc_calls.proofs.answers.normalize_told.Goals as goal
-
-pub returns-in-Ordered : goal.returns-in-Ordered
-returns-in-Ordered c = (
-  c.hand_out_ordered.result,
-  c.number.ensures,
-  handed_out c.args.mode c.args.text.now (ordered_text c.in-Ordered.line) c.args.buffer.now c.hand_out_ordered.new.buffer c.hand_out_ordered.new.needed c.hand_out_ordered.result
-      c.in-Ordered.ensures.told.normal c.hand_out_ordered.ensures,
-)
 
 pub returns-in-Normal : goal.returns-in-Normal
 returns-in-Normal c = (
   c.hand_out_bytes.result,
-  c.number-in-Normal.ensures,
+  c.number.ensures,
   handed_out c.args.mode c.args.text.now c.in-Normal.normal.now c.args.buffer.now c.hand_out_bytes.new.buffer c.hand_out_bytes.new.needed c.hand_out_bytes.result
       c.in-Normal.ensures.told c.hand_out_bytes.ensures,
 )

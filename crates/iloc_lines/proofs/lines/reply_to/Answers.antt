@@ -1,8 +1,11 @@
-use Rattle.std.proofs.Common.{ℕ, List, ◌≡◌, ◌++◌, OnOk, subst, sym, ◌∙◌, take}
+use Rattle.std.proofs.Common.{ℕ, List, [], ◌∷◌, ◌≡◌, ◌++◌, ◌∙◌, ap, OnOk, subst, take}
+use Rattle.iloc_lines.specs.Answers.{refusal_text}
+use Rattle.iloc_lines.specs.Replies.{IsReplied}
 use Rattle.iloc_lines.specs.ReplyBlock.{held}
-use Rattle.iloc_told.specs.Told.{HasRefusal}
 use Rattle.iloc_told.specs.declared.Mode.{Mode}
-use Rattle.iloc_lines.proofs.PlainLemmas.{refused_reply}
+use Rattle.iloc_told.specs.declared.writing.Written.{Written}
+use Rattle.iloc_told.specs.Told.{HasRefusal}
+use Rattle.iloc_lines.proofs.PlainLemmas.{normal_reply, refused_reply}
 use Rattle.iloc_lines.proofs.lines.reply_to.Goals as goal
 
 pub returns-in-Refused : goal.returns-in-Refused
@@ -14,14 +17,26 @@ returns-in-Refused g c =
     subst (λ (t : List ℕ). OnOk c.write_refusal.result (held c.write_refusal.new.replies ≡ held c.args.replies.now ++ t))
     (refused_reply mode line c.in-Refused.error told) c.write_refusal.ensures.text
 
-pub returns-in-Refused-read_lead : goal.returns-in-Refused-read_lead
-returns-in-Refused-read_lead g c =
+pub returns-in-Normal : goal.returns-in-Normal
+returns-in-Normal g c =
     let mode = g.A.Answers.mode in
     let line = take c.args.len c.args.window.now in
-    let told : HasRefusal mode line c.in-Refused-read_lead.error =
-    subst (λ (m : Mode). HasRefusal m line c.in-Refused-read_lead.error) c.mode-mode.ensures c.in-Refused-read_lead.ensures in
-    subst (λ (t : List ℕ). OnOk c.write_refusal-in-Refused-read_lead.result (held c.write_refusal-in-Refused-read_lead.new.replies ≡ held c.args.replies.now ++ t))
-    (refused_reply mode line c.in-Refused-read_lead.error told) c.write_refusal-in-Refused-read_lead.ensures.text
+    let before = held c.args.replies.now in
+    let after = held c.push_told.new.self in
+    let told =
+    subst (λ (m : Mode). IsReplied m line before after c.in_ok-push_told.field-0) c.mode-mode.ensures c.in_ok-push_told.ensures in
+    let is = subst (λ (w : Written). IsReplied mode line before after w) c.in-Normal.is told in
+    is.2 ∙ ap (λ (t : List ℕ). before ++ t) (normal_reply mode line is.0 is.1)
 
-pub reply_to_blocks-requires-clause-mode : goal.reply_to_blocks-requires-clause-mode
-reply_to_blocks-requires-clause-mode g c = sym c.mode-mode.ensures ∙ c.in-Blocks.ensures
+pub returns-in-Refused-2 : goal.returns-in-Refused-2
+returns-in-Refused-2 g c =
+    let mode = g.A.Answers.mode in
+    let line = take c.args.len c.args.window.now in
+    let before = held c.args.replies.now in
+    let after = held c.push_told.new.self in
+    let told =
+    subst (λ (m : Mode). IsReplied m line before after c.in_ok-push_told.field-0) c.mode-mode.ensures c.in_ok-push_told.ensures in
+    let is = subst (λ (w : Written). IsReplied mode line before after w) c.in-Refused-2.is told in
+    subst (λ (t : List ℕ). OnOk c.write_refusal-in-Refused-2.result (held c.write_refusal-in-Refused-2.new.replies ≡ before ++ t))
+    (refused_reply mode line c.in-Refused-2.error is.0)
+    (subst (λ (t : List ℕ). OnOk c.write_refusal-in-Refused-2.result (held c.write_refusal-in-Refused-2.new.replies ≡ t ++ (refusal_text c.in-Refused-2.error ++ 10 ∷ []))) is.1 c.write_refusal-in-Refused-2.ensures.text)

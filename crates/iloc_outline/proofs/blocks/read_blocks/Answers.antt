@@ -4,18 +4,18 @@ use Rattle.iloc_spec_grammar.specs.Syntax.{Text}
 use Rattle.iloc_outline.specs.Blocks.{IsBlockRead}
 use Rattle.iloc_pieces.specs.Left.{piece_left, pieces_left, whole_text}
 use Rattle.iloc_outline.specs.Parts.{rank}
-use Rattle.iloc_outline.specs.declared.reading.Reading.{Reading}
-use Rattle.iloc_outline.specs.declared.reading.Reading.TheVariants.{Bad, End, Full, Next, Repeated}
+use Rattle.iloc_outline.specs.declared.reading.Found.{Found}
+use Rattle.iloc_outline.specs.declared.reading.Found.TheVariants.{Bad, End, Full, Next, Repeated}
 use Rattle.iloc_outline.specs.declared.spans.Spans.{Spans}
 use Rattle.iloc_outline.proofs.BlocksLemmas.{IsDone, IsRead, all_done}
 use Rattle.iloc_pieces.proofs.LeftLemmas.{last_piece, single_short}
 use Rattle.iloc_outline.proofs.SingletonSteps as at
 use Rattle.iloc_outline.proofs.blocks.read_blocks.Goals as goal
-use Rattle.iloc_outline.proofs.blocks.read_blocks.Goals.{After-read_body-reading, Joined-rank-last-2, else-rank-last, else-rank-last-2, then-rank-last+else-has_block, then-rank-last-2}
+use Rattle.iloc_outline.proofs.blocks.read_blocks.Goals.{After-read_body-found, Joined-rank-last-2, else-rank-last, else-rank-last-2, then-rank-last+else-has_block, then-rank-last-2}
 
 pub singletons-init : goal.singletons-init
 singletons-init c =
-    at.starts_at c.args.left c.args.spans.now c.args.in_order.now
+    at.starts_at c.args.left.now c.args.spans.now c.args.in_order.now
     c.requires.left c.requires.later c.requires.single
 
 pub returns-then-not-is_alphanumeric : goal.returns-then-not-is_alphanumeric
@@ -47,26 +47,27 @@ returns-then-is_last c =
           c.if-rank-last.in_order w.in_order-is
     ] in
     at.refuses_end h letter fresh.new
-    (last_piece c.singletons.at h.left (c.is_last.ensures.0 c.if-is_last.true)
-    (single_short (piece_left c.singletons.at) h.single))
+    (last_piece c.singletons.left h.left (c.is_last.ensures.0 c.if-is_last.true)
+    (single_short (piece_left c.singletons.left) h.single))
 
--- what was read behind the singleton, if the reading is r
-abbrev IsReadAs : After-read_body-reading → Reading → Type 0
-IsReadAs c r = IsBlockRead (at.byte_at c.singletons.invariant) c.next.result c.singletons.spans
-    c.read_body-reading.new.spans c.if-rank-last.in_order c.read_body-reading.new.in_order r
+-- what was read behind the singleton, if it is r
+abbrev IsReadAs : After-read_body-found → Found → Type 0
+IsReadAs c r = IsBlockRead (at.byte_at c.singletons.invariant) c.advance.new.left
+    c.read_body-found.new.left c.singletons.spans
+    c.read_body-found.new.spans c.if-rank-last.in_order c.read_body-found.new.in_order r
 
-read_as : (c : After-read_body-reading) (r : Reading) → c.read_body-reading.result ≡ r → IsReadAs c r
+read_as : (c : After-read_body-found) (r : Found) → c.read_body-found.result ≡ r → IsReadAs c r
 read_as c r e = subst (IsReadAs c) e
-    (c.read_body-reading.ensures (at.byte_at c.singletons.invariant) (sym c.singleton-byte.ensures)
-    (at.spanned_at c.singletons.invariant c.next.ensures))
+    (c.read_body-found.ensures (at.byte_at c.singletons.invariant) (sym c.singleton-byte.ensures)
+    (at.spanned_at c.singletons.invariant c.advance.ensures))
 
-rank_is : (c : After-read_body-reading) → c.rank_of-rank.result ≡ at.rank_at c.singletons.invariant
+rank_is : (c : After-read_body-found) → c.rank_of-rank.result ≡ at.rank_at c.singletons.invariant
 rank_is c = c.rank_of-rank.ensures ∙ ap rank c.singleton-byte.ensures
 
 -- the singleton is passed
-passed : (c : After-read_body-reading)
-    → at.Passed c.singletons.invariant c.next.result c.read_body-reading.new.spans
-    c.if-rank-last.in_order c.read_body-reading.new.in_order
+passed : (c : After-read_body-found)
+    → at.Passed c.singletons.invariant c.advance.new.left c.read_body-found.new.spans
+    c.if-rank-last.in_order c.read_body-found.new.in_order
 passed c =
     let h = c.singletons.invariant in
     let letter : is_ascii_alphanumeric (at.byte_at h) ≡ true = sym c.is_alphanumeric.ensures
@@ -78,43 +79,45 @@ passed c =
       | else-rank-last w ↦ at.fresh_above h letter c.rank_of-rank.result (rank_is c) w.if-rank-last.false
           c.if-rank-last.in_order w.in_order-is
     ] in
-    record { letter = letter; fresh = fresh; next = c.next.ensures }
+    record { letter = letter; fresh = fresh; next = c.advance.ensures }
 
 pub returns-in-Bad : goal.returns-in-Bad
 returns-in-Bad c =
-    let p = (goal.at.returns-in-Bad c).After-read_body-reading in
-    at.refuses_bad c.singletons.invariant (passed p) (read_as p Bad c.in-Bad.is)
+    let p = (goal.at.returns-in-Bad c).After-read_body-found in
+    at.refuses_bad c.singletons.invariant (passed p) c.read_body-found.new.left (read_as p Bad c.in-Bad.is)
 
 pub returns-in-Repeated : goal.returns-in-Repeated
 returns-in-Repeated c =
-    let p = (goal.at.returns-in-Repeated c).After-read_body-reading in
-    at.refuses_repeated c.singletons.invariant (passed p) (read_as p Repeated c.in-Repeated.is)
+    let p = (goal.at.returns-in-Repeated c).After-read_body-found in
+    at.refuses_repeated c.singletons.invariant (passed p) c.read_body-found.new.left
+    (read_as p Repeated c.in-Repeated.is)
 
 pub returns-in-Full : goal.returns-in-Full
 returns-in-Full c =
-    let p = (goal.at.returns-in-Full c).After-read_body-reading in
-    at.too_many c.singletons.invariant (passed p) (read_as p Full c.in-Full.is)
+    let p = (goal.at.returns-in-Full c).After-read_body-found in
+    at.too_many c.singletons.invariant (passed p) c.read_body-found.new.left (read_as p Full c.in-Full.is)
 
 pub place_block-requires : goal.place_block-requires
 place_block-requires c =
-    let p = (goal.at.place_block-requires c).After-read_body-reading in
+    let p = (goal.at.place_block-requires c).After-read_body-found in
     let h = c.singletons.invariant in
+    let next = c.read_body-found.new.left in
     elim c.in-End.is [
-      | inl e ↦ at.grows h (passed p) c.requires.begun [] (at.ends_here h (passed p) (read_as p End e))
-      | inr x ↦ at.grows h (passed p) c.requires.begun (pieces_left x.0)
-          (at.goes_on h (passed p) x.0 (read_as p (Next x.0) x.1))
+      | inl e ↦ at.grows h (passed p) c.requires.begun [] (at.ends_here h (passed p) next (read_as p End e))
+      | inr e ↦ at.grows h (passed p) c.requires.begun (pieces_left next)
+          (at.goes_on h (passed p) next (read_as p Next e))
     ]
 
 -- the block was put, and rest follows
 abbrev IsPut : Joined-rank-last-2 → List Text → ℕ → Spans → Type 0
 IsPut c rest last spans =
-    IsDone c.args.left c.args.spans.now c.args.in_order.now rest last spans c.read_body-reading.new.in_order
+    IsDone c.args.left.now c.args.spans.now c.args.in_order.now rest last spans c.read_body-found.new.in_order
 
-put : (c : Joined-rank-last-2) → at.Passed c.singletons.invariant c.next.result c.read_body-reading.new.spans
-    c.if-rank-last.in_order c.read_body-reading.new.in_order
+put : (c : Joined-rank-last-2) → at.Passed c.singletons.invariant c.advance.new.left c.read_body-found.new.spans
+    c.if-rank-last.in_order c.read_body-found.new.in_order
     → c.rank_of-rank.result ≡ at.rank_at c.singletons.invariant → (rest : List Text)
-    → IsRead (at.byte_at c.singletons.invariant) (whole_text c.args.left) (at.behind c.singletons.invariant) rest
-    c.singletons.spans c.read_body-reading.new.spans c.if-rank-last.in_order c.read_body-reading.new.in_order
+    → IsRead (at.byte_at c.singletons.invariant) (whole_text c.args.left.now) (at.behind c.singletons.invariant) rest
+    c.singletons.spans c.read_body-found.new.spans c.if-rank-last.in_order c.read_body-found.new.in_order
     → IsPut c rest c.if-rank-last-2.last c.if-rank-last-2.spans
 put c x e rest r = elim c.if-rank-last-2.branch [
   | then-rank-last-2 w ↦
@@ -130,24 +133,28 @@ put c x e rest r = elim c.if-rank-last-2.branch [
 
 pub singletons-smaller : goal.singletons-smaller
 singletons-smaller c =
-    let p = (goal.at.singletons-smaller c).After-read_body-reading in
-    at.less_at c.singletons.invariant (passed p) c.in-Next.next (read_as p (Next c.in-Next.next) c.in-Next.is)
+    let p = (goal.at.singletons-smaller c).After-read_body-found in
+    let goes_on : c.read_body-found.result ≡ Next =
+    elim c.in-End.is [ inl e ↦ absurd (c.in_default.not-End e) | inr e ↦ e ] in
+    at.less_at c.singletons.invariant (passed p) c.read_body-found.new.left (read_as p Next goes_on)
 
 pub singletons-preserved : goal.singletons-preserved
 singletons-preserved c =
-    let p = (goal.at.singletons-preserved c).After-read_body-reading in
+    let p = (goal.at.singletons-preserved c).After-read_body-found in
     let h = c.singletons.invariant in
-    let r = read_as p (Next c.in-Next.next) c.in-Next.is in
-    at.next_at h (passed p) c.in-Next.next r c.if-rank-last-2.last c.if-rank-last-2.spans
-    (put (goal.at.singletons-preserved c).Joined-rank-last-2 (passed p) (rank_is p) (pieces_left c.in-Next.next)
-    (at.goes_on h (passed p) c.in-Next.next r))
+    let next = c.read_body-found.new.left in
+    let goes_on : c.read_body-found.result ≡ Next =
+    elim c.in-End.is [ inl e ↦ absurd (c.in_default.not-End e) | inr e ↦ e ] in
+    let r = read_as p Next goes_on in
+    at.next_at h (passed p) next r c.if-rank-last-2.last c.if-rank-last-2.spans
+    (put (goal.at.singletons-preserved c).Joined-rank-last-2 (passed p) (rank_is p) (pieces_left next)
+    (at.goes_on h (passed p) next r))
 
-pub returns-in_default : goal.returns-in_default
-returns-in_default c =
-    let p = (goal.at.returns-in_default c).After-read_body-reading in
-    let ends : c.read_body-reading.result ≡ End =
-    elim c.in-End.is [ inl e ↦ e | inr x ↦ absurd (c.in_default.not-Next x.0 x.1) ] in
-    all_done c.args.left c.args.spans.now c.args.in_order.now c.if-rank-last-2.last c.if-rank-last-2.spans
-    c.read_body-reading.new.in_order
-    (put (goal.at.returns-in_default c).Joined-rank-last-2 (passed p) (rank_is p) []
-    (at.ends_here c.singletons.invariant (passed p) (read_as p End ends)))
+pub returns-in-End-found : goal.returns-in-End-found
+returns-in-End-found c =
+    let p = (goal.at.returns-in-End-found c).After-read_body-found in
+    all_done c.args.left.now c.args.spans.now c.args.in_order.now c.if-rank-last-2.last c.if-rank-last-2.spans
+    c.read_body-found.new.in_order
+    (put (goal.at.returns-in-End-found c).Joined-rank-last-2 (passed p) (rank_is p) []
+    (at.ends_here c.singletons.invariant (passed p) c.read_body-found.new.left
+    (read_as p End c.in-End-found.is)))

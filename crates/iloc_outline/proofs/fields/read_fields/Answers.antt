@@ -1,8 +1,8 @@
-use Rattle.std.proofs.Common.{◌≡◌, ◌≢◌, ◌∙◌, Bool, None, Option, Some, ap, arith, false, if◌then◌else◌, rules, sym, true}
+use Rattle.std.proofs.Common.{◌≡◌, ◌≢◌, ◌∙◌, Bool, None, Option, Some, ap, arith, false, rules, sym, true}
 use denote.Enum.Bare.{same_false, same_true}
 use Rattle.iloc_outline.specs.contracts.span.Role.{the_type}
 use Rattle.iloc_outline.specs.declared.span.Role.TheVariants.{Field}
-use Rattle.iloc_outline.specs.Fields.{next_of}
+use Rattle.iloc_outline.specs.Reading.{unless_end}
 use Rattle.iloc_outline.specs.declared.fields.Value.{Value}
 use Rattle.iloc_pieces.specs.declared.left.Left.{Left}
 use Rattle.iloc_outline.proofs.FieldLemmas.{ends_in_key, field_less, field_within, key_kind_fits, takes_end, takes_full, takes_more, takes_none, takes_past}
@@ -11,18 +11,18 @@ use Rattle.iloc_outline.proofs.RoleLemmas.{short_key_kind}
 use Rattle.iloc_outline.proofs.fields.read_fields.Goals as goal
 use Rattle.iloc_outline.proofs.fields.read_fields.Goals.{else-eq-via-then-eq+else-value-eq0, else-eq-via-else-eq}
 
-abbrev next : Value → Bool → Option Left
-next v b = if b then None else Some v.left
+abbrev behind : Left → Bool → Option Left
+behind m b = unless_end b m
 
-goes_on : (v : Value) → v.is_end ≡ false → next_of v ≡ Some v.left
-goes_on v = ap (next v)
+goes_on : (m : Left) (v : Value) → v.is_end ≡ false → unless_end v.is_end m ≡ Some m
+goes_on m v = ap (behind m)
 
-ends : (v : Value) → v.is_end ≡ true → next_of v ≡ None
-ends v = ap (next v)
+ends : (m : Left) (v : Value) → v.is_end ≡ true → unless_end v.is_end m ≡ None
+ends m v = ap (behind m)
 
 pub keys-init : goal.keys-init
 keys-init c =
-    takes_none c.args.role c.args.left c.requires.left c.requires.later c.args.spans.now c.args.in_order.now
+    takes_none c.args.role c.args.left.now c.requires.left c.requires.later c.args.spans.now c.args.in_order.now
 
 pub is_key_of-requires : goal.is_key_of-requires
 is_key_of-requires c = c.keys.invariant.past.left
@@ -42,15 +42,15 @@ returns-then-value-eq0 c =
     let v = c.read_value-value in
     let field = same_true the_type (search rules) _ _ (sym c.if-eq.ensures) in (
       field,
-      ends_in_key c.args.role c.args.left c.keys.at _ _ _ _ _ c.keys.invariant v.result v.ensures
+      ends_in_key c.args.role c.args.left.now c.keys.left _ _ _ _ _ c.keys.invariant v.new.left v.result v.ensures
           field (sym c.is_key_of.ensures ∙ c.keys-test.true) c.if-value-eq0.true,
     )
 
-pub word_number-requires-clause-left : goal.word_number-requires-clause-left
-word_number-requires-clause-left c = c.keys.invariant.past.left
+pub word_number-word-requires-clause-left : goal.word_number-word-requires-clause-left
+word_number-word-requires-clause-left c = c.keys.invariant.past.left
 
-pub word_number-requires-clause-word : goal.word_number-requires-clause-word
-word_number-requires-clause-word c =
+pub word_number-word-requires-clause-word : goal.word_number-word-requires-clause-word
+word_number-word-requires-clause-word c =
     key_kind_fits c.args.role _ (sym c.is_key_of.ensures ∙ c.keys-test.true)
 
 pub overflow_cast-span : goal.overflow_cast-span
@@ -60,7 +60,7 @@ pub overflow_cast-span-in-keys : goal.overflow_cast-span-in-keys
 overflow_cast-span-in-keys c =
     let v = c.read_value-value in
     let inside =
-    field_within c.args.role c.args.left c.keys.at _ _ _ _ _ c.keys.invariant v.result v.ensures in
+    field_within c.args.role c.args.left.now c.keys.left _ _ _ _ _ c.keys.invariant v.new.left v.result v.ensures in
     omega (arith, c.requires.few)
 
 pub put_from-requires : goal.put_from-requires
@@ -74,8 +74,8 @@ returns-in-Full c =
       | else-eq-via-then-eq+else-value-eq0 b ↦ b.if-value-eq0.false
       | else-eq-via-else-eq b ↦ absurd (same_false the_type _ _ (sym b.if-eq.ensures) t)
     ] in
-    takes_full _ c.args.left c.keys.at _ _ _ _ _ c.keys.invariant v.result v.ensures key some
-    c.put_from.new.spans _ _ _ _ c.word_number.ensures c.is_edited.ensures c.put_from.result
+    takes_full _ c.args.left.now c.keys.left _ _ _ _ _ c.keys.invariant v.new.left v.result v.ensures key some
+    c.put_from.new.spans _ _ _ _ c.word_number-word.ensures c.is_edited.ensures c.put_from.result
     c.put_from.ensures c.in-Full.is
 
 pub keys-preserved : goal.keys-preserved
@@ -86,9 +86,9 @@ keys-preserved c =
       | else-eq-via-then-eq+else-value-eq0 b ↦ b.if-value-eq0.false
       | else-eq-via-else-eq b ↦ absurd (same_false the_type _ _ (sym b.if-eq.ensures) t)
     ] in
-    takes_more _ c.args.left c.keys.at _ _ _ _ _ c.keys.invariant v.result v.ensures key some
-    c.put_from.new.spans _ _ _ _ c.word_number.ensures c.is_edited.ensures c.put_from.result
-    c.put_from.ensures c.in_default.not-Full v.result.left (goes_on v.result c.if-value.false)
+    takes_more _ c.args.left.now c.keys.left _ _ _ _ _ c.keys.invariant v.new.left v.result v.ensures key some
+    c.put_from.new.spans _ _ _ _ c.word_number-word.ensures c.is_edited.ensures c.put_from.result
+    c.put_from.ensures c.in_default.not-Full v.new.left (goes_on v.new.left v.result c.if-value.false)
 
 pub returns-then-value : goal.returns-then-value
 returns-then-value c =
@@ -98,15 +98,15 @@ returns-then-value c =
       | else-eq-via-then-eq+else-value-eq0 b ↦ b.if-value-eq0.false
       | else-eq-via-else-eq b ↦ absurd (same_false the_type _ _ (sym b.if-eq.ensures) t)
     ] in
-    takes_end _ c.args.left c.keys.at _ _ _ _ _ c.keys.invariant v.result v.ensures key some
-    c.put_from.new.spans _ _ _ _ c.word_number.ensures c.is_edited.ensures c.put_from.result
-    c.put_from.ensures c.in_default.not-Full (ends v.result c.if-value.true)
+    takes_end _ c.args.left.now c.keys.left _ _ _ _ _ c.keys.invariant v.new.left v.result v.ensures key some
+    c.put_from.new.spans _ _ _ _ c.word_number-word.ensures c.is_edited.ensures c.put_from.result
+    c.put_from.ensures c.in_default.not-Full (ends v.new.left v.result c.if-value.true)
 
 pub keys-smaller : goal.keys-smaller
 keys-smaller c =
     let v = c.read_value-value in
-    field_less c.args.role c.args.left c.keys.at _ _ _ _ _ c.keys.invariant v.result v.ensures
-    v.result.left (goes_on v.result c.if-value.false)
+    field_less c.args.role c.args.left.now c.keys.left _ _ _ _ _ c.keys.invariant v.new.left v.result v.ensures
+    v.new.left (goes_on v.new.left v.result c.if-value.false)
 
 pub returns : goal.returns
 returns c =
@@ -115,5 +115,5 @@ returns c =
       w.past,
       sym c.is_key_of.ensures ∙ c.keys-test.false,
       w.ends,
-      takes_past c.args.role c.args.left c.keys.at _ _ _ _ _ w,
+      takes_past c.args.role c.args.left.now c.keys.left _ _ _ _ _ w,
     )

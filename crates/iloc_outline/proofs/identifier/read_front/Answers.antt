@@ -1,63 +1,88 @@
-use Rattle.std.proofs.Common.{◌≡◌, ◌==◌, ◌&&◌, Bool, None, Some, cond, sym, ap, ◌∙◌}
+use Rattle.std.proofs.Common.{◌≡◌, ◌==◌, ◌&&◌, Bool, true, false, None, Some, cond, sym, ap, subst, ◌∙◌}
 use Rattle.iloc_pieces.specs.Left.{piece_left}
-use Rattle.iloc_outline.proofs.Fronts.{front_read, front_alone, front_to_script, front_to_region, third_left}
+use Rattle.iloc_pieces.specs.declared.left.Left.{Left}
+use Rattle.iloc_outline.specs.Identifier.{IsOnePast}
+use Rattle.iloc_outline.specs.Reading.{unless_end}
+use Rattle.iloc_outline.proofs.Fronts.{front_read, front_alone, front_to_script, front_to_region}
 use Rattle.iloc_pieces.proofs.LeftLemmas.{short_language, short_script, short_region}
 use Rattle.iloc_outline.proofs.identifier.read_front.Goals as goal
 use Rattle.iloc_outline.proofs.identifier.read_front.Goals.{then-has_region, else-has_region}
 
-pub past_one-requires-clause-short : goal.past_one-requires-clause-short
-past_one-requires-clause-short c = λ _. short_language (piece_left c.args.left) c.requires.language
+-- the text ends with the piece, or goes on
+ends : (fits : Bool) (l m : Left) (r : Bool) → r ≡ true → IsOnePast fits l (unless_end r m) → IsOnePast fits l None
+ends fits l m r = subst (λ (b : Bool). IsOnePast fits l (unless_end b m))
 
-pub returns-in_default : goal.returns-in_default
-returns-in_default c = front_read c.args.left None _ _ c.requires.left c.requires.language (front_alone c.args.left c.in_default.ensures)
+goes_on : (fits : Bool) (l m : Left) (r : Bool) → r ≡ false → IsOnePast fits l (unless_end r m)
+    → IsOnePast fits l (Some m)
+goes_on fits l m r = subst (λ (b : Bool). IsOnePast fits l (unless_end b m))
 
-pub past_one-requires-2-clause-short : goal.past_one-requires-2-clause-short
-past_one-requires-2-clause-short c = λ is. short_script (piece_left c.in-Some.second) (sym c.is_script-has_script.ensures ∙ is)
+pub ends_at-requires-clause-short : goal.ends_at-requires-clause-short
+ends_at-requires-clause-short c = λ _. short_language (piece_left c.args.left.now) c.requires.language
 
-pub returns-in_default-past_one : goal.returns-in_default-past_one
-returns-in_default-past_one c =
+pub returns-then-ends_at : goal.returns-then-ends_at
+returns-then-ends_at c =
+    let l = c.args.left.now in
+    front_read l c.ends_at.new.left true _ _ c.requires.left c.requires.language
+    (front_alone l (ends true l c.ends_at.new.left _ c.if-ends_at.true c.ends_at.ensures))
+
+pub ends_at-requires-2-clause-short : goal.ends_at-requires-2-clause-short
+ends_at-requires-2-clause-short c =
+    λ is. short_script (piece_left c.ends_at.new.left) (sym c.is_script-has_script.ensures ∙ is)
+
+pub returns-then-ends_at-2 : goal.returns-then-ends_at-2
+returns-then-ends_at-2 c =
+    let l = c.args.left.now in
+    let second = c.ends_at.new.left in
     let has = c.is_script-has_script in
-    front_read c.args.left None c.place-script.result _ c.requires.left c.requires.language
-    (front_to_script c.requires.left c.requires.language c.in-Some.ensures has.result has.ensures c.place-script.result c.place-script.ensures
-    c.in_default-past_one.ensures)
+    let next = goes_on true l second _ c.if-ends_at.false c.ends_at.ensures in
+    front_read l c.ends_at-2.new.left true c.place.result _ c.requires.left c.requires.language
+    (front_to_script c.requires.left c.requires.language next has.result has.ensures
+    c.place.result c.place.ensures
+    (ends has.result second c.ends_at-2.new.left _ c.if-ends_at-2.true c.ends_at-2.ensures))
 
-pub is_region-has_region-requires : goal.is_region-has_region-requires
-is_region-has_region-requires c =
-    let has = c.is_script-has_script in
-    third_left c.requires.left c.requires.language c.in-Some.ensures has.result has.ensures c.place-script.result c.place-script.ensures
-    c.in-Some-past_one.third c.in-Some-past_one.ensures
+pub ends_at-requires-3-clause-short : goal.ends_at-requires-3-clause-short
+ends_at-requires-3-clause-short c =
+    λ is. short_region (piece_left c.ends_at-2.new.left) (sym c.is_region-has_region.ensures ∙ is)
 
-pub past_one-requires-3-clause-left : goal.past_one-requires-3-clause-left
-past_one-requires-3-clause-left c =
-    let has = c.is_script-has_script in
-    third_left c.requires.left c.requires.language c.in-Some.ensures has.result has.ensures c.place-script.result c.place-script.ensures
-    c.in-Some-past_one.third c.in-Some-past_one.ensures
-
-pub past_one-requires-3-clause-short : goal.past_one-requires-3-clause-short
-past_one-requires-3-clause-short c = λ is. short_region (piece_left c.in-Some-past_one.third) (sym c.is_region-has_region.ensures ∙ is)
-
-pub returns-in_default-past_one-2 : goal.returns-in_default-past_one-2
-returns-in_default-past_one-2 c =
+pub returns-then-ends_at-3 : goal.returns-then-ends_at-3
+returns-then-ends_at-3 c =
+    let l = c.args.left.now in
+    let second = c.ends_at.new.left in
+    let third = c.ends_at-2.new.left in
     let has = c.is_script-has_script in
     let fits = c.is_region-has_region in
-    let two : c.if-has_region.place ≡ (fits.result && (c.in-Some-past_one.third.n == 2)) = elim c.if-has_region.branch [
-      | then-has_region w ↦ w.place-is ∙ sym (ap (λ (b : Bool). b && (c.in-Some-past_one.third.n == 2)) w.if-has_region.true)
-      | else-has_region w ↦ w.place-is ∙ w.if-has_region.false ∙ sym (ap (λ (b : Bool). b && (c.in-Some-past_one.third.n == 2)) w.if-has_region.false)
+    let next = goes_on true l second _ c.if-ends_at.false c.ends_at.ensures in
+    let two : c.if-has_region.place ≡ (fits.result && (third.n == 2)) = elim c.if-has_region.branch [
+      | then-has_region w ↦ w.place-is ∙ sym (ap (λ (b : Bool). b && (third.n == 2)) w.if-has_region.true)
+      | else-has_region w ↦ w.place-is ∙ w.if-has_region.false
+          ∙ sym (ap (λ (b : Bool). b && (third.n == 2)) w.if-has_region.false)
     ] in
-    front_read c.args.left None c.place-script.result c.place-region.result c.requires.left c.requires.language
-    (front_to_region c.requires.left c.requires.language c.in-Some.ensures has.result has.ensures c.place-script.result c.place-script.ensures
-    c.in-Some-past_one.third c.in-Some-past_one.ensures fits.result fits.ensures c.place-region.result
-    (c.place-region.ensures ∙ ap (λ (b : Bool). cond b c.in-Some-past_one.third.at 0) two) None c.in_default-past_one-2.ensures)
+    front_read l c.ends_at-3.new.left true c.place.result c.place-2.result c.requires.left c.requires.language
+    (front_to_region c.requires.left c.requires.language next has.result has.ensures
+    c.place.result c.place.ensures third
+    (goes_on has.result second third _ c.if-ends_at-2.false c.ends_at-2.ensures)
+    fits.result fits.ensures c.place-2.result
+    (c.place-2.ensures ∙ ap (λ (b : Bool). cond b third.at 0) two) None
+    (ends fits.result third c.ends_at-3.new.left _ c.if-ends_at-3.true c.ends_at-3.ensures))
 
 pub returns : goal.returns
 returns c =
+    let l = c.args.left.now in
+    let second = c.ends_at.new.left in
+    let third = c.ends_at-2.new.left in
+    let last = c.ends_at-3.new.left in
     let has = c.is_script-has_script in
     let fits = c.is_region-has_region in
-    let two : c.if-has_region.place ≡ (fits.result && (c.in-Some-past_one.third.n == 2)) = elim c.if-has_region.branch [
-      | then-has_region w ↦ w.place-is ∙ sym (ap (λ (b : Bool). b && (c.in-Some-past_one.third.n == 2)) w.if-has_region.true)
-      | else-has_region w ↦ w.place-is ∙ w.if-has_region.false ∙ sym (ap (λ (b : Bool). b && (c.in-Some-past_one.third.n == 2)) w.if-has_region.false)
+    let next = goes_on true l second _ c.if-ends_at.false c.ends_at.ensures in
+    let two : c.if-has_region.place ≡ (fits.result && (third.n == 2)) = elim c.if-has_region.branch [
+      | then-has_region w ↦ w.place-is ∙ sym (ap (λ (b : Bool). b && (third.n == 2)) w.if-has_region.true)
+      | else-has_region w ↦ w.place-is ∙ w.if-has_region.false
+          ∙ sym (ap (λ (b : Bool). b && (third.n == 2)) w.if-has_region.false)
     ] in
-    front_read c.args.left (Some c.in-Some-past_one-2.next) c.place-script.result c.place-region.result c.requires.left c.requires.language
-    (front_to_region c.requires.left c.requires.language c.in-Some.ensures has.result has.ensures c.place-script.result c.place-script.ensures
-    c.in-Some-past_one.third c.in-Some-past_one.ensures fits.result fits.ensures c.place-region.result
-    (c.place-region.ensures ∙ ap (λ (b : Bool). cond b c.in-Some-past_one.third.at 0) two) (Some c.in-Some-past_one-2.next) c.in-Some-past_one-2.ensures)
+    front_read l last false c.place.result c.place-2.result c.requires.left c.requires.language
+    (front_to_region c.requires.left c.requires.language next has.result has.ensures
+    c.place.result c.place.ensures third
+    (goes_on has.result second third _ c.if-ends_at-2.false c.ends_at-2.ensures)
+    fits.result fits.ensures c.place-2.result
+    (c.place-2.ensures ∙ ap (λ (b : Bool). cond b third.at 0) two) (Some last)
+    (goes_on fits.result third last _ c.if-ends_at-3.false c.ends_at-3.ensures))

@@ -2,26 +2,26 @@
 use Rattle.std.proofs.Common.{◌≡◌, ◌+◌, ◌-◌, true, [], refl, sym, ap, ◌∙◌}
 use Rattle.iloc_spec_grammar.specs.Syntax.{is_other_singleton}
 use Rattle.iloc_pieces.specs.Left.{IsEnd, piece_left}
-use Rattle.iloc_outline.specs.declared.reading.Reading.TheVariants.{End, Next}
+use Rattle.iloc_outline.specs.declared.reading.Found.TheVariants.{End, Next}
 use Rattle.iloc_pieces.proofs.LeftLemmas.{between_short, last_piece, past_none}
 use Rattle.iloc_outline.proofs.OtherLemmas.{IsBetween, PassesOneMore, end_bad, end_put, more_odd, more_subtag, next_bad, next_odd, next_put, other_next, put_at}
 use Rattle.iloc_outline.proofs.other.read_other.Goals as goal
 use Rattle.iloc_outline.proofs.other.read_other.Goals.{then-is_subtag, else-is_subtag, then-not-is_good-2-via-then-not-is_good-2, then-not-is_good-2-via-else-not-is_good-2+then-not-is_single, After-is_last}
 
-between : (c : After-is_last) → IsBetween (piece_left c.pieces.at)
+between : (c : After-is_last) → IsBetween (piece_left c.pieces.left)
 between c = sym c.is_between.ensures ∙ c.pieces-test.true
 
 -- the piece is one more
 one_more : (c : After-is_last)
-    → PassesOneMore c.args.left c.pieces.at c.if-is_subtag.is_good c.if-is_subtag.edited
+    → PassesOneMore c.args.left.now c.pieces.left c.if-is_subtag.is_good c.if-is_subtag.edited
 one_more c = elim c.if-is_subtag.branch [
   | then-is_subtag w ↦
       rw (w.is_good-is, w.edited-is)
-      (more_subtag c.args.left c.pieces.at c.pieces.is_good c.pieces.edited c.pieces.invariant.passed
+      (more_subtag c.args.left.now c.pieces.left c.pieces.is_good c.pieces.edited c.pieces.invariant.passed
       (between c) (sym c.is_subtag.ensures ∙ w.if-is_subtag.true))
   | else-is_subtag w ↦
       rw (w.is_good-is, w.edited-is)
-      (more_odd c.args.left c.pieces.at c.pieces.is_good c.pieces.edited c.pieces.invariant.passed (between c)
+      (more_odd c.args.left.now c.pieces.left c.pieces.is_good c.pieces.edited c.pieces.invariant.passed (between c)
       (sym c.is_subtag.ensures ∙ w.if-is_subtag.false))
 ]
 
@@ -38,27 +38,27 @@ pieces-init c = record {
   in_order = refl;
 }
 
-pub next-at-requires-clause-short : goal.next-at-requires-clause-short
-next-at-requires-clause-short c =
-    between_short (piece_left c.pieces.at) (sym c.is_between.ensures ∙ c.pieces-test.true)
+pub advance-requires-clause-short : goal.advance-requires-clause-short
+advance-requires-clause-short c =
+    between_short (piece_left c.pieces.left) (sym c.is_between.ensures ∙ c.pieces-test.true)
 
 pub pieces-preserved : goal.pieces-preserved
 pieces-preserved c = record {
-  passed = other_next c.args.left c.pieces.at c.next-at.result c.if-is_subtag.is_good c.if-is_subtag.edited
+  passed = other_next c.args.left.now c.pieces.left c.advance.new.left c.if-is_subtag.is_good c.if-is_subtag.edited
       (one_more (goal.at.pieces-preserved c).After-is_last)
-      (between (goal.at.pieces-preserved c).After-is_last) c.next-at.ensures;
+      (between (goal.at.pieces-preserved c).After-is_last) c.advance.ensures;
   spans = c.pieces.invariant.spans;
   in_order = c.pieces.invariant.in_order;
 }
 
-ended : (c : After-is_last) → c.is_last.result ≡ true → IsEnd c.pieces.at
-ended c last = last_piece c.pieces.at c.pieces.invariant.passed.past.left (c.is_last.ensures.0 last)
-    (between_short (piece_left c.pieces.at) (between c))
+ended : (c : After-is_last) → c.is_last.result ≡ true → IsEnd c.pieces.left
+ended c last = last_piece c.pieces.left c.pieces.invariant.passed.past.left (c.is_last.ensures.0 last)
+    (between_short (piece_left c.pieces.left) (between c))
 
 pub returns-then-not-is_good : goal.returns-then-not-is_good
 returns-then-not-is_good c = λ c' e spanned.
     let after = (goal.at.returns-then-not-is_good c).After-is_last in
-    end_bad c' c.args.left (ap is_other_singleton e ∙ c.requires.other) c.pieces.at c.if-is_subtag.is_good
+    end_bad c' c.args.left.now (ap is_other_singleton e ∙ c.requires.other) c.pieces.left c.if-is_subtag.is_good
     c.if-is_subtag.edited (one_more after)
     (ended after c.if-is_last.true) c.args.spans.now c.args.spans.now c.args.in_order.now c.args.in_order.now
     c.if-not-is_good.true
@@ -66,12 +66,12 @@ returns-then-not-is_good c = λ c' e spanned.
 pub returns-then-is_last : goal.returns-then-is_last
 returns-then-is_last c = λ c' e spanned.
     let after = (goal.at.returns-then-is_last c).After-is_last in
-    end_put c' c.args.left (ap is_other_singleton e ∙ c.requires.other) c.pieces.at c.if-is_subtag.is_good
+    end_put c' c.args.left.now (ap is_other_singleton e ∙ c.requires.other) c.pieces.left c.if-is_subtag.is_good
     c.if-is_subtag.edited (one_more after)
     (ended after c.if-is_last.true) c.args.start c.args.spans.now c.put_other.new.spans c.args.in_order.now
     c.put_other.new.in_order c.put_other.result
     c.if-not-is_good.false c.requires.later spanned
-    (put_at c' c.args.byte c.args.start (c.pieces.at.at + c.pieces.at.n) c.if-is_subtag.edited
+    (put_at c' c.args.byte c.args.start (c.pieces.left.at + c.pieces.left.n) c.if-is_subtag.edited
     c.args.spans.now c.pieces.spans c.put_other.new.spans
     c.args.in_order.now c.pieces.in_order c.put_other.new.in_order End c.put_other.result e
     c.pieces.invariant.spans c.pieces.invariant.in_order c.put_other.ensures)
@@ -84,23 +84,23 @@ returns-then-not-is_good-2 c = λ c' e spanned.
     let o = c.args.in_order.now in
     elim c.then-not-is_good-2.branch [
       | then-not-is_good-2-via-then-not-is_good-2 w ↦
-          next_bad c' c.args.left other c.pieces.at c.pieces.is_good c.pieces.edited c.pieces.invariant.passed
+          next_bad c' c.args.left.now other c.pieces.left c.pieces.is_good c.pieces.edited c.pieces.invariant.passed
           spans spans o o odd w.if-not-is_good-2.true
       | then-not-is_good-2-via-else-not-is_good-2+then-not-is_single w ↦
-          next_odd c' c.args.left other c.pieces.at c.pieces.is_good c.pieces.edited c.pieces.invariant.passed
+          next_odd c' c.args.left.now other c.pieces.left c.pieces.is_good c.pieces.edited c.pieces.invariant.passed
           spans spans o o odd
           (sym w.is_single.ensures ∙ w.if-not-is_single.true)
     ]
 
 pub returns : goal.returns
 returns c = λ c' e spanned.
-    next_put c' c.args.left (ap is_other_singleton e ∙ c.requires.other) c.pieces.at c.pieces.is_good
+    next_put c' c.args.left.now (ap is_other_singleton e ∙ c.requires.other) c.pieces.left c.pieces.is_good
     c.pieces.edited c.pieces.invariant.passed c.args.start
     c.args.spans.now c.put_other-2.new.spans c.args.in_order.now c.put_other-2.new.in_order
     c.put_other-2.result
     (sym c.is_single.ensures ∙ c.if-not-is_single.false) c.if-not-is_good-2.false c.requires.later spanned
-    (put_at c' c.args.byte c.args.start (c.pieces.at.at - 1) c.pieces.edited c.args.spans.now c.pieces.spans
+    (put_at c' c.args.byte c.args.start (c.pieces.left.at - 1) c.pieces.edited c.args.spans.now c.pieces.spans
     c.put_other-2.new.spans
-    c.args.in_order.now c.pieces.in_order c.put_other-2.new.in_order (Next c.pieces.at) c.put_other-2.result e
+    c.args.in_order.now c.pieces.in_order c.put_other-2.new.in_order Next c.put_other-2.result e
     c.pieces.invariant.spans
     c.pieces.invariant.in_order c.put_other-2.ensures)

@@ -18,27 +18,27 @@ words-init c = record {
 
 pub returns-then-is_last : goal.returns-then-is_last
 returns-then-is_last c = λ c' e spanned o.
-    let word : IsWord PrivateSubtag (piece_left c.words.at) = sym c.is_private.ensures ∙ c.words-test.true in
-    let end : IsEnd c.words.at =
-    last_piece c.words.at c.words.invariant.passed.past.left (c.is_last.ensures.0 c.if-is_last.true)
-    (short_private (piece_left c.words.at) word) in
-    let span : Span = block_span 255 c.args.start (c.words.at.at + c.words.at.n) false in
-    private_end c' c.args.start c.args.left c.words.at c.args.spans.now c.put.new.self o e c.requires.later
+    let word : IsWord PrivateSubtag (piece_left c.words.left) = sym c.is_private.ensures ∙ c.words-test.true in
+    let end : IsEnd c.words.left =
+    last_piece c.words.left c.words.invariant.passed.past.left (c.is_last.ensures.0 c.if-is_last.true)
+    (short_private (piece_left c.words.left) word) in
+    let span : Span = block_span 255 c.args.start (c.words.left.at + c.words.left.n) false in
+    private_end c' c.args.start c.args.left.now c.words.left c.args.spans.now c.put.new.self o e c.requires.later
     spanned c.words.invariant.passed word end
     (c.put.ensures.put c.if-not-put.false ∙ ap (λ s. held_spans s ++ span ∷ []) c.words.invariant.spans)
 
-pub next-at-requires-clause-short : goal.next-at-requires-clause-short
-next-at-requires-clause-short c =
-    short_private (piece_left c.words.at) (sym c.is_private.ensures ∙ c.words-test.true)
+pub advance-requires-clause-short : goal.advance-requires-clause-short
+advance-requires-clause-short c =
+    short_private (piece_left c.words.left) (sym c.is_private.ensures ∙ c.words-test.true)
 
 pub words-preserved : goal.words-preserved
 words-preserved c = record {
-  passed = private_next c.args.left c.words.at c.next-at.result c.words.invariant.passed
-      (sym c.is_private.ensures ∙ c.words-test.true) c.next-at.ensures;
+  passed = private_next c.args.left.now c.words.left c.advance.new.left c.words.invariant.passed
+      (sym c.is_private.ensures ∙ c.words-test.true) c.advance.ensures;
   spans = c.words.invariant.spans;
 }
 
 pub returns : goal.returns
 returns c = λ c' e spanned o.
-    private_odd c' c.args.left c.words.at c.args.spans.now c.args.spans.now o e c.words.invariant.passed
+    private_odd c' c.args.left.now c.words.left c.args.spans.now c.args.spans.now o e c.words.invariant.passed
     (sym c.is_private.ensures ∙ c.words-test.false)

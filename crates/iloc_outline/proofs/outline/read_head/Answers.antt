@@ -1,71 +1,66 @@
 -- Variants up to the end or to a block, or what is wrong.
-use Rattle.std.proofs.Common.{true, sym, ◌∙◌, subst}
-use Rattle.iloc_outline.specs.Identifier.{IsAfterFront}
-use Rattle.iloc_outline.specs.Outlines.{AreHeadRead, BeginsWithLanguage}
-use Rattle.iloc_outline.specs.Reading.{AreWordsRead}
-use Rattle.iloc_outline.specs.declared.outline.Head.TheVariants.{All, Block, Refused}
+use Rattle.std.proofs.Common.{◌≡◌, Bool, true, false, sym, ◌∙◌, subst}
+use Rattle.iloc_pieces.specs.declared.left.Left.{Left}
+use Rattle.iloc_outline.specs.Identifier.{IsAfterFront, IsFrontRead}
+use Rattle.iloc_outline.specs.Reading.{AreWordsRead, unless_end}
+use Rattle.iloc_outline.specs.declared.identifier.Front.{Front}
 use Rattle.iloc_outline.specs.declared.span.Role.TheVariants.{Variant}
-use Rattle.iloc_subtags.specs.declared.parse_error.ParseError.TheVariants.{InvalidSubtag}
-use Rattle.iloc_outline.proofs.HeadLemmas.{head_block, head_front, head_other, head_stranger, head_variants, outline_of}
+use Rattle.iloc_outline.proofs.HeadLemmas.{head_block, head_front, head_other, head_stranger, head_variants}
 use Rattle.iloc_outline.proofs.outline.read_head.Goals as goal
-use Rattle.iloc_outline.proofs.outline.read_head.Goals.{in_default-read_words-via-in-Next+else-is_single, in_default-read_words-via-in_default-read_words}
 
-pub returns-in_default : goal.returns-in_default
-returns-in_default c =
-    let e = c.left_in.ensures.rest in
-    let l = c.left_in.result in
-    subst (λ t. AreHeadRead t c.clear.new.self true (All (outline_of c.read_front-front.result))) e
-    (head_front l c.read_front-front.result c.left_in.ensures.left c.left_in.ensures.at
-    (subst BeginsWithLanguage (sym e) c.requires.begins) c.read_front-front.ensures c.clear.new.self
-    c.clear.ensures (subst (IsAfterFront l) c.in_default.is c.read_front-front.ensures.next))
+-- something follows the front
+goes_on : (l m : Left) (f : Front) → IsFrontRead l m f → f.is_all ≡ false → IsAfterFront l (unless_end false m)
+goes_on l m f h e = subst (λ (b : Bool). IsAfterFront l (unless_end b m)) e h.next
+
+pub returns-then-front : goal.returns-then-front
+returns-then-front c =
+    let l = c.args.left.now in
+    let front = c.read_front-front in
+    head_front l front.result c.requires.left c.requires.first c.requires.begins front.new.left front.ensures
+    c.clear.new.self c.clear.ensures
+    (subst (λ (b : Bool). IsAfterFront l (unless_end b front.new.left)) c.if-front.true front.ensures.next)
 
 pub returns-in-End : goal.returns-in-End
 returns-in-End c =
-    let e = c.left_in.ensures.rest in
-    let l = c.left_in.result in
-    let new = c.read_words.new in
-    subst (λ t. AreHeadRead t new.spans new.in_order (All (outline_of c.read_front-front.result))) e
-    (head_variants l c.read_front-front.result c.left_in.ensures.left c.left_in.ensures.at
-    (subst BeginsWithLanguage (sym e) c.requires.begins) c.read_front-front.ensures c.in-Some.next
-    (subst (IsAfterFront l) c.in-Some.is c.read_front-front.ensures.next) c.clear.new.self c.clear.ensures
-    new.spans new.in_order
-    (subst (AreWordsRead Variant c.in-Some.next c.clear.new.self new.spans true new.in_order) c.in-End.is
-    c.read_words.ensures))
+    let l = c.args.left.now in
+    let front = c.read_front-front in
+    let words = c.read_words in
+    head_variants l front.result c.requires.left c.requires.first c.requires.begins front.new.left
+    front.ensures (goes_on l front.new.left front.result front.ensures c.if-front.false)
+    c.clear.new.self c.clear.ensures words.new.left words.new.spans words.new.in_order
+    (subst (AreWordsRead Variant front.new.left words.new.left c.clear.new.self words.new.spans true
+    words.new.in_order) c.in-End.is words.ensures)
 
-pub returns-in-Next : goal.returns-in-Next
-returns-in-Next c =
-    let e = c.left_in.ensures.rest in
-    let l = c.left_in.result in
-    let new = c.read_words.new in
-    let f = c.read_front-front.result in
-    subst (λ t. AreHeadRead t new.spans new.in_order (Block (outline_of f) c.in-Next.next)) e
-    (head_block l c.read_front-front.result c.left_in.ensures.left c.left_in.ensures.at
-    (subst BeginsWithLanguage (sym e) c.requires.begins) c.read_front-front.ensures c.in-Some.next
-    (subst (IsAfterFront l) c.in-Some.is c.read_front-front.ensures.next) c.clear.new.self c.clear.ensures
-    c.in-Next.next new.spans new.in_order
-    (subst (AreWordsRead Variant c.in-Some.next c.clear.new.self new.spans true new.in_order) c.in-Next.is
-    c.read_words.ensures)
-    (sym c.is_single.ensures ∙ c.if-is_single.true))
+pub returns-else-not-is_single : goal.returns-else-not-is_single
+returns-else-not-is_single c =
+    let l = c.args.left.now in
+    let front = c.read_front-front in
+    let words = c.read_words in
+    head_block l front.result c.requires.left c.requires.first c.requires.begins front.new.left
+    front.ensures (goes_on l front.new.left front.result front.ensures c.if-front.false)
+    c.clear.new.self c.clear.ensures words.new.left words.new.spans words.new.in_order
+    (subst (AreWordsRead Variant front.new.left words.new.left c.clear.new.self words.new.spans true
+    words.new.in_order) c.in-Next.is words.ensures)
+    (sym c.is_single.ensures ∙ c.if-not-is_single.false)
 
-pub returns-in_default-read_words : goal.returns-in_default-read_words
-returns-in_default-read_words c =
-    let e = c.left_in.ensures.rest in
-    let l = c.left_in.result in
-    let new = c.read_words.new in
-    let word = subst BeginsWithLanguage (sym e) c.requires.begins in
-    let next = subst (IsAfterFront l) c.in-Some.is c.read_front-front.ensures.next in
-    subst (λ t. AreHeadRead t new.spans new.in_order (Refused InvalidSubtag)) e
-    (elim c.in_default-read_words.branch [
-      | in_default-read_words-via-in-Next+else-is_single w ↦
-          head_stranger l c.read_front-front.result c.left_in.ensures.left c.left_in.ensures.at word
-          c.read_front-front.ensures c.in-Some.next next c.clear.new.self c.clear.ensures w.in-Next.next
-          new.spans new.in_order
-          (subst (AreWordsRead Variant c.in-Some.next c.clear.new.self new.spans true new.in_order)
-          w.in-Next.is c.read_words.ensures)
-          (sym w.is_single.ensures ∙ w.if-is_single.false)
-      | in_default-read_words-via-in_default-read_words w ↦
-          head_other l c.read_front-front.result c.left_in.ensures.left c.left_in.ensures.at word
-          c.read_front-front.ensures c.in-Some.next next c.clear.new.self c.clear.ensures
-          new.spans new.in_order c.read_words.result c.read_words.ensures w.in_default-read_words.not-End
-          w.in_default-read_words.not-Next w.in_default-read_words.not-Full
-    ])
+pub returns-then-not-is_single : goal.returns-then-not-is_single
+returns-then-not-is_single c =
+    let l = c.args.left.now in
+    let front = c.read_front-front in
+    let words = c.read_words in
+    head_stranger l front.result c.requires.left c.requires.first c.requires.begins front.new.left
+    front.ensures (goes_on l front.new.left front.result front.ensures c.if-front.false)
+    c.clear.new.self c.clear.ensures words.new.left words.new.spans words.new.in_order
+    (subst (AreWordsRead Variant front.new.left words.new.left c.clear.new.self words.new.spans true
+    words.new.in_order) c.in-Next.is words.ensures)
+    (sym c.is_single.ensures ∙ c.if-not-is_single.true)
+
+pub returns-in-Bad : goal.returns-in-Bad
+returns-in-Bad c =
+    let l = c.args.left.now in
+    let front = c.read_front-front in
+    let words = c.read_words in
+    head_other l front.result c.requires.left c.requires.first c.requires.begins front.new.left
+    front.ensures (goes_on l front.new.left front.result front.ensures c.if-front.false)
+    c.clear.new.self c.clear.ensures words.new.left words.new.spans words.new.in_order words.result
+    words.ensures c.in-Bad.is

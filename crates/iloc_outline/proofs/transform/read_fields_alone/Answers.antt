@@ -9,19 +9,19 @@ use Rattle.iloc_outline.proofs.transform.read_fields_alone.Goals as goal
 
 pub returns-then-is_single : goal.returns-then-is_single
 returns-then-is_single c = λ c' e spanned.
-    transform_single c' c.args.start c.args.left e c.requires.alone c.args.spans.now c.args.spans.now
+    transform_single c' c.args.start c.args.left.now e c.requires.alone c.args.left.now c.args.spans.now c.args.spans.now
     c.args.in_order.now c.args.in_order.now
     (sym c.is_single.ensures ∙ c.if-is_single.true)
 
 pub at_block-requires : goal.at_block-requires
-at_block-requires c = fields_left Field c.args.left _ _ _ _ c.read_fields.result c.read_fields.ensures
+at_block-requires c = fields_left Field c.args.left.now _ _ _ _ _ c.read_fields.result c.read_fields.ensures
 
 pub returns : goal.returns
 returns c = λ c' e spanned.
-    let long : is_one_byte (piece_left c.args.left) ≡ false = sym c.is_single.ensures ∙ c.if-is_single.false in
+    let long : is_one_byte (piece_left c.args.left.now) ≡ false = sym c.is_single.ensures ∙ c.if-is_single.false in
     let put = subst (λ s. held_spans c.put.new.self ≡ held_spans c.args.spans.now ++ s ∷ []) c.singleton.ensures
     (c.put.ensures.put c.if-not-put.false) in
-    alone_read c' c.args.start c.args.left e c.requires.alone spanned long c.args.spans.now c.put.new.self
-    c.args.in_order.now put
+    alone_read c' c.args.start c.args.left.now e c.requires.alone spanned long c.args.spans.now c.put.new.self
+    c.args.in_order.now put c.read_fields.new.left
     c.read_fields.new.spans c.read_fields.new.in_order c.read_fields.result c.at_block.result
     c.read_fields.ensures c.at_block.ensures

@@ -10,7 +10,7 @@ use Rattle.iloc_outline.proofs.words.read_words.Goals.{in-Put, in-There+else-eq}
 
 pub words-init : goal.words-init
 words-init c =
-    walks_none c.args.role c.args.left c.requires.left c.requires.later c.args.spans.now c.args.in_order.now
+    walks_none c.args.role c.args.left.now c.requires.left c.requires.later c.args.spans.now c.args.in_order.now
 
 pub fits-requires : goal.fits-requires
 fits-requires c = c.words.invariant.past.left
@@ -25,7 +25,7 @@ pub overflow_cast-span-in-words : goal.overflow_cast-span-in-words
 overflow_cast-span-in-words c =
     let w = c.words.invariant in
     let short = short_kind c.args.role _ (sym c.fits.ensures ∙ c.words-test.true) in
-    omega (arith, end_within c.args.left c.words.at w.words w.past short, c.requires.few)
+    omega (arith, end_within c.args.left.now c.words.left w.words w.past short, c.requires.few)
 
 pub put_from-requires : goal.put_from-requires
 put_from-requires c = gathers_from _ _ _ _ _ _ _ c.words.invariant.gathers
@@ -54,8 +54,8 @@ returns-then-is_last c =
     walks_end _ _ _ _ _ _ _ _ c.words.invariant c.requires.role word c.put_from.new.spans _ _ _
     c.word_number.ensures c.put_from.result c.put_from.ensures may (c.is_last.ensures.0 c.if-is_last.true)
 
-pub next-at-requires-clause-short : goal.next-at-requires-clause-short
-next-at-requires-clause-short c = short_kind c.args.role _ (sym c.fits.ensures ∙ c.words-test.true)
+pub advance-requires-clause-short : goal.advance-requires-clause-short
+advance-requires-clause-short c = short_kind c.args.role _ (sym c.fits.ensures ∙ c.words-test.true)
 
 pub words-preserved : goal.words-preserved
 words-preserved c =
@@ -65,7 +65,7 @@ words-preserved c =
       | in-There+else-eq b ↦ inr (b.in-There.is, same_false the_type _ _ (sym b.eq.ensures ∙ b.if-eq.false))
     ] in
     walks_more _ _ _ _ _ _ _ _ c.words.invariant c.requires.role word c.put_from.new.spans _ _ _
-    c.word_number.ensures c.put_from.result c.put_from.ensures may c.next-at.result c.next-at.ensures
+    c.word_number.ensures c.put_from.result c.put_from.ensures may c.advance.new.left c.advance.ensures
 
 pub returns : goal.returns
 returns c =

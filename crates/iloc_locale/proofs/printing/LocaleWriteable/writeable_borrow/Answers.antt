@@ -1,22 +1,20 @@
 use Rattle.std.proofs.Common.{◌≡◌, List, ℕ, IfSome, sym, ◌∙◌, subst, true≢false}
 use Rattle.iloc_langid.specs.Reads as langid
 use Rattle.iloc_locale.specs.ExtensionsValue as extensions
-use Rattle.iloc_locale.specs.LocaleReading.{value_of}
-use Rattle.iloc_locale.proofs.AloneLemmas.{text_alone, none_beside, alone_in_identifier, means_by_language}
+use Rattle.iloc_locale.proofs.AloneLemmas.{text_alone}
 use Rattle.iloc_locale.proofs.printing.LocaleWriteable.writeable_borrow.Goals as goal
 
 pub returns-then-not-is_empty-clause-lends : goal.returns-then-not-is_empty-clause-lends
 returns-then-not-is_empty-clause-lends c = (
   λ s. absurd (true≢false (sym s)),
-  λ m. absurd (true≢false (sym (c.is_empty.ensures.1 (none_beside (value_of c.args.self.now) m)) ∙ c.if-not-is_empty.true)),
+  λ l. absurd (true≢false (sym (c.is_empty.ensures.1 l.1) ∙ c.if-not-is_empty.true)),
 )
 
 pub returns-clause-lends : goal.returns-clause-lends
-returns-clause-lends c =
-    let M = value_of c.args.self.now in (
-      λ s. means_by_language M (c.writeable_borrow.ensures.normal s) (c.is_empty.ensures.0 c.if-not-is_empty.false) (c.writeable_borrow.ensures.lends.0 s),
-      λ m. c.writeable_borrow.ensures.lends.1 (alone_in_identifier M m),
-    )
+returns-clause-lends c = (
+  λ s. (c.writeable_borrow.ensures.lends.0 s, c.is_empty.ensures.0 c.if-not-is_empty.false),
+  λ l. c.writeable_borrow.ensures.lends.1 l.0,
+)
 
 pub returns-clause-text : goal.returns-clause-text
 returns-clause-text c = subst (λ (x : List ℕ). IfSome c.writeable_borrow.result (λ t. t.now ≡ x)) (sym (text_alone (langid.value_of c.args.self.now.id) (extensions.value_of c.args.self.now.extensions) (c.is_empty.ensures.0 c.if-not-is_empty.false))) c.writeable_borrow.ensures.text

@@ -1,0 +1,134 @@
+"""The public functions and implementations without a mutant: tools/edits --missing.
+
+It looks at the crates on which the public crate, the library for C, the module for browsers and the program stand, and
+at these. There each `pub fn`, each default method of a trait, and each `impl` of a trait for a public type or a parameter
+needs a mutant: a file of edits/ that changes a text of its body. None is asked for an empty body, nor for a law, which
+takes and returns nothing; a derived implementation has no text.
+
+A line of tools/no_mutants.txt is what has none, as it is printed here, then `|`, and the reason. In it `*` stands for any
+text. A line that fits nothing without a mutant is a fault. This file needs nothing but Python."""
+import os
+import re
+
+from common import ROOT, below, counted, crates_of
+from edit_places import closing, functions, parameters
+
+LIST = f"{ROOT}/tools/no_mutants.txt"
+TOPS = ("icu_locale_core", "icu_locale_c", "locale_web", "locale_normal")
+# A character, a string, or a comment.
+UNREAD = re.compile(rb"""'(?:\\[^\n]|[^'\\\n])'|"(?:\\.|[^"\\])*"|//[^\n]*""", re.S)
+TYPE = re.compile(rb"^pub (?:struct|enum|type) (\w+)", re.M)
+IMPL = re.compile(rb"^(?:unsafe )?impl\b[^{;]*\{", re.M)
+PUBLIC = re.compile(rb"\bpub (?:const |unsafe |final )*\Z")
+LAW = re.compile(rb"fn \w+(?:<[^>]*>)?\(\)\s*(?:ensures|\{)")
+
+
+def read(path):
+    with open(path, "rb") as it:
+        return it.read()
+
+
+def without_texts(source):
+    """Returns the source with blanks in place of its comments, strings and characters."""
+    return UNREAD.sub(lambda found: re.sub(rb"[^\n]", b" ", found[0]), source)
+
+
+def sources(crate):
+    """Returns the sources of the crate, by their paths in it."""
+    folder = f"{ROOT}/crates/{crate}"
+    walked = [f"{at}/{it}" for at, _, names in os.walk(f"{folder}/src") for it in names if it.endswith(".rt")]
+    return {os.path.relpath(it, folder): read(it) for it in sorted(walked)}
+
+
+def edits_of(crate):
+    """Yields the text of each mutant of the crate."""
+    for folder in (f"{ROOT}/crates/{crate}/{part}" for part in ("edits", "must-fail")):
+        for name in sorted(os.listdir(folder)) if os.path.isdir(folder) else ():
+            if name.endswith(".edit"):
+                yield read(f"{folder}/{name}")
+
+
+def places(text, texts):
+    """Yields where a mutant changes the sources, as (file, place): behind what the old text and the new one share. What an
+    earlier pair of lines replaced is found by no later one."""
+    texts, file, old = dict(texts), "", b""
+    for line in text.split(b"\n"):
+        key, _, rest = line.partition(b": ")
+        if key == b"file":
+            file = rest.strip().decode()
+        elif key == b"old":
+            old = rest
+        elif line[:4] == b"new:" and old and old in texts.get(file, b""):
+            at = texts[file].find(old)
+            yield file, at + len(os.path.commonprefix([old, line[5:]]))
+            texts[file] = texts[file].replace(old, b"\0" * len(old), 1)
+
+
+def in_one_line(head):
+    """Returns the head of an impl or a trait without what stands behind `where`."""
+    return " ".join(re.sub(r"\bwhere\b.*", "", head, flags=re.S).split()).rstrip(" {")
+
+
+def is_for_public(head, types):
+    """Returns whether the head is that of a trait for a public type or for a parameter."""
+    given, rest = parameters(head.partition("impl")[2].strip())
+    trait, _, own = rest.rpartition(" for ")
+    names = re.findall(r"[A-Z]\w*", own)
+    return bool(trait) and (not names or names[0] in given or names[0].encode() in types)
+
+
+def wanted(source, types):
+    """Yields the name of each thing that needs a mutant, with the ranges of its bodies."""
+    bare = without_texts(source)
+    every = [it for it in functions(bare) if bare[it[1] : it[2]].strip(b"{} \n") and not LAW.match(bare, it[0])]
+    for start, body, end, name, owner in every:
+        if owner[:5] == "trait" or PUBLIC.search(bare, 0, start):
+            yield f"{in_one_line(owner)}::{name}" if owner else name, [(body, end)]
+    for found in IMPL.finditer(bare):
+        last, head = closing(bare, found.end() - 1), in_one_line(found[0].decode())
+        inner = [(body, end) for start, body, end, _, _ in every if found.start() < start < last]
+        if inner and is_for_public(head, types):
+            yield head, inner
+
+
+def missing():
+    """Returns what has no mutant, and how many things have one."""
+    lines, crates, found, count = crates_of(f"{ROOT}/crates.txt"), [], [], 0
+    for top in TOPS:
+        below(top, lines, crates)
+    every = {it: sources(it) for it in crates}
+    types = {it for texts in every.values() for text in texts.values() for it in TYPE.findall(text)}
+    for crate, texts in every.items():
+        changed = {at for edit in edits_of(crate) for at in places(edit, texts)}
+        for file, source in texts.items():
+            there = [place for path, place in changed if path == file]
+            for name, bodies in wanted(source, types):
+                has_one = any(body < it < end for body, end in bodies for it in there)
+                count += has_one
+                found += [] if has_one else [f"{crate}/{file} {name}"]
+    return found, count
+
+
+def fits(form, name):
+    """Returns whether the line of the list means this."""
+    return re.fullmatch(".*".join(map(re.escape, form.split("*"))), name) is not None
+
+
+def faults():
+    """Returns what has no mutant and no reason, and the lines of the list that are wrong; and how many things are right."""
+    found, count = missing()
+    rows = [line.split("|", 1) for line in read(LIST).decode().splitlines() if line.strip() and line[0] != "#"]
+    forms = [row[0].strip() for row in rows]
+    wrong = [f"{it}: HAS NO MUTANT" for it in found if not any(fits(form, it) for form in forms)]
+    count += len(found) - len(wrong)
+    for form, *reason in rows:
+        if not any(reason) or not any(fits(form.strip(), it) for it in found):
+            wrong.append(f"tools/no_mutants.txt: {form.strip()}: all that it means has a mutant, or it gives no reason")
+    return wrong, count
+
+
+def say_faults():
+    """Prints what is wrong, and returns the status of the script."""
+    wrong, count = faults()
+    print("\n".join(wrong), end="\n" * bool(wrong))
+    return counted(count, len(wrong))

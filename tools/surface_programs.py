@@ -1,0 +1,106 @@
+"""The programs of tools/benchmark --surface, made of the table of calls: one in Rust, and several in Rattle.
+
+Both read calls from standard input, so no compiler knows what they are given: how many there are, and then of each
+its name, how many rounds it makes, and eight texts. For each they write its name and the sum of its answers."""
+import re
+
+from common import ROOT
+from surface_call import CALLS
+
+# (each adds its calls to the table)
+import surface_keywords
+import surface_lists
+import surface_locales
+import surface_parts
+import surface_words
+
+# (one program of all calls is too large for clang)
+PROGRAMS = 8
+# The calls of one `match`, so that none grows large.
+GROUP = 40
+
+
+def in_language(code, is_rattle):
+    """Returns the code of a call with its marks replaced."""
+    marks = (
+        (r"KEYWORDS\((\w+)\)", keywords),
+        (r"SINK", lambda it: "let mut out = String::with_capacity(~256)^;"),
+        (r"PRINTED", lambda it: f"let w = [{four('v[{}].write_to_string([[R: alloc |C: ]])^')}];"),
+        (r"FOUR\(([\w:]+), ([ab])\)", lambda it: f"[{four(f'{it[1]}(~t.{it[2]}[{{}}])?')}]"),
+        (r"FOURN\(([\w:]+), ([ab])\)", lambda it: f"[{four(f'{it[1]}(t.{it[2]}[{{}}])?')}]"),
+        (r"KEEP\((\w+)\)", lambda it: it[1] if is_rattle else f"black_box(&{it[1]})"),
+    )
+    for mark, new in marks:
+        code = re.sub(mark, new, code)
+    if is_rattle:
+        code = code.replace("c == &v[j]", "c == v[j]")
+    either = lambda it: it[1] if is_rattle else it[2]
+    code = re.sub(r"\[\[R: (.*?) ?\|C: (.*?)\]\](?!\])", either, code, flags=re.S)
+    return code.replace("~", "alloc, " if is_rattle else "").replace("^", "?" if is_rattle else "")
+
+
+def four(code):
+    return ", ".join(code.format(at) for at in range(4))
+
+
+def keywords(found):
+    kind = f"match {found[1]}::try_from(&r[{{}}]) {{{{ Ok(k) => k, Err(_) => return Err(ParseError::InvalidSubtag) }}}}"
+    return f"let r = FOUR(unicode::Value::try_from_str, a); let v = [{four(kind)}];"
+
+
+def function(call, is_rattle):
+    """Returns the function of a call. A number of its own keeps compilers from merging two functions."""
+    own = 1000003 * (1 + CALLS.index(call))
+    alloc = "alloc: Global, " if is_rattle else ""
+    return f"""
+#[inline(never)]
+fn b_{call.name.lower()}({alloc}rounds: u32, t: &Texts<'_>) -> Result<usize, ParseError> {{
+    {in_language(call.before, is_rattle)}
+    let mut sum = {own}usize;
+    for round in 0..rounds {{
+        let i = (round % 4) as usize;
+        let j = (round / 4 % 4) as usize;
+        sum = sum.wrapping_add({in_language(call.body, is_rattle)});
+    }}
+    Ok(sum)
+}}
+"""
+
+
+def chosen(at, group, is_last, is_rattle):
+    """Returns the function that makes one call of a group, or asks the next group."""
+    alloc, given = ("alloc: Global, ", "alloc, ") if is_rattle else ("", "")
+    arms = "\n".join(f'        "{it.name}" => b_{it.name.lower()}({given}rounds, t),' for it in group)
+    rest = "Err(ParseError::InvalidLanguage)" if is_last else f"call_{at + 1}({given}call, rounds, t)"
+    return f"""
+fn call_{at}({alloc}call: &str, rounds: u32, t: &Texts<'_>) -> Result<usize, ParseError> {{
+    match call {{
+{arms}
+        _ => {rest},
+    }}
+}}
+"""
+
+
+def program(calls, is_rattle):
+    """Returns the source of a program of these calls."""
+    with open(f"{ROOT}/tools/surface_{'rattle' if is_rattle else 'rust'}.txt", encoding="utf-8") as it:
+        text = it.read()
+    groups = [calls[at : at + GROUP] for at in range(0, len(calls), GROUP)]
+    parts = [function(it, is_rattle) for it in calls]
+    parts += [chosen(at, it, at + 1 == len(groups), is_rattle) for at, it in enumerate(groups)]
+    return text.replace("@CALLS@", "".join(parts))
+
+
+def parts_of_calls():
+    """Returns the calls of each Rattle program."""
+    size = -(-len(CALLS) // PROGRAMS)
+    return [CALLS[at : at + size] for at in range(0, len(CALLS), size)]
+
+
+def questions(calls, rounds):
+    """Returns what a program reads to make these calls."""
+    lines = [str(len(calls))]
+    for call in calls:
+        lines += [call.name, str(rounds), *call.texts, *call.others]
+    return "\n".join(lines) + "\n"
