@@ -1,5 +1,6 @@
-// node browse.mjs BROWSER PAGE [PICTURES]: opens the page in headless chromium or firefox-esr, uses it, and prints what was
-// not as wanted, and figures. Chromium by the DevTools protocol, Firefox by WebDriver BiDi, both on loopback.
+// node browse.mjs BROWSER PAGE [PICTURES]: opens the page in chromium, firefox-esr or WebKitGTK's small browser, headless, uses
+// it, and prints what was not as wanted, and figures. Chromium by the DevTools protocol, Firefox by WebDriver BiDi, WebKit by
+// WebDriver, all on loopback.
 import { spawn } from 'node:child_process';
 import { mkdtempSync, readFileSync, rmSync, writeFileSync } from 'node:fs';
 import { tmpdir } from 'node:os';
@@ -67,15 +68,51 @@ async function firefox() {
   };
 }
 
-const it = await { chromium, firefox }[browser]();
+// WebKitGTK, which draws to a screen that nobody sees.
+async function webkit() {
+  const port = 20000 + (process.pid % 20000), display = `:${100 + (process.pid % 900)}`;
+  const screen = spawn('Xvfb', [display, '-screen', '0', '1280x1400x24'], { stdio: 'ignore' });
+  const child = spawn('WebKitWebDriver', [`--port=${port}`], { stdio: 'ignore', env: { ...process.env, DISPLAY: display } });
+  const ask = async (method, path, body) => {
+    const { value } = await (await fetch(`http://127.0.0.1:${port}${path}`, { method, body: JSON.stringify(body) })).json();
+    if (value?.error) throw new Error(value.message);
+    return value;
+  };
+  const { sessionId, capabilities } = await tried(() => ask('POST', '/session', { capabilities: {} }));
+  const call = (path, body) => ask('POST', `/session/${sessionId}/${path}`, body);
+  await call('timeouts', { script: 240000 });
+  return {
+    child,
+    close: async () => { await ask('DELETE', `/session/${sessionId}`); screen.kill(); },
+    name: `WebKit ${capabilities.browserVersion}`,
+    open: () => call('url', { url }),
+    run: async expression => {
+      const script = `const done = arguments[0]; Promise.resolve(${expression}).then(it => done(JSON.stringify(it)), error => done(JSON.stringify([String(error)])))`;
+      const it = await call('execute/async', { script, args: [] });
+      return typeof it === 'string' ? JSON.parse(it) : undefined;
+    },
+    size: null, // (its window has a bar of buttons, which is wider than 360 pixels)
+    scheme: null,
+    press: key => call('actions', { actions: [{ type: 'key', id: 'keys', actions: ['keyDown', 'keyUp'].map(type => ({ type, value: { Tab: '\uE004', Enter: '\uE007' }[key] })) }] }),
+    picture: () => ask('GET', `/session/${sessionId}/screenshot`),
+  };
+}
+
+const it = await { chromium, firefox, webkit }[browser]();
 const failed = [];
 const opened = async () => {
   await it.open();
   for (let i = 0; i < 100 && !(await it.run('window.isReady === true')); i++) await wait(100);
 };
 const see = (name, isSo, got) => { if (!isSo) failed.push(`${name}: ${JSON.stringify(got)}`); };
+async function seeSmall() {
+  await it.size(360, 780);
+  const [whole, seen] = await it.run('[document.documentElement.scrollWidth, innerWidth]');
+  see('360 pixels wide', whole <= 360 && seen === 360, [whole, seen]);
+  if (pictures) writeFileSync(`${pictures}/${browser}_small.png`, await it.picture(), 'base64');
+}
 try {
-  await it.size(1000, 1250);
+  await it.size?.(1000, 1250);
   await opened();
   const narrow = await it.run('document.querySelector("#form-of-module").innerText !== ""');
   // by keys alone: from the text past the modes, Copy and the link to the first example
@@ -95,17 +132,14 @@ try {
       if (pictures) writeFileSync(`${pictures}/${browser}_${scheme}_${text.length > 20 ? 'normal' : 'refused'}.png`, await it.picture(), 'base64');
     }
   }
-  await it.size(360, 780);
-  const [whole, seen] = await it.run('[document.documentElement.scrollWidth, innerWidth]');
-  see('360 pixels wide', whole <= 360 && seen === 360, [whole, seen]);
-  if (pictures) writeFileSync(`${pictures}/${browser}_small.png`, await it.picture(), 'base64');
-  await it.size(1000, 1250);
+  if (it.size) await seeSmall();
+  await it.size?.(1000, 1250);
   await opened();
   const used = await it.run(USE);
   failed.push(...used.failed);
   console.log(`${it.name}, ${narrow ? 'narrow' : 'wide'}: ${JSON.stringify(used.figures)}`);
 } finally {
-  it.close();
+  await it.close();
   it.child.kill();
   await wait(500);
   rmSync(folder, { recursive: true, force: true, maxRetries: 5 });

@@ -89,7 +89,7 @@ async function usePage() {
     clearInterval(watch);
     Object.assign(figures, { lines: 1000000, bytes: file.size, milliseconds: Math.round(performance.now() - start), longest: Math.round(longest) });
     see('a million lines', said('#counts').startsWith('1,000,000 lines as a locale: 750,000 good, 250,000 refused; in '), true);
-    see('awake', longest < 500, true);
+    see('awake', longest < 1000, true);
     let saved = null;
     const { createObjectURL } = URL, { click } = HTMLAnchorElement.prototype;
     URL.createObjectURL = it => { saved = it; return createObjectURL(it); };

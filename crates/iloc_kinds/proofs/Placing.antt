@@ -31,7 +31,8 @@ stands t front p rest at a e =
     let size : at + length p - at ≡ length p = omega arith in (
       omega arith,
       omega arith,
-      (λ j. take (size j) (drop at (e j))) ∙ ap (take (length p)) (drop_at front (p ++ rest) at (sym a)) ∙ take_at p rest (length p) refl,
+      (λ j. take (size j) (drop at (e j))) ∙ ap (take (length p)) (drop_at front (p ++ rest) at (sym a))
+          ∙ take_at p rest (length p) refl,
     )
 
 placed_from : (t front : Text) (ps : List Part) (at : ℕ) → at ≡ length front → t ≡ front ++ join (words_of ps)
@@ -43,14 +44,24 @@ placed_from t front (w ∷ []) at a e =
 placed_from t front (w ∷ (v ∷ ps)) at a e =
     let rest = join (words_of (v ∷ ps)) in
     let whole : t ≡ front ++ (w.1 ++ 45 ∷ rest) =
-    e ∙ ap (λ l. front ++ l) (join-dashes w.1 (words_of (v ∷ ps)) ∙ ap (λ l. w.1 ++ 45 ∷ l) (sym (join-dashes v.1 (words_of ps)))) in
+    e ∙ ap (λ l. front ++ l) (join-dashes w.1 (words_of (v ∷ ps))
+    ∙ ap (λ l. w.1 ++ 45 ∷ l) (sym (join-dashes v.1 (words_of ps)))) in
     let s = stands t front w.1 (45 ∷ rest) at a whole in
     let before = front ++ (w.1 ++ 45 ∷ []) in
-    let long : at + length w.1 + 1 ≡ length before = omega (arith, a, length-append front (w.1 ++ 45 ∷ []), length-append w.1 (45 ∷ [])) in
+    let long : at + length w.1 + 1 ≡ length before = omega (
+      arith,
+      a,
+      length-append front (w.1 ++ 45 ∷ []),
+      length-append w.1 (45 ∷ []),
+    ) in
     let cut : t ≡ before ++ rest =
-    whole ∙ ap (λ l. front ++ l) (sym (append_assoc w.1 (45 ∷ []) rest)) ∙ sym (append_assoc front (w.1 ++ 45 ∷ []) rest) in
+    whole ∙ ap (λ l. front ++ l) (sym (append_assoc w.1 (45 ∷ []) rest))
+    ∙ sym (append_assoc front (w.1 ++ 45 ∷ []) rest) in
     (s.0, s.1, s.2, refl, placed_from t before (v ∷ ps) (at + length w.1 + 1) long cut)
 
 pub placed : (M : Locale) (t : Text) → IsTextOf M t → ArePlaced t (rows_of (parts_of M)) (parts_of M)
 unfolding rows_of
 placed M t h = placed_from t [] (parts_of M) 0 refl (sym (joined M t h))
+
+-- the laws of the parts of a normal text
+pub ruleset part_laws = (joined, words, placed)

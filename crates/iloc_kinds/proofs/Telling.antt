@@ -83,9 +83,12 @@ record TakesWords (s : State) : Type 0 where
 
 head_takes : TakesWords states.Head
 head_takes = record {
-  script = λ p h. in_part states.Head p (let n = length-script p h in omega arith) ∙ ap (λ k. (k, states.Head)) (script_is p h);
-  region = λ p h. in_part states.Head p (let n = length-region p h in omega arith) ∙ ap (λ k. (k, states.Head)) (region_is p h);
-  variant = λ p h. in_part states.Head p (let n = length-variant p h in omega arith) ∙ ap (λ k. (k, states.Head)) (variant_is p h);
+  script = λ p h. in_part states.Head p (let n = length-script p h in omega arith)
+      ∙ ap (λ k. (k, states.Head)) (script_is p h);
+  region = λ p h. in_part states.Head p (let n = length-region p h in omega arith)
+      ∙ ap (λ k. (k, states.Head)) (region_is p h);
+  variant = λ p h. in_part states.Head p (let n = length-variant p h in omega arith)
+      ∙ ap (λ k. (k, states.Head)) (variant_is p h);
 }
 
 no_key : (p : Text) → length p ≢ 2 → is_word TransformKey p ≡ false
@@ -96,16 +99,23 @@ unfolding is_word languages
 en_is = refl
 
 region_no_key : (p : Text) → IsWord Region p → is_word TransformKey p ≡ false
-region_no_key p h = (identifier_no_key {T = languages} (record { language = codes "en"; script = None; region = Some p; variants = [] }) (record { language = en_is; script = tt; region = h; variants = tt })).1.0
+region_no_key p h =
+    let i : Identifier = record { language = codes "en"; script = None; region = Some p; variants = [] } in
+    let words : HasWords languages i = record { language = en_is; script = tt; region = h; variants = tt } in
+    (identifier_no_key {T = languages} i words).1.0
 
-in_source : (p : Text) → 2 ≤ length p → is_word TransformKey p ≡ false → step states.Source p ≡ (word_kind p, states.Source)
+in_source : (p : Text) → 2 ≤ length p → is_word TransformKey p ≡ false
+    → step states.Source p ≡ (word_kind p, states.Source)
 in_source p h n = in_part states.Source p h ∙ rw n refl
 
 source_takes : TakesWords states.Source
 source_takes = record {
-  script = λ p h. let n = length-script p h in in_source p (omega arith) (no_key p (omega arith)) ∙ ap (λ k. (k, states.Source)) (script_is p h);
-  region = λ p h. let n = length-region p h in in_source p (omega arith) (region_no_key p h) ∙ ap (λ k. (k, states.Source)) (region_is p h);
-  variant = λ p h. let n = length-variant p h in in_source p (omega arith) (no_key p (omega arith)) ∙ ap (λ k. (k, states.Source)) (variant_is p h);
+  script = λ p h. let n = length-script p h in in_source p (omega arith) (no_key p (omega arith))
+      ∙ ap (λ k. (k, states.Source)) (script_is p h);
+  region = λ p h. let n = length-region p h in in_source p (omega arith) (region_no_key p h)
+      ∙ ap (λ k. (k, states.Source)) (region_is p h);
+  variant = λ p h. let n = length-variant p h in in_source p (omega arith) (no_key p (omega arith))
+      ∙ ap (λ k. (k, states.Source)) (variant_is p h);
 }
 
 -- keys, and what follows them
@@ -151,17 +161,20 @@ value_in_keywords p h =
     let k = no_unicode_key p (omega arith) in
     in_part states.Keywords p (omega arith) ∙ rw k refl
 
-attribute_in : (p : Text) → IsWord Attribute p → step states.Attributes p ≡ (kinds.Attribute, states.Attributes)
+attribute_in : (p : Text) → IsWord Attribute p
+    → step states.Attributes p ≡ (kinds.Attribute, states.Attributes)
 attribute_in p h =
     let n = length-attribute p h in
     let k = no_unicode_key p (omega arith) in
     in_part states.Attributes p (omega arith) ∙ rw k refl
 
 -- a language, first or after `t`
-language_in_start : (p : Text) → IsWord (Language languages) p → step states.Start p ≡ (kinds.Language, states.Head)
+language_in_start : (p : Text) → IsWord (Language languages) p
+    → step states.Start p ≡ (kinds.Language, states.Head)
 language_in_start p h = in_part states.Start p (long_language p h)
 
-language_in_transform : (p : Text) → IsWord (Language languages) p → step states.Transform p ≡ (kinds.Language, states.Source)
+language_in_transform : (p : Text) → IsWord (Language languages) p
+    → step states.Transform p ≡ (kinds.Language, states.Source)
 language_in_transform p h =
     let k = language_no_key languages p h in
     in_part states.Transform p (long_language p h) ∙ rw k refl
@@ -190,7 +203,8 @@ pub record AreTold (s : State) (ps : List Text) (parts : List Part) : Type 0 whe
 nothing_told : (s : State) → is_open s ≡ true → AreTold s [] []
 nothing_told s o = record { each = λ qs begins. begins s o; words = tt }
 
-one_told : {s next : State} {k : Kind} {ps : List Text} {parts : List Part} (p : Text) → step s p ≡ (k, next) → IsOfKind (k, p)
+one_told : {s next : State} {k : Kind} {ps : List Text} {parts : List Part} (p : Text) → step s p ≡ (k, next)
+    → IsOfKind (k, p)
     → AreTold next ps parts → AreTold s (p ∷ ps) ((k, p) ∷ parts)
 one_told {k = k} {ps = ps} p is word h = record {
   each = λ qs begins. ap (λ w. (w.0, p) ∷ told w.1 (ps ++ qs)) is ∙ ap (λ ws. (k, p) ∷ ws) (h.each qs begins);
@@ -215,8 +229,10 @@ optional_told s k K b is None h rest = rest
 optional_told s k K b is (Some w) h rest = one_told w (is w h) (b w h) rest
 
 -- the same of equal lists
-told_as : {s : State} {ps qs : List Text} {xs ys : List Part} → ps ≡ qs → xs ≡ ys → AreTold s ps xs → AreTold s qs ys
-told_as {s} {ps} {qs} {xs} {ys} e f h = subst (λ (l : List Text). AreTold s l ys) e (subst (λ (l : List Part). AreTold s ps l) f h)
+told_as : {s : State} {ps qs : List Text} {xs ys : List Part} → ps ≡ qs → xs ≡ ys → AreTold s ps xs
+    → AreTold s qs ys
+told_as {s} {ps} {qs} {xs} {ys} e f h = subst (λ (l : List Text). AreTold s l ys) e
+    (subst (λ (l : List Part). AreTold s ps l) f h)
 
 three : {X : Type 0} (a b c d : List X) → a ++ (b ++ (c ++ d)) ≡ (a ++ (b ++ c)) ++ d
 three a b c d = sym (append_assoc a (b ++ c) d ∙ ap (λ l. a ++ l) (append_assoc b c d))
@@ -225,16 +241,19 @@ three a b c d = sym (append_assoc a (b ++ c) d ∙ ap (λ l. a ++ l) (append_ass
 after_language_told : {s : State} → TakesWords s → (i : Identifier) → HasWords languages i
     → {ps : List Text} {parts : List Part} → AreTold s ps parts
     → AreTold s ((option_to_list i.script ++ (option_to_list i.region ++ i.variants)) ++ ps)
-    ((of_kind kinds.Script (option_to_list i.script) ++ (of_kind kinds.Region (option_to_list i.region) ++ of_kind kinds.Variant i.variants)) ++ parts)
+    ((of_kind kinds.Script (option_to_list i.script)
+    ++ (of_kind kinds.Region (option_to_list i.region) ++ of_kind kinds.Variant i.variants)) ++ parts)
 after_language_told {s} takes i h {ps} {parts} rest =
     told_as (three (option_to_list i.script) (option_to_list i.region) i.variants ps)
-    (three (of_kind kinds.Script (option_to_list i.script)) (of_kind kinds.Region (option_to_list i.region)) (of_kind kinds.Variant i.variants) parts)
+    (three (of_kind kinds.Script (option_to_list i.script)) (of_kind kinds.Region (option_to_list i.region))
+    (of_kind kinds.Variant i.variants) parts)
     (optional_told s kinds.Script Script (λ p h. h) takes.script i.script h.script
     (optional_told s kinds.Region Region (λ p h. h) takes.region i.region h.region
     (each_told s kinds.Variant Variant (λ p h. h) takes.variant i.variants h.variants rest)))
 
 -- an identifier, in front or after `t`
-identifier_told : {first s : State} → ((p : Text) → IsWord (Language languages) p → step first p ≡ (kinds.Language, s)) → TakesWords s
+identifier_told : {first s : State}
+    → ((p : Text) → IsWord (Language languages) p → step first p ≡ (kinds.Language, s)) → TakesWords s
     → (i : Identifier) → HasWords languages i
     → {ps : List Text} {parts : List Part} → AreTold s ps parts
     → AreTold first (identifier_pieces i ++ ps) (identifier_parts i ++ parts)
@@ -242,13 +261,16 @@ identifier_told is takes i h rest =
     one_told i.language (is i.language h.language) h.language
     (after_language_told takes i h rest)
 
--- fields: the first key comes in one state, and each other in another
-module _ (s : State) (k : Kind) (K : words.Kind) (b : (p : Text) → IsWord K p → IsOfKind (k, p)) (o : is_open s ≡ true) (key : (p : Text) → IsWord K p → step s p ≡ (k, s)) (value : (p : Text) → IsWord Attribute p → step s p ≡ (kinds.Value, s)) where
-  abbrev pub AreFields : Fields → Type 0
-  AreFields fs = AllByRecursion (λ f. IsWord K f.0 × AllByRecursion (IsWord Attribute) f.1) fs
+-- each key is a word of the kind, and each value one of three bytes or more
+abbrev AreFields : words.Kind → Fields → Type 0
+AreFields K fs = AllByRecursion (λ f. IsWord K f.0 × AllByRecursion (IsWord Attribute) f.1) fs
 
+-- fields: the first key comes in one state, and each other in another
+module _ (s : State) (k : Kind) (K : words.Kind) (b : (p : Text) → IsWord K p → IsOfKind (k, p))
+    (o : is_open s ≡ true) (key : (p : Text) → IsWord K p → step s p ≡ (k, s))
+    (value : (p : Text) → IsWord Attribute p → step s p ≡ (kinds.Value, s)) where
   fields_told : (first : State) → is_open first ≡ true → ((p : Text) → IsWord K p → step first p ≡ (k, s))
-      → (fs : Fields) → AreFields fs → AreTold first (fields_pieces fs) (fields_parts k fs)
+      → (fs : Fields) → AreFields K fs → AreTold first (fields_pieces fs) (fields_parts k fs)
   fields_told first i is [] h = nothing_told first i
   fields_told first i is (f ∷ fs) h =
       one_told f.0 (is f.0 h.0.0) (b f.0 h.0.0)
@@ -256,21 +278,26 @@ module _ (s : State) (k : Kind) (K : words.Kind) (b : (p : Text) → IsWord K p 
 
 -- what follows `u`
 unicode_told : (u : Unicode) → AllByRecursion (IsWord Attribute) u.attributes
-    → AllByRecursion (λ f. IsWord UnicodeKey f.0 × AllByRecursion (IsWord Attribute) f.1) u.keywords
-    → AreTold states.Attributes (unicode_pieces u) (of_kind kinds.Attribute u.attributes ++ fields_parts kinds.Key u.keywords)
+    → AreFields UnicodeKey u.keywords
+    → AreTold states.Attributes (unicode_pieces u) (of_kind kinds.Attribute u.attributes
+    ++ fields_parts kinds.Key u.keywords)
 unicode_told u h f =
     each_told states.Attributes kinds.Attribute Attribute (λ p h. h) attribute_in u.attributes h
-    (fields_told states.Keywords kinds.Key UnicodeKey (λ p h. h) refl key_in_keywords value_in_keywords states.Attributes refl key_in_attributes u.keywords f)
+    (fields_told states.Keywords kinds.Key UnicodeKey (λ p h. h) refl key_in_keywords value_in_keywords
+    states.Attributes refl key_in_attributes u.keywords f)
 
 -- what follows `t`
 transform_told : (o : Option Identifier) (fs : Fields) → IfSome o (HasWords languages)
-    → AllByRecursion (λ f. IsWord TransformKey f.0 × AllByRecursion (IsWord Attribute) f.1) fs
-    → AreTold states.Transform (optional_pieces o ++ fields_pieces fs) (optional_parts o ++ fields_parts kinds.Field fs)
+    → AreFields TransformKey fs
+    → AreTold states.Transform (optional_pieces o ++ fields_pieces fs)
+    (optional_parts o ++ fields_parts kinds.Field fs)
 transform_told None fs h f =
-    fields_told states.Fields kinds.Field TransformKey (λ p h. h) refl field_in_fields value_in_fields states.Transform refl field_in_transform fs f
+    fields_told states.Fields kinds.Field TransformKey (λ p h. h) refl field_in_fields value_in_fields
+    states.Transform refl field_in_transform fs f
 transform_told (Some i) fs h f =
     identifier_told language_in_transform source_takes i h
-    (fields_told states.Fields kinds.Field TransformKey (λ p h. h) refl field_in_fields value_in_fields states.Source refl field_in_source fs f)
+    (fields_told states.Fields kinds.Field TransformKey (λ p h. h) refl field_in_fields value_in_fields
+    states.Source refl field_in_source fs f)
 
 -- ---- the parts that follow the identifier
 
@@ -292,8 +319,10 @@ unfolding is_word
 byte_word c h = rw h refl
 
 -- a part with its singleton, and what follows it
-module _ (c : ℕ) (s : State) (is : begun (to_ascii_lowercase c) ≡ s) (byte : is_ascii_alphanumeric c ≡ true) {es : List Text} {q : List Part} (r : AreRest es q) where
-  some_told : (ps : List Text) → AreTold s ps (told s ps) → AreRest (printed_pieces (c, ps) ++ es) (block_parts c (told s ps) ++ q)
+module _ (c : ℕ) (s : State) (is : begun (to_ascii_lowercase c) ≡ s)
+    (byte : is_ascii_alphanumeric c ≡ true) {es : List Text} {q : List Part} (r : AreRest es q) where
+  some_told : (ps : List Text) → AreTold s ps (told s ps) → AreRest (printed_pieces (c, ps) ++ es)
+      (block_parts c (told s ps) ++ q)
   some_told [] h = r
   some_told (p ∷ ps) h = record {
     are = ap (λ n. (kinds.Singleton, c ∷ []) ∷ told n ((p ∷ ps) ++ es)) is
@@ -302,7 +331,8 @@ module _ (c : ℕ) (s : State) (is : begun (to_ascii_lowercase c) ≡ s) (byte :
     words = ((byte_word c byte, refl), all_append IsOfKind (told s (p ∷ ps)) q h.words r.words);
   }
 
-  block_told : {ps : List Text} {parts : List Part} → AreTold s ps parts → AreRest (printed_pieces (c, ps) ++ es) (block_parts c parts ++ q)
+  block_told : {ps : List Text} {parts : List Part} → AreTold s ps parts
+      → AreRest (printed_pieces (c, ps) ++ es) (block_parts c parts ++ q)
   block_told {ps} {parts} h =
       let e = told_alone h in
       subst (λ (xs : List Part). AreRest (printed_pieces (c, ps) ++ es) (block_parts c xs ++ q)) e
@@ -310,15 +340,17 @@ module _ (c : ℕ) (s : State) (is : begun (to_ascii_lowercase c) ≡ s) (byte :
 
 -- `u` and what follows it
 unicode_rest : (u : Unicode) → AllByRecursion (IsWord Attribute) u.attributes
-    → AllByRecursion (λ f. IsWord UnicodeKey f.0 × AllByRecursion (IsWord Attribute) f.1) u.keywords
-    → {es : List Text} {q : List Part} → AreRest es q → AreRest (unicode_spelling u ++ es) (unicode_parts u ++ q)
+    → AreFields UnicodeKey u.keywords
+    → {es : List Text} {q : List Part} → AreRest es q → AreRest (unicode_spelling u ++ es)
+    (unicode_parts u ++ q)
 unfolding unicode_spelling
 unicode_rest u h f r = block_told 117 states.Attributes refl refl r (unicode_told u h f)
 
 -- `t` and what follows it
 transform_rest : (m : Transform) → IfSome (option_map lower_identifier m.id) (HasWords languages)
-    → AllByRecursion (λ f. IsWord TransformKey f.0 × AllByRecursion (IsWord Attribute) f.1) (spelled_fields m.fields)
-    → {es : List Text} {q : List Part} → AreRest es q → AreRest (transform_spelling m ++ es) (transform_parts m ++ q)
+    → AreFields TransformKey (spelled_fields m.fields)
+    → {es : List Text} {q : List Part} → AreRest es q → AreRest (transform_spelling m ++ es)
+    (transform_parts m ++ q)
 unfolding transform_spelling
 transform_rest m h f r =
     block_told 116 states.Transform refl refl r
@@ -330,23 +362,30 @@ private_told : (ws : List Text) → told states.Private ws ≡ of_kind kinds.Pri
 private_told [] = refl
 private_told (w ∷ ws) = ap (λ l. (kinds.Private, w) ∷ l) (private_told ws)
 
-private_rest : (ws : List Text) → AllByRecursion (IsWord PrivateSubtag) ws → AreRest (private_spelling ws) (private_parts ws)
+private_rest : (ws : List Text) → AllByRecursion (IsWord PrivateSubtag) ws
+    → AreRest (private_spelling ws) (private_parts ws)
 unfolding private_spelling
 private_rest [] h = record { are = refl; begins = λ s o. refl; words = tt }
 private_rest (w ∷ ws) h = record {
   are = ap (λ l. (kinds.Singleton, 120 ∷ []) ∷ l) (private_told (w ∷ ws));
   begins = one_begins 120 (w ∷ ws);
-  words = ((byte_word 120 refl, refl), all_mapped (IsWord PrivateSubtag) IsOfKind (λ w. (kinds.Private, w)) (λ w h. h) (w ∷ ws) h);
+  words = (
+    (byte_word 120 refl, refl),
+    all_mapped (IsWord PrivateSubtag) IsOfKind (λ w. (kinds.Private, w))
+        (λ w h. h) (w ∷ ws) h,
+  );
 }
 
 -- other extensions
 abbrev IsOtherPart : Block → Type 0
-IsOtherPart (c, ws) = ((is_other_singleton c ≡ true) × (to_ascii_lowercase c ≡ c)) × AllByRecursion (IsWord Subtag) ws
+IsOtherPart (c, ws) =
+    ((is_other_singleton c ≡ true) × (to_ascii_lowercase c ≡ c)) × AllByRecursion (IsWord Subtag) ws
 
 others_begun : (c : ℕ) → is_other_singleton c ≡ true → begun c ≡ states.Other
 others_begun c h = let e = apart c h in rw (e.0, e.1, e.2) refl
   where
-    apart : (c : ℕ) → is_other_singleton c ≡ true → ((c == 116) ≡ false) × ((c == 117) ≡ false) × ((c == 120) ≡ false)
+    apart : (c : ℕ) → is_other_singleton c ≡ true
+        → ((c == 116) ≡ false) × ((c == 117) ≡ false) × ((c == 120) ≡ false)
     apart c h = (grind (arith, nat_tests), grind (arith, nat_tests), grind (arith, nat_tests))
 
 others_rest : (os : List Block) → AllByRecursion IsOtherPart os
@@ -356,20 +395,28 @@ unfolding other_spelling
 others_rest [] h r = r
 others_rest (o ∷ os) h {es} {q} r =
     let told = told_as (append-nil o.1) (append-nil (of_kind kinds.Other o.1))
-    (each_told states.Other kinds.Other Subtag (λ p h. h) other_in o.1 h.0.1 (nothing_told states.Other refl)) in
-    let n = block_told o.0 states.Other (ap begun h.0.0.1 ∙ others_begun o.0 h.0.0.0) (and_parts _ _ h.0.0.0).0
+    (each_told states.Other kinds.Other Subtag (λ p h. h) other_in o.1 h.0.1
+    (nothing_told states.Other refl)) in
+    let n = block_told o.0 states.Other (ap begun h.0.0.1 ∙ others_begun o.0 h.0.0.0)
+    (and_parts _ _ h.0.0.0).0
     (others_rest os h.1 r) told in
-    subst (λ (l : List Text). AreRest l (others_parts (o ∷ os) ++ q)) (sym (append_assoc (printed_pieces o) (flat_map other_spelling os) es))
-    (subst (λ (l : List Part). AreRest (printed_pieces o ++ (flat_map other_spelling os ++ es)) l) (sym (append_assoc (block_parts o.0 (of_kind kinds.Other o.1)) (others_parts os) q)) n)
+    subst (λ (l : List Text). AreRest l (others_parts (o ∷ os) ++ q))
+    (sym (append_assoc (printed_pieces o) (flat_map other_spelling os) es))
+    (subst (λ (l : List Part). AreRest (printed_pieces o ++ (flat_map other_spelling os ++ es)) l)
+    (sym (append_assoc (block_parts o.0 (of_kind kinds.Other o.1)) (others_parts os) q)) n)
 
 -- what holds of all holds of those before `t`, and of those after
 before_all : (P : Block → Type 0) (os : List Block) → AllByRecursion P os → AllByRecursion P (before_t os)
 before_all P [] h = tt
-before_all P (o ∷ os) h = elim (nat_le o.0 116) as (λ b. AllByRecursion P (cond b (o ∷ before_t os) [])) [ true ↦ (h.0, before_all P os h.1) | false ↦ tt ]
+before_all P (o ∷ os) h =
+    elim (nat_le o.0 116) as (λ b. AllByRecursion P (cond b (o ∷ before_t os) []))
+    [ true ↦ (h.0, before_all P os h.1) | false ↦ tt ]
 
 after_all : (P : Block → Type 0) (os : List Block) → AllByRecursion P os → AllByRecursion P (after_t os)
 after_all P [] h = tt
-after_all P (o ∷ os) h = elim (nat_le o.0 116) as (λ b. AllByRecursion P (cond b (after_t os) (o ∷ os))) [ true ↦ after_all P os h.1 | false ↦ h ]
+after_all P (o ∷ os) h =
+    elim (nat_le o.0 116) as (λ b. AllByRecursion P (cond b (after_t os) (o ∷ os)))
+    [ true ↦ after_all P os h.1 | false ↦ h ]
 
 -- ---- the whole text
 
@@ -379,13 +426,19 @@ attribute_from w h n = grind (arith, nat_tests)
 
 module _ (e : Extensions) (v : IsExtensionsValue languages e) (w : AreWellFormed e) where
   attributes_are : AllByRecursion (IsWord Attribute) e.unicode.attributes
-  attributes_are = all_weaker (IsNormal Attribute) (IsWord Attribute) (λ w n. n.0) e.unicode.attributes v.unicode.attributes
+  attributes_are = all_weaker (IsNormal Attribute) (IsWord Attribute)
+      (λ w n. n.0) e.unicode.attributes v.unicode.attributes
 
-  keywords_are : AllByRecursion (λ f. IsWord UnicodeKey f.0 × AllByRecursion (IsWord Attribute) f.1) e.unicode.keywords
+  keywords_are : AreFields UnicodeKey e.unicode.keywords
   keywords_are =
-      all_weaker (λ f. (IsNormal UnicodeKey f.0 × AllByRecursion (IsNormal Subtag) f.1) × AllByRecursion (λ w. (is_true w ≡ false) × (length w ≢ 2)) f.1)
+      all_weaker (λ f. (IsNormal UnicodeKey f.0 × AllByRecursion (IsNormal Subtag) f.1) × AllByRecursion
+      (λ w. (is_true w ≡ false) × (length w ≢ 2)) f.1)
       (λ f. IsWord UnicodeKey f.0 × AllByRecursion (IsWord Attribute) f.1)
-      (λ f b. (b.0.0.0, all_weaker (λ w. IsNormal Subtag w × ((is_true w ≡ false) × (length w ≢ 2))) (IsWord Attribute) (λ w n. attribute_from w n.0.0 n.1.1) f.1 (all_both _ _ f.1 b.0.1 b.1)))
+      (λ f b. (
+        b.0.0.0,
+        all_weaker (λ w. IsNormal Subtag w × ((is_true w ≡ false) × (length w ≢ 2)))
+            (IsWord Attribute) (λ w n. attribute_from w n.0.0 n.1.1) f.1 (all_both _ _ f.1 b.0.1 b.1),
+      ))
       e.unicode.keywords (all_both _ _ e.unicode.keywords v.unicode.keywords w.values)
 
   source_is : IfSome (option_map lower_identifier e.transform.id) (HasWords languages)
@@ -393,11 +446,13 @@ module _ (e : Extensions) (v : IsExtensionsValue languages e) (w : AreWellFormed
       some_mapped (IsIdentifierValue languages) (HasWords languages) lower_identifier
       (λ i g. (lower_is_identifier i (value_identifier i g)).words) e.transform.id v.transform.id
 
-  fields_are : AllByRecursion (λ f. IsWord TransformKey f.0 × AllByRecursion (IsWord Attribute) f.1) (spelled_fields e.transform.fields)
+  fields_are : AreFields TransformKey (spelled_fields e.transform.fields)
   fields_are =
-      all_mapped (λ f. IsNormal TransformKey f.0 × AllByRecursion (λ w. IsNormal Attribute w × (is_true w ≡ false)) f.1)
+      all_mapped (λ f. IsNormal TransformKey f.0 × AllByRecursion
+      (λ w. IsNormal Attribute w × (is_true w ≡ false)) f.1)
       (λ f. IsWord TransformKey f.0 × AllByRecursion (IsWord Attribute) f.1)
-      (λ f. (f.0, spelled_value f.1)) (λ f h. (h.0.0, (spelled_rule f.1 h.1).0)) e.transform.fields v.transform.fields
+      (λ f. (f.0, spelled_value f.1)) (λ f h. (h.0.0, (spelled_rule f.1 h.1).0)) e.transform.fields
+      v.transform.fields
 
   private_are : AllByRecursion (IsWord PrivateSubtag) e.private
   private_are = all_weaker (IsNormal PrivateSubtag) (IsWord PrivateSubtag) (λ w n. n.0) e.private v.private
@@ -433,7 +488,8 @@ unfolding parts_of
 text_told M t h =
     let e = M.extensions in
     let rest = extensions_rest e h.value.extensions h.tests in
-    let id = identifier_told {first = states.Start} {s = states.Head} language_in_start head_takes M.id (value_words h.value.id) (nothing_told states.Head refl) in
+    let id = identifier_told {first = states.Start} {s = states.Head} language_in_start head_takes M.id
+    (value_words h.value.id) (nothing_told states.Head refl) in
     let front = told_as (append-nil (identifier_pieces M.id)) (append-nil (identifier_parts M.id)) id in
     let all = identifier_pieces M.id ++ extensions_spelling e in
     let are : told states.Start all ≡ parts_of M =
@@ -443,7 +499,8 @@ text_told M t h =
     let plain : AllByRecursion IsPlain all =
     subst (AllByRecursion IsPlain) (ap (map (λ (w : Part). w.1)) (sym are) ∙ told_pieces states.Start all)
     (all_mapped IsOfKind IsPlain (λ w. w.1) plain_of (parts_of M) words) in
-    let cut : pieces t ≡ all = ap pieces h.text ∙ pieces-join M.id.language _ (all_weaker IsPlain IsHyphenFree (λ p h. h.1) all plain) in
+    let cut : pieces t ≡ all = ap pieces h.text ∙ pieces-join M.id.language _
+    (all_weaker IsPlain IsHyphenFree (λ p h. h.1) all plain) in
     record {
       told = ap (told states.Start) cut ∙ are;
       short = subst AreShort (sym cut) (all_weaker IsPlain IsShortPiece (λ p h. h.0) all plain);

@@ -17,7 +17,8 @@ use Rattle.iloc_kinds.proofs.Telling.{text_told}
 
 -- the first of short pieces is short
 pub first_short : (l : Left) → AreShort (pieces_left l) → IsShortPiece (piece_left l)
-first_short l h = at_pieces (λ ps. AreShort ps → IsShortPiece (first_piece ps)) (λ p ps h. h.0) (bytes_left l) h
+first_short l h = at_pieces (λ ps. AreShort ps → IsShortPiece (first_piece ps)) (λ p ps h. h.0)
+    (bytes_left l) h
 
 whole : (t : Text) (l : Left) → bytes_left l ≡ take (length t) t → pieces_left l ≡ pieces t
 whole t l e = ap pieces (e ∙ take_all (length t) t (omega arith))
@@ -32,12 +33,21 @@ pub record IsCounted (t : Text) (at : Left) (count : ℕ) : Type 0 where
   pub few : count ≤ at.at + 1
   pub end : at.at + at.len ≡ length t
 
-pub count_begins : (t : Text) (at : Left) → AreShort (pieces t) → IsRemainder at → at.at ≡ 0 → at.len ≡ length t → bytes_left at ≡ take (length t) t → IsCounted t at 1
+pub count_begins : (t : Text) (at : Left) → AreShort (pieces t) → IsRemainder at → at.at ≡ 0
+    → at.len ≡ length t → bytes_left at ≡ take (length t) t → IsCounted t at 1
 count_begins t at h l a n e =
     let w = whole t at e in
-    record { left = l; short = subst AreShort (sym w) h; sum = omega (arith, ap length w); few = omega arith; end = omega arith }
+    record {
+      left = l;
+      short = subst AreShort (sym w) h;
+      sum = omega (arith, ap length w);
+      few =
+          omega arith;
+      end = omega arith;
+    }
 
-pub count_on : {t : Text} {at m : Left} {count : ℕ} → IsCounted t at count → IsNextPiece at m → IsCounted t m (count + 1)
+pub count_on : {t : Text} {at m : Left} {count : ℕ} → IsCounted t at count → IsNextPiece at m
+    → IsCounted t m (count + 1)
 count_on {t} {at} {m} {count} c n =
     let w = subst AreShort n.pieces c.short in
     record {
@@ -48,7 +58,8 @@ count_on {t} {at} {m} {count} c n =
       end = omega (arith, c.end, n.end);
     }
 
-pub count_ends : {t : Text} {at : Left} {count : ℕ} → IsCounted t at count → at.n ≡ at.len → count ≡ length (pieces t)
+pub count_ends : {t : Text} {at : Left} {count : ℕ} → IsCounted t at count → at.n ≡ at.len
+    → count ≡ length (pieces t)
 count_ends {t} {at} {count} c e =
     let one = last_piece at c.left e (first_short at c.short) in
     omega (arith, c.sum, ap length one.one)
@@ -83,8 +94,10 @@ pub record IsWritten (t : Text) (at : Left) (s : State) (from : ℕ) (before tab
   pub fits : from + 3 * length (pieces_left at) ≤ length before
   pub end : at.at + at.len ≡ length t
 
-pub write_begins : (M : Locale) (t : Text) (at : Left) (before : List ℕ) → IsTextOf M t → length (rows_of (parts_of M)) ≤ length before
-    → IsRemainder at → at.at ≡ 0 → at.len ≡ length t → bytes_left at ≡ take (length t) t → IsWritten t at Start 0 before before
+pub write_begins : (M : Locale) (t : Text) (at : Left) (before : List ℕ) → IsTextOf M t
+    → length (rows_of (parts_of M)) ≤ length before
+    → IsRemainder at → at.at ≡ 0 → at.len ≡ length t → bytes_left at ≡ take (length t) t
+    → IsWritten t at Start 0 before before
 unfolding rows_of
 write_begins M t at before h room l a n e =
     let w = whole t at e in
@@ -99,7 +112,8 @@ write_begins M t at before h room l a n e =
       end = omega arith;
     }
 
-module _ {t : Text} {at : Left} {s : State} {from : ℕ} {before table : List ℕ} (h : IsWritten t at s from before table) where
+module _ {t : Text} {at : Left} {s : State} {from : ℕ} {before table : List ℕ}
+    (h : IsWritten t at s from before table) where
   -- the three numbers of this piece
   abbrev row : List ℕ → List ℕ
   row rest = at.at ∷ (at.at + at.n) ∷ kind_number (step s (piece_left at)).0 ∷ rest
@@ -108,30 +122,43 @@ module _ {t : Text} {at : Left} {s : State} {from : ℕ} {before table : List �
   long_is = length_piece h.left (first_short at h.short)
 
   -- the table with them
-  stands_more : (after : List ℕ) → after ≡ take from table ++ row (drop (from + 3) table) → after ≡ (h.done ++ row []) ++ drop (from + 3) before
+  stands_more : (after : List ℕ) → after ≡ take from table ++ row (drop (from + 3) table)
+      → after ≡ (h.done ++ row []) ++ drop (from + 3) before
   stands_more after e =
-      let front : take from table ≡ h.done = ap (take from) h.stands ∙ take_at h.done (drop from before) from h.long in
-      let back : drop from table ≡ drop from before = ap (drop from) h.stands ∙ drop_at h.done (drop from before) from h.long in
+      let front : take from table ≡ h.done = ap (take from) h.stands
+      ∙ take_at h.done (drop from before) from h.long in
+      let back : drop from table ≡ drop from before = ap (drop from) h.stands
+      ∙ drop_at h.done (drop from before) from h.long in
       let far : drop (from + 3) table ≡ drop (from + 3) before =
       sym (drop-drop 3 from table) ∙ ap (drop 3) back ∙ drop-drop 3 from before in
       e ∙ (λ j. front j ++ row (far j)) ∙ sym (append_assoc h.done (row []) (drop (from + 3) before))
 
   rows_more : (ps : List Text) → pieces_left at ≡ piece_left at ∷ ps → rows_from 0 (told Start (pieces t))
-      ≡ (h.done ++ row []) ++ rows_from (at.at + length (piece_left at) + 1) (told (step s (piece_left at)).1 ps)
+      ≡ (h.done ++ row []) ++ rows_from (at.at + length (piece_left at) + 1)
+      (told (step s (piece_left at)).1 ps)
   rows_more ps e =
       h.rows ∙ ap (λ l. h.done ++ rows_from at.at (told s l)) e
-      ∙ ap (λ n. h.done ++ (at.at ∷ (at.at + n) ∷ kind_number (step s (piece_left at)).0 ∷ rows_from (at.at + length (piece_left at) + 1) (told (step s (piece_left at)).1 ps))) (sym long_is)
+      ∙ ap (λ n. h.done ++ (at.at ∷ (at.at + n) ∷ kind_number (step s (piece_left at)).0 ∷ rows_from
+      (at.at + length (piece_left at) + 1) (told (step s (piece_left at)).1 ps))) (sym long_is)
       ∙ sym (append_assoc h.done (row []) _)
 
   pub row_fits : from + 3 ≤ length table
   row_fits = at_pieces (λ ps. from + 3 * length ps ≤ length before → from + 3 ≤ length table) (λ p ps f.
-      omega (arith, f, ap length h.stands, length-append h.done (drop from before), length-drop from before, h.long)) (bytes_left at) h.fits
+      omega (
+        arith,
+        f,
+        ap length h.stands,
+        length-append h.done (drop from before),
+        length-drop from before,
+        h.long,
+      )) (bytes_left at) h.fits
 
   -- the piece ends within the text
   pub ends_within : at.at + at.n ≤ length t
   ends_within = omega (arith, h.end, long_is, length_rest h.left, first_within (bytes_left at))
 
-  pub write_on : {m : Left} (after : List ℕ) → after ≡ take from table ++ row (drop (from + 3) table) → IsNextPiece at m
+  pub write_on : {m : Left} (after : List ℕ) → after ≡ take from table ++ row (drop (from + 3) table)
+      → IsNextPiece at m
       → IsWritten t m (step s (piece_left at)).1 (from + 3) before after
   write_on {m} after e n =
       let w = subst AreShort n.pieces h.short in
@@ -141,19 +168,22 @@ module _ {t : Text} {at : Left} {s : State} {from : ℕ} {before table : List �
         done = h.done ++ row [];
         long = omega (arith, h.long, length-append h.done (row []));
         rows = rows_more (pieces_left m) n.pieces
-            ∙ ap (λ k. (h.done ++ row []) ++ rows_from k (told (step s (piece_left at)).1 (pieces_left m))) (sym (next_at h.left n));
+            ∙ ap (λ k. (h.done ++ row []) ++ rows_from k (told (step s (piece_left at)).1 (pieces_left m)))
+            (sym (next_at h.left n));
         stands = stands_more after e;
         fits = omega (arith, h.fits, ap length n.pieces);
         end = omega (arith, h.end, n.end);
       }
 
   -- all rows
-  pub write_ends : (after : List ℕ) → after ≡ take from table ++ row (drop (from + 3) table) → at.n ≡ at.len → (M : Locale) → IsTextOf M t
+  pub write_ends : (after : List ℕ) → after ≡ take from table ++ row (drop (from + 3) table) → at.n ≡ at.len
+      → (M : Locale) → IsTextOf M t
       → after ≡ rows_of (parts_of M) ++ drop (length (rows_of (parts_of M))) before
   unfolding rows_of
   write_ends after e last M is =
       let one = last_piece at h.left last (first_short at h.short) in
       let all : rows_from 0 (parts_of M) ≡ h.done ++ row [] =
       ap (rows_from 0) (sym (text_told M t is).told) ∙ rows_more [] one.one ∙ append-nil (h.done ++ row []) in
-      let long : length (rows_from 0 (parts_of M)) ≡ from + 3 = omega (arith, ap length all, h.long, length-append h.done (row [])) in
+      let long : length (rows_from 0 (parts_of M)) ≡ from + 3 =
+      omega (arith, ap length all, h.long, length-append h.done (row [])) in
       stands_more after e ∙ (λ j. sym all j ++ drop (sym long j) before)

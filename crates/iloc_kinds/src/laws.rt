@@ -7,7 +7,7 @@ ghost use Rattle.iloc_kinds.specs.Kinds.{ArePlaced, IsOfKind, IsTextOf, Part, pa
 
 /// The parts of a normal text, with hyphens between them, are the text. Each is a word of its kind. Each row says where its
 /// part stands. A row has three numbers.
-#[tactic(auto, using(crate::proofs::Placing::joined, crate::proofs::Placing::words, crate::proofs::Placing::placed, crate::proofs::Walking::length_rows_of))]
+#[tactic(auto, using(crate::proofs::Placing::part_laws, crate::proofs::Walking::length_rows_of))]
 pub fn parts()
     ensures joined { (M : Locale) (t : Text) → IsTextOf M t
         → join (map (λ (_, p). p) (parts_of M)) ≡ t }

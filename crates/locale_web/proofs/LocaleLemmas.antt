@@ -32,7 +32,8 @@ alone_text : (i : Identifier) → text (without_extensions i) ≡ identifier_tex
 unfolding extensions_spelling
 alone_text i = text_of_parts (without_extensions i) ∙ append-nil (identifier_text i)
 
-alone_is : (t : Text) (i : Identifier) → IdentifierMeans languages (pieces t) i → IsTextOf (without_extensions i) (identifier_text i)
+alone_is : (t : Text) (i : Identifier) → IdentifierMeans languages (pieces t) i
+    → IsTextOf (without_extensions i) (identifier_text i)
 alone_is t i m = record {
   value = record {
     id = identifier_means_value (pieces t) i m;
@@ -60,16 +61,37 @@ data_is t d m =
 pub locale_of_normal : (mode : Mode) (t n : Text) → IsNormalText languages mode t n → HasLocale mode t n
 locale_of_normal Langid t n (i, m, e) =
     let h = alone_is t i m in
-    record { locale = without_extensions i; meant = (i, m, refl); is = record { value = h.value; tests = h.tests; text = e ∙ h.text } }
+    record {
+      locale = without_extensions i;
+      meant = (i, m, refl);
+      is =
+          record { value = h.value; tests = h.tests; text = e ∙ h.text };
+    }
 locale_of_normal Locale t n (M, m, e) =
-    record { locale = M; meant = m; is = record { value = means_a_value t M m; tests = means_tests t M m; text = e } }
+    record {
+      locale = M;
+      meant = m;
+      is = record {
+        value = means_a_value t M m;
+        tests =
+            means_tests t M m;
+        text = e;
+      };
+    }
 locale_of_normal Data t n (d, m, e) =
     let h = data_is t d m in
-    record { locale = locale_of_data d; meant = (d, m, refl); is = record { value = h.value; tests = h.tests; text = e ∙ h.text } }
+    record {
+      locale = locale_of_data d;
+      meant = (d, m, refl);
+      is =
+          record { value = h.value; tests = h.tests; text = e ∙ h.text };
+    }
 
 -- what is handed out is the rows of that locale
-pub parts_written : {mode : Mode} {t : Text} (room : Text) (end : ℕ) (before after : List ℕ) (needed : ℕ) (status : Status)
-    → (h : HasLocale mode t (take end room)) → end ≤ length room → IsNormalText languages mode t (take end room)
+pub parts_written : {mode : Mode} {t : Text} (room : Text) (end : ℕ) (before after : List ℕ) (needed : ℕ)
+    (status : Status)
+    → (h : HasLocale mode t (take end room)) → end ≤ length room
+    → IsNormalText languages mode t (take end room)
     → HandsOut (rows_of (parts_of h.locale)) before after needed status
     → PartsAreWritten mode t room end before after needed status
 parts_written room end before after needed Done h inside n o =

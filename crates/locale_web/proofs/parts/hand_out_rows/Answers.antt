@@ -9,8 +9,12 @@ pub returns-then-wanted-table : goal.returns-then-wanted-table
 returns-then-wanted-table c M h =
     let count = c.count_pieces.ensures M h in
     let long = length_rows_of (parts_of M) in
-    let same : c.count_pieces.result * 3 ≡ length (rows_of (parts_of M)) = omega arith in
-    (omega (arith, c.saturating_mul-wanted.ensures), c.saturating_mul-wanted.ensures ∙ ap (λ (n : ℕ). min n 18446744073709551615) same ∙ min_saturated (length (rows_of (parts_of M))), refl)
+    let same : c.count_pieces.result * 3 ≡ length (rows_of (parts_of M)) = omega arith in (
+      omega (arith, c.saturating_mul-wanted.ensures),
+      c.saturating_mul-wanted.ensures
+          ∙ ap (λ (n : ℕ). min n 18446744073709551615) same ∙ min_saturated (length (rows_of (parts_of M))),
+      refl,
+    )
 
 pub write_rows-requires-clause-room : goal.write_rows-requires-clause-room
 write_rows-requires-clause-room c M h =
@@ -21,5 +25,8 @@ write_rows-requires-clause-room c M h =
 pub returns : goal.returns
 returns c M h =
     let count = c.count_pieces.ensures M h in
-    let long = length_rows_of (parts_of M) in
-    (omega (arith, c.saturating_mul-wanted.ensures), omega (arith, c.saturating_mul-wanted.ensures), c.write_rows.ensures M h)
+    let long = length_rows_of (parts_of M) in (
+      omega (arith, c.saturating_mul-wanted.ensures),
+      omega (arith, c.saturating_mul-wanted.ensures),
+      c.write_rows.ensures M h,
+    )
