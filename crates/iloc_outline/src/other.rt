@@ -82,15 +82,8 @@ pub fn read_other(
     if !is_good || !is_single(*left) {
         return Found::Bad;
     }
-    put_other(
-        byte,
-        start,
-        left.at - 1,
-        edited,
-        spans,
-        in_order,
-        Found::Next,
-    )
+    let end = left.at - 1;
+    put_other(byte, start, end, edited, spans, in_order, Found::Next)
 }
 
 // Puts the span of the block, which is edited if a piece is left out.

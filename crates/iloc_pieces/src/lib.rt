@@ -3,7 +3,8 @@
 //! Bit masks of sixteen bytes say where a piece ends, which of its bytes are no letters, and which are in no word
 //! (`marks`). They give a piece its *shape*: a bit for each byte, set for a digit, and a last one above. By its shape a
 //! piece is tested for each kind of word (`shape`). `left` holds what is left of a text, from a piece on: `left_in`
-//! begins, `next` goes to the next piece, and `word_number` gives the number by which words are ordered.
+//! begins, `next` gives the next piece, `advance` goes on to it, and `word_number` gives the number by which words
+//! are ordered.
 //!
 //! It promises that the tests are those of the grammar (`is_word`), and that what is left after a piece is what its
 //! hyphen leaves (`IsNextPiece`). It allocates nothing.
