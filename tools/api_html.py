@@ -9,7 +9,7 @@ import shutil
 import api_definitions
 import api_markup
 import api_search
-from api_bound import TOKEN, bound_in, bound_in_block, of_function, of_module
+from api_bound import TOKEN, bound_in, of_function, of_module
 from api_definitions import files, slug, told, within
 from api_examples import examples, remark, tried
 from api_markdown import LAWS, json_types, trait_homes
@@ -251,7 +251,7 @@ def module_html(module):
 def block_html(block, definitions):
     """Returns a definition, its names linked, with the part of the page that tells it in words."""
     names = of_module(definitions.text).union(block.fields())
-    bound = bound_in_block(block.text, names, definitions.own, definitions.is_case)
+    bound = bound_in(block.text, names, definitions.own, definitions.is_case)
     lines, start = [], 0
     for line in block.text.split("\n"):
         text, dash, said = line.partition("--")

@@ -198,11 +198,20 @@ class Reader:
                 self.module.passed.add(bound)
 
 
+class At(str):
+    """A token with its place in the text."""
+
+    def __new__(cls, token, at):
+        made = super().__new__(cls, token)
+        made.at = at
+        return made
+
+
 def tree(text):
     """Returns the tokens as nested lists; a path `a.b` is one token, and `.f` after a bracket is left out."""
     stack, flat = [[]], []
     for found in TOKEN.finditer(text):
-        token = found[0]
+        token = At(found[0], found.start())
         if token == "." and text[found.end() : found.end() + 1].strip():
             flat.append("·")  # a dot that joins
         else:
@@ -214,7 +223,7 @@ def tree(text):
             before = flat[number - 1] if number else ""
             joins = number and before not in CLOSING and before not in OPENING and before not in ",;"
             if joins and isinstance(stack[-1][-1], str) and stack[-1][-1] not in WORDS:
-                stack[-1][-1] += "." + flat[number + 1].strip("«»")
+                stack[-1][-1] = At(f"{stack[-1][-1]}.{flat[number + 1].strip('«»')}", stack[-1][-1].at)
             number += 2
             continue
         if token in OPENING:
@@ -223,7 +232,7 @@ def tree(text):
             closed = stack.pop()
             stack[-1].append(closed)
         elif not token.startswith('"'):
-            stack[-1].append(token.strip("«»") if token.startswith("«") else token)
+            stack[-1].append(At(token.strip("«»"), token.at) if token.startswith("«") else token)
         number += 1
     return stack[0]
 
@@ -245,9 +254,12 @@ class Names:
     def __init__(self, found, is_constructor, unknown):
         self.found, self.is_constructor, self.unknown = found, is_constructor, unknown
         self.cited = []
+        self.places = set()  # of the names that are bound, where they are and where they are named
 
     def name(self, path, bound):
         names = path.split(".")
+        if names[0] in bound:
+            self.places.add(path.at)
         if names[0] in bound or re.fullmatch(r"[0-9][0-9a-fA-F_xob]*", names[0]) or names[0].startswith("⟦"):
             return
         meant = self.found(names)
@@ -270,6 +282,7 @@ class Names:
                 continue
             else:
                 bound.add(it.split(".")[0])
+                self.places.add(it.at)
 
     def binder(self, group, bound):
         """Binds what a group as (x y : A) or {x : A} binds; returns whether it is one."""
@@ -291,6 +304,7 @@ class Names:
                 self.pattern([it], bound)
             elif isinstance(it, str):
                 bound.add(it)
+                self.places.add(it.at)
             at += 1
         return at + 1
 
@@ -323,6 +337,7 @@ class Names:
             return
         for run in parts_of(inner, ";,"):
             if kind == "{" and len(run) > 1 and run[1] == "=":
+                self.places.update(it.at for it in run[:1] if isinstance(it, str))
                 run = run[2:]  # the name of a field, or of an implicit argument
             self.walk(run, set(bound))
 
