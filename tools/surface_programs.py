@@ -18,6 +18,8 @@ import surface_words
 PROGRAMS = 8
 # The calls of one `match`, so that none grows large.
 GROUP = 40
+PARSED = r"FOUR(N?)\(([\w:]+), ([ab])\)"
+VALUES = "FOUR(unicode::Value::try_from_str, a)"
 
 
 def in_language(code, is_rattle):
@@ -26,8 +28,7 @@ def in_language(code, is_rattle):
         (r"KEYWORDS\((\w+)\)", keywords),
         (r"SINK", lambda it: "let mut out = String::with_capacity(~256)^;"),
         (r"PRINTED", lambda it: f"let w = [{four('v[{}].write_to_string([[R: alloc |C: ]])^')}];"),
-        (r"FOUR\(([\w:]+), ([ab])\)", lambda it: f"[{four(f'{it[1]}(~t.{it[2]}[{{}}])?')}]"),
-        (r"FOURN\(([\w:]+), ([ab])\)", lambda it: f"[{four(f'{it[1]}(t.{it[2]}[{{}}])?')}]"),
+        (PARSED, parsed),
         (r"KEEP\((\w+)\)", lambda it: it[1] if is_rattle else f"black_box(&{it[1]})"),
     )
     for mark, new in marks:
@@ -39,13 +40,40 @@ def in_language(code, is_rattle):
     return code.replace("~", "alloc, " if is_rattle else "").replace("^", "?" if is_rattle else "")
 
 
+def parsed(found):
+    given = "" if found[1] else "~"
+    return f"[{four(f'{apart(found[2])}({given}t.{found[3]}[{{}}])?')}]"
+
+
+def apart(parser):
+    """Returns the name of the function that calls the parser apart."""
+    return "p_" + re.sub(r"\W+", "_", parser).lower()
+
+
+def parsers(calls, is_rattle):
+    """Returns the functions that call the parsers apart, so that each stands in the program once."""
+    marked = " ".join(f"{it.before} {it.body}" for it in calls)
+    found = {(it[1], it[2]) for it in re.finditer(PARSED, re.sub(r"KEYWORDS\(\w+\)", VALUES, marked))}
+    parts = []
+    for without, parser in sorted(found):
+        alloc, given = ("alloc: Global, ", "alloc, ") if is_rattle and not without else ("", "")
+        kind = parser[: parser.rindex("::")]
+        parts.append(f"""
+#[inline(never)]
+fn {apart(parser)}({alloc}text: &str) -> Result<{kind}, ParseError> {{
+    Ok({parser}({given}text)?)
+}}
+""")
+    return parts
+
+
 def four(code):
     return ", ".join(code.format(at) for at in range(4))
 
 
 def keywords(found):
     kind = f"match {found[1]}::try_from(&r[{{}}]) {{{{ Ok(k) => k, Err(_) => return Err(ParseError::InvalidSubtag) }}}}"
-    return f"let r = FOUR(unicode::Value::try_from_str, a); let v = [{four(kind)}];"
+    return f"let r = {VALUES}; let v = [{four(kind)}];"
 
 
 def function(call, is_rattle):
@@ -87,7 +115,7 @@ def program(calls, is_rattle):
     with open(f"{ROOT}/tools/surface_{'rattle' if is_rattle else 'rust'}.txt", encoding="utf-8") as it:
         text = it.read()
     groups = [calls[at : at + GROUP] for at in range(0, len(calls), GROUP)]
-    parts = [function(it, is_rattle) for it in calls]
+    parts = parsers(calls, is_rattle) + [function(it, is_rattle) for it in calls]
     parts += [chosen(at, it, at + 1 == len(groups), is_rattle) for at, it in enumerate(groups)]
     return text.replace("@CALLS@", "".join(parts))
 

@@ -5,7 +5,6 @@ use Rattle.std.specs.Prelude.{nat_eq}
 use Rattle.std.specs.List.{list_all}
 use Rattle.std.specs.Cmp.Lexicographic.{pointwise}
 use Rattle.std.specs.Char.{is_ascii_alphabetic, is_ascii_lowercase, is_ascii_uppercase, to_ascii_lowercase, to_ascii_uppercase}
-use Rattle.iloc_tinystr.specs.TinyText.{is_title_letters}
 
 -- the first byte in upper case, and the others in lower case
 abbrev pub title : List ℕ → List ℕ
@@ -65,15 +64,3 @@ is_upper text h = tested (list_all is_ascii_alphabetic text) _ _ (all_upper text
 
 pub not_upper : (text : List ℕ) → list_all is_ascii_alphabetic text ≡ false → list_all is_ascii_uppercase text ≡ false
 not_upper text h = refused (list_all is_ascii_alphabetic text) (pointwise nat_eq (map to_ascii_uppercase text) text) _ (all_upper text) h
-
-all_title : (text : List ℕ) → (list_all is_ascii_alphabetic text && pointwise nat_eq (title text) text) ≡ is_title_letters text
-all_title [] = refl
-all_title (b ∷ text) =
-    both (is_ascii_alphabetic b) (list_all is_ascii_alphabetic text) (eqb (to_ascii_uppercase b) b) (pointwise nat_eq (map to_ascii_lowercase text) text)
-    ∙ (λ i. byte_upper b i && all_lower text i)
-
-pub is_title : (text : List ℕ) → list_all is_ascii_alphabetic text ≡ true → pointwise nat_eq (title text) text ≡ is_title_letters text
-is_title text h = tested (list_all is_ascii_alphabetic text) _ _ (all_title text) h
-
-pub not_title : (text : List ℕ) → list_all is_ascii_alphabetic text ≡ false → is_title_letters text ≡ false
-not_title text h = refused (list_all is_ascii_alphabetic text) (pointwise nat_eq (title text) text) _ (all_title text) h

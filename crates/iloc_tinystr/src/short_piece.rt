@@ -121,7 +121,7 @@ impl ShortPiece {
     /// Whether all bytes are ASCII, and none is zero.
     #[tactic(auto, using(crate::proofs::Classes::all_are))]
     #[inline(always)]
-    pub fn is_text(self) -> bool
+    pub(crate) fn is_text(self) -> bool
         ensures { result ≡ list_all is_text_byte self }
     {
         text_flags(self.packed) == high_bits(self.len)
