@@ -50,6 +50,7 @@ pub use Rattle.iloc_lines.specs.Output as ProgramOutput
 pub use Rattle.iloc_data.specs.FormatterValues as FormatterValues
 pub use Rattle.iloc_enum_keywords.specs.declared.hour_cycle.HourCycle as HourCycles
 pub use Rattle.iloc_tinystr.specs.TinyText
+pub use Rattle.iloc_tinystr.specs.Number
 pub use Rattle.iloc_writeable.specs.Held
 pub use Rattle.iloc_shortvec.specs.ShortList
 pub use Rattle.iloc_shortvec.specs.ShortOrder

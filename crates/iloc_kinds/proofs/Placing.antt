@@ -6,20 +6,20 @@ use Rattle.iloc_spec_grammar.specs.Meaning.{Locale}
 use Rattle.iloc_spec_grammar.specs.Syntax.{Text, join, pieces}
 use Rattle.iloc_spec_grammar.proofs.PartTexts.{join-dashes}
 use Rattle.iloc_spec_grammar.proofs.PiecesLaws.{join-pieces}
-use Rattle.iloc_kinds.specs.Kinds.{ArePlaced, IsOfKind, IsTextOf, Part, parts_of, rows_from, rows_of}
+use Rattle.iloc_kinds.specs.Kinds.{ArePlaced, IsOfKind, IsNormalTextOf, KindedPiece, parts_of, rows_from, rows_of}
 use Rattle.iloc_kinds.specs.declared.state.State.TheVariants.{Start}
 use Rattle.iloc_kinds.proofs.Telling.{text_told, told_pieces}
 
-abbrev words_of : List Part → List Text
-words_of ps = map (λ (w : Part). w.1) ps
+abbrev words_of : List KindedPiece → List Text
+words_of ps = map (λ (w : KindedPiece). w.1) ps
 
-are_pieces : (M : Locale) (t : Text) → IsTextOf M t → words_of (parts_of M) ≡ pieces t
+are_pieces : (M : Locale) (t : Text) → IsNormalTextOf M t → words_of (parts_of M) ≡ pieces t
 are_pieces M t h = ap words_of (sym (text_told M t h).told) ∙ told_pieces Start (pieces t)
 
-pub joined : (M : Locale) (t : Text) → IsTextOf M t → join (map (λ (w : Part). w.1) (parts_of M)) ≡ t
+pub joined : (M : Locale) (t : Text) → IsNormalTextOf M t → join (map (λ (w : KindedPiece). w.1) (parts_of M)) ≡ t
 joined M t h = ap join (are_pieces M t h) ∙ join-pieces t
 
-pub words : (M : Locale) (t : Text) → IsTextOf M t → AllByRecursion IsOfKind (parts_of M)
+pub words : (M : Locale) (t : Text) → IsNormalTextOf M t → AllByRecursion IsOfKind (parts_of M)
 words M t h = (text_told M t h).words
 
 -- a piece behind what comes before it
@@ -35,7 +35,7 @@ stands t front p rest at a e =
           ∙ take_at p rest (length p) refl,
     )
 
-placed_from : (t front : Text) (ps : List Part) (at : ℕ) → at ≡ length front → t ≡ front ++ join (words_of ps)
+placed_from : (t front : Text) (ps : List KindedPiece) (at : ℕ) → at ≡ length front → t ≡ front ++ join (words_of ps)
     → ArePlaced t (rows_from at ps) ps
 placed_from t front [] at a e = tt
 placed_from t front (w ∷ []) at a e =
@@ -59,7 +59,7 @@ placed_from t front (w ∷ (v ∷ ps)) at a e =
     ∙ sym (append_assoc front (w.1 ++ 45 ∷ []) rest) in
     (s.0, s.1, s.2, refl, placed_from t before (v ∷ ps) (at + length w.1 + 1) long cut)
 
-pub placed : (M : Locale) (t : Text) → IsTextOf M t → ArePlaced t (rows_of (parts_of M)) (parts_of M)
+pub placed : (M : Locale) (t : Text) → IsNormalTextOf M t → ArePlaced t (rows_of (parts_of M)) (parts_of M)
 unfolding rows_of
 placed M t h = placed_from t [] (parts_of M) 0 refl (sym (joined M t h))
 

@@ -19,8 +19,8 @@ use Rattle.iloc_spec_grammar.proofs.ValuesLaws.{value_words, value_identifier, l
 use Rattle.iloc_spec_grammar.proofs.WordsLaws.{length-language, length-script, length-region, length-variant, length-attribute, length-unicode_key, length-transform_key, region_no_script, variant_no_script, variant_no_region}
 use Rattle.iloc_pieces.specs.Left.{IsShortPiece}
 use Rattle.iloc_pieces.proofs.LeftLemmas.{short_word}
-use Rattle.iloc_kinds.specs.Kinds.{Part, of_kind, identifier_parts, optional_parts, fields_parts, block_parts, transform_parts, unicode_parts, others_parts, private_parts, extensions_parts, parts_of, IsOfKind, IsTextOf}
-use Rattle.iloc_kinds.specs.Steps.{AreShort, begun, inside, step, told, word_kind}
+use Rattle.iloc_kinds.specs.Kinds.{KindedPiece, of_kind, parts_of_identifier, parts_of_optional, parts_of_fields, parts_of_block, parts_of_transform, parts_of_unicode, parts_of_others, parts_of_private, parts_of_extensions, parts_of, IsOfKind, IsNormalTextOf}
+use Rattle.iloc_kinds.specs.Steps.{AreShortPieces, begun, inside, step, told, word_kind}
 use Rattle.iloc_kinds.specs.declared.kind.Kind.{Kind}
 use Rattle.iloc_kinds.specs.declared.kind.Kind.TheVariants as kinds
 use Rattle.iloc_kinds.specs.declared.state.State.{State}
@@ -34,7 +34,7 @@ IsPlain p = IsShortPiece p × IsHyphenFree p
 pub plain_word : (k : words.Kind) → Bounds 8 k → (p : Text) → IsWord k p → IsPlain p
 plain_word k b p h = (short_word k b p h, word_hyphen_free k p h)
 
-pub plain_of : (w : Part) → IsOfKind w → IsPlain w.1
+pub plain_of : (w : KindedPiece) → IsOfKind w → IsPlain w.1
 plain_of (kinds.Language, p) h = plain_word (Language languages) languages_table.most p h
 plain_of (kinds.Script, p) h = plain_word Script tt p h
 plain_of (kinds.Region, p) h = plain_word Region tt p h
@@ -196,14 +196,14 @@ is_open s = true
 abbrev pub Begins : List Text → Type 0
 Begins qs = (s : State) → is_open s ≡ true → told s qs ≡ told states.Other qs
 
-pub record AreTold (s : State) (ps : List Text) (parts : List Part) : Type 0 where
+pub record AreTold (s : State) (ps : List Text) (parts : List KindedPiece) : Type 0 where
   pub each : (qs : List Text) → Begins qs → told s (ps ++ qs) ≡ parts ++ told states.Other qs
   pub words : AllByRecursion IsOfKind parts
 
 nothing_told : (s : State) → is_open s ≡ true → AreTold s [] []
 nothing_told s o = record { each = λ qs begins. begins s o; words = tt }
 
-one_told : {s next : State} {k : Kind} {ps : List Text} {parts : List Part} (p : Text) → step s p ≡ (k, next)
+one_told : {s next : State} {k : Kind} {ps : List Text} {parts : List KindedPiece} (p : Text) → step s p ≡ (k, next)
     → IsOfKind (k, p)
     → AreTold next ps parts → AreTold s (p ∷ ps) ((k, p) ∷ parts)
 one_told {k = k} {ps = ps} p is word h = record {
@@ -215,7 +215,7 @@ one_told {k = k} {ps = ps} p is word h = record {
 each_told : (s : State) (k : Kind) (K : words.Kind) → ((p : Text) → IsWord K p → IsOfKind (k, p))
     → ((p : Text) → IsWord K p → step s p ≡ (k, s))
     → (ws : List Text) → AllByRecursion (IsWord K) ws
-    → {ps : List Text} {parts : List Part} → AreTold s ps parts → AreTold s (ws ++ ps) (of_kind k ws ++ parts)
+    → {ps : List Text} {parts : List KindedPiece} → AreTold s ps parts → AreTold s (ws ++ ps) (of_kind k ws ++ parts)
 each_told s k K b is [] h rest = rest
 each_told s k K b is (w ∷ ws) h rest =
     one_told w (is w h.0) (b w h.0) (each_told s k K b is ws h.1 rest)
@@ -223,23 +223,23 @@ each_told s k K b is (w ∷ ws) h rest =
 optional_told : (s : State) (k : Kind) (K : words.Kind) → ((p : Text) → IsWord K p → IsOfKind (k, p))
     → ((p : Text) → IsWord K p → step s p ≡ (k, s))
     → (o : Option Text) → IfSome o (IsWord K)
-    → {ps : List Text} {parts : List Part} → AreTold s ps parts
+    → {ps : List Text} {parts : List KindedPiece} → AreTold s ps parts
     → AreTold s (option_to_list o ++ ps) (of_kind k (option_to_list o) ++ parts)
 optional_told s k K b is None h rest = rest
 optional_told s k K b is (Some w) h rest = one_told w (is w h) (b w h) rest
 
 -- the same of equal lists
-told_as : {s : State} {ps qs : List Text} {xs ys : List Part} → ps ≡ qs → xs ≡ ys → AreTold s ps xs
+told_as : {s : State} {ps qs : List Text} {xs ys : List KindedPiece} → ps ≡ qs → xs ≡ ys → AreTold s ps xs
     → AreTold s qs ys
 told_as {s} {ps} {qs} {xs} {ys} e f h = subst (λ (l : List Text). AreTold s l ys) e
-    (subst (λ (l : List Part). AreTold s ps l) f h)
+    (subst (λ (l : List KindedPiece). AreTold s ps l) f h)
 
 three : {X : Type 0} (a b c d : List X) → a ++ (b ++ (c ++ d)) ≡ (a ++ (b ++ c)) ++ d
 three a b c d = sym (append_assoc a (b ++ c) d ∙ ap (λ l. a ++ l) (append_assoc b c d))
 
 -- words after a language
 after_language_told : {s : State} → TakesWords s → (i : Identifier) → HasWords languages i
-    → {ps : List Text} {parts : List Part} → AreTold s ps parts
+    → {ps : List Text} {parts : List KindedPiece} → AreTold s ps parts
     → AreTold s ((option_to_list i.script ++ (option_to_list i.region ++ i.variants)) ++ ps)
     ((of_kind kinds.Script (option_to_list i.script)
     ++ (of_kind kinds.Region (option_to_list i.region) ++ of_kind kinds.Variant i.variants)) ++ parts)
@@ -255,8 +255,8 @@ after_language_told {s} takes i h {ps} {parts} rest =
 identifier_told : {first s : State}
     → ((p : Text) → IsWord (Language languages) p → step first p ≡ (kinds.Language, s)) → TakesWords s
     → (i : Identifier) → HasWords languages i
-    → {ps : List Text} {parts : List Part} → AreTold s ps parts
-    → AreTold first (identifier_pieces i ++ ps) (identifier_parts i ++ parts)
+    → {ps : List Text} {parts : List KindedPiece} → AreTold s ps parts
+    → AreTold first (identifier_pieces i ++ ps) (parts_of_identifier i ++ parts)
 identifier_told is takes i h rest =
     one_told i.language (is i.language h.language) h.language
     (after_language_told takes i h rest)
@@ -270,7 +270,7 @@ module _ (s : State) (k : Kind) (K : words.Kind) (b : (p : Text) → IsWord K p 
     (o : is_open s ≡ true) (key : (p : Text) → IsWord K p → step s p ≡ (k, s))
     (value : (p : Text) → IsWord Attribute p → step s p ≡ (kinds.Value, s)) where
   fields_told : (first : State) → is_open first ≡ true → ((p : Text) → IsWord K p → step first p ≡ (k, s))
-      → (fs : Fields) → AreFields K fs → AreTold first (fields_pieces fs) (fields_parts k fs)
+      → (fs : Fields) → AreFields K fs → AreTold first (fields_pieces fs) (parts_of_fields k fs)
   fields_told first i is [] h = nothing_told first i
   fields_told first i is (f ∷ fs) h =
       one_told f.0 (is f.0 h.0.0) (b f.0 h.0.0)
@@ -280,7 +280,7 @@ module _ (s : State) (k : Kind) (K : words.Kind) (b : (p : Text) → IsWord K p 
 unicode_told : (u : Unicode) → AllByRecursion (IsWord Attribute) u.attributes
     → AreFields UnicodeKey u.keywords
     → AreTold states.Attributes (unicode_pieces u) (of_kind kinds.Attribute u.attributes
-    ++ fields_parts kinds.Key u.keywords)
+    ++ parts_of_fields kinds.Key u.keywords)
 unicode_told u h f =
     each_told states.Attributes kinds.Attribute Attribute (λ p h. h) attribute_in u.attributes h
     (fields_told states.Keywords kinds.Key UnicodeKey (λ p h. h) refl key_in_keywords value_in_keywords
@@ -290,7 +290,7 @@ unicode_told u h f =
 transform_told : (o : Option Identifier) (fs : Fields) → IfSome o (HasWords languages)
     → AreFields TransformKey fs
     → AreTold states.Transform (optional_pieces o ++ fields_pieces fs)
-    (optional_parts o ++ fields_parts kinds.Field fs)
+    (parts_of_optional o ++ parts_of_fields kinds.Field fs)
 transform_told None fs h f =
     fields_told states.Fields kinds.Field TransformKey (λ p h. h) refl field_in_fields value_in_fields
     states.Transform refl field_in_transform fs f
@@ -301,12 +301,12 @@ transform_told (Some i) fs h f =
 
 -- ---- the parts that follow the identifier
 
-pub record AreRest (es : List Text) (parts : List Part) : Type 0 where
+pub record AreRest (es : List Text) (parts : List KindedPiece) : Type 0 where
   pub are : told states.Other es ≡ parts
   pub begins : Begins es
   pub words : AllByRecursion IsOfKind parts
 
-told_alone : {s : State} {ps : List Text} {parts : List Part} → AreTold s ps parts → told s ps ≡ parts
+told_alone : {s : State} {ps : List Text} {parts : List KindedPiece} → AreTold s ps parts → told s ps ≡ parts
 told_alone {s} {ps} {parts} h = ap (told s) (sym (append-nil ps)) ∙ h.each [] (λ s o. refl) ∙ append-nil parts
 
 -- a piece of one byte begins a part in each state but the last
@@ -320,9 +320,9 @@ byte_word c h = rw h refl
 
 -- a part with its singleton, and what follows it
 module _ (c : ℕ) (s : State) (is : begun (to_ascii_lowercase c) ≡ s)
-    (byte : is_ascii_alphanumeric c ≡ true) {es : List Text} {q : List Part} (r : AreRest es q) where
+    (byte : is_ascii_alphanumeric c ≡ true) {es : List Text} {q : List KindedPiece} (r : AreRest es q) where
   some_told : (ps : List Text) → AreTold s ps (told s ps) → AreRest (printed_pieces (c, ps) ++ es)
-      (block_parts c (told s ps) ++ q)
+      (parts_of_block c (told s ps) ++ q)
   some_told [] h = r
   some_told (p ∷ ps) h = record {
     are = ap (λ n. (kinds.Singleton, c ∷ []) ∷ told n ((p ∷ ps) ++ es)) is
@@ -331,26 +331,26 @@ module _ (c : ℕ) (s : State) (is : begun (to_ascii_lowercase c) ≡ s)
     words = ((byte_word c byte, refl), all_append IsOfKind (told s (p ∷ ps)) q h.words r.words);
   }
 
-  block_told : {ps : List Text} {parts : List Part} → AreTold s ps parts
-      → AreRest (printed_pieces (c, ps) ++ es) (block_parts c parts ++ q)
+  block_told : {ps : List Text} {parts : List KindedPiece} → AreTold s ps parts
+      → AreRest (printed_pieces (c, ps) ++ es) (parts_of_block c parts ++ q)
   block_told {ps} {parts} h =
       let e = told_alone h in
-      subst (λ (xs : List Part). AreRest (printed_pieces (c, ps) ++ es) (block_parts c xs ++ q)) e
+      subst (λ (xs : List KindedPiece). AreRest (printed_pieces (c, ps) ++ es) (parts_of_block c xs ++ q)) e
       (some_told ps (told_as refl (sym e) h))
 
 -- `u` and what follows it
 unicode_rest : (u : Unicode) → AllByRecursion (IsWord Attribute) u.attributes
     → AreFields UnicodeKey u.keywords
-    → {es : List Text} {q : List Part} → AreRest es q → AreRest (unicode_spelling u ++ es)
-    (unicode_parts u ++ q)
+    → {es : List Text} {q : List KindedPiece} → AreRest es q → AreRest (unicode_spelling u ++ es)
+    (parts_of_unicode u ++ q)
 unfolding unicode_spelling
 unicode_rest u h f r = block_told 117 states.Attributes refl refl r (unicode_told u h f)
 
 -- `t` and what follows it
 transform_rest : (m : Transform) → IfSome (option_map lower_identifier m.id) (HasWords languages)
     → AreFields TransformKey (spelled_fields m.fields)
-    → {es : List Text} {q : List Part} → AreRest es q → AreRest (transform_spelling m ++ es)
-    (transform_parts m ++ q)
+    → {es : List Text} {q : List KindedPiece} → AreRest es q → AreRest (transform_spelling m ++ es)
+    (parts_of_transform m ++ q)
 unfolding transform_spelling
 transform_rest m h f r =
     block_told 116 states.Transform refl refl r
@@ -363,7 +363,7 @@ private_told [] = refl
 private_told (w ∷ ws) = ap (λ l. (kinds.Private, w) ∷ l) (private_told ws)
 
 private_rest : (ws : List Text) → AllByRecursion (IsWord PrivateSubtag) ws
-    → AreRest (private_spelling ws) (private_parts ws)
+    → AreRest (private_spelling ws) (parts_of_private ws)
 unfolding private_spelling
 private_rest [] h = record { are = refl; begins = λ s o. refl; words = tt }
 private_rest (w ∷ ws) h = record {
@@ -389,8 +389,8 @@ others_begun c h = let e = apart c h in rw (e.0, e.1, e.2) refl
     apart c h = (grind (arith, nat_tests), grind (arith, nat_tests), grind (arith, nat_tests))
 
 others_rest : (os : List Block) → AllByRecursion IsOtherPart os
-    → {es : List Text} {q : List Part} → AreRest es q
-    → AreRest (flat_map other_spelling os ++ es) (others_parts os ++ q)
+    → {es : List Text} {q : List KindedPiece} → AreRest es q
+    → AreRest (flat_map other_spelling os ++ es) (parts_of_others os ++ q)
 unfolding other_spelling
 others_rest [] h r = r
 others_rest (o ∷ os) h {es} {q} r =
@@ -400,10 +400,10 @@ others_rest (o ∷ os) h {es} {q} r =
     let n = block_told o.0 states.Other (ap begun h.0.0.1 ∙ others_begun o.0 h.0.0.0)
     (and_parts _ _ h.0.0.0).0
     (others_rest os h.1 r) told in
-    subst (λ (l : List Text). AreRest l (others_parts (o ∷ os) ++ q))
+    subst (λ (l : List Text). AreRest l (parts_of_others (o ∷ os) ++ q))
     (sym (append_assoc (printed_pieces o) (flat_map other_spelling os) es))
-    (subst (λ (l : List Part). AreRest (printed_pieces o ++ (flat_map other_spelling os ++ es)) l)
-    (sym (append_assoc (block_parts o.0 (of_kind kinds.Other o.1)) (others_parts os) q)) n)
+    (subst (λ (l : List KindedPiece). AreRest (printed_pieces o ++ (flat_map other_spelling os ++ es)) l)
+    (sym (append_assoc (parts_of_block o.0 (of_kind kinds.Other o.1)) (parts_of_others os) q)) n)
 
 -- what holds of all holds of those before `t`, and of those after
 before_all : (P : Block → Type 0) (os : List Block) → AllByRecursion P os → AllByRecursion P (before_t os)
@@ -463,9 +463,9 @@ module _ (e : Extensions) (v : IsExtensionsValue languages e) (w : AreWellFormed
       (all_weaker (λ o. AllByRecursion (IsNormal Subtag) o.1) (λ o. AllByRecursion (IsWord Subtag) o.1)
       (λ o h. all_weaker (IsNormal Subtag) (IsWord Subtag) (λ w n. n.0) o.1 h) e.others v.others)
 
-  extensions_rest : AreRest (extensions_spelling e) (extensions_parts e)
+  extensions_rest : AreRest (extensions_spelling e) (parts_of_extensions e)
   extensions_rest =
-      subst (λ (l : List Text). AreRest l (extensions_parts e)) (sym (spelling_of_parts e))
+      subst (λ (l : List Text). AreRest l (parts_of_extensions e)) (sym (spelling_of_parts e))
       (others_rest (before_t e.others) (before_all IsOtherPart e.others others_are)
       (transform_rest e.transform source_is fields_are
       (unicode_rest e.unicode attributes_are keywords_are
@@ -473,36 +473,36 @@ module _ (e : Extensions) (v : IsExtensionsValue languages e) (w : AreWellFormed
       (private_rest e.private private_are)))))
 
 -- the pieces of parts are those that are told
-pub told_pieces : (s : State) (ps : List Text) → map (λ (w : Part). w.1) (told s ps) ≡ ps
+pub told_pieces : (s : State) (ps : List Text) → map (λ (w : KindedPiece). w.1) (told s ps) ≡ ps
 told_pieces s [] = refl
 told_pieces s (p ∷ ps) = ap (λ l. p ∷ l) (told_pieces (step s p).1 ps)
 
 -- what the pieces of a normal text are
 pub record AreParts (M : Locale) (t : Text) : Type 0 where
   pub told : told states.Start (pieces t) ≡ parts_of M
-  pub short : AreShort (pieces t)
+  pub short : AreShortPieces (pieces t)
   pub words : AllByRecursion IsOfKind (parts_of M)
 
-pub text_told : (M : Locale) (t : Text) → IsTextOf M t → AreParts M t
+pub text_told : (M : Locale) (t : Text) → IsNormalTextOf M t → AreParts M t
 unfolding parts_of
 text_told M t h =
     let e = M.extensions in
     let rest = extensions_rest e h.value.extensions h.tests in
     let id = identifier_told {first = states.Start} {s = states.Head} language_in_start head_takes M.id
     (value_words h.value.id) (nothing_told states.Head refl) in
-    let front = told_as (append-nil (identifier_pieces M.id)) (append-nil (identifier_parts M.id)) id in
+    let front = told_as (append-nil (identifier_pieces M.id)) (append-nil (parts_of_identifier M.id)) id in
     let all = identifier_pieces M.id ++ extensions_spelling e in
     let are : told states.Start all ≡ parts_of M =
-    front.each (extensions_spelling e) rest.begins ∙ ap (λ l. identifier_parts M.id ++ l) rest.are in
+    front.each (extensions_spelling e) rest.begins ∙ ap (λ l. parts_of_identifier M.id ++ l) rest.are in
     let words : AllByRecursion IsOfKind (parts_of M) =
-    all_append IsOfKind (identifier_parts M.id) (extensions_parts e) front.words rest.words in
+    all_append IsOfKind (parts_of_identifier M.id) (parts_of_extensions e) front.words rest.words in
     let plain : AllByRecursion IsPlain all =
-    subst (AllByRecursion IsPlain) (ap (map (λ (w : Part). w.1)) (sym are) ∙ told_pieces states.Start all)
+    subst (AllByRecursion IsPlain) (ap (map (λ (w : KindedPiece). w.1)) (sym are) ∙ told_pieces states.Start all)
     (all_mapped IsOfKind IsPlain (λ w. w.1) plain_of (parts_of M) words) in
     let cut : pieces t ≡ all = ap pieces h.text ∙ pieces-join M.id.language _
     (all_weaker IsPlain IsHyphenFree (λ p h. h.1) all plain) in
     record {
       told = ap (told states.Start) cut ∙ are;
-      short = subst AreShort (sym cut) (all_weaker IsPlain IsShortPiece (λ p h. h.0) all plain);
+      short = subst AreShortPieces (sym cut) (all_weaker IsPlain IsShortPiece (λ p h. h.0) all plain);
       words = words;
     }

@@ -7,8 +7,8 @@ use Rattle.iloc_spec_grammar.proofs.PiecesLaws.{at_pieces}
 use Rattle.iloc_pieces.specs.Left.{IsRemainder, IsNextPiece, IsShortPiece, bytes_left, piece_left, pieces_left}
 use Rattle.iloc_pieces.specs.declared.left.Left.{Left}
 use Rattle.iloc_pieces.proofs.LeftLemmas.{first_within, last_piece, length_piece, length_rest, next_at}
-use Rattle.iloc_kinds.specs.Kinds.{Part, IsTextOf, kind_number, parts_of, rows_from, rows_of}
-use Rattle.iloc_kinds.specs.Steps.{AreShort, step, told}
+use Rattle.iloc_kinds.specs.Kinds.{KindedPiece, IsNormalTextOf, kind_number, parts_of, rows_from, rows_of}
+use Rattle.iloc_kinds.specs.Steps.{AreShortPieces, step, told}
 use Rattle.iloc_kinds.specs.declared.state.State.{State}
 use Rattle.iloc_kinds.specs.declared.state.State.TheVariants.{Start}
 use Rattle.iloc_kinds.proofs.Telling.{text_told}
@@ -16,8 +16,8 @@ use Rattle.iloc_kinds.proofs.Telling.{text_told}
 -- ---- a piece that is left
 
 -- the first of short pieces is short
-pub first_short : (l : Left) → AreShort (pieces_left l) → IsShortPiece (piece_left l)
-first_short l h = at_pieces (λ ps. AreShort ps → IsShortPiece (first_piece ps)) (λ p ps h. h.0)
+pub first_short : (l : Left) → AreShortPieces (pieces_left l) → IsShortPiece (piece_left l)
+first_short l h = at_pieces (λ ps. AreShortPieces ps → IsShortPiece (first_piece ps)) (λ p ps h. h.0)
     (bytes_left l) h
 
 whole : (t : Text) (l : Left) → bytes_left l ≡ take (length t) t → pieces_left l ≡ pieces t
@@ -28,18 +28,18 @@ whole t l e = ap pieces (e ∙ take_all (length t) t (omega arith))
 -- so many pieces were counted, up to this one
 pub record IsCounted (t : Text) (at : Left) (count : ℕ) : Type 0 where
   pub left : IsRemainder at
-  pub short : AreShort (pieces_left at)
+  pub short : AreShortPieces (pieces_left at)
   pub sum : count + length (pieces_left at) ≡ length (pieces t) + 1
   pub few : count ≤ at.at + 1
   pub end : at.at + at.len ≡ length t
 
-pub count_begins : (t : Text) (at : Left) → AreShort (pieces t) → IsRemainder at → at.at ≡ 0
+pub count_begins : (t : Text) (at : Left) → AreShortPieces (pieces t) → IsRemainder at → at.at ≡ 0
     → at.len ≡ length t → bytes_left at ≡ take (length t) t → IsCounted t at 1
 count_begins t at h l a n e =
     let w = whole t at e in
     record {
       left = l;
-      short = subst AreShort (sym w) h;
+      short = subst AreShortPieces (sym w) h;
       sum = omega (arith, ap length w);
       few =
           omega arith;
@@ -49,7 +49,7 @@ count_begins t at h l a n e =
 pub count_on : {t : Text} {at m : Left} {count : ℕ} → IsCounted t at count → IsNextPiece at m
     → IsCounted t m (count + 1)
 count_on {t} {at} {m} {count} c n =
-    let w = subst AreShort n.pieces c.short in
+    let w = subst AreShortPieces n.pieces c.short in
     record {
       left = n.left;
       short = w.1;
@@ -69,24 +69,24 @@ length_told s [] = refl
 length_told s (p ∷ ps) = ap suc (length_told (step s p).1 ps)
 
 -- a normal text has as many pieces as its locale has parts
-pub as_many : (M : Locale) (t : Text) → IsTextOf M t → length (pieces t) ≡ length (parts_of M)
+pub as_many : (M : Locale) (t : Text) → IsNormalTextOf M t → length (pieces t) ≡ length (parts_of M)
 as_many M t h = sym (length_told Start (pieces t)) ∙ ap length (text_told M t h).told
 
 -- ---- writing
 
 -- three numbers of each part
-length_rows : (at : ℕ) (ps : List Part) → length (rows_from at ps) ≡ 3 * length ps
+length_rows : (at : ℕ) (ps : List KindedPiece) → length (rows_from at ps) ≡ 3 * length ps
 length_rows at [] = refl
 length_rows at (p ∷ ps) = omega (arith, length_rows (at + length p.1 + 1) ps)
 
-pub length_rows_of : (ps : List Part) → length (rows_of ps) ≡ 3 * length ps
+pub length_rows_of : (ps : List KindedPiece) → length (rows_of ps) ≡ 3 * length ps
 unfolding rows_of
 length_rows_of ps = length_rows 0 ps
 
 -- the rows up to this piece stand in the table, and what was behind them still does
 pub record IsWritten (t : Text) (at : Left) (s : State) (from : ℕ) (before table : List ℕ) : Type 0 where
   pub left : IsRemainder at
-  pub short : AreShort (pieces_left at)
+  pub short : AreShortPieces (pieces_left at)
   pub done : List ℕ
   pub long : length done ≡ from
   pub rows : rows_from 0 (told Start (pieces t)) ≡ done ++ rows_from at.at (told s (pieces_left at))
@@ -94,7 +94,7 @@ pub record IsWritten (t : Text) (at : Left) (s : State) (from : ℕ) (before tab
   pub fits : from + 3 * length (pieces_left at) ≤ length before
   pub end : at.at + at.len ≡ length t
 
-pub write_begins : (M : Locale) (t : Text) (at : Left) (before : List ℕ) → IsTextOf M t
+pub write_begins : (M : Locale) (t : Text) (at : Left) (before : List ℕ) → IsNormalTextOf M t
     → length (rows_of (parts_of M)) ≤ length before
     → IsRemainder at → at.at ≡ 0 → at.len ≡ length t → bytes_left at ≡ take (length t) t
     → IsWritten t at Start 0 before before
@@ -103,7 +103,7 @@ write_begins M t at before h room l a n e =
     let w = whole t at e in
     record {
       left = l;
-      short = subst AreShort (sym w) (text_told M t h).short;
+      short = subst AreShortPieces (sym w) (text_told M t h).short;
       done = [];
       long = refl;
       rows = λ j. rows_from (sym a j) (told Start (sym w j));
@@ -161,7 +161,7 @@ module _ {t : Text} {at : Left} {s : State} {from : ℕ} {before table : List �
       → IsNextPiece at m
       → IsWritten t m (step s (piece_left at)).1 (from + 3) before after
   write_on {m} after e n =
-      let w = subst AreShort n.pieces h.short in
+      let w = subst AreShortPieces n.pieces h.short in
       record {
         left = n.left;
         short = w.1;
@@ -177,7 +177,7 @@ module _ {t : Text} {at : Left} {s : State} {from : ℕ} {before table : List �
 
   -- all rows
   pub write_ends : (after : List ℕ) → after ≡ take from table ++ row (drop (from + 3) table) → at.n ≡ at.len
-      → (M : Locale) → IsTextOf M t
+      → (M : Locale) → IsNormalTextOf M t
       → after ≡ rows_of (parts_of M) ++ drop (length (rows_of (parts_of M))) before
   unfolding rows_of
   write_ends after e last M is =

@@ -10,65 +10,67 @@ use Rattle.iloc_kinds.specs.declared.kind.Kind.{Kind}
 use Rattle.iloc_kinds.specs.declared.kind.Kind.TheVariants.{Language, Script, Region, Variant, Singleton, Attribute, Key, Value, Field, Other, Private}
 
 -- a piece, and what it is
-abbrev pub Part : Type 0
-Part = Kind × Text
+abbrev pub KindedPiece : Type 0
+KindedPiece = Kind × Text
 
 -- the parts of a locale: what its text joins
 
 -- each piece of this kind
-abbrev pub of_kind : Kind → List Text → List Part
+abbrev pub of_kind : Kind → List Text → List KindedPiece
 of_kind kind ps = map (λ p. (kind, p)) ps
 
 -- a language, perhaps a script and a region, and variants (UTS #35 3.1, `unicode_language_id`)
-abbrev pub identifier_parts : Identifier → List Part
-identifier_parts i = (Language, i.language)
+abbrev pub parts_of_identifier : Identifier → List KindedPiece
+parts_of_identifier i = (Language, i.language)
     ∷ (of_kind Script (option_to_list i.script)
     ++ (of_kind Region (option_to_list i.region) ++ of_kind Variant i.variants))
 
 -- none if the identifier is absent
-abbrev pub optional_parts : Option Identifier → List Part
-optional_parts None = []
-optional_parts (Some i) = identifier_parts i
+abbrev pub parts_of_optional : Option Identifier → List KindedPiece
+parts_of_optional None = []
+parts_of_optional (Some i) = parts_of_identifier i
 
 -- each key, of this kind, and its values (UTS #35 3.2, `ufield` and `tfield`)
-abbrev pub fields_parts : Kind → Fields → List Part
-fields_parts kind fs = flat_map (λ (key, values). (kind, key) ∷ of_kind Value values) fs
+abbrev pub parts_of_fields : Kind → Fields → List KindedPiece
+parts_of_fields kind fs = flat_map (λ (key, values). (kind, key) ∷ of_kind Value values) fs
 
 -- a singleton, and what follows it; an empty part gives none
-abbrev pub block_parts : ℕ → List Part → List Part
-block_parts c [] = []
-block_parts c (p ∷ ps) = (Singleton, c ∷ []) ∷ (p ∷ ps)
+abbrev pub parts_of_block : ℕ → List KindedPiece → List KindedPiece
+parts_of_block c [] = []
+parts_of_block c (p ∷ ps) = (Singleton, c ∷ []) ∷ (p ∷ ps)
 
 -- `t`, an identifier in lower case, and fields, of which an empty value is spelled `true` (UTS #35
 -- 3.2, `transformed_extensions`)
-abbrev pub transform_parts : Transform → List Part
-transform_parts m = block_parts code_t (optional_parts (option_map lower_identifier m.id)
-    ++ fields_parts Field (spelled_fields m.fields))
+abbrev pub parts_of_transform : Transform → List KindedPiece
+parts_of_transform m = parts_of_block code_t (parts_of_optional (option_map lower_identifier m.id)
+    ++ parts_of_fields Field (spelled_fields m.fields))
 
 -- `u`, attributes and keywords (UTS #35 3.2, `unicode_locale_extensions`)
-abbrev pub unicode_parts : Unicode → List Part
-unicode_parts u = block_parts code_u (of_kind Attribute u.attributes ++ fields_parts Key u.keywords)
+abbrev pub parts_of_unicode : Unicode → List KindedPiece
+parts_of_unicode u = parts_of_block code_u
+    (of_kind Attribute u.attributes ++ parts_of_fields Key u.keywords)
 
 -- other extensions, each with its singleton (UTS #35 3.2, `other_extensions`)
-abbrev pub others_parts : List Block → List Part
-others_parts os = flat_map (λ (c, ws). block_parts c (of_kind Other ws)) os
+abbrev pub parts_of_others : List Block → List KindedPiece
+parts_of_others os = flat_map (λ (c, ws). parts_of_block c (of_kind Other ws)) os
 
 -- `x`, and private subtags (UTS #35 3.2, `pu_extensions`)
-abbrev pub private_parts : List Text → List Part
-private_parts ws = block_parts code_x (of_kind Private ws)
+abbrev pub parts_of_private : List Text → List KindedPiece
+parts_of_private ws = parts_of_block code_x (of_kind Private ws)
 
 -- others up to `t`, `t`, `u`, other others, and `x` (UTS #35 3.2.1)
-abbrev pub extensions_parts : Extensions → List Part
-extensions_parts e = others_parts (before_t e.others)
-    ++ (transform_parts e.transform
-    ++ (unicode_parts e.unicode ++ (others_parts (after_t e.others) ++ private_parts e.private)))
+abbrev pub parts_of_extensions : Extensions → List KindedPiece
+parts_of_extensions e = parts_of_others (before_t e.others)
+    ++ (parts_of_transform e.transform
+    ++ (parts_of_unicode e.unicode
+    ++ (parts_of_others (after_t e.others) ++ parts_of_private e.private)))
 
 -- the identifier in front, and the extensions (UTS #35 3.2, `unicode_locale_id`)
-unfoldable pub parts_of : Locale → List Part
-parts_of M = identifier_parts M.id ++ extensions_parts M.extensions
+unfoldable pub parts_of : Locale → List KindedPiece
+parts_of M = parts_of_identifier M.id ++ parts_of_extensions M.extensions
 
 -- the part is a word of its kind (UTS #35 3.1 and 3.2)
-abbrev pub IsOfKind : Part → Type 0
+abbrev pub IsOfKind : KindedPiece → Type 0
 IsOfKind (Language, p) = IsWord (words.Language languages) p
 IsOfKind (Script, p) = IsWord words.Script p
 IsOfKind (Region, p) = IsWord words.Region p
@@ -82,7 +84,7 @@ IsOfKind (Other, p) = IsWord words.Subtag p
 IsOfKind (Private, p) = IsWord words.PrivateSubtag p
 
 -- the normal text of a well-formed value
-pub record IsTextOf (M : Locale) (t : Text) : Type 0 where
+pub record IsNormalTextOf (M : Locale) (t : Text) : Type 0 where
   pub value : IsValue languages M
   pub tests : AreWellFormed M.extensions
   pub text : t ≡ text M
@@ -105,17 +107,17 @@ kind_number Private = 10
 
 -- three numbers of each part: where it begins, where it ends, and that of its kind; the first one
 -- begins at `at`, and each other behind the hyphen after the one before it
-abbrev pub rows_from : ℕ → List Part → List ℕ
+abbrev pub rows_from : ℕ → List KindedPiece → List ℕ
 rows_from at [] = []
 rows_from at ((kind, p) ∷ ps) =
     at ∷ (at + length p) ∷ kind_number kind ∷ rows_from (at + length p + 1) ps
 
 -- the rows of all parts of a text
-unfoldable pub rows_of : List Part → List ℕ
+unfoldable pub rows_of : List KindedPiece → List ℕ
 rows_of ps = rows_from 0 ps
 
 -- each row says where its part stands in the text, and its kind
-abbrev pub ArePlaced : Text → List ℕ → List Part → Type 0
+abbrev pub ArePlaced : Text → List ℕ → List KindedPiece → Type 0
 ArePlaced t [] [] = ⊤
 ArePlaced t (start ∷ end ∷ number ∷ rows) ((kind, p) ∷ ps) = (start ≤ end) × (end ≤ length t)
     × (take (end - start) (drop start t) ≡ p) × (number ≡ kind_number kind) × ArePlaced t rows ps

@@ -5,7 +5,7 @@ use Rattle.std.specs.List.{AllByRecursion}
 use Rattle.iloc_spec_grammar.specs.Syntax.{Text, code_t, code_u, code_x, is_one_byte, is_word, TransformKey, UnicodeKey}
 use Rattle.iloc_spec_grammar.specs.Syntax as words
 use Rattle.iloc_pieces.specs.Left.{IsShortPiece}
-use Rattle.iloc_kinds.specs.Kinds.{Part}
+use Rattle.iloc_kinds.specs.Kinds.{KindedPiece}
 use Rattle.iloc_kinds.specs.declared.kind.Kind.{Kind}
 use Rattle.iloc_kinds.specs.declared.kind.Kind.TheVariants as kinds
 use Rattle.iloc_kinds.specs.declared.state.State.{State}
@@ -23,9 +23,9 @@ begun c = if c == code_t then Transform else
     if c == code_x then Private else Other
 
 -- whether the piece begins a part: no piece after `x` does
-abbrev pub begins_block : State → Text → Bool
-begins_block Private p = false
-begins_block _ p = is_one_byte p
+abbrev pub is_singleton_piece : State → Text → Bool
+is_singleton_piece Private p = false
+is_singleton_piece _ p = is_one_byte p
 
 -- what a piece is that begins no part, and what comes after it
 abbrev pub inside : State → Text → Kind × State
@@ -44,14 +44,14 @@ inside Private p = (kinds.Private, Private)
 
 -- what a piece is, and what comes after it
 abbrev pub step : State → Text → Kind × State
-step s p = if begins_block s p
+step s p = if is_singleton_piece s p
     then (kinds.Singleton, begun (to_ascii_lowercase (slice_index p 0))) else inside s p
 
 -- what each piece is
-abbrev pub told : State → List Text → List Part
+abbrev pub told : State → List Text → List KindedPiece
 told s [] = []
 told s (p ∷ ps) = ((step s p).0, p) ∷ told (step s p).1 ps
 
 -- no piece is longer than a word
-abbrev pub AreShort : List Text → Type 0
-AreShort ps = AllByRecursion IsShortPiece ps
+abbrev pub AreShortPieces : List Text → Type 0
+AreShortPieces ps = AllByRecursion IsShortPiece ps

@@ -1,15 +1,15 @@
 //! The rows of a normal text: where each piece stands, and what it is.
 ghost use Rattle.std.specs.Prelude.{◌≡◌, ◌+◌, ◌≤◌, ◌∷◌, ◌++◌, length, take, drop};
 ghost use Rattle.iloc_spec_grammar.specs.Meaning.{Locale};
-ghost use Rattle.iloc_kinds.specs.Kinds.{IsTextOf, parts_of, rows_of};
+ghost use Rattle.iloc_kinds.specs.Kinds.{IsNormalTextOf, parts_of, rows_of};
 
 use crate::state::{State, step};
 use iloc_pieces::left::{is_last, left_in, next};
 
 /// How many pieces a normal text has.
 pub fn count_pieces(normal: &[u8]) -> usize
-    requires { (M : Locale) × IsTextOf M normal.now }
-    ensures { (M : Locale) → IsTextOf M normal.now → result ≡ length (parts_of M) }
+    requires { (M : Locale) × IsNormalTextOf M normal.now }
+    ensures { (M : Locale) → IsNormalTextOf M normal.now → result ≡ length (parts_of M) }
 {
     let mut at = left_in(normal, normal.len());
     let mut count = 1;
@@ -31,10 +31,10 @@ fn write_row(table: &mut [usize], from: usize, start: usize, end: usize, kind: u
 /// Writes three numbers for each piece of a normal text to the front of a table: where it begins, where it ends, and that
 /// of its kind.
 pub fn write_rows(normal: &[u8], table: &mut [usize])
-    requires normal { (M : Locale) × IsTextOf M normal.now }
-    requires room { (M : Locale) → IsTextOf M normal.now
+    requires normal { (M : Locale) × IsNormalTextOf M normal.now }
+    requires room { (M : Locale) → IsNormalTextOf M normal.now
         → length (rows_of (parts_of M)) ≤ length table.old }
-    ensures { (M : Locale) → IsTextOf M normal.now
+    ensures { (M : Locale) → IsNormalTextOf M normal.now
         → table.new ≡ rows_of (parts_of M) ++ drop (length (rows_of (parts_of M))) table.old }
 {
     let mut at = left_in(normal, normal.len());

@@ -3,7 +3,7 @@ ghost use Rattle.std.specs.Prelude.{◌≡◌, slice_index, true};
 ghost use Rattle.std.specs.Char.{to_ascii_lowercase};
 ghost use Rattle.iloc_spec_grammar.specs.Syntax.{is_one_byte};
 ghost use Rattle.iloc_pieces.specs.Left.{IsRemainder, piece_left};
-ghost use Rattle.iloc_kinds.specs.Steps.{begins_block, begun, inside, step, word_kind};
+ghost use Rattle.iloc_kinds.specs.Steps.{is_singleton_piece, begun, inside, step, word_kind};
 
 use crate::kind::Kind;
 use iloc_pieces::left::{Left, is_field_key, is_key, is_region, is_script, is_single, singleton};
@@ -58,9 +58,9 @@ fn begun(byte: u8) -> State
 }
 
 // Whether the piece begins a part: it has one byte, and is not private.
-fn begins_block(state: State, at: Left<'_>) -> bool
+fn is_singleton_piece(state: State, at: Left<'_>) -> bool
     requires { IsRemainder at }
-    ensures { result ≡ begins_block state (piece_left at.entry) }
+    ensures { result ≡ is_singleton_piece state (piece_left at.entry) }
 {
     match state {
         State::Private => false,
@@ -116,7 +116,7 @@ pub fn step(state: State, at: Left<'_>) -> (Kind, State)
     requires { IsRemainder at }
     ensures { result ≡ step state (piece_left at.entry) }
 {
-    if begins_block(state, at) {
+    if is_singleton_piece(state, at) {
         return (Kind::Singleton, begun(singleton(at)));
     }
     inside(state, at)

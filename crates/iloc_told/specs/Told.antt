@@ -50,8 +50,8 @@ IsNothingOnlyIf reason _ = ⊤
 
 -- what is written in a room is so: the normal text comes first; nothing is written of a data locale,
 -- or of a text that is not outlined there
-abbrev pub IsWritten : Mode → Text → Text → Written → Type 0
-IsWritten mode t room (written.Normal n) = (n ≤ length t) × (length t + 16 ≤ length room)
+abbrev pub IsNormalWritten : Mode → Text → Text → Written → Type 0
+IsNormalWritten mode t room (written.Normal n) = (n ≤ length t) × (length t + 16 ≤ length room)
     × IsNormalText languages mode t (take n room)
-IsWritten mode t room (written.Refused e) = HasRefusal mode t e
-IsWritten mode t room written.Nothing = (mode ≡ Data) ⊎ IsBeyond (length room) t
+IsNormalWritten mode t room (written.Refused e) = HasRefusal mode t e
+IsNormalWritten mode t room written.Nothing = (mode ≡ Data) ⊎ IsBeyond (length room) t

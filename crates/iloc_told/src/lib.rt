@@ -5,7 +5,7 @@
 //! (`iloc_fronts`, `leads`). Four kinds of callers stand on it: the lines of the program (`iloc_lines`), the calls for C
 //! (`iloc_calls`), and `normalize` of identifiers and of locales (`normalize_short`, `normalize_told`).
 //!
-//! It promises that what is told is so, in the words of the grammar (`IsWritten`, `IsTold`): the text is the normal text of
+//! It promises that what is told is so, in the words of the grammar (`IsNormalWritten`, `IsTold`): the text is the normal text of
 //! what the text means, or the text has the fault. `Nothing` and `None` say nothing: the caller then parses. Of identifiers
 //! and locales they come only if the text is beyond the outline (`IsBeyond`): more than 64 pieces, 65,536 bytes or more,
 //! or more than there is room for.

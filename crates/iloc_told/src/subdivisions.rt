@@ -4,7 +4,7 @@ ghost use Rattle.std.specs.Char.{is_ascii_alphabetic};
 ghost use Rattle.iloc_spec_grammar.specs.Syntax.{Attribute, IsWord, Variant, is_same, lower};
 ghost use Rattle.iloc_spec_preferences.specs.DataLocales.{whole};
 ghost use Rattle.iloc_told.specs.Subdivisions.{IsBefore, IsNamed, IsSubdivisionBlock, value_named};
-ghost use Rattle.iloc_told.specs.Told.{IsWritten};
+ghost use Rattle.iloc_told.specs.Told.{IsNormalWritten};
 ghost use Rattle.iloc_told.specs.declared.Mode.TheVariants as Mode;
 
 use crate::copying::copy_lower;
@@ -29,7 +29,7 @@ struct Named {
 pub(crate) fn write_varied(window: &[u8], len: usize, n: usize, to: &mut [u8]) -> Written
     requires wide { len + 16 ≤ length window.now }
     requires room { len + 16 ≤ length to.old }
-    ensures { IsWritten Mode.Data (take len window.now) to.new result }
+    ensures { IsNormalWritten Mode.Data (take len window.now) to.new result }
 {
     let at = len.wrapping_sub(n.wrapping_add(1));
     match write_plain(window, len, at, to) {
@@ -50,7 +50,7 @@ pub(crate) fn write_subdivision(
 ) -> Written
     requires wide { len + 16 ≤ length window.now }
     requires room { len + 16 ≤ length to.old }
-    ensures { IsWritten Mode.Data (take len window.now) to.new result }
+    ensures { IsNormalWritten Mode.Data (take len window.now) to.new result }
 {
     if start <= at || start >= len || window[start - 1] != b'-' {
         return Written::Nothing;

@@ -1,7 +1,7 @@
 //! Writes the normal text of a text, in each mode.
 ghost use Rattle.std.specs.Prelude.{◌≡◌, ◌+◌, ◌≤◌, ◌<◌, ◌^◌, length, take};
 ghost use Rattle.iloc_outline.specs.Outlines.{BeginsWithLanguage};
-ghost use Rattle.iloc_told.specs.Told.{IsLead, IsWritten};
+ghost use Rattle.iloc_told.specs.Told.{IsLead, IsNormalWritten};
 ghost use Rattle.iloc_told.specs.declared.Mode.TheVariants as Mode;
 
 use crate::Mode;
@@ -39,7 +39,7 @@ pub fn write_normal(
 ) -> Written
     requires wide { len + 16 ≤ length window.now }
     requires lead { IsLead mode (take len window.now) lead }
-    ensures { IsWritten mode (take len window.now) to.new result }
+    ensures { IsNormalWritten mode (take len window.now) to.new result }
 {
     if len >= TOO_MANY || to.len() < len + 16 {
         return Written::Nothing;
@@ -66,7 +66,7 @@ fn write_outlined(
     requires few { len < 2 ^ 16 }
     requires begins { BeginsWithLanguage (take len window.now) }
     requires room { len + 16 ≤ length to.old }
-    ensures { IsWritten mode (take len window.now) to.new result }
+    ensures { IsNormalWritten mode (take len window.now) to.new result }
 {
     match mode {
         Mode::Langid => write_identifier(window, len, spans, to),
@@ -82,7 +82,7 @@ fn write_identifier(window: &[u8], len: usize, spans: &mut Spans, to: &mut [u8])
     requires few { len < 2 ^ 16 }
     requires begins { BeginsWithLanguage (take len window.now) }
     requires room { len + 16 ≤ length to.old }
-    ensures { IsWritten Mode.Langid (take len window.now) to.new result }
+    ensures { IsNormalWritten Mode.Langid (take len window.now) to.new result }
 {
     match outline_identifier(window, len, spans) {
         Outlined::Normal(outline) => {
@@ -101,7 +101,7 @@ fn write_locale(window: &[u8], len: usize, spans: &mut Spans, to: &mut [u8]) -> 
     requires few { len < 2 ^ 16 }
     requires begins { BeginsWithLanguage (take len window.now) }
     requires room { len + 16 ≤ length to.old }
-    ensures { IsWritten Mode.Locale (take len window.now) to.new result }
+    ensures { IsNormalWritten Mode.Locale (take len window.now) to.new result }
 {
     match outline_locale(window, len, spans) {
         Outlined::Normal(outline) => {

@@ -12,7 +12,7 @@ use Rattle.iloc_spec_grammar.proofs.RawLaws.{languages_table}
 use Rattle.iloc_spec_grammar.proofs.SameText.{well_formed_is}
 use Rattle.iloc_spec_preferences.specs.DataLocales.{DataLocale, DataMeans, data_text, locale_of_data}
 use Rattle.iloc_spec_preferences.proofs.DataLaws.{locale_of_data_is_value, locale_of_data_is_well_formed, read_is_data_locale, text_of_data}
-use Rattle.iloc_kinds.specs.Kinds.{IsTextOf, parts_of, rows_of}
+use Rattle.iloc_kinds.specs.Kinds.{IsNormalTextOf, parts_of, rows_of}
 use Rattle.iloc_told.specs.Modes.{IsNormalText}
 use Rattle.iloc_told.specs.declared.Mode.{Mode}
 use Rattle.iloc_told.specs.declared.Mode.TheVariants.{Langid, Locale, Data}
@@ -26,14 +26,14 @@ use Rattle.locale_web.specs.Parts.{MeansLocale, PartsAreWritten}
 pub record HasLocale (mode : Mode) (t n : Text) : Type 0 where
   pub locale : meaning.Locale
   pub meant : MeansLocale mode t locale
-  pub is : IsTextOf locale n
+  pub is : IsNormalTextOf locale n
 
 alone_text : (i : Identifier) → text (without_extensions i) ≡ identifier_text i
 unfolding extensions_spelling
 alone_text i = text_of_parts (without_extensions i) ∙ append-nil (identifier_text i)
 
 alone_is : (t : Text) (i : Identifier) → IdentifierMeans languages (pieces t) i
-    → IsTextOf (without_extensions i) (identifier_text i)
+    → IsNormalTextOf (without_extensions i) (identifier_text i)
 alone_is t i m = record {
   value = record {
     id = identifier_means_value (pieces t) i m;
@@ -48,7 +48,7 @@ alone_is t i m = record {
   text = sym (alone_text i);
 }
 
-data_is : (t : Text) (d : DataLocale) → DataMeans languages t d → IsTextOf (locale_of_data d) (data_text d)
+data_is : (t : Text) (d : DataLocale) → DataMeans languages t d → IsNormalTextOf (locale_of_data d) (data_text d)
 data_is t d m =
     let h = read_is_data_locale t d m in
     let v = locale_of_data_is_value d h in

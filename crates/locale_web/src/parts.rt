@@ -1,7 +1,7 @@
 //! Hands out the parts of normal texts.
 ghost use Rattle.std.specs.Prelude.{◌≡◌, MatchOption, length, take};
 ghost use Rattle.iloc_spec_grammar.specs.Meaning.{Locale};
-ghost use Rattle.iloc_kinds.specs.Kinds.{IsTextOf, parts_of, rows_of};
+ghost use Rattle.iloc_kinds.specs.Kinds.{IsNormalTextOf, parts_of, rows_of};
 ghost use Rattle.iloc_calls.specs.Answers.{HandsOut};
 ghost use Rattle.locale_web.specs.Parts.{NoPartIsWritten, PartsAreWritten};
 
@@ -15,8 +15,8 @@ const ROW: usize = 3;
 
 // Writes the rows of a normal text into the table if they fit, and how many numbers they are to `needed`.
 fn hand_out_rows(normal: &[u8], table: &mut [usize], needed: &mut usize) -> Status
-    requires { (M : Locale) × IsTextOf M normal.now }
-    ensures { (M : Locale) → IsTextOf M normal.now
+    requires { (M : Locale) × IsNormalTextOf M normal.now }
+    ensures { (M : Locale) → IsNormalTextOf M normal.now
         → HandsOut (rows_of (parts_of M)) table.old table.new needed.new result }
 {
     let wanted = count_pieces(normal).saturating_mul(ROW);
