@@ -14,8 +14,8 @@ import surface_locales
 import surface_parts
 import surface_words
 
-# (one program of all calls is too large for clang)
-PROGRAMS = 8
+# (clang takes very long over one program of all calls)
+PROGRAMS = 4
 # The calls of one `match`, so that none grows large.
 GROUP = 40
 PARSED = r"FOUR(N?)\(([\w:]+), ([ab])\)"
