@@ -23,6 +23,7 @@ ghost use Rattle.std.specs.Prelude.{
 ghost use Rattle.std.specs.Io.KnownBytes.{Appends};
 ghost use Rattle.iloc_writeable.specs.Growth.{AddsBeginning};
 ghost use Rattle.iloc_lines.specs.ReplyBlock.{held};
+ghost use Rattle.iloc_told.specs.Told.{IsLead};
 ghost use Rattle.iloc_lines.specs.Lines.{IsLineEnd, IsOneLine};
 ghost use Rattle.iloc_plain.specs.Plain.{IsPlain};
 ghost use Rattle.std.specs.Simd.Lanes.{mask_l};
@@ -37,7 +38,7 @@ use iloc_fronts::may_begin;
 use iloc_outline::spans::Spans;
 use iloc_plain::{Plain, read_plain};
 use iloc_subtags::ParseError;
-use iloc_told::{Lead, Written, read_lead};
+use iloc_told::{Lead, Written, read_found, read_lead};
 use memchr::memchr_iter;
 use std::alloc::{AllocError, Global};
 use std::io::Write;
@@ -138,6 +139,20 @@ fn plain_line(window: &[u8], len: usize) -> Option<Plain>
     read_plain(window, len)
 }
 
+// What the beginning of the line tells that this window begins with. It is generic, so that each mode has its own and only
+// what that asks is left of it. Sixteen bytes behind the line may be loaded.
+#[inline(always)]
+fn lead_of<A: Answers>(answers: &A, window: &[u8], len: usize) -> Lead
+    requires { len + 16 ≤ length window.now }
+    ensures { IsLead A.mode (take len window.now) result }
+{
+    let mode = answers.mode();
+    match read_found(mode, window, len) {
+        Some(lead) => lead,
+        None => read_lead(mode, window, len),
+    }
+}
+
 // Adds the reply to the line that this window begins with, if it is not plain: at once if it is told, and else as the
 // mode parses it. Sixteen bytes behind the line may be loaded. The spans are room for the outline of a line.
 #[inline(always)]
@@ -152,12 +167,11 @@ fn reply_to<A: Answers>(
     ensures { OnOk result (held replies.new
         ≡ held replies.old ++ reply languages A.mode (take len window.now)) }
 {
-    let mode = answers.mode();
-    let lead = match read_lead(mode, window, len) {
+    let lead = match lead_of(answers, window, len) {
         Lead::Refused(error) => return write_refusal(error, replies),
         lead => lead,
     };
-    match replies.push_told(mode, lead, window, len, spans)? {
+    match replies.push_told(answers.mode(), lead, window, len, spans)? {
         Written::Normal(_) => Ok(()),
         Written::Refused(error) => write_refusal(error, replies),
         Written::Nothing => answers.reply(&window[..len], replies),

@@ -1,5 +1,5 @@
 //! What the beginning of a text tells: why it is refused, or how its normal text is written.
-ghost use Rattle.std.specs.Prelude.{◌≡◌, ◌↔◌, ◌+◌, ◌<◌, ◌≤◌, IsTrue, true, length, take, get_or};
+ghost use Rattle.std.specs.Prelude.{◌≡◌, ◌↔◌, ◌+◌, ◌<◌, ◌≤◌, IfSome, IsTrue, true, length, take, get_or};
 ghost use Rattle.iloc_spec_parts.specs.SmallComputing.{is_u};
 ghost use Rattle.iloc_fronts.specs.Front.{IsFound, IsFront};
 ghost use Rattle.iloc_fronts.specs.declared.front.Front.TheVariants as fronts;
@@ -27,107 +27,76 @@ pub enum Lead {
     Nothing,
 }
 
-/// What the beginning of the first `len` bytes tells in the mode. Sixteen bytes after them are loaded too, and change
-/// nothing.
+/// What the first piece of one byte tells in the mode, before anything else is read. `None` says nothing: `read_lead` is
+/// asked then. Sixteen bytes after the first `len` are loaded too, and change nothing. Callers ask both themselves: one
+/// function that did would be too large to be inlined.
+#[inline(always)]
+pub fn read_found(mode: Mode, window: &[u8], len: usize) -> Option<Lead>
+    requires { len + 16 ≤ length window.now }
+    ensures { IfSome result (IsLead mode (take len window.now)) }
+{
+    match mode {
+        Mode::Langid => match find_block(window, len) {
+            Some(_) => Some(Lead::Refused(ParseError::InvalidSubtag)),
+            None => None,
+        },
+        Mode::Locale => None,
+        Mode::Data => match find_block(window, len) {
+            Some(block) => lead_of_found(window, len, block),
+            None => None,
+        },
+    }
+}
+
+/// What the front of the first `len` bytes tells in the mode. Sixteen bytes after them are loaded too, and change nothing.
 #[inline(always)]
 pub fn read_lead(mode: Mode, window: &[u8], len: usize) -> Lead
     requires { len + 16 ≤ length window.now }
     ensures { IsLead mode (take len window.now) result }
 {
     match mode {
-        Mode::Langid => lead_of_identifier(window, len),
-        Mode::Locale => lead_of_locale(window, len),
-        Mode::Data => lead_of_data(window, len),
+        Mode::Data => lead_of_front(window, len),
+        Mode::Langid | Mode::Locale if begins_with_language(window, len) => Lead::Outline,
+        Mode::Langid | Mode::Locale => Lead::Refused(ParseError::InvalidLanguage),
     }
 }
 
-// The same of an identifier. It has no piece of one byte.
+// What such a piece tells of a data locale. It has no block but that of `u`.
 #[inline(always)]
-fn lead_of_identifier(window: &[u8], len: usize) -> Lead
-    requires { len + 16 ≤ length window.now }
-    ensures { IsLead Mode.Langid (take len window.now) result }
-{
-    if let Some(_) = find_block(window, len) {
-        return Lead::Refused(ParseError::InvalidSubtag);
-    }
-    if begins_with_language(window, len) {
-        Lead::Outline
-    } else {
-        Lead::Refused(ParseError::InvalidLanguage)
-    }
-}
-
-// The same of a locale.
-#[inline(always)]
-fn lead_of_locale(window: &[u8], len: usize) -> Lead
-    requires { len + 16 ≤ length window.now }
-    ensures { IsLead Mode.Locale (take len window.now) result }
-{
-    if begins_with_language(window, len) {
-        Lead::Outline
-    } else {
-        Lead::Refused(ParseError::InvalidLanguage)
-    }
-}
-
-// The same of a data locale: by its first piece of one byte, or else by its front.
-#[inline(always)]
-fn lead_of_data(window: &[u8], len: usize) -> Lead
-    requires { len + 16 ≤ length window.now }
-    ensures { IsLead Mode.Data (take len window.now) result }
-{
-    match read_found(window, len) {
-        Lead::Nothing => lead_of_front(window, len),
-        lead => lead,
-    }
-}
-
-// What is told of a data locale by its first piece of one byte, before anything else is read.
-#[inline(always)]
-fn read_found(window: &[u8], len: usize) -> Lead
-    requires { len + 16 ≤ length window.now }
-    ensures { IsLead Mode.Data (take len window.now) result }
-{
-    match find_block(window, len) {
-        Some(block) => lead_of_found(window, len, block),
-        None => Lead::Nothing,
-    }
-}
-
-// The same of a text with such a piece. A data locale has no block but that of `u`.
-#[inline(always)]
-fn lead_of_found(window: &[u8], len: usize, block: Block<'_>) -> Lead
+fn lead_of_found(window: &[u8], len: usize, block: Block<'_>) -> Option<Lead>
     requires room { len + 16 ≤ length window.now }
     requires found { IsFound (take len window.now) block }
-    ensures { IsLead Mode.Data (take len window.now) result }
+    ensures { IfSome result (IsLead Mode.Data (take len window.now)) }
 {
     let singleton = block.window[0];
     if singleton == b'U' || singleton == b'u' {
         return lead_of_found_keyword(window, len, block);
     }
     if singleton.is_ascii_alphanumeric() {
-        return Lead::Refused(ParseError::InvalidSubtag);
+        return Some(Lead::Refused(ParseError::InvalidSubtag));
     }
-    Lead::Nothing
+    None
 }
 
 // The same if the piece is `u`. Most keywords are refused whatever comes before.
 #[inline(always)]
-fn lead_of_found_keyword(window: &[u8], len: usize, block: Block<'_>) -> Lead
+fn lead_of_found_keyword(window: &[u8], len: usize, block: Block<'_>) -> Option<Lead>
     requires room { len + 16 ≤ length window.now }
     requires found { IsFound (take len window.now) block }
     requires u { is_u (get_or block.window.now 0 0) ≡ true }
-    ensures { IsLead Mode.Data (take len window.now) result }
+    ensures { IfSome result (IsLead Mode.Data (take len window.now)) }
 {
     let at = len - block.len - 1;
     let error = ParseError::InvalidSubtag;
     match read_keyword(block) {
-        Keyword::Attribute => Lead::Refused(error),
-        Keyword::Misfit => Lead::Refused(error),
-        Keyword::Many => Lead::Refused(error),
-        Keyword::Single if is_plain(window, at) => Lead::Refused(ParseError::InvalidExtension),
-        Keyword::Subdivision if is_plain(window, at) => Lead::Subdivision(at, at + 1),
-        Keyword::Single | Keyword::Subdivision | Keyword::Other => Lead::Nothing,
+        Keyword::Attribute => Some(Lead::Refused(error)),
+        Keyword::Misfit => Some(Lead::Refused(error)),
+        Keyword::Many => Some(Lead::Refused(error)),
+        Keyword::Single if is_plain(window, at) => Some(Lead::Refused(
+            ParseError::InvalidExtension,
+        )),
+        Keyword::Subdivision if is_plain(window, at) => Some(Lead::Subdivision(at, at + 1)),
+        Keyword::Single | Keyword::Subdivision | Keyword::Other => None,
     }
 }
 

@@ -22,7 +22,7 @@ pub mod told;
 pub mod window;
 pub mod writing;
 
-pub use leads::{Lead, read_lead};
+pub use leads::{Lead, read_found, read_lead};
 pub use normal_text::{normalize_short, normalize_told};
 pub use told::{Told, tell};
 pub use writing::{Written, write_normal};

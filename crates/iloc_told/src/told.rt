@@ -3,7 +3,7 @@ ghost use Rattle.std.specs.Prelude.{◌≡◌, ◌⊎◌, ◌+◌, ◌≤◌, le
 ghost use Rattle.iloc_told.specs.Told.{IsBeyond, IsNothingOnlyIf, IsTold};
 
 use crate::Mode;
-use crate::leads::read_lead;
+use crate::leads::{read_found, read_lead};
 use crate::writing::{Written, write_normal};
 use iloc_outline::spans::Spans;
 use iloc_subtags::ParseError;
@@ -31,7 +31,10 @@ pub fn tell<'a>(mode: Mode, window: &[u8], len: usize, room: &'a mut [u8]) -> To
     ensures few { IsNothingOnlyIf ((mode ≡ Mode.Data)
         ⊎ IsBeyond (length room.old) (take len window.now)) result }
 {
-    let lead = read_lead(mode, window, len);
+    let lead = match read_found(mode, window, len) {
+        Some(lead) => lead,
+        None => read_lead(mode, window, len),
+    };
     let mut spans = Spans::new();
     match write_normal(mode, lead, window, len, &mut spans, room) {
         Written::Normal(end) => Told::Normal(&room[..end]),

@@ -26,7 +26,7 @@ pub enum Written {
     Nothing,
 }
 
-/// Writes the normal text in the mode of the first `len` bytes, of which their beginning tells this (`read_lead`). Sixteen
+/// Writes the normal text in the mode of the first `len` bytes, of which their beginning tells this (`leads`). Sixteen
 /// bytes after them are loaded too, and change nothing. Up to sixteen bytes more are stored behind what is written.
 #[inline(always)]
 pub fn write_normal(

@@ -12,8 +12,7 @@ pub returns-in-Refused : goal.returns-in-Refused
 returns-in-Refused g c =
     let mode = g.A.Answers.mode in
     let line = take c.args.len c.args.window.now in
-    let told : HasRefusal mode line c.in-Refused.error =
-    subst (λ (m : Mode). HasRefusal m line c.in-Refused.error) c.mode-mode.ensures c.in-Refused.ensures in
+    let told : HasRefusal mode line c.in-Refused.error = c.in-Refused.ensures in
     subst (λ (t : List ℕ). OnOk c.write_refusal.result (held c.write_refusal.new.replies ≡ held c.args.replies.now ++ t))
     (refused_reply mode line c.in-Refused.error told) c.write_refusal.ensures.text
 
@@ -24,7 +23,7 @@ returns-in-Normal g c =
     let before = held c.args.replies.now in
     let after = held c.push_told.new.self in
     let told =
-    subst (λ (m : Mode). IsReplied m line before after c.in_ok-push_told.field-0) c.mode-mode.ensures c.in_ok-push_told.ensures in
+    subst (λ (m : Mode). IsReplied m line before after c.in_ok-push_told.field-0) c.mode.ensures c.in_ok-push_told.ensures in
     let is = subst (λ (w : Written). IsReplied mode line before after w) c.in-Normal.is told in
     is.2 ∙ ap (λ (t : List ℕ). before ++ t) (normal_reply mode line is.0 is.1)
 
@@ -35,7 +34,7 @@ returns-in-Refused-2 g c =
     let before = held c.args.replies.now in
     let after = held c.push_told.new.self in
     let told =
-    subst (λ (m : Mode). IsReplied m line before after c.in_ok-push_told.field-0) c.mode-mode.ensures c.in_ok-push_told.ensures in
+    subst (λ (m : Mode). IsReplied m line before after c.in_ok-push_told.field-0) c.mode.ensures c.in_ok-push_told.ensures in
     let is = subst (λ (w : Written). IsReplied mode line before after w) c.in-Refused-2.is told in
     subst (λ (t : List ℕ). OnOk c.write_refusal-in-Refused-2.result (held c.write_refusal-in-Refused-2.new.replies ≡ before ++ t))
     (refused_reply mode line c.in-Refused-2.error is.0)
