@@ -4,8 +4,8 @@
 //! (`laws`) say that there is one of each, and that it is computed. It promises that what `run_with` writes is the output
 //! of what it reads, if each line is answered as `Answers` says: that is what `iloc_program` adds.
 //!
-//! Most lines are told at once, by the steps of `iloc_told`, so it stands on no parser. Memory is as long as the longest
-//! line and its answer; reads and writes are in blocks of 64 KiB.
+//! Most lines are answered without a value, by the steps of `iloc_told`. So it stands on no parser. Memory is as long as
+//! the longest line and its answer; reads and writes are in blocks of 64 KiB.
 #![tactic(auto)]
 
 ghost use Rattle.std.specs.Prelude.{◌≡◌, ◌++◌, OnOk, OnErr, option_copied};

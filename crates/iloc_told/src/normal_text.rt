@@ -1,4 +1,4 @@
-//! Normal texts that are told at once.
+//! Normal texts without values.
 ghost use Rattle.std.specs.Prelude.{◌≡◌, ◌≢◌, ◌+◌, ◌≤◌, ◌<◌, IfNone, IfOk, IfSome, length, take};
 ghost use Rattle.std.specs.Str.{IsUtf8};
 ghost use Rattle.std.specs.String.{string_bytes};

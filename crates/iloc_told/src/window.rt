@@ -1,4 +1,4 @@
-//! A text with room behind it, so that it can be told at once.
+//! A text with room behind it, so that it can be answered without a value.
 ghost use Rattle.std.specs.Prelude.{◌≡◌, ◌⊎◌, ◌≤◌, ◌<◌, length, take};
 ghost use Rattle.iloc_told.specs.Told.{IsNothingOnlyIf, IsTold};
 ghost use Rattle.iloc_told.specs.declared.Mode.TheVariants as Mode;
