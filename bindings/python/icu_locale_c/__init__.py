@@ -325,16 +325,16 @@ def _address(function: Any) -> Any:
     return ctypes.cast(function, ctypes.c_void_p).value
 
 
-def _quicker() -> Tuple[Optional[Callable[[Any, Any], Optional[str]]], Dict[Any, Callable[[int], Any]]]:
+def _quicker() -> Tuple[Optional[Callable[[Any, Any], Optional[str]]], Dict[int, Callable[[int], Any]]]:
     """What the module _quick has for this library, if the wheel has it: how it normalizes, and how it reads each part that
-    one call gives. It answers what it can, and else None."""
+    one call gives, by the identity of the call. It answers what it can, and else None."""
     try:
         quick: Any = importlib.import_module(f"{__name__}._quick")
     except ImportError:
         return None, {}
     quick.use(_address(_normalize))
     readers = [getattr(_library, f"icu_locale_{name}") for name, types in _FORMS.items() if types == (_LOCALE, *_BUFFER)]
-    return quick.normalize, {it: functools.partial(quick.part, _address(it)) for it in readers}
+    return quick.normalize, {id(it): functools.partial(quick.part, _address(it)) for it in readers}
 
 
 _quick_normalize, _quick_parts = _quicker()
@@ -649,8 +649,8 @@ class Locale:
     def _read(self, function: Any, *given: Any) -> Optional[str]:
         """The text that a call writes, or None if there is no such part. It is `read` of a handle that no other call has;
         the steps stand here themselves, since a part that is read first would take half as long again by calls."""
-        if function in _quick_parts:
-            text = self._read_quickly(_quick_parts[function])
+        if id(function) in _quick_parts:
+            text = self._read_quickly(_quick_parts[id(function)])
             if text is not None:
                 return text or None
         handles = self._handles
