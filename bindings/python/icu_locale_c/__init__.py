@@ -232,6 +232,7 @@ def _load(path: str) -> ctypes.CDLL:
         for name, types in _FORMS.items():
             function = getattr(library, f"icu_locale_{name}")
             function.argtypes, function.restype = types, _RETURNS.get(name, _NUMBER)
+            function.quick = None  # (how the module _quick calls it)
     except AttributeError as error:
         raise ImportError(f"{path} is another library ({error}): {_REMEDY}") from None
     return library
@@ -325,19 +326,23 @@ def _address(function: Any) -> Any:
     return ctypes.cast(function, ctypes.c_void_p).value
 
 
-def _quicker() -> Tuple[Optional[Callable[[Any, Any], Optional[str]]], Dict[int, Callable[[int], Any]]]:
-    """What the module _quick has for this library, if the wheel has it: how it normalizes, and how it reads each part that
-    one call gives, by the identity of the call. It answers what it can, and else None."""
+def _quicker() -> Optional[Callable[[Any, Any], Optional[str]]]:
+    """How the module _quick of this library normalizes, if the wheel has it. It also reads each part that one call gives. It
+    answers what it can, and else None."""
     try:
         quick: Any = importlib.import_module(f"{__name__}._quick")
     except ImportError:
-        return None, {}
+        return None
     quick.use(_address(_normalize))
-    readers = [getattr(_library, f"icu_locale_{name}") for name, types in _FORMS.items() if types == (_LOCALE, *_BUFFER)]
-    return quick.normalize, {id(it): functools.partial(quick.part, _address(it)) for it in readers}
+    for name, types in _FORMS.items():
+        if types == (_LOCALE, *_BUFFER):
+            function = getattr(_library, f"icu_locale_{name}")
+            function.quick = functools.partial(quick.part, _address(function))
+    found: Callable[[Any, Any], Optional[str]] = quick.normalize
+    return found
 
 
-_quick_normalize, _quick_parts = _quicker()
+_quick_normalize = _quicker()
 
 
 def _taken(room: int) -> _Buffer:
@@ -649,8 +654,8 @@ class Locale:
     def _read(self, function: Any, *given: Any) -> Optional[str]:
         """The text that a call writes, or None if there is no such part. It is `read` of a handle that no other call has;
         the steps stand here themselves, since a part that is read first would take half as long again by calls."""
-        if id(function) in _quick_parts:
-            text = self._read_quickly(_quick_parts[id(function)])
+        if function.quick is not None:
+            text = self._read_quickly(function.quick)
             if text is not None:
                 return text or None
         handles = self._handles
@@ -679,11 +684,16 @@ class Locale:
 
     def _read_quickly(self, read: Callable[[int], Any]) -> Any:
         """The part as the module _quick reads it; False if there is none, and None if it leaves that to ctypes."""
-        handle = self._take()
+        handles = self._handles
+        try:
+            handle = handles.pop()
+        except IndexError:
+            handle = _parsed(self._source)
         try:
             return read(ctypes.addressof(handle))
         finally:
-            self._put(handle)
+            if not handles:
+                handles.append(handle)
 
     def _part(self, call: Any, *given: Any) -> str:
         """The text of a part that is there."""
