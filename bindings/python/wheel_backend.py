@@ -1,6 +1,6 @@
 """Builds the wheel of icu_locale_c for pip, with the library inside. It needs no package and no network.
 
-With Python.h and a C compiler it also has _quick.c, by which normalize takes a third of the time.
+With Python.h and a C compiler it also has _quick.c, by which normalize takes a fifth of the time, and the first read of a part half of it.
 
 The library is out/bindings/libicu_locale.so, or the one that ICU_LOCALE_LIBRARY names. If there is none, it says what to
 run: making it can take an hour, which an installation is not to begin by itself."""
