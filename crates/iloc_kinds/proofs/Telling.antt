@@ -4,10 +4,10 @@ use Rattle.std.specs.Char.{to_ascii_lowercase, is_ascii_alphanumeric}
 use Rattle.std.specs.List.{AllByRecursion}
 use Rattle.std.proofs.lemmas.Bool.{false_from_ne_true, and_parts}
 use Rattle.std.proofs.lemmas.Bool.Decides.{nat_tests}
-use Rattle.iloc_spec_grammar.specs.Syntax.{Text, Block, Language, Script, Region, Variant, Subtag, UnicodeKey, TransformKey, Attribute, PrivateSubtag, Bounds, languages, is_word, IsWord, is_one_byte, is_other_singleton, Identifier, Fields, Unicode, Transform, identifier_pieces, is_true, optional_pieces, fields_pieces, unicode_pieces, HasWords, IsHyphenFree, pieces, join}
+use Rattle.iloc_spec_grammar.specs.Syntax.{Text, Block, Language, Script, Region, Variant, Subtag, UnicodeKey, TransformKey, Attribute, PrivateSubtag, Bounds, languages, is_word, IsWord, is_one_byte, is_other_singleton, SpelledIdentifier, Unicode, Transform, Fields, identifier_pieces, is_true, optional_pieces, fields_pieces, unicode_pieces, HasWords, IsHyphenFree, pieces, join}
 use Rattle.iloc_spec_grammar.specs.Syntax as words
 use Rattle.iloc_spec_grammar.specs.Meaning.{Locale, Extensions}
-use Rattle.iloc_spec_grammar.specs.Tree.{before_t, after_t}
+use Rattle.iloc_spec_grammar.specs.Tree.{before_t, after_t, spelled_identifier}
 use Rattle.iloc_spec_grammar.specs.Values.{IsNormal, AreWellFormed, IsExtensionsValue, IsIdentifierValue, lower_identifier, spelled_value, spelled_fields, printed_pieces, unicode_spelling, transform_spelling, other_spelling, private_spelling, extensions_spelling}
 use Rattle.iloc_spec_grammar.proofs.General.{some_mapped, all_mapped}
 use Rattle.iloc_spec_grammar.proofs.PartTexts.{spelling_of_parts, id_pieces-low}
@@ -100,7 +100,7 @@ en_is = refl
 
 region_no_key : (p : Text) → IsWord Region p → is_word TransformKey p ≡ false
 region_no_key p h =
-    let i : Identifier = record { language = codes "en"; script = None; region = Some p; variants = [] } in
+    let i : SpelledIdentifier = record { language = codes "en"; script = None; region = Some p; variants = [] } in
     let words : HasWords languages i = record { language = en_is; script = tt; region = h; variants = tt } in
     (identifier_no_key {T = languages} i words).1.0
 
@@ -238,7 +238,7 @@ three : {X : Type 0} (a b c d : List X) → a ++ (b ++ (c ++ d)) ≡ (a ++ (b ++
 three a b c d = sym (append_assoc a (b ++ c) d ∙ ap (λ l. a ++ l) (append_assoc b c d))
 
 -- words after a language
-after_language_told : {s : State} → TakesWords s → (i : Identifier) → HasWords languages i
+after_language_told : {s : State} → TakesWords s → (i : SpelledIdentifier) → HasWords languages i
     → {ps : List Text} {parts : List KindedPiece} → AreTold s ps parts
     → AreTold s ((option_to_list i.script ++ (option_to_list i.region ++ i.variants)) ++ ps)
     ((of_kind kinds.Script (option_to_list i.script)
@@ -254,7 +254,7 @@ after_language_told {s} takes i h {ps} {parts} rest =
 -- an identifier, in front or after `t`
 identifier_told : {first s : State}
     → ((p : Text) → IsWord (Language languages) p → step first p ≡ (kinds.Language, s)) → TakesWords s
-    → (i : Identifier) → HasWords languages i
+    → (i : SpelledIdentifier) → HasWords languages i
     → {ps : List Text} {parts : List KindedPiece} → AreTold s ps parts
     → AreTold first (identifier_pieces i ++ ps) (parts_of_identifier i ++ parts)
 identifier_told is takes i h rest =
@@ -287,7 +287,7 @@ unicode_told u h f =
     states.Attributes refl key_in_attributes u.keywords f)
 
 -- what follows `t`
-transform_told : (o : Option Identifier) (fs : Fields) → IfSome o (HasWords languages)
+transform_told : (o : Option SpelledIdentifier) (fs : Fields) → IfSome o (HasWords languages)
     → AreFields TransformKey fs
     → AreTold states.Transform (optional_pieces o ++ fields_pieces fs)
     (parts_of_optional o ++ parts_of_fields kinds.Field fs)
@@ -444,7 +444,7 @@ module _ (e : Extensions) (v : IsExtensionsValue languages e) (w : AreWellFormed
   source_is : IfSome (option_map lower_identifier e.transform.id) (HasWords languages)
   source_is =
       some_mapped (IsIdentifierValue languages) (HasWords languages) lower_identifier
-      (λ i g. (lower_is_identifier i (value_identifier i g)).words) e.transform.id v.transform.id
+      (λ i g. (lower_is_identifier (spelled_identifier i) (value_identifier i g)).words) e.transform.id v.transform.id
 
   fields_are : AreFields TransformKey (spelled_fields e.transform.fields)
   fields_are =
@@ -488,7 +488,7 @@ unfolding parts_of
 text_told M t h =
     let e = M.extensions in
     let rest = extensions_rest e h.value.extensions h.tests in
-    let id = identifier_told {first = states.Start} {s = states.Head} language_in_start head_takes M.id
+    let id = identifier_told {first = states.Start} {s = states.Head} language_in_start head_takes (spelled_identifier M.id)
     (value_words h.value.id) (nothing_told states.Head refl) in
     let front = told_as (append-nil (identifier_pieces M.id)) (append-nil (parts_of_identifier M.id)) id in
     let all = identifier_pieces M.id ++ extensions_spelling e in

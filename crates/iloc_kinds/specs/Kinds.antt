@@ -1,7 +1,7 @@
 -- The parts of a locale's normal text, each a kind and a piece, and the rows that say where they
 -- stand. Restates the canonical syntax of UTS #35, section 3.2.1, with the names of its parts.
 use Rattle.std.specs.Prelude.{◌≡◌, ⊤, ℕ, ◌+◌, ◌-◌, ◌≤◌, List, [], ◌∷◌, ◌++◌, length, take, drop, map, flat_map, Option, Some, None, option_map, option_to_list}
-use Rattle.iloc_spec_grammar.specs.Syntax.{Text, Block, code_t, code_u, code_x, Identifier, Fields, Unicode, Transform, IsWord, languages}
+use Rattle.iloc_spec_grammar.specs.Syntax.{Text, Block, code_t, code_u, code_x, Stage, IdentifierOf, SpelledIdentifier, Unicode, Transform, Fields, IsWord, languages}
 use Rattle.iloc_spec_grammar.specs.Syntax as words
 use Rattle.iloc_spec_grammar.specs.Meaning.{Locale, Extensions}
 use Rattle.iloc_spec_grammar.specs.Values.{AreWellFormed, IsValue, lower_identifier, spelled_fields, text}
@@ -20,13 +20,13 @@ abbrev pub of_kind : Kind → List Text → List KindedPiece
 of_kind kind ps = map (λ p. (kind, p)) ps
 
 -- a language, perhaps a script and a region, and variants (UTS #35 3.1, `unicode_language_id`)
-abbrev pub parts_of_identifier : Identifier → List KindedPiece
+abbrev pub parts_of_identifier : {s : Stage} → IdentifierOf s → List KindedPiece
 parts_of_identifier i = (Language, i.language)
     ∷ (of_kind Script (option_to_list i.script)
     ++ (of_kind Region (option_to_list i.region) ++ of_kind Variant i.variants))
 
 -- none if the identifier is absent
-abbrev pub parts_of_optional : Option Identifier → List KindedPiece
+abbrev pub parts_of_optional : Option SpelledIdentifier → List KindedPiece
 parts_of_optional None = []
 parts_of_optional (Some i) = parts_of_identifier i
 

@@ -9,7 +9,7 @@ use Rattle.std.specs.declared.cmp.Ordering.{Ordering}
 use Rattle.std.specs.declared.cmp.Ordering.TheVariants.{Less, Equal, Greater}
 use Rattle.std.proofs.lemmas.Bool.{and_parts, and_from, or_parts, false_from_ne_true}
 use Rattle.std.proofs.lemmas.List.{length-map}
-use Rattle.iloc_spec_grammar.specs.Syntax.{Language, Script, Region, Variant, is_word, IsWord, lower, title, upper, word_cmp, is_same, languages, Identifier, AllDifferent, first_piece}
+use Rattle.iloc_spec_grammar.specs.Syntax.{Language, Script, Region, Variant, is_word, IsWord, lower, title, upper, word_cmp, is_same, languages, SpelledIdentifier, Identifier, AllDifferent, first_piece}
 use Rattle.iloc_spec_grammar.specs.Meaning.{IdentifierMeans, set_of, map_of}
 use Rattle.iloc_spec_grammar.specs.Values.{IsNormal, StrictlyAscends, Reordered, none, front_kept, first_two, in_turn}
 use Rattle.iloc_spec_grammar.proofs.WordsLaws.{is_word-lower}
@@ -152,13 +152,13 @@ module _ (ps : List (List ℕ)) (first : List ℕ) (qs rs us : List (List ℕ)) 
     front_is = ap front_of m.spelled ∙ front_of-pieces m.written m.grammatical.words
 
     pub language_is : l ≡ i.language
-    language_is = le ∙ ap (λ x. lower (first_piece x)) (sym e) ∙ ap lower (sym (parts_are ps).0 ∙ ap (λ (j : Identifier). j.language) front_is) ∙ sym (ap (λ (j : Identifier). j.language) m.means)
+    language_is = le ∙ ap (λ x. lower (first_piece x)) (sym e) ∙ ap lower (sym (parts_are ps).0 ∙ ap (λ (j : SpelledIdentifier). j.language) front_is) ∙ sym (ap (λ (j : Identifier). j.language) m.means)
 
     pub script_is : s ≡ i.script
-    script_is = se ∙ ap (λ x. option_map title (take_first (is_word Script) (rest_of x))) (sym e) ∙ ap (option_map title) (sym (parts_are ps).1 ∙ ap (λ (j : Identifier). j.script) front_is) ∙ sym (ap (λ (j : Identifier). j.script) m.means)
+    script_is = se ∙ ap (λ x. option_map title (take_first (is_word Script) (rest_of x))) (sym e) ∙ ap (option_map title) (sym (parts_are ps).1 ∙ ap (λ (j : SpelledIdentifier). j.script) front_is) ∙ sym (ap (λ (j : Identifier). j.script) m.means)
 
     pub region_is : r ≡ i.region
-    region_is = re ∙ ap (λ x. option_map upper (take_first (is_word Region) x)) (er ∙ ap (λ x. skip_first (is_word Script) (rest_of x)) (sym e)) ∙ ap (option_map upper) (sym (parts_are ps).2 ∙ ap (λ (j : Identifier). j.region) front_is) ∙ sym (ap (λ (j : Identifier). j.region) m.means)
+    region_is = re ∙ ap (λ x. option_map upper (take_first (is_word Region) x)) (er ∙ ap (λ x. skip_first (is_word Script) (rest_of x)) (sym e)) ∙ ap (option_map upper) (sym (parts_are ps).2 ∙ ap (λ (j : SpelledIdentifier). j.region) front_is) ∙ sym (ap (λ (j : Identifier). j.region) m.means)
 
     pub variants_are : AreThese us i.variants
     variants_are =

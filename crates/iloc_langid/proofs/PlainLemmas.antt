@@ -1,6 +1,6 @@
 -- From what a plain text means to what is taken from its pieces.
 use Rattle.std.proofs.Common.{◌≡◌, ℕ, List, [], None, Ok, Err, refl, sym, ap, ◌∙◌, subst, option_map}
-use Rattle.iloc_spec_grammar.specs.Syntax.{Language, IsWord, lower, title, upper, languages, Identifier, pieces, first_piece}
+use Rattle.iloc_spec_grammar.specs.Syntax.{Language, IsWord, lower, title, upper, languages, SpelledIdentifier, Identifier, pieces, first_piece}
 use Rattle.iloc_spec_grammar.specs.Meaning.{IdentifierMeans, not_a_language}
 use Rattle.iloc_spec_grammar.specs.Reading.{after_region, front_of}
 use Rattle.iloc_spec_grammar.proofs.ReadingLaws.{front_of-pieces}
@@ -25,14 +25,14 @@ module _ (ps : List (List ℕ)) (i : Identifier) (m : IdentifierMeans languages 
   front_is = ap front_of m.spelled ∙ front_of-pieces m.written m.grammatical.words
 
   first_is : first_piece ps ≡ m.written.language
-  first_is = sym (parts_are ps).0 ∙ ap (λ (j : Identifier). j.language) front_is
+  first_is = sym (parts_are ps).0 ∙ ap (λ (j : SpelledIdentifier). j.language) front_is
 
   pub front_of_meaning : (plain : PlainParts) → plain.language ≡ i.language → plain.script ≡ i.script → plain.region ≡ i.region → IsPlainFront ps [] plain
   front_of_meaning plain l s r = record {
     word = subst (IsWord (Language languages)) (sym first_is) m.grammatical.words.language;
     language = l ∙ ap (λ (j : Identifier). j.language) m.means ∙ ap lower (sym first_is);
-    script = s ∙ ap (λ (j : Identifier). j.script) m.means ∙ ap (option_map title) (sym (ap (λ (j : Identifier). j.script) front_is) ∙ (parts_are ps).1);
-    region = r ∙ ap (λ (j : Identifier). j.region) m.means ∙ ap (option_map upper) (sym (ap (λ (j : Identifier). j.region) front_is) ∙ (parts_are ps).2);
+    script = s ∙ ap (λ (j : Identifier). j.script) m.means ∙ ap (option_map title) (sym (ap (λ (j : SpelledIdentifier). j.script) front_is) ∙ (parts_are ps).1);
+    region = r ∙ ap (λ (j : Identifier). j.region) m.means ∙ ap (option_map upper) (sym (ap (λ (j : SpelledIdentifier). j.region) front_is) ∙ (parts_are ps).2);
     after = sym (ap after_region m.spelled ∙ after_region-pieces m.written m.grammatical.words ∙ none);
   }
 

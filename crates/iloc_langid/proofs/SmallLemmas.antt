@@ -1,7 +1,7 @@
 -- Identifiers with at most one variant, read from the left.
 use Rattle.std.proofs.Common.{◌≡◌, ◌≢◌, ℕ, ◌≤◌, Bool, true, false, cond, List, [], ◌∷◌, ◌++◌, length, map, refl, sym, ap, ◌∙◌, subst, arith, append-nil, Option, option_map, Result, Ok, Err, IfOk, true≢false}
 use Rattle.std.specs.List.{AllByRecursion}
-use Rattle.iloc_spec_grammar.specs.Syntax.{Language, Script, Region, Variant, is_word, IsWord, lower, title, upper, languages, Identifier, HasWords, identifier_pieces, first_piece}
+use Rattle.iloc_spec_grammar.specs.Syntax.{Language, Script, Region, Variant, is_word, IsWord, lower, title, upper, languages, SpelledIdentifier, HasWords, identifier_pieces, first_piece}
 use Rattle.iloc_spec_grammar.specs.Reading.{first_item, take_first, skip_first, passing, past, rest_of, after_script, after_region, front_of, after_front}
 use Rattle.iloc_spec_grammar.proofs.ReadingLaws.{all_while, pieces-front_of, front_words, front_of-pieces, after_front-pieces}
 use Rattle.iloc_spec_parts.specs.Small.{SmallIdentifier, IsSmallIdentifier, HasSmallIdentifierFault, no_language, no_identifier, identifier_of_small}
@@ -76,11 +76,11 @@ small_read p ps h e =
     short)
 
 -- what follows the region of an identifier are its variants
-pub after_region-pieces : (w : Identifier) → HasWords languages w → after_region (identifier_pieces w) ≡ w.variants
+pub after_region-pieces : (w : SpelledIdentifier) → HasWords languages w → after_region (identifier_pieces w) ≡ w.variants
 after_region-pieces w h =
     let qs = identifier_pieces w in
     sym (all_while variant (after_region qs))
-    ∙ ap (λ l. l ++ past variant (after_region qs)) (sym (kept_are qs) ∙ ap (λ (i : Identifier). i.variants) (front_of-pieces w h))
+    ∙ ap (λ l. l ++ past variant (after_region qs)) (sym (kept_are qs) ∙ ap (λ (i : SpelledIdentifier). i.variants) (front_of-pieces w h))
     ∙ ap (λ l. w.variants ++ l) (sym (left_are qs) ∙ after_front-pieces w h)
     ∙ append-nil w.variants
 

@@ -1,6 +1,6 @@
 -- What the readers of identifiers answer.
 use Rattle.std.specs.Prelude.{◌≡◌, ⊤, ℕ, ◌<◌, ◌⊎◌, false, List, [], length, map, None, Result, IfOk}
-use Rattle.iloc_spec_grammar.specs.Syntax.{Text, Language, Variant, is_word, IsWord, lower, word_cmp, languages, Identifier, AllDifferent, first_piece, pieces}
+use Rattle.iloc_spec_grammar.specs.Syntax.{Text, Language, Variant, is_word, IsWord, lower, word_cmp, languages, SpelledIdentifier, Identifier, AllDifferent, first_piece, pieces}
 use Rattle.iloc_spec_grammar.specs.Meaning.{IdentifierMeans, normal_identifier, set_of, HasIdentifierFault}
 use Rattle.iloc_spec_grammar.specs.Meaning as faults
 use Rattle.iloc_spec_grammar.specs.Reading.{IdentifierFront}
@@ -44,13 +44,13 @@ KeepsThroughSteps t r = IfOk r
 -- what a longest front is read as, and the pieces that are left after it
 abbrev pub FrontReads : List Text → List Text → Result LanguageIdentifier ParseError → Type 0
 FrontReads ps rest = Answers
-    (λ i. (w : Identifier) × IdentifierFront languages ps w rest
+    (λ i. (w : SpelledIdentifier) × IdentifierFront languages ps w rest
     × AllDifferent word_cmp (map lower w.variants) × (value_of i ≡ normal_identifier w))
     (λ f. Only faults.InvalidLanguage (is_word (Language languages) (first_piece ps) ≡ false) f
     ⊎ Only faults.InvalidSubtag
-    ((w : Identifier) × (more : List Text) × IdentifierFront languages ps w more
+    ((w : SpelledIdentifier) × (more : List Text) × IdentifierFront languages ps w more
     × ¬ (AllDifferent word_cmp (map lower w.variants))) f)
-    ((w : Identifier) × (more : List Text) × IdentifierFront languages ps w more
+    ((w : SpelledIdentifier) × (more : List Text) × IdentifierFront languages ps w more
     × (4 < length w.variants))
 
 -- the same by the reading from the left

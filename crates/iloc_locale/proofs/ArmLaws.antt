@@ -10,7 +10,7 @@ use Rattle.std.specs.Cmp.{nat_cmp_total}
 use Rattle.std.specs.FinMap.{find, put}
 use Rattle.std.specs.FinMap.Entries.{by_order, is_some-find}
 use Rattle.std.proofs.lemmas.Bool.Decides.{nat_tests}
-use Rattle.iloc_spec_grammar.specs.Syntax.{lower, word_cmp, Identifier, Unicode, Transform, Fields, kept, lower_singleton, is_other_singleton, IsPrivate}
+use Rattle.iloc_spec_grammar.specs.Syntax.{lower, word_cmp, SpelledIdentifier, Unicode, Transform, Fields, kept, lower_singleton, is_other_singleton, IsPrivate}
 use Rattle.iloc_spec_grammar.specs.Tree.{by_singleton}
 use Rattle.iloc_spec_grammar.specs.Meaning.{Extensions, map_of, set_of, normal_fields, normal_identifier, no_unicode, no_transform}
 use Rattle.iloc_spec_grammar.specs.ByBlocks.{UnicodeMeans, TransformMeans, PrivateMeans, other_blocks, grammar_rules, PartIs, BlocksGive}
@@ -51,7 +51,7 @@ some_unicode ps v m = ap (λ (u : Unicode). (length u.attributes == 0) && (lengt
 pub some_transform : (T : ℕ → Bool) (ps : List (List ℕ)) (v : Transform) → TransformMeans T ps v → (not (is_some v.id) && (length v.fields == 0)) ≡ false
 some_transform T ps v m = ap (λ (u : Transform). not (is_some u.id) && (length u.fields == 0)) m.means ∙ at m.written.id m.written.fields m.grammatical.nonempty
   where
-    at : (o : Option Identifier) (fs : Fields) → (o ≡ None → 0 < length fs) → (not (is_some (option_map normal_identifier o)) && (length (normal_fields fs) == 0)) ≡ false
+    at : (o : Option SpelledIdentifier) (fs : Fields) → (o ≡ None → 0 < length fs) → (not (is_some (option_map normal_identifier o)) && (length (normal_fields fs) == 0)) ≡ false
     at (Some i) fs h = refl
     at None [] h = absurd (let l = h refl in omega (arith, l))
     at None (f ∷ fs) h = fields_there f fs

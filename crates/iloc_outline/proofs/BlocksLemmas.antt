@@ -14,7 +14,7 @@ use Rattle.std.proofs.lemmas.List.{map-append}
 use Rattle.std.proofs.lemmas.List.Concat.{flat_map-append}
 use Rattle.std.proofs.lemmas.List.Folds.{list_any-append}
 use Rattle.std.proofs.lemmas.Simd.{map-map}
-use Rattle.iloc_spec_grammar.specs.Syntax.{Text, Block, AllDifferent, HasWords, Identifier, IsAmong, IsIdentifier, Language, Transform, TransformKey, Unicode, Fields, code_t, code_u, code_x, front, blocks, first_piece, identifier_pieces, is_one_byte, is_word, languages, lower, lower_singleton, optional_pieces, transform_pieces, word_cmp}
+use Rattle.iloc_spec_grammar.specs.Syntax.{Text, Block, AllDifferent, HasWords, SpelledIdentifier, SpelledUnicode, SpelledTransform, IsAmong, IsIdentifier, Language, TransformKey, Fields, code_t, code_u, code_x, front, blocks, first_piece, identifier_pieces, is_one_byte, is_word, languages, lower, lower_singleton, optional_pieces, transform_pieces, word_cmp}
 use Rattle.iloc_spec_grammar.specs.Meaning.{InvalidExtension, InvalidSubtag, DuplicatedExtension, map_of}
 use Rattle.iloc_spec_grammar.specs.Tree.{IsTransformBlock, block_pieces}
 use Rattle.iloc_spec_grammar.specs.Reading.{after_front, before_key, front_of, identifier_of, starts_block, transform_of, unicode_of}
@@ -124,7 +124,7 @@ before_no_key [] ys h = refl
 before_no_key (x ∷ xs) ys h = rw h.0 (ap (λ l. x ∷ l) (before_no_key xs ys h.1))
 
 -- a good transform repeats no variant at its front
-no_repeat : (m : Transform) → IsTransformBlock languages m → (i : Identifier) (rest : List Text)
+no_repeat : (m : SpelledTransform) → IsTransformBlock languages m → (i : SpelledIdentifier) (rest : List Text)
     → HasWords languages i
     → transform_pieces m ≡ identifier_pieces i ++ rest → AllDifferent word_cmp (map lower i.variants)
 no_repeat m h i rest w e = elim (cases_Bool (all_different word_cmp (map lower i.variants))) [
@@ -136,13 +136,13 @@ no_repeat m h i rest w e = elim (cases_Bool (all_different word_cmp (map lower i
       (identifier_no_key i w)))
 ]
   where
-    at : (o : Option Identifier) → IfSome o (IsIdentifier languages)
+    at : (o : Option SpelledIdentifier) → IfSome o (IsIdentifier languages)
         → ¬ (AllDifferent word_cmp (map lower i.variants))
         → optional_pieces o ≡ identifier_pieces i ++ before_key (is_word TransformKey) rest → ⊥
     at None g d e = cc
     at (Some j) g d e =
         let same : j.variants ≡ i.variants ++ before_key (is_word TransformKey) rest =
-        ap (λ (k : Identifier). k.variants) (sym (identifier_of-pieces j g.words))
+        ap (λ (k : SpelledIdentifier). k.variants) (sym (identifier_of-pieces j g.words))
         ∙ ap (λ l. (identifier_of l).variants) e ∙ repeats_longer i _ w d in
         d (some_repeat word_cmp (map lower i.variants) _
         (subst (AllDifferent word_cmp) (ap (map lower) same ∙ map-append lower i.variants _) g.different))
@@ -327,11 +327,11 @@ plain_fields r n fs = all_in_order _ (map (field_part r) fs)
 pub plain_variants : (ws : List Text) → ArePlain (variant_parts ws)
 plain_variants ws = plain_words roles.Variant (λ e. cc) ws
 
-plain_transform : (m : Transform) → ArePlain (transform_parts m)
+plain_transform : (m : SpelledTransform) → ArePlain (transform_parts m)
 plain_transform m = all_append _ (variant_parts (optional_variants m.id)) _
     (plain_variants (optional_variants m.id)) (plain_fields roles.Field (λ e. cc) m.fields)
 
-plain_unicode : (u : Unicode) → ArePlain (unicode_parts u)
+plain_unicode : (u : SpelledUnicode) → ArePlain (unicode_parts u)
 plain_unicode u = all_append _ (in_order (map (word_part roles.Attribute) u.attributes)) _
     (plain_words roles.Attribute (λ e. cc) u.attributes) (plain_fields roles.Keyword (λ e. cc) u.keywords)
 

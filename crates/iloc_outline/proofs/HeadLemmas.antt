@@ -2,7 +2,7 @@
 use Rattle.std.proofs.Common.{◌≡◌, ◌≢◌, ◌⊎◌, inl, inr, ◌≤◌, Bool, true, false, List, [], ◌∷◌, ◌++◌, length, map, flat_map, take, drop, None, Some, refl, sym, ap, ◌∙◌, subst, arith, append_assoc, append-nil, length-append, true≢false}
 use Rattle.std.specs.List.{AllZip}
 use Rattle.std.proofs.lemmas.List.{append_cancel_left, take-append-drop, length-take-le}
-use Rattle.iloc_spec_grammar.specs.Syntax.{Text, Identifier, Language, AllDifferent, IsWord, dashes, first_piece, front, head, identifier_pieces, is_one_byte, is_word, join, languages, lower, pieces, word_cmp}
+use Rattle.iloc_spec_grammar.specs.Syntax.{Text, SpelledIdentifier, Language, AllDifferent, IsWord, dashes, first_piece, front, head, identifier_pieces, is_one_byte, is_word, join, languages, lower, pieces, word_cmp}
 use Rattle.iloc_spec_grammar.specs.Meaning.{IdentifierMeans, SpellsIdentifier, normal_identifier, not_an_identifier}
 use Rattle.iloc_spec_grammar.specs.Reading.{after_front, after_head, from_block, front_of, starts_block}
 use Rattle.iloc_spec_grammar.proofs.PartTexts.{join-append}
@@ -98,7 +98,7 @@ outline_of f = record { front = f.end; script = f.script; region = f.region }
 
 module _ (l : Left) (f : Front) (is : IsRemainder l) (first : l.at ≡ 0)
     (word : IsWord (Language languages) (piece_left l)) (m : Left) (read : IsFrontRead l m f) where
-  abbrev i : Identifier
+  abbrev i : SpelledIdentifier
   i = front_of (pieces_left l)
 
   whole : whole_text l ≡ bytes_left l

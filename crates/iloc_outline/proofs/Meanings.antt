@@ -3,7 +3,7 @@ use Rattle.std.proofs.Common.{◌≡◌, inl, inr, true, List, [], ◌∷◌, �
 use Rattle.std.specs.List.{AllByRecursion, list_any}
 use Rattle.std.proofs.lemmas.List.Concat.{flat_map-append}
 use Rattle.std.proofs.lemmas.Bool.{or_left, or_right, or_cases}
-use Rattle.iloc_spec_grammar.specs.Syntax.{Text, Identifier, Language, Variant, IsWord, first_piece, head, is_same, is_word, join, dashes, languages, lower, pieces, tail_blocks}
+use Rattle.iloc_spec_grammar.specs.Syntax.{Text, SpelledIdentifier, Identifier, Language, Variant, IsWord, first_piece, head, is_same, is_word, join, dashes, languages, lower, pieces, tail_blocks}
 use Rattle.iloc_spec_grammar.specs.Meaning.{Fault, HasFault, HasIdentifierFault, IdentifierMeans, Means, in_head, normal_identifier}
 use Rattle.iloc_spec_grammar.specs.Meaning as faults
 use Rattle.iloc_spec_grammar.specs.Tree.{meaning}
@@ -104,7 +104,7 @@ words_alike (v ∷ vs) ws h f = (
 )
 
 -- the variants of what means the same as an identifier are words
-pub variants_words : (ps : List Text) (written : Identifier)
+pub variants_words : (ps : List Text) (written : SpelledIdentifier)
     → IdentifierMeans languages ps (normal_identifier written)
     → AllByRecursion (IsWord Variant) written.variants
 variants_words ps written m = words_alike written.variants m.written.variants m.grammatical.words.variants
@@ -126,7 +126,7 @@ pub parts_text-append : (ps qs : List Part) → parts_text (ps ++ qs) ≡ parts_
 parts_text-append ps qs = flat_map-append (λ p. dashes (printed_part p)) ps qs
 
 -- the text of an identifier is its front, and its variants behind it
-pub identifier_text_is : (ps : List Text) (written : Identifier)
+pub identifier_text_is : (ps : List Text) (written : SpelledIdentifier)
     → IdentifierMeans languages ps (normal_identifier written)
     → identifier_text (normal_identifier written)
     ≡ join (front_pieces (normal_identifier written)) ++ parts_text (variant_parts written.variants)
@@ -141,7 +141,7 @@ identifier_text_is ps written m =
     ∙ parts_dashes (variant_parts written.variants))
 
 -- the text of what is read is that of the identifier, and its blocks behind it
-pub text_is : (t : Text) (written : Identifier)
+pub text_is : (t : Text) (written : SpelledIdentifier)
     → IdentifierMeans languages (head (pieces t)) (normal_identifier written)
     → first_fault languages [] (tail_blocks (pieces t)) ≡ None
     → text (meaning (written_of (pieces t))) ≡ join (front_pieces (normal_identifier written)) ++ parts_text

@@ -8,7 +8,7 @@ use Rattle.std.specs.FinMap.Entries.{by_order}
 use Rattle.std.proofs.lemmas.Bool.{ne_eqb}
 use Rattle.std.proofs.lemmas.List.{length-map}
 use Rattle.std.proofs.lemmas.List.Concat.{flat_map-append}
-use Rattle.iloc_spec_grammar.specs.Syntax.{Text, Block, Identifier, Fields, Unicode, Transform, IsIdentifier, code_t, code_u, code_x, lower, word_cmp, title, upper, kept, is_other_singleton, lower_singleton, fields_pieces, unicode_pieces, identifier_pieces, optional_pieces, IsOther, IsPrivate}
+use Rattle.iloc_spec_grammar.specs.Syntax.{Text, Block, SpelledIdentifier, SpelledUnicode, SpelledTransform, Fields, IsIdentifier, code_t, code_u, code_x, lower, word_cmp, title, upper, kept, is_other_singleton, lower_singleton, fields_pieces, unicode_pieces, identifier_pieces, optional_pieces, IsOther, IsPrivate}
 use Rattle.iloc_spec_grammar.specs.Meaning.{map_of, set_of, normal_identifier, normal_fields, normal_values, normal_unicode, normal_transform}
 use Rattle.iloc_spec_grammar.specs.Tree.{IsUnicodeBlock, IsTransformBlock, IsExtension}
 use Rattle.iloc_spec_grammar.specs.Values.{printed_pieces, spelled_fields, unicode_spelling, transform_spelling, other_spelling, private_spelling}
@@ -66,7 +66,7 @@ set_low ws = map_fixed lower (set_of (map lower ws))
     (all_of _ lower-lower ws)))
 
 -- the normal identifier in lower case: its front, and its variants as a set
-pub identifier_low : (i : Identifier) → map lower (identifier_pieces (normal_identifier i))
+pub identifier_low : (i : SpelledIdentifier) → map lower (identifier_pieces (normal_identifier i))
     ≡ map lower (front_pieces i) ++ set_of (map lower i.variants)
 identifier_low i = from i.script i.region
   where
@@ -110,7 +110,7 @@ some_unicode (w ∷ ws) fs h = omega (
   length-append (set_of (map lower (w ∷ ws))) (fields_pieces (normal_fields fs)),
 )
 
-unicode_printed : (u : Unicode) → IsUnicodeBlock u → (117 ∷ []) ∷ flat_map printed_part (unicode_parts u)
+unicode_printed : (u : SpelledUnicode) → IsUnicodeBlock u → (117 ∷ []) ∷ flat_map printed_part (unicode_parts u)
     ≡ unicode_spelling (normal_unicode u)
 unfolding unicode_spelling
 unicode_printed u h =
@@ -120,21 +120,21 @@ unicode_printed u h =
     ∙ sym (printed_some 117 (unicode_pieces (normal_unicode u))
     (some_unicode u.attributes u.keywords h.nonempty))
 
-some_transform : (o : Option Identifier) (fs : Fields) → (o ≡ None → 0 < length fs)
+some_transform : (o : Option SpelledIdentifier) (fs : Fields) → (o ≡ None → 0 < length fs)
     → 0 < length (map lower (optional_pieces (option_map normal_identifier o)) ++ fields_pieces
     (spelled_fields (normal_fields fs)))
 some_transform None fs h = some_fields (spelled_fields (normal_fields fs))
     (omega (arith, some_normal fs (h refl), length-spelled_fields (normal_fields fs)))
 some_transform (Some i) fs h = omega arith
 
-optional_printed : (T : ℕ → Bool) (o : Option Identifier) → IfSome o (IsIdentifier T)
+optional_printed : (T : ℕ → Bool) (o : Option SpelledIdentifier) → IfSome o (IsIdentifier T)
     → map lower (optional_front o) ++ flat_map printed_part (variant_parts (optional_variants o))
     ≡ map lower (optional_pieces (option_map normal_identifier o))
 optional_printed T None h = refl
 optional_printed T (Some i) h = ap (λ l. map lower (front_pieces i) ++ l)
     (variants_printed i.variants h.words.variants) ∙ sym (identifier_low i)
 
-transform_printed : (T : ℕ → Bool) (m : Transform) → IsTransformBlock T m
+transform_printed : (T : ℕ → Bool) (m : SpelledTransform) → IsTransformBlock T m
     → (116 ∷ []) ∷ (map lower (optional_front m.id) ++ flat_map printed_part (transform_parts m))
     ≡ transform_spelling (normal_transform m)
 unfolding transform_spelling

@@ -5,7 +5,7 @@ use Rattle.std.specs.List.{AllByRecursion}
 use Rattle.std.specs.Char.{to_ascii_lowercase}
 use Rattle.std.proofs.lemmas.Bool.{and_parts, and_from, false_from_ne_true, eqb-true, ne_eqb}
 use Rattle.std.proofs.lemmas.List.{append_cancel_left}
-use Rattle.iloc_spec_grammar.specs.Syntax.{Text, code_t, Language, Script, Region, Variant, TransformKey, Attribute, is_word, IsWord, IsField, Fields, Identifier, Transform, HasWords, IsIdentifier, AllDifferent, fields_pieces, identifier_pieces, optional_pieces, transform_pieces, languages, first_piece, front, lower, word_cmp}
+use Rattle.iloc_spec_grammar.specs.Syntax.{Text, code_t, Language, Script, Region, Variant, TransformKey, Attribute, is_word, IsWord, IsField, Fields, SpelledIdentifier, SpelledTransform, HasWords, IsIdentifier, AllDifferent, fields_pieces, identifier_pieces, optional_pieces, transform_pieces, languages, first_piece, front, lower, word_cmp}
 use Rattle.iloc_spec_grammar.specs.Tree.{Extension, unicode, transform, other, IsBlock, IsExtension, IsTransformBlock, extension_pieces}
 use Rattle.iloc_spec_grammar.specs.Reading.{transform_of, front_of, after_front, after_region, from_block, before_key, fields_from, passing}
 use Rattle.iloc_spec_grammar.specs.Computing.{is_block, repeats_variant}
@@ -24,7 +24,7 @@ use Rattle.iloc_pieces.proofs.Tests.{region_is, field_key_is}
 -- ---- good blocks
 
 -- what follows the rule is a good block, and is read
-pub transform_good : (c : ℕ) (m : Transform) → to_ascii_lowercase c ≡ code_t → IsTransformBlock languages m
+pub transform_good : (c : ℕ) (m : SpelledTransform) → to_ascii_lowercase c ≡ code_t → IsTransformBlock languages m
     → (is_block languages (c, transform_pieces m) ≡ true) × (transform_of (transform_pieces m) ≡ m)
 transform_good c m e h = (
   (tests_block languages (c, transform_pieces m)).passes (inr (transform m, (e, h), refl)),
@@ -39,12 +39,12 @@ AreFields ps = (fs : Fields) × AllByRecursion IsField fs × (ps ≡ fields_piec
 
 -- a good block of `t` spells a transform
 block_of_t : (c : ℕ) (ps : List Text) → to_ascii_lowercase c ≡ code_t → IsBlock languages (c, ps)
-    → (m : Transform) × IsTransformBlock languages m × (ps ≡ transform_pieces m)
+    → (m : SpelledTransform) × IsTransformBlock languages m × (ps ≡ transform_pieces m)
 block_of_t c ps e (inl h) = absurd (omega (arith, e, h.0))
 block_of_t c ps e (inr (x, h, cut)) = by x h cut
   where
     by : (x : Extension) → IsExtension languages (to_ascii_lowercase c) x → ps ≡ extension_pieces x
-        → (m : Transform) × IsTransformBlock languages m × (ps ≡ transform_pieces m)
+        → (m : SpelledTransform) × IsTransformBlock languages m × (ps ≡ transform_pieces m)
     by (unicode u) h cut = absurd (omega (arith, e, h.0))
     by (transform m) h cut = (m, h.1, cut)
     by (other qs) h cut = absurd (no_t (to_ascii_lowercase c) e h.0)
@@ -54,7 +54,7 @@ unfolding is_word languages
 no_language = refl
 
 -- without a language it spells fields, one at least
-alone : (ps : List Text) (m : Transform) → is_word (Language languages) (first_piece ps) ≡ false
+alone : (ps : List Text) (m : SpelledTransform) → is_word (Language languages) (first_piece ps) ≡ false
     → IsTransformBlock languages m → ps ≡ transform_pieces m → AreFields ps × (ps ≢ [])
 alone ps m none h cut = by m.id m.fields h.id h.fields h.nonempty cut
   where
@@ -62,7 +62,7 @@ alone ps m none h cut = by m.id m.fields h.id h.fields h.nonempty cut
     some [] l e = omega arith
     some (f ∷ fs) l e = cc
 
-    by : (o : Option Identifier) (fs : Fields) → IfSome o (IsIdentifier languages) → AllByRecursion IsField fs
+    by : (o : Option SpelledIdentifier) (fs : Fields) → IfSome o (IsIdentifier languages) → AllByRecursion IsField fs
         → (o ≡ None → 0 < length fs) → ps ≡ optional_pieces o ++ fields_pieces fs → AreFields ps × (ps ≢ [])
     by None fs i f n cut = ((fs, f, cut), λ e. some fs (n refl) (sym cut ∙ e))
     by (Some j) fs i f n cut =
@@ -93,7 +93,7 @@ fields_end (f ∷ fs) h =
     }
 
 -- what stands after the front of an identifier in it is fields
-after_words : (ps : List Text) (m : Transform) → IsWord (Language languages) (first_piece ps)
+after_words : (ps : List Text) (m : SpelledTransform) → IsWord (Language languages) (first_piece ps)
     → IsTransformBlock languages m → ps ≡ transform_pieces m → AreFields (after_front ps)
 after_words ps m word h cut = by m.id m.fields h.id h.fields cut
   where
@@ -102,7 +102,7 @@ after_words ps m word h cut = by m.id m.fields h.id h.fields cut
     key_first [] f w = true≢false (sym w ∙ no_language)
     key_first (f ∷ fs) k w = true≢false (sym k.0.0 ∙ language_no_key languages f.0 w)
 
-    by : (o : Option Identifier) (fs : Fields) → IfSome o (IsIdentifier languages) → AllByRecursion IsField fs
+    by : (o : Option SpelledIdentifier) (fs : Fields) → IfSome o (IsIdentifier languages) → AllByRecursion IsField fs
         → ps ≡ optional_pieces o ++ fields_pieces fs → AreFields (after_front ps)
     by None fs i f cut = absurd
         (key_first fs f (subst (λ l. IsWord (Language languages) (first_piece l)) cut word))

@@ -3,7 +3,7 @@ use Rattle.std.proofs.Common.{◌≡◌, ◌≢◌, ◌⊎◌, inl, inr, ℕ, �
 use Rattle.std.specs.List.{AllByRecursion}
 use Rattle.std.specs.Char.{to_ascii_lowercase}
 use Rattle.std.proofs.lemmas.List.{append_cancel_left}
-use Rattle.iloc_spec_grammar.specs.Syntax.{Text, code_t, Language, Variant, TransformKey, Attribute, is_word, IsWord, IsField, Fields, Identifier, Transform, AllDifferent, fields_pieces, identifier_pieces, optional_pieces, transform_pieces, languages, is_one_byte, is_other_singleton, first_piece, front, lower, word_cmp}
+use Rattle.iloc_spec_grammar.specs.Syntax.{Text, code_t, Language, Variant, TransformKey, Attribute, is_word, IsWord, IsField, Fields, Spelled, SpelledIdentifier, SpelledTransform, AllDifferent, fields_pieces, identifier_pieces, optional_pieces, transform_pieces, languages, is_one_byte, is_other_singleton, first_piece, front, lower, word_cmp}
 use Rattle.iloc_spec_grammar.specs.Tree.{IsTransformBlock}
 use Rattle.iloc_spec_grammar.specs.Reading.{after_front, after_region, front_of, passing, transform_of}
 use Rattle.iloc_spec_grammar.proofs.PiecesLaws.{pieces_nonempty}
@@ -34,29 +34,29 @@ fields_left r l m old new o n _ h = tt
 -- ---- good blocks
 
 -- the pieces of an identifier
-pub pieces_front : (o : Option Identifier) → optional_pieces o ≡ optional_front o ++ optional_variants o
+pub pieces_front : (o : Option SpelledIdentifier) → optional_pieces o ≡ optional_front o ++ optional_variants o
 pieces_front None = refl
 pieces_front (Some i) =
     ap (λ ps. i.language ∷ ps)
     (sym (append_assoc (option_to_list i.script) (option_to_list i.region) i.variants))
 
 -- the parts of the block
-parts_of_t : (c : ℕ) (ps : List Text) (m : Transform) → to_ascii_lowercase c ≡ code_t → transform_of ps ≡ m
+parts_of_t : (c : ℕ) (ps : List Text) (m : SpelledTransform) → to_ascii_lowercase c ≡ code_t → transform_of ps ≡ m
     → block_parts (c, ps) ≡ singleton_part c (optional_front m.id) ∷ transform_parts m
 parts_of_t c ps m e h = rw (e, h)
 
 -- the singleton with the front of an identifier, variants and fields were put
-good_block : (c start end : ℕ) (l : Left) (id : Option Identifier) (fs : Fields) (old mid mid' new : Spans)
+good_block : (c start end : ℕ) (l : Left) (id : Option SpelledIdentifier) (fs : Fields) (old mid mid' new : Spans)
     (o o' n : Bool) → to_ascii_lowercase c ≡ code_t
     → IsSpanned (whole_text l) start end ((c ∷ []) ∷ optional_front id)
     → held_spans mid ≡ held_spans old ++ block_span code_t start end false ∷ []
     → Puts (whole_text l) (variant_parts (optional_variants id)) (optional_variants id) mid mid' o o'
     → Puts (whole_text l) (in_order (map (field_part roles.Field) fs)) (fields_pieces fs) mid' new o' n
     → IsTransformBlock languages (record { id = id; fields = fs })
-    → front (pieces_left l) ≡ transform_pieces (record { id = id; fields = fs })
-    → ReadsBlock c l (transform_pieces (record { id = id; fields = fs })) old new o n
+    → front (pieces_left l) ≡ transform_pieces {s = Spelled} (record { id = id; fields = fs })
+    → ReadsBlock c l (transform_pieces {s = Spelled} (record { id = id; fields = fs })) old new o n
 good_block c start end l id fs old mid mid' new o o' n e spanned put variants fields rule body =
-    let m : Transform = record { id = id; fields = fs } in
+    let m : SpelledTransform = record { id = id; fields = fs } in
     let known : is_other_singleton (to_ascii_lowercase c) ≡ false = ap is_other_singleton e in
     let place = subst (λ (w : ℕ). held_spans mid ≡ held_spans old ++ block_span w start end false ∷ []) (sym (ap rank e))
     put in

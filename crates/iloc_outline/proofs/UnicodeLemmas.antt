@@ -2,7 +2,7 @@
 use Rattle.std.proofs.Common.{◌≡◌, ◌≢◌, ◌⊎◌, inl, inr, ℕ, ◌+◌, ◌-◌, ◌<◌, Bool, true, false, List, [], ◌∷◌, ◌++◌, length, map, refl, sym, ap, ◌∙◌, subst, arith, append-nil, length-append, true≢false}
 use Rattle.std.specs.List.{AllByRecursion}
 use Rattle.std.specs.Char.{to_ascii_lowercase}
-use Rattle.iloc_spec_grammar.specs.Syntax.{Text, code_t, code_u, UnicodeKey, Attribute, is_word, IsWord, IsKeyword, Fields, Unicode, fields_pieces, unicode_pieces, languages, is_one_byte, is_other_singleton, first_piece, front}
+use Rattle.iloc_spec_grammar.specs.Syntax.{Text, code_t, code_u, UnicodeKey, Attribute, is_word, IsWord, IsKeyword, Fields, SpelledUnicode, fields_pieces, unicode_pieces, languages, is_one_byte, is_other_singleton, first_piece, front}
 use Rattle.iloc_spec_grammar.specs.Tree.{Extension, unicode, transform, other, IsBlock, IsExtension, IsUnicodeBlock, extension_pieces}
 use Rattle.iloc_spec_grammar.specs.Reading.{unicode_of}
 use Rattle.iloc_spec_grammar.specs.Computing.{is_block}
@@ -52,7 +52,7 @@ pub unicode_good : (c : ℕ) (ws : List Text) (fs : Fields) → to_ascii_lowerca
     → (is_block languages (c, ws ++ fields_pieces fs) ≡ true)
     × (unicode_of (ws ++ fields_pieces fs) ≡ record { attributes = ws; keywords = fs })
 unicode_good c ws fs e h k some =
-    let u : Unicode = record { attributes = ws; keywords = fs } in
+    let u : SpelledUnicode = record { attributes = ws; keywords = fs } in
     let good : IsUnicodeBlock u =
     record { attributes = h; keywords = k; nonempty = some_part ws fs some } in (
       (tests_block languages (c, unicode_pieces u)).passes (inr (unicode u, (e, good), refl)),
@@ -64,7 +64,7 @@ pub unicode_bad : (c : ℕ) (ps : List Text) → to_ascii_lowercase c ≡ code_u
     → (ps ≢ [] → ¬ (AllByRecursion IsUnicodeWord ps)) → is_block languages (c, ps) ≡ false
 unicode_bad c ps e bad = tests_fails (tests_block languages (c, ps)) none
   where
-    words : (u : Unicode) → IsUnicodeBlock u → ps ≡ unicode_pieces u → ⊥
+    words : (u : SpelledUnicode) → IsUnicodeBlock u → ps ≡ unicode_pieces u → ⊥
     words u h cut = bad (λ none. nonempty u.attributes u.keywords h.nonempty (sym cut ∙ none))
         (subst (AllByRecursion IsUnicodeWord) (sym cut)
         (all_words u.attributes u.keywords h.attributes h.keywords))
@@ -110,11 +110,11 @@ unicode_single c l m old new o n e single = (
 )
 
 -- the parts of the block
-parts_of_u : (c : ℕ) (ps : List Text) (u : Unicode) → to_ascii_lowercase c ≡ code_u → unicode_of ps ≡ u
+parts_of_u : (c : ℕ) (ps : List Text) (u : SpelledUnicode) → to_ascii_lowercase c ≡ code_u → unicode_of ps ≡ u
     → block_parts (c, ps) ≡ singleton_part c [] ∷ unicode_parts u
 parts_of_u c ps u e h = rw (e, h)
 
-abbrev unicode_pair : List Text → Fields → Unicode
+abbrev unicode_pair : List Text → Fields → SpelledUnicode
 unicode_pair ws fs = record { attributes = ws; keywords = fs }
 
 module _ (c start : ℕ) (l : Left) (e : to_ascii_lowercase c ≡ code_u)

@@ -1,6 +1,6 @@
 -- The outline of a text, and the text that it is of.
 use Rattle.std.specs.Prelude.{◌≡◌, ℕ, ◌<◌, ◌≤◌, Bool, true, false, List, [], ◌++◌, length, flat_map, take}
-use Rattle.iloc_spec_grammar.specs.Syntax.{Text, pieces, first_piece, dashes, languages, Language, IsWord, Identifier, join, lower, head, is_one_byte}
+use Rattle.iloc_spec_grammar.specs.Syntax.{Text, pieces, first_piece, dashes, languages, Language, IsWord, SpelledIdentifier, Identifier, join, lower, head, is_one_byte}
 use Rattle.iloc_spec_grammar.specs.Meaning.{Locale, Means, IdentifierMeans, HasFault, HasIdentifierFault, normal_identifier}
 use Rattle.iloc_spec_grammar.specs.Values.{text, identifier_text}
 use Rattle.iloc_spec_grammar.specs.Reading.{after_head}
@@ -62,7 +62,7 @@ IsFinished o end false old new r = (r ≡ o) × (new ≡ old)
 
 -- the head is an identifier i whose variants were put; its front is printed as the outline says
 pub record ReadsHead (t : Text) (ps : List Text) (o : Outline) (spans : Spans) (n : Bool) : Type 0 where
-  pub written : Identifier
+  pub written : SpelledIdentifier
   pub means : IdentifierMeans languages ps (normal_identifier written)
   pub inside : o.front ≤ length t
   pub front : front_text o.script o.region (take o.front t) ≡ join (front_pieces (normal_identifier written))

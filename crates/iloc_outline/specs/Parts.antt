@@ -2,7 +2,7 @@
 use Rattle.std.specs.Prelude.{ℕ, List, [], ◌∷◌, ◌++◌, ◌==◌, map, flat_map, Option, Some, None, option_to_list, if◌then◌else◌, slice_index}
 use Rattle.std.specs.Char.{to_ascii_lowercase}
 use Rattle.std.specs.Ordering.{nat_cmp}
-use Rattle.iloc_spec_grammar.specs.Syntax.{Text, Field, Block, code_t, code_u, code_x, lower, kept, is_other_singleton, lower_singleton, Identifier, Unicode, Transform}
+use Rattle.iloc_spec_grammar.specs.Syntax.{Text, Field, Block, code_t, code_u, code_x, lower, kept, is_other_singleton, lower_singleton, Stage, IdentifierOf, SpelledIdentifier, SpelledUnicode, SpelledTransform}
 use Rattle.iloc_spec_grammar.specs.Meaning.{map_of, normal_values}
 use Rattle.iloc_spec_grammar.specs.Values.{spelled_value}
 use Rattle.iloc_spec_grammar.specs.Reading.{unicode_of, transform_of}
@@ -44,12 +44,12 @@ in_order ps = ordered_by (λ (p : Part). p.word) ps
 -- Blocks.
 
 -- attributes and keywords, each in order
-abbrev pub unicode_parts : Unicode → List Part
+abbrev pub unicode_parts : SpelledUnicode → List Part
 unicode_parts u = in_order (map (word_part Attribute) u.attributes)
     ++ in_order (map (field_part Keyword) u.keywords)
 
 -- language, script and region of an identifier
-abbrev pub front_pieces : Identifier → List Text
+abbrev pub front_pieces : {s : Stage} → IdentifierOf s → List Text
 front_pieces i = i.language ∷ (option_to_list i.script ++ option_to_list i.region)
 
 -- variants in order
@@ -57,16 +57,16 @@ abbrev pub variant_parts : List Text → List Part
 variant_parts vs = in_order (map (word_part Variant) vs)
 
 -- the front of an identifier that may be absent, and its variants
-abbrev pub optional_front : Option Identifier → List Text
+abbrev pub optional_front : Option SpelledIdentifier → List Text
 optional_front None = []
 optional_front (Some i) = front_pieces i
 
-abbrev pub optional_variants : Option Identifier → List Text
+abbrev pub optional_variants : Option SpelledIdentifier → List Text
 optional_variants None = []
 optional_variants (Some i) = i.variants
 
 -- variants and fields, each in order; the front of the identifier stays behind the singleton
-abbrev pub transform_parts : Transform → List Part
+abbrev pub transform_parts : SpelledTransform → List Part
 transform_parts m = variant_parts (optional_variants m.id)
     ++ in_order (map (field_part FieldRole) m.fields)
 

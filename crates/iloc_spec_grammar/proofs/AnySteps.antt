@@ -3,7 +3,7 @@ use Rattle.std.proofs.Common.{◌≡◌, ◌↔◌, inl, inr, ℕ, zero, suc, �
 use Rattle.std.specs.Char.{to_ascii_lowercase}
 use Rattle.std.specs.List.{AllByRecursion}
 use Rattle.std.proofs.lemmas.Bool.{cases_Bool, cond_both, both_ways}
-use Rattle.iloc_spec_grammar.specs.Syntax.{pieces, join, lower, AreLengths, Identifier, identifier_pieces, lower_singleton, is_one_byte, front, blocks, head, tail_blocks}
+use Rattle.iloc_spec_grammar.specs.Syntax.{pieces, join, lower, AreLengths, SpelledIdentifier, Identifier, identifier_pieces, lower_singleton, is_one_byte, front, blocks, head, tail_blocks}
 use Rattle.iloc_spec_grammar.specs.Meaning.{Locale, Means, IdentifierMeans, SpellsIdentifier, normal_identifier}
 use Rattle.iloc_spec_grammar.specs.Tree.{Extension, Written, extension_pieces, spelling, IsWritten, meaning, tree_text}
 use Rattle.iloc_spec_grammar.specs.Values.{text, lower_identifier, identifier_text, TextStep, IdentifierTextStep, Leads, LeadToOne}
@@ -141,13 +141,14 @@ identifier_chain_length T (suc n) t u (inr c) = identifier_chain_length T n c.0 
 
 -- at most two steps lead to the normal text: the order of the variants, and the case of the letters
 pub identifier_chain_to_text : (T : ℕ → Bool) (t : List ℕ) (i : Identifier) → IdentifierMeans T (pieces t) i → Leads (IdentifierTextStep T) 2 t (identifier_text i)
+unfolding identifier_text
 identifier_chain_to_text T t i m =
     let v = m.written in
     let w = sort_identifier v in
     let sorted : normal_identifier w ≡ i = (identifier_step (identifier_order_step v) m.grammatical).1 ∙ sym m.means in
-    let case : lower (identifier_text w) ≡ lower (identifier_text i) =
-    lower-identifier_text w ∙ ap (λ j. join (identifier_pieces j)) (sym (canonical_identifier v m.grammatical.different) ∙ ap lower_identifier sorted) ∙ sym (lower-identifier_text i) in
-    inr (identifier_text w, identifier_step_by_tree t (identifier_text w) (TreeIdentifierTextStep.variant_order m.grammatical m.spelled (identifier_order_step v)), inr (identifier_text i, IdentifierTextStep.letter_case case, refl))
+    let case : lower (join (identifier_pieces w)) ≡ lower (identifier_text i) =
+    lower-identifier_text w ∙ ap (λ (j : SpelledIdentifier). join (identifier_pieces j)) (sym (canonical_identifier v m.grammatical.different) ∙ ap lower_identifier sorted) ∙ sym (lower-identifier_text i) in
+    inr (join (identifier_pieces w), identifier_step_by_tree t (join (identifier_pieces w)) (TreeIdentifierTextStep.variant_order m.grammatical m.spelled (identifier_order_step v)), inr (identifier_text i, IdentifierTextStep.letter_case case, refl))
 
 -- all texts of a meaning are as long as the normal one
 pub length-identifier_means : (T : ℕ → Bool) (t : List ℕ) (i : Identifier) → IdentifierMeans T (pieces t) i → length (identifier_text i) ≡ length t

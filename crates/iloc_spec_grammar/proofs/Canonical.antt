@@ -3,14 +3,14 @@ use Rattle.std.proofs.Common.{◌≡◌, ℕ, ◌<◌, Bool, true, false, cond, 
 use Rattle.std.specs.Prelude.{codes}
 use Rattle.std.specs.List.{AllByRecursion, AllZip}
 use Rattle.std.specs.FinMap.{is_sorted}
-use Rattle.iloc_spec_grammar.specs.Syntax.{Subtag, is_word, lower, upper, title, word_cmp, is_true, Identifier, Fields, kept, IsIdentifier, IsField, AllDifferent}
-use Rattle.iloc_spec_grammar.specs.Tree.{Extension, unicode, transform, other, IsExtension}
+use Rattle.iloc_spec_grammar.specs.Syntax.{Subtag, is_word, lower, upper, title, word_cmp, is_true, SpelledIdentifier, Fields, kept, IsIdentifier, IsField, AllDifferent}
+use Rattle.iloc_spec_grammar.specs.Tree.{Extension, unicode, transform, other, IsExtension, spelled_transform, spelled_unicode}
 use Rattle.iloc_spec_grammar.specs.Meaning.{set_of, normal_identifier, normal_values, normal_fields, normal_unicode, normal_transform}
 use Rattle.iloc_spec_grammar.specs.Values.{lower_identifier, spelled_value, spelled_fields}
 use Rattle.iloc_spec_grammar.specs.TreeSteps.{TreeWithout, TreeLessTrue, keys_differ, Repeats, Trues, DroppedPieces, VariantOrder, AttributeOrder, FieldOrder, TreeIdentifierStep, ExtensionStep}
 use Rattle.iloc_spec_grammar.proofs.WordsLaws.{lower-lower, lower-title, lower-upper}
 use Rattle.iloc_spec_grammar.proofs.MapLaws.{map_of_sorted, word_cmp_total, same_words}
-use Rattle.iloc_spec_grammar.proofs.ValuesLaws.{set_of_ascending, lower_twice, spelled_transform, same_identifier, filter_all, all_weaker, ascend_as_keys}
+use Rattle.iloc_spec_grammar.proofs.ValuesLaws.{set_of_ascending, lower_twice, same_identifier, filter_all, all_weaker, ascend_as_keys}
 use Rattle.iloc_spec_grammar.proofs.Orders.{all_reordered, all_repeats}
 use Rattle.iloc_spec_grammar.proofs.CaseLaws.{low, low_fields, low_extension}
 use Rattle.iloc_spec_grammar.proofs.Sorting.{sort, reordered-sort, sorted-sort, dedup, without-dedup, different-dedup, without-filter, filter-passes}
@@ -38,7 +38,7 @@ sort_words ws = sort word_cmp lower ws
 abbrev pub sort_fields : Fields → Fields
 sort_fields fs = sort word_cmp (λ f. lower f.0) fs
 
-abbrev pub sort_identifier : Identifier → Identifier
+abbrev pub sort_identifier : SpelledIdentifier → SpelledIdentifier
 sort_identifier i = record { language = i.language; script = i.script; region = i.region; variants = sort_words i.variants }
 
 abbrev pub without_repeats : Extension → Extension
@@ -125,13 +125,13 @@ pub dropped_step : (e : Extension) → ExtensionStep DroppedPieces e (without_dr
 dropped_step (other ps) = ExtensionStep.dropped_pieces (without_others (is_word Subtag) ps)
 dropped_step _ = ExtensionStep.same
 
-pub identifier_order_step : (i : Identifier) → TreeIdentifierStep VariantOrder i (sort_identifier i)
+pub identifier_order_step : (i : SpelledIdentifier) → TreeIdentifierStep VariantOrder i (sort_identifier i)
 identifier_order_step i = TreeIdentifierStep.variants (reordered-sort word_cmp lower i.variants)
 
 pub variant_order_step : (e : Extension) → ExtensionStep VariantOrder e (with_sorted_variants e)
 variant_order_step (transform m) = at_id m.id m.fields
   where
-    at_id : (i : Option Identifier) (fs : Fields) → ExtensionStep VariantOrder (transform (record { id = i; fields = fs })) (transform (record { id = option_map sort_identifier i; fields = fs }))
+    at_id : (i : Option SpelledIdentifier) (fs : Fields) → ExtensionStep VariantOrder (transform (record { id = i; fields = fs })) (transform (record { id = option_map sort_identifier i; fields = fs }))
     at_id None fs = ExtensionStep.same
     at_id (Some i) fs = ExtensionStep.identifier (identifier_order_step i)
 variant_order_step _ = ExtensionStep.same
@@ -158,7 +158,7 @@ keys_differ_then (other ps) = tt
 -- what an extension in order means is its lower case
 
 abbrev pub IsCanonical : Extension → Type 0
-IsCanonical (unicode u) = unicode (normal_unicode u) ≡ low_extension (unicode u)
+IsCanonical (unicode u) = unicode (spelled_unicode (normal_unicode u)) ≡ low_extension (unicode u)
 IsCanonical (transform m) = transform (spelled_transform (normal_transform m)) ≡ low_extension (transform m)
 IsCanonical (other ps) = kept ps ≡ low ps
 
@@ -191,10 +191,10 @@ canonical_fields fs d n =
 spelled_kept : (fs : Fields) → AllByRecursion IsField fs → AllByRecursion IsSpelled (map (λ f. (f.0, keep_one f.1)) fs)
 spelled_kept = all_mapped IsField IsSpelled (λ f. (f.0, keep_one f.1)) (λ f h. (kept_some f.1 h.2).value)
 
-pub canonical_identifier : (i : Identifier) → AllDifferent word_cmp (map lower i.variants) → lower_identifier (normal_identifier (sort_identifier i)) ≡ lower_identifier (sort_identifier i)
+pub canonical_identifier : (i : SpelledIdentifier) → AllDifferent word_cmp (map lower i.variants) → lower_identifier (normal_identifier (sort_identifier i)) ≡ lower_identifier (sort_identifier i)
 canonical_identifier i d = same_identifier _ _ _ _ _ _ _ _ (lower-lower i.language) (option_map-then lower title lower lower-title i.script) (option_map-then lower upper lower lower-upper i.region) (ap low (sorted_set i.variants d) ∙ lower_twice (sort_words i.variants))
 
-canonical_optional : (T : ℕ → Bool) (o : Option Identifier) → IfSome o (IsIdentifier T) → option_map lower_identifier (option_map normal_identifier (option_map sort_identifier o)) ≡ option_map lower_identifier (option_map sort_identifier o)
+canonical_optional : (T : ℕ → Bool) (o : Option SpelledIdentifier) → IfSome o (IsIdentifier T) → option_map lower_identifier (option_map normal_identifier (option_map sort_identifier o)) ≡ option_map lower_identifier (option_map sort_identifier o)
 canonical_optional T None h = refl
 canonical_optional T (Some i) h = ap Some (canonical_identifier i h.different)
 

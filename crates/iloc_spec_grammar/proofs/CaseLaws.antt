@@ -7,7 +7,7 @@ use Rattle.std.specs.Ordering.{nat_cmp, eq_by_cmp}
 use Rattle.std.specs.FinMap.{find}
 use Rattle.std.proofs.lemmas.Bool.Decides.{nat_tests}
 use Rattle.std.proofs.lemmas.Str.Ascii.{lowercase-lowercase}
-use Rattle.iloc_spec_grammar.specs.Syntax.{pieces, join, Kind, Language, Script, Region, Variant, Subtag, UnicodeKey, TransformKey, Attribute, PrivateSubtag, is_word, AreLengths, lower, word_cmp, is_true, Identifier, Fields, IsIdentifier, kept, is_other_singleton, lower_singleton, AllDifferent, is_one_byte, front, blocks, head, tail_blocks, first_piece, IsPrivate}
+use Rattle.iloc_spec_grammar.specs.Syntax.{pieces, join, Kind, Language, Script, Region, Variant, Subtag, UnicodeKey, TransformKey, Attribute, PrivateSubtag, is_word, AreLengths, lower, word_cmp, is_true, SpelledIdentifier, Fields, IsIdentifier, kept, is_other_singleton, lower_singleton, AllDifferent, is_one_byte, front, blocks, head, tail_blocks, first_piece, IsPrivate}
 use Rattle.iloc_spec_grammar.specs.Tree.{Extension, unicode, transform, other, Written, spelling, IsExtension, IsWritten, unicode_part, transform_part, private_part, other_part, by_singleton, meaning, TreeMeans}
 use Rattle.iloc_spec_grammar.specs.Meaning.{map_of, set_of, normal_identifier, normal_values, Locale}
 use Rattle.iloc_spec_grammar.specs.Values.{lower_identifier}
@@ -172,7 +172,7 @@ option-low : {X : Type 0} (test : X → Bool) (f : X → X) → ((x : X) → tes
 option-low test f e None = refl
 option-low test f e (Some x) = e x
 
-pub is_identifier-low : (T : ℕ → Bool) (i : Identifier) → is_identifier T (lower_identifier i) ≡ is_identifier T i
+pub is_identifier-low : (T : ℕ → Bool) (i : SpelledIdentifier) → is_identifier T (lower_identifier i) ≡ is_identifier T i
 is_identifier-low T i =
     let front = ap₂ ◌&&◌ (is_word-lower (Language T) i.language) (option-low (is_word Script) lower (is_word-lower Script) i.script) in
     let rest = ap₂ ◌&&◌ (option-low (is_word Region) lower (is_word-lower Region) i.region) (words-low Variant i.variants) in
@@ -187,7 +187,7 @@ is_keyword-low f = ap₂ ◌&&◌ (is_word-lower UnicodeKey f.0) (words-low Attr
 is_field-low : (f : List ℕ × List (List ℕ)) → is_field (low_field f) ≡ is_field f
 is_field-low f = ap₂ ◌&&◌ (ap₂ ◌&&◌ (is_word-lower TransformKey f.0) (words-low Attribute f.1)) (ap (nat_lt 0) (length-map f.1 lower))
 
-is_some-low : (o : Option Identifier) → is_some (option_map lower_identifier o) ≡ is_some o
+is_some-low : (o : Option SpelledIdentifier) → is_some (option_map lower_identifier o) ≡ is_some o
 is_some-low None = refl
 is_some-low (Some i) = refl
 

@@ -9,14 +9,14 @@ use Rattle.std.specs.FinMap.Entries.{same_entries}
 use Rattle.std.proofs.lemmas.Bool.{cases_eq, lt-ltb}
 use Rattle.std.proofs.lemmas.List.{map-append, length-map}
 use Rattle.std.proofs.lemmas.Str.Ascii.{lowercase-lowercase}
-use Rattle.iloc_spec_grammar.specs.Syntax.{join, lower, Identifier, Fields, Unicode, Transform, identifier_pieces, optional_pieces, fields_pieces, kept, lower_singleton, AllDifferent, IsPrivate}
-use Rattle.iloc_spec_grammar.specs.Tree.{Extension, unicode, transform, other, Written, extension_pieces, extension_block, block_pieces, blocks_of, spelling, IsExtension, IsWritten, unicode_part, transform_part, private_part, other_part, by_singleton, meaning, IsTreeWellFormed, private_form, printed, tree_text}
+use Rattle.iloc_spec_grammar.specs.Syntax.{join, lower, SpelledIdentifier, SpelledUnicode, SpelledTransform, Identifier, Fields, identifier_pieces, optional_pieces, fields_pieces, kept, lower_singleton, AllDifferent, IsPrivate}
+use Rattle.iloc_spec_grammar.specs.Tree.{Extension, unicode, transform, other, Written, extension_pieces, extension_block, block_pieces, blocks_of, spelling, IsExtension, IsWritten, unicode_part, transform_part, private_part, other_part, by_singleton, meaning, IsTreeWellFormed, private_form, printed, tree_text, spelled_transform, spelled_unicode}
 use Rattle.iloc_spec_grammar.specs.Meaning.{normal_identifier, normal_fields, normal_unicode, normal_transform}
 use Rattle.iloc_spec_grammar.specs.Values.{IsValue, lower_identifier, spelled_fields}
 use Rattle.iloc_spec_grammar.specs.TreeSteps.{TreeRule, Repeats, Trues, DroppedPieces, VariantOrder, AttributeOrder, FieldOrder, TreeIdentifierStep, ExtensionStep, Step, written}
 use Rattle.iloc_spec_grammar.proofs.WordsLaws.{lower-lower}
 use Rattle.iloc_spec_grammar.proofs.MapLaws.{find-map_of, to_T}
-use Rattle.iloc_spec_grammar.proofs.ValuesLaws.{lower_twice, spelled_transform, length-spelled_fields, same_identifier, all_both}
+use Rattle.iloc_spec_grammar.proofs.ValuesLaws.{lower_twice, length-spelled_fields, same_identifier, all_both}
 use Rattle.iloc_spec_grammar.proofs.ReadBack as back
 use Rattle.iloc_spec_grammar.proofs.WellRead.{written_value, written_well_formed}
 use Rattle.iloc_spec_grammar.proofs.Orders.{all_reordered}
@@ -65,7 +65,7 @@ same_text v w e = lower-join (spelling v) ∙ ap join (sym (spelling-low v) ∙ 
 
 -- lower case twice
 
-identifier_twice : (i : Identifier) → lower_identifier (lower_identifier i) ≡ lower_identifier i
+identifier_twice : (i : SpelledIdentifier) → lower_identifier (lower_identifier i) ≡ lower_identifier i
 identifier_twice i = same_identifier _ _ _ _ _ _ _ _ (lower-lower i.language) (option_map-then lower lower lower lower-lower i.script) (option_map-then lower lower lower lower-lower i.region) (lower_twice i.variants)
 
 fields_twice : (fs : Fields) → low_fields (low_fields fs) ≡ low_fields fs
@@ -88,13 +88,13 @@ find_entries : (q : ℕ) (es : List (ℕ × Extension)) → find nat_cmp q (low_
 find_entries q [] = refl
 find_entries q (e ∷ es) = cond-map (option_map low_extension) _ _ refl refl (find_entries q es)
 
-unicode_found : (T : ℕ → Bool) (o : Option Extension) → IfSome o (Fine T 117) → cond (nat_lt 0 (length (unicode_part o).attributes + length (unicode_part o).keywords)) (Some (unicode (unicode_part o))) None ≡ option_map low_extension o
+unicode_found : (T : ℕ → Bool) (o : Option Extension) → IfSome o (Fine T 117) → cond (nat_lt 0 (length (unicode_part o).attributes + length (unicode_part o).keywords)) (Some (unicode (spelled_unicode (unicode_part o)))) None ≡ option_map low_extension o
 unicode_found T None h = refl
 unicode_found T (Some (unicode u)) h =
-    let lowered : Unicode = record { attributes = low u.attributes; keywords = low_fields u.keywords } in
-    let same : normal_unicode u ≡ lowered = cc h.1 in
+    let lowered : SpelledUnicode = record { attributes = low u.attributes; keywords = low_fields u.keywords } in
+    let same : spelled_unicode (normal_unicode u) ≡ lowered = cc h.1 in
     let n : 0 < length (low u.attributes) + length (low_fields u.keywords) = let a = length-map u.attributes lower in let b : length (low_fields u.keywords) ≡ length u.keywords = length-map u.keywords _ in let p = h.0.1.nonempty in omega arith in
-    ap (λ (v : Unicode). cond (nat_lt 0 (length v.attributes + length v.keywords)) (Some (unicode v)) None) same ∙ ap (λ b. cond b (Some (unicode lowered)) None) (lt-ltb 0 _ n)
+    ap (λ (v : SpelledUnicode). cond (nat_lt 0 (length v.attributes + length v.keywords)) (Some (unicode v)) None) same ∙ ap (λ b. cond b (Some (unicode lowered)) None) (lt-ltb 0 _ n)
 unicode_found T (Some (transform m)) h = absurd (let k = h.0.0 in omega arith)
 unicode_found T (Some (other ps)) h = absurd (true≢false (sym h.0.0))
 
@@ -102,16 +102,16 @@ needed : (o : Option Identifier) (n : ℕ) → (o ≡ None → 0 < n) → (is_so
 needed None n f = lt-ltb 0 n (f refl)
 needed (Some i) n f = refl
 
-id_absent : (o : Option Identifier) → option_map normal_identifier o ≡ None → o ≡ None
+id_absent : (o : Option SpelledIdentifier) → option_map normal_identifier o ≡ None → o ≡ None
 id_absent None e = refl
 id_absent (Some i) e = cc
 
 transform_found : (T : ℕ → Bool) (o : Option Extension) → IfSome o (Fine T 116) → cond (is_some (transform_part o).id || nat_lt 0 (length (transform_part o).fields)) (Some (transform (spelled_transform (transform_part o)))) None ≡ option_map low_extension o
 transform_found T None h = refl
 transform_found T (Some (transform m)) h =
-    let lowered : Transform = record { id = option_map lower_identifier m.id; fields = low_fields m.fields } in
+    let lowered : SpelledTransform = record { id = option_map lower_identifier m.id; fields = low_fields m.fields } in
     let same : spelled_transform (normal_transform m) ≡ lowered = cc h.1 in
-    let a : length (spelled_fields (normal_fields m.fields)) ≡ length (low_fields m.fields) = ap (λ (n : Transform). length n.fields) same in
+    let a : length (spelled_fields (normal_fields m.fields)) ≡ length (low_fields m.fields) = ap (λ (n : SpelledTransform). length n.fields) same in
     let b : length (low_fields m.fields) ≡ length m.fields = length-map m.fields _ in
     let c : length (spelled_fields (normal_fields m.fields)) ≡ length (normal_fields m.fields) = length-spelled_fields (normal_fields m.fields) in
     ap (λ b. cond b (Some (transform (spelled_transform (normal_transform m)))) None) (needed (option_map normal_identifier m.id) (length (normal_fields m.fields)) (λ e. let p = h.0.1.nonempty (id_absent m.id e) in omega arith))

@@ -1,7 +1,7 @@
 -- The equality tests decide equality.
 use Rattle.std.proofs.Common.{◌≡◌, ◌↔◌, Bool, true, false, ◌&&◌, ◌==◌, [], ◌∷◌, Some, None, refl, sym, ap, subst, true≢false}
 use Rattle.std.specs.Bool.{IsTrue}
-use Rattle.iloc_spec_grammar.specs.Syntax.{is_same, Identifier}
+use Rattle.iloc_spec_grammar.specs.Syntax.{is_same, SpelledIdentifier}
 use Rattle.iloc_spec_grammar.specs.Tree.{unicode, transform, other}
 use Rattle.iloc_spec_grammar.proofs.MapLaws.{same_is, same_itself}
 use Rattle.iloc_spec_grammar.proofs.RuleTests.{Tests, tests_and, tests_like, tests_nat}
@@ -56,10 +56,10 @@ optional_word : Equality (option_zip is_same)
 optional_word = option_equality is_same word_equality
 
 -- equal but for the variants
-abbrev pub FrontsEqual : Identifier → Identifier → Type 0
+abbrev pub FrontsEqual : SpelledIdentifier → SpelledIdentifier → Type 0
 FrontsEqual i j = (i.language ≡ j.language) × ((i.script ≡ j.script) × (i.region ≡ j.region))
 
-pub fronts_equality : (i j : Identifier) → Tests (same_but_variants i j) (FrontsEqual i j)
+pub fronts_equality : (i j : SpelledIdentifier) → Tests (same_but_variants i j) (FrontsEqual i j)
 fronts_equality i j = tests_and (word_equality i.language j.language) (tests_and (optional_word i.script j.script) (optional_word i.region j.region))
 
 pub identifier_equality : Equality same_identifier

@@ -1,7 +1,7 @@
 -- Worked examples, computed by the plain program.
 use Rattle.std.proofs.lemmas.Bool.{both_ways}
 use Rattle.std.proofs.Common.{◌≡◌, ℕ, List, [], ◌∷◌, refl, codes, Result, Ok, Err, arith, true≢false, None}
-use Rattle.iloc_spec_grammar.specs.Syntax.{pieces, join, is_word, lower, upper, title, is_true, languages, Identifier}
+use Rattle.iloc_spec_grammar.specs.Syntax.{pieces, join, is_word, lower, upper, title, is_true, languages, SpelledIdentifier, Identifier}
 use Rattle.iloc_spec_grammar.specs.Tree.{transform}
 use Rattle.iloc_spec_grammar.specs.Meaning.{Locale, Fault}
 use Rattle.iloc_spec_grammar.specs.Values.{TextStep, extensions_spelling, identifier_text}
@@ -58,7 +58,7 @@ refused_identifier t f h = no_identifier_from t f (identifier_result languages (
 
 -- the two settled readings of the steps
 
-abbrev und : Identifier
+abbrev und : SpelledIdentifier
 und = record { language = codes "und"; script = None; region = None; variants = [] }
 
 pub same_key_in_two_cases : keys_differ ((codes "ca", codes "foo" ∷ []) ∷ (codes "CA", codes "bar" ∷ []) ∷ []) → ⊥

@@ -8,7 +8,7 @@ use Rattle.std.proofs.lemmas.Bool.{or_from, or_parts, cond_both, both_ways, eqb-
 use Rattle.std.proofs.lemmas.Bool.Decides.{nat_tests}
 use Rattle.std.proofs.lemmas.List.{map-append}
 use Rattle.std.proofs.lemmas.List.Folds.{list_any-append}
-use Rattle.iloc_spec_grammar.specs.Syntax.{pieces, Language, Script, Region, Variant, TransformKey, is_word, IsWord, AreLengths, lower, word_cmp, Identifier, Transform, identifier_pieces, optional_pieces, transform_pieces, HasWords, IsIdentifier, lower_singleton, AllDifferent, front, blocks, head, tail_blocks, first_piece, IsPrivate}
+use Rattle.iloc_spec_grammar.specs.Syntax.{pieces, Language, Script, Region, Variant, TransformKey, is_word, IsWord, AreLengths, lower, word_cmp, SpelledIdentifier, SpelledTransform, identifier_pieces, optional_pieces, transform_pieces, HasWords, IsIdentifier, lower_singleton, AllDifferent, front, blocks, head, tail_blocks, first_piece, IsPrivate}
 use Rattle.iloc_spec_grammar.specs.Tree.{Extension, Written, extension_block, block_pieces, blocks_of, spelling, IsTransformBlock, IsExtension, IsWritten, TreeMeans, meaning, HasSingleton, IsNew, IsBlock, TreeBlockFault, no_singleton, duplicated, breaks_rule, FirstBadBlock, here, later, HasTreeFault, no_language, no_identifier, bad_block}
 use Rattle.iloc_spec_grammar.specs.Meaning.{Locale, Fault, InvalidLanguage, InvalidSubtag, InvalidExtension, DuplicatedExtension, SpellsIdentifier, RepeatsVariant}
 use Rattle.iloc_spec_grammar.specs.Reading.{skip_first, passing, past, identifier_of, front_of, after_front, before_key, extensions_in, private_in, written_of, transform_of}
@@ -52,15 +52,15 @@ read_longer l (Some s) None v vs rest hs hr hv = rw (hs, variant_no_region v hv)
 read_longer l (Some s) (Some r) v vs rest hs hr hv = rw (hs, hr)
 
 -- the words of a reading, its variants cut where they end
-abbrev pub cut_identifier : Identifier → Identifier
+abbrev pub cut_identifier : SpelledIdentifier → SpelledIdentifier
 cut_identifier i = record i { variants = front_variants i.variants }
 
-pub repeats_longer : {T : ℕ → Bool} (i : Identifier) (rest : List (List ℕ)) → HasWords T i → ¬ (AllDifferent word_cmp (map lower i.variants)) → (identifier_of (identifier_pieces i ++ rest)).variants ≡ i.variants ++ rest
+pub repeats_longer : {T : ℕ → Bool} (i : SpelledIdentifier) (rest : List (List ℕ)) → HasWords T i → ¬ (AllDifferent word_cmp (map lower i.variants)) → (identifier_of (identifier_pieces i ++ rest)).variants ≡ i.variants ++ rest
 repeats_longer i rest h d = from i.language i.script i.region i.variants h.script h.region h.variants d
   where
     from : (l : List ℕ) (s r : Option (List ℕ)) (vs : List (List ℕ)) → IfSome s (IsWord Script) → IfSome r (IsWord Region) → AllByRecursion (IsWord Variant) vs → ¬ (AllDifferent word_cmp (map lower vs)) → (identifier_of ((l ∷ (option_to_list s ++ (option_to_list r ++ vs))) ++ rest)).variants ≡ vs ++ rest
     from l s r [] hs hr hv d = absurd (d tt)
-    from l s r (v ∷ vs) hs hr hv d = ap (λ (j : Identifier). j.variants) (read_longer l s r v vs rest hs hr hv.0)
+    from l s r (v ∷ vs) hs hr hv d = ap (λ (j : SpelledIdentifier). j.variants) (read_longer l s r v vs rest hs hr hv.0)
 
 pub language_of : (p : List ℕ) (ps : List (List ℕ)) → (identifier_of (p ∷ ps)).language ≡ p
 unfolding identifier_of
@@ -74,7 +74,7 @@ pub region_of : (p : List ℕ) (ps : List (List ℕ)) → IfSome (identifier_of 
 unfolding identifier_of
 region_of p ps = take_first_passes (is_word Region) (skip_first (is_word Script) ps)
 
-pub spell_cut : (i : Identifier) → identifier_pieces (cut_identifier i) ++ after_variants i.variants ≡ identifier_pieces i
+pub spell_cut : (i : SpelledIdentifier) → identifier_pieces (cut_identifier i) ++ after_variants i.variants ≡ identifier_pieces i
 spell_cut i = ap (λ l. i.language ∷ l) (append_assoc (option_to_list i.script) (option_to_list i.region ++ front_variants i.variants) (after_variants i.variants)
     ∙ ap (λ l. option_to_list i.script ++ l) (append_assoc (option_to_list i.region) (front_variants i.variants) (after_variants i.variants) ∙ ap (λ l. option_to_list i.region ++ l) (all_while (is_word Variant) i.variants)))
 
@@ -100,13 +100,13 @@ before_no_key : (xs ys : List (List ℕ)) → AllByRecursion (λ p. is_word Tran
 before_no_key [] ys h = refl
 before_no_key (x ∷ xs) ys h = rw h.0 (ap (λ l. x ∷ l) (before_no_key xs ys h.1))
 
-good_no_repeat : (T : ℕ → Bool) (m : Transform) → IsTransformBlock T m → ¬ (RepeatsVariant T (transform_pieces m))
+good_no_repeat : (T : ℕ → Bool) (m : SpelledTransform) → IsTransformBlock T m → ¬ (RepeatsVariant T (transform_pieces m))
 good_no_repeat T m h r = at_id m.id h.id (sym (before_key_read (is_word TransformKey) (optional_pieces m.id) m.fields (optional_no_key T m.id h.id) (fields_pass m.fields h.fields)) ∙ ap (before_key (is_word TransformKey)) r.3 ∙ before_no_key (identifier_pieces r.0) r.1 (identifier_no_key r.0 r.2))
   where
-    at_id : (o : Option Identifier) → IfSome o (IsIdentifier T) → optional_pieces o ≡ identifier_pieces r.0 ++ before_key (is_word TransformKey) r.1 → ⊥
+    at_id : (o : Option SpelledIdentifier) → IfSome o (IsIdentifier T) → optional_pieces o ≡ identifier_pieces r.0 ++ before_key (is_word TransformKey) r.1 → ⊥
     at_id None g e = cc
     at_id (Some j) g e =
-        let same : j.variants ≡ r.0.variants ++ before_key (is_word TransformKey) r.1 = ap (λ (i : Identifier). i.variants) (sym (identifier_of-pieces j g.words)) ∙ ap (λ l. (identifier_of l).variants) e ∙ repeats_longer r.0 _ r.2 r.4 in
+        let same : j.variants ≡ r.0.variants ++ before_key (is_word TransformKey) r.1 = ap (λ (i : SpelledIdentifier). i.variants) (sym (identifier_of-pieces j g.words)) ∙ ap (λ l. (identifier_of l).variants) e ∙ repeats_longer r.0 _ r.2 r.4 in
         r.4 (some_repeat word_cmp (map lower r.0.variants) _ (subst (AllDifferent word_cmp) (ap (map lower) same ∙ map-append lower r.0.variants _) g.different))
 
 block_no_repeat : (T : ℕ → Bool) (b : ℕ × List (List ℕ)) → lower_singleton b ≡ 116 → IsBlock T b → ¬ (RepeatsVariant T b.1)

@@ -1,7 +1,7 @@
 -- The words of an identifier can be told apart: each spelling has one reading.
 use Rattle.std.proofs.Common.{◌≡◌, ℕ, Bool, true, false, cond, List, [], ◌∷◌, ◌++◌, refl, sym, ap, ◌∙◌, Option, Some, None, IfSome, option_to_list}
 use Rattle.std.specs.List.{AllByRecursion}
-use Rattle.iloc_spec_grammar.specs.Syntax.{Script, Region, Variant, is_word, IsWord, Identifier, identifier_pieces, HasWords}
+use Rattle.iloc_spec_grammar.specs.Syntax.{Script, Region, Variant, is_word, IsWord, SpelledIdentifier, Identifier, identifier_pieces, HasWords}
 use Rattle.iloc_spec_grammar.specs.Reading.{take_first, skip_first, identifier_of}
 use Rattle.iloc_spec_grammar.specs.Meaning.{IdentifierMeans, normal_identifier}
 use Rattle.iloc_spec_grammar.proofs.WordsLaws.{region_no_script, variant_no_script, variant_no_region}
@@ -25,10 +25,10 @@ read_words l (Some s) None (v ∷ vs) hs hr hv = rw (hs, variant_no_region v hv.
 read_words l (Some s) (Some r) vs hs hr hv = rw (hs, hr)
 
 -- what is spelled is read
-pub identifier_of-pieces : {T : ℕ → Bool} (i : Identifier) → HasWords T i → identifier_of (identifier_pieces i) ≡ i
+pub identifier_of-pieces : {T : ℕ → Bool} (i : SpelledIdentifier) → HasWords T i → identifier_of (identifier_pieces i) ≡ i
 identifier_of-pieces i h = read_words i.language i.script i.region i.variants h.script h.region h.variants
 
-pub one_identifier : {T : ℕ → Bool} (i j : Identifier) → HasWords T i → HasWords T j → identifier_pieces i ≡ identifier_pieces j → i ≡ j
+pub one_identifier : {T : ℕ → Bool} (i j : SpelledIdentifier) → HasWords T i → HasWords T j → identifier_pieces i ≡ identifier_pieces j → i ≡ j
 one_identifier i j h k e = sym (identifier_of-pieces i h) ∙ ap identifier_of e ∙ identifier_of-pieces j k
 
 pub one_meaning : {T : ℕ → Bool} (ps : List (List ℕ)) (a b : Identifier) → IdentifierMeans T ps a → IdentifierMeans T ps b → a ≡ b

@@ -1,8 +1,9 @@
 -- Texts of identifiers: reading them back, the two steps between texts of one meaning, and faults.
 use Rattle.std.proofs.Common.{◌≡◌, ◌⊎◌, ℕ, ◌+◌, Bool, true, false, cond, not, List, ◌∷◌, length, refl, sym, ap, ◌∙◌, subst, arith, ◌↔◌, true≢false, Result, Ok, Err, MatchResult}
-use Rattle.iloc_spec_grammar.specs.Syntax.{pieces, join, Language, is_word, lower, Identifier, identifier_pieces, HasWords, first_piece, head, front}
+use Rattle.iloc_spec_grammar.specs.Syntax.{pieces, join, Language, is_word, lower, Stage, IdentifierOf, SpelledIdentifier, Identifier, identifier_pieces, HasWords, first_piece, head, front}
 use Rattle.iloc_spec_grammar.specs.Meaning.{normal_identifier, IdentifierMeans, Fault, InvalidLanguage, InvalidSubtag, HasIdentifierFault, not_a_language, not_an_identifier}
 use Rattle.iloc_spec_grammar.specs.Values.{IsIdentifierValue, lower_identifier, identifier_text}
+use Rattle.iloc_spec_grammar.specs.Tree.{spelled_identifier}
 use Rattle.iloc_spec_grammar.specs.TreeSteps.{TreeIdentifierTextStep}
 use Rattle.iloc_spec_grammar.proofs.WordsLaws.{length-lower}
 use Rattle.iloc_spec_grammar.proofs.PiecesLaws.{pieces-join, join-pieces, at_pieces}
@@ -22,8 +23,7 @@ use Rattle.iloc_spec_grammar.proofs.Chains.{lower-join}
 use Rattle.iloc_spec_grammar.proofs.PartTexts.{identifier_pieces-low}
 
 -- the text has the pieces that were joined
-pub pieces-identifier_text : {T : ℕ → Bool} (i : Identifier) → HasWords T i → pieces (identifier_text i) ≡ identifier_pieces i
-unfolding identifier_text
+pub pieces-identifier_text : {T : ℕ → Bool} (i : SpelledIdentifier) → HasWords T i → pieces (join (identifier_pieces i)) ≡ identifier_pieces i
 pieces-identifier_text i h = pieces-join i.language _ (identifier_hyphen_free i h)
 
 -- what is read is a value, and the text of a value means it
@@ -32,7 +32,8 @@ pub identifier_means_value : {T : ℕ → Bool} (ps : List (List ℕ)) (i : Iden
 identifier_means_value {T = T} ps i m = subst (IsIdentifierValue T) (sym m.means) (identifier_value m.written m.grammatical.words)
 
 pub identifier_text_means : {T : ℕ → Bool} (i : Identifier) → IsIdentifierValue T i → IdentifierMeans T (pieces (identifier_text i)) i
-identifier_text_means {T = T} i h = subst (λ (ps : List (List ℕ)). IdentifierMeans T ps i) (sym (pieces-identifier_text i (value_words h))) (identifier_reads_back i h)
+unfolding identifier_text
+identifier_text_means {T = T} i h = subst (λ (ps : List (List ℕ)). IdentifierMeans T ps i) (sym (pieces-identifier_text (spelled_identifier i) (value_words h))) (identifier_reads_back i h)
 
 -- the normal text of a meaning means it
 pub identifier_means_again : {T : ℕ → Bool} (ps : List (List ℕ)) (i : Identifier) → IdentifierMeans T ps i → IdentifierMeans T (pieces (identifier_text i)) i
@@ -73,25 +74,19 @@ identifier_text_step_means T t u i (TreeIdentifierTextStep.variant_order {i = v}
 
 -- and the length
 
-pub join-identifier : (i : Identifier) → join (identifier_pieces i) ≡ identifier_text i
-unfolding identifier_text
-join-identifier i = refl
-
-length-identifier_text : (i : Identifier) → length (identifier_text i) + 1 ≡ total piece_length (identifier_pieces i)
-unfolding identifier_text
+length-identifier_text : (i : SpelledIdentifier) → length (join (identifier_pieces i)) + 1 ≡ total piece_length (identifier_pieces i)
 length-identifier_text i = length-join i.language _
 
 pub identifier_text_step_length : (T : ℕ → Bool) (t u : List ℕ) → TreeIdentifierTextStep T t u → length u ≡ length t
 identifier_text_step_length T t u (TreeIdentifierTextStep.letter_case e) = sym (length-lower u) ∙ ap length (sym e) ∙ length-lower t
 identifier_text_step_length T t u (TreeIdentifierTextStep.variant_order {i = v} {j = w} h e s) =
     let a = length-identifier_text v in let b = length-identifier_text w in let c = identifier_size piece_length s in
-    let d : length t ≡ length (identifier_text v) = ap length (sym (join-pieces t) ∙ ap join e ∙ join-identifier v) in
+    let d : length t ≡ length (join (identifier_pieces v)) = ap length (sym (join-pieces t) ∙ ap join e) in
     omega arith
 
 -- texts in one order differ in case alone
 
-pub lower-identifier_text : (i : Identifier) → lower (identifier_text i) ≡ join (identifier_pieces (lower_identifier i))
-unfolding identifier_text
+pub lower-identifier_text : {s : Stage} (i : IdentifierOf s) → lower (join (identifier_pieces i)) ≡ join (identifier_pieces (lower_identifier i))
 lower-identifier_text i = lower-join (identifier_pieces i) ∙ ap join (sym (identifier_pieces-low i))
 
 -- a meaning, or one fault

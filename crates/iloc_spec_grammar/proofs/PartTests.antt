@@ -3,7 +3,7 @@ use Rattle.std.proofs.Common.{◌≡◌, inl, inr, ℕ, ◌<◌, Bool, true, fal
 use Rattle.std.specs.List.{AllZip, list_any}
 use Rattle.std.proofs.lemmas.Bool.{and_parts, and_from, or_cases, or_left, or_right}
 use Rattle.std.proofs.Math.Bool.{or-true}
-use Rattle.iloc_spec_grammar.specs.Syntax.{Subtag, is_word, lower, is_same, is_true, word_cmp, Identifier, Fields, Unicode, Transform}
+use Rattle.iloc_spec_grammar.specs.Syntax.{Subtag, is_word, lower, is_same, is_true, word_cmp, SpelledIdentifier, SpelledUnicode, SpelledTransform, Fields}
 use Rattle.iloc_spec_grammar.specs.Tree.{Extension, unicode, transform, other, Written}
 use Rattle.iloc_spec_grammar.specs.Values.{Reordered}
 use Rattle.iloc_spec_grammar.specs.TreeSteps.{WithoutRepeats, TreeLessTrue, keys_differ, TreeRule, VariantOrder, AttributeOrder, FieldOrder, Repeats, Trues, DroppedPieces, TreeIdentifierStep, ExtensionStep, Step}
@@ -37,29 +37,29 @@ orders_variants VariantOrder = true
 orders_variants _ = false
 
 -- other rules leave an identifier as it is
-unchanged : {r : TreeRule} {i j : Identifier} → orders_variants r ≡ false → TreeIdentifierStep r i j → i ≡ j
+unchanged : {r : TreeRule} {i j : SpelledIdentifier} → orders_variants r ≡ false → TreeIdentifierStep r i j → i ≡ j
 unfolding orders_variants
 unchanged h TreeIdentifierStep.same = refl
 unchanged h (TreeIdentifierStep.variants p) = absurd (true≢false h)
 
-tests_unchanged : (r : TreeRule) → orders_variants r ≡ false → (i j : Identifier) → Tests (same_identifier i j) (TreeIdentifierStep r i j)
+tests_unchanged : (r : TreeRule) → orders_variants r ≡ false → (i j : SpelledIdentifier) → Tests (same_identifier i j) (TreeIdentifierStep r i j)
 tests_unchanged r h i j = tests_like (λ (e : i ≡ j). subst (TreeIdentifierStep r i) e TreeIdentifierStep.same) (unchanged h) (identifier_equality i j)
 
-variants_step : (i j : Identifier) → FrontsEqual i j → Reordered i.variants j.variants → TreeIdentifierStep VariantOrder i j
+variants_step : (i j : SpelledIdentifier) → FrontsEqual i j → Reordered i.variants j.variants → TreeIdentifierStep VariantOrder i j
 variants_step i j f p = subst (TreeIdentifierStep VariantOrder i) (λ k. record { language = f.0 k; script = f.1.0 k; region = f.1.1 k; variants = j.variants }) (TreeIdentifierStep.variants p)
 
-step_variants : {i j : Identifier} → TreeIdentifierStep VariantOrder i j → FrontsEqual i j × Reordered i.variants j.variants
+step_variants : {i j : SpelledIdentifier} → TreeIdentifierStep VariantOrder i j → FrontsEqual i j × Reordered i.variants j.variants
 step_variants {i = i} TreeIdentifierStep.same = ((refl, (refl, refl)), itself i.variants)
 step_variants (TreeIdentifierStep.variants p) = ((refl, (refl, refl)), p)
 
-pub tests_identifier_step : (r : TreeRule) (i j : Identifier) → Tests (is_identifier_step r i j) (TreeIdentifierStep r i j)
+pub tests_identifier_step : (r : TreeRule) (i j : SpelledIdentifier) → Tests (is_identifier_step r i j) (TreeIdentifierStep r i j)
 unfolding orders_variants
 tests_identifier_step VariantOrder i j = tests_like (λ (p : FrontsEqual i j × Reordered i.variants j.variants). variants_step i j p.0 p.1) step_variants (tests_and (fronts_equality i j) (tests_reordered is_same word_equality i.variants j.variants))
 tests_identifier_step r i j = tests_unchanged r refl i j
 
 -- extensions
 
-unicode_holds : (r : TreeRule) (u v : Unicode) → is_unicode_step r u v ≡ true → ExtensionStep r (unicode u) (unicode v)
+unicode_holds : (r : TreeRule) (u v : SpelledUnicode) → is_unicode_step r u v ≡ true → ExtensionStep r (unicode u) (unicode v)
 unicode_holds AttributeOrder u v e =
     let parts = and_parts _ (same_fields u.keywords v.keywords) e in
     subst (λ fs. ExtensionStep AttributeOrder (unicode u) (unicode (record { attributes = v.attributes; keywords = fs }))) ((fields_equality u.keywords v.keywords).holds parts.1) (ExtensionStep.attribute_order ((tests_reordered is_same word_equality u.attributes v.attributes).holds parts.0))
@@ -75,19 +75,19 @@ unicode_holds Trues u v e =
     subst (λ vs. ExtensionStep Trues (unicode u) (unicode (record { attributes = vs; keywords = v.keywords }))) ((words_equality u.attributes v.attributes).holds parts.0) (ExtensionStep.unicode_trues ((tests_zip has_less_true TreeLessTrue tests_less_true u.keywords v.keywords).holds parts.1))
 unicode_holds _ u v e = absurd (true≢false (sym e))
 
-fields_holds : (r : TreeRule) (o : Option Identifier) (fs gs : Fields) → is_fields_step r fs gs ≡ true → ExtensionStep r (transform (record { id = o; fields = fs })) (transform (record { id = o; fields = gs }))
+fields_holds : (r : TreeRule) (o : Option SpelledIdentifier) (fs gs : Fields) → is_fields_step r fs gs ≡ true → ExtensionStep r (transform (record { id = o; fields = fs })) (transform (record { id = o; fields = gs }))
 fields_holds FieldOrder o fs gs e = let p = (tests_fields_reordered fs gs).holds e in ExtensionStep.field_order p.0 p.1
 fields_holds Repeats o fs gs e = ExtensionStep.transform_repeats ((tests_fields_without_repeats fs gs).holds e)
 fields_holds Trues o fs gs e = ExtensionStep.transform_trues ((tests_keeps_value fs gs).holds e)
 fields_holds _ o fs gs e = absurd (true≢false (sym e))
 
-optional_holds : (r : TreeRule) (o p : Option Identifier) (fs : Fields) → option_zip (is_identifier_step r) o p ≡ true → ExtensionStep r (transform (record { id = o; fields = fs })) (transform (record { id = p; fields = fs }))
+optional_holds : (r : TreeRule) (o p : Option SpelledIdentifier) (fs : Fields) → option_zip (is_identifier_step r) o p ≡ true → ExtensionStep r (transform (record { id = o; fields = fs })) (transform (record { id = p; fields = fs }))
 optional_holds r None None fs e = ExtensionStep.same
 optional_holds r None (Some j) fs e = absurd (true≢false (sym e))
 optional_holds r (Some i) None fs e = absurd (true≢false (sym e))
 optional_holds r (Some i) (Some j) fs e = ExtensionStep.identifier ((tests_identifier_step r i j).holds e)
 
-transform_holds : (r : TreeRule) (m n : Transform) → is_transform_step r m n ≡ true → ExtensionStep r (transform m) (transform n)
+transform_holds : (r : TreeRule) (m n : SpelledTransform) → is_transform_step r m n ≡ true → ExtensionStep r (transform m) (transform n)
 transform_holds r m n e = elim (or_cases _ _ e) [
   | inl h ↦
       let parts = and_parts (option_zip (is_identifier_step r) m.id n.id) _ h in

@@ -3,8 +3,8 @@ use Rattle.std.proofs.Common.{◌≡◌, ℕ, ◌+◌, ◌<◌, ◌≤◌, arith
 use Rattle.std.proofs.lemmas.Bool.{lt-ltb}
 use Rattle.std.proofs.lemmas.List.{map-append}
 use Rattle.std.proofs.lemmas.List.Concat.{flat_map-append}
-use Rattle.iloc_spec_grammar.specs.Syntax.{join, dashes, lower, Identifier, Fields, Unicode, Transform, identifier_pieces, optional_pieces, fields_pieces, unicode_pieces, transform_pieces}
-use Rattle.iloc_spec_grammar.specs.Tree.{before_t, after_t}
+use Rattle.iloc_spec_grammar.specs.Syntax.{join, dashes, lower, Stage, IdentifierOf, Identifier, Unicode, Transform, Fields, identifier_pieces, optional_pieces, fields_pieces, unicode_pieces, transform_pieces}
+use Rattle.iloc_spec_grammar.specs.Tree.{before_t, after_t, spelled_transform}
 use Rattle.iloc_spec_grammar.specs.Meaning.{Locale, Extensions}
 use Rattle.iloc_spec_grammar.specs.Values.{lower_identifier, spelled_fields, printed_pieces, transform_block, before_above, text, unicode_spelling, transform_spelling, other_spelling, private_spelling, extensions_spelling, identifier_text}
 
@@ -46,11 +46,11 @@ pub option_to_list-map : {X Y : Type 0} (f : X → Y) (o : Option X) → option_
 option_to_list-map f None = refl
 option_to_list-map f (Some x) = refl
 
-pub identifier_pieces-low : (i : Identifier) → identifier_pieces (lower_identifier i) ≡ map lower (identifier_pieces i)
+pub identifier_pieces-low : {s : Stage} (i : IdentifierOf s) → identifier_pieces (lower_identifier i) ≡ map lower (identifier_pieces i)
 identifier_pieces-low i = (λ k. lower i.language ∷ (option_to_list-map lower i.script k ++ (option_to_list-map lower i.region k ++ map lower i.variants)))
     ∙ ap (λ l. lower i.language ∷ l) (ap (λ l. map lower (option_to_list i.script) ++ l) (sym (map-append lower (option_to_list i.region) i.variants)) ∙ sym (map-append lower (option_to_list i.script) (option_to_list i.region ++ i.variants)))
 
-pub id_pieces-low : (o : Option Identifier) → optional_pieces (option_map lower_identifier o) ≡ map lower (optional_pieces o)
+pub id_pieces-low : {s : Stage} (o : Option (IdentifierOf s)) → optional_pieces (option_map lower_identifier o) ≡ map lower (optional_pieces o)
 id_pieces-low None = refl
 id_pieces-low (Some i) = identifier_pieces-low i
 
@@ -68,7 +68,7 @@ unicode_spelling_is u = parts u.attributes u.keywords
     parts [] (k ∷ ks) = there (0 + length (k ∷ ks)) _ (omega arith)
     parts (w ∷ ws) ks = there (length (w ∷ ws) + length ks) _ (omega arith)
 
-pub transform_spelling_is : (m : Transform) → transform_spelling m ≡ cond (is_some m.id || nat_lt 0 (length m.fields)) ((116 ∷ []) ∷ transform_pieces (record { id = option_map lower_identifier m.id; fields = spelled_fields m.fields })) []
+pub transform_spelling_is : (m : Transform) → transform_spelling m ≡ cond (is_some m.id || nat_lt 0 (length m.fields)) ((116 ∷ []) ∷ transform_pieces (spelled_transform m)) []
 unfolding transform_spelling
 transform_spelling_is m =
     ap (λ ps. printed_pieces (116, ps ++ fields_pieces (spelled_fields m.fields))) (sym (id_pieces-low m.id)) ∙ parts m.id m.fields

@@ -11,14 +11,14 @@ use Rattle.std.proofs.lemmas.Bool.Decides.{nat_tests}
 use Rattle.std.proofs.lemmas.List.Elements.{filter_map-append}
 use Rattle.std.proofs.lemmas.List.Concat.{flat_map-append}
 use Rattle.std.proofs.lemmas.List.{map-append}
-use Rattle.iloc_spec_grammar.specs.Syntax.{pieces, join, IsHyphenFree, Kind, Language, Script, Region, Variant, Subtag, UnicodeKey, TransformKey, Attribute, PrivateSubtag, is_word, IsWord, lower, Identifier, Fields, Unicode, Transform, identifier_pieces, optional_pieces, fields_pieces, HasWords, IsIdentifier, IsField, kept, is_other_singleton, lower_singleton, AllDifferent, IsPrivate}
-use Rattle.iloc_spec_grammar.specs.Tree.{Extension, unicode, transform, other, Written, extension_pieces, block_pieces, extension_block, spelling, IsExtension, IsWritten, unicode_part, transform_part, private_part, other_part, by_singleton, meaning, TreeMeans, IsTreeWellFormed, transform_form, unicode_form, others_form, private_form, before_t, after_t, printed, tree_text}
+use Rattle.iloc_spec_grammar.specs.Syntax.{pieces, join, IsHyphenFree, Kind, Language, Script, Region, Variant, Subtag, UnicodeKey, TransformKey, Attribute, PrivateSubtag, is_word, IsWord, lower, SpelledIdentifier, Identifier, Unicode, Transform, Fields, identifier_pieces, optional_pieces, fields_pieces, HasWords, IsIdentifier, IsField, kept, is_other_singleton, lower_singleton, AllDifferent, IsPrivate}
+use Rattle.iloc_spec_grammar.specs.Tree.{Extension, unicode, transform, other, Written, extension_pieces, block_pieces, extension_block, spelling, IsExtension, IsWritten, unicode_part, transform_part, private_part, other_part, by_singleton, meaning, TreeMeans, IsTreeWellFormed, transform_form, unicode_form, others_form, private_form, before_t, after_t, printed, tree_text, spelled_transform, spelled_unicode}
 use Rattle.iloc_spec_grammar.specs.Meaning.{map_of, Locale, normal_unicode, normal_transform}
 use Rattle.iloc_spec_grammar.specs.Values.{IsNormal, IsValue, lower_identifier, spelled_fields}
 use Rattle.iloc_spec_grammar.proofs.WordsLaws.{word_letters_or_digits}
 use Rattle.iloc_spec_grammar.proofs.PiecesLaws.{pieces-join}
 use Rattle.iloc_spec_grammar.proofs.MapLaws.{map_of_sorted, sorted_different}
-use Rattle.iloc_spec_grammar.proofs.ValuesLaws.{all_weaker, all_both, map_fixed, filter_all, value_identifier, normal_value, value_unicode, normal_value_unicode, value_transform, normal_value_transform, spelled_transform, length-spelled_fields}
+use Rattle.iloc_spec_grammar.proofs.ValuesLaws.{all_weaker, all_both, map_fixed, filter_all, value_identifier, normal_value, value_unicode, normal_value_unicode, value_transform, normal_value_transform, length-spelled_fields}
 use Rattle.iloc_spec_grammar.proofs.Singletons.{untied, no_t, no_u}
 use Rattle.iloc_spec_grammar.proofs.General.{cond-map, none_passes}
 
@@ -42,10 +42,10 @@ module _ (P : List ℕ → Type 0) where
   option_each k f None h = tt
   option_each k f (Some w) h = (f w h, tt)
 
-  pub after_language_each : {T : ℕ → Bool} → ((p : List ℕ) → IsWord Script p → P p) → ((p : List ℕ) → IsWord Region p → P p) → ((p : List ℕ) → IsWord Variant p → P p) → (i : Identifier) → HasWords T i → AllByRecursion P (option_to_list i.script ++ (option_to_list i.region ++ i.variants))
+  pub after_language_each : {T : ℕ → Bool} → ((p : List ℕ) → IsWord Script p → P p) → ((p : List ℕ) → IsWord Region p → P p) → ((p : List ℕ) → IsWord Variant p → P p) → (i : SpelledIdentifier) → HasWords T i → AllByRecursion P (option_to_list i.script ++ (option_to_list i.region ++ i.variants))
   after_language_each s r v i h = all_append P (option_to_list i.script) _ (option_each Script s i.script h.script) (all_append P (option_to_list i.region) _ (option_each Region r i.region h.region) (all_weaker (IsWord Variant) P v i.variants h.variants))
 
-  pub optional_each : (T : ℕ → Bool) → ((i : Identifier) → HasWords T i → AllByRecursion P (identifier_pieces i)) → (o : Option Identifier) → IfSome o (IsIdentifier T) → AllByRecursion P (optional_pieces o)
+  pub optional_each : (T : ℕ → Bool) → ((i : SpelledIdentifier) → HasWords T i → AllByRecursion P (identifier_pieces i)) → (o : Option SpelledIdentifier) → IfSome o (IsIdentifier T) → AllByRecursion P (optional_pieces o)
   optional_each T f None h = tt
   optional_each T f (Some i) h = f i h.words
 
@@ -67,7 +67,7 @@ module _ (P : List ℕ → Type 0) (word : (k : Kind) (p : List ℕ) → IsWord 
   words_each : (k : Kind) (ws : List (List ℕ)) → AllByRecursion (IsWord k) ws → AllByRecursion P ws
   words_each k ws h = all_weaker (IsWord k) P (word k) ws h
 
-  pub identifier_each : {T : ℕ → Bool} (i : Identifier) → HasWords T i → AllByRecursion P (identifier_pieces i)
+  pub identifier_each : {T : ℕ → Bool} (i : SpelledIdentifier) → HasWords T i → AllByRecursion P (identifier_pieces i)
   identifier_each {T = T} i h = (word (Language T) i.language h.language, after_language_each P (word Script) (word Region) (word Variant) i h)
 
   any_fields_each : (k : Kind) (fs : Fields) → AllByRecursion (λ f. IsWord k f.0 × AllByRecursion (IsWord Attribute) f.1) fs → AllByRecursion P (fields_pieces fs)
@@ -106,7 +106,7 @@ hyphen_byte c h = grind (arith, nat_tests)
 singleton_hyphen_free : (c : ℕ) → is_ascii_alphanumeric (to_ascii_lowercase c) ≡ true → IsHyphenFree (c ∷ [])
 singleton_hyphen_free c h = or_from _ _ (hyphen_byte c h) refl
 
-pub identifier_hyphen_free : {T : ℕ → Bool} (i : Identifier) → HasWords T i → AllByRecursion IsHyphenFree (identifier_pieces i)
+pub identifier_hyphen_free : {T : ℕ → Bool} (i : SpelledIdentifier) → HasWords T i → AllByRecursion IsHyphenFree (identifier_pieces i)
 identifier_hyphen_free i h = identifier_each IsHyphenFree word_hyphen_free singleton_hyphen_free i h
 
 pub written_hyphen_free : {T : ℕ → Bool} (w : Written) → IsWritten T w → AllByRecursion (λ e. OfWords e.1) w.extensions → AllByRecursion IsHyphenFree (spelling w)
@@ -234,7 +234,7 @@ no_parts false c e h = refl
 
 -- a part that is there or empty
 
-unicode_back : (u : Unicode) → normal_unicode u ≡ u → (b : Bool) → nat_lt 0 (length u.attributes + length u.keywords) ≡ b → unicode_part (cond b (Some (unicode u)) None) ≡ u
+unicode_back : (u : Unicode) → normal_unicode (spelled_unicode u) ≡ u → (b : Bool) → nat_lt 0 (length u.attributes + length u.keywords) ≡ b → unicode_part (cond b (Some (unicode (spelled_unicode u))) None) ≡ u
 unicode_back u h true e = h
 unicode_back u h false e = empty u.attributes u.keywords e
   where
@@ -293,7 +293,7 @@ module _ {T : ℕ → Bool} (M : Locale) (h : IsValue T M) (g : IsTreeWellFormed
   t_part = cond has_t ((116, transform (spelled_transform M.extensions.transform)) ∷ []) []
 
   abbrev u_part : List (ℕ × Extension)
-  u_part = cond has_u ((117, unicode M.extensions.unicode) ∷ []) []
+  u_part = cond has_u ((117, unicode (spelled_unicode M.extensions.unicode)) ∷ []) []
 
   abbrev extensions : List (ℕ × Extension)
   extensions = plain_form before ++ (t_part ++ (u_part ++ plain_form after))
@@ -302,7 +302,7 @@ module _ {T : ℕ → Bool} (M : Locale) (h : IsValue T M) (g : IsTreeWellFormed
   extensions_are = λ i. others_form_is (before_t M.extensions.others) (all_before IsOtherEntry M.extensions.others entries) i ++ (transform_form M.extensions.transform ++ (unicode_form M.extensions.unicode ++ others_form_is (after_t M.extensions.others) (all_after IsOtherEntry M.extensions.others entries) i))
 
   -- a fact of each part is a fact of all
-  all_extensions : (P : ℕ × Extension → Type 0) → AllByRecursion P (plain_form before) → (has_t ≡ true → P (116, transform (spelled_transform M.extensions.transform))) → (has_u ≡ true → P (117, unicode M.extensions.unicode)) → AllByRecursion P (plain_form after) → AllByRecursion P extensions
+  all_extensions : (P : ℕ × Extension → Type 0) → AllByRecursion P (plain_form before) → (has_t ≡ true → P (116, transform (spelled_transform M.extensions.transform))) → (has_u ≡ true → P (117, unicode (spelled_unicode M.extensions.unicode))) → AllByRecursion P (plain_form after) → AllByRecursion P extensions
   all_extensions P a b c d = all_append P (plain_form before) _ a (all_append P (cond has_t _ []) _ (all_if P has_t _ b) (all_append P (cond has_u _ []) _ (all_if P has_u _ c) d))
 
   rules : AllByRecursion (λ e. IsExtension T (lower_singleton e) e.1 × OfWords e.1) extensions
@@ -334,7 +334,7 @@ module _ {T : ℕ → Bool} (M : Locale) (h : IsValue T M) (g : IsTreeWellFormed
   find_t = find_skip 116 (plain_form before) _ (all_weaker (λ e. e.0 < 116) (λ e. e.0 ≢ 116) (λ e l. omega arith) _ below_t)
       ∙ find_if 116 has_t _ _ refl (all_append (λ e. e.0 ≢ 116) u_part _ (all_if (λ e. e.0 ≢ 116) has_u _ (λ _. omega arith)) (all_weaker (λ e. 118 ≤ e.0) (λ e. e.0 ≢ 116) (λ e l. omega arith) _ above_u))
 
-  find_u : find nat_cmp 117 extensions ≡ cond has_u (Some (unicode M.extensions.unicode)) None
+  find_u : find nat_cmp 117 extensions ≡ cond has_u (Some (unicode (spelled_unicode M.extensions.unicode))) None
   find_u = find_skip 117 (plain_form before) _ (all_weaker (λ e. e.0 < 116) (λ e. e.0 ≢ 117) (λ e l. omega arith) _ below_t)
       ∙ find_skip 117 t_part _ (all_if (λ e. e.0 ≢ 117) has_t _ (λ _. omega arith))
       ∙ find_if 117 has_u _ _ refl (all_weaker (λ e. 118 ≤ e.0) (λ e. e.0 ≢ 117) (λ e l. omega arith) _ above_u)
@@ -394,7 +394,7 @@ module _ {T : ℕ → Bool} (M : Locale) (h : IsValue T M) (g : IsTreeWellFormed
   pub printed_t : find nat_cmp 116 (printed M).extensions ≡ cond (is_some M.extensions.transform.id || nat_lt 0 (length M.extensions.transform.fields)) (Some (transform (spelled_transform M.extensions.transform))) None
   printed_t = ap (find nat_cmp 116) extensions_are ∙ find_t
 
-  pub printed_u : find nat_cmp 117 (printed M).extensions ≡ cond (nat_lt 0 (length M.extensions.unicode.attributes + length M.extensions.unicode.keywords)) (Some (unicode M.extensions.unicode)) None
+  pub printed_u : find nat_cmp 117 (printed M).extensions ≡ cond (nat_lt 0 (length M.extensions.unicode.attributes + length M.extensions.unicode.keywords)) (Some (unicode (spelled_unicode M.extensions.unicode))) None
   printed_u = ap (find nat_cmp 117) extensions_are ∙ find_u
 
   pub printed_other : (q : ℕ) → q ≢ 116 → q ≢ 117 → find nat_cmp q (printed M).extensions ≡ option_map other (find nat_cmp q M.extensions.others)

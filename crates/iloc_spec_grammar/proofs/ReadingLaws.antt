@@ -4,7 +4,7 @@ use Rattle.std.specs.List.{AllByRecursion}
 use Rattle.std.proofs.lemmas.List.{append_cancel_left, append_cancel_right}
 use Rattle.std.proofs.lemmas.Bool.{false_from_ne_true, cond_both}
 use Rattle.std.proofs.lemmas.Bool.Decides.{nat_tests}
-use Rattle.iloc_spec_grammar.specs.Syntax.{Language, Script, Region, Variant, is_word, IsWord, lower, word_cmp, Identifier, identifier_pieces, HasWords, AllDifferent, is_one_byte, front, first_piece}
+use Rattle.iloc_spec_grammar.specs.Syntax.{Language, Script, Region, Variant, is_word, IsWord, lower, word_cmp, SpelledIdentifier, identifier_pieces, HasWords, AllDifferent, is_one_byte, front, first_piece}
 use Rattle.iloc_spec_grammar.specs.Meaning.{IdentifierMeans, normal_identifier, SpellsIdentifier}
 use Rattle.iloc_spec_grammar.specs.Reading.{take_first, skip_first, passing, past, rest_of, after_script, after_region, front_of, after_front, from_block, starts_block, EndsBefore, IdentifierFront, identifier_of}
 use Rattle.iloc_spec_grammar.proofs.IdentifierLaws.{all_pieces, identifier_of-pieces}
@@ -56,11 +56,11 @@ pub keep_all : (test : List ℕ → Bool) (ps : List (List ℕ)) → AllByRecurs
 keep_all test [] h = refl
 keep_all test (p ∷ ps) h = rw h.0 (ap (λ l. p ∷ l) (keep_all test ps h.1))
 
-pub front_of-pieces : {T : ℕ → Bool} (i : Identifier) → HasWords T i → front_of (identifier_pieces i) ≡ i
+pub front_of-pieces : {T : ℕ → Bool} (i : SpelledIdentifier) → HasWords T i → front_of (identifier_pieces i) ≡ i
 unfolding front_of identifier_of
-front_of-pieces i h = ap (λ (j : Identifier). record j { variants = passing (is_word Variant) j.variants }) (identifier_of-pieces i h) ∙ (λ k. record i { variants = keep_all (is_word Variant) i.variants h.variants k })
+front_of-pieces i h = ap (λ (j : SpelledIdentifier). record j { variants = passing (is_word Variant) j.variants }) (identifier_of-pieces i h) ∙ (λ k. record i { variants = keep_all (is_word Variant) i.variants h.variants k })
 
-pub after_front-pieces : {T : ℕ → Bool} (i : Identifier) → HasWords T i → after_front (identifier_pieces i) ≡ []
+pub after_front-pieces : {T : ℕ → Bool} (i : SpelledIdentifier) → HasWords T i → after_front (identifier_pieces i) ≡ []
 after_front-pieces i h = append_cancel_left (identifier_pieces i) _ [] (ap (λ j. identifier_pieces j ++ after_front (identifier_pieces i)) (sym (front_of-pieces i h)) ∙ pieces-front_of i.language (option_to_list i.script ++ (option_to_list i.region ++ i.variants)) ∙ sym (append-nil _))
 
 -- what follows does not change the reading, where it begins with no such word
@@ -202,7 +202,7 @@ after_words (Some s) None [] more hs hr hv = rw hs (omega (arith, length-past, s
 after_words (Some s) None (v ∷ vs) more hs hr hv = rw (hs, variant_no_region v hv.0, hv.0) (skip_taken (is_word Variant) vs more hv.1)
 after_words (Some s) (Some r) vs more hs hr hv = rw (hs, hr) (skip_taken (is_word Variant) vs more hv)
 
-after_spelled : {T : ℕ → Bool} (j : Identifier) (more : List (List ℕ)) → HasWords T j → length (after_front (identifier_pieces j ++ more)) ≤ length more
+after_spelled : {T : ℕ → Bool} (j : SpelledIdentifier) (more : List (List ℕ)) → HasWords T j → length (after_front (identifier_pieces j ++ more)) ≤ length more
 unfolding after_front
 after_spelled j more h =
     let s = option_to_list j.script in

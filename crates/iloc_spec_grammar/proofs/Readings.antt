@@ -5,7 +5,7 @@ use Rattle.std.specs.Char.{is_ascii_alphabetic, is_ascii_digit}
 use Rattle.std.proofs.lemmas.Bool.{and_parts, false_from_ne_true, or_cases, ne_eqb, eqb-true}
 use Rattle.std.proofs.lemmas.Bool.Decides.{nat_tests}
 use Rattle.std.specs.Int.{is_in_range}
-use Rattle.iloc_spec_grammar.specs.Syntax.{Language, Script, Region, Variant, UnicodeKey, TransformKey, Attribute, is_word, IsWord, AreLengths, letters, digits, Identifier, Fields, Unicode, Transform, identifier_pieces, optional_pieces, fields_pieces, unicode_pieces, transform_pieces, HasWords, IsIdentifier, IsKeyword, IsField, IsUnicode, IsTransform, lower_singleton, is_one_byte, front, blocks, head, tail_blocks, IsPrivate}
+use Rattle.iloc_spec_grammar.specs.Syntax.{Language, Script, Region, Variant, UnicodeKey, TransformKey, Attribute, is_word, IsWord, AreLengths, letters, digits, SpelledIdentifier, SpelledUnicode, SpelledTransform, Fields, identifier_pieces, optional_pieces, fields_pieces, unicode_pieces, transform_pieces, HasWords, IsIdentifier, IsKeyword, IsField, IsUnicode, IsTransform, lower_singleton, is_one_byte, front, blocks, head, tail_blocks, IsPrivate}
 use Rattle.iloc_spec_grammar.specs.Tree.{Extension, unicode, transform, other, Written, extension_pieces, extension_block, block_pieces, blocks_of, spelling, IsUnicodeBlock, IsTransformBlock, IsExtension, IsWritten, TreeMeans, meaning}
 use Rattle.iloc_spec_grammar.specs.Meaning.{Locale}
 use Rattle.iloc_spec_grammar.proofs.WordsLaws.{length-language, length-script, length-region, length-variant, length-attribute, length-unicode_key, length-transform_key}
@@ -36,13 +36,13 @@ pub long_attribute : (p : List ℕ) → IsWord Attribute p → IsLong p
 long_attribute p h = long _ (let l = length-attribute p h in omega arith)
 
 -- the pieces after the language
-abbrev pub after_language : Identifier → List (List ℕ)
+abbrev pub after_language : SpelledIdentifier → List (List ℕ)
 after_language i = option_to_list i.script ++ (option_to_list i.region ++ i.variants)
 
-pub long_after_language : {T : ℕ → Bool} (i : Identifier) → HasWords T i → AllByRecursion IsLong (after_language i)
+pub long_after_language : {T : ℕ → Bool} (i : SpelledIdentifier) → HasWords T i → AllByRecursion IsLong (after_language i)
 long_after_language i h = after_language_each IsLong long_script long_region long_variant i h
 
-long_identifier : (T : ℕ → Bool) → AreLengths T → (i : Identifier) → HasWords T i → AllByRecursion IsLong (identifier_pieces i)
+long_identifier : (T : ℕ → Bool) → AreLengths T → (i : SpelledIdentifier) → HasWords T i → AllByRecursion IsLong (identifier_pieces i)
 long_identifier T t i h = (long _ (t.least _ (length-language T i.language h.language)), long_after_language i h)
 
 long_key : (p : List ℕ) → length p ≡ 2 → IsLong p
@@ -143,7 +143,7 @@ two p h = rw (length-unicode_key p h)
 pub keywords_pass : (fs : Fields) → AllByRecursion IsKeyword fs → KeysPass is_two fs
 keywords_pass = all_weaker IsKeyword (λ f. (is_two f.0 ≡ true) × AllByRecursion (λ p. is_two p ≡ false) f.1) (λ f h. (two f.0 h.0, all_weaker (IsWord Attribute) (λ p. is_two p ≡ false) not_two f.1 h.1))
 
-pub unicode_read : (u : Unicode) → IsUnicode u → unicode_of (unicode_pieces u) ≡ u
+pub unicode_read : (u : SpelledUnicode) → IsUnicode u → unicode_of (unicode_pieces u) ≡ u
 unfolding unicode_of
 unicode_read u h =
     let attributes = all_weaker (IsWord Attribute) (λ p. is_two p ≡ false) not_two u.attributes h.attributes in
@@ -151,7 +151,7 @@ unicode_read u h =
     let keywords : fields_from is_two (unicode_pieces u) ≡ u.keywords = fields_past is_two u.attributes _ attributes ∙ fields_read is_two u.keywords keys in
     λ i. record { attributes = before_key_read is_two u.attributes u.keywords attributes keys i; keywords = keywords i }
 
-pub unicode_of-pieces : (u : Unicode) → IsUnicodeBlock u → unicode_of (unicode_pieces u) ≡ u
+pub unicode_of-pieces : (u : SpelledUnicode) → IsUnicodeBlock u → unicode_of (unicode_pieces u) ≡ u
 unicode_of-pieces u h = unicode_read u (record { attributes = h.attributes; keywords = h.keywords })
 
 pub pieces-unicode_of : (ps : List (List ℕ)) → unicode_pieces (unicode_of ps) ≡ ps
@@ -200,20 +200,20 @@ variant_no_key p h = no_key_by_length p (let l = length-variant p h in omega ari
 pub attribute_no_key : (p : List ℕ) → IsWord Attribute p → IsNoKey p
 attribute_no_key p h = no_key_by_length p (let l = length-attribute p h in omega arith)
 
-pub identifier_no_key : {T : ℕ → Bool} (i : Identifier) → HasWords T i → AllByRecursion IsNoKey (identifier_pieces i)
+pub identifier_no_key : {T : ℕ → Bool} (i : SpelledIdentifier) → HasWords T i → AllByRecursion IsNoKey (identifier_pieces i)
 identifier_no_key {T = T} i h = (language_no_key T i.language h.language, after_language_each IsNoKey script_no_key region_no_key variant_no_key i h)
 
-pub optional_no_key : (T : ℕ → Bool) (o : Option Identifier) → IfSome o (IsIdentifier T) → AllByRecursion IsNoKey (optional_pieces o)
+pub optional_no_key : (T : ℕ → Bool) (o : Option SpelledIdentifier) → IfSome o (IsIdentifier T) → AllByRecursion IsNoKey (optional_pieces o)
 optional_no_key T = optional_each IsNoKey T identifier_no_key
 
 pub fields_pass : (fs : Fields) → AllByRecursion IsField fs → KeysPass (is_word TransformKey) fs
 fields_pass = all_weaker IsField (λ f. (is_word TransformKey f.0 ≡ true) × AllByRecursion IsNoKey f.1) (λ f h. (h.0, all_weaker (IsWord Attribute) IsNoKey attribute_no_key f.1 h.1))
 
-optional_read : (T : ℕ → Bool) (o : Option Identifier) → IfSome o (IsIdentifier T) → optional_of (optional_pieces o) ≡ o
+optional_read : (T : ℕ → Bool) (o : Option SpelledIdentifier) → IfSome o (IsIdentifier T) → optional_of (optional_pieces o) ≡ o
 optional_read T None h = refl
 optional_read T (Some i) h = ap Some (identifier_of-pieces i h.words)
 
-pub transform_read : {T : ℕ → Bool} (m : Transform) → IsTransform T m → transform_of (transform_pieces m) ≡ m
+pub transform_read : {T : ℕ → Bool} (m : SpelledTransform) → IsTransform T m → transform_of (transform_pieces m) ≡ m
 unfolding transform_of
 transform_read {T = T} m h =
     let front = optional_no_key T m.id h.id in
@@ -222,7 +222,7 @@ transform_read {T = T} m h =
     let fields : fields_from (is_word TransformKey) (transform_pieces m) ≡ m.fields = fields_past (is_word TransformKey) (optional_pieces m.id) _ front ∙ fields_read (is_word TransformKey) m.fields keys in
     λ i. record { id = id i; fields = fields i }
 
-pub transform_of-pieces : {T : ℕ → Bool} (m : Transform) → IsTransformBlock T m → transform_of (transform_pieces m) ≡ m
+pub transform_of-pieces : {T : ℕ → Bool} (m : SpelledTransform) → IsTransformBlock T m → transform_of (transform_pieces m) ≡ m
 transform_of-pieces m h = transform_read m (record { id = h.id; fields = h.fields })
 
 pieces-optional_of : (ps : List (List ℕ)) → optional_pieces (optional_of ps) ≡ ps

@@ -5,7 +5,7 @@ use Rattle.std.specs.Int.{is_in_range}
 use Rattle.std.specs.declared.cmp.Ordering.{Ordering}
 use Rattle.std.proofs.lemmas.Bool.{false_from_ne_true, not-true, not_from_false, both_ways}
 use Rattle.std.proofs.lemmas.Bool.Decides.{Decides-ltb, Decides-eqb, Decides-and, Decides-or}
-use Rattle.iloc_spec_grammar.specs.Syntax.{Kind, Language, Script, Region, Variant, UnicodeKey, TransformKey, Attribute, PrivateSubtag, is_word, IsWord, lower, word_cmp, Identifier, Unicode, Transform, kept, HasWords, IsIdentifier, IsKeyword, IsField, IsOther, lower_singleton, AllDifferent, IsPrivate}
+use Rattle.iloc_spec_grammar.specs.Syntax.{Kind, Language, Script, Region, Variant, UnicodeKey, TransformKey, Attribute, PrivateSubtag, is_word, IsWord, lower, word_cmp, SpelledIdentifier, SpelledUnicode, SpelledTransform, kept, HasWords, IsIdentifier, IsKeyword, IsField, IsOther, lower_singleton, AllDifferent, IsPrivate}
 use Rattle.iloc_spec_grammar.specs.Tree.{Extension, unicode, transform, other, extension_pieces, IsUnicodeBlock, IsTransformBlock, IsExtension, IsBlock}
 use Rattle.iloc_spec_grammar.specs.Meaning.{SpellsIdentifier}
 use Rattle.iloc_spec_grammar.specs.Reading.{identifier_of, extension_of}
@@ -56,13 +56,13 @@ tests_nat m n = record { holds = (Decides-eqb m n).0; passes = (Decides-eqb m n)
 
 -- the rules
 
-pub tests_words : (T : ℕ → Bool) (i : Identifier) → Tests (has_words T i) (HasWords T i)
+pub tests_words : (T : ℕ → Bool) (i : SpelledIdentifier) → Tests (has_words T i) (HasWords T i)
 tests_words T i = tests_like
     (λ (x : (IsWord (Language T) i.language × IfSome i.script (IsWord Script)) × (IfSome i.region (IsWord Region) × AllByRecursion (IsWord Variant) i.variants)). record { language = x.0.0; script = x.0.1; region = x.1.0; variants = x.1.1 })
     (λ (h : HasWords T i). ((h.language, h.script), (h.region, h.variants)))
     (tests_and (tests_and (tests_word (Language T) i.language) (tests_if_some (is_word Script) (IsWord Script) (tests_word Script) i.script)) (tests_and (tests_if_some (is_word Region) (IsWord Region) (tests_word Region) i.region) (tests_all (is_word Variant) (IsWord Variant) (tests_word Variant) i.variants)))
 
-pub tests_identifier : (T : ℕ → Bool) (i : Identifier) → Tests (is_identifier T i) (IsIdentifier T i)
+pub tests_identifier : (T : ℕ → Bool) (i : SpelledIdentifier) → Tests (is_identifier T i) (IsIdentifier T i)
 tests_identifier T i = tests_like (λ (x : HasWords T i × AllDifferent word_cmp (map lower i.variants)). record { words = x.0; different = x.1 }) (λ (h : IsIdentifier T i). (h.words, h.different)) (tests_and (tests_words T i) (tests_different word_cmp (map lower i.variants)))
 
 pub tests_attributes : (ps : List (List ℕ)) → Tests (list_all (is_word Attribute) ps) (AllByRecursion (IsWord Attribute) ps)
@@ -71,7 +71,7 @@ tests_attributes ps = tests_all (is_word Attribute) (IsWord Attribute) (tests_wo
 pub tests_keyword : (f : List ℕ × List (List ℕ)) → Tests (is_keyword f) (IsKeyword f)
 tests_keyword f = tests_and (tests_word UnicodeKey f.0) (tests_attributes f.1)
 
-pub tests_unicode : (u : Unicode) → Tests (is_unicode u) (IsUnicodeBlock u)
+pub tests_unicode : (u : SpelledUnicode) → Tests (is_unicode u) (IsUnicodeBlock u)
 tests_unicode u = tests_like
     (λ (x : (AllByRecursion (IsWord Attribute) u.attributes × AllByRecursion IsKeyword u.keywords) × (0 < length u.attributes + length u.keywords)). record { attributes = x.0.0; keywords = x.0.1; nonempty = x.1 })
     (λ (h : IsUnicodeBlock u). ((h.attributes, h.keywords), h.nonempty))
@@ -80,11 +80,11 @@ tests_unicode u = tests_like
 pub tests_field : (f : List ℕ × List (List ℕ)) → Tests (is_field f) (IsField f)
 tests_field f = tests_like (λ (x : (IsWord TransformKey f.0 × AllByRecursion (IsWord Attribute) f.1) × (0 < length f.1)). (x.0.0, x.0.1, x.1)) (λ (x : IsField f). ((x.0, x.1), x.2)) (tests_and (tests_and (tests_word TransformKey f.0) (tests_attributes f.1)) (tests_positive (length f.1)))
 
-pub tests_needed : (o : Option Identifier) (n : ℕ) → Tests (is_some o || nat_lt 0 n) (o ≡ None → 0 < n)
+pub tests_needed : (o : Option SpelledIdentifier) (n : ℕ) → Tests (is_some o || nat_lt 0 n) (o ≡ None → 0 < n)
 tests_needed None n = tests_like (λ (h : 0 < n) e. h) (λ (f : None ≡ None → 0 < n). f refl) (tests_positive n)
 tests_needed (Some i) n = record { holds = λ e k. cc; passes = λ f. refl }
 
-pub tests_transform : (T : ℕ → Bool) (m : Transform) → Tests (is_transform T m) (IsTransformBlock T m)
+pub tests_transform : (T : ℕ → Bool) (m : SpelledTransform) → Tests (is_transform T m) (IsTransformBlock T m)
 tests_transform T m = tests_like
     (λ (x : (IfSome m.id (IsIdentifier T) × AllByRecursion IsField m.fields) × (m.id ≡ None → 0 < length m.fields)). record { id = x.0.0; fields = x.0.1; nonempty = x.1 })
     (λ (h : IsTransformBlock T m). ((h.id, h.fields), h.nonempty))

@@ -6,9 +6,9 @@ use Rattle.std.specs.Ordering.{nat_cmp, eq_by_cmp}
 use Rattle.std.specs.FinMap.{find}
 use Rattle.std.proofs.lemmas.Bool.{or_parts, cond_both, false_from_ne_true, both_ways}
 use Rattle.std.proofs.lemmas.Bool.Decides.{nat_tests}
-use Rattle.iloc_spec_grammar.specs.Syntax.{pieces, AreLengths, PrivateSubtag, IsWord, lower, Identifier, Fields, Unicode, Transform, fields_pieces, unicode_pieces, transform_pieces, IsUnicode, IsTransform, IsOther, kept, is_other_singleton, lower_singleton, AllDifferent, head, tail_blocks}
+use Rattle.iloc_spec_grammar.specs.Syntax.{pieces, AreLengths, PrivateSubtag, IsWord, lower, Spelled, SpelledIdentifier, SpelledUnicode, SpelledTransform, Fields, fields_pieces, unicode_pieces, transform_pieces, IsUnicode, IsTransform, IsOther, kept, is_other_singleton, lower_singleton, AllDifferent, head, tail_blocks}
 use Rattle.iloc_spec_grammar.specs.Tree.{Extension, unicode, transform, other, extension_pieces, IsExtension, TreeMeans, meaning, by_singleton, IsBlock, HasSingleton}
-use Rattle.iloc_spec_grammar.specs.Meaning.{Locale, Extensions, BlocksMean, Means, SpellsExtensions, AreBlocks, SpellsIdentifier, after, map_of, no_unicode, no_transform, normal_unicode, normal_transform, normal_extensions}
+use Rattle.iloc_spec_grammar.specs.Meaning.{Locale, SpelledExtensions, Extensions, BlocksMean, Means, SpellsExtensions, AreBlocks, SpellsIdentifier, after, map_of, no_unicode, no_transform, normal_unicode, normal_transform, normal_extensions}
 use Rattle.iloc_spec_grammar.specs.ByBlocks.{UnicodeMeans, TransformMeans, PrivateMeans, other_blocks, grammar_rules, PartIs, BlocksGive, MeansByBlocks}
 use Rattle.iloc_spec_grammar.specs.Reading.{unicode_of, transform_of, written_of}
 use Rattle.iloc_spec_grammar.proofs.Readings.{unicode_of-pieces, pieces-unicode_of, transform_of-pieces, pieces-transform_of}
@@ -39,7 +39,7 @@ after_find q (b ∷ bs) d = ap (λ t. cond t b.1 [] ++ after q bs) (same_test q 
 
 -- parts that are spelled by some piece, and by none
 
-unicode_some : (u : Unicode) → 0 < length (unicode_pieces u) → 0 < length u.attributes + length u.keywords
+unicode_some : (u : SpelledUnicode) → 0 < length (unicode_pieces u) → 0 < length u.attributes + length u.keywords
 unicode_some u h = from u.attributes u.keywords h
   where
     from : (ws : List (List ℕ)) (fs : Fields) → 0 < length (ws ++ fields_pieces fs) → 0 < length ws + length fs
@@ -47,7 +47,7 @@ unicode_some u h = from u.attributes u.keywords h
     from [] (f ∷ fs) h = omega arith
     from [] [] h = h
 
-some_unicode : (u : Unicode) → 0 < length u.attributes + length u.keywords → 0 < length (unicode_pieces u)
+some_unicode : (u : SpelledUnicode) → 0 < length u.attributes + length u.keywords → 0 < length (unicode_pieces u)
 some_unicode u h = from u.attributes u.keywords h
   where
     from : (ws : List (List ℕ)) (fs : Fields) → 0 < length ws + length fs → 0 < length (ws ++ fields_pieces fs)
@@ -55,40 +55,40 @@ some_unicode u h = from u.attributes u.keywords h
     from [] (f ∷ fs) h = omega arith
     from [] [] h = h
 
-transform_some : (m : Transform) → 0 < length (transform_pieces m) → m.id ≡ None → 0 < length m.fields
-transform_some m h e = from m.fields (subst (λ (o : Option Identifier). 0 < length (transform_pieces (record { id = o; fields = m.fields }))) e h)
+transform_some : (m : SpelledTransform) → 0 < length (transform_pieces m) → m.id ≡ None → 0 < length m.fields
+transform_some m h e = from m.fields (subst (λ (o : Option SpelledIdentifier). 0 < length (transform_pieces {s = Spelled} (record { id = o; fields = m.fields }))) e h)
   where
     from : (fs : Fields) → 0 < length (fields_pieces fs) → 0 < length fs
     from [] h = h
     from (f ∷ fs) h = omega arith
 
-some_transform : (m : Transform) → (m.id ≡ None → 0 < length m.fields) → 0 < length (transform_pieces m)
+some_transform : (m : SpelledTransform) → (m.id ≡ None → 0 < length m.fields) → 0 < length (transform_pieces m)
 some_transform m h = from m.id m.fields h
   where
-    from : (o : Option Identifier) (fs : Fields) → (o ≡ None → 0 < length fs) → 0 < length (transform_pieces (record { id = o; fields = fs }))
+    from : (o : Option SpelledIdentifier) (fs : Fields) → (o ≡ None → 0 < length fs) → 0 < length (transform_pieces {s = Spelled} (record { id = o; fields = fs }))
     from (Some i) fs h = omega arith
     from None (f ∷ fs) h = omega arith
     from None [] h = h refl
 
-unicode_none : (u : Unicode) → unicode_pieces u ≡ [] → u ≡ no_unicode
+unicode_none : (u : SpelledUnicode) → unicode_pieces u ≡ [] → normal_unicode u ≡ no_unicode
 unicode_none u e = from u.attributes u.keywords e
   where
-    from : (ws : List (List ℕ)) (fs : Fields) → ws ++ fields_pieces fs ≡ [] → ◌≡◌ {A = Unicode} (record { attributes = ws; keywords = fs }) no_unicode
+    from : (ws : List (List ℕ)) (fs : Fields) → ws ++ fields_pieces fs ≡ [] → normal_unicode (record { attributes = ws; keywords = fs }) ≡ no_unicode
     from [] [] e = refl
     from (w ∷ ws) fs e = cc
     from [] (f ∷ fs) e = cc
 
-transform_none : (m : Transform) → transform_pieces m ≡ [] → m ≡ no_transform
+transform_none : (m : SpelledTransform) → transform_pieces m ≡ [] → normal_transform m ≡ no_transform
 transform_none m e = from m.id m.fields e
   where
-    from : (o : Option Identifier) (fs : Fields) → transform_pieces (record { id = o; fields = fs }) ≡ [] → ◌≡◌ {A = Transform} (record { id = o; fields = fs }) no_transform
+    from : (o : Option SpelledIdentifier) (fs : Fields) → transform_pieces {s = Spelled} (record { id = o; fields = fs }) ≡ [] → normal_transform (record { id = o; fields = fs }) ≡ no_transform
     from None [] e = refl
     from (Some i) fs e = cc
     from None (f ∷ fs) e = cc
 
 -- what blocks spell is what they give one by one
 
-pub spelled_give : (T : ℕ → Bool) (bs : List (ℕ × List (List ℕ))) (e : Extensions) → SpellsExtensions T bs e → BlocksGive (grammar_rules T) bs (normal_extensions e)
+pub spelled_give : (T : ℕ → Bool) (bs : List (ℕ × List (List ℕ))) (e : SpelledExtensions) → SpellsExtensions T bs e → BlocksGive (grammar_rules T) bs (normal_extensions e)
 spelled_give T bs e s = record {
   letters = all_weaker (λ b. (is_ascii_alphanumeric b.0 ≡ true) × (0 < length b.1)) HasSingleton (λ b k. k.0) bs s.blocks;
   different = s.different;
@@ -103,24 +103,24 @@ spelled_give T bs e s = record {
     some_at q = find_holds (λ q ps. 0 < length ps) q bs (all_weaker (λ b. (is_ascii_alphanumeric b.0 ≡ true) × (0 < length b.1)) (λ b. 0 < length b.1) (λ b k. k.1) bs s.blocks)
 
     at_u : (o : Option (List (List ℕ))) → IfSome o (λ ps. 0 < length ps) → or_empty o ≡ unicode_pieces e.unicode → PartIs UnicodeMeans no_unicode o (normal_unicode e.unicode)
-    at_u None h k = ap normal_unicode (unicode_none e.unicode (sym k))
+    at_u None h k = unicode_none e.unicode (sym k)
     at_u (Some ps) h k = record { written = e.unicode; grammatical = record { attributes = s.unicode.0.attributes; keywords = s.unicode.0.keywords; nonempty = unicode_some e.unicode (subst (λ (l : List (List ℕ)). 0 < length l) k h) }; spelled = k; means = refl }
 
     at_t : (o : Option (List (List ℕ))) → IfSome o (λ ps. 0 < length ps) → or_empty o ≡ transform_pieces e.transform → PartIs (TransformMeans T) no_transform o (normal_transform e.transform)
-    at_t None h k = ap normal_transform (transform_none e.transform (sym k))
+    at_t None h k = transform_none e.transform (sym k)
     at_t (Some ps) h k = record { written = e.transform; grammatical = record { id = s.transform.0.id; fields = s.transform.0.fields; nonempty = transform_some e.transform (subst (λ (l : List (List ℕ)). 0 < length l) k h) }; spelled = k; means = refl }
 
     at_x : (o : Option (List (List ℕ))) → IfSome o (λ ps. 0 < length ps) → or_empty o ≡ e.private → PartIs PrivateMeans [] o (map lower e.private)
     at_x None h k = ap (map lower) (sym k)
     at_x (Some ps) h k = (record { words = subst (AllByRecursion (IsWord PrivateSubtag)) (sym k) s.private.0; nonempty = h }, ap (map lower) (sym k))
 
-pub good_blocks : {T : ℕ → Bool} {bs : List (ℕ × List (List ℕ))} {e : Extensions} → SpellsExtensions T bs e → AreGood T [] bs
+pub good_blocks : {T : ℕ → Bool} {bs : List (ℕ × List (List ℕ))} {e : SpelledExtensions} → SpellsExtensions T bs e → AreGood T [] bs
 good_blocks {T = T} {bs = bs} {e = e} s = blocks_good T bs (normal_extensions e) (spelled_give T bs e s)
 
 -- good blocks spell what is read of them
 
 -- the extensions that blocks are read as
-abbrev pub read_of : List (ℕ × List (List ℕ)) → Extensions
+abbrev pub read_of : List (ℕ × List (List ℕ)) → SpelledExtensions
 read_of bs = record {
   unicode = unicode_of (after 117 bs);
   transform = transform_of (after 116 bs);

@@ -2,7 +2,7 @@
 use Rattle.std.proofs.Common.{◌≡◌, ℕ, ◌≤◌, Bool, ◌||◌, not, List, [], ◌∷◌, length, map, refl, sym, ap, ◌∙◌, subst, arith, Option, Some, None, option_to_list}
 use Rattle.std.specs.List.{list_any, AllZip}
 use Rattle.std.specs.Char.{to_ascii_lowercase}
-use Rattle.iloc_spec_grammar.specs.Syntax.{Subtag, is_word, lower, is_same, is_true, Identifier, Fields, Unicode, Transform, IsUnicode, IsTransform}
+use Rattle.iloc_spec_grammar.specs.Syntax.{Subtag, is_word, lower, is_same, is_true, SpelledIdentifier, SpelledUnicode, SpelledTransform, Fields, IsUnicode, IsTransform}
 use Rattle.iloc_spec_grammar.specs.Tree.{Extension, unicode, transform, extension_pieces, IsUnicodeBlock, IsTransformBlock, IsExtension}
 use Rattle.iloc_spec_grammar.specs.Values.{Without, Rule, LessRepeats, LessTrue, AttributesStep, FieldsStep, IdentifierStep, BlockStep}
 use Rattle.iloc_spec_grammar.specs.TreeSteps.{TreeRule, TreeWithout, WithoutRepeats, TreeLessTrue, TreeIdentifierStep, ExtensionStep, unicode_extension, transform_extension}
@@ -69,16 +69,16 @@ rule_of TreeRule.DroppedPieces = Rule.DroppedPieces
 
 -- in what follows `u`
 
-same_unicode : {r : TreeRule} (u v : Unicode) → u.attributes ≡ v.attributes → u.keywords ≡ v.keywords → ExtensionStep r (unicode u) (unicode v)
+same_unicode : {r : TreeRule} (u v : SpelledUnicode) → u.attributes ≡ v.attributes → u.keywords ≡ v.keywords → ExtensionStep r (unicode u) (unicode v)
 same_unicode {r = r} u v a k = subst (ExtensionStep r (unicode u)) (λ i. unicode_extension (a i) (k i)) ExtensionStep.same
 
-new_attributes : {r : TreeRule} (u v : Unicode) → u.attributes ≡ v.attributes → ExtensionStep r (unicode u) (unicode_extension u.attributes v.keywords) → ExtensionStep r (unicode u) (unicode v)
+new_attributes : {r : TreeRule} (u v : SpelledUnicode) → u.attributes ≡ v.attributes → ExtensionStep r (unicode u) (unicode_extension u.attributes v.keywords) → ExtensionStep r (unicode u) (unicode v)
 new_attributes {r = r} u v a s = subst (ExtensionStep r (unicode u)) (λ i. unicode_extension (a i) v.keywords) s
 
 less_true : (n : ℕ) (fs gs : Fields) → AllZip (LessTrue n) fs gs → AllZip (λ f g. TreeLessTrue f g × (n ≤ length g.1)) fs gs
 less_true n fs gs z = zip_weaker (LessTrue n) (λ f g. TreeLessTrue f g × (n ≤ length g.1)) (λ f g l. ((l.0, tree_without (λ w. is_true (lower w)) l.1), l.2)) fs gs z
 
-pub unicode_step : (r : Rule) (u v : Unicode) → AttributesStep r u.attributes v.attributes → FieldsStep r 0 u.keywords v.keywords → ExtensionStep (tree_rule r) (unicode u) (unicode v)
+pub unicode_step : (r : Rule) (u v : SpelledUnicode) → AttributesStep r u.attributes v.attributes → FieldsStep r 0 u.keywords v.keywords → ExtensionStep (tree_rule r) (unicode u) (unicode v)
 unicode_step Rule.AttributeOrder u v a k = subst (λ gs. ExtensionStep TreeRule.AttributeOrder (unicode u) (unicode_extension v.attributes gs)) k (ExtensionStep.attribute_order a)
 unicode_step Rule.FieldOrder u v a k = new_attributes u v a (ExtensionStep.keyword_order k.0 k.1)
 unicode_step Rule.Repeats u v a k = ExtensionStep.unicode_repeats (tree_repeats (λ a. a) a) (tree_repeats (λ f. f.0) k)
@@ -88,35 +88,35 @@ unicode_step r u v a k = same_unicode u v a k
 -- in an identifier
 
 -- a step of another rule than that of variants
-abbrev pub NoStep : Identifier → Identifier → Type 0
+abbrev pub NoStep : SpelledIdentifier → SpelledIdentifier → Type 0
 NoStep i j = (j ≡ record i { variants = j.variants }) × (i.variants ≡ j.variants)
 
-pub same_identifier : {i j : Identifier} → NoStep i j → i ≡ j
+pub same_identifier : {i j : SpelledIdentifier} → NoStep i j → i ≡ j
 same_identifier {i = i} s = ap (λ vs. record i { variants = vs }) s.1 ∙ sym s.0
 
-pub tree_identifier_rule : (r : Rule) (i j : Identifier) → IdentifierStep r i j → TreeIdentifierStep (tree_rule r) i j
+pub tree_identifier_rule : (r : Rule) (i j : SpelledIdentifier) → IdentifierStep r i j → TreeIdentifierStep (tree_rule r) i j
 tree_identifier_rule Rule.VariantOrder i j s = subst (TreeIdentifierStep TreeRule.VariantOrder i) (sym s.0) (TreeIdentifierStep.variants s.1)
 tree_identifier_rule r i j s = subst (TreeIdentifierStep (tree_rule r) i) (same_identifier s) TreeIdentifierStep.same
 
 -- in what follows `t`
 
-same_transform : {r : TreeRule} (m n : Transform) → m.id ≡ n.id → m.fields ≡ n.fields → ExtensionStep r (transform m) (transform n)
+same_transform : {r : TreeRule} (m n : SpelledTransform) → m.id ≡ n.id → m.fields ≡ n.fields → ExtensionStep r (transform m) (transform n)
 same_transform {r = r} m n i k = subst (ExtensionStep r (transform m)) (λ l. transform_extension (i l) (k l)) ExtensionStep.same
 
-new_id : {r : TreeRule} (m n : Transform) → m.id ≡ n.id → ExtensionStep r (transform m) (transform_extension m.id n.fields) → ExtensionStep r (transform m) (transform n)
+new_id : {r : TreeRule} (m n : SpelledTransform) → m.id ≡ n.id → ExtensionStep r (transform m) (transform_extension m.id n.fields) → ExtensionStep r (transform m) (transform n)
 new_id {r = r} m n i s = subst (ExtensionStep r (transform m)) (λ l. transform_extension (i l) n.fields) s
 
-same_option : (a b : Option Identifier) → AllZip NoStep (option_to_list a) (option_to_list b) → a ≡ b
+same_option : (a b : Option SpelledIdentifier) → AllZip NoStep (option_to_list a) (option_to_list b) → a ≡ b
 same_option None None z = refl
 same_option (Some i) (Some j) z = ap Some (same_identifier z.0)
 same_option _ _ z = absurd z
 
-option_step : (a b : Option Identifier) (fs : Fields) → AllZip (IdentifierStep Rule.VariantOrder) (option_to_list a) (option_to_list b) → ExtensionStep TreeRule.VariantOrder (transform_extension a fs) (transform_extension b fs)
+option_step : (a b : Option SpelledIdentifier) (fs : Fields) → AllZip (IdentifierStep Rule.VariantOrder) (option_to_list a) (option_to_list b) → ExtensionStep TreeRule.VariantOrder (transform_extension a fs) (transform_extension b fs)
 option_step None None fs z = ExtensionStep.same
 option_step (Some i) (Some j) fs z = ExtensionStep.identifier (tree_identifier_rule Rule.VariantOrder i j z.0)
 option_step _ _ fs z = absurd z
 
-pub transform_step : (r : Rule) (m n : Transform) → AllZip (IdentifierStep r) (option_to_list m.id) (option_to_list n.id) → FieldsStep r 1 m.fields n.fields → ExtensionStep (tree_rule r) (transform m) (transform n)
+pub transform_step : (r : Rule) (m n : SpelledTransform) → AllZip (IdentifierStep r) (option_to_list m.id) (option_to_list n.id) → FieldsStep r 1 m.fields n.fields → ExtensionStep (tree_rule r) (transform m) (transform n)
 transform_step Rule.VariantOrder m n i k = subst (λ gs. ExtensionStep TreeRule.VariantOrder (transform m) (transform_extension n.id gs)) k (option_step m.id n.id m.fields i)
 transform_step Rule.FieldOrder m n i k = new_id m n (same_option m.id n.id i) (ExtensionStep.field_order k.0 k.1)
 transform_step Rule.Repeats m n i k = new_id m n (same_option m.id n.id i) (ExtensionStep.transform_repeats (tree_repeats (λ f. f.0) k))
@@ -125,22 +125,22 @@ transform_step r m n i k = same_transform m n (same_option m.id n.id i) k
 
 -- from a step of the extension to a step of its block
 
-pub same_rule : (r : Rule) (i : Identifier) → IdentifierStep r i i
+pub same_rule : (r : Rule) (i : SpelledIdentifier) → IdentifierStep r i i
 same_rule Rule.VariantOrder i = (refl, itself i.variants)
 same_rule r i = (refl, refl)
 
-pub identifier_rule_by_tree : {r : TreeRule} {i j : Identifier} → TreeIdentifierStep r i j → IdentifierStep (rule_of r) i j
+pub identifier_rule_by_tree : {r : TreeRule} {i j : SpelledIdentifier} → TreeIdentifierStep r i j → IdentifierStep (rule_of r) i j
 identifier_rule_by_tree (TreeIdentifierStep.same {r = r} {i = i}) = same_rule (rule_of r) i
 identifier_rule_by_tree (TreeIdentifierStep.variants p) = (refl, p)
 
-same_id : (r : Rule) (o : Option Identifier) → AllZip (IdentifierStep r) (option_to_list o) (option_to_list o)
+same_id : (r : Rule) (o : Option SpelledIdentifier) → AllZip (IdentifierStep r) (option_to_list o) (option_to_list o)
 same_id r None = tt
 same_id r (Some i) = (same_rule r i, tt)
 
-plain_unicode : {u : Unicode} → IsUnicodeBlock u → IsUnicode u
+plain_unicode : {u : SpelledUnicode} → IsUnicodeBlock u → IsUnicode u
 plain_unicode h = record { attributes = h.attributes; keywords = h.keywords }
 
-plain_transform : {T : ℕ → Bool} {m : Transform} → IsTransformBlock T m → IsTransform T m
+plain_transform : {T : ℕ → Bool} {m : SpelledTransform} → IsTransformBlock T m → IsTransform T m
 plain_transform h = record { id = h.id; fields = h.fields }
 
 less_by_tree : (n : ℕ) (f g : List ℕ × List (List ℕ)) → TreeLessTrue f g → n ≤ length g.1 → LessTrue n f g

@@ -2,7 +2,7 @@
 use Rattle.std.proofs.Common.{◌≡◌, ◌≢◌, ◌⊎◌, inl, inr, ℕ, Bool, false, not, ◌==◌, List, [], ◌∷◌, ◌++◌, map, filter, refl, sym, ap, ◌∙◌, subst, arith, Option, Some, None, option_to_list}
 use Rattle.std.specs.List.{AllByRecursion, AllZip}
 use Rattle.std.proofs.lemmas.Bool.{cases_Bool, ne_eqb}
-use Rattle.iloc_spec_grammar.specs.Syntax.{pieces, join, head, tail_blocks, AreLengths, IsIdentifier, identifier_pieces, Identifier, Unicode, Transform, unicode_pieces, transform_pieces, IsUnicode, IsTransform, lower_singleton}
+use Rattle.iloc_spec_grammar.specs.Syntax.{pieces, join, head, tail_blocks, AreLengths, IsIdentifier, identifier_pieces, SpelledIdentifier, SpelledUnicode, SpelledTransform, unicode_pieces, transform_pieces, IsUnicode, IsTransform, lower_singleton}
 use Rattle.iloc_spec_grammar.specs.Tree.{Extension, unicode, transform, other, Written, extension_pieces, extension_block, blocks_of, spelling, IsUnicodeBlock, IsTransformBlock, IsExtension, IsWritten, IsBlock}
 use Rattle.iloc_spec_grammar.specs.Meaning.{Locale, Means, AreBlocks, normal_identifier, normal_extensions}
 use Rattle.iloc_spec_grammar.specs.Values.{Reordered, Rule, AttributesStep, FieldsStep, IdentifierStep, BlockStep, BlocksStep, TextStep, IdentifierTextStep, identifier_text}
@@ -59,7 +59,7 @@ rule_read : (T : ℕ → Bool) (b : ℕ × List (List ℕ)) → lower_singleton 
 rule_read T b n (inl p) = absurd (n p.0)
 rule_read T b n (inr h) = extension_read T (lower_singleton b) b.1 h
 
-unicode_read_step : (T : ℕ → Bool) (r : Rule) (u v : Unicode) → IsUnicode u → AttributesStep r u.attributes v.attributes → FieldsStep r 0 u.keywords v.keywords → IsExtension T 117 (unicode (unicode_of (unicode_pieces u))) → ExtensionStep (tree_rule r) (unicode (unicode_of (unicode_pieces u))) (unicode (unicode_of (unicode_pieces v)))
+unicode_read_step : (T : ℕ → Bool) (r : Rule) (u v : SpelledUnicode) → IsUnicode u → AttributesStep r u.attributes v.attributes → FieldsStep r 0 u.keywords v.keywords → IsExtension T 117 (unicode (unicode_of (unicode_pieces u))) → ExtensionStep (tree_rule r) (unicode (unicode_of (unicode_pieces u))) (unicode (unicode_of (unicode_pieces v)))
 unicode_read_step T r u v h a k g =
     let s = unicode_step r u v a k in
     let p = unicode_read u h in
@@ -67,7 +67,7 @@ unicode_read_step T r u v h a k g =
     let q = unicode_read v (record { attributes = after.attributes; keywords = after.keywords }) in
     subst (λ w. ExtensionStep (tree_rule r) (unicode w) (unicode (unicode_of (unicode_pieces v)))) (sym p) (subst (λ w. ExtensionStep (tree_rule r) (unicode u) (unicode w)) (sym q) s)
 
-transform_read_step : (T : ℕ → Bool) (r : Rule) (m n : Transform) → IsTransform T m → AllZip (IdentifierStep r) (option_to_list m.id) (option_to_list n.id) → FieldsStep r 1 m.fields n.fields → IsExtension T 116 (transform (transform_of (transform_pieces m))) → ExtensionStep (tree_rule r) (transform (transform_of (transform_pieces m))) (transform (transform_of (transform_pieces n)))
+transform_read_step : (T : ℕ → Bool) (r : Rule) (m n : SpelledTransform) → IsTransform T m → AllZip (IdentifierStep r) (option_to_list m.id) (option_to_list n.id) → FieldsStep r 1 m.fields n.fields → IsExtension T 116 (transform (transform_of (transform_pieces m))) → ExtensionStep (tree_rule r) (transform (transform_of (transform_pieces m))) (transform (transform_of (transform_pieces n)))
 transform_read_step T r m n h i k g =
     let s = transform_step r m n i k in
     let p = transform_read m h in
@@ -123,7 +123,7 @@ good_rules T seen (b ∷ bs) g = (g.0.2, good_rules T (lower_singleton b ∷ see
 
 -- texts
 
-written_of_step : (T : ℕ → Bool) (r : Rule) (ps qs : List (List ℕ)) (i j : Identifier) → identifier_of (head ps) ≡ i → identifier_of (head qs) ≡ j → IdentifierStep r i j → BlocksStep T r (tail_blocks ps) (tail_blocks qs) → AllByRecursion (IsBlock T) (tail_blocks ps) → Step (written_of ps) (written_of qs)
+written_of_step : (T : ℕ → Bool) (r : Rule) (ps qs : List (List ℕ)) (i j : SpelledIdentifier) → identifier_of (head ps) ≡ i → identifier_of (head qs) ≡ j → IdentifierStep r i j → BlocksStep T r (tail_blocks ps) (tail_blocks qs) → AllByRecursion (IsBlock T) (tail_blocks ps) → Step (written_of ps) (written_of qs)
 unfolding written_of ReadSteps
 written_of_step T Rule.BlockOrder ps qs i j p q s z h =
     let id = p ∙ same_identifier s ∙ sym q in
@@ -194,7 +194,6 @@ step_by_tree {T = T} table t u (TreeTextStep.rewritten {v = v} {w = w} h e s) = 
 -- texts of identifiers
 
 pub tree_identifier_step : {T : ℕ → Bool} (t u : List ℕ) → IdentifierTextStep T t u → TreeIdentifierTextStep T t u
-unfolding identifier_text
 tree_identifier_step t u (IdentifierTextStep.letter_case e) = TreeIdentifierTextStep.letter_case e
 tree_identifier_step {T = T} t u (IdentifierTextStep.variant_order {i = i} {j = j} h e k s) = subst (TreeIdentifierTextStep T t) (ap join (sym k) ∙ join-pieces u) (TreeIdentifierTextStep.variant_order h e (tree_identifier_rule Rule.VariantOrder i j s))
 

@@ -3,8 +3,8 @@ use Rattle.std.proofs.Common.{◌≡◌, ◌↔◌, ℕ, ◌+◌, ◌||◌, Bool
 use Rattle.std.proofs.lemmas.Bool.{cond_both}
 use Rattle.std.proofs.lemmas.List.{map-append}
 use Rattle.std.proofs.lemmas.List.Concat.{flat_map-append}
-use Rattle.iloc_spec_grammar.specs.Syntax.{join, AreLengths, languages, Unicode, Transform, identifier_pieces, unicode_pieces, transform_pieces}
-use Rattle.iloc_spec_grammar.specs.Tree.{Extension, unicode, transform, other, extension_block, block_pieces, spelling, transform_form, unicode_form, others_form, private_form, extensions_form, before_t, after_t, printed, tree_text, form_pieces, TreeMeans, IsTreeWellFormed}
+use Rattle.iloc_spec_grammar.specs.Syntax.{join, AreLengths, languages, SpelledTransform, Unicode, Transform, identifier_pieces, unicode_pieces, transform_pieces}
+use Rattle.iloc_spec_grammar.specs.Tree.{Extension, unicode, transform, other, extension_block, block_pieces, spelling, transform_form, unicode_form, others_form, private_form, extensions_form, before_t, after_t, printed, tree_text, form_pieces, TreeMeans, IsTreeWellFormed, spelled_transform, spelled_unicode}
 use Rattle.iloc_spec_grammar.specs.Meaning.{Locale, Extensions, Means}
 use Rattle.iloc_spec_grammar.specs.Values.{lower_identifier, spelled_fields, unicode_spelling, transform_spelling, other_spelling, private_spelling, extensions_spelling, text, IsValue, IsWellFormed}
 use Rattle.iloc_spec_grammar.proofs.PartTexts as parts
@@ -16,11 +16,11 @@ use Rattle.iloc_spec_grammar.proofs.RawLaws.{languages_table}
 -- each part
 
 pub unicode_spelling_is : (u : Unicode) → unicode_spelling u ≡ form_pieces (unicode_form u)
-unicode_spelling_is u = parts.unicode_spelling_is u ∙ elim (nat_lt 0 (length u.attributes + length u.keywords)) as (λ b. cond b ((117 ∷ []) ∷ unicode_pieces u) [] ≡ form_pieces (cond b ((117, unicode u) ∷ []) [])) [ true ↦ sym (append-nil ((117 ∷ []) ∷ unicode_pieces u)) | false ↦ refl ]
+unicode_spelling_is u = parts.unicode_spelling_is u ∙ elim (nat_lt 0 (length u.attributes + length u.keywords)) as (λ b. cond b ((117 ∷ []) ∷ unicode_pieces u) [] ≡ form_pieces (cond b ((117, unicode (spelled_unicode u)) ∷ []) [])) [ true ↦ sym (append-nil ((117 ∷ []) ∷ unicode_pieces u)) | false ↦ refl ]
 
 pub transform_spelling_is : (m : Transform) → transform_spelling m ≡ form_pieces (transform_form m)
 transform_spelling_is m =
-    let n : Transform = record { id = option_map lower_identifier m.id; fields = spelled_fields m.fields } in
+    let n : SpelledTransform = spelled_transform m in
     parts.transform_spelling_is m ∙ elim (is_some m.id || nat_lt 0 (length m.fields)) as (λ b. cond b ((116 ∷ []) ∷ transform_pieces n) [] ≡ form_pieces (cond b ((116, transform n) ∷ []) [])) [ true ↦ sym (append-nil ((116 ∷ []) ∷ transform_pieces n)) | false ↦ refl ]
 
 pub other_spelling_is : (o : ℕ × List (List ℕ)) → other_spelling o ≡ form_pieces (others_form (o ∷ []))

@@ -7,7 +7,7 @@ use Rattle.std.specs.Ordering.{nat_cmp, eq_by_cmp}
 use Rattle.std.specs.Cmp.{nat_cmp_total}
 use Rattle.std.specs.FinMap.{find, nat_cmp-IsAntisymmetric}
 use Rattle.std.proofs.lemmas.Bool.{or_parts, or_from, not-true, both_ways, false_from_ne_true}
-use Rattle.iloc_spec_grammar.specs.Syntax.{Variant, Subtag, UnicodeKey, TransformKey, Attribute, is_word, IsWord, lower, word_cmp, is_true, Identifier, Fields, IsIdentifier, IsKeyword, IsField, kept, lower_singleton, AllDifferent}
+use Rattle.iloc_spec_grammar.specs.Syntax.{Variant, Subtag, UnicodeKey, TransformKey, Attribute, is_word, IsWord, lower, word_cmp, is_true, SpelledIdentifier, Fields, IsIdentifier, IsKeyword, IsField, kept, lower_singleton, AllDifferent}
 use Rattle.iloc_spec_grammar.specs.Tree.{Extension, other, Written, IsExtension, IsWritten, unicode_part, transform_part, private_part, other_part, by_singleton, meaning}
 use Rattle.iloc_spec_grammar.specs.Meaning.{map_of, set_of, normal_identifier, normal_values, normal_fields}
 use Rattle.iloc_spec_grammar.specs.Values.{Reordered}
@@ -20,7 +20,7 @@ use Rattle.std.proofs.lemmas.Slice.Zip.{AllZip-long}
 
 -- identifiers
 
-pub identifier_step : {T : ℕ → Bool} {r : TreeRule} {i j : Identifier} → TreeIdentifierStep r i j → IsIdentifier T i → IsIdentifier T j × (normal_identifier j ≡ normal_identifier i)
+pub identifier_step : {T : ℕ → Bool} {r : TreeRule} {i j : SpelledIdentifier} → TreeIdentifierStep r i j → IsIdentifier T i → IsIdentifier T j × (normal_identifier j ≡ normal_identifier i)
 identifier_step TreeIdentifierStep.same h = (h, refl)
 identifier_step (TreeIdentifierStep.variants {l = l} {s = s} {r = r} {vs = vs} {ws = ws} p) h = (
   record { words = record { language = h.words.language; script = h.words.script; region = h.words.region; variants = all_reordered (IsWord Variant) p h.words.variants }; different = different_reordered word_cmp word_cmp_total (map_reordered lower p) h.different },
@@ -81,7 +81,7 @@ unicode_step T c vs ws fs gs a k n p q h = (
   record { u = λ i. record { attributes = p i; keywords = q i }; t = refl; o = λ c. refl },
 )
 
-fields_step : (T : ℕ → Bool) (c : ℕ) (i : Option Identifier) (fs gs : Fields) → (AllByRecursion IsField fs → AllByRecursion IsField gs) → (0 < length fs → 0 < length gs) → normal_fields gs ≡ normal_fields fs
+fields_step : (T : ℕ → Bool) (c : ℕ) (i : Option SpelledIdentifier) (fs gs : Fields) → (AllByRecursion IsField fs → AllByRecursion IsField gs) → (0 < length fs → 0 < length gs) → normal_fields gs ≡ normal_fields fs
     → IsExtension T c (transform_extension i fs) → IsExtension T c (transform_extension i gs) × SameParts (transform_extension i fs) (transform_extension i gs)
 fields_step T c i fs gs k n q h = (
   (h.0, record { id = h.1.id; fields = k h.1.fields; nonempty = λ e. n (h.1.nonempty e) }),

@@ -2,7 +2,7 @@
 use Rattle.std.proofs.Common.{◌≡◌, ℕ, false, ◌+◌, ◌<◌, ◌≤◌, Bool, cond, ◌==◌, List, [], ◌∷◌, length, map, flat_map, refl, sym, ap, ◌∙◌, arith, option_to_list, le_refl, length-append}
 use Rattle.std.specs.List.{AllByRecursion, list_any}
 use Rattle.std.proofs.lemmas.List.Concat.{flat_map-append}
-use Rattle.iloc_spec_grammar.specs.Syntax.{pieces, join, lower, is_true, Identifier, Fields, identifier_pieces, fields_pieces}
+use Rattle.iloc_spec_grammar.specs.Syntax.{pieces, join, lower, is_true, SpelledIdentifier, Fields, identifier_pieces, fields_pieces}
 use Rattle.iloc_spec_grammar.specs.Tree.{Extension, Written, extension_pieces, extension_block, block_pieces, blocks_of, spelling, IsWritten, TreeMeans, meaning}
 use Rattle.iloc_spec_grammar.specs.TreeSteps.{TreeLessTrue, TreeRule, TreeIdentifierStep, ExtensionStep, Step}
 use Rattle.iloc_spec_grammar.proofs.PiecesLaws.{pieces-join, pieces_hyphen_free, join-pieces}
@@ -18,7 +18,7 @@ module _ (f : List ℕ → ℕ) where
   fields_size [] = refl
   fields_size (k ∷ fs) = let a = total-append f (k.0 ∷ k.1) (fields_pieces fs) in let b = fields_size fs in omega arith
 
-  pub identifier_size : {r : TreeRule} {i j : Identifier} → TreeIdentifierStep r i j → total f (identifier_pieces j) ≡ total f (identifier_pieces i)
+  pub identifier_size : {r : TreeRule} {i j : SpelledIdentifier} → TreeIdentifierStep r i j → total f (identifier_pieces j) ≡ total f (identifier_pieces i)
   identifier_size TreeIdentifierStep.same = refl
   identifier_size (TreeIdentifierStep.variants p) = let e = total_reordered f p in omega (arith, total-append f)
 

@@ -73,8 +73,7 @@ tests_text_step T table t u = record { holds = λ e. step_by_tree table t u (tex
 read_identifier_spelling : (t : List ℕ) → identifier_pieces (identifier_of (pieces t)) ≡ pieces t
 read_identifier_spelling t = of_pieces (λ ps. identifier_pieces (identifier_of ps) ≡ ps) pieces-identifier_of t
 
-read_identifier_text : (t : List ℕ) → identifier_text (identifier_of (pieces t)) ≡ t
-unfolding identifier_text
+read_identifier_text : (t : List ℕ) → join (identifier_pieces (identifier_of (pieces t))) ≡ t
 read_identifier_text t = ap join (read_identifier_spelling t) ∙ join-pieces t
 
 read_identifier : (T : ℕ → Bool) (t : List ℕ) → is_ok (identifier_result T (pieces t)) ≡ true → IsIdentifier T (identifier_of (pieces t))
@@ -99,7 +98,7 @@ identifier_text_passes T {t = t} (TreeIdentifierTextStep.variant_order {i = i} {
     let accepted : identifier_result T (pieces t) ≡ Ok (normal_identifier i) = (computed_identifier T t (normal_identifier i)).1 (record { written = i; grammatical = g; spelled = p; means = refl }) in
     let after : IsIdentifier T j = (identifier_step s g).0 in
     let first : identifier_of (pieces t) ≡ i = ap identifier_of p ∙ identifier_of-pieces i g.words in
-    let second : identifier_of (pieces (identifier_text j)) ≡ j = ap identifier_of (pieces-identifier_text j after.words) ∙ identifier_of-pieces j after.words in
+    let second : identifier_of (pieces (join (identifier_pieces j))) ≡ j = ap identifier_of (pieces-identifier_text j after.words) ∙ identifier_of-pieces j after.words in
     or_right _ _ (and_from _ _ (ap is_ok accepted) (ap₂ (is_identifier_step VariantOrder) first second ∙ (tests_identifier_step VariantOrder i j).passes s))
 
 pub tests_identifier_text_step : (T : ℕ → Bool) (t u : List ℕ) → Tests (is_identifier_text_step T t u) (IdentifierTextStep T t u)

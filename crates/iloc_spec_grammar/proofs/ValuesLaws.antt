@@ -7,8 +7,8 @@ use Rattle.std.specs.FinMap.{is_sorted}
 use Rattle.std.specs.FinMap.Entries.{below_all}
 use Rattle.std.proofs.lemmas.Bool.{and_parts, and_from}
 use Rattle.std.proofs.lemmas.Bool.Decides.{nat_tests}
-use Rattle.iloc_spec_grammar.specs.Syntax.{Kind, Language, Script, Region, Variant, Subtag, UnicodeKey, TransformKey, Attribute, is_word, IsWord, normal, lower, upper, title, word_cmp, is_true, Identifier, Fields, Unicode, Transform, identifier_pieces, HasWords, IsIdentifier, IsKeyword, IsField, AllDifferent}
-use Rattle.iloc_spec_grammar.specs.Tree.{IsUnicodeBlock, IsTransformBlock}
+use Rattle.iloc_spec_grammar.specs.Syntax.{Kind, Language, Script, Region, Variant, Subtag, UnicodeKey, TransformKey, Attribute, is_word, IsWord, normal, lower, upper, title, word_cmp, is_true, Stage, IdentifierOf, SpelledIdentifier, Identifier, Unicode, Transform, Fields, identifier_pieces, HasWords, IsIdentifier, IsKeyword, IsField, AllDifferent}
+use Rattle.iloc_spec_grammar.specs.Tree.{IsUnicodeBlock, IsTransformBlock, spelled_identifier, spelled_unicode, spelled_transform}
 use Rattle.iloc_spec_grammar.specs.Meaning.{map_of, set_of, normal_identifier, normal_unicode, normal_transform, normal_fields, normal_values, IdentifierMeans}
 use Rattle.iloc_spec_grammar.specs.Values.{IsNormal, StrictlyAscends, IsIdentifierValue, IsUnicodeValue, IsTransformValue, lower_identifier, spelled_value, spelled_fields}
 use Rattle.iloc_spec_grammar.proofs.WordsLaws.{lower-lower, title-lower, upper-lower, is_word-lower}
@@ -64,40 +64,40 @@ optional_fixed : (k : Kind) (o : Option (List ℕ)) → IfSome o (IsNormal k) �
 optional_fixed k None h = refl
 optional_fixed k (Some w) h = ap Some h.1
 
-pub value_words : {T : ℕ → Bool} {i : Identifier} → IsIdentifierValue T i → HasWords T i
+pub value_words : {T : ℕ → Bool} {i : Identifier} → IsIdentifierValue T i → HasWords T (spelled_identifier i)
 value_words {i = i} h = record { language = h.language.0; script = IfSome_then i.script {P = IsNormal Script} h.script (λ w n. n.0); region = IfSome_then i.region {P = IsNormal Region} h.region (λ w n. n.0); variants = all_weaker (IsNormal Variant) (IsWord Variant) (λ w n. n.0) i.variants h.variants }
 
 value_variants : {T : ℕ → Bool} (i : Identifier) → IsIdentifierValue T i → map lower i.variants ≡ i.variants
 value_variants i h = map_fixed lower i.variants (all_weaker (IsNormal Variant) (λ w. lower w ≡ w) (λ w n. n.1) i.variants h.variants)
 
-pub value_identifier : {T : ℕ → Bool} (i : Identifier) → IsIdentifierValue T i → IsIdentifier T i
+pub value_identifier : {T : ℕ → Bool} (i : Identifier) → IsIdentifierValue T i → IsIdentifier T (spelled_identifier i)
 value_identifier i h = record { words = value_words h; different = subst (AllDifferent word_cmp) (sym (value_variants i h)) (ascending_different i.variants h.ascending) }
 
-pub same_identifier : (a b : List ℕ) (s t r q : Option (List ℕ)) (vs ws : List (List ℕ)) → a ≡ b → s ≡ t → r ≡ q → vs ≡ ws → ◌≡◌ {A = Identifier} (record { language = a; script = s; region = r; variants = vs }) (record { language = b; script = t; region = q; variants = ws })
-same_identifier a b s t r q vs ws e f g h = λ i. record { language = e i; script = f i; region = g i; variants = h i }
+pub same_identifier : {s : Stage} (a b : List ℕ) (c d r q : Option (List ℕ)) (vs ws : List (List ℕ)) → a ≡ b → c ≡ d → r ≡ q → vs ≡ ws → ◌≡◌ {A = IdentifierOf s} (record { language = a; script = c; region = r; variants = vs }) (record { language = b; script = d; region = q; variants = ws })
+same_identifier a b c d r q vs ws e f g h = λ i. record { language = e i; script = f i; region = g i; variants = h i }
 
-pub normal_value : {T : ℕ → Bool} (i : Identifier) → IsIdentifierValue T i → normal_identifier i ≡ i
+pub normal_value : {T : ℕ → Bool} (i : Identifier) → IsIdentifierValue T i → normal_identifier (spelled_identifier i) ≡ i
 normal_value i h = same_identifier _ _ _ _ _ _ _ _ h.language.1 (optional_fixed Script i.script h.script) (optional_fixed Region i.region h.region) (ap set_of (value_variants i h) ∙ set_of_ascending i.variants h.ascending)
 
 -- what is printed of an identifier means it
 pub identifier_reads_back : {T : ℕ → Bool} (i : Identifier) → IsIdentifierValue T i → IdentifierMeans T (identifier_pieces i) i
-identifier_reads_back i h = record { written = i; grammatical = value_identifier i h; spelled = refl; means = sym (normal_value i h) }
+identifier_reads_back i h = record { written = spelled_identifier i; grammatical = value_identifier i h; spelled = refl; means = sym (normal_value i h) }
 
 -- the same in lower case, as in a transform
 
 word_lower : (k : Kind) (w : List ℕ) → IsWord k w → IsWord k (lower w)
 word_lower k w h = is_word-lower k w ∙ h
 
-lower_words : {T : ℕ → Bool} (i : Identifier) → HasWords T i → HasWords T (lower_identifier i)
+lower_words : {T : ℕ → Bool} (i : SpelledIdentifier) → HasWords T i → HasWords T (lower_identifier i)
 lower_words {T = T} i h = record { language = word_lower (Language T) i.language h.language; script = some_mapped (IsWord Script) (IsWord Script) lower (word_lower Script) i.script h.script; region = some_mapped (IsWord Region) (IsWord Region) lower (word_lower Region) i.region h.region; variants = all_mapped (IsWord Variant) (IsWord Variant) lower (word_lower Variant) i.variants h.variants }
 
 pub lower_twice : (ws : List (List ℕ)) → map lower (map lower ws) ≡ map lower ws
 lower_twice ws = map-then lower lower lower lower-lower ws
 
-pub lower_is_identifier : {T : ℕ → Bool} (i : Identifier) → IsIdentifier T i → IsIdentifier T (lower_identifier i)
+pub lower_is_identifier : {T : ℕ → Bool} (i : SpelledIdentifier) → IsIdentifier T i → IsIdentifier T (lower_identifier i)
 lower_is_identifier i h = record { words = lower_words i h.words; different = subst (AllDifferent word_cmp) (sym (lower_twice i.variants)) h.different }
 
-pub normal-lower_identifier : (i : Identifier) → normal_identifier (lower_identifier i) ≡ normal_identifier i
+pub normal-lower_identifier : (i : SpelledIdentifier) → normal_identifier (lower_identifier i) ≡ normal_identifier i
 normal-lower_identifier i = same_identifier _ _ _ _ _ _ _ _ (lower-lower i.language) (option_map-then title lower title title-lower i.script) (option_map-then upper lower upper upper-lower i.region) (ap set_of (lower_twice i.variants))
 
 -- the unicode part
@@ -126,14 +126,14 @@ keyword_rule f h v = (h.0.0, all_weaker (λ w. IsNormal Subtag w × ((is_true w 
 keyword_fixed : (f : List ℕ × List (List ℕ)) → IsNormal UnicodeKey f.0 × AllByRecursion (IsNormal Subtag) f.1 → AllByRecursion (λ w. (is_true w ≡ false) × (length w ≢ 2)) f.1 → (lower f.0 ≡ f.0) × (normal_values f.1 ≡ f.1)
 keyword_fixed f h v = (h.0.1, values_fixed f.1 (all_weaker (IsNormal Subtag) (λ w. lower w ≡ w) (λ w n. n.1) f.1 h.1) (all_weaker (λ w. (is_true w ≡ false) × (length w ≢ 2)) (λ w. is_true w ≡ false) (λ w n. n.0) f.1 v))
 
-pub value_unicode : (u : Unicode) → IsUnicodeValue u → AreKeywordValues u.keywords → 0 < length u.attributes + length u.keywords → IsUnicodeBlock u
+pub value_unicode : (u : Unicode) → IsUnicodeValue u → AreKeywordValues u.keywords → 0 < length u.attributes + length u.keywords → IsUnicodeBlock (spelled_unicode u)
 value_unicode u h v n = record {
   attributes = all_weaker (IsNormal Attribute) (IsWord Attribute) (λ w n. n.0) u.attributes h.attributes;
   keywords = all_weaker (λ f. (IsNormal UnicodeKey f.0 × AllByRecursion (IsNormal Subtag) f.1) × AllByRecursion (λ w. (is_true w ≡ false) × (length w ≢ 2)) f.1) IsKeyword (λ f b. keyword_rule f b.0 b.1) u.keywords (all_both _ _ u.keywords h.keywords v);
   nonempty = n;
 }
 
-pub normal_value_unicode : (u : Unicode) → IsUnicodeValue u → AreKeywordValues u.keywords → normal_unicode u ≡ u
+pub normal_value_unicode : (u : Unicode) → IsUnicodeValue u → AreKeywordValues u.keywords → normal_unicode (spelled_unicode u) ≡ u
 normal_value_unicode u h v =
     let attributes : set_of (map lower u.attributes) ≡ u.attributes = ap set_of (map_fixed lower u.attributes (all_weaker (IsNormal Attribute) (λ w. lower w ≡ w) (λ w n. n.1) u.attributes h.attributes)) ∙ set_of_ascending u.attributes h.ascending in
     let keywords : normal_fields u.keywords ≡ u.keywords = fields_fixed u.keywords h.keys_ascend (all_weaker (λ f. (IsNormal UnicodeKey f.0 × AllByRecursion (IsNormal Subtag) f.1) × AllByRecursion (λ w. (is_true w ≡ false) × (length w ≢ 2)) f.1) (λ f. (lower f.0 ≡ f.0) × (normal_values f.1 ≡ f.1)) (λ f b. keyword_fixed f b.0 b.1) u.keywords (all_both _ _ u.keywords h.keywords v)) in
@@ -163,16 +163,13 @@ fields_mean (f ∷ fs) h = λ i. (h.0.0.1 i, spelled_means f.1 h.0.1 i) ∷ fiel
 
 optional_means : (T : ℕ → Bool) (o : Option Identifier) → IfSome o (IsIdentifierValue T) → option_map normal_identifier (option_map lower_identifier o) ≡ o
 optional_means T None h = refl
-optional_means T (Some i) h = ap Some (normal-lower_identifier i ∙ normal_value i h)
-
-abbrev pub spelled_transform : Transform → Transform
-spelled_transform m = record { id = option_map lower_identifier m.id; fields = spelled_fields m.fields }
+optional_means T (Some i) h = ap Some (normal-lower_identifier (spelled_identifier i) ∙ normal_value i h)
 
 pub length-spelled_fields : (fs : Fields) → length (spelled_fields fs) ≡ length fs
 length-spelled_fields fs = length-map fs (λ f. (f.0, spelled_value f.1))
 
 pub value_transform : {T : ℕ → Bool} (m : Transform) → IsTransformValue T m → (option_map lower_identifier m.id ≡ None → 0 < length (spelled_fields m.fields)) → IsTransformBlock T (spelled_transform m)
-value_transform {T = T} m h n = record { id = some_mapped (IsIdentifierValue T) (IsIdentifier T) lower_identifier (λ i g. lower_is_identifier i (value_identifier i g)) m.id h.id; fields = fields_rule m.fields h.fields; nonempty = n }
+value_transform {T = T} m h n = record { id = some_mapped (IsIdentifierValue T) (IsIdentifier T) lower_identifier (λ i g. lower_is_identifier (spelled_identifier i) (value_identifier i g)) m.id h.id; fields = fields_rule m.fields h.fields; nonempty = n }
 
 pub normal_value_transform : {T : ℕ → Bool} (m : Transform) → IsTransformValue T m → normal_transform (spelled_transform m) ≡ m
 normal_value_transform m h = λ i. record { id = optional_means _ m.id h.id i; fields = (ap (map_of word_cmp) (fields_mean m.fields h.fields) ∙ map_of_sorted word_cmp m.fields h.keys_ascend) i }

@@ -7,7 +7,7 @@ use Rattle.std.specs.Cmp.{nat_cmp_total}
 use Rattle.std.specs.FinMap.{is_sorted, find, nat_cmp-IsAntisymmetric}
 use Rattle.std.proofs.lemmas.Bool.Decides.{nat_tests}
 use Rattle.std.proofs.lemmas.Str.Ascii.{lowercase-lowercase}
-use Rattle.iloc_spec_grammar.specs.Syntax.{Kind, Language, Script, Region, Variant, Subtag, UnicodeKey, TransformKey, Attribute, PrivateSubtag, is_word, IsWord, normal, lower, word_cmp, is_true, Identifier, Fields, Unicode, Transform, HasWords, IsIdentifier, IsKeyword, IsOther, kept, is_other_singleton, lower_singleton, IsPrivate}
+use Rattle.iloc_spec_grammar.specs.Syntax.{Kind, Language, Script, Region, Variant, Subtag, UnicodeKey, TransformKey, Attribute, PrivateSubtag, is_word, IsWord, normal, lower, word_cmp, is_true, SpelledIdentifier, SpelledUnicode, SpelledTransform, Fields, HasWords, IsIdentifier, IsKeyword, IsOther, kept, is_other_singleton, lower_singleton, IsPrivate}
 use Rattle.iloc_spec_grammar.specs.Tree.{Extension, unicode, transform, other, Written, IsUnicodeBlock, IsTransformBlock, IsExtension, IsWritten, unicode_part, transform_part, private_part, other_part, by_singleton, extensions_meaning, meaning, TreeMeans, IsTreeWellFormed}
 use Rattle.iloc_spec_grammar.specs.Meaning.{map_of, set_of, normal_identifier, normal_values, normal_fields, normal_unicode, normal_transform, Locale}
 use Rattle.iloc_spec_grammar.specs.Values.{IsNormal, StrictlyAscends, IsIdentifierValue, IsUnicodeValue, IsTransformValue, IsValue}
@@ -37,7 +37,7 @@ all_normal k ws e = all_mapped (IsWord k) (IsNormal k) lower (λ w h. subst (IsN
 pub option_normal : (k : Kind) (o : Option (List ℕ)) → IfSome o (IsWord k) → IfSome (option_map (normal k) o) (IsNormal k)
 option_normal k = some_mapped (IsWord k) (IsNormal k) (normal k) (IsNormal-normal k)
 
-pub identifier_value : {T : ℕ → Bool} (i : Identifier) → HasWords T i → IsIdentifierValue T (normal_identifier i)
+pub identifier_value : {T : ℕ → Bool} (i : SpelledIdentifier) → HasWords T i → IsIdentifierValue T (normal_identifier i)
 identifier_value {T = T} i h = record {
   language = IsNormal-normal (Language T) i.language h.language;
   script = option_normal Script i.script h.script;
@@ -73,7 +73,7 @@ attribute_is_subtag w h = (attribute_is_word w h.0, h.1)
 keyword_entries : (fs : Fields) → AllByRecursion IsKeyword fs → AllByRecursion (IsEntry UnicodeKey) (normal_fields fs)
 keyword_entries fs h = field_entries UnicodeKey (λ p. refl) fs h
 
-pub unicode_value : (u : Unicode) → IsUnicodeBlock u → IsUnicodeValue (normal_unicode u)
+pub unicode_value : (u : SpelledUnicode) → IsUnicodeBlock u → IsUnicodeValue (normal_unicode u)
 unicode_value u h = record {
   attributes = all-set_of (IsNormal Attribute) _ (all_normal Attribute u.attributes (λ p. refl) h.attributes);
   ascending = set_of-ascending (map lower u.attributes);
@@ -81,10 +81,10 @@ unicode_value u h = record {
   keys_ascend = is_sorted-map_of word_cmp word_cmp_total (map (λ f. (lower f.0, normal_values f.1)) u.keywords);
 }
 
-pub unicode_well : (u : Unicode) → IsUnicodeBlock u → AllByRecursion (λ f. AllByRecursion (λ w. (is_true w ≡ false) × (length w ≢ 2)) f.1) (normal_unicode u).keywords
+pub unicode_well : (u : SpelledUnicode) → IsUnicodeBlock u → AllByRecursion (λ f. AllByRecursion (λ w. (is_true w ≡ false) × (length w ≢ 2)) f.1) (normal_unicode u).keywords
 unicode_well u h = all_weaker (IsEntry UnicodeKey) (λ f. AllByRecursion (λ w. (is_true w ≡ false) × (length w ≢ 2)) f.1) (λ f e. all_weaker IsPlain (λ w. (is_true w ≡ false) × (length w ≢ 2)) (λ w n. (n.1, let l = length-attribute w n.0.0 in omega arith)) f.1 e.1) _ (keyword_entries u.keywords h.keywords)
 
-pub transform_value : (T : ℕ → Bool) (m : Transform) → IsTransformBlock T m → IsTransformValue T (normal_transform m)
+pub transform_value : (T : ℕ → Bool) (m : SpelledTransform) → IsTransformBlock T m → IsTransformValue T (normal_transform m)
 transform_value T m h = record {
   id = some_mapped (IsIdentifier T) (IsIdentifierValue T) normal_identifier (λ i g. identifier_value i g.words) m.id h.id;
   fields = field_entries TransformKey (λ p. refl) m.fields (plain_fields m.fields h.fields);

@@ -1,7 +1,7 @@
 -- Over a wider table each word, identifier and text keeps its meaning.
 use Rattle.std.proofs.Common.{◌≡◌, ℕ, Bool, true, List, length}
 use Rattle.std.proofs.lemmas.Bool.{and_parts, and_from}
-use Rattle.iloc_spec_grammar.specs.Syntax.{Language, two_or_three, languages, is_word, IsWord, Identifier, IsIdentifier}
+use Rattle.iloc_spec_grammar.specs.Syntax.{Language, two_or_three, languages, is_word, IsWord, SpelledIdentifier, Identifier, IsIdentifier}
 use Rattle.iloc_spec_grammar.specs.Tree.{Extension, transform, IsExtension}
 use Rattle.iloc_spec_grammar.specs.Meaning.{Locale, IdentifierMeans, Means}
 use Rattle.iloc_spec_grammar.specs.Values.{IsIdentifierValue, IsValue}
@@ -13,7 +13,7 @@ module _ {T U : ℕ → Bool} (wider : (n : ℕ) → T n ≡ true → U n ≡ tr
   unfolding is_word
   language p h = let parts = and_parts _ _ h in and_from _ _ (wider (length p) parts.0) parts.1
 
-  pub identifier : (i : Identifier) → IsIdentifier T i → IsIdentifier U i
+  pub identifier : (i : SpelledIdentifier) → IsIdentifier T i → IsIdentifier U i
   identifier i h = record { words = record { language = language i.language h.words.language; script = h.words.script; region = h.words.region; variants = h.words.variants }; different = h.different }
 
   pub extension : (c : ℕ) (e : Extension) → IsExtension T c e → IsExtension U c e

@@ -6,7 +6,7 @@ use Rattle.std.specs.Char.{is_ascii_alphanumeric}
 use Rattle.std.specs.List.{AllByRecursion}
 use Rattle.std.specs.Ordering.{nat_cmp}
 use Rattle.std.specs.FinMap.{find}
-use Rattle.iloc_spec_grammar.specs.Syntax.{Text, LanguageLengths, Block, code_t, code_u, code_x, pieces, lower, Unicode, Transform, unicode_pieces, transform_pieces, IsOther, kept, is_other_singleton, AllDifferent, lower_singleton, head, tail_blocks, IsPrivate}
+use Rattle.iloc_spec_grammar.specs.Syntax.{Text, LanguageLengths, Block, code_t, code_u, code_x, pieces, lower, SpelledUnicode, SpelledTransform, Unicode, Transform, unicode_pieces, transform_pieces, IsOther, kept, is_other_singleton, AllDifferent, lower_singleton, head, tail_blocks, IsPrivate}
 use Rattle.iloc_spec_grammar.specs.Tree.{IsUnicodeBlock, IsTransformBlock, by_singleton}
 use Rattle.iloc_spec_grammar.specs.Meaning.{Locale, Extensions, IdentifierMeans, map_of, normal_unicode, normal_transform, no_unicode, no_transform}
 
@@ -14,14 +14,14 @@ use Rattle.iloc_spec_grammar.specs.Meaning.{Locale, Extensions, IdentifierMeans,
 
 -- after `u`
 pub record UnicodeMeans (ps : List Text) (v : Unicode) : Type 0 where
-  pub written : Unicode
+  pub written : SpelledUnicode
   pub grammatical : IsUnicodeBlock written
   pub spelled : ps ≡ unicode_pieces written
   pub means : v ≡ normal_unicode written
 
 -- after `t`
 pub record TransformMeans (T : LanguageLengths) (ps : List Text) (n : Transform) : Type 0 where
-  pub written : Transform
+  pub written : SpelledTransform
   pub grammatical : IsTransformBlock T written
   pub spelled : ps ≡ transform_pieces written
   pub means : n ≡ normal_transform written

@@ -7,7 +7,7 @@ use Rattle.std.specs.Int.{is_in_range}
 use Rattle.std.specs.List.{list_any, list_all}
 use Rattle.std.specs.Ordering.{nat_cmp, eq_by_cmp}
 use Rattle.std.specs.declared.cmp.Ordering.{Ordering}
-use Rattle.iloc_spec_grammar.specs.Syntax.{Text, LanguageLengths, Field, Block, code_t, code_u, code_x, pieces, Language, Script, Region, Variant, UnicodeKey, TransformKey, Attribute, PrivateSubtag, is_word, lower, word_cmp, Identifier, Unicode, Transform, kept, is_other_singleton, lower_singleton, first_piece, head, tail_blocks}
+use Rattle.iloc_spec_grammar.specs.Syntax.{Text, LanguageLengths, Field, Block, code_t, code_u, code_x, pieces, Language, Script, Region, Variant, UnicodeKey, TransformKey, Attribute, PrivateSubtag, is_word, lower, word_cmp, SpelledIdentifier, SpelledUnicode, SpelledTransform, Identifier, kept, is_other_singleton, lower_singleton, first_piece, head, tail_blocks}
 use Rattle.iloc_spec_grammar.specs.Tree.{Extension, unicode, transform, other, meaning}
 use Rattle.iloc_spec_grammar.specs.Meaning.{Locale, normal_identifier, Fault, InvalidLanguage, InvalidSubtag, InvalidExtension, DuplicatedExtension}
 use Rattle.iloc_spec_grammar.specs.Values.{text, identifier_text}
@@ -26,12 +26,12 @@ all_different cmp [] = true
 all_different cmp (x ∷ xs) = not (list_any (eq_by_cmp cmp x) xs) && all_different cmp xs
 
 -- computes `HasWords`: whether each piece is a word of its kind
-abbrev pub has_words : LanguageLengths → Identifier → Bool
+abbrev pub has_words : LanguageLengths → SpelledIdentifier → Bool
 has_words T i = (is_word (Language T) i.language && holds_if_some (is_word Script) i.script)
     && (holds_if_some (is_word Region) i.region && list_all (is_word Variant) i.variants)
 
 -- computes `IsIdentifier`: such words, no variant twice
-abbrev pub is_identifier : LanguageLengths → Identifier → Bool
+abbrev pub is_identifier : LanguageLengths → SpelledIdentifier → Bool
 is_identifier T i = has_words T i && all_different word_cmp (map lower i.variants)
 
 -- computes `IsKeyword`: a key and its values
@@ -39,7 +39,7 @@ abbrev pub is_keyword : Field → Bool
 is_keyword (key, values) = is_word UnicodeKey key && list_all (is_word Attribute) values
 
 -- computes `IsUnicodeBlock`: attributes and keywords, one at least
-abbrev pub is_unicode : Unicode → Bool
+abbrev pub is_unicode : SpelledUnicode → Bool
 is_unicode u = (list_all (is_word Attribute) u.attributes && list_all is_keyword u.keywords)
     && nat_lt 0 (length u.attributes + length u.keywords)
 
@@ -49,7 +49,7 @@ is_field (key, values) = (is_word TransformKey key && list_all (is_word Attribut
     && nat_lt 0 (length values)
 
 -- computes `IsTransformBlock`: perhaps an identifier, and fields, not both absent
-abbrev pub is_transform : LanguageLengths → Transform → Bool
+abbrev pub is_transform : LanguageLengths → SpelledTransform → Bool
 is_transform T m = (holds_if_some (is_identifier T) m.id && list_all is_field m.fields)
     && (is_some m.id || nat_lt 0 (length m.fields))
 

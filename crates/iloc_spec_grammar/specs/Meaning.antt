@@ -6,7 +6,7 @@ use Rattle.std.specs.Prelude.{◌≡◌, ℕ, ◌<◌, ◌==◌, length, flat_ma
 use Rattle.std.specs.Ordering.{nat_cmp}
 use Rattle.std.specs.declared.cmp.Ordering.{Ordering}
 use Rattle.std.specs.FinMap.{put}
-use Rattle.iloc_spec_grammar.specs.Syntax.{Text, LanguageLengths, Block, code_t, code_u, code_x, pieces, lower, upper, title, word_cmp, is_true, Language, PrivateSubtag, is_word, IsWord, Identifier, Fields, Unicode, Transform, identifier_pieces, kept, IsIdentifier, lower_singleton, HasWords, AllDifferent, IsUnicode, IsTransform, IsOther, unicode_pieces, transform_pieces, is_other_singleton, IsAmong}
+use Rattle.iloc_spec_grammar.specs.Syntax.{Text, LanguageLengths, Block, code_t, code_u, code_x, pieces, lower, upper, title, word_cmp, is_true, Language, PrivateSubtag, is_word, IsWord, Stage, Spelled, Meant, UnicodeOf, TransformOf, SpelledIdentifier, SpelledUnicode, SpelledTransform, Identifier, Fields, Unicode, Transform, identifier_pieces, kept, IsIdentifier, lower_singleton, HasWords, AllDifferent, IsUnicode, IsTransform, IsOther, unicode_pieces, transform_pieces, is_other_singleton, IsAmong}
 use Rattle.std.specs.Char.{is_ascii_alphanumeric, to_ascii_lowercase}
 use Rattle.std.specs.List.{list_any, AllByRecursion}
 pub use Rattle.iloc_spec_grammar.specs.Syntax.{is_one_byte, front, blocks, head, tail_blocks, first_piece}
@@ -24,7 +24,7 @@ set_of ws = map (λ (w, _). w) (map_of word_cmp (map (λ w. (w, tt {0})) ws))
 -- Normal forms.
 
 -- words in their normal case, variants as a set (UTS #35 3.2.1)
-abbrev pub normal_identifier : Identifier → Identifier
+abbrev pub normal_identifier : SpelledIdentifier → Identifier
 normal_identifier i = record {
   language = lower i.language;
   script = option_map title i.script;
@@ -42,21 +42,29 @@ abbrev pub normal_fields : Fields → Fields
 normal_fields fs = map_of word_cmp (map (λ (key, values). (lower key, normal_values values)) fs)
 
 -- what is written after `u`, with attributes as a set and keywords as a map (UTS #35 3.2.1)
-abbrev pub normal_unicode : Unicode → Unicode
+abbrev pub normal_unicode : SpelledUnicode → Unicode
 normal_unicode u =
     record { attributes = set_of (map lower u.attributes); keywords = normal_fields u.keywords }
 
 -- what is written after `t`, with the identifier normal and fields as a map (UTS #35 3.2.1)
-abbrev pub normal_transform : Transform → Transform
+abbrev pub normal_transform : SpelledTransform → Transform
 normal_transform m =
     record { id = option_map normal_identifier m.id; fields = normal_fields m.fields }
 
 -- The parts after `u`, `t` and `x`, and the other extensions by their singletons (UTS #35 3.2).
-pub record Extensions : Type 0 where
-  pub unicode : Unicode
-  pub transform : Transform
+pub record ExtensionsOf (s : Stage) : Type 0 where
+  pub unicode : UnicodeOf s
+  pub transform : TransformOf s
   pub private : List Text
   pub others : List Block
+
+-- extensions as they are spelled
+abbrev pub SpelledExtensions : Type 0
+SpelledExtensions = ExtensionsOf Spelled
+
+-- extensions that are meant
+abbrev pub Extensions : Type 0
+Extensions = ExtensionsOf Meant
 
 -- an identifier and extensions: what a text means (UTS #35 3.2, `unicode_locale_id`)
 pub record Locale : Type 0 where
@@ -65,7 +73,7 @@ pub record Locale : Type 0 where
 
 -- words in lower case, of other extensions those that are kept, by ascending singletons (UTS #35
 -- 3.2.1)
-abbrev pub normal_extensions : Extensions → Extensions
+abbrev pub normal_extensions : SpelledExtensions → Extensions
 normal_extensions e = record {
   unicode = normal_unicode e.unicode;
   transform = normal_transform e.transform;
@@ -99,7 +107,7 @@ without_extensions i = record { id = i; extensions = no_extensions }
 
 -- the pieces are an identifier that means i
 pub record IdentifierMeans (T : LanguageLengths) (ps : List Text) (i : Identifier) : Type 0 where
-  pub written : Identifier
+  pub written : SpelledIdentifier
   pub grammatical : IsIdentifier T written
   pub spelled : ps ≡ identifier_pieces written
   pub means : i ≡ normal_identifier written
@@ -112,7 +120,8 @@ after s bs = flat_map (λ (c, ps). if to_ascii_lowercase c == s then ps else [])
 -- twice; and the pieces after `u`, `t`, `x` and the others are those of parts that follow their
 -- rules. No block is left out: a letter or digit other than `u`, `t` and `x` is another singleton
 -- (UTS #35 3.2, `extensions` and `pu_extensions`).
-pub record SpellsExtensions (T : LanguageLengths) (bs : List Block) (w : Extensions) : Type 0 where
+pub record SpellsExtensions (T : LanguageLengths) (bs : List Block)
+    (w : SpelledExtensions) : Type 0 where
   pub blocks : AllByRecursion (λ (c, ps). (is_ascii_alphanumeric c ≡ true) × (0 < length ps)) bs
   pub different : AllDifferent nat_cmp (map (λ b. lower_singleton b) bs)
   pub unicode : IsUnicode w.unicode × (after code_u bs ≡ unicode_pieces w.unicode)
@@ -124,7 +133,7 @@ pub record SpellsExtensions (T : LanguageLengths) (bs : List Block) (w : Extensi
 
 -- the blocks mean e: they spell extensions whose normal form it is
 abbrev pub BlocksMean : LanguageLengths → List Block → Extensions → Type 0
-BlocksMean T bs e = (w : Extensions) × SpellsExtensions T bs w × (e ≡ normal_extensions w)
+BlocksMean T bs e = (w : SpelledExtensions) × SpellsExtensions T bs w × (e ≡ normal_extensions w)
 
 -- the text means M: its head an identifier, and its blocks extensions (UTS #35 3.2,
 -- `unicode_locale_id`)
@@ -144,7 +153,7 @@ pub data Fault : Type 0 where
 
 -- the pieces spell an identifier
 abbrev pub SpellsIdentifier : LanguageLengths → List Text → Type 0
-SpellsIdentifier T ps = (i : Identifier) × IsIdentifier T i × (ps ≡ identifier_pieces i)
+SpellsIdentifier T ps = (i : SpelledIdentifier) × IsIdentifier T i × (ps ≡ identifier_pieces i)
 
 -- why the pieces are no identifier: no language stands first, or else something after it is wrong
 pub data HasIdentifierFault (T : LanguageLengths) (ps : List Text) : Fault → Type 0 where
@@ -158,12 +167,12 @@ pub data HasIdentifierFault (T : LanguageLengths) (ps : List Text) : Fault → T
 -- the pieces begin with a language, perhaps a script and a region, and variants, of which one
 -- stands twice
 abbrev pub RepeatsVariant : LanguageLengths → List Text → Type 0
-RepeatsVariant T ps = (i : Identifier) × (rest : List Text) × HasWords T i
+RepeatsVariant T ps = (i : SpelledIdentifier) × (rest : List Text) × HasWords T i
     × (ps ≡ identifier_pieces i ++ rest) × ¬ (AllDifferent word_cmp (map lower i.variants))
 
 -- each block follows the rule of its singleton, and no two singletons are equal
 abbrev pub AreBlocks : LanguageLengths → List Block → Type 0
-AreBlocks T bs = (w : Extensions) × SpellsExtensions T bs w
+AreBlocks T bs = (w : SpelledExtensions) × SpellsExtensions T bs w
 
 -- an earlier block has this singleton
 abbrev pub IsSecond : List Block → Block → Type 0

@@ -4,7 +4,7 @@
 -- same way. Each loses nothing, and gives back what follows the rules, so the rules have
 -- one reading at most.
 use Rattle.std.specs.Prelude.{◌≡◌, ℕ, ◌≤◌, Bool, true, false, cond, ◌==◌, List, [], ◌∷◌, ◌++◌, length, Option, Some, None}
-use Rattle.iloc_spec_grammar.specs.Syntax.{Text, LanguageLengths, Block, code_t, code_u, code_x, Script, Region, Variant, TransformKey, is_word, Identifier, Fields, Unicode, Transform, HasWords, identifier_pieces, lower_singleton, is_one_byte, first_piece, head, tail_blocks}
+use Rattle.iloc_spec_grammar.specs.Syntax.{Text, LanguageLengths, Block, code_t, code_u, code_x, Script, Region, Variant, TransformKey, is_word, SpelledIdentifier, SpelledUnicode, SpelledTransform, Fields, HasWords, identifier_pieces, lower_singleton, is_one_byte, first_piece, head, tail_blocks}
 use Rattle.iloc_spec_grammar.specs.Tree.{Extension, unicode, transform, other, Written}
 
 -- Lists of pieces.
@@ -55,7 +55,7 @@ abbrev pub after_region : List Text → List Text
 after_region ps = skip_first (is_word Region) (after_script ps)
 
 -- the identifier that all the pieces are, if they are one
-unfoldable pub identifier_of : List Text → Identifier
+unfoldable pub identifier_of : List Text → SpelledIdentifier
 identifier_of ps = record {
   language = first_piece ps;
   script = take_first (is_word Script) (rest_of ps);
@@ -64,7 +64,7 @@ identifier_of ps = record {
 }
 
 -- the words at the front
-unfoldable pub front_of : List Text → Identifier
+unfoldable pub front_of : List Text → SpelledIdentifier
 front_of ps = record {
   language = first_piece ps;
   script = take_first (is_word Script) (rest_of ps);
@@ -77,11 +77,11 @@ unfoldable pub after_front : List Text → List Text
 after_front ps = past (is_word Variant) (after_region ps)
 
 -- the longest front of a language and the words after it
-pub record IdentifierFront (T : LanguageLengths) (ps : List Text) (i : Identifier)
+pub record IdentifierFront (T : LanguageLengths) (ps : List Text) (i : SpelledIdentifier)
     (rest : List Text) : Type 0 where
   pub words : HasWords T i
   pub spelled : ps ≡ identifier_pieces i ++ rest
-  pub longest : (j : Identifier) (more : List Text) → HasWords T j
+  pub longest : (j : SpelledIdentifier) (more : List Text) → HasWords T j
       → ps ≡ identifier_pieces j ++ more
       → length (identifier_pieces j) ≤ length (identifier_pieces i)
 
@@ -104,16 +104,16 @@ abbrev pub is_two : Text → Bool
 is_two p = length p == 2
 
 -- after `u`, a piece of two bytes is a key
-unfoldable pub unicode_of : List Text → Unicode
+unfoldable pub unicode_of : List Text → SpelledUnicode
 unicode_of ps = record { attributes = before_key is_two ps; keywords = fields_from is_two ps }
 
 -- the identifier after `t`, if any piece stands there (UTS #35 3.2, `tlang`)
-abbrev pub optional_of : List Text → Option Identifier
+abbrev pub optional_of : List Text → Option SpelledIdentifier
 optional_of [] = None
 optional_of (p ∷ ps) = Some (identifier_of (p ∷ ps))
 
 -- after `t`, no word of an identifier is a key
-unfoldable pub transform_of : List Text → Transform
+unfoldable pub transform_of : List Text → SpelledTransform
 transform_of ps = record {
   id = optional_of (before_key (is_word TransformKey) ps);
   fields = fields_from (is_word TransformKey) ps;

@@ -4,7 +4,7 @@
 use Rattle.std.specs.Prelude.{◌≡◌, ◌↔◌, IsTrue, ℕ, Bool, true, false, not, ◌&&◌, ◌||◌, ◌==◌, List, [], ◌∷◌, length, map, Option, Some, None, nat_lt, if◌then◌else◌}
 use Rattle.std.specs.List.{list_any}
 use Rattle.std.specs.Result.{is_ok}
-use Rattle.iloc_spec_grammar.specs.Syntax.{Text, LanguageLengths, Field, pieces, Subtag, is_word, lower, is_same, is_true, word_cmp, Identifier, Fields, Unicode, Transform}
+use Rattle.iloc_spec_grammar.specs.Syntax.{Text, LanguageLengths, Field, pieces, Subtag, is_word, lower, is_same, is_true, word_cmp, SpelledIdentifier, SpelledUnicode, SpelledTransform, Fields}
 use Rattle.iloc_spec_grammar.specs.Tree.{Extension, unicode, transform, other, Written}
 use Rattle.iloc_spec_grammar.specs.Reading.{identifier_of, written_of}
 use Rattle.iloc_spec_grammar.specs.Computing.{all_different, identifier_result, locale_result}
@@ -83,11 +83,11 @@ abbrev pub same_fields : Fields → Fields → Bool
 same_fields fs gs = all_zip same_field fs gs
 
 -- equal but for the variants
-abbrev pub same_but_variants : Identifier → Identifier → Bool
+abbrev pub same_but_variants : SpelledIdentifier → SpelledIdentifier → Bool
 same_but_variants i j = is_same i.language j.language
     && (option_zip is_same i.script j.script && option_zip is_same i.region j.region)
 
-abbrev pub same_identifier : Identifier → Identifier → Bool
+abbrev pub same_identifier : SpelledIdentifier → SpelledIdentifier → Bool
 same_identifier i j = same_but_variants i j && same_words i.variants j.variants
 
 abbrev pub same_extension : Extension → Extension → Bool
@@ -114,13 +114,13 @@ abbrev pub are_fields_without_repeats : Fields → Fields → Bool
 are_fields_without_repeats fs gs = is_without_repeats same_field (λ (key, _). key) [] fs gs
 
 -- one rule orders the variants, and the others leave an identifier as it is
-abbrev pub is_identifier_step : TreeRule → Identifier → Identifier → Bool
+abbrev pub is_identifier_step : TreeRule → SpelledIdentifier → SpelledIdentifier → Bool
 is_identifier_step VariantOrder i j = same_but_variants i j
     && is_reordered is_same i.variants j.variants
 is_identifier_step _ i j = same_identifier i j
 
 -- what the rules do after `u`
-abbrev pub is_unicode_step : TreeRule → Unicode → Unicode → Bool
+abbrev pub is_unicode_step : TreeRule → SpelledUnicode → SpelledUnicode → Bool
 is_unicode_step AttributeOrder u v = is_reordered is_same u.attributes v.attributes
     && same_fields u.keywords v.keywords
 is_unicode_step FieldOrder u v = same_words u.attributes v.attributes
@@ -139,7 +139,7 @@ is_fields_step Trues fs gs = all_zip (λ f g. has_less_true f g && nat_lt 0 (len
 is_fields_step _ fs gs = false
 
 -- after `t`, a step is one of the identifier or one of the fields
-abbrev pub is_transform_step : TreeRule → Transform → Transform → Bool
+abbrev pub is_transform_step : TreeRule → SpelledTransform → SpelledTransform → Bool
 is_transform_step r m n =
     (option_zip (is_identifier_step r) m.id n.id && same_fields m.fields n.fields)
     || (option_zip same_identifier m.id n.id && is_fields_step r m.fields n.fields)

@@ -257,11 +257,16 @@ before_zero (b ∷ bytes) = if b == 0 then [] else b ∷ before_zero bytes
 -- UTS #35, section 3: unicode_language_id, unicode_locale_extensions, transformed_extensions,
 -- other_extensions, pu_extensions, and unicode_locale_id of all of them.
 
--- The shapes.
+-- The shapes, each of two types: one for what a text spells, in the order and case of the text, and
+-- one for what that means.
+
+-- which of the two it is
+pub data Stage : Type 0 where
+  Spelled Meant : Stage
 
 -- `en-Latn-US-posix`: a language, perhaps a script and a region, and variants (UTS #35 3.1,
 -- `unicode_language_id`)
-pub record Identifier : Type 0 where
+pub record IdentifierOf (s : Stage) : Type 0 where
   pub language : Text
   pub script : Option Text
   pub region : Option Text
@@ -273,19 +278,43 @@ abbrev pub Fields : Type 0
 Fields = List Field
 
 -- what follows `u` (UTS #35 3.2, `unicode_locale_extensions`)
-pub record Unicode : Type 0 where
+pub record UnicodeOf (s : Stage) : Type 0 where
   pub attributes : List Text
   pub keywords : Fields
 
 -- what follows `t` (UTS #35 3.2, `transformed_extensions`)
-pub record Transform : Type 0 where
-  pub id : Option Identifier
+pub record TransformOf (s : Stage) : Type 0 where
+  pub id : Option (IdentifierOf s)
   pub fields : Fields
+
+-- an identifier as it is spelled
+abbrev pub SpelledIdentifier : Type 0
+SpelledIdentifier = IdentifierOf Spelled
+
+-- what follows `u` as it is spelled
+abbrev pub SpelledUnicode : Type 0
+SpelledUnicode = UnicodeOf Spelled
+
+-- what follows `t` as it is spelled
+abbrev pub SpelledTransform : Type 0
+SpelledTransform = TransformOf Spelled
+
+-- an identifier that is meant
+abbrev pub Identifier : Type 0
+Identifier = IdentifierOf Meant
+
+-- what is meant after `u`
+abbrev pub Unicode : Type 0
+Unicode = UnicodeOf Meant
+
+-- what is meant after `t`
+abbrev pub Transform : Type 0
+Transform = TransformOf Meant
 
 -- How they are spelled: the pieces, in order.
 
 -- the pieces of an identifier, in the order of UTS #35 3.1: language, script, region, variants
-abbrev pub identifier_pieces : Identifier → List Text
+abbrev pub identifier_pieces : {s : Stage} → IdentifierOf s → List Text
 identifier_pieces i = i.language
     ∷ (option_to_list i.script ++ (option_to_list i.region ++ i.variants))
 
@@ -294,16 +323,16 @@ abbrev pub fields_pieces : Fields → List Text
 fields_pieces fs = flat_map (λ (key, values). key ∷ values) fs
 
 -- the pieces after `u`: attributes, then keywords (UTS #35 3.2, `unicode_locale_extensions`)
-abbrev pub unicode_pieces : Unicode → List Text
+abbrev pub unicode_pieces : {s : Stage} → UnicodeOf s → List Text
 unicode_pieces u = u.attributes ++ fields_pieces u.keywords
 
 -- the pieces of an optional identifier: none if it is absent
-abbrev pub optional_pieces : Option Identifier → List Text
+abbrev pub optional_pieces : {s : Stage} → Option (IdentifierOf s) → List Text
 optional_pieces None = []
 optional_pieces (Some i) = identifier_pieces i
 
 -- the pieces after `t`: the identifier, then the fields (UTS #35 3.2, `transformed_extensions`)
-abbrev pub transform_pieces : Transform → List Text
+abbrev pub transform_pieces : {s : Stage} → TransformOf s → List Text
 transform_pieces m = optional_pieces m.id ++ fields_pieces m.fields
 
 -- The rules that they follow.
@@ -318,14 +347,14 @@ AllDifferent cmp [] = ⊤
 AllDifferent cmp (x ∷ xs) = ¬ (IsAmong cmp x xs) × AllDifferent cmp xs
 
 -- each piece is a word of its kind (UTS #35 3.1)
-pub record HasWords (T : LanguageLengths) (i : Identifier) : Type 0 where
+pub record HasWords (T : LanguageLengths) (i : SpelledIdentifier) : Type 0 where
   pub language : IsWord (Language T) i.language
   pub script : IfSome i.script (IsWord Script)
   pub region : IfSome i.region (IsWord Region)
   pub variants : AllByRecursion (IsWord Variant) i.variants
 
 -- such words, no variant twice in whatever case (UTS #35 3.1, `unicode_language_id`)
-pub record IsIdentifier (T : LanguageLengths) (i : Identifier) : Type 0 where
+pub record IsIdentifier (T : LanguageLengths) (i : SpelledIdentifier) : Type 0 where
   pub words : HasWords T i
   pub different : AllDifferent word_cmp (map lower i.variants)
 
@@ -338,12 +367,12 @@ abbrev pub IsField : Field → Type 0
 IsField (key, ws) = IsWord TransformKey key × AllByRecursion (IsWord Attribute) ws × (0 < length ws)
 
 -- attributes and keywords (UTS #35 3.2, `unicode_locale_extensions`)
-pub record IsUnicode (u : Unicode) : Type 0 where
+pub record IsUnicode (u : SpelledUnicode) : Type 0 where
   pub attributes : AllByRecursion (IsWord Attribute) u.attributes
   pub keywords : AllByRecursion IsKeyword u.keywords
 
 -- perhaps an identifier, and fields (UTS #35 3.2, `transformed_extensions`)
-pub record IsTransform (T : LanguageLengths) (m : Transform) : Type 0 where
+pub record IsTransform (T : LanguageLengths) (m : SpelledTransform) : Type 0 where
   pub id : IfSome m.id (IsIdentifier T)
   pub fields : AllByRecursion IsField m.fields
 

@@ -7,20 +7,20 @@ use Rattle.std.specs.Char.{is_ascii_alphanumeric, to_ascii_lowercase}
 use Rattle.std.specs.List.{AllByRecursion, list_any}
 use Rattle.std.specs.Ordering.{nat_cmp, eq_by_cmp}
 use Rattle.std.specs.FinMap.{find}
-use Rattle.iloc_spec_grammar.specs.Syntax.{Text, LanguageLengths, Block, code_t, code_u, code_x, join, pieces, lower, Language, Attribute, IsKeyword, IsField, is_word, IsWord, Identifier, Unicode, Transform, identifier_pieces, unicode_pieces, transform_pieces, kept, IsIdentifier, IsOther, IsPrivate, is_other_singleton, lower_singleton, AllDifferent, head, tail_blocks, first_piece}
+use Rattle.iloc_spec_grammar.specs.Syntax.{Text, LanguageLengths, Block, code_t, code_u, code_x, join, pieces, lower, Language, Attribute, IsKeyword, IsField, is_word, IsWord, SpelledIdentifier, SpelledUnicode, SpelledTransform, Identifier, Unicode, Transform, identifier_pieces, unicode_pieces, transform_pieces, kept, IsIdentifier, IsOther, IsPrivate, is_other_singleton, lower_singleton, AllDifferent, head, tail_blocks, first_piece}
 use Rattle.iloc_spec_grammar.specs.Meaning.{Locale, Extensions, map_of, normal_identifier, normal_unicode, normal_transform, no_unicode, no_transform, Fault, InvalidLanguage, InvalidSubtag, InvalidExtension, DuplicatedExtension, SpellsIdentifier, RepeatsVariant}
 use Rattle.iloc_spec_grammar.specs.Values.{AreWellFormed, lower_identifier, spelled_fields}
 
 -- The tree, how it is spelled, and the rules that it follows.
 
 -- attributes and keywords, one at least (UTS #35 3.2, `unicode_locale_extensions`)
-pub record IsUnicodeBlock (u : Unicode) : Type 0 where
+pub record IsUnicodeBlock (u : SpelledUnicode) : Type 0 where
   pub attributes : AllByRecursion (IsWord Attribute) u.attributes
   pub keywords : AllByRecursion IsKeyword u.keywords
   pub nonempty : 0 < length u.attributes + length u.keywords
 
 -- perhaps an identifier, and fields, not both absent (UTS #35 3.2, `transformed_extensions`)
-pub record IsTransformBlock (T : LanguageLengths) (m : Transform) : Type 0 where
+pub record IsTransformBlock (T : LanguageLengths) (m : SpelledTransform) : Type 0 where
   pub id : IfSome m.id (IsIdentifier T)
   pub fields : AllByRecursion IsField m.fields
   pub nonempty : m.id ≡ None → 0 < length m.fields
@@ -28,14 +28,14 @@ pub record IsTransformBlock (T : LanguageLengths) (m : Transform) : Type 0 where
 -- what follows a singleton other than `x` (UTS #35 3.2, `extensions`); of another extension it is
 -- any pieces
 pub data Extension : Type 0 where
-  unicode : Unicode → Extension
-  transform : Transform → Extension
+  unicode : SpelledUnicode → Extension
+  transform : SpelledTransform → Extension
   other : List Text → Extension
 
 -- a whole text: an identifier, extensions with their singletons, and the private part with its own
 -- (UTS #35 3.2, `unicode_locale_id`)
 pub record Written : Type 0 where
-  pub id : Identifier
+  pub id : SpelledIdentifier
   pub extensions : List (ℕ × Extension)
   pub private : Option Block
 
@@ -175,20 +175,29 @@ pub data HasTreeFault (T : LanguageLengths) (t : Text) : Fault → Type 0 where
 abbrev pub IsTreeWellFormed : Locale → Type 0
 IsTreeWellFormed M = AreWellFormed M.extensions
 
+-- the identifier that is spelled of the words that are meant
+abbrev pub spelled_identifier : Identifier → SpelledIdentifier
+spelled_identifier i =
+    record { language = i.language; script = i.script; region = i.region; variants = i.variants }
+
+-- the unicode part that is spelled of the words that are meant
+abbrev pub spelled_unicode : Unicode → SpelledUnicode
+spelled_unicode u = record { attributes = u.attributes; keywords = u.keywords }
+
+-- the transform part as it is printed: its identifier in lower case, `true` for an empty value
+abbrev pub spelled_transform : Transform → SpelledTransform
+spelled_transform m =
+    record { id = option_map lower_identifier m.id; fields = spelled_fields m.fields }
+
 -- the extension of `t` as it is printed: none if the part is empty
 abbrev pub transform_form : Transform → List (ℕ × Extension)
 transform_form m = if is_some m.id || nat_lt 0 (length m.fields)
-    then (
-      code_t,
-      transform
-          (record { id = option_map lower_identifier m.id; fields = spelled_fields m.fields }),
-    ) ∷ []
-    else []
+    then (code_t, transform (spelled_transform m)) ∷ [] else []
 
 -- the extension of `u` as it is printed: none if the part is empty
 abbrev pub unicode_form : Unicode → List (ℕ × Extension)
-unicode_form u = if nat_lt 0 (length u.attributes + length u.keywords) then (code_u, unicode u) ∷ []
-    else []
+unicode_form u = if nat_lt 0 (length u.attributes + length u.keywords)
+    then (code_u, unicode (spelled_unicode u)) ∷ [] else []
 
 -- the other extensions as they are printed: those with words
 abbrev pub others_form : List Block → List (ℕ × Extension)
@@ -218,7 +227,7 @@ extensions_form e = others_form (before_t e.others)
 -- the written form that a value is printed as
 abbrev pub printed : Locale → Written
 printed M = record {
-  id = M.id;
+  id = spelled_identifier M.id;
   extensions = extensions_form M.extensions;
   private = private_form M.extensions.private;
 }

@@ -3,8 +3,8 @@
 -- Values.
 use Rattle.std.specs.Prelude.{◌≡◌, ℕ, ◌<◌, true, List, [], ◌∷◌, length, map, Option, Some, Bool, not}
 use Rattle.std.specs.List.{list_any, AllZip}
-use Rattle.iloc_spec_grammar.specs.Syntax.{Text, LanguageLengths, Block, Field, join, pieces, Subtag, lower, word_cmp, is_true, is_word, is_same, Identifier, Fields, identifier_pieces, AllDifferent, IsIdentifier}
-use Rattle.iloc_spec_grammar.specs.Values.{Reordered, identifier_text}
+use Rattle.iloc_spec_grammar.specs.Syntax.{Text, LanguageLengths, Block, Field, join, pieces, Subtag, lower, word_cmp, is_true, is_word, is_same, SpelledIdentifier, Fields, identifier_pieces, AllDifferent, IsIdentifier}
+use Rattle.iloc_spec_grammar.specs.Values.{Reordered}
 use Rattle.iloc_spec_grammar.specs.Tree.{Extension, unicode, transform, other, Written, spelling, IsWritten}
 
 -- ys is xs without some of the items that pass the test
@@ -37,12 +37,12 @@ pub data TreeRule : Type 0 where
   VariantOrder AttributeOrder FieldOrder Repeats Trues DroppedPieces : TreeRule
 
 -- an identifier but for its variants
-abbrev pub identifier_with : Text → Option Text → Option Text → List Text → Identifier
+abbrev pub identifier_with : Text → Option Text → Option Text → List Text → SpelledIdentifier
 identifier_with l s r vs = record { language = l; script = s; region = r; variants = vs }
 
 -- a step inside an identifier, if it has one: other steps leave it as it is
-pub data TreeIdentifierStep : TreeRule → Identifier → Identifier → Type 0 where
-  same : {r : TreeRule} {i : Identifier} → TreeIdentifierStep r i i
+pub data TreeIdentifierStep : TreeRule → SpelledIdentifier → SpelledIdentifier → Type 0 where
+  same : {r : TreeRule} {i : SpelledIdentifier} → TreeIdentifierStep r i i
   -- `en-posix-macos` to `en-macos-posix`
   variants : {l : Text} {s r : Option Text} {vs ws : List Text} → Reordered vs ws
       → TreeIdentifierStep VariantOrder (identifier_with l s r vs) (identifier_with l s r ws)
@@ -52,7 +52,7 @@ abbrev pub unicode_extension : List Text → Fields → Extension
 unicode_extension vs fs = unicode (record { attributes = vs; keywords = fs })
 
 -- the extension of `t` with this identifier and these fields
-abbrev pub transform_extension : Option Identifier → Fields → Extension
+abbrev pub transform_extension : Option SpelledIdentifier → Fields → Extension
 transform_extension i fs = transform (record { id = i; fields = fs })
 
 -- a step inside an extension: fields are reordered only if all keys differ; a field of `t` keeps
@@ -60,7 +60,7 @@ transform_extension i fs = transform (record { id = i; fields = fs })
 pub data ExtensionStep : TreeRule → Extension → Extension → Type 0 where
   same : {r : TreeRule} {e : Extension} → ExtensionStep r e e
   -- `t-en-posix-macos` to `t-en-macos-posix`
-  identifier : {r : TreeRule} {i j : Identifier} {fs : Fields} → TreeIdentifierStep r i j
+  identifier : {r : TreeRule} {i j : SpelledIdentifier} {fs : Fields} → TreeIdentifierStep r i j
       → ExtensionStep r (transform_extension (Some i) fs) (transform_extension (Some j) fs)
   -- `u-foo-bar` to `u-bar-foo`
   attribute_order : {vs ws : List Text} {fs : Fields} → Reordered vs ws
@@ -69,21 +69,21 @@ pub data ExtensionStep : TreeRule → Extension → Extension → Type 0 where
   keyword_order : {vs : List Text} {fs gs : Fields} → keys_differ fs → Reordered fs gs
       → ExtensionStep FieldOrder (unicode_extension vs fs) (unicode_extension vs gs)
   -- `t-m0-foo-h0-bar` to `t-h0-bar-m0-foo`
-  field_order : {i : Option Identifier} {fs gs : Fields} → keys_differ fs → Reordered fs gs
+  field_order : {i : Option SpelledIdentifier} {fs gs : Fields} → keys_differ fs → Reordered fs gs
       → ExtensionStep FieldOrder (transform_extension i fs) (transform_extension i gs)
   -- `u-foo-FOO-ca-foo-ca-bar` to `u-foo-ca-foo`
   unicode_repeats : {vs ws : List Text} {fs gs : Fields} → WithoutRepeats (λ a. a) [] vs ws
       → WithoutRepeats (λ (key, _). key) [] fs gs
       → ExtensionStep Repeats (unicode_extension vs fs) (unicode_extension ws gs)
   -- `t-m0-foo-m0-bar` to `t-m0-foo`
-  transform_repeats : {i : Option Identifier} {fs gs : Fields}
+  transform_repeats : {i : Option SpelledIdentifier} {fs gs : Fields}
       → WithoutRepeats (λ (key, _). key) [] fs gs
       → ExtensionStep Repeats (transform_extension i fs) (transform_extension i gs)
   -- `u-ca-foo-true` to `u-ca-foo`
   unicode_trues : {vs : List Text} {fs gs : Fields} → AllZip TreeLessTrue fs gs
       → ExtensionStep Trues (unicode_extension vs fs) (unicode_extension vs gs)
   -- `t-m0-foo-true` to `t-m0-foo`
-  transform_trues : {i : Option Identifier} {fs gs : Fields}
+  transform_trues : {i : Option SpelledIdentifier} {fs gs : Fields}
       → AllZip (λ f g. TreeLessTrue f g × (0 < length g.1)) fs gs
       → ExtensionStep Trues (transform_extension i fs) (transform_extension i gs)
   -- `a-foo-!!-bar` to `a-foo-bar`
@@ -91,16 +91,16 @@ pub data ExtensionStep : TreeRule → Extension → Extension → Type 0 where
       → ExtensionStep DroppedPieces (other ps) (other qs)
 
 -- a written locale of these parts
-abbrev pub written : Identifier → List (ℕ × Extension) → Option Block → Written
+abbrev pub written : SpelledIdentifier → List (ℕ × Extension) → Option Block → Written
 written i es x = record { id = i; extensions = es; private = x }
 
 -- a step of a written locale: its blocks in another order, or one rule inside its parts
 pub data Step : Written → Written → Type 0 where
   -- `en-u-ca-foo-a-bar` to `en-a-bar-u-ca-foo`
-  block_order : {i : Identifier} {es fs : List (ℕ × Extension)} {x : Option Block} → Reordered es fs
-      → Step (written i es x) (written i fs x)
-  inside : (r : TreeRule) → {i j : Identifier} {es fs : List (ℕ × Extension)} {x : Option Block}
-      → TreeIdentifierStep r i j → AllZip (λ e f. (e.0 ≡ f.0) × ExtensionStep r e.1 f.1) es fs
+  block_order : {i : SpelledIdentifier} {es fs : List (ℕ × Extension)} {x : Option Block}
+      → Reordered es fs → Step (written i es x) (written i fs x)
+  inside : (r : TreeRule) → {i j : SpelledIdentifier} {es fs : List (ℕ × Extension)}
+      {x : Option Block} → TreeIdentifierStep r i j → AllZip (λ e f. (e.0 ≡ f.0) × ExtensionStep r e.1 f.1) es fs
       → Step (written i es x) (written j fs x)
 
 -- one step leads from the text t to u: in the case of letters, or by a step of what it spells,
@@ -114,5 +114,6 @@ pub data TreeTextStep (T : LanguageLengths) (t : Text) : Text → Type 0 where
 -- the same for the text of an identifier: in the case of letters, or in the order of variants
 pub data TreeIdentifierTextStep (T : LanguageLengths) (t : Text) : Text → Type 0 where
   letter_case : {u : Text} → lower t ≡ lower u → TreeIdentifierTextStep T t u
-  variant_order : {i j : Identifier} → IsIdentifier T i → pieces t ≡ identifier_pieces i
-      → TreeIdentifierStep VariantOrder i j → TreeIdentifierTextStep T t (identifier_text j)
+  variant_order : {i j : SpelledIdentifier} → IsIdentifier T i → pieces t ≡ identifier_pieces i
+      → TreeIdentifierStep VariantOrder i j
+      → TreeIdentifierTextStep T t (join (identifier_pieces j))

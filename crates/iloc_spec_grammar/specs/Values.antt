@@ -9,7 +9,7 @@ use Rattle.std.specs.FinMap.{is_sorted}
 use Rattle.std.specs.Ordering.{nat_cmp}
 use Rattle.std.specs.declared.cmp.Ordering.{Ordering}
 use Rattle.std.specs.declared.cmp.Ordering.TheVariants.{Less}
-use Rattle.iloc_spec_grammar.specs.Syntax.{Text, LanguageLengths, Block, code_t, code_u, code_x, Field, join, pieces, head, tail_blocks, Kind, Language, Script, Region, Variant, Subtag, UnicodeKey, TransformKey, Attribute, PrivateSubtag, IsWord, normal, lower, word_cmp, is_true, is_word, is_same, languages, Identifier, Fields, Unicode, Transform, optional_pieces, unicode_pieces, transform_pieces, is_other_singleton, identifier_pieces, fields_pieces, AllDifferent, HasWords, IsIdentifier, IsUnicode, IsTransform}
+use Rattle.iloc_spec_grammar.specs.Syntax.{Text, LanguageLengths, Block, code_t, code_u, code_x, Field, join, pieces, head, tail_blocks, Kind, Language, Script, Region, Variant, Subtag, UnicodeKey, TransformKey, Attribute, PrivateSubtag, IsWord, normal, lower, word_cmp, is_true, is_word, is_same, languages, Stage, IdentifierOf, SpelledIdentifier, SpelledUnicode, SpelledTransform, Identifier, Unicode, Transform, Fields, optional_pieces, unicode_pieces, transform_pieces, is_other_singleton, identifier_pieces, fields_pieces, AllDifferent, HasWords, IsIdentifier, IsUnicode, IsTransform}
 use Rattle.iloc_spec_grammar.specs.Meaning.{Locale, Extensions, Means}
 
 -- What the types keep.
@@ -63,7 +63,7 @@ pub record IsValue (T : LanguageLengths) (M : Locale) : Type 0 where
   pub extensions : IsExtensionsValue T M.extensions
 
 -- an identifier with all words in lower case, as after `t` (UTS #35 3.2.1)
-abbrev pub lower_identifier : Identifier → Identifier
+abbrev pub lower_identifier : {s : Stage} → IdentifierOf s → SpelledIdentifier
 lower_identifier i = record {
   language = lower i.language;
   script = option_map lower i.script;
@@ -238,7 +238,7 @@ FieldsStep Trues n fs gs = AllZip (LessTrue n) fs gs
 FieldsStep r n fs gs = fs ≡ gs
 
 -- j is i with other variants: `en-posix-macos` to `en-macos-posix`
-abbrev pub IdentifierStep : Rule → Identifier → Identifier → Type 0
+abbrev pub IdentifierStep : Rule → SpelledIdentifier → SpelledIdentifier → Type 0
 IdentifierStep r i j = (j ≡ record i { variants = j.variants })
     × VariantsStep r i.variants j.variants
 
@@ -247,11 +247,11 @@ IdentifierStep r i j = (j ≡ record i { variants = j.variants })
 pub data BlockStep (T : LanguageLengths) (r : Rule) : Block → Block → Type 0 where
   same : {b : Block} → BlockStep T r b b
   -- `u-foo-bar` to `u-bar-foo`
-  unicode : {c : ℕ} (u v : Unicode) → to_ascii_lowercase c ≡ code_u → IsUnicode u
+  unicode : {c : ℕ} (u v : SpelledUnicode) → to_ascii_lowercase c ≡ code_u → IsUnicode u
       → AttributesStep r u.attributes v.attributes → FieldsStep r 0 u.keywords v.keywords
       → BlockStep T r (c, unicode_pieces u) (c, unicode_pieces v)
   -- `t-m0-foo-true` to `t-m0-foo`
-  transform : {c : ℕ} (m n : Transform) → to_ascii_lowercase c ≡ code_t → IsTransform T m
+  transform : {c : ℕ} (m n : SpelledTransform) → to_ascii_lowercase c ≡ code_t → IsTransform T m
       → AllZip (IdentifierStep r) (option_to_list m.id) (option_to_list n.id)
       → FieldsStep r 1 m.fields n.fields
       → BlockStep T r (c, transform_pieces m) (c, transform_pieces n)
@@ -270,7 +270,7 @@ BlocksStep T r bs cs = AllZip (BlockStep T r) bs cs
 -- in the identifier and the blocks of an accepted text
 pub data TextStep (T : LanguageLengths) (t u : Text) : Type 0 where
   letter_case : lower t ≡ lower u → TextStep T t u
-  rewritten : (r : Rule) {M : Locale} {i j : Identifier} → Means T t M → HasWords T i
+  rewritten : (r : Rule) {M : Locale} {i j : SpelledIdentifier} → Means T t M → HasWords T i
       → head (pieces t) ≡ identifier_pieces i → head (pieces u) ≡ identifier_pieces j
       → IdentifierStep r i j → BlocksStep T r (tail_blocks (pieces t)) (tail_blocks (pieces u))
       → TextStep T t u
@@ -278,7 +278,7 @@ pub data TextStep (T : LanguageLengths) (t u : Text) : Type 0 where
 -- the same for the texts of identifiers: in the case of letters, or in the order of variants
 pub data IdentifierTextStep (T : LanguageLengths) (t u : Text) : Type 0 where
   letter_case : lower t ≡ lower u → IdentifierTextStep T t u
-  variant_order : {i j : Identifier} → IsIdentifier T i → pieces t ≡ identifier_pieces i
+  variant_order : {i j : SpelledIdentifier} → IsIdentifier T i → pieces t ≡ identifier_pieces i
       → pieces u ≡ identifier_pieces j → IdentifierStep VariantOrder i j → IdentifierTextStep T t u
 
 -- Chains.

@@ -16,7 +16,7 @@ pub mod rewriting;
 ghost use Rattle.std.specs.Prelude.{◌≡◌, ◌↔◌, ◌⊎◌, ℕ, ◌+◌, ◌≤◌, true, ◌||◌, List, [], ◌∷◌, ◌++◌, length, replicate, nat_lt, is_some, option_map, Some, if◌then◌else◌, Ok, Err, MatchResult, codes, map};
 ghost use Rattle.std.specs.FinMap.{find, is_sorted};
 ghost use Rattle.std.specs.List.{list_any};
-ghost use Rattle.iloc_spec_grammar.specs.Syntax.{Text, LanguageLengths, Block, code_t, code_u, code_x, pieces, join, dashes, ArePieces, Kind, Language, AreLengths, two_or_three, languages, IsWord, is_word, normal, lower, word, word_cmp, is_same, EndsAt, greatest, Bounds, raw, wide_raw, narrow_raw, before_zero, Identifier, Fields, Unicode, Transform, AllDifferent, HasWords, identifier_pieces, unicode_pieces, transform_pieces, head, IsUnicode, IsTransform};
+ghost use Rattle.iloc_spec_grammar.specs.Syntax.{Text, LanguageLengths, Block, code_t, code_u, code_x, pieces, join, dashes, ArePieces, Kind, Language, AreLengths, two_or_three, languages, IsWord, is_word, normal, lower, word, word_cmp, is_same, EndsAt, greatest, Bounds, raw, wide_raw, narrow_raw, before_zero, Identifier, Fields, Unicode, Transform, AllDifferent, HasWords, identifier_pieces, fields_pieces, unicode_pieces, optional_pieces, head, IsUnicode, IsTransform};
 ghost use Rattle.iloc_spec_grammar.specs.Meaning.{map_of, set_of, Locale, Means, IdentifierMeans, Fault, InvalidLanguage, InvalidSubtag, InvalidExtension, DuplicatedExtension, HasFault, HasIdentifierFault};
 ghost use Rattle.iloc_spec_grammar.specs.Examples.{Normalises, IsRefused, NormalisesIdentifier, IsRefusedIdentifier};
 ghost use Rattle.iloc_spec_grammar.specs.Values.{Reordered, AreWellFormed, TextStep, IdentifierTextStep, Leads, LeadToOne, IsNormal, StrictlyAscends, IsIdentifierValue, IsValue, IsWellFormed, lower_identifier, spelled_fields, text, unicode_spelling, transform_spelling, other_spelling, private_spelling, extensions_spelling, identifier_text};
@@ -261,8 +261,8 @@ pub fn texts_of_parts()
     ensures transform { (m : Transform)
         → transform_spelling m ≡ if is_some m.id || nat_lt 0 (length m.fields)
         then (code_t ∷ [])
-        ∷ transform_pieces
-        (record { id = option_map lower_identifier m.id; fields = spelled_fields m.fields })
+        ∷ (optional_pieces (option_map lower_identifier m.id)
+        ++ fields_pieces (spelled_fields m.fields))
         else [] }
     ensures other { (o : Block)
         → other_spelling o ≡ if nat_lt 0 (length o.1) then (o.0 ∷ []) ∷ o.1 else [] }

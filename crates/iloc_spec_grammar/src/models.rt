@@ -4,7 +4,7 @@
 //! (`ByBlocks`). Or plain programs compute what it means (`Reading`, `Computing`). Proofs go by the one that fits best.
 
 ghost use Rattle.std.specs.Prelude.{◌≡◌, ◌↔◌, List, ◌∷◌, ◌++◌, Ok, Err, MatchResult};
-ghost use Rattle.iloc_spec_grammar.specs.Syntax.{Text, LanguageLengths, pieces, AreLengths, Identifier, Unicode, Transform, HasWords, IsUnicode, IsTransform, identifier_pieces, unicode_pieces, transform_pieces};
+ghost use Rattle.iloc_spec_grammar.specs.Syntax.{Text, LanguageLengths, pieces, AreLengths, SpelledIdentifier, SpelledUnicode, SpelledTransform, Identifier, HasWords, IsUnicode, IsTransform, identifier_pieces, unicode_pieces, transform_pieces};
 ghost use Rattle.iloc_spec_grammar.specs.Meaning.{Locale, Means, IdentifierMeans, Fault, HasFault, HasIdentifierFault};
 ghost use Rattle.iloc_spec_grammar.specs.Values.{text};
 ghost use Rattle.iloc_spec_grammar.specs.Tree.{TreeMeans, HasTreeFault, tree_text};
@@ -38,17 +38,17 @@ pub fn by_blocks()
 
 /// Readings of pieces from the left give back what is spelled and follows the rules, and lose no piece.
 pub fn whole_readings()
-    ensures front { (T : LanguageLengths) (i : Identifier) → HasWords T i
+    ensures front { (T : LanguageLengths) (i : SpelledIdentifier) → HasWords T i
         → front_of (identifier_pieces i) ≡ i }
     ensures front_pieces { (p : Text) (ps : List Text)
         → identifier_pieces (front_of (p ∷ ps)) ++ after_front (p ∷ ps) ≡ p ∷ ps }
-    ensures identifier { (T : LanguageLengths) (i : Identifier) → HasWords T i
+    ensures identifier { (T : LanguageLengths) (i : SpelledIdentifier) → HasWords T i
         → identifier_of (identifier_pieces i) ≡ i }
     ensures identifier_whole { (p : Text) (ps : List Text)
         → identifier_pieces (identifier_of (p ∷ ps)) ≡ p ∷ ps }
-    ensures unicode { (u : Unicode) → IsUnicode u → unicode_of (unicode_pieces u) ≡ u }
+    ensures unicode { (u : SpelledUnicode) → IsUnicode u → unicode_of (unicode_pieces u) ≡ u }
     ensures unicode_whole { (ps : List Text) → unicode_pieces (unicode_of ps) ≡ ps }
-    ensures transform { (T : LanguageLengths) (m : Transform) → IsTransform T m
+    ensures transform { (T : LanguageLengths) (m : SpelledTransform) → IsTransform T m
         → transform_of (transform_pieces m) ≡ m }
     ensures transform_whole { (ps : List Text) → transform_pieces (transform_of ps) ≡ ps }
 {}

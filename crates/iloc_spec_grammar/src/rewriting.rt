@@ -5,7 +5,7 @@
 //! true exactly if the relation holds, of lists, of parts, of whole written locales, and of texts.
 
 ghost use Rattle.std.specs.Prelude.{◌≡◌, ◌↔◌, ℕ, ◌≤◌, Bool, List, length, codes, IsTrue, true, false};
-ghost use Rattle.iloc_spec_grammar.specs.Syntax.{Text, LanguageLengths, Field, pieces, AreLengths, languages, Identifier};
+ghost use Rattle.iloc_spec_grammar.specs.Syntax.{Text, LanguageLengths, Field, pieces, AreLengths, languages, SpelledIdentifier, Identifier};
 ghost use Rattle.iloc_spec_grammar.specs.Tree.{Extension, Written};
 ghost use Rattle.iloc_spec_grammar.specs.Meaning.{Locale, Means, IdentifierMeans};
 ghost use Rattle.iloc_spec_grammar.specs.Values.{TextStep, IdentifierTextStep, Leads, LeadToOne, Reordered};
@@ -77,7 +77,7 @@ pub fn tests_of_lists<X>()
 /// The same for the parts of a written locale and for the whole.
 pub fn tests_of_parts()
     ensures less_true { (f g : Field) → IsTrue (has_less_true f g) ↔ TreeLessTrue f g }
-    ensures identifier { (r : TreeRule) (i j : Identifier)
+    ensures identifier { (r : TreeRule) (i j : SpelledIdentifier)
         → IsTrue (is_identifier_step r i j) ↔ TreeIdentifierStep r i j }
     ensures extension { (r : TreeRule) (e f : Extension)
         → IsTrue (is_extension_step r e f) ↔ ExtensionStep r e f }

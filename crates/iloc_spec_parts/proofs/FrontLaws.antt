@@ -4,7 +4,7 @@ use Rattle.std.specs.List.{AllByRecursion, list_any}
 use Rattle.std.proofs.lemmas.Bool.{or_parts, or_cases, not-false, cond_both, false_from_ne_true, eqb-true, ne_eqb, ltb-true}
 use Rattle.std.proofs.lemmas.List.{nil_from_length}
 use Rattle.std.proofs.lemmas.Bool.Decides.{nat_tests}
-use Rattle.iloc_spec_grammar.specs.Syntax.{UnicodeKey, Attribute, is_word, IsWord, lower, Fields, Unicode, fields_pieces, unicode_pieces, IsKeyword, IsUnicode, IsOther, kept, front}
+use Rattle.iloc_spec_grammar.specs.Syntax.{UnicodeKey, Attribute, is_word, IsWord, lower, Fields, SpelledUnicode, Unicode, fields_pieces, unicode_pieces, IsKeyword, IsUnicode, IsOther, kept, front}
 use Rattle.iloc_spec_grammar.specs.Tree.{IsUnicodeBlock}
 use Rattle.iloc_spec_grammar.specs.Meaning.{set_of, normal_fields, normal_unicode, Fault, InvalidExtension}
 use Rattle.iloc_spec_grammar.specs.ByBlocks.{UnicodeMeans, OtherMeans}
@@ -162,13 +162,13 @@ keyword_goes_on : (f : List ℕ × List (List ℕ)) → IsKeyword f → (is_keyw
 keyword_goes_on f r = (ap (λ b. b || is_word Attribute f.0) (two_bytes_of f.0 r.0), all_weaker (IsWord Attribute) (λ p. is_keyword_piece p ≡ true) value_goes_on f.1 r.1)
 
 -- what is taken of spelled attributes and keywords
-pub record Taken (w : Unicode) (rest : List (List ℕ)) : Type 0 where
+pub record Taken (w : SpelledUnicode) (rest : List (List ℕ)) : Type 0 where
   pub attributes : attributes_front (unicode_pieces w ++ rest) ≡ w.attributes
   pub after : after_attributes (unicode_pieces w ++ rest) ≡ fields_pieces w.keywords ++ rest
   pub keywords : keywords_front (fields_pieces w.keywords ++ rest) ≡ fields_pieces w.keywords
   pub left : after_keywords (fields_pieces w.keywords ++ rest) ≡ rest
 
-pub unicode_taken : (w : Unicode) (rest : List (List ℕ)) → IsUnicode w → starts_block rest ≡ true → Taken w rest
+pub unicode_taken : (w : SpelledUnicode) (rest : List (List ℕ)) → IsUnicode w → starts_block rest ≡ true → Taken w rest
 unicode_taken w rest g e = record {
   attributes = ap attributes_front all ∙ passing_stops (is_word Attribute) w.attributes (fields_pieces w.keywords ++ rest) g.attributes (stops w.keywords g.keywords);
   after = ap after_attributes all ∙ past_stops (is_word Attribute) w.attributes (fields_pieces w.keywords ++ rest) g.attributes (stops w.keywords g.keywords);
@@ -193,12 +193,12 @@ unicode_taken w rest g e = record {
         none.keyword_piece none.two_bytes refl
 
 -- the keywords are those that were spelled
-pub keywords_taken : (w : Unicode) (rest : List (List ℕ)) → IsUnicode w → starts_block rest ≡ true → fields_from is_two (keywords_front (after_attributes (unicode_pieces w ++ rest))) ≡ w.keywords
+pub keywords_taken : (w : SpelledUnicode) (rest : List (List ℕ)) → IsUnicode w → starts_block rest ≡ true → fields_from is_two (keywords_front (after_attributes (unicode_pieces w ++ rest))) ≡ w.keywords
 keywords_taken w rest g e =
     let t = unicode_taken w rest g e in
     ap (fields_from is_two) (ap keywords_front t.after ∙ t.keywords) ∙ fields_read is_two w.keywords (keywords_pass w.keywords g.keywords)
 
-unicode_spelled : (w : Unicode) (rest : List (List ℕ)) → IsUnicodeBlock w → starts_block rest ≡ true → UnicodeRead (unicode_pieces w ++ rest) (normal_unicode w) rest
+unicode_spelled : (w : SpelledUnicode) (rest : List (List ℕ)) → IsUnicodeBlock w → starts_block rest ≡ true → UnicodeRead (unicode_pieces w ++ rest) (normal_unicode w) rest
 unicode_spelled w rest g e =
     let t = unicode_taken w rest (record { attributes = g.attributes; keywords = g.keywords }) e in
     record {

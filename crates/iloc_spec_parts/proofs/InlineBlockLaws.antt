@@ -5,7 +5,7 @@ use Rattle.std.specs.Ordering.{nat_cmp, eq_by_cmp}
 use Rattle.std.proofs.lemmas.Bool.{or_parts, eq-eqb, false_from_ne_true}
 use Rattle.std.proofs.lemmas.Bool.Decides.{nat_tests}
 use Rattle.std.proofs.lemmas.List.{length-map}
-use Rattle.iloc_spec_grammar.specs.Syntax.{pieces, AreLengths, PrivateSubtag, is_word, lower, word_cmp, Identifier, Fields, Unicode, Transform, identifier_pieces, fields_pieces, unicode_pieces, transform_pieces, IsIdentifier, IsUnicode, AllDifferent, is_other_singleton, lower_singleton, head, tail_blocks}
+use Rattle.iloc_spec_grammar.specs.Syntax.{pieces, AreLengths, PrivateSubtag, is_word, lower, word_cmp, Spelled, SpelledIdentifier, SpelledUnicode, SpelledTransform, Identifier, Transform, Fields, identifier_pieces, fields_pieces, unicode_pieces, transform_pieces, IsIdentifier, IsUnicode, AllDifferent, is_other_singleton, lower_singleton, head, tail_blocks}
 use Rattle.iloc_spec_grammar.specs.Meaning.{set_of, normal_identifier, normal_fields, normal_values, normal_unicode, normal_transform, after}
 use Rattle.iloc_spec_grammar.specs.Reading.{passing, IdentifierFront}
 use Rattle.iloc_spec_grammar.proofs.IdentifierLaws.{one_identifier}
@@ -43,7 +43,7 @@ each_after (b ∷ bs) d = (
 
 -- the parts
 
-short_unicode : (u : Unicode) → IsUnicode u → length (normal_unicode u).attributes ≤ 4 → length (normal_unicode u).keywords ≤ 1 → AllByRecursion (λ f. length (normal_values f.1) ≤ 4) u.keywords → IsShortUnicode (unicode_pieces u)
+short_unicode : (u : SpelledUnicode) → IsUnicode u → length (normal_unicode u).attributes ≤ 4 → length (normal_unicode u).keywords ≤ 1 → AllByRecursion (λ f. length (normal_values f.1) ≤ 4) u.keywords → IsShortUnicode (unicode_pieces u)
 short_unicode u g a k v =
     let taken = unicode_taken u [] g refl in
     let keys = ap before_bad_key (keywords_taken u [] g refl) ∙ kept_all u.keywords g.keywords in
@@ -53,16 +53,16 @@ short_unicode u g a k v =
       values = subst (AllByRecursion (λ f. length (normal_values f.1) ≤ 4)) (sym keys) v;
     })
 
-few_variants : (i : Identifier) → AllDifferent word_cmp (map lower i.variants) → length (normal_identifier i).variants ≤ 4 → length i.variants ≤ 4
+few_variants : (i : SpelledIdentifier) → AllDifferent word_cmp (map lower i.variants) → length (normal_identifier i).variants ≤ 4 → length i.variants ≤ 4
 few_variants i d h = subst (λ (n : ℕ). n ≤ 4) (length-set_of-different (map lower i.variants) d ∙ length-map i.variants lower) h
 
-front_few : {T : ℕ → Bool} (ps : List (List ℕ)) {o : Option Identifier} {middle : List (List ℕ)} → FrontRead T ps o middle → IfSome (option_map normal_identifier o) (λ i. length i.variants ≤ 4) → (i : Identifier) (rest : List (List ℕ)) → IdentifierFront T ps i rest → length i.variants ≤ 4
+front_few : {T : ℕ → Bool} (ps : List (List ℕ)) {o : Option SpelledIdentifier} {middle : List (List ℕ)} → FrontRead T ps o middle → IfSome (option_map normal_identifier o) (λ i. length i.variants ≤ 4) → (i : SpelledIdentifier) (rest : List (List ℕ)) → IdentifierFront T ps i rest → length i.variants ≤ 4
 front_few ps (absent e) h i rest f = absurd (true≢false (sym (front_language ps i rest f.words f.spelled) ∙ e))
-front_few ps (present {i = j} {rest = more} g k) h i rest f = subst (λ (x : Identifier). length x.variants ≤ 4) (sym (one_longest ps i j rest more f k).0) (few_variants j g.different h)
+front_few ps (present {i = j} {rest = more} g k) h i rest f = subst (λ (x : SpelledIdentifier). length x.variants ≤ 4) (sym (one_longest ps i j rest more f k).0) (few_variants j g.different h)
 
-short_identifier : {T : ℕ → Bool} (i : Identifier) → IsIdentifier T i → length (normal_identifier i).variants ≤ 4 → IsShortTransform T (identifier_pieces i)
+short_identifier : {T : ℕ → Bool} (i : SpelledIdentifier) → IsIdentifier T i → length (normal_identifier i).variants ≤ 4 → IsShortTransform T (identifier_pieces i)
 short_identifier {T = T} i g v =
-    let m : Transform = record { id = Some i; fields = [] } in
+    let m : SpelledTransform = record { id = Some i; fields = [] } in
     let ps = transform_pieces m in
     let r = transform_spelled ps [] (normal_transform m) (record { written = m; grammatical = record { id = g; fields = tt; nonempty = λ e. absurd (cc) }; spelled = refl; means = refl }) refl in
     let short : IsShortByFronts T (ps ++ []) = record {
@@ -71,7 +71,7 @@ short_identifier {T = T} i g v =
     } in
     subst (IsShortTransform T) (append-nil ps ∙ append-nil (identifier_pieces i)) (short_by_fronts (ps ++ []) short)
 
-short_transform : {T : ℕ → Bool} → AreLengths T → (o : Option Identifier) → IfSome o (IsIdentifier T) → IfSome o (λ i. length (normal_identifier i).variants ≤ 4) → (fs : Fields) → fs ≡ [] → IsShortTransform T (transform_pieces (record { id = o; fields = fs }))
+short_transform : {T : ℕ → Bool} → AreLengths T → (o : Option SpelledIdentifier) → IfSome o (IsIdentifier T) → IfSome o (λ i. length (normal_identifier i).variants ≤ 4) → (fs : Fields) → fs ≡ [] → IsShortTransform T (transform_pieces {s = Spelled} (record { id = o; fields = fs }))
 short_transform table None g v fs e = subst (IsShortTransform _) (ap fields_pieces (sym e)) (none_first table [] refl)
 short_transform table (Some i) g v fs e = subst (IsShortTransform _) (sym (ap (λ fs. identifier_pieces i ++ fields_pieces fs) e ∙ append-nil (identifier_pieces i))) (short_identifier i g v)
 
@@ -112,7 +112,7 @@ module _ (T : ℕ → Bool) (table : AreLengths T) (t : List ℕ) (h : IsInline 
   all_blocks [] own none = tt
   all_blocks (b ∷ bs) own none = (short_block b own.0 none.0, all_blocks bs own.1 none.1)
 
-  identifier_few : (i : Identifier) → IsIdentifier T i → head (pieces t) ≡ identifier_pieces i → length i.variants ≤ 4
+  identifier_few : (i : SpelledIdentifier) → IsIdentifier T i → head (pieces t) ≡ identifier_pieces i → length i.variants ≤ 4
   identifier_few i g e =
       let same = one_identifier h.means.written i h.means.grammatical.words g.words (sym h.means.spelled ∙ e) in
       few_variants i g.different (subst (λ (j : Identifier). length j.variants ≤ 4) (h.means.means ∙ ap normal_identifier same) h.variants)

@@ -5,9 +5,9 @@ use Rattle.std.specs.Cmp.{nat_cmp_total}
 use Rattle.std.specs.Ordering.{nat_cmp}
 use Rattle.std.proofs.lemmas.Bool.{eqb-true, leb-true, le-leb, false_from_ne_true}
 use Rattle.std.proofs.lemmas.List.{length-map}
-use Rattle.iloc_spec_grammar.specs.Syntax.{pieces, lower, Identifier, Fields, Unicode, unicode_pieces, IsUnicode, kept, AllDifferent, AreLengths, head, tail_blocks, lower_singleton, IsPrivate}
+use Rattle.iloc_spec_grammar.specs.Syntax.{pieces, lower, SpelledIdentifier, SpelledUnicode, Fields, unicode_pieces, IsUnicode, kept, AllDifferent, AreLengths, head, tail_blocks, lower_singleton, IsPrivate}
 use Rattle.iloc_spec_grammar.specs.Tree.{Extension, unicode, transform, other, Written, IsWritten, IsExtension, spelling, extension_pieces, extension_block, blocks_of, meaning}
-use Rattle.iloc_spec_grammar.specs.Meaning.{Locale, Extensions, Means, IdentifierMeans, SpellsExtensions, normal_identifier, normal_values, normal_fields, normal_extensions, after, Fault}
+use Rattle.iloc_spec_grammar.specs.Meaning.{Locale, SpelledExtensions, Extensions, Means, IdentifierMeans, SpellsExtensions, normal_identifier, normal_values, normal_fields, normal_extensions, after, Fault}
 use Rattle.iloc_spec_grammar.specs.Reading.{written_of, fields_from, is_two}
 use Rattle.iloc_spec_grammar.specs.Computing.{locale_result}
 use Rattle.iloc_spec_grammar.proofs.RuleTests.{Tests, tests_and, tests_all, tests_if_some}
@@ -38,11 +38,11 @@ pub record HasFewWords (M : Locale) : Type 0 where
 abbrev pub HaveFewValues : Fields → Type 0
 HaveFewValues fs = AllByRecursion (λ f. length (normal_values f.1) ≤ 4) fs
 
-mapped : (o : Option Identifier) → IfSome o (λ i. length (normal_identifier i).variants ≤ 4) → IfSome (option_map normal_identifier o) (λ i. length i.variants ≤ 4)
+mapped : (o : Option SpelledIdentifier) → IfSome o (λ i. length (normal_identifier i).variants ≤ 4) → IfSome (option_map normal_identifier o) (λ i. length i.variants ≤ 4)
 mapped None h = tt
 mapped (Some i) h = h
 
-unmapped : (o : Option Identifier) → IfSome (option_map normal_identifier o) (λ i. length i.variants ≤ 4) → IfSome o (λ i. length (normal_identifier i).variants ≤ 4)
+unmapped : (o : Option SpelledIdentifier) → IfSome (option_map normal_identifier o) (λ i. length i.variants ≤ 4) → IfSome o (λ i. length (normal_identifier i).variants ≤ 4)
 unmapped None h = tt
 unmapped (Some i) h = h
 
@@ -57,7 +57,7 @@ inline_has_few t h = record {
   no_others = subst (λ (os : List (ℕ × List (List ℕ))). (normal_extensions (record h.extensions { others = os })).others ≡ []) (sym h.no_others) refl;
 }
 
-pub inline_of_few : {T : ℕ → Bool} (t : List ℕ) (M : Locale) (e : Extensions) → IdentifierMeans T (head (pieces t)) M.id → SpellsExtensions T (tail_blocks (pieces t)) e → M.extensions ≡ normal_extensions e → HasFewWords M → HaveFewValues e.unicode.keywords → IsInline T t
+pub inline_of_few : {T : ℕ → Bool} (t : List ℕ) (M : Locale) (e : SpelledExtensions) → IdentifierMeans T (head (pieces t)) M.id → SpellsExtensions T (tail_blocks (pieces t)) e → M.extensions ≡ normal_extensions e → HasFewWords M → HaveFewValues e.unicode.keywords → IsInline T t
 inline_of_few t M e i s p h v = record {
   id = M.id;
   extensions = e;
@@ -129,7 +129,7 @@ after_holds P q (b ∷ bs) d n h = at (lower_singleton b == q) refl (after_holds
     at true e rest = let same = eqb-true (lower_singleton b) q e in subst P (sym (ap (λ l. b.1 ++ l) (subst (λ (c : ℕ). after c bs ≡ []) same (none_after (lower_singleton b) bs (false_from_ne_true _ d.0))) ∙ append-nil b.1)) (h.0 same)
     at false e rest = rest
 
-same_keywords : (u v : Unicode) → IsUnicode u → IsUnicode v → unicode_pieces u ≡ unicode_pieces v → v.keywords ≡ u.keywords
+same_keywords : (u v : SpelledUnicode) → IsUnicode u → IsUnicode v → unicode_pieces u ≡ unicode_pieces v → v.keywords ≡ u.keywords
 same_keywords u v g h e = sym (keywords_taken v [] h refl) ∙ ap (λ l. fields_from is_two (keywords_front (after_attributes (l ++ [])))) (sym e) ∙ keywords_taken u [] g refl
 
 all_left : {X : Type 0} (P : X → Type 0) (xs ys : List X) → AllByRecursion P (xs ++ ys) → AllByRecursion P xs
@@ -145,7 +145,7 @@ all_unmapped f P [] h = tt
 all_unmapped f P (x ∷ xs) h = (h.0, all_unmapped f P xs h.1)
 
 -- the keywords of the parts that blocks spell, and those of the tree
-module _ {T : ℕ → Bool} (w : Written) (g : IsWritten T w) (e : Extensions) (s : SpellsExtensions T (blocks_of w) e) where
+module _ {T : ℕ → Bool} (w : Written) (g : IsWritten T w) (e : SpelledExtensions) (s : SpellsExtensions T (blocks_of w) e) where
   few_in_tree : HaveFewValues e.unicode.keywords → AllByRecursion (λ x. HasFewValues x.1) w.extensions
   few_in_tree h = each w.extensions g.extensions (all_unmapped extension_block (λ b. after (lower_singleton b) (blocks_of w) ≡ b.1) w.extensions (all_left _ (map extension_block w.extensions) (option_to_list w.private) (each_after (blocks_of w) s.different)))
     where
@@ -159,7 +159,7 @@ module _ {T : ℕ → Bool} (w : Written) (g : IsWritten T w) (e : Extensions) (
       each (x ∷ es) k own = (at x.0 x.1 k.0 own.0, each es k.1 own.1)
 
   abbrev IsFewSpelled : List (List ℕ) → Type 0
-  IsFewSpelled ps = (u : Unicode) → IsUnicode u → ps ≡ unicode_pieces u → HaveFewValues u.keywords
+  IsFewSpelled ps = (u : SpelledUnicode) → IsUnicode u → ps ≡ unicode_pieces u → HaveFewValues u.keywords
 
   few_in_parts : AllByRecursion (λ x. HasFewValues x.1) w.extensions → HaveFewValues e.unicode.keywords
   few_in_parts h = after_holds IsFewSpelled 117 (blocks_of w) s.different none

@@ -5,7 +5,7 @@ use Rattle.std.specs.List.{AllByRecursion, list_any}
 use Rattle.std.specs.Ordering.{nat_cmp, eq_by_cmp}
 use Rattle.std.proofs.lemmas.Bool.{cond_both, false_from_ne_true, eqb-true, or_parts, both_ways, or_from}
 use Rattle.std.proofs.lemmas.Bool.Decides.{nat_tests}
-use Rattle.iloc_spec_grammar.specs.Syntax.{Kind, Language, Script, Region, Variant, Attribute, is_word, IsWord, AreLengths, lower, word_cmp, Identifier, Fields, lower_singleton, first_piece}
+use Rattle.iloc_spec_grammar.specs.Syntax.{Kind, Language, Script, Region, Variant, Attribute, is_word, IsWord, AreLengths, lower, word_cmp, SpelledIdentifier, Fields, lower_singleton, first_piece}
 use Rattle.iloc_spec_grammar.specs.Tree.{HasSingleton, IsNew, IsBlock}
 use Rattle.iloc_spec_grammar.specs.Meaning.{set_of, normal_fields, normal_values, RepeatsVariant, IsSecond}
 use Rattle.iloc_spec_grammar.specs.Reading.{passing, past, take_first, skip_first, EndsBefore, starts_block, is_two, after_script, after_region, front_of, after_front, IdentifierFront, fields_from}
@@ -126,23 +126,23 @@ short_transform_front {T = T} table (p ∷ ps) rest s =
 
 -- by the longest front of an identifier
 pub record IsShortByFronts (T : ℕ → Bool) (ps : List (List ℕ)) : Type 0 where
-  pub variants : (i : Identifier) (rest : List (List ℕ)) → IdentifierFront T ps i rest → length i.variants ≤ 4
-  pub no_field : (o : Option Identifier) (middle : List (List ℕ)) → FrontRead T ps o middle → ¬ (BeginsField middle)
+  pub variants : (i : SpelledIdentifier) (rest : List (List ℕ)) → IdentifierFront T ps i rest → length i.variants ≤ 4
+  pub no_field : (o : Option SpelledIdentifier) (middle : List (List ℕ)) → FrontRead T ps o middle → ¬ (BeginsField middle)
 
 pub fronts_are_short : {T : ℕ → Bool} (ps : List (List ℕ)) → IsShortTransform T ps → IsShortByFronts T ps
 fronts_are_short {T = T} [] h = record { variants = λ i rest f. let e = f.spelled in absurd (cc); no_field = empty }
   where
-    empty : (o : Option Identifier) (middle : List (List ℕ)) → FrontRead T [] o middle → ¬ (BeginsField middle)
+    empty : (o : Option SpelledIdentifier) (middle : List (List ℕ)) → FrontRead T [] o middle → ¬ (BeginsField middle)
     empty _ _ (absent e) b = no_first_key [] refl b
     empty _ _ (present g f) b = let e = f.spelled in absurd (cc)
 fronts_are_short {T = T} (p ∷ ps) h = record { variants = few; no_field = no_field }
   where
-    few : (i : Identifier) (rest : List (List ℕ)) → IdentifierFront T (p ∷ ps) i rest → length i.variants ≤ 4
+    few : (i : SpelledIdentifier) (rest : List (List ℕ)) → IdentifierFront T (p ∷ ps) i rest → length i.variants ≤ 4
     few i rest f =
         let l = front_language (p ∷ ps) i rest f.words f.spelled in
-        subst (λ (j : Identifier). length j.variants ≤ 4) (one_longest (p ∷ ps) _ i _ rest (front_is_front p ps l) f).0 (h.variants l)
+        subst (λ (j : SpelledIdentifier). length j.variants ≤ 4) (one_longest (p ∷ ps) _ i _ rest (front_is_front p ps l) f).0 (h.variants l)
 
-    no_field : (o : Option Identifier) (middle : List (List ℕ)) → FrontRead T (p ∷ ps) o middle → ¬ (BeginsField middle)
+    no_field : (o : Option SpelledIdentifier) (middle : List (List ℕ)) → FrontRead T (p ∷ ps) o middle → ¬ (BeginsField middle)
     no_field _ _ (absent e) b = h.no_field (read_no_repeats (p ∷ ps) (absent e)) (subst (λ t. BeginsField (cond t (after_front (p ∷ ps)) (p ∷ ps))) (sym e) b)
     no_field _ _ (present {i = i} {rest = rest} g f) b =
         let l = front_language (p ∷ ps) i rest f.words f.spelled in

@@ -3,7 +3,7 @@ use Rattle.std.proofs.Common.{◌≡◌, ◌≤◌, ℕ, Bool, false, not, cond,
 use Rattle.std.specs.List.{AllByRecursion}
 use Rattle.std.proofs.lemmas.Bool.{both_ways, cond_both, not-true}
 use Rattle.iloc_spec_grammar.specs.Syntax.{pieces, join, AreLengths, Kind, Language, Script, Region, Variant, UnicodeKey, Attribute, IsWord, lower, normal, is_true, HasWords, word_cmp}
-use Rattle.iloc_spec_grammar.specs.Tree.{IsWritten, spelling, printed}
+use Rattle.iloc_spec_grammar.specs.Tree.{IsWritten, spelling, printed, spelled_identifier}
 use Rattle.iloc_spec_grammar.specs.Meaning.{normal_values}
 use Rattle.iloc_spec_grammar.specs.Values.{IsNormal, StrictlyAscends, IsValue, IsWellFormed, IsIdentifierValue, text}
 use Rattle.iloc_spec_grammar.proofs.ReadBack.{pieces_spelled, OfWords}
@@ -46,15 +46,15 @@ words_of : (o : Option (List ℕ)) → IfSome o (λ w. IsNormal Attribute w × (
 words_of None h = tt
 words_of (Some w) h = (h.0.0, tt)
 
-keyword_written : {T : ℕ → Bool} (r : SmallLocale) → IsSmallValue T r → IsWritten T (small_written (identifier_of_small r.id) (with_u r.keyword))
+keyword_written : {T : ℕ → Bool} (r : SmallLocale) → IsSmallValue T r → IsWritten T (small_written (spelled_identifier (identifier_of_small r.id)) (with_u r.keyword))
 keyword_written {T = T} r h = from r.keyword h.key h.value
   where
-    from : (k : Option (List ℕ × Option (List ℕ))) → IfSome k (λ k. IsNormal UnicodeKey k.0) → IfSome k (λ k. IfSome k.1 (λ w. IsNormal Attribute w × (is_true w ≡ false))) → IsWritten T (small_written (identifier_of_small r.id) (with_u k))
+    from : (k : Option (List ℕ × Option (List ℕ))) → IfSome k (λ k. IsNormal UnicodeKey k.0) → IfSome k (λ k. IfSome k.1 (λ w. IsNormal Attribute w × (is_true w ≡ false))) → IsWritten T (small_written (spelled_identifier (identifier_of_small r.id)) (with_u k))
     from None a b = record { id = value_identifier _ (identifier_is r h); extensions = tt; different = tt; private = tt }
     from (Some k) a b = record { id = value_identifier _ (identifier_is r h); extensions = ((refl, record { attributes = tt; keywords = ((a.0, words_of k.1 b), tt); nonempty = omega arith }), tt); different = (both_ways _ refl, tt); private = tt }
 
-printed_small : (r : SmallLocale) → printed (locale_of_small r) ≡ small_written (identifier_of_small r.id) (with_u r.keyword)
-printed_small r = elim r.keyword as (λ k. printed (locale_of_small (record { id = r.id; keyword = k })) ≡ small_written (identifier_of_small r.id) (with_u k)) [ None ↦ refl | Some k ↦ refl ]
+printed_small : (r : SmallLocale) → printed (locale_of_small r) ≡ small_written (spelled_identifier (identifier_of_small r.id)) (with_u r.keyword)
+printed_small r = elim r.keyword as (λ k. printed (locale_of_small (record { id = r.id; keyword = k })) ≡ small_written (spelled_identifier (identifier_of_small r.id)) (with_u k)) [ None ↦ refl | Some k ↦ refl ]
 
 option_stays : (k : Kind) (o : Option (List ℕ)) → IfSome o (IsNormal k) → option_map (normal k) o ≡ o
 option_stays k None h = refl
@@ -70,7 +70,7 @@ keyword_stays (Some k) a b = λ i. Some (a.1 i, (ap first_item (values_stay k.1 
 
 pub small_back : {T : ℕ → Bool} (r : SmallLocale) → IsSmallValue T r → IsSmall T (text (locale_of_small r)) r
 small_back {T = T} r h = tree_is_small _ r (record {
-  id = identifier_of_small r.id;
+  id = spelled_identifier (identifier_of_small r.id);
   keyword = with_u r.keyword;
   grammatical = keyword_written r h;
   spelled = ap pieces (text_is (locale_of_small r)) ∙ ap (λ w. pieces (join (spelling w))) (printed_small r) ∙ pieces_spelled _ (keyword_written r h) (elim r.keyword as (λ k. AllByRecursion (λ e. OfWords e.1) (keyword_extension (with_u k))) [ None ↦ tt | Some k ↦ (tt, tt) ]);

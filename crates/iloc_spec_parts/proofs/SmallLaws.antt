@@ -3,7 +3,7 @@ use Rattle.std.proofs.Common.{◌≡◌, ◌≢◌, ◌⊎◌, inl, inr, ℕ, �
 use Rattle.std.specs.List.{AllByRecursion, list_all}
 use Rattle.std.specs.Char.{is_ascii_alphanumeric}
 use Rattle.std.proofs.lemmas.Bool.{and_parts, and_from, cond_both, false_from_ne_true, leb-true, le-leb, eqb-true, eqb-false, eq-eqb, ne_eqb}
-use Rattle.iloc_spec_grammar.specs.Syntax.{pieces, Kind, Language, Script, Region, Variant, UnicodeKey, Attribute, is_word, IsWord, AreLengths, Identifier, HasWords, lower_singleton, head, tail_blocks, front, first_piece}
+use Rattle.iloc_spec_grammar.specs.Syntax.{pieces, Kind, Language, Script, Region, Variant, UnicodeKey, Attribute, is_word, IsWord, AreLengths, SpelledIdentifier, HasWords, lower_singleton, head, tail_blocks, front, first_piece}
 use Rattle.iloc_spec_grammar.specs.Meaning.{Locale, Means, normal_values, IdentifierMeans, Fault}
 use Rattle.iloc_spec_grammar.proofs.WordsLaws.{length-attribute, length-unicode_key}
 use Rattle.iloc_spec_grammar.proofs.IdentifierLaws.{one_identifier, pieces-identifier_of, identifier_of-pieces}
@@ -72,7 +72,7 @@ small_read T p ps h v =
 small_unread : (T : ℕ → Bool) (p : List ℕ) (ps : List (List ℕ)) (r : SmallIdentifier) → IsSmallIdentifier T (p ∷ ps) r → has_small_variants (identifier_of (p ∷ ps)).variants ≡ true
 small_unread T p ps r h =
     let e : identifier_of (p ∷ ps) ≡ h.written = ap identifier_of h.spelled ∙ identifier_of-pieces h.written h.grammatical.words in
-    ap (λ (i : Identifier). has_small_variants i.variants) e ∙ and_from _ _ ((all_words Variant h.written.variants).passes h.grammatical.words.variants) (le-leb _ _ (one_variant (p ∷ ps) r h))
+    ap (λ (i : SpelledIdentifier). has_small_variants i.variants) e ∙ and_from _ _ ((all_words Variant h.written.variants).passes h.grammatical.words.variants) (le-leb _ _ (one_variant (p ∷ ps) r h))
 
 pub small_identifier_answer : (T : ℕ → Bool) (p : List ℕ) (ps : List (List ℕ)) → MatchResult (small_identifier_result T (p ∷ ps)) (IsSmallIdentifier T (p ∷ ps)) (HasSmallIdentifierFault T (p ∷ ps))
 unfolding small_identifier_result

@@ -10,8 +10,8 @@ use Rattle.std.specs.FinMap.{find}
 use Rattle.std.proofs.lemmas.Bool.{or_parts, eq-eqb, false_from_ne_true, both_ways}
 use Rattle.std.proofs.lemmas.Bool.Decides.{nat_tests}
 use Rattle.std.proofs.lemmas.List.{length-map}
-use Rattle.iloc_spec_grammar.specs.Syntax.{pieces, UnicodeKey, Attribute, IsWord, lower, word_cmp, Identifier, Fields, Transform, identifier_pieces, fields_pieces, transform_pieces, IsIdentifier, AllDifferent, kept, is_other_singleton, lower_singleton, head, tail_blocks}
-use Rattle.iloc_spec_grammar.specs.Meaning.{Extensions, map_of, set_of, normal_identifier, normal_values, normal_fields, normal_extensions, just_unicode, no_transform, SpellsExtensions, after}
+use Rattle.iloc_spec_grammar.specs.Syntax.{pieces, UnicodeKey, Attribute, IsWord, lower, word_cmp, Spelled, SpelledIdentifier, SpelledTransform, Identifier, Transform, Fields, identifier_pieces, fields_pieces, transform_pieces, IsIdentifier, AllDifferent, kept, is_other_singleton, lower_singleton, head, tail_blocks}
+use Rattle.iloc_spec_grammar.specs.Meaning.{SpelledExtensions, Extensions, map_of, set_of, normal_identifier, normal_values, normal_fields, normal_extensions, just_unicode, no_transform, SpellsExtensions, after}
 use Rattle.iloc_spec_grammar.specs.Reading.{first_item}
 use Rattle.iloc_spec_grammar.proofs.MapLaws.{word_cmp_total, find-map_of}
 use Rattle.iloc_spec_grammar.proofs.SetLaws.{length-set_of-different}
@@ -69,10 +69,10 @@ none_of_both (x ∷ xs) ys e = absurd (cc)
 
 -- identifiers
 
-pub same_variants : (i : Identifier) → length i.variants ≤ 1 → identifier_of_small (small_identifier i) ≡ normal_identifier i
+pub same_variants : (i : SpelledIdentifier) → length i.variants ≤ 1 → identifier_of_small (small_identifier i) ≡ normal_identifier i
 same_variants i h = ap (λ vs. record (normal_identifier i) { variants = vs }) (short_set i.variants h)
 
-pub small_identifier_of : {T : ℕ → Bool} (ps : List (List ℕ)) (i : Identifier) → IsIdentifier T i → ps ≡ identifier_pieces i → length i.variants ≤ 1 → IsSmallIdentifier T ps (small_identifier i)
+pub small_identifier_of : {T : ℕ → Bool} (ps : List (List ℕ)) (i : SpelledIdentifier) → IsIdentifier T i → ps ≡ identifier_pieces i → length i.variants ≤ 1 → IsSmallIdentifier T ps (small_identifier i)
 small_identifier_of ps i g e few = record { written = i; grammatical = g; spelled = e; means = same_variants i few }
 
 pub one_variant : {T : ℕ → Bool} (ps : List (List ℕ)) (r : SmallIdentifier) (h : IsSmallIdentifier T ps r) → length h.written.variants ≤ 1
@@ -177,16 +177,21 @@ keyword_spelled t r h =
     e.unicode.keywords (h.spelled.unicode.1 ∙ ap (λ l. l ++ fields_pieces e.unicode.keywords) attributes_are)
     h.spelled.unicode.0.keywords h.one_keyword r.keyword (ap (λ (e : Extensions). e.unicode.keywords) h.means)
   where
-    no_pieces : (m : Transform) → no_transform ≡ record { id = option_map normal_identifier m.id; fields = normal_fields m.fields } → transform_pieces m ≡ []
+    no_pieces : (m : SpelledTransform) → no_transform ≡ record { id = option_map normal_identifier m.id; fields = normal_fields m.fields } → transform_pieces m ≡ []
     no_pieces m e = from m.id m.fields (ap (λ (n : Transform). n.id) e) (no_normal_fields m.fields (sym (ap (λ (n : Transform). n.fields) e)))
       where
-        from : (o : Option Identifier) (fs : Fields) → ◌≡◌ {A = Option Identifier} None (option_map normal_identifier o) → fs ≡ [] → transform_pieces (record { id = o; fields = fs }) ≡ []
+        from : (o : Option SpelledIdentifier) (fs : Fields) → ◌≡◌ {A = Option Identifier} None (option_map normal_identifier o) → fs ≡ [] → transform_pieces {s = Spelled} (record { id = o; fields = fs }) ≡ []
         from None fs n k = ap fields_pieces k
         from (Some i) fs n k = absurd (cc)
 
 -- the extensions that such blocks spell
-abbrev keyword_extensions : Option WrittenKeyword → Extensions
-keyword_extensions k = just_unicode (record { attributes = []; keywords = option_to_list (option_map (λ (k : WrittenKeyword). (k.key, k.values)) k) })
+abbrev keyword_extensions : Option WrittenKeyword → SpelledExtensions
+keyword_extensions k = record {
+  unicode = record { attributes = []; keywords = option_to_list (option_map (λ (k : WrittenKeyword). (k.key, k.values)) k) };
+  transform = record { id = None; fields = [] };
+  private = [];
+  others = [];
+}
 
 pub u_letter : (c : ℕ) → to_ascii_lowercase c ≡ 117 → is_ascii_alphanumeric c ≡ true
 u_letter c h = grind (arith, nat_tests)

@@ -2,7 +2,7 @@
 use Rattle.std.proofs.Common.{◌≡◌, ◌≢◌, ℕ, ◌≤◌, Bool, false, ◌==◌, List, [], ◌∷◌, ◌++◌, length, map, flat_map, refl, sym, ap, ◌∙◌, subst, arith, Option, Some, None, IfSome, option_map, true≢false, append-nil}
 use Rattle.std.specs.List.{AllByRecursion}
 use Rattle.std.proofs.lemmas.Bool.{ne_eqb, both_ways}
-use Rattle.iloc_spec_grammar.specs.Syntax.{pieces, UnicodeKey, Attribute, IsWord, Identifier, HasWords, head, tail_blocks, blocks, lower_singleton}
+use Rattle.iloc_spec_grammar.specs.Syntax.{pieces, UnicodeKey, Attribute, IsWord, SpelledIdentifier, HasWords, head, tail_blocks, blocks, lower_singleton}
 use Rattle.iloc_spec_grammar.specs.Tree.{Extension, unicode, Written, IsWritten, spelling, block_pieces, extension_block}
 use Rattle.iloc_spec_grammar.specs.Meaning.{normal_values}
 use Rattle.iloc_spec_grammar.proofs.FaultLaws.{head-and-blocks}
@@ -20,13 +20,13 @@ keyword_extension None = []
 keyword_extension (Some k) = (k.byte, unicode (record { attributes = []; keywords = (k.key, k.values) ∷ [] })) ∷ []
 
 -- what is written: the identifier, and perhaps a block of `u`
-abbrev pub small_written : Identifier → Option WrittenKeyword → Written
+abbrev pub small_written : SpelledIdentifier → Option WrittenKeyword → Written
 small_written i k = record { id = i; extensions = keyword_extension k; private = None }
 
 -- The text is an identifier with at most one variant, and perhaps one keyword with at most one value
 -- besides `true`.
 pub record IsTreeSmall (T : ℕ → Bool) (t : List ℕ) (r : SmallLocale) : Type 0 where
-  pub id : Identifier
+  pub id : SpelledIdentifier
   pub keyword : Option WrittenKeyword
   pub grammatical : IsWritten T (small_written id keyword)
   pub spelled : pieces t ≡ spelling (small_written id keyword)
@@ -53,7 +53,7 @@ long_blocks : (k : Option WrittenKeyword) → IfSome k IsSmallKeyword → AllByR
 long_blocks None g = tt
 long_blocks (Some k) g = ((rw g.u refl, (long_key k.key g.key, all_weaker (IsWord Attribute) IsLong long_attribute k.values g.values)), tt)
 
-small_blocks : {T : ℕ → Bool} (i : Identifier) → HasWords T i → (k : Option WrittenKeyword) → IfSome k IsSmallKeyword → tail_blocks (spelling (small_written i k)) ≡ keyword_blocks k
+small_blocks : {T : ℕ → Bool} (i : SpelledIdentifier) → HasWords T i → (k : Option WrittenKeyword) → IfSome k IsSmallKeyword → tail_blocks (spelling (small_written i k)) ≡ keyword_blocks k
 small_blocks i w k g =
     past_long (after_language i) _ (long_after_language i w)
     ∙ ap (λ bs. blocks (flat_map block_pieces (bs ++ []))) (extension_is k)
@@ -62,7 +62,7 @@ small_blocks i w k g =
 
 -- both ways
 
-small_rules : {T : ℕ → Bool} (i : Identifier) (k : Option WrittenKeyword) → IsWritten T (small_written i k) → IfSome k (λ k. length (normal_values k.values) ≤ 1) → IfSome k IsSmallKeyword
+small_rules : {T : ℕ → Bool} (i : SpelledIdentifier) (k : Option WrittenKeyword) → IsWritten T (small_written i k) → IfSome k (λ k. length (normal_values k.values) ≤ 1) → IfSome k IsSmallKeyword
 small_rules i None h o = tt
 small_rules i (Some k) h o = let word = h.extensions.0.1.keywords.0 in record { u = h.extensions.0.0; key = word.0; values = word.1; one_value = o }
 

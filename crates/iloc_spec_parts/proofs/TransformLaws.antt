@@ -4,7 +4,7 @@ use Rattle.std.specs.List.{AllByRecursion, list_all}
 use Rattle.std.proofs.lemmas.Bool.{cond_both, false_from_ne_true, eqb-true}
 use Rattle.std.proofs.lemmas.List.{map-append, take-append-le, take-append-drop}
 use Rattle.std.proofs.Math.Seq.{take-append_seam, drop-append_seam}
-use Rattle.iloc_spec_grammar.specs.Syntax.{Language, Script, Region, Variant, TransformKey, Attribute, is_word, IsWord, AreLengths, lower, word_cmp, Identifier, Fields, Transform, identifier_pieces, optional_pieces, fields_pieces, HasWords, IsIdentifier, IsField, AllDifferent, first_piece, front}
+use Rattle.iloc_spec_grammar.specs.Syntax.{Language, Script, Region, Variant, TransformKey, Attribute, is_word, IsWord, AreLengths, lower, word_cmp, Spelled, SpelledIdentifier, Transform, Fields, identifier_pieces, optional_pieces, fields_pieces, HasWords, IsIdentifier, IsField, AllDifferent, first_piece, front}
 use Rattle.iloc_spec_grammar.specs.Tree.{transform, IsTransformBlock}
 use Rattle.iloc_spec_grammar.specs.Meaning.{normal_transform, Fault, InvalidSubtag, RepeatsVariant}
 use Rattle.iloc_spec_grammar.specs.ByBlocks.{TransformMeans}
@@ -47,15 +47,15 @@ not_longer P (x ∷ xs) (y ∷ ys) a b e h n = let tails : xs ++ a ≡ ys ++ b =
 
 -- the longest front of an identifier is one
 
-pub front_language : {T : ℕ → Bool} (ps : List (List ℕ)) (i : Identifier) (rest : List (List ℕ)) → HasWords T i → ps ≡ identifier_pieces i ++ rest → IsWord (Language T) (first_piece ps)
+pub front_language : {T : ℕ → Bool} (ps : List (List ℕ)) (i : SpelledIdentifier) (rest : List (List ℕ)) → HasWords T i → ps ≡ identifier_pieces i ++ rest → IsWord (Language T) (first_piece ps)
 front_language {T = T} ps i rest h e = ap (λ (l : List (List ℕ)). is_word (Language T) (first_piece l)) e ∙ h.language
 
-pub one_longest : {T : ℕ → Bool} (ps : List (List ℕ)) (i j : Identifier) (rest more : List (List ℕ)) → IdentifierFront T ps i rest → IdentifierFront T ps j more → (i ≡ j) × (rest ≡ more)
+pub one_longest : {T : ℕ → Bool} (ps : List (List ℕ)) (i j : SpelledIdentifier) (rest more : List (List ℕ)) → IdentifierFront T ps i rest → IdentifierFront T ps j more → (i ≡ j) × (rest ≡ more)
 one_longest ps i j rest more a b =
     let fronts = same_fronts (identifier_pieces i) (identifier_pieces j) rest more (sym a.spelled ∙ b.spelled) (le_antisymm (b.longest i rest a.words a.spelled) (a.longest j more b.words b.spelled)) in
     (one_identifier i j a.words b.words fronts.0, fronts.1)
 
-pub one_front : {T : ℕ → Bool} (ps : List (List ℕ)) {o q : Option Identifier} {rest more : List (List ℕ)} → FrontRead T ps o rest → FrontRead T ps q more → (o ≡ q) × (rest ≡ more)
+pub one_front : {T : ℕ → Bool} (ps : List (List ℕ)) {o q : Option SpelledIdentifier} {rest more : List (List ℕ)} → FrontRead T ps o rest → FrontRead T ps q more → (o ≡ q) × (rest ≡ more)
 one_front ps (absent e) (absent k) = (refl, refl)
 one_front ps (absent e) (present g b) = absurd (true≢false (sym (front_language ps _ _ b.words b.spelled) ∙ e))
 one_front ps (present h a) (absent k) = absurd (true≢false (sym (front_language ps _ _ a.words a.spelled) ∙ k))
@@ -71,7 +71,7 @@ left_longest l None (Some r) [] more hs hr hv = rw (region_no_script r hr, hr) (
 left_longest l (Some s) (Some r) [] more hs hr hv = rw (hs, hr) (omega arith)
 left_longest l s r (v ∷ vs) more hs hr hv =
     let read : cut_identifier (identifier_of ((l ∷ (option_to_list s ++ (option_to_list r ++ (v ∷ vs)))) ++ more)) ≡ record { language = l; script = s; region = r; variants = (v ∷ vs) ++ front_variants more } = ap cut_identifier (read_longer l s r v vs more hs hr hv.0) ∙ ap (λ ws. record { language = l; script = s; region = r; variants = ws }) (front_longest (v ∷ vs) more hv) in
-    let pieces : identifier_pieces (record { language = l; script = s; region = r; variants = (v ∷ vs) ++ front_variants more }) ≡ (l ∷ (option_to_list s ++ (option_to_list r ++ (v ∷ vs)))) ++ front_variants more = sym (ap (λ ws. l ∷ ws) (append_assoc (option_to_list s) (option_to_list r ++ (v ∷ vs)) (front_variants more) ∙ ap (λ ws. option_to_list s ++ ws) (append_assoc (option_to_list r) (v ∷ vs) (front_variants more)))) in
+    let pieces : identifier_pieces {s = Spelled} (record { language = l; script = s; region = r; variants = (v ∷ vs) ++ front_variants more }) ≡ (l ∷ (option_to_list s ++ (option_to_list r ++ (v ∷ vs)))) ++ front_variants more = sym (ap (λ ws. l ∷ ws) (append_assoc (option_to_list s) (option_to_list r ++ (v ∷ vs)) (front_variants more) ∙ ap (λ ws. option_to_list s ++ ws) (append_assoc (option_to_list r) (v ∷ vs) (front_variants more)))) in
     let total : length (identifier_pieces (cut_identifier (identifier_of ((l ∷ (option_to_list s ++ (option_to_list r ++ (v ∷ vs)))) ++ more)))) ≡ length ((l ∷ (option_to_list s ++ (option_to_list r ++ (v ∷ vs)))) ++ front_variants more) = ap (λ i. length (identifier_pieces i)) read ∙ ap length pieces in
     subst (λ (n : ℕ). length (l ∷ (option_to_list s ++ (option_to_list r ++ (v ∷ vs)))) ≤ n) (sym (total ∙ length-append (l ∷ (option_to_list s ++ (option_to_list r ++ (v ∷ vs)))) (front_variants more))) (omega arith)
 
@@ -82,13 +82,13 @@ left_front T p ps h = record {
   longest = λ j more w e. subst (λ (l : List (List ℕ)). length (identifier_pieces j) ≤ length (identifier_pieces (cut_identifier (identifier_of l)))) (sym e) (left_longest j.language j.script j.region j.variants more w.script w.region w.variants);
 }
 
-no_repeats : {T : ℕ → Bool} (ps : List (List ℕ)) (j : Identifier) (rest : List (List ℕ)) → IsIdentifier T j → IdentifierFront T ps j rest → RepeatsVariant T ps → ⊥
+no_repeats : {T : ℕ → Bool} (ps : List (List ℕ)) (j : SpelledIdentifier) (rest : List (List ℕ)) → IsIdentifier T j → IdentifierFront T ps j rest → RepeatsVariant T ps → ⊥
 no_repeats [] j rest h f r = let e = r.3 in absurd (cc)
 no_repeats {T = T} (p ∷ ps) j rest h f r =
     let left = left_front T p ps (front_language (p ∷ ps) j rest f.words f.spelled) in
     let same = one_longest (p ∷ ps) j _ rest _ f left in
     let e : (identifier_of (p ∷ ps)).variants ≡ r.0.variants ++ r.1 = ap (λ l. (identifier_of l).variants) r.3 ∙ repeats_longer r.0 r.1 r.2 r.4 in
-    let vs : j.variants ≡ r.0.variants ++ front_variants r.1 = ap (λ (i : Identifier). i.variants) same.0 ∙ ap front_variants e ∙ front_longest r.0.variants r.1 r.2.variants in
+    let vs : j.variants ≡ r.0.variants ++ front_variants r.1 = ap (λ (i : SpelledIdentifier). i.variants) same.0 ∙ ap front_variants e ∙ front_longest r.0.variants r.1 r.2.variants in
     let all : AllDifferent word_cmp (map lower (r.0.variants ++ front_variants r.1)) = subst (λ l. AllDifferent word_cmp (map lower l)) vs h.different in
     r.4 (some_repeat word_cmp (map lower r.0.variants) (map lower (front_variants r.1)) (subst (AllDifferent word_cmp) (map-append lower r.0.variants (front_variants r.1)) all))
 
@@ -100,7 +100,7 @@ is_key p = is_word TransformKey p
 fields_are : (ps : List (List ℕ)) (fs : Fields) → AllByRecursion IsField fs → fields_front ps ≡ fields_pieces fs → fields_at ps ≡ fs
 fields_are ps fs h e = ap (fields_from is_key) e ∙ fields_read is_key fs (fields_pass fs h)
 
-fields_test : (o : Option Identifier) (fs : Fields) → Tests (list_all is_field fs && (is_some o || nat_lt 0 (length fs))) (AllByRecursion IsField fs × (o ≡ None → 0 < length fs))
+fields_test : (o : Option SpelledIdentifier) (fs : Fields) → Tests (list_all is_field fs && (is_some o || nat_lt 0 (length fs))) (AllByRecursion IsField fs × (o ≡ None → 0 < length fs))
 fields_test o fs = tests_and (tests_all is_field IsField tests_field fs) (tests_needed o (length fs))
 
 -- what is read is determined
@@ -111,7 +111,7 @@ one_transform T ps v w rest more a b =
     let fields : a.written.fields ≡ b.written.fields = sym (fields_are a.middle a.written.fields a.fields a.spelled) ∙ ap fields_at fronts.1 ∙ fields_are b.middle b.written.fields b.fields b.spelled in
     (a.means ∙ (λ i. normal_transform (record { id = fronts.0 i; fields = fields i })) ∙ sym b.means, a.left ∙ ap after_fields fronts.1 ∙ sym b.left)
 
-pub read_no_repeats : {T : ℕ → Bool} (ps : List (List ℕ)) {o : Option Identifier} {rest : List (List ℕ)} → FrontRead T ps o rest → RepeatsVariant T ps → ⊥
+pub read_no_repeats : {T : ℕ → Bool} (ps : List (List ℕ)) {o : Option SpelledIdentifier} {rest : List (List ℕ)} → FrontRead T ps o rest → RepeatsVariant T ps → ⊥
 read_no_repeats ps (absent e) r = true≢false (sym (front_language ps r.0 r.1 r.2 r.3) ∙ e)
 read_no_repeats ps (present h f) r = no_repeats ps _ _ h f r
 
@@ -130,7 +130,7 @@ one_transform_fault T ps f g (unread n u) (unread m v) = refl
 abbrev pub IsTransformAnswer : (ℕ → Bool) → List (List ℕ) → Result (Transform × List (List ℕ)) Fault → Type 0
 IsTransformAnswer T ps o = MatchResult o (λ r. TransformRead T ps r.0 r.1) (TransformFault T ps)
 
-pub fields_answer : {T : ℕ → Bool} (ps : List (List ℕ)) (o : Option Identifier) (middle : List (List ℕ)) → FrontRead T ps o middle → IsTransformAnswer T ps (fields_result o middle)
+pub fields_answer : {T : ℕ → Bool} (ps : List (List ℕ)) (o : Option SpelledIdentifier) (middle : List (List ℕ)) → FrontRead T ps o middle → IsTransformAnswer T ps (fields_result o middle)
 fields_answer {T = T} ps o middle h = cond_both (list_all is_field (fields_at middle) && (is_some o || nat_lt 0 (length (fields_at middle)))) _ _ (IsTransformAnswer T ps)
     (λ w.
     let rules = (fields_test o (fields_at middle)).holds w in
@@ -159,7 +159,7 @@ transform_reader T table = reader_of (TransformRead T) (TransformFault T) (trans
 
 -- its block
 
-front_parts : {T : ℕ → Bool} (ps : List (List ℕ)) {o : Option Identifier} {rest : List (List ℕ)} → FrontRead T ps o rest → (ps ≡ optional_pieces o ++ rest) × IfSome o (IsIdentifier T)
+front_parts : {T : ℕ → Bool} (ps : List (List ℕ)) {o : Option SpelledIdentifier} {rest : List (List ℕ)} → FrontRead T ps o rest → (ps ≡ optional_pieces o ++ rest) × IfSome o (IsIdentifier T)
 front_parts ps (absent e) = (refl, tt)
 front_parts ps (present h f) = (f.spelled, h)
 
@@ -187,7 +187,7 @@ fields_end [] [] h e = tt
 fields_end [] (p ∷ ps) h e = λ x. true≢false (sym e ∙ x.1)
 fields_end (f ∷ fs) rest h e = λ x. true≢false (sym h.0.0 ∙ x.0)
 
-longest_until : {T : ℕ → Bool} (i j : Identifier) (rest more : List (List ℕ)) → HasWords T j → NoFirst IsInside rest → identifier_pieces i ++ rest ≡ identifier_pieces j ++ more → length (identifier_pieces j) ≤ length (identifier_pieces i)
+longest_until : {T : ℕ → Bool} (i j : SpelledIdentifier) (rest more : List (List ℕ)) → HasWords T j → NoFirst IsInside rest → identifier_pieces i ++ rest ≡ identifier_pieces j ++ more → length (identifier_pieces j) ≤ length (identifier_pieces i)
 longest_until i j rest more w n e =
     let tails : after_language i ++ rest ≡ after_language j ++ more = cc in
     let l = not_longer IsInside (after_language i) (after_language j) rest more tails (all_both IsNoKey IsLong (after_language j) (identifier_no_key j w).1 (long_after_language j w)) n in
@@ -222,7 +222,7 @@ transform_spelled {T = T} ps rest m h e = subst (λ (l : List (List ℕ)). Trans
     no_language [] f n = absurd (omega arith)
     no_language (f ∷ fs) k n = false_from_ne_true _ (λ l. true≢false (sym k.0.0 ∙ language_no_key T f.0 l))
 
-    front_is : (o : Option Identifier) → IfSome o (IsIdentifier T) → (o ≡ None → 0 < length fs) → FrontRead T (optional_pieces o ++ (fields_pieces fs ++ rest)) o (fields_pieces fs ++ rest)
+    front_is : (o : Option SpelledIdentifier) → IfSome o (IsIdentifier T) → (o ≡ None → 0 < length fs) → FrontRead T (optional_pieces o ++ (fields_pieces fs ++ rest)) o (fields_pieces fs ++ rest)
     front_is None i n = absent (no_language fs g.fields (n refl))
     front_is (Some i) w n = present w (record { words = w.words; spelled = refl; longest = λ j more v q. longest_until i j (fields_pieces fs ++ rest) more v (fields_end fs rest g.fields e) q })
 

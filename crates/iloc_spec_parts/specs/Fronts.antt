@@ -5,7 +5,7 @@
 use Rattle.std.specs.Prelude.{◌≡◌, ◌+◌, ◌<◌, Bool, true, false, not, ◌&&◌, ◌||◌, List, [], length, map, if◌then◌else◌, Option, Some, None, nat_lt, ◌∷◌, is_some, Result, Ok, Err}
 use Rattle.std.specs.Int.{is_in_range}
 use Rattle.std.specs.List.{AllByRecursion, list_any, list_all}
-use Rattle.iloc_spec_grammar.specs.Syntax.{Text, LanguageLengths, Language, UnicodeKey, TransformKey, Attribute, PrivateSubtag, is_word, IsWord, lower, word_cmp, Identifier, Fields, Unicode, Transform, fields_pieces, IsKeyword, IsField, IsOther, IsPrivate, IsIdentifier, kept, first_piece}
+use Rattle.iloc_spec_grammar.specs.Syntax.{Text, LanguageLengths, Language, UnicodeKey, TransformKey, Attribute, PrivateSubtag, is_word, IsWord, lower, word_cmp, SpelledIdentifier, SpelledTransform, Unicode, Transform, Fields, fields_pieces, IsKeyword, IsField, IsOther, IsPrivate, IsIdentifier, kept, first_piece}
 use Rattle.iloc_spec_grammar.specs.Meaning.{set_of, normal_fields, normal_transform, Fault, InvalidSubtag, InvalidExtension, RepeatsVariant}
 use Rattle.iloc_spec_grammar.specs.Reading.{passing, past, is_two, rest_of, IdentifierFront, front_of, after_front, fields_from}
 use Rattle.iloc_spec_grammar.specs.Computing.{all_different, is_field, is_other, is_private}
@@ -80,9 +80,9 @@ pub data UnicodeFault (ps : List Text) : Fault → Type 0 where
 
 -- an identifier and the longest front that is one, or none if no language is first
 pub data FrontRead (T : LanguageLengths)
-    (ps : List Text) : Option Identifier → List Text → Type 0 where
+    (ps : List Text) : Option SpelledIdentifier → List Text → Type 0 where
   absent : is_word (Language T) (first_piece ps) ≡ false → FrontRead T ps None ps
-  present : {i : Identifier} {rest : List Text} → IsIdentifier T i → IdentifierFront T ps i rest
+  present : {i : SpelledIdentifier} {rest : List Text} → IsIdentifier T i → IdentifierFront T ps i rest
       → FrontRead T ps (Some i) rest
 
 -- Then fields, which begin with a key and go on with keys and with 3 to 8 letters or digits.
@@ -106,7 +106,7 @@ BeginsField ps = IsWord TransformKey (first_piece ps) × IsWord Attribute (first
 -- an identifier and fields, one after the other, not both absent
 pub record TransformRead (T : LanguageLengths) (ps : List Text) (m : Transform)
     (rest : List Text) : Type 0 where
-  pub written : Transform
+  pub written : SpelledTransform
   pub middle : List Text
   pub id : FrontRead T ps written.id middle
   pub fields : AllByRecursion IsField written.fields
@@ -187,7 +187,8 @@ unfoldable pub unicode_result : List Text → Result (Unicode × List Text) Faul
 unicode_result ps = attributes_and ps (keywords_result (after_attributes ps))
 
 -- the fields after an identifier, or after none
-abbrev pub fields_result : Option Identifier → List Text → Result (Transform × List Text) Fault
+abbrev pub fields_result : Option SpelledIdentifier → List Text
+    → Result (Transform × List Text) Fault
 fields_result o ps = if list_all is_field (fields_at ps)
     && (is_some o || nat_lt 0 (length (fields_at ps)))
     then Ok (normal_transform (record { id = o; fields = fields_at ps }), after_fields ps)

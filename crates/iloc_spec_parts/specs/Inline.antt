@@ -3,8 +3,8 @@
 use Rattle.std.specs.Prelude.{◌≡◌, ℕ, ◌≤◌, if◌then◌else◌, [], length, IfSome, true, List, ◌∷◌, ◌++◌}
 use Rattle.std.specs.List.{AllByRecursion}
 use Rattle.std.specs.Char.{is_ascii_alphanumeric, to_ascii_lowercase}
-use Rattle.iloc_spec_grammar.specs.Syntax.{Text, LanguageLengths, Block, code_t, code_u, code_x, pieces, Language, IsWord, is_word, PrivateSubtag, first_piece, Identifier, identifier_pieces, IsIdentifier, IsOther, kept, is_other_singleton}
-use Rattle.iloc_spec_grammar.specs.Meaning.{Extensions, IdentifierMeans, SpellsExtensions, normal_identifier, normal_unicode, normal_values, normal_fields, head, tail_blocks, AreBlocks, IsSecond, RepeatsVariant}
+use Rattle.iloc_spec_grammar.specs.Syntax.{Text, LanguageLengths, Block, code_t, code_u, code_x, pieces, Language, IsWord, is_word, PrivateSubtag, first_piece, SpelledIdentifier, Identifier, identifier_pieces, IsIdentifier, IsOther, kept, is_other_singleton}
+use Rattle.iloc_spec_grammar.specs.Meaning.{SpelledExtensions, IdentifierMeans, SpellsExtensions, normal_identifier, normal_unicode, normal_values, normal_fields, head, tail_blocks, AreBlocks, IsSecond, RepeatsVariant}
 use Rattle.iloc_spec_grammar.specs.Reading.{passing, front_of, after_front}
 use Rattle.iloc_spec_parts.specs.Fronts.{attributes_read, after_attributes, BeginsField, other_front, keywords_kept}
 
@@ -12,7 +12,7 @@ use Rattle.iloc_spec_parts.specs.Fronts.{attributes_read, after_attributes, Begi
 -- most, and at most four values besides `true` at each key as it is written.
 pub record IsInline (T : LanguageLengths) (t : Text) : Type 0 where
   pub id : Identifier
-  pub extensions : Extensions
+  pub extensions : SpelledExtensions
   pub means : IdentifierMeans T (head (pieces t)) id
   pub spelled : SpellsExtensions T (tail_blocks (pieces t)) extensions
   pub variants : length id.variants ≤ 4
@@ -67,6 +67,6 @@ ReachesLongBlock T bs = (good rest : List Block) × (c : ℕ) × (ps : List Text
 
 -- the head has four variants at most, and each block after it is short
 pub record IsInlineByBlocks (T : LanguageLengths) (t : Text) : Type 0 where
-  pub variants : (i : Identifier) → IsIdentifier T i → head (pieces t) ≡ identifier_pieces i
+  pub variants : (i : SpelledIdentifier) → IsIdentifier T i → head (pieces t) ≡ identifier_pieces i
       → length i.variants ≤ 4
   pub blocks : AllByRecursion (IsShortBlock T) (tail_blocks (pieces t))

@@ -5,7 +5,7 @@
 use Rattle.std.specs.Prelude.{◌≡◌, ◌≢◌, ◌≤◌, true, false, List, [], ◌∷◌, length, Option, IfSome, option_map, option_to_list}
 use Rattle.std.specs.Char.{is_ascii_alphanumeric}
 use Rattle.iloc_spec_grammar.specs.Syntax.{Text, LanguageLengths, Field, Block, code_u, pieces, Language, Script, Region, Variant, UnicodeKey, Attribute, is_word, IsWord, is_true, Identifier, lower_singleton, head, tail_blocks, first_piece}
-use Rattle.iloc_spec_grammar.specs.Meaning.{Locale, Extensions, just_unicode, IdentifierMeans, SpellsExtensions, normal_extensions, Fault, InvalidLanguage, InvalidSubtag, InvalidExtension}
+use Rattle.iloc_spec_grammar.specs.Meaning.{Locale, SpelledExtensions, just_unicode, IdentifierMeans, SpellsExtensions, normal_extensions, Fault, InvalidLanguage, InvalidSubtag, InvalidExtension}
 use Rattle.iloc_spec_grammar.specs.Values.{IsNormal}
 
 -- What is read.
@@ -55,7 +55,7 @@ IsSmallIdentifier T ps r = IdentifierMeans T ps (identifier_of_small r)
 -- The text means such a locale, and one keyword at most is written.
 pub record IsSmall (T : LanguageLengths) (t : Text) (r : SmallLocale) : Type 0 where
   pub id : IsSmallIdentifier T (head (pieces t)) r.id
-  pub written : Extensions
+  pub written : SpelledExtensions
   pub spelled : SpellsExtensions T (tail_blocks (pieces t)) written
   pub one_keyword : length written.unicode.keywords ≤ 1
   pub means : (locale_of_small r).extensions ≡ normal_extensions written

@@ -2,7 +2,7 @@
 use Rattle.std.specs.Prelude.{ℕ, Bool, true, false, ◌&&◌, ◌==◌, nat_le, List, [], ◌∷◌, length, if◌then◌else◌, Option, Some, None, Result, Ok, Err, map, option_map}
 use Rattle.std.specs.Char.{is_ascii_alphanumeric, to_ascii_lowercase}
 use Rattle.std.specs.List.{list_all}
-use Rattle.iloc_spec_grammar.specs.Syntax.{Text, LanguageLengths, Block, code_u, pieces, Language, Variant, UnicodeKey, Attribute, Identifier, is_word, lower, title, upper, lower_singleton}
+use Rattle.iloc_spec_grammar.specs.Syntax.{Text, LanguageLengths, Block, code_u, pieces, Language, Variant, UnicodeKey, Attribute, SpelledIdentifier, is_word, lower, title, upper, lower_singleton}
 use Rattle.iloc_spec_grammar.specs.Tree.{Extension, unicode, Written}
 use Rattle.iloc_spec_grammar.specs.Meaning.{Locale, normal_values, Fault, InvalidLanguage, InvalidSubtag, InvalidExtension, head, tail_blocks, first_piece}
 use Rattle.iloc_spec_grammar.specs.Values.{text}
@@ -17,7 +17,7 @@ abbrev pub has_small_variants : List Text → Bool
 has_small_variants vs = list_all (is_word Variant) vs && nat_le (length vs) 1
 
 -- the normal words of an identifier with at most one variant
-abbrev pub small_identifier : Identifier → SmallIdentifier
+abbrev pub small_identifier : SpelledIdentifier → SmallIdentifier
 small_identifier i = record {
   language = lower i.language;
   script = option_map title i.script;

@@ -11,6 +11,7 @@ use Rattle.std.proofs.lemmas.Str.Ascii.{IsAscii-from_all}
 use Rattle.iloc_spec_grammar.specs.Syntax.{pieces, join, Kind, IsWord, languages, Identifier}
 use Rattle.iloc_spec_grammar.specs.Meaning as grammar
 use Rattle.iloc_spec_grammar.specs.Meaning.{Means}
+use Rattle.iloc_spec_grammar.specs.Tree.{spelled_identifier}
 use Rattle.iloc_spec_grammar.specs.Values.{IsIdentifierValue, identifier_text, text}
 use Rattle.iloc_spec_grammar.proofs.WordsLaws.{word_letters_or_digits}
 use Rattle.iloc_spec_grammar.proofs.ValuesLaws.{value_words}
@@ -49,7 +50,7 @@ utf8_join p ps h = IsUtf8-from_ascii _ (IsAscii-from_all _ (All-from_recursion (
 
 pub identifier_utf8 : (i : Identifier) → IsIdentifierValue languages i → IsUtf8 (identifier_text i)
 unfolding identifier_text
-identifier_utf8 i h = utf8_join i.language _ (identifier_each AreAscii ascii_word ascii_singleton i (value_words h))
+identifier_utf8 i h = utf8_join i.language _ (identifier_each AreAscii ascii_word ascii_singleton (spelled_identifier i) (value_words h))
 
 locale_utf8 : (t : List ℕ) (M : grammar.Locale) → Means languages t M → IsUtf8 (text M)
 locale_utf8 t M m =

@@ -3,7 +3,7 @@ use Rattle.std.proofs.Common.{◌≡◌, ℕ, ◌+◌, ◌-◌, true, false, Lis
 use Rattle.std.specs.Prelude.{option_to_list}
 use Rattle.std.specs.Char.{is_ascii_alphanumeric}
 use Rattle.std.proofs.lemmas.Bool.{cases_Bool, cases_lt}
-use Rattle.iloc_spec_grammar.specs.Syntax.{pieces, Identifier, identifier_pieces, Variant, is_one_byte, is_word, first_piece}
+use Rattle.iloc_spec_grammar.specs.Syntax.{pieces, SpelledIdentifier, identifier_pieces, Variant, is_one_byte, is_word, first_piece}
 use Rattle.iloc_spec_grammar.specs.Reading.{after_front, after_region, front_of, passing, starts_block}
 use Rattle.iloc_spec_grammar.proofs.PiecesLaws.{at_pieces}
 use Rattle.iloc_spec_grammar.proofs.ReadingLaws.{after_front-append, after_front-pieces, all_while, front_of-append, front_of-pieces, starts_ends}
@@ -87,7 +87,7 @@ module _ (t : List ℕ) (b : Block) (f : IsFound t b) (u : is_u (get_or b.window
 -- ---- after a plain identifier
 
 -- pieces from a block on, after an identifier without variants
-after_plain : (i : Identifier) (rest : List (List ℕ)) → i.variants ≡ [] → (front_of (identifier_pieces i) ≡ i) → (after_front (identifier_pieces i) ≡ []) → starts_block rest ≡ true
+after_plain : (i : SpelledIdentifier) (rest : List (List ℕ)) → i.variants ≡ [] → (front_of (identifier_pieces i) ≡ i) → (after_front (identifier_pieces i) ≡ []) → starts_block rest ≡ true
     → (after_front (identifier_pieces i ++ rest) ≡ rest) × (after_region (identifier_pieces i ++ rest) ≡ rest)
 unfolding after_front front_of
 after_plain i rest none same nothing s =
@@ -95,7 +95,7 @@ after_plain i rest none same nothing s =
     let left : after_front (identifier_pieces i ++ rest) ≡ rest =
     after_front-append i.language later rest (starts_ends rest s) ∙ ap (λ l. l ++ rest) nothing in
     let variants : passing (is_word Variant) (after_region (identifier_pieces i ++ rest)) ≡ [] =
-    ap (λ (j : Identifier). j.variants) (front_of-append i.language later rest (starts_ends rest s) ∙ same) ∙ none in (
+    ap (λ (j : SpelledIdentifier). j.variants) (front_of-append i.language later rest (starts_ends rest s) ∙ same) ∙ none in (
       left,
       sym (all_while (is_word Variant) (after_region (identifier_pieces i ++ rest))) ∙ (λ j. variants j ++ left j),
     )
@@ -115,7 +115,7 @@ plain_before t b p f plain = (
   },
 )
   where
-    i : Identifier
+    i : SpelledIdentifier
     i = plain.means.written
 
     rest : List (List ℕ)

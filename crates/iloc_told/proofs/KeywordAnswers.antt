@@ -5,7 +5,7 @@ use Rattle.std.specs.Char.{is_ascii_alphanumeric, to_ascii_lowercase}
 use Rattle.std.specs.List.{AllByRecursion, list_all}
 use Rattle.std.proofs.lemmas.Bool.{cases_Bool, cases_lt, true≢false, false_from_ne_true}
 use Rattle.std.proofs.lemmas.Bool.Decides.{nat_tests}
-use Rattle.iloc_spec_grammar.specs.Syntax.{pieces, Kind, Language, Script, Region, Variant, Identifier, identifier_pieces, HasWords, UnicodeKey, Attribute, is_word, IsWord, is_same, languages, lower, is_one_byte, front, blocks, head, tail_blocks, first_piece}
+use Rattle.iloc_spec_grammar.specs.Syntax.{pieces, Kind, Language, Script, Region, Variant, SpelledIdentifier, identifier_pieces, HasWords, UnicodeKey, Attribute, is_word, IsWord, is_same, languages, lower, is_one_byte, front, blocks, head, tail_blocks, first_piece}
 use Rattle.iloc_spec_grammar.specs.Tree.{block_pieces}
 use Rattle.iloc_spec_grammar.specs.Meaning.{normal_values, Fault}
 use Rattle.iloc_spec_grammar.specs.Reading.{first_item, passing, past, skip_first, rest_of, identifier_of, after_region, after_front}
@@ -381,9 +381,9 @@ only_variants (q ∷ qs) e = elim (cases_Bool (is_word Variant q)) [
     none : ¬ (q ∷ qs ≡ [])
     none e = cc
 
-variants_of : (i : Identifier) → HasWords languages i → after_region (identifier_pieces i) ≡ i.variants
+variants_of : (i : SpelledIdentifier) → HasWords languages i → after_region (identifier_pieces i) ≡ i.variants
 unfolding identifier_of
-variants_of i h = ap (λ (j : Identifier). j.variants) (identifier_of-pieces i h)
+variants_of i h = ap (λ (j : SpelledIdentifier). j.variants) (identifier_of-pieces i h)
 
 many_in_head : (t : List ℕ) → past (is_word Variant) (after_region (pieces t)) ≡ [] → 2 ≤ length (after_region (pieces t)) → (r : SmallIdentifier) → ¬ (IsSmallIdentifier languages (head (pieces t)) r)
 many_in_head t = at_pieces (λ qs. past (is_word Variant) (after_region qs) ≡ [] → 2 ≤ length (after_region qs) → (r : SmallIdentifier) → ¬ (IsSmallIdentifier languages (head qs) r)) by t

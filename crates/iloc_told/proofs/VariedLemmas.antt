@@ -1,6 +1,6 @@
 -- A plain identifier, and a variant after it.
 use Rattle.std.proofs.Common.{◌≡◌, ℕ, Bool, List, [], ◌∷◌, ◌++◌, Option, Some, None, option_to_list, refl, sym, ap, ◌∙◌, append-nil, true≢false}
-use Rattle.iloc_spec_grammar.specs.Syntax.{pieces, join, Variant, IsWord, lower, languages, Identifier, identifier_pieces}
+use Rattle.iloc_spec_grammar.specs.Syntax.{pieces, join, Variant, IsWord, lower, languages, Stage, IdentifierOf, Identifier, identifier_pieces}
 use Rattle.iloc_spec_grammar.specs.Meaning.{IdentifierMeans}
 use Rattle.iloc_spec_grammar.specs.Values.{identifier_text}
 use Rattle.iloc_spec_grammar.proofs.PartTexts.{join-append}
@@ -17,7 +17,7 @@ unfolding join
 one_piece v word = pieces-join v [] (word_hyphen_free Variant v word, tt)
 
 -- the identifier with other variants
-abbrev pub with_variants : Identifier → List (List ℕ) → Identifier
+abbrev pub with_variants : {s : Stage} → IdentifierOf s → List (List ℕ) → IdentifierOf s
 with_variants i vs = record { language = i.language; script = i.script; region = i.region; variants = vs }
 
 more_variants : (l : List ℕ) (s r : Option (List ℕ)) (vs ws : List (List ℕ)) → vs ≡ [] → l ∷ (option_to_list s ++ (option_to_list r ++ ws)) ≡ (l ∷ (option_to_list s ++ (option_to_list r ++ vs))) ++ ws

@@ -1,7 +1,7 @@
 -- A transform of few words takes no memory.
 use Rattle.std.proofs.Common.{◌≡◌, ℕ, ◌<◌, ◌≤◌, List, [], ◌∷◌, ◌++◌, length, map, refl, sym, ap, ◌∙◌, subst, arith, Option, IfSome, option_map, true≢false}
 use Rattle.std.proofs.lemmas.List.{length-map}
-use Rattle.iloc_spec_grammar.specs.Syntax.{Language, IsWord, lower, languages, Identifier, identifier_pieces, fields_pieces}
+use Rattle.iloc_spec_grammar.specs.Syntax.{Language, IsWord, lower, languages, SpelledIdentifier, Identifier, identifier_pieces, fields_pieces}
 use Rattle.iloc_spec_grammar.specs.Syntax as written
 use Rattle.iloc_spec_grammar.specs.Meaning.{normal_identifier, front, first_piece}
 use Rattle.iloc_spec_grammar.specs.Reading.{IdentifierFront, from_block}
@@ -27,22 +27,22 @@ same_fronts (x ∷ xs) (y ∷ ys) a b e l =
     (λ i. heads i ∷ rest i)
 
 -- one identifier is the longest at the front
-one_longest : (ps : List (List ℕ)) (i j : Identifier) (rest more : List (List ℕ)) → IdentifierFront languages ps i rest → IdentifierFront languages ps j more → i ≡ j
+one_longest : (ps : List (List ℕ)) (i j : SpelledIdentifier) (rest more : List (List ℕ)) → IdentifierFront languages ps i rest → IdentifierFront languages ps j more → i ≡ j
 one_longest ps i j rest more a b =
     let m : length (identifier_pieces j) ≤ length (identifier_pieces i) = a.longest j more b.words b.spelled in
     let n : length (identifier_pieces i) ≤ length (identifier_pieces j) = b.longest i rest a.words a.spelled in
     one_identifier i j a.words b.words (same_fronts (identifier_pieces i) (identifier_pieces j) rest more (sym a.spelled ∙ b.spelled) (omega (arith, m, n)))
 
-begins_language : (ps : List (List ℕ)) (i : Identifier) (rest : List (List ℕ)) → IdentifierFront languages ps i rest → IsWord (Language languages) (first_piece ps)
+begins_language : (ps : List (List ℕ)) (i : SpelledIdentifier) (rest : List (List ℕ)) → IdentifierFront languages ps i rest → IsWord (Language languages) (first_piece ps)
 begins_language ps i rest f = subst (λ (l : List (List ℕ)). IsWord (Language languages) (first_piece l)) (sym f.spelled) f.words.language
 
-few_variants : (ps : List (List ℕ)) (o : Option Identifier) (middle : List (List ℕ)) → FrontRead languages ps o middle → IfSome (option_map normal_identifier o) (λ i. length i.variants ≤ 4) → HasFiveVariants ps → ⊥
+few_variants : (ps : List (List ℕ)) (o : Option SpelledIdentifier) (middle : List (List ℕ)) → FrontRead languages ps o middle → IfSome (option_map normal_identifier o) (λ i. length i.variants ≤ 4) → HasFiveVariants ps → ⊥
 few_variants ps _ _ (absent e) few h = true≢false (sym (begins_language ps h.written h.rest h.front) ∙ e)
 few_variants ps _ _ (present {i = i} {rest = rest} w f) few h =
     let same : h.written ≡ i = one_longest ps h.written i h.rest rest h.front f in
     let kept : length (normal_identifier i).variants ≡ length (map lower i.variants) = length-set_of-different (map lower i.variants) w.different in
     let all : length (map lower i.variants) ≡ length i.variants = length-map i.variants lower in
-    let those : length h.written.variants ≡ length i.variants = ap (λ (j : Identifier). length j.variants) same in
+    let those : length h.written.variants ≡ length i.variants = ap (λ (j : SpelledIdentifier). length j.variants) same in
     let many : 4 < length h.written.variants = h.many in
     absurd (omega (arith, kept, all, those, many, few))
 

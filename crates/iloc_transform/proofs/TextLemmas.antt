@@ -1,7 +1,7 @@
 -- The pieces that a transform writes.
 use Rattle.std.proofs.Common.{◌≡◌, ℕ, Bool, true, false, not, cond, ◌&&◌, ◌||◌, ◌==◌, List, [], ◌∷◌, ◌++◌, length, nat_lt, refl, sym, ap, ◌∙◌, arith, Option, Some, None, option_map, is_some}
 use Rattle.std.proofs.lemmas.Bool.Decides.{nat_tests}
-use Rattle.iloc_spec_grammar.specs.Syntax.{Fields, Transform, fields_pieces, optional_pieces, transform_pieces}
+use Rattle.iloc_spec_grammar.specs.Syntax.{Fields, Spelled, Transform, fields_pieces, optional_pieces, transform_pieces}
 use Rattle.iloc_spec_grammar.specs.Values.{lower_identifier, spelled_fields, transform_spelling}
 use Rattle.iloc_spec_grammar.proofs.PartTexts.{transform_spelling_is}
 use Rattle.iloc_langid.specs.Reads.{value_of}
@@ -23,7 +23,7 @@ module _ (o : Option LanguageIdentifier) (fs : Fields) where
 
   -- the pieces of the identifier in lower case, and those of the fields
   abbrev lowered : List (List ℕ)
-  lowered = transform_pieces (record { id = option_map lower_identifier (option_map value_of o); fields = spelled_fields fs })
+  lowered = transform_pieces {s = Spelled} (record { id = option_map lower_identifier (option_map value_of o); fields = spelled_fields fs })
 
   -- whether there is neither
   abbrev empty : Bool

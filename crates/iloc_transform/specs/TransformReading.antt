@@ -18,7 +18,7 @@ value_of m = record { id = option_map langid.value_of m.lang; fields = m.fields 
 -- memory may run out for a fifth variant, and for a field
 pub data TransformWantsMemory (ps : List Text) : Type 0 where
   variants : HasFiveVariants ps → TransformWantsMemory ps
-  fields : {id : Option written.Identifier} {middle : List Text} → FrontRead languages ps id middle
+  fields : {id : Option written.SpelledIdentifier} {middle : List Text} → FrontRead languages ps id middle
       → BeginsField middle → TransformWantsMemory ps
 
 -- what the pieces after `t` are read as, and the pieces that are left
