@@ -62,7 +62,7 @@ head_few t i h =
 
 pub inline_wants_none : (t : List ℕ) → IsInline languages t → LocaleWantsMemory t → ⊥
 inline_wants_none t i (inl x) = head_few t i x.1
-inline_wants_none t i (inr x) = none_long x.1 (inline_by_blocks languages languages_table t i).blocks
+inline_wants_none t i (inr x) = none_long x.1 (inline_by_blocks languages languages_table t i).short_blocks
 
 -- and it is wanted only after a language
 pub wants_language : (t : List ℕ) → LocaleWantsMemory t → IsWord (Language languages) (first_piece (pieces t))

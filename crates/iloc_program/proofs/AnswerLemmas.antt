@@ -52,7 +52,7 @@ none_mean : BlocksMean languages [] no_extensions
 none_mean = (
   no_extensions,
   record {
-    blocks = tt;
+    each_block = tt;
     different = tt;
     unicode = (record { attributes = tt; keywords = tt }, refl);
     transform = (record { id = tt; fields = tt }, refl);

@@ -95,7 +95,7 @@ blocks_give T w h =
 pub tree_by_blocks : (T : ℕ → Bool) → AreLengths T → (t : List ℕ) (M : Locale) → TreeMeans T t M → MeansByBlocks T t M
 tree_by_blocks T table t M m = subst (MeansByBlocks T t) (sym m.means) (record {
   id = record { written = m.written.id; grammatical = m.grammatical.id; spelled = ap head m.spelled ∙ head-spelling m.written m.grammatical; means = refl };
-  blocks = subst (λ bs. BlocksGive (grammar_rules T) bs (extensions_meaning m.written)) (sym (ap tail_blocks m.spelled ∙ blocks-spelling table m.written m.grammatical)) (blocks_give T m.written m.grammatical);
+  extensions = subst (λ bs. BlocksGive (grammar_rules T) bs (extensions_meaning m.written)) (sym (ap tail_blocks m.spelled ∙ blocks-spelling table m.written m.grammatical)) (blocks_give T m.written m.grammatical);
 })
 
 -- and back: each block follows its rule
@@ -180,7 +180,7 @@ one_extensions T bs d e a b = λ i. record {
 pub one_by_blocks : (T : ℕ → Bool) (t : List ℕ) (L M : Locale) → MeansByBlocks T t L → MeansByBlocks T t M → L ≡ M
 one_by_blocks T t L M a b = λ i. record {
   id = one_meaning (head (pieces t)) L.id M.id a.id b.id i;
-  extensions = one_extensions T (tail_blocks (pieces t)) L.extensions M.extensions a.blocks b.blocks i;
+  extensions = one_extensions T (tail_blocks (pieces t)) L.extensions M.extensions a.extensions b.extensions i;
 }
 
 -- good blocks after an identifier give what is read of them
@@ -188,11 +188,11 @@ pub read_by_blocks : (T : ℕ → Bool) (t : List ℕ) → SpellsIdentifier T (h
 read_by_blocks T t s g =
     let w = written_of (pieces t) in let h = good_written T t s g in record {
       id = record { written = w.id; grammatical = h.id; spelled = ap head (pieces-written_of t) ∙ head-spelling w h; means = refl };
-      blocks = subst (λ bs. BlocksGive (grammar_rules T) bs (extensions_meaning w)) (blocks_read (pieces t)) (blocks_give T w h);
+      extensions = subst (λ bs. BlocksGive (grammar_rules T) bs (extensions_meaning w)) (blocks_read (pieces t)) (blocks_give T w h);
     }
 
 pub blocks_tree : (T : ℕ → Bool) (t : List ℕ) (M : Locale) → MeansByBlocks T t M → TreeMeans T t M
 blocks_tree T t M m =
     let s : SpellsIdentifier T (head (pieces t)) = (m.id.written, m.id.grammatical, m.id.spelled) in
-    let g = blocks_good T (tail_blocks (pieces t)) M.extensions m.blocks in
+    let g = blocks_good T (tail_blocks (pieces t)) M.extensions m.extensions in
     subst (TreeMeans T t) (one_by_blocks T t _ M (read_by_blocks T t s g) m) (good_means T t s g)

@@ -98,7 +98,7 @@ kept_one p ps = at_rest (no_trues (p ∷ ps)) refl (none_true (p ∷ ps))
     at_rest : (qs : List (List ℕ)) → no_trues (p ∷ ps) ≡ qs → AllByRecursion (λ q. is_true (lower q) ≡ false) qs → Kept (p ∷ ps) (or_first qs (p ∷ ps))
     at_rest (q ∷ qs) e n = record { less = subst (TreeWithout (λ p. is_true (lower p)) (p ∷ ps)) e (without-filter (λ p. is_true (lower p)) (p ∷ ps)); positive = omega arith; value = ap spelled_value (no_true_means (q ∷ qs) n) }
     at_rest [] e n = (elim (is_true (lower p)) as (λ b. is_true (lower p) ≡ b → cond (not b) (p ∷ no_trues ps) (no_trues ps) ≡ [] → Kept (p ∷ ps) (p ∷ [])) [
-      | true ↦ λ t e. record { less = TreeWithout.kept (subst (TreeWithout (λ p. is_true (lower p)) ps) e (without-filter (λ p. is_true (lower p)) ps)); positive = omega arith; value = ap (λ b. spelled_value (cond (not b) (lower p ∷ []) [])) t ∙ ap (λ w. w ∷ []) (true_word (lower p) t) }
+      | true ↦ λ t e. record { less = TreeWithout.stays (subst (TreeWithout (λ p. is_true (lower p)) ps) e (without-filter (λ p. is_true (lower p)) ps)); positive = omega arith; value = ap (λ b. spelled_value (cond (not b) (lower p ∷ []) [])) t ∙ ap (λ w. w ∷ []) (true_word (lower p) t) }
       | false ↦ λ t e. cc
     ]) refl e
 
@@ -119,7 +119,7 @@ trues_step T c (other ps) h = ExtensionStep.same
 
 without_others : (keep : List ℕ → Bool) (ps : List (List ℕ)) → TreeWithout (λ p. not (keep p)) ps (filter keep ps)
 without_others keep [] = TreeWithout.none
-without_others keep (p ∷ ps) = cond_both (keep p) _ _ (TreeWithout (λ p. not (keep p)) (p ∷ ps)) (λ _. TreeWithout.kept (without_others keep ps)) (λ e. TreeWithout.left_out (ap not e) (without_others keep ps))
+without_others keep (p ∷ ps) = cond_both (keep p) _ _ (TreeWithout (λ p. not (keep p)) (p ∷ ps)) (λ _. TreeWithout.stays (without_others keep ps)) (λ e. TreeWithout.left_out (ap not e) (without_others keep ps))
 
 pub dropped_step : (e : Extension) → ExtensionStep DroppedPieces e (without_dropped e)
 dropped_step (other ps) = ExtensionStep.dropped_pieces (without_others (is_word Subtag) ps)

@@ -77,7 +77,7 @@ one_true_of_tree = TreeTextStep.rewritten
       private = tt;
     })
     refl
-    (Step.inside Trues TreeIdentifierStep.same ((refl, ExtensionStep.transform_trues (((refl, TreeWithout.kept (TreeWithout.left_out refl TreeWithout.none)), omega arith), tt)), tt))
+    (Step.inside Trues TreeIdentifierStep.same ((refl, ExtensionStep.transform_trues (((refl, TreeWithout.stays (TreeWithout.left_out refl TreeWithout.none)), omega arith), tt)), tt))
 
 pub one_true_stays : TextStep languages (codes "und-t-m0-true-true") (codes "und-t-m0-true")
 one_true_stays = step_by_tree languages_table _ _ one_true_of_tree

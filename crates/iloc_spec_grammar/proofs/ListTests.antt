@@ -68,11 +68,11 @@ module _ {X : Type 0} (same : X → X → Bool) (q : Equality same) where
 
   module _ (test : X → Bool) where
     without_next : {x y : X} {xs ys : List X} → (x ≡ y) × TreeWithout test xs ys ⊎ (test x ≡ true) × TreeWithout test xs (y ∷ ys) → TreeWithout test (x ∷ xs) (y ∷ ys)
-    without_next {x = x} {xs = xs} {ys = ys} (inl p) = subst (λ z. TreeWithout test (x ∷ xs) (z ∷ ys)) p.0 (TreeWithout.kept p.1)
+    without_next {x = x} {xs = xs} {ys = ys} (inl p) = subst (λ z. TreeWithout test (x ∷ xs) (z ∷ ys)) p.0 (TreeWithout.stays p.1)
     without_next (inr p) = TreeWithout.left_out p.0 p.1
 
     next_without : {x y : X} {xs ys : List X} → TreeWithout test (x ∷ xs) (y ∷ ys) → (x ≡ y) × TreeWithout test xs ys ⊎ (test x ≡ true) × TreeWithout test xs (y ∷ ys)
-    next_without (TreeWithout.kept w) = inl (refl, w)
+    next_without (TreeWithout.stays w) = inl (refl, w)
     next_without (TreeWithout.left_out e w) = inr (e, w)
 
     last_without : {x : X} {xs : List X} → TreeWithout test (x ∷ xs) [] → (test x ≡ true) × TreeWithout test xs []
@@ -91,11 +91,11 @@ module _ {X : Type 0} (same : X → X → Bool) (q : Equality same) where
     Next seen x xs y ys = (x ≡ y) × WithoutRepeats key (lower (key x) ∷ seen) xs ys ⊎ (was_seen key seen x ≡ true) × WithoutRepeats key seen xs (y ∷ ys)
 
     repeats_next : {seen : List (List ℕ)} {x y : X} {xs ys : List X} → Next seen x xs y ys → WithoutRepeats key seen (x ∷ xs) (y ∷ ys)
-    repeats_next {seen = seen} {x = x} {xs = xs} {ys = ys} (inl p) = subst (λ z. WithoutRepeats key seen (x ∷ xs) (z ∷ ys)) p.0 (WithoutRepeats.kept p.1)
+    repeats_next {seen = seen} {x = x} {xs = xs} {ys = ys} (inl p) = subst (λ z. WithoutRepeats key seen (x ∷ xs) (z ∷ ys)) p.0 (WithoutRepeats.stays p.1)
     repeats_next (inr p) = WithoutRepeats.left_out p.0 p.1
 
     next_repeats : {seen : List (List ℕ)} {x y : X} {xs ys : List X} → WithoutRepeats key seen (x ∷ xs) (y ∷ ys) → Next seen x xs y ys
-    next_repeats (WithoutRepeats.kept w) = inl (refl, w)
+    next_repeats (WithoutRepeats.stays w) = inl (refl, w)
     next_repeats (WithoutRepeats.left_out e w) = inr (e, w)
 
     last_repeats : {seen : List (List ℕ)} {x : X} {xs : List X} → WithoutRepeats key seen (x ∷ xs) [] → (was_seen key seen x ≡ true) × WithoutRepeats key seen xs []

@@ -130,7 +130,7 @@ not_tied R o q x seen h n = false_from_ne_true _ (λ e. both_ways _ n (list_any_
 
 pub find_repeats : {X Y : Type 0} (key : X → List ℕ) (value : X → Y) (q : List ℕ) {seen : List (List ℕ)} {xs ys : List X} → WithoutRepeats key seen xs ys → list_any (eq_by_cmp word_cmp q) seen ≡ false → find word_cmp q (map (λ x. (lower (key x), value x)) xs) ≡ find word_cmp q (map (λ x. (lower (key x), value x)) ys)
 find_repeats key value q WithoutRepeats.none n = refl
-find_repeats {X = X} {Y = Y} key value q (WithoutRepeats.kept {seen = seen} {x = x} {xs = xs} {ys = ys} r) n = at_test (eq_by_cmp word_cmp q (lower (key x))) refl (find_repeats key value q r)
+find_repeats {X = X} {Y = Y} key value q (WithoutRepeats.stays {seen = seen} {x = x} {xs = xs} {ys = ys} r) n = at_test (eq_by_cmp word_cmp q (lower (key x))) refl (find_repeats key value q r)
   where
     at_test : (b : Bool) → eq_by_cmp word_cmp q (lower (key x)) ≡ b → (list_any (eq_by_cmp word_cmp q) (lower (key x) ∷ seen) ≡ false → find word_cmp q (map (λ x. (lower (key x), value x)) xs) ≡ find word_cmp q (map (λ x. (lower (key x), value x)) ys)) → cond b (Some (value x)) (find word_cmp q (map (λ x. (lower (key x), value x)) xs)) ≡ cond b (Some (value x)) (find word_cmp q (map (λ x. (lower (key x), value x)) ys))
     at_test true e f = refl
@@ -142,18 +142,18 @@ map_repeats key value {xs = xs} {ys = ys} r = map_of_same word_cmp word_cmp_tota
 
 pub all_repeats : {X : Type 0} (P : X → Type 0) (key : X → List ℕ) {seen : List (List ℕ)} {xs ys : List X} → WithoutRepeats key seen xs ys → AllByRecursion P xs → AllByRecursion P ys
 all_repeats P key WithoutRepeats.none h = tt
-all_repeats P key (WithoutRepeats.kept r) h = (h.0, all_repeats P key r h.1)
+all_repeats P key (WithoutRepeats.stays r) h = (h.0, all_repeats P key r h.1)
 all_repeats P key (WithoutRepeats.left_out e r) h = all_repeats P key r h.1
 
 pub all_without : {X : Type 0} (P : X → Type 0) (test : X → Bool) {xs ys : List X} → TreeWithout test xs ys → AllByRecursion P xs → AllByRecursion P ys
 all_without P test TreeWithout.none h = tt
-all_without P test (TreeWithout.kept r) h = (h.0, all_without P test r h.1)
+all_without P test (TreeWithout.stays r) h = (h.0, all_without P test r h.1)
 all_without P test (TreeWithout.left_out e r) h = all_without P test r h.1
 
 -- a filter that drops what passes the test doesn't see what was left out
 pub filter_without : {X : Type 0} (test keep : X → Bool) → ((x : X) → test x ≡ true → keep x ≡ false) → {xs ys : List X} → TreeWithout test xs ys → filter keep xs ≡ filter keep ys
 filter_without test keep f TreeWithout.none = refl
-filter_without test keep f (TreeWithout.kept {x = x} r) = ap (λ l. cond (keep x) (x ∷ l) l) (filter_without test keep f r)
+filter_without test keep f (TreeWithout.stays {x = x} r) = ap (λ l. cond (keep x) (x ∷ l) l) (filter_without test keep f r)
 filter_without test keep f (TreeWithout.left_out {x = x} {xs = xs} e r) = ap (λ b. cond b (x ∷ filter keep xs) (filter keep xs)) (f x e) ∙ filter_without test keep f r
 
 -- sums over the items
@@ -174,12 +174,12 @@ total_reordered f (Reordered.in_turn r s) = total_reordered f s ∙ total_reorde
 
 pub total_without : {X : Type 0} (f : X → ℕ) (test : X → Bool) {xs ys : List X} → TreeWithout test xs ys → total f ys ≤ total f xs
 total_without f test TreeWithout.none = le_refl 0
-total_without f test (TreeWithout.kept r) = let l = total_without f test r in omega arith
+total_without f test (TreeWithout.stays r) = let l = total_without f test r in omega arith
 total_without f test (TreeWithout.left_out e r) = let l = total_without f test r in omega arith
 
 pub total_repeats : {X : Type 0} (f : X → ℕ) (key : X → List ℕ) {seen : List (List ℕ)} {xs ys : List X} → WithoutRepeats key seen xs ys → total f ys ≤ total f xs
 total_repeats f key WithoutRepeats.none = le_refl 0
-total_repeats f key (WithoutRepeats.kept r) = let l = total_repeats f key r in omega arith
+total_repeats f key (WithoutRepeats.stays r) = let l = total_repeats f key r in omega arith
 total_repeats f key (WithoutRepeats.left_out e r) = let l = total_repeats f key r in omega arith
 
 pub total_zip : {X : Type 0} (f : X → ℕ) (R : X → X → Type 0) → ((x y : X) → R x y → f y ≤ f x) → (xs ys : List X) → AllZip R xs ys → total f ys ≤ total f xs

@@ -90,7 +90,7 @@ transform_none m e = from m.id m.fields e
 
 pub spelled_give : (T : ℕ → Bool) (bs : List (ℕ × List (List ℕ))) (e : SpelledExtensions) → SpellsExtensions T bs e → BlocksGive (grammar_rules T) bs (normal_extensions e)
 spelled_give T bs e s = record {
-  letters = all_weaker (λ b. (is_ascii_alphanumeric b.0 ≡ true) × (0 < length b.1)) HasSingleton (λ b k. k.0) bs s.blocks;
+  letters = all_weaker (λ b. (is_ascii_alphanumeric b.0 ≡ true) × (0 < length b.1)) HasSingleton (λ b k. k.0) bs s.each_block;
   different = s.different;
   unicode = at_u (find nat_cmp 117 (by_singleton bs)) (some_at 117) (sym (after_find 117 bs s.different) ∙ s.unicode.1);
   transform = at_t (find nat_cmp 116 (by_singleton bs)) (some_at 116) (sym (after_find 116 bs s.different) ∙ s.transform.1);
@@ -100,7 +100,7 @@ spelled_give T bs e s = record {
 }
   where
     some_at : (q : ℕ) → IfSome (find nat_cmp q (by_singleton bs)) (λ ps. 0 < length ps)
-    some_at q = find_holds (λ q ps. 0 < length ps) q bs (all_weaker (λ b. (is_ascii_alphanumeric b.0 ≡ true) × (0 < length b.1)) (λ b. 0 < length b.1) (λ b k. k.1) bs s.blocks)
+    some_at q = find_holds (λ q ps. 0 < length ps) q bs (all_weaker (λ b. (is_ascii_alphanumeric b.0 ≡ true) × (0 < length b.1)) (λ b. 0 < length b.1) (λ b k. k.1) bs s.each_block)
 
     at_u : (o : Option (List (List ℕ))) → IfSome o (λ ps. 0 < length ps) → or_empty o ≡ unicode_pieces e.unicode → PartIs UnicodeMeans no_unicode o (normal_unicode e.unicode)
     at_u None h k = unicode_none e.unicode (sym k)
@@ -190,7 +190,7 @@ good_spell T bs g =
     let parts = good_parts T [] bs g in
     let rules = all_weaker (λ b. HasSingleton b × IsBlock T b) (λ b. RuleAt T (lower_singleton b) b.1) (λ b k. k.1) bs parts.rules in
     record {
-      blocks = all_weaker (λ b. HasSingleton b × IsBlock T b) (λ b. (is_ascii_alphanumeric b.0 ≡ true) × (0 < length b.1)) (λ b k. (k.0, rule_some T (lower_singleton b) b.1 k.1)) bs parts.rules;
+      each_block = all_weaker (λ b. HasSingleton b × IsBlock T b) (λ b. (is_ascii_alphanumeric b.0 ≡ true) × (0 < length b.1)) (λ b k. (k.0, rule_some T (lower_singleton b) b.1 k.1)) bs parts.rules;
       different = parts.different;
       unicode = (subst (λ (l : List (List ℕ)). IsUnicode (unicode_of l)) (sym (after_find 117 bs parts.different)) (unicode_rule T _ (find_holds (RuleAt T) 117 bs rules)), sym (pieces-unicode_of (after 117 bs)));
       transform = (subst (λ (l : List (List ℕ)). IsTransform T (transform_of l)) (sym (after_find 116 bs parts.different)) (transform_rule T _ (find_holds (RuleAt T) 116 bs rules)), sym (pieces-transform_of (after 116 bs)));
@@ -214,10 +214,10 @@ give_mean {T = T} {bs = bs} {e = e} g =
 -- whole texts
 
 pub means_by_blocks : {T : ℕ → Bool} (t : List ℕ) (M : Locale) → Means T t M → MeansByBlocks T t M
-means_by_blocks t M m = record { id = m.id; blocks = mean_give m.extensions }
+means_by_blocks t M m = record { id = m.id; extensions = mean_give m.extensions }
 
 pub blocks_mean : {T : ℕ → Bool} (t : List ℕ) (M : Locale) → MeansByBlocks T t M → Means T t M
-blocks_mean t M m = record { id = m.id; extensions = give_mean m.blocks }
+blocks_mean t M m = record { id = m.id; extensions = give_mean m.extensions }
 
 pub tree_means : {T : ℕ → Bool} (t : List ℕ) (M : Locale) → Means T t M → TreeMeans T t M
 tree_means {T = T} t M m = blocks_tree T t M (means_by_blocks t M m)

@@ -13,12 +13,12 @@ use Rattle.iloc_spec_grammar.proofs.General.{zip_weaker}
 
 pub tree_without : {X : Type 0} (test : X → Bool) {before xs ys : List X} → Without (λ before x. test x) before xs ys → TreeWithout test xs ys
 tree_without test Without.none = TreeWithout.none
-tree_without test (Without.kept w) = TreeWithout.kept (tree_without test w)
+tree_without test (Without.stays w) = TreeWithout.stays (tree_without test w)
 tree_without test (Without.left_out e w) = TreeWithout.left_out e (tree_without test w)
 
 pub without_by_tree : {X : Type 0} (test : X → Bool) {before xs ys : List X} → TreeWithout test xs ys → Without (λ before x. test x) before xs ys
 without_by_tree test TreeWithout.none = Without.none
-without_by_tree test (TreeWithout.kept w) = Without.kept (without_by_tree test w)
+without_by_tree test (TreeWithout.stays w) = Without.stays (without_by_tree test w)
 without_by_tree test (TreeWithout.left_out e w) = Without.left_out e (without_by_tree test w)
 
 module _ {X : Type 0} (key : X → List ℕ) where
@@ -34,12 +34,12 @@ module _ {X : Type 0} (key : X → List ℕ) where
 
   repeats_from : {before xs ys : List X} → Without is_repeat before xs ys → WithoutRepeats key (seen_in before) xs ys
   repeats_from Without.none = WithoutRepeats.none
-  repeats_from (Without.kept w) = WithoutRepeats.kept (repeats_from w)
+  repeats_from (Without.stays w) = WithoutRepeats.stays (repeats_from w)
   repeats_from (Without.left_out {before = before} {x = x} e w) = WithoutRepeats.left_out (sym (repeat_seen x before) ∙ e) (repeats_from w)
 
   repeats_to : (before : List X) {seen : List (List ℕ)} {xs ys : List X} → seen_in before ≡ seen → WithoutRepeats key seen xs ys → Without is_repeat before xs ys
   repeats_to before p WithoutRepeats.none = Without.none
-  repeats_to before p (WithoutRepeats.kept {x = x} w) = Without.kept (repeats_to (x ∷ before) (ap (λ l. lower (key x) ∷ l) p) w)
+  repeats_to before p (WithoutRepeats.stays {x = x} w) = Without.stays (repeats_to (x ∷ before) (ap (λ l. lower (key x) ∷ l) p) w)
   repeats_to before p (WithoutRepeats.left_out {x = x} e w) = Without.left_out (repeat_seen x before ∙ ap (list_any (is_same (lower (key x)))) p ∙ e) (repeats_to before p w)
 
   pub tree_repeats : {xs ys : List X} → LessRepeats key xs ys → WithoutRepeats key [] xs ys
@@ -149,12 +149,12 @@ less_by_tree n f g l h = (l.0, without_by_tree (λ w. is_true (lower w)) l.1, h)
 pub block_by_tree : (T : ℕ → Bool) {r : TreeRule} {e f : Extension} (c : ℕ) → IsExtension T (to_ascii_lowercase c) e → ExtensionStep r e f → BlockStep T (rule_of r) (c, extension_pieces e) (c, extension_pieces f)
 block_by_tree T c h ExtensionStep.same = BlockStep.same
 block_by_tree T c h (ExtensionStep.identifier TreeIdentifierStep.same) = BlockStep.same
-block_by_tree T c h (ExtensionStep.identifier {i = i} {j = j} {fs = fs} (TreeIdentifierStep.variants p)) = BlockStep.transform (record { id = Some i; fields = fs }) (record { id = Some j; fields = fs }) h.0 (plain_transform h.1) ((refl, p), tt) refl
-block_by_tree T c h (ExtensionStep.attribute_order p) = BlockStep.unicode _ _ h.0 (plain_unicode h.1) p refl
-block_by_tree T c h (ExtensionStep.keyword_order d p) = BlockStep.unicode _ _ h.0 (plain_unicode h.1) refl (d, p)
-block_by_tree T c h (ExtensionStep.field_order {i = i} d p) = BlockStep.transform _ _ h.0 (plain_transform h.1) (same_id Rule.FieldOrder i) (d, p)
-block_by_tree T c h (ExtensionStep.unicode_repeats v w) = BlockStep.unicode _ _ h.0 (plain_unicode h.1) (repeats_by_tree (λ a. a) v) (repeats_by_tree (λ f. f.0) w)
-block_by_tree T c h (ExtensionStep.transform_repeats {i = i} w) = BlockStep.transform _ _ h.0 (plain_transform h.1) (same_id Rule.Repeats i) (repeats_by_tree (λ f. f.0) w)
-block_by_tree T c h (ExtensionStep.unicode_trues {fs = fs} {gs = gs} z) = BlockStep.unicode _ _ h.0 (plain_unicode h.1) refl (zip_weaker TreeLessTrue (LessTrue 0) (λ f g l. less_by_tree 0 f g l (omega arith)) fs gs z)
-block_by_tree T c h (ExtensionStep.transform_trues {i = i} {fs = fs} {gs = gs} z) = BlockStep.transform _ _ h.0 (plain_transform h.1) (same_id Rule.Trues i) (zip_weaker _ (LessTrue 1) (λ f g l. less_by_tree 1 f g l.0 l.1) fs gs z)
-block_by_tree T c h (ExtensionStep.dropped_pieces w) = BlockStep.other h.0 refl (without_by_tree (λ p. not (is_word Subtag p)) w)
+block_by_tree T c h (ExtensionStep.identifier {i = i} {j = j} {fs = fs} (TreeIdentifierStep.variants p)) = BlockStep.in_transform (record { id = Some i; fields = fs }) (record { id = Some j; fields = fs }) h.0 (plain_transform h.1) ((refl, p), tt) refl
+block_by_tree T c h (ExtensionStep.attribute_order p) = BlockStep.in_unicode _ _ h.0 (plain_unicode h.1) p refl
+block_by_tree T c h (ExtensionStep.keyword_order d p) = BlockStep.in_unicode _ _ h.0 (plain_unicode h.1) refl (d, p)
+block_by_tree T c h (ExtensionStep.field_order {i = i} d p) = BlockStep.in_transform _ _ h.0 (plain_transform h.1) (same_id Rule.FieldOrder i) (d, p)
+block_by_tree T c h (ExtensionStep.unicode_repeats v w) = BlockStep.in_unicode _ _ h.0 (plain_unicode h.1) (repeats_by_tree (λ a. a) v) (repeats_by_tree (λ f. f.0) w)
+block_by_tree T c h (ExtensionStep.transform_repeats {i = i} w) = BlockStep.in_transform _ _ h.0 (plain_transform h.1) (same_id Rule.Repeats i) (repeats_by_tree (λ f. f.0) w)
+block_by_tree T c h (ExtensionStep.unicode_trues {fs = fs} {gs = gs} z) = BlockStep.in_unicode _ _ h.0 (plain_unicode h.1) refl (zip_weaker TreeLessTrue (LessTrue 0) (λ f g l. less_by_tree 0 f g l (omega arith)) fs gs z)
+block_by_tree T c h (ExtensionStep.transform_trues {i = i} {fs = fs} {gs = gs} z) = BlockStep.in_transform _ _ h.0 (plain_transform h.1) (same_id Rule.Trues i) (zip_weaker _ (LessTrue 1) (λ f g l. less_by_tree 1 f g l.0 l.1) fs gs z)
+block_by_tree T c h (ExtensionStep.dropped_pieces w) = BlockStep.in_other h.0 refl (without_by_tree (λ p. not (is_word Subtag p)) w)

@@ -83,17 +83,17 @@ record ReadStep (T : ℕ → Bool) (r : Rule) (b c : ℕ × List (List ℕ)) : T
 
 read_step : (T : ℕ → Bool) (r : Rule) {b c : ℕ × List (List ℕ)} → BlockStep T r b c → (b ≡ c) ⊎ ReadStep T r b c
 read_step T r BlockStep.same = inl refl
-read_step T r (BlockStep.unicode {c = c} u v e h a k) = inr (record {
+read_step T r (BlockStep.in_unicode {c = c} u v e h a k) = inr (record {
   no_x = rw e refl;
   singletons = refl;
   step = λ g. let x = rw e at (rule_read T (c, unicode_pieces u) (λ n. let m = e in absurd (omega arith)) g) in rw e (unicode_read_step T r u v h a k x);
 })
-read_step T r (BlockStep.transform {c = c} m n e h i k) = inr (record {
+read_step T r (BlockStep.in_transform {c = c} m n e h i k) = inr (record {
   no_x = rw e refl;
   singletons = refl;
   step = λ g. let x = rw e at (rule_read T (c, transform_pieces m) (λ n. let m = e in absurd (omega arith)) g) in rw e (transform_read_step T r m n h i k x);
 })
-read_step T r (BlockStep.other {c = c} {ps = ps} {qs = qs} o p w) = inr (record {
+read_step T r (BlockStep.in_other {c = c} {ps = ps} {qs = qs} o p w) = inr (record {
   no_x = ne_eqb _ _ (λ x. no_x _ x o);
   singletons = refl;
   step = λ g. rw (ne_eqb _ _ (λ x. no_t _ x o), ne_eqb _ _ (λ x. no_u _ x o)) (subst (λ r. ExtensionStep (tree_rule r) (other ps) (other qs)) (sym p) (ExtensionStep.dropped_pieces (tree_without _ w)));

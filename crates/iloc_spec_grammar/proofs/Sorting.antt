@@ -83,7 +83,7 @@ module _ {X : Type 0} (key : X → List ℕ) where
 
   pub without-dedup : (seen : List (List ℕ)) (xs : List X) → WithoutRepeats key seen xs (dedup seen xs)
   without-dedup seen [] = WithoutRepeats.none
-  without-dedup seen (x ∷ xs) = cond_both (list_any (is_same (lower (key x))) seen) _ _ (WithoutRepeats key seen (x ∷ xs)) (λ e. WithoutRepeats.left_out e (without-dedup seen xs)) (λ _. WithoutRepeats.kept (without-dedup (lower (key x) ∷ seen) xs))
+  without-dedup seen (x ∷ xs) = cond_both (list_any (is_same (lower (key x))) seen) _ _ (WithoutRepeats key seen (x ∷ xs)) (λ e. WithoutRepeats.left_out e (without-dedup seen xs)) (λ _. WithoutRepeats.stays (without-dedup (lower (key x) ∷ seen) xs))
 
   abbrev keys : List X → List (List ℕ)
   keys xs = map (λ x. lower (key x)) xs
@@ -104,7 +104,7 @@ module _ {X : Type 0} (key : X → List ℕ) where
 
 pub without-filter : {X : Type 0} (test : X → Bool) (xs : List X) → TreeWithout test xs (filter (λ x. not (test x)) xs)
 without-filter test [] = TreeWithout.none
-without-filter test (x ∷ xs) = cond_both (not (test x)) _ _ (TreeWithout test (x ∷ xs)) (λ _. TreeWithout.kept (without-filter test xs)) (λ e. TreeWithout.left_out (not-false _ e) (without-filter test xs))
+without-filter test (x ∷ xs) = cond_both (not (test x)) _ _ (TreeWithout test (x ∷ xs)) (λ _. TreeWithout.stays (without-filter test xs)) (λ e. TreeWithout.left_out (not-false _ e) (without-filter test xs))
 
 pub filter-passes : {X : Type 0} (test : X → Bool) (xs : List X) → AllByRecursion (λ x. test x ≡ true) (filter test xs)
 filter-passes test [] = tt

@@ -38,7 +38,7 @@ fields_reordered {fs = fs} {gs = gs} d r = sym (map_of_same word_cmp word_cmp_to
 -- what is `true` is dropped
 values_without : {ps qs : List (List ℕ)} → TreeWithout (λ p. is_true (lower p)) ps qs → normal_values ps ≡ normal_values qs
 values_without TreeWithout.none = refl
-values_without (TreeWithout.kept {x = x} r) = ap (λ l. cond (not (is_true (lower x))) (lower x ∷ l) l) (values_without r)
+values_without (TreeWithout.stays {x = x} r) = ap (λ l. cond (not (is_true (lower x))) (lower x ∷ l) l) (values_without r)
 values_without (TreeWithout.left_out {x = x} {xs = xs} e r) = ap (λ b. cond (not b) (lower x ∷ normal_values xs) (normal_values xs)) e ∙ values_without r
 
 entries_less : (fs gs : Fields) → AllZip TreeLessTrue fs gs → map entry fs ≡ map entry gs
@@ -56,7 +56,7 @@ fields_less = all_zip LessKept IsField IsField (λ f g z h. (subst (IsWord Trans
 -- leaving out repeats leaves something, where nothing was seen
 some_left : {X : Type 0} (key : X → List ℕ) {xs ys : List X} → WithoutRepeats key [] xs ys → 0 < length xs → 0 < length ys
 some_left key WithoutRepeats.none h = h
-some_left key (WithoutRepeats.kept r) h = omega arith
+some_left key (WithoutRepeats.stays r) h = omega arith
 some_left key (WithoutRepeats.left_out e r) h = absurd (true≢false (sym e))
 
 -- extensions

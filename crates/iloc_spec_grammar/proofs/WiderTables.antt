@@ -44,7 +44,7 @@ module _ {T U : ℕ → Bool} (wider : (n : ℕ) → T n ≡ true → U n ≡ tr
         extensions = (
           m.extensions.0,
           record {
-            blocks = s.blocks;
+            each_block = s.each_block;
             different = s.different;
             unicode = s.unicode;
             transform = (record { id = IfSome_then m.extensions.0.transform.id {P = IsIdentifier T} h.id identifier; fields = h.fields }, s.transform.1);

@@ -76,7 +76,7 @@ pub record BlocksGive (R : Rules) (bs : List Block) (e : Extensions) : Type 0 wh
 -- The head is an identifier, and the blocks after it give the extensions.
 pub record MeansBy (R : Rules) (T : LanguageLengths) (t : Text) (M : Locale) : Type 0 where
   pub id : IdentifierMeans T (head (pieces t)) M.id
-  pub blocks : BlocksGive R (tail_blocks (pieces t)) M.extensions
+  pub extensions : BlocksGive R (tail_blocks (pieces t)) M.extensions
 
 -- the text means M by the grammar's rule of each block (UTS #35 3.2, `extensions`)
 abbrev pub MeansByBlocks : LanguageLengths → Text → Locale → Type 0

@@ -122,7 +122,7 @@ after s bs = flat_map (λ (c, ps). if to_ascii_lowercase c == s then ps else [])
 -- (UTS #35 3.2, `extensions` and `pu_extensions`).
 pub record SpellsExtensions (T : LanguageLengths) (bs : List Block)
     (w : SpelledExtensions) : Type 0 where
-  pub blocks : AllByRecursion (λ (c, ps). (is_ascii_alphanumeric c ≡ true) × (0 < length ps)) bs
+  pub each_block : AllByRecursion (λ (c, ps). (is_ascii_alphanumeric c ≡ true) × (0 < length ps)) bs
   pub different : AllDifferent nat_cmp (map (λ b. lower_singleton b) bs)
   pub unicode : IsUnicode w.unicode × (after code_u bs ≡ unicode_pieces w.unicode)
   pub transform : IsTransform T w.transform × (after code_t bs ≡ transform_pieces w.transform)

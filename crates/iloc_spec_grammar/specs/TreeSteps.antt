@@ -10,7 +10,7 @@ use Rattle.iloc_spec_grammar.specs.Tree.{Extension, unicode, transform, other, W
 -- ys is xs without some of the items that pass the test
 pub data TreeWithout {X : Type 0} (test : X → Bool) : List X → List X → Type 0 where
   none : TreeWithout test [] []
-  kept : {x : X} {xs ys : List X} → TreeWithout test xs ys → TreeWithout test (x ∷ xs) (x ∷ ys)
+  stays : {x : X} {xs ys : List X} → TreeWithout test xs ys → TreeWithout test (x ∷ xs) (x ∷ ys)
   left_out : {x : X} {xs ys : List X} → test x ≡ true → TreeWithout test xs ys
       → TreeWithout test (x ∷ xs) ys
 
@@ -18,7 +18,7 @@ pub data TreeWithout {X : Type 0} (test : X → Bool) : List X → List X → Ty
 -- has
 pub data WithoutRepeats {X : Type 0} (key : X → Text) : List Text → List X → List X → Type 0 where
   none : {seen : List Text} → WithoutRepeats key seen [] []
-  kept : {seen : List Text} {x : X} {xs ys : List X}
+  stays : {seen : List Text} {x : X} {xs ys : List X}
       → WithoutRepeats key (lower (key x) ∷ seen) xs ys → WithoutRepeats key seen (x ∷ xs) (x ∷ ys)
   left_out : {seen : List Text} {x : X} {xs ys : List X}
       → list_any (is_same (lower (key x))) seen ≡ true → WithoutRepeats key seen xs ys

@@ -198,7 +198,7 @@ pub data Reordered {X : Type 0} : List X → List X → Type 0 where
 -- first, and of an item, whether it may go
 pub data Without {X : Type 0} (may_go : List X → X → Bool) : List X → List X → List X → Type 0 where
   none : {before : List X} → Without may_go before [] []
-  kept : {before : List X} {x : X} {xs ys : List X} → Without may_go (x ∷ before) xs ys
+  stays : {before : List X} {x : X} {xs ys : List X} → Without may_go (x ∷ before) xs ys
       → Without may_go before (x ∷ xs) (x ∷ ys)
   left_out : {before : List X} {x : X} {xs ys : List X} → may_go before x ≡ true
       → Without may_go before xs ys → Without may_go before (x ∷ xs) ys
@@ -247,16 +247,16 @@ IdentifierStep r i j = (j ≡ record i { variants = j.variants })
 pub data BlockStep (T : LanguageLengths) (r : Rule) : Block → Block → Type 0 where
   same : {b : Block} → BlockStep T r b b
   -- `u-foo-bar` to `u-bar-foo`
-  unicode : {c : ℕ} (u v : SpelledUnicode) → to_ascii_lowercase c ≡ code_u → IsUnicode u
+  in_unicode : {c : ℕ} (u v : SpelledUnicode) → to_ascii_lowercase c ≡ code_u → IsUnicode u
       → AttributesStep r u.attributes v.attributes → FieldsStep r 0 u.keywords v.keywords
       → BlockStep T r (c, unicode_pieces u) (c, unicode_pieces v)
   -- `t-m0-foo-true` to `t-m0-foo`
-  transform : {c : ℕ} (m n : SpelledTransform) → to_ascii_lowercase c ≡ code_t → IsTransform T m
+  in_transform : {c : ℕ} (m n : SpelledTransform) → to_ascii_lowercase c ≡ code_t → IsTransform T m
       → AllZip (IdentifierStep r) (option_to_list m.id) (option_to_list n.id)
       → FieldsStep r 1 m.fields n.fields
       → BlockStep T r (c, transform_pieces m) (c, transform_pieces n)
   -- `a-foo-!!-bar` to `a-foo-bar`
-  other : {c : ℕ} {ps qs : List Text} → is_other_singleton (to_ascii_lowercase c) ≡ true
+  in_other : {c : ℕ} {ps qs : List Text} → is_other_singleton (to_ascii_lowercase c) ≡ true
       → r ≡ DroppedPieces → Without (λ before p. not (is_word Subtag p)) [] ps qs
       → BlockStep T r (c, ps) (c, qs)
 

@@ -121,7 +121,7 @@ pub inline_by_blocks : (T : ℕ → Bool) → AreLengths T → (t : List ℕ) �
 inline_by_blocks T table t h =
     let bs = tail_blocks (pieces t) in record {
       variants = identifier_few T table t h;
-      blocks = all_blocks T table t h bs (each_after bs h.spelled.different) (no_other bs (h.spelled.others.1 ∙ h.no_others));
+      short_blocks = all_blocks T table t h bs (each_after bs h.spelled.different) (no_other bs (h.spelled.others.1 ∙ h.no_others));
     }
 
 -- no long block is reached where all are short

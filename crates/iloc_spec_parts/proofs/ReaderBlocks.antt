@@ -115,7 +115,7 @@ module _ (T : ℕ → Bool) (table : AreLengths T) where
   }
 
   all_carried : {R S : Rules} → Carries R S → (t : List ℕ) (M : Locale) → MeansBy R T t M → MeansBy S T t M
-  all_carried c t M m = record { id = m.id; blocks = carried c (tail_blocks (pieces t)) M.extensions (tail_closed (pieces t)) m.blocks }
+  all_carried c t M m = record { id = m.id; extensions = carried c (tail_blocks (pieces t)) M.extensions (tail_closed (pieces t)) m.extensions }
 
   pub by_readers : (t : List ℕ) (M : Locale) → Means T t M ↔ MeansByReaders T t M
   by_readers t M = (λ m. all_carried read_by_grammar t M (means_by_blocks t M m), λ m. blocks_mean t M (all_carried grammar_by_reading t M m))

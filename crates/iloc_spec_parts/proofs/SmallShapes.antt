@@ -172,8 +172,8 @@ keyword_spelled t r h =
     let private_is : e.private ≡ [] = none_mapped lower e.private (sym (ap (λ (e : Extensions). e.private) h.means)) in
     let others_are : e.others ≡ [] = none_mapped (λ (o : ℕ × List (List ℕ)). (o.0, kept o.1)) e.others (none_there nat_cmp nat_cmp_total _ (sym (ap (λ (e : Extensions). e.others) h.means))) in
     let attributes_are : e.unicode.attributes ≡ [] = none_mapped lower e.unicode.attributes (none_in_set _ (sym (ap (λ (e : Extensions). e.unicode.attributes) h.means))) in
-    one_of_u bs h.spelled.different h.spelled.blocks
-    (only_u bs h.spelled.blocks (h.spelled.transform.1 ∙ transform_is) (h.spelled.private.1 ∙ private_is) (h.spelled.others.1 ∙ others_are))
+    one_of_u bs h.spelled.different h.spelled.each_block
+    (only_u bs h.spelled.each_block (h.spelled.transform.1 ∙ transform_is) (h.spelled.private.1 ∙ private_is) (h.spelled.others.1 ∙ others_are))
     e.unicode.keywords (h.spelled.unicode.1 ∙ ap (λ l. l ++ fields_pieces e.unicode.keywords) attributes_are)
     h.spelled.unicode.0.keywords h.one_keyword r.keyword (ap (λ (e : Extensions). e.unicode.keywords) h.means)
   where
@@ -197,9 +197,9 @@ pub u_letter : (c : ℕ) → to_ascii_lowercase c ≡ 117 → is_ascii_alphanume
 u_letter c h = grind (arith, nat_tests)
 
 spelled_keyword : {T : ℕ → Bool} (k : Option WrittenKeyword) → IfSome k IsSmallKeyword → SpellsExtensions T (keyword_blocks k) (keyword_extensions k)
-spelled_keyword None g = record { blocks = tt; different = tt; unicode = (record { attributes = tt; keywords = tt }, refl); transform = (record { id = tt; fields = tt }, refl); private = (tt, refl); others = (tt, refl) }
+spelled_keyword None g = record { each_block = tt; different = tt; unicode = (record { attributes = tt; keywords = tt }, refl); transform = (record { id = tt; fields = tt }, refl); private = (tt, refl); others = (tt, refl) }
 spelled_keyword (Some k) g = record {
-  blocks = ((u_letter k.byte g.u, omega arith), tt);
+  each_block = ((u_letter k.byte g.u, omega arith), tt);
   different = (both_ways _ refl, tt);
   unicode = (record { attributes = tt; keywords = ((g.key, g.values), tt) }, rw g.u refl);
   transform = (record { id = tt; fields = tt }, rw g.u refl);

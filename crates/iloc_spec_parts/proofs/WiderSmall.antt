@@ -12,7 +12,7 @@ module _ {T U : ℕ → Bool} (wider : (n : ℕ) → T n ≡ true → U n ≡ tr
         id = tables.identifier_means_wider wider _ (identifier_of_small r.id) h.id;
         written = h.written;
         spelled = record {
-          blocks = s.blocks;
+          each_block = s.each_block;
           different = s.different;
           unicode = s.unicode;
           transform = (record { id = IfSome_then h.written.transform.id {P = IsIdentifier T} s.transform.0.id (tables.identifier wider); fields = s.transform.0.fields }, s.transform.1);

@@ -69,4 +69,4 @@ ReachesLongBlock T bs = (good rest : List Block) × (c : ℕ) × (ps : List Text
 pub record IsInlineByBlocks (T : LanguageLengths) (t : Text) : Type 0 where
   pub variants : (i : SpelledIdentifier) → IsIdentifier T i → head (pieces t) ≡ identifier_pieces i
       → length i.variants ≤ 4
-  pub blocks : AllByRecursion (IsShortBlock T) (tail_blocks (pieces t))
+  pub short_blocks : AllByRecursion (IsShortBlock T) (tail_blocks (pieces t))

@@ -26,11 +26,11 @@ pub record SmallLocale : Type 0 where
 
 -- the identifier of the same words
 abbrev pub identifier_of_small : SmallIdentifier → Identifier
-identifier_of_small r = record {
-  language = r.language;
-  script = r.script;
-  region = r.region;
-  variants = option_to_list r.variant;
+identifier_of_small i = record {
+  language = i.language;
+  script = i.script;
+  region = i.region;
+  variants = option_to_list i.variant;
 }
 
 -- the keyword of the same key, with one value at most
@@ -50,7 +50,7 @@ locale_of_small r = record {
 
 -- the pieces mean an identifier with at most one variant
 abbrev pub IsSmallIdentifier : LanguageLengths → List Text → SmallIdentifier → Type 0
-IsSmallIdentifier T ps r = IdentifierMeans T ps (identifier_of_small r)
+IsSmallIdentifier T ps i = IdentifierMeans T ps (identifier_of_small i)
 
 -- The text means such a locale, and one keyword at most is written.
 pub record IsSmall (T : LanguageLengths) (t : Text) (r : SmallLocale) : Type 0 where
@@ -67,7 +67,7 @@ pub data HasSmallIdentifierFault (T : LanguageLengths) (ps : List Text) : Fault 
   no_language : is_word (Language T) (first_piece ps) ≡ false
       → HasSmallIdentifierFault T ps InvalidLanguage
   no_identifier : IsWord (Language T) (first_piece ps)
-      → ((r : SmallIdentifier) → ¬ (IsSmallIdentifier T ps r))
+      → ((i : SmallIdentifier) → ¬ (IsSmallIdentifier T ps i))
       → HasSmallIdentifierFault T ps InvalidSubtag
 
 -- What is wrong with the first block of a text that isn't small: no singleton, not `u`, an
@@ -86,8 +86,8 @@ pub data SmallBlockFault (b : Block) : Fault → Type 0 where
 -- The text is not small, for this reason: its head, or else its first block.
 pub data HasSmallFault (T : LanguageLengths) (t : Text) : Fault → Type 0 where
   bad_head : {f : Fault} → HasSmallIdentifierFault T (head (pieces t)) f → HasSmallFault T t f
-  bad_block : {f : Fault} (r : SmallIdentifier) {b : Block} {bs : List Block}
-      → IsSmallIdentifier T (head (pieces t)) r → ((r : SmallLocale) → ¬ (IsSmall T t r))
+  bad_block : {f : Fault} (i : SmallIdentifier) {b : Block} {bs : List Block}
+      → IsSmallIdentifier T (head (pieces t)) i → ((r : SmallLocale) → ¬ (IsSmall T t r))
       → tail_blocks (pieces t) ≡ b ∷ bs → SmallBlockFault b f → HasSmallFault T t f
 
 -- what is read is of normal words, and no value is `true`
