@@ -178,11 +178,11 @@ IsTreeWellFormed M = AreWellFormed M.extensions
 -- the identifier that is spelled of the words that are meant
 abbrev pub spelled_identifier : Identifier → SpelledIdentifier
 spelled_identifier i =
-    record { language = i.language; script = i.script; region = i.region; variants = i.variants }
+    record { variants = i.variants; region = i.region; script = i.script; language = i.language }
 
 -- the unicode part that is spelled of the words that are meant
 abbrev pub spelled_unicode : Unicode → SpelledUnicode
-spelled_unicode u = record { attributes = u.attributes; keywords = u.keywords }
+spelled_unicode u = record { keywords = u.keywords; attributes = u.attributes }
 
 -- the transform part as it is printed: its identifier in lower case, `true` for an empty value
 abbrev pub spelled_transform : Transform → SpelledTransform
