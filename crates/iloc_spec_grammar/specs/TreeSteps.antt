@@ -100,7 +100,8 @@ pub data Step : Written → Written → Type 0 where
   block_order : {i : SpelledIdentifier} {es fs : List (ℕ × Extension)} {x : Option Block}
       → Reordered es fs → Step (written i es x) (written i fs x)
   inside : (r : TreeRule) → {i j : SpelledIdentifier} {es fs : List (ℕ × Extension)}
-      {x : Option Block} → TreeIdentifierStep r i j → AllZip (λ e f. (e.0 ≡ f.0) × ExtensionStep r e.1 f.1) es fs
+      {x : Option Block} → TreeIdentifierStep r i j
+      → AllZip (λ e f. (e.0 ≡ f.0) × ExtensionStep r e.1 f.1) es fs
       → Step (written i es x) (written j fs x)
 
 -- one step leads from the text t to u: in the case of letters, or by a step of what it spells,

@@ -82,8 +82,8 @@ pub data UnicodeFault (ps : List Text) : Fault → Type 0 where
 pub data FrontRead (T : LanguageLengths)
     (ps : List Text) : Option SpelledIdentifier → List Text → Type 0 where
   absent : is_word (Language T) (first_piece ps) ≡ false → FrontRead T ps None ps
-  present : {i : SpelledIdentifier} {rest : List Text} → IsIdentifier T i → IdentifierFront T ps i rest
-      → FrontRead T ps (Some i) rest
+  present : {i : SpelledIdentifier} {rest : List Text} → IsIdentifier T i
+      → IdentifierFront T ps i rest → FrontRead T ps (Some i) rest
 
 -- Then fields, which begin with a key and go on with keys and with 3 to 8 letters or digits.
 

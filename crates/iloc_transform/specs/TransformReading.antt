@@ -18,8 +18,8 @@ value_of m = record { id = option_map langid.value_of m.lang; fields = m.fields 
 -- memory may run out for a fifth variant, and for a field
 pub data TransformWantsMemory (ps : List Text) : Type 0 where
   variants : HasFiveVariants ps → TransformWantsMemory ps
-  fields : {id : Option written.SpelledIdentifier} {middle : List Text} → FrontRead languages ps id middle
-      → BeginsField middle → TransformWantsMemory ps
+  fields : {id : Option written.SpelledIdentifier} {middle : List Text}
+      → FrontRead languages ps id middle → BeginsField middle → TransformWantsMemory ps
 
 -- what the pieces after `t` are read as, and the pieces that are left
 abbrev pub TransformReads : List Text → List Text → Result Transform ParseError → Type 0
