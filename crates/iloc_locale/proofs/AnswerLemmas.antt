@@ -186,7 +186,12 @@ no_private M c e h = no_items M.private (not-false _ (read_at M c 120 e h))
 
 none_mean : BlocksMean languages [] no_extensions
 none_mean = (
-  no_extensions,
+  record {
+    unicode = record { attributes = []; keywords = [] };
+    transform = record { id = None; fields = [] };
+    private = [];
+    others = [];
+  },
   record { each_block = tt; different = tt; unicode = (record { attributes = tt; keywords = tt }, refl); transform = (record { id = tt; fields = tt }, refl); private = (tt, refl); others = (tt, refl) },
   refl,
 )

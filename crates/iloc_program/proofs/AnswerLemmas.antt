@@ -50,7 +50,12 @@ nothing_left f (p ∷ ps) (Some x) e n = absurd (true≢false n)
 -- no blocks mean no extensions
 none_mean : BlocksMean languages [] no_extensions
 none_mean = (
-  no_extensions,
+  record {
+    unicode = record { attributes = []; keywords = [] };
+    transform = record { id = None; fields = [] };
+    private = [];
+    others = [];
+  },
   record {
     each_block = tt;
     different = tt;
