@@ -9,7 +9,8 @@
  * Every function of the library is proved to meet its contract, if its caller keeps what this page asks. The proofs
  * cover no caller. docs/DEFINITIONS.md says what a text means, and why another is refused. The library is for Linux on
  * any x86-64 processor. It is linked as libicu_locale.a or libicu_locale.so: `bindings/build` makes both, and
- * docs/BINDINGS.md shows more of a program. This header is C99, and C++98 or later.
+ * docs/BINDINGS.md shows more of a program. This header is C99, and C++98 or later. Between two lines that say so it is
+ * written by tools/write_calls from the table tools/calls.txt: change that and not this file.
  *
  * A text is a pointer to bytes and their number. The bytes need no encoding and no closing zero. If the number is 0,
  * the pointer may be null: the text is empty. The same holds of a buffer and its room. This is tested at each call, by
@@ -122,6 +123,8 @@ enum {
  * For some of these a call needs no memory all the same. icu_locale_normalizing_eq and icu_locale_compare can also
  * allocate for the other text: they say when. Only a call that allocates can end with OUT_OF_MEMORY. */
 
+/* From here on, tools/write_calls writes what tools/calls.txt says. */
+
 /* Writes the normal form of the text to the front of the buffer, and its length to *needed.
  *
  *     DONE               the buffer begins with the normal form; the bytes behind it are as before
@@ -132,13 +135,12 @@ enum {
  * The normal form of a data locale can be longer by the region that its subdivision names, at most 4 bytes:
  * und-u-sd-419a gives und-419-u-sd-419a. */
 ICU_LOCALE_WRITES(6) ICU_LOCALE_TELLS
-icu_locale_status icu_locale_normalize(icu_locale_mode mode, const uint8_t *text, size_t length,
-    uint8_t *buffer, size_t room, size_t *needed) ICU_LOCALE_NOEXCEPT;
+icu_locale_status icu_locale_normalize(icu_locale_mode mode, const uint8_t *text, size_t length, uint8_t *buffer,
+    size_t room, size_t *needed) ICU_LOCALE_NOEXCEPT;
 
 /* DONE if the text has a meaning in the mode; otherwise why it has none, or OUT_OF_MEMORY. */
 extern ICU_LOCALE_TELLS
-icu_locale_status icu_locale_check(icu_locale_mode mode, const uint8_t *text, size_t length)
-    ICU_LOCALE_NOEXCEPT;
+icu_locale_status icu_locale_check(icu_locale_mode mode, const uint8_t *text, size_t length) ICU_LOCALE_NOEXCEPT;
 
 /* Where the fault of a refused text stands. A piece is what stands before, between or behind hyphens.
  *
@@ -150,35 +152,35 @@ icu_locale_status icu_locale_check(icu_locale_mode mode, const uint8_t *text, si
  * such a text, and what includes it cannot. If all pieces can be completed, the text ends too early: *start and *end are
  * then its length. en-US-toolonggg gives 6 and 15, en--US gives 3 and 3, and en-u gives 4 and 4. Never allocates. */
 ICU_LOCALE_TAKES((4, 5)) ICU_LOCALE_TELLS
-icu_locale_status icu_locale_find_fault(icu_locale_mode mode, const uint8_t *text, size_t length,
-    size_t *start, size_t *end) ICU_LOCALE_NOEXCEPT;
+icu_locale_status icu_locale_find_fault(icu_locale_mode mode, const uint8_t *text, size_t length, size_t *start,
+    size_t *end) ICU_LOCALE_NOEXCEPT;
 
 /* Writes -1, 0 or 1 to *order: the byte order of the text's normal form against other bytes. The other bytes are not
  * normalized. If the text is refused, *order is as before. */
 ICU_LOCALE_WRITES(6) ICU_LOCALE_TELLS
-icu_locale_status icu_locale_strict_cmp(icu_locale_mode mode, const uint8_t *text, size_t length,
-    const uint8_t *other, size_t other_length, int8_t *order) ICU_LOCALE_NOEXCEPT;
+icu_locale_status icu_locale_strict_cmp(icu_locale_mode mode, const uint8_t *text, size_t length, const uint8_t *other,
+    size_t other_length, int8_t *order) ICU_LOCALE_NOEXCEPT;
 
 /* Writes 1 to *same if both texts have the same meaning, and 0 if the other has another meaning or none. If the first
  * text is refused, *same is as before. OUT_OF_MEMORY can come from either text, any other refusal from the first alone.
  * Allocates also if the other is a data locale that is not in its normal form. */
 ICU_LOCALE_WRITES(6) ICU_LOCALE_TELLS
-icu_locale_status icu_locale_normalizing_eq(icu_locale_mode mode, const uint8_t *text,
-    size_t length, const uint8_t *other, size_t other_length, uint8_t *same) ICU_LOCALE_NOEXCEPT;
+icu_locale_status icu_locale_normalizing_eq(icu_locale_mode mode, const uint8_t *text, size_t length,
+    const uint8_t *other, size_t other_length, uint8_t *same) ICU_LOCALE_NOEXCEPT;
 
 /* Writes -1, 0 or 1 to *order: the byte order of the normal forms of both texts. A refusal is that of the first text,
  * or if the first has a meaning, that of the other. *order is then as before. Allocates also if the other text is not
  * in its normal form. */
 ICU_LOCALE_WRITES(6) ICU_LOCALE_TELLS
-icu_locale_status icu_locale_compare(icu_locale_mode mode, const uint8_t *text, size_t length,
-    const uint8_t *other, size_t other_length, int8_t *order) ICU_LOCALE_NOEXCEPT;
+icu_locale_status icu_locale_compare(icu_locale_mode mode, const uint8_t *text, size_t length, const uint8_t *other,
+    size_t other_length, int8_t *order) ICU_LOCALE_NOEXCEPT;
 
 /* Writes the words of a status, such as "Invalid subtag", to the front of the buffer, and their length to *needed. It
  * ends with the statuses of icu_locale_normalize. A buffer of 64 bytes is always enough, so its status may be ignored.
  * Only a number that is no status has no words: *needed is then 0. */
 ICU_LOCALE_WRITES(4)
-icu_locale_status icu_locale_words(icu_locale_status status, uint8_t *buffer, size_t room,
-    size_t *needed) ICU_LOCALE_NOEXCEPT;
+icu_locale_status icu_locale_words(icu_locale_status status, uint8_t *buffer, size_t room, size_t *needed)
+    ICU_LOCALE_NOEXCEPT;
 
 /* Locales that a program holds.
  *
@@ -292,8 +294,7 @@ icu_locale_status icu_locale_get_region(const icu_locale_t *locale, uint8_t *buf
 /* Sets the language, script or region to the subtag that is the text, in any case. An empty text clears it: a cleared
  * language is und. A text that is no such subtag is refused with INVALID_LANGUAGE or INVALID_SUBTAG. No allocation. */
 ICU_LOCALE_TAKES((1)) ICU_LOCALE_TELLS
-icu_locale_status icu_locale_set_language(icu_locale_t *locale, const uint8_t *text, size_t length)
-    ICU_LOCALE_NOEXCEPT;
+icu_locale_status icu_locale_set_language(icu_locale_t *locale, const uint8_t *text, size_t length) ICU_LOCALE_NOEXCEPT;
 ICU_LOCALE_TAKES((1)) ICU_LOCALE_TELLS
 icu_locale_status icu_locale_set_script(icu_locale_t *locale, const uint8_t *text, size_t length) ICU_LOCALE_NOEXCEPT;
 ICU_LOCALE_TAKES((1)) ICU_LOCALE_TELLS
@@ -312,8 +313,7 @@ bool icu_locale_has_variant(const icu_locale_t *locale, const uint8_t *text, siz
 /* Adds a variant, in any case; one that is there already stays. A text that is no variant is refused with
  * INVALID_SUBTAG. Allocates only if there are four variants or more. */
 ICU_LOCALE_TAKES((1)) ICU_LOCALE_TELLS
-icu_locale_status icu_locale_add_variant(icu_locale_t *locale, const uint8_t *text, size_t length)
-    ICU_LOCALE_NOEXCEPT;
+icu_locale_status icu_locale_add_variant(icu_locale_t *locale, const uint8_t *text, size_t length) ICU_LOCALE_NOEXCEPT;
 
 /* Removes a variant, in any case; NOT_FOUND if it is not there. */
 ICU_LOCALE_TAKES((1)) ICU_LOCALE_TELLS
@@ -351,7 +351,7 @@ icu_locale_status icu_locale_set_keyword(icu_locale_t *locale, const uint8_t *ke
 
 /* Removes the keyword with this key; NOT_FOUND if it is not there. */
 ICU_LOCALE_TAKES((1)) ICU_LOCALE_TELLS
-icu_locale_status icu_locale_remove_keyword(icu_locale_t *locale, const uint8_t *text, size_t length)
+icu_locale_status icu_locale_remove_keyword(icu_locale_t *locale, const uint8_t *key, size_t key_length)
     ICU_LOCALE_NOEXCEPT;
 
 /* Removes all keywords. */
@@ -427,8 +427,7 @@ ICU_LOCALE_TAKES((1, 4)) ICU_LOCALE_TELLS
 icu_locale_status icu_locale_get_private(const icu_locale_t *locale, uint8_t *buffer, size_t room, size_t *needed)
     ICU_LOCALE_NOEXCEPT;
 ICU_LOCALE_TAKES((1)) ICU_LOCALE_TELLS
-icu_locale_status icu_locale_set_private(icu_locale_t *locale, const uint8_t *text, size_t length)
-    ICU_LOCALE_NOEXCEPT;
+icu_locale_status icu_locale_set_private(icu_locale_t *locale, const uint8_t *text, size_t length) ICU_LOCALE_NOEXCEPT;
 
 /* Other extensions, such as a-foo-bar of en-a-foo-bar, by their singleton: a letter or digit other than t, u and x, in
  * either case. The calls tell whether there is one, and its text with the singleton, or NOT_FOUND. */
@@ -482,6 +481,8 @@ icu_locale_status icu_locale_get_numbering_system(const icu_locale_t *locale, ui
 
 /* ICU_LOCALE_VERSION of the header that the library was made for. */
 extern uint32_t icu_locale_version(void) ICU_LOCALE_NOEXCEPT;
+
+/* To here, tools/write_calls writes it. */
 
 #if defined(__GNUC__)
 /* The calls that take two handles, where both may be one. The library wants two. So these functions, which are not

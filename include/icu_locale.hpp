@@ -16,7 +16,9 @@
  * No call here looks whether the library was made for this header: is_of_this_version() alone tells. Ask it once.
  *
  * Functions on texts may be called from any number of threads. A locale is used by one thread at a time, also by calls
- * that only read: guard one that threads share by a lock, or give each thread a copy. */
+ * that only read: guard one that threads share by a lock, or give each thread a copy.
+ *
+ * Between two lines that say so this header is written by tools/write_calls from the table tools/calls.txt. */
 #ifndef ICU_LOCALE_HPP
 #define ICU_LOCALE_HPP
 
@@ -318,32 +320,14 @@ public:
         return *this;
     }
 
+    /* From here on, tools/write_calls writes what tools/calls.txt says. */
+
     /* The whole. base_name is the identifier alone, without extensions. */
-    std::string to_string() const { return *read(icu_locale_to_string); }
-    std::string base_name() const { return *read(icu_locale_get_base_name); }
     bool is_und() const noexcept { return icu_locale_is_und(&held_); }
     bool is_well_formed() const noexcept { return icu_locale_is_well_formed(&held_); }
     std::uint64_t hash() const noexcept { return icu_locale_hash(&held_); }
-
-    /* The order by parts, which is that of <: -1, 0 or 1. */
-    int compare(const locale &other) const noexcept
-    {
-        return this == &other ? 0 : icu_locale_cmp(&held_, &other.held_);
-    }
-
-    /* The byte order of the normal form against other bytes, which are not normalized: -1, 0 or 1. */
-    int strict_cmp(std::string_view other) const noexcept
-    {
-        return icu_locale_cmp_bytes(&held_, detail::bytes(other), other.size());
-    }
-
-    /* Whether the text means this locale. */
-    bool normalizing_eq(std::string_view text) const
-    {
-        std::uint8_t same = 0;
-        detail::told(icu_locale_eq_text(&held_, detail::bytes(text), text.size(), &same));
-        return same == 1;
-    }
+    std::string to_string() const { return *read(icu_locale_to_string); }
+    std::string base_name() const { return *read(icu_locale_get_base_name); }
 
     /* The language is und if it is unknown. An empty text clears a part. */
     std::string language() const { return *read(icu_locale_get_language); }
@@ -353,10 +337,10 @@ public:
     {
         return set(icu_locale_set_language, text);
     }
-    [[nodiscard]] icu_locale::status try_set_script(std::string_view text) { return set(icu_locale_set_script, text); }
-    [[nodiscard]] icu_locale::status try_set_region(std::string_view text) { return set(icu_locale_set_region, text); }
     void set_language(std::string_view text) { accept(try_set_language(text), text); }
+    [[nodiscard]] icu_locale::status try_set_script(std::string_view text) { return set(icu_locale_set_script, text); }
     void set_script(std::string_view text) { accept(try_set_script(text), text); }
+    [[nodiscard]] icu_locale::status try_set_region(std::string_view text) { return set(icu_locale_set_region, text); }
     void set_region(std::string_view text) { accept(try_set_region(text), text); }
 
     /* Variants, ascending. Removing tells whether there was one. */
@@ -381,13 +365,10 @@ public:
 
     /* The value of the keyword with this key, if there is one. */
     std::optional<std::string> keyword(std::string_view key) const { return read_by(icu_locale_get_keyword, key); }
-
     [[nodiscard]] icu_locale::status try_set_keyword(std::string_view key, std::string_view value = {})
     {
-        return detail::told(icu_locale_set_keyword(
-            &held_, detail::bytes(key), key.size(), detail::bytes(value), value.size()));
+        return set(icu_locale_set_keyword, key, value);
     }
-
     void set_keyword(std::string_view key, std::string_view value = {})
     {
         accept(try_set_keyword(key, value), key, value);
@@ -428,13 +409,10 @@ public:
 
     /* The value of the field with this key, if there is one. */
     std::optional<std::string> field(std::string_view key) const { return read_by(icu_locale_get_field, key); }
-
     [[nodiscard]] icu_locale::status try_set_field(std::string_view key, std::string_view value)
     {
-        return detail::told(
-            icu_locale_set_field(&held_, detail::bytes(key), key.size(), detail::bytes(value), value.size()));
+        return set(icu_locale_set_field, key, value);
     }
-
     void set_field(std::string_view key, std::string_view value) { accept(try_set_field(key, value), key, value); }
     bool remove_field(std::string_view key) { return is_done(set(icu_locale_remove_field, key)); }
     void clear_fields() { accept(detail::told(icu_locale_clear_fields(&held_))); }
@@ -446,6 +424,33 @@ public:
         return set(icu_locale_set_private, text);
     }
     void set_private_extension(std::string_view text) { accept(try_set_private_extension(text), text); }
+
+    /* What formatters take from the keywords ca, hc and nu: islamic-civil from en-u-ca-islamicc. */
+    std::optional<std::string> calendar_algorithm() const { return read(icu_locale_get_calendar_algorithm); }
+    std::optional<std::string> hour_cycle() const { return read(icu_locale_get_hour_cycle); }
+    std::optional<std::string> numbering_system() const { return read(icu_locale_get_numbering_system); }
+
+    /* To here, tools/write_calls writes it. */
+
+    /* The order by parts, which is that of <: -1, 0 or 1. */
+    int compare(const locale &other) const noexcept
+    {
+        return this == &other ? 0 : icu_locale_cmp(&held_, &other.held_);
+    }
+
+    /* The byte order of the normal form against other bytes, which are not normalized: -1, 0 or 1. */
+    int strict_cmp(std::string_view other) const noexcept
+    {
+        return icu_locale_cmp_bytes(&held_, detail::bytes(other), other.size());
+    }
+
+    /* Whether the text means this locale. */
+    bool normalizing_eq(std::string_view text) const
+    {
+        std::uint8_t same = 0;
+        detail::told(icu_locale_eq_text(&held_, detail::bytes(text), text.size(), &same));
+        return same == 1;
+    }
 
     /* Other extensions, such as a-foo of en-a-foo, by their singleton, in either case. set_other takes the whole text,
      * which begins with the singleton. */
@@ -503,11 +508,6 @@ public:
         accept(detail::told(icu_locale_data_cmp(&held_, &other.held_, static_cast<icu_locale_priority>(by), &order)));
         return order;
     }
-
-    /* What formatters take from the keywords ca, hc and nu: islamic-civil from en-u-ca-islamicc. */
-    std::optional<std::string> calendar_algorithm() const { return read(icu_locale_get_calendar_algorithm); }
-    std::optional<std::string> hour_cycle() const { return read(icu_locale_get_hour_cycle); }
-    std::optional<std::string> numbering_system() const { return read(icu_locale_get_numbering_system); }
 
     friend bool operator==(const locale &one, const locale &other) noexcept
     {
@@ -608,6 +608,11 @@ private:
     template <class Call> icu_locale::status set(Call call, std::string_view text)
     {
         return detail::told(call(&held_, detail::bytes(text), text.size()));
+    }
+
+    template <class Call> icu_locale::status set(Call call, std::string_view key, std::string_view value)
+    {
+        return detail::told(call(&held_, detail::bytes(key), key.size(), detail::bytes(value), value.size()));
     }
 
     mutable icu_locale_t held_ = ICU_LOCALE_UND;  // calls that only read also write to the handle meanwhile

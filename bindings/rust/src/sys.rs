@@ -1,13 +1,11 @@
 //! The header `include/icu_locale.h`, which says what each function does, and what a caller owes.
+// Written by tools/write_calls from tools/calls.txt and the numbers of that header: change those and not this file.
 
 pub const VERSION: u32 = 5;
 
 pub const IDENTIFIER: u32 = 0;
 pub const LOCALE: u32 = 1;
 pub const DATA_LOCALE: u32 = 2;
-
-pub const BY_LANGUAGE: u32 = 0;
-pub const BY_REGION: u32 = 1;
 
 pub const DONE: u32 = 0;
 pub const INVALID_LANGUAGE: u32 = 1;
@@ -18,6 +16,9 @@ pub const OUT_OF_MEMORY: u32 = 5;
 pub const BUFFER_TOO_SMALL: u32 = 6;
 pub const UNKNOWN_NUMBER: u32 = 7;
 pub const NOT_FOUND: u32 = 8;
+
+pub const BY_LANGUAGE: u32 = 0;
+pub const BY_REGION: u32 = 1;
 
 /// A locale that a program holds. A null pointer stands for und.
 #[allow(non_camel_case_types)]
@@ -38,13 +39,7 @@ extern "C" {
 
     pub fn icu_locale_check(mode: u32, text: *const u8, length: usize) -> u32;
 
-    pub fn icu_locale_find_fault(
-        mode: u32,
-        text: *const u8,
-        length: usize,
-        start: *mut usize,
-        end: *mut usize,
-    ) -> u32;
+    pub fn icu_locale_find_fault(mode: u32, text: *const u8, length: usize, start: *mut usize, end: *mut usize) -> u32;
 
     pub fn icu_locale_strict_cmp(
         mode: u32,
@@ -97,18 +92,17 @@ extern "C" {
 
     pub fn icu_locale_to_string(locale: *mut icu_locale_t, buffer: *mut u8, room: usize, needed: *mut usize) -> u32;
 
-    pub fn icu_locale_get_base_name(locale: *mut icu_locale_t, buffer: *mut u8, room: usize, needed: *mut usize)
-        -> u32;
+    pub fn icu_locale_get_base_name(locale: *mut icu_locale_t, buffer: *mut u8, room: usize, needed: *mut usize) -> u32;
 
     pub fn icu_locale_get_language(locale: *mut icu_locale_t, buffer: *mut u8, room: usize, needed: *mut usize) -> u32;
 
-    pub fn icu_locale_set_language(locale: *mut icu_locale_t, text: *const u8, length: usize) -> u32;
-
     pub fn icu_locale_get_script(locale: *mut icu_locale_t, buffer: *mut u8, room: usize, needed: *mut usize) -> u32;
 
-    pub fn icu_locale_set_script(locale: *mut icu_locale_t, text: *const u8, length: usize) -> u32;
-
     pub fn icu_locale_get_region(locale: *mut icu_locale_t, buffer: *mut u8, room: usize, needed: *mut usize) -> u32;
+
+    pub fn icu_locale_set_language(locale: *mut icu_locale_t, text: *const u8, length: usize) -> u32;
+
+    pub fn icu_locale_set_script(locale: *mut icu_locale_t, text: *const u8, length: usize) -> u32;
 
     pub fn icu_locale_set_region(locale: *mut icu_locale_t, text: *const u8, length: usize) -> u32;
 
@@ -165,9 +159,11 @@ extern "C" {
         value_length: usize,
     ) -> u32;
 
-    pub fn icu_locale_remove_keyword(locale: *mut icu_locale_t, text: *const u8, length: usize) -> u32;
+    pub fn icu_locale_remove_keyword(locale: *mut icu_locale_t, key: *const u8, key_length: usize) -> u32;
 
     pub fn icu_locale_clear_keywords(locale: *mut icu_locale_t) -> u32;
+
+    pub fn icu_locale_extend_unicode(locale: *mut icu_locale_t, from: *mut icu_locale_t) -> u32;
 
     pub fn icu_locale_attribute_count(locale: *mut icu_locale_t) -> usize;
 
@@ -252,8 +248,6 @@ extern "C" {
     pub fn icu_locale_set_other(locale: *mut icu_locale_t, text: *const u8, length: usize) -> u32;
 
     pub fn icu_locale_remove_other(locale: *mut icu_locale_t, singleton: u8) -> u32;
-
-    pub fn icu_locale_extend_unicode(locale: *mut icu_locale_t, from: *mut icu_locale_t) -> u32;
 
     pub fn icu_locale_get_data_locale(
         locale: *mut icu_locale_t,

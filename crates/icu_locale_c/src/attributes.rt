@@ -1,6 +1,7 @@
 //! Calls on the attributes of a locale.
+// Written by tools/write_calls from tools/calls.txt: change that table and not this file.
 ghost use Rattle.std.specs.Prelude.{◌≡◌, ◌↔◌, IsTrue, length};
-ghost use Rattle.iloc_spec_grammar.specs.Syntax.{Attribute as the_kind};
+ghost use Rattle.iloc_spec_grammar.specs.Syntax.{Attribute};
 ghost use Rattle.iloc_calls.specs.Answers.{Tells};
 ghost use Rattle.iloc_calls.specs.Numbers.{EndsAs};
 ghost use Rattle.iloc_handles.specs.Clearing.{Clears};
@@ -45,8 +46,8 @@ pub extern "C" fn icu_locale_get_attribute(
 #[unsafe(no_mangle)]
 pub extern "C" fn icu_locale_has_attribute(alloc: Global, handle: &mut Handle, text: &[u8]) -> bool
     ensures same { handle.new.value ≡ handle.old.value }
-    ensures answered { IsTrue result
-        ↔ HasWord the_kind text.now (attributes_of (held_locale handle.old.value)) }
+    ensures answered { IsTrue result ↔ HasWord Attribute text.now
+        (attributes_of (held_locale handle.old.value)) }
 {
     ask(alloc, handle, &HasText(OfAttributes, text))
 }
@@ -68,8 +69,8 @@ pub extern "C" fn icu_locale_remove_attribute(
     handle: &mut Handle,
     text: &[u8],
 ) -> u32
-    ensures changed { EndsAs (Changes (RemovesAttribute text.now) handle.old.value
-        handle.new.value) result }
+    ensures changed { EndsAs (Changes (RemovesAttribute text.now) handle.old.value handle.new.value)
+        result }
     ensures tight { IsTight handle.new.value }
 {
     make_change(alloc, handle, &RemoveAttribute(text))
@@ -78,8 +79,8 @@ pub extern "C" fn icu_locale_remove_attribute(
 /// Removes all attributes.
 #[unsafe(no_mangle)]
 pub extern "C" fn icu_locale_clear_attributes(alloc: Global, handle: &mut Handle) -> u32
-    ensures changed { EndsAs (Changes (Clears Clear.Attributes) handle.old.value
-        handle.new.value) result }
+    ensures changed { EndsAs (Changes (Clears Clear.Attributes) handle.old.value handle.new.value)
+        result }
     ensures tight { IsTight handle.new.value }
 {
     make_change(alloc, handle, &Clear::Attributes)

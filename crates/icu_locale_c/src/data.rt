@@ -1,18 +1,18 @@
-//! Calls on the data locale of a locale, and on the preferences that formatters take from it.
+//! Calls on the data locale of a locale, written by hand: the table `tools/calls.txt` has only their parameters.
 ghost use Rattle.std.specs.Prelude.{◌≡◌, ◌<◌};
 ghost use Rattle.std.specs.Ordering.{nat_cmp};
 ghost use Rattle.std.specs.Cmp.Lexicographic.{slice_cmp};
 ghost use Rattle.iloc_spec_preferences.specs.DataLocales.{data_text};
 ghost use Rattle.iloc_spec_preferences.specs.DataOrders.{data_locale_cmp};
-ghost use Rattle.iloc_calls.specs.Answers.{HandsOut, Tells, order_number};
+ghost use Rattle.iloc_calls.specs.Answers.{HandsOut, order_number};
 ghost use Rattle.iloc_calls.specs.Numbers.{EndsAs, number_of};
 ghost use Rattle.iloc_calls.specs.declared.status.Status.{Status};
 ghost use Rattle.iloc_handles.specs.declared.data.Priority.{Priority};
-ghost use Rattle.iloc_handles.specs.Data.{calendar_text, data_of, hours_text, numbering_text, priority_number};
+ghost use Rattle.iloc_handles.specs.Data.{data_of, priority_number};
 ghost use Rattle.iloc_handles.specs.Held.{held_locale};
 
 use iloc_calls::{Status, hand_out, number};
-use iloc_handles::{Handle, Named, Priority, ask, tell};
+use iloc_handles::{Handle, Priority, ask};
 use std::alloc::Global;
 
 /// Hands out the text of the data locale.
@@ -92,49 +92,4 @@ pub extern "C" fn icu_locale_data_cmp(
         }
         None => Status::UnknownNumber.number(),
     }
-}
-
-/// Hands out the calendar of the keyword `ca`.
-#[unsafe(no_mangle)]
-pub extern "C" fn icu_locale_get_calendar_algorithm(
-    alloc: Global,
-    handle: &mut Handle,
-    buffer: &mut [u8],
-    needed: &mut usize,
-) -> u32
-    ensures same { handle.new.value ≡ handle.old.value }
-    ensures told { EndsAs (Tells (calendar_text (held_locale handle.old.value)) buffer.old
-        buffer.new needed.new) result }
-{
-    tell(alloc, handle, &Named::Calendar, buffer, needed)
-}
-
-/// Hands out the hour cycle of the keyword `hc`.
-#[unsafe(no_mangle)]
-pub extern "C" fn icu_locale_get_hour_cycle(
-    alloc: Global,
-    handle: &mut Handle,
-    buffer: &mut [u8],
-    needed: &mut usize,
-) -> u32
-    ensures same { handle.new.value ≡ handle.old.value }
-    ensures told { EndsAs (Tells (hours_text (held_locale handle.old.value)) buffer.old
-        buffer.new needed.new) result }
-{
-    tell(alloc, handle, &Named::HourCycle, buffer, needed)
-}
-
-/// Hands out the numbering system of the keyword `nu`.
-#[unsafe(no_mangle)]
-pub extern "C" fn icu_locale_get_numbering_system(
-    alloc: Global,
-    handle: &mut Handle,
-    buffer: &mut [u8],
-    needed: &mut usize,
-) -> u32
-    ensures same { handle.new.value ≡ handle.old.value }
-    ensures told { EndsAs (Tells (numbering_text (held_locale handle.old.value)) buffer.old
-        buffer.new needed.new) result }
-{
-    tell(alloc, handle, &Named::NumberingSystem, buffer, needed)
 }

@@ -1,4 +1,5 @@
 //! Calls on the identifier of a locale.
+// Written by tools/write_calls from tools/calls.txt: change that table and not this file.
 ghost use Rattle.std.specs.Prelude.{◌≡◌, Some};
 ghost use Rattle.iloc_spec_grammar.specs.Values.{identifier_text};
 ghost use Rattle.iloc_calls.specs.Answers.{Tells};

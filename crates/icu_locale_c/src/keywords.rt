@@ -1,4 +1,5 @@
 //! Calls on the keywords of a locale, and on its unicode extension.
+// Written by tools/write_calls from tools/calls.txt: change that table and not this file.
 ghost use Rattle.std.specs.Prelude.{◌≡◌, length, option_map};
 ghost use Rattle.iloc_spec_grammar.specs.Syntax.{UnicodeKey, join};
 ghost use Rattle.iloc_calls.specs.Answers.{Tells};
@@ -52,9 +53,8 @@ pub extern "C" fn icu_locale_get_keyword_value(
     needed: &mut usize,
 ) -> u32
     ensures same { handle.new.value ≡ handle.old.value }
-    ensures told { EndsAs (Tells
-        (option_map join (value_at index (keywords_of (held_locale handle.old.value))))
-        buffer.old buffer.new needed.new) result }
+    ensures told { EndsAs (Tells (option_map join (value_at index
+        (keywords_of (held_locale handle.old.value)))) buffer.old buffer.new needed.new) result }
 {
     tell(alloc, handle, &ValueAt(OfKeywords, index), buffer, needed)
 }
@@ -69,9 +69,8 @@ pub extern "C" fn icu_locale_get_keyword(
     needed: &mut usize,
 ) -> u32
     ensures same { handle.new.value ≡ handle.old.value }
-    ensures told { EndsAs (Tells (option_map join
-        (value_of_key UnicodeKey key.now (keywords_of (held_locale handle.old.value))))
-        buffer.old buffer.new needed.new) result }
+    ensures told { EndsAs (Tells (option_map join (value_of_key UnicodeKey key.now
+        (keywords_of (held_locale handle.old.value)))) buffer.old buffer.new needed.new) result }
 {
     tell(alloc, handle, &ValueOf(OfKeywords, key), buffer, needed)
 }
@@ -94,8 +93,8 @@ pub extern "C" fn icu_locale_set_keyword(
 /// Removes the keyword with this key.
 #[unsafe(no_mangle)]
 pub extern "C" fn icu_locale_remove_keyword(alloc: Global, handle: &mut Handle, key: &[u8]) -> u32
-    ensures changed { EndsAs (Changes (RemovesPair UnicodeKey keywords key.now)
-        handle.old.value handle.new.value) result }
+    ensures changed { EndsAs (Changes (RemovesPair UnicodeKey keywords key.now) handle.old.value
+        handle.new.value) result }
     ensures tight { IsTight handle.new.value }
 {
     make_change(alloc, handle, &RemovePair(OfKeywords, key))
@@ -104,8 +103,8 @@ pub extern "C" fn icu_locale_remove_keyword(alloc: Global, handle: &mut Handle, 
 /// Removes all keywords.
 #[unsafe(no_mangle)]
 pub extern "C" fn icu_locale_clear_keywords(alloc: Global, handle: &mut Handle) -> u32
-    ensures changed { EndsAs (Changes (Clears Clear.Keywords) handle.old.value
-        handle.new.value) result }
+    ensures changed { EndsAs (Changes (Clears Clear.Keywords) handle.old.value handle.new.value)
+        result }
     ensures tight { IsTight handle.new.value }
 {
     make_change(alloc, handle, &Clear::Keywords)
@@ -119,8 +118,8 @@ pub extern "C" fn icu_locale_extend_unicode(
     from: &mut Handle,
 ) -> u32
     ensures same { from.new.value ≡ from.old.value }
-    ensures changed { EndsAs (Changes (ExtendsUnicode (held_locale from.old.value))
-        handle.old.value handle.new.value) result }
+    ensures changed { EndsAs (Changes (ExtendsUnicode (held_locale from.old.value)) handle.old.value
+        handle.new.value) result }
     ensures tight { IsTight handle.new.value }
 {
     change_by(alloc, handle, from, Merge::ExtendUnicode)

@@ -1,7 +1,8 @@
 //! Locales for C: a static library. Its header is `include/icu_locale.h`.
 //!
 //! The calls on texts stand here, each that of `iloc_calls` with its name there. The calls on locales that a program holds
-//! stand in the modules: most ask `iloc_handles` for a part (`tell`), a question (`ask`) or a change (`make_change`).
+//! stand in the modules: most ask `iloc_handles` for a part (`tell`), a question (`ask`) or a change (`make_change`), and
+//! are written by `tools/write_calls` from the table `tools/calls.txt`.
 #![tactic(auto)]
 
 ghost use Rattle.std.specs.Prelude.{◌≡◌, ◌+◌, ◌<◌, ◌≤◌, length};
@@ -20,10 +21,12 @@ ghost use Rattle.iloc_calls.specs.Faults.{FindsFault};
 ghost use Rattle.iloc_calls.specs.Numbers.{EndsAs, mode_number, number_of, words_of};
 
 mod attributes;
+mod by_hand;
 mod data;
 mod identifier;
 mod keywords;
 mod others;
+mod preferences;
 mod transform;
 mod variants;
 mod whole;

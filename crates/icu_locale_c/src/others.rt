@@ -1,4 +1,5 @@
 //! Calls on the other extensions of a locale.
+// Written by tools/write_calls from tools/calls.txt: change that table and not this file.
 ghost use Rattle.std.specs.Prelude.{◌≡◌, ◌↔◌, IsTrue};
 ghost use Rattle.iloc_calls.specs.Answers.{Tells};
 ghost use Rattle.iloc_calls.specs.Numbers.{EndsAs};

@@ -1,4 +1,5 @@
-//! Calls on the transform extension of a locale.
+//! Calls on the transform extension of a locale, and on its private extension.
+// Written by tools/write_calls from tools/calls.txt: change that table and not this file.
 ghost use Rattle.std.specs.Prelude.{◌≡◌, Some, length, option_map};
 ghost use Rattle.iloc_spec_grammar.specs.Syntax.{TransformKey};
 ghost use Rattle.iloc_spec_grammar.specs.Values.{field_value_text, private_text};
@@ -81,9 +82,9 @@ pub extern "C" fn icu_locale_get_field_value(
     needed: &mut usize,
 ) -> u32
     ensures same { handle.new.value ≡ handle.old.value }
-    ensures told { EndsAs (Tells
-        (option_map field_value_text (value_at index (fields_of (held_locale handle.old.value))))
-        buffer.old buffer.new needed.new) result }
+    ensures told { EndsAs (Tells (option_map field_value_text
+        (value_at index (fields_of (held_locale handle.old.value)))) buffer.old buffer.new
+        needed.new) result }
 {
     tell(alloc, handle, &ValueAt(OfFields, index), buffer, needed)
 }
@@ -98,9 +99,8 @@ pub extern "C" fn icu_locale_get_field(
     needed: &mut usize,
 ) -> u32
     ensures same { handle.new.value ≡ handle.old.value }
-    ensures told { EndsAs (Tells (option_map field_value_text
-        (value_of_key TransformKey key.now (fields_of (held_locale handle.old.value))))
-        buffer.old buffer.new needed.new) result }
+    ensures told { EndsAs (Tells (option_map field_value_text (value_of_key TransformKey key.now
+        (fields_of (held_locale handle.old.value)))) buffer.old buffer.new needed.new) result }
 {
     tell(alloc, handle, &ValueOf(OfFields, key), buffer, needed)
 }
@@ -123,8 +123,8 @@ pub extern "C" fn icu_locale_set_field(
 /// Removes the field with this key.
 #[unsafe(no_mangle)]
 pub extern "C" fn icu_locale_remove_field(alloc: Global, handle: &mut Handle, key: &[u8]) -> u32
-    ensures changed { EndsAs (Changes (RemovesPair TransformKey fields key.now)
-        handle.old.value handle.new.value) result }
+    ensures changed { EndsAs (Changes (RemovesPair TransformKey fields key.now) handle.old.value
+        handle.new.value) result }
     ensures tight { IsTight handle.new.value }
 {
     make_change(alloc, handle, &RemovePair(OfFields, key))
@@ -133,8 +133,8 @@ pub extern "C" fn icu_locale_remove_field(alloc: Global, handle: &mut Handle, ke
 /// Removes all fields.
 #[unsafe(no_mangle)]
 pub extern "C" fn icu_locale_clear_fields(alloc: Global, handle: &mut Handle) -> u32
-    ensures changed { EndsAs (Changes (Clears Clear.Fields) handle.old.value
-        handle.new.value) result }
+    ensures changed { EndsAs (Changes (Clears Clear.Fields) handle.old.value handle.new.value)
+        result }
     ensures tight { IsTight handle.new.value }
 {
     make_change(alloc, handle, &Clear::Fields)
@@ -149,9 +149,9 @@ pub extern "C" fn icu_locale_get_private(
     needed: &mut usize,
 ) -> u32
     ensures same { handle.new.value ≡ handle.old.value }
-    ensures told { EndsAs (Tells
-        (Some (private_text (held_locale handle.old.value).extensions.private)) buffer.old
-        buffer.new needed.new) result }
+    ensures told { EndsAs (Tells (Some (private_text
+        (held_locale handle.old.value).extensions.private)) buffer.old buffer.new needed.new)
+        result }
 {
     tell(alloc, handle, &Named::Private, buffer, needed)
 }

@@ -1,6 +1,7 @@
 //! Calls on the variants of a locale.
+// Written by tools/write_calls from tools/calls.txt: change that table and not this file.
 ghost use Rattle.std.specs.Prelude.{◌≡◌, ◌↔◌, IsTrue, length};
-ghost use Rattle.iloc_spec_grammar.specs.Syntax.{Variant as the_kind};
+ghost use Rattle.iloc_spec_grammar.specs.Syntax.{Variant};
 ghost use Rattle.iloc_calls.specs.Answers.{Tells};
 ghost use Rattle.iloc_calls.specs.Numbers.{EndsAs};
 ghost use Rattle.iloc_handles.specs.Clearing.{Clears};
@@ -45,8 +46,8 @@ pub extern "C" fn icu_locale_get_variant(
 #[unsafe(no_mangle)]
 pub extern "C" fn icu_locale_has_variant(alloc: Global, handle: &mut Handle, text: &[u8]) -> bool
     ensures same { handle.new.value ≡ handle.old.value }
-    ensures answered { IsTrue result
-        ↔ HasWord the_kind text.now (held_locale handle.old.value).id.variants }
+    ensures answered { IsTrue result ↔ HasWord Variant text.now
+        (held_locale handle.old.value).id.variants }
 {
     ask(alloc, handle, &HasText(OfVariants, text))
 }
@@ -64,8 +65,8 @@ pub extern "C" fn icu_locale_add_variant(alloc: Global, handle: &mut Handle, tex
 /// Removes the variant of the text.
 #[unsafe(no_mangle)]
 pub extern "C" fn icu_locale_remove_variant(alloc: Global, handle: &mut Handle, text: &[u8]) -> u32
-    ensures changed { EndsAs (Changes (RemovesVariant text.now) handle.old.value
-        handle.new.value) result }
+    ensures changed { EndsAs (Changes (RemovesVariant text.now) handle.old.value handle.new.value)
+        result }
     ensures tight { IsTight handle.new.value }
 {
     make_change(alloc, handle, &RemoveVariant(text))
@@ -74,8 +75,8 @@ pub extern "C" fn icu_locale_remove_variant(alloc: Global, handle: &mut Handle, 
 /// Removes all variants.
 #[unsafe(no_mangle)]
 pub extern "C" fn icu_locale_clear_variants(alloc: Global, handle: &mut Handle) -> u32
-    ensures changed { EndsAs (Changes (Clears Clear.Variants) handle.old.value
-        handle.new.value) result }
+    ensures changed { EndsAs (Changes (Clears Clear.Variants) handle.old.value handle.new.value)
+        result }
     ensures tight { IsTight handle.new.value }
 {
     make_change(alloc, handle, &Clear::Variants)

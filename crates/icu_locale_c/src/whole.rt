@@ -1,21 +1,19 @@
 //! Calls on whole locales that a program holds.
-ghost use Rattle.std.specs.Prelude.{◌≡◌, ◌↔◌, IsTrue, None, Some};
+// Written by tools/write_calls from tools/calls.txt: change that table and not this file.
+ghost use Rattle.std.specs.Prelude.{◌≡◌, ◌↔◌, IsTrue, Some};
 ghost use Rattle.std.specs.Ordering.{nat_cmp};
 ghost use Rattle.std.specs.Cmp.Lexicographic.{slice_cmp};
 ghost use Rattle.iloc_spec_grammar.specs.Values.{IsWellFormed, text as text_of};
-ghost use Rattle.iloc_spec_parts.specs.Orders.{locale_cmp};
 ghost use Rattle.iloc_locale.specs.LocaleReading.{unknown_locale};
 ghost use Rattle.iloc_calls.specs.Answers.{Tells, order_number};
 ghost use Rattle.iloc_calls.specs.Numbers.{EndsAs};
+ghost use Rattle.iloc_calls.specs.Hashing.{hash_of};
 ghost use Rattle.iloc_handles.specs.Held.{IsTight, held_locale};
 ghost use Rattle.iloc_handles.specs.Finding.{Changes};
-ghost use Rattle.iloc_handles.specs.Whole.{Copies, ParsesTo, TellsMeant};
-ghost use Rattle.iloc_calls.specs.Hashing.{hash_of};
+ghost use Rattle.iloc_handles.specs.Whole.{Copies, ParsesTo};
 
-use iloc_calls::number;
 use iloc_handles::{
-    AgainstBytes, FromText, Handle, Hashed, Merge, Named, Test, ask, change_by, make_change,
-    order_of, tell, tell_meant,
+    AgainstBytes, FromText, Handle, Hashed, Merge, Named, Test, ask, change_by, make_change, tell,
 };
 use std::alloc::Global;
 
@@ -40,19 +38,11 @@ pub extern "C" fn icu_locale_copy(alloc: Global, handle: &mut Handle, from: &mut
     change_by(alloc, handle, from, Merge::Copy)
 }
 
-/// Stands for `und` from then on, and holds nothing.
-#[unsafe(no_mangle)]
-pub extern "C" fn icu_locale_free(alloc: Global, handle: &mut Handle)
-    ensures { handle.new.value ≡ None }
-{
-    drop(handle.take(alloc));
-}
-
 /// Whether it stands for `und`.
 #[unsafe(no_mangle)]
 pub extern "C" fn icu_locale_is_und(alloc: Global, handle: &mut Handle) -> bool
     ensures same { handle.new.value ≡ handle.old.value }
-    ensures answered { IsTrue result ↔ (held_locale handle.old.value ≡ unknown_locale) }
+    ensures answered { IsTrue result ↔ ((held_locale handle.old.value) ≡ unknown_locale) }
 {
     ask(alloc, handle, &Test::Und)
 }
@@ -64,6 +54,25 @@ pub extern "C" fn icu_locale_is_well_formed(alloc: Global, handle: &mut Handle) 
     ensures answered { IsTrue result ↔ IsWellFormed (held_locale handle.old.value) }
 {
     ask(alloc, handle, &Test::WellFormed)
+}
+
+/// The byte order of the normal form against other bytes, as -1, 0 or 1.
+#[unsafe(no_mangle)]
+pub extern "C" fn icu_locale_cmp_bytes(alloc: Global, handle: &mut Handle, other: &[u8]) -> i8
+    ensures same { handle.new.value ≡ handle.old.value }
+    ensures answered { result ≡ order_number (slice_cmp nat_cmp
+        (text_of (held_locale handle.old.value)) other.now) }
+{
+    ask(alloc, handle, &AgainstBytes(other))
+}
+
+/// The hash of the normal form, FNV-1a of its bytes.
+#[unsafe(no_mangle)]
+pub extern "C" fn icu_locale_hash(alloc: Global, handle: &mut Handle) -> u64
+    ensures same { handle.new.value ≡ handle.old.value }
+    ensures answered { result ≡ hash_of (text_of (held_locale handle.old.value)) }
+{
+    ask(alloc, handle, &Hashed)
 }
 
 /// Hands out the normal form.
@@ -79,60 +88,4 @@ pub extern "C" fn icu_locale_to_string(
         buffer.new needed.new) result }
 {
     tell(alloc, handle, &Named::Whole, buffer, needed)
-}
-
-/// The order of two locales by their parts, as -1, 0 or 1.
-#[unsafe(no_mangle)]
-pub extern "C" fn icu_locale_cmp(alloc: Global, handle: &mut Handle, other: &mut Handle) -> i8
-    ensures same { handle.new.value ≡ handle.old.value }
-    ensures same_other { other.new.value ≡ other.old.value }
-    ensures answered { result ≡ order_number
-        (locale_cmp (held_locale handle.old.value) (held_locale other.old.value)) }
-{
-    number(order_of(alloc, handle, other))
-}
-
-/// Whether two locales are equal.
-#[unsafe(no_mangle)]
-pub extern "C" fn icu_locale_eq(alloc: Global, handle: &mut Handle, other: &mut Handle) -> bool
-    ensures same { handle.new.value ≡ handle.old.value }
-    ensures same_other { other.new.value ≡ other.old.value }
-    ensures answered { IsTrue result
-        ↔ (held_locale handle.old.value ≡ held_locale other.old.value) }
-{
-    iloc_handles::eq(alloc, handle, other)
-}
-
-/// The byte order of the normal form against other bytes, as -1, 0 or 1.
-#[unsafe(no_mangle)]
-pub extern "C" fn icu_locale_cmp_bytes(alloc: Global, handle: &mut Handle, other: &[u8]) -> i8
-    ensures same { handle.new.value ≡ handle.old.value }
-    ensures answered { result ≡ order_number
-        (slice_cmp nat_cmp (text_of (held_locale handle.old.value)) other.now) }
-{
-    ask(alloc, handle, &AgainstBytes(other))
-}
-
-/// Writes 1 if the text means the locale, and else 0.
-#[unsafe(no_mangle)]
-pub extern "C" fn icu_locale_eq_text(
-    alloc: Global,
-    handle: &mut Handle,
-    text: &[u8],
-    same: &mut u8,
-) -> u32
-    ensures same_locale { handle.new.value ≡ handle.old.value }
-    ensures told { EndsAs (TellsMeant text.now (held_locale handle.old.value) same.old same.new)
-        result }
-{
-    tell_meant(alloc, handle, text, same).number()
-}
-
-/// The hash of the normal form, FNV-1a of its bytes.
-#[unsafe(no_mangle)]
-pub extern "C" fn icu_locale_hash(alloc: Global, handle: &mut Handle) -> u64
-    ensures same { handle.new.value ≡ handle.old.value }
-    ensures answered { result ≡ hash_of (text_of (held_locale handle.old.value)) }
-{
-    ask(alloc, handle, &Hashed)
 }

@@ -1,0 +1,55 @@
+//! Calls on the preferences that formatters take from a locale.
+// Written by tools/write_calls from tools/calls.txt: change that table and not this file.
+ghost use Rattle.std.specs.Prelude.{◌≡◌};
+ghost use Rattle.iloc_calls.specs.Answers.{Tells};
+ghost use Rattle.iloc_calls.specs.Numbers.{EndsAs};
+ghost use Rattle.iloc_handles.specs.Held.{held_locale};
+ghost use Rattle.iloc_handles.specs.Data.{calendar_text, hours_text, numbering_text};
+
+use iloc_handles::{Handle, Named, tell};
+use std::alloc::Global;
+
+/// Hands out the calendar of the keyword `ca`.
+#[unsafe(no_mangle)]
+pub extern "C" fn icu_locale_get_calendar_algorithm(
+    alloc: Global,
+    handle: &mut Handle,
+    buffer: &mut [u8],
+    needed: &mut usize,
+) -> u32
+    ensures same { handle.new.value ≡ handle.old.value }
+    ensures told { EndsAs (Tells (calendar_text (held_locale handle.old.value)) buffer.old
+        buffer.new needed.new) result }
+{
+    tell(alloc, handle, &Named::Calendar, buffer, needed)
+}
+
+/// Hands out the hour cycle of the keyword `hc`.
+#[unsafe(no_mangle)]
+pub extern "C" fn icu_locale_get_hour_cycle(
+    alloc: Global,
+    handle: &mut Handle,
+    buffer: &mut [u8],
+    needed: &mut usize,
+) -> u32
+    ensures same { handle.new.value ≡ handle.old.value }
+    ensures told { EndsAs (Tells (hours_text (held_locale handle.old.value)) buffer.old buffer.new
+        needed.new) result }
+{
+    tell(alloc, handle, &Named::HourCycle, buffer, needed)
+}
+
+/// Hands out the numbering system of the keyword `nu`.
+#[unsafe(no_mangle)]
+pub extern "C" fn icu_locale_get_numbering_system(
+    alloc: Global,
+    handle: &mut Handle,
+    buffer: &mut [u8],
+    needed: &mut usize,
+) -> u32
+    ensures same { handle.new.value ≡ handle.old.value }
+    ensures told { EndsAs (Tells (numbering_text (held_locale handle.old.value)) buffer.old
+        buffer.new needed.new) result }
+{
+    tell(alloc, handle, &Named::NumberingSystem, buffer, needed)
+}

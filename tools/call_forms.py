@@ -1,0 +1,194 @@
+"""How the calls of tools/calls.txt are written in Rattle, C, C++, Rust and Python."""
+import re
+
+from call_table import HANDLES, NUMBERS, PLACES, RESULTS, TEXTS
+from written import WIDTH, fill, one_or_filled
+
+WIDE = 120  # the width of lines in C, C++ and Rust
+OPERATORS = {"◌≡◌": "≡", "◌↔◌": "↔"}
+
+
+# Rattle: the exports.
+
+
+def rattle_parameters(row):
+    yield "alloc: Global"
+    for it in row.takes:
+        if it in HANDLES:
+            yield f"{'handle' if it in ('reads', 'changes') else it}: &mut Handle"
+        elif it in TEXTS:
+            yield f"{TEXTS[it]}: &[u8]"
+        elif it in NUMBERS:
+            yield f"{it}: {NUMBERS[it][0]}"
+        elif it in PLACES:
+            yield f"{it}: &mut {PLACES[it][0]}"
+        else:
+            yield from ("buffer: &mut [u8]", "needed: &mut usize")
+
+
+def clauses(row):
+    """Yields the clauses of an export."""
+    gives = re.sub(r"\bit\b", "(held_locale handle.old.value)", row.clause)
+    if row.kind in ("tell", "ask"):
+        yield "ensures same { handle.new.value ≡ handle.old.value }"
+    if row.kind == "tell":
+        yield f"ensures told {{ EndsAs (Tells ({gives}) buffer.old buffer.new needed.new) result }}"
+    elif row.kind == "ask":
+        yield f"ensures answered {{ {'IsTrue result ↔' if row.gives == 'bool' else 'result ≡'} {gives} }}"
+    if row.kind == "by":
+        yield "ensures same { from.new.value ≡ from.old.value }"
+        gives = re.sub(r"\bfrom\b", "(held_locale from.old.value)", gives)
+    if row.kind in ("change", "by"):
+        yield f"ensures changed {{ EndsAs (Changes ({gives}) handle.old.value handle.new.value) result }}"
+        yield "ensures tight { IsTight handle.new.value }"
+
+
+def kept_together(clause):
+    """Returns the words of a clause. A short group in parentheses is one word, and so is what ends the clause."""
+    opened, letters = [], [*clause]
+    for at, it in enumerate(clause):
+        if it == "(":
+            opened.append(at)
+        elif it == ")":
+            start = opened.pop()
+            if at - start < 60:
+                letters[start:at] = clause[start:at].replace(" ", "\0")
+    words = "".join(letters)[:-2].split(" ")
+    return [it.replace("\0", " ") for it in (*words[:-1], f"{words[-1]} }}")]
+
+
+# Which function of iloc_handles an export calls, and how.
+CALLS = {
+    "tell": ("tell", "tell(alloc, handle, &{}, buffer, needed)"),
+    "ask": ("ask", "ask(alloc, handle, &{})"),
+    "change": ("make_change", "make_change(alloc, handle, &{})"),
+    "by": ("change_by", "change_by(alloc, handle, from, {})"),
+}
+
+
+def export(row):
+    """Returns the function of a row."""
+    head, parameters = f'pub extern "C" fn {row.symbol}', [*rattle_parameters(row)]
+    gives = f" -> {RESULTS[row.gives][0]}"
+    line = f"{head}({', '.join(parameters)}){gives}"
+    if len(line) > WIDTH:
+        line = "\n".join([f"{head}(", *[f"    {it}," for it in parameters], f"){gives}"])
+    kept = "\n".join(fill(kept_together(it), WIDTH, "    ", " " * 8) for it in clauses(row))
+    body = CALLS[row.kind][1].format(row.thing)
+    return f"/// {row.says}\n#[unsafe(no_mangle)]\n{line}\n{kept}\n{{\n    {body}\n}}\n"
+
+
+def ghost_uses(imports, texts):
+    """Returns the imports, each with those of its names that the clauses name."""
+    used, lines = {*re.findall(r"(?<![\w.])\w+", texts)}, []
+    for line in imports:
+        head, names = re.fullmatch(r"(.*)\{(.*)\};", line).groups()
+        is_used = lambda it: OPERATORS[it] in texts if it in OPERATORS else it.split(" as ")[-1] in used
+        kept = [it for it in names.split(", ") if is_used(it)]
+        if kept:
+            lines.append(f"{head}{{{', '.join(kept)}}};")
+    return "\n".join(lines)
+
+
+def module(says, rows, imports, made):
+    """Returns the source of a module of exports."""
+    uses = ghost_uses(imports, " ".join(it for row in rows for it in clauses(row)))
+    names = {"Handle", *(CALLS[it.kind][0] for it in rows)}
+    names.update(it for row in rows for it in re.findall(r"(?<![\w:])[A-Z]\w*", row.thing))
+    calls = one_or_filled("use iloc_handles::", sorted(names), ";", "")
+    functions = "\n".join(map(export, rows))
+    return f"//! {says}\n// {made}\n{uses}\n\n{calls}\nuse std::alloc::Global;\n\n{functions}"
+
+
+# C: the declarations.
+
+
+def c_parameters(row):
+    for it in row.takes:
+        if it in HANDLES:
+            yield f"{'' if it == 'changes' else 'const '}icu_locale_t *{HANDLES[it]}"
+        elif it in TEXTS:
+            yield from (f"const uint8_t *{TEXTS[it]}", f"size_t {row.length_of(it)}")
+        elif it in NUMBERS:
+            yield f"{NUMBERS[it][1]} {it}"
+        elif it in PLACES:
+            yield f"{PLACES[it][1]} *{it}"
+        else:
+            yield from ("uint8_t *buffer", "size_t room", "size_t *needed")
+
+
+def never_null(row):
+    """Returns the numbers of the parameters in C that are handles or places to write to."""
+    named = {f"*{it}" for it in (*PLACES, "needed")}
+    words = enumerate(c_parameters(row), 1)
+    return [at for at, it in words if "icu_locale_t *" in it or it.split()[-1] in named]
+
+
+def attributes(row):
+    """Returns the macros before a declaration in C."""
+    strict, handles = never_null(row), sum(it in HANDLES for it in row.takes)
+    if not strict:
+        first = "extern"
+    elif not handles and len(strict) == 1:
+        first = f"ICU_LOCALE_WRITES({strict[0]})"
+    else:
+        both = "_BOTH" if handles == 2 else ""
+        first = f"ICU_LOCALE_TAKES{both}(({', '.join(map(str, strict))}))"
+    return first + ("" if row.gives in ("status?", "u32", "nothing") else " ICU_LOCALE_TELLS")
+
+
+def declaration(row):
+    """Returns the declaration of a call in C."""
+    parameters, head = [*c_parameters(row)] or ["void"], attributes(row)
+    units = [*[f"{it}," for it in parameters[:-1]], f"{parameters[-1]})", "ICU_LOCALE_NOEXCEPT;"]
+    start = f"{head}{' ' if head == 'extern' else chr(10)}{RESULTS[row.gives][1]} {row.symbol}("
+    first, last = start[: start.rfind("\n") + 1], start[start.rfind("\n") + 1 :]
+    return first + fill(units, WIDE, last, "    ")
+
+
+# Rust: the declarations of sys.rs.
+
+
+def rust_parameters(row):
+    for it in row.takes:
+        if it in HANDLES:
+            yield f"{HANDLES[it]}: *mut icu_locale_t"
+        elif it in TEXTS:
+            yield from (f"{TEXTS[it]}: *const u8", f"{row.length_of(it)}: usize")
+        elif it in NUMBERS:
+            yield f"{it}: {NUMBERS[it][0]}"
+        elif it in PLACES:
+            yield f"{it}: *mut {PLACES[it][0]}"
+        else:
+            yield from ("buffer: *mut u8", "room: usize", "needed: *mut usize")
+
+
+def rust_declaration(row):
+    """Returns the declaration of a call in Rust."""
+    parameters = [*rust_parameters(row)]
+    gives = f" -> {RESULTS[row.gives][0]};" if row.gives != "nothing" else ";"
+    head = f"    pub fn {row.symbol}("
+    line = f"{head}{', '.join(parameters)})"
+    if len(line + gives) <= WIDE:
+        return line + gives
+    return "\n".join([head, *[f"        {it}," for it in parameters], f"    ){gives}"])
+
+
+# Python: the forms of the calls.
+
+
+def python_form(row):
+    """Returns the types of the arguments of a call."""
+    types = []
+    for it in row.takes:
+        known = NUMBERS.get(it) or PLACES.get(it)
+        types.append("_LOCALE" if it in HANDLES else "*_TEXT" if it in TEXTS else known[2] if known else "*_BUFFER")
+    return f'    "{row.name}": ({", ".join(types)}{"," if len(types) == 1 else ""}),\n'
+
+
+def python_forms(rows):
+    """Returns what Python says of all calls but `version`, which it asks before it knows them."""
+    rows = [it for it in rows if it.name != "version"]
+    others = "".join(f'    "{it.name}": {RESULTS[it.gives][2]},\n' for it in rows if RESULTS[it.gives][2])
+    forms = "".join(map(python_form, rows))
+    return f"_FORMS = {{\n{forms}}}\n_RETURNS: Dict[str, Any] = {{\n{others}}}\n"

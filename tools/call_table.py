@@ -1,0 +1,138 @@
+"""The table tools/calls.txt: its rows, what a call takes in each language, and what is wrong, by file and line."""
+import re
+
+TABLE = "tools/calls.txt"
+KINDS = ("tell", "ask", "change", "by")
+# A result in the table, in Rattle and Rust, in C, and in Python.
+RESULTS = {
+    "status": ("u32", "icu_locale_status", None),
+    "status?": ("u32", "icu_locale_status", None),
+    "u32": ("u32", "uint32_t", "_NUMBER"),
+    "bool": ("bool", "bool", "_TRUTH"),
+    "usize": ("usize", "size_t", "_SIZE"),
+    "i8": ("i8", "int8_t", "ctypes.c_int8"),
+    "u64": ("u64", "uint64_t", "ctypes.c_uint64"),
+    "nothing": ("", "void", "None"),
+}
+# What kind of handle, text, number or place to write to a parameter is.
+HANDLES = {"reads": "locale", "changes": "locale", "from": "from", "other": "other"}
+TEXTS = {"text": "text", "bytes": "other", "key": "key", "value": "value"}
+NUMBERS = {
+    "mode": ("u32", "icu_locale_mode", "_NUMBER"),
+    "status": ("u32", "icu_locale_status", "_NUMBER"),
+    "priority": ("u32", "icu_locale_priority", "_NUMBER"),
+    "index": ("usize", "size_t", "_SIZE"),
+    "singleton": ("u8", "uint8_t", "_BYTE"),
+}
+PLACES = {
+    "order": ("i8", "int8_t", "_ORDER"),
+    "same": ("u8", "uint8_t", "_SAME"),
+    "start": ("usize", "size_t", "_PLACE"),
+    "end": ("usize", "size_t", "_PLACE"),
+}
+PARAMETERS = {*HANDLES, *TEXTS, *NUMBERS, *PLACES, "out"}
+
+
+class Row:
+    """A row of the table: a call."""
+
+    def __init__(self, line, number, module):
+        fields = [it.strip() for it in line.split("|")]
+        self.number, self.module, self.count = number, module, len(fields)
+        self.name, given, thing, self.clause, self.says, self.cpp = (fields + [""] * 6)[:6]
+        takes, arrow, gives = given.partition("->")
+        self.takes, self.gives = takes.split(), gives.strip() if arrow else "status"
+        self.kind, _, self.thing = thing.partition(" ")
+        self.is_by_hand = self.count == 2
+        self.symbol = f"icu_locale_{self.name}"
+        # What is asked for, beside the handle and the place for the answer.
+        self.asked = tuple(it for it in self.takes if it not in ("reads", "changes", "out"))
+
+    def length_of(self, text):
+        """Returns the name of a text's length in C: plain of the first text, unless that is a key or a value."""
+        is_plain = text == "text" or (text == "bytes" and "text" not in self.takes)
+        return "length" if is_plain else f"{TEXTS[text]}_length"
+
+
+class Table:
+    """The rows, the lines of the header with each row in its place, the modules of exports, the comments for C++ by the
+    rows that they stand before, and the imports of definitions."""
+
+    def __init__(self, text):
+        self.rows, self.lines, self.modules, self.comments, self.imports = [], [], {}, {}, []
+        module, comment = "", []
+        for number, line in enumerate(text.splitlines(), 1):
+            head = re.fullmatch(r"\[(\w+)\] (.+)", line)
+            if head:
+                module = head[1]
+                self.modules[module] = head[2]
+            elif line.startswith("ghost use "):
+                self.imports.append(line)
+            elif line.startswith("// "):
+                comment.append(line[3:])
+            elif " | " in line and not line.startswith(("#", " *", "/*")):
+                row = Row(line, number, module)
+                self.comments[row.name], comment = comment, []
+                self.rows.append(row)
+                self.lines.append(row)
+            elif not line.startswith("# ") and line != "#":
+                self.lines.append(line)
+
+    def rows_of(self, module):
+        """Returns the rows whose exports the module has."""
+        return [it for it in self.rows if it.module == module and not it.is_by_hand]
+
+
+def wrong_in_row(row):
+    """Yields what is wrong with a row by itself."""
+    if row.count not in (2, 5, 6):
+        yield f"a row has two fields, five or six, and this one has {row.count}. The top of the table says which"
+        return
+    if not re.fullmatch("[a-z][a-z_]*", row.name):
+        yield f"the call `{row.name}` is no name of a call. Write small letters and `_`, without icu_locale_"
+    for it in row.takes:
+        if it not in PARAMETERS:
+            yield f"the parameter `{it}` is not known. Write one of: {' '.join(sorted(PARAMETERS))}"
+    if row.gives not in RESULTS:
+        yield f"the result `{row.gives}` is not known. Write one of: {' '.join(RESULTS)}"
+    if not row.is_by_hand:
+        yield from wrong_in_export(row)
+
+
+def wrong_in_export(row):
+    """Yields what is wrong with the fields of a row from which an export is written."""
+    handle = "changes" if row.kind in ("change", "by") else "reads"
+    if row.kind not in KINDS:
+        yield f"the kind `{row.kind}` is not known. Write one of: {' '.join(KINDS)}"
+    elif row.takes[:1] != [handle]:
+        yield f"a call of the kind `{row.kind}` begins with the parameter `{handle}`. Write it first"
+    elif (row.kind == "tell") != (row.takes[-1] == "out"):
+        yield "`tell` alone hands out a text. Write `out` last there, and nowhere else"
+    elif (row.kind == "by") != ("from" in row.takes):
+        yield "`by` alone has another handle. Write `from` there, and nowhere else"
+    elif (row.kind == "ask") == (row.gives == "status"):
+        yield "`ask` alone gives no status. Write its result behind `->`, and none elsewhere"
+    if not row.module:
+        yield "the row stands in no module. Write a line such as `[variants] Calls on variants.` before it"
+    if not (row.thing and row.clause and row.says):
+        yield "a field is empty: the thing, what it gives, or the comment of the export"
+    if not re.fullmatch(r"(-|[a-z_]+|mode::[a-z_]+|[a-z]+ = .+)?", row.cpp):
+        yield f"the field for C++ is `{row.cpp}`. Write `-`, a name, a mode or a default, or leave it out"
+    if row.kind != "by" and row.cpp != "-" and {*row.asked} - {*TEXTS, "index"}:
+        yield "the member for C++ would take more than texts, so it is written by hand. Write `-` into the sixth field"
+
+
+def wrong_in_table(table):
+    """Yields each row with what is wrong with it, by itself or beside those above it."""
+    known = {}
+    for row in table.rows:
+        yield from ((row, it) for it in wrong_in_row(row))
+        first = known.setdefault(row.name, row.number)
+        if first != row.number:
+            yield row, f"the call `{row.name}` is already that of line {first}. Change one of the two rows"
+
+
+def table_of(text):
+    """Returns the table, and what is wrong with its rows, each with its file and line."""
+    table = Table(text)
+    return table, [f"{TABLE}:{row.number}: {what}" for row, what in wrong_in_table(table)]
