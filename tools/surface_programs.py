@@ -5,14 +5,7 @@ its name, how many rounds it makes, and eight texts. For each they write its nam
 import re
 
 from common import ROOT
-from surface_call import CALLS
-
-# (each adds its calls to the table)
-import surface_keywords
-import surface_lists
-import surface_locales
-import surface_parts
-import surface_words
+from surface_calls import CALLS
 
 # (clang takes very long over one program of all calls)
 PROGRAMS = 4

@@ -1,0 +1,274 @@
+"""Lays out a long line of `.antt` over several lines, without a change of its words.
+
+A line is read by its brackets, its operators and its binders. It is broken at the lowest depth at which it can be: after
+`→`, `;` and `,`, before any other operator, and before an argument. What goes on stands four columns further in than the
+line that it goes on from. To antt a line goes on a declaration if it stands further in than that declaration began."""
+import re
+
+WIDTH, STEP = 110, 4
+STRING = re.compile(r'"(?:[^"\\]|\\.)*"|«[^»]*»')
+CLOSERS = {"(": ")", "{": "}", "[": "]"}
+# Operators, those that bind least first. A line is broken before them.
+OPERATORS = "$|∵|↔ ⊎|×|∙|≡ ≢ ≤ < ≥ > ⊑ ∣|∥|&&|==|++ ∷ ⊛|+ -|* / %|^"
+OPERATORS = [set(it.replace("∥", "||").split()) for it in OPERATORS.split("|")]
+BEFORE = {"|"}.union(*OPERATORS)
+
+
+class Glue:
+    """Texts and nodes that stand side by side with no break between them, as a bracket and what it holds."""
+
+    def __init__(self, pieces):
+        self.pieces = pieces
+        self.flat = "".join(it if isinstance(it, str) else it.flat for it in pieces)
+
+    def lay(self, line, indent, tail):
+        lines = [line]
+        for at, piece in enumerate(self.pieces):
+            if isinstance(piece, str):
+                lines[-1] += piece
+                continue
+            after = self.pieces[at + 1 :]
+            texts = [it for it in after if isinstance(it, str)]
+            room = len("".join(texts)) + (tail if len(texts) == len(after) else 0)
+            lines[-1:] = laid(piece, lines[-1], indent, room)
+        return lines
+
+
+class Run:
+    """Parts with a break between any two: as many on a line as fit. Parts of an operator stand below the first of them,
+    and arguments further in than their function."""
+
+    def __init__(self, parts, are_aligned):
+        self.parts, self.are_aligned, self.hangs = parts, are_aligned, False
+        self.flat = " ".join(it.flat for it in parts)
+
+    def lay(self, line, indent, tail):
+        begins = not line.strip() and not self.hangs
+        indent = len(line) if begins and self.are_aligned else indent
+        lines, is_whole = [line], True
+        for at, part in enumerate(self.parts):
+            room = tail if part is self.parts[-1] else 0
+            start = lines[-1] + (" " if at else "")
+            if not at:
+                made = laid(part, start, indent + STEP if self.are_aligned else indent, room)
+            elif fits(part, start, room) and (is_whole or is_text(part)):
+                made = [start + part.flat]
+            else:
+                made = self.goes_on(at, start, indent, room)
+            lines[-1:] = made
+            is_whole = len(made) < 2 or made[0] == start.rstrip()
+        return lines
+
+    def goes_on(self, at, start, indent, room):
+        """Returns the lines of a part that stands below, or that begins on this line and goes on below."""
+        part = self.parts[at]
+        below = [start.rstrip(), *laid(part, " " * indent, indent + STEP, room)]
+        is_last = part is self.parts[-1] and not self.are_aligned
+        if not is_last and not hugs(part):
+            return below
+        here = laid(part, start, indent, room)
+        is_here = cost(here, room) < cost(below, room) or is_last and at == 1 and cost(here, room) == cost(below, room)
+        return here if is_here else below
+
+
+class Fields(Run):
+    """The fields of a record: a line each, or as many as fit where all are short."""
+
+    def __init__(self, parts):
+        super().__init__(parts, True)
+
+    def lay(self, line, indent, tail):
+        if all(len(it.flat) < 30 for it in self.parts):
+            return super().lay(line, indent, tail)
+        lines = [line.rstrip()] if line.strip() else []
+        for part in self.parts:
+            lines += laid(part, " " * indent, indent + STEP, tail if part is self.parts[-1] else 0)
+        return lines
+
+
+class Items(Run):
+    """The items of a list: what goes on in one of them stands further in than the next."""
+
+    def __init__(self, parts):
+        super().__init__(parts, True)
+        for it in parts:
+            it.hangs = True
+
+
+class Head:
+    """What binds or names, as `f x =` or `λ x.`, and what it is: on the same line, or below and further in."""
+
+    def __init__(self, first, rest, is_below):
+        self.first, self.rest, self.is_below = first, rest, is_below
+        self.flat = f"{first.flat} {rest.flat}"
+
+    def lay(self, line, indent, tail):
+        lines = laid(self.first, line, indent, 0)
+        here = laid(self.rest, lines[-1] + " ", indent, tail)
+        below = [lines[-1], *laid(self.rest, " " * indent, indent + STEP, tail)]
+        is_here = cost(here, tail) < cost(below, tail) or not (self.is_below and not hugs(self.rest)) and cost(here, tail) <= cost(below, tail)
+        return lines[:-1] + (here if is_here else below)
+
+
+def laid(node, line, indent, tail):
+    """Returns the lines that the node makes, the first of which begins as this line; after the last stands a tail."""
+    return [line + node.flat] if fits(node, line, tail) else node.lay(line, indent, tail)
+
+
+def is_text(node):
+    return isinstance(node, Glue) and all(isinstance(it, str) for it in node.pieces)
+
+
+def fits(node, line, tail):
+    return len(line) + len(node.flat) + tail <= WIDTH
+
+
+def cost(lines, tail):
+    """Returns how bad lines are before a tail: first those that are too long, and then all."""
+    return sum(len(it) > WIDTH for it in [*lines[:-1], lines[-1] + " " * tail]), len(lines)
+
+
+def hugs(node):
+    """Returns whether a node may begin at the end of a line: a function, a record, or cases."""
+    return node.flat.startswith(("λ ", "(λ ", "record ", "(record ", "["))
+
+
+def read(text, at=0, closer=""):
+    """Returns the words of a text up to a closing bracket, each as a list of pieces, and the place of that bracket."""
+    words, word = [], []
+    while at < len(text) and not (text[at] == closer and (closer != "]" or not word)):
+        sign, string = text[at], STRING.match(text, at)
+        if sign == " ":
+            words, word = words + [word] if word else words, []
+            at += 1
+        elif sign in "({" or sign == "[" and not word and text[at + 1 : at + 2] in ("", " "):
+            inner, end = read(text, at + 1, CLOSERS[sign])
+            before = " " if text[at + 1 : at + 2] == " " and inner else ""
+            after = " " if inner and text[end - 1] == " " and end < len(text) else ""
+            word.append(Glue([sign + before, *([phrase(inner)] if inner else []), after + text[end : end + 1]]))
+            at = min(end + 1, len(text))
+        else:
+            it = string[0] if string else sign
+            word[-1:] = [word[-1] + it] if word and isinstance(word[-1], str) else [*word[-1:], it]
+            at += len(it)
+    return words + [word] if word else words, at
+
+
+def said(word):
+    """Returns the text of a word that holds no bracket, or nothing."""
+    return word[0] if len(word) == 1 and isinstance(word[0], str) else ""
+
+
+def ends(word, sign):
+    return isinstance(word[-1], str) and word[-1].endswith(sign)
+
+
+def split(words, is_end, is_begin=lambda it: False):
+    """Returns the words in parts, each of which ends with a word of one kind, or begins with one of the other."""
+    parts = [[]]
+    for it in words:
+        if parts[-1] and is_begin(it):
+            parts.append([])
+        parts[-1].append(it)
+        if is_end(it):
+            parts.append([])
+    return [it for it in parts if it]
+
+
+def phrase(words):
+    """Returns the node of the words of a line, or of what stands in brackets."""
+    for sign, kind in ((";", Fields), (",", Items)):
+        parts = split(words, lambda it: ends(it, sign))
+        if len(parts) > 1:
+            return kind([phrase(it) for it in parts])
+    cases = split(words, lambda it: False, lambda it: said(it) == "|")
+    if len(cases) > 1:
+        return Run([phrase(it) for it in cases], True)
+    texts = [said(it) for it in words]
+    binder = next((at for at, it in enumerate(texts) if it in ("λ", "let")), len(texts))
+    for signs, is_below in ((("=", "↦"), True), ((":",), False)):
+        at = next((at for at, it in enumerate(texts[:binder]) if it in signs), None)
+        if at is not None and at + 1 < len(words):
+            return Head(named(words[: at + 1]), phrase(words[at + 1 :]), is_below)
+    if binder == 0:
+        return bound(words, texts)
+    if binder < len(words):
+        return chain(words[:binder] + [[bound(words[binder:], texts[binder:])]])
+    inside = next((at for at, it in enumerate(texts) if it == "in"), None)
+    return goes_on(words, inside) if inside else chain(words)
+
+
+def named(words):
+    """Returns the node of what stands before `=`, with it."""
+    if len(words) < 3:
+        return chain(words)
+    return Glue([phrase(words[:-1]), " " + said(words[-1])])
+
+
+def goes_on(words, inside):
+    """Returns the node of words with an `in`, and of what follows it on lines below."""
+    parts = [Glue([phrase(words[:inside]), " in"])]
+    return Run(parts + [phrase(words[inside + 1 :])], True) if words[inside + 1 :] else parts[0]
+
+
+def bound(words, texts):
+    """Returns the node of a function or of a `let`, which reach to the end of the words."""
+    if texts[0] == "λ":
+        at = next((at for at, it in enumerate(words) if ends(it, ".")), len(words) - 1)
+        head = chain(words[: at + 1])
+        return Head(head, phrase(words[at + 1 :]), True) if words[at + 1 :] else head
+    depth, inside = 0, None
+    for at, it in enumerate(texts):
+        depth += {"let": 1, "in": -1}.get(it, 0)
+        if depth == 0:
+            inside = at
+            break
+    if inside is None:
+        return Glue(["let ", phrase(words[1:])]) if words[1:] else Glue(["let"])
+    first = Glue(["let ", phrase(words[1:inside]), " in"])
+    rest = phrase(words[inside + 1 :]) if words[inside + 1 :] else None
+    return Run([first, rest], True) if rest else first
+
+
+def chain(words):
+    """Returns the node of operands with their operators, or of a function with its arguments."""
+    if said(words[0]) == "→" and len(words) > 1:
+        return Glue(["→ ", chain(words[1:])])
+    arrows = split(words, lambda it: said(it) == "→")
+    if len(arrows) > 1:
+        return Run([after(it, "→") for it in arrows], True)
+    for kind in OPERATORS:
+        if any(said(it) in kind for it in words[1:-1]):
+            parts = split(words, lambda it: False, lambda it: said(it) in kind)
+            return Run([operand(it) for it in parts], True)
+    if len(words) > 1 and said(words[0]) in BEFORE:
+        return operand(words)
+    parts = [glued(it) for it in arguments(words)]
+    return Run(parts, False) if len(parts) > 1 else parts[0]
+
+
+def after(words, sign):
+    """Returns the node of words whose last is an operator that stays with them."""
+    return Glue([chain(words[:-1]), f" {sign}"]) if said(words[-1]) == sign and len(words) > 1 else chain(words)
+
+
+def operand(words):
+    """Returns the node of words whose first is an operator that stays with them."""
+    return Glue([f"{said(words[0])} ", chain(words[1:])]) if said(words[0]) in BEFORE and len(words) > 1 else chain(words)
+
+
+def arguments(words):
+    """Returns words that are broken apart: `record { .. }` and what follows `as` or `at` stay in one."""
+    parts = []
+    for it in words:
+        before = said(parts[-1])[-8:].split(" ") if parts else []
+        is_fields = isinstance(it[0], Glue) and it[0].flat.startswith("{ ")
+        if before and (before[-1] in ("record", "as", "at", "←") or before[0] == "record" and is_fields):
+            parts[-1] = [f"{parts[-1][0]} {it[0]}", *it[1:]] if isinstance(it[0], str) else [f"{parts[-1][0]} ", *it]
+        else:
+            parts.append(list(it))
+    return parts
+
+
+def glued(pieces):
+    return pieces[0] if len(pieces) == 1 and not isinstance(pieces[0], str) else Glue(pieces)
