@@ -9,8 +9,7 @@ WIDTH, STEP = 110, 4
 STRING = re.compile(r'"(?:[^"\\]|\\.)*"|«[^»]*»')
 CLOSERS = {"(": ")", "{": "}", "[": "]"}
 # Operators, those that bind least first. A line is broken before them.
-OPERATORS = "$|∵|↔ ⊎|×|∙|≡ ≢ ≤ < ≥ > ⊑ ∣|∥|&&|==|++ ∷ ⊛|+ -|* / %|^"
-OPERATORS = [set(it.replace("∥", "||").split()) for it in OPERATORS.split("|")]
+OPERATORS = [{*it.split()} for it in "$, ∵, ↔ ⊎, ×, ∙, ≡ ≢ ≤ < ≥ > ⊑ ∣, ||, &&, ==, ++ ∷ ⊛, + -, * / %, ^".split(",")]
 BEFORE = {"|"}.union(*OPERATORS)
 
 
@@ -66,9 +65,7 @@ class Run:
         is_last = part is self.parts[-1] and not self.are_aligned
         if not is_last and not hugs(part):
             return below
-        here = laid(part, start, indent, room)
-        is_here = cost(here, room) < cost(below, room) or is_last and at == 1 and cost(here, room) == cost(below, room)
-        return here if is_here else below
+        return better(laid(part, start, indent, room), below, room, is_last and at == 1)
 
 
 class Fields(Run):
@@ -106,8 +103,7 @@ class Head:
         lines = laid(self.first, line, indent, 0)
         here = laid(self.rest, lines[-1] + " ", indent, tail)
         below = [lines[-1], *laid(self.rest, " " * indent, indent + STEP, tail)]
-        is_here = cost(here, tail) < cost(below, tail) or not (self.is_below and not hugs(self.rest)) and cost(here, tail) <= cost(below, tail)
-        return lines[:-1] + (here if is_here else below)
+        return lines[:-1] + better(here, below, tail, not self.is_below or hugs(self.rest))
 
 
 def laid(node, line, indent, tail):
@@ -126,6 +122,12 @@ def fits(node, line, tail):
 def cost(lines, tail):
     """Returns how bad lines are before a tail: first those that are too long, and then all."""
     return sum(len(it) > WIDTH for it in [*lines[:-1], lines[-1] + " " * tail]), len(lines)
+
+
+def better(here, below, tail, is_first):
+    """Returns the lines that cost less, and of equal ones the first if these are wanted."""
+    costs = cost(here, tail), cost(below, tail)
+    return here if costs[0] < costs[1] or is_first and costs[0] == costs[1] else below
 
 
 def hugs(node):
