@@ -20,7 +20,6 @@ import textwrap
 
 import trusted_graph as graph
 import trusted_types as types
-from common import without_prefix
 
 HEADLINE = ("Locale::try_from_utf8", "Locale::normalize_utf8", "Locale::is_well_formed", "Locale::write_to_string")
 ON_MEMORY = "ensures memory"  # the one kind of clause that stands apart: it says when memory may run out
