@@ -2,7 +2,8 @@
 import functools
 import re
 
-from api_source import libraries, read, sources
+from api_source import libraries, sources
+from common import read
 
 WORDS = "docs/DEFINITIONS.md"
 
