@@ -1,11 +1,12 @@
-"""Lays out a long line of `.antt` over several lines, without a change of its words.
+"""Lays out a long line of `.antt` over several lines, as rt fmt leaves it.
 
 A line is read by its brackets, its operators and its binders. It is broken at the lowest depth at which it can be: after
-`→`, `;` and `,`, before any other operator, and before an argument. What goes on stands four columns further in than the
-line that it goes on from. To antt a line goes on a declaration if it stands further in than that declaration began."""
+`→`, before any other operator, and before an argument. What goes on stands four columns further in than the declaration, the
+field or the case that it is part of, at whatever depth. A list, a record or cases that one line does not hold have a line for
+each part, two columns further in than the line that opens them."""
 import re
 
-WIDTH, STEP = 110, 4
+WIDTH, STEP, PART = 110, 4, 2
 STRING = re.compile(r'"(?:[^"\\]|\\.)*"|«[^»]*»')
 CLOSERS = {"(": ")", "{": "}", "[": "]"}
 # Operators, those that bind least first. A line is broken before them.
@@ -33,67 +34,47 @@ class Glue:
         return lines
 
 
-class Run:
-    """Parts with a break between any two: as many on a line as fit. Parts of an operator stand below the first of them,
-    and arguments further in than their function."""
+class Parts:
+    """The parts of a list, a record or cases in their brackets, each with a line of its own if one line does not hold all."""
 
-    def __init__(self, parts, are_aligned):
-        self.parts, self.are_aligned, self.hangs = parts, are_aligned, False
-        self.flat = " ".join(it.flat for it in parts)
+    def __init__(self, opening, parts, closing, sign):
+        self.opening, self.parts, self.closing, self.sign = opening.strip(), parts, closing.strip(), sign
+        self.flat = opening + " ".join(it.flat for it in parts) + closing
 
     def lay(self, line, indent, tail):
-        begins = not line.strip() and not self.hangs
-        indent = len(line) if begins and self.are_aligned else indent
+        base = len(line) - len(line.lstrip())
+        lines = [line + self.opening]
+        for part in self.parts:
+            start, end = ("| ", "") if self.sign == "|" else ("", self.sign)
+            start, end = "" if part.flat.startswith("| ") else start, "" if part.flat.endswith(self.sign) else end
+            lines += laid(Glue([start, part, end]), " " * (base + PART), base + PART + STEP, 0)
+        return [*lines, " " * base + self.closing]
+
+
+class Run:
+    """Parts with a break between any two: as many on a line as fit."""
+
+    def __init__(self, parts):
+        self.parts, self.flat = parts, " ".join(it.flat for it in parts)
+
+    def lay(self, line, indent, tail):
         lines, is_whole = [line], True
-        for at, part in enumerate(self.parts):
+        for part in self.parts:
             room = tail if part is self.parts[-1] else 0
-            start = lines[-1] + (" " if at else "")
-            if not at:
-                made = laid(part, start, indent + STEP if self.are_aligned else indent, room)
+            start = lines[-1] + (" " if part is not self.parts[0] else "")
+            if part is self.parts[0]:
+                made = laid(part, start, indent, room)
             elif fits(part, start, room) and (is_whole or is_text(part)):
                 made = [start + part.flat]
             else:
-                made = self.goes_on(at, start, indent, room)
+                made = better(laid(part, start, indent, room), [start.rstrip(), *laid(part, " " * indent, indent, room)], room, False)
             lines[-1:] = made
-            is_whole = len(made) < 2 or made[0] == start.rstrip()
+            is_whole = len(made) < 2 or made[0] == start.rstrip() and len(made) == 2
         return lines
-
-    def goes_on(self, at, start, indent, room):
-        """Returns the lines of a part that stands below, or that begins on this line and goes on below."""
-        part = self.parts[at]
-        below = [start.rstrip(), *laid(part, " " * indent, indent + STEP, room)]
-        is_last = part is self.parts[-1] and not self.are_aligned
-        if not is_last and not hugs(part):
-            return below
-        return better(laid(part, start, indent, room), below, room, is_last and at == 1)
-
-
-class Fields(Run):
-    """The fields of a record: a line each, or as many as fit where all are short."""
-
-    def __init__(self, parts):
-        super().__init__(parts, True)
-
-    def lay(self, line, indent, tail):
-        if all(len(it.flat) < 30 for it in self.parts):
-            return super().lay(line, indent, tail)
-        lines = [line.rstrip()] if line.strip() else []
-        for part in self.parts:
-            lines += laid(part, " " * indent, indent + STEP, tail if part is self.parts[-1] else 0)
-        return lines
-
-
-class Items(Run):
-    """The items of a list: what goes on in one of them stands further in than the next."""
-
-    def __init__(self, parts):
-        super().__init__(parts, True)
-        for it in parts:
-            it.hangs = True
 
 
 class Head:
-    """What binds or names, as `f x =` or `λ x.`, and what it is: on the same line, or below and further in."""
+    """What binds or names, as `f x =` or `λ x.`, and what it is: on the same line, or below."""
 
     def __init__(self, first, rest, is_below):
         self.first, self.rest, self.is_below = first, rest, is_below
@@ -102,8 +83,8 @@ class Head:
     def lay(self, line, indent, tail):
         lines = laid(self.first, line, indent, 0)
         here = laid(self.rest, lines[-1] + " ", indent, tail)
-        below = [lines[-1], *laid(self.rest, " " * indent, indent + STEP, tail)]
-        return lines[:-1] + better(here, below, tail, not self.is_below or hugs(self.rest))
+        below = [lines[-1], *laid(self.rest, " " * indent, indent, tail)]
+        return lines[:-1] + better(here, below, tail, not self.is_below)
 
 
 def laid(node, line, indent, tail):
@@ -130,11 +111,6 @@ def better(here, below, tail, is_first):
     return here if costs[0] < costs[1] or is_first and costs[0] == costs[1] else below
 
 
-def hugs(node):
-    """Returns whether a node may begin at the end of a line: a function, a record, or cases."""
-    return node.flat.startswith(("λ ", "(λ ", "record ", "(record ", "["))
-
-
 def read(text, at=0, closer=""):
     """Returns the words of a text up to a closing bracket, each as a list of pieces, and the place of that bracket."""
     words, word = [], []
@@ -147,7 +123,7 @@ def read(text, at=0, closer=""):
             inner, end = read(text, at + 1, CLOSERS[sign])
             before = " " if text[at + 1 : at + 2] == " " and inner else ""
             after = " " if inner and text[end - 1] == " " and end < len(text) else ""
-            word.append(Glue([sign + before, *([phrase(inner)] if inner else []), after + text[end : end + 1]]))
+            word.append(bracket(sign + before, inner, after + text[end : end + 1]))
             at = min(end + 1, len(text))
         else:
             it = string[0] if string else sign
@@ -177,15 +153,20 @@ def split(words, is_end, is_begin=lambda it: False):
     return [it for it in parts if it]
 
 
-def phrase(words):
-    """Returns the node of the words of a line, or of what stands in brackets."""
-    for sign, kind in ((";", Fields), (",", Items)):
+def bracket(opening, words, closing):
+    """Returns the node of a bracket: of a list, a record or cases, or of one phrase."""
+    for sign in ";,":
         parts = split(words, lambda it: ends(it, sign))
-        if len(parts) > 1:
-            return kind([phrase(it) for it in parts])
-    cases = split(words, lambda it: False, lambda it: said(it) == "|")
-    if len(cases) > 1:
-        return Run([phrase(it) for it in cases], True)
+        if closing and (len(parts) > 1 or parts and (opening, sign) == ("{ ", ";")):
+            return Parts(opening, [phrase(it) for it in parts], closing, sign)
+    if opening[0] == "[" and closing and words:
+        cases = split(words, lambda it: False, lambda it: said(it) == "|")
+        return Parts(opening, [phrase(it) for it in cases], closing, "|")
+    return Glue([opening, phrase(words), closing] if words else [opening + closing])
+
+
+def phrase(words):
+    """Returns the node of the words of a line, or of a part of it."""
     texts = [said(it) for it in words]
     binder = next((at for at, it in enumerate(texts) if it in ("λ", "let")), len(texts))
     for signs, is_below in ((("=", "↦"), True), ((":",), False)):
@@ -210,7 +191,7 @@ def named(words):
 def goes_on(words, inside):
     """Returns the node of words with an `in`, and of what follows it on lines below."""
     parts = [Glue([phrase(words[:inside]), " in"])]
-    return Run(parts + [phrase(words[inside + 1 :])], True) if words[inside + 1 :] else parts[0]
+    return Run(parts + [phrase(words[inside + 1 :])]) if words[inside + 1 :] else parts[0]
 
 
 def bound(words, texts):
@@ -229,7 +210,7 @@ def bound(words, texts):
         return Glue(["let ", phrase(words[1:])]) if words[1:] else Glue(["let"])
     first = Glue(["let ", phrase(words[1:inside]), " in"])
     rest = phrase(words[inside + 1 :]) if words[inside + 1 :] else None
-    return Run([first, rest], True) if rest else first
+    return Run([first, rest]) if rest else first
 
 
 def chain(words):
@@ -238,15 +219,15 @@ def chain(words):
         return Glue(["→ ", chain(words[1:])])
     arrows = split(words, lambda it: said(it) == "→")
     if len(arrows) > 1:
-        return Run([after(it, "→") for it in arrows], True)
+        return Run([after(it, "→") for it in arrows])
     for kind in OPERATORS:
         if any(said(it) in kind for it in words[1:-1]):
             parts = split(words, lambda it: False, lambda it: said(it) in kind)
-            return Run([operand(it) for it in parts], True)
+            return Run([operand(it) for it in parts])
     if len(words) > 1 and said(words[0]) in BEFORE:
         return operand(words)
     parts = [glued(it) for it in arguments(words)]
-    return Run(parts, False) if len(parts) > 1 else parts[0]
+    return Run(parts) if len(parts) > 1 else parts[0]
 
 
 def after(words, sign):
@@ -260,15 +241,13 @@ def operand(words):
 
 
 def arguments(words):
-    """Returns words that are broken apart: `record { .. }` and what follows `as` or `at` stay in one."""
+    """Returns words that are broken apart: `record { .. }`, what follows `as` or `at`, and `where` stay with what is before."""
     parts = []
     for it in words:
-        before = said(parts[-1])[-8:].split(" ") if parts else []
-        is_fields = isinstance(it[0], Glue) and it[0].flat.startswith("{ ")
-        if before and (before[-1] in ("record", "as", "at", "←") or before[0] == "record" and is_fields):
-            parts[-1] = [f"{parts[-1][0]} {it[0]}", *it[1:]] if isinstance(it[0], str) else [f"{parts[-1][0]} ", *it]
-        else:
-            parts.append(list(it))
+        before = "".join(parts[-1]).split(" ") if parts and all(isinstance(one, str) for one in parts[-1]) else [""]
+        is_fields = not isinstance(it[0], str) and it[0].flat.startswith("{ ")
+        stays = before[-1] in ("record", "as", "at", "←") or before[0] == "record" and is_fields or said(it) == "where"
+        parts[-1:] = [[*parts[-1], " ", *it]] if parts and stays else [*parts[-1:], list(it)]
     return parts
 
 
