@@ -9,7 +9,7 @@ import os
 import shutil
 
 from kit import rt, rtlib
-from common import ROOT
+from common import ROOT, read, write
 
 
 class KeptByCi:
@@ -59,8 +59,7 @@ class KeptByCi:
             shutil.rmtree(f"{crate.folder}/out/rlib", ignore_errors=True)
             if not self.kept.give(crate, False, self.keys[crate.name]):
                 return False
-        with open(f"{crate.folder}/out/rlib/stamp", "w", encoding="utf-8") as it:
-            it.write(stamp)
+        write(f"{crate.folder}/out/rlib/stamp", stamp)
         return True
 
     def is_given(self, crate):
@@ -77,7 +76,6 @@ class KeptByCi:
 def made_of(place):
     """Returns the files of what is kept there, with their sums, or None if nothing is."""
     try:
-        with open(f"{place}/made.json", encoding="utf-8") as it:
-            return [tuple(row) for row in json.load(it)["files"]]
+        return [tuple(row) for row in json.loads(read(f"{place}/made.json"))["files"]]
     except (OSError, ValueError, KeyError, TypeError):
         return None

@@ -2,7 +2,7 @@
 import re
 from typing import NamedTuple
 
-from common import ROOT
+from common import read
 
 
 class Call(NamedTuple):
@@ -106,9 +106,4 @@ class Table:
         return [texts[0] if is_known and it in UNKNOWN else it for it in texts]
 
 
-def table():
-    with open(f"{ROOT}/tools/surface_calls.txt", encoding="utf-8") as it:
-        return Table(it.read()).calls
-
-
-CALLS = table()
+CALLS = Table(read("tools/surface_calls.txt")).calls
