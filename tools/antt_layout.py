@@ -52,10 +52,10 @@ class Parts:
 
 
 class Run:
-    """Parts with a break between any two: as many on a line as fit."""
+    """Parts with a break between any two, as many on a line as fit: operands, or a function with its arguments."""
 
-    def __init__(self, parts):
-        self.parts, self.flat = parts, " ".join(it.flat for it in parts)
+    def __init__(self, parts, is_call=False):
+        self.parts, self.is_call, self.flat = parts, is_call, " ".join(it.flat for it in parts)
 
     def lay(self, line, indent, tail):
         lines, is_whole = [line], True
@@ -67,7 +67,9 @@ class Run:
             elif fits(part, start, room) and (is_whole or is_text(part)):
                 made = [start + part.flat]
             else:
-                made = better(laid(part, start, indent, room), [start.rstrip(), *laid(part, " " * indent, indent, room)], room, False)
+                made = [start.rstrip(), *laid(part, " " * indent, indent, room)]
+                if hugs(part) or self.is_call and part is self.parts[-1]:
+                    made = better(laid(part, start, indent, room), made, room, False)
             lines[-1:] = made
             is_whole = len(made) < 2 or made[0] == start.rstrip() and len(made) == 2
         return lines
@@ -98,6 +100,11 @@ def is_text(node):
 
 def fits(node, line, tail):
     return len(line) + len(node.flat) + tail <= WIDTH
+
+
+def hugs(node):
+    """Returns whether a node may begin at the end of a line: a function, a record, a list or cases."""
+    return isinstance(node, Parts) or node.flat.startswith(("λ ", "(λ ", "record ", "(record ", "["))
 
 
 def cost(lines, tail):
@@ -227,7 +234,7 @@ def chain(words):
     if len(words) > 1 and said(words[0]) in BEFORE:
         return operand(words)
     parts = [glued(it) for it in arguments(words)]
-    return Run(parts) if len(parts) > 1 else parts[0]
+    return Run(parts, is_call=True) if len(parts) > 1 else parts[0]
 
 
 def after(words, sign):
