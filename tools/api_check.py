@@ -7,6 +7,7 @@ import re
 import api_examples
 import api_search
 from api_model import entries
+from common import read
 
 # Words of the language, which declare and are no names.
 NO_NAMES = {"abbrev", "let", "in", "pub", "record", "data", "module", "use", "where", "unfoldable"}
@@ -15,12 +16,7 @@ LAMBDA = re.compile(r'<i class="s">λ</i> ((?:(?!\. ).)*)\. ')
 
 def texts_of(folder):
     """Returns the text of each page."""
-    found = {}
-    for name in sorted(os.listdir(folder)):
-        if name.endswith(".html"):
-            with open(f"{folder}/{name}", encoding="utf-8") as it:
-                found[name] = it.read()
-    return found
+    return {it: read(f"{folder}/{it}") for it in sorted(os.listdir(folder)) if it.endswith(".html")}
 
 
 def broken_links(texts, folder, places, found):

@@ -2,9 +2,12 @@
 import functools
 import re
 
-from api_source import libraries, read, sources
+from api_source import libraries, sources
+from common import read
 
 WORDS = "docs/DEFINITIONS.md"
+# A `use` line, whose names may stand on lines below.
+USES = re.compile(r"^(?:pub )?use [^{\n]*(?:\{[^}]*\})?.*\n?", re.M)
 
 
 class Block:
@@ -64,9 +67,9 @@ def blocks_of(module):
             first = first if lines else number
             lines.append(line)
         elif lines:
-            if not all(it.startswith(("use ", "pub use ", "pub mod ", "mod ")) for it in lines):
-                kept = [it for it in lines if not it.startswith(("use ", "pub use "))]
-                yield Block("\n".join(kept), [it for it in module.definitions if first <= it.line < number])
+            kept = USES.sub("", "\n".join(lines)).rstrip("\n")
+            if re.sub(r"(?m)^(?:pub )?mod .*", "", kept).strip():
+                yield Block(kept, [it for it in module.definitions if first <= it.line < number])
             lines = []
 
 

@@ -9,8 +9,8 @@ import re
 
 import api_words
 from api_model import entries
-from api_source import CORE, libraries, read, sources
-from common import ROOT, without_prefix, without_suffix
+from api_source import CORE, libraries, sources
+from common import ROOT, read, without_prefix, without_suffix
 from trusted_rt import blanked, closing, joined
 
 # The longest statement that is shown.

@@ -16,10 +16,9 @@ from api_markdown import LAWS, json_types, trait_homes
 from api_markup import code, dim, esc, items, leads, marked, source, tag
 from api_model import model
 from api_names import Sources, call_at, entry_at, field_id, module_file, short, shown_entries
-from api_source import CORE, ghost_uses, read
-from common import ROOT, without_prefix, without_suffix
+from api_source import CORE, ghost_uses
+from common import ROOT, read, without_prefix, without_suffix, write as put
 
-BESIDE = os.path.dirname(os.path.realpath(__file__))
 SIGNS = re.compile(r"[λ→×≡↔≢≤⊎¬∷⊥⊤∥]|\+\+")
 PAGE = """<!doctype html>
 <html lang="en"><head><meta charset="utf-8">
@@ -315,13 +314,8 @@ def write(folder):
     for name, (title, body) in pages().items():
         put(f"{folder}/{name}", PAGE.format(title=esc(title), body=body))
     found = json.dumps(api_search.items(), ensure_ascii=False, separators=(",", ":"))
-    with open(f"{BESIDE}/api_page.js", encoding="utf-8") as it:
-        put(f"{folder}/search.js", f"var ITEMS = {found};\n{it.read()}")
-    shutil.copyfile(f"{BESIDE}/api_page.css", f"{folder}/page.css")
+    put(f"{folder}/search.js", f"var ITEMS = {found};\n{read('tools/api_page.js')}")
+    shutil.copyfile(f"{ROOT}/tools/api_page.css", f"{folder}/page.css")
     for picture in re.findall(r"!\[[^\]]*\]\(([\w.]+)\)", read(api_definitions.WORDS)):
         shutil.copyfile(f"{ROOT}/docs/{picture}", f"{folder}/{picture}")
 
-
-def put(path, text):
-    with open(path, "w", encoding="utf-8") as it:
-        it.write(text)

@@ -4,8 +4,8 @@ import os
 import re
 
 from api_model import model
-from api_source import CORE, read
-from common import ROOT, without_prefix
+from api_source import CORE
+from common import ROOT, read, without_prefix
 
 FIELD = re.compile(r"(?:pub )?(\w+)(?=:|\(|$| )")
 

@@ -4,7 +4,7 @@ import re
 from api_definitions import WORDS, files, slug
 from api_model import model
 from api_names import call_at, entry_at, field_id, field_name, module_file, shown_entries, short
-from api_source import read
+from common import read
 
 # What is found is in this order, where the words of a query fit alike.
 TYPE, MODULE, CALL, VARIANT, PROSE, LAW, DEFINITION = 0, 20, 30, 40, 120, 150, 200

@@ -11,12 +11,6 @@ IMPL = re.compile(r"impl(?:<.*?>)? (?:(.+?) for )?((\w+)(?:<.*>)?)$")
 ALIAS = re.compile(r"pub type (\w+).* = ((\w+)(?:<.*>)?)$")
 
 
-def read(path):
-    """Returns the text of a file of the repository."""
-    with open(f"{ROOT}/{path}", encoding="utf-8") as it:
-        return it.read()
-
-
 @functools.lru_cache(maxsize=None)
 def sources():
     """Returns all crates as they are read."""

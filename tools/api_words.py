@@ -256,19 +256,17 @@ BASES = {
 
 # Calls that stand for another item of Rust (empty: nothing does).
 OWN_CALLS = {
+    **dict.fromkeys((
+        "extend_from_map item_mut try_from_raw_v1 from_piece to_piece from_word is_well_formed read fill "
+        "union write_short_piece lm_empty lm_pairs lm_value_mut lm_from_vec"
+    ).split(), ""),
     "unknown": "the constant UNKNOWN",
     "from_vec": "From<Vec<T>>",
     "from_iter": "FromIterator",
     "from_pairs": "FromIterator",
     "from_subtags": "FromIterator<Subtag>",
-    "extend_from_map": "",
     "as_slice": "Deref",
     "as_mut_slice": "DerefMut",
-    "item_mut": "",
-    "try_from_raw_v1": "",
-    "from_piece": "",
-    "to_piece": "",
-    "from_word": "",
     "words": "Display",
     "as_inner": "Deref",
     "to_value": "From for Value",
@@ -280,41 +278,22 @@ OWN_CALLS = {
     "from_script": "From<Option<Script>>",
     "from_region": "From<Option<Region>>",
     "from_parts": "From<(Language, Option<Script>, Option<Region>)>",
-    "is_well_formed": "",
-    "read": "",
-    "fill": "",
-    "union": "",
     "eq_str": "PartialEq<str>",
-    "write_short_piece": "",
     "to_json": "Serialize",
     "from_json": "Deserialize",
-    "lm_empty": "",
-    "lm_pairs": "",
-    "lm_value_mut": "",
-    "lm_from_vec": "",
     "lm_clone": "Clone",
 }
 # The calls of a type whose Rust counterpart has another name than the general table says.
 OWN_CALLS_OF = {
+    **dict.fromkeys((
+        "Keywords::try_from_iter Keywords::as_slice Attributes::try_from_iter Unicode::try_from_iter "
+        "Transform::try_from_iter Other::try_from_iter Private::try_from_iter Fields::empty WordSet::extend "
+        "Fields::as_slice Other::as_slice LiteMap::as_slice Value::as_slice Locale::clear Extensions::clear "
+        "LanguageIdentifier::clear"
+    ).split(), ""),
     "LocalePreferences::extend": "LocalePreferences::extend",
-    "Keywords::try_from_iter": "",
-    "Keywords::as_slice": "",
-    "Attributes::try_from_iter": "",
-    "Unicode::try_from_iter": "",
-    "Transform::try_from_iter": "",
-    "Other::try_from_iter": "",
-    "Private::try_from_iter": "",
     "Value::extend": "Extend<Subtag>",
-    "Fields::empty": "",
-    "WordSet::extend": "",
     "LiteMap::extend": "Extend",
-    "Fields::as_slice": "",
-    "Other::as_slice": "",
-    "LiteMap::as_slice": "",
-    "Value::as_slice": "",
-    "Locale::clear": "",
-    "Extensions::clear": "",
-    "LanguageIdentifier::clear": "",
     "PreferenceKey::unicode_extension_value": "PreferenceKey::unicode_extension_value",
 }
 

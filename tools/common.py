@@ -1,4 +1,4 @@
-"""What the scripts share: the top folder, the words they are started with, messages, and crates.txt.
+"""What the scripts share: the top folder, the words they are started with, messages, files, counts, and crates.txt.
 
 It needs nothing but Python, so that --help answers on a machine without the toolchain."""
 import argparse
@@ -34,6 +34,39 @@ def toolchain(name):
     if not shutil.which("rt"):
         then = "Install the Rattle toolchain, and put its folder bin/ on the PATH."
         stop(name, "no command rt was found on the PATH", then)
+
+
+def read(path, errors="strict"):
+    """Returns the text of a file, by its path in the repository or its whole path."""
+    with open(os.path.join(ROOT, path), encoding="utf-8", errors=errors) as it:
+        return it.read()
+
+
+def write(path, text):
+    """Gives a file this text, by its path in the repository or its whole path."""
+    with open(os.path.join(ROOT, path), "w", encoding="utf-8") as it:
+        it.write(text)
+
+
+def differing(texts):
+    """Returns the paths of these files, each with the text that it ought to have, that have another text or none."""
+    return [it for it, text in texts.items() if not os.path.isfile(os.path.join(ROOT, it)) or read(it) != text]
+
+
+class Counts:
+    """The cases so far."""
+
+    passed = failed = 0
+
+    def see(self, name, is_right, told=""):
+        """Counts a case, and says what is wrong with it."""
+        self.passed, self.failed = self.passed + bool(is_right), self.failed + (not is_right)
+        if not is_right:
+            print(f"{name}: {told}" if told else name, flush=True)
+
+    def end(self):
+        """Prints the last line, and returns the status."""
+        return counted(self.passed, self.failed)
 
 
 def counted(passed, failed):

@@ -4,7 +4,7 @@ What it shows is an answer of the program `example_recipes`, which the gate runs
 the locale asks for, and the locale's normalized text."""
 import re
 
-from api_source import read
+from common import read
 
 ASKED = "calendar EN-latn-us-u-CA-Buddhist-x-Foo"
 PAGE = "docs/identifier.svg"
@@ -20,7 +20,7 @@ def answer():
     found = [said for asked, said in rows if asked == ASKED]
     if not found:
         lost = f"crates/example_recipes/stdin has no row '{ASKED}'"
-        raise SystemExit(f"draw_identifier: {lost}: put it back, with its answer in stdout")
+        raise SystemExit(f"list_api: {lost}: put it back, with its answer in stdout")
     calendar, normal = re.match(r"(\S+), then (\S+)$", found[0]).groups()
     return ASKED.split(" ")[1], calendar, normal
 
@@ -105,7 +105,7 @@ def picture():
     given, normal = text.split("-"), answered.split("-")
     if [it.lower() for it in given] != [it.lower() for it in normal] or calendar not in normal:
         wrong = f"the answer '{answered}' is not '{text}' in another case"
-        raise SystemExit(f"draw_identifier: {wrong}: draw another row")
+        raise SystemExit(f"list_api: {wrong}: draw another row")
     width = LEFT + len(given) * (WIDE + GAP) - GAP + EDGE
     out = [
         f'<svg xmlns="http://www.w3.org/2000/svg" viewBox="0 0 {width} 320"'

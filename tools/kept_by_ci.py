@@ -2,15 +2,14 @@
 
 What it keeps of a crate it finds by a sum of the crate's text, of the toolchain, and of the libraries below as
 they were built. So these are taken all together, lowest first, in the place of what else stands in crates/*/out.
-They get the mark of a built library, which rt ci leaves out since they fit no others: so rt check takes them too.
-A toolchain that keeps nothing has no class Kept; then nothing is found."""
+They get the mark of a built library, which rt ci leaves out since they fit no others: so rt check takes them too."""
 import hashlib
 import json
 import os
 import shutil
 
 from kit import rt, rtlib
-from common import ROOT
+from common import ROOT, read, write
 
 
 class KeptByCi:
@@ -18,8 +17,6 @@ class KeptByCi:
 
     def __init__(self, crates):
         self.crates, self.keys, self.keeps = crates, {}, False
-        if not hasattr(rt, "Kept"):
-            return
         rt.Crate.allowed = rt.handles_of(ROOT)
         self.kept = rt.Kept(crates)
         if self.kept.at:
@@ -62,8 +59,7 @@ class KeptByCi:
             shutil.rmtree(f"{crate.folder}/out/rlib", ignore_errors=True)
             if not self.kept.give(crate, False, self.keys[crate.name]):
                 return False
-        with open(f"{crate.folder}/out/rlib/stamp", "w", encoding="utf-8") as it:
-            it.write(stamp)
+        write(f"{crate.folder}/out/rlib/stamp", stamp)
         return True
 
     def is_given(self, crate):
@@ -80,7 +76,6 @@ class KeptByCi:
 def made_of(place):
     """Returns the files of what is kept there, with their sums, or None if nothing is."""
     try:
-        with open(f"{place}/made.json", encoding="utf-8") as it:
-            return [tuple(row) for row in json.load(it)["files"]]
+        return [tuple(row) for row in json.loads(read(f"{place}/made.json"))["files"]]
     except (OSError, ValueError, KeyError, TypeError):
         return None

@@ -1,22 +1,18 @@
-"""Has the libraries be there that some crates stand on: as `rt ci` kept them, or else proved.
+"""Has the libraries be there that some crates stand on: as `rt ci` kept them.
 
-With a toolchain whose `rt ci` keeps what it proves, what is lacking is proved by `rt ci`, so that ./run, ./test and
-every other checkout take it too. With others it is proved here, side by side, lowest and longest chain first."""
-import copy
+What is lacking is proved by `rt ci`, so that ./run, ./test and every other checkout take it too."""
 import os
 import re
-import tempfile
 import time
 
 from kept_by_ci import KeptByCi
-from kit import lanes, read, rt, rtlib
+from kit import lanes, read
 from proof_room import Proof
 from sources import sum_of
 
 # About what the proof of a library from nothing takes, in processor seconds: for reading what it
 # stands on, and for each line of its source. (The 25 of the program took 43 to 52 processor minutes.)
 EACH, A_LINE = 10, 0.13
-KEY = "proof"
 
 
 def texts_of(crate):
@@ -63,60 +59,6 @@ def estimate(crates):
     return max(total, *chain.values()) / 60
 
 
-def build(crate, jobs):
-    """Proves a library and keeps it, as rt lib does, and returns the status and what was said. rt lib
-    keeps out whoever works on a library below, so that it proves one crate at a time."""
-    crate = copy.copy(crate)
-    with tempfile.TemporaryFile("a+", errors="replace") as crate.out:
-        status = crate.build_rlib(["--jobs", str(jobs)], anew=False)
-        crate.out.seek(0)
-        return status, crate.out.read()
-
-
-class Proofs:
-    """The proofs of a list of libraries, and how far they are."""
-
-    def __init__(self, crates, say, until=None):
-        self.crates, self.say, self.until = crates, say, until
-        self.began, self.done, self.failed = time.time(), 0, []
-
-    def prove(self, crate, given, jobs):
-        """Proves a library and returns whether it is proved. One that stands on a library that is
-        not proved is not tried, and none is once the time is out."""
-        if not all(given.get((it.name, KEY), True) for it in crate.below()):
-            return False
-        if self.until and time.time() > self.until:
-            return False
-        status, said = build(crate, jobs)
-        self.done += 1
-        minutes = (time.time() - self.began) / 60
-        far = f"{self.done} of {len(self.crates)} crates, {minutes:.0f} min"
-        if status:
-            self.failed.append(crate.name)
-            self.say(f"{crate.name} is NOT PROVED ({far}):\n{said[-3000:]}")
-        else:
-            self.say(f"proved {far} ({crate.name})")
-        return status == 0
-
-    def run(self):
-        """Returns whether all are proved. Meanwhile no other rt works on them."""
-        rtlib.guarded()  # in this thread first, which alone may say what a signal does
-        held = rtlib.lock(self.crates)
-        try:
-            return self.run_alone()
-        finally:
-            for it in held:
-                os.close(it)
-
-    def run_alone(self):
-        names, tasks = {it.name for it in self.crates}, {}
-        for crate in self.crates:
-            waits = [(it.name, KEY) for it in crate.below() if it.name in names]
-            call = lambda given, jobs, crate=crate: self.prove(crate, given, jobs)
-            tasks[crate.name, KEY] = waits, crate.count(rb"\n"), rt.need(crate), call
-        return all(rt.in_lanes(tasks).values())
-
-
 def minutes_of(crates):
     """Returns in words how long these proofs take."""
     return f"about {max(estimate(crates), 1):.0f} minutes on {lanes()} processors, once"
@@ -142,11 +84,8 @@ def have(crates, say, until=None, is_there=is_fresh):
         kept = KeptByCi(needed)
     if not kept.lacking() and kept.take():
         return True, []
-    # (rt ci keeps nothing here, or the disk has no room for it)
-    left = [it for it in needed if not it.is_built()]
-    say(f"proving {len(left)} libraries, for this checkout alone: {minutes_of(left)}")
-    proofs = Proofs(left, say, until)
-    return proofs.run(), proofs.failed
+    say("rt ci keeps nothing here, as where the disk has no room: `rt ci` says why")
+    return False, []
 
 
 def take(crates):

@@ -16,6 +16,11 @@ HOUR_CYCLES = {"h11", "h12", "h23", "c12", "c24"}
 REFUSED_LANGUAGE, REFUSED_SUBTAG, REFUSED_EXTENSION = (
     "! The given language subtag is invalid", "! Invalid subtag", "! Invalid extension",
 )
+# The sets of words of a locale: what a word is, and the refusal of what is none.
+SETS = {
+    "variants": ("[A-Za-z0-9]{5,8}|[0-9][A-Za-z0-9]{3}", REFUSED_SUBTAG),
+    "attributes": ("[A-Za-z0-9]{3,8}", REFUSED_EXTENSION),
+}
 SLOTS = 4
 WORDS = ["", "en", "EN", "gsw", "abcd", "Und", "sinhalese", "e", "latn", "LATN", "Arab", "US", "gb", "419", "41", "4190"]
 WORDS += ["posix", "POSIX", "1994", "199a", "a199", "macos", "valencia", "fonipa", "abcdefghi", "rozaj", "biske", "x"]
@@ -274,7 +279,11 @@ class Script:
         """Takes one step, and notes it with the answer and with the text of the locale after it."""
         words = [it if isinstance(it, bytes) else str(it).encode() for it in given]
         self.steps.append(b"\t".join([call.encode(), b"%d" % at, *words]))
-        answer = getattr(self, call.replace("-", "_"))(self.slots[at], at, *given)
+        does, _, part = call.partition("-")
+        if f"{part.rstrip('s')}s" in SETS:
+            answer = self.in_set(self.slots[at], does, f"{part.rstrip('s')}s", *given)
+        else:
+            answer = getattr(self, call.replace("-", "_"))(self.slots[at], at, *given)
         self.wanted.append(f"{answer}\t{self.slots[at].written()}")
 
     def parse(self, _, at, text):
@@ -303,48 +312,19 @@ class Script:
         return "ok"
 
     @staticmethod
-    def is_variant(word):
-        return re.fullmatch("[A-Za-z0-9]{5,8}|[0-9][A-Za-z0-9]{3}", word)
-
-    @staticmethod
-    def is_attribute(word):
-        return re.fullmatch("[A-Za-z0-9]{3,8}", word)
-
-    def add_variant(self, it, _, word):
-        if not self.is_variant(word):
-            return REFUSED_SUBTAG
-        it.variants.add(word.lower())
-        return "ok"
-
-    def remove_variant(self, it, _, word):
-        is_there = word.lower() in it.variants
-        it.variants.discard(word.lower())
-        return "ok" if is_there else "none"
-
-    def has_variant(self, it, _, word):
-        return int(word.lower() in it.variants)
-
-    def clear_variants(self, it, _):
-        it.variants.clear()
-        return "ok"
-
-    def add_attribute(self, it, _, word):
-        if not self.is_attribute(word):
-            return REFUSED_EXTENSION
-        it.attributes.add(word.lower())
-        return "ok"
-
-    def remove_attribute(self, it, _, word):
-        is_there = word.lower() in it.attributes
-        it.attributes.discard(word.lower())
-        return "ok" if is_there else "none"
-
-    def has_attribute(self, it, _, word):
-        return int(word.lower() in it.attributes)
-
-    def clear_attributes(self, it, _):
-        it.attributes.clear()
-        return "ok"
+    def in_set(it, does, part, word=""):
+        """What is answered where a word of a set is added, taken out or looked for, or all are taken out."""
+        form, refused = SETS[part]
+        words, is_there = getattr(it, part), word.lower() in getattr(it, part)
+        if does == "has":
+            return int(is_there)
+        if does == "add":
+            if not re.fullmatch(form, word):
+                return refused
+            words.add(word.lower())
+        else:
+            words.difference_update([word.lower()] if does == "remove" else [*words])
+        return "none" if does == "remove" and not is_there else "ok"
 
     def set_keyword(self, it, _, key, value):
         if not re.fullmatch("[A-Za-z0-9][A-Za-z]", key):

@@ -1,8 +1,7 @@
 """Toolchains that only pretend, for tools/test_scripts: each is the text of a command rt, with places to fill."""
 
-# A toolchain that keeps what it proves. It says of each crate that it is proved, and hands out a program.
+# It says of each crate that it is proved, and hands out a program.
 TOOLCHAIN = """#!/bin/sh
-# (such a toolchain says: rt: NAME is kept: FILE)
 [ "$*" = ci ] || exit 2
 echo "$PWD" > {seen}
 for it in crates/*; do echo "rt: ${{it#crates/}} {proved}"; done
@@ -11,81 +10,9 @@ mkdir -p crates/locale_normal/out
 cp {program} crates/locale_normal/out/locale_normal
 exit {status}
 """
-# One that keeps nothing, with what tools/prove_keeping asks of it. What it proves it adds to the file
-# `seen`, it refuses what is wrong, and it waits before the program.
-FORGETFUL = """#!/usr/bin/env python3
-import hashlib, os, shutil, time
-
-KIT = os.path.dirname(os.path.realpath(__file__))
-
-
-class rtlib:
-    class Crate:
-        def __init__(self, name):
-            self.name, self.folder, self.out = name, os.path.abspath("crates/" + name), None
-            self.rlib = self.folder + "/out/rlib/" + name + ".rlib"
-
-        def makes_rlib(self):
-            return self.name != "locale_normal"
-
-        def below(self):
-            return []
-
-        def text(self):
-            with open(self.folder + ("/src/lib.rt" if self.makes_rlib() else "/src/main.rt")) as it:
-                return it.read()
-
-        def stamp(self):
-            return hashlib.sha256(self.text().encode()).hexdigest()
-
-        def build_rlib(self, flags, anew):
-            with open("{seen}", "a") as it:
-                it.write(self.name + " ")
-            os.makedirs(self.rlib)
-            with open(self.rlib + "/format", "w") as it:
-                it.write(self.text())
-            return int("wrong" in self.text())
-
-    def crates_below(top):
-        return [rtlib.Crate(it) for it in ("low", "locale_normal")]
-
-
-class Crate(rtlib.Crate):
-    def ci(self):
-        if self.makes_rlib():
-            status = self.build_rlib([], anew=True)
-            return status or int(not os.path.isfile(self.rlib + "/format"))
-        time.sleep({wait})
-        os.makedirs("crates/locale_normal/out")
-        shutil.copy("{program}", "crates/locale_normal/out/locale_normal")
-        return 0
-
-
-def handles_of(root):
-    return ()
-
-
-def in_lanes(tasks):
-    return dict()
-
-
-def processors():
-    return 1
-
-
-def ci():
-    rtlib.Crate = Crate
-    for it in rtlib.crates_below("."):
-        status = it.ci()
-        print("rt:", it.name, "NOT PROVED" if status else "proved", flush=True)
-        if status:
-            return 1
-    return 0
-"""
 # One that keeps what it proves, as tools/kept_by_ci.py asks for it. What it proves it adds to the file `seen`, and
 # it waits before each.
 KEEPER = """#!/usr/bin/env python3
-# (it says: rt: NAME is kept: an earlier run proved it)
 import hashlib, json, os, shutil, sys, time
 
 KIT = os.path.dirname(os.path.realpath(__file__))

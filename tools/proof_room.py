@@ -1,9 +1,8 @@
 """Proves crates by `rt ci` in a folder of its own, beside which all else goes on, and builds a program.
 
 The room has these crates and those below them, without their mutants. What `rt ci`
-proves there is kept at once, crate by crate, so that a run which is cut off loses only the proofs under
-way. Some toolchains' `rt ci` keeps it beside the toolchain, and takes it from there in any checkout. With
-the others tools/prove_keeping runs `rt ci`, and keeps it in a folder, as out/proof."""
+proves there it keeps at once beside the toolchain, crate by crate, and takes from there in any checkout. So a run which is
+cut off loses only the proofs under way."""
 import os
 import re
 import shutil
@@ -18,8 +17,8 @@ from common import ROOT, below, crates_of
 PREFIX = "icu-locale-proof-"
 LEFT_OUT = shutil.ignore_patterns("out", "edits", "*.in")
 PROVED = re.compile(r"rt: (\w+) proved$")
-# (a toolchain says so of what it keeps, and tools/prove_keeping of what was kept before)
-KEPT = re.compile(r"rt: (\w+) (is|was) kept: ")
+# (said of what an earlier run proved)
+KEPT = re.compile(r"rt: (\w+) is kept: ")
 FAILED = re.compile(r"rt: (\w+)(: its tests are)? NOT PROVED")
 
 
@@ -30,13 +29,6 @@ def sweep():
         of = re.match(rf"{PREFIX}(\d+)-", name)
         if of and not os.path.exists(f"/proc/{of[1]}"):
             shutil.rmtree(f"{at}/{name}", ignore_errors=True)
-
-
-def command(store):
-    """Returns the command that proves a room and keeps what it proves, beside the toolchain or in the store."""
-    with open(shutil.which("rt"), encoding="utf-8", errors="replace") as it:
-        keeps = " is kept: " in it.read()
-    return ["rt", "ci"] if keeps else [f"{ROOT}/tools/prove_keeping", store]
 
 
 def furnish(room, names, lines):
@@ -54,12 +46,12 @@ def furnish(room, names, lines):
 
 
 class Proof:
-    """A run of `rt ci` in a room. `say` is told how far it is; the store is for a toolchain that keeps nothing."""
+    """A run of `rt ci` in a room. It says how far it is."""
 
-    def __init__(self, tops, say, store=f"{ROOT}/out/proof"):
+    def __init__(self, tops, say):
         lines = crates_of(f"{ROOT}/crates.txt")
         self.say, self.names = say, list(dict.fromkeys(it for name in tops for it in below(name, lines)))
-        self.done, self.before, self.failed, self.said = set(), set(), [], []
+        self.done, self.failed, self.said = set(), [], []
         sweep()
         self.top = tempfile.mkdtemp(prefix=f"{PREFIX}{os.getpid()}-")
         self.room, beside = f"{self.top}/room", f"{self.top}/temporary"
@@ -71,7 +63,7 @@ class Proof:
             furnish(self.room, self.names, lines)
             # (what is ended leaves its temporary files, some 100 MB for each crate)
             self.process = subprocess.Popen(
-                command(store), cwd=self.room, stdin=subprocess.DEVNULL, stdout=subprocess.PIPE,
+                ["rt", "ci"], cwd=self.room, stdin=subprocess.DEVNULL, stdout=subprocess.PIPE,
                 stderr=subprocess.STDOUT, text=True, errors="replace", start_new_session=True,
                 preexec_fn=lambda: os.nice(5), env={**os.environ, "TMPDIR": beside},
             )
@@ -91,11 +83,9 @@ class Proof:
                 self.say(line[len("rt: note: ") :].rstrip())
             if failed:
                 self.failed.append(failed[1])
-            if kept and kept[2] == "was":
-                self.before.add(kept[1])
             if proved or kept:
                 self.done.add((proved or kept)[1])
-            if proved and proved[1] not in self.before:
+            if proved:
                 minutes = (time.time() - self.began) / 60
                 far = f"{len(self.done)} of {len(self.names)} crates proved, {minutes:.0f} min"
                 self.say(f"{far} ({proved[1]})")

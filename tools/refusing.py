@@ -20,6 +20,13 @@ def call(*words):
         raise SystemExit(f"{ran.stdout}{ran.stderr}{words[0]} failed\n0 passed, 1 failed")
 
 
+def make_shim(folder):
+    """Makes what is preloaded into a program, to refuse one of its requests for memory and to count them."""
+    shim = folder / "refuse_nth.so"
+    call(os.environ.get("CC") or "cc", "-O1", "-shared", "-fPIC", "-o", shim, TOP / "tools" / "refuse_nth.c", "-ldl")
+    return shim
+
+
 def make_with(folder, source, renamed):
     """Makes libicu_locale.a and libicu_locale.so in the folder: the library in out/bindings with these names changed, and
     this file of C. Returns the first."""

@@ -8,7 +8,7 @@ import re
 import subprocess
 from typing import NamedTuple
 
-from surface_call import CALLS, REMOVED
+from surface_calls import CALLS, REMOVED
 from surface_programs import parts_of_calls, program, questions
 
 FEW, MORE = 256, 1280

@@ -4,15 +4,8 @@ Both read calls from standard input, so no compiler knows what they are given: h
 its name, how many rounds it makes, and eight texts. For each they write its name and the sum of its answers."""
 import re
 
-from common import ROOT
-from surface_call import CALLS
-
-# (each adds its calls to the table)
-import surface_keywords
-import surface_lists
-import surface_locales
-import surface_parts
-import surface_words
+from common import read
+from surface_calls import CALLS
 
 # (clang takes very long over one program of all calls)
 PROGRAMS = 4
@@ -112,8 +105,7 @@ fn call_{at}({alloc}call: &str, rounds: u32, t: &Texts<'_>) -> Result<usize, Par
 
 def program(calls, is_rattle):
     """Returns the source of a program of these calls."""
-    with open(f"{ROOT}/tools/surface_{'rattle' if is_rattle else 'rust'}.txt", encoding="utf-8") as it:
-        text = it.read()
+    text = read(f"tools/surface_{'rattle' if is_rattle else 'rust'}.txt")
     groups = [calls[at : at + GROUP] for at in range(0, len(calls), GROUP)]
     parts = parsers(calls, is_rattle) + [function(it, is_rattle) for it in calls]
     parts += [chosen(at, it, at + 1 == len(groups), is_rattle) for at, it in enumerate(groups)]

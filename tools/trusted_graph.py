@@ -8,6 +8,7 @@ import re
 
 import trusted_antt as antt
 import trusted_rt as rt
+from common import crates_of, read
 
 SEEN = ("Value", "view", "invariant")  # the members of `Model` by which contracts see a type, and what it always keeps
 PRIMITIVE = set("u8 u16 u32 u64 u128 usize i8 i16 i32 i64 i128 isize bool char str f32 f64".split())
@@ -78,10 +79,8 @@ class Sources:
 
     def __init__(self, root):
         self.root = root
-        with open(f"{root}/crates.txt", encoding="utf-8") as it:
-            lines = [line.split("#")[0].partition(":") for line in it]
-            self.below = {line[0].split()[0]: line[2].split() for line in lines if line[0].strip()}
-            self.crates = list(self.below)
+        self.below = {name: line.partition(":")[2].split() for name, line in crates_of(f"{root}/crates.txt").items()}
+        self.crates = list(self.below)
         self.modules, self.rust = {}, {}
         self.unknown = {}  # what cites a name that nothing explains -> names
         for crate in self.crates:
@@ -100,9 +99,7 @@ class Sources:
                 inner = os.path.relpath(f"{folder}/{name}", top)[: -len(".antt")].split("/")
                 inner = inner[:-1] if inner[-1] == "Lib" else inner
                 path = ("Rattle", crate, "specs", *inner)
-                with open(f"{folder}/{name}", encoding="utf-8") as it:
-                    text = it.read()
-                module = antt.Module(path, os.path.relpath(f"{folder}/{name}", self.root), text)
+                module = antt.Module(path, os.path.relpath(f"{folder}/{name}", self.root), read(f"{folder}/{name}"))
                 antt.Reader(module)
                 self.modules[path] = module
 

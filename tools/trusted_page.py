@@ -18,9 +18,9 @@ import re
 import sys
 import textwrap
 
+import common
 import trusted_graph as graph
 import trusted_types as types
-from common import without_prefix
 
 HEADLINE = ("Locale::try_from_utf8", "Locale::normalize_utf8", "Locale::is_well_formed", "Locale::write_to_string")
 ON_MEMORY = "ensures memory"  # the one kind of clause that stands apart: it says when memory may run out
@@ -260,27 +260,22 @@ def dedented(text):
     return first + ("\n" + textwrap.indent(textwrap.dedent(rest), "    ") if rest else "")
 
 
-def read(sources):
+def texts_of(sources):
     """Returns the texts of the pages by their paths."""
-    texts = {}
-    for path in PAGES:
-        with open(os.path.join(sources.root, path), encoding="utf-8") as it:
-            texts[path] = it.read()
-    return texts
+    return {path: common.read(os.path.join(sources.root, path)) for path in PAGES}
 
 
 def write(sources):
-    made, wrong = Pages(sources).made(read(sources))
+    made, wrong = Pages(sources).made(texts_of(sources))
     for path, text in made.items():
-        with open(os.path.join(sources.root, path), "w", encoding="utf-8") as it:
-            it.write(text)
+        common.write(os.path.join(sources.root, path), text)
     print("\n".join(wrong + [f"trusted: wrote {path}" for path in PAGES]))
     return 1 if wrong else 0
 
 
 def check(sources):
     """Says which parts of the pages are not what the sources give, and which definitions have no sentence."""
-    texts = read(sources)
+    texts = texts_of(sources)
     made, wrong = Pages(sources).made(texts)
     wrong += [f"{it.where}: {it.name} cites {', '.join(sorted(names))}, which nothing in scope explains" for it, names in sources.unknown.items()]
     library = graph.closure_of(sources, graph.library(sources))
@@ -296,8 +291,7 @@ def check(sources):
                 wrong.append(f"{path}: the part '{old[1]}' is not current: run tools/trusted --write\n" + "\n".join(list(changes)[2:12]))
     print("\n".join(wrong) if wrong else f"trusted: {' and '.join(PAGES)} are current")
     failed = min(len(wrong), count) or len(wrong)
-    print(f"{max(count - failed, 0)} passed, {failed} failed")
-    return 1 if wrong else 0
+    return common.counted(max(count - failed, 0), failed)
 
 
 def same_text(sources):

@@ -5,7 +5,7 @@ import os
 import re
 from dataclasses import dataclass, field
 
-from common import without_prefix, without_suffix
+from common import read, without_prefix, without_suffix
 
 SKIP = re.compile(r"//[^\n]*|\"(?:[^\"\\]|\\.)*\"|b?'(?:[^'\\\n]|\\[^\n]{1,6}?)'", re.S)
 NAME = r"[A-Za-z_]\w*"
@@ -170,8 +170,7 @@ class Reader:
     """Reads a file's items, and those of the files that its `mod` lines name."""
 
     def __init__(self, crate, folder, path, names, made, root):
-        with open(os.path.join(root, path), encoding="utf-8") as it:
-            self.text = it.read()
+        self.text = read(os.path.join(root, path))
         self.blank, self.lines = blanked(self.text), self.text.split("\n")
         self.crate, self.folder, self.made, self.root = crate, folder, made, root
         self.source = Source(crate, names, path)

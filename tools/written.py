@@ -4,14 +4,9 @@ import os
 import re
 import sys
 
-from common import ROOT, counted
+from common import counted, differing, write
 
 WIDTH = 100
-
-
-def read(path):
-    with open(f"{ROOT}/{path}", encoding="utf-8") as it:
-        return it.read()
 
 
 def fill(units, width=WIDTH, first="", indent=""):
@@ -46,18 +41,12 @@ def replaced(text, pattern, new, path):
 
 def write_or_check(files, is_check):
     """Writes each file of which this is not the text, or only names it. Returns the status of the script."""
-    script, differ = os.path.basename(sys.argv[0]), []
-    for path, text in files.items():
-        if not os.path.isfile(f"{ROOT}/{path}") or read(path) != text:
-            differ.append(path)
-            if not is_check:
-                with open(f"{ROOT}/{path}", "w", encoding="utf-8") as out:
-                    out.write(text)
+    script, differ = os.path.basename(sys.argv[0]), differing(files)
     for path in differ:
+        if not is_check:
+            write(path, files[path])
         print(f"{script}: {path} {f'is not what the table says: run tools/{script}' if is_check else 'written'}")
-    if is_check:
-        print(f"{0 if differ else 1} passed, {1 if differ else 0} failed")
-    return 1 if differ and is_check else 0
+    return counted(not differ, bool(differ)) if is_check else 0
 
 
 def wrong_table(wrong, is_check):
