@@ -14,22 +14,27 @@ use Rattle.iloc_tinystr.proofs.Packed.{below, wider}
 
 -- those of any bytes, by those of their lowest seven bits
 module _ (x : ℕ) (small : x < 2 ^ 64) where
-  flagged : (p : ℕ → Bool) → each_below 256 (λ b. eqb (bit_and (flag p (bit_and b 127)) (bit_xor b 128)) (flag p b)) ≡ true
+  flagged : (p : ℕ → Bool)
+      → each_below 256 (λ b. eqb (bit_and (flag p (bit_and b 127)) (bit_xor b 128)) (flag p b)) ≡ true
       → bit_and (flags p (bit_and x 9187201950435737471)) (bit_xor x 9259542123273814144) ≡ flags p x
   unfolding flags spread
   flagged p e =
       let low = flags_of (masked x small) p in
       let ascii = of_both xors (itself x small) (constant x 128 refl) refl in
-      (λ i. bit_and (low.made i) (ascii.made i)) ∙ by_byte ands (λ b. flag p (bit_and b 127)) (λ b. bit_xor b 128) low.keeps ascii.keeps 8 x
+      (λ i. bit_and (low.made i) (ascii.made i))
+          ∙ by_byte ands (λ b. flag p (bit_and b 127)) (λ b. bit_xor b 128) low.keeps ascii.keeps 8 x
       ∙ ap number (same_bytes _ (flag p) (alike _ (flag p) e) 8 x)
 
-  pub letters_are : bit_and (flags is_ascii_alphabetic (bit_and x 9187201950435737471)) (bit_xor x 9259542123273814144) ≡ flags is_ascii_alphabetic x
+  pub letters_are : bit_and (flags is_ascii_alphabetic (bit_and x 9187201950435737471))
+      (bit_xor x 9259542123273814144) ≡ flags is_ascii_alphabetic x
   letters_are = flagged is_ascii_alphabetic refl
 
-  pub digits_are : bit_and (flags (is_in_range 48 57) (bit_and x 9187201950435737471)) (bit_xor x 9259542123273814144) ≡ flags is_ascii_digit x
+  pub digits_are : bit_and (flags (is_in_range 48 57) (bit_and x 9187201950435737471))
+      (bit_xor x 9259542123273814144) ≡ flags is_ascii_digit x
   digits_are = flagged is_ascii_digit refl
 
-  pub texts_are : bit_and (flags is_text_byte (bit_and x 9187201950435737471)) (bit_xor x 9259542123273814144) ≡ flags is_text_byte x
+  pub texts_are : bit_and (flags is_text_byte (bit_and x 9187201950435737471)) (bit_xor x 9259542123273814144)
+      ≡ flags is_text_byte x
   texts_are = flagged is_text_byte refl
 
 pub high_bits_are : (n : ℕ) → n ≤ 8 → 9259542123273814144 / 2 ^ (64 - 8 * n) ≡ spread 128 n
@@ -38,11 +43,13 @@ high_bits_are n few =
     let n-lt : n < 9 = omega arith in
     eqb-true _ _ (tried 9 (λ k. eqb (9259542123273814144 / 2 ^ (64 - 8 * k)) (spread 128 k)) refl n n-lt)
 
-pub marks_step : (t all : Bool) (a b : ℕ) → eqb a b ≡ all → eqb (cond t 128 0 + 256 * a) (128 + 256 * b) ≡ (t && all)
+pub marks_step : (t all : Bool) (a b : ℕ) → eqb a b ≡ all
+    → eqb (cond t 128 0 + 256 * a) (128 + 256 * b) ≡ (t && all)
 marks_step true all a b e = grind (arith, nat_tests)
 marks_step false all a b e = grind (arith, nat_tests)
 
-pub marks : (p : ℕ → Bool) (n x : ℕ) → eqb (number (map (flag p) (bytes n x))) (spread 128 n) ≡ list_all p (bytes n x)
+pub marks : (p : ℕ → Bool) (n x : ℕ)
+    → eqb (number (map (flag p) (bytes n x))) (spread 128 n) ≡ list_all p (bytes n x)
 unfolding bytes spread
 marks p zero x = refl
 marks p (suc n) x = marks_step (p (x % 256)) _ _ _ (marks p n (x / 256))
@@ -55,5 +62,6 @@ all_are p none n x h =
 pub either_are : (x : ℕ) → bit_or (flags is_ascii_alphabetic x) (flags is_ascii_digit x) ≡ flags is_ascii_alphanumeric x
 unfolding flags
 either_are x =
-    by_byte ors (flag is_ascii_alphabetic) (flag is_ascii_digit) (λ b l. flag-keeps is_ascii_alphabetic b) (λ b l. flag-keeps is_ascii_digit b) 8 x
+    by_byte ors (flag is_ascii_alphabetic) (flag is_ascii_digit) (λ b l. flag-keeps is_ascii_alphabetic b)
+        (λ b l. flag-keeps is_ascii_digit b) 8 x
     ∙ ap number (same_bytes _ (flag is_ascii_alphanumeric) (alike _ (flag is_ascii_alphanumeric) refl) 8 x)

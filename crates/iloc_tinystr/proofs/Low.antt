@@ -44,25 +44,31 @@ module _ (c : ℕ) (few : c ≤ 128) where
   reached : (b : ℕ) → nat_le 128 (b + (128 - c)) ≡ nat_le c b
   reached b = grind (arith, nat_tests)
 
-  marks : (n x : ℕ) → Below 128 n x → bit_and (number (bytes n x) + (128 - c) * spread 1 n) (spread 128 n) ≡ number (map (flag (nat_le c)) (bytes n x))
+  marks : (n x : ℕ) → Below 128 n x
+      → bit_and (number (bytes n x) + (128 - c) * spread 1 n) (spread 128 n)
+      ≡ number (map (flag (nat_le c)) (bytes n x))
   unfolding bytes spread
   marks zero x low = omega (arith, and_le_r (0 + (128 - c) * 0) 0)
   marks (suc n) x low =
       let b = x % 256 in
       let d = 128 - c in
       let rest : ℕ = number (bytes n (x / 256)) in
-      let sum : b + 256 * rest + d * (1 + 256 * spread 1 n) ≡ (b + d) + 256 * (rest + d * spread 1 n) = omega arith in
+      let sum : b + 256 * rest + d * (1 + 256 * spread 1 n) ≡ (b + d) + 256 * (rest + d * spread 1 n) =
+          omega arith in
       let fits : b + d < 256 = omega (arith, first-below 128 n x low) in
-      let bit : bit_and (b + d) 128 ≡ flag (nat_le c) b = top_bit (b + d) fits ∙ ap (λ t. cond t 128 0) (reached b) in
+      let bit : bit_and (b + d) 128 ≡ flag (nat_le c) b = top_bit (b + d) fits
+          ∙ ap (λ t. cond t 128 0) (reached b) in
       ap (λ y. bit_and y (128 + 256 * spread 128 n)) sum
       ∙ first_byte ands (b + d) 128 (rest + d * spread 1 n) (spread 128 n) fits (omega arith)
       ∙ (λ i. bit i + 256 * marks n (x / 256) (rest-below 128 n x low) i)
 
-pub marks_are : (c x : ℕ) → c ≤ 128 → x < 2 ^ 64 → IsLow x → bit_and (x + (128 - c) * 72340172838076673) 9259542123273814144 ≡ flags (nat_le c) x
+pub marks_are : (c x : ℕ) → c ≤ 128 → x < 2 ^ 64 → IsLow x
+    → bit_and (x + (128 - c) * 72340172838076673) 9259542123273814144 ≡ flags (nat_le c) x
 unfolding flags spread
 marks_are c x few small low =
     let e : x < 256 ^ 8 = omega arith in
-    ap (λ y. bit_and (y + (128 - c) * 72340172838076673) 9259542123273814144) (sym (number-bytes 8 x e)) ∙ marks c few 8 x low
+    ap (λ y. bit_and (y + (128 - c) * 72340172838076673) 9259542123273814144) (sym (number-bytes 8 x e))
+        ∙ marks c few 8 x low
 
 -- ---- and those between two
 
@@ -73,20 +79,25 @@ flag-keeps p b = by (p b)
     by true = omega arith
     by false = omega arith
 
-apart : (p q r : Bool) → (q ≡ true → p ≡ true) → r ≡ (p && not q) → bit_xor (cond p 128 0) (cond q 128 0) ≡ cond r 128 0
+apart : (p q r : Bool) → (q ≡ true → p ≡ true) → r ≡ (p && not q)
+    → bit_xor (cond p 128 0) (cond q 128 0) ≡ cond r 128 0
 apart true true r i e = rw e refl
 apart true false r i e = rw e refl
 apart false true r i e = let h = i refl in cc
 apart false false r i e = rw e refl
 
-flag_apart : (a b z : ℕ) → a ≤ b → bit_xor (flag (nat_le a) z) (flag (nat_le (b + 1)) z) ≡ flag (is_in_range a b) z
+flag_apart : (a b z : ℕ) → a ≤ b
+    → bit_xor (flag (nat_le a) z) (flag (nat_le (b + 1)) z) ≡ flag (is_in_range a b) z
 flag_apart a b z le =
-    apart (nat_le a z) (nat_le (b + 1) z) (is_in_range a b z) (λ h. grind (arith, nat_tests)) (grind (arith, nat_tests))
+    apart (nat_le a z) (nat_le (b + 1) z) (is_in_range a b z) (λ h. grind (arith, nat_tests))
+        (grind (arith, nat_tests))
 
-pub between_are : (a b x : ℕ) → a ≤ b → bit_xor (flags (nat_le a) x) (flags (nat_le (b + 1)) x) ≡ flags (is_in_range a b) x
+pub between_are : (a b x : ℕ) → a ≤ b
+    → bit_xor (flags (nat_le a) x) (flags (nat_le (b + 1)) x) ≡ flags (is_in_range a b) x
 unfolding flags
 between_are a b x le =
-    by_byte xors (flag (nat_le a)) (flag (nat_le (b + 1))) (λ z l. flag-keeps (nat_le a) z) (λ z l. flag-keeps (nat_le (b + 1)) z) 8 x
+    by_byte xors (flag (nat_le a)) (flag (nat_le (b + 1))) (λ z l. flag-keeps (nat_le a) z)
+        (λ z l. flag-keeps (nat_le (b + 1)) z) 8 x
     ∙ ap number (same_bytes _ (flag (is_in_range a b)) (λ z l. flag_apart a b z le) 8 x)
 
 -- ---- of a number that goes by the bytes of another
@@ -100,20 +111,23 @@ twice : (g f : ℕ → ℕ) (xs : List ℕ) → number (map g (map f xs)) ≡ nu
 twice g f [] = refl
 twice g f (x ∷ xs) = ap (λ y. g (f x) + 256 * y) (twice g f xs)
 
-pub flags_of : {x y : ℕ} {f : ℕ → ℕ} → Bytewise x f y → (p : ℕ → Bool) → Bytewise x (λ b. flag p (f b)) (flags p y)
+pub flags_of : {x y : ℕ} {f : ℕ → ℕ} → Bytewise x f y → (p : ℕ → Bool)
+    → Bytewise x (λ b. flag p (f b)) (flags p y)
 unfolding flags
 flags_of {x} {y} {f} b p = record {
   keeps = λ c l. flag-keeps p (f c);
   made = ap (λ ys. number (map (flag p) ys)) (bytes_of b) ∙ twice (flag p) f (bytes 8 x);
 }
 
-below-map : (f : ℕ → ℕ) (c : ℕ) → ((b : ℕ) → b < c → f b < 128) → (n x : ℕ) → Below c n x → (k : ℕ) → get_or (map f (bytes n x)) k 0 < 128
+below-map : (f : ℕ → ℕ) (c : ℕ) → ((b : ℕ) → b < c → f b < 128) → (n x : ℕ) → Below c n x → (k : ℕ)
+    → get_or (map f (bytes n x)) k 0 < 128
 unfolding bytes
 below-map f c keeps zero x low k = omega arith
 below-map f c keeps (suc n) x low zero = keeps (x % 256) (low 0)
 below-map f c keeps (suc n) x low (suc k) = below-map f c keeps n (x / 256) (λ j. low (suc j)) k
 
-low_by : {x y : ℕ} {f : ℕ → ℕ} → Bytewise x f y → (c : ℕ) → ((b : ℕ) → b < c → f b < 128) → Below c 8 x → IsLow y
+low_by : {x y : ℕ} {f : ℕ → ℕ} → Bytewise x f y → (c : ℕ) → ((b : ℕ) → b < c → f b < 128) → Below c 8 x
+    → IsLow y
 low_by {x} {f = f} b c keeps low k = rw (bytes_of b) (below-map f c keeps 8 x low k)
 
 module _ (x : ℕ) (small : x < 2 ^ 64) where
@@ -136,14 +150,22 @@ module _ (x : ℕ) (small : x < 2 ^ 64) where
     pub cased_low : IsLow (bit_or x 2314885530818453536)
     cased_low = low_by cased 128 (λ b l. ltb-true _ 128 (tried 128 (λ b. ltb (bit_or b 32) 128) refl b l)) low
 
-    low-same : (f g : ℕ → ℕ) → ((b : ℕ) → b < 128 → f b ≡ g b) → (n y : ℕ) → Below 128 n y → map f (bytes n y) ≡ map g (bytes n y)
+    low-same : (f g : ℕ → ℕ) → ((b : ℕ) → b < 128 → f b ≡ g b) → (n y : ℕ) → Below 128 n y
+        → map f (bytes n y) ≡ map g (bytes n y)
     unfolding bytes
     low-same f g e zero y l = refl
-    low-same f g e (suc n) y l = let here = e (y % 256) (l 0) in λ i. here i ∷ low-same f g e n (y / 256) (λ k. l (suc k)) i
+    low-same f g e (suc n) y l =
+        let here = e (y % 256) (l 0) in
+        λ i. here i ∷ low-same f g e n (y / 256) (λ k. l (suc k)) i
+
+    one_at_least : (b : ℕ) → b < 128 → nat_le 1 b ≡ is_text_byte b
+    one_at_least b l = grind (arith, nat_tests)
 
     pub texts_are : flags (nat_le 1) x ≡ flags is_text_byte x
     unfolding flags
-    texts_are = ap number (low-same (flag (nat_le 1)) (flag is_text_byte) (λ b l. ap (λ t. cond t 128 0) (grind (arith, nat_tests))) 8 x low)
+    texts_are =
+        let here = λ (b : ℕ) (l : b < 128). ap (λ t. cond t 128 0) (one_at_least b l) in
+        ap number (low-same (flag (nat_le 1)) (flag is_text_byte) here 8 x low)
 
 -- ---- of a number whose first byte is in the other case
 
@@ -162,13 +184,16 @@ turned_rest x = omega (arith, turned x, xor_lt 8 (x % 256) 32 (omega arith) (ome
 pub turned_low : (x : ℕ) → IsLow x → IsLow (bit_xor x 32)
 unfolding bytes
 turned_low x low zero =
-    subst (λ (y : ℕ). y < 128) (sym (turned_first x)) (ltb-true _ 128 (tried 128 (λ b. ltb (bit_xor b 32) 128) refl (x % 256) (low 0)))
+    subst (λ (y : ℕ). y < 128) (sym (turned_first x))
+        (ltb-true _ 128 (tried 128 (λ b. ltb (bit_xor b 32) 128) refl (x % 256) (low 0)))
 turned_low x low (suc k) = subst (λ (y : ℕ). get_or (bytes 7 y) k 0 < 128) (sym (turned_rest x)) (low (suc k))
 
 -- the flags of such a number, by those of the first byte alone
-pub turned_flags : (p q : ℕ → Bool) → each_below 256 (λ b. eqb (flag p (bit_xor b 32)) (flag q b)) ≡ true → (x : ℕ)
+pub turned_flags : (p q : ℕ → Bool) → each_below 256 (λ b. eqb (flag p (bit_xor b 32)) (flag q b)) ≡ true
+    → (x : ℕ)
     → flags p (bit_xor x 32) ≡ flag q (x % 256) + 256 * number (map (flag p) (bytes 7 (x / 256)))
 unfolding flags bytes
 turned_flags p q e x =
     (λ i. flag p (turned_first x i) + 256 * number (map (flag p) (bytes 7 (turned_rest x i))))
-    ∙ ap (λ y. y + 256 * number (map (flag p) (bytes 7 (x / 256)))) (alike (λ b. flag p (bit_xor b 32)) (flag q) e (x % 256) (omega arith))
+    ∙ ap (λ y. y + 256 * number (map (flag p) (bytes 7 (x / 256))))
+        (alike (λ b. flag p (bit_xor b 32)) (flag q) e (x % 256) (omega arith))

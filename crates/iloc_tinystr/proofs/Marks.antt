@@ -1,4 +1,4 @@
--- Of a tiny text, whose bytes are marked where its number is not zero: a test holds of all where it marks them all.
+-- Of a tiny text, whose bytes are marked where its number is not zero: a test holds of all where it marks them.
 use Rattle.std.proofs.Common.{◌≡◌, ℕ, zero, suc, ◌+◌, ◌*◌, ◌/◌, ◌%◌, ◌^◌, ◌<◌, ◌≤◌, Bool, true, false, ◌&&◌, not, cond, eqb, List, length, map, refl, sym, ◌∙◌, ap, subst, arith, pow-suc}
 use borrow.Author.Tests.{eqb-true}
 use Rattle.std.proofs.lemmas.Bool.Decides.{nat_tests}
@@ -22,7 +22,8 @@ none_step : (t all : Bool) (a : ℕ) → eqb a 0 ≡ all → eqb (cond t 128 0 +
 none_step true all a e = grind (arith, nat_tests)
 none_step false all a e = grind (arith, nat_tests)
 
-no_marks : (p : ℕ → Bool) (n x : ℕ) → eqb (number (map (flag p) (bytes n x))) 0 ≡ list_all (λ b. not (p b)) (bytes n x)
+no_marks : (p : ℕ → Bool) (n x : ℕ)
+    → eqb (number (map (flag p) (bytes n x))) 0 ≡ list_all (λ b. not (p b)) (bytes n x)
 unfolding bytes
 no_marks p zero x = refl
 no_marks p (suc n) x = none_step (p (x % 256)) _ _ (no_marks p n (x / 256))
@@ -35,7 +36,8 @@ ones_spread (suc n) =
     omega (arith, ap count_ones turned, ones_cat 8 (spread 128 n) 128 (omega arith), ones_spread n)
 
 -- the first letter in upper case, and the others in lower case
-title_marks : (n x : ℕ) → IsPacked n x → eqb (flags (is_in_range 97 122) (bit_xor x 32)) (spread 128 n) ≡ is_title_letters (bytes n x)
+title_marks : (n x : ℕ) → IsPacked n x
+    → eqb (flags (is_in_range 97 122) (bit_xor x 32)) (spread 128 n) ≡ is_title_letters (bytes n x)
 unfolding flags bytes spread
 title_marks zero x h = ap (λ y. eqb (flags (is_in_range 97 122) (bit_xor y 32)) 0) (sym h.whole)
 title_marks (suc n) x h =
@@ -43,10 +45,12 @@ title_marks (suc n) x h =
     let few : n ≤ 7 = omega (arith, h.few) in
     ap (λ y. eqb y (128 + 256 * spread 128 n)) (
     turned_flags (is_in_range 97 122) is_ascii_uppercase refl x
-    ∙ ap (λ y. flag is_ascii_uppercase (x % 256) + 256 * y) (wider (flag (is_in_range 97 122)) refl n 7 (x / 256) few lt))
+    ∙ ap (λ y. flag is_ascii_uppercase (x % 256) + 256 * y)
+        (wider (flag (is_in_range 97 122)) refl n 7 (x / 256) few lt))
     ∙ marks_step (is_ascii_uppercase (x % 256)) _ _ _ (marks (is_in_range 97 122) n (x / 256))
 
-module _ (n : ℕ) (text : List ℕ) (x : ℕ) (few : n ≤ 8) (tiny : is_tiny_text n text ≡ true) (is : x ≡ number text) where
+module _ (n : ℕ) (text : List ℕ) (x : ℕ) (few : n ≤ 8) (tiny : is_tiny_text n text ≡ true)
+    (is : x ≡ number text) where
   short : length text ≤ 8
   short = omega (arith, length-le-tiny n text tiny)
 
@@ -71,23 +75,30 @@ module _ (n : ℕ) (text : List ℕ) (x : ℕ) (few : n ≤ 8) (tiny : is_tiny_t
   pub digits_marked : eqb (flags (is_in_range 48 57) x) (flags is_text_byte x) ≡ list_all is_ascii_digit text
   digits_marked = with_all is_ascii_digit refl
 
-  pub alphanumerics_marked : eqb (bit_or (flags is_ascii_alphabetic x) (flags (is_in_range 48 57) x)) (flags is_text_byte x) ≡ list_all is_ascii_alphanumeric text
-  alphanumerics_marked = ap (λ y. eqb y (flags is_text_byte x)) (either_are x) ∙ with_all is_ascii_alphanumeric refl
+  pub alphanumerics_marked : eqb (bit_or (flags is_ascii_alphabetic x) (flags (is_in_range 48 57) x))
+      (flags is_text_byte x) ≡ list_all is_ascii_alphanumeric text
+  alphanumerics_marked = ap (λ y. eqb y (flags is_text_byte x)) (either_are x)
+      ∙ with_all is_ascii_alphanumeric refl
 
-  pub lower_marked : eqb (flags (is_in_range 97 122) x) (flags is_text_byte x) ≡ list_all is_ascii_lowercase text
+  pub lower_marked : eqb (flags (is_in_range 97 122) x) (flags is_text_byte x)
+      ≡ list_all is_ascii_lowercase text
   lower_marked = with_all is_ascii_lowercase refl
 
-  pub upper_marked : eqb (flags (is_in_range 65 90) x) (flags is_text_byte x) ≡ list_all is_ascii_uppercase text
+  pub upper_marked : eqb (flags (is_in_range 65 90) x) (flags is_text_byte x)
+      ≡ list_all is_ascii_uppercase text
   upper_marked = with_all is_ascii_uppercase refl
 
   pub no_upper_marked : eqb (flags (is_in_range 65 90) x) 0 ≡ list_all (λ b. not (is_ascii_uppercase b)) text
   unfolding flags
   no_upper_marked =
-      ap (λ y. eqb y 0) (wider (flag is_ascii_uppercase) refl (length text) 8 x short (below (length text) x packed))
+      ap (λ y. eqb y 0) (wider (flag is_ascii_uppercase) refl (length text) 8 x short
+          (below (length text) x packed))
       ∙ no_marks is_ascii_uppercase (length text) x ∙ ap (list_all (λ b. not (is_ascii_uppercase b))) shows
 
-  pub title_marked : eqb (flags (is_in_range 97 122) (bit_xor x 32)) (flags is_text_byte x) ≡ is_title_letters text
-  title_marked = ap (eqb (flags (is_in_range 97 122) (bit_xor x 32))) all_marked ∙ title_marks (length text) x packed ∙ ap is_title_letters shows
+  pub title_marked : eqb (flags (is_in_range 97 122) (bit_xor x 32)) (flags is_text_byte x)
+      ≡ is_title_letters text
+  title_marked = ap (eqb (flags (is_in_range 97 122) (bit_xor x 32))) all_marked
+      ∙ title_marks (length text) x packed ∙ ap is_title_letters shows
 
   pub counted : count_ones (flags is_text_byte x) ≡ length text
   counted = ap count_ones all_marked ∙ ones_spread (length text)
@@ -100,17 +111,23 @@ module _ (n : ℕ) (text : List ℕ) (x : ℕ) (few : n ≤ 8) (tiny : is_tiny_t
 
   -- a piece that is read from the number of the text in another case is that text
   module _ (f : ℕ) (piece : List ℕ) where
-    pub lowered : f ≡ flags (is_in_range 65 90) x → ((t : List ℕ) → list_all is_text_byte t ≡ true → bit_or x (f / 4) ≡ number t → piece ≡ t)
+    pub lowered : f ≡ flags (is_in_range 65 90) x
+        → ((t : List ℕ) → list_all is_text_byte t ≡ true → bit_or x (f / 4) ≡ number t → piece ≡ t)
         → piece ≡ map to_ascii_lowercase text
     lowered e read =
-        read _ (bytes-tiny n _ (tiny_lower n text tiny)) (number-lower (length text) x packed f e ∙ ap (λ t. number (map to_ascii_lowercase t)) shows)
+        read _ (bytes-tiny n _ (tiny_lower n text tiny)) (number-lower (length text) x packed f e
+            ∙ ap (λ t. number (map to_ascii_lowercase t)) shows)
 
-    pub raised : f ≡ flags (is_in_range 97 122) x → ((t : List ℕ) → list_all is_text_byte t ≡ true → bit_xor x (f / 4) ≡ number t → piece ≡ t)
+    pub raised : f ≡ flags (is_in_range 97 122) x
+        → ((t : List ℕ) → list_all is_text_byte t ≡ true → bit_xor x (f / 4) ≡ number t → piece ≡ t)
         → piece ≡ map to_ascii_uppercase text
     raised e read =
-        read _ (bytes-tiny n _ (tiny_upper n text tiny)) (number-upper (length text) x packed f e ∙ ap (λ t. number (map to_ascii_uppercase t)) shows)
+        read _ (bytes-tiny n _ (tiny_upper n text tiny)) (number-upper (length text) x packed f e
+            ∙ ap (λ t. number (map to_ascii_uppercase t)) shows)
 
-    pub titled : f ≡ flags (is_in_range 65 90) (bit_xor x 32) → ((t : List ℕ) → list_all is_text_byte t ≡ true → bit_xor x (f / 4) ≡ number t → piece ≡ t)
+    pub titled : f ≡ flags (is_in_range 65 90) (bit_xor x 32)
+        → ((t : List ℕ) → list_all is_text_byte t ≡ true → bit_xor x (f / 4) ≡ number t → piece ≡ t)
         → piece ≡ title text
     titled e read =
-        read _ (bytes-tiny n _ (tiny_title n text tiny)) (number-title (length text) x packed f e ∙ ap (λ t. number (title t)) shows)
+        read _ (bytes-tiny n _ (tiny_title n text tiny)) (number-title (length text) x packed f e
+            ∙ ap (λ t. number (title t)) shows)

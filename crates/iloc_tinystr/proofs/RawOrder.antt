@@ -24,14 +24,16 @@ number_eq (x ∷ xs) (y ∷ ys) e h k =
 number_eq xs ys e h k = absurd (omega arith)
 
 -- of texts, of any lengths
-pub number_same : (a b : List ℕ) → list_all is_text_byte a ≡ true → list_all is_text_byte b ≡ true → eqb (number a) (number b) ≡ pointwise nat_eq a b
+pub number_same : (a b : List ℕ) → list_all is_text_byte a ≡ true → list_all is_text_byte b ≡ true
+    → eqb (number a) (number b) ≡ pointwise nat_eq a b
 number_same [] [] h k = refl
 number_same [] (y ∷ b) h k = let t = first-text y b k in grind (arith, nat_tests, t.0)
 number_same (x ∷ a) [] h k = let t = first-text x a h in grind (arith, nat_tests, t.0)
 number_same (x ∷ a) (y ∷ b) h k =
     let s = first-text x a h in
     let t = first-text y b k in
-    eq_step x y (number a) (number b) (omega (arith, s.1)) (omega (arith, t.1)) ∙ ap (λ e. eqb x y && e) (number_same a b s.2 t.2)
+    eq_step x y (number a) (number b) (omega (arith, s.1)) (omega (arith, t.1))
+        ∙ ap (λ e. eqb x y && e) (number_same a b s.2 t.2)
 
 -- the number of a list after that of the bytes before it, the first byte highest
 abbrev high_from : ℕ → List ℕ → ℕ
