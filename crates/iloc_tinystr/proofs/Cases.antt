@@ -63,10 +63,10 @@ title_number x l b p q =
     ∙ ap (λ y. bit_and own 32 + 256 * y) none in
     (λ i. bit_xor (p.made i) (bit i))
     ∙ first_byte xors (to_ascii_lowercase c) (bit_and own 32) low 0 (p.keeps c small)
-        (omega (arith, and_le_r own 32))
+    (omega (arith, and_le_r own 32))
     ∙ (λ i. alike (λ b. bit_xor (to_ascii_lowercase b) (bit_and (case_bit is_ascii_alphabetic b) 32))
-        to_ascii_uppercase refl c small i
-        + 256 * xor_comm low 0 i)
+    to_ascii_uppercase refl c small i
+    + 256 * xor_comm low 0 i)
 
 -- ---- by the flags of all letters
 
@@ -85,7 +85,7 @@ module _ (n x : ℕ) (h : IsPacked n x) (f : ℕ) (e : f ≡ flags is_ascii_alph
   raised =
       let own = itself x (word-lt n x h) in
       alike_made (of_both xors own (of_both ands own (case_bits is_ascii_alphabetic x f e) refl) refl)
-          to_ascii_uppercase refl
+      to_ascii_uppercase refl
 
   pub upper_whole : number (bytes n (bit_xor x (bit_and x (f / 4)))) ≡ bit_xor x (bit_and x (f / 4))
   upper_whole = (changed h refl raised).word.whole
@@ -97,7 +97,7 @@ module _ (n x : ℕ) (h : IsPacked n x) (f : ℕ) (e : f ≡ flags is_ascii_alph
   titled =
       makes n _ (title (bytes n x)) (length-title (bytes n x) ∙ length_bytes n x) h.few (fit-title n x)
       (title_number x _ (f / 4) lowered (case_bits is_ascii_alphabetic x f e)
-          ∙ title_wide n x h.few (below n x h))
+      ∙ title_wide n x h.few (below n x h))
 
   pub title_whole : number (bytes n (bit_xor (bit_or x (f / 4)) (bit_and (f / 4) 32))) ≡ bit_xor (bit_or x (f / 4)) (bit_and (f / 4) 32)
   title_whole = titled.word.whole
@@ -112,14 +112,14 @@ module _ (n x : ℕ) (h : IsPacked n x) (f : ℕ) where
       → bit_or x (f / 4) ≡ number (map to_ascii_lowercase (bytes n x))
   number-lower e =
       (alike_made (of_both ors (itself x (word-lt n x h)) (case_bits (is_in_range 65 90) x f e) refl)
-          to_ascii_lowercase refl).made
+      to_ascii_lowercase refl).made
       ∙ wider to_ascii_lowercase refl n 8 x h.few (below n x h)
 
   pub number-upper : f ≡ flags (is_in_range 97 122) x
       → bit_xor x (f / 4) ≡ number (map to_ascii_uppercase (bytes n x))
   number-upper e =
       (alike_made (of_both xors (itself x (word-lt n x h)) (case_bits (is_in_range 97 122) x f e) refl)
-          to_ascii_uppercase refl).made
+      to_ascii_uppercase refl).made
       ∙ wider to_ascii_uppercase refl n 8 x h.few (below n x h)
 
   -- of all bytes but the first, by the number of them
@@ -128,7 +128,7 @@ module _ (n x : ℕ) (h : IsPacked n x) (f : ℕ) where
       ≡ number (map to_ascii_lowercase (bytes 7 r))
   rest-lower r lt =
       let own : number (map (λ b. b) (bytes 7 r)) ≡ r =
-          ap number (map-id (bytes 7 r)) ∙ number-bytes 7 r lt in
+      ap number (map-id (bytes 7 r)) ∙ number-bytes 7 r lt in
       ap (λ y. bit_xor y (number (map (case_bit (is_in_range 65 90)) (bytes 7 r)))) (sym own)
       ∙ by_byte xors (λ b. b) (case_bit (is_in_range 65 90)) (λ b l. l) (case-keeps (is_in_range 65 90)) 7 r
       ∙ ap number (same_bytes _ to_ascii_lowercase (alike _ to_ascii_lowercase refl) 7 r)
@@ -143,12 +143,17 @@ module _ (n x : ℕ) (h : IsPacked n x) (f : ℕ) where
       let lt : r < 256 ^ 7 = omega (arith, word-lt n x h) in
       let bits : ℕ = number (map (case_bit (is_in_range 65 90)) (bytes 7 r)) in
       let case : f / 4 ≡ case_bit (is_in_range 97 122) c + 256 * bits =
-      omega (arith, e, turned_flags (is_in_range 65 90) (is_in_range 97 122) refl x,
-          fourth (is_in_range 97 122 c), quarter (is_in_range 65 90) 7 r) in
+      omega (
+        arith,
+        e,
+        turned_flags (is_in_range 65 90) (is_in_range 97 122) refl x,
+        fourth (is_in_range 97 122 c),
+        quarter (is_in_range 65 90) 7 r,
+      ) in
       let parts : x ≡ c + 256 * r = omega arith in
       (λ i. bit_xor (parts i) (case i))
       ∙ first_byte xors c (case_bit (is_in_range 97 122) c) r bits small
-          (case-keeps (is_in_range 97 122) c small)
+      (case-keeps (is_in_range 97 122) c small)
       ∙ (λ i. alike (λ b. bit_xor b (case_bit (is_in_range 97 122) b)) to_ascii_uppercase refl c small i
-          + 256 * rest-lower r lt i)
+      + 256 * rest-lower r lt i)
       ∙ title_wide n x h.few (below n x h)

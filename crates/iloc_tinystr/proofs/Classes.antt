@@ -22,7 +22,7 @@ module _ (x : ℕ) (small : x < 2 ^ 64) where
       let low = flags_of (masked x small) p in
       let ascii = of_both xors (itself x small) (constant x 128 refl) refl in
       (λ i. bit_and (low.made i) (ascii.made i))
-          ∙ by_byte ands (λ b. flag p (bit_and b 127)) (λ b. bit_xor b 128) low.keeps ascii.keeps 8 x
+      ∙ by_byte ands (λ b. flag p (bit_and b 127)) (λ b. bit_xor b 128) low.keeps ascii.keeps 8 x
       ∙ ap number (same_bytes _ (flag p) (alike _ (flag p) e) 8 x)
 
   pub letters_are : bit_and (flags is_ascii_alphabetic (bit_and x 9187201950435737471))
@@ -63,5 +63,5 @@ pub either_are : (x : ℕ) → bit_or (flags is_ascii_alphabetic x) (flags is_as
 unfolding flags
 either_are x =
     by_byte ors (flag is_ascii_alphabetic) (flag is_ascii_digit) (λ b l. flag-keeps is_ascii_alphabetic b)
-        (λ b l. flag-keeps is_ascii_digit b) 8 x
+    (λ b l. flag-keeps is_ascii_digit b) 8 x
     ∙ ap number (same_bytes _ (flag is_ascii_alphanumeric) (alike _ (flag is_ascii_alphanumeric) refl) 8 x)

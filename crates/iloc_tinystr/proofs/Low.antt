@@ -54,10 +54,10 @@ module _ (c : ℕ) (few : c ≤ 128) where
       let d = 128 - c in
       let rest : ℕ = number (bytes n (x / 256)) in
       let sum : b + 256 * rest + d * (1 + 256 * spread 1 n) ≡ (b + d) + 256 * (rest + d * spread 1 n) =
-          omega arith in
+      omega arith in
       let fits : b + d < 256 = omega (arith, first-below 128 n x low) in
       let bit : bit_and (b + d) 128 ≡ flag (nat_le c) b = top_bit (b + d) fits
-          ∙ ap (λ t. cond t 128 0) (reached b) in
+      ∙ ap (λ t. cond t 128 0) (reached b) in
       ap (λ y. bit_and y (128 + 256 * spread 128 n)) sum
       ∙ first_byte ands (b + d) 128 (rest + d * spread 1 n) (spread 128 n) fits (omega arith)
       ∙ (λ i. bit i + 256 * marks n (x / 256) (rest-below 128 n x low) i)
@@ -68,7 +68,7 @@ unfolding flags spread
 marks_are c x few small low =
     let e : x < 256 ^ 8 = omega arith in
     ap (λ y. bit_and (y + (128 - c) * 72340172838076673) 9259542123273814144) (sym (number-bytes 8 x e))
-        ∙ marks c few 8 x low
+    ∙ marks c few 8 x low
 
 -- ---- and those between two
 
@@ -90,14 +90,14 @@ flag_apart : (a b z : ℕ) → a ≤ b
     → bit_xor (flag (nat_le a) z) (flag (nat_le (b + 1)) z) ≡ flag (is_in_range a b) z
 flag_apart a b z le =
     apart (nat_le a z) (nat_le (b + 1) z) (is_in_range a b z) (λ h. grind (arith, nat_tests))
-        (grind (arith, nat_tests))
+    (grind (arith, nat_tests))
 
 pub between_are : (a b x : ℕ) → a ≤ b
     → bit_xor (flags (nat_le a) x) (flags (nat_le (b + 1)) x) ≡ flags (is_in_range a b) x
 unfolding flags
 between_are a b x le =
     by_byte xors (flag (nat_le a)) (flag (nat_le (b + 1))) (λ z l. flag-keeps (nat_le a) z)
-        (λ z l. flag-keeps (nat_le (b + 1)) z) 8 x
+    (λ z l. flag-keeps (nat_le (b + 1)) z) 8 x
     ∙ ap number (same_bytes _ (flag (is_in_range a b)) (λ z l. flag_apart a b z le) 8 x)
 
 -- ---- of a number that goes by the bytes of another
@@ -185,7 +185,7 @@ pub turned_low : (x : ℕ) → IsLow x → IsLow (bit_xor x 32)
 unfolding bytes
 turned_low x low zero =
     subst (λ (y : ℕ). y < 128) (sym (turned_first x))
-        (ltb-true _ 128 (tried 128 (λ b. ltb (bit_xor b 32) 128) refl (x % 256) (low 0)))
+    (ltb-true _ 128 (tried 128 (λ b. ltb (bit_xor b 32) 128) refl (x % 256) (low 0)))
 turned_low x low (suc k) = subst (λ (y : ℕ). get_or (bytes 7 y) k 0 < 128) (sym (turned_rest x)) (low (suc k))
 
 -- the flags of such a number, by those of the first byte alone
@@ -196,4 +196,4 @@ unfolding flags bytes
 turned_flags p q e x =
     (λ i. flag p (turned_first x i) + 256 * number (map (flag p) (bytes 7 (turned_rest x i))))
     ∙ ap (λ y. y + 256 * number (map (flag p) (bytes 7 (x / 256))))
-        (alike (λ b. flag p (bit_xor b 32)) (flag q) e (x % 256) (omega arith))
+    (alike (λ b. flag p (bit_xor b 32)) (flag q) e (x % 256) (omega arith))

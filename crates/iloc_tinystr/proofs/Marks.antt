@@ -1,4 +1,4 @@
--- Of a tiny text, whose bytes are marked where its number is not zero: a test holds of all where it marks them.
+-- A tiny text is marked where its number is not zero: a test holds of all bytes where it marks the same ones.
 use Rattle.std.proofs.Common.{◌≡◌, ℕ, zero, suc, ◌+◌, ◌*◌, ◌/◌, ◌%◌, ◌^◌, ◌<◌, ◌≤◌, Bool, true, false, ◌&&◌, not, cond, eqb, List, length, map, refl, sym, ◌∙◌, ap, subst, arith, pow-suc}
 use borrow.Author.Tests.{eqb-true}
 use Rattle.std.proofs.lemmas.Bool.Decides.{nat_tests}
@@ -46,7 +46,7 @@ title_marks (suc n) x h =
     ap (λ y. eqb y (128 + 256 * spread 128 n)) (
     turned_flags (is_in_range 97 122) is_ascii_uppercase refl x
     ∙ ap (λ y. flag is_ascii_uppercase (x % 256) + 256 * y)
-        (wider (flag (is_in_range 97 122)) refl n 7 (x / 256) few lt))
+    (wider (flag (is_in_range 97 122)) refl n 7 (x / 256) few lt))
     ∙ marks_step (is_ascii_uppercase (x % 256)) _ _ _ (marks (is_in_range 97 122) n (x / 256))
 
 module _ (n : ℕ) (text : List ℕ) (x : ℕ) (few : n ≤ 8) (tiny : is_tiny_text n text ≡ true)
@@ -92,7 +92,7 @@ module _ (n : ℕ) (text : List ℕ) (x : ℕ) (few : n ≤ 8) (tiny : is_tiny_t
   unfolding flags
   no_upper_marked =
       ap (λ y. eqb y 0) (wider (flag is_ascii_uppercase) refl (length text) 8 x short
-          (below (length text) x packed))
+      (below (length text) x packed))
       ∙ no_marks is_ascii_uppercase (length text) x ∙ ap (list_all (λ b. not (is_ascii_uppercase b))) shows
 
   pub title_marked : eqb (flags (is_in_range 97 122) (bit_xor x 32)) (flags is_text_byte x)
@@ -116,18 +116,18 @@ module _ (n : ℕ) (text : List ℕ) (x : ℕ) (few : n ≤ 8) (tiny : is_tiny_t
         → piece ≡ map to_ascii_lowercase text
     lowered e read =
         read _ (bytes-tiny n _ (tiny_lower n text tiny)) (number-lower (length text) x packed f e
-            ∙ ap (λ t. number (map to_ascii_lowercase t)) shows)
+        ∙ ap (λ t. number (map to_ascii_lowercase t)) shows)
 
     pub raised : f ≡ flags (is_in_range 97 122) x
         → ((t : List ℕ) → list_all is_text_byte t ≡ true → bit_xor x (f / 4) ≡ number t → piece ≡ t)
         → piece ≡ map to_ascii_uppercase text
     raised e read =
         read _ (bytes-tiny n _ (tiny_upper n text tiny)) (number-upper (length text) x packed f e
-            ∙ ap (λ t. number (map to_ascii_uppercase t)) shows)
+        ∙ ap (λ t. number (map to_ascii_uppercase t)) shows)
 
     pub titled : f ≡ flags (is_in_range 65 90) (bit_xor x 32)
         → ((t : List ℕ) → list_all is_text_byte t ≡ true → bit_xor x (f / 4) ≡ number t → piece ≡ t)
         → piece ≡ title text
     titled e read =
         read _ (bytes-tiny n _ (tiny_title n text tiny)) (number-title (length text) x packed f e
-            ∙ ap (λ t. number (title t)) shows)
+        ∙ ap (λ t. number (title t)) shows)

@@ -33,7 +33,7 @@ number_same (x ∷ a) (y ∷ b) h k =
     let s = first-text x a h in
     let t = first-text y b k in
     eq_step x y (number a) (number b) (omega (arith, s.1)) (omega (arith, t.1))
-        ∙ ap (λ e. eqb x y && e) (number_same a b s.2 t.2)
+    ∙ ap (λ e. eqb x y && e) (number_same a b s.2 t.2)
 
 -- the number of a list after that of the bytes before it, the first byte highest
 abbrev high_from : ℕ → List ℕ → ℕ

@@ -9,4 +9,4 @@ returns-clause-value g c = c.number_of_raw.ensures
 pub returns-clause-low : goal.returns-clause-low
 returns-clause-low g c =
     low_number g.row.N _ _ c.requires (tiny_of g.row.N _ _ c.self.invariant c.self.view_is)
-        (returns-clause-value g c)
+    (returns-clause-value g c)

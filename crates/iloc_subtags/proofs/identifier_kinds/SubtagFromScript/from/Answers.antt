@@ -17,7 +17,7 @@ module _ (c : goal.After-of_number) where
   read =
       c.of_number.ensures (lower c.args.script) (second_so _ _ (subtag_fits (lower c.args.script) lowered.0))
       (ap (λ y. bit_or y 32) (c.number.ensures ∙ ap number c.to_piece.ensures.value)
-          ∙ script_lower c.args.script c.to_piece.ensures.normal)
+      ∙ script_lower c.args.script c.to_piece.ensures.normal)
 
 pub subtag_of_normal-requires : goal.subtag_of_normal-requires
 subtag_of_normal-requires c = (lit< tt, subst (IsNormal Subtag) (sym (read c)) (lowered c))

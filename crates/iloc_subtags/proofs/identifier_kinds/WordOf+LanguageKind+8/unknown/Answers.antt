@@ -8,7 +8,11 @@ unfolding is_word languages lower
 und_is_normal = (refl, refl)
 
 pub subtag_of_normal-requires : goal.subtag_of_normal-requires
-subtag_of_normal-requires c = (lit< tt, subst (IsNormal (Language languages)) (sym (c.of_number.ensures (codes "und") refl refl)) und_is_normal)
+subtag_of_normal-requires c = (
+  lit< tt,
+  subst (IsNormal (Language languages)) (sym (c.of_number.ensures (codes "und") refl refl))
+      und_is_normal,
+)
 
 pub returns : goal.returns
 returns c = c.subtag_of_normal.ensures ∙ c.of_number.ensures (codes "und") refl refl

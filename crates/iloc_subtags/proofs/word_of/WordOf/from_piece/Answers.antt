@@ -19,13 +19,13 @@ module _ (g : _) (c : goal.After-of_number g) where
       let fits = normal_fits kind g.row.N g.met.K.WordKind.size g.met.K.WordKind.fits c.args.piece accepted in
       c.of_number.ensures (normal kind c.args.piece) (bytes-tiny g.row.N _ fits)
       (ap (λ y. bit_or y 8224) c.number.ensures
-          ∙ key_lower kind (g.met.K.WordKind.size ∙ c.if-this-eq2.true) c.args.piece accepted)
+      ∙ key_lower kind (g.met.K.WordKind.size ∙ c.if-this-eq2.true) c.args.piece accepted)
 
 pub subtag_of_normal-requires : goal.subtag_of_normal-requires
 subtag_of_normal-requires g c =
     let kind = g.K.WordKind.kind in
     let is_normal : IsNormal kind c.of_number.result =
-        subst (IsNormal kind) (sym (read g c)) (IsNormal-normal kind c.args.piece (accepted g c)) in
+    subst (IsNormal kind) (sym (read g c)) (IsNormal-normal kind c.args.piece (accepted g c)) in
     search rules
 
 pub subtag_of_normal-requires-2 : goal.subtag_of_normal-requires-2
@@ -33,7 +33,7 @@ subtag_of_normal-requires-2 g c =
     let kind = g.K.WordKind.kind in
     let accepted : IsWord kind c.args.piece = sym c.accepts.ensures ∙ c.if-not-accepts.false in
     let is_normal : IsNormal kind c.normal.result =
-        subst (IsNormal kind) (sym c.normal.ensures) (IsNormal-normal kind c.args.piece accepted) in
+    subst (IsNormal kind) (sym c.normal.ensures) (IsNormal-normal kind c.args.piece accepted) in
     search rules
 
 pub returns-then-this-eq2 : goal.returns-then-this-eq2

@@ -10,7 +10,8 @@ number_of_raw-packed-requires g c = (search rules, size-le g.K.WordKind.kind g.r
 pub returns-then-number-packed : goal.returns-then-number-packed
 returns-then-number-packed g c =
     let k = g.met.K.WordKind in
-    none_reads_raw 8 g.row.N g.K.WordKind.kind k.size k.fits g.K.WordKind.refusal _ c.args.raw c.refusal.ensures
+    none_reads_raw 8 g.row.N g.K.WordKind.kind k.size k.fits g.K.WordKind.refusal _ c.args.raw
+    c.refusal.ensures
     (λ text tiny e.
     let read = rw c.number_of_raw-packed.ensures at c.of_number-piece.ensures in
     let t = only_text g.row.N c.args.raw c.of_number-piece.result text tiny e read in
@@ -23,5 +24,6 @@ returns g c =
     let fit : (i : ℕ) → get_or c.args.raw i 0 < 256 = search rules in
     let same = sym c.number.ensures ∙ c.if-number-packed.false ∙ c.number_of_raw-packed.ensures in
     let read = rw c.number_of_raw-packed.ensures at c.of_number-piece.ensures in
-    reads_number g.row.N g.K.WordKind.kind k.size k.fits g.K.WordKind.refusal c.of_number-piece.result c.args.raw
+    reads_number g.row.N g.K.WordKind.kind k.size k.fits g.K.WordKind.refusal c.of_number-piece.result
+    c.args.raw
     long fit same read c.from_normal.result c.from_normal.ensures
