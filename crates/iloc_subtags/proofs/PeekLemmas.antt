@@ -22,7 +22,8 @@ unfolding left
 first_left it h = ap (λ b. first_item (cond b (pieces it.text.now) [])) (is_le it.len (length it.text.now) h) ∙ ap first_item (it.first h)
 
 -- a piece of another length is no word of the kind
-other_length : (k : Kind) (p : List ℕ) (n : ℕ) → length p ≡ n → has_length k n ≡ false → is_word k p ≡ false
+pub other_length : (k : Kind) (p : List ℕ) (n : ℕ) → length p ≡ n → has_length k n ≡ false
+    → is_word k p ≡ false
 other_length k p n e other = by (is_word k p) refl
   where
     by : (b : Bool) → is_word k p ≡ b → is_word k p ≡ false

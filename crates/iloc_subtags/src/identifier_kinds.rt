@@ -9,7 +9,7 @@ ghost use Rattle.iloc_subtags.specs.RawForms.{ReadsRaw};
 
 use crate::kind::WordKind;
 use crate::parse_error::ParseError;
-use crate::word_of::WordOf;
+use crate::word_of::{WordOf, is_normal, subtag_of_normal};
 use iloc_tinystr::{ShortPiece, TinyAsciiStr};
 
 /// The kind of languages.
@@ -56,21 +56,17 @@ pub type Language = WordOf<LanguageKind, 8>;
 
 impl WordOf<LanguageKind, 8> {
     /// The unknown language, `und`.
-    #[tactic(auto, unfolding(iloc_spec_grammar::specs::Syntax::is_word, iloc_spec_grammar::specs::Syntax::languages, iloc_spec_grammar::specs::Syntax::lower))]
     pub fn unknown() -> Language
         ensures { result ≡ codes "und" }
     {
-        match Language::try_from_utf8(b"und") {
-            Ok(word) => word,
-            Err(_) => unreachable!(),
-        }
+        subtag_of_normal(ShortPiece::of_number(0x0064_6e75))
     }
 
     /// Whether the language is `und`.
     pub fn is_unknown(self) -> bool
         ensures { IsTrue result ↔ (self ≡ codes "und") }
     {
-        self.as_str() == "und"
+        self == Language::unknown()
     }
 
     /// The language of a raw form of three bytes, as they were when languages had 2 or 3 letters: the
@@ -81,7 +77,7 @@ impl WordOf<LanguageKind, 8> {
         let Some(text) = TinyAsciiStr::<3>::try_from_raw(raw) else {
             return Err(ParseError::InvalidLanguage);
         };
-        Language::from_normal(text.resize())
+        Language::from_normal(text.to_piece())
     }
 }
 
@@ -179,7 +175,8 @@ impl WordOf<RegionKind, 3> {
         ensures two { result ≡ (length self.now == 2) }
         ensures letters { result ≡ letters self.now }
     {
-        self.as_str().len() == 2
+        is_normal(self);
+        self.into_raw()[2] == 0
     }
 }
 
@@ -300,7 +297,7 @@ impl WordOf<SubtagKind, 8> {
         requires { IsNormal words.Subtag input }
         ensures { result ≡ input }
     {
-        Subtag::from_known(input)
+        subtag_of_normal(input.to_piece())
     }
 }
 
@@ -320,6 +317,7 @@ impl From<Script> for Subtag {
     ghost from_gives = { λ script subtag. subtag ≡ lower script };
 
     fn from(script: Script) -> Subtag {
-        Subtag::from_known(script.to_tinystr().resize::<8>().to_ascii_lowercase())
+        // The first letter alone is in upper case.
+        subtag_of_normal(ShortPiece::of_number(script.to_piece().number() | 0x20))
     }
 }

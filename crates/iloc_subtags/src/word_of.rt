@@ -10,7 +10,7 @@ ghost use Rattle.iloc_subtags.specs.RawForms.{ReadsRaw};
 use crate::identifier_kinds::Subtag;
 use crate::kind::WordKind;
 use crate::parse_error::ParseError;
-use iloc_tinystr::{ShortPiece, TinyAsciiStr};
+use iloc_tinystr::{ShortPiece, TinyAsciiStr, number_of_raw};
 use iloc_writeable::pieces::Pieces;
 use iloc_writeable::{LengthHint, Sink, Writeable};
 use std::cmp::Ordering;
@@ -54,6 +54,9 @@ impl<K: WordKind<N>, const N: usize> WordOf<K, N> {
     pub fn try_from_utf8(code_units: &[u8]) -> Result<Self, ParseError>
         ensures { result ≡ read K.kind K.refusal code_units.now }
     {
+        if !K::has_length(code_units.len()) {
+            return Err(K::refusal());
+        }
         match ShortPiece::of(code_units) {
             Some(piece) => Self::from_piece(piece),
             None => Err(K::refusal()),
@@ -69,10 +72,11 @@ impl<K: WordKind<N>, const N: usize> WordOf<K, N> {
         if !K::accepts(piece) {
             return Err(K::refusal());
         }
-        Ok(WordOf {
-            text: TinyAsciiStr::from_piece(K::normal(piece)),
-            kind: PhantomData,
-        })
+        if N == 2 {
+            // Bit 5 puts letters into lower case, and every digit has it.
+            return Ok(subtag_of_normal(ShortPiece::of_number(piece.number() | 0x2020)));
+        }
+        Ok(subtag_of_normal(K::normal(piece)))
     }
 
     /// The subtag of a raw form: its normal text, followed by zeros up to `N` bytes. Any other bytes, those
@@ -80,39 +84,27 @@ impl<K: WordKind<N>, const N: usize> WordOf<K, N> {
     pub fn try_from_raw(raw: [u8; N]) -> Result<Self, ParseError>
         ensures { ReadsRaw 8 K.kind K.refusal raw.entry result }
     {
-        let Some(text) = TinyAsciiStr::<N>::try_from_raw(raw) else {
+        let packed = number_of_raw(&raw);
+        let piece = ShortPiece::of_number(packed);
+        if piece.number() != packed {
             return Err(K::refusal());
-        };
-        Self::from_normal(text)
+        }
+        Self::from_normal(piece)
     }
 
-    /// The subtag of its normal text.
-    pub(crate) fn from_normal(text: TinyAsciiStr<N>) -> Result<Self, ParseError>
-        ensures { MatchResult result (λ word. (word ≡ text.entry) × IsNormal K.kind text.entry)
-            (λ e. (e ≡ K.refusal) × ¬ (IsNormal K.kind text.entry)) }
+    // The subtag of its normal text.
+    #[inline(always)]
+    pub(crate) fn from_normal(piece: ShortPiece) -> Result<Self, ParseError>
+        ensures { MatchResult result (λ word. (word ≡ piece) × IsNormal K.kind piece)
+            (λ e. (e ≡ K.refusal) × ¬ (IsNormal K.kind piece)) }
     {
-        let piece = text.to_piece();
         if !K::accepts(piece) {
             return Err(K::refusal());
         }
         if K::normal(piece) != piece {
             return Err(K::refusal());
         }
-        Ok(WordOf {
-            text,
-            kind: PhantomData,
-        })
-    }
-
-    /// The subtag of a text that is known to be normal.
-    pub(crate) fn from_known(text: TinyAsciiStr<N>) -> Self
-        requires { IsNormal K.kind text }
-        ensures { result ≡ text.entry }
-    {
-        WordOf {
-            text,
-            kind: PhantomData,
-        }
+        Ok(subtag_of_normal(piece))
     }
 
     /// The raw form: the text, followed by zeros up to `N` bytes.
@@ -170,7 +162,10 @@ pub fn subtag_of_normal<K: WordKind<N>, const N: usize>(piece: ShortPiece) -> Wo
     requires { IsNormal K.kind piece }
     ensures { result ≡ piece }
 {
-    WordOf::from_known(TinyAsciiStr::from_piece(piece))
+    WordOf {
+        text: TinyAsciiStr::from_piece(piece),
+        kind: PhantomData,
+    }
 }
 
 /// The subtag as one of any sort, for kinds whose subtags all are.

@@ -30,7 +30,8 @@ kept f e b l = ltb-true (f b) 256 (tried 256 (λ b. ltb (f b) 256) e b l)
 pub alike : (f g : ℕ → ℕ) → each_below 256 (λ b. eqb (f b) (g b)) ≡ true → (b : ℕ) → b < 256 → f b ≡ g b
 alike f g e b l = eqb-true (f b) (g b) (tried 256 (λ b. eqb (f b) (g b)) e b l)
 
-same_bytes : (f g : ℕ → ℕ) → ((b : ℕ) → b < 256 → f b ≡ g b) → (n x : ℕ) → map f (bytes n x) ≡ map g (bytes n x)
+pub same_bytes : (f g : ℕ → ℕ) → ((b : ℕ) → b < 256 → f b ≡ g b) → (n x : ℕ)
+    → map f (bytes n x) ≡ map g (bytes n x)
 unfolding bytes
 same_bytes f g e zero x = refl
 same_bytes f g e (suc n) x = let here = e (x % 256) (omega arith) in λ i. here i ∷ same_bytes f g e n (x / 256) i
@@ -109,7 +110,9 @@ module _ {o : ℕ → ℕ → ℕ} (by : ByBlocks o) where
       let right : d + 256 * s ≡ s * 2 ^ 8 + d = omega arith in
       (λ i. o (left i) (right i)) ∙ by.block 8 r s c d c-lt d-lt ∙ omega arith
 
-  by_byte : (f g : ℕ → ℕ) → Keeps f → Keeps g → (n x : ℕ) → o (number (map f (bytes n x))) (number (map g (bytes n x))) ≡ number (map (λ b. o (f b) (g b)) (bytes n x))
+  pub by_byte : (f g : ℕ → ℕ) → Keeps f → Keeps g → (n x : ℕ)
+      → o (number (map f (bytes n x))) (number (map g (bytes n x)))
+      ≡ number (map (λ b. o (f b) (g b)) (bytes n x))
   unfolding bytes
   by_byte f g kf kg zero x = by.zeros
   by_byte f g kf kg (suc n) x =

@@ -5,41 +5,37 @@ use Rattle.std.specs.Int.RustNames.{bit_and, bit_or, bit_xor}
 use Rattle.std.proofs.lemmas.Bool.Decides.{nat_tests}
 use Rattle.std.specs.List.{list_all}
 use Rattle.std.specs.Char.{is_ascii_alphabetic, is_ascii_alphanumeric, is_ascii_digit}
+use Rattle.std.specs.Int.{is_in_range}
 use Rattle.iloc_tinystr.specs.TinyText.{is_text_byte}
 use Rattle.iloc_tinystr.specs.Number.{number, bytes, flag, flags, spread, IsPacked}
-use Rattle.iloc_tinystr.proofs.ByBytes.{tried, kept, Bytewise, itself, constant, alike_made, ands, ors, xors, sums, of_both}
+use Rattle.iloc_tinystr.proofs.ByBytes.{each_below, tried, alike, same_bytes, itself, constant, ands, ors, xors, by_byte, of_both}
+use Rattle.iloc_tinystr.proofs.Low.{masked, flags_of, flag-keeps}
 use Rattle.iloc_tinystr.proofs.Packed.{below, wider}
 
--- the high bit of the bytes from one bound on that are below another, and below 128
-abbrev between : ℕ → ℕ → ℕ → ℕ → ℕ
-between x low from upto = bit_and (bit_and (bit_xor (low + from) (low + upto)) (bit_xor x 9259542123273814144)) 9259542123273814144
-
+-- those of any bytes, by those of their lowest seven bits
 module _ (x : ℕ) (small : x < 2 ^ 64) where
-  pub letters_are : between x (bit_and (bit_or x 2314885530818453536) 9187201950435737471) 2242545357980376863 361700864190383365 ≡ flags is_ascii_alphabetic x
+  flagged : (p : ℕ → Bool)
+      → each_below 256 (λ b. eqb (bit_and (flag p (bit_and b 127)) (bit_xor b 128)) (flag p b)) ≡ true
+      → bit_and (flags p (bit_and x 9187201950435737471)) (bit_xor x 9259542123273814144) ≡ flags p x
   unfolding flags spread
-  letters_are =
-      let own = itself x small in
-      let low = of_both ands (of_both ors own (constant x 32 refl) refl) (constant x 127 refl) refl in
-      let apart = of_both xors (of_both sums low (constant x 31 refl) refl) (of_both sums low (constant x 5 refl) refl) refl in
-      let ascii = of_both xors own (constant x 128 refl) refl in
-      (alike_made (of_both ands (of_both ands apart ascii refl) (constant x 128 refl) refl) (flag is_ascii_alphabetic) refl).made
+  flagged p e =
+      let low = flags_of (masked x small) p in
+      let ascii = of_both xors (itself x small) (constant x 128 refl) refl in
+      (λ i. bit_and (low.made i) (ascii.made i))
+      ∙ by_byte ands (λ b. flag p (bit_and b 127)) (λ b. bit_xor b 128) low.keeps ascii.keeps 8 x
+      ∙ ap number (same_bytes _ (flag p) (alike _ (flag p) e) 8 x)
 
-  pub digits_are : between x (bit_and x 9187201950435737471) 5787213827046133840 5063812098665367110 ≡ flags is_ascii_digit x
-  unfolding flags spread
-  digits_are =
-      let own = itself x small in
-      let low = of_both ands own (constant x 127 refl) refl in
-      let apart = of_both xors (of_both sums low (constant x 80 refl) refl) (of_both sums low (constant x 70 refl) refl) refl in
-      let ascii = of_both xors own (constant x 128 refl) refl in
-      (alike_made (of_both ands (of_both ands apart ascii refl) (constant x 128 refl) refl) (flag is_ascii_digit) refl).made
+  pub letters_are : bit_and (flags is_ascii_alphabetic (bit_and x 9187201950435737471))
+      (bit_xor x 9259542123273814144) ≡ flags is_ascii_alphabetic x
+  letters_are = flagged is_ascii_alphabetic refl
 
-  pub texts_are : bit_and (bit_and (bit_and x 9187201950435737471 + 9187201950435737471) (bit_xor x 9259542123273814144)) 9259542123273814144 ≡ flags is_text_byte x
-  unfolding flags spread
-  texts_are =
-      let own = itself x small in
-      let raised = of_both sums (of_both ands own (constant x 127 refl) refl) (constant x 127 refl) refl in
-      let ascii = of_both xors own (constant x 128 refl) refl in
-      (alike_made (of_both ands (of_both ands raised ascii refl) (constant x 128 refl) refl) (flag is_text_byte) refl).made
+  pub digits_are : bit_and (flags (is_in_range 48 57) (bit_and x 9187201950435737471))
+      (bit_xor x 9259542123273814144) ≡ flags is_ascii_digit x
+  digits_are = flagged is_ascii_digit refl
+
+  pub texts_are : bit_and (flags is_text_byte (bit_and x 9187201950435737471)) (bit_xor x 9259542123273814144)
+      ≡ flags is_text_byte x
+  texts_are = flagged is_text_byte refl
 
 pub high_bits_are : (n : ℕ) → n ≤ 8 → 9259542123273814144 / 2 ^ (64 - 8 * n) ≡ spread 128 n
 unfolding spread
@@ -47,11 +43,13 @@ high_bits_are n few =
     let n-lt : n < 9 = omega arith in
     eqb-true _ _ (tried 9 (λ k. eqb (9259542123273814144 / 2 ^ (64 - 8 * k)) (spread 128 k)) refl n n-lt)
 
-marks_step : (t all : Bool) (a b : ℕ) → eqb a b ≡ all → eqb (cond t 128 0 + 256 * a) (128 + 256 * b) ≡ (t && all)
+pub marks_step : (t all : Bool) (a b : ℕ) → eqb a b ≡ all
+    → eqb (cond t 128 0 + 256 * a) (128 + 256 * b) ≡ (t && all)
 marks_step true all a b e = grind (arith, nat_tests)
 marks_step false all a b e = grind (arith, nat_tests)
 
-marks : (p : ℕ → Bool) (n x : ℕ) → eqb (number (map (flag p) (bytes n x))) (spread 128 n) ≡ list_all p (bytes n x)
+pub marks : (p : ℕ → Bool) (n x : ℕ)
+    → eqb (number (map (flag p) (bytes n x))) (spread 128 n) ≡ list_all p (bytes n x)
 unfolding bytes spread
 marks p zero x = refl
 marks p (suc n) x = marks_step (p (x % 256)) _ _ _ (marks p n (x / 256))
@@ -64,6 +62,6 @@ all_are p none n x h =
 pub either_are : (x : ℕ) → bit_or (flags is_ascii_alphabetic x) (flags is_ascii_digit x) ≡ flags is_ascii_alphanumeric x
 unfolding flags
 either_are x =
-    let letters : Bytewise x (flag is_ascii_alphabetic) (flags is_ascii_alphabetic x) = record { keeps = kept (flag is_ascii_alphabetic) refl; made = refl } in
-    let digits : Bytewise x (flag is_ascii_digit) (flags is_ascii_digit x) = record { keeps = kept (flag is_ascii_digit) refl; made = refl } in
-    (alike_made (of_both ors letters digits refl) (flag is_ascii_alphanumeric) refl).made
+    by_byte ors (flag is_ascii_alphabetic) (flag is_ascii_digit) (λ b l. flag-keeps is_ascii_alphabetic b)
+    (λ b l. flag-keeps is_ascii_digit b) 8 x
+    ∙ ap number (same_bytes _ (flag is_ascii_alphanumeric) (alike _ (flag is_ascii_alphanumeric) refl) 8 x)

@@ -1,30 +1,133 @@
--- Of a tiny text, whose bytes are marked where its raw form is not zero: a test holds of all where it marks the same.
-use Rattle.std.proofs.Common.{◌≡◌, ℕ, ◌≤◌, Bool, false, eqb, List, length, refl, ◌∙◌, ap, arith}
+-- A tiny text is marked where its number is not zero: a test holds of all bytes where it marks the same ones.
+use Rattle.std.proofs.Common.{◌≡◌, ℕ, zero, suc, ◌+◌, ◌*◌, ◌/◌, ◌%◌, ◌^◌, ◌<◌, ◌≤◌, Bool, true, false, ◌&&◌, not, cond, eqb, List, length, map, refl, sym, ◌∙◌, ap, subst, arith, pow-suc}
 use borrow.Author.Tests.{eqb-true}
+use Rattle.std.proofs.lemmas.Bool.Decides.{nat_tests}
+use Rattle.std.proofs.lemmas.Nat.{ones_cat}
 use Rattle.std.specs.List.{list_all}
-use Rattle.std.specs.Char.{is_ascii_alphabetic, is_ascii_alphanumeric, is_ascii_digit}
-use Rattle.iloc_tinystr.specs.Number.{number, flags, spread}
-use Rattle.iloc_tinystr.specs.TinyText.{is_text_byte, text_of, IsRaw}
-use Rattle.iloc_tinystr.proofs.Classes.{all_are}
+use Rattle.std.specs.Char.{is_ascii_alphabetic, is_ascii_alphanumeric, is_ascii_digit, is_ascii_lowercase, is_ascii_uppercase, to_ascii_lowercase, to_ascii_uppercase}
+use Rattle.std.specs.Int.{is_in_range}
+use Rattle.std.specs.Int.RustNames.{bit_or, bit_xor, count_ones}
+use Rattle.iloc_tinystr.specs.Number.{number, bytes, flag, flags, spread, IsPacked}
+use Rattle.iloc_tinystr.specs.TinyText.{is_text_byte, is_tiny_text, is_title_letters}
+use Rattle.iloc_tinystr.proofs.Low.{turned_flags}
+use Rattle.iloc_tinystr.proofs.Packed.{below, wider}
+use Rattle.iloc_tinystr.proofs.Classes.{all_are, marks, marks_step, either_are}
 use Rattle.iloc_tinystr.proofs.Loading.{fit-text, piece_word, piece_shows}
-use Rattle.iloc_tinystr.proofs.TinyTextLemmas.{text_bytes, tiny_of, length-le-tiny, number_of_raw_form}
+use Rattle.iloc_tinystr.proofs.Titles.{title}
+use Rattle.iloc_tinystr.proofs.Cases.{number-lower, number-upper, number-title}
+use Rattle.iloc_tinystr.proofs.TinyTextLemmas.{bytes-tiny, length-le-tiny, tiny_lower, tiny_upper, tiny_title}
 
-module _ (n : ℕ) (raw text : List ℕ) (x : ℕ) (few : n ≤ 8) (h : IsRaw n raw) (e : text_of raw ≡ text) (is : x ≡ number raw) where
+-- the number of no marks
+none_step : (t all : Bool) (a : ℕ) → eqb a 0 ≡ all → eqb (cond t 128 0 + 256 * a) 0 ≡ (not t && all)
+none_step true all a e = grind (arith, nat_tests)
+none_step false all a e = grind (arith, nat_tests)
+
+no_marks : (p : ℕ → Bool) (n x : ℕ)
+    → eqb (number (map (flag p) (bytes n x))) 0 ≡ list_all (λ b. not (p b)) (bytes n x)
+unfolding bytes
+no_marks p zero x = refl
+no_marks p (suc n) x = none_step (p (x % 256)) _ _ (no_marks p n (x / 256))
+
+ones_spread : (n : ℕ) → count_ones (spread 128 n) ≡ n
+unfolding spread count_ones
+ones_spread zero = refl
+ones_spread (suc n) =
+    let turned : 128 + 256 * spread 128 n ≡ spread 128 n * 2 ^ 8 + 128 = omega arith in
+    omega (arith, ap count_ones turned, ones_cat 8 (spread 128 n) 128 (omega arith), ones_spread n)
+
+-- the first letter in upper case, and the others in lower case
+title_marks : (n x : ℕ) → IsPacked n x
+    → eqb (flags (is_in_range 97 122) (bit_xor x 32)) (spread 128 n) ≡ is_title_letters (bytes n x)
+unfolding flags bytes spread
+title_marks zero x h = ap (λ y. eqb (flags (is_in_range 97 122) (bit_xor y 32)) 0) (sym h.whole)
+title_marks (suc n) x h =
+    let lt : x / 256 < 256 ^ n = omega (arith, below (suc n) x h, pow-suc 256 n) in
+    let few : n ≤ 7 = omega (arith, h.few) in
+    ap (λ y. eqb y (128 + 256 * spread 128 n)) (
+    turned_flags (is_in_range 97 122) is_ascii_uppercase refl x
+    ∙ ap (λ y. flag is_ascii_uppercase (x % 256) + 256 * y)
+    (wider (flag (is_in_range 97 122)) refl n 7 (x / 256) few lt))
+    ∙ marks_step (is_ascii_uppercase (x % 256)) _ _ _ (marks (is_in_range 97 122) n (x / 256))
+
+module _ (n : ℕ) (text : List ℕ) (x : ℕ) (few : n ≤ 8) (tiny : is_tiny_text n text ≡ true)
+    (is : x ≡ number text) where
+  short : length text ≤ 8
+  short = omega (arith, length-le-tiny n text tiny)
+
+  pub packed : IsPacked (length text) x
+  packed = piece_word text x (fit-text text (bytes-tiny n text tiny)) short is
+
+  pub shows : bytes (length text) x ≡ text
+  shows = piece_shows text x (fit-text text (bytes-tiny n text tiny)) short is
+
   marked : (p : ℕ → Bool) → p 0 ≡ false → eqb (flags p x) (spread 128 (length text)) ≡ list_all p text
-  marked p none =
-      let fit = fit-text text (text_bytes n raw text h e) in
-      let short : length text ≤ 8 = omega (arith, length-le-tiny n text (tiny_of n raw text h e)) in
-      let same : x ≡ number text = is ∙ number_of_raw_form n raw text h e in
-      all_are p none (length text) x (piece_word text x fit short same) ∙ ap (list_all p) (piece_shows text x fit short same)
+  marked p none = all_are p none (length text) x packed ∙ ap (list_all p) shows
 
   all_marked : flags is_text_byte x ≡ spread 128 (length text)
-  all_marked = eqb-true _ _ (marked is_text_byte refl ∙ text_bytes n raw text h e)
+  all_marked = eqb-true _ _ (marked is_text_byte refl ∙ bytes-tiny n text tiny)
+
+  with_all : (p : ℕ → Bool) → p 0 ≡ false → eqb (flags p x) (flags is_text_byte x) ≡ list_all p text
+  with_all p none = ap (eqb (flags p x)) all_marked ∙ marked p none
 
   pub letters_marked : eqb (flags is_ascii_alphabetic x) (flags is_text_byte x) ≡ list_all is_ascii_alphabetic text
-  letters_marked = ap (eqb (flags is_ascii_alphabetic x)) all_marked ∙ marked is_ascii_alphabetic refl
+  letters_marked = with_all is_ascii_alphabetic refl
 
-  pub digits_marked : eqb (flags is_ascii_digit x) (flags is_text_byte x) ≡ list_all is_ascii_digit text
-  digits_marked = ap (eqb (flags is_ascii_digit x)) all_marked ∙ marked is_ascii_digit refl
+  pub digits_marked : eqb (flags (is_in_range 48 57) x) (flags is_text_byte x) ≡ list_all is_ascii_digit text
+  digits_marked = with_all is_ascii_digit refl
 
-  pub alphanumerics_marked : eqb (flags is_ascii_alphanumeric x) (flags is_text_byte x) ≡ list_all is_ascii_alphanumeric text
-  alphanumerics_marked = ap (eqb (flags is_ascii_alphanumeric x)) all_marked ∙ marked is_ascii_alphanumeric refl
+  pub alphanumerics_marked : eqb (bit_or (flags is_ascii_alphabetic x) (flags (is_in_range 48 57) x))
+      (flags is_text_byte x) ≡ list_all is_ascii_alphanumeric text
+  alphanumerics_marked = ap (λ y. eqb y (flags is_text_byte x)) (either_are x)
+      ∙ with_all is_ascii_alphanumeric refl
+
+  pub lower_marked : eqb (flags (is_in_range 97 122) x) (flags is_text_byte x)
+      ≡ list_all is_ascii_lowercase text
+  lower_marked = with_all is_ascii_lowercase refl
+
+  pub upper_marked : eqb (flags (is_in_range 65 90) x) (flags is_text_byte x)
+      ≡ list_all is_ascii_uppercase text
+  upper_marked = with_all is_ascii_uppercase refl
+
+  pub no_upper_marked : eqb (flags (is_in_range 65 90) x) 0 ≡ list_all (λ b. not (is_ascii_uppercase b)) text
+  unfolding flags
+  no_upper_marked =
+      ap (λ y. eqb y 0) (wider (flag is_ascii_uppercase) refl (length text) 8 x short
+      (below (length text) x packed))
+      ∙ no_marks is_ascii_uppercase (length text) x ∙ ap (list_all (λ b. not (is_ascii_uppercase b))) shows
+
+  pub title_marked : eqb (flags (is_in_range 97 122) (bit_xor x 32)) (flags is_text_byte x)
+      ≡ is_title_letters text
+  title_marked = ap (eqb (flags (is_in_range 97 122) (bit_xor x 32))) all_marked
+      ∙ title_marks (length text) x packed ∙ ap is_title_letters shows
+
+  pub counted : count_ones (flags is_text_byte x) ≡ length text
+  counted = ap count_ones all_marked ∙ ones_spread (length text)
+
+  pub count_packed : (m : ℕ) → m ≡ count_ones (flags is_text_byte x) → IsPacked m x
+  count_packed m e = subst (λ (n : ℕ). IsPacked n x) (sym (e ∙ counted)) packed
+
+  pub count_shows : (m : ℕ) → m ≡ count_ones (flags is_text_byte x) → bytes m x ≡ text
+  count_shows m e = ap (λ n. bytes n x) (e ∙ counted) ∙ shows
+
+  -- a piece that is read from the number of the text in another case is that text
+  module _ (f : ℕ) (piece : List ℕ) where
+    pub lowered : f ≡ flags (is_in_range 65 90) x
+        → ((t : List ℕ) → list_all is_text_byte t ≡ true → bit_or x (f / 4) ≡ number t → piece ≡ t)
+        → piece ≡ map to_ascii_lowercase text
+    lowered e read =
+        read _ (bytes-tiny n _ (tiny_lower n text tiny)) (number-lower (length text) x packed f e
+        ∙ ap (λ t. number (map to_ascii_lowercase t)) shows)
+
+    pub raised : f ≡ flags (is_in_range 97 122) x
+        → ((t : List ℕ) → list_all is_text_byte t ≡ true → bit_xor x (f / 4) ≡ number t → piece ≡ t)
+        → piece ≡ map to_ascii_uppercase text
+    raised e read =
+        read _ (bytes-tiny n _ (tiny_upper n text tiny)) (number-upper (length text) x packed f e
+        ∙ ap (λ t. number (map to_ascii_uppercase t)) shows)
+
+    pub titled : f ≡ flags (is_in_range 65 90) (bit_xor x 32)
+        → ((t : List ℕ) → list_all is_text_byte t ≡ true → bit_xor x (f / 4) ≡ number t → piece ≡ t)
+        → piece ≡ title text
+    titled e read =
+        read _ (bytes-tiny n _ (tiny_title n text tiny)) (number-title (length text) x packed f e
+        ∙ ap (λ t. number (title t)) shows)

@@ -1,5 +1,5 @@
 -- Raw forms of one size compare as their numbers do.
-use Rattle.std.proofs.Common.{Equal, Less, Greater, Ordering, ◌≡◌, ℕ, zero, suc, ◌+◌, ◌-◌, ◌*◌, ◌<◌, ◌≤◌, ◌&&◌, eqb, List, [], ◌∷◌, ◌++◌, length, refl, sym, ◌∙◌, ap, arith}
+use Rattle.std.proofs.Common.{Equal, Less, Greater, Ordering, ◌≡◌, ℕ, zero, suc, ◌+◌, ◌-◌, ◌*◌, ◌<◌, ◌≤◌, ◌&&◌, true, eqb, List, [], ◌∷◌, ◌++◌, length, refl, sym, ◌∙◌, ap, arith}
 use Rattle.std.specs.Prelude.{nat_eq}
 use Rattle.std.proofs.lemmas.Bool.Decides.{nat_tests}
 use Rattle.std.proofs.Math.ListN.{replicate}
@@ -7,7 +7,10 @@ use Rattle.std.specs.Cmp.Derive.{then_next}
 use Rattle.std.specs.Cmp.Lexicographic.{slice_cmp, pointwise}
 use Rattle.std.specs.Int.{w64, from_be_bytes}
 use Rattle.std.specs.Ordering.{nat_cmp, ordering_then}
+use Rattle.std.specs.List.{list_all}
 use Rattle.iloc_tinystr.specs.Number.{number}
+use Rattle.iloc_tinystr.specs.TinyText.{is_text_byte}
+use Rattle.iloc_tinystr.proofs.Loading.{first-text}
 use Rattle.iloc_tinystr.proofs.RawForms.{Bytes, fit-padded, length-padded}
 
 -- the same number, the first byte lowest
@@ -19,6 +22,18 @@ number_eq [] [] e h k = refl
 number_eq (x ∷ xs) (y ∷ ys) e h k =
     eq_step x y (number xs) (number ys) (h 0) (k 0) ∙ ap (λ t. eqb x y && t) (number_eq xs ys (omega arith) (λ i. h (suc i)) (λ i. k (suc i)))
 number_eq xs ys e h k = absurd (omega arith)
+
+-- of texts, of any lengths
+pub number_same : (a b : List ℕ) → list_all is_text_byte a ≡ true → list_all is_text_byte b ≡ true
+    → eqb (number a) (number b) ≡ pointwise nat_eq a b
+number_same [] [] h k = refl
+number_same [] (y ∷ b) h k = let t = first-text y b k in grind (arith, nat_tests, t.0)
+number_same (x ∷ a) [] h k = let t = first-text x a h in grind (arith, nat_tests, t.0)
+number_same (x ∷ a) (y ∷ b) h k =
+    let s = first-text x a h in
+    let t = first-text y b k in
+    eq_step x y (number a) (number b) (omega (arith, s.1)) (omega (arith, t.1))
+    ∙ ap (λ e. eqb x y && e) (number_same a b s.2 t.2)
 
 -- the number of a list after that of the bytes before it, the first byte highest
 abbrev high_from : ℕ → List ℕ → ℕ

@@ -1,5 +1,5 @@
 -- Bytes as one number, the first lowest; and back.
-use Rattle.std.specs.Prelude.{◌≡◌, ℕ, zero, suc, ◌+◌, ◌*◌, ◌/◌, ◌%◌, ◌≤◌, Bool, List, [], ◌∷◌, length, map, if◌then◌else◌}
+use Rattle.std.specs.Prelude.{◌≡◌, ℕ, zero, suc, ◌+◌, ◌*◌, ◌/◌, ◌%◌, ◌<◌, ◌≤◌, Bool, List, [], ◌∷◌, length, slice_index, map, if◌then◌else◌}
 
 -- the number of the bytes
 abbrev pub number : List ℕ → ℕ
@@ -29,3 +29,7 @@ flags p x = number (map (flag p) (bytes 8 x))
 unfoldable pub spread : ℕ → ℕ → ℕ
 spread c zero = 0
 spread c (suc n) = c + 256 * spread c n
+
+-- each of the eight lowest bytes of a number is below 128
+abbrev pub IsLow : ℕ → Type 0
+IsLow x = (k : ℕ) → slice_index (bytes 8 x) k < 128

@@ -1,44 +1,87 @@
 //! The high bit of each byte of a number that has a property.
-ghost use Rattle.std.specs.Prelude.{◌≡◌, ◌==◌, ◌≤◌};
+ghost use Rattle.std.specs.Prelude.{◌≡◌, ◌<◌, ◌≤◌, nat_le};
 ghost use Rattle.std.specs.Char.{is_ascii_alphabetic, is_ascii_digit};
-ghost use Rattle.iloc_tinystr.specs.Number.{flags, spread};
+ghost use Rattle.std.specs.Int.{is_in_range};
+ghost use Rattle.iloc_tinystr.specs.Number.{flags, spread, IsLow};
 ghost use Rattle.iloc_tinystr.specs.TinyText.{is_text_byte};
 
 const HIGH: u64 = 0x8080_8080_8080_8080;
 
-// The high bit of each byte that is a letter.
-#[tactic(auto, using(crate::proofs::Classes::letters_are))]
+const LOW: u64 = 0x7f7f_7f7f_7f7f_7f7f;
+
+const CASE: u64 = 0x2020_2020_2020_2020;
+
+// Of bytes below 128, those that are so large at least.
+#[tactic(auto, using(crate::proofs::Low::marks_are, crate::proofs::Low::low_le))]
+#[inline(always)]
+fn marks_from(x: u64, least: u64) -> u64
+    requires low { IsLow x }
+    requires few { least ≤ 128 }
+    ensures { result ≡ flags (nat_le least) x }
+{
+    (x + (128 - least) * 0x0101_0101_0101_0101) & HIGH
+}
+
+// Of bytes below 128, those between two, or equal to one of them.
+#[tactic(auto, using(crate::proofs::Low::between_are))]
+#[inline(always)]
+pub(crate) fn marks_between(x: u64, first: u64, last: u64) -> u64
+    requires low { IsLow x }
+    requires order { first ≤ last }
+    requires few { last < 128 }
+    ensures { result ≡ flags (is_in_range first last) x }
+{
+    marks_from(x, first) ^ marks_from(x, last + 1)
+}
+
+// Of bytes below 128, the letters.
+#[tactic(auto, using(crate::proofs::Low::cased_low, crate::proofs::Low::letters_are))]
+#[inline(always)]
+pub(crate) fn letter_marks(x: u64) -> u64
+    requires { IsLow x }
+    ensures { result ≡ flags is_ascii_alphabetic x }
+{
+    marks_between(x | CASE, 97, 122)
+}
+
+// Of bytes below 128, those that are not 0.
+#[tactic(auto, using(crate::proofs::Low::texts_are))]
+#[inline(always)]
+pub(crate) fn text_marks(x: u64) -> u64
+    requires { IsLow x }
+    ensures { result ≡ flags is_text_byte x }
+{
+    marks_from(x, 1)
+}
+
+// The letters.
+#[tactic(auto, using(crate::proofs::Low::masked_low, crate::proofs::Classes::letters_are))]
 #[inline(always)]
 pub(crate) fn letter_flags(x: u64) -> u64
     ensures { result ≡ flags is_ascii_alphabetic x }
 {
-    let low = (x | 0x2020_2020_2020_2020) & 0x7f7f_7f7f_7f7f_7f7f;
-    // From `a` on, but not past `z`, and not above 127.
-    ((low + 0x1f1f_1f1f_1f1f_1f1f) ^ (low + 0x0505_0505_0505_0505)) & (x ^ HIGH) & HIGH
+    letter_marks(x & LOW) & (x ^ HIGH)
 }
 
-// The high bit of each byte that is a digit.
-#[tactic(auto, using(crate::proofs::Classes::digits_are))]
+// The digits.
+#[tactic(auto, using(crate::proofs::Low::masked_low, crate::proofs::Classes::digits_are))]
 #[inline(always)]
 pub(crate) fn digit_flags(x: u64) -> u64
     ensures { result ≡ flags is_ascii_digit x }
 {
-    let low = x & 0x7f7f_7f7f_7f7f_7f7f;
-    // From `0` on, but not past `9`, and not above 127.
-    ((low + 0x5050_5050_5050_5050) ^ (low + 0x4646_4646_4646_4646)) & (x ^ HIGH) & HIGH
+    marks_between(x & LOW, 48, 57) & (x ^ HIGH)
 }
 
-// The high bit of each byte that is neither 0 nor above 127.
-#[tactic(auto, using(crate::proofs::Classes::texts_are))]
+// The bytes that are neither 0 nor above 127.
+#[tactic(auto, using(crate::proofs::Low::masked_low, crate::proofs::Classes::texts_are))]
 #[inline(always)]
 pub(crate) fn text_flags(x: u64) -> u64
     ensures { result ≡ flags is_text_byte x }
 {
-    let low = x & 0x7f7f_7f7f_7f7f_7f7f;
-    (low + 0x7f7f_7f7f_7f7f_7f7f) & (x ^ HIGH) & HIGH
+    text_marks(x & LOW) & (x ^ HIGH)
 }
 
-// The high bit of each of the lowest bytes.
+// Each of the lowest bytes.
 #[tactic(auto, using(crate::proofs::Classes::high_bits_are), unfolding(crate::specs::Number::spread))]
 #[inline(always)]
 pub(crate) fn high_bits(n: usize) -> u64

@@ -6,7 +6,7 @@ ghost use Rattle.std.specs.Cmp.Rules.{comparing};
 ghost use Rattle.std.proofs.Common.{rules};
 ghost use Rattle.std.specs.Char.{is_ascii_alphabetic, is_ascii_alphanumeric, is_ascii_digit, to_ascii_lowercase, to_ascii_uppercase};
 ghost use Rattle.std.specs.List.{list_all};
-ghost use Rattle.iloc_tinystr.specs.Number.{number, bytes};
+ghost use Rattle.iloc_tinystr.specs.Number.{number, bytes, IsPacked};
 ghost use Rattle.iloc_tinystr.specs.TinyText.{is_text_byte};
 
 use crate::flags::{digit_flags, high_bits, letter_flags, text_flags};
@@ -63,6 +63,15 @@ impl ShortPiece {
             packed,
             len: (71 - packed.leading_zeros() as usize) >> 3,
         }
+    }
+
+    // The piece of so many of a number's lowest bytes, the others of which are zero.
+    #[inline(always)]
+    pub(crate) fn of_lowest(packed: u64, len: usize) -> Self
+        requires { IsPacked len packed }
+        ensures { result ≡ bytes len packed }
+    {
+        ShortPiece { packed, len }
     }
 
     /// The number of its bytes, the first lowest.

@@ -12,4 +12,6 @@ returns-in_default c =
 pub returns : goal.returns
 returns c =
     let read = c.in-Some.ensures.some in
-    reads_raw 3 3 (Language languages) (Language two_or_three) refl narrow_language_fits narrow_languages InvalidLanguage c.in-Some.text c.args.raw read.0 read.1 c.from_normal.result (rw c.resize.ensures at c.from_normal.ensures)
+    reads_raw 3 3 (Language languages) (Language two_or_three) refl narrow_language_fits narrow_languages
+    InvalidLanguage c.in-Some.text c.args.raw read.0 read.1 c.from_normal.result
+    (rw c.to_piece.ensures.value at c.from_normal.ensures)
