@@ -69,10 +69,20 @@ script_front ps = skip_front (is_word Script) long_script ps
 region_front : (p : List ℕ) (ps : List (List ℕ)) → after_region (p ∷ front ps) ≡ front (after_region (p ∷ ps))
 region_front p ps = ap (skip_first (is_word Region)) (script_front ps) ∙ skip_front (is_word Region) long_region (skip_first (is_word Script) ps)
 
+-- a script and a region after the first piece
+pub script_at_front : (ps : List (List ℕ)) → take_first (is_word Script) (front ps) ≡ take_first (is_word Script) ps
+script_at_front ps = take_front (is_word Script) long_script ps
+
+pub region_at_front : (ps : List (List ℕ))
+    → take_first (is_word Region) (skip_first (is_word Script) (front ps))
+    ≡ take_first (is_word Region) (skip_first (is_word Script) ps)
+region_at_front ps = ap (take_first (is_word Region)) (script_front ps)
+    ∙ take_front (is_word Region) long_region (skip_first (is_word Script) ps)
+
 front_parts-front : (p : List ℕ) (ps : List (List ℕ)) → front_parts (p ∷ front ps) ≡ front_parts (p ∷ ps)
 front_parts-front p ps =
-    let s = take_front (is_word Script) long_script ps in
-    let r = ap (take_first (is_word Region)) (script_front ps) ∙ take_front (is_word Region) long_region (skip_first (is_word Script) ps) in
+    let s = script_at_front ps in
+    let r = region_at_front ps in
     let v = ap (take_first (is_word Variant)) (region_front p ps) ∙ take_front (is_word Variant) long_variant (after_region (p ∷ ps)) in
     λ i. (lower p, option_map title (s i), option_map upper (r i), option_map lower (v i))
 

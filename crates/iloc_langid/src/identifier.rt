@@ -29,12 +29,31 @@ use std::fmt;
 /// identifier.region == Some(Region::try_from_str("us")?); // true
 /// identifier.normalizing_eq("en-LATN-US-posix"); // true
 /// ```
-#[derive(Clone, Drop, PartialEq, Eq, Hash)]
+#[derive(Drop, PartialEq, Eq, Hash)]
 pub struct LanguageIdentifier {
     pub language: Language,
     pub script: Option<Script>,
     pub region: Option<Region>,
     pub variants: Variants,
+}
+
+// Written rather than derived: no variants are not copied.
+impl Clone for LanguageIdentifier {
+    ghost is_clone = { λ i j. j ≡ i };
+
+    #[inline(always)]
+    fn clone(&self) -> Result<Self, AllocError> {
+        let mut copy = LanguageIdentifier {
+            language: self.language,
+            script: self.script,
+            region: self.region,
+            variants: Variants::new(),
+        };
+        if !self.variants.is_empty() {
+            copy.variants = self.variants.clone()?;
+        }
+        Ok(copy)
+    }
 }
 
 impl LanguageIdentifier {
