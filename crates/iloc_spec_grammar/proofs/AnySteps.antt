@@ -1,12 +1,18 @@
 -- The laws of steps between texts, one and any number, by those of the tree.
-use Rattle.std.proofs.Common.{◌≡◌, ◌↔◌, inl, inr, ℕ, zero, suc, ◌≤◌, Bool, false, List, [], ◌∷◌, length, refl, sym, ap, ◌∙◌, subst, ◌==◌, le_of_eq, le_trans}
+use Rattle.std.proofs.Common.{◌≡◌, ◌↔◌, inl, inr, ℕ, zero, suc, ◌≤◌, Bool, false, List, [], ◌∷◌, length, refl}
+use Rattle.std.proofs.Common.{sym, ap, ◌∙◌, subst, ◌==◌, le_of_eq, le_trans}
 use Rattle.std.specs.Char.{to_ascii_lowercase}
 use Rattle.std.specs.List.{AllByRecursion}
 use Rattle.std.proofs.lemmas.Bool.{cases_Bool, cond_both, both_ways}
-use Rattle.iloc_spec_grammar.specs.Syntax.{pieces, join, lower, AreLengths, SpelledIdentifier, Identifier, identifier_pieces, lower_singleton, is_one_byte, front, blocks, head, tail_blocks}
-use Rattle.iloc_spec_grammar.specs.Meaning.{Locale, Means, IdentifierMeans, SpellsIdentifier, normal_identifier}
-use Rattle.iloc_spec_grammar.specs.Tree.{Extension, Written, extension_pieces, spelling, IsWritten, meaning, tree_text}
-use Rattle.iloc_spec_grammar.specs.Values.{text, lower_identifier, identifier_text, TextStep, IdentifierTextStep, Leads, LeadToOne}
+use Rattle.iloc_spec_grammar.specs.Syntax.{pieces, join, lower, AreLengths, SpelledIdentifier, Identifier}
+use Rattle.iloc_spec_grammar.specs.Syntax.{identifier_pieces, lower_singleton, is_one_byte, front, blocks}
+use Rattle.iloc_spec_grammar.specs.Syntax.{head, tail_blocks}
+use Rattle.iloc_spec_grammar.specs.Meaning.{Locale, Means, IdentifierMeans, SpellsIdentifier}
+use Rattle.iloc_spec_grammar.specs.Meaning.{normal_identifier}
+use Rattle.iloc_spec_grammar.specs.Tree.{Extension, Written, extension_pieces, spelling, IsWritten, meaning}
+use Rattle.iloc_spec_grammar.specs.Tree.{tree_text}
+use Rattle.iloc_spec_grammar.specs.Values.{text, lower_identifier, identifier_text, TextStep}
+use Rattle.iloc_spec_grammar.specs.Values.{IdentifierTextStep, Leads, LeadToOne}
 use Rattle.iloc_spec_grammar.specs.TreeSteps.{Step, TreeIdentifierTextStep}
 use Rattle.iloc_spec_grammar.specs.Reading.{written_of, extensions_in}
 use Rattle.iloc_spec_grammar.proofs.PiecesLaws.{join-pieces}
@@ -17,22 +23,28 @@ use Rattle.iloc_spec_grammar.proofs.FaultLaws.{AreGood, good_written, pieces-wri
 use Rattle.iloc_spec_grammar.proofs.StepLaws.{identifier_step, written_step}
 use Rattle.iloc_spec_grammar.proofs.StepSizes.{step_pieces, extension_passes}
 use Rattle.iloc_spec_grammar.proofs.CaseLaws as tree
-use Rattle.iloc_spec_grammar.proofs.IdentifierTexts.{identifier_text_step_means, identifier_text_step_length, lower-identifier_text}
+use Rattle.iloc_spec_grammar.proofs.IdentifierTexts.{identifier_text_step_means, identifier_text_step_length}
+use Rattle.iloc_spec_grammar.proofs.IdentifierTexts.{lower-identifier_text}
 use Rattle.iloc_spec_grammar.proofs.Canonical.{sort_identifier, identifier_order_step, canonical_identifier}
 use Rattle.iloc_spec_grammar.proofs.Chains.{Steps, seven_steps}
 use Rattle.iloc_spec_grammar.proofs.IdentifierLaws as laws
 use Rattle.iloc_spec_grammar.proofs.BlockLaws.{one_by_blocks, read_by_blocks}
-use Rattle.iloc_spec_grammar.proofs.SameMeaning.{good_blocks, means_by_blocks, tree_means, means_by_tree, one_meaning}
+use Rattle.iloc_spec_grammar.proofs.SameMeaning.{good_blocks, means_by_blocks, tree_means, means_by_tree}
+use Rattle.iloc_spec_grammar.proofs.SameMeaning.{one_meaning}
 use Rattle.iloc_spec_grammar.proofs.SameText.{text_is}
-use Rattle.iloc_spec_grammar.proofs.SameSteps.{tree_step, spelled_step, tree_identifier_step, identifier_step_by_tree}
+use Rattle.iloc_spec_grammar.proofs.SameSteps.{tree_step, spelled_step, tree_identifier_step}
+use Rattle.iloc_spec_grammar.proofs.SameSteps.{identifier_step_by_tree}
 
 -- one step
 
-pub text_step_means : (T : ℕ → Bool) → AreLengths T → (t u : List ℕ) (M : Locale) → TextStep T t u → Means T t M → Means T u M
-text_step_means T table t u M s m = means_by_tree table u M (tree.text_step_means T table t u M (tree_step t u s) (tree_means t M m))
+pub text_step_means : (T : ℕ → Bool) → AreLengths T → (t u : List ℕ) (M : Locale) → TextStep T t u →
+    Means T t M → Means T u M
+text_step_means T table t u M s m =
+    means_by_tree table u M (tree.text_step_means T table t u M (tree_step t u s) (tree_means t M m))
 
 -- texts that are equal without case mean the same
-pub case_means : (T : ℕ → Bool) → AreLengths T → (t u : List ℕ) (M : Locale) → lower t ≡ lower u → Means T t M → Means T u M
+pub case_means : (T : ℕ → Bool) → AreLengths T → (t u : List ℕ) (M : Locale) → lower t ≡ lower u →
+    Means T t M → Means T u M
 case_means T table t u M e m = text_step_means T table t u M (TextStep.letter_case e) m
 
 pub text_step_length : (T : ℕ → Bool) (t u : List ℕ) → TextStep T t u → length u ≤ length t
@@ -40,10 +52,12 @@ text_step_length T t u s = tree.text_step_length T t u (tree_step t u s)
 
 -- any number of steps
 
-pub chain_means : (T : ℕ → Bool) → AreLengths T → (n : ℕ) (t u : List ℕ) (M : Locale) → Leads (TextStep T) n t u → Means T t M → Means T u M
+pub chain_means : (T : ℕ → Bool) → AreLengths T → (n : ℕ) (t u : List ℕ) (M : Locale) →
+    Leads (TextStep T) n t u → Means T t M → Means T u M
 chain_means T table zero t u M c m = subst (λ (s : List ℕ). Means T s M) c m
 chain_means T table (suc n) t u M (inl e) m = subst (λ (s : List ℕ). Means T s M) e m
-chain_means T table (suc n) t u M (inr c) m = chain_means T table n c.0 u M c.2 (text_step_means T table t c.0 M c.1 m)
+chain_means T table (suc n) t u M (inr c) m =
+    chain_means T table n c.0 u M c.2 (text_step_means T table t c.0 M c.1 m)
 
 pub chain_length : (T : ℕ → Bool) (n : ℕ) (t u : List ℕ) → Leads (TextStep T) n t u → length u ≤ length t
 chain_length T zero t u e = le_of_eq (ap length (sym e))
@@ -54,7 +68,8 @@ chain_length T (suc n) t u (inr c) = le_trans (chain_length T n c.0 u c.2) (text
 
 front_long : (ps : List (List ℕ)) → AllByRecursion IsLong (front ps)
 front_long [] = tt
-front_long (p ∷ ps) = cond_both (is_one_byte p) _ _ (AllByRecursion IsLong) (λ e. tt) (λ e. (e, front_long ps))
+front_long (p ∷ ps) =
+    cond_both (is_one_byte p) _ _ (AllByRecursion IsLong) (λ e. tt) (λ e. (e, front_long ps))
 
 abbrev IsLongBlock : ℕ × List (List ℕ) → Type 0
 IsLongBlock b = (lower_singleton b == 120) ≡ false → AllByRecursion IsLong b.1
@@ -62,7 +77,8 @@ IsLongBlock b = (lower_singleton b == 120) ≡ false → AllByRecursion IsLong b
 blocks_long : (ps : List (List ℕ)) → AllByRecursion IsLongBlock (blocks ps)
 blocks_long [] = tt
 blocks_long ([] ∷ ps) = blocks_long ps
-blocks_long ((c ∷ []) ∷ ps) = cond_both (to_ascii_lowercase c == 120) _ _ (AllByRecursion IsLongBlock) (λ e. (λ n. absurd (both_ways _ n e), tt)) (λ e. (λ n. front_long ps, blocks_long ps))
+blocks_long ((c ∷ []) ∷ ps) = cond_both (to_ascii_lowercase c == 120) _ _ (AllByRecursion IsLongBlock)
+    (λ e. (λ n. absurd (both_ways _ n e), tt)) (λ e. (λ n. front_long ps, blocks_long ps))
 blocks_long ((c ∷ d ∷ p) ∷ ps) = blocks_long ps
 
 tail_long : (ps : List (List ℕ)) → AllByRecursion IsLongBlock (tail_blocks ps)
@@ -73,7 +89,10 @@ read_long : (bs : List (ℕ × List (List ℕ))) → AllByRecursion IsLongBlock 
 read_long [] h = tt
 read_long (b ∷ bs) h = elim (cases_Bool (lower_singleton b == 120)) [
   | inl t ↦ rw t tt
-  | inr t ↦ rw t (subst (AllByRecursion IsLong) (sym (pieces-extension_of (lower_singleton b) b.1)) (h.0 t), read_long bs h.1)
+  | inr t ↦ rw t (
+    subst (AllByRecursion IsLong) (sym (pieces-extension_of (lower_singleton b) b.1)) (h.0 t),
+    read_long bs h.1,
+  )
 ]
 
 written_long : (ps : List (List ℕ)) → AreLong (written_of ps).extensions
@@ -82,15 +101,25 @@ written_long ps = read_long (tail_blocks ps) (tail_long ps)
 
 step_long : {v w : Written} → Step v w → AreLong v.extensions → AreLong w.extensions
 step_long (Step.block_order r) h = all_reordered _ r h
-step_long (Step.inside r {es = es} {fs = fs} s z) h = all_zip _ (λ (e : ℕ × Extension). AllByRecursion IsLong (extension_pieces e.1)) (λ (e : ℕ × Extension). AllByRecursion IsLong (extension_pieces e.1)) (λ e f k l. extension_passes is_one_byte k.1 l) es fs z h
+step_long (Step.inside r {es = es} {fs = fs} s z) h =
+    all_zip _ (λ (e : ℕ × Extension). AllByRecursion IsLong (extension_pieces e.1))
+    (λ (e : ℕ × Extension). AllByRecursion IsLong (extension_pieces e.1))
+    (λ e f k l. extension_passes is_one_byte k.1 l) es fs z h
 
 -- steps of what a text spells lead from it, and one more to each text that differs in case
-walk : (T : ℕ → Bool) (n : ℕ) (t : List ℕ) (v w : Written) → IsWritten T v → pieces t ≡ spelling v → AreLong v.extensions → Steps n v w → (u : List ℕ) → lower (join (spelling w)) ≡ lower u → Leads (TextStep T) (suc n) t u
-walk T zero t v w h e l s u k = inr (u, TextStep.letter_case (ap lower (sym (join-pieces t) ∙ ap join (e ∙ ap spelling s)) ∙ k), refl)
+walk : (T : ℕ → Bool) (n : ℕ) (t : List ℕ) (v w : Written) → IsWritten T v → pieces t ≡ spelling v →
+    AreLong v.extensions → Steps n v w → (u : List ℕ) → lower (join (spelling w)) ≡ lower u →
+    Leads (TextStep T) (suc n) t u
+walk T zero t v w h e l s u k =
+    inr (u, TextStep.letter_case (ap lower (sym (join-pieces t) ∙ ap join (e ∙ ap spelling s)) ∙ k), refl)
 walk T (suc n) t v w h e l s u k =
     let after = (written_step T s.1 h).0 in
     let long = step_long s.1 l in
-    inr (join (spelling s.0), spelled_step t h e (blocks-spelling-long v h l) (blocks-spelling-long s.0 after long) s.1, walk T n (join (spelling s.0)) s.0 w after (step_pieces t e s.1) long s.2 u k)
+    inr (
+      join (spelling s.0),
+      spelled_step t h e (blocks-spelling-long v h l) (blocks-spelling-long s.0 after long) s.1,
+      walk T n (join (spelling s.0)) s.0 w after (step_pieces t e s.1) long s.2 u k,
+    )
 
 -- at most eight steps lead from each accepted text to the printed text of its meaning
 pub chain_to_text : (T : ℕ → Bool) (t : List ℕ) (M : Locale) → Means T t M → Leads (TextStep T) 8 t (text M)
@@ -100,8 +129,10 @@ chain_to_text T t M m =
     let good : AreGood T [] (tail_blocks (pieces t)) = good_blocks m.extensions.1 in
     let h = good_written T t id good in
     let s = seven_steps T w h in
-    let same : meaning w ≡ M = one_by_blocks T t (meaning w) M (read_by_blocks T t id good) (means_by_blocks t M m) in
-    walk T 7 t w s.end h (pieces-written_of t) (written_long (pieces t)) s.steps (text M) (s.same ∙ ap (λ N. lower (tree_text N)) same ∙ ap lower (sym (text_is M)))
+    let same : meaning w ≡ M =
+    one_by_blocks T t (meaning w) M (read_by_blocks T t id good) (means_by_blocks t M m) in
+    walk T 7 t w s.end h (pieces-written_of t) (written_long (pieces t)) s.steps (text M)
+    (s.same ∙ ap (λ N. lower (tree_text N)) same ∙ ap lower (sym (text_is M)))
 
 -- no text of a meaning is shorter than the printed one
 pub shortest : (T : ℕ → Bool) (t : List ℕ) (M : Locale) → Means T t M → length (text M) ≤ length t
@@ -109,59 +140,95 @@ shortest T t M m = chain_length T 8 t (text M) (chain_to_text T t M m)
 
 -- to one text
 
-pub texts_lead_to_one : (T : ℕ → Bool) → AreLengths T → (t u : List ℕ) (L M : Locale) → Means T t L → Means T u M → (L ≡ M) ↔ LeadToOne (TextStep T) 8 t u
+pub texts_lead_to_one : (T : ℕ → Bool) → AreLengths T → (t u : List ℕ) (L M : Locale) → Means T t L →
+    Means T u M → (L ≡ M) ↔ LeadToOne (TextStep T) 8 t u
 texts_lead_to_one T table t u L M a b = (
-  λ e. record { end = text L; first = chain_to_text T t L a; second = subst (λ (N : Locale). Leads (TextStep T) 8 u (text N)) (sym e) (chain_to_text T u M b) },
-  λ l. one_meaning table l.end L M (chain_means T table 8 t l.end L l.first a) (chain_means T table 8 u l.end M l.second b),
+  λ e. record {
+    end = text L;
+    first = chain_to_text T t L a;
+    second = subst (λ (N : Locale). Leads (TextStep T) 8 u (text N)) (sym e) (chain_to_text T u M b);
+  },
+  λ l. one_meaning table l.end L M (chain_means T table 8 t l.end L l.first a)
+      (chain_means T table 8 u l.end M l.second b),
 )
 
-pub any_steps_join : (T : ℕ → Bool) → AreLengths T → (t u : List ℕ) (L M : Locale) → Means T t L → Means T u M → (L ≡ M) ↔ ((n : ℕ) × LeadToOne (TextStep T) n t u)
+pub any_steps_join : (T : ℕ → Bool) → AreLengths T → (t u : List ℕ) (L M : Locale) → Means T t L →
+    Means T u M → (L ≡ M) ↔ ((n : ℕ) × LeadToOne (TextStep T) n t u)
 any_steps_join T table t u L M a b = (
   λ e. (8, (texts_lead_to_one T table t u L M a b).0 e),
-  λ l. one_meaning table l.1.end L M (chain_means T table l.0 t l.1.end L l.1.first a) (chain_means T table l.0 u l.1.end M l.1.second b),
+  λ l. one_meaning table l.1.end L M (chain_means T table l.0 t l.1.end L l.1.first a)
+      (chain_means T table l.0 u l.1.end M l.1.second b),
 )
 
 -- identifiers
 
-pub identifier_step_means : (T : ℕ → Bool) (t u : List ℕ) (i : Identifier) → IdentifierTextStep T t u → IdentifierMeans T (pieces t) i → IdentifierMeans T (pieces u) i
+pub identifier_step_means : (T : ℕ → Bool) (t u : List ℕ) (i : Identifier) → IdentifierTextStep T t u →
+    IdentifierMeans T (pieces t) i → IdentifierMeans T (pieces u) i
 identifier_step_means T t u i s m = identifier_text_step_means T t u i (tree_identifier_step t u s) m
 
 pub identifier_step_length : (T : ℕ → Bool) (t u : List ℕ) → IdentifierTextStep T t u → length u ≡ length t
 identifier_step_length T t u s = identifier_text_step_length T t u (tree_identifier_step t u s)
 
-pub identifier_chain_means : (T : ℕ → Bool) (n : ℕ) (t u : List ℕ) (i : Identifier) → Leads (IdentifierTextStep T) n t u → IdentifierMeans T (pieces t) i → IdentifierMeans T (pieces u) i
+pub identifier_chain_means : (T : ℕ → Bool) (n : ℕ) (t u : List ℕ) (i : Identifier) →
+    Leads (IdentifierTextStep T) n t u → IdentifierMeans T (pieces t) i → IdentifierMeans T (pieces u) i
 identifier_chain_means T zero t u i c m = subst (λ (s : List ℕ). IdentifierMeans T (pieces s) i) c m
 identifier_chain_means T (suc n) t u i (inl e) m = subst (λ (s : List ℕ). IdentifierMeans T (pieces s) i) e m
-identifier_chain_means T (suc n) t u i (inr c) m = identifier_chain_means T n c.0 u i c.2 (identifier_step_means T t c.0 i c.1 m)
+identifier_chain_means T (suc n) t u i (inr c) m =
+    identifier_chain_means T n c.0 u i c.2 (identifier_step_means T t c.0 i c.1 m)
 
-pub identifier_chain_length : (T : ℕ → Bool) (n : ℕ) (t u : List ℕ) → Leads (IdentifierTextStep T) n t u → length u ≡ length t
+pub identifier_chain_length : (T : ℕ → Bool) (n : ℕ) (t u : List ℕ) → Leads (IdentifierTextStep T) n t u →
+    length u ≡ length t
 identifier_chain_length T zero t u e = ap length (sym e)
 identifier_chain_length T (suc n) t u (inl e) = ap length (sym e)
-identifier_chain_length T (suc n) t u (inr c) = identifier_chain_length T n c.0 u c.2 ∙ identifier_step_length T t c.0 c.1
+identifier_chain_length T (suc n) t u (inr c) =
+    identifier_chain_length T n c.0 u c.2 ∙ identifier_step_length T t c.0 c.1
 
 -- at most two steps lead to the normal text: the order of the variants, and the case of the letters
-pub identifier_chain_to_text : (T : ℕ → Bool) (t : List ℕ) (i : Identifier) → IdentifierMeans T (pieces t) i → Leads (IdentifierTextStep T) 2 t (identifier_text i)
+pub identifier_chain_to_text : (T : ℕ → Bool) (t : List ℕ) (i : Identifier) → IdentifierMeans T (pieces t) i →
+    Leads (IdentifierTextStep T) 2 t (identifier_text i)
 unfolding identifier_text
 identifier_chain_to_text T t i m =
     let v = m.written in
     let w = sort_identifier v in
-    let sorted : normal_identifier w ≡ i = (identifier_step (identifier_order_step v) m.grammatical).1 ∙ sym m.means in
+    let sorted : normal_identifier w ≡ i =
+    (identifier_step (identifier_order_step v) m.grammatical).1 ∙ sym m.means in
     let case : lower (join (identifier_pieces w)) ≡ lower (identifier_text i) =
-    lower-identifier_text w ∙ ap (λ (j : SpelledIdentifier). join (identifier_pieces j)) (sym (canonical_identifier v m.grammatical.different) ∙ ap lower_identifier sorted) ∙ sym (lower-identifier_text i) in
-    inr (join (identifier_pieces w), identifier_step_by_tree t (join (identifier_pieces w)) (TreeIdentifierTextStep.variant_order m.grammatical m.spelled (identifier_order_step v)), inr (identifier_text i, IdentifierTextStep.letter_case case, refl))
+    lower-identifier_text w
+    ∙ ap (λ (j : SpelledIdentifier). join (identifier_pieces j))
+    (sym (canonical_identifier v m.grammatical.different) ∙ ap lower_identifier sorted)
+    ∙ sym (lower-identifier_text i) in
+    inr (
+      join (identifier_pieces w),
+      identifier_step_by_tree t (join (identifier_pieces w))
+          (TreeIdentifierTextStep.variant_order m.grammatical m.spelled (identifier_order_step v)),
+      inr (identifier_text i, IdentifierTextStep.letter_case case, refl),
+    )
 
 -- all texts of a meaning are as long as the normal one
-pub length-identifier_means : (T : ℕ → Bool) (t : List ℕ) (i : Identifier) → IdentifierMeans T (pieces t) i → length (identifier_text i) ≡ length t
-length-identifier_means T t i m = identifier_chain_length T 2 t (identifier_text i) (identifier_chain_to_text T t i m)
+pub length-identifier_means : (T : ℕ → Bool) (t : List ℕ) (i : Identifier) → IdentifierMeans T (pieces t) i →
+    length (identifier_text i) ≡ length t
+length-identifier_means T t i m =
+    identifier_chain_length T 2 t (identifier_text i) (identifier_chain_to_text T t i m)
 
-pub identifiers_lead_to_one : (T : ℕ → Bool) (t u : List ℕ) (i j : Identifier) → IdentifierMeans T (pieces t) i → IdentifierMeans T (pieces u) j → (i ≡ j) ↔ LeadToOne (IdentifierTextStep T) 2 t u
+pub identifiers_lead_to_one : (T : ℕ → Bool) (t u : List ℕ) (i j : Identifier) →
+    IdentifierMeans T (pieces t) i → IdentifierMeans T (pieces u) j →
+    (i ≡ j) ↔ LeadToOne (IdentifierTextStep T) 2 t u
 identifiers_lead_to_one T t u i j m n = (
-  λ e. record { end = identifier_text i; first = identifier_chain_to_text T t i m; second = subst (λ (k : Identifier). Leads (IdentifierTextStep T) 2 u (identifier_text k)) (sym e) (identifier_chain_to_text T u j n) },
-  λ l. laws.one_meaning (pieces l.end) i j (identifier_chain_means T 2 t l.end i l.first m) (identifier_chain_means T 2 u l.end j l.second n),
+  λ e. record {
+    end = identifier_text i;
+    first = identifier_chain_to_text T t i m;
+    second = subst (λ (k : Identifier). Leads (IdentifierTextStep T) 2 u (identifier_text k)) (sym e)
+        (identifier_chain_to_text T u j n);
+  },
+  λ l. laws.one_meaning (pieces l.end) i j (identifier_chain_means T 2 t l.end i l.first m)
+      (identifier_chain_means T 2 u l.end j l.second n),
 )
 
-pub any_identifier_steps_join : (T : ℕ → Bool) (t u : List ℕ) (i j : Identifier) → IdentifierMeans T (pieces t) i → IdentifierMeans T (pieces u) j → (i ≡ j) ↔ ((n : ℕ) × LeadToOne (IdentifierTextStep T) n t u)
+pub any_identifier_steps_join : (T : ℕ → Bool) (t u : List ℕ) (i j : Identifier) →
+    IdentifierMeans T (pieces t) i → IdentifierMeans T (pieces u) j →
+    (i ≡ j) ↔ ((n : ℕ) × LeadToOne (IdentifierTextStep T) n t u)
 any_identifier_steps_join T t u i j a b = (
   λ e. (2, (identifiers_lead_to_one T t u i j a b).0 e),
-  λ l. laws.one_meaning (pieces l.1.end) i j (identifier_chain_means T l.0 t l.1.end i l.1.first a) (identifier_chain_means T l.0 u l.1.end j l.1.second b),
+  λ l. laws.one_meaning (pieces l.1.end) i j (identifier_chain_means T l.0 t l.1.end i l.1.first a)
+      (identifier_chain_means T l.0 u l.1.end j l.1.second b),
 )

@@ -1,18 +1,30 @@
 -- A text means a value block by block as its tree does.
-use Rattle.std.proofs.Common.{◌≡◌, ◌≢◌, ◌⊎◌, inl, inr, ℕ, Bool, true, false, cond, List, [], ◌∷◌, ◌++◌, map, filter_map, refl, sym, ap, ◌∙◌, subst, arith, Option, Some, None, IfSome, option_map, option_to_list, true≢false}
+use Rattle.std.proofs.Common.{◌≡◌, ◌≢◌, ◌⊎◌, inl, inr, ℕ, Bool, true, false, cond, List, [], ◌∷◌, ◌++◌, map}
+use Rattle.std.proofs.Common.{filter_map, refl, sym, ap, ◌∙◌, subst, arith, Option, Some, None, IfSome}
+use Rattle.std.proofs.Common.{option_map, option_to_list, true≢false}
 use Rattle.std.specs.List.{AllByRecursion, list_any}
 use Rattle.std.specs.Ordering.{nat_cmp, eq_by_cmp}
 use Rattle.std.specs.FinMap.{find}
 use Rattle.std.proofs.lemmas.Bool.{or_parts, false_from_ne_true}
-use Rattle.iloc_spec_grammar.specs.Syntax.{pieces, AreLengths, lower, Unicode, Transform, IsOther, kept, is_other_singleton, lower_singleton, AllDifferent, head, tail_blocks, IsPrivate}
-use Rattle.iloc_spec_grammar.specs.Tree.{Extension, unicode, transform, other, Written, extension_pieces, extension_block, blocks_of, IsExtension, IsWritten, TreeMeans, meaning, extensions_meaning, unicode_part, transform_part, private_part, other_part, by_singleton, IsBlock, HasSingleton}
-use Rattle.iloc_spec_grammar.specs.Meaning.{Locale, Extensions, SpellsIdentifier, map_of, no_unicode, no_transform, normal_unicode, normal_transform}
-use Rattle.iloc_spec_grammar.specs.ByBlocks.{UnicodeMeans, TransformMeans, PrivateMeans, OtherMeans, other_blocks, grammar_rules, PartIs, BlocksGive, MeansByBlocks}
-use Rattle.iloc_spec_grammar.proofs.Readings.{head-spelling, blocks-spelling, unicode_of-pieces, transform_of-pieces}
+use Rattle.iloc_spec_grammar.specs.Syntax.{pieces, AreLengths, lower, Unicode, Transform, IsOther, kept}
+use Rattle.iloc_spec_grammar.specs.Syntax.{is_other_singleton, lower_singleton, AllDifferent, head}
+use Rattle.iloc_spec_grammar.specs.Syntax.{tail_blocks, IsPrivate}
+use Rattle.iloc_spec_grammar.specs.Tree.{Extension, unicode, transform, other, Written, extension_pieces}
+use Rattle.iloc_spec_grammar.specs.Tree.{extension_block, blocks_of, IsExtension, IsWritten, TreeMeans}
+use Rattle.iloc_spec_grammar.specs.Tree.{meaning, extensions_meaning, unicode_part, transform_part}
+use Rattle.iloc_spec_grammar.specs.Tree.{private_part, other_part, by_singleton, IsBlock, HasSingleton}
+use Rattle.iloc_spec_grammar.specs.Meaning.{Locale, Extensions, SpellsIdentifier, map_of, no_unicode}
+use Rattle.iloc_spec_grammar.specs.Meaning.{no_transform, normal_unicode, normal_transform}
+use Rattle.iloc_spec_grammar.specs.ByBlocks.{UnicodeMeans, TransformMeans, PrivateMeans, OtherMeans}
+use Rattle.iloc_spec_grammar.specs.ByBlocks.{other_blocks, grammar_rules, PartIs, BlocksGive, MeansByBlocks}
+use Rattle.iloc_spec_grammar.proofs.Readings.{head-spelling, blocks-spelling, unicode_of-pieces}
+use Rattle.iloc_spec_grammar.proofs.Readings.{transform_of-pieces}
 use Rattle.iloc_spec_grammar.specs.Reading.{unicode_of, transform_of, written_of}
 use Rattle.iloc_spec_grammar.proofs.IdentifierLaws.{one_meaning}
-use Rattle.iloc_spec_grammar.proofs.FaultLaws.{AreGood, good_means, good_from, block_rules, different_by, good_written, pieces-written_of, blocks_read}
-use Rattle.iloc_spec_grammar.proofs.Singletons.{tied, untied, self_tied, IsKind, of_u, of_t, of_x, another, kind_of, lower_letter, find_holds}
+use Rattle.iloc_spec_grammar.proofs.FaultLaws.{AreGood, good_means, good_from, block_rules, different_by}
+use Rattle.iloc_spec_grammar.proofs.FaultLaws.{good_written, pieces-written_of, blocks_read}
+use Rattle.iloc_spec_grammar.proofs.Singletons.{tied, untied, self_tied, IsKind, of_u, of_t, of_x, another}
+use Rattle.iloc_spec_grammar.proofs.Singletons.{kind_of, lower_letter, find_holds}
 use Rattle.iloc_spec_grammar.proofs.General.{all_of}
 use Rattle.iloc_spec_grammar.proofs.ValuesLaws.{all_weaker, all_both}
 
@@ -22,36 +34,60 @@ or_else : {X : Type 0} → Option X → Option X → Option X
 or_else None p = p
 or_else (Some x) p = Some x
 
-find_block : (q : ℕ) (es : List (ℕ × Extension)) (x : Option (ℕ × List (List ℕ))) → find nat_cmp q (by_singleton (map extension_block es ++ option_to_list x)) ≡ or_else (option_map extension_pieces (find nat_cmp q (by_singleton es))) (find nat_cmp q (by_singleton (option_to_list x)))
+find_block : (q : ℕ) (es : List (ℕ × Extension)) (x : Option (ℕ × List (List ℕ))) →
+    find nat_cmp q (by_singleton (map extension_block es ++ option_to_list x))
+    ≡ or_else (option_map extension_pieces (find nat_cmp q (by_singleton es)))
+    (find nat_cmp q (by_singleton (option_to_list x)))
 unfolding or_else
 find_block q [] x = refl
-find_block q (e ∷ es) x = ap (cond (eq_by_cmp nat_cmp q (lower_singleton e)) (Some (extension_pieces e.1))) (find_block q es x)
-    ∙ elim (eq_by_cmp nat_cmp q (lower_singleton e)) as (λ b. cond b (Some (extension_pieces e.1)) (or_else (option_map extension_pieces (find nat_cmp q (by_singleton es))) (find nat_cmp q (by_singleton (option_to_list x)))) ≡ or_else (option_map extension_pieces (cond b (Some e.1) (find nat_cmp q (by_singleton es)))) (find nat_cmp q (by_singleton (option_to_list x)))) [ true ↦ refl | false ↦ refl ]
+find_block q (e ∷ es) x =
+    ap (cond (eq_by_cmp nat_cmp q (lower_singleton e)) (Some (extension_pieces e.1))) (find_block q es x)
+    ∙ elim (eq_by_cmp nat_cmp q (lower_singleton e))
+    as (λ b. cond b (Some (extension_pieces e.1))
+    (or_else (option_map extension_pieces (find nat_cmp q (by_singleton es)))
+    (find nat_cmp q (by_singleton (option_to_list x))))
+    ≡ or_else (option_map extension_pieces (cond b (Some e.1) (find nat_cmp q (by_singleton es))))
+    (find nat_cmp q (by_singleton (option_to_list x)))) [ true ↦ refl | false ↦ refl ]
 
-no_private : (q : ℕ) → q ≢ 120 → (x : Option (ℕ × List (List ℕ))) → IfSome x (λ e. (lower_singleton e ≡ 120) × IsPrivate e.1) → find nat_cmp q (by_singleton (option_to_list x)) ≡ None
+no_private : (q : ℕ) → q ≢ 120 → (x : Option (ℕ × List (List ℕ))) →
+    IfSome x (λ e. (lower_singleton e ≡ 120) × IsPrivate e.1) →
+    find nat_cmp q (by_singleton (option_to_list x)) ≡ None
 no_private q n None h = refl
-no_private q n (Some b) h = ap (λ t. cond t (Some b.1) None) (untied q (lower_singleton b) (λ e. n (sym e ∙ h.0)))
+no_private q n (Some b) h =
+    ap (λ t. cond t (Some b.1) None) (untied q (lower_singleton b) (λ e. n (sym e ∙ h.0)))
 
 -- what is found gives its part
 
-unicode_by : (T : ℕ → Bool) (o : Option Extension) → IfSome o (IsExtension T 117) → (p : Option (List (List ℕ))) → p ≡ None → PartIs UnicodeMeans no_unicode (or_else (option_map extension_pieces o) p) (unicode_part o)
+unicode_by : (T : ℕ → Bool) (o : Option Extension) → IfSome o (IsExtension T 117) →
+    (p : Option (List (List ℕ))) → p ≡ None →
+    PartIs UnicodeMeans no_unicode (or_else (option_map extension_pieces o) p) (unicode_part o)
 unfolding or_else
 unicode_by T None h p e = subst (λ p. PartIs UnicodeMeans no_unicode p no_unicode) (sym e) refl
-unicode_by T (Some (unicode u)) h p e = record { written = u; grammatical = h.1; spelled = refl; means = refl }
+unicode_by T (Some (unicode u)) h p e =
+    record { written = u; grammatical = h.1; spelled = refl; means = refl }
 unicode_by T (Some (transform m)) h p e = absurd (let k = h.0 in omega arith)
 unicode_by T (Some (other ps)) h p e = absurd (true≢false (sym h.0))
 
-transform_by : (T : ℕ → Bool) (o : Option Extension) → IfSome o (IsExtension T 116) → (p : Option (List (List ℕ))) → p ≡ None → PartIs (TransformMeans T) no_transform (or_else (option_map extension_pieces o) p) (transform_part o)
+transform_by : (T : ℕ → Bool) (o : Option Extension) → IfSome o (IsExtension T 116) →
+    (p : Option (List (List ℕ))) → p ≡ None →
+    PartIs (TransformMeans T) no_transform (or_else (option_map extension_pieces o) p) (transform_part o)
 unfolding or_else
 transform_by T None h p e = subst (λ p. PartIs (TransformMeans T) no_transform p no_transform) (sym e) refl
-transform_by T (Some (transform m)) h p e = record { written = m; grammatical = h.1; spelled = refl; means = refl }
+transform_by T (Some (transform m)) h p e =
+    record { written = m; grammatical = h.1; spelled = refl; means = refl }
 transform_by T (Some (unicode u)) h p e = absurd (let k = h.0 in omega arith)
 transform_by T (Some (other ps)) h p e = absurd (true≢false (sym h.0))
 
-private_by : (T : ℕ → Bool) (o : Option Extension) → IfSome o (IsExtension T 120) → (x : Option (ℕ × List (List ℕ))) → IfSome x (λ e. (lower_singleton e ≡ 120) × IsPrivate e.1) → PartIs PrivateMeans [] (or_else (option_map extension_pieces o) (find nat_cmp 120 (by_singleton (option_to_list x)))) (private_part x)
+private_by : (T : ℕ → Bool) (o : Option Extension) → IfSome o (IsExtension T 120) →
+    (x : Option (ℕ × List (List ℕ))) → IfSome x (λ e. (lower_singleton e ≡ 120) × IsPrivate e.1) →
+    PartIs PrivateMeans []
+    (or_else (option_map extension_pieces o) (find nat_cmp 120 (by_singleton (option_to_list x))))
+    (private_part x)
 unfolding or_else
 private_by T None h None k = refl
-private_by T None h (Some b) k = subst (λ (c : ℕ). PartIs PrivateMeans [] (cond (eq_by_cmp nat_cmp 120 c) (Some b.1) None) (map lower b.1)) (sym k.0) (k.1, refl)
+private_by T None h (Some b) k =
+    subst (λ (c : ℕ). PartIs PrivateMeans [] (cond (eq_by_cmp nat_cmp 120 c) (Some b.1) None) (map lower b.1))
+    (sym k.0) (k.1, refl)
 private_by T (Some (other ps)) h x k = absurd (true≢false (sym h.0))
 private_by T _ h x k = absurd (let k = h.0 in omega arith)
 
@@ -63,39 +99,79 @@ kept_of b = (b.0, kept b.1)
 abbrev pub KeepsWords : ℕ × List (List ℕ) → Type 0
 KeepsWords b = OtherMeans b.1 (kept b.1)
 
-no_others_private : (x : Option (ℕ × List (List ℕ))) → IfSome x (λ e. (lower_singleton e ≡ 120) × IsPrivate e.1) → other_blocks (by_singleton (option_to_list x)) ≡ []
+no_others_private : (x : Option (ℕ × List (List ℕ))) →
+    IfSome x (λ e. (lower_singleton e ≡ 120) × IsPrivate e.1) →
+    other_blocks (by_singleton (option_to_list x)) ≡ []
 no_others_private None h = refl
 no_others_private (Some b) h = ap (λ c. cond (is_other_singleton c) ((lower_singleton b, b.1) ∷ []) []) h.0
 
-others_by : (T : ℕ → Bool) (es : List (ℕ × Extension)) (x : Option (ℕ × List (List ℕ))) → AllByRecursion (λ e. IsExtension T (lower_singleton e) e.1) es → IfSome x (λ e. (lower_singleton e ≡ 120) × IsPrivate e.1) →
-    (filter_map other_part (by_singleton es) ≡ map kept_of (other_blocks (by_singleton (map extension_block es ++ option_to_list x)))) × AllByRecursion KeepsWords (other_blocks (by_singleton (map extension_block es ++ option_to_list x)))
-others_by T [] x h k = (ap (map kept_of) (sym (no_others_private x k)), subst (AllByRecursion KeepsWords) (sym (no_others_private x k)) tt)
+others_by : (T : ℕ → Bool) (es : List (ℕ × Extension)) (x : Option (ℕ × List (List ℕ))) →
+    AllByRecursion (λ e. IsExtension T (lower_singleton e) e.1) es →
+    IfSome x (λ e. (lower_singleton e ≡ 120) × IsPrivate e.1) →
+    (filter_map other_part (by_singleton es)
+    ≡ map kept_of (other_blocks (by_singleton (map extension_block es ++ option_to_list x))))
+    × AllByRecursion KeepsWords (other_blocks (by_singleton (map extension_block es ++ option_to_list x)))
+others_by T [] x h k = (
+  ap (map kept_of) (sym (no_others_private x k)),
+  subst (AllByRecursion KeepsWords) (sym (no_others_private x k)) tt,
+)
 others_by T (e ∷ es) x h k = at_kind e.1 h.0 (others_by T es x h.1 k)
   where
     Goal : Extension → Type 0
-    Goal f = (filter_map other_part ((lower_singleton e, f) ∷ by_singleton es) ≡ map kept_of (other_blocks ((lower_singleton e, extension_pieces f) ∷ by_singleton (map extension_block es ++ option_to_list x)))) × AllByRecursion KeepsWords (other_blocks ((lower_singleton e, extension_pieces f) ∷ by_singleton (map extension_block es ++ option_to_list x)))
+    Goal f = (filter_map other_part ((lower_singleton e, f) ∷ by_singleton es)
+        ≡ map kept_of (other_blocks ((lower_singleton e, extension_pieces f)
+        ∷ by_singleton (map extension_block es ++ option_to_list x))))
+        × AllByRecursion KeepsWords (other_blocks
+        ((lower_singleton e, extension_pieces f) ∷ by_singleton (map extension_block es ++ option_to_list x)))
 
-    at_kind : (f : Extension) → IsExtension T (lower_singleton e) f → (filter_map other_part (by_singleton es) ≡ map kept_of (other_blocks (by_singleton (map extension_block es ++ option_to_list x)))) × AllByRecursion KeepsWords (other_blocks (by_singleton (map extension_block es ++ option_to_list x))) → Goal f
+    at_kind : (f : Extension) → IsExtension T (lower_singleton e) f →
+        (filter_map other_part (by_singleton es)
+        ≡ map kept_of (other_blocks (by_singleton (map extension_block es ++ option_to_list x))))
+        × AllByRecursion KeepsWords
+        (other_blocks (by_singleton (map extension_block es ++ option_to_list x))) →
+        Goal f
     at_kind (unicode u) r rest = rw r.0 rest
     at_kind (transform m) r rest = rw r.0 rest
-    at_kind (other ps) r rest = rw r.0 (ap (λ l. (lower_singleton e, kept ps) ∷ l) rest.0, ((r.1, refl), rest.1))
+    at_kind (other ps) r rest =
+        rw r.0 (ap (λ l. (lower_singleton e, kept ps) ∷ l) rest.0, ((r.1, refl), rest.1))
 
-pub blocks_give : (T : ℕ → Bool) (w : Written) → IsWritten T w → BlocksGive (grammar_rules T) (blocks_of w) (extensions_meaning w)
+pub blocks_give : (T : ℕ → Bool) (w : Written) → IsWritten T w →
+    BlocksGive (grammar_rules T) (blocks_of w) (extensions_meaning w)
 blocks_give T w h =
     let o = others_by T w.extensions w.private h.extensions h.private in record {
-      letters = all_weaker (λ b. HasSingleton b × IsBlock T b) (λ b. HasSingleton b) (λ b k. k.0) _ (block_rules T w.extensions w.private h.extensions h.private);
+      letters = all_weaker (λ b. HasSingleton b × IsBlock T b) (λ b. HasSingleton b) (λ b k. k.0) _
+          (block_rules T w.extensions w.private h.extensions h.private);
       different = different_by T w.extensions w.private h.extensions h.different h.private;
-      unicode = subst (λ o. PartIs UnicodeMeans no_unicode o (extensions_meaning w).unicode) (sym (find_block 117 w.extensions w.private)) (unicode_by T (find nat_cmp 117 (by_singleton w.extensions)) (find_holds (IsExtension T) 117 w.extensions h.extensions) _ (no_private 117 (λ e. absurd (omega arith)) w.private h.private));
-      transform = subst (λ o. PartIs (TransformMeans T) no_transform o (extensions_meaning w).transform) (sym (find_block 116 w.extensions w.private)) (transform_by T (find nat_cmp 116 (by_singleton w.extensions)) (find_holds (IsExtension T) 116 w.extensions h.extensions) _ (no_private 116 (λ e. absurd (omega arith)) w.private h.private));
-      private = subst (λ o. PartIs PrivateMeans [] o (extensions_meaning w).private) (sym (find_block 120 w.extensions w.private)) (private_by T (find nat_cmp 120 (by_singleton w.extensions)) (find_holds (IsExtension T) 120 w.extensions h.extensions) w.private h.private);
+      unicode = subst (λ o. PartIs UnicodeMeans no_unicode o (extensions_meaning w).unicode)
+          (sym (find_block 117 w.extensions w.private))
+          (unicode_by T (find nat_cmp 117 (by_singleton w.extensions))
+          (find_holds (IsExtension T) 117 w.extensions h.extensions) _
+          (no_private 117 (λ e. absurd (omega arith)) w.private h.private));
+      transform = subst (λ o. PartIs (TransformMeans T) no_transform o (extensions_meaning w).transform)
+          (sym (find_block 116 w.extensions w.private))
+          (transform_by T (find nat_cmp 116 (by_singleton w.extensions))
+          (find_holds (IsExtension T) 116 w.extensions h.extensions) _
+          (no_private 116 (λ e. absurd (omega arith)) w.private h.private));
+      private = subst (λ o. PartIs PrivateMeans [] o (extensions_meaning w).private)
+          (sym (find_block 120 w.extensions w.private))
+          (private_by T (find nat_cmp 120 (by_singleton w.extensions))
+          (find_holds (IsExtension T) 120 w.extensions h.extensions) w.private h.private);
       each_other = o.1;
       others = ap (map_of nat_cmp) o.0;
     }
 
-pub tree_by_blocks : (T : ℕ → Bool) → AreLengths T → (t : List ℕ) (M : Locale) → TreeMeans T t M → MeansByBlocks T t M
+pub tree_by_blocks : (T : ℕ → Bool) → AreLengths T → (t : List ℕ) (M : Locale) → TreeMeans T t M →
+    MeansByBlocks T t M
 tree_by_blocks T table t M m = subst (MeansByBlocks T t) (sym m.means) (record {
-  id = record { written = m.written.id; grammatical = m.grammatical.id; spelled = ap head m.spelled ∙ head-spelling m.written m.grammatical; means = refl };
-  extensions = subst (λ bs. BlocksGive (grammar_rules T) bs (extensions_meaning m.written)) (sym (ap tail_blocks m.spelled ∙ blocks-spelling table m.written m.grammatical)) (blocks_give T m.written m.grammatical);
+  id = record {
+    written = m.written.id;
+    grammatical = m.grammatical.id;
+    spelled = ap head m.spelled ∙ head-spelling m.written m.grammatical;
+    means = refl;
+  };
+  extensions = subst (λ bs. BlocksGive (grammar_rules T) bs (extensions_meaning m.written))
+      (sym (ap tail_blocks m.spelled ∙ blocks-spelling table m.written m.grammatical))
+      (blocks_give T m.written m.grammatical);
 })
 
 -- and back: each block follows its rule
@@ -103,92 +179,150 @@ tree_by_blocks T table t M m = subst (MeansByBlocks T t) (sym m.means) (record {
 abbrev pub RuleAt : (ℕ → Bool) → ℕ → List (List ℕ) → Type 0
 RuleAt T q ps = ((q ≡ 120) × IsPrivate ps) ⊎ ((e : Extension) × IsExtension T q e × (ps ≡ extension_pieces e))
 
-find_later : (P : List (List ℕ) → Type 0) (q : ℕ) (b : ℕ × List (List ℕ)) (bs : List (ℕ × List (List ℕ))) → list_any (eq_by_cmp nat_cmp (lower_singleton b)) (map (λ b. lower_singleton b) bs) ≡ false → IfSome (find nat_cmp q (by_singleton (b ∷ bs))) P → IfSome (find nat_cmp q (by_singleton bs)) P
-find_later P q b bs d h = (elim (eq_by_cmp nat_cmp q (lower_singleton b)) as (λ t. eq_by_cmp nat_cmp q (lower_singleton b) ≡ t → IfSome (cond t (Some b.1) (find nat_cmp q (by_singleton bs))) P → IfSome (find nat_cmp q (by_singleton bs)) P) [
-  | true ↦ λ t h. subst (λ (o : Option (List (List ℕ))). IfSome o P) (sym (none_found bs (subst (λ (c : ℕ). list_any (eq_by_cmp nat_cmp c) (map (λ b. lower_singleton b) bs) ≡ false) (tied q (lower_singleton b) t) d))) tt
-  | false ↦ λ t h. h
-]) refl h
+find_later : (P : List (List ℕ) → Type 0) (q : ℕ) (b : ℕ × List (List ℕ)) (bs : List (ℕ × List (List ℕ))) →
+    list_any (eq_by_cmp nat_cmp (lower_singleton b)) (map (λ b. lower_singleton b) bs) ≡ false →
+    IfSome (find nat_cmp q (by_singleton (b ∷ bs))) P → IfSome (find nat_cmp q (by_singleton bs)) P
+find_later P q b bs d h =
+    (elim (eq_by_cmp nat_cmp q (lower_singleton b)) as (λ t. eq_by_cmp nat_cmp q (lower_singleton b) ≡ t →
+    IfSome (cond t (Some b.1) (find nat_cmp q (by_singleton bs))) P →
+    IfSome (find nat_cmp q (by_singleton bs)) P) [
+      | true ↦ λ t h. subst (λ (o : Option (List (List ℕ))). IfSome o P)
+          (sym (none_found bs
+          (subst (λ (c : ℕ). list_any (eq_by_cmp nat_cmp c) (map (λ b. lower_singleton b) bs) ≡ false)
+          (tied q (lower_singleton b) t) d))) tt
+      | false ↦ λ t h. h
+    ]) refl h
   where
-    none_found : (bs : List (ℕ × List (List ℕ))) → list_any (eq_by_cmp nat_cmp q) (map (λ b. lower_singleton b) bs) ≡ false → find nat_cmp q (by_singleton bs) ≡ None
+    none_found : (bs : List (ℕ × List (List ℕ))) →
+        list_any (eq_by_cmp nat_cmp q) (map (λ b. lower_singleton b) bs) ≡ false →
+        find nat_cmp q (by_singleton bs) ≡ None
     none_found [] d = refl
-    none_found (b ∷ bs) d = let parts = or_parts _ _ d in ap (λ t. cond t (Some b.1) (find nat_cmp q (by_singleton bs))) parts.0 ∙ none_found bs parts.1
+    none_found (b ∷ bs) d = let parts = or_parts _ _ d in
+        ap (λ t. cond t (Some b.1) (find nat_cmp q (by_singleton bs))) parts.0 ∙ none_found bs parts.1
 
-each_block : (P : ℕ → List (List ℕ) → Type 0) (bs : List (ℕ × List (List ℕ))) → AllDifferent nat_cmp (map (λ b. lower_singleton b) bs) → ((q : ℕ) → IfSome (find nat_cmp q (by_singleton bs)) (P q)) → AllByRecursion (λ b. P (lower_singleton b) b.1) bs
+each_block : (P : ℕ → List (List ℕ) → Type 0) (bs : List (ℕ × List (List ℕ))) →
+    AllDifferent nat_cmp (map (λ b. lower_singleton b) bs) →
+    ((q : ℕ) → IfSome (find nat_cmp q (by_singleton bs)) (P q)) →
+    AllByRecursion (λ b. P (lower_singleton b) b.1) bs
 each_block P [] d f = tt
-each_block P (b ∷ bs) d f = (subst (λ (t : Bool). IfSome (cond t (Some b.1) (find nat_cmp (lower_singleton b) (by_singleton bs))) (P (lower_singleton b))) (self_tied (lower_singleton b)) (f (lower_singleton b)), each_block P bs d.1 (λ q. find_later (P q) q b bs (false_from_ne_true _ d.0) (f q)))
+each_block P (b ∷ bs) d f = (
+  subst (λ (t : Bool).
+      IfSome (cond t (Some b.1) (find nat_cmp (lower_singleton b) (by_singleton bs))) (P (lower_singleton b)))
+      (self_tied (lower_singleton b)) (f (lower_singleton b)),
+  each_block P bs d.1 (λ q. find_later (P q) q b bs (false_from_ne_true _ d.0) (f q)),
+)
 
 -- only the rule of its singleton
 abbrev KnownAt : (ℕ → Bool) → ℕ → List (List ℕ) → Type 0
 KnownAt T q ps = (q ≡ 117 → RuleAt T q ps) × (q ≡ 116 → RuleAt T q ps) × (q ≡ 120 → RuleAt T q ps)
 
-part_rule : {X : Type 0} (T : ℕ → Bool) (q : ℕ) (R : List (List ℕ) → X → Type 0) → ((ps : List (List ℕ)) (v : X) → R ps v → RuleAt T q ps) → (empty : X) (o : Option (List (List ℕ))) (v : X) → PartIs R empty o v → IfSome o (RuleAt T q)
+part_rule : {X : Type 0} (T : ℕ → Bool) (q : ℕ) (R : List (List ℕ) → X → Type 0) →
+    ((ps : List (List ℕ)) (v : X) → R ps v → RuleAt T q ps) →
+    (empty : X) (o : Option (List (List ℕ))) (v : X) → PartIs R empty o v → IfSome o (RuleAt T q)
 part_rule T q R f empty None v h = tt
 part_rule T q R f empty (Some ps) v h = f ps v h
 
-known : (T : ℕ → Bool) (q : ℕ) (f : ℕ → Option (List (List ℕ))) → IfSome (f 117) (RuleAt T 117) → IfSome (f 116) (RuleAt T 116) → IfSome (f 120) (RuleAt T 120) → IfSome (f q) (KnownAt T q)
+known : (T : ℕ → Bool) (q : ℕ) (f : ℕ → Option (List (List ℕ))) → IfSome (f 117) (RuleAt T 117) →
+    IfSome (f 116) (RuleAt T 116) → IfSome (f 120) (RuleAt T 120) → IfSome (f q) (KnownAt T q)
 known T q f u t x = both (f q) (at q 117 u) (at q 116 t) (at q 120 x)
   where
     at : (q k : ℕ) → IfSome (f k) (RuleAt T k) → q ≡ k → IfSome (f q) (RuleAt T q)
     at q k h e = subst (λ (c : ℕ). IfSome (f c) (RuleAt T c)) (sym e) h
 
-    both : (o : Option (List (List ℕ))) → (q ≡ 117 → IfSome o (RuleAt T q)) → (q ≡ 116 → IfSome o (RuleAt T q)) → (q ≡ 120 → IfSome o (RuleAt T q)) → IfSome o (KnownAt T q)
+    both : (o : Option (List (List ℕ))) → (q ≡ 117 → IfSome o (RuleAt T q)) →
+        (q ≡ 116 → IfSome o (RuleAt T q)) → (q ≡ 120 → IfSome o (RuleAt T q)) → IfSome o (KnownAt T q)
     both None a b c = tt
     both (Some ps) a b c = (a, b, c)
 
-others_each : (bs : List (ℕ × List (List ℕ))) → AllByRecursion KeepsWords (other_blocks (by_singleton bs)) → AllByRecursion (λ b. is_other_singleton (lower_singleton b) ≡ true → IsOther b.1) bs
+others_each : (bs : List (ℕ × List (List ℕ))) → AllByRecursion KeepsWords (other_blocks (by_singleton bs)) →
+    AllByRecursion (λ b. is_other_singleton (lower_singleton b) ≡ true → IsOther b.1) bs
 others_each [] h = tt
-others_each (b ∷ bs) h = (elim (is_other_singleton (lower_singleton b)) as (λ t. is_other_singleton (lower_singleton b) ≡ t → AllByRecursion KeepsWords (cond t ((lower_singleton b, b.1) ∷ other_blocks (by_singleton bs)) (other_blocks (by_singleton bs))) → AllByRecursion (λ b. is_other_singleton (lower_singleton b) ≡ true → IsOther b.1) (b ∷ bs)) [
-  | true ↦ λ t h. ((λ _. h.0.0), others_each bs h.1)
-  | false ↦ λ t h. ((λ e. absurd (true≢false (sym e ∙ t))), others_each bs h)
-]) refl h
+others_each (b ∷ bs) h =
+    (elim (is_other_singleton (lower_singleton b)) as (λ t. is_other_singleton (lower_singleton b) ≡ t →
+    AllByRecursion KeepsWords
+    (cond t ((lower_singleton b, b.1) ∷ other_blocks (by_singleton bs)) (other_blocks (by_singleton bs))) →
+    AllByRecursion (λ b. is_other_singleton (lower_singleton b) ≡ true → IsOther b.1) (b ∷ bs)) [
+      | true ↦ λ t h. ((λ _. h.0.0), others_each bs h.1)
+      | false ↦ λ t h. ((λ e. absurd (true≢false (sym e ∙ t))), others_each bs h)
+    ]) refl h
 
-rule_of : (T : ℕ → Bool) (b : ℕ × List (List ℕ)) → KnownAt T (lower_singleton b) b.1 → (is_other_singleton (lower_singleton b) ≡ true → IsOther b.1) → IsKind (lower_singleton b) → IsBlock T b
+rule_of : (T : ℕ → Bool) (b : ℕ × List (List ℕ)) → KnownAt T (lower_singleton b) b.1 →
+    (is_other_singleton (lower_singleton b) ≡ true → IsOther b.1) → IsKind (lower_singleton b) → IsBlock T b
 rule_of T b k o (of_u e) = k.0 e
 rule_of T b k o (of_t e) = k.1 e
 rule_of T b k o (of_x e) = k.2 e
 rule_of T b k o (another e) = inr (other b.1, (e, o e), refl)
 
-pub blocks_good : (T : ℕ → Bool) (bs : List (ℕ × List (List ℕ))) (e : Extensions) → BlocksGive (grammar_rules T) bs e → AreGood T [] bs
+pub blocks_good : (T : ℕ → Bool) (bs : List (ℕ × List (List ℕ))) (e : Extensions) →
+    BlocksGive (grammar_rules T) bs e → AreGood T [] bs
 blocks_good T bs e m =
-    let known_each = each_block (KnownAt T) bs m.different (λ q. known T q (λ q. find nat_cmp q (by_singleton bs))
-    (part_rule T 117 UnicodeMeans (λ ps v h. inr (unicode h.written, (refl, h.grammatical), h.spelled)) no_unicode _ e.unicode m.unicode)
-    (part_rule T 116 (TransformMeans T) (λ ps v h. inr (transform h.written, (refl, h.grammatical), h.spelled)) no_transform _ e.transform m.transform)
+    let known_each =
+    each_block (KnownAt T) bs m.different (λ q. known T q (λ q. find nat_cmp q (by_singleton bs))
+    (part_rule T 117 UnicodeMeans (λ ps v h. inr (unicode h.written, (refl, h.grammatical), h.spelled))
+    no_unicode _ e.unicode m.unicode)
+    (part_rule T 116 (TransformMeans T)
+    (λ ps v h. inr (transform h.written, (refl, h.grammatical), h.spelled)) no_transform _ e.transform
+    m.transform)
     (part_rule T 120 PrivateMeans (λ ps v h. inl (refl, h.0)) [] _ e.private m.private)) in
     let rules = all_both _ _ bs m.letters (all_both _ _ bs known_each (others_each bs m.each_other)) in
-    good_from T [] bs (all_weaker _ (λ b. HasSingleton b × IsBlock T b) (λ b k. (k.0, rule_of T b k.1.0 k.1.1 (kind_of (lower_singleton b) (lower_letter b.0 k.0)))) bs rules) m.different (all_of _ (λ b. refl) bs)
+    good_from T [] bs
+    (all_weaker _ (λ b. HasSingleton b × IsBlock T b)
+    (λ b k. (k.0, rule_of T b k.1.0 k.1.1 (kind_of (lower_singleton b) (lower_letter b.0 k.0)))) bs rules)
+    m.different (all_of _ (λ b. refl) bs)
 
 -- one value
 
-one_part : {X : Type 0} (R : List (List ℕ) → X → Type 0) → ((ps : List (List ℕ)) (u v : X) → R ps u → R ps v → u ≡ v) → (empty : X) (o : Option (List (List ℕ))) (u v : X) → PartIs R empty o u → PartIs R empty o v → u ≡ v
+one_part : {X : Type 0} (R : List (List ℕ) → X → Type 0) →
+    ((ps : List (List ℕ)) (u v : X) → R ps u → R ps v → u ≡ v) →
+    (empty : X) (o : Option (List (List ℕ))) (u v : X) → PartIs R empty o u → PartIs R empty o v → u ≡ v
 one_part R f empty None u v a b = a ∙ sym b
 one_part R f empty (Some ps) u v a b = f ps u v a b
 
 one_unicode : (ps : List (List ℕ)) (u v : Unicode) → UnicodeMeans ps u → UnicodeMeans ps v → u ≡ v
-one_unicode ps u v a b = a.means ∙ ap normal_unicode (sym (unicode_of-pieces a.written a.grammatical) ∙ ap unicode_of (sym a.spelled ∙ b.spelled) ∙ unicode_of-pieces b.written b.grammatical) ∙ sym b.means
+one_unicode ps u v a b = a.means
+    ∙ ap normal_unicode (sym (unicode_of-pieces a.written a.grammatical)
+    ∙ ap unicode_of (sym a.spelled ∙ b.spelled) ∙ unicode_of-pieces b.written b.grammatical)
+    ∙ sym b.means
 
-one_transform : (T : ℕ → Bool) (ps : List (List ℕ)) (m n : Transform) → TransformMeans T ps m → TransformMeans T ps n → m ≡ n
-one_transform T ps m n a b = a.means ∙ ap normal_transform (sym (transform_of-pieces a.written a.grammatical) ∙ ap transform_of (sym a.spelled ∙ b.spelled) ∙ transform_of-pieces b.written b.grammatical) ∙ sym b.means
+one_transform : (T : ℕ → Bool) (ps : List (List ℕ)) (m n : Transform) → TransformMeans T ps m →
+    TransformMeans T ps n → m ≡ n
+one_transform T ps m n a b = a.means
+    ∙ ap normal_transform (sym (transform_of-pieces a.written a.grammatical)
+    ∙ ap transform_of (sym a.spelled ∙ b.spelled) ∙ transform_of-pieces b.written b.grammatical)
+    ∙ sym b.means
 
-pub one_extensions : (T : ℕ → Bool) (bs : List (ℕ × List (List ℕ))) (d e : Extensions) → BlocksGive (grammar_rules T) bs d → BlocksGive (grammar_rules T) bs e → d ≡ e
+pub one_extensions : (T : ℕ → Bool) (bs : List (ℕ × List (List ℕ))) (d e : Extensions) →
+    BlocksGive (grammar_rules T) bs d → BlocksGive (grammar_rules T) bs e → d ≡ e
 one_extensions T bs d e a b = λ i. record {
   unicode = one_part UnicodeMeans one_unicode no_unicode _ d.unicode e.unicode a.unicode b.unicode i;
-  transform = one_part (TransformMeans T) (one_transform T) no_transform _ d.transform e.transform a.transform b.transform i;
-  private = one_part PrivateMeans (λ ps k l x y. x.1 ∙ sym y.1) [] _ d.private e.private a.private b.private i;
+  transform = one_part (TransformMeans T) (one_transform T) no_transform _ d.transform e.transform a.transform
+      b.transform i;
+  private =
+      one_part PrivateMeans (λ ps k l x y. x.1 ∙ sym y.1) [] _ d.private e.private a.private b.private i;
   others = (a.others ∙ sym b.others) i;
 }
 
-pub one_by_blocks : (T : ℕ → Bool) (t : List ℕ) (L M : Locale) → MeansByBlocks T t L → MeansByBlocks T t M → L ≡ M
+pub one_by_blocks : (T : ℕ → Bool) (t : List ℕ) (L M : Locale) → MeansByBlocks T t L → MeansByBlocks T t M →
+    L ≡ M
 one_by_blocks T t L M a b = λ i. record {
   id = one_meaning (head (pieces t)) L.id M.id a.id b.id i;
-  extensions = one_extensions T (tail_blocks (pieces t)) L.extensions M.extensions a.extensions b.extensions i;
+  extensions =
+      one_extensions T (tail_blocks (pieces t)) L.extensions M.extensions a.extensions b.extensions i;
 }
 
 -- good blocks after an identifier give what is read of them
-pub read_by_blocks : (T : ℕ → Bool) (t : List ℕ) → SpellsIdentifier T (head (pieces t)) → AreGood T [] (tail_blocks (pieces t)) → MeansByBlocks T t (meaning (written_of (pieces t)))
+pub read_by_blocks : (T : ℕ → Bool) (t : List ℕ) → SpellsIdentifier T (head (pieces t)) →
+    AreGood T [] (tail_blocks (pieces t)) → MeansByBlocks T t (meaning (written_of (pieces t)))
 read_by_blocks T t s g =
     let w = written_of (pieces t) in let h = good_written T t s g in record {
-      id = record { written = w.id; grammatical = h.id; spelled = ap head (pieces-written_of t) ∙ head-spelling w h; means = refl };
-      extensions = subst (λ bs. BlocksGive (grammar_rules T) bs (extensions_meaning w)) (blocks_read (pieces t)) (blocks_give T w h);
+      id = record {
+        written = w.id;
+        grammatical = h.id;
+        spelled = ap head (pieces-written_of t) ∙ head-spelling w h;
+        means = refl;
+      };
+      extensions = subst (λ bs. BlocksGive (grammar_rules T) bs (extensions_meaning w))
+          (blocks_read (pieces t)) (blocks_give T w h);
     }
 
 pub blocks_tree : (T : ℕ → Bool) (t : List ℕ) (M : Locale) → MeansByBlocks T t M → TreeMeans T t M

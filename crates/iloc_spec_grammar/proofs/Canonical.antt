@@ -1,19 +1,28 @@
 -- Steps lead from each text of a meaning to the printed one.
-use Rattle.std.proofs.Common.{◌≡◌, ℕ, ◌<◌, Bool, true, false, cond, not, List, [], ◌∷◌, length, map, filter, refl, sym, ap, ◌∙◌, subst, arith, Option, Some, None, IfSome, option_map}
+use Rattle.std.proofs.Common.{◌≡◌, ℕ, ◌<◌, Bool, true, false, cond, not, List, [], ◌∷◌, length, map, filter}
+use Rattle.std.proofs.Common.{refl, sym, ap, ◌∙◌, subst, arith, Option, Some, None, IfSome, option_map}
 use Rattle.std.specs.Prelude.{codes}
 use Rattle.std.specs.List.{AllByRecursion, AllZip}
 use Rattle.std.specs.FinMap.{is_sorted}
-use Rattle.iloc_spec_grammar.specs.Syntax.{Subtag, is_word, lower, upper, title, word_cmp, is_true, SpelledIdentifier, Fields, kept, IsIdentifier, IsField, AllDifferent}
-use Rattle.iloc_spec_grammar.specs.Tree.{Extension, unicode, transform, other, IsExtension, spelled_transform, spelled_unicode}
-use Rattle.iloc_spec_grammar.specs.Meaning.{set_of, normal_identifier, normal_values, normal_fields, normal_unicode, normal_transform}
+use Rattle.iloc_spec_grammar.specs.Syntax.{Subtag, is_word, lower, upper, title, word_cmp, is_true}
+use Rattle.iloc_spec_grammar.specs.Syntax.{SpelledIdentifier, Fields, kept, IsIdentifier, IsField}
+use Rattle.iloc_spec_grammar.specs.Syntax.{AllDifferent}
+use Rattle.iloc_spec_grammar.specs.Tree.{Extension, unicode, transform, other, IsExtension, spelled_transform}
+use Rattle.iloc_spec_grammar.specs.Tree.{spelled_unicode}
+use Rattle.iloc_spec_grammar.specs.Meaning.{set_of, normal_identifier, normal_values, normal_fields}
+use Rattle.iloc_spec_grammar.specs.Meaning.{normal_unicode, normal_transform}
 use Rattle.iloc_spec_grammar.specs.Values.{lower_identifier, spelled_value, spelled_fields}
-use Rattle.iloc_spec_grammar.specs.TreeSteps.{TreeWithout, TreeLessTrue, keys_differ, Repeats, Trues, DroppedPieces, VariantOrder, AttributeOrder, FieldOrder, TreeIdentifierStep, ExtensionStep}
+use Rattle.iloc_spec_grammar.specs.TreeSteps.{TreeWithout, TreeLessTrue, keys_differ, Repeats, Trues}
+use Rattle.iloc_spec_grammar.specs.TreeSteps.{DroppedPieces, VariantOrder, AttributeOrder, FieldOrder}
+use Rattle.iloc_spec_grammar.specs.TreeSteps.{TreeIdentifierStep, ExtensionStep}
 use Rattle.iloc_spec_grammar.proofs.WordsLaws.{lower-lower, lower-title, lower-upper}
 use Rattle.iloc_spec_grammar.proofs.MapLaws.{map_of_sorted, word_cmp_total, same_words}
-use Rattle.iloc_spec_grammar.proofs.ValuesLaws.{set_of_ascending, lower_twice, same_identifier, filter_all, all_weaker, ascend_as_keys}
+use Rattle.iloc_spec_grammar.proofs.ValuesLaws.{set_of_ascending, lower_twice, same_identifier, filter_all}
+use Rattle.iloc_spec_grammar.proofs.ValuesLaws.{all_weaker, ascend_as_keys}
 use Rattle.iloc_spec_grammar.proofs.Orders.{all_reordered, all_repeats}
 use Rattle.iloc_spec_grammar.proofs.CaseLaws.{low, low_fields, low_extension}
-use Rattle.iloc_spec_grammar.proofs.Sorting.{sort, reordered-sort, sorted-sort, dedup, without-dedup, different-dedup, without-filter, filter-passes}
+use Rattle.iloc_spec_grammar.proofs.Sorting.{sort, reordered-sort, sorted-sort, dedup, without-dedup}
+use Rattle.iloc_spec_grammar.proofs.Sorting.{different-dedup, without-filter, filter-passes}
 use Rattle.std.specs.Cmp.{Equal-is}
 use Rattle.iloc_spec_grammar.proofs.General.{option_map-then, zip_map, all_of, all_mapped, map-same}
 use Rattle.std.proofs.lemmas.Simd.{map-map}
@@ -39,16 +48,20 @@ abbrev pub sort_fields : Fields → Fields
 sort_fields fs = sort word_cmp (λ f. lower f.0) fs
 
 abbrev pub sort_identifier : SpelledIdentifier → SpelledIdentifier
-sort_identifier i = record { language = i.language; script = i.script; region = i.region; variants = sort_words i.variants }
+sort_identifier i =
+    record { language = i.language; script = i.script; region = i.region; variants = sort_words i.variants }
 
 abbrev pub without_repeats : Extension → Extension
-without_repeats (unicode u) = unicode (record { attributes = dedup (λ a. a) [] u.attributes; keywords = dedup (λ f. f.0) [] u.keywords })
+without_repeats (unicode u) = unicode
+    (record { attributes = dedup (λ a. a) [] u.attributes; keywords = dedup (λ f. f.0) [] u.keywords })
 without_repeats (transform m) = transform (record { id = m.id; fields = dedup (λ f. f.0) [] m.fields })
 without_repeats (other ps) = other ps
 
 abbrev pub without_trues : Extension → Extension
-without_trues (unicode u) = unicode (record { attributes = u.attributes; keywords = map (λ f. (f.0, no_trues f.1)) u.keywords })
-without_trues (transform m) = transform (record { id = m.id; fields = map (λ f. (f.0, keep_one f.1)) m.fields })
+without_trues (unicode u) =
+    unicode (record { attributes = u.attributes; keywords = map (λ f. (f.0, no_trues f.1)) u.keywords })
+without_trues (transform m) =
+    transform (record { id = m.id; fields = map (λ f. (f.0, keep_one f.1)) m.fields })
 without_trues (other ps) = other ps
 
 abbrev pub without_dropped : Extension → Extension
@@ -56,23 +69,28 @@ without_dropped (other ps) = other (filter (is_word Subtag) ps)
 without_dropped e = e
 
 abbrev pub with_sorted_variants : Extension → Extension
-with_sorted_variants (transform m) = transform (record { id = option_map sort_identifier m.id; fields = m.fields })
+with_sorted_variants (transform m) =
+    transform (record { id = option_map sort_identifier m.id; fields = m.fields })
 with_sorted_variants e = e
 
 abbrev pub with_sorted_attributes : Extension → Extension
-with_sorted_attributes (unicode u) = unicode (record { attributes = sort_words u.attributes; keywords = u.keywords })
+with_sorted_attributes (unicode u) =
+    unicode (record { attributes = sort_words u.attributes; keywords = u.keywords })
 with_sorted_attributes e = e
 
 abbrev pub with_sorted_fields : Extension → Extension
-with_sorted_fields (unicode u) = unicode (record { attributes = u.attributes; keywords = sort_fields u.keywords })
+with_sorted_fields (unicode u) =
+    unicode (record { attributes = u.attributes; keywords = sort_fields u.keywords })
 with_sorted_fields (transform m) = transform (record { id = m.id; fields = sort_fields m.fields })
 with_sorted_fields (other ps) = other ps
 
 -- each is a step
 
 pub repeats_step : (e : Extension) → ExtensionStep Repeats e (without_repeats e)
-repeats_step (unicode u) = ExtensionStep.unicode_repeats (without-dedup (λ a. a) [] u.attributes) (without-dedup (λ (f : List ℕ × List (List ℕ)). f.0) [] u.keywords)
-repeats_step (transform m) = ExtensionStep.transform_repeats (without-dedup (λ (f : List ℕ × List (List ℕ)). f.0) [] m.fields)
+repeats_step (unicode u) = ExtensionStep.unicode_repeats (without-dedup (λ a. a) [] u.attributes)
+    (without-dedup (λ (f : List ℕ × List (List ℕ)). f.0) [] u.keywords)
+repeats_step (transform m) =
+    ExtensionStep.transform_repeats (without-dedup (λ (f : List ℕ × List (List ℕ)). f.0) [] m.fields)
 repeats_step (other ps) = ExtensionStep.same
 
 -- the values of a field where one stays
@@ -81,12 +99,15 @@ record Kept (ps qs : List (List ℕ)) : Type 0 where
   positive : 0 < length qs
   value : spelled_value (normal_values qs) ≡ low qs
 
-no_true_means : (qs : List (List ℕ)) → AllByRecursion (λ q. is_true (lower q) ≡ false) qs → normal_values qs ≡ low qs
+no_true_means : (qs : List (List ℕ)) → AllByRecursion (λ q. is_true (lower q) ≡ false) qs →
+    normal_values qs ≡ low qs
 no_true_means [] h = refl
-no_true_means (q ∷ qs) h = ap (λ b. cond (not b) (lower q ∷ normal_values qs) (normal_values qs)) h.0 ∙ ap (λ l. lower q ∷ l) (no_true_means qs h.1)
+no_true_means (q ∷ qs) h = ap (λ b. cond (not b) (lower q ∷ normal_values qs) (normal_values qs)) h.0
+    ∙ ap (λ l. lower q ∷ l) (no_true_means qs h.1)
 
 none_true : (ps : List (List ℕ)) → AllByRecursion (λ q. is_true (lower q) ≡ false) (no_trues ps)
-none_true ps = all_weaker (λ q. not (is_true (lower q)) ≡ true) (λ q. is_true (lower q) ≡ false) (λ q e. not-true _ e) (no_trues ps) (filter-passes (λ q. not (is_true (lower q))) ps)
+none_true ps = all_weaker (λ q. not (is_true (lower q)) ≡ true) (λ q. is_true (lower q) ≡ false)
+    (λ q e. not-true _ e) (no_trues ps) (filter-passes (λ q. not (is_true (lower q))) ps)
 
 true_word : (w : List ℕ) → is_true w ≡ true → codes "true" ≡ w
 unfolding is_true
@@ -95,31 +116,52 @@ true_word w h = same_words (codes "true") w ((Equal-is _).0 h)
 kept_one : (p : List ℕ) (ps : List (List ℕ)) → Kept (p ∷ ps) (keep_one (p ∷ ps))
 kept_one p ps = at_rest (no_trues (p ∷ ps)) refl (none_true (p ∷ ps))
   where
-    at_rest : (qs : List (List ℕ)) → no_trues (p ∷ ps) ≡ qs → AllByRecursion (λ q. is_true (lower q) ≡ false) qs → Kept (p ∷ ps) (or_first qs (p ∷ ps))
-    at_rest (q ∷ qs) e n = record { less = subst (TreeWithout (λ p. is_true (lower p)) (p ∷ ps)) e (without-filter (λ p. is_true (lower p)) (p ∷ ps)); positive = omega arith; value = ap spelled_value (no_true_means (q ∷ qs) n) }
-    at_rest [] e n = (elim (is_true (lower p)) as (λ b. is_true (lower p) ≡ b → cond (not b) (p ∷ no_trues ps) (no_trues ps) ≡ [] → Kept (p ∷ ps) (p ∷ [])) [
-      | true ↦ λ t e. record { less = TreeWithout.stays (subst (TreeWithout (λ p. is_true (lower p)) ps) e (without-filter (λ p. is_true (lower p)) ps)); positive = omega arith; value = ap (λ b. spelled_value (cond (not b) (lower p ∷ []) [])) t ∙ ap (λ w. w ∷ []) (true_word (lower p) t) }
-      | false ↦ λ t e. cc
-    ]) refl e
+    at_rest : (qs : List (List ℕ)) → no_trues (p ∷ ps) ≡ qs →
+        AllByRecursion (λ q. is_true (lower q) ≡ false) qs → Kept (p ∷ ps) (or_first qs (p ∷ ps))
+    at_rest (q ∷ qs) e n = record {
+      less = subst (TreeWithout (λ p. is_true (lower p)) (p ∷ ps)) e
+          (without-filter (λ p. is_true (lower p)) (p ∷ ps));
+      positive = omega arith;
+      value = ap spelled_value (no_true_means (q ∷ qs) n);
+    }
+    at_rest [] e n = (elim (is_true (lower p)) as (λ b.
+        is_true (lower p) ≡ b → cond (not b) (p ∷ no_trues ps) (no_trues ps) ≡ [] → Kept (p ∷ ps) (p ∷ [])) [
+          | true ↦ λ t e. record {
+            less = TreeWithout.stays
+                (subst (TreeWithout (λ p. is_true (lower p)) ps) e
+                (without-filter (λ p. is_true (lower p)) ps));
+            positive = omega arith;
+            value = ap (λ b. spelled_value (cond (not b) (lower p ∷ []) [])) t
+                ∙ ap (λ w. w ∷ []) (true_word (lower p) t);
+          }
+          | false ↦ λ t e. cc
+        ]) refl e
 
 kept_some : (ps : List (List ℕ)) → 0 < length ps → Kept ps (keep_one ps)
 kept_some [] h = absurd (omega arith)
 kept_some (p ∷ ps) h = kept_one p ps
 
 trues_unicode : (fs : Fields) → AllZip TreeLessTrue fs (map (λ f. (f.0, no_trues f.1)) fs)
-trues_unicode fs = zip_map TreeLessTrue (λ f. Unit {0}) (λ f. (f.0, no_trues f.1)) (λ f _. (refl, without-filter (λ p. is_true (lower p)) f.1)) fs (all_of _ (λ f. tt) fs)
+trues_unicode fs = zip_map TreeLessTrue (λ f. Unit {0}) (λ f. (f.0, no_trues f.1))
+    (λ f _. (refl, without-filter (λ p. is_true (lower p)) f.1)) fs (all_of _ (λ f. tt) fs)
 
-trues_transform : (fs : Fields) → AllByRecursion IsField fs → AllZip (λ f g. TreeLessTrue f g × (0 < length g.1)) fs (map (λ f. (f.0, keep_one f.1)) fs)
-trues_transform = zip_map (λ f g. TreeLessTrue f g × (0 < length g.1)) IsField (λ f. (f.0, keep_one f.1)) (λ f h. let k = kept_some f.1 h.2 in ((refl, k.less), k.positive))
+trues_transform : (fs : Fields) → AllByRecursion IsField fs →
+    AllZip (λ f g. TreeLessTrue f g × (0 < length g.1)) fs (map (λ f. (f.0, keep_one f.1)) fs)
+trues_transform = zip_map (λ f g. TreeLessTrue f g × (0 < length g.1)) IsField (λ f. (f.0, keep_one f.1))
+    (λ f h. let k = kept_some f.1 h.2 in ((refl, k.less), k.positive))
 
-pub trues_step : (T : ℕ → Bool) (c : ℕ) (e : Extension) → IsExtension T c e → ExtensionStep Trues e (without_trues e)
+pub trues_step : (T : ℕ → Bool) (c : ℕ) (e : Extension) → IsExtension T c e →
+    ExtensionStep Trues e (without_trues e)
 trues_step T c (unicode u) h = ExtensionStep.unicode_trues (trues_unicode u.keywords)
 trues_step T c (transform m) h = ExtensionStep.transform_trues (trues_transform m.fields h.1.fields)
 trues_step T c (other ps) h = ExtensionStep.same
 
-without_others : (keep : List ℕ → Bool) (ps : List (List ℕ)) → TreeWithout (λ p. not (keep p)) ps (filter keep ps)
+without_others : (keep : List ℕ → Bool) (ps : List (List ℕ)) →
+    TreeWithout (λ p. not (keep p)) ps (filter keep ps)
 without_others keep [] = TreeWithout.none
-without_others keep (p ∷ ps) = cond_both (keep p) _ _ (TreeWithout (λ p. not (keep p)) (p ∷ ps)) (λ _. TreeWithout.stays (without_others keep ps)) (λ e. TreeWithout.left_out (ap not e) (without_others keep ps))
+without_others keep (p ∷ ps) = cond_both (keep p) _ _ (TreeWithout (λ p. not (keep p)) (p ∷ ps))
+    (λ _. TreeWithout.stays (without_others keep ps))
+    (λ e. TreeWithout.left_out (ap not e) (without_others keep ps))
 
 pub dropped_step : (e : Extension) → ExtensionStep DroppedPieces e (without_dropped e)
 dropped_step (other ps) = ExtensionStep.dropped_pieces (without_others (is_word Subtag) ps)
@@ -131,7 +173,9 @@ identifier_order_step i = TreeIdentifierStep.variants (reordered-sort word_cmp l
 pub variant_order_step : (e : Extension) → ExtensionStep VariantOrder e (with_sorted_variants e)
 variant_order_step (transform m) = at_id m.id m.fields
   where
-    at_id : (i : Option SpelledIdentifier) (fs : Fields) → ExtensionStep VariantOrder (transform (record { id = i; fields = fs })) (transform (record { id = option_map sort_identifier i; fields = fs }))
+    at_id : (i : Option SpelledIdentifier) (fs : Fields) →
+        ExtensionStep VariantOrder (transform (record { id = i; fields = fs }))
+        (transform (record { id = option_map sort_identifier i; fields = fs }))
     at_id None fs = ExtensionStep.same
     at_id (Some i) fs = ExtensionStep.identifier (identifier_order_step i)
 variant_order_step _ = ExtensionStep.same
@@ -146,13 +190,21 @@ KeysDiffer (transform m) = keys_differ m.fields
 KeysDiffer (other ps) = Unit {0}
 
 pub field_order_step : (e : Extension) → KeysDiffer e → ExtensionStep FieldOrder e (with_sorted_fields e)
-field_order_step (unicode u) d = ExtensionStep.keyword_order d (reordered-sort word_cmp (λ (f : List ℕ × List (List ℕ)). lower f.0) u.keywords)
-field_order_step (transform m) d = ExtensionStep.field_order d (reordered-sort word_cmp (λ (f : List ℕ × List (List ℕ)). lower f.0) m.fields)
+field_order_step (unicode u) d = ExtensionStep.keyword_order d
+    (reordered-sort word_cmp (λ (f : List ℕ × List (List ℕ)). lower f.0) u.keywords)
+field_order_step (transform m) d =
+    ExtensionStep.field_order d (reordered-sort word_cmp (λ (f : List ℕ × List (List ℕ)). lower f.0) m.fields)
 field_order_step (other ps) d = ExtensionStep.same
 
-pub keys_differ_then : (e : Extension) → KeysDiffer (with_sorted_attributes (with_sorted_variants (without_dropped (without_trues (without_repeats e)))))
-keys_differ_then (unicode u) = subst (AllDifferent word_cmp) (sym (map-map (λ (f : List ℕ × List (List ℕ)). lower f.0) (λ f. (f.0, no_trues f.1)) (dedup (λ f. f.0) [] u.keywords))) (different-dedup (λ (f : List ℕ × List (List ℕ)). f.0) [] u.keywords)
-keys_differ_then (transform m) = subst (AllDifferent word_cmp) (sym (map-map (λ (f : List ℕ × List (List ℕ)). lower f.0) (λ f. (f.0, keep_one f.1)) (dedup (λ f. f.0) [] m.fields))) (different-dedup (λ (f : List ℕ × List (List ℕ)). f.0) [] m.fields)
+pub keys_differ_then : (e : Extension) →
+    KeysDiffer
+    (with_sorted_attributes (with_sorted_variants (without_dropped (without_trues (without_repeats e)))))
+keys_differ_then (unicode u) = subst (AllDifferent word_cmp)
+    (sym (map-map (λ (f : List ℕ × List (List ℕ)). lower f.0) (λ f. (f.0, no_trues f.1))
+    (dedup (λ f. f.0) [] u.keywords))) (different-dedup (λ (f : List ℕ × List (List ℕ)). f.0) [] u.keywords)
+keys_differ_then (transform m) = subst (AllDifferent word_cmp)
+    (sym (map-map (λ (f : List ℕ × List (List ℕ)). lower f.0) (λ f. (f.0, keep_one f.1))
+    (dedup (λ f. f.0) [] m.fields))) (different-dedup (λ (f : List ℕ × List (List ℕ)). f.0) [] m.fields)
 keys_differ_then (other ps) = tt
 
 -- what an extension in order means is its lower case
@@ -162,49 +214,89 @@ IsCanonical (unicode u) = unicode (spelled_unicode (normal_unicode u)) ≡ low_e
 IsCanonical (transform m) = transform (spelled_transform (normal_transform m)) ≡ low_extension (transform m)
 IsCanonical (other ps) = kept ps ≡ low ps
 
-sorted_set : (ws : List (List ℕ)) → AllDifferent word_cmp (map lower ws) → set_of (low (sort_words ws)) ≡ low (sort_words ws)
-sorted_set ws d = set_of_ascending (low (sort_words ws)) (ascend_as_keys _ (ap (is_sorted word_cmp) (map-map {B = List ℕ} (λ w. (w, tt {0})) lower (sort_words ws)) ∙ sorted-sort word_cmp lower word_cmp_total (λ w. tt {0}) ws d))
+sorted_set : (ws : List (List ℕ)) → AllDifferent word_cmp (map lower ws) →
+    set_of (low (sort_words ws)) ≡ low (sort_words ws)
+sorted_set ws d = set_of_ascending (low (sort_words ws))
+    (ascend_as_keys _ (ap (is_sorted word_cmp) (map-map {B = List ℕ} (λ w. (w, tt {0})) lower (sort_words ws))
+    ∙ sorted-sort word_cmp lower word_cmp_total (λ w. tt {0}) ws d))
 
-no_true_entries : (fs : Fields) → AllByRecursion (λ f. AllByRecursion (λ q. is_true (lower q) ≡ false) f.1) fs → map {B = List ℕ × List (List ℕ)} (λ f. (lower f.0, normal_values f.1)) fs ≡ low_fields fs
-no_true_entries fs h = map-same (λ f. (lower f.0, normal_values f.1)) (λ f. (lower f.0, low f.1)) fs (all_weaker (λ f. AllByRecursion (λ q. is_true (lower q) ≡ false) f.1) (λ f. (lower f.0, normal_values f.1) ≡ (lower f.0, low f.1)) (λ f n i. (lower f.0, no_true_means f.1 n i)) fs h)
+no_true_entries : (fs : Fields) →
+    AllByRecursion (λ f. AllByRecursion (λ q. is_true (lower q) ≡ false) f.1) fs →
+    map {B = List ℕ × List (List ℕ)} (λ f. (lower f.0, normal_values f.1)) fs ≡ low_fields fs
+no_true_entries fs h = map-same (λ f. (lower f.0, normal_values f.1)) (λ f. (lower f.0, low f.1)) fs
+    (all_weaker (λ f. AllByRecursion (λ q. is_true (lower q) ≡ false) f.1)
+    (λ f. (lower f.0, normal_values f.1) ≡ (lower f.0, low f.1)) (λ f n i. (lower f.0, no_true_means f.1 n i))
+    fs h)
 
-none_true_fields : (fs : Fields) → AllByRecursion (λ (f : List ℕ × List (List ℕ)). AllByRecursion (λ q. is_true (lower q) ≡ false) f.1) (map (λ f. (f.0, no_trues f.1)) fs)
-none_true_fields fs = all_mapped (λ f. Unit {0}) (λ f. AllByRecursion (λ q. is_true (lower q) ≡ false) f.1) (λ f. (f.0, no_trues f.1)) (λ f _. none_true f.1) fs (all_of _ (λ f. tt) fs)
+none_true_fields : (fs : Fields) →
+    AllByRecursion (λ (f : List ℕ × List (List ℕ)). AllByRecursion (λ q. is_true (lower q) ≡ false) f.1)
+    (map (λ f. (f.0, no_trues f.1)) fs)
+none_true_fields fs = all_mapped (λ f. Unit {0}) (λ f. AllByRecursion (λ q. is_true (lower q) ≡ false) f.1)
+    (λ f. (f.0, no_trues f.1)) (λ f _. none_true f.1) fs (all_of _ (λ f. tt) fs)
 
-canonical_keywords : (fs : Fields) → keys_differ fs → AllByRecursion (λ f. AllByRecursion (λ q. is_true (lower q) ≡ false) f.1) fs → normal_fields (sort_fields fs) ≡ low_fields (sort_fields fs)
+canonical_keywords : (fs : Fields) → keys_differ fs →
+    AllByRecursion (λ f. AllByRecursion (λ q. is_true (lower q) ≡ false) f.1) fs →
+    normal_fields (sort_fields fs) ≡ low_fields (sort_fields fs)
 canonical_keywords fs d n =
-    map_of_sorted word_cmp (map (λ f. (lower f.0, normal_values f.1)) (sort_fields fs)) (sorted-sort word_cmp (λ (f : List ℕ × List (List ℕ)). lower f.0) word_cmp_total (λ f. normal_values f.1) fs d)
-    ∙ no_true_entries (sort_fields fs) (all_reordered (λ f. AllByRecursion (λ q. is_true (lower q) ≡ false) f.1) (reordered-sort word_cmp (λ (f : List ℕ × List (List ℕ)). lower f.0) fs) n)
+    map_of_sorted word_cmp (map (λ f. (lower f.0, normal_values f.1)) (sort_fields fs)) (sorted-sort word_cmp
+    (λ (f : List ℕ × List (List ℕ)). lower f.0) word_cmp_total (λ f. normal_values f.1) fs d)
+    ∙ no_true_entries (sort_fields fs)
+    (all_reordered (λ f. AllByRecursion (λ q. is_true (lower q) ≡ false) f.1)
+    (reordered-sort word_cmp (λ (f : List ℕ × List (List ℕ)). lower f.0) fs) n)
 
 abbrev IsSpelled : List ℕ × List (List ℕ) → Type 0
 IsSpelled f = spelled_value (normal_values f.1) ≡ low f.1
 
-spelled_entries : (fs : Fields) → AllByRecursion IsSpelled fs → spelled_fields (map (λ f. (lower f.0, normal_values f.1)) fs) ≡ low_fields fs
+spelled_entries : (fs : Fields) → AllByRecursion IsSpelled fs →
+    spelled_fields (map (λ f. (lower f.0, normal_values f.1)) fs) ≡ low_fields fs
 spelled_entries [] h = refl
 spelled_entries (f ∷ fs) h = λ i. (lower f.0, h.0 i) ∷ spelled_entries fs h.1 i
 
-canonical_fields : (fs : Fields) → keys_differ fs → AllByRecursion IsSpelled fs → spelled_fields (normal_fields (sort_fields fs)) ≡ low_fields (sort_fields fs)
+canonical_fields : (fs : Fields) → keys_differ fs → AllByRecursion IsSpelled fs →
+    spelled_fields (normal_fields (sort_fields fs)) ≡ low_fields (sort_fields fs)
 canonical_fields fs d n =
-    ap spelled_fields (map_of_sorted word_cmp (map (λ f. (lower f.0, normal_values f.1)) (sort_fields fs)) (sorted-sort word_cmp (λ (f : List ℕ × List (List ℕ)). lower f.0) word_cmp_total (λ f. normal_values f.1) fs d))
-    ∙ spelled_entries (sort_fields fs) (all_reordered IsSpelled (reordered-sort word_cmp (λ (f : List ℕ × List (List ℕ)). lower f.0) fs) n)
+    ap spelled_fields
+    (map_of_sorted word_cmp (map (λ f. (lower f.0, normal_values f.1)) (sort_fields fs)) (sorted-sort word_cmp
+    (λ (f : List ℕ × List (List ℕ)). lower f.0) word_cmp_total (λ f. normal_values f.1) fs d))
+    ∙ spelled_entries (sort_fields fs)
+    (all_reordered IsSpelled (reordered-sort word_cmp (λ (f : List ℕ × List (List ℕ)). lower f.0) fs) n)
 
-spelled_kept : (fs : Fields) → AllByRecursion IsField fs → AllByRecursion IsSpelled (map (λ f. (f.0, keep_one f.1)) fs)
+spelled_kept : (fs : Fields) → AllByRecursion IsField fs →
+    AllByRecursion IsSpelled (map (λ f. (f.0, keep_one f.1)) fs)
 spelled_kept = all_mapped IsField IsSpelled (λ f. (f.0, keep_one f.1)) (λ f h. (kept_some f.1 h.2).value)
 
-pub canonical_identifier : (i : SpelledIdentifier) → AllDifferent word_cmp (map lower i.variants) → lower_identifier (normal_identifier (sort_identifier i)) ≡ lower_identifier (sort_identifier i)
-canonical_identifier i d = same_identifier _ _ _ _ _ _ _ _ (lower-lower i.language) (option_map-then lower title lower lower-title i.script) (option_map-then lower upper lower lower-upper i.region) (ap low (sorted_set i.variants d) ∙ lower_twice (sort_words i.variants))
+pub canonical_identifier : (i : SpelledIdentifier) → AllDifferent word_cmp (map lower i.variants) →
+    lower_identifier (normal_identifier (sort_identifier i)) ≡ lower_identifier (sort_identifier i)
+canonical_identifier i d = same_identifier _ _ _ _ _ _ _ _ (lower-lower i.language)
+    (option_map-then lower title lower lower-title i.script)
+    (option_map-then lower upper lower lower-upper i.region)
+    (ap low (sorted_set i.variants d) ∙ lower_twice (sort_words i.variants))
 
-canonical_optional : (T : ℕ → Bool) (o : Option SpelledIdentifier) → IfSome o (IsIdentifier T) → option_map lower_identifier (option_map normal_identifier (option_map sort_identifier o)) ≡ option_map lower_identifier (option_map sort_identifier o)
+canonical_optional : (T : ℕ → Bool) (o : Option SpelledIdentifier) → IfSome o (IsIdentifier T) →
+    option_map lower_identifier (option_map normal_identifier (option_map sort_identifier o))
+    ≡ option_map lower_identifier (option_map sort_identifier o)
 canonical_optional T None h = refl
 canonical_optional T (Some i) h = ap Some (canonical_identifier i h.different)
 
-pub canonical : (T : ℕ → Bool) (c : ℕ) (e : Extension) → IsExtension T c e → IsCanonical (with_sorted_fields (with_sorted_attributes (with_sorted_variants (without_dropped (without_trues (without_repeats e))))))
+pub canonical : (T : ℕ → Bool) (c : ℕ) (e : Extension) → IsExtension T c e →
+    IsCanonical (with_sorted_fields
+    (with_sorted_attributes (with_sorted_variants (without_dropped (without_trues (without_repeats e))))))
 canonical T c (unicode u) h =
     let ds : List (List ℕ) = dedup (λ a. a) [] u.attributes in
     let ks : Fields = map (λ f. (f.0, no_trues f.1)) (dedup (λ f. f.0) [] u.keywords) in
-    λ i. unicode (record { attributes = sorted_set ds (different-dedup (λ (a : List ℕ). a) [] u.attributes) i; keywords = canonical_keywords ks (keys_differ_then (unicode u)) (none_true_fields (dedup (λ f. f.0) [] u.keywords)) i })
+    λ i. unicode (record {
+      attributes = sorted_set ds (different-dedup (λ (a : List ℕ). a) [] u.attributes) i;
+      keywords = canonical_keywords ks (keys_differ_then (unicode u))
+          (none_true_fields (dedup (λ f. f.0) [] u.keywords)) i;
+    })
 canonical T c (transform m) h =
     let ds : Fields = dedup (λ f. f.0) [] m.fields in
     let ks : Fields = map (λ f. (f.0, keep_one f.1)) ds in
-    λ i. transform (record { id = canonical_optional T m.id h.1.id i; fields = canonical_fields ks (keys_differ_then (transform m)) (spelled_kept ds (all_repeats IsField (λ f. f.0) (without-dedup (λ (f : List ℕ × List (List ℕ)). f.0) [] m.fields) h.1.fields)) i })
-canonical T c (other ps) h = ap low (filter_all (is_word Subtag) (filter (is_word Subtag) ps) (filter-passes (is_word Subtag) ps))
+    λ i. transform (record {
+      id = canonical_optional T m.id h.1.id i;
+      fields = canonical_fields ks (keys_differ_then (transform m))
+          (spelled_kept ds (all_repeats IsField (λ f. f.0)
+          (without-dedup (λ (f : List ℕ × List (List ℕ)). f.0) [] m.fields) h.1.fields)) i;
+    })
+canonical T c (other ps) h =
+    ap low (filter_all (is_word Subtag) (filter (is_word Subtag) ps) (filter-passes (is_word Subtag) ps))

@@ -1,5 +1,8 @@
 -- At most eight steps lead from each accepted text to the printed text of its meaning.
-use Rattle.std.proofs.Common.{true≢false, ◌≡◌, ◌≢◌, ◌⊎◌, inl, inr, ℕ, zero, suc, ◌+◌, ◌<◌, Bool, true, false, cond, ◌||◌, List, [], ◌∷◌, ◌++◌, length, map, filter_map, flat_map, refl, sym, ap, ◌∙◌, subst, arith, Option, Some, None, IfSome, option_map, option_to_list, is_some, nat_lt}
+use Rattle.std.proofs.Common.{true≢false, ◌≡◌, ◌≢◌, ◌⊎◌, inl, inr, ℕ, zero, suc, ◌+◌, ◌<◌, Bool, true, false}
+use Rattle.std.proofs.Common.{cond, ◌||◌, List, [], ◌∷◌, ◌++◌, length, map, filter_map, flat_map, refl, sym}
+use Rattle.std.proofs.Common.{ap, ◌∙◌, subst, arith, Option, Some, None, IfSome, option_map, option_to_list}
+use Rattle.std.proofs.Common.{is_some, nat_lt}
 use Rattle.std.specs.List.{AllByRecursion, AllZip}
 use Rattle.std.specs.Char.{to_ascii_lowercase}
 use Rattle.std.specs.Ordering.{nat_cmp, eq_by_cmp}
@@ -9,11 +12,20 @@ use Rattle.std.specs.FinMap.Entries.{same_entries}
 use Rattle.std.proofs.lemmas.Bool.{cases_eq, lt-ltb}
 use Rattle.std.proofs.lemmas.List.{map-append, length-map}
 use Rattle.std.proofs.lemmas.Str.Ascii.{lowercase-lowercase}
-use Rattle.iloc_spec_grammar.specs.Syntax.{join, lower, SpelledIdentifier, SpelledUnicode, SpelledTransform, Identifier, Fields, identifier_pieces, optional_pieces, fields_pieces, kept, lower_singleton, AllDifferent, IsPrivate}
-use Rattle.iloc_spec_grammar.specs.Tree.{Extension, unicode, transform, other, Written, extension_pieces, extension_block, block_pieces, blocks_of, spelling, IsExtension, IsWritten, unicode_part, transform_part, private_part, other_part, by_singleton, meaning, IsTreeWellFormed, private_form, printed, tree_text, spelled_transform, spelled_unicode}
-use Rattle.iloc_spec_grammar.specs.Meaning.{normal_identifier, normal_fields, normal_unicode, normal_transform}
+use Rattle.iloc_spec_grammar.specs.Syntax.{join, lower, SpelledIdentifier, SpelledUnicode, SpelledTransform}
+use Rattle.iloc_spec_grammar.specs.Syntax.{Identifier, Fields, identifier_pieces, optional_pieces}
+use Rattle.iloc_spec_grammar.specs.Syntax.{fields_pieces, kept, lower_singleton, AllDifferent, IsPrivate}
+use Rattle.iloc_spec_grammar.specs.Tree.{Extension, unicode, transform, other, Written, extension_pieces}
+use Rattle.iloc_spec_grammar.specs.Tree.{extension_block, block_pieces, blocks_of, spelling, IsExtension}
+use Rattle.iloc_spec_grammar.specs.Tree.{IsWritten, unicode_part, transform_part, private_part, other_part}
+use Rattle.iloc_spec_grammar.specs.Tree.{by_singleton, meaning, IsTreeWellFormed, private_form, printed}
+use Rattle.iloc_spec_grammar.specs.Tree.{tree_text, spelled_transform, spelled_unicode}
+use Rattle.iloc_spec_grammar.specs.Meaning.{normal_identifier, normal_fields, normal_unicode}
+use Rattle.iloc_spec_grammar.specs.Meaning.{normal_transform}
 use Rattle.iloc_spec_grammar.specs.Values.{IsValue, lower_identifier, spelled_fields}
-use Rattle.iloc_spec_grammar.specs.TreeSteps.{TreeRule, Repeats, Trues, DroppedPieces, VariantOrder, AttributeOrder, FieldOrder, TreeIdentifierStep, ExtensionStep, Step, written}
+use Rattle.iloc_spec_grammar.specs.TreeSteps.{TreeRule, Repeats, Trues, DroppedPieces, VariantOrder}
+use Rattle.iloc_spec_grammar.specs.TreeSteps.{AttributeOrder, FieldOrder, TreeIdentifierStep, ExtensionStep}
+use Rattle.iloc_spec_grammar.specs.TreeSteps.{Step, written}
 use Rattle.iloc_spec_grammar.proofs.WordsLaws.{lower-lower}
 use Rattle.iloc_spec_grammar.proofs.MapLaws.{find-map_of, to_T}
 use Rattle.iloc_spec_grammar.proofs.ValuesLaws.{lower_twice, length-spelled_fields, same_identifier, all_both}
@@ -21,9 +33,15 @@ use Rattle.iloc_spec_grammar.proofs.ReadBack as back
 use Rattle.iloc_spec_grammar.proofs.WellRead.{written_value, written_well_formed}
 use Rattle.iloc_spec_grammar.proofs.Orders.{all_reordered}
 use Rattle.iloc_spec_grammar.proofs.StepLaws.{written_step, extension_step}
-use Rattle.iloc_spec_grammar.proofs.CaseLaws.{low, low_fields, low_extension, low_entry, low_entries, low_block, low_written}
+use Rattle.iloc_spec_grammar.proofs.CaseLaws.{low, low_fields, low_extension, low_entry, low_entries}
+use Rattle.iloc_spec_grammar.proofs.CaseLaws.{low_block, low_written}
 use Rattle.iloc_spec_grammar.proofs.Sorting.{sort, reordered-sort, sorted-sort}
-use Rattle.iloc_spec_grammar.proofs.Canonical.{sort_identifier, without_repeats, without_trues, without_dropped, with_sorted_variants, with_sorted_attributes, with_sorted_fields, repeats_step, trues_step, dropped_step, variant_order_step, attribute_order_step, field_order_step, identifier_order_step, keys_differ_then, IsCanonical, canonical, canonical_identifier}
+use Rattle.iloc_spec_grammar.proofs.Canonical.{sort_identifier, without_repeats, without_trues}
+use Rattle.iloc_spec_grammar.proofs.Canonical.{without_dropped, with_sorted_variants, with_sorted_attributes}
+use Rattle.iloc_spec_grammar.proofs.Canonical.{with_sorted_fields, repeats_step, trues_step, dropped_step}
+use Rattle.iloc_spec_grammar.proofs.Canonical.{variant_order_step, attribute_order_step, field_order_step}
+use Rattle.iloc_spec_grammar.proofs.Canonical.{identifier_order_step, keys_differ_then, IsCanonical}
+use Rattle.iloc_spec_grammar.proofs.Canonical.{canonical, canonical_identifier}
 use Rattle.iloc_spec_grammar.proofs.Singletons.{untied, find_holds}
 use Rattle.iloc_spec_grammar.proofs.General.{cond-map, map-then, option_map-then, zip_map, all_mapped}
 use Rattle.std.proofs.lemmas.Simd.{map-map}
@@ -33,24 +51,34 @@ use Rattle.iloc_spec_grammar.proofs.PartTexts.{identifier_pieces-low, option_to_
 
 fields_pieces-low : (fs : Fields) → fields_pieces (low_fields fs) ≡ low (fields_pieces fs)
 fields_pieces-low [] = refl
-fields_pieces-low (f ∷ fs) = ap (λ l. (lower f.0 ∷ low f.1) ++ l) (fields_pieces-low fs) ∙ sym (map-append lower (f.0 ∷ f.1) (fields_pieces fs))
+fields_pieces-low (f ∷ fs) = ap (λ l. (lower f.0 ∷ low f.1) ++ l) (fields_pieces-low fs)
+    ∙ sym (map-append lower (f.0 ∷ f.1) (fields_pieces fs))
 
 extension_pieces-low : (e : Extension) → extension_pieces (low_extension e) ≡ low (extension_pieces e)
-extension_pieces-low (unicode u) = ap (λ l. low u.attributes ++ l) (fields_pieces-low u.keywords) ∙ sym (map-append lower u.attributes (fields_pieces u.keywords))
-extension_pieces-low (transform m) = (λ k. id_pieces-low m.id k ++ fields_pieces-low m.fields k) ∙ sym (map-append lower (optional_pieces m.id) (fields_pieces m.fields))
+extension_pieces-low (unicode u) = ap (λ l. low u.attributes ++ l) (fields_pieces-low u.keywords)
+    ∙ sym (map-append lower u.attributes (fields_pieces u.keywords))
+extension_pieces-low (transform m) = (λ k. id_pieces-low m.id k ++ fields_pieces-low m.fields k)
+    ∙ sym (map-append lower (optional_pieces m.id) (fields_pieces m.fields))
 extension_pieces-low (other ps) = refl
 
-blocks-low : (bs : List (ℕ × List (List ℕ))) → flat_map block_pieces (map low_block bs) ≡ low (flat_map block_pieces bs)
+blocks-low : (bs : List (ℕ × List (List ℕ))) →
+    flat_map block_pieces (map low_block bs) ≡ low (flat_map block_pieces bs)
 unfolding lower
 blocks-low [] = refl
-blocks-low (b ∷ bs) = ap (λ l. (lower (b.0 ∷ []) ∷ low b.1) ++ l) (blocks-low bs) ∙ sym (map-append lower (block_pieces b) (flat_map block_pieces bs))
+blocks-low (b ∷ bs) = ap (λ l. (lower (b.0 ∷ []) ∷ low b.1) ++ l) (blocks-low bs)
+    ∙ sym (map-append lower (block_pieces b) (flat_map block_pieces bs))
 
-entries-low : (es : List (ℕ × Extension)) → map extension_block (low_entries es) ≡ map low_block (map extension_block es)
-entries-low es = map-map extension_block low_entry es ∙ (λ k. map (λ e. (to_ascii_lowercase e.0, extension_pieces-low e.1 k)) es) ∙ sym (map-map low_block extension_block es)
+entries-low : (es : List (ℕ × Extension)) →
+    map extension_block (low_entries es) ≡ map low_block (map extension_block es)
+entries-low es = map-map extension_block low_entry es
+    ∙ (λ k. map (λ e. (to_ascii_lowercase e.0, extension_pieces-low e.1 k)) es)
+    ∙ sym (map-map low_block extension_block es)
 
 spelling-low : (w : Written) → spelling (low_written w) ≡ low (spelling w)
-spelling-low w = (λ k. identifier_pieces-low w.id k ++ flat_map block_pieces (entries-low w.extensions k ++ option_to_list-map low_block w.private k))
-    ∙ ap (λ bs. low (identifier_pieces w.id) ++ flat_map block_pieces bs) (sym (map-append low_block (map extension_block w.extensions) (option_to_list w.private)))
+spelling-low w = (λ k. identifier_pieces-low w.id k
+    ++ flat_map block_pieces (entries-low w.extensions k ++ option_to_list-map low_block w.private k))
+    ∙ ap (λ bs. low (identifier_pieces w.id) ++ flat_map block_pieces bs)
+    (sym (map-append low_block (map extension_block w.extensions) (option_to_list w.private)))
     ∙ ap (λ l. low (identifier_pieces w.id) ++ l) (blocks-low (blocks_of w))
     ∙ sym (map-append lower (identifier_pieces w.id) (flat_map block_pieces (blocks_of w)))
 
@@ -58,43 +86,64 @@ pub lower-join : (ps : List (List ℕ)) → lower (join ps) ≡ join (low ps)
 unfolding join lower
 lower-join [] = refl
 lower-join (p ∷ []) = refl
-lower-join (p ∷ q ∷ ps) = map-append to_ascii_lowercase p (45 ∷ join (q ∷ ps)) ∙ ap (λ l. lower p ++ 45 ∷ l) (lower-join (q ∷ ps))
+lower-join (p ∷ q ∷ ps) =
+    map-append to_ascii_lowercase p (45 ∷ join (q ∷ ps)) ∙ ap (λ l. lower p ++ 45 ∷ l) (lower-join (q ∷ ps))
 
-same_text : (v w : Written) → low_written v ≡ low_written w → lower (join (spelling v)) ≡ lower (join (spelling w))
-same_text v w e = lower-join (spelling v) ∙ ap join (sym (spelling-low v) ∙ ap spelling e ∙ spelling-low w) ∙ sym (lower-join (spelling w))
+same_text : (v w : Written) → low_written v ≡ low_written w →
+    lower (join (spelling v)) ≡ lower (join (spelling w))
+same_text v w e = lower-join (spelling v) ∙ ap join (sym (spelling-low v) ∙ ap spelling e ∙ spelling-low w)
+    ∙ sym (lower-join (spelling w))
 
 -- lower case twice
 
 identifier_twice : (i : SpelledIdentifier) → lower_identifier (lower_identifier i) ≡ lower_identifier i
-identifier_twice i = same_identifier _ _ _ _ _ _ _ _ (lower-lower i.language) (option_map-then lower lower lower lower-lower i.script) (option_map-then lower lower lower lower-lower i.region) (lower_twice i.variants)
+identifier_twice i = same_identifier _ _ _ _ _ _ _ _ (lower-lower i.language)
+    (option_map-then lower lower lower lower-lower i.script)
+    (option_map-then lower lower lower lower-lower i.region) (lower_twice i.variants)
 
 fields_twice : (fs : Fields) → low_fields (low_fields fs) ≡ low_fields fs
-fields_twice fs = map-then (λ f. (lower f.0, low f.1)) (λ f. (lower f.0, low f.1)) (λ f. (lower f.0, low f.1)) (λ f i. (lower-lower f.0 i, lower_twice f.1 i)) fs
+fields_twice fs = map-then (λ f. (lower f.0, low f.1)) (λ f. (lower f.0, low f.1)) (λ f. (lower f.0, low f.1))
+    (λ f i. (lower-lower f.0 i, lower_twice f.1 i)) fs
 
 extension_twice : (e : Extension) → low_extension (low_extension e) ≡ low_extension e
-extension_twice (unicode u) = λ k. unicode (record { attributes = lower_twice u.attributes k; keywords = fields_twice u.keywords k })
-extension_twice (transform m) = λ k. transform (record { id = option_map-then lower_identifier lower_identifier lower_identifier identifier_twice m.id k; fields = fields_twice m.fields k })
+extension_twice (unicode u) =
+    λ k. unicode (record { attributes = lower_twice u.attributes k; keywords = fields_twice u.keywords k })
+extension_twice (transform m) = λ k. transform (record {
+  id = option_map-then lower_identifier lower_identifier lower_identifier identifier_twice m.id k;
+  fields = fields_twice m.fields k;
+})
 extension_twice (other ps) = ap other (lower_twice ps)
 
 entries_twice : (es : List (ℕ × Extension)) → low_entries (low_entries es) ≡ low_entries es
-entries_twice es = map-then low_entry low_entry low_entry (λ e k. (lowercase-lowercase e.0 k, extension_twice e.1 k)) es
+entries_twice es =
+    map-then low_entry low_entry low_entry (λ e k. (lowercase-lowercase e.0 k, extension_twice e.1 k)) es
 
 -- what is looked up in a text in order, and in its printed form
 
 abbrev Fine : (ℕ → Bool) → ℕ → Extension → Type 0
 Fine T c e = IsExtension T c e × IsCanonical e
 
-find_entries : (q : ℕ) (es : List (ℕ × Extension)) → find nat_cmp q (low_entries es) ≡ option_map low_extension (find nat_cmp q (by_singleton es))
+find_entries : (q : ℕ) (es : List (ℕ × Extension)) →
+    find nat_cmp q (low_entries es) ≡ option_map low_extension (find nat_cmp q (by_singleton es))
 find_entries q [] = refl
 find_entries q (e ∷ es) = cond-map (option_map low_extension) _ _ refl refl (find_entries q es)
 
-unicode_found : (T : ℕ → Bool) (o : Option Extension) → IfSome o (Fine T 117) → cond (nat_lt 0 (length (unicode_part o).attributes + length (unicode_part o).keywords)) (Some (unicode (spelled_unicode (unicode_part o)))) None ≡ option_map low_extension o
+unicode_found : (T : ℕ → Bool) (o : Option Extension) → IfSome o (Fine T 117) →
+    cond (nat_lt 0 (length (unicode_part o).attributes + length (unicode_part o).keywords))
+    (Some (unicode (spelled_unicode (unicode_part o)))) None
+    ≡ option_map low_extension o
 unicode_found T None h = refl
 unicode_found T (Some (unicode u)) h =
-    let lowered : SpelledUnicode = record { attributes = low u.attributes; keywords = low_fields u.keywords } in
+    let lowered : SpelledUnicode =
+    record { attributes = low u.attributes; keywords = low_fields u.keywords } in
     let same : spelled_unicode (normal_unicode u) ≡ lowered = cc h.1 in
-    let n : 0 < length (low u.attributes) + length (low_fields u.keywords) = let a = length-map u.attributes lower in let b : length (low_fields u.keywords) ≡ length u.keywords = length-map u.keywords _ in let p = h.0.1.nonempty in omega arith in
-    ap (λ (v : SpelledUnicode). cond (nat_lt 0 (length v.attributes + length v.keywords)) (Some (unicode v)) None) same ∙ ap (λ b. cond b (Some (unicode lowered)) None) (lt-ltb 0 _ n)
+    let n : 0 < length (low u.attributes) + length (low_fields u.keywords) =
+    let a = length-map u.attributes lower in
+    let b : length (low_fields u.keywords) ≡ length u.keywords = length-map u.keywords _ in
+    let p = h.0.1.nonempty in omega arith in
+    ap (λ (v : SpelledUnicode).
+    cond (nat_lt 0 (length v.attributes + length v.keywords)) (Some (unicode v)) None) same
+    ∙ ap (λ b. cond b (Some (unicode lowered)) None) (lt-ltb 0 _ n)
 unicode_found T (Some (transform m)) h = absurd (let k = h.0.0 in omega arith)
 unicode_found T (Some (other ps)) h = absurd (true≢false (sym h.0.0))
 
@@ -106,43 +155,77 @@ id_absent : (o : Option SpelledIdentifier) → option_map normal_identifier o �
 id_absent None e = refl
 id_absent (Some i) e = cc
 
-transform_found : (T : ℕ → Bool) (o : Option Extension) → IfSome o (Fine T 116) → cond (is_some (transform_part o).id || nat_lt 0 (length (transform_part o).fields)) (Some (transform (spelled_transform (transform_part o)))) None ≡ option_map low_extension o
+transform_found : (T : ℕ → Bool) (o : Option Extension) → IfSome o (Fine T 116) →
+    cond (is_some (transform_part o).id || nat_lt 0 (length (transform_part o).fields))
+    (Some (transform (spelled_transform (transform_part o)))) None
+    ≡ option_map low_extension o
 transform_found T None h = refl
 transform_found T (Some (transform m)) h =
-    let lowered : SpelledTransform = record { id = option_map lower_identifier m.id; fields = low_fields m.fields } in
+    let lowered : SpelledTransform =
+    record { id = option_map lower_identifier m.id; fields = low_fields m.fields } in
     let same : spelled_transform (normal_transform m) ≡ lowered = cc h.1 in
-    let a : length (spelled_fields (normal_fields m.fields)) ≡ length (low_fields m.fields) = ap (λ (n : SpelledTransform). length n.fields) same in
+    let a : length (spelled_fields (normal_fields m.fields)) ≡ length (low_fields m.fields) =
+    ap (λ (n : SpelledTransform). length n.fields) same in
     let b : length (low_fields m.fields) ≡ length m.fields = length-map m.fields _ in
-    let c : length (spelled_fields (normal_fields m.fields)) ≡ length (normal_fields m.fields) = length-spelled_fields (normal_fields m.fields) in
-    ap (λ b. cond b (Some (transform (spelled_transform (normal_transform m)))) None) (needed (option_map normal_identifier m.id) (length (normal_fields m.fields)) (λ e. let p = h.0.1.nonempty (id_absent m.id e) in omega arith))
+    let c : length (spelled_fields (normal_fields m.fields)) ≡ length (normal_fields m.fields) =
+    length-spelled_fields (normal_fields m.fields) in
+    ap (λ b. cond b (Some (transform (spelled_transform (normal_transform m)))) None)
+    (needed (option_map normal_identifier m.id) (length (normal_fields m.fields))
+    (λ e. let p = h.0.1.nonempty (id_absent m.id e) in omega arith))
     ∙ ap Some h.1
 transform_found T (Some (unicode u)) h = absurd (let k = h.0.0 in omega arith)
 transform_found T (Some (other ps)) h = absurd (true≢false (sym h.0.0))
 
-others_found : (T : ℕ → Bool) (q : ℕ) → q ≢ 116 → q ≢ 117 → (es : List (ℕ × Extension)) → AllByRecursion (λ e. Fine T (lower_singleton e) e.1) es → option_map other (find nat_cmp q (filter_map other_part (by_singleton es))) ≡ option_map low_extension (find nat_cmp q (by_singleton es))
+others_found : (T : ℕ → Bool) (q : ℕ) → q ≢ 116 → q ≢ 117 → (es : List (ℕ × Extension)) →
+    AllByRecursion (λ e. Fine T (lower_singleton e) e.1) es →
+    option_map other (find nat_cmp q (filter_map other_part (by_singleton es)))
+    ≡ option_map low_extension (find nat_cmp q (by_singleton es))
 others_found T q t u [] h = refl
 others_found T q t u (e ∷ es) h = at_kind e.1 h.0 (others_found T q t u es h.1)
   where
-    at_kind : (x : Extension) → Fine T (lower_singleton e) x → option_map other (find nat_cmp q (filter_map other_part (by_singleton es))) ≡ option_map low_extension (find nat_cmp q (by_singleton es)) → option_map other (find nat_cmp q (filter_map other_part ((lower_singleton e, x) ∷ by_singleton es))) ≡ option_map low_extension (find nat_cmp q ((lower_singleton e, x) ∷ by_singleton es))
-    at_kind (unicode v) f rest = rest ∙ ap (λ b. option_map low_extension (cond b (Some (unicode v)) (find nat_cmp q (by_singleton es)))) (sym (untied q (lower_singleton e) (λ k. u (sym k ∙ f.0.0))))
-    at_kind (transform m) f rest = rest ∙ ap (λ b. option_map low_extension (cond b (Some (transform m)) (find nat_cmp q (by_singleton es)))) (sym (untied q (lower_singleton e) (λ k. t (sym k ∙ f.0.0))))
-    at_kind (other ps) f rest = elim (eq_by_cmp nat_cmp q (lower_singleton e)) as (λ b. option_map other (cond b (Some (kept ps)) (find nat_cmp q (filter_map other_part (by_singleton es)))) ≡ option_map low_extension (cond b (Some (other ps)) (find nat_cmp q (by_singleton es)))) [ true ↦ ap (λ l. Some (other l)) f.1 | false ↦ rest ]
+    at_kind : (x : Extension) → Fine T (lower_singleton e) x →
+        option_map other (find nat_cmp q (filter_map other_part (by_singleton es)))
+        ≡ option_map low_extension (find nat_cmp q (by_singleton es)) →
+        option_map other (find nat_cmp q (filter_map other_part ((lower_singleton e, x) ∷ by_singleton es)))
+        ≡ option_map low_extension (find nat_cmp q ((lower_singleton e, x) ∷ by_singleton es))
+    at_kind (unicode v) f rest = rest
+        ∙ ap (λ b. option_map low_extension (cond b (Some (unicode v)) (find nat_cmp q (by_singleton es))))
+        (sym (untied q (lower_singleton e) (λ k. u (sym k ∙ f.0.0))))
+    at_kind (transform m) f rest = rest
+        ∙ ap (λ b. option_map low_extension (cond b (Some (transform m)) (find nat_cmp q (by_singleton es))))
+        (sym (untied q (lower_singleton e) (λ k. t (sym k ∙ f.0.0))))
+    at_kind (other ps) f rest = elim (eq_by_cmp nat_cmp q (lower_singleton e))
+        as (λ b.
+        option_map other (cond b (Some (kept ps)) (find nat_cmp q (filter_map other_part (by_singleton es))))
+        ≡ option_map low_extension (cond b (Some (other ps)) (find nat_cmp q (by_singleton es))))
+        [ true ↦ ap (λ l. Some (other l)) f.1 | false ↦ rest ]
 
 -- a text in order differs from its printed form in case alone
 
-private_printed : (x : Option (ℕ × List (List ℕ))) → IfSome x (λ e. (lower_singleton e ≡ 120) × IsPrivate e.1) → option_map low_block x ≡ option_map low_block (private_form (private_part x))
+private_printed : (x : Option (ℕ × List (List ℕ))) →
+    IfSome x (λ e. (lower_singleton e ≡ 120) × IsPrivate e.1) →
+    option_map low_block x ≡ option_map low_block (private_form (private_part x))
 private_printed None h = refl
 private_printed (Some e) h = at_words e.1 h.1.nonempty
   where
-    at_words : (ps : List (List ℕ)) → 0 < length ps → Some (to_ascii_lowercase e.0, low ps) ≡ option_map low_block (private_form (low ps))
+    at_words : (ps : List (List ℕ)) → 0 < length ps →
+        Some (to_ascii_lowercase e.0, low ps) ≡ option_map low_block (private_form (low ps))
     at_words [] n = absurd (omega arith)
     at_words (p ∷ ps) n = λ k. Some (h.0 k, sym (lower_twice (p ∷ ps)) k)
 
-ending : (T : ℕ → Bool) (w : Written) → IsWritten T w → AllByRecursion (λ e. IsCanonical e.1) w.extensions → is_sorted nat_cmp (low_entries w.extensions) ≡ true → lower_identifier (normal_identifier w.id) ≡ lower_identifier w.id → low_written w ≡ low_written (printed (meaning w))
-ending T w h c s i = λ k. record { id = sym i k; extensions = (sym (entries_twice w.extensions) ∙ ap low_entries same) k; private = private_printed w.private h.private k }
+ending : (T : ℕ → Bool) (w : Written) → IsWritten T w → AllByRecursion (λ e. IsCanonical e.1) w.extensions →
+    is_sorted nat_cmp (low_entries w.extensions) ≡ true →
+    lower_identifier (normal_identifier w.id) ≡ lower_identifier w.id →
+    low_written w ≡ low_written (printed (meaning w))
+ending T w h c s i = λ k. record {
+  id = sym i k;
+  extensions = (sym (entries_twice w.extensions) ∙ ap low_entries same) k;
+  private = private_printed w.private h.private k;
+}
   where
     fine : AllByRecursion (λ e. Fine T (lower_singleton e) e.1) w.extensions
-    fine = all_both (λ e. IsExtension T (lower_singleton e) e.1) (λ e. IsCanonical e.1) w.extensions h.extensions c
+    fine = all_both (λ e. IsExtension T (lower_singleton e) e.1) (λ e. IsCanonical e.1) w.extensions
+        h.extensions c
 
     v : IsValue T (meaning w)
     v = written_value w h
@@ -150,13 +233,28 @@ ending T w h c s i = λ k. record { id = sym i k; extensions = (sym (entries_twi
     g : IsTreeWellFormed (meaning w)
     g = written_well_formed w h
 
-    at : (q : ℕ) → (q ≡ 116) ⊎ (q ≡ 116 → ⊥) → (q ≡ 117) ⊎ (q ≡ 117 → ⊥) → find nat_cmp q (low_entries w.extensions) ≡ find nat_cmp q (printed (meaning w)).extensions
-    at q (inl e) u = subst (λ (q : ℕ). find nat_cmp q (low_entries w.extensions) ≡ find nat_cmp q (printed (meaning w)).extensions) (sym e) (find_entries 116 w.extensions ∙ sym (transform_found T (find nat_cmp 116 (by_singleton w.extensions)) (find_holds (Fine T) 116 w.extensions fine)) ∙ sym (back.printed_t (meaning w) v g))
-    at q (inr t) (inl e) = subst (λ (q : ℕ). find nat_cmp q (low_entries w.extensions) ≡ find nat_cmp q (printed (meaning w)).extensions) (sym e) (find_entries 117 w.extensions ∙ sym (unicode_found T (find nat_cmp 117 (by_singleton w.extensions)) (find_holds (Fine T) 117 w.extensions fine)) ∙ sym (back.printed_u (meaning w) v g))
-    at q (inr t) (inr u) = find_entries q w.extensions ∙ sym (others_found T q t u w.extensions fine) ∙ ap (option_map other) (sym (find-map_of nat_cmp nat_cmp_total q (filter_map other_part (by_singleton w.extensions)))) ∙ sym (back.printed_other (meaning w) v g q t u)
+    at : (q : ℕ) → (q ≡ 116) ⊎ (q ≡ 116 → ⊥) → (q ≡ 117) ⊎ (q ≡ 117 → ⊥) →
+        find nat_cmp q (low_entries w.extensions) ≡ find nat_cmp q (printed (meaning w)).extensions
+    at q (inl e) u = subst (λ (q : ℕ).
+        find nat_cmp q (low_entries w.extensions) ≡ find nat_cmp q (printed (meaning w)).extensions)
+        (sym e) (find_entries 116 w.extensions
+        ∙ sym (transform_found T (find nat_cmp 116 (by_singleton w.extensions))
+        (find_holds (Fine T) 116 w.extensions fine))
+        ∙ sym (back.printed_t (meaning w) v g))
+    at q (inr t) (inl e) = subst (λ (q : ℕ).
+        find nat_cmp q (low_entries w.extensions) ≡ find nat_cmp q (printed (meaning w)).extensions)
+        (sym e) (find_entries 117 w.extensions
+        ∙ sym (unicode_found T (find nat_cmp 117 (by_singleton w.extensions))
+        (find_holds (Fine T) 117 w.extensions fine))
+        ∙ sym (back.printed_u (meaning w) v g))
+    at q (inr t) (inr u) = find_entries q w.extensions ∙ sym (others_found T q t u w.extensions fine)
+        ∙ ap (option_map other)
+        (sym (find-map_of nat_cmp nat_cmp_total q (filter_map other_part (by_singleton w.extensions))))
+        ∙ sym (back.printed_other (meaning w) v g q t u)
 
     same : low_entries w.extensions ≡ (printed (meaning w)).extensions
-    same = same_entries nat_cmp nat_cmp_total nat_cmp-IsAntisymmetric _ _ (to_T _ s) (to_T _ (back.printed_in_order (meaning w) v g)) (λ q. at q (cases_eq q 116) (cases_eq q 117))
+    same = same_entries nat_cmp nat_cmp_total nat_cmp-IsAntisymmetric _ _ (to_T _ s)
+        (to_T _ (back.printed_in_order (meaning w) v g)) (λ q. at q (cases_eq q 116) (cases_eq q 117))
 
 -- the chain
 
@@ -164,7 +262,10 @@ abbrev at_all : (Extension → Extension) → List (ℕ × Extension) → List (
 at_all f es = map (λ e. (e.0, f e.1)) es
 
 -- one rule at each extension, from one stage to the next
-stage : (T : ℕ → Bool) (r : TreeRule) (f g : Extension → Extension) → ((c : ℕ) (e : Extension) → IsExtension T c e → ExtensionStep r (f e) (g e)) → (es : List (ℕ × Extension)) → AllByRecursion (λ e. IsExtension T (lower_singleton e) e.1) es → AllZip (λ e g. (e.0 ≡ g.0) × ExtensionStep r e.1 g.1) (at_all f es) (at_all g es)
+stage : (T : ℕ → Bool) (r : TreeRule) (f g : Extension → Extension) →
+    ((c : ℕ) (e : Extension) → IsExtension T c e → ExtensionStep r (f e) (g e)) →
+    (es : List (ℕ × Extension)) → AllByRecursion (λ e. IsExtension T (lower_singleton e) e.1) es →
+    AllZip (λ e g. (e.0 ≡ g.0) × ExtensionStep r e.1 g.1) (at_all f es) (at_all g es)
 stage T r f g s [] h = tt
 stage T r f g s (e ∷ es) h = ((refl, s (lower_singleton e) e.1 h.0), stage T r f g s es h.1)
 
@@ -174,7 +275,8 @@ Steps zero v w = v ≡ w
 Steps (suc n) v w = (u : Written) × Step v u × Steps n u w
 
 -- they keep the rules and the meaning
-steps_keep : (T : ℕ → Bool) (n : ℕ) (v w : Written) → IsWritten T v → Steps n v w → IsWritten T w × (meaning w ≡ meaning v)
+steps_keep : (T : ℕ → Bool) (n : ℕ) (v w : Written) → IsWritten T v → Steps n v w →
+    IsWritten T w × (meaning w ≡ meaning v)
 steps_keep T zero v w h s = (subst (IsWritten T) s h, ap meaning (sym s))
 steps_keep T (suc n) v w h s =
     let p = written_step T s.1 h in
@@ -201,22 +303,29 @@ seven_steps T w h =
     let end = written i (sort nat_cmp key (at_all f6 es)) x in
     let steps : Steps 7 w end = (
       written w.id (at_all without_repeats es) x,
-      Step.inside Repeats TreeIdentifierStep.same (zip_map _ (λ e. IsExtension T (lower_singleton e) e.1) (λ e. (e.0, without_repeats e.1)) (λ e _. (refl, repeats_step e.1)) es h.extensions),
+      Step.inside Repeats TreeIdentifierStep.same (zip_map _ (λ e. IsExtension T (lower_singleton e) e.1)
+          (λ e. (e.0, without_repeats e.1)) (λ e _. (refl, repeats_step e.1)) es h.extensions),
       (
         written w.id (at_all f2 es) x,
-        Step.inside Trues TreeIdentifierStep.same (stage T Trues without_repeats f2 (λ c e k. trues_step T c (without_repeats e) (extension_step T c (repeats_step e) k).0) es h.extensions),
+        Step.inside Trues TreeIdentifierStep.same (stage T Trues without_repeats f2
+            (λ c e k. trues_step T c (without_repeats e) (extension_step T c (repeats_step e) k).0) es
+            h.extensions),
         (
           written w.id (at_all f3 es) x,
-          Step.inside DroppedPieces TreeIdentifierStep.same (stage T DroppedPieces f2 f3 (λ c e _. dropped_step (f2 e)) es h.extensions),
+          Step.inside DroppedPieces TreeIdentifierStep.same
+              (stage T DroppedPieces f2 f3 (λ c e _. dropped_step (f2 e)) es h.extensions),
           (
             written i (at_all f4 es) x,
-            Step.inside VariantOrder (identifier_order_step w.id) (stage T VariantOrder f3 f4 (λ c e _. variant_order_step (f3 e)) es h.extensions),
+            Step.inside VariantOrder (identifier_order_step w.id)
+                (stage T VariantOrder f3 f4 (λ c e _. variant_order_step (f3 e)) es h.extensions),
             (
               written i (at_all f5 es) x,
-              Step.inside AttributeOrder TreeIdentifierStep.same (stage T AttributeOrder f4 f5 (λ c e _. attribute_order_step (f4 e)) es h.extensions),
+              Step.inside AttributeOrder TreeIdentifierStep.same
+                  (stage T AttributeOrder f4 f5 (λ c e _. attribute_order_step (f4 e)) es h.extensions),
               (
                 written i (at_all f6 es) x,
-                Step.inside FieldOrder TreeIdentifierStep.same (stage T FieldOrder f5 f6 (λ c e _. field_order_step (f5 e) (keys_differ_then e)) es h.extensions),
+                Step.inside FieldOrder TreeIdentifierStep.same (stage T FieldOrder f5 f6
+                    (λ c e _. field_order_step (f5 e) (keys_differ_then e)) es h.extensions),
                 (
                   end,
                   Step.block_order sorted,
@@ -229,7 +338,14 @@ seven_steps T w h =
       ),
     ) in
     let after = steps_keep T 7 w end h steps in
-    let canonicals = all_mapped (λ e. IsExtension T (lower_singleton e) e.1) (λ e. IsCanonical e.1) (λ e. (e.0, f6 e.1)) (λ e k. canonical T (lower_singleton e) e.1 k) es h.extensions in
+    let canonicals = all_mapped (λ e. IsExtension T (lower_singleton e) e.1) (λ e. IsCanonical e.1)
+    (λ e. (e.0, f6 e.1)) (λ e k. canonical T (lower_singleton e) e.1 k) es h.extensions in
     let different = subst (AllDifferent nat_cmp) (sym (map-map key (λ e. (e.0, f6 e.1)) es)) h.different in
-    let same = ending T end after.0 (all_reordered (λ (e : ℕ × Extension). IsCanonical e.1) sorted canonicals) (sorted-sort nat_cmp key nat_cmp_total (λ e. low_extension e.1) (at_all f6 es) different) (canonical_identifier w.id h.id.different) in
-    record { end = end; steps = steps; same = same_text end (printed (meaning end)) same ∙ ap (λ N. lower (tree_text N)) after.1 }
+    let same = ending T end after.0 (all_reordered (λ (e : ℕ × Extension). IsCanonical e.1) sorted canonicals)
+    (sorted-sort nat_cmp key nat_cmp_total (λ e. low_extension e.1) (at_all f6 es) different)
+    (canonical_identifier w.id h.id.different) in
+    record {
+      end = end;
+      steps = steps;
+      same = same_text end (printed (meaning end)) same ∙ ap (λ N. lower (tree_text N)) after.1;
+    }

@@ -23,20 +23,28 @@ pub means_again : {T : ℕ → Bool} → AreLengths T → (t : List ℕ) (M : Lo
 means_again table t M m = (well_formed_in table M (means_a_value t M m)).1 (means_tests t M m)
 
 -- a value that passes the tests is well-formed
-pub well_formed_value : {T : ℕ → Bool} → AreLengths T → (M : Locale) → IsValue T M → IsTreeWellFormed M → IsWellFormed M
+pub well_formed_value : {T : ℕ → Bool} → AreLengths T → (M : Locale) → IsValue T M → IsTreeWellFormed M →
+    IsWellFormed M
 well_formed_value table M h g = (well_formed_is M (value_wider (table_in_ours table) M h)).1 g
 
-pub read_well_formed : {T : ℕ → Bool} → AreLengths T → (t : List ℕ) (M : Locale) → Means T t M → IsWellFormed M
+pub read_well_formed : {T : ℕ → Bool} → AreLengths T → (t : List ℕ) (M : Locale) → Means T t M →
+    IsWellFormed M
 read_well_formed table t M m = well_formed_value table M (means_a_value t M m) (means_tests t M m)
 
 -- the text of a well-formed value means it over each table whose value it is
-pub reads_back : {T : ℕ → Bool} → AreLengths T → (M : Locale) → IsValue T M → IsWellFormed M → Means T (text M) M
+pub reads_back : {T : ℕ → Bool} → AreLengths T → (M : Locale) → IsValue T M → IsWellFormed M →
+    Means T (text M) M
 reads_back table M h g = (well_formed_in table M h).1 (means_tests (text M) M g)
 
 -- well-formed values with one text are one value
 pub same_text_same_value : (L M : Locale) → IsWellFormed L → IsWellFormed M → text L ≡ text M → L ≡ M
-same_text_same_value L M a b e = one_meaning languages_table (text M) L M (subst (λ (t : List ℕ). Means languages t L) e a) b
+same_text_same_value L M a b e =
+    one_meaning languages_table (text M) L M (subst (λ (t : List ℕ). Means languages t L) e a) b
 
 -- two accepted texts mean the same exactly where their printed texts are equal
-pub same_meaning : (T : ℕ → Bool) → AreLengths T → (t u : List ℕ) (L M : Locale) → Means T t L → Means T u M → (L ≡ M) ↔ (text L ≡ text M)
-same_meaning T table t u L M a b = (λ e. ap text e, λ e. same_text_same_value L M (read_well_formed table t L a) (read_well_formed table u M b) e)
+pub same_meaning : (T : ℕ → Bool) → AreLengths T → (t u : List ℕ) (L M : Locale) → Means T t L → Means T u M →
+    (L ≡ M) ↔ (text L ≡ text M)
+same_meaning T table t u L M a b = (
+  λ e. ap text e,
+  λ e. same_text_same_value L M (read_well_formed table t L a) (read_well_formed table u M b) e,
+)

@@ -1,28 +1,36 @@
 -- Worked examples, computed by the plain program.
 use Rattle.std.proofs.lemmas.Bool.{both_ways}
 use Rattle.std.proofs.Common.{◌≡◌, ℕ, List, [], ◌∷◌, refl, codes, Result, Ok, Err, arith, true≢false, None}
-use Rattle.iloc_spec_grammar.specs.Syntax.{pieces, join, is_word, lower, upper, title, is_true, languages, SpelledIdentifier, Identifier}
+use Rattle.iloc_spec_grammar.specs.Syntax.{pieces, join, is_word, lower, upper, title, is_true, languages}
+use Rattle.iloc_spec_grammar.specs.Syntax.{SpelledIdentifier, Identifier}
 use Rattle.iloc_spec_grammar.specs.Tree.{transform}
 use Rattle.iloc_spec_grammar.specs.Meaning.{Locale, Fault}
 use Rattle.iloc_spec_grammar.specs.Values.{TextStep, extensions_spelling, identifier_text}
-use Rattle.iloc_spec_grammar.specs.TreeSteps.{TreeWithout, keys_differ, Trues, TreeIdentifierStep, ExtensionStep, Step, TreeTextStep}
+use Rattle.iloc_spec_grammar.specs.TreeSteps.{TreeWithout, keys_differ, Trues, TreeIdentifierStep}
+use Rattle.iloc_spec_grammar.specs.TreeSteps.{ExtensionStep, Step, TreeTextStep}
 use Rattle.iloc_spec_grammar.specs.Reading.{identifier_of, front_of, unicode_of, transform_of, written_of}
-use Rattle.iloc_spec_grammar.specs.Computing.{locale_result, computed_text, identifier_result, identifier_text_of}
+use Rattle.iloc_spec_grammar.specs.Computing.{locale_result, computed_text, identifier_result}
+use Rattle.iloc_spec_grammar.specs.Computing.{identifier_text_of}
 use Rattle.iloc_spec_grammar.specs.Examples.{Normalises, IsRefused, NormalisesIdentifier, IsRefusedIdentifier}
 use Rattle.iloc_spec_grammar.proofs.RawLaws.{languages_table}
 use Rattle.iloc_spec_grammar.proofs.SameSteps.{step_by_tree}
-use Rattle.iloc_spec_grammar.proofs.ComputingLaws.{computed_means, computed_fault, computed_identifier, computed_identifier_fault}
+use Rattle.iloc_spec_grammar.proofs.ComputingLaws.{computed_means, computed_fault, computed_identifier}
+use Rattle.iloc_spec_grammar.proofs.ComputingLaws.{computed_identifier_fault}
 
 -- what the program answers, as a text
 unfoldable pub answer : List ℕ → Result (List ℕ) Fault
-unfolding locale_result extensions_spelling written_of unicode_of transform_of identifier_of front_of pieces join is_word lower upper title is_true languages
+unfolding locale_result extensions_spelling written_of unicode_of transform_of identifier_of front_of pieces
+    join is_word lower upper title is_true languages
 answer t = computed_text (locale_result languages t)
 
-normalises_from : (t u : List ℕ) (r : Result Locale Fault) → locale_result languages t ≡ r → computed_text r ≡ Ok u → Normalises t u
-normalises_from t u (Ok M) e h = record { value = M; means = (computed_means languages languages_table t M).0 e; printed = cc }
+normalises_from : (t u : List ℕ) (r : Result Locale Fault) → locale_result languages t ≡ r →
+    computed_text r ≡ Ok u → Normalises t u
+normalises_from t u (Ok M) e h =
+    record { value = M; means = (computed_means languages languages_table t M).0 e; printed = cc }
 normalises_from t u (Err f) e h = cc
 
-refused_from : (t : List ℕ) (f : Fault) (r : Result Locale Fault) → locale_result languages t ≡ r → computed_text r ≡ Err f → IsRefused t f
+refused_from : (t : List ℕ) (f : Fault) (r : Result Locale Fault) → locale_result languages t ≡ r →
+    computed_text r ≡ Err f → IsRefused t f
 refused_from t f (Ok M) e h = cc
 refused_from t f (Err g) e h = (computed_fault languages languages_table t f).0 cc
 
@@ -40,11 +48,14 @@ unfoldable pub identifier_answer : List ℕ → Result (List ℕ) Fault
 unfolding identifier_text identifier_of pieces join is_word lower upper title languages
 identifier_answer t = identifier_text_of (identifier_result languages (pieces t))
 
-identifier_from : (t u : List ℕ) (r : Result Identifier Fault) → identifier_result languages (pieces t) ≡ r → identifier_text_of r ≡ Ok u → NormalisesIdentifier t u
-identifier_from t u (Ok i) e h = record { value = i; means = (computed_identifier languages t i).0 e; printed = cc }
+identifier_from : (t u : List ℕ) (r : Result Identifier Fault) → identifier_result languages (pieces t) ≡ r →
+    identifier_text_of r ≡ Ok u → NormalisesIdentifier t u
+identifier_from t u (Ok i) e h =
+    record { value = i; means = (computed_identifier languages t i).0 e; printed = cc }
 identifier_from t u (Err f) e h = cc
 
-no_identifier_from : (t : List ℕ) (f : Fault) (r : Result Identifier Fault) → identifier_result languages (pieces t) ≡ r → identifier_text_of r ≡ Err f → IsRefusedIdentifier t f
+no_identifier_from : (t : List ℕ) (f : Fault) (r : Result Identifier Fault) →
+    identifier_result languages (pieces t) ≡ r → identifier_text_of r ≡ Err f → IsRefusedIdentifier t f
 no_identifier_from t f (Ok i) e h = cc
 no_identifier_from t f (Err g) e h = (computed_identifier_fault languages t f).0 cc
 
@@ -61,23 +72,57 @@ refused_identifier t f h = no_identifier_from t f (identifier_result languages (
 abbrev und : SpelledIdentifier
 und = record { language = codes "und"; script = None; region = None; variants = [] }
 
-pub same_key_in_two_cases : keys_differ ((codes "ca", codes "foo" ∷ []) ∷ (codes "CA", codes "bar" ∷ []) ∷ []) → ⊥
+pub same_key_in_two_cases : keys_differ
+    ((codes "ca", codes "foo" ∷ []) ∷ (codes "CA", codes "bar" ∷ []) ∷ []) → ⊥
 unfolding lower
 same_key_in_two_cases d = d.0 refl
 
 one_true_of_tree : TreeTextStep languages (codes "und-t-m0-true-true") (codes "und-t-m0-true")
 unfolding pieces join is_word lower is_true languages
 one_true_of_tree = TreeTextStep.rewritten
-    {v = record { id = und; extensions = (116, transform (record { id = None; fields = (codes "m0", codes "true" ∷ codes "true" ∷ []) ∷ [] })) ∷ []; private = None }}
-    {w = record { id = und; extensions = (116, transform (record { id = None; fields = (codes "m0", codes "true" ∷ []) ∷ [] })) ∷ []; private = None }}
+    {v = record {
+      id = und;
+      extensions = (
+        116,
+        transform (record { id = None; fields = (codes "m0", codes "true" ∷ codes "true" ∷ []) ∷ [] }),
+      )
+          ∷ [];
+      private = None;
+    }}
+    {w = record {
+      id = und;
+      extensions =
+          (116, transform (record { id = None; fields = (codes "m0", codes "true" ∷ []) ∷ [] })) ∷ [];
+      private = None;
+    }}
     (record {
-      id = record { words = record { language = refl; script = tt; region = tt; variants = tt }; different = tt };
-      extensions = ((refl, record { id = tt; fields = ((refl, (refl, (refl, tt)), omega arith), tt); nonempty = λ e. omega arith }), tt);
+      id = record {
+        words = record { language = refl; script = tt; region = tt; variants = tt };
+        different = tt;
+      };
+      extensions = (
+        (
+          refl,
+          record {
+            id = tt;
+            fields = ((refl, (refl, (refl, tt)), omega arith), tt);
+            nonempty = λ e. omega arith;
+          },
+        ),
+        tt,
+      );
       different = (both_ways _ refl, tt);
       private = tt;
     })
     refl
-    (Step.inside Trues TreeIdentifierStep.same ((refl, ExtensionStep.transform_trues (((refl, TreeWithout.stays (TreeWithout.left_out refl TreeWithout.none)), omega arith), tt)), tt))
+    (Step.inside Trues TreeIdentifierStep.same (
+      (
+        refl,
+        ExtensionStep.transform_trues
+            (((refl, TreeWithout.stays (TreeWithout.left_out refl TreeWithout.none)), omega arith), tt),
+      ),
+      tt,
+    ))
 
 pub one_true_stays : TextStep languages (codes "und-t-m0-true-true") (codes "und-t-m0-true")
 one_true_stays = step_by_tree languages_table _ _ one_true_of_tree

@@ -1,21 +1,32 @@
 -- The words of an identifier can be told apart: each spelling has one reading.
-use Rattle.std.proofs.Common.{◌≡◌, ℕ, Bool, true, false, cond, List, [], ◌∷◌, ◌++◌, refl, sym, ap, ◌∙◌, Option, Some, None, IfSome, option_to_list}
+use Rattle.std.proofs.Common.{◌≡◌, ℕ, Bool, true, false, cond, List, [], ◌∷◌, ◌++◌, refl, sym, ap, ◌∙◌}
+use Rattle.std.proofs.Common.{Option, Some, None, IfSome, option_to_list}
 use Rattle.std.specs.List.{AllByRecursion}
-use Rattle.iloc_spec_grammar.specs.Syntax.{Script, Region, Variant, is_word, IsWord, SpelledIdentifier, Identifier, identifier_pieces, HasWords}
+use Rattle.iloc_spec_grammar.specs.Syntax.{Script, Region, Variant, is_word, IsWord, SpelledIdentifier}
+use Rattle.iloc_spec_grammar.specs.Syntax.{Identifier, identifier_pieces, HasWords}
 use Rattle.iloc_spec_grammar.specs.Reading.{take_first, skip_first, identifier_of}
 use Rattle.iloc_spec_grammar.specs.Meaning.{IdentifierMeans, normal_identifier}
 use Rattle.iloc_spec_grammar.proofs.WordsLaws.{region_no_script, variant_no_script, variant_no_region}
 
-pub all_pieces : (test : List ℕ → Bool) (ps : List (List ℕ)) → option_to_list (take_first test ps) ++ skip_first test ps ≡ ps
+pub all_pieces : (test : List ℕ → Bool) (ps : List (List ℕ)) →
+    option_to_list (take_first test ps) ++ skip_first test ps ≡ ps
 all_pieces test [] = refl
-all_pieces test (p ∷ ps) = elim (test p) as (λ b. option_to_list (cond b (Some p) None) ++ cond b ps (p ∷ ps) ≡ p ∷ ps) [ true ↦ refl | false ↦ refl ]
+all_pieces test (p ∷ ps) =
+    elim (test p) as (λ b. option_to_list (cond b (Some p) None) ++ cond b ps (p ∷ ps) ≡ p ∷ ps)
+    [ true ↦ refl | false ↦ refl ]
 
 -- reading loses nothing
-pub pieces-identifier_of : (p : List ℕ) (ps : List (List ℕ)) → identifier_pieces (identifier_of (p ∷ ps)) ≡ p ∷ ps
+pub pieces-identifier_of : (p : List ℕ) (ps : List (List ℕ)) →
+    identifier_pieces (identifier_of (p ∷ ps)) ≡ p ∷ ps
 unfolding identifier_of
-pieces-identifier_of p ps = ap (λ qs. p ∷ (option_to_list (take_first (is_word Script) ps) ++ qs)) (all_pieces (is_word Region) (skip_first (is_word Script) ps)) ∙ ap (λ qs. p ∷ qs) (all_pieces (is_word Script) ps)
+pieces-identifier_of p ps = ap (λ qs. p ∷ (option_to_list (take_first (is_word Script) ps) ++ qs))
+    (all_pieces (is_word Region) (skip_first (is_word Script) ps))
+    ∙ ap (λ qs. p ∷ qs) (all_pieces (is_word Script) ps)
 
-pub read_words : (l : List ℕ) (s r : Option (List ℕ)) (vs : List (List ℕ)) → IfSome s (IsWord Script) → IfSome r (IsWord Region) → AllByRecursion (IsWord Variant) vs → identifier_of (l ∷ (option_to_list s ++ (option_to_list r ++ vs))) ≡ record { language = l; script = s; region = r; variants = vs }
+pub read_words : (l : List ℕ) (s r : Option (List ℕ)) (vs : List (List ℕ)) → IfSome s (IsWord Script) →
+    IfSome r (IsWord Region) → AllByRecursion (IsWord Variant) vs →
+    identifier_of (l ∷ (option_to_list s ++ (option_to_list r ++ vs)))
+    ≡ record { language = l; script = s; region = r; variants = vs }
 unfolding identifier_of
 read_words l None None [] hs hr hv = refl
 read_words l None None (v ∷ vs) hs hr hv = rw (variant_no_script v hv.0, variant_no_region v hv.0)
@@ -25,11 +36,17 @@ read_words l (Some s) None (v ∷ vs) hs hr hv = rw (hs, variant_no_region v hv.
 read_words l (Some s) (Some r) vs hs hr hv = rw (hs, hr)
 
 -- what is spelled is read
-pub identifier_of-pieces : {T : ℕ → Bool} (i : SpelledIdentifier) → HasWords T i → identifier_of (identifier_pieces i) ≡ i
+pub identifier_of-pieces : {T : ℕ → Bool} (i : SpelledIdentifier) → HasWords T i →
+    identifier_of (identifier_pieces i) ≡ i
 identifier_of-pieces i h = read_words i.language i.script i.region i.variants h.script h.region h.variants
 
-pub one_identifier : {T : ℕ → Bool} (i j : SpelledIdentifier) → HasWords T i → HasWords T j → identifier_pieces i ≡ identifier_pieces j → i ≡ j
+pub one_identifier : {T : ℕ → Bool} (i j : SpelledIdentifier) → HasWords T i → HasWords T j →
+    identifier_pieces i ≡ identifier_pieces j → i ≡ j
 one_identifier i j h k e = sym (identifier_of-pieces i h) ∙ ap identifier_of e ∙ identifier_of-pieces j k
 
-pub one_meaning : {T : ℕ → Bool} (ps : List (List ℕ)) (a b : Identifier) → IdentifierMeans T ps a → IdentifierMeans T ps b → a ≡ b
-one_meaning ps a b x y = x.means ∙ ap normal_identifier (one_identifier x.written y.written x.grammatical.words y.grammatical.words (sym x.spelled ∙ y.spelled)) ∙ sym y.means
+pub one_meaning : {T : ℕ → Bool} (ps : List (List ℕ)) (a b : Identifier) → IdentifierMeans T ps a →
+    IdentifierMeans T ps b → a ≡ b
+one_meaning ps a b x y = x.means
+    ∙ ap normal_identifier
+    (one_identifier x.written y.written x.grammatical.words y.grammatical.words (sym x.spelled ∙ y.spelled))
+    ∙ sym y.means

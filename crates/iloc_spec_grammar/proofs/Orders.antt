@@ -1,5 +1,6 @@
 -- Lists in another order: how one is reached, and what stays. Lists without some items: what stays.
-use Rattle.std.proofs.Common.{◌≡◌, ℕ, suc, ◌+◌, ◌≤◌, Bool, true, false, cond, ◌||◌, List, [], ◌∷◌, ◌++◌, length, map, filter, refl, sym, ap, ◌∙◌, arith, Some, true≢false, le_refl}
+use Rattle.std.proofs.Common.{◌≡◌, ℕ, suc, ◌+◌, ◌≤◌, Bool, true, false, cond, ◌||◌, List, [], ◌∷◌, ◌++◌}
+use Rattle.std.proofs.Common.{length, map, filter, refl, sym, ap, ◌∙◌, arith, Some, true≢false, le_refl}
 use Rattle.std.specs.List.{AllByRecursion, list_any, AllZip}
 use Rattle.std.specs.Ordering.{eq_by_cmp}
 use Rattle.std.specs.Cmp.{IsTotalOrder, eq_by_cmp_equiv}
@@ -13,13 +14,15 @@ use Rattle.iloc_spec_grammar.specs.TreeSteps.{TreeWithout, WithoutRepeats}
 use Rattle.iloc_spec_grammar.proofs.MapLaws.{map_of_same, word_cmp_total, same_words}
 use Rattle.std.proofs.lemmas.Map.Steps.{list_any_congr}
 
-pub all_reordered : {X : Type 0} (P : X → Type 0) {xs ys : List X} → Reordered xs ys → AllByRecursion P xs → AllByRecursion P ys
+pub all_reordered : {X : Type 0} (P : X → Type 0) {xs ys : List X} → Reordered xs ys → AllByRecursion P xs →
+    AllByRecursion P ys
 all_reordered P Reordered.none h = tt
 all_reordered P (Reordered.front_kept r) h = (h.0, all_reordered P r h.1)
 all_reordered P Reordered.first_two h = (h.1.0, (h.0, h.1.1))
 all_reordered P (Reordered.in_turn r s) h = all_reordered P s (all_reordered P r h)
 
-pub map_reordered : {X Y : Type 0} (f : X → Y) {xs ys : List X} → Reordered xs ys → Reordered (map f xs) (map f ys)
+pub map_reordered : {X Y : Type 0} (f : X → Y) {xs ys : List X} → Reordered xs ys →
+    Reordered (map f xs) (map f ys)
 map_reordered f Reordered.none = Reordered.none
 map_reordered f (Reordered.front_kept r) = Reordered.front_kept (map_reordered f r)
 map_reordered f Reordered.first_two = Reordered.first_two
@@ -36,11 +39,13 @@ turned Reordered.first_two = Reordered.first_two
 turned (Reordered.in_turn r s) = Reordered.in_turn (turned s) (turned r)
 
 -- the same list before both, and behind both
-pub reordered_before : {X : Type 0} (zs : List X) {xs ys : List X} → Reordered xs ys → Reordered (zs ++ xs) (zs ++ ys)
+pub reordered_before : {X : Type 0} (zs : List X) {xs ys : List X} → Reordered xs ys →
+    Reordered (zs ++ xs) (zs ++ ys)
 reordered_before [] r = r
 reordered_before (z ∷ zs) r = Reordered.front_kept (reordered_before zs r)
 
-pub reordered_after : {X : Type 0} (zs : List X) {xs ys : List X} → Reordered xs ys → Reordered (xs ++ zs) (ys ++ zs)
+pub reordered_after : {X : Type 0} (zs : List X) {xs ys : List X} → Reordered xs ys →
+    Reordered (xs ++ zs) (ys ++ zs)
 reordered_after zs Reordered.none = itself zs
 reordered_after zs (Reordered.front_kept r) = Reordered.front_kept (reordered_after zs r)
 reordered_after zs Reordered.first_two = Reordered.first_two
@@ -61,100 +66,155 @@ length_reordered (Reordered.front_kept r) = ap suc (length_reordered r)
 length_reordered Reordered.first_two = refl
 length_reordered (Reordered.in_turn r s) = length_reordered r ∙ length_reordered s
 
-pub filter_reordered : {X : Type 0} (test : X → Bool) {xs ys : List X} → Reordered xs ys → Reordered (filter test xs) (filter test ys)
+pub filter_reordered : {X : Type 0} (test : X → Bool) {xs ys : List X} → Reordered xs ys →
+    Reordered (filter test xs) (filter test ys)
 filter_reordered test Reordered.none = Reordered.none
-filter_reordered test (Reordered.front_kept {x = x} {xs = xs} {ys = ys} r) = at (test x) (filter_reordered test r)
+filter_reordered test (Reordered.front_kept {x = x} {xs = xs} {ys = ys} r) =
+    at (test x) (filter_reordered test r)
   where
-    at : (a : Bool) → Reordered (filter test xs) (filter test ys) → Reordered (cond a (x ∷ filter test xs) (filter test xs)) (cond a (x ∷ filter test ys) (filter test ys))
+    at : (a : Bool) → Reordered (filter test xs) (filter test ys) →
+        Reordered (cond a (x ∷ filter test xs) (filter test xs))
+        (cond a (x ∷ filter test ys) (filter test ys))
     at true s = Reordered.front_kept s
     at false s = s
 filter_reordered test (Reordered.first_two {x = x} {y = y} {xs = xs}) = at (test x) (test y)
   where
-    at : (a b : Bool) → Reordered (cond a (x ∷ cond b (y ∷ filter test xs) (filter test xs)) (cond b (y ∷ filter test xs) (filter test xs))) (cond b (y ∷ cond a (x ∷ filter test xs) (filter test xs)) (cond a (x ∷ filter test xs) (filter test xs)))
+    at : (a b : Bool) →
+        Reordered
+        (cond a (x ∷ cond b (y ∷ filter test xs) (filter test xs))
+        (cond b (y ∷ filter test xs) (filter test xs))) (cond b
+        (y ∷ cond a (x ∷ filter test xs) (filter test xs)) (cond a (x ∷ filter test xs) (filter test xs)))
     at true true = Reordered.first_two
     at true false = itself (x ∷ filter test xs)
     at false b = itself (cond b (y ∷ filter test xs) (filter test xs))
-filter_reordered test (Reordered.in_turn r s) = Reordered.in_turn (filter_reordered test r) (filter_reordered test s)
+filter_reordered test (Reordered.in_turn r s) =
+    Reordered.in_turn (filter_reordered test r) (filter_reordered test s)
 
 pub or_swap : (a b c : Bool) → (a || (b || c)) ≡ (b || (a || c))
 or_swap true true c = refl
 or_swap true false c = refl
 or_swap false b c = refl
 
-pub any_reordered : {X : Type 0} (test : X → Bool) {xs ys : List X} → Reordered xs ys → list_any test xs ≡ list_any test ys
+pub any_reordered : {X : Type 0} (test : X → Bool) {xs ys : List X} → Reordered xs ys →
+    list_any test xs ≡ list_any test ys
 any_reordered test Reordered.none = refl
 any_reordered test (Reordered.front_kept {x = x} r) = ap (λ b. test x || b) (any_reordered test r)
-any_reordered test (Reordered.first_two {x = x} {y = y} {xs = xs}) = or_swap (test x) (test y) (list_any test xs)
+any_reordered test (Reordered.first_two {x = x} {y = y} {xs = xs}) =
+    or_swap (test x) (test y) (list_any test xs)
 any_reordered test (Reordered.in_turn r s) = any_reordered test r ∙ any_reordered test s
 
-pub different_reordered : {X : Type 0} (R : X → X → Ordering) → IsTotalOrder R → {xs ys : List X} → Reordered xs ys → AllDifferent R xs → AllDifferent R ys
+pub different_reordered : {X : Type 0} (R : X → X → Ordering) → IsTotalOrder R → {xs ys : List X} →
+    Reordered xs ys → AllDifferent R xs → AllDifferent R ys
 different_reordered R o Reordered.none h = tt
-different_reordered R o (Reordered.front_kept {x = x} r) h = (both_ways _ (sym (any_reordered (eq_by_cmp R x) r) ∙ false_from_ne_true _ h.0), different_reordered R o r h.1)
-different_reordered R o (Reordered.first_two {x = x} {y = y}) h = let parts = or_parts _ _ (false_from_ne_true _ h.0) in (both_ways _ (or_from _ _ ((eq_by_cmp_equiv o).symm y x ∙ parts.0) (false_from_ne_true _ h.1.0)), (both_ways _ parts.1, h.1.1))
+different_reordered R o (Reordered.front_kept {x = x} r) h = (
+  both_ways _ (sym (any_reordered (eq_by_cmp R x) r) ∙ false_from_ne_true _ h.0),
+  different_reordered R o r h.1,
+)
+different_reordered R o (Reordered.first_two {x = x} {y = y}) h =
+    let parts = or_parts _ _ (false_from_ne_true _ h.0) in (
+      both_ways _ (or_from _ _ ((eq_by_cmp_equiv o).symm y x ∙ parts.0) (false_from_ne_true _ h.1.0)),
+      (both_ways _ parts.1, h.1.1),
+    )
 different_reordered R o (Reordered.in_turn r s) h = different_reordered R o s (different_reordered R o r h)
 
 -- a test that holds of one of two that differ fails at the other
-apart : {K : Type 0} (R : K → K → Ordering) → IsTotalOrder R → (q x y : K) → eq_by_cmp R x y ≡ false → eq_by_cmp R q x ≡ true → eq_by_cmp R q y ≡ false
+apart : {K : Type 0} (R : K → K → Ordering) → IsTotalOrder R → (q x y : K) → eq_by_cmp R x y ≡ false →
+    eq_by_cmp R q x ≡ true → eq_by_cmp R q y ≡ false
 apart R o q x y d t = sym ((eq_by_cmp_equiv o).congr x q y ((eq_by_cmp_equiv o).symm x q ∙ t)) ∙ d
 
-swap_conds : {A : Type 0} (a b : Bool) (x y z : A) → (a ≡ true → b ≡ false) → cond a x (cond b y z) ≡ cond b y (cond a x z)
+swap_conds : {A : Type 0} (a b : Bool) (x y z : A) → (a ≡ true → b ≡ false) →
+    cond a x (cond b y z) ≡ cond b y (cond a x z)
 swap_conds true true x y z h = absurd (true≢false (h refl))
 swap_conds true false x y z h = refl
 swap_conds false b x y z h = refl
 
-pub find_reordered : {K X : Type 0} (R : K → K → Ordering) → IsTotalOrder R → (q : K) → {es fs : List (K × X)} → Reordered es fs → AllDifferent R (map (λ e. e.0) es) → find R q es ≡ find R q fs
+pub find_reordered : {K X : Type 0} (R : K → K → Ordering) → IsTotalOrder R → (q : K) →
+    {es fs : List (K × X)} → Reordered es fs → AllDifferent R (map (λ e. e.0) es) → find R q es ≡ find R q fs
 find_reordered R o q Reordered.none h = refl
-find_reordered R o q (Reordered.front_kept {x = x} r) h = ap (cond (eq_by_cmp R q x.0) (Some x.1)) (find_reordered R o q r h.1)
-find_reordered R o q (Reordered.first_two {x = x} {y = y}) h = swap_conds (eq_by_cmp R q x.0) (eq_by_cmp R q y.0) _ _ _ (apart R o q x.0 y.0 (or_parts _ _ (false_from_ne_true _ h.0)).0)
-find_reordered R o q (Reordered.in_turn r s) h = find_reordered R o q r h ∙ find_reordered R o q s (different_reordered R o (map_reordered (λ e. e.0) r) h)
+find_reordered R o q (Reordered.front_kept {x = x} r) h =
+    ap (cond (eq_by_cmp R q x.0) (Some x.1)) (find_reordered R o q r h.1)
+find_reordered R o q (Reordered.first_two {x = x} {y = y}) h = swap_conds (eq_by_cmp R q x.0)
+    (eq_by_cmp R q y.0) _ _ _ (apart R o q x.0 y.0 (or_parts _ _ (false_from_ne_true _ h.0)).0)
+find_reordered R o q (Reordered.in_turn r s) h =
+    find_reordered R o q r h ∙ find_reordered R o q s (different_reordered R o (map_reordered (λ e. e.0) r) h)
 
 same_value : {A : Type 0} (a b : Bool) (x z : A) → cond a x (cond b x z) ≡ cond b x (cond a x z)
 same_value true true x z = refl
 same_value true false x z = refl
 same_value false b x z = refl
 
-marks_reordered : (q : List ℕ) {vs ws : List (List ℕ)} → Reordered vs ws → find word_cmp q (map (λ w. (w, tt {0})) vs) ≡ find word_cmp q (map (λ w. (w, tt {0})) ws)
+marks_reordered : (q : List ℕ) {vs ws : List (List ℕ)} → Reordered vs ws →
+    find word_cmp q (map (λ w. (w, tt {0})) vs) ≡ find word_cmp q (map (λ w. (w, tt {0})) ws)
 marks_reordered q Reordered.none = refl
-marks_reordered q (Reordered.front_kept {x = x} r) = ap (cond (eq_by_cmp word_cmp q x) (Some (tt {0}))) (marks_reordered q r)
-marks_reordered q (Reordered.first_two {x = x} {y = y}) = same_value (eq_by_cmp word_cmp q x) (eq_by_cmp word_cmp q y) _ _
+marks_reordered q (Reordered.front_kept {x = x} r) =
+    ap (cond (eq_by_cmp word_cmp q x) (Some (tt {0}))) (marks_reordered q r)
+marks_reordered q (Reordered.first_two {x = x} {y = y}) =
+    same_value (eq_by_cmp word_cmp q x) (eq_by_cmp word_cmp q y) _ _
 marks_reordered q (Reordered.in_turn r s) = marks_reordered q r ∙ marks_reordered q s
 
 -- a set has no order
 pub set_of_reordered : {vs ws : List (List ℕ)} → Reordered vs ws → set_of vs ≡ set_of ws
-set_of_reordered {vs = vs} {ws = ws} r = ap (map (λ (e : List ℕ × Unit {0}). e.0)) (map_of_same word_cmp word_cmp_total same_words (map (λ w. (w, tt {0})) vs) (map (λ w. (w, tt {0})) ws) (λ q. marks_reordered q r))
+set_of_reordered {vs = vs} {ws = ws} r =
+    ap (map (λ (e : List ℕ × Unit {0}). e.0)) (map_of_same word_cmp word_cmp_total same_words
+    (map (λ w. (w, tt {0})) vs) (map (λ w. (w, tt {0})) ws) (λ q. marks_reordered q r))
 
 -- the later of equal keys are never found
 
-not_tied : {K : Type 0} (R : K → K → Ordering) → IsTotalOrder R → (q x : K) (seen : List K) → list_any (eq_by_cmp R x) seen ≡ true → list_any (eq_by_cmp R q) seen ≡ false → eq_by_cmp R q x ≡ false
-not_tied R o q x seen h n = false_from_ne_true _ (λ e. both_ways _ n (list_any_congr (eq_by_cmp_equiv o) q x seen e ∙ h))
+not_tied : {K : Type 0} (R : K → K → Ordering) → IsTotalOrder R → (q x : K) (seen : List K) →
+    list_any (eq_by_cmp R x) seen ≡ true → list_any (eq_by_cmp R q) seen ≡ false → eq_by_cmp R q x ≡ false
+not_tied R o q x seen h n =
+    false_from_ne_true _ (λ e. both_ways _ n (list_any_congr (eq_by_cmp_equiv o) q x seen e ∙ h))
 
-pub find_repeats : {X Y : Type 0} (key : X → List ℕ) (value : X → Y) (q : List ℕ) {seen : List (List ℕ)} {xs ys : List X} → WithoutRepeats key seen xs ys → list_any (eq_by_cmp word_cmp q) seen ≡ false → find word_cmp q (map (λ x. (lower (key x), value x)) xs) ≡ find word_cmp q (map (λ x. (lower (key x), value x)) ys)
+pub find_repeats : {X Y : Type 0} (key : X → List ℕ) (value : X → Y) (q : List ℕ) {seen : List (List ℕ)}
+    {xs ys : List X} →
+    WithoutRepeats key seen xs ys → list_any (eq_by_cmp word_cmp q) seen ≡ false →
+    find word_cmp q (map (λ x. (lower (key x), value x)) xs)
+    ≡ find word_cmp q (map (λ x. (lower (key x), value x)) ys)
 find_repeats key value q WithoutRepeats.none n = refl
-find_repeats {X = X} {Y = Y} key value q (WithoutRepeats.stays {seen = seen} {x = x} {xs = xs} {ys = ys} r) n = at_test (eq_by_cmp word_cmp q (lower (key x))) refl (find_repeats key value q r)
+find_repeats {X = X} {Y = Y} key value q (WithoutRepeats.stays {seen = seen} {x = x} {xs = xs} {ys = ys} r)
+    n = at_test (eq_by_cmp word_cmp q (lower (key x))) refl (find_repeats key value q r)
   where
-    at_test : (b : Bool) → eq_by_cmp word_cmp q (lower (key x)) ≡ b → (list_any (eq_by_cmp word_cmp q) (lower (key x) ∷ seen) ≡ false → find word_cmp q (map (λ x. (lower (key x), value x)) xs) ≡ find word_cmp q (map (λ x. (lower (key x), value x)) ys)) → cond b (Some (value x)) (find word_cmp q (map (λ x. (lower (key x), value x)) xs)) ≡ cond b (Some (value x)) (find word_cmp q (map (λ x. (lower (key x), value x)) ys))
+    at_test : (b : Bool) → eq_by_cmp word_cmp q (lower (key x)) ≡ b →
+        (list_any (eq_by_cmp word_cmp q) (lower (key x) ∷ seen) ≡ false →
+        find word_cmp q (map (λ x. (lower (key x), value x)) xs)
+        ≡ find word_cmp q (map (λ x. (lower (key x), value x)) ys)) →
+        cond b (Some (value x)) (find word_cmp q (map (λ x. (lower (key x), value x)) xs))
+        ≡ cond b (Some (value x)) (find word_cmp q (map (λ x. (lower (key x), value x)) ys))
     at_test true e f = refl
     at_test false e f = f (or_from _ _ e n)
-find_repeats key value q (WithoutRepeats.left_out {seen = seen} {x = x} {xs = xs} h r) n = ap (λ b. cond b (Some (value x)) (find word_cmp q (map (λ x. (lower (key x), value x)) xs))) (not_tied word_cmp word_cmp_total q (lower (key x)) seen h n) ∙ find_repeats key value q r n
+find_repeats key value q (WithoutRepeats.left_out {seen = seen} {x = x} {xs = xs} h r) n =
+    ap (λ b. cond b (Some (value x)) (find word_cmp q (map (λ x. (lower (key x), value x)) xs)))
+    (not_tied word_cmp word_cmp_total q (lower (key x)) seen h n)
+    ∙ find_repeats key value q r n
 
-pub map_repeats : {X Y : Type 0} (key : X → List ℕ) (value : X → Y) {xs ys : List X} → WithoutRepeats key [] xs ys → map_of word_cmp (map (λ x. (lower (key x), value x)) xs) ≡ map_of word_cmp (map (λ x. (lower (key x), value x)) ys)
-map_repeats key value {xs = xs} {ys = ys} r = map_of_same word_cmp word_cmp_total same_words (map (λ x. (lower (key x), value x)) xs) (map (λ x. (lower (key x), value x)) ys) (λ q. find_repeats key value q r refl)
+pub map_repeats : {X Y : Type 0} (key : X → List ℕ) (value : X → Y) {xs ys : List X} →
+    WithoutRepeats key [] xs ys →
+    map_of word_cmp (map (λ x. (lower (key x), value x)) xs)
+    ≡ map_of word_cmp (map (λ x. (lower (key x), value x)) ys)
+map_repeats key value {xs = xs} {ys = ys} r =
+    map_of_same word_cmp word_cmp_total same_words (map (λ x. (lower (key x), value x)) xs)
+    (map (λ x. (lower (key x), value x)) ys) (λ q. find_repeats key value q r refl)
 
-pub all_repeats : {X : Type 0} (P : X → Type 0) (key : X → List ℕ) {seen : List (List ℕ)} {xs ys : List X} → WithoutRepeats key seen xs ys → AllByRecursion P xs → AllByRecursion P ys
+pub all_repeats : {X : Type 0} (P : X → Type 0) (key : X → List ℕ) {seen : List (List ℕ)} {xs ys : List X} →
+    WithoutRepeats key seen xs ys → AllByRecursion P xs → AllByRecursion P ys
 all_repeats P key WithoutRepeats.none h = tt
 all_repeats P key (WithoutRepeats.stays r) h = (h.0, all_repeats P key r h.1)
 all_repeats P key (WithoutRepeats.left_out e r) h = all_repeats P key r h.1
 
-pub all_without : {X : Type 0} (P : X → Type 0) (test : X → Bool) {xs ys : List X} → TreeWithout test xs ys → AllByRecursion P xs → AllByRecursion P ys
+pub all_without : {X : Type 0} (P : X → Type 0) (test : X → Bool) {xs ys : List X} → TreeWithout test xs ys →
+    AllByRecursion P xs → AllByRecursion P ys
 all_without P test TreeWithout.none h = tt
 all_without P test (TreeWithout.stays r) h = (h.0, all_without P test r h.1)
 all_without P test (TreeWithout.left_out e r) h = all_without P test r h.1
 
 -- a filter that drops what passes the test doesn't see what was left out
-pub filter_without : {X : Type 0} (test keep : X → Bool) → ((x : X) → test x ≡ true → keep x ≡ false) → {xs ys : List X} → TreeWithout test xs ys → filter keep xs ≡ filter keep ys
+pub filter_without : {X : Type 0} (test keep : X → Bool) → ((x : X) → test x ≡ true → keep x ≡ false) →
+    {xs ys : List X} → TreeWithout test xs ys → filter keep xs ≡ filter keep ys
 filter_without test keep f TreeWithout.none = refl
-filter_without test keep f (TreeWithout.stays {x = x} r) = ap (λ l. cond (keep x) (x ∷ l) l) (filter_without test keep f r)
-filter_without test keep f (TreeWithout.left_out {x = x} {xs = xs} e r) = ap (λ b. cond b (x ∷ filter keep xs) (filter keep xs)) (f x e) ∙ filter_without test keep f r
+filter_without test keep f (TreeWithout.stays {x = x} r) =
+    ap (λ l. cond (keep x) (x ∷ l) l) (filter_without test keep f r)
+filter_without test keep f (TreeWithout.left_out {x = x} {xs = xs} e r) =
+    ap (λ b. cond b (x ∷ filter keep xs) (filter keep xs)) (f x e) ∙ filter_without test keep f r
 
 -- sums over the items
 
@@ -172,17 +232,20 @@ total_reordered f (Reordered.front_kept {x = x} r) = ap (λ n. f x + n) (total_r
 total_reordered f Reordered.first_two = omega arith
 total_reordered f (Reordered.in_turn r s) = total_reordered f s ∙ total_reordered f r
 
-pub total_without : {X : Type 0} (f : X → ℕ) (test : X → Bool) {xs ys : List X} → TreeWithout test xs ys → total f ys ≤ total f xs
+pub total_without : {X : Type 0} (f : X → ℕ) (test : X → Bool) {xs ys : List X} → TreeWithout test xs ys →
+    total f ys ≤ total f xs
 total_without f test TreeWithout.none = le_refl 0
 total_without f test (TreeWithout.stays r) = let l = total_without f test r in omega arith
 total_without f test (TreeWithout.left_out e r) = let l = total_without f test r in omega arith
 
-pub total_repeats : {X : Type 0} (f : X → ℕ) (key : X → List ℕ) {seen : List (List ℕ)} {xs ys : List X} → WithoutRepeats key seen xs ys → total f ys ≤ total f xs
+pub total_repeats : {X : Type 0} (f : X → ℕ) (key : X → List ℕ) {seen : List (List ℕ)} {xs ys : List X} →
+    WithoutRepeats key seen xs ys → total f ys ≤ total f xs
 total_repeats f key WithoutRepeats.none = le_refl 0
 total_repeats f key (WithoutRepeats.stays r) = let l = total_repeats f key r in omega arith
 total_repeats f key (WithoutRepeats.left_out e r) = let l = total_repeats f key r in omega arith
 
-pub total_zip : {X : Type 0} (f : X → ℕ) (R : X → X → Type 0) → ((x y : X) → R x y → f y ≤ f x) → (xs ys : List X) → AllZip R xs ys → total f ys ≤ total f xs
+pub total_zip : {X : Type 0} (f : X → ℕ) (R : X → X → Type 0) → ((x y : X) → R x y → f y ≤ f x) →
+    (xs ys : List X) → AllZip R xs ys → total f ys ≤ total f xs
 total_zip f R g [] [] z = le_refl 0
 total_zip f R g (x ∷ xs) (y ∷ ys) z = let a = g x y z.0 in let b = total_zip f R g xs ys z.1 in omega arith
 total_zip f R g _ _ z = absurd z

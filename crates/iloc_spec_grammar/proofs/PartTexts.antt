@@ -1,12 +1,19 @@
 -- Texts of parts: the text of a locale is the join of its parts.
-use Rattle.std.proofs.Common.{◌≡◌, ℕ, ◌+◌, ◌<◌, ◌≤◌, arith, get_or, Bool, true, false, cond, ◌||◌, List, [], ◌∷◌, ◌++◌, length, map, flat_map, refl, sym, ap, ◌∙◌, Option, Some, None, option_map, option_to_list, is_some, nat_le, nat_lt, append_assoc, append-nil}
+use Rattle.std.proofs.Common.{◌≡◌, ℕ, ◌+◌, ◌<◌, ◌≤◌, arith, get_or, Bool, true, false, cond, ◌||◌, List, []}
+use Rattle.std.proofs.Common.{◌∷◌, ◌++◌, length, map, flat_map, refl, sym, ap, ◌∙◌, Option, Some, None}
+use Rattle.std.proofs.Common.{option_map, option_to_list, is_some, nat_le, nat_lt, append_assoc, append-nil}
 use Rattle.std.proofs.lemmas.Bool.{lt-ltb}
 use Rattle.std.proofs.lemmas.List.{map-append}
 use Rattle.std.proofs.lemmas.List.Concat.{flat_map-append}
-use Rattle.iloc_spec_grammar.specs.Syntax.{join, dashes, lower, Stage, IdentifierOf, Identifier, Unicode, Transform, Fields, identifier_pieces, optional_pieces, fields_pieces, unicode_pieces, transform_pieces}
+use Rattle.iloc_spec_grammar.specs.Syntax.{join, dashes, lower, Stage, IdentifierOf, Identifier, Unicode}
+use Rattle.iloc_spec_grammar.specs.Syntax.{Transform, Fields, identifier_pieces, optional_pieces}
+use Rattle.iloc_spec_grammar.specs.Syntax.{fields_pieces, unicode_pieces, transform_pieces}
 use Rattle.iloc_spec_grammar.specs.Tree.{before_t, after_t, spelled_transform}
 use Rattle.iloc_spec_grammar.specs.Meaning.{Locale, Extensions}
-use Rattle.iloc_spec_grammar.specs.Values.{lower_identifier, spelled_fields, printed_pieces, transform_block, before_above, text, unicode_spelling, transform_spelling, other_spelling, private_spelling, extensions_spelling, identifier_text}
+use Rattle.iloc_spec_grammar.specs.Values.{lower_identifier, spelled_fields, printed_pieces, transform_block}
+use Rattle.iloc_spec_grammar.specs.Values.{before_above, text, unicode_spelling, transform_spelling}
+use Rattle.iloc_spec_grammar.specs.Values.{other_spelling, private_spelling, extensions_spelling}
+use Rattle.iloc_spec_grammar.specs.Values.{identifier_text}
 
 -- joins
 
@@ -31,7 +38,8 @@ pub dashes-append : (ps qs : List (List ℕ)) → dashes (ps ++ qs) ≡ dashes p
 dashes-append ps qs = flat_map-append (λ (p : List ℕ). 45 ∷ p) ps qs
 
 pub join-append : (p : List ℕ) (ps qs : List (List ℕ)) → join ((p ∷ ps) ++ qs) ≡ join (p ∷ ps) ++ dashes qs
-join-append p ps qs = join-dashes p (ps ++ qs) ∙ ap (λ l. p ++ l) (dashes-append ps qs) ∙ sym (append_assoc p (dashes ps) (dashes qs)) ∙ ap (λ l. l ++ dashes qs) (sym (join-dashes p ps))
+join-append p ps qs = join-dashes p (ps ++ qs) ∙ ap (λ l. p ++ l) (dashes-append ps qs)
+    ∙ sym (append_assoc p (dashes ps) (dashes qs)) ∙ ap (λ l. l ++ dashes qs) (sym (join-dashes p ps))
 
 pub ruleset join_laws = (join-nothing, join-dashes, dashes-append, join-append)
 
@@ -42,15 +50,21 @@ text_of_parts M = join-append M.id.language _ (extensions_spelling M.extensions)
 
 -- the pieces of an identifier in lower case
 
-pub option_to_list-map : {X Y : Type 0} (f : X → Y) (o : Option X) → option_to_list (option_map f o) ≡ map f (option_to_list o)
+pub option_to_list-map : {X Y : Type 0} (f : X → Y) (o : Option X) →
+    option_to_list (option_map f o) ≡ map f (option_to_list o)
 option_to_list-map f None = refl
 option_to_list-map f (Some x) = refl
 
-pub identifier_pieces-low : {s : Stage} (i : IdentifierOf s) → identifier_pieces (lower_identifier i) ≡ map lower (identifier_pieces i)
-identifier_pieces-low i = (λ k. lower i.language ∷ (option_to_list-map lower i.script k ++ (option_to_list-map lower i.region k ++ map lower i.variants)))
-    ∙ ap (λ l. lower i.language ∷ l) (ap (λ l. map lower (option_to_list i.script) ++ l) (sym (map-append lower (option_to_list i.region) i.variants)) ∙ sym (map-append lower (option_to_list i.script) (option_to_list i.region ++ i.variants)))
+pub identifier_pieces-low : {s : Stage} (i : IdentifierOf s) →
+    identifier_pieces (lower_identifier i) ≡ map lower (identifier_pieces i)
+identifier_pieces-low i = (λ k. lower i.language
+    ∷ (option_to_list-map lower i.script k ++ (option_to_list-map lower i.region k ++ map lower i.variants)))
+    ∙ ap (λ l. lower i.language ∷ l) (ap (λ l. map lower (option_to_list i.script) ++ l)
+    (sym (map-append lower (option_to_list i.region) i.variants))
+    ∙ sym (map-append lower (option_to_list i.script) (option_to_list i.region ++ i.variants)))
 
-pub id_pieces-low : {s : Stage} (o : Option (IdentifierOf s)) → optional_pieces (option_map lower_identifier o) ≡ map lower (optional_pieces o)
+pub id_pieces-low : {s : Stage} (o : Option (IdentifierOf s)) →
+    optional_pieces (option_map lower_identifier o) ≡ map lower (optional_pieces o)
 id_pieces-low None = refl
 id_pieces-low (Some i) = identifier_pieces-low i
 
@@ -59,31 +73,46 @@ id_pieces-low (Some i) = identifier_pieces-low i
 there : (n : ℕ) (ps : List (List ℕ)) → 0 < n → ps ≡ cond (nat_lt 0 n) ps []
 there n ps l = ap (λ (b : Bool). cond b ps []) (sym (lt-ltb 0 n l))
 
-pub unicode_spelling_is : (u : Unicode) → unicode_spelling u ≡ cond (nat_lt 0 (length u.attributes + length u.keywords)) ((117 ∷ []) ∷ unicode_pieces u) []
+pub unicode_spelling_is : (u : Unicode) →
+    unicode_spelling u
+    ≡ cond (nat_lt 0 (length u.attributes + length u.keywords)) ((117 ∷ []) ∷ unicode_pieces u) []
 unfolding unicode_spelling
 unicode_spelling_is u = parts u.attributes u.keywords
   where
-    parts : (ws : List (List ℕ)) (ks : Fields) → printed_pieces (117, ws ++ fields_pieces ks) ≡ cond (nat_lt 0 (length ws + length ks)) ((117 ∷ []) ∷ (ws ++ fields_pieces ks)) []
+    parts : (ws : List (List ℕ)) (ks : Fields) →
+        printed_pieces (117, ws ++ fields_pieces ks)
+        ≡ cond (nat_lt 0 (length ws + length ks)) ((117 ∷ []) ∷ (ws ++ fields_pieces ks)) []
     parts [] [] = refl
     parts [] (k ∷ ks) = there (0 + length (k ∷ ks)) _ (omega arith)
     parts (w ∷ ws) ks = there (length (w ∷ ws) + length ks) _ (omega arith)
 
-pub transform_spelling_is : (m : Transform) → transform_spelling m ≡ cond (is_some m.id || nat_lt 0 (length m.fields)) ((116 ∷ []) ∷ transform_pieces (spelled_transform m)) []
+pub transform_spelling_is : (m : Transform) →
+    transform_spelling m
+    ≡ cond (is_some m.id || nat_lt 0 (length m.fields)) ((116 ∷ []) ∷ transform_pieces (spelled_transform m))
+    []
 unfolding transform_spelling
 transform_spelling_is m =
-    ap (λ ps. printed_pieces (116, ps ++ fields_pieces (spelled_fields m.fields))) (sym (id_pieces-low m.id)) ∙ parts m.id m.fields
+    ap (λ ps. printed_pieces (116, ps ++ fields_pieces (spelled_fields m.fields))) (sym (id_pieces-low m.id))
+    ∙ parts m.id m.fields
   where
-    parts : (o : Option Identifier) (fs : Fields) → printed_pieces (116, optional_pieces (option_map lower_identifier o) ++ fields_pieces (spelled_fields fs)) ≡ cond (is_some o || nat_lt 0 (length fs)) ((116 ∷ []) ∷ (optional_pieces (option_map lower_identifier o) ++ fields_pieces (spelled_fields fs))) []
+    parts : (o : Option Identifier) (fs : Fields) →
+        printed_pieces
+        (116, optional_pieces (option_map lower_identifier o) ++ fields_pieces (spelled_fields fs))
+        ≡ cond (is_some o || nat_lt 0 (length fs))
+        ((116 ∷ []) ∷ (optional_pieces (option_map lower_identifier o) ++ fields_pieces (spelled_fields fs)))
+        []
     parts None [] = refl
     parts None (f ∷ fs) = there (length (f ∷ fs)) _ (omega arith)
     parts (Some i) fs = refl
 
-pub other_spelling_is : (o : ℕ × List (List ℕ)) → other_spelling o ≡ cond (nat_lt 0 (length o.1)) ((o.0 ∷ []) ∷ o.1) []
+pub other_spelling_is : (o : ℕ × List (List ℕ)) →
+    other_spelling o ≡ cond (nat_lt 0 (length o.1)) ((o.0 ∷ []) ∷ o.1) []
 unfolding other_spelling
 other_spelling_is (c, []) = refl
 other_spelling_is (c, p ∷ ps) = there (length (p ∷ ps)) _ (omega arith)
 
-pub private_spelling_is : (w : List ℕ) (ws : List (List ℕ)) → private_spelling (w ∷ ws) ≡ (120 ∷ []) ∷ (w ∷ ws)
+pub private_spelling_is : (w : List ℕ) (ws : List (List ℕ)) →
+    private_spelling (w ∷ ws) ≡ (120 ∷ []) ∷ (w ∷ ws)
 unfolding private_spelling
 private_spelling_is w ws = refl
 
@@ -93,12 +122,21 @@ private_spelling_none = refl
 
 -- others up to `t`, the parts of `t` and `u`, and the others after it
 
-pub before_above_is : (bs os : List (ℕ × List (List ℕ))) → before_above bs os ≡ before_t os ++ (bs ++ after_t os)
+pub before_above_is : (bs os : List (ℕ × List (List ℕ))) →
+    before_above bs os ≡ before_t os ++ (bs ++ after_t os)
 before_above_is bs [] = sym (append-nil bs)
-before_above_is bs (o ∷ os) = elim (nat_le o.0 116) as (λ b. cond b (o ∷ before_above bs os) (bs ++ (o ∷ os)) ≡ cond b (o ∷ before_t os) [] ++ (bs ++ cond b (after_t os) (o ∷ os))) [ true ↦ ap (λ l. o ∷ l) (before_above_is bs os) | false ↦ refl ]
+before_above_is bs (o ∷ os) = elim (nat_le o.0 116)
+    as (λ b. cond b (o ∷ before_above bs os) (bs ++ (o ∷ os))
+    ≡ cond b (o ∷ before_t os) [] ++ (bs ++ cond b (after_t os) (o ∷ os)))
+    [ true ↦ ap (λ l. o ∷ l) (before_above_is bs os) | false ↦ refl ]
 
 -- the pieces of extensions whose others are split in two, the parts of `t` and `u` between them
-pub spelling_around : (e : Extensions) (before after : List (ℕ × List (List ℕ))) → ((bs : List (ℕ × List (List ℕ))) → before_above bs e.others ≡ before ++ (bs ++ after)) → extensions_spelling e ≡ flat_map other_spelling before ++ (transform_spelling e.transform ++ (unicode_spelling e.unicode ++ (flat_map other_spelling after ++ private_spelling e.private)))
+pub spelling_around : (e : Extensions) (before after : List (ℕ × List (List ℕ))) →
+    ((bs : List (ℕ × List (List ℕ))) → before_above bs e.others ≡ before ++ (bs ++ after)) →
+    extensions_spelling e
+    ≡ flat_map other_spelling before
+    ++ (transform_spelling e.transform
+    ++ (unicode_spelling e.unicode ++ (flat_map other_spelling after ++ private_spelling e.private)))
 unfolding extensions_spelling transform_spelling unicode_spelling other_spelling private_spelling
 spelling_around e before after split =
     let parts = transform_block e.transform ∷ (117, unicode_pieces e.unicode) ∷ [] in
@@ -109,7 +147,14 @@ spelling_around e before after split =
     ∙ (λ k. flat_map printed_pieces (split parts k) ++ append-nil x k)
     ∙ ap (λ l. l ++ x) (flat_map-append printed_pieces before (parts ++ after))
     ∙ append_assoc (flat_map printed_pieces before) (t ++ (u ++ flat_map printed_pieces after)) x
-    ∙ ap (λ l. flat_map printed_pieces before ++ l) (append_assoc t (u ++ flat_map printed_pieces after) x ∙ ap (λ l. t ++ l) (append_assoc u (flat_map printed_pieces after) x))
+    ∙ ap (λ l. flat_map printed_pieces before ++ l) (append_assoc t (u ++ flat_map printed_pieces after) x
+    ∙ ap (λ l. t ++ l) (append_assoc u (flat_map printed_pieces after) x))
 
-pub spelling_of_parts : (e : Extensions) → extensions_spelling e ≡ flat_map other_spelling (before_t e.others) ++ (transform_spelling e.transform ++ (unicode_spelling e.unicode ++ (flat_map other_spelling (after_t e.others) ++ private_spelling e.private)))
-spelling_of_parts e = spelling_around e (before_t e.others) (after_t e.others) (λ bs. before_above_is bs e.others)
+pub spelling_of_parts : (e : Extensions) →
+    extensions_spelling e
+    ≡ flat_map other_spelling (before_t e.others)
+    ++ (transform_spelling e.transform
+    ++ (unicode_spelling e.unicode
+    ++ (flat_map other_spelling (after_t e.others) ++ private_spelling e.private)))
+spelling_of_parts e =
+    spelling_around e (before_t e.others) (after_t e.others) (λ bs. before_above_is bs e.others)

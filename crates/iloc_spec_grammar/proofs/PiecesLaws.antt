@@ -1,5 +1,6 @@
 -- A text has exactly one list of pieces.
-use Rattle.std.proofs.Common.{All, arith, ◌≡◌, ◌≢◌, ℕ, Bool, true, false, cond, ◌==◌, List, [], ◌∷◌, ◌++◌, refl, sym, ap, ◌∙◌}
+use Rattle.std.proofs.Common.{All, arith, ◌≡◌, ◌≢◌, ℕ, Bool, true, false, cond, ◌==◌, List, [], ◌∷◌, ◌++◌}
+use Rattle.std.proofs.Common.{refl, sym, ap, ◌∙◌}
 use Rattle.std.specs.List.{slice_split, onto_first, list_any, AllByRecursion}
 use Rattle.std.proofs.lemmas.List.Splits.{join_with_byte-slice_split}
 use Rattle.std.proofs.lemmas.Bool.{or_parts, or_from, false_from_ne_true, cond_both}
@@ -10,15 +11,19 @@ use Rattle.iloc_spec_grammar.specs.Syntax.{pieces, join, IsHyphenFree, ArePieces
 abbrev hyphen : ℕ → Bool
 hyphen b = b == 45
 
-pieces_cut : (p rest : List ℕ) → IsHyphenFree p → slice_split hyphen (p ++ 45 ∷ rest) ≡ p ∷ slice_split hyphen rest
+pieces_cut : (p rest : List ℕ) → IsHyphenFree p →
+    slice_split hyphen (p ++ 45 ∷ rest) ≡ p ∷ slice_split hyphen rest
 pieces_cut [] rest h = refl
-pieces_cut (c ∷ p) rest h = let parts = or_parts (c == 45) (list_any hyphen p) h in rw (parts.0, pieces_cut p rest parts.1)
+pieces_cut (c ∷ p) rest h =
+    let parts = or_parts (c == 45) (list_any hyphen p) h in rw (parts.0, pieces_cut p rest parts.1)
 
 pieces_whole : (p : List ℕ) → IsHyphenFree p → slice_split hyphen p ≡ p ∷ []
 pieces_whole [] h = refl
-pieces_whole (c ∷ p) h = let parts = or_parts (c == 45) (list_any hyphen p) h in rw (parts.0, pieces_whole p parts.1)
+pieces_whole (c ∷ p) h =
+    let parts = or_parts (c == 45) (list_any hyphen p) h in rw (parts.0, pieces_whole p parts.1)
 
-pub pieces-join : (p : List ℕ) (ps : List (List ℕ)) → AllByRecursion IsHyphenFree (p ∷ ps) → pieces (join (p ∷ ps)) ≡ p ∷ ps
+pub pieces-join : (p : List ℕ) (ps : List (List ℕ)) → AllByRecursion IsHyphenFree (p ∷ ps) →
+    pieces (join (p ∷ ps)) ≡ p ∷ ps
 unfolding pieces join
 pieces-join p [] h = pieces_whole p h.0
 pieces-join p (q ∷ ps) h = pieces_cut p _ h.0 ∙ ap (λ l. p ∷ l) (pieces-join q ps h.1)
@@ -30,27 +35,34 @@ onto_nonempty c (p ∷ ps) e = cc
 pub pieces_nonempty : (t : List ℕ) → pieces t ≢ []
 unfolding pieces
 pieces_nonempty [] e = cc
-pieces_nonempty (c ∷ t) e = (elim (c == 45) as (λ b. cond b ([] ∷ slice_split hyphen t) (onto_first c (slice_split hyphen t)) ≢ []) [ true ↦ λ e. cc | false ↦ onto_nonempty c _ ]) e
+pieces_nonempty (c ∷ t) e =
+    (elim (c == 45) as (λ b. cond b ([] ∷ slice_split hyphen t) (onto_first c (slice_split hyphen t)) ≢ [])
+    [ true ↦ λ e. cc | false ↦ onto_nonempty c _ ]) e
 
 -- what holds of each list with a piece holds of the pieces of a text
-pub at_pieces : (P : List (List ℕ) → Type 0) → ((p : List ℕ) (ps : List (List ℕ)) → P (p ∷ ps)) → (t : List ℕ) → P (pieces t)
-at_pieces P f t = (elim (pieces t) as (λ ps. pieces t ≡ ps → P ps) [ [] ↦ λ e. absurd (pieces_nonempty t e) | p ∷ ps ↦ λ e. f p ps ]) refl
+pub at_pieces : (P : List (List ℕ) → Type 0) → ((p : List ℕ) (ps : List (List ℕ)) → P (p ∷ ps)) →
+    (t : List ℕ) → P (pieces t)
+at_pieces P f t = (elim (pieces t) as (λ ps. pieces t ≡ ps → P ps)
+    [ [] ↦ λ e. absurd (pieces_nonempty t e) | p ∷ ps ↦ λ e. f p ps ]) refl
 
-onto_hyphen_free : (c : ℕ) (ps : List (List ℕ)) → (c == 45) ≡ false → AllByRecursion IsHyphenFree ps → AllByRecursion IsHyphenFree (onto_first c ps)
+onto_hyphen_free : (c : ℕ) (ps : List (List ℕ)) → (c == 45) ≡ false → AllByRecursion IsHyphenFree ps →
+    AllByRecursion IsHyphenFree (onto_first c ps)
 onto_hyphen_free c [] e h = (or_from _ _ e refl, tt)
 onto_hyphen_free c (p ∷ ps) e h = (or_from _ _ e h.0, h.1)
 
 pub pieces_hyphen_free : (t : List ℕ) → AllByRecursion IsHyphenFree (pieces t)
 unfolding pieces
 pieces_hyphen_free [] = (refl, tt)
-pieces_hyphen_free (c ∷ t) = cond_both (c == 45) _ _ (AllByRecursion IsHyphenFree) (λ _. (refl, pieces_hyphen_free t)) (λ e. onto_hyphen_free c _ e (pieces_hyphen_free t))
+pieces_hyphen_free (c ∷ t) = cond_both (c == 45) _ _ (AllByRecursion IsHyphenFree)
+    (λ _. (refl, pieces_hyphen_free t)) (λ e. onto_hyphen_free c _ e (pieces_hyphen_free t))
 
 pub join-pieces : (t : List ℕ) → join (pieces t) ≡ t
 unfolding pieces join
 join-pieces t = join_with_byte-slice_split 45 t
 
 pub pieces_are : (t : List ℕ) → ArePieces t (pieces t)
-pieces_are t = record { nonempty = pieces_nonempty t; hyphen_free = pieces_hyphen_free t; joined = join-pieces t }
+pieces_are t =
+    record { nonempty = pieces_nonempty t; hyphen_free = pieces_hyphen_free t; joined = join-pieces t }
 
 pub pieces_unique : (t : List ℕ) (ps : List (List ℕ)) → ArePieces t ps → ps ≡ pieces t
 pieces_unique t [] h = absurd (h.nonempty refl)

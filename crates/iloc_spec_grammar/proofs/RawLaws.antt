@@ -1,22 +1,33 @@
 -- Raw forms: as long as the longest word, and read back. The tables keep to what is asked of tables.
-use Rattle.std.proofs.Common.{◌≡◌, ℕ, zero, suc, ◌+◌, ◌-◌, ◌≤◌, Bool, true, false, ◌==◌, List, [], ◌∷◌, ◌++◌, length, replicate, refl, sym, ap, ◌∙◌, arith, append_assoc, length-append}
+use Rattle.std.proofs.Common.{◌≡◌, ℕ, zero, suc, ◌+◌, ◌-◌, ◌≤◌, Bool, true, false, ◌==◌, List, [], ◌∷◌, ◌++◌}
+use Rattle.std.proofs.Common.{length, replicate, refl, sym, ap, ◌∙◌, arith, append_assoc, length-append}
 use Rattle.std.specs.List.{list_any}
 use Rattle.std.specs.Char.{is_ascii_alphanumeric}
 use Rattle.std.proofs.lemmas.Bool.{and_parts, or_parts}
 use Rattle.std.proofs.lemmas.Bool.Decides.{nat_tests}
 use Rattle.std.proofs.lemmas.List.{length-replicate, replicate-append-replicate}
-use Rattle.iloc_spec_grammar.specs.Syntax.{Kind, Language, AreLengths, two_or_three, languages, is_word, IsWord, EndsAt, greatest, Bounds, raw, wide_raw, narrow_raw, before_zero}
+use Rattle.iloc_spec_grammar.specs.Syntax.{Kind, Language, AreLengths, two_or_three, languages, is_word}
+use Rattle.iloc_spec_grammar.specs.Syntax.{IsWord, EndsAt, greatest, Bounds, raw, wide_raw, narrow_raw}
+use Rattle.iloc_spec_grammar.specs.Syntax.{before_zero}
 use Rattle.iloc_spec_grammar.proofs.WordsLaws.{word_letters_or_digits}
 use Rattle.iloc_spec_grammar.proofs.General.{none_passes}
 
 -- the tables
 
 pub narrow_table : AreLengths two_or_three
-narrow_table = record { least = λ n h. grind (arith, nat_tests); most = λ n h. grind (arith, nat_tests); no_script = λ n h. grind (arith, nat_tests) }
+narrow_table = record {
+  least = λ n h. grind (arith, nat_tests);
+  most = λ n h. grind (arith, nat_tests);
+  no_script = λ n h. grind (arith, nat_tests);
+}
 
 pub languages_table : AreLengths languages
 unfolding languages
-languages_table = record { least = λ n h. grind (arith, nat_tests); most = λ n h. grind (arith, nat_tests); no_script = λ n h. grind (arith, nat_tests) }
+languages_table = record {
+  least = λ n h. grind (arith, nat_tests);
+  most = λ n h. grind (arith, nat_tests);
+  no_script = λ n h. grind (arith, nat_tests);
+}
 
 pub narrow_in_wide : (n : ℕ) → two_or_three n ≡ true → languages n ≡ true
 unfolding languages
@@ -25,7 +36,8 @@ narrow_in_wide n h = grind (arith, nat_tests)
 -- no table has a length that the library's lacks
 pub table_in_ours : {T : ℕ → Bool} → AreLengths T → (n : ℕ) → T n ≡ true → languages n ≡ true
 unfolding languages
-table_in_ours table n h = let a = table.least n h in let b = table.most n h in let c = table.no_script n h in grind (arith, nat_tests)
+table_in_ours table n h = let a = table.least n h in
+    let b = table.most n h in let c = table.no_script n h in grind (arith, nat_tests)
 
 pub wide_ends : EndsAt 8 languages
 wide_ends = languages_table.most
@@ -41,7 +53,10 @@ at_most_greatest n (Language T) w b h = b (length w) (and_parts _ _ h).0
 at_most_greatest n _ w b h = grind (arith, nat_tests)
 
 pub length-raw : (n : ℕ) (k : Kind) (w : List ℕ) → Bounds n k → IsWord k w → length (raw n k w) ≡ greatest n k
-length-raw n k w b h = let m = at_most_greatest n k w b h in let z : length (replicate {A = ℕ} (greatest n k - length w) 0) ≡ greatest n k - length w = length-replicate (greatest n k - length w) 0 in let a = length-append w (replicate (greatest n k - length w) 0) in omega arith
+length-raw n k w b h = let m = at_most_greatest n k w b h in
+    let z : length (replicate {A = ℕ} (greatest n k - length w) 0) ≡ greatest n k - length w =
+    length-replicate (greatest n k - length w) 0 in
+    let a = length-append w (replicate (greatest n k - length w) 0) in omega arith
 
 -- no byte of a word is zero
 
@@ -59,12 +74,15 @@ before_zeros (suc n) = refl
 
 before_padding : (w : List ℕ) (n : ℕ) → list_any is_zero w ≡ false → before_zero (w ++ replicate n 0) ≡ w
 before_padding [] n h = before_zeros n
-before_padding (c ∷ w) n h = let parts = or_parts (is_zero c) (list_any is_zero w) h in rw parts.0 (ap (λ l. c ∷ l) (before_padding w n parts.1))
+before_padding (c ∷ w) n h = let parts = or_parts (is_zero c) (list_any is_zero w) h in
+    rw parts.0 (ap (λ l. c ∷ l) (before_padding w n parts.1))
 
 pub before_zero-raw : (n : ℕ) (k : Kind) (w : List ℕ) → IsWord k w → before_zero (raw n k w) ≡ w
-before_zero-raw n k w h = before_padding w (greatest n k - length w) (none_passes _ is_zero either_no_zero w (word_letters_or_digits k w h))
+before_zero-raw n k w h = before_padding w (greatest n k - length w)
+    (none_passes _ is_zero either_no_zero w (word_letters_or_digits k w h))
 
-pub raw_injective : (n : ℕ) (k : Kind) (v w : List ℕ) → IsWord k v → IsWord k w → raw n k v ≡ raw n k w → v ≡ w
+pub raw_injective : (n : ℕ) (k : Kind) (v w : List ℕ) → IsWord k v → IsWord k w → raw n k v ≡ raw n k w →
+    v ≡ w
 raw_injective n k v w g h e = sym (before_zero-raw n k v g) ∙ ap before_zero e ∙ before_zero-raw n k w h
 
 -- a raw form over the wide table is one over the narrow table, and five zeros
@@ -72,11 +90,13 @@ raw_injective n k v w g h e = sym (before_zero-raw n k v g) ∙ ap before_zero e
 zeros : (m n : ℕ) → replicate {A = ℕ} (m + n) 0 ≡ replicate m 0 ++ replicate n 0
 zeros m n = sym (replicate-append-replicate m n 0)
 
-pub wide-narrow_raw : (w : List ℕ) → IsWord (Language two_or_three) w → wide_raw (Language languages) w ≡ narrow_raw (Language two_or_three) w ++ replicate 5 0
+pub wide-narrow_raw : (w : List ℕ) → IsWord (Language two_or_three) w →
+    wide_raw (Language languages) w ≡ narrow_raw (Language two_or_three) w ++ replicate 5 0
 wide-narrow_raw w h =
     let m = at_most_greatest 3 (Language two_or_three) w narrow_ends h in
     let n : 8 - length w ≡ (3 - length w) + 5 = omega arith in
-    ap (λ n. w ++ replicate n 0) n ∙ ap (λ l. w ++ l) (zeros (3 - length w) 5) ∙ sym (append_assoc w (replicate (3 - length w) 0) (replicate 5 0))
+    ap (λ n. w ++ replicate n 0) n ∙ ap (λ l. w ++ l) (zeros (3 - length w) 5)
+    ∙ sym (append_assoc w (replicate (3 - length w) 0) (replicate 5 0))
 
 -- the laws of raw forms
 pub ruleset raw_laws = (length-raw, before_zero-raw, raw_injective, wide-narrow_raw)

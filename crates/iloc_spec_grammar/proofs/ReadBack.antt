@@ -1,96 +1,153 @@
 -- The printed text of a well-formed value means the value.
-use Rattle.std.proofs.Common.{◌≡◌, ◌≢◌, ℕ, ◌+◌, ◌<◌, ◌≤◌, Bool, true, false, cond, ◌||◌, ◌==◌, List, [], ◌∷◌, ◌++◌, length, map, filter_map, flat_map, refl, sym, ap, ap₂, ◌∙◌, subst, arith, Option, Some, None, IfSome, option_map, option_to_list, true≢false, is_some, nat_le, nat_lt, append-nil}
+use Rattle.std.proofs.Common.{◌≡◌, ◌≢◌, ℕ, ◌+◌, ◌<◌, ◌≤◌, Bool, true, false, cond, ◌||◌, ◌==◌, List, [], ◌∷◌}
+use Rattle.std.proofs.Common.{◌++◌, length, map, filter_map, flat_map, refl, sym, ap, ap₂, ◌∙◌, subst, arith}
+use Rattle.std.proofs.Common.{Option, Some, None, IfSome, option_map, option_to_list, true≢false, is_some}
+use Rattle.std.proofs.Common.{nat_le, nat_lt, append-nil}
 use Rattle.std.specs.List.{AllByRecursion}
 use Rattle.std.specs.Char.{is_ascii_alphanumeric, to_ascii_lowercase}
 use Rattle.std.specs.Ordering.{nat_cmp, eq_by_cmp, is_lt}
 use Rattle.std.specs.Int.{is_in_range}
 use Rattle.std.specs.FinMap.{is_sorted, find}
 use Rattle.std.specs.FinMap.Entries.{below_all}
-use Rattle.std.proofs.lemmas.Bool.{and_parts, and_from, or_from, leb-true, leb-false, lt-ltb, ltb-true, cond_both}
+use Rattle.std.proofs.lemmas.Bool.{and_parts, and_from, or_from, leb-true, leb-false, lt-ltb, ltb-true}
+use Rattle.std.proofs.lemmas.Bool.{cond_both}
 use Rattle.std.proofs.lemmas.Bool.Decides.{nat_tests}
 use Rattle.std.proofs.lemmas.List.Elements.{filter_map-append}
 use Rattle.std.proofs.lemmas.List.Concat.{flat_map-append}
 use Rattle.std.proofs.lemmas.List.{map-append}
-use Rattle.iloc_spec_grammar.specs.Syntax.{pieces, join, IsHyphenFree, Kind, Language, Script, Region, Variant, Subtag, UnicodeKey, TransformKey, Attribute, PrivateSubtag, is_word, IsWord, lower, SpelledIdentifier, Identifier, Unicode, Transform, Fields, identifier_pieces, optional_pieces, fields_pieces, HasWords, IsIdentifier, IsField, kept, is_other_singleton, lower_singleton, AllDifferent, IsPrivate}
-use Rattle.iloc_spec_grammar.specs.Tree.{Extension, unicode, transform, other, Written, extension_pieces, block_pieces, extension_block, spelling, IsExtension, IsWritten, unicode_part, transform_part, private_part, other_part, by_singleton, meaning, TreeMeans, IsTreeWellFormed, transform_form, unicode_form, others_form, private_form, before_t, after_t, printed, tree_text, spelled_transform, spelled_unicode}
+use Rattle.iloc_spec_grammar.specs.Syntax.{pieces, join, IsHyphenFree, Kind, Language, Script, Region}
+use Rattle.iloc_spec_grammar.specs.Syntax.{Variant, Subtag, UnicodeKey, TransformKey, Attribute}
+use Rattle.iloc_spec_grammar.specs.Syntax.{PrivateSubtag, is_word, IsWord, lower, SpelledIdentifier}
+use Rattle.iloc_spec_grammar.specs.Syntax.{Identifier, Unicode, Transform, Fields, identifier_pieces}
+use Rattle.iloc_spec_grammar.specs.Syntax.{optional_pieces, fields_pieces, HasWords, IsIdentifier, IsField}
+use Rattle.iloc_spec_grammar.specs.Syntax.{kept, is_other_singleton, lower_singleton, AllDifferent, IsPrivate}
+use Rattle.iloc_spec_grammar.specs.Tree.{Extension, unicode, transform, other, Written, extension_pieces}
+use Rattle.iloc_spec_grammar.specs.Tree.{block_pieces, extension_block, spelling, IsExtension, IsWritten}
+use Rattle.iloc_spec_grammar.specs.Tree.{unicode_part, transform_part, private_part, other_part, by_singleton}
+use Rattle.iloc_spec_grammar.specs.Tree.{meaning, TreeMeans, IsTreeWellFormed, transform_form, unicode_form}
+use Rattle.iloc_spec_grammar.specs.Tree.{others_form, private_form, before_t, after_t, printed, tree_text}
+use Rattle.iloc_spec_grammar.specs.Tree.{spelled_transform, spelled_unicode}
 use Rattle.iloc_spec_grammar.specs.Meaning.{map_of, Locale, normal_unicode, normal_transform}
 use Rattle.iloc_spec_grammar.specs.Values.{IsNormal, IsValue, lower_identifier, spelled_fields}
 use Rattle.iloc_spec_grammar.proofs.WordsLaws.{word_letters_or_digits}
 use Rattle.iloc_spec_grammar.proofs.PiecesLaws.{pieces-join}
 use Rattle.iloc_spec_grammar.proofs.MapLaws.{map_of_sorted, sorted_different}
-use Rattle.iloc_spec_grammar.proofs.ValuesLaws.{all_weaker, all_both, map_fixed, filter_all, value_identifier, normal_value, value_unicode, normal_value_unicode, value_transform, normal_value_transform, length-spelled_fields}
+use Rattle.iloc_spec_grammar.proofs.ValuesLaws.{all_weaker, all_both, map_fixed, filter_all, value_identifier}
+use Rattle.iloc_spec_grammar.proofs.ValuesLaws.{normal_value, value_unicode, normal_value_unicode}
+use Rattle.iloc_spec_grammar.proofs.ValuesLaws.{value_transform, normal_value_transform}
+use Rattle.iloc_spec_grammar.proofs.ValuesLaws.{length-spelled_fields}
 use Rattle.iloc_spec_grammar.proofs.Singletons.{untied, no_t, no_u}
 use Rattle.iloc_spec_grammar.proofs.General.{cond-map, none_passes}
 
 -- lists
 
-pub all_append : {X : Type 0} (P : X → Type 0) (xs ys : List X) → AllByRecursion P xs → AllByRecursion P ys → AllByRecursion P (xs ++ ys)
+pub all_append : {X : Type 0} (P : X → Type 0) (xs ys : List X) → AllByRecursion P xs → AllByRecursion P ys →
+    AllByRecursion P (xs ++ ys)
 all_append P [] ys h k = k
 all_append P (x ∷ xs) ys h k = (h.0, all_append P xs ys h.1 k)
 
-all_if : {X : Type 0} (P : X → Type 0) (b : Bool) (x : X) → (b ≡ true → P x) → AllByRecursion P (cond b (x ∷ []) [])
+all_if : {X : Type 0} (P : X → Type 0) (b : Bool) (x : X) → (b ≡ true → P x) →
+    AllByRecursion P (cond b (x ∷ []) [])
 all_if P true x h = (h refl, tt)
 all_if P false x h = tt
 
 -- what holds of each word holds of each piece
 
-pub plain_fields : (fs : Fields) → AllByRecursion IsField fs → AllByRecursion (λ f. IsWord TransformKey f.0 × AllByRecursion (IsWord Attribute) f.1) fs
-plain_fields = all_weaker IsField (λ f. IsWord TransformKey f.0 × AllByRecursion (IsWord Attribute) f.1) (λ f r. (r.0, r.1))
+pub plain_fields : (fs : Fields) → AllByRecursion IsField fs →
+    AllByRecursion (λ f. IsWord TransformKey f.0 × AllByRecursion (IsWord Attribute) f.1) fs
+plain_fields = all_weaker IsField (λ f. IsWord TransformKey f.0 × AllByRecursion (IsWord Attribute) f.1)
+    (λ f r. (r.0, r.1))
 
 module _ (P : List ℕ → Type 0) where
-  option_each : (k : Kind) → ((p : List ℕ) → IsWord k p → P p) → (o : Option (List ℕ)) → IfSome o (IsWord k) → AllByRecursion P (option_to_list o)
+  option_each : (k : Kind) → ((p : List ℕ) → IsWord k p → P p) → (o : Option (List ℕ)) → IfSome o (IsWord k) →
+      AllByRecursion P (option_to_list o)
   option_each k f None h = tt
   option_each k f (Some w) h = (f w h, tt)
 
-  pub after_language_each : {T : ℕ → Bool} → ((p : List ℕ) → IsWord Script p → P p) → ((p : List ℕ) → IsWord Region p → P p) → ((p : List ℕ) → IsWord Variant p → P p) → (i : SpelledIdentifier) → HasWords T i → AllByRecursion P (option_to_list i.script ++ (option_to_list i.region ++ i.variants))
-  after_language_each s r v i h = all_append P (option_to_list i.script) _ (option_each Script s i.script h.script) (all_append P (option_to_list i.region) _ (option_each Region r i.region h.region) (all_weaker (IsWord Variant) P v i.variants h.variants))
+  pub after_language_each : {T : ℕ → Bool} → ((p : List ℕ) → IsWord Script p → P p) →
+      ((p : List ℕ) → IsWord Region p → P p) → ((p : List ℕ) → IsWord Variant p → P p) →
+      (i : SpelledIdentifier) → HasWords T i →
+      AllByRecursion P (option_to_list i.script ++ (option_to_list i.region ++ i.variants))
+  after_language_each s r v i h = all_append P (option_to_list i.script) _
+      (option_each Script s i.script h.script) (all_append P (option_to_list i.region) _
+      (option_each Region r i.region h.region) (all_weaker (IsWord Variant) P v i.variants h.variants))
 
-  pub optional_each : (T : ℕ → Bool) → ((i : SpelledIdentifier) → HasWords T i → AllByRecursion P (identifier_pieces i)) → (o : Option SpelledIdentifier) → IfSome o (IsIdentifier T) → AllByRecursion P (optional_pieces o)
+  pub optional_each : (T : ℕ → Bool) →
+      ((i : SpelledIdentifier) → HasWords T i → AllByRecursion P (identifier_pieces i)) →
+      (o : Option SpelledIdentifier) → IfSome o (IsIdentifier T) → AllByRecursion P (optional_pieces o)
   optional_each T f None h = tt
   optional_each T f (Some i) h = f i h.words
 
-  pub fields_each : (k : Kind) → ((p : List ℕ) → IsWord k p → P p) → ((p : List ℕ) → IsWord Attribute p → P p) → (fs : Fields) → AllByRecursion (λ f. IsWord k f.0 × AllByRecursion (IsWord Attribute) f.1) fs → AllByRecursion P (fields_pieces fs)
+  pub fields_each : (k : Kind) → ((p : List ℕ) → IsWord k p → P p) →
+      ((p : List ℕ) → IsWord Attribute p → P p) → (fs : Fields) →
+      AllByRecursion (λ f. IsWord k f.0 × AllByRecursion (IsWord Attribute) f.1) fs →
+      AllByRecursion P (fields_pieces fs)
   fields_each k f g [] h = tt
-  fields_each k f g (e ∷ fs) h = all_append P (e.0 ∷ e.1) (fields_pieces fs) (f e.0 h.0.0, all_weaker (IsWord Attribute) P g e.1 h.0.1) (fields_each k f g fs h.1)
+  fields_each k f g (e ∷ fs) h = all_append P (e.0 ∷ e.1) (fields_pieces fs)
+      (f e.0 h.0.0, all_weaker (IsWord Attribute) P g e.1 h.0.1) (fields_each k f g fs h.1)
 
 -- An extension of words alone. Only `other` can be another.
 abbrev pub OfWords : Extension → Type 0
 OfWords (other ps) = AllByRecursion (IsWord Subtag) ps
 OfWords _ = Unit {0}
 
-pub extension_singleton : (T : ℕ → Bool) (c : ℕ) (e : Extension) → IsExtension T c e → is_ascii_alphanumeric c ≡ true
+pub extension_singleton : (T : ℕ → Bool) (c : ℕ) (e : Extension) → IsExtension T c e →
+    is_ascii_alphanumeric c ≡ true
 extension_singleton T c (other ps) h = (and_parts _ _ h.0).0
 extension_singleton T c _ h = rw h.0
 
 -- what holds of each word and of each singleton holds of each piece that is spelled
-module _ (P : List ℕ → Type 0) (word : (k : Kind) (p : List ℕ) → IsWord k p → P p) (singleton : (c : ℕ) → is_ascii_alphanumeric (to_ascii_lowercase c) ≡ true → P (c ∷ [])) where
+module _ (P : List ℕ → Type 0) (word : (k : Kind) (p : List ℕ) → IsWord k p → P p)
+    (singleton : (c : ℕ) → is_ascii_alphanumeric (to_ascii_lowercase c) ≡ true → P (c ∷ [])) where
   words_each : (k : Kind) (ws : List (List ℕ)) → AllByRecursion (IsWord k) ws → AllByRecursion P ws
   words_each k ws h = all_weaker (IsWord k) P (word k) ws h
 
-  pub identifier_each : {T : ℕ → Bool} (i : SpelledIdentifier) → HasWords T i → AllByRecursion P (identifier_pieces i)
-  identifier_each {T = T} i h = (word (Language T) i.language h.language, after_language_each P (word Script) (word Region) (word Variant) i h)
+  pub identifier_each : {T : ℕ → Bool} (i : SpelledIdentifier) → HasWords T i →
+      AllByRecursion P (identifier_pieces i)
+  identifier_each {T = T} i h = (
+    word (Language T) i.language h.language,
+    after_language_each P (word Script) (word Region) (word Variant) i h,
+  )
 
-  any_fields_each : (k : Kind) (fs : Fields) → AllByRecursion (λ f. IsWord k f.0 × AllByRecursion (IsWord Attribute) f.1) fs → AllByRecursion P (fields_pieces fs)
+  any_fields_each : (k : Kind) (fs : Fields) →
+      AllByRecursion (λ f. IsWord k f.0 × AllByRecursion (IsWord Attribute) f.1) fs →
+      AllByRecursion P (fields_pieces fs)
   any_fields_each k = fields_each P k (word k) (word Attribute)
 
-  extension_each : (T : ℕ → Bool) (c : ℕ) (e : Extension) → IsExtension T c e → OfWords e → AllByRecursion P (extension_pieces e)
-  extension_each T c (unicode u) h w = all_append P u.attributes _ (words_each Attribute u.attributes h.1.attributes) (any_fields_each UnicodeKey u.keywords h.1.keywords)
-  extension_each T c (transform m) h w = all_append P (optional_pieces m.id) _ (optional_each P T identifier_each m.id h.1.id) (any_fields_each TransformKey m.fields (plain_fields m.fields h.1.fields))
+  extension_each : (T : ℕ → Bool) (c : ℕ) (e : Extension) → IsExtension T c e → OfWords e →
+      AllByRecursion P (extension_pieces e)
+  extension_each T c (unicode u) h w = all_append P u.attributes _
+      (words_each Attribute u.attributes h.1.attributes) (any_fields_each UnicodeKey u.keywords h.1.keywords)
+  extension_each T c (transform m) h w =
+      all_append P (optional_pieces m.id) _ (optional_each P T identifier_each m.id h.1.id)
+      (any_fields_each TransformKey m.fields (plain_fields m.fields h.1.fields))
   extension_each T c (other ps) h w = words_each Subtag ps w
 
-  extensions_each : (T : ℕ → Bool) (es : List (ℕ × Extension)) → AllByRecursion (λ e. IsExtension T (lower_singleton e) e.1 × OfWords e.1) es → AllByRecursion P (flat_map block_pieces (map extension_block es))
+  extensions_each : (T : ℕ → Bool) (es : List (ℕ × Extension)) →
+      AllByRecursion (λ e. IsExtension T (lower_singleton e) e.1 × OfWords e.1) es →
+      AllByRecursion P (flat_map block_pieces (map extension_block es))
   extensions_each T [] h = tt
-  extensions_each T (e ∷ es) h = (singleton e.0 (extension_singleton T _ e.1 h.0.0), all_append P (extension_pieces e.1) _ (extension_each T _ e.1 h.0.0 h.0.1) (extensions_each T es h.1))
+  extensions_each T (e ∷ es) h = (
+    singleton e.0 (extension_singleton T _ e.1 h.0.0),
+    all_append P (extension_pieces e.1) _ (extension_each T _ e.1 h.0.0 h.0.1) (extensions_each T es h.1),
+  )
 
-  private_each : (x : Option (ℕ × List (List ℕ))) → IfSome x (λ e. (lower_singleton e ≡ 120) × IsPrivate e.1) → AllByRecursion P (flat_map block_pieces (option_to_list x))
+  private_each : (x : Option (ℕ × List (List ℕ))) →
+      IfSome x (λ e. (lower_singleton e ≡ 120) × IsPrivate e.1) →
+      AllByRecursion P (flat_map block_pieces (option_to_list x))
   private_each None h = tt
-  private_each (Some e) h = (singleton e.0 (rw h.0), all_append P e.1 [] (words_each PrivateSubtag e.1 h.1.words) tt)
+  private_each (Some e) h =
+      (singleton e.0 (rw h.0), all_append P e.1 [] (words_each PrivateSubtag e.1 h.1.words) tt)
 
-  pub written_each : {T : ℕ → Bool} (w : Written) → IsWritten T w → AllByRecursion (λ e. OfWords e.1) w.extensions → AllByRecursion P (spelling w)
+  pub written_each : {T : ℕ → Bool} (w : Written) → IsWritten T w →
+      AllByRecursion (λ e. OfWords e.1) w.extensions → AllByRecursion P (spelling w)
   written_each {T = T} w h o =
       all_append P (identifier_pieces w.id) _ (identifier_each w.id h.id.words)
-      (subst (AllByRecursion P) (sym (flat_map-append block_pieces (map extension_block w.extensions) (option_to_list w.private)))
-      (all_append P (flat_map block_pieces (map extension_block w.extensions)) _ (extensions_each T w.extensions (all_both _ _ w.extensions h.extensions o)) (private_each w.private h.private)))
+      (subst (AllByRecursion P)
+      (sym (flat_map-append block_pieces (map extension_block w.extensions) (option_to_list w.private)))
+      (all_append P (flat_map block_pieces (map extension_block w.extensions)) _
+      (extensions_each T w.extensions (all_both _ _ w.extensions h.extensions o))
+      (private_each w.private h.private)))
 
 -- words and singletons have no hyphen
 
@@ -106,14 +163,17 @@ hyphen_byte c h = grind (arith, nat_tests)
 singleton_hyphen_free : (c : ℕ) → is_ascii_alphanumeric (to_ascii_lowercase c) ≡ true → IsHyphenFree (c ∷ [])
 singleton_hyphen_free c h = or_from _ _ (hyphen_byte c h) refl
 
-pub identifier_hyphen_free : {T : ℕ → Bool} (i : SpelledIdentifier) → HasWords T i → AllByRecursion IsHyphenFree (identifier_pieces i)
+pub identifier_hyphen_free : {T : ℕ → Bool} (i : SpelledIdentifier) → HasWords T i →
+    AllByRecursion IsHyphenFree (identifier_pieces i)
 identifier_hyphen_free i h = identifier_each IsHyphenFree word_hyphen_free singleton_hyphen_free i h
 
-pub written_hyphen_free : {T : ℕ → Bool} (w : Written) → IsWritten T w → AllByRecursion (λ e. OfWords e.1) w.extensions → AllByRecursion IsHyphenFree (spelling w)
+pub written_hyphen_free : {T : ℕ → Bool} (w : Written) → IsWritten T w →
+    AllByRecursion (λ e. OfWords e.1) w.extensions → AllByRecursion IsHyphenFree (spelling w)
 written_hyphen_free w h o = written_each IsHyphenFree word_hyphen_free singleton_hyphen_free w h o
 
 -- a text spelled without stray hyphens has the pieces that were spelled
-pub pieces_spelled : {T : ℕ → Bool} (w : Written) → IsWritten T w → AllByRecursion (λ e. OfWords e.1) w.extensions → pieces (join (spelling w)) ≡ spelling w
+pub pieces_spelled : {T : ℕ → Bool} (w : Written) → IsWritten T w →
+    AllByRecursion (λ e. OfWords e.1) w.extensions → pieces (join (spelling w)) ≡ spelling w
 pieces_spelled w h o = pieces-join w.id.language _ (written_hyphen_free w h o)
 
 -- lists of entries in order
@@ -124,19 +184,25 @@ nat_lt_from a b h = grind (arith, nat_tests)
 nat_lt_to : (a b : ℕ) → a < b → is_lt (nat_cmp a b) ≡ true
 nat_lt_to a b h = grind (arith, nat_tests)
 
-below_lt : {X : Type 0} (k : ℕ) (es : List (ℕ × X)) → below_all nat_cmp k es ≡ true → AllByRecursion (λ e. k < e.0) es
+below_lt : {X : Type 0} (k : ℕ) (es : List (ℕ × X)) → below_all nat_cmp k es ≡ true →
+    AllByRecursion (λ e. k < e.0) es
 below_lt k [] h = tt
 below_lt k (e ∷ es) h = let parts = and_parts _ _ h in (nat_lt_from k e.0 parts.0, below_lt k es parts.1)
 
-lt_below : {X : Type 0} (k : ℕ) (es : List (ℕ × X)) → AllByRecursion (λ e. k < e.0) es → below_all nat_cmp k es ≡ true
+lt_below : {X : Type 0} (k : ℕ) (es : List (ℕ × X)) → AllByRecursion (λ e. k < e.0) es →
+    below_all nat_cmp k es ≡ true
 lt_below k [] h = refl
 lt_below k (e ∷ es) h = and_from _ _ (nat_lt_to k e.0 h.0) (lt_below k es h.1)
 
-sorted_append : {X : Type 0} (n : ℕ) (xs ys : List (ℕ × X)) → is_sorted nat_cmp xs ≡ true → AllByRecursion (λ e. e.0 < n) xs → is_sorted nat_cmp ys ≡ true → AllByRecursion (λ e. n ≤ e.0) ys → is_sorted nat_cmp (xs ++ ys) ≡ true
+sorted_append : {X : Type 0} (n : ℕ) (xs ys : List (ℕ × X)) → is_sorted nat_cmp xs ≡ true →
+    AllByRecursion (λ e. e.0 < n) xs → is_sorted nat_cmp ys ≡ true → AllByRecursion (λ e. n ≤ e.0) ys →
+    is_sorted nat_cmp (xs ++ ys) ≡ true
 sorted_append n [] ys sx bx sy by = sy
 sorted_append {X = X} n (x ∷ xs) ys sx bx sy by =
     let parts = and_parts _ _ sx in
-    let above : AllByRecursion (λ (e : ℕ × X). x.0 < e.0) (xs ++ ys) = all_append (λ (e : ℕ × X). x.0 < e.0) xs ys (below_lt x.0 xs parts.0) (all_weaker (λ (e : ℕ × X). n ≤ e.0) (λ e. x.0 < e.0) (λ e h. let l = bx.0 in omega arith) ys by) in
+    let above : AllByRecursion (λ (e : ℕ × X). x.0 < e.0) (xs ++ ys) =
+    all_append (λ (e : ℕ × X). x.0 < e.0) xs ys (below_lt x.0 xs parts.0)
+    (all_weaker (λ (e : ℕ × X). n ≤ e.0) (λ e. x.0 < e.0) (λ e h. let l = bx.0 in omega arith) ys by) in
     and_from _ _ (lt_below x.0 (xs ++ ys) above) (sorted_append n xs ys parts.1 bx.1 sy by)
 
 sorted_if : {X : Type 0} (b : Bool) (x : ℕ × X) → is_sorted nat_cmp (cond b (x ∷ []) []) ≡ true
@@ -148,68 +214,99 @@ sorted_if false x = refl
 abbrev Others : Type 0
 Others = List (ℕ × List (List ℕ))
 
-all_before : (P : ℕ × List (List ℕ) → Type 0) (os : Others) → AllByRecursion P os → AllByRecursion P (before_t os)
+all_before : (P : ℕ × List (List ℕ) → Type 0) (os : Others) → AllByRecursion P os →
+    AllByRecursion P (before_t os)
 all_before P [] h = tt
-all_before P (o ∷ os) h = cond_both (nat_le o.0 116) _ _ (AllByRecursion P) (λ _. (h.0, all_before P os h.1)) (λ _. tt)
+all_before P (o ∷ os) h =
+    cond_both (nat_le o.0 116) _ _ (AllByRecursion P) (λ _. (h.0, all_before P os h.1)) (λ _. tt)
 
-all_after : (P : ℕ × List (List ℕ) → Type 0) (os : Others) → AllByRecursion P os → AllByRecursion P (after_t os)
+all_after : (P : ℕ × List (List ℕ) → Type 0) (os : Others) → AllByRecursion P os →
+    AllByRecursion P (after_t os)
 all_after P [] h = tt
 all_after P (o ∷ os) h = cond_both (nat_le o.0 116) _ _ (AllByRecursion P) (λ _. all_after P os h.1) (λ _. h)
 
 before_le : (os : Others) → AllByRecursion (λ o. o.0 ≤ 116) (before_t os)
 before_le [] = tt
-before_le (o ∷ os) = cond_both (nat_le o.0 116) _ _ (AllByRecursion (λ p. p.0 ≤ 116)) (λ e. (leb-true _ _ e, before_le os)) (λ _. tt)
+before_le (o ∷ os) = cond_both (nat_le o.0 116) _ _ (AllByRecursion (λ p. p.0 ≤ 116))
+    (λ e. (leb-true _ _ e, before_le os)) (λ _. tt)
 
 after_gt : (os : Others) → is_sorted nat_cmp os ≡ true → AllByRecursion (λ o. 116 < o.0) (after_t os)
 after_gt [] h = tt
 after_gt (o ∷ os) h =
     let parts = and_parts _ _ h in
-    cond_both (nat_le o.0 116) _ _ (AllByRecursion (λ p. 116 < p.0)) (λ _. after_gt os parts.1) (λ e. let l : 116 < o.0 = leb-false _ _ e in (l, all_weaker (λ p. o.0 < p.0) (λ p. 116 < p.0) (λ p k. omega arith) os (below_lt o.0 os parts.0)))
+    cond_both (nat_le o.0 116) _ _ (AllByRecursion (λ p. 116 < p.0)) (λ _. after_gt os parts.1)
+    (λ e. let l : 116 < o.0 = leb-false _ _ e in
+    (l, all_weaker (λ p. o.0 < p.0) (λ p. 116 < p.0) (λ p k. omega arith) os (below_lt o.0 os parts.0)))
 
 sorted_before : (os : Others) → is_sorted nat_cmp os ≡ true → is_sorted nat_cmp (before_t os) ≡ true
 sorted_before [] h = refl
 sorted_before (o ∷ os) h =
     let parts = and_parts _ _ h in
-    cond_both (nat_le o.0 116) _ _ (λ l. is_sorted nat_cmp l ≡ true) (λ _. and_from _ _ (lt_below o.0 (before_t os) (all_before (λ p. o.0 < p.0) os (below_lt o.0 os parts.0))) (sorted_before os parts.1)) (λ _. refl)
+    cond_both (nat_le o.0 116) _ _ (λ l. is_sorted nat_cmp l ≡ true)
+    (λ _. and_from _ _ (lt_below o.0 (before_t os) (all_before (λ p. o.0 < p.0) os (below_lt o.0 os parts.0)))
+    (sorted_before os parts.1)) (λ _. refl)
 
 sorted_after : (os : Others) → is_sorted nat_cmp os ≡ true → is_sorted nat_cmp (after_t os) ≡ true
 sorted_after [] h = refl
-sorted_after (o ∷ os) h = cond_both (nat_le o.0 116) _ _ (λ l. is_sorted nat_cmp l ≡ true) (λ _. sorted_after os (and_parts _ _ h).1) (λ _. h)
+sorted_after (o ∷ os) h = cond_both (nat_le o.0 116) _ _ (λ l. is_sorted nat_cmp l ≡ true)
+    (λ _. sorted_after os (and_parts _ _ h).1) (λ _. h)
 
 before-after : (os : Others) → before_t os ++ after_t os ≡ os
 before-after [] = refl
-before-after (o ∷ os) = elim (nat_le o.0 116) as (λ b. cond b (o ∷ before_t os) [] ++ cond b (after_t os) (o ∷ os) ≡ o ∷ os) [ true ↦ ap (λ l. o ∷ l) (before-after os) | false ↦ refl ]
+before-after (o ∷ os) =
+    elim (nat_le o.0 116) as (λ b. cond b (o ∷ before_t os) [] ++ cond b (after_t os) (o ∷ os) ≡ o ∷ os)
+    [ true ↦ ap (λ l. o ∷ l) (before-after os) | false ↦ refl ]
 
 -- what is printed of them
 
 abbrev IsOtherEntry : ℕ × List (List ℕ) → Type 0
-IsOtherEntry o = ((is_other_singleton o.0 ≡ true) × (to_ascii_lowercase o.0 ≡ o.0)) × (0 < length o.1) × AllByRecursion (IsNormal Subtag) o.1
+IsOtherEntry o = ((is_other_singleton o.0 ≡ true) × (to_ascii_lowercase o.0 ≡ o.0)) × (0 < length o.1)
+    × AllByRecursion (IsNormal Subtag) o.1
 
 abbrev plain_form : Others → List (ℕ × Extension)
 plain_form os = map (λ o. (o.0, other o.1)) os
 
 others_form_is : (os : Others) → AllByRecursion IsOtherEntry os → others_form os ≡ plain_form os
-others_form_is os h = ap plain_form (filter_all _ os (all_weaker IsOtherEntry (λ o. nat_lt 0 (length o.1) ≡ true) (λ o x. lt-ltb 0 _ x.1) os h))
+others_form_is os h = ap plain_form (filter_all _ os
+    (all_weaker IsOtherEntry (λ o. nat_lt 0 (length o.1) ≡ true) (λ o x. lt-ltb 0 _ x.1) os h))
 
 kept_words : (ws : List (List ℕ)) → AllByRecursion (IsNormal Subtag) ws → kept ws ≡ ws
-kept_words ws h = ap (map lower) (filter_all (is_word Subtag) ws (all_weaker (IsNormal Subtag) (IsWord Subtag) (λ w n. n.0) ws h)) ∙ map_fixed lower ws (all_weaker (IsNormal Subtag) (λ w. lower w ≡ w) (λ w n. n.1) ws h)
+kept_words ws h = ap (map lower)
+    (filter_all (is_word Subtag) ws (all_weaker (IsNormal Subtag) (IsWord Subtag) (λ w n. n.0) ws h))
+    ∙ map_fixed lower ws (all_weaker (IsNormal Subtag) (λ w. lower w ≡ w) (λ w n. n.1) ws h)
 
 subtag_length : (w : List ℕ) → IsWord Subtag w → is_in_range 2 8 (length w) ≡ true
 unfolding is_word
 subtag_length w h = (and_parts _ _ h).0
 
-other_rule : (T : ℕ → Bool) (o : ℕ × List (List ℕ)) → IsOtherEntry o → IsExtension T (to_ascii_lowercase o.0) (other o.1) × AllByRecursion (IsWord Subtag) o.1
+other_rule : (T : ℕ → Bool) (o : ℕ × List (List ℕ)) → IsOtherEntry o →
+    IsExtension T (to_ascii_lowercase o.0) (other o.1) × AllByRecursion (IsWord Subtag) o.1
 other_rule T o h =
-    let words = all_weaker (IsNormal Subtag) (IsWord Subtag) (λ w n. n.0) o.1 h.2 in
-    ((ap is_other_singleton h.0.1 ∙ h.0.0, record { lengths = all_weaker (IsWord Subtag) (λ w. is_in_range 2 8 (length w) ≡ true) subtag_length o.1 words; nonempty = subst (λ (l : List (List ℕ)). 0 < length l) (sym (kept_words o.1 h.2)) h.1 }), words)
+    let words = all_weaker (IsNormal Subtag) (IsWord Subtag) (λ w n. n.0) o.1 h.2 in (
+      (
+        ap is_other_singleton h.0.1 ∙ h.0.0,
+        record {
+          lengths =
+              all_weaker (IsWord Subtag) (λ w. is_in_range 2 8 (length w) ≡ true) subtag_length o.1 words;
+          nonempty = subst (λ (l : List (List ℕ)). 0 < length l) (sym (kept_words o.1 h.2)) h.1;
+        },
+      ),
+      words,
+    )
 
-all_plain : (P : ℕ × Extension → Type 0) (Q : ℕ × List (List ℕ) → Type 0) → ((o : ℕ × List (List ℕ)) → Q o → P (o.0, other o.1)) → (os : Others) → AllByRecursion Q os → AllByRecursion P (plain_form os)
+all_plain : (P : ℕ × Extension → Type 0) (Q : ℕ × List (List ℕ) → Type 0) →
+    ((o : ℕ × List (List ℕ)) → Q o → P (o.0, other o.1)) → (os : Others) → AllByRecursion Q os →
+    AllByRecursion P (plain_form os)
 all_plain P Q f [] h = tt
 all_plain P Q f (o ∷ os) h = (f o h.0, all_plain P Q f os h.1)
 
 sorted_plain : (os : Others) → is_sorted nat_cmp os ≡ true → is_sorted nat_cmp (plain_form os) ≡ true
 sorted_plain [] h = refl
-sorted_plain (o ∷ os) h = let parts = and_parts _ _ h in and_from _ _ (lt_below o.0 (plain_form os) (all_plain (λ e. o.0 < e.0) (λ p. o.0 < p.0) (λ p k. k) os (below_lt o.0 os parts.0))) (sorted_plain os parts.1)
+sorted_plain (o ∷ os) h = let parts = and_parts _ _ h in
+    and_from _ _
+    (lt_below o.0 (plain_form os)
+    (all_plain (λ e. o.0 < e.0) (λ p. o.0 < p.0) (λ p k. k) os (below_lt o.0 os parts.0)))
+    (sorted_plain os parts.1)
 
 parts_plain : (os : Others) → AllByRecursion IsOtherEntry os → filter_map other_part (plain_form os) ≡ os
 parts_plain [] h = refl
@@ -217,59 +314,86 @@ parts_plain (o ∷ os) h = λ i. (o.0, kept_words o.1 h.0.2 i) ∷ parts_plain o
 
 -- looking up a singleton
 
-find_skip : {X : Type 0} (q : ℕ) (xs ys : List (ℕ × X)) → AllByRecursion (λ e. e.0 ≢ q) xs → find nat_cmp q (xs ++ ys) ≡ find nat_cmp q ys
+find_skip : {X : Type 0} (q : ℕ) (xs ys : List (ℕ × X)) → AllByRecursion (λ e. e.0 ≢ q) xs →
+    find nat_cmp q (xs ++ ys) ≡ find nat_cmp q ys
 find_skip q [] ys h = refl
-find_skip q (x ∷ xs) ys h = ap (λ b. cond b (Some x.1) (find nat_cmp q (xs ++ ys))) (untied q x.0 h.0) ∙ find_skip q xs ys h.1
+find_skip q (x ∷ xs) ys h =
+    ap (λ b. cond b (Some x.1) (find nat_cmp q (xs ++ ys))) (untied q x.0 h.0) ∙ find_skip q xs ys h.1
 
-find_none : {X : Type 0} (q : ℕ) (xs : List (ℕ × X)) → AllByRecursion (λ e. e.0 ≢ q) xs → find nat_cmp q xs ≡ None
+find_none : {X : Type 0} (q : ℕ) (xs : List (ℕ × X)) → AllByRecursion (λ e. e.0 ≢ q) xs →
+    find nat_cmp q xs ≡ None
 find_none q xs h = ap (find nat_cmp q) (sym (append-nil xs)) ∙ find_skip q xs [] h
 
-find_if : {X : Type 0} (q : ℕ) (b : Bool) (x : X) (ys : List (ℕ × X)) → eq_by_cmp nat_cmp q q ≡ true → AllByRecursion (λ e. e.0 ≢ q) ys → find nat_cmp q (cond b ((q, x) ∷ []) [] ++ ys) ≡ cond b (Some x) None
+find_if : {X : Type 0} (q : ℕ) (b : Bool) (x : X) (ys : List (ℕ × X)) → eq_by_cmp nat_cmp q q ≡ true →
+    AllByRecursion (λ e. e.0 ≢ q) ys → find nat_cmp q (cond b ((q, x) ∷ []) [] ++ ys) ≡ cond b (Some x) None
 find_if q true x ys t h = ap (λ b. cond b (Some x) (find nat_cmp q ys)) t
 find_if q false x ys t h = find_none q ys h
 
-no_parts : (b : Bool) (c : ℕ) (e : Extension) → other_part (c, e) ≡ None → filter_map other_part (cond b ((c, e) ∷ []) []) ≡ []
+no_parts : (b : Bool) (c : ℕ) (e : Extension) → other_part (c, e) ≡ None →
+    filter_map other_part (cond b ((c, e) ∷ []) []) ≡ []
 no_parts true c e h = rw h
 no_parts false c e h = refl
 
 -- a part that is there or empty
 
-unicode_back : (u : Unicode) → normal_unicode (spelled_unicode u) ≡ u → (b : Bool) → nat_lt 0 (length u.attributes + length u.keywords) ≡ b → unicode_part (cond b (Some (unicode (spelled_unicode u))) None) ≡ u
+unicode_back : (u : Unicode) → normal_unicode (spelled_unicode u) ≡ u → (b : Bool) →
+    nat_lt 0 (length u.attributes + length u.keywords) ≡ b →
+    unicode_part (cond b (Some (unicode (spelled_unicode u))) None) ≡ u
 unicode_back u h true e = h
 unicode_back u h false e = empty u.attributes u.keywords e
   where
-    empty : (ws : List (List ℕ)) (ks : Fields) → nat_lt 0 (length ws + length ks) ≡ false → ◌≡◌ {A = Unicode} (record { attributes = []; keywords = [] }) (record { attributes = ws; keywords = ks })
+    empty : (ws : List (List ℕ)) (ks : Fields) → nat_lt 0 (length ws + length ks) ≡ false →
+        ◌≡◌ {A = Unicode} (record { attributes = []; keywords = [] })
+        (record { attributes = ws; keywords = ks })
     empty [] [] e = refl
     empty _ _ e = grind (arith, nat_tests)
 
-transform_back : (m : Transform) → normal_transform (spelled_transform m) ≡ m → (b : Bool) → (is_some m.id || nat_lt 0 (length m.fields)) ≡ b → transform_part (cond b (Some (transform (spelled_transform m))) None) ≡ m
+transform_back : (m : Transform) → normal_transform (spelled_transform m) ≡ m → (b : Bool) →
+    (is_some m.id || nat_lt 0 (length m.fields)) ≡ b →
+    transform_part (cond b (Some (transform (spelled_transform m))) None) ≡ m
 transform_back m h true e = h
 transform_back m h false e = empty m.id m.fields e
   where
-    empty : (i : Option Identifier) (fs : Fields) → (is_some i || nat_lt 0 (length fs)) ≡ false → ◌≡◌ {A = Transform} (record { id = None; fields = [] }) (record { id = i; fields = fs })
+    empty : (i : Option Identifier) (fs : Fields) → (is_some i || nat_lt 0 (length fs)) ≡ false →
+        ◌≡◌ {A = Transform} (record { id = None; fields = [] }) (record { id = i; fields = fs })
     empty None [] e = refl
     empty _ _ e = grind (arith, nat_tests)
 
-transform_nonempty : (m : Transform) → (is_some m.id || nat_lt 0 (length m.fields)) ≡ true → option_map lower_identifier m.id ≡ None → 0 < length (spelled_fields m.fields)
+transform_nonempty : (m : Transform) → (is_some m.id || nat_lt 0 (length m.fields)) ≡ true →
+    option_map lower_identifier m.id ≡ None → 0 < length (spelled_fields m.fields)
 transform_nonempty m e n = from m.id m.fields e n (length-spelled_fields m.fields)
   where
-    from : (i : Option Identifier) (fs : Fields) → (is_some i || nat_lt 0 (length fs)) ≡ true → option_map lower_identifier i ≡ None → length (spelled_fields fs) ≡ length fs → 0 < length (spelled_fields fs)
+    from : (i : Option Identifier) (fs : Fields) → (is_some i || nat_lt 0 (length fs)) ≡ true →
+        option_map lower_identifier i ≡ None → length (spelled_fields fs) ≡ length fs →
+        0 < length (spelled_fields fs)
     from None [] e n l = absurd (true≢false (sym e))
     from None (f ∷ fs) e n l = omega arith
     from (Some i) fs e n l = cc
 
-private_back : (ws : List (List ℕ)) → AllByRecursion (IsNormal PrivateSubtag) ws → private_part (private_form ws) ≡ ws
+private_back : (ws : List (List ℕ)) → AllByRecursion (IsNormal PrivateSubtag) ws →
+    private_part (private_form ws) ≡ ws
 private_back [] h = refl
-private_back (w ∷ ws) h = map_fixed lower (w ∷ ws) (all_weaker (IsNormal PrivateSubtag) (λ w. lower w ≡ w) (λ w n. n.1) (w ∷ ws) h)
+private_back (w ∷ ws) h =
+    map_fixed lower (w ∷ ws) (all_weaker (IsNormal PrivateSubtag) (λ w. lower w ≡ w) (λ w n. n.1) (w ∷ ws) h)
 
-private_rule : (ws : List (List ℕ)) → AllByRecursion (IsNormal PrivateSubtag) ws → IfSome (private_form ws) (λ e. (lower_singleton e ≡ 120) × IsPrivate e.1)
+private_rule : (ws : List (List ℕ)) → AllByRecursion (IsNormal PrivateSubtag) ws →
+    IfSome (private_form ws) (λ e. (lower_singleton e ≡ 120) × IsPrivate e.1)
 private_rule [] h = tt
-private_rule (w ∷ ws) h = (refl, record { words = all_weaker (IsNormal PrivateSubtag) (IsWord PrivateSubtag) (λ w n. n.0) (w ∷ ws) h; nonempty = omega arith })
+private_rule (w ∷ ws) h = (
+  refl,
+  record {
+    words = all_weaker (IsNormal PrivateSubtag) (IsWord PrivateSubtag) (λ w n. n.0) (w ∷ ws) h;
+    nonempty = omega arith;
+  },
+)
 
 module _ {T : ℕ → Bool} (M : Locale) (h : IsValue T M) (g : IsTreeWellFormed M) where
   entries : AllByRecursion IsOtherEntry M.extensions.others
-  entries = all_weaker (λ o. (((is_other_singleton o.0 ≡ true) × (to_ascii_lowercase o.0 ≡ o.0)) × (0 < length o.1)) × AllByRecursion (IsNormal Subtag) o.1) IsOtherEntry (λ o x. (x.0.0, x.0.1, x.1)) M.extensions.others
-      (all_both _ _ M.extensions.others (all_both _ _ M.extensions.others g.singletons g.nonempty) h.extensions.others)
+  entries =
+      all_weaker (λ o. (((is_other_singleton o.0 ≡ true) × (to_ascii_lowercase o.0 ≡ o.0)) × (0 < length o.1))
+      × AllByRecursion (IsNormal Subtag) o.1) IsOtherEntry (λ o x. (x.0.0, x.0.1, x.1)) M.extensions.others
+      (all_both _ _ M.extensions.others (all_both _ _ M.extensions.others g.singletons g.nonempty)
+      h.extensions.others)
 
   abbrev before : Others
   before = before_t M.extensions.others
@@ -299,74 +423,127 @@ module _ {T : ℕ → Bool} (M : Locale) (h : IsValue T M) (g : IsTreeWellFormed
   extensions = plain_form before ++ (t_part ++ (u_part ++ plain_form after))
 
   extensions_are : (printed M).extensions ≡ extensions
-  extensions_are = λ i. others_form_is (before_t M.extensions.others) (all_before IsOtherEntry M.extensions.others entries) i ++ (transform_form M.extensions.transform ++ (unicode_form M.extensions.unicode ++ others_form_is (after_t M.extensions.others) (all_after IsOtherEntry M.extensions.others entries) i))
+  extensions_are = λ i.
+      others_form_is (before_t M.extensions.others) (all_before IsOtherEntry M.extensions.others entries) i
+      ++ (transform_form M.extensions.transform
+      ++ (unicode_form M.extensions.unicode
+      ++ others_form_is (after_t M.extensions.others) (all_after IsOtherEntry M.extensions.others entries) i))
 
   -- a fact of each part is a fact of all
-  all_extensions : (P : ℕ × Extension → Type 0) → AllByRecursion P (plain_form before) → (has_t ≡ true → P (116, transform (spelled_transform M.extensions.transform))) → (has_u ≡ true → P (117, unicode (spelled_unicode M.extensions.unicode))) → AllByRecursion P (plain_form after) → AllByRecursion P extensions
-  all_extensions P a b c d = all_append P (plain_form before) _ a (all_append P (cond has_t _ []) _ (all_if P has_t _ b) (all_append P (cond has_u _ []) _ (all_if P has_u _ c) d))
+  all_extensions : (P : ℕ × Extension → Type 0) → AllByRecursion P (plain_form before) →
+      (has_t ≡ true → P (116, transform (spelled_transform M.extensions.transform))) →
+      (has_u ≡ true → P (117, unicode (spelled_unicode M.extensions.unicode))) →
+      AllByRecursion P (plain_form after) → AllByRecursion P extensions
+  all_extensions P a b c d = all_append P (plain_form before) _ a (all_append P (cond has_t _ []) _
+      (all_if P has_t _ b) (all_append P (cond has_u _ []) _ (all_if P has_u _ c) d))
 
   rules : AllByRecursion (λ e. IsExtension T (lower_singleton e) e.1 × OfWords e.1) extensions
   rules = all_extensions (λ e. IsExtension T (lower_singleton e) e.1 × OfWords e.1)
-      (all_plain (λ e. IsExtension T (lower_singleton e) e.1 × OfWords e.1) IsOtherEntry (other_rule T) before entries_before)
-      (λ e. ((refl, value_transform M.extensions.transform h.extensions.transform (transform_nonempty M.extensions.transform e)), tt))
+      (all_plain (λ e. IsExtension T (lower_singleton e) e.1 × OfWords e.1) IsOtherEntry (other_rule T) before
+      entries_before)
+      (λ e. (
+        (
+          refl,
+          value_transform M.extensions.transform h.extensions.transform
+              (transform_nonempty M.extensions.transform e),
+        ),
+        tt,
+      ))
       (λ e. ((refl, value_unicode M.extensions.unicode h.extensions.unicode g.values (ltb-true 0 _ e)), tt))
-      (all_plain (λ e. IsExtension T (lower_singleton e) e.1 × OfWords e.1) IsOtherEntry (other_rule T) after entries_after)
+      (all_plain (λ e. IsExtension T (lower_singleton e) e.1 × OfWords e.1) IsOtherEntry (other_rule T) after
+      entries_after)
 
   lower_singletons : by_singleton extensions ≡ extensions
-  lower_singletons = map_fixed (λ e. (lower_singleton e, e.1)) extensions (all_extensions (λ e. (lower_singleton e, e.1) ≡ e)
-      (all_plain (λ e. (lower_singleton e, e.1) ≡ e) IsOtherEntry (λ o x i. (x.0.1 i, other o.1)) before entries_before) (λ _. refl) (λ _. refl)
-      (all_plain (λ e. (lower_singleton e, e.1) ≡ e) IsOtherEntry (λ o x i. (x.0.1 i, other o.1)) after entries_after))
+  lower_singletons =
+      map_fixed (λ e. (lower_singleton e, e.1)) extensions (all_extensions (λ e. (lower_singleton e, e.1) ≡ e)
+      (all_plain (λ e. (lower_singleton e, e.1) ≡ e) IsOtherEntry (λ o x i. (x.0.1 i, other o.1)) before
+      entries_before) (λ _. refl) (λ _. refl)
+      (all_plain (λ e. (lower_singleton e, e.1) ≡ e) IsOtherEntry (λ o x i. (x.0.1 i, other o.1)) after
+      entries_after))
 
   below_t : AllByRecursion (λ e. e.0 < 116) (plain_form before)
-  below_t = all_plain (λ e. e.0 < 116) (λ o. IsOtherEntry o × (o.0 ≤ 116)) (λ o x. let n : o.0 ≢ 116 = λ e. no_t o.0 e x.0.0.0 in let l = x.1 in omega arith) (before_t M.extensions.others) (all_both IsOtherEntry (λ o. o.0 ≤ 116) (before_t M.extensions.others) (all_before IsOtherEntry M.extensions.others entries) (before_le M.extensions.others))
+  below_t = all_plain (λ e. e.0 < 116) (λ o. IsOtherEntry o × (o.0 ≤ 116))
+      (λ o x. let n : o.0 ≢ 116 = λ e. no_t o.0 e x.0.0.0 in let l = x.1 in omega arith)
+      (before_t M.extensions.others) (all_both IsOtherEntry (λ o. o.0 ≤ 116) (before_t M.extensions.others)
+      (all_before IsOtherEntry M.extensions.others entries) (before_le M.extensions.others))
 
   above_u : AllByRecursion (λ e. 118 ≤ e.0) (plain_form after)
-  above_u = all_plain (λ e. 118 ≤ e.0) (λ o. IsOtherEntry o × (116 < o.0)) (λ o x. let n : o.0 ≢ 117 = λ e. no_u o.0 e x.0.0.0 in let l = x.1 in omega arith) (after_t M.extensions.others) (all_both IsOtherEntry (λ o. 116 < o.0) (after_t M.extensions.others) (all_after IsOtherEntry M.extensions.others entries) (after_gt M.extensions.others g.ascending))
+  above_u = all_plain (λ e. 118 ≤ e.0) (λ o. IsOtherEntry o × (116 < o.0))
+      (λ o x. let n : o.0 ≢ 117 = λ e. no_u o.0 e x.0.0.0 in let l = x.1 in omega arith)
+      (after_t M.extensions.others) (all_both IsOtherEntry (λ o. 116 < o.0) (after_t M.extensions.others)
+      (all_after IsOtherEntry M.extensions.others entries) (after_gt M.extensions.others g.ascending))
 
   in_order : is_sorted nat_cmp extensions ≡ true
   in_order =
-      let u : is_sorted nat_cmp (u_part ++ plain_form after) ≡ true = sorted_append 118 u_part (plain_form after) (sorted_if has_u _) (all_if (λ e. e.0 < 118) has_u _ (λ _. omega arith)) (sorted_plain (after_t M.extensions.others) (sorted_after M.extensions.others g.ascending)) above_u in
-      let t : is_sorted nat_cmp (t_part ++ (u_part ++ plain_form after)) ≡ true = sorted_append 117 t_part _ (sorted_if has_t _) (all_if (λ e. e.0 < 117) has_t _ (λ _. omega arith)) u (all_append (λ e. 117 ≤ e.0) u_part _ (all_if (λ e. 117 ≤ e.0) has_u _ (λ _. omega arith)) (all_weaker (λ e. 118 ≤ e.0) (λ e. 117 ≤ e.0) (λ e l. omega arith) _ above_u)) in
-      sorted_append 116 (plain_form before) _ (sorted_plain (before_t M.extensions.others) (sorted_before M.extensions.others g.ascending)) below_t t
-      (all_append (λ e. 116 ≤ e.0) t_part _ (all_if (λ e. 116 ≤ e.0) has_t _ (λ _. omega arith)) (all_append (λ e. 116 ≤ e.0) u_part _ (all_if (λ e. 116 ≤ e.0) has_u _ (λ _. omega arith)) (all_weaker (λ e. 118 ≤ e.0) (λ e. 116 ≤ e.0) (λ e l. omega arith) _ above_u)))
+      let u : is_sorted nat_cmp (u_part ++ plain_form after) ≡ true = sorted_append 118 u_part
+      (plain_form after) (sorted_if has_u _) (all_if (λ e. e.0 < 118) has_u _ (λ _. omega arith))
+      (sorted_plain (after_t M.extensions.others) (sorted_after M.extensions.others g.ascending)) above_u in
+      let t : is_sorted nat_cmp (t_part ++ (u_part ++ plain_form after)) ≡ true =
+      sorted_append 117 t_part _ (sorted_if has_t _) (all_if (λ e. e.0 < 117) has_t _ (λ _. omega arith)) u
+      (all_append (λ e. 117 ≤ e.0) u_part _ (all_if (λ e. 117 ≤ e.0) has_u _ (λ _. omega arith))
+      (all_weaker (λ e. 118 ≤ e.0) (λ e. 117 ≤ e.0) (λ e l. omega arith) _ above_u)) in
+      sorted_append 116 (plain_form before) _
+      (sorted_plain (before_t M.extensions.others) (sorted_before M.extensions.others g.ascending)) below_t t
+      (all_append (λ e. 116 ≤ e.0) t_part _ (all_if (λ e. 116 ≤ e.0) has_t _ (λ _. omega arith))
+      (all_append (λ e. 116 ≤ e.0) u_part _ (all_if (λ e. 116 ≤ e.0) has_u _ (λ _. omega arith))
+      (all_weaker (λ e. 118 ≤ e.0) (λ e. 116 ≤ e.0) (λ e l. omega arith) _ above_u)))
 
-  find_t : find nat_cmp 116 extensions ≡ cond has_t (Some (transform (spelled_transform M.extensions.transform))) None
-  find_t = find_skip 116 (plain_form before) _ (all_weaker (λ e. e.0 < 116) (λ e. e.0 ≢ 116) (λ e l. omega arith) _ below_t)
-      ∙ find_if 116 has_t _ _ refl (all_append (λ e. e.0 ≢ 116) u_part _ (all_if (λ e. e.0 ≢ 116) has_u _ (λ _. omega arith)) (all_weaker (λ e. 118 ≤ e.0) (λ e. e.0 ≢ 116) (λ e l. omega arith) _ above_u))
+  find_t : find nat_cmp 116 extensions
+      ≡ cond has_t (Some (transform (spelled_transform M.extensions.transform))) None
+  find_t = find_skip 116 (plain_form before) _
+      (all_weaker (λ e. e.0 < 116) (λ e. e.0 ≢ 116) (λ e l. omega arith) _ below_t)
+      ∙ find_if 116 has_t _ _ refl
+      (all_append (λ e. e.0 ≢ 116) u_part _ (all_if (λ e. e.0 ≢ 116) has_u _ (λ _. omega arith))
+      (all_weaker (λ e. 118 ≤ e.0) (λ e. e.0 ≢ 116) (λ e l. omega arith) _ above_u))
 
-  find_u : find nat_cmp 117 extensions ≡ cond has_u (Some (unicode (spelled_unicode M.extensions.unicode))) None
-  find_u = find_skip 117 (plain_form before) _ (all_weaker (λ e. e.0 < 116) (λ e. e.0 ≢ 117) (λ e l. omega arith) _ below_t)
+  find_u : find nat_cmp 117 extensions
+      ≡ cond has_u (Some (unicode (spelled_unicode M.extensions.unicode))) None
+  find_u = find_skip 117 (plain_form before) _
+      (all_weaker (λ e. e.0 < 116) (λ e. e.0 ≢ 117) (λ e l. omega arith) _ below_t)
       ∙ find_skip 117 t_part _ (all_if (λ e. e.0 ≢ 117) has_t _ (λ _. omega arith))
-      ∙ find_if 117 has_u _ _ refl (all_weaker (λ e. 118 ≤ e.0) (λ e. e.0 ≢ 117) (λ e l. omega arith) _ above_u)
+      ∙ find_if 117 has_u _ _ refl
+      (all_weaker (λ e. 118 ≤ e.0) (λ e. e.0 ≢ 117) (λ e l. omega arith) _ above_u)
 
   others_back : filter_map other_part extensions ≡ M.extensions.others
   others_back = filter_map-append other_part (plain_form before) _
-      ∙ ap₂ ◌++◌ (parts_plain before entries_before) (filter_map-append other_part t_part _ ∙ ap₂ ◌++◌ (no_parts has_t _ _ refl) (filter_map-append other_part u_part _ ∙ ap₂ ◌++◌ (no_parts has_u _ _ refl) (parts_plain after entries_after)))
+      ∙ ap₂ ◌++◌ (parts_plain before entries_before) (filter_map-append other_part t_part _
+      ∙ ap₂ ◌++◌ (no_parts has_t _ _ refl) (filter_map-append other_part u_part _
+      ∙ ap₂ ◌++◌ (no_parts has_u _ _ refl) (parts_plain after entries_after)))
       ∙ before-after M.extensions.others
 
   grammatical : IsWritten T (printed M)
   grammatical = record {
     id = value_identifier M.id h.id;
-    extensions = subst (AllByRecursion (λ e. IsExtension T (lower_singleton e) e.1)) (sym extensions_are) (all_weaker (λ e. IsExtension T (lower_singleton e) e.1 × OfWords e.1) (λ e. IsExtension T (lower_singleton e) e.1) (λ e x. x.0) extensions rules);
-    different = subst (λ es. AllDifferent nat_cmp (map (λ (e : ℕ × Extension). lower_singleton e) es)) (sym extensions_are) (subst (AllDifferent nat_cmp) (keys_lower extensions lower_singletons) (sorted_different nat_cmp extensions in_order));
+    extensions = subst (AllByRecursion (λ e. IsExtension T (lower_singleton e) e.1)) (sym extensions_are)
+        (all_weaker (λ e. IsExtension T (lower_singleton e) e.1 × OfWords e.1)
+        (λ e. IsExtension T (lower_singleton e) e.1) (λ e x. x.0) extensions rules);
+    different = subst (λ es. AllDifferent nat_cmp (map (λ (e : ℕ × Extension). lower_singleton e) es))
+        (sym extensions_are) (subst (AllDifferent nat_cmp) (keys_lower extensions lower_singletons)
+        (sorted_different nat_cmp extensions in_order));
     private = private_rule M.extensions.private h.extensions.private;
   }
     where
-      keys_twice : (es : List (ℕ × Extension)) → map (λ e. e.0) (by_singleton es) ≡ map (λ e. lower_singleton e) es
+      keys_twice : (es : List (ℕ × Extension)) →
+          map (λ e. e.0) (by_singleton es) ≡ map (λ e. lower_singleton e) es
       keys_twice [] = refl
       keys_twice (e ∷ es) = ap (λ l. lower_singleton e ∷ l) (keys_twice es)
 
-      keys_lower : (es : List (ℕ × Extension)) → by_singleton es ≡ es → map (λ e. e.0) es ≡ map (λ e. lower_singleton e) es
+      keys_lower : (es : List (ℕ × Extension)) → by_singleton es ≡ es →
+          map (λ e. e.0) es ≡ map (λ e. lower_singleton e) es
       keys_lower es e = ap (map (λ e. e.0)) (sym e) ∙ keys_twice es
 
   of_words : AllByRecursion (λ e. OfWords e.1) (printed M).extensions
-  of_words = subst (AllByRecursion (λ e. OfWords e.1)) (sym extensions_are) (all_weaker (λ e. IsExtension T (lower_singleton e) e.1 × OfWords e.1) (λ e. OfWords e.1) (λ e x. x.1) extensions rules)
+  of_words = subst (AllByRecursion (λ e. OfWords e.1)) (sym extensions_are)
+      (all_weaker (λ e. IsExtension T (lower_singleton e) e.1 × OfWords e.1) (λ e. OfWords e.1) (λ e x. x.1)
+      extensions rules)
 
   spelled : pieces (tree_text M) ≡ spelling (printed M)
   spelled = pieces_spelled (printed M) grammatical of_words
 
   -- what holds of each word and of each singleton holds of each piece of the text
-  pub printed_each : (P : List ℕ → Type 0) → ((k : Kind) (p : List ℕ) → IsWord k p → P p) → ((c : ℕ) → is_ascii_alphanumeric (to_ascii_lowercase c) ≡ true → P (c ∷ [])) → AllByRecursion P (spelling (printed M))
+  pub printed_each : (P : List ℕ → Type 0) → ((k : Kind) (p : List ℕ) → IsWord k p → P p) →
+      ((c : ℕ) → is_ascii_alphanumeric (to_ascii_lowercase c) ≡ true → P (c ∷ [])) →
+      AllByRecursion P (spelling (printed M))
   printed_each P word singleton = written_each P word singleton (printed M) grammatical of_words
 
   entries_are : by_singleton (printed M).extensions ≡ extensions
@@ -376,33 +553,49 @@ module _ {T : ℕ → Bool} (M : Locale) (h : IsValue T M) (g : IsTreeWellFormed
   means_value = λ k. record {
     id = normal_value M.id h.id k;
     extensions = record {
-      unicode = (ap (λ es. unicode_part (find nat_cmp 117 es)) entries_are ∙ ap unicode_part find_u ∙ unicode_back M.extensions.unicode (normal_value_unicode M.extensions.unicode h.extensions.unicode g.values) has_u refl) k;
-      transform = (ap (λ es. transform_part (find nat_cmp 116 es)) entries_are ∙ ap transform_part find_t ∙ transform_back M.extensions.transform (normal_value_transform M.extensions.transform h.extensions.transform) has_t refl) k;
+      unicode = (ap (λ es. unicode_part (find nat_cmp 117 es)) entries_are ∙ ap unicode_part find_u
+          ∙ unicode_back M.extensions.unicode
+          (normal_value_unicode M.extensions.unicode h.extensions.unicode g.values) has_u refl) k;
+      transform = (ap (λ es. transform_part (find nat_cmp 116 es)) entries_are ∙ ap transform_part find_t
+          ∙ transform_back M.extensions.transform
+          (normal_value_transform M.extensions.transform h.extensions.transform) has_t refl) k;
       private = private_back M.extensions.private h.extensions.private k;
-      others = (ap (λ es. map_of nat_cmp (filter_map other_part es)) entries_are ∙ ap (map_of nat_cmp) others_back ∙ map_of_sorted nat_cmp M.extensions.others g.ascending) k;
+      others = (ap (λ es. map_of nat_cmp (filter_map other_part es)) entries_are
+          ∙ ap (map_of nat_cmp) others_back ∙ map_of_sorted nat_cmp M.extensions.others g.ascending) k;
     };
   }
 
   -- the printed text means the value
   pub reads_back : TreeMeans T (tree_text M) M
-  reads_back = record { written = printed M; grammatical = grammatical; spelled = spelled; means = sym means_value }
+  reads_back =
+      record { written = printed M; grammatical = grammatical; spelled = spelled; means = sym means_value }
 
   -- what is found of the printed form
   pub printed_in_order : is_sorted nat_cmp (printed M).extensions ≡ true
   printed_in_order = ap (is_sorted nat_cmp) extensions_are ∙ in_order
 
-  pub printed_t : find nat_cmp 116 (printed M).extensions ≡ cond (is_some M.extensions.transform.id || nat_lt 0 (length M.extensions.transform.fields)) (Some (transform (spelled_transform M.extensions.transform))) None
+  pub printed_t : find nat_cmp 116 (printed M).extensions
+      ≡ cond (is_some M.extensions.transform.id || nat_lt 0 (length M.extensions.transform.fields))
+      (Some (transform (spelled_transform M.extensions.transform))) None
   printed_t = ap (find nat_cmp 116) extensions_are ∙ find_t
 
-  pub printed_u : find nat_cmp 117 (printed M).extensions ≡ cond (nat_lt 0 (length M.extensions.unicode.attributes + length M.extensions.unicode.keywords)) (Some (unicode (spelled_unicode M.extensions.unicode))) None
+  pub printed_u : find nat_cmp 117 (printed M).extensions
+      ≡ cond (nat_lt 0 (length M.extensions.unicode.attributes + length M.extensions.unicode.keywords))
+      (Some (unicode (spelled_unicode M.extensions.unicode))) None
   printed_u = ap (find nat_cmp 117) extensions_are ∙ find_u
 
-  pub printed_other : (q : ℕ) → q ≢ 116 → q ≢ 117 → find nat_cmp q (printed M).extensions ≡ option_map other (find nat_cmp q M.extensions.others)
+  pub printed_other : (q : ℕ) → q ≢ 116 → q ≢ 117 →
+      find nat_cmp q (printed M).extensions ≡ option_map other (find nat_cmp q M.extensions.others)
   printed_other q t u = ap (find nat_cmp q) extensions_are
-      ∙ past (plain_form before) _ (plain_form after) (find_skip q t_part (u_part ++ plain_form after) (all_if (λ e. e.0 ≢ q) has_t _ (λ _ e. t (sym e))) ∙ find_skip q u_part (plain_form after) (all_if (λ e. e.0 ≢ q) has_u _ (λ _ e. u (sym e))))
-      ∙ ap (find nat_cmp q) (sym (map-append (λ o. (o.0, other o.1)) before after)) ∙ plain_found (before ++ after) ∙ ap (λ os. option_map other (find nat_cmp q os)) (before-after M.extensions.others)
+      ∙ past (plain_form before) _ (plain_form after)
+      (find_skip q t_part (u_part ++ plain_form after) (all_if (λ e. e.0 ≢ q) has_t _ (λ _ e. t (sym e)))
+      ∙ find_skip q u_part (plain_form after) (all_if (λ e. e.0 ≢ q) has_u _ (λ _ e. u (sym e))))
+      ∙ ap (find nat_cmp q) (sym (map-append (λ o. (o.0, other o.1)) before after))
+      ∙ plain_found (before ++ after)
+      ∙ ap (λ os. option_map other (find nat_cmp q os)) (before-after M.extensions.others)
     where
-      past : (xs ys zs : List (ℕ × Extension)) → find nat_cmp q ys ≡ find nat_cmp q zs → find nat_cmp q (xs ++ ys) ≡ find nat_cmp q (xs ++ zs)
+      past : (xs ys zs : List (ℕ × Extension)) → find nat_cmp q ys ≡ find nat_cmp q zs →
+          find nat_cmp q (xs ++ ys) ≡ find nat_cmp q (xs ++ zs)
       past [] ys zs e = e
       past (x ∷ xs) ys zs e = ap (cond (eq_by_cmp nat_cmp q x.0) (Some x.1)) (past xs ys zs e)
 

@@ -1,8 +1,10 @@
 -- Reading a word.
-use Rattle.std.proofs.Common.{◌≡◌, ◌↔◌, ℕ, false, List, length, refl, sym, ap, ◌∙◌, Some, Ok, Err, Bool, true, Result, cond}
+use Rattle.std.proofs.Common.{◌≡◌, ◌↔◌, ℕ, false, List, length, refl, sym, ap, ◌∙◌, Some, Ok, Err, Bool, true}
+use Rattle.std.proofs.Common.{Result, cond}
 use Rattle.iloc_spec_grammar.specs.Syntax.{Kind, is_word, IsWord, normal, lower, word, read}
 use Rattle.iloc_spec_grammar.specs.Values.{IsNormal}
-use Rattle.iloc_spec_grammar.proofs.WordsLaws.{normal-normal, is_word-normal, is_word-same, length-normal, normal-lower, same_normal}
+use Rattle.iloc_spec_grammar.proofs.WordsLaws.{normal-normal, is_word-normal, is_word-same, length-normal}
+use Rattle.iloc_spec_grammar.proofs.WordsLaws.{normal-lower, same_normal}
 use Rattle.std.proofs.lemmas.Option.{cond_some}
 
 pub accepted_from_word : (k : Kind) (p w : List ℕ) → word k p ≡ Some w → IsWord k p × (normal k p ≡ w)
@@ -29,7 +31,8 @@ length_kept k p w e =
     ap length (sym h.1) ∙ length-normal k p
 
 -- two texts have one normal form exactly where they are equal without case
-pub one_normal : (k : Kind) (a b v w : List ℕ) → word k a ≡ Some v → word k b ≡ Some w → (v ≡ w) ↔ (lower a ≡ lower b)
+pub one_normal : (k : Kind) (a b v w : List ℕ) → word k a ≡ Some v → word k b ≡ Some w →
+    (v ≡ w) ↔ (lower a ≡ lower b)
 one_normal k a b v w ea eb =
     let ha = accepted_from_word k a v ea in
     let hb = accepted_from_word k b w eb in
@@ -38,21 +41,27 @@ one_normal k a b v w ea eb =
 -- a normal word is the normal text of exactly the texts that equal it without case
 pub normal_of_same : (k : Kind) (w p : List ℕ) → IsNormal k w → (lower w ≡ lower p) ↔ (word k p ≡ Some w)
 normal_of_same k w p h = (
-  (λ e. word_of_word k p (is_word-same k p w (sym e) ∙ h.0) ∙ ap Some (sym (normal-lower k p) ∙ ap (normal k) (sym e) ∙ normal-lower k w ∙ h.1)),
+  (λ e. word_of_word k p (is_word-same k p w (sym e) ∙ h.0)
+      ∙ ap Some (sym (normal-lower k p) ∙ ap (normal k) (sym e) ∙ normal-lower k w ∙ h.1)),
   (λ e. (one_normal k w p w w (word-normal k w h) e).0 refl),
 )
 
 -- what reading a word tells
-pub accepted_from_read : {E : Type 0} (k : Kind) (e : E) (p w : List ℕ) → Ok w ≡ read k e p → IsWord k p × (w ≡ normal k p)
+pub accepted_from_read : {E : Type 0} (k : Kind) (e : E) (p w : List ℕ) → Ok w ≡ read k e p →
+    IsWord k p × (w ≡ normal k p)
 accepted_from_read {E = E} k e p w h = by (is_word k p) refl h
   where
-    by : (b : Bool) → is_word k p ≡ b → ◌≡◌ {A = Result (List ℕ) E} (Ok w) (cond b (Ok (normal k p)) (Err e)) → IsWord k p × (w ≡ normal k p)
+    by : (b : Bool) → is_word k p ≡ b →
+        ◌≡◌ {A = Result (List ℕ) E} (Ok w) (cond b (Ok (normal k p)) (Err e)) → IsWord k p × (w ≡ normal k p)
     by true i h = (i, cc)
     by false i h = cc
 
-pub refused_from_read : {E : Type 0} (k : Kind) (e f : E) (p : List ℕ) → Err f ≡ read k e p → (is_word k p ≡ false) × (f ≡ e)
+pub refused_from_read : {E : Type 0} (k : Kind) (e f : E) (p : List ℕ) → Err f ≡ read k e p →
+    (is_word k p ≡ false) × (f ≡ e)
 refused_from_read {E = E} k e f p h = by (is_word k p) refl h
   where
-    by : (b : Bool) → is_word k p ≡ b → ◌≡◌ {A = Result (List ℕ) E} (Err f) (cond b (Ok (normal k p)) (Err e)) → (is_word k p ≡ false) × (f ≡ e)
+    by : (b : Bool) → is_word k p ≡ b →
+        ◌≡◌ {A = Result (List ℕ) E} (Err f) (cond b (Ok (normal k p)) (Err e)) →
+        (is_word k p ≡ false) × (f ≡ e)
     by true i h = cc
     by false i h = (i, cc)

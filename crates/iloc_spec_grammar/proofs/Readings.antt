@@ -1,18 +1,32 @@
 -- Each spelling has one reading: blocks end at pieces of one byte, and fields at keys.
-use Rattle.std.proofs.Common.{◌≡◌, ◌≢◌, inl, inr, ℕ, ◌≤◌, Bool, true, false, cond, ◌&&◌, ◌==◌, List, [], ◌∷◌, ◌++◌, length, map, flat_map, refl, sym, ap, ◌∙◌, arith, Option, Some, None, IfSome, option_to_list, true≢false, slice_index, append-nil}
+use Rattle.std.proofs.Common.{◌≡◌, ◌≢◌, inl, inr, ℕ, ◌≤◌, Bool, true, false, cond, ◌&&◌, ◌==◌, List, [], ◌∷◌}
+use Rattle.std.proofs.Common.{◌++◌, length, map, flat_map, refl, sym, ap, ◌∙◌, arith, Option, Some, None}
+use Rattle.std.proofs.Common.{IfSome, option_to_list, true≢false, slice_index, append-nil}
 use Rattle.std.specs.List.{AllByRecursion, list_all}
 use Rattle.std.specs.Char.{is_ascii_alphabetic, is_ascii_digit}
 use Rattle.std.proofs.lemmas.Bool.{and_parts, false_from_ne_true, or_cases, ne_eqb, eqb-true}
 use Rattle.std.proofs.lemmas.Bool.Decides.{nat_tests}
 use Rattle.std.specs.Int.{is_in_range}
-use Rattle.iloc_spec_grammar.specs.Syntax.{Language, Script, Region, Variant, UnicodeKey, TransformKey, Attribute, is_word, IsWord, AreLengths, letters, digits, SpelledIdentifier, SpelledUnicode, SpelledTransform, Fields, identifier_pieces, optional_pieces, fields_pieces, unicode_pieces, transform_pieces, HasWords, IsIdentifier, IsKeyword, IsField, IsUnicode, IsTransform, lower_singleton, is_one_byte, front, blocks, head, tail_blocks, IsPrivate}
-use Rattle.iloc_spec_grammar.specs.Tree.{Extension, unicode, transform, other, Written, extension_pieces, extension_block, block_pieces, blocks_of, spelling, IsUnicodeBlock, IsTransformBlock, IsExtension, IsWritten, TreeMeans, meaning}
+use Rattle.iloc_spec_grammar.specs.Syntax.{Language, Script, Region, Variant, UnicodeKey, TransformKey}
+use Rattle.iloc_spec_grammar.specs.Syntax.{Attribute, is_word, IsWord, AreLengths, letters, digits}
+use Rattle.iloc_spec_grammar.specs.Syntax.{SpelledIdentifier, SpelledUnicode, SpelledTransform, Fields}
+use Rattle.iloc_spec_grammar.specs.Syntax.{identifier_pieces, optional_pieces, fields_pieces, unicode_pieces}
+use Rattle.iloc_spec_grammar.specs.Syntax.{transform_pieces, HasWords, IsIdentifier, IsKeyword, IsField}
+use Rattle.iloc_spec_grammar.specs.Syntax.{IsUnicode, IsTransform, lower_singleton, is_one_byte, front}
+use Rattle.iloc_spec_grammar.specs.Syntax.{blocks, head, tail_blocks, IsPrivate}
+use Rattle.iloc_spec_grammar.specs.Tree.{Extension, unicode, transform, other, Written, extension_pieces}
+use Rattle.iloc_spec_grammar.specs.Tree.{extension_block, block_pieces, blocks_of, spelling, IsUnicodeBlock}
+use Rattle.iloc_spec_grammar.specs.Tree.{IsTransformBlock, IsExtension, IsWritten, TreeMeans, meaning}
 use Rattle.iloc_spec_grammar.specs.Meaning.{Locale}
-use Rattle.iloc_spec_grammar.proofs.WordsLaws.{length-language, length-script, length-region, length-variant, length-attribute, length-unicode_key, length-transform_key}
+use Rattle.iloc_spec_grammar.proofs.WordsLaws.{length-language, length-script, length-region, length-variant}
+use Rattle.iloc_spec_grammar.proofs.WordsLaws.{length-attribute, length-unicode_key, length-transform_key}
 use Rattle.iloc_spec_grammar.proofs.IdentifierLaws.{pieces-identifier_of, identifier_of-pieces}
-use Rattle.iloc_spec_grammar.specs.Reading.{identifier_of, before_key, fields_from, is_two, unicode_of, optional_of, transform_of, extension_by, extension_of, extensions_in, private_in, written_of}
+use Rattle.iloc_spec_grammar.specs.Reading.{identifier_of, before_key, fields_from, is_two, unicode_of}
+use Rattle.iloc_spec_grammar.specs.Reading.{optional_of, transform_of, extension_by, extension_of}
+use Rattle.iloc_spec_grammar.specs.Reading.{extensions_in, private_in, written_of}
 use Rattle.iloc_spec_grammar.proofs.ValuesLaws.{all_weaker}
-use Rattle.iloc_spec_grammar.proofs.ReadBack.{all_append, after_language_each, optional_each, fields_each, plain_fields}
+use Rattle.iloc_spec_grammar.proofs.ReadBack.{all_append, after_language_each, optional_each, fields_each}
+use Rattle.iloc_spec_grammar.proofs.ReadBack.{plain_fields}
 use Rattle.iloc_spec_grammar.proofs.Singletons.{no_t, no_u}
 
 -- pieces of more than one byte
@@ -39,11 +53,14 @@ long_attribute p h = long _ (let l = length-attribute p h in omega arith)
 abbrev pub after_language : SpelledIdentifier → List (List ℕ)
 after_language i = option_to_list i.script ++ (option_to_list i.region ++ i.variants)
 
-pub long_after_language : {T : ℕ → Bool} (i : SpelledIdentifier) → HasWords T i → AllByRecursion IsLong (after_language i)
+pub long_after_language : {T : ℕ → Bool} (i : SpelledIdentifier) → HasWords T i →
+    AllByRecursion IsLong (after_language i)
 long_after_language i h = after_language_each IsLong long_script long_region long_variant i h
 
-long_identifier : (T : ℕ → Bool) → AreLengths T → (i : SpelledIdentifier) → HasWords T i → AllByRecursion IsLong (identifier_pieces i)
-long_identifier T t i h = (long _ (t.least _ (length-language T i.language h.language)), long_after_language i h)
+long_identifier : (T : ℕ → Bool) → AreLengths T → (i : SpelledIdentifier) → HasWords T i →
+    AllByRecursion IsLong (identifier_pieces i)
+long_identifier T t i h =
+    (long _ (t.least _ (length-language T i.language h.language)), long_after_language i h)
 
 long_key : (p : List ℕ) → length p ≡ 2 → IsLong p
 long_key p h = long _ (omega arith)
@@ -51,17 +68,24 @@ long_key p h = long _ (omega arith)
 pub long_between : (p : List ℕ) → is_in_range 2 8 (length p) ≡ true → IsLong p
 long_between p h = grind (arith, nat_tests)
 
-pub long_extension : (T : ℕ → Bool) → AreLengths T → (c : ℕ) (e : Extension) → IsExtension T c e → AllByRecursion IsLong (extension_pieces e)
-long_extension T t c (unicode u) h = all_append IsLong u.attributes _ (all_weaker (IsWord Attribute) IsLong long_attribute u.attributes h.1.attributes) (fields_each IsLong UnicodeKey (λ p k. long_key p (length-unicode_key p k)) long_attribute u.keywords h.1.keywords)
-long_extension T t c (transform m) h = all_append IsLong (optional_pieces m.id) _ (optional_each IsLong T (long_identifier T t) m.id h.1.id) (fields_each IsLong TransformKey (λ p k. long_key p (length-transform_key p k)) long_attribute m.fields (plain_fields m.fields h.1.fields))
-long_extension T t c (other ps) h = all_weaker (λ p. is_in_range 2 8 (length p) ≡ true) IsLong long_between ps h.1.lengths
+pub long_extension : (T : ℕ → Bool) → AreLengths T → (c : ℕ) (e : Extension) → IsExtension T c e →
+    AllByRecursion IsLong (extension_pieces e)
+long_extension T t c (unicode u) h = all_append IsLong u.attributes _
+    (all_weaker (IsWord Attribute) IsLong long_attribute u.attributes h.1.attributes) (fields_each IsLong
+    UnicodeKey (λ p k. long_key p (length-unicode_key p k)) long_attribute u.keywords h.1.keywords)
+long_extension T t c (transform m) h = all_append IsLong (optional_pieces m.id) _
+    (optional_each IsLong T (long_identifier T t) m.id h.1.id) (fields_each IsLong TransformKey
+    (λ p k. long_key p (length-transform_key p k)) long_attribute m.fields (plain_fields m.fields h.1.fields))
+long_extension T t c (other ps) h =
+    all_weaker (λ p. is_in_range 2 8 (length p) ≡ true) IsLong long_between ps h.1.lengths
 
 -- blocks
 
 Raw : Type 0
 Raw = ℕ × List (List ℕ)
 
-front_before : (xs : List (List ℕ)) (bs : List (ℕ × List (List ℕ))) → AllByRecursion IsLong xs → front (xs ++ flat_map block_pieces bs) ≡ xs
+front_before : (xs : List (List ℕ)) (bs : List (ℕ × List (List ℕ))) → AllByRecursion IsLong xs →
+    front (xs ++ flat_map block_pieces bs) ≡ xs
 front_before [] [] h = refl
 front_before [] (b ∷ bs) h = refl
 front_before (x ∷ xs) bs h = rw h.0 (ap (λ l. x ∷ l) (front_before xs bs h.1))
@@ -75,16 +99,21 @@ blocks_past : (xs ys : List (List ℕ)) → AllByRecursion IsLong xs → blocks 
 blocks_past [] ys h = refl
 blocks_past (x ∷ xs) ys h = blocks_skip x (xs ++ ys) h.0 ∙ blocks_past xs ys h.1
 
-pub blocks_spelled : (bs : List (ℕ × List (List ℕ))) (x : Option (ℕ × List (List ℕ))) → AllByRecursion (λ b. ((lower_singleton b == 120) ≡ false) × AllByRecursion IsLong b.1) bs → IfSome x (λ b. (lower_singleton b == 120) ≡ true) → blocks (flat_map block_pieces (bs ++ option_to_list x)) ≡ bs ++ option_to_list x
+pub blocks_spelled : (bs : List (ℕ × List (List ℕ))) (x : Option (ℕ × List (List ℕ))) →
+    AllByRecursion (λ b. ((lower_singleton b == 120) ≡ false) × AllByRecursion IsLong b.1) bs →
+    IfSome x (λ b. (lower_singleton b == 120) ≡ true) →
+    blocks (flat_map block_pieces (bs ++ option_to_list x)) ≡ bs ++ option_to_list x
 blocks_spelled [] None h k = refl
 blocks_spelled [] (Some b) h k = rw k (ap (λ ps. (b.0, ps) ∷ []) (append-nil b.1))
-blocks_spelled (b ∷ bs) x h k = rw h.0.0 (λ i. (b.0, front_before b.1 (bs ++ option_to_list x) h.0.1 i) ∷ (blocks_past b.1 (flat_map block_pieces (bs ++ option_to_list x)) h.0.1 ∙ blocks_spelled bs x h.1 k) i)
+blocks_spelled (b ∷ bs) x h k = rw h.0.0 (λ i. (b.0, front_before b.1 (bs ++ option_to_list x) h.0.1 i)
+    ∷ (blocks_past b.1 (flat_map block_pieces (bs ++ option_to_list x)) h.0.1 ∙ blocks_spelled bs x h.1 k) i)
 
 pub is_no_x : (T : ℕ → Bool) (c : ℕ) (e : Extension) → IsExtension T c e → (c == 120) ≡ false
 is_no_x T c (other ps) h = grind (arith, nat_tests, h.0)
 is_no_x T c _ h = rw h.0
 
-is_120 : (x : Option (ℕ × List (List ℕ))) → IfSome x (λ e. (lower_singleton e ≡ 120) × IsPrivate e.1) → IfSome x (λ b. (lower_singleton b == 120) ≡ true)
+is_120 : (x : Option (ℕ × List (List ℕ))) → IfSome x (λ e. (lower_singleton e ≡ 120) × IsPrivate e.1) →
+    IfSome x (λ b. (lower_singleton b == 120) ≡ true)
 is_120 None h = tt
 is_120 (Some b) h = rw h.0
 
@@ -92,21 +121,31 @@ is_120 (Some b) h = rw h.0
 abbrev pub AreLong : List (ℕ × Extension) → Type 0
 AreLong es = AllByRecursion (λ e. AllByRecursion IsLong (extension_pieces e.1)) es
 
-pub long_extensions : {T : ℕ → Bool} → AreLengths T → (es : List (ℕ × Extension)) → AllByRecursion (λ e. IsExtension T (lower_singleton e) e.1) es → AreLong es
-long_extensions {T = T} t = all_weaker _ (λ e. AllByRecursion IsLong (extension_pieces e.1)) (λ e h. long_extension T t (lower_singleton e) e.1 h)
+pub long_extensions : {T : ℕ → Bool} → AreLengths T → (es : List (ℕ × Extension)) →
+    AllByRecursion (λ e. IsExtension T (lower_singleton e) e.1) es → AreLong es
+long_extensions {T = T} t = all_weaker _ (λ e. AllByRecursion IsLong (extension_pieces e.1))
+    (λ e h. long_extension T t (lower_singleton e) e.1 h)
 
-extension_blocks : (T : ℕ → Bool) (es : List (ℕ × Extension)) → AllByRecursion (λ e. IsExtension T (lower_singleton e) e.1) es → AreLong es → AllByRecursion (λ b. ((lower_singleton b == 120) ≡ false) × AllByRecursion IsLong b.1) (map extension_block es)
+extension_blocks : (T : ℕ → Bool) (es : List (ℕ × Extension)) →
+    AllByRecursion (λ e. IsExtension T (lower_singleton e) e.1) es → AreLong es →
+    AllByRecursion (λ b. ((lower_singleton b == 120) ≡ false) × AllByRecursion IsLong b.1)
+    (map extension_block es)
 extension_blocks T [] h l = tt
 extension_blocks T (e ∷ es) h l = ((is_no_x T _ e.1 h.0, l.0), extension_blocks T es h.1 l.1)
 
 -- the head and the blocks of a spelling
 pub head-spelling : {T : ℕ → Bool} (w : Written) → IsWritten T w → head (spelling w) ≡ identifier_pieces w.id
-head-spelling w h = ap (λ ps. w.id.language ∷ ps) (front_before (after_language w.id) (blocks_of w) (long_after_language w.id h.id.words))
+head-spelling w h = ap (λ ps. w.id.language ∷ ps)
+    (front_before (after_language w.id) (blocks_of w) (long_after_language w.id h.id.words))
 
-pub blocks-spelling-long : {T : ℕ → Bool} (w : Written) → IsWritten T w → AreLong w.extensions → tail_blocks (spelling w) ≡ blocks_of w
-blocks-spelling-long {T = T} w h l = blocks_past (after_language w.id) _ (long_after_language w.id h.id.words) ∙ blocks_spelled (map extension_block w.extensions) w.private (extension_blocks T w.extensions h.extensions l) (is_120 w.private h.private)
+pub blocks-spelling-long : {T : ℕ → Bool} (w : Written) → IsWritten T w → AreLong w.extensions →
+    tail_blocks (spelling w) ≡ blocks_of w
+blocks-spelling-long {T = T} w h l = blocks_past (after_language w.id) _ (long_after_language w.id h.id.words)
+    ∙ blocks_spelled (map extension_block w.extensions) w.private
+    (extension_blocks T w.extensions h.extensions l) (is_120 w.private h.private)
 
-pub blocks-spelling : {T : ℕ → Bool} → AreLengths T → (w : Written) → IsWritten T w → tail_blocks (spelling w) ≡ blocks_of w
+pub blocks-spelling : {T : ℕ → Bool} → AreLengths T → (w : Written) → IsWritten T w →
+    tail_blocks (spelling w) ≡ blocks_of w
 blocks-spelling t w h = blocks-spelling-long w h (long_extensions t w.extensions h.extensions)
 
 -- fields
@@ -114,23 +153,31 @@ blocks-spelling t w h = blocks-spelling-long w h (long_extensions t w.extensions
 abbrev pub KeysPass : (List ℕ → Bool) → Fields → Type 0
 KeysPass test fs = AllByRecursion (λ f. (test f.0 ≡ true) × AllByRecursion (λ p. test p ≡ false) f.1) fs
 
-pub before_key_read : (test : List ℕ → Bool) (xs : List (List ℕ)) (fs : Fields) → AllByRecursion (λ p. test p ≡ false) xs → KeysPass test fs → before_key test (xs ++ fields_pieces fs) ≡ xs
+pub before_key_read : (test : List ℕ → Bool) (xs : List (List ℕ)) (fs : Fields) →
+    AllByRecursion (λ p. test p ≡ false) xs → KeysPass test fs → before_key test (xs ++ fields_pieces fs) ≡ xs
 before_key_read test [] [] h k = refl
 before_key_read test [] (f ∷ fs) h k = rw k.0.0
 before_key_read test (x ∷ xs) fs h k = rw h.0 (ap (λ l. x ∷ l) (before_key_read test xs fs h.1 k))
 
-pub fields_past : (test : List ℕ → Bool) (xs ys : List (List ℕ)) → AllByRecursion (λ p. test p ≡ false) xs → fields_from test (xs ++ ys) ≡ fields_from test ys
+pub fields_past : (test : List ℕ → Bool) (xs ys : List (List ℕ)) → AllByRecursion (λ p. test p ≡ false) xs →
+    fields_from test (xs ++ ys) ≡ fields_from test ys
 fields_past test [] ys h = refl
 fields_past test (x ∷ xs) ys h = rw h.0 (fields_past test xs ys h.1)
 
-pub fields_read : (test : List ℕ → Bool) (fs : Fields) → KeysPass test fs → fields_from test (fields_pieces fs) ≡ fs
+pub fields_read : (test : List ℕ → Bool) (fs : Fields) → KeysPass test fs →
+    fields_from test (fields_pieces fs) ≡ fs
 fields_read test [] k = refl
-fields_read test (f ∷ fs) k = rw k.0.0 (λ i. (f.0, before_key_read test f.1 fs k.0.1 k.1 i) ∷ (fields_past test f.1 (fields_pieces fs) k.0.1 ∙ fields_read test fs k.1) i)
+fields_read test (f ∷ fs) k = rw k.0.0 (λ i. (f.0, before_key_read test f.1 fs k.0.1 k.1 i)
+    ∷ (fields_past test f.1 (fields_pieces fs) k.0.1 ∙ fields_read test fs k.1) i)
 
 -- reading loses nothing
-pub fields_all : (test : List ℕ → Bool) (ps : List (List ℕ)) → before_key test ps ++ fields_pieces (fields_from test ps) ≡ ps
+pub fields_all : (test : List ℕ → Bool) (ps : List (List ℕ)) →
+    before_key test ps ++ fields_pieces (fields_from test ps) ≡ ps
 fields_all test [] = refl
-fields_all test (p ∷ ps) = elim (test p) as (λ b. cond b [] (p ∷ before_key test ps) ++ fields_pieces (cond b ((p, before_key test ps) ∷ fields_from test ps) (fields_from test ps)) ≡ p ∷ ps) [ true ↦ ap (λ l. p ∷ l) (fields_all test ps) | false ↦ ap (λ l. p ∷ l) (fields_all test ps) ]
+fields_all test (p ∷ ps) = elim (test p)
+    as (λ b. cond b [] (p ∷ before_key test ps)
+    ++ fields_pieces (cond b ((p, before_key test ps) ∷ fields_from test ps) (fields_from test ps))
+    ≡ p ∷ ps) [ true ↦ ap (λ l. p ∷ l) (fields_all test ps) | false ↦ ap (λ l. p ∷ l) (fields_all test ps) ]
 
 -- the unicode part: a key is a piece of two bytes
 
@@ -141,15 +188,21 @@ pub two : (p : List ℕ) → IsWord UnicodeKey p → is_two p ≡ true
 two p h = rw (length-unicode_key p h)
 
 pub keywords_pass : (fs : Fields) → AllByRecursion IsKeyword fs → KeysPass is_two fs
-keywords_pass = all_weaker IsKeyword (λ f. (is_two f.0 ≡ true) × AllByRecursion (λ p. is_two p ≡ false) f.1) (λ f h. (two f.0 h.0, all_weaker (IsWord Attribute) (λ p. is_two p ≡ false) not_two f.1 h.1))
+keywords_pass = all_weaker IsKeyword (λ f. (is_two f.0 ≡ true) × AllByRecursion (λ p. is_two p ≡ false) f.1)
+    (λ f h. (two f.0 h.0, all_weaker (IsWord Attribute) (λ p. is_two p ≡ false) not_two f.1 h.1))
 
 pub unicode_read : (u : SpelledUnicode) → IsUnicode u → unicode_of (unicode_pieces u) ≡ u
 unfolding unicode_of
 unicode_read u h =
-    let attributes = all_weaker (IsWord Attribute) (λ p. is_two p ≡ false) not_two u.attributes h.attributes in
+    let attributes =
+    all_weaker (IsWord Attribute) (λ p. is_two p ≡ false) not_two u.attributes h.attributes in
     let keys = keywords_pass u.keywords h.keywords in
-    let keywords : fields_from is_two (unicode_pieces u) ≡ u.keywords = fields_past is_two u.attributes _ attributes ∙ fields_read is_two u.keywords keys in
-    λ i. record { attributes = before_key_read is_two u.attributes u.keywords attributes keys i; keywords = keywords i }
+    let keywords : fields_from is_two (unicode_pieces u) ≡ u.keywords =
+    fields_past is_two u.attributes _ attributes ∙ fields_read is_two u.keywords keys in
+    λ i. record {
+      attributes = before_key_read is_two u.attributes u.keywords attributes keys i;
+      keywords = keywords i;
+    }
 
 pub unicode_of-pieces : (u : SpelledUnicode) → IsUnicodeBlock u → unicode_of (unicode_pieces u) ≡ u
 unicode_of-pieces u h = unicode_read u (record { attributes = h.attributes; keywords = h.keywords })
@@ -173,12 +226,14 @@ second_digit p h = (and_parts _ _ (and_parts _ _ h).1).1
 digit_no_letter : (c : ℕ) → is_ascii_digit c ≡ true → is_ascii_alphabetic c ≡ true → ⊥
 digit_no_letter c h k = grind (arith, nat_tests)
 
-second_letter : (p : List ℕ) → list_all is_ascii_alphabetic p ≡ true → length p ≡ 2 → is_ascii_alphabetic (slice_index p 1) ≡ true
+second_letter : (p : List ℕ) → list_all is_ascii_alphabetic p ≡ true → length p ≡ 2 →
+    is_ascii_alphabetic (slice_index p 1) ≡ true
 second_letter (c ∷ d ∷ p) h e = (and_parts _ _ (and_parts _ _ h).1).0
 second_letter _ h e = absurd (omega arith)
 
 letters_no_key : (p : List ℕ) → list_all is_ascii_alphabetic p ≡ true → IsNoKey p
-letters_no_key p h = false_from_ne_true _ (λ k. digit_no_letter (slice_index p 1) (second_digit p k) (second_letter p h (length-transform_key p k)))
+letters_no_key p h = false_from_ne_true _
+    (λ k. digit_no_letter (slice_index p 1) (second_digit p k) (second_letter p h (length-transform_key p k)))
 
 pub language_no_key : (T : ℕ → Bool) (p : List ℕ) → IsWord (Language T) p → IsNoKey p
 unfolding is_word
@@ -188,7 +243,8 @@ region_no_key : (p : List ℕ) → IsWord Region p → IsNoKey p
 unfolding is_word
 region_no_key p h = elim (or_cases ((length p == 2) && letters p) ((length p == 3) && digits p) h) [
   | inl a ↦ letters_no_key p (and_parts _ _ a).1
-  | inr a ↦ no_key_by_length p (λ e. let l : length p ≡ 3 = eqb-true _ _ (and_parts _ _ a).0 in absurd (omega arith))
+  | inr a ↦ no_key_by_length p
+      (λ e. let l : length p ≡ 3 = eqb-true _ _ (and_parts _ _ a).0 in absurd (omega arith))
 ]
 
 script_no_key : (p : List ℕ) → IsWord Script p → IsNoKey p
@@ -200,29 +256,42 @@ variant_no_key p h = no_key_by_length p (let l = length-variant p h in omega ari
 pub attribute_no_key : (p : List ℕ) → IsWord Attribute p → IsNoKey p
 attribute_no_key p h = no_key_by_length p (let l = length-attribute p h in omega arith)
 
-pub identifier_no_key : {T : ℕ → Bool} (i : SpelledIdentifier) → HasWords T i → AllByRecursion IsNoKey (identifier_pieces i)
-identifier_no_key {T = T} i h = (language_no_key T i.language h.language, after_language_each IsNoKey script_no_key region_no_key variant_no_key i h)
+pub identifier_no_key : {T : ℕ → Bool} (i : SpelledIdentifier) → HasWords T i →
+    AllByRecursion IsNoKey (identifier_pieces i)
+identifier_no_key {T = T} i h = (
+  language_no_key T i.language h.language,
+  after_language_each IsNoKey script_no_key region_no_key variant_no_key i h,
+)
 
-pub optional_no_key : (T : ℕ → Bool) (o : Option SpelledIdentifier) → IfSome o (IsIdentifier T) → AllByRecursion IsNoKey (optional_pieces o)
+pub optional_no_key : (T : ℕ → Bool) (o : Option SpelledIdentifier) → IfSome o (IsIdentifier T) →
+    AllByRecursion IsNoKey (optional_pieces o)
 optional_no_key T = optional_each IsNoKey T identifier_no_key
 
 pub fields_pass : (fs : Fields) → AllByRecursion IsField fs → KeysPass (is_word TransformKey) fs
-fields_pass = all_weaker IsField (λ f. (is_word TransformKey f.0 ≡ true) × AllByRecursion IsNoKey f.1) (λ f h. (h.0, all_weaker (IsWord Attribute) IsNoKey attribute_no_key f.1 h.1))
+fields_pass = all_weaker IsField (λ f. (is_word TransformKey f.0 ≡ true) × AllByRecursion IsNoKey f.1)
+    (λ f h. (h.0, all_weaker (IsWord Attribute) IsNoKey attribute_no_key f.1 h.1))
 
-optional_read : (T : ℕ → Bool) (o : Option SpelledIdentifier) → IfSome o (IsIdentifier T) → optional_of (optional_pieces o) ≡ o
+optional_read : (T : ℕ → Bool) (o : Option SpelledIdentifier) → IfSome o (IsIdentifier T) →
+    optional_of (optional_pieces o) ≡ o
 optional_read T None h = refl
 optional_read T (Some i) h = ap Some (identifier_of-pieces i h.words)
 
-pub transform_read : {T : ℕ → Bool} (m : SpelledTransform) → IsTransform T m → transform_of (transform_pieces m) ≡ m
+pub transform_read : {T : ℕ → Bool} (m : SpelledTransform) → IsTransform T m →
+    transform_of (transform_pieces m) ≡ m
 unfolding transform_of
 transform_read {T = T} m h =
     let front = optional_no_key T m.id h.id in
     let keys = fields_pass m.fields h.fields in
-    let id : optional_of (before_key (is_word TransformKey) (transform_pieces m)) ≡ m.id = ap optional_of (before_key_read (is_word TransformKey) (optional_pieces m.id) m.fields front keys) ∙ optional_read T m.id h.id in
-    let fields : fields_from (is_word TransformKey) (transform_pieces m) ≡ m.fields = fields_past (is_word TransformKey) (optional_pieces m.id) _ front ∙ fields_read (is_word TransformKey) m.fields keys in
+    let id : optional_of (before_key (is_word TransformKey) (transform_pieces m)) ≡ m.id =
+    ap optional_of (before_key_read (is_word TransformKey) (optional_pieces m.id) m.fields front keys)
+    ∙ optional_read T m.id h.id in
+    let fields : fields_from (is_word TransformKey) (transform_pieces m) ≡ m.fields =
+    fields_past (is_word TransformKey) (optional_pieces m.id) _ front
+    ∙ fields_read (is_word TransformKey) m.fields keys in
     λ i. record { id = id i; fields = fields i }
 
-pub transform_of-pieces : {T : ℕ → Bool} (m : SpelledTransform) → IsTransformBlock T m → transform_of (transform_pieces m) ≡ m
+pub transform_of-pieces : {T : ℕ → Bool} (m : SpelledTransform) → IsTransformBlock T m →
+    transform_of (transform_pieces m) ≡ m
 transform_of-pieces m h = transform_read m (record { id = h.id; fields = h.fields })
 
 pieces-optional_of : (ps : List (List ℕ)) → optional_pieces (optional_of ps) ≡ ps
@@ -231,39 +300,58 @@ pieces-optional_of (p ∷ ps) = pieces-identifier_of p ps
 
 pub pieces-transform_of : (ps : List (List ℕ)) → transform_pieces (transform_of ps) ≡ ps
 unfolding transform_of
-pieces-transform_of ps = ap (λ l. l ++ fields_pieces (fields_from (is_word TransformKey) ps)) (pieces-optional_of (before_key (is_word TransformKey) ps)) ∙ fields_all (is_word TransformKey) ps
+pieces-transform_of ps = ap (λ l. l ++ fields_pieces (fields_from (is_word TransformKey) ps))
+    (pieces-optional_of (before_key (is_word TransformKey) ps))
+    ∙ fields_all (is_word TransformKey) ps
 
 -- blocks
 
-pub extension_of-pieces : (T : ℕ → Bool) (c : ℕ) (e : Extension) → IsExtension T c e → extension_of c (extension_pieces e) ≡ e
+pub extension_of-pieces : (T : ℕ → Bool) (c : ℕ) (e : Extension) → IsExtension T c e →
+    extension_of c (extension_pieces e) ≡ e
 extension_of-pieces T c (unicode u) h = rw h.0 (ap unicode (unicode_of-pieces u h.1))
 extension_of-pieces T c (transform m) h = rw h.0 (ap transform (transform_of-pieces m h.1))
-extension_of-pieces T c (other ps) h = let t : (c == 116) ≡ false = ne_eqb _ _ (λ e. no_t c e h.0) in let u : (c == 117) ≡ false = ne_eqb _ _ (λ e. no_u c e h.0) in rw (t, u)
+extension_of-pieces T c (other ps) h = let t : (c == 116) ≡ false = ne_eqb _ _ (λ e. no_t c e h.0) in
+    let u : (c == 117) ≡ false = ne_eqb _ _ (λ e. no_u c e h.0) in rw (t, u)
 
 pub pieces-extension_of : (c : ℕ) (ps : List (List ℕ)) → extension_pieces (extension_of c ps) ≡ ps
 pieces-extension_of c ps = elim (c == 116) as (λ t. extension_pieces (extension_by t (c == 117) ps) ≡ ps) [
   | true ↦ pieces-transform_of ps
-  | false ↦ elim (c == 117) as (λ u. extension_pieces (extension_by false u ps) ≡ ps) [ true ↦ pieces-unicode_of ps | false ↦ refl ]
+  | false ↦ elim (c == 117) as (λ u. extension_pieces (extension_by false u ps) ≡ ps)
+      [ true ↦ pieces-unicode_of ps | false ↦ refl ]
 ]
 
 -- whole texts
 
-parts_read : (T : ℕ → Bool) (es : List (ℕ × Extension)) (x : Option (ℕ × List (List ℕ))) → AllByRecursion (λ e. IsExtension T (lower_singleton e) e.1) es → IfSome x (λ b. (lower_singleton b == 120) ≡ true) → (extensions_in (map extension_block es ++ option_to_list x) ≡ es) × (private_in (map extension_block es ++ option_to_list x) ≡ x)
+parts_read : (T : ℕ → Bool) (es : List (ℕ × Extension)) (x : Option (ℕ × List (List ℕ))) →
+    AllByRecursion (λ e. IsExtension T (lower_singleton e) e.1) es →
+    IfSome x (λ b. (lower_singleton b == 120) ≡ true) →
+    (extensions_in (map extension_block es ++ option_to_list x) ≡ es)
+    × (private_in (map extension_block es ++ option_to_list x) ≡ x)
 parts_read T [] None h k = (refl, refl)
 parts_read T [] (Some b) h k = rw k (refl, refl)
-parts_read T (e ∷ es) x h k = let r = parts_read T es x h.1 k in rw (is_no_x T (lower_singleton e) e.1 h.0) (λ i. (e.0, extension_of-pieces T (lower_singleton e) e.1 h.0 i) ∷ r.0 i, r.1)
+parts_read T (e ∷ es) x h k = let r = parts_read T es x h.1 k in
+    rw (is_no_x T (lower_singleton e) e.1 h.0)
+    (λ i. (e.0, extension_of-pieces T (lower_singleton e) e.1 h.0 i) ∷ r.0 i, r.1)
 
 -- what is spelled is read
-pub written_of-spelling : {T : ℕ → Bool} → AreLengths T → (w : Written) → IsWritten T w → written_of (spelling w) ≡ w
+pub written_of-spelling : {T : ℕ → Bool} → AreLengths T → (w : Written) → IsWritten T w →
+    written_of (spelling w) ≡ w
 unfolding written_of
 written_of-spelling {T = T} t w h =
-    let id : identifier_of (head (spelling w)) ≡ w.id = ap identifier_of (head-spelling w h) ∙ identifier_of-pieces w.id h.id.words in
+    let id : identifier_of (head (spelling w)) ≡ w.id =
+    ap identifier_of (head-spelling w h) ∙ identifier_of-pieces w.id h.id.words in
     let parts = parts_read T w.extensions w.private h.extensions (is_120 w.private h.private) in
-    let extensions : extensions_in (tail_blocks (spelling w)) ≡ w.extensions = ap extensions_in (blocks-spelling t w h) ∙ parts.0 in
-    let private : private_in (tail_blocks (spelling w)) ≡ w.private = ap private_in (blocks-spelling t w h) ∙ parts.1 in
+    let extensions : extensions_in (tail_blocks (spelling w)) ≡ w.extensions =
+    ap extensions_in (blocks-spelling t w h) ∙ parts.0 in
+    let private : private_in (tail_blocks (spelling w)) ≡ w.private =
+    ap private_in (blocks-spelling t w h) ∙ parts.1 in
     λ i. record { id = id i; extensions = extensions i; private = private i }
 
 -- a text means one value at most
-pub one_meaning : {T : ℕ → Bool} → AreLengths T → (t : List ℕ) (L M : Locale) → TreeMeans T t L → TreeMeans T t M → L ≡ M
+pub one_meaning : {T : ℕ → Bool} → AreLengths T → (t : List ℕ) (L M : Locale) → TreeMeans T t L →
+    TreeMeans T t M → L ≡ M
 one_meaning table t L M a b =
-    a.means ∙ ap meaning (sym (written_of-spelling table a.written a.grammatical) ∙ ap written_of (sym a.spelled ∙ b.spelled) ∙ written_of-spelling table b.written b.grammatical) ∙ sym b.means
+    a.means
+    ∙ ap meaning (sym (written_of-spelling table a.written a.grammatical)
+    ∙ ap written_of (sym a.spelled ∙ b.spelled) ∙ written_of-spelling table b.written b.grammatical)
+    ∙ sym b.means

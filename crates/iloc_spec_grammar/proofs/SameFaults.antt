@@ -1,14 +1,18 @@
 -- The fault of a text is the same by its blocks as by its tree.
-use Rattle.std.proofs.Common.{◌≡◌, ◌⊎◌, inl, inr, ℕ, Bool, true, false, ◌||◌, List, [], ◌∷◌, ◌++◌, refl, sym, ap, ◌∙◌, subst, true≢false, Result, Ok, Err, MatchResult, ◌↔◌, map}
+use Rattle.std.proofs.Common.{◌≡◌, ◌⊎◌, inl, inr, ℕ, Bool, true, false, ◌||◌, List, [], ◌∷◌, ◌++◌, refl, sym}
+use Rattle.std.proofs.Common.{ap, ◌∙◌, subst, true≢false, Result, Ok, Err, MatchResult, ◌↔◌, map}
 use Rattle.std.specs.List.{list_any}
 use Rattle.std.specs.Char.{is_ascii_alphanumeric}
 use Rattle.std.specs.Cmp.{unsigned_tied}
 use Rattle.std.specs.Ordering.{nat_cmp, eq_by_cmp}
 use Rattle.std.proofs.Math.Bool.{or-false}
 use Rattle.std.proofs.lemmas.Bool.{or_cases, cases_Bool, false_from_ne_true}
-use Rattle.iloc_spec_grammar.specs.Syntax.{pieces, AreLengths, Language, is_word, lower_singleton, head, first_piece}
-use Rattle.iloc_spec_grammar.specs.Tree.{HasSingleton, IsNew, TreeBlockFault, no_singleton, FirstBadBlock, here, later, HasTreeFault, no_language, no_identifier, bad_block}
-use Rattle.iloc_spec_grammar.specs.Meaning.{Locale, Means, Fault, IsSecond, BlockFault, HasFault, in_head, in_block, HasBlockFault, not_a_language, not_an_identifier}
+use Rattle.iloc_spec_grammar.specs.Syntax.{pieces, AreLengths, Language, is_word, lower_singleton, head}
+use Rattle.iloc_spec_grammar.specs.Syntax.{first_piece}
+use Rattle.iloc_spec_grammar.specs.Tree.{HasSingleton, IsNew, TreeBlockFault, no_singleton, FirstBadBlock}
+use Rattle.iloc_spec_grammar.specs.Tree.{here, later, HasTreeFault, no_language, no_identifier, bad_block}
+use Rattle.iloc_spec_grammar.specs.Meaning.{Locale, Means, Fault, IsSecond, BlockFault, HasFault, in_head}
+use Rattle.iloc_spec_grammar.specs.Meaning.{in_block, HasBlockFault, not_a_language, not_an_identifier}
 use Rattle.iloc_spec_grammar.specs.Computing.{locale_result}
 use Rattle.iloc_spec_grammar.proofs.FaultLaws as trees
 use Rattle.iloc_spec_grammar.proofs.FaultLaws.{AreGood, letter}
@@ -27,51 +31,75 @@ shuffle true false z = refl
 shuffle false true z = refl
 shuffle false false z = refl
 
-any_seen : (c : ℕ) (seen : List ℕ) (bs : List (ℕ × List (List ℕ))) → list_any (eq_by_cmp nat_cmp c) (seen_after seen bs) ≡ (list_any (eq_by_cmp nat_cmp c) (map (λ d. lower_singleton d) bs) || list_any (eq_by_cmp nat_cmp c) seen)
+any_seen : (c : ℕ) (seen : List ℕ) (bs : List (ℕ × List (List ℕ))) →
+    list_any (eq_by_cmp nat_cmp c) (seen_after seen bs)
+    ≡ (list_any (eq_by_cmp nat_cmp c) (map (λ d. lower_singleton d) bs)
+    || list_any (eq_by_cmp nat_cmp c) seen)
 any_seen c seen [] = refl
-any_seen c seen (b ∷ bs) = any_seen c (lower_singleton b ∷ seen) bs ∙ shuffle _ (eq_by_cmp nat_cmp c (lower_singleton b)) _
+any_seen c seen (b ∷ bs) =
+    any_seen c (lower_singleton b ∷ seen) bs ∙ shuffle _ (eq_by_cmp nat_cmp c (lower_singleton b)) _
 
-seen_is : (b : ℕ × List (List ℕ)) (good : List (ℕ × List (List ℕ))) → list_any (eq_by_cmp nat_cmp (lower_singleton b)) (seen_after [] good) ≡ list_any (eq_by_cmp nat_cmp (lower_singleton b)) (map (λ c. lower_singleton c) good)
+seen_is : (b : ℕ × List (List ℕ)) (good : List (ℕ × List (List ℕ))) →
+    list_any (eq_by_cmp nat_cmp (lower_singleton b)) (seen_after [] good)
+    ≡ list_any (eq_by_cmp nat_cmp (lower_singleton b)) (map (λ c. lower_singleton c) good)
 seen_is b good = any_seen (lower_singleton b) [] good ∙ or-false _
 
-is_new : (b : ℕ × List (List ℕ)) (good : List (ℕ × List (List ℕ))) → ¬ (IsSecond good b) → IsNew (seen_after [] good) b
+is_new : (b : ℕ × List (List ℕ)) (good : List (ℕ × List (List ℕ))) → ¬ (IsSecond good b) →
+    IsNew (seen_after [] good) b
 is_new b good n = seen_is b good ∙ false_from_ne_true _ n
 
-no_second : (b : ℕ × List (List ℕ)) (good : List (ℕ × List (List ℕ))) → IsNew (seen_after [] good) b → ¬ (IsSecond good b)
+no_second : (b : ℕ × List (List ℕ)) (good : List (ℕ × List (List ℕ))) → IsNew (seen_after [] good) b →
+    ¬ (IsSecond good b)
 no_second b good e s = true≢false (sym s ∙ sym (seen_is b good) ∙ e)
 
-second_letter : (T : ℕ → Bool) (seen : List ℕ) (b : ℕ × List (List ℕ)) (good : List (ℕ × List (List ℕ))) → AreGood T seen good → IsSecond good b → HasSingleton b
+second_letter : (T : ℕ → Bool) (seen : List ℕ) (b : ℕ × List (List ℕ)) (good : List (ℕ × List (List ℕ))) →
+    AreGood T seen good → IsSecond good b → HasSingleton b
 second_letter T seen b [] g s = absurd (true≢false (sym s))
-second_letter T seen b (c ∷ cs) g s = elim (or_cases (eq_by_cmp nat_cmp (lower_singleton b) (lower_singleton c)) _ s) [
-  | inl e ↦ letter b.0 (subst (λ (n : ℕ). is_ascii_alphanumeric n ≡ true) (tied (lower_singleton b) (lower_singleton c) e) (lower_letter c.0 g.0.0))
-  | inr e ↦ second_letter T (lower_singleton c ∷ seen) b cs g.1 e
-]
+second_letter T seen b (c ∷ cs) g s =
+    elim (or_cases (eq_by_cmp nat_cmp (lower_singleton b) (lower_singleton c)) _ s) [
+      | inl e ↦ letter b.0 (subst (λ (n : ℕ). is_ascii_alphanumeric n ≡ true)
+          (tied (lower_singleton b) (lower_singleton c) e) (lower_letter c.0 g.0.0))
+      | inr e ↦ second_letter T (lower_singleton c ∷ seen) b cs g.1 e
+    ]
 
 t_letter : (b : ℕ × List (List ℕ)) → lower_singleton b ≡ 116 → HasSingleton b
 t_letter b e = letter b.0 (rw e refl)
 
 -- the fault of one block
 
-pub tree_block_fault : (T : ℕ → Bool) (good : List (ℕ × List (List ℕ))) (b : ℕ × List (List ℕ)) {f : Fault} → AreGood T [] good → BlockFault T good b f → TreeBlockFault T (seen_after [] good) b f
-tree_block_fault T good b g (BlockFault.duplicated s) = TreeBlockFault.duplicated (second_letter T [] b good g s) (seen_is b good ∙ s)
-tree_block_fault T good b g (BlockFault.repeats_variant n r) = TreeBlockFault.repeats_variant (t_letter b r.0) (is_new b good n) r.0 r.1
+pub tree_block_fault : (T : ℕ → Bool) (good : List (ℕ × List (List ℕ))) (b : ℕ × List (List ℕ)) {f : Fault} →
+    AreGood T [] good → BlockFault T good b f → TreeBlockFault T (seen_after [] good) b f
+tree_block_fault T good b g (BlockFault.duplicated s) =
+    TreeBlockFault.duplicated (second_letter T [] b good g s) (seen_is b good ∙ s)
+tree_block_fault T good b g (BlockFault.repeats_variant n r) =
+    TreeBlockFault.repeats_variant (t_letter b r.0) (is_new b good n) r.0 r.1
 tree_block_fault T good b g (BlockFault.breaks_rule n m d) = elim (cases_Bool (is_ascii_alphanumeric b.0)) [
   | inl e ↦ TreeBlockFault.breaks_rule e (is_new b good n) m (λ r. d (blocks_spelled ((e, refl, r), tt)))
   | inr e ↦ no_singleton e
 ]
 
-pub block_fault_by_tree : (T : ℕ → Bool) (good : List (ℕ × List (List ℕ))) (b : ℕ × List (List ℕ)) {f : Fault} → AreGood T [] good → TreeBlockFault T (seen_after [] good) b f → BlockFault T good b f
+pub block_fault_by_tree : (T : ℕ → Bool) (good : List (ℕ × List (List ℕ))) (b : ℕ × List (List ℕ))
+    {f : Fault} →
+    AreGood T [] good → TreeBlockFault T (seen_after [] good) b f → BlockFault T good b f
 block_fault_by_tree T good b g (no_singleton e) =
-    BlockFault.breaks_rule (λ s. true≢false (sym (second_letter T [] b good g s) ∙ e)) (λ r. true≢false (sym (t_letter b r.0) ∙ e)) (λ k. true≢false (sym (good_blocks k.1).0.0 ∙ e))
-block_fault_by_tree T good b g (TreeBlockFault.duplicated a e) = BlockFault.duplicated (sym (seen_is b good) ∙ e)
-block_fault_by_tree T good b g (TreeBlockFault.repeats_variant a e t r) = BlockFault.repeats_variant (no_second b good e) (t, r)
-block_fault_by_tree T good b g (TreeBlockFault.breaks_rule a e n d) = BlockFault.breaks_rule (no_second b good e) n (λ k. d (good_blocks k.1).0.2)
+    BlockFault.breaks_rule (λ s. true≢false (sym (second_letter T [] b good g s) ∙ e))
+    (λ r. true≢false (sym (t_letter b r.0) ∙ e)) (λ k. true≢false (sym (good_blocks k.1).0.0 ∙ e))
+block_fault_by_tree T good b g (TreeBlockFault.duplicated a e) =
+    BlockFault.duplicated (sym (seen_is b good) ∙ e)
+block_fault_by_tree T good b g (TreeBlockFault.repeats_variant a e t r) =
+    BlockFault.repeats_variant (no_second b good e) (t, r)
+block_fault_by_tree T good b g (TreeBlockFault.breaks_rule a e n d) =
+    BlockFault.breaks_rule (no_second b good e) n (λ k. d (good_blocks k.1).0.2)
 
 -- the first bad block
 
-after_good : (T : ℕ → Bool) (seen : List ℕ) (good : List (ℕ × List (List ℕ))) (b : ℕ × List (List ℕ)) (rest : List (ℕ × List (List ℕ))) {f : Fault} → AreGood T seen good → TreeBlockFault T (seen_after seen good) b f → FirstBadBlock T seen (good ++ (b ∷ rest)) f
+after_good : (T : ℕ → Bool) (seen : List ℕ) (good : List (ℕ × List (List ℕ))) (b : ℕ × List (List ℕ))
+    (rest : List (ℕ × List (List ℕ))) {f : Fault} →
+    AreGood T seen good → TreeBlockFault T (seen_after seen good) b f →
+    FirstBadBlock T seen (good ++ (b ∷ rest)) f
 after_good T seen [] b rest g x = here x
-after_good T seen (c ∷ cs) b rest g x = later g.0.0 g.0.1 g.0.2 (after_good T (lower_singleton c ∷ seen) cs b rest g.1 x)
+after_good T seen (c ∷ cs) b rest g x =
+    later g.0.0 g.0.1 g.0.2 (after_good T (lower_singleton c ∷ seen) cs b rest g.1 x)
 
 record BadSplit (T : ℕ → Bool) (seen : List ℕ) (bs : List (ℕ × List (List ℕ))) (f : Fault) : Type 0 where
   before : List (ℕ × List (List ℕ))
@@ -81,15 +109,35 @@ record BadSplit (T : ℕ → Bool) (seen : List ℕ) (bs : List (ℕ × List (Li
   good : AreGood T seen before
   bad : TreeBlockFault T (seen_after seen before) block f
 
-bad_split : (T : ℕ → Bool) {seen : List ℕ} {bs : List (ℕ × List (List ℕ))} {f : Fault} → FirstBadBlock T seen bs f → BadSplit T seen bs f
-bad_split T (here {b = b} {bs = bs} x) = record { before = []; block = b; rest = bs; parts = refl; good = tt; bad = x }
-bad_split T (later {b = b} a e g x) = let r = bad_split T x in record { before = b ∷ r.before; block = r.block; rest = r.rest; parts = ap (λ l. b ∷ l) r.parts; good = ((a, e, g), r.good); bad = r.bad }
+bad_split : (T : ℕ → Bool) {seen : List ℕ} {bs : List (ℕ × List (List ℕ))} {f : Fault} →
+    FirstBadBlock T seen bs f → BadSplit T seen bs f
+bad_split T (here {b = b} {bs = bs} x) =
+    record { before = []; block = b; rest = bs; parts = refl; good = tt; bad = x }
+bad_split T (later {b = b} a e g x) = let r = bad_split T x in record {
+  before = b ∷ r.before;
+  block = r.block;
+  rest = r.rest;
+  parts = ap (λ l. b ∷ l) r.parts;
+  good = ((a, e, g), r.good);
+  bad = r.bad;
+}
 
-pub first_bad : {T : ℕ → Bool} {bs : List (ℕ × List (List ℕ))} {f : Fault} → HasBlockFault T bs f → FirstBadBlock T [] bs f
-first_bad {T = T} {f = f} (good, b, rest, e, a, x) = let g = good_blocks a.1 in subst (λ l. FirstBadBlock T [] l f) (sym e) (after_good T [] good b rest g (tree_block_fault T good b g x))
+pub first_bad : {T : ℕ → Bool} {bs : List (ℕ × List (List ℕ))} {f : Fault} → HasBlockFault T bs f →
+    FirstBadBlock T [] bs f
+first_bad {T = T} {f = f} (good, b, rest, e, a, x) = let g = good_blocks a.1 in
+    subst (λ l. FirstBadBlock T [] l f) (sym e)
+    (after_good T [] good b rest g (tree_block_fault T good b g x))
 
-pub fault_of_first : {T : ℕ → Bool} {bs : List (ℕ × List (List ℕ))} {f : Fault} → FirstBadBlock T [] bs f → HasBlockFault T bs f
-fault_of_first {T = T} x = let r = bad_split T x in (r.before, r.block, r.rest, r.parts, blocks_spelled r.good, block_fault_by_tree T r.before r.block r.good r.bad)
+pub fault_of_first : {T : ℕ → Bool} {bs : List (ℕ × List (List ℕ))} {f : Fault} → FirstBadBlock T [] bs f →
+    HasBlockFault T bs f
+fault_of_first {T = T} x = let r = bad_split T x in (
+  r.before,
+  r.block,
+  r.rest,
+  r.parts,
+  blocks_spelled r.good,
+  block_fault_by_tree T r.before r.block r.good r.bad,
+)
 
 -- whole texts
 
@@ -97,7 +145,8 @@ first_of_head : (ps : List (List ℕ)) → first_piece (head ps) ≡ first_piece
 first_of_head [] = refl
 first_of_head (p ∷ ps) = refl
 
-language_of_head : (T : ℕ → Bool) (t : List ℕ) → is_word (Language T) (first_piece (head (pieces t))) ≡ is_word (Language T) (first_piece (pieces t))
+language_of_head : (T : ℕ → Bool) (t : List ℕ) →
+    is_word (Language T) (first_piece (head (pieces t))) ≡ is_word (Language T) (first_piece (pieces t))
 language_of_head T t = ap (is_word (Language T)) (first_of_head (pieces t))
 
 pub tree_fault : {T : ℕ → Bool} (t : List ℕ) {f : Fault} → HasFault T t f → HasTreeFault T t f
@@ -118,20 +167,24 @@ same_fault T t f = (λ h. tree_fault t h, λ h. fault_by_tree t h)
 pub answered : (T : ℕ → Bool) (t : List ℕ) → MatchResult (locale_result T t) (Means T t) (HasFault T t)
 answered T t = with_fault (locale_result T t) (trees.answered_by T t (Means T t) (good_text T t))
   where
-    with_fault : (r : Result Locale Fault) → MatchResult r (Means T t) (HasTreeFault T t) → MatchResult r (Means T t) (HasFault T t)
+    with_fault : (r : Result Locale Fault) → MatchResult r (Means T t) (HasTreeFault T t) →
+        MatchResult r (Means T t) (HasFault T t)
     with_fault (Ok M) m = m
     with_fault (Err f) h = fault_by_tree t h
 
-pub means_answered : {T : ℕ → Bool} → AreLengths T → (t : List ℕ) (M : Locale) → Means T t M → locale_result T t ≡ Ok M
+pub means_answered : {T : ℕ → Bool} → AreLengths T → (t : List ℕ) (M : Locale) → Means T t M →
+    locale_result T t ≡ Ok M
 means_answered table t M m = trees.means_answered table t M (tree_means t M m)
 
 pub fault_answered : (T : ℕ → Bool) (t : List ℕ) {f : Fault} → HasFault T t f → locale_result T t ≡ Err f
 fault_answered T t h = trees.fault_answered T t (tree_fault t h)
 
-pub accepted_or_fault : (T : ℕ → Bool) (t : List ℕ) → ((M : Locale) × Means T t M) ⊎ ((f : Fault) × HasFault T t f)
+pub accepted_or_fault : (T : ℕ → Bool) (t : List ℕ) →
+    ((M : Locale) × Means T t M) ⊎ ((f : Fault) × HasFault T t f)
 accepted_or_fault T t = trees.either (locale_result T t) (answered T t)
 
-pub accepted_no_fault : {T : ℕ → Bool} → AreLengths T → (t : List ℕ) (M : Locale) (f : Fault) → Means T t M → HasFault T t f → ⊥
+pub accepted_no_fault : {T : ℕ → Bool} → AreLengths T → (t : List ℕ) (M : Locale) (f : Fault) → Means T t M →
+    HasFault T t f → ⊥
 accepted_no_fault table t M f m h = trees.accepted_no_fault table t M f (tree_means t M m) (tree_fault t h)
 
 pub one_fault : {T : ℕ → Bool} (t : List ℕ) {f g : Fault} → HasFault T t f → HasFault T t g → f ≡ g

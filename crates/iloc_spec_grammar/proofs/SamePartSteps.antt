@@ -1,22 +1,30 @@
 -- The steps of identifiers, of fields and of what blocks spell are those of the tree.
-use Rattle.std.proofs.Common.{◌≡◌, ℕ, ◌≤◌, Bool, ◌||◌, not, List, [], ◌∷◌, length, map, refl, sym, ap, ◌∙◌, subst, arith, Option, Some, None, option_to_list}
+use Rattle.std.proofs.Common.{◌≡◌, ℕ, ◌≤◌, Bool, ◌||◌, not, List, [], ◌∷◌, length, map, refl, sym, ap, ◌∙◌}
+use Rattle.std.proofs.Common.{subst, arith, Option, Some, None, option_to_list}
 use Rattle.std.specs.List.{list_any, AllZip}
 use Rattle.std.specs.Char.{to_ascii_lowercase}
-use Rattle.iloc_spec_grammar.specs.Syntax.{Subtag, is_word, lower, is_same, is_true, SpelledIdentifier, SpelledUnicode, SpelledTransform, Fields, IsUnicode, IsTransform}
-use Rattle.iloc_spec_grammar.specs.Tree.{Extension, unicode, transform, extension_pieces, IsUnicodeBlock, IsTransformBlock, IsExtension}
-use Rattle.iloc_spec_grammar.specs.Values.{Without, Rule, LessRepeats, LessTrue, AttributesStep, FieldsStep, IdentifierStep, BlockStep}
-use Rattle.iloc_spec_grammar.specs.TreeSteps.{TreeRule, TreeWithout, WithoutRepeats, TreeLessTrue, TreeIdentifierStep, ExtensionStep, unicode_extension, transform_extension}
+use Rattle.iloc_spec_grammar.specs.Syntax.{Subtag, is_word, lower, is_same, is_true, SpelledIdentifier}
+use Rattle.iloc_spec_grammar.specs.Syntax.{SpelledUnicode, SpelledTransform, Fields, IsUnicode, IsTransform}
+use Rattle.iloc_spec_grammar.specs.Tree.{Extension, unicode, transform, extension_pieces, IsUnicodeBlock}
+use Rattle.iloc_spec_grammar.specs.Tree.{IsTransformBlock, IsExtension}
+use Rattle.iloc_spec_grammar.specs.Values.{Without, Rule, LessRepeats, LessTrue, AttributesStep, FieldsStep}
+use Rattle.iloc_spec_grammar.specs.Values.{IdentifierStep, BlockStep}
+use Rattle.iloc_spec_grammar.specs.TreeSteps.{TreeRule, TreeWithout, WithoutRepeats, TreeLessTrue}
+use Rattle.iloc_spec_grammar.specs.TreeSteps.{TreeIdentifierStep, ExtensionStep, unicode_extension}
+use Rattle.iloc_spec_grammar.specs.TreeSteps.{transform_extension}
 use Rattle.iloc_spec_grammar.proofs.Orders.{itself}
 use Rattle.iloc_spec_grammar.proofs.General.{zip_weaker}
 
 -- lists without some items
 
-pub tree_without : {X : Type 0} (test : X → Bool) {before xs ys : List X} → Without (λ before x. test x) before xs ys → TreeWithout test xs ys
+pub tree_without : {X : Type 0} (test : X → Bool) {before xs ys : List X} →
+    Without (λ before x. test x) before xs ys → TreeWithout test xs ys
 tree_without test Without.none = TreeWithout.none
 tree_without test (Without.stays w) = TreeWithout.stays (tree_without test w)
 tree_without test (Without.left_out e w) = TreeWithout.left_out e (tree_without test w)
 
-pub without_by_tree : {X : Type 0} (test : X → Bool) {before xs ys : List X} → TreeWithout test xs ys → Without (λ before x. test x) before xs ys
+pub without_by_tree : {X : Type 0} (test : X → Bool) {before xs ys : List X} → TreeWithout test xs ys →
+    Without (λ before x. test x) before xs ys
 without_by_tree test TreeWithout.none = Without.none
 without_by_tree test (TreeWithout.stays w) = Without.stays (without_by_tree test w)
 without_by_tree test (TreeWithout.left_out e w) = Without.left_out e (without_by_tree test w)
@@ -28,19 +36,25 @@ module _ {X : Type 0} (key : X → List ℕ) where
   abbrev seen_in : List X → List (List ℕ)
   seen_in before = map (λ y. lower (key y)) before
 
-  repeat_seen : (x : X) (before : List X) → is_repeat before x ≡ list_any (is_same (lower (key x))) (seen_in before)
+  repeat_seen : (x : X) (before : List X) →
+      is_repeat before x ≡ list_any (is_same (lower (key x))) (seen_in before)
   repeat_seen x [] = refl
   repeat_seen x (y ∷ before) = ap (λ b. is_same (lower (key x)) (lower (key y)) || b) (repeat_seen x before)
 
-  repeats_from : {before xs ys : List X} → Without is_repeat before xs ys → WithoutRepeats key (seen_in before) xs ys
+  repeats_from : {before xs ys : List X} → Without is_repeat before xs ys →
+      WithoutRepeats key (seen_in before) xs ys
   repeats_from Without.none = WithoutRepeats.none
   repeats_from (Without.stays w) = WithoutRepeats.stays (repeats_from w)
-  repeats_from (Without.left_out {before = before} {x = x} e w) = WithoutRepeats.left_out (sym (repeat_seen x before) ∙ e) (repeats_from w)
+  repeats_from (Without.left_out {before = before} {x = x} e w) =
+      WithoutRepeats.left_out (sym (repeat_seen x before) ∙ e) (repeats_from w)
 
-  repeats_to : (before : List X) {seen : List (List ℕ)} {xs ys : List X} → seen_in before ≡ seen → WithoutRepeats key seen xs ys → Without is_repeat before xs ys
+  repeats_to : (before : List X) {seen : List (List ℕ)} {xs ys : List X} → seen_in before ≡ seen →
+      WithoutRepeats key seen xs ys → Without is_repeat before xs ys
   repeats_to before p WithoutRepeats.none = Without.none
-  repeats_to before p (WithoutRepeats.stays {x = x} w) = Without.stays (repeats_to (x ∷ before) (ap (λ l. lower (key x) ∷ l) p) w)
-  repeats_to before p (WithoutRepeats.left_out {x = x} e w) = Without.left_out (repeat_seen x before ∙ ap (list_any (is_same (lower (key x)))) p ∙ e) (repeats_to before p w)
+  repeats_to before p (WithoutRepeats.stays {x = x} w) =
+      Without.stays (repeats_to (x ∷ before) (ap (λ l. lower (key x) ∷ l) p) w)
+  repeats_to before p (WithoutRepeats.left_out {x = x} e w) = Without.left_out
+      (repeat_seen x before ∙ ap (list_any (is_same (lower (key x)))) p ∙ e) (repeats_to before p w)
 
   pub tree_repeats : {xs ys : List X} → LessRepeats key xs ys → WithoutRepeats key [] xs ys
   tree_repeats w = repeats_from w
@@ -69,20 +83,32 @@ rule_of TreeRule.DroppedPieces = Rule.DroppedPieces
 
 -- in what follows `u`
 
-same_unicode : {r : TreeRule} (u v : SpelledUnicode) → u.attributes ≡ v.attributes → u.keywords ≡ v.keywords → ExtensionStep r (unicode u) (unicode v)
-same_unicode {r = r} u v a k = subst (ExtensionStep r (unicode u)) (λ i. unicode_extension (a i) (k i)) ExtensionStep.same
+same_unicode : {r : TreeRule} (u v : SpelledUnicode) → u.attributes ≡ v.attributes → u.keywords ≡ v.keywords →
+    ExtensionStep r (unicode u) (unicode v)
+same_unicode {r = r} u v a k =
+    subst (ExtensionStep r (unicode u)) (λ i. unicode_extension (a i) (k i)) ExtensionStep.same
 
-new_attributes : {r : TreeRule} (u v : SpelledUnicode) → u.attributes ≡ v.attributes → ExtensionStep r (unicode u) (unicode_extension u.attributes v.keywords) → ExtensionStep r (unicode u) (unicode v)
-new_attributes {r = r} u v a s = subst (ExtensionStep r (unicode u)) (λ i. unicode_extension (a i) v.keywords) s
+new_attributes : {r : TreeRule} (u v : SpelledUnicode) → u.attributes ≡ v.attributes →
+    ExtensionStep r (unicode u) (unicode_extension u.attributes v.keywords) →
+    ExtensionStep r (unicode u) (unicode v)
+new_attributes {r = r} u v a s =
+    subst (ExtensionStep r (unicode u)) (λ i. unicode_extension (a i) v.keywords) s
 
-less_true : (n : ℕ) (fs gs : Fields) → AllZip (LessTrue n) fs gs → AllZip (λ f g. TreeLessTrue f g × (n ≤ length g.1)) fs gs
-less_true n fs gs z = zip_weaker (LessTrue n) (λ f g. TreeLessTrue f g × (n ≤ length g.1)) (λ f g l. ((l.0, tree_without (λ w. is_true (lower w)) l.1), l.2)) fs gs z
+less_true : (n : ℕ) (fs gs : Fields) → AllZip (LessTrue n) fs gs →
+    AllZip (λ f g. TreeLessTrue f g × (n ≤ length g.1)) fs gs
+less_true n fs gs z = zip_weaker (LessTrue n) (λ f g. TreeLessTrue f g × (n ≤ length g.1))
+    (λ f g l. ((l.0, tree_without (λ w. is_true (lower w)) l.1), l.2)) fs gs z
 
-pub unicode_step : (r : Rule) (u v : SpelledUnicode) → AttributesStep r u.attributes v.attributes → FieldsStep r 0 u.keywords v.keywords → ExtensionStep (tree_rule r) (unicode u) (unicode v)
-unicode_step Rule.AttributeOrder u v a k = subst (λ gs. ExtensionStep TreeRule.AttributeOrder (unicode u) (unicode_extension v.attributes gs)) k (ExtensionStep.attribute_order a)
+pub unicode_step : (r : Rule) (u v : SpelledUnicode) → AttributesStep r u.attributes v.attributes →
+    FieldsStep r 0 u.keywords v.keywords → ExtensionStep (tree_rule r) (unicode u) (unicode v)
+unicode_step Rule.AttributeOrder u v a k =
+    subst (λ gs. ExtensionStep TreeRule.AttributeOrder (unicode u) (unicode_extension v.attributes gs)) k
+    (ExtensionStep.attribute_order a)
 unicode_step Rule.FieldOrder u v a k = new_attributes u v a (ExtensionStep.keyword_order k.0 k.1)
-unicode_step Rule.Repeats u v a k = ExtensionStep.unicode_repeats (tree_repeats (λ a. a) a) (tree_repeats (λ f. f.0) k)
-unicode_step Rule.Trues u v a k = new_attributes u v a (ExtensionStep.unicode_trues (zip_weaker _ TreeLessTrue (λ f g l. l.0) u.keywords v.keywords (less_true 0 u.keywords v.keywords k)))
+unicode_step Rule.Repeats u v a k =
+    ExtensionStep.unicode_repeats (tree_repeats (λ a. a) a) (tree_repeats (λ f. f.0) k)
+unicode_step Rule.Trues u v a k = new_attributes u v a (ExtensionStep.unicode_trues
+    (zip_weaker _ TreeLessTrue (λ f g l. l.0) u.keywords v.keywords (less_true 0 u.keywords v.keywords k)))
 unicode_step r u v a k = same_unicode u v a k
 
 -- in an identifier
@@ -94,16 +120,23 @@ NoStep i j = (j ≡ record i { variants = j.variants }) × (i.variants ≡ j.var
 pub same_identifier : {i j : SpelledIdentifier} → NoStep i j → i ≡ j
 same_identifier {i = i} s = ap (λ vs. record i { variants = vs }) s.1 ∙ sym s.0
 
-pub tree_identifier_rule : (r : Rule) (i j : SpelledIdentifier) → IdentifierStep r i j → TreeIdentifierStep (tree_rule r) i j
-tree_identifier_rule Rule.VariantOrder i j s = subst (TreeIdentifierStep TreeRule.VariantOrder i) (sym s.0) (TreeIdentifierStep.variants s.1)
-tree_identifier_rule r i j s = subst (TreeIdentifierStep (tree_rule r) i) (same_identifier s) TreeIdentifierStep.same
+pub tree_identifier_rule : (r : Rule) (i j : SpelledIdentifier) → IdentifierStep r i j →
+    TreeIdentifierStep (tree_rule r) i j
+tree_identifier_rule Rule.VariantOrder i j s =
+    subst (TreeIdentifierStep TreeRule.VariantOrder i) (sym s.0) (TreeIdentifierStep.variants s.1)
+tree_identifier_rule r i j s =
+    subst (TreeIdentifierStep (tree_rule r) i) (same_identifier s) TreeIdentifierStep.same
 
 -- in what follows `t`
 
-same_transform : {r : TreeRule} (m n : SpelledTransform) → m.id ≡ n.id → m.fields ≡ n.fields → ExtensionStep r (transform m) (transform n)
-same_transform {r = r} m n i k = subst (ExtensionStep r (transform m)) (λ l. transform_extension (i l) (k l)) ExtensionStep.same
+same_transform : {r : TreeRule} (m n : SpelledTransform) → m.id ≡ n.id → m.fields ≡ n.fields →
+    ExtensionStep r (transform m) (transform n)
+same_transform {r = r} m n i k =
+    subst (ExtensionStep r (transform m)) (λ l. transform_extension (i l) (k l)) ExtensionStep.same
 
-new_id : {r : TreeRule} (m n : SpelledTransform) → m.id ≡ n.id → ExtensionStep r (transform m) (transform_extension m.id n.fields) → ExtensionStep r (transform m) (transform n)
+new_id : {r : TreeRule} (m n : SpelledTransform) → m.id ≡ n.id →
+    ExtensionStep r (transform m) (transform_extension m.id n.fields) →
+    ExtensionStep r (transform m) (transform n)
 new_id {r = r} m n i s = subst (ExtensionStep r (transform m)) (λ l. transform_extension (i l) n.fields) s
 
 same_option : (a b : Option SpelledIdentifier) → AllZip NoStep (option_to_list a) (option_to_list b) → a ≡ b
@@ -111,16 +144,25 @@ same_option None None z = refl
 same_option (Some i) (Some j) z = ap Some (same_identifier z.0)
 same_option _ _ z = absurd z
 
-option_step : (a b : Option SpelledIdentifier) (fs : Fields) → AllZip (IdentifierStep Rule.VariantOrder) (option_to_list a) (option_to_list b) → ExtensionStep TreeRule.VariantOrder (transform_extension a fs) (transform_extension b fs)
+option_step : (a b : Option SpelledIdentifier) (fs : Fields) →
+    AllZip (IdentifierStep Rule.VariantOrder) (option_to_list a) (option_to_list b) →
+    ExtensionStep TreeRule.VariantOrder (transform_extension a fs) (transform_extension b fs)
 option_step None None fs z = ExtensionStep.same
 option_step (Some i) (Some j) fs z = ExtensionStep.identifier (tree_identifier_rule Rule.VariantOrder i j z.0)
 option_step _ _ fs z = absurd z
 
-pub transform_step : (r : Rule) (m n : SpelledTransform) → AllZip (IdentifierStep r) (option_to_list m.id) (option_to_list n.id) → FieldsStep r 1 m.fields n.fields → ExtensionStep (tree_rule r) (transform m) (transform n)
-transform_step Rule.VariantOrder m n i k = subst (λ gs. ExtensionStep TreeRule.VariantOrder (transform m) (transform_extension n.id gs)) k (option_step m.id n.id m.fields i)
-transform_step Rule.FieldOrder m n i k = new_id m n (same_option m.id n.id i) (ExtensionStep.field_order k.0 k.1)
-transform_step Rule.Repeats m n i k = new_id m n (same_option m.id n.id i) (ExtensionStep.transform_repeats (tree_repeats (λ f. f.0) k))
-transform_step Rule.Trues m n i k = new_id m n (same_option m.id n.id i) (ExtensionStep.transform_trues (less_true 1 m.fields n.fields k))
+pub transform_step : (r : Rule) (m n : SpelledTransform) →
+    AllZip (IdentifierStep r) (option_to_list m.id) (option_to_list n.id) → FieldsStep r 1 m.fields n.fields →
+    ExtensionStep (tree_rule r) (transform m) (transform n)
+transform_step Rule.VariantOrder m n i k =
+    subst (λ gs. ExtensionStep TreeRule.VariantOrder (transform m) (transform_extension n.id gs)) k
+    (option_step m.id n.id m.fields i)
+transform_step Rule.FieldOrder m n i k =
+    new_id m n (same_option m.id n.id i) (ExtensionStep.field_order k.0 k.1)
+transform_step Rule.Repeats m n i k =
+    new_id m n (same_option m.id n.id i) (ExtensionStep.transform_repeats (tree_repeats (λ f. f.0) k))
+transform_step Rule.Trues m n i k =
+    new_id m n (same_option m.id n.id i) (ExtensionStep.transform_trues (less_true 1 m.fields n.fields k))
 transform_step r m n i k = same_transform m n (same_option m.id n.id i) k
 
 -- from a step of the extension to a step of its block
@@ -129,11 +171,13 @@ pub same_rule : (r : Rule) (i : SpelledIdentifier) → IdentifierStep r i i
 same_rule Rule.VariantOrder i = (refl, itself i.variants)
 same_rule r i = (refl, refl)
 
-pub identifier_rule_by_tree : {r : TreeRule} {i j : SpelledIdentifier} → TreeIdentifierStep r i j → IdentifierStep (rule_of r) i j
+pub identifier_rule_by_tree : {r : TreeRule} {i j : SpelledIdentifier} → TreeIdentifierStep r i j →
+    IdentifierStep (rule_of r) i j
 identifier_rule_by_tree (TreeIdentifierStep.same {r = r} {i = i}) = same_rule (rule_of r) i
 identifier_rule_by_tree (TreeIdentifierStep.variants p) = (refl, p)
 
-same_id : (r : Rule) (o : Option SpelledIdentifier) → AllZip (IdentifierStep r) (option_to_list o) (option_to_list o)
+same_id : (r : Rule) (o : Option SpelledIdentifier) →
+    AllZip (IdentifierStep r) (option_to_list o) (option_to_list o)
 same_id r None = tt
 same_id r (Some i) = (same_rule r i, tt)
 
@@ -146,15 +190,29 @@ plain_transform h = record { id = h.id; fields = h.fields }
 less_by_tree : (n : ℕ) (f g : List ℕ × List (List ℕ)) → TreeLessTrue f g → n ≤ length g.1 → LessTrue n f g
 less_by_tree n f g l h = (l.0, without_by_tree (λ w. is_true (lower w)) l.1, h)
 
-pub block_by_tree : (T : ℕ → Bool) {r : TreeRule} {e f : Extension} (c : ℕ) → IsExtension T (to_ascii_lowercase c) e → ExtensionStep r e f → BlockStep T (rule_of r) (c, extension_pieces e) (c, extension_pieces f)
+pub block_by_tree : (T : ℕ → Bool) {r : TreeRule} {e f : Extension} (c : ℕ) →
+    IsExtension T (to_ascii_lowercase c) e → ExtensionStep r e f →
+    BlockStep T (rule_of r) (c, extension_pieces e) (c, extension_pieces f)
 block_by_tree T c h ExtensionStep.same = BlockStep.same
 block_by_tree T c h (ExtensionStep.identifier TreeIdentifierStep.same) = BlockStep.same
-block_by_tree T c h (ExtensionStep.identifier {i = i} {j = j} {fs = fs} (TreeIdentifierStep.variants p)) = BlockStep.in_transform (record { id = Some i; fields = fs }) (record { id = Some j; fields = fs }) h.0 (plain_transform h.1) ((refl, p), tt) refl
-block_by_tree T c h (ExtensionStep.attribute_order p) = BlockStep.in_unicode _ _ h.0 (plain_unicode h.1) p refl
-block_by_tree T c h (ExtensionStep.keyword_order d p) = BlockStep.in_unicode _ _ h.0 (plain_unicode h.1) refl (d, p)
-block_by_tree T c h (ExtensionStep.field_order {i = i} d p) = BlockStep.in_transform _ _ h.0 (plain_transform h.1) (same_id Rule.FieldOrder i) (d, p)
-block_by_tree T c h (ExtensionStep.unicode_repeats v w) = BlockStep.in_unicode _ _ h.0 (plain_unicode h.1) (repeats_by_tree (λ a. a) v) (repeats_by_tree (λ f. f.0) w)
-block_by_tree T c h (ExtensionStep.transform_repeats {i = i} w) = BlockStep.in_transform _ _ h.0 (plain_transform h.1) (same_id Rule.Repeats i) (repeats_by_tree (λ f. f.0) w)
-block_by_tree T c h (ExtensionStep.unicode_trues {fs = fs} {gs = gs} z) = BlockStep.in_unicode _ _ h.0 (plain_unicode h.1) refl (zip_weaker TreeLessTrue (LessTrue 0) (λ f g l. less_by_tree 0 f g l (omega arith)) fs gs z)
-block_by_tree T c h (ExtensionStep.transform_trues {i = i} {fs = fs} {gs = gs} z) = BlockStep.in_transform _ _ h.0 (plain_transform h.1) (same_id Rule.Trues i) (zip_weaker _ (LessTrue 1) (λ f g l. less_by_tree 1 f g l.0 l.1) fs gs z)
-block_by_tree T c h (ExtensionStep.dropped_pieces w) = BlockStep.in_other h.0 refl (without_by_tree (λ p. not (is_word Subtag p)) w)
+block_by_tree T c h (ExtensionStep.identifier {i = i} {j = j} {fs = fs} (TreeIdentifierStep.variants p)) =
+    BlockStep.in_transform (record { id = Some i; fields = fs }) (record { id = Some j; fields = fs }) h.0
+    (plain_transform h.1) ((refl, p), tt) refl
+block_by_tree T c h (ExtensionStep.attribute_order p) =
+    BlockStep.in_unicode _ _ h.0 (plain_unicode h.1) p refl
+block_by_tree T c h (ExtensionStep.keyword_order d p) =
+    BlockStep.in_unicode _ _ h.0 (plain_unicode h.1) refl (d, p)
+block_by_tree T c h (ExtensionStep.field_order {i = i} d p) =
+    BlockStep.in_transform _ _ h.0 (plain_transform h.1) (same_id Rule.FieldOrder i) (d, p)
+block_by_tree T c h (ExtensionStep.unicode_repeats v w) = BlockStep.in_unicode _ _ h.0 (plain_unicode h.1)
+    (repeats_by_tree (λ a. a) v) (repeats_by_tree (λ f. f.0) w)
+block_by_tree T c h (ExtensionStep.transform_repeats {i = i} w) = BlockStep.in_transform _ _ h.0
+    (plain_transform h.1) (same_id Rule.Repeats i) (repeats_by_tree (λ f. f.0) w)
+block_by_tree T c h (ExtensionStep.unicode_trues {fs = fs} {gs = gs} z) =
+    BlockStep.in_unicode _ _ h.0 (plain_unicode h.1) refl
+    (zip_weaker TreeLessTrue (LessTrue 0) (λ f g l. less_by_tree 0 f g l (omega arith)) fs gs z)
+block_by_tree T c h (ExtensionStep.transform_trues {i = i} {fs = fs} {gs = gs} z) =
+    BlockStep.in_transform _ _ h.0 (plain_transform h.1) (same_id Rule.Trues i)
+    (zip_weaker _ (LessTrue 1) (λ f g l. less_by_tree 1 f g l.0 l.1) fs gs z)
+block_by_tree T c h (ExtensionStep.dropped_pieces w) =
+    BlockStep.in_other h.0 refl (without_by_tree (λ p. not (is_word Subtag p)) w)

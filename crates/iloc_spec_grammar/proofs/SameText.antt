@@ -1,12 +1,20 @@
 -- The printed text is the text of the printed tree, so that the tests tell which values are well-formed.
-use Rattle.std.proofs.Common.{◌≡◌, ◌↔◌, ℕ, ◌+◌, ◌||◌, Bool, true, false, cond, List, [], ◌∷◌, ◌++◌, length, map, flat_map, refl, sym, ap, ◌∙◌, subst, option_map, option_to_list, is_some, nat_lt, append_assoc, append-nil}
+use Rattle.std.proofs.Common.{◌≡◌, ◌↔◌, ℕ, ◌+◌, ◌||◌, Bool, true, false, cond, List, [], ◌∷◌, ◌++◌, length}
+use Rattle.std.proofs.Common.{map, flat_map, refl, sym, ap, ◌∙◌, subst, option_map, option_to_list, is_some}
+use Rattle.std.proofs.Common.{nat_lt, append_assoc, append-nil}
 use Rattle.std.proofs.lemmas.Bool.{cond_both}
 use Rattle.std.proofs.lemmas.List.{map-append}
 use Rattle.std.proofs.lemmas.List.Concat.{flat_map-append}
-use Rattle.iloc_spec_grammar.specs.Syntax.{join, AreLengths, languages, SpelledTransform, Unicode, Transform, identifier_pieces, unicode_pieces, transform_pieces}
-use Rattle.iloc_spec_grammar.specs.Tree.{Extension, unicode, transform, other, extension_block, block_pieces, spelling, transform_form, unicode_form, others_form, private_form, extensions_form, before_t, after_t, printed, tree_text, form_pieces, TreeMeans, IsTreeWellFormed, spelled_transform, spelled_unicode}
+use Rattle.iloc_spec_grammar.specs.Syntax.{join, AreLengths, languages, SpelledTransform, Unicode, Transform}
+use Rattle.iloc_spec_grammar.specs.Syntax.{identifier_pieces, unicode_pieces, transform_pieces}
+use Rattle.iloc_spec_grammar.specs.Tree.{Extension, unicode, transform, other, extension_block, block_pieces}
+use Rattle.iloc_spec_grammar.specs.Tree.{spelling, transform_form, unicode_form, others_form, private_form}
+use Rattle.iloc_spec_grammar.specs.Tree.{extensions_form, before_t, after_t, printed, tree_text, form_pieces}
+use Rattle.iloc_spec_grammar.specs.Tree.{TreeMeans, IsTreeWellFormed, spelled_transform, spelled_unicode}
 use Rattle.iloc_spec_grammar.specs.Meaning.{Locale, Extensions, Means}
-use Rattle.iloc_spec_grammar.specs.Values.{lower_identifier, spelled_fields, unicode_spelling, transform_spelling, other_spelling, private_spelling, extensions_spelling, text, IsValue, IsWellFormed}
+use Rattle.iloc_spec_grammar.specs.Values.{lower_identifier, spelled_fields, unicode_spelling}
+use Rattle.iloc_spec_grammar.specs.Values.{transform_spelling, other_spelling, private_spelling}
+use Rattle.iloc_spec_grammar.specs.Values.{extensions_spelling, text, IsValue, IsWellFormed}
 use Rattle.iloc_spec_grammar.proofs.PartTexts as parts
 use Rattle.iloc_spec_grammar.proofs.ReadBack as back
 use Rattle.iloc_spec_grammar.proofs.WellRead.{means_well_formed}
@@ -16,32 +24,54 @@ use Rattle.iloc_spec_grammar.proofs.RawLaws.{languages_table}
 -- each part
 
 pub unicode_spelling_is : (u : Unicode) → unicode_spelling u ≡ form_pieces (unicode_form u)
-unicode_spelling_is u = parts.unicode_spelling_is u ∙ elim (nat_lt 0 (length u.attributes + length u.keywords)) as (λ b. cond b ((117 ∷ []) ∷ unicode_pieces u) [] ≡ form_pieces (cond b ((117, unicode (spelled_unicode u)) ∷ []) [])) [ true ↦ sym (append-nil ((117 ∷ []) ∷ unicode_pieces u)) | false ↦ refl ]
+unicode_spelling_is u = parts.unicode_spelling_is u
+    ∙ elim (nat_lt 0 (length u.attributes + length u.keywords))
+    as (λ b. cond b ((117 ∷ []) ∷ unicode_pieces u) []
+    ≡ form_pieces (cond b ((117, unicode (spelled_unicode u)) ∷ []) []))
+    [ true ↦ sym (append-nil ((117 ∷ []) ∷ unicode_pieces u)) | false ↦ refl ]
 
 pub transform_spelling_is : (m : Transform) → transform_spelling m ≡ form_pieces (transform_form m)
 transform_spelling_is m =
     let n : SpelledTransform = spelled_transform m in
-    parts.transform_spelling_is m ∙ elim (is_some m.id || nat_lt 0 (length m.fields)) as (λ b. cond b ((116 ∷ []) ∷ transform_pieces n) [] ≡ form_pieces (cond b ((116, transform n) ∷ []) [])) [ true ↦ sym (append-nil ((116 ∷ []) ∷ transform_pieces n)) | false ↦ refl ]
+    parts.transform_spelling_is m
+    ∙ elim (is_some m.id || nat_lt 0 (length m.fields))
+    as (λ b. cond b ((116 ∷ []) ∷ transform_pieces n) [] ≡ form_pieces (cond b ((116, transform n) ∷ []) []))
+    [ true ↦ sym (append-nil ((116 ∷ []) ∷ transform_pieces n)) | false ↦ refl ]
 
 pub other_spelling_is : (o : ℕ × List (List ℕ)) → other_spelling o ≡ form_pieces (others_form (o ∷ []))
-other_spelling_is o = parts.other_spelling_is o ∙ elim (nat_lt 0 (length o.1)) as (λ b. cond b ((o.0 ∷ []) ∷ o.1) [] ≡ form_pieces (map (λ (o : ℕ × List (List ℕ)). (o.0, other o.1)) (cond b (o ∷ []) []))) [ true ↦ sym (append-nil ((o.0 ∷ []) ∷ o.1)) | false ↦ refl ]
+other_spelling_is o = parts.other_spelling_is o
+    ∙ elim (nat_lt 0 (length o.1))
+    as (λ b. cond b ((o.0 ∷ []) ∷ o.1) []
+    ≡ form_pieces (map (λ (o : ℕ × List (List ℕ)). (o.0, other o.1)) (cond b (o ∷ []) [])))
+    [ true ↦ sym (append-nil ((o.0 ∷ []) ∷ o.1)) | false ↦ refl ]
 
-pub others_spelling_is : (os : List (ℕ × List (List ℕ))) → flat_map other_spelling os ≡ form_pieces (others_form os)
+pub others_spelling_is : (os : List (ℕ × List (List ℕ))) →
+    flat_map other_spelling os ≡ form_pieces (others_form os)
 others_spelling_is [] = refl
-others_spelling_is (o ∷ os) = cond_both (nat_lt 0 (length o.1)) _ _ (λ l. flat_map other_spelling (o ∷ os) ≡ form_pieces (map (λ (o : ℕ × List (List ℕ)). (o.0, other o.1)) l))
-    (λ e. ap (λ l. l ++ flat_map other_spelling os) (parts.other_spelling_is o ∙ ap (λ b. cond b ((o.0 ∷ []) ∷ o.1) []) e) ∙ ap (λ l. ((o.0 ∷ []) ∷ o.1) ++ l) (others_spelling_is os))
-    (λ e. ap (λ l. l ++ flat_map other_spelling os) (parts.other_spelling_is o ∙ ap (λ b. cond b ((o.0 ∷ []) ∷ o.1) []) e) ∙ others_spelling_is os)
+others_spelling_is (o ∷ os) = cond_both (nat_lt 0 (length o.1)) _ _ (λ l.
+    flat_map other_spelling (o ∷ os) ≡ form_pieces (map (λ (o : ℕ × List (List ℕ)). (o.0, other o.1)) l))
+    (λ e. ap (λ l. l ++ flat_map other_spelling os)
+    (parts.other_spelling_is o ∙ ap (λ b. cond b ((o.0 ∷ []) ∷ o.1) []) e)
+    ∙ ap (λ l. ((o.0 ∷ []) ∷ o.1) ++ l) (others_spelling_is os))
+    (λ e. ap (λ l. l ++ flat_map other_spelling os)
+    (parts.other_spelling_is o ∙ ap (λ b. cond b ((o.0 ∷ []) ∷ o.1) []) e)
+    ∙ others_spelling_is os)
 
-pub private_spelling_is : (ws : List (List ℕ)) → private_spelling ws ≡ flat_map block_pieces (option_to_list (private_form ws))
+pub private_spelling_is : (ws : List (List ℕ)) →
+    private_spelling ws ≡ flat_map block_pieces (option_to_list (private_form ws))
 private_spelling_is [] = parts.private_spelling_none
 private_spelling_is (w ∷ ws) = parts.private_spelling_is w ws ∙ sym (append-nil ((120 ∷ []) ∷ (w ∷ ws)))
 
 -- all parts
 
-form_pieces-append : (es fs : List (ℕ × Extension)) → form_pieces (es ++ fs) ≡ form_pieces es ++ form_pieces fs
-form_pieces-append es fs = ap (flat_map block_pieces) (map-append extension_block es fs) ∙ flat_map-append block_pieces (map extension_block es) (map extension_block fs)
+form_pieces-append : (es fs : List (ℕ × Extension)) →
+    form_pieces (es ++ fs) ≡ form_pieces es ++ form_pieces fs
+form_pieces-append es fs = ap (flat_map block_pieces) (map-append extension_block es fs)
+    ∙ flat_map-append block_pieces (map extension_block es) (map extension_block fs)
 
-pub extensions_spelling_is : (e : Extensions) → extensions_spelling e ≡ form_pieces (extensions_form e) ++ flat_map block_pieces (option_to_list (private_form e.private))
+pub extensions_spelling_is : (e : Extensions) →
+    extensions_spelling e
+    ≡ form_pieces (extensions_form e) ++ flat_map block_pieces (option_to_list (private_form e.private))
 extensions_spelling_is e =
     let o = others_form (before_t e.others) in
     let t = transform_form e.transform in
@@ -49,26 +79,37 @@ extensions_spelling_is e =
     let r = others_form (after_t e.others) in
     let x = flat_map block_pieces (option_to_list (private_form e.private)) in
     parts.spelling_of_parts e
-    ∙ (λ k. others_spelling_is (before_t e.others) k ++ (transform_spelling_is e.transform k ++ (unicode_spelling_is e.unicode k ++ (others_spelling_is (after_t e.others) k ++ private_spelling_is e.private k))))
+    ∙ (λ k. others_spelling_is (before_t e.others) k
+    ++ (transform_spelling_is e.transform k
+    ++ (unicode_spelling_is e.unicode k
+    ++ (others_spelling_is (after_t e.others) k ++ private_spelling_is e.private k))))
     ∙ sym (
-    ap (λ l. l ++ x) (form_pieces-append o (t ++ (u ++ r)) ∙ ap (λ l. form_pieces o ++ l) (form_pieces-append t (u ++ r) ∙ ap (λ l. form_pieces t ++ l) (form_pieces-append u r)))
+    ap (λ l. l ++ x) (form_pieces-append o (t ++ (u ++ r))
+    ∙ ap (λ l. form_pieces o ++ l)
+    (form_pieces-append t (u ++ r) ∙ ap (λ l. form_pieces t ++ l) (form_pieces-append u r)))
     ∙ append_assoc (form_pieces o) (form_pieces t ++ (form_pieces u ++ form_pieces r)) x
-    ∙ ap (λ l. form_pieces o ++ l) (append_assoc (form_pieces t) (form_pieces u ++ form_pieces r) x ∙ ap (λ l. form_pieces t ++ l) (append_assoc (form_pieces u) (form_pieces r) x)))
+    ∙ ap (λ l. form_pieces o ++ l) (append_assoc (form_pieces t) (form_pieces u ++ form_pieces r) x
+    ∙ ap (λ l. form_pieces t ++ l) (append_assoc (form_pieces u) (form_pieces r) x)))
 
 -- the pieces of a locale, and its text
 
-pub pieces_are : (M : Locale) → identifier_pieces M.id ++ extensions_spelling M.extensions ≡ spelling (printed M)
-pieces_are M = ap (λ l. identifier_pieces M.id ++ l) (extensions_spelling_is M.extensions ∙ sym (flat_map-append block_pieces (map extension_block (extensions_form M.extensions)) (option_to_list (private_form M.extensions.private))))
+pub pieces_are : (M : Locale) →
+    identifier_pieces M.id ++ extensions_spelling M.extensions ≡ spelling (printed M)
+pieces_are M = ap (λ l. identifier_pieces M.id ++ l) (extensions_spelling_is M.extensions
+    ∙ sym (flat_map-append block_pieces (map extension_block (extensions_form M.extensions))
+    (option_to_list (private_form M.extensions.private))))
 
 pub text_is : (M : Locale) → text M ≡ tree_text M
 text_is M = ap join (pieces_are M)
 
 -- a value is well-formed, by its text, if it passes the tests
 
-pub well_formed_in : {T : ℕ → Bool} → AreLengths T → (M : Locale) → IsValue T M → Means T (text M) M ↔ IsTreeWellFormed M
+pub well_formed_in : {T : ℕ → Bool} → AreLengths T → (M : Locale) → IsValue T M →
+    Means T (text M) M ↔ IsTreeWellFormed M
 well_formed_in {T = T} table M h = (
   λ m. means_well_formed (text M) M (tree_means (text M) M m),
-  λ g. means_by_tree table (text M) M (subst (λ (t : List ℕ). TreeMeans T t M) (sym (text_is M)) (back.reads_back M h g)),
+  λ g. means_by_tree table (text M) M
+      (subst (λ (t : List ℕ). TreeMeans T t M) (sym (text_is M)) (back.reads_back M h g)),
 )
 
 pub well_formed_is : (M : Locale) → IsValue languages M → IsWellFormed M ↔ IsTreeWellFormed M

@@ -1,5 +1,7 @@
--- Maps of lists, and sets of lists of words: what they hold, how long they are, and lists one after the other.
-use Rattle.std.proofs.Common.{◌≡◌, ℕ, ◌+◌, ◌≤◌, true, false, cond, List, [], ◌∷◌, ◌++◌, length, map, refl, sym, ap, ◌∙◌, arith, Some}
+-- Maps of lists, and sets of lists of words: what they hold, how long they are, and lists one after the
+-- other.
+use Rattle.std.proofs.Common.{◌≡◌, ℕ, ◌+◌, ◌≤◌, true, false, cond, List, [], ◌∷◌, ◌++◌, length, map, refl}
+use Rattle.std.proofs.Common.{sym, ap, ◌∙◌, arith, Some}
 use Rattle.std.specs.Prelude.{is_some}
 use Rattle.std.specs.Option.{option_or}
 use Rattle.std.specs.List.{list_any}
@@ -11,22 +13,31 @@ use Rattle.std.specs.FinMap.Entries.{is_some-find, length-put}
 use Rattle.std.proofs.lemmas.List.{map-append, length-map}
 use Rattle.iloc_spec_grammar.specs.Syntax.{word_cmp, is_same, AllDifferent}
 use Rattle.iloc_spec_grammar.specs.Meaning.{map_of, set_of}
-use Rattle.iloc_spec_grammar.proofs.MapLaws.{word_cmp_total, same_words, find-map_of, sorted-map_of, map_of_same}
+use Rattle.iloc_spec_grammar.proofs.MapLaws.{word_cmp_total, same_words, find-map_of, sorted-map_of}
+use Rattle.iloc_spec_grammar.proofs.MapLaws.{map_of_same}
 use Rattle.iloc_spec_grammar.proofs.ValuesLaws.{unmarked}
 use Rattle.std.proofs.lemmas.Bool.{cond_both, false_from_ne_true}
 
 module _ {K X : Type 0} (R : K → K → Ordering) where
   -- what is found in two lists, one after the other
-  pub find-append : (q : K) (es fs : List (K × X)) → find R q (es ++ fs) ≡ option_or (find R q es) (find R q fs)
+  pub find-append : (q : K) (es fs : List (K × X)) →
+      find R q (es ++ fs) ≡ option_or (find R q es) (find R q fs)
   find-append q [] fs = refl
-  find-append q (e ∷ es) fs = elim (eq_by_cmp R q e.0) as (λ b. cond b (Some e.1) (find R q (es ++ fs)) ≡ option_or (cond b (Some e.1) (find R q es)) (find R q fs)) [ true ↦ refl | false ↦ find-append q es fs ]
+  find-append q (e ∷ es) fs = elim (eq_by_cmp R q e.0)
+      as (λ b.
+      cond b (Some e.1) (find R q (es ++ fs)) ≡ option_or (cond b (Some e.1) (find R q es)) (find R q fs))
+      [ true ↦ refl | false ↦ find-append q es fs ]
 
   -- the map of a map and more is that of the lists
-  pub map_of-first : IsTotalOrder R → IsAntisymmetric R → (es fs : List (K × X)) → map_of R (map_of R es ++ fs) ≡ map_of R (es ++ fs)
-  map_of-first o same es fs = map_of_same R o same _ _ (λ q. find-append q (map_of R es) fs ∙ ap (λ p. option_or p (find R q fs)) (find-map_of R o q es) ∙ sym (find-append q es fs))
+  pub map_of-first : IsTotalOrder R → IsAntisymmetric R → (es fs : List (K × X)) →
+      map_of R (map_of R es ++ fs) ≡ map_of R (es ++ fs)
+  map_of-first o same es fs = map_of_same R o same _ _ (λ q. find-append q (map_of R es) fs
+      ∙ ap (λ p. option_or p (find R q fs)) (find-map_of R o q es) ∙ sym (find-append q es fs))
 
-  pub map_of-last : IsTotalOrder R → IsAntisymmetric R → (es fs : List (K × X)) → map_of R (es ++ map_of R fs) ≡ map_of R (es ++ fs)
-  map_of-last o same es fs = map_of_same R o same _ _ (λ q. find-append q es (map_of R fs) ∙ ap (λ p. option_or (find R q es) p) (find-map_of R o q fs) ∙ sym (find-append q es fs))
+  pub map_of-last : IsTotalOrder R → IsAntisymmetric R → (es fs : List (K × X)) →
+      map_of R (es ++ map_of R fs) ≡ map_of R (es ++ fs)
+  map_of-last o same es fs = map_of_same R o same _ _ (λ q. find-append q es (map_of R fs)
+      ∙ ap (λ p. option_or (find R q es) p) (find-map_of R o q fs) ∙ sym (find-append q es fs))
 
 -- sets as maps to nothing
 
@@ -45,12 +56,14 @@ marked-append vs ws = map-append (λ (w : List ℕ). (w, tt {0})) vs ws
 
 -- the set of a set and more is that of the lists
 pub set_of-first : (vs ws : List (List ℕ)) → set_of (set_of vs ++ ws) ≡ set_of (vs ++ ws)
-set_of-first vs ws = ap (λ es. keys (map_of word_cmp es)) (marked-append (set_of vs) ws ∙ ap (λ es. es ++ marked ws) (remarked (map_of word_cmp (marked vs))))
+set_of-first vs ws = ap (λ es. keys (map_of word_cmp es))
+    (marked-append (set_of vs) ws ∙ ap (λ es. es ++ marked ws) (remarked (map_of word_cmp (marked vs))))
     ∙ ap keys (map_of-first word_cmp word_cmp_total same_words (marked vs) (marked ws))
     ∙ ap (λ es. keys (map_of word_cmp es)) (sym (marked-append vs ws))
 
 pub set_of-last : (vs ws : List (List ℕ)) → set_of (vs ++ set_of ws) ≡ set_of (vs ++ ws)
-set_of-last vs ws = ap (λ es. keys (map_of word_cmp es)) (marked-append vs (set_of ws) ∙ ap (λ es. marked vs ++ es) (remarked (map_of word_cmp (marked ws))))
+set_of-last vs ws = ap (λ es. keys (map_of word_cmp es))
+    (marked-append vs (set_of ws) ∙ ap (λ es. marked vs ++ es) (remarked (map_of word_cmp (marked ws))))
     ∙ ap keys (map_of-last word_cmp word_cmp_total same_words (marked vs) (marked ws))
     ∙ ap (λ es. keys (map_of word_cmp es)) (sym (marked-append vs ws))
 
@@ -58,7 +71,8 @@ pub set_of-set_of : (ws : List (List ℕ)) → set_of (set_of ws) ≡ set_of ws
 set_of-set_of ws = set_of-last [] ws
 
 -- a word is in the set where it is in the list
-pub any-set_of : (w : List ℕ) (ws : List (List ℕ)) → list_any (is_same w) (set_of ws) ≡ list_any (is_same w) ws
+pub any-set_of : (w : List ℕ) (ws : List (List ℕ)) →
+    list_any (is_same w) (set_of ws) ≡ list_any (is_same w) ws
 any-set_of w ws =
     sym (is_some-find word_cmp w (map_of word_cmp (marked ws)))
     ∙ ap is_some (find-map_of word_cmp word_cmp_total w (marked ws))
@@ -70,18 +84,27 @@ any-set_of w ws =
 length-keys : (ws : List (List ℕ)) → length (set_of ws) ≡ length (map_of word_cmp (marked ws))
 length-keys ws = length-map (map_of word_cmp (marked ws)) _
 
-pub length-set_of-cons : (w : List ℕ) (ws : List (List ℕ)) → length (set_of (w ∷ ws)) ≡ cond (list_any (is_same w) ws) (length (set_of ws)) (length (set_of ws) + 1)
+pub length-set_of-cons : (w : List ℕ) (ws : List (List ℕ)) →
+    length (set_of (w ∷ ws)) ≡ cond (list_any (is_same w) ws) (length (set_of ws)) (length (set_of ws) + 1)
 length-set_of-cons w ws =
     length-keys (w ∷ ws)
-    ∙ length-put word_cmp word_cmp_total w (tt {0}) (map_of word_cmp (marked ws)) (sorted-map_of word_cmp word_cmp_total (marked ws))
-    ∙ ap (λ b. cond b (length (map_of word_cmp (marked ws))) (length (map_of word_cmp (marked ws)) + 1)) (ap is_some (find-map_of word_cmp word_cmp_total w (marked ws)) ∙ is_some-find word_cmp w (marked ws) ∙ ap (list_any (is_same w)) (unmarked ws))
+    ∙ length-put word_cmp word_cmp_total w (tt {0}) (map_of word_cmp (marked ws))
+    (sorted-map_of word_cmp word_cmp_total (marked ws))
+    ∙ ap (λ b. cond b (length (map_of word_cmp (marked ws))) (length (map_of word_cmp (marked ws)) + 1))
+    (ap is_some (find-map_of word_cmp word_cmp_total w (marked ws)) ∙ is_some-find word_cmp w (marked ws)
+    ∙ ap (list_any (is_same w)) (unmarked ws))
     ∙ ap (λ n. cond (list_any (is_same w) ws) n (n + 1)) (sym (length-keys ws))
 
 pub length-set_of : (ws : List (List ℕ)) → length (set_of ws) ≤ length ws
 length-set_of [] = omega arith
-length-set_of (w ∷ ws) = let h = length-set_of ws in rw (length-set_of-cons w ws) (cond_both (list_any (is_same w) ws) _ _ (λ n. n ≤ length (w ∷ ws)) (λ _. omega arith) (λ _. omega arith))
+length-set_of (w ∷ ws) = let h = length-set_of ws in
+    rw (length-set_of-cons w ws)
+    (cond_both (list_any (is_same w) ws) _ _ (λ n. n ≤ length (w ∷ ws)) (λ _. omega arith) (λ _. omega arith))
 
 -- different words are as many in their set
 pub length-set_of-different : (ws : List (List ℕ)) → AllDifferent word_cmp ws → length (set_of ws) ≡ length ws
 length-set_of-different [] d = refl
-length-set_of-different (w ∷ ws) d = let h = length-set_of-different ws d.1 in let e : length (set_of (w ∷ ws)) ≡ length (set_of ws) + 1 = length-set_of-cons w ws ∙ ap (λ b. cond b (length (set_of ws)) (length (set_of ws) + 1)) (false_from_ne_true _ d.0) in omega arith
+length-set_of-different (w ∷ ws) d = let h = length-set_of-different ws d.1 in
+    let e : length (set_of (w ∷ ws)) ≡ length (set_of ws) + 1 = length-set_of-cons w ws
+    ∙ ap (λ b. cond b (length (set_of ws)) (length (set_of ws) + 1)) (false_from_ne_true _ d.0) in
+    omega arith

@@ -1,5 +1,6 @@
 -- Singletons as numbers: which tie, and of which kind each is.
-use Rattle.std.proofs.Common.{◌≡◌, ◌≢◌, inl, inr, ℕ, suc, true, false, ◌==◌, ap, arith, List, [], ◌∷◌, map, subst, IfSome}
+use Rattle.std.proofs.Common.{◌≡◌, ◌≢◌, inl, inr, ℕ, suc, true, false, ◌==◌, ap, arith, List, [], ◌∷◌, map}
+use Rattle.std.proofs.Common.{subst, IfSome}
 use Rattle.std.specs.Char.{is_ascii_alphanumeric, to_ascii_lowercase}
 use Rattle.std.specs.Cmp.{nat_cmp_total, tied_itself}
 use Rattle.std.specs.Ordering.{nat_cmp, eq_by_cmp, is_eq}
@@ -22,9 +23,12 @@ pub self_tied : (q : ℕ) → eq_by_cmp nat_cmp q q ≡ true
 self_tied q = ap is_eq (tied_itself nat_cmp_total q)
 
 -- what holds of each item at its singleton holds of the one that is found
-pub find_holds : {X : Type 0} (P : ℕ → X → Type 0) (q : ℕ) (es : List (ℕ × X)) → AllByRecursion (λ e. P (lower_singleton e) e.1) es → IfSome (find nat_cmp q (map (λ e. (lower_singleton e, e.1)) es)) (P q)
+pub find_holds : {X : Type 0} (P : ℕ → X → Type 0) (q : ℕ) (es : List (ℕ × X)) →
+    AllByRecursion (λ e. P (lower_singleton e) e.1) es →
+    IfSome (find nat_cmp q (map (λ e. (lower_singleton e, e.1)) es)) (P q)
 find_holds P q [] h = tt
-find_holds P q (e ∷ es) h = cond_both (eq_by_cmp nat_cmp q (lower_singleton e)) _ _ (λ o. IfSome o (P q)) (λ t. subst (λ (c : ℕ). P c e.1) (tied q (lower_singleton e) t) h.0) (λ t. find_holds P q es h.1)
+find_holds P q (e ∷ es) h = cond_both (eq_by_cmp nat_cmp q (lower_singleton e)) _ _ (λ o. IfSome o (P q))
+    (λ t. subst (λ (c : ℕ). P c e.1) (tied q (lower_singleton e) t) h.0) (λ t. find_holds P q es h.1)
 
 -- a piece of two bytes and more has more than one
 pub two_more : (n : ℕ) → (suc (suc n) == 1) ≡ false
@@ -57,9 +61,11 @@ kind_of c h = elim (cases_eq c 117) [
   ]
 ]
   where
-    rest : (c : ℕ) → is_ascii_alphanumeric c ≡ true → (c ≡ 117 → ⊥) → (c ≡ 116 → ⊥) → (c ≡ 120 → ⊥) → is_other_singleton c ≡ true
+    rest : (c : ℕ) → is_ascii_alphanumeric c ≡ true → (c ≡ 117 → ⊥) → (c ≡ 116 → ⊥) → (c ≡ 120 → ⊥) →
+        is_other_singleton c ≡ true
     rest c h a b d = grind (arith, nat_tests)
 
 -- a letter or digit is one in lower case too
-pub lower_letter : (c : ℕ) → is_ascii_alphanumeric c ≡ true → is_ascii_alphanumeric (to_ascii_lowercase c) ≡ true
+pub lower_letter : (c : ℕ) → is_ascii_alphanumeric c ≡ true →
+    is_ascii_alphanumeric (to_ascii_lowercase c) ≡ true
 lower_letter c h = grind (arith, nat_tests)

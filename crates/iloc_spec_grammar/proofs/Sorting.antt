@@ -1,5 +1,6 @@
 -- A sort by keys, and what is left without repeats.
-use Rattle.std.proofs.Common.{◌≡◌, ℕ, Bool, true, false, cond, not, ◌||◌, List, [], ◌∷◌, map, filter, refl, sym, ap, ◌∙◌, true≢false}
+use Rattle.std.proofs.Common.{◌≡◌, ℕ, Bool, true, false, cond, not, ◌||◌, List, [], ◌∷◌, map, filter, refl}
+use Rattle.std.proofs.Common.{sym, ap, ◌∙◌, true≢false}
 use Rattle.std.specs.List.{AllByRecursion, list_any}
 use Rattle.std.specs.Ordering.{is_lt, is_eq, eq_by_cmp, ordering_reverse}
 use Rattle.std.specs.Cmp.{IsTotalOrder, eq_by_cmp_equiv}
@@ -7,7 +8,8 @@ use Rattle.std.specs.declared.cmp.Ordering.{Ordering}
 use Rattle.std.specs.declared.cmp.Ordering.TheVariants.{Less, Equal, Greater}
 use Rattle.std.specs.FinMap.{is_sorted}
 use Rattle.std.specs.FinMap.Entries.{below_all}
-use Rattle.std.proofs.lemmas.Bool.{and_parts, and_from, or_parts, or_from, or_left, or_right, false_from_ne_true, both_ways, cond_both, not-false}
+use Rattle.std.proofs.lemmas.Bool.{and_parts, and_from, or_parts, or_from, or_left, or_right}
+use Rattle.std.proofs.lemmas.Bool.{false_from_ne_true, both_ways, cond_both, not-false}
 use Rattle.iloc_spec_grammar.specs.Syntax.{lower, word_cmp, is_same, AllDifferent}
 use Rattle.iloc_spec_grammar.specs.Values.{Reordered}
 use Rattle.iloc_spec_grammar.specs.TreeSteps.{TreeWithout, WithoutRepeats}
@@ -33,79 +35,113 @@ module _ {K X : Type 0} (R : K → K → Ordering) (key : X → K) where
 
   reordered-put_in : (x : X) (ys : List X) → Reordered (x ∷ ys) (put_in x ys)
   reordered-put_in x [] = itself (x ∷ [])
-  reordered-put_in x (y ∷ ys) = cond_both (is_lt (R (key y) (key x))) _ _ (Reordered (x ∷ y ∷ ys)) (λ _. Reordered.in_turn Reordered.first_two (Reordered.front_kept (reordered-put_in x ys))) (λ _. itself (x ∷ y ∷ ys))
+  reordered-put_in x (y ∷ ys) = cond_both (is_lt (R (key y) (key x))) _ _ (Reordered (x ∷ y ∷ ys))
+      (λ _. Reordered.in_turn Reordered.first_two (Reordered.front_kept (reordered-put_in x ys)))
+      (λ _. itself (x ∷ y ∷ ys))
 
   pub reordered-sort : (xs : List X) → Reordered xs (sort xs)
   reordered-sort [] = Reordered.none
-  reordered-sort (x ∷ xs) = Reordered.in_turn (Reordered.front_kept (reordered-sort xs)) (reordered-put_in x (sort xs))
+  reordered-sort (x ∷ xs) =
+      Reordered.in_turn (Reordered.front_kept (reordered-sort xs)) (reordered-put_in x (sort xs))
 
   abbrev listed : {V : Type 0} → (X → V) → List X → List (K × V)
   listed value xs = map (λ x. (key x, value x)) xs
 
   module _ {V : Type 0} (o : IsTotalOrder R) (value : X → V) where
-    below-put_in : (k : K) (x : X) (ys : List X) → is_lt (R k (key x)) ≡ true → below_all R k (listed value ys) ≡ true → below_all R k (listed value (put_in x ys)) ≡ true
+    below-put_in : (k : K) (x : X) (ys : List X) → is_lt (R k (key x)) ≡ true →
+        below_all R k (listed value ys) ≡ true → below_all R k (listed value (put_in x ys)) ≡ true
     below-put_in k x [] p h = and_from _ _ p refl
     below-put_in k x (y ∷ ys) p h =
         let parts = and_parts _ _ h in
-        cond_both (is_lt (R (key y) (key x))) _ _ (λ zs. below_all R k (listed value zs) ≡ true) (λ _. and_from _ _ parts.0 (below-put_in k x ys p parts.1)) (λ _. and_from _ _ p h)
+        cond_both (is_lt (R (key y) (key x))) _ _ (λ zs. below_all R k (listed value zs) ≡ true)
+        (λ _. and_from _ _ parts.0 (below-put_in k x ys p parts.1)) (λ _. and_from _ _ p h)
 
-    below-trans : (k l : K) (ys : List X) → R k l ≡ Less → below_all R l (listed value ys) ≡ true → below_all R k (listed value ys) ≡ true
+    below-trans : (k l : K) (ys : List X) → R k l ≡ Less → below_all R l (listed value ys) ≡ true →
+        below_all R k (listed value ys) ≡ true
     below-trans k l [] p h = refl
-    below-trans k l (y ∷ ys) p h = let parts = and_parts _ _ h in and_from _ _ (ap is_lt (o.trans k l (key y) p (less _ parts.0))) (below-trans k l ys p parts.1)
+    below-trans k l (y ∷ ys) p h = let parts = and_parts _ _ h in
+        and_from _ _ (ap is_lt (o.trans k l (key y) p (less _ parts.0))) (below-trans k l ys p parts.1)
 
-    sorted-put_in : (x : X) (ys : List X) → list_any (eq_by_cmp R (key x)) (map key ys) ≡ false → is_sorted R (listed value ys) ≡ true → is_sorted R (listed value (put_in x ys)) ≡ true
+    sorted-put_in : (x : X) (ys : List X) → list_any (eq_by_cmp R (key x)) (map key ys) ≡ false →
+        is_sorted R (listed value ys) ≡ true → is_sorted R (listed value (put_in x ys)) ≡ true
     sorted-put_in x [] d h = refl
     sorted-put_in x (y ∷ ys) d h =
         let apart = or_parts _ _ d in let parts = and_parts _ _ h in
-        cond_both (is_lt (R (key y) (key x))) _ _ (λ zs. is_sorted R (listed value zs) ≡ true) (λ e. and_from _ _ (below-put_in (key y) x ys e parts.0) (sorted-put_in x ys apart.1 parts.1)) (λ e.
-        let l : R (key x) (key y) ≡ Less = o.antisymm (key x) (key y) ∙ less _ (turned (R (key y) (key x)) e ((eq_by_cmp_equiv o).symm (key y) (key x) ∙ apart.0)) in
+        cond_both (is_lt (R (key y) (key x))) _ _ (λ zs. is_sorted R (listed value zs) ≡ true)
+        (λ e. and_from _ _ (below-put_in (key y) x ys e parts.0) (sorted-put_in x ys apart.1 parts.1)) (λ e.
+        let l : R (key x) (key y) ≡ Less = o.antisymm (key x) (key y)
+        ∙ less _ (turned (R (key y) (key x)) e ((eq_by_cmp_equiv o).symm (key y) (key x) ∙ apart.0)) in
         and_from _ _ (and_from _ _ (ap is_lt l) (below-trans (key x) (key y) ys l parts.0)) h)
 
-    any-put_in : (test : K → Bool) (x : X) (ys : List X) → list_any test (map key (put_in x ys)) ≡ (test (key x) || list_any test (map key ys))
+    any-put_in : (test : K → Bool) (x : X) (ys : List X) →
+        list_any test (map key (put_in x ys)) ≡ (test (key x) || list_any test (map key ys))
     any-put_in test x [] = refl
-    any-put_in test x (y ∷ ys) = cond_both (is_lt (R (key y) (key x))) _ _ (λ zs. list_any test (map key zs) ≡ (test (key x) || (test (key y) || list_any test (map key ys)))) (λ _. ap (λ b. test (key y) || b) (any-put_in test x ys) ∙ or_swap (test (key y)) (test (key x)) _) (λ _. refl)
+    any-put_in test x (y ∷ ys) = cond_both (is_lt (R (key y) (key x))) _ _
+        (λ zs. list_any test (map key zs) ≡ (test (key x) || (test (key y) || list_any test (map key ys))))
+        (λ _. ap (λ b. test (key y) || b) (any-put_in test x ys) ∙ or_swap (test (key y)) (test (key x)) _)
+        (λ _. refl)
 
-    any-sort : (test : K → Bool) (xs : List X) → list_any test (map key (sort xs)) ≡ list_any test (map key xs)
+    any-sort : (test : K → Bool) (xs : List X) →
+        list_any test (map key (sort xs)) ≡ list_any test (map key xs)
     any-sort test [] = refl
     any-sort test (x ∷ xs) = any-put_in test x (sort xs) ∙ ap (λ b. test (key x) || b) (any-sort test xs)
 
     -- items whose keys differ are in order once sorted
-    pub sorted-sort : (xs : List X) → AllDifferent R (map key xs) → is_sorted R (listed value (sort xs)) ≡ true
+    pub sorted-sort : (xs : List X) → AllDifferent R (map key xs) →
+        is_sorted R (listed value (sort xs)) ≡ true
     sorted-sort [] d = refl
-    sorted-sort (x ∷ xs) d = sorted-put_in x (sort xs) (any-sort (eq_by_cmp R (key x)) xs ∙ false_from_ne_true _ d.0) (sorted-sort xs d.1)
+    sorted-sort (x ∷ xs) d = sorted-put_in x (sort xs)
+        (any-sort (eq_by_cmp R (key x)) xs ∙ false_from_ne_true _ d.0) (sorted-sort xs d.1)
 
 -- repeats
 
 module _ {X : Type 0} (key : X → List ℕ) where
   abbrev pub dedup : List (List ℕ) → List X → List X
   dedup seen [] = []
-  dedup seen (x ∷ xs) = cond (list_any (is_same (lower (key x))) seen) (dedup seen xs) (x ∷ dedup (lower (key x) ∷ seen) xs)
+  dedup seen (x ∷ xs) =
+      cond (list_any (is_same (lower (key x))) seen) (dedup seen xs) (x ∷ dedup (lower (key x) ∷ seen) xs)
 
   pub without-dedup : (seen : List (List ℕ)) (xs : List X) → WithoutRepeats key seen xs (dedup seen xs)
   without-dedup seen [] = WithoutRepeats.none
-  without-dedup seen (x ∷ xs) = cond_both (list_any (is_same (lower (key x))) seen) _ _ (WithoutRepeats key seen (x ∷ xs)) (λ e. WithoutRepeats.left_out e (without-dedup seen xs)) (λ _. WithoutRepeats.stays (without-dedup (lower (key x) ∷ seen) xs))
+  without-dedup seen (x ∷ xs) = cond_both (list_any (is_same (lower (key x))) seen) _ _
+      (WithoutRepeats key seen (x ∷ xs)) (λ e. WithoutRepeats.left_out e (without-dedup seen xs))
+      (λ _. WithoutRepeats.stays (without-dedup (lower (key x) ∷ seen) xs))
 
   abbrev keys : List X → List (List ℕ)
   keys xs = map (λ x. lower (key x)) xs
 
   -- what was seen is not left
-  unseen-dedup : (k : List ℕ) (seen : List (List ℕ)) (xs : List X) → list_any (is_same k) seen ≡ true → list_any (is_same k) (keys (dedup seen xs)) ≡ false
+  unseen-dedup : (k : List ℕ) (seen : List (List ℕ)) (xs : List X) → list_any (is_same k) seen ≡ true →
+      list_any (is_same k) (keys (dedup seen xs)) ≡ false
   unseen-dedup k seen [] h = refl
-  unseen-dedup k seen (x ∷ xs) h = cond_both (list_any (is_same (lower (key x))) seen) _ _ (λ l. list_any (is_same k) (keys l) ≡ false) (λ _. unseen-dedup k seen xs h) (λ e. or_from _ _ (not_same e) (unseen-dedup k (lower (key x) ∷ seen) xs (or_right _ _ h)))
+  unseen-dedup k seen (x ∷ xs) h = cond_both (list_any (is_same (lower (key x))) seen) _ _
+      (λ l. list_any (is_same k) (keys l) ≡ false) (λ _. unseen-dedup k seen xs h)
+      (λ e. or_from _ _ (not_same e) (unseen-dedup k (lower (key x) ∷ seen) xs (or_right _ _ h)))
     where
       not_same : list_any (is_same (lower (key x))) seen ≡ false → is_same k (lower (key x)) ≡ false
-      not_same e = false_from_ne_true _ (λ t. both_ways _ e (sym (list_any_congr (eq_by_cmp_equiv word_cmp_total) k (lower (key x)) seen t) ∙ h))
+      not_same e = false_from_ne_true _ (λ t.
+          both_ways _ e (sym (list_any_congr (eq_by_cmp_equiv word_cmp_total) k (lower (key x)) seen t) ∙ h))
 
   pub different-dedup : (seen : List (List ℕ)) (xs : List X) → AllDifferent word_cmp (keys (dedup seen xs))
   different-dedup seen [] = tt
-  different-dedup seen (x ∷ xs) = cond_both (list_any (is_same (lower (key x))) seen) _ _ (λ l. AllDifferent word_cmp (keys l)) (λ _. different-dedup seen xs) (λ _. (both_ways _ (unseen-dedup (lower (key x)) (lower (key x) ∷ seen) xs (or_left _ _ ((eq_by_cmp_equiv word_cmp_total).refl (lower (key x))))), different-dedup (lower (key x) ∷ seen) xs))
+  different-dedup seen (x ∷ xs) = cond_both (list_any (is_same (lower (key x))) seen) _ _
+      (λ l. AllDifferent word_cmp (keys l)) (λ _. different-dedup seen xs) (λ _. (
+        both_ways _ (unseen-dedup (lower (key x)) (lower (key x) ∷ seen) xs
+            (or_left _ _ ((eq_by_cmp_equiv word_cmp_total).refl (lower (key x))))),
+        different-dedup (lower (key x) ∷ seen) xs,
+      ))
 
 -- what doesn't pass
 
-pub without-filter : {X : Type 0} (test : X → Bool) (xs : List X) → TreeWithout test xs (filter (λ x. not (test x)) xs)
+pub without-filter : {X : Type 0} (test : X → Bool) (xs : List X) →
+    TreeWithout test xs (filter (λ x. not (test x)) xs)
 without-filter test [] = TreeWithout.none
-without-filter test (x ∷ xs) = cond_both (not (test x)) _ _ (TreeWithout test (x ∷ xs)) (λ _. TreeWithout.stays (without-filter test xs)) (λ e. TreeWithout.left_out (not-false _ e) (without-filter test xs))
+without-filter test (x ∷ xs) =
+    cond_both (not (test x)) _ _ (TreeWithout test (x ∷ xs)) (λ _. TreeWithout.stays (without-filter test xs))
+    (λ e. TreeWithout.left_out (not-false _ e) (without-filter test xs))
 
-pub filter-passes : {X : Type 0} (test : X → Bool) (xs : List X) → AllByRecursion (λ x. test x ≡ true) (filter test xs)
+pub filter-passes : {X : Type 0} (test : X → Bool) (xs : List X) →
+    AllByRecursion (λ x. test x ≡ true) (filter test xs)
 filter-passes test [] = tt
-filter-passes test (x ∷ xs) = cond_both (test x) _ _ (AllByRecursion (λ x. test x ≡ true)) (λ e. (e, filter-passes test xs)) (λ _. filter-passes test xs)
+filter-passes test (x ∷ xs) = cond_both (test x) _ _ (AllByRecursion (λ x. test x ≡ true))
+    (λ e. (e, filter-passes test xs)) (λ _. filter-passes test xs)

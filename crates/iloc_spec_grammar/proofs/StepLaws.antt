@@ -1,5 +1,7 @@
 -- A step keeps the rules, the meaning and the sums over the pieces.
-use Rattle.std.proofs.Common.{◌≡◌, ℕ, ◌+◌, ◌<◌, Bool, true, false, cond, not, List, [], ◌∷◌, length, map, filter_map, refl, sym, ap, ◌∙◌, subst, arith, Option, Some, None, option_map, true≢false}
+use Rattle.std.proofs.Common.{◌≡◌, ℕ, ◌+◌, ◌<◌, Bool, true, false, cond, not, List, [], ◌∷◌, length, map}
+use Rattle.std.proofs.Common.{filter_map, refl, sym, ap, ◌∙◌, subst, arith, Option, Some, None, option_map}
+use Rattle.std.proofs.Common.{true≢false}
 use Rattle.std.specs.List.{AllByRecursion, list_any, AllZip, cons_option}
 use Rattle.std.specs.Char.{to_ascii_lowercase}
 use Rattle.std.specs.Int.{is_in_range}
@@ -7,24 +9,46 @@ use Rattle.std.specs.Ordering.{nat_cmp, eq_by_cmp}
 use Rattle.std.specs.Cmp.{nat_cmp_total}
 use Rattle.std.specs.FinMap.{find, nat_cmp-IsAntisymmetric}
 use Rattle.std.proofs.lemmas.Bool.{or_parts, or_from, not-true, both_ways, false_from_ne_true}
-use Rattle.iloc_spec_grammar.specs.Syntax.{Variant, Subtag, UnicodeKey, TransformKey, Attribute, is_word, IsWord, lower, word_cmp, is_true, SpelledIdentifier, Fields, IsIdentifier, IsKeyword, IsField, kept, lower_singleton, AllDifferent}
-use Rattle.iloc_spec_grammar.specs.Tree.{Extension, other, Written, IsExtension, IsWritten, unicode_part, transform_part, private_part, other_part, by_singleton, meaning}
+use Rattle.iloc_spec_grammar.specs.Syntax.{Variant, Subtag, UnicodeKey, TransformKey, Attribute, is_word}
+use Rattle.iloc_spec_grammar.specs.Syntax.{IsWord, lower, word_cmp, is_true, SpelledIdentifier, Fields}
+use Rattle.iloc_spec_grammar.specs.Syntax.{IsIdentifier, IsKeyword, IsField, kept, lower_singleton}
+use Rattle.iloc_spec_grammar.specs.Syntax.{AllDifferent}
+use Rattle.iloc_spec_grammar.specs.Tree.{Extension, other, Written, IsExtension, IsWritten, unicode_part}
+use Rattle.iloc_spec_grammar.specs.Tree.{transform_part, private_part, other_part, by_singleton, meaning}
 use Rattle.iloc_spec_grammar.specs.Meaning.{map_of, set_of, normal_identifier, normal_values, normal_fields}
 use Rattle.iloc_spec_grammar.specs.Values.{Reordered}
-use Rattle.iloc_spec_grammar.specs.TreeSteps.{TreeWithout, WithoutRepeats, TreeLessTrue, keys_differ, TreeRule, TreeIdentifierStep, ExtensionStep, Step, unicode_extension, transform_extension}
+use Rattle.iloc_spec_grammar.specs.TreeSteps.{TreeWithout, WithoutRepeats, TreeLessTrue, keys_differ}
+use Rattle.iloc_spec_grammar.specs.TreeSteps.{TreeRule, TreeIdentifierStep, ExtensionStep, Step}
+use Rattle.iloc_spec_grammar.specs.TreeSteps.{unicode_extension, transform_extension}
 use Rattle.iloc_spec_grammar.proofs.MapLaws.{map_of_same, word_cmp_total, same_words}
-use Rattle.iloc_spec_grammar.proofs.Orders.{all_reordered, map_reordered, different_reordered, find_reordered, set_of_reordered, map_repeats, all_repeats, all_without, filter_without, itself, length_reordered}
+use Rattle.iloc_spec_grammar.proofs.Orders.{all_reordered, map_reordered, different_reordered, find_reordered}
+use Rattle.iloc_spec_grammar.proofs.Orders.{set_of_reordered, map_repeats, all_repeats, all_without}
+use Rattle.iloc_spec_grammar.proofs.Orders.{filter_without, itself, length_reordered}
 use Rattle.iloc_spec_grammar.proofs.General.{map-zip, all_zip, zip_weaker}
 use Rattle.std.proofs.lemmas.Simd.{map-map}
 use Rattle.std.proofs.lemmas.Slice.Zip.{AllZip-long}
 
 -- identifiers
 
-pub identifier_step : {T : ℕ → Bool} {r : TreeRule} {i j : SpelledIdentifier} → TreeIdentifierStep r i j → IsIdentifier T i → IsIdentifier T j × (normal_identifier j ≡ normal_identifier i)
+pub identifier_step : {T : ℕ → Bool} {r : TreeRule} {i j : SpelledIdentifier} → TreeIdentifierStep r i j →
+    IsIdentifier T i → IsIdentifier T j × (normal_identifier j ≡ normal_identifier i)
 identifier_step TreeIdentifierStep.same h = (h, refl)
 identifier_step (TreeIdentifierStep.variants {l = l} {s = s} {r = r} {vs = vs} {ws = ws} p) h = (
-  record { words = record { language = h.words.language; script = h.words.script; region = h.words.region; variants = all_reordered (IsWord Variant) p h.words.variants }; different = different_reordered word_cmp word_cmp_total (map_reordered lower p) h.different },
-  λ k. record { language = lower l; script = (normal_identifier (record { language = l; script = s; region = r; variants = vs })).script; region = (normal_identifier (record { language = l; script = s; region = r; variants = vs })).region; variants = sym (set_of_reordered (map_reordered lower p)) k },
+  record {
+    words = record {
+      language = h.words.language;
+      script = h.words.script;
+      region = h.words.region;
+      variants = all_reordered (IsWord Variant) p h.words.variants;
+    };
+    different = different_reordered word_cmp word_cmp_total (map_reordered lower p) h.different;
+  },
+  λ k. record {
+    language = lower l;
+    script = (normal_identifier (record { language = l; script = s; region = r; variants = vs })).script;
+    region = (normal_identifier (record { language = l; script = s; region = r; variants = vs })).region;
+    variants = sym (set_of_reordered (map_reordered lower p)) k;
+  },
 )
 
 -- fields
@@ -33,28 +57,37 @@ abbrev entry : List ℕ × List (List ℕ) → List ℕ × List (List ℕ)
 entry f = (lower f.0, normal_values f.1)
 
 fields_reordered : {fs gs : Fields} → keys_differ fs → Reordered fs gs → normal_fields gs ≡ normal_fields fs
-fields_reordered {fs = fs} {gs = gs} d r = sym (map_of_same word_cmp word_cmp_total same_words (map entry fs) (map entry gs) (λ q. find_reordered word_cmp word_cmp_total q (map_reordered entry r) (subst (AllDifferent word_cmp) (sym (map-map (λ (e : List ℕ × List (List ℕ)). e.0) entry fs)) d)))
+fields_reordered {fs = fs} {gs = gs} d r = sym (map_of_same word_cmp word_cmp_total same_words (map entry fs)
+    (map entry gs) (λ q. find_reordered word_cmp word_cmp_total q (map_reordered entry r)
+    (subst (AllDifferent word_cmp) (sym (map-map (λ (e : List ℕ × List (List ℕ)). e.0) entry fs)) d)))
 
 -- what is `true` is dropped
-values_without : {ps qs : List (List ℕ)} → TreeWithout (λ p. is_true (lower p)) ps qs → normal_values ps ≡ normal_values qs
+values_without : {ps qs : List (List ℕ)} → TreeWithout (λ p. is_true (lower p)) ps qs →
+    normal_values ps ≡ normal_values qs
 values_without TreeWithout.none = refl
-values_without (TreeWithout.stays {x = x} r) = ap (λ l. cond (not (is_true (lower x))) (lower x ∷ l) l) (values_without r)
-values_without (TreeWithout.left_out {x = x} {xs = xs} e r) = ap (λ b. cond (not b) (lower x ∷ normal_values xs) (normal_values xs)) e ∙ values_without r
+values_without (TreeWithout.stays {x = x} r) =
+    ap (λ l. cond (not (is_true (lower x))) (lower x ∷ l) l) (values_without r)
+values_without (TreeWithout.left_out {x = x} {xs = xs} e r) =
+    ap (λ b. cond (not b) (lower x ∷ normal_values xs) (normal_values xs)) e ∙ values_without r
 
 entries_less : (fs gs : Fields) → AllZip TreeLessTrue fs gs → map entry fs ≡ map entry gs
 entries_less = map-zip TreeLessTrue entry entry (λ f g z i. (lower (z.0 i), values_without z.1 i))
 
-keywords_less : (fs gs : Fields) → AllZip TreeLessTrue fs gs → AllByRecursion IsKeyword fs → AllByRecursion IsKeyword gs
-keywords_less = all_zip TreeLessTrue IsKeyword IsKeyword (λ f g z h. (subst (IsWord UnicodeKey) z.0 h.0, all_without (IsWord Attribute) _ z.1 h.1))
+keywords_less : (fs gs : Fields) → AllZip TreeLessTrue fs gs → AllByRecursion IsKeyword fs →
+    AllByRecursion IsKeyword gs
+keywords_less = all_zip TreeLessTrue IsKeyword IsKeyword
+    (λ f g z h. (subst (IsWord UnicodeKey) z.0 h.0, all_without (IsWord Attribute) _ z.1 h.1))
 
 abbrev LessKept : List ℕ × List (List ℕ) → List ℕ × List (List ℕ) → Type 0
 LessKept f g = TreeLessTrue f g × (0 < length g.1)
 
 fields_less : (fs gs : Fields) → AllZip LessKept fs gs → AllByRecursion IsField fs → AllByRecursion IsField gs
-fields_less = all_zip LessKept IsField IsField (λ f g z h. (subst (IsWord TransformKey) z.0.0 h.0, all_without (IsWord Attribute) _ z.0.1 h.1, z.1))
+fields_less = all_zip LessKept IsField IsField
+    (λ f g z h. (subst (IsWord TransformKey) z.0.0 h.0, all_without (IsWord Attribute) _ z.0.1 h.1, z.1))
 
 -- leaving out repeats leaves something, where nothing was seen
-some_left : {X : Type 0} (key : X → List ℕ) {xs ys : List X} → WithoutRepeats key [] xs ys → 0 < length xs → 0 < length ys
+some_left : {X : Type 0} (key : X → List ℕ) {xs ys : List X} → WithoutRepeats key [] xs ys → 0 < length xs →
+    0 < length ys
 some_left key WithoutRepeats.none h = h
 some_left key (WithoutRepeats.stays r) h = omega arith
 some_left key (WithoutRepeats.left_out e r) h = absurd (true≢false (sym e))
@@ -67,50 +100,81 @@ pub record SameParts (e f : Extension) : Type 0 where
   pub t : transform_part (Some f) ≡ transform_part (Some e)
   pub o : (c : ℕ) → other_part (c, f) ≡ other_part (c, e)
 
-repeated_attributes : {vs ws : List (List ℕ)} → WithoutRepeats (λ a. a) [] vs ws → set_of (map lower ws) ≡ set_of (map lower vs)
+repeated_attributes : {vs ws : List (List ℕ)} → WithoutRepeats (λ a. a) [] vs ws →
+    set_of (map lower ws) ≡ set_of (map lower vs)
 repeated_attributes {vs = vs} {ws = ws} r =
     let marks = map-map {B = List ℕ} (λ w. (w, tt {0})) lower in
-    ap (map (λ (e : List ℕ × Unit {0}). e.0)) (ap (map_of word_cmp) (marks ws) ∙ sym (map_repeats (λ a. a) (λ a. tt {0}) r) ∙ ap (map_of word_cmp) (sym (marks vs)))
+    ap (map (λ (e : List ℕ × Unit {0}). e.0)) (ap (map_of word_cmp) (marks ws)
+    ∙ sym (map_repeats (λ a. a) (λ a. tt {0}) r) ∙ ap (map_of word_cmp) (sym (marks vs)))
 
 -- a step in what follows `u`, or in what follows `t`, by its two parts
 
-unicode_step : (T : ℕ → Bool) (c : ℕ) (vs ws : List (List ℕ)) (fs gs : Fields) → (AllByRecursion (IsWord Attribute) vs → AllByRecursion (IsWord Attribute) ws) → (AllByRecursion IsKeyword fs → AllByRecursion IsKeyword gs) → (0 < length vs + length fs → 0 < length ws + length gs) → set_of (map lower ws) ≡ set_of (map lower vs) → normal_fields gs ≡ normal_fields fs
-    → IsExtension T c (unicode_extension vs fs) → IsExtension T c (unicode_extension ws gs) × SameParts (unicode_extension vs fs) (unicode_extension ws gs)
+unicode_step : (T : ℕ → Bool) (c : ℕ) (vs ws : List (List ℕ)) (fs gs : Fields) →
+    (AllByRecursion (IsWord Attribute) vs → AllByRecursion (IsWord Attribute) ws) →
+    (AllByRecursion IsKeyword fs → AllByRecursion IsKeyword gs) →
+    (0 < length vs + length fs → 0 < length ws + length gs) → set_of (map lower ws) ≡ set_of (map lower vs) →
+    normal_fields gs ≡ normal_fields fs
+    → IsExtension T c (unicode_extension vs fs) →
+    IsExtension T c (unicode_extension ws gs) × SameParts (unicode_extension vs fs) (unicode_extension ws gs)
 unicode_step T c vs ws fs gs a k n p q h = (
   (h.0, record { attributes = a h.1.attributes; keywords = k h.1.keywords; nonempty = n h.1.nonempty }),
   record { u = λ i. record { attributes = p i; keywords = q i }; t = refl; o = λ c. refl },
 )
 
-fields_step : (T : ℕ → Bool) (c : ℕ) (i : Option SpelledIdentifier) (fs gs : Fields) → (AllByRecursion IsField fs → AllByRecursion IsField gs) → (0 < length fs → 0 < length gs) → normal_fields gs ≡ normal_fields fs
-    → IsExtension T c (transform_extension i fs) → IsExtension T c (transform_extension i gs) × SameParts (transform_extension i fs) (transform_extension i gs)
+fields_step : (T : ℕ → Bool) (c : ℕ) (i : Option SpelledIdentifier) (fs gs : Fields) →
+    (AllByRecursion IsField fs → AllByRecursion IsField gs) → (0 < length fs → 0 < length gs) →
+    normal_fields gs ≡ normal_fields fs
+    → IsExtension T c (transform_extension i fs) →
+    IsExtension T c (transform_extension i gs)
+    × SameParts (transform_extension i fs) (transform_extension i gs)
 fields_step T c i fs gs k n q h = (
   (h.0, record { id = h.1.id; fields = k h.1.fields; nonempty = λ e. n (h.1.nonempty e) }),
   record { u = refl; t = λ k. record { id = option_map normal_identifier i; fields = q k }; o = λ c. refl },
 )
 
-pub extension_step : (T : ℕ → Bool) {r : TreeRule} {e f : Extension} (c : ℕ) → ExtensionStep r e f → IsExtension T c e → IsExtension T c f × SameParts e f
+pub extension_step : (T : ℕ → Bool) {r : TreeRule} {e f : Extension} (c : ℕ) → ExtensionStep r e f →
+    IsExtension T c e → IsExtension T c f × SameParts e f
 extension_step T c ExtensionStep.same h = (h, record { u = refl; t = refl; o = λ c. refl })
 extension_step T c (ExtensionStep.identifier {fs = fs} s) h =
-    let p = identifier_step s h.1.id in
-    ((h.0, record { id = p.0; fields = h.1.fields; nonempty = λ e. cc }), record { u = refl; t = λ k. record { id = Some (p.1 k); fields = normal_fields fs }; o = λ c. refl })
+    let p = identifier_step s h.1.id in (
+      (h.0, record { id = p.0; fields = h.1.fields; nonempty = λ e. cc }),
+      record { u = refl; t = λ k. record { id = Some (p.1 k); fields = normal_fields fs }; o = λ c. refl },
+    )
 extension_step T c (ExtensionStep.attribute_order {vs = vs} {ws = ws} {fs = fs} r) h =
-    unicode_step T c vs ws fs fs (all_reordered (IsWord Attribute) r) (λ k. k) (λ n. let l = length_reordered r in omega arith) (sym (set_of_reordered (map_reordered lower r))) refl h
+    unicode_step T c vs ws fs fs (all_reordered (IsWord Attribute) r) (λ k. k)
+    (λ n. let l = length_reordered r in omega arith) (sym (set_of_reordered (map_reordered lower r))) refl h
 extension_step T c (ExtensionStep.keyword_order {vs = vs} {fs = fs} {gs = gs} d r) h =
-    unicode_step T c vs vs fs gs (λ a. a) (all_reordered IsKeyword r) (λ n. let l = length_reordered r in omega arith) refl (fields_reordered d r) h
+    unicode_step T c vs vs fs gs (λ a. a) (all_reordered IsKeyword r)
+    (λ n. let l = length_reordered r in omega arith) refl (fields_reordered d r) h
 extension_step T c (ExtensionStep.field_order {i = i} {fs = fs} {gs = gs} d r) h =
-    fields_step T c i fs gs (all_reordered IsField r) (λ n. let l = length_reordered r in omega arith) (fields_reordered d r) h
+    fields_step T c i fs gs (all_reordered IsField r) (λ n. let l = length_reordered r in omega arith)
+    (fields_reordered d r) h
 extension_step T c (ExtensionStep.unicode_repeats {vs = vs} {ws = ws} {fs = fs} {gs = gs} r s) h =
     let a = some_left (λ a. a) r in let b = some_left (λ f. f.0) s in
-    unicode_step T c vs ws fs gs (all_repeats (IsWord Attribute) (λ a. a) r) (all_repeats IsKeyword (λ f. f.0) s) (λ n. grind arith) (repeated_attributes r) (sym (map_repeats (λ f. f.0) (λ f. normal_values f.1) s)) h
+    unicode_step T c vs ws fs gs (all_repeats (IsWord Attribute) (λ a. a) r)
+    (all_repeats IsKeyword (λ f. f.0) s) (λ n. grind arith) (repeated_attributes r)
+    (sym (map_repeats (λ f. f.0) (λ f. normal_values f.1) s)) h
 extension_step T c (ExtensionStep.transform_repeats {i = i} {fs = fs} {gs = gs} s) h =
-    fields_step T c i fs gs (all_repeats IsField (λ f. f.0) s) (some_left (λ f. f.0) s) (sym (map_repeats (λ f. f.0) (λ f. normal_values f.1) s)) h
+    fields_step T c i fs gs (all_repeats IsField (λ f. f.0) s) (some_left (λ f. f.0) s)
+    (sym (map_repeats (λ f. f.0) (λ f. normal_values f.1) s)) h
 extension_step T c (ExtensionStep.unicode_trues {vs = vs} {fs = fs} {gs = gs} z) h =
-    unicode_step T c vs vs fs gs (λ a. a) (keywords_less fs gs z) (λ n. let l = AllZip-long TreeLessTrue fs gs z in omega arith) refl (ap (map_of word_cmp) (sym (entries_less fs gs z))) h
+    unicode_step T c vs vs fs gs (λ a. a) (keywords_less fs gs z)
+    (λ n. let l = AllZip-long TreeLessTrue fs gs z in omega arith) refl
+    (ap (map_of word_cmp) (sym (entries_less fs gs z))) h
 extension_step T c (ExtensionStep.transform_trues {i = i} {fs = fs} {gs = gs} z) h =
-    fields_step T c i fs gs (fields_less fs gs z) (λ n. let l = AllZip-long LessKept fs gs z in omega arith) (ap (map_of word_cmp) (sym (entries_less fs gs (zip_weaker LessKept TreeLessTrue (λ f g k. k.0) fs gs z)))) h
+    fields_step T c i fs gs (fields_less fs gs z) (λ n. let l = AllZip-long LessKept fs gs z in omega arith)
+    (ap (map_of word_cmp)
+    (sym (entries_less fs gs (zip_weaker LessKept TreeLessTrue (λ f g k. k.0) fs gs z)))) h
 extension_step T c (ExtensionStep.dropped_pieces {ps = ps} {qs = qs} w) h =
-    let same : kept ps ≡ kept qs = ap (map lower) (filter_without (λ p. not (is_word Subtag p)) (is_word Subtag) (λ p e. not-true (is_word Subtag p) e) w) in (
-      (h.0, record { lengths = all_without (λ p. is_in_range 2 8 (length p) ≡ true) _ w h.1.lengths; nonempty = subst (λ (l : List (List ℕ)). 0 < length l) same h.1.nonempty }),
+    let same : kept ps ≡ kept qs = ap (map lower) (filter_without (λ p. not (is_word Subtag p))
+    (is_word Subtag) (λ p e. not-true (is_word Subtag p) e) w) in (
+      (
+        h.0,
+        record {
+          lengths = all_without (λ p. is_in_range 2 8 (length p) ≡ true) _ w h.1.lengths;
+          nonempty = subst (λ (l : List (List ℕ)). 0 < length l) same h.1.nonempty;
+        },
+      ),
       record { u = refl; t = refl; o = λ c. ap (λ l. Some (c, l)) (sym same) },
     )
 
@@ -119,78 +183,156 @@ extension_step T c (ExtensionStep.dropped_pieces {ps = ps} {qs = qs} w) h =
 abbrev Steps : TreeRule → List (ℕ × Extension) → List (ℕ × Extension) → Type 0
 Steps r es fs = AllZip (λ e f. (e.0 ≡ f.0) × ExtensionStep r e.1 f.1) es fs
 
-rules_step : (T : ℕ → Bool) (r : TreeRule) (es fs : List (ℕ × Extension)) → Steps r es fs → AllByRecursion (λ e. IsExtension T (lower_singleton e) e.1) es → AllByRecursion (λ e. IsExtension T (lower_singleton e) e.1) fs
-rules_step T r = all_zip _ (λ e. IsExtension T (lower_singleton e) e.1) (λ e. IsExtension T (lower_singleton e) e.1) (λ e f z h. subst (λ (c : ℕ). IsExtension T (to_ascii_lowercase c) f.1) z.0 (extension_step T (lower_singleton e) z.1 h).0)
+rules_step : (T : ℕ → Bool) (r : TreeRule) (es fs : List (ℕ × Extension)) → Steps r es fs →
+    AllByRecursion (λ e. IsExtension T (lower_singleton e) e.1) es →
+    AllByRecursion (λ e. IsExtension T (lower_singleton e) e.1) fs
+rules_step T r = all_zip _ (λ e. IsExtension T (lower_singleton e) e.1)
+    (λ e. IsExtension T (lower_singleton e) e.1) (λ e f z h. subst
+    (λ (c : ℕ). IsExtension T (to_ascii_lowercase c) f.1) z.0 (extension_step T (lower_singleton e) z.1 h).0)
 
-singletons_step : (r : TreeRule) (es fs : List (ℕ × Extension)) → Steps r es fs → map (λ (e : ℕ × Extension). lower_singleton e) es ≡ map (λ f. lower_singleton f) fs
-singletons_step r = map-zip _ (λ (e : ℕ × Extension). lower_singleton e) (λ f. lower_singleton f) (λ e f z i. to_ascii_lowercase (z.0 i))
+singletons_step : (r : TreeRule) (es fs : List (ℕ × Extension)) → Steps r es fs →
+    map (λ (e : ℕ × Extension). lower_singleton e) es ≡ map (λ f. lower_singleton f) fs
+singletons_step r = map-zip _ (λ (e : ℕ × Extension). lower_singleton e) (λ f. lower_singleton f)
+    (λ e f z i. to_ascii_lowercase (z.0 i))
 
 -- a part that is looked up
-part_step : {A : Type 0} (T : ℕ → Bool) (part : Option Extension → A) → ((e f : Extension) → SameParts e f → part (Some f) ≡ part (Some e)) → (q : ℕ) (r : TreeRule) (es fs : List (ℕ × Extension)) → Steps r es fs → AllByRecursion (λ e. IsExtension T (lower_singleton e) e.1) es → part (find nat_cmp q (by_singleton fs)) ≡ part (find nat_cmp q (by_singleton es))
+part_step : {A : Type 0} (T : ℕ → Bool) (part : Option Extension → A) →
+    ((e f : Extension) → SameParts e f → part (Some f) ≡ part (Some e)) →
+    (q : ℕ) (r : TreeRule) (es fs : List (ℕ × Extension)) → Steps r es fs →
+    AllByRecursion (λ e. IsExtension T (lower_singleton e) e.1) es →
+    part (find nat_cmp q (by_singleton fs)) ≡ part (find nat_cmp q (by_singleton es))
 part_step T part same q r [] [] z h = refl
 part_step T part same q r (e ∷ es) (f ∷ fs) z h =
-    ap (λ c. part (cond (eq_by_cmp nat_cmp q (to_ascii_lowercase c)) (Some f.1) (find nat_cmp q (by_singleton fs)))) (sym z.0.0)
-    ∙ elim (eq_by_cmp nat_cmp q (lower_singleton e)) as (λ b. part (cond b (Some f.1) (find nat_cmp q (by_singleton fs))) ≡ part (cond b (Some e.1) (find nat_cmp q (by_singleton es)))) [ true ↦ same e.1 f.1 (extension_step T (lower_singleton e) z.0.1 h.0).1 | false ↦ part_step T part same q r es fs z.1 h.1 ]
+    ap (λ c.
+    part (cond (eq_by_cmp nat_cmp q (to_ascii_lowercase c)) (Some f.1) (find nat_cmp q (by_singleton fs))))
+    (sym z.0.0)
+    ∙ elim (eq_by_cmp nat_cmp q (lower_singleton e))
+    as (λ b. part (cond b (Some f.1) (find nat_cmp q (by_singleton fs)))
+    ≡ part (cond b (Some e.1) (find nat_cmp q (by_singleton es)))) [
+      | true ↦ same e.1 f.1 (extension_step T (lower_singleton e) z.0.1 h.0).1
+      | false ↦ part_step T part same q r es fs z.1 h.1
+    ]
 part_step T part same q r _ _ z h = absurd z
 
-others_step : (T : ℕ → Bool) (r : TreeRule) (es fs : List (ℕ × Extension)) → Steps r es fs → AllByRecursion (λ e. IsExtension T (lower_singleton e) e.1) es → filter_map other_part (by_singleton fs) ≡ filter_map other_part (by_singleton es)
+others_step : (T : ℕ → Bool) (r : TreeRule) (es fs : List (ℕ × Extension)) → Steps r es fs →
+    AllByRecursion (λ e. IsExtension T (lower_singleton e) e.1) es →
+    filter_map other_part (by_singleton fs) ≡ filter_map other_part (by_singleton es)
 others_step T r [] [] z h = refl
-others_step T r (e ∷ es) (f ∷ fs) z h = λ i. cons_option ((ap (λ c. other_part (to_ascii_lowercase c, f.1)) (sym z.0.0) ∙ (extension_step T (lower_singleton e) z.0.1 h.0).1.o (lower_singleton e)) i) (others_step T r es fs z.1 h.1 i)
+others_step T r (e ∷ es) (f ∷ fs) z h = λ i. cons_option
+    ((ap (λ c. other_part (to_ascii_lowercase c, f.1)) (sym z.0.0)
+    ∙ (extension_step T (lower_singleton e) z.0.1 h.0).1.o (lower_singleton e)) i)
+    (others_step T r es fs z.1 h.1 i)
 others_step T r _ _ z h = absurd z
 
 -- blocks in another order
 
-find_blocks : {es fs : List (ℕ × Extension)} → Reordered es fs → AllDifferent nat_cmp (map (λ e. lower_singleton e) es) → (q : ℕ) → find nat_cmp q (by_singleton es) ≡ find nat_cmp q (by_singleton fs)
-find_blocks {es = es} r d q = find_reordered nat_cmp nat_cmp_total q (map_reordered (λ (e : ℕ × Extension). (lower_singleton e, e.1)) r) (subst (AllDifferent nat_cmp) (sym (map-map (λ (e : ℕ × Extension). e.0) (λ e. (lower_singleton e, e.1)) es)) d)
+find_blocks : {es fs : List (ℕ × Extension)} → Reordered es fs →
+    AllDifferent nat_cmp (map (λ e. lower_singleton e) es) → (q : ℕ) →
+    find nat_cmp q (by_singleton es) ≡ find nat_cmp q (by_singleton fs)
+find_blocks {es = es} r d q = find_reordered nat_cmp nat_cmp_total q
+    (map_reordered (λ (e : ℕ × Extension). (lower_singleton e, e.1)) r) (subst (AllDifferent nat_cmp)
+    (sym (map-map (λ (e : ℕ × Extension). e.0) (λ e. (lower_singleton e, e.1)) es)) d)
 
-filter_map_reordered : {X Y : Type 0} (h : X → Option Y) {xs ys : List X} → Reordered xs ys → Reordered (filter_map h xs) (filter_map h ys)
+filter_map_reordered : {X Y : Type 0} (h : X → Option Y) {xs ys : List X} → Reordered xs ys →
+    Reordered (filter_map h xs) (filter_map h ys)
 filter_map_reordered h Reordered.none = Reordered.none
-filter_map_reordered {Y = Y} h (Reordered.front_kept {x = x} {xs = xs} {ys = ys} r) = at_option (h x) (filter_map_reordered h r)
+filter_map_reordered {Y = Y} h (Reordered.front_kept {x = x} {xs = xs} {ys = ys} r) =
+    at_option (h x) (filter_map_reordered h r)
   where
-    at_option : (o : Option Y) → Reordered (filter_map h xs) (filter_map h ys) → Reordered (cons_option o (filter_map h xs)) (cons_option o (filter_map h ys))
+    at_option : (o : Option Y) → Reordered (filter_map h xs) (filter_map h ys) →
+        Reordered (cons_option o (filter_map h xs)) (cons_option o (filter_map h ys))
     at_option None s = s
     at_option (Some y) s = Reordered.front_kept s
 filter_map_reordered {Y = Y} h (Reordered.first_two {x = x} {y = y} {xs = xs}) = at_options (h x) (h y)
   where
-    at_options : (o p : Option Y) → Reordered (cons_option o (cons_option p (filter_map h xs))) (cons_option p (cons_option o (filter_map h xs)))
+    at_options : (o p : Option Y) →
+        Reordered (cons_option o (cons_option p (filter_map h xs)))
+        (cons_option p (cons_option o (filter_map h xs)))
     at_options None p = itself (cons_option p (filter_map h xs))
     at_options (Some a) None = itself (a ∷ filter_map h xs)
     at_options (Some a) (Some b) = Reordered.first_two
-filter_map_reordered h (Reordered.in_turn r s) = Reordered.in_turn (filter_map_reordered h r) (filter_map_reordered h s)
+filter_map_reordered h (Reordered.in_turn r s) =
+    Reordered.in_turn (filter_map_reordered h r) (filter_map_reordered h s)
 
 -- the others have some of the singletons
-none_among_others : (c : ℕ) (es : List (ℕ × Extension)) → list_any (eq_by_cmp nat_cmp c) (map (λ (e : ℕ × Extension). e.0) es) ≡ false → list_any (eq_by_cmp nat_cmp c) (map (λ (o : ℕ × List (List ℕ)). o.0) (filter_map other_part es)) ≡ false
+none_among_others : (c : ℕ) (es : List (ℕ × Extension)) →
+    list_any (eq_by_cmp nat_cmp c) (map (λ (e : ℕ × Extension). e.0) es) ≡ false →
+    list_any (eq_by_cmp nat_cmp c) (map (λ (o : ℕ × List (List ℕ)). o.0) (filter_map other_part es)) ≡ false
 none_among_others c [] h = refl
-none_among_others c (e ∷ es) h = let parts = or_parts _ _ h in at_kind e.1 parts.0 (none_among_others c es parts.1)
+none_among_others c (e ∷ es) h =
+    let parts = or_parts _ _ h in at_kind e.1 parts.0 (none_among_others c es parts.1)
   where
-    at_kind : (x : Extension) → eq_by_cmp nat_cmp c e.0 ≡ false → list_any (eq_by_cmp nat_cmp c) (map (λ (o : ℕ × List (List ℕ)). o.0) (filter_map other_part es)) ≡ false → list_any (eq_by_cmp nat_cmp c) (map (λ (o : ℕ × List (List ℕ)). o.0) (filter_map other_part ((e.0, x) ∷ es))) ≡ false
+    at_kind : (x : Extension) → eq_by_cmp nat_cmp c e.0 ≡ false →
+        list_any (eq_by_cmp nat_cmp c) (map (λ (o : ℕ × List (List ℕ)). o.0) (filter_map other_part es))
+        ≡ false →
+        list_any (eq_by_cmp nat_cmp c)
+        (map (λ (o : ℕ × List (List ℕ)). o.0) (filter_map other_part ((e.0, x) ∷ es)))
+        ≡ false
     at_kind (other ps) t rest = or_from _ _ t rest
     at_kind _ t rest = rest
 
-different_others : (es : List (ℕ × Extension)) → AllDifferent nat_cmp (map (λ (e : ℕ × Extension). e.0) es) → AllDifferent nat_cmp (map (λ (o : ℕ × List (List ℕ)). o.0) (filter_map other_part es))
+different_others : (es : List (ℕ × Extension)) → AllDifferent nat_cmp (map (λ (e : ℕ × Extension). e.0) es) →
+    AllDifferent nat_cmp (map (λ (o : ℕ × List (List ℕ)). o.0) (filter_map other_part es))
 different_others [] d = tt
 different_others (e ∷ es) d = at_kind e.1 (different_others es d.1)
   where
-    at_kind : (x : Extension) → AllDifferent nat_cmp (map (λ (o : ℕ × List (List ℕ)). o.0) (filter_map other_part es)) → AllDifferent nat_cmp (map (λ (o : ℕ × List (List ℕ)). o.0) (filter_map other_part ((e.0, x) ∷ es)))
+    at_kind : (x : Extension) →
+        AllDifferent nat_cmp (map (λ (o : ℕ × List (List ℕ)). o.0) (filter_map other_part es)) →
+        AllDifferent nat_cmp (map (λ (o : ℕ × List (List ℕ)). o.0) (filter_map other_part ((e.0, x) ∷ es)))
     at_kind (other ps) rest = (both_ways _ (none_among_others e.0 es (false_from_ne_true _ d.0)), rest)
     at_kind _ rest = rest
 
-others_reordered : {es fs : List (ℕ × Extension)} → Reordered es fs → AllDifferent nat_cmp (map (λ e. lower_singleton e) es) → map_of nat_cmp (filter_map other_part (by_singleton es)) ≡ map_of nat_cmp (filter_map other_part (by_singleton fs))
-others_reordered {es = es} {fs = fs} r d = map_of_same nat_cmp nat_cmp_total nat_cmp-IsAntisymmetric (filter_map other_part (by_singleton es)) (filter_map other_part (by_singleton fs))
-    (λ q. find_reordered nat_cmp nat_cmp_total q (filter_map_reordered other_part (map_reordered (λ (e : ℕ × Extension). (lower_singleton e, e.1)) r)) (different_others (by_singleton es) (subst (AllDifferent nat_cmp) (sym (map-map (λ (e : ℕ × Extension). e.0) (λ e. (lower_singleton e, e.1)) es)) d)))
+others_reordered : {es fs : List (ℕ × Extension)} → Reordered es fs →
+    AllDifferent nat_cmp (map (λ e. lower_singleton e) es) →
+    map_of nat_cmp (filter_map other_part (by_singleton es))
+    ≡ map_of nat_cmp (filter_map other_part (by_singleton fs))
+others_reordered {es = es} {fs = fs} r d = map_of_same nat_cmp nat_cmp_total nat_cmp-IsAntisymmetric
+    (filter_map other_part (by_singleton es)) (filter_map other_part (by_singleton fs))
+    (λ q. find_reordered nat_cmp nat_cmp_total q
+    (filter_map_reordered other_part (map_reordered (λ (e : ℕ × Extension). (lower_singleton e, e.1)) r))
+    (different_others (by_singleton es) (subst (AllDifferent nat_cmp)
+    (sym (map-map (λ (e : ℕ × Extension). e.0) (λ e. (lower_singleton e, e.1)) es)) d)))
 
 -- written locales of which each part means the same
-pub same_parts : (v w : Written) → normal_identifier v.id ≡ normal_identifier w.id → unicode_part (find nat_cmp 117 (by_singleton v.extensions)) ≡ unicode_part (find nat_cmp 117 (by_singleton w.extensions)) → transform_part (find nat_cmp 116 (by_singleton v.extensions)) ≡ transform_part (find nat_cmp 116 (by_singleton w.extensions)) → private_part v.private ≡ private_part w.private → map_of nat_cmp (filter_map other_part (by_singleton v.extensions)) ≡ map_of nat_cmp (filter_map other_part (by_singleton w.extensions)) → meaning v ≡ meaning w
-same_parts v w i u t x o = λ k. record { id = i k; extensions = record { unicode = u k; transform = t k; private = x k; others = o k } }
+pub same_parts : (v w : Written) → normal_identifier v.id ≡ normal_identifier w.id →
+    unicode_part (find nat_cmp 117 (by_singleton v.extensions))
+    ≡ unicode_part (find nat_cmp 117 (by_singleton w.extensions)) →
+    transform_part (find nat_cmp 116 (by_singleton v.extensions))
+    ≡ transform_part (find nat_cmp 116 (by_singleton w.extensions)) →
+    private_part v.private ≡ private_part w.private →
+    map_of nat_cmp (filter_map other_part (by_singleton v.extensions))
+    ≡ map_of nat_cmp (filter_map other_part (by_singleton w.extensions)) →
+    meaning v ≡ meaning w
+same_parts v w i u t x o = λ k.
+    record { id = i k; extensions = record { unicode = u k; transform = t k; private = x k; others = o k } }
 
 -- a step keeps the rules and the meaning
-pub written_step : (T : ℕ → Bool) {v w : Written} → Step v w → IsWritten T v → IsWritten T w × (meaning w ≡ meaning v)
+pub written_step : (T : ℕ → Bool) {v w : Written} → Step v w → IsWritten T v →
+    IsWritten T w × (meaning w ≡ meaning v)
 written_step T (Step.block_order {i = i} {es = es} {fs = fs} {x = x} r) h = (
-  record { id = h.id; extensions = all_reordered (λ e. IsExtension T (lower_singleton e) e.1) r h.extensions; different = different_reordered nat_cmp nat_cmp_total (map_reordered (λ (e : ℕ × Extension). lower_singleton e) r) h.different; private = h.private },
-  same_parts (record { id = i; extensions = fs; private = x }) (record { id = i; extensions = es; private = x }) refl (ap unicode_part (sym (find_blocks r h.different 117))) (ap transform_part (sym (find_blocks r h.different 116))) refl (sym (others_reordered r h.different)),
+  record {
+    id = h.id;
+    extensions = all_reordered (λ e. IsExtension T (lower_singleton e) e.1) r h.extensions;
+    different = different_reordered nat_cmp nat_cmp_total
+        (map_reordered (λ (e : ℕ × Extension). lower_singleton e) r) h.different;
+    private = h.private;
+  },
+  same_parts (record { id = i; extensions = fs; private = x })
+      (record { id = i; extensions = es; private = x }) refl
+      (ap unicode_part (sym (find_blocks r h.different 117)))
+      (ap transform_part (sym (find_blocks r h.different 116))) refl (sym (others_reordered r h.different)),
 )
 written_step T (Step.inside r {i = i} {j = j} {es = es} {fs = fs} {x = x} s z) h =
     let p = identifier_step s h.id in (
-      record { id = p.0; extensions = rules_step T r es fs z h.extensions; different = subst (AllDifferent nat_cmp) (singletons_step r es fs z) h.different; private = h.private },
-      same_parts (record { id = j; extensions = fs; private = x }) (record { id = i; extensions = es; private = x }) p.1 (part_step T unicode_part (λ e f k. k.u) 117 r es fs z h.extensions) (part_step T transform_part (λ e f k. k.t) 116 r es fs z h.extensions) refl (ap (map_of nat_cmp) (others_step T r es fs z h.extensions)),
+      record {
+        id = p.0;
+        extensions = rules_step T r es fs z h.extensions;
+        different = subst (AllDifferent nat_cmp) (singletons_step r es fs z) h.different;
+        private = h.private;
+      },
+      same_parts (record { id = j; extensions = fs; private = x })
+          (record { id = i; extensions = es; private = x }) p.1
+          (part_step T unicode_part (λ e f k. k.u) 117 r es fs z h.extensions)
+          (part_step T transform_part (λ e f k. k.t) 116 r es fs z h.extensions) refl
+          (ap (map_of nat_cmp) (others_step T r es fs z h.extensions)),
     )

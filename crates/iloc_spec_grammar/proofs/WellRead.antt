@@ -1,5 +1,7 @@
 -- What a text means is a well-formed value.
-use Rattle.std.proofs.Common.{◌≡◌, ◌≢◌, ℕ, ◌<◌, Bool, true, false, not, List, [], ◌∷◌, length, map, filter_map, refl, sym, ap, ◌∙◌, subst, arith, Option, Some, None, IfSome, option_map}
+use Rattle.std.proofs.Common.{◌≡◌, ◌≢◌, ℕ, ◌<◌, Bool, true, false, not, List, [], ◌∷◌, length, map}
+use Rattle.std.proofs.Common.{filter_map, refl, sym, ap, ◌∙◌, subst, arith, Option, Some, None, IfSome}
+use Rattle.std.proofs.Common.{option_map}
 use Rattle.std.specs.List.{AllByRecursion}
 use Rattle.std.specs.Char.{to_ascii_lowercase}
 use Rattle.std.specs.Ordering.{nat_cmp}
@@ -7,10 +9,19 @@ use Rattle.std.specs.Cmp.{nat_cmp_total}
 use Rattle.std.specs.FinMap.{is_sorted, find, nat_cmp-IsAntisymmetric}
 use Rattle.std.proofs.lemmas.Bool.Decides.{nat_tests}
 use Rattle.std.proofs.lemmas.Str.Ascii.{lowercase-lowercase}
-use Rattle.iloc_spec_grammar.specs.Syntax.{Kind, Language, Script, Region, Variant, Subtag, UnicodeKey, TransformKey, Attribute, PrivateSubtag, is_word, IsWord, normal, lower, word_cmp, is_true, SpelledIdentifier, SpelledUnicode, SpelledTransform, Fields, HasWords, IsIdentifier, IsKeyword, IsOther, kept, is_other_singleton, lower_singleton, IsPrivate}
-use Rattle.iloc_spec_grammar.specs.Tree.{Extension, unicode, transform, other, Written, IsUnicodeBlock, IsTransformBlock, IsExtension, IsWritten, unicode_part, transform_part, private_part, other_part, by_singleton, extensions_meaning, meaning, TreeMeans, IsTreeWellFormed}
-use Rattle.iloc_spec_grammar.specs.Meaning.{map_of, set_of, normal_identifier, normal_values, normal_fields, normal_unicode, normal_transform, Locale}
-use Rattle.iloc_spec_grammar.specs.Values.{IsNormal, StrictlyAscends, IsIdentifierValue, IsUnicodeValue, IsTransformValue, IsValue}
+use Rattle.iloc_spec_grammar.specs.Syntax.{Kind, Language, Script, Region, Variant, Subtag, UnicodeKey}
+use Rattle.iloc_spec_grammar.specs.Syntax.{TransformKey, Attribute, PrivateSubtag, is_word, IsWord, normal}
+use Rattle.iloc_spec_grammar.specs.Syntax.{lower, word_cmp, is_true, SpelledIdentifier, SpelledUnicode}
+use Rattle.iloc_spec_grammar.specs.Syntax.{SpelledTransform, Fields, HasWords, IsIdentifier, IsKeyword}
+use Rattle.iloc_spec_grammar.specs.Syntax.{IsOther, kept, is_other_singleton, lower_singleton, IsPrivate}
+use Rattle.iloc_spec_grammar.specs.Tree.{Extension, unicode, transform, other, Written, IsUnicodeBlock}
+use Rattle.iloc_spec_grammar.specs.Tree.{IsTransformBlock, IsExtension, IsWritten, unicode_part}
+use Rattle.iloc_spec_grammar.specs.Tree.{transform_part, private_part, other_part, by_singleton}
+use Rattle.iloc_spec_grammar.specs.Tree.{extensions_meaning, meaning, TreeMeans, IsTreeWellFormed}
+use Rattle.iloc_spec_grammar.specs.Meaning.{map_of, set_of, normal_identifier, normal_values, normal_fields}
+use Rattle.iloc_spec_grammar.specs.Meaning.{normal_unicode, normal_transform, Locale}
+use Rattle.iloc_spec_grammar.specs.Values.{IsNormal, StrictlyAscends, IsIdentifierValue, IsUnicodeValue}
+use Rattle.iloc_spec_grammar.specs.Values.{IsTransformValue, IsValue}
 use Rattle.iloc_spec_grammar.proofs.WordsLaws.{length-attribute}
 use Rattle.iloc_spec_grammar.proofs.MapLaws.{is_sorted-map_of, all-map_of, word_cmp_total, same_words}
 use Rattle.iloc_spec_grammar.proofs.ValuesLaws.{all_weaker, ascend_as_keys}
@@ -23,21 +34,29 @@ use Rattle.std.proofs.lemmas.Bool.{cond_both, not-true}
 
 -- sets
 
-pub all-set_of : (P : List ℕ → Type 0) (ws : List (List ℕ)) → AllByRecursion P ws → AllByRecursion P (set_of ws)
-all-set_of P ws h = all_mapped (λ (e : List ℕ × Unit {0}). P e.0) P (λ e. e.0) (λ e p. p) _ (all-map_of word_cmp same_words (λ e. P e.0) _ (all_mapped P (λ e. P e.0) (λ w. (w, tt {0})) (λ w p. p) ws h))
+pub all-set_of : (P : List ℕ → Type 0) (ws : List (List ℕ)) → AllByRecursion P ws →
+    AllByRecursion P (set_of ws)
+all-set_of P ws h = all_mapped (λ (e : List ℕ × Unit {0}). P e.0) P (λ e. e.0) (λ e p. p) _ (all-map_of
+    word_cmp same_words (λ e. P e.0) _ (all_mapped P (λ e. P e.0) (λ w. (w, tt {0})) (λ w p. p) ws h))
 
 pub set_of-ascending : (ws : List (List ℕ)) → StrictlyAscends word_cmp (set_of ws)
-set_of-ascending ws = let es = map (λ w. (w, tt {0})) ws in ascend_as_keys _ (ap (is_sorted word_cmp) (remarked (map_of word_cmp es)) ∙ is_sorted-map_of word_cmp word_cmp_total es)
+set_of-ascending ws = let es = map (λ w. (w, tt {0})) ws in
+    ascend_as_keys _
+    (ap (is_sorted word_cmp) (remarked (map_of word_cmp es)) ∙ is_sorted-map_of word_cmp word_cmp_total es)
 
 -- parts
 
-all_normal : (k : Kind) (ws : List (List ℕ)) → ((p : List ℕ) → normal k p ≡ lower p) → AllByRecursion (IsWord k) ws → AllByRecursion (IsNormal k) (map lower ws)
-all_normal k ws e = all_mapped (IsWord k) (IsNormal k) lower (λ w h. subst (IsNormal k) (e w) (IsNormal-normal k w h)) ws
+all_normal : (k : Kind) (ws : List (List ℕ)) → ((p : List ℕ) → normal k p ≡ lower p) →
+    AllByRecursion (IsWord k) ws → AllByRecursion (IsNormal k) (map lower ws)
+all_normal k ws e =
+    all_mapped (IsWord k) (IsNormal k) lower (λ w h. subst (IsNormal k) (e w) (IsNormal-normal k w h)) ws
 
-pub option_normal : (k : Kind) (o : Option (List ℕ)) → IfSome o (IsWord k) → IfSome (option_map (normal k) o) (IsNormal k)
+pub option_normal : (k : Kind) (o : Option (List ℕ)) → IfSome o (IsWord k) →
+    IfSome (option_map (normal k) o) (IsNormal k)
 option_normal k = some_mapped (IsWord k) (IsNormal k) (normal k) (IsNormal-normal k)
 
-pub identifier_value : {T : ℕ → Bool} (i : SpelledIdentifier) → HasWords T i → IsIdentifierValue T (normal_identifier i)
+pub identifier_value : {T : ℕ → Bool} (i : SpelledIdentifier) → HasWords T i →
+    IsIdentifierValue T (normal_identifier i)
 identifier_value {T = T} i h = record {
   language = IsNormal-normal (Language T) i.language h.language;
   script = option_normal Script i.script h.script;
@@ -50,17 +69,25 @@ identifier_value {T = T} i h = record {
 abbrev IsPlain : List ℕ → Type 0
 IsPlain w = IsNormal Attribute w × (is_true w ≡ false)
 
-plain_values : (ws : List (List ℕ)) → AllByRecursion (IsWord Attribute) ws → AllByRecursion IsPlain (normal_values ws)
+plain_values : (ws : List (List ℕ)) → AllByRecursion (IsWord Attribute) ws →
+    AllByRecursion IsPlain (normal_values ws)
 plain_values [] h = tt
-plain_values (w ∷ ws) h = cond_both (not (is_true (lower w))) _ _ (AllByRecursion IsPlain) (λ e. ((IsNormal-normal Attribute w h.0, not-true _ e), plain_values ws h.1)) (λ _. plain_values ws h.1)
+plain_values (w ∷ ws) h = cond_both (not (is_true (lower w))) _ _ (AllByRecursion IsPlain)
+    (λ e. ((IsNormal-normal Attribute w h.0, not-true _ e), plain_values ws h.1)) (λ _. plain_values ws h.1)
 
 abbrev IsEntry : Kind → List ℕ × List (List ℕ) → Type 0
 IsEntry k f = IsNormal k f.0 × AllByRecursion IsPlain f.1
 
-entries_of : (k : Kind) → ((p : List ℕ) → normal k p ≡ lower p) → (fs : Fields) → AllByRecursion (λ f. IsWord k f.0 × AllByRecursion (IsWord Attribute) f.1) fs → AllByRecursion (IsEntry k) (map (λ f. (lower f.0, normal_values f.1)) fs)
-entries_of k e = all_mapped (λ f. IsWord k f.0 × AllByRecursion (IsWord Attribute) f.1) (IsEntry k) (λ f. (lower f.0, normal_values f.1)) (λ f h. (subst (IsNormal k) (e f.0) (IsNormal-normal k f.0 h.0), plain_values f.1 h.1))
+entries_of : (k : Kind) → ((p : List ℕ) → normal k p ≡ lower p) → (fs : Fields) →
+    AllByRecursion (λ f. IsWord k f.0 × AllByRecursion (IsWord Attribute) f.1) fs →
+    AllByRecursion (IsEntry k) (map (λ f. (lower f.0, normal_values f.1)) fs)
+entries_of k e = all_mapped (λ f. IsWord k f.0 × AllByRecursion (IsWord Attribute) f.1) (IsEntry k)
+    (λ f. (lower f.0, normal_values f.1))
+    (λ f h. (subst (IsNormal k) (e f.0) (IsNormal-normal k f.0 h.0), plain_values f.1 h.1))
 
-field_entries : (k : Kind) → ((p : List ℕ) → normal k p ≡ lower p) → (fs : Fields) → AllByRecursion (λ f. IsWord k f.0 × AllByRecursion (IsWord Attribute) f.1) fs → AllByRecursion (IsEntry k) (normal_fields fs)
+field_entries : (k : Kind) → ((p : List ℕ) → normal k p ≡ lower p) → (fs : Fields) →
+    AllByRecursion (λ f. IsWord k f.0 × AllByRecursion (IsWord Attribute) f.1) fs →
+    AllByRecursion (IsEntry k) (normal_fields fs)
 field_entries k e fs h = all-map_of word_cmp same_words (IsEntry k) _ (entries_of k e fs h)
 
 pub attribute_is_word : (w : List ℕ) → IsWord Attribute w → IsWord Subtag w
@@ -70,23 +97,36 @@ attribute_is_word w h = grind (arith, nat_tests)
 pub attribute_is_subtag : (w : List ℕ) → IsNormal Attribute w → IsNormal Subtag w
 attribute_is_subtag w h = (attribute_is_word w h.0, h.1)
 
-keyword_entries : (fs : Fields) → AllByRecursion IsKeyword fs → AllByRecursion (IsEntry UnicodeKey) (normal_fields fs)
+keyword_entries : (fs : Fields) → AllByRecursion IsKeyword fs →
+    AllByRecursion (IsEntry UnicodeKey) (normal_fields fs)
 keyword_entries fs h = field_entries UnicodeKey (λ p. refl) fs h
 
 pub unicode_value : (u : SpelledUnicode) → IsUnicodeBlock u → IsUnicodeValue (normal_unicode u)
 unicode_value u h = record {
   attributes = all-set_of (IsNormal Attribute) _ (all_normal Attribute u.attributes (λ p. refl) h.attributes);
   ascending = set_of-ascending (map lower u.attributes);
-  keywords = all_weaker (IsEntry UnicodeKey) (λ f. IsNormal UnicodeKey f.0 × AllByRecursion (IsNormal Subtag) f.1) (λ f e. (e.0, all_weaker IsPlain (IsNormal Subtag) (λ w n. attribute_is_subtag w n.0) f.1 e.1)) _ (keyword_entries u.keywords h.keywords);
-  keys_ascend = is_sorted-map_of word_cmp word_cmp_total (map (λ f. (lower f.0, normal_values f.1)) u.keywords);
+  keywords =
+      all_weaker (IsEntry UnicodeKey) (λ f. IsNormal UnicodeKey f.0 × AllByRecursion (IsNormal Subtag) f.1)
+      (λ f e. (e.0, all_weaker IsPlain (IsNormal Subtag) (λ w n. attribute_is_subtag w n.0) f.1 e.1)) _
+      (keyword_entries u.keywords h.keywords);
+  keys_ascend =
+      is_sorted-map_of word_cmp word_cmp_total (map (λ f. (lower f.0, normal_values f.1)) u.keywords);
 }
 
-pub unicode_well : (u : SpelledUnicode) → IsUnicodeBlock u → AllByRecursion (λ f. AllByRecursion (λ w. (is_true w ≡ false) × (length w ≢ 2)) f.1) (normal_unicode u).keywords
-unicode_well u h = all_weaker (IsEntry UnicodeKey) (λ f. AllByRecursion (λ w. (is_true w ≡ false) × (length w ≢ 2)) f.1) (λ f e. all_weaker IsPlain (λ w. (is_true w ≡ false) × (length w ≢ 2)) (λ w n. (n.1, let l = length-attribute w n.0.0 in omega arith)) f.1 e.1) _ (keyword_entries u.keywords h.keywords)
+pub unicode_well : (u : SpelledUnicode) → IsUnicodeBlock u →
+    AllByRecursion (λ f. AllByRecursion (λ w. (is_true w ≡ false) × (length w ≢ 2)) f.1)
+    (normal_unicode u).keywords
+unicode_well u h =
+    all_weaker (IsEntry UnicodeKey) (λ f. AllByRecursion (λ w. (is_true w ≡ false) × (length w ≢ 2)) f.1)
+    (λ f e. all_weaker IsPlain (λ w. (is_true w ≡ false) × (length w ≢ 2))
+    (λ w n. (n.1, let l = length-attribute w n.0.0 in omega arith)) f.1 e.1) _
+    (keyword_entries u.keywords h.keywords)
 
-pub transform_value : (T : ℕ → Bool) (m : SpelledTransform) → IsTransformBlock T m → IsTransformValue T (normal_transform m)
+pub transform_value : (T : ℕ → Bool) (m : SpelledTransform) → IsTransformBlock T m →
+    IsTransformValue T (normal_transform m)
 transform_value T m h = record {
-  id = some_mapped (IsIdentifier T) (IsIdentifierValue T) normal_identifier (λ i g. identifier_value i g.words) m.id h.id;
+  id = some_mapped (IsIdentifier T) (IsIdentifierValue T) normal_identifier
+      (λ i g. identifier_value i g.words) m.id h.id;
   fields = field_entries TransformKey (λ p. refl) m.fields (plain_fields m.fields h.fields);
   keys_ascend = is_sorted-map_of word_cmp word_cmp_total (map (λ f. (lower f.0, normal_values f.1)) m.fields);
 }
@@ -102,43 +142,57 @@ follows : (T : ℕ → Bool) (c : ℕ) (e : Extension) → IsExtension T c e →
 follows T c (unicode u) h = h.1
 follows T c _ h = h.1
 
-part_unicode : (T : ℕ → Bool) (o : Option Extension) → IfSome o (FollowsRule T) → IsUnicodeValue (unicode_part o)
+part_unicode : (T : ℕ → Bool) (o : Option Extension) → IfSome o (FollowsRule T) →
+    IsUnicodeValue (unicode_part o)
 part_unicode T (Some (unicode u)) h = unicode_value u h
 part_unicode T _ h = record { attributes = tt; ascending = tt; keywords = tt; keys_ascend = refl }
 
-part_well : (T : ℕ → Bool) (o : Option Extension) → IfSome o (FollowsRule T) → AllByRecursion (λ f. AllByRecursion (λ w. (is_true w ≡ false) × (length w ≢ 2)) f.1) (unicode_part o).keywords
+part_well : (T : ℕ → Bool) (o : Option Extension) → IfSome o (FollowsRule T) →
+    AllByRecursion (λ f. AllByRecursion (λ w. (is_true w ≡ false) × (length w ≢ 2)) f.1)
+    (unicode_part o).keywords
 part_well T (Some (unicode u)) h = unicode_well u h
 part_well T _ h = tt
 
-part_transform : (T : ℕ → Bool) (o : Option Extension) → IfSome o (FollowsRule T) → IsTransformValue T (transform_part o)
+part_transform : (T : ℕ → Bool) (o : Option Extension) → IfSome o (FollowsRule T) →
+    IsTransformValue T (transform_part o)
 part_transform T (Some (transform m)) h = transform_value T m h
 part_transform T _ h = record { id = tt; fields = tt; keys_ascend = refl }
 
 kept_normal : (ps : List (List ℕ)) → AllByRecursion (IsNormal Subtag) (kept ps)
 kept_normal [] = tt
-kept_normal (p ∷ ps) = cond_both (is_word Subtag p) _ _ (λ l. AllByRecursion (IsNormal Subtag) (map lower l)) (λ e. (IsNormal-normal Subtag p e, kept_normal ps)) (λ _. kept_normal ps)
+kept_normal (p ∷ ps) = cond_both (is_word Subtag p) _ _ (λ l. AllByRecursion (IsNormal Subtag) (map lower l))
+    (λ e. (IsNormal-normal Subtag p e, kept_normal ps)) (λ _. kept_normal ps)
 
 abbrev IsOtherEntry : ℕ × List (List ℕ) → Type 0
-IsOtherEntry o = ((is_other_singleton o.0 ≡ true) × (to_ascii_lowercase o.0 ≡ o.0)) × (0 < length o.1) × AllByRecursion (IsNormal Subtag) o.1
+IsOtherEntry o = ((is_other_singleton o.0 ≡ true) × (to_ascii_lowercase o.0 ≡ o.0)) × (0 < length o.1)
+    × AllByRecursion (IsNormal Subtag) o.1
 
-other_entries : (T : ℕ → Bool) (es : List (ℕ × Extension)) → AllByRecursion (λ e. IsExtension T (lower_singleton e) e.1) es → AllByRecursion IsOtherEntry (filter_map other_part (by_singleton es))
+other_entries : (T : ℕ → Bool) (es : List (ℕ × Extension)) →
+    AllByRecursion (λ e. IsExtension T (lower_singleton e) e.1) es →
+    AllByRecursion IsOtherEntry (filter_map other_part (by_singleton es))
 other_entries T [] h = tt
 other_entries T (e ∷ es) h = at_kind e.1 h.0 (other_entries T es h.1)
   where
-    at_kind : (x : Extension) → IsExtension T (lower_singleton e) x → AllByRecursion IsOtherEntry (filter_map other_part (by_singleton es)) → AllByRecursion IsOtherEntry (filter_map other_part ((lower_singleton e, x) ∷ by_singleton es))
+    at_kind : (x : Extension) → IsExtension T (lower_singleton e) x →
+        AllByRecursion IsOtherEntry (filter_map other_part (by_singleton es)) →
+        AllByRecursion IsOtherEntry (filter_map other_part ((lower_singleton e, x) ∷ by_singleton es))
     at_kind (other ps) k rest = (((k.0, lowercase-lowercase e.0), k.1.nonempty, kept_normal ps), rest)
     at_kind _ k rest = rest
 
-private_value : (x : Option (ℕ × List (List ℕ))) → IfSome x (λ e. (lower_singleton e ≡ 120) × IsPrivate e.1) → AllByRecursion (IsNormal PrivateSubtag) (private_part x)
+private_value : (x : Option (ℕ × List (List ℕ))) → IfSome x (λ e. (lower_singleton e ≡ 120) × IsPrivate e.1) →
+    AllByRecursion (IsNormal PrivateSubtag) (private_part x)
 private_value None h = tt
 private_value (Some e) h = all_normal PrivateSubtag e.1 (λ p. refl) h.1.words
 
 module _ {T : ℕ → Bool} (w : Written) (h : IsWritten T w) where
   others : AllByRecursion IsOtherEntry (extensions_meaning w).others
-  others = all-map_of nat_cmp nat_cmp-IsAntisymmetric IsOtherEntry _ (other_entries T w.extensions h.extensions)
+  others =
+      all-map_of nat_cmp nat_cmp-IsAntisymmetric IsOtherEntry _ (other_entries T w.extensions h.extensions)
 
   rules : (q : ℕ) → IfSome (find nat_cmp q (by_singleton w.extensions)) (FollowsRule T)
-  rules q = find_holds (λ c. FollowsRule T) q w.extensions (all_weaker (λ e. IsExtension T (lower_singleton e) e.1) (λ e. FollowsRule T e.1) (λ e k. follows T (lower_singleton e) e.1 k) w.extensions h.extensions)
+  rules q =
+      find_holds (λ c. FollowsRule T) q w.extensions (all_weaker (λ e. IsExtension T (lower_singleton e) e.1)
+      (λ e. FollowsRule T e.1) (λ e k. follows T (lower_singleton e) e.1 k) w.extensions h.extensions)
 
   pub written_value : IsValue T (meaning w)
   written_value = record {
@@ -154,7 +208,8 @@ module _ {T : ℕ → Bool} (w : Written) (h : IsWritten T w) where
   pub written_well_formed : IsTreeWellFormed (meaning w)
   written_well_formed = record {
     ascending = is_sorted-map_of nat_cmp nat_cmp_total (filter_map other_part (by_singleton w.extensions));
-    singletons = all_weaker IsOtherEntry (λ o. (is_other_singleton o.0 ≡ true) × (to_ascii_lowercase o.0 ≡ o.0)) (λ o x. x.0) _ others;
+    singletons = all_weaker IsOtherEntry
+        (λ o. (is_other_singleton o.0 ≡ true) × (to_ascii_lowercase o.0 ≡ o.0)) (λ o x. x.0) _ others;
     nonempty = all_weaker IsOtherEntry (λ o. 0 < length o.1) (λ o x. x.1) _ others;
     values = part_well T _ (rules 117);
   }

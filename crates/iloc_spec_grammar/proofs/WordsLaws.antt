@@ -1,13 +1,18 @@
 -- Normal words are words, and normal. Kinds that stand side by side have no word in common.
-use Rattle.std.proofs.Common.{◌≡◌, inl, inr, ℕ, zero, suc, ◌≤◌, Bool, true, false, ◌&&◌, ◌||◌, ◌==◌, List, [], ◌∷◌, length, map, slice_index, refl, sym, ap, ap₂, ◌∙◌, arith, ◌↔◌}
+use Rattle.std.proofs.Common.{◌≡◌, inl, inr, ℕ, zero, suc, ◌≤◌, Bool, true, false, ◌&&◌, ◌||◌, ◌==◌, List, []}
+use Rattle.std.proofs.Common.{◌∷◌, length, map, slice_index, refl, sym, ap, ap₂, ◌∙◌, arith, ◌↔◌}
 use Rattle.std.specs.List.{list_all}
-use Rattle.std.specs.Char.{is_ascii_alphabetic, is_ascii_digit, is_ascii_alphanumeric, to_ascii_lowercase, to_ascii_uppercase}
+use Rattle.std.specs.Char.{is_ascii_alphabetic, is_ascii_digit, is_ascii_alphanumeric, to_ascii_lowercase}
+use Rattle.std.specs.Char.{to_ascii_uppercase}
 use Rattle.std.specs.Int.{is_in_range}
 use Rattle.std.proofs.lemmas.Bool.{and_parts, or_cases, false_from_ne_true}
 use Rattle.std.proofs.lemmas.Bool.Decides.{nat_tests}
 use Rattle.std.proofs.lemmas.List.{length-map}
 use Rattle.std.proofs.lemmas.Str.Ascii.{lowercase-lowercase, lowercase-uppercase}
-use Rattle.iloc_spec_grammar.specs.Syntax.{Kind, Language, Script, Region, Variant, Subtag, UnicodeKey, TransformKey, Attribute, PrivateSubtag, SubdivisionSuffix, CurrencyType, letters, digits, letters_or_digits, is_word, IsWord, lower, upper, title, normal}
+use Rattle.iloc_spec_grammar.specs.Syntax.{Kind, Language, Script, Region, Variant, Subtag, UnicodeKey}
+use Rattle.iloc_spec_grammar.specs.Syntax.{TransformKey, Attribute, PrivateSubtag, SubdivisionSuffix}
+use Rattle.iloc_spec_grammar.specs.Syntax.{CurrencyType, letters, digits, letters_or_digits, is_word, IsWord}
+use Rattle.iloc_spec_grammar.specs.Syntax.{lower, upper, title, normal}
 use Rattle.iloc_spec_grammar.proofs.General.{map-then, list_all-mapped}
 
 -- bytes
@@ -26,7 +31,8 @@ uppercase-lowercase c = grind (arith, nat_tests)
 
 -- lists of bytes
 
-at-map : (f : ℕ → Bool) → ((c : ℕ) → f (to_ascii_lowercase c) ≡ f c) → (p : List ℕ) (i : ℕ) → f (slice_index (map to_ascii_lowercase p) i) ≡ f (slice_index p i)
+at-map : (f : ℕ → Bool) → ((c : ℕ) → f (to_ascii_lowercase c) ≡ f c) → (p : List ℕ) (i : ℕ) →
+    f (slice_index (map to_ascii_lowercase p) i) ≡ f (slice_index p i)
 at-map f h [] i = refl
 at-map f h (c ∷ p) zero = h c
 at-map f h (c ∷ p) (suc i) = at-map f h p i
@@ -61,16 +67,29 @@ length-lower p = length-map p to_ascii_lowercase
 pub is_word-lower : (k : Kind) (p : List ℕ) → is_word k (lower p) ≡ is_word k p
 unfolding is_word lower
 is_word-lower (Language T) p = ap₂ ◌&&◌ (ap T (length-lower p)) (list_all-mapped _ _ _ alphabetic-lower p)
-is_word-lower Script p = ap₂ ◌&&◌ (ap (λ n. n == 4) (length-lower p)) (list_all-mapped _ _ _ alphabetic-lower p)
-is_word-lower Region p = ap₂ ◌||◌ (ap₂ ◌&&◌ (ap (λ n. n == 2) (length-lower p)) (list_all-mapped _ _ _ alphabetic-lower p)) (ap₂ ◌&&◌ (ap (λ n. n == 3) (length-lower p)) (list_all-mapped _ _ _ digit-lower p))
-is_word-lower Variant p = ap₂ ◌&&◌ (ap₂ ◌||◌ (ap (is_in_range 5 8) (length-lower p)) (ap₂ ◌&&◌ (ap (λ n. n == 4) (length-lower p)) (at-map _ digit-lower p 0))) (list_all-mapped _ _ _ alphanumeric-lower p)
-is_word-lower Subtag p = ap₂ ◌&&◌ (ap (is_in_range 2 8) (length-lower p)) (list_all-mapped _ _ _ alphanumeric-lower p)
-is_word-lower UnicodeKey p = ap₂ ◌&&◌ (ap (λ n. n == 2) (length-lower p)) (ap₂ ◌&&◌ (at-map _ alphanumeric-lower p 0) (at-map _ alphabetic-lower p 1))
-is_word-lower TransformKey p = ap₂ ◌&&◌ (ap (λ n. n == 2) (length-lower p)) (ap₂ ◌&&◌ (at-map _ alphabetic-lower p 0) (at-map _ digit-lower p 1))
-is_word-lower Attribute p = ap₂ ◌&&◌ (ap (is_in_range 3 8) (length-lower p)) (list_all-mapped _ _ _ alphanumeric-lower p)
-is_word-lower PrivateSubtag p = ap₂ ◌&&◌ (ap (is_in_range 1 8) (length-lower p)) (list_all-mapped _ _ _ alphanumeric-lower p)
-is_word-lower SubdivisionSuffix p = ap₂ ◌&&◌ (ap (is_in_range 1 4) (length-lower p)) (list_all-mapped _ _ _ alphanumeric-lower p)
-is_word-lower CurrencyType p = ap₂ ◌&&◌ (ap (λ n. n == 3) (length-lower p)) (list_all-mapped _ _ _ alphabetic-lower p)
+is_word-lower Script p =
+    ap₂ ◌&&◌ (ap (λ n. n == 4) (length-lower p)) (list_all-mapped _ _ _ alphabetic-lower p)
+is_word-lower Region p =
+    ap₂ ◌||◌ (ap₂ ◌&&◌ (ap (λ n. n == 2) (length-lower p)) (list_all-mapped _ _ _ alphabetic-lower p))
+    (ap₂ ◌&&◌ (ap (λ n. n == 3) (length-lower p)) (list_all-mapped _ _ _ digit-lower p))
+is_word-lower Variant p = ap₂ ◌&&◌
+    (ap₂ ◌||◌ (ap (is_in_range 5 8) (length-lower p))
+    (ap₂ ◌&&◌ (ap (λ n. n == 4) (length-lower p)) (at-map _ digit-lower p 0)))
+    (list_all-mapped _ _ _ alphanumeric-lower p)
+is_word-lower Subtag p =
+    ap₂ ◌&&◌ (ap (is_in_range 2 8) (length-lower p)) (list_all-mapped _ _ _ alphanumeric-lower p)
+is_word-lower UnicodeKey p = ap₂ ◌&&◌ (ap (λ n. n == 2) (length-lower p))
+    (ap₂ ◌&&◌ (at-map _ alphanumeric-lower p 0) (at-map _ alphabetic-lower p 1))
+is_word-lower TransformKey p = ap₂ ◌&&◌ (ap (λ n. n == 2) (length-lower p))
+    (ap₂ ◌&&◌ (at-map _ alphabetic-lower p 0) (at-map _ digit-lower p 1))
+is_word-lower Attribute p =
+    ap₂ ◌&&◌ (ap (is_in_range 3 8) (length-lower p)) (list_all-mapped _ _ _ alphanumeric-lower p)
+is_word-lower PrivateSubtag p =
+    ap₂ ◌&&◌ (ap (is_in_range 1 8) (length-lower p)) (list_all-mapped _ _ _ alphanumeric-lower p)
+is_word-lower SubdivisionSuffix p =
+    ap₂ ◌&&◌ (ap (is_in_range 1 4) (length-lower p)) (list_all-mapped _ _ _ alphanumeric-lower p)
+is_word-lower CurrencyType p =
+    ap₂ ◌&&◌ (ap (λ n. n == 3) (length-lower p)) (list_all-mapped _ _ _ alphabetic-lower p)
 
 pub is_word-same : (k : Kind) (p q : List ℕ) → lower p ≡ lower q → is_word k p ≡ is_word k q
 is_word-same k p q e = sym (is_word-lower k p) ∙ ap (is_word k) e ∙ is_word-lower k q
@@ -96,7 +115,10 @@ pub length-normal : (k : Kind) (p : List ℕ) → length (normal k p) ≡ length
 length-normal k p = sym (length-lower (normal k p)) ∙ ap length (lower-normal k p) ∙ length-lower p
 
 pub same_normal : (k : Kind) (p q : List ℕ) → (normal k p ≡ normal k q) ↔ (lower p ≡ lower q)
-same_normal k p q = (λ e. sym (lower-normal k p) ∙ ap lower e ∙ lower-normal k q, λ e. sym (normal-lower k p) ∙ ap (normal k) e ∙ normal-lower k q)
+same_normal k p q = (
+  λ e. sym (lower-normal k p) ∙ ap lower e ∙ lower-normal k q,
+  λ e. sym (normal-lower k p) ∙ ap (normal k) e ∙ normal-lower k q,
+)
 
 -- the laws of normal words
 pub ruleset normal_words_laws = (is_word-normal, normal-normal, length-normal, same_normal)
@@ -134,10 +156,12 @@ length-transform_key p h = grind (arith, nat_tests)
 -- kinds with no word in common
 
 pub region_no_script : (p : List ℕ) → IsWord Region p → is_word Script p ≡ false
-region_no_script p h = false_from_ne_true _ (λ s. let a = length-script p s in let b = length-region p h in absurd (omega arith))
+region_no_script p h =
+    false_from_ne_true _ (λ s. let a = length-script p s in let b = length-region p h in absurd (omega arith))
 
 pub variant_no_region : (p : List ℕ) → IsWord Variant p → is_word Region p ≡ false
-variant_no_region p h = false_from_ne_true _ (λ s. let a = length-region p s in let b = length-variant p h in absurd (omega arith))
+variant_no_region p h = false_from_ne_true _
+    (λ s. let a = length-region p s in let b = length-variant p h in absurd (omega arith))
 
 pub digit_no_letter : (c : ℕ) → is_ascii_digit c ≡ true → is_ascii_alphabetic c ≡ false
 digit_no_letter c h = grind (arith, nat_tests)
@@ -152,11 +176,13 @@ first_letter [] h = grind (arith, nat_tests)
 first_letter (c ∷ p) h = (and_parts _ _ ((and_parts _ _ h).1)).0
 
 pub variant_no_script : (p : List ℕ) → IsWord Variant p → is_word Script p ≡ false
-variant_no_script p h = false_from_ne_true _ (λ s. let a = first_letter p s in let b = digit_no_letter (slice_index p 0) (first_digit p h (length-script p s)) in cc)
+variant_no_script p h = false_from_ne_true _ (λ s. let a = first_letter p s in
+    let b = digit_no_letter (slice_index p 0) (first_digit p h (length-script p s)) in cc)
 
 -- each byte of a word is a letter or a digit
 
-pub every : (f g : ℕ → Bool) → ((c : ℕ) → f c ≡ true → g c ≡ true) → (p : List ℕ) → list_all f p ≡ true → list_all g p ≡ true
+pub every : (f g : ℕ → Bool) → ((c : ℕ) → f c ≡ true → g c ≡ true) → (p : List ℕ) → list_all f p ≡ true →
+    list_all g p ≡ true
 every f g h [] a = refl
 every f g h (c ∷ p) a = let parts = and_parts _ _ a in ap₂ ◌&&◌ (h c parts.0) (every f g h p parts.1)
 
@@ -166,7 +192,9 @@ letter_is c h = grind (arith, nat_tests)
 pub digit_is : (c : ℕ) → is_ascii_digit c ≡ true → is_ascii_alphanumeric c ≡ true
 digit_is c h = grind (arith, nat_tests)
 
-two_are : (f g : ℕ → Bool) → ((c : ℕ) → f c ≡ true → is_ascii_alphanumeric c ≡ true) → ((c : ℕ) → g c ≡ true → is_ascii_alphanumeric c ≡ true) → (p : List ℕ) → (length p == 2) ≡ true → f (slice_index p 0) ≡ true → g (slice_index p 1) ≡ true → letters_or_digits p ≡ true
+two_are : (f g : ℕ → Bool) → ((c : ℕ) → f c ≡ true → is_ascii_alphanumeric c ≡ true) →
+    ((c : ℕ) → g c ≡ true → is_ascii_alphanumeric c ≡ true) → (p : List ℕ) → (length p == 2) ≡ true →
+    f (slice_index p 0) ≡ true → g (slice_index p 1) ≡ true → letters_or_digits p ≡ true
 two_are f g h k [] e a b = refl
 two_are f g h k (c ∷ []) e a b = ap₂ ◌&&◌ (h c a) refl
 two_are f g h k (c ∷ d ∷ []) e a b = ap₂ ◌&&◌ (h c a) (ap₂ ◌&&◌ (k d b) refl)
@@ -177,7 +205,11 @@ unfolding is_word
 word_letters_or_digits (Language T) p h = every _ _ letter_is p (and_parts _ _ h).1
 word_letters_or_digits Script p h = every _ _ letter_is p (and_parts _ _ h).1
 word_letters_or_digits CurrencyType p h = every _ _ letter_is p (and_parts _ _ h).1
-word_letters_or_digits Region p h = elim (or_cases ((length p == 2) && letters p) ((length p == 3) && digits p) h) [ inl a ↦ every _ _ letter_is p (and_parts _ _ a).1 | inr a ↦ every _ _ digit_is p (and_parts _ _ a).1 ]
-word_letters_or_digits UnicodeKey p h = let a = and_parts _ _ h in let b = and_parts _ _ a.1 in two_are _ _ (λ c e. e) letter_is p a.0 b.0 b.1
-word_letters_or_digits TransformKey p h = let a = and_parts _ _ h in let b = and_parts _ _ a.1 in two_are _ _ letter_is digit_is p a.0 b.0 b.1
+word_letters_or_digits Region p h =
+    elim (or_cases ((length p == 2) && letters p) ((length p == 3) && digits p) h)
+    [ inl a ↦ every _ _ letter_is p (and_parts _ _ a).1 | inr a ↦ every _ _ digit_is p (and_parts _ _ a).1 ]
+word_letters_or_digits UnicodeKey p h =
+    let a = and_parts _ _ h in let b = and_parts _ _ a.1 in two_are _ _ (λ c e. e) letter_is p a.0 b.0 b.1
+word_letters_or_digits TransformKey p h =
+    let a = and_parts _ _ h in let b = and_parts _ _ a.1 in two_are _ _ letter_is digit_is p a.0 b.0 b.1
 word_letters_or_digits _ p h = (and_parts _ _ h).1

@@ -6,9 +6,14 @@ use Rattle.std.specs.Char.{is_ascii_alphanumeric}
 use Rattle.std.specs.List.{AllByRecursion}
 use Rattle.std.specs.Ordering.{nat_cmp}
 use Rattle.std.specs.FinMap.{find}
-use Rattle.iloc_spec_grammar.specs.Syntax.{Text, LanguageLengths, Block, code_t, code_u, code_x, pieces, lower, SpelledUnicode, SpelledTransform, Unicode, Transform, unicode_pieces, transform_pieces, IsOther, kept, is_other_singleton, AllDifferent, lower_singleton, head, tail_blocks, IsPrivate}
+use Rattle.iloc_spec_grammar.specs.Syntax.{Text, LanguageLengths, Block, code_t, code_u, code_x, pieces}
+use Rattle.iloc_spec_grammar.specs.Syntax.{lower, SpelledUnicode, SpelledTransform, Unicode, Transform}
+use Rattle.iloc_spec_grammar.specs.Syntax.{unicode_pieces, transform_pieces, IsOther, kept}
+use Rattle.iloc_spec_grammar.specs.Syntax.{is_other_singleton, AllDifferent, lower_singleton, head}
+use Rattle.iloc_spec_grammar.specs.Syntax.{tail_blocks, IsPrivate}
 use Rattle.iloc_spec_grammar.specs.Tree.{IsUnicodeBlock, IsTransformBlock, by_singleton}
-use Rattle.iloc_spec_grammar.specs.Meaning.{Locale, Extensions, IdentifierMeans, map_of, normal_unicode, normal_transform, no_unicode, no_transform}
+use Rattle.iloc_spec_grammar.specs.Meaning.{Locale, Extensions, IdentifierMeans, map_of, normal_unicode}
+use Rattle.iloc_spec_grammar.specs.Meaning.{normal_transform, no_unicode, no_transform}
 
 -- The rules of the grammar: what the pieces after a singleton mean.
 

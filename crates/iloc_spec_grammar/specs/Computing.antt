@@ -1,15 +1,22 @@
 -- Plain programs for what a text means and why it is refused. The rules of the tree become tests of
 -- what Reading reads; the law `computed` says that the answers are those of `Means` and `HasFault`,
 -- so examples can be computed.
-use Rattle.std.specs.Prelude.{ℕ, ◌+◌, Bool, true, not, ◌&&◌, ◌||◌, ◌==◌, List, [], ◌∷◌, length, map, Option, Some, None, is_some, Result, Ok, Err, nat_lt, if◌then◌else◌}
+use Rattle.std.specs.Prelude.{ℕ, ◌+◌, Bool, true, not, ◌&&◌, ◌||◌, ◌==◌, List, [], ◌∷◌, length, map, Option}
+use Rattle.std.specs.Prelude.{Some, None, is_some, Result, Ok, Err, nat_lt, if◌then◌else◌}
 use Rattle.std.specs.Char.{is_ascii_alphanumeric, to_ascii_lowercase}
 use Rattle.std.specs.Int.{is_in_range}
 use Rattle.std.specs.List.{list_any, list_all}
 use Rattle.std.specs.Ordering.{nat_cmp, eq_by_cmp}
 use Rattle.std.specs.declared.cmp.Ordering.{Ordering}
-use Rattle.iloc_spec_grammar.specs.Syntax.{Text, LanguageLengths, Field, Block, code_t, code_u, code_x, pieces, Language, Script, Region, Variant, UnicodeKey, TransformKey, Attribute, PrivateSubtag, is_word, lower, word_cmp, SpelledIdentifier, SpelledUnicode, SpelledTransform, Identifier, kept, is_other_singleton, lower_singleton, first_piece, head, tail_blocks}
+use Rattle.iloc_spec_grammar.specs.Syntax.{Text, LanguageLengths, Field, Block, code_t, code_u, code_x}
+use Rattle.iloc_spec_grammar.specs.Syntax.{pieces, Language, Script, Region, Variant, UnicodeKey}
+use Rattle.iloc_spec_grammar.specs.Syntax.{TransformKey, Attribute, PrivateSubtag, is_word, lower, word_cmp}
+use Rattle.iloc_spec_grammar.specs.Syntax.{SpelledIdentifier, SpelledUnicode, SpelledTransform, Identifier}
+use Rattle.iloc_spec_grammar.specs.Syntax.{kept, is_other_singleton, lower_singleton, first_piece, head}
+use Rattle.iloc_spec_grammar.specs.Syntax.{tail_blocks}
 use Rattle.iloc_spec_grammar.specs.Tree.{Extension, unicode, transform, other, meaning}
-use Rattle.iloc_spec_grammar.specs.Meaning.{Locale, normal_identifier, Fault, InvalidLanguage, InvalidSubtag, InvalidExtension, DuplicatedExtension}
+use Rattle.iloc_spec_grammar.specs.Meaning.{Locale, normal_identifier, Fault, InvalidLanguage, InvalidSubtag}
+use Rattle.iloc_spec_grammar.specs.Meaning.{InvalidExtension, DuplicatedExtension}
 use Rattle.iloc_spec_grammar.specs.Values.{text, identifier_text}
 use Rattle.iloc_spec_grammar.specs.Reading.{identifier_of, front_of, extension_of, written_of}
 

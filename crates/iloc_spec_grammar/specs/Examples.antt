@@ -2,7 +2,8 @@
 -- refused.
 use Rattle.std.specs.Prelude.{◌≡◌}
 use Rattle.iloc_spec_grammar.specs.Syntax.{Text, pieces, languages, Identifier}
-use Rattle.iloc_spec_grammar.specs.Meaning.{Locale, Means, IdentifierMeans, Fault, HasFault, HasIdentifierFault}
+use Rattle.iloc_spec_grammar.specs.Meaning.{Locale, Means, IdentifierMeans, Fault, HasFault}
+use Rattle.iloc_spec_grammar.specs.Meaning.{HasIdentifierFault}
 use Rattle.iloc_spec_grammar.specs.Values.{text, identifier_text}
 
 -- the text t is accepted, and u is the normal text of its meaning

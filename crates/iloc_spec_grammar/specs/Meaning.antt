@@ -2,11 +2,19 @@
 -- sets, keywords and fields maps, both as ascending lists; `true` in a value means nothing.
 -- Restates the canonical syntax of UTS #35, section 3.2.1. That the first of equal keys stays is
 -- what RFC 6067, section 2.1, says after `u`, and the rule of this library after `t`.
-use Rattle.std.specs.Prelude.{◌≡◌, ℕ, ◌<◌, ◌==◌, length, flat_map, if◌then◌else◌, not, List, [], ◌∷◌, map, filter, None, option_map, true, false, ◌++◌}
+use Rattle.std.specs.Prelude.{◌≡◌, ℕ, ◌<◌, ◌==◌, length, flat_map, if◌then◌else◌, not, List, [], ◌∷◌, map}
+use Rattle.std.specs.Prelude.{filter, None, option_map, true, false, ◌++◌}
 use Rattle.std.specs.Ordering.{nat_cmp}
 use Rattle.std.specs.declared.cmp.Ordering.{Ordering}
 use Rattle.std.specs.FinMap.{put}
-use Rattle.iloc_spec_grammar.specs.Syntax.{Text, LanguageLengths, Block, code_t, code_u, code_x, pieces, lower, upper, title, word_cmp, is_true, Language, PrivateSubtag, is_word, IsWord, Stage, Spelled, Meant, UnicodeOf, TransformOf, SpelledIdentifier, SpelledUnicode, SpelledTransform, Identifier, Fields, Unicode, Transform, identifier_pieces, kept, IsIdentifier, lower_singleton, HasWords, AllDifferent, IsUnicode, IsTransform, IsOther, unicode_pieces, transform_pieces, is_other_singleton, IsAmong}
+use Rattle.iloc_spec_grammar.specs.Syntax.{Text, LanguageLengths, Block, code_t, code_u, code_x, pieces}
+use Rattle.iloc_spec_grammar.specs.Syntax.{lower, upper, title, word_cmp, is_true, Language, PrivateSubtag}
+use Rattle.iloc_spec_grammar.specs.Syntax.{is_word, IsWord, Stage, Spelled, Meant, UnicodeOf, TransformOf}
+use Rattle.iloc_spec_grammar.specs.Syntax.{SpelledIdentifier, SpelledUnicode, SpelledTransform, Identifier}
+use Rattle.iloc_spec_grammar.specs.Syntax.{Fields, Unicode, Transform, identifier_pieces, kept, IsIdentifier}
+use Rattle.iloc_spec_grammar.specs.Syntax.{lower_singleton, HasWords, AllDifferent, IsUnicode, IsTransform}
+use Rattle.iloc_spec_grammar.specs.Syntax.{IsOther, unicode_pieces, transform_pieces, is_other_singleton}
+use Rattle.iloc_spec_grammar.specs.Syntax.{IsAmong}
 use Rattle.std.specs.Char.{is_ascii_alphanumeric, to_ascii_lowercase}
 use Rattle.std.specs.List.{list_any, AllByRecursion}
 pub use Rattle.iloc_spec_grammar.specs.Syntax.{is_one_byte, front, blocks, head, tail_blocks, first_piece}

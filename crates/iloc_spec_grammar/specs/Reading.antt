@@ -3,8 +3,13 @@
 -- longest front of words. The other functions named `.._of` take all the pieces of a part in the
 -- same way. Each loses nothing, and gives back what follows the rules, so the rules have
 -- one reading at most.
-use Rattle.std.specs.Prelude.{◌≡◌, ℕ, ◌≤◌, Bool, true, false, cond, ◌==◌, List, [], ◌∷◌, ◌++◌, length, Option, Some, None}
-use Rattle.iloc_spec_grammar.specs.Syntax.{Text, LanguageLengths, Block, code_t, code_u, code_x, Script, Region, Variant, TransformKey, is_word, SpelledIdentifier, SpelledUnicode, SpelledTransform, Fields, HasWords, identifier_pieces, lower_singleton, is_one_byte, first_piece, head, tail_blocks}
+use Rattle.std.specs.Prelude.{◌≡◌, ℕ, ◌≤◌, Bool, true, false, cond, ◌==◌, List, [], ◌∷◌, ◌++◌, length, Option}
+use Rattle.std.specs.Prelude.{Some, None}
+use Rattle.iloc_spec_grammar.specs.Syntax.{Text, LanguageLengths, Block, code_t, code_u, code_x, Script}
+use Rattle.iloc_spec_grammar.specs.Syntax.{Region, Variant, TransformKey, is_word, SpelledIdentifier}
+use Rattle.iloc_spec_grammar.specs.Syntax.{SpelledUnicode, SpelledTransform, Fields, HasWords}
+use Rattle.iloc_spec_grammar.specs.Syntax.{identifier_pieces, lower_singleton, is_one_byte, first_piece, head}
+use Rattle.iloc_spec_grammar.specs.Syntax.{tail_blocks}
 use Rattle.iloc_spec_grammar.specs.Tree.{Extension, unicode, transform, other, Written}
 
 -- Lists of pieces.

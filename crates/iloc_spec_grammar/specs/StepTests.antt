@@ -1,14 +1,18 @@
 -- Plain programs for the steps of rewriting: whether a step leads from one list, part or text to
 -- another. The laws of this crate say that each is true exactly if the relation of that name
 -- holds, so one can compute it.
-use Rattle.std.specs.Prelude.{◌≡◌, ◌↔◌, IsTrue, ℕ, Bool, true, false, not, ◌&&◌, ◌||◌, ◌==◌, List, [], ◌∷◌, length, map, Option, Some, None, nat_lt, if◌then◌else◌}
+use Rattle.std.specs.Prelude.{◌≡◌, ◌↔◌, IsTrue, ℕ, Bool, true, false, not, ◌&&◌, ◌||◌, ◌==◌, List, [], ◌∷◌}
+use Rattle.std.specs.Prelude.{length, map, Option, Some, None, nat_lt, if◌then◌else◌}
 use Rattle.std.specs.List.{list_any}
 use Rattle.std.specs.Result.{is_ok}
-use Rattle.iloc_spec_grammar.specs.Syntax.{Text, LanguageLengths, Field, pieces, Subtag, is_word, lower, is_same, is_true, word_cmp, SpelledIdentifier, SpelledUnicode, SpelledTransform, Fields}
+use Rattle.iloc_spec_grammar.specs.Syntax.{Text, LanguageLengths, Field, pieces, Subtag, is_word, lower}
+use Rattle.iloc_spec_grammar.specs.Syntax.{is_same, is_true, word_cmp, SpelledIdentifier, SpelledUnicode}
+use Rattle.iloc_spec_grammar.specs.Syntax.{SpelledTransform, Fields}
 use Rattle.iloc_spec_grammar.specs.Tree.{Extension, unicode, transform, other, Written}
 use Rattle.iloc_spec_grammar.specs.Reading.{identifier_of, written_of}
 use Rattle.iloc_spec_grammar.specs.Computing.{all_different, identifier_result, locale_result}
-use Rattle.iloc_spec_grammar.specs.TreeSteps.{TreeRule, VariantOrder, AttributeOrder, FieldOrder, Repeats, Trues, DroppedPieces}
+use Rattle.iloc_spec_grammar.specs.TreeSteps.{TreeRule, VariantOrder, AttributeOrder, FieldOrder, Repeats}
+use Rattle.iloc_spec_grammar.specs.TreeSteps.{Trues, DroppedPieces}
 
 -- What a step does to a list. Each of these takes a test `same` of whether two items are equal.
 

@@ -1,8 +1,12 @@
 -- Syntax: what texts are made of. First the shapes that all definitions speak of; then the pieces
 -- of a text, its blocks, its words, and the parts that it spells. Restates UTS #35, section 3.
-use Rattle.std.specs.Prelude.{ℕ, take, drop, Bool, List, ◌==◌, ◌≡◌, [], ◌∷◌, flat_map, ◌≢◌, false, cond, length, ◌-◌, ◌≤◌, ⊤, true, ◌&&◌, ◌||◌, ◌++◌, map, replicate, slice_index, Option, Some, None, Result, Ok, Err, if◌then◌else◌, codes, ◌<◌, not, filter, IfSome, option_to_list}
+use Rattle.std.specs.Prelude.{ℕ, take, drop, Bool, List, ◌==◌, ◌≡◌, [], ◌∷◌, flat_map, ◌≢◌, false, cond}
+use Rattle.std.specs.Prelude.{length, ◌-◌, ◌≤◌, ⊤, true, ◌&&◌, ◌||◌, ◌++◌, map, replicate, slice_index}
+use Rattle.std.specs.Prelude.{Option, Some, None, Result, Ok, Err, if◌then◌else◌, codes, ◌<◌, not, filter}
+use Rattle.std.specs.Prelude.{IfSome, option_to_list}
 use Rattle.std.specs.List.{slice_split, join_with_byte, list_any, AllByRecursion, list_all}
-use Rattle.std.specs.Char.{to_ascii_lowercase, is_ascii_alphabetic, is_ascii_digit, is_ascii_alphanumeric, to_ascii_uppercase}
+use Rattle.std.specs.Char.{to_ascii_lowercase, is_ascii_alphabetic, is_ascii_digit, is_ascii_alphanumeric}
+use Rattle.std.specs.Char.{to_ascii_uppercase}
 use Rattle.std.specs.Int.{is_in_range}
 use Rattle.std.specs.Ordering.{nat_cmp, eq_by_cmp}
 use Rattle.std.specs.declared.cmp.Ordering.{Ordering}

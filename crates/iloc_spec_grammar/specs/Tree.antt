@@ -2,13 +2,24 @@
 -- or its first bad block is found from the left. No contract of a type rests on it. Proofs do,
 -- since a tree can be taken apart case by case: SameMeaning, SameFaults and SameText show that it
 -- agrees with the definitions of Meaning and Values.
-use Rattle.std.specs.Prelude.{◌≡◌, ℕ, ◌+◌, ◌<◌, true, false, ◌||◌, List, [], ◌∷◌, ◌++◌, length, map, filter, filter_map, flat_map, Option, Some, None, IfSome, option_map, option_to_list, is_some, nat_le, nat_lt, if◌then◌else◌, ◌⊎◌}
+use Rattle.std.specs.Prelude.{◌≡◌, ℕ, ◌+◌, ◌<◌, true, false, ◌||◌, List, [], ◌∷◌, ◌++◌, length, map, filter}
+use Rattle.std.specs.Prelude.{filter_map, flat_map, Option, Some, None, IfSome, option_map, option_to_list}
+use Rattle.std.specs.Prelude.{is_some, nat_le, nat_lt, if◌then◌else◌, ◌⊎◌}
 use Rattle.std.specs.Char.{is_ascii_alphanumeric, to_ascii_lowercase}
 use Rattle.std.specs.List.{AllByRecursion, list_any}
 use Rattle.std.specs.Ordering.{nat_cmp, eq_by_cmp}
 use Rattle.std.specs.FinMap.{find}
-use Rattle.iloc_spec_grammar.specs.Syntax.{Text, LanguageLengths, Block, code_t, code_u, code_x, join, pieces, lower, Language, Attribute, IsKeyword, IsField, is_word, IsWord, SpelledIdentifier, SpelledUnicode, SpelledTransform, Identifier, Unicode, Transform, identifier_pieces, unicode_pieces, transform_pieces, kept, IsIdentifier, IsOther, IsPrivate, is_other_singleton, lower_singleton, AllDifferent, head, tail_blocks, first_piece}
-use Rattle.iloc_spec_grammar.specs.Meaning.{Locale, Extensions, map_of, normal_identifier, normal_unicode, normal_transform, no_unicode, no_transform, Fault, InvalidLanguage, InvalidSubtag, InvalidExtension, DuplicatedExtension, SpellsIdentifier, RepeatsVariant}
+use Rattle.iloc_spec_grammar.specs.Syntax.{Text, LanguageLengths, Block, code_t, code_u, code_x, join, pieces}
+use Rattle.iloc_spec_grammar.specs.Syntax.{lower, Language, Attribute, IsKeyword, IsField, is_word, IsWord}
+use Rattle.iloc_spec_grammar.specs.Syntax.{SpelledIdentifier, SpelledUnicode, SpelledTransform, Identifier}
+use Rattle.iloc_spec_grammar.specs.Syntax.{Unicode, Transform, identifier_pieces, unicode_pieces}
+use Rattle.iloc_spec_grammar.specs.Syntax.{transform_pieces, kept, IsIdentifier, IsOther, IsPrivate}
+use Rattle.iloc_spec_grammar.specs.Syntax.{is_other_singleton, lower_singleton, AllDifferent, head}
+use Rattle.iloc_spec_grammar.specs.Syntax.{tail_blocks, first_piece}
+use Rattle.iloc_spec_grammar.specs.Meaning.{Locale, Extensions, map_of, normal_identifier, normal_unicode}
+use Rattle.iloc_spec_grammar.specs.Meaning.{normal_transform, no_unicode, no_transform, Fault}
+use Rattle.iloc_spec_grammar.specs.Meaning.{InvalidLanguage, InvalidSubtag, InvalidExtension}
+use Rattle.iloc_spec_grammar.specs.Meaning.{DuplicatedExtension, SpellsIdentifier, RepeatsVariant}
 use Rattle.iloc_spec_grammar.specs.Values.{AreWellFormed, lower_identifier, spelled_fields}
 
 -- The tree, how it is spelled, and the rules that it follows.

@@ -3,7 +3,9 @@
 -- Values.
 use Rattle.std.specs.Prelude.{◌≡◌, ℕ, ◌<◌, true, List, [], ◌∷◌, length, map, Option, Some, Bool, not}
 use Rattle.std.specs.List.{list_any, AllZip}
-use Rattle.iloc_spec_grammar.specs.Syntax.{Text, LanguageLengths, Block, Field, join, pieces, Subtag, lower, word_cmp, is_true, is_word, is_same, SpelledIdentifier, Fields, identifier_pieces, AllDifferent, IsIdentifier}
+use Rattle.iloc_spec_grammar.specs.Syntax.{Text, LanguageLengths, Block, Field, join, pieces, Subtag, lower}
+use Rattle.iloc_spec_grammar.specs.Syntax.{word_cmp, is_true, is_word, is_same, SpelledIdentifier, Fields}
+use Rattle.iloc_spec_grammar.specs.Syntax.{identifier_pieces, AllDifferent, IsIdentifier}
 use Rattle.iloc_spec_grammar.specs.Values.{Reordered}
 use Rattle.iloc_spec_grammar.specs.Tree.{Extension, unicode, transform, other, Written, spelling, IsWritten}
 

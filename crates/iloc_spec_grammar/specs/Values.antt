@@ -2,14 +2,24 @@
 -- that of the canonical syntax of UTS #35, section 3.2.1: one case for each kind of word, variants,
 -- attributes, keys and singletons in ascending order, and no value `true` (but in a field of `t`,
 -- which has no other empty value). It is defined for values that are not well-formed too.
-use Rattle.std.specs.Prelude.{◌≡◌, ⊤, ◌↔◌, ◌≢◌, ℕ, ◌<◌, ◌≤◌, true, false, List, [], ◌∷◌, ◌++◌, length, map, flat_map, IfSome, option_map, option_to_list, nat_le, codes, if◌then◌else◌, ◌⊎◌, zero, suc, Bool, not}
+use Rattle.std.specs.Prelude.{◌≡◌, ⊤, ◌↔◌, ◌≢◌, ℕ, ◌<◌, ◌≤◌, true, false, List, [], ◌∷◌, ◌++◌, length, map}
+use Rattle.std.specs.Prelude.{flat_map, IfSome, option_map, option_to_list, nat_le, codes, if◌then◌else◌, ◌⊎◌}
+use Rattle.std.specs.Prelude.{zero, suc, Bool, not}
 use Rattle.std.specs.Char.{to_ascii_lowercase}
 use Rattle.std.specs.List.{AllByRecursion, list_any, AllZip}
 use Rattle.std.specs.FinMap.{is_sorted}
 use Rattle.std.specs.Ordering.{nat_cmp}
 use Rattle.std.specs.declared.cmp.Ordering.{Ordering}
 use Rattle.std.specs.declared.cmp.Ordering.TheVariants.{Less}
-use Rattle.iloc_spec_grammar.specs.Syntax.{Text, LanguageLengths, Block, code_t, code_u, code_x, Field, join, pieces, head, tail_blocks, Kind, Language, Script, Region, Variant, Subtag, UnicodeKey, TransformKey, Attribute, PrivateSubtag, IsWord, normal, lower, word_cmp, is_true, is_word, is_same, languages, Stage, IdentifierOf, SpelledIdentifier, SpelledUnicode, SpelledTransform, Identifier, Unicode, Transform, Fields, optional_pieces, unicode_pieces, transform_pieces, is_other_singleton, identifier_pieces, fields_pieces, AllDifferent, HasWords, IsIdentifier, IsUnicode, IsTransform}
+use Rattle.iloc_spec_grammar.specs.Syntax.{Text, LanguageLengths, Block, code_t, code_u, code_x, Field, join}
+use Rattle.iloc_spec_grammar.specs.Syntax.{pieces, head, tail_blocks, Kind, Language, Script, Region, Variant}
+use Rattle.iloc_spec_grammar.specs.Syntax.{Subtag, UnicodeKey, TransformKey, Attribute, PrivateSubtag, IsWord}
+use Rattle.iloc_spec_grammar.specs.Syntax.{normal, lower, word_cmp, is_true, is_word, is_same, languages}
+use Rattle.iloc_spec_grammar.specs.Syntax.{Stage, IdentifierOf, SpelledIdentifier, SpelledUnicode}
+use Rattle.iloc_spec_grammar.specs.Syntax.{SpelledTransform, Identifier, Unicode, Transform, Fields}
+use Rattle.iloc_spec_grammar.specs.Syntax.{optional_pieces, unicode_pieces, transform_pieces}
+use Rattle.iloc_spec_grammar.specs.Syntax.{is_other_singleton, identifier_pieces, fields_pieces, AllDifferent}
+use Rattle.iloc_spec_grammar.specs.Syntax.{HasWords, IsIdentifier, IsUnicode, IsTransform}
 use Rattle.iloc_spec_grammar.specs.Meaning.{Locale, Extensions, Means}
 
 -- What the types keep.

@@ -1,13 +1,16 @@
 -- Blocks that break their rule before anything is kept of them.
-use Rattle.std.proofs.Common.{◌≡◌, ℕ, ◌≤◌, Bool, true, false, cond, List, [], ◌∷◌, length, map, refl, sym, ap, ◌∙◌, subst, arith, true≢false}
+use Rattle.std.proofs.Common.{◌≡◌, ℕ, ◌≤◌, Bool, true, false, cond, List, [], ◌∷◌, length, map, refl, sym, ap}
+use Rattle.std.proofs.Common.{◌∙◌, subst, arith, true≢false}
 use Rattle.std.specs.List.{AllByRecursion}
 use Rattle.std.proofs.lemmas.Bool.{and_parts, false_from_ne_true, not-true}
-use Rattle.iloc_spec_grammar.specs.Syntax.{Language, UnicodeKey, TransformKey, Attribute, is_word, IsWord, lower, kept, lower_singleton, is_other_singleton, first_piece}
+use Rattle.iloc_spec_grammar.specs.Syntax.{Language, UnicodeKey, TransformKey, Attribute, is_word, IsWord}
+use Rattle.iloc_spec_grammar.specs.Syntax.{lower, kept, lower_singleton, is_other_singleton, first_piece}
 use Rattle.iloc_spec_grammar.specs.Meaning.{set_of, normal_fields, normal_values}
 use Rattle.iloc_spec_grammar.specs.Reading.{is_two, rest_of, after_front}
 use Rattle.iloc_spec_grammar.proofs.Readings.{language_no_key}
 use Rattle.iloc_spec_grammar.proofs.Singletons.{no_u, no_t, no_x}
-use Rattle.iloc_spec_parts.specs.Fronts.{attributes_front, after_attributes, is_bad_key, BeginsField, has_other_length, other_front, keywords_kept}
+use Rattle.iloc_spec_parts.specs.Fronts.{attributes_front, after_attributes, is_bad_key, BeginsField}
+use Rattle.iloc_spec_parts.specs.Fronts.{has_other_length, other_front, keywords_kept}
 use Rattle.iloc_spec_parts.proofs.FrontLaws.{not_two_bytes}
 use Rattle.iloc_spec_parts.specs.Inline.{IsShortUnicode, IsShortTransform, IsShortOther, IsShortBlock}
 
@@ -16,18 +19,22 @@ use Rattle.iloc_spec_parts.specs.Inline.{IsShortUnicode, IsShortTransform, IsSho
 two_no_attribute : (p : List ℕ) → is_two p ≡ true → is_word Attribute p ≡ false
 two_no_attribute p two = false_from_ne_true _ (λ h. true≢false (sym two ∙ not_two_bytes p h))
 
-none_kept : (p : List ℕ) (qs : List (List ℕ)) → is_two p ≡ true → is_word UnicodeKey p ≡ false → keywords_kept (p ∷ qs) ≡ []
+none_kept : (p : List ℕ) (qs : List (List ℕ)) → is_two p ≡ true → is_word UnicodeKey p ≡ false →
+    keywords_kept (p ∷ qs) ≡ []
 none_kept p qs two bad = rw two (rw two (rw bad refl))
 
-short_at : (p : List ℕ) (qs : List (List ℕ)) → is_two p ≡ true → is_word UnicodeKey p ≡ false → IsShortUnicode (p ∷ qs)
+short_at : (p : List ℕ) (qs : List (List ℕ)) → is_two p ≡ true → is_word UnicodeKey p ≡ false →
+    IsShortUnicode (p ∷ qs)
 short_at p qs two bad =
     let none = two_no_attribute p two in
     let front : attributes_front (p ∷ qs) ≡ [] = rw none refl in
     let after : after_attributes (p ∷ qs) ≡ p ∷ qs = rw none refl in
-    let keys : keywords_kept (after_attributes (p ∷ qs)) ≡ [] = ap keywords_kept after ∙ none_kept p qs two bad in
+    let keys : keywords_kept (after_attributes (p ∷ qs)) ≡ [] =
+    ap keywords_kept after ∙ none_kept p qs two bad in
     record {
       attributes = subst (λ (l : List (List ℕ)). length (set_of (map lower l)) ≤ 4) (sym front) (omega arith);
-      keys = subst (λ (fs : List (List ℕ × List (List ℕ))). length (normal_fields fs) ≤ 1) (sym keys) (omega arith);
+      keys = subst (λ (fs : List (List ℕ × List (List ℕ))). length (normal_fields fs) ≤ 1) (sym keys)
+          (omega arith);
       values = subst (AllByRecursion (λ f. length (normal_values f.1) ≤ 4)) (sym keys) tt;
     }
 
@@ -40,11 +47,13 @@ bad_unicode (p ∷ ps) h = let parts = and_parts _ _ h in short_at p ps parts.0 
 key_is_no_language : (T : ℕ → Bool) (k : List ℕ) → IsWord TransformKey k → is_word (Language T) k ≡ false
 key_is_no_language T k key = false_from_ne_true _ (λ l. true≢false (sym key ∙ language_no_key T k l))
 
-pub bad_transform : {T : ℕ → Bool} (ps : List (List ℕ)) → IsWord TransformKey (first_piece ps) → is_word Attribute (first_piece (rest_of ps)) ≡ false → IsShortTransform T ps
+pub bad_transform : {T : ℕ → Bool} (ps : List (List ℕ)) → IsWord TransformKey (first_piece ps) →
+    is_word Attribute (first_piece (rest_of ps)) ≡ false → IsShortTransform T ps
 bad_transform {T = T} ps key none =
     let language = key_is_no_language T (first_piece ps) key in record {
       variants = λ l. absurd (true≢false (sym l ∙ language));
-      no_field = λ r b. true≢false (sym (subst (λ t. BeginsField (cond t (after_front ps) ps)) language b).1 ∙ none);
+      no_field =
+          λ r b. true≢false (sym (subst (λ t. BeginsField (cond t (after_front ps) ps)) language b).1 ∙ none);
     }
 
 -- after another singleton
@@ -56,7 +65,9 @@ all_pass (p ∷ ps) h = rw h.0 (ap (λ l. p ∷ l) (all_pass ps h.1))
 pub bad_other : (ps : List (List ℕ)) → kept (other_front ps) ≡ [] → IsShortOther ps
 bad_other ps none = (
   let n : length (kept (other_front ps)) ≡ 0 = ap length none in omega (arith, n),
-  λ i. let n : length (kept ps) ≡ 0 = ap (λ l. length (kept l)) (sym (all_pass ps i.lengths)) ∙ ap length none in let m = i.nonempty in omega (arith, n, m),
+  λ i. let n : length (kept ps) ≡ 0 =
+      ap (λ l. length (kept l)) (sym (all_pass ps i.lengths)) ∙ ap length none in
+      let m = i.nonempty in omega (arith, n, m),
 )
 
 -- the blocks
@@ -70,7 +81,8 @@ module _ {T : ℕ → Bool} (b : ℕ × List (List ℕ)) where
     other = λ o. absurd (no_u _ e o);
   }
 
-  pub broken_transform : lower_singleton b ≡ 116 → IsWord TransformKey (first_piece b.1) → is_word Attribute (first_piece (rest_of b.1)) ≡ false → IsShortBlock T b
+  pub broken_transform : lower_singleton b ≡ 116 → IsWord TransformKey (first_piece b.1) →
+      is_word Attribute (first_piece (rest_of b.1)) ≡ false → IsShortBlock T b
   broken_transform e key none = record {
     unicode = λ s. absurd (omega arith);
     transform = λ s. bad_transform b.1 key none;
@@ -78,7 +90,8 @@ module _ {T : ℕ → Bool} (b : ℕ × List (List ℕ)) where
     other = λ o. absurd (no_t _ e o);
   }
 
-  pub broken_other : is_other_singleton (lower_singleton b) ≡ true → kept (other_front b.1) ≡ [] → IsShortBlock T b
+  pub broken_other : is_other_singleton (lower_singleton b) ≡ true → kept (other_front b.1) ≡ [] →
+      IsShortBlock T b
   broken_other o none = record {
     unicode = λ s. absurd (no_u _ s o);
     transform = λ s. absurd (no_t _ s o);

@@ -1,10 +1,15 @@
 -- The readers of what comes after `u`, after other singletons and after `x`.
-use Rattle.std.proofs.Common.{◌≡◌, ◌↔◌, inl, inr, ℕ, ◌+◌, ◌<◌, ◌≤◌, true, false, not, ◌&&◌, ◌||◌, ◌==◌, nat_lt, List, [], ◌∷◌, ◌++◌, length, map, refl, sym, ap, ap₂, ◌∙◌, subst, arith, true≢false, append_assoc, Result, Ok, Err}
+use Rattle.std.proofs.Common.{◌≡◌, ◌↔◌, inl, inr, ℕ, ◌+◌, ◌<◌, ◌≤◌, true, false, not, ◌&&◌, ◌||◌, ◌==◌}
+use Rattle.std.proofs.Common.{nat_lt, List, [], ◌∷◌, ◌++◌, length, map, refl, sym, ap, ap₂, ◌∙◌, subst, arith}
+use Rattle.std.proofs.Common.{true≢false, append_assoc, Result, Ok, Err}
 use Rattle.std.specs.List.{AllByRecursion, list_any}
-use Rattle.std.proofs.lemmas.Bool.{or_parts, or_cases, not-false, cond_both, false_from_ne_true, eqb-true, ne_eqb, ltb-true}
+use Rattle.std.proofs.lemmas.Bool.{or_parts, or_cases, not-false, cond_both, false_from_ne_true, eqb-true}
+use Rattle.std.proofs.lemmas.Bool.{ne_eqb, ltb-true}
 use Rattle.std.proofs.lemmas.List.{nil_from_length}
 use Rattle.std.proofs.lemmas.Bool.Decides.{nat_tests}
-use Rattle.iloc_spec_grammar.specs.Syntax.{UnicodeKey, Attribute, is_word, IsWord, lower, Fields, SpelledUnicode, Unicode, fields_pieces, unicode_pieces, IsKeyword, IsUnicode, IsOther, kept, front}
+use Rattle.iloc_spec_grammar.specs.Syntax.{UnicodeKey, Attribute, is_word, IsWord, lower, Fields}
+use Rattle.iloc_spec_grammar.specs.Syntax.{SpelledUnicode, Unicode, fields_pieces, unicode_pieces, IsKeyword}
+use Rattle.iloc_spec_grammar.specs.Syntax.{IsUnicode, IsOther, kept, front}
 use Rattle.iloc_spec_grammar.specs.Tree.{IsUnicodeBlock}
 use Rattle.iloc_spec_grammar.specs.Meaning.{set_of, normal_fields, normal_unicode, Fault, InvalidExtension}
 use Rattle.iloc_spec_grammar.specs.ByBlocks.{UnicodeMeans, OtherMeans}
@@ -12,27 +17,41 @@ use Rattle.iloc_spec_grammar.specs.Reading.{EndsBefore, starts_block, from_block
 use Rattle.iloc_spec_grammar.proofs.WordsLaws.{length-attribute, length-unicode_key}
 use Rattle.iloc_spec_grammar.proofs.ValuesLaws.{all_weaker}
 use Rattle.iloc_spec_grammar.proofs.ReadBack.{all_append}
-use Rattle.iloc_spec_grammar.proofs.Readings.{IsLong, long_attribute, long_between, keywords_pass, fields_read}
+use Rattle.iloc_spec_grammar.proofs.Readings.{IsLong, long_attribute, long_between, keywords_pass}
+use Rattle.iloc_spec_grammar.proofs.Readings.{fields_read}
 use Rattle.iloc_spec_grammar.proofs.ReadingLaws.{front-from_block, from_block_starts, all_while}
 use Rattle.iloc_spec_grammar.specs.Computing.{is_other, is_private}
 use Rattle.iloc_spec_grammar.proofs.RuleTests.{tests_other, tests_not}
 use Rattle.iloc_spec_grammar.proofs.RuleTests as rules
 use Rattle.iloc_spec_parts.specs.Readers.{IsReader, AgreesWithBlocks}
-use Rattle.iloc_spec_parts.specs.Fronts.{attributes_front, after_attributes, is_keyword_piece, keywords_front, after_keywords, is_bad_key, KeywordsRead, KeywordsFault, bad_key, UnicodeRead, UnicodeFault, in_keywords, both_absent, has_other_length, other_front, OtherRead, OtherFault, no_word, PrivateRead, PrivateFault, not_private, keywords_result, attributes_and, unicode_result, other_result, private_result}
-use Rattle.iloc_spec_parts.proofs.FieldLaws.{passing_all, passing_stops, past_stops, all_from_pieces, passing_from_all, front_of_fields, fields_words, fields_stop, pieces_pass}
+use Rattle.iloc_spec_parts.specs.Fronts.{attributes_front, after_attributes, is_keyword_piece, keywords_front}
+use Rattle.iloc_spec_parts.specs.Fronts.{after_keywords, is_bad_key, KeywordsRead, KeywordsFault, bad_key}
+use Rattle.iloc_spec_parts.specs.Fronts.{UnicodeRead, UnicodeFault, in_keywords, both_absent}
+use Rattle.iloc_spec_parts.specs.Fronts.{has_other_length, other_front, OtherRead, OtherFault, no_word}
+use Rattle.iloc_spec_parts.specs.Fronts.{PrivateRead, PrivateFault, not_private, keywords_result}
+use Rattle.iloc_spec_parts.specs.Fronts.{attributes_and, unicode_result, other_result, private_result}
+use Rattle.iloc_spec_parts.proofs.FieldLaws.{passing_all, passing_stops, past_stops, all_from_pieces}
+use Rattle.iloc_spec_parts.proofs.FieldLaws.{passing_from_all, front_of_fields, fields_words, fields_stop}
+use Rattle.iloc_spec_parts.proofs.FieldLaws.{pieces_pass}
 use Rattle.iloc_spec_parts.proofs.ReaderLaws.{reader_of, agreeing, until_block, Answer, Answers}
 use Rattle.std.proofs.Math.Bool.{or-true, and-false}
 
 -- keywords
 
-one_keywords : (ps : List (List ℕ)) (v w : Fields) (rest more : List (List ℕ)) → KeywordsRead ps v rest → KeywordsRead ps w more → (v ≡ w) × (rest ≡ more)
+one_keywords : (ps : List (List ℕ)) (v w : Fields) (rest more : List (List ℕ)) → KeywordsRead ps v rest →
+    KeywordsRead ps w more → (v ≡ w) × (rest ≡ more)
 one_keywords ps v w rest more a b =
-    let same : a.written ≡ b.written = sym (fields_read is_two a.written (keywords_pass a.written a.keywords)) ∙ ap (fields_from is_two) (sym a.spelled ∙ b.spelled) ∙ fields_read is_two b.written (keywords_pass b.written b.keywords) in
+    let same : a.written ≡ b.written = sym (fields_read is_two a.written (keywords_pass a.written a.keywords))
+    ∙ ap (fields_from is_two) (sym a.spelled ∙ b.spelled)
+    ∙ fields_read is_two b.written (keywords_pass b.written b.keywords) in
     (a.means ∙ ap normal_fields same ∙ sym b.means, a.left ∙ sym b.left)
 
-good_pieces : (ps : List (List ℕ)) → AllByRecursion (λ p. is_keyword_piece p ≡ true) ps → list_any is_bad_key ps ≡ false → AllByRecursion (λ p. (is_two p ≡ true → IsWord UnicodeKey p) × (is_two p ≡ false → IsWord Attribute p)) ps
+good_pieces : (ps : List (List ℕ)) → AllByRecursion (λ p. is_keyword_piece p ≡ true) ps →
+    list_any is_bad_key ps ≡ false →
+    AllByRecursion (λ p. (is_two p ≡ true → IsWord UnicodeKey p) × (is_two p ≡ false → IsWord Attribute p)) ps
 good_pieces [] h n = tt
-good_pieces (p ∷ ps) h n = let parts = or_parts (is_bad_key p) (list_any is_bad_key ps) n in ((λ e. not-false _ (rw e at parts.0), λ e. rw e at h.0), good_pieces ps h.1 parts.1)
+good_pieces (p ∷ ps) h n = let parts = or_parts (is_bad_key p) (list_any is_bad_key ps) n in
+    ((λ e. not-false _ (rw e at parts.0), λ e. rw e at h.0), good_pieces ps h.1 parts.1)
 
 pub two_bytes_of : (p : List ℕ) → IsWord UnicodeKey p → is_two p ≡ true
 two_bytes_of p k = ap (λ n. n == 2) (length-unicode_key p k)
@@ -46,40 +65,52 @@ good_key p h = ap (λ b. is_two p && not b) h ∙ and-false (is_two p)
 pub good_value : (p : List ℕ) → IsWord Attribute p → is_bad_key p ≡ false
 good_value p h = ap (λ b. b && not (is_word UnicodeKey p)) (not_two_bytes p h)
 
-keywords_no_fault : (fs : Fields) → AllByRecursion IsKeyword fs → list_any is_bad_key (fields_pieces fs) ≡ false
+keywords_no_fault : (fs : Fields) → AllByRecursion IsKeyword fs →
+    list_any is_bad_key (fields_pieces fs) ≡ false
 keywords_no_fault [] h = refl
-keywords_no_fault (f ∷ fs) h = none_bad (f.0 ∷ f.1) (fields_pieces fs) (good_key f.0 h.0.0, all_weaker (IsWord Attribute) (λ p. is_bad_key p ≡ false) good_value f.1 h.0.1) (keywords_no_fault fs h.1)
+keywords_no_fault (f ∷ fs) h = none_bad (f.0 ∷ f.1) (fields_pieces fs)
+    (good_key f.0 h.0.0, all_weaker (IsWord Attribute) (λ p. is_bad_key p ≡ false) good_value f.1 h.0.1)
+    (keywords_no_fault fs h.1)
   where
-    none_bad : (xs ys : List (List ℕ)) → AllByRecursion (λ p. is_bad_key p ≡ false) xs → list_any is_bad_key ys ≡ false → list_any is_bad_key (xs ++ ys) ≡ false
+    none_bad : (xs ys : List (List ℕ)) → AllByRecursion (λ p. is_bad_key p ≡ false) xs →
+        list_any is_bad_key ys ≡ false → list_any is_bad_key (xs ++ ys) ≡ false
     none_bad [] ys h n = n
     none_bad (x ∷ xs) ys h n = ap₂ ◌||◌ h.0 (none_bad xs ys h.1 n)
 
-pub keywords_read_of : (ps : List (List ℕ)) → list_any is_bad_key (keywords_front ps) ≡ false → KeywordsRead ps (normal_fields (fields_from is_two (keywords_front ps))) (after_keywords ps)
+pub keywords_read_of : (ps : List (List ℕ)) → list_any is_bad_key (keywords_front ps) ≡ false →
+    KeywordsRead ps (normal_fields (fields_from is_two (keywords_front ps))) (after_keywords ps)
 keywords_read_of ps e = record {
   written = fields_from is_two (keywords_front ps);
-  keywords = (fields_words is_two (IsWord UnicodeKey) (IsWord Attribute) (keywords_front ps) (good_pieces _ (passing_from_all is_two is_keyword_piece ps) e)).1;
+  keywords = (fields_words is_two (IsWord UnicodeKey) (IsWord Attribute) (keywords_front ps)
+      (good_pieces _ (passing_from_all is_two is_keyword_piece ps) e)).1;
   spelled = front_of_fields is_two is_keyword_piece ps;
   means = refl;
   left = refl;
 }
 
 pub keywords_answer : Answers KeywordsRead KeywordsFault keywords_result
-keywords_answer ps = cond_both (list_any is_bad_key (keywords_front ps)) _ _ (Answer KeywordsRead KeywordsFault ps) (λ b. bad_key b) (λ g. keywords_read_of ps g)
+keywords_answer ps = cond_both (list_any is_bad_key (keywords_front ps)) _ _
+    (Answer KeywordsRead KeywordsFault ps) (λ b. bad_key b) (λ g. keywords_read_of ps g)
 
-keywords_apart : (ps : List (List ℕ)) (m : Fields) (rest : List (List ℕ)) (f : Fault) → KeywordsRead ps m rest → KeywordsFault ps f → ⊥
-keywords_apart ps m rest f h (bad_key b) = true≢false (sym b ∙ ap (list_any is_bad_key) h.spelled ∙ keywords_no_fault h.written h.keywords)
+keywords_apart : (ps : List (List ℕ)) (m : Fields) (rest : List (List ℕ)) (f : Fault) →
+    KeywordsRead ps m rest → KeywordsFault ps f → ⊥
+keywords_apart ps m rest f h (bad_key b) =
+    true≢false (sym b ∙ ap (list_any is_bad_key) h.spelled ∙ keywords_no_fault h.written h.keywords)
 
 keywords_fault : {ps : List (List ℕ)} {f : Fault} → KeywordsFault ps f → f ≡ InvalidExtension
 keywords_fault (bad_key b) = refl
 
 pub keywords_reader : IsReader KeywordsRead KeywordsFault
-keywords_reader = reader_of KeywordsRead KeywordsFault keywords_result keywords_answer one_keywords keywords_apart (λ ps f g x y. keywords_fault x ∙ sym (keywords_fault y))
+keywords_reader = reader_of KeywordsRead KeywordsFault keywords_result keywords_answer one_keywords
+    keywords_apart (λ ps f g x y. keywords_fault x ∙ sym (keywords_fault y))
 
 -- all that comes after `u`
 
-one_unicode : (ps : List (List ℕ)) (v w : Unicode) (rest more : List (List ℕ)) → UnicodeRead ps v rest → UnicodeRead ps w more → (v ≡ w) × (rest ≡ more)
+one_unicode : (ps : List (List ℕ)) (v w : Unicode) (rest more : List (List ℕ)) → UnicodeRead ps v rest →
+    UnicodeRead ps w more → (v ≡ w) × (rest ≡ more)
 one_unicode ps v w rest more a b =
-    let k = one_keywords (after_attributes ps) v.keywords w.keywords rest more a.keywords_are b.keywords_are in
+    let k =
+    one_keywords (after_attributes ps) v.keywords w.keywords rest more a.keywords_are b.keywords_are in
     (λ i. record { attributes = (a.attributes_are ∙ sym b.attributes_are) i; keywords = k.0 i }, k.1)
 
 none_of : (xs ys : List (List ℕ)) → nat_lt 0 (length xs + length ys) ≡ false → (xs ≡ []) × (ys ≡ [])
@@ -89,24 +120,35 @@ none_of xs ys h =
 
 pub unicode_answer : Answers UnicodeRead UnicodeFault unicode_result
 unfolding unicode_result
-unicode_answer ps = at_keywords (keywords_result (after_attributes ps)) (keywords_answer (after_attributes ps))
+unicode_answer ps =
+    at_keywords (keywords_result (after_attributes ps)) (keywords_answer (after_attributes ps))
   where
-    at_keywords : (o : Result (Fields × List (List ℕ)) Fault) → Answer KeywordsRead KeywordsFault (after_attributes ps) o → Answer UnicodeRead UnicodeFault ps (attributes_and ps o)
+    at_keywords : (o : Result (Fields × List (List ℕ)) Fault) →
+        Answer KeywordsRead KeywordsFault (after_attributes ps) o →
+        Answer UnicodeRead UnicodeFault ps (attributes_and ps o)
     at_keywords (Err f) h = in_keywords h
-    at_keywords (Ok r) h = cond_both (nat_lt 0 (length (attributes_front ps) + length (keywords_front (after_attributes ps)))) _ _ (Answer UnicodeRead UnicodeFault ps)
+    at_keywords (Ok r) h =
+        cond_both (nat_lt 0 (length (attributes_front ps) + length (keywords_front (after_attributes ps)))) _
+        _ (Answer UnicodeRead UnicodeFault ps)
         (λ n. record { attributes_are = refl; keywords_are = h; nonempty = ltb-true 0 _ n })
-        (λ n. let none = none_of (attributes_front ps) (keywords_front (after_attributes ps)) n in both_absent none.0 none.1)
+        (λ n. let none = none_of (attributes_front ps) (keywords_front (after_attributes ps)) n in
+        both_absent none.0 none.1)
 
-unicode_apart : (ps : List (List ℕ)) (u : Unicode) (rest : List (List ℕ)) (f : Fault) → UnicodeRead ps u rest → UnicodeFault ps f → ⊥
-unicode_apart ps u rest f h (in_keywords k) = keywords_apart (after_attributes ps) u.keywords rest f h.keywords_are k
-unicode_apart ps u rest f h (both_absent a k) = let none : 0 < 0 = subst (λ (n : ℕ). 0 < n) ((λ i. length (a i) + length (k i))) h.nonempty in absurd (omega arith)
+unicode_apart : (ps : List (List ℕ)) (u : Unicode) (rest : List (List ℕ)) (f : Fault) →
+    UnicodeRead ps u rest → UnicodeFault ps f → ⊥
+unicode_apart ps u rest f h (in_keywords k) =
+    keywords_apart (after_attributes ps) u.keywords rest f h.keywords_are k
+unicode_apart ps u rest f h (both_absent a k) =
+    let none : 0 < 0 = subst (λ (n : ℕ). 0 < n) ((λ i. length (a i) + length (k i))) h.nonempty in
+    absurd (omega arith)
 
 unicode_fault : {ps : List (List ℕ)} {f : Fault} → UnicodeFault ps f → f ≡ InvalidExtension
 unicode_fault (in_keywords h) = keywords_fault h
 unicode_fault (both_absent a k) = refl
 
 pub unicode_reader : IsReader UnicodeRead UnicodeFault
-unicode_reader = reader_of UnicodeRead UnicodeFault unicode_result unicode_answer one_unicode unicode_apart (λ ps f g x y. unicode_fault x ∙ sym (unicode_fault y))
+unicode_reader = reader_of UnicodeRead UnicodeFault unicode_result unicode_answer one_unicode unicode_apart
+    (λ ps f g x y. unicode_fault x ∙ sym (unicode_fault y))
 
 -- and its block
 
@@ -121,17 +163,29 @@ some_pieces : (n : ℕ) (fs : Fields) → (0 < n + length (fields_pieces fs)) �
 some_pieces n [] = (λ h. h, λ h. h)
 some_pieces n (f ∷ fs) = (λ h. omega arith, λ h. omega arith)
 
-unicode_whole : (ps : List (List ℕ)) (u : Unicode) (rest : List (List ℕ)) → UnicodeRead ps u rest → starts_block rest ≡ true → UnicodeMeans (front ps) u × (rest ≡ from_block ps)
+unicode_whole : (ps : List (List ℕ)) (u : Unicode) (rest : List (List ℕ)) → UnicodeRead ps u rest →
+    starts_block rest ≡ true → UnicodeMeans (front ps) u × (rest ≡ from_block ps)
 unicode_whole ps u rest h s =
     let k = h.keywords_are in
     let a = attributes_front ps in
     let front_pieces = keywords_front (after_attributes ps) in
-    let all : ps ≡ (a ++ front_pieces) ++ rest = sym (append_assoc a front_pieces rest ∙ ap (λ l. a ++ (front_pieces ++ l)) k.left ∙ ap (λ l. a ++ l) (all_from_pieces is_two is_keyword_piece (after_attributes ps)) ∙ all_while (is_word Attribute) ps) in
-    let long = all_append IsLong a front_pieces (all_weaker (IsWord Attribute) IsLong long_attribute a (passing_all (is_word Attribute) ps)) (all_weaker (λ p. is_keyword_piece p ≡ true) IsLong long_keyword_piece front_pieces (passing_from_all is_two is_keyword_piece (after_attributes ps))) in
+    let all : ps ≡ (a ++ front_pieces) ++ rest =
+    sym (append_assoc a front_pieces rest ∙ ap (λ l. a ++ (front_pieces ++ l)) k.left
+    ∙ ap (λ l. a ++ l) (all_from_pieces is_two is_keyword_piece (after_attributes ps))
+    ∙ all_while (is_word Attribute) ps) in
+    let long = all_append IsLong a front_pieces
+    (all_weaker (IsWord Attribute) IsLong long_attribute a (passing_all (is_word Attribute) ps))
+    (all_weaker (λ p. is_keyword_piece p ≡ true) IsLong long_keyword_piece front_pieces
+    (passing_from_all is_two is_keyword_piece (after_attributes ps))) in
     let ends = until_block (a ++ front_pieces) rest long s in (
       record {
         written = record { attributes = a; keywords = k.written };
-        grammatical = record { attributes = passing_all (is_word Attribute) ps; keywords = k.keywords; nonempty = (some_pieces (length a) k.written).0 (subst (λ (l : List (List ℕ)). 0 < length a + length l) k.spelled h.nonempty) };
+        grammatical = record {
+          attributes = passing_all (is_word Attribute) ps;
+          keywords = k.keywords;
+          nonempty = (some_pieces (length a) k.written).0
+              (subst (λ (l : List (List ℕ)). 0 < length a + length l) k.spelled h.nonempty);
+        };
         spelled = ap front all ∙ ends.0 ∙ ap (λ l. a ++ l) k.spelled;
         means = λ i. record { attributes = h.attributes_are i; keywords = k.means i };
       },
@@ -158,8 +212,12 @@ block_ends (p ∷ ps) e =
 pub value_goes_on : (p : List ℕ) → IsWord Attribute p → is_keyword_piece p ≡ true
 value_goes_on p w = ap (λ b. is_two p || b) w ∙ or-true (is_two p)
 
-keyword_goes_on : (f : List ℕ × List (List ℕ)) → IsKeyword f → (is_keyword_piece f.0 ≡ true) × AllByRecursion (λ p. is_keyword_piece p ≡ true) f.1
-keyword_goes_on f r = (ap (λ b. b || is_word Attribute f.0) (two_bytes_of f.0 r.0), all_weaker (IsWord Attribute) (λ p. is_keyword_piece p ≡ true) value_goes_on f.1 r.1)
+keyword_goes_on : (f : List ℕ × List (List ℕ)) → IsKeyword f →
+    (is_keyword_piece f.0 ≡ true) × AllByRecursion (λ p. is_keyword_piece p ≡ true) f.1
+keyword_goes_on f r = (
+  ap (λ b. b || is_word Attribute f.0) (two_bytes_of f.0 r.0),
+  all_weaker (IsWord Attribute) (λ p. is_keyword_piece p ≡ true) value_goes_on f.1 r.1,
+)
 
 -- what is taken of spelled attributes and keywords
 pub record Taken (w : SpelledUnicode) (rest : List (List ℕ)) : Type 0 where
@@ -168,10 +226,15 @@ pub record Taken (w : SpelledUnicode) (rest : List (List ℕ)) : Type 0 where
   pub keywords : keywords_front (fields_pieces w.keywords ++ rest) ≡ fields_pieces w.keywords
   pub left : after_keywords (fields_pieces w.keywords ++ rest) ≡ rest
 
-pub unicode_taken : (w : SpelledUnicode) (rest : List (List ℕ)) → IsUnicode w → starts_block rest ≡ true → Taken w rest
+pub unicode_taken : (w : SpelledUnicode) (rest : List (List ℕ)) → IsUnicode w → starts_block rest ≡ true →
+    Taken w rest
 unicode_taken w rest g e = record {
-  attributes = ap attributes_front all ∙ passing_stops (is_word Attribute) w.attributes (fields_pieces w.keywords ++ rest) g.attributes (stops w.keywords g.keywords);
-  after = ap after_attributes all ∙ past_stops (is_word Attribute) w.attributes (fields_pieces w.keywords ++ rest) g.attributes (stops w.keywords g.keywords);
+  attributes = ap attributes_front all
+      ∙ passing_stops (is_word Attribute) w.attributes (fields_pieces w.keywords ++ rest) g.attributes
+      (stops w.keywords g.keywords);
+  after = ap after_attributes all
+      ∙ past_stops (is_word Attribute) w.attributes (fields_pieces w.keywords ++ rest) g.attributes
+      (stops w.keywords g.keywords);
   keywords = stop.0;
   left = stop.1;
 }
@@ -182,35 +245,56 @@ unicode_taken w rest g e = record {
     none : NoneGoOn rest
     none = block_ends rest e
 
-    stops : (fs : Fields) → AllByRecursion IsKeyword fs → EndsBefore (is_word Attribute) (fields_pieces fs ++ rest)
+    stops : (fs : Fields) → AllByRecursion IsKeyword fs →
+        EndsBefore (is_word Attribute) (fields_pieces fs ++ rest)
     stops [] k = none.attribute
     stops (f ∷ fs) k = not_attribute f.0 (let l = length-unicode_key f.0 k.0.0 in omega arith)
 
-    stop : (keywords_front (fields_pieces w.keywords ++ rest) ≡ fields_pieces w.keywords) × (after_keywords (fields_pieces w.keywords ++ rest) ≡ rest)
+    stop : (keywords_front (fields_pieces w.keywords ++ rest) ≡ fields_pieces w.keywords)
+        × (after_keywords (fields_pieces w.keywords ++ rest) ≡ rest)
     stop = fields_stop is_two is_keyword_piece w.keywords rest
-        (pieces_pass is_keyword_piece w.keywords (all_weaker IsKeyword (λ f. (is_keyword_piece f.0 ≡ true) × AllByRecursion (λ p. is_keyword_piece p ≡ true) f.1) keyword_goes_on w.keywords g.keywords))
+        (pieces_pass is_keyword_piece w.keywords (all_weaker IsKeyword
+        (λ f. (is_keyword_piece f.0 ≡ true) × AllByRecursion (λ p. is_keyword_piece p ≡ true) f.1)
+        keyword_goes_on w.keywords g.keywords))
         (all_weaker IsKeyword (λ f. is_two f.0 ≡ true) (λ f r. two_bytes_of f.0 r.0) w.keywords g.keywords)
         none.keyword_piece none.two_bytes refl
 
 -- the keywords are those that were spelled
-pub keywords_taken : (w : SpelledUnicode) (rest : List (List ℕ)) → IsUnicode w → starts_block rest ≡ true → fields_from is_two (keywords_front (after_attributes (unicode_pieces w ++ rest))) ≡ w.keywords
+pub keywords_taken : (w : SpelledUnicode) (rest : List (List ℕ)) → IsUnicode w → starts_block rest ≡ true →
+    fields_from is_two (keywords_front (after_attributes (unicode_pieces w ++ rest))) ≡ w.keywords
 keywords_taken w rest g e =
     let t = unicode_taken w rest g e in
-    ap (fields_from is_two) (ap keywords_front t.after ∙ t.keywords) ∙ fields_read is_two w.keywords (keywords_pass w.keywords g.keywords)
+    ap (fields_from is_two) (ap keywords_front t.after ∙ t.keywords)
+    ∙ fields_read is_two w.keywords (keywords_pass w.keywords g.keywords)
 
-unicode_spelled : (w : SpelledUnicode) (rest : List (List ℕ)) → IsUnicodeBlock w → starts_block rest ≡ true → UnicodeRead (unicode_pieces w ++ rest) (normal_unicode w) rest
+unicode_spelled : (w : SpelledUnicode) (rest : List (List ℕ)) → IsUnicodeBlock w → starts_block rest ≡ true →
+    UnicodeRead (unicode_pieces w ++ rest) (normal_unicode w) rest
 unicode_spelled w rest g e =
     let t = unicode_taken w rest (record { attributes = g.attributes; keywords = g.keywords }) e in
     record {
       attributes_are = ap (λ l. set_of (map lower l)) (sym t.attributes);
-      keywords_are = subst (λ (l : List (List ℕ)). KeywordsRead l (normal_unicode w).keywords rest) (sym t.after) (record { written = w.keywords; keywords = g.keywords; spelled = t.keywords; means = refl; left = sym t.left });
-      nonempty = subst (λ (n : ℕ). 0 < n) (sym ((λ i. length (t.attributes i) + length (keywords_front (t.after i))) ∙ ap (λ l. length w.attributes + length l) t.keywords)) ((some_pieces (length w.attributes) w.keywords).1 g.nonempty);
+      keywords_are = subst (λ (l : List (List ℕ)). KeywordsRead l (normal_unicode w).keywords rest)
+          (sym t.after) (record {
+            written = w.keywords;
+            keywords = g.keywords;
+            spelled = t.keywords;
+            means = refl;
+            left = sym t.left;
+          });
+      nonempty = subst (λ (n : ℕ). 0 < n)
+          (sym ((λ i. length (t.attributes i) + length (keywords_front (t.after i)))
+          ∙ ap (λ l. length w.attributes + length l) t.keywords))
+          ((some_pieces (length w.attributes) w.keywords).1 g.nonempty);
     }
 
-unicode_block : (ps : List (List ℕ)) (u : Unicode) → UnicodeMeans (front ps) u → UnicodeRead ps u (from_block ps)
+unicode_block : (ps : List (List ℕ)) (u : Unicode) → UnicodeMeans (front ps) u →
+    UnicodeRead ps u (from_block ps)
 unicode_block ps u h =
-    let pieces_are : unicode_pieces h.written ++ from_block ps ≡ ps = ap (λ l. l ++ from_block ps) (sym h.spelled) ∙ front-from_block ps in
-    subst (λ (v : Unicode). UnicodeRead ps v (from_block ps)) (sym h.means) (subst (λ (l : List (List ℕ)). UnicodeRead l (normal_unicode h.written) (from_block ps)) pieces_are (unicode_spelled h.written (from_block ps) h.grammatical (from_block_starts ps)))
+    let pieces_are : unicode_pieces h.written ++ from_block ps ≡ ps =
+    ap (λ l. l ++ from_block ps) (sym h.spelled) ∙ front-from_block ps in
+    subst (λ (v : Unicode). UnicodeRead ps v (from_block ps)) (sym h.means)
+    (subst (λ (l : List (List ℕ)). UnicodeRead l (normal_unicode h.written) (from_block ps)) pieces_are
+    (unicode_spelled h.written (from_block ps) h.grammatical (from_block_starts ps)))
 
 pub unicode_agrees : AgreesWithBlocks UnicodeRead UnicodeFault UnicodeMeans
 unicode_agrees = agreeing UnicodeRead UnicodeFault UnicodeMeans unicode_reader unicode_whole unicode_block
@@ -230,17 +314,27 @@ one_other_fault : (ps : List (List ℕ)) (f g : Fault) → OtherFault ps f → O
 one_other_fault ps f g (no_word n) (no_word m) = refl
 
 pub other_reader : IsReader OtherRead OtherFault
-other_reader = reader_of OtherRead OtherFault other_result other_answer (λ ps v w rest more a b. (a.means ∙ sym b.means, a.left ∙ sym b.left)) other_apart one_other_fault
+other_reader = reader_of OtherRead OtherFault other_result other_answer
+    (λ ps v w rest more a b. (a.means ∙ sym b.means, a.left ∙ sym b.left)) other_apart one_other_fault
 
-other_whole : (ps ws rest : List (List ℕ)) → OtherRead ps ws rest → starts_block rest ≡ true → OtherMeans (front ps) ws × (rest ≡ from_block ps)
+other_whole : (ps ws rest : List (List ℕ)) → OtherRead ps ws rest → starts_block rest ≡ true →
+    OtherMeans (front ps) ws × (rest ≡ from_block ps)
 other_whole ps ws rest h s =
-    let all : ps ≡ other_front ps ++ rest = sym (ap (λ l. other_front ps ++ l) h.left ∙ all_while has_other_length ps) in
-    let ends = until_block (other_front ps) rest (all_weaker (λ p. has_other_length p ≡ true) IsLong long_between (other_front ps) (passing_all has_other_length ps)) s in
+    let all : ps ≡ other_front ps ++ rest =
+    sym (ap (λ l. other_front ps ++ l) h.left ∙ all_while has_other_length ps) in
+    let ends = until_block (other_front ps) rest
+    (all_weaker (λ p. has_other_length p ≡ true) IsLong long_between (other_front ps)
+    (passing_all has_other_length ps)) s in
     let e : other_front ps ≡ front ps = sym (ap front all ∙ ends.0) in
     ((subst IsOther e h.follows, h.means ∙ ap kept e), sym (ap from_block all ∙ ends.1))
 
 other_block : (ps ws : List (List ℕ)) → OtherMeans (front ps) ws → OtherRead ps ws (from_block ps)
-other_block ps ws h = subst (λ (l : List (List ℕ)). OtherRead l ws (from_block ps)) (front-from_block ps) (record { follows = subst IsOther (sym front_is) h.0; means = h.1 ∙ ap kept (sym front_is); left = sym (past_stops has_other_length (front ps) (from_block ps) h.0.lengths ends) })
+other_block ps ws h =
+    subst (λ (l : List (List ℕ)). OtherRead l ws (from_block ps)) (front-from_block ps) (record {
+      follows = subst IsOther (sym front_is) h.0;
+      means = h.1 ∙ ap kept (sym front_is);
+      left = sym (past_stops has_other_length (front ps) (from_block ps) h.0.lengths ends);
+    })
   where
     stops : (rest : List (List ℕ)) → starts_block rest ≡ true → EndsBefore has_other_length rest
     stops [] e = tt
@@ -270,4 +364,5 @@ one_private_fault : (ps : List (List ℕ)) (f g : Fault) → PrivateFault ps f �
 one_private_fault ps f g (not_private n) (not_private m) = refl
 
 pub private_reader : IsReader PrivateRead PrivateFault
-private_reader = reader_of PrivateRead PrivateFault private_result private_answer (λ ps v w rest more a b. (a.means ∙ sym b.means, a.left ∙ sym b.left)) private_apart one_private_fault
+private_reader = reader_of PrivateRead PrivateFault private_result private_answer
+    (λ ps v w rest more a b. (a.means ∙ sym b.means, a.left ∙ sym b.left)) private_apart one_private_fault

@@ -1,5 +1,7 @@
--- Values that tie feed a hasher alike, and what is fed tells them apart: each part tells its value, and where it ends.
-use Rattle.std.proofs.Common.{◌≡◌, ℕ, ◌^◌, ◌<◌, ◌≤◌, List, [], ◌∷◌, ◌++◌, length, refl, sym, ap, ◌∙◌, subst, Option, Some, None, append_assoc, length-append, arith}
+-- Values that tie feed a hasher alike, and what is fed tells them apart: each part tells its value, and where
+-- it ends.
+use Rattle.std.proofs.Common.{◌≡◌, ℕ, ◌^◌, ◌<◌, ◌≤◌, List, [], ◌∷◌, ◌++◌, length, refl, sym, ap, ◌∙◌, subst}
+use Rattle.std.proofs.Common.{Option, Some, None, append_assoc, length-append, arith}
 use Rattle.std.proofs.lemmas.Nat.{from_le_bytes-to_le_bytes_8}
 use mir.Syntax.{w64}
 use Rattle.std.specs.Int.{from_le_bytes}
@@ -9,12 +11,14 @@ use Rattle.std.specs.declared.cmp.Ordering.{Ordering}
 use Rattle.iloc_spec_grammar.specs.Syntax.{Identifier, Fields, Unicode, Transform}
 use Rattle.iloc_spec_grammar.specs.Meaning.{Extensions}
 use Rattle.iloc_spec_parts.specs.Orders.{IsExactOrder}
-use Rattle.iloc_spec_parts.specs.Hashes.{HashesByOrder, word_fed, words_fed, identifier_fed, fields_fed, unicode_fed, transform_fed, other_fed, extensions_fed, locale_fed}
+use Rattle.iloc_spec_parts.specs.Hashes.{HashesByOrder, word_fed, words_fed, identifier_fed, fields_fed}
+use Rattle.iloc_spec_parts.specs.Hashes.{unicode_fed, transform_fed, other_fed, extensions_fed, locale_fed}
 
 -- A value that makes fewer writes than 2 ^ 64 is told by them, whatever follows, and so is what follows
 pub record Tells {X : Type 0} (fed : X → HashWrites) : Type 0 where
   pub some : (x : X) → 0 < length (fed x)
-  pub told : (x y : X) (us vs : HashWrites) → length (fed x) < 2 ^ 64 → length (fed y) < 2 ^ 64 → fed x ++ us ≡ fed y ++ vs → (x ≡ y) × (us ≡ vs)
+  pub told : (x y : X) (us vs : HashWrites) → length (fed x) < 2 ^ 64 → length (fed y) < 2 ^ 64 →
+      fed x ++ us ≡ fed y ++ vs → (x ≡ y) × (us ≡ vs)
 
 pub word_tells : Tells word_fed
 word_tells = record {
@@ -37,23 +41,27 @@ module _ {X Y : Type 0} {f : X → HashWrites} {g : Y → HashWrites} (a : Tells
     told = λ p q us vs h k e.
         let l = length-append (f p.0) (g p.1) in
         let m = length-append (f q.0) (g q.1) in
-        let first = a.told p.0 q.0 (g p.1 ++ us) (g q.1 ++ vs) (omega arith) (omega arith) (sym (append_assoc (f p.0) (g p.1) us) ∙ e ∙ append_assoc (f q.0) (g q.1) vs) in
+        let first = a.told p.0 q.0 (g p.1 ++ us) (g q.1 ++ vs) (omega arith) (omega arith)
+        (sym (append_assoc (f p.0) (g p.1) us) ∙ e ∙ append_assoc (f q.0) (g q.1) vs) in
         let second = b.told p.1 q.1 us vs (omega arith) (omega arith) first.1 in
         ((λ i. (first.0 i, second.0 i)), second.1);
   }
 
 -- a value that is kept as another
-pub through : {X Y : Type 0} (to : X → Y) (from : Y → X) → ((x : X) → from (to x) ≡ x) → {f : Y → HashWrites} → Tells f → Tells (λ x. f (to x))
+pub through : {X Y : Type 0} (to : X → Y) (from : Y → X) → ((x : X) → from (to x) ≡ x) →
+    {f : Y → HashWrites} → Tells f → Tells (λ x. f (to x))
 through to from back a = record {
   some = λ x. a.some (to x);
-  told = λ x y us vs h k e. let t = a.told (to x) (to y) us vs h k e in (sym (back x) ∙ ap from t.0 ∙ back y, t.1);
+  told = λ x y us vs h k e.
+      let t = a.told (to x) (to y) us vs h k e in (sym (back x) ∙ ap from t.0 ∙ back y, t.1);
 }
 
 -- an optional part
 
 length_told : (m n : ℕ) → m < 2 ^ 64 → n < 2 ^ 64 → le_bytes 8 m ≡ le_bytes 8 n → m ≡ n
 unfolding le_bytes
-length_told m n h k e = sym (from_le_bytes-to_le_bytes_8 m h) ∙ ap (from_le_bytes w64) e ∙ from_le_bytes-to_le_bytes_8 n k
+length_told m n h k e =
+    sym (from_le_bytes-to_le_bytes_8 m h) ∙ ap (from_le_bytes w64) e ∙ from_le_bytes-to_le_bytes_8 n k
 
 module _ {X : Type 0} {f : X → HashWrites} (a : Tells f) where
   pub option_tells : Tells (option f)
@@ -64,26 +72,32 @@ module _ {X : Type 0} {f : X → HashWrites} (a : Tells f) where
       some_writes None = omega arith
       some_writes (Some x) = omega arith
 
-      option_told : (o p : Option X) (us vs : HashWrites) → length (option f o) < 2 ^ 64 → length (option f p) < 2 ^ 64 → option f o ++ us ≡ option f p ++ vs → (o ≡ p) × (us ≡ vs)
+      option_told : (o p : Option X) (us vs : HashWrites) → length (option f o) < 2 ^ 64 →
+          length (option f p) < 2 ^ 64 → option f o ++ us ≡ option f p ++ vs → (o ≡ p) × (us ≡ vs)
       option_told None None us vs h k e = (refl, cc)
       option_told None (Some y) us vs h k e = absurd (cc)
       option_told (Some x) None us vs h k e = absurd (cc)
-      option_told (Some x) (Some y) us vs h k e = let t = a.told x y us vs (omega arith) (omega arith) (cc) in (ap Some t.0, t.1)
+      option_told (Some x) (Some y) us vs h k e =
+          let t = a.told x y us vs (omega arith) (omega arith) (cc) in (ap Some t.0, t.1)
 
   -- a list
 
   each_long : (xs : List X) → length xs ≤ length (flat_map f xs)
   each_long [] = omega arith
-  each_long (x ∷ xs) = let s = a.some x in let l = length-append (f x) (flat_map f xs) in let m = each_long xs in omega arith
+  each_long (x ∷ xs) =
+      let s = a.some x in let l = length-append (f x) (flat_map f xs) in let m = each_long xs in omega arith
 
-  each_told : (xs ys : List X) (us vs : HashWrites) → length xs ≡ length ys → length (flat_map f xs) < 2 ^ 64 → length (flat_map f ys) < 2 ^ 64 → flat_map f xs ++ us ≡ flat_map f ys ++ vs → (xs ≡ ys) × (us ≡ vs)
+  each_told : (xs ys : List X) (us vs : HashWrites) → length xs ≡ length ys →
+      length (flat_map f xs) < 2 ^ 64 → length (flat_map f ys) < 2 ^ 64 →
+      flat_map f xs ++ us ≡ flat_map f ys ++ vs → (xs ≡ ys) × (us ≡ vs)
   each_told [] [] us vs l h k e = (refl, e)
   each_told [] (y ∷ ys) us vs l h k e = absurd (omega arith)
   each_told (x ∷ xs) [] us vs l h k e = absurd (omega arith)
   each_told (x ∷ xs) (y ∷ ys) us vs l h k e =
       let m = length-append (f x) (flat_map f xs) in
       let n = length-append (f y) (flat_map f ys) in
-      let first = a.told x y (flat_map f xs ++ us) (flat_map f ys ++ vs) (omega arith) (omega arith) (sym (append_assoc (f x) (flat_map f xs) us) ∙ e ∙ append_assoc (f y) (flat_map f ys) vs) in
+      let first = a.told x y (flat_map f xs ++ us) (flat_map f ys ++ vs) (omega arith) (omega arith)
+      (sym (append_assoc (f x) (flat_map f xs) us) ∙ e ∙ append_assoc (f y) (flat_map f ys) vs) in
       let rest = each_told xs ys us vs (omega arith) (omega arith) (omega arith) first.1 in
       ((λ i. first.0 i ∷ rest.0 i), rest.1)
 
@@ -93,7 +107,8 @@ module _ {X : Type 0} {f : X → HashWrites} (a : Tells f) where
     told = λ xs ys us vs h k e.
         let m = each_long xs in
         let n = each_long ys in
-        let l : length xs ≡ length ys = length_told (length xs) (length ys) (omega arith) (omega arith) (cc) in
+        let l : length xs ≡ length ys =
+        length_told (length xs) (length ys) (omega arith) (omega arith) (cc) in
         each_told xs ys us vs l (omega arith) (omega arith) (cc);
   }
 
@@ -107,16 +122,20 @@ identifier_tells = through {Y = ((List ℕ × Option (List ℕ)) × Option (List
     (λ i. (((i.language, i.script), i.region), i.variants))
     (λ p. record { language = p.0.0.0; script = p.0.0.1; region = p.0.1; variants = p.1 })
     (λ i. refl)
-    (both_tell (both_tell (both_tell word_tells (option_tells word_tells)) (option_tells word_tells)) words_tell)
+    (both_tell (both_tell (both_tell word_tells (option_tells word_tells)) (option_tells word_tells))
+    words_tell)
 
 pub fields_tell : Tells fields_fed
 fields_tell = list_tells (both_tell word_tells words_tell)
 
 pub unicode_tells : Tells unicode_fed
-unicode_tells = through {Y = Fields × List (List ℕ)} (λ u. (u.keywords, u.attributes)) (λ p. record { attributes = p.1; keywords = p.0 }) (λ u. refl) (both_tell fields_tell words_tell)
+unicode_tells = through {Y = Fields × List (List ℕ)} (λ u. (u.keywords, u.attributes))
+    (λ p. record { attributes = p.1; keywords = p.0 }) (λ u. refl) (both_tell fields_tell words_tell)
 
 pub transform_tells : Tells transform_fed
-transform_tells = through {Y = Option Identifier × Fields} (λ m. (m.id, m.fields)) (λ p. record { id = p.0; fields = p.1 }) (λ m. refl) (both_tell (option_tells identifier_tells) fields_tell)
+transform_tells =
+    through {Y = Option Identifier × Fields} (λ m. (m.id, m.fields)) (λ p. record { id = p.0; fields = p.1 })
+    (λ m. refl) (both_tell (option_tells identifier_tells) fields_tell)
 
 pub other_tells : Tells other_fed
 other_tells = both_tell byte_tells words_tell
@@ -136,10 +155,22 @@ locale_tells = through {Y = Identifier × Extensions} (λ M. (M.id, M.extensions
 
 -- by an order that ties equal values alone
 
-pub hashes_by : {X : Type 0} {R : X → X → Ordering} {fed : X → HashWrites} → IsExactOrder R → Tells fed → HashesByOrder R fed
+pub hashes_by : {X : Type 0} {R : X → X → Ordering} {fed : X → HashWrites} → IsExactOrder R → Tells fed →
+    HashesByOrder R fed
 hashes_by {X} {R} {fed} o a = record {
   alike = λ x y e. ap fed ((o.exact x y).0 e);
-  told_apart = λ x y h e. (o.exact x y).1 (a.told x y [] [] h (subst (λ ws. length ws < 2 ^ 64) e h) (ap (λ ws. ws ++ []) e)).0;
+  told_apart = λ x y h e.
+      (o.exact x y).1 (a.told x y [] [] h (subst (λ ws. length ws < 2 ^ 64) e h) (ap (λ ws. ws ++ []) e)).0;
 }
 
-pub ruleset told_parts = (word_tells, words_tell, identifier_tells, fields_tell, unicode_tells, transform_tells, other_tells, extensions_tell, locale_tells)
+pub ruleset told_parts = (
+  word_tells,
+  words_tell,
+  identifier_tells,
+  fields_tell,
+  unicode_tells,
+  transform_tells,
+  other_tells,
+  extensions_tell,
+  locale_tells,
+)

@@ -1,20 +1,30 @@
 -- Each block of an inline text has few words.
-use Rattle.std.proofs.Common.{◌≡◌, ℕ, ◌≤◌, Bool, true, false, cond, ◌==◌, List, [], ◌∷◌, ◌++◌, length, map, filter, refl, sym, ap, ◌∙◌, subst, arith, Option, Some, None, IfSome, option_map, true≢false, append-nil}
+use Rattle.std.proofs.Common.{◌≡◌, ℕ, ◌≤◌, Bool, true, false, cond, ◌==◌, List, [], ◌∷◌, ◌++◌, length, map}
+use Rattle.std.proofs.Common.{filter, refl, sym, ap, ◌∙◌, subst, arith, Option, Some, None, IfSome}
+use Rattle.std.proofs.Common.{option_map, true≢false, append-nil}
 use Rattle.std.specs.List.{AllByRecursion, list_any}
 use Rattle.std.specs.Ordering.{nat_cmp, eq_by_cmp}
 use Rattle.std.proofs.lemmas.Bool.{or_parts, eq-eqb, false_from_ne_true}
 use Rattle.std.proofs.lemmas.Bool.Decides.{nat_tests}
 use Rattle.std.proofs.lemmas.List.{length-map}
-use Rattle.iloc_spec_grammar.specs.Syntax.{pieces, AreLengths, PrivateSubtag, is_word, lower, word_cmp, Spelled, SpelledIdentifier, SpelledUnicode, SpelledTransform, Identifier, Transform, Fields, identifier_pieces, fields_pieces, unicode_pieces, transform_pieces, IsIdentifier, IsUnicode, AllDifferent, is_other_singleton, lower_singleton, head, tail_blocks}
-use Rattle.iloc_spec_grammar.specs.Meaning.{set_of, normal_identifier, normal_fields, normal_values, normal_unicode, normal_transform, after}
+use Rattle.iloc_spec_grammar.specs.Syntax.{pieces, AreLengths, PrivateSubtag, is_word, lower, word_cmp}
+use Rattle.iloc_spec_grammar.specs.Syntax.{Spelled, SpelledIdentifier, SpelledUnicode, SpelledTransform}
+use Rattle.iloc_spec_grammar.specs.Syntax.{Identifier, Transform, Fields, identifier_pieces, fields_pieces}
+use Rattle.iloc_spec_grammar.specs.Syntax.{unicode_pieces, transform_pieces, IsIdentifier, IsUnicode}
+use Rattle.iloc_spec_grammar.specs.Syntax.{AllDifferent, is_other_singleton, lower_singleton, head}
+use Rattle.iloc_spec_grammar.specs.Syntax.{tail_blocks}
+use Rattle.iloc_spec_grammar.specs.Meaning.{set_of, normal_identifier, normal_fields, normal_values}
+use Rattle.iloc_spec_grammar.specs.Meaning.{normal_unicode, normal_transform, after}
 use Rattle.iloc_spec_grammar.specs.Reading.{passing, IdentifierFront}
 use Rattle.iloc_spec_grammar.proofs.IdentifierLaws.{one_identifier}
 use Rattle.iloc_spec_grammar.proofs.SetLaws.{length-set_of-different}
-use Rattle.iloc_spec_parts.specs.Inline.{IsInline, IsShortUnicode, IsShortTransform, IsShortBlock, IsInlineByBlocks, ReachesLongBlock}
+use Rattle.iloc_spec_parts.specs.Inline.{IsInline, IsShortUnicode, IsShortTransform, IsShortBlock}
+use Rattle.iloc_spec_parts.specs.Inline.{IsInlineByBlocks, ReachesLongBlock}
 use Rattle.iloc_spec_parts.specs.Fronts.{FrontRead, absent, present, fields_front, before_bad_key}
 use Rattle.iloc_spec_parts.proofs.FrontLaws.{unicode_taken, keywords_taken}
 use Rattle.iloc_spec_parts.proofs.KeptLaws.{kept_all, passing_short, some_fields}
-use Rattle.iloc_spec_parts.proofs.ShortFronts.{IsShortByFronts, short_by_fronts, short_unicode_front, none_first}
+use Rattle.iloc_spec_parts.proofs.ShortFronts.{IsShortByFronts, short_by_fronts, short_unicode_front}
+use Rattle.iloc_spec_parts.proofs.ShortFronts.{none_first}
 use Rattle.iloc_spec_parts.proofs.SmallShapes.{no_normal_fields}
 use Rattle.iloc_spec_parts.proofs.TransformLaws.{one_front, one_longest, front_language, transform_spelled}
 
@@ -23,27 +33,38 @@ use Rattle.iloc_spec_parts.proofs.TransformLaws.{one_front, one_longest, front_l
 same_test : (q c : ℕ) → (c == q) ≡ eq_by_cmp nat_cmp q c
 same_test q c = grind (arith, nat_tests)
 
-pub none_after : (q : ℕ) (bs : List (ℕ × List (List ℕ))) → list_any (eq_by_cmp nat_cmp q) (map (λ b. lower_singleton b) bs) ≡ false → after q bs ≡ []
+pub none_after : (q : ℕ) (bs : List (ℕ × List (List ℕ))) →
+    list_any (eq_by_cmp nat_cmp q) (map (λ b. lower_singleton b) bs) ≡ false → after q bs ≡ []
 none_after q [] d = refl
-none_after q (b ∷ bs) d = let parts = or_parts _ _ d in rw (same_test q (lower_singleton b) ∙ parts.0) (none_after q bs parts.1)
+none_after q (b ∷ bs) d =
+    let parts = or_parts _ _ d in rw (same_test q (lower_singleton b) ∙ parts.0) (none_after q bs parts.1)
 
-later_after : (d : ℕ × List (List ℕ)) (all bs : List (ℕ × List (List ℕ))) → list_any (eq_by_cmp nat_cmp (lower_singleton d)) (map (λ b. lower_singleton b) bs) ≡ false → AllByRecursion (λ b. after (lower_singleton b) all ≡ b.1) bs → AllByRecursion (λ b. after (lower_singleton b) (d ∷ all) ≡ b.1) bs
+later_after : (d : ℕ × List (List ℕ)) (all bs : List (ℕ × List (List ℕ))) →
+    list_any (eq_by_cmp nat_cmp (lower_singleton d)) (map (λ b. lower_singleton b) bs) ≡ false →
+    AllByRecursion (λ b. after (lower_singleton b) all ≡ b.1) bs →
+    AllByRecursion (λ b. after (lower_singleton b) (d ∷ all) ≡ b.1) bs
 later_after d all [] n h = tt
-later_after d all (b ∷ bs) n h = let parts = or_parts _ _ n in (rw (differ (lower_singleton d) (lower_singleton b) parts.0) h.0, later_after d all bs parts.1 h.1)
+later_after d all (b ∷ bs) n h = let parts = or_parts _ _ n in
+    (rw (differ (lower_singleton d) (lower_singleton b) parts.0) h.0, later_after d all bs parts.1 h.1)
   where
     differ : (q c : ℕ) → eq_by_cmp nat_cmp q c ≡ false → (q == c) ≡ false
     differ q c h = grind (arith, nat_tests)
 
-pub each_after : (bs : List (ℕ × List (List ℕ))) → AllDifferent nat_cmp (map (λ b. lower_singleton b) bs) → AllByRecursion (λ b. after (lower_singleton b) bs ≡ b.1) bs
+pub each_after : (bs : List (ℕ × List (List ℕ))) → AllDifferent nat_cmp (map (λ b. lower_singleton b) bs) →
+    AllByRecursion (λ b. after (lower_singleton b) bs ≡ b.1) bs
 each_after [] d = tt
 each_after (b ∷ bs) d = (
-  ap (λ t. cond t b.1 [] ++ after (lower_singleton b) bs) (eq-eqb (lower_singleton b) (lower_singleton b) refl) ∙ ap (λ l. b.1 ++ l) (none_after (lower_singleton b) bs (false_from_ne_true _ d.0)) ∙ append-nil b.1,
+  ap (λ t. cond t b.1 [] ++ after (lower_singleton b) bs)
+      (eq-eqb (lower_singleton b) (lower_singleton b) refl)
+      ∙ ap (λ l. b.1 ++ l) (none_after (lower_singleton b) bs (false_from_ne_true _ d.0)) ∙ append-nil b.1,
   later_after b bs bs (false_from_ne_true _ d.0) (each_after bs d.1),
 )
 
 -- the parts
 
-short_unicode : (u : SpelledUnicode) → IsUnicode u → length (normal_unicode u).attributes ≤ 4 → length (normal_unicode u).keywords ≤ 1 → AllByRecursion (λ f. length (normal_values f.1) ≤ 4) u.keywords → IsShortUnicode (unicode_pieces u)
+short_unicode : (u : SpelledUnicode) → IsUnicode u → length (normal_unicode u).attributes ≤ 4 →
+    length (normal_unicode u).keywords ≤ 1 → AllByRecursion (λ f. length (normal_values f.1) ≤ 4) u.keywords →
+    IsShortUnicode (unicode_pieces u)
 short_unicode u g a k v =
     let taken = unicode_taken u [] g refl in
     let keys = ap before_bad_key (keywords_taken u [] g refl) ∙ kept_all u.keywords g.keywords in
@@ -53,52 +74,86 @@ short_unicode u g a k v =
       values = subst (AllByRecursion (λ f. length (normal_values f.1) ≤ 4)) (sym keys) v;
     })
 
-few_variants : (i : SpelledIdentifier) → AllDifferent word_cmp (map lower i.variants) → length (normal_identifier i).variants ≤ 4 → length i.variants ≤ 4
-few_variants i d h = subst (λ (n : ℕ). n ≤ 4) (length-set_of-different (map lower i.variants) d ∙ length-map i.variants lower) h
+few_variants : (i : SpelledIdentifier) → AllDifferent word_cmp (map lower i.variants) →
+    length (normal_identifier i).variants ≤ 4 → length i.variants ≤ 4
+few_variants i d h = subst (λ (n : ℕ). n ≤ 4)
+    (length-set_of-different (map lower i.variants) d ∙ length-map i.variants lower) h
 
-front_few : {T : ℕ → Bool} (ps : List (List ℕ)) {o : Option SpelledIdentifier} {middle : List (List ℕ)} → FrontRead T ps o middle → IfSome (option_map normal_identifier o) (λ i. length i.variants ≤ 4) → (i : SpelledIdentifier) (rest : List (List ℕ)) → IdentifierFront T ps i rest → length i.variants ≤ 4
-front_few ps (absent e) h i rest f = absurd (true≢false (sym (front_language ps i rest f.words f.spelled) ∙ e))
-front_few ps (present {i = j} {rest = more} g k) h i rest f = subst (λ (x : SpelledIdentifier). length x.variants ≤ 4) (sym (one_longest ps i j rest more f k).0) (few_variants j g.different h)
+front_few : {T : ℕ → Bool} (ps : List (List ℕ)) {o : Option SpelledIdentifier} {middle : List (List ℕ)} →
+    FrontRead T ps o middle → IfSome (option_map normal_identifier o) (λ i. length i.variants ≤ 4) →
+    (i : SpelledIdentifier) (rest : List (List ℕ)) → IdentifierFront T ps i rest → length i.variants ≤ 4
+front_few ps (absent e) h i rest f =
+    absurd (true≢false (sym (front_language ps i rest f.words f.spelled) ∙ e))
+front_few ps (present {i = j} {rest = more} g k) h i rest f =
+    subst (λ (x : SpelledIdentifier). length x.variants ≤ 4) (sym (one_longest ps i j rest more f k).0)
+    (few_variants j g.different h)
 
-short_identifier : {T : ℕ → Bool} (i : SpelledIdentifier) → IsIdentifier T i → length (normal_identifier i).variants ≤ 4 → IsShortTransform T (identifier_pieces i)
+short_identifier : {T : ℕ → Bool} (i : SpelledIdentifier) → IsIdentifier T i →
+    length (normal_identifier i).variants ≤ 4 → IsShortTransform T (identifier_pieces i)
 short_identifier {T = T} i g v =
     let m : SpelledTransform = record { id = Some i; fields = [] } in
     let ps = transform_pieces m in
-    let r = transform_spelled ps [] (normal_transform m) (record { written = m; grammatical = record { id = g; fields = tt; nonempty = λ e. absurd (cc) }; spelled = refl; means = refl }) refl in
+    let r = transform_spelled ps [] (normal_transform m) (record {
+      written = m;
+      grammatical = record { id = g; fields = tt; nonempty = λ e. absurd (cc) };
+      spelled = refl;
+      means = refl;
+    }) refl in
     let short : IsShortByFronts T (ps ++ []) = record {
-      variants = front_few (ps ++ []) r.id (subst (λ (o : Option Identifier). IfSome o (λ i. length i.variants ≤ 4)) (ap (λ (k : Transform). k.id) r.means) v);
-      no_field = λ o middle f begins. some_fields middle begins (ap fields_front (one_front (ps ++ []) f r.id).1 ∙ r.spelled ∙ ap fields_pieces (no_normal_fields r.written.fields (sym (ap (λ (k : Transform). k.fields) r.means))));
+      variants =
+          front_few (ps ++ []) r.id (subst (λ (o : Option Identifier). IfSome o (λ i. length i.variants ≤ 4))
+          (ap (λ (k : Transform). k.id) r.means) v);
+      no_field = λ o middle f begins.
+          some_fields middle begins (ap fields_front (one_front (ps ++ []) f r.id).1 ∙ r.spelled
+          ∙ ap fields_pieces
+          (no_normal_fields r.written.fields (sym (ap (λ (k : Transform). k.fields) r.means))));
     } in
-    subst (IsShortTransform T) (append-nil ps ∙ append-nil (identifier_pieces i)) (short_by_fronts (ps ++ []) short)
+    subst (IsShortTransform T) (append-nil ps ∙ append-nil (identifier_pieces i))
+    (short_by_fronts (ps ++ []) short)
 
-short_transform : {T : ℕ → Bool} → AreLengths T → (o : Option SpelledIdentifier) → IfSome o (IsIdentifier T) → IfSome o (λ i. length (normal_identifier i).variants ≤ 4) → (fs : Fields) → fs ≡ [] → IsShortTransform T (transform_pieces {s = Spelled} (record { id = o; fields = fs }))
-short_transform table None g v fs e = subst (IsShortTransform _) (ap fields_pieces (sym e)) (none_first table [] refl)
-short_transform table (Some i) g v fs e = subst (IsShortTransform _) (sym (ap (λ fs. identifier_pieces i ++ fields_pieces fs) e ∙ append-nil (identifier_pieces i))) (short_identifier i g v)
+short_transform : {T : ℕ → Bool} → AreLengths T → (o : Option SpelledIdentifier) → IfSome o (IsIdentifier T) →
+    IfSome o (λ i. length (normal_identifier i).variants ≤ 4) → (fs : Fields) → fs ≡ [] →
+    IsShortTransform T (transform_pieces {s = Spelled} (record { id = o; fields = fs }))
+short_transform table None g v fs e =
+    subst (IsShortTransform _) (ap fields_pieces (sym e)) (none_first table [] refl)
+short_transform table (Some i) g v fs e = subst (IsShortTransform _)
+    (sym (ap (λ fs. identifier_pieces i ++ fields_pieces fs) e ∙ append-nil (identifier_pieces i)))
+    (short_identifier i g v)
 
 -- no block is another
 
 abbrev Others : List (ℕ × List (List ℕ)) → List (ℕ × List (List ℕ))
-Others bs = filter {X = ℕ × List (List ℕ)} (λ b. is_other_singleton b.0) (map (λ b. (lower_singleton b, b.1)) bs)
+Others bs =
+    filter {X = ℕ × List (List ℕ)} (λ b. is_other_singleton b.0) (map (λ b. (lower_singleton b, b.1)) bs)
 
-no_first_other : (b : ℕ × List (List ℕ)) (bs : List (ℕ × List (List ℕ))) → Others (b ∷ bs) ≡ [] → (is_other_singleton (lower_singleton b) ≡ true → ⊥) × (Others bs ≡ [])
+no_first_other : (b : ℕ × List (List ℕ)) (bs : List (ℕ × List (List ℕ))) → Others (b ∷ bs) ≡ [] →
+    (is_other_singleton (lower_singleton b) ≡ true → ⊥) × (Others bs ≡ [])
 no_first_other b bs e = at (is_other_singleton (lower_singleton b)) refl e
   where
-    at : (t : Bool) → is_other_singleton (lower_singleton b) ≡ t → cond t ((lower_singleton b, b.1) ∷ Others bs) (Others bs) ≡ [] → (is_other_singleton (lower_singleton b) ≡ true → ⊥) × (Others bs ≡ [])
+    at : (t : Bool) → is_other_singleton (lower_singleton b) ≡ t →
+        cond t ((lower_singleton b, b.1) ∷ Others bs) (Others bs) ≡ [] →
+        (is_other_singleton (lower_singleton b) ≡ true → ⊥) × (Others bs ≡ [])
     at true k e = absurd (cc)
     at false k e = ((λ o. true≢false (sym o ∙ k)), e)
 
-no_other : (bs : List (ℕ × List (List ℕ))) → Others bs ≡ [] → AllByRecursion (λ b. is_other_singleton (lower_singleton b) ≡ true → ⊥) bs
+no_other : (bs : List (ℕ × List (List ℕ))) → Others bs ≡ [] →
+    AllByRecursion (λ b. is_other_singleton (lower_singleton b) ≡ true → ⊥) bs
 no_other [] e = tt
 no_other (b ∷ bs) e = let first = no_first_other b bs e in (first.0, no_other bs first.1)
 
 -- the blocks
 
 module _ (T : ℕ → Bool) (table : AreLengths T) (t : List ℕ) (h : IsInline T t) where
-  short_block : (b : ℕ × List (List ℕ)) → after (lower_singleton b) (tail_blocks (pieces t)) ≡ b.1 → (is_other_singleton (lower_singleton b) ≡ true → ⊥) → IsShortBlock T b
+  short_block : (b : ℕ × List (List ℕ)) → after (lower_singleton b) (tail_blocks (pieces t)) ≡ b.1 →
+      (is_other_singleton (lower_singleton b) ≡ true → ⊥) → IsShortBlock T b
   short_block b own none = record {
-    unicode = λ s. subst IsShortUnicode (sym h.spelled.unicode.1 ∙ at 117 s) (short_unicode h.extensions.unicode h.spelled.unicode.0 h.attributes h.keywords h.values);
-    transform = λ s. subst (IsShortTransform T) (sym h.spelled.transform.1 ∙ at 116 s) (short_transform table h.extensions.transform.id h.spelled.transform.0.id h.transform_variants h.extensions.transform.fields h.no_fields);
-    private = λ s. few b.1 (subst (λ (l : List (List ℕ)). length l ≤ 4) (sym h.spelled.private.1 ∙ at 120 s) h.private);
+    unicode = λ s. subst IsShortUnicode (sym h.spelled.unicode.1 ∙ at 117 s)
+        (short_unicode h.extensions.unicode h.spelled.unicode.0 h.attributes h.keywords h.values);
+    transform = λ s. subst (IsShortTransform T) (sym h.spelled.transform.1 ∙ at 116 s)
+        (short_transform table h.extensions.transform.id h.spelled.transform.0.id h.transform_variants
+        h.extensions.transform.fields h.no_fields);
+    private = λ s.
+        few b.1 (subst (λ (l : List (List ℕ)). length l ≤ 4) (sym h.spelled.private.1 ∙ at 120 s) h.private);
     other = λ o. absurd (none o);
   }
     where
@@ -108,26 +163,36 @@ module _ (T : ℕ → Bool) (table : AreLengths T) (t : List ℕ) (h : IsInline 
       few : (ps : List (List ℕ)) → length ps ≤ 4 → length (passing (is_word PrivateSubtag) ps) ≤ 4
       few ps k = omega (arith, k, passing_short (is_word PrivateSubtag) ps)
 
-  all_blocks : (bs : List (ℕ × List (List ℕ))) → AllByRecursion (λ b. after (lower_singleton b) (tail_blocks (pieces t)) ≡ b.1) bs → AllByRecursion (λ b. is_other_singleton (lower_singleton b) ≡ true → ⊥) bs → AllByRecursion (IsShortBlock T) bs
+  all_blocks : (bs : List (ℕ × List (List ℕ))) →
+      AllByRecursion (λ b. after (lower_singleton b) (tail_blocks (pieces t)) ≡ b.1) bs →
+      AllByRecursion (λ b. is_other_singleton (lower_singleton b) ≡ true → ⊥) bs →
+      AllByRecursion (IsShortBlock T) bs
   all_blocks [] own none = tt
   all_blocks (b ∷ bs) own none = (short_block b own.0 none.0, all_blocks bs own.1 none.1)
 
-  identifier_few : (i : SpelledIdentifier) → IsIdentifier T i → head (pieces t) ≡ identifier_pieces i → length i.variants ≤ 4
+  identifier_few : (i : SpelledIdentifier) → IsIdentifier T i → head (pieces t) ≡ identifier_pieces i →
+      length i.variants ≤ 4
   identifier_few i g e =
-      let same = one_identifier h.means.written i h.means.grammatical.words g.words (sym h.means.spelled ∙ e) in
-      few_variants i g.different (subst (λ (j : Identifier). length j.variants ≤ 4) (h.means.means ∙ ap normal_identifier same) h.variants)
+      let same =
+      one_identifier h.means.written i h.means.grammatical.words g.words (sym h.means.spelled ∙ e) in
+      few_variants i g.different (subst (λ (j : Identifier). length j.variants ≤ 4)
+      (h.means.means ∙ ap normal_identifier same) h.variants)
 
 pub inline_by_blocks : (T : ℕ → Bool) → AreLengths T → (t : List ℕ) → IsInline T t → IsInlineByBlocks T t
 inline_by_blocks T table t h =
     let bs = tail_blocks (pieces t) in record {
       variants = identifier_few T table t h;
-      short_blocks = all_blocks T table t h bs (each_after bs h.spelled.different) (no_other bs (h.spelled.others.1 ∙ h.no_others));
+      short_blocks = all_blocks T table t h bs (each_after bs h.spelled.different)
+          (no_other bs (h.spelled.others.1 ∙ h.no_others));
     }
 
 -- no long block is reached where all are short
-pub none_long : {T : ℕ → Bool} {bs : List (ℕ × List (List ℕ))} → ReachesLongBlock T bs → AllByRecursion (IsShortBlock T) bs → ⊥
-none_long {T = T} (good, rest, c, ps, e, blocks, l, n, x) h = x (at good (subst (AllByRecursion (IsShortBlock T)) e h))
+pub none_long : {T : ℕ → Bool} {bs : List (ℕ × List (List ℕ))} → ReachesLongBlock T bs →
+    AllByRecursion (IsShortBlock T) bs → ⊥
+none_long {T = T} (good, rest, c, ps, e, blocks, l, n, x) h =
+    x (at good (subst (AllByRecursion (IsShortBlock T)) e h))
   where
-    at : (good : List (ℕ × List (List ℕ))) → AllByRecursion (IsShortBlock T) (good ++ ((c, ps) ∷ rest)) → IsShortBlock T (c, ps)
+    at : (good : List (ℕ × List (List ℕ))) → AllByRecursion (IsShortBlock T) (good ++ ((c, ps) ∷ rest)) →
+        IsShortBlock T (c, ps)
     at [] h = h.0
     at (d ∷ ds) h = at ds h.1

@@ -1,13 +1,21 @@
 -- Inline texts, by their blocks and by the trees that they spell; and a test that says which they are.
-use Rattle.std.proofs.Common.{◌≡◌, ◌≤◌, ◌↔◌, ℕ, Bool, true, false, nat_le, cond, ◌==◌, List, [], ◌∷◌, ◌++◌, length, map, refl, sym, ap, ◌∙◌, subst, true≢false, arith, Result, Ok, Err, Option, Some, None, IfSome, option_map, option_to_list, append-nil}
+use Rattle.std.proofs.Common.{◌≡◌, ◌≤◌, ◌↔◌, ℕ, Bool, true, false, nat_le, cond, ◌==◌, List, [], ◌∷◌, ◌++◌}
+use Rattle.std.proofs.Common.{length, map, refl, sym, ap, ◌∙◌, subst, true≢false, arith, Result, Ok, Err}
+use Rattle.std.proofs.Common.{Option, Some, None, IfSome, option_map, option_to_list, append-nil}
 use Rattle.std.specs.List.{AllByRecursion}
 use Rattle.std.specs.Cmp.{nat_cmp_total}
 use Rattle.std.specs.Ordering.{nat_cmp}
 use Rattle.std.proofs.lemmas.Bool.{eqb-true, leb-true, le-leb, false_from_ne_true}
 use Rattle.std.proofs.lemmas.List.{length-map}
-use Rattle.iloc_spec_grammar.specs.Syntax.{pieces, lower, SpelledIdentifier, SpelledUnicode, Fields, unicode_pieces, IsUnicode, kept, AllDifferent, AreLengths, head, tail_blocks, lower_singleton, IsPrivate}
-use Rattle.iloc_spec_grammar.specs.Tree.{Extension, unicode, transform, other, Written, IsWritten, IsExtension, spelling, extension_pieces, extension_block, blocks_of, meaning}
-use Rattle.iloc_spec_grammar.specs.Meaning.{Locale, SpelledExtensions, Extensions, Means, IdentifierMeans, SpellsExtensions, normal_identifier, normal_values, normal_fields, normal_extensions, after, Fault}
+use Rattle.iloc_spec_grammar.specs.Syntax.{pieces, lower, SpelledIdentifier, SpelledUnicode, Fields}
+use Rattle.iloc_spec_grammar.specs.Syntax.{unicode_pieces, IsUnicode, kept, AllDifferent, AreLengths, head}
+use Rattle.iloc_spec_grammar.specs.Syntax.{tail_blocks, lower_singleton, IsPrivate}
+use Rattle.iloc_spec_grammar.specs.Tree.{Extension, unicode, transform, other, Written, IsWritten}
+use Rattle.iloc_spec_grammar.specs.Tree.{IsExtension, spelling, extension_pieces, extension_block, blocks_of}
+use Rattle.iloc_spec_grammar.specs.Tree.{meaning}
+use Rattle.iloc_spec_grammar.specs.Meaning.{Locale, SpelledExtensions, Extensions, Means, IdentifierMeans}
+use Rattle.iloc_spec_grammar.specs.Meaning.{SpellsExtensions, normal_identifier, normal_values, normal_fields}
+use Rattle.iloc_spec_grammar.specs.Meaning.{normal_extensions, after, Fault}
 use Rattle.iloc_spec_grammar.specs.Reading.{written_of, fields_from, is_two}
 use Rattle.iloc_spec_grammar.specs.Computing.{locale_result}
 use Rattle.iloc_spec_grammar.proofs.RuleTests.{Tests, tests_and, tests_all, tests_if_some}
@@ -38,15 +46,19 @@ pub record HasFewWords (M : Locale) : Type 0 where
 abbrev pub HaveFewValues : Fields → Type 0
 HaveFewValues fs = AllByRecursion (λ f. length (normal_values f.1) ≤ 4) fs
 
-mapped : (o : Option SpelledIdentifier) → IfSome o (λ i. length (normal_identifier i).variants ≤ 4) → IfSome (option_map normal_identifier o) (λ i. length i.variants ≤ 4)
+mapped : (o : Option SpelledIdentifier) → IfSome o (λ i. length (normal_identifier i).variants ≤ 4) →
+    IfSome (option_map normal_identifier o) (λ i. length i.variants ≤ 4)
 mapped None h = tt
 mapped (Some i) h = h
 
-unmapped : (o : Option SpelledIdentifier) → IfSome (option_map normal_identifier o) (λ i. length i.variants ≤ 4) → IfSome o (λ i. length (normal_identifier i).variants ≤ 4)
+unmapped : (o : Option SpelledIdentifier) →
+    IfSome (option_map normal_identifier o) (λ i. length i.variants ≤ 4) →
+    IfSome o (λ i. length (normal_identifier i).variants ≤ 4)
 unmapped None h = tt
 unmapped (Some i) h = h
 
-pub inline_has_few : {T : ℕ → Bool} (t : List ℕ) (h : IsInline T t) → HasFewWords (record { id = h.id; extensions = normal_extensions h.extensions })
+pub inline_has_few : {T : ℕ → Bool} (t : List ℕ) (h : IsInline T t) →
+    HasFewWords (record { id = h.id; extensions = normal_extensions h.extensions })
 inline_has_few t h = record {
   variants = h.variants;
   attributes = h.attributes;
@@ -54,10 +66,14 @@ inline_has_few t h = record {
   transform_variants = mapped h.extensions.transform.id h.transform_variants;
   no_fields = ap normal_fields h.no_fields;
   private = subst (λ (n : ℕ). n ≤ 4) (sym (length-map h.extensions.private lower)) h.private;
-  no_others = subst (λ (os : List (ℕ × List (List ℕ))). (normal_extensions (record h.extensions { others = os })).others ≡ []) (sym h.no_others) refl;
+  no_others = subst (λ (os : List (ℕ × List (List ℕ))).
+      (normal_extensions (record h.extensions { others = os })).others ≡ [])
+      (sym h.no_others) refl;
 }
 
-pub inline_of_few : {T : ℕ → Bool} (t : List ℕ) (M : Locale) (e : SpelledExtensions) → IdentifierMeans T (head (pieces t)) M.id → SpellsExtensions T (tail_blocks (pieces t)) e → M.extensions ≡ normal_extensions e → HasFewWords M → HaveFewValues e.unicode.keywords → IsInline T t
+pub inline_of_few : {T : ℕ → Bool} (t : List ℕ) (M : Locale) (e : SpelledExtensions) →
+    IdentifierMeans T (head (pieces t)) M.id → SpellsExtensions T (tail_blocks (pieces t)) e →
+    M.extensions ≡ normal_extensions e → HasFewWords M → HaveFewValues e.unicode.keywords → IsInline T t
 inline_of_few t M e i s p h v = record {
   id = M.id;
   extensions = e;
@@ -67,10 +83,14 @@ inline_of_few t M e i s p h v = record {
   attributes = subst (λ (n : Extensions). length n.unicode.attributes ≤ 4) p h.attributes;
   keywords = subst (λ (n : Extensions). length n.unicode.keywords ≤ 1) p h.keywords;
   values = v;
-  transform_variants = unmapped e.transform.id (subst (λ (n : Extensions). IfSome n.transform.id (λ i. length i.variants ≤ 4)) p h.transform_variants);
-  no_fields = no_normal_fields e.transform.fields (sym (ap (λ (n : Extensions). n.transform.fields) p) ∙ h.no_fields);
-  private = subst (λ (n : ℕ). n ≤ 4) (length-map e.private lower) (subst (λ (n : Extensions). length n.private ≤ 4) p h.private);
-  no_others = none_mapped (λ (o : ℕ × List (List ℕ)). (o.0, kept o.1)) e.others (none_there nat_cmp nat_cmp_total _ (sym (ap (λ (n : Extensions). n.others) p) ∙ h.no_others));
+  transform_variants = unmapped e.transform.id
+      (subst (λ (n : Extensions). IfSome n.transform.id (λ i. length i.variants ≤ 4)) p h.transform_variants);
+  no_fields =
+      no_normal_fields e.transform.fields (sym (ap (λ (n : Extensions). n.transform.fields) p) ∙ h.no_fields);
+  private = subst (λ (n : ℕ). n ≤ 4) (length-map e.private lower)
+      (subst (λ (n : Extensions). length n.private ≤ 4) p h.private);
+  no_others = none_mapped (λ (o : ℕ × List (List ℕ)). (o.0, kept o.1)) e.others
+      (none_there nat_cmp nat_cmp_total _ (sym (ap (λ (n : Extensions). n.others) p) ∙ h.no_others));
 }
 
 -- a small text is inline
@@ -83,15 +103,22 @@ small_is_inline t r h = record {
   spelled = h.spelled;
   variants = let l = one_at_most r.id.variant in omega arith;
   attributes = subst (λ (e : Extensions). length e.unicode.attributes ≤ 4) h.means (omega arith);
-  keywords = subst (λ (e : Extensions). length e.unicode.keywords ≤ 1) h.means (one_at_most (option_map keyword_of_small r.keyword));
-  values = few h.written.unicode.keywords h.one_keyword r.keyword (ap (λ (e : Extensions). e.unicode.keywords) h.means);
-  transform_variants = unmapped h.written.transform.id (subst (λ (e : Extensions). IfSome e.transform.id (λ i. length i.variants ≤ 4)) h.means tt);
-  no_fields = no_normal_fields h.written.transform.fields (sym (ap (λ (e : Extensions). e.transform.fields) h.means));
-  private = subst (λ (n : ℕ). n ≤ 4) (length-map h.written.private lower) (subst (λ (e : Extensions). length e.private ≤ 4) h.means (omega arith));
-  no_others = none_mapped (λ (o : ℕ × List (List ℕ)). (o.0, kept o.1)) h.written.others (none_there nat_cmp nat_cmp_total _ (sym (ap (λ (e : Extensions). e.others) h.means)));
+  keywords = subst (λ (e : Extensions). length e.unicode.keywords ≤ 1) h.means
+      (one_at_most (option_map keyword_of_small r.keyword));
+  values = few h.written.unicode.keywords h.one_keyword r.keyword
+      (ap (λ (e : Extensions). e.unicode.keywords) h.means);
+  transform_variants = unmapped h.written.transform.id
+      (subst (λ (e : Extensions). IfSome e.transform.id (λ i. length i.variants ≤ 4)) h.means tt);
+  no_fields =
+      no_normal_fields h.written.transform.fields (sym (ap (λ (e : Extensions). e.transform.fields) h.means));
+  private = subst (λ (n : ℕ). n ≤ 4) (length-map h.written.private lower)
+      (subst (λ (e : Extensions). length e.private ≤ 4) h.means (omega arith));
+  no_others = none_mapped (λ (o : ℕ × List (List ℕ)). (o.0, kept o.1)) h.written.others
+      (none_there nat_cmp nat_cmp_total _ (sym (ap (λ (e : Extensions). e.others) h.means)));
 }
   where
-    few : (fs : Fields) → length fs ≤ 1 → (o : Option (List ℕ × Option (List ℕ))) → option_to_list (option_map keyword_of_small o) ≡ normal_fields fs → HaveFewValues fs
+    few : (fs : Fields) → length fs ≤ 1 → (o : Option (List ℕ × Option (List ℕ))) →
+        option_to_list (option_map keyword_of_small o) ≡ normal_fields fs → HaveFewValues fs
     few [] l o e = tt
     few (f ∷ []) l None e = absurd (cc)
     few (f ∷ []) l (Some q) e =
@@ -102,7 +129,10 @@ small_is_inline t r h = record {
     few (f ∷ g ∷ fs) l o e = absurd (omega arith)
 
 pub inline_means : {T : ℕ → Bool} (t : List ℕ) → IsInline T t → (M : Locale) × Means T t M
-inline_means t h = (record { id = h.id; extensions = normal_extensions h.extensions }, record { id = h.means; extensions = (h.extensions, h.spelled, refl) })
+inline_means t h = (
+  record { id = h.id; extensions = normal_extensions h.extensions },
+  record { id = h.means; extensions = (h.extensions, h.spelled, refl) },
+)
 
 -- by the tree that it spells
 
@@ -121,40 +151,59 @@ pub record IsTreeInline (T : ℕ → Bool) (t : List ℕ) : Type 0 where
   pub values : AllByRecursion (λ e. HasFewValues e.1) written.extensions
 
 -- what stands after a singleton is nothing, or what stands after it in some block
-after_holds : (P : List (List ℕ) → Type 0) (q : ℕ) (bs : List (ℕ × List (List ℕ))) → AllDifferent nat_cmp (map (λ b. lower_singleton b) bs) → P [] → AllByRecursion (λ b. lower_singleton b ≡ q → P b.1) bs → P (after q bs)
+after_holds : (P : List (List ℕ) → Type 0) (q : ℕ) (bs : List (ℕ × List (List ℕ))) →
+    AllDifferent nat_cmp (map (λ b. lower_singleton b) bs) → P [] →
+    AllByRecursion (λ b. lower_singleton b ≡ q → P b.1) bs → P (after q bs)
 after_holds P q [] d n h = n
 after_holds P q (b ∷ bs) d n h = at (lower_singleton b == q) refl (after_holds P q bs d.1 n h.1)
   where
     at : (t : Bool) → (lower_singleton b == q) ≡ t → P (after q bs) → P (cond t b.1 [] ++ after q bs)
-    at true e rest = let same = eqb-true (lower_singleton b) q e in subst P (sym (ap (λ l. b.1 ++ l) (subst (λ (c : ℕ). after c bs ≡ []) same (none_after (lower_singleton b) bs (false_from_ne_true _ d.0))) ∙ append-nil b.1)) (h.0 same)
+    at true e rest = let same = eqb-true (lower_singleton b) q e in
+        subst P
+        (sym (ap (λ l. b.1 ++ l) (subst (λ (c : ℕ). after c bs ≡ []) same
+        (none_after (lower_singleton b) bs (false_from_ne_true _ d.0)))
+        ∙ append-nil b.1)) (h.0 same)
     at false e rest = rest
 
-same_keywords : (u v : SpelledUnicode) → IsUnicode u → IsUnicode v → unicode_pieces u ≡ unicode_pieces v → v.keywords ≡ u.keywords
-same_keywords u v g h e = sym (keywords_taken v [] h refl) ∙ ap (λ l. fields_from is_two (keywords_front (after_attributes (l ++ [])))) (sym e) ∙ keywords_taken u [] g refl
+same_keywords : (u v : SpelledUnicode) → IsUnicode u → IsUnicode v → unicode_pieces u ≡ unicode_pieces v →
+    v.keywords ≡ u.keywords
+same_keywords u v g h e = sym (keywords_taken v [] h refl)
+    ∙ ap (λ l. fields_from is_two (keywords_front (after_attributes (l ++ [])))) (sym e)
+    ∙ keywords_taken u [] g refl
 
 all_left : {X : Type 0} (P : X → Type 0) (xs ys : List X) → AllByRecursion P (xs ++ ys) → AllByRecursion P xs
 all_left P [] ys h = tt
 all_left P (x ∷ xs) ys h = (h.0, all_left P xs ys h.1)
 
-all_mapped : {X Y : Type 0} (f : X → Y) (P : Y → Type 0) (xs : List X) → AllByRecursion (λ x. P (f x)) xs → AllByRecursion P (map f xs)
+all_mapped : {X Y : Type 0} (f : X → Y) (P : Y → Type 0) (xs : List X) → AllByRecursion (λ x. P (f x)) xs →
+    AllByRecursion P (map f xs)
 all_mapped f P [] h = tt
 all_mapped f P (x ∷ xs) h = (h.0, all_mapped f P xs h.1)
 
-all_unmapped : {X Y : Type 0} (f : X → Y) (P : Y → Type 0) (xs : List X) → AllByRecursion P (map f xs) → AllByRecursion (λ x. P (f x)) xs
+all_unmapped : {X Y : Type 0} (f : X → Y) (P : Y → Type 0) (xs : List X) → AllByRecursion P (map f xs) →
+    AllByRecursion (λ x. P (f x)) xs
 all_unmapped f P [] h = tt
 all_unmapped f P (x ∷ xs) h = (h.0, all_unmapped f P xs h.1)
 
 -- the keywords of the parts that blocks spell, and those of the tree
-module _ {T : ℕ → Bool} (w : Written) (g : IsWritten T w) (e : SpelledExtensions) (s : SpellsExtensions T (blocks_of w) e) where
+module _ {T : ℕ → Bool} (w : Written) (g : IsWritten T w) (e : SpelledExtensions)
+    (s : SpellsExtensions T (blocks_of w) e) where
   few_in_tree : HaveFewValues e.unicode.keywords → AllByRecursion (λ x. HasFewValues x.1) w.extensions
-  few_in_tree h = each w.extensions g.extensions (all_unmapped extension_block (λ b. after (lower_singleton b) (blocks_of w) ≡ b.1) w.extensions (all_left _ (map extension_block w.extensions) (option_to_list w.private) (each_after (blocks_of w) s.different)))
+  few_in_tree h = each w.extensions g.extensions (all_unmapped extension_block
+      (λ b. after (lower_singleton b) (blocks_of w) ≡ b.1) w.extensions (all_left _
+      (map extension_block w.extensions) (option_to_list w.private) (each_after (blocks_of w) s.different)))
     where
-      at : (c : ℕ) (x : Extension) → IsExtension T (lower_singleton (c, x)) x → after (lower_singleton (c, x)) (blocks_of w) ≡ extension_pieces x → HasFewValues x
-      at c (unicode u) k own = subst HaveFewValues (same_keywords u e.unicode (record { attributes = k.1.attributes; keywords = k.1.keywords }) s.unicode.0 (sym own ∙ ap (λ q. after q (blocks_of w)) k.0 ∙ s.unicode.1)) h
+      at : (c : ℕ) (x : Extension) → IsExtension T (lower_singleton (c, x)) x →
+          after (lower_singleton (c, x)) (blocks_of w) ≡ extension_pieces x → HasFewValues x
+      at c (unicode u) k own = subst HaveFewValues
+          (same_keywords u e.unicode (record { attributes = k.1.attributes; keywords = k.1.keywords })
+          s.unicode.0 (sym own ∙ ap (λ q. after q (blocks_of w)) k.0 ∙ s.unicode.1)) h
       at c (transform m) k own = tt
       at c (other ps) k own = tt
 
-      each : (es : List (ℕ × Extension)) → AllByRecursion (λ x. IsExtension T (lower_singleton x) x.1) es → AllByRecursion (λ x. after (lower_singleton x) (blocks_of w) ≡ extension_pieces x.1) es → AllByRecursion (λ x. HasFewValues x.1) es
+      each : (es : List (ℕ × Extension)) → AllByRecursion (λ x. IsExtension T (lower_singleton x) x.1) es →
+          AllByRecursion (λ x. after (lower_singleton x) (blocks_of w) ≡ extension_pieces x.1) es →
+          AllByRecursion (λ x. HasFewValues x.1) es
       each [] k own = tt
       each (x ∷ es) k own = (at x.0 x.1 k.0 own.0, each es k.1 own.1)
 
@@ -163,22 +212,33 @@ module _ {T : ℕ → Bool} (w : Written) (g : IsWritten T w) (e : SpelledExtens
 
   few_in_parts : AllByRecursion (λ x. HasFewValues x.1) w.extensions → HaveFewValues e.unicode.keywords
   few_in_parts h = after_holds IsFewSpelled 117 (blocks_of w) s.different none
-      (all_append (λ b. lower_singleton b ≡ 117 → IsFewSpelled b.1) (map extension_block w.extensions) (option_to_list w.private) (all_mapped extension_block (λ b. lower_singleton b ≡ 117 → IsFewSpelled b.1) w.extensions (each w.extensions g.extensions h)) (of_private w.private g.private))
+      (all_append (λ b. lower_singleton b ≡ 117 → IsFewSpelled b.1) (map extension_block w.extensions)
+      (option_to_list w.private)
+      (all_mapped extension_block (λ b. lower_singleton b ≡ 117 → IsFewSpelled b.1) w.extensions
+      (each w.extensions g.extensions h)) (of_private w.private g.private))
       e.unicode s.unicode.0 s.unicode.1
     where
       none : IsFewSpelled []
-      none u g k = subst HaveFewValues (sym (same_keywords (record { attributes = []; keywords = [] }) u (record { attributes = tt; keywords = tt }) g k)) tt
+      none u g k = subst HaveFewValues
+          (sym (same_keywords (record { attributes = []; keywords = [] }) u
+          (record { attributes = tt; keywords = tt }) g k)) tt
 
-      at : (c : ℕ) (x : Extension) → IsExtension T (lower_singleton (c, x)) x → HasFewValues x → lower_singleton (c, x) ≡ 117 → IsFewSpelled (extension_pieces x)
-      at c (unicode v) k few q = λ u g p. subst HaveFewValues (same_keywords u v g (record { attributes = k.1.attributes; keywords = k.1.keywords }) (sym p)) few
+      at : (c : ℕ) (x : Extension) → IsExtension T (lower_singleton (c, x)) x → HasFewValues x →
+          lower_singleton (c, x) ≡ 117 → IsFewSpelled (extension_pieces x)
+      at c (unicode v) k few q = λ u g p. subst HaveFewValues
+          (same_keywords u v g (record { attributes = k.1.attributes; keywords = k.1.keywords }) (sym p)) few
       at c (transform m) k few q = absurd (omega (arith, k.0, q))
       at c (other ps) k few q = absurd (no_u (lower_singleton (c, other ps)) q k.0)
 
-      each : (es : List (ℕ × Extension)) → AllByRecursion (λ x. IsExtension T (lower_singleton x) x.1) es → AllByRecursion (λ x. HasFewValues x.1) es → AllByRecursion (λ x. lower_singleton x ≡ 117 → IsFewSpelled (extension_pieces x.1)) es
+      each : (es : List (ℕ × Extension)) → AllByRecursion (λ x. IsExtension T (lower_singleton x) x.1) es →
+          AllByRecursion (λ x. HasFewValues x.1) es →
+          AllByRecursion (λ x. lower_singleton x ≡ 117 → IsFewSpelled (extension_pieces x.1)) es
       each [] k few = tt
       each (x ∷ es) k few = (at x.0 x.1 k.0 few.0, each es k.1 few.1)
 
-      of_private : (x : Option (ℕ × List (List ℕ))) → IfSome x (λ b. (lower_singleton b ≡ 120) × IsPrivate b.1) → AllByRecursion (λ b. lower_singleton b ≡ 117 → IsFewSpelled b.1) (option_to_list x)
+      of_private : (x : Option (ℕ × List (List ℕ))) →
+          IfSome x (λ b. (lower_singleton b ≡ 120) × IsPrivate b.1) →
+          AllByRecursion (λ b. lower_singleton b ≡ 117 → IsFewSpelled b.1) (option_to_list x)
       of_private None k = tt
       of_private (Some b) k = ((λ q. absurd (omega (arith, k.0, q))), tt)
 
@@ -186,21 +246,26 @@ pub inline_is_tree : {T : ℕ → Bool} → AreLengths T → (t : List ℕ) → 
 unfolding inline_means
 inline_is_tree {T = T} table t h =
     let m = tree_means t (inline_means t h).0 (inline_means t h).1 in
-    let bs : tail_blocks (pieces t) ≡ blocks_of m.written = ap tail_blocks m.spelled ∙ blocks-spelling table m.written m.grammatical in
+    let bs : tail_blocks (pieces t) ≡ blocks_of m.written =
+    ap tail_blocks m.spelled ∙ blocks-spelling table m.written m.grammatical in
     record {
       written = m.written;
       grammatical = m.grammatical;
       spelled = m.spelled;
       few = subst HasFewWords m.means (inline_has_few t h);
-      values = few_in_tree m.written m.grammatical h.extensions (subst (λ bs. SpellsExtensions T bs h.extensions) bs h.spelled) h.values;
+      values = few_in_tree m.written m.grammatical h.extensions
+          (subst (λ bs. SpellsExtensions T bs h.extensions) bs h.spelled) h.values;
     }
 
 pub tree_is_inline : {T : ℕ → Bool} → AreLengths T → (t : List ℕ) → IsTreeInline T t → IsInline T t
 tree_is_inline {T = T} table t h =
-    let m = means_by_tree table t (meaning h.written) (record { written = h.written; grammatical = h.grammatical; spelled = h.spelled; means = refl }) in
-    let bs : tail_blocks (pieces t) ≡ blocks_of h.written = ap tail_blocks h.spelled ∙ blocks-spelling table h.written h.grammatical in
+    let m = means_by_tree table t (meaning h.written)
+    (record { written = h.written; grammatical = h.grammatical; spelled = h.spelled; means = refl }) in
+    let bs : tail_blocks (pieces t) ≡ blocks_of h.written =
+    ap tail_blocks h.spelled ∙ blocks-spelling table h.written h.grammatical in
     inline_of_few t (meaning h.written) m.extensions.0 m.id m.extensions.1 m.extensions.2 h.few
-    (few_in_parts h.written h.grammatical m.extensions.0 (subst (λ bs. SpellsExtensions T bs m.extensions.0) bs m.extensions.1) h.values)
+    (few_in_parts h.written h.grammatical m.extensions.0
+    (subst (λ bs. SpellsExtensions T bs m.extensions.0) bs m.extensions.1) h.values)
 
 -- the test of inline texts
 
@@ -209,36 +274,58 @@ tests_at_most n m = record { holds = leb-true n m; passes = le-leb n m }
 
 tests_empty : {X : Type 0} (xs : List X) → Tests (nat_le (length xs) 0) (xs ≡ [])
 tests_empty [] = record { holds = λ e. refl; passes = λ e. refl }
-tests_empty (x ∷ xs) = record { holds = λ e. absurd (let h = (tests_at_most (length (x ∷ xs)) 0).holds e in omega arith); passes = λ e. absurd (cc) }
+tests_empty (x ∷ xs) = record {
+  holds = λ e. absurd (let h = (tests_at_most (length (x ∷ xs)) 0).holds e in omega arith);
+  passes = λ e. absurd (cc);
+}
 
 tests_values : (e : Extension) → Tests (has_few_values e) (HasFewValues e)
-tests_values (unicode u) = tests_all (λ f. nat_le (length (normal_values f.1)) 4) (λ f. length (normal_values f.1) ≤ 4) (λ f. tests_at_most _ 4) u.keywords
+tests_values (unicode u) = tests_all (λ f. nat_le (length (normal_values f.1)) 4)
+    (λ f. length (normal_values f.1) ≤ 4) (λ f. tests_at_most _ 4) u.keywords
 tests_values (transform m) = record { holds = λ e. tt; passes = λ h. refl }
 tests_values (other ps) = record { holds = λ e. tt; passes = λ h. refl }
 
 -- what is tested is few
 abbrev AreFew : Written → Locale → Type 0
-AreFew w M = (((length M.id.variants ≤ 4) × (length M.extensions.unicode.attributes ≤ 4)) × ((length M.extensions.unicode.keywords ≤ 1) × AllByRecursion (λ e. HasFewValues e.1) w.extensions)) × ((IfSome M.extensions.transform.id (λ i. length i.variants ≤ 4) × (M.extensions.transform.fields ≡ [])) × ((length M.extensions.private ≤ 4) × (M.extensions.others ≡ [])))
+AreFew w M = (((length M.id.variants ≤ 4) × (length M.extensions.unicode.attributes ≤ 4))
+    × ((length M.extensions.unicode.keywords ≤ 1) × AllByRecursion (λ e. HasFewValues e.1) w.extensions))
+    × ((IfSome M.extensions.transform.id (λ i. length i.variants ≤ 4) × (M.extensions.transform.fields ≡ []))
+    × ((length M.extensions.private ≤ 4) × (M.extensions.others ≡ [])))
 
 tests_few : (w : Written) (M : Locale) → Tests (has_few_words w M) (AreFew w M)
 tests_few w M = tests_and
-    (tests_and (tests_and (tests_at_most _ 4) (tests_at_most _ 4)) (tests_and (tests_at_most _ 1) (tests_all (λ e. has_few_values e.1) (λ e. HasFewValues e.1) (λ e. tests_values e.1) w.extensions)))
-    (tests_and (tests_and (tests_if_some (λ i. nat_le (length i.variants) 4) (λ i. length i.variants ≤ 4) (λ i. tests_at_most _ 4) M.extensions.transform.id) (tests_empty M.extensions.transform.fields)) (tests_and (tests_at_most _ 4) (tests_empty M.extensions.others)))
+    (tests_and (tests_and (tests_at_most _ 4) (tests_at_most _ 4)) (tests_and (tests_at_most _ 1)
+    (tests_all (λ e. has_few_values e.1) (λ e. HasFewValues e.1) (λ e. tests_values e.1) w.extensions)))
+    (tests_and
+    (tests_and
+    (tests_if_some (λ i. nat_le (length i.variants) 4) (λ i. length i.variants ≤ 4) (λ i. tests_at_most _ 4)
+    M.extensions.transform.id) (tests_empty M.extensions.transform.fields))
+    (tests_and (tests_at_most _ 4) (tests_empty M.extensions.others)))
 
 tree_passes : {T : ℕ → Bool} → AreLengths T → (t : List ℕ) → IsTreeInline T t → is_inline T t ≡ true
 unfolding is_inline
 tree_passes {T = T} table t h =
     let few = h.few in
-    let e : locale_result T t ≡ Ok (meaning h.written) = (computed_means T table t (meaning h.written)).1 (means_by_tree table t (meaning h.written) (record { written = h.written; grammatical = h.grammatical; spelled = h.spelled; means = refl })) in
-    let w : written_of (pieces t) ≡ h.written = ap written_of h.spelled ∙ written_of-spelling table h.written h.grammatical in
-    (λ i. few_where_read (w i) (e i)) ∙ (tests_few h.written (meaning h.written)).passes ((((few.variants, few.attributes), (few.keywords, h.values)), ((few.transform_variants, few.no_fields), (few.private, few.no_others))))
+    let e : locale_result T t ≡ Ok (meaning h.written) =
+    (computed_means T table t (meaning h.written)).1 (means_by_tree table t (meaning h.written)
+    (record { written = h.written; grammatical = h.grammatical; spelled = h.spelled; means = refl })) in
+    let w : written_of (pieces t) ≡ h.written =
+    ap written_of h.spelled ∙ written_of-spelling table h.written h.grammatical in
+    (λ i. few_where_read (w i) (e i))
+    ∙ (tests_few h.written (meaning h.written)).passes ((
+      ((few.variants, few.attributes), (few.keywords, h.values)),
+      ((few.transform_variants, few.no_fields), (few.private, few.no_others)),
+    ))
 
-few_is_tree : {T : ℕ → Bool} → AreLengths T → (t : List ℕ) (r : Result Locale Fault) → locale_result T t ≡ r → few_where_read (written_of (pieces t)) r ≡ true → IsTreeInline T t
+few_is_tree : {T : ℕ → Bool} → AreLengths T → (t : List ℕ) (r : Result Locale Fault) → locale_result T t ≡ r →
+    few_where_read (written_of (pieces t)) r ≡ true → IsTreeInline T t
 few_is_tree table t (Err f) e h = absurd (true≢false (sym h))
 few_is_tree {T = T} table t (Ok M) e h =
     let m = tree_means t M ((computed_means T table t M).0 e) in
-    let w : written_of (pieces t) ≡ m.written = ap written_of m.spelled ∙ written_of-spelling table m.written m.grammatical in
-    let few = (tests_few m.written (meaning m.written)).holds ((λ i. has_few_words (sym w i) (sym m.means i)) ∙ h) in
+    let w : written_of (pieces t) ≡ m.written =
+    ap written_of m.spelled ∙ written_of-spelling table m.written m.grammatical in
+    let few =
+    (tests_few m.written (meaning m.written)).holds ((λ i. has_few_words (sym w i) (sym m.means i)) ∙ h) in
     record {
       written = m.written;
       grammatical = m.grammatical;
@@ -257,4 +344,7 @@ few_is_tree {T = T} table t (Ok M) e h =
 
 pub inline_answer : (T : ℕ → Bool) → AreLengths T → (t : List ℕ) → (is_inline T t ≡ true) ↔ IsInline T t
 unfolding is_inline
-inline_answer T table t = (λ h. tree_is_inline table t (few_is_tree table t (locale_result T t) refl h), λ h. tree_passes table t (inline_is_tree table t h))
+inline_answer T table t = (
+  λ h. tree_is_inline table t (few_is_tree table t (locale_result T t) refl h),
+  λ h. tree_passes table t (inline_is_tree table t h),
+)

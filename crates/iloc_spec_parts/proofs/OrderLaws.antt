@@ -1,5 +1,6 @@
 -- The orders are total, and only equal values tie.
-use Rattle.std.proofs.Common.{◌≡◌, ℕ, zero, suc, List, length, nat_lt, refl, sym, ap, ◌∙◌, subst, Option, Some, None}
+use Rattle.std.proofs.Common.{◌≡◌, ℕ, zero, suc, List, length, nat_lt, refl, sym, ap, ◌∙◌, subst, Option}
+use Rattle.std.proofs.Common.{Some, None}
 use Rattle.std.specs.Ordering.{ordering_then, nat_cmp, on}
 use Rattle.std.specs.Option.{option_cmp}
 use Rattle.std.specs.declared.cmp.Ordering.{Ordering}
@@ -10,14 +11,18 @@ use Rattle.std.specs.FinMap.{IsAntisymmetric, nat_cmp-IsAntisymmetric, slice_cmp
 use Rattle.std.proofs.lemmas.Map.Lookups.{exact_pairs}
 use Rattle.iloc_spec_grammar.specs.Syntax.{word_cmp, Identifier, Fields, Unicode, Transform}
 use Rattle.iloc_spec_grammar.specs.Meaning.{Extensions}
-use Rattle.iloc_spec_parts.specs.Orders.{IsExactOrder, pair_cmp, words_cmp, identifier_cmp, keywords_cmp, fields_cmp, unicode_cmp, transform_cmp, other_cmp, extensions_cmp, locale_cmp, ExtensionKind, OfTransform, OfUnicode, OfPrivate, OfOther, place_of_kind, kind_cmp}
+use Rattle.iloc_spec_parts.specs.Orders.{IsExactOrder, pair_cmp, words_cmp, identifier_cmp, keywords_cmp}
+use Rattle.iloc_spec_parts.specs.Orders.{fields_cmp, unicode_cmp, transform_cmp, other_cmp, extensions_cmp}
+use Rattle.iloc_spec_parts.specs.Orders.{locale_cmp, ExtensionKind, OfTransform, OfUnicode, OfPrivate}
+use Rattle.iloc_spec_parts.specs.Orders.{OfOther, place_of_kind, kind_cmp}
 use Rattle.iloc_spec_grammar.specs.ShortLists.{short_cmp}
 
 -- orders of parts
 
 module _ {X : Type 0} {R : X → X → Ordering} where
   pub exactly : IsTotalOrder R → IsAntisymmetric R → IsExactOrder R
-  exactly o h = record { total = o; exact = λ x y. (h x y, λ e. subst (λ z. R x z ≡ Equal) e (tied_itself o x)) }
+  exactly o h =
+      record { total = o; exact = λ x y. (h x y, λ e. subst (λ z. R x z ≡ Equal) e (tied_itself o x)) }
 
   pub ties : IsExactOrder R → IsAntisymmetric R
   ties o x y e = (o.exact x y).0 e
@@ -36,19 +41,26 @@ module _ {X : Type 0} {R : X → X → Ordering} where
   list_exact o = exactly (lists_total o.total) (slice_cmp-IsAntisymmetric (ties o))
 
   short_exact : IsExactOrder R → IsExactOrder (short_cmp R)
-  short_exact o = exactly (then_total (on_total (λ (xs : List X). nat_lt 1 (length xs)) bool_cmp_total) (lists_total o.total)) (λ xs ys e. ties (list_exact o) xs ys (second _ _ e))
+  short_exact o = exactly
+      (then_total (on_total (λ (xs : List X). nat_lt 1 (length xs)) bool_cmp_total) (lists_total o.total))
+      (λ xs ys e. ties (list_exact o) xs ys (second _ _ e))
     where
       second : (r s : Ordering) → ordering_then r s ≡ Equal → s ≡ Equal
       second Less s e = absurd (cc)
       second Equal s e = e
       second Greater s e = absurd (cc)
 
-pub pair_exact : {X Y : Type 0} {R : X → X → Ordering} {S : Y → Y → Ordering} → IsExactOrder R → IsExactOrder S → IsExactOrder (pair_cmp R S)
-pair_exact {R = R} {S = S} o p = exactly (then_total (on_total (λ z. z.0) o.total) (on_total (λ z. z.1) p.total)) (exact_pairs R S (ties o) (ties p))
+pub pair_exact : {X Y : Type 0} {R : X → X → Ordering} {S : Y → Y → Ordering} → IsExactOrder R →
+    IsExactOrder S → IsExactOrder (pair_cmp R S)
+pair_exact {R = R} {S = S} o p =
+    exactly (then_total (on_total (λ z. z.0) o.total) (on_total (λ z. z.1) p.total))
+    (exact_pairs R S (ties o) (ties p))
 
 -- of a value that is kept as another
-pub on_exact : {X Y : Type 0} (to : X → Y) (from : Y → X) → ((x : X) → from (to x) ≡ x) → {R : Y → Y → Ordering} → IsExactOrder R → IsExactOrder (on to R)
-on_exact to from back o = exactly (on_total to o.total) (λ x y e. sym (back x) ∙ ap from (ties o (to x) (to y) e) ∙ back y)
+pub on_exact : {X Y : Type 0} (to : X → Y) (from : Y → X) → ((x : X) → from (to x) ≡ x) →
+    {R : Y → Y → Ordering} → IsExactOrder R → IsExactOrder (on to R)
+on_exact to from back o =
+    exactly (on_total to o.total) (λ x y e. sym (back x) ∙ ap from (ties o (to x) (to y) e) ∙ back y)
 
 -- the parts of a locale
 
@@ -66,7 +78,8 @@ identifier_exact = on_exact {Y = List ℕ × (Option (List ℕ) × (Option (List
     (λ i. (i.language, (i.script, (i.region, i.variants))))
     (λ p. record { language = p.0; script = p.1.0; region = p.1.1.0; variants = p.1.1.1 })
     (λ i. refl)
-    (pair_exact word_exact (pair_exact (option_exact word_exact) (pair_exact (option_exact word_exact) words_exact)))
+    (pair_exact word_exact
+    (pair_exact (option_exact word_exact) (pair_exact (option_exact word_exact) words_exact)))
 
 pub fields_exact : IsExactOrder fields_cmp
 fields_exact = list_exact (pair_exact word_exact words_exact)
@@ -75,10 +88,13 @@ pub keywords_exact : IsExactOrder keywords_cmp
 keywords_exact = short_exact (pair_exact word_exact words_exact)
 
 pub unicode_exact : IsExactOrder unicode_cmp
-unicode_exact = on_exact {Y = List (List ℕ) × Fields} (λ u. (u.attributes, u.keywords)) (λ p. record { attributes = p.0; keywords = p.1 }) (λ u. refl) (pair_exact words_exact keywords_exact)
+unicode_exact = on_exact {Y = List (List ℕ) × Fields} (λ u. (u.attributes, u.keywords))
+    (λ p. record { attributes = p.0; keywords = p.1 }) (λ u. refl) (pair_exact words_exact keywords_exact)
 
 pub transform_exact : IsExactOrder transform_cmp
-transform_exact = on_exact {Y = Option Identifier × Fields} (λ m. (m.id, m.fields)) (λ p. record { id = p.0; fields = p.1 }) (λ m. refl) (pair_exact (option_exact identifier_exact) fields_exact)
+transform_exact =
+    on_exact {Y = Option Identifier × Fields} (λ m. (m.id, m.fields)) (λ p. record { id = p.0; fields = p.1 })
+    (λ m. refl) (pair_exact (option_exact identifier_exact) fields_exact)
 
 pub other_exact : IsExactOrder other_cmp
 other_exact = pair_exact number_exact words_exact
@@ -91,7 +107,8 @@ extensions_exact = on_exact {Y = Unicode × (Transform × (List (List ℕ) × Li
     (pair_exact unicode_exact (pair_exact transform_exact (pair_exact words_exact (list_exact other_exact))))
 
 pub locale_exact : IsExactOrder locale_cmp
-locale_exact = on_exact {Y = Identifier × Extensions} (λ M. (M.id, M.extensions)) (λ p. record { id = p.0; extensions = p.1 }) (λ M. refl) (pair_exact identifier_exact extensions_exact)
+locale_exact = on_exact {Y = Identifier × Extensions} (λ M. (M.id, M.extensions))
+    (λ p. record { id = p.0; extensions = p.1 }) (λ M. refl) (pair_exact identifier_exact extensions_exact)
 
 -- kinds of extensions
 
@@ -111,4 +128,16 @@ kind_back (OfOther b) = refl
 pub kind_exact : IsExactOrder kind_cmp
 kind_exact = on_exact place_of_kind kind_at kind_back (pair_exact number_exact number_exact)
 
-pub ruleset exact_orders = (word_exact, words_exact, identifier_exact, keywords_exact, fields_exact, unicode_exact, transform_exact, other_exact, extensions_exact, locale_exact, kind_exact)
+pub ruleset exact_orders = (
+  word_exact,
+  words_exact,
+  identifier_exact,
+  keywords_exact,
+  fields_exact,
+  unicode_exact,
+  transform_exact,
+  other_exact,
+  extensions_exact,
+  locale_exact,
+  kind_exact,
+)

@@ -1,21 +1,28 @@
 -- The readers of single parts with their singletons.
 use Rattle.iloc_spec_grammar.specs.Syntax.{AreLengths, is_other_singleton}
 use Rattle.iloc_spec_parts.specs.Readers.{IsReader}
-use Rattle.iloc_spec_parts.specs.Fronts.{UnicodeRead, UnicodeFault, TransformRead, TransformFault, OtherRead, OtherFault, PrivateRead, PrivateFault, unicode_result, transform_result, other_result, private_result}
+use Rattle.iloc_spec_parts.specs.Fronts.{UnicodeRead, UnicodeFault, TransformRead, TransformFault, OtherRead}
+use Rattle.iloc_spec_parts.specs.Fronts.{OtherFault, PrivateRead, PrivateFault, unicode_result}
+use Rattle.iloc_spec_parts.specs.Fronts.{transform_result, other_result, private_result}
 use Rattle.iloc_spec_parts.specs.Parts.{PartRead, PartFault, is_letter}
-use Rattle.iloc_spec_parts.proofs.FrontLaws.{unicode_reader, unicode_answer, other_reader, other_answer, private_reader, private_answer}
+use Rattle.iloc_spec_parts.proofs.FrontLaws.{unicode_reader, unicode_answer, other_reader, other_answer}
+use Rattle.iloc_spec_parts.proofs.FrontLaws.{private_reader, private_answer}
 use Rattle.iloc_spec_parts.proofs.TransformLaws.{transform_reader, transform_answer}
 use Rattle.iloc_spec_parts.proofs.PartLaws.{part_reader}
 use Rattle.std.proofs.Common.{ℕ, Bool}
 
 pub unicode_part : IsReader (PartRead (is_letter 117) UnicodeRead) (PartFault (is_letter 117) UnicodeFault)
-unicode_part = part_reader (is_letter 117) UnicodeRead UnicodeFault unicode_reader unicode_result unicode_answer
+unicode_part =
+    part_reader (is_letter 117) UnicodeRead UnicodeFault unicode_reader unicode_result unicode_answer
 
-pub transform_part : (T : ℕ → Bool) → AreLengths T → IsReader (PartRead (is_letter 116) (TransformRead T)) (PartFault (is_letter 116) (TransformFault T))
-transform_part T table = part_reader (is_letter 116) (TransformRead T) (TransformFault T) (transform_reader T table) (transform_result T) (transform_answer table)
+pub transform_part : (T : ℕ → Bool) → AreLengths T →
+    IsReader (PartRead (is_letter 116) (TransformRead T)) (PartFault (is_letter 116) (TransformFault T))
+transform_part T table = part_reader (is_letter 116) (TransformRead T) (TransformFault T)
+    (transform_reader T table) (transform_result T) (transform_answer table)
 
 pub other_part : IsReader (PartRead is_other_singleton OtherRead) (PartFault is_other_singleton OtherFault)
 other_part = part_reader is_other_singleton OtherRead OtherFault other_reader other_result other_answer
 
 pub private_part : IsReader (PartRead (is_letter 120) PrivateRead) (PartFault (is_letter 120) PrivateFault)
-private_part = part_reader (is_letter 120) PrivateRead PrivateFault private_reader private_result private_answer
+private_part =
+    part_reader (is_letter 120) PrivateRead PrivateFault private_reader private_result private_answer

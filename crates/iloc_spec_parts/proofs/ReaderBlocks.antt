@@ -1,14 +1,17 @@
 -- A reader reads the whole of a block exactly where the block means what is read.
-use Rattle.std.proofs.Common.{◌≡◌, ◌≢◌, ◌⊎◌, inl, inr, ◌↔◌, ℕ, Bool, cond, ◌==◌, List, [], ◌∷◌, refl, sym, ap, ◌∙◌, subst, arith, Option, Some, None, IfSome}
+use Rattle.std.proofs.Common.{◌≡◌, ◌≢◌, ◌⊎◌, inl, inr, ◌↔◌, ℕ, Bool, cond, ◌==◌, List, [], ◌∷◌, refl, sym, ap}
+use Rattle.std.proofs.Common.{◌∙◌, subst, arith, Option, Some, None, IfSome}
 use Rattle.std.specs.List.{AllByRecursion}
 use Rattle.std.specs.Char.{to_ascii_lowercase}
 use Rattle.std.specs.Ordering.{nat_cmp, eq_by_cmp}
 use Rattle.std.specs.FinMap.{find}
 use Rattle.std.proofs.lemmas.Bool.{cond_both, eqb-true}
-use Rattle.iloc_spec_grammar.specs.Syntax.{pieces, AreLengths, Unicode, Transform, kept, is_other_singleton, lower_singleton, is_one_byte, front, blocks, tail_blocks}
+use Rattle.iloc_spec_grammar.specs.Syntax.{pieces, AreLengths, Unicode, Transform, kept, is_other_singleton}
+use Rattle.iloc_spec_grammar.specs.Syntax.{lower_singleton, is_one_byte, front, blocks, tail_blocks}
 use Rattle.iloc_spec_grammar.specs.Meaning.{Locale, Extensions, Means, no_unicode, no_transform, Fault}
 use Rattle.iloc_spec_grammar.specs.Tree.{by_singleton}
-use Rattle.iloc_spec_grammar.specs.ByBlocks.{UnicodeMeans, TransformMeans, OtherMeans, Rules, grammar_rules, other_blocks, PartIs, BlocksGive, MeansBy}
+use Rattle.iloc_spec_grammar.specs.ByBlocks.{UnicodeMeans, TransformMeans, OtherMeans, Rules, grammar_rules}
+use Rattle.iloc_spec_grammar.specs.ByBlocks.{other_blocks, PartIs, BlocksGive, MeansBy}
 use Rattle.iloc_spec_grammar.specs.Reading.{from_block}
 use Rattle.iloc_spec_grammar.proofs.ValuesLaws.{all_weaker, all_both}
 use Rattle.iloc_spec_grammar.proofs.SameMeaning.{means_by_blocks, blocks_mean}
@@ -27,10 +30,11 @@ pub record IsClosed (ps : List (List ℕ)) : Type 0 where
 
 closed_front : (ps : List (List ℕ)) → IsClosed (front ps)
 closed_front [] = record { whole = refl; ended = refl }
-closed_front (p ∷ ps) = cond_both (is_one_byte p) _ _ IsClosed (λ e. record { whole = refl; ended = refl }) (λ e. record {
-  whole = ap (λ b. cond b [] (p ∷ front (front ps))) e ∙ ap (λ qs. p ∷ qs) (closed_front ps).whole;
-  ended = ap (λ b. cond b (p ∷ front ps) (from_block (front ps))) e ∙ (closed_front ps).ended;
-})
+closed_front (p ∷ ps) =
+    cond_both (is_one_byte p) _ _ IsClosed (λ e. record { whole = refl; ended = refl }) (λ e. record {
+      whole = ap (λ b. cond b [] (p ∷ front (front ps))) e ∙ ap (λ qs. p ∷ qs) (closed_front ps).whole;
+      ended = ap (λ b. cond b (p ∷ front ps) (from_block (front ps))) e ∙ (closed_front ps).ended;
+    })
 
 abbrev IsXOrClosed : ℕ × List (List ℕ) → Type 0
 IsXOrClosed b = (lower_singleton b ≡ 120) ⊎ IsClosed b.1
@@ -38,7 +42,8 @@ IsXOrClosed b = (lower_singleton b ≡ 120) ⊎ IsClosed b.1
 blocks_closed : (ps : List (List ℕ)) → AllByRecursion IsXOrClosed (blocks ps)
 blocks_closed [] = tt
 blocks_closed ([] ∷ ps) = blocks_closed ps
-blocks_closed ((c ∷ []) ∷ ps) = cond_both (to_ascii_lowercase c == 120) _ _ (AllByRecursion IsXOrClosed) (λ e. (inl (eqb-true _ _ e), tt)) (λ e. (inr (closed_front ps), blocks_closed ps))
+blocks_closed ((c ∷ []) ∷ ps) = cond_both (to_ascii_lowercase c == 120) _ _ (AllByRecursion IsXOrClosed)
+    (λ e. (inl (eqb-true _ _ e), tt)) (λ e. (inr (closed_front ps), blocks_closed ps))
 blocks_closed ((c ∷ d ∷ p) ∷ ps) = blocks_closed ps
 
 tail_closed : (ps : List (List ℕ)) → AllByRecursion IsXOrClosed (tail_blocks ps)
@@ -49,23 +54,32 @@ closed_of : (q : ℕ) → q ≢ 120 → (c : ℕ) (ps : List (List ℕ)) → c �
 closed_of q n c ps e (inl x) = absurd (n (sym e ∙ x))
 closed_of q n c ps e (inr h) = h
 
-found_closed : (q : ℕ) → q ≢ 120 → (bs : List (ℕ × List (List ℕ))) → AllByRecursion IsXOrClosed bs → IfSome (find nat_cmp q (by_singleton bs)) IsClosed
+found_closed : (q : ℕ) → q ≢ 120 → (bs : List (ℕ × List (List ℕ))) → AllByRecursion IsXOrClosed bs →
+    IfSome (find nat_cmp q (by_singleton bs)) IsClosed
 found_closed q n [] h = tt
 found_closed q n (b ∷ bs) h = cond_both (eq_by_cmp nat_cmp q (lower_singleton b)) _ _ (λ o. IfSome o IsClosed)
     (λ e. closed_of q n (lower_singleton b) b.1 (tied q (lower_singleton b) e) h.0)
     (λ e. found_closed q n bs h.1)
 
-others_closed : (bs : List (ℕ × List (List ℕ))) → AllByRecursion IsXOrClosed bs → AllByRecursion (λ b. IsClosed b.1) (other_blocks (by_singleton bs))
+others_closed : (bs : List (ℕ × List (List ℕ))) → AllByRecursion IsXOrClosed bs →
+    AllByRecursion (λ b. IsClosed b.1) (other_blocks (by_singleton bs))
 others_closed [] h = tt
-others_closed (b ∷ bs) h = cond_both (is_other_singleton (lower_singleton b)) _ _ (AllByRecursion (λ b. IsClosed b.1))
-    (λ e. (closed_of (lower_singleton b) (λ x. no_x (lower_singleton b) x e) (lower_singleton b) b.1 refl h.0, others_closed bs h.1))
+others_closed (b ∷ bs) h =
+    cond_both (is_other_singleton (lower_singleton b)) _ _ (AllByRecursion (λ b. IsClosed b.1))
+    (λ e. (
+      closed_of (lower_singleton b) (λ x. no_x (lower_singleton b) x e) (lower_singleton b) b.1 refl h.0,
+      others_closed bs h.1,
+    ))
     (λ e. others_closed bs h.1)
 
 -- a reader that agrees with the rule of its blocks
 
-module _ {X : Type 0} (R : List (List ℕ) → X → List (List ℕ) → Type 0) (F : List (List ℕ) → Fault → Type 0) (B : List (List ℕ) → X → Type 0) (a : AgreesWithBlocks R F B) (ps : List (List ℕ)) (v : X) (c : IsClosed ps) where
+module _ {X : Type 0} (R : List (List ℕ) → X → List (List ℕ) → Type 0) (F : List (List ℕ) → Fault → Type 0)
+    (B : List (List ℕ) → X → Type 0) (a : AgreesWithBlocks R F B) (ps : List (List ℕ)) (v : X)
+    (c : IsClosed ps) where
   pub block_read : B ps v → R ps v []
-  block_read h = subst (R ps v) c.ended (a.block ps v (subst (λ (qs : List (List ℕ)). B qs v) (sym c.whole) h))
+  block_read h =
+      subst (R ps v) c.ended (a.block ps v (subst (λ (qs : List (List ℕ)). B qs v) (sym c.whole) h))
 
   pub read_block : R ps v [] → B ps v
   read_block h = subst (λ (qs : List (List ℕ)). B qs v) c.whole (a.whole ps v [] h refl).0
@@ -78,7 +92,10 @@ pub record Carries (R S : Rules) : Type 0 where
   pub private : (ps ws : List (List ℕ)) → R.private ps ws → S.private ps ws
   pub other : (ps ws : List (List ℕ)) → IsClosed ps → R.other ps ws → S.other ps ws
 
-part_carried : {X : Type 0} (o : Option (List (List ℕ))) (C : List (List ℕ) → Type 0) (R S : List (List ℕ) → X → Type 0) → ((ps : List (List ℕ)) (v : X) → C ps → R ps v → S ps v) → (empty v : X) → IfSome o C → PartIs R empty o v → PartIs S empty o v
+part_carried : {X : Type 0} (o : Option (List (List ℕ))) (C : List (List ℕ) → Type 0)
+    (R S : List (List ℕ) → X → Type 0) →
+    ((ps : List (List ℕ)) (v : X) → C ps → R ps v → S ps v) → (empty v : X) → IfSome o C →
+    PartIs R empty o v → PartIs S empty o v
 part_carried None C R S f empty v h m = m
 part_carried (Some ps) C R S f empty v h m = f ps v h m
 
@@ -86,14 +103,20 @@ any_some : {X : Type 0} (o : Option X) → IfSome o (λ _. Unit {0})
 any_some None = tt
 any_some (Some x) = tt
 
-carried : {R S : Rules} → Carries R S → (bs : List (ℕ × List (List ℕ))) (e : Extensions) → AllByRecursion IsXOrClosed bs → BlocksGive R bs e → BlocksGive S bs e
+carried : {R S : Rules} → Carries R S → (bs : List (ℕ × List (List ℕ))) (e : Extensions) →
+    AllByRecursion IsXOrClosed bs → BlocksGive R bs e → BlocksGive S bs e
 carried {R = R} {S = S} c bs e closed m = record {
   letters = m.letters;
   different = m.different;
-  unicode = part_carried _ IsClosed R.unicode S.unicode c.unicode no_unicode e.unicode (found_closed 117 (λ e. absurd (omega arith)) bs closed) m.unicode;
-  transform = part_carried _ IsClosed R.transform S.transform c.transform no_transform e.transform (found_closed 116 (λ e. absurd (omega arith)) bs closed) m.transform;
-  private = part_carried _ (λ _. Unit {0}) R.private S.private (λ ps ws _. c.private ps ws) [] e.private (any_some _) m.private;
-  each_other = all_weaker (λ b. IsClosed b.1 × R.other b.1 (kept b.1)) (λ b. S.other b.1 (kept b.1)) (λ b p. c.other b.1 (kept b.1) p.0 p.1) _ (all_both (λ b. IsClosed b.1) (λ b. R.other b.1 (kept b.1)) _ (others_closed bs closed) m.each_other);
+  unicode = part_carried _ IsClosed R.unicode S.unicode c.unicode no_unicode e.unicode
+      (found_closed 117 (λ e. absurd (omega arith)) bs closed) m.unicode;
+  transform = part_carried _ IsClosed R.transform S.transform c.transform no_transform e.transform
+      (found_closed 116 (λ e. absurd (omega arith)) bs closed) m.transform;
+  private = part_carried _ (λ _. Unit {0}) R.private S.private (λ ps ws _. c.private ps ws) [] e.private
+      (any_some _) m.private;
+  each_other = all_weaker (λ b. IsClosed b.1 × R.other b.1 (kept b.1)) (λ b. S.other b.1 (kept b.1))
+      (λ b p. c.other b.1 (kept b.1) p.0 p.1) _
+      (all_both (λ b. IsClosed b.1) (λ b. R.other b.1 (kept b.1)) _ (others_closed bs closed) m.each_other);
   others = m.others;
 }
 
@@ -102,7 +125,8 @@ module _ (T : ℕ → Bool) (table : AreLengths T) where
   read_by_grammar = record {
     unicode = λ ps v c. block_read UnicodeRead _ UnicodeMeans unicode_agrees ps v c;
     transform = λ ps m c. block_read (TransformRead T) _ (TransformMeans T) (transform_agrees T table) ps m c;
-    private = λ ps ws h. record { follows = record { words = h.0.words; nonempty = h.0.nonempty }; means = h.1; left = refl };
+    private = λ ps ws h.
+        record { follows = record { words = h.0.words; nonempty = h.0.nonempty }; means = h.1; left = refl };
     other = λ ps ws c. block_read OtherRead _ OtherMeans other_agrees ps ws c;
   }
 
@@ -115,7 +139,13 @@ module _ (T : ℕ → Bool) (table : AreLengths T) where
   }
 
   all_carried : {R S : Rules} → Carries R S → (t : List ℕ) (M : Locale) → MeansBy R T t M → MeansBy S T t M
-  all_carried c t M m = record { id = m.id; extensions = carried c (tail_blocks (pieces t)) M.extensions (tail_closed (pieces t)) m.extensions }
+  all_carried c t M m = record {
+    id = m.id;
+    extensions = carried c (tail_blocks (pieces t)) M.extensions (tail_closed (pieces t)) m.extensions;
+  }
 
   pub by_readers : (t : List ℕ) (M : Locale) → Means T t M ↔ MeansByReaders T t M
-  by_readers t M = (λ m. all_carried read_by_grammar t M (means_by_blocks t M m), λ m. blocks_mean t M (all_carried grammar_by_reading t M m))
+  by_readers t M = (
+    λ m. all_carried read_by_grammar t M (means_by_blocks t M m),
+    λ m. blocks_mean t M (all_carried grammar_by_reading t M m),
+  )

@@ -1,5 +1,6 @@
 -- What follows for every reader of a front.
-use Rattle.std.proofs.Common.{◌≡◌, ◌⊎◌, inl, inr, ℕ, true, List, [], ◌∷◌, ◌++◌, refl, sym, ap, ◌∙◌, true≢false, Result, Ok, Err, MatchResult}
+use Rattle.std.proofs.Common.{◌≡◌, ◌⊎◌, inl, inr, ℕ, true, List, [], ◌∷◌, ◌++◌, refl, sym, ap, ◌∙◌}
+use Rattle.std.proofs.Common.{true≢false, Result, Ok, Err, MatchResult}
 use Rattle.std.specs.List.{AllByRecursion}
 use Rattle.iloc_spec_grammar.specs.Meaning.{Fault}
 use Rattle.iloc_spec_grammar.specs.Syntax.{front}
@@ -9,14 +10,18 @@ use Rattle.iloc_spec_grammar.proofs.ReadingLaws.{from_block_starts}
 use Rattle.iloc_spec_parts.specs.Readers.{IsReader, AgreesWithBlocks}
 
 -- long pieces before a block are its front
-pub until_block : (xs rest : List (List ℕ)) → AllByRecursion IsLong xs → starts_block rest ≡ true → (front (xs ++ rest) ≡ xs) × (from_block (xs ++ rest) ≡ rest)
+pub until_block : (xs rest : List (List ℕ)) → AllByRecursion IsLong xs → starts_block rest ≡ true →
+    (front (xs ++ rest) ≡ xs) × (from_block (xs ++ rest) ≡ rest)
 until_block [] [] h s = (refl, refl)
 until_block [] (p ∷ ps) h s = (rw s refl, rw s refl)
-until_block (x ∷ xs) rest h s = let r = until_block xs rest h.1 s in (rw h.0 (ap (λ l. x ∷ l) r.0), rw h.0 r.1)
+until_block (x ∷ xs) rest h s =
+    let r = until_block xs rest h.1 s in (rw h.0 (ap (λ l. x ∷ l) r.0), rw h.0 r.1)
 
-module _ {X : Type 0} (R : List (List ℕ) → X → List (List ℕ) → Type 0) (F : List (List ℕ) → Fault → Type 0) where
+module _ {X : Type 0} (R : List (List ℕ) → X → List (List ℕ) → Type 0)
+    (F : List (List ℕ) → Fault → Type 0) where
   abbrev IsOne : Type 0
-  IsOne = (ps : List (List ℕ)) (v w : X) (rest more : List (List ℕ)) → R ps v rest → R ps w more → (v ≡ w) × (rest ≡ more)
+  IsOne = (ps : List (List ℕ)) (v w : X) (rest more : List (List ℕ)) → R ps v rest → R ps w more →
+      (v ≡ w) × (rest ≡ more)
 
   abbrev IsApart : Type 0
   IsApart = (ps : List (List ℕ)) (v : X) (rest : List (List ℕ)) (f : Fault) → R ps v rest → F ps f → ⊥
@@ -32,22 +37,28 @@ module _ {X : Type 0} (R : List (List ℕ) → X → List (List ℕ) → Type 0)
   Answers result = (ps : List (List ℕ)) → Answer ps (result ps)
 
   -- a program that answers makes a reader
-  pub reader_of : (result : List (List ℕ) → Result (X × List (List ℕ)) Fault) → Answers result → IsOne → IsApart → IsOneFault → IsReader R F
-  reader_of result answer one apart one_fault = record { one = one; either = λ ps. at ps (result ps) (answer ps); apart = apart; one_fault = one_fault }
+  pub reader_of : (result : List (List ℕ) → Result (X × List (List ℕ)) Fault) → Answers result → IsOne →
+      IsApart → IsOneFault → IsReader R F
+  reader_of result answer one apart one_fault =
+      record { one = one; either = λ ps. at ps (result ps) (answer ps); apart = apart; one_fault = one_fault }
     where
-      at : (ps : List (List ℕ)) (o : Result (X × List (List ℕ)) Fault) → Answer ps o → ((v : X) × (rest : List (List ℕ)) × R ps v rest) ⊎ ((f : Fault) × F ps f)
+      at : (ps : List (List ℕ)) (o : Result (X × List (List ℕ)) Fault) → Answer ps o →
+          ((v : X) × (rest : List (List ℕ)) × R ps v rest) ⊎ ((f : Fault) × F ps f)
       at ps (Ok r) h = inl (r.0, r.1, h)
       at ps (Err f) h = inr (f, h)
 
   module _ (B : List (List ℕ) → X → Type 0) where
     abbrev IsWhole : Type 0
-    IsWhole = (ps : List (List ℕ)) (v : X) (rest : List (List ℕ)) → R ps v rest → starts_block rest ≡ true → B (front ps) v × (rest ≡ from_block ps)
+    IsWhole = (ps : List (List ℕ)) (v : X) (rest : List (List ℕ)) → R ps v rest → starts_block rest ≡ true →
+        B (front ps) v × (rest ≡ from_block ps)
 
     -- a reader that reads what blocks mean reads nothing else of them
-    pub agreeing : IsReader R F → IsWhole → ((ps : List (List ℕ)) (v : X) → B (front ps) v → R ps v (from_block ps)) → AgreesWithBlocks R F B
+    pub agreeing : IsReader R F → IsWhole →
+        ((ps : List (List ℕ)) (v : X) → B (front ps) v → R ps v (from_block ps)) → AgreesWithBlocks R F B
     agreeing reader whole block = record {
       whole = whole;
       block = block;
-      left_over = λ ps v w rest r s b. true≢false (sym (from_block_starts ps) ∙ ap starts_block (sym (reader.one ps v w rest (from_block ps) r (block ps w b)).1) ∙ s);
+      left_over = λ ps v w rest r s b. true≢false (sym (from_block_starts ps)
+          ∙ ap starts_block (sym (reader.one ps v w rest (from_block ps) r (block ps w b)).1) ∙ s);
       refused = λ ps f w x b. reader.apart ps w (from_block ps) f (block ps w b) x;
     }

@@ -1,6 +1,8 @@
 -- What small texts are made of: an identifier with one variant at most, and no block or one of `u`
 -- with a keyword.
-use Rattle.std.proofs.Common.{◌≡◌, ℕ, ◌<◌, ◌≤◌, Bool, true, false, cond, List, [], ◌∷◌, ◌++◌, length, map, filter, refl, sym, ap, ◌∙◌, subst, arith, Option, Some, None, IfSome, option_map, option_to_list, true≢false, append-nil}
+use Rattle.std.proofs.Common.{◌≡◌, ℕ, ◌<◌, ◌≤◌, Bool, true, false, cond, List, [], ◌∷◌, ◌++◌, length, map}
+use Rattle.std.proofs.Common.{filter, refl, sym, ap, ◌∙◌, subst, arith, Option, Some, None, IfSome}
+use Rattle.std.proofs.Common.{option_map, option_to_list, true≢false, append-nil}
 use Rattle.std.specs.List.{AllByRecursion}
 use Rattle.std.specs.Char.{is_ascii_alphanumeric, to_ascii_lowercase}
 use Rattle.std.specs.Ordering.{nat_cmp, eq_by_cmp, is_eq}
@@ -10,13 +12,21 @@ use Rattle.std.specs.FinMap.{find}
 use Rattle.std.proofs.lemmas.Bool.{or_parts, eq-eqb, false_from_ne_true, both_ways}
 use Rattle.std.proofs.lemmas.Bool.Decides.{nat_tests}
 use Rattle.std.proofs.lemmas.List.{length-map}
-use Rattle.iloc_spec_grammar.specs.Syntax.{pieces, UnicodeKey, Attribute, IsWord, lower, word_cmp, Spelled, SpelledIdentifier, SpelledTransform, Identifier, Transform, Fields, identifier_pieces, fields_pieces, transform_pieces, IsIdentifier, AllDifferent, kept, is_other_singleton, lower_singleton, head, tail_blocks}
-use Rattle.iloc_spec_grammar.specs.Meaning.{SpelledExtensions, Extensions, map_of, set_of, normal_identifier, normal_values, normal_fields, normal_extensions, just_unicode, no_transform, SpellsExtensions, after}
+use Rattle.iloc_spec_grammar.specs.Syntax.{pieces, UnicodeKey, Attribute, IsWord, lower, word_cmp, Spelled}
+use Rattle.iloc_spec_grammar.specs.Syntax.{SpelledIdentifier, SpelledTransform, Identifier, Transform, Fields}
+use Rattle.iloc_spec_grammar.specs.Syntax.{identifier_pieces, fields_pieces, transform_pieces, IsIdentifier}
+use Rattle.iloc_spec_grammar.specs.Syntax.{AllDifferent, kept, is_other_singleton, lower_singleton, head}
+use Rattle.iloc_spec_grammar.specs.Syntax.{tail_blocks}
+use Rattle.iloc_spec_grammar.specs.Meaning.{SpelledExtensions, Extensions, map_of, set_of, normal_identifier}
+use Rattle.iloc_spec_grammar.specs.Meaning.{normal_values, normal_fields, normal_extensions, just_unicode}
+use Rattle.iloc_spec_grammar.specs.Meaning.{no_transform, SpellsExtensions, after}
 use Rattle.iloc_spec_grammar.specs.Reading.{first_item}
 use Rattle.iloc_spec_grammar.proofs.MapLaws.{word_cmp_total, find-map_of}
 use Rattle.iloc_spec_grammar.proofs.SetLaws.{length-set_of-different}
-use Rattle.iloc_spec_grammar.proofs.Singletons.{self_tied, IsKind, of_u, of_t, of_x, another, kind_of, lower_letter, no_u}
-use Rattle.iloc_spec_parts.specs.Small.{SmallIdentifier, SmallLocale, identifier_of_small, keyword_of_small, locale_of_small, IsSmallIdentifier, IsSmall}
+use Rattle.iloc_spec_grammar.proofs.Singletons.{self_tied, IsKind, of_u, of_t, of_x, another, kind_of}
+use Rattle.iloc_spec_grammar.proofs.Singletons.{lower_letter, no_u}
+use Rattle.iloc_spec_parts.specs.Small.{SmallIdentifier, SmallLocale, identifier_of_small, keyword_of_small}
+use Rattle.iloc_spec_parts.specs.Small.{locale_of_small, IsSmallIdentifier, IsSmall}
 use Rattle.iloc_spec_parts.specs.SmallComputing.{small_identifier}
 
 -- lists of at most one item
@@ -26,7 +36,8 @@ short_list [] h = refl
 short_list (x ∷ []) h = refl
 short_list (x ∷ y ∷ xs) h = absurd (omega arith)
 
-short_set : (ws : List (List ℕ)) → length ws ≤ 1 → option_to_list (first_item (map lower ws)) ≡ set_of (map lower ws)
+short_set : (ws : List (List ℕ)) → length ws ≤ 1 →
+    option_to_list (first_item (map lower ws)) ≡ set_of (map lower ws)
 short_set [] h = refl
 short_set (w ∷ []) h = refl
 short_set (w ∷ v ∷ ws) h = absurd (omega arith)
@@ -46,11 +57,14 @@ first-option (Some x) = refl
 
 -- maps and sets that are empty
 
-pub none_there : {K X : Type 0} (R : K → K → Ordering) → IsTotalOrder R → (es : List (K × X)) → map_of R es ≡ [] → es ≡ []
+pub none_there : {K X : Type 0} (R : K → K → Ordering) → IsTotalOrder R → (es : List (K × X)) →
+    map_of R es ≡ [] → es ≡ []
 none_there R o [] e = refl
 none_there {K = K} {X = X} R o (x ∷ es) e =
-    let first : find R x.0 (x ∷ es) ≡ Some x.1 = ap (λ r. cond (is_eq r) (Some x.1) (find R x.0 es)) (tied_itself o x.0) in
-    let nothing : ◌≡◌ {A = Option X} None (Some x.1) = sym (ap (find R x.0) e) ∙ find-map_of R o x.0 (x ∷ es) ∙ first in
+    let first : find R x.0 (x ∷ es) ≡ Some x.1 =
+    ap (λ r. cond (is_eq r) (Some x.1) (find R x.0 es)) (tied_itself o x.0) in
+    let nothing : ◌≡◌ {A = Option X} None (Some x.1) =
+    sym (ap (find R x.0) e) ∙ find-map_of R o x.0 (x ∷ es) ∙ first in
     absurd (cc)
 
 pub none_mapped : {X Y : Type 0} (f : X → Y) (xs : List X) → map f xs ≡ [] → xs ≡ []
@@ -58,10 +72,12 @@ none_mapped f [] e = refl
 none_mapped f (x ∷ xs) e = absurd (cc)
 
 none_in_set : (ws : List (List ℕ)) → set_of ws ≡ [] → ws ≡ []
-none_in_set ws e = none_mapped (λ (w : List ℕ). (w, tt {0})) ws (none_there word_cmp word_cmp_total (map (λ w. (w, tt {0})) ws) (none_mapped (λ (e : List ℕ × Unit {0}). e.0) _ e))
+none_in_set ws e = none_mapped (λ (w : List ℕ). (w, tt {0})) ws (none_there word_cmp word_cmp_total
+    (map (λ w. (w, tt {0})) ws) (none_mapped (λ (e : List ℕ × Unit {0}). e.0) _ e))
 
 pub no_normal_fields : (fs : Fields) → normal_fields fs ≡ [] → fs ≡ []
-no_normal_fields fs e = none_mapped (λ (f : List ℕ × List (List ℕ)). (lower f.0, normal_values f.1)) fs (none_there word_cmp word_cmp_total _ e)
+no_normal_fields fs e = none_mapped (λ (f : List ℕ × List (List ℕ)). (lower f.0, normal_values f.1)) fs
+    (none_there word_cmp word_cmp_total _ e)
 
 none_of_both : {X : Type 0} (xs ys : List X) → xs ++ ys ≡ [] → (xs ≡ []) × (ys ≡ [])
 none_of_both [] ys e = (refl, e)
@@ -69,22 +85,38 @@ none_of_both (x ∷ xs) ys e = absurd (cc)
 
 -- identifiers
 
-pub same_variants : (i : SpelledIdentifier) → length i.variants ≤ 1 → identifier_of_small (small_identifier i) ≡ normal_identifier i
+pub same_variants : (i : SpelledIdentifier) → length i.variants ≤ 1 →
+    identifier_of_small (small_identifier i) ≡ normal_identifier i
 same_variants i h = ap (λ vs. record (normal_identifier i) { variants = vs }) (short_set i.variants h)
 
-pub small_identifier_of : {T : ℕ → Bool} (ps : List (List ℕ)) (i : SpelledIdentifier) → IsIdentifier T i → ps ≡ identifier_pieces i → length i.variants ≤ 1 → IsSmallIdentifier T ps (small_identifier i)
-small_identifier_of ps i g e few = record { written = i; grammatical = g; spelled = e; means = same_variants i few }
+pub small_identifier_of : {T : ℕ → Bool} (ps : List (List ℕ)) (i : SpelledIdentifier) → IsIdentifier T i →
+    ps ≡ identifier_pieces i → length i.variants ≤ 1 → IsSmallIdentifier T ps (small_identifier i)
+small_identifier_of ps i g e few =
+    record { written = i; grammatical = g; spelled = e; means = same_variants i few }
 
-pub one_variant : {T : ℕ → Bool} (ps : List (List ℕ)) (r : SmallIdentifier) (h : IsSmallIdentifier T ps r) → length h.written.variants ≤ 1
+pub one_variant : {T : ℕ → Bool} (ps : List (List ℕ)) (r : SmallIdentifier) (h : IsSmallIdentifier T ps r) →
+    length h.written.variants ≤ 1
 one_variant ps r h =
     let vs = h.written.variants in
-    let same : length (option_to_list r.variant) ≡ length vs = ap (λ (i : Identifier). length i.variants) h.means ∙ length-set_of-different (map lower vs) h.grammatical.different ∙ length-map vs lower in
+    let same : length (option_to_list r.variant) ≡ length vs =
+    ap (λ (i : Identifier). length i.variants) h.means
+    ∙ length-set_of-different (map lower vs) h.grammatical.different ∙ length-map vs lower in
     subst (λ (n : ℕ). n ≤ 1) same (one_at_most r.variant)
 
-pub small_identifier_is : {T : ℕ → Bool} (ps : List (List ℕ)) (r : SmallIdentifier) (h : IsSmallIdentifier T ps r) → r ≡ small_identifier h.written
+pub small_identifier_is : {T : ℕ → Bool} (ps : List (List ℕ)) (r : SmallIdentifier)
+    (h : IsSmallIdentifier T ps r) →
+    r ≡ small_identifier h.written
 small_identifier_is ps r h =
-    let variant : r.variant ≡ first_item (map lower h.written.variants) = sym (first-option r.variant) ∙ ap (λ (i : Identifier). first_item i.variants) (h.means ∙ sym (same_variants h.written (one_variant ps r h))) ∙ first-option (first_item (map lower h.written.variants)) in
-    λ i. record { language = (h.means i).language; script = (h.means i).script; region = (h.means i).region; variant = variant i }
+    let variant : r.variant ≡ first_item (map lower h.written.variants) = sym (first-option r.variant)
+    ∙ ap (λ (i : Identifier). first_item i.variants)
+    (h.means ∙ sym (same_variants h.written (one_variant ps r h)))
+    ∙ first-option (first_item (map lower h.written.variants)) in
+    λ i. record {
+      language = (h.means i).language;
+      script = (h.means i).script;
+      region = (h.means i).region;
+      variant = variant i;
+    }
 
 -- Keywords.
 
@@ -111,7 +143,8 @@ pub record IsSmallKeyword (k : WrittenKeyword) : Type 0 where
   pub one_value : length (normal_values k.values) ≤ 1
 
 -- the blocks are none, or one of such a keyword, which is read as o
-pub record SpellsKeyword (bs : List (ℕ × List (List ℕ))) (o : Option (List ℕ × Option (List ℕ))) : Type 0 where
+pub record SpellsKeyword (bs : List (ℕ × List (List ℕ))) (o : Option (List ℕ × Option (List ℕ))) : Type
+    0 where
   pub keyword : Option WrittenKeyword
   pub grammatical : IfSome keyword IsSmallKeyword
   pub spelled : bs ≡ keyword_blocks keyword
@@ -128,66 +161,120 @@ nothing_here : {X : Type 0} (xs : List X) → 0 < length xs → xs ≡ [] → �
 nothing_here [] h e = absurd (omega arith)
 nothing_here (x ∷ xs) h e = absurd (cc)
 
-only_u : (bs : List (ℕ × List (List ℕ))) → AllByRecursion HasPieces bs → after 116 bs ≡ [] → after 120 bs ≡ [] → filter {X = ℕ × List (List ℕ)} (λ b. is_other_singleton b.0) (map (λ b. (lower_singleton b, b.1)) bs) ≡ [] → AllByRecursion IsOfU bs
+only_u : (bs : List (ℕ × List (List ℕ))) → AllByRecursion HasPieces bs → after 116 bs ≡ [] →
+    after 120 bs ≡ [] →
+    filter {X = ℕ × List (List ℕ)} (λ b. is_other_singleton b.0) (map (λ b. (lower_singleton b, b.1)) bs)
+    ≡ [] →
+    AllByRecursion IsOfU bs
 only_u [] h t x o = tt
-only_u (b ∷ bs) h t x o = (at (kind_of (lower_singleton b) (lower_letter b.0 h.0.0)), only_u bs h.1 (none_of_both _ _ t).1 (none_of_both _ _ x).1 (others (is_other_singleton (lower_singleton b)) o))
+only_u (b ∷ bs) h t x o = (
+  at (kind_of (lower_singleton b) (lower_letter b.0 h.0.0)),
+  only_u bs h.1 (none_of_both _ _ t).1 (none_of_both _ _ x).1
+      (others (is_other_singleton (lower_singleton b)) o),
+)
   where
     at : IsKind (lower_singleton b) → IsOfU b
     at (of_u e) = e
-    at (of_t e) = absurd (nothing_here b.1 h.0.1 (ap (λ t. cond t b.1 []) (sym (eq-eqb (lower_singleton b) 116 e)) ∙ (none_of_both _ _ t).0))
-    at (of_x e) = absurd (nothing_here b.1 h.0.1 (ap (λ t. cond t b.1 []) (sym (eq-eqb (lower_singleton b) 120 e)) ∙ (none_of_both _ _ x).0))
-    at (another e) = let some : (lower_singleton b, b.1) ∷ filter {X = ℕ × List (List ℕ)} (λ b. is_other_singleton b.0) (map (λ b. (lower_singleton b, b.1)) bs) ≡ [] = ap (λ t. cond t ((lower_singleton b, b.1) ∷ filter {X = ℕ × List (List ℕ)} (λ b. is_other_singleton b.0) (map (λ b. (lower_singleton b, b.1)) bs)) (filter {X = ℕ × List (List ℕ)} (λ b. is_other_singleton b.0) (map (λ b. (lower_singleton b, b.1)) bs))) (sym e) ∙ o in absurd (cc)
+    at (of_t e) = absurd (nothing_here b.1 h.0.1
+        (ap (λ t. cond t b.1 []) (sym (eq-eqb (lower_singleton b) 116 e)) ∙ (none_of_both _ _ t).0))
+    at (of_x e) = absurd (nothing_here b.1 h.0.1
+        (ap (λ t. cond t b.1 []) (sym (eq-eqb (lower_singleton b) 120 e)) ∙ (none_of_both _ _ x).0))
+    at (another e) = let some : (lower_singleton b, b.1)
+        ∷ filter {X = ℕ × List (List ℕ)} (λ b. is_other_singleton b.0)
+        (map (λ b. (lower_singleton b, b.1)) bs)
+        ≡ [] = ap (λ t. cond t
+        ((lower_singleton b, b.1)
+        ∷ filter {X = ℕ × List (List ℕ)} (λ b. is_other_singleton b.0)
+        (map (λ b. (lower_singleton b, b.1)) bs)) (filter {X = ℕ × List (List ℕ)}
+        (λ b. is_other_singleton b.0) (map (λ b. (lower_singleton b, b.1)) bs))) (sym e)
+        ∙ o in
+        absurd (cc)
 
-    others : (t : Bool) → cond t ((lower_singleton b, b.1) ∷ filter {X = ℕ × List (List ℕ)} (λ b. is_other_singleton b.0) (map (λ b. (lower_singleton b, b.1)) bs)) (filter {X = ℕ × List (List ℕ)} (λ b. is_other_singleton b.0) (map (λ b. (lower_singleton b, b.1)) bs)) ≡ [] → filter {X = ℕ × List (List ℕ)} (λ b. is_other_singleton b.0) (map (λ b. (lower_singleton b, b.1)) bs) ≡ []
+    others : (t : Bool) →
+        cond t
+        ((lower_singleton b, b.1)
+        ∷ filter {X = ℕ × List (List ℕ)} (λ b. is_other_singleton b.0)
+        (map (λ b. (lower_singleton b, b.1)) bs)) (filter {X = ℕ × List (List ℕ)}
+        (λ b. is_other_singleton b.0) (map (λ b. (lower_singleton b, b.1)) bs))
+        ≡ [] →
+        filter {X = ℕ × List (List ℕ)} (λ b. is_other_singleton b.0) (map (λ b. (lower_singleton b, b.1)) bs)
+        ≡ []
     others true e = absurd (cc)
     others false e = e
 
 -- one of `u` and what it spells
-one_of_u : (bs : List (ℕ × List (List ℕ))) → AllDifferent nat_cmp (map (λ b. lower_singleton b) bs) → AllByRecursion HasPieces bs → AllByRecursion IsOfU bs → (fs : Fields) → after 117 bs ≡ fields_pieces fs → AllByRecursion (λ f. IsWord UnicodeKey f.0 × AllByRecursion (IsWord Attribute) f.1) fs → length fs ≤ 1 → (o : Option (List ℕ × Option (List ℕ))) → option_to_list (option_map keyword_of_small o) ≡ normal_fields fs → SpellsKeyword bs o
+one_of_u : (bs : List (ℕ × List (List ℕ))) → AllDifferent nat_cmp (map (λ b. lower_singleton b) bs) →
+    AllByRecursion HasPieces bs → AllByRecursion IsOfU bs → (fs : Fields) → after 117 bs ≡ fields_pieces fs →
+    AllByRecursion (λ f. IsWord UnicodeKey f.0 × AllByRecursion (IsWord Attribute) f.1) fs → length fs ≤ 1 →
+    (o : Option (List ℕ × Option (List ℕ))) →
+    option_to_list (option_map keyword_of_small o) ≡ normal_fields fs → SpellsKeyword bs o
 one_of_u [] d h u [] k w l None e = record { keyword = None; grammatical = tt; spelled = refl; means = refl }
 one_of_u [] d h u (f ∷ fs) k w l o e = absurd (cc)
 one_of_u bs d h u [] k w l (Some q) e = absurd (cc)
-one_of_u ((c, ps) ∷ []) d h u [] k w l o e = absurd (nothing_here ps h.0.1 (ap (λ t. cond t ps []) (sym (eq-eqb (to_ascii_lowercase c) 117 u.0)) ∙ (none_of_both _ _ k).0))
+one_of_u ((c, ps) ∷ []) d h u [] k w l o e = absurd (nothing_here ps h.0.1
+    (ap (λ t. cond t ps []) (sym (eq-eqb (to_ascii_lowercase c) 117 u.0)) ∙ (none_of_both _ _ k).0))
 one_of_u ((c, ps) ∷ []) d h u (f ∷ []) k w l None e = absurd (cc)
 one_of_u ((c, ps) ∷ []) d h u (f ∷ []) k w l (Some q) e =
-    let pieces_are : ps ≡ f.0 ∷ f.1 = sym (append-nil ps) ∙ ap (λ t. cond t ps [] ++ []) (sym (eq-eqb (to_ascii_lowercase c) 117 u.0)) ∙ k ∙ append-nil (f.0 ∷ f.1) in
+    let pieces_are : ps ≡ f.0 ∷ f.1 =
+    sym (append-nil ps) ∙ ap (λ t. cond t ps [] ++ []) (sym (eq-eqb (to_ascii_lowercase c) 117 u.0)) ∙ k
+    ∙ append-nil (f.0 ∷ f.1) in
     let both : keyword_of_small q ≡ (lower f.0, normal_values f.1) = cc in
     let key : q.0 ≡ lower f.0 = ap (λ (e : List ℕ × List (List ℕ)). e.0) both in
     let value : option_to_list q.1 ≡ normal_values f.1 = ap (λ (e : List ℕ × List (List ℕ)). e.1) both in
     record {
       keyword = Some (record { byte = c; key = f.0; values = f.1 });
-      grammatical = record { u = u.0; key = w.0.0; values = w.0.1; one_value = subst (λ (l : List (List ℕ)). length l ≤ 1) value (one_at_most q.1) };
+      grammatical = record {
+        u = u.0;
+        key = w.0.0;
+        values = w.0.1;
+        one_value = subst (λ (l : List (List ℕ)). length l ≤ 1) value (one_at_most q.1);
+      };
       spelled = ap (λ l. (c, l) ∷ []) pieces_are;
       means = λ i. Some (key i, (sym (first-option q.1) ∙ ap first_item value) i);
     }
 one_of_u bs d h u (f ∷ g ∷ fs) k w l o e = absurd (omega arith)
-one_of_u (b ∷ c ∷ bs) d h u fs k w l o e = absurd (true≢false (sym (ap (λ q. eq_by_cmp nat_cmp q (lower_singleton c)) u.0 ∙ ap (eq_by_cmp nat_cmp 117) u.1.0 ∙ self_tied 117) ∙ (or_parts _ _ (false_from_ne_true _ d.0)).0))
+one_of_u (b ∷ c ∷ bs) d h u fs k w l o e = absurd (true≢false (sym
+    (ap (λ q. eq_by_cmp nat_cmp q (lower_singleton c)) u.0 ∙ ap (eq_by_cmp nat_cmp 117) u.1.0 ∙ self_tied 117)
+    ∙ (or_parts _ _ (false_from_ne_true _ d.0)).0))
 
-pub keyword_spelled : {T : ℕ → Bool} (t : List ℕ) (r : SmallLocale) → IsSmall T t r → SpellsKeyword (tail_blocks (pieces t)) r.keyword
+pub keyword_spelled : {T : ℕ → Bool} (t : List ℕ) (r : SmallLocale) → IsSmall T t r →
+    SpellsKeyword (tail_blocks (pieces t)) r.keyword
 keyword_spelled t r h =
     let bs = tail_blocks (pieces t) in
     let e = h.written in
     let none_transform = ap (λ (e : Extensions). e.transform) h.means in
     let transform_is : transform_pieces e.transform ≡ [] = no_pieces e.transform none_transform in
-    let private_is : e.private ≡ [] = none_mapped lower e.private (sym (ap (λ (e : Extensions). e.private) h.means)) in
-    let others_are : e.others ≡ [] = none_mapped (λ (o : ℕ × List (List ℕ)). (o.0, kept o.1)) e.others (none_there nat_cmp nat_cmp_total _ (sym (ap (λ (e : Extensions). e.others) h.means))) in
-    let attributes_are : e.unicode.attributes ≡ [] = none_mapped lower e.unicode.attributes (none_in_set _ (sym (ap (λ (e : Extensions). e.unicode.attributes) h.means))) in
+    let private_is : e.private ≡ [] =
+    none_mapped lower e.private (sym (ap (λ (e : Extensions). e.private) h.means)) in
+    let others_are : e.others ≡ [] = none_mapped (λ (o : ℕ × List (List ℕ)). (o.0, kept o.1)) e.others
+    (none_there nat_cmp nat_cmp_total _ (sym (ap (λ (e : Extensions). e.others) h.means))) in
+    let attributes_are : e.unicode.attributes ≡ [] = none_mapped lower e.unicode.attributes
+    (none_in_set _ (sym (ap (λ (e : Extensions). e.unicode.attributes) h.means))) in
     one_of_u bs h.spelled.different h.spelled.each_block
-    (only_u bs h.spelled.each_block (h.spelled.transform.1 ∙ transform_is) (h.spelled.private.1 ∙ private_is) (h.spelled.others.1 ∙ others_are))
+    (only_u bs h.spelled.each_block (h.spelled.transform.1 ∙ transform_is) (h.spelled.private.1 ∙ private_is)
+    (h.spelled.others.1 ∙ others_are))
     e.unicode.keywords (h.spelled.unicode.1 ∙ ap (λ l. l ++ fields_pieces e.unicode.keywords) attributes_are)
     h.spelled.unicode.0.keywords h.one_keyword r.keyword (ap (λ (e : Extensions). e.unicode.keywords) h.means)
   where
-    no_pieces : (m : SpelledTransform) → no_transform ≡ record { id = option_map normal_identifier m.id; fields = normal_fields m.fields } → transform_pieces m ≡ []
-    no_pieces m e = from m.id m.fields (ap (λ (n : Transform). n.id) e) (no_normal_fields m.fields (sym (ap (λ (n : Transform). n.fields) e)))
+    no_pieces : (m : SpelledTransform) →
+        no_transform ≡ record { id = option_map normal_identifier m.id; fields = normal_fields m.fields } →
+        transform_pieces m ≡ []
+    no_pieces m e = from m.id m.fields (ap (λ (n : Transform). n.id) e)
+        (no_normal_fields m.fields (sym (ap (λ (n : Transform). n.fields) e)))
       where
-        from : (o : Option SpelledIdentifier) (fs : Fields) → ◌≡◌ {A = Option Identifier} None (option_map normal_identifier o) → fs ≡ [] → transform_pieces {s = Spelled} (record { id = o; fields = fs }) ≡ []
+        from : (o : Option SpelledIdentifier) (fs : Fields) →
+            ◌≡◌ {A = Option Identifier} None (option_map normal_identifier o) → fs ≡ [] →
+            transform_pieces {s = Spelled} (record { id = o; fields = fs }) ≡ []
         from None fs n k = ap fields_pieces k
         from (Some i) fs n k = absurd (cc)
 
 -- the extensions that such blocks spell
 abbrev keyword_extensions : Option WrittenKeyword → SpelledExtensions
 keyword_extensions k = record {
-  unicode = record { attributes = []; keywords = option_to_list (option_map (λ (k : WrittenKeyword). (k.key, k.values)) k) };
+  unicode = record {
+    attributes = [];
+    keywords = option_to_list (option_map (λ (k : WrittenKeyword). (k.key, k.values)) k);
+  };
   transform = record { id = None; fields = [] };
   private = [];
   others = [];
@@ -196,8 +283,16 @@ keyword_extensions k = record {
 pub u_letter : (c : ℕ) → to_ascii_lowercase c ≡ 117 → is_ascii_alphanumeric c ≡ true
 u_letter c h = grind (arith, nat_tests)
 
-spelled_keyword : {T : ℕ → Bool} (k : Option WrittenKeyword) → IfSome k IsSmallKeyword → SpellsExtensions T (keyword_blocks k) (keyword_extensions k)
-spelled_keyword None g = record { each_block = tt; different = tt; unicode = (record { attributes = tt; keywords = tt }, refl); transform = (record { id = tt; fields = tt }, refl); private = (tt, refl); others = (tt, refl) }
+spelled_keyword : {T : ℕ → Bool} (k : Option WrittenKeyword) → IfSome k IsSmallKeyword →
+    SpellsExtensions T (keyword_blocks k) (keyword_extensions k)
+spelled_keyword None g = record {
+  each_block = tt;
+  different = tt;
+  unicode = (record { attributes = tt; keywords = tt }, refl);
+  transform = (record { id = tt; fields = tt }, refl);
+  private = (tt, refl);
+  others = (tt, refl);
+}
 spelled_keyword (Some k) g = record {
   each_block = ((u_letter k.byte g.u, omega arith), tt);
   different = (both_ways _ refl, tt);
@@ -207,15 +302,25 @@ spelled_keyword (Some k) g = record {
   others = (tt, rw (false_from_ne_true (is_other_singleton (to_ascii_lowercase k.byte)) (no_u _ g.u)) refl);
 }
 
-pub small_by_keyword : {T : ℕ → Bool} (t : List ℕ) (r : SmallLocale) → IsSmallIdentifier T (head (pieces t)) r.id → SpellsKeyword (tail_blocks (pieces t)) r.keyword → IsSmall T t r
+pub small_by_keyword : {T : ℕ → Bool} (t : List ℕ) (r : SmallLocale) →
+    IsSmallIdentifier T (head (pieces t)) r.id → SpellsKeyword (tail_blocks (pieces t)) r.keyword →
+    IsSmall T t r
 small_by_keyword {T = T} t r id k = record {
   id = id;
   written = keyword_extensions k.keyword;
-  spelled = subst (λ bs. SpellsExtensions T bs (keyword_extensions k.keyword)) (sym k.spelled) (spelled_keyword k.keyword k.grammatical);
+  spelled = subst (λ bs. SpellsExtensions T bs (keyword_extensions k.keyword)) (sym k.spelled)
+      (spelled_keyword k.keyword k.grammatical);
   one_keyword = one_at_most (option_map (λ (k : WrittenKeyword). (k.key, k.values)) k.keyword);
-  means = means k.keyword k.grammatical (ap (λ o. (locale_of_small (record { id = r.id; keyword = o })).extensions) k.means);
+  means = means k.keyword k.grammatical
+      (ap (λ o. (locale_of_small (record { id = r.id; keyword = o })).extensions) k.means);
 }
   where
-    means : (k : Option WrittenKeyword) → IfSome k IsSmallKeyword → (locale_of_small r).extensions ≡ (locale_of_small (record { id = r.id; keyword = option_map small_keyword k })).extensions → (locale_of_small r).extensions ≡ normal_extensions (keyword_extensions k)
+    means : (k : Option WrittenKeyword) → IfSome k IsSmallKeyword →
+        (locale_of_small r).extensions
+        ≡ (locale_of_small (record { id = r.id; keyword = option_map small_keyword k })).extensions →
+        (locale_of_small r).extensions ≡ normal_extensions (keyword_extensions k)
     means None g e = e
-    means (Some k) g e = e ∙ ap (λ (vs : List (List ℕ)). just_unicode (record { attributes = []; keywords = (lower k.key, vs) ∷ [] })) (short_list (normal_values k.values) g.one_value)
+    means (Some k) g e = e
+        ∙ ap
+        (λ (vs : List (List ℕ)). just_unicode (record { attributes = []; keywords = (lower k.key, vs) ∷ [] }))
+        (short_list (normal_values k.values) g.one_value)

@@ -1,23 +1,31 @@
 -- Small texts by the trees that they spell.
-use Rattle.std.proofs.Common.{◌≡◌, ◌≢◌, ℕ, ◌≤◌, Bool, false, ◌==◌, List, [], ◌∷◌, ◌++◌, length, map, flat_map, refl, sym, ap, ◌∙◌, subst, arith, Option, Some, None, IfSome, option_map, true≢false, append-nil}
+use Rattle.std.proofs.Common.{◌≡◌, ◌≢◌, ℕ, ◌≤◌, Bool, false, ◌==◌, List, [], ◌∷◌, ◌++◌, length, map, flat_map}
+use Rattle.std.proofs.Common.{refl, sym, ap, ◌∙◌, subst, arith, Option, Some, None, IfSome, option_map}
+use Rattle.std.proofs.Common.{true≢false, append-nil}
 use Rattle.std.specs.List.{AllByRecursion}
 use Rattle.std.proofs.lemmas.Bool.{ne_eqb, both_ways}
-use Rattle.iloc_spec_grammar.specs.Syntax.{pieces, UnicodeKey, Attribute, IsWord, SpelledIdentifier, HasWords, head, tail_blocks, blocks, lower_singleton}
-use Rattle.iloc_spec_grammar.specs.Tree.{Extension, unicode, Written, IsWritten, spelling, block_pieces, extension_block}
+use Rattle.iloc_spec_grammar.specs.Syntax.{pieces, UnicodeKey, Attribute, IsWord, SpelledIdentifier, HasWords}
+use Rattle.iloc_spec_grammar.specs.Syntax.{head, tail_blocks, blocks, lower_singleton}
+use Rattle.iloc_spec_grammar.specs.Tree.{Extension, unicode, Written, IsWritten, spelling, block_pieces}
+use Rattle.iloc_spec_grammar.specs.Tree.{extension_block}
 use Rattle.iloc_spec_grammar.specs.Meaning.{normal_values}
 use Rattle.iloc_spec_grammar.proofs.FaultLaws.{head-and-blocks}
 use Rattle.iloc_spec_grammar.proofs.PiecesLaws.{pieces_nonempty}
-use Rattle.iloc_spec_grammar.proofs.Readings.{IsLong, long_attribute, after_language, long_after_language, head-spelling, blocks_spelled}
+use Rattle.iloc_spec_grammar.proofs.Readings.{IsLong, long_attribute, after_language, long_after_language}
+use Rattle.iloc_spec_grammar.proofs.Readings.{head-spelling, blocks_spelled}
 use Rattle.iloc_spec_grammar.proofs.WordsLaws.{length-unicode_key}
 use Rattle.iloc_spec_grammar.proofs.ValuesLaws.{all_weaker}
 use Rattle.iloc_spec_parts.specs.Small.{SmallLocale, IsSmallIdentifier, IsSmall}
 use Rattle.iloc_spec_parts.specs.SmallComputing.{small_identifier}
-use Rattle.iloc_spec_parts.proofs.SmallShapes.{WrittenKeyword, small_keyword, keyword_blocks, IsSmallKeyword, small_identifier_of, one_variant, small_identifier_is, keyword_spelled, small_by_keyword}
+use Rattle.iloc_spec_parts.proofs.SmallShapes.{WrittenKeyword, small_keyword, keyword_blocks, IsSmallKeyword}
+use Rattle.iloc_spec_parts.proofs.SmallShapes.{small_identifier_of, one_variant, small_identifier_is}
+use Rattle.iloc_spec_parts.proofs.SmallShapes.{keyword_spelled, small_by_keyword}
 
 -- no extension, or one keyword after its singleton
 abbrev pub keyword_extension : Option WrittenKeyword → List (ℕ × Extension)
 keyword_extension None = []
-keyword_extension (Some k) = (k.byte, unicode (record { attributes = []; keywords = (k.key, k.values) ∷ [] })) ∷ []
+keyword_extension (Some k) =
+    (k.byte, unicode (record { attributes = []; keywords = (k.key, k.values) ∷ [] })) ∷ []
 
 -- what is written: the identifier, and perhaps a block of `u`
 abbrev pub small_written : SpelledIdentifier → Option WrittenKeyword → Written
@@ -49,11 +57,19 @@ past_long ((c ∷ d ∷ p) ∷ xs) ys h = past_long xs ys h.1
 long_key : (p : List ℕ) → IsWord UnicodeKey p → IsLong p
 long_key p h = ne_eqb (length p) 1 (λ e. let l = length-unicode_key p h in absurd (omega arith))
 
-long_blocks : (k : Option WrittenKeyword) → IfSome k IsSmallKeyword → AllByRecursion (λ b. ((lower_singleton b == 120) ≡ false) × AllByRecursion IsLong b.1) (keyword_blocks k)
+long_blocks : (k : Option WrittenKeyword) → IfSome k IsSmallKeyword →
+    AllByRecursion (λ b. ((lower_singleton b == 120) ≡ false) × AllByRecursion IsLong b.1) (keyword_blocks k)
 long_blocks None g = tt
-long_blocks (Some k) g = ((rw g.u refl, (long_key k.key g.key, all_weaker (IsWord Attribute) IsLong long_attribute k.values g.values)), tt)
+long_blocks (Some k) g = (
+  (
+    rw g.u refl,
+    (long_key k.key g.key, all_weaker (IsWord Attribute) IsLong long_attribute k.values g.values),
+  ),
+  tt,
+)
 
-small_blocks : {T : ℕ → Bool} (i : SpelledIdentifier) → HasWords T i → (k : Option WrittenKeyword) → IfSome k IsSmallKeyword → tail_blocks (spelling (small_written i k)) ≡ keyword_blocks k
+small_blocks : {T : ℕ → Bool} (i : SpelledIdentifier) → HasWords T i → (k : Option WrittenKeyword) →
+    IfSome k IsSmallKeyword → tail_blocks (spelling (small_written i k)) ≡ keyword_blocks k
 small_blocks i w k g =
     past_long (after_language i) _ (long_after_language i w)
     ∙ ap (λ bs. blocks (flat_map block_pieces (bs ++ []))) (extension_is k)
@@ -62,16 +78,26 @@ small_blocks i w k g =
 
 -- both ways
 
-small_rules : {T : ℕ → Bool} (i : SpelledIdentifier) (k : Option WrittenKeyword) → IsWritten T (small_written i k) → IfSome k (λ k. length (normal_values k.values) ≤ 1) → IfSome k IsSmallKeyword
+small_rules : {T : ℕ → Bool} (i : SpelledIdentifier) (k : Option WrittenKeyword) →
+    IsWritten T (small_written i k) → IfSome k (λ k. length (normal_values k.values) ≤ 1) →
+    IfSome k IsSmallKeyword
 small_rules i None h o = tt
-small_rules i (Some k) h o = let word = h.extensions.0.1.keywords.0 in record { u = h.extensions.0.0; key = word.0; values = word.1; one_value = o }
+small_rules i (Some k) h o = let word = h.extensions.0.1.keywords.0 in
+    record { u = h.extensions.0.0; key = word.0; values = word.1; one_value = o }
 
 pub tree_is_small : {T : ℕ → Bool} (t : List ℕ) (r : SmallLocale) → IsTreeSmall T t r → IsSmall T t r
 tree_is_small {T = T} t r h =
     let g = small_rules h.id h.keyword h.grammatical h.one_value in
     small_by_keyword t r
-    (subst (λ (s : SmallLocale). IsSmallIdentifier T (head (pieces t)) s.id) (sym h.means) (small_identifier_of (head (pieces t)) h.id h.grammatical.id (ap head h.spelled ∙ head-spelling (small_written h.id h.keyword) h.grammatical) h.one_variant))
-    (record { keyword = h.keyword; grammatical = g; spelled = ap tail_blocks h.spelled ∙ small_blocks h.id h.grammatical.id.words h.keyword g; means = ap (λ (s : SmallLocale). s.keyword) h.means })
+    (subst (λ (s : SmallLocale). IsSmallIdentifier T (head (pieces t)) s.id) (sym h.means)
+    (small_identifier_of (head (pieces t)) h.id h.grammatical.id
+    (ap head h.spelled ∙ head-spelling (small_written h.id h.keyword) h.grammatical) h.one_variant))
+    (record {
+      keyword = h.keyword;
+      grammatical = g;
+      spelled = ap tail_blocks h.spelled ∙ small_blocks h.id h.grammatical.id.words h.keyword g;
+      means = ap (λ (s : SmallLocale). s.keyword) h.means;
+    })
 
 pub small_is_tree : {T : ℕ → Bool} (t : List ℕ) (r : SmallLocale) → IsSmall T t r → IsTreeSmall T t r
 small_is_tree {T = T} t r h =
@@ -80,7 +106,10 @@ small_is_tree {T = T} t r h =
       id = i;
       keyword = s.keyword;
       grammatical = rules s.keyword s.grammatical;
-      spelled = at (pieces t) (pieces_nonempty t) ∙ (λ j. h.id.spelled j ++ flat_map block_pieces ((s.spelled ∙ sym (extension_is s.keyword) ∙ sym (append-nil (map extension_block (keyword_extension s.keyword)))) j));
+      spelled = at (pieces t) (pieces_nonempty t)
+          ∙ (λ j. h.id.spelled j
+          ++ flat_map block_pieces ((s.spelled ∙ sym (extension_is s.keyword)
+          ∙ sym (append-nil (map extension_block (keyword_extension s.keyword)))) j));
       one_variant = one_variant (head (pieces t)) r.id h.id;
       one_value = few s.keyword s.grammatical;
       means = λ j. record { id = small_identifier_is (head (pieces t)) r.id h.id j; keyword = s.means j };
@@ -88,9 +117,16 @@ small_is_tree {T = T} t r h =
   where
     rules : (k : Option WrittenKeyword) → IfSome k IsSmallKeyword → IsWritten T (small_written h.id.written k)
     rules None g = record { id = h.id.grammatical; extensions = tt; different = tt; private = tt }
-    rules (Some k) g = record { id = h.id.grammatical; extensions = ((g.u, record { attributes = tt; keywords = ((g.key, g.values), tt); nonempty = omega arith }), tt); different = (both_ways _ refl, tt); private = tt }
+    rules (Some k) g = record {
+      id = h.id.grammatical;
+      extensions =
+          ((g.u, record { attributes = tt; keywords = ((g.key, g.values), tt); nonempty = omega arith }), tt);
+      different = (both_ways _ refl, tt);
+      private = tt;
+    }
 
-    few : (k : Option WrittenKeyword) → IfSome k IsSmallKeyword → IfSome k (λ k. length (normal_values k.values) ≤ 1)
+    few : (k : Option WrittenKeyword) → IfSome k IsSmallKeyword →
+        IfSome k (λ k. length (normal_values k.values) ≤ 1)
     few None g = tt
     few (Some k) g = g.one_value
 

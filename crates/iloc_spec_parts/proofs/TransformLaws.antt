@@ -1,24 +1,39 @@
 -- The reader of what comes after `t`: the longest front of an identifier, and fields.
-use Rattle.std.proofs.Common.{◌≡◌, ◌↔◌, ℕ, ◌<◌, ◌≤◌, Bool, true, false, cond, ◌&&◌, ◌||◌, nat_lt, List, [], ◌∷◌, ◌++◌, length, take, drop, length-append, map, refl, sym, ap, ◌∙◌, subst, arith, Option, Some, None, IfSome, is_some, option_to_list, true≢false, append_assoc, le_antisymm, Result, Err, MatchResult}
+use Rattle.std.proofs.Common.{◌≡◌, ◌↔◌, ℕ, ◌<◌, ◌≤◌, Bool, true, false, cond, ◌&&◌, ◌||◌, nat_lt, List, []}
+use Rattle.std.proofs.Common.{◌∷◌, ◌++◌, length, take, drop, length-append, map, refl, sym, ap, ◌∙◌, subst}
+use Rattle.std.proofs.Common.{arith, Option, Some, None, IfSome, is_some, option_to_list, true≢false}
+use Rattle.std.proofs.Common.{append_assoc, le_antisymm, Result, Err, MatchResult}
 use Rattle.std.specs.List.{AllByRecursion, list_all}
 use Rattle.std.proofs.lemmas.Bool.{cond_both, false_from_ne_true, eqb-true}
 use Rattle.std.proofs.lemmas.List.{map-append, take-append-le, take-append-drop}
 use Rattle.std.proofs.Math.Seq.{take-append_seam, drop-append_seam}
-use Rattle.iloc_spec_grammar.specs.Syntax.{Language, Script, Region, Variant, TransformKey, Attribute, is_word, IsWord, AreLengths, lower, word_cmp, Spelled, SpelledIdentifier, Transform, Fields, identifier_pieces, optional_pieces, fields_pieces, HasWords, IsIdentifier, IsField, AllDifferent, first_piece, front}
+use Rattle.iloc_spec_grammar.specs.Syntax.{Language, Script, Region, Variant, TransformKey, Attribute}
+use Rattle.iloc_spec_grammar.specs.Syntax.{is_word, IsWord, AreLengths, lower, word_cmp, Spelled}
+use Rattle.iloc_spec_grammar.specs.Syntax.{SpelledIdentifier, Transform, Fields, identifier_pieces}
+use Rattle.iloc_spec_grammar.specs.Syntax.{optional_pieces, fields_pieces, HasWords, IsIdentifier, IsField}
+use Rattle.iloc_spec_grammar.specs.Syntax.{AllDifferent, first_piece, front}
 use Rattle.iloc_spec_grammar.specs.Tree.{transform, IsTransformBlock}
 use Rattle.iloc_spec_grammar.specs.Meaning.{normal_transform, Fault, InvalidSubtag, RepeatsVariant}
 use Rattle.iloc_spec_grammar.specs.ByBlocks.{TransformMeans}
-use Rattle.iloc_spec_grammar.specs.Reading.{IdentifierFront, EndsBefore, starts_block, from_block, front_of, after_front, identifier_of, fields_from}
+use Rattle.iloc_spec_grammar.specs.Reading.{IdentifierFront, EndsBefore, starts_block, from_block, front_of}
+use Rattle.iloc_spec_grammar.specs.Reading.{after_front, identifier_of, fields_from}
 use Rattle.iloc_spec_grammar.proofs.WordsLaws.{length-language, region_no_script, length-transform_key}
 use Rattle.iloc_spec_grammar.proofs.ValuesLaws.{all_weaker, all_both}
 use Rattle.iloc_spec_grammar.proofs.IdentifierLaws.{pieces-identifier_of, one_identifier}
-use Rattle.iloc_spec_grammar.proofs.Readings.{IsLong, IsNoKey, after_language, long_after_language, long_extension, identifier_no_key, language_no_key, fields_pass, fields_read}
+use Rattle.iloc_spec_grammar.proofs.Readings.{IsLong, IsNoKey, after_language, long_after_language}
+use Rattle.iloc_spec_grammar.proofs.Readings.{long_extension, identifier_no_key, language_no_key, fields_pass}
+use Rattle.iloc_spec_grammar.proofs.Readings.{fields_read}
 use Rattle.iloc_spec_grammar.proofs.ReadingLaws.{front_is_front, front-from_block, from_block_starts}
-use Rattle.iloc_spec_grammar.proofs.FaultLaws.{some_repeat, front_variants, after_variants, front_are_variants, front_longest, read_longer, cut_identifier, repeats_longer, language_of, script_of, region_of, spell_cut}
+use Rattle.iloc_spec_grammar.proofs.FaultLaws.{some_repeat, front_variants, after_variants}
+use Rattle.iloc_spec_grammar.proofs.FaultLaws.{front_are_variants, front_longest, read_longer, cut_identifier}
+use Rattle.iloc_spec_grammar.proofs.FaultLaws.{repeats_longer, language_of, script_of, region_of, spell_cut}
 use Rattle.iloc_spec_grammar.specs.Computing.{all_different, is_field}
-use Rattle.iloc_spec_grammar.proofs.RuleTests.{Tests, tests_not, tests_and, tests_all, tests_field, tests_needed, tests_different}
+use Rattle.iloc_spec_grammar.proofs.RuleTests.{Tests, tests_not, tests_and, tests_all, tests_field}
+use Rattle.iloc_spec_grammar.proofs.RuleTests.{tests_needed, tests_different}
 use Rattle.iloc_spec_parts.specs.Readers.{IsReader, AgreesWithBlocks}
-use Rattle.iloc_spec_parts.specs.Fronts.{FrontRead, absent, present, is_field_piece, fields_front, after_fields, TransformRead, TransformFault, repeats, unread, fields_at, fields_result, transform_result}
+use Rattle.iloc_spec_parts.specs.Fronts.{FrontRead, absent, present, is_field_piece, fields_front}
+use Rattle.iloc_spec_parts.specs.Fronts.{after_fields, TransformRead, TransformFault, repeats, unread}
+use Rattle.iloc_spec_parts.specs.Fronts.{fields_at, fields_result, transform_result}
 use Rattle.iloc_spec_parts.proofs.FieldLaws.{all_from_pieces, front_of_fields, fields_stop, pieces_pass}
 use Rattle.iloc_spec_parts.proofs.FrontLaws.{not_attribute}
 use Rattle.iloc_spec_parts.proofs.ReaderLaws.{reader_of, agreeing, until_block, Answers}
@@ -38,88 +53,144 @@ abbrev NoFirst : (List ℕ → Type 0) → List (List ℕ) → Type 0
 NoFirst P [] = Unit {0}
 NoFirst P (p ∷ ps) = ¬ (P p)
 
-not_longer : (P : List ℕ → Type 0) (xs ys a b : List (List ℕ)) → xs ++ a ≡ ys ++ b → AllByRecursion P ys → NoFirst P a → length ys ≤ length xs
+not_longer : (P : List ℕ → Type 0) (xs ys a b : List (List ℕ)) → xs ++ a ≡ ys ++ b → AllByRecursion P ys →
+    NoFirst P a → length ys ≤ length xs
 not_longer P [] [] a b e h n = omega arith
 not_longer P [] (y ∷ ys) [] b e h n = absurd (cc)
 not_longer P [] (y ∷ ys) (p ∷ a) b e h n = let same : p ≡ y = cc in absurd (n (subst P (sym same) h.0))
 not_longer P (x ∷ xs) [] a b e h n = omega arith
-not_longer P (x ∷ xs) (y ∷ ys) a b e h n = let tails : xs ++ a ≡ ys ++ b = cc in let l = not_longer P xs ys a b tails h.1 n in omega arith
+not_longer P (x ∷ xs) (y ∷ ys) a b e h n =
+    let tails : xs ++ a ≡ ys ++ b = cc in let l = not_longer P xs ys a b tails h.1 n in omega arith
 
 -- the longest front of an identifier is one
 
-pub front_language : {T : ℕ → Bool} (ps : List (List ℕ)) (i : SpelledIdentifier) (rest : List (List ℕ)) → HasWords T i → ps ≡ identifier_pieces i ++ rest → IsWord (Language T) (first_piece ps)
-front_language {T = T} ps i rest h e = ap (λ (l : List (List ℕ)). is_word (Language T) (first_piece l)) e ∙ h.language
+pub front_language : {T : ℕ → Bool} (ps : List (List ℕ)) (i : SpelledIdentifier) (rest : List (List ℕ)) →
+    HasWords T i → ps ≡ identifier_pieces i ++ rest → IsWord (Language T) (first_piece ps)
+front_language {T = T} ps i rest h e =
+    ap (λ (l : List (List ℕ)). is_word (Language T) (first_piece l)) e ∙ h.language
 
-pub one_longest : {T : ℕ → Bool} (ps : List (List ℕ)) (i j : SpelledIdentifier) (rest more : List (List ℕ)) → IdentifierFront T ps i rest → IdentifierFront T ps j more → (i ≡ j) × (rest ≡ more)
+pub one_longest : {T : ℕ → Bool} (ps : List (List ℕ)) (i j : SpelledIdentifier) (rest more : List (List ℕ)) →
+    IdentifierFront T ps i rest → IdentifierFront T ps j more → (i ≡ j) × (rest ≡ more)
 one_longest ps i j rest more a b =
-    let fronts = same_fronts (identifier_pieces i) (identifier_pieces j) rest more (sym a.spelled ∙ b.spelled) (le_antisymm (b.longest i rest a.words a.spelled) (a.longest j more b.words b.spelled)) in
+    let fronts = same_fronts (identifier_pieces i) (identifier_pieces j) rest more (sym a.spelled ∙ b.spelled)
+    (le_antisymm (b.longest i rest a.words a.spelled) (a.longest j more b.words b.spelled)) in
     (one_identifier i j a.words b.words fronts.0, fronts.1)
 
-pub one_front : {T : ℕ → Bool} (ps : List (List ℕ)) {o q : Option SpelledIdentifier} {rest more : List (List ℕ)} → FrontRead T ps o rest → FrontRead T ps q more → (o ≡ q) × (rest ≡ more)
+pub one_front : {T : ℕ → Bool} (ps : List (List ℕ)) {o q : Option SpelledIdentifier}
+    {rest more : List (List ℕ)} →
+    FrontRead T ps o rest → FrontRead T ps q more → (o ≡ q) × (rest ≡ more)
 one_front ps (absent e) (absent k) = (refl, refl)
-one_front ps (absent e) (present g b) = absurd (true≢false (sym (front_language ps _ _ b.words b.spelled) ∙ e))
-one_front ps (present h a) (absent k) = absurd (true≢false (sym (front_language ps _ _ a.words a.spelled) ∙ k))
+one_front ps (absent e) (present g b) =
+    absurd (true≢false (sym (front_language ps _ _ b.words b.spelled) ∙ e))
+one_front ps (present h a) (absent k) =
+    absurd (true≢false (sym (front_language ps _ _ a.words a.spelled) ∙ k))
 one_front ps (present h a) (present g b) = let same = one_longest ps _ _ _ _ a b in (ap Some same.0, same.1)
 
 -- the reading from the left is a longest front
 
-left_longest : (l : List ℕ) (s r : Option (List ℕ)) (vs more : List (List ℕ)) → IfSome s (IsWord Script) → IfSome r (IsWord Region) → AllByRecursion (IsWord Variant) vs → length (l ∷ (option_to_list s ++ (option_to_list r ++ vs))) ≤ length (identifier_pieces (cut_identifier (identifier_of ((l ∷ (option_to_list s ++ (option_to_list r ++ vs))) ++ more))))
+left_longest : (l : List ℕ) (s r : Option (List ℕ)) (vs more : List (List ℕ)) → IfSome s (IsWord Script) →
+    IfSome r (IsWord Region) → AllByRecursion (IsWord Variant) vs →
+    length (l ∷ (option_to_list s ++ (option_to_list r ++ vs)))
+    ≤ length (identifier_pieces
+    (cut_identifier (identifier_of ((l ∷ (option_to_list s ++ (option_to_list r ++ vs))) ++ more))))
 unfolding identifier_of
 left_longest l None None [] more hs hr hv = omega arith
 left_longest l (Some s) None [] more hs hr hv = rw hs (omega arith)
 left_longest l None (Some r) [] more hs hr hv = rw (region_no_script r hr, hr) (omega arith)
 left_longest l (Some s) (Some r) [] more hs hr hv = rw (hs, hr) (omega arith)
 left_longest l s r (v ∷ vs) more hs hr hv =
-    let read : cut_identifier (identifier_of ((l ∷ (option_to_list s ++ (option_to_list r ++ (v ∷ vs)))) ++ more)) ≡ record { language = l; script = s; region = r; variants = (v ∷ vs) ++ front_variants more } = ap cut_identifier (read_longer l s r v vs more hs hr hv.0) ∙ ap (λ ws. record { language = l; script = s; region = r; variants = ws }) (front_longest (v ∷ vs) more hv) in
-    let pieces : identifier_pieces {s = Spelled} (record { language = l; script = s; region = r; variants = (v ∷ vs) ++ front_variants more }) ≡ (l ∷ (option_to_list s ++ (option_to_list r ++ (v ∷ vs)))) ++ front_variants more = sym (ap (λ ws. l ∷ ws) (append_assoc (option_to_list s) (option_to_list r ++ (v ∷ vs)) (front_variants more) ∙ ap (λ ws. option_to_list s ++ ws) (append_assoc (option_to_list r) (v ∷ vs) (front_variants more)))) in
-    let total : length (identifier_pieces (cut_identifier (identifier_of ((l ∷ (option_to_list s ++ (option_to_list r ++ (v ∷ vs)))) ++ more)))) ≡ length ((l ∷ (option_to_list s ++ (option_to_list r ++ (v ∷ vs)))) ++ front_variants more) = ap (λ i. length (identifier_pieces i)) read ∙ ap length pieces in
-    subst (λ (n : ℕ). length (l ∷ (option_to_list s ++ (option_to_list r ++ (v ∷ vs)))) ≤ n) (sym (total ∙ length-append (l ∷ (option_to_list s ++ (option_to_list r ++ (v ∷ vs)))) (front_variants more))) (omega arith)
+    let read : cut_identifier
+    (identifier_of ((l ∷ (option_to_list s ++ (option_to_list r ++ (v ∷ vs)))) ++ more))
+    ≡ record { language = l; script = s; region = r; variants = (v ∷ vs) ++ front_variants more } =
+    ap cut_identifier (read_longer l s r v vs more hs hr hv.0)
+    ∙ ap (λ ws. record { language = l; script = s; region = r; variants = ws })
+    (front_longest (v ∷ vs) more hv) in
+    let pieces : identifier_pieces {s = Spelled}
+    (record { language = l; script = s; region = r; variants = (v ∷ vs) ++ front_variants more })
+    ≡ (l ∷ (option_to_list s ++ (option_to_list r ++ (v ∷ vs)))) ++ front_variants more = sym
+    (ap (λ ws. l ∷ ws) (append_assoc (option_to_list s) (option_to_list r ++ (v ∷ vs)) (front_variants more)
+    ∙ ap (λ ws. option_to_list s ++ ws) (append_assoc (option_to_list r) (v ∷ vs) (front_variants more)))) in
+    let total : length (identifier_pieces
+    (cut_identifier (identifier_of ((l ∷ (option_to_list s ++ (option_to_list r ++ (v ∷ vs)))) ++ more))))
+    ≡ length ((l ∷ (option_to_list s ++ (option_to_list r ++ (v ∷ vs)))) ++ front_variants more) =
+    ap (λ i. length (identifier_pieces i)) read ∙ ap length pieces in
+    subst (λ (n : ℕ). length (l ∷ (option_to_list s ++ (option_to_list r ++ (v ∷ vs)))) ≤ n)
+    (sym
+    (total ∙ length-append (l ∷ (option_to_list s ++ (option_to_list r ++ (v ∷ vs)))) (front_variants more)))
+    (omega arith)
 
-left_front : (T : ℕ → Bool) (p : List ℕ) (ps : List (List ℕ)) → IsWord (Language T) p → IdentifierFront T (p ∷ ps) (cut_identifier (identifier_of (p ∷ ps))) (after_variants (identifier_of (p ∷ ps)).variants)
+left_front : (T : ℕ → Bool) (p : List ℕ) (ps : List (List ℕ)) → IsWord (Language T) p →
+    IdentifierFront T (p ∷ ps) (cut_identifier (identifier_of (p ∷ ps)))
+    (after_variants (identifier_of (p ∷ ps)).variants)
 left_front T p ps h = record {
-  words = record { language = subst (IsWord (Language T)) (sym (language_of p ps)) h; script = script_of p ps; region = region_of p ps; variants = front_are_variants _ };
+  words = record {
+    language = subst (IsWord (Language T)) (sym (language_of p ps)) h;
+    script = script_of p ps;
+    region = region_of p ps;
+    variants = front_are_variants _;
+  };
   spelled = sym (spell_cut (identifier_of (p ∷ ps)) ∙ pieces-identifier_of p ps);
-  longest = λ j more w e. subst (λ (l : List (List ℕ)). length (identifier_pieces j) ≤ length (identifier_pieces (cut_identifier (identifier_of l)))) (sym e) (left_longest j.language j.script j.region j.variants more w.script w.region w.variants);
+  longest = λ j more w e. subst (λ (l : List (List ℕ)).
+      length (identifier_pieces j) ≤ length (identifier_pieces (cut_identifier (identifier_of l))))
+      (sym e) (left_longest j.language j.script j.region j.variants more w.script w.region w.variants);
 }
 
-no_repeats : {T : ℕ → Bool} (ps : List (List ℕ)) (j : SpelledIdentifier) (rest : List (List ℕ)) → IsIdentifier T j → IdentifierFront T ps j rest → RepeatsVariant T ps → ⊥
+no_repeats : {T : ℕ → Bool} (ps : List (List ℕ)) (j : SpelledIdentifier) (rest : List (List ℕ)) →
+    IsIdentifier T j → IdentifierFront T ps j rest → RepeatsVariant T ps → ⊥
 no_repeats [] j rest h f r = let e = r.3 in absurd (cc)
 no_repeats {T = T} (p ∷ ps) j rest h f r =
     let left = left_front T p ps (front_language (p ∷ ps) j rest f.words f.spelled) in
     let same = one_longest (p ∷ ps) j _ rest _ f left in
-    let e : (identifier_of (p ∷ ps)).variants ≡ r.0.variants ++ r.1 = ap (λ l. (identifier_of l).variants) r.3 ∙ repeats_longer r.0 r.1 r.2 r.4 in
-    let vs : j.variants ≡ r.0.variants ++ front_variants r.1 = ap (λ (i : SpelledIdentifier). i.variants) same.0 ∙ ap front_variants e ∙ front_longest r.0.variants r.1 r.2.variants in
-    let all : AllDifferent word_cmp (map lower (r.0.variants ++ front_variants r.1)) = subst (λ l. AllDifferent word_cmp (map lower l)) vs h.different in
-    r.4 (some_repeat word_cmp (map lower r.0.variants) (map lower (front_variants r.1)) (subst (AllDifferent word_cmp) (map-append lower r.0.variants (front_variants r.1)) all))
+    let e : (identifier_of (p ∷ ps)).variants ≡ r.0.variants ++ r.1 =
+    ap (λ l. (identifier_of l).variants) r.3 ∙ repeats_longer r.0 r.1 r.2 r.4 in
+    let vs : j.variants ≡ r.0.variants ++ front_variants r.1 =
+    ap (λ (i : SpelledIdentifier). i.variants) same.0 ∙ ap front_variants e
+    ∙ front_longest r.0.variants r.1 r.2.variants in
+    let all : AllDifferent word_cmp (map lower (r.0.variants ++ front_variants r.1)) =
+    subst (λ l. AllDifferent word_cmp (map lower l)) vs h.different in
+    r.4 (some_repeat word_cmp (map lower r.0.variants) (map lower (front_variants r.1))
+    (subst (AllDifferent word_cmp) (map-append lower r.0.variants (front_variants r.1)) all))
 
 -- fields
 
 abbrev is_key : List ℕ → Bool
 is_key p = is_word TransformKey p
 
-fields_are : (ps : List (List ℕ)) (fs : Fields) → AllByRecursion IsField fs → fields_front ps ≡ fields_pieces fs → fields_at ps ≡ fs
+fields_are : (ps : List (List ℕ)) (fs : Fields) → AllByRecursion IsField fs →
+    fields_front ps ≡ fields_pieces fs → fields_at ps ≡ fs
 fields_are ps fs h e = ap (fields_from is_key) e ∙ fields_read is_key fs (fields_pass fs h)
 
-fields_test : (o : Option SpelledIdentifier) (fs : Fields) → Tests (list_all is_field fs && (is_some o || nat_lt 0 (length fs))) (AllByRecursion IsField fs × (o ≡ None → 0 < length fs))
+fields_test : (o : Option SpelledIdentifier) (fs : Fields) →
+    Tests (list_all is_field fs && (is_some o || nat_lt 0 (length fs)))
+    (AllByRecursion IsField fs × (o ≡ None → 0 < length fs))
 fields_test o fs = tests_and (tests_all is_field IsField tests_field fs) (tests_needed o (length fs))
 
 -- what is read is determined
 
-one_transform : (T : ℕ → Bool) (ps : List (List ℕ)) (v w : Transform) (rest more : List (List ℕ)) → TransformRead T ps v rest → TransformRead T ps w more → (v ≡ w) × (rest ≡ more)
+one_transform : (T : ℕ → Bool) (ps : List (List ℕ)) (v w : Transform) (rest more : List (List ℕ)) →
+    TransformRead T ps v rest → TransformRead T ps w more → (v ≡ w) × (rest ≡ more)
 one_transform T ps v w rest more a b =
     let fronts = one_front ps a.id b.id in
-    let fields : a.written.fields ≡ b.written.fields = sym (fields_are a.middle a.written.fields a.fields a.spelled) ∙ ap fields_at fronts.1 ∙ fields_are b.middle b.written.fields b.fields b.spelled in
-    (a.means ∙ (λ i. normal_transform (record { id = fronts.0 i; fields = fields i })) ∙ sym b.means, a.left ∙ ap after_fields fronts.1 ∙ sym b.left)
+    let fields : a.written.fields ≡ b.written.fields =
+    sym (fields_are a.middle a.written.fields a.fields a.spelled) ∙ ap fields_at fronts.1
+    ∙ fields_are b.middle b.written.fields b.fields b.spelled in (
+      a.means ∙ (λ i. normal_transform (record { id = fronts.0 i; fields = fields i })) ∙ sym b.means,
+      a.left ∙ ap after_fields fronts.1 ∙ sym b.left,
+    )
 
-pub read_no_repeats : {T : ℕ → Bool} (ps : List (List ℕ)) {o : Option SpelledIdentifier} {rest : List (List ℕ)} → FrontRead T ps o rest → RepeatsVariant T ps → ⊥
+pub read_no_repeats : {T : ℕ → Bool} (ps : List (List ℕ)) {o : Option SpelledIdentifier}
+    {rest : List (List ℕ)} →
+    FrontRead T ps o rest → RepeatsVariant T ps → ⊥
 read_no_repeats ps (absent e) r = true≢false (sym (front_language ps r.0 r.1 r.2 r.3) ∙ e)
 read_no_repeats ps (present h f) r = no_repeats ps _ _ h f r
 
-transform_apart : (T : ℕ → Bool) (ps : List (List ℕ)) (m : Transform) (rest : List (List ℕ)) (f : Fault) → TransformRead T ps m rest → TransformFault T ps f → ⊥
+transform_apart : (T : ℕ → Bool) (ps : List (List ℕ)) (m : Transform) (rest : List (List ℕ)) (f : Fault) →
+    TransformRead T ps m rest → TransformFault T ps f → ⊥
 transform_apart T ps m rest f h (repeats r) = read_no_repeats ps h.id r
 transform_apart T ps m rest f h (unread n u) = u m rest h
 
-one_transform_fault : (T : ℕ → Bool) (ps : List (List ℕ)) (f g : Fault) → TransformFault T ps f → TransformFault T ps g → f ≡ g
+one_transform_fault : (T : ℕ → Bool) (ps : List (List ℕ)) (f g : Fault) → TransformFault T ps f →
+    TransformFault T ps g → f ≡ g
 one_transform_fault T ps f g (repeats r) (repeats q) = refl
 one_transform_fault T ps f g (repeats r) (unread n u) = absurd (n r)
 one_transform_fault T ps f g (unread n u) (repeats q) = absurd (n q)
@@ -130,49 +201,88 @@ one_transform_fault T ps f g (unread n u) (unread m v) = refl
 abbrev pub IsTransformAnswer : (ℕ → Bool) → List (List ℕ) → Result (Transform × List (List ℕ)) Fault → Type 0
 IsTransformAnswer T ps o = MatchResult o (λ r. TransformRead T ps r.0 r.1) (TransformFault T ps)
 
-pub fields_answer : {T : ℕ → Bool} (ps : List (List ℕ)) (o : Option SpelledIdentifier) (middle : List (List ℕ)) → FrontRead T ps o middle → IsTransformAnswer T ps (fields_result o middle)
-fields_answer {T = T} ps o middle h = cond_both (list_all is_field (fields_at middle) && (is_some o || nat_lt 0 (length (fields_at middle)))) _ _ (IsTransformAnswer T ps)
+pub fields_answer : {T : ℕ → Bool} (ps : List (List ℕ)) (o : Option SpelledIdentifier)
+    (middle : List (List ℕ)) →
+    FrontRead T ps o middle → IsTransformAnswer T ps (fields_result o middle)
+fields_answer {T = T} ps o middle h =
+    cond_both (list_all is_field (fields_at middle) && (is_some o || nat_lt 0 (length (fields_at middle)))) _
+    _ (IsTransformAnswer T ps)
     (λ w.
     let rules = (fields_test o (fields_at middle)).holds w in
-    record { written = record { id = o; fields = fields_at middle }; middle = middle; id = h; fields = rules.0; spelled = front_of_fields is_key is_field_piece middle; nonempty = rules.1; means = refl; left = refl })
+    record {
+      written = record { id = o; fields = fields_at middle };
+      middle = middle;
+      id = h;
+      fields = rules.0;
+      spelled = front_of_fields is_key is_field_piece middle;
+      nonempty = rules.1;
+      means = refl;
+      left = refl;
+    })
     (λ n. unread (λ r. read_no_repeats ps h r) (λ m rest r.
     let fronts = one_front ps r.id h in
-    let fields : r.written.fields ≡ fields_at middle = sym (fields_are r.middle r.written.fields r.fields r.spelled) ∙ ap fields_at fronts.1 in
-    tests_not (fields_test o (fields_at middle)) n (subst (AllByRecursion IsField) fields r.fields, λ e. subst (λ (fs : Fields). 0 < length fs) fields (r.nonempty (fronts.0 ∙ e)))))
+    let fields : r.written.fields ≡ fields_at middle =
+    sym (fields_are r.middle r.written.fields r.fields r.spelled) ∙ ap fields_at fronts.1 in
+    tests_not (fields_test o (fields_at middle)) n (
+      subst (AllByRecursion IsField) fields r.fields,
+      λ e. subst (λ (fs : Fields). 0 < length fs) fields (r.nonempty (fronts.0 ∙ e)),
+    )))
 
 pub no_empty_language : {T : ℕ → Bool} → AreLengths T → is_word (Language T) [] ≡ false
-no_empty_language {T = T} table = false_from_ne_true _ (λ h. let l = table.least 0 (length-language T [] h) in absurd (omega arith))
+no_empty_language {T = T} table =
+    false_from_ne_true _ (λ h. let l = table.least 0 (length-language T [] h) in absurd (omega arith))
 
-pub transform_answer : {T : ℕ → Bool} → AreLengths T → Answers (TransformRead T) (TransformFault T) (transform_result T)
+pub transform_answer : {T : ℕ → Bool} → AreLengths T →
+    Answers (TransformRead T) (TransformFault T) (transform_result T)
 unfolding transform_result
-transform_answer {T = T} table [] = subst (λ b. IsTransformAnswer T [] (cond b (cond (all_different word_cmp (map lower (front_of []).variants)) (fields_result (Some (front_of [])) (after_front [])) (Err InvalidSubtag)) (fields_result None []))) (sym (no_empty_language table)) (fields_answer [] None [] (absent (no_empty_language table)))
-transform_answer {T = T} table (p ∷ ps) = cond_both (is_word (Language T) p) _ _ (IsTransformAnswer T (p ∷ ps))
+transform_answer {T = T} table [] = subst (λ b. IsTransformAnswer T [] (cond b
+    (cond (all_different word_cmp (map lower (front_of []).variants))
+    (fields_result (Some (front_of [])) (after_front [])) (Err InvalidSubtag)) (fields_result None [])))
+    (sym (no_empty_language table)) (fields_answer [] None [] (absent (no_empty_language table)))
+transform_answer {T = T} table (p ∷ ps) =
+    cond_both (is_word (Language T) p) _ _ (IsTransformAnswer T (p ∷ ps))
     (λ l.
     let taken = front_is_front p ps l in
-    cond_both (all_different word_cmp (map lower (front_of (p ∷ ps)).variants)) _ _ (IsTransformAnswer T (p ∷ ps))
-    (λ d. fields_answer (p ∷ ps) _ _ (present (record { words = taken.words; different = (tests_different word_cmp _).holds d }) taken))
-    (λ n. repeats (front_of (p ∷ ps), after_front (p ∷ ps), taken.words, taken.spelled, tests_not (tests_different word_cmp _) n)))
+    cond_both (all_different word_cmp (map lower (front_of (p ∷ ps)).variants)) _ _
+    (IsTransformAnswer T (p ∷ ps))
+    (λ d. fields_answer (p ∷ ps) _ _
+    (present (record { words = taken.words; different = (tests_different word_cmp _).holds d }) taken))
+    (λ n. repeats (
+      front_of (p ∷ ps),
+      after_front (p ∷ ps),
+      taken.words,
+      taken.spelled,
+      tests_not (tests_different word_cmp _) n,
+    )))
     (λ l. fields_answer (p ∷ ps) None (p ∷ ps) (absent l))
 
 pub transform_reader : (T : ℕ → Bool) → AreLengths T → IsReader (TransformRead T) (TransformFault T)
-transform_reader T table = reader_of (TransformRead T) (TransformFault T) (transform_result T) (transform_answer table) (one_transform T) (transform_apart T) (one_transform_fault T)
+transform_reader T table = reader_of (TransformRead T) (TransformFault T) (transform_result T)
+    (transform_answer table) (one_transform T) (transform_apart T) (one_transform_fault T)
 
 -- its block
 
-front_parts : {T : ℕ → Bool} (ps : List (List ℕ)) {o : Option SpelledIdentifier} {rest : List (List ℕ)} → FrontRead T ps o rest → (ps ≡ optional_pieces o ++ rest) × IfSome o (IsIdentifier T)
+front_parts : {T : ℕ → Bool} (ps : List (List ℕ)) {o : Option SpelledIdentifier} {rest : List (List ℕ)} →
+    FrontRead T ps o rest → (ps ≡ optional_pieces o ++ rest) × IfSome o (IsIdentifier T)
 front_parts ps (absent e) = (refl, tt)
 front_parts ps (present h f) = (f.spelled, h)
 
-transform_whole : (T : ℕ → Bool) → AreLengths T → (ps : List (List ℕ)) (m : Transform) (rest : List (List ℕ)) → TransformRead T ps m rest → starts_block rest ≡ true → TransformMeans T (front ps) m × (rest ≡ from_block ps)
+transform_whole : (T : ℕ → Bool) → AreLengths T →
+    (ps : List (List ℕ)) (m : Transform) (rest : List (List ℕ)) → TransformRead T ps m rest →
+    starts_block rest ≡ true → TransformMeans T (front ps) m × (rest ≡ from_block ps)
 transform_whole T table ps m rest h s =
     let o = optional_pieces h.written.id in
     let fs = fields_pieces h.written.fields in
     let front_is = front_parts ps h.id in
-    let middle : h.middle ≡ fs ++ rest = sym (all_from_pieces is_key is_field_piece h.middle) ∙ (λ i. h.spelled i ++ sym h.left i) in
+    let middle : h.middle ≡ fs ++ rest =
+    sym (all_from_pieces is_key is_field_piece h.middle) ∙ (λ i. h.spelled i ++ sym h.left i) in
     let all : ps ≡ (o ++ fs) ++ rest = front_is.0 ∙ ap (λ l. o ++ l) middle ∙ sym (append_assoc o fs rest) in
-    let g : IsTransformBlock T h.written = record { id = front_is.1; fields = h.fields; nonempty = h.nonempty } in
-    let ends = until_block (o ++ fs) rest (long_extension T table 116 (transform h.written) (refl, g)) s in
-    (record { written = h.written; grammatical = g; spelled = ap front all ∙ ends.0; means = h.means }, sym (ap from_block all ∙ ends.1))
+    let g : IsTransformBlock T h.written =
+    record { id = front_is.1; fields = h.fields; nonempty = h.nonempty } in
+    let ends = until_block (o ++ fs) rest (long_extension T table 116 (transform h.written) (refl, g)) s in (
+      record { written = h.written; grammatical = g; spelled = ap front all ∙ ends.0; means = h.means },
+      sym (ap from_block all ∙ ends.1),
+    )
 
 -- pieces that no identifier goes on with
 abbrev IsInside : List ℕ → Type 0
@@ -182,35 +292,45 @@ pub no_key_empty : is_word TransformKey [] ≡ false
 unfolding is_word
 no_key_empty = refl
 
-fields_end : (fs : Fields) (rest : List (List ℕ)) → AllByRecursion IsField fs → starts_block rest ≡ true → NoFirst IsInside (fields_pieces fs ++ rest)
+fields_end : (fs : Fields) (rest : List (List ℕ)) → AllByRecursion IsField fs → starts_block rest ≡ true →
+    NoFirst IsInside (fields_pieces fs ++ rest)
 fields_end [] [] h e = tt
 fields_end [] (p ∷ ps) h e = λ x. true≢false (sym e ∙ x.1)
 fields_end (f ∷ fs) rest h e = λ x. true≢false (sym h.0.0 ∙ x.0)
 
-longest_until : {T : ℕ → Bool} (i j : SpelledIdentifier) (rest more : List (List ℕ)) → HasWords T j → NoFirst IsInside rest → identifier_pieces i ++ rest ≡ identifier_pieces j ++ more → length (identifier_pieces j) ≤ length (identifier_pieces i)
+longest_until : {T : ℕ → Bool} (i j : SpelledIdentifier) (rest more : List (List ℕ)) → HasWords T j →
+    NoFirst IsInside rest → identifier_pieces i ++ rest ≡ identifier_pieces j ++ more →
+    length (identifier_pieces j) ≤ length (identifier_pieces i)
 longest_until i j rest more w n e =
     let tails : after_language i ++ rest ≡ after_language j ++ more = cc in
-    let l = not_longer IsInside (after_language i) (after_language j) rest more tails (all_both IsNoKey IsLong (after_language j) (identifier_no_key j w).1 (long_after_language j w)) n in
+    let l = not_longer IsInside (after_language i) (after_language j) rest more tails
+    (all_both IsNoKey IsLong (after_language j) (identifier_no_key j w).1 (long_after_language j w)) n in
     omega arith
 
-rest_stops : (rest : List (List ℕ)) → starts_block rest ≡ true → EndsBefore is_key rest × EndsBefore is_field_piece rest
+rest_stops : (rest : List (List ℕ)) → starts_block rest ≡ true →
+    EndsBefore is_key rest × EndsBefore is_field_piece rest
 rest_stops [] e = (tt, tt)
 rest_stops (p ∷ ps) e =
     let one = eqb-true (length p) 1 e in
-    let k = false_from_ne_true (is_word TransformKey p) (λ h. let l = length-transform_key p h in absurd (omega arith)) in
+    let k = false_from_ne_true (is_word TransformKey p)
+    (λ h. let l = length-transform_key p h in absurd (omega arith)) in
     (k, λ i. k i || not_attribute p (omega arith) i)
 
-pub transform_spelled : {T : ℕ → Bool} → (ps rest : List (List ℕ)) (m : Transform) → TransformMeans T ps m → starts_block rest ≡ true → TransformRead T (ps ++ rest) m rest
-transform_spelled {T = T} ps rest m h e = subst (λ (l : List (List ℕ)). TransformRead T l m rest) (sym (ap (λ l. l ++ rest) h.spelled ∙ append_assoc (optional_pieces h.written.id) (fields_pieces fs) rest)) (record {
-  written = h.written;
-  middle = fields_pieces fs ++ rest;
-  id = front_is h.written.id g.id g.nonempty;
-  fields = g.fields;
-  spelled = stop.0;
-  nonempty = g.nonempty;
-  means = h.means;
-  left = sym stop.1;
-})
+pub transform_spelled : {T : ℕ → Bool} → (ps rest : List (List ℕ)) (m : Transform) → TransformMeans T ps m →
+    starts_block rest ≡ true → TransformRead T (ps ++ rest) m rest
+transform_spelled {T = T} ps rest m h e = subst (λ (l : List (List ℕ)). TransformRead T l m rest)
+    (sym
+    (ap (λ l. l ++ rest) h.spelled ∙ append_assoc (optional_pieces h.written.id) (fields_pieces fs) rest))
+    (record {
+      written = h.written;
+      middle = fields_pieces fs ++ rest;
+      id = front_is h.written.id g.id g.nonempty;
+      fields = g.fields;
+      spelled = stop.0;
+      nonempty = g.nonempty;
+      means = h.means;
+      left = sym stop.1;
+    })
   where
     fs : Fields
     fs = h.written.fields
@@ -218,42 +338,69 @@ transform_spelled {T = T} ps rest m h e = subst (λ (l : List (List ℕ)). Trans
     g : IsTransformBlock T h.written
     g = h.grammatical
 
-    no_language : (fs : Fields) → AllByRecursion IsField fs → 0 < length fs → is_word (Language T) (first_piece (fields_pieces fs ++ rest)) ≡ false
+    no_language : (fs : Fields) → AllByRecursion IsField fs → 0 < length fs →
+        is_word (Language T) (first_piece (fields_pieces fs ++ rest)) ≡ false
     no_language [] f n = absurd (omega arith)
     no_language (f ∷ fs) k n = false_from_ne_true _ (λ l. true≢false (sym k.0.0 ∙ language_no_key T f.0 l))
 
-    front_is : (o : Option SpelledIdentifier) → IfSome o (IsIdentifier T) → (o ≡ None → 0 < length fs) → FrontRead T (optional_pieces o ++ (fields_pieces fs ++ rest)) o (fields_pieces fs ++ rest)
+    front_is : (o : Option SpelledIdentifier) → IfSome o (IsIdentifier T) → (o ≡ None → 0 < length fs) →
+        FrontRead T (optional_pieces o ++ (fields_pieces fs ++ rest)) o (fields_pieces fs ++ rest)
     front_is None i n = absent (no_language fs g.fields (n refl))
-    front_is (Some i) w n = present w (record { words = w.words; spelled = refl; longest = λ j more v q. longest_until i j (fields_pieces fs ++ rest) more v (fields_end fs rest g.fields e) q })
+    front_is (Some i) w n = present w (record {
+      words = w.words;
+      spelled = refl;
+      longest =
+          λ j more v q. longest_until i j (fields_pieces fs ++ rest) more v (fields_end fs rest g.fields e) q;
+    })
 
-    goes_on : (f : List ℕ × List (List ℕ)) → IsField f → (is_field_piece f.0 ≡ true) × AllByRecursion (λ p. is_field_piece p ≡ true) f.1
-    goes_on f r = (ap (λ b. b || is_word Attribute f.0) r.0, all_weaker (IsWord Attribute) (λ p. is_field_piece p ≡ true) (λ p w. ap (λ b. is_word TransformKey p || b) w ∙ or-true (is_word TransformKey p)) f.1 r.1)
+    goes_on : (f : List ℕ × List (List ℕ)) → IsField f →
+        (is_field_piece f.0 ≡ true) × AllByRecursion (λ p. is_field_piece p ≡ true) f.1
+    goes_on f r = (
+      ap (λ b. b || is_word Attribute f.0) r.0,
+      all_weaker (IsWord Attribute) (λ p. is_field_piece p ≡ true)
+          (λ p w. ap (λ b. is_word TransformKey p || b) w ∙ or-true (is_word TransformKey p)) f.1 r.1,
+    )
 
-    stop : (fields_front (fields_pieces fs ++ rest) ≡ fields_pieces fs) × (after_fields (fields_pieces fs ++ rest) ≡ rest)
-    stop = fields_stop is_key is_field_piece fs rest (pieces_pass is_field_piece fs (all_weaker IsField (λ f. (is_field_piece f.0 ≡ true) × AllByRecursion (λ p. is_field_piece p ≡ true) f.1) goes_on fs g.fields)) (all_weaker IsField (λ f. is_key f.0 ≡ true) (λ f r. r.0) fs g.fields) (rest_stops rest e).1 (rest_stops rest e).0 no_key_empty
+    stop : (fields_front (fields_pieces fs ++ rest) ≡ fields_pieces fs)
+        × (after_fields (fields_pieces fs ++ rest) ≡ rest)
+    stop = fields_stop is_key is_field_piece fs rest
+        (pieces_pass is_field_piece fs (all_weaker IsField
+        (λ f. (is_field_piece f.0 ≡ true) × AllByRecursion (λ p. is_field_piece p ≡ true) f.1) goes_on fs
+        g.fields))
+        (all_weaker IsField (λ f. is_key f.0 ≡ true) (λ f r. r.0) fs g.fields) (rest_stops rest e).1
+        (rest_stops rest e).0 no_key_empty
 
-transform_block : (T : ℕ → Bool) (ps : List (List ℕ)) (m : Transform) → TransformMeans T (front ps) m → TransformRead T ps m (from_block ps)
-transform_block T ps m h = subst (λ (l : List (List ℕ)). TransformRead T l m (from_block ps)) (front-from_block ps) (transform_spelled (front ps) (from_block ps) m h (from_block_starts ps))
+transform_block : (T : ℕ → Bool) (ps : List (List ℕ)) (m : Transform) → TransformMeans T (front ps) m →
+    TransformRead T ps m (from_block ps)
+transform_block T ps m h = subst (λ (l : List (List ℕ)). TransformRead T l m (from_block ps))
+    (front-from_block ps) (transform_spelled (front ps) (from_block ps) m h (from_block_starts ps))
 
-pub transform_agrees : (T : ℕ → Bool) → AreLengths T → AgreesWithBlocks (TransformRead T) (TransformFault T) (TransformMeans T)
-transform_agrees T table = agreeing (TransformRead T) (TransformFault T) (TransformMeans T) (transform_reader T table) (transform_whole T table) (transform_block T)
+pub transform_agrees : (T : ℕ → Bool) → AreLengths T →
+    AgreesWithBlocks (TransformRead T) (TransformFault T) (TransformMeans T)
+transform_agrees T table = agreeing (TransformRead T) (TransformFault T) (TransformMeans T)
+    (transform_reader T table) (transform_whole T table) (transform_block T)
 
 -- variants that repeat, with and without what follows the block
 
-longer_front : (xs ys a b : List (List ℕ)) → xs ++ a ≡ ys ++ b → length ys ≤ length xs → (c : List (List ℕ)) × (xs ≡ ys ++ c)
+longer_front : (xs ys a b : List (List ℕ)) → xs ++ a ≡ ys ++ b → length ys ≤ length xs →
+    (c : List (List ℕ)) × (xs ≡ ys ++ c)
 longer_front xs ys a b e l =
-    let first : take (length ys) xs ≡ ys = sym (take-append-le (length ys) xs a l) ∙ ap (take (length ys)) e ∙ take-append_seam ys b in
+    let first : take (length ys) xs ≡ ys =
+    sym (take-append-le (length ys) xs a l) ∙ ap (take (length ys)) e ∙ take-append_seam ys b in
     (drop (length ys) xs, sym (take-append-drop (length ys) xs) ∙ ap (λ l. l ++ drop (length ys) xs) first)
 
 one_is_short : (rest : List (List ℕ)) → starts_block rest ≡ true → NoFirst IsLong rest
 one_is_short [] e = tt
 one_is_short (p ∷ ps) e = λ l. true≢false (sym e ∙ l)
 
-repeats_before : {T : ℕ → Bool} → (ps rest : List (List ℕ)) → RepeatsVariant T ps → RepeatsVariant T (ps ++ rest)
-repeats_before ps rest r = (r.0, r.1 ++ rest, r.2, ap (λ l. l ++ rest) r.3 ∙ append_assoc (identifier_pieces r.0) r.1 rest, r.4)
+repeats_before : {T : ℕ → Bool} → (ps rest : List (List ℕ)) → RepeatsVariant T ps →
+    RepeatsVariant T (ps ++ rest)
+repeats_before ps rest r =
+    (r.0, r.1 ++ rest, r.2, ap (λ l. l ++ rest) r.3 ∙ append_assoc (identifier_pieces r.0) r.1 rest, r.4)
 
 -- and what follows a block adds none
-pub repeats_in_block : {T : ℕ → Bool} → AreLengths T → (ps rest : List (List ℕ)) → starts_block rest ≡ true → RepeatsVariant T ps ↔ RepeatsVariant T (ps ++ rest)
+pub repeats_in_block : {T : ℕ → Bool} → AreLengths T → (ps rest : List (List ℕ)) → starts_block rest ≡ true →
+    RepeatsVariant T ps ↔ RepeatsVariant T (ps ++ rest)
 repeats_in_block {T = T} table ps rest s = (repeats_before ps rest, whole ps)
   where
     no_first : (rest : List (List ℕ)) → starts_block rest ≡ true → RepeatsVariant T rest → ⊥
@@ -269,11 +416,15 @@ repeats_in_block {T = T} table ps rest s = (repeats_before ps rest, whole ps)
     whole (q ∷ qs) r =
         let tails : qs ++ rest ≡ after_language r.0 ++ r.1 = cc (r.3) in
         let heads : q ≡ r.0.language = cc (r.3) in
-        let l = not_longer IsLong qs (after_language r.0) rest r.1 tails (long_after_language r.0 r.2) (one_is_short rest s) in
+        let l = not_longer IsLong qs (after_language r.0) rest r.1 tails (long_after_language r.0 r.2)
+        (one_is_short rest s) in
         let found = longer_front qs (after_language r.0) rest r.1 tails l in
         (r.0, found.0, r.2, (λ i. heads i ∷ found.1 i), r.4)
 
-pub repeats_by_block : (T : ℕ → Bool) → AreLengths T → (ps : List (List ℕ)) → RepeatsVariant T (front ps) ↔ RepeatsVariant T ps
+pub repeats_by_block : (T : ℕ → Bool) → AreLengths T → (ps : List (List ℕ)) →
+    RepeatsVariant T (front ps) ↔ RepeatsVariant T ps
 repeats_by_block T table ps =
-    let same = repeats_in_block table (front ps) (from_block ps) (from_block_starts ps) in
-    (λ r. subst (RepeatsVariant T) (front-from_block ps) (same.0 r), λ r. same.1 (subst (RepeatsVariant T) (sym (front-from_block ps)) r))
+    let same = repeats_in_block table (front ps) (from_block ps) (from_block_starts ps) in (
+      λ r. subst (RepeatsVariant T) (front-from_block ps) (same.0 r),
+      λ r. same.1 (subst (RepeatsVariant T) (sym (front-from_block ps)) r),
+    )

@@ -15,7 +15,14 @@ module _ {T U : ℕ → Bool} (wider : (n : ℕ) → T n ≡ true → U n ≡ tr
           each_block = s.each_block;
           different = s.different;
           unicode = s.unicode;
-          transform = (record { id = IfSome_then h.written.transform.id {P = IsIdentifier T} s.transform.0.id (tables.identifier wider); fields = s.transform.0.fields }, s.transform.1);
+          transform = (
+            record {
+              id = IfSome_then h.written.transform.id {P = IsIdentifier T} s.transform.0.id
+                  (tables.identifier wider);
+              fields = s.transform.0.fields;
+            },
+            s.transform.1,
+          );
           private = s.private;
           others = s.others;
         };

@@ -2,12 +2,19 @@
 -- they leave. The parts are those of UTS #35 (attributes and keywords after `u`, language and
 -- fields after `t`, and so on); that a part may be read alone, and that the rest of the text is
 -- then ignored, is this project's rule.
-use Rattle.std.specs.Prelude.{◌≡◌, ◌+◌, ◌<◌, Bool, true, false, not, ◌&&◌, ◌||◌, List, [], length, map, if◌then◌else◌, Option, Some, None, nat_lt, ◌∷◌, is_some, Result, Ok, Err}
+use Rattle.std.specs.Prelude.{◌≡◌, ◌+◌, ◌<◌, Bool, true, false, not, ◌&&◌, ◌||◌, List, [], length, map}
+use Rattle.std.specs.Prelude.{if◌then◌else◌, Option, Some, None, nat_lt, ◌∷◌, is_some, Result, Ok, Err}
 use Rattle.std.specs.Int.{is_in_range}
 use Rattle.std.specs.List.{AllByRecursion, list_any, list_all}
-use Rattle.iloc_spec_grammar.specs.Syntax.{Text, LanguageLengths, Language, UnicodeKey, TransformKey, Attribute, PrivateSubtag, is_word, IsWord, lower, word_cmp, SpelledIdentifier, SpelledTransform, Unicode, Transform, Fields, fields_pieces, IsKeyword, IsField, IsOther, IsPrivate, IsIdentifier, kept, first_piece}
-use Rattle.iloc_spec_grammar.specs.Meaning.{set_of, normal_fields, normal_transform, Fault, InvalidSubtag, InvalidExtension, RepeatsVariant}
-use Rattle.iloc_spec_grammar.specs.Reading.{passing, past, is_two, rest_of, IdentifierFront, front_of, after_front, fields_from}
+use Rattle.iloc_spec_grammar.specs.Syntax.{Text, LanguageLengths, Language, UnicodeKey, TransformKey}
+use Rattle.iloc_spec_grammar.specs.Syntax.{Attribute, PrivateSubtag, is_word, IsWord, lower, word_cmp}
+use Rattle.iloc_spec_grammar.specs.Syntax.{SpelledIdentifier, SpelledTransform, Unicode, Transform, Fields}
+use Rattle.iloc_spec_grammar.specs.Syntax.{fields_pieces, IsKeyword, IsField, IsOther, IsPrivate}
+use Rattle.iloc_spec_grammar.specs.Syntax.{IsIdentifier, kept, first_piece}
+use Rattle.iloc_spec_grammar.specs.Meaning.{set_of, normal_fields, normal_transform, Fault, InvalidSubtag}
+use Rattle.iloc_spec_grammar.specs.Meaning.{InvalidExtension, RepeatsVariant}
+use Rattle.iloc_spec_grammar.specs.Reading.{passing, past, is_two, rest_of, IdentifierFront, front_of}
+use Rattle.iloc_spec_grammar.specs.Reading.{after_front, fields_from}
 use Rattle.iloc_spec_grammar.specs.Computing.{all_different, is_field, is_other, is_private}
 
 -- the longest front whose pieces pass the test, but nothing if the first piece doesn't pass the

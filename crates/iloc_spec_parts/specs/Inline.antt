@@ -3,10 +3,16 @@
 use Rattle.std.specs.Prelude.{◌≡◌, ℕ, ◌≤◌, if◌then◌else◌, [], length, IfSome, true, List, ◌∷◌, ◌++◌}
 use Rattle.std.specs.List.{AllByRecursion}
 use Rattle.std.specs.Char.{is_ascii_alphanumeric, to_ascii_lowercase}
-use Rattle.iloc_spec_grammar.specs.Syntax.{Text, LanguageLengths, Block, code_t, code_u, code_x, pieces, Language, IsWord, is_word, PrivateSubtag, first_piece, SpelledIdentifier, Identifier, identifier_pieces, IsIdentifier, IsOther, kept, is_other_singleton}
-use Rattle.iloc_spec_grammar.specs.Meaning.{SpelledExtensions, IdentifierMeans, SpellsExtensions, normal_identifier, normal_unicode, normal_values, normal_fields, head, tail_blocks, AreBlocks, IsSecond, RepeatsVariant}
+use Rattle.iloc_spec_grammar.specs.Syntax.{Text, LanguageLengths, Block, code_t, code_u, code_x, pieces}
+use Rattle.iloc_spec_grammar.specs.Syntax.{Language, IsWord, is_word, PrivateSubtag, first_piece}
+use Rattle.iloc_spec_grammar.specs.Syntax.{SpelledIdentifier, Identifier, identifier_pieces, IsIdentifier}
+use Rattle.iloc_spec_grammar.specs.Syntax.{IsOther, kept, is_other_singleton}
+use Rattle.iloc_spec_grammar.specs.Meaning.{SpelledExtensions, IdentifierMeans, SpellsExtensions}
+use Rattle.iloc_spec_grammar.specs.Meaning.{normal_identifier, normal_unicode, normal_values, normal_fields}
+use Rattle.iloc_spec_grammar.specs.Meaning.{head, tail_blocks, AreBlocks, IsSecond, RepeatsVariant}
 use Rattle.iloc_spec_grammar.specs.Reading.{passing, front_of, after_front}
-use Rattle.iloc_spec_parts.specs.Fronts.{attributes_read, after_attributes, BeginsField, other_front, keywords_kept}
+use Rattle.iloc_spec_parts.specs.Fronts.{attributes_read, after_attributes, BeginsField, other_front}
+use Rattle.iloc_spec_parts.specs.Fronts.{keywords_kept}
 
 -- The text is a locale with few words: no transform fields, no other extensions, one keyword at
 -- most, and at most four values besides `true` at each key as it is written.

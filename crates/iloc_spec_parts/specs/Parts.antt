@@ -2,9 +2,12 @@
 -- That the rest of the text is ignored is this project's rule.
 use Rattle.std.specs.Prelude.{◌≡◌, ℕ, Bool, true, false, ◌==◌, List, [], ◌∷◌}
 use Rattle.std.specs.Char.{to_ascii_lowercase}
-use Rattle.iloc_spec_grammar.specs.Syntax.{Text, LanguageLengths, Block, code_t, code_u, code_x, pieces, Fields, Unicode, Transform, is_other_singleton}
+use Rattle.iloc_spec_grammar.specs.Syntax.{Text, LanguageLengths, Block, code_t, code_u, code_x, pieces}
+use Rattle.iloc_spec_grammar.specs.Syntax.{Fields, Unicode, Transform, is_other_singleton}
 use Rattle.iloc_spec_grammar.specs.Meaning.{Fault, InvalidExtension}
-use Rattle.iloc_spec_parts.specs.Fronts.{attributes_read, KeywordsRead, KeywordsFault, UnicodeRead, UnicodeFault, TransformRead, TransformFault, OtherRead, OtherFault, PrivateRead, PrivateFault}
+use Rattle.iloc_spec_parts.specs.Fronts.{attributes_read, KeywordsRead, KeywordsFault, UnicodeRead}
+use Rattle.iloc_spec_parts.specs.Fronts.{UnicodeFault, TransformRead, TransformFault, OtherRead, OtherFault}
+use Rattle.iloc_spec_parts.specs.Fronts.{PrivateRead, PrivateFault}
 
 -- whether the first piece is a singleton, which in lower case passes the test
 abbrev pub begins_part : (ℕ → Bool) → List Text → Bool

@@ -2,10 +2,16 @@
 -- most one value besides `true`, as in `en-US-u-ca-buddhist`. They are the part of UTS #35's
 -- unicode_locale_id that is read without allocating; where it ends, and how the others are refused,
 -- is this project's rule.
-use Rattle.std.specs.Prelude.{◌≡◌, ◌≢◌, ◌≤◌, true, false, List, [], ◌∷◌, length, Option, IfSome, option_map, option_to_list}
+use Rattle.std.specs.Prelude.{◌≡◌, ◌≢◌, ◌≤◌, true, false, List, [], ◌∷◌, length, Option, IfSome, option_map}
+use Rattle.std.specs.Prelude.{option_to_list}
 use Rattle.std.specs.Char.{is_ascii_alphanumeric}
-use Rattle.iloc_spec_grammar.specs.Syntax.{Text, LanguageLengths, Field, Block, code_u, pieces, Language, Script, Region, Variant, UnicodeKey, Attribute, is_word, IsWord, is_true, Identifier, lower_singleton, head, tail_blocks, first_piece}
-use Rattle.iloc_spec_grammar.specs.Meaning.{Locale, SpelledExtensions, just_unicode, IdentifierMeans, SpellsExtensions, normal_extensions, Fault, InvalidLanguage, InvalidSubtag, InvalidExtension}
+use Rattle.iloc_spec_grammar.specs.Syntax.{Text, LanguageLengths, Field, Block, code_u, pieces, Language}
+use Rattle.iloc_spec_grammar.specs.Syntax.{Script, Region, Variant, UnicodeKey, Attribute, is_word, IsWord}
+use Rattle.iloc_spec_grammar.specs.Syntax.{is_true, Identifier, lower_singleton, head, tail_blocks}
+use Rattle.iloc_spec_grammar.specs.Syntax.{first_piece}
+use Rattle.iloc_spec_grammar.specs.Meaning.{Locale, SpelledExtensions, just_unicode, IdentifierMeans}
+use Rattle.iloc_spec_grammar.specs.Meaning.{SpellsExtensions, normal_extensions, Fault, InvalidLanguage}
+use Rattle.iloc_spec_grammar.specs.Meaning.{InvalidSubtag, InvalidExtension}
 use Rattle.iloc_spec_grammar.specs.Values.{IsNormal}
 
 -- What is read.

@@ -1,10 +1,14 @@
 -- Plain programs: what is read of a small text, or the fault; and whether a text is inline.
-use Rattle.std.specs.Prelude.{ℕ, Bool, true, false, ◌&&◌, ◌==◌, nat_le, List, [], ◌∷◌, length, if◌then◌else◌, Option, Some, None, Result, Ok, Err, map, option_map}
+use Rattle.std.specs.Prelude.{ℕ, Bool, true, false, ◌&&◌, ◌==◌, nat_le, List, [], ◌∷◌, length, if◌then◌else◌}
+use Rattle.std.specs.Prelude.{Option, Some, None, Result, Ok, Err, map, option_map}
 use Rattle.std.specs.Char.{is_ascii_alphanumeric, to_ascii_lowercase}
 use Rattle.std.specs.List.{list_all}
-use Rattle.iloc_spec_grammar.specs.Syntax.{Text, LanguageLengths, Block, code_u, pieces, Language, Variant, UnicodeKey, Attribute, SpelledIdentifier, is_word, lower, title, upper, lower_singleton}
+use Rattle.iloc_spec_grammar.specs.Syntax.{Text, LanguageLengths, Block, code_u, pieces, Language, Variant}
+use Rattle.iloc_spec_grammar.specs.Syntax.{UnicodeKey, Attribute, SpelledIdentifier, is_word, lower, title}
+use Rattle.iloc_spec_grammar.specs.Syntax.{upper, lower_singleton}
 use Rattle.iloc_spec_grammar.specs.Tree.{Extension, unicode, Written}
-use Rattle.iloc_spec_grammar.specs.Meaning.{Locale, normal_values, Fault, InvalidLanguage, InvalidSubtag, InvalidExtension, head, tail_blocks, first_piece}
+use Rattle.iloc_spec_grammar.specs.Meaning.{Locale, normal_values, Fault, InvalidLanguage, InvalidSubtag}
+use Rattle.iloc_spec_grammar.specs.Meaning.{InvalidExtension, head, tail_blocks, first_piece}
 use Rattle.iloc_spec_grammar.specs.Values.{text}
 use Rattle.iloc_spec_grammar.specs.Reading.{identifier_of, first_item, written_of}
 use Rattle.iloc_spec_grammar.specs.Computing.{holds_if_some, locale_result}

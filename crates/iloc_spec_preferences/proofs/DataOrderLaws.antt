@@ -9,14 +9,16 @@ use Rattle.iloc_spec_preferences.specs.DataOrders.{subdivision_cmp, data_key_cmp
 use Rattle.iloc_spec_parts.proofs.OrderLaws.{on_exact, pair_exact, option_exact, word_exact}
 
 pub subdivision_exact : IsExactOrder subdivision_cmp
-subdivision_exact = on_exact {Y = List ℕ × List ℕ} (λ s. (s.region, s.suffix)) (λ p. record { region = p.0; suffix = p.1 }) (λ s. refl) (pair_exact word_exact word_exact)
+subdivision_exact = on_exact {Y = List ℕ × List ℕ} (λ s. (s.region, s.suffix))
+    (λ p. record { region = p.0; suffix = p.1 }) (λ s. refl) (pair_exact word_exact word_exact)
 
 key_exact : IsExactOrder data_key_cmp
 key_exact = on_exact {Y = List ℕ × (Option (List ℕ) × (Option Subdivision × Option (List ℕ)))}
     (λ k. (k.language, (k.script, (k.region, k.variant))))
     (λ p. record { language = p.0; script = p.1.0; region = p.1.1.0; variant = p.1.1.1 })
     (λ k. refl)
-    (pair_exact word_exact (pair_exact (option_exact word_exact) (pair_exact (option_exact subdivision_exact) (option_exact word_exact))))
+    (pair_exact word_exact (pair_exact (option_exact word_exact)
+    (pair_exact (option_exact subdivision_exact) (option_exact word_exact))))
 
 pub data_locale_total : IsTotalOrder data_locale_cmp
 data_locale_total = on_total data_key key_exact.total

@@ -5,7 +5,8 @@ use Rattle.iloc_spec_grammar.specs.Syntax.{Script, CurrencyType, is_true, lower,
 use Rattle.iloc_spec_grammar.specs.Values.{IsNormal}
 use Rattle.iloc_spec_grammar.proofs.WordsLaws.{is_word-lower, normal-lower}
 use Rattle.iloc_spec_parts.specs.SingleValues.{single, currency_reads, currency_gives}
-use Rattle.iloc_spec_preferences.specs.Keywords.{EnumKeyword, CommonVariantType, ReadsWhatItGives, subtag_gives, scripts_read, scripts_give, with_first}
+use Rattle.iloc_spec_preferences.specs.Keywords.{EnumKeyword, CommonVariantType, ReadsWhatItGives}
+use Rattle.iloc_spec_preferences.specs.Keywords.{subtag_gives, scripts_read, scripts_give, with_first}
 
 pub reads_what_it_gives : (k : EnumKeyword) → ReadsWhatItGives k
 unfolding is_true
@@ -20,7 +21,8 @@ currency_read_back w h = rw h.0 (ap Some h.1)
 pub subtag_read_back : (w : List ℕ) → is_true w ≡ false → single (subtag_gives w) ≡ Some w
 subtag_read_back w h = rw h refl
 
-pub scripts_read_back : (ws : List (List ℕ)) → AllByRecursion (IsNormal Script) ws → scripts_read (scripts_give ws) ≡ Some ws
+pub scripts_read_back : (ws : List (List ℕ)) → AllByRecursion (IsNormal Script) ws →
+    scripts_read (scripts_give ws) ≡ Some ws
 scripts_read_back [] h = refl
 scripts_read_back (w ∷ ws) h = λ i. with_first (one i) (scripts_read_back ws h.1 i)
   where

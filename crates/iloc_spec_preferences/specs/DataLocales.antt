@@ -2,13 +2,16 @@
 -- subdivision of it. A text means one if it is small and its keyword, if it has one, is `sd`,
 -- the regional subdivision of UTS #35 (`-u-sd-`). What a data locale stands for, and how it is
 -- printed, is this project's rule, as in the Rust crate.
-use Rattle.std.specs.Prelude.{◌≡◌, Bool, IfSome, List, [], ◌∷◌, ◌++◌, Option, Some, None, option_map, option_and_then, option_to_list, codes, if◌then◌else◌}
+use Rattle.std.specs.Prelude.{◌≡◌, Bool, IfSome, List, [], ◌∷◌, ◌++◌, Option, Some, None, option_map}
+use Rattle.std.specs.Prelude.{option_and_then, option_to_list, codes, if◌then◌else◌}
 use Rattle.std.specs.Option.{option_or}
 use Rattle.std.specs.Result.{result_ok}
-use Rattle.iloc_spec_grammar.specs.Syntax.{Text, LanguageLengths, join, Language, Script, Region, Variant, Subtag, lower, is_same, is_true, Identifier, Fields}
+use Rattle.iloc_spec_grammar.specs.Syntax.{Text, LanguageLengths, join, Language, Script, Region, Variant}
+use Rattle.iloc_spec_grammar.specs.Syntax.{Subtag, lower, is_same, is_true, Identifier, Fields}
 use Rattle.iloc_spec_grammar.specs.Meaning.{Locale, just_unicode, Fault, InvalidExtension}
 use Rattle.iloc_spec_grammar.specs.Values.{IsNormal}
-use Rattle.iloc_spec_parts.specs.Small.{SmallLocale, identifier_of_small, locale_of_small, IsSmall, HasSmallFault}
+use Rattle.iloc_spec_parts.specs.Small.{SmallLocale, identifier_of_small, locale_of_small, IsSmall}
+use Rattle.iloc_spec_parts.specs.Small.{HasSmallFault}
 use Rattle.iloc_spec_grammar.specs.Reading.{first_item}
 use Rattle.iloc_spec_preferences.specs.Subdivisions.{Subdivision, subdivision, subdivision_text}
 

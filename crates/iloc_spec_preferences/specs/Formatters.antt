@@ -6,7 +6,8 @@ use Rattle.iloc_spec_grammar.specs.Syntax.{Text}
 use Rattle.iloc_spec_grammar.specs.Meaning.{Locale}
 use Rattle.iloc_spec_parts.specs.SingleValues.{single}
 use Rattle.iloc_spec_preferences.specs.Keywords.{EnumValue, HourCycle, CalendarAlgorithm, key, enum_reads}
-use Rattle.iloc_spec_preferences.specs.Preferences.{Preferences, read_keyword, is_readable, preferences, is_strict, merge}
+use Rattle.iloc_spec_preferences.specs.Preferences.{Preferences, read_keyword, is_readable, preferences}
+use Rattle.iloc_spec_preferences.specs.Preferences.{is_strict, merge}
 
 -- What a time formatter prefers: what a locale does, with a numbering system and an hour cycle.
 pub record TimePreferences : Type 0 where

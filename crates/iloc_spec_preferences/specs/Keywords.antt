@@ -2,7 +2,8 @@
 -- a value is turned into. The keys and their types are those of UTS #35 for the `u` extension
 -- (`ca`, `co`, `cu`, `dx`, ..); which of the types are known, and that a list is read as a whole or
 -- not at all, is this project's rule, as in the Rust crate.
-use Rattle.std.specs.Prelude.{◌≡◌, ℕ, ◌+◌, List, [], ◌∷◌, ◌++◌, map, Option, Some, None, option_map, option_and_then, codes, if◌then◌else◌}
+use Rattle.std.specs.Prelude.{◌≡◌, ℕ, ◌+◌, List, [], ◌∷◌, ◌++◌, map, Option, Some, None, option_map}
+use Rattle.std.specs.Prelude.{option_and_then, codes, if◌then◌else◌}
 use Rattle.std.specs.List.{AllByRecursion}
 use Rattle.std.specs.Ordering.{nat_cmp}
 use Rattle.std.specs.Option.{option_cmp}

@@ -6,7 +6,8 @@ use Rattle.iloc_spec_grammar.specs.Values.{text}
 use Rattle.iloc_spec_grammar.specs.Computing.{locale_result}
 use Rattle.iloc_spec_parts.specs.Examples.{meaning_of}
 use Rattle.iloc_spec_preferences.specs.DataLocales.{data_text}
-use Rattle.iloc_spec_preferences.specs.Preferences.{Preferences, preferences, is_strict, language_priority, region_priority, locale_of_preferences}
+use Rattle.iloc_spec_preferences.specs.Preferences.{Preferences, preferences, is_strict, language_priority}
+use Rattle.iloc_spec_preferences.specs.Preferences.{region_priority, locale_of_preferences}
 
 -- the preferences of what the text means, if it is a locale
 abbrev pub preferences_of : Text → Preferences

@@ -1,15 +1,18 @@
 -- Preferences: what a locale says of language, script, region and variant, with the regional
 -- subdivision (`-u-sd-`) and the region override (`-u-rg-`) of UTS #35. How they are read, merged
 -- and turned into locales is this project's rule, as in the Rust crate.
-use Rattle.std.specs.Prelude.{◌≡◌, Bool, IfSome, true, false, not, ◌&&◌, ◌||◌, List, [], ◌∷◌, ◌++◌, Option, Some, None, option_map, option_and_then, is_some, is_none, codes, if◌then◌else◌}
+use Rattle.std.specs.Prelude.{◌≡◌, Bool, IfSome, true, false, not, ◌&&◌, ◌||◌, List, [], ◌∷◌, ◌++◌, Option}
+use Rattle.std.specs.Prelude.{Some, None, option_map, option_and_then, is_some, is_none, codes, if◌then◌else◌}
 use Rattle.std.specs.Option.{option_or}
 use Rattle.std.specs.FinMap.{find}
-use Rattle.iloc_spec_grammar.specs.Syntax.{Text, LanguageLengths, Language, Script, Variant, word_cmp, is_same, is_true, Identifier, Fields}
+use Rattle.iloc_spec_grammar.specs.Syntax.{Text, LanguageLengths, Language, Script, Variant, word_cmp}
+use Rattle.iloc_spec_grammar.specs.Syntax.{is_same, is_true, Identifier, Fields}
 use Rattle.iloc_spec_grammar.specs.Meaning.{Locale, without_extensions}
 use Rattle.iloc_spec_grammar.specs.Values.{IsNormal}
 use Rattle.iloc_spec_grammar.specs.Reading.{first_item}
 use Rattle.iloc_spec_preferences.specs.Subdivisions.{Subdivision, IsSubdivision, subdivision_text}
-use Rattle.iloc_spec_preferences.specs.DataLocales.{DataLocale, made_of, whole_region, is_whole, agreed, locale_with_keywords}
+use Rattle.iloc_spec_preferences.specs.DataLocales.{DataLocale, made_of, whole_region, is_whole, agreed}
+use Rattle.iloc_spec_preferences.specs.DataLocales.{locale_with_keywords}
 use Rattle.iloc_spec_preferences.specs.Keywords.{subdivision_reads, subdivision_gives}
 
 -- What is kept: what a locale says of each part, with the region that overrides its own.

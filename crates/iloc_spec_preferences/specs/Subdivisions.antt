@@ -1,7 +1,8 @@
 -- Subdivisions: a region, and the suffix of a part of it, written as one word, as `gbeng` for
 -- England or `ustx` for Texas. Restates unicode_subdivision_id of UTS #35: a region, and a suffix
 -- of 1 to 4 letters or digits.
-use Rattle.std.specs.Prelude.{ℕ, [], ◌∷◌, ◌++◌, take, drop, if◌then◌else◌, Option, Some, None, Result, Err, ok_or}
+use Rattle.std.specs.Prelude.{ℕ, [], ◌∷◌, ◌++◌, take, drop, if◌then◌else◌, Option, Some, None, Result, Err}
+use Rattle.std.specs.Prelude.{ok_or}
 use Rattle.std.specs.Char.{is_ascii_alphabetic}
 use Rattle.iloc_spec_grammar.specs.Syntax.{Text, Region, Subtag, SubdivisionSuffix, is_word, word, lower}
 use Rattle.iloc_spec_grammar.specs.Values.{IsNormal}

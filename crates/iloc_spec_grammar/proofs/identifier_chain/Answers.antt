@@ -1,6 +1,11 @@
 -- By sorting the variants, and then the case.
-use Rattle.iloc_spec_grammar.proofs.AnySteps.{identifier_chain_to_text, length-identifier_means, identifiers_lead_to_one}
+use Rattle.iloc_spec_grammar.proofs.AnySteps.{identifier_chain_to_text, length-identifier_means}
+use Rattle.iloc_spec_grammar.proofs.AnySteps.{identifiers_lead_to_one}
 use Rattle.iloc_spec_grammar.proofs.identifier_chain.Goals as goal
 
 pub returns : goal.returns
-returns c = record { steps = identifier_chain_to_text; long = length-identifier_means; same = identifiers_lead_to_one }
+returns c = record {
+  steps = identifier_chain_to_text;
+  long = length-identifier_means;
+  same = identifiers_lead_to_one;
+}

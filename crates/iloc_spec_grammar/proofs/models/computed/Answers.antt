@@ -1,6 +1,15 @@
 -- Test by test.
-use Rattle.iloc_spec_grammar.proofs.ComputingLaws.{locale_answers, text_identifier_answers, computed_means, computed_fault, computed_identifier, computed_identifier_fault}
+use Rattle.iloc_spec_grammar.proofs.ComputingLaws.{locale_answers, text_identifier_answers, computed_means}
+use Rattle.iloc_spec_grammar.proofs.ComputingLaws.{computed_fault, computed_identifier}
+use Rattle.iloc_spec_grammar.proofs.ComputingLaws.{computed_identifier_fault}
 use Rattle.iloc_spec_grammar.proofs.models.computed.Goals as goal
 
 pub returns : goal.returns
-returns c = record { answer = locale_answers; identifier_answer = text_identifier_answers; means = computed_means; fault = computed_fault; identifier = computed_identifier; identifier_fault = computed_identifier_fault }
+returns c = record {
+  answer = locale_answers;
+  identifier_answer = text_identifier_answers;
+  means = computed_means;
+  fault = computed_fault;
+  identifier = computed_identifier;
+  identifier_fault = computed_identifier_fault;
+}

@@ -8,7 +8,8 @@ use Rattle.iloc_spec_grammar.proofs.StepExamples.{step_by_test, same_key_stays_i
 use Rattle.iloc_spec_grammar.proofs.rewriting.by_example.Goals as goal
 
 pub returns : goal.returns
-unfolding is_text_step is_step locale_result written_of unicode_of transform_of identifier_of front_of pieces join is_word lower upper title is_true languages
+unfolding is_text_step is_step locale_result written_of unicode_of transform_of identifier_of front_of pieces
+    join is_word lower upper title is_true languages
 returns c = record {
   letter_case = step_by_test _ _ refl;
   block_order = step_by_test _ _ refl;

@@ -7,5 +7,12 @@ use Rattle.iloc_spec_grammar.specs.StepTests.{is_step, is_text_step, is_identifi
 use Rattle.iloc_spec_grammar.proofs.rewriting.tests_by_example.Goals as goal
 
 pub returns : goal.returns
-unfolding is_identifier_text_step is_text_step is_step locale_result written_of unicode_of transform_of identifier_of front_of pieces join is_word lower upper title is_true languages
-returns c = record { block_order = refl; variant_order = refl; repeats = refl; same_key_stays_in_order = refl; two_at_once = refl }
+unfolding is_identifier_text_step is_text_step is_step locale_result written_of unicode_of transform_of
+    identifier_of front_of pieces join is_word lower upper title is_true languages
+returns c = record {
+  block_order = refl;
+  variant_order = refl;
+  repeats = refl;
+  same_key_stays_in_order = refl;
+  two_at_once = refl;
+}

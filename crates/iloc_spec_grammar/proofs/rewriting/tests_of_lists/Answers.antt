@@ -7,5 +7,6 @@ pub returns : goal.returns
 returns g c = record {
   reordered = λ same d xs ys. iff_from_tests (tests_reordered same (decided_equality same d) xs ys);
   without = λ same d test xs ys. iff_from_tests (tests_without same (decided_equality same d) test xs ys);
-  without_repeats = λ same d key seen xs ys. iff_from_tests (tests_without_repeats same (decided_equality same d) key seen xs ys);
+  without_repeats = λ same d key seen xs ys.
+      iff_from_tests (tests_without_repeats same (decided_equality same d) key seen xs ys);
 }

@@ -6,5 +6,24 @@ use Rattle.iloc_spec_parts.specs.Fronts.{unicode_result, transform_result, other
 use Rattle.iloc_spec_parts.proofs.fronts.by_example.Goals as goal
 
 pub returns : goal.returns
-unfolding unicode_result transform_result other_result private_result front_of after_front pieces join is_word lower upper title is_true languages
-returns c = record { attributes = refl; keywords = refl; no_keywords = refl; bad_key = refl; unicode = refl; no_unicode = refl; transform = refl; variant_twice = refl; no_value = refl; identifier_first = refl; other = refl; no_word = refl; private = refl; empty_value = refl; value = refl; bad_value = refl; short_value = refl }
+unfolding unicode_result transform_result other_result private_result front_of after_front pieces join is_word
+    lower upper title is_true languages
+returns c = record {
+  attributes = refl;
+  keywords = refl;
+  no_keywords = refl;
+  bad_key = refl;
+  unicode = refl;
+  no_unicode = refl;
+  transform = refl;
+  variant_twice = refl;
+  no_value = refl;
+  identifier_first = refl;
+  other = refl;
+  no_word = refl;
+  private = refl;
+  empty_value = refl;
+  value = refl;
+  bad_value = refl;
+  short_value = refl;
+}

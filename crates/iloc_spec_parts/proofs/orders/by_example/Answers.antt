@@ -6,5 +6,17 @@ use Rattle.iloc_spec_grammar.specs.Reading.{identifier_of, unicode_of, transform
 use Rattle.iloc_spec_parts.proofs.orders.by_example.Goals as goal
 
 pub returns : goal.returns
-unfolding le_bytes written_of unicode_of transform_of identifier_of pieces is_word lower upper title is_true languages
-returns c = record { fewer_variants = refl; fewer_items = refl; bytes = refl; no_script_first = refl; unicode_first = refl; singletons = refl; one_value_first = refl; itself = refl; fed = refl; fed_alike = refl }
+unfolding le_bytes written_of unicode_of transform_of identifier_of pieces is_word lower upper title is_true
+    languages
+returns c = record {
+  fewer_variants = refl;
+  fewer_items = refl;
+  bytes = refl;
+  no_script_first = refl;
+  unicode_first = refl;
+  singletons = refl;
+  one_value_first = refl;
+  itself = refl;
+  fed = refl;
+  fed_alike = refl;
+}

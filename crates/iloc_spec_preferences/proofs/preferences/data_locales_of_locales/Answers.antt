@@ -4,4 +4,8 @@ use Rattle.iloc_spec_preferences.proofs.ConversionLaws.{agrees, key_of_identifie
 use Rattle.iloc_spec_preferences.proofs.preferences.data_locales_of_locales.Goals as goal
 
 pub returns : goal.returns
-returns c = record { accepted = λ T t d h. (_, small_means t h.small h.is_small); read = λ T table t d M. agrees table t d M; identifier = key_of_identifier }
+returns c = record {
+  accepted = λ T t d h. (_, small_means t h.small h.is_small);
+  read = λ T table t d M. agrees table t d M;
+  identifier = key_of_identifier;
+}
