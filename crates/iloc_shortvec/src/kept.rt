@@ -10,11 +10,7 @@ use crate::items::Nothing;
 use std::alloc::{AllocError, Global};
 
 /// Copies of the items, in a `Vec` of this capacity or more. Refusal: `AllocError`.
-pub(crate) fn copies<T: Copy>(
-    alloc: Global,
-    items: &[T],
-    capacity: usize,
-) -> Result<Vec<T>, AllocError>
+fn copies<T: Copy>(alloc: Global, items: &[T], capacity: usize) -> Result<Vec<T>, AllocError>
     ensures { IfOk result (λ copies. copies.items ≡ items.now) }
 {
     let mut copies = Vec::with_capacity(alloc, capacity)?;

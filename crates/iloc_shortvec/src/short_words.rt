@@ -20,7 +20,7 @@ ghost use Rattle.iloc_shortvec.specs.ShortOrder.{short_total, short_ties};
 
 use crate::few::Few;
 use crate::items::Nothing;
-use crate::kept::{Kept, copies, kept_of};
+use crate::kept::{Kept, kept_of};
 use crate::slices;
 use std::alloc::{AllocError, Global};
 use std::cmp::Ordering;
@@ -258,8 +258,10 @@ impl<T: Copy> ShortWords<T> {
                 kept: Kept::Inline(few.copied()),
             }),
             Kept::Heap(items) => {
-                let all = copies(*items.allocator(), items.as_slice(), items.len())?;
-                Ok(ShortWords::from_vec(all))
+                let all = Vec::from_slice(*items.allocator(), items.as_slice())?;
+                Ok(ShortWords {
+                    kept: Kept::Heap(all),
+                })
             }
         }
     }
