@@ -1,21 +1,23 @@
 -- From the locale that was read to its normal text.
 use Rattle.std.proofs.Common.{◌≡◌, inl, inr, ◌↔◌, IsTrue, ℕ, ◌≤◌, Bool, true, false, List, length, refl, sym, ap, ◌∙◌, subst, true≢false, IfOk, Err, Ok, Result}
-use Rattle.iloc_spec_grammar.specs.Syntax.{languages}
+use Rattle.iloc_spec_grammar.specs.Syntax.{languages, is_same}
 use Rattle.iloc_spec_grammar.specs.Meaning as meaning
 use Rattle.iloc_spec_grammar.specs.Meaning.{Means}
 use Rattle.iloc_spec_grammar.specs.Values.{IsWellFormed, text}
+use Rattle.iloc_spec_grammar.proofs.MapLaws.{same_is, same_itself}
 use Rattle.iloc_spec_grammar.proofs.SameMeaning.{one_meaning}
 use Rattle.iloc_spec_grammar.proofs.SameFaults.{accepted_no_fault}
 use Rattle.std.specs.Ordering.{is_eq}
 use Rattle.iloc_spec_parts.specs.Orders.{locale_cmp}
 use Rattle.iloc_spec_parts.proofs.OrderLaws.{locale_exact}
 use Rattle.iloc_spec_grammar.proofs.RawLaws.{languages_table}
-use Rattle.iloc_spec_grammar.proofs.Corollaries.{same_meaning, means_again}
+use Rattle.iloc_spec_grammar.proofs.Corollaries.{same_meaning, means_again, same_text_same_value}
 use Rattle.iloc_spec_grammar.proofs.AnySteps.{chain_to_text, shortest, texts_lead_to_one}
 use Rattle.iloc_subtags.specs.declared.parse_error.ParseError.{ParseError}
 use Rattle.iloc_subtags.specs.declared.parse_error.ParseError.TheVariants.{InvalidLanguage, InvalidSubtag, InvalidExtension, DuplicatedExtension, OutOfMemory}
 use Rattle.iloc_told.specs.Modes.{IsNormalText}
 use Rattle.iloc_told.specs.NormalTexts.{IsNotNormal}
+use Rattle.iloc_told.specs.Told.{HasRefusal}
 use Rattle.iloc_told.specs.declared.Mode.TheVariants.{Locale}
 use Rattle.iloc_locale.specs.LocaleReading.{LocaleTextReads, MeansOnly, IsTextOf, IsNormalizedLocale, NormalizingWantsMemory}
 use Rattle.iloc_locale.proofs.ReadLemmas.{inline_wants_none}
@@ -67,3 +69,36 @@ told_text t u (M, m, e) = is_normalized t u M m e
 
 pub told_other : (t : List ℕ) → IsNotNormal Locale t → NormalizingWantsMemory t
 told_other t (u, (M, m, e), other) = inr (M, m, λ s. other (s ∙ sym e))
+
+-- A text against a well-formed value.
+module _ (t : List ℕ) (M : meaning.Locale) (w : IsWellFormed M) where
+  -- the text of the value means it
+  pub own_text_means : true ≡ is_same (text M) t → Means languages t M
+  own_text_means e = subst (λ u. Means languages u M) (same_is (text M) t (sym e)) w
+
+  -- another text that is its own normal text does not
+  pub other_text_differs : false ≡ is_same (text M) t → IsNormalText languages Locale t t → Means languages t M → ⊥
+  other_text_differs e (N, m, is) n =
+      let own : text M ≡ t = ap text (one_meaning languages_table t M N n m) ∙ sym is in
+      true≢false (sym (same_itself (text M)) ∙ ap (is_same (text M)) own ∙ sym e)
+
+  -- and each text does exactly if its normal text is that of the value
+  pub normal_text_tells : (u : List ℕ) (same : Bool) → IsNormalText languages Locale t u
+      → same ≡ is_same (text M) u → IsTrue same ↔ Means languages t M
+  normal_text_tells u same (N, m, is) e = (
+    λ s.
+        let alike : text N ≡ text M = sym is ∙ sym (same_is (text M) u (sym e ∙ s)) in
+        let well : IsWellFormed N = means_again languages_table t N m in
+        subst (Means languages t) (same_text_same_value N M well w alike) m,
+    λ n.
+        let own : text M ≡ u = ap text (one_meaning languages_table t M N n m) ∙ sym is in
+        e ∙ sym (ap (is_same (text M)) own) ∙ same_itself (text M),
+  )
+
+-- a text that has a fault means nothing
+pub faulty_differs : (t : List ℕ) (M : meaning.Locale) (f : ParseError) → HasRefusal Locale t f → Means languages t M → ⊥
+faulty_differs t M InvalidLanguage h m = no_meaning t M InvalidLanguage h (λ e. cc) m
+faulty_differs t M InvalidSubtag h m = no_meaning t M InvalidSubtag h (λ e. cc) m
+faulty_differs t M InvalidExtension h m = no_meaning t M InvalidExtension h (λ e. cc) m
+faulty_differs t M DuplicatedExtension h m = no_meaning t M DuplicatedExtension h (λ e. cc) m
+faulty_differs t M OutOfMemory h m = h

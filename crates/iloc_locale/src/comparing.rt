@@ -1,5 +1,5 @@
 //! Compares locales with texts and with one another.
-ghost use Rattle.std.specs.Prelude.{◌≡◌, ◌↔◌, false, IsTrue, IfOk};
+ghost use Rattle.std.specs.Prelude.{◌≡◌, ◌↔◌, ◌≤◌, false, length, take, IsTrue, IfOk, IfSome};
 ghost use Rattle.std.specs.Ordering.{nat_cmp};
 ghost use Rattle.std.specs.Cmp.Lexicographic.{slice_cmp};
 ghost use Rattle.iloc_spec_grammar.specs.Syntax.{languages};
@@ -9,9 +9,14 @@ ghost use Rattle.iloc_spec_parts.specs.Orders.{locale_cmp};
 
 use crate::locale::Locale;
 use iloc_subtags::ParseError;
+use iloc_told::told::ROOM;
+use iloc_told::{Mode, Told, tell};
 use iloc_writeable::cmp_utf8;
 use std::alloc::{AllocError, Global};
 use std::cmp::Ordering;
+
+// So many bytes of a text have room here, and sixteen bytes behind them.
+const MOST: usize = 112;
 
 impl Locale {
     ghost use Rattle.iloc_locale.specs.LocaleReading.{value_of};
@@ -32,8 +37,50 @@ impl Locale {
             .then_with(|| self.extensions.total_cmp(&other.extensions))
     }
 
-    /// Whether the text is a locale that means this one. It parses the text, and so may allocate.
+    /// Whether the text is a locale that means this one. It may parse the text, and so may allocate.
     pub fn normalizing_eq(&self, alloc: Global, other: &str) -> Result<bool, AllocError>
+        ensures { IfOk result
+            (λ same. IsTrue same ↔ Means languages other.now (value_of self.now)) }
+    {
+        if self.extensions.is_empty() {
+            return Ok(self.id.normalizing_eq(other));
+        }
+        if !self.id.is_front_of(other.as_bytes()) {
+            return Ok(false);
+        }
+        match self.compare_told(other.as_bytes()) {
+            Some(same) => Ok(same),
+            None => self.compare_parsed(alloc, other),
+        }
+    }
+
+    // Whether the text means this locale, by its normal text. `None` says nothing.
+    #[inline(never)]
+    fn compare_told(&self, text: &[u8]) -> Option<bool>
+        ensures { IfSome result
+            (λ same. IsTrue same ↔ Means languages text.now (value_of self.now)) }
+    {
+        if !self.is_well_formed() {
+            return None;
+        }
+        if self.strict_cmp(text).is_eq() {
+            return Some(true);
+        }
+        if text.len() > MOST {
+            return None;
+        }
+        let mut room = [0u8; ROOM];
+        match tell(Mode::Locale, &in_window(text), text.len(), &mut room) {
+            Told::Normal(normal) if normal == text => Some(false),
+            Told::Normal(normal) => Some(self.strict_cmp(normal).is_eq()),
+            Told::Refused(_) => Some(false),
+            Told::Nothing => None,
+        }
+    }
+
+    // Whether the text means this locale, by parsing it.
+    #[inline(never)]
+    fn compare_parsed(&self, alloc: Global, other: &str) -> Result<bool, AllocError>
         ensures { IfOk result
             (λ same. IsTrue same ↔ Means languages other.now (value_of self.now)) }
     {
@@ -42,6 +89,17 @@ impl Locale {
             Err(refusal) => differs(refusal),
         }
     }
+}
+
+// The text, and bytes behind it that say nothing.
+#[inline(always)]
+fn in_window(text: &[u8]) -> [u8; ROOM]
+    requires { length text.now ≤ 112 }
+    ensures { take (length text.now) result ≡ text.now }
+{
+    let mut window = [0u8; ROOM];
+    window[..text.len()].copy_from_slice(text);
+    window
 }
 
 // What a refusal tells: the text means something else, unless memory ran out.

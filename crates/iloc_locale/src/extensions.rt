@@ -4,15 +4,16 @@ ghost use Rattle.iloc_spec_parts.specs.Orders.{extensions_cmp};
 ghost use Rattle.iloc_unicode.specs.UnicodeValue as unicode_value;
 ghost use Rattle.iloc_locale.specs.Retaining.{RetainsByType};
 
+use crate::copying::fill_from;
 use crate::extension_type::ExtensionType;
 use iloc_other::{Other, Private};
 use iloc_transform::Transform;
 use iloc_unicode::Unicode;
-use std::alloc::Global;
+use std::alloc::{AllocError, Global};
 use std::cmp::Ordering;
 
 /// All extensions of a locale. Fields can be set to what no text means.
-#[derive(Drop, Debug, Clone, PartialEq, Eq, Hash)]
+#[derive(Drop, Debug, PartialEq, Eq, Hash)]
 pub struct Extensions {
     /// The unicode extension, `u`.
     pub unicode: Unicode,
@@ -22,6 +23,19 @@ pub struct Extensions {
     pub private: Private,
     /// The other extensions, by their singletons.
     pub other: Vec<Other>,
+}
+
+// Written rather than derived: empty parts are not copied.
+impl Clone for Extensions {
+    ghost use Rattle.iloc_locale.specs.ExtensionsValue.{value_of};
+
+    ghost is_clone = { λ d e. value_of e ≡ value_of d };
+
+    fn clone(&self) -> Result<Self, AllocError> {
+        let mut copy = Extensions::new(*self.other.allocator());
+        fill_from(&mut copy, self)?;
+        Ok(copy)
+    }
 }
 
 impl Extensions {

@@ -37,6 +37,7 @@ use std::hash::Hash;
 pub mod blocks;
 pub mod comparing;
 pub mod conversions;
+mod copying;
 pub mod extension_laws;
 pub mod extension_type;
 pub mod extensions;

@@ -10,11 +10,12 @@ ghost use Rattle.iloc_subtags.specs.Left.{left};
 ghost use Rattle.iloc_langid.specs.Reads as langid;
 ghost use Rattle.iloc_locale.specs.LocaleReading.{value_of, unknown_locale, LocaleTextAnswers};
 
+use crate::copying::fill_from;
 use crate::{Extensions, read_blocks};
 use iloc_langid::LanguageIdentifier;
 use iloc_langid::reader::{fill_head, fill_short};
 use iloc_subtags::{ParseError, SubtagIterator};
-use std::alloc::Global;
+use std::alloc::{AllocError, Global};
 
 /// An identifier with extensions: a `unicode_locale_id` of UTS #35 section 3.
 ///
@@ -26,12 +27,32 @@ use std::alloc::Global;
 /// locale.id.region = Some(Region::try_from_str("gb")?);
 /// locale.normalizing_eq(alloc, "en-gb-u-ca-buddhist")?; // true
 /// ```
-#[derive(Clone, Drop, PartialEq, Eq, Hash)]
+#[derive(Drop, PartialEq, Eq, Hash)]
 pub struct Locale {
     /// The identifier.
     pub id: LanguageIdentifier,
     /// All else.
     pub extensions: Extensions,
+}
+
+// Written rather than derived: empty parts are not copied.
+impl Clone for Locale {
+    ghost use Rattle.iloc_locale.specs.LocaleReading.{value_of};
+
+    ghost is_clone = { λ l m. value_of m ≡ value_of l };
+
+    #[inline(always)]
+    fn clone(&self) -> Result<Self, AllocError> {
+        let mut copy = Locale {
+            id: self.id.clone()?,
+            extensions: Extensions::new(*self.extensions.other.allocator()),
+        };
+        if self.extensions.is_empty() {
+            return Ok(copy);
+        }
+        fill_from(&mut copy.extensions, &self.extensions)?;
+        Ok(copy)
+    }
 }
 
 impl Locale {

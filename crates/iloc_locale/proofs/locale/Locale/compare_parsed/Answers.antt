@@ -2,7 +2,7 @@ use Rattle.std.proofs.Common.{◌∙◌, ap}
 use Rattle.std.specs.Ordering.{is_eq}
 use Rattle.iloc_locale.specs.LocaleReading.{value_of}
 use Rattle.iloc_locale.proofs.NormalLemmas.{same_meaning_ties, refusal_differs}
-use Rattle.iloc_locale.proofs.locale.Locale.normalizing_eq.Goals as goal
+use Rattle.iloc_locale.proofs.locale.Locale.compare_parsed.Goals as goal
 
 pub returns-in-Ok : goal.returns-in-Ok
 returns-in-Ok c = same_meaning_ties c.args.other.now (value_of c.in-Ok.locale) (value_of c.args.self.now) _ c.in-Ok.ensures.reads (c.is_eq.ensures ∙ ap is_eq c.total_cmp.ensures)
