@@ -252,9 +252,32 @@ impl Keywords {
         ensures err { OnErr result (self.new ≡ self.old) }
         ensures succeeds { length other ≡ 0 → IsOk result }
     {
+        if let [pair] = other.as_slice() {
+            let key = pair.0;
+            return self.set_only(alloc, key, other);
+        }
         let _ = other.as_slice();
         let Keywords { map } = other;
         self.map.extend_from_map(alloc, map)
+    }
+
+    // Sets the pair of a map that has this key and no other.
+    #[inline(never)]
+    fn set_only(&mut self, alloc: Global, key: Key, only: Keywords) -> Result<(), AllocError>
+        requires one { length only ≡ 1 }
+        requires known { is_some (find word_cmp key only) ≡ true }
+        ensures ok { OnOk result (self.new ≡ map_of word_cmp (only ++ self.old)) }
+        ensures err { OnErr result (self.new ≡ self.old) }
+    {
+        let _ = self.as_slice();
+        let Keywords { mut map } = only;
+        match map.remove(&key) {
+            Some(value) => {
+                self.set(alloc, key, value)?;
+                Ok(())
+            }
+            None => unreachable!(),
+        }
     }
 
     /// The map of these pairs, in which the last of equal keys stays.

@@ -81,10 +81,11 @@ impl Unicode {
     }
 
     /// Whether both parts are empty.
+    #[inline(always)]
     pub fn is_empty(&self) -> bool
         ensures { result ≡ ((length self.now.attributes == 0) && (length self.now.keywords == 0)) }
     {
-        self.attributes.is_empty() && self.keywords.is_empty()
+        self.keywords.is_empty() && self.attributes.is_empty()
     }
 
     /// Empties both parts.
