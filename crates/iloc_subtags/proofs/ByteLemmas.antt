@@ -5,10 +5,12 @@ use Rattle.iloc_spec_grammar.proofs.Singletons.{two_more}
 use Rattle.iloc_subtags.specs.NextPiece.{byte_at}
 
 -- the piece stands first, and the others are left
-pub byte_first : (ps rest : List (List ℕ)) (b : ℕ) → Some b ≡ byte_at ps → rest ≡ rest_of ps → ps ≡ (b ∷ []) ∷ rest
+pub byte_first : (ps rest : List (List ℕ)) (b : ℕ) → Some b ≡ byte_at ps → rest ≡ rest_of ps →
+    ps ≡ (b ∷ []) ∷ rest
 byte_first [] rest b e r = absurd (cc)
 byte_first ([] ∷ ps) rest b e r = absurd (cc)
-byte_first ((c ∷ []) ∷ ps) rest b e r = let same : c ≡ b = cc in ap (λ n. (n ∷ []) ∷ ps) same ∙ ap (λ l. (b ∷ []) ∷ l) (sym r)
+byte_first ((c ∷ []) ∷ ps) rest b e r =
+    let same : c ≡ b = cc in ap (λ n. (n ∷ []) ∷ ps) same ∙ ap (λ l. (b ∷ []) ∷ l) (sym r)
 byte_first ((c ∷ d ∷ p) ∷ ps) rest b e r = absurd (cc)
 
 -- if none is there where a part ends, nothing is left

@@ -1,5 +1,6 @@
 -- Words of two kinds, by their bytes.
-use Rattle.std.proofs.Common.{◌≡◌, ℕ, ◌+◌, ◌*◌, ◌^◌, ◌<◌, true, cond, eqb, get_or, List, [], ◌∷◌, length, map, refl, sym, ◌∙◌, ap, arith}
+use Rattle.std.proofs.Common.{◌≡◌, ℕ, ◌+◌, ◌*◌, ◌^◌, ◌<◌, true, cond, eqb, get_or, List, [], ◌∷◌, length, map}
+use Rattle.std.proofs.Common.{refl, sym, ◌∙◌, ap, arith}
 use Rattle.std.proofs.lemmas.Bool.Decides.{nat_tests}
 use Rattle.std.proofs.lemmas.Nat.{or_block}
 use Rattle.std.specs.Int.Bits.{or_zero_r}
@@ -10,7 +11,10 @@ use Rattle.iloc_tinystr.specs.TinyText.{is_tiny_text}
 use Rattle.iloc_tinystr.proofs.ByBytes.{alike}
 use Rattle.iloc_tinystr.proofs.TinyTextLemmas.{length-le-tiny}
 use Rattle.iloc_subtags.specs.KindLaws.{region_fits, unicode_key_fits, transform_key_fits}
-use Rattle.iloc_spec_grammar.specs.Syntax.{Kind, Language, Script, Region, Variant, Subtag, UnicodeKey, TransformKey, Attribute, PrivateSubtag, SubdivisionSuffix, CurrencyType, is_word, IsWord, normal, lower, upper, title, greatest, raw}
+use Rattle.iloc_spec_grammar.specs.Syntax.{Kind, Language, Script, Region, Variant, Subtag, UnicodeKey}
+use Rattle.iloc_spec_grammar.specs.Syntax.{TransformKey, Attribute, PrivateSubtag, SubdivisionSuffix}
+use Rattle.iloc_spec_grammar.specs.Syntax.{CurrencyType, is_word, IsWord, normal, lower, upper, title}
+use Rattle.iloc_spec_grammar.specs.Syntax.{greatest, raw}
 use Rattle.iloc_spec_grammar.specs.Values.{IsNormal}
 
 no_longer : (w : List ℕ) (n : ℕ) → is_tiny_text n w ≡ true → n < length w → ⊥

@@ -2,7 +2,9 @@
 use Rattle.std.proofs.Common.{◌≡◌, ℕ, ◌<◌, ◌≤◌, Bool, true, false, List, length, refl, ◌∙◌, arith}
 use Rattle.iloc_tinystr.specs.TinyText.{is_tiny_text}
 use Rattle.iloc_tinystr.proofs.TinyTextLemmas.{length-le-tiny}
-use Rattle.iloc_spec_grammar.specs.Syntax.{Kind, Language, Script, Region, Variant, Subtag, UnicodeKey, TransformKey, Attribute, PrivateSubtag, SubdivisionSuffix, CurrencyType, is_word, IsWord, normal, greatest}
+use Rattle.iloc_spec_grammar.specs.Syntax.{Kind, Language, Script, Region, Variant, Subtag, UnicodeKey}
+use Rattle.iloc_spec_grammar.specs.Syntax.{TransformKey, Attribute, PrivateSubtag, SubdivisionSuffix}
+use Rattle.iloc_spec_grammar.specs.Syntax.{CurrencyType, is_word, IsWord, normal, greatest}
 use Rattle.iloc_spec_grammar.proofs.WordsLaws.{is_word-normal}
 
 -- no kind has words of more than eight bytes
@@ -22,7 +24,8 @@ greatest-le CurrencyType = omega arith
 pub size-le : (k : Kind) (n : ℕ) → greatest 8 k ≡ n → n ≤ 8
 size-le k n size = omega (arith, greatest-le k, size)
 
-module _ (k : Kind) (n : ℕ) (size : greatest 8 k ≡ n) (fits : (text : List ℕ) → IsWord k text → is_tiny_text n text ≡ true) where
+module _ (k : Kind) (n : ℕ) (size : greatest 8 k ≡ n)
+    (fits : (text : List ℕ) → IsWord k text → is_tiny_text n text ≡ true) where
   -- a longer piece is no word
   pub no_long_word : (text : List ℕ) → 8 < length text → is_word k text ≡ false
   no_long_word text long = by (is_word k text) refl

@@ -4,7 +4,9 @@ use Rattle.std.specs.Prelude.{Result, Ok, Err, ◌≡◌, ⊤}
 use Rattle.iloc_spec_grammar.specs.Meaning as faults
 use Rattle.iloc_spec_grammar.specs.Meaning.{Fault}
 use Rattle.iloc_subtags.specs.declared.parse_error.ParseError.{ParseError}
-use Rattle.iloc_subtags.specs.declared.parse_error.ParseError.TheVariants.{InvalidLanguage, InvalidSubtag, InvalidExtension, DuplicatedExtension, OutOfMemory}
+use Rattle.iloc_subtags.specs.declared.parse_error.ParseError.TheVariants.{InvalidLanguage, InvalidSubtag}
+use Rattle.iloc_subtags.specs.declared.parse_error.ParseError.TheVariants.{InvalidExtension}
+use Rattle.iloc_subtags.specs.declared.parse_error.ParseError.TheVariants.{DuplicatedExtension, OutOfMemory}
 
 -- what a refusal says: the fault of its name is there, or memory ran out
 abbrev pub Refusal : (Fault → Type 0) → Type 0 → ParseError → Type 0

@@ -1,7 +1,9 @@
 -- How long the words of a kind are.
 use Rattle.std.specs.Prelude.{ℕ, Bool, ◌==◌}
 use Rattle.std.specs.Int.{is_in_range}
-use Rattle.iloc_spec_grammar.specs.Syntax.{Kind, Language, Script, Region, Variant, Subtag, UnicodeKey, TransformKey, Attribute, PrivateSubtag, SubdivisionSuffix, CurrencyType}
+use Rattle.iloc_spec_grammar.specs.Syntax.{Kind, Language, Script, Region, Variant, Subtag, UnicodeKey}
+use Rattle.iloc_spec_grammar.specs.Syntax.{TransformKey, Attribute, PrivateSubtag, SubdivisionSuffix}
+use Rattle.iloc_spec_grammar.specs.Syntax.{CurrencyType}
 
 -- whether a word of the kind may have so many bytes
 unfoldable pub has_length : Kind → ℕ → Bool

@@ -1,5 +1,6 @@
 -- What operations on a number do to each of its bytes.
-use Rattle.std.proofs.Common.{◌≡◌, ℕ, zero, suc, ◌+◌, ◌*◌, ◌/◌, ◌%◌, ◌^◌, ◌<◌, Bool, true, ◌&&◌, eqb, ltb, get_or, List, [], ◌∷◌, length, map, refl, sym, ◌∙◌, ap, arith, pow-suc}
+use Rattle.std.proofs.Common.{◌≡◌, ℕ, zero, suc, ◌+◌, ◌*◌, ◌/◌, ◌%◌, ◌^◌, ◌<◌, Bool, true, ◌&&◌, eqb, ltb}
+use Rattle.std.proofs.Common.{get_or, List, [], ◌∷◌, length, map, refl, sym, ◌∙◌, ap, arith, pow-suc}
 use Rattle.std.proofs.lemmas.List.{map-id}
 use borrow.Author.Tests.{eqb-true, ltb-true}
 use Rattle.std.specs.Cmp.{first_so, second_so}
@@ -34,7 +35,8 @@ pub same_bytes : (f g : ℕ → ℕ) → ((b : ℕ) → b < 256 → f b ≡ g b)
     → map f (bytes n x) ≡ map g (bytes n x)
 unfolding bytes
 same_bytes f g e zero x = refl
-same_bytes f g e (suc n) x = let here = e (x % 256) (omega arith) in λ i. here i ∷ same_bytes f g e n (x / 256) i
+same_bytes f g e (suc n) x =
+    let here = e (x % 256) (omega arith) in λ i. here i ∷ same_bytes f g e n (x / 256) i
 
 -- ---- a number and its bytes
 
@@ -80,7 +82,8 @@ unfolding bytes spread
 constant x c e = record { keeps = λ b l. ltb-true c 256 e; made = refl }
 
 -- by a function that is equal at each of the 256 bytes
-pub alike_made : {x y : ℕ} {f : ℕ → ℕ} → Bytewise x f y → (g : ℕ → ℕ) → each_below 256 (λ b. eqb (f b) (g b)) ≡ true → Bytewise x g y
+pub alike_made : {x y : ℕ} {f : ℕ → ℕ} → Bytewise x f y → (g : ℕ → ℕ) →
+    each_below 256 (λ b. eqb (f b) (g b)) ≡ true → Bytewise x g y
 alike_made {x} {f = f} p g e = record {
   keeps = λ b l. rw (← alike f g e b l) (p.keeps b l);
   made = p.made ∙ ap number (same_bytes f g (alike f g e) 8 x);
@@ -89,7 +92,8 @@ alike_made {x} {f = f} p g e = record {
 -- an operation that goes by blocks of bits
 pub record ByBlocks (o : ℕ → ℕ → ℕ) : Type 0 where
   pub zeros : o 0 0 ≡ 0
-  pub block : (k a b r s : ℕ) → r < 2 ^ k → s < 2 ^ k → o (a * 2 ^ k + r) (b * 2 ^ k + s) ≡ o a b * 2 ^ k + o r s
+  pub block : (k a b r s : ℕ) → r < 2 ^ k → s < 2 ^ k →
+      o (a * 2 ^ k + r) (b * 2 ^ k + s) ≡ o a b * 2 ^ k + o r s
 
 pub ands : ByBlocks bit_and
 ands = record { zeros = refl; block = and_block }
@@ -121,7 +125,8 @@ module _ {o : ℕ → ℕ → ℕ} (by : ByBlocks o) where
       ∙ ap (λ y. o (f (x % 256)) (g (x % 256)) + 256 * y) (by_byte f g kf kg n (x / 256))
 
   -- of two numbers that go by bytes
-  pub of_both : {x a b : ℕ} {f g : ℕ → ℕ} → Bytewise x f a → Bytewise x g b → each_below 256 (λ b. ltb (o (f b) (g b)) 256) ≡ true → Bytewise x (λ b. o (f b) (g b)) (o a b)
+  pub of_both : {x a b : ℕ} {f g : ℕ → ℕ} → Bytewise x f a → Bytewise x g b →
+      each_below 256 (λ b. ltb (o (f b) (g b)) 256) ≡ true → Bytewise x (λ b. o (f b) (g b)) (o a b)
   of_both {x} {f = f} {g = g} p q e = record {
     keeps = kept (λ b. o (f b) (g b)) e;
     made = (λ i. o (p.made i) (q.made i)) ∙ by_byte f g p.keeps q.keeps 8 x;

@@ -1,5 +1,6 @@
 -- A letter is put into case by its bit 5.
-use Rattle.std.proofs.Common.{◌≡◌, ℕ, zero, suc, ◌+◌, ◌*◌, ◌/◌, ◌%◌, ◌^◌, ◌<◌, ◌≤◌, Bool, true, false, cond, get_or, map, refl, sym, ◌∙◌, ap, arith, pow-suc}
+use Rattle.std.proofs.Common.{◌≡◌, ℕ, zero, suc, ◌+◌, ◌*◌, ◌/◌, ◌%◌, ◌^◌, ◌<◌, ◌≤◌, Bool, true, false, cond}
+use Rattle.std.proofs.Common.{get_or, map, refl, sym, ◌∙◌, ap, arith, pow-suc}
 use Rattle.std.specs.Int.{is_in_range}
 use Rattle.std.specs.Int.RustNames.{bit_and, bit_or, bit_xor}
 use Rattle.std.proofs.lemmas.List.{map-id}
@@ -7,7 +8,8 @@ use Rattle.std.proofs.lemmas.Nat.{and_le_r, xor_comm}
 use Rattle.std.specs.Char.{is_ascii_alphabetic, to_ascii_lowercase, to_ascii_uppercase}
 use Rattle.iloc_tinystr.specs.Number.{number, bytes, flag, flags, IsPacked}
 use Rattle.iloc_tinystr.proofs.Titles.{title, length-title}
-use Rattle.iloc_tinystr.proofs.ByBytes.{number-bytes, length_bytes, kept, alike, same_bytes, Keeps, Bytewise, itself, alike_made, ands, ors, xors, first_byte, by_byte, of_both}
+use Rattle.iloc_tinystr.proofs.ByBytes.{number-bytes, length_bytes, kept, alike, same_bytes, Keeps, Bytewise}
+use Rattle.iloc_tinystr.proofs.ByBytes.{itself, alike_made, ands, ors, xors, first_byte, by_byte, of_both}
 use Rattle.iloc_tinystr.proofs.Low.{flag-keeps, turned_flags}
 use Rattle.iloc_tinystr.proofs.Packed.{below, word-lt, wider, Makes, makes, changed, fit-map}
 
@@ -43,9 +45,14 @@ title_wide : (n x : ℕ) → n ≤ 8 → x < 256 ^ n → number (title (bytes 8 
 unfolding bytes
 title_wide zero x few lt =
     let low : x % 256 ≡ 0 = omega arith in
-    omega (arith, ap to_ascii_uppercase low, wider to_ascii_lowercase refl 0 7 (x / 256) (omega arith) (omega arith))
+    omega (
+      arith,
+      ap to_ascii_uppercase low,
+      wider to_ascii_lowercase refl 0 7 (x / 256) (omega arith) (omega arith),
+    )
 title_wide (suc n) x few lt =
-    ap (λ y. to_ascii_uppercase (x % 256) + 256 * y) (wider to_ascii_lowercase refl n 7 (x / 256) (omega arith) (omega (arith, pow-suc 256 n)))
+    ap (λ y. to_ascii_uppercase (x % 256) + 256 * y)
+    (wider to_ascii_lowercase refl n 7 (x / 256) (omega arith) (omega (arith, pow-suc 256 n)))
 
 -- of the bits that turn the case, the first byte's alone, where the rest is in lower case
 title_number : (x l b : ℕ) → Bytewise x to_ascii_lowercase l → Bytewise x (case_bit is_ascii_alphabetic) b
@@ -99,7 +106,8 @@ module _ (n x : ℕ) (h : IsPacked n x) (f : ℕ) (e : f ≡ flags is_ascii_alph
       (title_number x _ (f / 4) lowered (case_bits is_ascii_alphabetic x f e)
       ∙ title_wide n x h.few (below n x h))
 
-  pub title_whole : number (bytes n (bit_xor (bit_or x (f / 4)) (bit_and (f / 4) 32))) ≡ bit_xor (bit_or x (f / 4)) (bit_and (f / 4) 32)
+  pub title_whole : number (bytes n (bit_xor (bit_or x (f / 4)) (bit_and (f / 4) 32)))
+      ≡ bit_xor (bit_or x (f / 4)) (bit_and (f / 4) 32)
   title_whole = titled.word.whole
 
   pub title_shows : bytes n (bit_xor (bit_or x (f / 4)) (bit_and (f / 4) 32)) ≡ title (bytes n x)

@@ -1,10 +1,12 @@
 -- A tiny text is marked where its number is not zero: a test holds of all bytes where it marks the same ones.
-use Rattle.std.proofs.Common.{◌≡◌, ℕ, zero, suc, ◌+◌, ◌*◌, ◌/◌, ◌%◌, ◌^◌, ◌<◌, ◌≤◌, Bool, true, false, ◌&&◌, not, cond, eqb, List, length, map, refl, sym, ◌∙◌, ap, subst, arith, pow-suc}
+use Rattle.std.proofs.Common.{◌≡◌, ℕ, zero, suc, ◌+◌, ◌*◌, ◌/◌, ◌%◌, ◌^◌, ◌<◌, ◌≤◌, Bool, true, false, ◌&&◌}
+use Rattle.std.proofs.Common.{not, cond, eqb, List, length, map, refl, sym, ◌∙◌, ap, subst, arith, pow-suc}
 use borrow.Author.Tests.{eqb-true}
 use Rattle.std.proofs.lemmas.Bool.Decides.{nat_tests}
 use Rattle.std.proofs.lemmas.Nat.{ones_cat}
 use Rattle.std.specs.List.{list_all}
-use Rattle.std.specs.Char.{is_ascii_alphabetic, is_ascii_alphanumeric, is_ascii_digit, is_ascii_lowercase, is_ascii_uppercase, to_ascii_lowercase, to_ascii_uppercase}
+use Rattle.std.specs.Char.{is_ascii_alphabetic, is_ascii_alphanumeric, is_ascii_digit, is_ascii_lowercase}
+use Rattle.std.specs.Char.{is_ascii_uppercase, to_ascii_lowercase, to_ascii_uppercase}
 use Rattle.std.specs.Int.{is_in_range}
 use Rattle.std.specs.Int.RustNames.{bit_or, bit_xor, count_ones}
 use Rattle.iloc_tinystr.specs.Number.{number, bytes, flag, flags, spread, IsPacked}
@@ -69,7 +71,8 @@ module _ (n : ℕ) (text : List ℕ) (x : ℕ) (few : n ≤ 8) (tiny : is_tiny_t
   with_all : (p : ℕ → Bool) → p 0 ≡ false → eqb (flags p x) (flags is_text_byte x) ≡ list_all p text
   with_all p none = ap (eqb (flags p x)) all_marked ∙ marked p none
 
-  pub letters_marked : eqb (flags is_ascii_alphabetic x) (flags is_text_byte x) ≡ list_all is_ascii_alphabetic text
+  pub letters_marked : eqb (flags is_ascii_alphabetic x) (flags is_text_byte x)
+      ≡ list_all is_ascii_alphabetic text
   letters_marked = with_all is_ascii_alphabetic refl
 
   pub digits_marked : eqb (flags (is_in_range 48 57) x) (flags is_text_byte x) ≡ list_all is_ascii_digit text

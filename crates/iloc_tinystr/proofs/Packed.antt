@@ -1,5 +1,6 @@
 -- Numbers that are those of at most eight bytes.
-use Rattle.std.proofs.Common.{◌≡◌, ℕ, zero, suc, ◌+◌, ◌*◌, ◌/◌, ◌%◌, ◌^◌, ◌<◌, ◌≤◌, get_or, List, length, map, refl, sym, ◌∙◌, ap, arith, pow-suc}
+use Rattle.std.proofs.Common.{◌≡◌, ℕ, zero, suc, ◌+◌, ◌*◌, ◌/◌, ◌%◌, ◌^◌, ◌<◌, ◌≤◌, get_or, List, length, map}
+use Rattle.std.proofs.Common.{refl, sym, ◌∙◌, ap, arith, pow-suc}
 use Rattle.std.proofs.Math.Nat.{pow-le-pow_right}
 use Rattle.std.proofs.lemmas.Nat.{pow-add}
 use Rattle.std.proofs.lemmas.List.{length-map}
@@ -29,7 +30,8 @@ lt_power i j h = grind (arith, le_power j i)
 pub word-lt : (n x : ℕ) → IsPacked n x → x < 2 ^ 64
 word-lt n x h = omega (arith, below n x h, same_power n, le_power (8 * n) 64 (omega (arith, h.few)))
 
-pub wider : (h : ℕ → ℕ) → h 0 ≡ 0 → (n m x : ℕ) → n ≤ m → x < 256 ^ n → number (map h (bytes m x)) ≡ number (map h (bytes n x))
+pub wider : (h : ℕ → ℕ) → h 0 ≡ 0 → (n m x : ℕ) → n ≤ m → x < 256 ^ n →
+    number (map h (bytes m x)) ≡ number (map h (bytes n x))
 unfolding bytes
 wider h e zero zero x le lt = refl
 wider h e zero (suc m) x le lt =
@@ -44,10 +46,14 @@ pub record Makes (n y : ℕ) (ys : List ℕ) : Type 0 where
   pub word : IsPacked n y
   pub shows : bytes n y ≡ ys
 
-pub makes : (n y : ℕ) (ys : List ℕ) → length ys ≡ n → n ≤ 8 → ((k : ℕ) → get_or ys k 0 < 256) → y ≡ number ys → Makes n y ys
+pub makes : (n y : ℕ) (ys : List ℕ) → length ys ≡ n → n ≤ 8 → ((k : ℕ) → get_or ys k 0 < 256) →
+    y ≡ number ys → Makes n y ys
 makes n y ys long few fit e =
     let shown : bytes n y ≡ ys = rw (e, ← long) (bytes-number ys fit) in
-    record { word = record { few = few; counted = length_bytes n y; whole = ap number shown ∙ sym e }; shows = shown }
+    record {
+      word = record { few = few; counted = length_bytes n y; whole = ap number shown ∙ sym e };
+      shows = shown;
+    }
 
 pub fit-map : (f : ℕ → ℕ) → Keeps f → (n x k : ℕ) → get_or (map f (bytes n x)) k 0 < 256
 unfolding bytes
@@ -55,7 +61,8 @@ fit-map f keeps zero x k = omega arith
 fit-map f keeps (suc n) x zero = keeps (x % 256) (omega arith)
 fit-map f keeps (suc n) x (suc k) = fit-map f keeps n (x / 256) k
 
-pub changed : {n x y : ℕ} {f : ℕ → ℕ} → IsPacked n x → f 0 ≡ 0 → Bytewise x f y → Makes n y (map f (bytes n x))
+pub changed : {n x y : ℕ} {f : ℕ → ℕ} → IsPacked n x → f 0 ≡ 0 → Bytewise x f y →
+    Makes n y (map f (bytes n x))
 changed {n} {x} {y} {f} h none b =
     makes n y (map f (bytes n x)) (length-map (bytes n x) f ∙ length_bytes n x) h.few (fit-map f b.keeps n x)
     (b.made ∙ wider f none n 8 x h.few (below n x h))

@@ -1,5 +1,6 @@
 -- Raw forms: a text, followed by zeros.
-use Rattle.std.proofs.Common.{◌≡◌, ℕ, zero, suc, ◌+◌, ◌-◌, ◌*◌, ◌/◌, ◌%◌, ◌^◌, ◌<◌, ◌≤◌, get_or, List, [], ◌∷◌, ◌++◌, length, take, drop, refl, sym, ◌∙◌, ap, arith}
+use Rattle.std.proofs.Common.{◌≡◌, ℕ, zero, suc, ◌+◌, ◌-◌, ◌*◌, ◌/◌, ◌%◌, ◌^◌, ◌<◌, ◌≤◌, get_or, List, []}
+use Rattle.std.proofs.Common.{◌∷◌, ◌++◌, length, take, drop, refl, sym, ◌∙◌, ap, arith}
 use Rattle.std.proofs.lemmas.Nat.{le_bytes_8}
 use Rattle.std.specs.Int.{w64, from_le_bytes, to_le_bytes}
 use Rattle.std.proofs.Math.ListN.{replicate}
@@ -21,7 +22,8 @@ take_bytes (suc n) (suc m) x h = ap (λ xs. x % 256 ∷ xs) (take_bytes n m (x /
 pub lowest_bytes : (n x : ℕ) → n ≤ 8 → x < 2 ^ 64 → take n (to_le_bytes w64 x) ≡ bytes n x
 lowest_bytes n x few small =
     let e : x < 256 ^ 8 = omega arith in
-    let same : from_le_bytes w64 (bytes 8 x) ≡ x = from_eight (bytes 8 x) (length_bytes 8 x) ∙ number-bytes 8 x e in
+    let same : from_le_bytes w64 (bytes 8 x) ≡ x =
+    from_eight (bytes 8 x) (length_bytes 8 x) ∙ number-bytes 8 x e in
     rw (le_bytes_8 (bytes 8 x) x (length_bytes 8 x) (fit-bytes 8 x) (sym same)) (take_bytes n 8 x few)
 
 -- ---- bytes, followed by zeros
@@ -45,21 +47,25 @@ pub length-padded : (xs : List ℕ) (n : ℕ) → n ≤ 8 → length xs ≡ n �
 length-padded xs n few long = simp (length-append, length-replicate) (omega arith)
 
 -- the n bytes of a shorter text's number are its raw form
-pub bytes-text : (text : List ℕ) (k : ℕ) → Bytes text → bytes (length text + k) (number text) ≡ text ++ replicate k 0
+pub bytes-text : (text : List ℕ) (k : ℕ) → Bytes text →
+    bytes (length text + k) (number text) ≡ text ++ replicate k 0
 bytes-text text k fit =
     let long : length (text ++ replicate k 0) ≡ length text + k = simp (length-append, length-replicate) in
     rw (← number-zeros text k, ← long) (bytes-number (text ++ replicate k 0) (fit-padded text k fit))
 
 -- a raw form that was copied over zeros
-pub widened_is : (n : ℕ) (raw copied : List ℕ) → copied ≡ raw → copied ++ drop n (replicate {A = ℕ} 8 0) ≡ raw ++ replicate (8 - n) 0
+pub widened_is : (n : ℕ) (raw copied : List ℕ) → copied ≡ raw →
+    copied ++ drop n (replicate {A = ℕ} 8 0) ≡ raw ++ replicate (8 - n) 0
 widened_is n raw copied same = λ i. same i ++ drop-replicate n 8 0 i
 
 -- its number
-pub number_widened : (n : ℕ) (raw : List ℕ) → n ≤ 8 → length raw ≡ n → from_le_bytes w64 (raw ++ replicate (8 - n) 0) ≡ number raw
+pub number_widened : (n : ℕ) (raw : List ℕ) → n ≤ 8 → length raw ≡ n →
+    from_le_bytes w64 (raw ++ replicate (8 - n) 0) ≡ number raw
 number_widened n raw few long = from_eight _ (length-padded raw n few long) ∙ number-zeros raw (8 - n)
 
 -- the eight bytes of a packed number are its bytes, followed by zeros
-pub eight_padded : (n x : ℕ) (xs : List ℕ) → IsPacked n x → bytes n x ≡ xs → to_le_bytes w64 x ≡ xs ++ replicate (8 - length xs) 0
+pub eight_padded : (n x : ℕ) (xs : List ℕ) → IsPacked n x → bytes n x ≡ xs →
+    to_le_bytes w64 x ≡ xs ++ replicate (8 - length xs) 0
 eight_padded n x xs h e =
     let few : length xs ≤ 8 = omega (arith, h.few, h.counted, ap length e) in
     le_bytes_8 _ x (length-padded xs (length xs) few refl) (fit-padded xs _ (λ k. rw (← e) (fit-bytes n x k)))

@@ -1,5 +1,6 @@
 -- Raw forms of one size compare as their numbers do.
-use Rattle.std.proofs.Common.{Equal, Less, Greater, Ordering, ◌≡◌, ℕ, zero, suc, ◌+◌, ◌-◌, ◌*◌, ◌<◌, ◌≤◌, ◌&&◌, true, eqb, List, [], ◌∷◌, ◌++◌, length, refl, sym, ◌∙◌, ap, arith}
+use Rattle.std.proofs.Common.{Equal, Less, Greater, Ordering, ◌≡◌, ℕ, zero, suc, ◌+◌, ◌-◌, ◌*◌, ◌<◌, ◌≤◌}
+use Rattle.std.proofs.Common.{◌&&◌, true, eqb, List, [], ◌∷◌, ◌++◌, length, refl, sym, ◌∙◌, ap, arith}
 use Rattle.std.specs.Prelude.{nat_eq}
 use Rattle.std.proofs.lemmas.Bool.Decides.{nat_tests}
 use Rattle.std.proofs.Math.ListN.{replicate}
@@ -17,10 +18,12 @@ use Rattle.iloc_tinystr.proofs.RawForms.{Bytes, fit-padded, length-padded}
 eq_step : (x y a b : ℕ) → x < 256 → y < 256 → eqb (x + 256 * a) (y + 256 * b) ≡ (eqb x y && eqb a b)
 eq_step x y a b h k = grind (arith, nat_tests)
 
-pub number_eq : (xs ys : List ℕ) → length xs ≡ length ys → Bytes xs → Bytes ys → eqb (number xs) (number ys) ≡ pointwise nat_eq xs ys
+pub number_eq : (xs ys : List ℕ) → length xs ≡ length ys → Bytes xs → Bytes ys →
+    eqb (number xs) (number ys) ≡ pointwise nat_eq xs ys
 number_eq [] [] e h k = refl
 number_eq (x ∷ xs) (y ∷ ys) e h k =
-    eq_step x y (number xs) (number ys) (h 0) (k 0) ∙ ap (λ t. eqb x y && t) (number_eq xs ys (omega arith) (λ i. h (suc i)) (λ i. k (suc i)))
+    eq_step x y (number xs) (number ys) (h 0) (k 0)
+    ∙ ap (λ t. eqb x y && t) (number_eq xs ys (omega arith) (λ i. h (suc i)) (λ i. k (suc i)))
 number_eq xs ys e h k = absurd (omega arith)
 
 -- of texts, of any lengths
@@ -40,7 +43,8 @@ abbrev high_from : ℕ → List ℕ → ℕ
 high_from a [] = a
 high_from a (b ∷ bs) = high_from (a * 256 + b) bs
 
-cmp_step : (a b x y : ℕ) → x < 256 → y < 256 → nat_cmp (a * 256 + x) (b * 256 + y) ≡ ordering_then (nat_cmp a b) (nat_cmp x y)
+cmp_step : (a b x y : ℕ) → x < 256 → y < 256 →
+    nat_cmp (a * 256 + x) (b * 256 + y) ≡ ordering_then (nat_cmp a b) (nat_cmp x y)
 cmp_step a b x y h k = grind (arith, nat_tests)
 
 then_equal : (o : Ordering) → o ≡ ordering_then o Equal
@@ -48,7 +52,8 @@ then_equal Less = refl
 then_equal Equal = refl
 then_equal Greater = refl
 
-high_cmp : (a b : ℕ) (xs ys : List ℕ) → length xs ≡ length ys → Bytes xs → Bytes ys → nat_cmp (high_from a xs) (high_from b ys) ≡ ordering_then (nat_cmp a b) (slice_cmp nat_cmp xs ys)
+high_cmp : (a b : ℕ) (xs ys : List ℕ) → length xs ≡ length ys → Bytes xs → Bytes ys →
+    nat_cmp (high_from a xs) (high_from b ys) ≡ ordering_then (nat_cmp a b) (slice_cmp nat_cmp xs ys)
 high_cmp a b [] [] e h k = then_equal (nat_cmp a b)
 high_cmp a b (x ∷ xs) (y ∷ ys) e h k =
     high_cmp (a * 256 + x) (b * 256 + y) xs ys (omega arith) (λ i. h (suc i)) (λ i. k (suc i))
@@ -64,13 +69,15 @@ pub level : (k : ℕ) → slice_cmp nat_cmp (replicate k 0) (replicate k 0) ≡ 
 level zero = refl
 level (suc k) = level k
 
-cmp-padded : (xs ys : List ℕ) (k : ℕ) → length xs ≡ length ys → slice_cmp nat_cmp (xs ++ replicate k 0) (ys ++ replicate k 0) ≡ slice_cmp nat_cmp xs ys
+cmp-padded : (xs ys : List ℕ) (k : ℕ) → length xs ≡ length ys →
+    slice_cmp nat_cmp (xs ++ replicate k 0) (ys ++ replicate k 0) ≡ slice_cmp nat_cmp xs ys
 cmp-padded [] [] k e = level k
 cmp-padded (x ∷ xs) (y ∷ ys) k e = ap (ordering_then (nat_cmp x y)) (cmp-padded xs ys k (omega arith))
 cmp-padded xs ys k e = absurd (omega arith)
 
 pub raw_cmp : (n : ℕ) (xs ys : List ℕ) → n ≤ 8 → length xs ≡ n → length ys ≡ n → Bytes xs → Bytes ys
-    → nat_cmp (from_be_bytes w64 (xs ++ replicate (8 - n) 0)) (from_be_bytes w64 (ys ++ replicate (8 - n) 0)) ≡ slice_cmp nat_cmp xs ys
+    → nat_cmp (from_be_bytes w64 (xs ++ replicate (8 - n) 0)) (from_be_bytes w64 (ys ++ replicate (8 - n) 0))
+    ≡ slice_cmp nat_cmp xs ys
 raw_cmp n xs ys few ex ey h k =
     let lx = length-padded xs n few ex in
     let ly = length-padded ys n few ey in

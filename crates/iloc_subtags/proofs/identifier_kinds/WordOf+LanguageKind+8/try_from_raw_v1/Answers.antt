@@ -7,7 +7,8 @@ use Rattle.iloc_subtags.proofs.identifier_kinds.WordOf+LanguageKind+8.try_from_r
 
 pub returns-in_default : goal.returns-in_default
 returns-in_default c =
-    none_reads_raw 3 3 (Language two_or_three) refl narrow_language_fits InvalidLanguage InvalidLanguage c.args.raw refl c.in_default.ensures.none
+    none_reads_raw 3 3 (Language two_or_three) refl narrow_language_fits InvalidLanguage InvalidLanguage
+    c.args.raw refl c.in_default.ensures.none
 
 pub returns : goal.returns
 returns c =

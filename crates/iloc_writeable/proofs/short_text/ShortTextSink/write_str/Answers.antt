@@ -12,6 +12,8 @@ invariant_of-self c =
     record {
       in_range = omega arith;
       utf8 = ∣ subst IsUtf8
-          (sym (take-put_mid s.len _ s.bytes c.copy_from_slice.new.self (s.len + length t) (omega (arith, ap length copied)) (omega arith) ∙ ap (λ l. take s.len s.bytes ++ l) copied))
+          (sym (take-put_mid s.len _ s.bytes c.copy_from_slice.new.self (s.len + length t)
+          (omega (arith, ap length copied)) (omega arith)
+          ∙ ap (λ l. take s.len s.bytes ++ l) copied))
           (IsUtf8-append _ _ (IsUtf8-had _ s.utf8) c.utf8.text) ∣₁;
     }
