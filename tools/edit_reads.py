@@ -13,7 +13,7 @@ import re
 
 from edit_missing import places
 from edit_places import functions
-from edit_sums import digest, files_of, is_open, sum_of, without_comments
+from edit_sums import digest, files_of, is_open, sum_of, without_comments, without_layout
 from kit import LOGIC, read, rtlib
 
 WORD = re.compile(r"[^\s(){}\[\];,.`\"'&<>?!|=+*/@#$◌:]+")
@@ -32,7 +32,7 @@ class Item:
 
     def __init__(self, file, text, is_function=False):
         self.file, self.text, self.is_function = file, text, is_function
-        self.words, self.sum = frozenset(WORD.findall(text)), digest(text)
+        self.words, self.sum = frozenset(WORD.findall(text)), digest(without_layout(text.encode()))
 
 
 class File:

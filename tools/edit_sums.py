@@ -16,6 +16,8 @@ ABOUT = """\
 # A character or a string, or a comment to the end of its line. (A name of antt may hold --, but no blank before and after it.)
 RUST = re.compile(rb"""'(?:\\.|[^'\\\n])'|"(?:\\.|[^"\\])*"|//[^\n]*""", re.S)
 ANTT = re.compile(rb'"[^"\n]*"|(?<!\S)--(?!\S)[^\n]*')
+# The names of an import in braces.
+USE = re.compile(rb"^\s*((?:ghost )?(?:pub )?use [^\s{]*\{)([^}]*)\};?\s*$", re.M)
 EDIT_NAME = re.compile(r"[A-Za-z0-9_-][A-Za-z0-9_.-]*\.edit")
 
 
@@ -32,6 +34,14 @@ def without_comments(name, text):
         return text
     kept = form.sub(lambda found: found[0] if found[0][:1] in (b"'", b'"') else b"", text)
     return b"\n".join(it.rstrip() for it in kept.split(b"\n") if it.strip())
+
+
+def without_layout(text):
+    """Returns the text without what `rt fmt` and tools/break_lines add: blanks, the last comma of a list, the first `|`
+    of cases, and how many names a `use` line has. No verdict rests on these either."""
+    apart = lambda found: b"".join(found[1] + it.strip() for it in sorted(found[2].split(b",")) if it.strip())
+    text = USE.sub(apart, text)
+    return b"".join(re.sub(rb"\[\s*\|", b"[", re.sub(rb"[,;]?\s*([)}\]])", rb"\1", text)).split())
 
 
 def files_of(folder, *below):
@@ -62,10 +72,10 @@ def interface(crate):
     parts = []
     for path, blanked in sorted(rtlib.blanked(crate.folder).items()):
         text = without_bodies(path, blanked) if path.endswith(".rt") else read(path)
-        parts += [os.path.relpath(path, crate.folder), without_comments(path, text)]
+        parts += [os.path.relpath(path, crate.folder), without_layout(without_comments(path, text))]
     proofs = f"{crate.folder}/proofs"
     for name in sorted(os.listdir(proofs)) if os.path.isdir(proofs) else ():
-        parts += [name, without_comments(name, read(f"{proofs}/{name}"))]
+        parts += [name, without_layout(without_comments(name, read(f"{proofs}/{name}")))]
     return digest(*parts)
 
 
@@ -73,7 +83,7 @@ def sum_of(crate):
     """Returns a sum of what a verdict on an edit of the crate rests on, but the edit."""
     own = []
     for path in files_of(crate.folder, "src", "specs", "proofs"):
-        own += [os.path.relpath(path, crate.folder), without_comments(path, read(path))]
+        own += [os.path.relpath(path, crate.folder), without_layout(without_comments(path, read(path)))]
     below = sorted(f"{it.name} {interface(it)}" for it in crate.below())
     return digest(LOGIC, repr(crate.of_kit), *below, *own)
 
