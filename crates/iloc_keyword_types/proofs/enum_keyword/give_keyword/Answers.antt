@@ -41,4 +41,7 @@ returns g c = (value, read_back keyword words same g.met.E.EnumKeyword.plain pla
     normal = normal_word keyword words same place _ at
 
     value : enum_gives keyword (variant place) ≡ Some c.from_subtag.result
-    value = given keyword words same g.met.E.EnumKeyword.plain place at c.from_subtag.result (c.from_subtag.ensures ∙ ap (λ (w : List ℕ). without_true (w ∷ [])) (c.known_subtag.ensures (word_at words place) normal c.word_number.ensures))
+    value = given keyword words same g.met.E.EnumKeyword.plain place at c.from_subtag.result
+        (c.from_subtag.ensures
+        ∙ ap (λ (w : List ℕ). without_true (w ∷ []))
+        (c.known_subtag.ensures (word_at words place) normal c.word_number.ensures))

@@ -14,7 +14,8 @@ none (w ∷ ws) h = absurd (omega arith)
 
 pub returns-in-empty-clause-value : goal.returns-in-empty-clause-value
 returns-in-empty-clause-value c =
-    let few : length c.args.value.now < 1 = omega (arith, c.in-empty.len_below, ap length c.as_subtags_slice.ensures.subtags) in
+    let few : length c.args.value.now < 1 =
+    omega (arith, c.in-empty.len_below, ap length c.as_subtags_slice.ensures.subtags) in
     ap Some (c.of_number.ensures (codes "true") refl refl)
     ∙ sym (ap (λ ws. single (spelled_value ws)) (none c.args.value.now few))
 

@@ -1,4 +1,4 @@
-use Rattle.std.proofs.Common.{◌≡◌, ℕ, List, [], ◌∷◌, sym, ap, ◌∙◌, refl, subst, Some}
+use Rattle.std.proofs.Common.{◌≡◌, ℕ, List, [], ◌∷◌, sym, ap, ◌∙◌, refl, Some}
 use Rattle.iloc_spec_grammar.specs.Syntax.{Subtag}
 use Rattle.iloc_spec_grammar.specs.Values.{IsNormal}
 use Rattle.iloc_spec_preferences.specs.Keywords as keywords
@@ -14,8 +14,11 @@ use Rattle.iloc_keyword_types.proofs.GivenLemmas.{reads_back, kind_normal, given
 use Rattle.iloc_keyword_types.proofs.calendar_algorithm.CalendarAlgorithm.to_value.Goals as goal
 
 -- the word of a calendar is a subtag
-calendar_normal : (calendar : CalendarAlgorithm) → IsNormal Subtag (word_at (variants keywords.CalendarAlgorithm) (place calendar))
-calendar_normal calendar = normal_word keywords.CalendarAlgorithm (variants keywords.CalendarAlgorithm) refl (place calendar) _ (placed_at calendar)
+calendar_normal : (calendar : CalendarAlgorithm)
+    → IsNormal Subtag (word_at (variants keywords.CalendarAlgorithm) (place calendar))
+calendar_normal calendar =
+    normal_word keywords.CalendarAlgorithm (variants keywords.CalendarAlgorithm) refl (place calendar) _
+    (placed_at calendar)
 
 pub known_subtag-word-requires : goal.known_subtag-word-requires
 known_subtag-word-requires c = (_, calendar_normal c.args.self.now, c.word_number.ensures)
@@ -24,7 +27,14 @@ pub known_subtag-requires : goal.known_subtag-requires
 known_subtag-requires c = (_, kind_normal c.in-Some.kind, c.word_number-in-Some.ensures)
 
 pub returns-in-None-clause-value : goal.returns-in-None-clause-value
-returns-in-None-clause-value c = (c.from_subtag.result, given_plain c.args.self.now (sym c.in-None.ensures) ∙ ap Some (sym (c.from_subtag.ensures ∙ ap (λ (w : List ℕ). without_true (w ∷ [])) (c.known_subtag-word.ensures _ (calendar_normal c.args.self.now) c.word_number.ensures))), refl)
+returns-in-None-clause-value c = (
+  c.from_subtag.result,
+  given_plain c.args.self.now (sym c.in-None.ensures)
+      ∙ ap Some (sym (c.from_subtag.ensures
+      ∙ ap (λ (w : List ℕ). without_true (w ∷ []))
+      (c.known_subtag-word.ensures _ (calendar_normal c.args.self.now) c.word_number.ensures))),
+  refl,
+)
 
 pub returns-in-None-clause-back : goal.returns-in-None-clause-back
 unfolding returns-in-None-clause-value
@@ -34,7 +44,9 @@ pub returns-in-Some-clause-value : goal.returns-in-Some-clause-value
 returns-in-Some-clause-value c = (_, given_kind c.args.self.now c.in-Some.kind c.in-Some.ensures ∙ sym (λ i. Some (first i ∷ second i ∷ [])), c.from_two_subtags.ensures)
   where
     first : c.known_subtag-word.result ≡ word_at (variants keywords.CalendarAlgorithm) 9
-    first = c.known_subtag-word.ensures _ (calendar_normal c.args.self.now) c.word_number.ensures ∙ ap (word_at (variants keywords.CalendarAlgorithm)) (hijri_place c.args.self.now (kind_place c.in-Some.kind) c.in-Some.ensures)
+    first = c.known_subtag-word.ensures _ (calendar_normal c.args.self.now) c.word_number.ensures
+        ∙ ap (word_at (variants keywords.CalendarAlgorithm))
+        (hijri_place c.args.self.now (kind_place c.in-Some.kind) c.in-Some.ensures)
 
     second : c.known_subtag.result ≡ word_at hijri_kinds (kind_place c.in-Some.kind)
     second = c.known_subtag.ensures _ (kind_normal c.in-Some.kind) c.word_number-in-Some.ensures
