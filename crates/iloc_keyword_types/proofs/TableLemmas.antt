@@ -1,8 +1,13 @@
 -- The first variant with a word stands where the word does.
-use Rattle.std.proofs.Common.{◌≡◌, ℕ, true, false, cond, List, [], ◌∷◌, map, refl, ap, ◌∙◌, Option, Some, option_map, nat_eq, find}
+use Rattle.std.proofs.Common.{◌≡◌, ℕ, Bool, true, false, cond, List, [], ◌∷◌, map, refl, ap, ◌∙◌, Option, Some, option_map, nat_eq, find}
 use Rattle.std.specs.FinMap as table
 use Rattle.std.specs.Cmp.Lexicographic.{pointwise, texts_ties}
 use Rattle.iloc_spec_grammar.specs.Syntax.{word_cmp, is_same}
+
+-- two tests that agree find the same
+pub find_same : {X : Type 0} (p q : X → Bool) → ((x : X) → p x ≡ q x) → (xs : List X) → find p xs ≡ find q xs
+find_same p q e [] = refl
+find_same p q e (x ∷ xs) = λ i. cond (e x i) (Some x) (find_same p q e xs i)
 
 module _ {X : Type 0} (word : X → List ℕ) (place : X → ℕ) where
   pub first_is : (w : List ℕ) (xs : List X) → option_map place (find (λ x. pointwise nat_eq w (word x)) xs) ≡ table.find word_cmp w (map (λ x. (word x, place x)) xs)

@@ -1,6 +1,7 @@
 //! Calendars.
 ghost use Rattle.std.specs.Prelude.{◌≡◌, Some, None, option_map};
 ghost use Rattle.iloc_spec_preferences.specs.Keywords.{CalendarAlgorithm as the_keyword, variants};
+ghost use Rattle.iloc_tinystr.specs.Number.{number};
 ghost use Rattle.iloc_keyword_types.specs.WordTables.{word_at};
 ghost use Rattle.iloc_keyword_types.specs.Hijri.{kind_place};
 ghost use Rattle.iloc_keyword_types.specs.Calendars.{place, kind, value_of, enum_text};
@@ -61,6 +62,28 @@ impl CalendarAlgorithm {
         match self {
             Self::Hijri(kind) => *kind,
             _ => None,
+        }
+    }
+
+    // Its word without its kind, as one number, the first byte lowest.
+    pub(crate) fn word_number(&self) -> u64
+        ensures { result ≡ number (word_at (variants the_keyword) (place self.now)) }
+    {
+        match self {
+            Self::Buddhist => 0x7473_6968_6464_7562,
+            Self::Chinese => 0x0065_7365_6e69_6863,
+            Self::Coptic => 0x6369_7470_6f63,
+            Self::Dangi => 0x0069_676e_6164,
+            Self::Ethioaa => 0x0061_616f_6968_7465,
+            Self::Ethiopic => 0x6369_706f_6968_7465,
+            Self::Gregory => 0x0079_726f_6765_7267,
+            Self::Hebrew => 0x7765_7262_6568,
+            Self::Indian => 0x6e61_6964_6e69,
+            Self::Hijri(_) => 0x0063_696d_616c_7369,
+            Self::Iso8601 => 0x0031_3036_386f_7369,
+            Self::Japanese => 0x6573_656e_6170_616a,
+            Self::Persian => 0x006e_6169_7372_6570,
+            Self::Roc => 0x0063_6f72,
         }
     }
 

@@ -13,7 +13,7 @@ ghost use Rattle.iloc_keyword_types.specs.CalendarReading.{calendar_reads};
 use crate::calendar_algorithm::CalendarAlgorithm;
 use crate::enum_keyword::known_subtag;
 use crate::hijri::HijriCalendarAlgorithm;
-use crate::{PreferenceKey, WordEnum, find_word, known_keys};
+use crate::{PreferenceKey, find_word, known_keys};
 use iloc_subtags::UnicodeKey;
 use iloc_word_list::{PreferencesParseError, Value};
 use std::alloc::{AllocError, Global};
@@ -89,9 +89,9 @@ impl CalendarAlgorithm {
         ensures back { IfOk result
             (λ value. enum_reads the_keyword value ≡ Some (value_of self.now)) }
     {
-        let word = known_subtag(self.word());
+        let word = known_subtag(self.word_number());
         match self.kind() {
-            Some(kind) => Value::from_two_subtags(alloc, word, known_subtag(kind.word())),
+            Some(kind) => Value::from_two_subtags(alloc, word, known_subtag(kind.word_number())),
             None => Ok(Value::from_subtag(Some(word))),
         }
     }

@@ -1,21 +1,20 @@
 //! Keywords with a fixed set of values, but calendars: how they are read and written.
-ghost use Rattle.std.specs.Prelude.{◌≡◌, ℕ, List, [], Some, None, codes, option_and_then};
+ghost use Rattle.std.specs.Prelude.{◌≡◌, ℕ, List, [], Some, None, IfSome, find, nat_eq, codes, option_and_then};
 ghost use Rattle.iloc_spec_preferences.specs.Keywords.{EnumKeyword as Keyword, key as key_of_keyword, variants, further_readings, enum_gives};
 ghost use Rattle.iloc_spec_parts.specs.SingleValues.{single};
-ghost use Rattle.std.specs.Option.{option_copied};
 ghost use Rattle.iloc_keyword_types.specs.Reads.{
   ReadsUnder,
   GivesKeyed,
   ReadsVariant,
   GivesVariant,
 };
-ghost use Rattle.iloc_spec_grammar.specs.Syntax.{Subtag as subtag};
+ghost use Rattle.iloc_spec_grammar.specs.Syntax.{Text, Subtag as subtag};
 ghost use Rattle.iloc_spec_grammar.specs.Values.{IsNormal, spelled_value};
 ghost use Rattle.iloc_tinystr.specs.Number.{number};
 ghost use Rattle.iloc_keyword_types.specs.WordTables.{word_at};
 
 use crate::preference_key::PreferenceKey;
-use crate::word_enum::{WordEnum, find_word};
+use crate::word_enum::WordEnum;
 use iloc_subtags::{Subtag, UnicodeKey, subtag_of_normal};
 use iloc_tinystr::ShortPiece;
 use iloc_word_list::{PreferencesParseError, Value};
@@ -48,37 +47,46 @@ pub fn read_keyword<E: EnumKeyword>(value: &Value) -> Result<E, PreferencesParse
     let Some(word) = only_word(value) else {
         return Err(PreferencesParseError::InvalidKeywordValue);
     };
-    find_word(word).ok_or(PreferencesParseError::InvalidKeywordValue)
+    first_with_number(E::all(), word.number()).ok_or(PreferencesParseError::InvalidKeywordValue)
 }
 
 // The word of the only subtag of the value; of the empty value it is `true`.
-fn only_word(value: &Value) -> Option<&str>
-    ensures { option_copied result ≡ single (spelled_value value.now) }
+fn only_word(value: &Value) -> Option<ShortPiece>
+    ensures value { result ≡ single (spelled_value value.now) }
+    ensures normal { IfSome result (IsNormal subtag) }
 {
     match value.as_subtags_slice() {
-        [] => Some("true"),
-        [word] => Some(word.as_str()),
+        [] => Some(ShortPiece::of_number(0x6575_7274)),
+        [word] => Some(word.to_piece()),
         _ => None,
     }
+}
+
+// The first of the variants whose word has this number.
+fn first_with_number<E: EnumKeyword>(variants: &[E], packed: u64) -> Option<E>
+    ensures { result
+        ≡ find (λ v. nat_eq packed (number (word_at E.words (E.place v)))) variants.now }
+{
+    variants
+        .iter()
+        .copied()
+        .find(|variant| packed == variant.word_number())
 }
 
 /// The value of the variant's word; of `true` it is empty. Reading it gives the variant back.
 pub fn give_keyword<E: EnumKeyword>(keyword: E) -> Value
     ensures { GivesVariant E.keyword (E.place keyword) result }
 {
-    let word = ShortPiece::of_number(keyword.word_number());
-    Value::from_subtag(Some(subtag_of_normal(word)))
+    Value::from_subtag(Some(known_subtag(keyword.word_number())))
 }
 
-/// The subtag of a text that is one in its normal case.
-pub(crate) fn known_subtag(text: &str) -> Subtag
-    requires { IsNormal subtag text.now }
-    ensures { result ≡ text.now }
+/// The subtag of a number that is that of one in its normal case.
+#[inline(always)]
+pub(crate) fn known_subtag(packed: u64) -> Subtag
+    requires { (w : Text) × IsNormal subtag w × (packed ≡ number w) }
+    ensures { (w : Text) → IsNormal subtag w → packed ≡ number w → result ≡ w }
 {
-    match Subtag::try_from_str(text) {
-        Ok(word) => word,
-        Err(_) => unreachable!(),
-    }
+    subtag_of_normal(ShortPiece::of_number(packed))
 }
 
 /// Its key, what its value is parsed as, and the value that it is turned into, are those of the keyword.

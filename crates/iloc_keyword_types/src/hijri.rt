@@ -1,6 +1,7 @@
 //! The kinds of Hijri calendars.
 ghost use Rattle.std.specs.Prelude.{◌≡◌};
 ghost use Rattle.iloc_spec_preferences.specs.Keywords.{hijri_kinds};
+ghost use Rattle.iloc_tinystr.specs.Number.{number};
 ghost use Rattle.iloc_keyword_types.specs.WordTables.{word_at};
 ghost use Rattle.iloc_keyword_types.specs.Hijri.{kind_place};
 ghost use Rattle.iloc_keyword_types.specs.HijriLaws.{kind_placed};
@@ -18,6 +19,20 @@ pub enum HijriCalendarAlgorithm {
     Civil,
     /// `rgsa`.
     Rgsa,
+}
+
+impl HijriCalendarAlgorithm {
+    // Its word as one number, the first byte lowest.
+    pub(crate) fn word_number(&self) -> u64
+        ensures { result ≡ number (word_at hijri_kinds (kind_place self.now)) }
+    {
+        match self {
+            Self::Umalqura => 0x6172_7571_6c61_6d75,
+            Self::Tbla => 0x616c_6274,
+            Self::Civil => 0x006c_6976_6963,
+            Self::Rgsa => 0x6173_6772,
+        }
+    }
 }
 
 impl WordEnum for HijriCalendarAlgorithm {

@@ -4,7 +4,8 @@ ghost use Rattle.iloc_spec_grammar.specs.Meaning.{Fault};
 ghost use Rattle.iloc_subtags.specs.Judging.{Accepts, Refuses};
 ghost use Rattle.iloc_keyword_types.specs.Cut.{cut_of};
 
-use iloc_subtags::{ParseError, Region, SubdivisionSuffix, Subtag};
+use iloc_subtags::{ParseError, Region, SubdivisionSuffix, Subtag, subtag_of_normal};
+use iloc_tinystr::ShortPiece;
 use iloc_writeable::{Sink, Writeable};
 use std::cmp::min;
 use std::fmt;
@@ -80,9 +81,9 @@ impl SubdivisionId {
         ensures text { result ≡ subdivision_text self }
         ensures back { subdivision (subdivision_text self) ≡ Ok self }
     {
-        let region = self.region.to_tinystr().to_ascii_lowercase();
-        let text = region.concat::<4, 8>(self.suffix.to_tinystr());
-        Subtag::from_tinystr_unvalidated(text)
+        // Letters of a region are among its first two bytes.
+        let region = ShortPiece::of_number(self.region.to_piece().number() | 0x2020);
+        subtag_of_normal(region.concat(self.suffix.to_piece()))
     }
 }
 

@@ -14,7 +14,7 @@ fn currency_of(value: &Value) -> Option<CurrencyType>
     ensures { result ≡ currency_reads value.now }
 {
     let subtag = value.as_single_subtag()?;
-    CurrencyType::try_from_str(subtag.as_str()).ok()
+    CurrencyType::from_piece(subtag.to_piece()).ok()
 }
 
 /// The currency of the only subtag of the value; every other value is refused.

@@ -1,4 +1,4 @@
-use Rattle.std.proofs.Common.{◌≡◌, ℕ, List, [], ◌∷◌, sym, ap, ◌∙◌, refl, subst, Some}
+use Rattle.std.proofs.Common.{◌≡◌, ℕ, List, [], ◌∷◌, sym, ap, ◌∙◌, refl, Some}
 use Rattle.iloc_spec_grammar.specs.Syntax.{Subtag}
 use Rattle.iloc_spec_grammar.specs.Values.{IsNormal}
 use Rattle.iloc_spec_preferences.specs.Keywords as keywords
@@ -6,20 +6,35 @@ use Rattle.iloc_spec_preferences.specs.Keywords.{variants, hijri_kinds}
 use Rattle.iloc_word_list.specs.Values.{without_true}
 use Rattle.iloc_keyword_types.specs.WordTables.{word_at}
 use Rattle.iloc_keyword_types.proofs.EnumLemmas.{normal_word}
+use Rattle.iloc_keyword_types.specs.declared.calendar_algorithm.CalendarAlgorithm.{CalendarAlgorithm}
 use Rattle.iloc_keyword_types.specs.Calendars.{place}
 use Rattle.iloc_keyword_types.specs.CalendarLaws.{placed_at}
 use Rattle.iloc_keyword_types.specs.Hijri.{kind_place}
 use Rattle.iloc_keyword_types.proofs.GivenLemmas.{reads_back, kind_normal, given_kind, given_plain, hijri_place}
 use Rattle.iloc_keyword_types.proofs.calendar_algorithm.CalendarAlgorithm.to_value.Goals as goal
 
+-- the word of a calendar is a subtag
+calendar_normal : (calendar : CalendarAlgorithm)
+    → IsNormal Subtag (word_at (variants keywords.CalendarAlgorithm) (place calendar))
+calendar_normal calendar =
+    normal_word keywords.CalendarAlgorithm (variants keywords.CalendarAlgorithm) refl (place calendar) _
+    (placed_at calendar)
+
 pub known_subtag-word-requires : goal.known_subtag-word-requires
-known_subtag-word-requires c = subst (IsNormal Subtag) (sym c.word.ensures) (normal_word keywords.CalendarAlgorithm (variants keywords.CalendarAlgorithm) refl (place c.args.self.now) _ (placed_at c.args.self.now))
+known_subtag-word-requires c = (_, calendar_normal c.args.self.now, c.word_number.ensures)
 
 pub known_subtag-requires : goal.known_subtag-requires
-known_subtag-requires c = subst (IsNormal Subtag) (sym c.word-in-Some.ensures) (kind_normal c.in-Some.kind)
+known_subtag-requires c = (_, kind_normal c.in-Some.kind, c.word_number-in-Some.ensures)
 
 pub returns-in-None-clause-value : goal.returns-in-None-clause-value
-returns-in-None-clause-value c = (c.from_subtag.result, given_plain c.args.self.now (sym c.in-None.ensures) ∙ ap Some (sym (c.from_subtag.ensures ∙ ap (λ (w : List ℕ). without_true (w ∷ [])) (c.known_subtag-word.ensures ∙ c.word.ensures))), refl)
+returns-in-None-clause-value c = (
+  c.from_subtag.result,
+  given_plain c.args.self.now (sym c.in-None.ensures)
+      ∙ ap Some (sym (c.from_subtag.ensures
+      ∙ ap (λ (w : List ℕ). without_true (w ∷ []))
+      (c.known_subtag-word.ensures _ (calendar_normal c.args.self.now) c.word_number.ensures))),
+  refl,
+)
 
 pub returns-in-None-clause-back : goal.returns-in-None-clause-back
 unfolding returns-in-None-clause-value
@@ -29,10 +44,12 @@ pub returns-in-Some-clause-value : goal.returns-in-Some-clause-value
 returns-in-Some-clause-value c = (_, given_kind c.args.self.now c.in-Some.kind c.in-Some.ensures ∙ sym (λ i. Some (first i ∷ second i ∷ [])), c.from_two_subtags.ensures)
   where
     first : c.known_subtag-word.result ≡ word_at (variants keywords.CalendarAlgorithm) 9
-    first = c.known_subtag-word.ensures ∙ c.word.ensures ∙ ap (word_at (variants keywords.CalendarAlgorithm)) (hijri_place c.args.self.now (kind_place c.in-Some.kind) c.in-Some.ensures)
+    first = c.known_subtag-word.ensures _ (calendar_normal c.args.self.now) c.word_number.ensures
+        ∙ ap (word_at (variants keywords.CalendarAlgorithm))
+        (hijri_place c.args.self.now (kind_place c.in-Some.kind) c.in-Some.ensures)
 
     second : c.known_subtag.result ≡ word_at hijri_kinds (kind_place c.in-Some.kind)
-    second = c.known_subtag.ensures ∙ c.word-in-Some.ensures
+    second = c.known_subtag.ensures _ (kind_normal c.in-Some.kind) c.word_number-in-Some.ensures
 
 pub returns-in-Some-clause-back : goal.returns-in-Some-clause-back
 returns-in-Some-clause-back c = let given = returns-in-Some-clause-value c in rw given.2 (reads_back c.args.self.now given.0 given.1)
