@@ -33,6 +33,8 @@ impl<K: Drop, V: Drop> Store<K, V> for Vec<(K, V)> {
         &mut pair.1
     }
 
+    // It stands apart, so that a key that is there pays nothing for it.
+    #[inline(never)]
     fn lm_insert(
         &mut self,
         _alloc: Global,
