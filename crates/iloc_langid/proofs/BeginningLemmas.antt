@@ -1,17 +1,6 @@
 -- The language, the script and the region that pieces begin with.
-use Rattle.std.proofs.Common.{◌≡◌, ℕ, List, [], ◌∷◌, refl, sym, ap, ◌∙◌, subst, option_map}
-use Rattle.iloc_spec_grammar.specs.Syntax.{
-  Identifier,
-  Language,
-  IsWord,
-  lower,
-  title,
-  upper,
-  languages,
-  head,
-  front,
-  first_piece,
-}
+use Rattle.std.proofs.Common.{◌≡◌, ℕ, List, [], ◌∷◌, sym, ap, ◌∙◌, subst, option_map}
+use Rattle.iloc_spec_grammar.specs.Syntax.{Identifier, Language, IsWord, lower, title, upper, languages, head}
 use Rattle.iloc_spec_grammar.specs.Meaning.{IdentifierMeans}
 use Rattle.iloc_spec_grammar.specs.Reading.{front_of}
 use Rattle.iloc_spec_grammar.proofs.ReadingLaws.{front_of-pieces}
