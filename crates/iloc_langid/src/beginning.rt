@@ -2,7 +2,7 @@
 ghost use Rattle.std.specs.Prelude.{◌↔◌, IsTrue};
 ghost use Rattle.iloc_spec_grammar.specs.Syntax.{head, languages, pieces};
 ghost use Rattle.iloc_spec_grammar.specs.Meaning.{IdentifierMeans};
-ghost use Rattle.iloc_langid.specs.PlainReads.{BeginsWith};
+ghost use Rattle.iloc_langid.specs.PlainReads.{IsFrontOf};
 ghost use Rattle.iloc_langid.specs.Reads.{value_of};
 
 use crate::identifier::LanguageIdentifier;
@@ -13,7 +13,7 @@ use iloc_subtags::SubtagIterator;
 /// means the identifier. It allocates nothing.
 #[inline(always)]
 pub fn begins_with(text: &[u8], identifier: &LanguageIdentifier) -> bool
-    ensures exactly { IsTrue result ↔ BeginsWith (pieces text.now) (value_of identifier.now) }
+    ensures exactly { IsTrue result ↔ IsFrontOf (pieces text.now) (value_of identifier.now) }
     ensures means { IdentifierMeans languages (head (pieces text.now)) (value_of identifier.now)
         → IsTrue result }
 {
@@ -22,7 +22,7 @@ pub fn begins_with(text: &[u8], identifier: &LanguageIdentifier) -> bool
 
 #[inline(always)]
 fn has_front(text: &[u8], identifier: &LanguageIdentifier) -> bool
-    ensures { IsTrue result ↔ BeginsWith (pieces text.now) (value_of identifier.now) }
+    ensures { IsTrue result ↔ IsFrontOf (pieces text.now) (value_of identifier.now) }
 {
     let Some(plain) = take_plain(&mut SubtagIterator::new(text)) else {
         return false;
