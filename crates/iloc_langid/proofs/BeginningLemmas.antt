@@ -1,26 +1,15 @@
 -- The language, the script and the region that pieces begin with.
-use Rattle.std.proofs.Common.{◌≡◌, ℕ, List, [], ◌∷◌, refl, sym, ap, ◌∙◌, subst, option_map}
-use Rattle.iloc_spec_grammar.specs.Syntax.{
-  Identifier,
-  Language,
-  IsWord,
-  lower,
-  title,
-  upper,
-  languages,
-  head,
-  front,
-  first_piece,
-}
+use Rattle.std.proofs.Common.{◌≡◌, ℕ, List, [], ◌∷◌, sym, ap, ◌∙◌, subst, option_map}
+use Rattle.iloc_spec_grammar.specs.Syntax.{Identifier, Language, IsWord, lower, title, upper, languages, head}
 use Rattle.iloc_spec_grammar.specs.Meaning.{IdentifierMeans}
 use Rattle.iloc_spec_grammar.specs.Reading.{front_of}
 use Rattle.iloc_spec_grammar.proofs.ReadingLaws.{front_of-pieces}
-use Rattle.iloc_langid.specs.PlainReads.{BeginsWith}
+use Rattle.iloc_langid.specs.PlainReads.{IsFrontOf}
 use Rattle.iloc_langid.proofs.HeadLemmas.{script_at_front, region_at_front}
 use Rattle.iloc_langid.proofs.SmallLemmas.{parts_are}
 
 -- pieces that mean an identifier begin with its language, script and region
-means_begins : (ps : List (List ℕ)) (i : Identifier) → IdentifierMeans languages ps i → BeginsWith ps i
+means_begins : (ps : List (List ℕ)) (i : Identifier) → IdentifierMeans languages ps i → IsFrontOf ps i
 means_begins ps i m =
     let is : front_of ps ≡ m.written =
     ap front_of m.spelled ∙ front_of-pieces m.written m.grammatical.words in
@@ -35,7 +24,7 @@ means_begins ps i m =
     }
 
 -- the head of pieces begins as they do
-head_begins : (ps : List (List ℕ)) (i : Identifier) → BeginsWith (head ps) i → BeginsWith ps i
+head_begins : (ps : List (List ℕ)) (i : Identifier) → IsFrontOf (head ps) i → IsFrontOf ps i
 head_begins [] i b = b
 head_begins (p ∷ ps) i b = record {
   word = b.word;
@@ -45,5 +34,5 @@ head_begins (p ∷ ps) i b = record {
 }
 
 pub head_means_begins : (ps : List (List ℕ)) (i : Identifier)
-    → IdentifierMeans languages (head ps) i → BeginsWith ps i
+    → IdentifierMeans languages (head ps) i → IsFrontOf ps i
 head_means_begins ps i m = head_begins ps i (means_begins (head ps) i m)

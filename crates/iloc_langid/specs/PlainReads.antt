@@ -13,7 +13,7 @@ pub record IsPlainFront (ps rest : List Text) (plain : PlainParts) : Type 0 wher
   pub after : rest ≡ after_region ps
 
 -- the words at the front, each if it fits, are this language, script and region
-pub record BeginsWith (ps : List Text) (i : Identifier) : Type 0 where
+pub record IsFrontOf (ps : List Text) (i : Identifier) : Type 0 where
   pub word : IsWord (Language languages) (first_piece ps)
   pub language : i.language ≡ lower (first_piece ps)
   pub script : i.script ≡ option_map title (take_first (is_word Script) (rest_of ps))

@@ -1,7 +1,7 @@
 //! Normal texts of identifiers, and whether a text means an identifier.
 ghost use Rattle.std.specs.Prelude.{◌≡◌, ◌↔◌, ⊤, IsTrue, IfOk, IfErr};
 ghost use Rattle.std.specs.Cow.{cow_str_bytes};
-ghost use Rattle.iloc_spec_grammar.specs.Syntax.{pieces, head, languages, Identifier};
+ghost use Rattle.iloc_spec_grammar.specs.Syntax.{pieces, languages, Identifier};
 ghost use Rattle.iloc_spec_grammar.specs.Meaning.{IdentifierMeans, Fault, HasIdentifierFault};
 ghost use Rattle.iloc_spec_grammar.specs.Values.{identifier_text};
 ghost use Rattle.iloc_subtags.specs.Judging.{Refusal, Accepts, Refuses, RunsOutOnlyIf};
@@ -9,7 +9,6 @@ ghost use Rattle.iloc_writeable.specs.Writing.{IsLent};
 
 use crate::agreeing::has_variants;
 use crate::identifier::LanguageIdentifier;
-use crate::plain::take_plain;
 use iloc_subtags::{Language, ParseError, RegionKind, ScriptKind, SubtagIterator, take_word};
 use iloc_told::{Mode, normalize_short, normalize_told};
 use iloc_writeable::to_string_or_borrow;
@@ -17,7 +16,6 @@ use std::alloc::Global;
 use std::borrow::CowStr;
 
 impl LanguageIdentifier {
-    ghost use Rattle.iloc_langid.specs.PlainReads.{BeginsWith};
     ghost use Rattle.iloc_langid.specs.Reads.{value_of};
     ghost use Rattle.iloc_langid.specs.Normalizing.{IsNormalizedIdentifier, NormalizingIdentifierWantsMemory};
 
@@ -108,28 +106,5 @@ impl LanguageIdentifier {
             return false;
         }
         has_variants(iter, self.variants.as_slice())
-    }
-
-    /// Whether the text begins with this language, script and region. Each text does whose head means this identifier.
-    /// It allocates nothing.
-    #[inline(always)]
-    pub fn is_front_of(&self, text: &[u8]) -> bool
-        ensures exactly { IsTrue result ↔ BeginsWith (pieces text.now) (value_of self.now) }
-        ensures means { IdentifierMeans languages (head (pieces text.now)) (value_of self.now)
-            → IsTrue result }
-    {
-        self.begins(text)
-    }
-
-    #[inline(always)]
-    fn begins(&self, text: &[u8]) -> bool
-        ensures { IsTrue result ↔ BeginsWith (pieces text.now) (value_of self.now) }
-    {
-        let Some(plain) = take_plain(&mut SubtagIterator::new(text)) else {
-            return false;
-        };
-        plain.language == self.language
-            && plain.script == self.script
-            && plain.region == self.region
     }
 }
