@@ -1,12 +1,16 @@
 pub mod AsciiLemmas
 pub mod CopyLemmas
 mod CutLemmas
-mod VariedLemmas
 pub mod PlainAnswers
 pub mod FrontAnswers
 mod OutlinedLemmas
 mod FoundAnswers
 mod KeywordAnswers
-mod SubdivisionBlocks
-mod SubdivisionAnswers
+pub mod Subtags
+pub mod Names
+mod Behind
+mod Keywords
+mod Heads
+mod Blocks
+mod Reading
 pub mod NormalLemmas

@@ -16,6 +16,8 @@ ghost use Rattle.std.specs.Prelude.{◌≡◌, ◌↔◌, Some};
 ghost use Rattle.iloc_told.specs.Modes.{word_of};
 
 pub mod copying;
+mod data;
+mod data_writing;
 pub mod leads;
 pub mod normal_text;
 mod subdivisions;
