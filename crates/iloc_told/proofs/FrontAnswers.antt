@@ -15,7 +15,7 @@ use Rattle.iloc_spec_grammar.proofs.ReadingLaws.{pieces-front_of, front_words, a
 use Rattle.iloc_spec_parts.specs.Small.{SmallIdentifier}
 use Rattle.iloc_spec_parts.specs.Small as small
 use Rattle.iloc_spec_parts.specs.SmallComputing.{small_identifier, small_identifier_result, has_small_variants, is_u, is_small_block, has_small_keyword, block_fault, keyword_read, blocks_result, after_identifier, small_result}
-use Rattle.iloc_spec_preferences.specs.DataLocales.{DataMeans, HasDataFault, not_small}
+use Rattle.iloc_spec_preferences.specs.DataLocales.{DataLocale, DataMeans, HasDataFault, not_small}
 use Rattle.iloc_spec_preferences.proofs.DataLaws.{data_answer}
 use Rattle.iloc_spec_preferences.specs.DataComputing.{data_result, data_of_result}
 use Rattle.iloc_subtags.specs.declared.parse_error.ParseError.TheVariants.{InvalidLanguage, InvalidSubtag}
@@ -138,6 +138,10 @@ small_refused t b bs l e other fault = at_pieces Refused by t l e
 -- what is computed of a data locale is its fault
 pub data_fault : (t : List ℕ) (f : Fault) → data_result languages t ≡ Err f → HasDataFault languages t f
 data_fault t f e = subst (λ r. MatchResult r (DataMeans languages t) (HasDataFault languages t)) e (data_answer languages_table t)
+
+-- what is computed of it is what it means
+pub data_meant : (t : List ℕ) (d : DataLocale) → data_result languages t ≡ Ok d → DataMeans languages t d
+data_meant t d e = subst (λ r. MatchResult r (DataMeans languages t) (HasDataFault languages t)) e (data_answer languages_table t)
 
 pub data_refused : (t : List ℕ) (b : ℕ × List (List ℕ)) (bs : List (ℕ × List (List ℕ))) → BeginsWell t → tail_blocks (pieces t) ≡ b ∷ bs
     → is_small_block b bs ≡ false → block_fault b ≡ faults.InvalidSubtag → HasRefusal Data t InvalidSubtag

@@ -13,4 +13,8 @@ mod Keywords
 mod Heads
 mod Blocks
 mod Reading
+mod Regions
+mod Puts
+mod Texts
+mod Named
 pub mod NormalLemmas

@@ -24,6 +24,7 @@ use iloc_tinystr::ShortPiece;
 fn region_start(window: &[u8], end: usize) -> usize
     requires { end ≤ length window.now }
     ensures within { result ≤ end }
+    ensures near { end ≤ result + 3 }
     ensures start { (i : Identifier) → HasWords languages i → take end window.now ≡ join (front_pieces i)
         → IsRegionStart window.now end i.region result }
 {
@@ -143,8 +144,9 @@ fn write_named(window: &[u8], len: usize, head: &Head, value: &Value, to: &mut [
         return put_keyword(window, value, to, end);
     }
     put_front(window, &head.front, head.end, to);
-    let region = ShortPiece::of(&window[start..front]).unwrap();
-    if is_whole(window, value) || region.to_ascii_uppercase() != region_of(window, value) {
+    let region = ShortPiece::of(&window[start..front]).unwrap().to_ascii_uppercase();
+    let is_same = region == region_of(window, value);
+    if !is_same || is_whole(window, value) {
         return head.end;
     }
     put_keyword(window, value, to, head.end)
@@ -160,8 +162,9 @@ pub(crate) fn write_data(window: &[u8], len: usize, to: &mut [u8]) -> Written
 {
     match read_data(window, len) {
         Data::Head(head) => {
-            put_front(window, &head.front, head.end, to);
-            Written::Normal(head.end)
+            let end = head.end;
+            put_front(window, &head.front, end, to);
+            Written::Normal(end)
         }
         Data::Named(head, value) => {
             Written::Normal(write_named(window, len, &head, &value, to))
