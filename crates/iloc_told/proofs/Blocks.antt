@@ -1,9 +1,9 @@
 -- What the pieces behind a head are.
-use Rattle.std.proofs.Common.{◌≡◌, ◌≢◌, ◌⊎◌, inl, inr, ℕ, ◌+◌, ◌≤◌, ◌==◌, Bool, true, false, cond, List, [], ◌∷◌, length, get_or, slice_index, Ok, Err, Some, refl, sym, ap, ◌∙◌, subst, arith, true≢false}
+use Rattle.std.proofs.Common.{◌≡◌, ℕ, ◌+◌, true, false, List, [], ◌∷◌, length, slice_index, Ok, Err, Some, refl, sym, ap, ◌∙◌, subst, arith, true≢false}
 use Rattle.std.specs.Prelude.{if◌then◌else◌}
-use Rattle.std.specs.Char.{is_ascii_alphanumeric, to_ascii_lowercase}
+use Rattle.std.specs.Char.{is_ascii_alphanumeric}
 use Rattle.std.proofs.lemmas.Bool.{eqb-true}
-use Rattle.iloc_spec_grammar.specs.Syntax.{Text, Attribute, UnicodeKey, Block, is_one_byte, is_word, blocks, pieces, first_piece}
+use Rattle.iloc_spec_grammar.specs.Syntax.{Text, is_one_byte, pieces, first_piece}
 use Rattle.iloc_spec_grammar.specs.Meaning.{Fault, InvalidExtension, InvalidSubtag}
 use Rattle.iloc_spec_grammar.specs.Reading.{rest_of}
 use Rattle.iloc_spec_grammar.proofs.PiecesLaws.{at_pieces}
@@ -11,12 +11,11 @@ use Rattle.iloc_spec_grammar.proofs.Singletons.{two_more}
 use Rattle.iloc_spec_parts.specs.Small.{SmallIdentifier}
 use Rattle.iloc_spec_parts.specs.SmallComputing.{block_fault, blocks_result, is_u, keyword_read}
 use Rattle.iloc_spec_preferences.specs.DataComputing.{data_of_result}
-use Rattle.iloc_subtags.specs.Judging.{error_of}
 use Rattle.iloc_pieces.specs.Left.{IsNextPiece, IsRemainder, bytes_left, piece_left, pieces_left}
 use Rattle.iloc_pieces.specs.declared.left.Left.{Left}
-use Rattle.iloc_pieces.proofs.LeftLemmas.{next_at, single_short}
+use Rattle.iloc_pieces.proofs.LeftLemmas.{next_at}
 use Rattle.iloc_told.specs.Data.{IsBlockRead}
-use Rattle.iloc_told.specs.Subdivisions.{IsKeywordRead, IsNamed, NamesPast, data_behind}
+use Rattle.iloc_told.specs.Subdivisions.{IsKeywordRead, IsNamed, data_behind}
 use Rattle.iloc_told.specs.declared.data.Data.TheVariants as datas
 use Rattle.iloc_told.specs.declared.data.Head.{Head}
 use Rattle.iloc_told.specs.declared.subdivisions.Keyword.TheVariants as keywords

@@ -1,12 +1,11 @@
 -- What the head of a text makes of it as a data locale.
-use Rattle.std.proofs.Common.{◌≡◌, ◌≢◌, ◌⊎◌, inl, inr, ℕ, suc, ◌+◌, ◌-◌, ◌<◌, ◌≤◌, Bool, true, false, cond, ◌&&◌, nat_le, List, [], ◌∷◌, ◌++◌, length, map, take, drop, Option, Some, None, Result, Ok, Err, MatchResult, refl, sym, ap, ◌∙◌, subst, arith, append-nil, length-append, true≢false}
-use Rattle.std.specs.Prelude.{if◌then◌else◌}
+use Rattle.std.proofs.Common.{◌≡◌, ◌⊎◌, inl, inr, ℕ, suc, ◌+◌, ◌-◌, ◌<◌, ◌≤◌, Bool, true, false, cond, ◌&&◌, nat_le, List, [], ◌∷◌, ◌++◌, length, take, drop, Ok, Err, refl, sym, ap, ◌∙◌, arith, append-nil, length-append, true≢false}
 use Rattle.std.specs.List.{AllByRecursion, list_all}
-use Rattle.std.proofs.Math.Seq.{drop-append_seam, take-append_seam}
+use Rattle.std.proofs.Math.Seq.{drop-append_seam}
 use Rattle.std.proofs.lemmas.Bool.{and_right, cases_Bool, lt-leb}
 use Rattle.std.proofs.lemmas.List.{drop-take, length-take-le}
 use Rattle.iloc_spec_grammar.specs.Syntax.{Text, Language, Variant, Identifier, HasWords, IsWord, blocks, dashes, first_piece, front, head, is_one_byte, is_word, join, languages, lower, pieces, tail_blocks}
-use Rattle.iloc_spec_grammar.specs.Meaning.{Fault, InvalidSubtag, normal_identifier}
+use Rattle.iloc_spec_grammar.specs.Meaning.{InvalidSubtag, normal_identifier}
 use Rattle.iloc_spec_grammar.specs.Reading.{after_front, after_region, front_of, identifier_of, past, starts_block}
 use Rattle.iloc_spec_grammar.proofs.PiecesLaws.{at_pieces}
 use Rattle.iloc_spec_grammar.proofs.RawLaws.{languages_table}
@@ -16,9 +15,7 @@ use Rattle.iloc_spec_grammar.proofs.Readings.{IsLong, long_variant}
 use Rattle.iloc_spec_grammar.proofs.ValuesLaws.{all_weaker}
 use Rattle.iloc_spec_parts.specs.SmallComputing.{after_identifier, blocks_result, has_small_variants, small_identifier, small_identifier_result, small_result}
 use Rattle.iloc_spec_preferences.specs.DataComputing.{data_of_result, data_result}
-use Rattle.iloc_spec_preferences.specs.DataLocales.{DataLocale}
 use Rattle.iloc_outline.specs.Identifier.{front_text}
-use Rattle.iloc_outline.specs.Outlines.{BeginsWithLanguage}
 use Rattle.iloc_outline.specs.Parts.{front_pieces}
 use Rattle.iloc_outline.proofs.Fronts.{front_text-append}
 use Rattle.iloc_outline.proofs.OutlineLemmas.{lower-dashes}
@@ -27,7 +24,7 @@ use Rattle.iloc_told.specs.Data.{IsHead}
 use Rattle.iloc_told.specs.Subdivisions.{bytes_at, data_behind}
 use Rattle.iloc_told.specs.declared.data.Head.{Head}
 use Rattle.iloc_told.proofs.FrontAnswers.{BeginsWell, blocks_left}
-use Rattle.iloc_told.proofs.KeywordAnswers.{and-false, front_long, front_past, head_region, large_head, small_head}
+use Rattle.iloc_told.proofs.KeywordAnswers.{front_long, front_past, head_region, large_head, small_head}
 
 -- a language is no singleton
 long_language : (p : Text) → IsWord (Language languages) p → IsLong p

@@ -1,5 +1,5 @@
 -- What a key and its only value name.
-use Rattle.std.proofs.Common.{◌≡◌, ◌+◌, ◌≤◌, take, drop, inl, inr, Some, None, sym, ap, ◌∙◌, subst, arith, length, Ok}
+use Rattle.std.proofs.Common.{◌≡◌, take, drop, inl, inr, Some, sym, ap, ◌∙◌, subst, arith}
 use Rattle.std.specs.Prelude.{option_and_then}
 use Rattle.std.specs.Result.{result_ok}
 use Rattle.iloc_spec_grammar.specs.Syntax.{UnicodeKey, IsWord, lower}
@@ -9,7 +9,7 @@ use Rattle.iloc_spec_preferences.specs.DataLocales.{named_subdivision}
 use Rattle.iloc_pieces.specs.Left.{bytes_left, piece_left, pieces_left}
 use Rattle.iloc_pieces.specs.declared.left.Left.{Left}
 use Rattle.iloc_pieces.proofs.LeftLemmas.{first_within, length_rest, piece_bytes}
-use Rattle.iloc_told.specs.Subdivisions.{IsKeywordRead, IsNamed, IsNamedBy, IsOnly, NamesPast, bytes_at}
+use Rattle.iloc_told.specs.Subdivisions.{IsKeywordRead, IsNamed, IsNamedBy, IsOnly, bytes_at}
 use Rattle.iloc_told.specs.declared.subdivisions.Keyword.{Keyword}
 use Rattle.iloc_told.specs.declared.subdivisions.Keyword.TheVariants as keywords
 use Rattle.iloc_told.proofs.Behind.{named_pieces, unnamed_pieces}

@@ -1,5 +1,5 @@
 -- When an outline tells nothing.
-use Rattle.std.proofs.Common.{◌≡◌, ◌⊎◌, inl, inr, ℕ, ◌+◌, ◌≤◌, List, [], ◌∷◌, ◌++◌, length, length-append, sym, ap, ◌∙◌, arith}
+use Rattle.std.proofs.Common.{◌≡◌, inl, inr, ℕ, ◌+◌, ◌≤◌, List, [], ◌∷◌, ◌++◌, length, length-append, sym, ap, ◌∙◌, arith}
 use Rattle.iloc_spec_grammar.specs.Syntax.{pieces, join, dashes}
 use Rattle.iloc_spec_grammar.proofs.PartTexts.{join-dashes}
 use Rattle.iloc_spec_grammar.proofs.PiecesLaws.{at_pieces, join-pieces}

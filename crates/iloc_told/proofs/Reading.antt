@@ -1,9 +1,8 @@
 -- What is read from the beginning of a text on, as a data locale.
-use Rattle.std.proofs.Common.{◌≡◌, ◌≢◌, ◌⊎◌, inl, inr, ℕ, suc, ◌+◌, ◌-◌, ◌<◌, ◌≤◌, Bool, true, false, List, [], ◌∷◌, ◌++◌, length, take, drop, Some, None, Result, Ok, Err, refl, sym, ap, ◌∙◌, subst, arith, append_assoc, append-nil, length-append, true≢false, option_map}
-use Rattle.std.specs.List.{AllByRecursion}
+use Rattle.std.proofs.Common.{◌≡◌, ◌⊎◌, inl, inr, ℕ, suc, ◌+◌, ◌≤◌, true, false, List, [], ◌∷◌, ◌++◌, length, take, Some, None, Ok, Err, refl, sym, ap, ◌∙◌, subst, arith, append_assoc, append-nil, length-append, option_map}
 use Rattle.std.proofs.Math.Seq.{take-append-add}
 use Rattle.std.proofs.lemmas.List.{append_cancel_left, length-take-le, take-take}
-use Rattle.iloc_spec_grammar.specs.Syntax.{Text, Variant, Identifier, IsWord, identifier_pieces, first_piece, is_one_byte, is_word, join, languages, pieces}
+use Rattle.iloc_spec_grammar.specs.Syntax.{Text, Variant, Identifier, IsWord, first_piece, is_one_byte, is_word, join, languages, pieces}
 use Rattle.iloc_spec_grammar.specs.Meaning.{Fault, InvalidSubtag, normal_identifier}
 use Rattle.iloc_spec_grammar.specs.Reading.{after_front, after_region, front_of, rest_of, starts_block}
 use Rattle.iloc_spec_grammar.proofs.PiecesLaws.{at_pieces}
@@ -13,9 +12,9 @@ use Rattle.iloc_spec_parts.specs.SmallComputing.{blocks_result, small_identifier
 use Rattle.iloc_spec_preferences.specs.DataComputing.{data_result}
 use Rattle.iloc_spec_preferences.specs.DataLocales.{HasDataFault, made_of, whole_region}
 use Rattle.iloc_subtags.specs.Judging.{error_of}
-use Rattle.iloc_pieces.specs.Left.{IsNextPiece, IsPast, IsRemainder, bytes_left, piece_left, pieces_left, whole_text}
+use Rattle.iloc_pieces.specs.Left.{IsPast, IsRemainder, bytes_left, piece_left, pieces_left, whole_text}
 use Rattle.iloc_pieces.specs.declared.left.Left.{Left}
-use Rattle.iloc_pieces.proofs.LeftLemmas.{begins, first_within, length_piece, length_rest, next_at, short_variant}
+use Rattle.iloc_pieces.proofs.LeftLemmas.{begins, first_within, length_piece, length_rest, short_variant}
 use Rattle.iloc_outline.specs.Identifier.{IsAfterFront, IsFrontRead, front_text}
 use Rattle.iloc_outline.specs.Outlines.{BeginsWithLanguage}
 use Rattle.iloc_outline.specs.Parts.{front_pieces}
@@ -24,7 +23,7 @@ use Rattle.iloc_outline.proofs.Fronts.{begins_text}
 use Rattle.iloc_outline.proofs.Meanings.{refused}
 use Rattle.iloc_outline.proofs.TransformLemmas.{pieces_front_of}
 use Rattle.iloc_outline.proofs.TransformReading.{pieces_front}
-use Rattle.iloc_told.specs.Data.{IsAlone, IsBlockRead, IsDataRead, IsHead, data_alone}
+use Rattle.iloc_told.specs.Data.{IsBlockRead, IsDataRead, IsHead, data_alone}
 use Rattle.iloc_told.specs.Subdivisions.{IsNamed, data_behind, data_of}
 use Rattle.iloc_told.specs.Told.{HasRefusal}
 use Rattle.iloc_told.specs.declared.Mode.TheVariants as modes

@@ -1,5 +1,5 @@
 -- The normal texts of data locales.
-use Rattle.std.proofs.Common.{◌≡◌, ◌≢◌, ◌⊎◌, inl, inr, ℕ, ◌+◌, ◌≤◌, Bool, true, false, List, [], ◌∷◌, ◌++◌, length, map, codes, Option, Some, None, IfSome, Result, Ok, Err, option_map, option_and_then, refl, sym, ap, ◌∙◌, subst, arith, append_assoc, append-nil}
+use Rattle.std.proofs.Common.{◌≡◌, ◌⊎◌, inl, inr, ◌≤◌, Bool, true, false, List, [], ◌∷◌, ◌++◌, length, map, codes, Option, Some, None, IfSome, Result, Ok, option_map, option_and_then, refl, sym, ap, ◌∙◌, subst, arith, append_assoc, append-nil}
 use Rattle.std.specs.Prelude.{if◌then◌else◌, option_to_list}
 use Rattle.std.specs.Result.{result_ok}
 use Rattle.std.proofs.lemmas.Bool.{cases_Bool}
@@ -9,11 +9,11 @@ use Rattle.iloc_spec_grammar.specs.Meaning.{Fault, normal_identifier}
 use Rattle.iloc_spec_grammar.specs.Reading.{first_item}
 use Rattle.iloc_spec_grammar.specs.Values.{IsNormal}
 use Rattle.iloc_spec_grammar.proofs.MapLaws.{same_is}
-use Rattle.iloc_spec_grammar.proofs.PartTexts.{dashes-append, join-append}
+use Rattle.iloc_spec_grammar.proofs.PartTexts.{join-append}
 use Rattle.iloc_spec_grammar.proofs.WordsLaws.{is_word-normal, lower-lower, normal-normal}
 use Rattle.iloc_spec_parts.specs.SmallComputing.{small_identifier}
 use Rattle.iloc_spec_parts.specs.Small.{SmallIdentifier}
-use Rattle.iloc_spec_preferences.specs.DataLocales.{DataLocale, agreed, data_pieces, data_text, is_whole, made_of, named_subdivision, subdivision_keyword, subdivision_pieces, whole_region}
+use Rattle.iloc_spec_preferences.specs.DataLocales.{agreed, data_text, is_whole, made_of, subdivision_keyword, subdivision_pieces, whole_region}
 use Rattle.iloc_spec_preferences.specs.Subdivisions.{IsSubdivision, Subdivision, subdivision, subdivision_text}
 use Rattle.iloc_spec_preferences.proofs.DataLaws.{whole_region_is}
 use Rattle.iloc_spec_preferences.proofs.SubdivisionLaws.{read_is_subdivision, subdivision_back, text_of_read}

@@ -26,7 +26,7 @@ pub enum Written {
     Nothing,
 }
 
-/// Writes the normal text in the mode of the first `len` bytes, of which their beginning tells this (`leads`). Sixteen
+/// Writes the normal text in the mode of the first `len` bytes, of which the beginning shows this (`leads`). Sixteen
 /// bytes after them are loaded too, and change nothing. Up to sixteen bytes more are stored behind what is written.
 #[inline(always)]
 pub fn write_normal(
@@ -50,7 +50,7 @@ pub fn write_normal(
     }
 }
 
-// The same as the outline gives it.
+// Writes it of a text that begins with a language.
 #[inline(always)]
 fn write_outlined(
     mode: Mode,

@@ -1,4 +1,4 @@
-use Rattle.std.proofs.Common.{◌≡◌, inl, inr, refl, sym, ap, ◌∙◌, slice_index, false, true}
+use Rattle.std.proofs.Common.{◌≡◌, inr, refl, sym, ◌∙◌, slice_index, false, true}
 use Rattle.std.proofs.lemmas.Bool.{ne_eqb, eq-eqb}
 use Rattle.iloc_spec_grammar.specs.Meaning.{InvalidExtension, InvalidSubtag}
 use Rattle.iloc_spec_parts.specs.SmallComputing.{is_u}

@@ -1,13 +1,11 @@
-use Rattle.std.proofs.Common.{◌≡◌, ◌+◌, inl, inr, Bool, false, true, [], ◌∷◌, length, take, refl, sym, ap, ◌∙◌, subst, arith, append-nil}
-use Rattle.iloc_spec_grammar.specs.Syntax.{Variant, IsWord, pieces}
-use Rattle.iloc_spec_grammar.specs.Reading.{after_region}
+use Rattle.std.proofs.Common.{◌≡◌, ◌+◌, inl, inr, Bool, false, true, [], ◌∷◌, refl, sym, ◌∙◌, subst, arith}
 use Rattle.iloc_pieces.specs.Left.{IsRemainder, piece_left, pieces_left}
 use Rattle.iloc_pieces.specs.declared.left.Left.{Left}
 use Rattle.iloc_pieces.proofs.LeftLemmas.{last_piece, length_piece, next_at, short_variant}
 use Rattle.iloc_outline.specs.Identifier.{IsAfterFront, IsFrontRead}
 use Rattle.iloc_outline.specs.Reading.{unless_end}
 use Rattle.iloc_outline.specs.declared.identifier.Front.{Front}
-use Rattle.iloc_told.specs.Data.{IsBlockRead, IsDataRead}
+use Rattle.iloc_told.specs.Data.{IsBlockRead}
 use Rattle.iloc_told.specs.declared.data.Head.{Head}
 use Rattle.iloc_told.proofs.Reading.{all_front, at_front, end_there, front_head, left_there, pieces_there, read_alone, read_on, varied_head, window_there, within_there}
 use Rattle.iloc_told.proofs.data.read_data.Goals as goal

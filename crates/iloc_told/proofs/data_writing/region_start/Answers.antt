@@ -1,4 +1,4 @@
-use Rattle.std.proofs.Common.{sym, ◌∙◌, arith}
+use Rattle.std.proofs.Common.{sym, ◌∙◌}
 use Rattle.iloc_told.proofs.Regions.{by_digit, by_hyphen, by_none, too_short}
 use Rattle.iloc_told.proofs.data_writing.region_start.Goals as goal
 

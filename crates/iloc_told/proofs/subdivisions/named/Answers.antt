@@ -1,4 +1,4 @@
-use Rattle.std.proofs.Common.{inl, inr, refl, sym, ◌∙◌, subst}
+use Rattle.std.proofs.Common.{inr, refl, sym, ◌∙◌, subst}
 use Rattle.iloc_pieces.specs.Left.{piece_left}
 use Rattle.iloc_pieces.proofs.LeftLemmas.{length_piece, short_attribute}
 use Rattle.iloc_told.specs.Subdivisions.{EndsRegion}
