@@ -15,7 +15,7 @@ use Rattle.iloc_spec_grammar.proofs.ReadingLaws.{pieces-front_of, front_words, a
 use Rattle.iloc_spec_parts.specs.Small.{SmallIdentifier}
 use Rattle.iloc_spec_parts.specs.Small as small
 use Rattle.iloc_spec_parts.specs.SmallComputing.{small_identifier, small_identifier_result, has_small_variants, is_u, is_small_block, has_small_keyword, block_fault, keyword_read, blocks_result, after_identifier, small_result}
-use Rattle.iloc_spec_preferences.specs.DataLocales.{DataMeans, HasDataFault, not_small}
+use Rattle.iloc_spec_preferences.specs.DataLocales.{DataLocale, DataMeans, HasDataFault, not_small}
 use Rattle.iloc_spec_preferences.proofs.DataLaws.{data_answer}
 use Rattle.iloc_spec_preferences.specs.DataComputing.{data_result, data_of_result}
 use Rattle.iloc_subtags.specs.declared.parse_error.ParseError.TheVariants.{InvalidLanguage, InvalidSubtag}
@@ -80,7 +80,7 @@ pub block_is_no_identifier : (t : List ℕ) (b : Block) → BeginsWell t → aft
 block_is_no_identifier t b l rest = langid_refused t l (λ e. pieces_nonempty (rest_of_block b) (sym rest ∙ e))
 
 -- pieces of more than one byte begin no block
-blocks_past : (xs rest : List (List ℕ)) → AllByRecursion IsLong xs → blocks (xs ++ rest) ≡ blocks rest
+pub blocks_past : (xs rest : List (List ℕ)) → AllByRecursion IsLong xs → blocks (xs ++ rest) ≡ blocks rest
 blocks_past [] rest h = refl
 blocks_past ([] ∷ xs) rest h = blocks_past xs rest h.1
 blocks_past ((c ∷ []) ∷ xs) rest h = absurd (true≢false h.0)
@@ -97,7 +97,7 @@ blocks_left t = at_pieces (λ ps. IsWord (Language languages) (first_piece ps) �
         ∙ blocks_past (after_language i) (after_front (p ∷ ps)) (long_after_language i (front_words (p ∷ ps) l))
 
 -- the first block has the singleton that comes first
-first_block : (c : ℕ) (ps : List (List ℕ)) → (qs : List (List ℕ)) × (bs : List (ℕ × List (List ℕ))) × (blocks ((c ∷ []) ∷ ps) ≡ (c, qs) ∷ bs)
+pub first_block : (c : ℕ) (ps : List (List ℕ)) → (qs : List (List ℕ)) × (bs : List (ℕ × List (List ℕ))) × (blocks ((c ∷ []) ∷ ps) ≡ (c, qs) ∷ bs)
 first_block c ps = elim (cases_Bool (to_ascii_lowercase c == 120)) [
   | inl is_x ↦ (ps, [], ap (λ (b : Bool). cond b ((c, ps) ∷ []) ((c, front ps) ∷ blocks ps)) is_x)
   | inr other ↦ (front ps, blocks ps, ap (λ (b : Bool). cond b ((c, ps) ∷ []) ((c, front ps) ∷ blocks ps)) other)
@@ -139,6 +139,10 @@ small_refused t b bs l e other fault = at_pieces Refused by t l e
 pub data_fault : (t : List ℕ) (f : Fault) → data_result languages t ≡ Err f → HasDataFault languages t f
 data_fault t f e = subst (λ r. MatchResult r (DataMeans languages t) (HasDataFault languages t)) e (data_answer languages_table t)
 
+-- what is computed of it is what it means
+pub data_meant : (t : List ℕ) (d : DataLocale) → data_result languages t ≡ Ok d → DataMeans languages t d
+data_meant t d e = subst (λ r. MatchResult r (DataMeans languages t) (HasDataFault languages t)) e (data_answer languages_table t)
+
 pub data_refused : (t : List ℕ) (b : ℕ × List (List ℕ)) (bs : List (ℕ × List (List ℕ))) → BeginsWell t → tail_blocks (pieces t) ≡ b ∷ bs
     → is_small_block b bs ≡ false → block_fault b ≡ faults.InvalidSubtag → HasRefusal Data t InvalidSubtag
 unfolding data_result
@@ -149,7 +153,7 @@ pub no_u : (b : ℕ × List (List ℕ)) (bs : List (ℕ × List (List ℕ))) →
 no_u b [] e = ap (λ (u : Bool). u && has_small_keyword b.1) e
 no_u b (d ∷ bs) e = refl
 
-other_fault : (b : ℕ × List (List ℕ)) → is_ascii_alphanumeric b.0 ≡ true → is_u b.0 ≡ false → block_fault b ≡ faults.InvalidSubtag
+pub other_fault : (b : ℕ × List (List ℕ)) → is_ascii_alphanumeric b.0 ≡ true → is_u b.0 ≡ false → block_fault b ≡ faults.InvalidSubtag
 unfolding block_fault
 other_fault b letter e = rw (letter, e) refl
 

@@ -65,7 +65,7 @@ module _ (t : List ℕ) (b : Block) (l : BeginsWell t) (g : GoesOn (after_region
 
 -- ---- the variants before the block
 
-front_past : (xs qs : List (List ℕ)) → AllByRecursion IsLong xs → front (xs ++ qs) ≡ xs ++ front qs
+pub front_past : (xs qs : List (List ℕ)) → AllByRecursion IsLong xs → front (xs ++ qs) ≡ xs ++ front qs
 front_past [] qs h = refl
 front_past (x ∷ xs) qs h = ap (λ (b : Bool). cond b [] (x ∷ front (xs ++ qs))) h.0 ∙ ap (λ l. x ∷ l) (front_past xs qs h.1)
 
@@ -108,7 +108,7 @@ module _ (t : List ℕ) (b : Block) (g : GoesOn (after_region (pieces t)) b) whe
       let more : nat_le (length before) 1 ≡ false = (let long : 2 ≤ length before = omega (arith, g.many many, total) in grind (arith, nat_tests)) in
       ap has_small_variants before_is ∙ (λ j. all_true before variants_pass j && more j)
 
-and-false : (b : Bool) → (b && false) ≡ false
+pub and-false : (b : Bool) → (b && false) ≡ false
 and-false true = refl
 and-false false = refl
 
@@ -118,7 +118,7 @@ and_both false b e = absurd (true≢false (sym e))
 
 -- ---- pieces that make no small keyword
 
-no_key : (qs : List (List ℕ)) → is_word UnicodeKey (first_piece qs) ≡ false → has_small_keyword qs ≡ false
+pub no_key : (qs : List (List ℕ)) → is_word UnicodeKey (first_piece qs) ≡ false → has_small_keyword qs ≡ false
 no_key [] e = refl
 no_key (p ∷ qs) e = ap (λ (x : Bool). x && (list_all (is_word Attribute) qs && nat_le (length (normal_values qs)) 1)) e
 
@@ -134,47 +134,47 @@ many_values (p ∷ qs) l =
     ap (λ (x : Bool). is_word UnicodeKey p && (list_all (is_word Attribute) qs && x)) more
     ∙ ap (λ (x : Bool). is_word UnicodeKey p && x) (and-false (list_all (is_word Attribute) qs)) ∙ and-false (is_word UnicodeKey p)
 
-front_first : (qs : List (List ℕ)) → IsLong (first_piece qs) → first_piece (front qs) ≡ first_piece qs
+pub front_first : (qs : List (List ℕ)) → IsLong (first_piece qs) → first_piece (front qs) ≡ first_piece qs
 front_first [] e = refl
 front_first (q ∷ qs) e = ap (λ (o : Bool). first_piece (cond o [] (q ∷ front qs))) e
 
-attribute_no_key : (p : List ℕ) → IsWord Attribute p → is_word UnicodeKey p ≡ false
+pub attribute_no_key : (p : List ℕ) → IsWord Attribute p → is_word UnicodeKey p ≡ false
 attribute_no_key p h = elim (cases_Bool (is_word UnicodeKey p)) [
   | inl key ↦ absurd (true≢false (sym (two p key) ∙ not_two p h))
   | inr other ↦ other
 ]
 
-key_no_attribute : (p : List ℕ) → IsWord UnicodeKey p → is_word Attribute p ≡ false
+pub key_no_attribute : (p : List ℕ) → IsWord UnicodeKey p → is_word Attribute p ≡ false
 key_no_attribute p h = elim (cases_Bool (is_word Attribute p)) [
   | inl word ↦ absurd (true≢false (sym (two p h) ∙ not_two p word))
   | inr other ↦ other
 ]
 
-key_long : (p : List ℕ) → IsWord UnicodeKey p → IsLong p
+pub key_long : (p : List ℕ) → IsWord UnicodeKey p → IsLong p
 key_long p h = let two : length p ≡ 2 = length-unicode_key p h in grind (arith, nat_tests)
 
 -- the fault by whether the singleton is a letter and `u`, and an attribute or a key follows
-abbrev fault_by : Bool → Bool → Bool → Bool → Fault
+abbrev pub fault_by : Bool → Bool → Bool → Bool → Fault
 fault_by a s x y =
     if a then (if s then (if x then faults.InvalidSubtag else (if y then faults.InvalidSubtag else faults.InvalidExtension)) else faults.InvalidSubtag)
     else faults.InvalidExtension
 
-fault_is : (b : ℕ × List (List ℕ)) (x y : Bool) → is_ascii_alphanumeric b.0 ≡ true → is_u b.0 ≡ true
+pub fault_is : (b : ℕ × List (List ℕ)) (x y : Bool) → is_ascii_alphanumeric b.0 ≡ true → is_u b.0 ≡ true
     → is_word Attribute (first_piece b.1) ≡ x → is_word UnicodeKey (first_piece b.1) ≡ y → block_fault b ≡ fault_by true true x y
 unfolding block_fault
 fault_is b x y letter u attribute key = λ j. fault_by (letter j) (u j) (attribute j) (key j)
 
 -- ---- pieces that make one
 
-skip_long : (q : List ℕ) (qs : List (List ℕ)) → IsLong q → blocks (q ∷ qs) ≡ blocks qs
+pub skip_long : (q : List ℕ) (qs : List (List ℕ)) → IsLong q → blocks (q ∷ qs) ≡ blocks qs
 skip_long [] qs h = refl
 skip_long (c ∷ []) qs h = absurd (true≢false h)
 skip_long (c ∷ d ∷ p) qs h = refl
 
-front_long : (q : List ℕ) (qs : List (List ℕ)) → IsLong q → front (q ∷ qs) ≡ q ∷ front qs
+pub front_long : (q : List ℕ) (qs : List (List ℕ)) → IsLong q → front (q ∷ qs) ≡ q ∷ front qs
 front_long q qs h = ap (λ (o : Bool). cond o [] (q ∷ front qs)) h
 
-values_whole : (qs : List (List ℕ)) → list_all (is_word Attribute) qs ≡ true → (front qs ≡ qs) × (blocks qs ≡ [])
+pub values_whole : (qs : List (List ℕ)) → list_all (is_word Attribute) qs ≡ true → (front qs ≡ qs) × (blocks qs ≡ [])
 values_whole [] h = (refl, refl)
 values_whole (q ∷ qs) h =
     let parts = and_both (is_word Attribute q) (list_all (is_word Attribute) qs) h in
@@ -183,11 +183,11 @@ values_whole (q ∷ qs) h =
     (front_long q qs long ∙ ap (λ rs. q ∷ rs) later.0, skip_long q qs long ∙ later.1)
 
 -- a key and its values are before the next block
-whole_front : (qs : List (List ℕ)) → IsWord UnicodeKey (first_piece qs) → list_all (is_word Attribute) (rest_of qs) ≡ true → front qs ≡ qs
+pub whole_front : (qs : List (List ℕ)) → IsWord UnicodeKey (first_piece qs) → list_all (is_word Attribute) (rest_of qs) ≡ true → front qs ≡ qs
 whole_front [] k v = refl
 whole_front (q ∷ qs) k v = front_long q qs (key_long q k) ∙ ap (λ rs. q ∷ rs) (values_whole qs v).0
 
-no_word : IsWord UnicodeKey [] → ⊥
+pub no_word : IsWord UnicodeKey [] → ⊥
 unfolding is_word
 no_word e = true≢false (sym e)
 
@@ -236,10 +236,10 @@ single_reads (q ∷ qs) s =
 
 -- ---- the head of a text with no variants
 
-abbrev PassesLong : Kind → Type 0
+abbrev pub PassesLong : Kind → Type 0
 PassesLong k = (p : List ℕ) → IsWord k p → IsLong p
 
-skip_front : (k : Kind) → PassesLong k → (qs : List (List ℕ)) → skip_first (is_word k) (front qs) ≡ front (skip_first (is_word k) qs)
+pub skip_front : (k : Kind) → PassesLong k → (qs : List (List ℕ)) → skip_first (is_word k) (front qs) ≡ front (skip_first (is_word k) qs)
 skip_front k long [] = refl
 skip_front k long (q ∷ qs) = elim (cases_Bool (is_word k q)) [
   | inl fits ↦
@@ -255,12 +255,12 @@ skip_front k long (q ∷ qs) = elim (cases_Bool (is_word k q)) [
     stays false one fails =
         ap (skip_first (is_word k)) (front_long q qs one) ∙ ap (λ (x : Bool). cond x (front qs) (q ∷ front qs)) fails ∙ sym (front_long q qs one)
 
-head_region : (p : List ℕ) (qs : List (List ℕ)) → after_region (p ∷ front qs) ≡ front (after_region (p ∷ qs))
+pub head_region : (p : List ℕ) (qs : List (List ℕ)) → after_region (p ∷ front qs) ≡ front (after_region (p ∷ qs))
 head_region p qs =
     ap (skip_first (is_word Region)) (skip_front Script long_script qs) ∙ skip_front Region long_region (skip_first (is_word Script) qs)
 
 -- so the head is small
-small_head : (p : List ℕ) (qs : List (List ℕ)) → IsWord (Language languages) p → has_small_variants (front (after_region (p ∷ qs))) ≡ true
+pub small_head : (p : List ℕ) (qs : List (List ℕ)) → IsWord (Language languages) p → has_small_variants (front (after_region (p ∷ qs))) ≡ true
     → small_identifier_result languages (p ∷ front qs) ≡ Ok (small_identifier (identifier_of (p ∷ front qs)))
 unfolding small_identifier_result identifier_of
 small_head p qs l h =
@@ -268,7 +268,7 @@ small_head p qs l h =
     λ j. if l j then (if few j then Ok (small_identifier (identifier_of (p ∷ front qs))) else Err faults.InvalidSubtag) else Err faults.InvalidLanguage
 
 -- ... and one with more variants is not
-large_head : (p : List ℕ) (qs : List (List ℕ)) → IsWord (Language languages) p → has_small_variants (front (after_region (p ∷ qs))) ≡ false
+pub large_head : (p : List ℕ) (qs : List (List ℕ)) → IsWord (Language languages) p → has_small_variants (front (after_region (p ∷ qs))) ≡ false
     → small_identifier_result languages (p ∷ front qs) ≡ Err faults.InvalidSubtag
 unfolding small_identifier_result identifier_of
 large_head p qs l h =
@@ -400,10 +400,10 @@ variants_refused t n h =
 
 -- ---- a singleton that is no letter and no digit
 
-no_letter_no_u : (c : ℕ) → is_ascii_alphanumeric c ≡ false → is_u c ≡ false
+pub no_letter_no_u : (c : ℕ) → is_ascii_alphanumeric c ≡ false → is_u c ≡ false
 no_letter_no_u c e = grind (arith, nat_tests)
 
-unlettered_fault : (b : ℕ × List (List ℕ)) → is_ascii_alphanumeric b.0 ≡ false → block_fault b ≡ faults.InvalidExtension
+pub unlettered_fault : (b : ℕ × List (List ℕ)) → is_ascii_alphanumeric b.0 ≡ false → block_fault b ≡ faults.InvalidExtension
 unfolding block_fault
 unlettered_fault b e = rw e refl
 

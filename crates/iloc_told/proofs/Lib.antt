@@ -1,12 +1,20 @@
 pub mod AsciiLemmas
 pub mod CopyLemmas
 mod CutLemmas
-mod VariedLemmas
 pub mod PlainAnswers
 pub mod FrontAnswers
 mod OutlinedLemmas
 mod FoundAnswers
 mod KeywordAnswers
-mod SubdivisionBlocks
-mod SubdivisionAnswers
+pub mod Subtags
+pub mod Names
+mod Behind
+mod Keywords
+mod Heads
+mod Blocks
+mod Reading
+mod Regions
+mod Puts
+mod Texts
+mod Named
 pub mod NormalLemmas

@@ -1,5 +1,5 @@
 -- When an outline tells nothing.
-use Rattle.std.proofs.Common.{◌≡◌, ◌⊎◌, inl, inr, ℕ, ◌+◌, ◌≤◌, List, [], ◌∷◌, ◌++◌, length, length-append, sym, ap, ◌∙◌, arith}
+use Rattle.std.proofs.Common.{◌≡◌, inl, inr, ℕ, ◌+◌, ◌≤◌, List, [], ◌∷◌, ◌++◌, length, length-append, sym, ap, ◌∙◌, arith}
 use Rattle.iloc_spec_grammar.specs.Syntax.{pieces, join, dashes}
 use Rattle.iloc_spec_grammar.proofs.PartTexts.{join-dashes}
 use Rattle.iloc_spec_grammar.proofs.PiecesLaws.{at_pieces, join-pieces}
@@ -31,10 +31,9 @@ not_beyond t room short wide (inl many) = let few : length (pieces t) ≤ length
 not_beyond t room short wide (inr (inl long)) = omega (arith, long, short)
 not_beyond t room short wide (inr (inr narrow)) = omega (arith, narrow, short, wide)
 
--- so nothing is told of it only where nothing would be told of any
-pub few_told : (t : List ℕ) (room : ℕ) (Reason More : Type 0) (told : Told) → length t ≤ 48 → 64 ≤ room
-    → IsNothingOnlyIf (Reason ⊎ IsBeyond room t) told → IsNothingOnlyIf (Reason ⊎ More) told
-few_told t room Reason More (told.Normal n) short wide h = tt
-few_told t room Reason More (told.Refused e) short wide h = tt
-few_told t room Reason More told.Nothing short wide (inl r) = inl r
-few_told t room Reason More told.Nothing short wide (inr b) = absurd (not_beyond t room short wide b)
+-- so something is told of it
+pub few_told : (t : List ℕ) (room : ℕ) (Reason : Type 0) (told : Told) → length t ≤ 48 → 64 ≤ room
+    → IsNothingOnlyIf (IsBeyond room t) told → IsNothingOnlyIf Reason told
+few_told t room Reason (told.Normal n) short wide h = tt
+few_told t room Reason (told.Refused e) short wide h = tt
+few_told t room Reason told.Nothing short wide b = absurd (not_beyond t room short wide b)

@@ -1,5 +1,5 @@
 -- What is told of a text at once.
-use Rattle.std.specs.Prelude.{◌≡◌, ◌≢◌, ◌⊎◌, ℕ, ◌+◌, ◌^◌, ◌<◌, ◌≤◌, length, take, ⊤}
+use Rattle.std.specs.Prelude.{◌⊎◌, ℕ, ◌+◌, ◌^◌, ◌<◌, ◌≤◌, length, take, ⊤}
 use Rattle.iloc_spec_grammar.specs.Syntax.{Text, languages}
 use Rattle.iloc_subtags.specs.declared.parse_error.ParseError.{ParseError}
 use Rattle.iloc_subtags.specs.Judging.{Refusal}
@@ -8,7 +8,6 @@ use Rattle.iloc_plain.specs.declared.plain.Plain.{Plain}
 use Rattle.iloc_outline.specs.Outlines.{BeginsWithLanguage, IsLimit}
 use Rattle.iloc_told.specs.Modes.{IsNormalText, IsFaulty}
 use Rattle.iloc_told.specs.declared.Mode.{Mode}
-use Rattle.iloc_told.specs.declared.Mode.TheVariants.{Data}
 use Rattle.iloc_told.specs.declared.leads.Lead.{Lead}
 use Rattle.iloc_told.specs.declared.leads.Lead.TheVariants as lead
 use Rattle.iloc_told.specs.declared.told.Told.{Told}
@@ -27,10 +26,7 @@ ArePlain t = (p : Plain) × IsPlain t p
 -- what the beginning tells is so
 abbrev pub IsLead : Mode → Text → Lead → Type 0
 IsLead mode t (lead.Refused e) = HasRefusal mode t e
-IsLead mode t lead.Outline = (mode ≢ Data) × BeginsWithLanguage t
-IsLead mode t (lead.Variant n) = mode ≡ Data
-IsLead mode t (lead.Subdivision n m) = mode ≡ Data
-IsLead mode t lead.Nothing = mode ≡ Data
+IsLead mode t lead.Outline = BeginsWithLanguage t
 
 -- what is told is so
 abbrev pub IsTold : Mode → Text → Told → Type 0
@@ -48,10 +44,10 @@ abbrev pub IsNothingOnlyIf : Type 0 → Told → Type 0
 IsNothingOnlyIf reason told.Nothing = reason
 IsNothingOnlyIf reason _ = ⊤
 
--- what is written in a room is so: the normal text comes first; nothing is written of a data locale,
--- or of a text that is not outlined there
+-- what is written in a room is so: the normal text comes first, by a region longer than the text at
+-- most; nothing is written of a text that is not outlined there
 abbrev pub IsNormalWritten : Mode → Text → Text → Written → Type 0
-IsNormalWritten mode t room (written.Normal n) = (n ≤ length t) × (length t + 16 ≤ length room)
+IsNormalWritten mode t room (written.Normal n) = (n ≤ length t + 4) × (length t + 16 ≤ length room)
     × IsNormalText languages mode t (take n room)
 IsNormalWritten mode t room (written.Refused e) = HasRefusal mode t e
-IsNormalWritten mode t room written.Nothing = (mode ≡ Data) ⊎ IsBeyond (length room) t
+IsNormalWritten mode t room written.Nothing = IsBeyond (length room) t

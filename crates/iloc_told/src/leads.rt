@@ -1,10 +1,11 @@
-//! What the beginning of a text tells: why it is refused, or how its normal text is written.
-ghost use Rattle.std.specs.Prelude.{◌≡◌, ◌↔◌, ◌+◌, ◌<◌, ◌≤◌, IfSome, IsTrue, true, length, take, get_or};
+//! What the beginning of a text tells: why it is refused, or that the rest has to be read.
+ghost use Rattle.std.specs.Prelude.{◌≡◌, ◌+◌, ◌<◌, ◌≤◌, IfSome, IsTrue, true, false, length, take, get_or};
+ghost use Rattle.std.specs.Char.{is_ascii_alphanumeric};
 ghost use Rattle.iloc_spec_parts.specs.SmallComputing.{is_u};
-ghost use Rattle.iloc_fronts.specs.Front.{IsFound, IsFront};
-ghost use Rattle.iloc_fronts.specs.declared.front.Front.TheVariants as fronts;
+ghost use Rattle.iloc_fronts.specs.Front.{IsFound};
 ghost use Rattle.iloc_told.specs.Told.{ArePlain, IsLead};
-ghost use Rattle.iloc_told.specs.declared.Mode.TheVariants as Mode;
+ghost use Rattle.iloc_told.specs.declared.Mode.{Mode};
+ghost use Rattle.iloc_told.specs.declared.Mode.TheVariants as modes;
 
 use crate::Mode;
 use iloc_fronts::{Block, Front, Keyword, find_block, read_front, read_keyword};
@@ -17,14 +18,8 @@ use iloc_subtags::ParseError;
 pub enum Lead {
     /// Why the text is refused.
     Refused(ParseError),
-    /// It begins with a language, and its outline tells the rest. It is said of identifiers and locales alone.
+    /// It begins with a language, and the rest has to be read.
     Outline,
-    /// It may be a plain identifier and a variant of so many bytes. This and what follows is said of data locales alone.
-    Variant(usize),
-    /// It may be a plain identifier of so many bytes, perhaps a variant, and after so many bytes a keyword `sd`.
-    Subdivision(usize, usize),
-    /// Nothing.
-    Nothing,
 }
 
 /// What the first piece of one byte tells in the mode, before anything else is read. `None` says nothing: `read_lead` is
@@ -56,8 +51,7 @@ pub fn read_lead(mode: Mode, window: &[u8], len: usize) -> Lead
 {
     match mode {
         Mode::Data => lead_of_front(window, len),
-        Mode::Langid | Mode::Locale if begins_with_language(window, len) => Lead::Outline,
-        Mode::Langid | Mode::Locale => Lead::Refused(ParseError::InvalidLanguage),
+        Mode::Langid | Mode::Locale => lead_of_language(window, len),
     }
 }
 
@@ -66,11 +60,11 @@ pub fn read_lead(mode: Mode, window: &[u8], len: usize) -> Lead
 fn lead_of_found(window: &[u8], len: usize, block: Block<'_>) -> Option<Lead>
     requires room { len + 16 ≤ length window.now }
     requires found { IsFound (take len window.now) block }
-    ensures { IfSome result (IsLead Mode.Data (take len window.now)) }
+    ensures { IfSome result (IsLead modes.Data (take len window.now)) }
 {
     let singleton = block.window[0];
     if singleton == b'U' || singleton == b'u' {
-        return lead_of_found_keyword(window, len, block);
+        return Some(lead_of_found_keyword(window, len, block));
     }
     if singleton.is_ascii_alphanumeric() {
         return Some(Lead::Refused(ParseError::InvalidSubtag));
@@ -80,23 +74,20 @@ fn lead_of_found(window: &[u8], len: usize, block: Block<'_>) -> Option<Lead>
 
 // The same if the piece is `u`. Most keywords are refused whatever comes before.
 #[inline(always)]
-fn lead_of_found_keyword(window: &[u8], len: usize, block: Block<'_>) -> Option<Lead>
+fn lead_of_found_keyword(window: &[u8], len: usize, block: Block<'_>) -> Lead
     requires room { len + 16 ≤ length window.now }
     requires found { IsFound (take len window.now) block }
     requires u { is_u (get_or block.window.now 0 0) ≡ true }
-    ensures { IfSome result (IsLead Mode.Data (take len window.now)) }
+    ensures { IsLead modes.Data (take len window.now) result }
 {
     let at = len - block.len - 1;
     let error = ParseError::InvalidSubtag;
     match read_keyword(block) {
-        Keyword::Attribute => Some(Lead::Refused(error)),
-        Keyword::Misfit => Some(Lead::Refused(error)),
-        Keyword::Many => Some(Lead::Refused(error)),
-        Keyword::Single if is_plain(window, at) => Some(Lead::Refused(
-            ParseError::InvalidExtension,
-        )),
-        Keyword::Subdivision if is_plain(window, at) => Some(Lead::Subdivision(at, at + 1)),
-        Keyword::Single | Keyword::Subdivision | Keyword::Other => None,
+        Keyword::Attribute => Lead::Refused(error),
+        Keyword::Misfit => Lead::Refused(error),
+        Keyword::Many => Lead::Refused(error),
+        Keyword::Single if is_plain(window, at) => Lead::Refused(ParseError::InvalidExtension),
+        Keyword::Single | Keyword::Subdivision | Keyword::Other => Lead::Outline,
     }
 }
 
@@ -109,89 +100,39 @@ fn is_plain(window: &[u8], at: usize) -> bool
     at <= 16 && read_plain(window, at).is_some()
 }
 
-// What is told by the front. A data locale has one variant at most.
+// Whether it begins with a language.
+#[inline(always)]
+fn lead_of_language(window: &[u8], len: usize) -> Lead
+    requires { len ≤ length window.now }
+    ensures { (mode : Mode) → IsLead mode (take len window.now) result }
+{
+    if begins_with_language(window, len) {
+        return Lead::Outline;
+    }
+    Lead::Refused(ParseError::InvalidLanguage)
+}
+
+// What the front of a data locale tells. It has one variant at most.
 #[inline(always)]
 fn lead_of_front(window: &[u8], len: usize) -> Lead
     requires { len + 16 ≤ length window.now }
-    ensures { IsLead Mode.Data (take len window.now) result }
+    ensures { IsLead modes.Data (take len window.now) result }
 {
     match read_front(window, len) {
-        Front::NoLanguage => Lead::Refused(ParseError::InvalidLanguage),
         Front::Misfit => Lead::Refused(ParseError::InvalidSubtag),
-        Front::Variant(n) => Lead::Variant(n),
         Front::Variants(_) => Lead::Refused(ParseError::InvalidSubtag),
-        Front::Block(block) => lead_of_block(&window[..len], block),
-        Front::Other => Lead::Nothing,
+        Front::Block(block) if is_other(block) => Lead::Refused(ParseError::InvalidSubtag),
+        _ => lead_of_language(window, len),
     }
 }
 
-// The same of a text with this block. A data locale has no block but that of `u`.
+// Whether the block is of a letter or digit other than `u`. A data locale has none.
 #[inline(always)]
-fn lead_of_block(text: &[u8], block: Block<'_>) -> Lead
-    requires { IsFront text.now (fronts.Block block) }
-    ensures { IsLead Mode.Data text.now result }
+fn is_other(block: Block<'_>) -> bool
+    requires { 0 < length block.window.now }
+    ensures { IsTrue result → (is_ascii_alphanumeric (get_or block.entry.window.now 0 0) ≡ true)
+        × (is_u (get_or block.entry.window.now 0 0) ≡ false) }
 {
     let singleton = block.window[0];
-    if singleton == b'u' || singleton == b'U' {
-        return lead_of_keyword(text, block);
-    }
-    if singleton.is_ascii_alphanumeric() {
-        return Lead::Refused(ParseError::InvalidSubtag);
-    }
-    Lead::Refused(fault_after(block))
-}
-
-// The same if the block is of `u`. It has no keyword but `sd`.
-#[inline(always)]
-fn lead_of_keyword(text: &[u8], block: Block<'_>) -> Lead
-    requires front { IsFront text.now (fronts.Block block) }
-    requires u { is_u (get_or block.window.now 0 0) ≡ true }
-    ensures { IsLead Mode.Data text.now result }
-{
-    match read_keyword(block) {
-        Keyword::Attribute => Lead::Refused(ParseError::InvalidSubtag),
-        Keyword::Misfit => Lead::Refused(ParseError::InvalidSubtag),
-        Keyword::Many => Lead::Refused(ParseError::InvalidSubtag),
-        Keyword::Single => Lead::Refused(fault_after(block)),
-        Keyword::Subdivision => lead_of_subdivision(text, block),
-        Keyword::Other => Lead::Nothing,
-    }
-}
-
-// The same if that has the keyword `sd`.
-#[inline(always)]
-fn lead_of_subdivision(text: &[u8], block: Block<'_>) -> Lead
-    requires { IsFront text.now (fronts.Block block) }
-    ensures { IsLead Mode.Data text.now result }
-{
-    if comes_after_variants(block) {
-        return Lead::Refused(ParseError::InvalidSubtag);
-    }
-    let len = text.len();
-    Lead::Subdivision(
-        len.wrapping_sub(block.tail.wrapping_add(1)),
-        len.wrapping_sub(block.len),
-    )
-}
-
-// Whether two variants or more come before the block. One takes at most nine bytes with its hyphen.
-#[inline(always)]
-fn comes_after_variants(block: Block<'_>) -> bool
-    requires { block.len + 16 ≤ length block.window.now }
-    ensures { IsTrue result ↔ (block.entry.len + 9 < block.entry.tail) }
-{
-    block.tail > block.len + 9
-}
-
-// Why a block is no data locale's that is bad, or names no subdivision. Two variants or more are refused first.
-#[inline(always)]
-fn fault_after(block: Block<'_>) -> ParseError
-    requires { block.len + 16 ≤ length block.window.now }
-    ensures few { block.entry.tail ≤ block.entry.len + 9 → result ≡ ParseError.InvalidExtension }
-    ensures many { block.entry.len + 9 < block.entry.tail → result ≡ ParseError.InvalidSubtag }
-{
-    if comes_after_variants(block) {
-        return ParseError::InvalidSubtag;
-    }
-    ParseError::InvalidExtension
+    singleton != b'u' && singleton != b'U' && singleton.is_ascii_alphanumeric()
 }

@@ -1,163 +1,164 @@
-//! Tells data locales with the keyword `sd`, or with a variant.
-ghost use Rattle.std.specs.Prelude.{◌≡◌, ◌+◌, ◌≤◌, IfSome, IsTrue, MatchOption, if◌then◌else◌, length, slice_index, take};
-ghost use Rattle.std.specs.Char.{is_ascii_alphabetic};
-ghost use Rattle.iloc_spec_grammar.specs.Syntax.{Attribute, IsWord, Variant, is_same, lower};
-ghost use Rattle.iloc_spec_preferences.specs.DataLocales.{whole};
-ghost use Rattle.iloc_told.specs.Subdivisions.{IsBefore, IsNamed, IsSubdivisionBlock, value_named};
-ghost use Rattle.iloc_told.specs.Told.{IsNormalWritten};
-ghost use Rattle.iloc_told.specs.declared.Mode.TheVariants as Mode;
+//! Reads what follows the singleton `u` of a data locale: the keyword `sd`.
+ghost use Rattle.std.specs.Prelude.{◌≡◌, ◌≤◌, true, false, length, codes};
+ghost use Rattle.iloc_spec_grammar.specs.Syntax.{Attribute, IsWord, Text, UnicodeKey, is_same, is_true, letters_or_digits, lower};
+ghost use Rattle.iloc_spec_grammar.specs.Reading.{rest_of};
+ghost use Rattle.iloc_pieces.specs.Left.{IsRemainder, IsShortPiece, piece_left, pieces_left};
+ghost use Rattle.iloc_pieces.specs.Shape.{shape_of};
+ghost use Rattle.iloc_told.specs.Subdivisions.{AreSubtagsRead, EndsRegion, IsKeywordRead, IsNamedBy, are_trues};
 
-use crate::copying::copy_lower;
-use crate::writing::Written;
-use iloc_fronts::words::{is_attribute, is_region, is_true, is_variant};
-use iloc_plain::{Plain, read_plain};
-use iloc_subtags::ParseError;
-use iloc_tinystr::ShortPiece;
+use iloc_pieces::left::{Left, is_attribute, is_key, is_last, is_true, next};
+use iloc_pieces::shape::{is_region, is_suffix};
 
-// A subdivision that the value of `sd` names.
+/// A value of `sd` that names a subdivision.
 #[derive(Clone, Copy)]
-struct Named {
-    // The region in upper case.
-    region: ShortPiece,
-    // Whether it is all of the region.
-    is_whole: bool,
+pub(crate) struct Value {
+    /// Where it begins.
+    pub(crate) at: usize,
+    /// How many bytes it has.
+    pub(crate) len: usize,
+    /// How many of them are its region.
+    pub(crate) region: usize,
 }
 
-/// Writes the normal text of the first `len` bytes as a data locale, if they are a plain identifier and a variant of `n`
-/// bytes.
-#[inline(never)]
-pub(crate) fn write_varied(window: &[u8], len: usize, n: usize, to: &mut [u8]) -> Written
-    requires wide { len + 16 ≤ length window.now }
-    requires room { len + 16 ≤ length to.old }
-    ensures { IsNormalWritten Mode.Data (take len window.now) to.new result }
-{
-    let at = len.wrapping_sub(n.wrapping_add(1));
-    match write_plain(window, len, at, to) {
-        Some(_) if is_one_variant(&window[at + 1..], len - at - 1) => Written::Normal(len),
-        _ => Written::Nothing,
-    }
+/// What follows the singleton.
+#[derive(Clone, Copy)]
+pub(crate) enum Keyword {
+    /// An attribute, or a key with more than one subtag besides `true`.
+    Misfit,
+    /// No key, or a keyword that names no subdivision.
+    Unnamed,
+    /// `sd` and a value that names a subdivision.
+    Named(Value),
 }
 
-/// Writes the normal text of the first `len` bytes as a data locale, if they are a plain identifier of `at` bytes, perhaps
-/// a variant, and after `start` bytes `u`, `sd` and a piece of its value.
-#[inline(never)]
-pub(crate) fn write_subdivision(
-    window: &[u8],
-    len: usize,
-    at: usize,
-    start: usize,
-    to: &mut [u8],
-) -> Written
-    requires wide { len + 16 ≤ length window.now }
-    requires room { len + 16 ≤ length to.old }
-    ensures { IsNormalWritten Mode.Data (take len window.now) to.new result }
-{
-    if start <= at || start >= len || window[start - 1] != b'-' {
-        return Written::Nothing;
-    }
-    let block = &window[start..];
-    let left = len - start;
-    if !has_subdivision(block, left) {
-        return Written::Nothing;
-    }
-    let Some(plain) = write_plain(window, len, at, to) else {
-        return Written::Nothing;
-    };
-    let between = start - at - 1;
-    if between > 0 && !is_one_variant(&window[at + 1..], between - 1) {
-        return Written::Nothing;
-    }
-    let Some(named) = name_of(&block[5..], left - 5) else {
-        return Written::Refused(ParseError::InvalidExtension);
-    };
-    let Some(region) = plain.region() else {
-        return Written::Nothing;
-    };
-    if region == named.region && !named.is_whole {
-        return Written::Normal(len);
-    }
-    Written::Normal(start - 1)
+// The subtags of a value.
+#[derive(Clone, Copy)]
+enum Subtags<'a> {
+    // They are not all, or more than one is not `true`.
+    Misfit,
+    // All are `true`.
+    Trues,
+    // One is not `true`.
+    One(Left<'a>),
 }
 
-// Writes the plain identifier of `at` bytes, and in lower case what follows it, if that begins with a hyphen.
+// Whether nothing but `true` follows the piece.
 #[inline(always)]
-fn write_plain(window: &[u8], len: usize, at: usize, to: &mut [u8]) -> Option<Plain>
-    requires wide { len + 16 ≤ length window.now }
-    requires room { len + 16 ≤ length to.old }
-    ensures { IfSome result (IsBefore window.now len at to.new) }
+fn ends_in_trues(word: Left<'_>) -> bool
+    requires left { IsRemainder word }
+    requires short { IsShortPiece (piece_left word) }
+    ensures { result ≡ are_trues (rest_of (pieces_left word.entry)) }
 {
-    if at > 16 || at >= len || window[at] != b'-' {
-        return None;
+    let mut at = word;
+    'trues: while !is_last(at) {
+        at = next(at);
+        if !is_attribute(at) {
+            return false;
+        }
+        if !is_true(at) {
+            return false;
+        }
     }
-    let plain = read_plain(window, at)?;
-    plain.store(to);
-    copy_lower(&window[at..], len - at, &mut to[at..len]);
-    Some(plain)
+    true
 }
 
-// Whether the first `n` bytes are a variant.
+// Reads the subtags that follow the key, up to the end of the text.
 #[inline(always)]
-fn is_one_variant(window: &[u8], n: usize) -> bool
-    requires { 16 ≤ length window.now }
-    ensures { IsTrue result → IsWord Variant (take n window.now) }
+fn read_subtags<'a>(key: Left<'a>) -> Subtags<'a>
+    requires left { IsRemainder key }
+    requires short { IsShortPiece (piece_left key) }
+    ensures { AreSubtagsRead key.entry result }
 {
-    n <= 8 && is_variant(window, n)
+    let mut at = key;
+    'trues: loop {
+        if is_last(at) {
+            return Subtags::Trues;
+        }
+        at = next(at);
+        if !is_attribute(at) {
+            return Subtags::Misfit;
+        }
+        if !is_true(at) {
+            break 'trues;
+        }
+    }
+    if ends_in_trues(at) {
+        return Subtags::One(at);
+    }
+    Subtags::Misfit
 }
 
-// Whether the first `len` bytes are `u`, `sd` and a piece of its value.
+// Whether the key is `sd`, in whatever case.
 #[inline(always)]
-fn has_subdivision(window: &[u8], len: usize) -> bool
-    requires { len + 16 ≤ length window.now }
-    ensures { IsTrue result → IsSubdivisionBlock window.now len }
+fn is_sd(key: Left<'_>) -> bool
+    requires left { IsRemainder key }
+    requires key { IsWord UnicodeKey (piece_left key) }
+    ensures { result ≡ is_same (lower (piece_left key.entry)) (codes "sd") }
 {
-    if len < 8 || len > 13 {
+    if key.window[key.at].to_ascii_lowercase() != b's' {
         return false;
     }
-    if window[0].to_ascii_lowercase() != b'u' || window[1] != b'-' {
-        return false;
-    }
-    if window[2].to_ascii_lowercase() != b's' || window[3].to_ascii_lowercase() != b'd' {
-        return false;
-    }
-    window[4] == b'-' && is_attribute(&window[5..], len - 5)
+    key.window[key.at + 1].to_ascii_lowercase() == b'd'
 }
 
-// What the first `n` bytes name, as a value of `sd`.
+// How many bytes of a subtag of this shape are the region of a subdivision: two letters or three digits. 0 if it names
+// none.
 #[inline(always)]
-fn name_of(window: &[u8], n: usize) -> Option<Named>
-    requires wide { 16 ≤ length window.now }
-    requires word { IsWord Attribute (take n window.now) }
-    ensures { MatchOption result (value_named (take n window.now) ≡ None)
-        (IsNamed (take n window.now)) }
+fn region_len(shape: usize) -> usize
+    ensures { (p : Text) → letters_or_digits p ≡ true → 3 ≤ length p → shape_of p ≡ shape
+        → EndsRegion p result }
 {
-    let at = region_len(window);
-    if n <= at || n > at + 4 || is_true(window, n) || !is_region(window, at) {
-        return None;
+    if shape % 2 == 0 {
+        if is_region(shape % 4 + 4) && is_suffix(shape / 4) {
+            return 2;
+        }
+        return 0;
     }
-    Some(Named {
-        region: ShortPiece::of(&window[..at]).unwrap().to_ascii_uppercase(),
-        is_whole: n == at + 4 && is_zzzz(&window[at..]),
+    if is_region(shape % 8 + 8) && is_suffix(shape / 8) {
+        return 3;
+    }
+    0
+}
+
+// What the subtag names as a value of the key.
+#[inline(always)]
+fn named(key: Left<'_>, word: Left<'_>) -> Keyword
+    requires left { IsRemainder key }
+    requires key { IsWord UnicodeKey (piece_left key) }
+    requires word_left { IsRemainder word }
+    requires word { IsWord Attribute (piece_left word) }
+    requires other { is_true (lower (piece_left word)) ≡ false }
+    ensures { IsNamedBy key.entry word.entry result }
+{
+    if !is_sd(key) {
+        return Keyword::Unnamed;
+    }
+    let region = region_len(word.shape);
+    if region == 0 {
+        return Keyword::Unnamed;
+    }
+    Keyword::Named(Value {
+        at: word.at,
+        len: word.n,
+        region,
     })
 }
 
-// How long a region at the front is: it has two letters or three digits, which the first byte tells.
+/// Reads what follows the singleton, from the piece behind it up to the end of the text.
 #[inline(always)]
-fn region_len(window: &[u8]) -> usize
-    requires { 16 ≤ length window.now }
-    ensures { result ≡ (if is_ascii_alphabetic (slice_index window.now 0) then 2 else 3) }
+pub(crate) fn read_keyword(key: Left<'_>) -> Keyword
+    requires { IsRemainder key }
+    ensures { IsKeywordRead key.entry result }
 {
-    if window[0].is_ascii_alphabetic() {
-        2
-    } else {
-        3
+    if is_attribute(key) {
+        return Keyword::Misfit;
     }
-}
-
-// Whether the first four bytes are `zzzz`, in whatever case.
-#[inline(always)]
-fn is_zzzz(window: &[u8]) -> bool
-    requires { 4 ≤ length window.now }
-    ensures { result ≡ is_same (lower (take 4 window.now)) whole }
-{
-    ShortPiece::of(&window[..4]).unwrap().to_ascii_lowercase() == ShortPiece::of(b"zzzz").unwrap()
+    if !is_key(key) {
+        return Keyword::Unnamed;
+    }
+    match read_subtags(key) {
+        Subtags::Misfit => Keyword::Misfit,
+        Subtags::Trues => Keyword::Unnamed,
+        Subtags::One(word) => named(key, word),
+    }
 }

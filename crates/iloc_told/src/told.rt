@@ -28,8 +28,7 @@ pub enum Told<'a> {
 pub fn tell<'a>(mode: Mode, window: &[u8], len: usize, room: &'a mut [u8]) -> Told<'a>
     requires { len + 16 ≤ length window.now }
     ensures told { IsTold mode (take len window.now) result }
-    ensures few { IsNothingOnlyIf ((mode ≡ Mode.Data)
-        ⊎ IsBeyond (length room.old) (take len window.now)) result }
+    ensures few { IsNothingOnlyIf (IsBeyond (length room.old) (take len window.now)) result }
 {
     let lead = match read_found(mode, window, len) {
         Some(lead) => lead,

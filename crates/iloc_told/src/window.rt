@@ -37,7 +37,7 @@ pub fn tell_text<'a>(
     room: &'a mut [u8; ROOM],
 ) -> Told<'a>
     ensures told { IsTold mode text.now result }
-    ensures few { IsNothingOnlyIf ((mode ≡ Mode.Data) ⊎ (MOST < length text.now)) result }
+    ensures few { IsNothingOnlyIf (MOST < length text.now) result }
 {
     if text.len() > MOST {
         return Told::Nothing;

@@ -5,8 +5,8 @@ ghost use Rattle.iloc_told.specs.Told.{IsLead, IsNormalWritten};
 ghost use Rattle.iloc_told.specs.declared.Mode.TheVariants as Mode;
 
 use crate::Mode;
+use crate::data_writing::write_data;
 use crate::leads::Lead;
-use crate::subdivisions::{write_subdivision, write_varied};
 use iloc_outline::outline::{Outlined, outline_identifier, outline_locale};
 use iloc_outline::printing::copy_outline;
 use iloc_outline::spans::Spans;
@@ -26,7 +26,7 @@ pub enum Written {
     Nothing,
 }
 
-/// Writes the normal text in the mode of the first `len` bytes, of which their beginning tells this (`leads`). Sixteen
+/// Writes the normal text in the mode of the first `len` bytes, of which the beginning shows this (`leads`). Sixteen
 /// bytes after them are loaded too, and change nothing. Up to sixteen bytes more are stored behind what is written.
 #[inline(always)]
 pub fn write_normal(
@@ -47,13 +47,10 @@ pub fn write_normal(
     match lead {
         Lead::Refused(error) => Written::Refused(error),
         Lead::Outline => write_outlined(mode, window, len, spans, to),
-        Lead::Variant(n) => write_varied(window, len, n, to),
-        Lead::Subdivision(at, start) => write_subdivision(window, len, at, start, to),
-        Lead::Nothing => Written::Nothing,
     }
 }
 
-// The same as the outline gives it.
+// Writes it of a text that begins with a language.
 #[inline(always)]
 fn write_outlined(
     mode: Mode,
@@ -62,7 +59,7 @@ fn write_outlined(
     spans: &mut Spans,
     to: &mut [u8],
 ) -> Written
-    requires inside { len ≤ length window.now }
+    requires wide { len + 16 ≤ length window.now }
     requires few { len < 2 ^ 16 }
     requires begins { BeginsWithLanguage (take len window.now) }
     requires room { len + 16 ≤ length to.old }
@@ -71,7 +68,7 @@ fn write_outlined(
     match mode {
         Mode::Langid => write_identifier(window, len, spans, to),
         Mode::Locale => write_locale(window, len, spans, to),
-        Mode::Data => Written::Nothing,
+        Mode::Data => write_data(window, len, to),
     }
 }
 

@@ -1,7 +1,4 @@
-use Rattle.std.proofs.Common.{take}
-use Rattle.iloc_told.proofs.FrontAnswers.{unbegun_refused}
 use Rattle.iloc_told.proofs.leads.read_lead.Goals as goal
 
-pub returns-in-Langid-2 : goal.returns-in-Langid-2
-returns-in-Langid-2 c =
-    unbegun_refused c.args.mode (take c.args.len c.args.window.now) c.begins_with_language.result c.begins_with_language.ensures c.if-begins_with_language.false
+pub returns-in-Langid : goal.returns-in-Langid
+returns-in-Langid c = c.lead_of_language.ensures c.args.mode

@@ -1,4 +1,4 @@
-use Rattle.std.proofs.Common.{◌≡◌, ◌≤◌, inl, inr, length, ap, arith, take}
+use Rattle.std.proofs.Common.{◌≡◌, ◌≤◌, length, ap, arith, take}
 use Rattle.iloc_told.proofs.AsciiLemmas.{normal_utf8}
 use Rattle.iloc_told.proofs.OutlinedLemmas.{not_beyond}
 use Rattle.iloc_told.proofs.normal_text.normalize_told.Goals as goal
@@ -11,7 +11,4 @@ returns-in-Nothing-clause-few c =
     let t = take (length c.args.input.now) c.put_in_front.new.window in
     let same : length t ≡ length c.args.input.now = ap length c.put_in_front.ensures in
     let short : length t ≤ 48 = omega (arith, same) in
-    elim c.in-Nothing.ensures.few [
-      | inl unasked ↦ absurd (c.requires unasked)
-      | inr beyond ↦ absurd (not_beyond t 128 short (omega arith) beyond)
-    ]
+    absurd (not_beyond t 128 short (omega arith) c.in-Nothing.ensures.few)

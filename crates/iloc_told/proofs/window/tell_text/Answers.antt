@@ -1,7 +1,5 @@
-use Rattle.std.proofs.Common.{◌≡◌, ◌<◌, List, ℕ, length, subst, arith}
-use Rattle.std.specs.Prelude.{◌⊎◌}
+use Rattle.std.proofs.Common.{◌<◌, List, ℕ, length, subst, arith}
 use Rattle.iloc_told.specs.Told.{IsBeyond, IsNothingOnlyIf}
-use Rattle.iloc_told.specs.declared.Mode.TheVariants as Mode
 use Rattle.iloc_told.proofs.OutlinedLemmas.{few_told}
 use Rattle.iloc_told.proofs.window.tell_text.Goals as goal
 
@@ -9,5 +7,5 @@ pub returns-clause-few : goal.returns-clause-few
 returns-clause-few c =
     let t = c.args.text.now in
     let room = length c.args.room.now in
-    few_told t room (c.args.mode ≡ Mode.Data) (48 < length t) c.tell.result (omega arith) (omega arith)
-    (subst (λ (u : List ℕ). IsNothingOnlyIf ((c.args.mode ≡ Mode.Data) ⊎ IsBeyond room u) c.tell.result) c.put_in_front.ensures c.tell.ensures.few)
+    few_told t room (48 < length t) c.tell.result (omega arith) (omega arith)
+    (subst (λ (u : List ℕ). IsNothingOnlyIf (IsBeyond room u) c.tell.result) c.put_in_front.ensures c.tell.ensures.few)
