@@ -4,7 +4,7 @@ use Rattle.std.specs.List.{AllByRecursion, list_all}
 use Rattle.std.proofs.Math.Seq.{drop-append_seam}
 use Rattle.std.proofs.lemmas.Bool.{and_right, cases_Bool, lt-leb}
 use Rattle.std.proofs.lemmas.List.{drop-take, length-take-le}
-use Rattle.iloc_spec_grammar.specs.Syntax.{Text, Language, Variant, Identifier, HasWords, IsWord, blocks, dashes, first_piece, front, head, is_one_byte, is_word, join, languages, lower, pieces, tail_blocks}
+use Rattle.iloc_spec_grammar.specs.Syntax.{Text, Language, Variant, SpelledIdentifier, HasWords, IsWord, blocks, dashes, first_piece, front, head, is_one_byte, is_word, join, languages, lower, pieces, tail_blocks}
 use Rattle.iloc_spec_grammar.specs.Meaning.{InvalidSubtag, normal_identifier}
 use Rattle.iloc_spec_grammar.specs.Reading.{after_front, after_region, front_of, identifier_of, past, starts_block}
 use Rattle.iloc_spec_grammar.proofs.PiecesLaws.{at_pieces}
@@ -63,7 +63,7 @@ front_block (q ∷ qs) s = ap (λ (b : Bool). cond b [] (q ∷ front qs)) s
 -- ---- the head alone, or before a block
 
 -- the identifier at the front with these variants
-abbrev pub head_with : List Text → List Text → Identifier
+abbrev pub head_with : List Text → List Text → SpelledIdentifier
 head_with ps vs = let i = front_of ps in
     record { language = i.language; script = i.script; region = i.region; variants = vs }
 
@@ -159,7 +159,7 @@ module _ (t : Text) (begins : BeginsWell t) (vs rest : List Text) (cut : after_r
 
 -- ---- how it is printed
 
-pub head_printed : (w : Text) (h : Head) (i : Identifier) → HasWords languages i → length i.variants ≤ 1
+pub head_printed : (w : Text) (h : Head) (i : SpelledIdentifier) → HasWords languages i → length i.variants ≤ 1
     → h.front.end ≤ h.end → h.end ≤ length w → take h.front.end w ≡ join (front_pieces i)
     → front_text h.front.script h.front.region (take h.front.end w) ≡ join (front_pieces (normal_identifier i))
     → (h.front.script < h.front.end) × (h.front.region + 1 < h.front.end)

@@ -1,6 +1,6 @@
 -- What is written of a head and a subdivision.
 use Rattle.std.proofs.Common.{◌≡◌, ◌≢◌, ◌⊎◌, inl, inr, ℕ, ◌+◌, ◌-◌, Bool, true, false, ◌∷◌, ◌++◌, map, take, codes, Option, Some, None, refl, sym, ap, ◌∙◌, arith, append_assoc, IfSome}
-use Rattle.iloc_spec_grammar.specs.Syntax.{Text, Identifier, Region, IsWord, dashes, is_same, join, lower, upper}
+use Rattle.iloc_spec_grammar.specs.Syntax.{Text, SpelledIdentifier, Region, IsWord, dashes, is_same, join, lower, upper}
 use Rattle.iloc_spec_grammar.specs.Meaning.{normal_identifier}
 use Rattle.iloc_spec_grammar.proofs.WordsLaws.{length-region}
 use Rattle.iloc_spec_preferences.specs.DataLocales.{DataLocale, data_text, is_whole, whole}
@@ -31,7 +31,7 @@ some_region w end None h at e s = absurd (e s)
 some_region w end (Some r) h at e s = record { region = r; is = refl; word = h; bytes = s.1 }
 
 module _ (w : Text) (len : ℕ) (h : Head) (v : Value) (d : DataLocale) (x : HasValue w len h v d) where
-  abbrev i : Identifier
+  abbrev i : SpelledIdentifier
   i = x.written
 
   abbrev s : Subdivision

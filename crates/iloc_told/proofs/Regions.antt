@@ -7,7 +7,7 @@ use Rattle.std.proofs.Math.Seq.{drop-append_seam}
 use Rattle.std.proofs.lemmas.Bool.{and_parts, eqb-true, or_cases}
 use Rattle.std.proofs.lemmas.Bool.Decides.{nat_tests}
 use Rattle.std.proofs.lemmas.List.{drop-take, get_or-drop, get_or-take, length-take-le}
-use Rattle.iloc_spec_grammar.specs.Syntax.{Text, Identifier, HasWords, IsWord, Language, Region, Script, is_word, join, languages}
+use Rattle.iloc_spec_grammar.specs.Syntax.{Text, SpelledIdentifier, HasWords, IsWord, Language, Region, Script, is_word, join, languages}
 use Rattle.iloc_spec_grammar.proofs.PartTexts.{join-append}
 use Rattle.iloc_spec_grammar.proofs.RawLaws.{languages_table}
 use Rattle.iloc_spec_grammar.proofs.WordsLaws.{length-language, length-region, length-script}
@@ -110,7 +110,7 @@ with_region l r s =
 
 -- ---- the bytes of a window
 
-module _ (w : Text) (end : ℕ) (inside : end ≤ length w) (i : Identifier) (words : HasWords languages i)
+module _ (w : Text) (end : ℕ) (inside : end ≤ length w) (i : SpelledIdentifier) (words : HasWords languages i)
     (is : take end w ≡ join (front_pieces i)) where
   size : length (take end w) ≡ end
   size = length-take-le end w inside

@@ -4,7 +4,7 @@ use Rattle.std.specs.Prelude.{if◌then◌else◌, option_to_list}
 use Rattle.std.specs.Result.{result_ok}
 use Rattle.std.proofs.lemmas.Bool.{cases_Bool}
 use Rattle.std.proofs.lemmas.List.{length-map}
-use Rattle.iloc_spec_grammar.specs.Syntax.{Text, Identifier, HasWords, Region, IsWord, dashes, is_same, is_true, join, languages, lower, upper}
+use Rattle.iloc_spec_grammar.specs.Syntax.{Text, SpelledIdentifier, HasWords, Region, IsWord, dashes, is_same, is_true, join, languages, lower, upper}
 use Rattle.iloc_spec_grammar.specs.Meaning.{Fault, normal_identifier}
 use Rattle.iloc_spec_grammar.specs.Reading.{first_item}
 use Rattle.iloc_spec_grammar.specs.Values.{IsNormal}
@@ -55,7 +55,7 @@ text_parts l s r v ks =
     ∙ join-append l ((s ++ r) ++ v) ks ∙ ap (λ t. t ++ dashes ks) (join-append l (s ++ r) v)
 
 -- an identifier with one variant at most
-module _ (i : Identifier) (few : length i.variants ≤ 1) where
+module _ (i : SpelledIdentifier) (few : length i.variants ≤ 1) where
   abbrev r : SmallIdentifier
   r = small_identifier i
 

@@ -1,6 +1,6 @@
 -- What a text is read as, as a data locale.
 use Rattle.std.specs.Prelude.{◌≡◌, ◌⊎◌, ℕ, ◌+◌, ◌-◌, ◌≤◌, ◌++◌, true, false, length, map, take, Option, Some, None, Ok, Err, option_map}
-use Rattle.iloc_spec_grammar.specs.Syntax.{Text, Identifier, HasWords, dashes, is_one_byte, join, languages, lower}
+use Rattle.iloc_spec_grammar.specs.Syntax.{Text, SpelledIdentifier, HasWords, dashes, is_one_byte, join, languages, lower}
 use Rattle.iloc_spec_grammar.specs.Meaning.{Fault, InvalidSubtag, normal_identifier}
 use Rattle.iloc_spec_parts.specs.Small.{SmallIdentifier}
 use Rattle.iloc_spec_parts.specs.SmallComputing.{small_identifier}
@@ -21,7 +21,7 @@ use Rattle.iloc_told.specs.declared.data.Head.{Head}
 use Rattle.iloc_told.specs.declared.subdivisions.Value.{Value}
 
 -- the window begins with this identifier, which has one variant at most
-pub record IsHead (w : Text) (h : Head) (i : Identifier) : Type 0 where
+pub record IsHead (w : Text) (h : Head) (i : SpelledIdentifier) : Type 0 where
   pub words : HasWords languages i
   pub few : length i.variants ≤ 1
   pub ascends : h.front.end ≤ h.end
@@ -35,19 +35,19 @@ pub record IsHead (w : Text) (h : Head) (i : Identifier) : Type 0 where
       ≡ dashes (map lower i.variants)
 
 -- the data locale of an identifier with one variant at most
-abbrev pub data_alone : Identifier → DataLocale
+abbrev pub data_alone : SpelledIdentifier → DataLocale
 data_alone i = let r = small_identifier i in
     made_of r.language r.script (option_map whole_region r.region) r.variant
 
 -- it is the head alone
 pub record IsAlone (w : Text) (h : Head) (d : DataLocale) : Type 0 where
-  pub written : Identifier
+  pub written : SpelledIdentifier
   pub head : IsHead w h written
   pub is : d ≡ data_alone written
 
 -- it is the head and the subdivision that the value names
 pub record HasValue (w : Text) (len : ℕ) (h : Head) (v : Value) (d : DataLocale) : Type 0 where
-  pub written : Identifier
+  pub written : SpelledIdentifier
   pub head : IsHead w h written
   pub named : Subdivision
   pub names : IsNamed w v named
