@@ -1,5 +1,6 @@
 -- What one, two or three words read as, as a calendar.
-use Rattle.std.proofs.Common.{◌≡◌, ℕ, Bool, true, false, cond, ◌&&◌, List, [], ◌∷◌, ◌++◌, map, refl, sym, ap, ◌∙◌, Option, Some, None, option_map, codes, nat_eq, ◌<◌, ◌≤◌, length, arith}
+use Rattle.std.proofs.Common.{◌≡◌, ℕ, Bool, true, false, cond, ◌&&◌, List, [], ◌∷◌, ◌++◌, map, refl, sym, ap}
+use Rattle.std.proofs.Common.{◌∙◌, Option, Some, None, option_map, codes, nat_eq, ◌<◌, ◌≤◌, length, arith}
 use Rattle.std.specs.Option.{option_or}
 use Rattle.std.specs.FinMap.{find}
 use Rattle.std.specs.Ordering.{is_eq, ordering_then, eq_by_cmp}
@@ -8,7 +9,8 @@ use Rattle.std.specs.declared.cmp.Ordering.TheVariants.{Less, Equal, Greater}
 use Rattle.std.specs.Cmp.Lexicographic.{slice_cmp, pointwise, texts_ties}
 use Rattle.iloc_spec_grammar.specs.Syntax.{word_cmp, is_same}
 use Rattle.iloc_spec_preferences.specs.Keywords as keywords
-use Rattle.iloc_spec_preferences.specs.Keywords.{EnumValue, numbered, variants, further_readings, readings, hijri_kinds}
+use Rattle.iloc_spec_preferences.specs.Keywords.{EnumValue, numbered, variants, further_readings, readings}
+use Rattle.iloc_spec_preferences.specs.Keywords.{hijri_kinds}
 use Rattle.iloc_keyword_types.specs.WordTables.{table_place}
 use Rattle.iloc_keyword_types.proofs.EnumLemmas.{variant, one_word, more_words, entry}
 use Rattle.iloc_keyword_types.specs.CalendarReading.{calendar_reads}
@@ -20,9 +22,13 @@ cs = variants keywords.CalendarAlgorithm
 abbrev W : List (List ℕ) → List (List ℕ) → Ordering
 W = slice_cmp word_cmp
 
-find_either : (q : List (List ℕ)) (xs ys : List (List (List ℕ) × EnumValue)) → find W q (xs ++ ys) ≡ option_or (find W q xs) (find W q ys)
+find_either : (q : List (List ℕ)) (xs ys : List (List (List ℕ) × EnumValue)) →
+    find W q (xs ++ ys) ≡ option_or (find W q xs) (find W q ys)
 find_either q [] ys = refl
-find_either q (x ∷ xs) ys = elim (eq_by_cmp W q x.0) as (λ b. cond b (Some x.1) (find W q (xs ++ ys)) ≡ option_or (cond b (Some x.1) (find W q xs)) (find W q ys)) [ true ↦ refl | false ↦ find_either q xs ys ]
+find_either q (x ∷ xs) ys = elim (eq_by_cmp W q x.0)
+    as (λ b.
+    cond b (Some x.1) (find W q (xs ++ ys)) ≡ option_or (cond b (Some x.1) (find W q xs)) (find W q ys))
+    [ true ↦ refl | false ↦ find_either q xs ys ]
 
 first_less : (r : Ordering) → is_eq (ordering_then r Less) ≡ false
 first_less Less = refl
@@ -61,38 +67,54 @@ long_form = (codes "ethiopic" ∷ codes "amete" ∷ codes "alem" ∷ [], (4, Non
 abbrev old_forms : List (List (List ℕ) × EnumValue)
 old_forms = short_form ∷ long_form ∷ []
 
-pass : (q : List (List ℕ)) (e : List (List ℕ) × EnumValue) (es : List (List (List ℕ) × EnumValue)) → eq_by_cmp W q e.0 ≡ false → find W q (e ∷ es) ≡ find W q es
+pass : (q : List (List ℕ)) (e : List (List ℕ) × EnumValue) (es : List (List (List ℕ) × EnumValue)) →
+    eq_by_cmp W q e.0 ≡ false → find W q (e ∷ es) ≡ find W q es
 pass q e es h = ap (λ b. cond b (Some e.1) (find W q es)) h
 
 -- one word
 
 not_kinds : (w : List ℕ) (es : List (List ℕ × ℕ)) → find W (w ∷ []) (map kind_entry es) ≡ None
 not_kinds w [] = refl
-not_kinds w (e ∷ es) = pass (w ∷ []) (kind_entry e) (map kind_entry es) (first_less (word_cmp w (codes "islamic"))) ∙ not_kinds w es
+not_kinds w (e ∷ es) =
+    pass (w ∷ []) (kind_entry e) (map kind_entry es) (first_less (word_cmp w (codes "islamic")))
+    ∙ not_kinds w es
 
-of_old : (w : List ℕ) → find W (w ∷ []) old_forms ≡ cond (is_same w (codes "islamicc")) (Some (9, Some 2)) None
+of_old : (w : List ℕ) →
+    find W (w ∷ []) old_forms ≡ cond (is_same w (codes "islamicc")) (Some (9, Some 2)) None
 of_old w =
-    ap (λ o. cond (is_eq (ordering_then (word_cmp w (codes "islamicc")) Equal)) (Some (9, Some 2)) o) (pass (w ∷ []) long_form [] (first_less (word_cmp w (codes "ethiopic"))))
+    ap (λ o. cond (is_eq (ordering_then (word_cmp w (codes "islamicc")) Equal)) (Some (9, Some 2)) o)
+    (pass (w ∷ []) long_form [] (first_less (word_cmp w (codes "ethiopic"))))
     ∙ ap (λ b. cond b (Some (9, Some 2)) None) (first_equal (word_cmp w (codes "islamicc")))
 
-one : (w : List ℕ) → find W (w ∷ []) (readings keywords.CalendarAlgorithm) ≡ option_or (option_map variant (find word_cmp w (numbered 0 cs))) (cond (is_same w (codes "islamicc")) (Some (9, Some 2)) None)
+one : (w : List ℕ) →
+    find W (w ∷ []) (readings keywords.CalendarAlgorithm)
+    ≡ option_or (option_map variant (find word_cmp w (numbered 0 cs)))
+    (cond (is_same w (codes "islamicc")) (Some (9, Some 2)) None)
 one w =
     find_either (w ∷ []) (map entry (numbered 0 cs)) (further_readings keywords.CalendarAlgorithm)
-    ∙ (λ i. option_or (one_word w (numbered 0 cs) i) (find_either (w ∷ []) (map kind_entry (numbered 0 hijri_kinds)) old_forms i))
-    ∙ ap (λ o. option_or (option_map variant (find word_cmp w (numbered 0 cs))) (option_or o (find W (w ∷ []) old_forms))) (not_kinds w (numbered 0 hijri_kinds))
+    ∙ (λ i. option_or (one_word w (numbered 0 cs) i)
+    (find_either (w ∷ []) (map kind_entry (numbered 0 hijri_kinds)) old_forms i))
+    ∙ ap (λ o. option_or (option_map variant (find word_cmp w (numbered 0 cs)))
+    (option_or o (find W (w ∷ []) old_forms))) (not_kinds w (numbered 0 hijri_kinds))
     ∙ ap (option_or (option_map variant (find word_cmp w (numbered 0 cs)))) (of_old w)
 
 or_none : (o : Option EnumValue) → option_or o None ≡ o
 or_none None = refl
 or_none (Some x) = refl
 
-pub old_form : (w : List ℕ) → pointwise nat_eq w (codes "islamicc") ≡ true → calendar_reads (w ∷ []) ≡ Some (9, Some 2)
+pub old_form : (w : List ℕ) → pointwise nat_eq w (codes "islamicc") ≡ true →
+    calendar_reads (w ∷ []) ≡ Some (9, Some 2)
 unfolding calendar_reads
 old_form w h = rw (same_is w (codes "islamicc") (sym (texts_ties w (codes "islamicc")) ∙ h)) refl
 
-pub plain_form : (w : List ℕ) → pointwise nat_eq w (codes "islamicc") ≡ false → calendar_reads (w ∷ []) ≡ option_map variant (table_place w cs)
+pub plain_form : (w : List ℕ) → pointwise nat_eq w (codes "islamicc") ≡ false →
+    calendar_reads (w ∷ []) ≡ option_map variant (table_place w cs)
 unfolding calendar_reads table_place
-plain_form w h = one w ∙ ap (λ b. option_or (option_map variant (find word_cmp w (numbered 0 cs))) (cond b (Some (9, Some 2)) None)) (sym (texts_ties w (codes "islamicc")) ∙ h) ∙ or_none (option_map variant (find word_cmp w (numbered 0 cs)))
+plain_form w h = one w
+    ∙ ap
+    (λ b. option_or (option_map variant (find word_cmp w (numbered 0 cs))) (cond b (Some (9, Some 2)) None))
+    (sym (texts_ties w (codes "islamicc")) ∙ h)
+    ∙ or_none (option_map variant (find word_cmp w (numbered 0 cs)))
 
 -- two words
 
@@ -103,47 +125,75 @@ both_none : (b : Bool) → ◌≡◌ {A = Option EnumValue} (cond b None None) N
 both_none true = refl
 both_none false = refl
 
-kinds : (v w : List ℕ) (r : Ordering) → word_cmp v (codes "islamic") ≡ r → (es : List (List ℕ × ℕ)) → find W (v ∷ w ∷ []) (map kind_entry es) ≡ cond (is_eq r) (option_map of_kind (find word_cmp w es)) None
+kinds : (v w : List ℕ) (r : Ordering) → word_cmp v (codes "islamic") ≡ r → (es : List (List ℕ × ℕ)) →
+    find W (v ∷ w ∷ []) (map kind_entry es) ≡ cond (is_eq r) (option_map of_kind (find word_cmp w es)) None
 kinds v w r h [] = sym (both_none (is_eq r))
-kinds v w Less h (e ∷ es) = pass (v ∷ w ∷ []) (kind_entry e) (map kind_entry es) (ap (λ r. is_eq (ordering_then r (ordering_then (word_cmp w e.0) Equal))) h) ∙ kinds v w Less h es
-kinds v w Greater h (e ∷ es) = pass (v ∷ w ∷ []) (kind_entry e) (map kind_entry es) (ap (λ r. is_eq (ordering_then r (ordering_then (word_cmp w e.0) Equal))) h) ∙ kinds v w Greater h es
+kinds v w Less h (e ∷ es) = pass (v ∷ w ∷ []) (kind_entry e) (map kind_entry es)
+    (ap (λ r. is_eq (ordering_then r (ordering_then (word_cmp w e.0) Equal))) h)
+    ∙ kinds v w Less h es
+kinds v w Greater h (e ∷ es) = pass (v ∷ w ∷ []) (kind_entry e) (map kind_entry es)
+    (ap (λ r. is_eq (ordering_then r (ordering_then (word_cmp w e.0) Equal))) h)
+    ∙ kinds v w Greater h es
 kinds v w Equal h (e ∷ es) =
-    ap (λ b. cond b (Some (9, Some e.1)) (find W (v ∷ w ∷ []) (map kind_entry es))) (ap (λ r. is_eq (ordering_then r (ordering_then (word_cmp w e.0) Equal))) h ∙ first_equal (word_cmp w e.0))
+    ap (λ b. cond b (Some (9, Some e.1)) (find W (v ∷ w ∷ []) (map kind_entry es)))
+    (ap (λ r. is_eq (ordering_then r (ordering_then (word_cmp w e.0) Equal))) h
+    ∙ first_equal (word_cmp w e.0))
     ∙ ap (λ o. cond (is_eq (word_cmp w e.0)) (Some (9, Some e.1)) o) (kinds v w Equal h es)
-    ∙ (elim (is_eq (word_cmp w e.0)) as (λ b. cond b (Some (9, Some e.1)) (option_map of_kind (find word_cmp w es)) ≡ option_map of_kind (cond b (Some e.1) (find word_cmp w es))) [ true ↦ refl | false ↦ refl ])
+    ∙ (elim (is_eq (word_cmp w e.0))
+    as (λ b. cond b (Some (9, Some e.1)) (option_map of_kind (find word_cmp w es))
+    ≡ option_map of_kind (cond b (Some e.1) (find word_cmp w es))) [ true ↦ refl | false ↦ refl ])
 
-two : (v w : List ℕ) → find W (v ∷ w ∷ []) (readings keywords.CalendarAlgorithm) ≡ cond (is_same v (codes "islamic")) (option_map of_kind (find word_cmp w (numbered 0 hijri_kinds))) None
+two : (v w : List ℕ) →
+    find W (v ∷ w ∷ []) (readings keywords.CalendarAlgorithm)
+    ≡ cond (is_same v (codes "islamic")) (option_map of_kind (find word_cmp w (numbered 0 hijri_kinds))) None
 two v w =
     find_either (v ∷ w ∷ []) (map entry (numbered 0 cs)) (further_readings keywords.CalendarAlgorithm)
-    ∙ ap (λ o. option_or o (find W (v ∷ w ∷ []) (further_readings keywords.CalendarAlgorithm))) (more_words v w [] (numbered 0 cs))
+    ∙ ap (λ o. option_or o (find W (v ∷ w ∷ []) (further_readings keywords.CalendarAlgorithm)))
+    (more_words v w [] (numbered 0 cs))
     ∙ find_either (v ∷ w ∷ []) (map kind_entry (numbered 0 hijri_kinds)) old_forms
-    ∙ ap (λ o. option_or (find W (v ∷ w ∷ []) (map kind_entry (numbered 0 hijri_kinds))) o) (pass (v ∷ w ∷ []) short_form (long_form ∷ []) (first_greater (word_cmp v (codes "islamicc"))) ∙ pass (v ∷ w ∷ []) long_form [] (then_less (word_cmp v (codes "ethiopic")) (word_cmp w (codes "amete"))))
+    ∙ ap (λ o. option_or (find W (v ∷ w ∷ []) (map kind_entry (numbered 0 hijri_kinds))) o)
+    (pass (v ∷ w ∷ []) short_form (long_form ∷ []) (first_greater (word_cmp v (codes "islamicc")))
+    ∙ pass (v ∷ w ∷ []) long_form [] (then_less (word_cmp v (codes "ethiopic")) (word_cmp w (codes "amete"))))
     ∙ or_none (find W (v ∷ w ∷ []) (map kind_entry (numbered 0 hijri_kinds)))
     ∙ kinds v w (word_cmp v (codes "islamic")) refl (numbered 0 hijri_kinds)
 
-pub no_kind : (v w : List ℕ) → pointwise nat_eq v (codes "islamic") ≡ false → calendar_reads (v ∷ w ∷ []) ≡ None
+pub no_kind : (v w : List ℕ) → pointwise nat_eq v (codes "islamic") ≡ false →
+    calendar_reads (v ∷ w ∷ []) ≡ None
 unfolding calendar_reads
-no_kind v w h = two v w ∙ ap (λ b. cond b (option_map of_kind (find word_cmp w (numbered 0 hijri_kinds))) None) (sym (texts_ties v (codes "islamic")) ∙ h)
+no_kind v w h = two v w
+    ∙ ap (λ b. cond b (option_map of_kind (find word_cmp w (numbered 0 hijri_kinds))) None)
+    (sym (texts_ties v (codes "islamic")) ∙ h)
 
-pub with_kind : (v w : List ℕ) → pointwise nat_eq v (codes "islamic") ≡ true → calendar_reads (v ∷ w ∷ []) ≡ option_map of_kind (table_place w hijri_kinds)
+pub with_kind : (v w : List ℕ) → pointwise nat_eq v (codes "islamic") ≡ true →
+    calendar_reads (v ∷ w ∷ []) ≡ option_map of_kind (table_place w hijri_kinds)
 unfolding calendar_reads table_place
-with_kind v w h = two v w ∙ ap (λ b. cond b (option_map of_kind (find word_cmp w (numbered 0 hijri_kinds))) None) (sym (texts_ties v (codes "islamic")) ∙ h)
+with_kind v w h = two v w
+    ∙ ap (λ b. cond b (option_map of_kind (find word_cmp w (numbered 0 hijri_kinds))) None)
+    (sym (texts_ties v (codes "islamic")) ∙ h)
 
 -- three words, and more
 
-no_kinds : (u v w : List ℕ) (ws : List (List ℕ)) (es : List (List ℕ × ℕ)) → find W (u ∷ v ∷ w ∷ ws) (map kind_entry es) ≡ None
+no_kinds : (u v w : List ℕ) (ws : List (List ℕ)) (es : List (List ℕ × ℕ)) →
+    find W (u ∷ v ∷ w ∷ ws) (map kind_entry es) ≡ None
 no_kinds u v w ws [] = refl
-no_kinds u v w ws (e ∷ es) = pass (u ∷ v ∷ w ∷ ws) (kind_entry e) (map kind_entry es) (then_greater (word_cmp u (codes "islamic")) (word_cmp v e.0)) ∙ no_kinds u v w ws es
+no_kinds u v w ws (e ∷ es) = pass (u ∷ v ∷ w ∷ ws) (kind_entry e) (map kind_entry es)
+    (then_greater (word_cmp u (codes "islamic")) (word_cmp v e.0))
+    ∙ no_kinds u v w ws es
 
-three : (u v w : List ℕ) (ws : List (List ℕ)) → find W (u ∷ v ∷ w ∷ ws) (readings keywords.CalendarAlgorithm) ≡ cond (is_eq (W (u ∷ v ∷ w ∷ ws) (codes "ethiopic" ∷ codes "amete" ∷ codes "alem" ∷ []))) (Some (4, None)) None
+three : (u v w : List ℕ) (ws : List (List ℕ)) →
+    find W (u ∷ v ∷ w ∷ ws) (readings keywords.CalendarAlgorithm)
+    ≡ cond (is_eq (W (u ∷ v ∷ w ∷ ws) (codes "ethiopic" ∷ codes "amete" ∷ codes "alem" ∷ [])))
+    (Some (4, None)) None
 three u v w ws =
     find_either (u ∷ v ∷ w ∷ ws) (map entry (numbered 0 cs)) (further_readings keywords.CalendarAlgorithm)
-    ∙ ap (λ o. option_or o (find W (u ∷ v ∷ w ∷ ws) (further_readings keywords.CalendarAlgorithm))) (more_words u v (w ∷ ws) (numbered 0 cs))
+    ∙ ap (λ o. option_or o (find W (u ∷ v ∷ w ∷ ws) (further_readings keywords.CalendarAlgorithm)))
+    (more_words u v (w ∷ ws) (numbered 0 cs))
     ∙ find_either (u ∷ v ∷ w ∷ ws) (map kind_entry (numbered 0 hijri_kinds)) old_forms
     ∙ ap (λ o. option_or o (find W (u ∷ v ∷ w ∷ ws) old_forms)) (no_kinds u v w ws (numbered 0 hijri_kinds))
     ∙ pass (u ∷ v ∷ w ∷ ws) short_form (long_form ∷ []) (first_greater (word_cmp u (codes "islamicc")))
 
-all_equal : (r s t : Ordering) → is_eq (ordering_then r (ordering_then s (ordering_then t Equal))) ≡ is_eq r && (is_eq s && is_eq t)
+all_equal : (r s t : Ordering) →
+    is_eq (ordering_then r (ordering_then s (ordering_then t Equal))) ≡ is_eq r && (is_eq s && is_eq t)
 all_equal Less s t = refl
 all_equal Equal Less t = refl
 all_equal Equal Equal t = first_equal t
@@ -153,18 +203,28 @@ all_equal Greater s t = refl
 abbrev pub ethioaa_where : Bool → Bool → Bool → Option EnumValue
 ethioaa_where a b d = cond (a && (b && d)) (Some (4, None)) None
 
-pub three_words : (u v w : List ℕ) → calendar_reads (u ∷ v ∷ w ∷ []) ≡ ethioaa_where (pointwise nat_eq u (codes "ethiopic")) (pointwise nat_eq v (codes "amete")) (pointwise nat_eq w (codes "alem"))
+pub three_words : (u v w : List ℕ) →
+    calendar_reads (u ∷ v ∷ w ∷ [])
+    ≡ ethioaa_where (pointwise nat_eq u (codes "ethiopic")) (pointwise nat_eq v (codes "amete"))
+    (pointwise nat_eq w (codes "alem"))
 unfolding calendar_reads
-three_words u v w = three u v w [] ∙ ap (λ b. cond b (Some (4, None)) None) (all_equal (word_cmp u (codes "ethiopic")) (word_cmp v (codes "amete")) (word_cmp w (codes "alem")) ∙ (λ i. sym (texts_ties u (codes "ethiopic")) i && (sym (texts_ties v (codes "amete")) i && sym (texts_ties w (codes "alem")) i)))
+three_words u v w = three u v w []
+    ∙ ap (λ b. cond b (Some (4, None)) None)
+    (all_equal (word_cmp u (codes "ethiopic")) (word_cmp v (codes "amete")) (word_cmp w (codes "alem"))
+    ∙ (λ i. sym (texts_ties u (codes "ethiopic")) i
+    && (sym (texts_ties v (codes "amete")) i && sym (texts_ties w (codes "alem")) i)))
 
-then_then_greater : (r s t : Ordering) → is_eq (ordering_then r (ordering_then s (ordering_then t Greater))) ≡ false
+then_then_greater : (r s t : Ordering) →
+    is_eq (ordering_then r (ordering_then s (ordering_then t Greater))) ≡ false
 then_then_greater Less s t = refl
 then_then_greater Equal s t = then_greater s t
 then_then_greater Greater s t = refl
 
 four_words : (t u v w : List ℕ) (ws : List (List ℕ)) → calendar_reads (t ∷ u ∷ v ∷ w ∷ ws) ≡ None
 unfolding calendar_reads
-four_words t u v w ws = three t u v (w ∷ ws) ∙ ap (λ b. cond b (Some (4, None)) None) (then_then_greater (word_cmp t (codes "ethiopic")) (word_cmp u (codes "amete")) (word_cmp v (codes "alem")))
+four_words t u v w ws = three t u v (w ∷ ws)
+    ∙ ap (λ b. cond b (Some (4, None)) None) (then_then_greater (word_cmp t (codes "ethiopic"))
+    (word_cmp u (codes "amete")) (word_cmp v (codes "alem")))
 
 no_words : calendar_reads [] ≡ None
 unfolding calendar_reads

@@ -7,9 +7,19 @@ use Rattle.iloc_spec_preferences.specs.Keywords.{variants, hijri_kinds, enum_rea
 use Rattle.iloc_word_list.specs.Values.{without_true}
 use Rattle.iloc_keyword_types.specs.WordTables.{word_at}
 use Rattle.iloc_keyword_types.specs.declared.hijri.HijriCalendarAlgorithm.{HijriCalendarAlgorithm}
-use Rattle.iloc_keyword_types.specs.declared.hijri.HijriCalendarAlgorithm.TheVariants.{Umalqura, Tbla, Civil, Rgsa}
+use Rattle.iloc_keyword_types.specs.declared.hijri.HijriCalendarAlgorithm.TheVariants.{Umalqura, Tbla, Civil}
+use Rattle.iloc_keyword_types.specs.declared.hijri.HijriCalendarAlgorithm.TheVariants.{Rgsa}
 use Rattle.iloc_keyword_types.specs.declared.calendar_algorithm.CalendarAlgorithm.{CalendarAlgorithm}
-use Rattle.iloc_keyword_types.specs.declared.calendar_algorithm.CalendarAlgorithm.TheVariants.{Buddhist, Chinese, Coptic, Dangi, Ethioaa, Ethiopic, Gregory, Hebrew, Indian, Hijri, Iso8601, Japanese, Persian, Roc}
+use Rattle.iloc_keyword_types.specs.declared.calendar_algorithm.CalendarAlgorithm.TheVariants.{Buddhist}
+use Rattle.iloc_keyword_types.specs.declared.calendar_algorithm.CalendarAlgorithm.TheVariants.{Chinese}
+use Rattle.iloc_keyword_types.specs.declared.calendar_algorithm.CalendarAlgorithm.TheVariants.{Coptic, Dangi}
+use Rattle.iloc_keyword_types.specs.declared.calendar_algorithm.CalendarAlgorithm.TheVariants.{Ethioaa}
+use Rattle.iloc_keyword_types.specs.declared.calendar_algorithm.CalendarAlgorithm.TheVariants.{Ethiopic}
+use Rattle.iloc_keyword_types.specs.declared.calendar_algorithm.CalendarAlgorithm.TheVariants.{Gregory}
+use Rattle.iloc_keyword_types.specs.declared.calendar_algorithm.CalendarAlgorithm.TheVariants.{Hebrew, Indian}
+use Rattle.iloc_keyword_types.specs.declared.calendar_algorithm.CalendarAlgorithm.TheVariants.{Hijri, Iso8601}
+use Rattle.iloc_keyword_types.specs.declared.calendar_algorithm.CalendarAlgorithm.TheVariants.{Japanese}
+use Rattle.iloc_keyword_types.specs.declared.calendar_algorithm.CalendarAlgorithm.TheVariants.{Persian, Roc}
 use Rattle.iloc_keyword_types.specs.Hijri.{kind_place}
 use Rattle.iloc_keyword_types.specs.Calendars.{place, kind, value_of}
 
@@ -20,18 +30,24 @@ kind_normal Tbla = (refl, refl)
 kind_normal Civil = (refl, refl)
 kind_normal Rgsa = (refl, refl)
 
-of_number : (k : HijriCalendarAlgorithm) → enum_gives keywords.CalendarAlgorithm (9, Some (kind_place k)) ≡ Some (codes "islamic" ∷ word_at hijri_kinds (kind_place k) ∷ [])
+of_number : (k : HijriCalendarAlgorithm) →
+    enum_gives keywords.CalendarAlgorithm (9, Some (kind_place k))
+    ≡ Some (codes "islamic" ∷ word_at hijri_kinds (kind_place k) ∷ [])
 of_number Umalqura = refl
 of_number Tbla = refl
 of_number Civil = refl
 of_number Rgsa = refl
 
--- what is known of a calendar: one of a kind stands at the place of Hijri calendars, one of no kind is turned into its
--- word, and what it is turned into reads as the calendar
+-- what is known of a calendar: one of a kind stands at the place of Hijri calendars, one of no kind is turned
+-- into its word, and what it is turned into reads as the calendar
 record Known (c : CalendarAlgorithm) : Type 0 where
   pub of_kind : (n : ℕ) → Some n ≡ kind c → place c ≡ 9
-  pub plain : kind c ≡ None → enum_gives keywords.CalendarAlgorithm (value_of c) ≡ Some (without_true (word_at (variants keywords.CalendarAlgorithm) (place c) ∷ []))
-  pub back : option_and_then (enum_reads keywords.CalendarAlgorithm) (enum_gives keywords.CalendarAlgorithm (value_of c)) ≡ Some (value_of c)
+  pub plain : kind c ≡ None →
+      enum_gives keywords.CalendarAlgorithm (value_of c)
+      ≡ Some (without_true (word_at (variants keywords.CalendarAlgorithm) (place c) ∷ []))
+  pub back : option_and_then (enum_reads keywords.CalendarAlgorithm)
+      (enum_gives keywords.CalendarAlgorithm (value_of c))
+      ≡ Some (value_of c)
 
 known : (c : CalendarAlgorithm) → Known c
 unfolding is_true
@@ -57,11 +73,19 @@ known Roc = record { of_kind = λ n h. absurd (cc); plain = λ h. refl; back = r
 pub hijri_place : (c : CalendarAlgorithm) (n : ℕ) → Some n ≡ kind c → place c ≡ 9
 hijri_place c = (known c).of_kind
 
-pub given_plain : (c : CalendarAlgorithm) → kind c ≡ None → enum_gives keywords.CalendarAlgorithm (value_of c) ≡ Some (without_true (word_at (variants keywords.CalendarAlgorithm) (place c) ∷ []))
+pub given_plain : (c : CalendarAlgorithm) → kind c ≡ None →
+    enum_gives keywords.CalendarAlgorithm (value_of c)
+    ≡ Some (without_true (word_at (variants keywords.CalendarAlgorithm) (place c) ∷ []))
 given_plain c = (known c).plain
 
-pub given_kind : (c : CalendarAlgorithm) (k : HijriCalendarAlgorithm) → Some (kind_place k) ≡ kind c → enum_gives keywords.CalendarAlgorithm (value_of c) ≡ Some (codes "islamic" ∷ word_at hijri_kinds (kind_place k) ∷ [])
-given_kind c k h = ap (enum_gives keywords.CalendarAlgorithm) (λ i. (hijri_place c (kind_place k) h i, sym h i)) ∙ of_number k
+pub given_kind : (c : CalendarAlgorithm) (k : HijriCalendarAlgorithm) → Some (kind_place k) ≡ kind c →
+    enum_gives keywords.CalendarAlgorithm (value_of c)
+    ≡ Some (codes "islamic" ∷ word_at hijri_kinds (kind_place k) ∷ [])
+given_kind c k h =
+    ap (enum_gives keywords.CalendarAlgorithm) (λ i. (hijri_place c (kind_place k) h i, sym h i))
+    ∙ of_number k
 
-pub reads_back : (c : CalendarAlgorithm) (v : List (List ℕ)) → enum_gives keywords.CalendarAlgorithm (value_of c) ≡ Some v → enum_reads keywords.CalendarAlgorithm v ≡ Some (value_of c)
+pub reads_back : (c : CalendarAlgorithm) (v : List (List ℕ)) →
+    enum_gives keywords.CalendarAlgorithm (value_of c) ≡ Some v →
+    enum_reads keywords.CalendarAlgorithm v ≡ Some (value_of c)
 reads_back c v h = sym (ap (option_and_then (enum_reads keywords.CalendarAlgorithm)) h) ∙ (known c).back

@@ -7,14 +7,18 @@ use Rattle.iloc_subtags.specs.KindLaws.{subtag_fits}
 use Rattle.iloc_spec_grammar.specs.Syntax.{Subtag, lower}
 use Rattle.iloc_spec_grammar.specs.Values.{IsNormal}
 use Rattle.iloc_spec_preferences.specs.Subdivisions.{Subdivision, IsSubdivision, subdivision_text}
-use Rattle.iloc_spec_preferences.proofs.SubdivisionLaws.{subdivision_back, subdivision_is_subtag, text_of_read}
+use Rattle.iloc_spec_preferences.proofs.SubdivisionLaws.{subdivision_back, subdivision_is_subtag}
+use Rattle.iloc_spec_preferences.proofs.SubdivisionLaws.{text_of_read}
 
 -- a lower-case region and a suffix are the text
-pub joined : (s : Subdivision) → IsSubdivision s → (a b t : List ℕ) → t ≡ a ++ b → a ≡ lower s.region → b ≡ s.suffix → t ≡ subdivision_text s
+pub joined : (s : Subdivision) → IsSubdivision s → (a b t : List ℕ) → t ≡ a ++ b → a ≡ lower s.region →
+    b ≡ s.suffix → t ≡ subdivision_text s
 joined s h a b t e ea eb = e ∙ ap₂ ◌++◌ ea (eb ∙ sym h.suffix.1)
 
-pub joined_normal : (s : Subdivision) → IsSubdivision s → (t : List ℕ) → t ≡ subdivision_text s → IsNormal Subtag t
-joined_normal s h t e = subst (IsNormal Subtag) (sym e) (subdivision_is_subtag s h, sym (text_of_read (subdivision_text s) s (subdivision_back s h)))
+pub joined_normal : (s : Subdivision) → IsSubdivision s → (t : List ℕ) → t ≡ subdivision_text s →
+    IsNormal Subtag t
+joined_normal s h t e = subst (IsNormal Subtag) (sym e)
+    (subdivision_is_subtag s h, sym (text_of_read (subdivision_text s) s (subdivision_back s h)))
 
 -- a subtag is ASCII, without zeros
 pub subtag_bytes : (w : List ℕ) → IsNormal Subtag w → list_all is_text_byte w ≡ true

@@ -3,7 +3,8 @@ use Rattle.std.specs.Prelude.{◌≡◌, Some, slice_get, refl}
 use Rattle.iloc_spec_preferences.specs.Keywords.{hijri_kinds}
 use Rattle.iloc_keyword_types.specs.WordTables.{word_at}
 use Rattle.iloc_keyword_types.specs.declared.hijri.HijriCalendarAlgorithm.{HijriCalendarAlgorithm}
-use Rattle.iloc_keyword_types.specs.declared.hijri.HijriCalendarAlgorithm.TheVariants.{Umalqura, Tbla, Civil, Rgsa}
+use Rattle.iloc_keyword_types.specs.declared.hijri.HijriCalendarAlgorithm.TheVariants.{Umalqura, Tbla, Civil}
+use Rattle.iloc_keyword_types.specs.declared.hijri.HijriCalendarAlgorithm.TheVariants.{Rgsa}
 use Rattle.iloc_keyword_types.specs.Hijri.{kind_place}
 
 pub kind_placed : (x : HijriCalendarAlgorithm)

@@ -3,7 +3,8 @@ use Rattle.std.specs.Prelude.{◌≡◌, ◌<◌, List, length, Some, None, Resu
 use Rattle.iloc_spec_grammar.specs.Syntax.{Text}
 use Rattle.iloc_spec_preferences.specs.Keywords.{scripts_read}
 use Rattle.iloc_word_list.specs.declared.errors.PreferencesParseError.{PreferencesParseError}
-use Rattle.iloc_word_list.specs.declared.errors.PreferencesParseError.TheVariants.{InvalidKeywordValue, OutOfMemory}
+use Rattle.iloc_word_list.specs.declared.errors.PreferencesParseError.TheVariants.{InvalidKeywordValue}
+use Rattle.iloc_word_list.specs.declared.errors.PreferencesParseError.TheVariants.{OutOfMemory}
 
 -- The list is read as these scripts, or refused; memory may run out only for a fifth one.
 abbrev pub ReadsScripts : List Text → Result (List Text) PreferencesParseError → Type 0

@@ -7,7 +7,9 @@ pub returns-then-eq : goal.returns-then-eq
 returns-then-eq c = sym (old_form c.args.word.now (sym c.if-eq.ensures))
 
 pub returns-in-Some : goal.returns-in-Some
-returns-in-Some c = ap Some c.of_any_kind.ensures ∙ ap (option_map variant) c.in-Some.ensures ∙ sym (plain_form c.args.word.now (sym c.if-eq.ensures))
+returns-in-Some c = ap Some c.of_any_kind.ensures ∙ ap (option_map variant) c.in-Some.ensures
+    ∙ sym (plain_form c.args.word.now (sym c.if-eq.ensures))
 
 pub returns-in-None : goal.returns-in-None
-returns-in-None c = ap (option_map variant) c.in-None.ensures ∙ sym (plain_form c.args.word.now (sym c.if-eq.ensures))
+returns-in-None c =
+    ap (option_map variant) c.in-None.ensures ∙ sym (plain_form c.args.word.now (sym c.if-eq.ensures))

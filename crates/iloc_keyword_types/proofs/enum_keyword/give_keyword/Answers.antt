@@ -14,13 +14,15 @@ module _ (g : _) (c : goal.After-word_number g) where
   word = word_at g.E.WordEnum.words (g.E.WordEnum.place c.args.keyword)
 
   is_normal : IsNormal Subtag word
-  is_normal = normal_word g.E.EnumKeyword.keyword g.E.WordEnum.words g.met.E.EnumKeyword.same_words (g.E.WordEnum.place c.args.keyword) _ (g.met.E.WordEnum.placed c.args.keyword)
+  is_normal = normal_word g.E.EnumKeyword.keyword g.E.WordEnum.words g.met.E.EnumKeyword.same_words
+      (g.E.WordEnum.place c.args.keyword) _ (g.met.E.WordEnum.placed c.args.keyword)
 
 pub known_subtag-requires : goal.known_subtag-requires
 known_subtag-requires g c = (word g c, is_normal g c, c.word_number.ensures)
 
 pub returns : goal.returns
-returns g c = (value, read_back keyword words same g.met.E.EnumKeyword.plain place _ at c.from_subtag.result value)
+returns g c =
+    (value, read_back keyword words same g.met.E.EnumKeyword.plain place _ at c.from_subtag.result value)
   where
     keyword : EnumKeyword
     keyword = g.E.EnumKeyword.keyword

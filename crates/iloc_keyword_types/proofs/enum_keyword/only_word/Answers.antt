@@ -1,4 +1,5 @@
-use Rattle.std.proofs.Common.{◌≡◌, ◌<◌, ◌∙◌, ℕ, List, [], ◌∷◌, Some, length, refl, sym, ap, subst, arith, codes}
+use Rattle.std.proofs.Common.{◌≡◌, ◌<◌, ◌∙◌, ℕ, List, [], ◌∷◌, Some, length, refl, sym, ap, subst, arith}
+use Rattle.std.proofs.Common.{codes}
 use Rattle.iloc_spec_grammar.specs.Syntax.{Subtag, is_word, lower}
 use Rattle.iloc_spec_grammar.specs.Values.{IsNormal, spelled_value}
 use Rattle.iloc_spec_parts.specs.SingleValues.{single}

@@ -13,7 +13,8 @@ use Rattle.iloc_keyword_types.proofs.enum_keyword.read_keyword.Goals as goal
 
 pub returns-in_default : goal.returns-in_default
 returns-in_default g c =
-    read_by_word g.E.EnumKeyword.keyword g.E.WordEnum.words g.met.E.EnumKeyword.same_words g.met.E.EnumKeyword.plain c.args.value.now
+    read_by_word g.E.EnumKeyword.keyword g.E.WordEnum.words g.met.E.EnumKeyword.same_words
+    g.met.E.EnumKeyword.plain c.args.value.now
     ∙ sym (ap (option_and_then (λ w. option_map variant (table_place w g.E.WordEnum.words)))
     c.in_default.ensures.value)
 
@@ -42,7 +43,8 @@ returns g c =
     rw c.ok_or.ensures.value
     (answered g.E.WordEnum.place c.first_with_number.result
     (enum_reads g.E.EnumKeyword.keyword c.args.value.now) (
-    read_by_word g.E.EnumKeyword.keyword g.E.WordEnum.words g.met.E.EnumKeyword.same_words g.met.E.EnumKeyword.plain c.args.value.now
+    read_by_word g.E.EnumKeyword.keyword g.E.WordEnum.words g.met.E.EnumKeyword.same_words
+    g.met.E.EnumKeyword.plain c.args.value.now
     ∙ sym (ap (option_and_then (λ w. option_map variant (table_place w g.E.WordEnum.words)))
     c.in-Some.ensures.value)
     ∙ sym (ap (option_map variant) (placed g (goal.at.returns g c).After-first_with_number))))

@@ -10,7 +10,8 @@ use Rattle.iloc_keyword_types.specs.declared.calendar_algorithm.CalendarAlgorith
 use Rattle.iloc_keyword_types.specs.Calendars.{place}
 use Rattle.iloc_keyword_types.specs.CalendarLaws.{placed_at}
 use Rattle.iloc_keyword_types.specs.Hijri.{kind_place}
-use Rattle.iloc_keyword_types.proofs.GivenLemmas.{reads_back, kind_normal, given_kind, given_plain, hijri_place}
+use Rattle.iloc_keyword_types.proofs.GivenLemmas.{reads_back, kind_normal, given_kind, given_plain}
+use Rattle.iloc_keyword_types.proofs.GivenLemmas.{hijri_place}
 use Rattle.iloc_keyword_types.proofs.calendar_algorithm.CalendarAlgorithm.to_value.Goals as goal
 
 -- the word of a calendar is a subtag
@@ -38,10 +39,15 @@ returns-in-None-clause-value c = (
 
 pub returns-in-None-clause-back : goal.returns-in-None-clause-back
 unfolding returns-in-None-clause-value
-returns-in-None-clause-back c = reads_back c.args.self.now c.from_subtag.result (returns-in-None-clause-value c).1
+returns-in-None-clause-back c =
+    reads_back c.args.self.now c.from_subtag.result (returns-in-None-clause-value c).1
 
 pub returns-in-Some-clause-value : goal.returns-in-Some-clause-value
-returns-in-Some-clause-value c = (_, given_kind c.args.self.now c.in-Some.kind c.in-Some.ensures ∙ sym (λ i. Some (first i ∷ second i ∷ [])), c.from_two_subtags.ensures)
+returns-in-Some-clause-value c = (
+  _,
+  given_kind c.args.self.now c.in-Some.kind c.in-Some.ensures ∙ sym (λ i. Some (first i ∷ second i ∷ [])),
+  c.from_two_subtags.ensures,
+)
   where
     first : c.known_subtag-word.result ≡ word_at (variants keywords.CalendarAlgorithm) 9
     first = c.known_subtag-word.ensures _ (calendar_normal c.args.self.now) c.word_number.ensures
@@ -52,4 +58,5 @@ returns-in-Some-clause-value c = (_, given_kind c.args.self.now c.in-Some.kind c
     second = c.known_subtag.ensures _ (kind_normal c.in-Some.kind) c.word_number-in-Some.ensures
 
 pub returns-in-Some-clause-back : goal.returns-in-Some-clause-back
-returns-in-Some-clause-back c = let given = returns-in-Some-clause-value c in rw given.2 (reads_back c.args.self.now given.0 given.1)
+returns-in-Some-clause-back c =
+    let given = returns-in-Some-clause-value c in rw given.2 (reads_back c.args.self.now given.0 given.1)

@@ -8,7 +8,8 @@ use Rattle.iloc_keyword_types.specs.Calendars.{value_of}
 use Rattle.iloc_keyword_types.specs.CalendarReading.{calendar_reads}
 use Rattle.iloc_keyword_types.proofs.calendar_conversions.CalendarAlgorithmTryFromRefValue.try_from.Goals as goal
 
-answered : (r : Option CalendarAlgorithm) (o : Option EnumValue) → option_map value_of r ≡ o → Reads value_of o (ok_or r InvalidKeywordValue)
+answered : (r : Option CalendarAlgorithm) (o : Option EnumValue) → option_map value_of r ≡ o →
+    Reads value_of o (ok_or r InvalidKeywordValue)
 answered None o h = sym h
 answered (Some x) o h = sym h
 

@@ -4,4 +4,5 @@ use Rattle.iloc_spec_preferences.specs.Keywords.{scripts_give}
 use Rattle.iloc_keyword_types.proofs.script_exclusions.DictionaryBreakScriptExclusions.to_value.Given as goal
 
 abbrev pub invariant-loop-script : goal.invariant-loop-script
-invariant-loop-script l = l.subtags.items ++ scripts_give (drop l.script-index l.script-items) ≡ scripts_give l.script-items
+invariant-loop-script l =
+    l.subtags.items ++ scripts_give (drop l.script-index l.script-items) ≡ scripts_give l.script-items

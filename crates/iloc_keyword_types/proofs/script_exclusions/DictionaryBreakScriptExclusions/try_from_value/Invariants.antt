@@ -5,4 +5,6 @@ use Rattle.iloc_keyword_types.proofs.ScriptLemmas.{together}
 use Rattle.iloc_keyword_types.proofs.script_exclusions.DictionaryBreakScriptExclusions.try_from_value.Given as goal
 
 abbrev pub invariant-loop-subtag : goal.invariant-loop-subtag
-invariant-loop-subtag l = (together l.scripts (scripts_read (drop l.subtag-index l.subtags)) ≡ scripts_read l.subtags) × (length l.scripts ≡ l.subtag-index)
+invariant-loop-subtag l =
+    (together l.scripts (scripts_read (drop l.subtag-index l.subtags)) ≡ scripts_read l.subtags)
+    × (length l.scripts ≡ l.subtag-index)

@@ -5,7 +5,8 @@ use Rattle.iloc_keyword_types.proofs.OwedLemmas.{subdivision_accepts, subdivisio
 use Rattle.iloc_keyword_types.proofs.subdivision_id.SubdivisionId.try_from_str.Goals as goal
 
 pub returns-clause-reads : goal.returns-clause-reads
-returns-clause-reads c = subst (λ (t : List ℕ). SubdivisionTextReads t c.try_from_utf8.result) c.as_bytes.ensures.value c.try_from_utf8.ensures.reads
+returns-clause-reads c = subst (λ (t : List ℕ). SubdivisionTextReads t c.try_from_utf8.result)
+    c.as_bytes.ensures.value c.try_from_utf8.ensures.reads
 
 pub returns-clause-accepted : goal.returns-clause-accepted
 returns-clause-accepted c = subdivision_accepts c.args.s.now c.try_from_utf8.result (returns-clause-reads c)
