@@ -22,12 +22,14 @@ use Rattle.iloc_told.proofs.KeywordAnswers.{and-false, attribute_no_key, fault_i
 -- ---- the first piece
 
 -- what holds of the first piece, and of none, holds of the first up to a block
-first_front : (P : Text → Type 0) → P [] → (ps : List Text) → P (first_piece ps) → P (first_piece (front ps))
+first_front : (P : Text → Type 0) → P [] → (ps : List Text) → P (first_piece ps)
+    → P (first_piece (front ps))
 first_front P none [] h = none
-first_front P none (p ∷ ps) h = elim (length p == 1) as (λ (b : Bool). P (first_piece (cond b [] (p ∷ front ps)))) [
-  | true ↦ none
-  | false ↦ h
-]
+first_front P none (p ∷ ps) h =
+    elim (length p == 1) as (λ (b : Bool). P (first_piece (cond b [] (p ∷ front ps)))) [
+      | true ↦ none
+      | false ↦ h
+    ]
 
 pub no_attribute : is_word Attribute [] ≡ false
 unfolding is_word
@@ -59,7 +61,11 @@ module _ (c : ℕ) (u : is_u c ≡ true) (r : SmallIdentifier) (ps : List Text) 
   unfolding blocks_result
   bad f e b =
       ap (λ bs. data_of_result (blocks_result r bs)) blocks_are
-      ∙ (λ j. data_of_result (if e j then Ok (record { id = r; keyword = Some (keyword_read (front ps)) }) else Err (b j)))
+      ∙ (λ j. data_of_result (if e j then Ok (record {
+        id = r;
+        keyword =
+            Some (keyword_read (front ps));
+      }) else Err (b j)))
 
   not_small : has_small_keyword (front ps) ≡ false → is_small_block (c, front ps) (blocks ps) ≡ false
   not_small e = by (blocks ps)
@@ -69,21 +75,25 @@ module _ (c : ℕ) (u : is_u c ≡ true) (r : SmallIdentifier) (ps : List Text) 
       by (d ∷ bs) = refl
 
   -- an attribute
-  pub attribute_behind : IsWord Attribute (first_piece ps) → data_behind r ((c ∷ []) ∷ ps) ≡ Err InvalidSubtag
+  pub attribute_behind : IsWord Attribute (first_piece ps)
+      → data_behind r ((c ∷ []) ∷ ps) ≡ Err InvalidSubtag
   attribute_behind k =
       let same = front_first ps (long_attribute (first_piece ps) k) in
       let attribute : is_word Attribute (first_piece (front ps)) ≡ true = ap (is_word Attribute) same ∙ k in
       let key : is_word UnicodeKey (first_piece (front ps)) ≡ false =
       ap (is_word UnicodeKey) same ∙ attribute_no_key (first_piece ps) k in
-      bad InvalidSubtag (not_small (no_key (front ps) key)) (fault_is (c, front ps) true false letter u attribute key)
+      bad InvalidSubtag (not_small (no_key (front ps) key)) (fault_is
+      (c, front ps) true false letter u attribute key)
 
   -- neither an attribute nor a key
-  pub no_key_behind : is_word Attribute (first_piece ps) ≡ false → is_word UnicodeKey (first_piece ps) ≡ false
+  pub no_key_behind : is_word Attribute (first_piece ps) ≡ false
+      → is_word UnicodeKey (first_piece ps) ≡ false
       → data_behind r ((c ∷ []) ∷ ps) ≡ Err InvalidExtension
   no_key_behind a k =
       let attribute = first_front (λ p. is_word Attribute p ≡ false) no_attribute ps a in
       let key = first_front (λ p. is_word UnicodeKey p ≡ false) no_word_key ps k in
-      bad InvalidExtension (not_small (no_key (front ps) key)) (fault_is (c, front ps) false false letter u attribute key)
+      bad InvalidExtension (not_small (no_key (front ps) key)) (fault_is
+      (c, front ps) false false letter u attribute key)
 
   -- a key, and what is none of its values, or too many of them
   pub misfit_behind : IsWord UnicodeKey (first_piece ps) → has_small_value (rest_of ps) ≡ false
@@ -98,8 +108,10 @@ module _ (c : ℕ) (u : is_u c ≡ true) (r : SmallIdentifier) (ps : List Text) 
       by : (bs : List (ℕ × List Text)) → blocks ps ≡ bs → is_small_block (c, front ps) bs ≡ false
       by [] none =
           let whole : front ps ≡ ps =
-          sym (append-nil (front ps)) ∙ ap (λ bs. front ps ++ flat_map block_pieces bs) (sym none) ∙ all_blocks ps in
-          ap (λ (b : Bool). is_u c && b) (ap has_small_keyword whole ∙ small_keyword ps v) ∙ and-false (is_u c)
+          sym (append-nil (front ps)) ∙ ap (λ bs. front ps ++ flat_map block_pieces bs) (sym none)
+          ∙ all_blocks ps in
+          ap (λ (b : Bool). is_u c && b) (ap has_small_keyword whole ∙ small_keyword ps v)
+          ∙ and-false (is_u c)
       by (d ∷ bs) e = refl
 
 -- what the keyword makes of the head
@@ -108,30 +120,40 @@ outcome r sd o = ok_or (option_map (λ part. made_of r.language r.script part r.
     (if sd then option_map (λ s. Some (agreed r.region s)) o else None)) InvalidExtension
 
 -- a key and one value at most
-module _ (c : ℕ) (u : is_u c ≡ true) (r : SmallIdentifier) (p : Text) (qs : List Text) (key : IsWord UnicodeKey p)
+module _ (c : ℕ) (u : is_u c ≡ true) (r : SmallIdentifier) (p : Text) (qs : List Text)
+    (key : IsWord UnicodeKey p)
     (small : has_small_value qs ≡ true) where
   good : data_behind r ((c ∷ []) ∷ p ∷ qs)
-      ≡ outcome r (is_same (lower p) (codes "sd")) (option_and_then named_subdivision (first_item (normal_values qs)))
+      ≡ outcome r (is_same (lower p) (codes "sd")) (option_and_then named_subdivision (first_item
+      (normal_values qs)))
   unfolding blocks_result
   good =
-      let parts = and_parts (list_all (is_word Attribute) qs) (nat_le (length (normal_values qs)) 1) small in
+      let parts = and_parts (list_all (is_word Attribute) qs) (nat_le (length
+      (normal_values qs)) 1) small in
       let whole = values_whole qs parts.0 in
       let long = key_long p key in
       let front_is : front (p ∷ qs) ≡ p ∷ qs = front_long p qs long ∙ ap (λ rs. p ∷ rs) whole.0 in
       let none : blocks (p ∷ qs) ≡ [] = skip_long p qs long ∙ whole.1 in
       let id : Bool → Bool → Bool → Result SmallLocale Fault = λ x y z.
-      if (x && (y && z)) then Ok (record { id = r; keyword = Some (lower p, first_item (normal_values qs)) })
+      if (x && (y && z)) then Ok (record {
+        id = r;
+        keyword =
+            Some (lower p, first_item (normal_values qs));
+      })
       else Err (block_fault (c, p ∷ qs)) in
       ap (λ bs. data_of_result (blocks_result r bs)) (blocks_are c u r (p ∷ qs))
       ∙ (λ j. data_of_result (blocks_result r ((c, front_is j) ∷ none j)))
       ∙ (λ j. data_of_result (id (u j) (key j) (small j)))
 
   -- which is not `sd`, or names no subdivision
-  unnamed_behind : (is_same (lower p) (codes "sd") ≡ false) ⊎ (option_and_then named_subdivision (first_item (normal_values qs)) ≡ None)
+  unnamed_behind : (is_same (lower p) (codes "sd") ≡ false)
+      ⊎ (option_and_then named_subdivision (first_item (normal_values qs)) ≡ None)
       → data_behind r ((c ∷ []) ∷ p ∷ qs) ≡ Err InvalidExtension
   unnamed_behind (inl other) =
-      good ∙ ap (λ (b : Bool). outcome r b (option_and_then named_subdivision (first_item (normal_values qs)))) other
-  unnamed_behind (inr none) = good ∙ ap (outcome r (is_same (lower p) (codes "sd"))) none ∙ never (is_same (lower p) (codes "sd"))
+      good ∙ ap (λ (b : Bool). outcome r b (option_and_then named_subdivision (first_item
+      (normal_values qs)))) other
+  unnamed_behind (inr none) = good ∙ ap (outcome r (is_same (lower p) (codes "sd"))) none
+      ∙ never (is_same (lower p) (codes "sd"))
     where
       never : (b : Bool) → outcome r b None ≡ Err InvalidExtension
       never true = refl
@@ -143,7 +165,8 @@ module _ (c : ℕ) (u : is_u c ≡ true) (r : SmallIdentifier) (p : Text) (qs : 
   named_behind s sd names = good ∙ (λ j. outcome r (sd j) (names j))
 
 -- the same by what the pieces are
-module _ (ps : List Text) (key : IsWord UnicodeKey (first_piece ps)) (small : has_small_value (rest_of ps) ≡ true) where
+module _ (ps : List Text) (key : IsWord UnicodeKey (first_piece ps)) (small : has_small_value
+    (rest_of ps) ≡ true) where
   pub unnamed_pieces : (is_same (lower (first_piece ps)) (codes "sd") ≡ false)
       ⊎ (option_and_then named_subdivision (first_item (normal_values (rest_of ps))) ≡ None)
       → MeansWithU ps (λ r. Err InvalidExtension)

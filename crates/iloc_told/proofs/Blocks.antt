@@ -32,7 +32,8 @@ one_byte (c ∷ d ∷ p) e = absurd (true≢false (sym e ∙ two_more (length p)
 
 single_first : (t : Text) → is_one_byte (first_piece (pieces t)) ≡ true
     → pieces t ≡ (slice_index (first_piece (pieces t)) 0 ∷ []) ∷ rest_of (pieces t)
-single_first t = at_pieces (λ ps. is_one_byte (first_piece ps) ≡ true → ps ≡ (slice_index (first_piece ps) 0 ∷ []) ∷ rest_of ps)
+single_first t = at_pieces (λ ps. is_one_byte (first_piece ps) ≡ true
+    → ps ≡ (slice_index (first_piece ps) 0 ∷ []) ∷ rest_of ps)
     (λ p ps e. ap (λ q. q ∷ ps) (one_byte p e)) t
 
 -- a block of another singleton than `u` has its own fault
@@ -44,7 +45,11 @@ other_block r c ps f other fault =
     let qs = first.0 in
     let none = no_u (c, qs) first.1 other in
     ap (λ bs. data_of_result (blocks_result r bs)) first.2
-    ∙ (λ j. data_of_result (if none j then Ok (record { id = r; keyword = Some (keyword_read qs) }) else Err (fault qs j)))
+    ∙ (λ j. data_of_result (if none j then Ok (record {
+      id = r;
+      keyword =
+          Some (keyword_read qs);
+    }) else Err (fault qs j)))
 
 module _ (h : Head) (l : Left) (left : IsRemainder l) (single : is_one_byte (piece_left l) ≡ true) where
   abbrev c : ℕ
@@ -54,10 +59,12 @@ module _ (h : Head) (l : Left) (left : IsRemainder l) (single : is_one_byte (pie
   there = single_first (bytes_left l) single
 
   -- no letter and no digit
-  pub unlettered : is_ascii_alphanumeric c ≡ false → (r : SmallIdentifier) → data_behind r (pieces_left l) ≡ Err InvalidExtension
+  pub unlettered : is_ascii_alphanumeric c ≡ false → (r : SmallIdentifier)
+      → data_behind r (pieces_left l) ≡ Err InvalidExtension
   unlettered e r =
       ap (data_behind r) there
-      ∙ other_block r c (rest_of (pieces_left l)) InvalidExtension (no_letter_no_u c e) (λ qs. unlettered_fault (c, qs) e)
+      ∙ other_block r c (rest_of (pieces_left l)) InvalidExtension (no_letter_no_u c e)
+      (λ qs. unlettered_fault (c, qs) e)
 
   -- another letter or digit
   pub other_letter : is_ascii_alphanumeric c ≡ true → is_u c ≡ false → (r : SmallIdentifier)
@@ -68,7 +75,8 @@ module _ (h : Head) (l : Left) (left : IsRemainder l) (single : is_one_byte (pie
 
   module _ (u : is_u c ≡ true) where
     -- nothing follows
-    pub u_alone : pieces_left l ≡ piece_left l ∷ [] → (r : SmallIdentifier) → data_behind r (pieces_left l) ≡ Err InvalidExtension
+    pub u_alone : pieces_left l ≡ piece_left l ∷ [] → (r : SmallIdentifier)
+        → data_behind r (pieces_left l) ≡ Err InvalidExtension
     u_alone last r =
         ap (data_behind r) (there ∙ ap (λ ps. (c ∷ []) ∷ rest_of ps) last)
         ∙ no_key_behind c u r [] no_attribute no_word_key
@@ -77,7 +85,8 @@ module _ (h : Head) (l : Left) (left : IsRemainder l) (single : is_one_byte (pie
       before : pieces_left l ≡ (c ∷ []) ∷ pieces_left m
       before = there ∙ ap (λ ps. (c ∷ []) ∷ rest_of ps) n.pieces
 
-      pub misfit_read : IsKeywordRead m keywords.Misfit → (r : SmallIdentifier) → data_behind r (pieces_left l) ≡ Err InvalidSubtag
+      pub misfit_read : IsKeywordRead m keywords.Misfit → (r : SmallIdentifier)
+          → data_behind r (pieces_left l) ≡ Err InvalidSubtag
       misfit_read k r = ap (data_behind r) before ∙ k c u r
 
       pub unnamed_read : IsKeywordRead m keywords.Unnamed → (r : SmallIdentifier)

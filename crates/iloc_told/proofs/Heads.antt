@@ -29,7 +29,8 @@ use Rattle.iloc_told.proofs.KeywordAnswers.{front_long, front_past, head_region,
 -- a language is no singleton
 long_language : (p : Text) → IsWord (Language languages) p → IsLong p
 long_language p h =
-    let l = languages_table.least _ (length-language languages p h) in ne_eqb _ _ (λ e. absurd (omega arith))
+    let l = languages_table.least _ (length-language languages p h) in ne_eqb _ _ (λ e. absurd
+    (omega arith))
 
 -- ---- variants, and what comes behind them
 
@@ -51,10 +52,12 @@ past_block (q ∷ qs) s = elim (cases_Bool (is_word Variant q)) [
   | inr fails ↦ ap (λ (b : Bool). cond b (past (is_word Variant) qs) (q ∷ qs)) fails
 ]
 
-past_variants : (vs rest : List Text) → AreVariants vs → starts_block rest ≡ true → past (is_word Variant) (vs ++ rest) ≡ rest
+past_variants : (vs rest : List Text) → AreVariants vs → starts_block rest ≡ true
+    → past (is_word Variant) (vs ++ rest) ≡ rest
 past_variants [] rest h s = past_block rest s
 past_variants (v ∷ vs) rest h s =
-    ap (λ (b : Bool). cond b (past (is_word Variant) (vs ++ rest)) (v ∷ (vs ++ rest))) h.0 ∙ past_variants vs rest h.1 s
+    ap (λ (b : Bool). cond b (past (is_word Variant) (vs ++ rest)) (v ∷ (vs ++ rest))) h.0
+    ∙ past_variants vs rest h.1 s
 
 front_block : (rest : List Text) → starts_block rest ≡ true → front rest ≡ []
 front_block [] s = refl
@@ -67,7 +70,8 @@ abbrev pub head_with : List Text → List Text → SpelledIdentifier
 head_with ps vs = let i = front_of ps in
     record { language = i.language; script = i.script; region = i.region; variants = vs }
 
-module _ (t : Text) (begins : BeginsWell t) (vs rest : List Text) (cut : after_region (pieces t) ≡ vs ++ rest)
+module _ (t : Text) (begins : BeginsWell t) (vs rest : List Text) (cut : after_region
+    (pieces t) ≡ vs ++ rest)
     (variants : AreVariants vs) where
   module _ (few : length vs ≤ 1) (starts : starts_block rest ≡ true) where
     left_over : after_front (pieces t) ≡ rest
@@ -75,7 +79,8 @@ module _ (t : Text) (begins : BeginsWell t) (vs rest : List Text) (cut : after_r
     left_over = ap (past (is_word Variant)) cut ∙ past_variants vs rest variants starts
 
     before : front (vs ++ rest) ≡ vs
-    before = front_past vs rest (all_long vs variants) ∙ ap (λ qs. vs ++ qs) (front_block rest starts) ∙ append-nil vs
+    before = front_past vs rest (all_long vs variants) ∙ ap (λ qs. vs ++ qs) (front_block rest starts)
+        ∙ append-nil vs
 
     small : has_small_variants (front (vs ++ rest)) ≡ true
     small =
@@ -88,7 +93,8 @@ module _ (t : Text) (begins : BeginsWell t) (vs rest : List Text) (cut : after_r
         by (v ∷ w ∷ vs) l = absurd (omega arith)
 
     -- what is read of the head
-    head_is : (p : Text) (qs : List Text) → IsWord (Language languages) p → after_region (p ∷ qs) ≡ vs ++ rest
+    head_is : (p : Text) (qs : List Text) → IsWord (Language languages) p
+        → after_region (p ∷ qs) ≡ vs ++ rest
         → identifier_of (p ∷ front qs) ≡ head_with (p ∷ qs) vs
     unfolding identifier_of front_of
     head_is p qs word e =
@@ -96,7 +102,13 @@ module _ (t : Text) (begins : BeginsWell t) (vs rest : List Text) (cut : after_r
         let first : front (p ∷ qs) ≡ p ∷ front qs = front_long p qs (long_language p word) in
         let same : front_of (p ∷ front qs) ≡ front_of (p ∷ qs) = ap front_of (sym first) ∙ body in
         let last : after_region (p ∷ front qs) ≡ vs = head_region p qs ∙ ap front e ∙ before in
-        λ j. record { language = (same j).language; script = (same j).script; region = (same j).region; variants = last j }
+        λ j. record {
+          language = (same j).language;
+          script = (same j).script;
+          region =
+              (same j).region;
+          variants = last j;
+        }
 
     -- what the text means
     pub meant : data_result languages t ≡ data_behind (small_identifier (head_with (pieces t) vs)) rest
@@ -104,8 +116,10 @@ module _ (t : Text) (begins : BeginsWell t) (vs rest : List Text) (cut : after_r
     meant = at_pieces Found by t begins cut (blocks_left t begins ∙ ap blocks left_over)
       where
         Found : List Text → Type 0
-        Found ps = IsWord (Language languages) (first_piece ps) → after_region ps ≡ vs ++ rest → tail_blocks ps ≡ blocks rest
-            → data_of_result (after_identifier (small_identifier_result languages (head ps)) (tail_blocks ps))
+        Found ps = IsWord (Language languages) (first_piece ps) → after_region ps ≡ vs ++ rest
+            → tail_blocks ps ≡ blocks rest
+            → data_of_result (after_identifier (small_identifier_result languages (head ps))
+            (tail_blocks ps))
             ≡ data_of_result (blocks_result (small_identifier (head_with ps vs)) (blocks rest))
 
         by : (p : Text) (qs : List Text) → Found (p ∷ qs)
@@ -125,15 +139,18 @@ module _ (t : Text) (begins : BeginsWell t) (vs rest : List Text) (cut : after_r
     large = by odd
       where
         no_variant : is_word Variant q ≡ false → has_small_variants (q ∷ front more) ≡ false
-        no_variant e = ap (λ (b : Bool). (b && list_all (is_word Variant) (front more)) && nat_le (suc (length (front more))) 1) e
+        no_variant e = ap (λ (b : Bool). (b && list_all (is_word Variant) (front more)) && nat_le (suc
+            (length (front more))) 1) e
 
         many : (ws : List Text) → 2 ≤ length ws → nat_le (length ws) 1 ≡ false
         many [] l = absurd (omega arith)
         many (v ∷ []) l = absurd (omega arith)
         many (v ∷ w ∷ ws) l = lt-leb (suc (suc (length ws))) 1 (omega arith)
 
-        by : ((vs ≡ []) × (is_word Variant q ≡ false)) ⊎ (length vs ≡ 1) → has_small_variants (vs ++ q ∷ front more) ≡ false
-        by (inl (none, fails)) = ap (λ ws. has_small_variants (ws ++ q ∷ front more)) none ∙ no_variant fails
+        by : ((vs ≡ []) × (is_word Variant q ≡ false)) ⊎ (length vs ≡ 1)
+            → has_small_variants (vs ++ q ∷ front more) ≡ false
+        by (inl (none, fails)) = ap (λ ws. has_small_variants (ws ++ q ∷ front more)) none
+            ∙ no_variant fails
         by (inr one) =
             let ws = vs ++ q ∷ front more in
             and_right (list_all (is_word Variant) ws) (nat_le (length ws) 1)
@@ -145,12 +162,14 @@ module _ (t : Text) (begins : BeginsWell t) (vs rest : List Text) (cut : after_r
       where
         Found : List Text → Type 0
         Found ps = IsWord (Language languages) (first_piece ps) → after_region ps ≡ vs ++ rest
-            → data_of_result (after_identifier (small_identifier_result languages (head ps)) (tail_blocks ps)) ≡ Err InvalidSubtag
+            → data_of_result (after_identifier (small_identifier_result languages (head ps))
+            (tail_blocks ps)) ≡ Err InvalidSubtag
 
         by : (p : Text) (qs : List Text) → Found (p ∷ qs)
         by p qs word e =
             ap (λ r. data_of_result (after_identifier r (tail_blocks (p ∷ qs))))
-            (large_head p qs word (ap (λ rs. has_small_variants (front rs)) e ∙ ap has_small_variants front_is ∙ large))
+            (large_head p qs word (ap (λ rs. has_small_variants (front rs)) e
+            ∙ ap has_small_variants front_is ∙ large))
 
   -- its words
   pub words_with : HasWords languages (head_with (pieces t) vs)
@@ -161,7 +180,8 @@ module _ (t : Text) (begins : BeginsWell t) (vs rest : List Text) (cut : after_r
 
 pub head_printed : (w : Text) (h : Head) (i : SpelledIdentifier) → HasWords languages i → length i.variants ≤ 1
     → h.front.end ≤ h.end → h.end ≤ length w → take h.front.end w ≡ join (front_pieces i)
-    → front_text h.front.script h.front.region (take h.front.end w) ≡ join (front_pieces (normal_identifier i))
+    → front_text h.front.script h.front.region (take h.front.end w) ≡ join (front_pieces
+    (normal_identifier i))
     → (h.front.script < h.front.end) × (h.front.region + 1 < h.front.end)
     → take h.end w ≡ take h.front.end w ++ dashes i.variants → IsHead w h i
 head_printed w h i words few ascends inside front printed within cut =
@@ -173,7 +193,8 @@ head_printed w h i words few ascends inside front printed within cut =
     let more = within.1 in
     let reach : h.end ≡ h.front.end + (h.end - h.front.end) = omega (arith, ascends) in
     let rest : bytes_at w h.front.end (h.end - h.front.end) ≡ dashes i.variants =
-    sym (drop-take h.front.end (h.end - h.front.end) w) ∙ ap (λ (n : ℕ). drop h.front.end (take n w)) (sym reach)
+    sym (drop-take h.front.end (h.end - h.front.end) w)
+    ∙ ap (λ (n : ℕ). drop h.front.end (take n w)) (sym reach)
     ∙ ap (drop h.front.end) cut ∙ ap (λ (n : ℕ). drop n (a ++ dashes i.variants)) (sym long)
     ∙ drop-append_seam a (dashes i.variants) in
     record {
@@ -183,7 +204,9 @@ head_printed w h i words few ascends inside front printed within cut =
       inside = inside;
       front = front;
       printed = printed;
-      whole = ap (front_text s r) cut ∙ front_text-append s r a (dashes i.variants) (omega (arith, less, long)) (omega (arith, more, long))
+      whole = ap (front_text s r) cut
+          ∙ front_text-append s r a (dashes i.variants) (omega (arith, less, long)) (omega
+          (arith, more, long))
           ∙ (λ j. printed j ++ lower-dashes i.variants j);
       variant = ap lower rest ∙ lower-dashes i.variants;
     }

@@ -1,9 +1,9 @@
 -- Data locales that are refused for the keyword in their first block.
-use Rattle.std.proofs.Common.{◌≡◌, ◌≢◌, ◌⊎◌, inl, inr, ℕ, ◌+◌, ◌<◌, ◌≤◌, ◌==◌, Bool, true, false, cond, ◌&&◌, nat_le, List, [], ◌∷◌, ◌++◌, length, flat_map, get_or, codes, Option, None, Some, option_map, Ok, Err, refl, sym, ap, ◌∙◌, subst, arith, append-nil, length-append}
+use Rattle.std.proofs.Common.{◌≡◌, ◌≢◌, ◌⊎◌, inl, inr, ℕ, ◌+◌, ◌<◌, ◌≤◌, ◌==◌, Bool, true, false, cond, ◌&&◌, nat_le, List, [], ◌∷◌, ◌++◌, length, flat_map, get_or, codes, Option, None, Some, option_map, Ok, Err, refl, sym, ap, ◌∙◌, arith, append-nil, length-append}
 use Rattle.std.specs.Prelude.{if◌then◌else◌, option_and_then, ok_or}
 use Rattle.std.specs.Char.{is_ascii_alphanumeric, to_ascii_lowercase}
 use Rattle.std.specs.List.{AllByRecursion, list_all}
-use Rattle.std.proofs.lemmas.Bool.{cases_Bool, cases_lt, true≢false, false_from_ne_true}
+use Rattle.std.proofs.lemmas.Bool.{cases_Bool, true≢false, false_from_ne_true}
 use Rattle.std.proofs.lemmas.Bool.Decides.{nat_tests}
 use Rattle.iloc_spec_grammar.specs.Syntax.{pieces, Kind, Language, Script, Region, Variant, SpelledIdentifier, identifier_pieces, HasWords, UnicodeKey, Attribute, is_word, IsWord, is_same, languages, lower, is_one_byte, front, blocks, head, tail_blocks, first_piece}
 use Rattle.iloc_spec_grammar.specs.Tree.{block_pieces}
@@ -26,7 +26,6 @@ use Rattle.iloc_spec_preferences.proofs.Keys.{sd}
 use Rattle.iloc_spec_preferences.specs.DataLocales.{not_small, agreed, made_of, named_subdivision, small_part, data_of_small}
 use Rattle.iloc_spec_preferences.specs.Subdivisions.{Subdivision}
 use Rattle.iloc_spec_preferences.specs.DataComputing.{data_result, data_of_result}
-use Rattle.iloc_subtags.specs.declared.parse_error.ParseError.{ParseError}
 use Rattle.iloc_subtags.specs.declared.parse_error.ParseError.TheVariants.{InvalidSubtag, InvalidExtension}
 use Rattle.iloc_fronts.specs.Front.{GoesOn, IsFront, rest_of_block}
 use Rattle.iloc_fronts.specs.Keyword.{IsKeywordOf, IsSingle, after_singleton}
@@ -35,7 +34,7 @@ use Rattle.iloc_fronts.specs.declared.front.Front.TheVariants as fronts
 use Rattle.iloc_fronts.specs.declared.keyword.Keyword.TheVariants as keyword
 use Rattle.iloc_told.specs.Told.{HasRefusal}
 use Rattle.iloc_told.specs.declared.Mode.TheVariants.{Data}
-use Rattle.iloc_told.proofs.FrontAnswers.{head_language, BeginsWell, blocks_left, block_told, no_u, data_fault, data_refused}
+use Rattle.iloc_told.proofs.FrontAnswers.{head_language, BeginsWell, blocks_left, data_fault, data_refused}
 
 -- ---- the block of `u`
 
@@ -275,26 +274,6 @@ large_head p qs l h =
     let many : has_small_variants (identifier_of (p ∷ front qs)).variants ≡ false = ap has_small_variants (head_region p qs) ∙ h in
     λ j. if l j then (if many j then Ok (small_identifier (identifier_of (p ∷ front qs))) else Err faults.InvalidSubtag) else Err faults.InvalidLanguage
 
-pub large_refused : (t : List ℕ) (b : Block) → IsFront t (fronts.Block b) → b.len + 9 < b.tail → HasRefusal Data t InvalidSubtag
-unfolding data_result small_result after_identifier
-large_refused t b h many =
-    data_fault t faults.InvalidSubtag (ap data_of_result (at_pieces Found by t h.0 (many_before t b h.1 many)))
-  where
-    Found : List (List ℕ) → Type 0
-    Found qs = IsWord (Language languages) (first_piece qs) → has_small_variants (front (after_region qs)) ≡ false
-        → after_identifier (small_identifier_result languages (head qs)) (tail_blocks qs) ≡ Err faults.InvalidSubtag
-
-    by : (p : List ℕ) (qs : List (List ℕ)) → Found (p ∷ qs)
-    by p qs l large = ap (λ r. after_identifier r (blocks qs)) (large_head p qs l large)
-
--- a fault that is told where at most one variant comes before, and else that of the variants
-pub after_variants : (t : List ℕ) (b : Block) → IsFront t (fronts.Block b) → (e : ParseError) → (b.tail ≤ b.len + 9 → e ≡ InvalidExtension) → (b.len + 9 < b.tail → e ≡ InvalidSubtag)
-    → (b.tail ≤ b.len + 9 → HasRefusal Data t InvalidExtension) → HasRefusal Data t e
-after_variants t b h e few many told = elim (cases_lt (b.len + 9) b.tail) [
-  | inl more ↦ subst (HasRefusal Data t) (sym (many more)) (large_refused t b h more)
-  | inr less ↦ subst (HasRefusal Data t) (sym (few less)) (told less)
-]
-
 -- ---- the answers
 
 pub letter_u : (c : ℕ) → is_u c ≡ true → is_ascii_alphanumeric c ≡ true
@@ -406,22 +385,3 @@ no_letter_no_u c e = grind (arith, nat_tests)
 pub unlettered_fault : (b : ℕ × List (List ℕ)) → is_ascii_alphanumeric b.0 ≡ false → block_fault b ≡ faults.InvalidExtension
 unfolding block_fault
 unlettered_fault b e = rw e refl
-
-pub unlettered_refused : (t : List ℕ) (b : Block) → IsFront t (fronts.Block b) → is_ascii_alphanumeric (get_or b.window.now 0 0) ≡ false → b.tail ≤ b.len + 9 → HasRefusal Data t InvalidExtension
-unfolding data_result small_result after_identifier blocks_result
-unlettered_refused t b h no_letter few =
-    data_fault t faults.InvalidExtension (ap data_of_result (at_pieces Found by t h.0 told.2 (few_before t b h.1 few)))
-  where
-    told : (qs : List (List ℕ)) × (bs : List (ℕ × List (List ℕ))) × (tail_blocks (pieces t) ≡ (get_or b.window.now 0 0, qs) ∷ bs)
-    told = block_told t b h.0 h.1
-
-    Found : List (List ℕ) → Type 0
-    Found qs = IsWord (Language languages) (first_piece qs) → tail_blocks qs ≡ (get_or b.window.now 0 0, told.0) ∷ told.1 → has_small_variants (front (after_region qs)) ≡ true
-        → after_identifier (small_identifier_result languages (head qs)) (tail_blocks qs) ≡ Err faults.InvalidExtension
-
-    by : (p : List ℕ) (qs : List (List ℕ)) → Found (p ∷ qs)
-    by p qs l e none =
-        let other : is_small_block (get_or b.window.now 0 0, told.0) told.1 ≡ false = no_u (get_or b.window.now 0 0, told.0) told.1 (no_letter_no_u (get_or b.window.now 0 0) no_letter) in
-        let fault : block_fault (get_or b.window.now 0 0, told.0) ≡ faults.InvalidExtension = unlettered_fault (get_or b.window.now 0 0, told.0) no_letter in
-        (λ j. after_identifier (small_head p qs l none j) (e j))
-        ∙ (λ j. if other j then Ok (record { id = small_identifier (identifier_of (p ∷ front qs)); keyword = Some (keyword_read told.0) }) else Err (fault j))

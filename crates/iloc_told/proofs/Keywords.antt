@@ -14,10 +14,12 @@ use Rattle.iloc_told.specs.declared.subdivisions.Keyword.{Keyword}
 use Rattle.iloc_told.specs.declared.subdivisions.Keyword.TheVariants as keywords
 use Rattle.iloc_told.proofs.Behind.{named_pieces, unnamed_pieces}
 
-pub keyword_named : (key m : Left) → IsWord UnicodeKey (piece_left key) → IsOnly key m → (k : Keyword) → IsNamedBy key m k
+pub keyword_named : (key m : Left) → IsWord UnicodeKey (piece_left key) → IsOnly key m → (k : Keyword)
+    → IsNamedBy key m k
     → IsKeywordRead key k
 keyword_named key m w h keywords.Misfit n = absurd n
-keyword_named key m w h keywords.Unnamed (inl other) = unnamed_pieces (pieces_left key) w h.small (inl other)
+keyword_named key m w h keywords.Unnamed (inl other) =
+    unnamed_pieces (pieces_left key) w h.small (inl other)
 keyword_named key m w h keywords.Unnamed (inr none) =
     unnamed_pieces (pieces_left key) w h.small
     (inr (ap (λ vs. option_and_then named_subdivision (first_item vs)) h.value ∙ none))

@@ -14,7 +14,8 @@ use Rattle.iloc_told.specs.declared.subdivisions.Value.{Value}
 use Rattle.iloc_told.proofs.Texts as texts
 
 -- a region that is nowhere is none
-no_region : (w : Text) (end : ℕ) (o : Option Text) → IfSome o (IsWord Region) → (at : ℕ) → at ≡ end → IsRegionStart w end o at → o ≡ None
+no_region : (w : Text) (end : ℕ) (o : Option Text) → IfSome o (IsWord Region) → (at : ℕ) → at ≡ end
+    → IsRegionStart w end o at → o ≡ None
 no_region w end None h at e s = refl
 no_region w end (Some r) h at e s = let l = length-region r h in let n = s.0 in absurd (omega arith)
 
@@ -25,7 +26,8 @@ pub record Given (w : Text) (end at : ℕ) (o : Option Text) : Type 0 where
   pub bytes : bytes_at w at (end - at) ≡ region
 
 -- one that is somewhere is there
-some_region : (w : Text) (end : ℕ) (o : Option Text) → IfSome o (IsWord Region) → (at : ℕ) → at ≢ end → IsRegionStart w end o at
+some_region : (w : Text) (end : ℕ) (o : Option Text) → IfSome o (IsWord Region) → (at : ℕ) → at ≢ end
+    → IsRegionStart w end o at
     → Given w end at o
 some_region w end None h at e s = absurd (e s)
 some_region w end (Some r) h at e s = record { region = r; is = refl; word = h; bytes = s.1 }
@@ -47,52 +49,65 @@ module _ (w : Text) (len : ℕ) (h : Head) (v : Value) (d : DataLocale) (x : Has
   module _ (start : ℕ) (found : IsRegionStart w h.front.end i.region start) where
     -- no region
     module _ (e : start ≡ h.front.end) (put : Text)
-        (written : put ≡ (front_text h.front.script h.front.region (take h.front.end w) ++ 45 ∷ upper (bytes_at w v.at v.region))
+        (written : put ≡ (front_text h.front.script h.front.region (take h.front.end w) ++ 45 ∷ upper
+        (bytes_at w v.at v.region))
         ++ lower (bytes_at w h.front.end (h.end - h.front.end))) where
       none : i.region ≡ None
       none = no_region w h.front.end i.region x.head.words.region start e found
 
-      put_is : put ≡ (join (front_pieces (normal_identifier i)) ++ 45 ∷ s.region) ++ dashes (map lower i.variants)
+      put_is : put ≡ (join (front_pieces (normal_identifier i)) ++ 45 ∷ s.region) ++ dashes
+          (map lower i.variants)
       put_is = written ∙ (λ j. (x.head.printed j ++ 45 ∷ sym x.names.region j) ++ x.head.variant j)
 
-      pub put_whole : (is : Bool) → is ≡ is_same (lower (bytes_at w (v.at + v.region) (v.len - v.region))) whole → is ≡ true
+      pub put_whole : (is : Bool)
+          → is ≡ is_same (lower (bytes_at w (v.at + v.region) (v.len - v.region))) whole → is ≡ true
           → put ≡ data_text d
       put_whole is same holds =
-          put_is ∙ sym (texts.inserted i x.head.few b s x.names.names x.names.other none (whole_is ∙ sym same ∙ holds))
+          put_is ∙ sym (texts.inserted i x.head.few b s x.names.names x.names.other none (whole_is
+          ∙ sym same ∙ holds))
           ∙ ap data_text (sym x.is)
 
-      pub put_part : (is : Bool) → is ≡ is_same (lower (bytes_at w (v.at + v.region) (v.len - v.region))) whole → is ≡ false
+      pub put_part : (is : Bool)
+          → is ≡ is_same (lower (bytes_at w (v.at + v.region) (v.len - v.region))) whole → is ≡ false
           → (all : Text) → all ≡ (put ++ codes "-u-sd-") ++ lower b → all ≡ data_text d
       put_part is same holds all parts =
-          parts ∙ append_assoc put (codes "-u-sd-") (lower b) ∙ ap (λ t. t ++ (codes "-u-sd-" ++ lower b)) put_is
-          ∙ sym (texts.inserted_kept i x.head.few b s x.names.names x.names.other none (whole_is ∙ sym same ∙ holds))
+          parts ∙ append_assoc put (codes "-u-sd-") (lower b)
+          ∙ ap (λ t. t ++ (codes "-u-sd-" ++ lower b)) put_is
+          ∙ sym (texts.inserted_kept i x.head.few b s x.names.names x.names.other none (whole_is
+          ∙ sym same ∙ holds))
           ∙ ap data_text (sym x.is)
 
     -- a region
-    module _ (e : start ≢ h.front.end) (region : Text) (bytes : region ≡ upper (bytes_at w start (h.front.end - start))) where
+    module _ (e : start ≢ h.front.end) (region : Text) (bytes : region ≡ upper (bytes_at w start
+        (h.front.end - start))) where
       given : Given w h.front.end start i.region
       given = some_region w h.front.end i.region x.head.words.region start e found
 
       region_is : region ≡ upper given.region
       region_is = bytes ∙ ap upper given.bytes
 
-      same_is : (agrees : Bool) → agrees ≡ is_same region (upper (bytes_at w v.at v.region)) → is_same (upper given.region) s.region ≡ agrees
+      same_is : (agrees : Bool) → agrees ≡ is_same region (upper (bytes_at w v.at v.region))
+          → is_same (upper given.region) s.region ≡ agrees
       same_is agrees a = (λ j. is_same (sym region_is j) (x.names.region j)) ∙ sym a
 
       pub put_head : (agrees is : Bool) → agrees ≡ is_same region (upper (bytes_at w v.at v.region))
-          → is ≡ is_same (lower (bytes_at w (v.at + v.region) (v.len - v.region))) whole → (agrees ≡ false) ⊎ (is ≡ true)
+          → is ≡ is_same (lower (bytes_at w (v.at + v.region) (v.len - v.region))) whole
+          → (agrees ≡ false) ⊎ (is ≡ true)
           → (put : Text) → put ≡ front_text h.front.script h.front.region (take h.end w) → put ≡ data_text d
       put_head agrees is a same differs put written =
           written ∙ x.head.whole
-          ∙ sym (texts.dropped i x.head.few b s x.names.names x.names.other given.region given.is given.word (by differs))
+          ∙ sym (texts.dropped i x.head.few b s x.names.names x.names.other given.region given.is
+          given.word (by differs))
           ∙ ap data_text (sym x.is)
         where
-          by : (agrees ≡ false) ⊎ (is ≡ true) → (is_same (upper given.region) s.region ≡ false) ⊎ (is_whole s ≡ true)
+          by : (agrees ≡ false) ⊎ (is ≡ true) → (is_same (upper given.region) s.region ≡ false)
+              ⊎ (is_whole s ≡ true)
           by (inl other) = inl (same_is agrees a ∙ other)
           by (inr all) = inr (whole_is ∙ sym same ∙ all)
 
       pub put_all : (agrees is : Bool) → agrees ≡ is_same region (upper (bytes_at w v.at v.region))
-          → is ≡ is_same (lower (bytes_at w (v.at + v.region) (v.len - v.region))) whole → agrees ≡ true → is ≡ false
+          → is ≡ is_same (lower (bytes_at w (v.at + v.region) (v.len - v.region))) whole → agrees ≡ true
+          → is ≡ false
           → (put : Text) → put ≡ front_text h.front.script h.front.region (take h.end w)
           → (all : Text) → all ≡ (put ++ codes "-u-sd-") ++ lower b → all ≡ data_text d
       put_all agrees is a same agree part put written all parts =

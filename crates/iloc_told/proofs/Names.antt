@@ -44,14 +44,16 @@ sd_of (a ∷ []) e = absurd (omega arith)
 sd_of (a ∷ b ∷ c ∷ p) e = absurd (omega arith)
 
 -- a key is `sd` if its two bytes are
-pub sd_is : {l : Left} → IsRemainder l → IsWord UnicodeKey (piece_left l) → is_same (lower (piece_left l)) (codes "sd")
+pub sd_is : {l : Left} → IsRemainder l → IsWord UnicodeKey (piece_left l)
+    → is_same (lower (piece_left l)) (codes "sd")
     ≡ ((to_ascii_lowercase (get_or l.window.now l.at 0) == 115)
     && (to_ascii_lowercase (get_or l.window.now (l.at + 1) 0) == 100))
 sd_is {l = l} h k =
     let two = length-unicode_key (piece_left l) k in
     sd_of (piece_left l) two
     ∙ ap₂ (λ u v. (to_ascii_lowercase u == 115) && (to_ascii_lowercase v == 100))
-    (piece_byte h 0 (omega arith) ∙ ap (λ i. get_or l.window.now i 0) (omega arith)) (piece_byte h 1 (omega arith))
+    (piece_byte h 0 (omega arith)
+    ∙ ap (λ i. get_or l.window.now i 0) (omega arith)) (piece_byte h 1 (omega arith))
 
 -- ---- a region and a suffix
 
@@ -70,7 +72,11 @@ named_parts v k r x =
     ap subdivision same
     ∙ subdivision_back s (record {
       region = (is_word-normal Region (take k v) ∙ r, normal-normal Region (take k v));
-      suffix = (is_word-normal SubdivisionSuffix (drop k v) ∙ x, normal-normal SubdivisionSuffix (drop k v));
+      suffix = (
+        is_word-normal SubdivisionSuffix (drop k v)
+            ∙ x,
+        normal-normal SubdivisionSuffix (drop k v),
+      );
     })
 
 lower_take : (k : ℕ) (v : Text) → take k (lower v) ≡ lower (take k v)
@@ -87,7 +93,8 @@ lower_drop (suc k) (c ∷ v) = lower_drop k v
 
 -- no region, or no suffix
 pub unnamed : (v : Text) → EndsRegion v 0 → named_subdivision (lower v) ≡ None
-unnamed v none = by (is_word Subtag t) (is_word Region (take k t)) (is_word SubdivisionSuffix (drop k t)) lowered
+unnamed v none = by (is_word Subtag t) (is_word Region (take k t)) (is_word SubdivisionSuffix
+    (drop k t)) lowered
   where
     t : Text
     t = lower v
@@ -96,7 +103,8 @@ unnamed v none = by (is_word Subtag t) (is_word Region (take k t)) (is_word Subd
     k = region_length (lower v)
 
     read_as : Bool → Bool → Bool → Option Subdivision
-    read_as s x y = result_ok (if s then ok_or (both_words (if x then Some (normal Region (take k t)) else None)
+    read_as s x y = result_ok (if s then ok_or (both_words (if x then Some (normal Region
+        (take k t)) else None)
         (if y then Some (normal SubdivisionSuffix (drop k t)) else None)) faults.InvalidExtension
         else Err faults.InvalidSubtag)
 
@@ -122,7 +130,8 @@ abbrev bit : ℕ → ℕ
 bit b = cond (is_ascii_alphabetic b) 0 1
 
 low_bit : (b : ℕ) → bit b ≤ 1
-low_bit b = elim (is_ascii_alphabetic b) as (λ (a : Bool). cond a 0 1 ≤ 1) [ true ↦ omega arith | false ↦ omega arith ]
+low_bit b = elim (is_ascii_alphabetic b) as (λ
+    (a : Bool). cond a 0 1 ≤ 1) [ true ↦ omega arith | false ↦ omega arith ]
 
 -- by the first bit the region is letters or digits
 low_letter : (c : ℕ) → is_ascii_alphabetic (to_ascii_lowercase c) ≡ is_ascii_alphabetic c
@@ -171,13 +180,15 @@ module _ (a b c : ℕ) (q : Text) (all : letters_or_digits (a ∷ b ∷ c ∷ q)
   pub two_letters : shape_of p % 2 ≡ 0 → region_length (lower p) ≡ 2
   unfolding lower
   two_letters e =
-      let l : is_ascii_alphabetic a ≡ true = letter_of a (bit b + 2 * (bit c + 2 * bits q)) (ap (λ n. n % 2) (sym whole) ∙ e) in
+      let l : is_ascii_alphabetic a ≡ true =
+      letter_of a (bit b + 2 * (bit c + 2 * bits q)) (ap (λ n. n % 2) (sym whole) ∙ e) in
       ap (λ (x : Bool). if x then 2 else 3) (low_letter a ∙ l)
 
   pub three_digits : shape_of p % 2 ≢ 0 → region_length (lower p) ≡ 3
   unfolding lower
   three_digits e =
-      let l : is_ascii_alphabetic a ≡ false = digit_of a (bit b + 2 * (bit c + 2 * bits q)) (λ z. e (ap (λ n. n % 2) whole ∙ z)) in
+      let l : is_ascii_alphabetic a ≡ false =
+      digit_of a (bit b + 2 * (bit c + 2 * bits q)) (λ z. e (ap (λ n. n % 2) whole ∙ z)) in
       ap (λ (x : Bool). if x then 2 else 3) (low_letter a ∙ l)
 
   pub front_two : shape_of (take 2 p) ≡ shape_of p % 4 + 4
@@ -200,7 +211,8 @@ module _ (a b c : ℕ) (q : Text) (all : letters_or_digits (a ∷ b ∷ c ∷ q)
   pub front_three : shape_of (take 3 p) ≡ shape_of p % 8 + 8
   unfolding bits
   front_three =
-      let words : letters_or_digits (a ∷ b ∷ c ∷ []) ≡ true = λ j. first j && (second j && (third j && true)) in
+      let words : letters_or_digits (a ∷ b ∷ c ∷ []) ≡ true =
+      λ j. first j && (second j && (third j && true)) in
       let x = low_bit a in let y = low_bit b in let z = low_bit c in
       let is = shape_is (a ∷ b ∷ c ∷ []) words in
       let w = whole in
@@ -249,16 +261,18 @@ module _ (p : Text) (k : ℕ) (at : region_length (lower p) ≡ k) where
   no_region e = ap both at ∙ ap (λ (b : Bool). b && is_word SubdivisionSuffix (drop k p)) e
 
   pub no_suffix : is_word SubdivisionSuffix (drop k p) ≡ false → EndsRegion p 0
-  no_suffix e = ap both at ∙ ap (λ (b : Bool). is_word Region (take k p) && b) e ∙ and-false (is_word Region (take k p))
+  no_suffix e = ap both at ∙ ap (λ (b : Bool). is_word Region (take k p) && b) e
+      ∙ and-false (is_word Region (take k p))
 
 -- ---- what a word names
 
 two_or_three : (t : Text) → (2 ≤ region_length t) × (region_length t ≤ 3)
 two_or_three [] = (omega arith, omega arith)
-two_or_three (c ∷ t) = elim (is_ascii_alphabetic c) as (λ (b : Bool). (2 ≤ (if b then 2 else 3)) × ((if b then 2 else 3) ≤ 3)) [
-  | true ↦ (omega arith, omega arith)
-  | false ↦ (omega arith, omega arith)
-]
+two_or_three (c ∷ t) = elim (is_ascii_alphabetic c) as (λ (b : Bool). (2 ≤ (if b then 2 else 3))
+    × ((if b then 2 else 3) ≤ 3)) [
+      | true ↦ (omega arith, omega arith)
+      | false ↦ (omega arith, omega arith)
+    ]
 
 module _ (m : Left) (left : IsRemainder m) (word : IsWord Attribute (piece_left m)) where
   short : IsShortPiece (piece_left m)

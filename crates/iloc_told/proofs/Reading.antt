@@ -39,7 +39,8 @@ unfolding blocks_result
 alone_is r = refl
 
 single_starts : (t : Text) → is_one_byte (first_piece (pieces t)) ≡ true → starts_block (pieces t) ≡ true
-single_starts t = at_pieces (λ ps. is_one_byte (first_piece ps) ≡ true → starts_block ps ≡ true) (λ p ps e. e) t
+single_starts t = at_pieces (λ ps. is_one_byte (first_piece ps) ≡ true
+    → starts_block ps ≡ true) (λ p ps e. e) t
 
 first_and_rest : (t : Text) → pieces t ≡ first_piece (pieces t) ∷ rest_of (pieces t)
 first_and_rest t = at_pieces (λ ps. ps ≡ first_piece ps ∷ rest_of ps) (λ p ps. refl) t
@@ -49,7 +50,8 @@ refusal t f e = refused (HasDataFault languages t) f (error_of f) refl (data_fau
 
 -- ---- a block behind the head
 
-module _ (w : Text) (len : ℕ) (language : BeginsWithLanguage (take len w)) (vs : List Text) (variants : AreVariants vs)
+module _ (w : Text) (len : ℕ) (language : BeginsWithLanguage (take len w)) (vs : List Text)
+    (variants : AreVariants vs)
     (few : length vs ≤ 1) (h : Head) (head : IsHead w h (head_with (pieces (take len w)) vs)) where
   abbrev t : Text
   t = take len w
@@ -69,8 +71,10 @@ module _ (w : Text) (len : ℕ) (language : BeginsWithLanguage (take len w)) (vs
   module _ (k : Left) (cut : after_region (pieces t) ≡ vs ++ pieces_left k) (window : k.window.now ≡ w)
       (at : k.at ≡ h.end + 1) (end : k.at + k.len ≡ len)
       (odd : ((vs ≡ []) × (is_word Variant (piece_left k) ≡ false)) ⊎ (length vs ≡ 1)) where
-    by_block : is_one_byte (piece_left k) ≡ true → data_result languages t ≡ data_behind (small_identifier i) (pieces_left k)
-    by_block single = meant t language vs (pieces_left k) cut variants few (single_starts (bytes_left k) single)
+    by_block : is_one_byte (piece_left k) ≡ true
+        → data_result languages t ≡ data_behind (small_identifier i) (pieces_left k)
+    by_block single = meant t language vs (pieces_left k) cut variants few (single_starts
+        (bytes_left k) single)
 
     pub read_on : (d : Data) → IsBlockRead h k d → IsDataRead w len d
     read_on (datas.Head j) r = absurd r
@@ -94,7 +98,8 @@ module _ (w : Text) (len : ℕ) (language : BeginsWithLanguage (take len w)) (vs
         )
     read_on (datas.Refused e) (inl (longer, is)) =
         subst (HasRefusal modes.Data t) (sym is)
-        (refusal t InvalidSubtag (misfit t language vs (pieces_left k) cut variants (piece_left k) (rest_of (pieces_left k))
+        (refusal t InvalidSubtag (misfit t language vs (pieces_left k) cut variants (piece_left k)
+        (rest_of (pieces_left k))
         (first_and_rest (bytes_left k)) longer odd))
     read_on (datas.Refused e) (inr (single, (f, is, means))) =
         subst (HasRefusal modes.Data t) (sym is)
@@ -102,7 +107,8 @@ module _ (w : Text) (len : ℕ) (language : BeginsWithLanguage (take len w)) (vs
 
 -- ---- the head
 
-module _ (w : Text) (len : ℕ) (inside : len ≤ length w) (language : BeginsWithLanguage (take len w)) (l : Left)
+module _ (w : Text) (len : ℕ) (inside : len ≤ length w) (language : BeginsWithLanguage (take len w))
+    (l : Left)
     (left : IsRemainder l) (rest : bytes_left l ≡ take len w) (first : l.at ≡ 0) (size : l.len ≡ len)
     (window : l.window.now ≡ w) (m : Left) (f : Front) (read : IsFrontRead l m f) where
   abbrev u : Text
@@ -125,9 +131,11 @@ module _ (w : Text) (len : ℕ) (inside : len ≤ length w) (language : BeginsWi
       sym (take-take f.end len w few) ∙ ap (take f.end) (sym whole) ∙ read.text first
       ∙ ap (λ ps. join (front_pieces (front_of ps))) same
 
-  front_printed : front_text f.script f.region (take f.end w) ≡ join (front_pieces (normal_identifier (front_of (pieces u))))
+  front_printed : front_text f.script f.region (take f.end w) ≡ join (front_pieces (normal_identifier
+      (front_of (pieces u))))
   front_printed =
-      ap (front_text f.script f.region) (sym (take-take f.end len w few) ∙ ap (take f.end) (sym whole)) ∙ read.printed first
+      ap (front_text f.script f.region) (sym (take-take f.end len w few) ∙ ap (take f.end) (sym whole))
+      ∙ read.printed first
       ∙ ap (λ ps. join (front_pieces (normal_identifier (front_of ps)))) same
 
   long : f.end ≡ length (join fs)
@@ -139,7 +147,8 @@ module _ (w : Text) (len : ℕ) (inside : len ≤ length w) (language : BeginsWi
       → IsHead w (record { front = f; end = f.end }) (head_with (pieces u) [])
   front_head rs cut =
       head_printed w (record { front = f; end = f.end }) (head_with (pieces u) [])
-      (words_with u language [] rs cut tt) (omega arith) (omega arith) (omega (arith, few, inside)) front_bytes front_printed
+      (words_with u language [] rs cut tt) (omega arith) (omega arith) (omega
+      (arith, few, inside)) front_bytes front_printed
       (read.within first) (sym (append-nil (take f.end w)))
 
   -- it is all of the text
@@ -185,7 +194,8 @@ module _ (w : Text) (len : ℕ) (inside : len ≤ length w) (language : BeginsWi
     pieces_there = ap after_region (sym same) ∙ sym after.1
 
     text_there : u ≡ join fs ++ 45 ∷ bytes_left m
-    text_there = sym rest ∙ past.rest (λ e. cc) ∙ ap (λ ps. join (front_pieces (front_of ps)) ++ 45 ∷ bytes_left m) same
+    text_there = sym rest ∙ past.rest (λ e. cc)
+        ∙ ap (λ ps. join (front_pieces (front_of ps)) ++ 45 ∷ bytes_left m) same
 
     -- a variant
     module _ (word : IsWord Variant (piece_left m)) where
@@ -206,15 +216,19 @@ module _ (w : Text) (len : ℕ) (inside : len ≤ length w) (language : BeginsWi
 
       cut_there : take (m.at + m.n) w ≡ take f.end w ++ (45 ∷ v) ++ []
       cut_there =
-          let reach : m.at + m.n ≡ length (join fs) + suc (length v) = omega (arith, at_front, long, size_there) in
+          let reach : m.at + m.n ≡ length (join fs) + suc (length v) =
+          omega (arith, at_front, long, size_there) in
           sym (take-take (m.at + m.n) len w within_there) ∙ ap (take (m.at + m.n)) text_there
           ∙ ap (λ (n : ℕ). take n (join fs ++ 45 ∷ bytes_left m)) reach
           ∙ take-append-add (join fs) (45 ∷ bytes_left m) (suc (length v))
           ∙ (λ j. sym front_bytes j ++ 45 ∷ begins (bytes_left m) j)
           ∙ sym (append-nil (take f.end w ++ 45 ∷ v))
 
-      pub varied_head : (rs : List Text) → after_region (pieces u) ≡ (v ∷ []) ++ rs → IsHead w varied (head_with (pieces u) (v ∷ []))
+      pub varied_head : (rs : List Text) → after_region (pieces u) ≡ (v ∷ []) ++ rs
+          → IsHead w varied (head_with (pieces u) (v ∷ []))
       varied_head rs cut =
-          head_printed w varied (head_with (pieces u) (v ∷ [])) (words_with u language (v ∷ []) rs cut (word, tt)) (omega arith)
-          (omega (arith, at_front)) (omega (arith, within_there, inside)) front_bytes front_printed (read.within first)
+          head_printed w varied (head_with (pieces u) (v ∷ [])) (words_with u language (v ∷ []) rs cut
+          (word, tt)) (omega arith)
+          (omega (arith, at_front)) (omega (arith, within_there, inside)) front_bytes front_printed
+          (read.within first)
           (cut_there ∙ append_assoc (take f.end w) (45 ∷ v) [])

@@ -42,10 +42,13 @@ script_letters p h = (and_parts (length p == 4) (list_all is_ascii_alphabetic p)
 region_bytes : (p : Text) → IsWord Region p → ((length p ≡ 2) × (list_all is_ascii_alphabetic p ≡ true))
     ⊎ ((length p ≡ 3) × (list_all is_ascii_digit p ≡ true))
 unfolding is_word
-region_bytes p h = elim (or_cases ((length p == 2) && list_all is_ascii_alphabetic p) ((length p == 3) && list_all is_ascii_digit p) h) [
-  | inl a ↦ let parts = and_parts (length p == 2) (list_all is_ascii_alphabetic p) a in inl (eqb-true _ _ parts.0, parts.1)
-  | inr a ↦ let parts = and_parts (length p == 3) (list_all is_ascii_digit p) a in inr (eqb-true _ _ parts.0, parts.1)
-]
+region_bytes p h = elim (or_cases ((length p == 2) && list_all is_ascii_alphabetic p)
+    ((length p == 3) && list_all is_ascii_digit p) h) [
+      | inl a ↦ let parts = and_parts (length p == 2) (list_all is_ascii_alphabetic p) a in inl
+          (eqb-true _ _ parts.0, parts.1)
+      | inr a ↦ let parts = and_parts (length p == 3) (list_all is_ascii_digit p) a in inr
+          (eqb-true _ _ parts.0, parts.1)
+    ]
 
 -- bytes behind others
 behind_at : (a b : Text) (k : ℕ) → get_or (a ++ b) (length a + k) 0 ≡ get_or b k 0
@@ -58,25 +61,31 @@ record NoRegion (t : Text) : Type 0 where
   digit : is_ascii_digit (get_or t (length t - 1) 0) ≡ false
 
 -- letters end it, three at least
-letters_end : (a b : Text) → list_all is_ascii_alphabetic b ≡ true → 2 ≤ length b → (3 ≤ length (a ++ b) → 3 ≤ length b) → NoRegion (a ++ b)
+letters_end : (a b : Text) → list_all is_ascii_alphabetic b ≡ true → 2 ≤ length b → (3 ≤ length (a ++ b)
+    → 3 ≤ length b) → NoRegion (a ++ b)
 letters_end a b h some long = record {
   hyphen = λ l. let n = long l in
-      let at : length (a ++ b) - 3 ≡ length a + (length b - 3) = (let e = length-append a b in omega arith) in
-      λ e. no_hyphen (get_or b (length b - 3) 0) (all_at is_ascii_alphabetic b (length b - 3) h (omega arith))
+      let at : length (a ++ b) - 3 ≡ length a + (length b - 3) = (let e =
+      length-append a b in omega arith) in
+      λ e. no_hyphen (get_or b (length b - 3) 0) (all_at is_ascii_alphabetic b (length b - 3) h
+      (omega arith))
       (sym (behind_at a b (length b - 3)) ∙ ap (λ k. get_or (a ++ b) k 0) (sym at) ∙ e);
-  digit = let at : length (a ++ b) - 1 ≡ length a + (length b - 1) = (let e = length-append a b in omega arith) in
+  digit = let at : length (a ++ b) - 1 ≡ length a + (length b - 1) = (let e =
+      length-append a b in omega arith) in
       ap (λ k. is_ascii_digit (get_or (a ++ b) k 0)) at ∙ ap is_ascii_digit (behind_at a b (length b - 1))
       ∙ no_digit (get_or b (length b - 1) 0) (all_at is_ascii_alphabetic b (length b - 1) h (omega arith));
 }
 
-no_region : (l : Text) (s : Option Text) → IsWord (Language languages) l → IfSome s (IsWord Script) → NoRegion (join (l ∷ option_to_list s))
+no_region : (l : Text) (s : Option Text) → IsWord (Language languages) l → IfSome s (IsWord Script)
+    → NoRegion (join (l ∷ option_to_list s))
 unfolding join
 no_region l None h g =
     let n = languages_table.least _ (length-language languages l h) in
     letters_end [] l (language_letters l h) n (λ m. m)
 no_region l (Some s) h g =
     let n = length-script s g in
-    subst NoRegion (append_hyphen l s) (letters_end (l ++ 45 ∷ []) s (script_letters s g) (omega arith) (λ m. omega arith))
+    subst NoRegion (append_hyphen l s) (letters_end (l ++ 45 ∷ []) s (script_letters s g) (omega arith)
+    (λ m. omega arith))
   where
     append_hyphen : (l s : Text) → (l ++ 45 ∷ []) ++ s ≡ l ++ 45 ∷ s
     append_hyphen [] s = refl
@@ -102,10 +111,12 @@ region_end a r =
     past [] = refl
     past (c ∷ a) = past a
 
-with_region : (l r : Text) (s : Option Text) → WithRegion (join (l ∷ (option_to_list s ++ option_to_list (Some r)))) r
+with_region : (l r : Text) (s : Option Text)
+    → WithRegion (join (l ∷ (option_to_list s ++ option_to_list (Some r)))) r
 with_region l r s =
     subst (λ t. WithRegion t r)
-    (sym (join-append l (option_to_list s) (r ∷ []) ∙ ap (λ t. join (l ∷ option_to_list s) ++ 45 ∷ t) (append-nil r)))
+    (sym (join-append l (option_to_list s) (r ∷ [])
+    ∙ ap (λ t. join (l ∷ option_to_list s) ++ 45 ∷ t) (append-nil r)))
     (region_end (join (l ∷ option_to_list s)) r)
 
 -- ---- the bytes of a window
@@ -119,13 +130,15 @@ module _ (w : Text) (end : ℕ) (inside : end ≤ length w) (i : SpelledIdentifi
   byte k l = get_or-take end w k 0 l
 
   none : i.region ≡ None → NoRegion (take end w)
-  none e = subst NoRegion (sym (is ∙ ap (λ (r : Option Text). join (i.language ∷ (option_to_list i.script ++ option_to_list r))) e
+  none e = subst NoRegion (sym (is
+      ∙ ap (λ (r : Option Text). join (i.language ∷ (option_to_list i.script ++ option_to_list r))) e
       ∙ ap (λ ps. join (i.language ∷ ps)) (append-nil (option_to_list i.script))))
       (no_region i.language i.script words.language words.script)
 
   some : (r : Text) → i.region ≡ Some r → WithRegion (take end w) r
   some r e = subst (λ t. WithRegion t r)
-      (sym (is ∙ ap (λ (r : Option Text). join (i.language ∷ (option_to_list i.script ++ option_to_list r))) e))
+      (sym (is ∙ ap (λ (r : Option Text). join (i.language ∷
+      (option_to_list i.script ++ option_to_list r))) e))
       (with_region i.language r i.script)
 
   is_region : (r : Text) → i.region ≡ Some r → IsWord Region r
@@ -136,7 +149,8 @@ module _ (w : Text) (end : ℕ) (inside : end ≤ length w) (i : SpelledIdentifi
   absent at e n = subst (λ (o : Option Text). IsRegionStart w end o at) (sym n) e
 
   -- this region
-  present : (r : Text) → i.region ≡ Some r → (at : ℕ) → at + length r ≡ end → IsRegionStart w end i.region at
+  present : (r : Text) → i.region ≡ Some r → (at : ℕ) → at + length r ≡ end
+      → IsRegionStart w end i.region at
   present r n at e =
       let h = some r n in
       let from : length (take end w) - length r ≡ at = (let s = size in omega arith) in
@@ -156,14 +170,16 @@ module _ (w : Text) (end : ℕ) (inside : end ≤ length w) (i : SpelledIdentifi
       let at : length (take end w) - length r - 1 ≡ end - 3 = omega arith in
       sym (byte (end - 3) (omega arith)) ∙ ap (λ k. get_or (take end w) k 0) (sym at) ∙ h.hyphen
 
-  digit_there : (r : Text) → i.region ≡ Some r → length r ≡ 3 → list_all is_ascii_digit r ≡ true → (k : ℕ) → k < 3
+  digit_there : (r : Text) → i.region ≡ Some r → length r ≡ 3 → list_all is_ascii_digit r ≡ true
+      → (k : ℕ) → k < 3
       → is_ascii_digit (get_or w (end - 3 + k) 0) ≡ true
   digit_there r n three digits k l =
       let h = some r n in
       let m = h.long in
       let s = size in
       let from : length (take end w) - length r ≡ end - 3 = omega arith in
-      ap is_ascii_digit (sym (byte (end - 3 + k) (omega arith)) ∙ sym (get_or-drop (end - 3) (take end w) k 0)
+      ap is_ascii_digit (sym (byte (end - 3 + k) (omega arith))
+      ∙ sym (get_or-drop (end - 3) (take end w) k 0)
       ∙ ap (λ (j : ℕ). get_or (drop j (take end w)) k 0) (sym from) ∙ ap (λ t. get_or t k 0) h.bytes)
       ∙ all_at is_ascii_digit r k digits (omega arith)
 
@@ -174,7 +190,8 @@ module _ (w : Text) (end : ℕ) (inside : end ≤ length w) (i : SpelledIdentifi
       by : (o : Option Text) → i.region ≡ o → IsRegionStart w end i.region end
       by None n = absent end refl n
       by (Some r) n =
-          let h = some r n in let l = h.long in let m = length-region r (is_region r n) in let s = size in absurd (omega arith)
+          let h = some r n in let l = h.long in let m = length-region r (is_region r n) in let s =
+          size in absurd (omega arith)
 
   pub by_hyphen : 3 ≤ end → get_or w (end - 3) 0 ≡ 45 → IsRegionStart w end i.region (end - 2)
   by_hyphen least e = by i.region refl
@@ -183,12 +200,14 @@ module _ (w : Text) (end : ℕ) (inside : end ≤ length w) (i : SpelledIdentifi
       by None n =
           let s = size in
           let at : length (take end w) - 3 ≡ end - 3 = omega arith in
-          absurd ((none n).hyphen (omega arith) (ap (λ k. get_or (take end w) k 0) at ∙ byte (end - 3) (omega arith) ∙ e))
+          absurd ((none n).hyphen (omega arith) (ap (λ k. get_or (take end w) k 0) at
+          ∙ byte (end - 3) (omega arith) ∙ e))
       by (Some r) n = elim (region_bytes r (is_region r n)) [
         | inl (two, letters) ↦ present r n (end - 2) (omega arith)
         | inr (three, digits) ↦
             let at : end - 3 + 0 ≡ end - 3 = omega arith in
-            absurd (digit_no_hyphen (get_or w (end - 3 + 0) 0) (digit_there r n three digits 0 (omega arith))
+            absurd (digit_no_hyphen (get_or w (end - 3 + 0) 0) (digit_there r n three digits 0
+            (omega arith))
             (ap (λ k. get_or w k 0) at ∙ e))
       ]
 
@@ -200,7 +219,8 @@ module _ (w : Text) (end : ℕ) (inside : end ≤ length w) (i : SpelledIdentifi
       by None n =
           let s = size in
           let at : length (take end w) - 1 ≡ end - 1 = omega arith in
-          absurd (true≢false (sym e ∙ ap is_ascii_digit (sym (byte (end - 1) (omega arith)) ∙ ap (λ k. get_or (take end w) k 0) (sym at))
+          absurd (true≢false (sym e ∙ ap is_ascii_digit (sym (byte (end - 1) (omega arith))
+          ∙ ap (λ k. get_or (take end w) k 0) (sym at))
           ∙ (none n).digit))
       by (Some r) n = elim (region_bytes r (is_region r n)) [
         | inl (two, letters) ↦ absurd (other (two_hyphen r n two))
@@ -217,5 +237,6 @@ module _ (w : Text) (end : ℕ) (inside : end ≤ length w) (i : SpelledIdentifi
         | inl (two, letters) ↦ absurd (other (two_hyphen r n two))
         | inr (three, digits) ↦
             let at : end - 3 + 2 ≡ end - 1 = omega arith in
-            absurd (true≢false (sym (digit_there r n three digits 2 (omega arith)) ∙ ap (λ k. is_ascii_digit (get_or w k 0)) at ∙ e))
+            absurd (true≢false (sym (digit_there r n three digits 2 (omega arith))
+            ∙ ap (λ k. is_ascii_digit (get_or w k 0)) at ∙ e))
       ]

@@ -44,7 +44,8 @@ one_more (p ∷ ps) e = by (one_more ps) (is_word Attribute p) refl (is_true (lo
     all : Bool → Bool
     all a = a && list_all (is_word Attribute) ps
 
-    by : (are_trues ps ≡ false → tests (list_all (is_word Attribute) ps) (length (normal_values ps)) ≡ false)
+    by : (are_trues ps ≡ false
+        → tests (list_all (is_word Attribute) ps) (length (normal_values ps)) ≡ false)
         → (a : Bool) → is_word Attribute p ≡ a → (t : Bool) → is_true (lower p) ≡ t
         → tests (list_all (is_word Attribute) (p ∷ ps)) (length (normal_values (p ∷ ps))) ≡ false
     by later false a t x = ap (λ (b : Bool). tests (all b) (length (normal_values (p ∷ ps)))) a
@@ -68,17 +69,21 @@ trues_first t = at_pieces (λ ps. are_trues ps
 abbrev test_of : Bool → Bool → ℕ → Bool
 test_of a b n = (a && b) && nat_le n 1
 
-small_none : (t : Text) → is_word Attribute (first_piece (pieces t)) ≡ false → has_small_value (pieces t) ≡ false
+small_none : (t : Text) → is_word Attribute (first_piece (pieces t)) ≡ false
+    → has_small_value (pieces t) ≡ false
 small_none t = at_pieces (λ ps. is_word Attribute (first_piece ps) ≡ false → has_small_value ps ≡ false)
-    (λ p ps e. ap (λ (b : Bool). test_of b (list_all (is_word Attribute) ps) (length (normal_values (p ∷ ps)))) e) t
+    (λ p ps e. ap (λ (b : Bool). test_of b (list_all (is_word Attribute) ps) (length (normal_values
+    (p ∷ ps)))) e) t
 
 module _ (t : Text) (word : IsWord Attribute (first_piece (pieces t))) where
   abbrev Same : List Text → Type 0
-  Same ps = (has_small_value ps ≡ has_small_value (rest_of ps)) × (normal_values ps ≡ normal_values (rest_of ps))
+  Same ps = (has_small_value ps ≡ has_small_value (rest_of ps))
+      × (normal_values ps ≡ normal_values (rest_of ps))
 
   -- it is `true`
   small_true : is_true (lower (first_piece (pieces t))) ≡ true → Same (pieces t)
-  small_true e = at_pieces (λ ps. IsWord Attribute (first_piece ps) → is_true (lower (first_piece ps)) ≡ true → Same ps)
+  small_true e = at_pieces (λ ps. IsWord Attribute (first_piece ps)
+      → is_true (lower (first_piece ps)) ≡ true → Same ps)
       (λ p ps w x. (
         λ j. test_of (w j) (list_all (is_word Attribute) ps) (length (values_true p ps x j)),
         values_true p ps x,
@@ -86,12 +91,15 @@ module _ (t : Text) (word : IsWord Attribute (first_piece (pieces t))) where
 
   -- it is another, and the last one that is
   small_only : is_true (lower (first_piece (pieces t))) ≡ false → are_trues (rest_of (pieces t)) ≡ true
-      → (has_small_value (pieces t) ≡ true) × (normal_values (pieces t) ≡ lower (first_piece (pieces t)) ∷ [])
-  small_only e r = at_pieces (λ ps. IsWord Attribute (first_piece ps) → is_true (lower (first_piece ps)) ≡ false
+      → (has_small_value (pieces t) ≡ true)
+      × (normal_values (pieces t) ≡ lower (first_piece (pieces t)) ∷ [])
+  small_only e r = at_pieces (λ ps. IsWord Attribute (first_piece ps)
+      → is_true (lower (first_piece ps)) ≡ false
       → are_trues (rest_of ps) ≡ true
       → (has_small_value ps ≡ true) × (normal_values ps ≡ lower (first_piece ps) ∷ [])) by t word e r
     where
-      by : (p : Text) (ps : List Text) → IsWord Attribute p → is_true (lower p) ≡ false → are_trues ps ≡ true
+      by : (p : Text) (ps : List Text) → IsWord Attribute p → is_true (lower p) ≡ false
+          → are_trues ps ≡ true
           → (has_small_value (p ∷ ps) ≡ true) × (normal_values (p ∷ ps) ≡ lower p ∷ [])
       by p ps w x all =
           let rest = all_trues ps all in
@@ -102,9 +110,11 @@ module _ (t : Text) (word : IsWord Attribute (first_piece (pieces t))) where
   -- others follow
   small_many : is_true (lower (first_piece (pieces t))) ≡ false → are_trues (rest_of (pieces t)) ≡ false
       → has_small_value (pieces t) ≡ false
-  small_many e r = at_pieces (λ ps. IsWord Attribute (first_piece ps) → is_true (lower (first_piece ps)) ≡ false
+  small_many e r = at_pieces (λ ps. IsWord Attribute (first_piece ps)
+      → is_true (lower (first_piece ps)) ≡ false
       → are_trues (rest_of ps) ≡ false → has_small_value ps ≡ false)
-      (λ p ps w x more. (λ j. test_of (w j) (list_all (is_word Attribute) ps) (length (values_other p ps x j)))
+      (λ p ps w x more. (λ j. test_of (w j) (list_all (is_word Attribute) ps) (length
+      (values_other p ps x j)))
       ∙ one_more ps more) t word e r
 
 -- ---- pieces that are passed
@@ -113,7 +123,8 @@ module _ (t : Text) (word : IsWord Attribute (first_piece (pieces t))) where
 pub behind : {l m : Left} → IsNextPiece l m → rest_of (pieces_left l) ≡ pieces_left m
 behind n = ap rest_of n.pieces
 
-module _ (word at m : Left) (same : are_trues (rest_of (pieces_left word)) ≡ are_trues (rest_of (pieces_left at)))
+module _ (word at m : Left) (same : are_trues (rest_of (pieces_left word)) ≡ are_trues (rest_of
+    (pieces_left at)))
     (n : IsNextPiece at m) where
   abbrev both : Bool → Bool → Bool
   both a b = (a && b) && are_trues (rest_of (pieces_left m))
@@ -160,7 +171,8 @@ reaches_key key h short = record {
 module _ (key at : Left) (h : Reaches key at) where
   -- nothing follows
   pub only_trues : pieces_left at ≡ piece_left at ∷ []
-      → (has_small_value (rest_of (pieces_left key)) ≡ true) × (normal_values (rest_of (pieces_left key)) ≡ [])
+      → (has_small_value (rest_of (pieces_left key)) ≡ true)
+      × (normal_values (rest_of (pieces_left key)) ≡ [])
   only_trues e =
       (h.small ∙ ap has_small_value (ap rest_of e), h.values ∙ ap normal_values (ap rest_of e))
 
@@ -172,7 +184,8 @@ module _ (key at : Left) (h : Reaches key at) where
     values_behind = h.values ∙ ap normal_values (behind n)
 
     -- a piece that is none of a value
-    pub misfit : is_word Attribute (piece_left m) ≡ false → has_small_value (rest_of (pieces_left key)) ≡ false
+    pub misfit : is_word Attribute (piece_left m) ≡ false
+        → has_small_value (rest_of (pieces_left key)) ≡ false
     misfit e = small_behind ∙ small_none (bytes_left m) e
 
     module _ (word : IsWord Attribute (piece_left m)) where
@@ -191,7 +204,8 @@ module _ (key at : Left) (h : Reaches key at) where
           }
 
       -- another, with only `true` behind it
-      pub only_one : is_true (lower (piece_left m)) ≡ false → are_trues (rest_of (pieces_left m)) ≡ true → IsOnly key m
+      pub only_one : is_true (lower (piece_left m)) ≡ false → are_trues (rest_of (pieces_left m)) ≡ true
+          → IsOnly key m
       only_one e r =
           let both = small_only (bytes_left m) word e r in
           let next = next_at h.left n in record {

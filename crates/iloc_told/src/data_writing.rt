@@ -48,7 +48,9 @@ fn region_of(window: &[u8], value: &Value) -> ShortPiece
     ensures { result ≡ upper (bytes_at window.now value.now.at value.now.region) }
 {
     let end = value.at + value.region;
-    ShortPiece::of(&window[value.at..end]).unwrap().to_ascii_uppercase()
+    ShortPiece::of(&window[value.at..end])
+        .unwrap()
+        .to_ascii_uppercase()
 }
 
 // Whether it is all of its region.
@@ -144,7 +146,9 @@ fn write_named(window: &[u8], len: usize, head: &Head, value: &Value, to: &mut [
         return put_keyword(window, value, to, end);
     }
     put_front(window, &head.front, head.end, to);
-    let region = ShortPiece::of(&window[start..front]).unwrap().to_ascii_uppercase();
+    let region = ShortPiece::of(&window[start..front])
+        .unwrap()
+        .to_ascii_uppercase();
     let is_same = region == region_of(window, value);
     if !is_same || is_whole(window, value) {
         return head.end;
@@ -166,9 +170,7 @@ pub(crate) fn write_data(window: &[u8], len: usize, to: &mut [u8]) -> Written
             put_front(window, &head.front, end, to);
             Written::Normal(end)
         }
-        Data::Named(head, value) => {
-            Written::Normal(write_named(window, len, &head, &value, to))
-        }
+        Data::Named(head, value) => { Written::Normal(write_named(window, len, &head, &value, to)) }
         Data::Refused(error) => Written::Refused(error),
     }
 }

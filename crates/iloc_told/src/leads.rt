@@ -64,7 +64,7 @@ fn lead_of_found(window: &[u8], len: usize, block: Block<'_>) -> Option<Lead>
 {
     let singleton = block.window[0];
     if singleton == b'U' || singleton == b'u' {
-        return Some(lead_of_found_keyword(window, len, block));
+        return lead_of_found_keyword(window, len, block);
     }
     if singleton.is_ascii_alphanumeric() {
         return Some(Lead::Refused(ParseError::InvalidSubtag));
@@ -74,20 +74,23 @@ fn lead_of_found(window: &[u8], len: usize, block: Block<'_>) -> Option<Lead>
 
 // The same if the piece is `u`. Most keywords are refused whatever comes before.
 #[inline(always)]
-fn lead_of_found_keyword(window: &[u8], len: usize, block: Block<'_>) -> Lead
+fn lead_of_found_keyword(window: &[u8], len: usize, block: Block<'_>) -> Option<Lead>
     requires room { len + 16 ≤ length window.now }
     requires found { IsFound (take len window.now) block }
     requires u { is_u (get_or block.window.now 0 0) ≡ true }
-    ensures { IsLead modes.Data (take len window.now) result }
+    ensures { IfSome result (IsLead modes.Data (take len window.now)) }
 {
     let at = len - block.len - 1;
     let error = ParseError::InvalidSubtag;
     match read_keyword(block) {
-        Keyword::Attribute => Lead::Refused(error),
-        Keyword::Misfit => Lead::Refused(error),
-        Keyword::Many => Lead::Refused(error),
-        Keyword::Single if is_plain(window, at) => Lead::Refused(ParseError::InvalidExtension),
-        Keyword::Single | Keyword::Subdivision | Keyword::Other => Lead::Outline,
+        Keyword::Attribute => Some(Lead::Refused(error)),
+        Keyword::Misfit => Some(Lead::Refused(error)),
+        Keyword::Many => Some(Lead::Refused(error)),
+        Keyword::Single if is_plain(window, at) => Some(Lead::Refused(
+            ParseError::InvalidExtension,
+        )),
+        Keyword::Subdivision => Some(Lead::Outline),
+        Keyword::Single | Keyword::Other => None,
     }
 }
 

@@ -18,7 +18,8 @@ returns-then-value c =
     let d = length-drop (v.at + v.region) w in
     let few = c.requires.few in
     let inside = c.requires.inside in
-    let long : length suffix ≡ v.len - v.region = length-take-le (v.len - v.region) (drop (v.at + v.region) w) (omega arith) in
+    let long : length suffix ≡ v.len - v.region =
+    length-take-le (v.len - v.region) (drop (v.at + v.region) w) (omega arith) in
     sym (false_from_ne_true _ (λ e.
     let same : length (lower suffix) ≡ length whole = ap length (same_is (lower suffix) whole e) in
     let low = length-lower suffix in
@@ -33,8 +34,10 @@ returns c =
     let same = c.if-value.false in
     let size : from + 4 - from ≡ v.len - v.region = omega arith in
     let piece : c.unwrap-suffix.result ≡ take (from + 4 - from) (drop from w) =
-    subst (λ (o : Option (List ℕ)). IfSome o (λ p. p ≡ take (from + 4 - from) (drop from w))) c.unwrap-suffix.ensures c.of.ensures.short in
+    subst (λ (o : Option (List ℕ)). IfSome o (λ p. p ≡ take (from + 4 - from)
+    (drop from w))) c.unwrap-suffix.ensures c.of.ensures.short in
     let other : c.unwrap.result ≡ whole =
     subst (λ (o : Option (List ℕ)). IfSome o (λ p. p ≡ whole)) c.unwrap.ensures c.of-2.ensures.short in
     let low = c.to_ascii_lowercase.ensures ∙ ap lower (piece ∙ ap (λ (n : ℕ). take n (drop from w)) size) in
-    c.eq.ensures ∙ (λ j. pointwise nat_eq (low j) (other j)) ∙ texts_ties (lower (bytes_at w from (v.len - v.region))) whole
+    c.eq.ensures ∙ (λ j. pointwise nat_eq (low j) (other j))
+    ∙ texts_ties (lower (bytes_at w from (v.len - v.region))) whole

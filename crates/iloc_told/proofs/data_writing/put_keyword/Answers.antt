@@ -11,8 +11,11 @@ returns-clause-put c =
     let to = c.args.to.now in
     let start = c.args.start in
     let inside = c.requires.inside in
-    let value : c.copy_lower.new.to ≡ lower (bytes_at w v.at v.len) = c.copy_lower.ensures ∙ ap lower (cut_bytes w v.at v.len (omega arith)) in
-    put_two to c.copy_from_slice.new.self c.copy_lower.new.to start 6 v.len (start + 6 + v.len) (ap length c.copy_from_slice.ensures.after)
-    (ap length value ∙ length-low w v.at v.len (omega arith)) c.requires.room refl (start + 6 - start) (omega arith)
+    let value : c.copy_lower.new.to ≡ lower (bytes_at w v.at v.len) = c.copy_lower.ensures
+    ∙ ap lower (cut_bytes w v.at v.len (omega arith)) in
+    put_two to c.copy_from_slice.new.self c.copy_lower.new.to start 6 v.len (start + 6 + v.len)
+    (ap length c.copy_from_slice.ensures.after)
+    (ap length value ∙ length-low w v.at v.len (omega arith)) c.requires.room refl (start + 6 - start)
+    (omega arith)
     (start + 6 + v.len - (start + 6)) (omega arith)
     ∙ (λ j. (take start to ++ c.copy_from_slice.ensures.after j) ++ value j)

@@ -24,16 +24,21 @@ returns-clause-put c =
     let same : length to ≡ length c.args.to.now = c.put_front.auto.to in
     let r = upper (bytes_at w v.at v.region) in
     let size : length r ≡ v.region =
-    length-map (bytes_at w v.at v.region) to_ascii_uppercase ∙ length-bytes_at w v.at v.region c.requires.value in
+    length-map (bytes_at w v.at v.region) to_ascii_uppercase
+    ∙ length-bytes_at w v.at v.region c.requires.value in
     let bytes : c.copy_from_slice.new.self ≡ r =
-    c.copy_from_slice.ensures.after ∙ ap (take v.region) (c.to_bytes-region.ensures ∙ (λ j. c.region_of.ensures j ++ replicate (8 - length (c.region_of.ensures j)) 0))
-    ∙ ap (λ (n : ℕ). take n (r ++ replicate (8 - length r) 0)) (sym size) ∙ take-append_seam r (replicate (8 - length r) 0) in
+    c.copy_from_slice.ensures.after ∙ ap (take v.region) (c.to_bytes-region.ensures
+    ∙ (λ j. c.region_of.ensures j ++ replicate (8 - length (c.region_of.ensures j)) 0))
+    ∙ ap (λ (n : ℕ). take n (r ++ replicate (8 - length r) 0)) (sym size)
+    ∙ take-append_seam r (replicate (8 - length r) 0) in
     let tail : c.copy_lower.new.to ≡ lower (bytes_at w fe more) =
     c.copy_lower.ensures ∙ ap lower (cut_bytes w fe more (omega arith)) in
     let long : length (set to fe 45) ≡ length to = length-set to fe 45 in
-    put_two (set to fe 45) c.copy_from_slice.new.self c.copy_lower.new.to (fe + 1) v.region more (fe + 1 + v.region + more)
+    put_two (set to fe 45) c.copy_from_slice.new.self c.copy_lower.new.to (fe + 1) v.region more
+    (fe + 1 + v.region + more)
     (ap length bytes ∙ size) (ap length tail ∙ length-low w fe more (omega arith)) (omega arith) refl
-    (fe + 1 + v.region - (fe + 1)) (omega arith) (fe + 1 + v.region + more - (fe + 1 + v.region)) (omega arith)
+    (fe + 1 + v.region - (fe + 1)) (omega arith) (fe + 1 + v.region + more - (fe + 1 + v.region))
+    (omega arith)
     ∙ (λ j. (take_more_set to fe 45 (omega arith) j ++ bytes j) ++ tail j)
     ∙ ap (λ t. t ++ lower (bytes_at w fe more)) (append_assoc (take fe to) (45 ∷ []) r
     ∙ ap (λ t. t ++ 45 ∷ r) c.put_front.ensures)

@@ -9,5 +9,6 @@ returns c =
     let v = c.args.value.now in
     let size : v.at + v.region - v.at ≡ v.region = omega arith in
     let piece : c.unwrap.result ≡ take (v.at + v.region - v.at) (drop v.at w) =
-    subst (λ (o : Option (List ℕ)). IfSome o (λ p. p ≡ take (v.at + v.region - v.at) (drop v.at w))) c.unwrap.ensures c.of.ensures.short in
+    subst (λ (o : Option (List ℕ)). IfSome o (λ p. p ≡ take (v.at + v.region - v.at)
+    (drop v.at w))) c.unwrap.ensures c.of.ensures.short in
     c.to_ascii_uppercase.ensures ∙ ap upper (piece ∙ ap (λ (n : ℕ). take n (drop v.at w)) size)

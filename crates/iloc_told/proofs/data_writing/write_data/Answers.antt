@@ -20,7 +20,8 @@ returns-in-Head c =
       (
         h.0,
         data_meant t h.0 h.1,
-        c.put_front.ensures ∙ a.head.whole ∙ sym (alone_text a.written a.head.few a.head.words) ∙ ap data_text (sym a.is),
+        c.put_front.ensures ∙ a.head.whole ∙ sym (alone_text a.written a.head.few a.head.words)
+            ∙ ap data_text (sym a.is),
       ),
     )
 

@@ -8,12 +8,14 @@ pub returns-in-Misfit : goal.returns-in-Misfit
 returns-in-Misfit c = misfit_is_refused Data (take c.args.len c.args.window.now) c.in-Misfit.ensures
 
 pub returns-in-Variants : goal.returns-in-Variants
-returns-in-Variants c = variants_refused (take c.args.len c.args.window.now) c.in-Variants.field-0 c.in-Variants.ensures
+returns-in-Variants c =
+    variants_refused (take c.args.len c.args.window.now) c.in-Variants.field-0 c.in-Variants.ensures
 
 pub returns-in-Block : goal.returns-in-Block
 returns-in-Block c =
     let other = c.is_other.ensures c.if-is_other.true in
-    other_block_refused (take c.args.len c.args.window.now) c.in-Block.block c.in-Block.ensures.0 c.in-Block.ensures.1 other.0 other.1
+    other_block_refused (take c.args.len c.args.window.now) c.in-Block.block c.in-Block.ensures.0
+    c.in-Block.ensures.1 other.0 other.1
 
 pub returns-in_default : goal.returns-in_default
 returns-in_default c = c.lead_of_language.ensures Data

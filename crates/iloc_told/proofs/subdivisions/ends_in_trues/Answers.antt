@@ -11,12 +11,14 @@ returns-then-not-is_attribute c =
     (sym c.is_attribute.ensures ∙ c.if-not-is_attribute.true)
 
 pub is_true-requires-clause-short : goal.is_true-requires-clause-short
-is_true-requires-clause-short c = short_attribute _ (sym c.is_attribute.ensures ∙ c.if-not-is_attribute.false)
+is_true-requires-clause-short c = short_attribute _ (sym c.is_attribute.ensures
+    ∙ c.if-not-is_attribute.false)
 
 pub returns-then-not-is_true : goal.returns-then-not-is_true
 returns-then-not-is_true c =
     no_true c.args.word c.trues.at c.next-at.result c.trues.invariant.same c.next-at.ensures
-    (sym c.is_attribute.ensures ∙ c.if-not-is_attribute.false) (sym c.is_true.ensures ∙ c.if-not-is_true.true)
+    (sym c.is_attribute.ensures ∙ c.if-not-is_attribute.false) (sym c.is_true.ensures
+    ∙ c.if-not-is_true.true)
 
 pub trues-preserved : goal.trues-preserved
 trues-preserved c =
@@ -31,4 +33,5 @@ pub returns : goal.returns
 returns c =
     sym (c.trues.invariant.same
     ∙ ap (λ ps. are_trues (rest_of ps))
-    (last_piece c.trues.at c.trues.invariant.left (c.is_last.ensures.0 c.trues-test.false) c.trues.invariant.short).one)
+    (last_piece c.trues.at c.trues.invariant.left
+    (c.is_last.ensures.0 c.trues-test.false) c.trues.invariant.short).one)

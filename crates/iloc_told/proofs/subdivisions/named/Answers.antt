@@ -11,7 +11,8 @@ returns-then-region-eq0 c =
     let left = c.requires.word_left in
     let word = c.requires.word in
     inr (unnamed (piece_left m) (subst (EndsRegion (piece_left m)) c.if-region-eq0.true
-    (c.region_len-region.ensures (piece_left m) (all_there m left word) (long_there m left word) (shape_there m left word))))
+    (c.region_len-region.ensures (piece_left m) (all_there m left word) (long_there m left word)
+    (shape_there m left word))))
 
 pub returns : goal.returns
 returns c =
@@ -22,5 +23,6 @@ returns c =
       refl,
       length_piece left (short_attribute (piece_left m) word),
       named_there m left word c.requires.other c.region_len-region.result c.if-region-eq0.false
-          (c.region_len-region.ensures (piece_left m) (all_there m left word) (long_there m left word) (shape_there m left word)),
+          (c.region_len-region.ensures (piece_left m) (all_there m left word) (long_there m left word)
+          (shape_there m left word)),
     )

@@ -10,11 +10,13 @@ use Rattle.iloc_told.proofs.subdivisions.read_keyword.Goals as goal
 
 pub returns-then-is_attribute : goal.returns-then-is_attribute
 returns-then-is_attribute c =
-    λ b u r. attribute_behind b u r (pieces_left c.args.key) (sym c.is_attribute.ensures ∙ c.if-is_attribute.true)
+    λ b u r. attribute_behind b u r (pieces_left c.args.key) (sym c.is_attribute.ensures
+    ∙ c.if-is_attribute.true)
 
 pub returns-then-not-is_key : goal.returns-then-not-is_key
 returns-then-not-is_key c =
-    λ b u r. no_key_behind b u r (pieces_left c.args.key) (sym c.is_attribute.ensures ∙ c.if-is_attribute.false)
+    λ b u r. no_key_behind b u r (pieces_left c.args.key) (sym c.is_attribute.ensures
+    ∙ c.if-is_attribute.false)
     (sym c.is_key.ensures ∙ c.if-not-is_key.true)
 
 pub read_subtags-requires-clause-short : goal.read_subtags-requires-clause-short
@@ -23,7 +25,8 @@ read_subtags-requires-clause-short c =
 
 pub returns-in-Misfit : goal.returns-in-Misfit
 returns-in-Misfit c =
-    λ b u r. misfit_behind b u r (pieces_left c.args.key) (sym c.is_key.ensures ∙ c.if-not-is_key.false) c.in-Misfit.ensures
+    λ b u r. misfit_behind b u r (pieces_left c.args.key) (sym c.is_key.ensures
+    ∙ c.if-not-is_key.false) c.in-Misfit.ensures
 
 pub returns-in-Trues : goal.returns-in-Trues
 returns-in-Trues c =

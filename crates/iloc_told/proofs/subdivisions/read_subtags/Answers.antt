@@ -18,24 +18,29 @@ returns-then-not-is_attribute c =
     (sym c.is_attribute.ensures ∙ c.if-not-is_attribute.true)
 
 pub is_true-requires-clause-short : goal.is_true-requires-clause-short
-is_true-requires-clause-short c = short_attribute _ (sym c.is_attribute.ensures ∙ c.if-not-is_attribute.false)
+is_true-requires-clause-short c = short_attribute _ (sym c.is_attribute.ensures
+    ∙ c.if-not-is_attribute.false)
 
 pub trues-preserved : goal.trues-preserved
 trues-preserved c =
     reaches_more c.args.key c.trues.at c.trues.invariant c.next-at.result c.next-at.ensures
-    (sym c.is_attribute.ensures ∙ c.if-not-is_attribute.false) (sym c.is_true.ensures ∙ c.if-not-is_true.false)
+    (sym c.is_attribute.ensures ∙ c.if-not-is_attribute.false) (sym c.is_true.ensures
+    ∙ c.if-not-is_true.false)
 
 pub ends_in_trues-requires-clause-short : goal.ends_in_trues-requires-clause-short
-ends_in_trues-requires-clause-short c = short_attribute _ (sym c.is_attribute.ensures ∙ c.if-not-is_attribute.false)
+ends_in_trues-requires-clause-short c = short_attribute _ (sym c.is_attribute.ensures
+    ∙ c.if-not-is_attribute.false)
 
 pub returns-then-ends_in_trues : goal.returns-then-ends_in_trues
 returns-then-ends_in_trues c =
     only_one c.args.key c.trues.at c.trues.invariant c.next-at.result c.next-at.ensures
-    (sym c.is_attribute.ensures ∙ c.if-not-is_attribute.false) (sym c.is_true.ensures ∙ c.if-not-is_true.true)
+    (sym c.is_attribute.ensures ∙ c.if-not-is_attribute.false) (sym c.is_true.ensures
+    ∙ c.if-not-is_true.true)
     (sym c.ends_in_trues.ensures ∙ c.if-ends_in_trues.true)
 
 pub returns : goal.returns
 returns c =
     not_only c.args.key c.trues.at c.trues.invariant c.next-at.result c.next-at.ensures
-    (sym c.is_attribute.ensures ∙ c.if-not-is_attribute.false) (sym c.is_true.ensures ∙ c.if-not-is_true.true)
+    (sym c.is_attribute.ensures ∙ c.if-not-is_attribute.false) (sym c.is_true.ensures
+    ∙ c.if-not-is_true.true)
     (sym c.ends_in_trues.ensures ∙ c.if-ends_in_trues.false)

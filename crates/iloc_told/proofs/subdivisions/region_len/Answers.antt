@@ -21,7 +21,8 @@ returns-then-shape-eq0 c p all long e =
       | else-is_region-via-then-is_region+else-is_suffix w ↦ no_suffix p 2 (h.two even)
           (sym (w.is_suffix.ensures (drop 2 p) (h.rest_two ∙ ap (λ n. n / 4) e)) ∙ w.if-is_suffix.false)
       | else-is_region-via-else-is_region w ↦ no_region p 2 (h.two even)
-          (sym (c.is_region.ensures (take 2 p) (h.front_two ∙ ap (λ n. n % 4 + 4) e)) ∙ w.if-is_region.false)
+          (sym (c.is_region.ensures (take 2 p) (h.front_two ∙ ap (λ n. n % 4 + 4) e))
+          ∙ w.if-is_region.false)
     ]
 
 pub returns-then-is_suffix-2 : goal.returns-then-is_suffix-2
@@ -29,8 +30,10 @@ returns-then-is_suffix-2 c p all long e =
     let h = parts p all long in
     let odd : shape_of p % 2 ≢ 0 = λ z. c.if-shape-eq0.false (ap (λ n. n % 2) (sym e) ∙ z) in (
       h.three odd,
-      sym (c.is_region-2.ensures (take 3 p) (h.front_three ∙ ap (λ n. n % 8 + 8) e)) ∙ c.if-is_region-2.true,
-      sym (c.is_suffix-then-is_region-2.ensures (drop 3 p) (h.rest_three ∙ ap (λ n. n / 8) e)) ∙ c.if-is_suffix-2.true,
+      sym (c.is_region-2.ensures (take 3 p) (h.front_three ∙ ap (λ n. n % 8 + 8) e))
+          ∙ c.if-is_region-2.true,
+      sym (c.is_suffix-then-is_region-2.ensures (drop 3 p) (h.rest_three ∙ ap (λ n. n / 8) e))
+          ∙ c.if-is_suffix-2.true,
     )
 
 pub returns : goal.returns
@@ -39,7 +42,9 @@ returns c p all long e =
     let odd : shape_of p % 2 ≢ 0 = λ z. c.if-shape-eq0.false (ap (λ n. n % 2) (sym e) ∙ z) in
     elim c.else-is_region-2.branch [
       | else-is_region-2-via-then-is_region-2+else-is_suffix-2 w ↦ no_suffix p 3 (h.three odd)
-          (sym (w.is_suffix-then-is_region-2.ensures (drop 3 p) (h.rest_three ∙ ap (λ n. n / 8) e)) ∙ w.if-is_suffix-2.false)
+          (sym (w.is_suffix-then-is_region-2.ensures (drop 3 p) (h.rest_three ∙ ap (λ n. n / 8) e))
+          ∙ w.if-is_suffix-2.false)
       | else-is_region-2-via-else-is_region-2 w ↦ no_region p 3 (h.three odd)
-          (sym (c.is_region-2.ensures (take 3 p) (h.front_three ∙ ap (λ n. n % 8 + 8) e)) ∙ w.if-is_region-2.false)
+          (sym (c.is_region-2.ensures (take 3 p) (h.front_three ∙ ap (λ n. n % 8 + 8) e))
+          ∙ w.if-is_region-2.false)
     ]
