@@ -3,7 +3,7 @@ use Rattle.std.specs.Ordering.{is_le}
 use Rattle.std.specs.declared.cmp.Ordering.{Ordering}
 use Rattle.std.specs.declared.cmp.Ordering.TheVariants.{Less, Equal, Greater}
 use Rattle.iloc_litemap.specs.Pairs.{place_of}
-use Rattle.iloc_litemap.proofs.Places.{Tells, rank, place_within, told_at, ok_of_rank, err_of_rank}
+use Rattle.iloc_litemap.proofs.Places.{Tells, rank, place_within, tells_as_read, ok_of_rank, err_of_rank}
 use Rattle.iloc_litemap.proofs.search.find_by_halves.Goals as goal
 use Rattle.iloc_litemap.proofs.search.find_by_halves.Goals.{then-is_le, else-is_le}
 
@@ -35,7 +35,8 @@ pub loop-size-preserved : goal.loop-size-preserved
 loop-size-preserved g c =
     let middle = c.loop-size.low + c.loop-size.size / 2 in
     let n = rank (place_of g.K.Ord.cmp c.args.pairs.now c.args.key.now) in
-    let t : Tells n middle c.cmp.result = told_at g.met.K.Ord.total c.args.key.now _ middle _ _ c.requires.ascending (omega arith) c.cmp.ensures in
+    let t : Tells n middle c.cmp.result = tells_as_read g.met.K.Ord.total c.args.key.now _ middle _ _
+    c.requires.ascending (omega arith) c.cmp.ensures in
     elim c.if-is_le.branch [
       | then-is_le w ↦
           let from = from_there c.cmp.result n middle t (sym c.is_le.ensures ∙ w.if-is_le.true) in
@@ -47,15 +48,18 @@ loop-size-preserved g c =
 
 pub returns-in-Less : goal.returns-in-Less
 returns-in-Less g c =
-    let t = told_at g.met.K.Ord.total c.args.key.now _ c.loop-size.low _ _ c.requires.ascending (omega arith) c.in-Less.ensures in
+    let t = tells_as_read g.met.K.Ord.total c.args.key.now _ c.loop-size.low _ _ c.requires.ascending
+    (omega arith) c.in-Less.ensures in
     sym (err_of_rank _ _ (omega (arith, t)))
 
 pub returns-in-Equal : goal.returns-in-Equal
 returns-in-Equal g c =
-    let t = told_at g.met.K.Ord.total c.args.key.now _ c.loop-size.low _ _ c.requires.ascending (omega arith) c.in-Equal.ensures in
+    let t = tells_as_read g.met.K.Ord.total c.args.key.now _ c.loop-size.low _ _ c.requires.ascending
+    (omega arith) c.in-Equal.ensures in
     sym (ok_of_rank _ _ (sym t))
 
 pub returns-in-Greater : goal.returns-in-Greater
 returns-in-Greater g c =
-    let t = told_at g.met.K.Ord.total c.args.key.now _ c.loop-size.low _ _ c.requires.ascending (omega arith) c.in-Greater.ensures in
+    let t = tells_as_read g.met.K.Ord.total c.args.key.now _ c.loop-size.low _ _ c.requires.ascending
+    (omega arith) c.in-Greater.ensures in
     sym (err_of_rank _ _ (at_front _ _ c.loop-size.invariant.from (omega (arith, t))))

@@ -1,4 +1,4 @@
-use Rattle.std.proofs.Common.{ℕ, ◌+◌, ◌*◌, ◌<◌, ◌≤◌, length}
+use Rattle.std.proofs.Common.{◌+◌, ◌*◌, ◌<◌, ◌≤◌, length}
 use Rattle.iloc_litemap.specs.Pairs.{place_of}
 use Rattle.iloc_litemap.proofs.Places.{rank}
 use Rattle.iloc_litemap.proofs.search.find_by_halves.Given as goal

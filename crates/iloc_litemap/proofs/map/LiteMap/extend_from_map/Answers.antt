@@ -27,25 +27,34 @@ take_with_room-requires g c = omega (arith, c.in_ok-room.ensures.room)
 
 pub put_within-requires-clause-room : goal.put_within-requires-clause-room
 put_within-requires-clause-room g c =
-    let first = ap length (g.met.S.Store.takes_first c.loop-key.key-iterator (Some (c.in-Some.key, c.in-Some.value)) c.next.new.self c.in-Some.ensures.steps) in
+    let first = ap length (g.met.S.Store.takes_first c.loop-key.key-iterator
+    (Some (c.in-Some.key, c.in-Some.value)) c.next.new.self c.in-Some.ensures.steps) in
     omega (arith, c.loop-key.invariant.room)
 
 pub loop-key-preserved : goal.loop-key-preserved
 loop-key-preserved g c =
-    let first = g.met.S.Store.takes_first c.loop-key.key-iterator (Some (c.in-Some.key, c.in-Some.value)) c.next.new.self c.in-Some.ensures.steps in
+    let first = g.met.S.Store.takes_first c.loop-key.key-iterator (Some (c.in-Some.key, c.in-Some.value))
+    c.next.new.self c.in-Some.ensures.steps in
     let count = ap length first in
     record {
       can = search rules;
       finite = search rules;
       ascending = c.put_within.ensures.ascending;
       pairs = put_next g.K.Ord.cmp _ _ _ _ _ _ _ c.put_within.ensures.pairs first c.loop-key.invariant.pairs;
-      room = omega (arith, c.put_within.ensures.len, c.put_within.ensures.capacity, c.loop-key.invariant.room);
+      room = omega (
+        arith,
+        c.put_within.ensures.len,
+        c.put_within.ensures.capacity,
+        c.loop-key.invariant.room,
+      );
     }
 
 pub invariant_of-self : goal.invariant_of-self
-invariant_of-self g c = subst (HasAscendingKeys g.K.Ord.cmp) (sym c.lm_from_vec.ensures) c.loop-key.invariant.ascending
+invariant_of-self g c = subst (HasAscendingKeys g.K.Ord.cmp) (sym c.lm_from_vec.ensures)
+    c.loop-key.invariant.ascending
 
 pub returns-clause-ok : goal.returns-clause-ok
 returns-clause-ok g c =
-    let none = g.met.S.Store.takes_first c.loop-key.key-iterator None c.next.new.self c.in-None.ensures.steps in
+    let none = g.met.S.Store.takes_first c.loop-key.key-iterator None c.next.new.self
+    c.in-None.ensures.steps in
     c.lm_from_vec.ensures ∙ put_last g.K.Ord.cmp _ _ _ none.0 c.loop-key.invariant.pairs

@@ -1,4 +1,5 @@
-use Rattle.std.proofs.Common.{◌++◌, length, Some, None, refl, sym, ap, ap₂, ◌∙◌, subst, rules, arith, length-append}
+use Rattle.std.proofs.Common.{◌++◌, length, Some, None, refl, sym}
+use Rattle.std.proofs.Common.{ap, ap₂, ◌∙◌, subst, rules, arith, length-append}
 use Rattle.iloc_litemap.specs.Pairs.{HasAscendingKeys}
 use Rattle.iloc_litemap.proofs.Maps.{push_next, push_last}
 use Rattle.iloc_litemap.proofs.map.LiteMap.take_with_room.Goals as goal
@@ -9,7 +10,9 @@ loop-pair-init g c =
     record {
       can = search rules;
       finite = search rules;
-      pairs = ap₂ (λ xs ys. xs ++ ys) c.in_ok-all.ensures.items (ap g.S.Store.left is ∙ (c.lm_into_iter-pair-items.ensures.left ∙ (ap g.S.Store.pairs c.replace-store.ensures.value ∙ c.self.view_is)));
+      pairs = ap₂ (λ xs ys. xs ++ ys) c.in_ok-all.ensures.items (ap g.S.Store.left is
+          ∙ (c.lm_into_iter-pair-items.ensures.left
+          ∙ (ap g.S.Store.pairs c.replace-store.ensures.value ∙ c.self.view_is)));
       enough = c.requires;
       room = c.in_ok-all.ensures.capacity;
     }
@@ -17,14 +20,16 @@ loop-pair-init g c =
 pub push_within-requires : goal.push_within-requires
 push_within-requires g c =
     let it = c.loop-pair.pair-iterator in
-    let first = ap length (g.met.S.Store.takes_first it (Some c.in-Some.pair) c.next.new.self c.in-Some.ensures.steps) in
+    let first = ap length (g.met.S.Store.takes_first it (Some c.in-Some.pair) c.next.new.self
+    c.in-Some.ensures.steps) in
     let all = ap length c.loop-pair.invariant.pairs in
     let both = length-append c.loop-pair.all.items (g.S.Store.left it) in
     omega (arith, c.loop-pair.all.ok.0, c.loop-pair.invariant.enough, c.loop-pair.invariant.room)
 
 pub loop-pair-preserved : goal.loop-pair-preserved
 loop-pair-preserved g c =
-    let first = g.met.S.Store.takes_first c.loop-pair.pair-iterator (Some c.in-Some.pair) c.next.new.self c.in-Some.ensures.steps in
+    let first = g.met.S.Store.takes_first c.loop-pair.pair-iterator (Some c.in-Some.pair) c.next.new.self
+    c.in-Some.ensures.steps in
     record {
       can = search rules;
       finite = search rules;
@@ -35,11 +40,13 @@ loop-pair-preserved g c =
 
 pub invariant_of-self : goal.invariant_of-self
 invariant_of-self g c =
-    subst (HasAscendingKeys g.K.Ord.cmp) (sym (ap g.S.Store.pairs c.replace-store.ensures.after ∙ c.lm_empty.ensures)) refl
+    subst (HasAscendingKeys g.K.Ord.cmp)
+    (sym (ap g.S.Store.pairs c.replace-store.ensures.after ∙ c.lm_empty.ensures)) refl
 
 pub returns-clause-pairs : goal.returns-clause-pairs
 returns-clause-pairs g c =
-    let none = g.met.S.Store.takes_first c.loop-pair.pair-iterator None c.next.new.self c.in-None.ensures.steps in
+    let none = g.met.S.Store.takes_first c.loop-pair.pair-iterator None c.next.new.self
+    c.in-None.ensures.steps in
     push_last _ _ _ none.0 c.loop-pair.invariant.pairs
 
 pub returns-clause-ascending : goal.returns-clause-ascending

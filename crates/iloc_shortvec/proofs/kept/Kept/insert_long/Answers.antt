@@ -8,4 +8,5 @@ returns-in-Heap-clause-ok g c =
 
 pub returns-clause-ok : goal.returns-clause-ok
 returns-clause-ok g c =
-    c.in_ok-insert-2.ensures.items ∙ ap (λ xs. insert xs c.args.index c.args.item) (c.in_ok-more.ensures ∙ c.as_slice.ensures)
+    c.in_ok-insert-2.ensures.items ∙ ap (λ xs. insert xs c.args.index c.args.item)
+    (c.in_ok-more.ensures ∙ c.as_slice.ensures)

@@ -1,4 +1,5 @@
-use Rattle.std.proofs.Common.{◌≡◌, ◌<◌, ◌≤◌, ℕ, zero, suc, List, [], ◌∷◌, length, remove, refl, sym, ap, ◌∙◌, subst, arith}
+use Rattle.std.proofs.Common.{◌≡◌, ◌<◌, ◌≤◌, ℕ, zero, suc, List, []}
+use Rattle.std.proofs.Common.{◌∷◌, length, remove, refl, sym, ap, ◌∙◌, subst, arith}
 use Rattle.iloc_shortvec.specs.Kept.{items_of}
 use Rattle.iloc_shortvec.proofs.kept.Kept.take_out.Goals as goal
 
@@ -11,7 +12,8 @@ none_left (x ∷ (y ∷ ys)) i l few = absurd (omega arith)
 
 pub remove-requires-in-Heap : goal.remove-requires-in-Heap
 remove-requires-in-Heap g c =
-    let l : c.args.index < length c.in-Heap.items.items = subst (λ k. c.args.index < length (items_of k)) c.in-Heap.is c.requires in
+    let l : c.args.index < length c.in-Heap.items.items =
+    subst (λ k. c.args.index < length (items_of k)) c.in-Heap.is c.requires in
     omega (arith, c.in-Heap.items.ok.0)
 
 pub returns-in-Empty : goal.returns-in-Empty
@@ -20,7 +22,8 @@ returns-in-Empty g c =
     absurd (omega (arith, c.requires))
 
 pub returns-then-as_slice-gt1 : goal.returns-then-as_slice-gt1
-returns-then-as_slice-gt1 g c = c.remove.ensures ∙ ap (λ k. remove (items_of k) c.args.index) (sym c.in-Inline.is)
+returns-then-as_slice-gt1 g c = c.remove.ensures ∙ ap (λ k. remove (items_of k) c.args.index)
+    (sym c.in-Inline.is)
 
 pub returns-else-as_slice-gt1 : goal.returns-else-as_slice-gt1
 returns-else-as_slice-gt1 g c =
@@ -29,4 +32,5 @@ returns-else-as_slice-gt1 g c =
     none_left (items_of c.args.self.now) c.args.index c.requires (omega arith)
 
 pub returns-in-Heap : goal.returns-in-Heap
-returns-in-Heap g c = c.remove-in-Heap.ensures.items ∙ ap (λ k. remove (items_of k) c.args.index) (sym c.in-Heap.is)
+returns-in-Heap g c = c.remove-in-Heap.ensures.items ∙ ap (λ k. remove (items_of k) c.args.index)
+    (sym c.in-Heap.is)

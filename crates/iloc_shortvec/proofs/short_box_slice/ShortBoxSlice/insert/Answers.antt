@@ -1,4 +1,5 @@
-use Rattle.std.proofs.Common.{◌≡◌, ◌≤◌, ℕ, zero, suc, List, [], ◌∷◌, length, insert, OnOk, OnErr, refl, sym, ap, ◌∙◌, subst, arith}
+use Rattle.std.proofs.Common.{◌≡◌, ◌≤◌, ℕ, zero, suc, List, [], ◌∷◌, length}
+use Rattle.std.proofs.Common.{insert, OnOk, OnErr, refl, sym, ap, ◌∙◌, subst, arith}
 use Rattle.iloc_shortvec.specs.Items.{items_of}
 use Rattle.iloc_shortvec.proofs.short_box_slice.ShortBoxSlice.insert.Goals as goal
 
@@ -13,16 +14,21 @@ invariant_of-self-in-One g c = c.insert_beside.ensures.kept
 
 pub returns-in-Empty-clause-ok : goal.returns-in-Empty-clause-ok
 returns-in-Empty-clause-ok g c =
-    into_none c.args.self.now c.args.index c.args.item (sym c.self.view_is ∙ ap items_of c.in-Empty.is) c.requires
+    into_none c.args.self.now c.args.index c.args.item (sym c.self.view_is ∙ ap items_of c.in-Empty.is)
+    c.requires
 
 pub returns-in-One-clause-ok : goal.returns-in-One-clause-ok
 returns-in-One-clause-ok g c =
-    subst (λ xs. OnOk c.insert_beside.result (items_of c.insert_beside.new.self ≡ insert xs c.args.index c.args.item)) c.self.view_is c.insert_beside.ensures.ok
+    subst (λ xs. OnOk c.insert_beside.result
+    (items_of c.insert_beside.new.self ≡ insert xs c.args.index c.args.item)) c.self.view_is
+    c.insert_beside.ensures.ok
 
 pub returns-in-One-clause-err : goal.returns-in-One-clause-err
 returns-in-One-clause-err g c =
-    subst (λ xs. OnErr c.insert_beside.result (items_of c.insert_beside.new.self ≡ xs)) c.self.view_is c.insert_beside.ensures.err
+    subst (λ xs. OnErr c.insert_beside.result (items_of c.insert_beside.new.self ≡ xs)) c.self.view_is
+    c.insert_beside.ensures.err
 
 pub returns-in_ok-insert-in-Many-clause-ok : goal.returns-in_ok-insert-in-Many-clause-ok
 returns-in_ok-insert-in-Many-clause-ok g c =
-    c.in_ok-insert-in-Many.ensures.items ∙ ap (λ xs. insert xs c.args.index c.args.item) (ap items_of (sym c.in-Many.is) ∙ c.self.view_is)
+    c.in_ok-insert-in-Many.ensures.items ∙ ap (λ xs. insert xs c.args.index c.args.item)
+    (ap items_of (sym c.in-Many.is) ∙ c.self.view_is)

@@ -7,7 +7,9 @@ pub bounds-as_slice-index : goal.bounds-as_slice-index
 bounds-as_slice-index g c = subst (λ xs. c.args.index < length xs) (sym c.as_slice.ensures) c.requires
 
 pub offset_bounds-as_slice-index : goal.offset_bounds-as_slice-index
-offset_bounds-as_slice-index g c = let l : c.args.index < length c.as_slice.result.now = bounds-as_slice-index g c in omega arith
+offset_bounds-as_slice-index g c =
+    let l : c.args.index < length c.as_slice.result.now = bounds-as_slice-index g c in
+    omega arith
 
 pub invariant_of-self : goal.invariant_of-self
 invariant_of-self g c = c.settle.ensures.kept
@@ -16,7 +18,9 @@ pub returns-clause-value : goal.returns-clause-value
 returns-clause-value g c =
     let item = c.index-as_slice-index in
     subst (λ xs. slice_get xs c.args.index ≡ Some item.result) c.as_slice.ensures
-    (slice_get_read c.as_slice.result.now _ c.args.index item.result refl (subst (λ xs. c.args.index < length xs) (sym c.as_slice.ensures) c.requires) item.is)
+    (slice_get_read c.as_slice.result.now _ c.args.index item.result refl
+    (subst (λ xs. c.args.index < length xs) (sym c.as_slice.ensures) c.requires) item.is)
 
 pub returns-clause-rest : goal.returns-clause-rest
-returns-clause-rest g c = c.settle.ensures.items ∙ (c.take_out.ensures ∙ ap (λ xs. remove xs c.args.index) c.self.view_is)
+returns-clause-rest g c = c.settle.ensures.items
+    ∙ (c.take_out.ensures ∙ ap (λ xs. remove xs c.args.index) c.self.view_is)

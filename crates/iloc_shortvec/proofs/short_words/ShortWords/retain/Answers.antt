@@ -13,12 +13,15 @@ invariant_of-self-in-Heap g c = c.settle.ensures.kept
 pub returns-in-Empty : goal.returns-in-Empty
 returns-in-Empty g c =
     let none = sym (ap items_of c.in-Empty.is) in
-    filtered_same {R = CalledAt g.F.FnMut} c.args.keep (none ∙ c.self.view_is) none (filtered_none c.args.keep)
+    filtered_same {R = CalledAt g.F.FnMut} c.args.keep (none ∙ c.self.view_is) none
+    (filtered_none c.args.keep)
 
 pub returns-in-Inline : goal.returns-in-Inline
 returns-in-Inline g c =
-    filtered_same {R = CalledAt g.F.FnMut} c.args.keep (c.as_slice.ensures.items ∙ (ap items_of (sym c.in-Inline.is) ∙ c.self.view_is)) refl c.kept_of.ensures.items
+    filtered_same {R = CalledAt g.F.FnMut} c.args.keep (c.as_slice.ensures.items
+    ∙ (ap items_of (sym c.in-Inline.is) ∙ c.self.view_is)) refl c.kept_of.ensures.items
 
 pub returns-in-Heap : goal.returns-in-Heap
 returns-in-Heap g c =
-    filtered_same {R = CalledAt g.F.FnMut} c.args.keep (ap items_of (sym c.in-Heap.is) ∙ c.self.view_is) (sym c.settle.ensures.items) c.retain.ensures.filtered
+    filtered_same {R = CalledAt g.F.FnMut} c.args.keep (ap items_of (sym c.in-Heap.is) ∙ c.self.view_is)
+    (sym c.settle.ensures.items) c.retain.ensures.filtered

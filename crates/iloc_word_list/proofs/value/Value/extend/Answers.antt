@@ -1,0 +1,72 @@
+use Rattle.std.proofs.Common.{◌≡◌, ◌≤◌, ℕ, List, [], ◌∷◌, ◌++◌, length, take, true, false, Result}
+use Rattle.std.proofs.Common.{Ok, Err, OnOk, OnErr, rules, sym, ap, ap₂, ◌∙◌, arith}
+use Rattle.std.proofs.Common.{append_assoc, append-nil, length-append}
+use Rattle.std.specs.Result.{is_err}
+use Rattle.std.proofs.Math.Seq.{take-append_seam}
+use Rattle.iloc_word_list.proofs.value.Value.extend.Goals as goal
+
+-- what is said of each result, of one that is known
+at_ok : {A E P : Type 0} (r : Result A E) → is_err r ≡ false → OnOk r P → P
+at_ok (Ok x) h p = p
+at_ok (Err e) h p = cc
+
+at_err : {A E P : Type 0} (r : Result A E) → is_err r ≡ true → OnErr r P → P
+at_err (Ok x) h p = cc
+at_err (Err e) h p = p
+
+module _ {X : Type 0} (first later inside now new : List X) (view : inside ≡ now)
+    (h : now ≡ first ++ later) where
+  one_more : (x : X) → new ≡ inside ++ x ∷ [] → new ≡ first ++ (later ++ x ∷ [])
+  one_more x n = n ∙ (ap (λ l. l ++ x ∷ []) (view ∙ h) ∙ append_assoc first later (x ∷ []))
+
+  at_least : new ≡ inside → length first ≤ length new
+  at_least n =
+      let l : length new ≡ length (first ++ later) = ap length (n ∙ (view ∙ h)) in
+      omega (arith, length-append first later)
+
+  cut_back : (count : ℕ) → count ≡ length first → new ≡ inside → take count new ≡ first
+  cut_back count c n = ap₂ (λ k l. take k l) c (n ∙ (view ∙ h)) ∙ take-append_seam first later
+
+pub loop-subtag-init : goal.loop-subtag-init
+loop-subtag-init g c =
+    let ready = c.requires _ c.into_iter-subtag-iterator.ensures.into_iter_gives in
+    (ready.0, ready.1, sym (append-nil c.args.self.now), c.subtag_count-before.ensures)
+
+pub loop-subtag-preserved : goal.loop-subtag-preserved
+loop-subtag-preserved g c =
+    let pushed = at_ok c.push.result (sym c.is_err.ensures.value ∙ c.if-is_err.false) c.push.ensures.ok in (
+      search rules,
+      search rules,
+      one_more c.args.self.now c.loop-subtag.yielded _ c.loop-subtag.self _
+          c.self-in-loop-subtag.view_is c.loop-subtag.invariant.2 c.in-Some.subtag pushed,
+      c.loop-subtag.invariant.3,
+    )
+
+pub cut-requires : goal.cut-requires
+cut-requires g c =
+    let same = at_err c.push.result (sym c.is_err.ensures.value ∙ c.if-is_err.true) c.push.ensures.err in
+    let fits = at_least c.args.self.now c.loop-subtag.yielded _ c.loop-subtag.self _
+    c.self-in-loop-subtag.view_is c.loop-subtag.invariant.2 same in
+    omega (arith, fits, c.loop-subtag.invariant.3)
+
+pub returns-clause-ok : goal.returns-clause-ok
+returns-clause-ok g c = (
+  c.into_iter-subtag-iterator.result,
+  c.loop-subtag.yielded,
+  c.into_iter-subtag-iterator.ensures.into_iter_gives,
+  (
+    c.next.new.self,
+    (
+      c.loop-subtag.subtag-iterator,
+      c.loop-subtag.yielded_by,
+      c.in-None.ensures.steps,
+    ),
+  ),
+  c.loop-subtag.invariant.2,
+)
+
+pub returns-then-is_err-clause-err : goal.returns-then-is_err-clause-err
+returns-then-is_err-clause-err g c =
+    let same = at_err c.push.result (sym c.is_err.ensures.value ∙ c.if-is_err.true) c.push.ensures.err in
+    c.cut.ensures ∙ cut_back c.args.self.now c.loop-subtag.yielded _ c.loop-subtag.self _
+    c.self-in-loop-subtag.view_is c.loop-subtag.invariant.2 _ c.loop-subtag.invariant.3 same
