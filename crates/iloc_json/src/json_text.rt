@@ -38,10 +38,14 @@ impl<T: TextValue> JsonText for T {
         }
     }
 
+    #[inline(always)]
     fn from_json(alloc: Global, value: &Value) -> Result<Self, JsonError> {
         let Some(text) = value.as_str() else {
             return Err(JsonError::NotText);
         };
-        Self::read_text(alloc, text).map_err(JsonError::from)
+        match Self::read_text(alloc, text) {
+            Ok(read) => Ok(read),
+            Err(refusal) => Err(JsonError::from(refusal)),
+        }
     }
 }

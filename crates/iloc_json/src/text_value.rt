@@ -88,6 +88,7 @@ impl TextValue for Locale {
 
     ghost same = { λ locale other. locale_of other ≡ locale_of locale };
 
+    #[inline(always)]
     fn read_text(alloc: Global, text: &str) -> Result<Self, ParseError> {
         Locale::try_from_str(alloc, text)
     }

@@ -1,21 +1,93 @@
 -- An identifier without extensions.
-use Rattle.std.proofs.Common.{◌≡◌, ◌↔◌, ◌==◌, ℕ, ◌<◌, Bool, true, false, cond, List, [], ◌∷◌, ◌++◌, length, map, filter, Option, Some, None, option_map, refl, sym, ap, ◌∙◌, subst, arith}
+use Rattle.std.proofs.Common.{
+  ◌≡◌,
+  ◌↔◌,
+  ◌==◌,
+  ℕ,
+  ◌<◌,
+  Bool,
+  true,
+  false,
+  cond,
+  List,
+  [],
+  ◌∷◌,
+  ◌++◌,
+  length,
+  map,
+  filter,
+  Option,
+  Some,
+  None,
+  option_map,
+  refl,
+  sym,
+  ap,
+  ◌∙◌,
+  subst,
+  arith,
+}
 use Rattle.std.specs.List.{AllByRecursion}
 use Rattle.std.specs.Char.{is_ascii_alphanumeric, to_ascii_lowercase}
 use Rattle.std.specs.Ordering.{nat_cmp}
 use Rattle.std.specs.Cmp.{nat_cmp_total}
 use Rattle.std.proofs.lemmas.Bool.{eq-eqb}
-use Rattle.iloc_spec_grammar.specs.Syntax.{pieces, lower, word_cmp, languages, Identifier, Fields, Unicode, Transform, fields_pieces, unicode_pieces, transform_pieces, is_other_singleton, lower_singleton, front, blocks, head, tail_blocks, kept}
-use Rattle.iloc_spec_grammar.specs.Meaning.{Extensions, no_extensions, no_unicode, no_transform, without_extensions, normal_identifier, normal_fields, normal_unicode, normal_transform, set_of, after, BlocksMean, IdentifierMeans, Means}
+use Rattle.iloc_spec_grammar.specs.Syntax.{
+  Block,
+  Fields,
+  Identifier,
+  Transform,
+  Unicode,
+  blocks,
+  front,
+  head,
+  is_other_singleton,
+  kept,
+  languages,
+  lower,
+  lower_singleton,
+  pieces,
+  tail_blocks,
+  transform_pieces,
+  unicode_pieces,
+  word_cmp,
+  fields_pieces,
+}
+use Rattle.iloc_spec_grammar.specs.Meaning.{
+  BlocksMean,
+  Extensions,
+  IdentifierMeans,
+  Means,
+  after,
+  map_of,
+  no_extensions,
+  no_transform,
+  no_unicode,
+  normal_identifier,
+  normal_transform,
+  normal_unicode,
+  set_of,
+}
 use Rattle.iloc_spec_grammar.specs.Values.{text, identifier_text}
 use Rattle.iloc_spec_grammar.proofs.MapLaws.{word_cmp_total}
-use Rattle.iloc_spec_grammar.proofs.Singletons.{two_more, IsKind, of_u, of_t, of_x, another, kind_of, lower_letter}
+use Rattle.iloc_spec_grammar.proofs.Singletons.{
+  IsKind,
+  of_u,
+  of_t,
+  of_x,
+  another,
+  kind_of,
+  lower_letter,
+  two_more,
+}
 use Rattle.iloc_spec_parts.proofs.SmallShapes.{none_there, none_mapped, no_normal_fields}
 use Rattle.iloc_told.proofs.PlainAnswers as alone
 
 -- the text of an identifier alone
-pub text_alone : (i : Identifier) (e : Extensions) → e ≡ no_extensions → text (record { id = i; extensions = e }) ≡ identifier_text i
-text_alone i e n = ap (λ (x : Extensions). text (record { id = i; extensions = x })) n ∙ alone.text_alone i
+pub text_alone : (i : Identifier) (e : Extensions) → e ≡ no_extensions
+    → text (record { id = i; extensions = e }) ≡ identifier_text i
+text_alone i e n =
+    ap (λ (x : Extensions). text (record { id = i; extensions = x })) n ∙ alone.text_alone i
 
 -- A block has a piece, which some part of the extensions takes.
 
@@ -27,47 +99,72 @@ first_none : {X : Type 0} (xs ys : List X) → xs ++ ys ≡ [] → xs ≡ []
 first_none [] ys e = refl
 first_none (x ∷ xs) ys e = absurd (cc)
 
-abbrev HasPieces : ℕ × List (List ℕ) → Type 0
+abbrev HasPieces : Block → Type 0
 HasPieces b = (is_ascii_alphanumeric b.0 ≡ true) × (0 < length b.1)
 
-abbrev others_in : List (ℕ × List (List ℕ)) → List (ℕ × List (List ℕ))
-others_in bs = filter {X = ℕ × List (List ℕ)} (λ b. is_other_singleton b.0) (map (λ b. (lower_singleton b, b.1)) bs)
+abbrev lowered : Block → Block
+lowered b = (lower_singleton b, b.1)
 
-no_block : (bs : List (ℕ × List (List ℕ))) → AllByRecursion HasPieces bs → after 117 bs ≡ [] → after 116 bs ≡ [] → after 120 bs ≡ [] → others_in bs ≡ [] → bs ≡ []
+abbrev others_in : List Block → List Block
+others_in bs = filter {X = Block} (λ b. is_other_singleton b.0) (map lowered bs)
+
+no_block : (bs : List Block) → AllByRecursion HasPieces bs → after 117 bs ≡ [] → after 116 bs ≡ []
+    → after 120 bs ≡ [] → others_in bs ≡ [] → bs ≡ []
 no_block [] h u t x o = refl
 no_block (b ∷ bs) h u t x o = absurd (at (kind_of (lower_singleton b) (lower_letter b.0 h.0.0)))
   where
     none_after : (s : ℕ) → lower_singleton b ≡ s → after s (b ∷ bs) ≡ [] → ⊥
-    none_after s e n = some_piece b.1 h.0.1 (ap (λ t. cond t b.1 []) (sym (eq-eqb (lower_singleton b) s e)) ∙ first_none _ (after s bs) n)
+    none_after s e n =
+        let here = ap (λ t. cond t b.1 []) (sym (eq-eqb (lower_singleton b) s e)) in
+        some_piece b.1 h.0.1 (here ∙ first_none _ (after s bs) n)
 
     at : IsKind (lower_singleton b) → ⊥
     at (of_u e) = none_after 117 e u
     at (of_t e) = none_after 116 e t
     at (of_x e) = none_after 120 e x
-    at (another e) = let some : (lower_singleton b, b.1) ∷ others_in bs ≡ [] = ap (λ t. cond t ((lower_singleton b, b.1) ∷ others_in bs) (others_in bs)) (sym e) ∙ o in cc
+    at (another e) =
+        let some : lowered b ∷ others_in bs ≡ [] =
+        ap (λ t. cond t (lowered b ∷ others_in bs) (others_in bs)) (sym e) ∙ o in
+        cc
 
 -- parts that mean nothing have no piece
 
 no_words : (ws : List (List ℕ)) → set_of (map lower ws) ≡ [] → ws ≡ []
-no_words ws e = none_mapped lower ws (none_mapped (λ (w : List ℕ). (w, tt {0})) (map lower ws) (none_there word_cmp word_cmp_total _ (none_mapped (λ (e : List ℕ × Unit {0}). e.0) _ e)))
+no_words ws e =
+    let entries = none_mapped (λ (e : List ℕ × Unit {0}). e.0) _ e in
+    none_mapped lower ws
+    (none_mapped (λ (w : List ℕ). (w, tt {0})) (map lower ws) (none_there word_cmp word_cmp_total _ entries))
 
 no_unicode_pieces : (u : Unicode) → no_unicode ≡ normal_unicode u → unicode_pieces u ≡ []
-no_unicode_pieces u e = rw (no_words u.attributes (sym (ap (λ (v : Unicode). v.attributes) e)), no_normal_fields u.keywords (sym (ap (λ (v : Unicode). v.keywords) e))) refl
+no_unicode_pieces u e =
+    let attributes = no_words u.attributes (sym (ap (λ (v : Unicode). v.attributes) e)) in
+    let keywords = no_normal_fields u.keywords (sym (ap (λ (v : Unicode). v.keywords) e)) in
+    rw (attributes, keywords) refl
 
 no_transform_pieces : (m : Transform) → no_transform ≡ normal_transform m → transform_pieces m ≡ []
-no_transform_pieces m e = from m.id m.fields (ap (λ (n : Transform). n.id) e) (no_normal_fields m.fields (sym (ap (λ (n : Transform). n.fields) e)))
+no_transform_pieces m e =
+    from m.id m.fields (ap (λ (n : Transform). n.id) e)
+    (no_normal_fields m.fields (sym (ap (λ (n : Transform). n.fields) e)))
   where
-    from : (o : Option Identifier) (fs : Fields) → ◌≡◌ {A = Option Identifier} None (option_map normal_identifier o) → fs ≡ [] → transform_pieces (record { id = o; fields = fs }) ≡ []
+    from : (o : Option Identifier) (fs : Fields)
+        → ◌≡◌ {A = Option Identifier} None (option_map normal_identifier o) → fs ≡ []
+        → transform_pieces (record { id = o; fields = fs }) ≡ []
     from None fs n k = ap fields_pieces k
     from (Some i) fs n k = absurd (cc)
 
-mean_none : (bs : List (ℕ × List (List ℕ))) → BlocksMean languages bs no_extensions → bs ≡ []
+abbrev kept_of : Block → Block
+kept_of o = (o.0, kept o.1)
+
+no_others : (w : Extensions) → [] ≡ map_of nat_cmp (map kept_of w.others) → w.others ≡ []
+no_others w e = none_mapped kept_of w.others (none_there nat_cmp nat_cmp_total _ (sym e))
+
+mean_none : (bs : List Block) → BlocksMean languages bs no_extensions → bs ≡ []
 mean_none bs (w, s, m) =
     no_block bs s.blocks
     (s.unicode.1 ∙ no_unicode_pieces w.unicode (ap (λ (e : Extensions). e.unicode) m))
     (s.transform.1 ∙ no_transform_pieces w.transform (ap (λ (e : Extensions). e.transform) m))
     (s.private.1 ∙ none_mapped lower w.private (sym (ap (λ (e : Extensions). e.private) m)))
-    (s.others.1 ∙ none_mapped (λ (o : ℕ × List (List ℕ)). (o.0, kept o.1)) w.others (none_there nat_cmp nat_cmp_total _ (sym (ap (λ (e : Extensions). e.others) m))))
+    (s.others.1 ∙ no_others w (ap (λ (e : Extensions). e.others) m))
 
 -- So the pieces are all in the head.
 
@@ -86,9 +183,14 @@ whole_head [] h = refl
 whole_head (p ∷ ps) h = ap (λ qs. p ∷ qs) (whole_front ps h)
 
 -- a text means an identifier alone exactly if its pieces mean the identifier
-pub means_alone : (t : List ℕ) (i : Identifier) (e : Extensions) → e ≡ no_extensions → IdentifierMeans languages (pieces t) i ↔ Means languages t (record { id = i; extensions = e })
+pub means_alone : (t : List ℕ) (i : Identifier) (e : Extensions) → e ≡ no_extensions
+    → IdentifierMeans languages (pieces t) i ↔ Means languages t (record { id = i; extensions = e })
 means_alone t i e n =
-    subst (λ (x : Extensions). IdentifierMeans languages (pieces t) i ↔ Means languages t (record { id = i; extensions = x })) (sym n) (
+    let ps = pieces t in
+    subst (λ (x : Extensions). IdentifierMeans languages ps i
+    ↔ Means languages t (record { id = i; extensions = x })) (sym n) (
       alone.means_alone t i,
-      λ m. subst (λ ps. IdentifierMeans languages ps i) (whole_head (pieces t) (mean_none (tail_blocks (pieces t)) m.extensions)) m.id,
+      λ m.
+          let whole = whole_head ps (mean_none (tail_blocks ps) m.extensions) in
+          subst (λ qs. IdentifierMeans languages qs i) whole m.id,
     )

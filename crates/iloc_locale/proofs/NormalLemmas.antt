@@ -77,7 +77,8 @@ module _ (t : List ℕ) (M : meaning.Locale) (w : IsWellFormed M) where
   own_text_means e = subst (λ u. Means languages u M) (same_is (text M) t (sym e)) w
 
   -- another text that is its own normal text does not
-  pub other_text_differs : false ≡ is_same (text M) t → IsNormalText languages Locale t t → Means languages t M → ⊥
+  pub other_text_differs : false ≡ is_same (text M) t → IsNormalText languages Locale t t
+      → Means languages t M → ⊥
   other_text_differs e (N, m, is) n =
       let own : text M ≡ t = ap text (one_meaning languages_table t M N n m) ∙ sym is in
       true≢false (sym (same_itself (text M)) ∙ ap (is_same (text M)) own ∙ sym e)
@@ -96,7 +97,8 @@ module _ (t : List ℕ) (M : meaning.Locale) (w : IsWellFormed M) where
   )
 
 -- a text that has a fault means nothing
-pub faulty_differs : (t : List ℕ) (M : meaning.Locale) (f : ParseError) → HasRefusal Locale t f → Means languages t M → ⊥
+pub faulty_differs : (t : List ℕ) (M : meaning.Locale) (f : ParseError) → HasRefusal Locale t f
+    → Means languages t M → ⊥
 faulty_differs t M InvalidLanguage h m = no_meaning t M InvalidLanguage h (λ e. cc) m
 faulty_differs t M InvalidSubtag h m = no_meaning t M InvalidSubtag h (λ e. cc) m
 faulty_differs t M InvalidExtension h m = no_meaning t M InvalidExtension h (λ e. cc) m

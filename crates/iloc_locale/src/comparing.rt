@@ -8,6 +8,7 @@ ghost use Rattle.iloc_spec_grammar.specs.Values.{text};
 ghost use Rattle.iloc_spec_parts.specs.Orders.{locale_cmp};
 
 use crate::locale::Locale;
+use iloc_langid::beginning::begins_with;
 use iloc_subtags::ParseError;
 use iloc_told::told::ROOM;
 use iloc_told::{Mode, Told, tell};
@@ -45,7 +46,7 @@ impl Locale {
         if self.extensions.is_empty() {
             return Ok(self.id.normalizing_eq(other));
         }
-        if !self.id.is_front_of(other.as_bytes()) {
+        if !begins_with(other.as_bytes(), &self.id) {
             return Ok(false);
         }
         match self.compare_told(other.as_bytes()) {
