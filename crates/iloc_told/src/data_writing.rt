@@ -1,6 +1,6 @@
 //! Writes the normal texts of data locales.
 ghost use Rattle.std.specs.Prelude.{◌≡◌, ◌+◌, ◌-◌, ◌≤◌, ◌∷◌, ◌++◌, codes, drop, length, take};
-ghost use Rattle.iloc_spec_grammar.specs.Syntax.{HasWords, Identifier, Text, is_same, join, languages, lower, upper};
+ghost use Rattle.iloc_spec_grammar.specs.Syntax.{HasWords, SpelledIdentifier, Text, is_same, join, languages, lower, upper};
 ghost use Rattle.iloc_spec_preferences.specs.DataLocales.{DataLocale, data_text, whole};
 ghost use Rattle.iloc_outline.specs.Identifier.{front_text};
 ghost use Rattle.iloc_outline.specs.Outlines.{BeginsWithLanguage};
@@ -25,7 +25,7 @@ fn region_start(window: &[u8], end: usize) -> usize
     requires { end ≤ length window.now }
     ensures within { result ≤ end }
     ensures near { end ≤ result + 3 }
-    ensures start { (i : Identifier) → HasWords languages i → take end window.now ≡ join (front_pieces i)
+    ensures start { (i : SpelledIdentifier) → HasWords languages i → take end window.now ≡ join (front_pieces i)
         → IsRegionStart window.now end i.region result }
 {
     if end < 3 {
