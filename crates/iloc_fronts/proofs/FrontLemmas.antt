@@ -1,19 +1,18 @@
 -- From the first piece of a line to what stands at its front.
-use Rattle.std.proofs.Common.{◌≡◌, ◌≢◌, ℕ, zero, suc, ◌+◌, ◌-◌, ◌<◌, ◌≤◌, ◌==◌, Bool, true, false, cond, not, ◌&&◌, List, [], ◌∷◌, ◌++◌, length, get_or, take, drop, refl, sym, ap, ◌∙◌, subst, arith, inl, inr, append_assoc, append-nil}
+use Rattle.std.proofs.Common.{◌≡◌, ◌≢◌, ℕ, zero, suc, ◌+◌, ◌-◌, ◌<◌, ◌≤◌, ◌==◌, Bool, true, false, cond, not, ◌&&◌, List, [], ◌∷◌, length, get_or, take, drop, refl, sym, ap, ◌∙◌, subst, arith, inl, inr}
 use Rattle.std.specs.List.{slice_split, onto_first, list_all}
 use Rattle.std.proofs.lemmas.Bool.{cases_lt, cases_Bool}
 use Rattle.std.proofs.lemmas.Bool.Decides.{nat_tests}
 use Rattle.std.proofs.lemmas.List.{get_or-take, length-drop, length-take-le, take-take, drop-take}
 use Rattle.std.proofs.lemmas.List.Splits.{slice_split-cons_yes, slice_split-cons_no}
-use Rattle.iloc_spec_grammar.specs.Syntax.{pieces, join, first_piece, Kind, Attribute, Language, Script, Region, UnicodeKey, Variant, is_word, IsWord, is_true, lower, languages}
+use Rattle.iloc_spec_grammar.specs.Syntax.{pieces, first_piece, Kind, Attribute, Language, Script, Region, UnicodeKey, Variant, is_word, IsWord, is_true, lower, languages}
 use Rattle.iloc_spec_grammar.specs.Meaning.{normal_values}
 use Rattle.iloc_spec_grammar.specs.Reading.{past, skip_first, starts_block, after_region}
-use Rattle.iloc_spec_grammar.proofs.PiecesLaws.{at_pieces, join-pieces}
-use Rattle.iloc_spec_grammar.proofs.PartTexts.{join-append}
+use Rattle.iloc_spec_grammar.proofs.PiecesLaws.{at_pieces}
 use Rattle.iloc_spec_grammar.proofs.WordsLaws.{length-language, length-script, length-region, length-variant, length-attribute, length-unicode_key}
 use Rattle.iloc_spec_grammar.proofs.RawLaws.{languages_table}
 use Rattle.iloc_fronts.specs.Run.{IsRun, is_hyphen, fails}
-use Rattle.iloc_fronts.specs.Front.{IsFirst, IsOneVariant, EndsInVariant, GoesOnAs, IsFront}
+use Rattle.iloc_fronts.specs.Front.{IsFirst, GoesOnAs, IsFront}
 use Rattle.iloc_fronts.specs.declared.front.Front.{Front}
 use Rattle.iloc_fronts.specs.declared.front.Front.TheVariants as front
 
@@ -263,38 +262,12 @@ module _ (w : List ℕ) (len n : ℕ) (room : len + 16 ≤ length w) (first : Is
       front [] l = absurd (omega arith)
       front (b ∷ v) l = refl
 
--- what is skipped comes before what is not
-skipped : (f : List ℕ → Bool) (ps : List (List ℕ)) → (xs : List (List ℕ)) × (ps ≡ xs ++ skip_first f ps)
-skipped f [] = ([], refl)
-skipped f (p ∷ ps) = by (f p)
-  where
-    by : (b : Bool) → (xs : List (List ℕ)) × (p ∷ ps ≡ xs ++ cond b ps (p ∷ ps))
-    by true = (p ∷ [], refl)
-    by false = ([], refl)
-
--- a variant that follows the first piece, and perhaps a script and a region, is the end of the text
-ends_in : (t : List ℕ) (n : ℕ) → IsOneVariant (after_region (pieces t)) n → EndsInVariant t n
-ends_in t n o = at_pieces (λ ps. after_region ps ≡ o.variant ∷ [] → join ps ≡ t → EndsInVariant t n) by t o.all (join-pieces t)
-  where
-    by : (p : List ℕ) (ps : List (List ℕ)) → after_region (p ∷ ps) ≡ o.variant ∷ [] → join (p ∷ ps) ≡ t → EndsInVariant t n
-    by p ps e j =
-        let script = skipped (is_word Script) ps in
-        let region = skipped (is_word Region) (skip_first (is_word Script) ps) in
-        let parts : ps ≡ (script.0 ++ region.0) ++ o.variant ∷ [] =
-        script.1 ∙ ap (λ l. script.0 ++ l) (region.1 ∙ ap (λ l. region.0 ++ l) e) ∙ sym (append_assoc script.0 region.0 (o.variant ∷ [])) in
-        record {
-          front = join (p ∷ (script.0 ++ region.0));
-          variant = o.variant;
-          cut = sym j ∙ ap (λ l. join (p ∷ l)) parts ∙ join-append p (script.0 ++ region.0) (o.variant ∷ []) ∙ ap (λ v. join (p ∷ (script.0 ++ region.0)) ++ 45 ∷ v) (append-nil o.variant);
-          is = o.is;
-          long = o.long;
-        }
-
--- what is told of the pieces after a language is told of the text
-pub is_front : (t : List ℕ) (f : Front) → IsWord (Language languages) (first_piece (pieces t)) → GoesOnAs (after_region (pieces t)) f → IsFront t f
+-- what is so of the pieces after a language is so of the text
+pub is_front : (t : List ℕ) (f : Front) → IsWord (Language languages) (first_piece (pieces t))
+    → GoesOnAs (after_region (pieces t)) f → IsFront t f
 is_front t front.NoLanguage l g = absurd (g tt)
 is_front t front.Misfit l g = (l, g)
 is_front t (front.Block b) l g = (l, g)
-is_front t front.Other l g = tt
-is_front t (front.Variant n) l g = ends_in t n g
+is_front t front.Other l g = (l, g)
+is_front t (front.Variant n) l g = (l, g)
 is_front t (front.Variants n) l g = (l, g)

@@ -34,14 +34,6 @@ pub record IsOneVariant (ps : List Text) (n : ℕ) : Type 0 where
   pub is : IsWord Variant variant
   pub long : length variant ≡ n
 
--- behind a hyphen the last n bytes are a variant
-pub record EndsInVariant (t : Text) (n : ℕ) : Type 0 where
-  pub front : Text
-  pub variant : Text
-  pub cut : t ≡ front ++ 45 ∷ variant
-  pub is : IsWord Variant variant
-  pub long : length variant ≡ n
-
 -- what the pieces after a region are: variants, and then nothing, a piece that fits nowhere, or a
 -- block
 abbrev pub GoesOnAs : List Text → Front → Type 0
@@ -52,12 +44,9 @@ GoesOnAs ps (front.Variant n) = IsOneVariant ps n
 GoesOnAs ps (front.Variants n) = (past (is_word Variant) ps ≡ []) × (2 ≤ length ps)
 GoesOnAs ps front.Other = ⊤
 
--- what the text is: no language comes first, or a variant last, or what follows a language is as
--- told
+-- what the text is: no language comes first, or what follows a language is as said
 abbrev pub IsFront : Text → Front → Type 0
 IsFront t front.NoLanguage = is_word (Language languages) (first_piece (pieces t)) ≡ false
-IsFront t front.Other = ⊤
-IsFront t (front.Variant n) = EndsInVariant t n
 IsFront t f = IsWord (Language languages) (first_piece (pieces t))
     × GoesOnAs (after_region (pieces t)) f
 

@@ -122,10 +122,16 @@ fn lead_of_front(window: &[u8], len: usize) -> Lead
     ensures { IsLead modes.Data (take len window.now) result }
 {
     match read_front(window, len) {
+        Front::NoLanguage => Lead::Refused(ParseError::InvalidLanguage),
         Front::Misfit => Lead::Refused(ParseError::InvalidSubtag),
         Front::Variants(_) => Lead::Refused(ParseError::InvalidSubtag),
-        Front::Block(block) if is_other(block) => Lead::Refused(ParseError::InvalidSubtag),
-        _ => lead_of_language(window, len),
+        Front::Block(block) => {
+            if is_other(block) {
+                return Lead::Refused(ParseError::InvalidSubtag);
+            }
+            Lead::Outline
+        }
+        Front::Variant(_) | Front::Other => Lead::Outline,
     }
 }
 
