@@ -43,6 +43,7 @@ impl Extensions {
     ghost use Rattle.iloc_locale.specs.ExtensionsValue.{value_of};
 
     /// No extension.
+    #[inline(always)]
     pub fn new(alloc: Global) -> Self
         ensures { value_of result ≡ no_extensions }
     {
@@ -50,6 +51,7 @@ impl Extensions {
     }
 
     /// This unicode extension, and all else empty.
+    #[inline(always)]
     pub fn from_unicode(alloc: Global, unicode: Unicode) -> Self
         ensures { value_of result ≡ just_unicode (unicode_value.value_of unicode) }
     {
