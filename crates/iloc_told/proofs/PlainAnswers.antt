@@ -86,13 +86,13 @@ module _ (t : List ℕ) (i : Identifier) (m : IdentifierMeans languages (pieces 
   variants_are = ap (λ (x : Identifier). x.variants) m.means ∙ one_set variants few
 
   -- the data locale of its words
-  abbrev pub data_of : DataLocale
-  data_of = made_of i.language i.script (option_map whole_region i.region) (first_item i.variants)
+  abbrev pub data_named : DataLocale
+  data_named = made_of i.language i.script (option_map whole_region i.region) (first_item i.variants)
 
   abbrev small : SmallLocale
   small = record { id = record { language = i.language; script = i.script; region = i.region; variant = first_item i.variants }; keyword = None }
 
-  data_means : DataMeans languages t data_of
+  data_means : DataMeans languages t data_named
   data_means = record {
     small = small;
     is_small = tree_is_small t small (record {
@@ -107,20 +107,20 @@ module _ (t : List ℕ) (i : Identifier) (m : IdentifierMeans languages (pieces 
     means = refl;
   }
 
-  pub data_text_is : data_text data_of ≡ identifier_text i
+  pub data_text_is : data_text data_named ≡ identifier_text i
   unfolding identifier_text
   data_text_is =
       λ j. join (i.language ∷ (option_to_list i.script ++ (option_to_list (same_region i.region j)
       ++ (ap (λ l. option_to_list (first_item i.variants) ++ l) (ap subdivision_pieces none) ∙ append-nil (option_to_list (first_item i.variants)) ∙ one_item i.variants f) j)))
     where
-      none : subdivision_keyword data_of ≡ None
+      none : subdivision_keyword data_named ≡ None
       none = no_keyword i.region (identifier_means_value (pieces t) i m).region
 
   -- in each mode it means the identifier alone
   pub few_normal : (mode : Mode) → IsNormalText languages mode t (identifier_text i)
   few_normal Langid = alone_normal t i m Langid (λ e. cc)
   few_normal Locale = alone_normal t i m Locale (λ e. cc)
-  few_normal Data = (data_of, data_means, sym data_text_is)
+  few_normal Data = (data_named, data_means, sym data_text_is)
 
 pub plain_normal : (mode : Mode) (t : List ℕ) (p : Plain) → IsPlain t p → IsNormalText languages mode t (identifier_text (value_of p))
 unfolding plain_identifier

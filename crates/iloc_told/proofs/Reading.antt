@@ -23,8 +23,8 @@ use Rattle.iloc_outline.proofs.Fronts.{begins_text}
 use Rattle.iloc_outline.proofs.Meanings.{refused}
 use Rattle.iloc_outline.proofs.TransformLemmas.{pieces_front_of}
 use Rattle.iloc_outline.proofs.TransformReading.{pieces_front}
-use Rattle.iloc_told.specs.Data.{IsBlockRead, IsDataRead, IsHead, data_alone}
-use Rattle.iloc_told.specs.Subdivisions.{IsNamed, data_behind, data_of}
+use Rattle.iloc_told.specs.Data.{IsDataBlockRead, IsDataRead, IsHead, data_alone}
+use Rattle.iloc_told.specs.Subdivisions.{IsNamed, data_behind, data_named}
 use Rattle.iloc_told.specs.Told.{HasRefusal}
 use Rattle.iloc_told.specs.declared.Mode.TheVariants as modes
 use Rattle.iloc_told.specs.declared.data.Data.{Data}
@@ -76,7 +76,7 @@ module _ (w : Text) (len : ℕ) (language : BeginsWithLanguage (take len w)) (vs
     by_block single = meant t language vs (pieces_left k) cut variants few (single_starts
         (bytes_left k) single)
 
-    pub read_on : (d : Data) → IsBlockRead h k d → IsDataRead w len d
+    pub read_on : (d : Data) → IsDataBlockRead h k d → IsDataRead w len d
     read_on (datas.Head j) r = absurd r
     read_on (datas.Named j v) r =
         let s = r.2.0 in
@@ -84,7 +84,7 @@ module _ (w : Text) (len : ℕ) (language : BeginsWithLanguage (take len w)) (vs
         let behind = p.behind in
         let inside = p.inside in
         subst (λ (g : Head). IsDataRead w len (datas.Named g v)) (sym r.0) (
-          data_of (small_identifier i) s,
+          data_named (small_identifier i) s,
           by_block r.1 ∙ r.2.2 (small_identifier i),
           record {
             written = i;
