@@ -11,7 +11,8 @@ ghost use Rattle.iloc_kinds.specs.Kinds.{ArePlaced, IsOfKind, IsNormalTextOf, Ki
 pub fn parts()
     ensures joined { (M : Locale) (t : Text) → IsNormalTextOf M t
         → join (map (λ (_, p). p) (parts_of M)) ≡ t }
-    ensures words { (M : Locale) (t : Text) → IsNormalTextOf M t → AllByRecursion IsOfKind (parts_of M) }
+    ensures words { (M : Locale) (t : Text) → IsNormalTextOf M t
+        → AllByRecursion IsOfKind (parts_of M) }
     ensures placed { (M : Locale) (t : Text) → IsNormalTextOf M t
         → ArePlaced t (rows_of (parts_of M)) (parts_of M) }
     ensures three { (ps : List KindedPiece) → length (rows_of ps) ≡ 3 * length ps }
