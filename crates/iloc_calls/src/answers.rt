@@ -51,7 +51,7 @@ pub(crate) fn judge(alloc: Global, mode: Mode, text: &[u8]) -> Status
     }
 }
 
-// The same of a text that is not plain.
+// Judges a text that is not plain.
 #[inline(never)]
 fn judge_other(alloc: Global, mode: Mode, text: &[u8]) -> Status
     ensures { JudgedAs mode text.now result }
@@ -65,7 +65,7 @@ fn judge_other(alloc: Global, mode: Mode, text: &[u8]) -> Status
     }
 }
 
-// The same by parsing it.
+// Judges a text by parsing it.
 #[inline(never)]
 fn judge_parsed(alloc: Global, mode: Mode, text: &[u8]) -> Status
     ensures { JudgedAs mode text.now result }
@@ -77,7 +77,7 @@ fn judge_parsed(alloc: Global, mode: Mode, text: &[u8]) -> Status
     }
 }
 
-// The same of a data locale.
+// Judges a text as a data locale.
 #[tactic(auto, using(crate::proofs::AnswerLemmas::parts_judged))]
 #[inline(always)]
 fn judge_data_locale(text: &[u8]) -> Status
@@ -137,7 +137,7 @@ fn normalize_plain<const W: usize>(
     Some(hand_out_fitting_plain::<W>(&plain, buffer, needed).number())
 }
 
-// The same of a text of less than four bytes.
+// Hands out the normal text of a plain text of less than four bytes.
 #[inline(always)]
 fn normalize_tiny(mode: u32, text: &[u8], buffer: &mut [u8], needed: &mut usize) -> Option<u32>
     requires { length text.now < 4 }
@@ -151,7 +151,7 @@ fn normalize_tiny(mode: u32, text: &[u8], buffer: &mut [u8], needed: &mut usize)
     normalize_plain::<2>(mode, text, buffer, needed)
 }
 
-// The same of any text, by its length.
+// Hands out the normal text of a plain text of any length.
 #[inline(always)]
 fn normalize_at_once(mode: u32, text: &[u8], buffer: &mut [u8], needed: &mut usize) -> Option<u32>
     ensures some { IfSome result
@@ -189,7 +189,8 @@ pub(crate) fn normalize(
     }
 }
 
-// The same of a text that is not plain. It is called cold, so that the registers are those of the plain path.
+// Hands out the normal text of one that is not plain. It is called cold, so that the registers are those of the plain
+// path.
 #[inline(never)]
 #[cold]
 fn normalize_other(
@@ -207,7 +208,7 @@ fn normalize_other(
     }
 }
 
-// The same by what is told of it.
+// Hands out the normal text as it is written from the bytes, without a value.
 #[inline(always)]
 fn normalize_told(
     alloc: Global,
@@ -227,7 +228,8 @@ fn normalize_told(
     }
 }
 
-// The same by parsing it. Each mode has a function of its own, so that no call clears room for what others parse.
+// Hands out the normal text of the value that is parsed. Each mode has a function of its own, so that no call clears
+// room for what others parse.
 fn normalize_parsed(
     alloc: Global,
     mode: Mode,

@@ -25,7 +25,7 @@ pub fn find_fault(mode: u32, text: &[u8], start: &mut usize, end: &mut usize) ->
     }
 }
 
-// The same in a mode.
+// Finds the fault of a text in a mode.
 #[tactic(auto, using(crate::proofs::FaultLemmas::refusal_found))]
 fn find(mode: Mode, text: &[u8], start: &mut usize, end: &mut usize) -> Status
     ensures { FindsFault mode text.now (start.old, end.old) (start.new, end.new) result }

@@ -70,7 +70,7 @@ pub fn hand_out<W: Writeable>(value: &W, buffer: &mut [u8], needed: &mut usize) 
     }
 }
 
-/// The same of a text that fits. Its length is not asked for first.
+/// Writes a text that fits. Its length is not asked for first.
 pub(crate) fn hand_out_fitting<W: Writeable>(
     value: &W,
     buffer: &mut [u8],
@@ -89,7 +89,7 @@ pub(crate) fn hand_out_fitting<W: Writeable>(
     }
 }
 
-/// The same of a text of at most `most` bytes. Its length is asked for only if these do not fit.
+/// Writes a text of at most `most` bytes if it fits. Its length is asked for only if these do not fit.
 #[inline(always)]
 pub(crate) fn hand_out_within<W: Writeable>(
     value: &W,
@@ -107,7 +107,7 @@ pub(crate) fn hand_out_within<W: Writeable>(
     }
 }
 
-/// The same of a plain identifier that fits, whose first and last `W` bytes are all of it.
+/// Writes a plain identifier that fits, whose first and last `W` bytes are all of it.
 #[inline(always)]
 pub(crate) fn hand_out_fitting_plain<const W: usize>(
     plain: &Plain,
@@ -127,7 +127,7 @@ pub(crate) fn hand_out_fitting_plain<const W: usize>(
     Status::Done
 }
 
-/// The same of these bytes.
+/// Writes these bytes if they fit.
 #[inline(always)]
 pub(crate) fn hand_out_bytes(bytes: &[u8], buffer: &mut [u8], needed: &mut usize) -> Status
     ensures { HandsOut bytes.now buffer.old buffer.new needed.new result }

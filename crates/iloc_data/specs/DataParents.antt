@@ -12,11 +12,12 @@ use Rattle.iloc_data.specs.DataValue.{unknown_data}
 abbrev pub region_of : DataLocale → Option Text
 region_of d = option_map (λ s. s.region) (region_part d)
 
--- The same with that region as a whole.
+-- The data locale with that region as a whole.
 abbrev pub with_whole_region : DataLocale → DataLocale
 with_whole_region d = record d { region = region_of d; subdivision = None }
 
--- The same without the subdivision, if one is printed; else without the variant; else without the
+-- The data locale without its subdivision, if one is printed; else without the variant; else
+-- without the
 -- region; else without the script; else `und`, which has no parent.
 abbrev pub data_parent : DataLocale → Option DataLocale
 data_parent d = option_or (option_map (λ _. with_whole_region d) (subdivision_keyword d))

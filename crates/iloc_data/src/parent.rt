@@ -61,7 +61,7 @@ impl DataLocale {
         Some(DataLocale::default())
     }
 
-    // The same with the region that it stands for, as a whole.
+    // The data locale with the region that it stands for, as a whole.
     fn with_whole_region(&self) -> Self
         ensures { value_of result ≡ with_whole_region (value_of self.now) }
     {

@@ -23,7 +23,7 @@ pub(crate) fn look_at_data_locale(locale: &DataLocale)
     look_at(&locale.subdivision);
 }
 
-// The same of preferences.
+// Looks at each subtag of preferences, so that all are known to be normal.
 pub(crate) fn look_at_preferences(preferences: &LocalePreferences)
     ensures { IsPreferences languages preferences.now }
 {

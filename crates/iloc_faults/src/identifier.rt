@@ -70,7 +70,7 @@ fn read_variant<'a>(
     }
 }
 
-// The same after a script.
+// What was read once the piece is read too, after a script.
 fn read_region<'a>(mode: Mode, at: Left<'a>) -> Option<(Stage, Option<Left<'a>>)>
     requires { IsRemainder at }
     ensures { IsWordRead at.entry (after_script_next mode [] (piece_left at.entry)) result }

@@ -206,7 +206,7 @@ fn read_block<'a>(state: State<'a>, at: Left<'a>) -> Option<State<'a>>
     })
 }
 
-// The same of a data locale: `u` alone, after the identifier.
+// What was read with the singleton of a data locale too: `u` alone, after the identifier.
 fn read_data_block<'a>(state: State<'a>, at: Left<'a>) -> Option<State<'a>>
     requires left { IsRemainder at }
     requires single { is_one_byte (piece_left at) ≡ true }
@@ -220,7 +220,7 @@ fn read_data_block<'a>(state: State<'a>, at: Left<'a>) -> Option<State<'a>>
     }
 }
 
-// The same in the mode.
+// What was read with the singleton too, in the mode.
 fn read_singleton<'a>(mode: Mode, state: State<'a>, at: Left<'a>) -> Option<State<'a>>
     requires left { IsRemainder at }
     requires single { is_one_byte (piece_left at) ≡ true }

@@ -18,7 +18,8 @@ pub record IsIdentifierAnswer (t : Text) (r : Result LanguageIdentifier ParseErr
   pub refused : (f : Fault) → HasIdentifierFault languages (pieces t) f → Refuses ⊤ f r
   pub memory : RunsOutOnlyIf (IdentifierWantsMemory (pieces t)) r
 
--- The same of a locale; `reads` says also when memory may run out.
+-- Of a locale: each clause of its parser that says what comes of the text; `reads` says also when
+-- memory may run out.
 pub record IsLocaleAnswer (t : Text) (r : Result Locale ParseError) : Type 0 where
   pub reads : LocaleTextAnswers t r
   pub accepted : (M : meaning.Locale) → Means languages t M → Accepts locale_of ⊤ M r

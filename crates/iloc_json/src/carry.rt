@@ -14,7 +14,7 @@ use std::alloc::Global;
 
 /// The row of the new raw forms of the same languages.
 ///
-/// A length that is no multiple of three is told first, and then the first bad word.
+/// A length that is no multiple of three is refused first, and then the first bad word.
 pub fn carry_v1(alloc: Global, row: &[u8]) -> Result<Vec<u8>, CarryError>
     ensures ok { IfOk result
         (λ v. (ws : List Text) × IsOldRow row.now ws × (v.items ≡ new_row ws)) }

@@ -53,7 +53,7 @@ impl SubdivisionId {
         Self::read_text(code_units)
     }
 
-    // The same by what it reads alone.
+    // Parses the subdivision. Its clause says what is read; the others follow from it.
     fn read_text(code_units: &[u8]) -> Result<Self, ParseError>
         ensures { SubdivisionTextReads code_units.now result }
     {

@@ -1,4 +1,4 @@
--- What each piece is after those before it: how a text is told from the left.
+-- What each piece is after those before it: how a text is read from the left.
 use Rattle.std.specs.Prelude.{ℕ, Bool, false, ◌==◌, List, [], ◌∷◌, slice_index, if◌then◌else◌}
 use Rattle.std.specs.Char.{to_ascii_lowercase}
 use Rattle.std.specs.List.{AllByRecursion}

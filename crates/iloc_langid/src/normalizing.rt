@@ -41,7 +41,7 @@ impl LanguageIdentifier {
         }
     }
 
-    // The same of a text that is not plain, by what is told of it, and else by parsing it.
+    // Normalizes a text that is not plain: from its bytes, and beyond the outline's limits by parsing it.
     #[inline(never)]
     fn normalize_other(alloc: Global, input: &[u8]) -> Result<CowStr<'_, Global>, ParseError>
         ensures ok { IfOk result (λ text. IsNormalizedIdentifier input.now (cow_str_bytes text)
@@ -55,7 +55,7 @@ impl LanguageIdentifier {
         }
     }
 
-    // The same by parsing the text.
+    // Normalizes a text by parsing it.
     #[inline(never)]
     fn normalize_parsed(alloc: Global, input: &[u8]) -> Result<CowStr<'_, Global>, ParseError>
         ensures ok { IfOk result (λ text. IsNormalizedIdentifier input.now (cow_str_bytes text)

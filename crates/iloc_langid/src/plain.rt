@@ -38,7 +38,7 @@ pub(crate) fn take_plain(iter: &mut SubtagIterator<'_>) -> Option<PlainParts>
     })
 }
 
-/// The subtags of the first bytes if they are a plain text, told at once (`iloc_plain`). `None` says nothing of them.
+/// The subtags of the first bytes if they are a plain text (`iloc_plain`). `None` says nothing of them.
 #[inline(always)]
 pub(crate) fn tell_plain(v: u8x16, len: usize) -> Option<PlainParts>
     requires { len ≤ 16 }

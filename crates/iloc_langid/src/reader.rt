@@ -70,7 +70,7 @@ fn add_variants(
     Ok(())
 }
 
-// The same if these four variants stood before.
+// Takes the variants that follow where these four stood before.
 #[inline(never)]
 fn read_more_variants(
     alloc: Global,
@@ -126,7 +126,7 @@ pub fn read_front(
     Ok(identifier)
 }
 
-/// The same in place of what the identifier was. After a refusal it holds some of its subtags.
+/// Parses the longest front in place of what the identifier was. After a refusal it holds some of its subtags.
 pub fn fill_front(
     alloc: Global,
     iter: &mut SubtagIterator<'_>,
@@ -156,7 +156,7 @@ pub fn fill_whole(
     }
 }
 
-/// The same of a text.
+/// Parses a text in place of what the identifier was.
 #[inline(never)]
 pub(crate) fn fill_text(
     alloc: Global,
@@ -233,7 +233,8 @@ pub fn read_head(
     Ok(identifier)
 }
 
-/// The same in place of what the identifier was. After a refusal it holds some of its subtags.
+/// Parses the pieces up to the first block in place of what the identifier was. After a refusal it holds some of
+/// its subtags.
 pub fn fill_head(
     alloc: Global,
     iter: &mut SubtagIterator<'_>,

@@ -55,7 +55,7 @@ pub fn read_small_locale(code_units: &[u8]) -> Result<SmallLocaleParts, ParseErr
     read_small_pieces(code_units)
 }
 
-// The same by the pieces.
+// Reads the small locale piece by piece.
 #[inline(never)]
 fn read_small_pieces(code_units: &[u8]) -> Result<SmallLocaleParts, ParseError>
     ensures { SmallLocaleTextReads code_units.now result }

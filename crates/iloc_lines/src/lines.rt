@@ -62,7 +62,7 @@ fn line_ends(lanes: u8x16) -> u64
     lanes.simd_eq(u8x16::splat(10)).to_bitmask()
 }
 
-// The same of 32 bytes.
+// A bit for each newline among 32 bytes.
 #[inline(always)]
 fn wide_line_ends(lanes: u8x32) -> u64
     ensures { result ≡ mask_l (map (is_byte 10) lanes) }
@@ -89,7 +89,8 @@ fn line_end(bytes: &[u8]) -> usize
     line_end_later(bytes)
 }
 
-// The same if none stands among the first 32. It is a call of its own, so that shorter lines pay nothing.
+// Where the first newline stands if none is among the first 32. It is a call of its own, so that shorter lines pay
+// nothing.
 #[inline(never)]
 fn line_end_later(bytes: &[u8]) -> usize
     requires { 32 ≤ length bytes.now → Nowhere (Passes (is_byte 10) bytes.now) 0 32 }
@@ -104,7 +105,7 @@ fn line_end_later(bytes: &[u8]) -> usize
     line_end_beyond(bytes)
 }
 
-// The same of any bytes.
+// Where the first newline stands among any bytes.
 #[inline(never)]
 fn line_end_beyond(bytes: &[u8]) -> usize
     ensures { IsLineEnd bytes.now result }

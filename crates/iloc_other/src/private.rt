@@ -131,7 +131,7 @@ impl Private {
         Self::read_text(alloc, code_units)
     }
 
-    // The same by what it reads, and when memory runs out, alone.
+    // Parses the extension. Its clauses say what is read and when memory runs out; the others follow from them.
     fn read_text(alloc: Global, code_units: &[u8]) -> Result<Self, ParseError>
         ensures reads { PrivateTextReads code_units.now result }
         ensures memory { RunsOutOnlyIf (PrivateTextWants code_units.now) result }

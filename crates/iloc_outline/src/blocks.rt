@@ -58,7 +58,7 @@ fn read_body(
     read_another(byte, start, left, spans, in_order)
 }
 
-// The same of another singleton than `u`. The reader of it works on a copy, so that the cursor need not be stored.
+// What follows another singleton than `u`. The reader of it works on a copy, so that the cursor need not be stored.
 #[inline(always)]
 fn read_another(
     byte: u8,
@@ -86,7 +86,7 @@ fn read_another(
     found
 }
 
-// The same of another singleton than `u`. It is a call of its own, so that readers of `u` stay small.
+// Reads what follows another singleton than `u`. It is a call of its own, so that readers of `u` stay small.
 #[inline(never)]
 fn read_apart(
     byte: u8,

@@ -61,7 +61,7 @@ pub fn begins_with_language(window: &[u8], len: usize) -> bool
     is_language(window, first_len(window, len))
 }
 
-// The same if fewer than sixteen bytes are there. It is a call of its own, so that longer windows pay nothing.
+// Whether fewer than sixteen bytes begin with a language. It is a call of its own, so that longer windows pay nothing.
 #[inline(never)]
 fn begins_few(window: &[u8], len: usize) -> bool
     requires { len ≤ length window.now }

@@ -35,7 +35,8 @@ fn copy_lower(window: &[u8], at: usize, count: usize, to: &mut [u8], start: usiz
     }
 }
 
-// The same if fewer than sixteen bytes are there. It is a call of its own, so that longer windows pay nothing.
+// Copies the last bytes, where fewer than sixteen are there. It is a call of its own, so that longer windows pay
+// nothing.
 #[inline(never)]
 fn copy_last(window: &[u8], at: usize, count: usize, to: &mut [u8], start: usize)
     requires inside { at + count ≤ length window.now }

@@ -20,7 +20,7 @@ pub enum Found {
 }
 
 impl Found {
-    /// The same of a block: the piece that comes next has one byte, or the block is bad.
+    /// What the pieces of a block are: a piece of one byte comes next, or the block is bad.
     #[inline(always)]
     pub fn at_block(self, next: &Left<'_>) -> Found
         requires { IsFoundAt next.now self }

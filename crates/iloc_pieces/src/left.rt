@@ -283,7 +283,8 @@ fn number_at(window: &[u8], at: usize, n: usize) -> u64
     }
 }
 
-// The same if fewer than eight bytes are there. It is a call of its own, so that longer windows pay nothing.
+// The number of the last bytes, where fewer than eight are there. It is a call of its own, so that longer windows pay
+// nothing.
 #[inline(never)]
 fn last_number(window: &[u8], at: usize, n: usize) -> u64
     requires inside { at + n ≤ length window.now }

@@ -31,7 +31,7 @@ fn load_at(window: &[u8], at: usize) -> u8x16
     load_last(window, at)
 }
 
-// The same if fewer than sixteen bytes are there. It is a call of its own, so that longer windows pay nothing.
+// The last bytes, where fewer than sixteen are there. It is a call of its own, so that longer windows pay nothing.
 #[inline(never)]
 fn load_last(window: &[u8], at: usize) -> u8x16
     requires inside { at ≤ length window.now }

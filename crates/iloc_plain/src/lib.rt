@@ -1,4 +1,4 @@
-//! Plain texts, told at once, without a value being built.
+//! Plain texts, read from their bytes without building a value.
 //!
 //! A text is plain here if it is a language, perhaps a script and a region, and nothing else, in at
 //! most sixteen bytes: `de`, `en-us`, `zh-HANT-tw`, `es-419`. Most identifiers in use are plain.

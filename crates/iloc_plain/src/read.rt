@@ -20,7 +20,7 @@ pub fn read_plain(window: &[u8], len: usize) -> Option<Plain>
     read_lanes(u8x16::from_slice(window), len)
 }
 
-/// The same of bytes that are loaded.
+/// The plain identifier that the first of these loaded bytes are. `None` says nothing of them.
 #[inline(always)]
 pub fn read_lanes(v: u8x16, len: usize) -> Option<Plain>
     requires { len ≤ 16 }
@@ -44,7 +44,7 @@ pub fn read_lanes(v: u8x16, len: usize) -> Option<Plain>
     })
 }
 
-/// The same of a whole text.
+/// The plain identifier that a whole text is. `None` says nothing of it.
 #[inline(always)]
 pub fn read_plain_text(text: &[u8]) -> Option<Plain>
     ensures { IfSome result (IsPlain text.now) }

@@ -1,4 +1,4 @@
--- Meaning told block by block: the same relation as `Means`, as a reader of the text would check
+-- Meaning block by block: the same relation as `Means`, as a reader of the text would check
 -- it, by a rule for each part. The law `by_blocks` says that the two agree if the rules are
 -- those of the grammar. Restates UTS #35, section 3, unicode_locale_id.
 use Rattle.std.specs.Prelude.{◌≡◌, true, List, [], map, filter, Option, MatchOption}

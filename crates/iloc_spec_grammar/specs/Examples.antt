@@ -1,4 +1,4 @@
--- How worked examples are told: a text means something whose normal text is another, or it is
+-- How worked examples are written: a text means something whose normal text is another, or it is
 -- refused.
 use Rattle.std.specs.Prelude.{◌≡◌}
 use Rattle.iloc_spec_grammar.specs.Syntax.{Text, pieces, languages, Identifier}

@@ -1,4 +1,4 @@
--- The tree of a text: the same grammar told another way. A text spells a tree, which has a meaning,
+-- The tree of a text: the grammar in another form. A text spells a tree, which has a meaning,
 -- or its first bad block is found from the left. No contract of a type rests on it. Proofs do,
 -- since a tree can be taken apart case by case: SameMeaning, SameFaults and SameText show that it
 -- agrees with the definitions of Meaning and Values.

@@ -1,4 +1,4 @@
-//! The grammar told in other ways, and the laws that they agree with its definitions.
+//! The grammar in other words, and the laws that they agree with its definitions.
 //!
 //! A text spells a tree, and means what the tree means (`Tree`). Or it is read block by block, by a rule for each part
 //! (`ByBlocks`). Or plain programs compute what it means (`Reading`, `Computing`). Proofs go by the one that fits best.

@@ -23,7 +23,7 @@ pub fn any_steps()
         → (L ≡ M) ↔ ((n : ℕ) × LeadToOne (TextStep T) n t u) }
 {}
 
-/// The same for identifiers, by steps in the case of letters and in the order of variants.
+/// Any number of steps in the case of letters and in the order of variants keeps what an identifier means.
 pub fn any_identifier_steps()
     ensures mean { (T : LanguageLengths) (n : ℕ) (t u : Text) (i : Identifier)
         → Leads (IdentifierTextStep T) n t u → IdentifierMeans T (pieces t) i
@@ -74,7 +74,7 @@ pub fn tests_of_lists<X>()
         → IsTrue (is_without_repeats same key seen xs ys) ↔ WithoutRepeats key seen xs ys }
 {}
 
-/// The same for the parts of a written locale and for the whole.
+/// What a step does to the parts of a written locale, and to the whole, is what their tests say.
 pub fn tests_of_parts()
     ensures less_true { (f g : Field) → IsTrue (has_less_true f g) ↔ TreeLessTrue f g }
     ensures identifier { (r : TreeRule) (i j : SpelledIdentifier)
@@ -84,7 +84,7 @@ pub fn tests_of_parts()
     ensures written { (v w : Written) → IsTrue (is_step v w) ↔ Step v w }
 {}
 
-/// The same for texts.
+/// What a step does to a text is what the tests of texts say.
 pub fn tests_of_texts()
     ensures text { (T : LanguageLengths) → AreLengths T → (t u : Text)
         → IsTrue (is_text_step T t u) ↔ TextStep T t u }

@@ -1,4 +1,4 @@
--- Meaning told by the readers of single parts: the same relation as `Means`, as a program composes
+-- Meaning by the readers of single parts: the same relation as `Means`, as a program composes
 -- it of them. The law `by_readers` says that the two agree. Restates UTS #35, section 3,
 -- unicode_locale_id.
 use Rattle.std.specs.Prelude.{[]}

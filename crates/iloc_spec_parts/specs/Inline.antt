@@ -31,7 +31,7 @@ pub record IsInline (T : LanguageLengths) (t : Text) : Type 0 where
   pub private : length extensions.private ≤ 4
   pub no_others : extensions.others ≡ []
 
--- Inline texts, told block by block: what the reader of each part finds at its front.
+-- Inline texts, block by block: what the reader of each part finds at its front.
 
 -- after `u`: four attributes at most, and of the keywords before a bad key one key, and four values
 -- at each key as it is written

@@ -1,4 +1,4 @@
-//! What the parsers of single parts take from the front of a text, and meaning told by these parsers.
+//! What the parsers of single parts take from the front of a text, and meaning by these parsers.
 //!
 //! For the parts of `u`, `t`, other singletons and `x` one relation says what is parsed and what is left, and another
 //! says when nothing is. Each has one answer. Those of `u`, `t` and other singletons agree with the rules of blocks if
@@ -38,7 +38,8 @@ pub fn unicode_front()
     ensures blocks { AgreesWithBlocks UnicodeRead UnicodeFault UnicodeMeans }
 {}
 
-/// The same after `t`. A variant is repeated in the block exactly if it is at the front.
+/// What comes after `t` is read from the front, or has a fault. A variant is repeated in the block exactly if it is at
+/// the front.
 pub fn transform_front()
     ensures reader { (T : LanguageLengths) → AreLengths T
         → IsReader (TransformRead T) (TransformFault T) }
@@ -51,7 +52,7 @@ pub fn transform_front()
         → RepeatsVariant T (front ps) ↔ RepeatsVariant T ps }
 {}
 
-/// The same after another singleton.
+/// What comes after another singleton is read from the front, or has a fault.
 #[tactic(auto, using(crate::proofs::FrontLaws::other_reader, crate::proofs::FrontLaws::other_answer, crate::proofs::FrontLaws::other_agrees))]
 pub fn other_front()
     ensures reader { IsReader OtherRead OtherFault }

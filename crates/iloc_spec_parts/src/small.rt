@@ -41,7 +41,7 @@ pub fn small_or_one_fault()
         → MatchResult (small_result T t) (IsSmall T t) (HasSmallFault T t) }
 {}
 
-/// The same for identifiers with at most one variant.
+/// Pieces are an identifier with at most one variant or have a fault, never both; and a plain program says which.
 pub fn small_identifiers()
     ensures one { (T : LanguageLengths) (ps : List Text) (r s : SmallIdentifier)
         → IsSmallIdentifier T ps r

@@ -38,7 +38,7 @@ pub fn merging()
     ensures onto_default { (a : Preferences) → merge default_preferences a ≡ a }
 {}
 
-/// The same for the preferences of formatters.
+/// Preferences of formatters extended by the default ones, and by themselves, stay.
 #[tactic(auto, using(crate::proofs::PreferenceLaws::default_time_merge, crate::proofs::PreferenceLaws::format_itself, crate::proofs::PreferenceLaws::default_format_merge, crate::proofs::PreferenceLaws::time_itself))]
 pub fn merging_formatters()
     ensures default { (a : FormatPreferences)

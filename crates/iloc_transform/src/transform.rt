@@ -112,7 +112,7 @@ impl Transform {
         Self::read_text(alloc, code_units)
     }
 
-    // The same by what it reads, and when memory runs out, alone.
+    // Parses the transform. Its clauses say what is read and when memory runs out; the others follow from them.
     fn read_text(alloc: Global, code_units: &[u8]) -> Result<Self, ParseError>
         ensures reads { TransformTextReads code_units.now result }
         ensures memory { RunsOutOnlyIf (TransformTextWants code_units.now) result }
@@ -150,7 +150,8 @@ impl Transform {
     }
 }
 
-/// The same into an empty extension, for parsers of whole locales. After a refusal it holds what was parsed
+/// Parses what follows `t` into an empty extension, for parsers of whole locales. After a refusal it holds what was
+/// parsed
 /// before the fault.
 pub fn fill_transform(
     alloc: Global,

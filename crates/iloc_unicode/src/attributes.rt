@@ -83,7 +83,7 @@ impl Attributes {
         Self::read_text(alloc, code_units)
     }
 
-    // The same by what it reads, and when memory runs out, alone.
+    // Parses the set. Its clauses say what is read and when memory runs out; the others follow from them.
     fn read_text(alloc: Global, code_units: &[u8]) -> Result<Self, ParseError>
         ensures reads { AttributesTextReads code_units.now result }
         ensures memory { RunsOutOnlyIf (AttributesWantMemory (pieces code_units.now)) result }

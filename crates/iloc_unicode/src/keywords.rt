@@ -120,7 +120,7 @@ impl Keywords {
         Self::read_text(alloc, code_units)
     }
 
-    // The same by what it reads, and when memory runs out, alone.
+    // Parses the map. Its clauses say what is read and when memory runs out; the others follow from them.
     fn read_text(alloc: Global, code_units: &[u8]) -> Result<Self, ParseError>
         ensures reads { KeywordsTextReads code_units.now result }
         ensures memory { RunsOutOnlyIf (KeywordsWantMemory (pieces code_units.now)) result }

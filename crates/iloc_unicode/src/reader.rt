@@ -40,7 +40,7 @@ impl Attributes {
     }
 }
 
-// The same into the empty set. After a refusal it is still empty.
+// Parses the attributes into the empty set. After a refusal it is still empty.
 #[inline(always)]
 fn fill_attributes(
     alloc: Global,
@@ -59,7 +59,7 @@ fn fill_attributes(
     Ok(())
 }
 
-// The same by value. It stands apart, so that an extension of keywords alone pays nothing for it.
+// Parses the attributes by value. It stands apart, so that an extension of keywords alone pays nothing for it.
 #[inline(never)]
 fn read_attributes(alloc: Global, iter: &mut SubtagIterator<'_>) -> Result<Attributes, AllocError>
     ensures value { IfOk result (λ a. a ≡ attributes_read (left iter.old)) }
@@ -69,7 +69,7 @@ fn read_attributes(alloc: Global, iter: &mut SubtagIterator<'_>) -> Result<Attri
     Attributes::try_from_iter(alloc, iter)
 }
 
-// The same if these four attributes stood before.
+// Takes the attributes that follow where these four stood before.
 #[inline(never)]
 fn read_more_attributes(
     alloc: Global,
@@ -103,7 +103,7 @@ impl Keywords {
     }
 }
 
-// The same into the empty map. After a refusal it holds the keywords before the fault.
+// Parses the keywords into the empty map. After a refusal it holds the keywords before the fault.
 fn fill_keywords(
     alloc: Global,
     iter: &mut SubtagIterator<'_>,
@@ -135,7 +135,8 @@ impl Unicode {
     }
 }
 
-/// The same into an empty extension, for parsers of whole locales. After a refusal it holds what was parsed
+/// Parses what follows `u` into an empty extension, for parsers of whole locales. After a refusal it holds what was
+/// parsed
 /// before the fault.
 pub fn fill_unicode(
     alloc: Global,

@@ -30,7 +30,7 @@ impl Value {
         Self::read_text(alloc, code_units)
     }
 
-    // The same by what it reads, and when memory runs out, alone.
+    // Parses the value. Its clauses say what is read and when memory runs out; the others follow from them.
     fn read_text(alloc: Global, code_units: &[u8]) -> Result<Self, ParseError>
         ensures reads { ValueTextReads code_units.now result }
         ensures memory { RunsOutOnlyIf (ValueTextWants code_units.now) result }

@@ -52,7 +52,7 @@ fn langid(window: &[u8], len: usize, out: &mut String)
     }
 }
 
-// The same of a locale.
+// Says the normal text of the first bytes as a locale, or why they are refused.
 fn locale(window: &[u8], len: usize, out: &mut String)
     requires inside { len ≤ length window.now }
     requires few { len ≤ MOST }
