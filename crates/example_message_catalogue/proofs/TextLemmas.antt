@@ -11,7 +11,8 @@ tested : (xs ys : List ℕ) → Decides (is_eq (slice_cmp nat_cmp xs ys)) (xs �
 tested xs ys = subst (λ b. Decides b (xs ≡ ys)) (sym (is_eq-slice_cmp xs ys)) (bytes_eq-Decides xs ys)
 
 -- what compares as equal is the same, and the other way round
-pub same_text : (xs ys : List ℕ) (r : Ordering) (b : Bool) → r ≡ slice_cmp nat_cmp xs ys → b ≡ is_eq r → IsTrue b ↔ (xs ≡ ys)
+pub same_text : (xs ys : List ℕ) (r : Ordering) (b : Bool) → r ≡ slice_cmp nat_cmp xs ys → b ≡ is_eq r →
+    IsTrue b ↔ (xs ≡ ys)
 same_text xs ys r b h e =
     let is : b ≡ is_eq (slice_cmp nat_cmp xs ys) = e ∙ ap is_eq h in
     subst (λ c. IsTrue c ↔ (xs ≡ ys)) (sym is) (tested xs ys)

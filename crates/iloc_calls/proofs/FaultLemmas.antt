@@ -10,7 +10,8 @@ use Rattle.iloc_calls.specs.Numbers.{status_of}
 
 -- a refusal and its place are what a caller finds, whatever stood there before
 pub refusal_found : (mode : Mode) (t : List ℕ) (before : ℕ × ℕ) (start end : ℕ) (e : ParseError)
-    → HasRefusal mode t e → IsFaultPlace mode t start end → FindsFault mode t before (start, end) (status_of e)
+    → HasRefusal mode t e → IsFaultPlace mode t start end →
+    FindsFault mode t before (start, end) (status_of e)
 refusal_found mode t before start end refusals.InvalidLanguage why place = (why, place)
 refusal_found mode t before start end refusals.InvalidSubtag why place = (why, place)
 refusal_found mode t before start end refusals.InvalidExtension why place = (why, place)

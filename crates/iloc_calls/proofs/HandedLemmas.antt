@@ -13,12 +13,16 @@ use Rattle.iloc_told.specs.declared.Mode.{Mode}
 use Rattle.iloc_calls.specs.Answers.{HandsOut, JudgedAs, NormalizesTo}
 use Rattle.iloc_calls.specs.Numbers.{status_of}
 use Rattle.iloc_calls.specs.declared.status.Status.{Status}
-use Rattle.iloc_calls.specs.declared.status.Status.TheVariants.{Done, InvalidLanguage, InvalidSubtag, InvalidExtension, DuplicatedExtension, OutOfMemory, BufferTooSmall, UnknownNumber, NotFound}
+use Rattle.iloc_calls.specs.declared.status.Status.TheVariants.{Done, InvalidLanguage, InvalidSubtag}
+use Rattle.iloc_calls.specs.declared.status.Status.TheVariants.{InvalidExtension, DuplicatedExtension}
+use Rattle.iloc_calls.specs.declared.status.Status.TheVariants.{OutOfMemory, BufferTooSmall, UnknownNumber}
+use Rattle.iloc_calls.specs.declared.status.Status.TheVariants.{NotFound}
 use Rattle.iloc_told.specs.Modes.{IsNormalText}
 use Rattle.iloc_spec_grammar.specs.Syntax.{languages}
 
 -- what hands out the normal text normalizes
-pub handed_out : (mode : Mode) (t normal before after : List ℕ) (needed : ℕ) (s : Status) → IsNormalText languages mode t normal
+pub handed_out : (mode : Mode) (t normal before after : List ℕ) (needed : ℕ) (s : Status) →
+    IsNormalText languages mode t normal
     → HandsOut normal before after needed s → NormalizesTo mode t before after needed s
 handed_out mode t normal before after needed Done n h = (normal, n, h)
 handed_out mode t normal before after needed BufferTooSmall n h = (normal, n, h)
@@ -35,17 +39,22 @@ plain_length : (p : Plain) → AreWords p → length (identifier_text (value_of 
 plain_length p h = ap length (sym h.normal) ∙ length-take-le p.len p.bytes (omega (arith, h.wide, h.fits))
 
 -- a plain text for which there is too little room
-pub withheld : (mode : Mode) (t : List ℕ) (p : Plain) (before : List ℕ) (needed : ℕ) → IsPlain t p → length before < p.len → needed ≡ p.len
+pub withheld : (mode : Mode) (t : List ℕ) (p : Plain) (before : List ℕ) (needed : ℕ) → IsPlain t p →
+    length before < p.len → needed ≡ p.len
     → NormalizesTo mode t before before needed BufferTooSmall
 withheld mode t p before needed h few is =
     let long = plain_length p h.words in
     let fits = h.words.fits in
     let same : saturated p.len ≡ p.len = grind (arith, nat_tests) in
-    let less : length before < length (identifier_text (value_of p)) = omega (arith, long, few) in
-    (identifier_text (value_of p), plain_normal mode t p h, (less, is ∙ sym same ∙ ap saturated (sym long), refl))
+    let less : length before < length (identifier_text (value_of p)) = omega (arith, long, few) in (
+      identifier_text (value_of p),
+      plain_normal mode t p h,
+      (less, is ∙ sym same ∙ ap saturated (sym long), refl),
+    )
 
 -- a text that is refused has the status of its fault
-pub refused_judged : (mode : Mode) (t : List ℕ) (e : ParseError) → HasRefusal mode t e → JudgedAs mode t (status_of e)
+pub refused_judged : (mode : Mode) (t : List ℕ) (e : ParseError) → HasRefusal mode t e →
+    JudgedAs mode t (status_of e)
 refused_judged mode t refusals.InvalidLanguage h = h
 refused_judged mode t refusals.InvalidSubtag h = h
 refused_judged mode t refusals.InvalidExtension h = h

@@ -1,5 +1,8 @@
 -- How long the text of a data locale is: at most by a region and its hyphen longer than a text that means it.
-use Rattle.std.proofs.Common.{◌≡◌, ℕ, ◌+◌, ◌≤◌, Bool, true, false, cond, List, [], ◌∷◌, ◌++◌, length, Option, Some, None, IfSome, Result, Ok, Err, option_map, option_and_then, option_to_list, codes, refl, sym, ap, ◌∙◌, subst, arith, append-nil, length-append}
+use Rattle.std.proofs.Common.{◌≡◌, ℕ, ◌+◌, ◌≤◌, Bool, true, false, cond, List, [], ◌∷◌, ◌++◌, length, Option}
+use Rattle.std.proofs.Common.{Some, None, IfSome, Result, Ok, Err, option_map, option_and_then}
+use Rattle.std.proofs.Common.{option_to_list, codes, refl, sym, ap, ◌∙◌, subst, arith, append-nil}
+use Rattle.std.proofs.Common.{length-append}
 use Rattle.std.specs.Result.{result_ok}
 use Rattle.std.proofs.lemmas.Bool.{cond_both}
 use Rattle.std.proofs.lemmas.Bool.Decides.{nat_tests}
@@ -14,7 +17,9 @@ use Rattle.iloc_spec_parts.proofs.SmallLaws.{small_means}
 use Rattle.iloc_spec_parts.proofs.SmallBack.{read_is_small_value}
 use Rattle.iloc_spec_preferences.specs.Subdivisions.{Subdivision, subdivision, subdivision_text}
 use Rattle.iloc_spec_preferences.proofs.Keys.{sd}
-use Rattle.iloc_spec_preferences.specs.DataLocales.{DataLocale, DataMeans, whole_region, is_whole, named_subdivision, made_of, agreed, small_part, subdivision_value, subdivision_pieces, data_text}
+use Rattle.iloc_spec_preferences.specs.DataLocales.{DataLocale, DataMeans, whole_region, is_whole}
+use Rattle.iloc_spec_preferences.specs.DataLocales.{named_subdivision, made_of, agreed, small_part}
+use Rattle.iloc_spec_preferences.specs.DataLocales.{subdivision_value, subdivision_pieces, data_text}
 use Rattle.iloc_spec_preferences.proofs.SubdivisionLaws.{subdivision_back, read_is_subdivision, text_of_read}
 use Rattle.iloc_spec_preferences.proofs.DataLaws.{whole_region_is}
 
@@ -38,7 +43,10 @@ length_of_words : (l : List ℕ) (s r v : Option (List ℕ)) (rest : List (List 
 length_of_words l s r v rest =
     let a = dashes_share s in let b = dashes_share r in let c = dashes_share v in
     let e : length (join (l ∷ (option_to_list s ++ (option_to_list r ++ (option_to_list v ++ rest)))))
-    ≡ length l + (length (dashes (option_to_list s)) + (length (dashes (option_to_list r)) + (length (dashes (option_to_list v)) + length (dashes rest)))) = simp (join-dashes, dashes-append, length-append) in
+    ≡ length l
+    + (length (dashes (option_to_list s))
+    + (length (dashes (option_to_list r)) + (length (dashes (option_to_list v)) + length (dashes rest)))) =
+    simp (join-dashes, dashes-append, length-append) in
     omega (arith, a, b, c, e)
 
 -- the length of a small locale's text
@@ -48,45 +56,72 @@ length_of_small : (i : SmallIdentifier) (k : Option (List ℕ × Option (List �
 unfolding extensions_spelling
 length_of_small i None =
     let a = dashes_share i.script in let b = dashes_share i.region in let c = dashes_share i.variant in
-    let e : length (join (i.language ∷ ((option_to_list i.script ++ (option_to_list i.region ++ option_to_list i.variant)) ++ [])))
-    ≡ length i.language + (length (dashes (option_to_list i.script)) + (length (dashes (option_to_list i.region)) + length (dashes (option_to_list i.variant)))) =
+    let e : length (join
+    (i.language ∷ ((option_to_list i.script ++ (option_to_list i.region ++ option_to_list i.variant)) ++ [])))
+    ≡ length i.language
+    + (length (dashes (option_to_list i.script))
+    + (length (dashes (option_to_list i.region)) + length (dashes (option_to_list i.variant)))) =
     simp (join-dashes, dashes-append, length-append, append-nil) in
     let f : length (text (locale_of_small (record { id = i; keyword = None })))
-    ≡ length i.language + (length (dashes (option_to_list i.script)) + (length (dashes (option_to_list i.region)) + length (dashes (option_to_list i.variant)))) = e in
+    ≡ length i.language
+    + (length (dashes (option_to_list i.script))
+    + (length (dashes (option_to_list i.region)) + length (dashes (option_to_list i.variant)))) = e in
     omega (arith, a, b, c, f)
 length_of_small i (Some k) =
-    let a = dashes_share i.script in let b = dashes_share i.region in let c = dashes_share i.variant in let d = dashes_share k.1 in
-    let w : List (List ℕ) = option_to_list i.script ++ (option_to_list i.region ++ option_to_list i.variant) in
+    let a = dashes_share i.script in
+    let b = dashes_share i.region in let c = dashes_share i.variant in let d = dashes_share k.1 in
+    let w : List (List ℕ) =
+    option_to_list i.script ++ (option_to_list i.region ++ option_to_list i.variant) in
     let v : List (List ℕ) = (option_to_list k.1 ++ []) ++ [] in
-    let e : length (join (i.language ∷ (w ++ (codes "u" ∷ k.0 ∷ v)))) ≡ length i.language + length (dashes (w ++ (codes "u" ∷ k.0 ∷ v))) = ap length (join-dashes i.language (w ++ (codes "u" ∷ k.0 ∷ v))) ∙ length-append i.language (dashes (w ++ (codes "u" ∷ k.0 ∷ v))) in
-    let g : length (dashes (w ++ (codes "u" ∷ k.0 ∷ v))) ≡ length (dashes w) + length (dashes (codes "u" ∷ k.0 ∷ v)) = ap length (dashes-append w (codes "u" ∷ k.0 ∷ v)) ∙ length-append (dashes w) (dashes (codes "u" ∷ k.0 ∷ v)) in
-    let h : length (dashes w) ≡ length (dashes (option_to_list i.script)) + (length (dashes (option_to_list i.region)) + length (dashes (option_to_list i.variant))) = simp (dashes-append, length-append) in
+    let e : length (join (i.language ∷ (w ++ (codes "u" ∷ k.0 ∷ v))))
+    ≡ length i.language + length (dashes (w ++ (codes "u" ∷ k.0 ∷ v))) =
+    ap length (join-dashes i.language (w ++ (codes "u" ∷ k.0 ∷ v)))
+    ∙ length-append i.language (dashes (w ++ (codes "u" ∷ k.0 ∷ v))) in
+    let g : length (dashes (w ++ (codes "u" ∷ k.0 ∷ v)))
+    ≡ length (dashes w) + length (dashes (codes "u" ∷ k.0 ∷ v)) =
+    ap length (dashes-append w (codes "u" ∷ k.0 ∷ v))
+    ∙ length-append (dashes w) (dashes (codes "u" ∷ k.0 ∷ v)) in
+    let h : length (dashes w)
+    ≡ length (dashes (option_to_list i.script))
+    + (length (dashes (option_to_list i.region)) + length (dashes (option_to_list i.variant))) =
+    simp (dashes-append, length-append) in
     let m : length (k.0 ++ dashes v) ≡ length k.0 + length (dashes v) = length-append k.0 (dashes v) in
-    let n : length (dashes v) ≡ length (dashes (option_to_list k.1)) = ap (λ x. length (dashes x)) (append-nil (option_to_list k.1 ++ []) ∙ append-nil (option_to_list k.1)) in
+    let n : length (dashes v) ≡ length (dashes (option_to_list k.1)) =
+    ap (λ x. length (dashes x)) (append-nil (option_to_list k.1 ++ []) ∙ append-nil (option_to_list k.1)) in
     let q : length (dashes (codes "u" ∷ k.0 ∷ v)) ≡ 3 + length (k.0 ++ dashes v) = omega arith in
-    let f : length (text (locale_of_small (record { id = i; keyword = Some k }))) ≡ length i.language + length (dashes (w ++ (codes "u" ∷ k.0 ∷ v))) = e in
+    let f : length (text (locale_of_small (record { id = i; keyword = Some k })))
+    ≡ length i.language + length (dashes (w ++ (codes "u" ∷ k.0 ∷ v))) = e in
     omega (arith, a, b, c, d, f, g, h, m, n, q)
 
 -- what a keyword's value takes when it is printed
 value_share : (w : List ℕ) → length (dashes (codes "u" ∷ sd ∷ subdivision_value w)) ≤ 6 + length w
-value_share w = cond_both (is_true (lower w)) [] (lower w ∷ []) (λ ws. length (dashes (codes "u" ∷ sd ∷ ws)) ≤ 6 + length w)
+value_share w = cond_both (is_true (lower w)) [] (lower w ∷ [])
+    (λ ws. length (dashes (codes "u" ∷ sd ∷ ws)) ≤ 6 + length w)
     (λ e. let n : length (dashes (codes "u" ∷ sd ∷ [])) ≡ 5 = refl in omega (arith, n))
-    (λ e. let m = length-lower w in let n : length (dashes (codes "u" ∷ sd ∷ (lower w ∷ []))) ≡ 6 + length (lower w) = (let e : length (lower w ++ []) ≡ length (lower w) = ap length (append-nil (lower w)) in omega (arith, e)) in omega (arith, m, n))
+    (λ e. let m = length-lower w in
+    let n : length (dashes (codes "u" ∷ sd ∷ (lower w ∷ []))) ≡ 6 + length (lower w) =
+    (let e : length (lower w ++ []) ≡ length (lower w) = ap length (append-nil (lower w)) in
+    omega (arith, e)) in
+    omega (arith, m, n))
 
 abbrev printed : List ℕ → Option Subdivision → Option (List ℕ)
 printed w o = option_and_then (λ s. cond (is_whole s) None (Some w)) o
 
-printed_share : (w : List ℕ) (o : Option Subdivision) → length (dashes (subdivision_pieces (printed w o))) ≤ 6 + length w
+printed_share : (w : List ℕ) (o : Option Subdivision) →
+    length (dashes (subdivision_pieces (printed w o))) ≤ 6 + length w
 printed_share w None = let n : length (dashes []) ≡ 0 = refl in omega (arith, n)
-printed_share w (Some s) = cond_both (is_whole s) None (Some w) (λ x. length (dashes (subdivision_pieces x)) ≤ 6 + length w)
+printed_share w (Some s) =
+    cond_both (is_whole s) None (Some w) (λ x. length (dashes (subdivision_pieces x)) ≤ 6 + length w)
     (λ e. let n : length (dashes []) ≡ 0 = refl in omega (arith, n)) (λ e. value_share w)
 
 -- the pieces of a part's subdivision, and the length of a text that is made of a part
 abbrev tail_of : Option Subdivision → List (List ℕ)
-tail_of part = subdivision_pieces (option_and_then (λ w. printed w (named_subdivision w)) (option_map subdivision_text part))
+tail_of part = subdivision_pieces
+    (option_and_then (λ w. printed w (named_subdivision w)) (option_map subdivision_text part))
 
 data_length : (l : List ℕ) (s v : Option (List ℕ)) (part : Option Subdivision)
-    → length (data_text (made_of l s part v)) ≡ length l + share s + share (option_map (λ p. p.region) part) + share v + length (dashes (tail_of part))
+    → length (data_text (made_of l s part v))
+    ≡ length l + share s + share (option_map (λ p. p.region) part) + share v + length (dashes (tail_of part))
 data_length l s v part = length_of_words l s (option_map (λ p. p.region) part) v (tail_of part)
 
 -- a whole region has no subdivision to print
@@ -99,56 +134,78 @@ region_is_short r h = grind (arith, nat_tests)
 
 -- A part grows by a region at most.
 abbrev Fits : Option (List ℕ) → Option (List ℕ × Option (List ℕ)) → Option Subdivision → Type 0
-Fits region k part = share (option_map (λ p. p.region) part) + length (dashes (tail_of part)) ≤ share region + keyword_share k + 4
+Fits region k part = share (option_map (λ p. p.region) part) + length (dashes (tail_of part))
+    ≤ share region + keyword_share k + 4
 
-named_fits : (region : Option (List ℕ)) (w : List ℕ) (s : Subdivision) → IfSome region (IsNormal Region) → subdivision w ≡ Ok s → Fits region (Some (sd, Some w)) (Some (agreed region s))
+named_fits : (region : Option (List ℕ)) (w : List ℕ) (s : Subdivision) → IfSome region (IsNormal Region) →
+    subdivision w ≡ Ok s → Fits region (Some (sd, Some w)) (Some (agreed region s))
 named_fits None w s h e =
-    let a : length (dashes (tail_of (Some s))) ≤ 6 + length (subdivision_text s) = printed_share (subdivision_text s) (named_subdivision (subdivision_text s)) in
+    let a : length (dashes (tail_of (Some s))) ≤ 6 + length (subdivision_text s) =
+    printed_share (subdivision_text s) (named_subdivision (subdivision_text s)) in
     let b : length (subdivision_text s) ≡ length w = ap length (text_of_read w s e) ∙ length-lower w in
     let c : length s.region ≤ 3 = region_is_short s.region (read_is_subdivision w s e).region.0 in
     let n : length sd ≡ 2 = refl in
     omega (arith, a, b, c, n)
-named_fits (Some r) w s h e = cond_both (is_same r s.region) s (whole_region r) (λ p. Fits (Some r) (Some (sd, Some w)) (Some p))
+named_fits (Some r) w s h e =
+    cond_both (is_same r s.region) s (whole_region r) (λ p. Fits (Some r) (Some (sd, Some w)) (Some p))
     (λ same.
-    let a : length (dashes (tail_of (Some s))) ≤ 6 + length (subdivision_text s) = printed_share (subdivision_text s) (named_subdivision (subdivision_text s)) in
+    let a : length (dashes (tail_of (Some s))) ≤ 6 + length (subdivision_text s) =
+    printed_share (subdivision_text s) (named_subdivision (subdivision_text s)) in
     let b : length (subdivision_text s) ≡ length w = ap length (text_of_read w s e) ∙ length-lower w in
     let c : length r ≡ length s.region = ap length (same_is r s.region same) in
     let n : length sd ≡ 2 = refl in
     omega (arith, a, b, c, n))
     (λ other. let a = whole_tail r h in omega (arith, a))
 
-value_fits : (region : Option (List ℕ)) (o : Option (List ℕ)) (part : Option Subdivision) → IfSome region (IsNormal Region)
-    → option_map (λ s. Some (agreed region s)) (option_and_then named_subdivision o) ≡ Some part → Fits region (Some (sd, o)) part
+value_fits : (region : Option (List ℕ)) (o : Option (List ℕ)) (part : Option Subdivision) →
+    IfSome region (IsNormal Region)
+    → option_map (λ s. Some (agreed region s)) (option_and_then named_subdivision o) ≡ Some part →
+    Fits region (Some (sd, o)) part
 value_fits region None part h e = absurd (cc)
 value_fits region (Some w) part h e = from (subdivision w) refl e
   where
-    from : (r : Result Subdivision _) → subdivision w ≡ r → option_map (λ s. Some (agreed region s)) (result_ok r) ≡ Some part → Fits region (Some (sd, Some w)) part
+    from : (r : Result Subdivision _) → subdivision w ≡ r →
+        option_map (λ s. Some (agreed region s)) (result_ok r) ≡ Some part →
+        Fits region (Some (sd, Some w)) part
     from (Err f) q e = absurd (cc)
-    from (Ok s) q e = let same : Some (agreed region s) ≡ part = cc in subst (Fits region (Some (sd, Some w))) same (named_fits region w s h q)
+    from (Ok s) q e = let same : Some (agreed region s) ≡ part = cc in
+        subst (Fits region (Some (sd, Some w))) same (named_fits region w s h q)
 
-part_fits : (region : Option (List ℕ)) (k : Option (List ℕ × Option (List ℕ))) (part : Option Subdivision) → IfSome region (IsNormal Region)
+part_fits : (region : Option (List ℕ)) (k : Option (List ℕ × Option (List ℕ))) (part : Option Subdivision) →
+    IfSome region (IsNormal Region)
     → small_part region k ≡ Some part → Fits region k part
-part_fits None None part h e = let same : None ≡ part = cc in subst (Fits None None) same (let n : length (dashes []) ≡ 0 = refl in omega (arith, n))
-part_fits (Some r) None part h e = let same : Some (whole_region r) ≡ part = cc in subst (Fits (Some r) None) same (let a = whole_tail r h in omega (arith, a))
+part_fits None None part h e = let same : None ≡ part = cc in
+    subst (Fits None None) same (let n : length (dashes []) ≡ 0 = refl in omega (arith, n))
+part_fits (Some r) None part h e = let same : Some (whole_region r) ≡ part = cc in
+    subst (Fits (Some r) None) same (let a = whole_tail r h in omega (arith, a))
 part_fits region (Some (k, o)) part h e = from (is_same k sd) refl e
   where
-    from : (b : Bool) → is_same k sd ≡ b → cond b (option_map (λ s. Some (agreed region s)) (option_and_then named_subdivision o)) None ≡ Some part → Fits region (Some (k, o)) part
+    from : (b : Bool) → is_same k sd ≡ b →
+        cond b (option_map (λ s. Some (agreed region s)) (option_and_then named_subdivision o)) None
+        ≡ Some part →
+        Fits region (Some (k, o)) part
     from false q e = absurd (cc)
-    from true q e = subst (λ (x : List ℕ). Fits region (Some (x, o)) part) (sym (same_is k sd q)) (value_fits region o part h e)
+    from true q e = subst (λ (x : List ℕ). Fits region (Some (x, o)) part) (sym (same_is k sd q))
+        (value_fits region o part h e)
 
 -- a data locale's text is at most four bytes longer than a text that means it
-pub data_text_fits : (t : List ℕ) (d : DataLocale) → DataMeans languages t d → length (data_text d) ≤ length t + 4
+pub data_text_fits : (t : List ℕ) (d : DataLocale) → DataMeans languages t d →
+    length (data_text d) ≤ length t + 4
 data_text_fits t d h = from (small_part r.id.region r.keyword) refl h.means
   where
     r : SmallLocale
     r = h.small
 
-    from : (o : Option (Option Subdivision)) → small_part r.id.region r.keyword ≡ o → option_map (λ part. made_of r.id.language r.id.script part r.id.variant) o ≡ Some d → length (data_text d) ≤ length t + 4
+    from : (o : Option (Option Subdivision)) → small_part r.id.region r.keyword ≡ o →
+        option_map (λ part. made_of r.id.language r.id.script part r.id.variant) o ≡ Some d →
+        length (data_text d) ≤ length t + 4
     from None q e = absurd (cc)
     from (Some part) q e =
         let same : made_of r.id.language r.id.script part r.id.variant ≡ d = cc in
         let a = data_length r.id.language r.id.script r.id.variant part in
-        let b : Fits r.id.region r.keyword part = part_fits r.id.region r.keyword part (read_is_small_value t r h.is_small).region q in
+        let b : Fits r.id.region r.keyword part =
+        part_fits r.id.region r.keyword part (read_is_small_value t r h.is_small).region q in
         let c = length_of_small r.id r.keyword in
-        let s : length (text (locale_of_small r)) ≤ length t = shortest languages t (locale_of_small r) (small_means t r h.is_small) in
+        let s : length (text (locale_of_small r)) ≤ length t =
+        shortest languages t (locale_of_small r) (small_means t r h.is_small) in
         subst (λ (x : DataLocale). length (data_text x) ≤ length t + 4) same (omega (arith, a, b, c, s))

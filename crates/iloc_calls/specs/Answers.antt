@@ -19,7 +19,10 @@ use Rattle.iloc_told.specs.declared.Mode.{Mode}
 use Rattle.iloc_told.specs.declared.Mode.TheVariants.{Langid, Locale, Data}
 use Rattle.iloc_calls.specs.Numbers.{EndsAs, mode_number, number_of}
 use Rattle.iloc_calls.specs.declared.status.Status.{Status}
-use Rattle.iloc_calls.specs.declared.status.Status.TheVariants.{Done, InvalidLanguage, InvalidSubtag, InvalidExtension, DuplicatedExtension, OutOfMemory, BufferTooSmall, UnknownNumber, NotFound}
+use Rattle.iloc_calls.specs.declared.status.Status.TheVariants.{Done, InvalidLanguage, InvalidSubtag}
+use Rattle.iloc_calls.specs.declared.status.Status.TheVariants.{InvalidExtension, DuplicatedExtension}
+use Rattle.iloc_calls.specs.declared.status.Status.TheVariants.{OutOfMemory, BufferTooSmall, UnknownNumber}
+use Rattle.iloc_calls.specs.declared.status.Status.TheVariants.{NotFound}
 
 -- Texts, by the mode.
 

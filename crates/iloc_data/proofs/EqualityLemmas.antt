@@ -8,7 +8,8 @@ use Rattle.iloc_data.specs.declared.data_locale.DataLocale.{DataLocale}
 use Rattle.iloc_data.specs.DataValue.{value_of}
 use Rattle.iloc_data.specs.DataEquality.{same_key}
 
-pub same_key_decides : (d e : DataLocale) (b : Bool) → b ≡ same_key d e → IsTrue b ↔ (data_key (value_of d) ≡ data_key (value_of e))
+pub same_key_decides : (d e : DataLocale) (b : Bool) → b ≡ same_key d e →
+    IsTrue b ↔ (data_key (value_of d) ≡ data_key (value_of e))
 same_key_decides d e b h =
     let tie = Equal-is (data_locale_cmp (value_of d) (value_of e)) in
     let ties = data_locale_ties (value_of d) (value_of e) in

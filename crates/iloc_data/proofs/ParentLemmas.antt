@@ -1,5 +1,7 @@
 -- The fallback chain of data locales: one part fewer, the end of the chain, and what a parent lacks.
-use Rattle.std.proofs.Common.{◌≡◌, ℕ, zero, suc, ◌+◌, ◌≤◌, Bool, true, false, not, List, [], ◌∷◌, ◌++◌, length, refl, sym, ap, ◌∙◌, subst, arith, true≢false, Option, Some, None, option_map, option_to_list, inl, inr, append-nil, append_assoc, Result, Ok, Err}
+use Rattle.std.proofs.Common.{◌≡◌, ℕ, zero, suc, ◌+◌, ◌≤◌, Bool, true, false, not, List, [], ◌∷◌, ◌++◌}
+use Rattle.std.proofs.Common.{length, refl, sym, ap, ◌∙◌, subst, arith, true≢false, Option, Some, None}
+use Rattle.std.proofs.Common.{option_map, option_to_list, inl, inr, append-nil, append_assoc, Result, Ok, Err}
 use Rattle.std.specs.Prelude.{codes, IfSome, option_and_then, if◌then◌else◌}
 use Rattle.std.specs.Option.{is_some, option_or}
 use Rattle.std.specs.Result.{result_ok}
@@ -8,11 +10,15 @@ use Rattle.iloc_spec_grammar.specs.Meaning.{Fault}
 use Rattle.iloc_spec_grammar.specs.Values.{IsNormal}
 use Rattle.iloc_spec_grammar.proofs.MapLaws.{same_is}
 use Rattle.iloc_spec_preferences.specs.Subdivisions.{Subdivision, subdivision}
-use Rattle.iloc_spec_preferences.specs.DataLocales.{DataLocale, DataKey, IsDataLocale, data_key, data_pieces, is_whole, whole, whole_region, named_subdivision, region_part, subdivision_keyword, subdivision_pieces, subdivision_value}
+use Rattle.iloc_spec_preferences.specs.DataLocales.{DataLocale, DataKey, IsDataLocale, data_key, data_pieces}
+use Rattle.iloc_spec_preferences.specs.DataLocales.{is_whole, whole, whole_region, named_subdivision}
+use Rattle.iloc_spec_preferences.specs.DataLocales.{region_part, subdivision_keyword, subdivision_pieces}
+use Rattle.iloc_spec_preferences.specs.DataLocales.{subdivision_value}
 use Rattle.iloc_spec_preferences.proofs.SubdivisionLaws.{read_is_subdivision}
 use Rattle.iloc_langid.specs.Parents.{is_unknown_language, after_steps}
 use Rattle.iloc_data.specs.DataValue.{unknown_data}
-use Rattle.iloc_data.specs.DataParents.{region_of, with_whole_region, data_parent, data_part_count, IsUnknownAfter, LacksLastDataPart}
+use Rattle.iloc_data.specs.DataParents.{region_of, with_whole_region, data_parent, data_part_count}
+use Rattle.iloc_data.specs.DataParents.{IsUnknownAfter, LacksLastDataPart}
 
 of_some : {X : Type 0} {x y : X} → Some x ≡ Some y → x ≡ y
 of_some e = cc
@@ -34,19 +40,24 @@ module _ (P : DataLocale → DataLocale → Type 0)
     (part : (d : DataLocale) (w : List ℕ) → subdivision_keyword d ≡ Some w → P d (with_whole_region d))
     (variant : (d : DataLocale) (v : List ℕ) → subdivision_keyword d ≡ None → d.variant ≡ Some v
     → P d (record (with_whole_region d) { variant = None }))
-    (region : (d : DataLocale) (r : List ℕ) → subdivision_keyword d ≡ None → d.variant ≡ None → region_of d ≡ Some r
+    (region : (d : DataLocale) (r : List ℕ) → subdivision_keyword d ≡ None → d.variant ≡ None →
+    region_of d ≡ Some r
     → P d (record (with_whole_region d) { region = None }))
-    (script : (d : DataLocale) (s : List ℕ) → subdivision_keyword d ≡ None → d.variant ≡ None → region_of d ≡ None
+    (script : (d : DataLocale) (s : List ℕ) → subdivision_keyword d ≡ None → d.variant ≡ None →
+    region_of d ≡ None
     → d.script ≡ Some s → P d (record (with_whole_region d) { script = None }))
-    (language : (d : DataLocale) → subdivision_keyword d ≡ None → d.variant ≡ None → region_of d ≡ None → d.script ≡ None
+    (language : (d : DataLocale) → subdivision_keyword d ≡ None → d.variant ≡ None → region_of d ≡ None →
+    d.script ≡ None
     → is_unknown_language d.language ≡ false → P d unknown_data)
     (d p : DataLocale) where
-  at_language : (b : Bool) → subdivision_keyword d ≡ None → d.variant ≡ None → region_of d ≡ None → d.script ≡ None
+  at_language : (b : Bool) → subdivision_keyword d ≡ None → d.variant ≡ None → region_of d ≡ None →
+      d.script ≡ None
       → is_unknown_language d.language ≡ b → (if b then None else Some unknown_data) ≡ Some p → P d p
   at_language true k v r s h e = cc
   at_language false k v r s h e = subst (P d) (of_some e) (language d k v r s h)
 
-  at_script : (o : Option (List ℕ)) → subdivision_keyword d ≡ None → d.variant ≡ None → region_of d ≡ None → d.script ≡ o
+  at_script : (o : Option (List ℕ)) → subdivision_keyword d ≡ None → d.variant ≡ None → region_of d ≡ None →
+      d.script ≡ o
       → option_or (option_map (λ _. record (with_whole_region d) { script = None }) o)
       (if is_unknown_language d.language then None else Some unknown_data) ≡ Some p → P d p
   at_script (Some s) k v r h e = subst (P d) (of_some e) (script d s k v r h)
@@ -99,15 +110,22 @@ abbrev IsEnd : DataLocale → Type 0
 IsEnd d = (data_part_count d ≡ 0) × (data_key d ≡ data_key unknown_data)
 
 module _ (d : DataLocale) where
-  end_at_language : (b : Bool) → subdivision_keyword d ≡ None → d.variant ≡ None → region_of d ≡ None → d.script ≡ None
+  end_at_language : (b : Bool) → subdivision_keyword d ≡ None → d.variant ≡ None → region_of d ≡ None →
+      d.script ≡ None
       → is_unknown_language d.language ≡ b → (if b then None else Some unknown_data) ≡ None → IsEnd d
   end_at_language false k v r s h e = cc
   end_at_language true k v r s h e = (
     rw (k, v, r, s, h) refl,
-    λ i. record { language = same_is d.language (codes "und") h i; script = s i; region = no_part_left (region_part d) r i; variant = v i },
+    λ i. record {
+      language = same_is d.language (codes "und") h i;
+      script = s i;
+      region = no_part_left (region_part d) r i;
+      variant = v i;
+    },
   )
 
-  end_at_script : (o : Option (List ℕ)) → subdivision_keyword d ≡ None → d.variant ≡ None → region_of d ≡ None → d.script ≡ o
+  end_at_script : (o : Option (List ℕ)) → subdivision_keyword d ≡ None → d.variant ≡ None →
+      region_of d ≡ None → d.script ≡ o
       → option_or (option_map (λ _. record (with_whole_region d) { script = None }) o)
       (if is_unknown_language d.language then None else Some unknown_data) ≡ None → IsEnd d
   end_at_script (Some s) k v r h e = cc
@@ -140,7 +158,8 @@ module _ (d : DataLocale) where
   is_end : data_parent d ≡ None → IsEnd d
   is_end e = end_at_part (subdivision_keyword d) refl e
 
-at_zero : (d : DataLocale) (o : Option DataLocale) → data_part_count d ≡ 0 → data_parent d ≡ o → IsUnknownAfter 0 d
+at_zero : (d : DataLocale) (o : Option DataLocale) → data_part_count d ≡ 0 → data_parent d ≡ o →
+    IsUnknownAfter 0 d
 at_zero d None h e = (d, refl, (is_end d e).1)
 at_zero d (Some p) h e = absurd (omega (arith, one_fewer d p e))
 
@@ -167,19 +186,30 @@ one_or_none true = omega arith
 one_or_none false = omega arith
 
 pub few_parts : (d : DataLocale) → data_part_count d ≤ 5
-few_parts d = omega (arith, at_most_one (subdivision_keyword d), at_most_one d.variant, at_most_one (region_of d), at_most_one d.script, one_or_none (is_unknown_language d.language))
+few_parts d = omega (
+  arith,
+  at_most_one (subdivision_keyword d),
+  at_most_one d.variant,
+  at_most_one (region_of d),
+  at_most_one d.script,
+  one_or_none (is_unknown_language d.language),
+)
 
 -- what a parent lacks
 
 -- the pieces of these parts
-abbrev pieces_of : List ℕ → Option (List ℕ) → Option (List ℕ) → Option (List ℕ) → Option (List ℕ) → List (List ℕ)
-pieces_of l s r v k = l ∷ (option_to_list s ++ (option_to_list r ++ (option_to_list v ++ subdivision_pieces k)))
+abbrev pieces_of : List ℕ → Option (List ℕ) → Option (List ℕ) → Option (List ℕ) → Option (List ℕ) →
+    List (List ℕ)
+pieces_of l s r v k =
+    l ∷ (option_to_list s ++ (option_to_list r ++ (option_to_list v ++ subdivision_pieces k)))
 
-has_pieces : (d : DataLocale) (s r v k : Option (List ℕ)) → d.script ≡ s → d.region ≡ r → d.variant ≡ v → subdivision_keyword d ≡ k
+has_pieces : (d : DataLocale) (s r v k : Option (List ℕ)) → d.script ≡ s → d.region ≡ r → d.variant ≡ v →
+    subdivision_keyword d ≡ k
     → data_pieces d ≡ pieces_of d.language s r v k
 has_pieces d s r v k a b c e = λ i. pieces_of d.language (a i) (b i) (c i) (e i)
 
-cut_region : (l : List ℕ) (s : Option (List ℕ)) (r : List ℕ) → pieces_of l s (Some r) None None ≡ pieces_of l s None None None ++ r ∷ []
+cut_region : (l : List ℕ) (s : Option (List ℕ)) (r : List ℕ) →
+    pieces_of l s (Some r) None None ≡ pieces_of l s None None None ++ r ∷ []
 cut_region l s r = simp append-nil
 
 pub lacks_last : (d p : DataLocale) → d.region ≡ region_of d → data_parent d ≡ Some p → LacksLastDataPart d p
@@ -213,12 +243,15 @@ lacks_last d p same e = by_parent (λ d p. d.region ≡ region_of d → LacksLas
 -- a parent is a data locale
 
 region_normal : (o r : Option (List ℕ)) → IfSome r (IsNormal Region)
-    → IfSome (option_map (λ s. s.region) (option_or (option_and_then named_subdivision o) (option_map whole_region r))) (IsNormal Region)
+    → IfSome
+    (option_map (λ s. s.region) (option_or (option_and_then named_subdivision o) (option_map whole_region r)))
+    (IsNormal Region)
 region_normal None r h = subst (λ x. IfSome x (IsNormal Region)) (sym (whole_of_region r)) h
 region_normal (Some w) r h = by (subdivision w) refl
   where
     by : (x : Result Subdivision Fault) → subdivision w ≡ x
-        → IfSome (option_map (λ s. s.region) (option_or (result_ok x) (option_map whole_region r))) (IsNormal Region)
+        → IfSome (option_map (λ s. s.region) (option_or (result_ok x) (option_map whole_region r)))
+        (IsNormal Region)
     by (Ok s) e = (read_is_subdivision w s e).region
     by (Err f) e = subst (λ x. IfSome x (IsNormal Region)) (sym (whole_of_region r)) h
 
@@ -227,14 +260,24 @@ unfolding is_word languages lower
 unknown_is = record { language = (refl, refl); script = tt; region = tt; variant = tt; subdivision = tt }
 
 whole_is : (d : DataLocale) → IsDataLocale languages d → IsDataLocale languages (with_whole_region d)
-whole_is d h = record { language = h.language; script = h.script; region = region_normal d.subdivision d.region h.region; variant = h.variant; subdivision = tt }
+whole_is d h = record {
+  language = h.language;
+  script = h.script;
+  region = region_normal d.subdivision d.region h.region;
+  variant = h.variant;
+  subdivision = tt;
+}
 
-pub parent_value : (d p : DataLocale) → IsDataLocale languages d → data_parent d ≡ Some p → IsDataLocale languages p
+pub parent_value : (d p : DataLocale) → IsDataLocale languages d → data_parent d ≡ Some p →
+    IsDataLocale languages p
 parent_value d p v e = by_parent (λ d p. IsDataLocale languages d → IsDataLocale languages p)
     (λ d w k h. whole_is d h)
-    (λ d v k e h. let w = whole_is d h in record { language = w.language; script = w.script; region = w.region; variant = tt; subdivision = tt })
-    (λ d r k v e h. record { language = h.language; script = h.script; region = tt; variant = h.variant; subdivision = tt })
-    (λ d s k v r e h. let w = whole_is d h in record { language = w.language; script = tt; region = w.region; variant = w.variant; subdivision = tt })
+    (λ d v k e h. let w = whole_is d h in
+    record { language = w.language; script = w.script; region = w.region; variant = tt; subdivision = tt })
+    (λ d r k v e h.
+    record { language = h.language; script = h.script; region = tt; variant = h.variant; subdivision = tt })
+    (λ d s k v r e h. let w = whole_is d h in
+    record { language = w.language; script = tt; region = w.region; variant = w.variant; subdivision = tt })
     (λ d k v r s e h. unknown_is)
     d p e v
 
@@ -245,7 +288,9 @@ abbrev is_part : Option Subdivision → Bool
 is_part None = false
 is_part (Some s) = not (is_whole s)
 
-part_printed : (o r : Option (List ℕ)) → is_some (option_and_then (λ w. option_and_then (λ s. if is_whole s then None else Some w) (named_subdivision w)) o)
+part_printed : (o r : Option (List ℕ)) →
+    is_some (option_and_then
+    (λ w. option_and_then (λ s. if is_whole s then None else Some w) (named_subdivision w)) o)
     ≡ is_part (option_or (option_and_then named_subdivision o) (option_map whole_region r))
 part_printed None None = refl
 part_printed None (Some r) = refl
@@ -259,7 +304,9 @@ part_printed (Some w) r = by (named_subdivision w)
     none None = refl
     none (Some r) = refl
 
-    by : (x : Option Subdivision) → is_some (option_and_then (λ s. if is_whole s then None else Some w) x) ≡ is_part (option_or x (option_map whole_region r))
+    by : (x : Option Subdivision) →
+        is_some (option_and_then (λ s. if is_whole s then None else Some w) x)
+        ≡ is_part (option_or x (option_map whole_region r))
     by None = none r
     by (Some s) = printed (is_whole s)
 
@@ -267,14 +314,21 @@ part_printed (Some w) r = by (named_subdivision w)
 abbrev key_parent : DataKey → Option DataKey
 key_parent k =
     let r = option_map (λ s. s.region) k.region in
-    let w : DataKey = record { language = k.language; script = k.script; region = option_map whole_region r; variant = k.variant } in
+    let w : DataKey = record {
+      language = k.language;
+      script = k.script;
+      region = option_map whole_region r;
+      variant = k.variant;
+    } in
     option_or (if is_part k.region then Some w else None)
     (option_or (option_map (λ _. record w { variant = None }) k.variant)
     (option_or (option_map (λ _. record w { region = None }) r)
     (option_or (option_map (λ _. record w { script = None }) k.script)
     (if is_unknown_language k.language then None else Some (data_key unknown_data)))))
 
-mapped : (o : Option (List ℕ)) (d : DataLocale) (p : Option DataLocale) → option_map data_key (option_or (option_map (λ _. d) o) p) ≡ option_or (option_map (λ _. data_key d) o) (option_map data_key p)
+mapped : (o : Option (List ℕ)) (d : DataLocale) (p : Option DataLocale) →
+    option_map data_key (option_or (option_map (λ _. d) o) p)
+    ≡ option_or (option_map (λ _. data_key d) o) (option_map data_key p)
 mapped None d p = refl
 mapped (Some w) d p = refl
 
@@ -282,7 +336,9 @@ if_there : (o : Option (List ℕ)) (k : DataKey) → option_map (λ _. k) o ≡ 
 if_there None k = refl
 if_there (Some w) k = refl
 
-last_mapped : (b : Bool) → option_map data_key (if b then None else Some unknown_data) ≡ (if b then None else Some (data_key unknown_data))
+last_mapped : (b : Bool) →
+    option_map data_key (if b then None else Some unknown_data)
+    ≡ (if b then None else Some (data_key unknown_data))
 last_mapped true = refl
 last_mapped false = refl
 
@@ -290,20 +346,26 @@ keyed : (d : DataLocale) → option_map data_key (data_parent d) ≡ key_parent 
 keyed d =
     let w = with_whole_region d in
     let last : Option DataLocale = if is_unknown_language d.language then None else Some unknown_data in
-    let scripts : Option DataLocale = option_or (option_map (λ _. record w { script = None }) d.script) last in
-    let regions : Option DataLocale = option_or (option_map (λ _. record w { region = None }) (region_of d)) scripts in
-    let variants : Option DataLocale = option_or (option_map (λ _. record w { variant = None }) d.variant) regions in
+    let scripts : Option DataLocale =
+    option_or (option_map (λ _. record w { script = None }) d.script) last in
+    let regions : Option DataLocale =
+    option_or (option_map (λ _. record w { region = None }) (region_of d)) scripts in
+    let variants : Option DataLocale =
+    option_or (option_map (λ _. record w { variant = None }) d.variant) regions in
     mapped (subdivision_keyword d) w variants
-    ∙ ap (λ p. option_or p (option_map data_key variants)) (if_there (subdivision_keyword d) (data_key w) ∙ ap (λ b. if b then Some (data_key w) else None) (part_printed d.subdivision d.region))
+    ∙ ap (λ p. option_or p (option_map data_key variants)) (if_there (subdivision_keyword d) (data_key w)
+    ∙ ap (λ b. if b then Some (data_key w) else None) (part_printed d.subdivision d.region))
     ∙ ap (option_or (if is_part (region_part d) then Some (data_key w) else None))
     (mapped d.variant (record w { variant = None }) regions
     ∙ ap (option_or (option_map (λ _. data_key (record w { variant = None })) d.variant))
     (mapped (region_of d) (record w { region = None }) scripts
     ∙ ap (option_or (option_map (λ _. data_key (record w { region = None })) (region_of d)))
     (mapped d.script (record w { script = None }) last
-    ∙ ap (option_or (option_map (λ _. data_key (record w { script = None })) d.script)) (last_mapped (is_unknown_language d.language)))))
+    ∙ ap (option_or (option_map (λ _. data_key (record w { script = None })) d.script))
+    (last_mapped (is_unknown_language d.language)))))
 
-pub alike : (d e : DataLocale) → data_key d ≡ data_key e → option_map data_key (data_parent d) ≡ option_map data_key (data_parent e)
+pub alike : (d e : DataLocale) → data_key d ≡ data_key e →
+    option_map data_key (data_parent d) ≡ option_map data_key (data_parent e)
 alike d e h = keyed d ∙ ap key_parent h ∙ sym (keyed e)
 
 -- what leaving the language answers
@@ -316,8 +378,10 @@ no_word : (o : Option (List ℕ)) → false ≡ is_some (option_map subdivision_
 no_word None h = refl
 no_word (Some w) h = absurd (true≢false (sym h))
 
-pub language_left : (d e w : DataLocale) (k : Option (List (List ℕ))) → k ≡ option_map subdivision_value (subdivision_keyword d)
-    → false ≡ is_some k → false ≡ is_some d.variant → w ≡ with_whole_region d → false ≡ is_some w.region → false ≡ is_some d.script
+pub language_left : (d e w : DataLocale) (k : Option (List (List ℕ))) →
+    k ≡ option_map subdivision_value (subdivision_keyword d)
+    → false ≡ is_some k → false ≡ is_some d.variant → w ≡ with_whole_region d → false ≡ is_some w.region →
+    false ≡ is_some d.script
     → (d.language ≡ codes "und" → false ≡ true) → e ≡ unknown_data → Some e ≡ data_parent d
 language_left d e w k is h v whole r s known end =
     let part : subdivision_keyword d ≡ None = no_word (subdivision_keyword d) (h ∙ ap is_some is) in

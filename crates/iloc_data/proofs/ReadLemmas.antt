@@ -1,6 +1,7 @@
 -- From the small locale that was read, or its refusal, to what the reader of data locales answers.
 use Rattle.std.specs.Prelude.{⊤}
-use Rattle.std.proofs.Common.{◌≡◌, ℕ, List, Option, Some, None, sym, ap, ◌∙◌, Result, Ok, Err, IfOk, option_map}
+use Rattle.std.proofs.Common.{◌≡◌, ℕ, List, Option, Some, None, sym, ap, ◌∙◌, Result, Ok, Err, IfOk}
+use Rattle.std.proofs.Common.{option_map}
 use Rattle.iloc_spec_grammar.specs.Syntax.{languages, two_or_three}
 use Rattle.iloc_spec_grammar.specs.Meaning as meaning
 use Rattle.iloc_spec_grammar.specs.Meaning.{Means, Fault}
@@ -10,13 +11,16 @@ use Rattle.iloc_spec_parts.specs.Small.{locale_of_small}
 use Rattle.iloc_spec_parts.proofs.SmallLaws.{small_means}
 use Rattle.iloc_spec_preferences.specs.Subdivisions.{Subdivision}
 use Rattle.iloc_spec_preferences.specs.DataLocales as parts
-use Rattle.iloc_spec_preferences.specs.DataLocales.{DataMeans, HasDataFault, not_small, no_subdivision, made_of, small_part, data_text}
+use Rattle.iloc_spec_preferences.specs.DataLocales.{DataMeans, HasDataFault, not_small, no_subdivision}
+use Rattle.iloc_spec_preferences.specs.DataLocales.{made_of, small_part, data_text}
 use Rattle.iloc_spec_preferences.proofs.DataLaws.{data_apart, one_data, one_data_fault, read_back}
 use Rattle.iloc_spec_preferences.proofs.WiderData.{data_wider}
 use Rattle.iloc_spec_preferences.specs.Preferences.{language_priority, preferences}
 use Rattle.iloc_spec_preferences.proofs.ConversionLaws.{agrees}
 use Rattle.iloc_subtags.specs.declared.parse_error.ParseError.{ParseError}
-use Rattle.iloc_subtags.specs.declared.parse_error.ParseError.TheVariants.{InvalidLanguage, InvalidSubtag, InvalidExtension, DuplicatedExtension, OutOfMemory}
+use Rattle.iloc_subtags.specs.declared.parse_error.ParseError.TheVariants.{InvalidLanguage, InvalidSubtag}
+use Rattle.iloc_subtags.specs.declared.parse_error.ParseError.TheVariants.{InvalidExtension}
+use Rattle.iloc_subtags.specs.declared.parse_error.ParseError.TheVariants.{DuplicatedExtension, OutOfMemory}
 use Rattle.iloc_data.specs.declared.data_locale.DataLocale.{DataLocale}
 use Rattle.iloc_subtags.specs.Judging.{Accepts, Refuses, RunsOutOnlyIf}
 use Rattle.iloc_subtags.proofs.Judged.{Judges, accepts, refuses}
@@ -27,8 +31,11 @@ use Rattle.iloc_data.specs.Reads.{DataTextReads}
 abbrev of_part : LocaleParts → Option (Option Subdivision) → Option parts.DataLocale
 of_part p o = option_map (λ part. made_of p.0 p.1 part p.3) o
 
-pub accepted : (t : List ℕ) (p : LocaleParts) (part : Option Subdivision) (d : parts.DataLocale) → SmallLocaleTextReads t (Ok p) → small_part p.2 p.4 ≡ Some part → d ≡ made_of p.0 p.1 part p.3 → DataMeans languages t d
-accepted t p part d s h e = record { small = small_locale_of p; is_small = s; means = ap (of_part p) h ∙ ap Some (sym e) }
+pub accepted : (t : List ℕ) (p : LocaleParts) (part : Option Subdivision) (d : parts.DataLocale) →
+    SmallLocaleTextReads t (Ok p) → small_part p.2 p.4 ≡ Some part → d ≡ made_of p.0 p.1 part p.3 →
+    DataMeans languages t d
+accepted t p part d s h e =
+    record { small = small_locale_of p; is_small = s; means = ap (of_part p) h ∙ ap Some (sym e) }
 
 pub not_read : (t : List ℕ) (e : ParseError) → SmallLocaleTextReads t (Err e) → DataTextReads t (Err e)
 not_read t InvalidLanguage h = not_small h
@@ -38,25 +45,33 @@ not_read t DuplicatedExtension h = not_small h
 not_read t OutOfMemory h = absurd h
 
 -- memory never runs out
-pub not_without : (t : List ℕ) (e : ParseError) → SmallLocaleTextReads t (Err e) → RunsOutOnlyIf {X = DataLocale} ⊥ (Err e)
+pub not_without : (t : List ℕ) (e : ParseError) → SmallLocaleTextReads t (Err e) →
+    RunsOutOnlyIf {X = DataLocale} ⊥ (Err e)
 not_without t InvalidLanguage h = tt
 not_without t InvalidSubtag h = tt
 not_without t InvalidExtension h = tt
 not_without t DuplicatedExtension h = tt
 not_without t OutOfMemory h = h
 
-pub no_part : (t : List ℕ) (p : LocaleParts) → SmallLocaleTextReads t (Ok p) → small_part p.2 p.4 ≡ None → DataTextReads t (Err InvalidExtension)
+pub no_part : (t : List ℕ) (p : LocaleParts) → SmallLocaleTextReads t (Ok p) → small_part p.2 p.4 ≡ None →
+    DataTextReads t (Err InvalidExtension)
 no_part t p s h = no_subdivision s (ap (of_part p) h)
 
 -- what is owed to each text
 
 data_judges : (t : List ℕ) → Judges (DataMeans languages t) (HasDataFault languages t)
-data_judges t = record { one = one_data languages_table t; apart = data_apart languages_table t; one_fault = λ f g. one_data_fault t }
+data_judges t = record {
+  one = one_data languages_table t;
+  apart = data_apart languages_table t;
+  one_fault = λ f g. one_data_fault t;
+}
 
-pub data_accepts : (t : List ℕ) (r : Result DataLocale ParseError) → DataTextReads t r → (d : parts.DataLocale) → DataMeans languages t d → Accepts value_of ⊤ d r
+pub data_accepts : (t : List ℕ) (r : Result DataLocale ParseError) → DataTextReads t r →
+    (d : parts.DataLocale) → DataMeans languages t d → Accepts value_of ⊤ d r
 data_accepts t r h = accepts value_of ⊤ (data_judges t) r h
 
-pub data_refuses : (t : List ℕ) (r : Result DataLocale ParseError) → DataTextReads t r → (f : Fault) → HasDataFault languages t f → Refuses ⊤ f r
+pub data_refuses : (t : List ℕ) (r : Result DataLocale ParseError) → DataTextReads t r → (f : Fault) →
+    HasDataFault languages t f → Refuses ⊤ f r
 data_refuses t r h = refuses value_of ⊤ (data_judges t) r h
 
 -- what else is known of what is read
@@ -64,10 +79,12 @@ data_refuses t r h = refuses value_of ⊤ (data_judges t) r h
 ours : (t : List ℕ) (d : parts.DataLocale) → DataMeans two_or_three t d → DataMeans languages t d
 ours t d h = data_wider narrow_in_wide t d h
 
-pub reads_back : (t : List ℕ) (d : parts.DataLocale) → DataMeans languages t d → DataMeans languages (data_text d) d
+pub reads_back : (t : List ℕ) (d : parts.DataLocale) → DataMeans languages t d →
+    DataMeans languages (data_text d) d
 reads_back t d h = read_back t d h
 
-pub is_converted : (t : List ℕ) (d : parts.DataLocale) → DataMeans languages t d → (M : meaning.Locale) → Means languages t M → d ≡ language_priority (preferences M)
+pub is_converted : (t : List ℕ) (d : parts.DataLocale) → DataMeans languages t d → (M : meaning.Locale) →
+    Means languages t M → d ≡ language_priority (preferences M)
 is_converted t d h M m = agrees languages_table t d M h m
 
 -- a text that means a data locale is small, and so it means a locale
@@ -79,9 +96,11 @@ is_meant t d h =
     (M, m, is_converted t d h M m)
 
 pub meant_of : (t : List ℕ) (r : Result DataLocale ParseError) → DataTextReads t r
-    → IfOk r (λ d. (M : meaning.Locale) × Means languages t M × (value_of d ≡ language_priority (preferences M)))
+    → IfOk r
+    (λ d. (M : meaning.Locale) × Means languages t M × (value_of d ≡ language_priority (preferences M)))
 meant_of t (Ok d) h = is_meant t (value_of d) h
 meant_of t (Err e) h = tt
 
-pub keeps_narrow : (t : List ℕ) (r : Result DataLocale ParseError) → DataTextReads t r → (d : parts.DataLocale) → DataMeans two_or_three t d → Accepts value_of ⊤ d r
+pub keeps_narrow : (t : List ℕ) (r : Result DataLocale ParseError) → DataTextReads t r →
+    (d : parts.DataLocale) → DataMeans two_or_three t d → Accepts value_of ⊤ d r
 keeps_narrow t r h d n = data_accepts t r h d (ours t d n)

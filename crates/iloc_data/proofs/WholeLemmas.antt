@@ -1,10 +1,12 @@
 -- Words that name the whole of a region, or nothing.
-use Rattle.std.proofs.Common.{◌≡◌, ℕ, ◌-◌, ◌≤◌, Bool, true, false, List, [], ◌∷◌, length, take, drop, Option, Some, None, refl, sym, ap, subst, ◌∙◌, arith, Err, nat_eq}
+use Rattle.std.proofs.Common.{◌≡◌, ℕ, ◌-◌, ◌≤◌, Bool, true, false, List, [], ◌∷◌, length, take, drop, Option}
+use Rattle.std.proofs.Common.{Some, None, refl, sym, ap, subst, ◌∙◌, arith, Err, nat_eq}
 use Rattle.std.specs.Prelude.{IfSome, if◌then◌else◌, option_and_then, ok_or}
 use Rattle.std.specs.Result.{result_ok}
 use Rattle.std.specs.Char.{is_ascii_alphabetic}
 use Rattle.std.proofs.lemmas.Bool.Decides.{nat_tests}
-use Rattle.iloc_spec_grammar.specs.Syntax.{Region, Subtag, SubdivisionSuffix, is_word, word, lower, upper, is_same}
+use Rattle.iloc_spec_grammar.specs.Syntax.{Region, Subtag, SubdivisionSuffix, is_word, word, lower, upper}
+use Rattle.iloc_spec_grammar.specs.Syntax.{is_same}
 use Rattle.iloc_spec_grammar.specs.Meaning.{InvalidSubtag, InvalidExtension}
 use Rattle.iloc_spec_preferences.specs.Subdivisions.{Subdivision, both_words}
 use Rattle.iloc_spec_preferences.specs.DataLocales.{whole, is_whole, named_subdivision}
@@ -18,15 +20,18 @@ part_named named w = option_and_then (λ s. if is_whole s then None else Some w)
 
 -- of a word that is a subtag or not, its region and its suffix
 abbrev named_by : Bool → Option (List ℕ) → Option (List ℕ) → Option Subdivision
-named_by subtag region suffix = result_ok (if subtag then ok_or (both_words region suffix) InvalidExtension else Err InvalidSubtag)
+named_by subtag region suffix =
+    result_ok (if subtag then ok_or (both_words region suffix) InvalidExtension else Err InvalidSubtag)
 
-whole_suffix : (subtag : Bool) (region suffix : Option (List ℕ)) (w : List ℕ) → IfSome suffix (λ s. is_same s whole ≡ true) → part_named (named_by subtag region suffix) w ≡ None
+whole_suffix : (subtag : Bool) (region suffix : Option (List ℕ)) (w : List ℕ) →
+    IfSome suffix (λ s. is_same s whole ≡ true) → part_named (named_by subtag region suffix) w ≡ None
 whole_suffix false region suffix w h = refl
 whole_suffix true None suffix w h = refl
 whole_suffix true (Some r) None w h = refl
 whole_suffix true (Some r) (Some s) w h = ap (λ b. if b then None else Some w) h
 
-no_region : (subtag : Bool) (region suffix : Option (List ℕ)) (w : List ℕ) → region ≡ None → part_named (named_by subtag region suffix) w ≡ None
+no_region : (subtag : Bool) (region suffix : Option (List ℕ)) (w : List ℕ) → region ≡ None →
+    part_named (named_by subtag region suffix) w ≡ None
 no_region subtag region suffix w e = ap (λ r. part_named (named_by subtag r suffix) w) e ∙ whole_less subtag
   where
     whole_less : (subtag : Bool) → part_named (named_by subtag None suffix) w ≡ None
@@ -55,9 +60,14 @@ after_two a b = by (is_ascii_alphabetic a)
     w : List ℕ
     w = a ∷ b ∷ whole
 
-    by : (letter : Bool) → part_named (named_by (is_word Subtag w) (word Region (take (if letter then 2 else 3) w)) (word SubdivisionSuffix (drop (if letter then 2 else 3) w))) w ≡ None
+    by : (letter : Bool) →
+        part_named
+        (named_by (is_word Subtag w) (word Region (take (if letter then 2 else 3) w))
+        (word SubdivisionSuffix (drop (if letter then 2 else 3) w))) w
+        ≡ None
     by true = whole_suffix (is_word Subtag w) _ _ w whole_is_whole
-    by false = no_region (is_word Subtag w) _ _ w (ap (λ is. if is then Some (upper (a ∷ b ∷ 122 ∷ [])) else None) (no_digits a b))
+    by false = no_region (is_word Subtag w) _ _ w
+        (ap (λ is. if is then Some (upper (a ∷ b ∷ 122 ∷ [])) else None) (no_digits a b))
 
 after_three : (a b c : ℕ) → part_named (named_subdivision (a ∷ b ∷ c ∷ whole)) (a ∷ b ∷ c ∷ whole) ≡ None
 after_three a b c = by (is_ascii_alphabetic a)
@@ -68,14 +78,19 @@ after_three a b c = by (is_ascii_alphabetic a)
     no_suffix : word SubdivisionSuffix (c ∷ whole) ≡ None
     no_suffix = ap (λ is. if is then Some (lower (c ∷ whole)) else None) (too_long c)
 
-    by : (letter : Bool) → part_named (named_by (is_word Subtag w) (word Region (take (if letter then 2 else 3) w)) (word SubdivisionSuffix (drop (if letter then 2 else 3) w))) w ≡ None
+    by : (letter : Bool) →
+        part_named
+        (named_by (is_word Subtag w) (word Region (take (if letter then 2 else 3) w))
+        (word SubdivisionSuffix (drop (if letter then 2 else 3) w))) w
+        ≡ None
     by true = whole_suffix (is_word Subtag w) _ _ w (none_is _ no_suffix)
     by false = whole_suffix (is_word Subtag w) _ _ w whole_is_whole
 
 same_end : (w : List ℕ) → pointwise nat_eq whole w ≡ true → whole ≡ w
 same_end w h = same_is whole w (sym (words_tie whole w) ∙ h)
 
-pub named_whole : (w : List ℕ) → 6 ≤ length w → length w ≤ 7 → pointwise nat_eq whole (drop (length w - 4) w) ≡ true → part_named (named_subdivision w) w ≡ None
+pub named_whole : (w : List ℕ) → 6 ≤ length w → length w ≤ 7 →
+    pointwise nat_eq whole (drop (length w - 4) w) ≡ true → part_named (named_subdivision w) w ≡ None
 named_whole [] l u h = absurd (omega (arith, l))
 named_whole (a ∷ []) l u h = absurd (omega (arith, l))
 named_whole (a ∷ b ∷ []) l u h = absurd (omega (arith, l))
@@ -83,7 +98,9 @@ named_whole (a ∷ b ∷ c ∷ []) l u h = absurd (omega (arith, l))
 named_whole (a ∷ b ∷ c ∷ d ∷ []) l u h = absurd (omega (arith, l))
 named_whole (a ∷ b ∷ c ∷ d ∷ e ∷ []) l u h = absurd (omega (arith, l))
 named_whole (a ∷ b ∷ c ∷ d ∷ e ∷ f ∷ []) l u h =
-    subst (λ s. part_named (named_subdivision (a ∷ b ∷ s)) (a ∷ b ∷ s) ≡ None) (same_end (c ∷ d ∷ e ∷ f ∷ []) h) (after_two a b)
+    subst (λ s. part_named (named_subdivision (a ∷ b ∷ s)) (a ∷ b ∷ s) ≡ None)
+    (same_end (c ∷ d ∷ e ∷ f ∷ []) h) (after_two a b)
 named_whole (a ∷ b ∷ c ∷ d ∷ e ∷ f ∷ g ∷ []) l u h =
-    subst (λ s. part_named (named_subdivision (a ∷ b ∷ c ∷ s)) (a ∷ b ∷ c ∷ s) ≡ None) (same_end (d ∷ e ∷ f ∷ g ∷ []) h) (after_three a b c)
+    subst (λ s. part_named (named_subdivision (a ∷ b ∷ c ∷ s)) (a ∷ b ∷ c ∷ s) ≡ None)
+    (same_end (d ∷ e ∷ f ∷ g ∷ []) h) (after_three a b c)
 named_whole (a ∷ b ∷ c ∷ d ∷ e ∷ f ∷ g ∷ i ∷ w) l u h = absurd (omega (arith, u))

@@ -1,10 +1,12 @@
 -- The fallback chain of data locales: from one to its parent, which lacks its last part, and so on
 -- to `und`. This library's rule, of what a data locale stands for and in the order in which it is
 -- printed: the subdivision goes first, and then as of an identifier.
-use Rattle.std.specs.Prelude.{◌≡◌, ◌⊎◌, ℕ, ◌+◌, ◌<◌, List, [], ◌∷◌, ◌++◌, length, Option, Some, None, option_map, option_to_list, if◌then◌else◌}
+use Rattle.std.specs.Prelude.{◌≡◌, ◌⊎◌, ℕ, ◌+◌, ◌<◌, List, [], ◌∷◌, ◌++◌, length, Option, Some, None}
+use Rattle.std.specs.Prelude.{option_map, option_to_list, if◌then◌else◌}
 use Rattle.std.specs.Option.{option_or}
 use Rattle.iloc_spec_grammar.specs.Syntax.{Text}
-use Rattle.iloc_spec_preferences.specs.DataLocales.{DataLocale, data_key, data_pieces, region_part, subdivision_keyword}
+use Rattle.iloc_spec_preferences.specs.DataLocales.{DataLocale, data_key, data_pieces, region_part}
+use Rattle.iloc_spec_preferences.specs.DataLocales.{subdivision_keyword}
 use Rattle.iloc_langid.specs.Parents.{is_unknown_language, after_steps}
 use Rattle.iloc_data.specs.DataValue.{unknown_data}
 

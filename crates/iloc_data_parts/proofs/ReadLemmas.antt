@@ -6,14 +6,17 @@ use Rattle.iloc_spec_preferences.specs.Subdivisions.{Subdivision}
 use Rattle.iloc_spec_preferences.specs.DataLocales as parts
 use Rattle.iloc_spec_preferences.specs.DataLocales.{DataMeans, not_small, no_subdivision, made_of, small_part}
 use Rattle.iloc_subtags.specs.declared.parse_error.ParseError.{ParseError}
-use Rattle.iloc_subtags.specs.declared.parse_error.ParseError.TheVariants.{InvalidLanguage, InvalidSubtag, InvalidExtension, DuplicatedExtension, OutOfMemory}
+use Rattle.iloc_subtags.specs.declared.parse_error.ParseError.TheVariants.{InvalidLanguage, InvalidSubtag}
+use Rattle.iloc_subtags.specs.declared.parse_error.ParseError.TheVariants.{InvalidExtension}
+use Rattle.iloc_subtags.specs.declared.parse_error.ParseError.TheVariants.{DuplicatedExtension, OutOfMemory}
 use Rattle.iloc_data_parts.specs.PartsReading.{PartsTextReads}
 
 -- the parts of the small locale, with its region part
 abbrev of_part : LocaleParts → Option (Option Subdivision) → Option parts.DataLocale
 of_part p o = option_map (λ part. made_of p.0 p.1 part p.3) o
 
-pub accepted : (t : List ℕ) (p : LocaleParts) (part : Option Subdivision) → SmallLocaleTextReads t (Ok p) → small_part p.2 p.4 ≡ Some part → DataMeans languages t (made_of p.0 p.1 part p.3)
+pub accepted : (t : List ℕ) (p : LocaleParts) (part : Option Subdivision) → SmallLocaleTextReads t (Ok p) →
+    small_part p.2 p.4 ≡ Some part → DataMeans languages t (made_of p.0 p.1 part p.3)
 accepted t p part s h = record { small = small_locale_of p; is_small = s; means = ap (of_part p) h }
 
 pub not_read : (t : List ℕ) (e : ParseError) → SmallLocaleTextReads t (Err e) → PartsTextReads t (Err e)
@@ -23,5 +26,6 @@ not_read t InvalidExtension h = not_small h
 not_read t DuplicatedExtension h = not_small h
 not_read t OutOfMemory h = absurd h
 
-pub no_part : (t : List ℕ) (p : LocaleParts) → SmallLocaleTextReads t (Ok p) → small_part p.2 p.4 ≡ None → PartsTextReads t (Err InvalidExtension)
+pub no_part : (t : List ℕ) (p : LocaleParts) → SmallLocaleTextReads t (Ok p) → small_part p.2 p.4 ≡ None →
+    PartsTextReads t (Err InvalidExtension)
 no_part t p s h = no_subdivision s (ap (of_part p) h)

@@ -1,13 +1,19 @@
--- The outcome, found piece by piece, says whether a text is accepted, and the fault of an identifier or a locale.
-use Rattle.std.proofs.Common.{◌≡◌, ◌≢◌, Bool, true, false, not, cond, List, [], ◌∷◌, Option, Some, None, Result, Ok, Err, MatchResult, refl, sym, ap, ◌∙◌, subst, true≢false, ◌↔◌}
-use Rattle.iloc_spec_grammar.specs.Syntax.{Text, Language, languages, is_word, pieces, head, tail_blocks, front, blocks, Identifier}
-use Rattle.iloc_spec_grammar.specs.Meaning.{Fault, Means, IdentifierMeans, HasFault, HasIdentifierFault, InvalidLanguage, InvalidSubtag}
+-- The outcome, found piece by piece, says whether a text is accepted, and the fault of an identifier or a
+-- locale.
+use Rattle.std.proofs.Common.{◌≡◌, ◌≢◌, Bool, true, false, not, cond, List, [], ◌∷◌, Option, Some, None}
+use Rattle.std.proofs.Common.{Result, Ok, Err, MatchResult, refl, sym, ap, ◌∙◌, subst, true≢false, ◌↔◌}
+use Rattle.iloc_spec_grammar.specs.Syntax.{Text, Language, languages, is_word, pieces, head, tail_blocks}
+use Rattle.iloc_spec_grammar.specs.Syntax.{front, blocks, Identifier}
+use Rattle.iloc_spec_grammar.specs.Meaning.{Fault, Means, IdentifierMeans, HasFault, HasIdentifierFault}
+use Rattle.iloc_spec_grammar.specs.Meaning.{InvalidLanguage, InvalidSubtag}
 use Rattle.iloc_spec_grammar.specs.Tree.{meaning}
 use Rattle.iloc_spec_grammar.specs.Reading.{identifier_of, written_of}
-use Rattle.iloc_spec_grammar.specs.Computing.{identifier_result, locale_result, is_identifier, first_fault, unless_fault}
+use Rattle.iloc_spec_grammar.specs.Computing.{identifier_result, locale_result, is_identifier, first_fault}
+use Rattle.iloc_spec_grammar.specs.Computing.{unless_fault}
 use Rattle.iloc_spec_grammar.proofs.RawLaws.{languages_table}
 use Rattle.iloc_spec_grammar.proofs.PiecesLaws.{at_pieces}
-use Rattle.iloc_spec_grammar.proofs.ComputingLaws.{locale_answers, computed_means, computed_identifier, text_identifier_answers}
+use Rattle.iloc_spec_grammar.proofs.ComputingLaws.{locale_answers, computed_means, computed_identifier}
+use Rattle.iloc_spec_grammar.proofs.ComputingLaws.{text_identifier_answers}
 use Rattle.iloc_spec_parts.specs.SmallComputing.{small_result, after_identifier, small_identifier_result}
 use Rattle.iloc_spec_preferences.specs.DataLocales.{DataMeans, HasDataFault}
 use Rattle.iloc_spec_preferences.specs.DataComputing.{data_of_result, data_result}
@@ -32,58 +38,82 @@ unless (Some f) x = refl
 
 -- ---- the outcome is the answer of the plain programs
 
-langid_verdict : (p : Text) (ps : List Text) → outcome Langid started (p ∷ ps) ≡ fault_in (identifier_result languages (p ∷ ps))
-langid_verdict p ps = identifier_verdict p ps ∙ by (is_word (Language languages) p) refl (is_identifier languages (identifier_of (p ∷ ps))) refl
+langid_verdict : (p : Text) (ps : List Text) →
+    outcome Langid started (p ∷ ps) ≡ fault_in (identifier_result languages (p ∷ ps))
+langid_verdict p ps = identifier_verdict p ps
+    ∙ by (is_word (Language languages) p) refl (is_identifier languages (identifier_of (p ∷ ps))) refl
   where
-    by : (a : Bool) → is_word (Language languages) p ≡ a → (b : Bool) → is_identifier languages (identifier_of (p ∷ ps)) ≡ b
-        → cond (not (is_word (Language languages) p)) (Some InvalidLanguage) (cond (not (is_identifier languages (identifier_of (p ∷ ps)))) (Some InvalidSubtag) None) ≡ fault_in (identifier_result languages (p ∷ ps))
+    by : (a : Bool) → is_word (Language languages) p ≡ a → (b : Bool) →
+        is_identifier languages (identifier_of (p ∷ ps)) ≡ b
+        → cond (not (is_word (Language languages) p)) (Some InvalidLanguage)
+        (cond (not (is_identifier languages (identifier_of (p ∷ ps)))) (Some InvalidSubtag) None)
+        ≡ fault_in (identifier_result languages (p ∷ ps))
     by false e b f = rw e refl
     by true e true f = rw (e, f) refl
     by true e false f = rw (e, f) refl
 
-locale_of : (t p : Text) (ps : List Text) → pieces t ≡ p ∷ ps → locale_fault p ps ≡ fault_in (locale_result languages t)
+locale_of : (t p : Text) (ps : List Text) → pieces t ≡ p ∷ ps →
+    locale_fault p ps ≡ fault_in (locale_result languages t)
 unfolding locale_result
-locale_of t p ps e = rw e (by (is_word (Language languages) p) refl (is_identifier languages (identifier_of (p ∷ front ps))) refl)
+locale_of t p ps e = rw e
+    (by (is_word (Language languages) p) refl (is_identifier languages (identifier_of (p ∷ front ps))) refl)
   where
-    by : (a : Bool) → is_word (Language languages) p ≡ a → (b : Bool) → is_identifier languages (identifier_of (p ∷ front ps)) ≡ b
-        → locale_fault p ps ≡ fault_in (cond (not (is_word (Language languages) p)) (Err InvalidLanguage) (cond (not (is_identifier languages (identifier_of (p ∷ front ps)))) (Err InvalidSubtag) (unless_fault (first_fault languages [] (blocks ps)) (meaning (written_of (p ∷ ps))))))
+    by : (a : Bool) → is_word (Language languages) p ≡ a → (b : Bool) →
+        is_identifier languages (identifier_of (p ∷ front ps)) ≡ b
+        → locale_fault p ps
+        ≡ fault_in (cond (not (is_word (Language languages) p)) (Err InvalidLanguage)
+        (cond (not (is_identifier languages (identifier_of (p ∷ front ps)))) (Err InvalidSubtag)
+        (unless_fault (first_fault languages [] (blocks ps)) (meaning (written_of (p ∷ ps))))))
     by false e b f = rw e refl
-    by true e true f = rw (e, f) (sym (unless (first_fault languages [] (blocks ps)) (meaning (written_of (p ∷ ps)))))
+    by true e true f =
+        rw (e, f) (sym (unless (first_fault languages [] (blocks ps)) (meaning (written_of (p ∷ ps)))))
     by true e false f = rw (e, f) refl
 
 -- the pieces are one or more
 some_pieces : (t : Text) → (p : Text) × (ps : List Text) × (pieces t ≡ p ∷ ps)
 some_pieces t = at_pieces (λ qs. (p : Text) × (ps : List Text) × (qs ≡ p ∷ ps)) (λ p ps. (p, ps, refl)) t
 
-pub identifier_answer : (t : Text) → outcome Langid started (pieces t) ≡ fault_in (identifier_result languages (pieces t))
-identifier_answer t = at_pieces (λ ps. outcome Langid started ps ≡ fault_in (identifier_result languages ps)) langid_verdict t
+pub identifier_answer : (t : Text) →
+    outcome Langid started (pieces t) ≡ fault_in (identifier_result languages (pieces t))
+identifier_answer t =
+    at_pieces (λ ps. outcome Langid started ps ≡ fault_in (identifier_result languages ps)) langid_verdict t
 
 pub locale_answer : (t : Text) → outcome Locale started (pieces t) ≡ fault_in (locale_result languages t)
-locale_answer t = let s = some_pieces t in ap (outcome Locale started) s.2 ∙ locale_verdict s.0 s.1 ∙ locale_of t s.0 s.1 s.2
+locale_answer t = let s = some_pieces t in
+    ap (outcome Locale started) s.2 ∙ locale_verdict s.0 s.1 ∙ locale_of t s.0 s.1 s.2
 
 pub data_fine : (t : Text) → fine (outcome Data started (pieces t)) ≡ is_ok (data_result languages t)
 unfolding data_result small_result
-data_fine t = let s = some_pieces t in ap (λ ps. fine (outcome Data started ps)) s.2 ∙ data_verdict s.0 s.1 ∙ sym (data_ok s.0 s.1)
-    ∙ sym (ap (λ ps. is_ok (data_of_result (after_identifier (small_identifier_result languages (head ps)) (tail_blocks ps)))) s.2)
+data_fine t = let s = some_pieces t in
+    ap (λ ps. fine (outcome Data started ps)) s.2 ∙ data_verdict s.0 s.1 ∙ sym (data_ok s.0 s.1)
+    ∙ sym (ap (λ ps.
+    is_ok (data_of_result (after_identifier (small_identifier_result languages (head ps)) (tail_blocks ps))))
+    s.2)
 
 -- ---- so it is that of the definitions
 
 -- a text is accepted exactly if its outcome is none
-pub accepted_is : (mode : Mode) (t : Text) → IsAccepted mode t ↔ (fine (outcome mode started (pieces t)) ≡ true)
+pub accepted_is : (mode : Mode) (t : Text) →
+    IsAccepted mode t ↔ (fine (outcome mode started (pieces t)) ≡ true)
 accepted_is Langid t = (
   λ m. ap fine (identifier_answer t ∙ ap fault_in ((computed_identifier languages t m.0).1 m.1)),
-  λ e. by (identifier_result languages (pieces t)) (text_identifier_answers languages t) (sym (ap fine (identifier_answer t)) ∙ e),
+  λ e. by (identifier_result languages (pieces t)) (text_identifier_answers languages t)
+      (sym (ap fine (identifier_answer t)) ∙ e),
 )
   where
-    by : (r : Result Identifier Fault) → MatchResult r (IdentifierMeans languages (pieces t)) (HasIdentifierFault languages (pieces t)) → fine (fault_in r) ≡ true → IsAccepted Langid t
+    by : (r : Result Identifier Fault) →
+        MatchResult r (IdentifierMeans languages (pieces t)) (HasIdentifierFault languages (pieces t)) →
+        fine (fault_in r) ≡ true → IsAccepted Langid t
     by (Ok i) m e = (i, m)
     by (Err f) m e = absurd (true≢false (sym e))
 accepted_is Locale t = (
   λ m. ap fine (locale_answer t ∙ ap fault_in ((computed_means languages languages_table t m.0).1 m.1)),
-  λ e. by (locale_result languages t) (locale_answers languages languages_table t) (sym (ap fine (locale_answer t)) ∙ e),
+  λ e. by (locale_result languages t) (locale_answers languages languages_table t)
+      (sym (ap fine (locale_answer t)) ∙ e),
 )
   where
-    by : (r : Result _ Fault) → MatchResult r (Means languages t) (HasFault languages t) → fine (fault_in r) ≡ true → IsAccepted Locale t
+    by : (r : Result _ Fault) → MatchResult r (Means languages t) (HasFault languages t) →
+        fine (fault_in r) ≡ true → IsAccepted Locale t
     by (Ok i) m e = (i, m)
     by (Err f) m e = absurd (true≢false (sym e))
 accepted_is Data t = (
@@ -91,24 +121,32 @@ accepted_is Data t = (
   λ e. by (data_result languages t) (data_answer languages_table t) (sym (data_fine t) ∙ e),
 )
   where
-    meant : (r : Result _ Fault) → MatchResult r (DataMeans languages t) (HasDataFault languages t) → IsAccepted Data t → is_ok r ≡ true
+    meant : (r : Result _ Fault) → MatchResult r (DataMeans languages t) (HasDataFault languages t) →
+        IsAccepted Data t → is_ok r ≡ true
     meant (Ok d) h m = refl
     meant (Err f) h m = absurd (data_apart languages_table t m.0 f m.1 h)
 
-    by : (r : Result _ Fault) → MatchResult r (DataMeans languages t) (HasDataFault languages t) → is_ok r ≡ true → IsAccepted Data t
+    by : (r : Result _ Fault) → MatchResult r (DataMeans languages t) (HasDataFault languages t) →
+        is_ok r ≡ true → IsAccepted Data t
     by (Ok d) h e = (d, h)
     by (Err f) h e = absurd (true≢false (sym e))
 
 -- the fault of a text as an identifier or a locale
-pub faulty_is : (mode : Mode) (t : Text) (f : Fault) → mode ≢ Data → outcome mode started (pieces t) ≡ Some f → IsFaulty languages mode t f
-faulty_is Langid t f n e = by (identifier_result languages (pieces t)) (text_identifier_answers languages t) (sym (identifier_answer t) ∙ e)
+pub faulty_is : (mode : Mode) (t : Text) (f : Fault) → mode ≢ Data →
+    outcome mode started (pieces t) ≡ Some f → IsFaulty languages mode t f
+faulty_is Langid t f n e = by (identifier_result languages (pieces t)) (text_identifier_answers languages t)
+    (sym (identifier_answer t) ∙ e)
   where
-    by : (r : Result Identifier Fault) → MatchResult r (IdentifierMeans languages (pieces t)) (HasIdentifierFault languages (pieces t)) → fault_in r ≡ Some f → HasIdentifierFault languages (pieces t) f
+    by : (r : Result Identifier Fault) →
+        MatchResult r (IdentifierMeans languages (pieces t)) (HasIdentifierFault languages (pieces t)) →
+        fault_in r ≡ Some f → HasIdentifierFault languages (pieces t) f
     by (Ok i) m e = cc
     by (Err g) m e = let same : g ≡ f = cc in subst (HasIdentifierFault languages (pieces t)) same m
-faulty_is Locale t f n e = by (locale_result languages t) (locale_answers languages languages_table t) (sym (locale_answer t) ∙ e)
+faulty_is Locale t f n e =
+    by (locale_result languages t) (locale_answers languages languages_table t) (sym (locale_answer t) ∙ e)
   where
-    by : (r : Result _ Fault) → MatchResult r (Means languages t) (HasFault languages t) → fault_in r ≡ Some f → HasFault languages t f
+    by : (r : Result _ Fault) → MatchResult r (Means languages t) (HasFault languages t) →
+        fault_in r ≡ Some f → HasFault languages t f
     by (Ok i) m e = cc
     by (Err g) m e = let same : g ≡ f = cc in subst (HasFault languages t) same m
 faulty_is Data t f n e = absurd (n refl)

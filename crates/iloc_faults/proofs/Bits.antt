@@ -1,13 +1,18 @@
 -- The bits of singletons, and what else the reader knows of bytes.
-use Rattle.std.proofs.Common.{◌≡◌, ◌≢◌, inl, inr, ℕ, ◌+◌, ◌*◌, ◌-◌, ◌<◌, ◌≤◌, ◌^◌, Bool, true, false, ◌==◌, ◌||◌, ◌&&◌, List, [], ◌∷◌, length, get_or, take, drop, Result, Ok, Err, Option, Some, None, IfSome, codes, max, refl, sym, ap, ap₂, ◌∙◌, arith, true≢false, is_some}
+use Rattle.std.proofs.Common.{◌≡◌, ◌≢◌, inl, inr, ℕ, ◌+◌, ◌*◌, ◌-◌, ◌<◌, ◌≤◌, ◌^◌, Bool, true, false, ◌==◌}
+use Rattle.std.proofs.Common.{◌||◌, ◌&&◌, List, [], ◌∷◌, length, get_or, take, drop, Result, Ok, Err, Option}
+use Rattle.std.proofs.Common.{Some, None, IfSome, codes, max, refl, sym, ap, ap₂, ◌∙◌, arith, true≢false}
+use Rattle.std.proofs.Common.{is_some}
 use Rattle.std.specs.Char.{is_ascii_alphanumeric, to_ascii_lowercase}
 use Rattle.std.specs.Ordering.{nat_cmp, eq_by_cmp}
 use Rattle.std.specs.Int.{bit_at}
 use lib.Bits.{bit_and, bit_or}
-use Rattle.std.proofs.lemmas.Bool.{cases_Bool, false_from_ne_true, eqb-true, eq-eqb, and_from, or_cases, or_left, or_right, cases_eq, and_parts}
+use Rattle.std.proofs.lemmas.Bool.{cases_Bool, false_from_ne_true, eqb-true, eq-eqb, and_from, or_cases}
+use Rattle.std.proofs.lemmas.Bool.{or_left, or_right, cases_eq, and_parts}
 use Rattle.std.proofs.lemmas.Bool.Decides.{nat_tests}
 use Rattle.std.proofs.lemmas.Nat.Bits.{and_pow, bit_at_or, bit_at-pow_same, bit_at-pow_other, bit_at-zero}
-use Rattle.iloc_spec_grammar.specs.Syntax.{Text, languages, Language, Variant, UnicodeKey, TransformKey, Attribute, PrivateSubtag, Subtag, is_word, lower, is_same, read}
+use Rattle.iloc_spec_grammar.specs.Syntax.{Text, languages, Language, Variant, UnicodeKey, TransformKey}
+use Rattle.iloc_spec_grammar.specs.Syntax.{Attribute, PrivateSubtag, Subtag, is_word, lower, is_same, read}
 use Rattle.iloc_spec_grammar.specs.Syntax as kinds
 use Rattle.iloc_spec_grammar.proofs.WellRead.{attribute_is_word}
 use Rattle.iloc_spec_preferences.specs.DataLocales.{named_subdivision}
@@ -16,9 +21,14 @@ use Rattle.iloc_spec_grammar.proofs.WordsLaws.{length-lower}
 use Rattle.iloc_spec_grammar.proofs.Singletons.{untied, self_tied}
 use Rattle.iloc_pieces.specs.Left.{IsRemainder, IsShortPiece, piece_left}
 use Rattle.iloc_pieces.specs.declared.left.Left.{Left}
-use Rattle.iloc_pieces.proofs.LeftLemmas.{short_language, short_key, short_field_key, short_attribute, short_private, between_short, piece_inside, piece_byte, short_bytes, length_piece}
+use Rattle.iloc_pieces.proofs.LeftLemmas.{short_language, short_key, short_field_key, short_attribute}
+use Rattle.iloc_pieces.proofs.LeftLemmas.{short_private, between_short, piece_inside, piece_byte, short_bytes}
+use Rattle.iloc_pieces.proofs.LeftLemmas.{length_piece}
 use Rattle.iloc_faults.specs.declared.state.Part.{Part}
-use Rattle.iloc_faults.specs.declared.state.Part.TheVariants.{Start, Head, Transform, Source, FieldKey, FieldValue, Unicode, Keyword, Other, OtherWord, Private, PrivateWord, Subdivision, SubdivisionKey, SubdivisionValue}
+use Rattle.iloc_faults.specs.declared.state.Part.TheVariants.{Start, Head, Transform, Source, FieldKey}
+use Rattle.iloc_faults.specs.declared.state.Part.TheVariants.{FieldValue, Unicode, Keyword, Other, OtherWord}
+use Rattle.iloc_faults.specs.declared.state.Part.TheVariants.{Private, PrivateWord, Subdivision}
+use Rattle.iloc_faults.specs.declared.state.Part.TheVariants.{SubdivisionKey, SubdivisionValue}
 use Rattle.iloc_faults.specs.Next.{is_seen, when, piece_next, subdivision_next}
 use Rattle.iloc_faults.specs.States.{AreSingletonsSeen, bit_place}
 
@@ -36,16 +46,23 @@ smaller x y z e f = omega arith
 
 -- nothing was seen
 pub none_seen : AreSingletonsSeen 0 []
-none_seen c a = (λ e. let z = bit_at-zero (bit_place (to_ascii_lowercase c)) in absurd (omega (arith, z, e)), λ e. absurd (true≢false (sym e)))
+none_seen c a = (
+  λ e. let z = bit_at-zero (bit_place (to_ascii_lowercase c)) in absurd (omega (arith, z, e)),
+  λ e. absurd (true≢false (sym e)),
+)
 
 -- bits are apart
-places_apart : (c d : ℕ) → is_ascii_alphanumeric c ≡ true → is_ascii_alphanumeric d ≡ true → to_ascii_lowercase d ≢ to_ascii_lowercase c → bit_place (to_ascii_lowercase d) ≢ bit_place (to_ascii_lowercase c)
+places_apart : (c d : ℕ) → is_ascii_alphanumeric c ≡ true → is_ascii_alphanumeric d ≡ true →
+    to_ascii_lowercase d ≢ to_ascii_lowercase c →
+    bit_place (to_ascii_lowercase d) ≢ bit_place (to_ascii_lowercase c)
 places_apart c d h k n e = n (same e)
   where
-    same : bit_place (to_ascii_lowercase d) ≡ bit_place (to_ascii_lowercase c) → to_ascii_lowercase d ≡ to_ascii_lowercase c
+    same : bit_place (to_ascii_lowercase d) ≡ bit_place (to_ascii_lowercase c) →
+        to_ascii_lowercase d ≡ to_ascii_lowercase c
     same e = grind (arith, nat_tests)
 
-module _ (bits : ℕ) (seen : List ℕ) (h : AreSingletonsSeen bits seen) (c : ℕ) (a : is_ascii_alphanumeric c ≡ true) where
+module _ (bits : ℕ) (seen : List ℕ) (h : AreSingletonsSeen bits seen) (c : ℕ)
+    (a : is_ascii_alphanumeric c ≡ true) where
   abbrev place : ℕ
   place = bit_place (to_ascii_lowercase c)
 
@@ -55,7 +72,8 @@ module _ (bits : ℕ) (seen : List ℕ) (h : AreSingletonsSeen bits seen) (c : �
     where
       by : (b : ℕ) → bit_at bits place ≡ b → bit_at bits place ≡ 1
       by b e = elim (cases_eq (bit_at bits place) 0) [
-        | inl z ↦ let nothing : 0 * 2 ^ place ≡ 0 = omega arith in absurd (n (and_pow bits place ∙ ap (λ x. x * 2 ^ place) z ∙ nothing))
+        | inl z ↦ let nothing : 0 * 2 ^ place ≡ 0 = omega arith in
+            absurd (n (and_pow bits place ∙ ap (λ x. x * 2 ^ place) z ∙ nothing))
         | inr z ↦ let s = bit_small bits place in omega arith
       ]
 
@@ -68,14 +86,19 @@ module _ (bits : ℕ) (seen : List ℕ) (h : AreSingletonsSeen bits seen) (c : �
   pub seen_more : AreSingletonsSeen (bit_or bits (2 ^ place)) (to_ascii_lowercase c ∷ seen)
   seen_more d k = elim (cases_eq (to_ascii_lowercase c) (to_ascii_lowercase d)) [
     | inl e ↦ (
-      λ _. or_left _ _ (ap (λ x. eq_by_cmp nat_cmp (to_ascii_lowercase d) x) e ∙ self_tied (to_ascii_lowercase d)),
+      λ _. or_left _ _
+          (ap (λ x. eq_by_cmp nat_cmp (to_ascii_lowercase d) x) e ∙ self_tied (to_ascii_lowercase d)),
       λ _. let f : bit_place (to_ascii_lowercase d) ≡ place = ap bit_place (sym e) in
-          larger _ _ _ (bit_at_or bits (2 ^ place) (bit_place (to_ascii_lowercase d))) (ap (bit_at (2 ^ place)) f ∙ bit_at-pow_same place) (bit_small bits (bit_place (to_ascii_lowercase d))),
+          larger _ _ _ (bit_at_or bits (2 ^ place) (bit_place (to_ascii_lowercase d)))
+          (ap (bit_at (2 ^ place)) f ∙ bit_at-pow_same place)
+          (bit_small bits (bit_place (to_ascii_lowercase d))),
     )
     | inr n ↦
         let apart = places_apart c d a k (λ e. n (sym e)) in
-        let same : bit_at (bit_or bits (2 ^ place)) (bit_place (to_ascii_lowercase d)) ≡ bit_at bits (bit_place (to_ascii_lowercase d)) =
-        smaller _ _ _ (bit_at_or bits (2 ^ place) (bit_place (to_ascii_lowercase d))) (bit_at-pow_other place (bit_place (to_ascii_lowercase d)) apart) in
+        let same : bit_at (bit_or bits (2 ^ place)) (bit_place (to_ascii_lowercase d))
+        ≡ bit_at bits (bit_place (to_ascii_lowercase d)) =
+        smaller _ _ _ (bit_at_or bits (2 ^ place) (bit_place (to_ascii_lowercase d)))
+        (bit_at-pow_other place (bit_place (to_ascii_lowercase d)) apart) in
         let no = untied (to_ascii_lowercase d) (to_ascii_lowercase c) n in
         (λ e. or_right _ _ ((h d k).0 (sym same ∙ e)), λ s. same ∙ (h d k).1 (rw no at s))
   ]
@@ -86,18 +109,22 @@ when_short : (b : Bool) (q : Part) (P : Type 0) → (b ≡ true → P) → IfSom
 when_short true q P h = h refl
 when_short false q P h = tt
 
-either_short : (p : Text) (a b : Bool) → (a ≡ true → IsShortPiece p) → (b ≡ true → IsShortPiece p) → (a || b) ≡ true → IsShortPiece p
+either_short : (p : Text) (a b : Bool) → (a ≡ true → IsShortPiece p) → (b ≡ true → IsShortPiece p) →
+    (a || b) ≡ true → IsShortPiece p
 either_short p a b f g h = elim (or_cases a b h) [ inl e ↦ f e | inr e ↦ g e ]
 
 sd_short : (p : Text) → is_same (lower p) (codes "sd") ≡ true → IsShortPiece p
-sd_short p e = let n : length p ≡ 2 = sym (length-lower p) ∙ ap length (same_is (lower p) (codes "sd") e) in omega arith
+sd_short p e =
+    let n : length p ≡ 2 = sym (length-lower p) ∙ ap length (same_is (lower p) (codes "sd") e) in omega arith
 
-pub language_short : (p : Text) (q : Part) → IfSome (when (is_word (Language languages) p) q) (λ _. IsShortPiece p)
+pub language_short : (p : Text) (q : Part) →
+    IfSome (when (is_word (Language languages) p) q) (λ _. IsShortPiece p)
 language_short p q = when_short _ q _ (short_language p)
 
 pub piece_short : (part : Part) (p : Text) → IfSome (piece_next part p) (λ _. IsShortPiece p)
 piece_short FieldKey p = when_short _ _ _ (short_attribute p)
-piece_short FieldValue p = elim (cases_Bool (is_word TransformKey p)) [ inl e ↦ rw e (short_field_key p e) | inr e ↦ rw e (when_short _ FieldValue _ (short_attribute p)) ]
+piece_short FieldValue p = elim (cases_Bool (is_word TransformKey p))
+    [ inl e ↦ rw e (short_field_key p e) | inr e ↦ rw e (when_short _ FieldValue _ (short_attribute p)) ]
 piece_short Unicode p = when_short _ _ _ (either_short p _ _ (short_attribute p) (short_key p))
 piece_short Keyword p = when_short _ _ _ (either_short p _ _ (short_attribute p) (short_key p))
 piece_short Other p = when_short _ _ _ (between_short p)
@@ -106,7 +133,10 @@ piece_short Private p = when_short _ _ _ (short_private p)
 piece_short PrivateWord p = when_short _ _ _ (short_private p)
 piece_short Subdivision p = when_short _ _ _ (sd_short p)
 piece_short SubdivisionKey p = elim (cases_Bool (is_word Attribute p)) [
-  | inl e ↦ rw e (elim (cases_Bool (kinds.is_true (lower p))) [ inl t ↦ rw t (short_attribute p e) | inr t ↦ rw t (when_short (is_some _) SubdivisionValue _ (λ _. short_attribute p e)) ])
+  | inl e ↦ rw e (elim (cases_Bool (kinds.is_true (lower p))) [
+    | inl t ↦ rw t (short_attribute p e)
+    | inr t ↦ rw t (when_short (is_some _) SubdivisionValue _ (λ _. short_attribute p e))
+  ])
   | inr e ↦ rw e tt
 ]
 piece_short SubdivisionValue p = when_short _ _ _ (λ e. short_attribute p (and_parts _ _ e).0)
@@ -122,7 +152,8 @@ two_long h e = elim h.piece [ inl s ↦ sym s.long ∙ e | inr k ↦ absurd (let
 
 pub not_two : {l : Left} → IsRemainder l → l.n ≢ 2 → is_same (lower (piece_left l)) (codes "sd") ≡ false
 not_two {l = l} h n = false_from_ne_true _ (λ e.
-    let two : length (piece_left l) ≡ 2 = sym (length-lower (piece_left l)) ∙ ap length (same_is (lower (piece_left l)) (codes "sd") e) in
+    let two : length (piece_left l) ≡ 2 =
+    sym (length-lower (piece_left l)) ∙ ap length (same_is (lower (piece_left l)) (codes "sd") e) in
     elim h.piece [ inl s ↦ n (s.long ∙ two) | inr k ↦ let m = k.long in absurd (omega arith) ])
 
 one_test : (x y : Bool) → (x ≡ true → y ≡ true) → (y ≡ true → x ≡ true) → x ≡ y
@@ -131,31 +162,41 @@ one_test false false f g = refl
 one_test true false f g = sym (f refl)
 one_test false true f g = g refl
 
-sd_of : (p : Text) → length p ≡ 2 → is_same (lower p) (codes "sd") ≡ ((to_ascii_lowercase (get_or p 0 0) == 115) && (to_ascii_lowercase (get_or p 1 0) == 100))
+sd_of : (p : Text) → length p ≡ 2 →
+    is_same (lower p) (codes "sd")
+    ≡ ((to_ascii_lowercase (get_or p 0 0) == 115) && (to_ascii_lowercase (get_or p 1 0) == 100))
 unfolding lower
 sd_of (a ∷ b ∷ []) e = one_test _ _
-    (λ h. let k : to_ascii_lowercase a ∷ to_ascii_lowercase b ∷ [] ≡ 115 ∷ 100 ∷ [] = same_is (to_ascii_lowercase a ∷ to_ascii_lowercase b ∷ []) (codes "sd") h in
+    (λ h. let k : to_ascii_lowercase a ∷ to_ascii_lowercase b ∷ [] ≡ 115 ∷ 100 ∷ [] =
+    same_is (to_ascii_lowercase a ∷ to_ascii_lowercase b ∷ []) (codes "sd") h in
     let x : to_ascii_lowercase a ≡ 115 = cc in
     let y : to_ascii_lowercase b ≡ 100 = cc in
     and_from _ _ (eq-eqb _ _ x) (eq-eqb _ _ y))
     (λ h. let k = and_parts _ _ h in
-    ap₂ (λ (u v : ℕ). is_same (u ∷ v ∷ []) (codes "sd")) {x = to_ascii_lowercase a} {y = 115} {u = to_ascii_lowercase b} {v = 100} (eqb-true _ _ k.0) (eqb-true _ _ k.1) ∙ same_itself (codes "sd"))
+    ap₂ (λ (u v : ℕ). is_same (u ∷ v ∷ []) (codes "sd")) {x = to_ascii_lowercase a} {y = 115}
+    {u = to_ascii_lowercase b} {v = 100} (eqb-true _ _ k.0) (eqb-true _ _ k.1)
+    ∙ same_itself (codes "sd"))
 sd_of [] e = absurd (omega arith)
 sd_of (a ∷ []) e = absurd (omega arith)
 sd_of (a ∷ b ∷ d ∷ p) e = absurd (omega arith)
 
 -- the piece by its bytes in the window
-pub sd_is : {l : Left} → IsRemainder l → l.n ≡ 2 → is_same (lower (piece_left l)) (codes "sd") ≡ ((to_ascii_lowercase (get_or l.window.now l.at 0) == 115) && (to_ascii_lowercase (get_or l.window.now (l.at + 1) 0) == 100))
+pub sd_is : {l : Left} → IsRemainder l → l.n ≡ 2 →
+    is_same (lower (piece_left l)) (codes "sd")
+    ≡ ((to_ascii_lowercase (get_or l.window.now l.at 0) == 115)
+    && (to_ascii_lowercase (get_or l.window.now (l.at + 1) 0) == 100))
 sd_is {l = l} h e =
     let two = two_long h e in
     sd_of (piece_left l) two
     ∙ ap₂ (λ u v. (to_ascii_lowercase u == 115) && (to_ascii_lowercase v == 100))
-    (piece_byte h 0 (omega arith) ∙ ap (λ i. get_or l.window.now i 0) (omega arith)) (piece_byte h 1 (omega arith))
+    (piece_byte h 0 (omega arith) ∙ ap (λ i. get_or l.window.now i 0) (omega arith))
+    (piece_byte h 1 (omega arith))
 
 -- ---- the value of `sd`
 
 -- the bytes of the piece, as they are cut from the window
-pub cut_bytes : {l : Left} → IsRemainder l → IsShortPiece (piece_left l) → take (l.at + l.n - l.at) (drop l.at l.window.now) ≡ piece_left l
+pub cut_bytes : {l : Left} → IsRemainder l → IsShortPiece (piece_left l) →
+    take (l.at + l.n - l.at) (drop l.at l.window.now) ≡ piece_left l
 cut_bytes {l = l} h short = ap (λ k. take k (drop l.at l.window.now)) (omega arith) ∙ short_bytes h short
 
 pub cut_inside : {l : Left} → IsRemainder l → IsShortPiece (piece_left l) → l.at + l.n ≤ length l.window.now
@@ -166,19 +207,23 @@ text_in : {E : Type 0} → Result Text E → Option Text
 text_in (Ok w) = Some w
 text_in (Err e) = None
 
-read_in : {E : Type 0} (p : Text) (refusal : E) → is_word Attribute p ≡ true → text_in (read Subtag refusal p) ≡ Some (lower p)
+read_in : {E : Type 0} (p : Text) (refusal : E) → is_word Attribute p ≡ true →
+    text_in (read Subtag refusal p) ≡ Some (lower p)
 unfolding text_in
 read_in p refusal a = let s = attribute_is_word p a in rw s refl
 
 -- what is read of it names a subdivision, or not
-pub named_next : {E : Type 0} (p : Text) (refusal : E) (w : Text) → is_word Attribute p ≡ true → kinds.is_true (lower p) ≡ false → read Subtag refusal p ≡ Ok w → (o : Option Part) → o ≡ when (is_some (named_subdivision w)) SubdivisionValue → o ≡ subdivision_next p
+pub named_next : {E : Type 0} (p : Text) (refusal : E) (w : Text) → is_word Attribute p ≡ true →
+    kinds.is_true (lower p) ≡ false → read Subtag refusal p ≡ Ok w → (o : Option Part) →
+    o ≡ when (is_some (named_subdivision w)) SubdivisionValue → o ≡ subdivision_next p
 unfolding text_in
 named_next p refusal w a t e o f =
     let same : Some (lower p) ≡ Some w = sym (read_in p refusal a) ∙ ap text_in e in
     let word : w ≡ lower p = cc in
     rw (a, t) (f ∙ ap (λ v. when (is_some (named_subdivision v)) SubdivisionValue) word)
 
-pub named_never : {E : Type 0} (p : Text) (refusal e : E) → is_word Attribute p ≡ true → read Subtag refusal p ≡ Err e → ⊥
+pub named_never : {E : Type 0} (p : Text) (refusal e : E) → is_word Attribute p ≡ true →
+    read Subtag refusal p ≡ Err e → ⊥
 unfolding text_in
 named_never p refusal e a k =
     let same : Some (lower p) ≡ None = sym (read_in p refusal a) ∙ ap text_in k in

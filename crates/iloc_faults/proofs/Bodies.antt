@@ -1,12 +1,19 @@
 -- What follows a singleton, one piece more: what the rules of the grammar ask of the rest.
-use Rattle.std.proofs.Common.{◌≡◌, inl, inr, ℕ, suc, ◌+◌, Bool, true, false, cond, ◌&&◌, ◌||◌, List, [], ◌∷◌, length, map, Some, None, nat_lt, codes, refl, sym, ap, ap₂, ◌∙◌, arith, true≢false}
+use Rattle.std.proofs.Common.{◌≡◌, inl, inr, ℕ, suc, ◌+◌, Bool, true, false, cond, ◌&&◌, ◌||◌, List, [], ◌∷◌}
+use Rattle.std.proofs.Common.{length, map, Some, None, nat_lt, codes, refl, sym, ap, ap₂, ◌∙◌, arith}
+use Rattle.std.proofs.Common.{true≢false}
 use Rattle.std.specs.List.{list_all}
 use Rattle.std.specs.Int.{is_in_range}
 use Rattle.std.proofs.lemmas.Bool.{cases_Bool, false_from_ne_true, lt-ltb, eqb-true, eqb-false}
-use Rattle.iloc_spec_grammar.specs.Syntax.{Text, Fields, Language, Script, Region, Variant, UnicodeKey, TransformKey, Attribute, Subtag, languages, is_word, IsWord, lower, word_cmp}
-use Rattle.iloc_spec_grammar.specs.Reading.{take_first, skip_first, is_two, before_key, fields_from, identifier_of, front_of, unicode_of, transform_of}
-use Rattle.iloc_spec_grammar.specs.Computing.{holds_if_some, all_different, is_identifier, is_keyword, is_unicode, is_field, is_transform, is_other, repeats_variant}
-use Rattle.iloc_spec_grammar.proofs.WordsLaws.{length-attribute, length-unicode_key, length-transform_key, length-script, length-variant}
+use Rattle.iloc_spec_grammar.specs.Syntax.{Text, Fields, Language, Script, Region, Variant, UnicodeKey}
+use Rattle.iloc_spec_grammar.specs.Syntax.{TransformKey, Attribute, Subtag, languages, is_word, IsWord, lower}
+use Rattle.iloc_spec_grammar.specs.Syntax.{word_cmp}
+use Rattle.iloc_spec_grammar.specs.Reading.{take_first, skip_first, is_two, before_key, fields_from}
+use Rattle.iloc_spec_grammar.specs.Reading.{identifier_of, front_of, unicode_of, transform_of}
+use Rattle.iloc_spec_grammar.specs.Computing.{holds_if_some, all_different, is_identifier, is_keyword}
+use Rattle.iloc_spec_grammar.specs.Computing.{is_unicode, is_field, is_transform, is_other, repeats_variant}
+use Rattle.iloc_spec_grammar.proofs.WordsLaws.{length-attribute, length-unicode_key, length-transform_key}
+use Rattle.iloc_spec_grammar.proofs.WordsLaws.{length-script, length-variant}
 use Rattle.iloc_faults.proofs.Words.{good, repeats}
 use Rattle.iloc_spec_grammar.proofs.Readings.{language_no_key, identifier_no_key}
 use Rattle.iloc_faults.specs.declared.state.Stage.{Stage}
@@ -35,26 +42,34 @@ abbrev pub of_unicode : Text → Bool
 of_unicode p = is_word Attribute p || is_word UnicodeKey p
 
 two_no_attribute : (p : Text) → is_two p ≡ true → is_word Attribute p ≡ false
-two_no_attribute p h = false_from_ne_true _ (λ e. let k = length-attribute p e in let n : length p ≡ 2 = eqb-true _ _ h in absurd (omega arith))
+two_no_attribute p h = false_from_ne_true _
+    (λ e. let k = length-attribute p e in let n : length p ≡ 2 = eqb-true _ _ h in absurd (omega arith))
 
 more_no_key : (p : Text) → is_two p ≡ false → is_word UnicodeKey p ≡ false
 more_no_key p h = false_from_ne_true _ (λ e. absurd (eqb-false _ _ h (length-unicode_key p e)))
 
-unicode_all : (ps : List Text) → (list_all (is_word Attribute) (before_key is_two ps) && list_all is_keyword (fields_from is_two ps)) ≡ list_all of_unicode ps
+unicode_all : (ps : List Text) →
+    (list_all (is_word Attribute) (before_key is_two ps) && list_all is_keyword (fields_from is_two ps))
+    ≡ list_all of_unicode ps
 unicode_all [] = refl
 unicode_all (p ∷ ps) = elim (cases_Bool (is_two p)) [
-  | inl e ↦ let n = two_no_attribute p e in rw (e, n) (and_assoc (is_word UnicodeKey p) _ _ ∙ ap (λ b. is_word UnicodeKey p && b) (unicode_all ps))
-  | inr e ↦ let n = more_no_key p e in rw (e, n) (and_assoc (is_word Attribute p) _ _ ∙ ap₂ ◌&&◌ (sym (or_false (is_word Attribute p))) (unicode_all ps))
+  | inl e ↦ let n = two_no_attribute p e in
+      rw (e, n) (and_assoc (is_word UnicodeKey p) _ _ ∙ ap (λ b. is_word UnicodeKey p && b) (unicode_all ps))
+  | inr e ↦ let n = more_no_key p e in
+      rw (e, n)
+      (and_assoc (is_word Attribute p) _ _ ∙ ap₂ ◌&&◌ (sym (or_false (is_word Attribute p))) (unicode_all ps))
 ]
 
-unicode_some : (ps : List Text) → nat_lt 0 (length (before_key is_two ps) + length (fields_from is_two ps)) ≡ nat_lt 0 (length ps)
+unicode_some : (ps : List Text) →
+    nat_lt 0 (length (before_key is_two ps) + length (fields_from is_two ps)) ≡ nat_lt 0 (length ps)
 unicode_some [] = refl
 unicode_some (p ∷ ps) = elim (cases_Bool (is_two p)) [
   | inl e ↦ rw e (lt-ltb 0 _ (omega arith) ∙ sym (lt-ltb 0 _ (omega arith)))
   | inr e ↦ rw e (lt-ltb 0 _ (omega arith) ∙ sym (lt-ltb 0 _ (omega arith)))
 ]
 
-pub unicode_is : (ps : List Text) → is_unicode (unicode_of ps) ≡ (list_all of_unicode ps && nat_lt 0 (length ps))
+pub unicode_is : (ps : List Text) →
+    is_unicode (unicode_of ps) ≡ (list_all of_unicode ps && nat_lt 0 (length ps))
 unfolding unicode_of
 unicode_is ps = ap₂ ◌&&◌ (unicode_all ps) (unicode_some ps)
 
@@ -63,9 +78,11 @@ unicode_is ps = ap₂ ◌&&◌ (unicode_all ps) (unicode_some ps)
 abbrev pub has_length : Text → Bool
 has_length p = is_in_range 2 8 (length p)
 
-pub other_is : (p : Text) (ps : List Text) → is_other (p ∷ ps) ≡ (has_length p && cond (is_word Subtag p) (list_all has_length ps) (is_other ps))
+pub other_is : (p : Text) (ps : List Text) →
+    is_other (p ∷ ps) ≡ (has_length p && cond (is_word Subtag p) (list_all has_length ps) (is_other ps))
 other_is p ps = elim (cases_Bool (is_word Subtag p)) [
-  | inl e ↦ rw (e, one_is_some) (and_assoc (has_length p) (list_all has_length ps) true ∙ ap (λ b. has_length p && b) (and_true (list_all has_length ps)))
+  | inl e ↦ rw (e, one_is_some) (and_assoc (has_length p) (list_all has_length ps) true
+      ∙ ap (λ b. has_length p && b) (and_true (list_all has_length ps)))
   | inr e ↦ rw e (and_assoc (has_length p) _ _)
 ]
 
@@ -83,16 +100,21 @@ abbrev pub after_value : List Text → Bool
 after_value ps = list_all (is_word Attribute) (values ps) && list_all is_field (fields ps)
 
 abbrev pub after_key : List Text → Bool
-after_key ps = (list_all (is_word Attribute) (values ps) && nat_lt 0 (length (values ps))) && list_all is_field (fields ps)
+after_key ps = (list_all (is_word Attribute) (values ps) && nat_lt 0 (length (values ps)))
+    && list_all is_field (fields ps)
 
 pub key_no_attribute : (p : Text) → IsWord TransformKey p → is_word Attribute p ≡ false
-key_no_attribute p h = false_from_ne_true _ (λ e. let k = length-attribute p e in let n = length-transform_key p h in absurd (omega arith))
+key_no_attribute p h = false_from_ne_true _
+    (λ e. let k = length-attribute p e in let n = length-transform_key p h in absurd (omega arith))
 
 -- a field after its key
-pub field_is : (p : Text) (ps : List Text) → is_word TransformKey p ≡ true → (is_field (p, values ps) && list_all is_field (fields ps)) ≡ after_key ps
+pub field_is : (p : Text) (ps : List Text) → is_word TransformKey p ≡ true →
+    (is_field (p, values ps) && list_all is_field (fields ps)) ≡ after_key ps
 field_is p ps e = rw e refl
 
-pub after_value_is : (p : Text) (ps : List Text) → after_value (p ∷ ps) ≡ cond (is_word TransformKey p) (after_key ps) (is_word Attribute p && after_value ps)
+pub after_value_is : (p : Text) (ps : List Text) →
+    after_value (p ∷ ps)
+    ≡ cond (is_word TransformKey p) (after_key ps) (is_word Attribute p && after_value ps)
 after_value_is p ps = elim (cases_Bool (is_word TransformKey p)) [
   | inl e ↦ rw e (field_is p ps e)
   | inr e ↦ rw e (and_assoc (is_word Attribute p) _ _)
@@ -101,7 +123,10 @@ after_value_is p ps = elim (cases_Bool (is_word TransformKey p)) [
 pub after_key_is : (p : Text) (ps : List Text) → after_key (p ∷ ps) ≡ (is_word Attribute p && after_value ps)
 after_key_is p ps = elim (cases_Bool (is_word TransformKey p)) [
   | inl e ↦ let n = key_no_attribute p e in rw (e, n) refl
-  | inr e ↦ rw (e, one_is_some) (ap (λ b. b && list_all is_field (fields ps)) (and_true (is_word Attribute p && list_all (is_word Attribute) (values ps))) ∙ and_assoc (is_word Attribute p) (list_all (is_word Attribute) (values ps)) (list_all is_field (fields ps)))
+  | inr e ↦ rw (e, one_is_some) (ap (λ b. b && list_all is_field (fields ps))
+      (and_true (is_word Attribute p && list_all (is_word Attribute) (values ps)))
+      ∙ and_assoc (is_word Attribute p) (list_all (is_word Attribute) (values ps))
+      (list_all is_field (fields ps)))
 ]
 
 -- what is first is of its kind
@@ -110,12 +135,18 @@ first_holds test [] = refl
 first_holds test (p ∷ ps) = elim (cases_Bool (test p)) [ inl e ↦ rw (e, e) refl | inr e ↦ rw e refl ]
 
 -- all pieces are an identifier
-pub identifier_is : (p : Text) (ps : List Text) → is_identifier languages (identifier_of (p ∷ ps)) ≡ (is_word (Language languages) p && good stages.Language [] ps)
+pub identifier_is : (p : Text) (ps : List Text) →
+    is_identifier languages (identifier_of (p ∷ ps))
+    ≡ (is_word (Language languages) p && good stages.Language [] ps)
 unfolding identifier_of
 identifier_is p ps =
     let s = first_holds (is_word Script) ps in
     let r = first_holds (is_word Region) (skip_first (is_word Script) ps) in
-    rw (s, r) (ap (λ b. (b && list_all (is_word Variant) (skip_first (is_word Region) (skip_first (is_word Script) ps))) && all_different word_cmp (map lower (skip_first (is_word Region) (skip_first (is_word Script) ps)))) (and_true _) ∙ and_assoc (is_word (Language languages) p) _ _)
+    rw (s, r)
+    (ap (λ b. (b && list_all (is_word Variant) (skip_first (is_word Region) (skip_first (is_word Script) ps)))
+    && all_different word_cmp (map lower (skip_first (is_word Region) (skip_first (is_word Script) ps))))
+    (and_true _)
+    ∙ and_assoc (is_word (Language languages) p) _ _)
 
 -- whether the pieces go on with words of the identifier, and then with fields
 abbrev pub after_word : Stage → List Text → List Text → Bool
@@ -126,20 +157,24 @@ pub key_no_language : (p : Text) → IsWord TransformKey p → is_word (Language
 key_no_language p h = false_from_ne_true _ (λ e. true≢false (sym h ∙ language_no_key languages p e))
 
 pub key_no_script : (p : Text) → IsWord TransformKey p → is_word Script p ≡ false
-key_no_script p h = false_from_ne_true _ (λ e. let k = length-script p e in let n = length-transform_key p h in absurd (omega arith))
+key_no_script p h = false_from_ne_true _
+    (λ e. let k = length-script p e in let n = length-transform_key p h in absurd (omega arith))
 
 en_is : IsWord (Language languages) (codes "en")
 unfolding is_word languages
 en_is = refl
 
 region_no_key : (p : Text) → IsWord Region p → is_word TransformKey p ≡ false
-region_no_key p h = (identifier_no_key {T = languages} (record { language = codes "en"; script = None; region = Some p; variants = [] }) (record { language = en_is; script = tt; region = h; variants = tt })).1.0
+region_no_key p h = (identifier_no_key {T = languages}
+    (record { language = codes "en"; script = None; region = Some p; variants = [] })
+    (record { language = en_is; script = tt; region = h; variants = tt })).1.0
 
 pub key_no_region : (p : Text) → IsWord TransformKey p → is_word Region p ≡ false
 key_no_region p h = false_from_ne_true _ (λ e. true≢false (sym h ∙ region_no_key p e))
 
 pub key_no_variant : (p : Text) → IsWord TransformKey p → is_word Variant p ≡ false
-key_no_variant p h = false_from_ne_true _ (λ e. let k = length-variant p e in let n = length-transform_key p h in absurd (omega arith))
+key_no_variant p h = false_from_ne_true _
+    (λ e. let k = length-variant p e in let n = length-transform_key p h in absurd (omega arith))
 
 -- nothing follows `t`
 pub transform_none : is_transform languages (transform_of []) ≡ false
@@ -151,13 +186,18 @@ unfolding is_word languages
 repeats_none = refl
 
 -- a key follows it, or something else
-pub transform_is : (p : Text) (ps : List Text) → is_transform languages (transform_of (p ∷ ps)) ≡ cond (is_word TransformKey p) (after_key ps) (is_word (Language languages) p && after_word stages.Language [] ps)
+pub transform_is : (p : Text) (ps : List Text) →
+    is_transform languages (transform_of (p ∷ ps))
+    ≡ cond (is_word TransformKey p) (after_key ps)
+    (is_word (Language languages) p && after_word stages.Language [] ps)
 unfolding transform_of
 transform_is p ps = elim (cases_Bool (is_word TransformKey p)) [
   | inl e ↦ rw (e, one_is_some) (and_true _ ∙ field_is p ps e)
-  | inr e ↦ rw e (and_true _ ∙ ap (λ b. b && list_all is_field (fields ps)) (identifier_is p (values ps)) ∙ and_assoc (is_word (Language languages) p) _ _)
+  | inr e ↦ rw e (and_true _ ∙ ap (λ b. b && list_all is_field (fields ps)) (identifier_is p (values ps))
+      ∙ and_assoc (is_word (Language languages) p) _ _)
 ]
 
-pub repeats_is : (p : Text) (ps : List Text) → repeats_variant languages (p ∷ ps) ≡ (is_word (Language languages) p && repeats stages.Language [] ps)
+pub repeats_is : (p : Text) (ps : List Text) →
+    repeats_variant languages (p ∷ ps) ≡ (is_word (Language languages) p && repeats stages.Language [] ps)
 unfolding front_of
 repeats_is p ps = refl

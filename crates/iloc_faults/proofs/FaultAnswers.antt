@@ -1,5 +1,6 @@
 -- What the walk says, in the words of the definitions.
-use Rattle.std.proofs.Common.{◌≡◌, ◌≢◌, ◌↔◌, inl, inr, ℕ, ◌≤◌, ◌∷◌, ◌++◌, length, Option, Some, None, IfSome, Result, Ok, Err, refl, sym, ap, ◌∙◌, subst, arith, length-append, true≢false}
+use Rattle.std.proofs.Common.{◌≡◌, ◌≢◌, ◌↔◌, inl, inr, ℕ, ◌≤◌, ◌∷◌, ◌++◌, length, Option, Some, None, IfSome}
+use Rattle.std.proofs.Common.{Result, Ok, Err, refl, sym, ap, ◌∙◌, subst, arith, length-append, true≢false}
 use Rattle.std.proofs.lemmas.List.Concat.{flat_map-append}
 use Rattle.iloc_spec_grammar.specs.Syntax.{Text, pieces, join, dashes, languages}
 use Rattle.iloc_spec_grammar.specs.Meaning as grammar
@@ -9,7 +10,9 @@ use Rattle.iloc_spec_grammar.proofs.RawLaws.{languages_table}
 use Rattle.iloc_spec_preferences.specs.DataLocales.{HasDataFault}
 use Rattle.iloc_spec_preferences.proofs.DataLaws.{data_apart}
 use Rattle.iloc_subtags.specs.declared.parse_error.ParseError.{ParseError}
-use Rattle.iloc_subtags.specs.declared.parse_error.ParseError.TheVariants.{InvalidLanguage, InvalidSubtag, InvalidExtension, DuplicatedExtension, OutOfMemory}
+use Rattle.iloc_subtags.specs.declared.parse_error.ParseError.TheVariants.{InvalidLanguage, InvalidSubtag}
+use Rattle.iloc_subtags.specs.declared.parse_error.ParseError.TheVariants.{InvalidExtension}
+use Rattle.iloc_subtags.specs.declared.parse_error.ParseError.TheVariants.{DuplicatedExtension, OutOfMemory}
 use Rattle.iloc_subtags.specs.Judging.{Refusal, error_of}
 use Rattle.iloc_data_parts.specs.PartsReading.{PartsTextReads, value_of}
 use Rattle.iloc_data_parts.specs.declared.parts.DataParts.{DataParts}
@@ -25,7 +28,8 @@ use Rattle.iloc_faults.proofs.DataSteps.{fine}
 use Rattle.iloc_faults.proofs.Answers.{accepted_is, faulty_is}
 
 -- the error names the fault
-refused : (Has : grammar.Fault → Type 0) (f : grammar.Fault) (e : ParseError) → e ≡ error_of f → Has f → Refusal Has ⊥ e
+refused : (Has : grammar.Fault → Type 0) (f : grammar.Fault) (e : ParseError) → e ≡ error_of f → Has f →
+    Refusal Has ⊥ e
 refused Has f e h x = subst (Refusal Has ⊥) (sym h) (at f x)
   where
     at : (f : grammar.Fault) → Has f → Refusal Has ⊥ (error_of f)
@@ -38,55 +42,78 @@ refused Has f e h x = subst (Refusal Has ⊥) (sym h) (at f x)
 found_not : (mode : Mode) (t : Text) (f : Fault) → IsFaultFound mode t f → ¬ (IsAccepted mode t)
 found_not mode t f h a = true≢false (sym ((accepted_is mode t).0 a) ∙ ap fine h.has)
 
-pub good_is : (mode : Mode) (t : Text) (o : Option Fault) → (o ≡ None → outcome mode started (pieces t) ≡ None) → IfSome o (IsFaultFound mode t) → (o ≡ None) ↔ IsAccepted mode t
+pub good_is : (mode : Mode) (t : Text) (o : Option Fault) →
+    (o ≡ None → outcome mode started (pieces t) ≡ None) → IfSome o (IsFaultFound mode t) →
+    (o ≡ None) ↔ IsAccepted mode t
 good_is mode t None good bad = (λ e. (accepted_is mode t).1 (ap fine (good refl)), λ a. refl)
 good_is mode t (Some f) good bad = (λ e. cc, λ a. absurd (found_not mode t f bad a))
 
-pub bad_is : (mode : Mode) (t : Text) → mode ≢ Data → (o : Option Fault) → IfSome o (IsFaultFound mode t) → IfSome o (IsFault mode t)
+pub bad_is : (mode : Mode) (t : Text) → mode ≢ Data → (o : Option Fault) → IfSome o (IsFaultFound mode t) →
+    IfSome o (IsFault mode t)
 bad_is mode t n None bad = tt
 bad_is mode t n (Some f) bad = record {
-  refusal = refused (IsFaulty languages mode t) bad.fault f.refusal bad.refusal (faulty_is mode t bad.fault n bad.has);
+  refusal = refused (IsFaulty languages mode t) bad.fault f.refusal bad.refusal
+      (faulty_is mode t bad.fault n bad.has);
   place = bad.place;
 }
 
 -- ---- data locales
 
 -- some fault is there
-faulty : (t : Text) (e : ParseError) → Refusal (HasDataFault languages t) ⊥ e → (f : grammar.Fault) × HasDataFault languages t f
+faulty : (t : Text) (e : ParseError) → Refusal (HasDataFault languages t) ⊥ e →
+    (f : grammar.Fault) × HasDataFault languages t f
 faulty t InvalidLanguage h = (grammar.InvalidLanguage, h)
 faulty t InvalidSubtag h = (grammar.InvalidSubtag, h)
 faulty t InvalidExtension h = (grammar.InvalidExtension, h)
 faulty t DuplicatedExtension h = (grammar.DuplicatedExtension, h)
 faulty t OutOfMemory h = absurd h
 
-pub data_read : (t : Text) (p : DataParts) (r : Result DataParts ParseError) → PartsTextReads t r → r ≡ Ok p → IsAccepted Data t
+pub data_read : (t : Text) (p : DataParts) (r : Result DataParts ParseError) → PartsTextReads t r → r ≡ Ok p →
+    IsAccepted Data t
 data_read t p r h e = (value_of p, subst (PartsTextReads t) e h)
 
-pub data_not : (t : Text) (e : ParseError) (r : Result DataParts ParseError) → PartsTextReads t r → r ≡ Err e → ¬ (IsAccepted Data t)
-data_not t e r h k a = let f = faulty t e (subst (PartsTextReads t) k h) in data_apart languages_table t a.0 f.0 a.1 f.1
+pub data_not : (t : Text) (e : ParseError) (r : Result DataParts ParseError) → PartsTextReads t r →
+    r ≡ Err e → ¬ (IsAccepted Data t)
+data_not t e r h k a =
+    let f = faulty t e (subst (PartsTextReads t) k h) in data_apart languages_table t a.0 f.0 a.1 f.1
 
-pub data_is : (t : Text) (e : ParseError) (r : Result DataParts ParseError) → PartsTextReads t r → r ≡ Err e → (f g : Fault) → IsFaultFound Data t f → g.refusal ≡ e → g.start ≡ f.start → g.end ≡ f.end → IsFault Data t g
+pub data_is : (t : Text) (e : ParseError) (r : Result DataParts ParseError) → PartsTextReads t r → r ≡ Err e →
+    (f g : Fault) → IsFaultFound Data t f → g.refusal ≡ e → g.start ≡ f.start → g.end ≡ f.end →
+    IsFault Data t g
 data_is t e r h k f g found x y z = record {
   refusal = subst (HasRefusal Data t) (sym x) (subst (PartsTextReads t) k h);
-  place = subst (λ (a : ℕ). IsFaultPlace Data t a g.end) (sym y) (subst (λ (b : ℕ). IsFaultPlace Data t f.start b) (sym z) found.place);
+  place = subst (λ (a : ℕ). IsFaultPlace Data t a g.end) (sym y)
+      (subst (λ (b : ℕ). IsFaultPlace Data t f.start b) (sym z) found.place);
 }
 
 -- ---- the place lies within the text
 
 dashed : (t : Text) → dashes (pieces t) ≡ 45 ∷ t
-dashed t = at_pieces (λ ps. dashes ps ≡ 45 ∷ join ps) (λ p ps. ap (λ q. 45 ∷ q) (sym (join-dashes p ps))) t ∙ ap (λ q. 45 ∷ q) (join-pieces t)
+dashed t = at_pieces (λ ps. dashes ps ≡ 45 ∷ join ps) (λ p ps. ap (λ q. 45 ∷ q) (sym (join-dashes p ps))) t
+    ∙ ap (λ q. 45 ∷ q) (join-pieces t)
 
 place_inside : (mode : Mode) (t : Text) (a b : ℕ) → IsFaultPlace mode t a b → (a ≤ b) × (b ≤ length t)
 place_inside mode t a b (inr p) = let x = p.from in let y = p.to in (omega arith, omega arith)
 place_inside mode t a b (inl p) =
     let x = p.from in
     let y = p.to in
-    let all : 45 ∷ t ≡ dashes p.before ++ dashes (p.piece ∷ p.after) = sym (dashed t) ∙ ap dashes p.cut ∙ flat_map-append (λ (q : Text). 45 ∷ q) p.before (p.piece ∷ p.after) in
-    (omega arith, omega (arith, ap length all, length-append (dashes p.before) (dashes (p.piece ∷ p.after)), length-append p.piece (dashes p.after)))
+    let all : 45 ∷ t ≡ dashes p.before ++ dashes (p.piece ∷ p.after) =
+    sym (dashed t) ∙ ap dashes p.cut
+    ∙ flat_map-append (λ (q : Text). 45 ∷ q) p.before (p.piece ∷ p.after) in (
+      omega arith,
+      omega (
+        arith,
+        ap length all,
+        length-append (dashes p.before) (dashes (p.piece ∷ p.after)),
+        length-append p.piece (dashes p.after),
+      ),
+    )
 
-pub inside_is : (mode : Mode) (t : Text) (o : Option Fault) → IfSome o (IsFault mode t) → IfSome o (λ f. (f.start ≤ f.end) × (f.end ≤ length t))
+pub inside_is : (mode : Mode) (t : Text) (o : Option Fault) → IfSome o (IsFault mode t) →
+    IfSome o (λ f. (f.start ≤ f.end) × (f.end ≤ length t))
 inside_is mode t None h = tt
 inside_is mode t (Some f) h = place_inside mode t f.start f.end h.place
 
-pub never_accepted : (mode : Mode) (t : Text) (f : Fault) → ¬ (IsAccepted mode t) → (Some f ≡ None) ↔ IsAccepted mode t
+pub never_accepted : (mode : Mode) (t : Text) (f : Fault) → ¬ (IsAccepted mode t) →
+    (Some f ≡ None) ↔ IsAccepted mode t
 never_accepted mode t f n = (λ e. cc, λ a. absurd (n a))

@@ -1,5 +1,6 @@
 -- A text has one place of its fault.
-use Rattle.std.proofs.Common.{◌≡◌, ◌⊎◌, inl, inr, ℕ, ◌+◌, List, [], ◌∷◌, ◌++◌, length, refl, sym, ap, ap₂, ◌∙◌, subst, append_assoc}
+use Rattle.std.proofs.Common.{◌≡◌, ◌⊎◌, inl, inr, ℕ, ◌+◌, List, [], ◌∷◌, ◌++◌, length, refl, sym, ap, ap₂}
+use Rattle.std.proofs.Common.{◌∙◌, subst, append_assoc}
 use Rattle.iloc_spec_grammar.specs.Syntax.{Text, dashes}
 use Rattle.iloc_told.specs.declared.Mode.{Mode}
 use Rattle.iloc_faults.specs.Places.{GoOn, StandsAtPiece, StandsAtEnd, IsFaultPlace}
@@ -13,10 +14,12 @@ fewer ps qs g = record {
   begins = g.begins ∙ append_assoc ps qs g.rest;
 }
 
--- two fronts of the same pieces, each followed by one more: they are equal, or one of them begins with the other and its
--- piece
+-- two fronts of the same pieces, each followed by one more: they are equal, or one of them begins with the
+-- other and its piece
 same_cut : (xs ys : List Text) (p q : Text) (ps qs : List Text) → xs ++ (p ∷ ps) ≡ ys ++ (q ∷ qs)
-    → ((xs ≡ ys) × (p ≡ q)) ⊎ (((zs : List Text) × (ys ≡ (xs ++ (p ∷ [])) ++ zs)) ⊎ ((zs : List Text) × (xs ≡ (ys ++ (q ∷ [])) ++ zs)))
+    → ((xs ≡ ys) × (p ≡ q))
+    ⊎ (((zs : List Text) × (ys ≡ (xs ++ (p ∷ [])) ++ zs))
+    ⊎ ((zs : List Text) × (xs ≡ (ys ++ (q ∷ [])) ++ zs)))
 same_cut [] [] p q ps qs e = inl (refl, cc)
 same_cut [] (y ∷ ys) p q ps qs e = inr (inl (ys, cc))
 same_cut (x ∷ xs) [] p q ps qs e = inr (inr (xs, cc))
@@ -29,7 +32,8 @@ same_cut (x ∷ xs) (y ∷ ys) p q ps qs e =
       | inr (inr s) ↦ inr (inr (s.0, ap₂ ◌∷◌ head s.1))
     ]
 
-at_pieces : {mode : Mode} {t : Text} {a b c d : ℕ} → StandsAtPiece mode t a b → StandsAtPiece mode t c d → (a ≡ c) × (b ≡ d)
+at_pieces : {mode : Mode} {t : Text} {a b c d : ℕ} → StandsAtPiece mode t a b → StandsAtPiece mode t c d →
+    (a ≡ c) × (b ≡ d)
 at_pieces x y = elim (same_cut x.before y.before x.piece y.piece x.after y.after (sym x.cut ∙ y.cut)) [
   | inl s ↦
       let first = x.from ∙ ap (λ ps. length (dashes ps)) s.0 ∙ sym y.from in
@@ -39,9 +43,11 @@ at_pieces x y = elim (same_cut x.before y.before x.piece y.piece x.after y.after
 ]
 
 piece_and_end : {mode : Mode} {t : Text} {a b c d : ℕ} → StandsAtPiece mode t a b → StandsAtEnd mode t c d → ⊥
-piece_and_end x y = x.no_longer (fewer (x.before ++ (x.piece ∷ [])) x.after (subst (GoOn _) (x.cut ∙ sym (append_assoc x.before (x.piece ∷ []) x.after)) y.go_on))
+piece_and_end x y = x.no_longer (fewer (x.before ++ (x.piece ∷ [])) x.after
+    (subst (GoOn _) (x.cut ∙ sym (append_assoc x.before (x.piece ∷ []) x.after)) y.go_on))
 
-pub one_place : (mode : Mode) (t : Text) (a b c d : ℕ) → IsFaultPlace mode t a b → IsFaultPlace mode t c d → (a ≡ c) × (b ≡ d)
+pub one_place : (mode : Mode) (t : Text) (a b c d : ℕ) → IsFaultPlace mode t a b → IsFaultPlace mode t c d →
+    (a ≡ c) × (b ≡ d)
 one_place mode t a b c d (inl x) (inl y) = at_pieces x y
 one_place mode t a b c d (inl x) (inr y) = absurd (piece_and_end x y)
 one_place mode t a b c d (inr x) (inl y) = absurd (piece_and_end y x)

@@ -1,26 +1,36 @@
 -- What the functions of the reader say of one piece more.
-use Rattle.std.proofs.Common.{◌≡◌, ◌≢◌, ℕ, Bool, true, false, not, ◌&&◌, List, [], ◌∷◌, ◌++◌, map, slice_index, true≢false, Option, Some, None, IfSome, option_map, refl, sym, ap, ◌∙◌, subst, append_assoc}
+use Rattle.std.proofs.Common.{◌≡◌, ◌≢◌, ℕ, Bool, true, false, not, ◌&&◌, List, [], ◌∷◌, ◌++◌, map}
+use Rattle.std.proofs.Common.{slice_index, true≢false, Option, Some, None, IfSome, option_map, refl, sym, ap}
+use Rattle.std.proofs.Common.{◌∙◌, subst, append_assoc}
 use Rattle.std.specs.List.{list_any}
 use Rattle.std.specs.Ordering.{eq_by_cmp}
 use Rattle.std.specs.Char.{to_ascii_lowercase}
 use Rattle.std.proofs.lemmas.Bool.{ne_eqb, and_parts}
 use Rattle.iloc_spec_parts.specs.SmallComputing.{is_u}
 use Rattle.std.proofs.lemmas.List.{map-append}
-use Rattle.iloc_spec_grammar.specs.Syntax.{Text, Variant, languages, is_word, IsWord, lower, word_cmp, is_one_byte}
+use Rattle.iloc_spec_grammar.specs.Syntax.{Text, Variant, languages, is_word, IsWord, lower, word_cmp}
+use Rattle.iloc_spec_grammar.specs.Syntax.{is_one_byte}
 use Rattle.iloc_spec_grammar.specs.Syntax as kinds
 use Rattle.iloc_spec_grammar.proofs.ReadBack.{all_append}
 use Rattle.iloc_told.specs.declared.Mode.{Mode}
 use Rattle.iloc_told.specs.declared.Mode.TheVariants.{Langid, Locale, Data}
 use Rattle.iloc_pieces.specs.Left.{IsRemainder, IsShortPiece, piece_left, pieces_left}
 use Rattle.iloc_pieces.specs.declared.left.Left.{Left}
-use Rattle.iloc_pieces.proofs.LeftLemmas.{short_variant, short_region, short_script, short_field_key, single_short}
+use Rattle.iloc_pieces.proofs.LeftLemmas.{short_variant, short_region, short_script, short_field_key}
+use Rattle.iloc_pieces.proofs.LeftLemmas.{single_short}
 use Rattle.iloc_faults.specs.declared.state.Part.{Part}
-use Rattle.iloc_faults.specs.declared.state.Part.TheVariants.{Start, Head, Transform, Source, FieldKey, FieldValue, Unicode, Keyword, Other, OtherWord, Private, PrivateWord, Subdivision, SubdivisionKey, SubdivisionValue}
+use Rattle.iloc_faults.specs.declared.state.Part.TheVariants.{Start, Head, Transform, Source, FieldKey}
+use Rattle.iloc_faults.specs.declared.state.Part.TheVariants.{FieldValue, Unicode, Keyword, Other, OtherWord}
+use Rattle.iloc_faults.specs.declared.state.Part.TheVariants.{Private, PrivateWord, Subdivision}
+use Rattle.iloc_faults.specs.declared.state.Part.TheVariants.{SubdivisionKey, SubdivisionValue}
 use Rattle.iloc_faults.specs.declared.state.Stage.{Stage}
 use Rattle.iloc_faults.specs.declared.state.Stage.TheVariants.{Language, Script, Region}
 use Rattle.iloc_faults.specs.declared.state.State.{State}
-use Rattle.iloc_faults.specs.Next.{Reached, plain, is_new, is_seen, when, may_begin, part_of, begins_block, after_region_next, after_script_next, word_next, piece_next, block_next, inside_next, next}
-use Rattle.iloc_faults.specs.States.{AreSingletonsSeen, AreVariantsRead, IsEarly, HasNone, IsPieceRead, IsWordRead, bare, reached}
+use Rattle.iloc_faults.specs.Next.{Reached, plain, is_new, is_seen, when, may_begin, part_of, begins_block}
+use Rattle.iloc_faults.specs.Next.{after_region_next, after_script_next, word_next, piece_next, block_next}
+use Rattle.iloc_faults.specs.Next.{inside_next, next}
+use Rattle.iloc_faults.specs.States.{AreSingletonsSeen, AreVariantsRead, IsEarly, HasNone, IsPieceRead}
+use Rattle.iloc_faults.specs.States.{IsWordRead, bare, reached}
 use Rattle.iloc_faults.proofs.Bits.{language_short, piece_short}
 
 -- ---- whether a variant is new
@@ -30,11 +40,13 @@ new_first Data vs v e = rw e refl
 new_first Langid vs v e = rw e refl
 new_first Locale vs v e = rw e refl
 
-pub new_data : (vs : List Text) (ps : List Text) (v : Text) → vs ≡ map lower ps → ps ≢ [] → false ≡ is_new Data vs v
+pub new_data : (vs : List Text) (ps : List Text) (v : Text) → vs ≡ map lower ps → ps ≢ [] →
+    false ≡ is_new Data vs v
 new_data vs [] v e some = absurd (some refl)
 new_data vs (p ∷ ps) v e some = rw e refl
 
-pub new_many : (mode : Mode) → mode ≢ Data → (vs ps : List Text) (v : Text) → vs ≡ map lower ps → (b : Bool) → b ≡ list_any (eq_by_cmp word_cmp v) (map lower ps) → not b ≡ is_new mode vs v
+pub new_many : (mode : Mode) → mode ≢ Data → (vs ps : List Text) (v : Text) → vs ≡ map lower ps → (b : Bool) →
+    b ≡ list_any (eq_by_cmp word_cmp v) (map lower ps) → not b ≡ is_new mode vs v
 new_many Data n vs ps v e b h = absurd (n refl)
 new_many Langid n vs ps v e b h = rw e (ap not h)
 new_many Locale n vs ps v e b h = rw e (ap not h)
@@ -42,25 +54,37 @@ new_many Locale n vs ps v e b h = rw e (ap not h)
 -- ---- words of an identifier
 
 module _ (mode : Mode) (vs : List Text) (at : Left) where
-  pub variant_none : is_word Variant (piece_left at) ≡ false → IsWordRead at (after_region_next mode vs (piece_left at)) None
+  pub variant_none : is_word Variant (piece_left at) ≡ false →
+      IsWordRead at (after_region_next mode vs (piece_left at)) None
   variant_none e = rw e refl
 
-  pub variant_old : is_word Variant (piece_left at) ≡ true → is_new mode vs (lower (piece_left at)) ≡ false → IsWordRead at (after_region_next mode vs (piece_left at)) None
+  pub variant_old : is_word Variant (piece_left at) ≡ true → is_new mode vs (lower (piece_left at)) ≡ false →
+      IsWordRead at (after_region_next mode vs (piece_left at)) None
   variant_old e n = rw (e, n) refl
 
-  both : is_word Variant (piece_left at) ≡ true → is_new mode vs (lower (piece_left at)) ≡ true → after_region_next mode vs (piece_left at) ≡ Some (Region, vs ++ (lower (piece_left at) ∷ []))
+  both : is_word Variant (piece_left at) ≡ true → is_new mode vs (lower (piece_left at)) ≡ true →
+      after_region_next mode vs (piece_left at) ≡ Some (Region, vs ++ (lower (piece_left at) ∷ []))
   both e n = rw (e, n) refl
 
-  pub variant_first : IsRemainder at → is_word Variant (piece_left at) ≡ true → is_new mode vs (lower (piece_left at)) ≡ true → vs ≡ [] → IsWordRead at (after_region_next mode vs (piece_left at)) (Some (Region, Some at))
+  pub variant_first : IsRemainder at → is_word Variant (piece_left at) ≡ true →
+      is_new mode vs (lower (piece_left at)) ≡ true → vs ≡ [] →
+      IsWordRead at (after_region_next mode vs (piece_left at)) (Some (Region, Some at))
   variant_first k e n z = (
     vs ++ (lower (piece_left at) ∷ []),
     both e n,
     short_variant (piece_left at) e,
     tt,
-    λ m next. (piece_left at ∷ [], record { left = k; end = next.end; cut = next.pieces; words = (e, tt) }, ap (λ ws. ws ++ (lower (piece_left at) ∷ [])) z, λ w. cc),
+    λ m next. (
+      piece_left at ∷ [],
+      record { left = k; end = next.end; cut = next.pieces; words = (e, tt) },
+      ap (λ ws. ws ++ (lower (piece_left at) ∷ [])) z,
+      λ w. cc,
+    ),
   )
 
-  pub variant_more : (first : Left) → is_word Variant (piece_left at) ≡ true → is_new mode vs (lower (piece_left at)) ≡ true → AreVariantsRead (Some first) at vs → IsWordRead at (after_region_next mode vs (piece_left at)) (Some (Region, Some first))
+  pub variant_more : (first : Left) → is_word Variant (piece_left at) ≡ true →
+      is_new mode vs (lower (piece_left at)) ≡ true → AreVariantsRead (Some first) at vs →
+      IsWordRead at (after_region_next mode vs (piece_left at)) (Some (Region, Some first))
   variant_more first e n h = (
     vs ++ (lower (piece_left at) ∷ []),
     both e n,
@@ -71,7 +95,8 @@ module _ (mode : Mode) (vs : List Text) (at : Left) where
       record {
         left = h.1.left;
         end = next.end ∙ h.1.end;
-        cut = h.1.cut ∙ ap (λ qs. h.0 ++ qs) next.pieces ∙ sym (append_assoc h.0 (piece_left at ∷ []) (pieces_left m));
+        cut = h.1.cut ∙ ap (λ qs. h.0 ++ qs) next.pieces
+            ∙ sym (append_assoc h.0 (piece_left at ∷ []) (pieces_left m));
         words = all_append (IsWord Variant) h.0 (piece_left at ∷ []) h.1.words (e, tt);
       },
       ap (λ ws. ws ++ (lower (piece_left at) ∷ [])) h.2 ∙ sym (map-append lower h.0 (piece_left at ∷ [])),
@@ -83,24 +108,36 @@ module _ (mode : Mode) (vs : List Text) (at : Left) where
       some [] e = cc
       some (x ∷ xs) e = cc
 
-pub region_read : (mode : Mode) (at : Left) → is_word kinds.Region (piece_left at) ≡ true → IsWordRead at (after_script_next mode [] (piece_left at)) (Some (Region, None))
+pub region_read : (mode : Mode) (at : Left) → is_word kinds.Region (piece_left at) ≡ true →
+    IsWordRead at (after_script_next mode [] (piece_left at)) (Some (Region, None))
 region_read mode at e = ([], rw e refl, short_region (piece_left at) e, tt, λ m next. refl)
 
-pub region_not : (mode : Mode) (at : Left) (o : Option (Stage × Option Left)) → is_word kinds.Region (piece_left at) ≡ false → IsWordRead at (after_region_next mode [] (piece_left at)) o → IsWordRead at (after_script_next mode [] (piece_left at)) o
+pub region_not : (mode : Mode) (at : Left) (o : Option (Stage × Option Left)) →
+    is_word kinds.Region (piece_left at) ≡ false →
+    IsWordRead at (after_region_next mode [] (piece_left at)) o →
+    IsWordRead at (after_script_next mode [] (piece_left at)) o
 region_not mode at o e h = rw e h
 
 -- no variant comes before a script or a region
-pub none_yet : (at : Left) (first : Option Left) (vs : List Text) → first ≡ None → AreVariantsRead first at vs → vs ≡ []
+pub none_yet : (at : Left) (first : Option Left) (vs : List Text) → first ≡ None →
+    AreVariantsRead first at vs → vs ≡ []
 none_yet at None vs e h = h
 none_yet at (Some first) vs e h = cc
 
-pub script_read : (mode : Mode) (at : Left) (vs : List Text) → vs ≡ [] → is_word kinds.Script (piece_left at) ≡ true → IsWordRead at (word_next mode Language vs (piece_left at)) (Some (Script, None))
+pub script_read : (mode : Mode) (at : Left) (vs : List Text) → vs ≡ [] →
+    is_word kinds.Script (piece_left at) ≡ true →
+    IsWordRead at (word_next mode Language vs (piece_left at)) (Some (Script, None))
 script_read mode at vs z e = (vs, rw e refl, short_script (piece_left at) e, refl, λ m next. z)
 
-pub script_not : (mode : Mode) (at : Left) (vs : List Text) (o : Option (Stage × Option Left)) → vs ≡ [] → is_word kinds.Script (piece_left at) ≡ false → IsWordRead at (after_script_next mode [] (piece_left at)) o → IsWordRead at (word_next mode Language vs (piece_left at)) o
+pub script_not : (mode : Mode) (at : Left) (vs : List Text) (o : Option (Stage × Option Left)) → vs ≡ [] →
+    is_word kinds.Script (piece_left at) ≡ false →
+    IsWordRead at (after_script_next mode [] (piece_left at)) o →
+    IsWordRead at (word_next mode Language vs (piece_left at)) o
 script_not mode at vs o z e h = rw (e, z) h
 
-pub after_script : (mode : Mode) (at : Left) (vs : List Text) (o : Option (Stage × Option Left)) → vs ≡ [] → IsWordRead at (after_script_next mode [] (piece_left at)) o → IsWordRead at (word_next mode Script vs (piece_left at)) o
+pub after_script : (mode : Mode) (at : Left) (vs : List Text) (o : Option (Stage × Option Left)) → vs ≡ [] →
+    IsWordRead at (after_script_next mode [] (piece_left at)) o →
+    IsWordRead at (word_next mode Script vs (piece_left at)) o
 after_script mode at vs o z h = rw z h
 
 -- ---- parts without variants
@@ -114,33 +151,54 @@ none_early (Source Script) = refl
 none_early (Source Region) = tt
 none_early _ = tt
 
-pub plain_read : (at : Left) (bits : ℕ) (seen : List ℕ) → AreSingletonsSeen bits seen → (o : Option Part) → IfSome o (λ _. IsShortPiece (piece_left at)) → IsPieceRead at (option_map (plain seen) o) (option_map (bare bits) o)
+pub plain_read : (at : Left) (bits : ℕ) (seen : List ℕ) → AreSingletonsSeen bits seen → (o : Option Part) →
+    IfSome o (λ _. IsShortPiece (piece_left at)) →
+    IsPieceRead at (option_map (plain seen) o) (option_map (bare bits) o)
 plain_read at bits seen h None short = refl
-plain_read at bits seen h (Some p) short = ([], seen, refl, short, λ m next. record { seen_are = h; variants_are = refl; early = none_early p })
+plain_read at bits seen h (Some p) short =
+    ([], seen, refl, short, λ m next. record { seen_are = h; variants_are = refl; early = none_early p })
 
 -- the same, as the reader makes it
-pub plain_is : (at : Left) (bits : ℕ) (seen : List ℕ) → AreSingletonsSeen bits seen → (o : Option Part) → IfSome o (λ _. IsShortPiece (piece_left at)) → (s : Option State) → s ≡ option_map (bare bits) o → (r : Option Reached) → r ≡ option_map (plain seen) o → IsPieceRead at r s
-plain_is at bits seen h o short s e r f = subst (λ x. IsPieceRead at x s) (sym f) (subst (IsPieceRead at (option_map (plain seen) o)) (sym e) (plain_read at bits seen h o short))
+pub plain_is : (at : Left) (bits : ℕ) (seen : List ℕ) → AreSingletonsSeen bits seen → (o : Option Part) →
+    IfSome o (λ _. IsShortPiece (piece_left at)) → (s : Option State) → s ≡ option_map (bare bits) o →
+    (r : Option Reached) → r ≡ option_map (plain seen) o → IsPieceRead at r s
+plain_is at bits seen h o short s e r f = subst (λ x. IsPieceRead at x s) (sym f)
+    (subst (IsPieceRead at (option_map (plain seen) o)) (sym e) (plain_read at bits seen h o short))
 
 -- ---- words in their places
 
 -- a word of the head, and one after `t`
-pub word_read : (of : Stage → Part) → ((stage : Stage) (first : Option Left) → IsEarly stage first → HasNone (of stage) first) → (at : Left) (bits : ℕ) (seen : List ℕ) → AreSingletonsSeen bits seen → (o : Option (Stage × List Text))
+pub word_read : (of : Stage → Part) →
+    ((stage : Stage) (first : Option Left) → IsEarly stage first → HasNone (of stage) first) →
+    (at : Left) (bits : ℕ) (seen : List ℕ) → AreSingletonsSeen bits seen → (o : Option (Stage × List Text))
     → (w : Stage × Option Left) → IsWordRead at o (Some w)
-    → IsPieceRead at (option_map (λ (x : Stage × List Text). reached (of x.0) x.1 seen) o) (Some (record { part = of w.0; variants = w.1; seen = bits }))
-word_read of none at bits seen h o w (ws, e, short, early, more) = (ws, seen, ap (option_map (λ (x : Stage × List Text). reached (of x.0) x.1 seen)) e, short, λ m next. record { seen_are = h; variants_are = more m next; early = none w.0 w.1 early })
+    → IsPieceRead at (option_map (λ (x : Stage × List Text). reached (of x.0) x.1 seen) o)
+    (Some (record { part = of w.0; variants = w.1; seen = bits }))
+word_read of none at bits seen h o w (ws, e, short, early, more) = (
+  ws,
+  seen,
+  ap (option_map (λ (x : Stage × List Text). reached (of x.0) x.1 seen)) e,
+  short,
+  λ m next. record { seen_are = h; variants_are = more m next; early = none w.0 w.1 early },
+)
 
-pub no_word_read : (of : Stage → Part) (at : Left) (seen : List ℕ) (o : Option (Stage × List Text)) → IsWordRead at o None → IsPieceRead at (option_map (λ (x : Stage × List Text). reached (of x.0) x.1 seen) o) None
+pub no_word_read : (of : Stage → Part) (at : Left) (seen : List ℕ) (o : Option (Stage × List Text)) →
+    IsWordRead at o None →
+    IsPieceRead at (option_map (λ (x : Stage × List Text). reached (of x.0) x.1 seen) o) None
 no_word_read of at seen o e = ap (option_map (λ (x : Stage × List Text). reached (of x.0) x.1 seen)) e
 
 -- ---- singletons
 
 -- a block may not begin
-pub block_none : (at : Left) (part : Part) (seen : List ℕ) → may_begin part (slice_index (piece_left at) 0) ≡ false → IsPieceRead at (block_next Locale part seen (slice_index (piece_left at) 0)) None
+pub block_none : (at : Left) (part : Part) (seen : List ℕ) →
+    may_begin part (slice_index (piece_left at) 0) ≡ false →
+    IsPieceRead at (block_next Locale part seen (slice_index (piece_left at) 0)) None
 block_none at part seen e = rw e refl
 
 -- its singleton was seen
-pub block_seen : (at : Left) (part : Part) (seen : List ℕ) → is_seen seen (slice_index (piece_left at) 0) ≡ true → IsPieceRead at (block_next Locale part seen (slice_index (piece_left at) 0)) None
+pub block_seen : (at : Left) (part : Part) (seen : List ℕ) →
+    is_seen seen (slice_index (piece_left at) 0) ≡ true →
+    IsPieceRead at (block_next Locale part seen (slice_index (piece_left at) 0)) None
 block_seen at part seen e = rw (e, and_false) refl
   where
     and_false : (b : Bool) → (b && false) ≡ false
@@ -148,18 +206,40 @@ block_seen at part seen e = rw (e, and_false) refl
     and_false false = refl
 
 -- it begins
-pub block_read : (at : Left) (part : Part) (bits : ℕ) (seen : List ℕ) → is_one_byte (piece_left at) ≡ true → may_begin part (slice_index (piece_left at) 0) ≡ true → is_seen seen (slice_index (piece_left at) 0) ≡ false
-    → AreSingletonsSeen bits (to_ascii_lowercase (slice_index (piece_left at) 0) ∷ seen) → (p : Part) → p ≡ part_of (to_ascii_lowercase (slice_index (piece_left at) 0)) → IsPieceRead at (block_next Locale part seen (slice_index (piece_left at) 0)) (Some (bare bits p))
-block_read at part bits seen one begins new h p e =
-    ([], to_ascii_lowercase (slice_index (piece_left at) 0) ∷ seen, rw (begins, new) (ap (λ (q : Part). Some (plain (to_ascii_lowercase (slice_index (piece_left at) 0) ∷ seen) q)) (sym e)), single_short (piece_left at) one, λ m next. record { seen_are = h; variants_are = refl; early = none_early p })
+pub block_read : (at : Left) (part : Part) (bits : ℕ) (seen : List ℕ) → is_one_byte (piece_left at) ≡ true →
+    may_begin part (slice_index (piece_left at) 0) ≡ true →
+    is_seen seen (slice_index (piece_left at) 0) ≡ false
+    → AreSingletonsSeen bits (to_ascii_lowercase (slice_index (piece_left at) 0) ∷ seen) → (p : Part) →
+    p ≡ part_of (to_ascii_lowercase (slice_index (piece_left at) 0)) →
+    IsPieceRead at (block_next Locale part seen (slice_index (piece_left at) 0)) (Some (bare bits p))
+block_read at part bits seen one begins new h p e = (
+  [],
+  to_ascii_lowercase (slice_index (piece_left at) 0) ∷ seen,
+  rw (begins, new) (ap
+      (λ (q : Part). Some (plain (to_ascii_lowercase (slice_index (piece_left at) 0) ∷ seen) q)) (sym e)),
+  single_short (piece_left at) one,
+  λ m next. record { seen_are = h; variants_are = refl; early = none_early p },
+)
 
 -- that of a data locale, and none of it
-pub data_read : (at : Left) (part : Part) (stage : Stage) (bits : ℕ) (seen : List ℕ) → AreSingletonsSeen bits seen → is_one_byte (piece_left at) ≡ true → part ≡ Head stage → to_ascii_lowercase (slice_index (piece_left at) 0) ≡ 117
-    → (s : Option State) → s ≡ option_map (bare bits) (Some Subdivision) → IsPieceRead at (block_next Data part seen (slice_index (piece_left at) 0)) s
-data_read at part stage bits seen h one e u s f = rw (e, f) (rw u ([], seen, refl, single_short (piece_left at) one, λ m next. record { seen_are = h; variants_are = refl; early = tt }))
+pub data_read : (at : Left) (part : Part) (stage : Stage) (bits : ℕ) (seen : List ℕ) →
+    AreSingletonsSeen bits seen → is_one_byte (piece_left at) ≡ true → part ≡ Head stage →
+    to_ascii_lowercase (slice_index (piece_left at) 0) ≡ 117
+    → (s : Option State) → s ≡ option_map (bare bits) (Some Subdivision) →
+    IsPieceRead at (block_next Data part seen (slice_index (piece_left at) 0)) s
+data_read at part stage bits seen h one e u s f = rw (e, f) (rw u (
+  [],
+  seen,
+  refl,
+  single_short (piece_left at) one,
+  λ m next. record { seen_are = h; variants_are = refl; early = tt },
+))
 
-pub data_other : (at : Left) (part : Part) (seen : List ℕ) → to_ascii_lowercase (slice_index (piece_left at) 0) ≢ 117 → IsPieceRead at (block_next Data part seen (slice_index (piece_left at) 0)) None
-data_other at (Head stage) seen n = let e : is_u (slice_index (piece_left at) 0) ≡ false = ne_eqb _ _ n in rw e refl
+pub data_other : (at : Left) (part : Part) (seen : List ℕ) →
+    to_ascii_lowercase (slice_index (piece_left at) 0) ≢ 117 →
+    IsPieceRead at (block_next Data part seen (slice_index (piece_left at) 0)) None
+data_other at (Head stage) seen n =
+    let e : is_u (slice_index (piece_left at) 0) ≡ false = ne_eqb _ _ n in rw e refl
 data_other at Start seen n = refl
 data_other at Transform seen n = refl
 data_other at (Source stage) seen n = refl
@@ -177,29 +257,59 @@ data_other at SubdivisionValue seen n = refl
 
 -- ---- pieces inside
 
-module _ (mode : Mode) (at : Left) (part : Part) (vs : List Text) (seen : List ℕ) (bits : ℕ) (h : AreSingletonsSeen bits seen) where
-  pub start_read : part ≡ Start → (s : Option State) → s ≡ option_map (bare bits) (when (is_word (kinds.Language languages) (piece_left at)) (Head Language)) → IsPieceRead at (inside_next mode part vs seen (piece_left at)) s
-  start_read e s f = rw e (plain_is at bits seen h _ (language_short (piece_left at) (Head Language)) s f _ refl)
+module _ (mode : Mode) (at : Left) (part : Part) (vs : List Text) (seen : List ℕ) (bits : ℕ)
+    (h : AreSingletonsSeen bits seen) where
+  pub start_read : part ≡ Start → (s : Option State) →
+      s ≡ option_map (bare bits) (when (is_word (kinds.Language languages) (piece_left at)) (Head Language)) →
+      IsPieceRead at (inside_next mode part vs seen (piece_left at)) s
+  start_read e s f =
+      rw e (plain_is at bits seen h _ (language_short (piece_left at) (Head Language)) s f _ refl)
 
-  pub key_read : part ≡ Transform → is_word kinds.TransformKey (piece_left at) ≡ true → (s : Option State) → s ≡ option_map (bare bits) (Some FieldKey) → IsPieceRead at (inside_next mode part vs seen (piece_left at)) s
-  key_read e k s f = rw (e, k) (plain_is at bits seen h (Some FieldKey) (short_field_key (piece_left at) k) s f _ refl)
+  pub key_read : part ≡ Transform → is_word kinds.TransformKey (piece_left at) ≡ true → (s : Option State) →
+      s ≡ option_map (bare bits) (Some FieldKey) →
+      IsPieceRead at (inside_next mode part vs seen (piece_left at)) s
+  key_read e k s f =
+      rw (e, k) (plain_is at bits seen h (Some FieldKey) (short_field_key (piece_left at) k) s f _ refl)
 
-  pub key_read_after : (stage : Stage) → part ≡ Source stage → is_word kinds.TransformKey (piece_left at) ≡ true → (s : Option State) → s ≡ option_map (bare bits) (Some FieldKey) → IsPieceRead at (inside_next mode part vs seen (piece_left at)) s
-  key_read_after stage e k s f = rw (e, k) (plain_is at bits seen h (Some FieldKey) (short_field_key (piece_left at) k) s f _ refl)
+  pub key_read_after : (stage : Stage) → part ≡ Source stage →
+      is_word kinds.TransformKey (piece_left at) ≡ true → (s : Option State) →
+      s ≡ option_map (bare bits) (Some FieldKey) →
+      IsPieceRead at (inside_next mode part vs seen (piece_left at)) s
+  key_read_after stage e k s f =
+      rw (e, k) (plain_is at bits seen h (Some FieldKey) (short_field_key (piece_left at) k) s f _ refl)
 
-  pub language_read : part ≡ Transform → is_word kinds.TransformKey (piece_left at) ≡ false → (s : Option State) → s ≡ option_map (bare bits) (when (is_word (kinds.Language languages) (piece_left at)) (Source Language)) → IsPieceRead at (inside_next mode part vs seen (piece_left at)) s
-  language_read e k s f = rw (e, k) (plain_is at bits seen h _ (language_short (piece_left at) (Source Language)) s f _ refl)
+  pub language_read : part ≡ Transform → is_word kinds.TransformKey (piece_left at) ≡ false →
+      (s : Option State) →
+      s
+      ≡ option_map (bare bits) (when (is_word (kinds.Language languages) (piece_left at)) (Source Language)) →
+      IsPieceRead at (inside_next mode part vs seen (piece_left at)) s
+  language_read e k s f =
+      rw (e, k) (plain_is at bits seen h _ (language_short (piece_left at) (Source Language)) s f _ refl)
 
-  pub head_read : (stage : Stage) → part ≡ Head stage → (w : Stage × Option Left) → IsWordRead at (word_next mode stage vs (piece_left at)) (Some w) → IsPieceRead at (inside_next mode part vs seen (piece_left at)) (Some (record { part = Head w.0; variants = w.1; seen = bits }))
-  head_read stage e w r = rw e (word_read Head (λ s f x. x) at bits seen h (word_next mode stage vs (piece_left at)) w r)
+  pub head_read : (stage : Stage) → part ≡ Head stage → (w : Stage × Option Left) →
+      IsWordRead at (word_next mode stage vs (piece_left at)) (Some w) →
+      IsPieceRead at (inside_next mode part vs seen (piece_left at))
+      (Some (record { part = Head w.0; variants = w.1; seen = bits }))
+  head_read stage e w r =
+      rw e (word_read Head (λ s f x. x) at bits seen h (word_next mode stage vs (piece_left at)) w r)
 
-  pub head_not : (stage : Stage) → part ≡ Head stage → IsWordRead at (word_next mode stage vs (piece_left at)) None → IsPieceRead at (inside_next mode part vs seen (piece_left at)) None
+  pub head_not : (stage : Stage) → part ≡ Head stage →
+      IsWordRead at (word_next mode stage vs (piece_left at)) None →
+      IsPieceRead at (inside_next mode part vs seen (piece_left at)) None
   head_not stage e r = rw e (no_word_read Head at seen (word_next mode stage vs (piece_left at)) r)
 
-  pub source_read : (stage : Stage) → part ≡ Source stage → is_word kinds.TransformKey (piece_left at) ≡ false → (w : Stage × Option Left) → IsWordRead at (word_next mode stage vs (piece_left at)) (Some w) → IsPieceRead at (inside_next mode part vs seen (piece_left at)) (Some (record { part = Source w.0; variants = w.1; seen = bits }))
-  source_read stage e k w r = rw (e, k) (word_read Source (λ s f x. x) at bits seen h (word_next mode stage vs (piece_left at)) w r)
+  pub source_read : (stage : Stage) → part ≡ Source stage →
+      is_word kinds.TransformKey (piece_left at) ≡ false → (w : Stage × Option Left) →
+      IsWordRead at (word_next mode stage vs (piece_left at)) (Some w) →
+      IsPieceRead at (inside_next mode part vs seen (piece_left at))
+      (Some (record { part = Source w.0; variants = w.1; seen = bits }))
+  source_read stage e k w r =
+      rw (e, k) (word_read Source (λ s f x. x) at bits seen h (word_next mode stage vs (piece_left at)) w r)
 
-  pub source_not : (stage : Stage) → part ≡ Source stage → is_word kinds.TransformKey (piece_left at) ≡ false → IsWordRead at (word_next mode stage vs (piece_left at)) None → IsPieceRead at (inside_next mode part vs seen (piece_left at)) None
+  pub source_not : (stage : Stage) → part ≡ Source stage →
+      is_word kinds.TransformKey (piece_left at) ≡ false →
+      IsWordRead at (word_next mode stage vs (piece_left at)) None →
+      IsPieceRead at (inside_next mode part vs seen (piece_left at)) None
   source_not stage e k r = rw (e, k) (no_word_read Source at seen (word_next mode stage vs (piece_left at)) r)
 
 -- the part is inside another block
@@ -210,7 +320,8 @@ is_inside Transform = false
 is_inside (Source stage) = false
 is_inside _ = true
 
-inside_is : (mode : Mode) (part : Part) (vs : List Text) (seen : List ℕ) (p : Text) → is_inside part ≡ true → inside_next mode part vs seen p ≡ option_map (plain seen) (piece_next part p)
+inside_is : (mode : Mode) (part : Part) (vs : List Text) (seen : List ℕ) (p : Text) → is_inside part ≡ true →
+    inside_next mode part vs seen p ≡ option_map (plain seen) (piece_next part p)
 inside_is mode Start vs seen p e = absurd (true≢false (sym e))
 inside_is mode (Head stage) vs seen p e = absurd (true≢false (sym e))
 inside_is mode Transform vs seen p e = absurd (true≢false (sym e))
@@ -227,11 +338,16 @@ inside_is mode Subdivision vs seen p e = refl
 inside_is mode SubdivisionKey vs seen p e = refl
 inside_is mode SubdivisionValue vs seen p e = refl
 
-pub other_read : (mode : Mode) (at : Left) (part : Part) (vs : List Text) (seen : List ℕ) (bits : ℕ) → AreSingletonsSeen bits seen → part ≢ Start → ((stage : Stage) → part ≢ Head stage) → part ≢ Transform → ((stage : Stage) → part ≢ Source stage)
-    → (s : Option State) → s ≡ option_map (bare bits) (piece_next part (piece_left at)) → IsPieceRead at (inside_next mode part vs seen (piece_left at)) s
-other_read mode at part vs seen bits h a b c d s f = plain_is at bits seen h (piece_next part (piece_left at)) (piece_short part (piece_left at)) s f _ (inside_is mode part vs seen (piece_left at) (by part a b c d))
+pub other_read : (mode : Mode) (at : Left) (part : Part) (vs : List Text) (seen : List ℕ) (bits : ℕ) →
+    AreSingletonsSeen bits seen → part ≢ Start → ((stage : Stage) → part ≢ Head stage) → part ≢ Transform →
+    ((stage : Stage) → part ≢ Source stage)
+    → (s : Option State) → s ≡ option_map (bare bits) (piece_next part (piece_left at)) →
+    IsPieceRead at (inside_next mode part vs seen (piece_left at)) s
+other_read mode at part vs seen bits h a b c d s f = plain_is at bits seen h (piece_next part (piece_left at))
+    (piece_short part (piece_left at)) s f _ (inside_is mode part vs seen (piece_left at) (by part a b c d))
   where
-    by : (part : Part) → part ≢ Start → ((stage : Stage) → part ≢ Head stage) → part ≢ Transform → ((stage : Stage) → part ≢ Source stage) → is_inside part ≡ true
+    by : (part : Part) → part ≢ Start → ((stage : Stage) → part ≢ Head stage) → part ≢ Transform →
+        ((stage : Stage) → part ≢ Source stage) → is_inside part ≡ true
     by Start a b c d = absurd (a refl)
     by (Head stage) a b c d = absurd (b stage refl)
     by Transform a b c d = absurd (c refl)
@@ -240,10 +356,16 @@ other_read mode at part vs seen bits h a b c d s f = plain_is at bits seen h (pi
 
 -- ---- a piece
 
-pub begins_read : (mode : Mode) (at : Left) (part : Part) (vs : List Text) (seen : List ℕ) → begins_block part (piece_left at) ≡ true → (s : Option State) → IsPieceRead at (block_next mode part seen (slice_index (piece_left at) 0)) s → IsPieceRead at (next mode (reached part vs seen) (piece_left at)) s
+pub begins_read : (mode : Mode) (at : Left) (part : Part) (vs : List Text) (seen : List ℕ) →
+    begins_block part (piece_left at) ≡ true → (s : Option State) →
+    IsPieceRead at (block_next mode part seen (slice_index (piece_left at) 0)) s →
+    IsPieceRead at (next mode (reached part vs seen) (piece_left at)) s
 begins_read mode at part vs seen e s h = rw e h
 
-pub inside_read : (mode : Mode) (at : Left) (part : Part) (vs : List Text) (seen : List ℕ) → begins_block part (piece_left at) ≡ false → (s : Option State) → IsPieceRead at (inside_next mode part vs seen (piece_left at)) s → IsPieceRead at (next mode (reached part vs seen) (piece_left at)) s
+pub inside_read : (mode : Mode) (at : Left) (part : Part) (vs : List Text) (seen : List ℕ) →
+    begins_block part (piece_left at) ≡ false → (s : Option State) →
+    IsPieceRead at (inside_next mode part vs seen (piece_left at)) s →
+    IsPieceRead at (next mode (reached part vs seen) (piece_left at)) s
 inside_read mode at part vs seen e s h = rw e h
 
 -- a piece that begins a block has one byte

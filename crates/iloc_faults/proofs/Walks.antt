@@ -1,5 +1,7 @@
 -- What the walk over the pieces of a text says.
-use Rattle.std.proofs.Common.{◌≡◌, ◌≢◌, inl, inr, ℕ, zero, suc, ◌+◌, ◌-◌, ◌<◌, ◌≤◌, true, false, ◌==◌, List, [], ◌∷◌, ◌++◌, length, get_or, take, drop, Option, Some, None, refl, sym, ap, ◌∙◌, arith, append_assoc, append-nil, length-append, take_all}
+use Rattle.std.proofs.Common.{◌≡◌, ◌≢◌, inl, inr, ℕ, zero, suc, ◌+◌, ◌-◌, ◌<◌, ◌≤◌, true, false, ◌==◌, List}
+use Rattle.std.proofs.Common.{[], ◌∷◌, ◌++◌, length, get_or, take, drop, Option, Some, None, refl, sym, ap}
+use Rattle.std.proofs.Common.{◌∙◌, arith, append_assoc, append-nil, length-append, take_all}
 use Rattle.std.specs.List.{slice_split, onto_first}
 use Rattle.std.proofs.lemmas.Bool.{eq-eqb, ne_eqb, cases_lt}
 use Rattle.std.proofs.lemmas.List.{get_or-take, get_or-drop}
@@ -27,7 +29,8 @@ onto c [] = refl
 onto c (p ∷ ps) = refl
 
 -- the first piece is as long as no hyphen comes
-first_long : (t : Text) (n : ℕ) → n ≤ length t → ((k : ℕ) → k < n → get_or t k 0 ≢ 45) → (n < length t → get_or t n 0 ≡ 45) → length (first_piece (pieces t)) ≡ n
+first_long : (t : Text) (n : ℕ) → n ≤ length t → ((k : ℕ) → k < n → get_or t k 0 ≢ 45) →
+    (n < length t → get_or t n 0 ≡ 45) → length (first_piece (pieces t)) ≡ n
 unfolding pieces
 first_long [] n l none ends = omega arith
 first_long (c ∷ t) zero l none ends = let e = eq-eqb c 45 (ends (omega arith)) in rw e refl
@@ -49,7 +52,8 @@ module _ {l : Left} (h : IsRemainder l) where
   pub scan_starts : IsScanned l l.at
   scan_starts = record { from = omega arith; to = omega arith; none = λ k less. absurd (omega arith) }
 
-  pub scan_more : (end : ℕ) → IsScanned l end → end < l.at + l.len → get_or l.window.now end 0 ≢ 45 → IsScanned l (end + 1)
+  pub scan_more : (end : ℕ) → IsScanned l end → end < l.at + l.len → get_or l.window.now end 0 ≢ 45 →
+      IsScanned l (end + 1)
   scan_more end s less other = record {
     from = let f = s.from in omega arith;
     to = omega arith;
@@ -59,17 +63,21 @@ module _ {l : Left} (h : IsRemainder l) where
       by : (k : ℕ) → k < end + 1 - l.at → get_or l.window.now (l.at + k) 0 ≡ 45 → ⊥
       by k m e = elim (cases_lt k (end - l.at)) [
         | inl b ↦ s.none k b e
-        | inr b ↦ let f = s.from in let same : l.at + k ≡ end = omega arith in other (ap (λ i. get_or l.window.now i 0) (sym same) ∙ e)
+        | inr b ↦ let f = s.from in
+            let same : l.at + k ≡ end = omega arith in
+            other (ap (λ i. get_or l.window.now i 0) (sym same) ∙ e)
       ]
 
-  pub scan_ends : (end : ℕ) → IsScanned l end → (end < l.at + l.len → get_or l.window.now end 0 ≡ 45) → end ≡ l.at + length (piece_left l)
+  pub scan_ends : (end : ℕ) → IsScanned l end → (end < l.at + l.len → get_or l.window.now end 0 ≡ 45) →
+      end ≡ l.at + length (piece_left l)
   scan_ends end s ends =
       let f = s.from in
       let t = s.to in
       let r = length_rest h in
       let n : length (piece_left l) ≡ end - l.at = first_long (bytes_left l) (end - l.at) (omega arith)
       (λ k less e. s.none k less (sym (byte_is k (omega arith)) ∙ e))
-      (λ less. byte_is (end - l.at) (omega arith) ∙ ap (λ i. get_or l.window.now i 0) (omega arith) ∙ ends (omega arith)) in
+      (λ less. byte_is (end - l.at) (omega arith) ∙ ap (λ i. get_or l.window.now i 0) (omega arith)
+      ∙ ends (omega arith)) in
       omega arith
 
 -- ---- the walk
@@ -91,7 +99,9 @@ pub record IsAll (mode : Mode) (t : Text) (s : State) : Type 0 where
   pub seen : List ℕ
   pub ran : run mode (Some started) (pieces t) ≡ Some (reached s.part variants seen)
 
-pub walk_starts : (mode : Mode) (t : Text) (at : Left) → IsRemainder at → at.at ≡ 0 → bytes_left at ≡ take (length t) t → IsWalked mode t at (record { part = Start; variants = None; seen = 0 })
+pub walk_starts : (mode : Mode) (t : Text) (at : Left) → IsRemainder at → at.at ≡ 0 →
+    bytes_left at ≡ take (length t) t →
+    IsWalked mode t at (record { part = Start; variants = None; seen = 0 })
 walk_starts mode t at h e b = record {
   left = h;
   done = [];
@@ -104,13 +114,15 @@ walk_starts mode t at h e b = record {
 }
 
 -- nothing was read, and so the piece may not come next
-pub none_else : (at : Left) (o : Option Reached) (r : Option State) → ((s : State) → r ≢ Some s) → IsPieceRead at o r → o ≡ None
+pub none_else : (at : Left) (o : Option Reached) (r : Option State) → ((s : State) → r ≢ Some s) →
+    IsPieceRead at o r → o ≡ None
 none_else at o None n h = h
 none_else at o (Some s) n h = absurd (n s refl)
 
 -- the pieces that are left begin with the first
 some_left : (l : Left) → (rest : List Text) × (pieces_left l ≡ piece_left l ∷ rest)
-some_left l = at_pieces (λ ps. (rest : List Text) × (ps ≡ first_piece ps ∷ rest)) (λ p ps. (ps, refl)) (bytes_left l)
+some_left l =
+    at_pieces (λ ps. (rest : List Text) × (ps ≡ first_piece ps ∷ rest)) (λ p ps. (ps, refl)) (bytes_left l)
 
 module _ {mode : Mode} {t : Text} {at : Left} {s : State} (w : IsWalked mode t at s) where
   -- what was read
@@ -118,17 +130,23 @@ module _ {mode : Mode} {t : Text} {at : Left} {s : State} (w : IsWalked mode t a
   now = reached s.part w.variants w.seen
 
   -- one piece more
-  ran_one : (o : Option Reached) → next mode now (piece_left at) ≡ o → run mode (Some started) (w.done ++ (piece_left at ∷ [])) ≡ run mode o []
-  ran_one o e = run_append mode (Some started) w.done (piece_left at ∷ []) ∙ ap (λ q. run mode q (piece_left at ∷ [])) w.ran ∙ ap (λ q. run mode q []) e
+  ran_one : (o : Option Reached) → next mode now (piece_left at) ≡ o →
+      run mode (Some started) (w.done ++ (piece_left at ∷ [])) ≡ run mode o []
+  ran_one o e = run_append mode (Some started) w.done (piece_left at ∷ [])
+      ∙ ap (λ q. run mode q (piece_left at ∷ [])) w.ran ∙ ap (λ q. run mode q []) e
 
-  one_cut : (rest : List Text) → pieces_left at ≡ piece_left at ∷ rest → pieces t ≡ (w.done ++ (piece_left at ∷ [])) ++ rest
+  one_cut : (rest : List Text) → pieces_left at ≡ piece_left at ∷ rest →
+      pieces t ≡ (w.done ++ (piece_left at ∷ [])) ++ rest
   one_cut rest e = w.cut ∙ ap (λ ps. w.done ++ ps) e ∙ sym (append_assoc w.done (piece_left at ∷ []) rest)
 
   -- the piece may not come next
-  pub walk_stops : next mode now (piece_left at) ≡ None → (f : Fault) → f.refusal ≡ error_of (piece_fault mode s.part (piece_left at)) → f.start ≡ at.at → f.end ≡ at.at + length (piece_left at) → IsFaultFound mode t f
+  pub walk_stops : next mode now (piece_left at) ≡ None → (f : Fault) →
+      f.refusal ≡ error_of (piece_fault mode s.part (piece_left at)) → f.start ≡ at.at →
+      f.end ≡ at.at + length (piece_left at) → IsFaultFound mode t f
   walk_stops e f r a b = let rest = some_left at in record {
     fault = piece_fault mode s.part (piece_left at);
-    has = ap (outcome mode started) (w.cut ∙ ap (λ ps. w.done ++ ps) rest.1) ∙ verdict_run mode started now w.done (piece_left at ∷ rest.0) w.ran ∙ stops rest.0;
+    has = ap (outcome mode started) (w.cut ∙ ap (λ ps. w.done ++ ps) rest.1)
+        ∙ verdict_run mode started now w.done (piece_left at ∷ rest.0) w.ran ∙ stops rest.0;
     refusal = r;
     place = inl (record {
       before = w.done;
@@ -142,43 +160,62 @@ module _ {mode : Mode} {t : Text} {at : Left} {s : State} (w : IsWalked mode t a
     });
   }
     where
-      stops : (rest : List Text) → outcome mode now (piece_left at ∷ rest) ≡ Some (piece_fault mode s.part (piece_left at))
+      stops : (rest : List Text) →
+          outcome mode now (piece_left at ∷ rest) ≡ Some (piece_fault mode s.part (piece_left at))
       stops rest = rw e refl
 
   -- it may, and another follows
-  pub walk_on : {m : Left} (q : State) → IsPieceRead at (next mode now (piece_left at)) (Some q) → IsNextPiece at m → IsWalked mode t m q
+  pub walk_on : {m : Left} (q : State) → IsPieceRead at (next mode now (piece_left at)) (Some q) →
+      IsNextPiece at m → IsWalked mode t m q
   walk_on {m = m} q r n = record {
     left = n.left;
     done = w.done ++ (piece_left at ∷ []);
     variants = r.0;
     seen = r.1;
-    start = let k = next_at w.left n in omega (arith, w.start, k, ap length (flat_map-append (λ (p : Text). 45 ∷ p) w.done (piece_left at ∷ [])), length-append (dashes w.done) (dashes (piece_left at ∷ [])), length-append (piece_left at) []);
+    start = let k = next_at w.left n in
+        omega (
+          arith,
+          w.start,
+          k,
+          ap length (flat_map-append (λ (p : Text). 45 ∷ p) w.done (piece_left at ∷ [])),
+          length-append (dashes w.done) (dashes (piece_left at ∷ [])),
+          length-append (piece_left at) [],
+        );
     cut = one_cut (pieces_left m) n.pieces;
     ran = ran_one (Some (reached q.part r.0 r.1)) r.2;
     read = r.4 m n;
   }
 
   -- it may, and is the last one
-  pub walk_all : (q : State) → IsPieceRead at (next mode now (piece_left at)) (Some q) → at.n ≡ at.len → IsAll mode t q
+  pub walk_all : (q : State) → IsPieceRead at (next mode now (piece_left at)) (Some q) → at.n ≡ at.len →
+      IsAll mode t q
   walk_all q r e =
       let end = last_piece at w.left e r.3 in
       record {
         variants = r.0;
         seen = r.1;
-        ran = ap (run mode (Some started)) (one_cut [] end.one ∙ append-nil (w.done ++ (piece_left at ∷ []))) ∙ ran_one (Some (reached q.part r.0 r.1)) r.2;
+        ran = ap (run mode (Some started)) (one_cut [] end.one ∙ append-nil (w.done ++ (piece_left at ∷ [])))
+            ∙ ran_one (Some (reached q.part r.0 r.1)) r.2;
       }
 
 module _ {mode : Mode} {t : Text} {s : State} (w : IsAll mode t s) where
   last_verdict : outcome mode started (pieces t) ≡ outcome mode (reached s.part w.variants w.seen) []
-  last_verdict = ap (outcome mode started) (sym (append-nil (pieces t))) ∙ verdict_run mode started (reached s.part w.variants w.seen) (pieces t) [] w.ran
+  last_verdict = ap (outcome mode started) (sym (append-nil (pieces t)))
+      ∙ verdict_run mode started (reached s.part w.variants w.seen) (pieces t) [] w.ran
 
   pub all_good : may_end s.part ≡ true → outcome mode started (pieces t) ≡ None
   all_good e = last_verdict ∙ rw e refl
 
-  pub all_short : may_end s.part ≡ false → (f : Fault) → f.refusal ≡ error_of InvalidExtension → f.start ≡ length t → f.end ≡ length t → IsFaultFound mode t f
+  pub all_short : may_end s.part ≡ false → (f : Fault) → f.refusal ≡ error_of InvalidExtension →
+      f.start ≡ length t → f.end ≡ length t → IsFaultFound mode t f
   all_short e f r a b = record {
     fault = InvalidExtension;
     has = last_verdict ∙ rw e refl;
     refusal = r;
-    place = inr (record { go_on = goes_on mode t (pieces t) [] (reached s.part w.variants w.seen) (sym (append-nil (pieces t))) w.ran; from = a; to = b });
+    place = inr (record {
+      go_on =
+          goes_on mode t (pieces t) [] (reached s.part w.variants w.seen) (sym (append-nil (pieces t))) w.ran;
+      from = a;
+      to = b;
+    });
   }

@@ -1,5 +1,7 @@
 -- The words of an identifier, one piece more.
-use Rattle.std.proofs.Common.{◌≡◌, inl, inr, Bool, true, false, not, ◌&&◌, List, [], ◌∷◌, ◌++◌, length, map, Option, Some, None, MatchOption, refl, sym, ap, ◌∙◌, arith, append_assoc, append-nil}
+use Rattle.std.proofs.Common.{◌≡◌, inl, inr, Bool, true, false, not, ◌&&◌, List, [], ◌∷◌, ◌++◌, length, map}
+use Rattle.std.proofs.Common.{Option, Some, None, MatchOption, refl, sym, ap, ◌∙◌, arith, append_assoc}
+use Rattle.std.proofs.Common.{append-nil}
 use Rattle.std.specs.List.{list_any, list_all}
 use Rattle.std.specs.Ordering.{eq_by_cmp}
 use Rattle.std.proofs.lemmas.Bool.{and_right, cases_Bool, false_from_ne_true, eqb-true}
@@ -51,7 +53,8 @@ good_end Script vs h = ap (all_different word_cmp) (append-nil vs) ∙ h
 good_end Region vs h = ap (all_different word_cmp) (append-nil vs) ∙ h
 
 -- a piece of one byte is no word of an identifier
-pub no_word : (p : Text) → is_one_byte p ≡ true → (is_word kinds.Script p ≡ false) × (is_word kinds.Region p ≡ false) × (is_word Variant p ≡ false)
+pub no_word : (p : Text) → is_one_byte p ≡ true →
+    (is_word kinds.Script p ≡ false) × (is_word kinds.Region p ≡ false) × (is_word Variant p ≡ false)
 no_word p h =
     let one : length p ≡ 1 = eqb-true _ _ h in (
       false_from_ne_true _ (λ e. let k = length-script p e in absurd (omega arith)),
@@ -59,30 +62,36 @@ no_word p h =
       false_from_ne_true _ (λ e. let k = length-variant p e in absurd (omega arith)),
     )
 
-pub no_next : (mode : Mode) (stage : Stage) (vs : List Text) (p : Text) → is_word kinds.Script p ≡ false → is_word kinds.Region p ≡ false → is_word Variant p ≡ false → word_next mode stage vs p ≡ None
+pub no_next : (mode : Mode) (stage : Stage) (vs : List Text) (p : Text) → is_word kinds.Script p ≡ false →
+    is_word kinds.Region p ≡ false → is_word Variant p ≡ false → word_next mode stage vs p ≡ None
 no_next mode Language vs p a b c = rw (a, b, c)
 no_next mode Script vs p a b c = rw (b, c)
 no_next mode Region vs p a b c = rw c
 
-pub single_next : (mode : Mode) (stage : Stage) (vs : List Text) (p : Text) → is_one_byte p ≡ true → word_next mode stage vs p ≡ None
+pub single_next : (mode : Mode) (stage : Stage) (vs : List Text) (p : Text) → is_one_byte p ≡ true →
+    word_next mode stage vs p ≡ None
 single_next mode stage vs p h = let n = no_word p h in no_next mode stage vs p n.0 n.1 n.2
 
 -- where each variant may come that is none of those before
-module _ (mode : Mode) (many : (vs : List Text) (v : Text) → is_new mode vs v ≡ not (list_any (eq_by_cmp word_cmp v) vs)) where
+module _ (mode : Mode)
+    (many : (vs : List Text) (v : Text) → is_new mode vs v ≡ not (list_any (eq_by_cmp word_cmp v) vs)) where
   -- those before differ
   abbrev pub Differ : List Text → Type 0
   Differ vs = all_different word_cmp vs ≡ true
 
   -- what is so of each of the three ways
-  pub record Step (stage : Stage) (vs : List Text) (p : Text) (qs : List Text) (o : Option (Stage × List Text)) : Type 0 where
+  pub record Step (stage : Stage) (vs : List Text) (p : Text) (qs : List Text)
+      (o : Option (Stage × List Text)) : Type 0 where
     pub good_is : good stage vs (p ∷ qs) ≡ good_after o qs
     pub repeats_is : repeats stage vs (p ∷ qs) ≡ repeats_after p o qs
     pub keeps : MatchOption o (Unit {0}) (λ w. Differ w.1)
 
-  variant_step : (vs : List Text) (p : Text) (qs : List Text) → Differ vs → Step Region vs p qs (after_region_next mode vs p)
+  variant_step : (vs : List Text) (p : Text) (qs : List Text) → Differ vs →
+      Step Region vs p qs (after_region_next mode vs p)
   variant_step vs p qs d = at (is_word Variant p) refl (list_any (eq_by_cmp word_cmp (lower p)) vs) refl
     where
-      at : (a : Bool) → is_word Variant p ≡ a → (b : Bool) → list_any (eq_by_cmp word_cmp (lower p)) vs ≡ b → Step Region vs p qs (after_region_next mode vs p)
+      at : (a : Bool) → is_word Variant p ≡ a → (b : Bool) → list_any (eq_by_cmp word_cmp (lower p)) vs ≡ b →
+          Step Region vs p qs (after_region_next mode vs p)
       at false e b f = rw e (record { good_is = rw e; repeats_is = rw (e, append-nil vs, d); keeps = tt })
       at true e true f = rw (e, many, f) (record {
         good_is = rw e (and_right _ _ (repeat_found vs (lower p) (map lower qs) f));
@@ -90,21 +99,27 @@ module _ (mode : Mode) (many : (vs : List Text) (v : Text) → is_new mode vs v 
         keeps = tt;
       })
       at true e false f = rw (e, many, f) (record {
-        good_is = rw e (ap (λ ws. list_all (is_word Variant) qs && all_different word_cmp ws) (sym (append_assoc vs (lower p ∷ []) (map lower qs))));
-        repeats_is = rw e (ap (λ ws. not (all_different word_cmp ws)) (sym (append_assoc vs (lower p ∷ []) (map lower (passing (is_word Variant) qs)))));
+        good_is = rw e (ap (λ ws. list_all (is_word Variant) qs && all_different word_cmp ws)
+            (sym (append_assoc vs (lower p ∷ []) (map lower qs))));
+        repeats_is = rw e (ap (λ ws. not (all_different word_cmp ws))
+            (sym (append_assoc vs (lower p ∷ []) (map lower (passing (is_word Variant) qs)))));
         keeps = one_more vs (lower p) d f;
       })
 
-  region_step : (vs : List Text) (p : Text) (qs : List Text) → Differ vs → Step Script vs p qs (after_script_next mode vs p)
+  region_step : (vs : List Text) (p : Text) (qs : List Text) → Differ vs →
+      Step Script vs p qs (after_script_next mode vs p)
   region_step vs p qs d = elim (cases_Bool (is_word kinds.Region p)) [
     | inl e ↦ rw e (record { good_is = rw e; repeats_is = rw e; keeps = d })
-    | inr e ↦ rw e (let s = variant_step vs p qs d in record { good_is = rw e s.good_is; repeats_is = rw e s.repeats_is; keeps = s.keeps })
+    | inr e ↦ rw e (let s = variant_step vs p qs d in
+        record { good_is = rw e s.good_is; repeats_is = rw e s.repeats_is; keeps = s.keeps })
   ]
 
-  pub word_step : (stage : Stage) (vs : List Text) (p : Text) (qs : List Text) → Differ vs → Step stage vs p qs (word_next mode stage vs p)
+  pub word_step : (stage : Stage) (vs : List Text) (p : Text) (qs : List Text) → Differ vs →
+      Step stage vs p qs (word_next mode stage vs p)
   word_step Language vs p qs d = elim (cases_Bool (is_word kinds.Script p)) [
     | inl e ↦ rw e (record { good_is = rw e; repeats_is = rw e; keeps = d })
-    | inr e ↦ rw e (let s = region_step vs p qs d in record { good_is = rw e s.good_is; repeats_is = rw e s.repeats_is; keeps = s.keeps })
+    | inr e ↦ rw e (let s = region_step vs p qs d in
+        record { good_is = rw e s.good_is; repeats_is = rw e s.repeats_is; keeps = s.keeps })
   ]
   word_step Script vs p qs d = region_step vs p qs d
   word_step Region vs p qs d = variant_step vs p qs d

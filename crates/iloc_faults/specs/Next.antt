@@ -1,19 +1,26 @@
 -- What may come next in a text, piece by piece, and what was read when it ends: a device of proofs.
 -- Restates UTS #35, section 3, and what a data locale is, as a reader from the left keeps to it.
-use Rattle.std.specs.Prelude.{ℕ, Bool, true, false, not, ◌&&◌, ◌||◌, ◌==◌, List, [], ◌∷◌, ◌++◌, length, slice_index, Option, Some, None, option_map, is_some, if◌then◌else◌, codes}
+use Rattle.std.specs.Prelude.{ℕ, Bool, true, false, not, ◌&&◌, ◌||◌, ◌==◌, List, [], ◌∷◌, ◌++◌, length}
+use Rattle.std.specs.Prelude.{slice_index, Option, Some, None, option_map, is_some, if◌then◌else◌, codes}
 use Rattle.std.specs.Char.{is_ascii_alphanumeric, to_ascii_lowercase}
 use Rattle.std.specs.Int.{is_in_range}
 use Rattle.std.specs.List.{list_any}
 use Rattle.std.specs.Ordering.{nat_cmp, eq_by_cmp}
-use Rattle.iloc_spec_grammar.specs.Syntax.{Text, code_t, code_u, code_x, languages, is_word, Variant, UnicodeKey, TransformKey, Attribute, Subtag, PrivateSubtag, lower, word_cmp, is_same, is_true, is_one_byte}
+use Rattle.iloc_spec_grammar.specs.Syntax.{Text, code_t, code_u, code_x, languages, is_word, Variant}
+use Rattle.iloc_spec_grammar.specs.Syntax.{UnicodeKey, TransformKey, Attribute, Subtag, PrivateSubtag, lower}
+use Rattle.iloc_spec_grammar.specs.Syntax.{word_cmp, is_same, is_true, is_one_byte}
 use Rattle.iloc_spec_grammar.specs.Syntax as kinds
-use Rattle.iloc_spec_grammar.specs.Meaning.{Fault, InvalidLanguage, InvalidSubtag, InvalidExtension, DuplicatedExtension}
+use Rattle.iloc_spec_grammar.specs.Meaning.{Fault, InvalidLanguage, InvalidSubtag, InvalidExtension}
+use Rattle.iloc_spec_grammar.specs.Meaning.{DuplicatedExtension}
 use Rattle.iloc_spec_parts.specs.SmallComputing.{is_u}
 use Rattle.iloc_spec_preferences.specs.DataLocales.{named_subdivision}
 use Rattle.iloc_told.specs.declared.Mode.{Mode}
 use Rattle.iloc_told.specs.declared.Mode.TheVariants.{Langid, Locale, Data}
 use Rattle.iloc_faults.specs.declared.state.Part.{Part}
-use Rattle.iloc_faults.specs.declared.state.Part.TheVariants.{Start, Head, Transform, Source, FieldKey, FieldValue, Unicode, Keyword, Other, OtherWord, Private, PrivateWord, Subdivision, SubdivisionKey, SubdivisionValue}
+use Rattle.iloc_faults.specs.declared.state.Part.TheVariants.{Start, Head, Transform, Source, FieldKey}
+use Rattle.iloc_faults.specs.declared.state.Part.TheVariants.{FieldValue, Unicode, Keyword, Other, OtherWord}
+use Rattle.iloc_faults.specs.declared.state.Part.TheVariants.{Private, PrivateWord, Subdivision}
+use Rattle.iloc_faults.specs.declared.state.Part.TheVariants.{SubdivisionKey, SubdivisionValue}
 use Rattle.iloc_faults.specs.declared.state.Stage.{Stage}
 use Rattle.iloc_faults.specs.declared.state.Stage.TheVariants.{Language, Script, Region}
 

@@ -1,9 +1,12 @@
 -- Fields that are taken one at a time.
-use Rattle.std.proofs.Common.{◌≡◌, ℕ, suc, ◌<◌, Bool, true, false, cond, ◌&&◌, List, [], ◌∷◌, ◌++◌, length, map, refl, sym, ap, ◌∙◌, arith, append_assoc, append-nil, Option, Some, None, option_map, is_some, if◌then◌else◌, Err}
+use Rattle.std.proofs.Common.{◌≡◌, ℕ, suc, ◌<◌, Bool, true, false, cond, ◌&&◌, List, [], ◌∷◌, ◌++◌, length}
+use Rattle.std.proofs.Common.{map, refl, sym, ap, ◌∙◌, arith, append_assoc, append-nil, Option, Some, None}
+use Rattle.std.proofs.Common.{option_map, is_some, if◌then◌else◌, Err}
 use Rattle.std.specs.List.{AllByRecursion, list_all}
 use Rattle.std.specs.FinMap.{find, put}
 use Rattle.std.proofs.lemmas.List.{map-append}
-use Rattle.iloc_spec_grammar.specs.Syntax.{TransformKey, Attribute, is_word, IsWord, lower, word_cmp, Fields, fields_pieces, IsField}
+use Rattle.iloc_spec_grammar.specs.Syntax.{TransformKey, Attribute, is_word, IsWord, lower, word_cmp, Fields}
+use Rattle.iloc_spec_grammar.specs.Syntax.{fields_pieces, IsField}
 use Rattle.iloc_spec_grammar.specs.Meaning.{map_of, normal_fields, normal_values}
 use Rattle.iloc_spec_grammar.specs.Reading.{take_first, skip_first, passing, past, before_key, fields_from}
 use Rattle.iloc_spec_grammar.proofs.MapLaws.{word_cmp_total, same_words}
@@ -13,7 +16,9 @@ use Rattle.iloc_spec_grammar.specs.Computing.{is_field}
 use Rattle.iloc_litemap.proofs.Maps.{map_of_more}
 use Rattle.iloc_subtags.proofs.TakingLemmas.{took}
 use Rattle.iloc_subtags.specs.declared.parse_error.ParseError.{ParseError}
-use Rattle.iloc_subtags.specs.declared.parse_error.ParseError.TheVariants.{InvalidLanguage, InvalidSubtag, InvalidExtension, DuplicatedExtension, OutOfMemory}
+use Rattle.iloc_subtags.specs.declared.parse_error.ParseError.TheVariants.{InvalidLanguage, InvalidSubtag}
+use Rattle.iloc_subtags.specs.declared.parse_error.ParseError.TheVariants.{InvalidExtension}
+use Rattle.iloc_subtags.specs.declared.parse_error.ParseError.TheVariants.{DuplicatedExtension, OutOfMemory}
 use Rattle.iloc_spec_parts.specs.Fronts.{attributes_front}
 use Rattle.iloc_fields.specs.ValueReading.{FieldValueReads}
 use Rattle.iloc_fields.specs.FieldsReading.{FieldsRead, FieldsFills}
@@ -37,15 +42,22 @@ takes_nothing ps = record { taken = []; fields = tt; front = refl; rest = refl; 
 
 -- after a key: its values, and the next fields
 
-key_goes_on : (p : List ℕ) (ps : List (List ℕ)) → IsWord TransformKey p → (fields_front (p ∷ ps) ≡ p ∷ passing is_field_piece ps) × (after_fields (p ∷ ps) ≡ past is_field_piece ps)
+key_goes_on : (p : List ℕ) (ps : List (List ℕ)) → IsWord TransformKey p →
+    (fields_front (p ∷ ps) ≡ p ∷ passing is_field_piece ps) × (after_fields (p ∷ ps) ≡ past is_field_piece ps)
 key_goes_on p ps k = (rw k refl, rw k refl)
 
-after_values : (ps : List (List ℕ)) → (passing is_field_piece ps ≡ attributes_front ps ++ fields_front (past (is_word Attribute) ps)) × (past is_field_piece ps ≡ after_fields (past (is_word Attribute) ps))
+after_values : (ps : List (List ℕ)) →
+    (passing is_field_piece ps ≡ attributes_front ps ++ fields_front (past (is_word Attribute) ps))
+    × (past is_field_piece ps ≡ after_fields (past (is_word Attribute) ps))
 after_values [] = (rw no_key_empty refl, rw no_key_empty refl)
 after_values (p ∷ ps) = by (is_word Attribute p) refl (is_key p) refl (after_values ps)
   where
-    by : (a : Bool) → is_word Attribute p ≡ a → (k : Bool) → is_key p ≡ k → (passing is_field_piece ps ≡ attributes_front ps ++ fields_front (past (is_word Attribute) ps)) × (past is_field_piece ps ≡ after_fields (past (is_word Attribute) ps))
-        → (passing is_field_piece (p ∷ ps) ≡ attributes_front (p ∷ ps) ++ fields_front (past (is_word Attribute) (p ∷ ps))) × (past is_field_piece (p ∷ ps) ≡ after_fields (past (is_word Attribute) (p ∷ ps)))
+    by : (a : Bool) → is_word Attribute p ≡ a → (k : Bool) → is_key p ≡ k →
+        (passing is_field_piece ps ≡ attributes_front ps ++ fields_front (past (is_word Attribute) ps))
+        × (past is_field_piece ps ≡ after_fields (past (is_word Attribute) ps))
+        → (passing is_field_piece (p ∷ ps)
+        ≡ attributes_front (p ∷ ps) ++ fields_front (past (is_word Attribute) (p ∷ ps)))
+        × (past is_field_piece (p ∷ ps) ≡ after_fields (past (is_word Attribute) (p ∷ ps)))
     by true e true i more = (rw (e, i) (ap (λ l. p ∷ l) more.0), rw (e, i) more.1)
     by true e false i more = (rw (e, i) (ap (λ l. p ∷ l) more.0), rw (e, i) more.1)
     by false e true i more = (rw (e, i) refl, rw (e, i) refl)
@@ -53,27 +65,37 @@ after_values (p ∷ ps) = by (is_word Attribute p) refl (is_key p) refl (after_v
 
 -- one field more
 
-pieces-last : (fs : Fields) (f : List ℕ × List (List ℕ)) → fields_pieces (fs ++ f ∷ []) ≡ fields_pieces fs ++ (f.0 ∷ f.1)
+pieces-last : (fs : Fields) (f : List ℕ × List (List ℕ)) →
+    fields_pieces (fs ++ f ∷ []) ≡ fields_pieces fs ++ (f.0 ∷ f.1)
 pieces-last [] f = append-nil (f.0 ∷ f.1)
-pieces-last (g ∷ fs) f = ap (λ l. (g.0 ∷ g.1) ++ l) (pieces-last fs f) ∙ sym (append_assoc (g.0 ∷ g.1) (fields_pieces fs) (f.0 ∷ f.1))
+pieces-last (g ∷ fs) f = ap (λ l. (g.0 ∷ g.1) ++ l) (pieces-last fs f)
+    ∙ sym (append_assoc (g.0 ∷ g.1) (fields_pieces fs) (f.0 ∷ f.1))
 
 values_are : (ps : List (List ℕ)) → AllByRecursion (IsWord Attribute) (attributes_front ps)
 values_are [] = tt
 values_are (p ∷ ps) = by (is_word Attribute p) refl (values_are ps)
   where
-    by : (b : Bool) → is_word Attribute p ≡ b → AllByRecursion (IsWord Attribute) (attributes_front ps) → AllByRecursion (IsWord Attribute) (cond b (p ∷ attributes_front ps) [])
+    by : (b : Bool) → is_word Attribute p ≡ b → AllByRecursion (IsWord Attribute) (attributes_front ps) →
+        AllByRecursion (IsWord Attribute) (cond b (p ∷ attributes_front ps) [])
     by true e more = (e, more)
     by false e more = tt
 
-normal-last : (fs : Fields) (p : List ℕ) (vs : List (List ℕ)) → normal_fields (fs ++ (p, vs) ∷ []) ≡ (if is_some (find word_cmp (lower p) (normal_fields fs)) then normal_fields fs else put word_cmp (lower p) (normal_values vs) (normal_fields fs))
+normal-last : (fs : Fields) (p : List ℕ) (vs : List (List ℕ)) →
+    normal_fields (fs ++ (p, vs) ∷ [])
+    ≡ (if is_some (find word_cmp (lower p) (normal_fields fs)) then normal_fields fs else put word_cmp
+    (lower p) (normal_values vs) (normal_fields fs))
 normal-last fs p vs =
     ap (map_of word_cmp) (map-append (λ f. (lower f.0, normal_values f.1)) fs ((p, vs) ∷ []))
-    ∙ map_of_more word_cmp word_cmp_total same_words (map (λ f. (lower f.0, normal_values f.1)) fs) (lower p) (normal_values vs)
+    ∙ map_of_more word_cmp word_cmp_total same_words (map (λ f. (lower f.0, normal_values f.1)) fs) (lower p)
+    (normal_values vs)
 
 -- a key with its values
-pub takes_field : (before now : List (List ℕ)) (m : Fields) (k : List ℕ) (qs more v : List (List ℕ)) (n : Fields) → TakingFields before now m
+pub takes_field : (before now : List (List ℕ)) (m : Fields) (k : List ℕ) (qs more v : List (List ℕ))
+    (n : Fields) →
+    TakingFields before now m
     → Some k ≡ option_map lower (take_first is_key now) → qs ≡ skip_first is_key now
-    → (0 < length (attributes_front qs)) × (v ≡ normal_values (attributes_front qs)) × (more ≡ past (is_word Attribute) qs)
+    → (0 < length (attributes_front qs)) × (v ≡ normal_values (attributes_front qs))
+    × (more ≡ past (is_word Attribute) qs)
     → n ≡ (if is_some (find word_cmp k m) then m else put word_cmp k v m) → TakingFields before more n
 takes_field before now m k qs more v n h e s r i =
     let t = took TransformKey now k e in
@@ -82,25 +104,35 @@ takes_field before now m k qs more v n h e s r i =
     let first : now ≡ p ∷ qs = t.3 ∙ ap (λ l. p ∷ l) (sym s) in
     let goes = key_goes_on p qs t.1 in
     let after = after_values qs in
-    let pieces : fields_front now ≡ (p ∷ vs) ++ fields_front more = ap fields_front first ∙ goes.0 ∙ ap (λ l. p ∷ l) (after.0 ∙ ap (λ l. vs ++ fields_front l) (sym r.2)) in
+    let pieces : fields_front now ≡ (p ∷ vs) ++ fields_front more =
+    ap fields_front first ∙ goes.0 ∙ ap (λ l. p ∷ l) (after.0 ∙ ap (λ l. vs ++ fields_front l) (sym r.2)) in
     record {
       taken = h.taken ++ (p, vs) ∷ [];
       fields = all_append IsField h.taken ((p, vs) ∷ []) h.fields ((t.1, values_are qs, r.0), tt);
-      front = h.front ∙ ap (λ l. fields_pieces h.taken ++ l) pieces ∙ sym (append_assoc (fields_pieces h.taken) (p ∷ vs) (fields_front more)) ∙ ap (λ l. l ++ fields_front more) (sym (pieces-last h.taken (p, vs)));
+      front = h.front ∙ ap (λ l. fields_pieces h.taken ++ l) pieces
+          ∙ sym (append_assoc (fields_pieces h.taken) (p ∷ vs) (fields_front more))
+          ∙ ap (λ l. l ++ fields_front more) (sym (pieces-last h.taken (p, vs)));
       rest = h.rest ∙ ap after_fields first ∙ goes.1 ∙ after.1 ∙ ap after_fields (sym r.2);
-      means = i ∙ (λ j. if is_some (find word_cmp (t.2 j) (h.means j)) then h.means j else put word_cmp (t.2 j) (r.1 j) (h.means j)) ∙ sym (normal-last h.taken p vs);
+      means = i
+          ∙ (λ j. if is_some (find word_cmp (t.2 j) (h.means j)) then h.means j else put word_cmp (t.2 j)
+          (r.1 j) (h.means j))
+          ∙ sym (normal-last h.taken p vs);
     }
 
 -- where no key follows
-no_more : (now : List (List ℕ)) → None ≡ option_map lower (take_first is_key now) → (fields_front now ≡ []) × (after_fields now ≡ now)
+no_more : (now : List (List ℕ)) → None ≡ option_map lower (take_first is_key now) →
+    (fields_front now ≡ []) × (after_fields now ≡ now)
 no_more [] e = (rw no_key_empty refl, rw no_key_empty refl)
 no_more (p ∷ ps) e = by (is_key p) refl e
   where
-    by : (b : Bool) → is_key p ≡ b → ◌≡◌ {A = Option (List ℕ)} None (option_map lower (cond b (Some p) None)) → (fields_front (p ∷ ps) ≡ []) × (after_fields (p ∷ ps) ≡ p ∷ ps)
+    by : (b : Bool) → is_key p ≡ b →
+        ◌≡◌ {A = Option (List ℕ)} None (option_map lower (cond b (Some p) None)) →
+        (fields_front (p ∷ ps) ≡ []) × (after_fields (p ∷ ps) ≡ p ∷ ps)
     by true h e = cc
     by false h e = (rw h refl, rw h refl)
 
-pub takes_all : (before now : List (List ℕ)) (m : Fields) → TakingFields before now m → None ≡ option_map lower (take_first is_key now) → FieldsRead before m now
+pub takes_all : (before now : List (List ℕ)) (m : Fields) → TakingFields before now m →
+    None ≡ option_map lower (take_first is_key now) → FieldsRead before m now
 takes_all before now m h e =
     let n = no_more now e in
     record {
@@ -112,26 +144,42 @@ takes_all before now m h e =
     }
 
 -- the front, where a key stands
-front_at : (before now : List (List ℕ)) (m : Fields) (k : List ℕ) → TakingFields before now m → Some k ≡ option_map lower (take_first is_key now) → (p : List ℕ) × IsWord TransformKey p × (taken : Fields) × (fields_front before ≡ fields_pieces taken ++ (p ∷ passing is_field_piece (skip_first is_key now)))
+front_at : (before now : List (List ℕ)) (m : Fields) (k : List ℕ) → TakingFields before now m →
+    Some k ≡ option_map lower (take_first is_key now) →
+    (p : List ℕ) × IsWord TransformKey p × (taken : Fields)
+    × (fields_front before ≡ fields_pieces taken ++ (p ∷ passing is_field_piece (skip_first is_key now)))
 front_at before now m k h e =
-    let t = took TransformKey now k e in
-    (t.0, t.1, h.taken, h.front ∙ ap (λ l. fields_pieces h.taken ++ l) (ap fields_front t.3 ∙ (key_goes_on t.0 (skip_first is_key now) t.1).0))
+    let t = took TransformKey now k e in (
+      t.0,
+      t.1,
+      h.taken,
+      h.front
+          ∙ ap (λ l. fields_pieces h.taken ++ l)
+          (ap fields_front t.3 ∙ (key_goes_on t.0 (skip_first is_key now) t.1).0),
+    )
 
 -- memory is wanted for a field
 
-begins : (ps : List (List ℕ)) (k : List ℕ) (vs more : List (List ℕ)) → fields_front ps ≡ (k ∷ vs) ++ more → IsWord TransformKey k → AllByRecursion (IsWord Attribute) vs → 0 < length vs → BeginsField ps
+begins : (ps : List (List ℕ)) (k : List ℕ) (vs more : List (List ℕ)) → fields_front ps ≡ (k ∷ vs) ++ more →
+    IsWord TransformKey k → AllByRecursion (IsWord Attribute) vs → 0 < length vs → BeginsField ps
 begins ps k [] more e key all some = absurd (omega (arith, some))
 begins ps k (v ∷ vs) more e key all some = begins_field ps k v (vs ++ more) e key all.0
 
-pub wants_memory : (before now : List (List ℕ)) (m : Fields) (k : List ℕ) (qs : List (List ℕ)) → TakingFields before now m → Some k ≡ option_map lower (take_first is_key now) → qs ≡ skip_first is_key now → 0 < length (attributes_front qs) → BeginsField before
+pub wants_memory : (before now : List (List ℕ)) (m : Fields) (k : List ℕ) (qs : List (List ℕ)) →
+    TakingFields before now m → Some k ≡ option_map lower (take_first is_key now) →
+    qs ≡ skip_first is_key now → 0 < length (attributes_front qs) → BeginsField before
 wants_memory before now m k qs h e s some = at h.taken h.fields h.front
   where
-    at : (fs : Fields) → AllByRecursion IsField fs → fields_front before ≡ fields_pieces fs ++ fields_front now → BeginsField before
+    at : (fs : Fields) → AllByRecursion IsField fs →
+        fields_front before ≡ fields_pieces fs ++ fields_front now → BeginsField before
     at [] g front =
         let t = took TransformKey now k e in
         let first : now ≡ t.0 ∷ qs = t.3 ∙ ap (λ l. t.0 ∷ l) (sym s) in
-        begins before t.0 (attributes_front qs) (fields_front (past (is_word Attribute) qs)) (front ∙ ap fields_front first ∙ (key_goes_on t.0 qs t.1).0 ∙ ap (λ l. t.0 ∷ l) (after_values qs).0) t.1 (values_are qs) some
-    at (f ∷ fs) g front = begins before f.0 f.1 (fields_pieces fs ++ fields_front now) (front ∙ append_assoc (f.0 ∷ f.1) (fields_pieces fs) (fields_front now)) g.0.0 g.0.1 g.0.2
+        begins before t.0 (attributes_front qs) (fields_front (past (is_word Attribute) qs))
+        (front ∙ ap fields_front first ∙ (key_goes_on t.0 qs t.1).0 ∙ ap (λ l. t.0 ∷ l) (after_values qs).0)
+        t.1 (values_are qs) some
+    at (f ∷ fs) g front = begins before f.0 f.1 (fields_pieces fs ++ fields_front now)
+        (front ∙ append_assoc (f.0 ∷ f.1) (fields_pieces fs) (fields_front now)) g.0.0 g.0.1 g.0.2
 
 some_values : (vs : List (List ℕ)) → 4 < length (normal_values vs) → 0 < length vs
 some_values [] h = absurd (omega (arith, h))
@@ -146,7 +194,8 @@ no_field p b = by (is_word TransformKey p)
     by true = refl
     by false = refl
 
-later_false : (xs ys : List (List ℕ)) → list_all is_field (fields_from is_key ys) ≡ false → list_all is_field (fields_from is_key (xs ++ ys)) ≡ false
+later_false : (xs ys : List (List ℕ)) → list_all is_field (fields_from is_key ys) ≡ false →
+    list_all is_field (fields_from is_key (xs ++ ys)) ≡ false
 later_false [] ys h = h
 later_false (x ∷ xs) ys h = by (is_key x) (later_false xs ys h)
   where
@@ -154,36 +203,50 @@ later_false (x ∷ xs) ys h = by (is_key x) (later_false xs ys h)
     and_false true c h = h
     and_false false c h = refl
 
-    by : (b : Bool) → list_all is_field (fields_from is_key (xs ++ ys)) ≡ false → list_all is_field (cond b ((x, before_key is_key (xs ++ ys)) ∷ fields_from is_key (xs ++ ys)) (fields_from is_key (xs ++ ys))) ≡ false
+    by : (b : Bool) → list_all is_field (fields_from is_key (xs ++ ys)) ≡ false →
+        list_all is_field (cond b ((x, before_key is_key (xs ++ ys)) ∷ fields_from is_key (xs ++ ys))
+        (fields_from is_key (xs ++ ys)))
+        ≡ false
     by true more = and_false _ _ more
     by false more = more
 
-no_value_there : (qs : List (List ℕ)) → attributes_front qs ≡ [] → before_key is_key (passing is_field_piece qs) ≡ []
+no_value_there : (qs : List (List ℕ)) → attributes_front qs ≡ [] →
+    before_key is_key (passing is_field_piece qs) ≡ []
 no_value_there [] e = refl
 no_value_there (q ∷ qs) e = by (is_word Attribute q) refl (is_key q) refl e
   where
-    by : (a : Bool) → is_word Attribute q ≡ a → (k : Bool) → is_key q ≡ k → cond a (q ∷ attributes_front qs) [] ≡ [] → before_key is_key (passing is_field_piece (q ∷ qs)) ≡ []
+    by : (a : Bool) → is_word Attribute q ≡ a → (k : Bool) → is_key q ≡ k →
+        cond a (q ∷ attributes_front qs) [] ≡ [] → before_key is_key (passing is_field_piece (q ∷ qs)) ≡ []
     by true h k i e = cc
     by false h true i e = rw (h, i) (rw i refl)
     by false h false i e = rw (h, i) refl
 
-pub lacks_value : (before now : List (List ℕ)) (m : Fields) (k : List ℕ) (qs : List (List ℕ)) → TakingFields before now m → Some k ≡ option_map lower (take_first is_key now) → qs ≡ skip_first is_key now → attributes_front qs ≡ [] → list_all is_field (fields_at before) ≡ false
+pub lacks_value : (before now : List (List ℕ)) (m : Fields) (k : List ℕ) (qs : List (List ℕ)) →
+    TakingFields before now m → Some k ≡ option_map lower (take_first is_key now) →
+    qs ≡ skip_first is_key now → attributes_front qs ≡ [] → list_all is_field (fields_at before) ≡ false
 lacks_value before now m k qs h e s n =
     let f = front_at before now m k h e in
     let rest : List (List ℕ) = passing is_field_piece (skip_first is_key now) in
-    let none : before_key is_key rest ≡ [] = no_value_there (skip_first is_key now) (ap attributes_front (sym s) ∙ n) in
-    let here : list_all is_field (fields_from is_key (f.0 ∷ rest)) ≡ false = rw (f.1, none) (no_field f.0 _) in
+    let none : before_key is_key rest ≡ [] =
+    no_value_there (skip_first is_key now) (ap attributes_front (sym s) ∙ n) in
+    let here : list_all is_field (fields_from is_key (f.0 ∷ rest)) ≡ false =
+    rw (f.1, none) (no_field f.0 _) in
     ap (λ l. list_all is_field (fields_from is_key l)) f.3 ∙ later_false (fields_pieces f.2) (f.0 ∷ rest) here
 
 -- what the reader of a value refuses, the reader of fields does
-pub refuses : (before now : List (List ℕ)) (m : Fields) (k : List ℕ) (qs rest left : List (List ℕ)) (f : ParseError) → TakingFields before now m → Some k ≡ option_map lower (take_first is_key now) → qs ≡ skip_first is_key now → FieldValueReads qs rest (Err f) → FieldsFills before left (Err f)
+pub refuses : (before now : List (List ℕ)) (m : Fields) (k : List ℕ) (qs rest left : List (List ℕ))
+    (f : ParseError) →
+    TakingFields before now m → Some k ≡ option_map lower (take_first is_key now) →
+    qs ≡ skip_first is_key now → FieldValueReads qs rest (Err f) → FieldsFills before left (Err f)
 refuses before now m k qs rest left InvalidExtension h e s r = (refl, lacks_value before now m k qs h e s r.1)
-refuses before now m k qs rest left OutOfMemory h e s r = wants_memory before now m k qs h e s (some_values (attributes_front qs) r)
+refuses before now m k qs rest left OutOfMemory h e s r =
+    wants_memory before now m k qs h e s (some_values (attributes_front qs) r)
 refuses before now m k qs rest left InvalidLanguage h e s r = let other = r.0 in cc
 refuses before now m k qs rest left InvalidSubtag h e s r = let other = r.0 in cc
 refuses before now m k qs rest left DuplicatedExtension h e s r = let other = r.0 in cc
 
-pub shorter : (now qs more : List (List ℕ)) (k : List ℕ) → Some k ≡ option_map lower (take_first is_key now) → qs ≡ skip_first is_key now → more ≡ past (is_word Attribute) qs → length more < length now
+pub shorter : (now qs more : List (List ℕ)) (k : List ℕ) → Some k ≡ option_map lower (take_first is_key now) →
+    qs ≡ skip_first is_key now → more ≡ past (is_word Attribute) qs → length more < length now
 shorter now qs more k e s r =
     let t = took TransformKey now k e in
     let n : length now ≡ suc (length qs) = ap length (t.3 ∙ ap (λ l. t.0 ∷ l) (sym s)) in

@@ -1,5 +1,6 @@
 -- The printed texts, by the pieces that are written.
-use Rattle.std.proofs.Common.{◌≡◌, ℕ, suc, Bool, true, false, not, ◌==◌, List, [], ◌∷◌, ◌++◌, length, codes, refl, ap, ◌∙◌, arith}
+use Rattle.std.proofs.Common.{◌≡◌, ℕ, suc, Bool, true, false, not, ◌==◌, List, [], ◌∷◌, ◌++◌, length, codes}
+use Rattle.std.proofs.Common.{refl, ap, ◌∙◌, arith}
 use Rattle.std.specs.List.{flat_map}
 use Rattle.std.proofs.lemmas.Bool.Decides.{nat_tests}
 use Rattle.iloc_writeable.proofs.PiecesLemmas.{flat_map_words}
@@ -8,7 +9,8 @@ use Rattle.iloc_spec_grammar.specs.Values.{spelled_value, spelled_fields, field_
 use Rattle.iloc_writeable.specs.Pieces.{is_there}
 
 -- a value that has subtags
-pub spelled_some : (ws vs : List (List ℕ)) → vs ≡ ws → (length vs == 0) ≡ false → flat_map (λ w. w ∷ []) vs ≡ spelled_value ws
+pub spelled_some : (ws vs : List (List ℕ)) → vs ≡ ws → (length vs == 0) ≡ false →
+    flat_map (λ w. w ∷ []) vs ≡ spelled_value ws
 spelled_some ws vs e n = flat_map_words vs ∙ by vs n ∙ ap spelled_value e
   where
     by : (vs : List (List ℕ)) → (length vs == 0) ≡ false → vs ≡ spelled_value vs
@@ -26,11 +28,14 @@ value_text_none (w ∷ ws) e = absurd (some (length ws) e)
 
 -- fields, pair by pair
 
-pub pairs_pieces : (fs : Fields) → flat_map (λ (p : List ℕ × List (List ℕ)). (p.0 ∷ []) ++ spelled_value p.1) fs ≡ fields_pieces (spelled_fields fs)
+pub pairs_pieces : (fs : Fields) →
+    flat_map (λ (p : List ℕ × List (List ℕ)). (p.0 ∷ []) ++ spelled_value p.1) fs
+    ≡ fields_pieces (spelled_fields fs)
 pairs_pieces [] = refl
 pairs_pieces (f ∷ fs) = ap (λ l. ((f.0 ∷ []) ++ spelled_value f.1) ++ l) (pairs_pieces fs)
 
-pub there_are_pieces : (fs : Fields) (b : Bool) → b ≡ (length fs == 0) → not b ≡ is_there (fields_pieces (spelled_fields fs))
+pub there_are_pieces : (fs : Fields) (b : Bool) → b ≡ (length fs == 0) →
+    not b ≡ is_there (fields_pieces (spelled_fields fs))
 there_are_pieces [] b e = rw e refl
 there_are_pieces (f ∷ fs) b e = ap not (e ∙ false_there (length fs))
   where

@@ -8,7 +8,8 @@ use base.Fml.{Fml, ftrue}
 use base.Logic.{ent, guard, via, snd∗, guard_i, never_e}
 use contract.Monad.{fact_use}
 use types.Logic.{Logic, sem}
-use types.Kit.{Item, Goal, Seq, Step, step, ‵, given, ◌$◌, drop, use1, learn, fsplit, fjoin, fpick, fpack, feq_i, feq_l}
+use types.Kit.{Item, Goal, Seq, Step, step, ‵, given, ◌$◌, drop, use1, learn, fsplit, fjoin, fpick, fpack}
+use types.Kit.{feq_i, feq_l}
 use denote.RattleType.{Valss}
 use denote.Builtin.{RawPtr}
 use denote.Memory.{lone}
@@ -54,7 +55,8 @@ may_test : {M : Type 1} {𝓤 : Ura M} (𝓛 : Logic 𝓤) (a : Global) (p : Ptr
 may_test {𝓤 = 𝓤} 𝓛 a p l =
     let at : Fml = points_to locale.the_row p l in
     let free : Fml = may_free (bare (lone locale.the_row.mir)) p in
-    let freeing = via 𝓤 _ (snd∗ 𝓤 (sem 𝓛 at) (sem 𝓛 free)) (dealloc_token-Testable 𝓛 a (bare (lone locale.the_row.mir)) p) in
+    let freeing = via 𝓤 _ (snd∗ 𝓤 (sem 𝓛 at) (sem 𝓛 free))
+    (dealloc_token-Testable 𝓛 a (bare (lone locale.the_row.mir)) p) in
     fact_use 𝓤 (Testable p) freeing (guard_i 𝓤 (Testable p) (sem 𝓛 (owns_box p l)))
 
 module _ {M : Type 1} {𝓤 : Ura M} {𝓛 : Logic 𝓤} {K : Type 0} {Γ : List (Item 𝓤)} {G : Goal 𝓤 𝓛.H} where
@@ -70,7 +72,8 @@ module _ {M : Type 1} {𝓤 : Ura M} {𝓛 : Logic 𝓤} {K : Type 0} {Γ : List
 
   -- and is made of both again
   pub make : K → (p : Ptr) (l : Option Locale)
-      → Step K 𝓛 (‵ (the_row.own_val (record { at = p; value = l }) (alone (ptr_val p) ∷ [])) ∷ Γ) G (‵ (owned p l) ∷ Γ) G
+      → Step K 𝓛 (‵ (the_row.own_val (record { at = p; value = l }) (alone (ptr_val p) ∷ [])) ∷ Γ) G
+      (‵ (owned p l) ∷ Γ) G
   make t p l = step (λ rest.
       let v : List Val = ptr_val p ∷ [] in let w : List Val = alone (ptr_val p) ∷ [] in
       nothing t $ feq_i t (List Val) v v refl $ fjoin t $ feq_i t (List Val) w w refl $ fjoin t $

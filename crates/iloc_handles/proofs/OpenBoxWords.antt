@@ -42,7 +42,8 @@ opened r = row_of.the_row r.inner r.heap r.ghosts
 
 -- its allocator, as the lemmas on allocators want it
 abbrev pub allocator : Rows → Al
-allocator r = record { row = r.heap; laws = r.laws; g = r.ghosts; d = impl [] tnil dnil; drops = impl [] tnil dnil }
+allocator r =
+    record { row = r.heap; laws = r.laws; g = r.ghosts; d = impl [] tnil dnil; drops = impl [] tnil dnil }
 
 -- what the pointer owns
 abbrev pub owned_at : (r : Rows) → Ptr → r.heap.Denot → r.inner.Denot → base.Fml.Fml
@@ -61,7 +62,8 @@ module _ {M : Type 1} {𝓤 : Ura M} {𝓛 : Logic 𝓤} {K : Type 0} {Γ : List
       → Seq K 𝓛 (‵ ((opened r).own_val d vs) ∷ Γ) G
   take_apart r t d vs then =
       fsplit t $ fpick t (λ parts. fsplit t $ feq_l t (λ whole. fsplit t $ feq_l t (λ pointer. fsplit t $
-      handle_tells (allocator r) t d.alloc parts.1.0 (λ h bits fits. move t (1 ∷ []) $ drop t $ move t (1 ∷ []) $
+      handle_tells (allocator r) t d.alloc parts.1.0
+      (λ h bits fits. move t (1 ∷ []) $ drop t $ move t (1 ∷ []) $
       in_a_block t d.at (λ p. owned_at r p d.alloc d.value)
       (fst∗ 𝓤 (never 𝓤) (sem 𝓛 (r.ghosts.dealloc_token d.alloc (bare (lone r.inner.mir)) null_ptr)))
       (λ b o is.

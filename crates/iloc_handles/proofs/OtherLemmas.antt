@@ -1,5 +1,6 @@
 -- Where other extensions stand among the others, and where a new one belongs.
-use Rattle.std.proofs.Common.{◌≡◌, ◌≢◌, ℕ, suc, ◌+◌, ◌<◌, ◌≤◌, Bool, true, false, cond, ◌==◌, List, [], ◌∷◌, length, refl, sym, ap, ◌∙◌, subst, arith, true≢false, nat_lt}
+use Rattle.std.proofs.Common.{◌≡◌, ◌≢◌, ℕ, suc, ◌+◌, ◌<◌, ◌≤◌, Bool, true, false, cond, ◌==◌, List, [], ◌∷◌}
+use Rattle.std.proofs.Common.{length, refl, sym, ap, ◌∙◌, subst, arith, true≢false, nat_lt}
 use Rattle.std.specs.Prelude.{Option, Some, is_some, option_map, slice_get, unwrap_or}
 use Rattle.std.specs.List.{insert, slice_set}
 use Rattle.std.specs.Ordering.{nat_cmp, eq_by_cmp}
@@ -43,7 +44,8 @@ singleton_none c = refl
 
 pub singleton_hit : (c : ℕ) (o : Block) (os : List Block) → o.0 ≡ c → place_of_singleton c (o ∷ os) ≡ 0
 singleton_hit c o os h =
-    let is : (o.0 == c) ≡ true = grind (arith, nat_tests) in ap (λ b. cond b 0 (suc (place_of_singleton c os))) is
+    let is : (o.0 == c) ≡ true = grind (arith, nat_tests) in
+    ap (λ b. cond b 0 (suc (place_of_singleton c os))) is
 
 pub singleton_miss : (c : ℕ) (o : Block) (os : List Block) → o.0 ≢ c
     → place_of_singleton c (o ∷ os) ≡ place_of_singleton c os + 1
@@ -57,9 +59,11 @@ place_none c = refl
 
 pub place_hit : (c : ℕ) (o : Block) (os : List Block) → c ≤ o.0 → how_many_less c (o ∷ os) ≡ 0
 place_hit c o os h =
-    let is : nat_lt o.0 c ≡ false = grind (arith, nat_tests) in ap (λ b. cond b (suc (how_many_less c os)) 0) is
+    let is : nat_lt o.0 c ≡ false = grind (arith, nat_tests) in
+    ap (λ b. cond b (suc (how_many_less c os)) 0) is
 
-pub place_miss : (c : ℕ) (o : Block) (os : List Block) → o.0 < c → how_many_less c (o ∷ os) ≡ how_many_less c os + 1
+pub place_miss : (c : ℕ) (o : Block) (os : List Block) → o.0 < c →
+    how_many_less c (o ∷ os) ≡ how_many_less c os + 1
 place_miss c o os h =
     let next : suc (how_many_less c os) ≡ how_many_less c os + 1 = omega arith in
     let is : nat_lt o.0 c ≡ true = grind (arith, nat_tests) in
@@ -88,13 +92,15 @@ module _ (c : ℕ) (ws : List (List ℕ)) where
   put_there (p ∷ os) o e s = by_test (nat_lt p.0 c) refl (put_there os o)
     where
       by_test : (b : Bool) → nat_lt p.0 c ≡ b
-          → (slice_get os (how_many_less c os) ≡ Some o → o.0 ≡ c → slice_set os (how_many_less c os) (c, ws) ≡ put nat_cmp c ws os)
+          → (slice_get os (how_many_less c os) ≡ Some o → o.0 ≡ c →
+          slice_set os (how_many_less c os) (c, ws) ≡ put nat_cmp c ws os)
           → slice_set (p ∷ os) (At p os b) (c, ws) ≡ Put p os (nat_cmp c p.0)
       by_test true q more =
           ap (λ l. p ∷ l) (more (subst (λ b. slice_get (p ∷ os) (At p os b) ≡ Some o) q e) s)
           ∙ sym (ap (Put p os) (greater c p.0 q))
       by_test false q more =
-          let here : p.0 ≡ o.0 = ap (λ x. (unwrap_or x p).0) (subst (λ b. slice_get (p ∷ os) (At p os b) ≡ Some o) q e) in
+          let here : p.0 ≡ o.0 =
+          ap (λ x. (unwrap_or x p).0) (subst (λ b. slice_get (p ∷ os) (At p os b) ≡ Some o) q e) in
           ap (λ d. (d, ws) ∷ os) (sym (here ∙ s)) ∙ sym (ap (Put p os) (equal c p.0 (here ∙ s)))
 
   -- and another one is put before the first that is greater
@@ -108,7 +114,8 @@ module _ (c : ℕ) (ws : List (List ℕ)) where
           → insert os (how_many_less c os) (c, ws) ≡ put nat_cmp c ws os)
           → insert (p ∷ os) (At p os b) (c, ws) ≡ Put p os (nat_cmp c p.0)
       by_test true q more =
-          ap (λ l. p ∷ l) (more (λ o e. new o (subst (λ b. slice_get (p ∷ os) (At p os b) ≡ Some o) (sym q) e)))
+          ap (λ l. p ∷ l)
+          (more (λ o e. new o (subst (λ b. slice_get (p ∷ os) (At p os b) ≡ Some o) (sym q) e)))
           ∙ sym (ap (Put p os) (greater c p.0 q))
       by_test false q more =
           let other = new p (subst (λ b. slice_get (p ∷ os) (At p os b) ≡ Some p) (sym q) refl) in

@@ -1,5 +1,6 @@
 -- Locales that are equal, and changes that want a box.
-use Rattle.std.proofs.Common.{◌≡◌, ℕ, List, Bool, true, false, IsTrue, ◌↔◌, inl, inr, refl, sym, ◌∙◌, subst, true≢false}
+use Rattle.std.proofs.Common.{◌≡◌, ℕ, List, Bool, true, false, IsTrue, ◌↔◌, inl, inr, refl, sym, ◌∙◌, subst}
+use Rattle.std.proofs.Common.{true≢false}
 use Rattle.std.specs.Prelude.{◌≢◌, Option, None}
 use Rattle.std.specs.Int.{from_bool}
 use Rattle.std.specs.Ordering.{is_eq}
@@ -34,7 +35,8 @@ by_number t M before true e = inl (refl, e.0 refl)
 by_number t M before false e = inr (refl, λ m. true≢false (sym (e.1 m)))
 
 -- a text means the locale exactly if it was parsed as that
-pub meant : (t : List ℕ) (M N : meaning.Locale) (before after : ℕ) (o : Ordering) (same : Bool) → Means languages t N
+pub meant : (t : List ℕ) (M N : meaning.Locale) (before after : ℕ) (o : Ordering) (same : Bool) →
+    Means languages t N
     → o ≡ locale_cmp M N → same ≡ is_eq o → after ≡ from_bool same → TellsMeant t M before after Done
 meant t M N before after o same n is e a =
     let q = equal_by_order M N o same is e in
@@ -42,9 +44,14 @@ meant t M N before after o same n is e a =
     (λ s. subst (Means languages t) (sym (q.0 s)) n, λ m. q.1 (one_meaning languages_table t M N m n)))
 
 -- memory was refused for the box that a change of `und` wants
-pub lacks_box : (P : Changing) (before after : Option Locale) (l m : Locale) (s : Status) → before ≡ None → after ≡ None
+pub lacks_box : (P : Changing) (before after : Option Locale) (l m : Locale) (s : Status) → before ≡ None →
+    after ≡ None
     → value_of l ≡ unknown_locale → P (value_of l) (value_of m) s → value_of m ≢ unknown_locale
     → Changes P before after OutOfMemory
 lacks_box P before after l m s b a und p other =
     let changed : P unknown_locale (value_of m) s = subst (λ M. P M (value_of m) s) und p in
-    inr (refl, subst (λ x. LacksBox P x after) (sym b) (subst (LacksBox P None) (sym a) (value_of m, s, changed, other)))
+    inr (
+      refl,
+      subst (λ x. LacksBox P x after) (sym b)
+          (subst (LacksBox P None) (sym a) (value_of m, s, changed, other)),
+    )

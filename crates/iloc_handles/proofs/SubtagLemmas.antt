@@ -1,6 +1,7 @@
 -- From what is read to whether it is a subtag.
 use Rattle.iloc_word_set.proofs.CollectorLaws.{ascending}
-use Rattle.std.proofs.Common.{◌≡◌, ◌↔◌, ℕ, ◌<◌, List, [], ◌∷◌, Bool, true, false, IsTrue, Result, length, remove, refl, sym, ap, subst, ◌∙◌, true≢false}
+use Rattle.std.proofs.Common.{◌≡◌, ◌↔◌, ℕ, ◌<◌, List, [], ◌∷◌, Bool, true, false, IsTrue, Result, length}
+use Rattle.std.proofs.Common.{remove, refl, sym, ap, subst, ◌∙◌, true≢false}
 use Rattle.std.specs.Prelude.{MatchResult, not, filter, is_some}
 use Rattle.std.specs.List.{list_any, HoldsAt}
 use Rattle.std.specs.declared.cmp.Ordering.TheVariants.{Equal}
@@ -38,7 +39,8 @@ has_exactly k t w ws b is e h =
     (λ s. (is, subst Among e (sym h ∙ s)), λ p. h ∙ subst Among (sym e) p.1)
 
 -- without a subtag that is not there, all stay
-pub absent_stays : (k : Kind) (t w : List ℕ) (ws after : List (List ℕ)) → w ≡ normal k t → false ≡ list_any (is_same w) ws
+pub absent_stays : (k : Kind) (t w : List ℕ) (ws after : List (List ℕ)) → w ≡ normal k t →
+    false ≡ list_any (is_same w) ws
     → after ≡ filter (λ v. not (is_same w v)) ws → (HasWord k t ws → ⊥) × (after ≡ ws)
 absent_stays k t w ws after e h is =
     let Among : List ℕ → Type 0 = λ v. list_any (is_same v) ws ≡ true in
@@ -60,13 +62,16 @@ removed_ascends x ws i h l at =
     (ascending (filter p ws) (ascending-filter p ws h))
 
 -- a subtag that is not found is not there
-pub absent_word : (k : Kind) (t w : List ℕ) (ws : List (List ℕ)) → w ≡ normal k t → list_any (is_same w) ws ≡ false
+pub absent_word : (k : Kind) (t w : List ℕ) (ws : List (List ℕ)) → w ≡ normal k t →
+    list_any (is_same w) ws ≡ false
     → HasWord k t ws → ⊥
 absent_word k t w ws e h p = true≢false (sym (subst (λ v. list_any (is_same v) ws ≡ true) (sym e) p.1) ∙ h)
 
 -- what a binary search found was there, and without it all others are left
-pub removed_word : (k : Kind) (t w : List ℕ) (slice ws kept : List (List ℕ)) (i : ℕ) → w ≡ normal k t → slice ≡ ws
-    → StrictlyAscends word_cmp ws → i < length slice → HoldsAt (λ y. word_cmp y w ≡ Equal) slice i → kept ≡ remove slice i
+pub removed_word : (k : Kind) (t w : List ℕ) (slice ws kept : List (List ℕ)) (i : ℕ) → w ≡ normal k t →
+    slice ≡ ws
+    → StrictlyAscends word_cmp ws → i < length slice → HoldsAt (λ y. word_cmp y w ≡ Equal) slice i →
+    kept ≡ remove slice i
     → (list_any (is_same (normal k t)) ws ≡ true) × (kept ≡ without_word k t ws)
 removed_word k t w slice ws kept i e same asc bound at is = (
   subst (λ v. list_any (is_same v) ws ≡ true) e (search_old slice ws w i same asc bound at).present,

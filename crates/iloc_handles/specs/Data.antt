@@ -3,8 +3,10 @@ use Rattle.std.specs.Prelude.{ℕ, [], Option, codes, option_map, option_and_the
 use Rattle.iloc_spec_grammar.specs.Syntax.{Text, join}
 use Rattle.iloc_spec_grammar.specs.Meaning.{Locale}
 use Rattle.iloc_spec_preferences.specs.DataLocales.{DataLocale}
-use Rattle.iloc_spec_preferences.specs.Preferences.{language_priority, preferences, read_keyword, region_priority}
-use Rattle.iloc_spec_preferences.specs.Keywords.{CalendarAlgorithm, HourCycle, enum_reads, enum_words, key, single, variants}
+use Rattle.iloc_spec_preferences.specs.Preferences.{language_priority, preferences, read_keyword}
+use Rattle.iloc_spec_preferences.specs.Preferences.{region_priority}
+use Rattle.iloc_spec_preferences.specs.Keywords.{CalendarAlgorithm, HourCycle, enum_reads, enum_words, key}
+use Rattle.iloc_spec_preferences.specs.Keywords.{single, variants}
 use Rattle.iloc_handles.specs.declared.data.Priority.{Priority}
 use Rattle.iloc_handles.specs.declared.data.Priority.TheVariants.{Language, Region}
 

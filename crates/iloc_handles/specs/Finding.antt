@@ -5,7 +5,10 @@ use Rattle.iloc_spec_grammar.specs.Meaning.{Fault}
 use Rattle.iloc_locale.specs.LocaleReading.{unknown_locale}
 use Rattle.iloc_locale.specs.declared.locale.Locale.{Locale}
 use Rattle.iloc_calls.specs.declared.status.Status.{Status}
-use Rattle.iloc_calls.specs.declared.status.Status.TheVariants.{Done, InvalidLanguage, InvalidSubtag, InvalidExtension, DuplicatedExtension, OutOfMemory, BufferTooSmall, UnknownNumber, NotFound}
+use Rattle.iloc_calls.specs.declared.status.Status.TheVariants.{Done, InvalidLanguage, InvalidSubtag}
+use Rattle.iloc_calls.specs.declared.status.Status.TheVariants.{InvalidExtension, DuplicatedExtension}
+use Rattle.iloc_calls.specs.declared.status.Status.TheVariants.{OutOfMemory, BufferTooSmall, UnknownNumber}
+use Rattle.iloc_calls.specs.declared.status.Status.TheVariants.{NotFound}
 use Rattle.iloc_handles.specs.Held.{held_locale}
 
 -- a relation of the locale before, the locale after, and the status

@@ -1,6 +1,7 @@
 -- The parts of the identifier of a locale: what each is, and what setting it does.
 use Rattle.std.specs.Prelude.{◌≡◌, ℕ, ◌≤◌, false, List, [], ◌∷◌, length, slice_get, Option, unwrap_or, codes}
-use Rattle.iloc_spec_grammar.specs.Syntax.{Text, Language, Script, Region, Variant, IsWord, is_word, languages, normal}
+use Rattle.iloc_spec_grammar.specs.Syntax.{Text, Language, Script, Region, Variant, IsWord, is_word}
+use Rattle.iloc_spec_grammar.specs.Syntax.{languages, normal}
 use Rattle.iloc_spec_grammar.specs.Meaning.{Locale, set_of}
 use Rattle.iloc_spec_grammar.specs.Meaning as faults
 use Rattle.iloc_subtags.specs.Judging.{Only}

@@ -1,5 +1,6 @@
 -- Maps of a locale from keys to values: what each is, and what setting and removing a key does.
-use Rattle.std.specs.Prelude.{◌≡◌, ◌⊎◌, ℕ, true, false, not, List, filter, slice_get, Option, None, is_some, option_map, Result, Ok, Err, if◌then◌else◌}
+use Rattle.std.specs.Prelude.{◌≡◌, ◌⊎◌, ℕ, true, false, not, List, filter, slice_get, Option, None, is_some}
+use Rattle.std.specs.Prelude.{option_map, Result, Ok, Err, if◌then◌else◌}
 use Rattle.std.specs.FinMap.{find, put}
 use Rattle.iloc_spec_grammar.specs.Syntax.{Text, Kind, IsWord, is_same, is_word, normal, word_cmp}
 use Rattle.iloc_spec_grammar.specs.Meaning as meaning

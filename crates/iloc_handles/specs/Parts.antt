@@ -4,7 +4,9 @@ use Rattle.iloc_spec_grammar.specs.Syntax.{Text}
 use Rattle.iloc_spec_grammar.specs.Meaning as meaning
 use Rattle.iloc_spec_grammar.specs.Values.{identifier_text, private_text, text}
 use Rattle.iloc_handles.specs.declared.parts.Named.{Named}
-use Rattle.iloc_handles.specs.declared.parts.Named.TheVariants.{Whole, BaseName, Language, Script, Region, TransformLanguage, Private, Calendar, HourCycle, NumberingSystem}
+use Rattle.iloc_handles.specs.declared.parts.Named.TheVariants.{Whole, BaseName, Language, Script, Region}
+use Rattle.iloc_handles.specs.declared.parts.Named.TheVariants.{TransformLanguage, Private, Calendar}
+use Rattle.iloc_handles.specs.declared.parts.Named.TheVariants.{HourCycle, NumberingSystem}
 use Rattle.iloc_handles.specs.Data.{calendar_text, hours_text, numbering_text}
 use Rattle.iloc_handles.specs.Identifier.{text_or_empty}
 use Rattle.iloc_handles.specs.Transform.{transform_language}

@@ -1,12 +1,14 @@
 -- Where the parts of a normal text stand.
-use Rattle.std.proofs.Common.{◌≡◌, ℕ, ◌+◌, ◌-◌, ◌≤◌, List, [], ◌∷◌, ◌++◌, length, map, take, drop, refl, sym, ap, ◌∙◌, arith, append_assoc, length-append}
+use Rattle.std.proofs.Common.{◌≡◌, ℕ, ◌+◌, ◌-◌, ◌≤◌, List, [], ◌∷◌, ◌++◌, length, map, take, drop, refl, sym}
+use Rattle.std.proofs.Common.{ap, ◌∙◌, arith, append_assoc, length-append}
 use Rattle.std.specs.List.{AllByRecursion}
 use Rattle.std.proofs.lemmas.List.{drop_at, take_at}
 use Rattle.iloc_spec_grammar.specs.Meaning.{Locale}
 use Rattle.iloc_spec_grammar.specs.Syntax.{Text, join, pieces}
 use Rattle.iloc_spec_grammar.proofs.PartTexts.{join-dashes}
 use Rattle.iloc_spec_grammar.proofs.PiecesLaws.{join-pieces}
-use Rattle.iloc_kinds.specs.Kinds.{ArePlaced, IsOfKind, IsNormalTextOf, KindedPiece, parts_of, rows_from, rows_of}
+use Rattle.iloc_kinds.specs.Kinds.{ArePlaced, IsOfKind, IsNormalTextOf, KindedPiece, parts_of, rows_from}
+use Rattle.iloc_kinds.specs.Kinds.{rows_of}
 use Rattle.iloc_kinds.specs.declared.state.State.TheVariants.{Start}
 use Rattle.iloc_kinds.proofs.Telling.{text_told, told_pieces}
 
@@ -16,7 +18,8 @@ words_of ps = map (λ (w : KindedPiece). w.1) ps
 are_pieces : (M : Locale) (t : Text) → IsNormalTextOf M t → words_of (parts_of M) ≡ pieces t
 are_pieces M t h = ap words_of (sym (text_told M t h).told) ∙ told_pieces Start (pieces t)
 
-pub joined : (M : Locale) (t : Text) → IsNormalTextOf M t → join (map (λ (w : KindedPiece). w.1) (parts_of M)) ≡ t
+pub joined : (M : Locale) (t : Text) → IsNormalTextOf M t →
+    join (map (λ (w : KindedPiece). w.1) (parts_of M)) ≡ t
 joined M t h = ap join (are_pieces M t h) ∙ join-pieces t
 
 pub words : (M : Locale) (t : Text) → IsNormalTextOf M t → AllByRecursion IsOfKind (parts_of M)
@@ -35,7 +38,8 @@ stands t front p rest at a e =
           ∙ take_at p rest (length p) refl,
     )
 
-placed_from : (t front : Text) (ps : List KindedPiece) (at : ℕ) → at ≡ length front → t ≡ front ++ join (words_of ps)
+placed_from : (t front : Text) (ps : List KindedPiece) (at : ℕ) → at ≡ length front →
+    t ≡ front ++ join (words_of ps)
     → ArePlaced t (rows_from at ps) ps
 placed_from t front [] at a e = tt
 placed_from t front (w ∷ []) at a e =

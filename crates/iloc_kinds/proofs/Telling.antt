@@ -1,25 +1,41 @@
 -- The pieces of a normal text, told from the left, are the parts of its locale.
-use Rattle.std.proofs.Common.{◌≡◌, ◌≢◌, ℕ, ◌≤◌, ◌==◌, Bool, true, false, cond, List, [], ◌∷◌, ◌++◌, length, map, flat_map, Option, Some, None, IfSome, option_map, option_to_list, nat_le, codes, refl, sym, ap, ◌∙◌, subst, arith, append_assoc, append-nil, true≢false}
+use Rattle.std.proofs.Common.{◌≡◌, ◌≢◌, ℕ, ◌≤◌, ◌==◌, Bool, true, false, cond, List, [], ◌∷◌, ◌++◌, length}
+use Rattle.std.proofs.Common.{map, flat_map, Option, Some, None, IfSome, option_map, option_to_list, nat_le}
+use Rattle.std.proofs.Common.{codes, refl, sym, ap, ◌∙◌, subst, arith, append_assoc, append-nil, true≢false}
 use Rattle.std.specs.Char.{to_ascii_lowercase, is_ascii_alphanumeric}
 use Rattle.std.specs.List.{AllByRecursion}
 use Rattle.std.proofs.lemmas.Bool.{false_from_ne_true, and_parts}
 use Rattle.std.proofs.lemmas.Bool.Decides.{nat_tests}
-use Rattle.iloc_spec_grammar.specs.Syntax.{Text, Block, Language, Script, Region, Variant, Subtag, UnicodeKey, TransformKey, Attribute, PrivateSubtag, Bounds, languages, is_word, IsWord, is_one_byte, is_other_singleton, SpelledIdentifier, Unicode, Transform, Fields, identifier_pieces, is_true, optional_pieces, fields_pieces, unicode_pieces, HasWords, IsHyphenFree, pieces, join}
+use Rattle.iloc_spec_grammar.specs.Syntax.{Text, Block, Language, Script, Region, Variant, Subtag, UnicodeKey}
+use Rattle.iloc_spec_grammar.specs.Syntax.{TransformKey, Attribute, PrivateSubtag, Bounds, languages, is_word}
+use Rattle.iloc_spec_grammar.specs.Syntax.{IsWord, is_one_byte, is_other_singleton, SpelledIdentifier}
+use Rattle.iloc_spec_grammar.specs.Syntax.{Unicode, Transform, Fields, identifier_pieces, is_true}
+use Rattle.iloc_spec_grammar.specs.Syntax.{optional_pieces, fields_pieces, unicode_pieces, HasWords}
+use Rattle.iloc_spec_grammar.specs.Syntax.{IsHyphenFree, pieces, join}
 use Rattle.iloc_spec_grammar.specs.Syntax as words
 use Rattle.iloc_spec_grammar.specs.Meaning.{Locale, Extensions}
 use Rattle.iloc_spec_grammar.specs.Tree.{before_t, after_t, spelled_identifier}
-use Rattle.iloc_spec_grammar.specs.Values.{IsNormal, AreWellFormed, IsExtensionsValue, IsIdentifierValue, lower_identifier, spelled_value, spelled_fields, printed_pieces, unicode_spelling, transform_spelling, other_spelling, private_spelling, extensions_spelling}
+use Rattle.iloc_spec_grammar.specs.Values.{IsNormal, AreWellFormed, IsExtensionsValue, IsIdentifierValue}
+use Rattle.iloc_spec_grammar.specs.Values.{lower_identifier, spelled_value, spelled_fields, printed_pieces}
+use Rattle.iloc_spec_grammar.specs.Values.{unicode_spelling, transform_spelling, other_spelling}
+use Rattle.iloc_spec_grammar.specs.Values.{private_spelling, extensions_spelling}
 use Rattle.iloc_spec_grammar.proofs.General.{some_mapped, all_mapped}
 use Rattle.iloc_spec_grammar.proofs.PartTexts.{spelling_of_parts, id_pieces-low}
 use Rattle.iloc_spec_grammar.proofs.PiecesLaws.{pieces-join}
 use Rattle.iloc_spec_grammar.proofs.RawLaws.{languages_table}
 use Rattle.iloc_spec_grammar.proofs.ReadBack.{word_hyphen_free, all_append}
 use Rattle.iloc_spec_grammar.proofs.Readings.{language_no_key, identifier_no_key}
-use Rattle.iloc_spec_grammar.proofs.ValuesLaws.{value_words, value_identifier, lower_is_identifier, all_weaker, all_both, spelled_rule}
-use Rattle.iloc_spec_grammar.proofs.WordsLaws.{length-language, length-script, length-region, length-variant, length-attribute, length-unicode_key, length-transform_key, region_no_script, variant_no_script, variant_no_region}
+use Rattle.iloc_spec_grammar.proofs.ValuesLaws.{value_words, value_identifier, lower_is_identifier}
+use Rattle.iloc_spec_grammar.proofs.ValuesLaws.{all_weaker, all_both, spelled_rule}
+use Rattle.iloc_spec_grammar.proofs.WordsLaws.{length-language, length-script, length-region, length-variant}
+use Rattle.iloc_spec_grammar.proofs.WordsLaws.{length-attribute, length-unicode_key, length-transform_key}
+use Rattle.iloc_spec_grammar.proofs.WordsLaws.{region_no_script, variant_no_script, variant_no_region}
 use Rattle.iloc_pieces.specs.Left.{IsShortPiece}
 use Rattle.iloc_pieces.proofs.LeftLemmas.{short_word}
-use Rattle.iloc_kinds.specs.Kinds.{KindedPiece, of_kind, parts_of_identifier, parts_of_optional, parts_of_fields, parts_of_block, parts_of_transform, parts_of_unicode, parts_of_others, parts_of_private, parts_of_extensions, parts_of, IsOfKind, IsNormalTextOf}
+use Rattle.iloc_kinds.specs.Kinds.{KindedPiece, of_kind, parts_of_identifier, parts_of_optional}
+use Rattle.iloc_kinds.specs.Kinds.{parts_of_fields, parts_of_block, parts_of_transform, parts_of_unicode}
+use Rattle.iloc_kinds.specs.Kinds.{parts_of_others, parts_of_private, parts_of_extensions, parts_of, IsOfKind}
+use Rattle.iloc_kinds.specs.Kinds.{IsNormalTextOf}
 use Rattle.iloc_kinds.specs.Steps.{AreShortPieces, begun, inside, step, told, word_kind}
 use Rattle.iloc_kinds.specs.declared.kind.Kind.{Kind}
 use Rattle.iloc_kinds.specs.declared.kind.Kind.TheVariants as kinds
@@ -100,7 +116,8 @@ en_is = refl
 
 region_no_key : (p : Text) → IsWord Region p → is_word TransformKey p ≡ false
 region_no_key p h =
-    let i : SpelledIdentifier = record { language = codes "en"; script = None; region = Some p; variants = [] } in
+    let i : SpelledIdentifier =
+    record { language = codes "en"; script = None; region = Some p; variants = [] } in
     let words : HasWords languages i = record { language = en_is; script = tt; region = h; variants = tt } in
     (identifier_no_key {T = languages} i words).1.0
 
@@ -203,7 +220,8 @@ pub record AreTold (s : State) (ps : List Text) (parts : List KindedPiece) : Typ
 nothing_told : (s : State) → is_open s ≡ true → AreTold s [] []
 nothing_told s o = record { each = λ qs begins. begins s o; words = tt }
 
-one_told : {s next : State} {k : Kind} {ps : List Text} {parts : List KindedPiece} (p : Text) → step s p ≡ (k, next)
+one_told : {s next : State} {k : Kind} {ps : List Text} {parts : List KindedPiece} (p : Text) →
+    step s p ≡ (k, next)
     → IsOfKind (k, p)
     → AreTold next ps parts → AreTold s (p ∷ ps) ((k, p) ∷ parts)
 one_told {k = k} {ps = ps} p is word h = record {
@@ -215,7 +233,8 @@ one_told {k = k} {ps = ps} p is word h = record {
 each_told : (s : State) (k : Kind) (K : words.Kind) → ((p : Text) → IsWord K p → IsOfKind (k, p))
     → ((p : Text) → IsWord K p → step s p ≡ (k, s))
     → (ws : List Text) → AllByRecursion (IsWord K) ws
-    → {ps : List Text} {parts : List KindedPiece} → AreTold s ps parts → AreTold s (ws ++ ps) (of_kind k ws ++ parts)
+    → {ps : List Text} {parts : List KindedPiece} → AreTold s ps parts →
+    AreTold s (ws ++ ps) (of_kind k ws ++ parts)
 each_told s k K b is [] h rest = rest
 each_told s k K b is (w ∷ ws) h rest =
     one_told w (is w h.0) (b w h.0) (each_told s k K b is ws h.1 rest)
@@ -444,7 +463,8 @@ module _ (e : Extensions) (v : IsExtensionsValue languages e) (w : AreWellFormed
   source_is : IfSome (option_map lower_identifier e.transform.id) (HasWords languages)
   source_is =
       some_mapped (IsIdentifierValue languages) (HasWords languages) lower_identifier
-      (λ i g. (lower_is_identifier (spelled_identifier i) (value_identifier i g)).words) e.transform.id v.transform.id
+      (λ i g. (lower_is_identifier (spelled_identifier i) (value_identifier i g)).words) e.transform.id
+      v.transform.id
 
   fields_are : AreFields TransformKey (spelled_fields e.transform.fields)
   fields_are =
@@ -488,7 +508,8 @@ unfolding parts_of
 text_told M t h =
     let e = M.extensions in
     let rest = extensions_rest e h.value.extensions h.tests in
-    let id = identifier_told {first = states.Start} {s = states.Head} language_in_start head_takes (spelled_identifier M.id)
+    let id = identifier_told {first = states.Start} {s = states.Head} language_in_start head_takes
+    (spelled_identifier M.id)
     (value_words h.value.id) (nothing_told states.Head refl) in
     let front = told_as (append-nil (identifier_pieces M.id)) (append-nil (parts_of_identifier M.id)) id in
     let all = identifier_pieces M.id ++ extensions_spelling e in
@@ -497,7 +518,8 @@ text_told M t h =
     let words : AllByRecursion IsOfKind (parts_of M) =
     all_append IsOfKind (parts_of_identifier M.id) (parts_of_extensions e) front.words rest.words in
     let plain : AllByRecursion IsPlain all =
-    subst (AllByRecursion IsPlain) (ap (map (λ (w : KindedPiece). w.1)) (sym are) ∙ told_pieces states.Start all)
+    subst (AllByRecursion IsPlain)
+    (ap (map (λ (w : KindedPiece). w.1)) (sym are) ∙ told_pieces states.Start all)
     (all_mapped IsOfKind IsPlain (λ w. w.1) plain_of (parts_of M) words) in
     let cut : pieces t ≡ all = ap pieces h.text ∙ pieces-join M.id.language _
     (all_weaker IsPlain IsHyphenFree (λ p h. h.1) all plain) in

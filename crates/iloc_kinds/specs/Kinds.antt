@@ -1,13 +1,16 @@
 -- The parts of a locale's normal text, each a kind and a piece, and the rows that say where they
 -- stand. Restates the canonical syntax of UTS #35, section 3.2.1, with the names of its parts.
-use Rattle.std.specs.Prelude.{◌≡◌, ⊤, ℕ, ◌+◌, ◌-◌, ◌≤◌, List, [], ◌∷◌, ◌++◌, length, take, drop, map, flat_map, Option, Some, None, option_map, option_to_list}
-use Rattle.iloc_spec_grammar.specs.Syntax.{Text, Block, code_t, code_u, code_x, Stage, IdentifierOf, SpelledIdentifier, Unicode, Transform, Fields, IsWord, languages}
+use Rattle.std.specs.Prelude.{◌≡◌, ⊤, ℕ, ◌+◌, ◌-◌, ◌≤◌, List, [], ◌∷◌, ◌++◌, length, take, drop, map}
+use Rattle.std.specs.Prelude.{flat_map, Option, Some, None, option_map, option_to_list}
+use Rattle.iloc_spec_grammar.specs.Syntax.{Text, Block, code_t, code_u, code_x, Stage, IdentifierOf}
+use Rattle.iloc_spec_grammar.specs.Syntax.{SpelledIdentifier, Unicode, Transform, Fields, IsWord, languages}
 use Rattle.iloc_spec_grammar.specs.Syntax as words
 use Rattle.iloc_spec_grammar.specs.Meaning.{Locale, Extensions}
 use Rattle.iloc_spec_grammar.specs.Values.{AreWellFormed, IsValue, lower_identifier, spelled_fields, text}
 use Rattle.iloc_spec_grammar.specs.Tree.{before_t, after_t}
 use Rattle.iloc_kinds.specs.declared.kind.Kind.{Kind}
-use Rattle.iloc_kinds.specs.declared.kind.Kind.TheVariants.{Language, Script, Region, Variant, Singleton, Attribute, Key, Value, Field, Other, Private}
+use Rattle.iloc_kinds.specs.declared.kind.Kind.TheVariants.{Language, Script, Region, Variant, Singleton}
+use Rattle.iloc_kinds.specs.declared.kind.Kind.TheVariants.{Attribute, Key, Value, Field, Other, Private}
 
 -- a piece, and what it is
 abbrev pub KindedPiece : Type 0

@@ -2,14 +2,16 @@
 use Rattle.std.specs.Prelude.{ℕ, Bool, false, ◌==◌, List, [], ◌∷◌, slice_index, if◌then◌else◌}
 use Rattle.std.specs.Char.{to_ascii_lowercase}
 use Rattle.std.specs.List.{AllByRecursion}
-use Rattle.iloc_spec_grammar.specs.Syntax.{Text, code_t, code_u, code_x, is_one_byte, is_word, TransformKey, UnicodeKey}
+use Rattle.iloc_spec_grammar.specs.Syntax.{Text, code_t, code_u, code_x, is_one_byte, is_word, TransformKey}
+use Rattle.iloc_spec_grammar.specs.Syntax.{UnicodeKey}
 use Rattle.iloc_spec_grammar.specs.Syntax as words
 use Rattle.iloc_pieces.specs.Left.{IsShortPiece}
 use Rattle.iloc_kinds.specs.Kinds.{KindedPiece}
 use Rattle.iloc_kinds.specs.declared.kind.Kind.{Kind}
 use Rattle.iloc_kinds.specs.declared.kind.Kind.TheVariants as kinds
 use Rattle.iloc_kinds.specs.declared.state.State.{State}
-use Rattle.iloc_kinds.specs.declared.state.State.TheVariants.{Start, Head, Transform, Source, Fields, Attributes, Keywords, Other, Private}
+use Rattle.iloc_kinds.specs.declared.state.State.TheVariants.{Start, Head, Transform, Source, Fields}
+use Rattle.iloc_kinds.specs.declared.state.State.TheVariants.{Attributes, Keywords, Other, Private}
 
 -- what a word after a language is
 abbrev pub word_kind : Text → Kind

@@ -1,5 +1,7 @@
 -- The first LF, told by masks of some bytes.
-use Rattle.std.proofs.Common.{◌≡◌, ◌≢◌, suc, ◌++◌, ◌∷◌, None, ℕ, ◌^◌, ◌<◌, ◌≤◌, Bool, true, false, not, List, length, map, get_or, take, drop, ◌+◌, ◌-◌, refl, sym, ap, ◌∙◌, subst, arith, inl, inr, Some}
+use Rattle.std.proofs.Common.{◌≡◌, ◌≢◌, suc, ◌++◌, ◌∷◌, None, ℕ, ◌^◌, ◌<◌, ◌≤◌, Bool, true, false, not, List}
+use Rattle.std.proofs.Common.{length, map, get_or, take, drop, ◌+◌, ◌-◌, refl, sym, ap, ◌∙◌, subst, arith}
+use Rattle.std.proofs.Common.{inl, inr, Some}
 use Rattle.std.specs.List.{prefix_len}
 use Rattle.std.proofs.lemmas.Bool.{false≢true, cases_lt}
 use Rattle.std.proofs.lemmas.List.{get_or-take, get_or-drop, length-drop, length-take-le, length-map}
@@ -24,20 +26,23 @@ not-true true e = refl
 not-true false e = sym e
 
 -- where fewer than n of the first n bytes come before the first that passes, it stands after these
-pub first_passes : (p : ℕ → Bool) (hay : List ℕ) (n k : ℕ) → n ≤ length hay → k ≡ prefix_len (λ b. not (p b)) (take n hay) → k < n
+pub first_passes : (p : ℕ → Bool) (hay : List ℕ) (n k : ℕ) → n ≤ length hay →
+    k ≡ prefix_len (λ b. not (p b)) (take n hay) → k < n
     → length (take n hay) ≡ n → NoneBefore (Passes p hay) 0 (length hay) k × Passes p hay k
 first_passes p hay n k within e few long =
     let q = λ (b : ℕ). not (p b) in
     let there : prefix_len q (take n hay) < length (take n hay) = omega arith in
     let here : p (get_or hay k 0) ≡ true =
-    ap p (sym (get_or-take n hay k 0 few)) ∙ ap (λ i. p (get_or (take n hay) i 0)) e ∙ not-true _ (prefix_len_stops q (take n hay) 0 there) in (
+    ap p (sym (get_or-take n hay k 0 few)) ∙ ap (λ i. p (get_or (take n hay) i 0)) e
+    ∙ not-true _ (prefix_len_stops q (take n hay) 0 there) in (
       record {
         low = omega arith;
         high = omega arith;
         before = λ i low less passes.
             let early : i < prefix_len q (take n hay) = omega arith in
             let small : i < n = omega arith in
-            let none : p (get_or hay i 0) ≡ false = ap p (sym (get_or-take n hay i 0 small)) ∙ not-false _ (prefix_len_passes q (take n hay) i 0 early) in
+            let none : p (get_or hay i 0) ≡ false = ap p (sym (get_or-take n hay i 0 small))
+            ∙ not-false _ (prefix_len_passes q (take n hay) i 0 early) in
             absurd (false≢true (sym none ∙ passes));
       },
       here,
@@ -51,11 +56,13 @@ module _ (n : ℕ) (hay : List ℕ) (long : n ≤ length hay) (few : n ≤ 64) (
   size = length-take-le n hay long
 
   -- a mask of so many bytes that is not empty has its lowest bit where the first LF stands
-  pub first_end : (m : ℕ) → m ≡ mask_l (map (is_byte 10) front) → 0 < m → IsFirstByte (is_byte 10) hay (Some (count_trailing_zeros 64 m))
+  pub first_end : (m : ℕ) → m ≡ mask_l (map (is_byte 10) front) → 0 < m →
+      IsFirstByte (is_byte 10) hay (Some (count_trailing_zeros 64 m))
   first_end m e some =
       let p = is_byte 10 in
       let lanes : length (map p front) ≡ n = length-map front p ∙ size in
-      let below : mask_l (map p front) < 2 ^ n = subst (λ (k : ℕ). mask_l (map p front) < 2 ^ k) lanes (mask_l-lt (map p front)) in
+      let below : mask_l (map p front) < 2 ^ n =
+      subst (λ (k : ℕ). mask_l (map p front) < 2 ^ k) lanes (mask_l-lt (map p front)) in
       let small : m < 2 ^ n = omega arith in
       let place = count_trailing_zeros 64 m in
       let lowest = bit_at-trailing_zeros w64 m some (omega arith) in
@@ -64,20 +71,25 @@ module _ (n : ℕ) (hay : List ℕ) (long : n ≤ length hay) (few : n ≤ 64) (
         | inr more ↦ absurd (omega (arith, lowest.1, bit_at_above m n place small more))
       ] in
       first_passes p hay n place long
-      (ap (count_trailing_zeros 64) e ∙ trailing_mask_l p 64 front (omega (arith, size)) (subst (λ (k : ℕ). 0 < k) e some)) within size
+      (ap (count_trailing_zeros 64) e
+      ∙ trailing_mask_l p 64 front (omega (arith, size)) (subst (λ (k : ℕ). 0 < k) e some)) within size
 
 -- where the mask of the first n is empty, none of them passes
-pub none_passes : (p : ℕ → Bool) (hay : List ℕ) (n : ℕ) → n ≤ length hay → mask_l (map p (take n hay)) ≡ 0 → Nowhere (Passes p hay) 0 n
+pub none_passes : (p : ℕ → Bool) (hay : List ℕ) (n : ℕ) → n ≤ length hay → mask_l (map p (take n hay)) ≡ 0 →
+    Nowhere (Passes p hay) 0 n
 none_passes p hay n within e i low less passes =
     let q = λ (b : ℕ). not (p b) in
     let all : prefix_len q (take n hay) ≡ length (take n hay) = leading_from_mask_l p (take n hay) e in
     let there : i < prefix_len q (take n hay) = omega (arith, all, length-take-le n hay within) in
-    let none : p (get_or hay i 0) ≡ false = ap p (sym (get_or-take n hay i 0 less)) ∙ not-false _ (prefix_len_passes q (take n hay) i 0 there) in
+    let none : p (get_or hay i 0) ≡ false =
+    ap p (sym (get_or-take n hay i 0 less)) ∙ not-false _ (prefix_len_passes q (take n hay) i 0 there) in
     false≢true (sym none ∙ passes)
 
 -- the first that passes in what follows, where none does before
-later_passes : (p : ℕ → Bool) (hay part : List ℕ) (at k : ℕ) → Nowhere (Passes p hay) 0 at → length hay ≡ at + length part → ((i : ℕ) → i < length part → get_or part i 0 ≡ get_or hay (at + i) 0)
-    → NoneBefore (Passes p part) 0 (length part) k × Passes p part k → NoneBefore (Passes p hay) 0 (length hay) (at + k) × Passes p hay (at + k)
+later_passes : (p : ℕ → Bool) (hay part : List ℕ) (at k : ℕ) → Nowhere (Passes p hay) 0 at →
+    length hay ≡ at + length part → ((i : ℕ) → i < length part → get_or part i 0 ≡ get_or hay (at + i) 0)
+    → NoneBefore (Passes p part) 0 (length part) k × Passes p part k →
+    NoneBefore (Passes p hay) 0 (length hay) (at + k) × Passes p hay (at + k)
 later_passes p hay part at k none long same f = (
   record {
     low = omega arith;
@@ -87,22 +99,26 @@ later_passes p hay part at k none long same f = (
       | inr late ↦
           let there : at + (i - at) ≡ i = omega arith in
           let inside : i - at < length part = omega (arith, f.0.high) in
-          f.0.before (i - at) (omega arith) (omega arith) (ap p (same (i - at) inside ∙ ap (λ j. get_or hay j 0) there) ∙ passes)
+          f.0.before (i - at) (omega arith) (omega arith)
+          (ap p (same (i - at) inside ∙ ap (λ j. get_or hay j 0) there) ∙ passes)
     ];
   },
   ap p (sym (same k f.0.high)) ∙ f.1,
 )
 
 -- the first LF, told by a mask of the n bytes that follow, where none comes before
-pub later_end : (at n : ℕ) (hay : List ℕ) → at + n ≤ length hay → n ≤ 64 → 2 ^ n ≤ 2 ^ 64 → Nowhere (Passes (is_byte 10) hay) 0 at
-    → (m : ℕ) → m ≡ mask_l (map (is_byte 10) (take n (drop at hay))) → 0 < m → IsFirstByte (is_byte 10) hay (Some (at + count_trailing_zeros 64 m))
+pub later_end : (at n : ℕ) (hay : List ℕ) → at + n ≤ length hay → n ≤ 64 → 2 ^ n ≤ 2 ^ 64 →
+    Nowhere (Passes (is_byte 10) hay) 0 at
+    → (m : ℕ) → m ≡ mask_l (map (is_byte 10) (take n (drop at hay))) → 0 < m →
+    IsFirstByte (is_byte 10) hay (Some (at + count_trailing_zeros 64 m))
 later_end at n hay long few fits none m e some =
     let size : length (drop at hay) ≡ length hay - at = length-drop at hay in
     later_passes (is_byte 10) hay (drop at hay) at (count_trailing_zeros 64 m) none (omega (arith, size))
     (λ i less. get_or-drop at hay i 0) (first_end n (drop at hay) (omega (arith, size)) few fits m e some)
 
 -- where that mask is empty too, none is among all of them
-pub none_later : (p : ℕ → Bool) (at n : ℕ) (hay : List ℕ) → at + n ≤ length hay → Nowhere (Passes p hay) 0 at → mask_l (map p (take n (drop at hay))) ≡ 0
+pub none_later : (p : ℕ → Bool) (at n : ℕ) (hay : List ℕ) → at + n ≤ length hay →
+    Nowhere (Passes p hay) 0 at → mask_l (map p (take n (drop at hay))) ≡ 0
     → Nowhere (Passes p hay) 0 (at + n)
 none_later p at n hay long none e i low less passes = elim (cases_lt i at) [
   | inl early ↦ none i low early passes
@@ -114,7 +130,8 @@ none_later p at n hay long none e i low less passes = elim (cases_lt i at) [
 
 -- ---- where the line ends
 
-none_before : (hay : List ℕ) (k : ℕ) → k ≤ length hay → Nowhere (Passes (is_byte 10) hay) 0 k → IsOneLine (take k hay)
+none_before : (hay : List ℕ) (k : ℕ) → k ≤ length hay → Nowhere (Passes (is_byte 10) hay) 0 k →
+    IsOneLine (take k hay)
 none_before hay k within none =
     All-from_get_or (λ c. c ≢ 10) (take k hay) 0
     (λ i less e.
@@ -136,4 +153,8 @@ end_there hay k f = record {
     next = omega arith
 
 pub end_nowhere : (hay : List ℕ) → IsFirstByte (is_byte 10) hay None → IsLineEnd hay (length hay)
-end_nowhere hay none = record { within = omega arith; before = none_before hay (length hay) (omega arith) none; newline = λ less. absurd (omega arith) }
+end_nowhere hay none = record {
+  within = omega arith;
+  before = none_before hay (length hay) (omega arith) none;
+  newline = λ less. absurd (omega arith);
+}

@@ -9,14 +9,17 @@ use Rattle.iloc_lines.proofs.LineCuts.{lines_of-cut, lines_of-last}
 pub reads_ended : ReadsEnded
 reads_ended [] h = refl
 reads_ended (line ∷ lines) h =
-    rw append_assoc (lines_of-cut line (ended lines) h.0 ∙ ap (λ (t : List (List ℕ)). line ∷ t) (reads_ended lines h.1))
+    rw append_assoc
+    (lines_of-cut line (ended lines) h.0 ∙ ap (λ (t : List (List ℕ)). line ∷ t) (reads_ended lines h.1))
 
 pub reads_open : ReadsOpen
 reads_open [] [] h o some = absurd (some refl)
 reads_open [] (c ∷ last) h o some = lines_of-last c last o
 reads_open (line ∷ lines) last h o some =
-    let joined : (line ++ 10 ∷ []) ++ ended lines ++ last ≡ line ++ 10 ∷ (ended lines ++ last) = simp append_assoc in
-    rw joined (lines_of-cut line (ended lines ++ last) h.0 ∙ ap (λ (t : List (List ℕ)). line ∷ t) (reads_open lines last h.1 o some))
+    let joined : (line ++ 10 ∷ []) ++ ended lines ++ last ≡ line ++ 10 ∷ (ended lines ++ last) =
+    simp append_assoc in
+    rw joined (lines_of-cut line (ended lines ++ last) h.0
+    ∙ ap (λ (t : List (List ℕ)). line ∷ t) (reads_open lines last h.1 o some))
 
 Form : List ℕ → Type 0
 Form text = (lines : List (List ℕ)) × AllByRecursion IsOneLine lines
@@ -24,19 +27,46 @@ Form text = (lines : List (List ℕ)) × AllByRecursion IsOneLine lines
 
 cut : (c : ℕ) (text : List ℕ) → c ≡ 10 → Form text → Form (c ∷ text)
 unfolding Form
-cut c text e (lines, h, inl whole) = ([] ∷ lines, (All-nil (λ (b : ℕ). b ≢ 10), h), inl (rw e (ap (λ (t : List ℕ). 10 ∷ t) whole)))
-cut c text e (lines, h, inr (last, o, some, whole)) =
-    ([] ∷ lines, (All-nil (λ (b : ℕ). b ≢ 10), h), inr (last, o, some, rw e (ap (λ (t : List ℕ). 10 ∷ t) whole)))
+cut c text e (lines, h, inl whole) =
+    ([] ∷ lines, (All-nil (λ (b : ℕ). b ≢ 10), h), inl (rw e (ap (λ (t : List ℕ). 10 ∷ t) whole)))
+cut c text e (lines, h, inr (last, o, some, whole)) = (
+  [] ∷ lines,
+  (All-nil (λ (b : ℕ). b ≢ 10), h),
+  inr (last, o, some, rw e (ap (λ (t : List ℕ). 10 ∷ t) whole)),
+)
 
 grown : (c : ℕ) (text : List ℕ) → c ≢ 10 → Form text → Form (c ∷ text)
 unfolding Form
-grown c text e ([], h, inl whole) = ([], tt, inr (c ∷ [], All-cons (λ (b : ℕ). b ≢ 10) c [] e (All-nil (λ (b : ℕ). b ≢ 10)), (λ (z : c ∷ [] ≡ []). cc), ap (λ (t : List ℕ). c ∷ t) whole))
-grown c text e (line ∷ lines, h, inl whole) =
-    ((c ∷ line) ∷ lines, (All-cons (λ (b : ℕ). b ≢ 10) c line e h.0, h.1), inl (ap (λ (t : List ℕ). c ∷ t) whole))
-grown c text e ([], h, inr (last, o, some, whole)) =
-    ([], tt, inr (c ∷ last, All-cons (λ (b : ℕ). b ≢ 10) c last e o, (λ (z : c ∷ last ≡ []). cc), ap (λ (t : List ℕ). c ∷ t) whole))
-grown c text e (line ∷ lines, h, inr (last, o, some, whole)) =
-    ((c ∷ line) ∷ lines, (All-cons (λ (b : ℕ). b ≢ 10) c line e h.0, h.1), inr (last, o, some, ap (λ (t : List ℕ). c ∷ t) whole))
+grown c text e ([], h, inl whole) = (
+  [],
+  tt,
+  inr (
+    c ∷ [],
+    All-cons (λ (b : ℕ). b ≢ 10) c [] e (All-nil (λ (b : ℕ). b ≢ 10)),
+    (λ (z : c ∷ [] ≡ []). cc),
+    ap (λ (t : List ℕ). c ∷ t) whole,
+  ),
+)
+grown c text e (line ∷ lines, h, inl whole) = (
+  (c ∷ line) ∷ lines,
+  (All-cons (λ (b : ℕ). b ≢ 10) c line e h.0, h.1),
+  inl (ap (λ (t : List ℕ). c ∷ t) whole),
+)
+grown c text e ([], h, inr (last, o, some, whole)) = (
+  [],
+  tt,
+  inr (
+    c ∷ last,
+    All-cons (λ (b : ℕ). b ≢ 10) c last e o,
+    (λ (z : c ∷ last ≡ []). cc),
+    ap (λ (t : List ℕ). c ∷ t) whole,
+  ),
+)
+grown c text e (line ∷ lines, h, inr (last, o, some, whole)) = (
+  (c ∷ line) ∷ lines,
+  (All-cons (λ (b : ℕ). b ≢ 10) c line e h.0, h.1),
+  inr (last, o, some, ap (λ (t : List ℕ). c ∷ t) whole),
+)
 
 by_byte : (c : ℕ) (text : List ℕ) → Form text → (c ≡ 10) ⊎ (c ≢ 10) → Form (c ∷ text)
 by_byte c text f (inl e) = cut c text e f

@@ -1,5 +1,5 @@
--- Entries put in one by one make the map of them, where the last of equal keys stays; added one by one, where the first
--- does.
+-- Entries put in one by one make the map of them, where the last of equal keys stays; added one by one, where
+-- the first does.
 use Rattle.std.proofs.Common.{◌≡◌, Bool, true, false, true≢false, cond, List, [], ◌∷◌, ◌++◌, reverse}
 use Rattle.std.proofs.Common.{Option, Some, None, is_some, refl, sym, ap, ap₂, ◌∙◌, append_assoc, append-nil}
 use Rattle.std.specs.declared.cmp.Ordering.{Ordering}
@@ -17,7 +17,8 @@ use Rattle.iloc_spec_grammar.proofs.SetLaws.{find-append}
 use Rattle.iloc_litemap.specs.Pairs.{HasAscendingKeys}
 
 -- keys that tie are one
-pub tied : {K : Type 0} (R : K → K → Ordering) → IsAntisymmetric R → (q k : K) → eq_by_cmp R q k ≡ true → q ≡ k
+pub tied : {K : Type 0} (R : K → K → Ordering) → IsAntisymmetric R → (q k : K) → eq_by_cmp R q k ≡ true →
+    q ≡ k
 tied R same q k h = same q k ((Equal-is (R q k)).0 h)
 
 -- the pairs xs put in one by one, so that the last of equal keys stays
@@ -46,24 +47,30 @@ module _ {K X : Type 0} (R : K → K → Ordering) where
 
   put_over : (es fs : List (K × X)) → put_all R (map_of R es) fs ≡ map_of R (reverse fs ++ es)
   put_over es [] = refl
-  put_over es (f ∷ fs) = put_over (f ∷ es) fs ∙ ap (map_of R) (sym (append_assoc (reverse fs) (f ∷ []) es) ∙ ap (λ l. l ++ es) (sym (reverse-append (f ∷ []) fs)))
+  put_over es (f ∷ fs) = put_over (f ∷ es) fs
+      ∙ ap (map_of R)
+      (sym (append_assoc (reverse fs) (f ∷ []) es) ∙ ap (λ l. l ++ es) (sym (reverse-append (f ∷ []) fs)))
 
-  pub put_all_over : (es fs : List (K × X)) → HasAscendingKeys R es → put_all R es fs ≡ map_of R (reverse fs ++ es)
+  pub put_all_over : (es fs : List (K × X)) → HasAscendingKeys R es →
+      put_all R es fs ≡ map_of R (reverse fs ++ es)
   put_all_over es fs s = ap (λ m. put_all R m fs) (sym (map_of_sorted R es s)) ∙ put_over es fs
 
   -- a key below all others is none of them
   absent : (k : K) (es : List (K × X)) → below_all R k es ≡ true → find R k es ≡ None
   absent k [] b = refl
-  absent k (e ∷ es) b = let parts = and_parts _ _ b in ap₂ (λ r o. cond (is_eq r) (Some e.1) o) (less _ parts.0) (absent k es parts.1)
+  absent k (e ∷ es) b = let parts = and_parts _ _ b in
+      ap₂ (λ r o. cond (is_eq r) (Some e.1) o) (less _ parts.0) (absent k es parts.1)
 
   -- a key that is there hides what comes after
-  hidden : (b : Bool) (o : Option X) (v : X) → (b ≡ true → is_some o ≡ true) → option_or o (cond b (Some v) None) ≡ o
+  hidden : (b : Bool) (o : Option X) (v : X) → (b ≡ true → is_some o ≡ true) →
+      option_or o (cond b (Some v) None) ≡ o
   hidden true None v h = absurd (true≢false (sym (h refl)))
   hidden false None v h = refl
   hidden b (Some x) v h = refl
 
   -- a key that isn't there is added
-  shown : (b : Bool) (o : Option X) (v : X) → (b ≡ true → is_some o ≡ false) → option_or o (cond b (Some v) None) ≡ cond b (Some v) o
+  shown : (b : Bool) (o : Option X) (v : X) → (b ≡ true → is_some o ≡ false) →
+      option_or o (cond b (Some v) None) ≡ cond b (Some v) o
   shown true None v h = refl
   shown false None v h = refl
   shown true (Some x) v h = absurd (true≢false (h refl))
@@ -75,18 +82,31 @@ module _ {K X : Type 0} (R : K → K → Ordering) where
     find-reverse q (e ∷ es) s =
         let parts = and_parts _ _ s in
         ap (find R q) (reverse-append (e ∷ []) es)
-        ∙ entries.find-append R total (reverse es) e.0 e.1 q (find-reverse e.0 es parts.1 ∙ absent e.0 es parts.0)
+        ∙ entries.find-append R total (reverse es) e.0 e.1 q
+        (find-reverse e.0 es parts.1 ∙ absent e.0 es parts.0)
         ∙ ap (cond (eq_by_cmp R q e.0) (Some e.1)) (find-reverse q es parts.1)
 
     module _ (same : IsAntisymmetric R) where
       -- a map put over another: its entries win, in whatever order they come
-      pub reversed_over : (es fs : List (K × X)) → HasAscendingKeys R fs → map_of R (reverse fs ++ es) ≡ map_of R (fs ++ es)
-      reversed_over es fs s = map_of_same R total same _ _ (λ q. find-append R q (reverse fs) es ∙ ap (λ o. option_or o (find R q es)) (find-reverse q fs s) ∙ sym (find-append R q fs es))
+      pub reversed_over : (es fs : List (K × X)) → HasAscendingKeys R fs →
+          map_of R (reverse fs ++ es) ≡ map_of R (fs ++ es)
+      reversed_over es fs s = map_of_same R total same _ _ (λ q. find-append R q (reverse fs) es
+          ∙ ap (λ o. option_or o (find R q es)) (find-reverse q fs s) ∙ sym (find-append R q fs es))
 
-      at_last : (es : List (K × X)) (k : K) (v : X) (b : Bool) → is_some (find R k es) ≡ b → map_of R (es ++ (k, v) ∷ []) ≡ cond b (map_of R es) (put R k v (map_of R es))
-      at_last es k v true h = map_of_same R total same _ _ (λ q. find-append R q es ((k, v) ∷ []) ∙ hidden (eq_by_cmp R q k) (find R q es) v (λ t. ap (λ x. is_some (find R x es)) (tied R same q k t) ∙ h))
-      at_last es k v false h = map_of_same R total same (es ++ (k, v) ∷ []) ((k, v) ∷ es) (λ q. find-append R q es ((k, v) ∷ []) ∙ shown (eq_by_cmp R q k) (find R q es) v (λ t. ap (λ x. is_some (find R x es)) (tied R same q k t) ∙ h))
+      at_last : (es : List (K × X)) (k : K) (v : X) (b : Bool) → is_some (find R k es) ≡ b →
+          map_of R (es ++ (k, v) ∷ []) ≡ cond b (map_of R es) (put R k v (map_of R es))
+      at_last es k v true h = map_of_same R total same _ _ (λ q. find-append R q es ((k, v) ∷ [])
+          ∙ hidden (eq_by_cmp R q k) (find R q es) v
+          (λ t. ap (λ x. is_some (find R x es)) (tied R same q k t) ∙ h))
+      at_last es k v false h =
+          map_of_same R total same (es ++ (k, v) ∷ []) ((k, v) ∷ es) (λ q. find-append R q es ((k, v) ∷ [])
+          ∙ shown (eq_by_cmp R q k) (find R q es) v
+          (λ t. ap (λ x. is_some (find R x es)) (tied R same q k t) ∙ h))
 
       -- an entry more is put, unless its key is there
-      pub map_of_more : (es : List (K × X)) (k : K) (v : X) → map_of R (es ++ (k, v) ∷ []) ≡ cond (is_some (find R k (map_of R es))) (map_of R es) (put R k v (map_of R es))
-      map_of_more es k v = at_last es k v (is_some (find R k es)) refl ∙ ap (λ o. cond (is_some o) (map_of R es) (put R k v (map_of R es))) (sym (find-map_of R total k es))
+      pub map_of_more : (es : List (K × X)) (k : K) (v : X) →
+          map_of R (es ++ (k, v) ∷ [])
+          ≡ cond (is_some (find R k (map_of R es))) (map_of R es) (put R k v (map_of R es))
+      map_of_more es k v = at_last es k v (is_some (find R k es)) refl
+          ∙ ap (λ o. cond (is_some o) (map_of R es) (put R k v (map_of R es)))
+          (sym (find-map_of R total k es))

@@ -1,5 +1,6 @@
 -- Entries one after the other, and lines that are cut from a text.
-use Rattle.std.proofs.Common.{◌≡◌, ℕ, suc, ◌+◌, List, [], ◌∷◌, ◌++◌, length, refl, sym, ap, ◌∙◌, subst, arith, append_assoc, append-nil, add-zero}
+use Rattle.std.proofs.Common.{◌≡◌, ℕ, suc, ◌+◌, List, [], ◌∷◌, ◌++◌, length, refl, sym, ap, ◌∙◌, subst, arith}
+use Rattle.std.proofs.Common.{append_assoc, append-nil, add-zero}
 use Rattle.std.specs.List.{AllByRecursion}
 use Rattle.iloc_lines.specs.Lines.{lines_of, ended, IsOneLine}
 use Rattle.iloc_lines.proofs.LineCuts.{lines_of-cut}
@@ -21,21 +22,26 @@ module _ (IsEntry : ℕ → List ℕ → List ℕ → Type 0) where
       )
 
   -- one line
-  pub AreEntries-one : (n : ℕ) (line entry : List ℕ) → IsEntry n line entry → AreEntries IsEntry n (line ∷ []) entry
+  pub AreEntries-one : (n : ℕ) (line entry : List ℕ) → IsEntry n line entry →
+      AreEntries IsEntry n (line ∷ []) entry
   AreEntries-one n line entry is = (entry, [], is, refl, sym (append-nil entry))
 
 pub lines_of-ended : (lines : List (List ℕ)) (rest : List ℕ) → AllByRecursion IsOneLine lines
     → lines_of (ended lines ++ rest) ≡ lines ++ lines_of rest
 lines_of-ended [] rest h = refl
 lines_of-ended (line ∷ lines) rest h =
-    let joined : ((line ++ 10 ∷ []) ++ ended lines) ++ rest ≡ line ++ 10 ∷ (ended lines ++ rest) = simp append_assoc in
-    rw joined (lines_of-cut line (ended lines ++ rest) h.0 ∙ ap (λ (t : List (List ℕ)). line ∷ t) (lines_of-ended lines rest h.1))
+    let joined : ((line ++ 10 ∷ []) ++ ended lines) ++ rest ≡ line ++ 10 ∷ (ended lines ++ rest) =
+    simp append_assoc in
+    rw joined (lines_of-cut line (ended lines ++ rest) h.0
+    ∙ ap (λ (t : List (List ℕ)). line ∷ t) (lines_of-ended lines rest h.1))
 
 pub ended-append : (xs ys : List (List ℕ)) → ended (xs ++ ys) ≡ ended xs ++ ended ys
 ended-append [] ys = refl
 ended-append (x ∷ xs) ys =
-    ap (λ (t : List ℕ). (x ++ 10 ∷ []) ++ t) (ended-append xs ys) ∙ sym (append_assoc (x ++ 10 ∷ []) (ended xs) (ended ys))
+    ap (λ (t : List ℕ). (x ++ 10 ∷ []) ++ t) (ended-append xs ys)
+    ∙ sym (append_assoc (x ++ 10 ∷ []) (ended xs) (ended ys))
 
-pub AllByRecursion-append : (P : List ℕ → Type 0) (xs ys : List (List ℕ)) → AllByRecursion P xs → AllByRecursion P ys → AllByRecursion P (xs ++ ys)
+pub AllByRecursion-append : (P : List ℕ → Type 0) (xs ys : List (List ℕ)) → AllByRecursion P xs →
+    AllByRecursion P ys → AllByRecursion P (xs ++ ys)
 AllByRecursion-append P [] ys h k = k
 AllByRecursion-append P (x ∷ xs) ys h k = (h.0, AllByRecursion-append P xs ys h.1 k)

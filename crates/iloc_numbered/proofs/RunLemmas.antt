@@ -1,5 +1,6 @@
 -- How a run stands after each of its steps.
-use Rattle.std.proofs.Common.{◌≡◌, ℕ, ◌+◌, List, [], ◌++◌, take, drop, length, Option, Some, None, refl, sym, ap, ◌∙◌, subst, arith, append_assoc, append-nil, length-append}
+use Rattle.std.proofs.Common.{◌≡◌, ℕ, ◌+◌, List, [], ◌++◌, take, drop, length, Option, Some, None, refl, sym}
+use Rattle.std.proofs.Common.{ap, ◌∙◌, subst, arith, append_assoc, append-nil, length-append}
 use Rattle.std.specs.Prelude.{IfSome}
 use Rattle.std.specs.List.{AllByRecursion}
 use Rattle.std.proofs.lemmas.List.{take-append-drop}
@@ -11,10 +12,12 @@ use Rattle.iloc_lines.specs.Lines.{lines_of, ended, IsOneLine}
 use Rattle.iloc_lines.proofs.KnownLemmas.{Consumes-kept, Consumes-nothing, Consumes-then}
 use Rattle.iloc_numbered.specs.Numbered.{AreEntries, IsListing, BeginsListing, ListsAll, ListsBeginning}
 use Rattle.iloc_numbered.specs.Feeding.{Feeds, Ends}
-use Rattle.iloc_numbered.proofs.EntryLemmas.{AreEntries-append, lines_of-ended, ended-append, AllByRecursion-append}
+use Rattle.iloc_numbered.proofs.EntryLemmas.{AreEntries-append, lines_of-ended, ended-append}
+use Rattle.iloc_numbered.proofs.EntryLemmas.{AllByRecursion-append}
 
 -- what was read is lines that ended, of which these are the entries, and what is pending
-pub record Done (IsEntry : ℕ → List ℕ → List ℕ → Type 0) (n : ℕ) (read entries pending : List ℕ) (next : ℕ) : Type 0 where
+pub record Done (IsEntry : ℕ → List ℕ → List ℕ → Type 0) (n : ℕ) (read entries pending : List ℕ) (next : ℕ) :
+    Type 0 where
   pub lines : List (List ℕ)
   pub are_lines : AllByRecursion IsOneLine lines
   pub cut : read ≡ ended lines ++ pending
@@ -22,7 +25,8 @@ pub record Done (IsEntry : ℕ → List ℕ → List ℕ → Type 0) (n : ℕ) (
   pub counts : next ≡ n + length lines
 
 -- the entries of the lines that were read were written
-pub record Stands (IsEntry : ℕ → List ℕ → List ℕ → Type 0) (n : ℕ) (unread unread' held held' : Option (List ℕ)) (pending : List ℕ) (next : ℕ) : Type 0 where
+pub record Stands (IsEntry : ℕ → List ℕ → List ℕ → Type 0) (n : ℕ)
+    (unread unread' held held' : Option (List ℕ)) (pending : List ℕ) (next : ℕ) : Type 0 where
   pub read : List ℕ
   pub written : List ℕ
   pub reads : Consumes unread unread' read
@@ -33,7 +37,8 @@ StartsWith-itself : (t : List ℕ) → StartsWith t t
 StartsWith-itself t = subst (λ (u : List ℕ). StartsWith u t) (append-nil t) (take-append_seam t [])
 
 -- what begins a text, behind what stands before it
-StartsWith-behind : (before whole part : List ℕ) → StartsWith whole part → StartsWith (before ++ whole) (before ++ part)
+StartsWith-behind : (before whole part : List ℕ) → StartsWith whole part →
+    StartsWith (before ++ whole) (before ++ part)
 StartsWith-behind before whole part h =
     let split : whole ≡ part ++ drop (length part) whole =
     sym (take-append-drop (length part) whole) ∙ ap (λ (t : List ℕ). t ++ drop (length part) whole) h in
@@ -50,7 +55,8 @@ at_end None P e p = tt
 at_end (Some left) P e p = subst P (sym e) p
 
 module _ (IsEntry : ℕ → List ℕ → List ℕ → Type 0) (n : ℕ) where
-  Done-read : (read entries pending piece : List ℕ) (next : ℕ) → Done IsEntry n read entries pending next → Done IsEntry n (read ++ piece) entries (pending ++ piece) next
+  Done-read : (read entries pending piece : List ℕ) (next : ℕ) → Done IsEntry n read entries pending next →
+      Done IsEntry n (read ++ piece) entries (pending ++ piece) next
   Done-read read entries pending piece next d = record {
     lines = d.lines;
     are_lines = d.are_lines;
@@ -59,8 +65,10 @@ module _ (IsEntry : ℕ → List ℕ → List ℕ → Type 0) (n : ℕ) where
     counts = d.counts;
   }
 
-  Done-fed : (read entries pending piece old new pending' : List ℕ) (next next' : ℕ) → Done IsEntry n read entries (pending ++ piece) next
-      → Feeds IsEntry next pending piece old new pending' next' → old ≡ [] → Done IsEntry n read (entries ++ new) pending' next'
+  Done-fed : (read entries pending piece old new pending' : List ℕ) (next next' : ℕ) →
+      Done IsEntry n read entries (pending ++ piece) next
+      → Feeds IsEntry next pending piece old new pending' next' → old ≡ [] →
+      Done IsEntry n read (entries ++ new) pending' next'
   Done-fed read entries pending piece old new pending' next next' d f none =
       let new_is : f.added ≡ new = sym (f.adds ∙ ap (λ (t : List ℕ). t ++ f.added) none) in
       let entries_are : AreEntries IsEntry (n + length d.lines) f.lines f.added =
@@ -68,7 +76,8 @@ module _ (IsEntry : ℕ → List ℕ → List ℕ → Type 0) (n : ℕ) where
       record {
         lines = d.lines ++ f.lines;
         are_lines = AllByRecursion-append IsOneLine d.lines f.lines d.are_lines f.are_lines;
-        cut = d.cut ∙ ap (λ (t : List ℕ). ended d.lines ++ t) f.cut ∙ sym (append_assoc (ended d.lines) (ended f.lines) pending')
+        cut = d.cut ∙ ap (λ (t : List ℕ). ended d.lines ++ t) f.cut
+            ∙ sym (append_assoc (ended d.lines) (ended f.lines) pending')
             ∙ ap (λ (t : List ℕ). t ++ pending') (sym (ended-append d.lines f.lines));
         are_entries = AreEntries-append IsEntry n d.lines f.lines entries new d.are_entries
             (subst (AreEntries IsEntry (n + length d.lines) f.lines) new_is entries_are);
@@ -76,13 +85,16 @@ module _ (IsEntry : ℕ → List ℕ → List ℕ → Type 0) (n : ℕ) where
       }
 
   -- the lines that ended are the first ones, whatever comes next
-  first_lines : (read entries pending : List ℕ) (next : ℕ) → (d : Done IsEntry n read entries pending next) → (left : List ℕ)
+  first_lines : (read entries pending : List ℕ) (next : ℕ) → (d : Done IsEntry n read entries pending next) →
+      (left : List ℕ)
       → lines_of (read ++ left) ≡ d.lines ++ lines_of (pending ++ left)
   first_lines read entries pending next d left =
-      ap lines_of (ap (λ (t : List ℕ). t ++ left) d.cut ∙ append_assoc (ended d.lines) pending left) ∙ lines_of-ended d.lines (pending ++ left) d.are_lines
+      ap lines_of (ap (λ (t : List ℕ). t ++ left) d.cut ∙ append_assoc (ended d.lines) pending left)
+      ∙ lines_of-ended d.lines (pending ++ left) d.are_lines
 
   -- what begins their entries begins the listing
-  begins : (read entries pending part : List ℕ) (next : ℕ) → (d : Done IsEntry n read entries pending next) → StartsWith entries part → (left : List ℕ)
+  begins : (read entries pending part : List ℕ) (next : ℕ) → (d : Done IsEntry n read entries pending next) →
+      StartsWith entries part → (left : List ℕ)
       → BeginsListing IsEntry n (read ++ left) part
   begins read entries pending part next d b left = record {
     lines = d.lines;
@@ -94,15 +106,19 @@ module _ (IsEntry : ℕ → List ℕ → List ℕ → Type 0) (n : ℕ) where
   }
 
   -- a beginning was written
-  begun : (u u' h h' : Option (List ℕ)) (read entries pending part : List ℕ) (next : ℕ) → Consumes u u' read → Appends h h' part
-      → Done IsEntry n read entries pending next → StartsWith entries part → ListsBeginning IsEntry n u u' h h'
+  begun : (u u' h h' : Option (List ℕ)) (read entries pending part : List ℕ) (next : ℕ) → Consumes u u' read →
+      Appends h h' part
+      → Done IsEntry n read entries pending next → StartsWith entries part →
+      ListsBeginning IsEntry n u u' h h'
   begun u u' h h' read entries pending part next r w d b = record {
     read = read;
     written = part;
     reads = r;
     writes = w;
-    begins = subst (λ (t : List ℕ). BeginsListing IsEntry n t part) (append-nil read) (begins read entries pending part next d b []);
-    begins_all = IfSome-all u' (λ left. BeginsListing IsEntry n (read ++ left) part) (begins read entries pending part next d b);
+    begins = subst (λ (t : List ℕ). BeginsListing IsEntry n t part) (append-nil read)
+        (begins read entries pending part next d b []);
+    begins_all = IfSome-all u' (λ left. BeginsListing IsEntry n (read ++ left) part)
+        (begins read entries pending part next d b);
   }
 
   -- before the first read
@@ -115,7 +131,8 @@ module _ (IsEntry : ℕ → List ℕ → List ℕ → Type 0) (n : ℕ) where
     done = record { lines = []; are_lines = tt; cut = refl; are_entries = refl; counts = omega arith };
   }
 
-  pub Stands-kept : (u u' u2 h h' : Option (List ℕ)) (pending : List ℕ) (next : ℕ) → Stands IsEntry n u u' h h' pending next → Keeps u' u2
+  pub Stands-kept : (u u' u2 h h' : Option (List ℕ)) (pending : List ℕ) (next : ℕ) →
+      Stands IsEntry n u u' h h' pending next → Keeps u' u2
       → Stands IsEntry n u u2 h h' pending next
   Stands-kept u u' u2 h h' pending next s k = record {
     read = s.read;
@@ -125,7 +142,8 @@ module _ (IsEntry : ℕ → List ℕ → List ℕ → Type 0) (n : ℕ) where
     done = s.done;
   }
 
-  pub Stands-read : (u u' u2 h h' : Option (List ℕ)) (pending piece : List ℕ) (next : ℕ) → Stands IsEntry n u u' h h' pending next → Consumes u' u2 piece
+  pub Stands-read : (u u' u2 h h' : Option (List ℕ)) (pending piece : List ℕ) (next : ℕ) →
+      Stands IsEntry n u u' h h' pending next → Consumes u' u2 piece
       → Stands IsEntry n u u2 h h' (pending ++ piece) next
   Stands-read u u' u2 h h' pending piece next s k = record {
     read = s.read ++ piece;
@@ -136,15 +154,20 @@ module _ (IsEntry : ℕ → List ℕ → List ℕ → Type 0) (n : ℕ) where
   }
 
   -- a read of no bytes
-  pub Stands-read_none : (u u' u2 h h' : Option (List ℕ)) (pending block : List ℕ) (count next : ℕ) → Stands IsEntry n u u' h h' pending next
+  pub Stands-read_none : (u u' u2 h h' : Option (List ℕ)) (pending block : List ℕ) (count next : ℕ) →
+      Stands IsEntry n u u' h h' pending next
       → Consumes u' u2 (take count block) → count ≡ 0 → Stands IsEntry n u u2 h h' pending next
   Stands-read_none u u' u2 h h' pending block count next s k none =
       let nothing : take count block ≡ [] = rw none refl in
-      subst (λ (t : List ℕ). Stands IsEntry n u u2 h h' t next) (append-nil pending) (Stands-read u u' u2 h h' pending [] next s (subst (Consumes u' u2) nothing k))
+      subst (λ (t : List ℕ). Stands IsEntry n u u2 h h' t next) (append-nil pending)
+      (Stands-read u u' u2 h h' pending [] next s (subst (Consumes u' u2) nothing k))
 
   -- the entries of what a piece ends were written
-  pub Stands-fed : (u u' h h' h2 : Option (List ℕ)) (pending piece old new pending' : List ℕ) (next next' : ℕ) → Stands IsEntry n u u' h h' (pending ++ piece) next
-      → Feeds IsEntry next pending piece old new pending' next' → old ≡ [] → Appends h' h2 new → Stands IsEntry n u u' h h2 pending' next'
+  pub Stands-fed : (u u' h h' h2 : Option (List ℕ)) (pending piece old new pending' : List ℕ)
+      (next next' : ℕ) →
+      Stands IsEntry n u u' h h' (pending ++ piece) next
+      → Feeds IsEntry next pending piece old new pending' next' → old ≡ [] → Appends h' h2 new →
+      Stands IsEntry n u u' h h2 pending' next'
   Stands-fed u u' h h' h2 pending piece old new pending' next next' s f none k = record {
     read = s.read;
     written = s.written ++ new;
@@ -153,33 +176,45 @@ module _ (IsEntry : ℕ → List ℕ → List ℕ → Type 0) (n : ℕ) where
     done = Done-fed s.read s.written pending piece old new pending' next next' s.done f none;
   }
 
-  pub Stands-front : (u u' h h' : Option (List ℕ)) (pending : List ℕ) (next : ℕ) → Stands IsEntry n u u' h h' pending next → ListsBeginning IsEntry n u u' h h'
-  Stands-front u u' h h' pending next s = begun u u' h h' s.read s.written pending s.written next s.reads s.writes s.done (StartsWith-itself s.written)
+  pub Stands-front : (u u' h h' : Option (List ℕ)) (pending : List ℕ) (next : ℕ) →
+      Stands IsEntry n u u' h h' pending next → ListsBeginning IsEntry n u u' h h'
+  Stands-front u u' h h' pending next s = begun u u' h h' s.read s.written pending s.written next s.reads
+      s.writes s.done (StartsWith-itself s.written)
 
   -- a part of the entries of what a piece ends was written
-  pub Stands-part : (u u' h h' h2 : Option (List ℕ)) (pending piece old new pending' part : List ℕ) (next next' : ℕ) → Stands IsEntry n u u' h h' (pending ++ piece) next
-      → Feeds IsEntry next pending piece old new pending' next' → old ≡ [] → Appends h' h2 part → StartsWith new part → ListsBeginning IsEntry n u u' h h2
+  pub Stands-part : (u u' h h' h2 : Option (List ℕ)) (pending piece old new pending' part : List ℕ)
+      (next next' : ℕ) →
+      Stands IsEntry n u u' h h' (pending ++ piece) next
+      → Feeds IsEntry next pending piece old new pending' next' → old ≡ [] → Appends h' h2 part →
+      StartsWith new part → ListsBeginning IsEntry n u u' h h2
   Stands-part u u' h h' h2 pending piece old new pending' part next next' s f none k b =
-      begun u u' h h2 s.read (s.written ++ new) pending' (s.written ++ part) next' s.reads (appends_both h h' h2 s.written part s.writes k)
-      (Done-fed s.read s.written pending piece old new pending' next next' s.done f none) (StartsWith-behind s.written new part b)
+      begun u u' h h2 s.read (s.written ++ new) pending' (s.written ++ part) next' s.reads
+      (appends_both h h' h2 s.written part s.writes k)
+      (Done-fed s.read s.written pending piece old new pending' next next' s.done f none)
+      (StartsWith-behind s.written new part b)
 
   -- all lines, and their entries
 
-  whole : (read entries pending : List ℕ) (next : ℕ) → (d : Done IsEntry n read entries pending next) → lines_of read ≡ d.lines ++ lines_of pending
+  whole : (read entries pending : List ℕ) (next : ℕ) → (d : Done IsEntry n read entries pending next) →
+      lines_of read ≡ d.lines ++ lines_of pending
   whole read entries pending next d = ap lines_of d.cut ∙ lines_of-ended d.lines pending d.are_lines
 
-  all_entries : (read entries pending old new : List ℕ) (next next' : ℕ) → Done IsEntry n read entries pending next → Ends IsEntry next pending old new next' → old ≡ []
+  all_entries : (read entries pending old new : List ℕ) (next next' : ℕ) →
+      Done IsEntry n read entries pending next → Ends IsEntry next pending old new next' → old ≡ []
       → IsListing IsEntry n read (entries ++ new)
   all_entries read entries pending old new next next' d f none =
       let new_is : f.added ≡ new = sym (f.adds ∙ ap (λ (t : List ℕ). t ++ f.added) none) in
       let entries_are : AreEntries IsEntry (n + length d.lines) (lines_of pending) f.added =
       subst (λ (m : ℕ). AreEntries IsEntry m (lines_of pending) f.added) d.counts f.is_listing in
-      subst (λ (ls : List (List ℕ)). AreEntries IsEntry n ls (entries ++ new)) (sym (whole read entries pending next d))
+      subst (λ (ls : List (List ℕ)). AreEntries IsEntry n ls (entries ++ new))
+      (sym (whole read entries pending next d))
       (AreEntries-append IsEntry n d.lines (lines_of pending) entries new d.are_entries
       (subst (AreEntries IsEntry (n + length d.lines) (lines_of pending)) new_is entries_are))
 
-  pub Stands-end : (u u' h h' h2 : Option (List ℕ)) (pending old new : List ℕ) (next next' : ℕ) → Stands IsEntry n u u' h h' pending next → IsAtEnd u'
-      → Ends IsEntry next pending old new next' → old ≡ [] → Appends h' h2 new → ListsAll IsEntry n u u' h h2 next'
+  pub Stands-end : (u u' h h' h2 : Option (List ℕ)) (pending old new : List ℕ) (next next' : ℕ) →
+      Stands IsEntry n u u' h h' pending next → IsAtEnd u'
+      → Ends IsEntry next pending old new next' → old ≡ [] → Appends h' h2 new →
+      ListsAll IsEntry n u u' h h2 next'
   Stands-end u u' h h' h2 pending old new next next' s end f none k =
       let lines_are = ap length (whole s.read s.written pending next s.done) in
       record {
@@ -189,11 +224,14 @@ module _ (IsEntry : ℕ → List ℕ → List ℕ → Type 0) (n : ℕ) where
         all_read = end;
         writes = appends_both h h' h2 s.written new s.writes k;
         is_listing = all_entries s.read s.written pending old new next next' s.done f none;
-        counts = omega (arith, lines_are, s.done.counts, f.counts, length-append s.done.lines (lines_of pending));
+        counts =
+            omega (arith, lines_are, s.done.counts, f.counts, length-append s.done.lines (lines_of pending));
       }
 
-  pub Stands-end_part : (u u' h h' h2 : Option (List ℕ)) (pending old new part : List ℕ) (next next' : ℕ) → Stands IsEntry n u u' h h' pending next → IsAtEnd u'
-      → Ends IsEntry next pending old new next' → old ≡ [] → Appends h' h2 part → StartsWith new part → ListsBeginning IsEntry n u u' h h2
+  pub Stands-end_part : (u u' h h' h2 : Option (List ℕ)) (pending old new part : List ℕ) (next next' : ℕ) →
+      Stands IsEntry n u u' h h' pending next → IsAtEnd u'
+      → Ends IsEntry next pending old new next' → old ≡ [] → Appends h' h2 part → StartsWith new part →
+      ListsBeginning IsEntry n u u' h h2
   Stands-end_part u u' h h' h2 pending old new part next next' s end f none k b =
       let all : BeginsListing IsEntry n s.read (s.written ++ part) = record {
         lines = lines_of s.read;
@@ -210,5 +248,6 @@ module _ (IsEntry : ℕ → List ℕ → List ℕ → Type 0) (n : ℕ) where
         writes = appends_both h h' h2 s.written part s.writes k;
         begins = all;
         begins_all = at_end u' (λ left. BeginsListing IsEntry n (s.read ++ left) (s.written ++ part)) end
-            (subst (λ (t : List ℕ). BeginsListing IsEntry n t (s.written ++ part)) (sym (append-nil s.read)) all);
+            (subst (λ (t : List ℕ). BeginsListing IsEntry n t (s.written ++ part)) (sym (append-nil s.read))
+            all);
       }

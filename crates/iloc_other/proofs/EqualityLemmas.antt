@@ -10,5 +10,7 @@ word_decides = bytes_decides
 pub words_decide : (v w : List (List ℕ)) → Decides (pointwise (pointwise nat_eq) v w) (v ≡ w)
 words_decide = pointwise_decides bytes_decides
 
-pub other_decides : (o q : ℕ × List (List ℕ)) → Decides (nat_eq o.0 q.0 && pointwise (pointwise nat_eq) o.1 q.1) (o ≡ q)
-other_decides o q = Decides-like _ (λ e i. (e.0 i, e.1 i)) (λ e. (ap (λ p. p.0) e, ap (λ p. p.1) e)) (Decides-and _ _ (Decides-eqb o.0 q.0) (words_decide o.1 q.1))
+pub other_decides : (o q : ℕ × List (List ℕ)) →
+    Decides (nat_eq o.0 q.0 && pointwise (pointwise nat_eq) o.1 q.1) (o ≡ q)
+other_decides o q = Decides-like _ (λ e i. (e.0 i, e.1 i)) (λ e. (ap (λ p. p.0) e, ap (λ p. p.1) e))
+    (Decides-and _ _ (Decides-eqb o.0 q.0) (words_decide o.1 q.1))

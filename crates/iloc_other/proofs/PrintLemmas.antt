@@ -1,5 +1,6 @@
 -- The pieces that are written.
-use Rattle.std.proofs.Common.{◌≡◌, ℕ, Bool, true, false, not, cond, List, [], ◌∷◌, length, nat_lt, ◌==◌, IsTrue, ◌↔◌, refl, sym, ap, ◌∙◌, arith}
+use Rattle.std.proofs.Common.{◌≡◌, ℕ, Bool, true, false, not, cond, List, [], ◌∷◌, length, nat_lt, ◌==◌}
+use Rattle.std.proofs.Common.{IsTrue, ◌↔◌, refl, sym, ap, ◌∙◌, arith}
 use Rattle.std.specs.List.{flat_map}
 use Rattle.std.proofs.lemmas.Bool.Decides.{nat_tests}
 use Rattle.iloc_writeable.specs.Pieces.{hyphened, is_there}
@@ -21,7 +22,8 @@ is_not : (b : Bool) → (b ≡ true → ⊥) → not b ≡ true
 is_not true n = absurd (n refl)
 is_not false n = refl
 
-pub private_there : (ws : List (List ℕ)) (b : Bool) → (IsTrue b ↔ (ws ≡ [])) → not b ≡ is_there (private_spelling ws)
+pub private_there : (ws : List (List ℕ)) (b : Bool) → (IsTrue b ↔ (ws ≡ [])) →
+    not b ≡ is_there (private_spelling ws)
 private_there [] b h = ap not (h.1 refl) ∙ ap is_there (sym private_spelling_none)
 private_there (w ∷ ws) b h = is_not b (λ e. no_word (h.0 e)) ∙ ap is_there (sym (private_spelling_is w ws))
   where
@@ -29,11 +31,14 @@ private_there (w ∷ ws) b h = is_not b (λ e. no_word (h.0 e)) ∙ ap is_there 
     no_word e = cc
 
 pub private_none : (first : Bool) (ws : List (List ℕ)) → ws ≡ [] → [] ≡ hyphened first (private_spelling ws)
-private_none first ws e = nothing_written first (private_spelling ws) (ap private_spelling e ∙ private_spelling_none)
+private_none first ws e =
+    nothing_written first (private_spelling ws) (ap private_spelling e ∙ private_spelling_none)
 
-pub private_some : (ws vs : List (List ℕ)) → vs ≡ ws → (ws ≡ [] → ⊥) → (120 ∷ []) ∷ flat_map (λ w. w ∷ []) vs ≡ private_spelling ws
+pub private_some : (ws vs : List (List ℕ)) → vs ≡ ws → (ws ≡ [] → ⊥) →
+    (120 ∷ []) ∷ flat_map (λ w. w ∷ []) vs ≡ private_spelling ws
 private_some [] vs e n = absurd (n refl)
-private_some (w ∷ ws) vs e n = ap (λ l. (120 ∷ []) ∷ l) (flat_map_words vs ∙ e) ∙ sym (private_spelling_is w ws)
+private_some (w ∷ ws) vs e n =
+    ap (λ l. (120 ∷ []) ∷ l) (flat_map_words vs ∙ e) ∙ sym (private_spelling_is w ws)
 
 -- another extension
 
@@ -47,13 +52,19 @@ pub there_by : (b : Bool) (p : List ℕ) (ps : List (List ℕ)) → b ≡ is_the
 there_by true p ps = refl
 there_by false p ps = refl
 
-pub other_there : (o : ℕ × List (List ℕ)) (vs : List (List ℕ)) → vs ≡ o.1 → not (length vs == 0) ≡ is_there (other_spelling o)
-other_there o vs e = ap (λ (l : List (List ℕ)). not (length l == 0)) e ∙ there_by (not (length o.1 == 0)) (o.0 ∷ []) o.1 ∙ ap is_there (sym (spelling_by o))
+pub other_there : (o : ℕ × List (List ℕ)) (vs : List (List ℕ)) → vs ≡ o.1 →
+    not (length vs == 0) ≡ is_there (other_spelling o)
+other_there o vs e = ap (λ (l : List (List ℕ)). not (length l == 0)) e
+    ∙ there_by (not (length o.1 == 0)) (o.0 ∷ []) o.1 ∙ ap is_there (sym (spelling_by o))
 
-pub other_none : (first : Bool) (o : ℕ × List (List ℕ)) (vs : List (List ℕ)) → vs ≡ o.1 → (length vs == 0) ≡ true → [] ≡ hyphened first (other_spelling o)
-other_none first o vs e h = nothing_written first (other_spelling o) (spelling_by o ∙ ap (λ b. cond (not b) ((o.0 ∷ []) ∷ o.1) []) (ap (λ (l : List (List ℕ)). length l == 0) (sym e) ∙ h))
+pub other_none : (first : Bool) (o : ℕ × List (List ℕ)) (vs : List (List ℕ)) → vs ≡ o.1 →
+    (length vs == 0) ≡ true → [] ≡ hyphened first (other_spelling o)
+other_none first o vs e h = nothing_written first (other_spelling o) (spelling_by o
+    ∙ ap (λ b. cond (not b) ((o.0 ∷ []) ∷ o.1) []) (ap (λ (l : List (List ℕ)). length l == 0) (sym e) ∙ h))
 
-pub other_some : (o : ℕ × List (List ℕ)) (c : List ℕ) (vs : List (List ℕ)) → c ≡ o.0 ∷ [] → vs ≡ o.1 → (length vs == 0) ≡ false → c ∷ flat_map (λ w. w ∷ []) vs ≡ other_spelling o
+pub other_some : (o : ℕ × List (List ℕ)) (c : List ℕ) (vs : List (List ℕ)) → c ≡ o.0 ∷ [] → vs ≡ o.1 →
+    (length vs == 0) ≡ false → c ∷ flat_map (λ w. w ∷ []) vs ≡ other_spelling o
 other_some o c vs d e h =
     (λ i. d i ∷ (flat_map_words vs ∙ e) i)
-    ∙ sym (spelling_by o ∙ ap (λ b. cond (not b) ((o.0 ∷ []) ∷ o.1) []) (ap (λ (l : List (List ℕ)). length l == 0) (sym e) ∙ h))
+    ∙ sym (spelling_by o
+    ∙ ap (λ b. cond (not b) ((o.0 ∷ []) ∷ o.1) []) (ap (λ (l : List (List ℕ)). length l == 0) (sym e) ∙ h))

@@ -7,7 +7,8 @@ use Rattle.iloc_spec_parts.specs.Parts.{PartRead, PartFault, no_singleton, after
 use Rattle.iloc_other.specs.Singleton.{singleton_at}
 
 -- the byte of the singleton
-found : (ps : List (List ℕ)) (c : ℕ) → Some c ≡ singleton_at ps → (b : ℕ) × (c ≡ to_ascii_lowercase b) × (ps ≡ (b ∷ []) ∷ rest_of ps)
+found : (ps : List (List ℕ)) (c : ℕ) → Some c ≡ singleton_at ps →
+    (b : ℕ) × (c ≡ to_ascii_lowercase b) × (ps ≡ (b ∷ []) ∷ rest_of ps)
 found [] c e = cc
 found ([] ∷ ps) c e = cc
 found ((b ∷ []) ∷ ps) c e = (b, cc, refl)
@@ -23,14 +24,20 @@ module _ (test : ℕ → Bool) (ps : List (List ℕ)) where
   begins_none ((b ∷ []) ∷ qs) e = cc
   begins_none ((b ∷ d ∷ p) ∷ qs) e = refl
 
-  pub part_reads : {X : Type 0} (R : List (List ℕ) → X → List (List ℕ) → Type 0) (c : ℕ) (v : X) (rest : List (List ℕ)) → Some c ≡ singleton_at ps → test c ≡ true → R (rest_of ps) v rest → PartRead test R ps (c, v) rest
-  part_reads R c v rest e t r = let f = found ps c e in record { byte = f.0; after = rest_of ps; spelled = f.2; singleton = f.1; passes = t; reads = r }
+  pub part_reads : {X : Type 0} (R : List (List ℕ) → X → List (List ℕ) → Type 0) (c : ℕ) (v : X)
+      (rest : List (List ℕ)) →
+      Some c ≡ singleton_at ps → test c ≡ true → R (rest_of ps) v rest → PartRead test R ps (c, v) rest
+  part_reads R c v rest e t r = let f = found ps c e in
+      record { byte = f.0; after = rest_of ps; spelled = f.2; singleton = f.1; passes = t; reads = r }
 
-  pub part_fault : (F : List (List ℕ) → Fault → Type 0) (c : ℕ) (f : Fault) → Some c ≡ singleton_at ps → test c ≡ true → F (rest_of ps) f → PartFault test F ps f
+  pub part_fault : (F : List (List ℕ) → Fault → Type 0) (c : ℕ) (f : Fault) → Some c ≡ singleton_at ps →
+      test c ≡ true → F (rest_of ps) f → PartFault test F ps f
   part_fault F c f e t r = after_singleton (found ps c e).2 (begins c e ∙ t) r
 
-  pub part_other : (F : List (List ℕ) → Fault → Type 0) (c : ℕ) → Some c ≡ singleton_at ps → test c ≡ false → PartFault test F ps InvalidExtension
+  pub part_other : (F : List (List ℕ) → Fault → Type 0) (c : ℕ) → Some c ≡ singleton_at ps → test c ≡ false →
+      PartFault test F ps InvalidExtension
   part_other F c e t = no_singleton (begins c e ∙ t)
 
-  pub part_none : (F : List (List ℕ) → Fault → Type 0) → None ≡ singleton_at ps → PartFault test F ps InvalidExtension
+  pub part_none : (F : List (List ℕ) → Fault → Type 0) → None ≡ singleton_at ps →
+      PartFault test F ps InvalidExtension
   part_none F e = no_singleton (begins_none ps e)

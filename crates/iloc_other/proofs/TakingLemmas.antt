@@ -1,6 +1,7 @@
 -- Private words that are taken one at a time.
 use Rattle.iloc_spec_grammar.specs.Reading.{passing}
-use Rattle.std.proofs.Common.{◌≡◌, ◌↔◌, ℕ, suc, ◌+◌, ◌<◌, false, cond, List, [], ◌∷◌, ◌++◌, length, map, refl, sym, ap, ◌∙◌, subst, arith, append_assoc, append-nil, true≢false}
+use Rattle.std.proofs.Common.{◌≡◌, ◌↔◌, ℕ, suc, ◌+◌, ◌<◌, false, cond, List, [], ◌∷◌, ◌++◌, length, map, refl}
+use Rattle.std.proofs.Common.{sym, ap, ◌∙◌, subst, arith, append_assoc, append-nil, true≢false}
 use Rattle.std.specs.List.{AllByRecursion}
 use Rattle.std.proofs.lemmas.List.{length-map, length_push}
 use Rattle.iloc_spec_grammar.specs.Syntax.{PrivateSubtag, is_word, IsWord, lower}
@@ -14,20 +15,25 @@ AllWords ps = AllByRecursion (IsWord PrivateSubtag) ps
 pub record TakingWords (before now ws : List (List ℕ)) : Type 0 where
   pub words : AllWords before ↔ AllWords now
   pub means : ws ++ map lower now ≡ map lower before
-  pub front : length ws + length (passing (is_word PrivateSubtag) now) ≡ length (passing (is_word PrivateSubtag) before)
+  pub front : length ws + length (passing (is_word PrivateSubtag) now)
+      ≡ length (passing (is_word PrivateSubtag) before)
 
 pub takes_nothing : (ps : List (List ℕ)) → TakingWords ps ps []
 takes_nothing ps = record { words = (λ h. h, λ h. h); means = refl; front = omega arith }
 
 module _ (before now ws : List (List ℕ)) (t : TakingWords before now ws) where
   module _ (p : List ℕ) (more : List (List ℕ)) (e : now ≡ p ∷ more) where
-    word_first : IsWord PrivateSubtag p → length (passing (is_word PrivateSubtag) now) ≡ suc (length (passing (is_word PrivateSubtag) more))
-    word_first w = ap (λ l. length (passing (is_word PrivateSubtag) l)) e ∙ ap (λ b. length (cond b (p ∷ passing (is_word PrivateSubtag) more) [])) w
+    word_first : IsWord PrivateSubtag p →
+        length (passing (is_word PrivateSubtag) now) ≡ suc (length (passing (is_word PrivateSubtag) more))
+    word_first w = ap (λ l. length (passing (is_word PrivateSubtag) l)) e
+        ∙ ap (λ b. length (cond b (p ∷ passing (is_word PrivateSubtag) more) [])) w
 
-    pub takes_word : (vs : List (List ℕ)) → IsWord PrivateSubtag p → vs ≡ ws ++ lower p ∷ [] → TakingWords before more vs
+    pub takes_word : (vs : List (List ℕ)) → IsWord PrivateSubtag p → vs ≡ ws ++ lower p ∷ [] →
+        TakingWords before more vs
     takes_word vs w v = record {
       words = (λ h. (subst AllWords e (t.words.0 h)).1, λ h. t.words.1 (subst AllWords (sym e) (w, h)));
-      means = ap (λ l. l ++ map lower more) v ∙ append_assoc ws (lower p ∷ []) (map lower more) ∙ ap (λ l. ws ++ map lower l) (sym e) ∙ t.means;
+      means = ap (λ l. l ++ map lower more) v ∙ append_assoc ws (lower p ∷ []) (map lower more)
+          ∙ ap (λ l. ws ++ map lower l) (sym e) ∙ t.means;
       front = omega (arith, ap length v, length_push ws (lower p), word_first w, t.front);
     }
 
@@ -36,7 +42,8 @@ module _ (before now ws : List (List ℕ)) (t : TakingWords before now ws) where
     refuses_piece w = not_private (λ i. true≢false (sym (subst AllWords e (t.words.0 i.words)).0 ∙ w))
 
     -- a fifth word
-    pub wants_memory : IsWord PrivateSubtag p → (length ws < 4 → ⊥) → 4 < length (passing (is_word PrivateSubtag) before)
+    pub wants_memory : IsWord PrivateSubtag p → (length ws < 4 → ⊥) →
+        4 < length (passing (is_word PrivateSubtag) before)
     wants_memory w n = omega (arith, word_first w, t.front, n)
 
   -- at the end
@@ -50,10 +57,15 @@ module _ (before now ws : List (List ℕ)) (t : TakingWords before now ws) where
 
     pub takes_all : (ws ≡ [] → ⊥) → PrivateRead before ws now
     takes_all n = record {
-      follows = record { words = t.words.1 (subst AllWords (sym e) tt); nonempty = some before (λ b. n (all_taken ∙ ap (map lower) b)) };
+      follows = record {
+        words = t.words.1 (subst AllWords (sym e) tt);
+        nonempty = some before (λ b. n (all_taken ∙ ap (map lower) b));
+      };
       means = all_taken;
       left = e;
     }
 
     pub takes_none : ws ≡ [] → PrivateFault before faults.InvalidExtension
-    takes_none n = not_private (λ i. let z : 0 ≡ length before = ap length (sym n ∙ all_taken) ∙ length-map before lower in absurd (omega (arith, z, i.nonempty)))
+    takes_none n = not_private
+        (λ i. let z : 0 ≡ length before = ap length (sym n ∙ all_taken) ∙ length-map before lower in
+        absurd (omega (arith, z, i.nonempty)))

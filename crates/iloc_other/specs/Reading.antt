@@ -1,9 +1,11 @@
 -- What the readers of the private extension and of other extensions answer.
 use Rattle.std.specs.Prelude.{◌≡◌, ⊤, ℕ, ◌<◌, true, List, length, Result}
-use Rattle.iloc_spec_grammar.specs.Syntax.{Text, code_x, pieces, kept, is_other_singleton, is_word, PrivateSubtag}
+use Rattle.iloc_spec_grammar.specs.Syntax.{Text, code_x, pieces, kept, is_other_singleton, is_word}
+use Rattle.iloc_spec_grammar.specs.Syntax.{PrivateSubtag}
 use Rattle.iloc_spec_grammar.specs.Reading.{rest_of, passing}
 use Rattle.iloc_spec_parts.specs.Fronts.{OtherRead, OtherFault, PrivateRead, PrivateFault, other_front}
-use Rattle.iloc_spec_parts.specs.Parts.{begins_part, is_letter, OtherText, OtherTextFault, PrivateText, PrivateTextFault}
+use Rattle.iloc_spec_parts.specs.Parts.{begins_part, is_letter, OtherText, OtherTextFault, PrivateText}
+use Rattle.iloc_spec_parts.specs.Parts.{PrivateTextFault}
 use Rattle.iloc_subtags.specs.declared.parse_error.ParseError.{ParseError}
 use Rattle.iloc_subtags.specs.Judging.{Answers}
 

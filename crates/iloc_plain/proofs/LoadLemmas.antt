@@ -1,5 +1,7 @@
 -- A text of at most sixteen bytes in two numbers.
-use Rattle.std.proofs.Common.{◌≡◌, ℕ, zero, suc, ◌+◌, ◌-◌, ◌*◌, ◌/◌, ◌%◌, ◌^◌, ◌<◌, ◌≤◌, List, [], ◌∷◌, ◌++◌, length, get_or, take, drop, replicate, refl, sym, ap, ◌∙◌, arith, pow-suc, append_assoc, append-nil}
+use Rattle.std.proofs.Common.{◌≡◌, ℕ, zero, suc, ◌+◌, ◌-◌, ◌*◌, ◌/◌, ◌%◌, ◌^◌, ◌<◌, ◌≤◌, List, [], ◌∷◌, ◌++◌}
+use Rattle.std.proofs.Common.{length, get_or, take, drop, replicate, refl, sym, ap, ◌∙◌, arith, pow-suc}
+use Rattle.std.proofs.Common.{append_assoc, append-nil}
 use Rattle.std.proofs.lemmas.List.{take-append-drop, length-take-le, length-drop, get_or-drop, drop-drop}
 use Rattle.std.proofs.Math.Nat.{div-div-eq-div-mul, zero-div}
 use Rattle.std.proofs.lemmas.Nat.{pow-add}
@@ -22,7 +24,8 @@ bytes_pair zero m x y l = let same : x + y ≡ y = omega arith in ap (bytes m) s
 bytes_pair (suc n) m x y l =
     let first : (x + 256 * scaled n y) % 256 ≡ x % 256 = omega arith in
     let rest : (x + 256 * scaled n y) / 256 ≡ x / 256 + scaled n y = omega arith in
-    (λ i. first i ∷ bytes (more n m) (rest i)) ∙ ap (λ r. x % 256 ∷ r) (bytes_pair n m (x / 256) y (omega (arith, pow-suc 256 n)))
+    (λ i. first i ∷ bytes (more n m) (rest i))
+    ∙ ap (λ r. x % 256 ∷ r) (bytes_pair n m (x / 256) y (omega (arith, pow-suc 256 n)))
 
 pub bytes_of_pair : (x y : ℕ) → x < 2 ^ 64 → bytes 16 (x + 2 ^ 64 * (y + 0)) ≡ bytes 8 x ++ bytes 8 y
 bytes_of_pair x y l =
@@ -35,9 +38,11 @@ number_drop : (k : ℕ) (xs : List ℕ) → Bytes xs → number xs / 2 ^ (8 * k)
 number_drop zero xs h = omega arith
 number_drop (suc k) [] h = zero-div (2 ^ (8 * suc k))
 number_drop (suc k) (x ∷ xs) h =
-    let power : 2 ^ (8 * suc k) ≡ 256 * 2 ^ (8 * k) = omega (arith, pow-add 2 8 (8 * k), ap (λ j. 2 ^ j) (turned k)) in
+    let power : 2 ^ (8 * suc k) ≡ 256 * 2 ^ (8 * k) =
+    omega (arith, pow-add 2 8 (8 * k), ap (λ j. 2 ^ j) (turned k)) in
     let rest : (x + 256 * number xs) / 256 ≡ number xs = omega (arith, h 0) in
-    ap (λ d. (x + 256 * number xs) / d) power ∙ sym (div-div-eq-div-mul (x + 256 * number xs) 256 (2 ^ (8 * k)))
+    ap (λ d. (x + 256 * number xs) / d) power
+    ∙ sym (div-div-eq-div-mul (x + 256 * number xs) 256 (2 ^ (8 * k)))
     ∙ ap (λ m. m / 2 ^ (8 * k)) rest ∙ number_drop k xs (λ i. h (suc i))
   where
     turned : (k : ℕ) → 8 * suc k ≡ 8 + 8 * k
@@ -45,19 +50,25 @@ number_drop (suc k) (x ∷ xs) h =
 
 -- of eight bytes, each at its place
 pub number_eight : (xs : List ℕ) → length xs ≡ 8
-    → get_or xs 0 0 + get_or xs 1 0 * 256 + get_or xs 2 0 * 65536 + get_or xs 3 0 * 16777216 + get_or xs 4 0 * 4294967296 + get_or xs 5 0 * 1099511627776 + get_or xs 6 0 * 281474976710656 + get_or xs 7 0 * 72057594037927936 ≡ number xs
+    → get_or xs 0 0 + get_or xs 1 0 * 256 + get_or xs 2 0 * 65536 + get_or xs 3 0 * 16777216
+    + get_or xs 4 0 * 4294967296 + get_or xs 5 0 * 1099511627776 + get_or xs 6 0 * 281474976710656
+    + get_or xs 7 0 * 72057594037927936
+    ≡ number xs
 number_eight (a ∷ b ∷ c ∷ d ∷ e ∷ f ∷ g ∷ i ∷ []) h = omega arith
 number_eight xs h = absurd (omega arith)
 
 -- the last eight bytes without those that are among the first eight
-pub number_rest : (xs last : List ℕ) (n : ℕ) → Bytes xs → 8 < length xs → length xs ≤ 16 → last ≡ drop (length xs - 8) xs → n ≡ number last → n / 2 ^ (128 - 8 * length xs) ≡ number (drop 8 xs)
+pub number_rest : (xs last : List ℕ) (n : ℕ) → Bytes xs → 8 < length xs → length xs ≤ 16 →
+    last ≡ drop (length xs - 8) xs → n ≡ number last → n / 2 ^ (128 - 8 * length xs) ≡ number (drop 8 xs)
 number_rest xs last n h long few e g =
     let k = 16 - length xs in
     let power : 128 - 8 * length xs ≡ 8 * k = omega arith in
     let there : length xs - 8 + k ≡ 8 = omega arith in
-    let small : Bytes (drop (length xs - 8) xs) = λ i. rw (get_or-drop (length xs - 8) xs i 0) (h (length xs - 8 + i)) in
+    let small : Bytes (drop (length xs - 8) xs) =
+    λ i. rw (get_or-drop (length xs - 8) xs i 0) (h (length xs - 8 + i)) in
     (λ i. g i / 2 ^ power i) ∙ ap (λ l. number l / 2 ^ (8 * k)) e
-    ∙ number_drop k (drop (length xs - 8) xs) small ∙ ap number (drop-drop k (length xs - 8) xs ∙ ap (λ m. drop m xs) there)
+    ∙ number_drop k (drop (length xs - 8) xs) small
+    ∙ ap number (drop-drop k (length xs - 8) xs ∙ ap (λ m. drop m xs) there)
 
 -- ---- the text
 
@@ -72,23 +83,32 @@ front [] ys = refl
 front (x ∷ xs) ys = ap (λ r. x ∷ r) (front xs ys)
 
 whole_bytes : (xs : List ℕ) → Bytes xs → bytes (length xs) (number xs) ≡ xs
-whole_bytes xs h = let none : length xs ≡ length xs + 0 = omega arith in ap (λ k. bytes k (number xs)) none ∙ bytes-text xs 0 h ∙ append-nil xs
+whole_bytes xs h = let none : length xs ≡ length xs + 0 = omega arith in
+    ap (λ k. bytes k (number xs)) none ∙ bytes-text xs 0 h ∙ append-nil xs
 
-short_bytes : (xs : List ℕ) → Bytes xs → length xs ≤ 8 → bytes 8 (number xs) ≡ xs ++ replicate (8 - length xs) 0
-short_bytes xs h few = let all : length xs + (8 - length xs) ≡ 8 = omega arith in ap (λ k. bytes k (number xs)) (sym all) ∙ bytes-text xs (8 - length xs) h
+short_bytes : (xs : List ℕ) → Bytes xs → length xs ≤ 8 →
+    bytes 8 (number xs) ≡ xs ++ replicate (8 - length xs) 0
+short_bytes xs h few = let all : length xs + (8 - length xs) ≡ 8 = omega arith in
+    ap (λ k. bytes k (number xs)) (sym all) ∙ bytes-text xs (8 - length xs) h
 
-pub short_text : (xs : List ℕ) (low : ℕ) (zs : List ℕ) → Bytes xs → length xs ≤ 8 → low ≡ number xs → take (length xs) (bytes 8 low ++ zs) ≡ xs
+pub short_text : (xs : List ℕ) (low : ℕ) (zs : List ℕ) → Bytes xs → length xs ≤ 8 → low ≡ number xs →
+    take (length xs) (bytes 8 low ++ zs) ≡ xs
 short_text xs low zs h few e =
     ap (λ l. take (length xs) (l ++ zs)) (ap (bytes 8) e ∙ short_bytes xs h few)
     ∙ ap (take (length xs)) (append_assoc xs (replicate (8 - length xs) 0) zs) ∙ front xs _
 
-pub long_text : (xs : List ℕ) (low high : ℕ) → Bytes xs → 8 ≤ length xs → length xs ≤ 16 → low ≡ number (take 8 xs) → high ≡ number (drop 8 xs) → take (length xs) (bytes 8 low ++ bytes 8 high) ≡ xs
+pub long_text : (xs : List ℕ) (low high : ℕ) → Bytes xs → 8 ≤ length xs → length xs ≤ 16 →
+    low ≡ number (take 8 xs) → high ≡ number (drop 8 xs) → take (length xs) (bytes 8 low ++ bytes 8 high) ≡ xs
 long_text xs low high h long few e g =
     let first : length (take 8 xs) ≡ 8 = length-take-le 8 xs long in
     let rest : length (drop 8 xs) ≤ 8 = omega (arith, length-drop 8 xs) in
     let small : Bytes (drop 8 xs) = λ i. rw (get_or-drop 8 xs i 0) (h (8 + i)) in
-    let low_is : bytes 8 low ≡ take 8 xs = ap (bytes 8) e ∙ ap (λ k. bytes k (number (take 8 xs))) (sym first) ∙ whole_bytes (take 8 xs) (fit-take 8 xs h) in
-    let high_is : bytes 8 high ≡ drop 8 xs ++ replicate (8 - length (drop 8 xs)) 0 = ap (bytes 8) g ∙ short_bytes (drop 8 xs) small rest in
+    let low_is : bytes 8 low ≡ take 8 xs = ap (bytes 8) e ∙ ap (λ k. bytes k (number (take 8 xs))) (sym first)
+    ∙ whole_bytes (take 8 xs) (fit-take 8 xs h) in
+    let high_is : bytes 8 high ≡ drop 8 xs ++ replicate (8 - length (drop 8 xs)) 0 =
+    ap (bytes 8) g ∙ short_bytes (drop 8 xs) small rest in
     let whole : bytes 8 low ++ bytes 8 high ≡ xs ++ replicate (8 - length (drop 8 xs)) 0 =
-    (λ i. low_is i ++ high_is i) ∙ sym (append_assoc (take 8 xs) (drop 8 xs) (replicate (8 - length (drop 8 xs)) 0)) ∙ ap (λ l. l ++ replicate (8 - length (drop 8 xs)) 0) (take-append-drop 8 xs) in
+    (λ i. low_is i ++ high_is i)
+    ∙ sym (append_assoc (take 8 xs) (drop 8 xs) (replicate (8 - length (drop 8 xs)) 0))
+    ∙ ap (λ l. l ++ replicate (8 - length (drop 8 xs)) 0) (take-append-drop 8 xs) in
     ap (take (length xs)) whole ∙ front xs _

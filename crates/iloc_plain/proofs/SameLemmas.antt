@@ -1,5 +1,7 @@
 -- Two vectors are the same at their first lanes exactly if no lane there differs.
-use Rattle.std.proofs.Common.{◌≡◌, ℕ, zero, suc, ◌+◌, ◌-◌, ◌*◌, ◌/◌, ◌%◌, ◌^◌, ◌<◌, ◌≤◌, Bool, true, false, IsTrue, not, cond, List, [], ◌∷◌, length, take, map, bit_and, ◌↔◌, w8, refl, sym, ap, ◌∙◌, arith, eqb}
+use Rattle.std.proofs.Common.{◌≡◌, ℕ, zero, suc, ◌+◌, ◌-◌, ◌*◌, ◌/◌, ◌%◌, ◌^◌, ◌<◌, ◌≤◌, Bool, true, false}
+use Rattle.std.proofs.Common.{IsTrue, not, cond, List, [], ◌∷◌, length, take, map, bit_and, ◌↔◌, w8, refl}
+use Rattle.std.proofs.Common.{sym, ap, ◌∙◌, arith, eqb}
 use Rattle.std.specs.Prelude.{nat_eq}
 use Rattle.std.proofs.lemmas.Bool.Decides.{nat_tests}
 use Rattle.std.proofs.lemmas.Nat.{and_mask, mod-mul-add, one_shl, pow_pos}
@@ -23,7 +25,8 @@ bit true = omega arith
 bit false = omega arith
 
 cut : (b : Bool) (m n : ℕ) → (cond b 1 0 + 2 * m) % 2 ^ suc n ≡ cond b 1 0 + 2 * (m % 2 ^ n)
-cut b m n = ap (λ k. (cond b 1 0 + 2 * m) % k) (pow-suc 2 n) ∙ low_bit (cond b 1 0) m (2 ^ n) (bit b) (pow_pos n)
+cut b m n =
+    ap (λ k. (cond b 1 0 + 2 * m) % k) (pow-suc 2 n) ∙ low_bit (cond b 1 0) m (2 ^ n) (bit b) (pow_pos n)
 
 none_is : (b : Bool) (k : ℕ) → cond b 1 0 + 2 * k ≡ 0 → (b ≡ false) × (k ≡ 0)
 none_is true k e = absurd (omega arith)
@@ -35,7 +38,8 @@ same_byte a b e = grind (arith, nat_tests)
 no_difference : (a b : ℕ) → a ≡ b → differ a b ≡ false
 no_difference a b e = grind (arith, nat_tests)
 
-same_lanes : (v w : List ℕ) (n : ℕ) → length v ≡ length w → n ≤ length v → (mask_l (zip2 differ v w) % 2 ^ n ≡ 0) ↔ (take n v ≡ take n w)
+same_lanes : (v w : List ℕ) (n : ℕ) → length v ≡ length w → n ≤ length v →
+    (mask_l (zip2 differ v w) % 2 ^ n ≡ 0) ↔ (take n v ≡ take n w)
 same_lanes v w zero long few = (λ _. refl, λ _. omega arith)
 same_lanes [] w (suc n) long few = absurd (omega arith)
 same_lanes (a ∷ v) [] (suc n) long few = absurd (omega arith)
@@ -56,15 +60,23 @@ is_none m = (λ e. grind (arith, nat_tests), λ e. grind (arith, nat_tests))
 
 -- by the bits that mark the lanes that differ
 pub same_first : (v w : List ℕ) (n : ℕ) → length v ≡ 16 → length w ≡ 16 → n ≤ 16
-    → IsTrue (nat_eq (bit_and (mask_l (map (top (hbits w8)) (zip2 (λ a b. cond (differ a b) (2 ^ bits w8 - 1) 0) v w)) % 2 ^ 64) (1 * 2 ^ n % 2 ^ 64 - 1)) 0)
+    → IsTrue (nat_eq
+    (bit_and
+    (mask_l (map (top (hbits w8)) (zip2 (λ a b. cond (differ a b) (2 ^ bits w8 - 1) 0) v w)) % 2 ^ 64)
+    (1 * 2 ^ n % 2 ^ 64 - 1)) 0)
     ↔ (take n v ≡ take n w)
 same_first v w n long wide few =
     let ms = zip2 differ v w in
     let short : length ms ≤ 64 = omega (arith, length-zip2 differ v w (long ∙ sym wide)) in
-    let marks : mask_l (map (top (hbits w8)) (zip2 (λ a b. cond (differ a b) (2 ^ bits w8 - 1) 0) v w)) % 2 ^ 64 ≡ mask_l ms =
+    let marks : mask_l (map (top (hbits w8)) (zip2 (λ a b. cond (differ a b) (2 ^ bits w8 - 1) 0) v w))
+    % 2 ^ 64
+    ≡ mask_l ms =
     ap (λ l. mask_l l % 2 ^ 64) (tops_compared w8 differ v w) ∙ mask_l-mod ms 64 short in
     let ones : 1 * 2 ^ n % 2 ^ 64 - 1 ≡ 2 ^ n - 1 = ap (λ k. k - 1) (one_shl n 64 (omega arith)) in
-    let rest : bit_and (mask_l (map (top (hbits w8)) (zip2 (λ a b. cond (differ a b) (2 ^ bits w8 - 1) 0) v w)) % 2 ^ 64) (1 * 2 ^ n % 2 ^ 64 - 1) ≡ mask_l ms % 2 ^ n =
+    let rest : bit_and
+    (mask_l (map (top (hbits w8)) (zip2 (λ a b. cond (differ a b) (2 ^ bits w8 - 1) 0) v w)) % 2 ^ 64)
+    (1 * 2 ^ n % 2 ^ 64 - 1)
+    ≡ mask_l ms % 2 ^ n =
     (λ j. bit_and (marks j) (ones j)) ∙ and_mask (mask_l ms) n in
     let same = same_lanes v w n (long ∙ sym wide) (omega arith) in
     let none = is_none (mask_l ms % 2 ^ n) in

@@ -1,5 +1,6 @@
 -- The word of a currency is a subtag other than `true`.
-use Rattle.std.proofs.Common.{◌≡◌, ◌&&◌, ℕ, List, [], ◌∷◌, length, true, false, true≢false, cond, not, refl, sym, ap, ap₂, subst, codes, arith}
+use Rattle.std.proofs.Common.{◌≡◌, ◌&&◌, ℕ, List, [], ◌∷◌, length, true, false, true≢false, cond, not, refl}
+use Rattle.std.proofs.Common.{sym, ap, ap₂, subst, codes, arith}
 use Rattle.std.proofs.lemmas.Bool.{false_from_ne_true}
 use Rattle.std.proofs.lemmas.Bool.Decides.{nat_tests}
 use Rattle.std.specs.Int.{is_in_range}
@@ -23,12 +24,14 @@ length-currency w h = grind (arith, nat_tests)
 
 currency_is_subtag : (w : List ℕ) → IsWord CurrencyType w → IsWord Subtag w
 unfolding is_word
-currency_is_subtag w h = ap₂ ◌&&◌ (ap (is_in_range 2 8) (length-currency w h)) (word_letters_or_digits CurrencyType w h)
+currency_is_subtag w h =
+    ap₂ ◌&&◌ (ap (is_in_range 2 8) (length-currency w h)) (word_letters_or_digits CurrencyType w h)
 
 -- `true` is none, having four letters
 currency_not_true : (w : List ℕ) → IsWord CurrencyType w → is_true w ≡ false
 unfolding is_word is_true
-currency_not_true w h = false_from_ne_true (is_true w) (λ t. ne_true (subst (IsWord CurrencyType) (sym (true_word t)) h))
+currency_not_true w h =
+    false_from_ne_true (is_true w) (λ t. ne_true (subst (IsWord CurrencyType) (sym (true_word t)) h))
   where
     ne_true : IsWord CurrencyType (codes "true") → ⊥
     ne_true e = true≢false (sym e)

@@ -11,8 +11,10 @@ use Rattle.iloc_word_list.specs.Reads.{ValueTextReads}
 value_judges : (t : List ℕ) → Judges (λ v. unicode_value t ≡ Ok v) (λ f. unicode_value t ≡ Err f)
 value_judges t = told (unicode_value t)
 
-pub value_accepts : (t : List ℕ) (r : Result (List (List ℕ)) ParseError) → ValueTextReads t r → (v : List (List ℕ)) → unicode_value t ≡ Ok v → Accepts (λ v. v) ⊤ v r
+pub value_accepts : (t : List ℕ) (r : Result (List (List ℕ)) ParseError) → ValueTextReads t r →
+    (v : List (List ℕ)) → unicode_value t ≡ Ok v → Accepts (λ v. v) ⊤ v r
 value_accepts t r h = accepts (λ v. v) ⊤ (value_judges t) r h
 
-pub value_refuses : (t : List ℕ) (r : Result (List (List ℕ)) ParseError) → ValueTextReads t r → (f : Fault) → unicode_value t ≡ Err f → Refuses ⊤ f r
+pub value_refuses : (t : List ℕ) (r : Result (List (List ℕ)) ParseError) → ValueTextReads t r → (f : Fault) →
+    unicode_value t ≡ Err f → Refuses ⊤ f r
 value_refuses t r h = refuses (λ v. v) ⊤ (value_judges t) r h

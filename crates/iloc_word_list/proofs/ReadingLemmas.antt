@@ -1,5 +1,6 @@
 -- Words that are taken one at a time, and added without `true`.
-use Rattle.std.proofs.Common.{◌≡◌, ℕ, suc, ◌+◌, ◌≤◌, true, false, not, cond, List, [], ◌∷◌, ◌++◌, length, map, sym, ap, ◌∙◌, arith, append_assoc, append-nil, length-append, Some, option_map}
+use Rattle.std.proofs.Common.{◌≡◌, ℕ, suc, ◌+◌, ◌≤◌, true, false, not, cond, List, [], ◌∷◌, ◌++◌, length, map}
+use Rattle.std.proofs.Common.{sym, ap, ◌∙◌, arith, append_assoc, append-nil, length-append, Some, option_map}
 use Rattle.iloc_spec_grammar.specs.Syntax.{Kind, is_word, IsWord, normal, is_true}
 use Rattle.iloc_spec_grammar.specs.Reading.{take_first, skip_first, passing, past}
 use Rattle.iloc_subtags.proofs.TakingLemmas.{took}
@@ -10,7 +11,8 @@ use Rattle.iloc_word_list.specs.Values.{without_true, with_subtag}
 abbrev pub words_read : Kind → List (List ℕ) → List (List ℕ)
 words_read k ps = map (normal k) (passing (is_word k) ps)
 
-words_read_more : (k : Kind) (p : List ℕ) (ps : List (List ℕ)) → IsWord k p → words_read k (p ∷ ps) ≡ normal k p ∷ words_read k ps
+words_read_more : (k : Kind) (p : List ℕ) (ps : List (List ℕ)) → IsWord k p →
+    words_read k (p ∷ ps) ≡ normal k p ∷ words_read k ps
 words_read_more k p ps h = ap (λ b. map (normal k) (cond b (p ∷ passing (is_word k) ps) [])) h
 
 -- of the words before, those up to now are in the value
@@ -18,29 +20,43 @@ pub record Valued (k : Kind) (before now value : List (List ℕ)) : Type 0 where
   pub gives : value ++ without_true (words_read k now) ≡ without_true (words_read k before)
   pub skips : past (is_word k) now ≡ past (is_word k) before
 
-one_more : (v : List (List ℕ)) (w : List ℕ) (ws : List (List ℕ)) → with_subtag v w ++ without_true ws ≡ v ++ without_true (w ∷ ws)
-one_more v w ws = elim (is_true w) as (λ b. (v ++ cond (not b) (w ∷ []) []) ++ without_true ws ≡ v ++ cond (not b) (w ∷ without_true ws) (without_true ws)) [
-  | true ↦ ap (λ l. l ++ without_true ws) (append-nil v)
-  | false ↦ append_assoc v (w ∷ []) (without_true ws)
-]
+one_more : (v : List (List ℕ)) (w : List ℕ) (ws : List (List ℕ)) →
+    with_subtag v w ++ without_true ws ≡ v ++ without_true (w ∷ ws)
+one_more v w ws = elim (is_true w) as (λ b. (v ++ cond (not b) (w ∷ []) []) ++ without_true ws
+    ≡ v ++ cond (not b) (w ∷ without_true ws) (without_true ws)) [
+      | true ↦ ap (λ l. l ++ without_true ws) (append-nil v)
+      | false ↦ append_assoc v (w ∷ []) (without_true ws)
+    ]
 
-module _ (k : Kind) (before now value : List (List ℕ)) (t : Valued k before now value) (w : List ℕ) (later : List (List ℕ)) (e : Some w ≡ option_map (normal k) (take_first (is_word k) now)) (l : later ≡ skip_first (is_word k) now) where
+module _ (k : Kind) (before now value : List (List ℕ)) (t : Valued k before now value) (w : List ℕ)
+    (later : List (List ℕ)) (e : Some w ≡ option_map (normal k) (take_first (is_word k) now))
+    (l : later ≡ skip_first (is_word k) now) where
   now_is : (p : List ℕ) × IsWord k p × (w ≡ normal k p) × (now ≡ p ∷ later)
   now_is = let (p, h, same, cut) = took k now w e in (p, h, same, cut ∙ ap (λ ps. p ∷ ps) (sym l))
 
   words_now : words_read k now ≡ w ∷ words_read k later
-  words_now = let (p, h, same, cut) = now_is in ap (words_read k) cut ∙ words_read_more k p later h ∙ ap (λ v. v ∷ words_read k later) (sym same)
+  words_now = let (p, h, same, cut) = now_is in
+      ap (words_read k) cut ∙ words_read_more k p later h ∙ ap (λ v. v ∷ words_read k later) (sym same)
 
   pub valued_more : (more : List (List ℕ)) → more ≡ with_subtag value w → Valued k before later more
   valued_more more is = let (p, h, same, cut) = now_is in record {
-    gives = ap (λ v. v ++ without_true (words_read k later)) is ∙ one_more value w (words_read k later) ∙ ap (λ ws. value ++ without_true ws) (sym words_now) ∙ t.gives;
-    skips = sym (ap (past (is_word k)) cut ∙ ap (λ b. cond b (past (is_word k) later) (p ∷ later)) h) ∙ t.skips;
+    gives = ap (λ v. v ++ without_true (words_read k later)) is ∙ one_more value w (words_read k later)
+        ∙ ap (λ ws. value ++ without_true ws) (sym words_now) ∙ t.gives;
+    skips =
+        sym (ap (past (is_word k)) cut ∙ ap (λ b. cond b (past (is_word k) later) (p ∷ later)) h) ∙ t.skips;
   }
 
   -- where memory was refused, more than four words besides `true` stand there
   pub valued_many : is_true w ≡ false → 4 ≤ length value → length (without_true (words_read k before)) ≤ 4 → ⊥
   valued_many other many few =
-      let front : without_true (words_read k now) ≡ w ∷ without_true (words_read k later) = ap without_true words_now ∙ ap (λ b. cond (not b) (w ∷ without_true (words_read k later)) (without_true (words_read k later))) other in
-      let n : length (value ++ (w ∷ without_true (words_read k later))) ≡ length (without_true (words_read k before)) = ap length (ap (λ l. value ++ l) (sym front) ∙ t.gives) in
-      let m : length (value ++ (w ∷ without_true (words_read k later))) ≡ length value + suc (length (without_true (words_read k later))) = length-append value (w ∷ without_true (words_read k later)) in
+      let front : without_true (words_read k now) ≡ w ∷ without_true (words_read k later) =
+      ap without_true words_now
+      ∙ ap (λ b. cond (not b) (w ∷ without_true (words_read k later)) (without_true (words_read k later)))
+      other in
+      let n : length (value ++ (w ∷ without_true (words_read k later)))
+      ≡ length (without_true (words_read k before)) =
+      ap length (ap (λ l. value ++ l) (sym front) ∙ t.gives) in
+      let m : length (value ++ (w ∷ without_true (words_read k later)))
+      ≡ length value + suc (length (without_true (words_read k later))) =
+      length-append value (w ∷ without_true (words_read k later)) in
       omega arith

@@ -2,7 +2,8 @@
 use Rattle.std.specs.Prelude.{◌≡◌, ℕ, Option, Some, None, Result, Ok, Err, codes}
 use Rattle.iloc_spec_grammar.specs.Syntax.{Text}
 use Rattle.iloc_word_list.specs.declared.errors.PreferencesParseError.{PreferencesParseError}
-use Rattle.iloc_word_list.specs.declared.errors.PreferencesParseError.TheVariants.{InvalidKeywordValue, OutOfMemory}
+use Rattle.iloc_word_list.specs.declared.errors.PreferencesParseError.TheVariants.{InvalidKeywordValue}
+use Rattle.iloc_word_list.specs.declared.errors.PreferencesParseError.TheVariants.{OutOfMemory}
 
 -- the words of each refusal
 abbrev pub words_of : PreferencesParseError → Text

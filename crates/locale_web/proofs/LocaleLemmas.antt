@@ -11,7 +11,8 @@ use Rattle.iloc_spec_grammar.proofs.PartTexts.{text_of_parts}
 use Rattle.iloc_spec_grammar.proofs.RawLaws.{languages_table}
 use Rattle.iloc_spec_grammar.proofs.SameText.{well_formed_is}
 use Rattle.iloc_spec_preferences.specs.DataLocales.{DataLocale, DataMeans, data_text, locale_of_data}
-use Rattle.iloc_spec_preferences.proofs.DataLaws.{locale_of_data_is_value, locale_of_data_is_well_formed, read_is_data_locale, text_of_data}
+use Rattle.iloc_spec_preferences.proofs.DataLaws.{locale_of_data_is_value, locale_of_data_is_well_formed}
+use Rattle.iloc_spec_preferences.proofs.DataLaws.{read_is_data_locale, text_of_data}
 use Rattle.iloc_kinds.specs.Kinds.{IsNormalTextOf, parts_of, rows_of}
 use Rattle.iloc_told.specs.Modes.{IsNormalText}
 use Rattle.iloc_told.specs.declared.Mode.{Mode}
@@ -48,7 +49,8 @@ alone_is t i m = record {
   text = sym (alone_text i);
 }
 
-data_is : (t : Text) (d : DataLocale) → DataMeans languages t d → IsNormalTextOf (locale_of_data d) (data_text d)
+data_is : (t : Text) (d : DataLocale) → DataMeans languages t d →
+    IsNormalTextOf (locale_of_data d) (data_text d)
 data_is t d m =
     let h = read_is_data_locale t d m in
     let v = locale_of_data_is_value d h in

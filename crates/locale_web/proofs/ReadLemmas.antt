@@ -1,5 +1,6 @@
 -- From outlines and parts to what a text is read as.
-use Rattle.std.proofs.Common.{◌≡◌, ◌↔◌, ℕ, ◌≤◌, ◌<◌, ◌^◌, Bool, false, IsTrue, List, length, refl, sym, ◌∙◌, true≢false, arith}
+use Rattle.std.proofs.Common.{◌≡◌, ◌↔◌, ℕ, ◌≤◌, ◌<◌, ◌^◌, Bool, false, IsTrue, List, length, refl, sym, ◌∙◌}
+use Rattle.std.proofs.Common.{true≢false, arith}
 use Rattle.std.proofs.lemmas.Bool.{false_from_ne_true}
 use Rattle.std.proofs.lemmas.Bool.Decides.{nat_tests}
 use Rattle.iloc_spec_grammar.specs.Syntax.{pieces, languages}
@@ -25,11 +26,14 @@ use Rattle.locale_web.specs.Reading.{IsReadInto, IsNormalWithin}
 use Rattle.locale_web.specs.declared.reading.Found.TheVariants as founds
 
 -- a text that begins with no language is refused
-pub no_language : (mode : Mode) (t : List ℕ) (begins : Bool) → IsTrue begins ↔ BeginsWithLanguage t → begins ≡ false → HasRefusal mode t InvalidLanguage
-no_language mode t begins e f = no_language_refused mode t (false_from_ne_true _ (λ h. true≢false (sym (e.1 h) ∙ f)))
+pub no_language : (mode : Mode) (t : List ℕ) (begins : Bool) → IsTrue begins ↔ BeginsWithLanguage t →
+    begins ≡ false → HasRefusal mode t InvalidLanguage
+no_language mode t begins e f =
+    no_language_refused mode t (false_from_ne_true _ (λ h. true≢false (sym (e.1 h) ∙ f)))
 
 -- an identifier's outline gives its normal text, which is as long
-pub identifier_outlined : (t : List ℕ) (spans : Spans) (o : Outline) (i : Identifier) → IdentifierMeans languages (pieces t) i
+pub identifier_outlined : (t : List ℕ) (spans : Spans) (o : Outline) (i : Identifier) →
+    IdentifierMeans languages (pieces t) i
     → Gives t o spans (identifier_text i) → IsReadInto Langid t spans (founds.Outlined o)
 identifier_outlined t spans o i m g =
     let long : length (identifier_text i) ≡ length t = length-identifier_means languages t i m in
@@ -43,7 +47,8 @@ locale_outlined t spans o M m g =
     (text M, record { meant = (M, m, refl); few = omega (arith, long) }, g)
 
 -- the parts of a data locale have its normal text
-pub parts_within : (t : List ℕ) (p : DataParts) → DataMeans languages t (parts.value_of p) → IsNormalWithin Data t 4 (data_text (parts.value_of p))
+pub parts_within : (t : List ℕ) (p : DataParts) → DataMeans languages t (parts.value_of p) →
+    IsNormalWithin Data t 4 (data_text (parts.value_of p))
 parts_within t p m = record { meant = (parts.value_of p, m, refl); few = parts_fit t p m }
 
 -- a length is not cut where it is a number of the machine

@@ -1,5 +1,6 @@
 -- Two texts have one normal text exactly if they mean the same.
-use Rattle.std.proofs.Common.{◌≡◌, ℕ, Bool, true, false, IsTrue, ◌↔◌, ◌⊎◌, List, inl, inr, refl, sym, ap, ◌∙◌, subst, true≢false}
+use Rattle.std.proofs.Common.{◌≡◌, ℕ, Bool, true, false, IsTrue, ◌↔◌, ◌⊎◌, List, inl, inr, refl, sym, ap, ◌∙◌}
+use Rattle.std.proofs.Common.{subst, true≢false}
 use Rattle.std.specs.Int.{from_bool}
 use Rattle.iloc_spec_grammar.specs.Syntax.{pieces, languages}
 use Rattle.iloc_spec_grammar.specs.Meaning as meaning
@@ -23,37 +24,49 @@ use Rattle.iloc_calls.specs.declared.status.Status.TheVariants.{Done}
 use Rattle.locale_web.specs.Answers.{SameIsWritten}
 
 -- two texts have one normal text exactly if they mean the same
-pub same_normal : (mode : Mode) (t u a b : List ℕ) → IsNormalText languages mode t a → IsNormalText languages mode u b → (a ≡ b) ↔ MeanSame mode t u
+pub same_normal : (mode : Mode) (t u a b : List ℕ) → IsNormalText languages mode t a →
+    IsNormalText languages mode u b → (a ≡ b) ↔ MeanSame mode t u
 same_normal Langid t u a b (i, m, e) (j, n, f) =
     let q = same_identifier_meaning (pieces t) (pieces u) i j m n in (
       (λ s. (i, m, subst (IdentifierMeans languages (pieces u)) (sym (q.1 (sym e ∙ s ∙ f))) n)),
-      (λ h. e ∙ q.0 (identifiers.one_meaning (pieces t) i h.0 m h.1 ∙ identifiers.one_meaning (pieces u) h.0 j h.2 n) ∙ sym f),
+      (λ h. e
+          ∙ q.0
+          (identifiers.one_meaning (pieces t) i h.0 m h.1 ∙ identifiers.one_meaning (pieces u) h.0 j h.2 n)
+          ∙ sym f),
     )
 same_normal Locale t u a b (M, m, e) (N, n, f) =
     let q = same_meaning languages languages_table t u M N m n in (
       (λ s. (M, m, subst (Means languages u) (sym (q.1 (sym e ∙ s ∙ f))) n)),
-      (λ h. e ∙ q.0 (locales.one_meaning languages_table t M h.0 m h.1 ∙ locales.one_meaning languages_table u h.0 N h.2 n) ∙ sym f),
+      (λ h. e
+          ∙ q.0 (locales.one_meaning languages_table t M h.0 m h.1
+          ∙ locales.one_meaning languages_table u h.0 N h.2 n)
+          ∙ sym f),
     )
 same_normal Data t u a b (d, m, e) (c, n, f) = (
   (λ s. (d, m, subst (DataMeans languages u) (sym (one_value (sym e ∙ s ∙ f))) n)),
-  (λ h. e ∙ ap data_text (one_data languages_table t d h.0 m h.1 ∙ one_data languages_table u h.0 c h.2 n) ∙ sym f),
+  (λ h. e ∙ ap data_text (one_data languages_table t d h.0 m h.1 ∙ one_data languages_table u h.0 c h.2 n)
+      ∙ sym f),
 )
   where
     one_value : data_text d ≡ data_text c → d ≡ c
-    one_value x = one_data languages_table (data_text c) d c (subst (λ (v : List ℕ). DataMeans languages v d) x (read_back t d m)) (read_back u c n)
+    one_value x = one_data languages_table (data_text c) d c
+        (subst (λ (v : List ℕ). DataMeans languages v d) x (read_back t d m)) (read_back u c n)
 
 -- a text with a fault means nothing
-pub faulty_apart : (mode : Mode) (t u : List ℕ) (f : meaning.Fault) → IsFaulty languages mode u f → MeanSame mode t u → ⊥
+pub faulty_apart : (mode : Mode) (t u : List ℕ) (f : meaning.Fault) → IsFaulty languages mode u f →
+    MeanSame mode t u → ⊥
 faulty_apart Langid t u f h (i, m, n) = identifier_apart (pieces u) i f n h
 faulty_apart Locale t u f h (M, m, n) = accepted_no_fault languages_table u M f n h
 faulty_apart Data t u f h (d, m, n) = data_apart languages_table u d f n h
 
-number_of_same : (P : Type 0) (same : Bool) → IsTrue same ↔ P → ((from_bool same ≡ 1) × P) ⊎ ((from_bool same ≡ 0) × ¬ P)
+number_of_same : (P : Type 0) (same : Bool) → IsTrue same ↔ P →
+    ((from_bool same ≡ 1) × P) ⊎ ((from_bool same ≡ 0) × ¬ P)
 number_of_same P true e = inl (refl, e.0 refl)
 number_of_same P false e = inr (refl, λ m. true≢false (sym (e.1 m)))
 
 -- two texts mean the same exactly if the same bytes were put
-pub bytes_same : (mode : Mode) (t u a b : List ℕ) (before after : ℕ) (same : Bool) → IsNormalText languages mode t a → IsNormalText languages mode u b
+pub bytes_same : (mode : Mode) (t u a b : List ℕ) (before after : ℕ) (same : Bool) →
+    IsNormalText languages mode t a → IsNormalText languages mode u b
     → after ≡ from_bool same → IsTrue same ↔ (a ≡ b) → SameIsWritten mode t u before after Done
 bytes_same mode t u a b before after same h k is e =
     let q = same_normal mode t u a b h k in (
@@ -63,9 +76,11 @@ bytes_same mode t u a b before after same h k is e =
     )
 
 -- and a text that means something means nothing that is refused
-pub refused_apart : (mode : Mode) (t u : List ℕ) (e : ParseError) → HasRefusal mode u e → MeanSame mode t u → ⊥
+pub refused_apart : (mode : Mode) (t u : List ℕ) (e : ParseError) → HasRefusal mode u e → MeanSame mode t u →
+    ⊥
 refused_apart mode t u refusals.InvalidLanguage h m = faulty_apart mode t u meaning.InvalidLanguage h m
 refused_apart mode t u refusals.InvalidSubtag h m = faulty_apart mode t u meaning.InvalidSubtag h m
 refused_apart mode t u refusals.InvalidExtension h m = faulty_apart mode t u meaning.InvalidExtension h m
-refused_apart mode t u refusals.DuplicatedExtension h m = faulty_apart mode t u meaning.DuplicatedExtension h m
+refused_apart mode t u refusals.DuplicatedExtension h m =
+    faulty_apart mode t u meaning.DuplicatedExtension h m
 refused_apart mode t u refusals.OutOfMemory h m = h

@@ -9,7 +9,9 @@ use Rattle.iloc_told.specs.declared.Mode.{Mode}
 use Rattle.iloc_calls.specs.Answers.{HandsOut, MeanSame, order_number}
 use Rattle.iloc_calls.specs.Numbers.{number_of}
 use Rattle.iloc_calls.specs.declared.status.Status.{Status}
-use Rattle.iloc_calls.specs.declared.status.Status.TheVariants.{Done, InvalidLanguage, InvalidSubtag, InvalidExtension, DuplicatedExtension, BufferTooSmall}
+use Rattle.iloc_calls.specs.declared.status.Status.TheVariants.{Done, InvalidLanguage, InvalidSubtag}
+use Rattle.iloc_calls.specs.declared.status.Status.TheVariants.{InvalidExtension, DuplicatedExtension}
+use Rattle.iloc_calls.specs.declared.status.Status.TheVariants.{BufferTooSmall}
 use Rattle.locale_web.specs.Reading.{IsBeyondRoom}
 
 -- the number of an answer: that of its status; none is beyond what is read

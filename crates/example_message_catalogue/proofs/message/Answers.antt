@@ -1,4 +1,5 @@
-use Rattle.std.proofs.Common.{◌≡◌, ℕ, zero, suc, ◌<◌, List, [], ◌∷◌, length, get_or, refl, sym, ap, ◌∙◌, true≢false, arith}
+use Rattle.std.proofs.Common.{◌≡◌, ℕ, zero, suc, ◌<◌, List, [], ◌∷◌, length, get_or, refl, sym, ap, ◌∙◌}
+use Rattle.std.proofs.Common.{true≢false, arith}
 use Rattle.std.proofs.lemmas.List.Elements.{AllWithin-more}
 use Rattle.icu_locale_core.specs.Values.{text as text_of}
 use Rattle.icu_locale_core.specs.LocaleReading.{value_of}
@@ -22,5 +23,9 @@ returns-then-prints-clause-found c = (
 
 -- one more entry does not print it
 pub loop-entry-preserved : goal.loop-entry-preserved
-loop-entry-preserved c = AllWithin-more (λ e. ¬ (text_of (value_of e.0) ≡ c.args.text.now)) c.args.entries.now 0 c.loop-entry.entry-index c.loop-entry.invariant
-    (λ d h. true≢false (sym (c.prints.ensures.1 (ap (λ e. text_of (value_of e.0)) (c.entry-item.is ∙ same_item c.args.entries.now c.loop-entry.entry-index c.entry-item.result d c.loop-entry-test.true) ∙ h)) ∙ c.if-prints.false))
+loop-entry-preserved c = AllWithin-more (λ e. ¬ (text_of (value_of e.0) ≡ c.args.text.now)) c.args.entries.now
+    0 c.loop-entry.entry-index c.loop-entry.invariant
+    (λ d h. true≢false (sym (c.prints.ensures.1 (ap (λ e. text_of (value_of e.0)) (c.entry-item.is
+    ∙ same_item c.args.entries.now c.loop-entry.entry-index c.entry-item.result d c.loop-entry-test.true)
+    ∙ h))
+    ∙ c.if-prints.false))

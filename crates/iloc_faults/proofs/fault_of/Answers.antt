@@ -3,7 +3,8 @@ use Rattle.iloc_faults.proofs.FaultAnswers.{good_is, bad_is, inside_is}
 use Rattle.iloc_faults.proofs.fault_of.Goals as goal
 
 pub returns-in-Data-clause-inside : goal.returns-in-Data-clause-inside
-returns-in-Data-clause-inside c = inside_is Data c.args.text.now c.data_fault.result c.data_fault.ensures.refused
+returns-in-Data-clause-inside c =
+    inside_is Data c.args.text.now c.data_fault.result c.data_fault.ensures.refused
 
 pub returns-in_default : goal.returns-in_default
 returns-in_default c =

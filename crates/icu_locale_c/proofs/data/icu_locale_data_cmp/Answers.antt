@@ -5,4 +5,5 @@ use Rattle.icu_locale_c.proofs.data.icu_locale_data_cmp.Goals as goal
 
 pub returns-in-Some-clause-unknown : goal.returns-in-Some-clause-unknown
 returns-in-Some-clause-unknown c far =
-    absurd (no_priority c.in-Some.priority c.args.priority ((c.in-Some.ensures c.in-Some.priority).0 refl) far)
+    absurd
+    (no_priority c.in-Some.priority c.args.priority ((c.in-Some.ensures c.in-Some.priority).0 refl) far)

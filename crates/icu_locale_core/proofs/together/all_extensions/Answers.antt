@@ -6,4 +6,5 @@ use Rattle.icu_locale_core.proofs.TogetherLemmas.{by_value}
 use Rattle.icu_locale_core.proofs.together.all_extensions.Goals as goal
 
 pub returns : goal.returns
-returns c = by_value extensions.value_of extensions_cmp extensions_exact _ extensions_fed _ c.equality.ensures c.hashes.ensures
+returns c = by_value extensions.value_of extensions_cmp extensions_exact _ extensions_fed _ c.equality.ensures
+    c.hashes.ensures

@@ -6,4 +6,5 @@ use Rattle.icu_locale_core.proofs.TogetherLemmas.{by_value}
 use Rattle.icu_locale_core.proofs.together.identifiers.Goals as goal
 
 pub returns : goal.returns
-returns c = by_value langid.value_of identifier_cmp identifier_exact _ identifier_fed _ c.equality.ensures.identifiers c.hashes.ensures
+returns c = by_value langid.value_of identifier_cmp identifier_exact _ identifier_fed _
+    c.equality.ensures.identifiers c.hashes.ensures

@@ -6,4 +6,5 @@ use Rattle.icu_locale_core.proofs.TogetherLemmas.{by_value}
 use Rattle.icu_locale_core.proofs.together.locales.Goals as goal
 
 pub returns : goal.returns
-returns c = by_value locale.value_of locale_cmp locale_exact _ locale_fed _ c.equality.ensures c.hashes.ensures
+returns c =
+    by_value locale.value_of locale_cmp locale_exact _ locale_fed _ c.equality.ensures c.hashes.ensures

@@ -6,4 +6,5 @@ use Rattle.icu_locale_core.proofs.TogetherLemmas.{by_value}
 use Rattle.icu_locale_core.proofs.together.transform_extensions.Goals as goal
 
 pub returns : goal.returns
-returns c = by_value transform.value_of transform_cmp transform_exact _ transform_fed _ c.equality.ensures c.hashes.ensures
+returns c = by_value transform.value_of transform_cmp transform_exact _ transform_fed _ c.equality.ensures
+    c.hashes.ensures

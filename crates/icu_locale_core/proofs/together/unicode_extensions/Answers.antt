@@ -6,4 +6,5 @@ use Rattle.icu_locale_core.proofs.TogetherLemmas.{by_value}
 use Rattle.icu_locale_core.proofs.together.unicode_extensions.Goals as goal
 
 pub returns : goal.returns
-returns c = by_value unicode.value_of unicode_cmp unicode_exact _ unicode_fed _ c.equality.ensures.unicode c.hashes.ensures.unicode
+returns c = by_value unicode.value_of unicode_cmp unicode_exact _ unicode_fed _ c.equality.ensures.unicode
+    c.hashes.ensures.unicode

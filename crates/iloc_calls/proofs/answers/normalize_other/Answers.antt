@@ -10,7 +10,10 @@ use Rattle.iloc_calls.proofs.answers.normalize_other.Goals as goal
 pub returns-in-Some : goal.returns-in-Some
 returns-in-Some c = record {
   known = λ m e.
-      subst (λ (n : Mode). EndsAs (NormalizesTo n c.args.text.now c.args.buffer.now c.normalize_told.new.buffer c.normalize_told.new.needed) c.normalize_told.result)
+      subst (λ (n : Mode). EndsAs
+      (NormalizesTo n c.args.text.now c.args.buffer.now c.normalize_told.new.buffer
+      c.normalize_told.new.needed) c.normalize_told.result)
       (ap (λ o. unwrap_or o m) (sym c.in-Some.is ∙ (c.mode_of.ensures m).1 e)) c.normalize_told.ensures;
-  unknown = λ far. absurd (no_mode c.in-Some.mode c.args.mode ((c.mode_of.ensures c.in-Some.mode).0 c.in-Some.is) far);
+  unknown = λ far.
+      absurd (no_mode c.in-Some.mode c.args.mode ((c.mode_of.ensures c.in-Some.mode).0 c.in-Some.is) far);
 }

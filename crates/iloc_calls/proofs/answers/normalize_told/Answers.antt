@@ -6,6 +6,7 @@ pub returns-in-Normal : goal.returns-in-Normal
 returns-in-Normal c = (
   c.hand_out_bytes.result,
   c.number.ensures,
-  handed_out c.args.mode c.args.text.now c.in-Normal.normal.now c.args.buffer.now c.hand_out_bytes.new.buffer c.hand_out_bytes.new.needed c.hand_out_bytes.result
+  handed_out c.args.mode c.args.text.now c.in-Normal.normal.now c.args.buffer.now c.hand_out_bytes.new.buffer
+      c.hand_out_bytes.new.needed c.hand_out_bytes.result
       c.in-Normal.ensures.told c.hand_out_bytes.ensures,
 )

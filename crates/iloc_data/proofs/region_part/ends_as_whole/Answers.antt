@@ -15,4 +15,5 @@ returns c h =
     named_whole c.args.word.now
     (at_least c.len.result _ c.if-len-lt6.false c.len.ensures.value)
     (at_most c.len-2.result _ c.if-len-gt7.false c.len-2.ensures.value)
-    (subst (λ w. pointwise nat_eq whole (drop (length w - 4) w) ≡ true) (c.as_bytes.ensures.value ∙ c.as_str.ensures.value) (sym c.ends_with.ensures.value ∙ h))
+    (subst (λ w. pointwise nat_eq whole (drop (length w - 4) w) ≡ true)
+    (c.as_bytes.ensures.value ∙ c.as_str.ensures.value) (sym c.ends_with.ensures.value ∙ h))

@@ -11,4 +11,5 @@ use Rattle.iloc_faults.proofs.identifier.is_new.Goals as goal
 pub returns-in-Data : goal.returns-in-Data
 returns-in-Data c vs h =
     let k = subst (λ (o : Option Left). AreVariantsRead o c.args.at vs) c.in-Some.is h in
-    subst (λ (m : Mode). false ≡ is_new m vs (lower (piece_left c.args.at))) (sym c.in-Data.is) (new_data vs k.0 (lower (piece_left c.args.at)) k.2 k.3)
+    subst (λ (m : Mode). false ≡ is_new m vs (lower (piece_left c.args.at))) (sym c.in-Data.is)
+    (new_data vs k.0 (lower (piece_left c.args.at)) k.2 k.3)

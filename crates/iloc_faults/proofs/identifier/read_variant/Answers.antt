@@ -6,10 +6,14 @@ use Rattle.iloc_faults.proofs.identifier.read_variant.Goals as goal
 
 pub returns-in-None : goal.returns-in-None
 returns-in-None c vs h =
-    variant_first c.args.mode vs c.args.at c.requires.left (sym c.is_variant.ensures ∙ c.if-not-is_variant.false)
-    (sym (c.is_new.ensures vs h) ∙ c.if-not-is_new.false) (subst (λ (o : Option Left). AreVariantsRead o c.args.at vs) c.in-None.is h)
+    variant_first c.args.mode vs c.args.at c.requires.left
+    (sym c.is_variant.ensures ∙ c.if-not-is_variant.false)
+    (sym (c.is_new.ensures vs h) ∙ c.if-not-is_new.false)
+    (subst (λ (o : Option Left). AreVariantsRead o c.args.at vs) c.in-None.is h)
 
 pub returns-in-Some : goal.returns-in-Some
 returns-in-Some c vs h =
-    variant_more c.args.mode vs c.args.at c.in-Some.first (sym c.is_variant.ensures ∙ c.if-not-is_variant.false)
-    (sym (c.is_new.ensures vs h) ∙ c.if-not-is_new.false) (subst (λ (o : Option Left). AreVariantsRead o c.args.at vs) c.in-Some.is h)
+    variant_more c.args.mode vs c.args.at c.in-Some.first
+    (sym c.is_variant.ensures ∙ c.if-not-is_variant.false)
+    (sym (c.is_new.ensures vs h) ∙ c.if-not-is_new.false)
+    (subst (λ (o : Option Left). AreVariantsRead o c.args.at vs) c.in-Some.is h)

@@ -7,10 +7,14 @@ use Rattle.iloc_faults.proofs.step.read_singleton.Goals as goal
 
 pub returns-in-Locale : goal.returns-in-Locale
 returns-in-Locale c vs seen h =
-    subst (λ (m : Mode). IsPieceRead c.args.at (block_next m c.args.state.part seen (slice_index (piece_left c.args.at) 0)) c.read_block.result) (sym c.in-Locale.is)
+    subst (λ (m : Mode). IsPieceRead c.args.at
+    (block_next m c.args.state.part seen (slice_index (piece_left c.args.at) 0)) c.read_block.result)
+    (sym c.in-Locale.is)
     (c.read_block.ensures vs seen h)
 
 pub returns-in-Data : goal.returns-in-Data
 returns-in-Data c vs seen h =
-    subst (λ (m : Mode). IsPieceRead c.args.at (block_next m c.args.state.part seen (slice_index (piece_left c.args.at) 0)) c.read_data_block.result) (sym c.in-Data.is)
+    subst (λ (m : Mode). IsPieceRead c.args.at
+    (block_next m c.args.state.part seen (slice_index (piece_left c.args.at) 0)) c.read_data_block.result)
+    (sym c.in-Data.is)
     (c.read_data_block.ensures vs seen h)

@@ -15,11 +15,16 @@ returns-in-Ok c =
     let a = sym c.is_attribute.ensures ∙ c.if-not-is_attribute.false in
     let t = sym c.is_true.ensures ∙ c.if-is_true.false in
     named_next (piece_left c.args.at) _ c.in-Ok.word a t
-    (ap (read Subtag _) (sym (cut_bytes c.requires (short_attribute _ a))) ∙ sym c.try_from_utf8.ensures ∙ c.in-Ok.is) _
-    (c.when.ensures ∙ ap (λ b. Rattle.iloc_faults.specs.Next.when b Rattle.iloc_faults.specs.declared.state.Part.TheVariants.SubdivisionValue) (c.is_some.ensures ∙ ap Rattle.std.specs.Option.is_some c.named.ensures))
+    (ap (read Subtag _) (sym (cut_bytes c.requires (short_attribute _ a))) ∙ sym c.try_from_utf8.ensures
+    ∙ c.in-Ok.is) _
+    (c.when.ensures
+    ∙ ap (λ b. Rattle.iloc_faults.specs.Next.when b
+    Rattle.iloc_faults.specs.declared.state.Part.TheVariants.SubdivisionValue)
+    (c.is_some.ensures ∙ ap Rattle.std.specs.Option.is_some c.named.ensures))
 
 pub returns-in-Err : goal.returns-in-Err
 returns-in-Err c =
     let a = sym c.is_attribute.ensures ∙ c.if-not-is_attribute.false in
     absurd (named_never (piece_left c.args.at) _ c.in-Err.field-0 a
-    (ap (read Subtag _) (sym (cut_bytes c.requires (short_attribute _ a))) ∙ sym c.try_from_utf8.ensures ∙ c.in-Err.is))
+    (ap (read Subtag _) (sym (cut_bytes c.requires (short_attribute _ a))) ∙ sym c.try_from_utf8.ensures
+    ∙ c.in-Err.is))

@@ -7,5 +7,6 @@ use Rattle.iloc_handles.proofs.asking.change_und.Goals as goal
 pub returns-clause-changed : goal.returns-clause-changed
 returns-clause-changed g c =
     lacks_box (g.C.Change.changes c.args.change.now) None c.args.handle.now.value c.unknown-locale.result
-    c.apply-status.new.locale c.apply-status.result refl c.requires c.unknown-locale.ensures c.apply-status.ensures
+    c.apply-status.new.locale c.apply-status.result refl c.requires c.unknown-locale.ensures
+    c.apply-status.ensures
     (λ is. true≢false (sym (c.if-is_und.ensures.1 is)))

@@ -12,6 +12,8 @@ returns c =
     let ext = c.args.ext in
     c.unwrap_or.ensures
     ∙ sym (index_from_first (place_of_singleton ext) (λ o. o.0 ≡ ext) (λ o. o.0 ≢ ext) (singleton_none ext)
-    (singleton_hit ext) (singleton_miss ext) others _ (IsFirst-from_position _ _ _ (λ o. o.0 ≡ ext) (λ o. o.0 ≢ ext)
-    c.position-found.ensures.ran (YieldsList-from_slice others c.iter.ensures.rest) (λ x q k. search (rules, tests))
+    (singleton_hit ext) (singleton_miss ext) others _
+    (IsFirst-from_position _ _ _ (λ o. o.0 ≡ ext) (λ o. o.0 ≢ ext)
+    c.position-found.ensures.ran (YieldsList-from_slice others c.iter.ensures.rest)
+    (λ x q k. search (rules, tests))
     (λ x q k. search (rules, tests))))

@@ -5,5 +5,6 @@ use Rattle.iloc_handles.proofs.whole.eq.Goals as goal
 
 pub returns-clause-answered : goal.returns-clause-answered
 returns-clause-answered c =
-    equal_by_order (held_locale c.args.handle.now.value) (held_locale c.args.other.now.value) c.order_of.result
+    equal_by_order (held_locale c.args.handle.now.value) (held_locale c.args.other.now.value)
+    c.order_of.result
     c.is_eq.result c.order_of.ensures.answered c.is_eq.ensures

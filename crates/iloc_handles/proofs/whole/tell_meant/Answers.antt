@@ -6,5 +6,7 @@ use Rattle.iloc_handles.proofs.whole.tell_meant.Goals as goal
 
 pub returns-in-Ok-clause-told : goal.returns-in-Ok-clause-told
 returns-in-Ok-clause-told c =
-    meant c.args.text.now (held_locale c.args.handle.now.value) (value_of c.in-Ok.parsed) c.args.same.now c.from.result
-    c.ask-order.result c.is_eq.result c.in-Ok.ensures.reads c.ask-order.ensures.answered c.is_eq.ensures c.from.ensures
+    meant c.args.text.now (held_locale c.args.handle.now.value) (value_of c.in-Ok.parsed) c.args.same.now
+    c.from.result
+    c.ask-order.result c.is_eq.result c.in-Ok.ensures.reads c.ask-order.ensures.answered c.is_eq.ensures
+    c.from.ensures

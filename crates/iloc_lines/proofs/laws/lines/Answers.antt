@@ -4,4 +4,11 @@ use Rattle.iloc_lines.proofs.LineCuts.{output-line, output-last, output-cut}
 use Rattle.iloc_lines.proofs.laws.lines.Goals as goal
 
 pub returns : goal.returns
-returns c = record { ended = reads_ended; «open» = reads_open; all = is_ended_or_open; line = output-line; last = output-last; cut = output-cut }
+returns c = record {
+  ended = reads_ended;
+  «open» = reads_open;
+  all = is_ended_or_open;
+  line = output-line;
+  last = output-last;
+  cut = output-cut;
+}

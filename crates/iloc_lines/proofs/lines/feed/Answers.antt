@@ -12,12 +12,15 @@ returns-clause-ahead g c =
     let mode = g.A.Answers.mode in
     let before = held c.args.replies.now in
     let line = c.args.pending.now.items ++ c.in-Some.line.now in
-    let replied = c.in_ok-end_pending.ensures.replies ∙ ap (λ (t : List ℕ). before ++ reply languages mode t) c.in_ok-extend_from_slice.ensures.items in
+    let replied = c.in_ok-end_pending.ensures.replies
+    ∙ ap (λ (t : List ℕ). before ++ reply languages mode t) c.in_ok-extend_from_slice.ensures.items in
     on_ok_weaker c.feed_lines-2.result
     (λ later next.
     ap (λ (t : List ℕ). before ++ t)
-    (output-cut languages mode c.args.pending.now.items c.args.piece.now c.in-Some.line.now c.in-Some.later.now next c.requires c.in-Some.ensures.0 c.in-Some.ensures.1)
-    ∙ sym (append_assoc before (reply languages mode line) (output languages mode (c.in-Some.later.now ++ next)))
+    (output-cut languages mode c.args.pending.now.items c.args.piece.now c.in-Some.line.now
+    c.in-Some.later.now next c.requires c.in-Some.ensures.0 c.in-Some.ensures.1)
+    ∙ sym
+    (append_assoc before (reply languages mode line) (output languages mode (c.in-Some.later.now ++ next)))
     ∙ ap (λ (h : List ℕ). h ++ output languages mode (c.in-Some.later.now ++ next)) (sym replied)
     ∙ later next)
     c.feed_lines-2.ensures.ahead

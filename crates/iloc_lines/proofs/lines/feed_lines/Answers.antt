@@ -1,4 +1,5 @@
-use Rattle.std.proofs.Common.{◌≡◌, ◌≢◌, ℕ, ◌+◌, ◌-◌, ◌<◌, ◌≤◌, List, [], ◌++◌, length, take, drop, ap, subst, ◌∙◌, sym, arith, append_assoc}
+use Rattle.std.proofs.Common.{◌≡◌, ◌≢◌, ℕ, ◌+◌, ◌-◌, ◌<◌, ◌≤◌, List, [], ◌++◌, length, take, drop, ap, subst}
+use Rattle.std.proofs.Common.{◌∙◌, sym, arith, append_assoc}
 use Rattle.std.specs.Prelude.{if◌then◌else◌, Result, Ok, Err, OnOk}
 use Rattle.std.specs.Result.{is_ok}
 use Rattle.iloc_lines.specs.Lines.{IsOneLine}
@@ -15,7 +16,12 @@ use Rattle.iloc_told.proofs.FrontAnswers.{no_language_refused}
 use Rattle.iloc_subtags.specs.declared.parse_error.ParseError.TheVariants.{InvalidLanguage}
 use Rattle.iloc_lines.specs.ReplyBlock.{held}
 use Rattle.iloc_lines.proofs.lines.feed_lines.Goals as goal
-use Rattle.iloc_lines.proofs.lines.feed_lines.Goals.{then-later-lt16+else-is_empty+in_ok-reply, else-later-lt16+then-not-may_begin+in_ok-write_refusal, else-later-lt16+else-not-may_begin+in-Some+in_ok-push_plain, else-later-lt16+else-not-may_begin+in_default+in_ok-reply_to}
+use Rattle.iloc_lines.proofs.lines.feed_lines.Goals.{
+  then-later-lt16+else-is_empty+in_ok-reply,
+  else-later-lt16+then-not-may_begin+in_ok-write_refusal,
+  else-later-lt16+else-not-may_begin+in-Some+in_ok-push_plain,
+  else-later-lt16+else-not-may_begin+in_default+in_ok-reply_to,
+}
 use Rattle.iloc_lines.specs.Answers.{reply, output}
 
 pub lines-preserved : goal.lines-preserved
@@ -26,43 +32,58 @@ lines-preserved g c =
     let line = take end rest in
     let later = drop (end + 1) rest in
     let ends = c.line_end-end.ensures in
-    let back_len : length rest ≡ end + length c.split_at.result.1.now = omega (arith, c.split_at.ensures.back_len, ends.within) in
+    let back_len : length rest ≡ end + length c.split_at.result.1.now =
+    omega (arith, c.split_at.ensures.back_len, ends.within) in
     let less : end < length rest = elim c.if-later-lt16.branch [
-      | then-later-lt16+else-is_empty+in_ok-reply w ↦ grind (arith, nat_tests, back_len, w.is_empty.ensures, w.if-is_empty.false)
+      | then-later-lt16+else-is_empty+in_ok-reply w ↦
+          grind (arith, nat_tests, back_len, w.is_empty.ensures, w.if-is_empty.false)
       | else-later-lt16+then-not-may_begin+in_ok-write_refusal w ↦ omega (arith, back_len)
       | else-later-lt16+else-not-may_begin+in-Some+in_ok-push_plain w ↦ omega (arith, back_len)
       | else-later-lt16+else-not-may_begin+in_default+in_ok-reply_to w ↦ omega (arith, back_len)
     ] in
-    let replied : held c.if-later-lt16.replies ≡ held c.lines.replies ++ reply languages mode line = elim c.if-later-lt16.branch [
+    let replied : held c.if-later-lt16.replies ≡ held c.lines.replies ++ reply languages mode line =
+    elim c.if-later-lt16.branch [
       | then-later-lt16+else-is_empty+in_ok-reply w ↦
-          ap held w.replies-is ∙ w.in_ok-reply.ensures ∙ ap (λ (t : List ℕ). held c.lines.replies ++ reply languages mode t) c.split_at.ensures.front
+          ap held w.replies-is ∙ w.in_ok-reply.ensures
+          ∙ ap (λ (t : List ℕ). held c.lines.replies ++ reply languages mode t) c.split_at.ensures.front
       | else-later-lt16+then-not-may_begin+in_ok-write_refusal w ↦
           ap held w.replies-is ∙ w.in_ok-write_refusal.ensures.text
-          ∙ ap (λ (t : List ℕ). held c.lines.replies ++ t) (refused_reply mode line InvalidLanguage (no_language_refused mode line (w.may_begin.ensures w.if-not-may_begin.true)))
+          ∙ ap (λ (t : List ℕ). held c.lines.replies ++ t) (refused_reply mode line InvalidLanguage
+          (no_language_refused mode line (w.may_begin.ensures w.if-not-may_begin.true)))
       | else-later-lt16+else-not-may_begin+in-Some+in_ok-push_plain w ↦
           ap held w.replies-is ∙ w.in_ok-push_plain.ensures
-          ∙ ap (λ (t : List ℕ). held c.lines.replies ++ t) (normal_reply mode line (identifier_text (value_of w.in-Some.plain)) (plain_normal mode line w.in-Some.plain w.in-Some.ensures))
-      | else-later-lt16+else-not-may_begin+in_default+in_ok-reply_to w ↦ ap held w.replies-is ∙ w.in_ok-reply_to.ensures
+          ∙ ap (λ (t : List ℕ). held c.lines.replies ++ t)
+          (normal_reply mode line (identifier_text (value_of w.in-Some.plain))
+          (plain_normal mode line w.in-Some.plain w.in-Some.ensures))
+      | else-later-lt16+else-not-may_begin+in_default+in_ok-reply_to w ↦
+          ap held w.replies-is ∙ w.in_ok-reply_to.ensures
     ] in
     let back : c.split_at.result.1.now ≡ drop end rest = c.split_at.ensures.back in
     let next_is : take (length c.split_at.result.1.now - 1) (drop 1 c.split_at.result.1.now) ≡ later =
-    take_all _ (drop 1 c.split_at.result.1.now) (omega (arith, length-drop 1 c.split_at.result.1.now)) ∙ ap (drop 1) back ∙ drop-drop 1 end rest in
+    take_all _ (drop 1 c.split_at.result.1.now) (omega (arith, length-drop 1 c.split_at.result.1.now))
+    ∙ ap (drop 1) back ∙ drop-drop 1 end rest in
     record {
       ahead = λ next. c.lines.invariant.ahead next
           ∙ ap (λ (t : List ℕ). held c.lines.replies ++ t)
-          (output-cut languages mode [] rest line later next (All-nil (λ (b : ℕ). b ≢ 10)) ends.before (ends.newline less))
-          ∙ sym (append_assoc (held c.lines.replies) (reply languages mode line) (output languages mode (later ++ next)))
+          (output-cut languages mode [] rest line later next (All-nil (λ (b : ℕ). b ≢ 10)) ends.before
+          (ends.newline less))
+          ∙ sym (append_assoc (held c.lines.replies) (reply languages mode line)
+          (output languages mode (later ++ next)))
           ∙ (λ j. sym replied j ++ output languages mode (sym next_is j ++ next));
     }
 
 pub returns-clause-one_line : goal.returns-clause-one_line
 returns-clause-one_line g c =
     let rest = c.lines.rest.now in
-    let none : length c.split_at.result.1.now ≡ 0 = grind (arith, nat_tests, c.is_empty.ensures, c.if-is_empty.true) in
+    let none : length c.split_at.result.1.now ≡ 0 =
+    grind (arith, nat_tests, c.is_empty.ensures, c.if-is_empty.true) in
     let all : length rest ≤ c.line_end-end.result = omega (arith, c.split_at.ensures.back_len, none) in
-    let whole : IsOneLine rest = subst IsOneLine (take_all c.line_end-end.result rest all) c.line_end-end.ensures.before in
-    grown c.extend_from_slice.result c.extend_from_slice.new.self.items c.args.pending.now.items rest c.extend_from_slice.ensures.items c.requires whole
+    let whole : IsOneLine rest =
+    subst IsOneLine (take_all c.line_end-end.result rest all) c.line_end-end.ensures.before in
+    grown c.extend_from_slice.result c.extend_from_slice.new.self.items c.args.pending.now.items rest
+    c.extend_from_slice.ensures.items c.requires whole
   where
-    grown : {T E : Type 0} (r : Result T E) (new old more : List ℕ) → new ≡ (if is_ok r then old ++ more else old) → old ≡ [] → IsOneLine more → OnOk r (IsOneLine new)
+    grown : {T E : Type 0} (r : Result T E) (new old more : List ℕ) →
+        new ≡ (if is_ok r then old ++ more else old) → old ≡ [] → IsOneLine more → OnOk r (IsOneLine new)
     grown (Ok x) new old more e none h = subst IsOneLine (sym (e ∙ ap (λ (t : List ℕ). t ++ more) none)) h
     grown (Err x) new old more e none h = tt

@@ -7,7 +7,9 @@ use Rattle.iloc_lines.proofs.lines.feed_lines.Given as goal
 -- whatever comes next, what it is all answered with is so far in the replies
 abbrev pub invariant-lines : goal.invariant-lines
 invariant-lines g l = record {
-  ahead : (next : List ℕ) → held l.fn.replies ++ output languages g.A.Answers.mode (l.fn.bytes ++ next) ≡ held l.replies ++ output languages g.A.Answers.mode (l.rest ++ next);
+  ahead : (next : List ℕ) →
+      held l.fn.replies ++ output languages g.A.Answers.mode (l.fn.bytes ++ next)
+      ≡ held l.replies ++ output languages g.A.Answers.mode (l.rest ++ next);
 }
 
 abbrev pub decreases-lines : goal.decreases-lines

@@ -13,7 +13,8 @@ returns-in-Refused g c =
     let mode = g.A.Answers.mode in
     let line = take c.args.len c.args.window.now in
     let told : HasRefusal mode line c.in-Refused.error = c.in-Refused.ensures in
-    subst (λ (t : List ℕ). OnOk c.write_refusal.result (held c.write_refusal.new.replies ≡ held c.args.replies.now ++ t))
+    subst (λ (t : List ℕ).
+    OnOk c.write_refusal.result (held c.write_refusal.new.replies ≡ held c.args.replies.now ++ t))
     (refused_reply mode line c.in-Refused.error told) c.write_refusal.ensures.text
 
 pub returns-in-Normal : goal.returns-in-Normal
@@ -23,7 +24,8 @@ returns-in-Normal g c =
     let before = held c.args.replies.now in
     let after = held c.push_told.new.self in
     let told =
-    subst (λ (m : Mode). IsReplied m line before after c.in_ok-push_told.field-0) c.mode.ensures c.in_ok-push_told.ensures in
+    subst (λ (m : Mode). IsReplied m line before after c.in_ok-push_told.field-0) c.mode.ensures
+    c.in_ok-push_told.ensures in
     let is = subst (λ (w : Written). IsReplied mode line before after w) c.in-Normal.is told in
     is.2 ∙ ap (λ (t : List ℕ). before ++ t) (normal_reply mode line is.0 is.1)
 
@@ -34,8 +36,12 @@ returns-in-Refused-2 g c =
     let before = held c.args.replies.now in
     let after = held c.push_told.new.self in
     let told =
-    subst (λ (m : Mode). IsReplied m line before after c.in_ok-push_told.field-0) c.mode.ensures c.in_ok-push_told.ensures in
+    subst (λ (m : Mode). IsReplied m line before after c.in_ok-push_told.field-0) c.mode.ensures
+    c.in_ok-push_told.ensures in
     let is = subst (λ (w : Written). IsReplied mode line before after w) c.in-Refused-2.is told in
-    subst (λ (t : List ℕ). OnOk c.write_refusal-in-Refused-2.result (held c.write_refusal-in-Refused-2.new.replies ≡ before ++ t))
+    subst (λ (t : List ℕ).
+    OnOk c.write_refusal-in-Refused-2.result (held c.write_refusal-in-Refused-2.new.replies ≡ before ++ t))
     (refused_reply mode line c.in-Refused-2.error is.0)
-    (subst (λ (t : List ℕ). OnOk c.write_refusal-in-Refused-2.result (held c.write_refusal-in-Refused-2.new.replies ≡ t ++ (refusal_text c.in-Refused-2.error ++ 10 ∷ []))) is.1 c.write_refusal-in-Refused-2.ensures.text)
+    (subst (λ (t : List ℕ). OnOk c.write_refusal-in-Refused-2.result
+    (held c.write_refusal-in-Refused-2.new.replies ≡ t ++ (refusal_text c.in-Refused-2.error ++ 10 ∷ [])))
+    is.1 c.write_refusal-in-Refused-2.ensures.text)

@@ -24,29 +24,45 @@ greater Greater h e = refl
 pub loop-i-preserved : goal.loop-i-preserved
 loop-i-preserved g c =
     let lt : c.loop-i.i < length c.args.pairs.now = omega arith in
-    let ge = rw (g.met.K.Ord.matches_partial_cmp (get_or c.args.pairs.now c.loop-i.i c.index-pairs-i.result).0 c.args.key.now) at c.ge.ensures in
+    let ge = rw
+    (g.met.K.Ord.matches_partial_cmp (get_or c.args.pairs.now c.loop-i.i c.index-pairs-i.result).0
+    c.args.key.now) at c.ge.ensures in
     let o = less _ (sym ge ∙ c.if-ge.false) in
-    let t = told g.met.K.Ord.total c.args.key.now _ _ c.loop-i.i _ c.requires refl lt (λ d. o ∙ ap (λ e. g.K.Ord.cmp e.0 c.args.key.now) (get_or_default c.args.pairs.now c.loop-i.i c.index-pairs-i.result d lt)) in
+    let t = told g.met.K.Ord.total c.args.key.now _ _ c.loop-i.i _ c.requires refl lt (λ d. o
+    ∙ ap (λ e. g.K.Ord.cmp e.0 c.args.key.now)
+    (get_or_default c.args.pairs.now c.loop-i.i c.index-pairs-i.result d lt)) in
     record { end = refl; from = omega (arith, t) }
 
 pub returns-then-eq : goal.returns-then-eq
 returns-then-eq g c =
     let lt : c.loop-i.i < length c.args.pairs.now = omega arith in
-    let eq = rw (g.met.K.Ord.matches_eq (get_or c.args.pairs.now c.loop-i.i c.index-pairs-i-then-ge.result).0 c.args.key.now) at c.eq.ensures in
+    let eq = rw
+    (g.met.K.Ord.matches_eq (get_or c.args.pairs.now c.loop-i.i c.index-pairs-i-then-ge.result).0
+    c.args.key.now) at c.eq.ensures in
     let o = equal _ (sym eq ∙ c.if-eq.true) in
-    let t = told g.met.K.Ord.total c.args.key.now _ _ c.loop-i.i _ c.requires refl lt (λ d. o ∙ ap (λ e. g.K.Ord.cmp e.0 c.args.key.now) (get_or_default c.args.pairs.now c.loop-i.i c.index-pairs-i-then-ge.result d lt)) in
+    let t = told g.met.K.Ord.total c.args.key.now _ _ c.loop-i.i _ c.requires refl lt (λ d. o
+    ∙ ap (λ e. g.K.Ord.cmp e.0 c.args.key.now)
+    (get_or_default c.args.pairs.now c.loop-i.i c.index-pairs-i-then-ge.result d lt)) in
     sym (ok_of_rank _ _ (sym t))
 
 pub returns-else-eq : goal.returns-else-eq
 returns-else-eq g c =
     let lt : c.loop-i.i < length c.args.pairs.now = omega arith in
     let pairs = c.args.pairs.now in
-    let same = ap (λ e. g.K.Ord.cmp e.0 c.args.key.now) (get_or_default pairs c.loop-i.i c.index-pairs-i.result c.index-pairs-i-then-ge.result lt) in
-    let ge = rw (g.met.K.Ord.matches_partial_cmp (get_or pairs c.loop-i.i c.index-pairs-i.result).0 c.args.key.now) at c.ge.ensures in
-    let eq = rw (g.met.K.Ord.matches_eq (get_or pairs c.loop-i.i c.index-pairs-i-then-ge.result).0 c.args.key.now) at c.eq.ensures in
+    let same = ap (λ e. g.K.Ord.cmp e.0 c.args.key.now)
+    (get_or_default pairs c.loop-i.i c.index-pairs-i.result c.index-pairs-i-then-ge.result lt) in
+    let ge =
+    rw (g.met.K.Ord.matches_partial_cmp (get_or pairs c.loop-i.i c.index-pairs-i.result).0 c.args.key.now)
+    at c.ge.ensures in
+    let eq =
+    rw (g.met.K.Ord.matches_eq (get_or pairs c.loop-i.i c.index-pairs-i-then-ge.result).0 c.args.key.now)
+    at c.eq.ensures in
     let o = greater _ (ap is_ge (sym same) ∙ sym ge ∙ c.if-ge.true) (sym eq ∙ c.if-eq.false) in
-    let t = told g.met.K.Ord.total c.args.key.now _ _ c.loop-i.i _ c.requires refl lt (λ d. o ∙ ap (λ e. g.K.Ord.cmp e.0 c.args.key.now) (get_or_default pairs c.loop-i.i c.index-pairs-i-then-ge.result d lt)) in
+    let t = told g.met.K.Ord.total c.args.key.now _ _ c.loop-i.i _ c.requires refl lt (λ d. o
+    ∙ ap (λ e. g.K.Ord.cmp e.0 c.args.key.now)
+    (get_or_default pairs c.loop-i.i c.index-pairs-i-then-ge.result d lt)) in
     sym (err_of_rank _ _ (omega (arith, t, c.loop-i.invariant.from)))
 
 pub returns : goal.returns
-returns g c = sym (err_of_rank _ _ (omega (arith, place_within g.met.K.Ord.total c.args.key.now c.args.pairs.now)))
+returns g c =
+    sym (err_of_rank _ _ (omega (arith, place_within g.met.K.Ord.total c.args.key.now c.args.pairs.now)))

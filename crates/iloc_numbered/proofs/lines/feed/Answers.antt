@@ -9,6 +9,8 @@ lines-preserved g c =
     let line = c.in-Some.line.now in (
       taken ++ (line ++ 10 ∷ []),
       c.lines.invariant.1 ∙ ap (λ (t : List ℕ). taken ++ t) c.in-Some.ensures.1 ∙ simp append_assoc,
-      Feeds-line _ _ _ _ taken line (held c.lines.replies) _ c.lines.pending.items _ c.lines.next _ c.lines.invariant.2
-          c.in-Some.ensures.0 c.in_ok-next.ensures.replies c.in_ok-next.ensures.next c.in_ok-next.ensures.pending,
+      Feeds-line _ _ _ _ taken line (held c.lines.replies) _ c.lines.pending.items _ c.lines.next _
+          c.lines.invariant.2
+          c.in-Some.ensures.0 c.in_ok-next.ensures.replies c.in_ok-next.ensures.next
+          c.in_ok-next.ensures.pending,
     )

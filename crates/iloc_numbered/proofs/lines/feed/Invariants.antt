@@ -6,7 +6,8 @@ use Rattle.iloc_numbered.proofs.lines.feed.Given as goal
 -- the first bytes of the piece were fed, and the rest is left
 abbrev pub invariant-lines : goal.invariant-lines
 invariant-lines g l = (taken : List ℕ) × (l.fn.piece ≡ taken ++ l.rest)
-    × Feeds (g.L.Lists.is_entry l.fn.listing) l.fn.number l.fn.pending.items taken (held l.fn.replies) (held l.replies) l.pending.items l.next
+    × Feeds (g.L.Lists.is_entry l.fn.listing) l.fn.number l.fn.pending.items taken (held l.fn.replies)
+    (held l.replies) l.pending.items l.next
 
 abbrev pub decreases-lines : goal.decreases-lines
 decreases-lines g l = length l.rest

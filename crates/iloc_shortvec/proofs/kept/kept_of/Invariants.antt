@@ -10,5 +10,7 @@ invariant-loop-item g l = record {
   callable : goal.F-IsAlwaysCallable g l.keep;
   kept : IsKept l.kept;
   short : length (items_of l.kept) ≤ l.item-index;
-  filtered : (ys : List g.row.T.Denot) → IsFiltered (CalledAt g.F.FnMut) l.keep (drop l.item-index l.items) ys → IsFiltered (CalledAt g.F.FnMut) l.fn.keep l.fn.items (items_of l.kept ++ ys);
+  filtered : (ys : List g.row.T.Denot) →
+      IsFiltered (CalledAt g.F.FnMut) l.keep (drop l.item-index l.items) ys →
+      IsFiltered (CalledAt g.F.FnMut) l.fn.keep l.fn.items (items_of l.kept ++ ys);
 }

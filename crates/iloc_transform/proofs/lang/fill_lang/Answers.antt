@@ -7,12 +7,16 @@ pub returns-in_default : goal.returns-in_default
 returns-in_default c = rw c.requires (no_lang (left c.args.iter.now) c.in_default.ensures)
 
 pub returns-in_ok-fill_front-in-Ok : goal.returns-in_ok-fill_front-in-Ok
-returns-in_ok-fill_front-in-Ok c = some_lang (left c.args.iter.now) (left c.fill_front.new.iter) c.fill_front.new.identifier c.in_ok-fill_front-in-Ok.ensures
+returns-in_ok-fill_front-in-Ok c = some_lang (left c.args.iter.now) (left c.fill_front.new.iter)
+    c.fill_front.new.identifier c.in_ok-fill_front-in-Ok.ensures
 
 pub returns-in_err-fill_front-in-Ok : goal.returns-in_err-fill_front-in-Ok
 returns-in_err-fill_front-in-Ok c =
     let p = err_from_is_err_and c.from_residual.result c.from_residual.ensures.1 in
-    rw (p.1, p.2) (front_refused _ c.in-Ok.field-0 c.in-Some.piece.now (left c.args.iter.now) (left c.fill_front.new.iter) (left c.fill_front.new.iter) c.in_err-fill_front-in-Ok.field-0.0 c.in-Some.ensures c.in-Ok.ensures c.in_err-fill_front-in-Ok.ensures)
+    rw (p.1, p.2) (front_refused _ c.in-Ok.field-0 c.in-Some.piece.now (left c.args.iter.now)
+    (left c.fill_front.new.iter) (left c.fill_front.new.iter) c.in_err-fill_front-in-Ok.field-0.0
+    c.in-Some.ensures c.in-Ok.ensures c.in_err-fill_front-in-Ok.ensures)
 
 pub returns-in-Err : goal.returns-in-Err
-returns-in-Err c = rw c.requires (other_lang _ c.in-Err.field-0 (left c.args.iter.now) c.in-Some.piece.now c.in-Some.ensures c.in-Err.ensures)
+returns-in-Err c = rw c.requires (other_lang _ c.in-Err.field-0 (left c.args.iter.now) c.in-Some.piece.now
+    c.in-Some.ensures c.in-Err.ensures)

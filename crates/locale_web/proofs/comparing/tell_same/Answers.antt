@@ -12,5 +12,9 @@ returns-in-Normal-put c =
 pub returns-in-Refused-put : goal.returns-in-Refused-put
 returns-in-Refused-put c = (
   (_, c.in-Normal.ensures.1),
-  inr (refl, refused_apart c.args.mode (take c.args.len c.args.window.now) (take c.args.other_len c.args.other.now) c.in-Refused-put.field-0 c.in-Refused-put.ensures),
+  inr (
+    refl,
+    refused_apart c.args.mode (take c.args.len c.args.window.now) (take c.args.other_len c.args.other.now)
+        c.in-Refused-put.field-0 c.in-Refused-put.ensures,
+  ),
 )

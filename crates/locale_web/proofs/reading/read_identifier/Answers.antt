@@ -6,10 +6,12 @@ use Rattle.locale_web.proofs.reading.read_identifier.Goals as goal
 
 pub returns-then-not-begins_with_language : goal.returns-then-not-begins_with_language
 returns-then-not-begins_with_language c =
-    no_language Langid (take c.args.len c.args.window.now) c.begins_with_language.result c.begins_with_language.ensures
+    no_language Langid (take c.args.len c.args.window.now) c.begins_with_language.result
+    c.begins_with_language.ensures
     c.if-not-begins_with_language.true
 
 pub returns-in-Normal : goal.returns-in-Normal
 returns-in-Normal c =
     let h = c.in-Normal.ensures in
-    identifier_outlined (take c.args.len c.args.window.now) c.outline_identifier.new.spans c.in-Normal.outline h.0 h.1 h.2
+    identifier_outlined (take c.args.len c.args.window.now) c.outline_identifier.new.spans c.in-Normal.outline
+    h.0 h.1 h.2

@@ -6,10 +6,12 @@ use Rattle.locale_web.proofs.reading.read_locale.Goals as goal
 
 pub returns-then-not-begins_with_language : goal.returns-then-not-begins_with_language
 returns-then-not-begins_with_language c =
-    no_language Locale (take c.args.len c.args.window.now) c.begins_with_language.result c.begins_with_language.ensures
+    no_language Locale (take c.args.len c.args.window.now) c.begins_with_language.result
+    c.begins_with_language.ensures
     c.if-not-begins_with_language.true
 
 pub returns-in-Normal : goal.returns-in-Normal
 returns-in-Normal c =
     let h = c.in-Normal.ensures in
-    locale_outlined (take c.args.len c.args.window.now) c.outline_locale.new.spans c.in-Normal.outline h.0 h.1 h.2
+    locale_outlined (take c.args.len c.args.window.now) c.outline_locale.new.spans c.in-Normal.outline h.0 h.1
+    h.2

@@ -1,5 +1,6 @@
 -- The bytes that were copied stand behind those before, and the rest is as it was.
-use Rattle.std.proofs.Common.{◌≡◌, ◌+◌, ◌-◌, ◌≤◌, ◌++◌, length, take, drop, refl, ap, ◌∙◌, arith, length-take-le, length-drop}
+use Rattle.std.proofs.Common.{◌≡◌, ◌+◌, ◌-◌, ◌≤◌, ◌++◌, length, take, drop, refl, ap, ◌∙◌, arith}
+use Rattle.std.proofs.Common.{length-take-le, length-drop}
 use Rattle.std.proofs.lemmas.Slice.{take-put_mid, drop-put_mid}
 use borrow.Rule.Slice.PartMut.{same_len_mid}
 use Rattle.iloc_calls.proofs.filling.FillingSink.write_str.Goals as goal
@@ -17,8 +18,10 @@ returns-in-Some c =
     let room : at + (end - at) ≤ length old = omega arith in
     record {
       same_buffer = refl;
-      same_length = same_len_mid at (end - at) old bytes (omega (arith, length-take-le (end - at) (drop at old) (omega (arith, length-drop at old)), long));
+      same_length = same_len_mid at (end - at) old bytes
+          (omega (arith, length-take-le (end - at) (drop at old) (omega (arith, length-drop at old)), long));
       counted = sum;
-      front = take-put_mid at (end - at) old bytes end (omega arith) (omega arith) ∙ ap (λ x. take at old ++ x) copied;
+      front = take-put_mid at (end - at) old bytes end (omega arith) (omega arith)
+          ∙ ap (λ x. take at old ++ x) copied;
       rest = drop-put_mid at (end - at) old bytes end (omega arith) (omega arith) (omega arith);
     }

@@ -9,7 +9,10 @@ pub returns-clause-text : goal.returns-clause-text
 returns-clause-text c = ap text c.as_locale.ensures ∙ text_of_data (value_of c.args.self)
 
 pub returns-clause-well_formed : goal.returns-clause-well_formed
-returns-clause-well_formed c = subst IsWellFormed (sym c.as_locale.ensures) (locale_of_data_is_well_formed languages_table (value_of c.args.self) c.look_at_data_locale.ensures)
+returns-clause-well_formed c = subst IsWellFormed (sym c.as_locale.ensures)
+    (locale_of_data_is_well_formed languages_table (value_of c.args.self) c.look_at_data_locale.ensures)
 
 pub returns-clause-only : goal.returns-clause-only
-returns-clause-only c = λ M v w e. only_locale languages_table (value_of c.args.self) c.look_at_data_locale.ensures M v w e ∙ sym c.as_locale.ensures
+returns-clause-only c =
+    λ M v w e. only_locale languages_table (value_of c.args.self) c.look_at_data_locale.ensures M v w e
+    ∙ sym c.as_locale.ensures

@@ -5,7 +5,8 @@ use Rattle.iloc_data.proofs.ReadLemmas.{data_accepts, data_refuses, meant_of, ke
 use Rattle.iloc_data.proofs.data_locale.DataLocale.try_from_str.Goals as goal
 
 pub returns-clause-reads : goal.returns-clause-reads
-returns-clause-reads c = subst (λ (t : List ℕ). DataTextReads t c.try_from_utf8.result) c.as_bytes.ensures.value c.try_from_utf8.ensures.reads
+returns-clause-reads c = subst (λ (t : List ℕ). DataTextReads t c.try_from_utf8.result)
+    c.as_bytes.ensures.value c.try_from_utf8.ensures.reads
 
 pub returns-clause-memory : goal.returns-clause-memory
 returns-clause-memory c = c.try_from_utf8.ensures.memory

@@ -8,4 +8,5 @@ pub returns-clause-value : goal.returns-clause-value
 returns-clause-value c = search rules
 
 pub returns-clause-of_default : goal.returns-clause-of_default
-returns-clause-of_default c = λ h. returns-clause-value c ∙ (ap (λ p. merge p c.args.other) h ∙ default_merge c.args.other)
+returns-clause-of_default c =
+    λ h. returns-clause-value c ∙ (ap (λ p. merge p c.args.other) h ∙ default_merge c.args.other)

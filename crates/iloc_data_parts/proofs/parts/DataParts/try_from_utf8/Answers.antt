@@ -11,7 +11,8 @@ returns-in_err-language c =
 pub returns-in_err-part : goal.returns-in_err-part
 returns-in_err-part c =
     let p = err_from_is_err_and c.from_residual-in_err-part.result c.from_residual-in_err-part.ensures.1 in
-    rw (p.1, p.2 ∙ c.in_err-part.ensures.0) (no_part c.args.code_units.now _ c.in_ok-language.ensures c.in_err-part.ensures.1)
+    rw (p.1, p.2 ∙ c.in_err-part.ensures.0)
+    (no_part c.args.code_units.now _ c.in_ok-language.ensures c.in_err-part.ensures.1)
 
 pub returns : goal.returns
 returns c = accepted c.args.code_units.now _ _ c.in_ok-language.ensures c.in_ok-part.ensures

@@ -5,4 +5,6 @@ use Rattle.iloc_fields.proofs.PrintLemmas.{pairs_pieces}
 use Rattle.iloc_fields.proofs.fields.FieldsPieces.write_pieces.Goals as goal
 
 pub returns : goal.returns
-returns g c = rw (← (pairs_pieces c.as_slice-pairs.result.now ∙ ap (λ fs. fields_pieces (spelled_fields fs)) c.as_slice-pairs.ensures.pairs)) c.write_pieces.ensures
+returns g c = rw
+    (← (pairs_pieces c.as_slice-pairs.result.now
+    ∙ ap (λ fs. fields_pieces (spelled_fields fs)) c.as_slice-pairs.ensures.pairs)) c.write_pieces.ensures

@@ -20,7 +20,8 @@ pub without-requires-clause-ascends : goal.without-requires-clause-ascends
 without-requires-clause-ascends c =
     let slice = c.as_slice-attributes in
     removed_ascends c.in-Ok.attribute slice.result.now c.in-Ok-binary_search.at
-    (subst (StrictlyAscends word_cmp) (sym slice.ensures.words) slice.ensures.ascending) c.in-Ok-binary_search.ensures.bound
+    (subst (StrictlyAscends word_cmp) (sym slice.ensures.words) slice.ensures.ascending)
+    c.in-Ok-binary_search.ensures.bound
     c.in-Ok-binary_search.ensures.ok
 
 pub returns-in-Ok-without : goal.returns-in-Ok-without
@@ -38,6 +39,7 @@ returns-in-Err-without c =
     let slice = c.as_slice-attributes in
     let found = c.in-Ok-binary_search in
     let left = removed_word Attribute c.args.self.now.0.now c.in-Ok.attribute slice.result.now
-    c.args.locale.now.extensions.unicode.attributes (remove slice.result.now found.at) found.at c.in-Ok.ensures.1
+    c.args.locale.now.extensions.unicode.attributes (remove slice.result.now found.at) found.at
+    c.in-Ok.ensures.1
     slice.ensures.words slice.ensures.ascending found.ensures.bound found.ensures.ok refl in
     ((c.in-Ok.ensures.0, left.0), refl)

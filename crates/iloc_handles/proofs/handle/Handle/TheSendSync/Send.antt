@@ -29,4 +29,5 @@ send =
     let parts = fields the_type in
     let all : AllSend parts = (search sendable, tt) in
     let pointer = (struct_send (shape the_type) all).leaving in
-    owning_send the_type all (λ d. owned_by_any d.at d.value) (λ k. quiet (to the_type) (exits_of k parts) (pointer k))
+    owning_send the_type all (λ d. owned_by_any d.at d.value)
+    (λ k. quiet (to the_type) (exits_of k parts) (pointer k))

@@ -1,4 +1,5 @@
--- `holding` keeps the pointer, which owns what it owned. The allocator is dropped: it has no bits that matter.
+-- `holding` keeps the pointer, which owns what it owned. The allocator is dropped: it has no bits that
+-- matter.
 use Rattle.std.proofs.Common.{◌≡◌, List, [], ◌∷◌, ◌++◌, refl, sym, subst}
 use mir.Val.{Val, vptr}
 use base.Logic.{SProp, ent, emp, id⊢}
@@ -42,7 +43,8 @@ holding_spec 𝓤 𝓛 𝓜 𝓡 wired =
     split ! $ move ! (1 ∷ []) $ fsplit ! $ take_apart boxed ! v z.0.4.0 (λ b o h is ws fits.
     let w : Val = beside b o h in
     suffices ! (Run (w ∷ []))
-    (subst (λ (us : List Val). ent 𝓤 (Run (w ∷ [])) (Run us)) (sym (λ i. ws i ++ [])) (id⊢ 𝓤 (Run (w ∷ [])))) $
+    (subst (λ (us : List Val). ent 𝓤 (Run (w ∷ [])) (Run us)) (sym (λ i. ws i ++ [])) (id⊢ 𝓤 (Run (w ∷ []))))
+    $
     -- the code: the first field is moved out, cast, and stored in the struct
     enter ! 𝓣.C 𝓣.Λ fn (w ∷ []) Post $ alloc_all ! (λ l. pass_all ! refl (beside_fits boxed b o h fits, tt) $
     sets ! (of_opd ! (get_in ! (fld ! refl (stop !)) (sub ! 0 refl (whole !)))) refl (tt, tt) $
@@ -50,7 +52,8 @@ holding_spec 𝓤 𝓛 𝓜 𝓡 wired =
     sets ! (agg ! (and_then ! (get ! refl) (no_more !))) refl (pointer_fits (block_ptr b o)) $
     -- what is returned
     make ! (block_ptr b o) (Some v.value) $
-    use0 𝓛 (raw (fact 𝓤 (Some v.value ≡ Some v.value))) (fact_i 𝓤 (Some v.value ≡ Some v.value) (emp 𝓤) refl) $
+    use0 𝓛 (raw (fact 𝓤 (Some v.value ≡ Some v.value))) (fact_i 𝓤 (Some v.value ≡ Some v.value) (emp 𝓤) refl)
+    $
     nothing ! $ nothing ! $ fjoin ! $
     returns ! (look_at ! 0 refl) $ free_all ! refl $ keep ! (5 ∷ 0 ∷ 2 ∷ 1 ∷ []) $
     by ! (leaves 𝓛 ended hs c z (alone (vptr b o)) (record { at = block_ptr b o; value = Some v.value })

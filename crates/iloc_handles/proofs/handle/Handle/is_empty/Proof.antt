@@ -7,7 +7,8 @@ use base.Fraction.{full_share}
 use base.Logic.{SProp, emp}
 use base.Fml.{ftrue, flft}
 use prog.Wp.{WpFn}
-use types.Kit.{‵, raw, ◌⊛◌, ◌$◌, ◌∵◌, !, qed, by, move, keep, drop, split, join, fsplit, fsplit3, fjoin, fjoin3, feq_i, rewrite, use0}
+use types.Kit.{‵, raw, ◌⊛◌, ◌$◌, ◌∵◌, !, qed, by, move, keep, drop, split, join, fsplit, fsplit3, fjoin}
+use types.Kit.{fjoin3, feq_i, rewrite, use0}
 use types.Run.{stop, fld, load, lit, of_opd, bin, returns, enter}
 use types.Part.{sub, whole, look_in}
 use types.ByLocal.{alloc_all, pass_all, free_all, look_at, get, through, sets}
@@ -54,10 +55,12 @@ is_empty_spec 𝓤 𝓛 𝓜 𝓡 wired =
     let h : handle.the_row.Denot = record { at = null_ptr; value = None } in
     rewrite ! 0 (λ (us : List Val). ‵ (cell_at full_share handle.the_row.mir us b o))
     (ws ∙ ap (λ p. alone (ptr_val p) ∷ []) is_null) refl $
-    sets ! (of_opd ! (load ! (through ! refl (fld ! refl (stop !))) (look_in ! 0 (sub ! 0 refl (whole !))))) refl
+    sets ! (of_opd ! (load ! (through ! refl (fld ! refl (stop !))) (look_in ! 0 (sub ! 0 refl (whole !)))))
+    refl
     (tt, record { fits = lit< tt }) $
     sets ! (bin ! (get ! refl) (lit ! tt) tt) refl (tt, tt) $
-    nothing ! $ make ! null_ptr None $ move ! (1 ∷ 0 ∷ []) $ closes ! tt handle.the_row h (alone vnull ∷ []) b o $
+    nothing ! $ make ! null_ptr None $ move ! (1 ∷ 0 ∷ [])
+    $ closes ! tt handle.the_row h (alone vnull ∷ []) b o $
     returns ! (look_at ! 0 refl) $ free_all ! refl $ keep ! (0 ∷ 1 ∷ 2 ∷ []) $
     -- what is left: the borrow, its token, the answer and both clauses
     feq_i ! (List Val) at at refl $ fjoin3 ! $ nothing ! $ move ! (1 ∷ 0 ∷ []) $ fjoin ! $
@@ -72,7 +75,8 @@ is_empty_spec 𝓤 𝓛 𝓜 𝓡 wired =
     let h : handle.the_row.Denot = record { at = block_ptr n k; value = Some m } in
     move ! (1 ∷ []) $ rewrite ! 0 (λ (us : List Val). ‵ (cell_at full_share handle.the_row.mir us b o))
     (ws ∙ ap (λ p. alone (ptr_val p) ∷ []) is_block) refl $
-    sets ! (of_opd ! (load ! (through ! refl (fld ! refl (stop !))) (look_in ! 0 (sub ! 0 refl (whole !))))) refl
+    sets ! (of_opd ! (load ! (through ! refl (fld ! refl (stop !))) (look_in ! 0 (sub ! 0 refl (whole !)))))
+    refl
     (tt, tt) $
     sets ! (bin ! (get ! refl) (lit ! tt) (tests_null (block_ptr n k) tested)) refl (tt, tt) $
     move ! (1 ∷ []) $ make ! (block_ptr n k) (Some m) $ move ! (1 ∷ 0 ∷ []) $

@@ -8,4 +8,5 @@ use Rattle.iloc_handles.proofs.keywords.OfKeywordsPairs.parse.Goals as goal
 pub returns : goal.returns
 returns c =
     let t = c.args.text.now in
-    with_memory (λ v. unicode_value t ≡ Ok v) (λ f. unicode_value t ≡ Err f) (ValueTextWants t) c.try_from_utf8.result c.try_from_utf8.ensures.reads c.try_from_utf8.ensures.memory
+    with_memory (λ v. unicode_value t ≡ Ok v) (λ f. unicode_value t ≡ Err f) (ValueTextWants t)
+    c.try_from_utf8.result c.try_from_utf8.ensures.reads c.try_from_utf8.ensures.memory

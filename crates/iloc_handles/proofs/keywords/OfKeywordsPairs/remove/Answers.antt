@@ -10,5 +10,6 @@ use Rattle.iloc_handles.proofs.keywords.OfKeywordsPairs.remove.Goals as goal
 pub returns : goal.returns
 returns c =
     ap (λ fs. with_keywords fs (value_of c.args.locale.now))
-    (filter_same _ (λ f. not (is_same c.args.key.now f.0)) _ (λ x b f call. search rules) c.args.locale.now.extensions.unicode.keywords
+    (filter_same _ (λ f. not (is_same c.args.key.now f.0)) _ (λ x b f call. search rules)
+    c.args.locale.now.extensions.unicode.keywords
     c.retain_by_key.new.self c.retain_by_key.ensures)

@@ -6,7 +6,8 @@ use mir.MapTy.{inst_fn}
 use base.Logic.{SProp, ent, id⊢}
 use base.Fml.{ftrue, flft}
 use prog.Wp.{WpFn}
-use types.Kit.{‵, raw, ◌⊛◌, some, later, at_ret, ◌$◌, ◌∵◌, !, qed, by, move, keep, drop, split, split3, join, fsplit, fjoin, pick, suffices, use1, await, rewrite, feq_i}
+use types.Kit.{‵, raw, ◌⊛◌, some, later, at_ret, ◌$◌, ◌∵◌, !, qed, by, move, keep, drop, split, split3, join}
+use types.Kit.{fsplit, fjoin, pick, suffices, use1, await, rewrite, feq_i}
 use types.Run.{stop, fld, of_opd, no_more, and_then, first, blocks, exec, returns, enter}
 use types.ByLocal.{alloc_all, pass_all, free_all, look_at, get, get_in, sets, lands_last, env}
 use types.Part.{sub, whole}
@@ -50,22 +51,27 @@ close_spec 𝓤 𝓛 𝓜 𝓡 wired T A L LA g d dx dd allocator glue glued =
     let types = bounded (a_type ∷ a_type ∷ []) (T, (A, tt)) (dcons d (dcons dx (dcons dd dnil))) in
     let fn = inst_fn types code.function in
     let hs : Stays En.signature.params En.kept = (stay_dropped (plain (λ _. Opened)) no, tt) in
-    let E : box.Bx = record { row = T; laws = L; al = record { row = A; laws = LA; g = g; d = d; drops = dd } } in
+    let E : box.Bx =
+    record { row = T; laws = L; al = record { row = A; laws = LA; g = g; d = d; drops = dd } } in
     let B : RattleType = box.B E in
     let k = triple_of 𝓛 (callee.signature T A g d dd) (callee.spec T A g d dd 𝓛 𝓜.mem 𝓡.returns) in
     let calls = code.calls-std_alloc::boxed::Box::from_raw 𝓡.env wired in
     proved_at 𝓛 En hs c 𝓜 𝓡
-    (Goes-blank 𝓛 2 (plain (λ _. Opened)) no (λ κs x f. tt), tt) (#self types) fn (code.unfolded 𝓤 𝓛.H 𝓜 𝓡 wired (T, (A, tt)) d dx dd) (λ z are.
+    (Goes-blank 𝓛 2 (plain (λ _. Opened)) no (λ κs x f. tt), tt) (#self types) fn
+    (code.unfolded 𝓤 𝓛.H 𝓜 𝓡 wired (T, (A, tt)) d dx dd) (λ z are.
     let κs = z.0.0 in let qs = z.0.1 in let v = z.0.3.0 in
     let Post : Val → SProp 𝓤 = (walk_of 𝓛 En hs c).post z in
     let Run : List Val → SProp 𝓤 = λ ws. WpFn 𝓤 𝓛.H 𝓣.C 𝓣.Λ fn ws Post in
     let lives = ‵ (flft κs.0 qs.0) ⊛ ‵ (flft κs.1.0 qs.1.0) ⊛ ‵ ftrue in
     let outlive = raw (fact 𝓤 (κs.0 ⊑ T.lives)) ⊛ raw (fact 𝓤 (κs.1.0 ⊑ A.lives)) ⊛ ‵ ftrue in
-    qed 𝓛 ((lives ⊛ ‵ (owns (types_at En.signature.params κs) z.0.3 z.0.4)) ∷ raw ((c κs z.0.3).requires z.1) ∷ []) ∵
+    qed 𝓛
+    ((lives ⊛ ‵ (owns (types_at En.signature.params κs) z.0.3 z.0.4)) ∷ raw ((c κs z.0.3).requires z.1) ∷ [])
+    ∵
     -- the argument: what the pointer owns, and the allocator
     split ! $ move ! (1 ∷ []) $ fsplit ! $ take_apart r ! v z.0.4.0 (λ b o h is ws fits.
     let w : Val = beside b o h in let typed = beside_fits r b o h fits in
-    let y : k.Ghost = ((κs, qs, tt, (v.alloc, (block_ptr b o, tt)), (h ∷ [], (vptr b o ∷ [], tt))), v.value) in
+    let y : k.Ghost =
+    ((κs, qs, tt, (v.alloc, (block_ptr b o, tt)), (h ∷ [], (vptr b o ∷ [], tt))), v.value) in
     -- what the callee requires
     move ! (4 ∷ []) $ use1 𝓛 outlive (id⊢ 𝓤 _) $ split3 ! $ move ! (2 ∷ []) $ drop ! $
     move ! (1 ∷ 2 ∷ []) $ join ! $ move ! (1 ∷ 0 ∷ []) $ join ! $ move ! (2 ∷ []) $
@@ -73,8 +79,10 @@ close_spec 𝓤 𝓛 𝓜 𝓡 wired T A L LA g d dx dd allocator glue glued =
     move ! (2 ∷ 0 ∷ []) $ join ! $ join ! $ use1 𝓛 (raw (k.pre y)) (id⊢ 𝓤 _) $
     -- the code: both fields are moved out and passed on
     suffices ! (Run (w ∷ []))
-    (subst (λ (us : List Val). ent 𝓤 (Run (w ∷ [])) (Run us)) (sym (λ i. ws i ++ [])) (id⊢ 𝓤 (Run (w ∷ [])))) $
-    enter ! 𝓣.C 𝓣.Λ fn (w ∷ []) Post $ alloc_all ! (λ l. pass_all ! refl (typed, tt) $ let Ev = env fn.locals l in
+    (subst (λ (us : List Val). ent 𝓤 (Run (w ∷ [])) (Run us)) (sym (λ i. ws i ++ [])) (id⊢ 𝓤 (Run (w ∷ []))))
+    $
+    enter ! 𝓣.C 𝓣.Λ fn (w ∷ []) Post
+    $ alloc_all ! (λ l. pass_all ! refl (typed, tt) $ let Ev = env fn.locals l in
     sets ! (of_opd ! (get_in ! (fld ! refl (stop !)) (sub ! 0 refl (whole !)))) refl (tt, tt) $
     sets ! (of_opd ! (get_in ! (fld ! refl (stop !)) (sub ! 1 refl (whole !)))) refl fits $
     first ! $ blocks ! $ sets ! (of_opd ! (get ! refl)) refl fits $
@@ -85,10 +93,13 @@ close_spec 𝓤 𝓛 𝓜 𝓡 wired T A L LA g d dx dd allocator glue glued =
     ⊛ some (λ (ls : Lasts (callee.ended T A g d dd) κs y.0.3).
     ‵ (lasts (callee.ended T A g d dd) κs y.0.3 ls)
     ⊛ (raw (fact 𝓤 (made.value ≡ v.value)) ⊛ raw (fact 𝓤 (made.alloc ≡ v.alloc))))))) (id⊢ 𝓤 (k.post y u)) $
-    await ! tt $ pick ! (λ made. split ! $ move ! (1 ∷ []) $ pick ! (λ _. split3 ! $ drop ! $ move ! (2 ∷ []) $
+    await ! tt
+    $ pick ! (λ made. split ! $ move ! (1 ∷ []) $ pick ! (λ _. split3 ! $ drop ! $ move ! (2 ∷ []) $
     split ! $ move ! (1 ∷ []) $ box_out E ! made (u ∷ []) (λ b' o' h' is' us fits'.
-    box_in E ! made b' o' made.value is' refl $ rewrite ! 0 (λ (xs : List Val). ‵ (B.own_val made xs)) (sym us) refl $
-    let good : Good (layout B) u = subst (Good (layout B)) (sym (ap only us)) (beside_fits r b' o' h' fits') in
+    box_in E ! made b' o' made.value is' refl
+    $ rewrite ! 0 (λ (xs : List Val). ‵ (B.own_val made xs)) (sym us) refl $
+    let good : Good (layout B) u =
+    subst (Good (layout B)) (sym (ap only us)) (beside_fits r b' o' h' fits') in
     -- it is returned
     lands_last ! refl good $ exec ! 𝓣.C 𝓣.Λ Ev (after 3 fn.body) (at_ret Ev Post) $
     sets ! (of_opd ! (get ! refl)) refl good $ nothing ! $ nothing ! $ fjoin ! $

@@ -12,7 +12,8 @@ pub returns : goal.returns
 returns c =
     let l = c.args.locale.now in
     let s = c.to_ascii_lowercase-ext in
-    let kept = filter_same _ (λ o. not (o.0 == s.result)) _ (λ x b f call. search rules) l.extensions.other.items
+    let kept =
+    filter_same _ (λ o. not (o.0 == s.result)) _ (λ x b f call. search rules) l.extensions.other.items
     c.retain.new.self.items c.retain.ensures.filtered in (
       ap is_some (sym c.other_of.ensures) ∙ copied_there c.other_of.result ∙ c.if-is_none.ensures,
       ap (λ os. with_others os (value_of l)) (kept

@@ -13,7 +13,8 @@ returns-in-Some g c =
     let is : IsFault g.A.Answers.mode line c.in-Some.fault =
     subst (λ (m : Mode). IsFault m line c.in-Some.fault) c.mode.ensures c.in-Some.ensures.refused in
     on_ok_weaker c.write_refused.result
-    (λ e. refused g.A.Answers.mode c.args.listing c.args.number line (held c.args.replies.now) c.in-Some.fault (held c.write_refused.new.replies) is e)
+    (λ e. refused g.A.Answers.mode c.args.listing c.args.number line (held c.args.replies.now) c.in-Some.fault
+    (held c.write_refused.new.replies) is e)
     c.write_refused.ensures
 
 pub returns-in-None : goal.returns-in-None
@@ -29,5 +30,6 @@ returns-in-None-2 g c =
     let is : IsAccepted g.A.Answers.mode line =
     subst (λ (m : Mode). IsAccepted m line) c.mode.ensures (c.in-None-2.ensures.accepted.0 refl) in
     on_ok_weaker c.reply.result
-    (λ e. replied g.A.Answers.mode c.args.listing c.args.number line (held c.args.replies.now) (held c.reply.new.replies) is c.if-listing.false e)
+    (λ e. replied g.A.Answers.mode c.args.listing c.args.number line (held c.args.replies.now)
+    (held c.reply.new.replies) is c.if-listing.false e)
     c.reply.ensures

@@ -9,7 +9,8 @@ use Rattle.iloc_litemap.proofs.map.LiteMap.extend_from_map.Goals as goal
 pub returns-then-is_empty-clause-ok : goal.returns-then-is_empty-clause-ok
 returns-then-is_empty-clause-ok g c =
     let none : length c.args.other ≡ 0 = search rules in
-    sym (map_of_sorted g.K.Ord.cmp c.args.self.now c.room_for.ensures.ascending) ∙ ap (λ xs. map_of g.K.Ord.cmp (reverse xs ++ c.args.self.now)) (sym (nil_from_length _ none))
+    sym (map_of_sorted g.K.Ord.cmp c.args.self.now c.room_for.ensures.ascending)
+    ∙ ap (λ xs. map_of g.K.Ord.cmp (reverse xs ++ c.args.self.now)) (sym (nil_from_length _ none))
 
 pub loop-key-init : goal.loop-key-init
 loop-key-init g c =
@@ -18,7 +19,8 @@ loop-key-init g c =
       can = search rules;
       finite = search rules;
       ascending = search rules;
-      pairs = ap₂ (put_all g.K.Ord.cmp) c.in_ok-all.ensures.pairs left ∙ put_all_over g.K.Ord.cmp c.args.self.now c.args.other c.room_for.ensures.ascending;
+      pairs = ap₂ (put_all g.K.Ord.cmp) c.in_ok-all.ensures.pairs left
+          ∙ put_all_over g.K.Ord.cmp c.args.self.now c.args.other c.room_for.ensures.ascending;
       room = search rules;
     }
 

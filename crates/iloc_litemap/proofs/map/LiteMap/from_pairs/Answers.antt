@@ -9,5 +9,8 @@ loop-key-preserved g c =
     record {
       can = search rules;
       finite = search rules;
-      pairs = c.in_ok-put.ensures.ok ∙ (ap (put g.K.Ord.cmp c.in-Some.key c.in-Some.value) c.loop-key.invariant.pairs ∙ ap (map_of g.K.Ord.cmp) (sym (reverse-append c.loop-key.yielded ((c.in-Some.key, c.in-Some.value) ∷ []))));
+      pairs = c.in_ok-put.ensures.ok
+          ∙ (ap (put g.K.Ord.cmp c.in-Some.key c.in-Some.value) c.loop-key.invariant.pairs
+          ∙ ap (map_of g.K.Ord.cmp)
+          (sym (reverse-append c.loop-key.yielded ((c.in-Some.key, c.in-Some.value) ∷ []))));
     }

@@ -6,8 +6,12 @@ use Rattle.iloc_other.proofs.other.Other.try_from_iter.Goals as goal
 pub pieces-preserved : goal.pieces-preserved
 pieces-preserved c = record {
   singleton = c.push_word.ensures.singleton ∙ c.pieces.invariant.singleton;
-  words = takes_piece (left c.args.iter.now) (left c.pieces.iter) c.pieces.other.1 c.in-Some.piece.now (left c.take_piece.new.iter) c.push_word.new.self.1 c.pieces.invariant.words c.in-Some.ensures.piece c.in-Some.ensures.rest c.in_ok-push_word.ensures.ok;
+  words = takes_piece (left c.args.iter.now) (left c.pieces.iter) c.pieces.other.1 c.in-Some.piece.now
+      (left c.take_piece.new.iter) c.push_word.new.self.1 c.pieces.invariant.words c.in-Some.ensures.piece
+      c.in-Some.ensures.rest c.in_ok-push_word.ensures.ok;
 }
 
 pub returns-then-is_empty-clause-reads : goal.returns-then-is_empty-clause-reads
-returns-then-is_empty-clause-reads c = takes_none (left c.args.iter.now) (left c.pieces.iter) c.pieces.other.1 c.pieces.invariant.words c.in_default.ensures.piece (ap length (sym c.as_slice.ensures.words) ∙ no_item _ (sym c.is_empty.ensures ∙ c.if-is_empty.true))
+returns-then-is_empty-clause-reads c = takes_none (left c.args.iter.now) (left c.pieces.iter) c.pieces.other.1
+    c.pieces.invariant.words c.in_default.ensures.piece
+    (ap length (sym c.as_slice.ensures.words) ∙ no_item _ (sym c.is_empty.ensures ∙ c.if-is_empty.true))

@@ -8,10 +8,17 @@ use Rattle.iloc_program.proofs.answers.IdentifiersAnswers.reply.Goals as goal
 pub returns-in-Ok : goal.returns-in-Ok
 returns-in-Ok c =
     on_ok_weaker c.write_text.result
-    (λ e. e ∙ ap (λ t. held c.args.replies.now ++ (t ++ 10 ∷ [])) (sym (answer_accepted c.args.line.now (value_of c.fill_whole.new.identifier) (subst (λ (ps : List (List ℕ)). IdentifierReads ps (Ok c.fill_whole.new.identifier)) c.new-iter.ensures c.in-Ok.ensures.reads))))
+    (λ e. e
+    ∙ ap (λ t. held c.args.replies.now ++ (t ++ 10 ∷ []))
+    (sym (answer_accepted c.args.line.now (value_of c.fill_whole.new.identifier)
+    (subst (λ (ps : List (List ℕ)). IdentifierReads ps (Ok c.fill_whole.new.identifier)) c.new-iter.ensures
+    c.in-Ok.ensures.reads))))
     c.write_text.ensures
 
 pub returns-in-Err : goal.returns-in-Err
 returns-in-Err c =
     on_ok_both c.write_refusal.result c.write_refusal.ensures.text c.write_refusal.ensures.known
-    (λ e n. e ∙ ap (λ t. held c.args.replies.now ++ (t ++ 10 ∷ [])) (sym (answer_refused c.args.line.now c.in-Err.error (subst (λ (ps : List (List ℕ)). IdentifierReads ps (Err c.in-Err.error)) c.new-iter.ensures c.in-Err.ensures.reads) n)))
+    (λ e n. e
+    ∙ ap (λ t. held c.args.replies.now ++ (t ++ 10 ∷ [])) (sym (answer_refused c.args.line.now c.in-Err.error
+    (subst (λ (ps : List (List ℕ)). IdentifierReads ps (Err c.in-Err.error)) c.new-iter.ensures
+    c.in-Err.ensures.reads) n)))

@@ -7,8 +7,10 @@ use Rattle.iloc_shortvec.proofs.few.Few.remove.Goals as goal
 pub returns : goal.returns
 returns g c =
     let f = c.self.inside in
-    let len : length (take f.len f.cells) ≡ f.len = length-take-le f.len f.cells (omega (arith, c.self.invariant.1, c.self.invariant.2)) in
+    let len : length (take f.len f.cells) ≡ f.len =
+    length-take-le f.len f.cells (omega (arith, c.self.invariant.1, c.self.invariant.2)) in
     let view = ap length c.self.view_is in
     ap (take (f.len - 1)) c.copy_within.ensures.after
-    ∙ (remove_few f.cells f.len c.args.index c.self.invariant.2 (omega (arith, c.requires.place, len, view)) (omega (arith, c.requires.several, len, view)) c.self.invariant.1
+    ∙ (remove_few f.cells f.len c.args.index c.self.invariant.2 (omega (arith, c.requires.place, len, view))
+    (omega (arith, c.requires.several, len, view)) c.self.invariant.1
     ∙ ap (λ xs. remove xs c.args.index) c.self.view_is)

@@ -6,10 +6,14 @@ use Rattle.iloc_shortvec.specs.declared.kept.Kept.TheVariants.{Empty, Inline, He
 use Rattle.iloc_shortvec.proofs.short_words.ShortWords.as_mut_slice.Goals as goal
 
 -- a write of all items, where they are kept and as a list
-items_of-with_list : {T : Type 0} (kept : Kept T) (ws : List T) → items_of (with_list kept ws) ≡ overwritten (items_of kept) ws
+items_of-with_list : {T : Type 0} (kept : Kept T) (ws : List T) →
+    items_of (with_list kept ws) ≡ overwritten (items_of kept) ws
 items_of-with_list (Empty none) ws = refl
 items_of-with_list (Inline items) ws = refl
 items_of-with_list (Heap items) ws = ap (λ n. take n (ws ++ drop (length ws) items.items)) (items.ok.0)
 
 pub returns : goal.returns
-returns g c = ((refl, λ w. items_of-with_list c.self.inside.kept w ∙ ap (λ xs. overwritten xs w) c.self.view_is), record { writes_back = tt; value = c.as_mut_slice.ensures.value ∙ c.self.view_is })
+returns g c = (
+  (refl, λ w. items_of-with_list c.self.inside.kept w ∙ ap (λ xs. overwritten xs w) c.self.view_is),
+  record { writes_back = tt; value = c.as_mut_slice.ensures.value ∙ c.self.view_is },
+)

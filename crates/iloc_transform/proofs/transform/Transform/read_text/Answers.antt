@@ -6,13 +6,25 @@ use Rattle.iloc_transform.proofs.TransformLemmas.{text_none, text_other, text_re
 use Rattle.iloc_transform.proofs.transform.Transform.read_text.Goals as goal
 
 pub returns-in_default-clause-reads : goal.returns-in_default-clause-reads
-returns-in_default-clause-reads c = text_none c.args.code_units.now (c.in_default.ensures.byte ∙ ap singleton_at c.new-iter.ensures)
+returns-in_default-clause-reads c =
+    text_none c.args.code_units.now (c.in_default.ensures.byte ∙ ap singleton_at c.new-iter.ensures)
 
 pub returns-then-ext-ne116-clause-reads : goal.returns-then-ext-ne116-clause-reads
-returns-then-ext-ne116-clause-reads c = text_other c.args.code_units.now c.in-Some.ext (c.in-Some.ensures.byte ∙ ap singleton_at c.new-iter.ensures) c.if-ext-ne116.true
+returns-then-ext-ne116-clause-reads c = text_other c.args.code_units.now c.in-Some.ext
+    (c.in-Some.ensures.byte ∙ ap singleton_at c.new-iter.ensures) c.if-ext-ne116.true
 
 pub returns-clause-reads : goal.returns-clause-reads
-returns-clause-reads c = text_reads c.args.code_units.now (ap (λ d. Some d) (sym c.if-ext-ne116.false) ∙ c.in-Some.ensures.byte ∙ ap singleton_at c.new-iter.ensures) (left c.take_singleton.new.iter) (left c.try_from_iter.new.iter) (c.in-Some.ensures.rest ∙ ap rest_of c.new-iter.ensures) c.try_from_iter.result c.try_from_iter.ensures.reads
+returns-clause-reads c = text_reads c.args.code_units.now
+    (ap (λ d. Some d) (sym c.if-ext-ne116.false) ∙ c.in-Some.ensures.byte
+    ∙ ap singleton_at c.new-iter.ensures)
+    (left c.take_singleton.new.iter) (left c.try_from_iter.new.iter)
+    (c.in-Some.ensures.rest ∙ ap rest_of c.new-iter.ensures) c.try_from_iter.result
+    c.try_from_iter.ensures.reads
 
 pub returns-clause-memory : goal.returns-clause-memory
-returns-clause-memory c = text_memory c.args.code_units.now (ap (λ d. Some d) (sym c.if-ext-ne116.false) ∙ c.in-Some.ensures.byte ∙ ap singleton_at c.new-iter.ensures) (left c.take_singleton.new.iter) (left c.try_from_iter.new.iter) (c.in-Some.ensures.rest ∙ ap rest_of c.new-iter.ensures) c.try_from_iter.result c.try_from_iter.ensures.memory
+returns-clause-memory c = text_memory c.args.code_units.now
+    (ap (λ d. Some d) (sym c.if-ext-ne116.false) ∙ c.in-Some.ensures.byte
+    ∙ ap singleton_at c.new-iter.ensures)
+    (left c.take_singleton.new.iter) (left c.try_from_iter.new.iter)
+    (c.in-Some.ensures.rest ∙ ap rest_of c.new-iter.ensures) c.try_from_iter.result
+    c.try_from_iter.ensures.memory

@@ -3,7 +3,9 @@ use Rattle.iloc_transform.proofs.OwedLemmas.{transform_accepts, transform_refuse
 use Rattle.iloc_transform.proofs.transform.Transform.try_from_utf8.Goals as goal
 
 pub returns-clause-accepted : goal.returns-clause-accepted
-returns-clause-accepted c = transform_accepts c.args.code_units.now c.read_text.result c.read_text.ensures.reads
+returns-clause-accepted c =
+    transform_accepts c.args.code_units.now c.read_text.result c.read_text.ensures.reads
 
 pub returns-clause-refused : goal.returns-clause-refused
-returns-clause-refused c = transform_refuses c.args.code_units.now c.read_text.result c.read_text.ensures.reads
+returns-clause-refused c =
+    transform_refuses c.args.code_units.now c.read_text.result c.read_text.ensures.reads

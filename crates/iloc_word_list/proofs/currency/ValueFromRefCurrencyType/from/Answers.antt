@@ -8,4 +8,5 @@ pub subtag_of-requires : goal.subtag_of-requires
 subtag_of-requires c = (lit< tt, currency_normal)
 
 pub returns : goal.returns
-returns c = c.from_subtag.ensures ∙ ap (λ (w : List ℕ). without_true (w ∷ [])) c.subtag_of.ensures ∙ currency_alone c.args.input.now c.as_str.ensures.normal
+returns c = c.from_subtag.ensures ∙ ap (λ (w : List ℕ). without_true (w ∷ [])) c.subtag_of.ensures
+    ∙ currency_alone c.args.input.now c.as_str.ensures.normal

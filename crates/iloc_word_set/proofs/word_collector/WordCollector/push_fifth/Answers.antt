@@ -25,11 +25,16 @@ returns-in_err-more-in-Four-clause-succeeds g c few =
 pub invariant_of-self : goal.invariant_of-self
 invariant_of-self g c =
     let was = subst IsCollected c.in-Four.is c.self.invariant in
-    five c.args.word c.in-Four.set c.in-Some.words.items was.0 (omega (arith, was.1)) (sym c.in_ok-more-in-Four.ensures.known ∙ ap is_none c.in-Some.is) (rw c.in-Some.is at c.in_ok-more-in-Four.ensures.more)
+    five c.args.word c.in-Four.set c.in-Some.words.items was.0 (omega (arith, was.1))
+    (sym c.in_ok-more-in-Four.ensures.known ∙ ap is_none c.in-Some.is)
+    (rw c.in-Some.is at c.in_ok-more-in-Four.ensures.more)
 
 pub returns-clause-taken : goal.returns-clause-taken
 returns-clause-taken g c =
     let was = subst IsCollected c.in-Four.is c.self.invariant in
     let same : c.in-Four.set ≡ c.args.self.now = sym (ap collected_words c.in-Four.is) ∙ c.self.view_is in
-    let more : c.in-Some.words.items ≡ set_of (c.args.word ∷ c.in-Four.set) = rw c.in-Some.is at c.in_ok-more-in-Four.ensures.more in
-    subst (λ ws. IsPermutation (c.args.word ∷ ws) c.in-Some.words.items) same (subst (IsPermutation (c.args.word ∷ c.in-Four.set)) (sym more) (put_in c.args.word c.in-Four.set was.0 (sym c.in_ok-more-in-Four.ensures.known ∙ ap is_none c.in-Some.is)))
+    let more : c.in-Some.words.items ≡ set_of (c.args.word ∷ c.in-Four.set) =
+    rw c.in-Some.is at c.in_ok-more-in-Four.ensures.more in
+    subst (λ ws. IsPermutation (c.args.word ∷ ws) c.in-Some.words.items) same
+    (subst (IsPermutation (c.args.word ∷ c.in-Four.set)) (sym more) (put_in c.args.word c.in-Four.set was.0
+    (sym c.in_ok-more-in-Four.ensures.known ∙ ap is_none c.in-Some.is)))
