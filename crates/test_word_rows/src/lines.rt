@@ -5,9 +5,7 @@
 //! line: `line-window` says the normal text, `line-front` what stands at the front, `line-block` the first block by the
 //! first piece of one byte, and `line-keyword` what follows the singleton of the first block. A line of which nothing is
 //! said is `not told`.
-ghost use Rattle.std.specs.Prelude.{take};
 ghost use Rattle.iloc_plain.specs.Plain.{AreWords};
-ghost use Rattle.iloc_fronts.specs.Front.{IsFront};
 
 use iloc_fronts::{Block, Front, Keyword, find_block, read_front, read_keyword};
 use iloc_plain::{Plain, read_plain, read_plain_text};
@@ -42,16 +40,6 @@ fn window(text: &[u8], len: usize, out: &mut String) {
     }
 }
 
-// What the first bytes begin with, if sixteen follow them at least.
-fn front_of(window: &[u8], len: usize) -> Front<'_>
-    ensures { IsFront (take len window.now) result }
-{
-    if window.len() < 16 || len > window.len() - 16 {
-        return Front::Other;
-    }
-    read_front(window, len)
-}
-
 // Says the block's first byte, how many bytes the line has from there on, and whether variants stand before it.
 fn block(block: &Block<'_>, out: &mut String) {
     say(out, "block ");
@@ -68,9 +56,12 @@ fn block(block: &Block<'_>, out: &mut String) {
     )
 }
 
-// Says what stands at the front.
+// Says what stands at the front, if sixteen bytes follow the line at least.
 fn front(window: &[u8], len: usize, out: &mut String) {
-    match front_of(window, len) {
+    if window.len() < 16 || len > window.len() - 16 {
+        return say(out, "not told");
+    }
+    match read_front(window, len) {
         Front::NoLanguage => say(out, "no language"),
         Front::Misfit => say(out, "misfit"),
         Front::Block(found) => block(&found, out),
@@ -99,7 +90,10 @@ fn first_block(window: &[u8], len: usize, out: &mut String) {
 
 // What follows the singleton of the first block, if sixteen bytes follow the line at least.
 fn keyword_of(window: &[u8], len: usize) -> Keyword {
-    match front_of(window, len) {
+    if window.len() < 16 || len > window.len() - 16 {
+        return Keyword::Other;
+    }
+    match read_front(window, len) {
         Front::Block(block) => read_keyword(block),
         _ => Keyword::Other,
     }
