@@ -1,15 +1,19 @@
 -- From the first piece of a line to what stands at its front.
-use Rattle.std.proofs.Common.{◌≡◌, ◌≢◌, ℕ, zero, suc, ◌+◌, ◌-◌, ◌<◌, ◌≤◌, ◌==◌, Bool, true, false, cond, not, ◌&&◌, List, [], ◌∷◌, length, get_or, take, drop, refl, sym, ap, ◌∙◌, subst, arith, inl, inr}
+use Rattle.std.proofs.Common.{◌≡◌, ◌≢◌, ℕ, zero, suc, ◌+◌, ◌-◌, ◌<◌, ◌≤◌, ◌==◌, Bool, true, false, cond, not}
+use Rattle.std.proofs.Common.{◌&&◌, List, [], ◌∷◌, length, get_or, take, drop, refl, sym, ap, ◌∙◌, subst}
+use Rattle.std.proofs.Common.{arith, inl, inr}
 use Rattle.std.specs.List.{slice_split, onto_first, list_all}
 use Rattle.std.proofs.lemmas.Bool.{cases_lt, cases_Bool}
 use Rattle.std.proofs.lemmas.Bool.Decides.{nat_tests}
 use Rattle.std.proofs.lemmas.List.{get_or-take, length-drop, length-take-le, take-take, drop-take}
 use Rattle.std.proofs.lemmas.List.Splits.{slice_split-cons_yes, slice_split-cons_no}
-use Rattle.iloc_spec_grammar.specs.Syntax.{pieces, first_piece, Kind, Attribute, Language, Script, Region, UnicodeKey, Variant, is_word, IsWord, is_true, lower, languages}
+use Rattle.iloc_spec_grammar.specs.Syntax.{pieces, first_piece, Kind, Attribute, Language, Script, Region}
+use Rattle.iloc_spec_grammar.specs.Syntax.{UnicodeKey, Variant, is_word, IsWord, is_true, lower, languages}
 use Rattle.iloc_spec_grammar.specs.Meaning.{normal_values}
 use Rattle.iloc_spec_grammar.specs.Reading.{past, skip_first, starts_block, after_region}
 use Rattle.iloc_spec_grammar.proofs.PiecesLaws.{at_pieces}
-use Rattle.iloc_spec_grammar.proofs.WordsLaws.{length-language, length-script, length-region, length-variant, length-attribute, length-unicode_key}
+use Rattle.iloc_spec_grammar.proofs.WordsLaws.{length-language, length-script, length-region, length-variant}
+use Rattle.iloc_spec_grammar.proofs.WordsLaws.{length-attribute, length-unicode_key}
 use Rattle.iloc_spec_grammar.proofs.RawLaws.{languages_table}
 use Rattle.iloc_fronts.specs.Run.{IsRun, is_hyphen, fails}
 use Rattle.iloc_fronts.specs.Front.{IsFirst, GoesOnAs, IsFront}
@@ -33,7 +37,8 @@ is_yes false e = sym e
 pub later : (n c : ℕ) (t : List ℕ) → Free (suc n) (c ∷ t) → Free n t
 later n c t h i l = h (suc i) (omega arith)
 
-pub go_on : (n c : ℕ) (t : List ℕ) → Free (suc n) (c ∷ t) → slice_split is_hyphen (c ∷ t) ≡ onto_first c (slice_split is_hyphen t)
+pub go_on : (n c : ℕ) (t : List ℕ) → Free (suc n) (c ∷ t) →
+    slice_split is_hyphen (c ∷ t) ≡ onto_first c (slice_split is_hyphen t)
 go_on n c t h = slice_split-cons_no is_hyphen c t (is_no _ (h 0 (omega arith)))
 
 cut_at : (k : ℕ) (t : List ℕ) → k < length t → Free k t → fails is_hyphen (get_or t k 0) ≡ false
@@ -47,15 +52,21 @@ uncut : (t : List ℕ) → Free (length t) t → slice_split is_hyphen t ≡ t �
 uncut [] h = refl
 uncut (c ∷ t) h = go_on (length t) c t h ∙ ap (onto_first c) (uncut t (later (length t) c t h))
 
-pub first_onto : (c : ℕ) (ps : List (List ℕ)) → length (first_piece (onto_first c ps)) ≡ suc (length (first_piece ps))
+pub first_onto : (c : ℕ) (ps : List (List ℕ)) →
+    length (first_piece (onto_first c ps)) ≡ suc (length (first_piece ps))
 first_onto c [] = refl
 first_onto c (p ∷ ps) = refl
 
-pub goes_far : (k : ℕ) (t : List ℕ) → k ≤ length t → Free k t → k ≤ length (first_piece (slice_split is_hyphen t))
+pub goes_far : (k : ℕ) (t : List ℕ) → k ≤ length t → Free k t →
+    k ≤ length (first_piece (slice_split is_hyphen t))
 goes_far zero t l h = omega arith
 goes_far (suc k) [] l h = absurd (omega arith)
 goes_far (suc k) (c ∷ t) l h =
-    omega (arith, ap (λ ps. length (first_piece ps)) (go_on k c t h) ∙ first_onto c (slice_split is_hyphen t), goes_far k t (omega arith) (later k c t h))
+    omega (
+      arith,
+      ap (λ ps. length (first_piece ps)) (go_on k c t h) ∙ first_onto c (slice_split is_hyphen t),
+      goes_far k t (omega arith) (later k c t h),
+    )
 
 -- n bytes come before the first hyphen of what the line has
 pub first_by : (w : List ℕ) (len n : ℕ) → len ≤ length w → n ≤ len → n ≤ 16
@@ -75,7 +86,8 @@ first_by w len n inside less few pass ends =
           let there : n < len = omega arith in
           cut_at n t more free (ap (fails is_hyphen) (get_or-take len w n 0 there) ∙ ends there short);
       last = λ short whole. uncut t (subst (λ (m : ℕ). Free m t) whole free);
-      long = λ sixteen. subst (λ (m : ℕ). m ≤ length (first_piece (slice_split is_hyphen t))) sixteen (goes_far n t (omega arith) free);
+      long = λ sixteen. subst (λ (m : ℕ). m ≤ length (first_piece (slice_split is_hyphen t))) sixteen
+          (goes_far n t (omega arith) free);
     }
 
 -- n is the lesser of the line's length and of the bytes before the first hyphen of the window
@@ -90,22 +102,28 @@ first_is w len k n wide inside r few less least =
 -- ---- words among the pieces
 
 -- where the first piece is no word of the kind, not all are
-pub all_fail : (k : Kind) (t : List ℕ) → is_word k (first_piece (pieces t)) ≡ false → list_all (is_word k) (pieces t) ≡ false
+pub all_fail : (k : Kind) (t : List ℕ) → is_word k (first_piece (pieces t)) ≡ false →
+    list_all (is_word k) (pieces t) ≡ false
 all_fail k t = at_pieces (λ ps. is_word k (first_piece ps) ≡ false → list_all (is_word k) ps ≡ false)
     (λ p ps e. ap (λ (b : Bool). b && list_all (is_word k) ps) e) t
 
 -- the pieces of a value that are not `true`
-pub values_later : (p : List ℕ) (ps : List (List ℕ)) → length (normal_values ps) ≤ length (normal_values (p ∷ ps))
+pub values_later : (p : List ℕ) (ps : List (List ℕ)) →
+    length (normal_values ps) ≤ length (normal_values (p ∷ ps))
 values_later p ps = by (is_true (lower p))
   where
-    by : (b : Bool) → length (normal_values ps) ≤ length (cond (not b) (lower p ∷ normal_values ps) (normal_values ps))
+    by : (b : Bool) →
+        length (normal_values ps) ≤ length (cond (not b) (lower p ∷ normal_values ps) (normal_values ps))
     by true = omega arith
     by false = omega arith
 
-pub values_word : (p : List ℕ) (ps : List (List ℕ)) → is_true (lower p) ≡ false → length (normal_values (p ∷ ps)) ≡ suc (length (normal_values ps))
-values_word p ps e = ap (λ (b : Bool). length (cond (not b) (lower p ∷ normal_values ps) (normal_values ps))) e
+pub values_word : (p : List ℕ) (ps : List (List ℕ)) → is_true (lower p) ≡ false →
+    length (normal_values (p ∷ ps)) ≡ suc (length (normal_values ps))
+values_word p ps e =
+    ap (λ (b : Bool). length (cond (not b) (lower p ∷ normal_values ps) (normal_values ps))) e
 
-pub values_true : (p : List ℕ) (ps : List (List ℕ)) → is_true (lower p) ≡ true → normal_values (p ∷ ps) ≡ normal_values ps
+pub values_true : (p : List ℕ) (ps : List (List ℕ)) → is_true (lower p) ≡ true →
+    normal_values (p ∷ ps) ≡ normal_values ps
 values_true p ps e = ap (λ (b : Bool). cond (not b) (lower p ∷ normal_values ps) (normal_values ps)) e
 
 -- no word of the kind has more than eight bytes
@@ -144,7 +162,8 @@ later_bytes w len n inside less =
     let one_more : suc n ≡ n + 1 = omega arith in
     let enough : len - n - 1 ≤ length w - (n + 1) = omega arith in
     ap (λ (m : ℕ). drop (suc n) (take m w)) parts ∙ drop-take (suc n) (len - n - 1) w
-    ∙ ap (λ (m : ℕ). take (len - n - 1) (drop m w)) one_more ∙ sym (take-take (len - n - 1) (length w - (n + 1)) (drop (n + 1) w) enough)
+    ∙ ap (λ (m : ℕ). take (len - n - 1) (drop m w)) one_more
+    ∙ sym (take-take (len - n - 1) (length w - (n + 1)) (drop (n + 1) w) enough)
 
 module _ (w : List ℕ) (len n : ℕ) (room : len + 16 ≤ length w) (first : IsFirst (take len w) n) where
   abbrev text : List ℕ
@@ -184,7 +203,8 @@ module _ (w : List ℕ) (len n : ℕ) (room : len + 16 ≤ length w) (first : Is
   ]
 
   pub word_is_short : (k : Kind) → IsShort k → is_word k (take n w) ≡ true → n < 16
-  word_is_short k short fits = omega (arith, short (take n w) fits, length-take-le n w (omega (arith, inside)))
+  word_is_short k short fits =
+      omega (arith, short (take n w) fits, length-take-le n w (omega (arith, inside)))
 
   -- a short piece that doesn't end the line: the other pieces are those of what follows its hyphen
   pub after_short : n < 16 → n ≢ len → pieces text ≡ take n w ∷ pieces next
@@ -193,19 +213,23 @@ module _ (w : List ℕ) (len n : ℕ) (room : len + 16 ≤ length w) (first : Is
       let rest : drop (suc n) (take len w) ≡ next = later_bytes w len n (omega arith) less in
       first.cut (omega (arith, whole)) few ∙ (λ j. front_same j ∷ pieces (rest j))
 
-  pub after_word : (k : Kind) → IsShort k → is_word k (take n w) ≡ true → n ≢ len → pieces text ≡ take n w ∷ pieces next
+  pub after_word : (k : Kind) → IsShort k → is_word k (take n w) ≡ true → n ≢ len →
+      pieces text ≡ take n w ∷ pieces next
   after_word k short fits more = after_short (word_is_short k short fits) more
 
   -- so all pieces are words of the kind where those after it are
-  pub all_later : (k : Kind) → IsShort k → is_word k (take n w) ≡ true → n ≢ len → list_all (is_word k) (pieces text) ≡ list_all (is_word k) (pieces next)
+  pub all_later : (k : Kind) → IsShort k → is_word k (take n w) ≡ true → n ≢ len →
+      list_all (is_word k) (pieces text) ≡ list_all (is_word k) (pieces next)
   all_later k short fits more =
-      ap (list_all (is_word k)) (after_word k short fits more) ∙ ap (λ (b : Bool). b && list_all (is_word k) (pieces next)) fits
+      ap (list_all (is_word k)) (after_word k short fits more)
+      ∙ ap (λ (b : Bool). b && list_all (is_word k) (pieces next)) fits
 
   -- a short piece, and a word, that ends the line
   pub whole_short : n < 16 → n ≡ len → pieces text ≡ take n w ∷ []
   whole_short few end = first.last few (omega (arith, whole)) ∙ (λ j. take (sym end j) w ∷ [])
 
-  pub whole_word : (k : Kind) → IsShort k → is_word k (take n w) ≡ true → n ≡ len → pieces text ≡ take n w ∷ []
+  pub whole_word : (k : Kind) → IsShort k → is_word k (take n w) ≡ true → n ≡ len →
+      pieces text ≡ take n w ∷ []
   whole_word k short fits end = whole_short (word_is_short k short fits) end
 
   -- sixteen bytes stay behind what is left of the line
@@ -215,17 +239,21 @@ module _ (w : List ℕ) (len n : ℕ) (room : len + 16 ≤ length w) (first : Is
       let enough : length w - (n + 1) ≤ length (drop (n + 1) w) = omega arith in
       omega (arith, length-take-le (length w - (n + 1)) (drop (n + 1) w) enough, inside)
 
-  pub skips_none : (k : Kind) → IsShort k → is_word k (take n w) ≡ false → skip_first (is_word k) (pieces text) ≡ pieces text
+  pub skips_none : (k : Kind) → IsShort k → is_word k (take n w) ≡ false →
+      skip_first (is_word k) (pieces text) ≡ pieces text
   skips_none k short fails = by (word_of_first k short ∙ fails)
     where
       by : is_word k (first_piece (pieces text)) ≡ false → skip_first (is_word k) (pieces text) ≡ pieces text
-      by = at_pieces (λ ps. is_word k (first_piece ps) ≡ false → skip_first (is_word k) ps ≡ ps) (λ p ps e. ap (λ (b : Bool). cond b ps (p ∷ ps)) e) text
+      by = at_pieces (λ ps. is_word k (first_piece ps) ≡ false → skip_first (is_word k) ps ≡ ps)
+          (λ p ps e. ap (λ (b : Bool). cond b ps (p ∷ ps)) e) text
 
-  pub passes_none : (k : Kind) → IsShort k → is_word k (take n w) ≡ false → past (is_word k) (pieces text) ≡ pieces text
+  pub passes_none : (k : Kind) → IsShort k → is_word k (take n w) ≡ false →
+      past (is_word k) (pieces text) ≡ pieces text
   passes_none k short fails = by (word_of_first k short ∙ fails)
     where
       by : is_word k (first_piece (pieces text)) ≡ false → past (is_word k) (pieces text) ≡ pieces text
-      by = at_pieces (λ ps. is_word k (first_piece ps) ≡ false → past (is_word k) ps ≡ ps) (λ p ps e. ap (λ (b : Bool). cond b (past (is_word k) ps) (p ∷ ps)) e) text
+      by = at_pieces (λ ps. is_word k (first_piece ps) ≡ false → past (is_word k) ps ≡ ps)
+          (λ p ps e. ap (λ (b : Bool). cond b (past (is_word k) ps) (p ∷ ps)) e) text
 
   pub skips_one : (k : Kind) → IsShort k → is_word k (take n w) ≡ true → n ≢ len
       → skip_first (is_word k) (pieces text) ≡ pieces (next)
@@ -245,7 +273,8 @@ module _ (w : List ℕ) (len n : ℕ) (room : len + 16 ≤ length w) (first : Is
     where
       first_length : (length (first_piece (pieces text)) == 1) ≡ false
       first_length = elim (cases_lt n 16) [
-        | inl less ↦ ap (λ p. length p == 1) (short_first less) ∙ ap (λ m. m == 1) (length-take-le n w (omega (arith, inside))) ∙ grind (arith, nat_tests)
+        | inl less ↦ ap (λ p. length p == 1) (short_first less)
+            ∙ ap (λ m. m == 1) (length-take-le n w (omega (arith, inside))) ∙ grind (arith, nat_tests)
         | inr more ↦
             let sixteen : n ≡ 16 = omega (arith, first.few) in
             let many : 16 ≤ length (first_piece (pieces text)) = first.long sixteen in
@@ -253,7 +282,8 @@ module _ (w : List ℕ) (len n : ℕ) (room : len + 16 ≤ length w) (first : Is
       ]
 
       by : (length (first_piece (pieces text)) == 1) ≡ false → starts_block (pieces text) ≡ false
-      by = at_pieces (λ ps. (length (first_piece ps) == 1) ≡ false → starts_block ps ≡ false) (λ p ps e. e) text
+      by = at_pieces (λ ps. (length (first_piece ps) == 1) ≡ false → starts_block ps ≡ false) (λ p ps e. e)
+          text
 
   pub one_byte : n ≡ 1 → first_piece (pieces text) ≡ get_or w 0 0 ∷ []
   one_byte one = short_first (omega arith) ∙ ap (λ (m : ℕ). take m w) one ∙ front w (omega arith)

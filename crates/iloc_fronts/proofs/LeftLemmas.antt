@@ -15,7 +15,9 @@ module _ (l : Left) (h : IsLeft l) where
   first_word k short = word_of_first l.window.now l.len l.n h.room h.first k short
 
 -- what is left after a first piece that may fit
-pub skips : (k : Kind) → IsShort k → (l : Left) → IsLeft l → cond (is_word k (piece_of l)) (rest_of (pieces_of l)) (pieces_of l) ≡ skip_first (is_word k) (pieces_of l)
+pub skips : (k : Kind) → IsShort k → (l : Left) → IsLeft l →
+    cond (is_word k (piece_of l)) (rest_of (pieces_of l)) (pieces_of l) ≡ skip_first (is_word k) (pieces_of l)
 skips k short l h =
     ap (λ (b : Bool). cond b (rest_of (pieces_of l)) (pieces_of l)) (sym (first_word l h k short))
-    ∙ at_pieces (λ ps. cond (is_word k (first_piece ps)) (rest_of ps) ps ≡ skip_first (is_word k) ps) (λ p ps. refl) (take l.len l.window.now)
+    ∙ at_pieces (λ ps. cond (is_word k (first_piece ps)) (rest_of ps) ps ≡ skip_first (is_word k) ps)
+    (λ p ps. refl) (take l.len l.window.now)

@@ -1,5 +1,7 @@
 -- From a mask of sixteen bytes to those that come first.
-use Rattle.std.proofs.Common.{◌≡◌, ℕ, ◌+◌, ◌*◌, ◌/◌, ◌%◌, ◌^◌, ◌<◌, ◌≤◌, Bool, true, false, cond, not, List, [], ◌∷◌, ◌++◌, length, map, get_or, take, drop, Fits, w8, refl, sym, ap, ◌∙◌, arith, length-append}
+use Rattle.std.proofs.Common.{◌≡◌, ℕ, ◌+◌, ◌*◌, ◌/◌, ◌%◌, ◌^◌, ◌<◌, ◌≤◌, Bool, true, false, cond, not, List}
+use Rattle.std.proofs.Common.{[], ◌∷◌, ◌++◌, length, map, get_or, take, drop, Fits, w8, refl, sym, ap, ◌∙◌}
+use Rattle.std.proofs.Common.{arith, length-append}
 use Rattle.std.specs.List.{prefix_len}
 use Rattle.std.proofs.lemmas.Bool.{agree_below, agree_below_at}
 use Rattle.std.proofs.lemmas.List.{length-map, length-take-le, get_or-take, get_or_append_left, map-append}
@@ -34,10 +36,12 @@ run_is p q w n wide same e =
       pass = λ i less.
           let inside : i < prefix_len r (take 16 w) = omega arith in
           let small : i < 16 = omega arith in
-          sym (same (get_or w i 0)) ∙ ap r (sym (get_or-take 16 w i 0 small)) ∙ prefix_len_passes r (take 16 w) i 0 inside;
+          sym (same (get_or w i 0)) ∙ ap r (sym (get_or-take 16 w i 0 small))
+          ∙ prefix_len_passes r (take 16 w) i 0 inside;
       ends = λ less.
           let inside : prefix_len r (take 16 w) < length (take 16 w) = omega arith in
-          sym (same (get_or w n 0)) ∙ ap r (sym (get_or-take 16 w n 0 less)) ∙ ap (λ i. r (get_or (take 16 w) i 0)) e ∙ prefix_len_stops r (take 16 w) 0 inside;
+          sym (same (get_or w n 0)) ∙ ap r (sym (get_or-take 16 w n 0 less))
+          ∙ ap (λ i. r (get_or (take 16 w) i 0)) e ∙ prefix_len_stops r (take 16 w) 0 inside;
     }
 
 pub twice : (b : Bool) → not (not b) ≡ b
@@ -66,15 +70,18 @@ abbrev pub padded : List ℕ → List ℕ
 padded w = take 13 w ++ 97 ∷ 97 ∷ 97 ∷ []
 
 pub length-padded : (w : List ℕ) → 13 ≤ length w → length (padded w) ≡ 16
-length-padded w wide = length-append (take 13 w) (97 ∷ 97 ∷ 97 ∷ []) ∙ ap (λ n. n + 3) (length-take-le 13 w wide)
+length-padded w wide =
+    length-append (take 13 w) (97 ∷ 97 ∷ 97 ∷ []) ∙ ap (λ n. n + 3) (length-take-le 13 w wide)
 
-pub later_mask : (p : ℕ → Bool) → p 97 ≡ false → (w : List ℕ) → 16 ≤ length w → mask_l (map p (take 16 w)) / 2 ^ 3 ≡ mask_l (map p (padded (drop 3 w)))
+pub later_mask : (p : ℕ → Bool) → p 97 ≡ false → (w : List ℕ) → 16 ≤ length w →
+    mask_l (map p (take 16 w)) / 2 ^ 3 ≡ mask_l (map p (padded (drop 3 w)))
 later_mask p none [] l = absurd (omega arith)
 later_mask p none (a ∷ []) l = absurd (omega arith)
 later_mask p none (a ∷ b ∷ []) l = absurd (omega arith)
 later_mask p none (a ∷ b ∷ c ∷ w) l =
     eighth (p a) (p b) (p c) (mask_l (map p (take 13 w))) ∙ sym (unmarked (map p (take 13 w)))
-    ∙ sym (ap mask_l (map-append p (take 13 w) (97 ∷ 97 ∷ 97 ∷ []) ∙ ap (λ (m : Bool). map p (take 13 w) ++ m ∷ m ∷ m ∷ []) none))
+    ∙ sym (ap mask_l (map-append p (take 13 w) (97 ∷ 97 ∷ 97 ∷ [])
+    ∙ ap (λ (m : Bool). map p (take 13 w) ++ m ∷ m ∷ m ∷ []) none))
 
 -- a run of these is one of thirteen bytes
 pub later_run : (q : ℕ → Bool) (w : List ℕ) (n : ℕ) → 13 ≤ length w → IsRun q (padded w) n → IsRunOf 13 q w n
@@ -84,4 +91,6 @@ later_run q w n wide r = record {
 }
   where
     same : (i : ℕ) → i < 13 → get_or (padded w) i 0 ≡ get_or w i 0
-    same i few = get_or_append_left (take 13 w) (97 ∷ 97 ∷ 97 ∷ []) 0 i (omega (arith, length-take-le 13 w wide)) ∙ get_or-take 13 w i 0 few
+    same i few =
+        get_or_append_left (take 13 w) (97 ∷ 97 ∷ 97 ∷ []) 0 i (omega (arith, length-take-le 13 w wide))
+        ∙ get_or-take 13 w i 0 few

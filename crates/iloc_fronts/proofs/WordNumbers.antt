@@ -1,5 +1,6 @@
 -- The numbers of words have the order of the words.
-use Rattle.std.proofs.Common.{◌≡◌, ℕ, zero, suc, ◌+◌, ◌*◌, ◌^◌, ◌<◌, ◌≤◌, true, List, [], ◌∷◌, length, get_or, refl, sym, ap, ◌∙◌, arith, inl, inr, pow-suc}
+use Rattle.std.proofs.Common.{◌≡◌, ℕ, zero, suc, ◌+◌, ◌*◌, ◌^◌, ◌<◌, ◌≤◌, true, List, [], ◌∷◌, length, get_or}
+use Rattle.std.proofs.Common.{refl, sym, ap, ◌∙◌, arith, inl, inr, pow-suc}
 use Rattle.std.specs.List.{AllByRecursion}
 use Rattle.std.specs.Ordering.{nat_cmp, ordering_then}
 use Rattle.std.specs.Cmp.{nat_cmp_is}
@@ -10,7 +11,8 @@ use Rattle.std.proofs.lemmas.Bool.{and_parts, cases_lt}
 use Rattle.std.proofs.lemmas.Bool.Decides.{nat_tests}
 use Rattle.std.proofs.Math.Nat.{mul-le-mul_right}
 use Rattle.iloc_spec_grammar.specs.Syntax.{Attribute, Variant, IsWord, letters_or_digits, lower, word_cmp}
-use Rattle.iloc_spec_grammar.proofs.WordsLaws.{length-attribute, length-variant, length-lower, word_letters_or_digits}
+use Rattle.iloc_spec_grammar.proofs.WordsLaws.{length-attribute, length-variant, length-lower}
+use Rattle.iloc_spec_grammar.proofs.WordsLaws.{word_letters_or_digits}
 use Rattle.iloc_fronts.specs.Words.{IsUpToEight, high_first, word_number}
 
 -- ---- how great they are
@@ -46,7 +48,8 @@ unfolding lower
 above_word [] h = tt
 above_word (b ∷ p) h = let parts = and_parts _ _ h in (byte b parts.0, above_word p parts.1)
   where
-    byte : (b : ℕ) → is_ascii_alphanumeric b ≡ true → (0 < to_ascii_lowercase b) × (to_ascii_lowercase b < 256)
+    byte : (b : ℕ) → is_ascii_alphanumeric b ≡ true →
+        (0 < to_ascii_lowercase b) × (to_ascii_lowercase b < 256)
     byte b e = (grind (arith, nat_tests), grind (arith, nat_tests))
 
 is_less : (x y : ℕ) → x < y → nat_cmp x y ≡ Less
@@ -63,40 +66,62 @@ first_counts a b w x y l f = let next : suc a ≤ b = omega arith in omega (arit
 
 rest_counts : (w x y : ℕ) → nat_cmp (w + x) (w + y) ≡ nat_cmp x y
 rest_counts w x y = elim (cases_lt x y) [
-  | inl less ↦ (let more : w + x < w + y = omega arith in is_less (w + x) (w + y) more ∙ sym (is_less x y less))
+  | inl less ↦
+      (let more : w + x < w + y = omega arith in is_less (w + x) (w + y) more ∙ sym (is_less x y less))
   | inr other ↦ elim (cases_lt y x) [
-    | inl less ↦ (let more : w + y < w + x = omega arith in is_greater (w + x) (w + y) more ∙ sym (is_greater x y less))
-    | inr same ↦ (let one : x ≡ y = omega arith in is_equal (w + x) (w + y) (ap (λ n. w + n) one) ∙ sym (is_equal x y one))
+    | inl less ↦ (let more : w + y < w + x = omega arith in
+        is_greater (w + x) (w + y) more ∙ sym (is_greater x y less))
+    | inr same ↦ (let one : x ≡ y = omega arith in
+        is_equal (w + x) (w + y) (ap (λ n. w + n) one) ∙ sym (is_equal x y one))
   ]
 ]
 
-order : (n : ℕ) (p q : List ℕ) → length p ≤ n → length q ≤ n → AreAbove p → AreAbove q → nat_cmp (high_first n p) (high_first n q) ≡ slice_cmp nat_cmp p q
+order : (n : ℕ) (p q : List ℕ) → length p ≤ n → length q ≤ n → AreAbove p → AreAbove q →
+    nat_cmp (high_first n p) (high_first n q) ≡ slice_cmp nat_cmp p q
 unfolding high_first
 order zero [] [] l m h k = refl
 order zero (a ∷ p) q l m h k = absurd (omega arith)
 order zero [] (b ∷ q) l m h k = absurd (omega arith)
 order (suc n) [] [] l m h k = refl
-order (suc n) [] (b ∷ q) l m h k = is_less 0 (b * 256 ^ n + high_first n q) (omega (arith, first_counts 0 b (256 ^ n) 0 (high_first n q) k.0.0 (pow_some n)))
-order (suc n) (a ∷ p) [] l m h k = is_greater (a * 256 ^ n + high_first n p) 0 (omega (arith, first_counts 0 a (256 ^ n) 0 (high_first n p) h.0.0 (pow_some n)))
+order (suc n) [] (b ∷ q) l m h k = is_less 0 (b * 256 ^ n + high_first n q)
+    (omega (arith, first_counts 0 b (256 ^ n) 0 (high_first n q) k.0.0 (pow_some n)))
+order (suc n) (a ∷ p) [] l m h k = is_greater (a * 256 ^ n + high_first n p) 0
+    (omega (arith, first_counts 0 a (256 ^ n) 0 (high_first n p) h.0.0 (pow_some n)))
 order (suc n) (a ∷ p) (b ∷ q) l m h k =
     elim (cases_lt a b) [
-      | inl less ↦ is_less _ _ (first_counts a b (256 ^ n) (high_first n p) (high_first n q) less (number_fits n p (above_bytes p h.1))) ∙ sym (ap (λ o. ordering_then o (slice_cmp nat_cmp p q)) (is_less a b less))
+      | inl less ↦ is_less _ _ (first_counts a b (256 ^ n) (high_first n p) (high_first n q) less
+          (number_fits n p (above_bytes p h.1)))
+          ∙ sym (ap (λ o. ordering_then o (slice_cmp nat_cmp p q)) (is_less a b less))
       | inr other ↦ elim (cases_lt b a) [
-        | inl less ↦ is_greater _ _ (first_counts b a (256 ^ n) (high_first n q) (high_first n p) less (number_fits n q (above_bytes q k.1))) ∙ sym (ap (λ o. ordering_then o (slice_cmp nat_cmp p q)) (is_greater a b less))
+        | inl less ↦ is_greater _ _ (first_counts b a (256 ^ n) (high_first n q) (high_first n p) less
+            (number_fits n q (above_bytes q k.1)))
+            ∙ sym (ap (λ o. ordering_then o (slice_cmp nat_cmp p q)) (is_greater a b less))
         | inr same ↦ (
             let one : a ≡ b = omega arith in
-            ap (λ c. nat_cmp (c * 256 ^ n + high_first n p) (b * 256 ^ n + high_first n q)) one ∙ rest_counts (b * 256 ^ n) (high_first n p) (high_first n q)
-            ∙ order n p q (omega arith) (omega arith) h.1 k.1 ∙ sym (ap (λ o. ordering_then o (slice_cmp nat_cmp p q)) (is_equal a b one)))
+            ap (λ c. nat_cmp (c * 256 ^ n + high_first n p) (b * 256 ^ n + high_first n q)) one
+            ∙ rest_counts (b * 256 ^ n) (high_first n p) (high_first n q)
+            ∙ order n p q (omega arith) (omega arith) h.1 k.1
+            ∙ sym (ap (λ o. ordering_then o (slice_cmp nat_cmp p q)) (is_equal a b one)))
       ]
     ]
 
 -- words are ordered as their numbers are
-pub word_order : (p q : List ℕ) → IsUpToEight p → IsUpToEight q → nat_cmp (word_number p) (word_number q) ≡ word_cmp (lower p) (lower q)
+pub word_order : (p q : List ℕ) → IsUpToEight p → IsUpToEight q →
+    nat_cmp (word_number p) (word_number q) ≡ word_cmp (lower p) (lower q)
 unfolding word_number
-word_order p q h k = order 8 (lower p) (lower q) (omega (arith, length-lower p, h.few)) (omega (arith, length-lower q, k.few)) (above_word p h.bytes) (above_word q k.bytes)
+word_order p q h k = order 8 (lower p) (lower q) (omega (arith, length-lower p, h.few))
+    (omega (arith, length-lower q, k.few)) (above_word p h.bytes) (above_word q k.bytes)
 
 pub attribute_fits : (p : List ℕ) → IsWord Attribute p → IsUpToEight p
-attribute_fits p h = record { some = omega (arith, (length-attribute p h).0); few = (length-attribute p h).1; bytes = word_letters_or_digits Attribute p h }
+attribute_fits p h = record {
+  some = omega (arith, (length-attribute p h).0);
+  few = (length-attribute p h).1;
+  bytes = word_letters_or_digits Attribute p h;
+}
 
 pub variant_fits : (p : List ℕ) → IsWord Variant p → IsUpToEight p
-variant_fits p h = record { some = omega (arith, (length-variant p h).0); few = (length-variant p h).1; bytes = word_letters_or_digits Variant p h }
+variant_fits p h = record {
+  some = omega (arith, (length-variant p h).0);
+  few = (length-variant p h).1;
+  bytes = word_letters_or_digits Variant p h;
+}

@@ -1,7 +1,8 @@
 -- What keyword follows the singleton of a block.
 use Rattle.std.specs.Prelude.{◌≡◌, ◌≢◌, ◌⊎◌, ◌≤◌, ℕ, true, false, List, [], length, take, codes, ⊤}
 use Rattle.std.specs.List.{list_all}
-use Rattle.iloc_spec_grammar.specs.Syntax.{Text, pieces, first_piece, Attribute, UnicodeKey, is_word, IsWord, lower}
+use Rattle.iloc_spec_grammar.specs.Syntax.{Text, pieces, first_piece, Attribute, UnicodeKey, is_word, IsWord}
+use Rattle.iloc_spec_grammar.specs.Syntax.{lower}
 use Rattle.iloc_spec_grammar.specs.Meaning.{normal_values}
 use Rattle.iloc_spec_grammar.specs.Reading.{rest_of}
 use Rattle.iloc_fronts.specs.Front.{IsFirst, rest_of_block}

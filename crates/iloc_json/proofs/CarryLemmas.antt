@@ -1,5 +1,6 @@
 -- One word more, a bad one, or no memory for it.
-use Rattle.std.proofs.Common.{◌≡◌, ◌≢◌, ℕ, ◌+◌, ◌%◌, ◌≤◌, List, [], ◌∷◌, ◌++◌, length, take, ◌-◌, drop, get_or, refl, sym, ap, ◌∙◌, arith, append_assoc, append-nil, length-append}
+use Rattle.std.proofs.Common.{◌≡◌, ◌≢◌, ℕ, ◌+◌, ◌%◌, ◌≤◌, List, [], ◌∷◌, ◌++◌, length, take, ◌-◌, drop}
+use Rattle.std.proofs.Common.{get_or, refl, sym, ap, ◌∙◌, arith, append_assoc, append-nil, length-append}
 use Rattle.std.specs.List.{flat_map, AllByRecursion}
 use Rattle.iloc_spec_grammar.specs.Syntax.{Language, languages, two_or_three, narrow_raw, wide_raw}
 use Rattle.iloc_spec_grammar.specs.Values.{IsNormal}
@@ -21,40 +22,70 @@ length-three xs h = ap length (three_and_rest xs h) ∙ length-append (first_thr
 
 -- what is left after three bytes
 pub dropped : (xs : List ℕ) → 3 ≤ length xs → take (length xs - 3) (drop 3 xs) ≡ drop 3 xs
-dropped xs h = ap (λ n. take n (drop 3 xs)) (let l = length-three xs h in let e : length xs - 3 ≡ length (drop 3 xs) = omega arith in e) ∙ take-length (drop 3 xs)
+dropped xs h = ap (λ n. take n (drop 3 xs))
+    (let l = length-three xs h in let e : length xs - 3 ≡ length (drop 3 xs) = omega arith in e)
+    ∙ take-length (drop 3 xs)
 
 -- the next three bytes are bad
-pub refused : (row rest out : List ℕ) (count : ℕ) → SoFar row rest out count → length row % 3 ≡ 0 → 3 ≤ length rest → ((w : List ℕ) → IsNormal (Language two_or_three) w → narrow_raw (Language two_or_three) w ≢ first_three rest) → CannotCarry row (Word count)
-refused row rest out count s whole long bad = (whole, s.words, first_three rest, drop 3 rest, (s.begins.0, s.begins.1, s.begins.2 ∙ ap (λ r. s.begins.0 ++ r) (three_and_rest rest long)), s.counted, (refl, bad))
+pub refused : (row rest out : List ℕ) (count : ℕ) → SoFar row rest out count → length row % 3 ≡ 0 →
+    3 ≤ length rest →
+    ((w : List ℕ) → IsNormal (Language two_or_three) w →
+    narrow_raw (Language two_or_three) w ≢ first_three rest) →
+    CannotCarry row (Word count)
+refused row rest out count s whole long bad = (
+  whole,
+  s.words,
+  first_three rest,
+  drop 3 rest,
+  (s.begins.0, s.begins.1, s.begins.2 ∙ ap (λ r. s.begins.0 ++ r) (three_and_rest rest long)),
+  s.counted,
+  (refl, bad),
+)
 
-all_then : (ws : List (List ℕ)) (w : List ℕ) → AllByRecursion (IsNormal (Language two_or_three)) ws → IsNormal (Language two_or_three) w → AllByRecursion (IsNormal (Language two_or_three)) (ws ++ w ∷ [])
+all_then : (ws : List (List ℕ)) (w : List ℕ) → AllByRecursion (IsNormal (Language two_or_three)) ws →
+    IsNormal (Language two_or_three) w → AllByRecursion (IsNormal (Language two_or_three)) (ws ++ w ∷ [])
 all_then [] w a h = (h, tt)
 all_then (v ∷ ws) w a h = (a.0, all_then ws w a.1 h)
 
-map_then : (f : List ℕ → List ℕ) (ws : List (List ℕ)) (w : List ℕ) → flat_map f (ws ++ w ∷ []) ≡ flat_map f ws ++ f w
+map_then : (f : List ℕ → List ℕ) (ws : List (List ℕ)) (w : List ℕ) →
+    flat_map f (ws ++ w ∷ []) ≡ flat_map f ws ++ f w
 map_then f [] w = append-nil (f w)
 map_then f (v ∷ ws) w = ap (λ r. f v ++ r) (map_then f ws w) ∙ sym (append_assoc (f v) (flat_map f ws) (f w))
 
 -- the row begins with one word more
-begins_then : (row rest : List ℕ) (ws : List (List ℕ)) (w more : List ℕ) → BeginsWith row ws rest → 3 ≤ length rest → IsNormal (Language two_or_three) w → narrow_raw (Language two_or_three) w ≡ first_three rest → more ≡ drop 3 rest → BeginsWith row (ws ++ w ∷ []) more
+begins_then : (row rest : List ℕ) (ws : List (List ℕ)) (w more : List ℕ) → BeginsWith row ws rest →
+    3 ≤ length rest → IsNormal (Language two_or_three) w →
+    narrow_raw (Language two_or_three) w ≡ first_three rest → more ≡ drop 3 rest →
+    BeginsWith row (ws ++ w ∷ []) more
 begins_then row rest ws w more b long normal is more_is = (
   b.0 ++ first_three rest,
-  record { normal = all_then ws w b.1.normal normal; bytes = (λ i. b.1.bytes i ++ sym is i) ∙ sym (map_then (narrow_raw (Language two_or_three)) ws w) },
-  b.2 ∙ ap (λ r. b.0 ++ r) (three_and_rest rest long ∙ ap (λ r. first_three rest ++ r) (sym more_is)) ∙ sym (append_assoc b.0 (first_three rest) more),
+  record {
+    normal = all_then ws w b.1.normal normal;
+    bytes = (λ i. b.1.bytes i ++ sym is i) ∙ sym (map_then (narrow_raw (Language two_or_three)) ws w);
+  },
+  b.2 ∙ ap (λ r. b.0 ++ r) (three_and_rest rest long ∙ ap (λ r. first_three rest ++ r) (sym more_is))
+      ∙ sym (append_assoc b.0 (first_three rest) more),
 )
 
-pub one_more : (row rest out : List ℕ) (count : ℕ) (w more new : List ℕ) → SoFar row rest out count → 3 ≤ length rest → IsNormal (Language two_or_three) w → narrow_raw (Language two_or_three) w ≡ first_three rest → more ≡ drop 3 rest → new ≡ out ++ wide_raw (Language languages) w → SoFar row more new (count + 1)
+pub one_more : (row rest out : List ℕ) (count : ℕ) (w more new : List ℕ) → SoFar row rest out count →
+    3 ≤ length rest → IsNormal (Language two_or_three) w →
+    narrow_raw (Language two_or_three) w ≡ first_three rest → more ≡ drop 3 rest →
+    new ≡ out ++ wide_raw (Language languages) w → SoFar row more new (count + 1)
 one_more row rest out count w more new s long normal is more_is new_is = record {
   words = s.words ++ w ∷ [];
   begins = begins_then row rest s.words w more s.begins long normal is more_is;
-  new = new_is ∙ ap (λ o. o ++ wide_raw (Language languages) w) s.new ∙ sym (map_then (wide_raw (Language languages)) s.words w);
+  new = new_is ∙ ap (λ o. o ++ wide_raw (Language languages) w) s.new
+      ∙ sym (map_then (wide_raw (Language languages)) s.words w);
   counted = length-append s.words (w ∷ []) ∙ ap (λ n. n + 1) s.counted;
-  whole = let l = length-three rest long in let m = s.whole in let e : length more ≡ length (drop 3 rest) = ap length more_is in omega arith;
-  room = let l = length-three rest long in let e : length more ≡ length (drop 3 rest) = ap length more_is in let r = s.room in omega arith;
+  whole = let l = length-three rest long in
+      let m = s.whole in let e : length more ≡ length (drop 3 rest) = ap length more_is in omega arith;
+  room = let l = length-three rest long in
+      let e : length more ≡ length (drop 3 rest) = ap length more_is in let r = s.room in omega arith;
 }
 
 -- words that the row begins with, one of them at least, leave a first one
-first_word : (row : List ℕ) (ws : List (List ℕ)) (after : List ℕ) → BeginsWith row ws after → 1 ≤ length ws → length row % 3 ≡ 0 → CannotCarry row OutOfMemory
+first_word : (row : List ℕ) (ws : List (List ℕ)) (after : List ℕ) → BeginsWith row ws after → 1 ≤ length ws →
+    length row % 3 ≡ 0 → CannotCarry row OutOfMemory
 first_word row [] after b h whole = absurd (omega (arith, h))
 first_word row (w ∷ ws) after b h whole = (
   whole,
@@ -63,10 +94,16 @@ first_word row (w ∷ ws) after b h whole = (
   (
     narrow_raw (Language two_or_three) w,
     record { normal = (b.1.normal.0, tt); bytes = sym (append-nil (narrow_raw (Language two_or_three) w)) },
-    b.2 ∙ ap (λ r. r ++ after) b.1.bytes ∙ append_assoc (narrow_raw (Language two_or_three) w) (flat_map (narrow_raw (Language two_or_three)) ws) after,
+    b.2 ∙ ap (λ r. r ++ after) b.1.bytes
+        ∙ append_assoc (narrow_raw (Language two_or_three) w)
+        (flat_map (narrow_raw (Language two_or_three)) ws) after,
   ),
 )
 
 -- the next word was read, and there is no memory for it
-pub no_memory : (row rest out : List ℕ) (count : ℕ) (w : List ℕ) → SoFar row rest out count → length row % 3 ≡ 0 → 3 ≤ length rest → IsNormal (Language two_or_three) w → narrow_raw (Language two_or_three) w ≡ first_three rest → CannotCarry row OutOfMemory
-no_memory row rest out count w s whole long normal is = first_word row (s.words ++ w ∷ []) (drop 3 rest) (begins_then row rest s.words w (drop 3 rest) s.begins long normal is refl) (let l = length-append s.words (w ∷ []) in omega arith) whole
+pub no_memory : (row rest out : List ℕ) (count : ℕ) (w : List ℕ) → SoFar row rest out count →
+    length row % 3 ≡ 0 → 3 ≤ length rest → IsNormal (Language two_or_three) w →
+    narrow_raw (Language two_or_three) w ≡ first_three rest → CannotCarry row OutOfMemory
+no_memory row rest out count w s whole long normal is = first_word row (s.words ++ w ∷ []) (drop 3 rest)
+    (begins_then row rest s.words w (drop 3 rest) s.begins long normal is refl)
+    (let l = length-append s.words (w ∷ []) in omega arith) whole

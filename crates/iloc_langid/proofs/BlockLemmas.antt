@@ -1,17 +1,21 @@
 -- The block after a singleton, when all the pieces that are left are read.
-use Rattle.std.proofs.Common.{◌≡◌, ◌≢◌, ◌⊎◌, inl, inr, ℕ, Bool, true, false, cond, ◌&&◌, ◌==◌, nat_le, List, [], ◌∷◌, length, refl, sym, ap, ◌∙◌, arith, Option, Some, None, option_map, Result, Ok, Err, true≢false}
+use Rattle.std.proofs.Common.{◌≡◌, ◌≢◌, ◌⊎◌, inl, inr, ℕ, Bool, true, false, cond, ◌&&◌, ◌==◌, nat_le, List}
+use Rattle.std.proofs.Common.{[], ◌∷◌, length, refl, sym, ap, ◌∙◌, arith, Option, Some, None, option_map}
+use Rattle.std.proofs.Common.{Result, Ok, Err, true≢false}
 use Rattle.std.specs.Prelude.{if◌then◌else◌}
 use Rattle.std.specs.Char.{is_ascii_alphanumeric, to_ascii_lowercase}
 use Rattle.std.specs.List.{list_all}
 use Rattle.std.proofs.lemmas.Bool.{and_parts, false_from_ne_true}
 use Rattle.std.proofs.lemmas.Bool.Decides.{nat_tests}
-use Rattle.iloc_spec_grammar.specs.Syntax.{Kind, Attribute, UnicodeKey, is_word, IsWord, normal, lower, is_one_byte, front, blocks, first_piece}
+use Rattle.iloc_spec_grammar.specs.Syntax.{Kind, Attribute, UnicodeKey, is_word, IsWord, normal, lower}
+use Rattle.iloc_spec_grammar.specs.Syntax.{is_one_byte, front, blocks, first_piece}
 use Rattle.iloc_spec_grammar.specs.Meaning.{normal_values, Fault}
 use Rattle.iloc_spec_grammar.specs.Reading.{first_item, take_first, skip_first}
 use Rattle.iloc_spec_grammar.specs.Meaning as faults
 use Rattle.iloc_spec_grammar.proofs.WordsLaws.{length-attribute, length-unicode_key}
 use Rattle.iloc_spec_parts.specs.Small.{SmallIdentifier, SmallLocale}
-use Rattle.iloc_spec_parts.specs.SmallComputing.{has_small_keyword, is_u, is_small_block, keyword_read, block_fault, blocks_result}
+use Rattle.iloc_spec_parts.specs.SmallComputing.{has_small_keyword, is_u, is_small_block, keyword_read}
+use Rattle.iloc_spec_parts.specs.SmallComputing.{block_fault, blocks_result}
 use Rattle.iloc_langid.specs.SmallLocaleReads.{Keyword}
 use Rattle.iloc_subtags.specs.declared.parse_error.ParseError.{ParseError}
 use Rattle.iloc_subtags.specs.declared.parse_error.ParseError.TheVariants.{InvalidSubtag, InvalidExtension}
@@ -34,7 +38,8 @@ blocks_past [] ps h = refl
 blocks_past (c ∷ []) ps h = absurd (true≢false h)
 blocks_past (c ∷ d ∷ p) ps h = refl
 
-some_block : (b : Bool) (x y : ℕ × List (List ℕ)) (ys : List (ℕ × List (List ℕ))) → cond b (x ∷ []) (y ∷ ys) ≡ [] → ⊥
+some_block : (b : Bool) (x y : ℕ × List (List ℕ)) (ys : List (ℕ × List (List ℕ))) →
+    cond b (x ∷ []) (y ∷ ys) ≡ [] → ⊥
 some_block true x y ys e = cc
 some_block false x y ys e = cc
 
@@ -44,8 +49,10 @@ two_bytes c d p = grind (arith, nat_tests)
 front_all : (ps : List (List ℕ)) → blocks ps ≡ [] → front ps ≡ ps
 front_all [] e = refl
 front_all ([] ∷ ps) e = ap (λ l. [] ∷ l) (front_all ps e)
-front_all ((c ∷ []) ∷ ps) e = absurd (some_block (to_ascii_lowercase c == 120) (c, ps) (c, front ps) (blocks ps) e)
-front_all ((c ∷ d ∷ p) ∷ ps) e = ap (λ b. cond b [] ((c ∷ d ∷ p) ∷ front ps)) (two_bytes c d p) ∙ ap (λ l. (c ∷ d ∷ p) ∷ l) (front_all ps e)
+front_all ((c ∷ []) ∷ ps) e =
+    absurd (some_block (to_ascii_lowercase c == 120) (c, ps) (c, front ps) (blocks ps) e)
+front_all ((c ∷ d ∷ p) ∷ ps) e = ap (λ b. cond b [] ((c ∷ d ∷ p) ∷ front ps)) (two_bytes c d p)
+    ∙ ap (λ l. (c ∷ d ∷ p) ∷ l) (front_all ps e)
 
 values_no_blocks : (ps : List (List ℕ)) → list_all (is_word Attribute) ps ≡ true → blocks ps ≡ []
 values_no_blocks [] h = refl
@@ -56,13 +63,15 @@ values_no_blocks (p ∷ ps) h =
 keyword_no_blocks : (ps : List (List ℕ)) → has_small_keyword ps ≡ true → blocks ps ≡ []
 keyword_no_blocks [] h = absurd (true≢false (sym h))
 keyword_no_blocks (p ∷ ps) h =
-    let parts = and_parts (is_word UnicodeKey p) (list_all (is_word Attribute) ps && nat_le (length (normal_values ps)) 1) h in
+    let parts = and_parts (is_word UnicodeKey p)
+    (list_all (is_word Attribute) ps && nat_le (length (normal_values ps)) 1) h in
     let values = and_parts (list_all (is_word Attribute) ps) (nat_le (length (normal_values ps)) 1) parts.1 in
     blocks_past p ps (long_key p parts.0) ∙ values_no_blocks ps values.0
 
 -- the piece after the singleton says what the fault is, wherever the block ends
 
-module _ (k : Kind) (empty : is_word k [] ≡ false) (long : (p : List ℕ) → IsWord k p → is_one_byte p ≡ false) where
+module _ (k : Kind) (empty : is_word k [] ≡ false)
+    (long : (p : List ℕ) → IsWord k p → is_one_byte p ≡ false) where
   first_front : (ps : List (List ℕ)) → is_word k (first_piece (front ps)) ≡ is_word k (first_piece ps)
   first_front [] = refl
   first_front (p ∷ ps) = by (is_one_byte p) refl
@@ -81,7 +90,10 @@ no_empty_key = refl
 
 fault_front : (c : ℕ) (ps : List (List ℕ)) → block_fault (c, front ps) ≡ block_fault (c, ps)
 unfolding block_fault
-fault_front c ps = rw (first_front Attribute no_empty_attribute long_attribute ps, first_front UnicodeKey no_empty_key long_key ps) refl
+fault_front c ps = rw (
+  first_front Attribute no_empty_attribute long_attribute ps,
+  first_front UnicodeKey no_empty_key long_key ps,
+) refl
 
 -- the first block of the pieces from a singleton on, and that nothing follows it
 
@@ -94,14 +106,18 @@ module _ (r : SmallIdentifier) (c : ℕ) (ps : List (List ℕ)) where
   unfolding blocks_result block_result
   alone = by (is_small_block (c, ps) [])
     where
-      by : (b : Bool) → (if b then Ok (record { id = r; keyword = Some (keyword_read ps) }) else Err (block_fault (c, ps))) ≡ with_keyword r (if b then Ok (keyword_read ps) else Err (block_fault (c, ps)))
+      by : (b : Bool) →
+          (if b then Ok (record { id = r; keyword = Some (keyword_read ps) }) else Err (block_fault (c, ps)))
+          ≡ with_keyword r (if b then Ok (keyword_read ps) else Err (block_fault (c, ps)))
       by true = refl
       by false = refl
 
-  followed : (d : ℕ × List (List ℕ)) (bs : List (ℕ × List (List ℕ))) → blocks ps ≡ d ∷ bs → blocks_result r ((c, front ps) ∷ d ∷ bs) ≡ with_keyword r (block_result c ps)
+  followed : (d : ℕ × List (List ℕ)) (bs : List (ℕ × List (List ℕ))) → blocks ps ≡ d ∷ bs →
+      blocks_result r ((c, front ps) ∷ d ∷ bs) ≡ with_keyword r (block_result c ps)
   unfolding blocks_result block_result
   followed d bs e =
-      let none : has_small_keyword ps ≡ false = false_from_ne_true (has_small_keyword ps) (λ h. nonempty (sym e ∙ keyword_no_blocks ps h)) in
+      let none : has_small_keyword ps ≡ false =
+      false_from_ne_true (has_small_keyword ps) (λ h. nonempty (sym e ∙ keyword_no_blocks ps h)) in
       rw (none, and-false (is_u c)) (ap Err (fault_front c ps))
     where
       nonempty : d ∷ bs ≡ [] → ⊥
@@ -110,41 +126,53 @@ module _ (r : SmallIdentifier) (c : ℕ) (ps : List (List ℕ)) where
   pub blocks_read : blocks_result r (blocks ((c ∷ []) ∷ ps)) ≡ with_keyword r (block_result c ps)
   blocks_read = by (to_ascii_lowercase c == 120)
     where
-      at : (bs : List (ℕ × List (List ℕ))) → blocks ps ≡ bs → blocks_result r ((c, front ps) ∷ bs) ≡ with_keyword r (block_result c ps)
+      at : (bs : List (ℕ × List (List ℕ))) → blocks ps ≡ bs →
+          blocks_result r ((c, front ps) ∷ bs) ≡ with_keyword r (block_result c ps)
       at [] e = ap (λ l. blocks_result r ((c, l) ∷ [])) (front_all ps e) ∙ alone
       at (d ∷ bs) e = followed d bs e
 
-      by : (b : Bool) → blocks_result r (cond b ((c, ps) ∷ []) ((c, front ps) ∷ blocks ps)) ≡ with_keyword r (block_result c ps)
+      by : (b : Bool) →
+          blocks_result r (cond b ((c, ps) ∷ []) ((c, front ps) ∷ blocks ps))
+          ≡ with_keyword r (block_result c ps)
       by true = alone
       by false = at (blocks ps) refl
 
 -- what taking a word says of the first piece
 
-not_taken : (k : Kind) → is_word k [] ≡ false → (ps : List (List ℕ)) → None ≡ option_map (normal k) (take_first (is_word k) ps) → (is_word k (first_piece ps) ≡ false) × (skip_first (is_word k) ps ≡ ps)
+not_taken : (k : Kind) → is_word k [] ≡ false → (ps : List (List ℕ)) →
+    None ≡ option_map (normal k) (take_first (is_word k) ps) →
+    (is_word k (first_piece ps) ≡ false) × (skip_first (is_word k) ps ≡ ps)
 not_taken k empty [] e = (empty, refl)
 not_taken k empty (p ∷ ps) e = by (is_word k p) refl e
   where
-    by : (b : Bool) → is_word k p ≡ b → None ≡ option_map (normal k) (cond b (Some p) None) → (is_word k p ≡ false) × (skip_first (is_word k) (p ∷ ps) ≡ p ∷ ps)
+    by : (b : Bool) → is_word k p ≡ b → None ≡ option_map (normal k) (cond b (Some p) None) →
+        (is_word k p ≡ false) × (skip_first (is_word k) (p ∷ ps) ≡ p ∷ ps)
     by true h e = cc
     by false h e = (h, rw h refl)
 
-pub no_attribute : (ps : List (List ℕ)) → None ≡ option_map lower (take_first (is_word Attribute) ps) → InvalidExtension ≡ refusal_without_key ps
+pub no_attribute : (ps : List (List ℕ)) → None ≡ option_map lower (take_first (is_word Attribute) ps) →
+    InvalidExtension ≡ refusal_without_key ps
 no_attribute ps e = rw (not_taken Attribute no_empty_attribute ps e).0 refl
 
 -- after `u`: no key, or a key and its value
 
-pub keyless : (ps rest : List (List ℕ)) (e : ParseError) → None ≡ option_map lower (take_first (is_word UnicodeKey) ps) → rest ≡ skip_first (is_word UnicodeKey) ps → e ≡ refusal_without_key rest → Err e ≡ answer_of (block_result 117 ps)
+pub keyless : (ps rest : List (List ℕ)) (e : ParseError) →
+    None ≡ option_map lower (take_first (is_word UnicodeKey) ps) → rest ≡ skip_first (is_word UnicodeKey) ps →
+    e ≡ refusal_without_key rest → Err e ≡ answer_of (block_result 117 ps)
 unfolding block_result block_fault
 keyless ps rest e none l is =
     let (no_key, stays) = not_taken UnicodeKey no_empty_key ps none in
     let e_is : e ≡ refusal_without_key ps = is ∙ ap refusal_without_key (l ∙ stays) in
     rw (no_keyword ps no_key, no_key, e_is) (ap Err (by (is_word Attribute (first_piece ps))))
   where
-    no_keyword : (ps : List (List ℕ)) → is_word UnicodeKey (first_piece ps) ≡ false → has_small_keyword ps ≡ false
+    no_keyword : (ps : List (List ℕ)) → is_word UnicodeKey (first_piece ps) ≡ false →
+        has_small_keyword ps ≡ false
     no_keyword [] h = refl
     no_keyword (p ∷ ps) h = rw h refl
 
-    by : (b : Bool) → (if b then InvalidSubtag else InvalidExtension) ≡ error_of (if b then faults.InvalidSubtag else faults.InvalidExtension)
+    by : (b : Bool) →
+        (if b then InvalidSubtag else InvalidExtension)
+        ≡ error_of (if b then faults.InvalidSubtag else faults.InvalidExtension)
     by true = refl
     by false = refl
 
@@ -153,33 +181,45 @@ with_key k (Ok v) = Ok (k, v)
 with_key k (Err f) = Err f
 
 no_attribute_key : (p : List ℕ) → IsWord UnicodeKey p → is_word Attribute p ≡ false
-no_attribute_key p k = false_from_ne_true (is_word Attribute p) (λ a. let l = length-attribute p a in let m = length-unicode_key p k in absurd (omega arith))
+no_attribute_key p k = false_from_ne_true (is_word Attribute p)
+    (λ a. let l = length-attribute p a in let m = length-unicode_key p k in absurd (omega arith))
 
-keyed : (p : List ℕ) (ps : List (List ℕ)) → IsWord UnicodeKey p → block_result 117 (p ∷ ps) ≡ with_key (lower p) (value_result [] ps)
+keyed : (p : List ℕ) (ps : List (List ℕ)) → IsWord UnicodeKey p →
+    block_result 117 (p ∷ ps) ≡ with_key (lower p) (value_result [] ps)
 unfolding block_result block_fault value_result
-keyed p ps k = rw (k, no_attribute_key p k) (by (list_all (is_word Attribute) ps && nat_le (length (normal_values ps)) 1))
+keyed p ps k = rw (k, no_attribute_key p k)
+    (by (list_all (is_word Attribute) ps && nat_le (length (normal_values ps)) 1))
   where
-    by : (b : Bool) → (if b then Ok (lower p, first_item (normal_values ps)) else Err faults.InvalidSubtag) ≡ with_key (lower p) (if b then Ok (first_item (normal_values ps)) else Err faults.InvalidSubtag)
+    by : (b : Bool) →
+        (if b then Ok (lower p, first_item (normal_values ps)) else Err faults.InvalidSubtag)
+        ≡ with_key (lower p) (if b then Ok (first_item (normal_values ps)) else Err faults.InvalidSubtag)
     by true = refl
     by false = refl
 
-answer_of-with_key : (k : List ℕ) (o : Result (Option (List ℕ)) Fault) (v : Option (List ℕ)) → Ok v ≡ answer_of o → Ok (k, v) ≡ answer_of (with_key k o)
+answer_of-with_key : (k : List ℕ) (o : Result (Option (List ℕ)) Fault) (v : Option (List ℕ)) →
+    Ok v ≡ answer_of o → Ok (k, v) ≡ answer_of (with_key k o)
 answer_of-with_key k (Ok x) v e = cc
 answer_of-with_key k (Err f) v e = cc
 
-refused-with_key : (k : List ℕ) (o : Result (Option (List ℕ)) Fault) (e : ParseError) → Err e ≡ answer_of o → Err e ≡ answer_of (with_key k o)
+refused-with_key : (k : List ℕ) (o : Result (Option (List ℕ)) Fault) (e : ParseError) → Err e ≡ answer_of o →
+    Err e ≡ answer_of (with_key k o)
 refused-with_key k (Ok x) f e = cc
 refused-with_key k (Err g) f e = cc
 
-module _ (ps rest : List (List ℕ)) (key : List ℕ) (is_key : Some key ≡ option_map lower (take_first (is_word UnicodeKey) ps)) (l : rest ≡ skip_first (is_word UnicodeKey) ps) where
+module _ (ps rest : List (List ℕ)) (key : List ℕ)
+    (is_key : Some key ≡ option_map lower (take_first (is_word UnicodeKey) ps))
+    (l : rest ≡ skip_first (is_word UnicodeKey) ps) where
   block_is : block_result 117 ps ≡ with_key key (value_result [] rest)
   block_is = let (p, h, same, cut) = took UnicodeKey ps key is_key in
-      ap (block_result 117) (cut ∙ ap (λ qs. p ∷ qs) (sym l)) ∙ keyed p rest h ∙ ap (λ w. with_key w (value_result [] rest)) (sym same)
+      ap (block_result 117) (cut ∙ ap (λ qs. p ∷ qs) (sym l)) ∙ keyed p rest h
+      ∙ ap (λ w. with_key w (value_result [] rest)) (sym same)
 
-  pub value_given : (v : Option (List ℕ)) → Ok v ≡ answer_of (value_result [] rest) → Ok (key, v) ≡ answer_of (block_result 117 ps)
+  pub value_given : (v : Option (List ℕ)) → Ok v ≡ answer_of (value_result [] rest) →
+      Ok (key, v) ≡ answer_of (block_result 117 ps)
   value_given v e = answer_of-with_key key (value_result [] rest) v e ∙ ap answer_of (sym block_is)
 
-  pub value_refused : (e : ParseError) → Err e ≡ answer_of (value_result [] rest) → Err e ≡ answer_of (block_result 117 ps)
+  pub value_refused : (e : ParseError) → Err e ≡ answer_of (value_result [] rest) →
+      Err e ≡ answer_of (block_result 117 ps)
   value_refused f e = refused-with_key key (value_result [] rest) f e ∙ ap answer_of (sym block_is)
 
 -- the singleton
@@ -200,7 +240,8 @@ module _ (c : ℕ) (ps : List (List ℕ)) where
   no_letter_u : is_ascii_alphanumeric c ≡ false → is_u c ≡ false
   no_letter_u h = grind (arith, nat_tests)
 
-  pub another_singleton : is_ascii_alphanumeric c ≡ true → c ≢ 117 → c ≢ 85 → Err InvalidSubtag ≡ answer_of (block_result c ps)
+  pub another_singleton : is_ascii_alphanumeric c ≡ true → c ≢ 117 → c ≢ 85 →
+      Err InvalidSubtag ≡ answer_of (block_result c ps)
   unfolding block_fault
   another_singleton h n m = sym (ap answer_of (no_small_block (not_u n m)) ∙ rw (h, not_u n m) refl)
 

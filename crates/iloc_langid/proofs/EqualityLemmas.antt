@@ -13,7 +13,8 @@ pub same_words : (vs ws : List (List ℕ)) → pointwise (pointwise nat_eq) vs w
 same_words [] [] h = refl
 same_words [] (w ∷ ws) h = cc
 same_words (v ∷ vs) [] h = cc
-same_words (v ∷ vs) (w ∷ ws) h = let parts = and_parts _ _ h in λ i. same_text v w (sym parts.0) i ∷ same_words vs ws parts.1 i
+same_words (v ∷ vs) (w ∷ ws) h =
+    let parts = and_parts _ _ h in λ i. same_text v w (sym parts.0) i ∷ same_words vs ws parts.1 i
 
 words_themselves : (ws : List (List ℕ)) → pointwise (pointwise nat_eq) ws ws ≡ true
 words_themselves [] = refl
@@ -29,7 +30,9 @@ option_itself (Some w) = nat_list_eq_equiv.refl w
 -- each part is told equal
 abbrev AreEqual : Identifier → Identifier → Type 0
 AreEqual v w = (pointwise nat_eq v.language w.language && (option_eq (pointwise nat_eq) v.script w.script
-    && (option_eq (pointwise nat_eq) v.region w.region && pointwise (pointwise nat_eq) v.variants w.variants))) ≡ true
+    && (option_eq (pointwise nat_eq) v.region w.region
+    && pointwise (pointwise nat_eq) v.variants w.variants)))
+    ≡ true
 
 pub same_value : (i j : LanguageIdentifier) → AreEqual (value_of i) (value_of j) → value_of i ≡ value_of j
 same_value i j h =
@@ -46,4 +49,5 @@ same_value i j h =
 pub equal_values : (i j : LanguageIdentifier) → value_of i ≡ value_of j → AreEqual (value_of i) (value_of j)
 equal_values i j e =
     subst (AreEqual (value_of i)) e
-    (and_from _ _ (nat_list_eq_equiv.refl i.language) (and_from _ _ (option_itself i.script) (and_from _ _ (option_itself i.region) (words_themselves i.variants))))
+    (and_from _ _ (nat_list_eq_equiv.refl i.language) (and_from _ _ (option_itself i.script)
+    (and_from _ _ (option_itself i.region) (words_themselves i.variants))))

@@ -1,21 +1,32 @@
 -- From what a front is read as to what the whole or the head is read as.
 use Rattle.std.specs.Prelude.{⊤}
-use Rattle.std.proofs.Common.{◌≡◌, ◌≢◌, ◌<◌, ℕ, inl, inr, Bool, true, false, List, [], ◌∷◌, ◌++◌, length, refl, sym, ap, ◌∙◌, subst, append-nil, cond, Some, None, option_map, Result, Ok, Err, true≢false}
+use Rattle.std.proofs.Common.{◌≡◌, ◌≢◌, ◌<◌, ℕ, inl, inr, Bool, true, false, List, [], ◌∷◌, ◌++◌, length}
+use Rattle.std.proofs.Common.{refl, sym, ap, ◌∙◌, subst, append-nil, cond, Some, None, option_map, Result, Ok}
+use Rattle.std.proofs.Common.{Err, true≢false}
 use Rattle.std.specs.Result.{result_and}
-use Rattle.iloc_spec_grammar.specs.Syntax.{Language, Script, Region, is_word, IsWord, normal, lower, title, upper, languages, first_piece, front, head}
-use Rattle.iloc_spec_grammar.specs.Meaning.{IdentifierMeans, HasIdentifierFault, not_a_language, not_an_identifier}
+use Rattle.iloc_spec_grammar.specs.Syntax.{Language, Script, Region, is_word, IsWord, normal, lower, title}
+use Rattle.iloc_spec_grammar.specs.Syntax.{upper, languages, first_piece, front, head}
+use Rattle.iloc_spec_grammar.specs.Meaning.{IdentifierMeans, HasIdentifierFault, not_a_language}
+use Rattle.iloc_spec_grammar.specs.Meaning.{not_an_identifier}
 use Rattle.iloc_spec_grammar.specs.Reading.{first_item}
-use Rattle.iloc_spec_grammar.specs.Reading.{take_first, skip_first, after_region, front_of, after_front, from_block, after_head, starts_block}
-use Rattle.iloc_spec_grammar.proofs.ReadingLaws.{EndsWords, starts_ends, from_block_starts, front-from_block, front_long, after_long, starts_empty, after_front-append, front_means, refuses_more, refuses_repeat, front_of-append, front_is_front}
+use Rattle.iloc_spec_grammar.specs.Reading.{take_first, skip_first, after_region, front_of, after_front}
+use Rattle.iloc_spec_grammar.specs.Reading.{from_block, after_head, starts_block}
+use Rattle.iloc_spec_grammar.proofs.ReadingLaws.{EndsWords, starts_ends, from_block_starts, front-from_block}
+use Rattle.iloc_spec_grammar.proofs.ReadingLaws.{front_long, after_long, starts_empty, after_front-append}
+use Rattle.iloc_spec_grammar.proofs.ReadingLaws.{front_means, refuses_more, refuses_repeat, front_of-append}
+use Rattle.iloc_spec_grammar.proofs.ReadingLaws.{front_is_front}
 use Rattle.iloc_spec_grammar.specs.Reading.{IdentifierFront}
 use Rattle.iloc_subtags.specs.declared.parse_error.ParseError.{ParseError}
-use Rattle.iloc_subtags.specs.declared.parse_error.ParseError.TheVariants.{InvalidLanguage, InvalidSubtag, InvalidExtension, DuplicatedExtension, OutOfMemory}
+use Rattle.iloc_subtags.specs.declared.parse_error.ParseError.TheVariants.{InvalidLanguage, InvalidSubtag}
+use Rattle.iloc_subtags.specs.declared.parse_error.ParseError.TheVariants.{InvalidExtension}
+use Rattle.iloc_subtags.specs.declared.parse_error.ParseError.TheVariants.{DuplicatedExtension, OutOfMemory}
 use Rattle.iloc_subtags.specs.Judging.{Answers, RunsOutOnlyIf}
 use Rattle.iloc_subtags.proofs.Judged.{without_memory, runs_out}
 use Rattle.iloc_langid.specs.declared.identifier.LanguageIdentifier.{LanguageIdentifier}
 use Rattle.iloc_langid.specs.declared.plain.PlainParts.{PlainParts}
 use Rattle.iloc_langid.specs.PlainReads.{IsPlainFront}
-use Rattle.iloc_langid.specs.Reads.{value_of, IdentifierReads, IdentifierWantsMemory, FrontComputed, FrontReads, VariantsReads}
+use Rattle.iloc_langid.specs.Reads.{value_of, IdentifierReads, IdentifierWantsMemory, FrontComputed}
+use Rattle.iloc_langid.specs.Reads.{FrontReads, VariantsReads}
 
 pub no_empty_language : is_word (Language languages) [] ≡ false
 unfolding is_word languages
@@ -25,11 +36,15 @@ no_language : {P : Type 0} → IsWord (Language languages) [] → P
 no_language h = absurd (true≢false (sym h ∙ no_empty_language))
 
 -- no language was taken from the front
-pub none_first : (ps : List (List ℕ)) → None ≡ option_map (normal (Language languages)) (take_first (is_word (Language languages)) ps) → is_word (Language languages) (first_piece ps) ≡ false
+pub none_first : (ps : List (List ℕ)) →
+    None ≡ option_map (normal (Language languages)) (take_first (is_word (Language languages)) ps) →
+    is_word (Language languages) (first_piece ps) ≡ false
 none_first [] e = no_empty_language
 none_first (p ∷ ps) e = by (is_word (Language languages) p) refl e
   where
-    by : (b : Bool) → is_word (Language languages) p ≡ b → None ≡ option_map (normal (Language languages)) (cond b (Some p) None) → is_word (Language languages) p ≡ false
+    by : (b : Bool) → is_word (Language languages) p ≡ b →
+        None ≡ option_map (normal (Language languages)) (cond b (Some p) None) →
+        is_word (Language languages) p ≡ false
     by true h e = cc
     by false h e = h
 
@@ -41,7 +56,13 @@ pub plain_front : (ps : List (List ℕ)) (first : List ℕ) (qs rs us : List (Li
     → IsPlainFront ps us plain
 plain_front ps first qs rs us plain e w l s er r eu =
     subst (λ x. IsPlainFront x us plain) (sym e)
-    (record { word = w; language = l; script = s; region = r ∙ ap (λ x. option_map upper (take_first (is_word Region) x)) er; after = eu ∙ ap (skip_first (is_word Region)) er })
+    (record {
+      word = w;
+      language = l;
+      script = s;
+      region = r ∙ ap (λ x. option_map upper (take_first (is_word Region) x)) er;
+      after = eu ∙ ap (skip_first (is_word Region)) er;
+    })
 
 abbrev pub plain_of : LanguageIdentifier → PlainParts
 plain_of i = record { language = i.language; script = i.script; region = i.region }
@@ -51,8 +72,18 @@ module _ (ps us rest : List (List ℕ)) (i : LanguageIdentifier) (plain : IsPlai
   pub front_gives : VariantsReads us rest (Ok i.variants) → FrontComputed ps rest (Ok i)
   unfolding front_of after_front
   front_gives v =
-      let given : VariantsReads (after_region ps) rest (Ok i.variants) = subst (λ x. VariantsReads x rest (Ok i.variants)) plain.after v in
-      (plain.word, given.1, (λ j. record { language = plain.language j; script = plain.script j; region = plain.region j; variants = given.0 j }), given.2)
+      let given : VariantsReads (after_region ps) rest (Ok i.variants) =
+      subst (λ x. VariantsReads x rest (Ok i.variants)) plain.after v in (
+        plain.word,
+        given.1,
+        (λ j. record {
+          language = plain.language j;
+          script = plain.script j;
+          region = plain.region j;
+          variants = given.0 j;
+        }),
+        given.2,
+      )
 
   front_refuses : (f : ParseError) → VariantsReads us rest (Err f) → FrontComputed ps rest (Err f)
   unfolding front_of
@@ -66,25 +97,32 @@ module _ (ps us rest : List (List ℕ)) (i : LanguageIdentifier) (plain : IsPlai
       by DuplicatedExtension v = let other = v.0 in cc
 
   -- by the answer of what fills in the variants
-  pub front_filled : (r : Result (Unit {0}) ParseError) → VariantsReads us rest (result_and r (Ok i.variants)) → FrontComputed ps rest (result_and r (Ok i))
+  pub front_filled : (r : Result (Unit {0}) ParseError) →
+      VariantsReads us rest (result_and r (Ok i.variants)) → FrontComputed ps rest (result_and r (Ok i))
   front_filled (Ok _) v = front_gives v
   front_filled (Err f) v = front_refuses f v
 
 -- what the pieces are read as, and when memory may run out
 abbrev pub ReadsWithMemory : List (List ℕ) → Result LanguageIdentifier ParseError → Type 0
-ReadsWithMemory ps = Answers (λ i. IdentifierMeans languages ps (value_of i)) (HasIdentifierFault languages ps) (IdentifierWantsMemory ps)
+ReadsWithMemory ps = Answers (λ i. IdentifierMeans languages ps (value_of i))
+    (HasIdentifierFault languages ps) (IdentifierWantsMemory ps)
 
 -- each by itself, of a refusal
 
-pub refused_reads : (ps : List (List ℕ)) (f : ParseError) → ReadsWithMemory ps (Err f) → IdentifierReads ps (Err f)
-refused_reads ps f h = without_memory (λ (i : LanguageIdentifier). IdentifierMeans languages ps (value_of i)) (HasIdentifierFault languages ps) (IdentifierWantsMemory ps) (Err f) h
+pub refused_reads : (ps : List (List ℕ)) (f : ParseError) → ReadsWithMemory ps (Err f) →
+    IdentifierReads ps (Err f)
+refused_reads ps f h = without_memory (λ (i : LanguageIdentifier). IdentifierMeans languages ps (value_of i))
+    (HasIdentifierFault languages ps) (IdentifierWantsMemory ps) (Err f) h
 
-pub refused_wants : (ps : List (List ℕ)) (f : ParseError) → ReadsWithMemory ps (Err f) → RunsOutOnlyIf {X = Unit {0}} (IdentifierWantsMemory ps) (Err f)
-refused_wants ps f h = runs_out (λ (x : Unit {0}). ⊤) (HasIdentifierFault languages ps) (IdentifierWantsMemory ps) (Err f) h
+pub refused_wants : (ps : List (List ℕ)) (f : ParseError) → ReadsWithMemory ps (Err f) →
+    RunsOutOnlyIf {X = Unit {0}} (IdentifierWantsMemory ps) (Err f)
+refused_wants ps f h =
+    runs_out (λ (x : Unit {0}). ⊤) (HasIdentifierFault languages ps) (IdentifierWantsMemory ps) (Err f) h
 
 -- where the front should end before rest
 module _ (p : List ℕ) (qs rest : List (List ℕ)) (ends : EndsWords rest) (r : List (List ℕ)) where
-  cut_refuses : (f : ParseError) → FrontComputed (p ∷ (qs ++ rest)) r (Err f) → ReadsWithMemory (p ∷ qs) (Err f)
+  cut_refuses : (f : ParseError) → FrontComputed (p ∷ (qs ++ rest)) r (Err f) →
+      ReadsWithMemory (p ∷ qs) (Err f)
   cut_refuses InvalidLanguage (inl g) = not_a_language g.1
   cut_refuses InvalidLanguage (inr g) = let other = g.0 in cc
   cut_refuses InvalidSubtag (inl g) = let other = g.0 in cc
@@ -95,10 +133,13 @@ module _ (p : List ℕ) (qs rest : List (List ℕ)) (ends : EndsWords rest) (r :
   cut_refuses DuplicatedExtension (inl g) = let other = g.0 in cc
   cut_refuses DuplicatedExtension (inr g) = let other = g.0 in cc
 
-  cut_gives : (i : LanguageIdentifier) → FrontComputed (p ∷ (qs ++ rest)) r (Ok i) → r ≡ rest → IdentifierReads (p ∷ qs) (Ok i)
-  cut_gives i g e = subst (IdentifierMeans languages (p ∷ qs)) (sym g.2) (front_means languages p qs rest ends g.0 g.1 (sym g.3 ∙ e))
+  cut_gives : (i : LanguageIdentifier) → FrontComputed (p ∷ (qs ++ rest)) r (Ok i) → r ≡ rest →
+      IdentifierReads (p ∷ qs) (Ok i)
+  cut_gives i g e = subst (IdentifierMeans languages (p ∷ qs)) (sym g.2)
+      (front_means languages p qs rest ends g.0 g.1 (sym g.3 ∙ e))
 
-  cut_more : (i : LanguageIdentifier) → FrontComputed (p ∷ (qs ++ rest)) r (Ok i) → r ≢ rest → IdentifierReads (p ∷ qs) (Err InvalidSubtag)
+  cut_more : (i : LanguageIdentifier) → FrontComputed (p ∷ (qs ++ rest)) r (Ok i) → r ≢ rest →
+      IdentifierReads (p ∷ qs) (Err InvalidSubtag)
   cut_more i g n = not_an_identifier g.0 (refuses_more languages p qs rest ends (λ e. n (g.3 ∙ e)))
 
 ends_nowhere : EndsWords []
@@ -106,10 +147,12 @@ ends_nowhere = record { script = tt; region = tt; variant = tt }
 
 -- all the pieces
 
-at_end : (p : List ℕ) (ps r : List (List ℕ)) (x : Result LanguageIdentifier ParseError) → FrontComputed (p ∷ ps) r x → FrontComputed (p ∷ (ps ++ [])) r x
+at_end : (p : List ℕ) (ps r : List (List ℕ)) (x : Result LanguageIdentifier ParseError) →
+    FrontComputed (p ∷ ps) r x → FrontComputed (p ∷ (ps ++ [])) r x
 at_end p ps r x g = subst (λ l. FrontComputed (p ∷ l) r x) (sym (append-nil ps)) g
 
-pub whole_refuses : (ps r : List (List ℕ)) (f : ParseError) → FrontComputed ps r (Err f) → ReadsWithMemory ps (Err f)
+pub whole_refuses : (ps r : List (List ℕ)) (f : ParseError) → FrontComputed ps r (Err f) →
+    ReadsWithMemory ps (Err f)
 whole_refuses (p ∷ ps) r f g = cut_refuses p ps [] ends_nowhere r f (at_end p ps r (Err f) g)
 whole_refuses [] r InvalidLanguage (inl g) = not_a_language g.1
 whole_refuses [] r InvalidLanguage (inr g) = let other = g.0 in cc
@@ -121,42 +164,53 @@ whole_refuses [] r InvalidExtension (inr g) = let other = g.0 in cc
 whole_refuses [] r DuplicatedExtension (inl g) = let other = g.0 in cc
 whole_refuses [] r DuplicatedExtension (inr g) = let other = g.0 in cc
 
-pub whole_gives : (ps r : List (List ℕ)) (i : LanguageIdentifier) → FrontComputed ps r (Ok i) → r ≡ [] → IdentifierReads ps (Ok i)
+pub whole_gives : (ps r : List (List ℕ)) (i : LanguageIdentifier) → FrontComputed ps r (Ok i) → r ≡ [] →
+    IdentifierReads ps (Ok i)
 whole_gives [] r i g e = no_language g.0
 whole_gives (p ∷ ps) r i g e = cut_gives p ps [] ends_nowhere r i (at_end p ps r (Ok i) g) e
 
-pub whole_more : (ps r : List (List ℕ)) (i : LanguageIdentifier) → FrontComputed ps r (Ok i) → r ≢ [] → IdentifierReads ps (Err InvalidSubtag)
+pub whole_more : (ps r : List (List ℕ)) (i : LanguageIdentifier) → FrontComputed ps r (Ok i) → r ≢ [] →
+    IdentifierReads ps (Err InvalidSubtag)
 whole_more [] r i g n = no_language g.0
 whole_more (p ∷ ps) r i g n = cut_more p ps [] ends_nowhere r i (at_end p ps r (Ok i) g) n
 
 -- the pieces before the first block
 
-at_block : (p : List ℕ) (ps r : List (List ℕ)) (x : Result LanguageIdentifier ParseError) → FrontComputed (p ∷ ps) r x → FrontComputed (p ∷ (front ps ++ from_block ps)) r x
+at_block : (p : List ℕ) (ps r : List (List ℕ)) (x : Result LanguageIdentifier ParseError) →
+    FrontComputed (p ∷ ps) r x → FrontComputed (p ∷ (front ps ++ from_block ps)) r x
 at_block p ps r x g = subst (λ l. FrontComputed (p ∷ l) r x) (sym (front-from_block ps)) g
 
 block_ends : (ps : List (List ℕ)) → EndsWords (from_block ps)
 block_ends ps = starts_ends (from_block ps) (from_block_starts ps)
 
-pub head_refuses : (ps r : List (List ℕ)) (f : ParseError) → FrontComputed ps r (Err f) → ReadsWithMemory (head ps) (Err f)
-head_refuses (p ∷ ps) r f g = cut_refuses p (front ps) (from_block ps) (block_ends ps) r f (at_block p ps r (Err f) g)
+pub head_refuses : (ps r : List (List ℕ)) (f : ParseError) → FrontComputed ps r (Err f) →
+    ReadsWithMemory (head ps) (Err f)
+head_refuses (p ∷ ps) r f g =
+    cut_refuses p (front ps) (from_block ps) (block_ends ps) r f (at_block p ps r (Err f) g)
 head_refuses [] r f g = whole_refuses [] r f g
 
-starts_there : (p : List ℕ) (ps r : List (List ℕ)) (i : LanguageIdentifier) → FrontComputed (p ∷ ps) r (Ok i) → starts_block r ≡ true → r ≡ from_block ps
+starts_there : (p : List ℕ) (ps r : List (List ℕ)) (i : LanguageIdentifier) →
+    FrontComputed (p ∷ ps) r (Ok i) → starts_block r ≡ true → r ≡ from_block ps
 starts_there p ps r i g s =
-    let cut : r ≡ after_front (p ∷ front ps) ++ from_block ps = (at_block p ps r (Ok i) g).3 ∙ after_front-append p (front ps) (from_block ps) (block_ends ps) in
-    let none : after_front (p ∷ front ps) ≡ [] = starts_empty (after_front (p ∷ front ps)) (from_block ps) (after_long p (front ps) (front_long ps)) (ap starts_block (sym cut) ∙ s) in
+    let cut : r ≡ after_front (p ∷ front ps) ++ from_block ps =
+    (at_block p ps r (Ok i) g).3 ∙ after_front-append p (front ps) (from_block ps) (block_ends ps) in
+    let none : after_front (p ∷ front ps) ≡ [] = starts_empty (after_front (p ∷ front ps)) (from_block ps)
+    (after_long p (front ps) (front_long ps)) (ap starts_block (sym cut) ∙ s) in
     cut ∙ ap (λ l. l ++ from_block ps) none
 
-pub head_gives : (ps r : List (List ℕ)) (i : LanguageIdentifier) → FrontComputed ps r (Ok i) → starts_block r ≡ true → IdentifierReads (head ps) (Ok i) × (r ≡ after_head ps)
+pub head_gives : (ps r : List (List ℕ)) (i : LanguageIdentifier) → FrontComputed ps r (Ok i) →
+    starts_block r ≡ true → IdentifierReads (head ps) (Ok i) × (r ≡ after_head ps)
 head_gives [] r i g s = no_language g.0
 head_gives (p ∷ ps) r i g s =
     let e = starts_there p ps r i g s in
     (cut_gives p (front ps) (from_block ps) (block_ends ps) r i (at_block p ps r (Ok i) g) e, e)
 
-pub head_more : (ps r : List (List ℕ)) (i : LanguageIdentifier) → FrontComputed ps r (Ok i) → starts_block r ≡ false → IdentifierReads (head ps) (Err InvalidSubtag)
+pub head_more : (ps r : List (List ℕ)) (i : LanguageIdentifier) → FrontComputed ps r (Ok i) →
+    starts_block r ≡ false → IdentifierReads (head ps) (Err InvalidSubtag)
 head_more [] r i g s = no_language g.0
 head_more (p ∷ ps) r i g s =
-    cut_more p (front ps) (from_block ps) (block_ends ps) r i (at_block p ps r (Ok i) g) (λ e. true≢false (sym (from_block_starts ps) ∙ ap starts_block (sym e) ∙ s))
+    cut_more p (front ps) (from_block ps) (block_ends ps) r i (at_block p ps r (Ok i) g)
+    (λ e. true≢false (sym (from_block_starts ps) ∙ ap starts_block (sym e) ∙ s))
 
 -- what a look at the next piece says
 
@@ -169,11 +223,19 @@ peeked_some [] p e = cc
 peeked_some (q ∷ ps) p e = λ h. cc
 
 -- the reading from the left is that of the longest front
-pub front_reads : (ps rest : List (List ℕ)) (r : Result LanguageIdentifier ParseError) → FrontComputed ps rest r → FrontReads ps rest r
-front_reads (p ∷ ps) rest (Ok i) g = (front_of (p ∷ ps), subst (IdentifierFront languages (p ∷ ps) (front_of (p ∷ ps))) (sym g.3) (front_is_front p ps g.0), g.1, g.2)
+pub front_reads : (ps rest : List (List ℕ)) (r : Result LanguageIdentifier ParseError) →
+    FrontComputed ps rest r → FrontReads ps rest r
+front_reads (p ∷ ps) rest (Ok i) g = (
+  front_of (p ∷ ps),
+  subst (IdentifierFront languages (p ∷ ps) (front_of (p ∷ ps))) (sym g.3) (front_is_front p ps g.0),
+  g.1,
+  g.2,
+)
 front_reads (p ∷ ps) rest (Err InvalidSubtag) (inl g) = let other = g.0 in cc
-front_reads (p ∷ ps) rest (Err InvalidSubtag) (inr g) = inr (refl, (front_of (p ∷ ps), after_front (p ∷ ps), front_is_front p ps g.1.0, g.1.1))
-front_reads (p ∷ ps) rest (Err OutOfMemory) g = (front_of (p ∷ ps), after_front (p ∷ ps), front_is_front p ps g.0, g.1)
+front_reads (p ∷ ps) rest (Err InvalidSubtag) (inr g) =
+    inr (refl, (front_of (p ∷ ps), after_front (p ∷ ps), front_is_front p ps g.1.0, g.1.1))
+front_reads (p ∷ ps) rest (Err OutOfMemory) g =
+    (front_of (p ∷ ps), after_front (p ∷ ps), front_is_front p ps g.0, g.1)
 front_reads [] rest (Ok i) g = no_language g.0
 front_reads [] rest (Err InvalidSubtag) (inl g) = let other = g.0 in cc
 front_reads [] rest (Err InvalidSubtag) (inr g) = no_language g.1.0

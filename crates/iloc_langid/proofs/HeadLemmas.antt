@@ -1,20 +1,28 @@
 -- From the words at the front and the pieces after them to the whole text.
-use Rattle.std.proofs.Common.{◌≡◌, ◌≢◌, ℕ, Bool, true, false, cond, List, [], ◌∷◌, refl, sym, ap, ◌∙◌, subst, arith, Option, Some, None, option_map, Result, Ok, Err, MatchResult, true≢false}
+use Rattle.std.proofs.Common.{◌≡◌, ◌≢◌, ℕ, Bool, true, false, cond, List, [], ◌∷◌, refl, sym, ap, ◌∙◌, subst}
+use Rattle.std.proofs.Common.{arith, Option, Some, None, option_map, Result, Ok, Err, MatchResult, true≢false}
 use Rattle.std.proofs.lemmas.Bool.{false_from_ne_true}
 use Rattle.std.proofs.lemmas.Bool.Decides.{nat_tests}
-use Rattle.iloc_spec_grammar.specs.Syntax.{pieces, Language, Script, Region, Variant, is_word, IsWord, lower, title, upper, languages, is_one_byte, front, blocks, head, tail_blocks, first_piece}
+use Rattle.iloc_spec_grammar.specs.Syntax.{pieces, Language, Script, Region, Variant, is_word, IsWord, lower}
+use Rattle.iloc_spec_grammar.specs.Syntax.{title, upper, languages, is_one_byte, front, blocks, head}
+use Rattle.iloc_spec_grammar.specs.Syntax.{tail_blocks, first_piece}
 use Rattle.iloc_spec_grammar.specs.Reading.{take_first, skip_first, after_region, starts_block}
 use Rattle.iloc_spec_grammar.specs.Meaning.{Fault}
 use Rattle.iloc_spec_grammar.specs.Meaning as faults
 use Rattle.iloc_spec_grammar.proofs.WordsLaws.{length-script, length-region, length-variant}
 use Rattle.iloc_spec_grammar.proofs.RawLaws.{languages_table}
-use Rattle.iloc_spec_parts.specs.Small.{SmallIdentifier, SmallLocale, IsSmallIdentifier, IsSmall, HasSmallIdentifierFault, no_language, HasSmallFault, bad_head}
-use Rattle.iloc_spec_parts.specs.SmallComputing.{small_identifier_result, blocks_result, after_identifier, small_result}
-use Rattle.iloc_spec_parts.proofs.SmallLaws.{one_small_identifier, small_identifier_answer, small_identifier_apart, small_answer}
+use Rattle.iloc_spec_parts.specs.Small.{SmallIdentifier, SmallLocale, IsSmallIdentifier, IsSmall}
+use Rattle.iloc_spec_parts.specs.Small.{HasSmallIdentifierFault, no_language, HasSmallFault, bad_head}
+use Rattle.iloc_spec_parts.specs.SmallComputing.{small_identifier_result, blocks_result, after_identifier}
+use Rattle.iloc_spec_parts.specs.SmallComputing.{small_result}
+use Rattle.iloc_spec_parts.proofs.SmallLaws.{one_small_identifier, small_identifier_answer}
+use Rattle.iloc_spec_parts.proofs.SmallLaws.{small_identifier_apart, small_answer}
 use Rattle.iloc_langid.specs.SmallReads.{Parts, small_of, front_parts, after_parts, SmallFrontReads}
 use Rattle.iloc_langid.proofs.SmallLemmas.{parts_whole, parts_more}
 use Rattle.iloc_subtags.specs.declared.parse_error.ParseError.{ParseError}
-use Rattle.iloc_subtags.specs.declared.parse_error.ParseError.TheVariants.{InvalidLanguage, InvalidSubtag, InvalidExtension, DuplicatedExtension, OutOfMemory}
+use Rattle.iloc_subtags.specs.declared.parse_error.ParseError.TheVariants.{InvalidLanguage, InvalidSubtag}
+use Rattle.iloc_subtags.specs.declared.parse_error.ParseError.TheVariants.{InvalidExtension}
+use Rattle.iloc_subtags.specs.declared.parse_error.ParseError.TheVariants.{DuplicatedExtension, OutOfMemory}
 use Rattle.iloc_langid.specs.SmallLocaleReads.{Keyword, LocaleParts, small_locale_of, SmallLocaleTextReads}
 use Rattle.iloc_langid.specs.BlockReads.{answer_of, block_result}
 use Rattle.iloc_langid.proofs.BlockLemmas.{blocks_past, with_keyword, blocks_read}
@@ -41,7 +49,8 @@ module _ (test : List ℕ → Bool) (long : (p : List ℕ) → test p ≡ true �
   take_front [] = refl
   take_front (p ∷ ps) = by (is_one_byte p) refl
     where
-      by : (b : Bool) → is_one_byte p ≡ b → take_first test (cond b [] (p ∷ front ps)) ≡ take_first test (p ∷ ps)
+      by : (b : Bool) → is_one_byte p ≡ b →
+          take_first test (cond b [] (p ∷ front ps)) ≡ take_first test (p ∷ ps)
       by true e = rw (no_word p e) refl
       by false e = refl
 
@@ -49,7 +58,8 @@ module _ (test : List ℕ → Bool) (long : (p : List ℕ) → test p ≡ true �
   skip_front [] = refl
   skip_front (p ∷ ps) = by (is_one_byte p) (test p) refl refl
     where
-      by : (b d : Bool) → is_one_byte p ≡ b → test p ≡ d → skip_first test (cond b [] (p ∷ front ps)) ≡ front (cond d ps (p ∷ ps))
+      by : (b d : Bool) → is_one_byte p ≡ b → test p ≡ d →
+          skip_first test (cond b [] (p ∷ front ps)) ≡ front (cond d ps (p ∷ ps))
       by true true e w = absurd (true≢false (sym w ∙ no_word p e))
       by true false e w = rw e refl
       by false true e w = rw w refl
@@ -63,14 +73,17 @@ module _ (test : List ℕ → Bool) (long : (p : List ℕ) → test p ≡ true �
       by true w = sym (blocks_past p ps (long p w))
       by false w = refl
 
-script_front : (ps : List (List ℕ)) → skip_first (is_word Script) (front ps) ≡ front (skip_first (is_word Script) ps)
+script_front : (ps : List (List ℕ)) →
+    skip_first (is_word Script) (front ps) ≡ front (skip_first (is_word Script) ps)
 script_front ps = skip_front (is_word Script) long_script ps
 
 region_front : (p : List ℕ) (ps : List (List ℕ)) → after_region (p ∷ front ps) ≡ front (after_region (p ∷ ps))
-region_front p ps = ap (skip_first (is_word Region)) (script_front ps) ∙ skip_front (is_word Region) long_region (skip_first (is_word Script) ps)
+region_front p ps = ap (skip_first (is_word Region)) (script_front ps)
+    ∙ skip_front (is_word Region) long_region (skip_first (is_word Script) ps)
 
 -- a script and a region after the first piece
-pub script_at_front : (ps : List (List ℕ)) → take_first (is_word Script) (front ps) ≡ take_first (is_word Script) ps
+pub script_at_front : (ps : List (List ℕ)) →
+    take_first (is_word Script) (front ps) ≡ take_first (is_word Script) ps
 script_at_front ps = take_front (is_word Script) long_script ps
 
 pub region_at_front : (ps : List (List ℕ))
@@ -83,11 +96,14 @@ front_parts-front : (p : List ℕ) (ps : List (List ℕ)) → front_parts (p ∷
 front_parts-front p ps =
     let s = script_at_front ps in
     let r = region_at_front ps in
-    let v = ap (take_first (is_word Variant)) (region_front p ps) ∙ take_front (is_word Variant) long_variant (after_region (p ∷ ps)) in
+    let v = ap (take_first (is_word Variant)) (region_front p ps)
+    ∙ take_front (is_word Variant) long_variant (after_region (p ∷ ps)) in
     λ i. (lower p, option_map title (s i), option_map upper (r i), option_map lower (v i))
 
-after_parts-front : (p : List ℕ) (ps : List (List ℕ)) → after_parts (p ∷ front ps) ≡ front (after_parts (p ∷ ps))
-after_parts-front p ps = ap (skip_first (is_word Variant)) (region_front p ps) ∙ skip_front (is_word Variant) long_variant (after_region (p ∷ ps))
+after_parts-front : (p : List ℕ) (ps : List (List ℕ)) →
+    after_parts (p ∷ front ps) ≡ front (after_parts (p ∷ ps))
+after_parts-front p ps = ap (skip_first (is_word Variant)) (region_front p ps)
+    ∙ skip_front (is_word Variant) long_variant (after_region (p ∷ ps))
 
 blocks-after_parts : (p : List ℕ) (ps : List (List ℕ)) → blocks (after_parts (p ∷ ps)) ≡ blocks ps
 blocks-after_parts p ps =
@@ -97,11 +113,14 @@ blocks-after_parts p ps =
 
 -- what is read from all pieces is read from the head, and what is left begins with the blocks
 
-head_gives : (ps rest : List (List ℕ)) (p : Parts) → SmallFrontReads ps rest (Ok p) → SmallFrontReads (head ps) (front rest) (Ok p)
+head_gives : (ps rest : List (List ℕ)) (p : Parts) → SmallFrontReads ps rest (Ok p) →
+    SmallFrontReads (head ps) (front rest) (Ok p)
 head_gives [] rest p g = (g.0, g.1, ap front g.2)
-head_gives (q ∷ ps) rest p g = (g.0, g.1 ∙ sym (front_parts-front q ps), ap front g.2 ∙ sym (after_parts-front q ps))
+head_gives (q ∷ ps) rest p g =
+    (g.0, g.1 ∙ sym (front_parts-front q ps), ap front g.2 ∙ sym (after_parts-front q ps))
 
-blocks_left : (ps rest : List (List ℕ)) (p : Parts) → SmallFrontReads ps rest (Ok p) → tail_blocks ps ≡ blocks rest
+blocks_left : (ps rest : List (List ℕ)) (p : Parts) → SmallFrontReads ps rest (Ok p) →
+    tail_blocks ps ≡ blocks rest
 blocks_left [] rest p g = ap blocks (sym g.2)
 blocks_left (q ∷ ps) rest p g = sym (blocks-after_parts q ps) ∙ ap blocks (sym g.2)
 
@@ -113,15 +132,20 @@ no_pieces r h = absurd (empty (sym h.spelled))
     empty : {q : List ℕ} {qs : List (List ℕ)} → q ∷ qs ≡ [] → ⊥
     empty e = cc
 
-result_is : (ps : List (List ℕ)) (r : SmallIdentifier) → IsSmallIdentifier languages ps r → small_identifier_result languages ps ≡ Ok r
+result_is : (ps : List (List ℕ)) (r : SmallIdentifier) → IsSmallIdentifier languages ps r →
+    small_identifier_result languages ps ≡ Ok r
 result_is [] r h = no_pieces r h
-result_is (p ∷ ps) r h = by (small_identifier_result languages (p ∷ ps)) (small_identifier_answer languages p ps)
+result_is (p ∷ ps) r h =
+    by (small_identifier_result languages (p ∷ ps)) (small_identifier_answer languages p ps)
   where
-    by : (o : Result SmallIdentifier Fault) → MatchResult o (IsSmallIdentifier languages (p ∷ ps)) (HasSmallIdentifierFault languages (p ∷ ps)) → o ≡ Ok r
+    by : (o : Result SmallIdentifier Fault) →
+        MatchResult o (IsSmallIdentifier languages (p ∷ ps)) (HasSmallIdentifierFault languages (p ∷ ps)) →
+        o ≡ Ok r
     by (Ok s) k = ap Ok (one_small_identifier (p ∷ ps) s r k h)
     by (Err f) k = absurd (small_identifier_apart (p ∷ ps) r f h k)
 
-fault_reads : (t : List ℕ) (f : Fault) → HasSmallFault languages t f → SmallLocaleTextReads t (Err (error_of f))
+fault_reads : (t : List ℕ) (f : Fault) → HasSmallFault languages t f →
+    SmallLocaleTextReads t (Err (error_of f))
 fault_reads t faults.InvalidLanguage h = h
 fault_reads t faults.InvalidSubtag h = h
 fault_reads t faults.InvalidExtension h = h
@@ -132,24 +156,34 @@ fault_reads t faults.DuplicatedExtension h = h
 abbrev pub with_parts : Parts → Option Keyword → LocaleParts
 with_parts p k = (p.0, p.1, p.2, p.3, k)
 
-module _ (t : List ℕ) (ps rest : List (List ℕ)) (p : Parts) (e : ps ≡ pieces t) (g : SmallFrontReads ps rest (Ok p)) where
+module _ (t : List ℕ) (ps rest : List (List ℕ)) (p : Parts) (e : ps ≡ pieces t)
+    (g : SmallFrontReads ps rest (Ok p)) where
   result_after : front rest ≡ [] → small_result languages t ≡ after_identifier (Ok (small_of p)) (blocks rest)
   unfolding small_result
   result_after n =
-      ap (λ (l : List (List ℕ)). after_identifier (small_identifier_result languages (head l)) (tail_blocks l)) (sym e)
-      ∙ ap (λ o. after_identifier o (tail_blocks ps)) (result_is (head ps) (small_of p) (parts_whole (head ps) (front rest) p (head_gives ps rest p g) n))
+      ap
+      (λ (l : List (List ℕ)). after_identifier (small_identifier_result languages (head l)) (tail_blocks l))
+      (sym e)
+      ∙ ap (λ o. after_identifier o (tail_blocks ps))
+      (result_is (head ps) (small_of p) (parts_whole (head ps) (front rest) p (head_gives ps rest p g) n))
       ∙ ap (after_identifier (Ok (small_of p))) (blocks_left ps rest p g)
 
-  answer_at : (o : Result SmallLocale Fault) → small_result languages t ≡ o → MatchResult o (IsSmall languages t) (HasSmallFault languages t)
-  answer_at o is = subst (λ (r : Result SmallLocale Fault). MatchResult r (IsSmall languages t) (HasSmallFault languages t)) is (small_answer languages_table t)
+  answer_at : (o : Result SmallLocale Fault) → small_result languages t ≡ o →
+      MatchResult o (IsSmall languages t) (HasSmallFault languages t)
+  answer_at o is = subst
+      (λ (r : Result SmallLocale Fault). MatchResult r (IsSmall languages t) (HasSmallFault languages t)) is
+      (small_answer languages_table t)
 
   pub nothing_more : rest ≡ [] → SmallLocaleTextReads t (Ok (with_parts p None))
   unfolding after_identifier blocks_result
-  nothing_more n = answer_at (Ok (small_locale_of (with_parts p None))) (result_after (ap front n) ∙ ap (λ l. after_identifier (Ok (small_of p)) (blocks l)) n)
+  nothing_more n = answer_at (Ok (small_locale_of (with_parts p None)))
+      (result_after (ap front n) ∙ ap (λ l. after_identifier (Ok (small_of p)) (blocks l)) n)
 
   pub more_pieces : starts_block rest ≡ false → SmallLocaleTextReads t (Err InvalidSubtag)
   more_pieces more =
-      subst (λ (l : List (List ℕ)). HasSmallIdentifierFault languages (head l) faults.InvalidSubtag → HasSmallFault languages t faults.InvalidSubtag) (sym e) (λ h. bad_head h)
+      subst (λ (l : List (List ℕ)). HasSmallIdentifierFault languages (head l) faults.InvalidSubtag →
+      HasSmallFault languages t faults.InvalidSubtag)
+      (sym e) (λ h. bad_head h)
       (parts_more (head ps) (front rest) p (head_gives ps rest p g) (some rest more))
     where
       some : (qs : List (List ℕ)) → starts_block qs ≡ false → front qs ≢ []
@@ -160,30 +194,43 @@ module _ (t : List ℕ) (ps rest : List (List ℕ)) (p : Parts) (e : ps ≡ piec
           nonempty h = cc
 
   module _ (c : ℕ) (later : List (List ℕ)) (n : rest ≡ (c ∷ []) ∷ later) where
-    block_answer : MatchResult (with_keyword (small_of p) (block_result c later)) (IsSmall languages t) (HasSmallFault languages t)
+    block_answer : MatchResult (with_keyword (small_of p) (block_result c later)) (IsSmall languages t)
+        (HasSmallFault languages t)
     unfolding after_identifier
-    block_answer = answer_at (with_keyword (small_of p) (block_result c later)) (result_after (ap front n) ∙ ap (λ l. after_identifier (Ok (small_of p)) (blocks l)) n ∙ blocks_read (small_of p) c later)
+    block_answer = answer_at (with_keyword (small_of p) (block_result c later)) (result_after (ap front n)
+        ∙ ap (λ l. after_identifier (Ok (small_of p)) (blocks l)) n ∙ blocks_read (small_of p) c later)
 
-    pub keyword_read : (k : Keyword) → Ok k ≡ answer_of (block_result c later) → SmallLocaleTextReads t (Ok (with_parts p (Some k)))
+    pub keyword_read : (k : Keyword) → Ok k ≡ answer_of (block_result c later) →
+        SmallLocaleTextReads t (Ok (with_parts p (Some k)))
     keyword_read k is = by (block_result c later) block_answer is
       where
-        by : (o : Result Keyword Fault) → MatchResult (with_keyword (small_of p) o) (IsSmall languages t) (HasSmallFault languages t) → Ok k ≡ answer_of o → SmallLocaleTextReads t (Ok (with_parts p (Some k)))
-        by (Ok x) h is = let same : x ≡ k = cc in subst (λ (y : Keyword). SmallLocaleTextReads t (Ok (with_parts p (Some y)))) same h
+        by : (o : Result Keyword Fault) →
+            MatchResult (with_keyword (small_of p) o) (IsSmall languages t) (HasSmallFault languages t) →
+            Ok k ≡ answer_of o → SmallLocaleTextReads t (Ok (with_parts p (Some k)))
+        by (Ok x) h is = let same : x ≡ k = cc in
+            subst (λ (y : Keyword). SmallLocaleTextReads t (Ok (with_parts p (Some y)))) same h
         by (Err f) h is = cc
 
-    pub block_refused : (r : ParseError) → Err r ≡ answer_of (block_result c later) → SmallLocaleTextReads t (Err r)
+    pub block_refused : (r : ParseError) → Err r ≡ answer_of (block_result c later) →
+        SmallLocaleTextReads t (Err r)
     block_refused r is = by (block_result c later) block_answer is
       where
-        by : (o : Result Keyword Fault) → MatchResult (with_keyword (small_of p) o) (IsSmall languages t) (HasSmallFault languages t) → Err r ≡ answer_of o → SmallLocaleTextReads t (Err r)
+        by : (o : Result Keyword Fault) →
+            MatchResult (with_keyword (small_of p) o) (IsSmall languages t) (HasSmallFault languages t) →
+            Err r ≡ answer_of o → SmallLocaleTextReads t (Err r)
         by (Ok x) h is = cc
-        by (Err f) h is = let same : error_of f ≡ r = cc in subst (λ (s : ParseError). SmallLocaleTextReads t (Err s)) same (fault_reads t f h)
+        by (Err f) h is = let same : error_of f ≡ r = cc in
+            subst (λ (s : ParseError). SmallLocaleTextReads t (Err s)) same (fault_reads t f h)
 
 -- its first piece is no language
 
-pub front_refused : (t : List ℕ) (ps rest : List (List ℕ)) (r : ParseError) → ps ≡ pieces t → SmallFrontReads ps rest (Err r) → SmallLocaleTextReads t (Err r)
-front_refused t ps rest InvalidLanguage e g = bad_head (subst (λ (l : List (List ℕ)). HasSmallIdentifierFault languages (head l) faults.InvalidLanguage) e (by ps g.1))
+pub front_refused : (t : List ℕ) (ps rest : List (List ℕ)) (r : ParseError) → ps ≡ pieces t →
+    SmallFrontReads ps rest (Err r) → SmallLocaleTextReads t (Err r)
+front_refused t ps rest InvalidLanguage e g = bad_head (subst
+    (λ (l : List (List ℕ)). HasSmallIdentifierFault languages (head l) faults.InvalidLanguage) e (by ps g.1))
   where
-    by : (qs : List (List ℕ)) → is_word (Language languages) (first_piece qs) ≡ false → HasSmallIdentifierFault languages (head qs) faults.InvalidLanguage
+    by : (qs : List (List ℕ)) → is_word (Language languages) (first_piece qs) ≡ false →
+        HasSmallIdentifierFault languages (head qs) faults.InvalidLanguage
     by [] h = no_language h
     by (q ∷ qs) h = no_language h
 front_refused t ps rest InvalidSubtag e g = let other = g.0 in cc

@@ -6,7 +6,8 @@ use Rattle.iloc_subtags.specs.declared.parse_error.ParseError.{ParseError}
 use Rattle.iloc_subtags.specs.Judging.{Answers, Refusal, Accepts, Refuses}
 use Rattle.iloc_subtags.proofs.Judged.{Judges, accepts, refuses}
 
-module _ {X M : Type 0} (bytes : X → List ℕ) (print : M → List ℕ) {Means : M → Type 0} {HasFault : Fault → Type 0} (judges : Judges Means HasFault) where
+module _ {X M : Type 0} (bytes : X → List ℕ) (print : M → List ℕ) {Means : M → Type 0}
+    {HasFault : Fault → Type 0} (judges : Judges Means HasFault) where
   -- the text of what is meant
   abbrev IsPrinted : List ℕ → Type 0
   IsPrinted t = (m : M) × Means m × (t ≡ print m)
@@ -18,12 +19,16 @@ module _ {X M : Type 0} (bytes : X → List ℕ) (print : M → List ℕ) {Means
     one_fault = judges.one_fault;
   }
 
-  prints : {Q : X → Type 0} (r : Result X ParseError) → IfOk r Q → IfErr r (Refusal HasFault ⊤) → ((x : X) → Q x → IsPrinted (bytes x)) → Answers (λ x. IsPrinted (bytes x)) HasFault ⊤ r
+  prints : {Q : X → Type 0} (r : Result X ParseError) → IfOk r Q → IfErr r (Refusal HasFault ⊤) →
+      ((x : X) → Q x → IsPrinted (bytes x)) → Answers (λ x. IsPrinted (bytes x)) HasFault ⊤ r
   prints (Ok x) h k texts = texts x h
   prints (Err e) h k texts = k
 
-  pub prints_accepts : {Q : X → Type 0} (r : Result X ParseError) → IfOk r Q → IfErr r (Refusal HasFault ⊤) → ((x : X) → Q x → IsPrinted (bytes x)) → (m : M) → Means m → Accepts bytes ⊤ (print m) r
-  prints_accepts r h k texts m is = accepts bytes ⊤ prints_judge r (prints r h k texts) (print m) (m, is, refl)
+  pub prints_accepts : {Q : X → Type 0} (r : Result X ParseError) → IfOk r Q → IfErr r (Refusal HasFault ⊤) →
+      ((x : X) → Q x → IsPrinted (bytes x)) → (m : M) → Means m → Accepts bytes ⊤ (print m) r
+  prints_accepts r h k texts m is =
+      accepts bytes ⊤ prints_judge r (prints r h k texts) (print m) (m, is, refl)
 
-  pub prints_refuses : {Q : X → Type 0} (r : Result X ParseError) → IfOk r Q → IfErr r (Refusal HasFault ⊤) → ((x : X) → Q x → IsPrinted (bytes x)) → (f : Fault) → HasFault f → Refuses ⊤ f r
+  pub prints_refuses : {Q : X → Type 0} (r : Result X ParseError) → IfOk r Q → IfErr r (Refusal HasFault ⊤) →
+      ((x : X) → Q x → IsPrinted (bytes x)) → (f : Fault) → HasFault f → Refuses ⊤ f r
   prints_refuses r h k texts = refuses bytes ⊤ prints_judge r (prints r h k texts)

@@ -5,14 +5,16 @@ use Rattle.iloc_spec_grammar.specs.Meaning.{IdentifierMeans}
 use Rattle.iloc_spec_grammar.specs.Values.{identifier_text, IdentifierTextStep, Leads}
 use Rattle.iloc_spec_grammar.proofs.IdentifierLaws.{one_meaning}
 use Rattle.iloc_spec_grammar.proofs.IdentifierTexts.{identifier_means_again, same_identifier_meaning}
-use Rattle.iloc_spec_grammar.proofs.AnySteps.{length-identifier_means, identifier_chain_to_text, identifiers_lead_to_one}
+use Rattle.iloc_spec_grammar.proofs.AnySteps.{length-identifier_means, identifier_chain_to_text}
+use Rattle.iloc_spec_grammar.proofs.AnySteps.{identifiers_lead_to_one}
 use Rattle.iloc_langid.specs.Normalizing.{IsNormalizedIdentifier, NormalizingIdentifierWantsMemory}
 use Rattle.iloc_told.specs.Modes.{IsNormalText}
 use Rattle.iloc_told.specs.NormalTexts.{IsNotNormal}
 use Rattle.iloc_told.specs.declared.Mode.TheVariants.{Langid}
 
 -- the text of the meaning is the normal text
-pub is_normalized : (input : List ℕ) (i : Identifier) (t : List ℕ) → IdentifierMeans languages (pieces input) i → t ≡ identifier_text i → IsNormalizedIdentifier input t
+pub is_normalized : (input : List ℕ) (i : Identifier) (t : List ℕ) →
+    IdentifierMeans languages (pieces input) i → t ≡ identifier_text i → IsNormalizedIdentifier input t
 is_normalized input i t m e =
     let as_long : (u : List ℕ) (j : Identifier) → IdentifierMeans languages (pieces input) j
     → IdentifierMeans languages (pieces u) j → length u ≡ length t =
@@ -22,20 +24,27 @@ is_normalized input i t m e =
     record {
       is = record {
         text_is = (i, m, e);
-        again = (i, subst (λ u. IdentifierMeans languages (pieces u) i) (sym e) (identifier_means_again (pieces input) i m), e);
+        again = (
+          i,
+          subst (λ u. IdentifierMeans languages (pieces u) i) (sym e)
+              (identifier_means_again (pieces input) i m),
+          e,
+        );
         same = λ u j k mj mk.
             let by = same_identifier_meaning (pieces input) (pieces u) j k mj mk in
             let is : t ≡ identifier_text j = e ∙ ap identifier_text (one_meaning (pieces input) i j m mj) in
             (λ p. is ∙ by.0 p, λ p. by.1 (sym is ∙ p));
         shortest = λ u j mj mu. omega (arith, as_long u j mj mu);
-        steps = subst (Leads (IdentifierTextStep languages) 2 input) (sym e) (identifier_chain_to_text languages input i m);
+        steps = subst (Leads (IdentifierTextStep languages) 2 input) (sym e)
+            (identifier_chain_to_text languages input i m);
         together = λ u j k mj mk. identifiers_lead_to_one languages input u j k mj mk;
       };
       long = as_long;
     }
 
 -- memory was refused for the text of another than the input
-pub refuses_memory : (input : List ℕ) (i : Identifier) → IdentifierMeans languages (pieces input) i → (input ≡ identifier_text i → false ≡ true) → NormalizingIdentifierWantsMemory input
+pub refuses_memory : (input : List ℕ) (i : Identifier) → IdentifierMeans languages (pieces input) i →
+    (input ≡ identifier_text i → false ≡ true) → NormalizingIdentifierWantsMemory input
 refuses_memory input i m other = inr (i, m, λ e. absurd (true≢false (sym (other e))))
 
 -- what is told at once is normalized so

@@ -1,14 +1,19 @@
 -- The fallback chain: the last of a set taken out, one part fewer, and the end of the chain.
-use Rattle.std.proofs.Common.{◌≡◌, ℕ, zero, suc, ◌+◌, ◌-◌, ◌<◌, ◌≤◌, Bool, true, false, not, List, [], ◌∷◌, ◌++◌, length, take, get_or, filter, refl, sym, ap, ◌∙◌, subst, arith, true≢false, Option, Some, None, option_to_list, inl, inr, append_assoc, append-nil, length-append}
+use Rattle.std.proofs.Common.{◌≡◌, ℕ, zero, suc, ◌+◌, ◌-◌, ◌<◌, ◌≤◌, Bool, true, false, not, List, [], ◌∷◌}
+use Rattle.std.proofs.Common.{◌++◌, length, take, get_or, filter, refl, sym, ap, ◌∙◌, subst, arith}
+use Rattle.std.proofs.Common.{true≢false, Option, Some, None, option_to_list, inl, inr, append_assoc}
+use Rattle.std.proofs.Common.{append-nil, length-append}
 use Rattle.std.specs.Prelude.{codes, if◌then◌else◌}
 use Rattle.std.specs.List.{AllByRecursion}
 use Rattle.std.specs.Option.{is_some}
 use Rattle.std.specs.declared.cmp.Ordering.TheVariants.{Less}
-use Rattle.iloc_spec_grammar.specs.Syntax.{Identifier, identifier_pieces, languages, Variant, is_word, lower, word_cmp, is_same}
+use Rattle.iloc_spec_grammar.specs.Syntax.{Identifier, identifier_pieces, languages, Variant, is_word, lower}
+use Rattle.iloc_spec_grammar.specs.Syntax.{word_cmp, is_same}
 use Rattle.iloc_spec_grammar.specs.Values.{IsNormal, StrictlyAscends, IsIdentifierValue}
 use Rattle.iloc_spec_grammar.proofs.MapLaws.{word_cmp_total, same_itself, same_is}
 use Rattle.iloc_langid.specs.Unknown.{unknown_identifier}
-use Rattle.iloc_langid.specs.Parents.{but_last, is_unknown_language, parent_of, part_count, after_steps, LacksLastPart}
+use Rattle.iloc_langid.specs.Parents.{but_last, is_unknown_language, parent_of, part_count, after_steps}
+use Rattle.iloc_langid.specs.Parents.{LacksLastPart}
 
 -- the last of an ascending list
 
@@ -20,26 +25,32 @@ other_below : (f x : List ℕ) → word_cmp f x ≡ Less → is_same x f ≡ fal
 other_below f x h = rw (word_cmp_total.antisymm x f, h) refl
 
 module _ (x : List ℕ) where
-  filtered : (fs : List (List ℕ)) → StrictlyAscends word_cmp (fs ++ x ∷ []) → filter (λ w. not (is_same x w)) (fs ++ x ∷ []) ≡ fs
+  filtered : (fs : List (List ℕ)) → StrictlyAscends word_cmp (fs ++ x ∷ []) →
+      filter (λ w. not (is_same x w)) (fs ++ x ∷ []) ≡ fs
   filtered [] s = rw (same_itself x) refl
-  filtered (f ∷ fs) s = rw (other_below f x (last_holds (λ y. word_cmp f y ≡ Less) fs x s.0)) (ap (λ ws. f ∷ ws) (filtered fs s.1))
+  filtered (f ∷ fs) s = rw (other_below f x (last_holds (λ y. word_cmp f y ≡ Less) fs x s.0))
+      (ap (λ ws. f ∷ ws) (filtered fs s.1))
 
 -- the items before the last
 abbrev front : {X : Type 0} → X → List X → List X
 front x xs = take (length xs) (x ∷ xs)
 
-split_last : {X : Type 0} (w : X) (ws : List X) (x : X) → x ≡ get_or (w ∷ ws) (length ws) x → w ∷ ws ≡ front w ws ++ x ∷ []
+split_last : {X : Type 0} (w : X) (ws : List X) (x : X) → x ≡ get_or (w ∷ ws) (length ws) x →
+    w ∷ ws ≡ front w ws ++ x ∷ []
 split_last w [] x e = ap (λ v. v ∷ []) (sym e)
 split_last w (v ∷ vs) x e = ap (λ us. w ∷ us) (split_last v vs x e)
 
 module _ (x w : List ℕ) (ws : List (List ℕ)) (is : x ≡ get_or (w ∷ ws) (length ws) x) where
   without_last : StrictlyAscends word_cmp (w ∷ ws) → filter (λ v. not (is_same x v)) (w ∷ ws) ≡ front w ws
-  without_last s = ap (filter (λ v. not (is_same x v))) (split_last w ws x is) ∙ filtered x (front w ws) (subst (StrictlyAscends word_cmp) (split_last w ws x is) s)
+  without_last s = ap (filter (λ v. not (is_same x v))) (split_last w ws x is)
+      ∙ filtered x (front w ws) (subst (StrictlyAscends word_cmp) (split_last w ws x is) s)
 
 -- what taking out the last of a set leaves
 pub taken_out : (slice old new : List (List ℕ)) (x : List ℕ) → slice ≡ old → StrictlyAscends word_cmp old
-    → 0 < length slice → x ≡ get_or slice (length slice - 1) x → new ≡ filter (λ v. not (is_same x v)) old → but_last old ≡ Some new
-taken_out slice old new x same s some is left = by old s (subst (λ vs. 0 < length vs) same some) (subst (λ vs. x ≡ get_or vs (length vs - 1) x) same is) left
+    → 0 < length slice → x ≡ get_or slice (length slice - 1) x → new ≡ filter (λ v. not (is_same x v)) old →
+    but_last old ≡ Some new
+taken_out slice old new x same s some is left = by old s (subst (λ vs. 0 < length vs) same some)
+    (subst (λ vs. x ≡ get_or vs (length vs - 1) x) same is) left
   where
     by : (ws : List (List ℕ)) → StrictlyAscends word_cmp ws → 0 < length ws → x ≡ get_or ws (length ws - 1) x
         → new ≡ filter (λ v. not (is_same x v)) ws → but_last ws ≡ Some new
@@ -80,14 +91,18 @@ module _ (P : Identifier → Identifier → Type 0)
       → (if b then None else Some unknown_identifier) ≡ Some p
       → P (record { language = l; script = None; region = None; variants = [] }) p
   at_language p l true h e = cc
-  at_language p l false h e = subst (P (record { language = l; script = None; region = None; variants = [] })) (of_some e) (language l h)
+  at_language p l false h e = subst (P (record { language = l; script = None; region = None; variants = [] }))
+      (of_some e) (language l h)
 
   at_parts : (p : Identifier) (l : List ℕ) (s r : Option (List ℕ)) (vs : List (List ℕ))
       → parent_of (record { language = l; script = s; region = r; variants = vs }) ≡ Some p
       → P (record { language = l; script = s; region = r; variants = vs }) p
-  at_parts p l s r (v ∷ vs) e = subst (P (record { language = l; script = s; region = r; variants = v ∷ vs })) (of_some e) (variants l s r v vs)
-  at_parts p l s (Some r) [] e = subst (P (record { language = l; script = s; region = Some r; variants = [] })) (of_some e) (region l s r)
-  at_parts p l (Some s) None [] e = subst (P (record { language = l; script = Some s; region = None; variants = [] })) (of_some e) (script l s)
+  at_parts p l s r (v ∷ vs) e = subst (P (record { language = l; script = s; region = r; variants = v ∷ vs }))
+      (of_some e) (variants l s r v vs)
+  at_parts p l s (Some r) [] e = subst
+      (P (record { language = l; script = s; region = Some r; variants = [] })) (of_some e) (region l s r)
+  at_parts p l (Some s) None [] e = subst
+      (P (record { language = l; script = Some s; region = None; variants = [] })) (of_some e) (script l s)
   at_parts p l None None [] e = at_language p l (is_unknown_language l) refl e
 
   by_parent : (i p : Identifier) → parent_of i ≡ Some p → P i p
@@ -117,7 +132,8 @@ at_end : (l : List ℕ) (s r : Option (List ℕ)) (vs : List (List ℕ))
 at_end l s r (v ∷ vs) e = cc
 at_end l s (Some r) [] e = cc
 at_end l (Some s) None [] e = cc
-at_end l None None [] e = ap (λ w. record { language = w; script = None; region = None; variants = [] }) (same_is l (codes "und") (at_unknown l (is_unknown_language l) refl e))
+at_end l None None [] e = ap (λ w. record { language = w; script = None; region = None; variants = [] })
+    (same_is l (codes "und") (at_unknown l (is_unknown_language l) refl e))
 
 only_unknown : (i : Identifier) → parent_of i ≡ None → i ≡ unknown_identifier
 only_unknown i e = at_end i.language i.script i.region i.variants e
@@ -130,7 +146,8 @@ none_left = refl
 
 -- an identifier without a parent ends the chain, and another goes on from its parent
 
-nothing_left : (i : Identifier) (o : Option Identifier) → part_count i ≡ 0 → parent_of i ≡ o → i ≡ unknown_identifier
+nothing_left : (i : Identifier) (o : Option Identifier) → part_count i ≡ 0 → parent_of i ≡ o →
+    i ≡ unknown_identifier
 nothing_left i None h e = only_unknown i e
 nothing_left i (Some p) h e = absurd (omega (arith, one_fewer i p e))
 
@@ -140,7 +157,8 @@ goes_on : (n : ℕ) (i : Identifier) → part_count i ≡ suc n → (o : Option 
 goes_on n i h None e next = absurd (omega (arith, none_left, ap part_count (only_unknown i e)))
 goes_on n i h (Some p) e next = rw e (next p (omega (arith, one_fewer i p e)))
 
-pub chain_ends : (n : ℕ) (i : Identifier) → part_count i ≡ n → after_steps parent_of n i ≡ Some unknown_identifier
+pub chain_ends : (n : ℕ) (i : Identifier) → part_count i ≡ n →
+    after_steps parent_of n i ≡ Some unknown_identifier
 chain_ends zero i h = ap Some (nothing_left i (parent_of i) h refl)
 chain_ends (suc n) i h = goes_on n i h (parent_of i) refl (λ p. chain_ends n p)
 
@@ -165,11 +183,13 @@ lacks_last = by_parent LacksLastPart
 
 -- a parent is an identifier
 
-all_front : (P : List ℕ → Type 0) (w : List ℕ) (ws : List (List ℕ)) → AllByRecursion P (w ∷ ws) → AllByRecursion P (front w ws)
+all_front : (P : List ℕ → Type 0) (w : List ℕ) (ws : List (List ℕ)) → AllByRecursion P (w ∷ ws) →
+    AllByRecursion P (front w ws)
 all_front P w [] h = tt
 all_front P w (v ∷ vs) h = (h.0, all_front P v vs h.1)
 
-front_ascends : (w : List ℕ) (ws : List (List ℕ)) → StrictlyAscends word_cmp (w ∷ ws) → StrictlyAscends word_cmp (front w ws)
+front_ascends : (w : List ℕ) (ws : List (List ℕ)) → StrictlyAscends word_cmp (w ∷ ws) →
+    StrictlyAscends word_cmp (front w ws)
 front_ascends w [] h = tt
 front_ascends w (v ∷ vs) h = (all_front (λ y. word_cmp w y ≡ Less) v vs h.0, front_ascends v vs h.1)
 
@@ -177,7 +197,8 @@ unknown_value : IsIdentifierValue languages unknown_identifier
 unfolding is_word languages lower
 unknown_value = record { language = (refl, refl); script = tt; region = tt; variants = tt; ascending = tt }
 
-pub parent_value : (i p : Identifier) → IsIdentifierValue languages i → parent_of i ≡ Some p → IsIdentifierValue languages p
+pub parent_value : (i p : Identifier) → IsIdentifierValue languages i → parent_of i ≡ Some p →
+    IsIdentifierValue languages p
 parent_value i p v e = by_parent (λ i p. IsIdentifierValue languages i → IsIdentifierValue languages p)
     (λ l s r w ws h. record {
       language = h.language;
@@ -186,17 +207,31 @@ parent_value i p v e = by_parent (λ i p. IsIdentifierValue languages i → IsId
       variants = all_front (IsNormal Variant) w ws h.variants;
       ascending = front_ascends w ws h.ascending;
     })
-    (λ l s r h. record { language = h.language; script = h.script; region = tt; variants = h.variants; ascending = h.ascending })
-    (λ l s h. record { language = h.language; script = tt; region = tt; variants = h.variants; ascending = h.ascending })
+    (λ l s r h. record {
+      language = h.language;
+      script = h.script;
+      region = tt;
+      variants = h.variants;
+      ascending = h.ascending;
+    })
+    (λ l s h. record {
+      language = h.language;
+      script = tt;
+      region = tt;
+      variants = h.variants;
+      ascending = h.ascending;
+    })
     (λ l h v. unknown_value)
     i p e v
 
 -- what leaving the language answers
-pub language_left : (l w : List ℕ) (s r : Option (List ℕ)) (vs ws : List (List ℕ)) → but_last vs ≡ None → ws ≡ vs
+pub language_left : (l w : List ℕ) (s r : Option (List ℕ)) (vs ws : List (List ℕ)) → but_last vs ≡ None →
+    ws ≡ vs
     → false ≡ is_some r → false ≡ is_some s → (l ≡ codes "und" → false ≡ true) → w ≡ codes "und"
     → parent_of (record { language = l; script = s; region = r; variants = vs })
     ≡ Some (record { language = w; script = s; region = r; variants = ws })
 language_left l w s r (v ∷ vs) ws variants same region script known is = cc
 language_left l w s (Some r) [] ws variants same region script known is = absurd (true≢false (sym region))
 language_left l w (Some s) None [] ws variants same region script known is = absurd (true≢false (sym script))
-language_left l w None None [] ws variants same region script known is = rw (known_language l known, is, same) refl
+language_left l w None None [] ws variants same region script known is =
+    rw (known_language l known, is, same) refl

@@ -1,12 +1,15 @@
 -- From what a plain text means to what is taken from its pieces.
 use Rattle.std.proofs.Common.{◌≡◌, ℕ, List, [], None, Ok, Err, refl, sym, ap, ◌∙◌, subst, option_map}
-use Rattle.iloc_spec_grammar.specs.Syntax.{Language, IsWord, lower, title, upper, languages, SpelledIdentifier, Identifier, pieces, first_piece}
+use Rattle.iloc_spec_grammar.specs.Syntax.{Language, IsWord, lower, title, upper, languages}
+use Rattle.iloc_spec_grammar.specs.Syntax.{SpelledIdentifier, Identifier, pieces, first_piece}
 use Rattle.iloc_spec_grammar.specs.Meaning.{IdentifierMeans, not_a_language}
 use Rattle.iloc_spec_grammar.specs.Reading.{after_region, front_of}
 use Rattle.iloc_spec_grammar.proofs.ReadingLaws.{front_of-pieces}
 use Rattle.iloc_spec_parts.specs.Small as small
 use Rattle.iloc_subtags.specs.declared.parse_error.ParseError.{ParseError}
-use Rattle.iloc_subtags.specs.declared.parse_error.ParseError.TheVariants.{InvalidLanguage, InvalidSubtag, InvalidExtension, DuplicatedExtension, OutOfMemory}
+use Rattle.iloc_subtags.specs.declared.parse_error.ParseError.TheVariants.{InvalidLanguage, InvalidSubtag}
+use Rattle.iloc_subtags.specs.declared.parse_error.ParseError.TheVariants.{InvalidExtension}
+use Rattle.iloc_subtags.specs.declared.parse_error.ParseError.TheVariants.{DuplicatedExtension, OutOfMemory}
 use Rattle.iloc_fronts.specs.Front.{IsFront}
 use Rattle.iloc_fronts.specs.declared.front.Front.TheVariants as fronts
 use Rattle.iloc_langid.specs.declared.identifier.LanguageIdentifier.{LanguageIdentifier}
@@ -20,28 +23,34 @@ use Rattle.iloc_langid.proofs.SmallLemmas.{parts_are, after_region-pieces, parts
 use Rattle.iloc_langid.proofs.HeadLemmas.{nothing_more}
 
 -- pieces that mean an identifier in which no variant is written are its other words, and nothing is left
-module _ (ps : List (List ℕ)) (i : Identifier) (m : IdentifierMeans languages ps i) (none : m.written.variants ≡ []) where
+module _ (ps : List (List ℕ)) (i : Identifier) (m : IdentifierMeans languages ps i)
+    (none : m.written.variants ≡ []) where
   front_is : front_of ps ≡ m.written
   front_is = ap front_of m.spelled ∙ front_of-pieces m.written m.grammatical.words
 
   first_is : first_piece ps ≡ m.written.language
   first_is = sym (parts_are ps).0 ∙ ap (λ (j : SpelledIdentifier). j.language) front_is
 
-  pub front_of_meaning : (plain : PlainParts) → plain.language ≡ i.language → plain.script ≡ i.script → plain.region ≡ i.region → IsPlainFront ps [] plain
+  pub front_of_meaning : (plain : PlainParts) → plain.language ≡ i.language → plain.script ≡ i.script →
+      plain.region ≡ i.region → IsPlainFront ps [] plain
   front_of_meaning plain l s r = record {
     word = subst (IsWord (Language languages)) (sym first_is) m.grammatical.words.language;
     language = l ∙ ap (λ (j : Identifier). j.language) m.means ∙ ap lower (sym first_is);
-    script = s ∙ ap (λ (j : Identifier). j.script) m.means ∙ ap (option_map title) (sym (ap (λ (j : SpelledIdentifier). j.script) front_is) ∙ (parts_are ps).1);
-    region = r ∙ ap (λ (j : Identifier). j.region) m.means ∙ ap (option_map upper) (sym (ap (λ (j : SpelledIdentifier). j.region) front_is) ∙ (parts_are ps).2);
+    script = s ∙ ap (λ (j : Identifier). j.script) m.means
+        ∙ ap (option_map title) (sym (ap (λ (j : SpelledIdentifier). j.script) front_is) ∙ (parts_are ps).1);
+    region = r ∙ ap (λ (j : Identifier). j.region) m.means
+        ∙ ap (option_map upper) (sym (ap (λ (j : SpelledIdentifier). j.region) front_is) ∙ (parts_are ps).2);
     after = sym (ap after_region m.spelled ∙ after_region-pieces m.written m.grammatical.words ∙ none);
   }
 
 -- an identifier of these words alone is what the pieces mean
-pub plain_means : (ps : List (List ℕ)) (i : LanguageIdentifier) → IsPlainFront ps [] (plain_of i) → i.variants ≡ [] → IdentifierMeans languages ps (value_of i)
+pub plain_means : (ps : List (List ℕ)) (i : LanguageIdentifier) → IsPlainFront ps [] (plain_of i) →
+    i.variants ≡ [] → IdentifierMeans languages ps (value_of i)
 plain_means ps i plain none = whole_gives ps [] i (front_gives ps [] [] i plain (none, tt, refl)) refl
 
 -- a text that begins with no language is refused so
-pub no_language_read : (t : List ℕ) (e : ParseError) → (e ≡ InvalidLanguage) × IsFront t fronts.NoLanguage → IdentifierReads (pieces t) (Err e)
+pub no_language_read : (t : List ℕ) (e : ParseError) → (e ≡ InvalidLanguage) × IsFront t fronts.NoLanguage →
+    IdentifierReads (pieces t) (Err e)
 no_language_read t InvalidLanguage (is, h) = not_a_language h
 no_language_read t InvalidSubtag (is, h) = absurd (cc)
 no_language_read t InvalidExtension (is, h) = absurd (cc)
@@ -49,8 +58,11 @@ no_language_read t DuplicatedExtension (is, h) = absurd (cc)
 no_language_read t OutOfMemory (is, h) = absurd (cc)
 
 -- and the small locale of them what the text is
-pub plain_small : (t : List ℕ) (plain : PlainParts) → IsPlainFront (pieces t) [] plain → SmallLocaleTextReads t (Ok (plain.language, plain.script, plain.region, None, None))
-plain_small t plain f = nothing_more t (pieces t) [] (plain.language, plain.script, plain.region, None) refl (parts_give (pieces t) [] [] plain None f refl refl) refl
+pub plain_small : (t : List ℕ) (plain : PlainParts) → IsPlainFront (pieces t) [] plain →
+    SmallLocaleTextReads t (Ok (plain.language, plain.script, plain.region, None, None))
+plain_small t plain f = nothing_more t (pieces t) [] (plain.language, plain.script, plain.region, None) refl
+    (parts_give (pieces t) [] [] plain None f refl refl) refl
 
-pub no_language_small : (t : List ℕ) → IsFront t fronts.NoLanguage → SmallLocaleTextReads t (Err InvalidLanguage)
+pub no_language_small : (t : List ℕ) → IsFront t fronts.NoLanguage →
+    SmallLocaleTextReads t (Err InvalidLanguage)
 no_language_small t h = small.bad_head (small.no_language (head_language t ∙ h))

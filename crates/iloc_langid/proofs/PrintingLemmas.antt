@@ -8,11 +8,13 @@ use Rattle.iloc_spec_grammar.proofs.IdentifierTexts.{identifier_text_means}
 use Rattle.iloc_langid.specs.Reads.{IdentifierMeansOnly}
 
 -- what holds of a text holds of what was printed, if that is the text
-pub printed : {X E : Type 0} (bytes : X → List ℕ) (P : List ℕ → Type 0) (t : List ℕ) (r : Result X E) → IfOk r (λ x. bytes x ≡ t) → P t → IfOk r (λ x. P (bytes x))
+pub printed : {X E : Type 0} (bytes : X → List ℕ) (P : List ℕ → Type 0) (t : List ℕ) (r : Result X E) →
+    IfOk r (λ x. bytes x ≡ t) → P t → IfOk r (λ x. P (bytes x))
 printed bytes P t (Ok x) e p = subst P (sym e) p
 printed bytes P t (Err e) h p = h
 
-pub identifier_text_means_only : (i : Identifier) → IsIdentifierValue languages i → IdentifierMeansOnly (identifier_text i) i
+pub identifier_text_means_only : (i : Identifier) → IsIdentifierValue languages i →
+    IdentifierMeansOnly (identifier_text i) i
 identifier_text_means_only i v =
     let m : IdentifierMeans languages (pieces (identifier_text i)) i = identifier_text_means i v in
     (m, λ j n. one_meaning (pieces (identifier_text i)) j i n m)

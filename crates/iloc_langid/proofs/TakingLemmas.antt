@@ -1,13 +1,18 @@
 -- Variants that are taken one at a time.
 use Rattle.iloc_spec_grammar.proofs.FaultLaws.{some_repeat}
-use Rattle.std.proofs.Common.{◌≡◌, ℕ, ◌<◌, ◌≤◌, Bool, true, false, not, List, [], ◌∷◌, ◌++◌, length, map, refl, sym, ap, ◌∙◌, subst, arith, append_assoc, append-nil, length-append, Some, None, option_map}
+use Rattle.std.proofs.Common.{◌≡◌, ℕ, ◌<◌, ◌≤◌, Bool, true, false, not, List, [], ◌∷◌, ◌++◌, length, map}
+use Rattle.std.proofs.Common.{refl, sym, ap, ◌∙◌, subst, arith, append_assoc, append-nil, length-append, Some}
+use Rattle.std.proofs.Common.{None, option_map}
 use Rattle.std.specs.Prelude.{Result, Ok, Err}
 use Rattle.std.specs.List.{AllByRecursion, list_any}
 use Rattle.std.specs.List.Sorted.{IsPermutation}
 use Rattle.std.proofs.lemmas.List.{map-append, length-map}
 use Rattle.std.proofs.lemmas.Bool.{both_ways}
-use Rattle.std.proofs.lemmas.List.Sorted.{IsPermutation-refl, IsPermutation-sym, IsPermutation-push_more, IsPermutation-append_left, length_permutation, list_any-IsPermutation}
-use Rattle.iloc_spec_grammar.specs.Syntax.{Variant, is_word, IsWord, normal, lower, word_cmp, is_same, AllDifferent}
+use Rattle.std.proofs.lemmas.List.Sorted.{IsPermutation-refl, IsPermutation-sym, IsPermutation-push_more}
+use Rattle.std.proofs.lemmas.List.Sorted.{IsPermutation-append_left, length_permutation}
+use Rattle.std.proofs.lemmas.List.Sorted.{list_any-IsPermutation}
+use Rattle.iloc_spec_grammar.specs.Syntax.{Variant, is_word, IsWord, normal, lower, word_cmp, is_same}
+use Rattle.iloc_spec_grammar.specs.Syntax.{AllDifferent}
 use Rattle.iloc_spec_grammar.specs.Meaning.{set_of}
 use Rattle.iloc_spec_grammar.specs.Values.{IsNormal, StrictlyAscends}
 use Rattle.iloc_spec_grammar.specs.Reading.{EndsBefore, take_first, skip_first, passing, past}
@@ -20,7 +25,9 @@ use Rattle.iloc_spec_grammar.proofs.WellRead.{set_of-ascending, all-set_of}
 use Rattle.iloc_subtags.proofs.TakingLemmas.{took, took_none}
 use Rattle.iloc_word_set.proofs.CollectorLaws.{permuted_set, differ, taken_in, known_there, one_more}
 use Rattle.iloc_subtags.specs.declared.parse_error.ParseError.{ParseError}
-use Rattle.iloc_subtags.specs.declared.parse_error.ParseError.TheVariants.{InvalidLanguage, InvalidSubtag, InvalidExtension, DuplicatedExtension, OutOfMemory}
+use Rattle.iloc_subtags.specs.declared.parse_error.ParseError.TheVariants.{InvalidLanguage, InvalidSubtag}
+use Rattle.iloc_subtags.specs.declared.parse_error.ParseError.TheVariants.{InvalidExtension}
+use Rattle.iloc_subtags.specs.declared.parse_error.ParseError.TheVariants.{DuplicatedExtension, OutOfMemory}
 use Rattle.iloc_langid.specs.Reads.{VariantsReads}
 use Rattle.iloc_langid.proofs.LowercaseLemmas.{lower-variants}
 
@@ -37,24 +44,32 @@ taking_none ps = record { taken = []; keeps = refl; skips = refl; permutes = IsP
 map-last : (xs : List (List ℕ)) (p : List ℕ) → map lower (xs ++ p ∷ []) ≡ map lower xs ++ lower p ∷ []
 map-last xs p = map-append lower xs (p ∷ [])
 
-module _ (before now words : List (List ℕ)) (t : Taking before now words) (p : List ℕ) (h : IsWord Variant p) (later : List (List ℕ)) (e : now ≡ p ∷ later) where
+module _ (before now words : List (List ℕ)) (t : Taking before now words) (p : List ℕ) (h : IsWord Variant p)
+    (later : List (List ℕ)) (e : now ≡ p ∷ later) where
   keeps_more : passing (is_word Variant) before ≡ t.taken ++ p ∷ passing (is_word Variant) later
   keeps_more = t.keeps ∙ ap (λ ps. t.taken ++ passing (is_word Variant) ps) e ∙ rw h refl
 
-  pub taking_one_more : (more : List (List ℕ)) → IsPermutation (lower p ∷ words) more → Taking before later more
+  pub taking_one_more : (more : List (List ℕ)) → IsPermutation (lower p ∷ words) more →
+      Taking before later more
   taking_one_more more m = record {
     taken = t.taken ++ p ∷ [];
     keeps = keeps_more ∙ sym (append_assoc t.taken (p ∷ []) (passing (is_word Variant) later));
     skips = t.skips ∙ ap (past (is_word Variant)) e ∙ rw h refl;
-    permutes = subst (λ vs. IsPermutation vs more) (sym (map-last t.taken p)) (IsPermutation-push_more (map lower t.taken) words more (lower p) t.permutes m);
+    permutes = subst (λ vs. IsPermutation vs more) (sym (map-last t.taken p))
+        (IsPermutation-push_more (map lower t.taken) words more (lower p) t.permutes m);
   }
 
-  pub repeats : list_any (is_same (lower p)) words ≡ true → ¬ (AllDifferent word_cmp (map lower (passing (is_word Variant) before)))
+  pub repeats : list_any (is_same (lower p)) words ≡ true →
+      ¬ (AllDifferent word_cmp (map lower (passing (is_word Variant) before)))
   repeats old d =
-      let whole : map lower (passing (is_word Variant) before) ≡ (map lower t.taken ++ lower p ∷ []) ++ map lower (passing (is_word Variant) later) =
-      ap (map lower) (keeps_more ∙ sym (append_assoc t.taken (p ∷ []) (passing (is_word Variant) later))) ∙ map-append lower (t.taken ++ p ∷ []) (passing (is_word Variant) later) ∙ ap (λ l. l ++ map lower (passing (is_word Variant) later)) (map-last t.taken p) in
+      let whole : map lower (passing (is_word Variant) before)
+      ≡ (map lower t.taken ++ lower p ∷ []) ++ map lower (passing (is_word Variant) later) =
+      ap (map lower) (keeps_more ∙ sym (append_assoc t.taken (p ∷ []) (passing (is_word Variant) later)))
+      ∙ map-append lower (t.taken ++ p ∷ []) (passing (is_word Variant) later)
+      ∙ ap (λ l. l ++ map lower (passing (is_word Variant) later)) (map-last t.taken p) in
       let first = some_repeat word_cmp _ _ (subst (AllDifferent word_cmp) whole d) in
-      let front = different_reordered word_cmp word_cmp_total (turned (first_last (lower p) (map lower t.taken))) first in
+      let front =
+      different_reordered word_cmp word_cmp_total (turned (first_last (lower p) (map lower t.taken))) first in
       front.0 (list_any-IsPermutation (is_same (lower p)) (map lower t.taken) words t.permutes ∙ old)
 
 not_fewer : (m n : ℕ) → (m < n → ⊥) → m ≤ n → m ≡ n
@@ -62,9 +77,12 @@ not_fewer m n h l = omega (arith, h, l)
 
 -- words that are known to be variants stand before
 
-few_pass : (ws ps : List (List ℕ)) → AllByRecursion (IsNormal Variant) ws → (passing (is_word Variant) (ws ++ ps) ≡ ws ++ passing (is_word Variant) ps) × (past (is_word Variant) (ws ++ ps) ≡ past (is_word Variant) ps)
+few_pass : (ws ps : List (List ℕ)) → AllByRecursion (IsNormal Variant) ws →
+    (passing (is_word Variant) (ws ++ ps) ≡ ws ++ passing (is_word Variant) ps)
+    × (past (is_word Variant) (ws ++ ps) ≡ past (is_word Variant) ps)
 few_pass [] ps n = (refl, refl)
-few_pass (w ∷ ws) ps n = let more = few_pass ws ps n.1 in let h = n.0.0 in rw h (ap (λ l. w ∷ l) more.0, more.1)
+few_pass (w ∷ ws) ps n =
+    let more = few_pass ws ps n.1 in let h = n.0.0 in rw h (ap (λ l. w ∷ l) more.0, more.1)
 
 pub taking_few : (ws ps : List (List ℕ)) → AllByRecursion (IsNormal Variant) ws → Taking (ws ++ ps) ps ws
 taking_few ws ps n = record {
@@ -74,27 +92,40 @@ taking_few ws ps n = record {
   permutes = subst (λ vs. IsPermutation vs ws) (sym (lower-variants ws n)) (IsPermutation-refl ws);
 }
 
-different_permutation : (vs ws : List (List ℕ)) → IsPermutation vs ws → AllDifferent word_cmp vs → AllDifferent word_cmp ws
-different_permutation vs ws p d = differ ws (ap length (sym (permuted_set vs ws p)) ∙ length-set_of-different vs d ∙ sym (length_permutation vs ws p))
+different_permutation : (vs ws : List (List ℕ)) → IsPermutation vs ws → AllDifferent word_cmp vs →
+    AllDifferent word_cmp ws
+different_permutation vs ws p d = differ ws
+    (ap length (sym (permuted_set vs ws p)) ∙ length-set_of-different vs d ∙ sym (length_permutation vs ws p))
 
 -- what is read after them is read of all
-pub taken_after : (before now ws rest : List (List ℕ)) → Taking before now ws → AllByRecursion (IsNormal Variant) ws → (r : Result (List (List ℕ)) ParseError) → VariantsReads (ws ++ now) rest r → VariantsReads before rest r
+pub taken_after : (before now ws rest : List (List ℕ)) → Taking before now ws →
+    AllByRecursion (IsNormal Variant) ws → (r : Result (List (List ℕ)) ParseError) →
+    VariantsReads (ws ++ now) rest r → VariantsReads before rest r
 taken_after before now ws rest t n r = by r
   where
     kept : map lower (passing (is_word Variant) (ws ++ now)) ≡ ws ++ map lower (passing (is_word Variant) now)
-    kept = ap (map lower) (few_pass ws now n).0 ∙ map-append lower ws _ ∙ ap (λ vs. vs ++ map lower (passing (is_word Variant) now)) (lower-variants ws n)
+    kept = ap (map lower) (few_pass ws now n).0 ∙ map-append lower ws _
+        ∙ ap (λ vs. vs ++ map lower (passing (is_word Variant) now)) (lower-variants ws n)
 
-    whole : map lower (passing (is_word Variant) before) ≡ map lower t.taken ++ map lower (passing (is_word Variant) now)
+    whole : map lower (passing (is_word Variant) before)
+        ≡ map lower t.taken ++ map lower (passing (is_word Variant) now)
     whole = ap (map lower) t.keeps ∙ map-append lower t.taken _
 
-    same : IsPermutation (map lower (passing (is_word Variant) before)) (map lower (passing (is_word Variant) (ws ++ now)))
-    same = rw (whole, kept) (IsPermutation-append_left (map lower (passing (is_word Variant) now)) (map lower t.taken) ws t.permutes)
+    same : IsPermutation (map lower (passing (is_word Variant) before))
+        (map lower (passing (is_word Variant) (ws ++ now)))
+    same = rw (whole, kept) (IsPermutation-append_left (map lower (passing (is_word Variant) now))
+        (map lower t.taken) ws t.permutes)
 
     as_many : length (passing (is_word Variant) (ws ++ now)) ≡ length (passing (is_word Variant) before)
     as_many = sym (length-map _ lower) ∙ length_permutation _ _ same ∙ length-map _ lower
 
-    by : (r : Result (List (List ℕ)) ParseError) → VariantsReads (ws ++ now) rest r → VariantsReads before rest r
-    by (Ok vs) v = (v.0 ∙ sym (permuted_set _ _ same), different_permutation _ _ (IsPermutation-sym _ _ same) v.1, v.2 ∙ (few_pass ws now n).1 ∙ sym t.skips)
+    by : (r : Result (List (List ℕ)) ParseError) → VariantsReads (ws ++ now) rest r →
+        VariantsReads before rest r
+    by (Ok vs) v = (
+      v.0 ∙ sym (permuted_set _ _ same),
+      different_permutation _ _ (IsPermutation-sym _ _ same) v.1,
+      v.2 ∙ (few_pass ws now n).1 ∙ sym t.skips,
+    )
     by (Err InvalidSubtag) v = (refl, λ d. v.1 (different_permutation _ _ same d))
     by (Err OutOfMemory) v = subst (λ k. 4 < k) as_many v
     by (Err InvalidLanguage) v = let other = v.0 in cc
@@ -102,9 +133,12 @@ taken_after before now ws rest t n r = by r
     by (Err DuplicatedExtension) v = let other = v.0 in cc
 
 -- all are taken
-module _ (before now words : List (List ℕ)) (t : Taking before now words) (none : (passing (is_word Variant) now ≡ []) × (past (is_word Variant) now ≡ now)) (set : List (List ℕ)) (e : set ≡ set_of words) where
+module _ (before now words : List (List ℕ)) (t : Taking before now words)
+    (none : (passing (is_word Variant) now ≡ []) × (past (is_word Variant) now ≡ now)) (set : List (List ℕ))
+    (e : set ≡ set_of words) where
   all_of : IsPermutation (map lower (passing (is_word Variant) before)) words
-  all_of = subst (λ ps. IsPermutation (map lower ps) words) (sym (t.keeps ∙ ap (λ l. t.taken ++ l) none.0 ∙ append-nil t.taken)) t.permutes
+  all_of = subst (λ ps. IsPermutation (map lower ps) words)
+      (sym (t.keeps ∙ ap (λ l. t.taken ++ l) none.0 ∙ append-nil t.taken)) t.permutes
 
   set_is : set ≡ set_of (map lower (passing (is_word Variant) before))
   set_is = e ∙ sym (permuted_set _ _ all_of)
@@ -115,43 +149,58 @@ module _ (before now words : List (List ℕ)) (t : Taking before now words) (non
       let l = length_permutation _ _ all_of in
       let n = length-set_of words in
       let k = ap length e in
-      let as_long : length (set_of (map lower (passing (is_word Variant) before))) ≡ length (map lower (passing (is_word Variant) before)) = ap length (sym set_is) ∙ not_fewer _ _ many (omega (arith, n, k)) ∙ l in
+      let as_long : length (set_of (map lower (passing (is_word Variant) before)))
+      ≡ length (map lower (passing (is_word Variant) before)) =
+      ap length (sym set_is) ∙ not_fewer _ _ many (omega (arith, n, k)) ∙ l in
       (set_is, differ _ as_long, sym (t.skips ∙ none.1))
 
   -- fewer: two are equal
-  pub taken_twice : length set < length words → ¬ (AllDifferent word_cmp (map lower (passing (is_word Variant) before)))
+  pub taken_twice : length set < length words →
+      ¬ (AllDifferent word_cmp (map lower (passing (is_word Variant) before)))
   taken_twice fewer d =
       let l = length_permutation _ _ all_of in
       let n = ap length set_is ∙ length-set_of-different _ d in
       omega (arith, fewer, l, n)
 
-pub more_done : (before now words later set : List (List ℕ)) → Taking before now words → None ≡ option_map (normal Variant) (take_first (is_word Variant) now) → later ≡ skip_first (is_word Variant) now → set ≡ set_of words → (length set < length words → ⊥) → VariantsReads before later (Ok set)
+pub more_done : (before now words later set : List (List ℕ)) → Taking before now words →
+    None ≡ option_map (normal Variant) (take_first (is_word Variant) now) →
+    later ≡ skip_first (is_word Variant) now → set ≡ set_of words → (length set < length words → ⊥) →
+    VariantsReads before later (Ok set)
 more_done before now words later set t e l is many =
     let (ended, past_is, stays) = took_none Variant now e in
-    subst (λ rest. VariantsReads before rest (Ok set)) (sym (l ∙ stays)) (taken_all before now words t (ended, past_is) set is many)
+    subst (λ rest. VariantsReads before rest (Ok set)) (sym (l ∙ stays))
+    (taken_all before now words t (ended, past_is) set is many)
 
-pub more_twice : (before now words set : List (List ℕ)) → Taking before now words → None ≡ option_map (normal Variant) (take_first (is_word Variant) now) → set ≡ set_of words → length set < length words → ¬ (AllDifferent word_cmp (map lower (passing (is_word Variant) before)))
+pub more_twice : (before now words set : List (List ℕ)) → Taking before now words →
+    None ≡ option_map (normal Variant) (take_first (is_word Variant) now) → set ≡ set_of words →
+    length set < length words → ¬ (AllDifferent word_cmp (map lower (passing (is_word Variant) before)))
 more_twice before now words set t e is fewer =
     let (ended, past_is, stays) = took_none Variant now e in
     taken_twice before now words t (ended, past_is) set is fewer
 
 -- the same, of what a take of a word says
-module _ (before now words : List (List ℕ)) (t : Taking before now words) (w : List ℕ) (later : List (List ℕ)) (e : Some w ≡ option_map (normal Variant) (take_first (is_word Variant) now)) (l : later ≡ skip_first (is_word Variant) now) where
+module _ (before now words : List (List ℕ)) (t : Taking before now words) (w : List ℕ) (later : List (List ℕ))
+    (e : Some w ≡ option_map (normal Variant) (take_first (is_word Variant) now))
+    (l : later ≡ skip_first (is_word Variant) now) where
   pub takes_new : (more : List (List ℕ)) → IsPermutation (w ∷ words) more → Taking before later more
   takes_new more m =
       let (p, h, same, cut) = took Variant now w e in
-      taking_one_more before now words t p h later (cut ∙ ap (λ ps. p ∷ ps) (sym l)) more (subst (λ x. IsPermutation (x ∷ words) more) same m)
+      taking_one_more before now words t p h later (cut ∙ ap (λ ps. p ∷ ps) (sym l)) more
+      (subst (λ x. IsPermutation (x ∷ words) more) same m)
 
-  pub takes_old : list_any (is_same w) words ≡ true → ¬ (AllDifferent word_cmp (map lower (passing (is_word Variant) before)))
+  pub takes_old : list_any (is_same w) words ≡ true →
+      ¬ (AllDifferent word_cmp (map lower (passing (is_word Variant) before)))
   takes_old old =
       let (p, h, same, cut) = took Variant now w e in
-      repeats before now words t p h later (cut ∙ ap (λ ps. p ∷ ps) (sym l)) (subst (λ x. list_any (is_same x) words ≡ true) same old)
+      repeats before now words t p h later (cut ∙ ap (λ ps. p ∷ ps) (sym l))
+      (subst (λ x. list_any (is_same x) words ≡ true) same old)
 
   -- a fifth
   pub takes_much : 4 < length (set_of (w ∷ words)) → 4 < length (passing (is_word Variant) before)
   takes_much h =
       let (p, q, same, cut) = took Variant now w e in
-      let more = ap length (keeps_more before now words t p q later (cut ∙ ap (λ ps. p ∷ ps) (sym l))) ∙ length-append t.taken (p ∷ passing (is_word Variant) later) in
+      let more = ap length (keeps_more before now words t p q later (cut ∙ ap (λ ps. p ∷ ps) (sym l)))
+      ∙ length-append t.taken (p ∷ passing (is_word Variant) later) in
       let n = length_permutation _ _ t.permutes ∙ length-map t.taken lower in
       omega (arith, h, length-set_of (w ∷ words), n, more)
 
@@ -169,19 +218,26 @@ pub record TakingFew (before now set : List (List ℕ)) : Type 0 where
 pub few_none : (ps : List (List ℕ)) → TakingFew ps ps []
 few_none ps = record { taking = taking_none ps; ascending = tt; normal = tt; short = omega arith }
 
-pub few_known : (ws ps : List (List ℕ)) → AllByRecursion (IsNormal Variant) ws → StrictlyAscends word_cmp ws → length ws < 4 → TakingFew (ws ++ ps) ps ws
+pub few_known : (ws ps : List (List ℕ)) → AllByRecursion (IsNormal Variant) ws → StrictlyAscends word_cmp ws →
+    length ws < 4 → TakingFew (ws ++ ps) ps ws
 few_known ws ps n a l = record { taking = taking_few ws ps n; ascending = a; normal = n; short = l }
 
-module _ (before now set : List (List ℕ)) (t : TakingFew before now set) (w : List ℕ) (later : List (List ℕ)) (e : Some w ≡ option_map (normal Variant) (take_first (is_word Variant) now)) (l : later ≡ skip_first (is_word Variant) now)
-    (more : List (List ℕ)) (added : Bool) (a : added ≡ not (list_any (is_same w) set)) (is : more ≡ set_of (w ∷ set)) where
+module _ (before now set : List (List ℕ)) (t : TakingFew before now set) (w : List ℕ) (later : List (List ℕ))
+    (e : Some w ≡ option_map (normal Variant) (take_first (is_word Variant) now))
+    (l : later ≡ skip_first (is_word Variant) now)
+    (more : List (List ℕ)) (added : Bool) (a : added ≡ not (list_any (is_same w) set))
+    (is : more ≡ set_of (w ∷ set)) where
   normal_word : IsNormal Variant w
-  normal_word = let (p, h, same, cut) = took Variant now w e in subst (IsNormal Variant) (sym same) (IsNormal-normal Variant p h)
+  normal_word = let (p, h, same, cut) = took Variant now w e in
+      subst (IsNormal Variant) (sym same) (IsNormal-normal Variant p h)
 
   few_taken : added ≡ true → Taking before later more
-  few_taken new = takes_new before now set t.taking w later e l more (one_more w set more added (taken_in added w set more t.ascending a is) new)
+  few_taken new = takes_new before now set t.taking w later e l more
+      (one_more w set more added (taken_in added w set more t.ascending a is) new)
 
   few_normal : AllByRecursion (IsNormal Variant) more
-  few_normal = subst (AllByRecursion (IsNormal Variant)) (sym is) (all-set_of (IsNormal Variant) (w ∷ set) (normal_word, t.normal))
+  few_normal = subst (AllByRecursion (IsNormal Variant)) (sym is)
+      (all-set_of (IsNormal Variant) (w ∷ set) (normal_word, t.normal))
 
   few_length : length more ≤ 4
   few_length = omega (arith, t.short, length-set_of (w ∷ set), ap length is)
@@ -194,29 +250,41 @@ module _ (before now set : List (List ℕ)) (t : TakingFew before now set) (w : 
     short = below _ few_length fewer;
   }
 
-  pub few_more : added ≡ true → (rest : List (List ℕ)) (r : Result (List (List ℕ)) ParseError) → VariantsReads (more ++ later) rest r → VariantsReads before rest r
+  pub few_more : added ≡ true → (rest : List (List ℕ)) (r : Result (List (List ℕ)) ParseError) →
+      VariantsReads (more ++ later) rest r → VariantsReads before rest r
   few_more new rest r = taken_after before later more rest (few_taken new) few_normal r
 
   pub few_old : added ≡ false → ¬ (AllDifferent word_cmp (map lower (passing (is_word Variant) before)))
-  few_old old = takes_old before now set t.taking w later e l (known_there w set more added (taken_in added w set more t.ascending a is) old)
+  few_old old = takes_old before now set t.taking w later e l
+      (known_there w set more added (taken_in added w set more t.ascending a is) old)
 
 not_less : (n : ℕ) → n < n → ⊥
 not_less n l = omega (arith, l)
 
-pub few_done : (before now set later : List (List ℕ)) → TakingFew before now set → None ≡ option_map (normal Variant) (take_first (is_word Variant) now) → later ≡ skip_first (is_word Variant) now → VariantsReads before later (Ok set)
-few_done before now set later t e l = more_done before now set later set t.taking e l (sym (set_of_ascending set t.ascending)) (not_less (length set))
+pub few_done : (before now set later : List (List ℕ)) → TakingFew before now set →
+    None ≡ option_map (normal Variant) (take_first (is_word Variant) now) →
+    later ≡ skip_first (is_word Variant) now → VariantsReads before later (Ok set)
+few_done before now set later t e l = more_done before now set later set t.taking e l
+    (sym (set_of_ascending set t.ascending)) (not_less (length set))
 
 -- a variant that no other follows
 
-ended : (ps : List (List ℕ)) → EndsBefore (is_word Variant) ps → (passing (is_word Variant) ps ≡ []) × (past (is_word Variant) ps ≡ ps)
+ended : (ps : List (List ℕ)) → EndsBefore (is_word Variant) ps →
+    (passing (is_word Variant) ps ≡ []) × (past (is_word Variant) ps ≡ ps)
 ended [] h = (refl, refl)
 ended (p ∷ ps) h = (rw h refl, rw h refl)
 
-pub one_variant : (ps rest : List (List ℕ)) (v : List ℕ) → Some v ≡ option_map lower (take_first (is_word Variant) ps) → rest ≡ skip_first (is_word Variant) ps → EndsBefore (is_word Variant) rest → VariantsReads ps rest (Ok (v ∷ []))
+pub one_variant : (ps rest : List (List ℕ)) (v : List ℕ) →
+    Some v ≡ option_map lower (take_first (is_word Variant) ps) → rest ≡ skip_first (is_word Variant) ps →
+    EndsBefore (is_word Variant) rest → VariantsReads ps rest (Ok (v ∷ []))
 one_variant ps rest v e r ends =
     let (p, h, same, cut) = took Variant ps v e in
     let whole : ps ≡ p ∷ rest = cut ∙ ap (λ l. p ∷ l) (sym r) in
     let end = ended rest ends in
-    let taken : passing (is_word Variant) ps ≡ p ∷ [] = ap (passing (is_word Variant)) whole ∙ rw h (ap (λ l. p ∷ l) end.0) in
-    let after : past (is_word Variant) ps ≡ rest = ap (past (is_word Variant)) whole ∙ rw h end.1 in
-    (ap (λ w. w ∷ []) same ∙ ap (λ l. set_of (map lower l)) (sym taken), subst (λ l. AllDifferent word_cmp (map lower l)) (sym taken) (both_ways _ refl, tt), sym after)
+    let taken : passing (is_word Variant) ps ≡ p ∷ [] =
+    ap (passing (is_word Variant)) whole ∙ rw h (ap (λ l. p ∷ l) end.0) in
+    let after : past (is_word Variant) ps ≡ rest = ap (past (is_word Variant)) whole ∙ rw h end.1 in (
+      ap (λ w. w ∷ []) same ∙ ap (λ l. set_of (map lower l)) (sym taken),
+      subst (λ l. AllDifferent word_cmp (map lower l)) (sym taken) (both_ways _ refl, tt),
+      sym after,
+    )

@@ -1,5 +1,6 @@
 -- The value of a keyword, piece by piece.
-use Rattle.std.proofs.Common.{◌≡◌, ℕ, Bool, true, false, ◌&&◌, nat_le, List, [], ◌∷◌, length, refl, sym, ap, ◌∙◌, arith, Option, Some, None, option_to_list, Ok, Err, true≢false}
+use Rattle.std.proofs.Common.{◌≡◌, ℕ, Bool, true, false, ◌&&◌, nat_le, List, [], ◌∷◌, length, refl, sym, ap}
+use Rattle.std.proofs.Common.{◌∙◌, arith, Option, Some, None, option_to_list, Ok, Err, true≢false}
 use Rattle.std.specs.Prelude.{if◌then◌else◌}
 use Rattle.std.specs.List.{list_all}
 use Rattle.std.specs.Option.{is_some}
@@ -20,14 +21,17 @@ unfolding value_result
 value_end None = refl
 value_end (Some w) = refl
 
-value_other : (ws : List (List ℕ)) (p : List ℕ) (ps : List (List ℕ)) → is_word Attribute p ≡ false → value_result ws (p ∷ ps) ≡ Err faults.InvalidSubtag
+value_other : (ws : List (List ℕ)) (p : List ℕ) (ps : List (List ℕ)) → is_word Attribute p ≡ false →
+    value_result ws (p ∷ ps) ≡ Err faults.InvalidSubtag
 unfolding value_result
 value_other ws p ps h = rw h refl
 
 two_many : (v w : List ℕ) (ws : List (List ℕ)) → nat_le (length (v ∷ w ∷ ws)) 1 ≡ false
 two_many v w ws = grind (arith, nat_tests)
 
-no_value : (b : Bool) (ws : List (List ℕ)) → nat_le (length ws) 1 ≡ false → (if b && nat_le (length ws) 1 then Ok (first_item ws) else Err faults.InvalidSubtag) ≡ Err faults.InvalidSubtag
+no_value : (b : Bool) (ws : List (List ℕ)) → nat_le (length ws) 1 ≡ false →
+    (if b && nat_le (length ws) 1 then Ok (first_item ws) else Err faults.InvalidSubtag)
+    ≡ Err faults.InvalidSubtag
 no_value true ws h = rw h refl
 no_value false ws h = refl
 
@@ -40,28 +44,34 @@ module _ (p : List ℕ) (ps : List (List ℕ)) (h : IsWord Attribute p) where
   unfolding value_result
   value_first t = rw (h, t) refl
 
-  value_second : (w : List ℕ) → is_true (lower p) ≡ false → value_result (w ∷ []) (p ∷ ps) ≡ Err faults.InvalidSubtag
+  value_second : (w : List ℕ) → is_true (lower p) ≡ false →
+      value_result (w ∷ []) (p ∷ ps) ≡ Err faults.InvalidSubtag
   unfolding value_result
-  value_second w t = rw (h, t) (no_value (list_all (is_word Attribute) ps) (w ∷ lower p ∷ normal_values ps) (two_many w (lower p) (normal_values ps)))
+  value_second w t = rw (h, t) (no_value (list_all (is_word Attribute) ps) (w ∷ lower p ∷ normal_values ps)
+      (two_many w (lower p) (normal_values ps)))
 
 -- what reading a piece says of it
 
 word_read : (p w : List ℕ) → Ok w ≡ read Attribute InvalidExtension p → IsWord Attribute p × (w ≡ lower p)
 word_read p w e = by (is_word Attribute p) refl e
   where
-    by : (b : Bool) → is_word Attribute p ≡ b → Ok w ≡ (if b then Ok (lower p) else Err InvalidExtension) → IsWord Attribute p × (w ≡ lower p)
+    by : (b : Bool) → is_word Attribute p ≡ b → Ok w ≡ (if b then Ok (lower p) else Err InvalidExtension) →
+        IsWord Attribute p × (w ≡ lower p)
     by true h e = (h, cc)
     by false h e = cc
 
-word_refused : (p : List ℕ) (e : ParseError) → Err e ≡ read Attribute InvalidExtension p → is_word Attribute p ≡ false
+word_refused : (p : List ℕ) (e : ParseError) → Err e ≡ read Attribute InvalidExtension p →
+    is_word Attribute p ≡ false
 word_refused p f e = by (is_word Attribute p) refl e
   where
-    by : (b : Bool) → is_word Attribute p ≡ b → Err f ≡ (if b then Ok (lower p) else Err InvalidExtension) → is_word Attribute p ≡ false
+    by : (b : Bool) → is_word Attribute p ≡ b → Err f ≡ (if b then Ok (lower p) else Err InvalidExtension) →
+        is_word Attribute p ≡ false
     by true h e = cc
     by false h e = h
 
 -- with the value so far, the pieces now are what all of them were
-module _ (before now later : List (List ℕ)) (v : Option (List ℕ)) (same : value_result (option_to_list v) now ≡ value_result [] before) where
+module _ (before now later : List (List ℕ)) (v : Option (List ℕ))
+    (same : value_result (option_to_list v) now ≡ value_result [] before) where
   pub all_read : now ≡ [] → Ok v ≡ answer_of (value_result [] before)
   all_read e = ap answer_of (sym (value_end v) ∙ ap (value_result (option_to_list v)) (sym e) ∙ same)
 
@@ -69,8 +79,10 @@ module _ (before now later : List (List ℕ)) (v : Option (List ℕ)) (same : va
     same_step : value_result (option_to_list v) (p ∷ later) ≡ value_result [] before
     same_step = ap (value_result (option_to_list v)) (sym step) ∙ same
 
-    pub other_read : (e : ParseError) → Err e ≡ read Attribute InvalidExtension p → Err InvalidSubtag ≡ answer_of (value_result [] before)
-    other_read e h = ap answer_of (sym (value_other (option_to_list v) p later (word_refused p e h)) ∙ same_step)
+    pub other_read : (e : ParseError) → Err e ≡ read Attribute InvalidExtension p →
+        Err InvalidSubtag ≡ answer_of (value_result [] before)
+    other_read e h =
+        ap answer_of (sym (value_other (option_to_list v) p later (word_refused p e h)) ∙ same_step)
 
     module _ (w : List ℕ) (h : Ok w ≡ read Attribute InvalidExtension p) where
       spelled : {b : Bool} → b ≡ is_true w → is_true (lower p) ≡ b
@@ -79,7 +91,8 @@ module _ (before now later : List (List ℕ)) (v : Option (List ℕ)) (same : va
       pub true_read : true ≡ is_true w → value_result (option_to_list v) later ≡ value_result [] before
       true_read t = sym (value_true p later (word_read p w h).0 (option_to_list v) (spelled t)) ∙ same_step
 
-      pub first_read : false ≡ is_true w → false ≡ is_some v → (x : List ℕ) → x ≡ w → value_result (x ∷ []) later ≡ value_result [] before
+      pub first_read : false ≡ is_true w → false ≡ is_some v → (x : List ℕ) → x ≡ w →
+          value_result (x ∷ []) later ≡ value_result [] before
       first_read t e x is =
           ap (λ y. value_result (y ∷ []) later) (is ∙ (word_read p w h).1)
           ∙ sym (value_first p later (word_read p w h).0 (spelled t))
@@ -90,10 +103,12 @@ module _ (before now later : List (List ℕ)) (v : Option (List ℕ)) (same : va
           none None e = refl
           none (Some y) e = absurd (true≢false (sym e))
 
-      pub second_read : false ≡ is_true w → true ≡ is_some v → Err InvalidSubtag ≡ answer_of (value_result [] before)
+      pub second_read : false ≡ is_true w → true ≡ is_some v →
+          Err InvalidSubtag ≡ answer_of (value_result [] before)
       second_read t s = ap answer_of (sym (by v s) ∙ same_step)
         where
-          by : (o : Option (List ℕ)) → true ≡ is_some o → value_result (option_to_list o) (p ∷ later) ≡ Err faults.InvalidSubtag
+          by : (o : Option (List ℕ)) → true ≡ is_some o →
+              value_result (option_to_list o) (p ∷ later) ≡ Err faults.InvalidSubtag
           by None s = absurd (true≢false s)
           by (Some x) s = value_second p later (word_read p w h).0 x (spelled t)
 

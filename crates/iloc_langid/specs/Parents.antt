@@ -1,6 +1,7 @@
 -- The fallback chain: from an identifier to its parent, which lacks its last part, and so on to
 -- `und`. This library's rule. ICU's `uloc_getParent` takes its parents in the same way.
-use Rattle.std.specs.Prelude.{◌≡◌, ◌⊎◌, ℕ, zero, suc, ◌+◌, Bool, List, [], ◌∷◌, ◌++◌, take, length, Option, Some, None, option_map, option_and_then, option_to_list, codes, if◌then◌else◌}
+use Rattle.std.specs.Prelude.{◌≡◌, ◌⊎◌, ℕ, zero, suc, ◌+◌, Bool, List, [], ◌∷◌, ◌++◌, take, length, Option}
+use Rattle.std.specs.Prelude.{Some, None, option_map, option_and_then, option_to_list, codes, if◌then◌else◌}
 use Rattle.std.specs.Option.{option_or}
 use Rattle.iloc_spec_grammar.specs.Syntax.{Text, Identifier, identifier_pieces, is_same}
 use Rattle.iloc_langid.specs.Unknown.{unknown_identifier}

@@ -1,6 +1,7 @@
 -- What the reader of a language, a script and a region takes.
 use Rattle.std.specs.Prelude.{◌≡◌, List, option_map}
-use Rattle.iloc_spec_grammar.specs.Syntax.{Text, Identifier, Language, Script, Region, is_word, IsWord, lower, title, upper, languages, first_piece}
+use Rattle.iloc_spec_grammar.specs.Syntax.{Text, Identifier, Language, Script, Region, is_word, IsWord, lower}
+use Rattle.iloc_spec_grammar.specs.Syntax.{title, upper, languages, first_piece}
 use Rattle.iloc_spec_grammar.specs.Reading.{take_first, rest_of, after_script, after_region}
 use Rattle.iloc_langid.specs.declared.plain.PlainParts.{PlainParts}
 

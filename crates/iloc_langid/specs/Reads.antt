@@ -1,6 +1,8 @@
 -- What the readers of identifiers answer.
 use Rattle.std.specs.Prelude.{◌≡◌, ⊤, ℕ, ◌<◌, ◌⊎◌, false, List, [], length, map, None, Result, IfOk}
-use Rattle.iloc_spec_grammar.specs.Syntax.{Text, Language, Variant, is_word, IsWord, lower, word_cmp, languages, SpelledIdentifier, Identifier, AllDifferent, first_piece, pieces}
+use Rattle.iloc_spec_grammar.specs.Syntax.{Text, Language, Variant, is_word, IsWord, lower, word_cmp}
+use Rattle.iloc_spec_grammar.specs.Syntax.{languages, SpelledIdentifier, Identifier, AllDifferent}
+use Rattle.iloc_spec_grammar.specs.Syntax.{first_piece, pieces}
 use Rattle.iloc_spec_grammar.specs.Meaning.{IdentifierMeans, normal_identifier, set_of, HasIdentifierFault}
 use Rattle.iloc_spec_grammar.specs.Meaning as faults
 use Rattle.iloc_spec_grammar.specs.Reading.{IdentifierFront}

@@ -1,6 +1,7 @@
 -- What the readers of identifiers with at most one variant answer.
 use Rattle.std.specs.Prelude.{◌≡◌, false, List, Option, option_map, Result}
-use Rattle.iloc_spec_grammar.specs.Syntax.{Text, Language, Script, Region, Variant, is_word, IsWord, lower, title, upper, languages, first_piece}
+use Rattle.iloc_spec_grammar.specs.Syntax.{Text, Language, Script, Region, Variant, is_word, IsWord, lower}
+use Rattle.iloc_spec_grammar.specs.Syntax.{title, upper, languages, first_piece}
 use Rattle.iloc_spec_grammar.specs.Meaning as faults
 use Rattle.iloc_spec_grammar.specs.Reading.{take_first, skip_first, rest_of, after_script, after_region}
 use Rattle.iloc_spec_parts.specs.Small.{SmallIdentifier, IsSmallIdentifier, HasSmallIdentifierFault}

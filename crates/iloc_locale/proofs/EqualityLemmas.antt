@@ -11,7 +11,10 @@ use Rattle.iloc_locale.specs.declared.locale.Locale.{Locale}
 
 -- by identifier and extensions
 module _ (E : LanguageIdentifier → LanguageIdentifier → Bool) (F : Extensions → Extensions → Bool) where
-  pub locales_decide : ((i j : LanguageIdentifier) → Decides (E i j) (langid.value_of i ≡ langid.value_of j)) → ((d e : Extensions) → Decides (F d e) (extensions.value_of d ≡ extensions.value_of e)) → (l m : Locale) → Decides (E l.id m.id && F l.extensions m.extensions) (value_of l ≡ value_of m)
+  pub locales_decide : ((i j : LanguageIdentifier) →
+      Decides (E i j) (langid.value_of i ≡ langid.value_of j)) →
+      ((d e : Extensions) → Decides (F d e) (extensions.value_of d ≡ extensions.value_of e)) →
+      (l m : Locale) → Decides (E l.id m.id && F l.extensions m.extensions) (value_of l ≡ value_of m)
   locales_decide ids parts l m = Decides-like _
       (λ x k. record { id = x.0 k; extensions = x.1 k })
       (λ x. (ap (λ v. v.id) x, ap (λ v. v.extensions) x))

@@ -2,7 +2,9 @@
 use Rattle.std.proofs.Common.{◌≡◌, ◌⊎◌, inl, inr, ℕ, List, refl}
 use Rattle.iloc_spec_grammar.specs.Syntax.{languages}
 use Rattle.iloc_spec_grammar.specs.Meaning.{Fault, InvalidSubtag, InvalidExtension}
-use Rattle.iloc_spec_parts.specs.Fronts.{after_attributes, KeywordsFault, bad_key, UnicodeFault, in_keywords, both_absent, TransformFault, repeats, unread, OtherFault, no_word, PrivateFault, not_private}
+use Rattle.iloc_spec_parts.specs.Fronts.{after_attributes, KeywordsFault, bad_key, UnicodeFault, in_keywords}
+use Rattle.iloc_spec_parts.specs.Fronts.{both_absent, TransformFault, repeats, unread, OtherFault, no_word}
+use Rattle.iloc_spec_parts.specs.Fronts.{PrivateFault, not_private}
 
 keywords_names : (ps : List (List ℕ)) (f : Fault) → KeywordsFault ps f → f ≡ InvalidExtension
 keywords_names ps f (bad_key h) = refl
@@ -11,7 +13,8 @@ pub unicode_names : (ps : List (List ℕ)) (f : Fault) → UnicodeFault ps f →
 unicode_names ps f (in_keywords h) = keywords_names (after_attributes ps) f h
 unicode_names ps f (both_absent a k) = refl
 
-pub transform_names : (ps : List (List ℕ)) (f : Fault) → TransformFault languages ps f → (f ≡ InvalidSubtag) ⊎ (f ≡ InvalidExtension)
+pub transform_names : (ps : List (List ℕ)) (f : Fault) → TransformFault languages ps f →
+    (f ≡ InvalidSubtag) ⊎ (f ≡ InvalidExtension)
 transform_names ps f (repeats h) = inl refl
 transform_names ps f (unread n h) = inr refl
 

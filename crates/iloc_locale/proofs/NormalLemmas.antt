@@ -1,5 +1,6 @@
 -- From the locale that was read to its normal text.
-use Rattle.std.proofs.Common.{◌≡◌, inl, inr, ◌↔◌, IsTrue, ℕ, ◌≤◌, Bool, true, false, List, length, refl, sym, ap, ◌∙◌, subst, true≢false, IfOk, Err, Ok, Result}
+use Rattle.std.proofs.Common.{◌≡◌, inl, inr, ◌↔◌, IsTrue, ℕ, ◌≤◌, Bool, true, false, List, length, refl, sym}
+use Rattle.std.proofs.Common.{ap, ◌∙◌, subst, true≢false, IfOk, Err, Ok, Result}
 use Rattle.iloc_spec_grammar.specs.Syntax.{languages, is_same}
 use Rattle.iloc_spec_grammar.specs.Meaning as meaning
 use Rattle.iloc_spec_grammar.specs.Meaning.{Means}
@@ -14,27 +15,34 @@ use Rattle.iloc_spec_grammar.proofs.RawLaws.{languages_table}
 use Rattle.iloc_spec_grammar.proofs.Corollaries.{same_meaning, means_again, same_text_same_value}
 use Rattle.iloc_spec_grammar.proofs.AnySteps.{chain_to_text, shortest, texts_lead_to_one}
 use Rattle.iloc_subtags.specs.declared.parse_error.ParseError.{ParseError}
-use Rattle.iloc_subtags.specs.declared.parse_error.ParseError.TheVariants.{InvalidLanguage, InvalidSubtag, InvalidExtension, DuplicatedExtension, OutOfMemory}
+use Rattle.iloc_subtags.specs.declared.parse_error.ParseError.TheVariants.{InvalidLanguage, InvalidSubtag}
+use Rattle.iloc_subtags.specs.declared.parse_error.ParseError.TheVariants.{InvalidExtension}
+use Rattle.iloc_subtags.specs.declared.parse_error.ParseError.TheVariants.{DuplicatedExtension, OutOfMemory}
 use Rattle.iloc_told.specs.Modes.{IsNormalText}
 use Rattle.iloc_told.specs.NormalTexts.{IsNotNormal}
 use Rattle.iloc_told.specs.Told.{HasRefusal}
 use Rattle.iloc_told.specs.declared.Mode.TheVariants.{Locale}
-use Rattle.iloc_locale.specs.LocaleReading.{LocaleTextReads, MeansOnly, IsTextOf, IsNormalizedLocale, NormalizingWantsMemory}
+use Rattle.iloc_locale.specs.LocaleReading.{LocaleTextReads, MeansOnly, IsTextOf, IsNormalizedLocale}
+use Rattle.iloc_locale.specs.LocaleReading.{NormalizingWantsMemory}
 use Rattle.iloc_locale.proofs.ReadLemmas.{inline_wants_none}
 use Rattle.iloc_spec_parts.specs.Inline.{IsInline}
 use Rattle.std.specs.Cmp.{Equal-is}
 
-pub is_normalized : (t u : List ℕ) (M : meaning.Locale) → Means languages t M → u ≡ text M → IsNormalizedLocale t u
+pub is_normalized : (t u : List ℕ) (M : meaning.Locale) → Means languages t M → u ≡ text M →
+    IsNormalizedLocale t u
 is_normalized t u M m e = subst (IsNormalizedLocale t) (sym e) (record {
   text_is = (M, m, refl);
   again = (M, means_again languages_table t M m, refl);
-  same = λ v L N l n. subst (λ (K : meaning.Locale). (L ≡ N) ↔ (text K ≡ text N)) (one_meaning languages_table t L M l m) (same_meaning languages languages_table t v L N l n);
-  shortest = λ v N l n. subst (λ (K : meaning.Locale). length (text K) ≤ length v) (one_meaning languages_table t N M l m) (shortest languages v N n);
+  same = λ v L N l n. subst (λ (K : meaning.Locale). (L ≡ N) ↔ (text K ≡ text N))
+      (one_meaning languages_table t L M l m) (same_meaning languages languages_table t v L N l n);
+  shortest = λ v N l n. subst (λ (K : meaning.Locale). length (text K) ≤ length v)
+      (one_meaning languages_table t N M l m) (shortest languages v N n);
   steps = chain_to_text languages t M m;
   together = λ v L N l n. texts_lead_to_one languages languages_table t v L N l n;
 })
 
-pub refuses_memory : (t : List ℕ) (M : meaning.Locale) → Means languages t M → (t ≡ text M → false ≡ true) → NormalizingWantsMemory t
+pub refuses_memory : (t : List ℕ) (M : meaning.Locale) → Means languages t M → (t ≡ text M → false ≡ true) →
+    NormalizingWantsMemory t
 refuses_memory t M m other = inr (M, m, λ e. absurd (true≢false (sym (other e))))
 
 -- a normal text that is inline wants no memory
@@ -42,21 +50,28 @@ pub normal_inline : (t : List ℕ) → IsInline languages t → IsTextOf t t →
 normal_inline t i n (inl h) = inline_wants_none t i h
 normal_inline t i n (inr h) = h.2 (n.2 ∙ ap text (one_meaning languages_table t n.0 h.0 n.1 h.1))
 
-pub same_meaning_ties : (t : List ℕ) (L M : meaning.Locale) (same : Bool) → Means languages t L → same ≡ is_eq (locale_cmp M L) → IsTrue same ↔ Means languages t M
+pub same_meaning_ties : (t : List ℕ) (L M : meaning.Locale) (same : Bool) → Means languages t L →
+    same ≡ is_eq (locale_cmp M L) → IsTrue same ↔ Means languages t M
 same_meaning_ties t L M same m e = (
-  λ s. subst (Means languages t) (sym ((locale_exact.exact M L).0 ((Equal-is (locale_cmp M L)).0 (sym e ∙ s)))) m,
+  λ s. subst (Means languages t)
+      (sym ((locale_exact.exact M L).0 ((Equal-is (locale_cmp M L)).0 (sym e ∙ s)))) m,
   λ n. e ∙ ap is_eq ((locale_exact.exact M L).1 (one_meaning languages_table t M L n m)),
 )
 
-pub no_meaning : (t : List ℕ) (M : meaning.Locale) (f : ParseError) → LocaleTextReads t (Err f) → (f ≡ OutOfMemory → ⊥) → Means languages t M → ⊥
+pub no_meaning : (t : List ℕ) (M : meaning.Locale) (f : ParseError) → LocaleTextReads t (Err f) →
+    (f ≡ OutOfMemory → ⊥) → Means languages t M → ⊥
 no_meaning t M InvalidLanguage h n m = accepted_no_fault languages_table t M meaning.InvalidLanguage m h
 no_meaning t M InvalidSubtag h n m = accepted_no_fault languages_table t M meaning.InvalidSubtag m h
 no_meaning t M InvalidExtension h n m = accepted_no_fault languages_table t M meaning.InvalidExtension m h
-no_meaning t M DuplicatedExtension h n m = accepted_no_fault languages_table t M meaning.DuplicatedExtension m h
+no_meaning t M DuplicatedExtension h n m =
+    accepted_no_fault languages_table t M meaning.DuplicatedExtension m h
 no_meaning t M OutOfMemory h n m = n refl
 
-pub refusal_differs : (t : List ℕ) (M : meaning.Locale) (f : ParseError) {E : Type 0} (r : Result Bool E) → LocaleTextReads t (Err f) → IfOk r (λ same. (same ≡ false) × ¬ (f ≡ OutOfMemory)) → IfOk r (λ same. IsTrue same ↔ Means languages t M)
-refusal_differs t M f (Ok same) h d = (λ s. absurd (true≢false (sym s ∙ d.0)), λ m. absurd (no_meaning t M f h d.1 m))
+pub refusal_differs : (t : List ℕ) (M : meaning.Locale) (f : ParseError) {E : Type 0} (r : Result Bool E) →
+    LocaleTextReads t (Err f) → IfOk r (λ same. (same ≡ false) × ¬ (f ≡ OutOfMemory)) →
+    IfOk r (λ same. IsTrue same ↔ Means languages t M)
+refusal_differs t M f (Ok same) h d =
+    (λ s. absurd (true≢false (sym s ∙ d.0)), λ m. absurd (no_meaning t M f h d.1 m))
 refusal_differs t M f (Err e) h d = tt
 
 -- the text of a well-formed value means that value, and no other

@@ -7,7 +7,9 @@ use Rattle.iloc_spec_grammar.specs.Reading.{from_block}
 use Rattle.iloc_spec_grammar.specs.ByBlocks.{UnicodeMeans, TransformMeans, OtherMeans}
 use Rattle.iloc_spec_grammar.specs.Meaning.{RepeatsVariant}
 use Rattle.iloc_subtags.specs.declared.parse_error.ParseError.{ParseError}
-use Rattle.iloc_subtags.specs.declared.parse_error.ParseError.TheVariants.{InvalidLanguage, InvalidSubtag, InvalidExtension, DuplicatedExtension, OutOfMemory}
+use Rattle.iloc_subtags.specs.declared.parse_error.ParseError.TheVariants.{InvalidLanguage, InvalidSubtag}
+use Rattle.iloc_subtags.specs.declared.parse_error.ParseError.TheVariants.{InvalidExtension}
+use Rattle.iloc_subtags.specs.declared.parse_error.ParseError.TheVariants.{DuplicatedExtension, OutOfMemory}
 use Rattle.iloc_unicode.specs.declared.unicode.Unicode.{Unicode}
 use Rattle.iloc_unicode.specs.UnicodeReads.{UnicodeWantsMemory}
 use Rattle.iloc_unicode.specs.UnicodeValue as unicode
@@ -25,15 +27,18 @@ UnicodeBlock ps rest (Err InvalidSubtag) = ⊥
 UnicodeBlock ps rest (Err DuplicatedExtension) = ⊥
 
 abbrev pub TransformBlock : List (List ℕ) → List (List ℕ) → Result Transform ParseError → Type 0
-TransformBlock ps rest (Ok m) = TransformMeans languages (front ps) (transform.value_of m) × (rest ≡ from_block ps)
+TransformBlock ps rest (Ok m) =
+    TransformMeans languages (front ps) (transform.value_of m) × (rest ≡ from_block ps)
 TransformBlock ps rest (Err InvalidSubtag) = RepeatsVariant languages (front ps)
-TransformBlock ps rest (Err InvalidExtension) = ¬ (RepeatsVariant languages (front ps)) × ((v : written.Transform) → ¬ (TransformMeans languages (front ps) v))
+TransformBlock ps rest (Err InvalidExtension) = ¬ (RepeatsVariant languages (front ps))
+    × ((v : written.Transform) → ¬ (TransformMeans languages (front ps) v))
 TransformBlock ps rest (Err OutOfMemory) = transform.TransformWantsMemory ps
 TransformBlock ps rest (Err InvalidLanguage) = ⊥
 TransformBlock ps rest (Err DuplicatedExtension) = ⊥
 
 abbrev pub OtherBlock : ℕ → List (List ℕ) → List (List ℕ) → Result (ℕ × List (List ℕ)) ParseError → Type 0
-OtherBlock ext ps rest (Ok o) = (o ≡ (ext, kept (front ps))) × OtherMeans (front ps) o.1 × (rest ≡ from_block ps)
+OtherBlock ext ps rest (Ok o) =
+    (o ≡ (ext, kept (front ps))) × OtherMeans (front ps) o.1 × (rest ≡ from_block ps)
 OtherBlock ext ps rest (Err InvalidExtension) = ¬ (IsOther (front ps))
 OtherBlock ext ps rest (Err OutOfMemory) = 4 < length (kept (other_front (front ps)))
 OtherBlock ext ps rest (Err InvalidLanguage) = ⊥

@@ -1,10 +1,13 @@
 -- From what the readers of the head and of the blocks answer to what the whole text is read as.
 use Rattle.std.specs.Prelude.{⊤}
-use Rattle.std.proofs.Common.{◌≡◌, inl, inr, ℕ, ◌<◌, true, List, [], ◌∷◌, length, refl, sym, ap, ◌∙◌, subst, arith, Result, Ok, Err, IfOk}
+use Rattle.std.proofs.Common.{◌≡◌, inl, inr, ℕ, ◌<◌, true, List, [], ◌∷◌, length, refl, sym, ap, ◌∙◌, subst}
+use Rattle.std.proofs.Common.{arith, Result, Ok, Err, IfOk}
 use Rattle.std.specs.Result.{result_and}
-use Rattle.iloc_spec_grammar.specs.Syntax.{pieces, Language, IsWord, languages, two_or_three, identifier_pieces, head, blocks, tail_blocks, first_piece}
+use Rattle.iloc_spec_grammar.specs.Syntax.{pieces, Language, IsWord, languages, two_or_three}
+use Rattle.iloc_spec_grammar.specs.Syntax.{identifier_pieces, head, blocks, tail_blocks, first_piece}
 use Rattle.iloc_spec_grammar.specs.Meaning as meaning
-use Rattle.iloc_spec_grammar.specs.Meaning.{IdentifierMeans, Means, BlocksMean, Fault, HasFault, HasBlockFault, in_head, in_block, SpellsIdentifier}
+use Rattle.iloc_spec_grammar.specs.Meaning.{IdentifierMeans, Means, BlocksMean, Fault, HasFault}
+use Rattle.iloc_spec_grammar.specs.Meaning.{HasBlockFault, in_head, in_block, SpellsIdentifier}
 use Rattle.iloc_spec_grammar.specs.Values.{IsValue, IsWellFormed, TextStep, Leads}
 use Rattle.iloc_spec_grammar.specs.Reading.{rest_of, front_of, after_head, starts_block}
 use Rattle.iloc_spec_grammar.proofs.RawLaws.{languages_table}
@@ -17,7 +20,9 @@ use Rattle.iloc_spec_grammar.proofs.ReadingLaws.{from_block_starts, front_of-pie
 use Rattle.iloc_spec_parts.specs.Inline.{IsInline, ReachesLongBlock}
 use Rattle.iloc_spec_parts.proofs.InlineBlockLaws.{inline_by_blocks, none_long}
 use Rattle.iloc_subtags.specs.declared.parse_error.ParseError.{ParseError}
-use Rattle.iloc_subtags.specs.declared.parse_error.ParseError.TheVariants.{InvalidLanguage, InvalidSubtag, InvalidExtension, DuplicatedExtension, OutOfMemory}
+use Rattle.iloc_subtags.specs.declared.parse_error.ParseError.TheVariants.{InvalidLanguage, InvalidSubtag}
+use Rattle.iloc_subtags.specs.declared.parse_error.ParseError.TheVariants.{InvalidExtension}
+use Rattle.iloc_subtags.specs.declared.parse_error.ParseError.TheVariants.{DuplicatedExtension, OutOfMemory}
 use Rattle.iloc_langid.specs.declared.identifier.LanguageIdentifier.{LanguageIdentifier}
 use Rattle.iloc_langid.specs.Reads as langid
 use Rattle.iloc_langid.specs.Reads.{IdentifierReads}
@@ -30,7 +35,8 @@ use Rattle.iloc_told.proofs.FrontAnswers.{no_language_refused}
 use Rattle.iloc_told.proofs.PlainAnswers.{means_alone}
 use Rattle.iloc_locale.proofs.RoundLaws.{blocks-from_block}
 use Rattle.iloc_locale.specs.declared.locale.Locale.{Locale}
-use Rattle.iloc_locale.specs.LocaleReading.{value_of, unknown_locale, LocaleWantsMemory, LocaleTextReads, LocaleTextAnswers}
+use Rattle.iloc_locale.specs.LocaleReading.{value_of, unknown_locale, LocaleWantsMemory, LocaleTextReads}
+use Rattle.iloc_locale.specs.LocaleReading.{LocaleTextAnswers}
 use Rattle.iloc_subtags.specs.Judging.{Accepts, Refuses, RunsOutOnlyIf}
 use Rattle.iloc_subtags.proofs.Judged.{Judges, accepts, refuses, without_memory, runs_out, with_memory}
 
@@ -47,8 +53,11 @@ same_first : (ps : List (List ℕ)) → first_piece (head ps) ≡ first_piece ps
 same_first [] = refl
 same_first (p ∷ ps) = refl
 
-pub head_accepts : (t : List ℕ) (id : LanguageIdentifier) (e : meaning.Extensions) → IdentifierReads (head (pieces t)) (Ok id) → BlocksMean languages (blocks (after_head (pieces t))) e → Means languages t (record { id = langid.value_of id; extensions = e })
-head_accepts t id e h b = record { id = h; extensions = subst (λ bs. BlocksMean languages bs e) (tail_is (pieces t)) b }
+pub head_accepts : (t : List ℕ) (id : LanguageIdentifier) (e : meaning.Extensions) →
+    IdentifierReads (head (pieces t)) (Ok id) → BlocksMean languages (blocks (after_head (pieces t))) e →
+    Means languages t (record { id = langid.value_of id; extensions = e })
+head_accepts t id e h b =
+    record { id = h; extensions = subst (λ bs. BlocksMean languages bs e) (tail_is (pieces t)) b }
 
 -- where no memory is wanted
 
@@ -57,7 +66,9 @@ head_few t i h =
     let w = i.means.written in
     let e : head (pieces t) ≡ identifier_pieces w = i.means.spelled in
     let few = (inline_by_blocks languages languages_table t i).variants w i.means.grammatical e in
-    let k : length (front_of (head (pieces t))).variants ≡ length w.variants = ap (λ ps. length (front_of ps).variants) e ∙ ap (λ j. length j.variants) (front_of-pieces w i.means.grammatical.words) in
+    let k : length (front_of (head (pieces t))).variants ≡ length w.variants =
+    ap (λ ps. length (front_of ps).variants) e
+    ∙ ap (λ j. length j.variants) (front_of-pieces w i.means.grammatical.words) in
     omega (arith, few, k, h)
 
 pub inline_wants_none : (t : List ℕ) → IsInline languages t → LocaleWantsMemory t → ⊥
@@ -67,41 +78,59 @@ inline_wants_none t i (inr x) = none_long x.1 (inline_by_blocks languages langua
 -- and it is wanted only after a language
 pub wants_language : (t : List ℕ) → LocaleWantsMemory t → IsWord (Language languages) (first_piece (pieces t))
 wants_language t (inl x) = subst (λ p. IsWord (Language languages) p) (same_first (pieces t)) x.0
-wants_language t (inr x) = subst (λ p. IsWord (Language languages) p) (sym (ap first_piece x.0.2) ∙ same_first (pieces t)) x.0.1.words.language
+wants_language t (inr x) = subst (λ p. IsWord (Language languages) p)
+    (sym (ap first_piece x.0.2) ∙ same_first (pieces t)) x.0.1.words.language
 
-pub head_refused : (t : List ℕ) (e : ParseError) → IdentifierReads (head (pieces t)) (Err e) → RunsOutOnlyIf {X = Unit {0}} (langid.IdentifierWantsMemory (head (pieces t))) (Err e) → LocaleTextAnswers t (Err e)
+pub head_refused : (t : List ℕ) (e : ParseError) → IdentifierReads (head (pieces t)) (Err e) →
+    RunsOutOnlyIf {X = Unit {0}} (langid.IdentifierWantsMemory (head (pieces t))) (Err e) →
+    LocaleTextAnswers t (Err e)
 head_refused t InvalidLanguage h m = in_head h
 head_refused t InvalidSubtag h m = in_head h
 head_refused t InvalidExtension h m = in_head h
 head_refused t DuplicatedExtension h m = in_head h
 head_refused t OutOfMemory h m = inl m
 
-spells : (t : List ℕ) (id : LanguageIdentifier) → IdentifierReads (head (pieces t)) (Ok id) → SpellsIdentifier languages (head (pieces t))
+spells : (t : List ℕ) (id : LanguageIdentifier) → IdentifierReads (head (pieces t)) (Ok id) →
+    SpellsIdentifier languages (head (pieces t))
 spells t id h = (h.written, h.grammatical, h.spelled)
 
-blocks_fault : (t : List ℕ) (id : LanguageIdentifier) (f : Fault) → IdentifierReads (head (pieces t)) (Ok id) → HasBlockFault languages (blocks (after_head (pieces t))) f → HasFault languages t f
-blocks_fault t id f h b = in_block (spells t id h) (subst (λ bs. HasBlockFault languages bs f) (tail_is (pieces t)) b)
+blocks_fault : (t : List ℕ) (id : LanguageIdentifier) (f : Fault) →
+    IdentifierReads (head (pieces t)) (Ok id) → HasBlockFault languages (blocks (after_head (pieces t))) f →
+    HasFault languages t f
+blocks_fault t id f h b =
+    in_block (spells t id h) (subst (λ bs. HasBlockFault languages bs f) (tail_is (pieces t)) b)
 
-pub blocks_refused : (t : List ℕ) (id : LanguageIdentifier) (x : meaning.Extensions) (e : ParseError) → IdentifierReads (head (pieces t)) (Ok id) → BlocksReads (after_head (pieces t)) x (Err e) → LocaleTextAnswers t (Err e)
+pub blocks_refused : (t : List ℕ) (id : LanguageIdentifier) (x : meaning.Extensions) (e : ParseError) →
+    IdentifierReads (head (pieces t)) (Ok id) → BlocksReads (after_head (pieces t)) x (Err e) →
+    LocaleTextAnswers t (Err e)
 blocks_refused t id x InvalidLanguage h b = blocks_fault t id meaning.InvalidLanguage h b
 blocks_refused t id x InvalidSubtag h b = blocks_fault t id meaning.InvalidSubtag h b
 blocks_refused t id x InvalidExtension h b = blocks_fault t id meaning.InvalidExtension h b
 blocks_refused t id x DuplicatedExtension h b = blocks_fault t id meaning.DuplicatedExtension h b
-blocks_refused t id x OutOfMemory h b = inr (spells t id h, subst (ReachesLongBlock languages) (tail_is (pieces t)) b)
+blocks_refused t id x OutOfMemory h b =
+    inr (spells t id h, subst (ReachesLongBlock languages) (tail_is (pieces t)) b)
 
-pub blocks_read : (t : List ℕ) (l : Locale) (r : Result (Unit {0}) ParseError) → IdentifierReads (head (pieces t)) (Ok l.id) → BlocksReads (after_head (pieces t)) (extensions.value_of l.extensions) r → LocaleTextAnswers t (result_and r (Ok l))
+pub blocks_read : (t : List ℕ) (l : Locale) (r : Result (Unit {0}) ParseError) →
+    IdentifierReads (head (pieces t)) (Ok l.id) →
+    BlocksReads (after_head (pieces t)) (extensions.value_of l.extensions) r →
+    LocaleTextAnswers t (result_and r (Ok l))
 blocks_read t l (Ok x) h b = head_accepts t l.id (extensions.value_of l.extensions) h b
 blocks_read t l (Err e) h b = blocks_refused t l.id (extensions.value_of l.extensions) e h b
 
-pub none_after_unknown : (l : Locale) → value_of l ≡ unknown_locale → extensions.value_of l.extensions ≡ meaning.no_extensions
+pub none_after_unknown : (l : Locale) → value_of l ≡ unknown_locale →
+    extensions.value_of l.extensions ≡ meaning.no_extensions
 none_after_unknown l e = ap (λ (M : meaning.Locale). M.extensions) e
 
 -- what is told of a plain text at once: it is an identifier alone
-pub plain_means : (t : List ℕ) (l : Locale) → IdentifierMeans languages (pieces t) (langid.value_of l.id) → extensions.value_of l.extensions ≡ meaning.no_extensions → Means languages t (value_of l)
-plain_means t l m none = subst (λ (e : meaning.Extensions). Means languages t (record { id = langid.value_of l.id; extensions = e })) (sym none) (means_alone t (langid.value_of l.id) m)
+pub plain_means : (t : List ℕ) (l : Locale) → IdentifierMeans languages (pieces t) (langid.value_of l.id) →
+    extensions.value_of l.extensions ≡ meaning.no_extensions → Means languages t (value_of l)
+plain_means t l m none = subst
+    (λ (e : meaning.Extensions). Means languages t (record { id = langid.value_of l.id; extensions = e }))
+    (sym none) (means_alone t (langid.value_of l.id) m)
 
 -- a text that begins with no language is refused so
-pub no_language_read : (t : List ℕ) (e : ParseError) → (e ≡ InvalidLanguage) × IsFront t fronts.NoLanguage → LocaleTextReads t (Err e)
+pub no_language_read : (t : List ℕ) (e : ParseError) → (e ≡ InvalidLanguage) × IsFront t fronts.NoLanguage →
+    LocaleTextReads t (Err e)
 no_language_read t InvalidLanguage (is, h) = no_language_refused modes.Locale t h
 no_language_read t InvalidSubtag (is, h) = absurd (cc)
 no_language_read t InvalidExtension (is, h) = absurd (cc)
@@ -113,30 +142,45 @@ no_language_read t OutOfMemory (is, h) = absurd (cc)
 -- memory apart
 
 pub reads_apart : (t : List ℕ) (r : Result Locale ParseError) → LocaleTextAnswers t r → LocaleTextReads t r
-reads_apart t r h = without_memory (λ (l : Locale). Means languages t (value_of l)) (HasFault languages t) (LocaleWantsMemory t) r h
+reads_apart t r h = without_memory (λ (l : Locale). Means languages t (value_of l)) (HasFault languages t)
+    (LocaleWantsMemory t) r h
 
-pub reads_memory : (t : List ℕ) (r : Result Locale ParseError) → LocaleTextAnswers t r → RunsOutOnlyIf (LocaleWantsMemory t) r
-reads_memory t r h = runs_out (λ (l : Locale). Means languages t (value_of l)) (HasFault languages t) (LocaleWantsMemory t) r h
+pub reads_memory : (t : List ℕ) (r : Result Locale ParseError) → LocaleTextAnswers t r →
+    RunsOutOnlyIf (LocaleWantsMemory t) r
+reads_memory t r h =
+    runs_out (λ (l : Locale). Means languages t (value_of l)) (HasFault languages t) (LocaleWantsMemory t) r h
 
-pub reads_answer : (t : List ℕ) (r : Result Locale ParseError) → LocaleTextReads t r → RunsOutOnlyIf (LocaleWantsMemory t) r → LocaleTextAnswers t r
-reads_answer t r h m = with_memory (λ (l : Locale). Means languages t (value_of l)) (HasFault languages t) (LocaleWantsMemory t) r h m
+pub reads_answer : (t : List ℕ) (r : Result Locale ParseError) → LocaleTextReads t r →
+    RunsOutOnlyIf (LocaleWantsMemory t) r → LocaleTextAnswers t r
+reads_answer t r h m = with_memory (λ (l : Locale). Means languages t (value_of l)) (HasFault languages t)
+    (LocaleWantsMemory t) r h m
 
-pub reads_well_formed : (t : List ℕ) (r : Result Locale ParseError) → LocaleTextReads t r → IfOk r (λ l. IsValue languages (value_of l) × IsWellFormed (value_of l))
-reads_well_formed t (Ok l) h = (means_a_value t (value_of l) h, read_well_formed languages_table t (value_of l) h)
+pub reads_well_formed : (t : List ℕ) (r : Result Locale ParseError) → LocaleTextReads t r →
+    IfOk r (λ l. IsValue languages (value_of l) × IsWellFormed (value_of l))
+reads_well_formed t (Ok l) h =
+    (means_a_value t (value_of l) h, read_well_formed languages_table t (value_of l) h)
 reads_well_formed t (Err e) h = tt
 
-pub reads_steps : (t : List ℕ) (r : Result Locale ParseError) → LocaleTextReads t r → IfOk r (λ l. (n : ℕ) (u : List ℕ) → Leads (TextStep languages) n t u → Means languages u (value_of l))
+pub reads_steps : (t : List ℕ) (r : Result Locale ParseError) → LocaleTextReads t r →
+    IfOk r (λ l. (n : ℕ) (u : List ℕ) → Leads (TextStep languages) n t u → Means languages u (value_of l))
 reads_steps t (Ok l) h = λ n u c. chain_means languages languages_table n t u (value_of l) c h
 reads_steps t (Err e) h = tt
 
 pub locales_judge : (t : List ℕ) → Judges (Means languages t) (HasFault languages t)
-locales_judge t = record { one = one_meaning languages_table t; apart = accepted_no_fault languages_table t; one_fault = λ f g. one_fault t }
+locales_judge t = record {
+  one = one_meaning languages_table t;
+  apart = accepted_no_fault languages_table t;
+  one_fault = λ f g. one_fault t;
+}
 
-pub reads_accepts : (t : List ℕ) (r : Result Locale ParseError) → LocaleTextReads t r → (M : meaning.Locale) → Means languages t M → Accepts value_of ⊤ M r
+pub reads_accepts : (t : List ℕ) (r : Result Locale ParseError) → LocaleTextReads t r → (M : meaning.Locale) →
+    Means languages t M → Accepts value_of ⊤ M r
 reads_accepts t r h = accepts value_of ⊤ (locales_judge t) r h
 
-pub reads_refuses : (t : List ℕ) (r : Result Locale ParseError) → LocaleTextReads t r → (f : Fault) → HasFault languages t f → Refuses ⊤ f r
+pub reads_refuses : (t : List ℕ) (r : Result Locale ParseError) → LocaleTextReads t r → (f : Fault) →
+    HasFault languages t f → Refuses ⊤ f r
 reads_refuses t r h = refuses value_of ⊤ (locales_judge t) r h
 
-pub reads_narrow : (t : List ℕ) (r : Result Locale ParseError) → LocaleTextReads t r → (M : meaning.Locale) → Means two_or_three t M → Accepts value_of ⊤ M r
+pub reads_narrow : (t : List ℕ) (r : Result Locale ParseError) → LocaleTextReads t r → (M : meaning.Locale) →
+    Means two_or_three t M → Accepts value_of ⊤ M r
 reads_narrow t r h M m = reads_accepts t r h M (means_ours t M m)

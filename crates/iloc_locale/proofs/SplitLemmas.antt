@@ -1,9 +1,11 @@
 -- Where the others are cut, and the pieces of all parts.
-use Rattle.std.proofs.Common.{◌≡◌, ℕ, suc, ◌+◌, ◌<◌, ◌≤◌, true, false, cond, List, [], ◌∷◌, ◌++◌, take, drop, flat_map, nat_le, refl, sym, ap, ◌∙◌, arith, append-nil}
+use Rattle.std.proofs.Common.{◌≡◌, ℕ, suc, ◌+◌, ◌<◌, ◌≤◌, true, false, cond, List, [], ◌∷◌, ◌++◌, take, drop}
+use Rattle.std.proofs.Common.{flat_map, nat_le, refl, sym, ap, ◌∙◌, arith, append-nil}
 use Rattle.std.proofs.lemmas.Bool.Decides.{nat_tests}
 use Rattle.iloc_spec_grammar.specs.Syntax.{Unicode, Transform}
 use Rattle.iloc_spec_grammar.specs.Meaning.{Extensions}
-use Rattle.iloc_spec_grammar.specs.Values.{before_above, other_spelling, transform_spelling, unicode_spelling, private_spelling, extensions_spelling}
+use Rattle.iloc_spec_grammar.specs.Values.{before_above, other_spelling, transform_spelling, unicode_spelling}
+use Rattle.iloc_spec_grammar.specs.Values.{private_spelling, extensions_spelling}
 use Rattle.iloc_spec_grammar.proofs.PartTexts.{spelling_around}
 
 abbrev Others : Type 0
@@ -16,11 +18,14 @@ count (o ∷ os) = cond (nat_le o.0 116) (suc (count os)) 0
 
 pub count_hit : (o : ℕ × List (List ℕ)) (os : Others) → 116 < o.0 → count (o ∷ os) ≡ 0
 unfolding count
-count_hit o os h = let above : nat_le o.0 116 ≡ false = grind (arith, nat_tests) in ap (λ b. cond b (suc (count os)) 0) above
+count_hit o os h =
+    let above : nat_le o.0 116 ≡ false = grind (arith, nat_tests) in ap (λ b. cond b (suc (count os)) 0) above
 
 pub count_miss : (o : ℕ × List (List ℕ)) (os : Others) → o.0 ≤ 116 → count (o ∷ os) ≡ count os + 1
 unfolding count
-count_miss o os h = let next : suc (count os) ≡ count os + 1 = omega arith in let below : nat_le o.0 116 ≡ true = grind (arith, nat_tests) in ap (λ b. cond b (suc (count os)) 0) below ∙ next
+count_miss o os h = let next : suc (count os) ≡ count os + 1 = omega arith in
+    let below : nat_le o.0 116 ≡ true = grind (arith, nat_tests) in
+    ap (λ b. cond b (suc (count os)) 0) below ∙ next
 
 pub count_none : count [] ≡ 0
 unfolding count
@@ -30,11 +35,21 @@ count_none = refl
 pub split_there : (bs os : Others) → before_above bs os ≡ take (count os) os ++ (bs ++ drop (count os) os)
 unfolding count
 split_there bs [] = sym (append-nil bs)
-split_there bs (o ∷ os) = elim (nat_le o.0 116) as (λ b. cond b (o ∷ before_above bs os) (bs ++ (o ∷ os)) ≡ take (cond b (suc (count os)) 0) (o ∷ os) ++ (bs ++ drop (cond b (suc (count os)) 0) (o ∷ os))) [ true ↦ ap (λ xs. o ∷ xs) (split_there bs os) | false ↦ refl ]
+split_there bs (o ∷ os) = elim (nat_le o.0 116)
+    as (λ b. cond b (o ∷ before_above bs os) (bs ++ (o ∷ os))
+    ≡ take (cond b (suc (count os)) 0) (o ∷ os) ++ (bs ++ drop (cond b (suc (count os)) 0) (o ∷ os)))
+    [ true ↦ ap (λ xs. o ∷ xs) (split_there bs os) | false ↦ refl ]
 
 -- the pieces of the parts, the others in two
-pub parts_pieces : (e : Extensions) (before after : Others) (t : Transform) (u : Unicode) (x : List (List ℕ)) → ((bs : Others) → before_above bs e.others ≡ before ++ (bs ++ after)) → t ≡ e.transform → u ≡ e.unicode → x ≡ e.private
-    → flat_map other_spelling before ++ (transform_spelling t ++ (unicode_spelling u ++ (flat_map other_spelling after ++ private_spelling x))) ≡ extensions_spelling e
+pub parts_pieces : (e : Extensions) (before after : Others) (t : Transform) (u : Unicode)
+    (x : List (List ℕ)) →
+    ((bs : Others) → before_above bs e.others ≡ before ++ (bs ++ after)) → t ≡ e.transform → u ≡ e.unicode →
+    x ≡ e.private
+    → flat_map other_spelling before
+    ++ (transform_spelling t ++ (unicode_spelling u ++ (flat_map other_spelling after ++ private_spelling x)))
+    ≡ extensions_spelling e
 parts_pieces e before after t u x others a b c =
-    (λ k. flat_map other_spelling before ++ (transform_spelling (a k) ++ (unicode_spelling (b k) ++ (flat_map other_spelling after ++ private_spelling (c k)))))
+    (λ k. flat_map other_spelling before
+    ++ (transform_spelling (a k)
+    ++ (unicode_spelling (b k) ++ (flat_map other_spelling after ++ private_spelling (c k)))))
     ∙ sym (spelling_around e before after others)

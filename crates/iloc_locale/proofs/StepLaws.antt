@@ -1,6 +1,7 @@
 -- One step of the reader of blocks: a block that is read, and a block that is refused.
 use Rattle.std.proofs.lemmas.Bool.{both_ways}
-use Rattle.std.proofs.Common.{◌≡◌, ◌⊎◌, inl, inr, ℕ, true, false, cond, ◌==◌, List, [], ◌∷◌, map, refl, sym, ap, ◌∙◌, subst, arith, Some}
+use Rattle.std.proofs.Common.{◌≡◌, ◌⊎◌, inl, inr, ℕ, true, false, cond, ◌==◌, List, [], ◌∷◌, map, refl, sym}
+use Rattle.std.proofs.Common.{ap, ◌∙◌, subst, arith, Some}
 use Rattle.std.specs.List.{AllByRecursion, list_any}
 use Rattle.std.specs.Char.{is_ascii_alphanumeric}
 use Rattle.std.specs.Ordering.{nat_cmp, eq_by_cmp}
@@ -36,7 +37,8 @@ is_no_other c k e h = at h
     at (inr (inl a)) = with_t c (e ∙ a)
     at (inr (inr a)) = with_x c (e ∙ a)
 
-no_other : (c q : ℕ) → is_other_singleton c ≡ true → (q ≡ 117) ⊎ ((q ≡ 116) ⊎ (q ≡ 120)) → eq_by_cmp nat_cmp q c ≡ false
+no_other : (c q : ℕ) → is_other_singleton c ≡ true → (q ≡ 117) ⊎ ((q ≡ 116) ⊎ (q ≡ 120)) →
+    eq_by_cmp nat_cmp q c ≡ false
 no_other c q o h = at h
   where
     u_no : (c q : ℕ) → q ≡ 117 → is_other_singleton c ≡ true → eq_by_cmp nat_cmp q c ≡ false
@@ -57,37 +59,56 @@ differ : (m n : ℕ) → ((m == n) ≡ false) → m ≡ n → ⊥
 differ m n h e = grind (arith, nat_tests)
 
 -- What a new block adds to what was read.
-module _ {R : Rules} {ds : List (ℕ × List (List ℕ))} {M : Extensions} (b : ℕ × List (List ℕ)) (m : BlocksGive R ds M)
-    (l : is_ascii_alphanumeric b.0 ≡ true) (n : list_any (eq_by_cmp nat_cmp (lower_singleton b)) (map (λ d. lower_singleton d) ds) ≡ false) where
+module _ {R : Rules} {ds : List (ℕ × List (List ℕ))} {M : Extensions} (b : ℕ × List (List ℕ))
+    (m : BlocksGive R ds M)
+    (l : is_ascii_alphanumeric b.0 ≡ true)
+    (n : list_any (eq_by_cmp nat_cmp (lower_singleton b)) (map (λ d. lower_singleton d) ds) ≡ false) where
   present : (q : ℕ) → lower_singleton b ≡ q → find nat_cmp q (by_singleton (b ∷ ds)) ≡ Some b.1
-  present q e = ap (λ t. cond t (Some b.1) (find nat_cmp q (by_singleton ds))) (tied_itself q (lower_singleton b) e)
+  present q e =
+      ap (λ t. cond t (Some b.1) (find nat_cmp q (by_singleton ds))) (tied_itself q (lower_singleton b) e)
 
-  absent : (q : ℕ) → eq_by_cmp nat_cmp q (lower_singleton b) ≡ false → find nat_cmp q (by_singleton (b ∷ ds)) ≡ find nat_cmp q (by_singleton ds)
+  absent : (q : ℕ) → eq_by_cmp nat_cmp q (lower_singleton b) ≡ false →
+      find nat_cmp q (by_singleton (b ∷ ds)) ≡ find nat_cmp q (by_singleton ds)
   absent q e = ap (λ t. cond t (Some b.1) (find nat_cmp q (by_singleton ds))) e
 
-  same_others : is_other_singleton (lower_singleton b) ≡ false → other_blocks (by_singleton (b ∷ ds)) ≡ other_blocks (by_singleton ds)
-  same_others e = ap (λ t. cond t ((lower_singleton b, b.1) ∷ other_blocks (by_singleton ds)) (other_blocks (by_singleton ds))) e
+  same_others : is_other_singleton (lower_singleton b) ≡ false →
+      other_blocks (by_singleton (b ∷ ds)) ≡ other_blocks (by_singleton ds)
+  same_others e = ap (λ t.
+      cond t ((lower_singleton b, b.1) ∷ other_blocks (by_singleton ds)) (other_blocks (by_singleton ds))) e
 
-  more_others : is_other_singleton (lower_singleton b) ≡ true → other_blocks (by_singleton (b ∷ ds)) ≡ (lower_singleton b, b.1) ∷ other_blocks (by_singleton ds)
-  more_others e = ap (λ t. cond t ((lower_singleton b, b.1) ∷ other_blocks (by_singleton ds)) (other_blocks (by_singleton ds))) e
+  more_others : is_other_singleton (lower_singleton b) ≡ true →
+      other_blocks (by_singleton (b ∷ ds)) ≡ (lower_singleton b, b.1) ∷ other_blocks (by_singleton ds)
+  more_others e = ap (λ t.
+      cond t ((lower_singleton b, b.1) ∷ other_blocks (by_singleton ds)) (other_blocks (by_singleton ds))) e
 
   -- the part of another singleton stays; that of this one is given
-  part_kept : {X : Type 0} (Rule : List (List ℕ) → X → Type 0) (empty v : X) (k q : ℕ) → lower_singleton b ≡ q → (q == k) ≡ false → PartIs Rule empty (find nat_cmp k (by_singleton ds)) v → PartIs Rule empty (find nat_cmp k (by_singleton (b ∷ ds))) v
-  part_kept Rule empty v k q e d = subst (λ o. PartIs Rule empty o v) (sym (absent k (tied_no k q (lower_singleton b) e (differ q k d))))
+  part_kept : {X : Type 0} (Rule : List (List ℕ) → X → Type 0) (empty v : X) (k q : ℕ) →
+      lower_singleton b ≡ q → (q == k) ≡ false → PartIs Rule empty (find nat_cmp k (by_singleton ds)) v →
+      PartIs Rule empty (find nat_cmp k (by_singleton (b ∷ ds))) v
+  part_kept Rule empty v k q e d =
+      subst (λ o. PartIs Rule empty o v) (sym (absent k (tied_no k q (lower_singleton b) e (differ q k d))))
 
-  part_given : {X : Type 0} (Rule : List (List ℕ) → X → Type 0) (empty v : X) (q : ℕ) → lower_singleton b ≡ q → Rule b.1 v → PartIs Rule empty (find nat_cmp q (by_singleton (b ∷ ds))) v
+  part_given : {X : Type 0} (Rule : List (List ℕ) → X → Type 0) (empty v : X) (q : ℕ) →
+      lower_singleton b ≡ q → Rule b.1 v → PartIs Rule empty (find nat_cmp q (by_singleton (b ∷ ds))) v
   part_given Rule empty v q e h = subst (λ o. PartIs Rule empty o v) (sym (present q e)) h
 
-  part_beside : {X : Type 0} (Rule : List (List ℕ) → X → Type 0) (empty v : X) (k : ℕ) → is_other_singleton (lower_singleton b) ≡ true → (k ≡ 117) ⊎ ((k ≡ 116) ⊎ (k ≡ 120)) → PartIs Rule empty (find nat_cmp k (by_singleton ds)) v → PartIs Rule empty (find nat_cmp k (by_singleton (b ∷ ds))) v
-  part_beside Rule empty v k o h = subst (λ o. PartIs Rule empty o v) (sym (absent k (no_other (lower_singleton b) k o h)))
+  part_beside : {X : Type 0} (Rule : List (List ℕ) → X → Type 0) (empty v : X) (k : ℕ) →
+      is_other_singleton (lower_singleton b) ≡ true → (k ≡ 117) ⊎ ((k ≡ 116) ⊎ (k ≡ 120)) →
+      PartIs Rule empty (find nat_cmp k (by_singleton ds)) v →
+      PartIs Rule empty (find nat_cmp k (by_singleton (b ∷ ds))) v
+  part_beside Rule empty v k o h =
+      subst (λ o. PartIs Rule empty o v) (sym (absent k (no_other (lower_singleton b) k o h)))
 
-  rules_kept : is_other_singleton (lower_singleton b) ≡ false → AllByRecursion (λ b. R.other b.1 (kept b.1)) (other_blocks (by_singleton (b ∷ ds)))
+  rules_kept : is_other_singleton (lower_singleton b) ≡ false →
+      AllByRecursion (λ b. R.other b.1 (kept b.1)) (other_blocks (by_singleton (b ∷ ds)))
   rules_kept e = subst (AllByRecursion (λ b. R.other b.1 (kept b.1))) (sym (same_others e)) m.each_other
 
-  others_kept : is_other_singleton (lower_singleton b) ≡ false → M.others ≡ map_of nat_cmp (map (λ b. (b.0, kept b.1)) (other_blocks (by_singleton (b ∷ ds))))
+  others_kept : is_other_singleton (lower_singleton b) ≡ false →
+      M.others ≡ map_of nat_cmp (map (λ b. (b.0, kept b.1)) (other_blocks (by_singleton (b ∷ ds))))
   others_kept e = m.others ∙ ap (λ bs. map_of nat_cmp (map (λ b. (b.0, kept b.1)) bs)) (sym (same_others e))
 
-  pub unicode_added : lower_singleton b ≡ 117 → (v : Unicode) → R.unicode b.1 v → BlocksGive R (b ∷ ds) (record M { unicode = v })
+  pub unicode_added : lower_singleton b ≡ 117 → (v : Unicode) → R.unicode b.1 v →
+      BlocksGive R (b ∷ ds) (record M { unicode = v })
   unicode_added e v h = record {
     letters = (l, m.letters);
     different = (both_ways _ n, m.different);
@@ -98,7 +119,8 @@ module _ {R : Rules} {ds : List (ℕ × List (List ℕ))} {M : Extensions} (b : 
     others = others_kept (is_no_other (lower_singleton b) 117 e (inl refl));
   }
 
-  pub transform_added : lower_singleton b ≡ 116 → (v : Transform) → R.transform b.1 v → BlocksGive R (b ∷ ds) (record M { transform = v })
+  pub transform_added : lower_singleton b ≡ 116 → (v : Transform) → R.transform b.1 v →
+      BlocksGive R (b ∷ ds) (record M { transform = v })
   transform_added e v h = record {
     letters = (l, m.letters);
     different = (both_ways _ n, m.different);
@@ -109,7 +131,8 @@ module _ {R : Rules} {ds : List (ℕ × List (List ℕ))} {M : Extensions} (b : 
     others = others_kept (is_no_other (lower_singleton b) 116 e (inr (inl refl)));
   }
 
-  pub private_added : lower_singleton b ≡ 120 → (v : List (List ℕ)) → R.private b.1 v → BlocksGive R (b ∷ ds) (record M { private = v })
+  pub private_added : lower_singleton b ≡ 120 → (v : List (List ℕ)) → R.private b.1 v →
+      BlocksGive R (b ∷ ds) (record M { private = v })
   private_added e v h = record {
     letters = (l, m.letters);
     different = (both_ways _ n, m.different);
@@ -120,7 +143,8 @@ module _ {R : Rules} {ds : List (ℕ × List (List ℕ))} {M : Extensions} (b : 
     others = others_kept (is_no_other (lower_singleton b) 120 e (inr (inr refl)));
   }
 
-  pub other_added : is_other_singleton (lower_singleton b) ≡ true → R.other b.1 (kept b.1) → BlocksGive R (b ∷ ds) (record M { others = put nat_cmp (lower_singleton b) (kept b.1) M.others })
+  pub other_added : is_other_singleton (lower_singleton b) ≡ true → R.other b.1 (kept b.1) →
+      BlocksGive R (b ∷ ds) (record M { others = put nat_cmp (lower_singleton b) (kept b.1) M.others })
   other_added o h = record {
     letters = (l, m.letters);
     different = (both_ways _ n, m.different);
@@ -128,5 +152,6 @@ module _ {R : Rules} {ds : List (ℕ × List (List ℕ))} {M : Extensions} (b : 
     transform = part_beside R.transform no_transform M.transform 116 o (inr (inl refl)) m.transform;
     private = part_beside R.private [] M.private 120 o (inr (inr refl)) m.private;
     each_other = subst (AllByRecursion (λ b. R.other b.1 (kept b.1))) (sym (more_others o)) (h, m.each_other);
-    others = ap (put nat_cmp (lower_singleton b) (kept b.1)) m.others ∙ ap (λ bs. map_of nat_cmp (map (λ b. (b.0, kept b.1)) bs)) (sym (more_others o));
+    others = ap (put nat_cmp (lower_singleton b) (kept b.1)) m.others
+        ∙ ap (λ bs. map_of nat_cmp (map (λ b. (b.0, kept b.1)) bs)) (sym (more_others o));
   }

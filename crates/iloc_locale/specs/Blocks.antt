@@ -1,9 +1,11 @@
 -- What it takes to read the blocks after the head of a locale, one after the other. Restates UTS
 -- #35, section 3: the extensions and the private part of unicode_locale_id.
-use Rattle.std.specs.Prelude.{◌≡◌, ℕ, Bool, true, false, not, ◌&&◌, ◌==◌, List, [], ◌∷◌, length, is_some, if◌then◌else◌, Result}
+use Rattle.std.specs.Prelude.{◌≡◌, ℕ, Bool, true, false, not, ◌&&◌, ◌==◌, List, [], ◌∷◌, length, is_some}
+use Rattle.std.specs.Prelude.{if◌then◌else◌, Result}
 use Rattle.std.specs.Char.{is_ascii_alphanumeric, to_ascii_lowercase}
 use Rattle.std.specs.List.{list_any}
-use Rattle.iloc_spec_grammar.specs.Syntax.{Text, LanguageLengths, Block, code_t, code_u, code_x, languages, blocks}
+use Rattle.iloc_spec_grammar.specs.Syntax.{Text, LanguageLengths, Block, code_t, code_u, code_x, languages}
+use Rattle.iloc_spec_grammar.specs.Syntax.{blocks}
 use Rattle.iloc_spec_grammar.specs.Meaning.{Extensions, BlocksMean, HasBlockFault}
 use Rattle.iloc_spec_grammar.specs.Reading.{starts_block}
 use Rattle.iloc_spec_parts.specs.Inline.{ReachesLongBlock}

@@ -3,7 +3,8 @@ use Rattle.std.specs.Prelude.{◌≡◌, Bool, [], if◌then◌else◌}
 use Rattle.std.specs.List.Retain.{IsFiltered}
 use Rattle.iloc_spec_grammar.specs.Meaning.{Extensions, no_unicode, no_transform}
 use Rattle.iloc_locale.specs.declared.extension_type.ExtensionType.{ExtensionType}
-use Rattle.iloc_locale.specs.declared.extension_type.ExtensionType.TheVariants.{Transform, Unicode, Private, Other}
+use Rattle.iloc_locale.specs.declared.extension_type.ExtensionType.TheVariants.{Transform, Unicode, Private}
+use Rattle.iloc_locale.specs.declared.extension_type.ExtensionType.TheVariants.{Other}
 
 -- A predicate that started as f was asked of the unicode extension, of the transform, of the
 -- private one and of each other in list order, each call starting where the last one ended. What it

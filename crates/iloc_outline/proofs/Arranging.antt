@@ -1,5 +1,7 @@
 -- Items in the order of their numbers, and one more behind them.
-use Rattle.std.proofs.Common.{◌≡◌, ℕ, zero, suc, ◌+◌, ◌<◌, ◌≤◌, Bool, true, false, cond, List, [], ◌∷◌, ◌++◌, length, map, take, drop, refl, sym, ap, ◌∙◌, arith, append-nil, Some, None, true≢false, slice_index, inl, inr}
+use Rattle.std.proofs.Common.{◌≡◌, ℕ, zero, suc, ◌+◌, ◌<◌, ◌≤◌, Bool, true, false, cond, List, [], ◌∷◌, ◌++◌}
+use Rattle.std.proofs.Common.{length, map, take, drop, refl, sym, ap, ◌∙◌, arith, append-nil, Some, None}
+use Rattle.std.proofs.Common.{true≢false, slice_index, inl, inr}
 use Rattle.std.specs.declared.option.Option.{Option}
 use Rattle.std.specs.Option.{option_or}
 use Rattle.std.specs.Prelude.{is_some}
@@ -9,13 +11,15 @@ use Rattle.std.specs.declared.cmp.Ordering.{Ordering}
 use Rattle.std.specs.declared.cmp.Ordering.TheVariants.{Less, Equal, Greater}
 use Rattle.std.specs.Cmp.{nat_cmp_is, nat_cmp_total, ranked}
 use Rattle.std.specs.FinMap.{put, find, is_sorted, nat_cmp-IsAntisymmetric}
-use Rattle.std.specs.FinMap.Entries.{by_order, below_all, is_sorted-put, find-put, find_tied, same_entries, length-put, is_some-find}
+use Rattle.std.specs.FinMap.Entries.{by_order, below_all, is_sorted-put, find-put, find_tied, same_entries}
+use Rattle.std.specs.FinMap.Entries.{length-put, is_some-find}
 use Rattle.std.specs.FinMap.Entries as Entries
 use Rattle.std.proofs.lemmas.Bool.{and_parts, and_from, cases_lt}
 use Rattle.std.proofs.lemmas.List.{map-append, take-append-drop, drop_all}
 use Rattle.iloc_spec_grammar.specs.Syntax.{IsAmong}
 use Rattle.iloc_spec_grammar.specs.Meaning.{map_of}
-use Rattle.iloc_spec_grammar.proofs.MapLaws.{less, all-map_of, sorted-map_of, is_sorted-map_of, find-map_of, map_of_same}
+use Rattle.iloc_spec_grammar.proofs.MapLaws.{less, all-map_of, sorted-map_of, is_sorted-map_of, find-map_of}
+use Rattle.iloc_spec_grammar.proofs.MapLaws.{map_of_same}
 use Rattle.iloc_spec_grammar.proofs.SetLaws.{find-append}
 
 -- ---- numbers as keys
@@ -38,45 +42,60 @@ module _ {X : Type 0} where
   map_of_there : (es : List (ℕ × X)) (k : ℕ) (v x : X) → find nat_cmp k (map_of nat_cmp es) ≡ Some x
       → map_of nat_cmp (es ++ (k, v) ∷ []) ≡ map_of nat_cmp es
   map_of_there es k v x e =
-      map_of_same nat_cmp nat_cmp_total nat_cmp-IsAntisymmetric _ _ (λ q. find-append nat_cmp q es ((k, v) ∷ []) ∙ at q (eq_by_cmp nat_cmp q k) refl)
+      map_of_same nat_cmp nat_cmp_total nat_cmp-IsAntisymmetric _ _
+      (λ q. find-append nat_cmp q es ((k, v) ∷ []) ∙ at q (eq_by_cmp nat_cmp q k) refl)
     where
-      at : (q : ℕ) (b : Bool) → eq_by_cmp nat_cmp q k ≡ b → option_or (find nat_cmp q es) (cond (eq_by_cmp nat_cmp q k) (Some v) None) ≡ find nat_cmp q es
-      at q true t = some_or _ _ x (sym (find_tied nat_cmp nat_cmp_total q k (tie (nat_cmp q k) t) es) ∙ sym (find-map_of nat_cmp nat_cmp_total k es) ∙ e)
+      at : (q : ℕ) (b : Bool) → eq_by_cmp nat_cmp q k ≡ b →
+          option_or (find nat_cmp q es) (cond (eq_by_cmp nat_cmp q k) (Some v) None) ≡ find nat_cmp q es
+      at q true t = some_or _ _ x (sym (find_tied nat_cmp nat_cmp_total q k (tie (nat_cmp q k) t) es)
+          ∙ sym (find-map_of nat_cmp nat_cmp_total k es) ∙ e)
         where
           tie : (r : Ordering) → is_eq r ≡ true → r ≡ Equal
           tie Equal p = refl
           tie Less p = absurd (true≢false (sym p))
           tie Greater p = absurd (true≢false (sym p))
-      at q false t = ap (λ b. option_or (find nat_cmp q es) (cond b (Some v) None)) t ∙ or_none (find nat_cmp q es)
+      at q false t =
+          ap (λ b. option_or (find nat_cmp q es) (cond b (Some v) None)) t ∙ or_none (find nat_cmp q es)
 
   -- none is there: it is put into the map
   map_of_new : (es : List (ℕ × X)) (k : ℕ) (v : X) → find nat_cmp k (map_of nat_cmp es) ≡ None
       → map_of nat_cmp (es ++ (k, v) ∷ []) ≡ put nat_cmp k v (map_of nat_cmp es)
   map_of_new es k v e =
-      same_entries nat_cmp nat_cmp_total nat_cmp-IsAntisymmetric _ _ (sorted-map_of nat_cmp nat_cmp_total (es ++ (k, v) ∷ []))
+      same_entries nat_cmp nat_cmp_total nat_cmp-IsAntisymmetric _ _
+      (sorted-map_of nat_cmp nat_cmp_total (es ++ (k, v) ∷ []))
       (is_sorted-put nat_cmp nat_cmp_total k v (map_of nat_cmp es) (sorted-map_of nat_cmp nat_cmp_total es))
-      (λ q. find-map_of nat_cmp nat_cmp_total q (es ++ (k, v) ∷ []) ∙ Entries.find-append nat_cmp nat_cmp_total es k v q (sym (find-map_of nat_cmp nat_cmp_total k es) ∙ e)
-      ∙ sym (find-put nat_cmp nat_cmp_total q k v (map_of nat_cmp es) ∙ ap (cond (eq_by_cmp nat_cmp q k) (Some v)) (find-map_of nat_cmp nat_cmp_total q es)))
+      (λ q. find-map_of nat_cmp nat_cmp_total q (es ++ (k, v) ∷ [])
+      ∙ Entries.find-append nat_cmp nat_cmp_total es k v q (sym (find-map_of nat_cmp nat_cmp_total k es) ∙ e)
+      ∙ sym (find-put nat_cmp nat_cmp_total q k v (map_of nat_cmp es)
+      ∙ ap (cond (eq_by_cmp nat_cmp q k) (Some v)) (find-map_of nat_cmp nat_cmp_total q es)))
 
   -- all keys are less
   abbrev IsAbove : ℕ → List (ℕ × X) → Type 0
   IsAbove k es = AllByRecursion (λ e. e.0 < k) es
 
-  put_between : (k : ℕ) (v : X) (front back : List (ℕ × X)) → IsAbove k front → below_all nat_cmp k back ≡ true → put nat_cmp k v (front ++ back) ≡ front ++ (k, v) ∷ back
+  put_between : (k : ℕ) (v : X) (front back : List (ℕ × X)) → IsAbove k front →
+      below_all nat_cmp k back ≡ true → put nat_cmp k v (front ++ back) ≡ front ++ (k, v) ∷ back
   put_between k v [] [] a b = refl
-  put_between k v [] (e ∷ es) a b = ap (λ r. by_order r ((k, v) ∷ e ∷ es) ((e.0, v) ∷ es) (e ∷ put nat_cmp k v es)) (less _ (and_parts _ _ b).0)
+  put_between k v [] (e ∷ es) a b =
+      ap (λ r. by_order r ((k, v) ∷ e ∷ es) ((e.0, v) ∷ es) (e ∷ put nat_cmp k v es))
+      (less _ (and_parts _ _ b).0)
   put_between k v (f ∷ front) back a b =
-      ap (λ r. by_order r ((k, v) ∷ f ∷ (front ++ back)) ((f.0, v) ∷ (front ++ back)) (f ∷ put nat_cmp k v (front ++ back))) (greater k f.0 a.0)
+      ap (λ r. by_order r ((k, v) ∷ f ∷ (front ++ back)) ((f.0, v) ∷ (front ++ back))
+      (f ∷ put nat_cmp k v (front ++ back))) (greater k f.0 a.0)
       ∙ ap (λ l. f ∷ l) (put_between k v front back a.1 b)
 
-  find_between : (k : ℕ) (front back : List (ℕ × X)) → IsAbove k front → below_all nat_cmp k back ≡ true → find nat_cmp k (front ++ back) ≡ None
+  find_between : (k : ℕ) (front back : List (ℕ × X)) → IsAbove k front → below_all nat_cmp k back ≡ true →
+      find nat_cmp k (front ++ back) ≡ None
   find_between k [] [] a b = refl
   find_between k [] (e ∷ es) a b =
-      ap (λ r. cond (is_eq r) (Some e.1) (find nat_cmp k es)) (less _ (and_parts _ _ b).0) ∙ find_between k [] es tt (and_parts _ _ b).1
+      ap (λ r. cond (is_eq r) (Some e.1) (find nat_cmp k es)) (less _ (and_parts _ _ b).0)
+      ∙ find_between k [] es tt (and_parts _ _ b).1
   find_between k (f ∷ front) back a b =
-      ap (λ r. cond (is_eq r) (Some f.1) (find nat_cmp k (front ++ back))) (greater k f.0 a.0) ∙ find_between k front back a.1 b
+      ap (λ r. cond (is_eq r) (Some f.1) (find nat_cmp k (front ++ back))) (greater k f.0 a.0)
+      ∙ find_between k front back a.1 b
 
-  below_less : (k l : ℕ) (es : List (ℕ × X)) → k < l → below_all nat_cmp l es ≡ true → below_all nat_cmp k es ≡ true
+  below_less : (k l : ℕ) (es : List (ℕ × X)) → k < l → below_all nat_cmp l es ≡ true →
+      below_all nat_cmp k es ≡ true
   below_less k l [] p h = refl
   below_less k l (e ∷ es) p h =
       let parts = and_parts _ _ h in
@@ -93,7 +112,8 @@ module _ {X : Type 0} (word : X → ℕ) where
   abbrev pub arranged : List X → List X
   arranged xs = map (λ (_, x). x) (map_of nat_cmp (numbered xs))
 
-  renumbered : (es : List (ℕ × X)) → AllByRecursion (λ e. e.0 ≡ word e.1) es → numbered (map (λ (_, x). x) es) ≡ es
+  renumbered : (es : List (ℕ × X)) → AllByRecursion (λ e. e.0 ≡ word e.1) es →
+      numbered (map (λ (_, x). x) es) ≡ es
   renumbered [] h = refl
   renumbered (e ∷ es) h = λ i. (sym h.0 i, e.1) ∷ renumbered es h.1 i
 
@@ -103,22 +123,26 @@ module _ {X : Type 0} (word : X → ℕ) where
 
   numbered-arranged : (xs : List X) → numbered (arranged xs) ≡ map_of nat_cmp (numbered xs)
   numbered-arranged xs =
-      renumbered (map_of nat_cmp (numbered xs)) (all-map_of nat_cmp nat_cmp-IsAntisymmetric (λ e. e.0 ≡ word e.1) (numbered xs) (all_numbered xs))
+      renumbered (map_of nat_cmp (numbered xs))
+      (all-map_of nat_cmp nat_cmp-IsAntisymmetric (λ e. e.0 ≡ word e.1) (numbered xs) (all_numbered xs))
 
   arranged-numbered : (ss : List X) (es : List (ℕ × X)) → numbered ss ≡ es → map (λ (_, x). x) es ≡ ss
   arranged-numbered [] es e = ap (map (λ (_, x). x)) (sym e)
-  arranged-numbered (s ∷ ss) es e = ap (map (λ (_, x). x)) (sym e) ∙ ap (λ l. s ∷ l) (arranged-numbered ss (numbered ss) refl)
+  arranged-numbered (s ∷ ss) es e =
+      ap (map (λ (_, x). x)) (sym e) ∙ ap (λ l. s ∷ l) (arranged-numbered ss (numbered ss) refl)
 
   -- the number of an item
   abbrev pub nth : List X → ℕ → ℕ
   nth xs i = slice_index (map word xs) i
 
-  below_at : (k : ℕ) (xs : List X) (i : ℕ) → below_all nat_cmp k (numbered xs) ≡ true → i < length xs → k < nth xs i
+  below_at : (k : ℕ) (xs : List X) (i : ℕ) → below_all nat_cmp k (numbered xs) ≡ true → i < length xs →
+      k < nth xs i
   below_at k [] i h l = absurd (omega arith)
   below_at k (x ∷ xs) zero h l = ranked k (word x) Less (sym (less _ (and_parts _ _ h).0))
   below_at k (x ∷ xs) (suc i) h l = below_at k xs i (and_parts _ _ h).1 (omega arith)
 
-  above_at : (w : ℕ) (xs : List X) (i : ℕ) → is_sorted nat_cmp (numbered xs) ≡ true → i < length xs → nth xs i < w → IsAbove w (numbered (take (suc i) xs))
+  above_at : (w : ℕ) (xs : List X) (i : ℕ) → is_sorted nat_cmp (numbered xs) ≡ true → i < length xs →
+      nth xs i < w → IsAbove w (numbered (take (suc i) xs))
   above_at w [] i h l p = absurd (omega arith)
   above_at w (x ∷ xs) zero h l p = (p, tt)
   above_at w (x ∷ xs) (suc i) h l p =
@@ -126,18 +150,28 @@ module _ {X : Type 0} (word : X → ℕ) where
       let first : word x < nth xs i = below_at (word x) xs i parts.0 (omega arith) in
       (omega arith, above_at w xs i parts.1 (omega arith) p)
 
-  below_from : (w : ℕ) (xs : List X) (i : ℕ) → is_sorted nat_cmp (numbered xs) ≡ true → i < length xs → w < nth xs i → below_all nat_cmp w (numbered (drop i xs)) ≡ true
+  below_from : (w : ℕ) (xs : List X) (i : ℕ) → is_sorted nat_cmp (numbered xs) ≡ true → i < length xs →
+      w < nth xs i → below_all nat_cmp w (numbered (drop i xs)) ≡ true
   below_from w [] i h l p = absurd (omega arith)
-  below_from w (x ∷ xs) zero h l p = and_from _ _ (ap is_lt (lesser w (word x) p)) (below_less w (word x) (numbered xs) p (and_parts _ _ h).0)
+  below_from w (x ∷ xs) zero h l p = and_from _ _ (ap is_lt (lesser w (word x) p))
+      (below_less w (word x) (numbered xs) p (and_parts _ _ h).0)
   below_from w (x ∷ xs) (suc i) h l p = below_from w xs i (and_parts _ _ h).1 (omega arith) p
 
-  found_at : (xs : List X) (i : ℕ) → is_sorted nat_cmp (numbered xs) ≡ true → i < length xs → (y : X) × (find nat_cmp (nth xs i) (numbered xs) ≡ Some y)
+  found_at : (xs : List X) (i : ℕ) → is_sorted nat_cmp (numbered xs) ≡ true → i < length xs →
+      (y : X) × (find nat_cmp (nth xs i) (numbered xs) ≡ Some y)
   found_at [] i h l = absurd (omega arith)
-  found_at (x ∷ xs) zero h l = (x, ap (λ r. cond (is_eq r) (Some x) (find nat_cmp (word x) (numbered xs))) (sym (nat_cmp_is (word x) (word x) Equal refl)))
+  found_at (x ∷ xs) zero h l = (
+    x,
+    ap (λ r. cond (is_eq r) (Some x) (find nat_cmp (word x) (numbered xs)))
+        (sym (nat_cmp_is (word x) (word x) Equal refl)),
+  )
   found_at (x ∷ xs) (suc i) h l =
       let first : word x < nth xs i = below_at (word x) xs i (and_parts _ _ h).0 (omega arith) in
-      let rest = found_at xs i (and_parts _ _ h).1 (omega arith) in
-      (rest.0, ap (λ r. cond (is_eq r) (Some x) (find nat_cmp (nth xs i) (numbered xs))) (greater _ _ first) ∙ rest.1)
+      let rest = found_at xs i (and_parts _ _ h).1 (omega arith) in (
+        rest.0,
+        ap (λ r. cond (is_eq r) (Some x) (find nat_cmp (nth xs i) (numbered xs))) (greater _ _ first)
+            ∙ rest.1,
+      )
 
   -- the number is between those of the items before the place and those from it on
   pub record IsPlace (xs : List X) (w i : ℕ) : Type 0 where
@@ -146,7 +180,8 @@ module _ {X : Type 0} (word : X → ℕ) where
     pub before : i < length xs → w < nth xs i
 
   sorted : (xs : List X) → is_sorted nat_cmp (numbered (arranged xs)) ≡ true
-  sorted xs = ap (is_sorted nat_cmp) (numbered-arranged xs) ∙ is_sorted-map_of nat_cmp nat_cmp_total (numbered xs)
+  sorted xs =
+      ap (is_sorted nat_cmp) (numbered-arranged xs) ∙ is_sorted-map_of nat_cmp nat_cmp_total (numbered xs)
 
   numbered-more : (xs : List X) (x : X) → numbered (xs ++ x ∷ []) ≡ numbered xs ++ (word x, x) ∷ []
   numbered-more xs x = map-append (λ y. (word y, y)) xs (x ∷ [])
@@ -171,20 +206,24 @@ module _ {X : Type 0} (word : X → ℕ) where
       ∙ ap is_some ((λ j. find nat_cmp (sym e j) (sym (numbered-arranged xs) j)) ∙ there.1)
 
   -- one more whose number is there is left out
-  pub arranged_there : (xs : List X) (x : X) (i : ℕ) → i < length (arranged xs) → nth (arranged xs) i ≡ word x → arranged (xs ++ x ∷ []) ≡ arranged xs
+  pub arranged_there : (xs : List X) (x : X) (i : ℕ) → i < length (arranged xs) →
+      nth (arranged xs) i ≡ word x → arranged (xs ++ x ∷ []) ≡ arranged xs
   arranged_there xs x i l e =
       let there = found_at (arranged xs) i (sorted xs) l in
       ap (λ es. map (λ (_, x). x) (map_of nat_cmp es)) (numbered-more xs x)
-      ∙ ap (map (λ (_, x). x)) (map_of_there (numbered xs) (word x) x there.0 ((λ j. find nat_cmp (sym e j) (sym (numbered-arranged xs) j)) ∙ there.1))
+      ∙ ap (map (λ (_, x). x)) (map_of_there (numbered xs) (word x) x there.0
+      ((λ j. find nat_cmp (sym e j) (sym (numbered-arranged xs) j)) ∙ there.1))
 
   module _ (xs : List X) (x : X) (i : ℕ) (p : IsPlace (arranged xs) (word x) i) where
     cut : numbered (take i (arranged xs)) ++ numbered (drop i (arranged xs)) ≡ numbered (arranged xs)
-    cut = sym (map-append (λ y. (word y, y)) (take i (arranged xs)) (drop i (arranged xs))) ∙ ap numbered (take-append-drop i (arranged xs))
+    cut = sym (map-append (λ y. (word y, y)) (take i (arranged xs)) (drop i (arranged xs)))
+        ∙ ap numbered (take-append-drop i (arranged xs))
 
     above : IsAbove (word x) (numbered (take i (arranged xs)))
     above = at i p.within p.after
       where
-        at : (n : ℕ) → n ≤ length (arranged xs) → ((j : ℕ) → n ≡ suc j → nth (arranged xs) j < word x) → IsAbove (word x) (numbered (take n (arranged xs)))
+        at : (n : ℕ) → n ≤ length (arranged xs) → ((j : ℕ) → n ≡ suc j → nth (arranged xs) j < word x) →
+            IsAbove (word x) (numbered (take n (arranged xs)))
         at zero l h = tt
         at (suc n) l h = above_at (word x) (arranged xs) n (sorted xs) (omega arith) (h n refl)
 
@@ -209,7 +248,8 @@ module _ {X : Type 0} (word : X → ℕ) where
     arranged_new =
         arranged-numbered (take i (arranged xs) ++ x ∷ drop i (arranged xs)) _
         (map-append (λ y. (word y, y)) (take i (arranged xs)) (x ∷ drop i (arranged xs))
-        ∙ sym (put_between (word x) x _ _ above below) ∙ ap (put nat_cmp (word x) x) (sym there) ∙ sym (map_of_new (numbered xs) (word x) x none) ∙ ap (map_of nat_cmp) (sym (numbered-more xs x)))
+        ∙ sym (put_between (word x) x _ _ above below) ∙ ap (put nat_cmp (word x) x) (sym there)
+        ∙ sym (map_of_new (numbered xs) (word x) x none) ∙ ap (map_of nat_cmp) (sym (numbered-more xs x)))
 
   -- ---- an item behind all others
 
@@ -248,19 +288,26 @@ module _ {X : Type 0} (word : X → ℕ) where
   length-listed (e ∷ es) = ap suc (length-listed es)
 
   length-cons : (x : X) (xs : List X) → length (arranged word (x ∷ xs))
-      ≡ cond (list_any (eq_by_cmp nat_cmp (word x)) (map word xs)) (length (arranged word xs)) (length (arranged word xs) + 1)
+      ≡ cond (list_any (eq_by_cmp nat_cmp (word x)) (map word xs)) (length (arranged word xs))
+      (length (arranged word xs) + 1)
   length-cons x xs =
       let es = map_of nat_cmp (numbered word xs) in
       length-listed (put nat_cmp (word x) x es)
-      ∙ length-put nat_cmp nat_cmp_total (word x) x es (sorted-map_of nat_cmp nat_cmp_total (numbered word xs))
+      ∙ length-put nat_cmp nat_cmp_total (word x) x es
+      (sorted-map_of nat_cmp nat_cmp_total (numbered word xs))
       ∙ (λ j. cond (found_among word (word x) xs j) (length es) (length es + 1))
-      ∙ ap (λ n. cond (list_any (eq_by_cmp nat_cmp (word x)) (map word xs)) n (n + 1)) (sym (length-listed es))
+      ∙ ap (λ n. cond (list_any (eq_by_cmp nat_cmp (word x)) (map word xs)) n (n + 1))
+      (sym (length-listed es))
 
   pub length-arranged : (xs : List X) → length (arranged word xs) ≤ length xs
   length-arranged [] = omega arith
-  length-arranged (x ∷ xs) = at (list_any (eq_by_cmp nat_cmp (word x)) (map word xs)) (length-cons x xs) (length-arranged xs)
+  length-arranged (x ∷ xs) =
+      at (list_any (eq_by_cmp nat_cmp (word x)) (map word xs)) (length-cons x xs) (length-arranged xs)
     where
-      at : (b : Bool) → length (arranged word (x ∷ xs)) ≡ cond b (length (arranged word xs)) (length (arranged word xs) + 1) → length (arranged word xs) ≤ length xs
+      at : (b : Bool) →
+          length (arranged word (x ∷ xs))
+          ≡ cond b (length (arranged word xs)) (length (arranged word xs) + 1) →
+          length (arranged word xs) ≤ length xs
           → length (arranged word (x ∷ xs)) ≤ length (x ∷ xs)
       at true e h = omega arith
       at false e h = omega arith

@@ -1,5 +1,8 @@
 -- Blocks of a text, one after another: what is known at each, and what one more adds.
-use Rattle.std.proofs.Common.{◌≡◌, ◌≢◌, ◌⊎◌, inl, inr, ℕ, ◌+◌, ◌<◌, ◌≤◌, ◌==◌, ◌&&◌, ◌||◌, Bool, true, false, not, cond, List, [], ◌∷◌, ◌++◌, length, map, flat_map, refl, sym, ap, ◌∙◌, subst, arith, Option, Some, None, append_assoc, append-nil, length-append, true≢false, IfSome, eq-eqb, is_some, ap₂, ◌↔◌}
+use Rattle.std.proofs.Common.{◌≡◌, ◌≢◌, ◌⊎◌, inl, inr, ℕ, ◌+◌, ◌<◌, ◌≤◌, ◌==◌, ◌&&◌, ◌||◌, Bool, true, false}
+use Rattle.std.proofs.Common.{not, cond, List, [], ◌∷◌, ◌++◌, length, map, flat_map, refl, sym, ap, ◌∙◌}
+use Rattle.std.proofs.Common.{subst, arith, Option, Some, None, append_assoc, append-nil, length-append}
+use Rattle.std.proofs.Common.{true≢false, IfSome, eq-eqb, is_some, ap₂, ◌↔◌}
 use Rattle.std.specs.List.{AllByRecursion, list_any}
 use Rattle.std.specs.Bool.{IsTrue, MatchBool}
 use Rattle.std.specs.Char.{is_ascii_alphanumeric, to_ascii_lowercase}
@@ -7,17 +10,24 @@ use Rattle.std.specs.Cmp.{nat_cmp_total}
 use Rattle.std.specs.Ordering.{nat_cmp, eq_by_cmp}
 use Rattle.std.specs.FinMap.{put, find, is_sorted, nat_cmp-IsAntisymmetric}
 use Rattle.std.specs.FinMap.Entries.{find-append, is_some-find}
-use Rattle.std.proofs.lemmas.Bool.{and_parts, and_from, or_left, or_right, both_ways, cases_lt, cases_Bool, eqb-true, false_from_ne_true}
+use Rattle.std.proofs.lemmas.Bool.{and_parts, and_from, or_left, or_right, both_ways, cases_lt, cases_Bool}
+use Rattle.std.proofs.lemmas.Bool.{eqb-true, false_from_ne_true}
 use Rattle.std.proofs.lemmas.Bool.Decides.{nat_tests}
 use Rattle.std.proofs.Math.Nat.{le_antisymm}
 use Rattle.std.proofs.lemmas.List.{map-append}
 use Rattle.std.proofs.lemmas.List.Concat.{flat_map-append}
 use Rattle.std.proofs.lemmas.List.Folds.{list_any-append}
 use Rattle.std.proofs.lemmas.Simd.{map-map}
-use Rattle.iloc_spec_grammar.specs.Syntax.{Text, Block, AllDifferent, HasWords, SpelledIdentifier, SpelledUnicode, SpelledTransform, IsAmong, IsIdentifier, Language, TransformKey, Fields, code_t, code_u, code_x, front, blocks, first_piece, identifier_pieces, is_one_byte, is_word, languages, lower, lower_singleton, optional_pieces, transform_pieces, word_cmp}
+use Rattle.iloc_spec_grammar.specs.Syntax.{Text, Block, AllDifferent, HasWords, SpelledIdentifier}
+use Rattle.iloc_spec_grammar.specs.Syntax.{SpelledUnicode, SpelledTransform, IsAmong, IsIdentifier, Language}
+use Rattle.iloc_spec_grammar.specs.Syntax.{TransformKey, Fields, code_t, code_u, code_x, front, blocks}
+use Rattle.iloc_spec_grammar.specs.Syntax.{first_piece, identifier_pieces, is_one_byte, is_word, languages}
+use Rattle.iloc_spec_grammar.specs.Syntax.{lower, lower_singleton, optional_pieces, transform_pieces}
+use Rattle.iloc_spec_grammar.specs.Syntax.{word_cmp}
 use Rattle.iloc_spec_grammar.specs.Meaning.{InvalidExtension, InvalidSubtag, DuplicatedExtension, map_of}
 use Rattle.iloc_spec_grammar.specs.Tree.{IsTransformBlock, block_pieces}
-use Rattle.iloc_spec_grammar.specs.Reading.{after_front, before_key, front_of, identifier_of, starts_block, transform_of, unicode_of}
+use Rattle.iloc_spec_grammar.specs.Reading.{after_front, before_key, front_of, identifier_of, starts_block}
+use Rattle.iloc_spec_grammar.specs.Reading.{transform_of, unicode_of}
 use Rattle.iloc_spec_grammar.specs.Computing.{all_different, first_fault, is_block, repeats_variant}
 use Rattle.iloc_spec_grammar.proofs.FaultLaws.{repeats_longer, some_repeat}
 use Rattle.iloc_spec_grammar.proofs.General.{all_mapped, all_of}
@@ -27,12 +37,15 @@ use Rattle.iloc_spec_grammar.proofs.ValuesLaws.{all_weaker}
 use Rattle.iloc_spec_grammar.proofs.IdentifierLaws.{identifier_of-pieces}
 use Rattle.iloc_spec_grammar.proofs.ReadBack.{all_append}
 use Rattle.iloc_spec_grammar.proofs.ReadingLaws.{front_words, pieces-front_of}
-use Rattle.iloc_spec_grammar.proofs.Readings.{IsNoKey, before_key_read, fields_pass, identifier_no_key, optional_no_key, pieces-transform_of}
+use Rattle.iloc_spec_grammar.proofs.Readings.{IsNoKey, before_key_read, fields_pass, identifier_no_key}
+use Rattle.iloc_spec_grammar.proofs.Readings.{optional_no_key, pieces-transform_of}
 use Rattle.iloc_spec_grammar.proofs.RuleTests.{tests_denied, tests_different, tests_not}
 use Rattle.iloc_outline.specs.Blocks.{AreBegun, IsBlockRead, ReadsBlocks, body_of}
 use Rattle.iloc_outline.specs.Groups.{AreGroups, IsGroup, parts_in}
 use Rattle.iloc_pieces.specs.Left.{IsLater, IsRemainder, piece_left, pieces_left, whole_text}
-use Rattle.iloc_outline.specs.Parts.{Part, block_parts, blocks_parts, field_part, in_order, optional_front, optional_variants, printed_part, rank, ranked, singleton_part, transform_parts, unicode_parts, variant_parts, word_part}
+use Rattle.iloc_outline.specs.Parts.{Part, block_parts, blocks_parts, field_part, in_order, optional_front}
+use Rattle.iloc_outline.specs.Parts.{optional_variants, printed_part, rank, ranked, singleton_part}
+use Rattle.iloc_outline.specs.Parts.{transform_parts, unicode_parts, variant_parts, word_part}
 use Rattle.iloc_outline.specs.Reading.{IsBody, IsPrivateBody, IsTooMuch, Puts}
 use Rattle.iloc_outline.specs.Spans.{Spell, held_spans}
 use Rattle.iloc_pieces.specs.declared.left.Left.{Left}
@@ -195,7 +208,8 @@ read_end c l k old new o n h = at (to_ascii_lowercase c == code_x) refl h
     at false e h = record {
       body = pieces_left l;
       all = sym (append-nil (pieces_left l));
-      first = ap (λ t. cond t ((c, pieces_left l) ∷ []) ((c, front (pieces_left l)) ∷ blocks (pieces_left l))) e
+      first =
+          ap (λ t. cond t ((c, pieces_left l) ∷ []) ((c, front (pieces_left l)) ∷ blocks (pieces_left l))) e
           ∙ (λ j. (c, h.body j) ∷ (ap blocks (sym (append-nil (pieces_left l)))
           ∙ blocks_behind (pieces_left l) [] (ap front (append-nil (pieces_left l)) ∙ h.body) refl) j);
       good = h.good;
@@ -258,7 +272,8 @@ read_bad c l k old new o n h = at (to_ascii_lowercase c == code_x) refl h
         → (is_block languages (c, cond b (pieces_left l) (front (pieces_left l))) ≡ false)
         × (((to_ascii_lowercase c == code_t) && repeats_variant languages
         (cond b (pieces_left l) (front (pieces_left l)))) ≡ false)
-    at true e h = (h, ap (λ t. t && repeats_variant languages (pieces_left l)) (no_t (to_ascii_lowercase c) e))
+    at true e h =
+        (h, ap (λ t. t && repeats_variant languages (pieces_left l)) (no_t (to_ascii_lowercase c) e))
     at false e h = (
       h.0,
       false_from_ne_true _ (λ k. let parts = and_parts _ _ k in
@@ -266,7 +281,8 @@ read_bad c l k old new o n h = at (to_ascii_lowercase c == code_x) refl h
     )
 
 -- a variant is repeated after `t`
-pub read_repeated : (c : ℕ) (l k : Left) (old new : Spans) (o n : Bool) → IsBlockRead c l k old new o n Repeated
+pub read_repeated : (c : ℕ) (l k : Left) (old new : Spans) (o n : Bool) →
+    IsBlockRead c l k old new o n Repeated
     → (is_block languages (c, body_of c (pieces_left l)) ≡ false)
     × (((to_ascii_lowercase c == code_t) && repeats_variant languages (body_of c (pieces_left l))) ≡ true)
 read_repeated c l k old new o n h = at (to_ascii_lowercase c == code_x) h

@@ -1,11 +1,14 @@
 -- What follows a singleton: the pieces up to the next block, and the parts that are put for them.
-use Rattle.std.proofs.Common.{◌≡◌, ◌≢◌, ℕ, ◌+◌, ◌<◌, ◌≤◌, Bool, true, false, cond, List, [], ◌∷◌, ◌++◌, length, map, refl, sym, ap, ap₂, ◌∙◌, subst, arith, append-nil, length-append, true≢false}
+use Rattle.std.proofs.Common.{◌≡◌, ◌≢◌, ℕ, ◌+◌, ◌<◌, ◌≤◌, Bool, true, false, cond, List, [], ◌∷◌, ◌++◌}
+use Rattle.std.proofs.Common.{length, map, refl, sym, ap, ap₂, ◌∙◌, subst, arith, append-nil, length-append}
+use Rattle.std.proofs.Common.{true≢false}
 use Rattle.std.specs.List.{AllByRecursion}
 use Rattle.std.specs.Char.{to_ascii_lowercase}
 use Rattle.std.proofs.lemmas.Bool.{cond_both}
 use Rattle.std.proofs.lemmas.Grind.{flat_map-append}
 use Rattle.std.proofs.lemmas.List.{map-append}
-use Rattle.iloc_spec_grammar.specs.Syntax.{Text, front, first_piece, is_one_byte, is_other_singleton, kept, lower}
+use Rattle.iloc_spec_grammar.specs.Syntax.{Text, front, first_piece, is_one_byte, is_other_singleton, kept}
+use Rattle.iloc_spec_grammar.specs.Syntax.{lower}
 use Rattle.iloc_spec_grammar.specs.Reading.{starts_block}
 use Rattle.iloc_spec_grammar.proofs.PiecesLaws.{at_pieces}
 use Rattle.iloc_spec_grammar.proofs.Readings.{IsLong}
@@ -58,7 +61,8 @@ puts_none t spans o =
     }
 
 -- one part
-pub puts_one : (t : Text) (s : Span) (p : Part) (old new : Spans) (o n : Bool) → held_spans new ≡ held_spans old ++ s ∷ []
+pub puts_one : (t : Text) (s : Span) (p : Part) (old new : Spans) (o n : Bool) →
+    held_spans new ≡ held_spans old ++ s ∷ []
     → IsSpan t s p → 0 < length p.pieces
     → (n ≡ true → (o ≡ true) × (printed_part p ≡ map lower p.pieces)) → Puts t (p ∷ []) p.pieces old new o n
 puts_one t s p old new o n put span some same = record {
@@ -80,7 +84,8 @@ puts_then t xs ys ps qs old mid new o m n a b = record {
 }
 
 -- what is too much after others is too much
-pub too_much : (old mid : Spans) (m n k : ℕ) → length (held_spans mid) ≤ length (held_spans old) + m → m + n ≤ k
+pub too_much : (old mid : Spans) (m n k : ℕ) → length (held_spans mid) ≤ length (held_spans old) + m →
+    m + n ≤ k
     → IsTooMuch mid n → IsTooMuch old k
 too_much old mid m n k few le h = omega arith
 
@@ -117,14 +122,16 @@ front_single [] h = refl
 front_single (p ∷ ps) h = rw h
 
 -- where a block begins, the body ends
-pub front_ends : (l k : Left) (qs : List Text) → pieces_left l ≡ qs ++ pieces_left k → AllByRecursion IsLong qs
+pub front_ends : (l k : Left) (qs : List Text) → pieces_left l ≡ qs ++ pieces_left k →
+    AllByRecursion IsLong qs
     → is_one_byte (piece_left k) ≡ true → front (pieces_left l) ≡ qs
 front_ends l k qs cut h one =
     ap front cut ∙ front_past qs (pieces_left k) h ∙ ap (λ ps. qs ++ ps) (front_single (pieces_left k) one)
     ∙ append-nil qs
 
 -- ... and a longer piece goes on
-pub front_goes_on : (l k : Left) (qs : List Text) → pieces_left l ≡ qs ++ pieces_left k → AllByRecursion IsLong qs
+pub front_goes_on : (l k : Left) (qs : List Text) → pieces_left l ≡ qs ++ pieces_left k →
+    AllByRecursion IsLong qs
     → is_one_byte (piece_left k) ≡ false
     → (more : List Text) × (front (pieces_left l) ≡ qs ++ (piece_left k ∷ more))
 front_goes_on l k qs cut h longer = (

@@ -1,13 +1,17 @@
 -- Fields are passed one after another, and each is put where it belongs.
-use Rattle.std.proofs.Common.{◌≡◌, ◌≢◌, ◌⊎◌, ℕ, ◌+◌, ◌-◌, ◌<◌, ◌≤◌, Bool, false, List, [], ◌∷◌, ◌++◌, length, map, refl, sym, ap, ◌∙◌, subst, arith, inl, inr, append-nil, length-append, Option, Some, None}
+use Rattle.std.proofs.Common.{◌≡◌, ◌≢◌, ◌⊎◌, ℕ, ◌+◌, ◌-◌, ◌<◌, ◌≤◌, Bool, false, List, [], ◌∷◌, ◌++◌, length}
+use Rattle.std.proofs.Common.{map, refl, sym, ap, ◌∙◌, subst, arith, inl, inr, append-nil, length-append}
+use Rattle.std.proofs.Common.{Option, Some, None}
 use Rattle.std.specs.List.{AllByRecursion}
 use Rattle.std.proofs.lemmas.List.{map-append, length-map}
 use Rattle.std.proofs.lemmas.List.Concat.{flat_map-append}
-use Rattle.iloc_spec_grammar.specs.Syntax.{Text, Field, Fields, Attribute, IsWord, is_word, join, fields_pieces, first_piece}
+use Rattle.iloc_spec_grammar.specs.Syntax.{Text, Field, Fields, Attribute, IsWord, is_word, join}
+use Rattle.iloc_spec_grammar.specs.Syntax.{fields_pieces, first_piece}
 use Rattle.iloc_spec_grammar.proofs.ReadBack.{all_append}
 use Rattle.iloc_outline.specs.Fields.{IsAfterValues, PrintsAsItIs, IsValueRead}
 use Rattle.iloc_outline.specs.Inserting.{IsPutFrom}
-use Rattle.iloc_pieces.specs.Left.{IsRemainder, IsLater, IsPast, IsSpanned, piece_left, pieces_left, bytes_left, whole_text}
+use Rattle.iloc_pieces.specs.Left.{IsRemainder, IsLater, IsPast, IsSpanned, piece_left, pieces_left}
+use Rattle.iloc_pieces.specs.Left.{bytes_left, whole_text}
 use Rattle.iloc_fronts.specs.Words.{IsUpToEight, word_number}
 use Rattle.iloc_outline.specs.Parts.{Part, field_part}
 use Rattle.iloc_outline.specs.Reading.{EndsInKey, IsFieldOfRole, IsTooMuch, ReadsFields, role_key, unless_end}
@@ -20,7 +24,8 @@ use Rattle.iloc_outline.specs.declared.span.Role.{Role}
 use Rattle.iloc_outline.specs.declared.span.Role.TheVariants as roles
 use Rattle.iloc_outline.specs.declared.span.Span.{Span}
 use Rattle.iloc_outline.specs.declared.spans.Spans.{Spans}
-use Rattle.iloc_outline.proofs.GatherLemmas.{Gathers, gathers_few, gathers_full, gathers_none, gathers_put, gathers_puts, gathers_there, pieces_in}
+use Rattle.iloc_outline.proofs.GatherLemmas.{Gathers, gathers_few, gathers_full, gathers_none, gathers_put}
+use Rattle.iloc_outline.proofs.GatherLemmas.{gathers_puts, gathers_there, pieces_in}
 use Rattle.iloc_pieces.proofs.LeftLemmas.{length_rest, length_text, past_none, past_past, spanned_none}
 use Rattle.iloc_outline.proofs.SpansLemmas.{field_short}
 use Rattle.iloc_outline.proofs.WordLemmas.{length-pieces_of}
@@ -172,7 +177,8 @@ module _ (r : Role) (l at : Left) (old mid : Spans) (last : ℕ) (o n : Bool)
       IsNow i = IsPutFrom old.count span mid new last now n k i
 
       is_field : IsFieldOfRole r field
-      is_field = field_of r (piece_left at) h.values key h.each (λ t. let l = some t in omega (arith, h.count))
+      is_field =
+          field_of r (piece_left at) h.values key h.each (λ t. let l = some t in omega (arith, h.count))
 
       field_span : IsSpan (whole_text at) span (field_part r field)
       field_span = record {

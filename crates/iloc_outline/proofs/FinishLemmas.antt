@@ -1,13 +1,16 @@
 -- The outline of a text from that of its head: good texts, and heads that are refused.
-use Rattle.std.proofs.Common.{◌≡◌, ℕ, Bool, true, false, List, [], ◌++◌, length, refl, sym, ap, ◌∙◌, subst, append-nil}
+use Rattle.std.proofs.Common.{◌≡◌, ℕ, Bool, true, false, List, [], ◌++◌, length, refl, sym, ap, ◌∙◌, subst}
+use Rattle.std.proofs.Common.{append-nil}
 use Rattle.std.proofs.lemmas.List.{append_cancel_left}
 use Rattle.iloc_spec_grammar.specs.Syntax.{Text, Language, head, is_word, languages, pieces}
-use Rattle.iloc_spec_grammar.specs.Meaning.{Fault, HasIdentifierFault, IdentifierMeans, SpellsIdentifier, normal_identifier, not_a_language, not_an_identifier}
+use Rattle.iloc_spec_grammar.specs.Meaning.{Fault, HasIdentifierFault, IdentifierMeans, SpellsIdentifier}
+use Rattle.iloc_spec_grammar.specs.Meaning.{normal_identifier, not_a_language, not_an_identifier}
 use Rattle.iloc_spec_grammar.specs.Meaning as faults
 use Rattle.iloc_spec_grammar.proofs.PiecesLaws.{pieces_nonempty}
 use Rattle.iloc_outline.specs.Blocks.{ReadsBlocks}
 use Rattle.iloc_pieces.specs.Left.{pieces_left, bytes_left}
-use Rattle.iloc_outline.specs.Outlines.{AreHeadRead, BeginsWithLanguage, IsFinished, IsIdentifierOutlined, IsLocaleOutlined, ReadsHead}
+use Rattle.iloc_outline.specs.Outlines.{AreHeadRead, BeginsWithLanguage, IsFinished, IsIdentifierOutlined}
+use Rattle.iloc_outline.specs.Outlines.{IsLocaleOutlined, ReadsHead}
 use Rattle.iloc_outline.specs.Spans.{held_spans}
 use Rattle.iloc_pieces.specs.declared.left.Left.{Left}
 use Rattle.iloc_outline.specs.declared.outline.Head.TheVariants as heads
@@ -16,9 +19,12 @@ use Rattle.iloc_outline.specs.declared.outline.Outlined.TheVariants.{Normal}
 use Rattle.iloc_outline.specs.declared.spans.Spans.{Spans}
 use Rattle.iloc_subtags.specs.Judging.{Refusal}
 use Rattle.iloc_subtags.specs.declared.parse_error.ParseError.{ParseError}
-use Rattle.iloc_subtags.specs.declared.parse_error.ParseError.TheVariants.{InvalidLanguage, InvalidSubtag, InvalidExtension, DuplicatedExtension, OutOfMemory}
+use Rattle.iloc_subtags.specs.declared.parse_error.ParseError.TheVariants.{InvalidLanguage, InvalidSubtag}
+use Rattle.iloc_subtags.specs.declared.parse_error.ParseError.TheVariants.{InvalidExtension}
+use Rattle.iloc_subtags.specs.declared.parse_error.ParseError.TheVariants.{DuplicatedExtension, OutOfMemory}
 use Rattle.iloc_outline.proofs.HeadLemmas.{head_first}
-use Rattle.iloc_outline.proofs.OutlineLemmas.{all_head, alone_in_order, alone_outlined, identifier_in_order, identifier_outlined, locale_in_order, locale_outlined, whole}
+use Rattle.iloc_outline.proofs.OutlineLemmas.{all_head, alone_in_order, alone_outlined, identifier_in_order}
+use Rattle.iloc_outline.proofs.OutlineLemmas.{identifier_outlined, locale_in_order, locale_outlined, whole}
 
 -- what holds of the outline of a text in order, and of another, holds of the finished one
 finish : (P : Spans → Outline → Type 0) (t : Text) (o : Outline) (end : ℕ) (n : Bool)

@@ -1,25 +1,34 @@
 -- The front of an identifier: how it is passed, and how it is printed.
-use Rattle.std.proofs.Common.{◌≡◌, ◌≢◌, ℕ, zero, suc, ◌+◌, ◌-◌, ◌<◌, ◌≤◌, ◌==◌, Bool, true, false, cond, ◌&&◌, ◌||◌, List, [], ◌∷◌, ◌++◌, length, map, take, drop, Option, Some, None, refl, sym, ap, ◌∙◌, subst, arith, inl, inr, append_assoc, append-nil}
+use Rattle.std.proofs.Common.{◌≡◌, ◌≢◌, ℕ, zero, suc, ◌+◌, ◌-◌, ◌<◌, ◌≤◌, ◌==◌, Bool, true, false, cond, ◌&&◌}
+use Rattle.std.proofs.Common.{◌||◌, List, [], ◌∷◌, ◌++◌, length, map, take, drop, Option, Some, None, refl}
+use Rattle.std.proofs.Common.{sym, ap, ◌∙◌, subst, arith, inl, inr, append_assoc, append-nil}
 use Rattle.std.specs.Prelude.{IfSome, option_map, option_to_list}
 use Rattle.std.specs.List.{list_all}
 use Rattle.std.specs.Char.{is_ascii_digit, to_ascii_lowercase, to_ascii_uppercase}
 use Rattle.std.proofs.Math.Seq.{take-append_seam}
 use Rattle.std.proofs.lemmas.Bool.{and_parts, cases_Bool, cond_both, eqb-true}
 use Rattle.std.proofs.lemmas.Bool.Decides.{nat_tests}
-use Rattle.std.proofs.lemmas.List.{drop-append-le, drop-drop, drop_all, length-append, length-drop, length-map, length-take-le, map-append, take-append-drop, take-append-le, take_all}
-use Rattle.iloc_spec_grammar.specs.Syntax.{Text, Kind, Language, Script, Region, IsWord, is_word, Bounds, languages, pieces, first_piece, join, lower, upper, title}
-use Rattle.iloc_spec_grammar.specs.Reading.{front_of, rest_of, take_first, skip_first, after_script, after_region}
+use Rattle.std.proofs.lemmas.List.{drop-append-le, drop-drop, drop_all, length-append, length-drop}
+use Rattle.std.proofs.lemmas.List.{length-map, length-take-le, map-append, take-append-drop, take-append-le}
+use Rattle.std.proofs.lemmas.List.{take_all}
+use Rattle.iloc_spec_grammar.specs.Syntax.{Text, Kind, Language, Script, Region, IsWord, is_word, Bounds}
+use Rattle.iloc_spec_grammar.specs.Syntax.{languages, pieces, first_piece, join, lower, upper, title}
+use Rattle.iloc_spec_grammar.specs.Reading.{front_of, rest_of, take_first, skip_first, after_script}
+use Rattle.iloc_spec_grammar.specs.Reading.{after_region}
 use Rattle.iloc_spec_grammar.proofs.PiecesLaws.{at_pieces, join-pieces}
 use Rattle.iloc_spec_grammar.proofs.ReadingLaws.{take_first_passes}
 use Rattle.iloc_spec_grammar.proofs.RawLaws.{languages_table}
-use Rattle.iloc_spec_grammar.proofs.WordsLaws.{length-language, length-lower, length-normal, length-region, length-script, upper-lower}
+use Rattle.iloc_spec_grammar.proofs.WordsLaws.{length-language, length-lower, length-normal, length-region}
+use Rattle.iloc_spec_grammar.proofs.WordsLaws.{length-script, upper-lower}
 use Rattle.iloc_outline.specs.Identifier.{IsFrontRead, IsAfterFront, IsOnePast, front_text, raised}
 use Rattle.iloc_pieces.specs.Left as left
-use Rattle.iloc_pieces.specs.Left.{IsRemainder, IsLater, IsNextPiece, IsPast, IsSpanned, IsShortPiece, piece_left, pieces_left, whole_text}
+use Rattle.iloc_pieces.specs.Left.{IsRemainder, IsLater, IsNextPiece, IsPast, IsSpanned, IsShortPiece}
+use Rattle.iloc_pieces.specs.Left.{piece_left, pieces_left, whole_text}
 use Rattle.iloc_outline.specs.Parts.{front_pieces}
 use Rattle.iloc_outline.specs.Reading.{unless_end}
 use Rattle.iloc_pieces.specs.declared.left.Left.{Left}
-use Rattle.iloc_pieces.proofs.LeftLemmas.{length_piece, length_rest, length_text, next_at, past_first, past_next, short_language, short_word, spanned_all, spanned_both}
+use Rattle.iloc_pieces.proofs.LeftLemmas.{length_piece, length_rest, length_text, next_at, past_first}
+use Rattle.iloc_pieces.proofs.LeftLemmas.{past_next, short_language, short_word, spanned_all, spanned_both}
 
 -- ---- pieces that are passed, to another one or to the end
 
@@ -37,10 +46,12 @@ abbrev pub end_of : Left → Option Left → ℕ
 end_of l None = l.at + l.len
 end_of l (Some m) = m.at - 1
 
-after_end : (l : Left) (ps : List Text) (o : Option Left) → IsRemainder l → IsAfter l o ps → (start : ℕ) (qs : List Text) → IsLater l
+after_end : (l : Left) (ps : List Text) (o : Option Left) → IsRemainder l → IsAfter l o ps →
+    (start : ℕ) (qs : List Text) → IsLater l
     → IsSpanned (whole_text l) start (l.at - 1) qs → IsSpanned (whole_text l) start (end_of l o) (qs ++ ps)
 after_end l ps None h a start qs later s =
-    subst (λ (rs : List Text). IsSpanned (whole_text l) start (l.at + l.len) (qs ++ rs)) a (spanned_both s (spanned_all h later))
+    subst (λ (rs : List Text). IsSpanned (whole_text l) start (l.at + l.len) (qs ++ rs)) a
+    (spanned_both s (spanned_all h later))
 after_end l ps (Some m) h a start qs later s = a.spanned later start qs s
 
 after_inside : (l : Left) (ps : List Text) (o : Option Left) → IsAfter l o ps → end_of l o ≤ l.at + l.len
@@ -51,32 +62,46 @@ after_inside l ps (Some m) a = omega (arith, a.end)
 pub begins_text : (l : Left) → l.at ≡ 0 → whole_text l ≡ left.bytes_left l
 begins_text l first =
     let none : 0 + l.len ≡ l.len = omega arith in
-    (λ j. take (first j + l.len) l.window.now) ∙ ap (λ n. take n l.window.now) none ∙ (λ j. take l.len (drop (sym first j) l.window.now))
+    (λ j. take (first j + l.len) l.window.now) ∙ ap (λ n. take n l.window.now) none
+    ∙ (λ j. take l.len (drop (sym first j) l.window.now))
 
-after_text : (l : Left) (ps : List Text) (o : Option Left) → IsRemainder l → IsAfter l o ps → ps ≢ [] → l.at ≡ 0
+after_text : (l : Left) (ps : List Text) (o : Option Left) → IsRemainder l → IsAfter l o ps → ps ≢ [] →
+    l.at ≡ 0
     → take (end_of l o) (whole_text l) ≡ join ps
 after_text l ps None h a some first =
-    take_all (l.at + l.len) (whole_text l) (omega (arith, length_text h)) ∙ begins_text l first ∙ sym (join-pieces (left.bytes_left l)) ∙ ap join a
+    take_all (l.at + l.len) (whole_text l) (omega (arith, length_text h)) ∙ begins_text l first
+    ∙ sym (join-pieces (left.bytes_left l)) ∙ ap join a
 after_text l ps (Some m) h a some first =
     let cut : whole_text l ≡ join ps ++ 45 ∷ left.bytes_left m = begins_text l first ∙ a.rest some in
     let long : m.at - 1 ≡ length (join ps) =
-    omega (arith, a.end, length_text h, length_rest a.left, ap length cut, length-append (join ps) (45 ∷ left.bytes_left m)) in
+    omega (
+      arith,
+      a.end,
+      length_text h,
+      length_rest a.left,
+      ap length cut,
+      length-append (join ps) (45 ∷ left.bytes_left m),
+    ) in
     (λ j. take (long j) (cut j)) ∙ take-append_seam (join ps) (45 ∷ left.bytes_left m)
 
 -- ---- one piece, if it is a word of the kind
 
-took : (k : Kind) (t : Text) → is_word k (first_piece (pieces t)) ≡ true → take_first (is_word k) (pieces t) ≡ Some (first_piece (pieces t))
-took k t = at_pieces (λ ps. is_word k (first_piece ps) ≡ true → take_first (is_word k) ps ≡ Some (first_piece ps))
+took : (k : Kind) (t : Text) → is_word k (first_piece (pieces t)) ≡ true →
+    take_first (is_word k) (pieces t) ≡ Some (first_piece (pieces t))
+took k t =
+    at_pieces (λ ps. is_word k (first_piece ps) ≡ true → take_first (is_word k) ps ≡ Some (first_piece ps))
     (λ p ps e. ap (λ (b : Bool). cond b (Some p) None) e) t
 
-took_none : (k : Kind) (t : Text) → is_word k (first_piece (pieces t)) ≡ false → take_first (is_word k) (pieces t) ≡ None
+took_none : (k : Kind) (t : Text) → is_word k (first_piece (pieces t)) ≡ false →
+    take_first (is_word k) (pieces t) ≡ None
 took_none k t = at_pieces (λ ps. is_word k (first_piece ps) ≡ false → take_first (is_word k) ps ≡ None)
     (λ p ps e. ap (λ (b : Bool). cond b (Some p) None) e) t
 
 skipped : (k : Kind) (p : Text) (ps : List Text) → is_word k p ≡ true → skip_first (is_word k) (p ∷ ps) ≡ ps
 skipped k p ps e = ap (λ (b : Bool). cond b ps (p ∷ ps)) e
 
-skipped_none : (k : Kind) (t : Text) → is_word k (first_piece (pieces t)) ≡ false → skip_first (is_word k) (pieces t) ≡ pieces t
+skipped_none : (k : Kind) (t : Text) → is_word k (first_piece (pieces t)) ≡ false →
+    skip_first (is_word k) (pieces t) ≡ pieces t
 skipped_none k t = at_pieces (λ ps. is_word k (first_piece ps) ≡ false → skip_first (is_word k) ps ≡ ps)
     (λ p ps e. ap (λ (b : Bool). cond b ps (p ∷ ps)) e) t
 
@@ -85,21 +110,26 @@ pub record Steps (k : Kind) (l m : Left) (o : Option Left) (ps : List Text) : Ty
   pub passed : IsAfter l o (ps ++ option_to_list (take_first (is_word k) (pieces_left m)))
   pub rest : skip_first (is_word k) (pieces_left m) ≡ pieces_of_next o
 
-pub step : (k : Kind) → Bounds 8 k → {l m : Left} {ps : List Text} → IsPast l m ps → (b : Bool) → b ≡ is_word k (piece_left m)
+pub step : (k : Kind) → Bounds 8 k → {l m : Left} {ps : List Text} → IsPast l m ps → (b : Bool) →
+    b ≡ is_word k (piece_left m)
     → (o : Option Left) → IsOnePast b m o → Steps k l m o ps
 step k ends {l} {m} {ps} p true e None a = record {
-  passed = p.pieces ∙ ap (λ qs. ps ++ qs) a ∙ sym (ap (λ w. ps ++ option_to_list w) (took k (left.bytes_left m) (sym e)));
+  passed = p.pieces ∙ ap (λ qs. ps ++ qs) a
+      ∙ sym (ap (λ w. ps ++ option_to_list w) (took k (left.bytes_left m) (sym e)));
   rest = ap (skip_first (is_word k)) a ∙ skipped k (piece_left m) [] (sym e);
 }
 step k ends {l} {m} {ps} p true e (Some n) a = record {
-  passed = subst (λ (w : Option Text). IsPast l n (ps ++ option_to_list w)) (sym (took k (left.bytes_left m) (sym e)))
+  passed = subst (λ (w : Option Text). IsPast l n (ps ++ option_to_list w))
+      (sym (took k (left.bytes_left m) (sym e)))
       (past_next p (short_word k ends (piece_left m) (sym e)) a);
   rest = ap (skip_first (is_word k)) a.pieces ∙ skipped k (piece_left m) (pieces_left n) (sym e);
 }
 step k ends p false e None a = absurd (a tt)
 step k ends {l} {m} {ps} p false e (Some n) a = record {
-  passed = subst (λ (w : Option Text). IsPast l n (ps ++ option_to_list w)) (sym (took_none k (left.bytes_left m) (sym e)))
-      (subst (λ (qs : List Text). IsPast l n qs) (sym (append-nil ps)) (subst (λ (i : Left). IsPast l i ps) (sym a) p));
+  passed = subst (λ (w : Option Text). IsPast l n (ps ++ option_to_list w))
+      (sym (took_none k (left.bytes_left m) (sym e)))
+      (subst (λ (qs : List Text). IsPast l n qs) (sym (append-nil ps))
+      (subst (λ (i : Left). IsPast l i ps) (sym a) p));
   rest = skipped_none k (left.bytes_left m) (sym e) ∙ ap (λ i. pieces_left i) (sym a);
 }
 
@@ -114,10 +144,12 @@ raise_rest [] b = refl
 raise_rest (c ∷ a) b = raise_rest a b
 
 -- bytes behind a hyphen
-raise_at : (n : ℕ) (a b : Text) (p : ℕ) → p ≡ suc (length a) → raised n p (a ++ 45 ∷ b) ≡ a ++ 45 ∷ (upper (take n b) ++ drop n b)
+raise_at : (n : ℕ) (a b : Text) (p : ℕ) → p ≡ suc (length a) →
+    raised n p (a ++ 45 ∷ b) ≡ a ++ 45 ∷ (upper (take n b) ++ drop n b)
 raise_at n a b p e =
     let rest = raise_rest a b in
-    let more : drop (suc (length a) + n) (a ++ 45 ∷ b) ≡ drop n b = sym (drop-drop n (suc (length a)) (a ++ 45 ∷ b)) ∙ ap (drop n) rest in
+    let more : drop (suc (length a) + n) (a ++ 45 ∷ b) ≡ drop n b =
+    sym (drop-drop n (suc (length a)) (a ++ 45 ∷ b)) ∙ ap (drop n) rest in
     ap (λ k. raised n k (a ++ 45 ∷ b)) e ∙ (λ j. raise_front a b j ++ (upper (take n (rest j)) ++ more j))
     ∙ append_assoc a (45 ∷ []) (upper (take n b) ++ drop n b)
 
@@ -126,14 +158,17 @@ unfolding lower
 low-append a b = map-append to_ascii_lowercase a (45 ∷ b)
 
 -- the first letter of a script
-title_front : (s x : Text) → 0 < length s → upper (take 1 (lower s ++ x)) ++ drop 1 (lower s ++ x) ≡ title s ++ x
+title_front : (s x : Text) → 0 < length s →
+    upper (take 1 (lower s ++ x)) ++ drop 1 (lower s ++ x) ≡ title s ++ x
 unfolding lower upper title
 title_front [] x some = absurd (omega arith)
 title_front (c ∷ s) x some = ap (λ t. t ++ (map to_ascii_lowercase s ++ x)) (upper-lower (c ∷ []))
 
-script_printed : (l s : Text) → IsWord Script s → raised 1 (suc (length l)) (lower (l ++ 45 ∷ s)) ≡ lower l ++ 45 ∷ title s
+script_printed : (l s : Text) → IsWord Script s →
+    raised 1 (suc (length l)) (lower (l ++ 45 ∷ s)) ≡ lower l ++ 45 ∷ title s
 script_printed l s h =
-    ap (raised 1 (suc (length l))) (low-append l s) ∙ raise_at 1 (lower l) (lower s) (suc (length l)) (ap suc (sym (length-lower l)))
+    ap (raised 1 (suc (length l))) (low-append l s)
+    ∙ raise_at 1 (lower l) (lower s) (suc (length l)) (ap suc (sym (length-lower l)))
     ∙ ap (λ t. lower l ++ 45 ∷ t) (ap (λ t. upper (take 1 t) ++ drop 1 t) (sym (append-nil (lower s)))
     ∙ title_front s [] (omega (arith, length-script s h)) ∙ append-nil (title s))
 
@@ -161,7 +196,8 @@ region_printed a r p h e = elim (cases_Bool (length r == 2)) [
   | inl two ↦
       let long : length (lower r) ≤ 2 = omega (arith, length-lower r, eqb-true _ _ two) in
       raise_at 2 a (lower r) p (e ∙ ap (λ (b : Bool). cond b (suc (length a)) 0) two)
-      ∙ ap (λ t. a ++ 45 ∷ t) ((λ j. upper (take_all 2 (lower r) long j) ++ drop_all 2 (lower r) long j) ∙ append-nil (upper (lower r)) ∙ upper-lower r)
+      ∙ ap (λ t. a ++ 45 ∷ t) ((λ j. upper (take_all 2 (lower r) long j) ++ drop_all 2 (lower r) long j)
+      ∙ append-nil (upper (lower r)) ∙ upper-lower r)
   | inr other ↦
       ap (λ k. raised 2 k (a ++ 45 ∷ lower r)) (e ∙ ap (λ (b : Bool). cond b (suc (length a)) 0) other)
       ∙ ap (λ t. a ++ 45 ∷ t) (digits_same r (three_digits r h other))
@@ -185,17 +221,25 @@ printed_part l (Some s) None h g = script_printed l s h
 printed_part l None (Some r) h g =
     let e : cond (length r == 2) (suc (length l)) 0 ≡ cond (length r == 2) (suc (length (lower l))) 0 =
     ap (λ n. cond (length r == 2) (suc n) 0) (sym (length-lower l)) in
-    ap (raised 2 (cond (length r == 2) (suc (length l)) 0)) (low-append l r) ∙ region_printed (lower l) r _ g e
+    ap (raised 2 (cond (length r == 2) (suc (length l)) 0)) (low-append l r)
+    ∙ region_printed (lower l) r _ g e
 printed_part l (Some s) (Some r) h g =
     let t : Text = lower l ++ 45 ∷ title s in
     let low : lower (l ++ 45 ∷ (s ++ 45 ∷ r)) ≡ lower l ++ 45 ∷ (lower s ++ 45 ∷ lower r) =
     low-append l (s ++ 45 ∷ r) ∙ ap (λ x. lower l ++ 45 ∷ x) (low-append s r) in
     let script : raised 1 (suc (length l)) (lower (l ++ 45 ∷ (s ++ 45 ∷ r))) ≡ t ++ 45 ∷ lower r =
-    ap (raised 1 (suc (length l))) low ∙ raise_at 1 (lower l) (lower s ++ 45 ∷ lower r) (suc (length l)) (ap suc (sym (length-lower l)))
+    ap (raised 1 (suc (length l))) low
+    ∙ raise_at 1 (lower l) (lower s ++ 45 ∷ lower r) (suc (length l)) (ap suc (sym (length-lower l)))
     ∙ ap (λ x. lower l ++ 45 ∷ x) (title_front s (45 ∷ lower r) (omega (arith, length-script s h)))
     ∙ sym (append_assoc (lower l) (45 ∷ title s) (45 ∷ lower r)) in
     let long : length (l ++ 45 ∷ s) ≡ length t =
-    omega (arith, length-append l (45 ∷ s), length-append (lower l) (45 ∷ title s), length-lower l, length-normal Script s) in
+    omega (
+      arith,
+      length-append l (45 ∷ s),
+      length-append (lower l) (45 ∷ title s),
+      length-lower l,
+      length-normal Script s,
+    ) in
     let e : cond (length r == 2) (suc (length (l ++ 45 ∷ s))) 0 ≡ cond (length r == 2) (suc (length t)) 0 =
     ap (λ n. cond (length r == 2) (suc n) 0) long in
     ap (raised 2 (cond (length r == 2) (suc (length (l ++ 45 ∷ s))) 0)) script ∙ region_printed t r _ g e
@@ -236,8 +280,10 @@ raised-append n (suc k) t u h =
     let few : n ≤ length (drop (suc k) t) = omega (arith, length-drop (suc k) t) in
     let end : drop (suc k + n) (t ++ u) ≡ drop (suc k + n) t ++ u = drop-append-le (suc k + n) t u h in
     (λ j. front j ++ (upper (take n (rest j)) ++ end j))
-    ∙ ap (λ x. take (suc k) t ++ (upper x ++ (drop (suc k + n) t ++ u))) (take-append-le n (drop (suc k) t) u few)
-    ∙ ap (λ x. take (suc k) t ++ x) (sym (append_assoc (upper (take n (drop (suc k) t))) (drop (suc k + n) t) u))
+    ∙ ap (λ x. take (suc k) t ++ (upper x ++ (drop (suc k + n) t ++ u)))
+    (take-append-le n (drop (suc k) t) u few)
+    ∙ ap (λ x. take (suc k) t ++ x)
+    (sym (append_assoc (upper (take n (drop (suc k) t))) (drop (suc k + n) t) u))
     ∙ sym (append_assoc (take (suc k) t) _ u)
 
 length-raised : (n k : ℕ) (t : Text) → length (raised n k t) ≡ length t
@@ -245,7 +291,8 @@ unfolding upper
 length-raised n zero t = refl
 length-raised n (suc k) t =
     length-append (take (suc k) t) (map to_ascii_uppercase (take n (drop (suc k) t)) ++ drop (suc k + n) t)
-    ∙ ap (λ m. length (take (suc k) t) + m) (length-append (map to_ascii_uppercase (take n (drop (suc k) t))) (drop (suc k + n) t)
+    ∙ ap (λ m. length (take (suc k) t) + m)
+    (length-append (map to_ascii_uppercase (take n (drop (suc k) t))) (drop (suc k + n) t)
     ∙ ap (λ m. m + length (drop (suc k + n) t)) (length-map (take n (drop (suc k) t)) to_ascii_uppercase)
     ∙ sym (length-append (take n (drop (suc k) t)) (drop (suc k + n) t))
     ∙ ap (λ x. length (take n (drop (suc k) t) ++ x)) (sym (drop-drop n (suc k) t))
@@ -268,14 +315,17 @@ pub record ReadsFront (l : Left) (o : Option Left) (s r : ℕ) : Type 0 where
   pub passed : IsAfter l o (front_pieces (front_of (pieces_left l)))
   pub rest : after_region (pieces_left l) ≡ pieces_of_next o
   pub script : l.at ≡ 0 → s ≡ script_at (piece_left l) (front_of (pieces_left l)).script
-  pub region : l.at ≡ 0 → r ≡ region_at (piece_left l) (front_of (pieces_left l)).script (front_of (pieces_left l)).region
+  pub region : l.at ≡ 0 →
+      r ≡ region_at (piece_left l) (front_of (pieces_left l)).script (front_of (pieces_left l)).region
 
-next_is : (l : Left) (o : Option Left) → IsAfter l o (front_pieces (front_of (pieces_left l))) → after_region (pieces_left l) ≡ pieces_of_next o
+next_is : (l : Left) (o : Option Left) → IsAfter l o (front_pieces (front_of (pieces_left l))) →
+    after_region (pieces_left l) ≡ pieces_of_next o
     → IsAfterFront l o
 next_is l None a e = a
 next_is l (Some m) a e = (a, sym e)
 
-pub front_read : (l m : Left) (all : Bool) (s r : ℕ) → IsRemainder l → IsWord (Language languages) (piece_left l)
+pub front_read : (l m : Left) (all : Bool) (s r : ℕ) → IsRemainder l →
+    IsWord (Language languages) (piece_left l)
     → ReadsFront l (unless_end all m) s r
     → IsFrontRead l m (record { is_all = all; end = end_of l (unless_end all m); script = s; region = r })
 unfolding front_of
@@ -287,7 +337,8 @@ front_read l m all s r h language f =
     let script = take_first_passes (is_word Script) (rest_of ps) in
     let region = take_first_passes (is_word Region) (after_script ps) in
     let inside = after_inside l words o f.passed in
-    let text : l.at ≡ 0 → take (end_of l o) (whole_text l) ≡ join words = after_text l words o h f.passed (λ e. cc) in
+    let text : l.at ≡ 0 → take (end_of l o) (whole_text l) ≡ join words =
+    after_text l words o h f.passed (λ e. cc) in
     record {
       next = next_is l o f.passed f.rest;
       end = after_end l words o h f.passed;
@@ -300,7 +351,8 @@ front_read l m all s r h language f =
           let long = languages_table.least _ (length-language languages (piece_left l) language) in
           let both = placed (piece_left l) i.script i.region long script region in
           let end : end_of l o ≡ length (join words) =
-          sym (length-take-le (end_of l o) (whole_text l) (omega (arith, length_text h))) ∙ ap length (text first) in
+          sym (length-take-le (end_of l o) (whole_text l) (omega (arith, length_text h)))
+          ∙ ap length (text first) in
           let s_is = f.script first in
           let r_is = f.region first in
           (omega arith, omega arith);
@@ -317,12 +369,21 @@ front_alone l one = record {
 }
 
 -- where a piece begins, if others were passed from the beginning on
-past_at : {l m : Left} {ps : List Text} → IsRemainder l → IsPast l m ps → ps ≢ [] → l.at ≡ 0 → m.at ≡ suc (length (join ps))
+past_at : {l m : Left} {ps : List Text} → IsRemainder l → IsPast l m ps → ps ≢ [] → l.at ≡ 0 →
+    m.at ≡ suc (length (join ps))
 past_at {l} {m} {ps} h p some first =
     let cut : left.bytes_left l ≡ join ps ++ 45 ∷ left.bytes_left m = p.rest some in
-    omega (arith, p.end, length_rest h, length_rest p.left, ap length cut, length-append (join ps) (45 ∷ left.bytes_left m))
+    omega (
+      arith,
+      p.end,
+      length_rest h,
+      length_rest p.left,
+      ap length cut,
+      length-append (join ps) (45 ∷ left.bytes_left m),
+    )
 
-module _ {l m : Left} (h : IsRemainder l) (language : IsWord (Language languages) (piece_left l)) (next : IsNextPiece l m)
+module _ {l m : Left} (h : IsRemainder l) (language : IsWord (Language languages) (piece_left l))
+    (next : IsNextPiece l m)
     (b : Bool) (is : b ≡ is_word Script (piece_left m)) (s : ℕ) (at : s ≡ cond b m.at 0) where
   abbrev script : Option Text
   script = take_first (is_word Script) (pieces_left m)
@@ -340,19 +401,24 @@ module _ {l m : Left} (h : IsRemainder l) (language : IsWord (Language languages
   script_place : l.at ≡ 0 → s ≡ script_at (piece_left l) (front_of (pieces_left l)).script
   script_place first = by b is at ∙ ap (script_at (piece_left l)) (sym script_is)
     where
-      by : (b : Bool) → b ≡ is_word Script (piece_left m) → s ≡ cond b m.at 0 → s ≡ script_at (piece_left l) script
-      by true e p = p ∙ omega (arith, next_at h next) ∙ ap (script_at (piece_left l)) (sym (took Script (left.bytes_left m) (sym e)))
+      by : (b : Bool) → b ≡ is_word Script (piece_left m) → s ≡ cond b m.at 0 →
+          s ≡ script_at (piece_left l) script
+      by true e p = p ∙ omega (arith, next_at h next)
+          ∙ ap (script_at (piece_left l)) (sym (took Script (left.bytes_left m) (sym e)))
       by false e p = p ∙ ap (script_at (piece_left l)) (sym (took_none Script (left.bytes_left m) (sym e)))
 
   module _ (third : Option Left) (st : Steps Script l m third (piece_left l ∷ [])) where
     region_is : (front_of (pieces_left l)).region ≡ region third
     unfolding front_of
-    region_is = ap (λ ps. take_first (is_word Region) (skip_first (is_word Script) (rest_of ps))) next.pieces ∙ ap (take_first (is_word Region)) st.rest
+    region_is = ap (λ ps. take_first (is_word Region) (skip_first (is_word Script) (rest_of ps))) next.pieces
+        ∙ ap (take_first (is_word Region)) st.rest
 
     after_is : after_region (pieces_left l) ≡ skip_first (is_word Region) (pieces_of_next third)
-    after_is = ap (λ ps. skip_first (is_word Region) (skip_first (is_word Script) (rest_of ps))) next.pieces ∙ ap (skip_first (is_word Region)) st.rest
+    after_is = ap (λ ps. skip_first (is_word Region) (skip_first (is_word Script) (rest_of ps))) next.pieces
+        ∙ ap (skip_first (is_word Region)) st.rest
 
-    words_are : front_pieces (front_of (pieces_left l)) ≡ piece_left l ∷ (option_to_list script ++ option_to_list (region third))
+    words_are : front_pieces (front_of (pieces_left l))
+        ≡ piece_left l ∷ (option_to_list script ++ option_to_list (region third))
     unfolding front_of
     words_are = λ j. piece_left l ∷ (option_to_list (script_is j) ++ option_to_list (region_is j))
 
@@ -361,10 +427,12 @@ module _ {l m : Left} (h : IsRemainder l) (language : IsWord (Language languages
   front_to_script one =
       let st = step Script tt begun b is None one in
       record {
-        passed = st.passed ∙ ap (λ ps. piece_left l ∷ ps) (sym (append-nil (option_to_list script))) ∙ sym (words_are None st);
+        passed = st.passed ∙ ap (λ ps. piece_left l ∷ ps) (sym (append-nil (option_to_list script)))
+            ∙ sym (words_are None st);
         rest = after_is None st;
         script = script_place;
-        region = λ _. ap (region_at (piece_left l) (front_of (pieces_left l)).script) (sym (region_is None st));
+        region =
+            λ _. ap (region_at (piece_left l) (front_of (pieces_left l)).script) (sym (region_is None st));
       }
 
   module _ (n : Left) (one : IsOnePast b m (Some n)) where
@@ -378,22 +446,30 @@ module _ {l m : Left} (h : IsRemainder l) (language : IsWord (Language languages
     module _ (c : Bool) (fits : c ≡ is_word Region (piece_left n)) where
       region_place : (r : ℕ) → r ≡ cond (c && (n.n == 2)) n.at 0 → l.at ≡ 0
           → r ≡ region_at (piece_left l) (front_of (pieces_left l)).script (front_of (pieces_left l)).region
-      region_place r place first = by c fits place ∙ (λ j. region_at (piece_left l) (sym script_is j) (sym (region_is (Some n) first_step) j))
+      region_place r place first = by c fits place
+          ∙ (λ j. region_at (piece_left l) (sym script_is j) (sym (region_is (Some n) first_step) j))
         where
           there : n.at ≡ suc (length (join (piece_left l ∷ option_to_list script)))
           there = past_at h first_step.passed (λ e. cc) first
 
-          by : (c : Bool) → c ≡ is_word Region (piece_left n) → r ≡ cond (c && (n.n == 2)) n.at 0 → r ≡ region_at (piece_left l) script (region (Some n))
+          by : (c : Bool) → c ≡ is_word Region (piece_left n) → r ≡ cond (c && (n.n == 2)) n.at 0 →
+              r ≡ region_at (piece_left l) script (region (Some n))
           by true e p =
-              let long : n.n ≡ length (piece_left n) = length_piece third_left (short_word Region tt (piece_left n) (sym e)) in
-              p ∙ (λ j. cond (long j == 2) (there j) 0) ∙ ap (region_at (piece_left l) script) (sym (took Region (left.bytes_left n) (sym e)))
-          by false e p = p ∙ ap (region_at (piece_left l) script) (sym (took_none Region (left.bytes_left n) (sym e)))
+              let long : n.n ≡ length (piece_left n) =
+              length_piece third_left (short_word Region tt (piece_left n) (sym e)) in
+              p ∙ (λ j. cond (long j == 2) (there j) 0)
+              ∙ ap (region_at (piece_left l) script) (sym (took Region (left.bytes_left n) (sym e)))
+          by false e p =
+              p ∙ ap (region_at (piece_left l) script) (sym (took_none Region (left.bytes_left n) (sym e)))
 
       -- a region is passed, if there is one
-      pub front_to_region : (r : ℕ) → r ≡ cond (c && (n.n == 2)) n.at 0 → (o : Option Left) → IsOnePast c n o → ReadsFront l o s r
+      pub front_to_region : (r : ℕ) → r ≡ cond (c && (n.n == 2)) n.at 0 → (o : Option Left) →
+          IsOnePast c n o → ReadsFront l o s r
       front_to_region r place o last =
           let st = step Region tt first_step.passed c fits o last in
-          let words = append_assoc (piece_left l ∷ []) (option_to_list script) (option_to_list (region (Some n))) ∙ sym (words_are (Some n) first_step) in
+          let words =
+          append_assoc (piece_left l ∷ []) (option_to_list script) (option_to_list (region (Some n)))
+          ∙ sym (words_are (Some n) first_step) in
           record {
             passed = subst (λ (ps : List Text). IsAfter l o ps) words st.passed;
             rest = after_is (Some n) first_step ∙ st.rest;

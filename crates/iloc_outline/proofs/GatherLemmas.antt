@@ -1,5 +1,7 @@
 -- Parts that are put one after another, each where it belongs.
-use Rattle.std.proofs.Common.{◌≡◌, ℕ, ◌+◌, ◌<◌, ◌≤◌, Bool, true, false, List, [], ◌∷◌, ◌++◌, length, map, flat_map, refl, sym, ap, ◌∙◌, subst, arith, append_assoc, append-nil, length-append, inl, inr, true≢false}
+use Rattle.std.proofs.Common.{◌≡◌, ℕ, ◌+◌, ◌<◌, ◌≤◌, Bool, true, false, List, [], ◌∷◌, ◌++◌, length, map}
+use Rattle.std.proofs.Common.{flat_map, refl, sym, ap, ◌∙◌, subst, arith, append_assoc, append-nil}
+use Rattle.std.proofs.Common.{length-append, inl, inr, true≢false}
 use Rattle.std.specs.List.{AllByRecursion, AllZip}
 use Rattle.std.specs.Ordering.{nat_cmp}
 use Rattle.std.proofs.lemmas.List.{map-append}
@@ -32,7 +34,13 @@ pub record Gathers (t : Text) (ps : List Part) (old new : Spans) (last : ℕ) (o
 -- none
 pub gathers_none : (t : Text) (s : Spans) (last : ℕ) (o : Bool) → Gathers t [] s s last o o
 gathers_none t s last o =
-    record { spans = []; each = tt; stand = sym (append-nil (held_spans s)); within = tt; order = λ e. (e, refl) }
+    record {
+      spans = [];
+      each = tt;
+      stand = sym (append-nil (held_spans s));
+      within = tt;
+      order = λ e. (e, refl);
+    }
 
 -- spans have the numbers of their parts
 spans_within : (t : Text) (k : ℕ) (ss : List Span) (ps : List Part) → AllZip (IsSpan t) ss ps
@@ -88,7 +96,8 @@ module _ (t : Text) (ps : List Part) (old mid : Spans) (last : ℕ) (o n : Bool)
     abbrev more : List Part
     more = ps ++ (p ∷ [])
 
-    gathered : held_spans new ≡ held_spans old ++ spans_in_order (g.spans ++ s ∷ []) → last ≤ now → s.word ≤ now
+    gathered : held_spans new ≡ held_spans old ++ spans_in_order (g.spans ++ s ∷ []) → last ≤ now →
+        s.word ≤ now
         → (k ≡ true → (o ≡ true) × (flat_map printed_part (in_order more) ≡ map lower (pieces_in more)))
         → Gathers t more old new now o k
     gathered h l w order = record {
@@ -112,9 +121,11 @@ module _ (t : Text) (ps : List Part) (old mid : Spans) (last : ℕ) (o n : Bool)
           spans_within t s.word g.spans ps g.each
           (all_weaker (λ q. q.word ≤ last) (λ q. q.word < s.word) (λ q a. omega arith) ps g.within)
 
-      stands : held_spans new ≡ held_spans mid ++ s ∷ [] → held_spans new ≡ held_spans old ++ spans_in_order (g.spans ++ s ∷ [])
+      stands : held_spans new ≡ held_spans mid ++ s ∷ [] →
+          held_spans new ≡ held_spans old ++ spans_in_order (g.spans ++ s ∷ [])
       stands e =
-          e ∙ ap (λ ss. ss ++ s ∷ []) g.stand ∙ append_assoc (held_spans old) (spans_in_order g.spans) (s ∷ [])
+          e ∙ ap (λ ss. ss ++ s ∷ []) g.stand
+          ∙ append_assoc (held_spans old) (spans_in_order g.spans) (s ∷ [])
           ∙ ap (λ ss. held_spans old ++ ss) (sym (arranged_behind (λ s. s.word) g.spans s below_span))
 
       order_more : (k ≡ true → (n ≡ true) × (s.edited ≡ false)) → k ≡ true

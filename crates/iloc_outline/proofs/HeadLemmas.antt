@@ -1,13 +1,19 @@
 -- What the reader of a head says: an identifier that is all of a text, or ends at a block, or why it is none.
-use Rattle.std.proofs.Common.{◌≡◌, ◌≢◌, ◌⊎◌, inl, inr, ◌≤◌, Bool, true, false, List, [], ◌∷◌, ◌++◌, length, map, flat_map, take, drop, None, Some, refl, sym, ap, ◌∙◌, subst, arith, append_assoc, append-nil, length-append, true≢false}
+use Rattle.std.proofs.Common.{◌≡◌, ◌≢◌, ◌⊎◌, inl, inr, ◌≤◌, Bool, true, false, List, [], ◌∷◌, ◌++◌, length}
+use Rattle.std.proofs.Common.{map, flat_map, take, drop, None, Some, refl, sym, ap, ◌∙◌, subst, arith}
+use Rattle.std.proofs.Common.{append_assoc, append-nil, length-append, true≢false}
 use Rattle.std.specs.List.{AllZip}
 use Rattle.std.proofs.lemmas.List.{append_cancel_left, take-append-drop, length-take-le}
-use Rattle.iloc_spec_grammar.specs.Syntax.{Text, SpelledIdentifier, Language, AllDifferent, IsWord, dashes, first_piece, front, head, identifier_pieces, is_one_byte, is_word, join, languages, lower, pieces, word_cmp}
-use Rattle.iloc_spec_grammar.specs.Meaning.{IdentifierMeans, SpellsIdentifier, normal_identifier, not_an_identifier}
+use Rattle.iloc_spec_grammar.specs.Syntax.{Text, SpelledIdentifier, Language, AllDifferent, IsWord, dashes}
+use Rattle.iloc_spec_grammar.specs.Syntax.{first_piece, front, head, identifier_pieces, is_one_byte, is_word}
+use Rattle.iloc_spec_grammar.specs.Syntax.{join, languages, lower, pieces, word_cmp}
+use Rattle.iloc_spec_grammar.specs.Meaning.{IdentifierMeans, SpellsIdentifier, normal_identifier}
+use Rattle.iloc_spec_grammar.specs.Meaning.{not_an_identifier}
 use Rattle.iloc_spec_grammar.specs.Reading.{after_front, after_head, from_block, front_of, starts_block}
 use Rattle.iloc_spec_grammar.proofs.PartTexts.{join-append}
 use Rattle.iloc_spec_grammar.proofs.PiecesLaws.{at_pieces}
-use Rattle.iloc_spec_grammar.proofs.ReadingLaws.{from_block_starts, front-from_block, refuses_more, refuses_repeat, starts_ends}
+use Rattle.iloc_spec_grammar.proofs.ReadingLaws.{from_block_starts, front-from_block, refuses_more}
+use Rattle.iloc_spec_grammar.proofs.ReadingLaws.{refuses_repeat, starts_ends}
 use Rattle.iloc_spec_grammar.proofs.Readings.{after_language}
 use Rattle.iloc_outline.specs.Identifier.{IsAfterFront, IsFrontRead, front_text}
 use Rattle.iloc_pieces.specs.Left.{IsRemainder, IsPast, piece_left, pieces_left, bytes_left, whole_text}
@@ -31,7 +37,8 @@ use Rattle.iloc_pieces.proofs.LeftLemmas.{length_text, past_past}
 use Rattle.iloc_outline.proofs.Meanings.{parts_dashes}
 use Rattle.iloc_outline.proofs.OutlineLemmas.{lower-append, lower-dashes}
 use Rattle.iloc_outline.proofs.SpansLemmas.{spell_length}
-use Rattle.iloc_outline.proofs.TransformLemmas.{at_language, long_front, pieces_front_of, variants_of, words_front}
+use Rattle.iloc_outline.proofs.TransformLemmas.{at_language, long_front, pieces_front_of, variants_of}
+use Rattle.iloc_outline.proofs.TransformLemmas.{words_front}
 use Rattle.iloc_outline.proofs.TransformReading.{pieces_front}
 
 -- ---- heads that are no identifier
@@ -181,7 +188,8 @@ module _ (l : Left) (f : Front) (is : IsRemainder l) (first : l.at ≡ 0)
       let all : pieces_left l ≡ identifier_pieces i =
       cut ∙ sym (append-nil (front_pieces i)) ∙ ap (λ vs. front_pieces i ++ vs) (sym nothing)
       ∙ sym pieces_i in
-      reads (pieces_left l) spans true (subst (λ vs. AllDifferent word_cmp (map lower vs)) (sym nothing) tt) all
+      reads (pieces_left l) spans true (subst (λ vs. AllDifferent word_cmp (map lower vs)) (sym nothing) tt)
+      all
       (subst (λ vs. Spell (bytes_left l) spans (variant_parts vs)) (sym nothing)
       (subst (λ ss. AllZip (IsSpan (bytes_left l)) ss []) (sym none) tt))
       (omega (arith, ap length none))
@@ -202,7 +210,8 @@ module _ (l : Left) (f : Front) (is : IsRemainder l) (first : l.at ≡ 0)
           (subst (λ t. Spell t new (variant_parts vs)) (after.0.text ∙ whole)
           (h.puts.adds [] (subst (λ ss. AllZip (IsSpan (whole_text m)) ss []) (sym none) tt)))
 
-      read_up_to : (ps : List Text) → ps ≡ identifier_pieces i → ReadsHead (bytes_left l) ps (outline_of f) new n
+      read_up_to : (ps : List Text) → ps ≡ identifier_pieces i →
+          ReadsHead (bytes_left l) ps (outline_of f) new n
       read_up_to ps same = reads ps new n differ same spelled
           (omega (
             arith,
@@ -217,7 +226,8 @@ module _ (l : Left) (f : Front) (is : IsRemainder l) (first : l.at ≡ 0)
           (h.puts.order e).1)
 
     -- variants are the rest of the text
-    pub head_variants : (k : Left) (new : Spans) (n : Bool) → AreWordsRead roles.Variant m k old new true n End
+    pub head_variants : (k : Left) (new : Spans) (n : Bool) →
+        AreWordsRead roles.Variant m k old new true n End
         → AreHeadRead (bytes_left l) k new n (heads.All (outline_of f))
     head_variants k new n h = read_up_to (pieces_left m) new n h (pieces_left l)
         (after.0.pieces ∙ ap (λ ws. front_pieces i ++ ws) (same_words (pieces_left m) new n h) ∙ sym pieces_i)
@@ -249,7 +259,8 @@ module _ (l : Left) (f : Front) (is : IsRemainder l) (first : l.at ≡ 0)
           → AreHeadRead (bytes_left l) k new n (heads.Refused InvalidSubtag)
       head_stranger longer = not_an_identifier begins
           (more_left (pieces_left l) word (λ e. true≢false
-          (sym (starts_single (bytes_left k) (ap starts_block (sym left_over ∙ e) ∙ after_starts (pieces_left l)))
+          (sym
+          (starts_single (bytes_left k) (ap starts_block (sym left_over ∙ e) ∙ after_starts (pieces_left l)))
           ∙ longer)))
         where
           left_over : after_front (pieces_left l) ≡ pieces_left k

@@ -1,10 +1,14 @@
 -- What a text means whose head is an identifier, and its normal text; or its fault.
-use Rattle.std.proofs.Common.{◌≡◌, inl, inr, true, List, [], ◌∷◌, ◌++◌, map, flat_map, refl, sym, ap, ◌∙◌, subst, Some, None, append_assoc, option_to_list, true≢false}
+use Rattle.std.proofs.Common.{◌≡◌, inl, inr, true, List, [], ◌∷◌, ◌++◌, map, flat_map, refl, sym, ap, ◌∙◌}
+use Rattle.std.proofs.Common.{subst, Some, None, append_assoc, option_to_list, true≢false}
 use Rattle.std.specs.List.{AllByRecursion, list_any}
 use Rattle.std.proofs.lemmas.List.Concat.{flat_map-append}
 use Rattle.std.proofs.lemmas.Bool.{or_left, or_right, or_cases}
-use Rattle.iloc_spec_grammar.specs.Syntax.{Text, SpelledIdentifier, Identifier, Language, Variant, IsWord, first_piece, head, is_same, is_word, join, dashes, languages, lower, pieces, tail_blocks}
-use Rattle.iloc_spec_grammar.specs.Meaning.{Fault, HasFault, HasIdentifierFault, IdentifierMeans, Means, in_head, normal_identifier}
+use Rattle.iloc_spec_grammar.specs.Syntax.{Text, SpelledIdentifier, Identifier, Language, Variant, IsWord}
+use Rattle.iloc_spec_grammar.specs.Syntax.{first_piece, head, is_same, is_word, join, dashes, languages}
+use Rattle.iloc_spec_grammar.specs.Syntax.{lower, pieces, tail_blocks}
+use Rattle.iloc_spec_grammar.specs.Meaning.{Fault, HasFault, HasIdentifierFault, IdentifierMeans, Means}
+use Rattle.iloc_spec_grammar.specs.Meaning.{in_head, normal_identifier}
 use Rattle.iloc_spec_grammar.specs.Meaning as faults
 use Rattle.iloc_spec_grammar.specs.Tree.{meaning}
 use Rattle.iloc_spec_grammar.specs.Values.{identifier_text, text}
@@ -19,7 +23,9 @@ use Rattle.iloc_spec_grammar.proofs.RuleTests.{tests_identifier}
 use Rattle.iloc_spec_grammar.proofs.SetLaws.{any-set_of}
 use Rattle.iloc_spec_grammar.proofs.WordsLaws.{is_word-same}
 use Rattle.iloc_subtags.specs.declared.parse_error.ParseError.{ParseError}
-use Rattle.iloc_subtags.specs.declared.parse_error.ParseError.TheVariants.{InvalidLanguage, InvalidSubtag, InvalidExtension, DuplicatedExtension, OutOfMemory}
+use Rattle.iloc_subtags.specs.declared.parse_error.ParseError.TheVariants.{InvalidLanguage, InvalidSubtag}
+use Rattle.iloc_subtags.specs.declared.parse_error.ParseError.TheVariants.{InvalidExtension}
+use Rattle.iloc_subtags.specs.declared.parse_error.ParseError.TheVariants.{DuplicatedExtension, OutOfMemory}
 use Rattle.iloc_subtags.specs.Judging.{Refusal, error_of}
 use Rattle.iloc_outline.specs.Outlines.{parts_text}
 use Rattle.iloc_outline.specs.Parts.{Part, blocks_parts, front_pieces, printed_part, variant_parts}

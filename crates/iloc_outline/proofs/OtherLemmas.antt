@@ -1,13 +1,18 @@
 -- Which pieces may follow `x`, and another singleton than `t` and `u`; and what their readers say.
-use Rattle.std.proofs.Common.{◌≡◌, ◌≢◌, inl, inr, ℕ, ◌+◌, ◌-◌, ◌<◌, ◌==◌, Bool, true, false, not, cond, ◌&&◌, ◌||◌, List, [], ◌∷◌, ◌++◌, length, map, filter, refl, sym, ap, ap₂, ◌∙◌, subst, arith, length-append, true≢false}
+use Rattle.std.proofs.Common.{◌≡◌, ◌≢◌, inl, inr, ℕ, ◌+◌, ◌-◌, ◌<◌, ◌==◌, Bool, true, false, not, cond, ◌&&◌}
+use Rattle.std.proofs.Common.{◌||◌, List, [], ◌∷◌, ◌++◌, length, map, filter, refl, sym, ap, ap₂, ◌∙◌, subst}
+use Rattle.std.proofs.Common.{arith, length-append, true≢false}
 use Rattle.std.specs.Int.{is_in_range}
 use Rattle.std.specs.List.{AllByRecursion, list_all, list_any}
 use Rattle.std.specs.Char.{to_ascii_lowercase}
 use Rattle.std.proofs.Math.Bool.{or-true, or-false}
 use Rattle.std.proofs.lemmas.Bool.{and_parts, cases_Bool, or_parts, ne_eqb}
 use Rattle.std.proofs.lemmas.List.Folds.{list_all-append, list_any-append}
-use Rattle.iloc_spec_grammar.specs.Syntax.{Text, code_t, code_u, code_x, IsHyphenFree, Subtag, PrivateSubtag, is_word, IsWord, IsOther, IsPrivate, kept, languages, lower, front, first_piece, is_one_byte, is_other_singleton}
-use Rattle.iloc_spec_grammar.specs.Tree.{Extension, unicode, transform, other, IsBlock, IsExtension, extension_pieces}
+use Rattle.iloc_spec_grammar.specs.Syntax.{Text, code_t, code_u, code_x, IsHyphenFree, Subtag, PrivateSubtag}
+use Rattle.iloc_spec_grammar.specs.Syntax.{is_word, IsWord, IsOther, IsPrivate, kept, languages, lower, front}
+use Rattle.iloc_spec_grammar.specs.Syntax.{first_piece, is_one_byte, is_other_singleton}
+use Rattle.iloc_spec_grammar.specs.Tree.{Extension, unicode, transform, other, IsBlock, IsExtension}
+use Rattle.iloc_spec_grammar.specs.Tree.{extension_pieces}
 use Rattle.iloc_spec_grammar.specs.Computing.{is_block}
 use Rattle.iloc_spec_grammar.proofs.PiecesLaws.{pieces_hyphen_free, pieces_nonempty}
 use Rattle.iloc_spec_grammar.proofs.Readings.{IsLong, long_between}
@@ -15,7 +20,8 @@ use Rattle.iloc_spec_grammar.proofs.ReadBack.{all_append}
 use Rattle.iloc_spec_grammar.proofs.RuleTests.{tests_all, tests_block, tests_fails, tests_word}
 use Rattle.iloc_spec_grammar.proofs.Singletons.{no_t, no_u, no_x}
 use Rattle.iloc_spec_grammar.proofs.ValuesLaws.{all_weaker, filter_all}
-use Rattle.iloc_pieces.specs.Left.{IsEnd, IsLater, IsNextPiece, IsPast, IsSpanned, piece_left, pieces_left, bytes_left, whole_text}
+use Rattle.iloc_pieces.specs.Left.{IsEnd, IsLater, IsNextPiece, IsPast, IsSpanned, piece_left, pieces_left}
+use Rattle.iloc_pieces.specs.Left.{bytes_left, whole_text}
 use Rattle.iloc_outline.specs.Parts.{block_parts, printed_part, rank, singleton_part}
 use Rattle.iloc_outline.specs.Reading.{IsBody, IsPrivateBody, IsPutOther, Puts, ReadsBlock, block_span}
 use Rattle.iloc_outline.specs.Spans.{held_spans}
@@ -25,7 +31,8 @@ use Rattle.iloc_outline.specs.declared.reading.Found.TheVariants.{End, Next, Bad
 use Rattle.iloc_outline.specs.declared.spans.Spans.{Spans}
 use Rattle.iloc_pieces.proofs.LeftLemmas.{between_short, past_next, pieces_end, short_private, spanned_end}
 use Rattle.iloc_outline.proofs.SpansLemmas.{other_short}
-use Rattle.iloc_outline.proofs.BodyLemmas.{front_each, front_ends, front_goes_on, front_whole, puts_one, puts_singleton, singleton_span}
+use Rattle.iloc_outline.proofs.BodyLemmas.{front_each, front_ends, front_goes_on, front_whole, puts_one}
+use Rattle.iloc_outline.proofs.BodyLemmas.{puts_singleton, singleton_span}
 
 -- ---- good and bad blocks
 
@@ -87,7 +94,8 @@ private_next l m k h word next = record {
 pub private_end : (c start : ℕ) (l m : Left) (old new : Spans) (o : Bool) → to_ascii_lowercase c ≡ code_x
     → IsLater l → IsSpanned (whole_text l) start (l.at - 1) ((c ∷ []) ∷ [])
     → PassesPrivate l m → IsWord PrivateSubtag (piece_left m) → IsEnd m
-    → held_spans new ≡ held_spans old ++ block_span 255 start (m.at + m.n) false ∷ [] → IsPrivateBody c l old new o o End
+    → held_spans new ≡ held_spans old ++ block_span 255 start (m.at + m.n) false ∷ [] →
+    IsPrivateBody c l old new o o End
 private_end c start l m old new o e later spanned h word end put =
     let all : pieces_left l ≡ h.words ++ (piece_left m ∷ []) = pieces_end h.past end in
     let each : AllByRecursion (IsWord PrivateSubtag) (pieces_left l) =
@@ -99,7 +107,8 @@ private_end c start l m old new o e later spanned h word end put =
     subst (λ ps. IsSpanned (whole_text l) start (m.at + m.n) ((c ∷ []) ∷ ps)) (sym all)
     (spanned_end h.past end later spanned) in
     let known : is_other_singleton (to_ascii_lowercase c) ≡ false = ap is_other_singleton e in
-    let place = subst (λ (w : ℕ). held_spans new ≡ held_spans old ++ block_span w start (m.at + m.n) false ∷ [])
+    let place =
+    subst (λ (w : ℕ). held_spans new ≡ held_spans old ++ block_span w start (m.at + m.n) false ∷ [])
     (sym (ap rank e)) put in (
       private_good c (pieces_left l) e (record { words = each; nonempty = some }),
       subst (λ parts. Puts (whole_text l) parts ((c ∷ []) ∷ pieces_left l) old new o o)
@@ -180,7 +189,8 @@ more_odd l m g d h b e = record {
       (ap (λ x. d || not x) e ∙ or-true d) (one_more h.words (piece_left m) g d h.are b));
 }
 
-pub other_next : (l m k : Left) (g d : Bool) → PassesOneMore l m g d → IsBetween (piece_left m) → IsNextPiece m k
+pub other_next : (l m k : Left) (g d : Bool) → PassesOneMore l m g d → IsBetween (piece_left m) →
+    IsNextPiece m k
     → PassesOther l k g d
 other_next l m k g d h b next =
     record {
@@ -251,7 +261,8 @@ module _ (c : ℕ) (l : Left) (other : is_other_singleton (to_ascii_lowercase c)
       → held_spans new ≡ held_spans old ++ block_span (to_ascii_lowercase c) start end d ∷ []
       → (n ≡ true → (o ≡ true) × (d ≡ false)) → ReadsBlock c l ps old new o n
   good_other start end ps d old new o n are spanned body put order =
-      let place = subst (λ (w : ℕ). held_spans new ≡ held_spans old ++ block_span w start end d ∷ []) (sym own_rank) put
+      let place =
+      subst (λ (w : ℕ). held_spans new ≡ held_spans old ++ block_span w start end d ∷ []) (sym own_rank) put
       in
       let free : AllByRecursion IsHyphenFree ps =
       subst (AllByRecursion IsHyphenFree) body
@@ -339,7 +350,8 @@ module _ (c : ℕ) (l : Left) (other : is_other_singleton (to_ascii_lowercase c)
         last_of [] qs each = each.0
         last_of (w ∷ ws) qs each = last_of ws qs each.1
 
-    pub next_bad : (old new : Spans) (o n : Bool) → is_in_range 2 8 (length (piece_left m)) ≡ false → g ≡ false
+    pub next_bad : (old new : Spans) (o n : Bool) → is_in_range 2 8 (length (piece_left m)) ≡ false →
+        g ≡ false
         → IsBody c l m old new o n Bad
     next_bad old new o n odd e =
         elim (cases_Bool (is_one_byte (piece_left m)))

@@ -1,10 +1,12 @@
 -- From a head and blocks that were read to the outline of a text.
-use Rattle.std.proofs.Common.{◌≡◌, Bool, true, false, cond, List, [], ◌∷◌, ◌++◌, length, map, take, refl, sym, ap, ◌∙◌, subst, arith, None, append-nil, length-append}
+use Rattle.std.proofs.Common.{◌≡◌, Bool, true, false, cond, List, [], ◌∷◌, ◌++◌, length, map, take, refl, sym}
+use Rattle.std.proofs.Common.{ap, ◌∙◌, subst, arith, None, append-nil, length-append}
 use Rattle.std.specs.List.{AllZip}
 use Rattle.std.specs.Char.{to_ascii_lowercase}
 use Rattle.std.proofs.Math.Seq.{take-length}
 use Rattle.std.proofs.lemmas.List.{map-append}
-use Rattle.iloc_spec_grammar.specs.Syntax.{Text, Identifier, blocks, dashes, front, head, is_one_byte, join, languages, lower, pieces, tail_blocks}
+use Rattle.iloc_spec_grammar.specs.Syntax.{Text, Identifier, blocks, dashes, front, head, is_one_byte, join}
+use Rattle.iloc_spec_grammar.specs.Syntax.{languages, lower, pieces, tail_blocks}
 use Rattle.iloc_spec_grammar.specs.Meaning.{HasFault, IdentifierMeans, Means, normal_identifier}
 use Rattle.iloc_spec_grammar.specs.Tree.{meaning}
 use Rattle.iloc_spec_grammar.specs.Values.{identifier_text, text}
@@ -17,7 +19,8 @@ use Rattle.iloc_subtags.specs.declared.parse_error.ParseError.{ParseError}
 use Rattle.iloc_outline.specs.Blocks.{AreBlocksRead, ReadsBlocks}
 use Rattle.iloc_outline.specs.Identifier.{front_text}
 use Rattle.iloc_pieces.specs.Left.{pieces_left, whole_text}
-use Rattle.iloc_outline.specs.Outlines.{Gives, IsIdentifierOutlined, IsLimit, IsLocaleOutlined, ReadsHead, parts_text}
+use Rattle.iloc_outline.specs.Outlines.{Gives, IsIdentifierOutlined, IsLimit, IsLocaleOutlined, ReadsHead}
+use Rattle.iloc_outline.specs.Outlines.{parts_text}
 use Rattle.iloc_outline.specs.Parts.{Part, blocks_parts, front_pieces, variant_parts}
 use Rattle.iloc_outline.specs.Spans.{IsSpan, Spell, held_spans}
 use Rattle.iloc_outline.specs.declared.blocks.Blocks.TheVariants.{Refused, Full}
@@ -27,7 +30,8 @@ use Rattle.iloc_outline.specs.declared.outline.Outlined.TheVariants as outlined
 use Rattle.iloc_outline.specs.declared.spans.Spans.{Spans}
 use Rattle.iloc_outline.proofs.BlocksLemmas.{blocks_behind, blocks_skip, plain_variants}
 use Rattle.iloc_outline.proofs.BodyLemmas.{front_whole}
-use Rattle.iloc_outline.proofs.Meanings.{has_fault, identifier_text_is, means_read, parts_dashes, parts_text-append, refused, text_is}
+use Rattle.iloc_outline.proofs.Meanings.{has_fault, identifier_text_is, means_read, parts_dashes}
+use Rattle.iloc_outline.proofs.Meanings.{parts_text-append, refused, text_is}
 use Rattle.iloc_outline.proofs.SpansLemmas.{spell_length}
 
 -- ---- where blocks begin

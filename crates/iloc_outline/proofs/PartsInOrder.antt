@@ -5,7 +5,8 @@ use Rattle.std.specs.Ordering.{nat_cmp}
 use Rattle.std.specs.FinMap.{nat_cmp-IsAntisymmetric}
 use Rattle.std.proofs.lemmas.List.Folds.{flat_map-map}
 use Rattle.std.proofs.lemmas.Simd.{map-map}
-use Rattle.iloc_spec_grammar.specs.Syntax.{Text, Fields, Attribute, Variant, IsWord, IsKeyword, IsField, lower, word_cmp, first_piece, fields_pieces}
+use Rattle.iloc_spec_grammar.specs.Syntax.{Text, Fields, Attribute, Variant, IsWord, IsKeyword, IsField}
+use Rattle.iloc_spec_grammar.specs.Syntax.{lower, word_cmp, first_piece, fields_pieces}
 use Rattle.iloc_spec_grammar.specs.Meaning.{map_of, set_of, normal_values, normal_fields}
 use Rattle.iloc_spec_grammar.specs.Reading.{rest_of}
 use Rattle.iloc_spec_grammar.specs.Values.{spelled_value, spelled_fields}
@@ -61,12 +62,14 @@ map_in_order {Y = Y} value ps h =
 
 -- fields in order are printed as the map of what is printed of each
 map_printed : {Y : Type 0} (r : Role) (value : List Text → Y) (show : Y → List Text) (fs : Fields)
-    → AllByRecursion (λ f. IsUpToEight f.0 × (printed_part (field_part r f) ≡ lower f.0 ∷ show (value f.1))) fs
+    → AllByRecursion (λ f. IsUpToEight f.0 × (printed_part (field_part r f) ≡ lower f.0 ∷ show (value f.1)))
+    fs
     → flat_map printed_part (in_order (map (field_part r) fs))
     ≡ flat_map (λ (e : Text × Y). e.0 ∷ show e.1) (map_of word_cmp (map (λ f. (lower f.0, value f.1)) fs))
 map_printed {Y = Y} r value show fs h =
     let parts : List Part = map (field_part r) fs in
-    each (in_order parts) (all_in_order (λ p. printed_part p ≡ name_of p ∷ show (value (rest_of p.pieces))) parts
+    each (in_order parts)
+    (all_in_order (λ p. printed_part p ≡ name_of p ∷ show (value (rest_of p.pieces))) parts
     (all_mapped _ _ (field_part r) (λ f k. k.1) fs h))
     ∙ ap (flat_map (λ (e : Text × Y). e.0 ∷ show e.1))
     (map_in_order (λ p. value (rest_of p.pieces)) parts
@@ -74,7 +77,8 @@ map_printed {Y = Y} r value show fs h =
     ∙ ap (map_of word_cmp) (map-map {C = Text × Y} (λ p. (name_of p, value (rest_of p.pieces)))
     (field_part r) fs))
   where
-    each : (ps : List Part) → AllByRecursion (λ p. printed_part p ≡ name_of p ∷ show (value (rest_of p.pieces))) ps
+    each : (ps : List Part) →
+        AllByRecursion (λ p. printed_part p ≡ name_of p ∷ show (value (rest_of p.pieces))) ps
         → flat_map printed_part ps ≡ flat_map (λ (e : Text × Y). e.0 ∷ show e.1)
         (map {B = Text × Y} (λ p. (name_of p, value (rest_of p.pieces))) ps)
     each [] h = refl

@@ -1,5 +1,8 @@
 -- What the parts of a good block print is what its value prints.
-use Rattle.std.proofs.Common.{◌≡◌, ◌⊎◌, inl, inr, ℕ, ◌+◌, ◌<◌, ◌==◌, Bool, true, false, cond, List, [], ◌∷◌, ◌++◌, length, map, flat_map, refl, sym, ap, ◌∙◌, arith, Option, Some, None, option_map, option_to_list, append_assoc, length-append, append-nil, subst, IfSome, if◌then◌else◌}
+use Rattle.std.proofs.Common.{◌≡◌, ◌⊎◌, inl, inr, ℕ, ◌+◌, ◌<◌, ◌==◌, Bool, true, false, cond, List, [], ◌∷◌}
+use Rattle.std.proofs.Common.{◌++◌, length, map, flat_map, refl, sym, ap, ◌∙◌, arith, Option, Some, None}
+use Rattle.std.proofs.Common.{option_map, option_to_list, append_assoc, length-append, append-nil, subst}
+use Rattle.std.proofs.Common.{IfSome, if◌then◌else◌}
 use Rattle.std.specs.Char.{is_ascii_alphanumeric, to_ascii_lowercase}
 use Rattle.std.specs.declared.cmp.Ordering.{Ordering}
 use Rattle.std.specs.declared.cmp.Ordering.TheVariants.{Less, Equal, Greater}
@@ -8,10 +11,16 @@ use Rattle.std.specs.FinMap.Entries.{by_order}
 use Rattle.std.proofs.lemmas.Bool.{ne_eqb}
 use Rattle.std.proofs.lemmas.List.{length-map}
 use Rattle.std.proofs.lemmas.List.Concat.{flat_map-append}
-use Rattle.iloc_spec_grammar.specs.Syntax.{Text, Block, SpelledIdentifier, SpelledUnicode, SpelledTransform, Fields, IsIdentifier, code_t, code_u, code_x, lower, word_cmp, title, upper, kept, is_other_singleton, lower_singleton, fields_pieces, unicode_pieces, identifier_pieces, optional_pieces, IsOther, IsPrivate}
-use Rattle.iloc_spec_grammar.specs.Meaning.{map_of, set_of, normal_identifier, normal_fields, normal_values, normal_unicode, normal_transform}
+use Rattle.iloc_spec_grammar.specs.Syntax.{Text, Block, SpelledIdentifier, SpelledUnicode, SpelledTransform}
+use Rattle.iloc_spec_grammar.specs.Syntax.{Fields, IsIdentifier, code_t, code_u, code_x, lower, word_cmp}
+use Rattle.iloc_spec_grammar.specs.Syntax.{title, upper, kept, is_other_singleton, lower_singleton}
+use Rattle.iloc_spec_grammar.specs.Syntax.{fields_pieces, unicode_pieces, identifier_pieces, optional_pieces}
+use Rattle.iloc_spec_grammar.specs.Syntax.{IsOther, IsPrivate}
+use Rattle.iloc_spec_grammar.specs.Meaning.{map_of, set_of, normal_identifier, normal_fields, normal_values}
+use Rattle.iloc_spec_grammar.specs.Meaning.{normal_unicode, normal_transform}
 use Rattle.iloc_spec_grammar.specs.Tree.{IsUnicodeBlock, IsTransformBlock, IsExtension}
-use Rattle.iloc_spec_grammar.specs.Values.{printed_pieces, spelled_fields, unicode_spelling, transform_spelling, other_spelling, private_spelling}
+use Rattle.iloc_spec_grammar.specs.Values.{printed_pieces, spelled_fields, unicode_spelling}
+use Rattle.iloc_spec_grammar.specs.Values.{transform_spelling, other_spelling, private_spelling}
 use Rattle.iloc_spec_grammar.specs.Reading.{unicode_of, transform_of, extension_of}
 use Rattle.iloc_spec_grammar.specs.Computing.{is_block}
 use Rattle.iloc_spec_grammar.proofs.General.{all_mapped, all_of}
@@ -19,10 +28,14 @@ use Rattle.iloc_spec_grammar.proofs.ValuesLaws.{map_fixed, length-spelled_fields
 use Rattle.iloc_spec_grammar.proofs.WellRead.{all-set_of}
 use Rattle.iloc_spec_grammar.proofs.WordsLaws.{lower-lower, lower-title, lower-upper}
 use Rattle.iloc_spec_grammar.proofs.RuleTests.{tests_block, extension_read}
-use Rattle.iloc_spec_grammar.proofs.Singletons.{of_u, of_t, of_x, another, kind_of, lower_letter, no_t, no_u, no_x}
-use Rattle.iloc_outline.specs.Parts.{Part, singleton_part, front_pieces, variant_parts, optional_front, optional_variants, unicode_parts, transform_parts, in_order, field_part, block_parts, printed_part}
+use Rattle.iloc_spec_grammar.proofs.Singletons.{of_u, of_t, of_x, another, kind_of, lower_letter, no_t, no_u}
+use Rattle.iloc_spec_grammar.proofs.Singletons.{no_x}
+use Rattle.iloc_outline.specs.Parts.{Part, singleton_part, front_pieces, variant_parts, optional_front}
+use Rattle.iloc_outline.specs.Parts.{optional_variants, unicode_parts, transform_parts, in_order, field_part}
+use Rattle.iloc_outline.specs.Parts.{block_parts, printed_part}
 use Rattle.iloc_outline.specs.declared.span.Role.TheVariants as roles
-use Rattle.iloc_outline.proofs.PartsInOrder.{variants_printed, attributes_printed, keywords_printed, values_printed}
+use Rattle.iloc_outline.proofs.PartsInOrder.{variants_printed, attributes_printed, keywords_printed}
+use Rattle.iloc_outline.proofs.PartsInOrder.{values_printed}
 
 -- what a block prints by its value; c is its singleton in lower case
 abbrev pub spelled : ℕ → List Text → List Text
@@ -110,7 +123,8 @@ some_unicode (w ∷ ws) fs h = omega (
   length-append (set_of (map lower (w ∷ ws))) (fields_pieces (normal_fields fs)),
 )
 
-unicode_printed : (u : SpelledUnicode) → IsUnicodeBlock u → (117 ∷ []) ∷ flat_map printed_part (unicode_parts u)
+unicode_printed : (u : SpelledUnicode) → IsUnicodeBlock u →
+    (117 ∷ []) ∷ flat_map printed_part (unicode_parts u)
     ≡ unicode_spelling (normal_unicode u)
 unfolding unicode_spelling
 unicode_printed u h =
@@ -171,7 +185,8 @@ start : (c d : ℕ) → to_ascii_lowercase c ≡ d → (ps : List Text) (rest : 
     → flat_map printed_part (singleton_part c ps ∷ rest)
     ≡ (d ∷ []) ∷ (cond (is_other_singleton d) (kept ps) (map lower ps) ++ flat_map printed_part rest)
 start c d e ps rest = ap (λ l. l ++ flat_map printed_part rest) (singleton_printed c ps)
-    ∙ ap (λ n. (n ∷ []) ∷ (cond (is_other_singleton n) (kept ps) (map lower ps) ++ flat_map printed_part rest)) e
+    ∙ ap
+    (λ n. (n ∷ []) ∷ (cond (is_other_singleton n) (kept ps) (map lower ps) ++ flat_map printed_part rest)) e
 
 abbrev pub Rule : (ℕ → Bool) → ℕ → List Text → Type 0
 Rule T c ps = ((c ≡ 120) × IsPrivate ps) ⊎ IsExtension T c (extension_of c ps)
@@ -209,7 +224,8 @@ other_rule T c ps o (inr x) =
 pub block_printed : (T : ℕ → Bool) (b : Block) → is_ascii_alphanumeric b.0 ≡ true → is_block T b ≡ true
     → flat_map printed_part (block_parts b) ≡ spelled (lower_singleton b) b.1
 block_printed T b a g = elim (kind_of (lower_singleton b) (lower_letter b.0 a)) [
-  | of_u k ↦ ap (λ c. flat_map printed_part (parts_at c b)) k ∙ start b.0 117 k [] (unicode_parts (unicode_of b.1))
+  | of_u k ↦
+      ap (λ c. flat_map printed_part (parts_at c b)) k ∙ start b.0 117 k [] (unicode_parts (unicode_of b.1))
       ∙ unicode_printed (unicode_of b.1) (u_rule T b.1 (rule_of T b 117 k g))
       ∙ ap (λ c. spelled c b.1) (sym k)
   | of_t k ↦ ap (λ c. flat_map printed_part (parts_at c b)) k

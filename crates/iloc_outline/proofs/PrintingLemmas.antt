@@ -1,18 +1,26 @@
 -- What is printed of spans, piece by piece.
-use Rattle.std.proofs.Common.{◌≡◌, ◌≢◌, ℕ, zero, suc, ◌+◌, ◌-◌, ◌<◌, ◌≤◌, Bool, true, false, true≢false, cond, not, List, [], ◌∷◌, ◌++◌, length, take, drop, map, flat_map, filter, refl, sym, ap, ◌∙◌, subst, arith, add-zero, append_assoc, append-nil, slice_index, slice_index_or, slice_set, add-one}
+use Rattle.std.proofs.Common.{◌≡◌, ◌≢◌, ℕ, zero, suc, ◌+◌, ◌-◌, ◌<◌, ◌≤◌, Bool, true, false, true≢false, cond}
+use Rattle.std.proofs.Common.{not, List, [], ◌∷◌, ◌++◌, length, take, drop, map, flat_map, filter, refl, sym}
+use Rattle.std.proofs.Common.{ap, ◌∙◌, subst, arith, add-zero, append_assoc, append-nil, slice_index}
+use Rattle.std.proofs.Common.{slice_index_or, slice_set, add-one}
 use Rattle.std.specs.Prelude.{codes, if◌then◌else◌}
 use Rattle.std.specs.Char.{to_ascii_lowercase, to_ascii_uppercase}
 use Rattle.std.specs.List.{AllByRecursion, AllZip}
 use Rattle.std.proofs.Math.Seq.{take-suc}
 use Rattle.std.proofs.lemmas.Grind.{flat_map-append}
-use Rattle.std.proofs.lemmas.List.{drop-drop, drop-take, get_or-drop, get_or-take, map-append, take-append-drop, length-append, length-map, length-drop, length-take-le, take-take, take_more_set}
-use Rattle.iloc_spec_grammar.specs.Syntax.{Text, dashes, first_piece, is_other_singleton, is_true, kept, lower, pieces, upper}
+use Rattle.std.proofs.lemmas.List.{drop-drop, drop-take, get_or-drop, get_or-take, map-append}
+use Rattle.std.proofs.lemmas.List.{take-append-drop, length-append, length-map, length-drop, length-take-le}
+use Rattle.std.proofs.lemmas.List.{take-take, take_more_set}
+use Rattle.iloc_spec_grammar.specs.Syntax.{Text, dashes, first_piece, is_other_singleton, is_true, kept}
+use Rattle.iloc_spec_grammar.specs.Syntax.{lower, pieces, upper}
 use Rattle.iloc_spec_grammar.specs.Values.{spelled_value}
 use Rattle.iloc_spec_grammar.proofs.PiecesLaws.{at_pieces, pieces-join}
 use Rattle.iloc_spec_grammar.proofs.PartTexts.{join-dashes}
 use Rattle.iloc_spec_grammar.proofs.WordsLaws.{length-lower}
-use Rattle.iloc_pieces.specs.Left.{IsEnd, IsRemainder, IsNextPiece, IsShortPiece, piece_left, pieces_left, bytes_left}
-use Rattle.iloc_outline.specs.Printing.{bytes_from, edited_text, is_kept, kept_pieces, printed_role, span_text}
+use Rattle.iloc_pieces.specs.Left.{IsEnd, IsRemainder, IsNextPiece, IsShortPiece, piece_left, pieces_left}
+use Rattle.iloc_pieces.specs.Left.{bytes_left}
+use Rattle.iloc_outline.specs.Printing.{bytes_from, edited_text, is_kept, kept_pieces, printed_role}
+use Rattle.iloc_outline.specs.Printing.{span_text}
 use Rattle.iloc_spec_grammar.specs.Reading.{rest_of}
 use Rattle.iloc_outline.specs.Outlines.{Gives, parts_text}
 use Rattle.iloc_outline.specs.Spans.{AreShort, IsSpan, Spell, held_spans}
@@ -65,7 +73,8 @@ pub pieces_behind : (t : Text) → pieces t ≡ first_piece (pieces t) ∷ rest_
 pieces_behind t = at_pieces (λ ps. ps ≡ first_piece ps ∷ rest_of ps) (λ p ps. refl) t
 
 pub first_short : (t : Text) → AllByRecursion IsShortPiece (pieces t) → IsShortPiece (first_piece (pieces t))
-first_short t = at_pieces (λ ps. AllByRecursion IsShortPiece ps → IsShortPiece (first_piece ps)) (λ p ps h. h.0) t
+first_short t =
+    at_pieces (λ ps. AllByRecursion IsShortPiece ps → IsShortPiece (first_piece ps)) (λ p ps h. h.0) t
 
 pub next_short : (l m : Left) → IsNextPiece l m → AllByRecursion IsShortPiece (pieces_left l)
     → AllByRecursion IsShortPiece (pieces_left m)
@@ -106,7 +115,8 @@ module _ (r : Role) (l m : Left) (next : IsNextPiece l m) (kept : is_kept r (pie
         → take more news ++ dashes (kept_pieces r (rest_of (pieces_left m))) ≡ F ++ T
     kept_put news more e =
         ap (λ t. t ++ dashes (kept_pieces r (rest_of (pieces_left m)))) e
-        ∙ append_assoc (take end to) (45 ∷ lower (piece_left m)) (dashes (kept_pieces r (rest_of (pieces_left m))))
+        ∙ append_assoc (take end to) (45 ∷ lower (piece_left m))
+        (dashes (kept_pieces r (rest_of (pieces_left m))))
         ∙ ap (λ t. take end to ++ t) (sym kept_next) ∙ all
 
 -- nothing is left behind the last piece

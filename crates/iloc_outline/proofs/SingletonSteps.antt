@@ -1,30 +1,39 @@
 -- At a singleton of a text: what each step of the reader of blocks says.
-use Rattle.std.proofs.Common.{◌≡◌, ℕ, ◌-◌, ◌<◌, ◌≤◌, ◌==◌, ◌&&◌, ◌↔◌, Bool, true, false, not, cond, List, [], ◌∷◌, ◌++◌, length, map, refl, sym, ap, ◌∙◌, subst, arith, Some, slice_index, true≢false, length-append}
+use Rattle.std.proofs.Common.{◌≡◌, ℕ, ◌-◌, ◌<◌, ◌≤◌, ◌==◌, ◌&&◌, ◌↔◌, Bool, true, false, not, cond, List, []}
+use Rattle.std.proofs.Common.{◌∷◌, ◌++◌, length, map, refl, sym, ap, ◌∙◌, subst, arith, Some, slice_index}
+use Rattle.std.proofs.Common.{true≢false, length-append}
 use Rattle.std.specs.Bool.{IsTrue}
 use Rattle.std.specs.List.{AllByRecursion, list_any}
 use Rattle.std.specs.Char.{is_ascii_alphanumeric, to_ascii_lowercase}
 use Rattle.std.specs.Ordering.{nat_cmp, eq_by_cmp}
 use Rattle.std.specs.FinMap.{put, is_sorted}
 use Rattle.std.proofs.lemmas.Bool.{or_from}
-use Rattle.iloc_spec_grammar.specs.Syntax.{Text, IsAmong, Language, blocks, code_t, code_u, code_x, first_piece, is_one_byte, is_other_singleton, is_word, languages, lower, word_cmp}
+use Rattle.iloc_spec_grammar.specs.Syntax.{Text, IsAmong, Language, blocks, code_t, code_u, code_x}
+use Rattle.iloc_spec_grammar.specs.Syntax.{first_piece, is_one_byte, is_other_singleton, is_word, languages}
+use Rattle.iloc_spec_grammar.specs.Syntax.{lower, word_cmp}
 use Rattle.iloc_spec_grammar.specs.Meaning.{Fault}
 use Rattle.iloc_spec_grammar.specs.Meaning as faults
 use Rattle.iloc_spec_grammar.specs.Reading.{extension_by, front_of, rest_of, transform_of, unicode_of}
-use Rattle.iloc_spec_grammar.specs.Computing.{all_different, first_fault, is_block, is_extension, repeats_variant}
+use Rattle.iloc_spec_grammar.specs.Computing.{all_different, first_fault, is_block, is_extension}
+use Rattle.iloc_spec_grammar.specs.Computing.{repeats_variant}
 use Rattle.iloc_spec_grammar.proofs.Singletons.{two_more, untied}
 use Rattle.iloc_subtags.specs.declared.parse_error.ParseError.{ParseError}
-use Rattle.iloc_subtags.specs.declared.parse_error.ParseError.TheVariants.{InvalidExtension, InvalidSubtag, DuplicatedExtension}
+use Rattle.iloc_subtags.specs.declared.parse_error.ParseError.TheVariants.{InvalidExtension, InvalidSubtag}
+use Rattle.iloc_subtags.specs.declared.parse_error.ParseError.TheVariants.{DuplicatedExtension}
 use Rattle.iloc_subtags.specs.Judging.{error_of}
 use Rattle.iloc_outline.specs.Blocks.{AreBegun, IsBlockRead, body_of}
 use Rattle.iloc_outline.specs.Groups.{AreGroups, parts_in}
-use Rattle.iloc_pieces.specs.Left.{IsEnd, IsLater, IsRemainder, IsNextPiece, IsSpanned, piece_left, pieces_left, whole_text}
+use Rattle.iloc_pieces.specs.Left.{IsEnd, IsLater, IsRemainder, IsNextPiece, IsSpanned, piece_left}
+use Rattle.iloc_pieces.specs.Left.{pieces_left, whole_text}
 use Rattle.iloc_outline.specs.Parts.{Part, block_parts, rank}
 use Rattle.iloc_outline.specs.Reading.{IsTooMuch}
 use Rattle.iloc_outline.specs.Spans.{Spell}
 use Rattle.iloc_pieces.specs.declared.left.Left.{Left}
 use Rattle.iloc_outline.specs.declared.reading.Found.TheVariants.{End, Next, Bad, Repeated, Full}
 use Rattle.iloc_outline.specs.declared.spans.Spans.{Spans}
-use Rattle.iloc_outline.proofs.BlocksLemmas.{IsAt, IsDone, IsRead, at_start, groups_of, is_bad, is_placed, is_second, no_letter, ranks, read_bad, read_end, read_full, read_next, read_repeated, repeats, stays, told}
+use Rattle.iloc_outline.proofs.BlocksLemmas.{IsAt, IsDone, IsRead, at_start, groups_of, is_bad, is_placed}
+use Rattle.iloc_outline.proofs.BlocksLemmas.{is_second, no_letter, ranks, read_bad, read_end, read_full}
+use Rattle.iloc_outline.proofs.BlocksLemmas.{read_next, read_repeated, repeats, stays, told}
 use Rattle.iloc_outline.proofs.SpansLemmas.{length-held, spell_length}
 use Rattle.iloc_pieces.proofs.LeftLemmas.{past_first, single_short, spanned_next, spanned_none}
 
@@ -120,7 +129,8 @@ module _ {l : Left} {old : Spans} {o : Bool} {at : Left} {last : ℕ} {now : Spa
     pub spanned_at : IsSpanned (whole_text m) (at.at - 1) (m.at - 1) ((byte_at ∷ []) ∷ [])
     spanned_at = subst (λ t. IsSpanned t (at.at - 1) (m.at - 1) ((byte_at ∷ []) ∷ []))
         (sym (past_first h.left (single_short (piece_left at) h.single) next).text)
-        (subst (λ q. IsSpanned (whole_text at) (at.at - 1) (m.at - 1) (q ∷ [])) (one_byte (piece_left at) h.single)
+        (subst (λ q. IsSpanned (whole_text at) (at.at - 1) (m.at - 1) (q ∷ []))
+        (one_byte (piece_left at) h.single)
         (spanned_next h.left h.later next (spanned_none h.left h.later)))
 
   module _ (letter : is_ascii_alphanumeric byte_at ≡ true) where
@@ -196,7 +206,8 @@ module _ {l : Left} {old : Spans} {o : Bool} {at : Left} {last : ℕ} {now : Spa
     )
 
     -- a variant is repeated
-    pub refuses_repeated : (j : Left) → IsBlockRead byte_at m j now mid p k Repeated → IsRefused l InvalidSubtag
+    pub refuses_repeated : (j : Left) → IsBlockRead byte_at m j now mid p k Repeated →
+        IsRefused l InvalidSubtag
     refuses_repeated j r = (
       faults.InvalidSubtag,
       repeats byte_at behind l old o last now n at_block x.letter x.fresh.new
@@ -239,7 +250,8 @@ module _ {l : Left} {old : Spans} {o : Bool} {at : Left} {last : ℕ} {now : Spa
 
     read_here : (rest : List Text) → IsRead byte_at (whole_text m) (pieces_left m) rest now mid p k
         → IsRead byte_at (whole_text l) behind rest now mid p k
-    read_here rest r = subst (λ qs. IsRead byte_at (whole_text l) qs rest now mid p k) (sym (same_behind x.next))
+    read_here rest r =
+        subst (λ qs. IsRead byte_at (whole_text l) qs rest now mid p k) (sym (same_behind x.next))
         (subst (λ t. IsRead byte_at t (pieces_left m) rest now mid p k) (same_text x.next) r)
 
     -- the block is the last one
@@ -287,7 +299,8 @@ module _ {l : Left} {old : Spans} {o : Bool} {at : Left} {last : ℕ} {now : Spa
     less_at j r = omega (arith, (read_next byte_at m j now mid p k r).less, x.next.less)
 
 -- at the first singleton
-pub starts_at : (l : Left) (old : Spans) (o : Bool) → IsRemainder l → IsLater l → is_one_byte (piece_left l) ≡ true
+pub starts_at : (l : Left) (old : Spans) (o : Bool) → IsRemainder l → IsLater l →
+    is_one_byte (piece_left l) ≡ true
     → IsAt l old o l 0 old o
 starts_at l old o left later single = record {
   left = left;

@@ -1,5 +1,6 @@
 -- Spans and the parts that they spell.
-use Rattle.std.proofs.Common.{◌≡◌, ℕ, ◌==◌, ◌||◌, true, false, true≢false, List, [], ◌∷◌, ◌++◌, length, map, take, drop, refl, sym, ap, subst, append_assoc, arith}
+use Rattle.std.proofs.Common.{◌≡◌, ℕ, ◌==◌, ◌||◌, true, false, true≢false, List, [], ◌∷◌, ◌++◌, length, map}
+use Rattle.std.proofs.Common.{take, drop, refl, sym, ap, subst, append_assoc, arith}
 use Rattle.std.specs.Char.{is_ascii_alphanumeric, to_ascii_lowercase}
 use Rattle.std.specs.Int.{is_in_range}
 use Rattle.std.specs.List.{AllByRecursion, AllZip}
@@ -10,7 +11,8 @@ use Rattle.std.specs.FinMap.{put}
 use Rattle.std.specs.FinMap.Entries.{by_order}
 use Rattle.std.proofs.lemmas.List.{length-take-le}
 use Rattle.std.proofs.lemmas.Slice.Zip.{AllZip-long}
-use Rattle.iloc_spec_grammar.specs.Syntax.{Text, Field, Kind, Attribute, UnicodeKey, TransformKey, IsWord, Bounds, IsHyphenFree}
+use Rattle.iloc_spec_grammar.specs.Syntax.{Text, Field, Kind, Attribute, UnicodeKey, TransformKey, IsWord}
+use Rattle.iloc_spec_grammar.specs.Syntax.{Bounds, IsHyphenFree}
 use Rattle.iloc_spec_grammar.specs.Meaning.{map_of}
 use Rattle.iloc_spec_grammar.proofs.ReadBack.{word_hyphen_free}
 use Rattle.std.proofs.lemmas.Bool.Decides.{nat_tests}
@@ -32,15 +34,18 @@ pub not_edited : {ps : List Text} → false ≡ true → AreShort ps
 not_edited e = absurd (true≢false (sym e))
 
 -- words of a kind, each of at most eight bytes
-pub words_short : (k : Kind) → Bounds 8 k → (ws : List Text) → AllByRecursion (IsWord k) ws → AllByRecursion IsHyphenFree ws × AllByRecursion IsShortPiece ws
+pub words_short : (k : Kind) → Bounds 8 k → (ws : List Text) → AllByRecursion (IsWord k) ws →
+    AllByRecursion IsHyphenFree ws × AllByRecursion IsShortPiece ws
 words_short k ends [] h = (tt, tt)
-words_short k ends (w ∷ ws) h = let rest = words_short k ends ws h.1 in ((word_hyphen_free k w h.0, rest.0), (short_word k ends w h.0, rest.1))
+words_short k ends (w ∷ ws) h = let rest = words_short k ends ws h.1 in
+    ((word_hyphen_free k w h.0, rest.0), (short_word k ends w h.0, rest.1))
 
 -- a key and its values
 pub field_short : (r : Role) (f : Field) → IsFieldOfRole r f → AreShort (f.0 ∷ f.1)
 field_short r f h = by r h
   where
-    key : (k : Kind) → Bounds 8 k → IsWord k f.0 → AllByRecursion (IsWord Attribute) f.1 → AreShort (f.0 ∷ f.1)
+    key : (k : Kind) → Bounds 8 k → IsWord k f.0 → AllByRecursion (IsWord Attribute) f.1 →
+        AreShort (f.0 ∷ f.1)
     key k ends a b = record {
       some = λ e. absurd (cc);
       hyphen_free = (word_hyphen_free k f.0 a, (words_short Attribute tt f.1 b).0);
@@ -55,7 +60,8 @@ field_short r f h = by r h
     by roles.Keyword h = key UnicodeKey tt h.0 h.1
 
 -- a singleton and pieces of two to eight bytes
-pub other_short : (c : ℕ) (ps : List Text) → is_ascii_alphanumeric (to_ascii_lowercase c) ≡ true → AllByRecursion IsHyphenFree ps
+pub other_short : (c : ℕ) (ps : List Text) → is_ascii_alphanumeric (to_ascii_lowercase c) ≡ true →
+    AllByRecursion IsHyphenFree ps
     → AllByRecursion (λ p. is_in_range 2 8 (length p) ≡ true) ps → AreShort ((c ∷ []) ∷ ps)
 other_short c ps letter free h = record {
   some = λ e. absurd (cc);
@@ -63,7 +69,8 @@ other_short c ps letter free h = record {
   short = (omega arith, each ps h);
 }
   where
-    each : (ps : List Text) → AllByRecursion (λ p. is_in_range 2 8 (length p) ≡ true) ps → AllByRecursion IsShortPiece ps
+    each : (ps : List Text) → AllByRecursion (λ p. is_in_range 2 8 (length p) ≡ true) ps →
+        AllByRecursion IsShortPiece ps
     each [] h = tt
     each (p ∷ ps) h = (between_short p h.0, each ps h.1)
 
@@ -73,7 +80,8 @@ other_short c ps letter free h = record {
 -- ---- partners
 
 -- two lists of partners, one behind the other
-pub zip_append : {A B : Type 0} (R : A → B → Type 0) (xs xs' : List A) (ys ys' : List B) → AllZip R xs ys → AllZip R xs' ys'
+pub zip_append : {A B : Type 0} (R : A → B → Type 0) (xs xs' : List A) (ys ys' : List B) → AllZip R xs ys →
+    AllZip R xs' ys'
     → AllZip R (xs ++ xs') (ys ++ ys')
 zip_append R [] xs' [] ys' h k = k
 zip_append R [] xs' (y ∷ ys) ys' h k = absurd h
@@ -85,43 +93,52 @@ pub length-held : (spans : Spans) → length (held_spans spans) ≡ spans.count
 length-held spans = length-take-le spans.count spans.list (omega (arith, spans.within, spans.long))
 
 -- as many parts as spans
-pub spell_length : (t : Text) (spans : Spans) (ps : List Part) → Spell t spans ps → length ps ≡ length (held_spans spans)
+pub spell_length : (t : Text) (spans : Spans) (ps : List Part) → Spell t spans ps →
+    length ps ≡ length (held_spans spans)
 spell_length t spans ps h = AllZip-long (IsSpan t) (held_spans spans) ps h
 
 -- what is added twice is added behind one another
-pub adds_then : (t : Text) (a b : List Part) (x y z : Spans) → AddsParts t a x y → AddsParts t b y z → AddsParts t (a ++ b) x z
+pub adds_then : (t : Text) (a b : List Part) (x y z : Spans) → AddsParts t a x y → AddsParts t b y z →
+    AddsParts t (a ++ b) x z
 adds_then t a b x y z f g ps h = subst (Spell t z) (append_assoc ps a b) (g (ps ++ a) (f ps h))
 
 -- a span was put behind the others
-pub spell_put : (t : Text) (old new : Spans) (ps : List Part) (s : Span) (p : Part) → Spell t old ps → IsSpan t s p
+pub spell_put : (t : Text) (old new : Spans) (ps : List Part) (s : Span) (p : Part) → Spell t old ps →
+    IsSpan t s p
     → held_spans new ≡ held_spans old ++ s ∷ [] → Spell t new (ps ++ (p ∷ []))
 spell_put t old new ps s p h is e =
     subst (λ (ss : List Span). AllZip (IsSpan t) ss (ps ++ (p ∷ []))) (sym e)
     (zip_append (IsSpan t) (held_spans old) (s ∷ []) ps (p ∷ []) h (is, tt))
 
 -- the first partners of a list whose front is known, and the others
-pub zip_take : {A B : Type 0} (R : A → B → Type 0) (xs : List A) (ys zs : List B) → AllZip R xs (ys ++ zs) → AllZip R (take (length ys) xs) ys
+pub zip_take : {A B : Type 0} (R : A → B → Type 0) (xs : List A) (ys zs : List B) → AllZip R xs (ys ++ zs) →
+    AllZip R (take (length ys) xs) ys
 zip_take R xs [] zs h = tt
 zip_take R [] (y ∷ ys) zs h = absurd h
 zip_take R (x ∷ xs) (y ∷ ys) zs h = (h.0, zip_take R xs ys zs h.1)
 
-pub zip_drop : {A B : Type 0} (R : A → B → Type 0) (xs : List A) (ys zs : List B) → AllZip R xs (ys ++ zs) → AllZip R (drop (length ys) xs) zs
+pub zip_drop : {A B : Type 0} (R : A → B → Type 0) (xs : List A) (ys zs : List B) → AllZip R xs (ys ++ zs) →
+    AllZip R (drop (length ys) xs) zs
 zip_drop R xs [] zs h = h
 zip_drop R [] (y ∷ ys) zs h = absurd h
 zip_drop R (x ∷ xs) (y ∷ ys) zs h = zip_drop R xs ys zs h.1
 
 -- partners that have the same number are partners in order
-module _ {A B : Type 0} (R : A → B → Type 0) (number : A → ℕ) (word : B → ℕ) (same : (x : A) (y : B) → R x y → number x ≡ word y) where
-  zip_put : (k : ℕ) (x : A) (y : B) → R x y → (es : List (ℕ × A)) (fs : List (ℕ × B)) → AllZip (λ e f. (e.0 ≡ f.0) × R e.1 f.1) es fs
+module _ {A B : Type 0} (R : A → B → Type 0) (number : A → ℕ) (word : B → ℕ)
+    (same : (x : A) (y : B) → R x y → number x ≡ word y) where
+  zip_put : (k : ℕ) (x : A) (y : B) → R x y → (es : List (ℕ × A)) (fs : List (ℕ × B)) →
+      AllZip (λ e f. (e.0 ≡ f.0) × R e.1 f.1) es fs
       → AllZip (λ e f. (e.0 ≡ f.0) × R e.1 f.1) (put nat_cmp k x es) (put nat_cmp k y fs)
   zip_put k x y r [] [] h = ((refl, r), tt)
   zip_put k x y r [] (f ∷ fs) h = absurd h
   zip_put k x y r (e ∷ es) [] h = absurd h
   zip_put k x y r (e ∷ es) (f ∷ fs) h =
       let rest = zip_put k x y r es fs h.1 in
-      subst (λ (o : Ordering). AllZip (λ e f. (e.0 ≡ f.0) × R e.1 f.1) (put nat_cmp k x (e ∷ es)) (by_order o ((k, y) ∷ f ∷ fs) ((f.0, y) ∷ fs) (f ∷ put nat_cmp k y fs)))
+      subst (λ (o : Ordering). AllZip (λ e f. (e.0 ≡ f.0) × R e.1 f.1) (put nat_cmp k x (e ∷ es))
+      (by_order o ((k, y) ∷ f ∷ fs) ((f.0, y) ∷ fs) (f ∷ put nat_cmp k y fs)))
       (ap (nat_cmp k) h.0.0)
-      (elim (nat_cmp k e.0) as (λ o. AllZip (λ e f. (e.0 ≡ f.0) × R e.1 f.1) (by_order o ((k, x) ∷ e ∷ es) ((e.0, x) ∷ es) (e ∷ put nat_cmp k x es))
+      (elim (nat_cmp k e.0) as (λ o. AllZip (λ e f. (e.0 ≡ f.0) × R e.1 f.1)
+      (by_order o ((k, x) ∷ e ∷ es) ((e.0, x) ∷ es) (e ∷ put nat_cmp k x es))
       (by_order o ((k, y) ∷ f ∷ fs) ((f.0, y) ∷ fs) (f ∷ put nat_cmp k y fs))) [
         | Less ↦ ((refl, r), h)
         | Equal ↦ ((h.0.0, r), h.1)
@@ -129,19 +146,23 @@ module _ {A B : Type 0} (R : A → B → Type 0) (number : A → ℕ) (word : B 
       ])
 
   zip_map_of : (xs : List A) (ys : List B) → AllZip R xs ys
-      → AllZip (λ e f. (e.0 ≡ f.0) × R e.1 f.1) (map_of nat_cmp (numbered number xs)) (map_of nat_cmp (numbered word ys))
+      → AllZip (λ e f. (e.0 ≡ f.0) × R e.1 f.1) (map_of nat_cmp (numbered number xs))
+      (map_of nat_cmp (numbered word ys))
   zip_map_of [] [] h = tt
   zip_map_of [] (y ∷ ys) h = absurd h
   zip_map_of (x ∷ xs) [] h = absurd h
   zip_map_of (x ∷ xs) (y ∷ ys) h =
-      subst (λ (k : ℕ). AllZip (λ e f. (e.0 ≡ f.0) × R e.1 f.1) (map_of nat_cmp (numbered number (x ∷ xs))) (put nat_cmp k y (map_of nat_cmp (numbered word ys))))
+      subst (λ (k : ℕ). AllZip (λ e f. (e.0 ≡ f.0) × R e.1 f.1) (map_of nat_cmp (numbered number (x ∷ xs)))
+      (put nat_cmp k y (map_of nat_cmp (numbered word ys))))
       (same x y h.0) (zip_put (number x) x y h.0 _ _ (zip_map_of xs ys h.1))
 
-  zip_values : (es : List (ℕ × A)) (fs : List (ℕ × B)) → AllZip (λ e f. (e.0 ≡ f.0) × R e.1 f.1) es fs → AllZip R (map (λ (_, x). x) es) (map (λ (_, y). y) fs)
+  zip_values : (es : List (ℕ × A)) (fs : List (ℕ × B)) → AllZip (λ e f. (e.0 ≡ f.0) × R e.1 f.1) es fs →
+      AllZip R (map (λ (_, x). x) es) (map (λ (_, y). y) fs)
   zip_values [] [] h = tt
   zip_values [] (f ∷ fs) h = absurd h
   zip_values (e ∷ es) [] h = absurd h
   zip_values (e ∷ es) (f ∷ fs) h = (h.0.1, zip_values es fs h.1)
 
-  pub zip_arranged : (xs : List A) (ys : List B) → AllZip R xs ys → AllZip R (arranged number xs) (arranged word ys)
+  pub zip_arranged : (xs : List A) (ys : List B) → AllZip R xs ys →
+      AllZip R (arranged number xs) (arranged word ys)
   zip_arranged xs ys h = zip_values _ _ (zip_map_of xs ys h)

@@ -1,21 +1,33 @@
 -- Which pieces may follow `t`: an identifier and fields, one of both at least.
-use Rattle.std.proofs.Common.{◌≡◌, ◌≢◌, ◌⊎◌, inl, inr, ℕ, ◌<◌, Bool, true, false, cond, ◌||◌, List, [], ◌∷◌, ◌++◌, length, map, refl, sym, ap, ◌∙◌, subst, arith, Option, Some, None, IfSome, option_to_list, append_assoc, true≢false}
+use Rattle.std.proofs.Common.{◌≡◌, ◌≢◌, ◌⊎◌, inl, inr, ℕ, ◌<◌, Bool, true, false, cond, ◌||◌, List, [], ◌∷◌}
+use Rattle.std.proofs.Common.{◌++◌, length, map, refl, sym, ap, ◌∙◌, subst, arith, Option, Some, None, IfSome}
+use Rattle.std.proofs.Common.{option_to_list, append_assoc, true≢false}
 use Rattle.std.specs.Prelude.{nat_eq}
 use Rattle.std.specs.List.{AllByRecursion}
 use Rattle.std.specs.Char.{to_ascii_lowercase}
 use Rattle.std.proofs.lemmas.Bool.{and_parts, and_from, false_from_ne_true, eqb-true, ne_eqb}
 use Rattle.std.proofs.lemmas.List.{append_cancel_left}
-use Rattle.iloc_spec_grammar.specs.Syntax.{Text, code_t, Language, Script, Region, Variant, TransformKey, Attribute, is_word, IsWord, IsField, Fields, SpelledIdentifier, SpelledTransform, HasWords, IsIdentifier, AllDifferent, fields_pieces, identifier_pieces, optional_pieces, transform_pieces, languages, first_piece, front, lower, word_cmp}
-use Rattle.iloc_spec_grammar.specs.Tree.{Extension, unicode, transform, other, IsBlock, IsExtension, IsTransformBlock, extension_pieces}
-use Rattle.iloc_spec_grammar.specs.Reading.{transform_of, front_of, after_front, after_region, from_block, before_key, fields_from, passing}
+use Rattle.iloc_spec_grammar.specs.Syntax.{Text, code_t, Language, Script, Region, Variant, TransformKey}
+use Rattle.iloc_spec_grammar.specs.Syntax.{Attribute, is_word, IsWord, IsField, Fields, SpelledIdentifier}
+use Rattle.iloc_spec_grammar.specs.Syntax.{SpelledTransform, HasWords, IsIdentifier, AllDifferent}
+use Rattle.iloc_spec_grammar.specs.Syntax.{fields_pieces, identifier_pieces, optional_pieces}
+use Rattle.iloc_spec_grammar.specs.Syntax.{transform_pieces, languages, first_piece, front, lower, word_cmp}
+use Rattle.iloc_spec_grammar.specs.Tree.{Extension, unicode, transform, other, IsBlock, IsExtension}
+use Rattle.iloc_spec_grammar.specs.Tree.{IsTransformBlock, extension_pieces}
+use Rattle.iloc_spec_grammar.specs.Reading.{transform_of, front_of, after_front, after_region, from_block}
+use Rattle.iloc_spec_grammar.specs.Reading.{before_key, fields_from, passing}
 use Rattle.iloc_spec_grammar.specs.Computing.{is_block, repeats_variant}
-use Rattle.iloc_spec_grammar.proofs.Readings.{IsLong, IsNoKey, KeysPass, transform_of-pieces, language_no_key, long_after_language, fields_pass, fields_read, fields_past}
-use Rattle.iloc_spec_grammar.proofs.ReadingLaws.{EndsWords, front_of-append, after_front-append, after_front-pieces, front_words, pieces-front_of, starts_ends, from_block_starts, front-from_block}
+use Rattle.iloc_spec_grammar.proofs.Readings.{IsLong, IsNoKey, KeysPass, transform_of-pieces, language_no_key}
+use Rattle.iloc_spec_grammar.proofs.Readings.{long_after_language, fields_pass, fields_read, fields_past}
+use Rattle.iloc_spec_grammar.proofs.ReadingLaws.{EndsWords, front_of-append, after_front-append}
+use Rattle.iloc_spec_grammar.proofs.ReadingLaws.{after_front-pieces, front_words, pieces-front_of}
+use Rattle.iloc_spec_grammar.proofs.ReadingLaws.{starts_ends, from_block_starts, front-from_block}
 use Rattle.iloc_spec_grammar.proofs.ReadBack.{fields_each, plain_fields}
 use Rattle.iloc_spec_grammar.proofs.RuleTests.{tests_block, tests_fails, tests_different, tests_denied}
 use Rattle.iloc_spec_grammar.proofs.RawLaws.{languages_table}
 use Rattle.iloc_spec_grammar.proofs.Singletons.{no_t}
-use Rattle.iloc_spec_grammar.proofs.WordsLaws.{length-language, length-transform_key, length-script, length-variant}
+use Rattle.iloc_spec_grammar.proofs.WordsLaws.{length-language, length-transform_key, length-script}
+use Rattle.iloc_spec_grammar.proofs.WordsLaws.{length-variant}
 use Rattle.iloc_outline.specs.Reading.{EndsInKey}
 use Rattle.iloc_pieces.specs.Shape.{shape_of}
 use Rattle.iloc_outline.proofs.BodyLemmas.{front_past, front_first}
@@ -24,7 +36,8 @@ use Rattle.iloc_pieces.proofs.Tests.{region_is, field_key_is}
 -- ---- good blocks
 
 -- what follows the rule is a good block, and is read
-pub transform_good : (c : ℕ) (m : SpelledTransform) → to_ascii_lowercase c ≡ code_t → IsTransformBlock languages m
+pub transform_good : (c : ℕ) (m : SpelledTransform) → to_ascii_lowercase c ≡ code_t →
+    IsTransformBlock languages m
     → (is_block languages (c, transform_pieces m) ≡ true) × (transform_of (transform_pieces m) ≡ m)
 transform_good c m e h = (
   (tests_block languages (c, transform_pieces m)).passes (inr (transform m, (e, h), refl)),
@@ -62,7 +75,8 @@ alone ps m none h cut = by m.id m.fields h.id h.fields h.nonempty cut
     some [] l e = omega arith
     some (f ∷ fs) l e = cc
 
-    by : (o : Option SpelledIdentifier) (fs : Fields) → IfSome o (IsIdentifier languages) → AllByRecursion IsField fs
+    by : (o : Option SpelledIdentifier) (fs : Fields) → IfSome o (IsIdentifier languages) →
+        AllByRecursion IsField fs
         → (o ≡ None → 0 < length fs) → ps ≡ optional_pieces o ++ fields_pieces fs → AreFields ps × (ps ≢ [])
     by None fs i f n cut = ((fs, f, cut), λ e. some fs (n refl) (sym cut ∙ e))
     by (Some j) fs i f n cut =
@@ -102,7 +116,8 @@ after_words ps m word h cut = by m.id m.fields h.id h.fields cut
     key_first [] f w = true≢false (sym w ∙ no_language)
     key_first (f ∷ fs) k w = true≢false (sym k.0.0 ∙ language_no_key languages f.0 w)
 
-    by : (o : Option SpelledIdentifier) (fs : Fields) → IfSome o (IsIdentifier languages) → AllByRecursion IsField fs
+    by : (o : Option SpelledIdentifier) (fs : Fields) → IfSome o (IsIdentifier languages) →
+        AllByRecursion IsField fs
         → ps ≡ optional_pieces o ++ fields_pieces fs → AreFields (after_front ps)
     by None fs i f cut = absurd
         (key_first fs f (subst (λ l. IsWord (Language languages) (first_piece l)) cut word))

@@ -1,9 +1,15 @@
 -- What the reader of `t` says.
-use Rattle.std.proofs.Common.{◌≡◌, ◌≢◌, ◌⊎◌, inl, inr, ℕ, ◌+◌, ◌-◌, ◌<◌, Bool, true, false, cond, List, [], ◌∷◌, ◌++◌, length, map, refl, sym, ap, ◌∙◌, subst, arith, Option, Some, None, option_to_list, append_assoc, append-nil, length-append}
+use Rattle.std.proofs.Common.{◌≡◌, ◌≢◌, ◌⊎◌, inl, inr, ℕ, ◌+◌, ◌-◌, ◌<◌, Bool, true, false, cond, List, []}
+use Rattle.std.proofs.Common.{◌∷◌, ◌++◌, length, map, refl, sym, ap, ◌∙◌, subst, arith, Option, Some, None}
+use Rattle.std.proofs.Common.{option_to_list, append_assoc, append-nil, length-append}
 use Rattle.std.specs.List.{AllByRecursion}
 use Rattle.std.specs.Char.{to_ascii_lowercase}
 use Rattle.std.proofs.lemmas.List.{append_cancel_left}
-use Rattle.iloc_spec_grammar.specs.Syntax.{Text, code_t, Language, Variant, TransformKey, Attribute, is_word, IsWord, IsField, Fields, Spelled, SpelledIdentifier, SpelledTransform, AllDifferent, fields_pieces, identifier_pieces, optional_pieces, transform_pieces, languages, is_one_byte, is_other_singleton, first_piece, front, lower, word_cmp}
+use Rattle.iloc_spec_grammar.specs.Syntax.{Text, code_t, Language, Variant, TransformKey, Attribute, is_word}
+use Rattle.iloc_spec_grammar.specs.Syntax.{IsWord, IsField, Fields, Spelled, SpelledIdentifier}
+use Rattle.iloc_spec_grammar.specs.Syntax.{SpelledTransform, AllDifferent, fields_pieces, identifier_pieces}
+use Rattle.iloc_spec_grammar.specs.Syntax.{optional_pieces, transform_pieces, languages, is_one_byte}
+use Rattle.iloc_spec_grammar.specs.Syntax.{is_other_singleton, first_piece, front, lower, word_cmp}
 use Rattle.iloc_spec_grammar.specs.Tree.{IsTransformBlock}
 use Rattle.iloc_spec_grammar.specs.Reading.{after_front, after_region, front_of, passing, transform_of}
 use Rattle.iloc_spec_grammar.proofs.PiecesLaws.{pieces_nonempty}
@@ -11,8 +17,10 @@ use Rattle.iloc_spec_grammar.proofs.Readings.{IsLong, long_attribute}
 use Rattle.iloc_spec_grammar.proofs.ReadBack.{all_append, fields_each, plain_fields}
 use Rattle.iloc_spec_grammar.proofs.WordsLaws.{length-transform_key}
 use Rattle.iloc_pieces.specs.Left.{IsPast, IsSpanned, piece_left, pieces_left, bytes_left, whole_text}
-use Rattle.iloc_outline.specs.Parts.{block_parts, field_part, front_pieces, in_order, optional_front, optional_variants, rank, singleton_part, transform_parts, variant_parts}
-use Rattle.iloc_outline.specs.Reading.{AreFieldsRead, AreWordsRead, EndsAtBlock, EndsInKey, IsBody, IsFoundAt, Puts, ReadsBlock, ReadsFields, ReadsWords, block_span}
+use Rattle.iloc_outline.specs.Parts.{block_parts, field_part, front_pieces, in_order, optional_front}
+use Rattle.iloc_outline.specs.Parts.{optional_variants, rank, singleton_part, transform_parts, variant_parts}
+use Rattle.iloc_outline.specs.Reading.{AreFieldsRead, AreWordsRead, EndsAtBlock, EndsInKey, IsBody, IsFoundAt}
+use Rattle.iloc_outline.specs.Reading.{Puts, ReadsBlock, ReadsFields, ReadsWords, block_span}
 use Rattle.iloc_outline.specs.Spans.{held_spans}
 use Rattle.iloc_pieces.specs.declared.left.Left.{Left}
 use Rattle.iloc_outline.specs.declared.reading.Found.{Found}
@@ -22,8 +30,12 @@ use Rattle.iloc_outline.specs.declared.span.Role.TheVariants as roles
 use Rattle.iloc_outline.specs.declared.span.Role.TheVariants.{Singleton}
 use Rattle.iloc_outline.specs.declared.spans.Spans.{Spans}
 use Rattle.iloc_pieces.proofs.LeftLemmas.{past_past}
-use Rattle.iloc_outline.proofs.BodyLemmas.{front_ends, front_first, front_goes_on, front_past, front_single, front_whole, puts_none, puts_singleton, puts_then, some_passed}
-use Rattle.iloc_outline.proofs.TransformLemmas.{AreFields, after_front_body, alone_bad, first_body, front_bad, long_front, no_repeat, pieces_front_of, repeats, variants_of, words_front, no_fields_first, no_fields_key, no_fields_later, none_repeats, transform_good}
+use Rattle.iloc_outline.proofs.BodyLemmas.{front_ends, front_first, front_goes_on, front_past, front_single}
+use Rattle.iloc_outline.proofs.BodyLemmas.{front_whole, puts_none, puts_singleton, puts_then, some_passed}
+use Rattle.iloc_outline.proofs.TransformLemmas.{AreFields, after_front_body, alone_bad, first_body, front_bad}
+use Rattle.iloc_outline.proofs.TransformLemmas.{long_front, no_repeat, pieces_front_of, repeats, variants_of}
+use Rattle.iloc_outline.proofs.TransformLemmas.{words_front, no_fields_first, no_fields_key, no_fields_later}
+use Rattle.iloc_outline.proofs.TransformLemmas.{none_repeats, transform_good}
 
 -- what is left after fields is a piece of a text
 pub fields_left : (r : Role) (l m : Left) (old new : Spans) (o n : Bool) (s : Found)
@@ -34,19 +46,22 @@ fields_left r l m old new o n _ h = tt
 -- ---- good blocks
 
 -- the pieces of an identifier
-pub pieces_front : (o : Option SpelledIdentifier) → optional_pieces o ≡ optional_front o ++ optional_variants o
+pub pieces_front : (o : Option SpelledIdentifier) →
+    optional_pieces o ≡ optional_front o ++ optional_variants o
 pieces_front None = refl
 pieces_front (Some i) =
     ap (λ ps. i.language ∷ ps)
     (sym (append_assoc (option_to_list i.script) (option_to_list i.region) i.variants))
 
 -- the parts of the block
-parts_of_t : (c : ℕ) (ps : List Text) (m : SpelledTransform) → to_ascii_lowercase c ≡ code_t → transform_of ps ≡ m
+parts_of_t : (c : ℕ) (ps : List Text) (m : SpelledTransform) → to_ascii_lowercase c ≡ code_t →
+    transform_of ps ≡ m
     → block_parts (c, ps) ≡ singleton_part c (optional_front m.id) ∷ transform_parts m
 parts_of_t c ps m e h = rw (e, h)
 
 -- the singleton with the front of an identifier, variants and fields were put
-good_block : (c start end : ℕ) (l : Left) (id : Option SpelledIdentifier) (fs : Fields) (old mid mid' new : Spans)
+good_block : (c start end : ℕ) (l : Left) (id : Option SpelledIdentifier) (fs : Fields)
+    (old mid mid' new : Spans)
     (o o' n : Bool) → to_ascii_lowercase c ≡ code_t
     → IsSpanned (whole_text l) start end ((c ∷ []) ∷ optional_front id)
     → held_spans mid ≡ held_spans old ++ block_span code_t start end false ∷ []
@@ -58,9 +73,11 @@ good_block : (c start end : ℕ) (l : Left) (id : Option SpelledIdentifier) (fs 
 good_block c start end l id fs old mid mid' new o o' n e spanned put variants fields rule body =
     let m : SpelledTransform = record { id = id; fields = fs } in
     let known : is_other_singleton (to_ascii_lowercase c) ≡ false = ap is_other_singleton e in
-    let place = subst (λ (w : ℕ). held_spans mid ≡ held_spans old ++ block_span w start end false ∷ []) (sym (ap rank e))
+    let place =
+    subst (λ (w : ℕ). held_spans mid ≡ held_spans old ++ block_span w start end false ∷ []) (sym (ap rank e))
     put in
-    let singleton = puts_singleton (whole_text l) c start end (optional_front id) old mid o spanned known place
+    let singleton =
+    puts_singleton (whole_text l) c start end (optional_front id) old mid o spanned known place
     in
     let rest = puts_then (whole_text l) (variant_parts (optional_variants id))
     (in_order (map (field_part roles.Field) fs)) (optional_variants id) (fields_pieces fs) mid mid' new o
@@ -225,7 +242,8 @@ module _ (c start end : ℕ) (l : Left) (e : to_ascii_lowercase c ≡ code_t)
 
   good_id : (mid' new : Spans) (o' n : Bool) (fs : Fields)
       → AllDifferent word_cmp (map lower (front_of (pieces_left l)).variants) → AllByRecursion IsField fs
-      → Puts (whole_text l) (variant_parts (front_of (pieces_left l)).variants) (front_of (pieces_left l)).variants
+      → Puts (whole_text l) (variant_parts (front_of (pieces_left l)).variants)
+      (front_of (pieces_left l)).variants
       mid mid' o o'
       → Puts (whole_text l) (in_order (map (field_part roles.Field) fs)) (fields_pieces fs) mid' new o' n
       → front (pieces_left l) ≡ identifier_pieces (front_of (pieces_left l)) ++ fields_pieces fs
@@ -279,7 +297,8 @@ module _ (c start end : ℕ) (l : Left) (e : to_ascii_lowercase c ≡ code_t)
         subst (λ ws. AllDifferent word_cmp (map lower ws)) (variants_all vs mid' o' h) h.may_be
 
     variants_put : (vs : List Text) (mid' : Spans) (o' : Bool) → ReadsWords roles.Variant m vs mid mid' o o'
-        → Puts (whole_text l) (variant_parts (front_of (pieces_left l)).variants) (front_of (pieces_left l)).variants
+        → Puts (whole_text l) (variant_parts (front_of (pieces_left l)).variants)
+        (front_of (pieces_left l)).variants
         mid mid' o o'
     variants_put vs mid' o' h =
         subst (λ ws. Puts (whole_text l) (variant_parts ws) ws mid mid' o o') (variants_all vs mid' o' h)
@@ -302,7 +321,8 @@ module _ (c start end : ℕ) (l : Left) (e : to_ascii_lowercase c ≡ code_t)
         ∙ front_whole (identifier_pieces i) (long_front (pieces_left l) word)
         ∙ sym (append-nil (identifier_pieces i)) in
         subst (λ ps. ReadsBlock c l ps old new o n) (sym all)
-        (good_id new new n n [] (all_different (pieces_left m) new n h) tt (variants_put (pieces_left m) new n h)
+        (good_id new new n n [] (all_different (pieces_left m) new n h) tt
+        (variants_put (pieces_left m) new n h)
         (puts_none (whole_text l) new n) body)
 
     variants_repeated : (k : Left) (new : Spans) (n : Bool)

@@ -1,9 +1,14 @@
 -- Which pieces may follow `u`: attributes and keys, one at least.
-use Rattle.std.proofs.Common.{◌≡◌, ◌≢◌, ◌⊎◌, inl, inr, ℕ, ◌+◌, ◌-◌, ◌<◌, Bool, true, false, List, [], ◌∷◌, ◌++◌, length, map, refl, sym, ap, ◌∙◌, subst, arith, append-nil, length-append, true≢false}
+use Rattle.std.proofs.Common.{◌≡◌, ◌≢◌, ◌⊎◌, inl, inr, ℕ, ◌+◌, ◌-◌, ◌<◌, Bool, true, false, List, [], ◌∷◌}
+use Rattle.std.proofs.Common.{◌++◌, length, map, refl, sym, ap, ◌∙◌, subst, arith, append-nil, length-append}
+use Rattle.std.proofs.Common.{true≢false}
 use Rattle.std.specs.List.{AllByRecursion}
 use Rattle.std.specs.Char.{to_ascii_lowercase}
-use Rattle.iloc_spec_grammar.specs.Syntax.{Text, code_t, code_u, UnicodeKey, Attribute, is_word, IsWord, IsKeyword, Fields, SpelledUnicode, fields_pieces, unicode_pieces, languages, is_one_byte, is_other_singleton, first_piece, front}
-use Rattle.iloc_spec_grammar.specs.Tree.{Extension, unicode, transform, other, IsBlock, IsExtension, IsUnicodeBlock, extension_pieces}
+use Rattle.iloc_spec_grammar.specs.Syntax.{Text, code_t, code_u, UnicodeKey, Attribute, is_word, IsWord}
+use Rattle.iloc_spec_grammar.specs.Syntax.{IsKeyword, Fields, SpelledUnicode, fields_pieces, unicode_pieces}
+use Rattle.iloc_spec_grammar.specs.Syntax.{languages, is_one_byte, is_other_singleton, first_piece, front}
+use Rattle.iloc_spec_grammar.specs.Tree.{Extension, unicode, transform, other, IsBlock, IsExtension}
+use Rattle.iloc_spec_grammar.specs.Tree.{IsUnicodeBlock, extension_pieces}
 use Rattle.iloc_spec_grammar.specs.Reading.{unicode_of}
 use Rattle.iloc_spec_grammar.specs.Computing.{is_block}
 use Rattle.iloc_spec_grammar.proofs.PiecesLaws.{pieces_nonempty}
@@ -15,8 +20,10 @@ use Rattle.iloc_spec_grammar.proofs.Singletons.{no_u}
 use Rattle.iloc_spec_grammar.proofs.ValuesLaws.{all_weaker}
 use Rattle.iloc_spec_grammar.proofs.WordsLaws.{length-unicode_key}
 use Rattle.iloc_pieces.specs.Left.{IsPast, IsSpanned, piece_left, pieces_left, bytes_left, whole_text}
-use Rattle.iloc_outline.specs.Parts.{block_parts, field_part, in_order, rank, singleton_part, unicode_parts, word_part}
-use Rattle.iloc_outline.specs.Reading.{AreFieldsRead, AreWordsRead, EndsAtBlock, IsBody, Puts, ReadsBlock, ReadsFields, ReadsWords, block_span}
+use Rattle.iloc_outline.specs.Parts.{block_parts, field_part, in_order, rank, singleton_part, unicode_parts}
+use Rattle.iloc_outline.specs.Parts.{word_part}
+use Rattle.iloc_outline.specs.Reading.{AreFieldsRead, AreWordsRead, EndsAtBlock, IsBody, Puts, ReadsBlock}
+use Rattle.iloc_outline.specs.Reading.{ReadsFields, ReadsWords, block_span}
 use Rattle.iloc_outline.specs.Spans.{held_spans}
 use Rattle.iloc_pieces.specs.declared.left.Left.{Left}
 use Rattle.iloc_outline.specs.declared.reading.Found.{Found}
@@ -25,7 +32,8 @@ use Rattle.iloc_outline.specs.declared.span.Role.TheVariants as roles
 use Rattle.iloc_outline.specs.declared.span.Role.TheVariants.{Singleton}
 use Rattle.iloc_outline.specs.declared.spans.Spans.{Spans}
 use Rattle.iloc_pieces.proofs.LeftLemmas.{past_past}
-use Rattle.iloc_outline.proofs.BodyLemmas.{front_ends, front_goes_on, front_single, front_whole, puts_singleton, puts_then, some_passed}
+use Rattle.iloc_outline.proofs.BodyLemmas.{front_ends, front_goes_on, front_single, front_whole}
+use Rattle.iloc_outline.proofs.BodyLemmas.{puts_singleton, puts_then, some_passed}
 
 -- an attribute or a key
 abbrev pub IsUnicodeWord : Text → Type 0
@@ -133,7 +141,8 @@ module _ (c start : ℕ) (l : Left) (e : to_ascii_lowercase c ≡ code_u)
   good_block new n ws fs h k some body puts =
       let u = unicode_pair ws fs in
       let known : is_other_singleton (to_ascii_lowercase c) ≡ false = ap is_other_singleton e in
-      let place = subst (λ (w : ℕ). held_spans mid ≡ held_spans old ++ block_span w start (l.at - 1) false ∷ [])
+      let place =
+      subst (λ (w : ℕ). held_spans mid ≡ held_spans old ++ block_span w start (l.at - 1) false ∷ [])
       (sym (ap rank e)) put in
       let both = puts_then (whole_text l) (singleton_part c [] ∷ []) (unicode_parts u) ((c ∷ []) ∷ [])
       (ws ++ fields_pieces fs) old mid new o o n
@@ -170,7 +179,8 @@ module _ (c start : ℕ) (l : Left) (e : to_ascii_lowercase c ≡ code_u)
       puts)
 
   -- attributes were put, and then keywords
-  module _ (m : Left) (ws : List Text) (past : IsPast l m ws) (none : is_word Attribute (piece_left m) ≡ false)
+  module _ (m : Left) (ws : List Text) (past : IsPast l m ws)
+      (none : is_word Attribute (piece_left m) ≡ false)
       (mid' : Spans) (o' : Bool) (words : ReadsWords roles.Attribute l ws mid mid' o o') where
     all_attributes : AllByRecursion (IsWord Attribute) ws
     all_attributes = subst (AllByRecursion (IsWord Attribute)) (sym words.words)
@@ -247,7 +257,8 @@ module _ (c start : ℕ) (l : Left) (e : to_ascii_lowercase c ≡ code_u)
       keywords_read m ws past none mid' o' words k new n r s
 
   pub words_alone : (m : Left) (new : Spans) (n : Bool) (r s : Found)
-      → AreWordsRead roles.Attribute l m mid new o n r → r ≢ Next → EndsAtBlock m r s → IsBody c l m old new o n s
+      → AreWordsRead roles.Attribute l m mid new o n r → r ≢ Next → EndsAtBlock m r s →
+      IsBody c l m old new o n s
   words_alone m new n End s h ends k = subst (IsBody c l m old new o n) k (attributes_alone new n h)
   words_alone m new n Next s h ends k = absurd (ends refl)
   words_alone m new n Bad s h ends k = absurd (h tt)

@@ -1,5 +1,6 @@
 -- Values of keys: how they are printed, and how they are passed.
-use Rattle.std.proofs.Common.{◌≡◌, ℕ, ◌+◌, ◌-◌, ◌<◌, ◌≤◌, Bool, true, false, cond, not, ◌||◌, List, [], ◌∷◌, ◌++◌, length, map, codes, refl, sym, ap, ◌∙◌, subst, arith, length-append}
+use Rattle.std.proofs.Common.{◌≡◌, ℕ, ◌+◌, ◌-◌, ◌<◌, ◌≤◌, Bool, true, false, cond, not, ◌||◌, List, [], ◌∷◌}
+use Rattle.std.proofs.Common.{◌++◌, length, map, codes, refl, sym, ap, ◌∙◌, subst, arith, length-append}
 use Rattle.std.specs.List.{AllByRecursion, list_any}
 use Rattle.std.proofs.lemmas.Bool.{or_parts}
 use Rattle.std.proofs.lemmas.List.Folds.{list_any-append}
@@ -9,12 +10,14 @@ use Rattle.iloc_spec_grammar.specs.Values.{spelled_value}
 use Rattle.iloc_spec_grammar.proofs.MapLaws.{same_is}
 use Rattle.iloc_spec_grammar.proofs.ReadBack.{all_append}
 use Rattle.iloc_outline.specs.Fields.{PrintsAsItIs, IsValueRead}
-use Rattle.iloc_pieces.specs.Left.{IsRemainder, IsLater, IsNextPiece, IsPast, IsShortPiece, IsSpanned, piece_left, whole_text}
+use Rattle.iloc_pieces.specs.Left.{IsRemainder, IsLater, IsNextPiece, IsPast, IsShortPiece, IsSpanned}
+use Rattle.iloc_pieces.specs.Left.{piece_left, whole_text}
 use Rattle.iloc_outline.specs.Reading.{IsOfField}
 use Rattle.iloc_pieces.specs.declared.left.Left.{Left}
 use Rattle.iloc_outline.specs.declared.span.Role.{Role}
 use Rattle.iloc_outline.specs.declared.span.Role.TheVariants as roles
-use Rattle.iloc_pieces.proofs.LeftLemmas.{last_piece, past_next, past_none, pieces_end, short_attribute, spanned_end}
+use Rattle.iloc_pieces.proofs.LeftLemmas.{last_piece, past_next, past_none, pieces_end, short_attribute}
+use Rattle.iloc_pieces.proofs.LeftLemmas.{spanned_end}
 
 -- ---- printing
 
@@ -83,7 +86,8 @@ pub record Reaches (key at : Left) (n : ℕ) (t : Bool) : Type 0 where
   pub room : n + at.len ≤ key.len
 
 -- none
-pub reaches_key : (key : Left) → IsRemainder key → IsLater key → IsShortPiece (piece_left key) → Reaches key key 0 false
+pub reaches_key : (key : Left) → IsRemainder key → IsLater key → IsShortPiece (piece_left key) →
+    Reaches key key 0 false
 reaches_key key h later short = record {
   before = [];
   past = past_none h later;
@@ -134,7 +138,8 @@ module _ (key at : Left) (n : ℕ) (t : Bool) (h : Reaches key at n t) (later : 
         }
 
     -- one value more
-    pub reaches_more : IsWord Attribute (piece_left next) → (u : Bool) → u ≡ (t || says_true (piece_left next))
+    pub reaches_more : IsWord Attribute (piece_left next) → (u : Bool) →
+        u ≡ (t || says_true (piece_left next))
         → Reaches key next (n + 1) u
     reaches_more word u e = record {
       before = h.before ++ (piece_left at ∷ []);

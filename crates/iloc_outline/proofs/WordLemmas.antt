@@ -1,10 +1,12 @@
 -- Words and their spans.
-use Rattle.std.proofs.Common.{◌≡◌, ℕ, ◌+◌, ◌-◌, ◌<◌, ◌≤◌, Bool, true, false, cond, List, [], ◌∷◌, ◌++◌, length, refl, ap, ◌∙◌, subst, arith, append-nil}
+use Rattle.std.proofs.Common.{◌≡◌, ℕ, ◌+◌, ◌-◌, ◌<◌, ◌≤◌, Bool, true, false, cond, List, [], ◌∷◌, ◌++◌}
+use Rattle.std.proofs.Common.{length, refl, ap, ◌∙◌, subst, arith, append-nil}
 use Rattle.std.specs.List.{AllByRecursion}
 use Rattle.iloc_spec_grammar.specs.Syntax.{Text, Kind, IsWord, is_word, lower, first_piece}
 use Rattle.iloc_spec_grammar.specs.Reading.{passing, EndsBefore}
 use Rattle.iloc_spec_grammar.proofs.PiecesLaws.{at_pieces}
-use Rattle.iloc_pieces.specs.Left.{IsRemainder, IsLater, IsPast, IsShortPiece, IsSpanned, piece_left, pieces_left, bytes_left, whole_text}
+use Rattle.iloc_pieces.specs.Left.{IsRemainder, IsLater, IsPast, IsShortPiece, IsSpanned, piece_left}
+use Rattle.iloc_pieces.specs.Left.{pieces_left, bytes_left, whole_text}
 use Rattle.iloc_fronts.specs.Words.{IsUpToEight, word_number}
 use Rattle.iloc_outline.specs.Parts.{word_part, printed_part}
 use Rattle.iloc_outline.specs.Reading.{IsOfWord, role_kind}
@@ -62,7 +64,8 @@ length-pieces_of l = at_pieces (λ ps. 0 < length ps) (λ p ps. omega arith) (by
 pub ends_before : (k : Kind) (l : Left) → is_word k (piece_left l) ≡ false
     → EndsBefore (is_word k) (pieces_left l)
 ends_before k l =
-    at_pieces (λ ps. is_word k (first_piece ps) ≡ false → EndsBefore (is_word k) ps) (λ p ps e. e) (bytes_left l)
+    at_pieces (λ ps. is_word k (first_piece ps) ≡ false → EndsBefore (is_word k) ps) (λ p ps e. e)
+    (bytes_left l)
 
 -- a word that comes first
 pub word_next : (k : Kind) (l : Left) → is_word k (piece_left l) ≡ true
@@ -78,7 +81,8 @@ pub short_piece : (l : Left) → IsRemainder l → IsLater l → IsShortPiece (p
     → IsSpanned (whole_text l) (l.at - 1) (l.at + l.n) (piece_left l ∷ [])
 short_piece l h later short =
     let long : l.at + length (piece_left l) ≡ l.at + l.n = omega (arith, length_piece h short) in
-    subst (λ (n : ℕ). IsSpanned (whole_text l) (l.at - 1) n (piece_left l ∷ [])) long (spanned_piece l h later)
+    subst (λ (n : ℕ). IsSpanned (whole_text l) (l.at - 1) n (piece_left l ∷ [])) long
+    (spanned_piece l h later)
 
 -- it ends within the text
 pub end_within : (l at : Left) (ps : List Text) → IsPast l at ps → IsShortPiece (piece_left at)
@@ -91,8 +95,10 @@ abbrev pub span_of : Role → ℕ → Left → Span
 span_of r n l = record { word = n; start = l.at - 1; end = l.at + l.n; role = r; edited = false }
 
 -- it is that part of the text
-pub word_span : (r : Role) → IsOfWord r → (l : Left) → IsRemainder l → IsLater l → IsWord (role_kind r) (piece_left l)
-    → (n : ℕ) → n ≡ word_number (piece_left l) → IsSpan (whole_text l) (span_of r n l) (word_part r (piece_left l))
+pub word_span : (r : Role) → IsOfWord r → (l : Left) → IsRemainder l → IsLater l →
+    IsWord (role_kind r) (piece_left l)
+    → (n : ℕ) → n ≡ word_number (piece_left l) →
+    IsSpan (whole_text l) (span_of r n l) (word_part r (piece_left l))
 word_span r role l h k word n e = record {
   role = refl;
   word = e;

@@ -1,5 +1,6 @@
 -- Words are passed one after another, and each is put where it belongs.
-use Rattle.std.proofs.Common.{◌≡◌, ◌⊎◌, ℕ, Bool, true, false, ◌||◌, List, [], ◌∷◌, ◌++◌, length, map, sym, ap, ◌∙◌, refl, subst, arith, inl, inr, length-append, true≢false}
+use Rattle.std.proofs.Common.{◌≡◌, ◌⊎◌, ℕ, Bool, true, false, ◌||◌, List, [], ◌∷◌, ◌++◌, length, map, sym, ap}
+use Rattle.std.proofs.Common.{◌∙◌, refl, subst, arith, inl, inr, length-append, true≢false}
 use Rattle.std.specs.Cmp.{nat_cmp_is, ranked}
 use Rattle.std.specs.List.{AllByRecursion, list_any}
 use Rattle.std.specs.Ordering.{nat_cmp, eq_by_cmp, is_eq}
@@ -14,7 +15,8 @@ use Rattle.iloc_spec_grammar.proofs.ReadBack.{all_append}
 use Rattle.iloc_spec_grammar.proofs.ReadingLaws.{keep_all, keep_while_passes}
 use Rattle.iloc_spec_grammar.proofs.ValuesLaws.{all_weaker}
 use Rattle.iloc_outline.specs.Inserting.{IsPutFrom}
-use Rattle.iloc_pieces.specs.Left.{IsRemainder, IsLater, IsNextPiece, IsPast, piece_left, pieces_left, whole_text}
+use Rattle.iloc_pieces.specs.Left.{IsRemainder, IsLater, IsNextPiece, IsPast, piece_left, pieces_left}
+use Rattle.iloc_pieces.specs.Left.{whole_text}
 use Rattle.iloc_fronts.specs.Words.{IsUpToEight, word_number}
 use Rattle.iloc_outline.specs.Parts.{Part, word_part}
 use Rattle.iloc_outline.specs.Reading.{IsOfWord, IsTooMuch, MayBe, ReadsWords, role_kind, words_of}
@@ -25,10 +27,12 @@ use Rattle.iloc_outline.specs.declared.sorting.Inserted.TheVariants.{Put, There,
 use Rattle.iloc_outline.specs.declared.span.Role.{Role}
 use Rattle.iloc_outline.specs.declared.span.Role.TheVariants as roles
 use Rattle.iloc_outline.specs.declared.spans.Spans.{Spans}
-use Rattle.iloc_outline.proofs.GatherLemmas.{Gathers, gathers_few, gathers_full, gathers_none, gathers_put, gathers_puts, gathers_there, pieces_in}
+use Rattle.iloc_outline.proofs.GatherLemmas.{Gathers, gathers_few, gathers_full, gathers_none, gathers_put}
+use Rattle.iloc_outline.proofs.GatherLemmas.{gathers_puts, gathers_there, pieces_in}
 use Rattle.iloc_pieces.proofs.LeftLemmas.{last_piece, past_next, past_none, pieces_end}
 use Rattle.iloc_outline.proofs.RoleLemmas.{short_kind}
-use Rattle.iloc_outline.proofs.WordLemmas.{ends_before, length-pieces_of, passing_cut, passing_more, span_of, word_fits, word_next, word_span}
+use Rattle.iloc_outline.proofs.WordLemmas.{ends_before, length-pieces_of, passing_cut, passing_more, span_of}
+use Rattle.iloc_outline.proofs.WordLemmas.{word_fits, word_next, word_span}
 use Rattle.iloc_fronts.proofs.WordNumbers.{word_order}
 
 -- ---- words differ where their numbers do
@@ -108,7 +112,8 @@ pub record Walks (r : Role) (l at : Left) (old new : Spans) (last : ℕ) (o n : 
   pub gathers : Gathers (whole_text l) (map (word_part r) words) old new last o n
   pub differ : r ≡ roles.Variant → AllDifferent nat_cmp (map word_number words)
 
-pub walks_none : (r : Role) (l : Left) → IsRemainder l → IsLater l → (s : Spans) (o : Bool) → Walks r l l s s 0 o o
+pub walks_none : (r : Role) (l : Left) → IsRemainder l → IsLater l → (s : Spans) (o : Bool) →
+    Walks r l l s s 0 o o
 walks_none r l h k s o = record {
   words = [];
   past = past_none h k;
@@ -142,7 +147,8 @@ module _ (r : Role) (l at : Left) (old mid : Spans) (last : ℕ) (o n : Bool)
       walked r l w.words old mid last o n (sym (ap (words_of r) w.past.pieces ∙ cut)) w.each w.gathers
       w.differ
 
-  module _ (role : IsOfWord r) (word : IsWord (role_kind r) (piece_left at)) (new : Spans) (k : Bool) (m now : ℕ)
+  module _ (role : IsOfWord r) (word : IsWord (role_kind r) (piece_left at)) (new : Spans) (k : Bool)
+      (m now : ℕ)
       (e : m ≡ word_number (piece_left at)) where
     abbrev more : List Text
     more = w.words ++ piece_left at ∷ []

@@ -1,5 +1,6 @@
 -- What the blocks of a text are read as.
-use Rattle.std.specs.Prelude.{◌≡◌, ◌≢◌, Bool, true, ℕ, List, [], ◌++◌, ◌==◌, length, map, flat_map, Some, None, MatchBool, if◌then◌else◌}
+use Rattle.std.specs.Prelude.{◌≡◌, ◌≢◌, Bool, true, ℕ, List, [], ◌++◌, ◌==◌, length, map, flat_map, Some}
+use Rattle.std.specs.Prelude.{None, MatchBool, if◌then◌else◌}
 use Rattle.std.specs.List.{AllByRecursion}
 use Rattle.std.specs.Char.{to_ascii_lowercase}
 use Rattle.iloc_spec_grammar.specs.Syntax.{Text, code_x, front, blocks, languages, lower}

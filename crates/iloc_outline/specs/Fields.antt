@@ -12,7 +12,8 @@ use Rattle.iloc_outline.specs.declared.span.Role.{Role}
 -- after a key its values were passed, and a piece that is none is left, or nothing
 abbrev pub IsAfterValues : Left → List Text → Option Left → Type 0
 IsAfterValues key vs None = pieces_left key ≡ piece_left key ∷ vs
-IsAfterValues key vs (Some m) = IsPast key m (piece_left key ∷ vs) × (is_word Attribute (piece_left m) ≡ false)
+IsAfterValues key vs (Some m) =
+    IsPast key m (piece_left key ∷ vs) × (is_word Attribute (piece_left m) ≡ false)
 
 -- the values after a key, and m behind them
 pub record IsValueRead (key m : Left) (v : Value) : Type 0 where
@@ -26,5 +27,6 @@ pub record IsValueRead (key m : Left) (v : Value) : Type 0 where
 
 -- so many values, of which one is `true` if so, are printed as they are
 abbrev pub PrintsAsItIs : Role → ℕ → Bool → Type 0
-PrintsAsItIs r n t = (f : Field) → IsFieldOfRole r f → n ≡ length f.1 → t ≡ list_any (λ w. is_true (lower w)) f.1
+PrintsAsItIs r n t =
+    (f : Field) → IsFieldOfRole r f → n ≡ length f.1 → t ≡ list_any (λ w. is_true (lower w)) f.1
     → printed_part (field_part r f) ≡ map lower (f.0 ∷ f.1)

@@ -1,9 +1,11 @@
 -- The front of an identifier: language, script and region, as it is read and as it is printed.
-use Rattle.std.specs.Prelude.{◌≡◌, ℕ, zero, suc, ◌+◌, ◌-◌, ◌≤◌, ◌<◌, Bool, true, false, List, [], ◌∷◌, ◌++◌, take, drop, Option, Some, None}
+use Rattle.std.specs.Prelude.{◌≡◌, ℕ, zero, suc, ◌+◌, ◌-◌, ◌≤◌, ◌<◌, Bool, true, false, List, [], ◌∷◌, ◌++◌}
+use Rattle.std.specs.Prelude.{take, drop, Option, Some, None}
 use Rattle.iloc_spec_grammar.specs.Syntax.{Text, join, lower, upper}
 use Rattle.iloc_spec_grammar.specs.Meaning.{normal_identifier}
 use Rattle.iloc_spec_grammar.specs.Reading.{front_of, after_region}
-use Rattle.iloc_pieces.specs.Left.{IsLater, IsNextPiece, IsPast, IsSpanned, piece_left, pieces_left, whole_text}
+use Rattle.iloc_pieces.specs.Left.{IsLater, IsNextPiece, IsPast, IsSpanned, piece_left, pieces_left}
+use Rattle.iloc_pieces.specs.Left.{whole_text}
 use Rattle.iloc_outline.specs.Parts.{front_pieces}
 use Rattle.iloc_outline.specs.Reading.{unless_end}
 use Rattle.iloc_outline.specs.declared.identifier.Front.{Front}

@@ -1,7 +1,9 @@
 -- The outline of a text, and the text that it is of.
 use Rattle.std.specs.Prelude.{◌≡◌, ℕ, ◌<◌, ◌≤◌, Bool, true, false, List, [], ◌++◌, length, flat_map, take}
-use Rattle.iloc_spec_grammar.specs.Syntax.{Text, pieces, first_piece, dashes, languages, Language, IsWord, SpelledIdentifier, Identifier, join, lower, head, is_one_byte}
-use Rattle.iloc_spec_grammar.specs.Meaning.{Locale, Means, IdentifierMeans, HasFault, HasIdentifierFault, normal_identifier}
+use Rattle.iloc_spec_grammar.specs.Syntax.{Text, pieces, first_piece, dashes, languages, Language, IsWord}
+use Rattle.iloc_spec_grammar.specs.Syntax.{SpelledIdentifier, Identifier, join, lower, head, is_one_byte}
+use Rattle.iloc_spec_grammar.specs.Meaning.{Locale, Means, IdentifierMeans, HasFault, HasIdentifierFault}
+use Rattle.iloc_spec_grammar.specs.Meaning.{normal_identifier}
 use Rattle.iloc_spec_grammar.specs.Values.{text, identifier_text}
 use Rattle.iloc_spec_grammar.specs.Reading.{after_head}
 use Rattle.iloc_subtags.specs.Judging.{Refusal}

@@ -1,14 +1,18 @@
 -- The parts of a text that stay together when it is brought into order, and how each is printed.
-use Rattle.std.specs.Prelude.{ℕ, List, [], ◌∷◌, ◌++◌, ◌==◌, map, flat_map, Option, Some, None, option_to_list, if◌then◌else◌, slice_index}
+use Rattle.std.specs.Prelude.{ℕ, List, [], ◌∷◌, ◌++◌, ◌==◌, map, flat_map, Option, Some, None, option_to_list}
+use Rattle.std.specs.Prelude.{if◌then◌else◌, slice_index}
 use Rattle.std.specs.Char.{to_ascii_lowercase}
 use Rattle.std.specs.Ordering.{nat_cmp}
-use Rattle.iloc_spec_grammar.specs.Syntax.{Text, Field, Block, code_t, code_u, code_x, lower, kept, is_other_singleton, lower_singleton, Stage, IdentifierOf, SpelledIdentifier, SpelledUnicode, SpelledTransform}
+use Rattle.iloc_spec_grammar.specs.Syntax.{Text, Field, Block, code_t, code_u, code_x, lower, kept}
+use Rattle.iloc_spec_grammar.specs.Syntax.{is_other_singleton, lower_singleton, Stage, IdentifierOf}
+use Rattle.iloc_spec_grammar.specs.Syntax.{SpelledIdentifier, SpelledUnicode, SpelledTransform}
 use Rattle.iloc_spec_grammar.specs.Meaning.{map_of, normal_values}
 use Rattle.iloc_spec_grammar.specs.Values.{spelled_value}
 use Rattle.iloc_spec_grammar.specs.Reading.{unicode_of, transform_of}
 use Rattle.iloc_fronts.specs.Words.{word_number}
 use Rattle.iloc_outline.specs.declared.span.Role.{Role}
-use Rattle.iloc_outline.specs.declared.span.Role.TheVariants.{Variant, Singleton, Attribute, Keyword, Field as FieldRole}
+use Rattle.iloc_outline.specs.declared.span.Role.TheVariants.{Variant, Singleton, Attribute, Keyword}
+use Rattle.iloc_outline.specs.declared.span.Role.TheVariants.{Field as FieldRole}
 
 -- a part: what it is, the number by which it is ordered, and its pieces
 pub record Part : Type 0 where

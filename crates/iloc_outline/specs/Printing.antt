@@ -1,7 +1,9 @@
 -- What is printed of an outline and of spans.
-use Rattle.std.specs.Prelude.{ℕ, ◌+◌, ◌-◌, ◌≤◌, Bool, true, not, cond, List, length, map, filter, take, drop, slice_index}
+use Rattle.std.specs.Prelude.{ℕ, ◌+◌, ◌-◌, ◌≤◌, Bool, true, not, cond, List, length, map, filter, take, drop}
+use Rattle.std.specs.Prelude.{slice_index}
 use Rattle.std.specs.Char.{to_ascii_lowercase}
-use Rattle.iloc_spec_grammar.specs.Syntax.{Text, Subtag, dashes, is_other_singleton, is_true, is_word, lower, pieces}
+use Rattle.iloc_spec_grammar.specs.Syntax.{Text, Subtag, dashes, is_other_singleton, is_true, is_word, lower}
+use Rattle.iloc_spec_grammar.specs.Syntax.{pieces}
 use Rattle.iloc_outline.specs.Outlines.{Gives, parts_text}
 use Rattle.iloc_outline.specs.Parts.{Part, printed_by}
 use Rattle.iloc_outline.specs.Spans.{Spell}

@@ -1,8 +1,12 @@
 -- What the readers of parts find.
-use Rattle.std.specs.Prelude.{◌≡◌, ◌⊎◌, ℕ, ◌+◌, ◌<◌, ◌≤◌, Bool, true, false, List, [], ◌∷◌, ◌++◌, length, map, flat_map, ⊤, Option, Some, None}
+use Rattle.std.specs.Prelude.{◌≡◌, ◌⊎◌, ℕ, ◌+◌, ◌<◌, ◌≤◌, Bool, true, false, List, [], ◌∷◌, ◌++◌, length, map}
+use Rattle.std.specs.Prelude.{flat_map, ⊤, Option, Some, None}
 use Rattle.std.specs.List.{AllByRecursion}
 use Rattle.std.specs.Char.{to_ascii_lowercase}
-use Rattle.iloc_spec_grammar.specs.Syntax.{Text, Kind, Field, Fields, code_t, front, first_piece, languages, Attribute, Variant, UnicodeKey, TransformKey, is_word, IsWord, IsKeyword, IsField, is_one_byte, lower, word_cmp, fields_pieces, AllDifferent}
+use Rattle.iloc_spec_grammar.specs.Syntax.{Text, Kind, Field, Fields, code_t, front, first_piece, languages}
+use Rattle.iloc_spec_grammar.specs.Syntax.{Attribute, Variant, UnicodeKey, TransformKey, is_word, IsWord}
+use Rattle.iloc_spec_grammar.specs.Syntax.{IsKeyword, IsField, is_one_byte, lower, word_cmp, fields_pieces}
+use Rattle.iloc_spec_grammar.specs.Syntax.{AllDifferent}
 use Rattle.iloc_spec_grammar.specs.Reading.{passing}
 use Rattle.iloc_spec_grammar.specs.Computing.{is_block, repeats_variant}
 use Rattle.iloc_pieces.specs.Left.{IsRemainder, IsPast, piece_left, pieces_left, whole_text}
@@ -144,7 +148,8 @@ IsPrivateBody c l old new o n Full = IsTooMuch old (1 + length (pieces_left l))
 -- such a span was put, and the text is in order only if it is not edited; or there was no room for it
 abbrev pub IsPutOther : Span → Spans → Spans → Bool → Bool → Found → Found → Type 0
 IsPutOther span old new o n good r = (r ≡ Full) × IsTooMuch old 1
-    ⊎ (r ≡ good) × (held_spans new ≡ held_spans old ++ span ∷ []) × (n ≡ true → (o ≡ true) × (span.edited ≡ false))
+    ⊎ (r ≡ good) × (held_spans new ≡ held_spans old ++ span ∷ [])
+    × (n ≡ true → (o ≡ true) × (span.edited ≡ false))
 
 -- m, unless the text ends before it
 abbrev pub unless_end : Bool → Left → Option Left

@@ -1,5 +1,7 @@
 -- From marks to the first piece: how long it is, and its shape by the lowest bit that is set.
-use Rattle.std.proofs.Common.{◌≡◌, ℕ, zero, suc, ◌+◌, ◌-◌, ◌*◌, ◌^◌, ◌<◌, ◌≤◌, Bool, true, false, cond, not, ◌&&◌, List, [], ◌∷◌, length, map, take, bit_and, refl, sym, ap, ◌∙◌, subst, arith, pow-suc, ◌↔◌}
+use Rattle.std.proofs.Common.{◌≡◌, ℕ, zero, suc, ◌+◌, ◌-◌, ◌*◌, ◌^◌, ◌<◌, ◌≤◌, Bool, true, false, cond, not}
+use Rattle.std.proofs.Common.{◌&&◌, List, [], ◌∷◌, length, map, take, bit_and, refl, sym, ap, ◌∙◌, subst}
+use Rattle.std.proofs.Common.{arith, pow-suc, ◌↔◌}
 use Rattle.std.specs.List.{prefix_len, slice_split, onto_first}
 use Rattle.std.specs.Int.Bits.{bit_xor, xor_self}
 use Rattle.std.specs.Char.{is_ascii_alphabetic, is_ascii_alphanumeric}

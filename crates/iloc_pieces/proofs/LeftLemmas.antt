@@ -1,15 +1,21 @@
 -- Pieces that are passed, and the bytes that they are.
-use Rattle.std.proofs.Common.{◌≡◌, ◌≢◌, ℕ, suc, ◌+◌, ◌-◌, ◌<◌, ◌≤◌, ◌==◌, true, List, [], ◌∷◌, ◌++◌, length, get_or, take, drop, refl, sym, ap, ◌∙◌, subst, arith, inl, inr, append_assoc, append-nil}
+use Rattle.std.proofs.Common.{◌≡◌, ◌≢◌, ℕ, suc, ◌+◌, ◌-◌, ◌<◌, ◌≤◌, ◌==◌, true, List, [], ◌∷◌, ◌++◌, length}
+use Rattle.std.proofs.Common.{get_or, take, drop, refl, sym, ap, ◌∙◌, subst, arith, inl, inr, append_assoc}
+use Rattle.std.proofs.Common.{append-nil}
 use Rattle.std.specs.Int.{is_in_range}
 use Rattle.std.specs.List.{AllByRecursion}
 use Rattle.std.proofs.Math.Seq.{take-add, take-append_seam, drop-cons}
 use Rattle.std.proofs.lemmas.Bool.Decides.{nat_tests}
-use Rattle.std.proofs.lemmas.List.{drop-drop, drop-take, length-append, length-drop, length-take-le, get_or-take, get_or-drop, take-take, take_all}
-use Rattle.iloc_spec_grammar.specs.Syntax.{Text, Kind, Language, Script, Region, Variant, Subtag, UnicodeKey, TransformKey, Attribute, PrivateSubtag, IsWord, Bounds, languages, is_one_byte, pieces, join, dashes, first_piece, IsHyphenFree}
+use Rattle.std.proofs.lemmas.List.{drop-drop, drop-take, length-append, length-drop, length-take-le}
+use Rattle.std.proofs.lemmas.List.{get_or-take, get_or-drop, take-take, take_all}
+use Rattle.iloc_spec_grammar.specs.Syntax.{Text, Kind, Language, Script, Region, Variant, Subtag, UnicodeKey}
+use Rattle.iloc_spec_grammar.specs.Syntax.{TransformKey, Attribute, PrivateSubtag, IsWord, Bounds, languages}
+use Rattle.iloc_spec_grammar.specs.Syntax.{is_one_byte, pieces, join, dashes, first_piece, IsHyphenFree}
 use Rattle.iloc_spec_grammar.proofs.PartTexts.{join-append, join-dashes, dashes-append}
 use Rattle.iloc_spec_grammar.proofs.PiecesLaws.{at_pieces, join-pieces, pieces-join, pieces_hyphen_free}
 use Rattle.iloc_spec_grammar.proofs.RawLaws.{languages_table}
-use Rattle.iloc_pieces.specs.Left.{IsRemainder, IsLater, IsNextPiece, IsPast, IsEnd, IsSpanned, IsShortPiece, piece_left, pieces_left, bytes_left, whole_text}
+use Rattle.iloc_pieces.specs.Left.{IsRemainder, IsLater, IsNextPiece, IsPast, IsEnd, IsSpanned, IsShortPiece}
+use Rattle.iloc_pieces.specs.Left.{piece_left, pieces_left, bytes_left, whole_text}
 use Rattle.iloc_pieces.specs.declared.left.Left.{Left}
 use Rattle.iloc_pieces.proofs.Shapes.{few_bytes}
 
@@ -144,7 +150,8 @@ pub piece_inside : {l : Left} → IsRemainder l → l.at + length (piece_left l)
 piece_inside {l} h = omega (arith, h.inside, length_rest h, first_within (bytes_left l))
 
 -- the piece is among the window's bytes
-pub piece_bytes : {l : Left} → IsRemainder l → take (length (piece_left l)) (drop l.at l.window.now) ≡ piece_left l
+pub piece_bytes : {l : Left} → IsRemainder l →
+    take (length (piece_left l)) (drop l.at l.window.now) ≡ piece_left l
 piece_bytes {l} h =
     let few : length (piece_left l) ≤ l.len = omega (arith, length_rest h, first_within (bytes_left l)) in
     sym (take-take (length (piece_left l)) l.len (drop l.at l.window.now) few) ∙ begins (bytes_left l)
@@ -172,7 +179,8 @@ last_piece l h end short = record {
 -- it is all that is left
 pub last_rest : {l : Left} → IsEnd l → bytes_left l ≡ piece_left l
 last_rest {l} end =
-    sym (join-pieces (bytes_left l)) ∙ ap join end.one ∙ join-dashes (piece_left l) [] ∙ append-nil (piece_left l)
+    sym (join-pieces (bytes_left l)) ∙ ap join end.one ∙ join-dashes (piece_left l) []
+    ∙ append-nil (piece_left l)
 
 -- ---- the bytes that pieces are
 
@@ -289,7 +297,8 @@ past_none {l} h later = record {
 }
 
 -- l need not be later
-pub past_first : {l k : Left} → IsRemainder l → IsShortPiece (piece_left l) → IsNextPiece l k → IsPast l k (piece_left l ∷ [])
+pub past_first : {l k : Left} → IsRemainder l → IsShortPiece (piece_left l) → IsNextPiece l k →
+    IsPast l k (piece_left l ∷ [])
 past_first {l} {k} h short next = record {
   left = next.left;
   later = next.later;
@@ -325,7 +334,8 @@ past_past {l} {m} {k} {ps} {qs} p q =
     }
 
 -- one piece more is passed
-pub past_next : {l m k : Left} {ps : List Text} → IsPast l m ps → IsShortPiece (piece_left m) → IsNextPiece m k
+pub past_next : {l m k : Left} {ps : List Text} → IsPast l m ps → IsShortPiece (piece_left m) →
+    IsNextPiece m k
     → IsPast l k (ps ++ (piece_left m ∷ []))
 past_next p short next = past_past p (past_first p.left short next)
 

@@ -1,11 +1,14 @@
 -- The piece that marks tell, and the next one.
-use Rattle.std.proofs.Common.{◌≡◌, ◌≢◌, ℕ, suc, ◌+◌, ◌-◌, ◌<◌, ◌≤◌, [], ◌∷◌, ◌++◌, length, get_or, take, drop, refl, sym, ap, ◌∙◌, subst, arith, inl, inr, append-nil}
-use Rattle.std.proofs.lemmas.List.{drop-drop, drop-take, get_or-drop, get_or-take, length-append, length-take, length-take-le, drop-append-le}
+use Rattle.std.proofs.Common.{◌≡◌, ◌≢◌, ℕ, suc, ◌+◌, ◌-◌, ◌<◌, ◌≤◌, [], ◌∷◌, ◌++◌, length, get_or, take, drop}
+use Rattle.std.proofs.Common.{refl, sym, ap, ◌∙◌, subst, arith, inl, inr, append-nil}
+use Rattle.std.proofs.lemmas.List.{drop-drop, drop-take, get_or-drop, get_or-take, length-append, length-take}
+use Rattle.std.proofs.lemmas.List.{length-take-le, drop-append-le}
 use Rattle.std.proofs.lemmas.Simd.{trailing_mask_l}
 use lib.Count.{count_trailing_zeros}
 use Rattle.iloc_spec_grammar.specs.Syntax.{Text, pieces, first_piece}
 use Rattle.iloc_spec_grammar.proofs.PartTexts.{join-dashes}
-use Rattle.iloc_pieces.specs.Left.{IsRemainder, HasShape, IsLong, IsNextPiece, IsShortPiece, piece_left, pieces_left, bytes_left}
+use Rattle.iloc_pieces.specs.Left.{IsRemainder, HasShape, IsLong, IsNextPiece, IsShortPiece, piece_left}
+use Rattle.iloc_pieces.specs.Left.{pieces_left, bytes_left}
 use Rattle.iloc_pieces.specs.Marks.{AreMarks, AreKnown, AreMarksSeen, closed}
 use Rattle.iloc_fronts.specs.Run.{is_hyphen}
 use Rattle.iloc_pieces.specs.Shape.{shape_of}
@@ -19,7 +22,8 @@ pub seen_known : {rest : Text} {m : Marks} → AreKnown rest m → AreMarksSeen 
 seen_known k = record { known = k.known; few = k.few; enough = λ _. k.enough; marks = k.marks }
 
 -- where no hyphen is marked, the piece is long
-pub long_piece : {rest : Text} {m : Marks} (l : Left) → AreMarksSeen rest m → m.ends ≡ 0 → l.n ≡ 16 → l.shape ≡ 0
+pub long_piece : {rest : Text} {m : Marks} (l : Left) → AreMarksSeen rest m → m.ends ≡ 0 → l.n ≡ 16 →
+    l.shape ≡ 0
     → IsLong rest l
 long_piece {rest} {m} l s none most shape = record {
   most = most;

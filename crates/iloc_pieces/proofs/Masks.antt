@@ -1,5 +1,7 @@
 -- Bytes as bits: of lanes, of the first and the later ones, and of one that is added.
-use Rattle.std.proofs.Common.{◌≡◌, ℕ, zero, suc, ◌+◌, ◌-◌, ◌*◌, ◌/◌, ◌%◌, ◌^◌, ◌<◌, ◌≤◌, Bool, true, false, cond, [], ◌∷◌, ◌++◌, length, map, take, drop, replicate, Fits, w8, bit_and, bit_or, refl, sym, ap, subst, ◌∙◌, arith, pow-suc}
+use Rattle.std.proofs.Common.{◌≡◌, ℕ, zero, suc, ◌+◌, ◌-◌, ◌*◌, ◌/◌, ◌%◌, ◌^◌, ◌<◌, ◌≤◌, Bool, true, false}
+use Rattle.std.proofs.Common.{cond, [], ◌∷◌, ◌++◌, length, map, take, drop, replicate, Fits, w8, bit_and}
+use Rattle.std.proofs.Common.{bit_or, refl, sym, ap, subst, ◌∙◌, arith, pow-suc}
 use Rattle.std.specs.Int.Bits.{or_zero_l, or_zero_r}
 use Rattle.std.proofs.Math.Nat.{mod-one, zero-mod, div-one, zero-div, div-div-eq-div-mul}
 use Rattle.std.proofs.Math.Arith.{mod-mul}

@@ -1,13 +1,18 @@
--- A piece of at most eight bytes is a word of the same kinds as the text that its shape spells. So a test of a word is one of
--- its shape where the two agree on 512 numbers.
-use Rattle.std.proofs.Common.{◌≡◌, ℕ, zero, suc, ◌+◌, ◌*◌, ◌/◌, ◌%◌, ◌^◌, ◌<◌, ◌≤◌, ◌==◌, nat_le, Bool, true, false, cond, ◌&&◌, ◌||◌, List, [], ◌∷◌, length, map, slice_index, refl, sym, ap, ap₂, ◌∙◌, arith, inl, inr, pow-suc}
+-- A piece of at most eight bytes is a word of the same kinds as the text that its shape spells. So a test of
+-- a word is one of its shape where the two agree on 512 numbers.
+use Rattle.std.proofs.Common.{◌≡◌, ℕ, zero, suc, ◌+◌, ◌*◌, ◌/◌, ◌%◌, ◌^◌, ◌<◌, ◌≤◌, ◌==◌, nat_le, Bool, true}
+use Rattle.std.proofs.Common.{false, cond, ◌&&◌, ◌||◌, List, [], ◌∷◌, length, map, slice_index, refl, sym, ap}
+use Rattle.std.proofs.Common.{ap₂, ◌∙◌, arith, inl, inr, pow-suc}
 use Rattle.std.specs.Int.{is_in_range}
 use Rattle.std.specs.Char.{is_ascii_alphabetic, is_ascii_digit, is_ascii_alphanumeric}
-use Rattle.std.proofs.lemmas.Bool.{agree_below, agree_below_at, and_parts, cases_Bool, cases_lt, false_from_ne_true}
+use Rattle.std.proofs.lemmas.Bool.{agree_below, agree_below_at, and_parts, cases_Bool, cases_lt}
+use Rattle.std.proofs.lemmas.Bool.{false_from_ne_true}
 use Rattle.std.proofs.lemmas.Bool.Decides.{nat_tests}
 use Rattle.std.proofs.lemmas.List.{length-map}
 use Rattle.std.proofs.lemmas.Nat.{pow_pos}
-use Rattle.iloc_spec_grammar.specs.Syntax.{Kind, Language, Script, Region, Variant, Subtag, UnicodeKey, TransformKey, Attribute, PrivateSubtag, SubdivisionSuffix, CurrencyType, letters_or_digits, is_word, IsWord, Bounds}
+use Rattle.iloc_spec_grammar.specs.Syntax.{Kind, Language, Script, Region, Variant, Subtag, UnicodeKey}
+use Rattle.iloc_spec_grammar.specs.Syntax.{TransformKey, Attribute, PrivateSubtag, SubdivisionSuffix}
+use Rattle.iloc_spec_grammar.specs.Syntax.{CurrencyType, letters_or_digits, is_word, IsWord, Bounds}
 use Rattle.iloc_spec_grammar.proofs.General.{list_all-mapped}
 use Rattle.iloc_spec_grammar.proofs.WordsLaws.{word_letters_or_digits}
 use Rattle.iloc_pieces.specs.Shape.{bits, shape_of}
@@ -27,7 +32,8 @@ digit b = grind (arith, nat_tests)
 either : (b : ℕ) → is_ascii_alphanumeric (typical b) ≡ is_ascii_alphanumeric b
 either b = grind (arith, nat_tests)
 
-at-map : (f : ℕ → Bool) → ((b : ℕ) → f (typical b) ≡ f b) → (p : List ℕ) (i : ℕ) → f (slice_index (map typical p) i) ≡ f (slice_index p i)
+at-map : (f : ℕ → Bool) → ((b : ℕ) → f (typical b) ≡ f b) → (p : List ℕ) (i : ℕ) →
+    f (slice_index (map typical p) i) ≡ f (slice_index p i)
 at-map f h [] i = refl
 at-map f h (b ∷ p) zero = h b
 at-map f h (b ∷ p) (suc i) = at-map f h p i
@@ -39,11 +45,16 @@ typical_word : (k : Kind) (p : List ℕ) → is_word k (map typical p) ≡ is_wo
 unfolding is_word
 typical_word (Language T) p = ap₂ ◌&&◌ (long T p) (list_all-mapped _ _ _ letter p)
 typical_word Script p = ap₂ ◌&&◌ (long (λ n. n == 4) p) (list_all-mapped _ _ _ letter p)
-typical_word Region p = ap₂ ◌||◌ (ap₂ ◌&&◌ (long (λ n. n == 2) p) (list_all-mapped _ _ _ letter p)) (ap₂ ◌&&◌ (long (λ n. n == 3) p) (list_all-mapped _ _ _ digit p))
-typical_word Variant p = ap₂ ◌&&◌ (ap₂ ◌||◌ (long (is_in_range 5 8) p) (ap₂ ◌&&◌ (long (λ n. n == 4) p) (at-map _ digit p 0))) (list_all-mapped _ _ _ either p)
+typical_word Region p = ap₂ ◌||◌ (ap₂ ◌&&◌ (long (λ n. n == 2) p) (list_all-mapped _ _ _ letter p))
+    (ap₂ ◌&&◌ (long (λ n. n == 3) p) (list_all-mapped _ _ _ digit p))
+typical_word Variant p =
+    ap₂ ◌&&◌ (ap₂ ◌||◌ (long (is_in_range 5 8) p) (ap₂ ◌&&◌ (long (λ n. n == 4) p) (at-map _ digit p 0)))
+    (list_all-mapped _ _ _ either p)
 typical_word Subtag p = ap₂ ◌&&◌ (long (is_in_range 2 8) p) (list_all-mapped _ _ _ either p)
-typical_word UnicodeKey p = ap₂ ◌&&◌ (long (λ n. n == 2) p) (ap₂ ◌&&◌ (at-map _ either p 0) (at-map _ letter p 1))
-typical_word TransformKey p = ap₂ ◌&&◌ (long (λ n. n == 2) p) (ap₂ ◌&&◌ (at-map _ letter p 0) (at-map _ digit p 1))
+typical_word UnicodeKey p =
+    ap₂ ◌&&◌ (long (λ n. n == 2) p) (ap₂ ◌&&◌ (at-map _ either p 0) (at-map _ letter p 1))
+typical_word TransformKey p =
+    ap₂ ◌&&◌ (long (λ n. n == 2) p) (ap₂ ◌&&◌ (at-map _ letter p 0) (at-map _ digit p 1))
 typical_word Attribute p = ap₂ ◌&&◌ (long (is_in_range 3 8) p) (list_all-mapped _ _ _ either p)
 typical_word PrivateSubtag p = ap₂ ◌&&◌ (long (is_in_range 1 8) p) (list_all-mapped _ _ _ either p)
 typical_word SubdivisionSuffix p = ap₂ ◌&&◌ (long (is_in_range 1 4) p) (list_all-mapped _ _ _ either p)
@@ -60,7 +71,8 @@ spell_bits (suc n) s = cond (nat_le s 1) [] (cond (s % 2 == 1) 48 97 ∷ spell_b
 unfoldable pub spell : ℕ → List ℕ
 spell s = cond (s == 0) (45 ∷ []) (spell_bits 8 s)
 
-step_by : (a : Bool) (c n m : ℕ) → c ≡ cond a 0 1 → 0 < m → spell_bits (suc n) (c + 2 * m) ≡ cond a 97 48 ∷ spell_bits n m
+step_by : (a : Bool) (c n m : ℕ) → c ≡ cond a 0 1 → 0 < m →
+    spell_bits (suc n) (c + 2 * m) ≡ cond a 97 48 ∷ spell_bits n m
 step_by true c n m e l =
     let more : nat_le (c + 2 * m) 1 ≡ false = grind (arith, nat_tests) in
     let low : ((c + 2 * m) % 2 == 1) ≡ false = grind (arith, nat_tests) in
@@ -94,14 +106,16 @@ few_bits (suc n) (b ∷ p) l = bit (is_ascii_alphabetic b) (few_bits n p (omega 
 word_byte : (b : ℕ) → is_ascii_alphanumeric b ≡ true → cond (is_ascii_alphabetic b) 97 48 ≡ typical b
 word_byte b h = grind (arith, nat_tests)
 
-spelled : (n : ℕ) (p : List ℕ) → length p ≤ n → letters_or_digits p ≡ true → spell_bits n (bits p) ≡ map typical p
+spelled : (n : ℕ) (p : List ℕ) → length p ≤ n → letters_or_digits p ≡ true →
+    spell_bits n (bits p) ≡ map typical p
 unfolding bits
 spelled zero [] l h = refl
 spelled zero (b ∷ p) l h = absurd (omega arith)
 spelled (suc n) [] l h = refl
 spelled (suc n) (b ∷ p) l h =
     let parts = and_parts _ _ h in
-    step (is_ascii_alphabetic b) n (bits p) (some_bits p) ∙ (λ j. word_byte b parts.0 j ∷ spelled n p (omega arith) parts.1 j)
+    step (is_ascii_alphabetic b) n (bits p) (some_bits p)
+    ∙ (λ j. word_byte b parts.0 j ∷ spelled n p (omega arith) parts.1 j)
 
 -- ---- words by their shapes
 
@@ -145,25 +159,32 @@ shape_of_one : (p : List ℕ) → letters_or_digits p ≡ true → shape_of p �
 unfolding shape_of
 shape_of_one p h = ap (λ (a : Bool). cond a (bits p) 0) h
 
-spell_of : (k : Kind) (p : List ℕ) → length p ≤ 8 → letters_or_digits p ≡ true → is_word k p ≡ is_word k (spell (bits p))
+spell_of : (k : Kind) (p : List ℕ) → length p ≤ 8 → letters_or_digits p ≡ true →
+    is_word k p ≡ is_word k (spell (bits p))
 unfolding spell
 spell_of k p few all =
     let some : (bits p == 0) ≡ false = let l = some_bits p in grind (arith, nat_tests) in
-    sym (typical_word k p) ∙ ap (is_word k) (sym (spelled 8 p few all)) ∙ sym (ap (λ (a : Bool). is_word k (cond a (45 ∷ []) (spell_bits 8 (bits p)))) some)
+    sym (typical_word k p) ∙ ap (is_word k) (sym (spelled 8 p few all))
+    ∙ sym (ap (λ (a : Bool). is_word k (cond a (45 ∷ []) (spell_bits 8 (bits p)))) some)
 
 -- a test of shapes that agrees with what they spell, and which no greater number passes, tells the words
-pub told : (k : Kind) (t : ℕ → Bool) → Bounds 8 k → agree_below t (λ s. is_word k (spell s)) 512 ≡ true → ((s : ℕ) → 512 ≤ s → t s ≡ false)
+pub told : (k : Kind) (t : ℕ → Bool) → Bounds 8 k → agree_below t (λ s. is_word k (spell s)) 512 ≡ true →
+    ((s : ℕ) → 512 ≤ s → t s ≡ false)
     → (p : List ℕ) → is_word k p ≡ t (shape_of p)
 told k t ends e many p = elim (cases_Bool (letters_or_digits p)) [
   | inl all ↦ elim (cases_lt (length p) 9) [
     | inl few ↦
         let l : length p ≤ 8 = omega arith in
-        spell_of k p l all ∙ sym (agree_below_at t (λ s. is_word k (spell s)) 512 (bits p) e (few_bits 8 p l)) ∙ ap t (sym (shape_of_one p all))
+        spell_of k p l all ∙ sym (agree_below_at t (λ s. is_word k (spell s)) 512 (bits p) e (few_bits 8 p l))
+        ∙ ap t (sym (shape_of_one p all))
     | inr more ↦
-        let no : is_word k p ≡ false = false_from_ne_true _ (λ h. let l = few_bytes k ends p h in absurd (omega arith)) in
+        let no : is_word k p ≡ false =
+        false_from_ne_true _ (λ h. let l = few_bytes k ends p h in absurd (omega arith)) in
         no ∙ sym (ap t (shape_of_one p all) ∙ many (bits p) (many_bits 9 p more))
   ]
   | inr odd ↦
-      let no : is_word k p ≡ false = false_from_ne_true _ (λ h. let all = word_letters_or_digits k p h in absurd (cc)) in
-      no ∙ sym (no_word k) ∙ sym (agree_below_at t (λ s. is_word k (spell s)) 512 0 e (omega arith)) ∙ ap t (sym (shape_of_none p odd))
+      let no : is_word k p ≡ false =
+      false_from_ne_true _ (λ h. let all = word_letters_or_digits k p h in absurd (cc)) in
+      no ∙ sym (no_word k) ∙ sym (agree_below_at t (λ s. is_word k (spell s)) 512 0 e (omega arith))
+      ∙ ap t (sym (shape_of_none p odd))
 ]

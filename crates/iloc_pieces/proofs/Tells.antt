@@ -1,12 +1,15 @@
 -- What the shape of a piece tells.
-use Rattle.std.proofs.Common.{◌≡◌, ℕ, ◌+◌, ◌*◌, ◌<◌, ◌==◌, Bool, true, false, not, ◌&&◌, cond, List, [], ◌∷◌, get_or, bit_or, ◌^◌, codes, refl, sym, ap, ◌∙◌, arith, inl, inr}
+use Rattle.std.proofs.Common.{◌≡◌, ℕ, ◌+◌, ◌*◌, ◌<◌, ◌==◌, Bool, true, false, not, ◌&&◌, cond, List, [], ◌∷◌}
+use Rattle.std.proofs.Common.{get_or, bit_or, ◌^◌, codes, refl, sym, ap, ◌∙◌, arith, inl, inr}
 use Rattle.std.specs.Cmp.{Equal-is}
 use Rattle.std.specs.Char.{is_ascii_alphabetic, is_ascii_alphanumeric, to_ascii_lowercase}
 use Rattle.std.proofs.lemmas.Bool.{false_from_ne_true, and_parts, cases_Bool, eqb-true, eqb-false}
 use Rattle.std.proofs.lemmas.Bool.Decides.{nat_tests}
-use Rattle.iloc_spec_grammar.specs.Syntax.{Text, Kind, Script, IsWord, is_word, is_one_byte, is_true, is_same, lower, Bounds}
+use Rattle.iloc_spec_grammar.specs.Syntax.{Text, Kind, Script, IsWord, is_word, is_one_byte, is_true, is_same}
+use Rattle.iloc_spec_grammar.specs.Syntax.{lower, Bounds}
 use Rattle.iloc_spec_grammar.proofs.MapLaws.{same_itself, same_words}
-use Rattle.iloc_spec_grammar.proofs.WordsLaws.{word_letters_or_digits, letter_is, length-script, is_word-lower}
+use Rattle.iloc_spec_grammar.proofs.WordsLaws.{word_letters_or_digits, letter_is, length-script}
+use Rattle.iloc_spec_grammar.proofs.WordsLaws.{is_word-lower}
 use Rattle.iloc_pieces.specs.Left.{IsRemainder, IsShortPiece, piece_left}
 use Rattle.iloc_pieces.specs.Shape.{bits, shape_of}
 use Rattle.iloc_pieces.specs.declared.left.Left.{Left}

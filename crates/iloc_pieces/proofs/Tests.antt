@@ -1,18 +1,29 @@
 -- The tests of shapes, one for each kind of words: each is a table of 512, and a bound.
-use Rattle.std.proofs.Common.{◌≡◌, ℕ, ◌≤◌, nat_le, cond, false, ◌&&◌, ◌||◌, List, refl, bit_or, bit_and, arith}
+use Rattle.std.proofs.Common.{◌≡◌, ℕ, ◌≤◌, nat_le, cond, false, ◌&&◌, ◌||◌, List, refl, bit_or, bit_and}
+use Rattle.std.proofs.Common.{arith}
 use Rattle.std.specs.Prelude.{nat_eq, nat_lt}
 use Rattle.std.proofs.lemmas.Bool.Decides.{nat_tests}
 use Rattle.std.proofs.lemmas.Nat.{le_or_l}
-use Rattle.iloc_spec_grammar.specs.Syntax.{Language, Script, Region, Variant, Subtag, UnicodeKey, TransformKey, Attribute, PrivateSubtag, SubdivisionSuffix, CurrencyType, is_word, languages}
+use Rattle.iloc_spec_grammar.specs.Syntax.{Language, Script, Region, Variant, Subtag, UnicodeKey}
+use Rattle.iloc_spec_grammar.specs.Syntax.{TransformKey, Attribute, PrivateSubtag, SubdivisionSuffix}
+use Rattle.iloc_spec_grammar.specs.Syntax.{CurrencyType, is_word, languages}
 use Rattle.iloc_pieces.specs.Shape.{shape_of}
 use Rattle.iloc_pieces.proofs.Shapes.{told, spell}
 
-language_many : (s : ℕ) → 512 ≤ s → (nat_eq s 4 || (nat_eq s 8 || (nat_eq s 32 || (nat_eq s 64 || (nat_eq s 128 || nat_eq s 256))))) ≡ false
+language_many : (s : ℕ) → 512 ≤ s →
+    (nat_eq s 4 || (nat_eq s 8 || (nat_eq s 32 || (nat_eq s 64 || (nat_eq s 128 || nat_eq s 256))))) ≡ false
 language_many s more = grind (arith, nat_tests)
 
-pub language_is : (p : List ℕ) → is_word (Language languages) p ≡ (nat_eq (shape_of p) 4 || (nat_eq (shape_of p) 8 || (nat_eq (shape_of p) 32 || (nat_eq (shape_of p) 64 || (nat_eq (shape_of p) 128 || nat_eq (shape_of p) 256)))))
+pub language_is : (p : List ℕ) →
+    is_word (Language languages) p
+    ≡ (nat_eq (shape_of p) 4
+    || (nat_eq (shape_of p) 8
+    || (nat_eq (shape_of p) 32
+    || (nat_eq (shape_of p) 64 || (nat_eq (shape_of p) 128 || nat_eq (shape_of p) 256)))))
 unfolding is_word spell languages
-language_is p = told (Language languages) (λ s. nat_eq s 4 || (nat_eq s 8 || (nat_eq s 32 || (nat_eq s 64 || (nat_eq s 128 || nat_eq s 256))))) (λ n h. grind (arith, nat_tests)) refl language_many p
+language_is p = told (Language languages)
+    (λ s. nat_eq s 4 || (nat_eq s 8 || (nat_eq s 32 || (nat_eq s 64 || (nat_eq s 128 || nat_eq s 256)))))
+    (λ n h. grind (arith, nat_tests)) refl language_many p
 
 script_many : (s : ℕ) → 512 ≤ s → (nat_eq s 16) ≡ false
 script_many s more = grind (arith, nat_tests)
@@ -28,12 +39,17 @@ pub region_is : (p : List ℕ) → is_word Region p ≡ (nat_eq (shape_of p) 4 |
 unfolding is_word spell
 region_is p = told Region (λ s. nat_eq s 4 || nat_eq s 15) tt refl region_many p
 
-variant_many : (s : ℕ) → 512 ≤ s → (cond (nat_lt s 32) (nat_lt 16 s && nat_eq (bit_and s 1) 1) (nat_lt s 512)) ≡ false
+variant_many : (s : ℕ) → 512 ≤ s →
+    (cond (nat_lt s 32) (nat_lt 16 s && nat_eq (bit_and s 1) 1) (nat_lt s 512)) ≡ false
 variant_many s more = grind (arith, nat_tests)
 
-pub variant_is : (p : List ℕ) → is_word Variant p ≡ (cond (nat_lt (shape_of p) 32) (nat_lt 16 (shape_of p) && nat_eq (bit_and (shape_of p) 1) 1) (nat_lt (shape_of p) 512))
+pub variant_is : (p : List ℕ) →
+    is_word Variant p
+    ≡ (cond (nat_lt (shape_of p) 32) (nat_lt 16 (shape_of p) && nat_eq (bit_and (shape_of p) 1) 1)
+    (nat_lt (shape_of p) 512))
 unfolding is_word spell
-variant_is p = told Variant (λ s. cond (nat_lt s 32) (nat_lt 16 s && nat_eq (bit_and s 1) 1) (nat_lt s 512)) tt refl variant_many p
+variant_is p = told Variant (λ s. cond (nat_lt s 32) (nat_lt 16 s && nat_eq (bit_and s 1) 1) (nat_lt s 512))
+    tt refl variant_many p
 
 key_many : (s : ℕ) → 512 ≤ s → (nat_eq (bit_or s 1) 5) ≡ false
 key_many s more = let l = le_or_l s 1 in grind (arith, nat_tests)

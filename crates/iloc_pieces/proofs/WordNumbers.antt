@@ -1,14 +1,18 @@
 -- The numbers of words, and how they are computed.
-use Rattle.std.proofs.Common.{◌≡◌, ℕ, zero, suc, ◌+◌, ◌-◌, ◌*◌, ◌/◌, ◌%◌, ◌^◌, ◌<◌, ◌≤◌, true, List, [], ◌∷◌, length, map, get_or, take, drop, replicate, ◌++◌, bit_or, refl, sym, ap, ◌∙◌, subst, arith, pow-suc}
+use Rattle.std.proofs.Common.{◌≡◌, ℕ, zero, suc, ◌+◌, ◌-◌, ◌*◌, ◌/◌, ◌%◌, ◌^◌, ◌<◌, ◌≤◌, true, List, [], ◌∷◌}
+use Rattle.std.proofs.Common.{length, map, get_or, take, drop, replicate, ◌++◌, bit_or, refl, sym, ap, ◌∙◌}
+use Rattle.std.proofs.Common.{subst, arith, pow-suc}
 use Rattle.std.specs.Int.{w64, swap_bytes, from_be_bytes, from_le_bytes}
 use Rattle.std.proofs.Math.Seq.{take-append_seam}
 use Rattle.std.proofs.lemmas.Bool.{and_parts}
 use Rattle.std.proofs.lemmas.Nat.{le_bytes_8, or_block, or_of_8, pow-add}
-use Rattle.std.proofs.Math.Nat.{mul-add-div_right, mul-le-mul_right, zero-mul, mul_assoc, add-mul, div-eq_of_lt, mod-eq_of_lt}
+use Rattle.std.proofs.Math.Nat.{mul-add-div_right, mul-le-mul_right, zero-mul, mul_assoc, add-mul}
+use Rattle.std.proofs.Math.Nat.{div-eq_of_lt, mod-eq_of_lt}
 use Rattle.std.specs.List.{take-map}
 use Rattle.std.proofs.lemmas.List.{length-append, length-replicate, get_or-drop}
 use Rattle.iloc_spec_grammar.specs.Syntax.{UnicodeKey, TransformKey, IsWord, letters_or_digits, lower}
-use Rattle.iloc_spec_grammar.proofs.WordsLaws.{length-unicode_key, length-transform_key, word_letters_or_digits}
+use Rattle.iloc_spec_grammar.proofs.WordsLaws.{length-unicode_key, length-transform_key}
+use Rattle.iloc_spec_grammar.proofs.WordsLaws.{word_letters_or_digits}
 use Rattle.iloc_tinystr.specs.Number.{number}
 use Rattle.iloc_fronts.proofs.WordBytes.{low_bit}
 use Rattle.iloc_fronts.specs.Words.{IsUpToEight, high_first, word_number}

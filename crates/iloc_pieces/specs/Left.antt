@@ -1,5 +1,6 @@
 -- What is left of a text, from a piece on.
-use Rattle.std.specs.Prelude.{◌≡◌, ◌≢◌, ◌⊎◌, ℕ, ◌+◌, ◌-◌, ◌≤◌, ◌<◌, List, [], ◌∷◌, ◌++◌, length, take, drop, slice_index}
+use Rattle.std.specs.Prelude.{◌≡◌, ◌≢◌, ◌⊎◌, ℕ, ◌+◌, ◌-◌, ◌≤◌, ◌<◌, List, [], ◌∷◌, ◌++◌, length, take, drop}
+use Rattle.std.specs.Prelude.{slice_index}
 use Rattle.iloc_spec_grammar.specs.Syntax.{Text, pieces, first_piece, join, dashes}
 use Rattle.iloc_pieces.specs.Marks.{AreMarks, closed}
 use Rattle.iloc_pieces.specs.Shape.{shape_of}
@@ -20,8 +21,8 @@ piece_left l = first_piece (pieces_left l)
 abbrev pub IsShortPiece : Text → Type 0
 IsShortPiece p = length p ≤ 8
 
--- the length and the shape of a piece of fewer than sixteen bytes, and the marks of some bytes from it on, up to its
--- end at least
+-- the length and the shape of a piece of fewer than sixteen bytes, and the marks of some bytes from it on, up
+-- to its end at least
 pub record HasShape (rest : Text) (l : Left) : Type 0 where
   pub few : l.n < 16
   pub long : l.n ≡ length (first_piece (pieces rest))

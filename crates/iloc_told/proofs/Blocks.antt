@@ -1,5 +1,6 @@
 -- What the pieces behind a head are.
-use Rattle.std.proofs.Common.{◌≡◌, ℕ, ◌+◌, true, false, List, [], ◌∷◌, length, slice_index, Ok, Err, Some, refl, sym, ap, ◌∙◌, subst, arith, true≢false}
+use Rattle.std.proofs.Common.{◌≡◌, ℕ, ◌+◌, true, false, List, [], ◌∷◌, length, slice_index, Ok, Err, Some}
+use Rattle.std.proofs.Common.{refl, sym, ap, ◌∙◌, subst, arith, true≢false}
 use Rattle.std.specs.Prelude.{if◌then◌else◌}
 use Rattle.std.specs.Char.{is_ascii_alphanumeric}
 use Rattle.std.proofs.lemmas.Bool.{eqb-true}
@@ -93,7 +94,8 @@ module _ (h : Head) (l : Left) (left : IsRemainder l) (single : is_one_byte (pie
           → data_behind r (pieces_left l) ≡ Err InvalidExtension
       unnamed_read k r = ap (data_behind r) before ∙ k c u r
 
-      pub named_read : (v : Value) → IsKeywordRead m (keywords.Named v) → IsDataBlockRead h l (datas.Named h v)
+      pub named_read : (v : Value) → IsKeywordRead m (keywords.Named v) →
+          IsDataBlockRead h l (datas.Named h v)
       named_read v k =
           let s = k.0 in
           let p = k.1 in

@@ -1,5 +1,6 @@
 -- Attributes that are taken one at a time.
-use Rattle.std.proofs.Common.{◌≡◌, ℕ, ◌<◌, ◌≤◌, false, cond, List, [], ◌∷◌, ◌++◌, length, map, refl, sym, ap, ◌∙◌, subst, arith, append-nil, Some, None, option_map}
+use Rattle.std.proofs.Common.{◌≡◌, ℕ, ◌<◌, ◌≤◌, false, cond, List, [], ◌∷◌, ◌++◌, length, map, refl, sym, ap}
+use Rattle.std.proofs.Common.{◌∙◌, subst, arith, append-nil, Some, None, option_map}
 use Rattle.std.specs.List.{AllByRecursion}
 use Rattle.std.proofs.lemmas.List.Sorted.{IsPermutation-sym, IsPermutation-middle}
 use Rattle.iloc_spec_grammar.specs.Syntax.{Attribute, is_word, lower, word_cmp}
@@ -32,25 +33,33 @@ moved w vs more = permuted_set _ _ (IsPermutation-sym _ _ (IsPermutation-middle 
 -- words more make no shorter set
 grows : (more vs : List (List ℕ)) → length (set_of vs) ≤ length (set_of (vs ++ more))
 grows [] vs = rw (append-nil vs) (omega arith)
-grows (w ∷ more) vs = let h = set_grows w (vs ++ more) in let e = ap length (moved w vs more) in omega (arith, grows more vs, h, e)
+grows (w ∷ more) vs = let h = set_grows w (vs ++ more) in
+    let e = ap length (moved w vs more) in omega (arith, grows more vs, h, e)
 
-module _ (before now words : List (List ℕ)) (t : Gathered before now words) (w : List ℕ) (later : List (List ℕ)) (e : Some w ≡ option_map lower (take_first (is_word Attribute) now)) (l : later ≡ skip_first (is_word Attribute) now) where
+module _ (before now words : List (List ℕ)) (t : Gathered before now words) (w : List ℕ)
+    (later : List (List ℕ)) (e : Some w ≡ option_map lower (take_first (is_word Attribute) now))
+    (l : later ≡ skip_first (is_word Attribute) now) where
   found : map lower (passing (is_word Attribute) now) ≡ w ∷ map lower (passing (is_word Attribute) later)
   found =
       let (p, h, same, cut) = took Attribute now w e in
-      ap (λ ps. map lower (passing (is_word Attribute) ps)) (cut ∙ ap (λ ps. p ∷ ps) (sym l)) ∙ ap (λ b. map lower (cond b (p ∷ passing (is_word Attribute) later) [])) h ∙ ap (λ v. v ∷ map lower (passing (is_word Attribute) later)) (sym same)
+      ap (λ ps. map lower (passing (is_word Attribute) ps)) (cut ∙ ap (λ ps. p ∷ ps) (sym l))
+      ∙ ap (λ b. map lower (cond b (p ∷ passing (is_word Attribute) later) [])) h
+      ∙ ap (λ v. v ∷ map lower (passing (is_word Attribute) later)) (sym same)
 
   rest : past (is_word Attribute) now ≡ past (is_word Attribute) later
   rest =
       let (p, h, same, cut) = took Attribute now w e in
-      ap (past (is_word Attribute)) (cut ∙ ap (λ ps. p ∷ ps) (sym l)) ∙ ap (λ b. cond b (past (is_word Attribute) later) (p ∷ later)) h
+      ap (past (is_word Attribute)) (cut ∙ ap (λ ps. p ∷ ps) (sym l))
+      ∙ ap (λ b. cond b (past (is_word Attribute) later) (p ∷ later)) h
 
   with_word : set_of ((w ∷ words) ++ map lower (passing (is_word Attribute) later)) ≡ attributes_read before
   with_word = moved w words _ ∙ ap (λ vs. set_of (words ++ vs)) (sym found) ∙ t.gives
 
   pub gathered_more : (more : List (List ℕ)) → set_of more ≡ set_of (w ∷ words) → Gathered before later more
   gathered_more more is = record {
-    gives = sym (set_of-first more _) ∙ ap (λ s. set_of (s ++ map lower (passing (is_word Attribute) later))) is ∙ set_of-first (w ∷ words) _ ∙ with_word;
+    gives =
+        sym (set_of-first more _) ∙ ap (λ s. set_of (s ++ map lower (passing (is_word Attribute) later))) is
+        ∙ set_of-first (w ∷ words) _ ∙ with_word;
     skips = sym rest ∙ t.skips;
   }
 
@@ -63,7 +72,9 @@ module _ (before now words : List (List ℕ)) (t : Gathered before now words) (w
 
 -- words that are known to be attributes stand before
 
-few_pass : (ws ps : List (List ℕ)) → AllByRecursion (IsNormal Attribute) ws → (map lower (passing (is_word Attribute) (ws ++ ps)) ≡ ws ++ map lower (passing (is_word Attribute) ps)) × (past (is_word Attribute) (ws ++ ps) ≡ past (is_word Attribute) ps)
+few_pass : (ws ps : List (List ℕ)) → AllByRecursion (IsNormal Attribute) ws →
+    (map lower (passing (is_word Attribute) (ws ++ ps)) ≡ ws ++ map lower (passing (is_word Attribute) ps))
+    × (past (is_word Attribute) (ws ++ ps) ≡ past (is_word Attribute) ps)
 few_pass [] ps n = (refl, refl)
 few_pass (w ∷ ws) ps n =
     let more = few_pass ws ps n.1 in
@@ -71,18 +82,28 @@ few_pass (w ∷ ws) ps n =
     let l = n.0.1 in
     rw h (rw l (ap (λ vs. w ∷ vs) more.0), more.1)
 
-pub gathered_few : (ws ps : List (List ℕ)) → AllByRecursion (IsNormal Attribute) ws → Gathered (ws ++ ps) ps ws
-gathered_few ws ps n = record { gives = ap set_of (sym (few_pass ws ps n).0); skips = sym (few_pass ws ps n).1 }
+pub gathered_few : (ws ps : List (List ℕ)) → AllByRecursion (IsNormal Attribute) ws →
+    Gathered (ws ++ ps) ps ws
+gathered_few ws ps n =
+    record { gives = ap set_of (sym (few_pass ws ps n).0); skips = sym (few_pass ws ps n).1 }
 
 -- what is read after them is read of all
-pub gathered_after : (before now ws : List (List ℕ)) → Gathered before now ws → AllByRecursion (IsNormal Attribute) ws → (attributes_read (ws ++ now) ≡ attributes_read before) × (after_attributes (ws ++ now) ≡ after_attributes before)
-gathered_after before now ws t n = (ap set_of (few_pass ws now n).0 ∙ t.gives, (few_pass ws now n).1 ∙ t.skips)
+pub gathered_after : (before now ws : List (List ℕ)) → Gathered before now ws →
+    AllByRecursion (IsNormal Attribute) ws →
+    (attributes_read (ws ++ now) ≡ attributes_read before)
+    × (after_attributes (ws ++ now) ≡ after_attributes before)
+gathered_after before now ws t n =
+    (ap set_of (few_pass ws now n).0 ∙ t.gives, (few_pass ws now n).1 ∙ t.skips)
 
 -- all are taken
-pub gathered_all : (before now words set : List (List ℕ)) → Gathered before now words → None ≡ option_map lower (take_first (is_word Attribute) now) → set ≡ set_of words → (set ≡ attributes_read before) × (skip_first (is_word Attribute) now ≡ after_attributes before)
+pub gathered_all : (before now words set : List (List ℕ)) → Gathered before now words →
+    None ≡ option_map lower (take_first (is_word Attribute) now) → set ≡ set_of words →
+    (set ≡ attributes_read before) × (skip_first (is_word Attribute) now ≡ after_attributes before)
 gathered_all before now words set t e is =
-    let (none, rest, stays) = took_none Attribute now e in
-    (is ∙ ap set_of (sym (append-nil words)) ∙ ap (λ l. set_of (words ++ map lower l)) (sym none) ∙ t.gives, stays ∙ sym rest ∙ t.skips)
+    let (none, rest, stays) = took_none Attribute now e in (
+      is ∙ ap set_of (sym (append-nil words)) ∙ ap (λ l. set_of (words ++ map lower l)) (sym none) ∙ t.gives,
+      stays ∙ sym rest ∙ t.skips,
+    )
 
 -- fewer than four attributes, as a set
 
@@ -98,16 +119,20 @@ pub record GatheredFew (before now set : List (List ℕ)) : Type 0 where
 pub few_none : (ps : List (List ℕ)) → GatheredFew ps ps []
 few_none ps = record { gathered = gathered_none ps; ascending = tt; normal = tt; short = omega arith }
 
-module _ (before now set : List (List ℕ)) (t : GatheredFew before now set) (w : List ℕ) (later : List (List ℕ)) (e : Some w ≡ option_map lower (take_first (is_word Attribute) now)) (l : later ≡ skip_first (is_word Attribute) now)
+module _ (before now set : List (List ℕ)) (t : GatheredFew before now set) (w : List ℕ)
+    (later : List (List ℕ)) (e : Some w ≡ option_map lower (take_first (is_word Attribute) now))
+    (l : later ≡ skip_first (is_word Attribute) now)
     (more : List (List ℕ)) (is : more ≡ set_of (w ∷ set)) where
   few_gathered : Gathered before later more
-  few_gathered = gathered_more before now set t.gathered w later e l more (ap set_of is ∙ set_of-set_of (w ∷ set))
+  few_gathered =
+      gathered_more before now set t.gathered w later e l more (ap set_of is ∙ set_of-set_of (w ∷ set))
 
   few_normal : AllByRecursion (IsNormal Attribute) more
   few_normal =
       let (p, h, same, cut) = took Attribute now w e in
       let n : IsNormal Attribute w = subst (IsNormal Attribute) (sym same) (IsNormal-normal Attribute p h) in
-      subst (AllByRecursion (IsNormal Attribute)) (sym is) (all-set_of (IsNormal Attribute) (w ∷ set) (n, t.normal))
+      subst (AllByRecursion (IsNormal Attribute)) (sym is)
+      (all-set_of (IsNormal Attribute) (w ∷ set) (n, t.normal))
 
   few_length : length more ≤ 4
   few_length = omega (arith, t.short, length-set_of (w ∷ set), ap length is)
@@ -120,14 +145,21 @@ module _ (before now set : List (List ℕ)) (t : GatheredFew before now set) (w 
     short = below _ few_length fewer;
   }
 
-  pub few_more : (attributes_read (more ++ later) ≡ attributes_read before) × (after_attributes (more ++ later) ≡ after_attributes before)
+  pub few_more : (attributes_read (more ++ later) ≡ attributes_read before)
+      × (after_attributes (more ++ later) ≡ after_attributes before)
   few_more = gathered_after before later more few_gathered few_normal
 
-pub few_done : (before now set : List (List ℕ)) → GatheredFew before now set → None ≡ option_map lower (take_first (is_word Attribute) now) → (set ≡ attributes_read before) × (skip_first (is_word Attribute) now ≡ after_attributes before)
-few_done before now set t e = gathered_all before now set set t.gathered e (sym (set_of_ascending set t.ascending))
+pub few_done : (before now set : List (List ℕ)) → GatheredFew before now set →
+    None ≡ option_map lower (take_first (is_word Attribute) now) →
+    (set ≡ attributes_read before) × (skip_first (is_word Attribute) now ≡ after_attributes before)
+few_done before now set t e =
+    gathered_all before now set set t.gathered e (sym (set_of_ascending set t.ascending))
 
 -- a next piece that is too short or too long for an attribute: none stands at the front
-pub no_attributes : (ps : List (List ℕ)) → next_has_length Attribute ps ≡ false → (attributes_read ps ≡ []) × (after_attributes ps ≡ ps)
+pub no_attributes : (ps : List (List ℕ)) → next_has_length Attribute ps ≡ false →
+    (attributes_read ps ≡ []) × (after_attributes ps ≡ ps)
 no_attributes ps other =
-    let ends = ends_before Attribute ps other in
-    (ap (λ ws. set_of (map lower ws)) (passing_stops (is_word Attribute) [] ps tt ends), past_stops (is_word Attribute) [] ps tt ends)
+    let ends = ends_before Attribute ps other in (
+      ap (λ ws. set_of (map lower ws)) (passing_stops (is_word Attribute) [] ps tt ends),
+      past_stops (is_word Attribute) [] ps tt ends,
+    )

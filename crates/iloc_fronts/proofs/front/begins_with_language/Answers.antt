@@ -14,8 +14,10 @@ returns c = λ h.
     let long : length v ≡ 16 = omega arith in
     let wide : take k (v ++ v) ≡ take k v = take-append-le k v v (omega (arith, c.requires, long)) in
     let same : take k v ≡ take k c.args.v = ap (take k) c.as_array-window.ensures in
-    let first : IsFirst (take k (v ++ v)) n = subst (λ (x : List ℕ). IsFirst x n) (sym wide) c.first_len.ensures in
+    let first : IsFirst (take k (v ++ v)) n =
+    subst (λ (x : List ℕ). IsFirst x n) (sym wide) c.first_len.ensures in
     ap (λ (x : List ℕ). is_word (Language languages) (first_piece (pieces x))) (sym (wide ∙ same))
-    ∙ word_of_first (v ++ v) k n (omega (arith, c.requires, long, length-append v v)) first (Language languages) short_language
+    ∙ word_of_first (v ++ v) k n (omega (arith, c.requires, long, length-append v v)) first
+    (Language languages) short_language
     ∙ ap (is_word (Language languages)) (take-append-le n v v (omega (arith, first.few, long)))
     ∙ sym c.is_language.ensures ∙ h

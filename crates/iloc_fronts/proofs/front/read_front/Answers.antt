@@ -12,7 +12,8 @@ returns-then-not-is_language c =
     let l = c.left_in-left.result in
     let same : pieces_of l ≡ pieces (take c.args.len c.args.window.now) =
     λ j. pieces (take (c.left_in-left.ensures.len j) (c.left_in-left.ensures.window j)) in
-    ap (λ ps. is_word (Language languages) (first_piece ps)) (sym same) ∙ first_word l c.left_in-left.ensures.left (Language languages) short_language
+    ap (λ ps. is_word (Language languages) (first_piece ps)) (sym same)
+    ∙ first_word l c.left_in-left.ensures.left (Language languages) short_language
     ∙ sym c.is_language.ensures ∙ c.if-not-is_language.true
 
 pub returns-in-Some : goal.returns-in-Some
@@ -21,11 +22,13 @@ returns-in-Some c =
     let same : pieces_of l ≡ pieces (take c.args.len c.args.window.now) =
     λ j. pieces (take (c.left_in-left.ensures.len j) (c.left_in-left.ensures.window j)) in
     let language : IsWord (Language languages) (first_piece (pieces_of l)) =
-    first_word l c.left_in-left.ensures.left (Language languages) short_language ∙ sym c.is_language.ensures ∙ c.if-not-is_language.false in
+    first_word l c.left_in-left.ensures.left (Language languages) short_language ∙ sym c.is_language.ensures
+    ∙ c.if-not-is_language.false in
     let next : pieces_of c.in-Some.next ≡ after_region (pieces_of l) = c.in-Some.ensures.pieces in
     is_front (take c.args.len c.args.window.now) c.after_region.result
     (subst (λ (ps : List (List ℕ)). IsWord (Language languages) (first_piece ps)) same language)
-    (subst (λ (ps : List (List ℕ)). GoesOnAs ps c.after_region.result) (next ∙ ap after_region same) c.after_region.ensures)
+    (subst (λ (ps : List (List ℕ)). GoesOnAs ps c.after_region.result) (next ∙ ap after_region same)
+    c.after_region.ensures)
 
 pub returns-in-None : goal.returns-in-None
 returns-in-None c =

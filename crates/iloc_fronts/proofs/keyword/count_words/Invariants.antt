@@ -10,8 +10,10 @@ abbrev pub invariant-values : goal.invariant-values
 invariant-values l = record {
   room : l.left + 16 ≤ length l.rest;
   first : IsFirst (take l.left l.rest) l.n;
-  same : list_all (is_word Attribute) (pieces (take l.fn.len l.fn.window)) ≡ list_all (is_word Attribute) (pieces (take l.left l.rest));
-  count : l.words + length (normal_values (pieces (take l.left l.rest))) ≡ length (normal_values (pieces (take l.fn.len l.fn.window)));
+  same : list_all (is_word Attribute) (pieces (take l.fn.len l.fn.window))
+      ≡ list_all (is_word Attribute) (pieces (take l.left l.rest));
+  count : l.words + length (normal_values (pieces (take l.left l.rest)))
+      ≡ length (normal_values (pieces (take l.fn.len l.fn.window)));
   few : l.words + l.left ≤ l.fn.len;
 }
 

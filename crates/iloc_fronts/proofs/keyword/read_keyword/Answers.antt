@@ -1,4 +1,5 @@
-use Rattle.std.proofs.Common.{◌≡◌, ◌≤◌, ◌+◌, ◌-◌, ℕ, List, length, take, drop, get_or, subst, sym, ap, ◌∙◌, arith}
+use Rattle.std.proofs.Common.{◌≡◌, ◌≤◌, ◌+◌, ◌-◌, ℕ, List, length, take, drop, get_or, subst, sym, ap, ◌∙◌}
+use Rattle.std.proofs.Common.{arith}
 use Rattle.std.proofs.lemmas.List.{drop-take, length-take-le, take-take}
 use Rattle.iloc_spec_grammar.specs.Syntax.{pieces}
 use Rattle.iloc_spec_grammar.specs.Reading.{rest_of}
@@ -13,7 +14,8 @@ returns c =
     let long : 2 ≤ length (take len w) = omega (arith, length-take-le len w (omega arith)) in
     let split : len ≡ 2 + (len - 2) = omega arith in
     let same : drop 2 (take len w) ≡ take (len - 2) (take (length w - 2) (drop 2 w)) =
-    ap (λ (m : ℕ). drop 2 (take m w)) split ∙ drop-take 2 (len - 2) w ∙ sym (take-take (len - 2) (length w - 2) (drop 2 w) (omega arith)) in
+    ap (λ (m : ℕ). drop 2 (take m w)) split ∙ drop-take 2 (len - 2) w
+    ∙ sym (take-take (len - 2) (length w - 2) (drop 2 w) (omega arith)) in
     subst (λ (ps : List (List ℕ)). IsKeywordOf ps c.keyword_of.result)
     (sym (ap rest_of (after_one (get_or w 0 0) (take len w) long c.requires.singleton) ∙ ap pieces same))
     c.keyword_of.ensures

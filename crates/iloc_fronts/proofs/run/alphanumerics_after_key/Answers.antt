@@ -14,7 +14,9 @@ returns c =
     let long : length v ≡ 16 = length-padded (drop 3 w) rest in
     let same : take 16 v ≡ v = take_all 16 v (omega arith) in
     later_run is_ascii_alphanumeric (drop 3 w) c.before_marked.result rest
-    (run_is (fails is_ascii_alphanumeric) is_ascii_alphanumeric v c.before_marked.result (omega arith) (λ b. twice (is_ascii_alphanumeric b))
+    (run_is (fails is_ascii_alphanumeric) is_ascii_alphanumeric v c.before_marked.result (omega arith)
+    (λ b. twice (is_ascii_alphanumeric b))
     (c.before_marked.ensures (fails is_ascii_alphanumeric) (take 16 v) (ap length same ∙ long)
-    (ap (λ m. m / 2 ^ 3) c.no_alphanumerics_in.ensures ∙ later_mask (fails is_ascii_alphanumeric) refl w c.requires
+    (ap (λ m. m / 2 ^ 3) c.no_alphanumerics_in.ensures
+    ∙ later_mask (fails is_ascii_alphanumeric) refl w c.requires
     ∙ ap (λ l. mask_l (map (fails is_ascii_alphanumeric) l)) (sym same))))

@@ -8,5 +8,7 @@ use Rattle.iloc_fronts.proofs.run.first_digits.Goals as goal
 pub returns : goal.returns
 returns c =
     let w = c.args.window.now in
-    run_is (fails is_ascii_digit) is_ascii_digit w c.before_marked.result c.requires (λ b. twice (is_ascii_digit b))
-    (c.before_marked.ensures (fails is_ascii_digit) (take 16 w) (length-take-le 16 w c.requires) c.no_digits_in.ensures)
+    run_is (fails is_ascii_digit) is_ascii_digit w c.before_marked.result c.requires
+    (λ b. twice (is_ascii_digit b))
+    (c.before_marked.ensures (fails is_ascii_digit) (take 16 w) (length-take-le 16 w c.requires)
+    c.no_digits_in.ensures)

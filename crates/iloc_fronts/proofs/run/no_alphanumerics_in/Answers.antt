@@ -15,4 +15,7 @@ pub returns : goal.returns
 returns c =
     let v = c.args.v in
     let long = c.fits-v.0 in
-    mask_is _ (fails is_ascii_alphanumeric) v _ c.fits-v (zip2_of_maps bit_and _ _ v (splat_then at_most _ v 16 26 long (then_splat _ _ v 16 97 long (zip2_splat {Y = ℕ} _ v 16 32 long))) (splat_then at_most _ v 16 10 long (zip2_splat {Y = ℕ} _ v 16 48 long))) refl
+    mask_is _ (fails is_ascii_alphanumeric) v _ c.fits-v
+    (zip2_of_maps bit_and _ _ v
+    (splat_then at_most _ v 16 26 long (then_splat _ _ v 16 97 long (zip2_splat {Y = ℕ} _ v 16 32 long)))
+    (splat_then at_most _ v 16 10 long (zip2_splat {Y = ℕ} _ v 16 48 long))) refl

@@ -15,4 +15,5 @@ pub returns : goal.returns
 returns c =
     let v = c.args.v in
     let long = c.fits-v.0 in
-    mask_is _ (fails is_ascii_digit) v _ c.fits-v (splat_then at_most _ v 16 10 long (zip2_splat {Y = ℕ} _ v 16 48 long)) refl
+    mask_is _ (fails is_ascii_digit) v _ c.fits-v
+    (splat_then at_most _ v 16 10 long (zip2_splat {Y = ℕ} _ v 16 48 long)) refl

@@ -15,4 +15,5 @@ pub returns : goal.returns
 returns c =
     let v = c.args.v in
     let long = c.fits-v.0 in
-    mask_is _ (fails is_ascii_alphabetic) v _ c.fits-v (splat_then at_most _ v 16 26 long (then_splat _ _ v 16 97 long (zip2_splat _ v 16 32 long))) refl
+    mask_is _ (fails is_ascii_alphabetic) v _ c.fits-v
+    (splat_then at_most _ v 16 26 long (then_splat _ _ v 16 97 long (zip2_splat _ v 16 32 long))) refl

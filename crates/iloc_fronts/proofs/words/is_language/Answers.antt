@@ -8,7 +8,8 @@ returns-then-not-is_language_length c =
     let w = c.args.window.now in
     let n = c.args.n in
     sym (language_is w n c.requires.wide c.requires.few
-    ∙ ap (λ (b : Bool). b && letters (take n w)) (sym c.is_language_length.ensures.exact ∙ c.if-not-is_language_length.true))
+    ∙ ap (λ (b : Bool). b && letters (take n w))
+    (sym c.is_language_length.ensures.exact ∙ c.if-not-is_language_length.true))
 
 pub returns : goal.returns
 returns c =
@@ -16,4 +17,5 @@ returns c =
     let n = c.args.n in
     c.are_letters.ensures
     ∙ sym (language_is w n c.requires.wide c.requires.few
-    ∙ ap (λ (b : Bool). b && letters (take n w)) (c.is_language_length.ensures.is c.if-not-is_language_length.false))
+    ∙ ap (λ (b : Bool). b && letters (take n w))
+    (c.is_language_length.ensures.is c.if-not-is_language_length.false))

@@ -19,7 +19,8 @@ returns-then-n-eq2 c =
     let two : (n == 2) ≡ true = grind (arith, nat_tests) in
     let three : (n == 3) ≡ false = grind (arith, nat_tests) in
     c.are_letters.ensures ∙ sym (or-false (letters (take n w)))
-    ∙ sym (region_is w n c.requires.wide c.requires.few ∙ (λ j. by (two j) (three j) (letters (take n w)) (digits (take n w))))
+    ∙ sym (region_is w n c.requires.wide c.requires.few
+    ∙ (λ j. by (two j) (three j) (letters (take n w)) (digits (take n w))))
 
 pub returns-then-n-ne3 : goal.returns-then-n-ne3
 returns-then-n-ne3 c =
@@ -27,7 +28,8 @@ returns-then-n-ne3 c =
     let n = c.args.n in
     let two : (n == 2) ≡ false = grind (arith, nat_tests) in
     let three : (n == 3) ≡ false = grind (arith, nat_tests) in
-    sym (region_is w n c.requires.wide c.requires.few ∙ (λ j. by (two j) (three j) (letters (take n w)) (digits (take n w))))
+    sym (region_is w n c.requires.wide c.requires.few
+    ∙ (λ j. by (two j) (three j) (letters (take n w)) (digits (take n w))))
 
 pub returns : goal.returns
 returns c =
@@ -36,4 +38,5 @@ returns c =
     let two : (n == 2) ≡ false = grind (arith, nat_tests) in
     let three : (n == 3) ≡ true = grind (arith, nat_tests) in
     c.are_digits.ensures
-    ∙ sym (region_is w n c.requires.wide c.requires.few ∙ (λ j. by (two j) (three j) (letters (take n w)) (digits (take n w))))
+    ∙ sym (region_is w n c.requires.wide c.requires.few
+    ∙ (λ j. by (two j) (three j) (letters (take n w)) (digits (take n w))))

@@ -17,4 +17,5 @@ returns-else-n-eq4 c =
     let w = c.args.window.now in
     let n = c.args.n in
     let other : (n == 4) ≡ false = grind (arith, nat_tests) in
-    other ∙ sym (script_is w n c.requires.wide c.requires.few ∙ ap (λ (b : Bool). b && letters (take n w)) other)
+    other
+    ∙ sym (script_is w n c.requires.wide c.requires.few ∙ ap (λ (b : Bool). b && letters (take n w)) other)

@@ -5,15 +5,22 @@ use Rattle.iloc_fronts.proofs.words.is_true.Goals as goal
 
 pub returns-then-n-ne4 : goal.returns-then-n-ne4
 returns-then-n-ne4 c =
-    sym (no_true _ (λ h. let t = true_bytes c.args.window.now c.args.n (omega arith) h in absurd (c.if-n-ne4.true t.0)))
+    sym (no_true _
+    (λ h. let t = true_bytes c.args.window.now c.args.n (omega arith) h in absurd (c.if-n-ne4.true t.0)))
 
 -- four bytes as a number
 abbrev four : ℕ → ℕ → ℕ → ℕ → ℕ
 four a b c d = (a + 256 * b) + 65536 * (c + 256 * d)
 
 -- which are those of `true`
-apart : (a b c d : ℕ) → a < 256 → b < 256 → c < 256 → d < 256 → four a b c d ≡ 1702195828 → (a ≡ 116) × (b ≡ 114) × (c ≡ 117) × (d ≡ 101)
-apart a b c d k l m n e = (omega (arith, k, l, m, n, e), omega (arith, k, l, m, n, e), omega (arith, k, l, m, n, e), omega (arith, k, l, m, n, e))
+apart : (a b c d : ℕ) → a < 256 → b < 256 → c < 256 → d < 256 → four a b c d ≡ 1702195828 →
+    (a ≡ 116) × (b ≡ 114) × (c ≡ 117) × (d ≡ 101)
+apart a b c d k l m n e = (
+  omega (arith, k, l, m, n, e),
+  omega (arith, k, l, m, n, e),
+  omega (arith, k, l, m, n, e),
+  omega (arith, k, l, m, n, e),
+)
 
 pub returns : goal.returns
 returns c =
@@ -24,7 +31,8 @@ returns c =
     let u = same_letter 117 refl refl (get_or w 2 0) (byte 2) in
     let e = same_letter 101 refl refl (get_or w 3 0) (byte 3) in
     let fits : (i : ℕ) → bit_or (get_or w i 0) 32 < 256 = λ i. folded_fits (get_or w i 0) (byte i) in
-    let number : ℕ = four (bit_or (get_or w 0 0) 32) (bit_or (get_or w 1 0) 32) (bit_or (get_or w 2 0) 32) (bit_or (get_or w 3 0) 32) in
+    let number : ℕ = four (bit_or (get_or w 0 0) 32) (bit_or (get_or w 1 0) 32) (bit_or (get_or w 2 0) 32)
+    (bit_or (get_or w 3 0) 32) in
     elim (cases_Bool (number == 1702195828)) [
       | inl same ↦
           let (a, b, d, f) = apart _ _ _ _ (fits 0) (fits 1) (fits 2) (fits 3) (eqb-true _ _ same) in

@@ -7,4 +7,5 @@ use Rattle.iloc_langid.proofs.reader.fill_short.Goals as goal
 pub returns-in-Some-clause-told : goal.returns-in-Some-clause-told
 returns-in-Some-clause-told c =
     λ _. plain_means (pieces c.args.text.now) _
-    (subst (λ (t : List ℕ). IsPlainFront (pieces t) [] c.in-Some.told) c.load-lanes.ensures c.in-Some.ensures) c.requires
+    (subst (λ (t : List ℕ). IsPlainFront (pieces t) [] c.in-Some.told) c.load-lanes.ensures c.in-Some.ensures)
+    c.requires

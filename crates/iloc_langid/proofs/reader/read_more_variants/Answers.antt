@@ -2,19 +2,29 @@ use Rattle.std.proofs.Common.{◌≡◌, ℕ, ◌<◌, ◌≤◌, ◌++◌, true
 use Rattle.std.proofs.lemmas.Result.{err_from_is_err_and}
 use Rattle.iloc_subtags.specs.Left.{left}
 use Rattle.iloc_word_set.proofs.CollectorLaws.{known_there, one_more}
-use Rattle.iloc_langid.proofs.TakingLemmas.{Taking, taking_few, takes_new, takes_old, takes_much, more_done, more_twice}
+use Rattle.iloc_langid.proofs.TakingLemmas.{Taking, taking_few, takes_new, takes_old, takes_much, more_done}
+use Rattle.iloc_langid.proofs.TakingLemmas.{more_twice}
 use Rattle.iloc_langid.proofs.reader.read_more_variants.Goals as goal
 
 pub words-init : goal.words-init
-words-init c = subst (Taking (c.args.four ++ left c.args.iter.now) (left c.args.iter.now)) (sym c.from_set-words.ensures) (taking_few c.args.four (left c.args.iter.now) c.as_slice.ensures.normal)
+words-init c = subst (Taking (c.args.four ++ left c.args.iter.now) (left c.args.iter.now))
+    (sym c.from_set-words.ensures) (taking_few c.args.four (left c.args.iter.now) c.as_slice.ensures.normal)
 
 pub returns-then-not-branch : goal.returns-then-not-branch
-returns-then-not-branch c =
-    (refl, takes_old (c.args.four ++ left c.args.iter.now) (left c.words.iter) c.words.words c.words.invariant c.in-Some.variant (left c.take_word.new.iter) c.in-Some.ensures.word c.in-Some.ensures.rest (known_there c.in-Some.variant c.words.words c.push.new.self c.in_ok-push.field-0 c.in_ok-push.ensures.taken c.if-not-branch.true))
+returns-then-not-branch c = (
+  refl,
+  takes_old (c.args.four ++ left c.args.iter.now) (left c.words.iter) c.words.words c.words.invariant
+      c.in-Some.variant (left c.take_word.new.iter) c.in-Some.ensures.word c.in-Some.ensures.rest
+      (known_there c.in-Some.variant c.words.words c.push.new.self c.in_ok-push.field-0
+      c.in_ok-push.ensures.taken c.if-not-branch.true),
+)
 
 pub words-preserved : goal.words-preserved
 words-preserved c =
-    takes_new (c.args.four ++ left c.args.iter.now) (left c.words.iter) c.words.words c.words.invariant c.in-Some.variant (left c.take_word.new.iter) c.in-Some.ensures.word c.in-Some.ensures.rest c.push.new.self (one_more c.in-Some.variant c.words.words c.push.new.self c.in_ok-push.field-0 c.in_ok-push.ensures.taken c.if-not-branch.false)
+    takes_new (c.args.four ++ left c.args.iter.now) (left c.words.iter) c.words.words c.words.invariant
+    c.in-Some.variant (left c.take_word.new.iter) c.in-Some.ensures.word c.in-Some.ensures.rest
+    c.push.new.self (one_more c.in-Some.variant c.words.words c.push.new.self c.in_ok-push.field-0
+    c.in_ok-push.ensures.taken c.if-not-branch.false)
 
 not_few : (n : ℕ) → (n ≤ 4 → false ≡ true) → 4 < n
 not_few n h = not_less n (λ l. true≢false (sym (h l)))
@@ -25,7 +35,9 @@ not_few n h = not_less n (λ l. true≢false (sym (h l)))
 pub returns-in_err-push : goal.returns-in_err-push
 returns-in_err-push c =
     let p = err_from_is_err_and c.from_residual.result c.from_residual.ensures.1 in
-    rw (p.1, p.2) (takes_much (c.args.four ++ left c.args.iter.now) (left c.words.iter) c.words.words c.words.invariant c.in-Some.variant (left c.take_word.new.iter) c.in-Some.ensures.word c.in-Some.ensures.rest (not_few _ c.in_err-push.ensures.succeeds))
+    rw (p.1, p.2) (takes_much (c.args.four ++ left c.args.iter.now) (left c.words.iter) c.words.words
+    c.words.invariant c.in-Some.variant (left c.take_word.new.iter) c.in-Some.ensures.word
+    c.in-Some.ensures.rest (not_few _ c.in_err-push.ensures.succeeds))
 
 fewer : (a b m n : ℕ) → a ≡ m → b ≡ n → a < b → m < n
 fewer a b m n d e l = omega (arith, d, e, l)
@@ -34,9 +46,16 @@ not_fewer : (a b m n : ℕ) → a ≡ m → b ≡ n → b ≤ a → m < n → �
 not_fewer a b m n d e l h = omega (arith, d, e, l, h)
 
 pub returns-then-len-taken : goal.returns-then-len-taken
-returns-then-len-taken c =
-    (refl, more_twice (c.args.four ++ left c.args.iter.now) (left c.words.iter) c.words.words c.into_set-variants.result c.words.invariant c.in_default.ensures.word c.into_set-variants.ensures (fewer _ _ _ _ c.len.ensures c.len-taken.ensures c.if-len-taken.true))
+returns-then-len-taken c = (
+  refl,
+  more_twice (c.args.four ++ left c.args.iter.now) (left c.words.iter) c.words.words
+      c.into_set-variants.result c.words.invariant c.in_default.ensures.word c.into_set-variants.ensures
+      (fewer _ _ _ _ c.len.ensures c.len-taken.ensures c.if-len-taken.true),
+)
 
 pub returns : goal.returns
 returns c =
-    more_done (c.args.four ++ left c.args.iter.now) (left c.words.iter) c.words.words (left c.take_word.new.iter) c.into_set-variants.result c.words.invariant c.in_default.ensures.word c.in_default.ensures.rest c.into_set-variants.ensures (not_fewer _ _ _ _ c.len.ensures c.len-taken.ensures c.if-len-taken.false)
+    more_done (c.args.four ++ left c.args.iter.now) (left c.words.iter) c.words.words
+    (left c.take_word.new.iter) c.into_set-variants.result c.words.invariant c.in_default.ensures.word
+    c.in_default.ensures.rest c.into_set-variants.ensures
+    (not_fewer _ _ _ _ c.len.ensures c.len-taken.ensures c.if-len-taken.false)

@@ -4,4 +4,5 @@ use Rattle.iloc_langid.specs.BlockReads.{value_result}
 use Rattle.iloc_langid.proofs.small_locale.read_value.Given as goal
 
 abbrev pub invariant-loop-piece : goal.invariant-loop-piece
-invariant-loop-piece l = value_result (option_to_list l.value) (left l.piece-iterator) ≡ value_result [] (left l.fn.iter)
+invariant-loop-piece l =
+    value_result (option_to_list l.value) (left l.piece-iterator) ≡ value_result [] (left l.fn.iter)

@@ -8,7 +8,13 @@ use Rattle.iloc_locale.proofs.extensions_text.split_after_t.Goals as goal
 place : (c : After-split_at) → c.unwrap_or.result ≡ count c.args.others.now
 place c =
     let others = c.args.others.now in
-    c.unwrap_or.ensures ∙ sym (index_from_first count (λ o. 116 < o.0) (λ o. o.0 ≤ 116) count_none count_hit count_miss others _ (IsFirst-from_position _ _ _ (λ o. 116 < o.0) (λ o. o.0 ≤ 116) c.position-above.ensures.ran (YieldsList-from_slice others c.iter.ensures.rest) (λ x q k. search (rules, tests)) (λ x q k. search (rules, tests))))
+    c.unwrap_or.ensures
+    ∙ sym (index_from_first count (λ o. 116 < o.0) (λ o. o.0 ≤ 116) count_none count_hit count_miss others _
+    (IsFirst-from_position _ _ _ (λ o. 116 < o.0) (λ o. o.0 ≤ 116) c.position-above.ensures.ran
+    (YieldsList-from_slice others c.iter.ensures.rest) (λ x q k. search (rules, tests))
+    (λ x q k. search (rules, tests))))
 
 pub returns : goal.returns
-returns c bs = split_there bs c.args.others.now ∙ (λ k. sym (c.split_at.ensures.front ∙ ap (λ n. take n c.args.others.now) (place c)) k ++ (bs ++ sym (c.split_at.ensures.back ∙ ap (λ n. drop n c.args.others.now) (place c)) k))
+returns c bs = split_there bs c.args.others.now
+    ∙ (λ k. sym (c.split_at.ensures.front ∙ ap (λ n. take n c.args.others.now) (place c)) k
+    ++ (bs ++ sym (c.split_at.ensures.back ∙ ap (λ n. drop n c.args.others.now) (place c)) k))

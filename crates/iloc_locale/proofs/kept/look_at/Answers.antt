@@ -9,5 +9,6 @@ returns c = record {
   unicode = c.look_at_unicode.ensures;
   transform = c.look_at_transform.ensures;
   private = c.as_slice.ensures.normal;
-  others = subst (AllByRecursion (λ o. AllByRecursion (IsNormal Subtag) o.1)) c.deref.ensures.value c.look_at_others.ensures;
+  others = subst (AllByRecursion (λ o. AllByRecursion (IsNormal Subtag) o.1)) c.deref.ensures.value
+      c.look_at_others.ensures;
 }

@@ -6,4 +6,5 @@ use Rattle.iloc_spec_grammar.specs.Values.{IsNormal}
 use Rattle.iloc_locale.proofs.kept.look_at_others.Given as goal
 
 abbrev pub invariant-loop-other : goal.invariant-loop-other
-invariant-loop-other l = AllByRecursion (λ o. AllByRecursion (IsNormal Subtag) o.1) (take l.other-index l.others)
+invariant-loop-other l =
+    AllByRecursion (λ o. AllByRecursion (IsNormal Subtag) o.1) (take l.other-index l.others)

@@ -5,7 +5,9 @@ use Rattle.iloc_langid.specs.Reads as identifiers
 use Rattle.iloc_langid.specs.declared.identifier.LanguageIdentifier.{LanguageIdentifier}
 use Rattle.iloc_locale.proofs.kept.look_at_transform.Goals as goal
 
-value_where_there : (o : Option LanguageIdentifier) → IfSome o (λ i. IsIdentifierValue languages (identifiers.value_of i)) → IfSome (option_map identifiers.value_of o) (IsIdentifierValue languages)
+value_where_there : (o : Option LanguageIdentifier) →
+    IfSome o (λ i. IsIdentifierValue languages (identifiers.value_of i)) →
+    IfSome (option_map identifiers.value_of o) (IsIdentifierValue languages)
 value_where_there None h = h
 value_where_there (Some i) h = h
 

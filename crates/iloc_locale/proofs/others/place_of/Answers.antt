@@ -9,4 +9,8 @@ pub returns : goal.returns
 returns c =
     let others = c.args.others.now in
     let ext = c.args.ext in
-    c.unwrap_or.ensures ∙ sym (index_from_first (how_many_up_to ext) (λ o. ext < o.0) (λ o. o.0 ≤ ext) (place_none ext) (place_hit ext) (place_miss ext) others _ (IsFirst-from_position _ _ _ (λ o. ext < o.0) (λ o. o.0 ≤ ext) c.position-above.ensures.ran (YieldsList-from_slice others c.iter.ensures.rest) (λ x q k. search (rules, tests)) (λ x q k. search (rules, tests))))
+    c.unwrap_or.ensures
+    ∙ sym (index_from_first (how_many_up_to ext) (λ o. ext < o.0) (λ o. o.0 ≤ ext) (place_none ext)
+    (place_hit ext) (place_miss ext) others _ (IsFirst-from_position _ _ _ (λ o. ext < o.0) (λ o. o.0 ≤ ext)
+    c.position-above.ensures.ran (YieldsList-from_slice others c.iter.ensures.rest)
+    (λ x q k. search (rules, tests)) (λ x q k. search (rules, tests))))

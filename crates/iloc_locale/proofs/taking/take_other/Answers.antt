@@ -11,22 +11,33 @@ pub returns-in_err-other-clause-reads : goal.returns-in_err-other-clause-reads
 returns-in_err-other-clause-reads c =
     let p = err_from_is_err_and c.from_residual.result c.from_residual.ensures.1 in
     let rest = left c.try_from_iter.new.iter in
-    let refused = other_refused c.args.ext (left c.args.iter.now) rest rest c.in_err-other.field-0.0 c.in_err-other.ensures.reads c.in_err-other.ensures.memory in
-    rw (p.1, p.2) (λ start b M a e m. other_fails a (at_letter b c.args.ext e c.requires.other) rest rest (record M { others = c.args.others.now.items }) c.in_err-other.field-0.0 (subst (λ (q : ℕ). OtherBlock q (left c.args.iter.now) rest (Err c.in_err-other.field-0.0)) (sym e) refused))
+    let refused = other_refused c.args.ext (left c.args.iter.now) rest rest c.in_err-other.field-0.0
+    c.in_err-other.ensures.reads c.in_err-other.ensures.memory in
+    rw (p.1, p.2) (λ start b M a e m. other_fails a (at_letter b c.args.ext e c.requires.other) rest rest
+    (record M { others = c.args.others.now.items }) c.in_err-other.field-0.0 (subst
+    (λ (q : ℕ). OtherBlock q (left c.args.iter.now) rest (Err c.in_err-other.field-0.0)) (sym e) refused))
 
 pub returns-then-not-is_at_block-clause-reads : goal.returns-then-not-is_at_block-clause-reads
 returns-then-not-is_at_block-clause-reads c =
     let rest = left c.try_from_iter.new.iter in
-    let over = other_over c.args.ext (left c.args.iter.now) rest rest c.in_ok-other.other c.in_ok-other.ensures.reads (sym c.is_at_block.ensures ∙ c.if-not-is_at_block.true) in
-    λ start b M a e m. other_fails a (at_letter b c.args.ext e c.requires.other) rest rest (record M { others = c.args.others.now.items }) InvalidExtension (subst (λ (q : ℕ). OtherBlock q (left c.args.iter.now) rest (Err InvalidExtension)) (sym e) over)
+    let over = other_over c.args.ext (left c.args.iter.now) rest rest c.in_ok-other.other
+    c.in_ok-other.ensures.reads (sym c.is_at_block.ensures ∙ c.if-not-is_at_block.true) in
+    λ start b M a e m. other_fails a (at_letter b c.args.ext e c.requires.other) rest rest
+    (record M { others = c.args.others.now.items }) InvalidExtension
+    (subst (λ (q : ℕ). OtherBlock q (left c.args.iter.now) rest (Err InvalidExtension)) (sym e) over)
 
 pub returns-clause-reads : goal.returns-clause-reads
 returns-clause-reads c =
     let rest = left c.try_from_iter.new.iter in
-    let whole = other_whole c.args.ext (left c.args.iter.now) rest c.in_ok-other.other c.in_ok-other.ensures.reads (sym c.is_at_block.ensures ∙ c.if-not-is_at_block.false) in
-    λ start b M a e m. other_inserted a c.args.ext e c.requires.other rest c.in_ok-other.other c.args.others.now.items c.insert_other.new.others.items c.insert_other.result whole m c.insert_other.ensures.ok c.insert_other.ensures.err
+    let whole = other_whole c.args.ext (left c.args.iter.now) rest c.in_ok-other.other
+    c.in_ok-other.ensures.reads (sym c.is_at_block.ensures ∙ c.if-not-is_at_block.false) in
+    λ start b M a e m. other_inserted a c.args.ext e c.requires.other rest c.in_ok-other.other
+    c.args.others.now.items c.insert_other.new.others.items c.insert_other.result whole m
+    c.insert_other.ensures.ok c.insert_other.ensures.err
 
 pub returns-clause-shorter : goal.returns-clause-shorter
 returns-clause-shorter c =
     let rest = left c.try_from_iter.new.iter in
-    on_any c.insert_other.result (rest_short (left c.args.iter.now) rest (other_whole c.args.ext (left c.args.iter.now) rest c.in_ok-other.other c.in_ok-other.ensures.reads (sym c.is_at_block.ensures ∙ c.if-not-is_at_block.false)).2)
+    on_any c.insert_other.result (rest_short (left c.args.iter.now) rest
+    (other_whole c.args.ext (left c.args.iter.now) rest c.in_ok-other.other c.in_ok-other.ensures.reads
+    (sym c.is_at_block.ensures ∙ c.if-not-is_at_block.false)).2)

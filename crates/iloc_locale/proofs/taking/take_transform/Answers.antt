@@ -11,19 +11,29 @@ pub returns-in_err-fill_transform-clause-reads : goal.returns-in_err-fill_transf
 returns-in_err-fill_transform-clause-reads c =
     let p = err_from_is_err_and c.from_residual.result c.from_residual.ensures.1 in
     let rest = left c.fill_transform.new.iter in
-    rw (p.1, p.2) (λ start b M a e. transform_fails a e rest rest (record M { transform = transform.value_of c.fill_transform.new.transform }) c.in_err-fill_transform.field-0.0 (transform_refused (left c.args.iter.now) rest rest c.in_err-fill_transform.field-0.0 c.in_err-fill_transform.ensures))
+    rw (p.1, p.2) (λ start b M a e.
+    transform_fails a e rest rest (record M { transform = transform.value_of c.fill_transform.new.transform })
+    c.in_err-fill_transform.field-0.0 (transform_refused (left c.args.iter.now) rest rest
+    c.in_err-fill_transform.field-0.0 c.in_err-fill_transform.ensures))
 
 pub returns-then-not-is_at_block-clause-reads : goal.returns-then-not-is_at_block-clause-reads
 returns-then-not-is_at_block-clause-reads c =
     let rest = left c.fill_transform.new.iter in
-    λ start b M a e. transform_fails a e rest rest (record M { transform = transform.value_of c.fill_transform.new.transform }) InvalidExtension (transform_over (left c.args.iter.now) rest rest c.fill_transform.new.transform c.in_ok-fill_transform.ensures (sym c.is_at_block.ensures ∙ c.if-not-is_at_block.true))
+    λ start b M a e.
+    transform_fails a e rest rest (record M { transform = transform.value_of c.fill_transform.new.transform })
+    InvalidExtension (transform_over (left c.args.iter.now) rest rest c.fill_transform.new.transform
+    c.in_ok-fill_transform.ensures (sym c.is_at_block.ensures ∙ c.if-not-is_at_block.true))
 
 pub returns-clause-reads : goal.returns-clause-reads
 returns-clause-reads c =
     let rest = left c.fill_transform.new.iter in
-    λ start b M a e. transform_goes a e rest c.fill_transform.new.transform (transform_whole (left c.args.iter.now) rest c.fill_transform.new.transform c.in_ok-fill_transform.ensures (sym c.is_at_block.ensures ∙ c.if-not-is_at_block.false))
+    λ start b M a e. transform_goes a e rest c.fill_transform.new.transform
+    (transform_whole (left c.args.iter.now) rest c.fill_transform.new.transform c.in_ok-fill_transform.ensures
+    (sym c.is_at_block.ensures ∙ c.if-not-is_at_block.false))
 
 pub returns-clause-shorter : goal.returns-clause-shorter
 returns-clause-shorter c =
     let rest = left c.fill_transform.new.iter in
-    rest_short (left c.args.iter.now) rest (transform_whole (left c.args.iter.now) rest c.fill_transform.new.transform c.in_ok-fill_transform.ensures (sym c.is_at_block.ensures ∙ c.if-not-is_at_block.false)).1
+    rest_short (left c.args.iter.now) rest
+    (transform_whole (left c.args.iter.now) rest c.fill_transform.new.transform c.in_ok-fill_transform.ensures
+    (sym c.is_at_block.ensures ∙ c.if-not-is_at_block.false)).1

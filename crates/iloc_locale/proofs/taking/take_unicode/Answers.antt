@@ -11,19 +11,29 @@ pub returns-in_err-fill_unicode-clause-reads : goal.returns-in_err-fill_unicode-
 returns-in_err-fill_unicode-clause-reads c =
     let p = err_from_is_err_and c.from_residual.result c.from_residual.ensures.1 in
     let rest = left c.fill_unicode.new.iter in
-    rw (p.1, p.2) (λ start b M a e. unicode_fails a e rest rest (record M { unicode = unicode.value_of c.fill_unicode.new.unicode }) c.in_err-fill_unicode.field-0.0 (unicode_refused (left c.args.iter.now) rest rest c.in_err-fill_unicode.field-0.0 c.in_err-fill_unicode.ensures))
+    rw (p.1, p.2) (λ start b M a e.
+    unicode_fails a e rest rest (record M { unicode = unicode.value_of c.fill_unicode.new.unicode })
+    c.in_err-fill_unicode.field-0.0 (unicode_refused (left c.args.iter.now) rest rest
+    c.in_err-fill_unicode.field-0.0 c.in_err-fill_unicode.ensures))
 
 pub returns-then-not-is_at_block-clause-reads : goal.returns-then-not-is_at_block-clause-reads
 returns-then-not-is_at_block-clause-reads c =
     let rest = left c.fill_unicode.new.iter in
-    λ start b M a e. unicode_fails a e rest rest (record M { unicode = unicode.value_of c.fill_unicode.new.unicode }) InvalidExtension (unicode_over (left c.args.iter.now) rest rest c.fill_unicode.new.unicode c.in_ok-fill_unicode.ensures (sym c.is_at_block.ensures ∙ c.if-not-is_at_block.true))
+    λ start b M a e.
+    unicode_fails a e rest rest (record M { unicode = unicode.value_of c.fill_unicode.new.unicode })
+    InvalidExtension (unicode_over (left c.args.iter.now) rest rest c.fill_unicode.new.unicode
+    c.in_ok-fill_unicode.ensures (sym c.is_at_block.ensures ∙ c.if-not-is_at_block.true))
 
 pub returns-clause-reads : goal.returns-clause-reads
 returns-clause-reads c =
     let rest = left c.fill_unicode.new.iter in
-    λ start b M a e. unicode_goes a e rest c.fill_unicode.new.unicode (unicode_whole (left c.args.iter.now) rest c.fill_unicode.new.unicode c.in_ok-fill_unicode.ensures (sym c.is_at_block.ensures ∙ c.if-not-is_at_block.false))
+    λ start b M a e. unicode_goes a e rest c.fill_unicode.new.unicode
+    (unicode_whole (left c.args.iter.now) rest c.fill_unicode.new.unicode c.in_ok-fill_unicode.ensures
+    (sym c.is_at_block.ensures ∙ c.if-not-is_at_block.false))
 
 pub returns-clause-shorter : goal.returns-clause-shorter
 returns-clause-shorter c =
     let rest = left c.fill_unicode.new.iter in
-    rest_short (left c.args.iter.now) rest (unicode_whole (left c.args.iter.now) rest c.fill_unicode.new.unicode c.in_ok-fill_unicode.ensures (sym c.is_at_block.ensures ∙ c.if-not-is_at_block.false)).1
+    rest_short (left c.args.iter.now) rest
+    (unicode_whole (left c.args.iter.now) rest c.fill_unicode.new.unicode c.in_ok-fill_unicode.ensures
+    (sym c.is_at_block.ensures ∙ c.if-not-is_at_block.false)).1

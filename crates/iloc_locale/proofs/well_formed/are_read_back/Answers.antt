@@ -7,4 +7,6 @@ use Rattle.iloc_locale.specs.WellFormed.{is_plain}
 use Rattle.iloc_locale.proofs.well_formed.are_read_back.Goals as goal
 
 pub returns : goal.returns
-returns c = all_from_yields_List (λ f. list_all is_plain f.1) _ _ _ c.all.ensures.ran (YieldsList-from_first (λ x. (x.0.now, x.1.now)) (λ rest. rest) c.args.keywords.now c.iter.ensures) (λ x b q k. search (rules, tests))
+returns c = all_from_yields_List (λ f. list_all is_plain f.1) _ _ _ c.all.ensures.ran
+    (YieldsList-from_first (λ x. (x.0.now, x.1.now)) (λ rest. rest) c.args.keywords.now c.iter.ensures)
+    (λ x b q k. search (rules, tests))

@@ -11,7 +11,9 @@ use Rattle.iloc_outline.proofs.BlocksLemmas.{IsDone, IsRead, all_done}
 use Rattle.iloc_pieces.proofs.LeftLemmas.{last_piece, single_short}
 use Rattle.iloc_outline.proofs.SingletonSteps as at
 use Rattle.iloc_outline.proofs.blocks.read_blocks.Goals as goal
-use Rattle.iloc_outline.proofs.blocks.read_blocks.Goals.{After-read_body-found, Joined-rank-last-2, else-rank-last, else-rank-last-2, then-rank-last+else-has_block, then-rank-last-2}
+use Rattle.iloc_outline.proofs.blocks.read_blocks.Goals.{After-read_body-found, Joined-rank-last-2}
+use Rattle.iloc_outline.proofs.blocks.read_blocks.Goals.{else-rank-last, else-rank-last-2}
+use Rattle.iloc_outline.proofs.blocks.read_blocks.Goals.{then-rank-last+else-has_block, then-rank-last-2}
 
 pub singletons-init : goal.singletons-init
 singletons-init c =
@@ -113,10 +115,12 @@ abbrev IsPut : Joined-rank-last-2 → List Text → ℕ → Spans → Type 0
 IsPut c rest last spans =
     IsDone c.args.left.now c.args.spans.now c.args.in_order.now rest last spans c.read_body-found.new.in_order
 
-put : (c : Joined-rank-last-2) → at.Passed c.singletons.invariant c.advance.new.left c.read_body-found.new.spans
+put : (c : Joined-rank-last-2) →
+    at.Passed c.singletons.invariant c.advance.new.left c.read_body-found.new.spans
     c.if-rank-last.in_order c.read_body-found.new.in_order
     → c.rank_of-rank.result ≡ at.rank_at c.singletons.invariant → (rest : List Text)
-    → IsRead (at.byte_at c.singletons.invariant) (whole_text c.args.left.now) (at.behind c.singletons.invariant) rest
+    → IsRead (at.byte_at c.singletons.invariant) (whole_text c.args.left.now)
+    (at.behind c.singletons.invariant) rest
     c.singletons.spans c.read_body-found.new.spans c.if-rank-last.in_order c.read_body-found.new.in_order
     → IsPut c rest c.if-rank-last-2.last c.if-rank-last-2.spans
 put c x e rest r = elim c.if-rank-last-2.branch [

@@ -5,11 +5,13 @@ use Rattle.iloc_outline.specs.declared.span.Role.TheVariants.{Field}
 use Rattle.iloc_outline.specs.Reading.{unless_end}
 use Rattle.iloc_outline.specs.declared.fields.Value.{Value}
 use Rattle.iloc_pieces.specs.declared.left.Left.{Left}
-use Rattle.iloc_outline.proofs.FieldLemmas.{ends_in_key, field_less, field_within, key_kind_fits, takes_end, takes_full, takes_more, takes_none, takes_past}
+use Rattle.iloc_outline.proofs.FieldLemmas.{ends_in_key, field_less, field_within, key_kind_fits, takes_end}
+use Rattle.iloc_outline.proofs.FieldLemmas.{takes_full, takes_more, takes_none, takes_past}
 use Rattle.iloc_outline.proofs.GatherLemmas.{gathers_from}
 use Rattle.iloc_outline.proofs.RoleLemmas.{short_key_kind}
 use Rattle.iloc_outline.proofs.fields.read_fields.Goals as goal
-use Rattle.iloc_outline.proofs.fields.read_fields.Goals.{else-eq-via-then-eq+else-value-eq0, else-eq-via-else-eq}
+use Rattle.iloc_outline.proofs.fields.read_fields.Goals.{else-eq-via-then-eq+else-value-eq0}
+use Rattle.iloc_outline.proofs.fields.read_fields.Goals.{else-eq-via-else-eq}
 
 abbrev behind : Left → Bool → Option Left
 behind m b = unless_end b m
@@ -22,7 +24,8 @@ ends m v = ap (behind m)
 
 pub keys-init : goal.keys-init
 keys-init c =
-    takes_none c.args.role c.args.left.now c.requires.left c.requires.later c.args.spans.now c.args.in_order.now
+    takes_none c.args.role c.args.left.now c.requires.left c.requires.later c.args.spans.now
+    c.args.in_order.now
 
 pub is_key_of-requires : goal.is_key_of-requires
 is_key_of-requires c = c.keys.invariant.past.left
@@ -42,7 +45,8 @@ returns-then-value-eq0 c =
     let v = c.read_value-value in
     let field = same_true the_type (search rules) _ _ (sym c.if-eq.ensures) in (
       field,
-      ends_in_key c.args.role c.args.left.now c.keys.left _ _ _ _ _ c.keys.invariant v.new.left v.result v.ensures
+      ends_in_key c.args.role c.args.left.now c.keys.left _ _ _ _ _ c.keys.invariant v.new.left v.result
+          v.ensures
           field (sym c.is_key_of.ensures ∙ c.keys-test.true) c.if-value-eq0.true,
     )
 
@@ -60,7 +64,8 @@ pub overflow_cast-span-in-keys : goal.overflow_cast-span-in-keys
 overflow_cast-span-in-keys c =
     let v = c.read_value-value in
     let inside =
-    field_within c.args.role c.args.left.now c.keys.left _ _ _ _ _ c.keys.invariant v.new.left v.result v.ensures in
+    field_within c.args.role c.args.left.now c.keys.left _ _ _ _ _ c.keys.invariant v.new.left v.result
+    v.ensures in
     omega (arith, c.requires.few)
 
 pub put_from-requires : goal.put_from-requires
@@ -105,7 +110,8 @@ returns-then-value c =
 pub keys-smaller : goal.keys-smaller
 keys-smaller c =
     let v = c.read_value-value in
-    field_less c.args.role c.args.left.now c.keys.left _ _ _ _ _ c.keys.invariant v.new.left v.result v.ensures
+    field_less c.args.role c.args.left.now c.keys.left _ _ _ _ _ c.keys.invariant v.new.left v.result
+    v.ensures
     v.new.left (goes_on v.new.left v.result c.if-value.false)
 
 pub returns : goal.returns

@@ -9,7 +9,8 @@ use Rattle.iloc_outline.proofs.identifier.read_front.Goals as goal
 use Rattle.iloc_outline.proofs.identifier.read_front.Goals.{then-has_region, else-has_region}
 
 -- the text ends with the piece, or goes on
-ends : (fits : Bool) (l m : Left) (r : Bool) → r ≡ true → IsOnePast fits l (unless_end r m) → IsOnePast fits l None
+ends : (fits : Bool) (l m : Left) (r : Bool) → r ≡ true → IsOnePast fits l (unless_end r m) →
+    IsOnePast fits l None
 ends fits l m r = subst (λ (b : Bool). IsOnePast fits l (unless_end b m))
 
 goes_on : (fits : Bool) (l m : Left) (r : Bool) → r ≡ false → IsOnePast fits l (unless_end r m)

@@ -4,9 +4,16 @@ use Rattle.iloc_spec_grammar.specs.Syntax.{is_other_singleton}
 use Rattle.iloc_pieces.specs.Left.{IsEnd, piece_left}
 use Rattle.iloc_outline.specs.declared.reading.Found.TheVariants.{End, Next}
 use Rattle.iloc_pieces.proofs.LeftLemmas.{between_short, last_piece, past_none}
-use Rattle.iloc_outline.proofs.OtherLemmas.{IsBetween, PassesOneMore, end_bad, end_put, more_odd, more_subtag, next_bad, next_odd, next_put, other_next, put_at}
+use Rattle.iloc_outline.proofs.OtherLemmas.{IsBetween, PassesOneMore, end_bad, end_put, more_odd, more_subtag}
+use Rattle.iloc_outline.proofs.OtherLemmas.{next_bad, next_odd, next_put, other_next, put_at}
 use Rattle.iloc_outline.proofs.other.read_other.Goals as goal
-use Rattle.iloc_outline.proofs.other.read_other.Goals.{then-is_subtag, else-is_subtag, then-not-is_good-2-via-then-not-is_good-2, then-not-is_good-2-via-else-not-is_good-2+then-not-is_single, After-is_last}
+use Rattle.iloc_outline.proofs.other.read_other.Goals.{
+  then-is_subtag,
+  else-is_subtag,
+  then-not-is_good-2-via-then-not-is_good-2,
+  then-not-is_good-2-via-else-not-is_good-2+then-not-is_single,
+  After-is_last,
+}
 
 between : (c : After-is_last) → IsBetween (piece_left c.pieces.left)
 between c = sym c.is_between.ensures ∙ c.pieces-test.true
@@ -21,7 +28,8 @@ one_more c = elim c.if-is_subtag.branch [
       (between c) (sym c.is_subtag.ensures ∙ w.if-is_subtag.true))
   | else-is_subtag w ↦
       rw (w.is_good-is, w.edited-is)
-      (more_odd c.args.left.now c.pieces.left c.pieces.is_good c.pieces.edited c.pieces.invariant.passed (between c)
+      (more_odd c.args.left.now c.pieces.left c.pieces.is_good c.pieces.edited c.pieces.invariant.passed
+      (between c)
       (sym c.is_subtag.ensures ∙ w.if-is_subtag.false))
 ]
 
@@ -44,7 +52,8 @@ advance-requires-clause-short c =
 
 pub pieces-preserved : goal.pieces-preserved
 pieces-preserved c = record {
-  passed = other_next c.args.left.now c.pieces.left c.advance.new.left c.if-is_subtag.is_good c.if-is_subtag.edited
+  passed =
+      other_next c.args.left.now c.pieces.left c.advance.new.left c.if-is_subtag.is_good c.if-is_subtag.edited
       (one_more (goal.at.pieces-preserved c).After-is_last)
       (between (goal.at.pieces-preserved c).After-is_last) c.advance.ensures;
   spans = c.pieces.invariant.spans;
@@ -58,7 +67,8 @@ ended c last = last_piece c.pieces.left c.pieces.invariant.passed.past.left (c.i
 pub returns-then-not-is_good : goal.returns-then-not-is_good
 returns-then-not-is_good c = λ c' e spanned.
     let after = (goal.at.returns-then-not-is_good c).After-is_last in
-    end_bad c' c.args.left.now (ap is_other_singleton e ∙ c.requires.other) c.pieces.left c.if-is_subtag.is_good
+    end_bad c' c.args.left.now (ap is_other_singleton e ∙ c.requires.other) c.pieces.left
+    c.if-is_subtag.is_good
     c.if-is_subtag.edited (one_more after)
     (ended after c.if-is_last.true) c.args.spans.now c.args.spans.now c.args.in_order.now c.args.in_order.now
     c.if-not-is_good.true
@@ -66,7 +76,8 @@ returns-then-not-is_good c = λ c' e spanned.
 pub returns-then-is_last : goal.returns-then-is_last
 returns-then-is_last c = λ c' e spanned.
     let after = (goal.at.returns-then-is_last c).After-is_last in
-    end_put c' c.args.left.now (ap is_other_singleton e ∙ c.requires.other) c.pieces.left c.if-is_subtag.is_good
+    end_put c' c.args.left.now (ap is_other_singleton e ∙ c.requires.other) c.pieces.left
+    c.if-is_subtag.is_good
     c.if-is_subtag.edited (one_more after)
     (ended after c.if-is_last.true) c.args.start c.args.spans.now c.put_other.new.spans c.args.in_order.now
     c.put_other.new.in_order c.put_other.result
@@ -84,10 +95,12 @@ returns-then-not-is_good-2 c = λ c' e spanned.
     let o = c.args.in_order.now in
     elim c.then-not-is_good-2.branch [
       | then-not-is_good-2-via-then-not-is_good-2 w ↦
-          next_bad c' c.args.left.now other c.pieces.left c.pieces.is_good c.pieces.edited c.pieces.invariant.passed
+          next_bad c' c.args.left.now other c.pieces.left c.pieces.is_good c.pieces.edited
+          c.pieces.invariant.passed
           spans spans o o odd w.if-not-is_good-2.true
       | then-not-is_good-2-via-else-not-is_good-2+then-not-is_single w ↦
-          next_odd c' c.args.left.now other c.pieces.left c.pieces.is_good c.pieces.edited c.pieces.invariant.passed
+          next_odd c' c.args.left.now other c.pieces.left c.pieces.is_good c.pieces.edited
+          c.pieces.invariant.passed
           spans spans o o odd
           (sym w.is_single.ensures ∙ w.if-not-is_single.true)
     ]

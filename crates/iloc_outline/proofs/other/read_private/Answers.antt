@@ -18,12 +18,14 @@ words-init c = record {
 
 pub returns-then-is_last : goal.returns-then-is_last
 returns-then-is_last c = λ c' e spanned o.
-    let word : IsWord PrivateSubtag (piece_left c.words.left) = sym c.is_private.ensures ∙ c.words-test.true in
+    let word : IsWord PrivateSubtag (piece_left c.words.left) =
+    sym c.is_private.ensures ∙ c.words-test.true in
     let end : IsEnd c.words.left =
     last_piece c.words.left c.words.invariant.passed.past.left (c.is_last.ensures.0 c.if-is_last.true)
     (short_private (piece_left c.words.left) word) in
     let span : Span = block_span 255 c.args.start (c.words.left.at + c.words.left.n) false in
-    private_end c' c.args.start c.args.left.now c.words.left c.args.spans.now c.put.new.self o e c.requires.later
+    private_end c' c.args.start c.args.left.now c.words.left c.args.spans.now c.put.new.self o e
+    c.requires.later
     spanned c.words.invariant.passed word end
     (c.put.ensures.put c.if-not-put.false ∙ ap (λ s. held_spans s ++ span ∷ []) c.words.invariant.spans)
 

@@ -9,7 +9,8 @@ use Rattle.iloc_outline.proofs.HeadLemmas.{head_block, head_front, head_other, h
 use Rattle.iloc_outline.proofs.outline.read_head.Goals as goal
 
 -- something follows the front
-goes_on : (l m : Left) (f : Front) → IsFrontRead l m f → f.is_all ≡ false → IsAfterFront l (unless_end false m)
+goes_on : (l m : Left) (f : Front) → IsFrontRead l m f → f.is_all ≡ false →
+    IsAfterFront l (unless_end false m)
 goes_on l m f h e = subst (λ (b : Bool). IsAfterFront l (unless_end b m)) e h.next
 
 pub returns-then-front : goal.returns-then-front

@@ -4,9 +4,11 @@ use Rattle.iloc_spec_grammar.specs.Syntax.{dashes}
 use Rattle.iloc_pieces.specs.Left.{pieces_left, bytes_left}
 use Rattle.iloc_outline.specs.Printing.{bytes_from, kept_pieces}
 use Rattle.iloc_spec_grammar.specs.Reading.{rest_of}
-use Rattle.iloc_outline.proofs.PrintingLemmas.{bytes_here, field_told, no_field_told, written_kept, written_room, written_true}
+use Rattle.iloc_outline.proofs.PrintingLemmas.{bytes_here, field_told, no_field_told, written_kept}
+use Rattle.iloc_outline.proofs.PrintingLemmas.{written_room, written_true}
 use Rattle.iloc_outline.proofs.printing.copy_edited.Goals as goal
-use Rattle.iloc_outline.proofs.printing.copy_edited.Goals.{else-eq-via-then-eq+else-end-begun, else-eq-via-else-eq}
+use Rattle.iloc_outline.proofs.printing.copy_edited.Goals.{else-eq-via-then-eq+else-end-begun}
+use Rattle.iloc_outline.proofs.printing.copy_edited.Goals.{else-eq-via-else-eq}
 
 pub copy_piece-begun-requires-clause-room : goal.copy_piece-begun-requires-clause-room
 copy_piece-begun-requires-clause-room c =

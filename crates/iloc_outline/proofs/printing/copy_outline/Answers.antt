@@ -11,7 +11,8 @@ copy_spans-requires c =
     let g = c.requires.gives in
     record {
       parts = g.gives.parts;
-      spell = spell_wider w c.args.len c.requires.inside (held_spans c.args.spans.now) g.gives.parts g.gives.spell;
+      spell = spell_wider w c.args.len c.requires.inside (held_spans c.args.spans.now) g.gives.parts
+          g.gives.spell;
       fits = omega (
         arith,
         c.requires.room,

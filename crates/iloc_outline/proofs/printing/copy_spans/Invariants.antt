@@ -7,5 +7,6 @@ use Rattle.iloc_outline.proofs.printing.copy_spans.Given as goal
 abbrev pub invariant-loop-i : goal.invariant-loop-i
 invariant-loop-i l = record {
   inside : l.end ≤ length l.to;
-  copied : take l.end l.to ≡ take l.start l.fn.to ++ flat_map (span_text l.window) (take l.i (held_spans l.spans));
+  copied : take l.end l.to
+      ≡ take l.start l.fn.to ++ flat_map (span_text l.window) (take l.i (held_spans l.spans));
 }

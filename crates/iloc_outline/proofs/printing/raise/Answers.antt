@@ -3,7 +3,8 @@ use Rattle.std.proofs.lemmas.List.{length-take-le}
 use Rattle.iloc_outline.specs.Identifier.{raised}
 use Rattle.iloc_outline.proofs.CopyingLemmas.{raised_none, raised_one}
 use Rattle.iloc_outline.proofs.printing.raise.Goals as goal
-use Rattle.iloc_outline.proofs.printing.raise.Goals.{else-at-ne0-via-then-at-ne0+else-at-end, else-at-ne0-via-else-at-ne0}
+use Rattle.iloc_outline.proofs.printing.raise.Goals.{else-at-ne0-via-then-at-ne0+else-at-end}
+use Rattle.iloc_outline.proofs.printing.raise.Goals.{else-at-ne0-via-else-at-ne0}
 
 pub returns-then-at-end : goal.returns-then-at-end
 returns-then-at-end c =

@@ -3,7 +3,8 @@ use Rattle.std.proofs.lemmas.List.{length-take-le}
 use Rattle.iloc_outline.specs.Identifier.{raised}
 use Rattle.iloc_outline.proofs.CopyingLemmas.{raised_both, raised_last, raised_none}
 use Rattle.iloc_outline.proofs.printing.raise_two.Goals as goal
-use Rattle.iloc_outline.proofs.printing.raise_two.Goals.{else-at-ne0-via-then-at-ne0+else-at-end, else-at-ne0-via-else-at-ne0}
+use Rattle.iloc_outline.proofs.printing.raise_two.Goals.{else-at-ne0-via-then-at-ne0+else-at-end}
+use Rattle.iloc_outline.proofs.printing.raise_two.Goals.{else-at-ne0-via-else-at-ne0}
 
 pub returns-then-at-end-2 : goal.returns-then-at-end-2
 returns-then-at-end-2 c =

@@ -1,4 +1,5 @@
-use Rattle.std.proofs.Common.{◌≡◌, ◌&&◌, ◌==◌, true, take, slice_index_or, sym, ap, ◌∙◌, arith, refl, true≢false}
+use Rattle.std.proofs.Common.{◌≡◌, ◌&&◌, ◌==◌, true, take, slice_index_or, sym, ap, ◌∙◌, arith, refl}
+use Rattle.std.proofs.Common.{true≢false}
 use Rattle.std.specs.List.{list_any}
 use Rattle.std.proofs.lemmas.List.{get_or-take}
 use Rattle.std.proofs.lemmas.List.Folds.{list_any_at}

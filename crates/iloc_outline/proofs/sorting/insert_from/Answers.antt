@@ -2,7 +2,8 @@ use Rattle.std.proofs.Common.{◌≢◌, ◌<◌, ◌≤◌, length, map, slice_
 use Rattle.std.proofs.lemmas.List.{get_or-map}
 use Rattle.iloc_outline.proofs.SortingSteps.{put_among, put_new, put_none, put_there, same_long}
 use Rattle.iloc_outline.proofs.sorting.insert_from.Goals as goal
-use Rattle.iloc_outline.proofs.sorting.insert_from.Goals.{else-at-count-via-then-at-count+else-list-at, else-at-count-via-else-at-count}
+use Rattle.iloc_outline.proofs.sorting.insert_from.Goals.{else-at-count-via-then-at-count+else-list-at}
+use Rattle.iloc_outline.proofs.sorting.insert_from.Goals.{else-at-count-via-else-at-count}
 
 pub returns-then-list-at : goal.returns-then-list-at
 returns-then-list-at c = λ before ss n s.

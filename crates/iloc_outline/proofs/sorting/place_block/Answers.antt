@@ -1,9 +1,11 @@
-use Rattle.std.proofs.Common.{◌≡◌, ◌+◌, ◌-◌, ◌<◌, ◌++◌, take, true, true≢false, ◌&&◌, slice_index_or, drop, sym, ap, ◌∙◌, arith}
+use Rattle.std.proofs.Common.{◌≡◌, ◌+◌, ◌-◌, ◌<◌, ◌++◌, take, true, true≢false, ◌&&◌, slice_index_or, drop}
+use Rattle.std.proofs.Common.{sym, ap, ◌∙◌, arith}
 use Rattle.iloc_outline.specs.declared.span.TheConstants.{NO_SPAN}
 use Rattle.iloc_outline.proofs.GroupsLemmas.{is_greater, singleton_told, spell_placed}
 use Rattle.iloc_outline.proofs.SortingSteps.{moved_more, same_later}
 use Rattle.iloc_outline.proofs.sorting.place_block.Goals as goal
-use Rattle.iloc_outline.proofs.sorting.place_block.Goals.{then-places-test+else-not-list-at, then-eq, else-eq, else-places-test}
+use Rattle.iloc_outline.proofs.sorting.place_block.Goals.{then-places-test+else-not-list-at, then-eq, else-eq}
+use Rattle.iloc_outline.proofs.sorting.place_block.Goals.{else-places-test}
 
 pub loop-i-preserved : goal.loop-i-preserved
 loop-i-preserved c =

@@ -9,7 +9,8 @@ use Rattle.iloc_outline.proofs.transform.read_fields_alone.Goals as goal
 
 pub returns-then-is_single : goal.returns-then-is_single
 returns-then-is_single c = λ c' e spanned.
-    transform_single c' c.args.start c.args.left.now e c.requires.alone c.args.left.now c.args.spans.now c.args.spans.now
+    transform_single c' c.args.start c.args.left.now e c.requires.alone c.args.left.now c.args.spans.now
+    c.args.spans.now
     c.args.in_order.now c.args.in_order.now
     (sym c.is_single.ensures ∙ c.if-is_single.true)
 
@@ -18,8 +19,10 @@ at_block-requires c = fields_left Field c.args.left.now _ _ _ _ _ c.read_fields.
 
 pub returns : goal.returns
 returns c = λ c' e spanned.
-    let long : is_one_byte (piece_left c.args.left.now) ≡ false = sym c.is_single.ensures ∙ c.if-is_single.false in
-    let put = subst (λ s. held_spans c.put.new.self ≡ held_spans c.args.spans.now ++ s ∷ []) c.singleton.ensures
+    let long : is_one_byte (piece_left c.args.left.now) ≡ false =
+    sym c.is_single.ensures ∙ c.if-is_single.false in
+    let put =
+    subst (λ s. held_spans c.put.new.self ≡ held_spans c.args.spans.now ++ s ∷ []) c.singleton.ensures
     (c.put.ensures.put c.if-not-put.false) in
     alone_read c' c.args.start c.args.left.now e c.requires.alone spanned long c.args.spans.now c.put.new.self
     c.args.in_order.now put c.read_fields.new.left

@@ -4,13 +4,15 @@ use Rattle.iloc_outline.specs.contracts.span.Role.{the_type}
 use Rattle.iloc_outline.proofs.GatherLemmas.{gathers_from}
 use Rattle.iloc_outline.proofs.RoleLemmas.{short_kind}
 use Rattle.iloc_outline.proofs.WordLemmas.{end_within, word_fits}
-use Rattle.iloc_outline.proofs.WordsInOrder.{IsKept, walks_end, walks_full, walks_more, walks_none, walks_past, walks_repeat}
+use Rattle.iloc_outline.proofs.WordsInOrder.{IsKept, walks_end, walks_full, walks_more, walks_none}
+use Rattle.iloc_outline.proofs.WordsInOrder.{walks_past, walks_repeat}
 use Rattle.iloc_outline.proofs.words.read_words.Goals as goal
 use Rattle.iloc_outline.proofs.words.read_words.Goals.{in-Put, in-There+else-eq}
 
 pub words-init : goal.words-init
 words-init c =
-    walks_none c.args.role c.args.left.now c.requires.left c.requires.later c.args.spans.now c.args.in_order.now
+    walks_none c.args.role c.args.left.now c.requires.left c.requires.later c.args.spans.now
+    c.args.in_order.now
 
 pub fits-requires : goal.fits-requires
 fits-requires c = c.words.invariant.past.left

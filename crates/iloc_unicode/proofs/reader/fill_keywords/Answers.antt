@@ -4,7 +4,8 @@ use Rattle.std.proofs.lemmas.Result.{err_from_is_err_and}
 use Rattle.std.specs.FinMap.{find}
 use Rattle.iloc_spec_grammar.specs.Syntax.{word_cmp}
 use Rattle.iloc_subtags.specs.Left.{left}
-use Rattle.iloc_unicode.proofs.KeywordLemmas.{two_bytes, filled_less, filled_more, filled_all, filled_bad, many_values, many_keys}
+use Rattle.iloc_unicode.proofs.KeywordLemmas.{two_bytes, filled_less, filled_more, filled_all, filled_bad}
+use Rattle.iloc_unicode.proofs.KeywordLemmas.{many_values, many_keys}
 use Rattle.iloc_unicode.proofs.reader.fill_keywords.Goals as goal
 
 refused_not : false ≡ true → ⊥
@@ -13,22 +14,36 @@ refused_not h = true≢false (sym h)
 pub returns-in_err-value : goal.returns-in_err-value
 returns-in_err-value c =
     let p = err_from_is_err_and c.from_residual.result c.from_residual.ensures.1 in
-    rw (p.1, p.2) (many_values (left c.args.iter.now) (left c.keys.iter) c.keys.keywords c.keys.invariant c.in-Some.key (left c.take_word.new.iter) c.in-Some.ensures.word c.in-Some.ensures.rest (λ few. refused_not (c.in_err-value.ensures.succeeds few)))
+    rw (p.1, p.2) (many_values (left c.args.iter.now) (left c.keys.iter) c.keys.keywords c.keys.invariant
+    c.in-Some.key (left c.take_word.new.iter) c.in-Some.ensures.word c.in-Some.ensures.rest
+    (λ few. refused_not (c.in_err-value.ensures.succeeds few)))
 
 pub keys-smaller : goal.keys-smaller
-keys-smaller c = filled_less (left c.args.iter.now) (left c.keys.iter) c.keys.keywords c.keys.invariant c.in-Some.key (left c.take_word.new.iter) c.in-Some.ensures.word c.in-Some.ensures.rest (left c.read_value.new.iter) c.in_ok-value.ensures.rest
+keys-smaller c = filled_less (left c.args.iter.now) (left c.keys.iter) c.keys.keywords c.keys.invariant
+    c.in-Some.key (left c.take_word.new.iter) c.in-Some.ensures.word c.in-Some.ensures.rest
+    (left c.read_value.new.iter) c.in_ok-value.ensures.rest
 
 pub keys-preserved : goal.keys-preserved
-keys-preserved c = filled_more (left c.args.iter.now) (left c.keys.iter) c.keys.keywords c.keys.invariant c.in-Some.key (left c.take_word.new.iter) c.in-Some.ensures.word c.in-Some.ensures.rest c.in_ok-value.value (left c.read_value.new.iter) c.add.new.self c.in_ok-value.ensures.value c.in_ok-value.ensures.rest c.in_ok-add.ensures.ok
+keys-preserved c = filled_more (left c.args.iter.now) (left c.keys.iter) c.keys.keywords c.keys.invariant
+    c.in-Some.key (left c.take_word.new.iter) c.in-Some.ensures.word c.in-Some.ensures.rest
+    c.in_ok-value.value (left c.read_value.new.iter) c.add.new.self c.in_ok-value.ensures.value
+    c.in_ok-value.ensures.rest c.in_ok-add.ensures.ok
 
 pub returns-in_err-add : goal.returns-in_err-add
 returns-in_err-add c =
     let p = err_from_is_err_and c.from_residual-in_err-add.result c.from_residual-in_err-add.ensures.1 in
-    let new : is_some (find word_cmp c.in-Some.key c.keys.keywords) ≡ false = false_from_ne_true _ (λ t. refused_not (c.in_err-add.ensures.known t)) in
-    rw (p.1, p.2) (many_keys (left c.args.iter.now) (left c.keys.iter) c.keys.keywords c.keys.invariant c.in-Some.key (left c.take_word.new.iter) c.in-Some.ensures.word c.in-Some.ensures.rest new (λ few. refused_not (c.in_err-add.ensures.succeeds few)))
+    let new : is_some (find word_cmp c.in-Some.key c.keys.keywords) ≡ false =
+    false_from_ne_true _ (λ t. refused_not (c.in_err-add.ensures.known t)) in
+    rw (p.1, p.2) (many_keys (left c.args.iter.now) (left c.keys.iter) c.keys.keywords c.keys.invariant
+    c.in-Some.key (left c.take_word.new.iter) c.in-Some.ensures.word c.in-Some.ensures.rest new
+    (λ few. refused_not (c.in_err-add.ensures.succeeds few)))
 
 pub returns-then-next_has_length : goal.returns-then-next_has_length
-returns-then-next_has_length c = filled_bad (left c.args.iter.now) (left c.keys.iter) (left c.take_word.new.iter) c.keys.keywords c.keys.invariant c.in_default.ensures.rest (sym (c.next_has_length.ensures ∙ two_bytes _) ∙ c.if-next_has_length.true) c.in_default.ensures.word
+returns-then-next_has_length c = filled_bad (left c.args.iter.now) (left c.keys.iter)
+    (left c.take_word.new.iter) c.keys.keywords c.keys.invariant c.in_default.ensures.rest
+    (sym (c.next_has_length.ensures ∙ two_bytes _) ∙ c.if-next_has_length.true) c.in_default.ensures.word
 
 pub returns : goal.returns
-returns c = filled_all (left c.args.iter.now) (left c.keys.iter) (left c.take_word.new.iter) c.keys.keywords c.keys.invariant c.in_default.ensures.rest (sym (c.next_has_length.ensures ∙ two_bytes _) ∙ c.if-next_has_length.false) c.in_default.ensures.word
+returns c = filled_all (left c.args.iter.now) (left c.keys.iter) (left c.take_word.new.iter) c.keys.keywords
+    c.keys.invariant c.in_default.ensures.rest
+    (sym (c.next_has_length.ensures ∙ two_bytes _) ∙ c.if-next_has_length.false) c.in_default.ensures.word

@@ -6,16 +6,22 @@ use Rattle.iloc_unicode.proofs.AttributeLemmas.{Gathered, gathered_few, gathered
 use Rattle.iloc_unicode.proofs.reader.read_more_attributes.Goals as goal
 
 pub words-init : goal.words-init
-words-init c = subst (Gathered (c.args.four ++ left c.args.iter.now) (left c.args.iter.now)) (sym c.from_set-words.ensures) (gathered_few c.args.four (left c.args.iter.now) c.as_slice.ensures.normal)
+words-init c = subst (Gathered (c.args.four ++ left c.args.iter.now) (left c.args.iter.now))
+    (sym c.from_set-words.ensures) (gathered_few c.args.four (left c.args.iter.now) c.as_slice.ensures.normal)
 
 pub words-preserved : goal.words-preserved
 words-preserved c =
-    gathered_more (c.args.four ++ left c.args.iter.now) (left c.words.iter) c.words.words c.words.invariant c.in-Some.word (left c.take_word.new.iter) c.in-Some.ensures.word c.in-Some.ensures.rest c.push.new.self (set_taken c.in-Some.word c.words.words c.push.new.self c.in_ok-push.field-0 c.in_ok-push.ensures.taken)
+    gathered_more (c.args.four ++ left c.args.iter.now) (left c.words.iter) c.words.words c.words.invariant
+    c.in-Some.word (left c.take_word.new.iter) c.in-Some.ensures.word c.in-Some.ensures.rest c.push.new.self
+    (set_taken c.in-Some.word c.words.words c.push.new.self c.in_ok-push.field-0 c.in_ok-push.ensures.taken)
 
 not_few : (n : ℕ) → (n ≤ 4 → ⊥) → 4 < n
 not_few n h = omega (arith, h)
 
 pub returns-in_err-push-clause-succeeds : goal.returns-in_err-push-clause-succeeds
 returns-in_err-push-clause-succeeds c few =
-    let many : 4 < length (set_of (c.in-Some.word ∷ c.words.words)) = not_few _ (λ l. true≢false (sym (c.in_err-push.ensures.succeeds l))) in
-    absurd (gathered_many (c.args.four ++ left c.args.iter.now) (left c.words.iter) c.words.words c.words.invariant c.in-Some.word (left c.take_word.new.iter) c.in-Some.ensures.word c.in-Some.ensures.rest many few)
+    let many : 4 < length (set_of (c.in-Some.word ∷ c.words.words)) =
+    not_few _ (λ l. true≢false (sym (c.in_err-push.ensures.succeeds l))) in
+    absurd
+    (gathered_many (c.args.four ++ left c.args.iter.now) (left c.words.iter) c.words.words c.words.invariant
+    c.in-Some.word (left c.take_word.new.iter) c.in-Some.ensures.word c.in-Some.ensures.rest many few)

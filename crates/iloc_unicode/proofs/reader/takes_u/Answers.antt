@@ -4,7 +4,8 @@ use Rattle.iloc_unicode.proofs.UnicodeLemmas.{begins_at, begins_nowhere}
 use Rattle.iloc_unicode.proofs.reader.takes_u.Goals as goal
 
 pub returns-in-Some-clause-u : goal.returns-in-Some-clause-u
-returns-in-Some-clause-u c = ap (λ n. n == 117) c.to_ascii_lowercase.ensures.value ∙ begins_at (left c.args.iter.now) c.in-Some.letter c.in-Some.ensures.byte
+returns-in-Some-clause-u c = ap (λ n. n == 117) c.to_ascii_lowercase.ensures.value
+    ∙ begins_at (left c.args.iter.now) c.in-Some.letter c.in-Some.ensures.byte
 
 pub returns-in-None-clause-u : goal.returns-in-None-clause-u
 returns-in-None-clause-u c = sym (begins_nowhere (left c.args.iter.now) c.in-None.ensures.byte)

@@ -7,4 +7,8 @@ use Rattle.test_word_rows.proofs.outlines.locale.Goals as goal
 pub normal-requires-clause-gives : goal.normal-requires-clause-gives
 normal-requires-clause-gives c =
     let h = c.in-Normal.ensures in
-    record { normal = text h.0; gives = h.2; few = shortest languages (take c.args.len c.args.window.now) h.0 h.1 }
+    record {
+      normal = text h.0;
+      gives = h.2;
+      few = shortest languages (take c.args.len c.args.window.now) h.0 h.1;
+    }

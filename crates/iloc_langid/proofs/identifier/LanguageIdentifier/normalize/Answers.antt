@@ -9,7 +9,11 @@ use Rattle.iloc_subtags.specs.Judging.{Accepts, Refuses}
 use Rattle.iloc_langid.proofs.identifier.LanguageIdentifier.normalize.Goals as goal
 
 pub returns-clause-accepted : goal.returns-clause-accepted
-returns-clause-accepted c = subst (λ (t : List ℕ). (i : Identifier) → IdentifierMeans languages (pieces t) i → Accepts cow_str_bytes ⊤ (identifier_text i) c.normalize_utf8.result) c.as_bytes.ensures.value c.normalize_utf8.ensures.accepted
+returns-clause-accepted c = subst (λ (t : List ℕ). (i : Identifier) → IdentifierMeans languages (pieces t) i →
+    Accepts cow_str_bytes ⊤ (identifier_text i) c.normalize_utf8.result) c.as_bytes.ensures.value
+    c.normalize_utf8.ensures.accepted
 
 pub returns-clause-refused : goal.returns-clause-refused
-returns-clause-refused c = subst (λ (t : List ℕ). (f : Fault) → HasIdentifierFault languages (pieces t) f → Refuses ⊤ f c.normalize_utf8.result) c.as_bytes.ensures.value c.normalize_utf8.ensures.refused
+returns-clause-refused c = subst (λ (t : List ℕ).
+    (f : Fault) → HasIdentifierFault languages (pieces t) f → Refuses ⊤ f c.normalize_utf8.result)
+    c.as_bytes.ensures.value c.normalize_utf8.ensures.refused

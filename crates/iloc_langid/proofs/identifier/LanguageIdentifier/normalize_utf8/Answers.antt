@@ -22,13 +22,21 @@ returns-in-Some-clause-memory c =
     runs_out Langid c.args.input.now (told_other c.args.input.now) c.in-Some.normal (c.in-Some.ensures Langid)
 
 pub returns-in-Some-clause-accepted : goal.returns-in-Some-clause-accepted
-returns-in-Some-clause-accepted c = prints_accepts cow_str_bytes identifier_text (identifiers_judge (pieces c.args.input.now)) c.in-Some.normal (returns-in-Some-clause-ok c) (returns-in-Some-clause-err c) (λ x h. h.0.is.text_is)
+returns-in-Some-clause-accepted c =
+    prints_accepts cow_str_bytes identifier_text (identifiers_judge (pieces c.args.input.now))
+    c.in-Some.normal (returns-in-Some-clause-ok c) (returns-in-Some-clause-err c) (λ x h. h.0.is.text_is)
 
 pub returns-in-Some-clause-refused : goal.returns-in-Some-clause-refused
-returns-in-Some-clause-refused c = prints_refuses cow_str_bytes identifier_text (identifiers_judge (pieces c.args.input.now)) c.in-Some.normal (returns-in-Some-clause-ok c) (returns-in-Some-clause-err c) (λ x h. h.0.is.text_is)
+returns-in-Some-clause-refused c =
+    prints_refuses cow_str_bytes identifier_text (identifiers_judge (pieces c.args.input.now))
+    c.in-Some.normal (returns-in-Some-clause-ok c) (returns-in-Some-clause-err c) (λ x h. h.0.is.text_is)
 
 pub returns-in-None-clause-accepted : goal.returns-in-None-clause-accepted
-returns-in-None-clause-accepted c = prints_accepts cow_str_bytes identifier_text (identifiers_judge (pieces c.args.input.now)) c.normalize_other.result c.normalize_other.ensures.ok c.normalize_other.ensures.err (λ x h. h.0.is.text_is)
+returns-in-None-clause-accepted c = prints_accepts cow_str_bytes identifier_text
+    (identifiers_judge (pieces c.args.input.now)) c.normalize_other.result c.normalize_other.ensures.ok
+    c.normalize_other.ensures.err (λ x h. h.0.is.text_is)
 
 pub returns-in-None-clause-refused : goal.returns-in-None-clause-refused
-returns-in-None-clause-refused c = prints_refuses cow_str_bytes identifier_text (identifiers_judge (pieces c.args.input.now)) c.normalize_other.result c.normalize_other.ensures.ok c.normalize_other.ensures.err (λ x h. h.0.is.text_is)
+returns-in-None-clause-refused c = prints_refuses cow_str_bytes identifier_text
+    (identifiers_judge (pieces c.args.input.now)) c.normalize_other.result c.normalize_other.ensures.ok
+    c.normalize_other.ensures.err (λ x h. h.0.is.text_is)

@@ -7,10 +7,12 @@ use Rattle.iloc_langid.proofs.ReadLemmas.{reads_accepts, reads_refuses, reads_na
 use Rattle.iloc_langid.proofs.identifier.LanguageIdentifier.try_from_str.Goals as goal
 
 pub returns-clause-reads : goal.returns-clause-reads
-returns-clause-reads c = subst (λ (t : List ℕ). IdentifierReads (pieces t) c.try_from_utf8.result) c.as_bytes.ensures.value c.try_from_utf8.ensures.reads
+returns-clause-reads c = subst (λ (t : List ℕ). IdentifierReads (pieces t) c.try_from_utf8.result)
+    c.as_bytes.ensures.value c.try_from_utf8.ensures.reads
 
 pub returns-clause-accepted : goal.returns-clause-accepted
-returns-clause-accepted c = reads_accepts (pieces c.args.s.now) c.try_from_utf8.result (returns-clause-reads c)
+returns-clause-accepted c =
+    reads_accepts (pieces c.args.s.now) c.try_from_utf8.result (returns-clause-reads c)
 
 pub returns-clause-refused : goal.returns-clause-refused
 returns-clause-refused c = reads_refuses (pieces c.args.s.now) c.try_from_utf8.result (returns-clause-reads c)
@@ -19,4 +21,6 @@ pub returns-clause-narrow : goal.returns-clause-narrow
 returns-clause-narrow c = reads_narrow c.args.s.now c.try_from_utf8.result (returns-clause-reads c)
 
 pub returns-clause-memory : goal.returns-clause-memory
-returns-clause-memory c = subst (λ (t : List ℕ). RunsOutOnlyIf (IdentifierWantsMemory (pieces t)) c.try_from_utf8.result) c.as_bytes.ensures.value c.try_from_utf8.ensures.memory
+returns-clause-memory c =
+    subst (λ (t : List ℕ). RunsOutOnlyIf (IdentifierWantsMemory (pieces t)) c.try_from_utf8.result)
+    c.as_bytes.ensures.value c.try_from_utf8.ensures.memory

@@ -12,28 +12,35 @@ returns-in_err-fill_short-clause-reads c =
     rw (p.1, p.2) (no_language_read c.args.code_units.now _ c.in_err-fill_short.ensures.refused)
 
 pub returns-in_err-fill_short-clause-accepted : goal.returns-in_err-fill_short-clause-accepted
-returns-in_err-fill_short-clause-accepted c = reads_accepts (pieces c.args.code_units.now) c.from_residual.result (returns-in_err-fill_short-clause-reads c)
+returns-in_err-fill_short-clause-accepted c = reads_accepts (pieces c.args.code_units.now)
+    c.from_residual.result (returns-in_err-fill_short-clause-reads c)
 
 pub returns-in_err-fill_short-clause-refused : goal.returns-in_err-fill_short-clause-refused
-returns-in_err-fill_short-clause-refused c = reads_refuses (pieces c.args.code_units.now) c.from_residual.result (returns-in_err-fill_short-clause-reads c)
+returns-in_err-fill_short-clause-refused c = reads_refuses (pieces c.args.code_units.now)
+    c.from_residual.result (returns-in_err-fill_short-clause-reads c)
 
 pub returns-in_err-fill_short-clause-narrow : goal.returns-in_err-fill_short-clause-narrow
-returns-in_err-fill_short-clause-narrow c = reads_narrow c.args.code_units.now c.from_residual.result (returns-in_err-fill_short-clause-reads c)
+returns-in_err-fill_short-clause-narrow c =
+    reads_narrow c.args.code_units.now c.from_residual.result (returns-in_err-fill_short-clause-reads c)
 
 pub returns-in_err-fill_text-clause-reads : goal.returns-in_err-fill_text-clause-reads
 returns-in_err-fill_text-clause-reads c = search rules
 
 pub returns-in_err-fill_text-clause-narrow : goal.returns-in_err-fill_text-clause-narrow
-returns-in_err-fill_text-clause-narrow c = reads_narrow c.args.code_units.now c.from_residual-in_err-fill_text.result (returns-in_err-fill_text-clause-reads c)
+returns-in_err-fill_text-clause-narrow c = reads_narrow c.args.code_units.now
+    c.from_residual-in_err-fill_text.result (returns-in_err-fill_text-clause-reads c)
 
 pub returns-clause-reads : goal.returns-clause-reads
 returns-clause-reads c = search rules
 
 pub returns-clause-accepted : goal.returns-clause-accepted
-returns-clause-accepted c = reads_accepts (pieces c.args.code_units.now) (Ok c.if-not-branch.identifier) (returns-clause-reads c)
+returns-clause-accepted c =
+    reads_accepts (pieces c.args.code_units.now) (Ok c.if-not-branch.identifier) (returns-clause-reads c)
 
 pub returns-clause-steps : goal.returns-clause-steps
-returns-clause-steps c = reads_steps c.args.code_units.now (Ok c.if-not-branch.identifier) (returns-clause-reads c)
+returns-clause-steps c =
+    reads_steps c.args.code_units.now (Ok c.if-not-branch.identifier) (returns-clause-reads c)
 
 pub returns-clause-narrow : goal.returns-clause-narrow
-returns-clause-narrow c = reads_narrow c.args.code_units.now (Ok c.if-not-branch.identifier) (returns-clause-reads c)
+returns-clause-narrow c =
+    reads_narrow c.args.code_units.now (Ok c.if-not-branch.identifier) (returns-clause-reads c)

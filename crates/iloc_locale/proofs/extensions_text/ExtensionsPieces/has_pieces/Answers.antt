@@ -10,4 +10,6 @@ use Rattle.iloc_locale.proofs.extensions_text.ExtensionsPieces.has_pieces.Goals 
 pub returns : goal.returns
 returns c =
     let parts = c.parts.ensures in
-    c.has_pieces.ensures ∙ ap is_there (parts_pieces (value_of c.args.self.now) _ _ _ _ _ parts.others (ap transform.value_of parts.transform) (ap unicode.value_of parts.unicode) parts.private)
+    c.has_pieces.ensures
+    ∙ ap is_there (parts_pieces (value_of c.args.self.now) _ _ _ _ _ parts.others
+    (ap transform.value_of parts.transform) (ap unicode.value_of parts.unicode) parts.private)

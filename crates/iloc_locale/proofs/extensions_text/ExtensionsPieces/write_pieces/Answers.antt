@@ -16,10 +16,15 @@ nothing true = refl
 nothing false = refl
 
 pub returns-then-is_empty : goal.returns-then-is_empty
-returns-then-is_empty g c = subst (λ (t : List ℕ). g.S.Sink.took c.args.sink.now t c.args.sink.now) (nothing c.args.first ∙ ap (λ e. hyphened c.args.first (extensions_spelling e)) (sym (c.is_empty.ensures.0 c.if-is_empty.true))) (g.met.S.Sink.took_nothing _)
+returns-then-is_empty g c = subst (λ (t : List ℕ). g.S.Sink.took c.args.sink.now t c.args.sink.now)
+    (nothing c.args.first
+    ∙ ap (λ e. hyphened c.args.first (extensions_spelling e)) (sym (c.is_empty.ensures.0 c.if-is_empty.true)))
+    (g.met.S.Sink.took_nothing _)
 
 pub returns : goal.returns
 returns g c =
     let parts = c.parts.ensures in
-    subst (λ (ps : List (List ℕ)). Writes g.S.Sink.took g.S.Sink.failed c.args.sink.now (hyphened c.args.first ps) c.write_pieces.new.sink c.write_pieces.result)
-    (parts_pieces (value_of c.args.self.now) _ _ _ _ _ parts.others (ap transform.value_of parts.transform) (ap unicode.value_of parts.unicode) parts.private) c.write_pieces.ensures
+    subst (λ (ps : List (List ℕ)). Writes g.S.Sink.took g.S.Sink.failed c.args.sink.now
+    (hyphened c.args.first ps) c.write_pieces.new.sink c.write_pieces.result)
+    (parts_pieces (value_of c.args.self.now) _ _ _ _ _ parts.others (ap transform.value_of parts.transform)
+    (ap unicode.value_of parts.unicode) parts.private) c.write_pieces.ensures

@@ -10,13 +10,21 @@ use Rattle.iloc_locale.specs.LocaleReading.{NormalizingWantsMemory}
 use Rattle.iloc_locale.proofs.locale.Locale.normalize.Goals as goal
 
 pub returns-clause-err : goal.returns-clause-err
-returns-clause-err c = subst (λ (t : List ℕ). IfErr c.normalize_utf8.result (Refusal (HasFault languages t) ⊤)) c.as_bytes.ensures.value c.normalize_utf8.ensures.err
+returns-clause-err c =
+    subst (λ (t : List ℕ). IfErr c.normalize_utf8.result (Refusal (HasFault languages t) ⊤))
+    c.as_bytes.ensures.value c.normalize_utf8.ensures.err
 
 pub returns-clause-memory : goal.returns-clause-memory
-returns-clause-memory c = subst (λ (t : List ℕ). RunsOutOnlyIf (NormalizingWantsMemory t) c.normalize_utf8.result) c.as_bytes.ensures.value c.normalize_utf8.ensures.memory
+returns-clause-memory c =
+    subst (λ (t : List ℕ). RunsOutOnlyIf (NormalizingWantsMemory t) c.normalize_utf8.result)
+    c.as_bytes.ensures.value c.normalize_utf8.ensures.memory
 
 pub returns-clause-accepted : goal.returns-clause-accepted
-returns-clause-accepted c = subst (λ (t : List ℕ). (M : Locale) → Means languages t M → Accepts cow_str_bytes ⊤ (text M) c.normalize_utf8.result) c.as_bytes.ensures.value c.normalize_utf8.ensures.accepted
+returns-clause-accepted c = subst (λ (t : List ℕ).
+    (M : Locale) → Means languages t M → Accepts cow_str_bytes ⊤ (text M) c.normalize_utf8.result)
+    c.as_bytes.ensures.value c.normalize_utf8.ensures.accepted
 
 pub returns-clause-refused : goal.returns-clause-refused
-returns-clause-refused c = subst (λ (t : List ℕ). (f : Fault) → HasFault languages t f → Refuses ⊤ f c.normalize_utf8.result) c.as_bytes.ensures.value c.normalize_utf8.ensures.refused
+returns-clause-refused c =
+    subst (λ (t : List ℕ). (f : Fault) → HasFault languages t f → Refuses ⊤ f c.normalize_utf8.result)
+    c.as_bytes.ensures.value c.normalize_utf8.ensures.refused

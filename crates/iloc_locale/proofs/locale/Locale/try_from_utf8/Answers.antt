@@ -4,7 +4,9 @@ use Rattle.iloc_subtags.specs.declared.parse_error.ParseError.{ParseError}
 use Rattle.iloc_langid.specs.declared.identifier.LanguageIdentifier.{LanguageIdentifier}
 use Rattle.iloc_locale.specs.declared.extensions.Extensions.{Extensions}
 use Rattle.iloc_locale.specs.declared.locale.Locale.{Locale}
-use Rattle.iloc_locale.proofs.ReadLemmas.{no_language_read, reads_apart, reads_memory, reads_well_formed, reads_steps, reads_accepts, reads_refuses, reads_narrow, none_after_unknown, plain_means}
+use Rattle.iloc_locale.proofs.ReadLemmas.{no_language_read, reads_apart, reads_memory, reads_well_formed}
+use Rattle.iloc_locale.proofs.ReadLemmas.{reads_steps, reads_accepts, reads_refuses, reads_narrow}
+use Rattle.iloc_locale.proofs.ReadLemmas.{none_after_unknown, plain_means}
 use Rattle.iloc_locale.proofs.locale.Locale.try_from_utf8.Goals as goal
 
 pub fill-requires : goal.fill-requires
@@ -18,13 +20,16 @@ returns-in_err-fill_short-clause-reads c =
     rw (p.1, p.2) (no_language_read c.args.code_units.now _ c.in_err-fill_short.ensures.refused)
 
 pub returns-in_err-fill_short-clause-accepted : goal.returns-in_err-fill_short-clause-accepted
-returns-in_err-fill_short-clause-accepted c = reads_accepts c.args.code_units.now c.from_residual.result (returns-in_err-fill_short-clause-reads c)
+returns-in_err-fill_short-clause-accepted c =
+    reads_accepts c.args.code_units.now c.from_residual.result (returns-in_err-fill_short-clause-reads c)
 
 pub returns-in_err-fill_short-clause-refused : goal.returns-in_err-fill_short-clause-refused
-returns-in_err-fill_short-clause-refused c = reads_refuses c.args.code_units.now c.from_residual.result (returns-in_err-fill_short-clause-reads c)
+returns-in_err-fill_short-clause-refused c =
+    reads_refuses c.args.code_units.now c.from_residual.result (returns-in_err-fill_short-clause-reads c)
 
 pub returns-in_err-fill_short-clause-narrow : goal.returns-in_err-fill_short-clause-narrow
-returns-in_err-fill_short-clause-narrow c = reads_narrow c.args.code_units.now c.from_residual.result (returns-in_err-fill_short-clause-reads c)
+returns-in_err-fill_short-clause-narrow c =
+    reads_narrow c.args.code_units.now c.from_residual.result (returns-in_err-fill_short-clause-reads c)
 
 pub returns-in_err-fill-clause-reads : goal.returns-in_err-fill-clause-reads
 returns-in_err-fill-clause-reads c =
@@ -34,44 +39,55 @@ returns-in_err-fill-clause-reads c =
 pub returns-in_err-fill-clause-memory : goal.returns-in_err-fill-clause-memory
 returns-in_err-fill-clause-memory c =
     let p = err_from_is_err_and c.from_residual-in_err-fill.result c.from_residual-in_err-fill.ensures.1 in
-    reads_memory c.args.code_units.now c.from_residual-in_err-fill.result (rw (p.1, p.2) c.in_err-fill.ensures)
+    reads_memory c.args.code_units.now c.from_residual-in_err-fill.result
+    (rw (p.1, p.2) c.in_err-fill.ensures)
 
 pub returns-in_err-fill-clause-accepted : goal.returns-in_err-fill-clause-accepted
-returns-in_err-fill-clause-accepted c = reads_accepts c.args.code_units.now c.from_residual-in_err-fill.result (returns-in_err-fill-clause-reads c)
+returns-in_err-fill-clause-accepted c = reads_accepts c.args.code_units.now c.from_residual-in_err-fill.result
+    (returns-in_err-fill-clause-reads c)
 
 pub returns-in_err-fill-clause-refused : goal.returns-in_err-fill-clause-refused
-returns-in_err-fill-clause-refused c = reads_refuses c.args.code_units.now c.from_residual-in_err-fill.result (returns-in_err-fill-clause-reads c)
+returns-in_err-fill-clause-refused c = reads_refuses c.args.code_units.now c.from_residual-in_err-fill.result
+    (returns-in_err-fill-clause-reads c)
 
 pub returns-in_err-fill-clause-narrow : goal.returns-in_err-fill-clause-narrow
-returns-in_err-fill-clause-narrow c = reads_narrow c.args.code_units.now c.from_residual-in_err-fill.result (returns-in_err-fill-clause-reads c)
+returns-in_err-fill-clause-narrow c =
+    reads_narrow c.args.code_units.now c.from_residual-in_err-fill.result (returns-in_err-fill-clause-reads c)
 
 abbrev made : LanguageIdentifier → Extensions → Result Locale ParseError
 made i e = Ok (record { id = i; extensions = e })
 
 pub returns-then-branch-clause-reads : goal.returns-then-branch-clause-reads
 returns-then-branch-clause-reads c =
-    plain_means c.args.code_units.now (record { id = c.fill_short.new.identifier; extensions = c.new.result }) (c.in_ok-fill_short.ensures.told c.if-branch.true) c.new.ensures
+    plain_means c.args.code_units.now (record { id = c.fill_short.new.identifier; extensions = c.new.result })
+    (c.in_ok-fill_short.ensures.told c.if-branch.true) c.new.ensures
 
 pub returns-then-branch-clause-accepted : goal.returns-then-branch-clause-accepted
-returns-then-branch-clause-accepted c = reads_accepts c.args.code_units.now (made c.fill_short.new.identifier c.new.result) (returns-then-branch-clause-reads c)
+returns-then-branch-clause-accepted c = reads_accepts c.args.code_units.now
+    (made c.fill_short.new.identifier c.new.result) (returns-then-branch-clause-reads c)
 
 pub returns-then-branch-clause-well_formed : goal.returns-then-branch-clause-well_formed
-returns-then-branch-clause-well_formed c = reads_well_formed c.args.code_units.now (made c.fill_short.new.identifier c.new.result) (returns-then-branch-clause-reads c)
+returns-then-branch-clause-well_formed c = reads_well_formed c.args.code_units.now
+    (made c.fill_short.new.identifier c.new.result) (returns-then-branch-clause-reads c)
 
 pub returns-then-branch-clause-refused : goal.returns-then-branch-clause-refused
-returns-then-branch-clause-refused c = reads_refuses c.args.code_units.now (made c.fill_short.new.identifier c.new.result) (returns-then-branch-clause-reads c)
+returns-then-branch-clause-refused c = reads_refuses c.args.code_units.now
+    (made c.fill_short.new.identifier c.new.result) (returns-then-branch-clause-reads c)
 
 pub returns-then-branch-clause-steps : goal.returns-then-branch-clause-steps
-returns-then-branch-clause-steps c = reads_steps c.args.code_units.now (made c.fill_short.new.identifier c.new.result) (returns-then-branch-clause-reads c)
+returns-then-branch-clause-steps c = reads_steps c.args.code_units.now
+    (made c.fill_short.new.identifier c.new.result) (returns-then-branch-clause-reads c)
 
 pub returns-then-branch-clause-narrow : goal.returns-then-branch-clause-narrow
-returns-then-branch-clause-narrow c = reads_narrow c.args.code_units.now (made c.fill_short.new.identifier c.new.result) (returns-then-branch-clause-reads c)
+returns-then-branch-clause-narrow c = reads_narrow c.args.code_units.now
+    (made c.fill_short.new.identifier c.new.result) (returns-then-branch-clause-reads c)
 
 pub returns-clause-reads : goal.returns-clause-reads
 returns-clause-reads c = c.in_ok-fill.ensures
 
 pub returns-clause-well_formed : goal.returns-clause-well_formed
-returns-clause-well_formed c = reads_well_formed c.args.code_units.now (Ok c.fill.new.self) (returns-clause-reads c)
+returns-clause-well_formed c =
+    reads_well_formed c.args.code_units.now (Ok c.fill.new.self) (returns-clause-reads c)
 
 pub returns-clause-steps : goal.returns-clause-steps
 returns-clause-steps c = reads_steps c.args.code_units.now (Ok c.fill.new.self) (returns-clause-reads c)

@@ -17,4 +17,6 @@ returns-clause-lends c = (
 )
 
 pub returns-clause-text : goal.returns-clause-text
-returns-clause-text c = subst (λ (x : List ℕ). IfSome c.writeable_borrow.result (λ t. t.now ≡ x)) (sym (text_alone (langid.value_of c.args.self.now.id) (extensions.value_of c.args.self.now.extensions) (c.is_empty.ensures.0 c.if-not-is_empty.false))) c.writeable_borrow.ensures.text
+returns-clause-text c = subst (λ (x : List ℕ). IfSome c.writeable_borrow.result (λ t. t.now ≡ x))
+    (sym (text_alone (langid.value_of c.args.self.now.id) (extensions.value_of c.args.self.now.extensions)
+    (c.is_empty.ensures.0 c.if-not-is_empty.false))) c.writeable_borrow.ensures.text

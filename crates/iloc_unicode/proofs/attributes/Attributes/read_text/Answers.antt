@@ -17,7 +17,8 @@ returns-in_err-try_from_iter-clause-reads c =
 pub returns-in_err-try_from_iter-clause-memory : goal.returns-in_err-try_from_iter-clause-memory
 returns-in_err-try_from_iter-clause-memory c =
     let p = err_from_is_err_and c.from_residual.result c.from_residual.ensures.1 in
-    rw (p.1, p.2) (not_few _ (λ few. refused_not (c.in_err-try_from_iter.ensures.succeeds (subst (λ ps. length (attributes_read ps) ≤ 4) (sym c.new-iter.ensures) few))))
+    rw (p.1, p.2) (not_few _ (λ few. refused_not (c.in_err-try_from_iter.ensures.succeeds
+    (subst (λ ps. length (attributes_read ps) ≤ 4) (sym c.new-iter.ensures) few))))
 
 pub returns-clause-reads : goal.returns-clause-reads
 returns-clause-reads c = c.in_ok-try_from_iter.ensures.value ∙ ap attributes_read c.new-iter.ensures

@@ -7,10 +7,13 @@ use Rattle.iloc_unicode.proofs.OwedLemmas.{attributes_accepts}
 use Rattle.iloc_unicode.proofs.attributes.Attributes.try_from_str.Goals as goal
 
 pub returns-clause-reads : goal.returns-clause-reads
-returns-clause-reads c = subst (λ (t : List ℕ). AttributesTextReads t c.try_from_utf8.result) c.as_bytes.ensures.value c.try_from_utf8.ensures.reads
+returns-clause-reads c = subst (λ (t : List ℕ). AttributesTextReads t c.try_from_utf8.result)
+    c.as_bytes.ensures.value c.try_from_utf8.ensures.reads
 
 pub returns-clause-memory : goal.returns-clause-memory
-returns-clause-memory c = subst (λ (t : List ℕ). RunsOutOnlyIf (AttributesWantMemory (pieces t)) c.try_from_utf8.result) c.as_bytes.ensures.value c.try_from_utf8.ensures.memory
+returns-clause-memory c =
+    subst (λ (t : List ℕ). RunsOutOnlyIf (AttributesWantMemory (pieces t)) c.try_from_utf8.result)
+    c.as_bytes.ensures.value c.try_from_utf8.ensures.memory
 
 pub returns-clause-accepted : goal.returns-clause-accepted
 returns-clause-accepted c = attributes_accepts c.args.s.now c.try_from_utf8.result (returns-clause-reads c)

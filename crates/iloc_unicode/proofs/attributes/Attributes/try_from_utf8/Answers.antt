@@ -3,4 +3,5 @@ use Rattle.iloc_unicode.proofs.OwedLemmas.{attributes_accepts}
 use Rattle.iloc_unicode.proofs.attributes.Attributes.try_from_utf8.Goals as goal
 
 pub returns-clause-accepted : goal.returns-clause-accepted
-returns-clause-accepted c = attributes_accepts c.args.code_units.now c.read_text.result c.read_text.ensures.reads
+returns-clause-accepted c =
+    attributes_accepts c.args.code_units.now c.read_text.result c.read_text.ensures.reads

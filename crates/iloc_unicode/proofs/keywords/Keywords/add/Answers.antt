@@ -7,4 +7,5 @@ refused_not : false ≡ true → ⊥
 refused_not h = true≢false (sym h)
 
 pub returns-in_err-try_insert-clause-known : goal.returns-in_err-try_insert-clause-known
-returns-in_err-try_insert-clause-known c h = absurd (refused_not (c.in_err-try_insert.ensures.keeps (ap (λ es. is_some (find word_cmp c.args.key es)) c.self.view_is ∙ h)))
+returns-in_err-try_insert-clause-known c h = absurd (refused_not
+    (c.in_err-try_insert.ensures.keeps (ap (λ es. is_some (find word_cmp c.args.key es)) c.self.view_is ∙ h)))

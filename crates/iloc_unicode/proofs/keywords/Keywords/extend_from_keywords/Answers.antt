@@ -17,4 +17,5 @@ set_only-requires-clause-known c =
 pub returns-clause-ok : goal.returns-clause-ok
 returns-clause-ok c = on_ok_weaker c.extend_from_map.result (λ is. is
     ∙ ap₂ (λ fs es. map_of word_cmp (reverse fs ++ es)) c.other.view_is c.self.view_is
-    ∙ reversed_over word_cmp word_cmp_total same_words c.args.self.now c.args.other c.as_slice.ensures.ascending) c.extend_from_map.ensures.ok
+    ∙ reversed_over word_cmp word_cmp_total same_words c.args.self.now c.args.other
+    c.as_slice.ensures.ascending) c.extend_from_map.ensures.ok

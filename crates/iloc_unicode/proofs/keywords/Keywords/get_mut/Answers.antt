@@ -7,6 +7,10 @@ use borrow.Follows.Closed.{read_of}
 
 pub returns : goal.returns
 returns c = (
-  ap (λ (es : Fields). read_of (ghost_name_of c.get_mut.result) (λ v. put word_cmp c.args.key.now v es) es) c.self.view_is,
-  record { writes_back = tt; value = c.get_mut.ensures.value ∙ ap (find word_cmp c.args.key.now) c.self.view_is },
+  ap (λ (es : Fields). read_of (ghost_name_of c.get_mut.result) (λ v. put word_cmp c.args.key.now v es) es)
+      c.self.view_is,
+  record {
+    writes_back = tt;
+    value = c.get_mut.ensures.value ∙ ap (find word_cmp c.args.key.now) c.self.view_is;
+  },
 )

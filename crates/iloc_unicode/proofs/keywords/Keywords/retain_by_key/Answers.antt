@@ -6,7 +6,12 @@ use Rattle.iloc_unicode.proofs.keywords.Keywords.retain_by_key.Goals as goal
 use denote.Param.Always.{always_mut, mut_by}
 
 pub retain-requires : goal.retain-requires
-retain-requires g c = mut_by _ (λ s. always_mut g.F.FnMut s.0) (λ s a i. search of_calls) (λ s a r t i e. search of_calls) _ c.requires
+retain-requires g c = mut_by _ (λ s. always_mut g.F.FnMut s.0) (λ s a i. search of_calls)
+    (λ s a r t i e. search of_calls) _ c.requires
 
 pub returns : goal.returns
-returns g c = subst (λ es. IsFiltered (λ f e b h. CalledAt g.F.FnMut f e.0 b h) c.args.predicate es c.retain.new.self) c.self.view_is (filtered_same _ (λ f e b h. CalledAt g.F.FnMut f e.0 b h) (λ s. s.0) (λ p x b q call. subst (λ k. CalledAt g.F.FnMut p.0 k b q.0) call.shows.0 call.called.met.0) _ _ _ c.retain.ensures)
+returns g c =
+    subst (λ es. IsFiltered (λ f e b h. CalledAt g.F.FnMut f e.0 b h) c.args.predicate es c.retain.new.self)
+    c.self.view_is (filtered_same _ (λ f e b h. CalledAt g.F.FnMut f e.0 b h) (λ s. s.0)
+    (λ p x b q call. subst (λ k. CalledAt g.F.FnMut p.0 k b q.0) call.shows.0 call.called.met.0) _ _ _
+    c.retain.ensures)

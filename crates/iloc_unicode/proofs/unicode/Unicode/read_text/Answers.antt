@@ -3,16 +3,23 @@ use Rattle.iloc_spec_grammar.specs.Reading.{rest_of}
 use Rattle.iloc_spec_parts.specs.Parts.{begins_part, is_letter}
 use Rattle.iloc_subtags.specs.Left.{left}
 use Rattle.iloc_unicode.specs.UnicodeReads.{UnicodeFills}
-use Rattle.iloc_unicode.proofs.UnicodeLemmas.{no_letter, after_letter, TextAnswers, reads_apart, reads_memory, unicode_joined}
+use Rattle.iloc_unicode.proofs.UnicodeLemmas.{no_letter, after_letter, TextAnswers, reads_apart, reads_memory}
+use Rattle.iloc_unicode.proofs.UnicodeLemmas.{unicode_joined}
 use Rattle.iloc_unicode.proofs.unicode.Unicode.read_text.Goals as goal
 
 pub returns-then-not-takes_u-clause-reads : goal.returns-then-not-takes_u-clause-reads
-returns-then-not-takes_u-clause-reads c = no_letter c.args.code_units.now (ap (begins_part (is_letter 117)) (sym c.new-iter.ensures) ∙ sym c.takes_u.ensures.u ∙ c.if-not-takes_u.true)
+returns-then-not-takes_u-clause-reads c =
+    no_letter c.args.code_units.now (ap (begins_part (is_letter 117)) (sym c.new-iter.ensures)
+    ∙ sym c.takes_u.ensures.u ∙ c.if-not-takes_u.true)
 
 answers : (c : goal.After-try_from_iter) → TextAnswers c.args.code_units.now c.try_from_iter.result
 answers c =
-    after_letter c.args.code_units.now (left c.try_from_iter.new.iter) c.try_from_iter.result (ap (begins_part (is_letter 117)) (sym c.new-iter.ensures) ∙ sym c.takes_u.ensures.u ∙ c.if-not-takes_u.false)
-    (subst (λ ps. UnicodeFills ps (left c.try_from_iter.new.iter) c.try_from_iter.result) (c.takes_u.ensures.rest ∙ ap rest_of c.new-iter.ensures) (unicode_joined _ _ c.try_from_iter.result c.try_from_iter.ensures.reads c.try_from_iter.ensures.memory))
+    after_letter c.args.code_units.now (left c.try_from_iter.new.iter) c.try_from_iter.result
+    (ap (begins_part (is_letter 117)) (sym c.new-iter.ensures) ∙ sym c.takes_u.ensures.u
+    ∙ c.if-not-takes_u.false)
+    (subst (λ ps. UnicodeFills ps (left c.try_from_iter.new.iter) c.try_from_iter.result)
+    (c.takes_u.ensures.rest ∙ ap rest_of c.new-iter.ensures)
+    (unicode_joined _ _ c.try_from_iter.result c.try_from_iter.ensures.reads c.try_from_iter.ensures.memory))
 
 pub returns-clause-reads : goal.returns-clause-reads
 returns-clause-reads c = reads_apart c.args.code_units.now c.try_from_iter.result (answers c)
