@@ -16,7 +16,7 @@ use Rattle.iloc_spec_parts.specs.SmallComputing.{block_fault, blocks_result, has
 use Rattle.iloc_spec_preferences.specs.DataComputing.{data_of_result}
 use Rattle.iloc_spec_preferences.specs.DataLocales.{DataLocale, agreed, made_of, named_subdivision}
 use Rattle.iloc_spec_preferences.specs.Subdivisions.{Subdivision}
-use Rattle.iloc_told.specs.Subdivisions.{MeansWithU, data_behind, data_of, has_small_value}
+use Rattle.iloc_told.specs.Subdivisions.{MeansWithU, data_behind, data_with, has_small_value}
 use Rattle.iloc_told.proofs.KeywordAnswers.{and-false, attribute_no_key, fault_is, front_first, key_long, key_no_attribute, letter_u, no_key, no_word, skip_long, front_long, values_whole}
 
 -- ---- the first piece
@@ -161,7 +161,7 @@ module _ (c : ℕ) (u : is_u c ≡ true) (r : SmallIdentifier) (p : Text) (qs : 
 
   named_behind : (s : Subdivision) → is_same (lower p) (codes "sd") ≡ true
       → option_and_then named_subdivision (first_item (normal_values qs)) ≡ Some s
-      → data_behind r ((c ∷ []) ∷ p ∷ qs) ≡ Ok (data_of r s)
+      → data_behind r ((c ∷ []) ∷ p ∷ qs) ≡ Ok (data_with r s)
   named_behind s sd names = good ∙ (λ j. outcome r (sd j) (names j))
 
 -- the same by what the pieces are
@@ -181,12 +181,12 @@ module _ (ps : List Text) (key : IsWord UnicodeKey (first_piece ps)) (small : ha
 
   pub named_pieces : (s : Subdivision) → is_same (lower (first_piece ps)) (codes "sd") ≡ true
       → option_and_then named_subdivision (first_item (normal_values (rest_of ps))) ≡ Some s
-      → MeansWithU ps (λ r. Ok (data_of r s))
+      → MeansWithU ps (λ r. Ok (data_with r s))
   named_pieces s sd names c u r = by ps key small sd names
     where
       by : (ps : List Text) → IsWord UnicodeKey (first_piece ps) → has_small_value (rest_of ps) ≡ true
           → is_same (lower (first_piece ps)) (codes "sd") ≡ true
           → option_and_then named_subdivision (first_item (normal_values (rest_of ps))) ≡ Some s
-          → data_behind r ((c ∷ []) ∷ ps) ≡ Ok (data_of r s)
+          → data_behind r ((c ∷ []) ∷ ps) ≡ Ok (data_with r s)
       by [] k l e n = absurd (no_word k)
       by (p ∷ qs) k l e n = named_behind c u r p qs k l s e n

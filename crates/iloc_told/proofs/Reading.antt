@@ -24,7 +24,7 @@ use Rattle.iloc_outline.proofs.Meanings.{refused}
 use Rattle.iloc_outline.proofs.TransformLemmas.{pieces_front_of}
 use Rattle.iloc_outline.proofs.TransformReading.{pieces_front}
 use Rattle.iloc_told.specs.Data.{IsBlockRead, IsDataRead, IsHead, data_alone}
-use Rattle.iloc_told.specs.Subdivisions.{IsNamed, data_behind, data_of}
+use Rattle.iloc_told.specs.Subdivisions.{IsNamed, data_behind, data_with}
 use Rattle.iloc_told.specs.Told.{HasRefusal}
 use Rattle.iloc_told.specs.declared.Mode.TheVariants as modes
 use Rattle.iloc_told.specs.declared.data.Data.{Data}
@@ -84,7 +84,7 @@ module _ (w : Text) (len : ℕ) (language : BeginsWithLanguage (take len w)) (vs
         let behind = p.behind in
         let inside = p.inside in
         subst (λ (g : Head). IsDataRead w len (datas.Named g v)) (sym r.0) (
-          data_of (small_identifier i) s,
+          data_with (small_identifier i) s,
           by_block r.1 ∙ r.2.2 (small_identifier i),
           record {
             written = i;

@@ -19,7 +19,7 @@ use Rattle.iloc_spec_preferences.proofs.DataLaws.{whole_region_is}
 use Rattle.iloc_spec_preferences.proofs.SubdivisionLaws.{read_is_subdivision, subdivision_back, text_of_read}
 use Rattle.iloc_outline.specs.Parts.{front_pieces}
 use Rattle.iloc_told.specs.Data.{data_alone}
-use Rattle.iloc_told.specs.Subdivisions.{data_of}
+use Rattle.iloc_told.specs.Subdivisions.{data_with}
 use Rattle.iloc_told.proofs.PlainAnswers.{one_item}
 
 -- a region is normal in upper case
@@ -147,7 +147,7 @@ module _ (i : Identifier) (few : length i.variants ≤ 1) where
       ]
 
       pub dropped : (is_same (upper x) s.region ≡ false) ⊎ (is_whole s ≡ true)
-          → data_text (data_of r s) ≡ front ++ variants
+          → data_text (data_with r s) ≡ front ++ variants
       dropped e =
           ap (λ (o : Option Text). data_text (made_of r.language r.script (Some
           (agreed o s)) r.variant)) given_is
@@ -158,7 +158,7 @@ module _ (i : Identifier) (few : length i.variants ≤ 1) where
           (sym region) word) ∙ plain
 
       pub kept : is_same (upper x) s.region ≡ true → is_whole s ≡ false
-          → data_text (data_of r s) ≡ (front ++ variants) ++ (codes "-u-sd-" ++ lower b)
+          → data_text (data_with r s) ≡ (front ++ variants) ++ (codes "-u-sd-" ++ lower b)
       kept same e =
           ap (λ (o : Option Text). data_text (made_of r.language r.script (Some
           (agreed o s)) r.variant)) given_is
@@ -184,7 +184,7 @@ module _ (i : Identifier) (few : length i.variants ≤ 1) where
           ∙ ap (λ (o : Option Text). join (r.language ∷
           (option_to_list r.script ++ option_to_list o)) ++ 45 ∷ s.region) (sym given_none)
 
-      pub inserted : is_whole s ≡ true → data_text (data_of r s) ≡ (front ++ 45 ∷ s.region) ++ variants
+      pub inserted : is_whole s ≡ true → data_text (data_with r s) ≡ (front ++ 45 ∷ s.region) ++ variants
       inserted e =
           ap (λ (o : Option Text). data_text (made_of r.language r.script (Some
           (agreed o s)) r.variant)) given_none
@@ -193,7 +193,7 @@ module _ (i : Identifier) (few : length i.variants ≤ 1) where
           ∙ ap (λ t. t ++ variants) with_region
 
       pub inserted_kept : is_whole s ≡ false
-          → data_text (data_of r s) ≡ ((front ++ 45 ∷ s.region) ++ variants) ++ (codes "-u-sd-" ++ lower b)
+          → data_text (data_with r s) ≡ ((front ++ 45 ∷ s.region) ++ variants) ++ (codes "-u-sd-" ++ lower b)
       inserted_kept e =
           ap (λ (o : Option Text). data_text (made_of r.language r.script (Some
           (agreed o s)) r.variant)) given_none

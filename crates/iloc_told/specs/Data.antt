@@ -12,7 +12,7 @@ use Rattle.iloc_outline.specs.Parts.{front_pieces}
 use Rattle.iloc_pieces.specs.Left.{piece_left, pieces_left}
 use Rattle.iloc_pieces.specs.declared.left.Left.{Left}
 use Rattle.iloc_subtags.specs.Judging.{error_of}
-use Rattle.iloc_told.specs.Subdivisions.{IsNamed, NamesPast, bytes_at, data_behind, data_of}
+use Rattle.iloc_told.specs.Subdivisions.{IsNamed, NamesPast, bytes_at, data_behind, data_with}
 use Rattle.iloc_told.specs.Told.{HasRefusal}
 use Rattle.iloc_told.specs.declared.Mode.TheVariants as modes
 use Rattle.iloc_told.specs.declared.data.Data.{Data}
@@ -53,7 +53,7 @@ pub record HasValue (w : Text) (len : ℕ) (h : Head) (v : Value) (d : DataLocal
   pub names : IsNamed w v named
   pub behind : h.end + 6 ≤ v.at
   pub inside : v.at + v.len ≤ len
-  pub is : d ≡ data_of (small_identifier written) named
+  pub is : d ≡ data_with (small_identifier written) named
 
 -- what the first bytes are
 abbrev pub IsDataRead : Text → ℕ → Data → Type 0
@@ -73,7 +73,7 @@ abbrev pub IsBlockRead : Head → Left → Data → Type 0
 IsBlockRead h l (datas.Head j) = ⊥
 IsBlockRead h l (datas.Named j v) = (j ≡ h) × (is_one_byte (piece_left l) ≡ true)
     × ((s : Subdivision) × NamesPast l 5 v s
-    × ((r : SmallIdentifier) → data_behind r (pieces_left l) ≡ Ok (data_of r s)))
+    × ((r : SmallIdentifier) → data_behind r (pieces_left l) ≡ Ok (data_with r s)))
 IsBlockRead h l (datas.Refused e) = (is_one_byte (piece_left l) ≡ false) × (e ≡ error_of InvalidSubtag)
     ⊎ (is_one_byte (piece_left l) ≡ true) × ((f : Fault) × (e ≡ error_of f)
     × ((r : SmallIdentifier) → data_behind r (pieces_left l) ≡ Err f))
