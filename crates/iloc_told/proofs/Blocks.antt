@@ -14,7 +14,7 @@ use Rattle.iloc_spec_preferences.specs.DataComputing.{data_of_result}
 use Rattle.iloc_pieces.specs.Left.{IsNextPiece, IsRemainder, bytes_left, piece_left, pieces_left}
 use Rattle.iloc_pieces.specs.declared.left.Left.{Left}
 use Rattle.iloc_pieces.proofs.LeftLemmas.{next_at}
-use Rattle.iloc_told.specs.Data.{IsBlockRead}
+use Rattle.iloc_told.specs.Data.{IsDataBehind}
 use Rattle.iloc_told.specs.Subdivisions.{IsKeywordRead, IsNamed, data_behind}
 use Rattle.iloc_told.specs.declared.data.Data.TheVariants as datas
 use Rattle.iloc_told.specs.declared.data.Head.{Head}
@@ -93,7 +93,7 @@ module _ (h : Head) (l : Left) (left : IsRemainder l) (single : is_one_byte (pie
           → data_behind r (pieces_left l) ≡ Err InvalidExtension
       unnamed_read k r = ap (data_behind r) before ∙ k c u r
 
-      pub named_read : (v : Value) → IsKeywordRead m (keywords.Named v) → IsBlockRead h l (datas.Named h v)
+      pub named_read : (v : Value) → IsKeywordRead m (keywords.Named v) → IsDataBehind h l (datas.Named h v)
       named_read v k =
           let s = k.0 in
           let p = k.1 in

@@ -23,7 +23,7 @@ use Rattle.iloc_outline.proofs.Fronts.{begins_text}
 use Rattle.iloc_outline.proofs.Meanings.{refused}
 use Rattle.iloc_outline.proofs.TransformLemmas.{pieces_front_of}
 use Rattle.iloc_outline.proofs.TransformReading.{pieces_front}
-use Rattle.iloc_told.specs.Data.{IsBlockRead, IsDataRead, IsHead, data_alone}
+use Rattle.iloc_told.specs.Data.{IsDataBehind, IsDataRead, IsHead, data_alone}
 use Rattle.iloc_told.specs.Subdivisions.{IsNamed, data_behind, data_with}
 use Rattle.iloc_told.specs.Told.{HasRefusal}
 use Rattle.iloc_told.specs.declared.Mode.TheVariants as modes
@@ -76,7 +76,7 @@ module _ (w : Text) (len : ℕ) (language : BeginsWithLanguage (take len w)) (vs
     by_block single = meant t language vs (pieces_left k) cut variants few (single_starts
         (bytes_left k) single)
 
-    pub read_on : (d : Data) → IsBlockRead h k d → IsDataRead w len d
+    pub read_on : (d : Data) → IsDataBehind h k d → IsDataRead w len d
     read_on (datas.Head j) r = absurd r
     read_on (datas.Named j v) r =
         let s = r.2.0 in

@@ -69,11 +69,11 @@ IsRegionStart w end None at = at ≡ end
 IsRegionStart w end (Some r) at = (at + length r ≡ end) × (bytes_at w at (end - at) ≡ r)
 
 -- what comes behind a head makes it this, where no variant but those of the head comes before
-abbrev pub IsBlockRead : Head → Left → Data → Type 0
-IsBlockRead h l (datas.Head j) = ⊥
-IsBlockRead h l (datas.Named j v) = (j ≡ h) × (is_one_byte (piece_left l) ≡ true)
+abbrev pub IsDataBehind : Head → Left → Data → Type 0
+IsDataBehind h l (datas.Head j) = ⊥
+IsDataBehind h l (datas.Named j v) = (j ≡ h) × (is_one_byte (piece_left l) ≡ true)
     × ((s : Subdivision) × NamesPast l 5 v s
     × ((r : SmallIdentifier) → data_behind r (pieces_left l) ≡ Ok (data_with r s)))
-IsBlockRead h l (datas.Refused e) = (is_one_byte (piece_left l) ≡ false) × (e ≡ error_of InvalidSubtag)
+IsDataBehind h l (datas.Refused e) = (is_one_byte (piece_left l) ≡ false) × (e ≡ error_of InvalidSubtag)
     ⊎ (is_one_byte (piece_left l) ≡ true) × ((f : Fault) × (e ≡ error_of f)
     × ((r : SmallIdentifier) → data_behind r (pieces_left l) ≡ Err f))
