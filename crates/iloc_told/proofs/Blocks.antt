@@ -1,6 +1,5 @@
 -- What the pieces behind a head are.
-use Rattle.std.proofs.Common.{◌≡◌, ℕ, ◌+◌, true, false, List, [], ◌∷◌, length, slice_index, Ok, Err, Some}
-use Rattle.std.proofs.Common.{refl, sym, ap, ◌∙◌, subst, arith, true≢false}
+use Rattle.std.proofs.Common.{◌≡◌, ℕ, ◌+◌, true, false, List, [], ◌∷◌, length, slice_index, Ok, Err, Some, refl, sym, ap, ◌∙◌, subst, arith, true≢false}
 use Rattle.std.specs.Prelude.{if◌then◌else◌}
 use Rattle.std.specs.Char.{is_ascii_alphanumeric}
 use Rattle.std.proofs.lemmas.Bool.{eqb-true}
@@ -15,7 +14,7 @@ use Rattle.iloc_spec_preferences.specs.DataComputing.{data_of_result}
 use Rattle.iloc_pieces.specs.Left.{IsNextPiece, IsRemainder, bytes_left, piece_left, pieces_left}
 use Rattle.iloc_pieces.specs.declared.left.Left.{Left}
 use Rattle.iloc_pieces.proofs.LeftLemmas.{next_at}
-use Rattle.iloc_told.specs.Data.{IsDataBlockRead}
+use Rattle.iloc_told.specs.Data.{IsDataBehind}
 use Rattle.iloc_told.specs.Subdivisions.{IsKeywordRead, IsNamed, data_behind}
 use Rattle.iloc_told.specs.declared.data.Data.TheVariants as datas
 use Rattle.iloc_told.specs.declared.data.Head.{Head}
@@ -94,8 +93,7 @@ module _ (h : Head) (l : Left) (left : IsRemainder l) (single : is_one_byte (pie
           → data_behind r (pieces_left l) ≡ Err InvalidExtension
       unnamed_read k r = ap (data_behind r) before ∙ k c u r
 
-      pub named_read : (v : Value) → IsKeywordRead m (keywords.Named v) →
-          IsDataBlockRead h l (datas.Named h v)
+      pub named_read : (v : Value) → IsKeywordRead m (keywords.Named v) → IsDataBehind h l (datas.Named h v)
       named_read v k =
           let s = k.0 in
           let p = k.1 in

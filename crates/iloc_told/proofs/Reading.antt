@@ -1,11 +1,8 @@
 -- What is read from the beginning of a text on, as a data locale.
-use Rattle.std.proofs.Common.{◌≡◌, ◌⊎◌, inl, inr, ℕ, suc, ◌+◌, ◌≤◌, true, false, List, [], ◌∷◌, ◌++◌, length}
-use Rattle.std.proofs.Common.{take, Some, None, Ok, Err, refl, sym, ap, ◌∙◌, subst, arith, append_assoc}
-use Rattle.std.proofs.Common.{append-nil, length-append, option_map}
+use Rattle.std.proofs.Common.{◌≡◌, ◌⊎◌, inl, inr, ℕ, suc, ◌+◌, ◌≤◌, true, false, List, [], ◌∷◌, ◌++◌, length, take, Some, None, Ok, Err, refl, sym, ap, ◌∙◌, subst, arith, append_assoc, append-nil, length-append, option_map}
 use Rattle.std.proofs.Math.Seq.{take-append-add}
 use Rattle.std.proofs.lemmas.List.{append_cancel_left, length-take-le, take-take}
-use Rattle.iloc_spec_grammar.specs.Syntax.{Text, Variant, SpelledIdentifier, IsWord, first_piece, is_one_byte}
-use Rattle.iloc_spec_grammar.specs.Syntax.{is_word, join, languages, pieces}
+use Rattle.iloc_spec_grammar.specs.Syntax.{Text, Variant, SpelledIdentifier, IsWord, first_piece, is_one_byte, is_word, join, languages, pieces}
 use Rattle.iloc_spec_grammar.specs.Meaning.{Fault, InvalidSubtag, normal_identifier}
 use Rattle.iloc_spec_grammar.specs.Reading.{after_front, after_region, front_of, rest_of, starts_block}
 use Rattle.iloc_spec_grammar.proofs.PiecesLaws.{at_pieces}
@@ -26,8 +23,8 @@ use Rattle.iloc_outline.proofs.Fronts.{begins_text}
 use Rattle.iloc_outline.proofs.Meanings.{refused}
 use Rattle.iloc_outline.proofs.TransformLemmas.{pieces_front_of}
 use Rattle.iloc_outline.proofs.TransformReading.{pieces_front}
-use Rattle.iloc_told.specs.Data.{IsDataBlockRead, IsDataRead, IsHead, data_alone}
-use Rattle.iloc_told.specs.Subdivisions.{IsNamed, data_behind, data_named}
+use Rattle.iloc_told.specs.Data.{IsDataBehind, IsDataRead, IsHead, data_alone}
+use Rattle.iloc_told.specs.Subdivisions.{IsNamed, data_behind, data_with}
 use Rattle.iloc_told.specs.Told.{HasRefusal}
 use Rattle.iloc_told.specs.declared.Mode.TheVariants as modes
 use Rattle.iloc_told.specs.declared.data.Data.{Data}
@@ -79,7 +76,7 @@ module _ (w : Text) (len : ℕ) (language : BeginsWithLanguage (take len w)) (vs
     by_block single = meant t language vs (pieces_left k) cut variants few (single_starts
         (bytes_left k) single)
 
-    pub read_on : (d : Data) → IsDataBlockRead h k d → IsDataRead w len d
+    pub read_on : (d : Data) → IsDataBehind h k d → IsDataRead w len d
     read_on (datas.Head j) r = absurd r
     read_on (datas.Named j v) r =
         let s = r.2.0 in
@@ -87,7 +84,7 @@ module _ (w : Text) (len : ℕ) (language : BeginsWithLanguage (take len w)) (vs
         let behind = p.behind in
         let inside = p.inside in
         subst (λ (g : Head). IsDataRead w len (datas.Named g v)) (sym r.0) (
-          data_named (small_identifier i) s,
+          data_with (small_identifier i) s,
           by_block r.1 ∙ r.2.2 (small_identifier i),
           record {
             written = i;

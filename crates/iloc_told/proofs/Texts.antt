@@ -1,13 +1,10 @@
 -- The normal texts of data locales.
-use Rattle.std.proofs.Common.{◌≡◌, ◌⊎◌, inl, inr, ◌≤◌, Bool, true, false, List, [], ◌∷◌, ◌++◌, length, map}
-use Rattle.std.proofs.Common.{codes, Option, Some, None, IfSome, Result, Ok, option_map, option_and_then}
-use Rattle.std.proofs.Common.{refl, sym, ap, ◌∙◌, subst, arith, append_assoc, append-nil}
+use Rattle.std.proofs.Common.{◌≡◌, ◌⊎◌, inl, inr, ◌≤◌, Bool, true, false, List, [], ◌∷◌, ◌++◌, length, map, codes, Option, Some, None, IfSome, Result, Ok, option_map, option_and_then, refl, sym, ap, ◌∙◌, subst, arith, append_assoc, append-nil}
 use Rattle.std.specs.Prelude.{if◌then◌else◌, option_to_list}
 use Rattle.std.specs.Result.{result_ok}
 use Rattle.std.proofs.lemmas.Bool.{cases_Bool}
 use Rattle.std.proofs.lemmas.List.{length-map}
-use Rattle.iloc_spec_grammar.specs.Syntax.{Text, SpelledIdentifier, HasWords, Region, IsWord, dashes, is_same}
-use Rattle.iloc_spec_grammar.specs.Syntax.{is_true, join, languages, lower, upper}
+use Rattle.iloc_spec_grammar.specs.Syntax.{Text, SpelledIdentifier, HasWords, Region, IsWord, dashes, is_same, is_true, join, languages, lower, upper}
 use Rattle.iloc_spec_grammar.specs.Meaning.{Fault, normal_identifier}
 use Rattle.iloc_spec_grammar.specs.Reading.{first_item}
 use Rattle.iloc_spec_grammar.specs.Values.{IsNormal}
@@ -16,15 +13,13 @@ use Rattle.iloc_spec_grammar.proofs.PartTexts.{join-append}
 use Rattle.iloc_spec_grammar.proofs.WordsLaws.{is_word-normal, lower-lower, normal-normal}
 use Rattle.iloc_spec_parts.specs.SmallComputing.{small_identifier}
 use Rattle.iloc_spec_parts.specs.Small.{SmallIdentifier}
-use Rattle.iloc_spec_preferences.specs.DataLocales.{agreed, data_text, is_whole, made_of, subdivision_keyword}
-use Rattle.iloc_spec_preferences.specs.DataLocales.{subdivision_pieces, whole_region}
-use Rattle.iloc_spec_preferences.specs.Subdivisions.{IsSubdivision, Subdivision, subdivision}
-use Rattle.iloc_spec_preferences.specs.Subdivisions.{subdivision_text}
+use Rattle.iloc_spec_preferences.specs.DataLocales.{agreed, data_text, is_whole, made_of, subdivision_keyword, subdivision_pieces, whole_region}
+use Rattle.iloc_spec_preferences.specs.Subdivisions.{IsSubdivision, Subdivision, subdivision, subdivision_text}
 use Rattle.iloc_spec_preferences.proofs.DataLaws.{whole_region_is}
 use Rattle.iloc_spec_preferences.proofs.SubdivisionLaws.{read_is_subdivision, subdivision_back, text_of_read}
 use Rattle.iloc_outline.specs.Parts.{front_pieces}
 use Rattle.iloc_told.specs.Data.{data_alone}
-use Rattle.iloc_told.specs.Subdivisions.{data_named}
+use Rattle.iloc_told.specs.Subdivisions.{data_with}
 use Rattle.iloc_told.proofs.PlainAnswers.{one_item}
 
 -- a region is normal in upper case
@@ -152,7 +147,7 @@ module _ (i : SpelledIdentifier) (few : length i.variants ≤ 1) where
       ]
 
       pub dropped : (is_same (upper x) s.region ≡ false) ⊎ (is_whole s ≡ true)
-          → data_text (data_named r s) ≡ front ++ variants
+          → data_text (data_with r s) ≡ front ++ variants
       dropped e =
           ap (λ (o : Option Text). data_text (made_of r.language r.script (Some
           (agreed o s)) r.variant)) given_is
@@ -163,7 +158,7 @@ module _ (i : SpelledIdentifier) (few : length i.variants ≤ 1) where
           (sym region) word) ∙ plain
 
       pub kept : is_same (upper x) s.region ≡ true → is_whole s ≡ false
-          → data_text (data_named r s) ≡ (front ++ variants) ++ (codes "-u-sd-" ++ lower b)
+          → data_text (data_with r s) ≡ (front ++ variants) ++ (codes "-u-sd-" ++ lower b)
       kept same e =
           ap (λ (o : Option Text). data_text (made_of r.language r.script (Some
           (agreed o s)) r.variant)) given_is
@@ -189,7 +184,7 @@ module _ (i : SpelledIdentifier) (few : length i.variants ≤ 1) where
           ∙ ap (λ (o : Option Text). join (r.language ∷
           (option_to_list r.script ++ option_to_list o)) ++ 45 ∷ s.region) (sym given_none)
 
-      pub inserted : is_whole s ≡ true → data_text (data_named r s) ≡ (front ++ 45 ∷ s.region) ++ variants
+      pub inserted : is_whole s ≡ true → data_text (data_with r s) ≡ (front ++ 45 ∷ s.region) ++ variants
       inserted e =
           ap (λ (o : Option Text). data_text (made_of r.language r.script (Some
           (agreed o s)) r.variant)) given_none
@@ -198,7 +193,7 @@ module _ (i : SpelledIdentifier) (few : length i.variants ≤ 1) where
           ∙ ap (λ t. t ++ variants) with_region
 
       pub inserted_kept : is_whole s ≡ false
-          → data_text (data_named r s) ≡ ((front ++ 45 ∷ s.region) ++ variants) ++ (codes "-u-sd-" ++ lower b)
+          → data_text (data_with r s) ≡ ((front ++ 45 ∷ s.region) ++ variants) ++ (codes "-u-sd-" ++ lower b)
       inserted_kept e =
           ap (λ (o : Option Text). data_text (made_of r.language r.script (Some
           (agreed o s)) r.variant)) given_none

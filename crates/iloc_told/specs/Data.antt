@@ -1,8 +1,6 @@
 -- What a text is read as, as a data locale.
-use Rattle.std.specs.Prelude.{◌≡◌, ◌⊎◌, ℕ, ◌+◌, ◌-◌, ◌≤◌, ◌++◌, true, false, length, map, take, Option, Some}
-use Rattle.std.specs.Prelude.{None, Ok, Err, option_map}
-use Rattle.iloc_spec_grammar.specs.Syntax.{Text, SpelledIdentifier, HasWords, dashes, is_one_byte, join}
-use Rattle.iloc_spec_grammar.specs.Syntax.{languages, lower}
+use Rattle.std.specs.Prelude.{◌≡◌, ◌⊎◌, ℕ, ◌+◌, ◌-◌, ◌≤◌, ◌++◌, true, false, length, map, take, Option, Some, None, Ok, Err, option_map}
+use Rattle.iloc_spec_grammar.specs.Syntax.{Text, SpelledIdentifier, HasWords, dashes, is_one_byte, join, languages, lower}
 use Rattle.iloc_spec_grammar.specs.Meaning.{Fault, InvalidSubtag, normal_identifier}
 use Rattle.iloc_spec_parts.specs.Small.{SmallIdentifier}
 use Rattle.iloc_spec_parts.specs.SmallComputing.{small_identifier}
@@ -14,7 +12,7 @@ use Rattle.iloc_outline.specs.Parts.{front_pieces}
 use Rattle.iloc_pieces.specs.Left.{piece_left, pieces_left}
 use Rattle.iloc_pieces.specs.declared.left.Left.{Left}
 use Rattle.iloc_subtags.specs.Judging.{error_of}
-use Rattle.iloc_told.specs.Subdivisions.{IsNamed, NamesPast, bytes_at, data_behind, data_named}
+use Rattle.iloc_told.specs.Subdivisions.{IsNamed, NamesPast, bytes_at, data_behind, data_with}
 use Rattle.iloc_told.specs.Told.{HasRefusal}
 use Rattle.iloc_told.specs.declared.Mode.TheVariants as modes
 use Rattle.iloc_told.specs.declared.data.Data.{Data}
@@ -55,7 +53,7 @@ pub record HasValue (w : Text) (len : ℕ) (h : Head) (v : Value) (d : DataLocal
   pub names : IsNamed w v named
   pub behind : h.end + 6 ≤ v.at
   pub inside : v.at + v.len ≤ len
-  pub is : d ≡ data_named (small_identifier written) named
+  pub is : d ≡ data_with (small_identifier written) named
 
 -- what the first bytes are
 abbrev pub IsDataRead : Text → ℕ → Data → Type 0
@@ -71,11 +69,11 @@ IsRegionStart w end None at = at ≡ end
 IsRegionStart w end (Some r) at = (at + length r ≡ end) × (bytes_at w at (end - at) ≡ r)
 
 -- what comes behind a head makes it this, where no variant but those of the head comes before
-abbrev pub IsDataBlockRead : Head → Left → Data → Type 0
-IsDataBlockRead h l (datas.Head j) = ⊥
-IsDataBlockRead h l (datas.Named j v) = (j ≡ h) × (is_one_byte (piece_left l) ≡ true)
+abbrev pub IsDataBehind : Head → Left → Data → Type 0
+IsDataBehind h l (datas.Head j) = ⊥
+IsDataBehind h l (datas.Named j v) = (j ≡ h) × (is_one_byte (piece_left l) ≡ true)
     × ((s : Subdivision) × NamesPast l 5 v s
-    × ((r : SmallIdentifier) → data_behind r (pieces_left l) ≡ Ok (data_named r s)))
-IsDataBlockRead h l (datas.Refused e) = (is_one_byte (piece_left l) ≡ false) × (e ≡ error_of InvalidSubtag)
+    × ((r : SmallIdentifier) → data_behind r (pieces_left l) ≡ Ok (data_with r s)))
+IsDataBehind h l (datas.Refused e) = (is_one_byte (piece_left l) ≡ false) × (e ≡ error_of InvalidSubtag)
     ⊎ (is_one_byte (piece_left l) ≡ true) × ((f : Fault) × (e ≡ error_of f)
     × ((r : SmallIdentifier) → data_behind r (pieces_left l) ≡ Err f))

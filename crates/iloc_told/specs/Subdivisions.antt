@@ -1,9 +1,7 @@
 -- What follows the singleton `u` of a data locale.
-use Rattle.std.specs.Prelude.{◌≡◌, ◌⊎◌, ℕ, zero, suc, ◌+◌, ◌-◌, ◌≤◌, ◌&&◌, Bool, true, false, List, [], ◌∷◌}
-use Rattle.std.specs.Prelude.{length, nat_le, take, drop, codes, Some, None, Result, Ok, Err}
+use Rattle.std.specs.Prelude.{◌≡◌, ◌⊎◌, ℕ, zero, suc, ◌+◌, ◌-◌, ◌≤◌, ◌&&◌, Bool, true, false, List, [], ◌∷◌, length, nat_le, take, drop, codes, Some, None, Result, Ok, Err}
 use Rattle.std.specs.List.{list_all}
-use Rattle.iloc_spec_grammar.specs.Syntax.{Text, Attribute, Region, SubdivisionSuffix, is_word, IsWord}
-use Rattle.iloc_spec_grammar.specs.Syntax.{is_same, is_true, lower, upper, blocks}
+use Rattle.iloc_spec_grammar.specs.Syntax.{Text, Attribute, Region, SubdivisionSuffix, is_word, IsWord, is_same, is_true, lower, upper, blocks}
 use Rattle.iloc_spec_grammar.specs.Meaning.{Fault, InvalidSubtag, InvalidExtension, normal_values}
 use Rattle.iloc_spec_grammar.specs.Reading.{rest_of}
 use Rattle.iloc_spec_parts.specs.Small.{SmallIdentifier}
@@ -80,8 +78,8 @@ abbrev pub data_behind : SmallIdentifier → List Text → Result DataLocale Fau
 data_behind r ps = data_of_result (blocks_result r (blocks ps))
 
 -- the data locale of a head and a subdivision
-abbrev pub data_named : SmallIdentifier → Subdivision → DataLocale
-data_named r s = made_of r.language r.script (Some (agreed r.region s)) r.variant
+abbrev pub data_with : SmallIdentifier → Subdivision → DataLocale
+data_with r s = made_of r.language r.script (Some (agreed r.region s)) r.variant
 
 -- the value is this subdivision, and stands n bytes behind the beginning of the piece at least
 pub record NamesPast (l : Left) (n : ℕ) (v : Value) (s : Subdivision) : Type 0 where
@@ -99,4 +97,4 @@ abbrev pub IsKeywordRead : Left → Keyword → Type 0
 IsKeywordRead l keywords.Misfit = MeansWithU (pieces_left l) (λ r. Err InvalidSubtag)
 IsKeywordRead l keywords.Unnamed = MeansWithU (pieces_left l) (λ r. Err InvalidExtension)
 IsKeywordRead l (keywords.Named v) = (s : Subdivision) × NamesPast l 3 v s
-    × MeansWithU (pieces_left l) (λ r. Ok (data_named r s))
+    × MeansWithU (pieces_left l) (λ r. Ok (data_with r s))

@@ -2,7 +2,7 @@
 ghost use Rattle.std.specs.Prelude.{◌≡◌, ◌≤◌, ◌+◌, length, take};
 ghost use Rattle.iloc_pieces.specs.Left.{IsRemainder, piece_left};
 ghost use Rattle.iloc_outline.specs.Outlines.{BeginsWithLanguage};
-ghost use Rattle.iloc_told.specs.Data.{IsDataBlockRead, IsDataRead};
+ghost use Rattle.iloc_told.specs.Data.{IsDataBehind, IsDataRead};
 
 use crate::subdivisions::{Keyword, Value, read_keyword};
 use iloc_outline::identifier::{Front, read_front};
@@ -35,7 +35,7 @@ pub(crate) enum Data {
 #[inline(always)]
 fn read_block(head: Head, left: Left<'_>) -> Data
     requires { IsRemainder left }
-    ensures { IsDataBlockRead head left.entry result }
+    ensures { IsDataBehind head left.entry result }
 {
     if !is_single(left) {
         return Data::Refused(ParseError::InvalidSubtag);

@@ -93,8 +93,8 @@ fn put_with_region(window: &[u8], head: &Head, value: &Value, to: &mut [u8]) -> 
     requires room { head.now.end + 16 ≤ length to.old }
     requires few { value.now.region ≤ 3 }
     requires value { value.now.at + value.now.region ≤ length window.now }
-    ensures end { result
-        ≡ head.now.end + 1 + length (bytes_at window.now value.now.at value.now.region) }
+    ensures end { result ≡ head.now.end + 1
+        + length (bytes_at window.now value.now.at value.now.region) }
     ensures put { take result to.new
         ≡ front_text head.now.front.script head.now.front.region (take head.now.front.end window.now)
         ++ 45 ∷ upper (bytes_at window.now value.now.at value.now.region)

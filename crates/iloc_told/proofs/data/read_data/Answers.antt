@@ -5,10 +5,9 @@ use Rattle.iloc_pieces.proofs.LeftLemmas.{last_piece, length_piece, next_at, sho
 use Rattle.iloc_outline.specs.Identifier.{IsAfterFront, IsFrontRead}
 use Rattle.iloc_outline.specs.Reading.{unless_end}
 use Rattle.iloc_outline.specs.declared.identifier.Front.{Front}
-use Rattle.iloc_told.specs.Data.{IsDataBlockRead}
+use Rattle.iloc_told.specs.Data.{IsDataBehind}
 use Rattle.iloc_told.specs.declared.data.Head.{Head}
-use Rattle.iloc_told.proofs.Reading.{all_front, at_front, end_there, front_head, left_there, pieces_there}
-use Rattle.iloc_told.proofs.Reading.{read_alone, read_on, varied_head, window_there, within_there}
+use Rattle.iloc_told.proofs.Reading.{all_front, at_front, end_there, front_head, left_there, pieces_there, read_alone, read_on, varied_head, window_there, within_there}
 use Rattle.iloc_told.proofs.data.read_data.Goals as goal
 use Rattle.iloc_told.proofs.data.read_data.Goals.{then-is_variant+else-is_last, else-is_variant}
 
@@ -126,8 +125,8 @@ returns c =
           (varied_head w len c.requires.inside c.requires.begins l e.left e.rest e.at e.len e.window m f
           read after word (pieces_left k) cut)
           k cut (n.window ∙ window) (omega (arith, next, size)) (omega (arith, stop, end)) (inr refl)
-          c.read_block.result (subst (λ (g : Head). IsDataBlockRead g k c.read_block.result) x.head-is
-          (subst (λ (q : Left). IsDataBlockRead c.if-is_variant.head q c.read_block.result) x.left-is
+          c.read_block.result (subst (λ (g : Head). IsDataBehind g k c.read_block.result) x.head-is
+          (subst (λ (q : Left). IsDataBehind c.if-is_variant.head q c.read_block.result) x.left-is
           c.read_block.ensures))
       | else-is_variant x ↦
           let other = sym c.is_variant.ensures ∙ x.if-is_variant.false in
@@ -135,7 +134,7 @@ returns c =
           (front_head w len c.requires.inside c.requires.begins l e.left e.rest e.at e.len e.window m f
           read (pieces_left m) there)
           m there window at end (inl (refl, other))
-          c.read_block.result (subst (λ (g : Head). IsDataBlockRead g m c.read_block.result) x.head-is
-          (subst (λ (k : Left). IsDataBlockRead c.if-is_variant.head k c.read_block.result) x.left-is
+          c.read_block.result (subst (λ (g : Head). IsDataBehind g m c.read_block.result) x.head-is
+          (subst (λ (k : Left). IsDataBehind c.if-is_variant.head k c.read_block.result) x.left-is
           c.read_block.ensures))
     ]
