@@ -43,22 +43,27 @@ ascii_singleton c h = (ascii_byte c (letter c h), tt)
 ascii_join : (p : List ℕ) (ps : List (List ℕ)) → AllByRecursion AreAscii (p ∷ ps) → AreAscii (join (p ∷ ps))
 unfolding join
 ascii_join p [] h = h.0
-ascii_join p (q ∷ ps) h = all_append (λ b. b < 128) p (45 ∷ join (q ∷ ps)) h.0 (omega arith, ascii_join q ps h.1)
+ascii_join p (q ∷ ps) h =
+    all_append (λ b. b < 128) p (45 ∷ join (q ∷ ps)) h.0 (omega arith, ascii_join q ps h.1)
 
 utf8_join : (p : List ℕ) (ps : List (List ℕ)) → AllByRecursion AreAscii (p ∷ ps) → IsUtf8 (join (p ∷ ps))
-utf8_join p ps h = IsUtf8-from_ascii _ (IsAscii-from_all _ (All-from_recursion (λ b. b < 128) _ (ascii_join p ps h)))
+utf8_join p ps h =
+    IsUtf8-from_ascii _ (IsAscii-from_all _ (All-from_recursion (λ b. b < 128) _ (ascii_join p ps h)))
 
 pub identifier_utf8 : (i : Identifier) → IsIdentifierValue languages i → IsUtf8 (identifier_text i)
 unfolding identifier_text
-identifier_utf8 i h = utf8_join i.language _ (identifier_each AreAscii ascii_word ascii_singleton (spelled_identifier i) (value_words h))
+identifier_utf8 i h = utf8_join i.language _
+    (identifier_each AreAscii ascii_word ascii_singleton (spelled_identifier i) (value_words h))
 
 locale_utf8 : (t : List ℕ) (M : grammar.Locale) → Means languages t M → IsUtf8 (text M)
 locale_utf8 t M m =
     subst IsUtf8 (sym (text_is M))
-    (utf8_join M.id.language _ (printed_each M (means_a_value t M m) (means_tests t M m) AreAscii ascii_word ascii_singleton))
+    (utf8_join M.id.language _
+    (printed_each M (means_a_value t M m) (means_tests t M m) AreAscii ascii_word ascii_singleton))
 
 -- the normal text of an identifier or of a locale is UTF-8
 pub normal_utf8 : (mode : Mode) → mode ≢ Data → (t u : List ℕ) → IsNormalText languages mode t u → IsUtf8 u
-normal_utf8 Langid other t u (i, m, e) = subst IsUtf8 (sym e) (identifier_utf8 i (identifier_means_value (pieces t) i m))
+normal_utf8 Langid other t u (i, m, e) =
+    subst IsUtf8 (sym e) (identifier_utf8 i (identifier_means_value (pieces t) i m))
 normal_utf8 Locale other t u (M, m, e) = subst IsUtf8 (sym e) (locale_utf8 t M m)
 normal_utf8 Data other t u h = absurd (other refl)

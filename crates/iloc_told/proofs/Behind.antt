@@ -1,23 +1,29 @@
 -- What a head means as a data locale, and behind it a block of `u`.
-use Rattle.std.proofs.Common.{◌≡◌, ◌⊎◌, inl, inr, ℕ, ◌==◌, Bool, true, false, cond, ◌&&◌, nat_le, List, [], ◌∷◌, ◌++◌, length, flat_map, codes, Option, None, Some, option_map, Result, Ok, Err, refl, sym, ap, ◌∙◌, append-nil, arith}
+use Rattle.std.proofs.Common.{◌≡◌, ◌⊎◌, inl, inr, ℕ, ◌==◌, Bool, true, false, cond, ◌&&◌, nat_le, List, []}
+use Rattle.std.proofs.Common.{◌∷◌, ◌++◌, length, flat_map, codes, Option, None, Some, option_map, Result, Ok}
+use Rattle.std.proofs.Common.{Err, refl, sym, ap, ◌∙◌, append-nil, arith}
 use Rattle.std.specs.Prelude.{if◌then◌else◌, option_and_then, ok_or}
 use Rattle.std.specs.Char.{is_ascii_alphanumeric, to_ascii_lowercase}
 use Rattle.std.specs.List.{list_all}
 use Rattle.std.proofs.lemmas.Bool.{and_parts}
 use Rattle.std.proofs.lemmas.Bool.Decides.{nat_tests}
-use Rattle.iloc_spec_grammar.specs.Syntax.{Text, Attribute, UnicodeKey, IsWord, is_same, is_word, lower, front, blocks, first_piece}
+use Rattle.iloc_spec_grammar.specs.Syntax.{Text, Attribute, UnicodeKey, IsWord, is_same, is_word, lower}
+use Rattle.iloc_spec_grammar.specs.Syntax.{front, blocks, first_piece}
 use Rattle.iloc_spec_grammar.specs.Tree.{block_pieces}
 use Rattle.iloc_spec_grammar.specs.Meaning.{Fault, InvalidExtension, InvalidSubtag, normal_values}
 use Rattle.iloc_spec_grammar.specs.Reading.{first_item, rest_of}
 use Rattle.iloc_spec_grammar.proofs.FaultLaws.{all_blocks}
 use Rattle.iloc_spec_grammar.proofs.Readings.{long_attribute}
 use Rattle.iloc_spec_parts.specs.Small.{SmallIdentifier, SmallLocale}
-use Rattle.iloc_spec_parts.specs.SmallComputing.{block_fault, blocks_result, has_small_keyword, is_small_block, is_u, keyword_read}
+use Rattle.iloc_spec_parts.specs.SmallComputing.{block_fault, blocks_result, has_small_keyword}
+use Rattle.iloc_spec_parts.specs.SmallComputing.{is_small_block, is_u, keyword_read}
 use Rattle.iloc_spec_preferences.specs.DataComputing.{data_of_result}
 use Rattle.iloc_spec_preferences.specs.DataLocales.{DataLocale, agreed, made_of, named_subdivision}
 use Rattle.iloc_spec_preferences.specs.Subdivisions.{Subdivision}
 use Rattle.iloc_told.specs.Subdivisions.{MeansWithU, data_behind, data_with, has_small_value}
-use Rattle.iloc_told.proofs.KeywordAnswers.{and-false, attribute_no_key, fault_is, front_first, key_long, key_no_attribute, letter_u, no_key, no_word, skip_long, front_long, values_whole}
+use Rattle.iloc_told.proofs.KeywordAnswers.{and-false, attribute_no_key, fault_is, front_first, key_long}
+use Rattle.iloc_told.proofs.KeywordAnswers.{key_no_attribute, letter_u, no_key, no_word, skip_long}
+use Rattle.iloc_told.proofs.KeywordAnswers.{front_long, values_whole}
 
 -- ---- the first piece
 

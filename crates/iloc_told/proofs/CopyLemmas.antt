@@ -1,5 +1,6 @@
 -- Parts that are copied one after the other.
-use Rattle.std.proofs.Common.{◌≡◌, ℕ, zero, suc, ◌+◌, ◌-◌, ◌≤◌, List, [], ◌∷◌, ◌++◌, length, take, drop, refl, sym, ap, ◌∙◌, arith, length-drop, length-take-le}
+use Rattle.std.proofs.Common.{◌≡◌, ℕ, zero, suc, ◌+◌, ◌-◌, ◌≤◌, List, [], ◌∷◌, ◌++◌, length, take, drop, refl}
+use Rattle.std.proofs.Common.{sym, ap, ◌∙◌, arith, length-drop, length-take-le}
 use Rattle.std.proofs.lemmas.List.{take-take, take-map, map-append}
 use Rattle.std.proofs.lemmas.Slice.{take-put_mid}
 use borrow.Rule.Slice.PartMut.{put_mid, same_len_mid}
@@ -15,12 +16,15 @@ take_nothing (suc n) = refl
 pub take_two : (a b : ℕ) (t : List ℕ) → take (a + b) t ≡ take a t ++ take b (drop a t)
 take_two zero b t = let same : 0 + b ≡ b = omega arith in ap (λ (m : ℕ). take m t) same
 take_two (suc a) b [] = take_nothing (suc a + b) ∙ sym (take_nothing b)
-take_two (suc a) b (x ∷ t) = let one : suc a + b ≡ suc (a + b) = omega arith in ap (λ (m : ℕ). take m (x ∷ t)) one ∙ ap (λ l. x ∷ l) (take_two a b t)
+take_two (suc a) b (x ∷ t) = let one : suc a + b ≡ suc (a + b) = omega arith in
+    ap (λ (m : ℕ). take m (x ∷ t)) one ∙ ap (λ l. x ∷ l) (take_two a b t)
 
 -- bytes in lower case, and more of them
-pub lower_two : (a b : ℕ) (t : List ℕ) → lower (take a t) ++ lower (take b (drop a t)) ≡ lower (take (a + b) t)
+pub lower_two : (a b : ℕ) (t : List ℕ) →
+    lower (take a t) ++ lower (take b (drop a t)) ≡ lower (take (a + b) t)
 unfolding lower
-lower_two a b t = sym (map-append to_ascii_lowercase (take a t) (take b (drop a t))) ∙ ap lower (sym (take_two a b t))
+lower_two a b t =
+    sym (map-append to_ascii_lowercase (take a t) (take b (drop a t))) ∙ ap lower (sym (take_two a b t))
 
 -- the first of the first bytes
 pub lower_front : (n m : ℕ) (t : List ℕ) → n ≤ m → take n (lower (take m t)) ≡ lower (take n t)
@@ -33,11 +37,14 @@ pub lower_part : (n a : ℕ) (t : List ℕ) → n ≤ 16 → a + 16 ≤ length t
 unfolding lower
 lower_part n a t few room =
     take-map to_ascii_lowercase n (take 16 (take (length t - a) (drop a t)))
-    ∙ ap lower (take-take n 16 (take (length t - a) (drop a t)) few ∙ take-take n (length t - a) (drop a t) (omega (arith, few, room)))
+    ∙ ap lower (take-take n 16 (take (length t - a) (drop a t)) few
+    ∙ take-take n (length t - a) (drop a t) (omega (arith, few, room)))
 
 -- one part more, of k bytes up to the n-th
-module _ (at k n count : ℕ) (from to part : List ℕ) (few : k ≤ 16) (sum : n ≡ at + k) (fits : n ≤ count) (bytes : count + 16 ≤ length from)
-    (room : length to ≡ count) (is : part ≡ take k (lower (take 16 (take (length from - at) (drop at from))))) where
+module _ (at k n count : ℕ) (from to part : List ℕ) (few : k ≤ 16) (sum : n ≡ at + k) (fits : n ≤ count)
+    (bytes : count + 16 ≤ length from)
+    (room : length to ≡ count)
+    (is : part ≡ take k (lower (take 16 (take (length from - at) (drop at from))))) where
   is_lower : part ≡ lower (take k (drop at from))
   is_lower = is ∙ lower_part k at from few (omega (arith, sum, fits, bytes))
 
@@ -48,7 +55,9 @@ module _ (at k n count : ℕ) (from to part : List ℕ) (few : k ≤ 16) (sum : 
 
   pub same_room : length (put_mid at k to part) ≡ count
   same_room =
-      same_len_mid at k to part (long ∙ sym (length-take-le k (drop at to) (omega (arith, length-drop at to, sum, room, fits)))) ∙ room
+      same_len_mid at k to part
+      (long ∙ sym (length-take-le k (drop at to) (omega (arith, length-drop at to, sum, room, fits))))
+      ∙ room
 
   pub copied_more : take at to ≡ lower (take at from) → take n (put_mid at k to part) ≡ lower (take n from)
   copied_more before =
@@ -56,7 +65,8 @@ module _ (at k n count : ℕ) (from to part : List ℕ) (few : k ≤ 16) (sum : 
       ∙ (λ j. before j ++ is_lower j) ∙ lower_two at k from ∙ ap (λ (m : ℕ). lower (take m from)) (sym sum)
 
 -- sixteen bytes are all of the sixteen
-pub sixteen : (k : ℕ) (t part : List ℕ) → k ≡ 16 → part ≡ lower (take 16 t) → part ≡ take k (lower (take 16 t))
+pub sixteen : (k : ℕ) (t part : List ℕ) → k ≡ 16 → part ≡ lower (take 16 t) →
+    part ≡ take k (lower (take 16 t))
 unfolding lower
 sixteen k t part e is =
     is ∙ ap lower (sym (take-take 16 16 t (omega arith))) ∙ sym (take-map to_ascii_lowercase 16 (take 16 t))

@@ -1,21 +1,25 @@
 -- Texts that are cut at a hyphen.
-use Rattle.std.proofs.Common.{◌≡◌, ℕ, zero, suc, ◌+◌, ◌-◌, ◌<◌, ◌≤◌, ◌==◌, true, false, cond, List, [], ◌∷◌, ◌++◌, length, get_or, take, drop, refl, ap, ◌∙◌, arith}
+use Rattle.std.proofs.Common.{◌≡◌, ℕ, zero, suc, ◌+◌, ◌-◌, ◌<◌, ◌≤◌, ◌==◌, true, false, cond, List, [], ◌∷◌}
+use Rattle.std.proofs.Common.{◌++◌, length, get_or, take, drop, refl, ap, ◌∙◌, arith}
 use Rattle.std.specs.List.{onto_first}
 use Rattle.iloc_spec_grammar.specs.Syntax.{pieces}
 use Rattle.iloc_spec_grammar.proofs.PiecesLaws.{at_pieces}
 use Rattle.iloc_told.proofs.CopyLemmas.{take_two}
 
-onto_append : (c : ℕ) (t : List ℕ) (qs : List (List ℕ)) → onto_first c (pieces t ++ qs) ≡ onto_first c (pieces t) ++ qs
+onto_append : (c : ℕ) (t : List ℕ) (qs : List (List ℕ)) →
+    onto_first c (pieces t ++ qs) ≡ onto_first c (pieces t) ++ qs
 onto_append c t qs = at_pieces (λ ps. onto_first c (ps ++ qs) ≡ onto_first c ps ++ qs) (λ p ps. refl) t
 
 -- its pieces are those on both sides
 pub pieces_both : (s t : List ℕ) → pieces (s ++ 45 ∷ t) ≡ pieces s ++ pieces t
 unfolding pieces
 pieces_both [] t = refl
-pieces_both (c ∷ s) t = elim (c == 45) as (λ b. cond b ([] ∷ pieces (s ++ 45 ∷ t)) (onto_first c (pieces (s ++ 45 ∷ t))) ≡ cond b ([] ∷ pieces s) (onto_first c (pieces s)) ++ pieces t) [
-  | true ↦ ap (λ l. [] ∷ l) (pieces_both s t)
-  | false ↦ ap (onto_first c) (pieces_both s t) ∙ onto_append c s (pieces t)
-]
+pieces_both (c ∷ s) t =
+    elim (c == 45) as (λ b. cond b ([] ∷ pieces (s ++ 45 ∷ t)) (onto_first c (pieces (s ++ 45 ∷ t)))
+    ≡ cond b ([] ∷ pieces s) (onto_first c (pieces s)) ++ pieces t) [
+      | true ↦ ap (λ l. [] ∷ l) (pieces_both s t)
+      | false ↦ ap (onto_first c) (pieces_both s t) ∙ onto_append c s (pieces t)
+    ]
 
 drop_one : (a : ℕ) (w : List ℕ) → a < length w → drop a w ≡ get_or w a 0 ∷ drop (suc a) w
 drop_one zero [] l = absurd (omega arith)
@@ -24,7 +28,8 @@ drop_one (suc a) [] l = absurd (omega arith)
 drop_one (suc a) (x ∷ w) l = drop_one a w (omega arith)
 
 -- the first bytes, with a hyphen after so many
-module _ (w : List ℕ) (len at : ℕ) (room : len ≤ length w) (less : at < len) (hyphen : get_or w at 0 ≡ 45) where
+module _ (w : List ℕ) (len at : ℕ) (room : len ≤ length w) (less : at < len)
+    (hyphen : get_or w at 0 ≡ 45) where
   abbrev pub after : List ℕ
   after = take (len - at - 1) (drop (suc at) w)
 

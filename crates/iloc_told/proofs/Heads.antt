@@ -1,19 +1,25 @@
 -- What the head of a text makes of it as a data locale.
-use Rattle.std.proofs.Common.{◌≡◌, ◌⊎◌, inl, inr, ℕ, suc, ◌+◌, ◌-◌, ◌<◌, ◌≤◌, Bool, true, false, cond, ◌&&◌, nat_le, List, [], ◌∷◌, ◌++◌, length, take, drop, Ok, Err, refl, sym, ap, ◌∙◌, arith, append-nil, length-append, true≢false}
+use Rattle.std.proofs.Common.{◌≡◌, ◌⊎◌, inl, inr, ℕ, suc, ◌+◌, ◌-◌, ◌<◌, ◌≤◌, Bool, true, false, cond, ◌&&◌}
+use Rattle.std.proofs.Common.{nat_le, List, [], ◌∷◌, ◌++◌, length, take, drop, Ok, Err, refl, sym, ap, ◌∙◌}
+use Rattle.std.proofs.Common.{arith, append-nil, length-append, true≢false}
 use Rattle.std.specs.List.{AllByRecursion, list_all}
 use Rattle.std.proofs.Math.Seq.{drop-append_seam}
 use Rattle.std.proofs.lemmas.Bool.{and_right, cases_Bool, lt-leb}
 use Rattle.std.proofs.lemmas.List.{drop-take, length-take-le}
-use Rattle.iloc_spec_grammar.specs.Syntax.{Text, Language, Variant, SpelledIdentifier, HasWords, IsWord, blocks, dashes, first_piece, front, head, is_one_byte, is_word, join, languages, lower, pieces, tail_blocks}
+use Rattle.iloc_spec_grammar.specs.Syntax.{Text, Language, Variant, SpelledIdentifier, HasWords, IsWord}
+use Rattle.iloc_spec_grammar.specs.Syntax.{blocks, dashes, first_piece, front, head, is_one_byte, is_word}
+use Rattle.iloc_spec_grammar.specs.Syntax.{join, languages, lower, pieces, tail_blocks}
 use Rattle.iloc_spec_grammar.specs.Meaning.{InvalidSubtag, normal_identifier}
-use Rattle.iloc_spec_grammar.specs.Reading.{after_front, after_region, front_of, identifier_of, past, starts_block}
+use Rattle.iloc_spec_grammar.specs.Reading.{after_front, after_region, front_of, identifier_of, past}
+use Rattle.iloc_spec_grammar.specs.Reading.{starts_block}
 use Rattle.iloc_spec_grammar.proofs.PiecesLaws.{at_pieces}
 use Rattle.iloc_spec_grammar.proofs.RawLaws.{languages_table}
 use Rattle.iloc_spec_grammar.proofs.WordsLaws.{length-language}
 use Rattle.std.proofs.lemmas.Bool.{ne_eqb}
 use Rattle.iloc_spec_grammar.proofs.Readings.{IsLong, long_variant}
 use Rattle.iloc_spec_grammar.proofs.ValuesLaws.{all_weaker}
-use Rattle.iloc_spec_parts.specs.SmallComputing.{after_identifier, blocks_result, has_small_variants, small_identifier, small_identifier_result, small_result}
+use Rattle.iloc_spec_parts.specs.SmallComputing.{after_identifier, blocks_result, has_small_variants}
+use Rattle.iloc_spec_parts.specs.SmallComputing.{small_identifier, small_identifier_result, small_result}
 use Rattle.iloc_spec_preferences.specs.DataComputing.{data_of_result, data_result}
 use Rattle.iloc_outline.specs.Identifier.{front_text}
 use Rattle.iloc_outline.specs.Parts.{front_pieces}
@@ -178,7 +184,8 @@ module _ (t : Text) (begins : BeginsWell t) (vs rest : List Text) (cut : after_r
 
 -- ---- how it is printed
 
-pub head_printed : (w : Text) (h : Head) (i : SpelledIdentifier) → HasWords languages i → length i.variants ≤ 1
+pub head_printed : (w : Text) (h : Head) (i : SpelledIdentifier) → HasWords languages i →
+    length i.variants ≤ 1
     → h.front.end ≤ h.end → h.end ≤ length w → take h.front.end w ≡ join (front_pieces i)
     → front_text h.front.script h.front.region (take h.front.end w) ≡ join (front_pieces
     (normal_identifier i))

@@ -1,29 +1,40 @@
 -- Data locales that are refused for the keyword in their first block.
-use Rattle.std.proofs.Common.{◌≡◌, ◌≢◌, ◌⊎◌, inl, inr, ℕ, ◌+◌, ◌<◌, ◌≤◌, ◌==◌, Bool, true, false, cond, ◌&&◌, nat_le, List, [], ◌∷◌, ◌++◌, length, flat_map, get_or, codes, Option, None, Some, option_map, Ok, Err, refl, sym, ap, ◌∙◌, arith, append-nil, length-append}
+use Rattle.std.proofs.Common.{◌≡◌, ◌≢◌, ◌⊎◌, inl, inr, ℕ, ◌+◌, ◌<◌, ◌≤◌, ◌==◌, Bool, true, false, cond, ◌&&◌}
+use Rattle.std.proofs.Common.{nat_le, List, [], ◌∷◌, ◌++◌, length, flat_map, get_or, codes, Option, None}
+use Rattle.std.proofs.Common.{Some, option_map, Ok, Err, refl, sym, ap, ◌∙◌, arith, append-nil, length-append}
 use Rattle.std.specs.Prelude.{if◌then◌else◌, option_and_then, ok_or}
 use Rattle.std.specs.Char.{is_ascii_alphanumeric, to_ascii_lowercase}
 use Rattle.std.specs.List.{AllByRecursion, list_all}
 use Rattle.std.proofs.lemmas.Bool.{cases_Bool, true≢false, false_from_ne_true}
 use Rattle.std.proofs.lemmas.Bool.Decides.{nat_tests}
-use Rattle.iloc_spec_grammar.specs.Syntax.{pieces, Kind, Language, Script, Region, Variant, SpelledIdentifier, identifier_pieces, HasWords, UnicodeKey, Attribute, is_word, IsWord, is_same, languages, lower, is_one_byte, front, blocks, head, tail_blocks, first_piece}
+use Rattle.iloc_spec_grammar.specs.Syntax.{pieces, Kind, Language, Script, Region, Variant, SpelledIdentifier}
+use Rattle.iloc_spec_grammar.specs.Syntax.{identifier_pieces, HasWords, UnicodeKey, Attribute, is_word}
+use Rattle.iloc_spec_grammar.specs.Syntax.{IsWord, is_same, languages, lower, is_one_byte, front, blocks}
+use Rattle.iloc_spec_grammar.specs.Syntax.{head, tail_blocks, first_piece}
 use Rattle.iloc_spec_grammar.specs.Tree.{block_pieces}
 use Rattle.iloc_spec_grammar.specs.Meaning.{normal_values, Fault}
-use Rattle.iloc_spec_grammar.specs.Reading.{first_item, passing, past, skip_first, rest_of, identifier_of, after_region, after_front}
+use Rattle.iloc_spec_grammar.specs.Reading.{first_item, passing, past, skip_first, rest_of, identifier_of}
+use Rattle.iloc_spec_grammar.specs.Reading.{after_region, after_front}
 use Rattle.iloc_spec_grammar.specs.Meaning as faults
 use Rattle.iloc_spec_grammar.proofs.WordsLaws.{length-unicode_key}
 use Rattle.iloc_spec_grammar.proofs.ReadingLaws.{all_while, keep_while_passes}
 use Rattle.iloc_spec_grammar.proofs.ValuesLaws.{all_weaker}
 use Rattle.iloc_spec_grammar.proofs.MapLaws.{same_is}
 use Rattle.iloc_spec_grammar.proofs.PiecesLaws.{at_pieces}
-use Rattle.iloc_spec_grammar.proofs.Readings.{IsLong, long_script, long_region, long_variant, long_attribute, not_two, two}
+use Rattle.iloc_spec_grammar.proofs.Readings.{IsLong, long_script, long_region, long_variant, long_attribute}
+use Rattle.iloc_spec_grammar.proofs.Readings.{not_two, two}
 use Rattle.iloc_spec_grammar.proofs.FaultLaws.{all_blocks}
 use Rattle.iloc_spec_parts.specs.Small.{SmallIdentifier, IsSmallIdentifier, SmallLocale}
 use Rattle.iloc_spec_parts.specs.Small as small
 use Rattle.iloc_spec_grammar.proofs.IdentifierLaws.{identifier_of-pieces}
-use Rattle.iloc_spec_parts.specs.SmallComputing.{small_identifier, small_identifier_result, has_small_variants, is_u, is_small_block, has_small_keyword, keyword_read, block_fault, blocks_result, after_identifier, small_result}
+use Rattle.iloc_spec_parts.specs.SmallComputing.{small_identifier, small_identifier_result}
+use Rattle.iloc_spec_parts.specs.SmallComputing.{has_small_variants, is_u, is_small_block, has_small_keyword}
+use Rattle.iloc_spec_parts.specs.SmallComputing.{keyword_read, block_fault, blocks_result, after_identifier}
+use Rattle.iloc_spec_parts.specs.SmallComputing.{small_result}
 use Rattle.iloc_spec_parts.proofs.SmallShapes.{one_variant}
 use Rattle.iloc_spec_preferences.proofs.Keys.{sd}
-use Rattle.iloc_spec_preferences.specs.DataLocales.{not_small, agreed, made_of, named_subdivision, small_part, data_of_small}
+use Rattle.iloc_spec_preferences.specs.DataLocales.{not_small, agreed, made_of, named_subdivision, small_part}
+use Rattle.iloc_spec_preferences.specs.DataLocales.{data_of_small}
 use Rattle.iloc_spec_preferences.specs.Subdivisions.{Subdivision}
 use Rattle.iloc_spec_preferences.specs.DataComputing.{data_result, data_of_result}
 use Rattle.iloc_subtags.specs.declared.parse_error.ParseError.TheVariants.{InvalidSubtag, InvalidExtension}
@@ -38,7 +49,8 @@ use Rattle.iloc_told.proofs.FrontAnswers.{head_language, BeginsWell, blocks_left
 
 -- ---- the block of `u`
 
-module _ (t : List ℕ) (b : Block) (l : BeginsWell t) (g : GoesOn (after_region (pieces t)) b) (u : is_u (get_or b.window.now 0 0) ≡ true) where
+module _ (t : List ℕ) (b : Block) (l : BeginsWell t) (g : GoesOn (after_region (pieces t)) b)
+    (u : is_u (get_or b.window.now 0 0) ≡ true) where
   abbrev c : ℕ
   c = get_or b.window.now 0 0
 
@@ -50,7 +62,8 @@ module _ (t : List ℕ) (b : Block) (l : BeginsWell t) (g : GoesOn (after_region
   first = (c, front ps)
 
   pieces_of_block : pieces (rest_of_block b) ≡ (c ∷ []) ∷ ps
-  pieces_of_block = at_pieces (λ qs. first_piece qs ≡ c ∷ [] → qs ≡ (c ∷ []) ∷ rest_of qs) (λ q qs e. ap (λ r. r ∷ qs) e) (rest_of_block b) g.singleton
+  pieces_of_block = at_pieces (λ qs. first_piece qs ≡ c ∷ [] → qs ≡ (c ∷ []) ∷ rest_of qs)
+      (λ q qs e. ap (λ r. r ∷ qs) e) (rest_of_block b) g.singleton
 
   no_x : (to_ascii_lowercase c == 120) ≡ false
   no_x = let same : to_ascii_lowercase c ≡ 117 = grind (arith, nat_tests, u) in grind (arith, nat_tests)
@@ -60,13 +73,15 @@ module _ (t : List ℕ) (b : Block) (l : BeginsWell t) (g : GoesOn (after_region
   after_is = g.rest
 
   found : tail_blocks (pieces t) ≡ first ∷ blocks ps
-  found = blocks_left t l ∙ ap blocks (after_is ∙ pieces_of_block) ∙ ap (λ (x : Bool). cond x ((c, ps) ∷ []) (first ∷ blocks ps)) no_x
+  found = blocks_left t l ∙ ap blocks (after_is ∙ pieces_of_block)
+      ∙ ap (λ (x : Bool). cond x ((c, ps) ∷ []) (first ∷ blocks ps)) no_x
 
 -- ---- the variants before the block
 
 pub front_past : (xs qs : List (List ℕ)) → AllByRecursion IsLong xs → front (xs ++ qs) ≡ xs ++ front qs
 front_past [] qs h = refl
-front_past (x ∷ xs) qs h = ap (λ (b : Bool). cond b [] (x ∷ front (xs ++ qs))) h.0 ∙ ap (λ l. x ∷ l) (front_past xs qs h.1)
+front_past (x ∷ xs) qs h =
+    ap (λ (b : Bool). cond b [] (x ∷ front (xs ++ qs))) h.0 ∙ ap (λ l. x ∷ l) (front_past xs qs h.1)
 
 module _ (t : List ℕ) (b : Block) (g : GoesOn (after_region (pieces t)) b) where
   abbrev after : List (List ℕ)
@@ -79,7 +94,9 @@ module _ (t : List ℕ) (b : Block) (g : GoesOn (after_region (pieces t)) b) whe
   variants_pass = keep_while_passes (is_word Variant) after
 
   block_pieces_are : pieces (rest_of_block b) ≡ (get_or b.window.now 0 0 ∷ []) ∷ after_singleton b
-  block_pieces_are = at_pieces (λ qs. first_piece qs ≡ get_or b.window.now 0 0 ∷ [] → qs ≡ (get_or b.window.now 0 0 ∷ []) ∷ rest_of qs) (λ q qs e. ap (λ r. r ∷ qs) e) (rest_of_block b) g.singleton
+  block_pieces_are = at_pieces
+      (λ qs. first_piece qs ≡ get_or b.window.now 0 0 ∷ [] → qs ≡ (get_or b.window.now 0 0 ∷ []) ∷ rest_of qs)
+      (λ q qs e. ap (λ r. r ∷ qs) e) (rest_of_block b) g.singleton
 
   parts_are : before ++ pieces (rest_of_block b) ≡ after
   parts_are = ap (λ l. before ++ l) (sym g.rest) ∙ all_while (is_word Variant) after
@@ -87,24 +104,28 @@ module _ (t : List ℕ) (b : Block) (g : GoesOn (after_region (pieces t)) b) whe
   before_is : front after ≡ before
   before_is =
       ap front (sym parts_are ∙ ap (λ l. before ++ l) block_pieces_are)
-      ∙ front_past before ((get_or b.window.now 0 0 ∷ []) ∷ after_singleton b) (all_weaker (λ p. is_word Variant p ≡ true) IsLong long_variant before variants_pass)
+      ∙ front_past before ((get_or b.window.now 0 0 ∷ []) ∷ after_singleton b)
+      (all_weaker (λ p. is_word Variant p ≡ true) IsLong long_variant before variants_pass)
       ∙ append-nil before
 
   total : length before + length (pieces (rest_of_block b)) ≡ length after
   total = sym (length-append before (pieces (rest_of_block b))) ∙ ap length parts_are
 
-  all_true : (vs : List (List ℕ)) → AllByRecursion (λ p. is_word Variant p ≡ true) vs → list_all (is_word Variant) vs ≡ true
+  all_true : (vs : List (List ℕ)) → AllByRecursion (λ p. is_word Variant p ≡ true) vs →
+      list_all (is_word Variant) vs ≡ true
   all_true [] h = refl
   all_true (v ∷ vs) h = rw h.0 (all_true vs h.1)
 
   pub few_before : b.tail ≤ b.len + 9 → has_small_variants (front after) ≡ true
   few_before few =
-      let le : nat_le (length before) 1 ≡ true = (let short : length before ≤ 1 = omega (arith, g.few few, total) in grind (arith, nat_tests)) in
+      let le : nat_le (length before) 1 ≡ true =
+      (let short : length before ≤ 1 = omega (arith, g.few few, total) in grind (arith, nat_tests)) in
       ap has_small_variants before_is ∙ (λ j. all_true before variants_pass j && le j)
 
   pub many_before : b.len + 9 < b.tail → has_small_variants (front after) ≡ false
   many_before many =
-      let more : nat_le (length before) 1 ≡ false = (let long : 2 ≤ length before = omega (arith, g.many many, total) in grind (arith, nat_tests)) in
+      let more : nat_le (length before) 1 ≡ false =
+      (let long : 2 ≤ length before = omega (arith, g.many many, total) in grind (arith, nat_tests)) in
       ap has_small_variants before_is ∙ (λ j. all_true before variants_pass j && more j)
 
 pub and-false : (b : Bool) → (b && false) ≡ false
@@ -119,19 +140,23 @@ and_both false b e = absurd (true≢false (sym e))
 
 pub no_key : (qs : List (List ℕ)) → is_word UnicodeKey (first_piece qs) ≡ false → has_small_keyword qs ≡ false
 no_key [] e = refl
-no_key (p ∷ qs) e = ap (λ (x : Bool). x && (list_all (is_word Attribute) qs && nat_le (length (normal_values qs)) 1)) e
+no_key (p ∷ qs) e =
+    ap (λ (x : Bool). x && (list_all (is_word Attribute) qs && nat_le (length (normal_values qs)) 1)) e
 
-no_values : (qs : List (List ℕ)) → list_all (is_word Attribute) (rest_of qs) ≡ false → has_small_keyword qs ≡ false
+no_values : (qs : List (List ℕ)) → list_all (is_word Attribute) (rest_of qs) ≡ false →
+    has_small_keyword qs ≡ false
 no_values [] e = refl
 no_values (p ∷ qs) e =
-    ap (λ (x : Bool). is_word UnicodeKey p && (x && nat_le (length (normal_values qs)) 1)) e ∙ and-false (is_word UnicodeKey p)
+    ap (λ (x : Bool). is_word UnicodeKey p && (x && nat_le (length (normal_values qs)) 1)) e
+    ∙ and-false (is_word UnicodeKey p)
 
 many_values : (qs : List (List ℕ)) → 2 ≤ length (normal_values (rest_of qs)) → has_small_keyword qs ≡ false
 many_values [] l = refl
 many_values (p ∷ qs) l =
     let more : nat_le (length (normal_values qs)) 1 ≡ false = grind (arith, nat_tests) in
     ap (λ (x : Bool). is_word UnicodeKey p && (list_all (is_word Attribute) qs && x)) more
-    ∙ ap (λ (x : Bool). is_word UnicodeKey p && x) (and-false (list_all (is_word Attribute) qs)) ∙ and-false (is_word UnicodeKey p)
+    ∙ ap (λ (x : Bool). is_word UnicodeKey p && x) (and-false (list_all (is_word Attribute) qs))
+    ∙ and-false (is_word UnicodeKey p)
 
 pub front_first : (qs : List (List ℕ)) → IsLong (first_piece qs) → first_piece (front qs) ≡ first_piece qs
 front_first [] e = refl
@@ -155,11 +180,14 @@ key_long p h = let two : length p ≡ 2 = length-unicode_key p h in grind (arith
 -- the fault by whether the singleton is a letter and `u`, and an attribute or a key follows
 abbrev pub fault_by : Bool → Bool → Bool → Bool → Fault
 fault_by a s x y =
-    if a then (if s then (if x then faults.InvalidSubtag else (if y then faults.InvalidSubtag else faults.InvalidExtension)) else faults.InvalidSubtag)
+    if a then (if s then
+    (if x then faults.InvalidSubtag else (if y then faults.InvalidSubtag else faults.InvalidExtension)) else
+    faults.InvalidSubtag)
     else faults.InvalidExtension
 
 pub fault_is : (b : ℕ × List (List ℕ)) (x y : Bool) → is_ascii_alphanumeric b.0 ≡ true → is_u b.0 ≡ true
-    → is_word Attribute (first_piece b.1) ≡ x → is_word UnicodeKey (first_piece b.1) ≡ y → block_fault b ≡ fault_by true true x y
+    → is_word Attribute (first_piece b.1) ≡ x → is_word UnicodeKey (first_piece b.1) ≡ y →
+    block_fault b ≡ fault_by true true x y
 unfolding block_fault
 fault_is b x y letter u attribute key = λ j. fault_by (letter j) (u j) (attribute j) (key j)
 
@@ -173,7 +201,8 @@ skip_long (c ∷ d ∷ p) qs h = refl
 pub front_long : (q : List ℕ) (qs : List (List ℕ)) → IsLong q → front (q ∷ qs) ≡ q ∷ front qs
 front_long q qs h = ap (λ (o : Bool). cond o [] (q ∷ front qs)) h
 
-pub values_whole : (qs : List (List ℕ)) → list_all (is_word Attribute) qs ≡ true → (front qs ≡ qs) × (blocks qs ≡ [])
+pub values_whole : (qs : List (List ℕ)) → list_all (is_word Attribute) qs ≡ true →
+    (front qs ≡ qs) × (blocks qs ≡ [])
 values_whole [] h = (refl, refl)
 values_whole (q ∷ qs) h =
     let parts = and_both (is_word Attribute q) (list_all (is_word Attribute) qs) h in
@@ -182,7 +211,8 @@ values_whole (q ∷ qs) h =
     (front_long q qs long ∙ ap (λ rs. q ∷ rs) later.0, skip_long q qs long ∙ later.1)
 
 -- a key and its values are before the next block
-pub whole_front : (qs : List (List ℕ)) → IsWord UnicodeKey (first_piece qs) → list_all (is_word Attribute) (rest_of qs) ≡ true → front qs ≡ qs
+pub whole_front : (qs : List (List ℕ)) → IsWord UnicodeKey (first_piece qs) →
+    list_all (is_word Attribute) (rest_of qs) ≡ true → front qs ≡ qs
 whole_front [] k v = refl
 whole_front (q ∷ qs) k v = front_long q qs (key_long q k) ∙ ap (λ rs. q ∷ rs) (values_whole qs v).0
 
@@ -225,12 +255,16 @@ single_reads (q ∷ qs) s =
     never region true = refl
     never region false = refl
 
-    unread : (lower q ≢ codes "sd") ⊎ (qs ≡ []) → (region : Option (List ℕ)) → small_part region (Some (keyword_read (q ∷ qs))) ≡ None
+    unread : (lower q ≢ codes "sd") ⊎ (qs ≡ []) → (region : Option (List ℕ)) →
+        small_part region (Some (keyword_read (q ∷ qs))) ≡ None
     unread (inl differs) region =
-        let other : is_same (lower q) sd ≡ false = false_from_ne_true _ (λ e. differs (same_is (lower q) sd e)) in
-        ap (λ (x : Bool). part region x (option_and_then named_subdivision (first_item (normal_values qs)))) other
+        let other : is_same (lower q) sd ≡ false =
+        false_from_ne_true _ (λ e. differs (same_is (lower q) sd e)) in
+        ap (λ (x : Bool). part region x (option_and_then named_subdivision (first_item (normal_values qs))))
+        other
     unread (inr none) region =
-        ap (λ (rs : List (List ℕ)). part region (is_same (lower q) sd) (option_and_then named_subdivision (first_item (normal_values rs)))) none
+        ap (λ (rs : List (List ℕ)). part region (is_same (lower q) sd)
+        (option_and_then named_subdivision (first_item (normal_values rs)))) none
         ∙ never region (is_same (lower q) sd)
 
 -- ---- the head of a text with no variants
@@ -238,48 +272,64 @@ single_reads (q ∷ qs) s =
 abbrev pub PassesLong : Kind → Type 0
 PassesLong k = (p : List ℕ) → IsWord k p → IsLong p
 
-pub skip_front : (k : Kind) → PassesLong k → (qs : List (List ℕ)) → skip_first (is_word k) (front qs) ≡ front (skip_first (is_word k) qs)
+pub skip_front : (k : Kind) → PassesLong k → (qs : List (List ℕ)) →
+    skip_first (is_word k) (front qs) ≡ front (skip_first (is_word k) qs)
 skip_front k long [] = refl
 skip_front k long (q ∷ qs) = elim (cases_Bool (is_word k q)) [
   | inl fits ↦
       ap (skip_first (is_word k)) (front_long q qs (long q fits))
-      ∙ (λ j. cond (fits j) (front qs) (q ∷ front qs)) ∙ sym (ap (λ (x : Bool). front (cond x qs (q ∷ qs))) fits)
+      ∙ (λ j. cond (fits j) (front qs) (q ∷ front qs))
+      ∙ sym (ap (λ (x : Bool). front (cond x qs (q ∷ qs))) fits)
   | inr fails ↦ stays (is_one_byte q) refl fails ∙ sym (ap (λ (x : Bool). front (cond x qs (q ∷ qs))) fails)
 ]
   where
-    stays : (o : Bool) → is_one_byte q ≡ o → is_word k q ≡ false → skip_first (is_word k) (front (q ∷ qs)) ≡ front (q ∷ qs)
+    stays : (o : Bool) → is_one_byte q ≡ o → is_word k q ≡ false →
+        skip_first (is_word k) (front (q ∷ qs)) ≡ front (q ∷ qs)
     stays true one fails =
         let none : front (q ∷ qs) ≡ [] = ap (λ (o : Bool). cond o [] (q ∷ front qs)) one in
         ap (skip_first (is_word k)) none ∙ sym none
     stays false one fails =
-        ap (skip_first (is_word k)) (front_long q qs one) ∙ ap (λ (x : Bool). cond x (front qs) (q ∷ front qs)) fails ∙ sym (front_long q qs one)
+        ap (skip_first (is_word k)) (front_long q qs one)
+        ∙ ap (λ (x : Bool). cond x (front qs) (q ∷ front qs)) fails ∙ sym (front_long q qs one)
 
-pub head_region : (p : List ℕ) (qs : List (List ℕ)) → after_region (p ∷ front qs) ≡ front (after_region (p ∷ qs))
+pub head_region : (p : List ℕ) (qs : List (List ℕ)) →
+    after_region (p ∷ front qs) ≡ front (after_region (p ∷ qs))
 head_region p qs =
-    ap (skip_first (is_word Region)) (skip_front Script long_script qs) ∙ skip_front Region long_region (skip_first (is_word Script) qs)
+    ap (skip_first (is_word Region)) (skip_front Script long_script qs)
+    ∙ skip_front Region long_region (skip_first (is_word Script) qs)
 
 -- so the head is small
-pub small_head : (p : List ℕ) (qs : List (List ℕ)) → IsWord (Language languages) p → has_small_variants (front (after_region (p ∷ qs))) ≡ true
+pub small_head : (p : List ℕ) (qs : List (List ℕ)) → IsWord (Language languages) p →
+    has_small_variants (front (after_region (p ∷ qs))) ≡ true
     → small_identifier_result languages (p ∷ front qs) ≡ Ok (small_identifier (identifier_of (p ∷ front qs)))
 unfolding small_identifier_result identifier_of
 small_head p qs l h =
-    let few : has_small_variants (identifier_of (p ∷ front qs)).variants ≡ true = ap has_small_variants (head_region p qs) ∙ h in
-    λ j. if l j then (if few j then Ok (small_identifier (identifier_of (p ∷ front qs))) else Err faults.InvalidSubtag) else Err faults.InvalidLanguage
+    let few : has_small_variants (identifier_of (p ∷ front qs)).variants ≡ true =
+    ap has_small_variants (head_region p qs) ∙ h in
+    λ j. if l j then
+    (if few j then Ok (small_identifier (identifier_of (p ∷ front qs))) else Err faults.InvalidSubtag) else
+    Err faults.InvalidLanguage
 
 -- ... and one with more variants is not
-pub large_head : (p : List ℕ) (qs : List (List ℕ)) → IsWord (Language languages) p → has_small_variants (front (after_region (p ∷ qs))) ≡ false
+pub large_head : (p : List ℕ) (qs : List (List ℕ)) → IsWord (Language languages) p →
+    has_small_variants (front (after_region (p ∷ qs))) ≡ false
     → small_identifier_result languages (p ∷ front qs) ≡ Err faults.InvalidSubtag
 unfolding small_identifier_result identifier_of
 large_head p qs l h =
-    let many : has_small_variants (identifier_of (p ∷ front qs)).variants ≡ false = ap has_small_variants (head_region p qs) ∙ h in
-    λ j. if l j then (if many j then Ok (small_identifier (identifier_of (p ∷ front qs))) else Err faults.InvalidSubtag) else Err faults.InvalidLanguage
+    let many : has_small_variants (identifier_of (p ∷ front qs)).variants ≡ false =
+    ap has_small_variants (head_region p qs) ∙ h in
+    λ j. if l j then
+    (if many j then Ok (small_identifier (identifier_of (p ∷ front qs))) else Err faults.InvalidSubtag) else
+    Err faults.InvalidLanguage
 
 -- ---- the answers
 
 pub letter_u : (c : ℕ) → is_u c ≡ true → is_ascii_alphanumeric c ≡ true
 letter_u c u = grind (arith, nat_tests)
 
-module _ (t : List ℕ) (b : Block) (h : IsFront t (fronts.Block b)) (letter : is_ascii_alphanumeric (get_or b.window.now 0 0) ≡ true) (u : is_u (get_or b.window.now 0 0) ≡ true) where
+module _ (t : List ℕ) (b : Block) (h : IsFront t (fronts.Block b))
+    (letter : is_ascii_alphanumeric (get_or b.window.now 0 0) ≡ true)
+    (u : is_u (get_or b.window.now 0 0) ≡ true) where
   abbrev block : ℕ × List (List ℕ)
   block = first t b h.0 h.1 u
 
@@ -289,7 +339,8 @@ module _ (t : List ℕ) (b : Block) (h : IsFront t (fronts.Block b)) (letter : i
   there : tail_blocks (pieces t) ≡ block ∷ blocks rest
   there = found t b h.0 h.1 u
 
-  not_alone : (bs : List (ℕ × List (List ℕ))) → has_small_keyword (front rest) ≡ false → is_small_block block bs ≡ false
+  not_alone : (bs : List (ℕ × List (List ℕ))) → has_small_keyword (front rest) ≡ false →
+      is_small_block block bs ≡ false
   not_alone [] e = ap (λ (x : Bool). is_u block.0 && x) e ∙ and-false (is_u block.0)
   not_alone (d ∷ bs) e = refl
 
@@ -297,43 +348,56 @@ module _ (t : List ℕ) (b : Block) (h : IsFront t (fronts.Block b)) (letter : i
   attribute_refused k =
       let same = front_first rest (long_attribute (first_piece rest) k) in
       let attribute : is_word Attribute (first_piece (front rest)) ≡ true = ap (is_word Attribute) same ∙ k in
-      let key : is_word UnicodeKey (first_piece (front rest)) ≡ false = ap (is_word UnicodeKey) same ∙ attribute_no_key (first_piece rest) k in
-      data_refused t block (blocks rest) h.0 there (not_alone (blocks rest) (no_key (front rest) key)) (fault_is block true false letter u attribute key)
+      let key : is_word UnicodeKey (first_piece (front rest)) ≡ false =
+      ap (is_word UnicodeKey) same ∙ attribute_no_key (first_piece rest) k in
+      data_refused t block (blocks rest) h.0 there (not_alone (blocks rest) (no_key (front rest) key))
+      (fault_is block true false letter u attribute key)
 
   pub misfit_refused : IsKeywordOf rest keyword.Misfit → HasRefusal Data t InvalidSubtag
   misfit_refused k =
       let same = front_first rest (key_long (first_piece rest) k.0) in
-      let attribute : is_word Attribute (first_piece (front rest)) ≡ false = ap (is_word Attribute) same ∙ key_no_attribute (first_piece rest) k.0 in
+      let attribute : is_word Attribute (first_piece (front rest)) ≡ false =
+      ap (is_word Attribute) same ∙ key_no_attribute (first_piece rest) k.0 in
       let key : is_word UnicodeKey (first_piece (front rest)) ≡ true = ap (is_word UnicodeKey) same ∙ k.0 in
-      data_refused t block (blocks rest) h.0 there (by (blocks rest) refl) (fault_is block false true letter u attribute key)
+      data_refused t block (blocks rest) h.0 there (by (blocks rest) refl)
+      (fault_is block false true letter u attribute key)
     where
       by : (bs : List (ℕ × List (List ℕ))) → blocks rest ≡ bs → is_small_block block bs ≡ false
       by [] none =
-          let whole : front rest ≡ rest = sym (append-nil (front rest)) ∙ ap (λ bs. front rest ++ flat_map block_pieces bs) (sym none) ∙ all_blocks rest in
+          let whole : front rest ≡ rest = sym (append-nil (front rest))
+          ∙ ap (λ bs. front rest ++ flat_map block_pieces bs) (sym none) ∙ all_blocks rest in
           not_alone [] (ap has_small_keyword whole ∙ no_values rest k.1)
       by (d ∷ bs) e = refl
 
   pub many_refused : IsKeywordOf rest keyword.Many → HasRefusal Data t InvalidSubtag
   many_refused k =
       let same = front_first rest (key_long (first_piece rest) k.0) in
-      let attribute : is_word Attribute (first_piece (front rest)) ≡ false = ap (is_word Attribute) same ∙ key_no_attribute (first_piece rest) k.0 in
+      let attribute : is_word Attribute (first_piece (front rest)) ≡ false =
+      ap (is_word Attribute) same ∙ key_no_attribute (first_piece rest) k.0 in
       let key : is_word UnicodeKey (first_piece (front rest)) ≡ true = ap (is_word UnicodeKey) same ∙ k.0 in
-      data_refused t block (blocks rest) h.0 there (not_alone (blocks rest) (ap has_small_keyword (whole_front rest k.0 k.1) ∙ many_values rest k.2)) (fault_is block false true letter u attribute key)
+      data_refused t block (blocks rest) h.0 there
+      (not_alone (blocks rest) (ap has_small_keyword (whole_front rest k.0 k.1) ∙ many_values rest k.2))
+      (fault_is block false true letter u attribute key)
 
   -- what is read of a whole text with such a keyword
-  single_result : b.tail ≤ b.len + 9 → Reads rest → (r : SmallLocale) × (small_result languages t ≡ Ok r) × (data_of_small r ≡ None)
+  single_result : b.tail ≤ b.len + 9 → Reads rest →
+      (r : SmallLocale) × (small_result languages t ≡ Ok r) × (data_of_small r ≡ None)
   unfolding small_result after_identifier blocks_result
   single_result few read = at_pieces Found by t h.0 there (few_before t b h.1 few)
     where
       Found : List (List ℕ) → Type 0
-      Found qs = IsWord (Language languages) (first_piece qs) → tail_blocks qs ≡ block ∷ blocks rest → has_small_variants (front (after_region qs)) ≡ true
-          → (r : SmallLocale) × (after_identifier (small_identifier_result languages (head qs)) (tail_blocks qs) ≡ Ok r) × (data_of_small r ≡ None)
+      Found qs = IsWord (Language languages) (first_piece qs) → tail_blocks qs ≡ block ∷ blocks rest →
+          has_small_variants (front (after_region qs)) ≡ true
+          → (r : SmallLocale)
+          × (after_identifier (small_identifier_result languages (head qs)) (tail_blocks qs) ≡ Ok r)
+          × (data_of_small r ≡ None)
 
       by : (p : List ℕ) (qs : List (List ℕ)) → Found (p ∷ qs)
       by p qs l e none =
           let id = small_identifier (identifier_of (p ∷ front qs)) in
           let found : SmallLocale = record { id = id; keyword = Some (keyword_read rest) } in
-          let small : is_small_block (c t b h.0 h.1 u, rest) [] ≡ true = λ j. both_hold (u j) (read.small j) in (
+          let small : is_small_block (c t b h.0 h.1 u, rest) [] ≡ true =
+          λ j. both_hold (u j) (read.small j) in (
             found,
             (λ j. after_identifier (small_head p qs l none j) (e j))
                 ∙ (λ j. blocks_result id ((c t b h.0 h.1 u, read.whole j) ∷ read.alone j))
@@ -341,11 +405,13 @@ module _ (t : List ℕ) (b : Block) (h : IsFront t (fronts.Block b)) (letter : i
             ap (option_map (λ part. made_of id.language id.script part id.variant)) (read.unread id.region),
           )
 
-  pub single_refused : b.tail ≤ b.len + 9 → IsKeywordOf rest keyword.Single → HasRefusal Data t InvalidExtension
+  pub single_refused : b.tail ≤ b.len + 9 → IsKeywordOf rest keyword.Single →
+      HasRefusal Data t InvalidExtension
   unfolding data_result
   single_refused few s =
       let found = single_result few (single_reads rest s) in
-      data_fault t faults.InvalidExtension (ap data_of_result found.1 ∙ ap (λ o. ok_or o faults.InvalidExtension) found.2)
+      data_fault t faults.InvalidExtension
+      (ap data_of_result found.1 ∙ ap (λ o. ok_or o faults.InvalidExtension) found.2)
 
 -- ---- two variants or more
 
@@ -353,7 +419,9 @@ module _ (t : List ℕ) (b : Block) (h : IsFront t (fronts.Block b)) (letter : i
 only_variants : (qs : List (List ℕ)) → past (is_word Variant) qs ≡ [] → front qs ≡ qs
 only_variants [] e = refl
 only_variants (q ∷ qs) e = elim (cases_Bool (is_word Variant q)) [
-  | inl fits ↦ front_long q qs (long_variant q fits) ∙ ap (λ rs. q ∷ rs) (only_variants qs (sym (ap (λ (x : Bool). cond x (past (is_word Variant) qs) (q ∷ qs)) fits) ∙ e))
+  | inl fits ↦ front_long q qs (long_variant q fits)
+      ∙ ap (λ rs. q ∷ rs)
+      (only_variants qs (sym (ap (λ (x : Bool). cond x (past (is_word Variant) qs) (q ∷ qs)) fits) ∙ e))
   | inr fails ↦ absurd (none (sym (ap (λ (x : Bool). cond x (past (is_word Variant) qs) (q ∷ qs)) fails) ∙ e))
 ]
   where
@@ -364,13 +432,19 @@ variants_of : (i : SpelledIdentifier) → HasWords languages i → after_region 
 unfolding identifier_of
 variants_of i h = ap (λ (j : SpelledIdentifier). j.variants) (identifier_of-pieces i h)
 
-many_in_head : (t : List ℕ) → past (is_word Variant) (after_region (pieces t)) ≡ [] → 2 ≤ length (after_region (pieces t)) → (r : SmallIdentifier) → ¬ (IsSmallIdentifier languages (head (pieces t)) r)
-many_in_head t = at_pieces (λ qs. past (is_word Variant) (after_region qs) ≡ [] → 2 ≤ length (after_region qs) → (r : SmallIdentifier) → ¬ (IsSmallIdentifier languages (head qs) r)) by t
+many_in_head : (t : List ℕ) → past (is_word Variant) (after_region (pieces t)) ≡ [] →
+    2 ≤ length (after_region (pieces t)) → (r : SmallIdentifier) →
+    ¬ (IsSmallIdentifier languages (head (pieces t)) r)
+many_in_head t = at_pieces (λ qs. past (is_word Variant) (after_region qs) ≡ [] →
+    2 ≤ length (after_region qs) → (r : SmallIdentifier) → ¬ (IsSmallIdentifier languages (head qs) r)) by t
   where
-    by : (p : List ℕ) (qs : List (List ℕ)) → past (is_word Variant) (after_region (p ∷ qs)) ≡ [] → 2 ≤ length (after_region (p ∷ qs)) → (r : SmallIdentifier) → ¬ (IsSmallIdentifier languages (p ∷ front qs) r)
+    by : (p : List ℕ) (qs : List (List ℕ)) → past (is_word Variant) (after_region (p ∷ qs)) ≡ [] →
+        2 ≤ length (after_region (p ∷ qs)) → (r : SmallIdentifier) →
+        ¬ (IsSmallIdentifier languages (p ∷ front qs) r)
     by p qs e l r s =
         let same : after_region (p ∷ qs) ≡ s.written.variants =
-        sym (head_region p qs ∙ only_variants (after_region (p ∷ qs)) e) ∙ ap after_region s.spelled ∙ variants_of s.written s.grammatical.words in
+        sym (head_region p qs ∙ only_variants (after_region (p ∷ qs)) e) ∙ ap after_region s.spelled
+        ∙ variants_of s.written s.grammatical.words in
         omega (arith, ap length same, one_variant (p ∷ front qs) r s)
 
 pub variants_refused : (t : List ℕ) (n : ℕ) → IsFront t (fronts.Variants n) → HasRefusal Data t InvalidSubtag
@@ -382,6 +456,7 @@ variants_refused t n h =
 pub no_letter_no_u : (c : ℕ) → is_ascii_alphanumeric c ≡ false → is_u c ≡ false
 no_letter_no_u c e = grind (arith, nat_tests)
 
-pub unlettered_fault : (b : ℕ × List (List ℕ)) → is_ascii_alphanumeric b.0 ≡ false → block_fault b ≡ faults.InvalidExtension
+pub unlettered_fault : (b : ℕ × List (List ℕ)) → is_ascii_alphanumeric b.0 ≡ false →
+    block_fault b ≡ faults.InvalidExtension
 unfolding block_fault
 unlettered_fault b e = rw e refl

@@ -1,17 +1,25 @@
 -- What a subtag names as a value of `sd`.
-use Rattle.std.proofs.Common.{◌≡◌, ◌≢◌, ℕ, zero, suc, ◌+◌, ◌-◌, ◌*◌, ◌/◌, ◌%◌, ◌≤◌, ◌==◌, Bool, true, false, cond, ◌&&◌, [], ◌∷◌, ◌++◌, length, get_or, take, drop, codes, Option, None, Some, Ok, Err, refl, sym, ap, ap₂, ◌∙◌, arith, inl, inr, take-append-drop, true≢false}
+use Rattle.std.proofs.Common.{◌≡◌, ◌≢◌, ℕ, zero, suc, ◌+◌, ◌-◌, ◌*◌, ◌/◌, ◌%◌, ◌≤◌, ◌==◌, Bool, true, false}
+use Rattle.std.proofs.Common.{cond, ◌&&◌, [], ◌∷◌, ◌++◌, length, get_or, take, drop, codes, Option, None}
+use Rattle.std.proofs.Common.{Some, Ok, Err, refl, sym, ap, ap₂, ◌∙◌, arith, inl, inr, take-append-drop}
+use Rattle.std.proofs.Common.{true≢false}
 use Rattle.std.specs.Prelude.{if◌then◌else◌, ok_or}
 use Rattle.std.specs.Char.{is_ascii_alphabetic, is_ascii_alphanumeric, to_ascii_lowercase}
 use Rattle.std.specs.Result.{result_ok}
 use Rattle.std.proofs.lemmas.Bool.{and_from, and_parts, eq-eqb, eqb-true}
 use Rattle.std.proofs.lemmas.Bool.Decides.{nat_tests}
 use Rattle.std.proofs.lemmas.List.{drop-drop, drop-take, map-append, take-take}
-use Rattle.iloc_spec_grammar.specs.Syntax.{Text, Attribute, Region, Subtag, SubdivisionSuffix, UnicodeKey, IsWord, is_same, is_true, is_word, letters_or_digits, lower, normal, upper}
+use Rattle.iloc_spec_grammar.specs.Syntax.{Text, Attribute, Region, Subtag, SubdivisionSuffix, UnicodeKey}
+use Rattle.iloc_spec_grammar.specs.Syntax.{IsWord, is_same, is_true, is_word, letters_or_digits, lower}
+use Rattle.iloc_spec_grammar.specs.Syntax.{normal, upper}
 use Rattle.iloc_spec_grammar.specs.Meaning as faults
 use Rattle.iloc_spec_grammar.proofs.MapLaws.{same_is, same_itself}
-use Rattle.iloc_spec_grammar.proofs.WordsLaws.{is_word-lower, is_word-normal, length-attribute, length-unicode_key, lower-lower, lower-upper, normal-normal, word_letters_or_digits}
+use Rattle.iloc_spec_grammar.proofs.WordsLaws.{is_word-lower, is_word-normal, length-attribute}
+use Rattle.iloc_spec_grammar.proofs.WordsLaws.{length-unicode_key, lower-lower, lower-upper, normal-normal}
+use Rattle.iloc_spec_grammar.proofs.WordsLaws.{word_letters_or_digits}
 use Rattle.iloc_spec_preferences.specs.DataLocales.{named_subdivision}
-use Rattle.iloc_spec_preferences.specs.Subdivisions.{Subdivision, both_words, region_length, subdivision, subdivision_text}
+use Rattle.iloc_spec_preferences.specs.Subdivisions.{Subdivision, both_words, region_length, subdivision}
+use Rattle.iloc_spec_preferences.specs.Subdivisions.{subdivision_text}
 use Rattle.iloc_spec_preferences.proofs.SubdivisionLaws.{subdivision_back}
 use Rattle.iloc_pieces.specs.Left.{IsRemainder, IsShortPiece, piece_left}
 use Rattle.iloc_pieces.specs.Shape.{bits, shape_of}

@@ -6,7 +6,9 @@ use Rattle.std.specs.declared.borrow.CowStr.{CowStr}
 use Rattle.iloc_spec_grammar.specs.Syntax.{languages}
 use Rattle.iloc_writeable.specs.Writing.{IsLent}
 use Rattle.iloc_subtags.specs.declared.parse_error.ParseError.{ParseError}
-use Rattle.iloc_subtags.specs.declared.parse_error.ParseError.TheVariants.{InvalidLanguage, InvalidSubtag, InvalidExtension, DuplicatedExtension, OutOfMemory}
+use Rattle.iloc_subtags.specs.declared.parse_error.ParseError.TheVariants.{InvalidLanguage, InvalidSubtag}
+use Rattle.iloc_subtags.specs.declared.parse_error.ParseError.TheVariants.{InvalidExtension}
+use Rattle.iloc_subtags.specs.declared.parse_error.ParseError.TheVariants.{DuplicatedExtension, OutOfMemory}
 use Rattle.iloc_subtags.specs.Judging.{Refusal, RunsOutOnlyIf}
 use Rattle.iloc_told.specs.Modes.{IsNormalText, IsFaulty}
 use Rattle.iloc_told.specs.NormalTexts.{IsNotNormal, IsNormalizedAs}
@@ -14,13 +16,15 @@ use Rattle.iloc_told.specs.declared.Mode.{Mode}
 
 module _ {Z : Type 0} (mode : Mode) (t : List ℕ) where
   -- a text is what the caller says of normal texts
-  pub normal_text : (IsText : List ℕ → Type 0) → ((u : List ℕ) → IsNormalText languages mode t u → IsText u) → (r : Result (CowStr Z) ParseError) → IsNormalizedAs mode t r
+  pub normal_text : (IsText : List ℕ → Type 0) → ((u : List ℕ) → IsNormalText languages mode t u → IsText u) →
+      (r : Result (CowStr Z) ParseError) → IsNormalizedAs mode t r
       → IfOk r (λ c. IsText (cow_str_bytes c) × (IsLent c ↔ (t ≡ cow_str_bytes c)))
   normal_text IsText is (Ok c) h = (is (cow_str_bytes c) h.0, h.1)
   normal_text IsText is (Err e) h = tt
 
   -- a refusal names the fault
-  pub refused : (r : Result (CowStr Z) ParseError) → IsNormalizedAs mode t r → IfErr r (Refusal (IsFaulty languages mode t) ⊤)
+  pub refused : (r : Result (CowStr Z) ParseError) → IsNormalizedAs mode t r →
+      IfErr r (Refusal (IsFaulty languages mode t) ⊤)
   refused (Ok c) h = tt
   refused (Err InvalidLanguage) h = h
   refused (Err InvalidSubtag) h = h
@@ -29,7 +33,8 @@ module _ {Z : Type 0} (mode : Mode) (t : List ℕ) where
   refused (Err OutOfMemory) h = tt
 
   -- memory runs out only if the text is another than its normal text
-  pub runs_out : {Wants : Type 0} → (IsNotNormal mode t → Wants) → (r : Result (CowStr Z) ParseError) → IsNormalizedAs mode t r → RunsOutOnlyIf Wants r
+  pub runs_out : {Wants : Type 0} → (IsNotNormal mode t → Wants) → (r : Result (CowStr Z) ParseError) →
+      IsNormalizedAs mode t r → RunsOutOnlyIf Wants r
   runs_out wants (Ok c) h = tt
   runs_out wants (Err InvalidLanguage) h = tt
   runs_out wants (Err InvalidSubtag) h = tt

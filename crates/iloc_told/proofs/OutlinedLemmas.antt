@@ -1,5 +1,6 @@
 -- When an outline tells nothing.
-use Rattle.std.proofs.Common.{◌≡◌, inl, inr, ℕ, ◌+◌, ◌≤◌, List, [], ◌∷◌, ◌++◌, length, length-append, sym, ap, ◌∙◌, arith}
+use Rattle.std.proofs.Common.{◌≡◌, inl, inr, ℕ, ◌+◌, ◌≤◌, List, [], ◌∷◌, ◌++◌, length, length-append, sym, ap}
+use Rattle.std.proofs.Common.{◌∙◌, arith}
 use Rattle.iloc_spec_grammar.specs.Syntax.{pieces, join, dashes}
 use Rattle.iloc_spec_grammar.proofs.PartTexts.{join-dashes}
 use Rattle.iloc_spec_grammar.proofs.PiecesLaws.{at_pieces, join-pieces}
@@ -27,7 +28,8 @@ few_pieces t = at_pieces (λ ps. join ps ≡ t → length ps ≤ length t + 1) (
 
 -- a short text is not beyond an outline
 pub not_beyond : (t : List ℕ) (room : ℕ) → length t ≤ 48 → 64 ≤ room → IsBeyond room t → ⊥
-not_beyond t room short wide (inl many) = let few : length (pieces t) ≤ length t + 1 = few_pieces t in omega (arith, few, many, short)
+not_beyond t room short wide (inl many) =
+    let few : length (pieces t) ≤ length t + 1 = few_pieces t in omega (arith, few, many, short)
 not_beyond t room short wide (inr (inl long)) = omega (arith, long, short)
 not_beyond t room short wide (inr (inr narrow)) = omega (arith, narrow, short, wide)
 

@@ -1,8 +1,11 @@
 -- What is read from the beginning of a text on, as a data locale.
-use Rattle.std.proofs.Common.{◌≡◌, ◌⊎◌, inl, inr, ℕ, suc, ◌+◌, ◌≤◌, true, false, List, [], ◌∷◌, ◌++◌, length, take, Some, None, Ok, Err, refl, sym, ap, ◌∙◌, subst, arith, append_assoc, append-nil, length-append, option_map}
+use Rattle.std.proofs.Common.{◌≡◌, ◌⊎◌, inl, inr, ℕ, suc, ◌+◌, ◌≤◌, true, false, List, [], ◌∷◌, ◌++◌, length}
+use Rattle.std.proofs.Common.{take, Some, None, Ok, Err, refl, sym, ap, ◌∙◌, subst, arith, append_assoc}
+use Rattle.std.proofs.Common.{append-nil, length-append, option_map}
 use Rattle.std.proofs.Math.Seq.{take-append-add}
 use Rattle.std.proofs.lemmas.List.{append_cancel_left, length-take-le, take-take}
-use Rattle.iloc_spec_grammar.specs.Syntax.{Text, Variant, SpelledIdentifier, IsWord, first_piece, is_one_byte, is_word, join, languages, pieces}
+use Rattle.iloc_spec_grammar.specs.Syntax.{Text, Variant, SpelledIdentifier, IsWord, first_piece, is_one_byte}
+use Rattle.iloc_spec_grammar.specs.Syntax.{is_word, join, languages, pieces}
 use Rattle.iloc_spec_grammar.specs.Meaning.{Fault, InvalidSubtag, normal_identifier}
 use Rattle.iloc_spec_grammar.specs.Reading.{after_front, after_region, front_of, rest_of, starts_block}
 use Rattle.iloc_spec_grammar.proofs.PiecesLaws.{at_pieces}

@@ -1,12 +1,15 @@
 -- What the pieces of a value are: `true`, and at most one other.
-use Rattle.std.proofs.Common.{◌≡◌, ℕ, suc, ◌+◌, ◌≤◌, Bool, true, false, cond, not, ◌&&◌, nat_le, List, [], ◌∷◌, length, refl, sym, ap, ◌∙◌, arith, true≢false}
+use Rattle.std.proofs.Common.{◌≡◌, ℕ, suc, ◌+◌, ◌≤◌, Bool, true, false, cond, not, ◌&&◌, nat_le, List, []}
+use Rattle.std.proofs.Common.{◌∷◌, length, refl, sym, ap, ◌∙◌, arith, true≢false}
 use Rattle.std.specs.List.{list_all}
 use Rattle.std.proofs.lemmas.Bool.{and_parts, and_right, lt-leb}
-use Rattle.iloc_spec_grammar.specs.Syntax.{Text, Attribute, is_word, IsWord, is_true, lower, pieces, first_piece}
+use Rattle.iloc_spec_grammar.specs.Syntax.{Text, Attribute, is_word, IsWord, is_true, lower, pieces}
+use Rattle.iloc_spec_grammar.specs.Syntax.{first_piece}
 use Rattle.iloc_spec_grammar.specs.Meaning.{normal_values}
 use Rattle.iloc_spec_grammar.specs.Reading.{rest_of}
 use Rattle.iloc_spec_grammar.proofs.PiecesLaws.{at_pieces}
-use Rattle.iloc_pieces.specs.Left.{IsRemainder, IsNextPiece, IsShortPiece, piece_left, pieces_left, bytes_left}
+use Rattle.iloc_pieces.specs.Left.{IsRemainder, IsNextPiece, IsShortPiece, piece_left, pieces_left}
+use Rattle.iloc_pieces.specs.Left.{bytes_left}
 use Rattle.iloc_pieces.specs.declared.left.Left.{Left}
 use Rattle.iloc_pieces.proofs.LeftLemmas.{next_at, short_attribute}
 use Rattle.iloc_told.specs.Subdivisions.{IsOnly, are_trues, has_small_value}

@@ -1,10 +1,13 @@
 -- The normal texts of data locales.
-use Rattle.std.proofs.Common.{◌≡◌, ◌⊎◌, inl, inr, ◌≤◌, Bool, true, false, List, [], ◌∷◌, ◌++◌, length, map, codes, Option, Some, None, IfSome, Result, Ok, option_map, option_and_then, refl, sym, ap, ◌∙◌, subst, arith, append_assoc, append-nil}
+use Rattle.std.proofs.Common.{◌≡◌, ◌⊎◌, inl, inr, ◌≤◌, Bool, true, false, List, [], ◌∷◌, ◌++◌, length, map}
+use Rattle.std.proofs.Common.{codes, Option, Some, None, IfSome, Result, Ok, option_map, option_and_then}
+use Rattle.std.proofs.Common.{refl, sym, ap, ◌∙◌, subst, arith, append_assoc, append-nil}
 use Rattle.std.specs.Prelude.{if◌then◌else◌, option_to_list}
 use Rattle.std.specs.Result.{result_ok}
 use Rattle.std.proofs.lemmas.Bool.{cases_Bool}
 use Rattle.std.proofs.lemmas.List.{length-map}
-use Rattle.iloc_spec_grammar.specs.Syntax.{Text, SpelledIdentifier, HasWords, Region, IsWord, dashes, is_same, is_true, join, languages, lower, upper}
+use Rattle.iloc_spec_grammar.specs.Syntax.{Text, SpelledIdentifier, HasWords, Region, IsWord, dashes, is_same}
+use Rattle.iloc_spec_grammar.specs.Syntax.{is_true, join, languages, lower, upper}
 use Rattle.iloc_spec_grammar.specs.Meaning.{Fault, normal_identifier}
 use Rattle.iloc_spec_grammar.specs.Reading.{first_item}
 use Rattle.iloc_spec_grammar.specs.Values.{IsNormal}
@@ -13,8 +16,10 @@ use Rattle.iloc_spec_grammar.proofs.PartTexts.{join-append}
 use Rattle.iloc_spec_grammar.proofs.WordsLaws.{is_word-normal, lower-lower, normal-normal}
 use Rattle.iloc_spec_parts.specs.SmallComputing.{small_identifier}
 use Rattle.iloc_spec_parts.specs.Small.{SmallIdentifier}
-use Rattle.iloc_spec_preferences.specs.DataLocales.{agreed, data_text, is_whole, made_of, subdivision_keyword, subdivision_pieces, whole_region}
-use Rattle.iloc_spec_preferences.specs.Subdivisions.{IsSubdivision, Subdivision, subdivision, subdivision_text}
+use Rattle.iloc_spec_preferences.specs.DataLocales.{agreed, data_text, is_whole, made_of, subdivision_keyword}
+use Rattle.iloc_spec_preferences.specs.DataLocales.{subdivision_pieces, whole_region}
+use Rattle.iloc_spec_preferences.specs.Subdivisions.{IsSubdivision, Subdivision, subdivision}
+use Rattle.iloc_spec_preferences.specs.Subdivisions.{subdivision_text}
 use Rattle.iloc_spec_preferences.proofs.DataLaws.{whole_region_is}
 use Rattle.iloc_spec_preferences.proofs.SubdivisionLaws.{read_is_subdivision, subdivision_back, text_of_read}
 use Rattle.iloc_outline.specs.Parts.{front_pieces}

@@ -1,6 +1,8 @@
 -- What a text is read as, as a data locale.
-use Rattle.std.specs.Prelude.{◌≡◌, ◌⊎◌, ℕ, ◌+◌, ◌-◌, ◌≤◌, ◌++◌, true, false, length, map, take, Option, Some, None, Ok, Err, option_map}
-use Rattle.iloc_spec_grammar.specs.Syntax.{Text, SpelledIdentifier, HasWords, dashes, is_one_byte, join, languages, lower}
+use Rattle.std.specs.Prelude.{◌≡◌, ◌⊎◌, ℕ, ◌+◌, ◌-◌, ◌≤◌, ◌++◌, true, false, length, map, take, Option, Some}
+use Rattle.std.specs.Prelude.{None, Ok, Err, option_map}
+use Rattle.iloc_spec_grammar.specs.Syntax.{Text, SpelledIdentifier, HasWords, dashes, is_one_byte, join}
+use Rattle.iloc_spec_grammar.specs.Syntax.{languages, lower}
 use Rattle.iloc_spec_grammar.specs.Meaning.{Fault, InvalidSubtag, normal_identifier}
 use Rattle.iloc_spec_parts.specs.Small.{SmallIdentifier}
 use Rattle.iloc_spec_parts.specs.SmallComputing.{small_identifier}

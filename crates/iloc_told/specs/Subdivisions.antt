@@ -1,7 +1,9 @@
 -- What follows the singleton `u` of a data locale.
-use Rattle.std.specs.Prelude.{◌≡◌, ◌⊎◌, ℕ, zero, suc, ◌+◌, ◌-◌, ◌≤◌, ◌&&◌, Bool, true, false, List, [], ◌∷◌, length, nat_le, take, drop, codes, Some, None, Result, Ok, Err}
+use Rattle.std.specs.Prelude.{◌≡◌, ◌⊎◌, ℕ, zero, suc, ◌+◌, ◌-◌, ◌≤◌, ◌&&◌, Bool, true, false, List, [], ◌∷◌}
+use Rattle.std.specs.Prelude.{length, nat_le, take, drop, codes, Some, None, Result, Ok, Err}
 use Rattle.std.specs.List.{list_all}
-use Rattle.iloc_spec_grammar.specs.Syntax.{Text, Attribute, Region, SubdivisionSuffix, is_word, IsWord, is_same, is_true, lower, upper, blocks}
+use Rattle.iloc_spec_grammar.specs.Syntax.{Text, Attribute, Region, SubdivisionSuffix, is_word, IsWord}
+use Rattle.iloc_spec_grammar.specs.Syntax.{is_same, is_true, lower, upper, blocks}
 use Rattle.iloc_spec_grammar.specs.Meaning.{Fault, InvalidSubtag, InvalidExtension, normal_values}
 use Rattle.iloc_spec_grammar.specs.Reading.{rest_of}
 use Rattle.iloc_spec_parts.specs.Small.{SmallIdentifier}

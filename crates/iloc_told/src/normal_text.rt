@@ -109,7 +109,7 @@ fn text_of<'a>(
     own_text(alloc, normal)
 }
 
-// The same of an input that is not normal.
+// The normal text of an input that is not normal, in memory of its own.
 #[inline(always)]
 fn own_text<'a>(alloc: Global, normal: &[u8]) -> Result<CowStr<'a, Global>, ParseError>
     requires { IsUtf8 normal.now }

@@ -20,8 +20,10 @@ parts-preserved c =
     (c.copy_all.ensures ∙ c.as_array.ensures ∙ c.first_in_lower_case-part.ensures) in
     record {
       within = fits;
-      room = same_room at k (at + 16) c.args.count from c.parts.to part few sum fits c.requires.bytes c.parts.invariant.room is;
-      copied = copied_more at k (at + 16) c.args.count from c.parts.to part few sum fits c.requires.bytes c.parts.invariant.room is c.parts.invariant.copied;
+      room = same_room at k (at + 16) c.args.count from c.parts.to part few sum fits c.requires.bytes
+          c.parts.invariant.room is;
+      copied = copied_more at k (at + 16) c.args.count from c.parts.to part few sum fits c.requires.bytes
+          c.parts.invariant.room is c.parts.invariant.copied;
     }
 
 pub returns : goal.returns
@@ -31,7 +33,10 @@ returns c =
     let few : k ≤ 16 = omega (arith, c.parts-test.false) in
     let sum : n ≡ at + k = omega (arith, c.parts.invariant.within) in
     let fits : n ≤ n = omega arith in
-    let is = c.copy_all-2.ensures ∙ ap (take k) (c.as_array-2.ensures ∙ c.first_in_lower_case-part-2.ensures) in
-    let all = same_room at k n n from c.parts.to part few sum fits c.requires.bytes c.parts.invariant.room is in
+    let is =
+    c.copy_all-2.ensures ∙ ap (take k) (c.as_array-2.ensures ∙ c.first_in_lower_case-part-2.ensures) in
+    let all =
+    same_room at k n n from c.parts.to part few sum fits c.requires.bytes c.parts.invariant.room is in
     sym (take_all n (put_mid at k c.parts.to part) (omega (arith, all)))
-    ∙ copied_more at k n n from c.parts.to part few sum fits c.requires.bytes c.parts.invariant.room is c.parts.invariant.copied
+    ∙ copied_more at k n n from c.parts.to part few sum fits c.requires.bytes c.parts.invariant.room is
+    c.parts.invariant.copied

@@ -7,7 +7,8 @@ use Rattle.iloc_outline.specs.Reading.{unless_end}
 use Rattle.iloc_outline.specs.declared.identifier.Front.{Front}
 use Rattle.iloc_told.specs.Data.{IsDataBehind}
 use Rattle.iloc_told.specs.declared.data.Head.{Head}
-use Rattle.iloc_told.proofs.Reading.{all_front, at_front, end_there, front_head, left_there, pieces_there, read_alone, read_on, varied_head, window_there, within_there}
+use Rattle.iloc_told.proofs.Reading.{all_front, at_front, end_there, front_head, left_there, pieces_there}
+use Rattle.iloc_told.proofs.Reading.{read_alone, read_on, varied_head, window_there, within_there}
 use Rattle.iloc_told.proofs.data.read_data.Goals as goal
 use Rattle.iloc_told.proofs.data.read_data.Goals.{then-is_variant+else-is_last, else-is_variant}
 

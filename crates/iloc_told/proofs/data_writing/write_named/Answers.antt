@@ -3,7 +3,10 @@ use Rattle.std.specs.Cmp.Lexicographic.{texts_ties}
 use Rattle.iloc_spec_grammar.specs.Syntax.{is_same, upper}
 use Rattle.iloc_told.proofs.Named.{put_all, put_head, put_part, put_whole}
 use Rattle.iloc_told.proofs.data_writing.write_named.Goals as goal
-use Rattle.iloc_told.proofs.data_writing.write_named.Goals.{then-not-is_same-via-then-not-is_same, then-not-is_same-via-else-not-is_same+then-is_whole-2}
+use Rattle.iloc_told.proofs.data_writing.write_named.Goals.{
+  then-not-is_same-via-then-not-is_same,
+  then-not-is_same-via-else-not-is_same+then-is_whole-2,
+}
 
 pub returns-then-is_whole-clause-put : goal.returns-then-is_whole-clause-put
 returns-then-is_whole-clause-put c =

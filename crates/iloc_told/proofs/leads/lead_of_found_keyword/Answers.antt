@@ -2,18 +2,22 @@ use Rattle.std.proofs.Common.{◌≡◌, ◌+◌, ◌-◌, length, take, sym, ap
 use Rattle.std.proofs.lemmas.List.{length-take-le, take-take}
 use Rattle.iloc_plain.specs.Plain.{IsPlain}
 use Rattle.iloc_told.specs.Told.{ArePlain}
-use Rattle.iloc_told.proofs.FoundAnswers.{found_attribute_refused, found_many_refused, found_misfit_refused, found_single_refused}
+use Rattle.iloc_told.proofs.FoundAnswers.{found_attribute_refused, found_many_refused, found_misfit_refused}
+use Rattle.iloc_told.proofs.FoundAnswers.{found_single_refused}
 use Rattle.iloc_told.proofs.leads.lead_of_found_keyword.Goals as goal
 
 pub returns-in-Attribute : goal.returns-in-Attribute
 returns-in-Attribute c =
-    found_attribute_refused (take c.args.len c.args.window.now) c.args.block c.requires.found c.requires.u c.in-Attribute.ensures
+    found_attribute_refused (take c.args.len c.args.window.now) c.args.block c.requires.found c.requires.u
+    c.in-Attribute.ensures
 
 pub returns-in-Misfit : goal.returns-in-Misfit
-returns-in-Misfit c = found_misfit_refused (take c.args.len c.args.window.now) c.args.block c.requires.found c.requires.u c.in-Misfit.ensures
+returns-in-Misfit c = found_misfit_refused (take c.args.len c.args.window.now) c.args.block c.requires.found
+    c.requires.u c.in-Misfit.ensures
 
 pub returns-in-Many : goal.returns-in-Many
-returns-in-Many c = found_many_refused (take c.args.len c.args.window.now) c.args.block c.requires.found c.requires.u c.in-Many.ensures
+returns-in-Many c = found_many_refused (take c.args.len c.args.window.now) c.args.block c.requires.found
+    c.requires.u c.in-Many.ensures
 
 pub returns-in-Single : goal.returns-in-Single
 returns-in-Single c =

@@ -17,5 +17,6 @@ returns-in-Variants c =
 pub returns-then-is_other : goal.returns-then-is_other
 returns-then-is_other c =
     let other = c.is_other.ensures c.if-is_other.true in
-    other_block_refused (take c.args.len c.args.window.now) c.in-Block.block c.in-Block.ensures.0 c.in-Block.ensures.1
+    other_block_refused (take c.args.len c.args.window.now) c.in-Block.block c.in-Block.ensures.0
+    c.in-Block.ensures.1
     other.0 other.1

@@ -12,7 +12,8 @@ use Rattle.iloc_told.proofs.normal_text.normalize_short.Goals as goal
 pub from_utf8_unchecked-requires : goal.from_utf8_unchecked-requires
 from_utf8_unchecked-requires c =
     let h = subst (λ (t : List ℕ). IsToldPlain t c.in-Some.told) c.load-lanes.ensures c.in-Some.ensures in
-    subst IsUtf8 (sym (h.exactly.0 c.if-told.true)) (identifier_utf8 (value_of c.in-Some.told.plain) h.plain.value)
+    subst IsUtf8 (sym (h.exactly.0 c.if-told.true))
+    (identifier_utf8 (value_of c.in-Some.told.plain) h.plain.value)
 
 pub own_front-requires-clause-utf8 : goal.own_front-requires-clause-utf8
 own_front-requires-clause-utf8 c =
@@ -24,7 +25,8 @@ returns-then-told c =
     let h = subst (λ (t : List ℕ). IsToldPlain t c.in-Some.told) c.load-lanes.ensures c.in-Some.ensures in
     let same = c.from_utf8_unchecked.ensures ∙ h.exactly.0 c.if-told.true in
     λ mode. (
-      subst (IsNormalText languages mode c.args.input.now) (sym same) (plain_normal mode c.args.input.now c.in-Some.told.plain h.plain),
+      subst (IsNormalText languages mode c.args.input.now) (sym same)
+          (plain_normal mode c.args.input.now c.in-Some.told.plain h.plain),
       (λ _. sym c.from_utf8_unchecked.ensures, λ _. tt),
     )
 
@@ -33,15 +35,21 @@ returns-in-Ok c =
     let h = subst (λ (t : List ℕ). IsToldPlain t c.in-Some.told) c.load-lanes.ensures c.in-Some.ensures in
     let owned = c.in-Ok.ensures ∙ h.plain.words.normal in
     λ mode. (
-      subst (IsNormalText languages mode c.args.input.now) (sym owned) (plain_normal mode c.args.input.now c.in-Some.told.plain h.plain),
+      subst (IsNormalText languages mode c.args.input.now) (sym owned)
+          (plain_normal mode c.args.input.now c.in-Some.told.plain h.plain),
       (λ l. absurd l, λ e. absurd (true≢false (sym (h.exactly.1 (e ∙ owned)) ∙ c.if-told.false))),
     )
 
 pub returns-in-Err : goal.returns-in-Err
 returns-in-Err c =
     let h = subst (λ (t : List ℕ). IsToldPlain t c.in-Some.told) c.load-lanes.ensures c.in-Some.ensures in
-    λ mode. (_, plain_normal mode c.args.input.now c.in-Some.told.plain h.plain, λ e. absurd (true≢false (sym (h.exactly.1 e) ∙ c.if-told.false)))
+    λ mode. (
+      _,
+      plain_normal mode c.args.input.now c.in-Some.told.plain h.plain,
+      λ e. absurd (true≢false (sym (h.exactly.1 e) ∙ c.if-told.false)),
+    )
 
 pub returns-in_default : goal.returns-in_default
 returns-in_default c =
-    λ mode. subst (λ (t : List ℕ). IfSome c.refuse_short.result (IsNormalizedAs mode t)) c.load-lanes.ensures (c.refuse_short.ensures mode)
+    λ mode. subst (λ (t : List ℕ). IfSome c.refuse_short.result (IsNormalizedAs mode t)) c.load-lanes.ensures
+    (c.refuse_short.ensures mode)

@@ -2,7 +2,12 @@ use Rattle.std.proofs.Common.{◌≡◌, ◌≢◌, ◌+◌, ◌/◌, ◌%◌, s
 use Rattle.iloc_pieces.specs.Shape.{shape_of}
 use Rattle.iloc_told.proofs.Names.{no_region, no_suffix, parts}
 use Rattle.iloc_told.proofs.subdivisions.region_len.Goals as goal
-use Rattle.iloc_told.proofs.subdivisions.region_len.Goals.{else-is_region-via-then-is_region+else-is_suffix, else-is_region-via-else-is_region, else-is_region-2-via-then-is_region-2+else-is_suffix-2, else-is_region-2-via-else-is_region-2}
+use Rattle.iloc_told.proofs.subdivisions.region_len.Goals.{
+  else-is_region-via-then-is_region+else-is_suffix,
+  else-is_region-via-else-is_region,
+  else-is_region-2-via-then-is_region-2+else-is_suffix-2,
+  else-is_region-2-via-else-is_region-2,
+}
 
 pub returns-then-is_suffix : goal.returns-then-is_suffix
 returns-then-is_suffix c p all long e =

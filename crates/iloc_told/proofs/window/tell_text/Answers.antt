@@ -8,4 +8,5 @@ returns-clause-few c =
     let t = c.args.text.now in
     let room = length c.args.room.now in
     few_told t room (48 < length t) c.tell.result (omega arith) (omega arith)
-    (subst (λ (u : List ℕ). IsNothingOnlyIf (IsBeyond room u) c.tell.result) c.put_in_front.ensures c.tell.ensures.few)
+    (subst (λ (u : List ℕ). IsNothingOnlyIf (IsBeyond room u) c.tell.result) c.put_in_front.ensures
+    c.tell.ensures.few)

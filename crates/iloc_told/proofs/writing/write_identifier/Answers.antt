@@ -14,5 +14,9 @@ copy_outline-end-requires-clause-gives c =
 pub returns-in-Normal : goal.returns-in-Normal
 returns-in-Normal c =
     let (i, m, g) = c.in-Normal.ensures in
-    let whole : length (take c.args.len c.args.window.now) ≡ c.args.len = length-take-le c.args.len c.args.window.now c.requires.inside in
-    (omega (arith, whole, c.copy_outline-end.ensures.within), omega (arith, whole, c.requires.room), (i, m, c.copy_outline-end.ensures.text (identifier_text i) g))
+    let whole : length (take c.args.len c.args.window.now) ≡ c.args.len =
+    length-take-le c.args.len c.args.window.now c.requires.inside in (
+      omega (arith, whole, c.copy_outline-end.ensures.within),
+      omega (arith, whole, c.requires.room),
+      (i, m, c.copy_outline-end.ensures.text (identifier_text i) g),
+    )
