@@ -72,7 +72,7 @@ fn lead_of_found(window: &[u8], len: usize, block: Block<'_>) -> Option<Lead>
     None
 }
 
-// The same if the piece is `u`. Most keywords are refused whatever comes before.
+// What a piece `u` tells of a data locale. Most keywords are refused whatever comes before.
 #[inline(always)]
 fn lead_of_found_keyword(window: &[u8], len: usize, block: Block<'_>) -> Option<Lead>
     requires room { len + 16 ≤ length window.now }

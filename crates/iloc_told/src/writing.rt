@@ -72,7 +72,7 @@ fn write_outlined(
     }
 }
 
-// The same of an identifier.
+// Writes the normal text of an identifier.
 #[inline(never)]
 fn write_identifier(window: &[u8], len: usize, spans: &mut Spans, to: &mut [u8]) -> Written
     requires inside { len ≤ length window.now }
@@ -91,7 +91,7 @@ fn write_identifier(window: &[u8], len: usize, spans: &mut Spans, to: &mut [u8])
     }
 }
 
-// The same of a locale.
+// Writes the normal text of a locale.
 #[inline(never)]
 fn write_locale(window: &[u8], len: usize, spans: &mut Spans, to: &mut [u8]) -> Written
     requires inside { len ≤ length window.now }
