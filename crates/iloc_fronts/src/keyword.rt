@@ -82,7 +82,8 @@ fn keyword_of(window: &[u8], len: usize) -> Keyword
     Keyword::Other
 }
 
-// What the first `len` bytes are if two letters or digits come first, and then a hyphen. They are a key if the second is no digit.
+// What the first `len` bytes are if two letters or digits come first, and then a hyphen. They are a key if the second is
+// no digit.
 #[inline(always)]
 fn keyword_with_values(window: &[u8], len: usize) -> Keyword
     requires room { len + 16 ≤ length window.now }
