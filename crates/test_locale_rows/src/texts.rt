@@ -97,6 +97,7 @@ pub fn answer(what: &str, call: &Call<'_>, out: &mut String) {
         "toldshort" => at_once(out, normalize_short(alloc, text)),
         "toldid" => at_once(out, normalize_told(alloc, Mode::Langid, text)),
         "told" => at_once(out, normalize_told(alloc, Mode::Locale, text)),
+        "tolddata" => at_once(out, normalize_told(alloc, Mode::Data, text)),
         "small" => small(
             out,
             Locale::try_from_utf8_with_single_variant_single_keyword_unicode_extension(text),
