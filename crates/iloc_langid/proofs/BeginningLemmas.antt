@@ -1,6 +1,6 @@
 -- The language, the script and the region that pieces begin with.
 use Rattle.std.proofs.Common.{◌≡◌, ℕ, List, [], ◌∷◌, sym, ap, ◌∙◌, subst, option_map}
-use Rattle.iloc_spec_grammar.specs.Syntax.{Identifier, Language, IsWord, lower, title, upper, languages, head}
+use Rattle.iloc_spec_grammar.specs.Syntax.{Identifier, SpelledIdentifier, Language, IsWord, lower, title, upper, languages, head}
 use Rattle.iloc_spec_grammar.specs.Meaning.{IdentifierMeans}
 use Rattle.iloc_spec_grammar.specs.Reading.{front_of}
 use Rattle.iloc_spec_grammar.proofs.ReadingLaws.{front_of-pieces}
@@ -13,9 +13,9 @@ means_begins : (ps : List (List ℕ)) (i : Identifier) → IdentifierMeans langu
 means_begins ps i m =
     let is : front_of ps ≡ m.written =
     ap front_of m.spelled ∙ front_of-pieces m.written m.grammatical.words in
-    let language = sym (ap (λ (j : Identifier). j.language) is) ∙ (parts_are ps).0 in
-    let script = sym (ap (λ (j : Identifier). j.script) is) ∙ (parts_are ps).1 in
-    let region = sym (ap (λ (j : Identifier). j.region) is) ∙ (parts_are ps).2 in
+    let language = sym (ap (λ (j : SpelledIdentifier). j.language) is) ∙ (parts_are ps).0 in
+    let script = sym (ap (λ (j : SpelledIdentifier). j.script) is) ∙ (parts_are ps).1 in
+    let region = sym (ap (λ (j : SpelledIdentifier). j.region) is) ∙ (parts_are ps).2 in
     record {
       word = subst (IsWord (Language languages)) language m.grammatical.words.language;
       language = ap (λ (j : Identifier). j.language) m.means ∙ ap lower language;
