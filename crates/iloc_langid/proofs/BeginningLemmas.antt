@@ -1,6 +1,7 @@
 -- The language, the script and the region that pieces begin with.
 use Rattle.std.proofs.Common.{◌≡◌, ℕ, List, [], ◌∷◌, sym, ap, ◌∙◌, subst, option_map}
-use Rattle.iloc_spec_grammar.specs.Syntax.{Identifier, SpelledIdentifier, Language, IsWord, lower, title, upper, languages, head}
+use Rattle.iloc_spec_grammar.specs.Syntax.{Identifier, SpelledIdentifier, Language, IsWord, lower, title}
+use Rattle.iloc_spec_grammar.specs.Syntax.{upper, languages, head}
 use Rattle.iloc_spec_grammar.specs.Meaning.{IdentifierMeans}
 use Rattle.iloc_spec_grammar.specs.Reading.{front_of}
 use Rattle.iloc_spec_grammar.proofs.ReadingLaws.{front_of-pieces}
