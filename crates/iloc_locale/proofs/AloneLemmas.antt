@@ -36,6 +36,10 @@ use Rattle.iloc_spec_grammar.specs.Syntax.{
   Block,
   Fields,
   Identifier,
+  Spelled,
+  SpelledIdentifier,
+  SpelledTransform,
+  SpelledUnicode,
   Transform,
   Unicode,
   blocks,
@@ -58,6 +62,7 @@ use Rattle.iloc_spec_grammar.specs.Meaning.{
   Extensions,
   IdentifierMeans,
   Means,
+  SpelledExtensions,
   after,
   map_of,
   no_extensions,
@@ -135,32 +140,33 @@ no_words ws e =
     none_mapped lower ws
     (none_mapped (λ (w : List ℕ). (w, tt {0})) (map lower ws) (none_there word_cmp word_cmp_total _ entries))
 
-no_unicode_pieces : (u : Unicode) → no_unicode ≡ normal_unicode u → unicode_pieces u ≡ []
+no_unicode_pieces : (u : SpelledUnicode) → no_unicode ≡ normal_unicode u → unicode_pieces u ≡ []
 no_unicode_pieces u e =
     let attributes = no_words u.attributes (sym (ap (λ (v : Unicode). v.attributes) e)) in
     let keywords = no_normal_fields u.keywords (sym (ap (λ (v : Unicode). v.keywords) e)) in
     rw (attributes, keywords) refl
 
-no_transform_pieces : (m : Transform) → no_transform ≡ normal_transform m → transform_pieces m ≡ []
+no_transform_pieces : (m : SpelledTransform) → no_transform ≡ normal_transform m →
+    transform_pieces m ≡ []
 no_transform_pieces m e =
     from m.id m.fields (ap (λ (n : Transform). n.id) e)
     (no_normal_fields m.fields (sym (ap (λ (n : Transform). n.fields) e)))
   where
-    from : (o : Option Identifier) (fs : Fields)
+    from : (o : Option SpelledIdentifier) (fs : Fields)
         → ◌≡◌ {A = Option Identifier} None (option_map normal_identifier o) → fs ≡ []
-        → transform_pieces (record { id = o; fields = fs }) ≡ []
+        → transform_pieces {s = Spelled} (record { id = o; fields = fs }) ≡ []
     from None fs n k = ap fields_pieces k
     from (Some i) fs n k = absurd (cc)
 
 abbrev kept_of : Block → Block
 kept_of o = (o.0, kept o.1)
 
-no_others : (w : Extensions) → [] ≡ map_of nat_cmp (map kept_of w.others) → w.others ≡ []
+no_others : (w : SpelledExtensions) → [] ≡ map_of nat_cmp (map kept_of w.others) → w.others ≡ []
 no_others w e = none_mapped kept_of w.others (none_there nat_cmp nat_cmp_total _ (sym e))
 
 mean_none : (bs : List Block) → BlocksMean languages bs no_extensions → bs ≡ []
 mean_none bs (w, s, m) =
-    no_block bs s.blocks
+    no_block bs s.each_block
     (s.unicode.1 ∙ no_unicode_pieces w.unicode (ap (λ (e : Extensions). e.unicode) m))
     (s.transform.1 ∙ no_transform_pieces w.transform (ap (λ (e : Extensions). e.transform) m))
     (s.private.1 ∙ none_mapped lower w.private (sym (ap (λ (e : Extensions). e.private) m)))
