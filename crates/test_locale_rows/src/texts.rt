@@ -4,12 +4,14 @@ use iloc_keyword_types::SubdivisionId;
 use iloc_langid::{LanguageIdentifier, SmallLocaleParts, read_small_locale};
 use iloc_locale::Locale;
 use iloc_subtags::{Language, ParseError, Region, Script, Variant};
-use iloc_told::{Mode, normalize_short, normalize_told};
+use iloc_told::told::ROOM;
+use iloc_told::window::{WINDOW, tell_text};
+use iloc_told::{Mode, Told, normalize_short, normalize_told};
 use std::alloc::Global;
 use std::borrow::CowStr;
 use std::str;
 use test_page::told::lent;
-use test_page::{Call, printed, put, put_some, refuse, say};
+use test_page::{Call, bytes, printed, put, put_some, refuse, say};
 
 // Says a normal text, or why it was refused.
 fn normal(out: &mut String, text: Result<CowStr<'_, Global>, ParseError>) {
@@ -25,6 +27,16 @@ fn at_once(out: &mut String, told: Option<Result<CowStr<'_, Global>, ParseError>
     match told {
         Some(text) => normal(out, text),
         None => say(out, "not told"),
+    }
+}
+
+// Says the normal text of a data locale as it is written from its bytes.
+fn data_at_once(out: &mut String, text: &[u8]) {
+    let (mut window, mut room) = ([0u8; WINDOW], [0u8; ROOM]);
+    match tell_text(Mode::Data, text, &mut window, &mut room) {
+        Told::Normal(normal) => bytes(out, normal),
+        Told::Refused(error) => refuse(out, error),
+        Told::Nothing => say(out, "not told"),
     }
 }
 
@@ -97,7 +109,7 @@ pub fn answer(what: &str, call: &Call<'_>, out: &mut String) {
         "toldshort" => at_once(out, normalize_short(alloc, text)),
         "toldid" => at_once(out, normalize_told(alloc, Mode::Langid, text)),
         "told" => at_once(out, normalize_told(alloc, Mode::Locale, text)),
-        "tolddata" => at_once(out, normalize_told(alloc, Mode::Data, text)),
+        "tolddata" => data_at_once(out, text),
         "small" => small(
             out,
             Locale::try_from_utf8_with_single_variant_single_keyword_unicode_extension(text),
