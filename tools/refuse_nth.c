@@ -1,6 +1,7 @@
 /* Preloaded into a program, refuses one of its requests for memory, and counts them.
  *
  * REFUSE_REQUEST=N: the Nth request is refused (from 1 on; without it none is).
+ * REFUSE_FROM=N: the Nth request is refused, and each after it.
  * COUNT_REQUESTS=1: as the program ends, the number of its requests is written to standard error, as its last line.
  *
  * A program that looks for refuse_request among its own names may also say itself which request is refused next.
@@ -14,6 +15,7 @@
 
 static unsigned long requests;
 static unsigned long refused;
+static unsigned long refused_from;
 static int was_refused;
 
 static void *(*next_malloc)(size_t);
@@ -49,6 +51,8 @@ __attribute__((constructor)) static void look_up(void)
     is_begun = 1;
     const char *number = getenv("REFUSE_REQUEST");
     refused = number ? strtoul(number, NULL, 10) : 0;
+    number = getenv("REFUSE_FROM");
+    refused_from = number ? strtoul(number, NULL, 10) : 0;
     next_calloc = dlsym(RTLD_NEXT, "calloc");
     next_realloc = dlsym(RTLD_NEXT, "realloc");
     next_aligned_alloc = dlsym(RTLD_NEXT, "aligned_alloc");
@@ -60,7 +64,8 @@ __attribute__((constructor)) static void look_up(void)
 /* Counts a request, and tells whether it is refused. */
 static int is_refused(void)
 {
-    int is_it = __atomic_add_fetch(&requests, 1, __ATOMIC_SEQ_CST) == refused;
+    unsigned long now = __atomic_add_fetch(&requests, 1, __ATOMIC_SEQ_CST);
+    int is_it = now == refused || (refused_from && now >= refused_from);
     was_refused |= is_it;
     return is_it;
 }
