@@ -1,6 +1,6 @@
 //! What the arguments ask for.
 
-use iloc_listing::{Listing, Mode};
+use iloc_program::{Listing, Mode};
 use std::env::FillError;
 use std::rt::Env;
 use std::str;

@@ -3,7 +3,7 @@
 //! values that are read in place of others.
 //!
 //! `FailingSink` tells its text and counts its failures. The crate stands on the crates whose calls it makes, up to
-//! `iloc_listing`.
+//! `iloc_program`.
 #![tactic(auto)]
 
 pub mod failing;

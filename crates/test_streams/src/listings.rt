@@ -1,6 +1,6 @@
 //! Listings over readers and writers that come in single bytes, and that fail.
 use crate::runs::{lines_in, reader_of, writer_of};
-use iloc_listing::{Listing, Mode, RunError, run_listed};
+use iloc_program::{Listing, Mode, RunError, run_listed};
 use std::alloc::Global;
 
 // What is listed, the number of its first line, and what is written.

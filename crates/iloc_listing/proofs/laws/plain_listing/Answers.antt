@@ -1,5 +1,0 @@
-use Rattle.iloc_listing.proofs.OneListing.{plain_listing}
-use Rattle.iloc_listing.proofs.laws.plain_listing.Goals as goal
-
-pub returns : goal.returns
-returns c = plain_listing

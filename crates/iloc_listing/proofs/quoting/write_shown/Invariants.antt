@@ -1,8 +1,0 @@
-use Rattle.std.proofs.Common.{◌≡◌, ◌++◌, take}
-use Rattle.iloc_lines.specs.ReplyBlock.{held}
-use Rattle.iloc_listing.specs.Listing.{shown}
-use Rattle.iloc_listing.proofs.quoting.write_shown.Given as goal
-
--- the first bytes are there, as they are shown
-abbrev pub invariant-loop-byte : goal.invariant-loop-byte
-invariant-loop-byte l = held l.replies ≡ held l.fn.replies ++ shown (take l.byte-index l.text)

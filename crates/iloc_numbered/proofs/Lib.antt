@@ -1,3 +1,0 @@
-pub mod EntryLemmas
-pub mod FeedLemmas
-pub mod RunLemmas

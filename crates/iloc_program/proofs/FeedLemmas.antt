@@ -1,0 +1,105 @@
+-- A piece of an input, line by line.
+use Rattle.std.proofs.Common.{◌≡◌, ◌≢◌, ℕ, ◌+◌, ◌<◌, List, [], ◌∷◌, ◌++◌, length, refl, sym, ap, ◌∙◌, subst}
+use Rattle.std.proofs.Common.{arith, append_assoc, append-nil, length-append}
+use Rattle.std.specs.Prelude.{Result, Ok, Err, OnOk, IfOk}
+use Rattle.std.specs.List.{AllByRecursion}
+use Rattle.std.proofs.lemmas.List.Elements.{All-nil, All-append}
+use Rattle.iloc_lines.specs.Lines.{lines_of, ended, IsOneLine}
+use Rattle.iloc_lines.proofs.LineCuts.{lines_of-last}
+use Rattle.iloc_program.specs.Numbered.{AddsText, AreEntries}
+use Rattle.iloc_program.specs.Feeding.{Feeds, Ends}
+use Rattle.iloc_program.proofs.LineEntries.{AreEntries-append, AreEntries-one, ended-append}
+use Rattle.iloc_program.proofs.LineEntries.{AllByRecursion-append}
+
+module _ (IsEntry : ℕ → List ℕ → List ℕ → Type 0) (n : ℕ) (pending : List ℕ) (old : List ℕ) where
+  pub Feeds-nothing : IsOneLine pending → Feeds IsEntry n pending [] old old pending n
+  Feeds-nothing one = record {
+    lines = [];
+    added = [];
+    are_lines = tt;
+    one_line = one;
+    cut = append-nil pending;
+    are_entries = refl;
+    adds = sym (append-nil old);
+    counts = omega arith;
+  }
+
+  -- a line that ends
+  pub Feeds-line : (taken line mid new pending' pending2 : List ℕ) (next next2 : ℕ) →
+      Feeds IsEntry n pending taken old mid pending' next
+      → IsOneLine line → AddsText (IsEntry next (pending' ++ line)) mid new → next2 ≡ next + 1 → pending2 ≡ []
+      → Feeds IsEntry n pending (taken ++ (line ++ 10 ∷ [])) old new pending2 next2
+  Feeds-line taken line mid new pending' pending2 next next2 f one (entry, is, added) e none =
+      let whole = pending' ++ line in
+      let here : AreEntries IsEntry (n + length f.lines) (whole ∷ []) entry =
+      subst (λ (k : ℕ). AreEntries IsEntry k (whole ∷ []) entry) f.counts
+      (AreEntries-one IsEntry next whole entry is) in
+      record {
+        lines = f.lines ++ whole ∷ [];
+        added = f.added ++ entry;
+        are_lines = AllByRecursion-append IsOneLine f.lines (whole ∷ []) f.are_lines
+            (All-append (λ c. c ≢ 10) pending' line f.one_line one, tt);
+        one_line = subst IsOneLine (sym none) (All-nil (λ c. c ≢ 10));
+        cut = sym (append_assoc pending taken (line ++ 10 ∷ []))
+            ∙ ap (λ (t : List ℕ). t ++ (line ++ 10 ∷ [])) f.cut
+            ∙ regrouped (ended f.lines) pending' line
+            ∙ sym (ap (λ (t : List ℕ). ended (f.lines ++ whole ∷ []) ++ t) none
+            ∙ append-nil (ended (f.lines ++ whole ∷ [])) ∙ ended-append f.lines (whole ∷ []));
+        are_entries = AreEntries-append IsEntry n f.lines (whole ∷ []) f.added entry f.are_entries here;
+        adds = added ∙ ap (λ (t : List ℕ). t ++ entry) f.adds ∙ append_assoc old f.added entry;
+        counts = omega (arith, e, f.counts, length-append f.lines (whole ∷ []));
+      }
+    where
+      regrouped : (a b c : List ℕ) → (a ++ b) ++ (c ++ 10 ∷ []) ≡ a ++ (((b ++ c) ++ 10 ∷ []) ++ [])
+      regrouped a b c = rw (append-nil ((b ++ c) ++ 10 ∷ [])) (simp append_assoc)
+
+  -- what follows the last line that ends
+  pub Feeds-rest : (taken rest new pending' pending2 : List ℕ) (next : ℕ) →
+      Feeds IsEntry n pending taken old new pending' next
+      → IsOneLine rest → pending2 ≡ pending' ++ rest →
+      Feeds IsEntry n pending (taken ++ rest) old new pending2 next
+  Feeds-rest taken rest new pending' pending2 next f one e = record {
+    lines = f.lines;
+    added = f.added;
+    are_lines = f.are_lines;
+    one_line = subst IsOneLine (sym e) (All-append (λ c. c ≢ 10) pending' rest f.one_line one);
+    cut = sym (append_assoc pending taken rest) ∙ ap (λ (t : List ℕ). t ++ rest) f.cut
+        ∙ append_assoc (ended f.lines) pending' rest ∙ ap (λ (t : List ℕ). ended f.lines ++ t) (sym e);
+    are_entries = f.are_entries;
+    adds = f.adds;
+    counts = f.counts;
+  }
+
+-- the last line, if it is empty or not
+
+pub Ends-nothing : (IsEntry : ℕ → List ℕ → List ℕ → Type 0) (n : ℕ) (pending old : List ℕ) → pending ≡ [] →
+    Ends IsEntry n pending old old n
+Ends-nothing IsEntry n pending old none =
+    subst (λ (t : List ℕ). Ends IsEntry n t old old n) (sym none) (record {
+      added = [];
+      is_listing = refl;
+      adds = sym (append-nil old);
+      counts = omega arith;
+    })
+
+pub Ends-line : (IsEntry : ℕ → List ℕ → List ℕ → Type 0) (n : ℕ) (pending old new : List ℕ) (next : ℕ) →
+    IsOneLine pending → 0 < length pending
+    → AddsText (IsEntry n (pending ++ [])) old new → next ≡ n + 1 → Ends IsEntry n pending old new next
+Ends-line IsEntry n [] old new next one some a e = absurd (omega (arith, some))
+Ends-line IsEntry n (c ∷ pending) old new next one some (entry, is, added) e =
+    let line = c ∷ pending in
+    let cut : lines_of line ≡ line ∷ [] = lines_of-last c pending one in
+    let whole : IsEntry n line entry = subst (λ (t : List ℕ). IsEntry n t entry) (append-nil line) is in
+    record {
+      added = entry;
+      is_listing = subst (λ (ls : List (List ℕ)). AreEntries IsEntry n ls entry) (sym cut)
+          (AreEntries-one IsEntry n line entry whole);
+      adds = added;
+      counts = e ∙ ap (λ (ls : List (List ℕ)). n + length ls) (sym cut);
+    }
+
+-- two facts of a result
+pub if_ok_both : {T E : Type 0} (r : Result T E) (P : T → Type 0) (Q : Type 0) (R : T → Type 0) → IfOk r P →
+    OnOk r Q → ((x : T) → P x → Q → R x) → IfOk r R
+if_ok_both (Ok x) P Q R p q f = f x p q
+if_ok_both (Err e) P Q R p q f = tt

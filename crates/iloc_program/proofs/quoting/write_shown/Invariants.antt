@@ -1,0 +1,8 @@
+use Rattle.std.proofs.Common.{◌≡◌, ◌++◌, take}
+use Rattle.iloc_lines.specs.ReplyBlock.{held}
+use Rattle.iloc_program.specs.Listing.{shown}
+use Rattle.iloc_program.proofs.quoting.write_shown.Given as goal
+
+-- the first bytes are there, as they are shown
+abbrev pub invariant-loop-byte : goal.invariant-loop-byte
+invariant-loop-byte l = held l.replies ≡ held l.fn.replies ++ shown (take l.byte-index l.text)

@@ -1,0 +1,82 @@
+//! The lines of an input by their numbers, and what is written for each.
+//!
+//! It promises that what `run_numbered` writes is what its caller's `Lists` says of each line, one after the other, and
+//! that lines are numbered from the given number on (`specs/Numbered.antt`). What is written for one line, `entries` says.
+//! Memory is as long as the longest line and what is written for 64 KiB.
+ghost use Rattle.std.specs.Prelude.{ℕ, IfOk, OnOk, OnErr};
+ghost use Rattle.iloc_lines.specs.ReplyBlock.{held};
+ghost use Rattle.iloc_program.specs.Numbered.{AddsText, ListsAll, ListsBeginning};
+
+use crate::lines;
+use iloc_lines::{ReplyBlock, RunError};
+use std::alloc::{AllocError, Global};
+use std::io::{Read, Write};
+
+/// How lines are listed.
+#[derive(Clone, Copy, Debug, PartialEq, Eq)]
+pub struct Listing {
+    /// Whether a refusal is followed by the place of the fault.
+    pub places: bool,
+    /// Whether a refusal is preceded by the number of the line.
+    pub numbers: bool,
+    /// Whether accepted lines are left out.
+    pub only_refused: bool,
+}
+
+/// What is written for lines.
+pub trait Lists {
+    ghost use Rattle.iloc_spec_grammar.specs.Syntax.{Text};
+    ghost use Rattle.iloc_program.specs.declared.numbered.Listing.{Listing};
+
+    ghost is_entry: { Listing → ℕ → Text → Text → Type 0 };
+
+    /// Adds what is written for the line of that number.
+    fn list(
+        &mut self,
+        listing: Listing,
+        number: u64,
+        line: &[u8],
+        replies: &mut ReplyBlock,
+    ) -> Result<(), AllocError>
+        ensures { OnOk result (AddsText (is_entry listing number line.now)
+            (held replies.old) (held replies.new)) };
+}
+
+/// Writes what is written for each line of what the reader gives, up to its end, and returns the number of the next line.
+/// The first line has the given number. No call is made again after an error.
+pub fn run_numbered<L: Lists, R: Read, W: Write>(
+    alloc: Global,
+    lists: &mut L,
+    listing: Listing,
+    first: u64,
+    reader: &mut R,
+    writer: &mut W,
+) -> Result<u64, RunError>
+    ensures ok { IfOk result (ListsAll (L.is_entry listing) first
+        (R.remaining reader.old) (R.remaining reader.new)
+        (W.contents writer.old) (W.contents writer.new)) }
+    ensures err { OnErr result (ListsBeginning (L.is_entry listing) first
+        (R.remaining reader.old) (R.remaining reader.new)
+        (W.contents writer.old) (W.contents writer.new)) }
+{
+    let mut room = lines::new_block(alloc)?;
+    let block = room.as_mut_slice();
+    let mut pending = Vec::new(alloc);
+    let mut replies = ReplyBlock::new(alloc);
+    let mut number = first;
+    'reads: for _ in 0..u64::MAX {
+        replies.clear();
+        let Ok(count) = reader.read(block) else {
+            return Err(RunError::Read);
+        };
+        if count == 0 {
+            let next = lines::finish(lists, listing, number, &mut pending, &mut replies)?;
+            lines::write_whole(writer, replies.as_slice())?;
+            return Ok(next);
+        }
+        let (piece, _) = block.split_at(count);
+        number = lines::feed(lists, listing, number, &mut pending, piece, &mut replies)?;
+        lines::write_whole(writer, replies.as_slice())?;
+    }
+    Err(RunError::Read)
+}

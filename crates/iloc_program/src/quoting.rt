@@ -1,0 +1,54 @@
+//! Numbers, and texts as they are shown.
+ghost use Rattle.std.specs.Prelude.{◌≡◌, ◌<◌, ◌++◌, false, OnOk};
+ghost use Rattle.std.specs.Fmt.{decimal, digit_glyph};
+ghost use Rattle.iloc_lines.specs.ReplyBlock.{held};
+ghost use Rattle.iloc_program.specs.Listing.{shown, shown_byte};
+
+use iloc_lines::ReplyBlock;
+use std::alloc::{AllocError, Global};
+
+// Adds a number in decimal digits.
+pub(crate) fn write_decimal(
+    alloc: Global,
+    number: u64,
+    replies: &mut ReplyBlock,
+) -> Result<(), AllocError>
+    ensures { OnOk result (held replies.new ≡ held replies.old ++ decimal number) }
+{
+    let digits = number.to_string(alloc)?;
+    replies.extend_from_slice(digits.as_str().as_bytes())
+}
+
+// Adds a text as it is shown.
+pub(crate) fn write_shown(text: &[u8], replies: &mut ReplyBlock) -> Result<(), AllocError>
+    ensures { OnOk result (held replies.new ≡ held replies.old ++ shown text.now) }
+{
+    for byte in text {
+        write_shown_byte(*byte, replies)?;
+    }
+    Ok(())
+}
+
+// Adds a byte as it is shown.
+fn write_shown_byte(byte: u8, replies: &mut ReplyBlock) -> Result<(), AllocError>
+    ensures { OnOk result (held replies.new ≡ held replies.old ++ shown_byte byte) }
+{
+    match byte {
+        b'\t' => replies.extend_from_slice(b"\\t"),
+        b'\\' => replies.extend_from_slice(b"\\\\"),
+        b' '..=b'~' => replies.push(byte),
+        _ => replies.extend_from_slice(&[b'\\', b'x', digit(byte / 16), digit(byte % 16)]),
+    }
+}
+
+// The digit of a number below sixteen.
+fn digit(number: u8) -> u8
+    requires { number < 16 }
+    ensures { result ≡ digit_glyph false number }
+{
+    if number < 10 {
+        b'0' + number
+    } else {
+        b'a' + (number - 10)
+    }
+}
