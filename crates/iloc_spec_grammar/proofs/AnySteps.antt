@@ -4,7 +4,8 @@ use Rattle.std.proofs.Common.{sym, ap, ◌∙◌, subst, ◌==◌, le_of_eq, le_
 use Rattle.std.specs.Char.{to_ascii_lowercase}
 use Rattle.std.specs.List.{AllByRecursion}
 use Rattle.std.proofs.lemmas.Bool.{cases_Bool, cond_both, both_ways}
-use Rattle.iloc_spec_grammar.specs.Syntax.{pieces, join, lower, AreLengths, SpelledIdentifier, Identifier}
+use Rattle.iloc_spec_grammar.specs.Syntax.{LanguageLengths, Block, code_x, Text, pieces, join, lower}
+use Rattle.iloc_spec_grammar.specs.Syntax.{AreLengths, SpelledIdentifier, Identifier}
 use Rattle.iloc_spec_grammar.specs.Syntax.{identifier_pieces, lower_singleton, is_one_byte, front, blocks}
 use Rattle.iloc_spec_grammar.specs.Syntax.{head, tail_blocks}
 use Rattle.iloc_spec_grammar.specs.Meaning.{Locale, Means, IdentifierMeans, SpellsIdentifier}
@@ -37,57 +38,57 @@ use Rattle.iloc_spec_grammar.proofs.SameSteps.{identifier_step_by_tree}
 
 -- one step
 
-pub text_step_means : (T : ℕ → Bool) → AreLengths T → (t u : List ℕ) (M : Locale) → TextStep T t u →
+pub text_step_means : (T : LanguageLengths) → AreLengths T → (t u : Text) (M : Locale) → TextStep T t u →
     Means T t M → Means T u M
 text_step_means T table t u M s m =
     means_by_tree table u M (tree.text_step_means T table t u M (tree_step t u s) (tree_means t M m))
 
 -- texts that are equal without case mean the same
-pub case_means : (T : ℕ → Bool) → AreLengths T → (t u : List ℕ) (M : Locale) → lower t ≡ lower u →
+pub case_means : (T : LanguageLengths) → AreLengths T → (t u : Text) (M : Locale) → lower t ≡ lower u →
     Means T t M → Means T u M
 case_means T table t u M e m = text_step_means T table t u M (TextStep.letter_case e) m
 
-pub text_step_length : (T : ℕ → Bool) (t u : List ℕ) → TextStep T t u → length u ≤ length t
+pub text_step_length : (T : LanguageLengths) (t u : Text) → TextStep T t u → length u ≤ length t
 text_step_length T t u s = tree.text_step_length T t u (tree_step t u s)
 
 -- any number of steps
 
-pub chain_means : (T : ℕ → Bool) → AreLengths T → (n : ℕ) (t u : List ℕ) (M : Locale) →
+pub chain_means : (T : LanguageLengths) → AreLengths T → (n : ℕ) (t u : Text) (M : Locale) →
     Leads (TextStep T) n t u → Means T t M → Means T u M
-chain_means T table zero t u M c m = subst (λ (s : List ℕ). Means T s M) c m
-chain_means T table (suc n) t u M (inl e) m = subst (λ (s : List ℕ). Means T s M) e m
+chain_means T table zero t u M c m = subst (λ (s : Text). Means T s M) c m
+chain_means T table (suc n) t u M (inl e) m = subst (λ (s : Text). Means T s M) e m
 chain_means T table (suc n) t u M (inr c) m =
     chain_means T table n c.0 u M c.2 (text_step_means T table t c.0 M c.1 m)
 
-pub chain_length : (T : ℕ → Bool) (n : ℕ) (t u : List ℕ) → Leads (TextStep T) n t u → length u ≤ length t
+pub chain_length : (T : LanguageLengths) (n : ℕ) (t u : Text) → Leads (TextStep T) n t u → length u ≤ length t
 chain_length T zero t u e = le_of_eq (ap length (sym e))
 chain_length T (suc n) t u (inl e) = le_of_eq (ap length (sym e))
 chain_length T (suc n) t u (inr c) = le_trans (chain_length T n c.0 u c.2) (text_step_length T t c.0 c.1)
 
 -- blocks of a text have pieces of more than one byte, but for that of `x`
 
-front_long : (ps : List (List ℕ)) → AllByRecursion IsLong (front ps)
+front_long : (ps : List Text) → AllByRecursion IsLong (front ps)
 front_long [] = tt
 front_long (p ∷ ps) =
     cond_both (is_one_byte p) _ _ (AllByRecursion IsLong) (λ e. tt) (λ e. (e, front_long ps))
 
-abbrev IsLongBlock : ℕ × List (List ℕ) → Type 0
-IsLongBlock b = (lower_singleton b == 120) ≡ false → AllByRecursion IsLong b.1
+abbrev IsLongBlock : Block → Type 0
+IsLongBlock b = (lower_singleton b == code_x) ≡ false → AllByRecursion IsLong b.1
 
-blocks_long : (ps : List (List ℕ)) → AllByRecursion IsLongBlock (blocks ps)
+blocks_long : (ps : List Text) → AllByRecursion IsLongBlock (blocks ps)
 blocks_long [] = tt
 blocks_long ([] ∷ ps) = blocks_long ps
-blocks_long ((c ∷ []) ∷ ps) = cond_both (to_ascii_lowercase c == 120) _ _ (AllByRecursion IsLongBlock)
+blocks_long ((c ∷ []) ∷ ps) = cond_both (to_ascii_lowercase c == code_x) _ _ (AllByRecursion IsLongBlock)
     (λ e. (λ n. absurd (both_ways _ n e), tt)) (λ e. (λ n. front_long ps, blocks_long ps))
 blocks_long ((c ∷ d ∷ p) ∷ ps) = blocks_long ps
 
-tail_long : (ps : List (List ℕ)) → AllByRecursion IsLongBlock (tail_blocks ps)
+tail_long : (ps : List Text) → AllByRecursion IsLongBlock (tail_blocks ps)
 tail_long [] = tt
 tail_long (p ∷ ps) = blocks_long ps
 
-read_long : (bs : List (ℕ × List (List ℕ))) → AllByRecursion IsLongBlock bs → AreLong (extensions_in bs)
+read_long : (bs : List Block) → AllByRecursion IsLongBlock bs → AreLong (extensions_in bs)
 read_long [] h = tt
-read_long (b ∷ bs) h = elim (cases_Bool (lower_singleton b == 120)) [
+read_long (b ∷ bs) h = elim (cases_Bool (lower_singleton b == code_x)) [
   | inl t ↦ rw t tt
   | inr t ↦ rw t (
     subst (AllByRecursion IsLong) (sym (pieces-extension_of (lower_singleton b) b.1)) (h.0 t),
@@ -95,7 +96,7 @@ read_long (b ∷ bs) h = elim (cases_Bool (lower_singleton b == 120)) [
   )
 ]
 
-written_long : (ps : List (List ℕ)) → AreLong (written_of ps).extensions
+written_long : (ps : List Text) → AreLong (written_of ps).extensions
 unfolding written_of
 written_long ps = read_long (tail_blocks ps) (tail_long ps)
 
@@ -107,8 +108,8 @@ step_long (Step.inside r {es = es} {fs = fs} s z) h =
     (λ e f k l. extension_passes is_one_byte k.1 l) es fs z h
 
 -- steps of what a text spells lead from it, and one more to each text that differs in case
-walk : (T : ℕ → Bool) (n : ℕ) (t : List ℕ) (v w : Written) → IsWritten T v → pieces t ≡ spelling v →
-    AreLong v.extensions → Steps n v w → (u : List ℕ) → lower (join (spelling w)) ≡ lower u →
+walk : (T : LanguageLengths) (n : ℕ) (t : Text) (v w : Written) → IsWritten T v → pieces t ≡ spelling v →
+    AreLong v.extensions → Steps n v w → (u : Text) → lower (join (spelling w)) ≡ lower u →
     Leads (TextStep T) (suc n) t u
 walk T zero t v w h e l s u k =
     inr (u, TextStep.letter_case (ap lower (sym (join-pieces t) ∙ ap join (e ∙ ap spelling s)) ∙ k), refl)
@@ -122,7 +123,8 @@ walk T (suc n) t v w h e l s u k =
     )
 
 -- at most eight steps lead from each accepted text to the printed text of its meaning
-pub chain_to_text : (T : ℕ → Bool) (t : List ℕ) (M : Locale) → Means T t M → Leads (TextStep T) 8 t (text M)
+pub chain_to_text : (T : LanguageLengths) (t : Text) (M : Locale) → Means T t M →
+    Leads (TextStep T) 8 t (text M)
 chain_to_text T t M m =
     let w = written_of (pieces t) in
     let id : SpellsIdentifier T (head (pieces t)) = (m.id.written, m.id.grammatical, m.id.spelled) in
@@ -135,12 +137,12 @@ chain_to_text T t M m =
     (s.same ∙ ap (λ N. lower (tree_text N)) same ∙ ap lower (sym (text_is M)))
 
 -- no text of a meaning is shorter than the printed one
-pub shortest : (T : ℕ → Bool) (t : List ℕ) (M : Locale) → Means T t M → length (text M) ≤ length t
+pub shortest : (T : LanguageLengths) (t : Text) (M : Locale) → Means T t M → length (text M) ≤ length t
 shortest T t M m = chain_length T 8 t (text M) (chain_to_text T t M m)
 
 -- to one text
 
-pub texts_lead_to_one : (T : ℕ → Bool) → AreLengths T → (t u : List ℕ) (L M : Locale) → Means T t L →
+pub texts_lead_to_one : (T : LanguageLengths) → AreLengths T → (t u : Text) (L M : Locale) → Means T t L →
     Means T u M → (L ≡ M) ↔ LeadToOne (TextStep T) 8 t u
 texts_lead_to_one T table t u L M a b = (
   λ e. record {
@@ -152,7 +154,7 @@ texts_lead_to_one T table t u L M a b = (
       (chain_means T table 8 u l.end M l.second b),
 )
 
-pub any_steps_join : (T : ℕ → Bool) → AreLengths T → (t u : List ℕ) (L M : Locale) → Means T t L →
+pub any_steps_join : (T : LanguageLengths) → AreLengths T → (t u : Text) (L M : Locale) → Means T t L →
     Means T u M → (L ≡ M) ↔ ((n : ℕ) × LeadToOne (TextStep T) n t u)
 any_steps_join T table t u L M a b = (
   λ e. (8, (texts_lead_to_one T table t u L M a b).0 e),
@@ -162,21 +164,23 @@ any_steps_join T table t u L M a b = (
 
 -- identifiers
 
-pub identifier_step_means : (T : ℕ → Bool) (t u : List ℕ) (i : Identifier) → IdentifierTextStep T t u →
+pub identifier_step_means : (T : LanguageLengths) (t u : Text) (i : Identifier) → IdentifierTextStep T t u →
     IdentifierMeans T (pieces t) i → IdentifierMeans T (pieces u) i
 identifier_step_means T t u i s m = identifier_text_step_means T t u i (tree_identifier_step t u s) m
 
-pub identifier_step_length : (T : ℕ → Bool) (t u : List ℕ) → IdentifierTextStep T t u → length u ≡ length t
+pub identifier_step_length : (T : LanguageLengths) (t u : Text) → IdentifierTextStep T t u →
+    length u ≡ length t
 identifier_step_length T t u s = identifier_text_step_length T t u (tree_identifier_step t u s)
 
-pub identifier_chain_means : (T : ℕ → Bool) (n : ℕ) (t u : List ℕ) (i : Identifier) →
+pub identifier_chain_means : (T : LanguageLengths) (n : ℕ) (t u : Text) (i : Identifier) →
     Leads (IdentifierTextStep T) n t u → IdentifierMeans T (pieces t) i → IdentifierMeans T (pieces u) i
-identifier_chain_means T zero t u i c m = subst (λ (s : List ℕ). IdentifierMeans T (pieces s) i) c m
-identifier_chain_means T (suc n) t u i (inl e) m = subst (λ (s : List ℕ). IdentifierMeans T (pieces s) i) e m
+identifier_chain_means T zero t u i c m = subst (λ (s : Text). IdentifierMeans T (pieces s) i) c m
+identifier_chain_means T (suc n) t u i (inl e) m = subst (λ (s : Text). IdentifierMeans T (pieces s) i) e m
 identifier_chain_means T (suc n) t u i (inr c) m =
     identifier_chain_means T n c.0 u i c.2 (identifier_step_means T t c.0 i c.1 m)
 
-pub identifier_chain_length : (T : ℕ → Bool) (n : ℕ) (t u : List ℕ) → Leads (IdentifierTextStep T) n t u →
+pub identifier_chain_length : (T : LanguageLengths) (n : ℕ) (t u : Text) →
+    Leads (IdentifierTextStep T) n t u →
     length u ≡ length t
 identifier_chain_length T zero t u e = ap length (sym e)
 identifier_chain_length T (suc n) t u (inl e) = ap length (sym e)
@@ -184,7 +188,8 @@ identifier_chain_length T (suc n) t u (inr c) =
     identifier_chain_length T n c.0 u c.2 ∙ identifier_step_length T t c.0 c.1
 
 -- at most two steps lead to the normal text: the order of the variants, and the case of the letters
-pub identifier_chain_to_text : (T : ℕ → Bool) (t : List ℕ) (i : Identifier) → IdentifierMeans T (pieces t) i →
+pub identifier_chain_to_text : (T : LanguageLengths) (t : Text) (i : Identifier) →
+    IdentifierMeans T (pieces t) i →
     Leads (IdentifierTextStep T) 2 t (identifier_text i)
 unfolding identifier_text
 identifier_chain_to_text T t i m =
@@ -205,12 +210,13 @@ identifier_chain_to_text T t i m =
     )
 
 -- all texts of a meaning are as long as the normal one
-pub length-identifier_means : (T : ℕ → Bool) (t : List ℕ) (i : Identifier) → IdentifierMeans T (pieces t) i →
+pub length-identifier_means : (T : LanguageLengths) (t : Text) (i : Identifier) →
+    IdentifierMeans T (pieces t) i →
     length (identifier_text i) ≡ length t
 length-identifier_means T t i m =
     identifier_chain_length T 2 t (identifier_text i) (identifier_chain_to_text T t i m)
 
-pub identifiers_lead_to_one : (T : ℕ → Bool) (t u : List ℕ) (i j : Identifier) →
+pub identifiers_lead_to_one : (T : LanguageLengths) (t u : Text) (i j : Identifier) →
     IdentifierMeans T (pieces t) i → IdentifierMeans T (pieces u) j →
     (i ≡ j) ↔ LeadToOne (IdentifierTextStep T) 2 t u
 identifiers_lead_to_one T t u i j m n = (
@@ -224,7 +230,7 @@ identifiers_lead_to_one T t u i j m n = (
       (identifier_chain_means T 2 u l.end j l.second n),
 )
 
-pub any_identifier_steps_join : (T : ℕ → Bool) (t u : List ℕ) (i j : Identifier) →
+pub any_identifier_steps_join : (T : LanguageLengths) (t u : Text) (i j : Identifier) →
     IdentifierMeans T (pieces t) i → IdentifierMeans T (pieces u) j →
     (i ≡ j) ↔ ((n : ℕ) × LeadToOne (IdentifierTextStep T) n t u)
 any_identifier_steps_join T t u i j a b = (

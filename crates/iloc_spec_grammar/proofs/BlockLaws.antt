@@ -6,7 +6,8 @@ use Rattle.std.specs.List.{AllByRecursion, list_any}
 use Rattle.std.specs.Ordering.{nat_cmp, eq_by_cmp}
 use Rattle.std.specs.FinMap.{find}
 use Rattle.std.proofs.lemmas.Bool.{or_parts, false_from_ne_true}
-use Rattle.iloc_spec_grammar.specs.Syntax.{pieces, AreLengths, lower, Unicode, Transform, IsOther, kept}
+use Rattle.iloc_spec_grammar.specs.Syntax.{LanguageLengths, Block, code_x, code_u, code_t, Text, pieces}
+use Rattle.iloc_spec_grammar.specs.Syntax.{AreLengths, lower, Unicode, Transform, IsOther, kept}
 use Rattle.iloc_spec_grammar.specs.Syntax.{is_other_singleton, lower_singleton, AllDifferent, head}
 use Rattle.iloc_spec_grammar.specs.Syntax.{tail_blocks, IsPrivate}
 use Rattle.iloc_spec_grammar.specs.Tree.{Extension, unicode, transform, other, Written, extension_pieces}
@@ -34,7 +35,7 @@ or_else : {X : Type 0} → Option X → Option X → Option X
 or_else None p = p
 or_else (Some x) p = Some x
 
-find_block : (q : ℕ) (es : List (ℕ × Extension)) (x : Option (ℕ × List (List ℕ))) →
+find_block : (q : ℕ) (es : List (ℕ × Extension)) (x : Option Block) →
     find nat_cmp q (by_singleton (map extension_block es ++ option_to_list x))
     ≡ or_else (option_map extension_pieces (find nat_cmp q (by_singleton es)))
     (find nat_cmp q (by_singleton (option_to_list x)))
@@ -49,8 +50,8 @@ find_block q (e ∷ es) x =
     ≡ or_else (option_map extension_pieces (cond b (Some e.1) (find nat_cmp q (by_singleton es))))
     (find nat_cmp q (by_singleton (option_to_list x)))) [ true ↦ refl | false ↦ refl ]
 
-no_private : (q : ℕ) → q ≢ 120 → (x : Option (ℕ × List (List ℕ))) →
-    IfSome x (λ e. (lower_singleton e ≡ 120) × IsPrivate e.1) →
+no_private : (q : ℕ) → q ≢ code_x → (x : Option Block) →
+    IfSome x (λ e. (lower_singleton e ≡ code_x) × IsPrivate e.1) →
     find nat_cmp q (by_singleton (option_to_list x)) ≡ None
 no_private q n None h = refl
 no_private q n (Some b) h =
@@ -58,8 +59,8 @@ no_private q n (Some b) h =
 
 -- what is found gives its part
 
-unicode_by : (T : ℕ → Bool) (o : Option Extension) → IfSome o (IsExtension T 117) →
-    (p : Option (List (List ℕ))) → p ≡ None →
+unicode_by : (T : LanguageLengths) (o : Option Extension) → IfSome o (IsExtension T code_u) →
+    (p : Option (List Text)) → p ≡ None →
     PartIs UnicodeMeans no_unicode (or_else (option_map extension_pieces o) p) (unicode_part o)
 unfolding or_else
 unicode_by T None h p e = subst (λ p. PartIs UnicodeMeans no_unicode p no_unicode) (sym e) refl
@@ -68,8 +69,8 @@ unicode_by T (Some (unicode u)) h p e =
 unicode_by T (Some (transform m)) h p e = absurd (let k = h.0 in omega arith)
 unicode_by T (Some (other ps)) h p e = absurd (true≢false (sym h.0))
 
-transform_by : (T : ℕ → Bool) (o : Option Extension) → IfSome o (IsExtension T 116) →
-    (p : Option (List (List ℕ))) → p ≡ None →
+transform_by : (T : LanguageLengths) (o : Option Extension) → IfSome o (IsExtension T code_t) →
+    (p : Option (List Text)) → p ≡ None →
     PartIs (TransformMeans T) no_transform (or_else (option_map extension_pieces o) p) (transform_part o)
 unfolding or_else
 transform_by T None h p e = subst (λ p. PartIs (TransformMeans T) no_transform p no_transform) (sym e) refl
@@ -78,36 +79,37 @@ transform_by T (Some (transform m)) h p e =
 transform_by T (Some (unicode u)) h p e = absurd (let k = h.0 in omega arith)
 transform_by T (Some (other ps)) h p e = absurd (true≢false (sym h.0))
 
-private_by : (T : ℕ → Bool) (o : Option Extension) → IfSome o (IsExtension T 120) →
-    (x : Option (ℕ × List (List ℕ))) → IfSome x (λ e. (lower_singleton e ≡ 120) × IsPrivate e.1) →
+private_by : (T : LanguageLengths) (o : Option Extension) → IfSome o (IsExtension T code_x) →
+    (x : Option Block) → IfSome x (λ e. (lower_singleton e ≡ code_x) × IsPrivate e.1) →
     PartIs PrivateMeans []
-    (or_else (option_map extension_pieces o) (find nat_cmp 120 (by_singleton (option_to_list x))))
+    (or_else (option_map extension_pieces o) (find nat_cmp code_x (by_singleton (option_to_list x))))
     (private_part x)
 unfolding or_else
 private_by T None h None k = refl
 private_by T None h (Some b) k =
-    subst (λ (c : ℕ). PartIs PrivateMeans [] (cond (eq_by_cmp nat_cmp 120 c) (Some b.1) None) (map lower b.1))
+    subst
+    (λ (c : ℕ). PartIs PrivateMeans [] (cond (eq_by_cmp nat_cmp code_x c) (Some b.1) None) (map lower b.1))
     (sym k.0) (k.1, refl)
 private_by T (Some (other ps)) h x k = absurd (true≢false (sym h.0))
 private_by T _ h x k = absurd (let k = h.0 in omega arith)
 
 -- the others
 
-abbrev kept_of : ℕ × List (List ℕ) → ℕ × List (List ℕ)
+abbrev kept_of : Block → Block
 kept_of b = (b.0, kept b.1)
 
-abbrev pub KeepsWords : ℕ × List (List ℕ) → Type 0
+abbrev pub KeepsWords : Block → Type 0
 KeepsWords b = OtherMeans b.1 (kept b.1)
 
-no_others_private : (x : Option (ℕ × List (List ℕ))) →
-    IfSome x (λ e. (lower_singleton e ≡ 120) × IsPrivate e.1) →
+no_others_private : (x : Option Block) →
+    IfSome x (λ e. (lower_singleton e ≡ code_x) × IsPrivate e.1) →
     other_blocks (by_singleton (option_to_list x)) ≡ []
 no_others_private None h = refl
 no_others_private (Some b) h = ap (λ c. cond (is_other_singleton c) ((lower_singleton b, b.1) ∷ []) []) h.0
 
-others_by : (T : ℕ → Bool) (es : List (ℕ × Extension)) (x : Option (ℕ × List (List ℕ))) →
+others_by : (T : LanguageLengths) (es : List (ℕ × Extension)) (x : Option Block) →
     AllByRecursion (λ e. IsExtension T (lower_singleton e) e.1) es →
-    IfSome x (λ e. (lower_singleton e ≡ 120) × IsPrivate e.1) →
+    IfSome x (λ e. (lower_singleton e ≡ code_x) × IsPrivate e.1) →
     (filter_map other_part (by_singleton es)
     ≡ map kept_of (other_blocks (by_singleton (map extension_block es ++ option_to_list x))))
     × AllByRecursion KeepsWords (other_blocks (by_singleton (map extension_block es ++ option_to_list x)))
@@ -135,7 +137,7 @@ others_by T (e ∷ es) x h k = at_kind e.1 h.0 (others_by T es x h.1 k)
     at_kind (other ps) r rest =
         rw r.0 (ap (λ l. (lower_singleton e, kept ps) ∷ l) rest.0, ((r.1, refl), rest.1))
 
-pub blocks_give : (T : ℕ → Bool) (w : Written) → IsWritten T w →
+pub blocks_give : (T : LanguageLengths) (w : Written) → IsWritten T w →
     BlocksGive (grammar_rules T) (blocks_of w) (extensions_meaning w)
 blocks_give T w h =
     let o = others_by T w.extensions w.private h.extensions h.private in record {
@@ -143,24 +145,24 @@ blocks_give T w h =
           (block_rules T w.extensions w.private h.extensions h.private);
       different = different_by T w.extensions w.private h.extensions h.different h.private;
       unicode = subst (λ o. PartIs UnicodeMeans no_unicode o (extensions_meaning w).unicode)
-          (sym (find_block 117 w.extensions w.private))
-          (unicode_by T (find nat_cmp 117 (by_singleton w.extensions))
-          (find_holds (IsExtension T) 117 w.extensions h.extensions) _
-          (no_private 117 (λ e. absurd (omega arith)) w.private h.private));
+          (sym (find_block code_u w.extensions w.private))
+          (unicode_by T (find nat_cmp code_u (by_singleton w.extensions))
+          (find_holds (IsExtension T) code_u w.extensions h.extensions) _
+          (no_private code_u (λ e. absurd (omega arith)) w.private h.private));
       transform = subst (λ o. PartIs (TransformMeans T) no_transform o (extensions_meaning w).transform)
-          (sym (find_block 116 w.extensions w.private))
-          (transform_by T (find nat_cmp 116 (by_singleton w.extensions))
-          (find_holds (IsExtension T) 116 w.extensions h.extensions) _
-          (no_private 116 (λ e. absurd (omega arith)) w.private h.private));
+          (sym (find_block code_t w.extensions w.private))
+          (transform_by T (find nat_cmp code_t (by_singleton w.extensions))
+          (find_holds (IsExtension T) code_t w.extensions h.extensions) _
+          (no_private code_t (λ e. absurd (omega arith)) w.private h.private));
       private = subst (λ o. PartIs PrivateMeans [] o (extensions_meaning w).private)
-          (sym (find_block 120 w.extensions w.private))
-          (private_by T (find nat_cmp 120 (by_singleton w.extensions))
-          (find_holds (IsExtension T) 120 w.extensions h.extensions) w.private h.private);
+          (sym (find_block code_x w.extensions w.private))
+          (private_by T (find nat_cmp code_x (by_singleton w.extensions))
+          (find_holds (IsExtension T) code_x w.extensions h.extensions) w.private h.private);
       each_other = o.1;
       others = ap (map_of nat_cmp) o.0;
     }
 
-pub tree_by_blocks : (T : ℕ → Bool) → AreLengths T → (t : List ℕ) (M : Locale) → TreeMeans T t M →
+pub tree_by_blocks : (T : LanguageLengths) → AreLengths T → (t : Text) (M : Locale) → TreeMeans T t M →
     MeansByBlocks T t M
 tree_by_blocks T table t M m = subst (MeansByBlocks T t) (sym m.means) (record {
   id = record {
@@ -176,31 +178,32 @@ tree_by_blocks T table t M m = subst (MeansByBlocks T t) (sym m.means) (record {
 
 -- and back: each block follows its rule
 
-abbrev pub RuleAt : (ℕ → Bool) → ℕ → List (List ℕ) → Type 0
-RuleAt T q ps = ((q ≡ 120) × IsPrivate ps) ⊎ ((e : Extension) × IsExtension T q e × (ps ≡ extension_pieces e))
+abbrev pub RuleAt : (ℕ → Bool) → ℕ → List Text → Type 0
+RuleAt T q ps =
+    ((q ≡ code_x) × IsPrivate ps) ⊎ ((e : Extension) × IsExtension T q e × (ps ≡ extension_pieces e))
 
-find_later : (P : List (List ℕ) → Type 0) (q : ℕ) (b : ℕ × List (List ℕ)) (bs : List (ℕ × List (List ℕ))) →
+find_later : (P : List Text → Type 0) (q : ℕ) (b : Block) (bs : List Block) →
     list_any (eq_by_cmp nat_cmp (lower_singleton b)) (map (λ b. lower_singleton b) bs) ≡ false →
     IfSome (find nat_cmp q (by_singleton (b ∷ bs))) P → IfSome (find nat_cmp q (by_singleton bs)) P
 find_later P q b bs d h =
     (elim (eq_by_cmp nat_cmp q (lower_singleton b)) as (λ t. eq_by_cmp nat_cmp q (lower_singleton b) ≡ t →
     IfSome (cond t (Some b.1) (find nat_cmp q (by_singleton bs))) P →
     IfSome (find nat_cmp q (by_singleton bs)) P) [
-      | true ↦ λ t h. subst (λ (o : Option (List (List ℕ))). IfSome o P)
+      | true ↦ λ t h. subst (λ (o : Option (List Text)). IfSome o P)
           (sym (none_found bs
           (subst (λ (c : ℕ). list_any (eq_by_cmp nat_cmp c) (map (λ b. lower_singleton b) bs) ≡ false)
           (tied q (lower_singleton b) t) d))) tt
       | false ↦ λ t h. h
     ]) refl h
   where
-    none_found : (bs : List (ℕ × List (List ℕ))) →
+    none_found : (bs : List Block) →
         list_any (eq_by_cmp nat_cmp q) (map (λ b. lower_singleton b) bs) ≡ false →
         find nat_cmp q (by_singleton bs) ≡ None
     none_found [] d = refl
     none_found (b ∷ bs) d = let parts = or_parts _ _ d in
         ap (λ t. cond t (Some b.1) (find nat_cmp q (by_singleton bs))) parts.0 ∙ none_found bs parts.1
 
-each_block : (P : ℕ → List (List ℕ) → Type 0) (bs : List (ℕ × List (List ℕ))) →
+each_block : (P : ℕ → List Text → Type 0) (bs : List Block) →
     AllDifferent nat_cmp (map (λ b. lower_singleton b) bs) →
     ((q : ℕ) → IfSome (find nat_cmp q (by_singleton bs)) (P q)) →
     AllByRecursion (λ b. P (lower_singleton b) b.1) bs
@@ -213,28 +216,28 @@ each_block P (b ∷ bs) d f = (
 )
 
 -- only the rule of its singleton
-abbrev KnownAt : (ℕ → Bool) → ℕ → List (List ℕ) → Type 0
-KnownAt T q ps = (q ≡ 117 → RuleAt T q ps) × (q ≡ 116 → RuleAt T q ps) × (q ≡ 120 → RuleAt T q ps)
+abbrev KnownAt : (ℕ → Bool) → ℕ → List Text → Type 0
+KnownAt T q ps = (q ≡ code_u → RuleAt T q ps) × (q ≡ code_t → RuleAt T q ps) × (q ≡ code_x → RuleAt T q ps)
 
-part_rule : {X : Type 0} (T : ℕ → Bool) (q : ℕ) (R : List (List ℕ) → X → Type 0) →
-    ((ps : List (List ℕ)) (v : X) → R ps v → RuleAt T q ps) →
-    (empty : X) (o : Option (List (List ℕ))) (v : X) → PartIs R empty o v → IfSome o (RuleAt T q)
+part_rule : {X : Type 0} (T : LanguageLengths) (q : ℕ) (R : List Text → X → Type 0) →
+    ((ps : List Text) (v : X) → R ps v → RuleAt T q ps) →
+    (empty : X) (o : Option (List Text)) (v : X) → PartIs R empty o v → IfSome o (RuleAt T q)
 part_rule T q R f empty None v h = tt
 part_rule T q R f empty (Some ps) v h = f ps v h
 
-known : (T : ℕ → Bool) (q : ℕ) (f : ℕ → Option (List (List ℕ))) → IfSome (f 117) (RuleAt T 117) →
-    IfSome (f 116) (RuleAt T 116) → IfSome (f 120) (RuleAt T 120) → IfSome (f q) (KnownAt T q)
-known T q f u t x = both (f q) (at q 117 u) (at q 116 t) (at q 120 x)
+known : (T : LanguageLengths) (q : ℕ) (f : ℕ → Option (List Text)) → IfSome (f code_u) (RuleAt T code_u) →
+    IfSome (f code_t) (RuleAt T code_t) → IfSome (f code_x) (RuleAt T code_x) → IfSome (f q) (KnownAt T q)
+known T q f u t x = both (f q) (at q code_u u) (at q code_t t) (at q code_x x)
   where
     at : (q k : ℕ) → IfSome (f k) (RuleAt T k) → q ≡ k → IfSome (f q) (RuleAt T q)
     at q k h e = subst (λ (c : ℕ). IfSome (f c) (RuleAt T c)) (sym e) h
 
-    both : (o : Option (List (List ℕ))) → (q ≡ 117 → IfSome o (RuleAt T q)) →
-        (q ≡ 116 → IfSome o (RuleAt T q)) → (q ≡ 120 → IfSome o (RuleAt T q)) → IfSome o (KnownAt T q)
+    both : (o : Option (List Text)) → (q ≡ code_u → IfSome o (RuleAt T q)) →
+        (q ≡ code_t → IfSome o (RuleAt T q)) → (q ≡ code_x → IfSome o (RuleAt T q)) → IfSome o (KnownAt T q)
     both None a b c = tt
     both (Some ps) a b c = (a, b, c)
 
-others_each : (bs : List (ℕ × List (List ℕ))) → AllByRecursion KeepsWords (other_blocks (by_singleton bs)) →
+others_each : (bs : List Block) → AllByRecursion KeepsWords (other_blocks (by_singleton bs)) →
     AllByRecursion (λ b. is_other_singleton (lower_singleton b) ≡ true → IsOther b.1) bs
 others_each [] h = tt
 others_each (b ∷ bs) h =
@@ -246,24 +249,24 @@ others_each (b ∷ bs) h =
       | false ↦ λ t h. ((λ e. absurd (true≢false (sym e ∙ t))), others_each bs h)
     ]) refl h
 
-rule_of : (T : ℕ → Bool) (b : ℕ × List (List ℕ)) → KnownAt T (lower_singleton b) b.1 →
+rule_of : (T : LanguageLengths) (b : Block) → KnownAt T (lower_singleton b) b.1 →
     (is_other_singleton (lower_singleton b) ≡ true → IsOther b.1) → IsKind (lower_singleton b) → IsBlock T b
 rule_of T b k o (of_u e) = k.0 e
 rule_of T b k o (of_t e) = k.1 e
 rule_of T b k o (of_x e) = k.2 e
 rule_of T b k o (another e) = inr (other b.1, (e, o e), refl)
 
-pub blocks_good : (T : ℕ → Bool) (bs : List (ℕ × List (List ℕ))) (e : Extensions) →
+pub blocks_good : (T : LanguageLengths) (bs : List Block) (e : Extensions) →
     BlocksGive (grammar_rules T) bs e → AreGood T [] bs
 blocks_good T bs e m =
     let known_each =
     each_block (KnownAt T) bs m.different (λ q. known T q (λ q. find nat_cmp q (by_singleton bs))
-    (part_rule T 117 UnicodeMeans (λ ps v h. inr (unicode h.written, (refl, h.grammatical), h.spelled))
+    (part_rule T code_u UnicodeMeans (λ ps v h. inr (unicode h.written, (refl, h.grammatical), h.spelled))
     no_unicode _ e.unicode m.unicode)
-    (part_rule T 116 (TransformMeans T)
+    (part_rule T code_t (TransformMeans T)
     (λ ps v h. inr (transform h.written, (refl, h.grammatical), h.spelled)) no_transform _ e.transform
     m.transform)
-    (part_rule T 120 PrivateMeans (λ ps v h. inl (refl, h.0)) [] _ e.private m.private)) in
+    (part_rule T code_x PrivateMeans (λ ps v h. inl (refl, h.0)) [] _ e.private m.private)) in
     let rules = all_both _ _ bs m.letters (all_both _ _ bs known_each (others_each bs m.each_other)) in
     good_from T [] bs
     (all_weaker _ (λ b. HasSingleton b × IsBlock T b)
@@ -272,26 +275,26 @@ blocks_good T bs e m =
 
 -- one value
 
-one_part : {X : Type 0} (R : List (List ℕ) → X → Type 0) →
-    ((ps : List (List ℕ)) (u v : X) → R ps u → R ps v → u ≡ v) →
-    (empty : X) (o : Option (List (List ℕ))) (u v : X) → PartIs R empty o u → PartIs R empty o v → u ≡ v
+one_part : {X : Type 0} (R : List Text → X → Type 0) →
+    ((ps : List Text) (u v : X) → R ps u → R ps v → u ≡ v) →
+    (empty : X) (o : Option (List Text)) (u v : X) → PartIs R empty o u → PartIs R empty o v → u ≡ v
 one_part R f empty None u v a b = a ∙ sym b
 one_part R f empty (Some ps) u v a b = f ps u v a b
 
-one_unicode : (ps : List (List ℕ)) (u v : Unicode) → UnicodeMeans ps u → UnicodeMeans ps v → u ≡ v
+one_unicode : (ps : List Text) (u v : Unicode) → UnicodeMeans ps u → UnicodeMeans ps v → u ≡ v
 one_unicode ps u v a b = a.means
     ∙ ap normal_unicode (sym (unicode_of-pieces a.written a.grammatical)
     ∙ ap unicode_of (sym a.spelled ∙ b.spelled) ∙ unicode_of-pieces b.written b.grammatical)
     ∙ sym b.means
 
-one_transform : (T : ℕ → Bool) (ps : List (List ℕ)) (m n : Transform) → TransformMeans T ps m →
+one_transform : (T : LanguageLengths) (ps : List Text) (m n : Transform) → TransformMeans T ps m →
     TransformMeans T ps n → m ≡ n
 one_transform T ps m n a b = a.means
     ∙ ap normal_transform (sym (transform_of-pieces a.written a.grammatical)
     ∙ ap transform_of (sym a.spelled ∙ b.spelled) ∙ transform_of-pieces b.written b.grammatical)
     ∙ sym b.means
 
-pub one_extensions : (T : ℕ → Bool) (bs : List (ℕ × List (List ℕ))) (d e : Extensions) →
+pub one_extensions : (T : LanguageLengths) (bs : List Block) (d e : Extensions) →
     BlocksGive (grammar_rules T) bs d → BlocksGive (grammar_rules T) bs e → d ≡ e
 one_extensions T bs d e a b = λ i. record {
   unicode = one_part UnicodeMeans one_unicode no_unicode _ d.unicode e.unicode a.unicode b.unicode i;
@@ -302,7 +305,8 @@ one_extensions T bs d e a b = λ i. record {
   others = (a.others ∙ sym b.others) i;
 }
 
-pub one_by_blocks : (T : ℕ → Bool) (t : List ℕ) (L M : Locale) → MeansByBlocks T t L → MeansByBlocks T t M →
+pub one_by_blocks : (T : LanguageLengths) (t : Text) (L M : Locale) → MeansByBlocks T t L →
+    MeansByBlocks T t M →
     L ≡ M
 one_by_blocks T t L M a b = λ i. record {
   id = one_meaning (head (pieces t)) L.id M.id a.id b.id i;
@@ -311,7 +315,7 @@ one_by_blocks T t L M a b = λ i. record {
 }
 
 -- good blocks after an identifier give what is read of them
-pub read_by_blocks : (T : ℕ → Bool) (t : List ℕ) → SpellsIdentifier T (head (pieces t)) →
+pub read_by_blocks : (T : LanguageLengths) (t : Text) → SpellsIdentifier T (head (pieces t)) →
     AreGood T [] (tail_blocks (pieces t)) → MeansByBlocks T t (meaning (written_of (pieces t)))
 read_by_blocks T t s g =
     let w = written_of (pieces t) in let h = good_written T t s g in record {
@@ -325,7 +329,7 @@ read_by_blocks T t s g =
           (blocks_read (pieces t)) (blocks_give T w h);
     }
 
-pub blocks_tree : (T : ℕ → Bool) (t : List ℕ) (M : Locale) → MeansByBlocks T t M → TreeMeans T t M
+pub blocks_tree : (T : LanguageLengths) (t : Text) (M : Locale) → MeansByBlocks T t M → TreeMeans T t M
 blocks_tree T t M m =
     let s : SpellsIdentifier T (head (pieces t)) = (m.id.written, m.id.grammatical, m.id.spelled) in
     let g = blocks_good T (tail_blocks (pieces t)) M.extensions m.extensions in

@@ -4,7 +4,8 @@ use Rattle.std.proofs.Common.{refl, sym, ap, ◌∙◌, subst, arith, Option, So
 use Rattle.std.specs.Prelude.{codes}
 use Rattle.std.specs.List.{AllByRecursion, AllZip}
 use Rattle.std.specs.FinMap.{is_sorted}
-use Rattle.iloc_spec_grammar.specs.Syntax.{Subtag, is_word, lower, upper, title, word_cmp, is_true}
+use Rattle.iloc_spec_grammar.specs.Syntax.{LanguageLengths, Field, Text, Subtag, is_word, lower, upper, title}
+use Rattle.iloc_spec_grammar.specs.Syntax.{word_cmp, is_true}
 use Rattle.iloc_spec_grammar.specs.Syntax.{SpelledIdentifier, Fields, kept, IsIdentifier, IsField}
 use Rattle.iloc_spec_grammar.specs.Syntax.{AllDifferent}
 use Rattle.iloc_spec_grammar.specs.Tree.{Extension, unicode, transform, other, IsExtension, spelled_transform}
@@ -30,18 +31,18 @@ use Rattle.std.proofs.lemmas.Bool.{not-true, cond_both}
 
 -- the parts of an extension, brought into order
 
-abbrev pub no_trues : List (List ℕ) → List (List ℕ)
+abbrev pub no_trues : List Text → List Text
 no_trues ps = filter (λ p. not (is_true (lower p))) ps
 
-abbrev pub or_first : List (List ℕ) → List (List ℕ) → List (List ℕ)
+abbrev pub or_first : List Text → List Text → List Text
 or_first [] [] = []
 or_first [] (p ∷ ps) = p ∷ []
 or_first (q ∷ qs) ps = q ∷ qs
 
-abbrev pub keep_one : List (List ℕ) → List (List ℕ)
+abbrev pub keep_one : List Text → List Text
 keep_one ps = or_first (no_trues ps) ps
 
-abbrev pub sort_words : List (List ℕ) → List (List ℕ)
+abbrev pub sort_words : List Text → List Text
 sort_words ws = sort word_cmp lower ws
 
 abbrev pub sort_fields : Fields → Fields
@@ -88,35 +89,35 @@ with_sorted_fields (other ps) = other ps
 
 pub repeats_step : (e : Extension) → ExtensionStep Repeats e (without_repeats e)
 repeats_step (unicode u) = ExtensionStep.unicode_repeats (without-dedup (λ a. a) [] u.attributes)
-    (without-dedup (λ (f : List ℕ × List (List ℕ)). f.0) [] u.keywords)
+    (without-dedup (λ (f : Field). f.0) [] u.keywords)
 repeats_step (transform m) =
-    ExtensionStep.transform_repeats (without-dedup (λ (f : List ℕ × List (List ℕ)). f.0) [] m.fields)
+    ExtensionStep.transform_repeats (without-dedup (λ (f : Field). f.0) [] m.fields)
 repeats_step (other ps) = ExtensionStep.same
 
 -- the values of a field where one stays
-record Kept (ps qs : List (List ℕ)) : Type 0 where
+record Kept (ps qs : List Text) : Type 0 where
   less : TreeWithout (λ p. is_true (lower p)) ps qs
   positive : 0 < length qs
   value : spelled_value (normal_values qs) ≡ low qs
 
-no_true_means : (qs : List (List ℕ)) → AllByRecursion (λ q. is_true (lower q) ≡ false) qs →
+no_true_means : (qs : List Text) → AllByRecursion (λ q. is_true (lower q) ≡ false) qs →
     normal_values qs ≡ low qs
 no_true_means [] h = refl
 no_true_means (q ∷ qs) h = ap (λ b. cond (not b) (lower q ∷ normal_values qs) (normal_values qs)) h.0
     ∙ ap (λ l. lower q ∷ l) (no_true_means qs h.1)
 
-none_true : (ps : List (List ℕ)) → AllByRecursion (λ q. is_true (lower q) ≡ false) (no_trues ps)
+none_true : (ps : List Text) → AllByRecursion (λ q. is_true (lower q) ≡ false) (no_trues ps)
 none_true ps = all_weaker (λ q. not (is_true (lower q)) ≡ true) (λ q. is_true (lower q) ≡ false)
     (λ q e. not-true _ e) (no_trues ps) (filter-passes (λ q. not (is_true (lower q))) ps)
 
-true_word : (w : List ℕ) → is_true w ≡ true → codes "true" ≡ w
+true_word : (w : Text) → is_true w ≡ true → codes "true" ≡ w
 unfolding is_true
 true_word w h = same_words (codes "true") w ((Equal-is _).0 h)
 
-kept_one : (p : List ℕ) (ps : List (List ℕ)) → Kept (p ∷ ps) (keep_one (p ∷ ps))
+kept_one : (p : Text) (ps : List Text) → Kept (p ∷ ps) (keep_one (p ∷ ps))
 kept_one p ps = at_rest (no_trues (p ∷ ps)) refl (none_true (p ∷ ps))
   where
-    at_rest : (qs : List (List ℕ)) → no_trues (p ∷ ps) ≡ qs →
+    at_rest : (qs : List Text) → no_trues (p ∷ ps) ≡ qs →
         AllByRecursion (λ q. is_true (lower q) ≡ false) qs → Kept (p ∷ ps) (or_first qs (p ∷ ps))
     at_rest (q ∷ qs) e n = record {
       less = subst (TreeWithout (λ p. is_true (lower p)) (p ∷ ps)) e
@@ -137,7 +138,7 @@ kept_one p ps = at_rest (no_trues (p ∷ ps)) refl (none_true (p ∷ ps))
           | false ↦ λ t e. cc
         ]) refl e
 
-kept_some : (ps : List (List ℕ)) → 0 < length ps → Kept ps (keep_one ps)
+kept_some : (ps : List Text) → 0 < length ps → Kept ps (keep_one ps)
 kept_some [] h = absurd (omega arith)
 kept_some (p ∷ ps) h = kept_one p ps
 
@@ -150,13 +151,13 @@ trues_transform : (fs : Fields) → AllByRecursion IsField fs →
 trues_transform = zip_map (λ f g. TreeLessTrue f g × (0 < length g.1)) IsField (λ f. (f.0, keep_one f.1))
     (λ f h. let k = kept_some f.1 h.2 in ((refl, k.less), k.positive))
 
-pub trues_step : (T : ℕ → Bool) (c : ℕ) (e : Extension) → IsExtension T c e →
+pub trues_step : (T : LanguageLengths) (c : ℕ) (e : Extension) → IsExtension T c e →
     ExtensionStep Trues e (without_trues e)
 trues_step T c (unicode u) h = ExtensionStep.unicode_trues (trues_unicode u.keywords)
 trues_step T c (transform m) h = ExtensionStep.transform_trues (trues_transform m.fields h.1.fields)
 trues_step T c (other ps) h = ExtensionStep.same
 
-without_others : (keep : List ℕ → Bool) (ps : List (List ℕ)) →
+without_others : (keep : Text → Bool) (ps : List Text) →
     TreeWithout (λ p. not (keep p)) ps (filter keep ps)
 without_others keep [] = TreeWithout.none
 without_others keep (p ∷ ps) = cond_both (keep p) _ _ (TreeWithout (λ p. not (keep p)) (p ∷ ps))
@@ -191,20 +192,20 @@ KeysDiffer (other ps) = Unit {0}
 
 pub field_order_step : (e : Extension) → KeysDiffer e → ExtensionStep FieldOrder e (with_sorted_fields e)
 field_order_step (unicode u) d = ExtensionStep.keyword_order d
-    (reordered-sort word_cmp (λ (f : List ℕ × List (List ℕ)). lower f.0) u.keywords)
+    (reordered-sort word_cmp (λ (f : Field). lower f.0) u.keywords)
 field_order_step (transform m) d =
-    ExtensionStep.field_order d (reordered-sort word_cmp (λ (f : List ℕ × List (List ℕ)). lower f.0) m.fields)
+    ExtensionStep.field_order d (reordered-sort word_cmp (λ (f : Field). lower f.0) m.fields)
 field_order_step (other ps) d = ExtensionStep.same
 
 pub keys_differ_then : (e : Extension) →
     KeysDiffer
     (with_sorted_attributes (with_sorted_variants (without_dropped (without_trues (without_repeats e)))))
 keys_differ_then (unicode u) = subst (AllDifferent word_cmp)
-    (sym (map-map (λ (f : List ℕ × List (List ℕ)). lower f.0) (λ f. (f.0, no_trues f.1))
-    (dedup (λ f. f.0) [] u.keywords))) (different-dedup (λ (f : List ℕ × List (List ℕ)). f.0) [] u.keywords)
+    (sym (map-map (λ (f : Field). lower f.0) (λ f. (f.0, no_trues f.1))
+    (dedup (λ f. f.0) [] u.keywords))) (different-dedup (λ (f : Field). f.0) [] u.keywords)
 keys_differ_then (transform m) = subst (AllDifferent word_cmp)
-    (sym (map-map (λ (f : List ℕ × List (List ℕ)). lower f.0) (λ f. (f.0, keep_one f.1))
-    (dedup (λ f. f.0) [] m.fields))) (different-dedup (λ (f : List ℕ × List (List ℕ)). f.0) [] m.fields)
+    (sym (map-map (λ (f : Field). lower f.0) (λ f. (f.0, keep_one f.1))
+    (dedup (λ f. f.0) [] m.fields))) (different-dedup (λ (f : Field). f.0) [] m.fields)
 keys_differ_then (other ps) = tt
 
 -- what an extension in order means is its lower case
@@ -214,22 +215,22 @@ IsCanonical (unicode u) = unicode (spelled_unicode (normal_unicode u)) ≡ low_e
 IsCanonical (transform m) = transform (spelled_transform (normal_transform m)) ≡ low_extension (transform m)
 IsCanonical (other ps) = kept ps ≡ low ps
 
-sorted_set : (ws : List (List ℕ)) → AllDifferent word_cmp (map lower ws) →
+sorted_set : (ws : List Text) → AllDifferent word_cmp (map lower ws) →
     set_of (low (sort_words ws)) ≡ low (sort_words ws)
 sorted_set ws d = set_of_ascending (low (sort_words ws))
-    (ascend_as_keys _ (ap (is_sorted word_cmp) (map-map {B = List ℕ} (λ w. (w, tt {0})) lower (sort_words ws))
+    (ascend_as_keys _ (ap (is_sorted word_cmp) (map-map {B = Text} (λ w. (w, tt {0})) lower (sort_words ws))
     ∙ sorted-sort word_cmp lower word_cmp_total (λ w. tt {0}) ws d))
 
 no_true_entries : (fs : Fields) →
     AllByRecursion (λ f. AllByRecursion (λ q. is_true (lower q) ≡ false) f.1) fs →
-    map {B = List ℕ × List (List ℕ)} (λ f. (lower f.0, normal_values f.1)) fs ≡ low_fields fs
+    map {B = Field} (λ f. (lower f.0, normal_values f.1)) fs ≡ low_fields fs
 no_true_entries fs h = map-same (λ f. (lower f.0, normal_values f.1)) (λ f. (lower f.0, low f.1)) fs
     (all_weaker (λ f. AllByRecursion (λ q. is_true (lower q) ≡ false) f.1)
     (λ f. (lower f.0, normal_values f.1) ≡ (lower f.0, low f.1)) (λ f n i. (lower f.0, no_true_means f.1 n i))
     fs h)
 
 none_true_fields : (fs : Fields) →
-    AllByRecursion (λ (f : List ℕ × List (List ℕ)). AllByRecursion (λ q. is_true (lower q) ≡ false) f.1)
+    AllByRecursion (λ (f : Field). AllByRecursion (λ q. is_true (lower q) ≡ false) f.1)
     (map (λ f. (f.0, no_trues f.1)) fs)
 none_true_fields fs = all_mapped (λ f. Unit {0}) (λ f. AllByRecursion (λ q. is_true (lower q) ≡ false) f.1)
     (λ f. (f.0, no_trues f.1)) (λ f _. none_true f.1) fs (all_of _ (λ f. tt) fs)
@@ -239,12 +240,12 @@ canonical_keywords : (fs : Fields) → keys_differ fs →
     normal_fields (sort_fields fs) ≡ low_fields (sort_fields fs)
 canonical_keywords fs d n =
     map_of_sorted word_cmp (map (λ f. (lower f.0, normal_values f.1)) (sort_fields fs)) (sorted-sort word_cmp
-    (λ (f : List ℕ × List (List ℕ)). lower f.0) word_cmp_total (λ f. normal_values f.1) fs d)
+    (λ (f : Field). lower f.0) word_cmp_total (λ f. normal_values f.1) fs d)
     ∙ no_true_entries (sort_fields fs)
     (all_reordered (λ f. AllByRecursion (λ q. is_true (lower q) ≡ false) f.1)
-    (reordered-sort word_cmp (λ (f : List ℕ × List (List ℕ)). lower f.0) fs) n)
+    (reordered-sort word_cmp (λ (f : Field). lower f.0) fs) n)
 
-abbrev IsSpelled : List ℕ × List (List ℕ) → Type 0
+abbrev IsSpelled : Field → Type 0
 IsSpelled f = spelled_value (normal_values f.1) ≡ low f.1
 
 spelled_entries : (fs : Fields) → AllByRecursion IsSpelled fs →
@@ -257,9 +258,9 @@ canonical_fields : (fs : Fields) → keys_differ fs → AllByRecursion IsSpelled
 canonical_fields fs d n =
     ap spelled_fields
     (map_of_sorted word_cmp (map (λ f. (lower f.0, normal_values f.1)) (sort_fields fs)) (sorted-sort word_cmp
-    (λ (f : List ℕ × List (List ℕ)). lower f.0) word_cmp_total (λ f. normal_values f.1) fs d))
+    (λ (f : Field). lower f.0) word_cmp_total (λ f. normal_values f.1) fs d))
     ∙ spelled_entries (sort_fields fs)
-    (all_reordered IsSpelled (reordered-sort word_cmp (λ (f : List ℕ × List (List ℕ)). lower f.0) fs) n)
+    (all_reordered IsSpelled (reordered-sort word_cmp (λ (f : Field). lower f.0) fs) n)
 
 spelled_kept : (fs : Fields) → AllByRecursion IsField fs →
     AllByRecursion IsSpelled (map (λ f. (f.0, keep_one f.1)) fs)
@@ -272,20 +273,20 @@ canonical_identifier i d = same_identifier _ _ _ _ _ _ _ _ (lower-lower i.langua
     (option_map-then lower upper lower lower-upper i.region)
     (ap low (sorted_set i.variants d) ∙ lower_twice (sort_words i.variants))
 
-canonical_optional : (T : ℕ → Bool) (o : Option SpelledIdentifier) → IfSome o (IsIdentifier T) →
+canonical_optional : (T : LanguageLengths) (o : Option SpelledIdentifier) → IfSome o (IsIdentifier T) →
     option_map lower_identifier (option_map normal_identifier (option_map sort_identifier o))
     ≡ option_map lower_identifier (option_map sort_identifier o)
 canonical_optional T None h = refl
 canonical_optional T (Some i) h = ap Some (canonical_identifier i h.different)
 
-pub canonical : (T : ℕ → Bool) (c : ℕ) (e : Extension) → IsExtension T c e →
+pub canonical : (T : LanguageLengths) (c : ℕ) (e : Extension) → IsExtension T c e →
     IsCanonical (with_sorted_fields
     (with_sorted_attributes (with_sorted_variants (without_dropped (without_trues (without_repeats e))))))
 canonical T c (unicode u) h =
-    let ds : List (List ℕ) = dedup (λ a. a) [] u.attributes in
+    let ds : List Text = dedup (λ a. a) [] u.attributes in
     let ks : Fields = map (λ f. (f.0, no_trues f.1)) (dedup (λ f. f.0) [] u.keywords) in
     λ i. unicode (record {
-      attributes = sorted_set ds (different-dedup (λ (a : List ℕ). a) [] u.attributes) i;
+      attributes = sorted_set ds (different-dedup (λ (a : Text). a) [] u.attributes) i;
       keywords = canonical_keywords ks (keys_differ_then (unicode u))
           (none_true_fields (dedup (λ f. f.0) [] u.keywords)) i;
     })
@@ -296,7 +297,7 @@ canonical T c (transform m) h =
       id = canonical_optional T m.id h.1.id i;
       fields = canonical_fields ks (keys_differ_then (transform m))
           (spelled_kept ds (all_repeats IsField (λ f. f.0)
-          (without-dedup (λ (f : List ℕ × List (List ℕ)). f.0) [] m.fields) h.1.fields)) i;
+          (without-dedup (λ (f : Field). f.0) [] m.fields) h.1.fields)) i;
     })
 canonical T c (other ps) h =
     ap low (filter_all (is_word Subtag) (filter (is_word Subtag) ps) (filter-passes (is_word Subtag) ps))

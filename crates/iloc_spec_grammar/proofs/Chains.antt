@@ -12,7 +12,8 @@ use Rattle.std.specs.FinMap.Entries.{same_entries}
 use Rattle.std.proofs.lemmas.Bool.{cases_eq, lt-ltb}
 use Rattle.std.proofs.lemmas.List.{map-append, length-map}
 use Rattle.std.proofs.lemmas.Str.Ascii.{lowercase-lowercase}
-use Rattle.iloc_spec_grammar.specs.Syntax.{join, lower, SpelledIdentifier, SpelledUnicode, SpelledTransform}
+use Rattle.iloc_spec_grammar.specs.Syntax.{LanguageLengths, Block, code_x, code_u, code_t, Text, join, lower}
+use Rattle.iloc_spec_grammar.specs.Syntax.{SpelledIdentifier, SpelledUnicode, SpelledTransform}
 use Rattle.iloc_spec_grammar.specs.Syntax.{Identifier, Fields, identifier_pieces, optional_pieces}
 use Rattle.iloc_spec_grammar.specs.Syntax.{fields_pieces, kept, lower_singleton, AllDifferent, IsPrivate}
 use Rattle.iloc_spec_grammar.specs.Tree.{Extension, unicode, transform, other, Written, extension_pieces}
@@ -61,7 +62,7 @@ extension_pieces-low (transform m) = (λ k. id_pieces-low m.id k ++ fields_piece
     ∙ sym (map-append lower (optional_pieces m.id) (fields_pieces m.fields))
 extension_pieces-low (other ps) = refl
 
-blocks-low : (bs : List (ℕ × List (List ℕ))) →
+blocks-low : (bs : List Block) →
     flat_map block_pieces (map low_block bs) ≡ low (flat_map block_pieces bs)
 unfolding lower
 blocks-low [] = refl
@@ -82,7 +83,7 @@ spelling-low w = (λ k. identifier_pieces-low w.id k
     ∙ ap (λ l. low (identifier_pieces w.id) ++ l) (blocks-low (blocks_of w))
     ∙ sym (map-append lower (identifier_pieces w.id) (flat_map block_pieces (blocks_of w)))
 
-pub lower-join : (ps : List (List ℕ)) → lower (join ps) ≡ join (low ps)
+pub lower-join : (ps : List Text) → lower (join ps) ≡ join (low ps)
 unfolding join lower
 lower-join [] = refl
 lower-join (p ∷ []) = refl
@@ -128,7 +129,7 @@ find_entries : (q : ℕ) (es : List (ℕ × Extension)) →
 find_entries q [] = refl
 find_entries q (e ∷ es) = cond-map (option_map low_extension) _ _ refl refl (find_entries q es)
 
-unicode_found : (T : ℕ → Bool) (o : Option Extension) → IfSome o (Fine T 117) →
+unicode_found : (T : LanguageLengths) (o : Option Extension) → IfSome o (Fine T code_u) →
     cond (nat_lt 0 (length (unicode_part o).attributes + length (unicode_part o).keywords))
     (Some (unicode (spelled_unicode (unicode_part o)))) None
     ≡ option_map low_extension o
@@ -155,7 +156,7 @@ id_absent : (o : Option SpelledIdentifier) → option_map normal_identifier o �
 id_absent None e = refl
 id_absent (Some i) e = cc
 
-transform_found : (T : ℕ → Bool) (o : Option Extension) → IfSome o (Fine T 116) →
+transform_found : (T : LanguageLengths) (o : Option Extension) → IfSome o (Fine T code_t) →
     cond (is_some (transform_part o).id || nat_lt 0 (length (transform_part o).fields))
     (Some (transform (spelled_transform (transform_part o)))) None
     ≡ option_map low_extension o
@@ -176,7 +177,7 @@ transform_found T (Some (transform m)) h =
 transform_found T (Some (unicode u)) h = absurd (let k = h.0.0 in omega arith)
 transform_found T (Some (other ps)) h = absurd (true≢false (sym h.0.0))
 
-others_found : (T : ℕ → Bool) (q : ℕ) → q ≢ 116 → q ≢ 117 → (es : List (ℕ × Extension)) →
+others_found : (T : LanguageLengths) (q : ℕ) → q ≢ code_t → q ≢ code_u → (es : List (ℕ × Extension)) →
     AllByRecursion (λ e. Fine T (lower_singleton e) e.1) es →
     option_map other (find nat_cmp q (filter_map other_part (by_singleton es)))
     ≡ option_map low_extension (find nat_cmp q (by_singleton es))
@@ -202,18 +203,19 @@ others_found T q t u (e ∷ es) h = at_kind e.1 h.0 (others_found T q t u es h.1
 
 -- a text in order differs from its printed form in case alone
 
-private_printed : (x : Option (ℕ × List (List ℕ))) →
-    IfSome x (λ e. (lower_singleton e ≡ 120) × IsPrivate e.1) →
+private_printed : (x : Option Block) →
+    IfSome x (λ e. (lower_singleton e ≡ code_x) × IsPrivate e.1) →
     option_map low_block x ≡ option_map low_block (private_form (private_part x))
 private_printed None h = refl
 private_printed (Some e) h = at_words e.1 h.1.nonempty
   where
-    at_words : (ps : List (List ℕ)) → 0 < length ps →
+    at_words : (ps : List Text) → 0 < length ps →
         Some (to_ascii_lowercase e.0, low ps) ≡ option_map low_block (private_form (low ps))
     at_words [] n = absurd (omega arith)
     at_words (p ∷ ps) n = λ k. Some (h.0 k, sym (lower_twice (p ∷ ps)) k)
 
-ending : (T : ℕ → Bool) (w : Written) → IsWritten T w → AllByRecursion (λ e. IsCanonical e.1) w.extensions →
+ending : (T : LanguageLengths) (w : Written) → IsWritten T w →
+    AllByRecursion (λ e. IsCanonical e.1) w.extensions →
     is_sorted nat_cmp (low_entries w.extensions) ≡ true →
     lower_identifier (normal_identifier w.id) ≡ lower_identifier w.id →
     low_written w ≡ low_written (printed (meaning w))
@@ -233,19 +235,19 @@ ending T w h c s i = λ k. record {
     g : IsTreeWellFormed (meaning w)
     g = written_well_formed w h
 
-    at : (q : ℕ) → (q ≡ 116) ⊎ (q ≡ 116 → ⊥) → (q ≡ 117) ⊎ (q ≡ 117 → ⊥) →
+    at : (q : ℕ) → (q ≡ code_t) ⊎ (q ≡ code_t → ⊥) → (q ≡ code_u) ⊎ (q ≡ code_u → ⊥) →
         find nat_cmp q (low_entries w.extensions) ≡ find nat_cmp q (printed (meaning w)).extensions
     at q (inl e) u = subst (λ (q : ℕ).
         find nat_cmp q (low_entries w.extensions) ≡ find nat_cmp q (printed (meaning w)).extensions)
-        (sym e) (find_entries 116 w.extensions
-        ∙ sym (transform_found T (find nat_cmp 116 (by_singleton w.extensions))
-        (find_holds (Fine T) 116 w.extensions fine))
+        (sym e) (find_entries code_t w.extensions
+        ∙ sym (transform_found T (find nat_cmp code_t (by_singleton w.extensions))
+        (find_holds (Fine T) code_t w.extensions fine))
         ∙ sym (back.printed_t (meaning w) v g))
     at q (inr t) (inl e) = subst (λ (q : ℕ).
         find nat_cmp q (low_entries w.extensions) ≡ find nat_cmp q (printed (meaning w)).extensions)
-        (sym e) (find_entries 117 w.extensions
-        ∙ sym (unicode_found T (find nat_cmp 117 (by_singleton w.extensions))
-        (find_holds (Fine T) 117 w.extensions fine))
+        (sym e) (find_entries code_u w.extensions
+        ∙ sym (unicode_found T (find nat_cmp code_u (by_singleton w.extensions))
+        (find_holds (Fine T) code_u w.extensions fine))
         ∙ sym (back.printed_u (meaning w) v g))
     at q (inr t) (inr u) = find_entries q w.extensions ∙ sym (others_found T q t u w.extensions fine)
         ∙ ap (option_map other)
@@ -254,7 +256,7 @@ ending T w h c s i = λ k. record {
 
     same : low_entries w.extensions ≡ (printed (meaning w)).extensions
     same = same_entries nat_cmp nat_cmp_total nat_cmp-IsAntisymmetric _ _ (to_T _ s)
-        (to_T _ (back.printed_in_order (meaning w) v g)) (λ q. at q (cases_eq q 116) (cases_eq q 117))
+        (to_T _ (back.printed_in_order (meaning w) v g)) (λ q. at q (cases_eq q code_t) (cases_eq q code_u))
 
 -- the chain
 
@@ -262,7 +264,7 @@ abbrev at_all : (Extension → Extension) → List (ℕ × Extension) → List (
 at_all f es = map (λ e. (e.0, f e.1)) es
 
 -- one rule at each extension, from one stage to the next
-stage : (T : ℕ → Bool) (r : TreeRule) (f g : Extension → Extension) →
+stage : (T : LanguageLengths) (r : TreeRule) (f g : Extension → Extension) →
     ((c : ℕ) (e : Extension) → IsExtension T c e → ExtensionStep r (f e) (g e)) →
     (es : List (ℕ × Extension)) → AllByRecursion (λ e. IsExtension T (lower_singleton e) e.1) es →
     AllZip (λ e g. (e.0 ≡ g.0) × ExtensionStep r e.1 g.1) (at_all f es) (at_all g es)
@@ -275,7 +277,7 @@ Steps zero v w = v ≡ w
 Steps (suc n) v w = (u : Written) × Step v u × Steps n u w
 
 -- they keep the rules and the meaning
-steps_keep : (T : ℕ → Bool) (n : ℕ) (v w : Written) → IsWritten T v → Steps n v w →
+steps_keep : (T : LanguageLengths) (n : ℕ) (v w : Written) → IsWritten T v → Steps n v w →
     IsWritten T w × (meaning w ≡ meaning v)
 steps_keep T zero v w h s = (subst (IsWritten T) s h, ap meaning (sym s))
 steps_keep T (suc n) v w h s =
@@ -289,7 +291,7 @@ pub record SevenSteps (w : Written) : Type 0 where
   pub steps : Steps 7 w end
   pub same : lower (join (spelling end)) ≡ lower (tree_text (meaning w))
 
-pub seven_steps : (T : ℕ → Bool) (w : Written) → IsWritten T w → SevenSteps w
+pub seven_steps : (T : LanguageLengths) (w : Written) → IsWritten T w → SevenSteps w
 seven_steps T w h =
     let es = w.extensions in let x = w.private in
     let i = sort_identifier w.id in

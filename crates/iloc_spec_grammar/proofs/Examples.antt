@@ -1,7 +1,8 @@
 -- Worked examples, computed by the plain program.
 use Rattle.std.proofs.lemmas.Bool.{both_ways}
 use Rattle.std.proofs.Common.{◌≡◌, ℕ, List, [], ◌∷◌, refl, codes, Result, Ok, Err, arith, true≢false, None}
-use Rattle.iloc_spec_grammar.specs.Syntax.{pieces, join, is_word, lower, upper, title, is_true, languages}
+use Rattle.iloc_spec_grammar.specs.Syntax.{code_t, Text, pieces, join, is_word, lower, upper, title, is_true}
+use Rattle.iloc_spec_grammar.specs.Syntax.{languages}
 use Rattle.iloc_spec_grammar.specs.Syntax.{SpelledIdentifier, Identifier}
 use Rattle.iloc_spec_grammar.specs.Tree.{transform}
 use Rattle.iloc_spec_grammar.specs.Meaning.{Locale, Fault}
@@ -18,52 +19,52 @@ use Rattle.iloc_spec_grammar.proofs.ComputingLaws.{computed_means, computed_faul
 use Rattle.iloc_spec_grammar.proofs.ComputingLaws.{computed_identifier_fault}
 
 -- what the program answers, as a text
-unfoldable pub answer : List ℕ → Result (List ℕ) Fault
+unfoldable pub answer : Text → Result Text Fault
 unfolding locale_result extensions_spelling written_of unicode_of transform_of identifier_of front_of pieces
     join is_word lower upper title is_true languages
 answer t = computed_text (locale_result languages t)
 
-normalises_from : (t u : List ℕ) (r : Result Locale Fault) → locale_result languages t ≡ r →
+normalises_from : (t u : Text) (r : Result Locale Fault) → locale_result languages t ≡ r →
     computed_text r ≡ Ok u → Normalises t u
 normalises_from t u (Ok M) e h =
     record { value = M; means = (computed_means languages languages_table t M).0 e; printed = cc }
 normalises_from t u (Err f) e h = cc
 
-refused_from : (t : List ℕ) (f : Fault) (r : Result Locale Fault) → locale_result languages t ≡ r →
+refused_from : (t : Text) (f : Fault) (r : Result Locale Fault) → locale_result languages t ≡ r →
     computed_text r ≡ Err f → IsRefused t f
 refused_from t f (Ok M) e h = cc
 refused_from t f (Err g) e h = (computed_fault languages languages_table t f).0 cc
 
-pub normalises : (t u : List ℕ) → answer t ≡ Ok u → Normalises t u
+pub normalises : (t u : Text) → answer t ≡ Ok u → Normalises t u
 unfolding answer
 normalises t u h = normalises_from t u (locale_result languages t) refl h
 
-pub refused : (t : List ℕ) (f : Fault) → answer t ≡ Err f → IsRefused t f
+pub refused : (t : Text) (f : Fault) → answer t ≡ Err f → IsRefused t f
 unfolding answer
 refused t f h = refused_from t f (locale_result languages t) refl h
 
 -- identifiers
 
-unfoldable pub identifier_answer : List ℕ → Result (List ℕ) Fault
+unfoldable pub identifier_answer : Text → Result Text Fault
 unfolding identifier_text identifier_of pieces join is_word lower upper title languages
 identifier_answer t = identifier_text_of (identifier_result languages (pieces t))
 
-identifier_from : (t u : List ℕ) (r : Result Identifier Fault) → identifier_result languages (pieces t) ≡ r →
+identifier_from : (t u : Text) (r : Result Identifier Fault) → identifier_result languages (pieces t) ≡ r →
     identifier_text_of r ≡ Ok u → NormalisesIdentifier t u
 identifier_from t u (Ok i) e h =
     record { value = i; means = (computed_identifier languages t i).0 e; printed = cc }
 identifier_from t u (Err f) e h = cc
 
-no_identifier_from : (t : List ℕ) (f : Fault) (r : Result Identifier Fault) →
+no_identifier_from : (t : Text) (f : Fault) (r : Result Identifier Fault) →
     identifier_result languages (pieces t) ≡ r → identifier_text_of r ≡ Err f → IsRefusedIdentifier t f
 no_identifier_from t f (Ok i) e h = cc
 no_identifier_from t f (Err g) e h = (computed_identifier_fault languages t f).0 cc
 
-pub normalises_identifier : (t u : List ℕ) → identifier_answer t ≡ Ok u → NormalisesIdentifier t u
+pub normalises_identifier : (t u : Text) → identifier_answer t ≡ Ok u → NormalisesIdentifier t u
 unfolding identifier_answer
 normalises_identifier t u h = identifier_from t u (identifier_result languages (pieces t)) refl h
 
-pub refused_identifier : (t : List ℕ) (f : Fault) → identifier_answer t ≡ Err f → IsRefusedIdentifier t f
+pub refused_identifier : (t : Text) (f : Fault) → identifier_answer t ≡ Err f → IsRefusedIdentifier t f
 unfolding identifier_answer
 refused_identifier t f h = no_identifier_from t f (identifier_result languages (pieces t)) refl h
 
@@ -83,7 +84,7 @@ one_true_of_tree = TreeTextStep.rewritten
     {v = record {
       id = und;
       extensions = (
-        116,
+        code_t,
         transform (record { id = None; fields = (codes "m0", codes "true" ∷ codes "true" ∷ []) ∷ [] }),
       )
           ∷ [];
@@ -92,7 +93,7 @@ one_true_of_tree = TreeTextStep.rewritten
     {w = record {
       id = und;
       extensions =
-          (116, transform (record { id = None; fields = (codes "m0", codes "true" ∷ []) ∷ [] })) ∷ [];
+          (code_t, transform (record { id = None; fields = (codes "m0", codes "true" ∷ []) ∷ [] })) ∷ [];
       private = None;
     }}
     (record {

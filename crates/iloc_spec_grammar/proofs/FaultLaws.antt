@@ -12,7 +12,8 @@ use Rattle.std.proofs.lemmas.Bool.{false_from_ne_true}
 use Rattle.std.proofs.lemmas.Bool.Decides.{nat_tests}
 use Rattle.std.proofs.lemmas.List.{map-append}
 use Rattle.std.proofs.lemmas.List.Folds.{list_any-append}
-use Rattle.iloc_spec_grammar.specs.Syntax.{pieces, Language, Script, Region, Variant, TransformKey, is_word}
+use Rattle.iloc_spec_grammar.specs.Syntax.{LanguageLengths, Block, code_x, code_t, Text, pieces, Language}
+use Rattle.iloc_spec_grammar.specs.Syntax.{Script, Region, Variant, TransformKey, is_word}
 use Rattle.iloc_spec_grammar.specs.Syntax.{IsWord, AreLengths, lower, word_cmp, SpelledIdentifier}
 use Rattle.iloc_spec_grammar.specs.Syntax.{SpelledTransform, identifier_pieces, optional_pieces}
 use Rattle.iloc_spec_grammar.specs.Syntax.{transform_pieces, HasWords, IsIdentifier, lower_singleton}
@@ -55,22 +56,22 @@ some_repeat cmp (x ∷ xs) ys h = (
 )
 
 -- the variants at the front of the pieces, and the pieces after them
-abbrev pub front_variants : List (List ℕ) → List (List ℕ)
+abbrev pub front_variants : List Text → List Text
 front_variants ps = passing (is_word Variant) ps
 
-abbrev pub after_variants : List (List ℕ) → List (List ℕ)
+abbrev pub after_variants : List Text → List Text
 after_variants ps = past (is_word Variant) ps
 
-pub front_are_variants : (ps : List (List ℕ)) → AllByRecursion (IsWord Variant) (front_variants ps)
+pub front_are_variants : (ps : List Text) → AllByRecursion (IsWord Variant) (front_variants ps)
 front_are_variants ps = keep_while_passes (is_word Variant) ps
 
-pub front_longest : (vs rest : List (List ℕ)) → AllByRecursion (IsWord Variant) vs →
+pub front_longest : (vs rest : List Text) → AllByRecursion (IsWord Variant) vs →
     front_variants (vs ++ rest) ≡ vs ++ front_variants rest
 front_longest [] rest h = refl
 front_longest (v ∷ vs) rest h = rw h.0 (ap (λ l. v ∷ l) (front_longest vs rest h.1))
 
 -- an identifier with variants is read from the left, whatever follows
-pub read_longer : (l : List ℕ) (s r : Option (List ℕ)) (v : List ℕ) (vs rest : List (List ℕ)) →
+pub read_longer : (l : Text) (s r : Option Text) (v : Text) (vs rest : List Text) →
     IfSome s (IsWord Script) → IfSome r (IsWord Region) → IsWord Variant v →
     identifier_of ((l ∷ (option_to_list s ++ (option_to_list r ++ (v ∷ vs)))) ++ rest)
     ≡ record { language = l; script = s; region = r; variants = v ∷ (vs ++ rest) }
@@ -84,12 +85,12 @@ read_longer l (Some s) (Some r) v vs rest hs hr hv = rw (hs, hr)
 abbrev pub cut_identifier : SpelledIdentifier → SpelledIdentifier
 cut_identifier i = record i { variants = front_variants i.variants }
 
-pub repeats_longer : {T : ℕ → Bool} (i : SpelledIdentifier) (rest : List (List ℕ)) → HasWords T i →
+pub repeats_longer : {T : ℕ → Bool} (i : SpelledIdentifier) (rest : List Text) → HasWords T i →
     ¬ (AllDifferent word_cmp (map lower i.variants)) →
     (identifier_of (identifier_pieces i ++ rest)).variants ≡ i.variants ++ rest
 repeats_longer i rest h d = from i.language i.script i.region i.variants h.script h.region h.variants d
   where
-    from : (l : List ℕ) (s r : Option (List ℕ)) (vs : List (List ℕ)) → IfSome s (IsWord Script) →
+    from : (l : Text) (s r : Option Text) (vs : List Text) → IfSome s (IsWord Script) →
         IfSome r (IsWord Region) → AllByRecursion (IsWord Variant) vs →
         ¬ (AllDifferent word_cmp (map lower vs)) →
         (identifier_of ((l ∷ (option_to_list s ++ (option_to_list r ++ vs))) ++ rest)).variants ≡ vs ++ rest
@@ -97,15 +98,15 @@ repeats_longer i rest h d = from i.language i.script i.region i.variants h.scrip
     from l s r (v ∷ vs) hs hr hv d =
         ap (λ (j : SpelledIdentifier). j.variants) (read_longer l s r v vs rest hs hr hv.0)
 
-pub language_of : (p : List ℕ) (ps : List (List ℕ)) → (identifier_of (p ∷ ps)).language ≡ p
+pub language_of : (p : Text) (ps : List Text) → (identifier_of (p ∷ ps)).language ≡ p
 unfolding identifier_of
 language_of p ps = refl
 
-pub script_of : (p : List ℕ) (ps : List (List ℕ)) → IfSome (identifier_of (p ∷ ps)).script (IsWord Script)
+pub script_of : (p : Text) (ps : List Text) → IfSome (identifier_of (p ∷ ps)).script (IsWord Script)
 unfolding identifier_of
 script_of p ps = take_first_passes (is_word Script) ps
 
-pub region_of : (p : List ℕ) (ps : List (List ℕ)) → IfSome (identifier_of (p ∷ ps)).region (IsWord Region)
+pub region_of : (p : Text) (ps : List Text) → IfSome (identifier_of (p ∷ ps)).region (IsWord Region)
 unfolding identifier_of
 region_of p ps = take_first_passes (is_word Region) (skip_first (is_word Script) ps)
 
@@ -119,7 +120,7 @@ spell_cut i = ap (λ l. i.language ∷ l) (append_assoc (option_to_list i.script
 
 -- the variants at the front of the pieces after a language decide
 
-repeats_found : (T : ℕ → Bool) (ps : List (List ℕ)) →
+repeats_found : (T : LanguageLengths) (ps : List Text) →
     IsWord (Language T) (first_piece ps) × ¬ (AllDifferent word_cmp (map lower (front_of ps).variants)) →
     RepeatsVariant T ps
 unfolding front_of
@@ -127,7 +128,7 @@ repeats_found T [] x = absurd (x.1 tt)
 repeats_found T (p ∷ ps) x =
     (front_of (p ∷ ps), after_front (p ∷ ps), front_words (p ∷ ps) x.0, sym (pieces-front_of p ps), x.1)
 
-front_no_repeat : (T : ℕ → Bool) (ps : List (List ℕ)) → RepeatsVariant T ps →
+front_no_repeat : (T : LanguageLengths) (ps : List Text) → RepeatsVariant T ps →
     ¬ (AllDifferent word_cmp (map lower (front_of ps).variants))
 unfolding identifier_of front_of
 front_no_repeat T ps r d =
@@ -136,7 +137,7 @@ front_no_repeat T ps r d =
     r.4 (some_repeat word_cmp (map lower r.0.variants) _
     (subst (AllDifferent word_cmp) (ap (map lower) e ∙ map-append lower r.0.variants (front_variants r.1)) d))
 
-tests_repeats : (T : ℕ → Bool) (ps : List (List ℕ)) → Tests (repeats_variant T ps) (RepeatsVariant T ps)
+tests_repeats : (T : LanguageLengths) (ps : List Text) → Tests (repeats_variant T ps) (RepeatsVariant T ps)
 tests_repeats T ps = tests_like (repeats_found T ps) (λ (r : RepeatsVariant T ps).
     (ap (λ l. is_word (Language T) (first_piece l)) r.3 ∙ r.2.language, front_no_repeat T ps r))
     (tests_and (tests_word (Language T) (first_piece ps))
@@ -144,12 +145,12 @@ tests_repeats T ps = tests_like (repeats_found T ps) (λ (r : RepeatsVariant T p
 
 -- a transform whose identifier is good repeats no variant
 
-before_no_key : (xs ys : List (List ℕ)) → AllByRecursion (λ p. is_word TransformKey p ≡ false) xs →
+before_no_key : (xs ys : List Text) → AllByRecursion (λ p. is_word TransformKey p ≡ false) xs →
     before_key (is_word TransformKey) (xs ++ ys) ≡ xs ++ before_key (is_word TransformKey) ys
 before_no_key [] ys h = refl
 before_no_key (x ∷ xs) ys h = rw h.0 (ap (λ l. x ∷ l) (before_no_key xs ys h.1))
 
-good_no_repeat : (T : ℕ → Bool) (m : SpelledTransform) → IsTransformBlock T m →
+good_no_repeat : (T : LanguageLengths) (m : SpelledTransform) → IsTransformBlock T m →
     ¬ (RepeatsVariant T (transform_pieces m))
 good_no_repeat T m h r = at_id m.id h.id (sym (before_key_read (is_word TransformKey) (optional_pieces m.id)
     m.fields (optional_no_key T m.id h.id) (fields_pass m.fields h.fields))
@@ -166,7 +167,7 @@ good_no_repeat T m h r = at_id m.id h.id (sym (before_key_read (is_word Transfor
         r.4 (some_repeat word_cmp (map lower r.0.variants) _
         (subst (AllDifferent word_cmp) (ap (map lower) same ∙ map-append lower r.0.variants _) g.different))
 
-block_no_repeat : (T : ℕ → Bool) (b : ℕ × List (List ℕ)) → lower_singleton b ≡ 116 → IsBlock T b →
+block_no_repeat : (T : LanguageLengths) (b : Block) → lower_singleton b ≡ code_t → IsBlock T b →
     ¬ (RepeatsVariant T b.1)
 block_no_repeat T b e (inl x) r = absurd (let k = x.0 in omega arith)
 block_no_repeat T b e (inr x) r = let k = rw e at (extension_read T (lower_singleton b) b.1 x) in
@@ -174,29 +175,29 @@ block_no_repeat T b e (inr x) r = let k = rw e at (extension_read T (lower_singl
 
 -- blocks one after another
 
-abbrev pub AreGood : (ℕ → Bool) → List ℕ → List (ℕ × List (List ℕ)) → Type 0
+abbrev pub AreGood : (ℕ → Bool) → List ℕ → List Block → Type 0
 AreGood T seen [] = Unit {0}
 AreGood T seen (b ∷ bs) =
     (HasSingleton b × IsNew seen b × IsBlock T b) × AreGood T (lower_singleton b ∷ seen) bs
 
-tests_variant_twice : (T : ℕ → Bool) (b : ℕ × List (List ℕ)) →
-    Tests ((lower_singleton b == 116) && repeats_variant T b.1)
-    ((lower_singleton b ≡ 116) × RepeatsVariant T b.1)
-tests_variant_twice T b = tests_and (tests_nat (lower_singleton b) 116) (tests_repeats T b.1)
+tests_variant_twice : (T : LanguageLengths) (b : Block) →
+    Tests ((lower_singleton b == code_t) && repeats_variant T b.1)
+    ((lower_singleton b ≡ code_t) × RepeatsVariant T b.1)
+tests_variant_twice T b = tests_and (tests_nat (lower_singleton b) code_t) (tests_repeats T b.1)
 
 -- the plain program finds the first bad block
 
-first_is : (T : ℕ → Bool) (seen : List ℕ) (bs : List (ℕ × List (List ℕ))) →
+first_is : (T : LanguageLengths) (seen : List ℕ) (bs : List Block) →
     MatchOption (first_fault T seen bs) (AreGood T seen bs) (FirstBadBlock T seen bs)
 first_is T seen [] = tt
 first_is T seen (b ∷ bs) =
     at_tests (is_ascii_alphanumeric b.0) refl (list_any (eq_by_cmp nat_cmp (lower_singleton b)) seen) refl
-    (is_block T b) refl ((lower_singleton b == 116) && repeats_variant T b.1) refl
+    (is_block T b) refl ((lower_singleton b == code_t) && repeats_variant T b.1) refl
     (first_fault T (lower_singleton b ∷ seen) bs) (first_is T (lower_singleton b ∷ seen) bs)
   where
     at_tests : (a : Bool) → is_ascii_alphanumeric b.0 ≡ a → (s : Bool) →
         list_any (eq_by_cmp nat_cmp (lower_singleton b)) seen ≡ s → (g : Bool) → is_block T b ≡ g →
-        (r : Bool) → ((lower_singleton b == 116) && repeats_variant T b.1) ≡ r → (o : Option Fault) →
+        (r : Bool) → ((lower_singleton b == code_t) && repeats_variant T b.1) ≡ r → (o : Option Fault) →
         MatchOption o (AreGood T (lower_singleton b ∷ seen) bs)
         (FirstBadBlock T (lower_singleton b ∷ seen) bs)
         → MatchOption
@@ -212,13 +213,13 @@ first_is T seen (b ∷ bs) =
     at_tests true a false e false d false k o rest =
         here (breaks_rule a e (tests_not (tests_variant_twice T b) k) (tests_not (tests_block T b) d))
 
-good_first : (T : ℕ → Bool) (seen : List ℕ) (bs : List (ℕ × List (List ℕ))) → AreGood T seen bs →
+good_first : (T : LanguageLengths) (seen : List ℕ) (bs : List Block) → AreGood T seen bs →
     first_fault T seen bs ≡ None
 good_first T seen [] g = refl
 good_first T seen (b ∷ bs) g =
     rw (g.0.0, g.0.1, (tests_block T b).passes g.0.2) (good_first T (lower_singleton b ∷ seen) bs g.1)
 
-fault_first : (T : ℕ → Bool) {seen : List ℕ} {bs : List (ℕ × List (List ℕ))} {f : Fault} →
+fault_first : (T : LanguageLengths) {seen : List ℕ} {bs : List Block} {f : Fault} →
     FirstBadBlock T seen bs f → first_fault T seen bs ≡ Some f
 fault_first T (here (no_singleton e)) = rw e
 fault_first T (here (duplicated a e)) = rw (a, e)
@@ -255,7 +256,7 @@ pub letter : (c : ℕ) → is_ascii_alphanumeric (to_ascii_lowercase c) ≡ true
 letter c h = grind (arith, nat_tests)
 
 -- blocks that follow their rules are good where their singletons differ
-pub good_from : (T : ℕ → Bool) (seen : List ℕ) (bs : List (ℕ × List (List ℕ))) →
+pub good_from : (T : LanguageLengths) (seen : List ℕ) (bs : List Block) →
     AllByRecursion (λ b. HasSingleton b × IsBlock T b) bs →
     AllDifferent nat_cmp (map (λ b. lower_singleton b) bs) → NotSeen seen bs → AreGood T seen bs
 good_from T seen [] h d n = tt
@@ -265,9 +266,9 @@ good_from T seen (b ∷ bs) h d n = (
       (see_one (lower_singleton b) seen bs (false_from_ne_true _ d.0) n.1),
 )
 
-pub block_rules : (T : ℕ → Bool) (es : List (ℕ × Extension)) (x : Option (ℕ × List (List ℕ))) →
+pub block_rules : (T : LanguageLengths) (es : List (ℕ × Extension)) (x : Option Block) →
     AllByRecursion (λ e. IsExtension T (lower_singleton e) e.1) es →
-    IfSome x (λ e. (lower_singleton e ≡ 120) × IsPrivate e.1) →
+    IfSome x (λ e. (lower_singleton e ≡ code_x) × IsPrivate e.1) →
     AllByRecursion (λ b. HasSingleton b × IsBlock T b) (map extension_block es ++ option_to_list x)
 block_rules T [] None h k = tt
 block_rules T [] (Some b) h k = ((letter b.0 (rw k.0), inl k), tt)
@@ -276,23 +277,24 @@ block_rules T (e ∷ es) x h k = (
   block_rules T es x h.1 k,
 )
 
-rule_no_x : (T : ℕ → Bool) (c : ℕ) (e : Extension) → IsExtension T c e → eq_by_cmp nat_cmp c 120 ≡ false
-rule_no_x T c e h = untied c 120 (λ k. eqb-false c 120 (is_no_x T c e h) (sym k))
+rule_no_x : (T : LanguageLengths) (c : ℕ) (e : Extension) → IsExtension T c e →
+    eq_by_cmp nat_cmp c code_x ≡ false
+rule_no_x T c e h = untied c code_x (λ k. eqb-false c code_x (is_no_x T c e h) (sym k))
 
-any_by : (T : ℕ → Bool) (c : ℕ) (es : List (ℕ × Extension)) (x : Option (ℕ × List (List ℕ))) →
-    eq_by_cmp nat_cmp c 120 ≡ false →
+any_by : (T : LanguageLengths) (c : ℕ) (es : List (ℕ × Extension)) (x : Option Block) →
+    eq_by_cmp nat_cmp c code_x ≡ false →
     list_any (eq_by_cmp nat_cmp c) (map (λ e. lower_singleton e) es) ≡ false →
-    IfSome x (λ e. (lower_singleton e ≡ 120) × IsPrivate e.1) →
+    IfSome x (λ e. (lower_singleton e ≡ code_x) × IsPrivate e.1) →
     list_any (eq_by_cmp nat_cmp c) (map (λ b. lower_singleton b) (map extension_block es ++ option_to_list x))
     ≡ false
 any_by T c [] None n a k = refl
 any_by T c [] (Some b) n a k = ap (λ d. eq_by_cmp nat_cmp c d || false) k.0 ∙ ap (λ t. t || false) n
 any_by T c (e ∷ es) x n a k = let parts = or_parts _ _ a in or_from _ _ parts.0 (any_by T c es x n parts.1 k)
 
-pub different_by : (T : ℕ → Bool) (es : List (ℕ × Extension)) (x : Option (ℕ × List (List ℕ))) →
+pub different_by : (T : LanguageLengths) (es : List (ℕ × Extension)) (x : Option Block) →
     AllByRecursion (λ e. IsExtension T (lower_singleton e) e.1) es →
     AllDifferent nat_cmp (map (λ e. lower_singleton e) es) →
-    IfSome x (λ e. (lower_singleton e ≡ 120) × IsPrivate e.1) →
+    IfSome x (λ e. (lower_singleton e ≡ code_x) × IsPrivate e.1) →
     AllDifferent nat_cmp (map (λ b. lower_singleton b) (map extension_block es ++ option_to_list x))
 different_by T [] None h d k = tt
 different_by T [] (Some b) h d k = (both_ways _ refl, tt)
@@ -310,69 +312,69 @@ written_good {T = T} w h =
 
 -- the blocks of a text
 
-abbrev pub EndsAtX : List (ℕ × List (List ℕ)) → Type 0
+abbrev pub EndsAtX : List Block → Type 0
 EndsAtX [] = Unit {0}
-EndsAtX (b ∷ bs) = ((lower_singleton b == 120) ≡ true → bs ≡ []) × EndsAtX bs
+EndsAtX (b ∷ bs) = ((lower_singleton b == code_x) ≡ true → bs ≡ []) × EndsAtX bs
 
-pub ends_at_x : (ps : List (List ℕ)) → EndsAtX (blocks ps)
+pub ends_at_x : (ps : List Text) → EndsAtX (blocks ps)
 ends_at_x [] = tt
 ends_at_x ([] ∷ ps) = ends_at_x ps
-ends_at_x ((c ∷ []) ∷ ps) = cond_both (to_ascii_lowercase c == 120) _ _ EndsAtX (λ _. (λ _. refl, tt))
+ends_at_x ((c ∷ []) ∷ ps) = cond_both (to_ascii_lowercase c == code_x) _ _ EndsAtX (λ _. (λ _. refl, tt))
     (λ e. (λ h. absurd (both_ways _ e h), ends_at_x ps))
 ends_at_x ((c ∷ d ∷ p) ∷ ps) = ends_at_x ps
 
-pub tail_ends : (ps : List (List ℕ)) → EndsAtX (tail_blocks ps)
+pub tail_ends : (ps : List Text) → EndsAtX (tail_blocks ps)
 tail_ends [] = tt
 tail_ends (p ∷ ps) = ends_at_x ps
 
-pub all_blocks : (ps : List (List ℕ)) → front ps ++ flat_map block_pieces (blocks ps) ≡ ps
+pub all_blocks : (ps : List Text) → front ps ++ flat_map block_pieces (blocks ps) ≡ ps
 all_blocks [] = refl
 all_blocks ([] ∷ ps) = ap (λ l. [] ∷ l) (all_blocks ps)
 all_blocks ((c ∷ []) ∷ ps) =
-    cond_both (to_ascii_lowercase c == 120) _ _ (λ bs. flat_map block_pieces bs ≡ (c ∷ []) ∷ ps)
+    cond_both (to_ascii_lowercase c == code_x) _ _ (λ bs. flat_map block_pieces bs ≡ (c ∷ []) ∷ ps)
     (λ _. ap (λ l. (c ∷ []) ∷ l) (append-nil ps)) (λ _. ap (λ l. (c ∷ []) ∷ l) (all_blocks ps))
 all_blocks ((c ∷ d ∷ p) ∷ ps) = rw (two_more (length p)) (ap (λ l. (c ∷ d ∷ p) ∷ l) (all_blocks ps))
 
-pub head-and-blocks : (p : List ℕ) (ps : List (List ℕ)) →
+pub head-and-blocks : (p : Text) (ps : List Text) →
     head (p ∷ ps) ++ flat_map block_pieces (tail_blocks (p ∷ ps)) ≡ p ∷ ps
 head-and-blocks p ps = ap (λ l. p ∷ l) (all_blocks ps)
 
 -- reading keeps each piece
 
-extensions_kept : (bs : List (ℕ × List (List ℕ))) → EndsAtX bs →
+extensions_kept : (bs : List Block) → EndsAtX bs →
     map extension_block (extensions_in bs) ++ option_to_list (private_in bs) ≡ bs
 extensions_kept [] e = refl
-extensions_kept (b ∷ bs) e = elim (cases_Bool (lower_singleton b == 120)) [
+extensions_kept (b ∷ bs) e = elim (cases_Bool (lower_singleton b == code_x)) [
   | inl t ↦ rw t (ap (λ l. b ∷ l) (sym (e.0 t)))
   | inr t ↦ rw t (λ i. (b.0, pieces-extension_of (lower_singleton b) b.1 i) ∷ extensions_kept bs e.1 i)
 ]
 
-pub spelling-written_of : (p : List ℕ) (ps : List (List ℕ)) → spelling (written_of (p ∷ ps)) ≡ p ∷ ps
+pub spelling-written_of : (p : Text) (ps : List Text) → spelling (written_of (p ∷ ps)) ≡ p ∷ ps
 unfolding written_of
 spelling-written_of p ps = (λ i. pieces-identifier_of p (front ps) i
     ++ flat_map block_pieces (extensions_kept (blocks ps) (ends_at_x ps) i))
     ∙ head-and-blocks p ps
 
-pub pieces-written_of : (t : List ℕ) → pieces t ≡ spelling (written_of (pieces t))
+pub pieces-written_of : (t : Text) → pieces t ≡ spelling (written_of (pieces t))
 pieces-written_of t =
     at_pieces (λ ps. ps ≡ spelling (written_of ps)) (λ p ps. sym (spelling-written_of p ps)) t
 
 -- what is read of good blocks follows the rules
-record AreRead (T : ℕ → Bool) (seen : List ℕ) (es : List (ℕ × Extension)) (x : Option (ℕ × List (List ℕ))) :
+record AreRead (T : LanguageLengths) (seen : List ℕ) (es : List (ℕ × Extension)) (x : Option Block) :
     Type 0 where
   rules : AllByRecursion (λ e. IsExtension T (lower_singleton e) e.1) es
   different : AllDifferent nat_cmp (map (λ e. lower_singleton e) es)
   unseen : NotSeen seen es
-  private : IfSome x (λ e. (lower_singleton e ≡ 120) × IsPrivate e.1)
+  private : IfSome x (λ e. (lower_singleton e ≡ code_x) × IsPrivate e.1)
 
-are_read : (T : ℕ → Bool) (seen : List ℕ) (bs : List (ℕ × List (List ℕ))) → AreGood T seen bs →
+are_read : (T : LanguageLengths) (seen : List ℕ) (bs : List Block) → AreGood T seen bs →
     AreRead T seen (extensions_in bs) (private_in bs)
 are_read T seen [] g = record { rules = tt; different = tt; unseen = tt; private = tt }
 are_read T seen (b ∷ bs) g = at_block g.0.2 (are_read T (lower_singleton b ∷ seen) bs g.1)
   where
     at_block : IsBlock T b → AreRead T (lower_singleton b ∷ seen) (extensions_in bs) (private_in bs) →
         AreRead T seen (extensions_in (b ∷ bs)) (private_in (b ∷ bs))
-    at_block (inl p) r = let t : (lower_singleton b == 120) ≡ true = rw p.0 in
+    at_block (inl p) r = let t : (lower_singleton b == code_x) ≡ true = rw p.0 in
         rw t (record { rules = tt; different = tt; unseen = tt; private = p })
     at_block (inr q) r =
         let parts = unsee_one (lower_singleton b) seen (extensions_in bs) r.unseen in
@@ -385,13 +387,13 @@ are_read T seen (b ∷ bs) g = at_block g.0.2 (are_read T (lower_singleton b ∷
 
 -- good blocks make a locale
 
-pub good_written : (T : ℕ → Bool) (t : List ℕ) → SpellsIdentifier T (head (pieces t)) →
+pub good_written : (T : LanguageLengths) (t : Text) → SpellsIdentifier T (head (pieces t)) →
     AreGood T [] (tail_blocks (pieces t)) → IsWritten T (written_of (pieces t))
 unfolding written_of
 good_written T t s g = let r = are_read T [] (tail_blocks (pieces t)) g in
     record { id = identifier_read s; extensions = r.rules; different = r.different; private = r.private }
 
-pub good_means : (T : ℕ → Bool) (t : List ℕ) → SpellsIdentifier T (head (pieces t)) →
+pub good_means : (T : LanguageLengths) (t : Text) → SpellsIdentifier T (head (pieces t)) →
     AreGood T [] (tail_blocks (pieces t)) → TreeMeans T t (meaning (written_of (pieces t)))
 good_means T t s g = record {
   written = written_of (pieces t);
@@ -400,7 +402,7 @@ good_means T t s g = record {
   means = refl;
 }
 
-pub blocks_read : (ps : List (List ℕ)) → blocks_of (written_of ps) ≡ tail_blocks ps
+pub blocks_read : (ps : List Text) → blocks_of (written_of ps) ≡ tail_blocks ps
 unfolding written_of
 blocks_read ps = extensions_kept (tail_blocks ps) (tail_ends ps)
 
@@ -411,14 +413,14 @@ pub either : {A E : Type 0} {P : A → Type 0} {Q : E → Type 0} (r : Result A 
 either (Ok a) m = inl (a, m)
 either (Err e) m = inr (e, m)
 
-tests_head : (T : ℕ → Bool) (t : List ℕ) →
+tests_head : (T : LanguageLengths) (t : Text) →
     Tests (is_identifier T (identifier_of (head (pieces t)))) (SpellsIdentifier T (head (pieces t)))
 tests_head T t =
     at_pieces (λ ps. Tests (is_identifier T (identifier_of (head ps))) (SpellsIdentifier T (head ps)))
     (λ p ps. tests_spelled T p (front ps)) t
 
 -- of an accepted text it answers whatever holds of what is read, where good blocks make it hold
-pub answered_by : (T : ℕ → Bool) (t : List ℕ) (P : Locale → Type 0) →
+pub answered_by : (T : LanguageLengths) (t : Text) (P : Locale → Type 0) →
     (SpellsIdentifier T (head (pieces t)) → AreGood T [] (tail_blocks (pieces t)) →
     P (meaning (written_of (pieces t)))) →
     MatchResult (locale_result T t) P (HasTreeFault T t)
@@ -439,13 +441,13 @@ answered_by T t P from = at_tests (is_word (Language T) (first_piece (pieces t))
     at_tests true l true k None g = from ((tests_head T t).holds k) g
     at_tests true l true k (Some f) g = bad_block ((tests_head T t).holds k) g
 
-pub answered : (T : ℕ → Bool) (t : List ℕ) →
+pub answered : (T : LanguageLengths) (t : Text) →
     MatchResult (locale_result T t) (TreeMeans T t) (HasTreeFault T t)
 answered T t = answered_by T t (TreeMeans T t) (good_means T t)
 
 -- and each meaning and each fault is answered
 
-pub means_answered : {T : ℕ → Bool} → AreLengths T → (t : List ℕ) (M : Locale) → TreeMeans T t M →
+pub means_answered : {T : ℕ → Bool} → AreLengths T → (t : Text) (M : Locale) → TreeMeans T t M →
     locale_result T t ≡ Ok M
 unfolding locale_result
 means_answered {T = T} table t M m =
@@ -458,7 +460,8 @@ means_answered {T = T} table t M m =
     ) (ap Ok
     (ap (λ ps. meaning (written_of ps)) m.spelled ∙ ap meaning (written_of-spelling table w h) ∙ sym m.means))
 
-pub fault_answered : (T : ℕ → Bool) (t : List ℕ) {f : Fault} → HasTreeFault T t f → locale_result T t ≡ Err f
+pub fault_answered : (T : LanguageLengths) (t : Text) {f : Fault} → HasTreeFault T t f →
+    locale_result T t ≡ Err f
 unfolding locale_result
 fault_answered T t (no_language e) = rw e
 fault_answered T t (no_identifier l n) = rw (l, tests_fails (tests_head T t) n)
@@ -469,9 +472,9 @@ fault_answered T t (bad_block s b) = rw (
   fault_first T b,
 )
 
-pub accepted_no_fault : {T : ℕ → Bool} → AreLengths T → (t : List ℕ) (M : Locale) (f : Fault) →
+pub accepted_no_fault : {T : ℕ → Bool} → AreLengths T → (t : Text) (M : Locale) (f : Fault) →
     TreeMeans T t M → HasTreeFault T t f → ⊥
 accepted_no_fault {T = T} table t M f m h = cc (means_answered table t M m, fault_answered T t h)
 
-pub one_fault : {T : ℕ → Bool} (t : List ℕ) {f g : Fault} → HasTreeFault T t f → HasTreeFault T t g → f ≡ g
+pub one_fault : {T : ℕ → Bool} (t : Text) {f g : Fault} → HasTreeFault T t f → HasTreeFault T t g → f ≡ g
 one_fault {T = T} t h k = cc (fault_answered T t h, fault_answered T t k)

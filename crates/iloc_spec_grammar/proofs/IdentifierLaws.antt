@@ -2,13 +2,13 @@
 use Rattle.std.proofs.Common.{◌≡◌, ℕ, Bool, true, false, cond, List, [], ◌∷◌, ◌++◌, refl, sym, ap, ◌∙◌}
 use Rattle.std.proofs.Common.{Option, Some, None, IfSome, option_to_list}
 use Rattle.std.specs.List.{AllByRecursion}
-use Rattle.iloc_spec_grammar.specs.Syntax.{Script, Region, Variant, is_word, IsWord, SpelledIdentifier}
+use Rattle.iloc_spec_grammar.specs.Syntax.{Text, Script, Region, Variant, is_word, IsWord, SpelledIdentifier}
 use Rattle.iloc_spec_grammar.specs.Syntax.{Identifier, identifier_pieces, HasWords}
 use Rattle.iloc_spec_grammar.specs.Reading.{take_first, skip_first, identifier_of}
 use Rattle.iloc_spec_grammar.specs.Meaning.{IdentifierMeans, normal_identifier}
 use Rattle.iloc_spec_grammar.proofs.WordsLaws.{region_no_script, variant_no_script, variant_no_region}
 
-pub all_pieces : (test : List ℕ → Bool) (ps : List (List ℕ)) →
+pub all_pieces : (test : Text → Bool) (ps : List Text) →
     option_to_list (take_first test ps) ++ skip_first test ps ≡ ps
 all_pieces test [] = refl
 all_pieces test (p ∷ ps) =
@@ -16,14 +16,14 @@ all_pieces test (p ∷ ps) =
     [ true ↦ refl | false ↦ refl ]
 
 -- reading loses nothing
-pub pieces-identifier_of : (p : List ℕ) (ps : List (List ℕ)) →
+pub pieces-identifier_of : (p : Text) (ps : List Text) →
     identifier_pieces (identifier_of (p ∷ ps)) ≡ p ∷ ps
 unfolding identifier_of
 pieces-identifier_of p ps = ap (λ qs. p ∷ (option_to_list (take_first (is_word Script) ps) ++ qs))
     (all_pieces (is_word Region) (skip_first (is_word Script) ps))
     ∙ ap (λ qs. p ∷ qs) (all_pieces (is_word Script) ps)
 
-pub read_words : (l : List ℕ) (s r : Option (List ℕ)) (vs : List (List ℕ)) → IfSome s (IsWord Script) →
+pub read_words : (l : Text) (s r : Option Text) (vs : List Text) → IfSome s (IsWord Script) →
     IfSome r (IsWord Region) → AllByRecursion (IsWord Variant) vs →
     identifier_of (l ∷ (option_to_list s ++ (option_to_list r ++ vs)))
     ≡ record { language = l; script = s; region = r; variants = vs }
@@ -44,7 +44,7 @@ pub one_identifier : {T : ℕ → Bool} (i j : SpelledIdentifier) → HasWords T
     identifier_pieces i ≡ identifier_pieces j → i ≡ j
 one_identifier i j h k e = sym (identifier_of-pieces i h) ∙ ap identifier_of e ∙ identifier_of-pieces j k
 
-pub one_meaning : {T : ℕ → Bool} (ps : List (List ℕ)) (a b : Identifier) → IdentifierMeans T ps a →
+pub one_meaning : {T : ℕ → Bool} (ps : List Text) (a b : Identifier) → IdentifierMeans T ps a →
     IdentifierMeans T ps b → a ≡ b
 one_meaning ps a b x y = x.means
     ∙ ap normal_identifier

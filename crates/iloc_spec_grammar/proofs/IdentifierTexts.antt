@@ -1,7 +1,8 @@
 -- Texts of identifiers: reading them back, the two steps between texts of one meaning, and faults.
 use Rattle.std.proofs.Common.{◌≡◌, ◌⊎◌, ℕ, ◌+◌, Bool, true, false, cond, not, List, ◌∷◌, length, refl, sym}
 use Rattle.std.proofs.Common.{ap, ◌∙◌, subst, arith, ◌↔◌, true≢false, Result, Ok, Err, MatchResult}
-use Rattle.iloc_spec_grammar.specs.Syntax.{pieces, join, Language, is_word, lower, Stage, IdentifierOf}
+use Rattle.iloc_spec_grammar.specs.Syntax.{LanguageLengths, Text, pieces, join, Language, is_word, lower}
+use Rattle.iloc_spec_grammar.specs.Syntax.{Stage, IdentifierOf}
 use Rattle.iloc_spec_grammar.specs.Syntax.{SpelledIdentifier, Identifier, identifier_pieces, HasWords}
 use Rattle.iloc_spec_grammar.specs.Syntax.{first_piece, head, front}
 use Rattle.iloc_spec_grammar.specs.Meaning.{normal_identifier, IdentifierMeans, Fault, InvalidLanguage}
@@ -35,7 +36,7 @@ pieces-identifier_text i h = pieces-join i.language _ (identifier_hyphen_free i 
 
 -- what is read is a value, and the text of a value means it
 
-pub identifier_means_value : {T : ℕ → Bool} (ps : List (List ℕ)) (i : Identifier) → IdentifierMeans T ps i →
+pub identifier_means_value : {T : ℕ → Bool} (ps : List Text) (i : Identifier) → IdentifierMeans T ps i →
     IsIdentifierValue T i
 identifier_means_value {T = T} ps i m =
     subst (IsIdentifierValue T) (sym m.means) (identifier_value m.written m.grammatical.words)
@@ -43,22 +44,22 @@ identifier_means_value {T = T} ps i m =
 pub identifier_text_means : {T : ℕ → Bool} (i : Identifier) → IsIdentifierValue T i →
     IdentifierMeans T (pieces (identifier_text i)) i
 unfolding identifier_text
-identifier_text_means {T = T} i h = subst (λ (ps : List (List ℕ)). IdentifierMeans T ps i)
+identifier_text_means {T = T} i h = subst (λ (ps : List Text). IdentifierMeans T ps i)
     (sym (pieces-identifier_text (spelled_identifier i) (value_words h))) (identifier_reads_back i h)
 
 -- the normal text of a meaning means it
-pub identifier_means_again : {T : ℕ → Bool} (ps : List (List ℕ)) (i : Identifier) → IdentifierMeans T ps i →
+pub identifier_means_again : {T : ℕ → Bool} (ps : List Text) (i : Identifier) → IdentifierMeans T ps i →
     IdentifierMeans T (pieces (identifier_text i)) i
 identifier_means_again ps i m = identifier_text_means i (identifier_means_value ps i m)
 
 pub same_identifier_text : {T : ℕ → Bool} (i j : Identifier) → IsIdentifierValue T i → IsIdentifierValue T j →
     identifier_text i ≡ identifier_text j → i ≡ j
 same_identifier_text {T = T} i j h k e = one_meaning (pieces (identifier_text j)) i j
-    (subst (λ (t : List ℕ). IdentifierMeans T (pieces t) i) e (identifier_text_means i h))
+    (subst (λ (t : Text). IdentifierMeans T (pieces t) i) e (identifier_text_means i h))
     (identifier_text_means j k)
 
 -- identifiers mean the same exactly where their normal texts are equal
-pub same_identifier_meaning : {T : ℕ → Bool} (ps qs : List (List ℕ)) (i j : Identifier) →
+pub same_identifier_meaning : {T : ℕ → Bool} (ps qs : List Text) (i j : Identifier) →
     IdentifierMeans T ps i → IdentifierMeans T qs j → (i ≡ j) ↔ (identifier_text i ≡ identifier_text j)
 same_identifier_meaning ps qs i j m n = (
   λ e. ap identifier_text e,
@@ -67,7 +68,7 @@ same_identifier_meaning ps qs i j m n = (
 
 -- a step keeps the meaning
 
-case_means : (T : ℕ → Bool) (t u : List ℕ) (i : Identifier) → lower t ≡ lower u →
+case_means : (T : LanguageLengths) (t u : Text) (i : Identifier) → lower t ≡ lower u →
     IdentifierMeans T (pieces t) i → IdentifierMeans T (pieces u) i
 case_means T t u i e m =
     let v = m.written in
@@ -88,7 +89,7 @@ case_means T t u i e m =
           m.means ∙ sym (normal-lower_identifier v) ∙ ap normal_identifier same ∙ normal-lower_identifier w;
     }
 
-pub identifier_text_step_means : (T : ℕ → Bool) (t u : List ℕ) (i : Identifier) →
+pub identifier_text_step_means : (T : LanguageLengths) (t u : Text) (i : Identifier) →
     TreeIdentifierTextStep T t u → IdentifierMeans T (pieces t) i → IdentifierMeans T (pieces u) i
 identifier_text_step_means T t u i (TreeIdentifierTextStep.letter_case e) m = case_means T t u i e m
 identifier_text_step_means T t u i (TreeIdentifierTextStep.variant_order {i = v} {j = w} h e s) m =
@@ -108,7 +109,7 @@ length-identifier_text : (i : SpelledIdentifier) →
     length (join (identifier_pieces i)) + 1 ≡ total piece_length (identifier_pieces i)
 length-identifier_text i = length-join i.language _
 
-pub identifier_text_step_length : (T : ℕ → Bool) (t u : List ℕ) → TreeIdentifierTextStep T t u →
+pub identifier_text_step_length : (T : LanguageLengths) (t u : Text) → TreeIdentifierTextStep T t u →
     length u ≡ length t
 identifier_text_step_length T t u (TreeIdentifierTextStep.letter_case e) =
     sym (length-lower u) ∙ ap length (sym e) ∙ length-lower t
@@ -126,10 +127,10 @@ lower-identifier_text i = lower-join (identifier_pieces i) ∙ ap join (sym (ide
 
 -- a meaning, or one fault
 
-abbrev pub IdentifierAnswers : (ℕ → Bool) → List (List ℕ) → Result Identifier Fault → Type 0
+abbrev pub IdentifierAnswers : (ℕ → Bool) → List Text → Result Identifier Fault → Type 0
 IdentifierAnswers T ps r = MatchResult r (IdentifierMeans T ps) (HasIdentifierFault T ps)
 
-pub identifier_answers : (T : ℕ → Bool) (p : List ℕ) (ps : List (List ℕ)) →
+pub identifier_answers : (T : LanguageLengths) (p : Text) (ps : List Text) →
     IdentifierAnswers T (p ∷ ps) (identifier_result T (p ∷ ps))
 identifier_answers T p ps =
     at_tests (is_word (Language T) p) refl (is_identifier T (identifier_of (p ∷ ps))) refl
@@ -147,26 +148,26 @@ identifier_answers T p ps =
       means = refl;
     }
 
-pub identifier_apart : {T : ℕ → Bool} (ps : List (List ℕ)) (i : Identifier) (f : Fault) →
+pub identifier_apart : {T : ℕ → Bool} (ps : List Text) (i : Identifier) (f : Fault) →
     IdentifierMeans T ps i → HasIdentifierFault T ps f → ⊥
 identifier_apart {T = T} ps i f h (not_a_language e) = true≢false (sym h.grammatical.words.language
-    ∙ ap (λ (l : List (List ℕ)). is_word (Language T) (first_piece l)) (sym h.spelled) ∙ e)
+    ∙ ap (λ (l : List Text). is_word (Language T) (first_piece l)) (sym h.spelled) ∙ e)
 identifier_apart ps i f h (not_an_identifier l n) = n (h.written, h.grammatical, h.spelled)
 
-pub one_identifier_fault : {T : ℕ → Bool} (ps : List (List ℕ)) {f g : Fault} → HasIdentifierFault T ps f →
+pub one_identifier_fault : {T : ℕ → Bool} (ps : List Text) {f g : Fault} → HasIdentifierFault T ps f →
     HasIdentifierFault T ps g → f ≡ g
 one_identifier_fault ps (not_a_language e) (not_a_language k) = refl
 one_identifier_fault ps (not_a_language e) (not_an_identifier k n) = absurd (true≢false (sym k ∙ e))
 one_identifier_fault ps (not_an_identifier l n) (not_a_language e) = absurd (true≢false (sym l ∙ e))
 one_identifier_fault ps (not_an_identifier l n) (not_an_identifier k m) = refl
 
-pub text_identifier_or_fault : (T : ℕ → Bool) (t : List ℕ) →
+pub text_identifier_or_fault : (T : LanguageLengths) (t : Text) →
     ((i : Identifier) × IdentifierMeans T (pieces t) i) ⊎ ((f : Fault) × HasIdentifierFault T (pieces t) f)
 text_identifier_or_fault T t =
     at_pieces (λ ps. ((i : Identifier) × IdentifierMeans T ps i) ⊎ ((f : Fault) × HasIdentifierFault T ps f))
     (λ p ps. either (identifier_result T (p ∷ ps)) (identifier_answers T p ps)) t
 
-pub head_identifier_or_fault : (T : ℕ → Bool) (t : List ℕ) →
+pub head_identifier_or_fault : (T : LanguageLengths) (t : Text) →
     ((i : Identifier) × IdentifierMeans T (head (pieces t)) i)
     ⊎ ((f : Fault) × HasIdentifierFault T (head (pieces t)) f)
 head_identifier_or_fault T t = at_pieces (λ ps.

@@ -3,7 +3,7 @@ use Rattle.std.proofs.Common.{◌≡◌, ◌⊎◌, inl, inr, ℕ, ◌+◌, ◌<
 use Rattle.std.proofs.Common.{refl, sym, ap, subst, arith, true≢false}
 use Rattle.std.specs.List.{list_any, AllZip}
 use Rattle.std.proofs.lemmas.Bool.{and_parts, and_from}
-use Rattle.iloc_spec_grammar.specs.Syntax.{lower}
+use Rattle.iloc_spec_grammar.specs.Syntax.{Text, lower}
 use Rattle.iloc_spec_grammar.specs.Values.{Reordered}
 use Rattle.iloc_spec_grammar.specs.TreeSteps.{TreeWithout, WithoutRepeats}
 use Rattle.iloc_spec_grammar.proofs.Orders.{total, total_reordered}
@@ -108,27 +108,27 @@ module _ {X : Type 0} (same : X → X → Bool) (q : Equality same) where
 
   -- repeats left out
 
-  module _ (key : X → List ℕ) where
-    abbrev Next : List (List ℕ) → X → List X → X → List X → Type 0
+  module _ (key : X → Text) where
+    abbrev Next : List Text → X → List X → X → List X → Type 0
     Next seen x xs y ys = (x ≡ y) × WithoutRepeats key (lower (key x) ∷ seen) xs ys
         ⊎ (was_seen key seen x ≡ true) × WithoutRepeats key seen xs (y ∷ ys)
 
-    repeats_next : {seen : List (List ℕ)} {x y : X} {xs ys : List X} → Next seen x xs y ys →
+    repeats_next : {seen : List Text} {x y : X} {xs ys : List X} → Next seen x xs y ys →
         WithoutRepeats key seen (x ∷ xs) (y ∷ ys)
     repeats_next {seen = seen} {x = x} {xs = xs} {ys = ys} (inl p) =
         subst (λ z. WithoutRepeats key seen (x ∷ xs) (z ∷ ys)) p.0 (WithoutRepeats.stays p.1)
     repeats_next (inr p) = WithoutRepeats.left_out p.0 p.1
 
-    next_repeats : {seen : List (List ℕ)} {x y : X} {xs ys : List X} →
+    next_repeats : {seen : List Text} {x y : X} {xs ys : List X} →
         WithoutRepeats key seen (x ∷ xs) (y ∷ ys) → Next seen x xs y ys
     next_repeats (WithoutRepeats.stays w) = inl (refl, w)
     next_repeats (WithoutRepeats.left_out e w) = inr (e, w)
 
-    last_repeats : {seen : List (List ℕ)} {x : X} {xs : List X} → WithoutRepeats key seen (x ∷ xs) [] →
+    last_repeats : {seen : List Text} {x : X} {xs : List X} → WithoutRepeats key seen (x ∷ xs) [] →
         (was_seen key seen x ≡ true) × WithoutRepeats key seen xs []
     last_repeats (WithoutRepeats.left_out e w) = (e, w)
 
-    pub tests_without_repeats : (seen : List (List ℕ)) (xs ys : List X) →
+    pub tests_without_repeats : (seen : List Text) (xs ys : List X) →
         Tests (is_without_repeats same key seen xs ys) (WithoutRepeats key seen xs ys)
     tests_without_repeats seen [] [] = record { holds = λ e. WithoutRepeats.none; passes = λ w. refl }
     tests_without_repeats seen [] (y ∷ ys) = never (λ w. elim w [ ])

@@ -11,14 +11,14 @@ use Rattle.std.specs.FinMap.{put, find, is_sorted, IsAntisymmetric, nat_cmp-IsAn
 use Rattle.std.specs.FinMap.{slice_cmp-IsAntisymmetric}
 use Rattle.std.specs.FinMap.Entries.{by_order, below_all, is_sorted-put, find-put, same_entries}
 use Rattle.std.proofs.lemmas.Bool.{and_parts, both_ways}
-use Rattle.iloc_spec_grammar.specs.Syntax.{word_cmp, is_same, AllDifferent}
+use Rattle.iloc_spec_grammar.specs.Syntax.{Text, word_cmp, is_same, AllDifferent}
 use Rattle.iloc_spec_grammar.specs.Meaning.{map_of}
 use Rattle.std.proofs.lemmas.Float.{T_from_true}
 
 pub word_cmp_total : IsTotalOrder word_cmp
 word_cmp_total = nat_list_cmp_total
 
-pub same_words : (v w : List ℕ) → word_cmp v w ≡ Equal → v ≡ w
+pub same_words : (v w : Text) → word_cmp v w ≡ Equal → v ≡ w
 same_words = slice_cmp-IsAntisymmetric nat_cmp-IsAntisymmetric
 
 pub from_T : (b : Bool) → T b → b ≡ true
@@ -96,8 +96,8 @@ module _ {K X : Type 0} (R : K → K → Ordering) where
 
 -- words that are the same
 
-pub same_itself : (w : List ℕ) → is_same w w ≡ true
+pub same_itself : (w : Text) → is_same w w ≡ true
 same_itself w = ap is_eq (tied_itself word_cmp_total w)
 
-pub same_is : (v w : List ℕ) → is_same v w ≡ true → v ≡ w
+pub same_is : (v w : Text) → is_same v w ≡ true → v ≡ w
 same_is v w e = same_words v w ((Equal-is (word_cmp v w)).0 e)

@@ -7,7 +7,7 @@ use Rattle.std.specs.Cmp.{IsTotalOrder, eq_by_cmp_equiv}
 use Rattle.std.specs.declared.cmp.Ordering.{Ordering}
 use Rattle.std.specs.FinMap.{find}
 use Rattle.std.proofs.lemmas.Bool.{or_parts, or_from, false_from_ne_true, both_ways}
-use Rattle.iloc_spec_grammar.specs.Syntax.{word_cmp, lower, AllDifferent}
+use Rattle.iloc_spec_grammar.specs.Syntax.{Text, word_cmp, lower, AllDifferent}
 use Rattle.iloc_spec_grammar.specs.Meaning.{map_of, set_of}
 use Rattle.iloc_spec_grammar.specs.Values.{Reordered}
 use Rattle.iloc_spec_grammar.specs.TreeSteps.{TreeWithout, WithoutRepeats}
@@ -143,7 +143,7 @@ same_value true true x z = refl
 same_value true false x z = refl
 same_value false b x z = refl
 
-marks_reordered : (q : List ℕ) {vs ws : List (List ℕ)} → Reordered vs ws →
+marks_reordered : (q : Text) {vs ws : List Text} → Reordered vs ws →
     find word_cmp q (map (λ w. (w, tt {0})) vs) ≡ find word_cmp q (map (λ w. (w, tt {0})) ws)
 marks_reordered q Reordered.none = refl
 marks_reordered q (Reordered.front_kept {x = x} r) =
@@ -153,9 +153,9 @@ marks_reordered q (Reordered.first_two {x = x} {y = y}) =
 marks_reordered q (Reordered.in_turn r s) = marks_reordered q r ∙ marks_reordered q s
 
 -- a set has no order
-pub set_of_reordered : {vs ws : List (List ℕ)} → Reordered vs ws → set_of vs ≡ set_of ws
+pub set_of_reordered : {vs ws : List Text} → Reordered vs ws → set_of vs ≡ set_of ws
 set_of_reordered {vs = vs} {ws = ws} r =
-    ap (map (λ (e : List ℕ × Unit {0}). e.0)) (map_of_same word_cmp word_cmp_total same_words
+    ap (map (λ (e : Text × Unit {0}). e.0)) (map_of_same word_cmp word_cmp_total same_words
     (map (λ w. (w, tt {0})) vs) (map (λ w. (w, tt {0})) ws) (λ q. marks_reordered q r))
 
 -- the later of equal keys are never found
@@ -165,7 +165,7 @@ not_tied : {K : Type 0} (R : K → K → Ordering) → IsTotalOrder R → (q x :
 not_tied R o q x seen h n =
     false_from_ne_true _ (λ e. both_ways _ n (list_any_congr (eq_by_cmp_equiv o) q x seen e ∙ h))
 
-pub find_repeats : {X Y : Type 0} (key : X → List ℕ) (value : X → Y) (q : List ℕ) {seen : List (List ℕ)}
+pub find_repeats : {X Y : Type 0} (key : X → Text) (value : X → Y) (q : Text) {seen : List Text}
     {xs ys : List X} →
     WithoutRepeats key seen xs ys → list_any (eq_by_cmp word_cmp q) seen ≡ false →
     find word_cmp q (map (λ x. (lower (key x), value x)) xs)
@@ -187,7 +187,7 @@ find_repeats key value q (WithoutRepeats.left_out {seen = seen} {x = x} {xs = xs
     (not_tied word_cmp word_cmp_total q (lower (key x)) seen h n)
     ∙ find_repeats key value q r n
 
-pub map_repeats : {X Y : Type 0} (key : X → List ℕ) (value : X → Y) {xs ys : List X} →
+pub map_repeats : {X Y : Type 0} (key : X → Text) (value : X → Y) {xs ys : List X} →
     WithoutRepeats key [] xs ys →
     map_of word_cmp (map (λ x. (lower (key x), value x)) xs)
     ≡ map_of word_cmp (map (λ x. (lower (key x), value x)) ys)
@@ -195,7 +195,7 @@ map_repeats key value {xs = xs} {ys = ys} r =
     map_of_same word_cmp word_cmp_total same_words (map (λ x. (lower (key x), value x)) xs)
     (map (λ x. (lower (key x), value x)) ys) (λ q. find_repeats key value q r refl)
 
-pub all_repeats : {X : Type 0} (P : X → Type 0) (key : X → List ℕ) {seen : List (List ℕ)} {xs ys : List X} →
+pub all_repeats : {X : Type 0} (P : X → Type 0) (key : X → Text) {seen : List Text} {xs ys : List X} →
     WithoutRepeats key seen xs ys → AllByRecursion P xs → AllByRecursion P ys
 all_repeats P key WithoutRepeats.none h = tt
 all_repeats P key (WithoutRepeats.stays r) h = (h.0, all_repeats P key r h.1)
@@ -238,7 +238,7 @@ total_without f test TreeWithout.none = le_refl 0
 total_without f test (TreeWithout.stays r) = let l = total_without f test r in omega arith
 total_without f test (TreeWithout.left_out e r) = let l = total_without f test r in omega arith
 
-pub total_repeats : {X : Type 0} (f : X → ℕ) (key : X → List ℕ) {seen : List (List ℕ)} {xs ys : List X} →
+pub total_repeats : {X : Type 0} (f : X → ℕ) (key : X → Text) {seen : List Text} {xs ys : List X} →
     WithoutRepeats key seen xs ys → total f ys ≤ total f xs
 total_repeats f key WithoutRepeats.none = le_refl 0
 total_repeats f key (WithoutRepeats.stays r) = let l = total_repeats f key r in omega arith

@@ -4,7 +4,7 @@ use Rattle.std.proofs.Common.{Option, Some, None, nat_lt, refl, sym, subst, true
 use Rattle.std.specs.List.{AllZip, list_any}
 use Rattle.std.proofs.lemmas.Bool.{and_parts, and_from, or_cases, or_left, or_right}
 use Rattle.std.proofs.Math.Bool.{or-true}
-use Rattle.iloc_spec_grammar.specs.Syntax.{Subtag, is_word, lower, is_same, is_true, word_cmp}
+use Rattle.iloc_spec_grammar.specs.Syntax.{Field, Text, Subtag, is_word, lower, is_same, is_true, word_cmp}
 use Rattle.iloc_spec_grammar.specs.Syntax.{SpelledIdentifier, SpelledUnicode, SpelledTransform, Fields}
 use Rattle.iloc_spec_grammar.specs.Tree.{Extension, unicode, transform, other, Written}
 use Rattle.iloc_spec_grammar.specs.Values.{Reordered}
@@ -29,11 +29,11 @@ use Rattle.iloc_spec_grammar.proofs.ListTests.{tests_without_repeats}
 
 -- fields
 
-pub tests_less_true : (f g : List ℕ × List (List ℕ)) → Tests (has_less_true f g) (TreeLessTrue f g)
+pub tests_less_true : (f g : Field) → Tests (has_less_true f g) (TreeLessTrue f g)
 tests_less_true f g =
     tests_and (word_equality f.0 g.0) (tests_without is_same word_equality (λ p. is_true (lower p)) f.1 g.1)
 
-abbrev KeepsValue : List ℕ × List (List ℕ) → List ℕ × List (List ℕ) → Type 0
+abbrev KeepsValue : Field → Field → Type 0
 KeepsValue f g = TreeLessTrue f g × (0 < length g.1)
 
 tests_keeps_value : (fs gs : Fields) →
@@ -147,7 +147,7 @@ transform_holds r m n e = elim (or_cases _ _ e) [
       ((optional_equality m.id n.id).holds parts.0) (fields_holds r m.id m.fields n.fields parts.1)
 ]
 
-other_holds : (r : TreeRule) (ps qs : List (List ℕ)) → is_other_step r ps qs ≡ true →
+other_holds : (r : TreeRule) (ps qs : List Text) → is_other_step r ps qs ≡ true →
     ExtensionStep r (other ps) (other qs)
 other_holds DroppedPieces ps qs e = ExtensionStep.dropped_pieces
     ((tests_without is_same word_equality (λ p. not (is_word Subtag p)) ps qs).holds e)

@@ -5,7 +5,8 @@ use Rattle.std.proofs.Common.{option_map, option_to_list, is_some, nat_le, nat_l
 use Rattle.std.proofs.lemmas.Bool.{lt-ltb}
 use Rattle.std.proofs.lemmas.List.{map-append}
 use Rattle.std.proofs.lemmas.List.Concat.{flat_map-append}
-use Rattle.iloc_spec_grammar.specs.Syntax.{join, dashes, lower, Stage, IdentifierOf, Identifier, Unicode}
+use Rattle.iloc_spec_grammar.specs.Syntax.{Block, code_x, code_u, code_t, Text, join, dashes, lower, Stage}
+use Rattle.iloc_spec_grammar.specs.Syntax.{IdentifierOf, Identifier, Unicode}
 use Rattle.iloc_spec_grammar.specs.Syntax.{Transform, Fields, identifier_pieces, optional_pieces}
 use Rattle.iloc_spec_grammar.specs.Syntax.{fields_pieces, unicode_pieces, transform_pieces}
 use Rattle.iloc_spec_grammar.specs.Tree.{before_t, after_t, spelled_transform}
@@ -22,22 +23,22 @@ unfolding join
 join-nothing = refl
 
 -- the text of one word is that word
-pub join_one : (ws : List (List ℕ)) (d : List ℕ) → 1 ≤ length ws → length ws < 2 → get_or ws 0 d ≡ join ws
+pub join_one : (ws : List Text) (d : Text) → 1 ≤ length ws → length ws < 2 → get_or ws 0 d ≡ join ws
 unfolding join
 join_one [] d l m = absurd (omega (arith, l))
 join_one (w ∷ []) d l m = refl
 join_one (w ∷ (v ∷ ws)) d l m = absurd (omega (arith, m))
 
 -- the first piece, and each other after a hyphen
-pub join-dashes : (p : List ℕ) (ps : List (List ℕ)) → join (p ∷ ps) ≡ p ++ dashes ps
+pub join-dashes : (p : Text) (ps : List Text) → join (p ∷ ps) ≡ p ++ dashes ps
 unfolding join
 join-dashes p [] = sym (append-nil p)
 join-dashes p (q ∷ ps) = ap (λ l. p ++ 45 ∷ l) (join-dashes q ps)
 
-pub dashes-append : (ps qs : List (List ℕ)) → dashes (ps ++ qs) ≡ dashes ps ++ dashes qs
-dashes-append ps qs = flat_map-append (λ (p : List ℕ). 45 ∷ p) ps qs
+pub dashes-append : (ps qs : List Text) → dashes (ps ++ qs) ≡ dashes ps ++ dashes qs
+dashes-append ps qs = flat_map-append (λ (p : Text). 45 ∷ p) ps qs
 
-pub join-append : (p : List ℕ) (ps qs : List (List ℕ)) → join ((p ∷ ps) ++ qs) ≡ join (p ∷ ps) ++ dashes qs
+pub join-append : (p : Text) (ps qs : List Text) → join ((p ∷ ps) ++ qs) ≡ join (p ∷ ps) ++ dashes qs
 join-append p ps qs = join-dashes p (ps ++ qs) ∙ ap (λ l. p ++ l) (dashes-append ps qs)
     ∙ sym (append_assoc p (dashes ps) (dashes qs)) ∙ ap (λ l. l ++ dashes qs) (sym (join-dashes p ps))
 
@@ -70,49 +71,52 @@ id_pieces-low (Some i) = identifier_pieces-low i
 
 -- each part, where it is empty and where it isn't
 
-there : (n : ℕ) (ps : List (List ℕ)) → 0 < n → ps ≡ cond (nat_lt 0 n) ps []
+there : (n : ℕ) (ps : List Text) → 0 < n → ps ≡ cond (nat_lt 0 n) ps []
 there n ps l = ap (λ (b : Bool). cond b ps []) (sym (lt-ltb 0 n l))
 
 pub unicode_spelling_is : (u : Unicode) →
     unicode_spelling u
-    ≡ cond (nat_lt 0 (length u.attributes + length u.keywords)) ((117 ∷ []) ∷ unicode_pieces u) []
+    ≡ cond (nat_lt 0 (length u.attributes + length u.keywords)) ((code_u ∷ []) ∷ unicode_pieces u) []
 unfolding unicode_spelling
 unicode_spelling_is u = parts u.attributes u.keywords
   where
-    parts : (ws : List (List ℕ)) (ks : Fields) →
-        printed_pieces (117, ws ++ fields_pieces ks)
-        ≡ cond (nat_lt 0 (length ws + length ks)) ((117 ∷ []) ∷ (ws ++ fields_pieces ks)) []
+    parts : (ws : List Text) (ks : Fields) →
+        printed_pieces (code_u, ws ++ fields_pieces ks)
+        ≡ cond (nat_lt 0 (length ws + length ks)) ((code_u ∷ []) ∷ (ws ++ fields_pieces ks)) []
     parts [] [] = refl
     parts [] (k ∷ ks) = there (0 + length (k ∷ ks)) _ (omega arith)
     parts (w ∷ ws) ks = there (length (w ∷ ws) + length ks) _ (omega arith)
 
 pub transform_spelling_is : (m : Transform) →
     transform_spelling m
-    ≡ cond (is_some m.id || nat_lt 0 (length m.fields)) ((116 ∷ []) ∷ transform_pieces (spelled_transform m))
+    ≡ cond (is_some m.id || nat_lt 0 (length m.fields))
+    ((code_t ∷ []) ∷ transform_pieces (spelled_transform m))
     []
 unfolding transform_spelling
 transform_spelling_is m =
-    ap (λ ps. printed_pieces (116, ps ++ fields_pieces (spelled_fields m.fields))) (sym (id_pieces-low m.id))
+    ap (λ ps. printed_pieces (code_t, ps ++ fields_pieces (spelled_fields m.fields)))
+    (sym (id_pieces-low m.id))
     ∙ parts m.id m.fields
   where
     parts : (o : Option Identifier) (fs : Fields) →
         printed_pieces
-        (116, optional_pieces (option_map lower_identifier o) ++ fields_pieces (spelled_fields fs))
+        (code_t, optional_pieces (option_map lower_identifier o) ++ fields_pieces (spelled_fields fs))
         ≡ cond (is_some o || nat_lt 0 (length fs))
-        ((116 ∷ []) ∷ (optional_pieces (option_map lower_identifier o) ++ fields_pieces (spelled_fields fs)))
+        ((code_t ∷ [])
+        ∷ (optional_pieces (option_map lower_identifier o) ++ fields_pieces (spelled_fields fs)))
         []
     parts None [] = refl
     parts None (f ∷ fs) = there (length (f ∷ fs)) _ (omega arith)
     parts (Some i) fs = refl
 
-pub other_spelling_is : (o : ℕ × List (List ℕ)) →
+pub other_spelling_is : (o : Block) →
     other_spelling o ≡ cond (nat_lt 0 (length o.1)) ((o.0 ∷ []) ∷ o.1) []
 unfolding other_spelling
 other_spelling_is (c, []) = refl
 other_spelling_is (c, p ∷ ps) = there (length (p ∷ ps)) _ (omega arith)
 
-pub private_spelling_is : (w : List ℕ) (ws : List (List ℕ)) →
-    private_spelling (w ∷ ws) ≡ (120 ∷ []) ∷ (w ∷ ws)
+pub private_spelling_is : (w : Text) (ws : List Text) →
+    private_spelling (w ∷ ws) ≡ (code_x ∷ []) ∷ (w ∷ ws)
 unfolding private_spelling
 private_spelling_is w ws = refl
 
@@ -122,28 +126,28 @@ private_spelling_none = refl
 
 -- others up to `t`, the parts of `t` and `u`, and the others after it
 
-pub before_above_is : (bs os : List (ℕ × List (List ℕ))) →
+pub before_above_is : (bs os : List Block) →
     before_above bs os ≡ before_t os ++ (bs ++ after_t os)
 before_above_is bs [] = sym (append-nil bs)
-before_above_is bs (o ∷ os) = elim (nat_le o.0 116)
+before_above_is bs (o ∷ os) = elim (nat_le o.0 code_t)
     as (λ b. cond b (o ∷ before_above bs os) (bs ++ (o ∷ os))
     ≡ cond b (o ∷ before_t os) [] ++ (bs ++ cond b (after_t os) (o ∷ os)))
     [ true ↦ ap (λ l. o ∷ l) (before_above_is bs os) | false ↦ refl ]
 
 -- the pieces of extensions whose others are split in two, the parts of `t` and `u` between them
-pub spelling_around : (e : Extensions) (before after : List (ℕ × List (List ℕ))) →
-    ((bs : List (ℕ × List (List ℕ))) → before_above bs e.others ≡ before ++ (bs ++ after)) →
+pub spelling_around : (e : Extensions) (before after : List Block) →
+    ((bs : List Block) → before_above bs e.others ≡ before ++ (bs ++ after)) →
     extensions_spelling e
     ≡ flat_map other_spelling before
     ++ (transform_spelling e.transform
     ++ (unicode_spelling e.unicode ++ (flat_map other_spelling after ++ private_spelling e.private)))
 unfolding extensions_spelling transform_spelling unicode_spelling other_spelling private_spelling
 spelling_around e before after split =
-    let parts = transform_block e.transform ∷ (117, unicode_pieces e.unicode) ∷ [] in
+    let parts = transform_block e.transform ∷ (code_u, unicode_pieces e.unicode) ∷ [] in
     let t = printed_pieces (transform_block e.transform) in
-    let u = printed_pieces (117, unicode_pieces e.unicode) in
-    let x = printed_pieces (120, e.private) in
-    flat_map-append printed_pieces (before_above parts e.others) ((120, e.private) ∷ [])
+    let u = printed_pieces (code_u, unicode_pieces e.unicode) in
+    let x = printed_pieces (code_x, e.private) in
+    flat_map-append printed_pieces (before_above parts e.others) ((code_x, e.private) ∷ [])
     ∙ (λ k. flat_map printed_pieces (split parts k) ++ append-nil x k)
     ∙ ap (λ l. l ++ x) (flat_map-append printed_pieces before (parts ++ after))
     ∙ append_assoc (flat_map printed_pieces before) (t ++ (u ++ flat_map printed_pieces after)) x

@@ -6,33 +6,33 @@ use Rattle.std.proofs.lemmas.List.Splits.{join_with_byte-slice_split}
 use Rattle.std.proofs.lemmas.Bool.{or_parts, or_from, false_from_ne_true, cond_both}
 use Rattle.std.proofs.lemmas.Bool.Decides.{nat_tests}
 use Rattle.std.proofs.lemmas.List.Elements.{recursion_from_All}
-use Rattle.iloc_spec_grammar.specs.Syntax.{pieces, join, IsHyphenFree, ArePieces}
+use Rattle.iloc_spec_grammar.specs.Syntax.{Text, pieces, join, IsHyphenFree, ArePieces}
 
 abbrev hyphen : ℕ → Bool
 hyphen b = b == 45
 
-pieces_cut : (p rest : List ℕ) → IsHyphenFree p →
+pieces_cut : (p rest : Text) → IsHyphenFree p →
     slice_split hyphen (p ++ 45 ∷ rest) ≡ p ∷ slice_split hyphen rest
 pieces_cut [] rest h = refl
 pieces_cut (c ∷ p) rest h =
     let parts = or_parts (c == 45) (list_any hyphen p) h in rw (parts.0, pieces_cut p rest parts.1)
 
-pieces_whole : (p : List ℕ) → IsHyphenFree p → slice_split hyphen p ≡ p ∷ []
+pieces_whole : (p : Text) → IsHyphenFree p → slice_split hyphen p ≡ p ∷ []
 pieces_whole [] h = refl
 pieces_whole (c ∷ p) h =
     let parts = or_parts (c == 45) (list_any hyphen p) h in rw (parts.0, pieces_whole p parts.1)
 
-pub pieces-join : (p : List ℕ) (ps : List (List ℕ)) → AllByRecursion IsHyphenFree (p ∷ ps) →
+pub pieces-join : (p : Text) (ps : List Text) → AllByRecursion IsHyphenFree (p ∷ ps) →
     pieces (join (p ∷ ps)) ≡ p ∷ ps
 unfolding pieces join
 pieces-join p [] h = pieces_whole p h.0
 pieces-join p (q ∷ ps) h = pieces_cut p _ h.0 ∙ ap (λ l. p ∷ l) (pieces-join q ps h.1)
 
-onto_nonempty : (c : ℕ) (ps : List (List ℕ)) → onto_first c ps ≢ []
+onto_nonempty : (c : ℕ) (ps : List Text) → onto_first c ps ≢ []
 onto_nonempty c [] e = cc
 onto_nonempty c (p ∷ ps) e = cc
 
-pub pieces_nonempty : (t : List ℕ) → pieces t ≢ []
+pub pieces_nonempty : (t : Text) → pieces t ≢ []
 unfolding pieces
 pieces_nonempty [] e = cc
 pieces_nonempty (c ∷ t) e =
@@ -40,46 +40,46 @@ pieces_nonempty (c ∷ t) e =
     [ true ↦ λ e. cc | false ↦ onto_nonempty c _ ]) e
 
 -- what holds of each list with a piece holds of the pieces of a text
-pub at_pieces : (P : List (List ℕ) → Type 0) → ((p : List ℕ) (ps : List (List ℕ)) → P (p ∷ ps)) →
-    (t : List ℕ) → P (pieces t)
+pub at_pieces : (P : List Text → Type 0) → ((p : Text) (ps : List Text) → P (p ∷ ps)) →
+    (t : Text) → P (pieces t)
 at_pieces P f t = (elim (pieces t) as (λ ps. pieces t ≡ ps → P ps)
     [ [] ↦ λ e. absurd (pieces_nonempty t e) | p ∷ ps ↦ λ e. f p ps ]) refl
 
-onto_hyphen_free : (c : ℕ) (ps : List (List ℕ)) → (c == 45) ≡ false → AllByRecursion IsHyphenFree ps →
+onto_hyphen_free : (c : ℕ) (ps : List Text) → (c == 45) ≡ false → AllByRecursion IsHyphenFree ps →
     AllByRecursion IsHyphenFree (onto_first c ps)
 onto_hyphen_free c [] e h = (or_from _ _ e refl, tt)
 onto_hyphen_free c (p ∷ ps) e h = (or_from _ _ e h.0, h.1)
 
-pub pieces_hyphen_free : (t : List ℕ) → AllByRecursion IsHyphenFree (pieces t)
+pub pieces_hyphen_free : (t : Text) → AllByRecursion IsHyphenFree (pieces t)
 unfolding pieces
 pieces_hyphen_free [] = (refl, tt)
 pieces_hyphen_free (c ∷ t) = cond_both (c == 45) _ _ (AllByRecursion IsHyphenFree)
     (λ _. (refl, pieces_hyphen_free t)) (λ e. onto_hyphen_free c _ e (pieces_hyphen_free t))
 
-pub join-pieces : (t : List ℕ) → join (pieces t) ≡ t
+pub join-pieces : (t : Text) → join (pieces t) ≡ t
 unfolding pieces join
 join-pieces t = join_with_byte-slice_split 45 t
 
-pub pieces_are : (t : List ℕ) → ArePieces t (pieces t)
+pub pieces_are : (t : Text) → ArePieces t (pieces t)
 pieces_are t =
     record { nonempty = pieces_nonempty t; hyphen_free = pieces_hyphen_free t; joined = join-pieces t }
 
-pub pieces_unique : (t : List ℕ) (ps : List (List ℕ)) → ArePieces t ps → ps ≡ pieces t
+pub pieces_unique : (t : Text) (ps : List Text) → ArePieces t ps → ps ≡ pieces t
 pieces_unique t [] h = absurd (h.nonempty refl)
 pieces_unique t (p ∷ ps) h = sym (pieces-join p ps h.hyphen_free) ∙ ap pieces h.joined
 
 no_hyphen : (c : ℕ) → c ≢ 45 → (c == 45) ≡ false
 no_hyphen c h = false_from_ne_true _ (λ e. h (grind (arith, nat_tests)))
 
-hyphen_free : (p : List ℕ) → AllByRecursion (λ c. c ≢ 45) p → IsHyphenFree p
+hyphen_free : (p : Text) → AllByRecursion (λ c. c ≢ 45) p → IsHyphenFree p
 hyphen_free [] h = refl
 hyphen_free (c ∷ p) h = or_from _ _ (no_hyphen c h.0) (hyphen_free p h.1)
 
 -- the text is cut at its first hyphen
-pub pieces-cut : (p rest : List ℕ) → All (λ c. c ≢ 45) p → pieces (p ++ 45 ∷ rest) ≡ p ∷ pieces rest
+pub pieces-cut : (p rest : Text) → All (λ c. c ≢ 45) p → pieces (p ++ 45 ∷ rest) ≡ p ∷ pieces rest
 unfolding pieces
 pieces-cut p rest h = pieces_cut p rest (hyphen_free p (recursion_from_All (λ (c : ℕ). c ≢ 45) p h))
 
-pub pieces-uncut : (p : List ℕ) → All (λ c. c ≢ 45) p → pieces p ≡ p ∷ []
+pub pieces-uncut : (p : Text) → All (λ c. c ≢ 45) p → pieces p ≡ p ∷ []
 unfolding pieces
 pieces-uncut p h = pieces_whole p (hyphen_free p (recursion_from_All (λ (c : ℕ). c ≢ 45) p h))

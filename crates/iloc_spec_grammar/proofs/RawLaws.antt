@@ -6,7 +6,7 @@ use Rattle.std.specs.Char.{is_ascii_alphanumeric}
 use Rattle.std.proofs.lemmas.Bool.{and_parts, or_parts}
 use Rattle.std.proofs.lemmas.Bool.Decides.{nat_tests}
 use Rattle.std.proofs.lemmas.List.{length-replicate, replicate-append-replicate}
-use Rattle.iloc_spec_grammar.specs.Syntax.{Kind, Language, AreLengths, two_or_three, languages, is_word}
+use Rattle.iloc_spec_grammar.specs.Syntax.{Text, Kind, Language, AreLengths, two_or_three, languages, is_word}
 use Rattle.iloc_spec_grammar.specs.Syntax.{IsWord, EndsAt, greatest, Bounds, raw, wide_raw, narrow_raw}
 use Rattle.iloc_spec_grammar.specs.Syntax.{before_zero}
 use Rattle.iloc_spec_grammar.proofs.WordsLaws.{word_letters_or_digits}
@@ -47,12 +47,12 @@ narrow_ends n h = grind (arith, nat_tests)
 
 -- no word is longer than the greatest
 
-at_most_greatest : (n : ℕ) (k : Kind) (w : List ℕ) → Bounds n k → IsWord k w → length w ≤ greatest n k
+at_most_greatest : (n : ℕ) (k : Kind) (w : Text) → Bounds n k → IsWord k w → length w ≤ greatest n k
 unfolding is_word
 at_most_greatest n (Language T) w b h = b (length w) (and_parts _ _ h).0
 at_most_greatest n _ w b h = grind (arith, nat_tests)
 
-pub length-raw : (n : ℕ) (k : Kind) (w : List ℕ) → Bounds n k → IsWord k w → length (raw n k w) ≡ greatest n k
+pub length-raw : (n : ℕ) (k : Kind) (w : Text) → Bounds n k → IsWord k w → length (raw n k w) ≡ greatest n k
 length-raw n k w b h = let m = at_most_greatest n k w b h in
     let z : length (replicate {A = ℕ} (greatest n k - length w) 0) ≡ greatest n k - length w =
     length-replicate (greatest n k - length w) 0 in
@@ -72,16 +72,16 @@ before_zeros : (n : ℕ) → before_zero (replicate n 0) ≡ []
 before_zeros zero = refl
 before_zeros (suc n) = refl
 
-before_padding : (w : List ℕ) (n : ℕ) → list_any is_zero w ≡ false → before_zero (w ++ replicate n 0) ≡ w
+before_padding : (w : Text) (n : ℕ) → list_any is_zero w ≡ false → before_zero (w ++ replicate n 0) ≡ w
 before_padding [] n h = before_zeros n
 before_padding (c ∷ w) n h = let parts = or_parts (is_zero c) (list_any is_zero w) h in
     rw parts.0 (ap (λ l. c ∷ l) (before_padding w n parts.1))
 
-pub before_zero-raw : (n : ℕ) (k : Kind) (w : List ℕ) → IsWord k w → before_zero (raw n k w) ≡ w
+pub before_zero-raw : (n : ℕ) (k : Kind) (w : Text) → IsWord k w → before_zero (raw n k w) ≡ w
 before_zero-raw n k w h = before_padding w (greatest n k - length w)
     (none_passes _ is_zero either_no_zero w (word_letters_or_digits k w h))
 
-pub raw_injective : (n : ℕ) (k : Kind) (v w : List ℕ) → IsWord k v → IsWord k w → raw n k v ≡ raw n k w →
+pub raw_injective : (n : ℕ) (k : Kind) (v w : Text) → IsWord k v → IsWord k w → raw n k v ≡ raw n k w →
     v ≡ w
 raw_injective n k v w g h e = sym (before_zero-raw n k v g) ∙ ap before_zero e ∙ before_zero-raw n k w h
 
@@ -90,7 +90,7 @@ raw_injective n k v w g h e = sym (before_zero-raw n k v g) ∙ ap before_zero e
 zeros : (m n : ℕ) → replicate {A = ℕ} (m + n) 0 ≡ replicate m 0 ++ replicate n 0
 zeros m n = sym (replicate-append-replicate m n 0)
 
-pub wide-narrow_raw : (w : List ℕ) → IsWord (Language two_or_three) w →
+pub wide-narrow_raw : (w : Text) → IsWord (Language two_or_three) w →
     wide_raw (Language languages) w ≡ narrow_raw (Language two_or_three) w ++ replicate 5 0
 wide-narrow_raw w h =
     let m = at_most_greatest 3 (Language two_or_three) w narrow_ends h in

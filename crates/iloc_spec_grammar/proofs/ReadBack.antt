@@ -15,7 +15,8 @@ use Rattle.std.proofs.lemmas.Bool.Decides.{nat_tests}
 use Rattle.std.proofs.lemmas.List.Elements.{filter_map-append}
 use Rattle.std.proofs.lemmas.List.Concat.{flat_map-append}
 use Rattle.std.proofs.lemmas.List.{map-append}
-use Rattle.iloc_spec_grammar.specs.Syntax.{pieces, join, IsHyphenFree, Kind, Language, Script, Region}
+use Rattle.iloc_spec_grammar.specs.Syntax.{LanguageLengths, Block, code_x, code_u, code_t, Text, pieces, join}
+use Rattle.iloc_spec_grammar.specs.Syntax.{IsHyphenFree, Kind, Language, Script, Region}
 use Rattle.iloc_spec_grammar.specs.Syntax.{Variant, Subtag, UnicodeKey, TransformKey, Attribute}
 use Rattle.iloc_spec_grammar.specs.Syntax.{PrivateSubtag, is_word, IsWord, lower, SpelledIdentifier}
 use Rattle.iloc_spec_grammar.specs.Syntax.{Identifier, Unicode, Transform, Fields, identifier_pieces}
@@ -58,28 +59,28 @@ pub plain_fields : (fs : Fields) → AllByRecursion IsField fs →
 plain_fields = all_weaker IsField (λ f. IsWord TransformKey f.0 × AllByRecursion (IsWord Attribute) f.1)
     (λ f r. (r.0, r.1))
 
-module _ (P : List ℕ → Type 0) where
-  option_each : (k : Kind) → ((p : List ℕ) → IsWord k p → P p) → (o : Option (List ℕ)) → IfSome o (IsWord k) →
+module _ (P : Text → Type 0) where
+  option_each : (k : Kind) → ((p : Text) → IsWord k p → P p) → (o : Option Text) → IfSome o (IsWord k) →
       AllByRecursion P (option_to_list o)
   option_each k f None h = tt
   option_each k f (Some w) h = (f w h, tt)
 
-  pub after_language_each : {T : ℕ → Bool} → ((p : List ℕ) → IsWord Script p → P p) →
-      ((p : List ℕ) → IsWord Region p → P p) → ((p : List ℕ) → IsWord Variant p → P p) →
+  pub after_language_each : {T : ℕ → Bool} → ((p : Text) → IsWord Script p → P p) →
+      ((p : Text) → IsWord Region p → P p) → ((p : Text) → IsWord Variant p → P p) →
       (i : SpelledIdentifier) → HasWords T i →
       AllByRecursion P (option_to_list i.script ++ (option_to_list i.region ++ i.variants))
   after_language_each s r v i h = all_append P (option_to_list i.script) _
       (option_each Script s i.script h.script) (all_append P (option_to_list i.region) _
       (option_each Region r i.region h.region) (all_weaker (IsWord Variant) P v i.variants h.variants))
 
-  pub optional_each : (T : ℕ → Bool) →
+  pub optional_each : (T : LanguageLengths) →
       ((i : SpelledIdentifier) → HasWords T i → AllByRecursion P (identifier_pieces i)) →
       (o : Option SpelledIdentifier) → IfSome o (IsIdentifier T) → AllByRecursion P (optional_pieces o)
   optional_each T f None h = tt
   optional_each T f (Some i) h = f i h.words
 
-  pub fields_each : (k : Kind) → ((p : List ℕ) → IsWord k p → P p) →
-      ((p : List ℕ) → IsWord Attribute p → P p) → (fs : Fields) →
+  pub fields_each : (k : Kind) → ((p : Text) → IsWord k p → P p) →
+      ((p : Text) → IsWord Attribute p → P p) → (fs : Fields) →
       AllByRecursion (λ f. IsWord k f.0 × AllByRecursion (IsWord Attribute) f.1) fs →
       AllByRecursion P (fields_pieces fs)
   fields_each k f g [] h = tt
@@ -91,15 +92,15 @@ abbrev pub OfWords : Extension → Type 0
 OfWords (other ps) = AllByRecursion (IsWord Subtag) ps
 OfWords _ = Unit {0}
 
-pub extension_singleton : (T : ℕ → Bool) (c : ℕ) (e : Extension) → IsExtension T c e →
+pub extension_singleton : (T : LanguageLengths) (c : ℕ) (e : Extension) → IsExtension T c e →
     is_ascii_alphanumeric c ≡ true
 extension_singleton T c (other ps) h = (and_parts _ _ h.0).0
 extension_singleton T c _ h = rw h.0
 
 -- what holds of each word and of each singleton holds of each piece that is spelled
-module _ (P : List ℕ → Type 0) (word : (k : Kind) (p : List ℕ) → IsWord k p → P p)
+module _ (P : Text → Type 0) (word : (k : Kind) (p : Text) → IsWord k p → P p)
     (singleton : (c : ℕ) → is_ascii_alphanumeric (to_ascii_lowercase c) ≡ true → P (c ∷ [])) where
-  words_each : (k : Kind) (ws : List (List ℕ)) → AllByRecursion (IsWord k) ws → AllByRecursion P ws
+  words_each : (k : Kind) (ws : List Text) → AllByRecursion (IsWord k) ws → AllByRecursion P ws
   words_each k ws h = all_weaker (IsWord k) P (word k) ws h
 
   pub identifier_each : {T : ℕ → Bool} (i : SpelledIdentifier) → HasWords T i →
@@ -114,7 +115,7 @@ module _ (P : List ℕ → Type 0) (word : (k : Kind) (p : List ℕ) → IsWord 
       AllByRecursion P (fields_pieces fs)
   any_fields_each k = fields_each P k (word k) (word Attribute)
 
-  extension_each : (T : ℕ → Bool) (c : ℕ) (e : Extension) → IsExtension T c e → OfWords e →
+  extension_each : (T : LanguageLengths) (c : ℕ) (e : Extension) → IsExtension T c e → OfWords e →
       AllByRecursion P (extension_pieces e)
   extension_each T c (unicode u) h w = all_append P u.attributes _
       (words_each Attribute u.attributes h.1.attributes) (any_fields_each UnicodeKey u.keywords h.1.keywords)
@@ -123,7 +124,7 @@ module _ (P : List ℕ → Type 0) (word : (k : Kind) (p : List ℕ) → IsWord 
       (any_fields_each TransformKey m.fields (plain_fields m.fields h.1.fields))
   extension_each T c (other ps) h w = words_each Subtag ps w
 
-  extensions_each : (T : ℕ → Bool) (es : List (ℕ × Extension)) →
+  extensions_each : (T : LanguageLengths) (es : List (ℕ × Extension)) →
       AllByRecursion (λ e. IsExtension T (lower_singleton e) e.1 × OfWords e.1) es →
       AllByRecursion P (flat_map block_pieces (map extension_block es))
   extensions_each T [] h = tt
@@ -132,8 +133,8 @@ module _ (P : List ℕ → Type 0) (word : (k : Kind) (p : List ℕ) → IsWord 
     all_append P (extension_pieces e.1) _ (extension_each T _ e.1 h.0.0 h.0.1) (extensions_each T es h.1),
   )
 
-  private_each : (x : Option (ℕ × List (List ℕ))) →
-      IfSome x (λ e. (lower_singleton e ≡ 120) × IsPrivate e.1) →
+  private_each : (x : Option Block) →
+      IfSome x (λ e. (lower_singleton e ≡ code_x) × IsPrivate e.1) →
       AllByRecursion P (flat_map block_pieces (option_to_list x))
   private_each None h = tt
   private_each (Some e) h =
@@ -154,7 +155,7 @@ module _ (P : List ℕ → Type 0) (word : (k : Kind) (p : List ℕ) → IsWord 
 either_no_hyphen : (c : ℕ) → is_ascii_alphanumeric c ≡ true → (c == 45) ≡ false
 either_no_hyphen c h = grind (arith, nat_tests)
 
-pub word_hyphen_free : (k : Kind) (p : List ℕ) → IsWord k p → IsHyphenFree p
+pub word_hyphen_free : (k : Kind) (p : Text) → IsWord k p → IsHyphenFree p
 word_hyphen_free k p h = none_passes _ (λ b. b == 45) either_no_hyphen p (word_letters_or_digits k p h)
 
 hyphen_byte : (c : ℕ) → is_ascii_alphanumeric (to_ascii_lowercase c) ≡ true → (c == 45) ≡ false
@@ -212,54 +213,55 @@ sorted_if false x = refl
 -- the others before and after `t`
 
 abbrev Others : Type 0
-Others = List (ℕ × List (List ℕ))
+Others = List Block
 
-all_before : (P : ℕ × List (List ℕ) → Type 0) (os : Others) → AllByRecursion P os →
+all_before : (P : Block → Type 0) (os : Others) → AllByRecursion P os →
     AllByRecursion P (before_t os)
 all_before P [] h = tt
 all_before P (o ∷ os) h =
-    cond_both (nat_le o.0 116) _ _ (AllByRecursion P) (λ _. (h.0, all_before P os h.1)) (λ _. tt)
+    cond_both (nat_le o.0 code_t) _ _ (AllByRecursion P) (λ _. (h.0, all_before P os h.1)) (λ _. tt)
 
-all_after : (P : ℕ × List (List ℕ) → Type 0) (os : Others) → AllByRecursion P os →
+all_after : (P : Block → Type 0) (os : Others) → AllByRecursion P os →
     AllByRecursion P (after_t os)
 all_after P [] h = tt
-all_after P (o ∷ os) h = cond_both (nat_le o.0 116) _ _ (AllByRecursion P) (λ _. all_after P os h.1) (λ _. h)
+all_after P (o ∷ os) h =
+    cond_both (nat_le o.0 code_t) _ _ (AllByRecursion P) (λ _. all_after P os h.1) (λ _. h)
 
-before_le : (os : Others) → AllByRecursion (λ o. o.0 ≤ 116) (before_t os)
+before_le : (os : Others) → AllByRecursion (λ o. o.0 ≤ code_t) (before_t os)
 before_le [] = tt
-before_le (o ∷ os) = cond_both (nat_le o.0 116) _ _ (AllByRecursion (λ p. p.0 ≤ 116))
+before_le (o ∷ os) = cond_both (nat_le o.0 code_t) _ _ (AllByRecursion (λ p. p.0 ≤ code_t))
     (λ e. (leb-true _ _ e, before_le os)) (λ _. tt)
 
-after_gt : (os : Others) → is_sorted nat_cmp os ≡ true → AllByRecursion (λ o. 116 < o.0) (after_t os)
+after_gt : (os : Others) → is_sorted nat_cmp os ≡ true → AllByRecursion (λ o. code_t < o.0) (after_t os)
 after_gt [] h = tt
 after_gt (o ∷ os) h =
     let parts = and_parts _ _ h in
-    cond_both (nat_le o.0 116) _ _ (AllByRecursion (λ p. 116 < p.0)) (λ _. after_gt os parts.1)
-    (λ e. let l : 116 < o.0 = leb-false _ _ e in
-    (l, all_weaker (λ p. o.0 < p.0) (λ p. 116 < p.0) (λ p k. omega arith) os (below_lt o.0 os parts.0)))
+    cond_both (nat_le o.0 code_t) _ _ (AllByRecursion (λ p. code_t < p.0)) (λ _. after_gt os parts.1)
+    (λ e. let l : code_t < o.0 = leb-false _ _ e in
+    (l, all_weaker (λ p. o.0 < p.0) (λ p. code_t < p.0) (λ p k. omega arith) os (below_lt o.0 os parts.0)))
 
 sorted_before : (os : Others) → is_sorted nat_cmp os ≡ true → is_sorted nat_cmp (before_t os) ≡ true
 sorted_before [] h = refl
 sorted_before (o ∷ os) h =
     let parts = and_parts _ _ h in
-    cond_both (nat_le o.0 116) _ _ (λ l. is_sorted nat_cmp l ≡ true)
+    cond_both (nat_le o.0 code_t) _ _ (λ l. is_sorted nat_cmp l ≡ true)
     (λ _. and_from _ _ (lt_below o.0 (before_t os) (all_before (λ p. o.0 < p.0) os (below_lt o.0 os parts.0)))
     (sorted_before os parts.1)) (λ _. refl)
 
 sorted_after : (os : Others) → is_sorted nat_cmp os ≡ true → is_sorted nat_cmp (after_t os) ≡ true
 sorted_after [] h = refl
-sorted_after (o ∷ os) h = cond_both (nat_le o.0 116) _ _ (λ l. is_sorted nat_cmp l ≡ true)
+sorted_after (o ∷ os) h = cond_both (nat_le o.0 code_t) _ _ (λ l. is_sorted nat_cmp l ≡ true)
     (λ _. sorted_after os (and_parts _ _ h).1) (λ _. h)
 
 before-after : (os : Others) → before_t os ++ after_t os ≡ os
 before-after [] = refl
 before-after (o ∷ os) =
-    elim (nat_le o.0 116) as (λ b. cond b (o ∷ before_t os) [] ++ cond b (after_t os) (o ∷ os) ≡ o ∷ os)
+    elim (nat_le o.0 code_t) as (λ b. cond b (o ∷ before_t os) [] ++ cond b (after_t os) (o ∷ os) ≡ o ∷ os)
     [ true ↦ ap (λ l. o ∷ l) (before-after os) | false ↦ refl ]
 
 -- what is printed of them
 
-abbrev IsOtherEntry : ℕ × List (List ℕ) → Type 0
+abbrev IsOtherEntry : Block → Type 0
 IsOtherEntry o = ((is_other_singleton o.0 ≡ true) × (to_ascii_lowercase o.0 ≡ o.0)) × (0 < length o.1)
     × AllByRecursion (IsNormal Subtag) o.1
 
@@ -270,16 +272,16 @@ others_form_is : (os : Others) → AllByRecursion IsOtherEntry os → others_for
 others_form_is os h = ap plain_form (filter_all _ os
     (all_weaker IsOtherEntry (λ o. nat_lt 0 (length o.1) ≡ true) (λ o x. lt-ltb 0 _ x.1) os h))
 
-kept_words : (ws : List (List ℕ)) → AllByRecursion (IsNormal Subtag) ws → kept ws ≡ ws
+kept_words : (ws : List Text) → AllByRecursion (IsNormal Subtag) ws → kept ws ≡ ws
 kept_words ws h = ap (map lower)
     (filter_all (is_word Subtag) ws (all_weaker (IsNormal Subtag) (IsWord Subtag) (λ w n. n.0) ws h))
     ∙ map_fixed lower ws (all_weaker (IsNormal Subtag) (λ w. lower w ≡ w) (λ w n. n.1) ws h)
 
-subtag_length : (w : List ℕ) → IsWord Subtag w → is_in_range 2 8 (length w) ≡ true
+subtag_length : (w : Text) → IsWord Subtag w → is_in_range 2 8 (length w) ≡ true
 unfolding is_word
 subtag_length w h = (and_parts _ _ h).0
 
-other_rule : (T : ℕ → Bool) (o : ℕ × List (List ℕ)) → IsOtherEntry o →
+other_rule : (T : LanguageLengths) (o : Block) → IsOtherEntry o →
     IsExtension T (to_ascii_lowercase o.0) (other o.1) × AllByRecursion (IsWord Subtag) o.1
 other_rule T o h =
     let words = all_weaker (IsNormal Subtag) (IsWord Subtag) (λ w n. n.0) o.1 h.2 in (
@@ -288,14 +290,14 @@ other_rule T o h =
         record {
           lengths =
               all_weaker (IsWord Subtag) (λ w. is_in_range 2 8 (length w) ≡ true) subtag_length o.1 words;
-          nonempty = subst (λ (l : List (List ℕ)). 0 < length l) (sym (kept_words o.1 h.2)) h.1;
+          nonempty = subst (λ (l : List Text). 0 < length l) (sym (kept_words o.1 h.2)) h.1;
         },
       ),
       words,
     )
 
-all_plain : (P : ℕ × Extension → Type 0) (Q : ℕ × List (List ℕ) → Type 0) →
-    ((o : ℕ × List (List ℕ)) → Q o → P (o.0, other o.1)) → (os : Others) → AllByRecursion Q os →
+all_plain : (P : ℕ × Extension → Type 0) (Q : Block → Type 0) →
+    ((o : Block) → Q o → P (o.0, other o.1)) → (os : Others) → AllByRecursion Q os →
     AllByRecursion P (plain_form os)
 all_plain P Q f [] h = tt
 all_plain P Q f (o ∷ os) h = (f o h.0, all_plain P Q f os h.1)
@@ -342,7 +344,7 @@ unicode_back : (u : Unicode) → normal_unicode (spelled_unicode u) ≡ u → (b
 unicode_back u h true e = h
 unicode_back u h false e = empty u.attributes u.keywords e
   where
-    empty : (ws : List (List ℕ)) (ks : Fields) → nat_lt 0 (length ws + length ks) ≡ false →
+    empty : (ws : List Text) (ks : Fields) → nat_lt 0 (length ws + length ks) ≡ false →
         ◌≡◌ {A = Unicode} (record { attributes = []; keywords = [] })
         (record { attributes = ws; keywords = ks })
     empty [] [] e = refl
@@ -370,14 +372,14 @@ transform_nonempty m e n = from m.id m.fields e n (length-spelled_fields m.field
     from None (f ∷ fs) e n l = omega arith
     from (Some i) fs e n l = cc
 
-private_back : (ws : List (List ℕ)) → AllByRecursion (IsNormal PrivateSubtag) ws →
+private_back : (ws : List Text) → AllByRecursion (IsNormal PrivateSubtag) ws →
     private_part (private_form ws) ≡ ws
 private_back [] h = refl
 private_back (w ∷ ws) h =
     map_fixed lower (w ∷ ws) (all_weaker (IsNormal PrivateSubtag) (λ w. lower w ≡ w) (λ w n. n.1) (w ∷ ws) h)
 
-private_rule : (ws : List (List ℕ)) → AllByRecursion (IsNormal PrivateSubtag) ws →
-    IfSome (private_form ws) (λ e. (lower_singleton e ≡ 120) × IsPrivate e.1)
+private_rule : (ws : List Text) → AllByRecursion (IsNormal PrivateSubtag) ws →
+    IfSome (private_form ws) (λ e. (lower_singleton e ≡ code_x) × IsPrivate e.1)
 private_rule [] h = tt
 private_rule (w ∷ ws) h = (
   refl,
@@ -414,10 +416,10 @@ module _ {T : ℕ → Bool} (M : Locale) (h : IsValue T M) (g : IsTreeWellFormed
   has_u = nat_lt 0 (length M.extensions.unicode.attributes + length M.extensions.unicode.keywords)
 
   abbrev t_part : List (ℕ × Extension)
-  t_part = cond has_t ((116, transform (spelled_transform M.extensions.transform)) ∷ []) []
+  t_part = cond has_t ((code_t, transform (spelled_transform M.extensions.transform)) ∷ []) []
 
   abbrev u_part : List (ℕ × Extension)
-  u_part = cond has_u ((117, unicode (spelled_unicode M.extensions.unicode)) ∷ []) []
+  u_part = cond has_u ((code_u, unicode (spelled_unicode M.extensions.unicode)) ∷ []) []
 
   abbrev extensions : List (ℕ × Extension)
   extensions = plain_form before ++ (t_part ++ (u_part ++ plain_form after))
@@ -431,8 +433,8 @@ module _ {T : ℕ → Bool} (M : Locale) (h : IsValue T M) (g : IsTreeWellFormed
 
   -- a fact of each part is a fact of all
   all_extensions : (P : ℕ × Extension → Type 0) → AllByRecursion P (plain_form before) →
-      (has_t ≡ true → P (116, transform (spelled_transform M.extensions.transform))) →
-      (has_u ≡ true → P (117, unicode (spelled_unicode M.extensions.unicode))) →
+      (has_t ≡ true → P (code_t, transform (spelled_transform M.extensions.transform))) →
+      (has_u ≡ true → P (code_u, unicode (spelled_unicode M.extensions.unicode))) →
       AllByRecursion P (plain_form after) → AllByRecursion P extensions
   all_extensions P a b c d = all_append P (plain_form before) _ a (all_append P (cond has_t _ []) _
       (all_if P has_t _ b) (all_append P (cond has_u _ []) _ (all_if P has_u _ c) d))
@@ -461,16 +463,16 @@ module _ {T : ℕ → Bool} (M : Locale) (h : IsValue T M) (g : IsTreeWellFormed
       (all_plain (λ e. (lower_singleton e, e.1) ≡ e) IsOtherEntry (λ o x i. (x.0.1 i, other o.1)) after
       entries_after))
 
-  below_t : AllByRecursion (λ e. e.0 < 116) (plain_form before)
-  below_t = all_plain (λ e. e.0 < 116) (λ o. IsOtherEntry o × (o.0 ≤ 116))
-      (λ o x. let n : o.0 ≢ 116 = λ e. no_t o.0 e x.0.0.0 in let l = x.1 in omega arith)
-      (before_t M.extensions.others) (all_both IsOtherEntry (λ o. o.0 ≤ 116) (before_t M.extensions.others)
+  below_t : AllByRecursion (λ e. e.0 < code_t) (plain_form before)
+  below_t = all_plain (λ e. e.0 < code_t) (λ o. IsOtherEntry o × (o.0 ≤ code_t))
+      (λ o x. let n : o.0 ≢ code_t = λ e. no_t o.0 e x.0.0.0 in let l = x.1 in omega arith)
+      (before_t M.extensions.others) (all_both IsOtherEntry (λ o. o.0 ≤ code_t) (before_t M.extensions.others)
       (all_before IsOtherEntry M.extensions.others entries) (before_le M.extensions.others))
 
   above_u : AllByRecursion (λ e. 118 ≤ e.0) (plain_form after)
-  above_u = all_plain (λ e. 118 ≤ e.0) (λ o. IsOtherEntry o × (116 < o.0))
-      (λ o x. let n : o.0 ≢ 117 = λ e. no_u o.0 e x.0.0.0 in let l = x.1 in omega arith)
-      (after_t M.extensions.others) (all_both IsOtherEntry (λ o. 116 < o.0) (after_t M.extensions.others)
+  above_u = all_plain (λ e. 118 ≤ e.0) (λ o. IsOtherEntry o × (code_t < o.0))
+      (λ o x. let n : o.0 ≢ code_u = λ e. no_u o.0 e x.0.0.0 in let l = x.1 in omega arith)
+      (after_t M.extensions.others) (all_both IsOtherEntry (λ o. code_t < o.0) (after_t M.extensions.others)
       (all_after IsOtherEntry M.extensions.others entries) (after_gt M.extensions.others g.ascending))
 
   in_order : is_sorted nat_cmp extensions ≡ true
@@ -479,30 +481,31 @@ module _ {T : ℕ → Bool} (M : Locale) (h : IsValue T M) (g : IsTreeWellFormed
       (plain_form after) (sorted_if has_u _) (all_if (λ e. e.0 < 118) has_u _ (λ _. omega arith))
       (sorted_plain (after_t M.extensions.others) (sorted_after M.extensions.others g.ascending)) above_u in
       let t : is_sorted nat_cmp (t_part ++ (u_part ++ plain_form after)) ≡ true =
-      sorted_append 117 t_part _ (sorted_if has_t _) (all_if (λ e. e.0 < 117) has_t _ (λ _. omega arith)) u
-      (all_append (λ e. 117 ≤ e.0) u_part _ (all_if (λ e. 117 ≤ e.0) has_u _ (λ _. omega arith))
-      (all_weaker (λ e. 118 ≤ e.0) (λ e. 117 ≤ e.0) (λ e l. omega arith) _ above_u)) in
-      sorted_append 116 (plain_form before) _
+      sorted_append code_u t_part _ (sorted_if has_t _)
+      (all_if (λ e. e.0 < code_u) has_t _ (λ _. omega arith)) u
+      (all_append (λ e. code_u ≤ e.0) u_part _ (all_if (λ e. code_u ≤ e.0) has_u _ (λ _. omega arith))
+      (all_weaker (λ e. 118 ≤ e.0) (λ e. code_u ≤ e.0) (λ e l. omega arith) _ above_u)) in
+      sorted_append code_t (plain_form before) _
       (sorted_plain (before_t M.extensions.others) (sorted_before M.extensions.others g.ascending)) below_t t
-      (all_append (λ e. 116 ≤ e.0) t_part _ (all_if (λ e. 116 ≤ e.0) has_t _ (λ _. omega arith))
-      (all_append (λ e. 116 ≤ e.0) u_part _ (all_if (λ e. 116 ≤ e.0) has_u _ (λ _. omega arith))
-      (all_weaker (λ e. 118 ≤ e.0) (λ e. 116 ≤ e.0) (λ e l. omega arith) _ above_u)))
+      (all_append (λ e. code_t ≤ e.0) t_part _ (all_if (λ e. code_t ≤ e.0) has_t _ (λ _. omega arith))
+      (all_append (λ e. code_t ≤ e.0) u_part _ (all_if (λ e. code_t ≤ e.0) has_u _ (λ _. omega arith))
+      (all_weaker (λ e. 118 ≤ e.0) (λ e. code_t ≤ e.0) (λ e l. omega arith) _ above_u)))
 
-  find_t : find nat_cmp 116 extensions
+  find_t : find nat_cmp code_t extensions
       ≡ cond has_t (Some (transform (spelled_transform M.extensions.transform))) None
-  find_t = find_skip 116 (plain_form before) _
-      (all_weaker (λ e. e.0 < 116) (λ e. e.0 ≢ 116) (λ e l. omega arith) _ below_t)
-      ∙ find_if 116 has_t _ _ refl
-      (all_append (λ e. e.0 ≢ 116) u_part _ (all_if (λ e. e.0 ≢ 116) has_u _ (λ _. omega arith))
-      (all_weaker (λ e. 118 ≤ e.0) (λ e. e.0 ≢ 116) (λ e l. omega arith) _ above_u))
+  find_t = find_skip code_t (plain_form before) _
+      (all_weaker (λ e. e.0 < code_t) (λ e. e.0 ≢ code_t) (λ e l. omega arith) _ below_t)
+      ∙ find_if code_t has_t _ _ refl
+      (all_append (λ e. e.0 ≢ code_t) u_part _ (all_if (λ e. e.0 ≢ code_t) has_u _ (λ _. omega arith))
+      (all_weaker (λ e. 118 ≤ e.0) (λ e. e.0 ≢ code_t) (λ e l. omega arith) _ above_u))
 
-  find_u : find nat_cmp 117 extensions
+  find_u : find nat_cmp code_u extensions
       ≡ cond has_u (Some (unicode (spelled_unicode M.extensions.unicode))) None
-  find_u = find_skip 117 (plain_form before) _
-      (all_weaker (λ e. e.0 < 116) (λ e. e.0 ≢ 117) (λ e l. omega arith) _ below_t)
-      ∙ find_skip 117 t_part _ (all_if (λ e. e.0 ≢ 117) has_t _ (λ _. omega arith))
-      ∙ find_if 117 has_u _ _ refl
-      (all_weaker (λ e. 118 ≤ e.0) (λ e. e.0 ≢ 117) (λ e l. omega arith) _ above_u)
+  find_u = find_skip code_u (plain_form before) _
+      (all_weaker (λ e. e.0 < code_t) (λ e. e.0 ≢ code_u) (λ e l. omega arith) _ below_t)
+      ∙ find_skip code_u t_part _ (all_if (λ e. e.0 ≢ code_u) has_t _ (λ _. omega arith))
+      ∙ find_if code_u has_u _ _ refl
+      (all_weaker (λ e. 118 ≤ e.0) (λ e. e.0 ≢ code_u) (λ e l. omega arith) _ above_u)
 
   others_back : filter_map other_part extensions ≡ M.extensions.others
   others_back = filter_map-append other_part (plain_form before) _
@@ -541,7 +544,7 @@ module _ {T : ℕ → Bool} (M : Locale) (h : IsValue T M) (g : IsTreeWellFormed
   spelled = pieces_spelled (printed M) grammatical of_words
 
   -- what holds of each word and of each singleton holds of each piece of the text
-  pub printed_each : (P : List ℕ → Type 0) → ((k : Kind) (p : List ℕ) → IsWord k p → P p) →
+  pub printed_each : (P : Text → Type 0) → ((k : Kind) (p : Text) → IsWord k p → P p) →
       ((c : ℕ) → is_ascii_alphanumeric (to_ascii_lowercase c) ≡ true → P (c ∷ [])) →
       AllByRecursion P (spelling (printed M))
   printed_each P word singleton = written_each P word singleton (printed M) grammatical of_words
@@ -553,10 +556,10 @@ module _ {T : ℕ → Bool} (M : Locale) (h : IsValue T M) (g : IsTreeWellFormed
   means_value = λ k. record {
     id = normal_value M.id h.id k;
     extensions = record {
-      unicode = (ap (λ es. unicode_part (find nat_cmp 117 es)) entries_are ∙ ap unicode_part find_u
+      unicode = (ap (λ es. unicode_part (find nat_cmp code_u es)) entries_are ∙ ap unicode_part find_u
           ∙ unicode_back M.extensions.unicode
           (normal_value_unicode M.extensions.unicode h.extensions.unicode g.values) has_u refl) k;
-      transform = (ap (λ es. transform_part (find nat_cmp 116 es)) entries_are ∙ ap transform_part find_t
+      transform = (ap (λ es. transform_part (find nat_cmp code_t es)) entries_are ∙ ap transform_part find_t
           ∙ transform_back M.extensions.transform
           (normal_value_transform M.extensions.transform h.extensions.transform) has_t refl) k;
       private = private_back M.extensions.private h.extensions.private k;
@@ -574,17 +577,17 @@ module _ {T : ℕ → Bool} (M : Locale) (h : IsValue T M) (g : IsTreeWellFormed
   pub printed_in_order : is_sorted nat_cmp (printed M).extensions ≡ true
   printed_in_order = ap (is_sorted nat_cmp) extensions_are ∙ in_order
 
-  pub printed_t : find nat_cmp 116 (printed M).extensions
+  pub printed_t : find nat_cmp code_t (printed M).extensions
       ≡ cond (is_some M.extensions.transform.id || nat_lt 0 (length M.extensions.transform.fields))
       (Some (transform (spelled_transform M.extensions.transform))) None
-  printed_t = ap (find nat_cmp 116) extensions_are ∙ find_t
+  printed_t = ap (find nat_cmp code_t) extensions_are ∙ find_t
 
-  pub printed_u : find nat_cmp 117 (printed M).extensions
+  pub printed_u : find nat_cmp code_u (printed M).extensions
       ≡ cond (nat_lt 0 (length M.extensions.unicode.attributes + length M.extensions.unicode.keywords))
       (Some (unicode (spelled_unicode M.extensions.unicode))) None
-  printed_u = ap (find nat_cmp 117) extensions_are ∙ find_u
+  printed_u = ap (find nat_cmp code_u) extensions_are ∙ find_u
 
-  pub printed_other : (q : ℕ) → q ≢ 116 → q ≢ 117 →
+  pub printed_other : (q : ℕ) → q ≢ code_t → q ≢ code_u →
       find nat_cmp q (printed M).extensions ≡ option_map other (find nat_cmp q M.extensions.others)
   printed_other q t u = ap (find nat_cmp q) extensions_are
       ∙ past (plain_form before) _ (plain_form after)

@@ -1,37 +1,37 @@
 -- Reading a word.
 use Rattle.std.proofs.Common.{◌≡◌, ◌↔◌, ℕ, false, List, length, refl, sym, ap, ◌∙◌, Some, Ok, Err, Bool, true}
 use Rattle.std.proofs.Common.{Result, cond}
-use Rattle.iloc_spec_grammar.specs.Syntax.{Kind, is_word, IsWord, normal, lower, word, read}
+use Rattle.iloc_spec_grammar.specs.Syntax.{Text, Kind, is_word, IsWord, normal, lower, word, read}
 use Rattle.iloc_spec_grammar.specs.Values.{IsNormal}
 use Rattle.iloc_spec_grammar.proofs.WordsLaws.{normal-normal, is_word-normal, is_word-same, length-normal}
 use Rattle.iloc_spec_grammar.proofs.WordsLaws.{normal-lower, same_normal}
 use Rattle.std.proofs.lemmas.Option.{cond_some}
 
-pub accepted_from_word : (k : Kind) (p w : List ℕ) → word k p ≡ Some w → IsWord k p × (normal k p ≡ w)
+pub accepted_from_word : (k : Kind) (p w : Text) → word k p ≡ Some w → IsWord k p × (normal k p ≡ w)
 accepted_from_word k p w e = cond_some (is_word k p) (normal k p) w e
 
-pub word_of_word : (k : Kind) (p : List ℕ) → IsWord k p → word k p ≡ Some (normal k p)
+pub word_of_word : (k : Kind) (p : Text) → IsWord k p → word k p ≡ Some (normal k p)
 word_of_word k p h = rw h refl
 
 -- a normal form is normal
-pub IsNormal-normal : (k : Kind) (p : List ℕ) → IsWord k p → IsNormal k (normal k p)
+pub IsNormal-normal : (k : Kind) (p : Text) → IsWord k p → IsNormal k (normal k p)
 IsNormal-normal k p h = (is_word-normal k p ∙ h, normal-normal k p)
 
-pub word-normal : (k : Kind) (w : List ℕ) → IsNormal k w → word k w ≡ Some w
+pub word-normal : (k : Kind) (w : Text) → IsNormal k w → word k w ≡ Some w
 word-normal k w h = word_of_word k w h.0 ∙ ap Some h.1
 
-pub normal_again : (k : Kind) (p w : List ℕ) → word k p ≡ Some w → word k w ≡ Some w
+pub normal_again : (k : Kind) (p w : Text) → word k p ≡ Some w → word k w ≡ Some w
 normal_again k p w e =
     let h = accepted_from_word k p w e in
     rw (← h.1) (word-normal k (normal k p) (IsNormal-normal k p h.0))
 
-pub length_kept : (k : Kind) (p w : List ℕ) → word k p ≡ Some w → length w ≡ length p
+pub length_kept : (k : Kind) (p w : Text) → word k p ≡ Some w → length w ≡ length p
 length_kept k p w e =
     let h = accepted_from_word k p w e in
     ap length (sym h.1) ∙ length-normal k p
 
 -- two texts have one normal form exactly where they are equal without case
-pub one_normal : (k : Kind) (a b v w : List ℕ) → word k a ≡ Some v → word k b ≡ Some w →
+pub one_normal : (k : Kind) (a b v w : Text) → word k a ≡ Some v → word k b ≡ Some w →
     (v ≡ w) ↔ (lower a ≡ lower b)
 one_normal k a b v w ea eb =
     let ha = accepted_from_word k a v ea in
@@ -39,7 +39,7 @@ one_normal k a b v w ea eb =
     rw (← ha.1, ← hb.1) (same_normal k a b)
 
 -- a normal word is the normal text of exactly the texts that equal it without case
-pub normal_of_same : (k : Kind) (w p : List ℕ) → IsNormal k w → (lower w ≡ lower p) ↔ (word k p ≡ Some w)
+pub normal_of_same : (k : Kind) (w p : Text) → IsNormal k w → (lower w ≡ lower p) ↔ (word k p ≡ Some w)
 normal_of_same k w p h = (
   (λ e. word_of_word k p (is_word-same k p w (sym e) ∙ h.0)
       ∙ ap Some (sym (normal-lower k p) ∙ ap (normal k) (sym e) ∙ normal-lower k w ∙ h.1)),
@@ -47,21 +47,21 @@ normal_of_same k w p h = (
 )
 
 -- what reading a word tells
-pub accepted_from_read : {E : Type 0} (k : Kind) (e : E) (p w : List ℕ) → Ok w ≡ read k e p →
+pub accepted_from_read : {E : Type 0} (k : Kind) (e : E) (p w : Text) → Ok w ≡ read k e p →
     IsWord k p × (w ≡ normal k p)
 accepted_from_read {E = E} k e p w h = by (is_word k p) refl h
   where
     by : (b : Bool) → is_word k p ≡ b →
-        ◌≡◌ {A = Result (List ℕ) E} (Ok w) (cond b (Ok (normal k p)) (Err e)) → IsWord k p × (w ≡ normal k p)
+        ◌≡◌ {A = Result Text E} (Ok w) (cond b (Ok (normal k p)) (Err e)) → IsWord k p × (w ≡ normal k p)
     by true i h = (i, cc)
     by false i h = cc
 
-pub refused_from_read : {E : Type 0} (k : Kind) (e f : E) (p : List ℕ) → Err f ≡ read k e p →
+pub refused_from_read : {E : Type 0} (k : Kind) (e f : E) (p : Text) → Err f ≡ read k e p →
     (is_word k p ≡ false) × (f ≡ e)
 refused_from_read {E = E} k e f p h = by (is_word k p) refl h
   where
     by : (b : Bool) → is_word k p ≡ b →
-        ◌≡◌ {A = Result (List ℕ) E} (Err f) (cond b (Ok (normal k p)) (Err e)) →
+        ◌≡◌ {A = Result Text E} (Err f) (cond b (Ok (normal k p)) (Err e)) →
         (is_word k p ≡ false) × (f ≡ e)
     by true i h = cc
     by false i h = (i, cc)

@@ -6,7 +6,8 @@ use Rattle.std.specs.List.{AllByRecursion}
 use Rattle.std.proofs.lemmas.List.{append_cancel_left, append_cancel_right}
 use Rattle.std.proofs.lemmas.Bool.{false_from_ne_true, cond_both}
 use Rattle.std.proofs.lemmas.Bool.Decides.{nat_tests}
-use Rattle.iloc_spec_grammar.specs.Syntax.{Language, Script, Region, Variant, is_word, IsWord, lower}
+use Rattle.iloc_spec_grammar.specs.Syntax.{LanguageLengths, Text, Language, Script, Region, Variant, is_word}
+use Rattle.iloc_spec_grammar.specs.Syntax.{IsWord, lower}
 use Rattle.iloc_spec_grammar.specs.Syntax.{word_cmp, SpelledIdentifier, identifier_pieces, HasWords}
 use Rattle.iloc_spec_grammar.specs.Syntax.{AllDifferent, is_one_byte, front, first_piece}
 use Rattle.iloc_spec_grammar.specs.Meaning.{IdentifierMeans, normal_identifier, SpellsIdentifier}
@@ -18,18 +19,18 @@ use Rattle.iloc_spec_grammar.proofs.WordsLaws.{region_no_script, variant_no_scri
 use Rattle.iloc_spec_grammar.proofs.WordsLaws.{length-script, length-region, length-variant}
 use Rattle.iloc_spec_grammar.proofs.General.{cond-map}
 
-abbrev Passes : (List ℕ → Bool) → List ℕ → Type 0
+abbrev Passes : (Text → Bool) → Text → Type 0
 Passes test p = test p ≡ true
 
 -- reading loses nothing
 
-pub all_while : (test : List ℕ → Bool) (ps : List (List ℕ)) → passing test ps ++ past test ps ≡ ps
+pub all_while : (test : Text → Bool) (ps : List Text) → passing test ps ++ past test ps ≡ ps
 all_while test [] = refl
 all_while test (p ∷ ps) =
     elim (test p) as (λ b. cond b (p ∷ passing test ps) [] ++ cond b (past test ps) (p ∷ ps) ≡ p ∷ ps)
     [ true ↦ ap (λ l. p ∷ l) (all_while test ps) | false ↦ refl ]
 
-pub pieces-front_of : (p : List ℕ) (ps : List (List ℕ)) →
+pub pieces-front_of : (p : Text) (ps : List Text) →
     identifier_pieces (front_of (p ∷ ps)) ++ after_front (p ∷ ps) ≡ p ∷ ps
 unfolding front_of after_front
 pieces-front_of p ps =
@@ -46,18 +47,18 @@ pieces-front_of p ps =
 
 -- what is taken passes
 
-pub take_first_passes : (test : List ℕ → Bool) (ps : List (List ℕ)) →
+pub take_first_passes : (test : Text → Bool) (ps : List Text) →
     IfSome (take_first test ps) (Passes test)
 take_first_passes test [] = tt
 take_first_passes test (p ∷ ps) = cond_both (test p) _ _ (λ o. IfSome o (Passes test)) (λ e. e) (λ _. tt)
 
-pub keep_while_passes : (test : List ℕ → Bool) (ps : List (List ℕ)) →
+pub keep_while_passes : (test : Text → Bool) (ps : List Text) →
     AllByRecursion (Passes test) (passing test ps)
 keep_while_passes test [] = tt
 keep_while_passes test (p ∷ ps) =
     cond_both (test p) _ _ (AllByRecursion (Passes test)) (λ e. (e, keep_while_passes test ps)) (λ _. tt)
 
-pub front_words : {T : ℕ → Bool} (ps : List (List ℕ)) → IsWord (Language T) (first_piece ps) →
+pub front_words : {T : ℕ → Bool} (ps : List Text) → IsWord (Language T) (first_piece ps) →
     HasWords T (front_of ps)
 unfolding front_of
 front_words ps h = record {
@@ -69,7 +70,7 @@ front_words ps h = record {
 
 -- what is spelled is read
 
-pub keep_all : (test : List ℕ → Bool) (ps : List (List ℕ)) → AllByRecursion (Passes test) ps →
+pub keep_all : (test : Text → Bool) (ps : List Text) → AllByRecursion (Passes test) ps →
     passing test ps ≡ ps
 keep_all test [] h = refl
 keep_all test (p ∷ ps) h = rw h.0 (ap (λ l. p ∷ l) (keep_all test ps h.1))
@@ -91,37 +92,37 @@ after_front-pieces i h = append_cancel_left (identifier_pieces i) _ []
 
 -- what follows does not change the reading, where it begins with no such word
 
-pub record EndsWords (rest : List (List ℕ)) : Type 0 where
+pub record EndsWords (rest : List Text) : Type 0 where
   pub script : EndsBefore (is_word Script) rest
   pub region : EndsBefore (is_word Region) rest
   pub variant : EndsBefore (is_word Variant) rest
 
-take_first-append : (test : List ℕ → Bool) (ps rest : List (List ℕ)) → EndsBefore test rest →
+take_first-append : (test : Text → Bool) (ps rest : List Text) → EndsBefore test rest →
     take_first test (ps ++ rest) ≡ take_first test ps
 take_first-append test [] [] h = refl
 take_first-append test [] (q ∷ rest) h = rw h
 take_first-append test (p ∷ ps) rest h = refl
 
-skip_first-append : (test : List ℕ → Bool) (ps rest : List (List ℕ)) → EndsBefore test rest →
+skip_first-append : (test : Text → Bool) (ps rest : List Text) → EndsBefore test rest →
     skip_first test (ps ++ rest) ≡ skip_first test ps ++ rest
 skip_first-append test [] [] h = refl
 skip_first-append test [] (q ∷ rest) h = rw h
 skip_first-append test (p ∷ ps) rest h = cond-map (λ l. l ++ rest) _ _ refl refl refl
 
-keep_while-append : (test : List ℕ → Bool) (ps rest : List (List ℕ)) → EndsBefore test rest →
+keep_while-append : (test : Text → Bool) (ps rest : List Text) → EndsBefore test rest →
     passing test (ps ++ rest) ≡ passing test ps
 keep_while-append test [] [] h = refl
 keep_while-append test [] (q ∷ rest) h = rw h
 keep_while-append test (p ∷ ps) rest h = ap (λ l. cond (test p) (p ∷ l) []) (keep_while-append test ps rest h)
 
-skip_while-append : (test : List ℕ → Bool) (ps rest : List (List ℕ)) → EndsBefore test rest →
+skip_while-append : (test : Text → Bool) (ps rest : List Text) → EndsBefore test rest →
     past test (ps ++ rest) ≡ past test ps ++ rest
 skip_while-append test [] [] h = refl
 skip_while-append test [] (q ∷ rest) h = rw h
 skip_while-append test (p ∷ ps) rest h =
     cond-map (λ l. l ++ rest) _ _ refl (skip_while-append test ps rest h) refl
 
-pub front_of-append : (p : List ℕ) (ps rest : List (List ℕ)) → EndsWords rest →
+pub front_of-append : (p : Text) (ps rest : List Text) → EndsWords rest →
     front_of (p ∷ (ps ++ rest)) ≡ front_of (p ∷ ps)
 unfolding front_of
 front_of-append p ps rest h =
@@ -133,7 +134,7 @@ front_of-append p ps rest h =
       keep_while-append (is_word Variant) (after_region (p ∷ ps)) rest h.variant,
     )
 
-pub after_front-append : (p : List ℕ) (ps rest : List (List ℕ)) → EndsWords rest →
+pub after_front-append : (p : Text) (ps rest : List Text) → EndsWords rest →
     after_front (p ∷ (ps ++ rest)) ≡ after_front (p ∷ ps) ++ rest
 unfolding after_front
 after_front-append p ps rest h =
@@ -145,70 +146,70 @@ after_front-append p ps rest h =
 
 -- where a block begins, no word of an identifier does
 
-one_byte : (p : List ℕ) → is_one_byte p ≡ true → length p ≡ 1
+one_byte : (p : Text) → is_one_byte p ≡ true → length p ≡ 1
 one_byte p h = grind (arith, nat_tests)
 
-block_no_script : (p : List ℕ) → is_one_byte p ≡ true → is_word Script p ≡ false
+block_no_script : (p : Text) → is_one_byte p ≡ true → is_word Script p ≡ false
 block_no_script p h =
     false_from_ne_true _ (λ s. let a = length-script p s in let b = one_byte p h in absurd (omega arith))
 
-block_no_region : (p : List ℕ) → is_one_byte p ≡ true → is_word Region p ≡ false
+block_no_region : (p : Text) → is_one_byte p ≡ true → is_word Region p ≡ false
 block_no_region p h =
     false_from_ne_true _ (λ s. let a = length-region p s in let b = one_byte p h in absurd (omega arith))
 
-block_no_variant : (p : List ℕ) → is_one_byte p ≡ true → is_word Variant p ≡ false
+block_no_variant : (p : Text) → is_one_byte p ≡ true → is_word Variant p ≡ false
 block_no_variant p h =
     false_from_ne_true _ (λ s. let a = length-variant p s in let b = one_byte p h in absurd (omega arith))
 
-pub starts_ends : (rest : List (List ℕ)) → starts_block rest ≡ true → EndsWords rest
+pub starts_ends : (rest : List Text) → starts_block rest ≡ true → EndsWords rest
 starts_ends [] h = record { script = tt; region = tt; variant = tt }
 starts_ends (p ∷ rest) h =
     record { script = block_no_script p h; region = block_no_region p h; variant = block_no_variant p h }
 
-pub front-from_block : (ps : List (List ℕ)) → front ps ++ from_block ps ≡ ps
+pub front-from_block : (ps : List Text) → front ps ++ from_block ps ≡ ps
 front-from_block [] = refl
 front-from_block (p ∷ ps) =
     elim (is_one_byte p) as (λ b. cond b [] (p ∷ front ps) ++ cond b (p ∷ ps) (from_block ps) ≡ p ∷ ps)
     [ true ↦ refl | false ↦ ap (λ l. p ∷ l) (front-from_block ps) ]
 
-pub from_block_starts : (ps : List (List ℕ)) → starts_block (from_block ps) ≡ true
+pub from_block_starts : (ps : List Text) → starts_block (from_block ps) ≡ true
 from_block_starts [] = refl
 from_block_starts (p ∷ ps) =
     cond_both (is_one_byte p) _ _ (λ l. starts_block l ≡ true) (λ e. e) (λ _. from_block_starts ps)
 
-abbrev IsLong : List ℕ → Type 0
+abbrev IsLong : Text → Type 0
 IsLong p = is_one_byte p ≡ false
 
-pub front_long : (ps : List (List ℕ)) → AllByRecursion IsLong (front ps)
+pub front_long : (ps : List Text) → AllByRecursion IsLong (front ps)
 front_long [] = tt
 front_long (p ∷ ps) =
     cond_both (is_one_byte p) _ _ (AllByRecursion IsLong) (λ _. tt) (λ e. (e, front_long ps))
 
-skip_first_keeps : (P : List ℕ → Type 0) (test : List ℕ → Bool) (ps : List (List ℕ)) → AllByRecursion P ps →
+skip_first_keeps : (P : Text → Type 0) (test : Text → Bool) (ps : List Text) → AllByRecursion P ps →
     AllByRecursion P (skip_first test ps)
 skip_first_keeps P test [] h = tt
 skip_first_keeps P test (p ∷ ps) h = cond_both (test p) _ _ (AllByRecursion P) (λ _. h.1) (λ _. h)
 
-skip_while_keeps : (P : List ℕ → Type 0) (test : List ℕ → Bool) (ps : List (List ℕ)) → AllByRecursion P ps →
+skip_while_keeps : (P : Text → Type 0) (test : Text → Bool) (ps : List Text) → AllByRecursion P ps →
     AllByRecursion P (past test ps)
 skip_while_keeps P test [] h = tt
 skip_while_keeps P test (p ∷ ps) h =
     cond_both (test p) _ _ (AllByRecursion P) (λ _. skip_while_keeps P test ps h.1) (λ _. h)
 
-pub after_long : (p : List ℕ) (ps : List (List ℕ)) → AllByRecursion IsLong ps →
+pub after_long : (p : Text) (ps : List Text) → AllByRecursion IsLong ps →
     AllByRecursion IsLong (after_front (p ∷ ps))
 unfolding after_front
 after_long p ps h = skip_while_keeps IsLong (is_word Variant) (after_region (p ∷ ps)) (skip_first_keeps IsLong
     (is_word Region) (skip_first (is_word Script) ps) (skip_first_keeps IsLong (is_word Script) ps h))
 
-pub starts_empty : (xs rest : List (List ℕ)) → AllByRecursion IsLong xs → starts_block (xs ++ rest) ≡ true →
+pub starts_empty : (xs rest : List Text) → AllByRecursion IsLong xs → starts_block (xs ++ rest) ≡ true →
     xs ≡ []
 starts_empty [] rest h s = refl
 starts_empty (x ∷ xs) rest h s = absurd (true≢false (sym s ∙ h.0))
 
 -- What the reading from the left says of a front, the pieces before where it should end.
 
-module _ (T : ℕ → Bool) (p : List ℕ) (ps rest : List (List ℕ)) (ends : EndsWords rest) where
+module _ (T : LanguageLengths) (p : Text) (ps rest : List Text) (ends : EndsWords rest) where
   nothing_left : after_front (p ∷ (ps ++ rest)) ≡ rest → after_front (p ∷ ps) ≡ []
   nothing_left e =
       append_cancel_right (after_front (p ∷ ps)) [] rest (sym (after_front-append p ps rest ends) ∙ e)
@@ -245,22 +246,22 @@ module _ (T : ℕ → Bool) (p : List ℕ) (ps rest : List (List ℕ)) (ends : E
 
 -- The reading takes as much as can be taken.
 
-skip_first-length : (test : List ℕ → Bool) (ps : List (List ℕ)) → length (skip_first test ps) ≤ length ps
+skip_first-length : (test : Text → Bool) (ps : List Text) → length (skip_first test ps) ≤ length ps
 skip_first-length test [] = omega arith
 skip_first-length test (p ∷ ps) =
     cond_both (test p) _ _ (λ l. length l ≤ length (p ∷ ps)) (λ _. omega arith) (λ _. omega arith)
 
-pub length-past : (test : List ℕ → Bool) (ps : List (List ℕ)) → length (past test ps) ≤ length ps
+pub length-past : (test : Text → Bool) (ps : List Text) → length (past test ps) ≤ length ps
 length-past test [] = omega arith
 length-past test (p ∷ ps) = let h = length-past test ps in
     cond_both (test p) _ _ (λ l. length l ≤ length (p ∷ ps)) (λ _. omega (arith, h)) (λ _. omega arith)
 
-skip_taken : (test : List ℕ → Bool) (ps more : List (List ℕ)) → AllByRecursion (Passes test) ps →
+skip_taken : (test : Text → Bool) (ps more : List Text) → AllByRecursion (Passes test) ps →
     length (past test (ps ++ more)) ≤ length more
 skip_taken test [] more h = length-past test more
 skip_taken test (p ∷ ps) more h = rw h.0 (skip_taken test ps more h.1)
 
-after_words : (s r : Option (List ℕ)) (vs more : List (List ℕ)) → IfSome s (IsWord Script) →
+after_words : (s r : Option Text) (vs more : List Text) → IfSome s (IsWord Script) →
     IfSome r (IsWord Region) → AllByRecursion (IsWord Variant) vs →
     length (past (is_word Variant) (skip_first (is_word Region)
     (skip_first (is_word Script) (option_to_list s ++ (option_to_list r ++ (vs ++ more))))))
@@ -275,7 +276,7 @@ after_words (Some s) None (v ∷ vs) more hs hr hv =
     rw (hs, variant_no_region v hv.0, hv.0) (skip_taken (is_word Variant) vs more hv.1)
 after_words (Some s) (Some r) vs more hs hr hv = rw (hs, hr) (skip_taken (is_word Variant) vs more hv)
 
-after_spelled : {T : ℕ → Bool} (j : SpelledIdentifier) (more : List (List ℕ)) → HasWords T j →
+after_spelled : {T : ℕ → Bool} (j : SpelledIdentifier) (more : List Text) → HasWords T j →
     length (after_front (identifier_pieces j ++ more)) ≤ length more
 unfolding after_front
 after_spelled j more h =
@@ -287,10 +288,10 @@ after_spelled j more h =
     ≤ length more)
     (sym e) (after_words j.script j.region j.variants more h.script h.region h.variants)
 
-longer : (xs ys zs ws : List (List ℕ)) → xs ++ ys ≡ zs ++ ws → length ys ≤ length ws → length zs ≤ length xs
+longer : (xs ys zs ws : List Text) → xs ++ ys ≡ zs ++ ws → length ys ≤ length ws → length zs ≤ length xs
 longer xs ys zs ws e h = omega (arith, length-append xs ys, length-append zs ws, ap length e)
 
-pub front_is_front : {T : ℕ → Bool} (p : List ℕ) (ps : List (List ℕ)) → IsWord (Language T) p →
+pub front_is_front : {T : ℕ → Bool} (p : Text) (ps : List Text) → IsWord (Language T) p →
     IdentifierFront T (p ∷ ps) (front_of (p ∷ ps)) (after_front (p ∷ ps))
 front_is_front p ps h = record {
   words = front_words (p ∷ ps) h;

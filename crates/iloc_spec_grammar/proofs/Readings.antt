@@ -7,7 +7,8 @@ use Rattle.std.specs.Char.{is_ascii_alphabetic, is_ascii_digit}
 use Rattle.std.proofs.lemmas.Bool.{and_parts, false_from_ne_true, or_cases, ne_eqb, eqb-true}
 use Rattle.std.proofs.lemmas.Bool.Decides.{nat_tests}
 use Rattle.std.specs.Int.{is_in_range}
-use Rattle.iloc_spec_grammar.specs.Syntax.{Language, Script, Region, Variant, UnicodeKey, TransformKey}
+use Rattle.iloc_spec_grammar.specs.Syntax.{LanguageLengths, Block, code_x, code_u, code_t, Text, Language}
+use Rattle.iloc_spec_grammar.specs.Syntax.{Script, Region, Variant, UnicodeKey, TransformKey}
 use Rattle.iloc_spec_grammar.specs.Syntax.{Attribute, is_word, IsWord, AreLengths, letters, digits}
 use Rattle.iloc_spec_grammar.specs.Syntax.{SpelledIdentifier, SpelledUnicode, SpelledTransform, Fields}
 use Rattle.iloc_spec_grammar.specs.Syntax.{identifier_pieces, optional_pieces, fields_pieces, unicode_pieces}
@@ -31,44 +32,44 @@ use Rattle.iloc_spec_grammar.proofs.Singletons.{no_t, no_u}
 
 -- pieces of more than one byte
 
-abbrev pub IsLong : List ℕ → Type 0
+abbrev pub IsLong : Text → Type 0
 IsLong p = is_one_byte p ≡ false
 
 long : (n : ℕ) → 2 ≤ n → (n == 1) ≡ false
 long n h = ne_eqb _ _ (λ e. absurd (omega arith))
 
-pub long_script : (p : List ℕ) → IsWord Script p → IsLong p
+pub long_script : (p : Text) → IsWord Script p → IsLong p
 long_script p h = long _ (let l = length-script p h in omega arith)
 
-pub long_region : (p : List ℕ) → IsWord Region p → IsLong p
+pub long_region : (p : Text) → IsWord Region p → IsLong p
 long_region p h = long _ (length-region p h).0
 
-pub long_variant : (p : List ℕ) → IsWord Variant p → IsLong p
+pub long_variant : (p : Text) → IsWord Variant p → IsLong p
 long_variant p h = long _ (let l = length-variant p h in omega arith)
 
-pub long_attribute : (p : List ℕ) → IsWord Attribute p → IsLong p
+pub long_attribute : (p : Text) → IsWord Attribute p → IsLong p
 long_attribute p h = long _ (let l = length-attribute p h in omega arith)
 
 -- the pieces after the language
-abbrev pub after_language : SpelledIdentifier → List (List ℕ)
+abbrev pub after_language : SpelledIdentifier → List Text
 after_language i = option_to_list i.script ++ (option_to_list i.region ++ i.variants)
 
 pub long_after_language : {T : ℕ → Bool} (i : SpelledIdentifier) → HasWords T i →
     AllByRecursion IsLong (after_language i)
 long_after_language i h = after_language_each IsLong long_script long_region long_variant i h
 
-long_identifier : (T : ℕ → Bool) → AreLengths T → (i : SpelledIdentifier) → HasWords T i →
+long_identifier : (T : LanguageLengths) → AreLengths T → (i : SpelledIdentifier) → HasWords T i →
     AllByRecursion IsLong (identifier_pieces i)
 long_identifier T t i h =
     (long _ (t.least _ (length-language T i.language h.language)), long_after_language i h)
 
-long_key : (p : List ℕ) → length p ≡ 2 → IsLong p
+long_key : (p : Text) → length p ≡ 2 → IsLong p
 long_key p h = long _ (omega arith)
 
-pub long_between : (p : List ℕ) → is_in_range 2 8 (length p) ≡ true → IsLong p
+pub long_between : (p : Text) → is_in_range 2 8 (length p) ≡ true → IsLong p
 long_between p h = grind (arith, nat_tests)
 
-pub long_extension : (T : ℕ → Bool) → AreLengths T → (c : ℕ) (e : Extension) → IsExtension T c e →
+pub long_extension : (T : LanguageLengths) → AreLengths T → (c : ℕ) (e : Extension) → IsExtension T c e →
     AllByRecursion IsLong (extension_pieces e)
 long_extension T t c (unicode u) h = all_append IsLong u.attributes _
     (all_weaker (IsWord Attribute) IsLong long_attribute u.attributes h.1.attributes) (fields_each IsLong
@@ -82,38 +83,38 @@ long_extension T t c (other ps) h =
 -- blocks
 
 Raw : Type 0
-Raw = ℕ × List (List ℕ)
+Raw = Block
 
-front_before : (xs : List (List ℕ)) (bs : List (ℕ × List (List ℕ))) → AllByRecursion IsLong xs →
+front_before : (xs : List Text) (bs : List Block) → AllByRecursion IsLong xs →
     front (xs ++ flat_map block_pieces bs) ≡ xs
 front_before [] [] h = refl
 front_before [] (b ∷ bs) h = refl
 front_before (x ∷ xs) bs h = rw h.0 (ap (λ l. x ∷ l) (front_before xs bs h.1))
 
-blocks_skip : (p : List ℕ) (ps : List (List ℕ)) → IsLong p → blocks (p ∷ ps) ≡ blocks ps
+blocks_skip : (p : Text) (ps : List Text) → IsLong p → blocks (p ∷ ps) ≡ blocks ps
 blocks_skip [] ps h = refl
 blocks_skip (c ∷ []) ps h = absurd (true≢false h)
 blocks_skip (c ∷ d ∷ p) ps h = refl
 
-blocks_past : (xs ys : List (List ℕ)) → AllByRecursion IsLong xs → blocks (xs ++ ys) ≡ blocks ys
+blocks_past : (xs ys : List Text) → AllByRecursion IsLong xs → blocks (xs ++ ys) ≡ blocks ys
 blocks_past [] ys h = refl
 blocks_past (x ∷ xs) ys h = blocks_skip x (xs ++ ys) h.0 ∙ blocks_past xs ys h.1
 
-pub blocks_spelled : (bs : List (ℕ × List (List ℕ))) (x : Option (ℕ × List (List ℕ))) →
-    AllByRecursion (λ b. ((lower_singleton b == 120) ≡ false) × AllByRecursion IsLong b.1) bs →
-    IfSome x (λ b. (lower_singleton b == 120) ≡ true) →
+pub blocks_spelled : (bs : List Block) (x : Option Block) →
+    AllByRecursion (λ b. ((lower_singleton b == code_x) ≡ false) × AllByRecursion IsLong b.1) bs →
+    IfSome x (λ b. (lower_singleton b == code_x) ≡ true) →
     blocks (flat_map block_pieces (bs ++ option_to_list x)) ≡ bs ++ option_to_list x
 blocks_spelled [] None h k = refl
 blocks_spelled [] (Some b) h k = rw k (ap (λ ps. (b.0, ps) ∷ []) (append-nil b.1))
 blocks_spelled (b ∷ bs) x h k = rw h.0.0 (λ i. (b.0, front_before b.1 (bs ++ option_to_list x) h.0.1 i)
     ∷ (blocks_past b.1 (flat_map block_pieces (bs ++ option_to_list x)) h.0.1 ∙ blocks_spelled bs x h.1 k) i)
 
-pub is_no_x : (T : ℕ → Bool) (c : ℕ) (e : Extension) → IsExtension T c e → (c == 120) ≡ false
+pub is_no_x : (T : LanguageLengths) (c : ℕ) (e : Extension) → IsExtension T c e → (c == code_x) ≡ false
 is_no_x T c (other ps) h = grind (arith, nat_tests, h.0)
 is_no_x T c _ h = rw h.0
 
-is_120 : (x : Option (ℕ × List (List ℕ))) → IfSome x (λ e. (lower_singleton e ≡ 120) × IsPrivate e.1) →
-    IfSome x (λ b. (lower_singleton b == 120) ≡ true)
+is_120 : (x : Option Block) → IfSome x (λ e. (lower_singleton e ≡ code_x) × IsPrivate e.1) →
+    IfSome x (λ b. (lower_singleton b == code_x) ≡ true)
 is_120 None h = tt
 is_120 (Some b) h = rw h.0
 
@@ -126,9 +127,9 @@ pub long_extensions : {T : ℕ → Bool} → AreLengths T → (es : List (ℕ ×
 long_extensions {T = T} t = all_weaker _ (λ e. AllByRecursion IsLong (extension_pieces e.1))
     (λ e h. long_extension T t (lower_singleton e) e.1 h)
 
-extension_blocks : (T : ℕ → Bool) (es : List (ℕ × Extension)) →
+extension_blocks : (T : LanguageLengths) (es : List (ℕ × Extension)) →
     AllByRecursion (λ e. IsExtension T (lower_singleton e) e.1) es → AreLong es →
-    AllByRecursion (λ b. ((lower_singleton b == 120) ≡ false) × AllByRecursion IsLong b.1)
+    AllByRecursion (λ b. ((lower_singleton b == code_x) ≡ false) × AllByRecursion IsLong b.1)
     (map extension_block es)
 extension_blocks T [] h l = tt
 extension_blocks T (e ∷ es) h l = ((is_no_x T _ e.1 h.0, l.0), extension_blocks T es h.1 l.1)
@@ -150,28 +151,28 @@ blocks-spelling t w h = blocks-spelling-long w h (long_extensions t w.extensions
 
 -- fields
 
-abbrev pub KeysPass : (List ℕ → Bool) → Fields → Type 0
+abbrev pub KeysPass : (Text → Bool) → Fields → Type 0
 KeysPass test fs = AllByRecursion (λ f. (test f.0 ≡ true) × AllByRecursion (λ p. test p ≡ false) f.1) fs
 
-pub before_key_read : (test : List ℕ → Bool) (xs : List (List ℕ)) (fs : Fields) →
+pub before_key_read : (test : Text → Bool) (xs : List Text) (fs : Fields) →
     AllByRecursion (λ p. test p ≡ false) xs → KeysPass test fs → before_key test (xs ++ fields_pieces fs) ≡ xs
 before_key_read test [] [] h k = refl
 before_key_read test [] (f ∷ fs) h k = rw k.0.0
 before_key_read test (x ∷ xs) fs h k = rw h.0 (ap (λ l. x ∷ l) (before_key_read test xs fs h.1 k))
 
-pub fields_past : (test : List ℕ → Bool) (xs ys : List (List ℕ)) → AllByRecursion (λ p. test p ≡ false) xs →
+pub fields_past : (test : Text → Bool) (xs ys : List Text) → AllByRecursion (λ p. test p ≡ false) xs →
     fields_from test (xs ++ ys) ≡ fields_from test ys
 fields_past test [] ys h = refl
 fields_past test (x ∷ xs) ys h = rw h.0 (fields_past test xs ys h.1)
 
-pub fields_read : (test : List ℕ → Bool) (fs : Fields) → KeysPass test fs →
+pub fields_read : (test : Text → Bool) (fs : Fields) → KeysPass test fs →
     fields_from test (fields_pieces fs) ≡ fs
 fields_read test [] k = refl
 fields_read test (f ∷ fs) k = rw k.0.0 (λ i. (f.0, before_key_read test f.1 fs k.0.1 k.1 i)
     ∷ (fields_past test f.1 (fields_pieces fs) k.0.1 ∙ fields_read test fs k.1) i)
 
 -- reading loses nothing
-pub fields_all : (test : List ℕ → Bool) (ps : List (List ℕ)) →
+pub fields_all : (test : Text → Bool) (ps : List Text) →
     before_key test ps ++ fields_pieces (fields_from test ps) ≡ ps
 fields_all test [] = refl
 fields_all test (p ∷ ps) = elim (test p)
@@ -181,10 +182,10 @@ fields_all test (p ∷ ps) = elim (test p)
 
 -- the unicode part: a key is a piece of two bytes
 
-pub not_two : (p : List ℕ) → IsWord Attribute p → is_two p ≡ false
+pub not_two : (p : Text) → IsWord Attribute p → is_two p ≡ false
 not_two p h = let l = length-attribute p h in ne_eqb _ _ (λ e. absurd (omega arith))
 
-pub two : (p : List ℕ) → IsWord UnicodeKey p → is_two p ≡ true
+pub two : (p : Text) → IsWord UnicodeKey p → is_two p ≡ true
 two p h = rw (length-unicode_key p h)
 
 pub keywords_pass : (fs : Fields) → AllByRecursion IsKeyword fs → KeysPass is_two fs
@@ -207,39 +208,39 @@ unicode_read u h =
 pub unicode_of-pieces : (u : SpelledUnicode) → IsUnicodeBlock u → unicode_of (unicode_pieces u) ≡ u
 unicode_of-pieces u h = unicode_read u (record { attributes = h.attributes; keywords = h.keywords })
 
-pub pieces-unicode_of : (ps : List (List ℕ)) → unicode_pieces (unicode_of ps) ≡ ps
+pub pieces-unicode_of : (ps : List Text) → unicode_pieces (unicode_of ps) ≡ ps
 unfolding unicode_of
 pieces-unicode_of ps = fields_all is_two ps
 
 -- the transform part: no word of an identifier is a key
 
-abbrev pub IsNoKey : List ℕ → Type 0
+abbrev pub IsNoKey : Text → Type 0
 IsNoKey p = is_word TransformKey p ≡ false
 
-no_key_by_length : (p : List ℕ) → length p ≢ 2 → IsNoKey p
+no_key_by_length : (p : Text) → length p ≢ 2 → IsNoKey p
 no_key_by_length p h = false_from_ne_true _ (λ k. h (length-transform_key p k))
 
-second_digit : (p : List ℕ) → IsWord TransformKey p → is_ascii_digit (slice_index p 1) ≡ true
+second_digit : (p : Text) → IsWord TransformKey p → is_ascii_digit (slice_index p 1) ≡ true
 unfolding is_word
 second_digit p h = (and_parts _ _ (and_parts _ _ h).1).1
 
 digit_no_letter : (c : ℕ) → is_ascii_digit c ≡ true → is_ascii_alphabetic c ≡ true → ⊥
 digit_no_letter c h k = grind (arith, nat_tests)
 
-second_letter : (p : List ℕ) → list_all is_ascii_alphabetic p ≡ true → length p ≡ 2 →
+second_letter : (p : Text) → list_all is_ascii_alphabetic p ≡ true → length p ≡ 2 →
     is_ascii_alphabetic (slice_index p 1) ≡ true
 second_letter (c ∷ d ∷ p) h e = (and_parts _ _ (and_parts _ _ h).1).0
 second_letter _ h e = absurd (omega arith)
 
-letters_no_key : (p : List ℕ) → list_all is_ascii_alphabetic p ≡ true → IsNoKey p
+letters_no_key : (p : Text) → list_all is_ascii_alphabetic p ≡ true → IsNoKey p
 letters_no_key p h = false_from_ne_true _
     (λ k. digit_no_letter (slice_index p 1) (second_digit p k) (second_letter p h (length-transform_key p k)))
 
-pub language_no_key : (T : ℕ → Bool) (p : List ℕ) → IsWord (Language T) p → IsNoKey p
+pub language_no_key : (T : LanguageLengths) (p : Text) → IsWord (Language T) p → IsNoKey p
 unfolding is_word
 language_no_key T p h = letters_no_key p (and_parts _ _ h).1
 
-region_no_key : (p : List ℕ) → IsWord Region p → IsNoKey p
+region_no_key : (p : Text) → IsWord Region p → IsNoKey p
 unfolding is_word
 region_no_key p h = elim (or_cases ((length p == 2) && letters p) ((length p == 3) && digits p) h) [
   | inl a ↦ letters_no_key p (and_parts _ _ a).1
@@ -247,13 +248,13 @@ region_no_key p h = elim (or_cases ((length p == 2) && letters p) ((length p == 
       (λ e. let l : length p ≡ 3 = eqb-true _ _ (and_parts _ _ a).0 in absurd (omega arith))
 ]
 
-script_no_key : (p : List ℕ) → IsWord Script p → IsNoKey p
+script_no_key : (p : Text) → IsWord Script p → IsNoKey p
 script_no_key p h = no_key_by_length p (let l = length-script p h in omega arith)
 
-variant_no_key : (p : List ℕ) → IsWord Variant p → IsNoKey p
+variant_no_key : (p : Text) → IsWord Variant p → IsNoKey p
 variant_no_key p h = no_key_by_length p (let l = length-variant p h in omega arith)
 
-pub attribute_no_key : (p : List ℕ) → IsWord Attribute p → IsNoKey p
+pub attribute_no_key : (p : Text) → IsWord Attribute p → IsNoKey p
 attribute_no_key p h = no_key_by_length p (let l = length-attribute p h in omega arith)
 
 pub identifier_no_key : {T : ℕ → Bool} (i : SpelledIdentifier) → HasWords T i →
@@ -263,7 +264,7 @@ identifier_no_key {T = T} i h = (
   after_language_each IsNoKey script_no_key region_no_key variant_no_key i h,
 )
 
-pub optional_no_key : (T : ℕ → Bool) (o : Option SpelledIdentifier) → IfSome o (IsIdentifier T) →
+pub optional_no_key : (T : LanguageLengths) (o : Option SpelledIdentifier) → IfSome o (IsIdentifier T) →
     AllByRecursion IsNoKey (optional_pieces o)
 optional_no_key T = optional_each IsNoKey T identifier_no_key
 
@@ -271,7 +272,7 @@ pub fields_pass : (fs : Fields) → AllByRecursion IsField fs → KeysPass (is_w
 fields_pass = all_weaker IsField (λ f. (is_word TransformKey f.0 ≡ true) × AllByRecursion IsNoKey f.1)
     (λ f h. (h.0, all_weaker (IsWord Attribute) IsNoKey attribute_no_key f.1 h.1))
 
-optional_read : (T : ℕ → Bool) (o : Option SpelledIdentifier) → IfSome o (IsIdentifier T) →
+optional_read : (T : LanguageLengths) (o : Option SpelledIdentifier) → IfSome o (IsIdentifier T) →
     optional_of (optional_pieces o) ≡ o
 optional_read T None h = refl
 optional_read T (Some i) h = ap Some (identifier_of-pieces i h.words)
@@ -294,11 +295,11 @@ pub transform_of-pieces : {T : ℕ → Bool} (m : SpelledTransform) → IsTransf
     transform_of (transform_pieces m) ≡ m
 transform_of-pieces m h = transform_read m (record { id = h.id; fields = h.fields })
 
-pieces-optional_of : (ps : List (List ℕ)) → optional_pieces (optional_of ps) ≡ ps
+pieces-optional_of : (ps : List Text) → optional_pieces (optional_of ps) ≡ ps
 pieces-optional_of [] = refl
 pieces-optional_of (p ∷ ps) = pieces-identifier_of p ps
 
-pub pieces-transform_of : (ps : List (List ℕ)) → transform_pieces (transform_of ps) ≡ ps
+pub pieces-transform_of : (ps : List Text) → transform_pieces (transform_of ps) ≡ ps
 unfolding transform_of
 pieces-transform_of ps = ap (λ l. l ++ fields_pieces (fields_from (is_word TransformKey) ps))
     (pieces-optional_of (before_key (is_word TransformKey) ps))
@@ -306,25 +307,26 @@ pieces-transform_of ps = ap (λ l. l ++ fields_pieces (fields_from (is_word Tran
 
 -- blocks
 
-pub extension_of-pieces : (T : ℕ → Bool) (c : ℕ) (e : Extension) → IsExtension T c e →
+pub extension_of-pieces : (T : LanguageLengths) (c : ℕ) (e : Extension) → IsExtension T c e →
     extension_of c (extension_pieces e) ≡ e
 extension_of-pieces T c (unicode u) h = rw h.0 (ap unicode (unicode_of-pieces u h.1))
 extension_of-pieces T c (transform m) h = rw h.0 (ap transform (transform_of-pieces m h.1))
-extension_of-pieces T c (other ps) h = let t : (c == 116) ≡ false = ne_eqb _ _ (λ e. no_t c e h.0) in
-    let u : (c == 117) ≡ false = ne_eqb _ _ (λ e. no_u c e h.0) in rw (t, u)
+extension_of-pieces T c (other ps) h = let t : (c == code_t) ≡ false = ne_eqb _ _ (λ e. no_t c e h.0) in
+    let u : (c == code_u) ≡ false = ne_eqb _ _ (λ e. no_u c e h.0) in rw (t, u)
 
-pub pieces-extension_of : (c : ℕ) (ps : List (List ℕ)) → extension_pieces (extension_of c ps) ≡ ps
-pieces-extension_of c ps = elim (c == 116) as (λ t. extension_pieces (extension_by t (c == 117) ps) ≡ ps) [
-  | true ↦ pieces-transform_of ps
-  | false ↦ elim (c == 117) as (λ u. extension_pieces (extension_by false u ps) ≡ ps)
-      [ true ↦ pieces-unicode_of ps | false ↦ refl ]
-]
+pub pieces-extension_of : (c : ℕ) (ps : List Text) → extension_pieces (extension_of c ps) ≡ ps
+pieces-extension_of c ps =
+    elim (c == code_t) as (λ t. extension_pieces (extension_by t (c == code_u) ps) ≡ ps) [
+      | true ↦ pieces-transform_of ps
+      | false ↦ elim (c == code_u) as (λ u. extension_pieces (extension_by false u ps) ≡ ps)
+          [ true ↦ pieces-unicode_of ps | false ↦ refl ]
+    ]
 
 -- whole texts
 
-parts_read : (T : ℕ → Bool) (es : List (ℕ × Extension)) (x : Option (ℕ × List (List ℕ))) →
+parts_read : (T : LanguageLengths) (es : List (ℕ × Extension)) (x : Option Block) →
     AllByRecursion (λ e. IsExtension T (lower_singleton e) e.1) es →
-    IfSome x (λ b. (lower_singleton b == 120) ≡ true) →
+    IfSome x (λ b. (lower_singleton b == code_x) ≡ true) →
     (extensions_in (map extension_block es ++ option_to_list x) ≡ es)
     × (private_in (map extension_block es ++ option_to_list x) ≡ x)
 parts_read T [] None h k = (refl, refl)
@@ -348,7 +350,7 @@ written_of-spelling {T = T} t w h =
     λ i. record { id = id i; extensions = extensions i; private = private i }
 
 -- a text means one value at most
-pub one_meaning : {T : ℕ → Bool} → AreLengths T → (t : List ℕ) (L M : Locale) → TreeMeans T t L →
+pub one_meaning : {T : ℕ → Bool} → AreLengths T → (t : Text) (L M : Locale) → TreeMeans T t L →
     TreeMeans T t M → L ≡ M
 one_meaning table t L M a b =
     a.means

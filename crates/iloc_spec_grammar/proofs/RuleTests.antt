@@ -7,7 +7,8 @@ use Rattle.std.specs.Int.{is_in_range}
 use Rattle.std.specs.declared.cmp.Ordering.{Ordering}
 use Rattle.std.proofs.lemmas.Bool.{false_from_ne_true, not-true, not_from_false, both_ways}
 use Rattle.std.proofs.lemmas.Bool.Decides.{Decides-ltb, Decides-eqb, Decides-and, Decides-or}
-use Rattle.iloc_spec_grammar.specs.Syntax.{Kind, Language, Script, Region, Variant, UnicodeKey, TransformKey}
+use Rattle.iloc_spec_grammar.specs.Syntax.{LanguageLengths, Field, Block, code_x, code_u, code_t, Text, Kind}
+use Rattle.iloc_spec_grammar.specs.Syntax.{Language, Script, Region, Variant, UnicodeKey, TransformKey}
 use Rattle.iloc_spec_grammar.specs.Syntax.{Attribute, PrivateSubtag, is_word, IsWord, lower, word_cmp}
 use Rattle.iloc_spec_grammar.specs.Syntax.{SpelledIdentifier, SpelledUnicode, SpelledTransform, kept}
 use Rattle.iloc_spec_grammar.specs.Syntax.{HasWords, IsIdentifier, IsKeyword, IsField, IsOther}
@@ -37,7 +38,7 @@ pub tests_denied : {b : Bool} {P : Type 0} → Tests b P → Tests (not b) (¬ P
 tests_denied {b = b} t =
     record { holds = λ e. tests_not t (not-true b e); passes = λ n. not_from_false b (tests_fails t n) }
 
-pub tests_word : (k : Kind) (p : List ℕ) → Tests (is_word k p) (IsWord k p)
+pub tests_word : (k : Kind) (p : Text) → Tests (is_word k p) (IsWord k p)
 tests_word k p = record { holds = λ e. e; passes = λ e. e }
 
 pub tests_and : {a b : Bool} {P Q : Type 0} → Tests a P → Tests b Q → Tests (a && b) (P × Q)
@@ -73,7 +74,7 @@ tests_nat m n = record { holds = (Decides-eqb m n).0; passes = (Decides-eqb m n)
 
 -- the rules
 
-pub tests_words : (T : ℕ → Bool) (i : SpelledIdentifier) → Tests (has_words T i) (HasWords T i)
+pub tests_words : (T : LanguageLengths) (i : SpelledIdentifier) → Tests (has_words T i) (HasWords T i)
 tests_words T i = tests_like
     (λ (x : (IsWord (Language T) i.language × IfSome i.script (IsWord Script))
     × (IfSome i.region (IsWord Region) × AllByRecursion (IsWord Variant) i.variants)).
@@ -85,16 +86,17 @@ tests_words T i = tests_like
     (tests_and (tests_if_some (is_word Region) (IsWord Region) (tests_word Region) i.region)
     (tests_all (is_word Variant) (IsWord Variant) (tests_word Variant) i.variants)))
 
-pub tests_identifier : (T : ℕ → Bool) (i : SpelledIdentifier) → Tests (is_identifier T i) (IsIdentifier T i)
+pub tests_identifier : (T : LanguageLengths) (i : SpelledIdentifier) →
+    Tests (is_identifier T i) (IsIdentifier T i)
 tests_identifier T i = tests_like (λ (x : HasWords T i × AllDifferent word_cmp (map lower i.variants)).
     record { words = x.0; different = x.1 }) (λ (h : IsIdentifier T i). (h.words, h.different))
     (tests_and (tests_words T i) (tests_different word_cmp (map lower i.variants)))
 
-pub tests_attributes : (ps : List (List ℕ)) →
+pub tests_attributes : (ps : List Text) →
     Tests (list_all (is_word Attribute) ps) (AllByRecursion (IsWord Attribute) ps)
 tests_attributes ps = tests_all (is_word Attribute) (IsWord Attribute) (tests_word Attribute) ps
 
-pub tests_keyword : (f : List ℕ × List (List ℕ)) → Tests (is_keyword f) (IsKeyword f)
+pub tests_keyword : (f : Field) → Tests (is_keyword f) (IsKeyword f)
 tests_keyword f = tests_and (tests_word UnicodeKey f.0) (tests_attributes f.1)
 
 pub tests_unicode : (u : SpelledUnicode) → Tests (is_unicode u) (IsUnicodeBlock u)
@@ -107,7 +109,7 @@ tests_unicode u = tests_like
     (tests_and (tests_attributes u.attributes) (tests_all is_keyword IsKeyword tests_keyword u.keywords))
     (tests_positive (length u.attributes + length u.keywords)))
 
-pub tests_field : (f : List ℕ × List (List ℕ)) → Tests (is_field f) (IsField f)
+pub tests_field : (f : Field) → Tests (is_field f) (IsField f)
 tests_field f =
     tests_like (λ (x : (IsWord TransformKey f.0 × AllByRecursion (IsWord Attribute) f.1) × (0 < length f.1)).
     (x.0.0, x.0.1, x.1)) (λ (x : IsField f). ((x.0, x.1), x.2))
@@ -117,7 +119,8 @@ pub tests_needed : (o : Option SpelledIdentifier) (n : ℕ) → Tests (is_some o
 tests_needed None n = tests_like (λ (h : 0 < n) e. h) (λ (f : None ≡ None → 0 < n). f refl) (tests_positive n)
 tests_needed (Some i) n = record { holds = λ e k. cc; passes = λ f. refl }
 
-pub tests_transform : (T : ℕ → Bool) (m : SpelledTransform) → Tests (is_transform T m) (IsTransformBlock T m)
+pub tests_transform : (T : LanguageLengths) (m : SpelledTransform) →
+    Tests (is_transform T m) (IsTransformBlock T m)
 tests_transform T m = tests_like
     (λ (x : (IfSome m.id (IsIdentifier T) × AllByRecursion IsField m.fields)
     × (m.id ≡ None → 0 < length m.fields)). record { id = x.0.0; fields = x.0.1; nonempty = x.1 })
@@ -126,7 +129,7 @@ tests_transform T m = tests_like
     (tests_and (tests_if_some (is_identifier T) (IsIdentifier T) (tests_identifier T) m.id)
     (tests_all is_field IsField tests_field m.fields)) (tests_needed m.id (length m.fields)))
 
-pub tests_other : (ps : List (List ℕ)) → Tests (is_other ps) (IsOther ps)
+pub tests_other : (ps : List Text) → Tests (is_other ps) (IsOther ps)
 tests_other ps = tests_like
     (λ (x : AllByRecursion (λ p. is_in_range 2 8 (length p) ≡ true) ps × (0 < length (kept ps))).
     record { lengths = x.0; nonempty = x.1 })
@@ -135,7 +138,7 @@ tests_other ps = tests_like
     (tests_all (λ p. is_in_range 2 8 (length p)) (λ p. is_in_range 2 8 (length p) ≡ true)
     (λ p. record { holds = λ e. e; passes = λ e. e }) ps) (tests_positive (length (kept ps))))
 
-pub tests_private : (ps : List (List ℕ)) → Tests (is_private ps) (IsPrivate ps)
+pub tests_private : (ps : List Text) → Tests (is_private ps) (IsPrivate ps)
 tests_private ps = tests_like
     (λ (x : AllByRecursion (IsWord PrivateSubtag) ps × (0 < length ps)).
     record { words = x.0; nonempty = x.1 })
@@ -143,24 +146,25 @@ tests_private ps = tests_like
     (tests_and (tests_all (is_word PrivateSubtag) (IsWord PrivateSubtag) (tests_word PrivateSubtag) ps)
     (tests_positive (length ps)))
 
-pub tests_extension : (T : ℕ → Bool) (c : ℕ) (e : Extension) → Tests (is_extension T c e) (IsExtension T c e)
-tests_extension T c (unicode u) = tests_and (tests_nat c 117) (tests_unicode u)
-tests_extension T c (transform m) = tests_and (tests_nat c 116) (tests_transform T m)
+pub tests_extension : (T : LanguageLengths) (c : ℕ) (e : Extension) →
+    Tests (is_extension T c e) (IsExtension T c e)
+tests_extension T c (unicode u) = tests_and (tests_nat c code_u) (tests_unicode u)
+tests_extension T c (transform m) = tests_and (tests_nat c code_t) (tests_transform T m)
 tests_extension T c (other ps) = tests_and (record { holds = λ e. e; passes = λ e. e }) (tests_other ps)
 
 -- pieces that were read follow the rule, or none that spell them do
 
-pub identifier_read : {T : ℕ → Bool} {ps : List (List ℕ)} → SpellsIdentifier T ps →
+pub identifier_read : {T : ℕ → Bool} {ps : List Text} → SpellsIdentifier T ps →
     IsIdentifier T (identifier_of ps)
 identifier_read {T = T} s =
     subst (IsIdentifier T) (sym (ap identifier_of s.2 ∙ identifier_of-pieces s.0 s.1.words)) s.1
 
-pub extension_read : (T : ℕ → Bool) (c : ℕ) (ps : List (List ℕ)) →
+pub extension_read : (T : LanguageLengths) (c : ℕ) (ps : List Text) →
     (e : Extension) × IsExtension T c e × (ps ≡ extension_pieces e) → IsExtension T c (extension_of c ps)
 extension_read T c ps h =
     subst (IsExtension T c) (sym (ap (extension_of c) h.2 ∙ extension_of-pieces T c h.0 h.1)) h.1
 
-pub tests_spelled : (T : ℕ → Bool) (p : List ℕ) (ps : List (List ℕ)) →
+pub tests_spelled : (T : LanguageLengths) (p : Text) (ps : List Text) →
     Tests (is_identifier T (identifier_of (p ∷ ps))) (SpellsIdentifier T (p ∷ ps))
 tests_spelled T p ps = tests_like
     (λ (h : IsIdentifier T (identifier_of (p ∷ ps))).
@@ -172,8 +176,9 @@ pub tests_either : {a b : Bool} {P Q : Type 0} → Tests a P → Tests b Q → T
 tests_either {a = a} {b = b} s t =
     let d = Decides-or a b (s.holds, s.passes) (t.holds, t.passes) in record { holds = d.0; passes = d.1 }
 
-pub tests_block : (T : ℕ → Bool) (b : ℕ × List (List ℕ)) → Tests (is_block T b) (IsBlock T b)
-tests_block T b = tests_either (tests_and (tests_nat (lower_singleton b) 120) (tests_private b.1)) (tests_like
+pub tests_block : (T : LanguageLengths) (b : Block) → Tests (is_block T b) (IsBlock T b)
+tests_block T b =
+    tests_either (tests_and (tests_nat (lower_singleton b) code_x) (tests_private b.1)) (tests_like
     (λ (h : IsExtension T (lower_singleton b) (extension_of (lower_singleton b) b.1)).
     (extension_of (lower_singleton b) b.1, h, sym (pieces-extension_of (lower_singleton b) b.1)))
     (extension_read T (lower_singleton b) b.1)

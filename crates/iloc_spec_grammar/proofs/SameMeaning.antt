@@ -8,7 +8,8 @@ use Rattle.std.specs.Ordering.{nat_cmp, eq_by_cmp}
 use Rattle.std.specs.FinMap.{find}
 use Rattle.std.proofs.lemmas.Bool.{or_parts, cond_both, false_from_ne_true, both_ways}
 use Rattle.std.proofs.lemmas.Bool.Decides.{nat_tests}
-use Rattle.iloc_spec_grammar.specs.Syntax.{pieces, AreLengths, PrivateSubtag, IsWord, lower, Spelled}
+use Rattle.iloc_spec_grammar.specs.Syntax.{LanguageLengths, Block, code_x, code_u, code_t, Text, pieces}
+use Rattle.iloc_spec_grammar.specs.Syntax.{AreLengths, PrivateSubtag, IsWord, lower, Spelled}
 use Rattle.iloc_spec_grammar.specs.Syntax.{SpelledIdentifier, SpelledUnicode, SpelledTransform, Fields}
 use Rattle.iloc_spec_grammar.specs.Syntax.{fields_pieces, unicode_pieces, transform_pieces, IsUnicode}
 use Rattle.iloc_spec_grammar.specs.Syntax.{IsTransform, IsOther, kept, is_other_singleton, lower_singleton}
@@ -33,20 +34,20 @@ use Rattle.iloc_spec_grammar.proofs.ValuesLaws.{all_weaker}
 
 -- the pieces after a singleton are those of the block that is found
 
-abbrev or_empty : Option (List (List ℕ)) → List (List ℕ)
+abbrev or_empty : Option (List Text) → List Text
 or_empty None = []
 or_empty (Some ps) = ps
 
 same_test : (q c : ℕ) → (c == q) ≡ eq_by_cmp nat_cmp q c
 same_test q c = grind (arith, nat_tests)
 
-none_after : (q : ℕ) (bs : List (ℕ × List (List ℕ))) →
+none_after : (q : ℕ) (bs : List Block) →
     list_any (eq_by_cmp nat_cmp q) (map (λ b. lower_singleton b) bs) ≡ false → after q bs ≡ []
 none_after q [] d = refl
 none_after q (b ∷ bs) d =
     let parts = or_parts _ _ d in rw (same_test q (lower_singleton b) ∙ parts.0) (none_after q bs parts.1)
 
-after_find : (q : ℕ) (bs : List (ℕ × List (List ℕ))) →
+after_find : (q : ℕ) (bs : List Block) →
     AllDifferent nat_cmp (map (λ b. lower_singleton b) bs) →
     after q bs ≡ or_empty (find nat_cmp q (by_singleton bs))
 after_find q [] d = refl
@@ -65,7 +66,7 @@ unicode_some : (u : SpelledUnicode) → 0 < length (unicode_pieces u) →
     0 < length u.attributes + length u.keywords
 unicode_some u h = from u.attributes u.keywords h
   where
-    from : (ws : List (List ℕ)) (fs : Fields) → 0 < length (ws ++ fields_pieces fs) →
+    from : (ws : List Text) (fs : Fields) → 0 < length (ws ++ fields_pieces fs) →
         0 < length ws + length fs
     from (w ∷ ws) fs h = omega arith
     from [] (f ∷ fs) h = omega arith
@@ -75,7 +76,7 @@ some_unicode : (u : SpelledUnicode) → 0 < length u.attributes + length u.keywo
     0 < length (unicode_pieces u)
 some_unicode u h = from u.attributes u.keywords h
   where
-    from : (ws : List (List ℕ)) (fs : Fields) → 0 < length ws + length fs →
+    from : (ws : List Text) (fs : Fields) → 0 < length ws + length fs →
         0 < length (ws ++ fields_pieces fs)
     from (w ∷ ws) fs h = omega arith
     from [] (f ∷ fs) h = omega arith
@@ -102,7 +103,7 @@ some_transform m h = from m.id m.fields h
 unicode_none : (u : SpelledUnicode) → unicode_pieces u ≡ [] → normal_unicode u ≡ no_unicode
 unicode_none u e = from u.attributes u.keywords e
   where
-    from : (ws : List (List ℕ)) (fs : Fields) → ws ++ fields_pieces fs ≡ [] →
+    from : (ws : List Text) (fs : Fields) → ws ++ fields_pieces fs ≡ [] →
         normal_unicode (record { attributes = ws; keywords = fs }) ≡ no_unicode
     from [] [] e = refl
     from (w ∷ ws) fs e = cc
@@ -120,18 +121,18 @@ transform_none m e = from m.id m.fields e
 
 -- what blocks spell is what they give one by one
 
-pub spelled_give : (T : ℕ → Bool) (bs : List (ℕ × List (List ℕ))) (e : SpelledExtensions) →
+pub spelled_give : (T : LanguageLengths) (bs : List Block) (e : SpelledExtensions) →
     SpellsExtensions T bs e → BlocksGive (grammar_rules T) bs (normal_extensions e)
 spelled_give T bs e s = record {
   letters = all_weaker (λ b. (is_ascii_alphanumeric b.0 ≡ true) × (0 < length b.1)) HasSingleton (λ b k. k.0)
       bs s.each_block;
   different = s.different;
-  unicode = at_u (find nat_cmp 117 (by_singleton bs)) (some_at 117)
-      (sym (after_find 117 bs s.different) ∙ s.unicode.1);
-  transform = at_t (find nat_cmp 116 (by_singleton bs)) (some_at 116)
-      (sym (after_find 116 bs s.different) ∙ s.transform.1);
-  private = at_x (find nat_cmp 120 (by_singleton bs)) (some_at 120)
-      (sym (after_find 120 bs s.different) ∙ s.private.1);
+  unicode = at_u (find nat_cmp code_u (by_singleton bs)) (some_at code_u)
+      (sym (after_find code_u bs s.different) ∙ s.unicode.1);
+  transform = at_t (find nat_cmp code_t (by_singleton bs)) (some_at code_t)
+      (sym (after_find code_t bs s.different) ∙ s.transform.1);
+  private = at_x (find nat_cmp code_x (by_singleton bs)) (some_at code_x)
+      (sym (after_find code_x bs s.different) ∙ s.private.1);
   each_other = subst (AllByRecursion KeepsWords) (sym s.others.1)
       (all_weaker (λ o. IsOther o.1) KeepsWords (λ o h. (h, refl)) e.others s.others.0);
   others = ap (λ os. map_of nat_cmp (map (λ b. (b.0, kept b.1)) os)) (sym s.others.1);
@@ -142,7 +143,7 @@ spelled_give T bs e s = record {
         (all_weaker (λ b. (is_ascii_alphanumeric b.0 ≡ true) × (0 < length b.1)) (λ b. 0 < length b.1)
         (λ b k. k.1) bs s.each_block)
 
-    at_u : (o : Option (List (List ℕ))) → IfSome o (λ ps. 0 < length ps) →
+    at_u : (o : Option (List Text)) → IfSome o (λ ps. 0 < length ps) →
         or_empty o ≡ unicode_pieces e.unicode → PartIs UnicodeMeans no_unicode o (normal_unicode e.unicode)
     at_u None h k = unicode_none e.unicode (sym k)
     at_u (Some ps) h k = record {
@@ -150,13 +151,13 @@ spelled_give T bs e s = record {
       grammatical = record {
         attributes = s.unicode.0.attributes;
         keywords = s.unicode.0.keywords;
-        nonempty = unicode_some e.unicode (subst (λ (l : List (List ℕ)). 0 < length l) k h);
+        nonempty = unicode_some e.unicode (subst (λ (l : List Text). 0 < length l) k h);
       };
       spelled = k;
       means = refl;
     }
 
-    at_t : (o : Option (List (List ℕ))) → IfSome o (λ ps. 0 < length ps) →
+    at_t : (o : Option (List Text)) → IfSome o (λ ps. 0 < length ps) →
         or_empty o ≡ transform_pieces e.transform →
         PartIs (TransformMeans T) no_transform o (normal_transform e.transform)
     at_t None h k = transform_none e.transform (sym k)
@@ -165,13 +166,13 @@ spelled_give T bs e s = record {
       grammatical = record {
         id = s.transform.0.id;
         fields = s.transform.0.fields;
-        nonempty = transform_some e.transform (subst (λ (l : List (List ℕ)). 0 < length l) k h);
+        nonempty = transform_some e.transform (subst (λ (l : List Text). 0 < length l) k h);
       };
       spelled = k;
       means = refl;
     }
 
-    at_x : (o : Option (List (List ℕ))) → IfSome o (λ ps. 0 < length ps) → or_empty o ≡ e.private →
+    at_x : (o : Option (List Text)) → IfSome o (λ ps. 0 < length ps) → or_empty o ≡ e.private →
         PartIs PrivateMeans [] o (map lower e.private)
     at_x None h k = ap (map lower) (sym k)
     at_x (Some ps) h k = (
@@ -179,27 +180,27 @@ spelled_give T bs e s = record {
       ap (map lower) (sym k),
     )
 
-pub good_blocks : {T : ℕ → Bool} {bs : List (ℕ × List (List ℕ))} {e : SpelledExtensions} →
+pub good_blocks : {T : ℕ → Bool} {bs : List Block} {e : SpelledExtensions} →
     SpellsExtensions T bs e → AreGood T [] bs
 good_blocks {T = T} {bs = bs} {e = e} s = blocks_good T bs (normal_extensions e) (spelled_give T bs e s)
 
 -- good blocks spell what is read of them
 
 -- the extensions that blocks are read as
-abbrev pub read_of : List (ℕ × List (List ℕ)) → SpelledExtensions
+abbrev pub read_of : List Block → SpelledExtensions
 read_of bs = record {
-  unicode = unicode_of (after 117 bs);
-  transform = transform_of (after 116 bs);
-  private = after 120 bs;
+  unicode = unicode_of (after code_u bs);
+  transform = transform_of (after code_t bs);
+  private = after code_x bs;
   others = other_blocks (by_singleton bs);
 }
 
-record GoodParts (T : ℕ → Bool) (seen : List ℕ) (bs : List (ℕ × List (List ℕ))) : Type 0 where
+record GoodParts (T : LanguageLengths) (seen : List ℕ) (bs : List Block) : Type 0 where
   rules : AllByRecursion (λ b. HasSingleton b × IsBlock T b) bs
   different : AllDifferent nat_cmp (map (λ b. lower_singleton b) bs)
   unseen : NotSeen seen bs
 
-good_parts : (T : ℕ → Bool) (seen : List ℕ) (bs : List (ℕ × List (List ℕ))) → AreGood T seen bs →
+good_parts : (T : LanguageLengths) (seen : List ℕ) (bs : List Block) → AreGood T seen bs →
     GoodParts T seen bs
 good_parts T seen [] g = record { rules = tt; different = tt; unseen = tt }
 good_parts T seen (b ∷ bs) g =
@@ -212,9 +213,9 @@ good_parts T seen (b ∷ bs) g =
     }
 
 -- a block has a piece
-rule_some : (T : ℕ → Bool) (q : ℕ) (ps : List (List ℕ)) → RuleAt T q ps → 0 < length ps
+rule_some : (T : LanguageLengths) (q : ℕ) (ps : List Text) → RuleAt T q ps → 0 < length ps
 rule_some T q ps (inl p) = p.1.nonempty
-rule_some T q ps (inr (e, h, k)) = subst (λ (l : List (List ℕ)). 0 < length l) (sym k) (from e h)
+rule_some T q ps (inr (e, h, k)) = subst (λ (l : List Text). 0 < length l) (sym k) (from e h)
   where
     from : (e : Extension) → IsExtension T q e → 0 < length (extension_pieces e)
     from (unicode u) h = some_unicode u h.1.nonempty
@@ -224,7 +225,7 @@ rule_some T q ps (inr (e, h, k)) = subst (λ (l : List (List ℕ)). 0 < length l
 
 -- the rules of the parts, of the one block that each has or of none
 
-unicode_rule : (T : ℕ → Bool) (o : Option (List (List ℕ))) → IfSome o (RuleAt T 117) →
+unicode_rule : (T : LanguageLengths) (o : Option (List Text)) → IfSome o (RuleAt T code_u) →
     IsUnicode (unicode_of (or_empty o))
 unfolding unicode_of
 unicode_rule T None h = record { attributes = tt; keywords = tt }
@@ -233,9 +234,9 @@ unicode_rule T (Some ps) (inr (unicode u, h, e)) =
     subst IsUnicode (sym (ap unicode_of e ∙ unicode_of-pieces u h.1))
     (record { attributes = h.1.attributes; keywords = h.1.keywords })
 unicode_rule T (Some ps) (inr (transform m, h, e)) = absurd (let k = h.0 in omega arith)
-unicode_rule T (Some ps) (inr (other qs, h, e)) = absurd (no_u 117 refl h.0)
+unicode_rule T (Some ps) (inr (other qs, h, e)) = absurd (no_u code_u refl h.0)
 
-transform_rule : (T : ℕ → Bool) (o : Option (List (List ℕ))) → IfSome o (RuleAt T 116) →
+transform_rule : (T : LanguageLengths) (o : Option (List Text)) → IfSome o (RuleAt T code_t) →
     IsTransform T (transform_of (or_empty o))
 unfolding transform_of
 transform_rule T None h = record { id = tt; fields = tt }
@@ -243,24 +244,24 @@ transform_rule T (Some ps) (inl p) = absurd (let k = p.0 in omega arith)
 transform_rule T (Some ps) (inr (transform m, h, e)) = subst (IsTransform T)
     (sym (ap transform_of e ∙ transform_of-pieces m h.1)) (record { id = h.1.id; fields = h.1.fields })
 transform_rule T (Some ps) (inr (unicode u, h, e)) = absurd (let k = h.0 in omega arith)
-transform_rule T (Some ps) (inr (other qs, h, e)) = absurd (no_t 116 refl h.0)
+transform_rule T (Some ps) (inr (other qs, h, e)) = absurd (no_t code_t refl h.0)
 
-private_rule : (T : ℕ → Bool) (o : Option (List (List ℕ))) → IfSome o (RuleAt T 120) →
+private_rule : (T : LanguageLengths) (o : Option (List Text)) → IfSome o (RuleAt T code_x) →
     AllByRecursion (IsWord PrivateSubtag) (or_empty o)
 private_rule T None h = tt
 private_rule T (Some ps) (inl p) = p.1.words
 private_rule T (Some ps) (inr (unicode u, h, e)) = absurd (let k = h.0 in omega arith)
 private_rule T (Some ps) (inr (transform m, h, e)) = absurd (let k = h.0 in omega arith)
-private_rule T (Some ps) (inr (other qs, h, e)) = absurd (no_x 120 refl h.0)
+private_rule T (Some ps) (inr (other qs, h, e)) = absurd (no_x code_x refl h.0)
 
-other_rule : (T : ℕ → Bool) (q : ℕ) (ps : List (List ℕ)) → RuleAt T q ps → is_other_singleton q ≡ true →
+other_rule : (T : LanguageLengths) (q : ℕ) (ps : List Text) → RuleAt T q ps → is_other_singleton q ≡ true →
     IsOther ps
 other_rule T q ps (inl p) k = absurd (no_x q p.0 k)
 other_rule T q ps (inr (other qs, h, e)) k = subst IsOther (sym e) h.1
 other_rule T q ps (inr (unicode u, h, e)) k = absurd (no_u q h.0 k)
 other_rule T q ps (inr (transform m, h, e)) k = absurd (no_t q h.0 k)
 
-others_rule : (T : ℕ → Bool) (bs : List (ℕ × List (List ℕ))) →
+others_rule : (T : LanguageLengths) (bs : List Block) →
     AllByRecursion (λ b. RuleAt T (lower_singleton b) b.1) bs →
     AllByRecursion (λ o. IsOther o.1) (other_blocks (by_singleton bs))
 others_rule T [] h = tt
@@ -268,7 +269,7 @@ others_rule T (b ∷ bs) h =
     cond_both (is_other_singleton (lower_singleton b)) _ _ (AllByRecursion (λ o. IsOther o.1))
     (λ e. (other_rule T (lower_singleton b) b.1 h.0 e, others_rule T bs h.1)) (λ e. others_rule T bs h.1)
 
-pub good_spell : (T : ℕ → Bool) (bs : List (ℕ × List (List ℕ))) → AreGood T [] bs →
+pub good_spell : (T : LanguageLengths) (bs : List Block) → AreGood T [] bs →
     SpellsExtensions T bs (read_of bs)
 good_spell T bs g =
     let parts = good_parts T [] bs g in
@@ -280,35 +281,35 @@ good_spell T bs g =
           (λ b k. (k.0, rule_some T (lower_singleton b) b.1 k.1)) bs parts.rules;
       different = parts.different;
       unicode = (
-        subst (λ (l : List (List ℕ)). IsUnicode (unicode_of l)) (sym (after_find 117 bs parts.different))
-            (unicode_rule T _ (find_holds (RuleAt T) 117 bs rules)),
-        sym (pieces-unicode_of (after 117 bs)),
+        subst (λ (l : List Text). IsUnicode (unicode_of l)) (sym (after_find code_u bs parts.different))
+            (unicode_rule T _ (find_holds (RuleAt T) code_u bs rules)),
+        sym (pieces-unicode_of (after code_u bs)),
       );
       transform = (
-        subst (λ (l : List (List ℕ)). IsTransform T (transform_of l))
-            (sym (after_find 116 bs parts.different))
-            (transform_rule T _ (find_holds (RuleAt T) 116 bs rules)),
-        sym (pieces-transform_of (after 116 bs)),
+        subst (λ (l : List Text). IsTransform T (transform_of l))
+            (sym (after_find code_t bs parts.different))
+            (transform_rule T _ (find_holds (RuleAt T) code_t bs rules)),
+        sym (pieces-transform_of (after code_t bs)),
       );
       private = (
-        subst (AllByRecursion (IsWord PrivateSubtag)) (sym (after_find 120 bs parts.different))
-            (private_rule T _ (find_holds (RuleAt T) 120 bs rules)),
+        subst (AllByRecursion (IsWord PrivateSubtag)) (sym (after_find code_x bs parts.different))
+            (private_rule T _ (find_holds (RuleAt T) code_x bs rules)),
         refl,
       );
       others = (others_rule T bs rules, refl);
     }
 
-pub blocks_spelled : {T : ℕ → Bool} {bs : List (ℕ × List (List ℕ))} → AreGood T [] bs → AreBlocks T bs
+pub blocks_spelled : {T : ℕ → Bool} {bs : List Block} → AreGood T [] bs → AreBlocks T bs
 blocks_spelled {T = T} {bs = bs} g = (read_of bs, good_spell T bs g)
 
 -- what blocks mean is what they give one by one
 
-pub mean_give : {T : ℕ → Bool} {bs : List (ℕ × List (List ℕ))} {e : Extensions} → BlocksMean T bs e →
+pub mean_give : {T : ℕ → Bool} {bs : List Block} {e : Extensions} → BlocksMean T bs e →
     BlocksGive (grammar_rules T) bs e
 mean_give {T = T} {bs = bs} (w, s, e) =
     subst (BlocksGive (grammar_rules T) bs) (sym e) (spelled_give T bs w s)
 
-pub give_mean : {T : ℕ → Bool} {bs : List (ℕ × List (List ℕ))} {e : Extensions} →
+pub give_mean : {T : ℕ → Bool} {bs : List Block} {e : Extensions} →
     BlocksGive (grammar_rules T) bs e → BlocksMean T bs e
 give_mean {T = T} {bs = bs} {e = e} g =
     let s = good_spell T bs (blocks_good T bs e g) in (
@@ -319,24 +320,24 @@ give_mean {T = T} {bs = bs} {e = e} g =
 
 -- whole texts
 
-pub means_by_blocks : {T : ℕ → Bool} (t : List ℕ) (M : Locale) → Means T t M → MeansByBlocks T t M
+pub means_by_blocks : {T : ℕ → Bool} (t : Text) (M : Locale) → Means T t M → MeansByBlocks T t M
 means_by_blocks t M m = record { id = m.id; extensions = mean_give m.extensions }
 
-pub blocks_mean : {T : ℕ → Bool} (t : List ℕ) (M : Locale) → MeansByBlocks T t M → Means T t M
+pub blocks_mean : {T : ℕ → Bool} (t : Text) (M : Locale) → MeansByBlocks T t M → Means T t M
 blocks_mean t M m = record { id = m.id; extensions = give_mean m.extensions }
 
-pub tree_means : {T : ℕ → Bool} (t : List ℕ) (M : Locale) → Means T t M → TreeMeans T t M
+pub tree_means : {T : ℕ → Bool} (t : Text) (M : Locale) → Means T t M → TreeMeans T t M
 tree_means {T = T} t M m = blocks_tree T t M (means_by_blocks t M m)
 
-pub means_by_tree : {T : ℕ → Bool} → AreLengths T → (t : List ℕ) (M : Locale) → TreeMeans T t M → Means T t M
+pub means_by_tree : {T : ℕ → Bool} → AreLengths T → (t : Text) (M : Locale) → TreeMeans T t M → Means T t M
 means_by_tree {T = T} table t M m = blocks_mean t M (tree_by_blocks T table t M m)
 
 -- good blocks after an identifier mean what is read of them
-pub good_text : (T : ℕ → Bool) (t : List ℕ) → SpellsIdentifier T (head (pieces t)) →
+pub good_text : (T : LanguageLengths) (t : Text) → SpellsIdentifier T (head (pieces t)) →
     AreGood T [] (tail_blocks (pieces t)) → Means T t (meaning (written_of (pieces t)))
 good_text T t s g = blocks_mean t (meaning (written_of (pieces t))) (read_by_blocks T t s g)
 
 -- a text means one value at most
-pub one_meaning : {T : ℕ → Bool} → AreLengths T → (t : List ℕ) (L M : Locale) → Means T t L → Means T t M →
+pub one_meaning : {T : ℕ → Bool} → AreLengths T → (t : Text) (L M : Locale) → Means T t L → Means T t M →
     L ≡ M
 one_meaning table t L M a b = trees.one_meaning table t L M (tree_means t L a) (tree_means t M b)

@@ -3,7 +3,8 @@ use Rattle.std.proofs.Common.{◌≡◌, ℕ, ◌≤◌, Bool, ◌||◌, not, Li
 use Rattle.std.proofs.Common.{subst, arith, Option, Some, None, option_to_list}
 use Rattle.std.specs.List.{list_any, AllZip}
 use Rattle.std.specs.Char.{to_ascii_lowercase}
-use Rattle.iloc_spec_grammar.specs.Syntax.{Subtag, is_word, lower, is_same, is_true, SpelledIdentifier}
+use Rattle.iloc_spec_grammar.specs.Syntax.{LanguageLengths, Field, Text, Subtag, is_word, lower, is_same}
+use Rattle.iloc_spec_grammar.specs.Syntax.{is_true, SpelledIdentifier}
 use Rattle.iloc_spec_grammar.specs.Syntax.{SpelledUnicode, SpelledTransform, Fields, IsUnicode, IsTransform}
 use Rattle.iloc_spec_grammar.specs.Tree.{Extension, unicode, transform, extension_pieces, IsUnicodeBlock}
 use Rattle.iloc_spec_grammar.specs.Tree.{IsTransformBlock, IsExtension}
@@ -29,11 +30,11 @@ without_by_tree test TreeWithout.none = Without.none
 without_by_tree test (TreeWithout.stays w) = Without.stays (without_by_tree test w)
 without_by_tree test (TreeWithout.left_out e w) = Without.left_out e (without_by_tree test w)
 
-module _ {X : Type 0} (key : X → List ℕ) where
+module _ {X : Type 0} (key : X → Text) where
   abbrev is_repeat : List X → X → Bool
   is_repeat before x = list_any (λ y. is_same (lower (key x)) (lower (key y))) before
 
-  abbrev seen_in : List X → List (List ℕ)
+  abbrev seen_in : List X → List Text
   seen_in before = map (λ y. lower (key y)) before
 
   repeat_seen : (x : X) (before : List X) →
@@ -48,7 +49,7 @@ module _ {X : Type 0} (key : X → List ℕ) where
   repeats_from (Without.left_out {before = before} {x = x} e w) =
       WithoutRepeats.left_out (sym (repeat_seen x before) ∙ e) (repeats_from w)
 
-  repeats_to : (before : List X) {seen : List (List ℕ)} {xs ys : List X} → seen_in before ≡ seen →
+  repeats_to : (before : List X) {seen : List Text} {xs ys : List X} → seen_in before ≡ seen →
       WithoutRepeats key seen xs ys → Without is_repeat before xs ys
   repeats_to before p WithoutRepeats.none = Without.none
   repeats_to before p (WithoutRepeats.stays {x = x} w) =
@@ -187,10 +188,10 @@ plain_unicode h = record { attributes = h.attributes; keywords = h.keywords }
 plain_transform : {T : ℕ → Bool} {m : SpelledTransform} → IsTransformBlock T m → IsTransform T m
 plain_transform h = record { id = h.id; fields = h.fields }
 
-less_by_tree : (n : ℕ) (f g : List ℕ × List (List ℕ)) → TreeLessTrue f g → n ≤ length g.1 → LessTrue n f g
+less_by_tree : (n : ℕ) (f g : Field) → TreeLessTrue f g → n ≤ length g.1 → LessTrue n f g
 less_by_tree n f g l h = (l.0, without_by_tree (λ w. is_true (lower w)) l.1, h)
 
-pub block_by_tree : (T : ℕ → Bool) {r : TreeRule} {e f : Extension} (c : ℕ) →
+pub block_by_tree : (T : LanguageLengths) {r : TreeRule} {e f : Extension} (c : ℕ) →
     IsExtension T (to_ascii_lowercase c) e → ExtensionStep r e f →
     BlockStep T (rule_of r) (c, extension_pieces e) (c, extension_pieces f)
 block_by_tree T c h ExtensionStep.same = BlockStep.same

@@ -3,7 +3,8 @@ use Rattle.std.proofs.Common.{◌≡◌, ◌≢◌, ◌⊎◌, inl, inr, ℕ, Bo
 use Rattle.std.proofs.Common.{filter, refl, sym, ap, ◌∙◌, subst, arith, Option, Some, None, option_to_list}
 use Rattle.std.specs.List.{AllByRecursion, AllZip}
 use Rattle.std.proofs.lemmas.Bool.{cases_Bool, ne_eqb}
-use Rattle.iloc_spec_grammar.specs.Syntax.{pieces, join, head, tail_blocks, AreLengths, IsIdentifier}
+use Rattle.iloc_spec_grammar.specs.Syntax.{LanguageLengths, Block, code_x, code_u, code_t, Text, pieces, join}
+use Rattle.iloc_spec_grammar.specs.Syntax.{head, tail_blocks, AreLengths, IsIdentifier}
 use Rattle.iloc_spec_grammar.specs.Syntax.{identifier_pieces, SpelledIdentifier, SpelledUnicode}
 use Rattle.iloc_spec_grammar.specs.Syntax.{SpelledTransform, unicode_pieces, transform_pieces, IsUnicode}
 use Rattle.iloc_spec_grammar.specs.Syntax.{IsTransform, lower_singleton}
@@ -43,80 +44,80 @@ one_reordered (Some x) (Some y) r = ap Some (all_reordered (λ z. x ≡ z) r (re
 one_reordered None (Some y) r = absurd (let n = total_reordered (λ z. 1) r in omega arith)
 one_reordered (Some x) None r = absurd (let n = total_reordered (λ z. 1) r in omega arith)
 
-abbrev read_block : ℕ × List (List ℕ) → ℕ × Extension
+abbrev read_block : Block → ℕ × Extension
 read_block b = (b.0, extension_of (lower_singleton b) b.1)
 
-extensions_before : (bs : List (ℕ × List (List ℕ))) → EndsAtX bs →
-    map read_block (filter (λ b. not (lower_singleton b == 120)) bs) ≡ extensions_in bs
+extensions_before : (bs : List Block) → EndsAtX bs →
+    map read_block (filter (λ b. not (lower_singleton b == code_x)) bs) ≡ extensions_in bs
 extensions_before [] e = refl
-extensions_before (b ∷ bs) e = elim (cases_Bool (lower_singleton b == 120)) [
+extensions_before (b ∷ bs) e = elim (cases_Bool (lower_singleton b == code_x)) [
   | inl t ↦ rw (t, e.0 t) refl
   | inr t ↦ rw t (ap (λ l. read_block b ∷ l) (extensions_before bs e.1))
 ]
 
-private_after : (bs : List (ℕ × List (List ℕ))) → EndsAtX bs →
-    filter (λ b. lower_singleton b == 120) bs ≡ option_to_list (private_in bs)
+private_after : (bs : List Block) → EndsAtX bs →
+    filter (λ b. lower_singleton b == code_x) bs ≡ option_to_list (private_in bs)
 private_after [] e = refl
-private_after (b ∷ bs) e = elim (cases_Bool (lower_singleton b == 120)) [
+private_after (b ∷ bs) e = elim (cases_Bool (lower_singleton b == code_x)) [
   | inl t ↦ rw (t, e.0 t) refl
   | inr t ↦ rw t (private_after bs e.1)
 ]
 
 -- those of `x` stay last
-pub extensions_reordered : (bs cs : List (ℕ × List (List ℕ))) → EndsAtX bs → EndsAtX cs → Reordered bs cs →
+pub extensions_reordered : (bs cs : List Block) → EndsAtX bs → EndsAtX cs → Reordered bs cs →
     Reordered (extensions_in bs) (extensions_in cs)
 extensions_reordered bs cs e f r = subst (λ l. Reordered l (extensions_in cs)) (extensions_before bs e)
-    (subst (Reordered (map read_block (filter (λ b. not (lower_singleton b == 120)) bs)))
+    (subst (Reordered (map read_block (filter (λ b. not (lower_singleton b == code_x)) bs)))
     (extensions_before cs f) (map_reordered read_block (filter_reordered _ r)))
 
-pub private_reordered : (bs cs : List (ℕ × List (List ℕ))) → EndsAtX bs → EndsAtX cs → Reordered bs cs →
+pub private_reordered : (bs cs : List Block) → EndsAtX bs → EndsAtX cs → Reordered bs cs →
     private_in bs ≡ private_in cs
 private_reordered bs cs e f r = one_reordered (private_in bs) (private_in cs)
     (subst (λ l. Reordered l (option_to_list (private_in cs))) (private_after bs e) (subst
-    (Reordered (filter (λ b. lower_singleton b == 120) bs)) (private_after cs f) (filter_reordered _ r)))
+    (Reordered (filter (λ b. lower_singleton b == code_x) bs)) (private_after cs f) (filter_reordered _ r)))
 
 -- a step inside a block is one of what is read of it
 
-rule_read : (T : ℕ → Bool) (b : ℕ × List (List ℕ)) → lower_singleton b ≢ 120 → IsBlock T b →
+rule_read : (T : LanguageLengths) (b : Block) → lower_singleton b ≢ code_x → IsBlock T b →
     IsExtension T (lower_singleton b) (extension_of (lower_singleton b) b.1)
 rule_read T b n (inl p) = absurd (n p.0)
 rule_read T b n (inr h) = extension_read T (lower_singleton b) b.1 h
 
-unicode_read_step : (T : ℕ → Bool) (r : Rule) (u v : SpelledUnicode) → IsUnicode u →
+unicode_read_step : (T : LanguageLengths) (r : Rule) (u v : SpelledUnicode) → IsUnicode u →
     AttributesStep r u.attributes v.attributes → FieldsStep r 0 u.keywords v.keywords →
-    IsExtension T 117 (unicode (unicode_of (unicode_pieces u))) →
+    IsExtension T code_u (unicode (unicode_of (unicode_pieces u))) →
     ExtensionStep (tree_rule r) (unicode (unicode_of (unicode_pieces u)))
     (unicode (unicode_of (unicode_pieces v)))
 unicode_read_step T r u v h a k g =
     let s = unicode_step r u v a k in
     let p = unicode_read u h in
-    let after = (extension_step T 117 s (refl, subst IsUnicodeBlock p g.1)).0.1 in
+    let after = (extension_step T code_u s (refl, subst IsUnicodeBlock p g.1)).0.1 in
     let q = unicode_read v (record { attributes = after.attributes; keywords = after.keywords }) in
     subst (λ w. ExtensionStep (tree_rule r) (unicode w) (unicode (unicode_of (unicode_pieces v)))) (sym p)
     (subst (λ w. ExtensionStep (tree_rule r) (unicode u) (unicode w)) (sym q) s)
 
-transform_read_step : (T : ℕ → Bool) (r : Rule) (m n : SpelledTransform) → IsTransform T m →
+transform_read_step : (T : LanguageLengths) (r : Rule) (m n : SpelledTransform) → IsTransform T m →
     AllZip (IdentifierStep r) (option_to_list m.id) (option_to_list n.id) → FieldsStep r 1 m.fields n.fields →
-    IsExtension T 116 (transform (transform_of (transform_pieces m))) →
+    IsExtension T code_t (transform (transform_of (transform_pieces m))) →
     ExtensionStep (tree_rule r) (transform (transform_of (transform_pieces m)))
     (transform (transform_of (transform_pieces n)))
 transform_read_step T r m n h i k g =
     let s = transform_step r m n i k in
     let p = transform_read m h in
-    let after = (extension_step T 116 s (refl, subst (IsTransformBlock T) p g.1)).0.1 in
+    let after = (extension_step T code_t s (refl, subst (IsTransformBlock T) p g.1)).0.1 in
     let q = transform_read n (record { id = after.id; fields = after.fields }) in
     subst (λ w. ExtensionStep (tree_rule r) (transform w) (transform (transform_of (transform_pieces n))))
     (sym p) (subst (λ w. ExtensionStep (tree_rule r) (transform m) (transform w)) (sym q) s)
 
 -- of blocks that differ
-record ReadStep (T : ℕ → Bool) (r : Rule) (b c : ℕ × List (List ℕ)) : Type 0 where
-  no_x : (lower_singleton b == 120) ≡ false
+record ReadStep (T : LanguageLengths) (r : Rule) (b c : Block) : Type 0 where
+  no_x : (lower_singleton b == code_x) ≡ false
   singletons : b.0 ≡ c.0
   step : IsBlock T b →
       ExtensionStep (tree_rule r) (extension_of (lower_singleton b) b.1)
       (extension_of (lower_singleton b) c.1)
 
-read_step : (T : ℕ → Bool) (r : Rule) {b c : ℕ × List (List ℕ)} → BlockStep T r b c →
+read_step : (T : LanguageLengths) (r : Rule) {b c : Block} → BlockStep T r b c →
     (b ≡ c) ⊎ ReadStep T r b c
 read_step T r BlockStep.same = inl refl
 read_step T r (BlockStep.in_unicode {c = c} u v e h a k) = inr (record {
@@ -143,12 +144,12 @@ read_step T r (BlockStep.in_other {c = c} {ps = ps} {qs = qs} o p w) = inr (reco
 
 -- blocks place by place
 
-ReadSteps : Rule → List (ℕ × List (List ℕ)) → List (ℕ × List (List ℕ)) → Type 0
+ReadSteps : Rule → List Block → List Block → Type 0
 ReadSteps r bs cs =
     AllZip (λ e f. (e.0 ≡ f.0) × ExtensionStep (tree_rule r) e.1 f.1) (extensions_in bs) (extensions_in cs)
     × (private_in bs ≡ private_in cs)
 
-read_steps : (T : ℕ → Bool) (r : Rule) (bs cs : List (ℕ × List (List ℕ))) → AllZip (BlockStep T r) bs cs →
+read_steps : (T : LanguageLengths) (r : Rule) (bs cs : List Block) → AllZip (BlockStep T r) bs cs →
     AllByRecursion (IsBlock T) bs → ReadSteps r bs cs
 unfolding ReadSteps
 read_steps T r [] [] z h = (tt, refl)
@@ -156,7 +157,7 @@ read_steps T r (b ∷ bs) (c ∷ cs) z h = at_block (read_step T r z.0) (read_st
   where
     at_block : (b ≡ c) ⊎ ReadStep T r b c → ReadSteps r bs cs → ReadSteps r (b ∷ bs) (c ∷ cs)
     at_block (inl e) rest =
-        subst (λ d. ReadSteps r (b ∷ bs) (d ∷ cs)) e (elim (cases_Bool (lower_singleton b == 120)) [
+        subst (λ d. ReadSteps r (b ∷ bs) (d ∷ cs)) e (elim (cases_Bool (lower_singleton b == code_x)) [
           | inl t ↦ rw t (tt, refl)
           | inr t ↦ rw t (((refl, ExtensionStep.same), rest.0), rest.1)
         ])
@@ -164,14 +165,14 @@ read_steps T r (b ∷ bs) (c ∷ cs) z h = at_block (read_step T r z.0) (read_st
         (rw s.no_x (((refl, s.step h.0), rest.0), rest.1))
 read_steps T r _ _ z h = absurd z
 
-good_rules : (T : ℕ → Bool) (seen : List ℕ) (bs : List (ℕ × List (List ℕ))) → AreGood T seen bs →
+good_rules : (T : LanguageLengths) (seen : List ℕ) (bs : List Block) → AreGood T seen bs →
     AllByRecursion (IsBlock T) bs
 good_rules T seen [] g = tt
 good_rules T seen (b ∷ bs) g = (g.0.2, good_rules T (lower_singleton b ∷ seen) bs g.1)
 
 -- texts
 
-written_of_step : (T : ℕ → Bool) (r : Rule) (ps qs : List (List ℕ)) (i j : SpelledIdentifier) →
+written_of_step : (T : LanguageLengths) (r : Rule) (ps qs : List Text) (i j : SpelledIdentifier) →
     identifier_of (head ps) ≡ i → identifier_of (head qs) ≡ j → IdentifierStep r i j →
     BlocksStep T r (tail_blocks ps) (tail_blocks qs) → AllByRecursion (IsBlock T) (tail_blocks ps) →
     Step (written_of ps) (written_of qs)
@@ -191,7 +192,7 @@ written_of_step T r ps qs i j p q s z h =
     k.1 (Step.inside (tree_rule r) ids k.0)
 
 -- a step between texts is one of what they spell
-pub tree_step : {T : ℕ → Bool} (t u : List ℕ) → TextStep T t u → TreeTextStep T t u
+pub tree_step : {T : ℕ → Bool} (t u : Text) → TextStep T t u → TreeTextStep T t u
 tree_step t u (TextStep.letter_case e) = TreeTextStep.letter_case e
 tree_step {T = T} t u (TextStep.rewritten r {i = i} {j = j} m h p q s z) =
     let good : AreGood T [] (tail_blocks (pieces t)) = good_blocks m.extensions.1 in
@@ -206,13 +207,13 @@ tree_step {T = T} t u (TextStep.rewritten r {i = i} {j = j} m h p q s z) =
 
 -- a step of what a text spells is one of its blocks
 
-blocks_by_tree : (T : ℕ → Bool) (r : TreeRule) (es fs : List (ℕ × Extension)) (x : List (ℕ × List (List ℕ))) →
+blocks_by_tree : (T : LanguageLengths) (r : TreeRule) (es fs : List (ℕ × Extension)) (x : List Block) →
     AllZip (λ e f. (e.0 ≡ f.0) × ExtensionStep r e.1 f.1) es fs →
     AllByRecursion (λ e. IsExtension T (lower_singleton e) e.1) es →
     AllZip (BlockStep T (rule_of r)) (map extension_block es ++ x) (map extension_block fs ++ x)
 blocks_by_tree T r [] [] x z h = same_blocks x
   where
-    same_blocks : (bs : List (ℕ × List (List ℕ))) → AllZip (BlockStep T (rule_of r)) bs bs
+    same_blocks : (bs : List Block) → AllZip (BlockStep T (rule_of r)) bs bs
     same_blocks [] = tt
     same_blocks (b ∷ bs) = (BlockStep.same, same_blocks bs)
 blocks_by_tree T r (e ∷ es) (f ∷ fs) x z h = (
@@ -223,18 +224,18 @@ blocks_by_tree T r (e ∷ es) (f ∷ fs) x z h = (
 blocks_by_tree T r _ _ x z h = absurd z
 
 -- none of the tree's rules is that of the order of blocks
-inside_blocks : (T : ℕ → Bool) (r : TreeRule) (bs cs : List (ℕ × List (List ℕ))) →
+inside_blocks : (T : LanguageLengths) (r : TreeRule) (bs cs : List Block) →
     AllZip (BlockStep T (rule_of r)) bs cs → BlocksStep T (rule_of r) bs cs
 inside_blocks T TreeRule.VariantOrder bs cs z = z
 inside_blocks T r bs cs z = z
 
 -- a step of trees as one of heads and blocks
-record StepOfBlocks (T : ℕ → Bool) (v w : Written) : Type 0 where
+record StepOfBlocks (T : LanguageLengths) (v w : Written) : Type 0 where
   rule : Rule
   id : IdentifierStep rule v.id w.id
   blocks : BlocksStep T rule (blocks_of v) (blocks_of w)
 
-blocks_step : (T : ℕ → Bool) {v w : Written} → IsWritten T v → Step v w → StepOfBlocks T v w
+blocks_step : (T : LanguageLengths) {v w : Written} → IsWritten T v → Step v w → StepOfBlocks T v w
 blocks_step T h (Step.block_order {i = i} {x = x} r) = record {
   rule = Rule.BlockOrder;
   id = same_rule Rule.BlockOrder i;
@@ -247,7 +248,7 @@ blocks_step T h (Step.inside r {es = es} {fs = fs} {x = x} s z) = record {
 }
 
 -- if the blocks of both are those that they are made of
-pub spelled_step : {T : ℕ → Bool} (t : List ℕ) {v w : Written} → IsWritten T v → pieces t ≡ spelling v →
+pub spelled_step : {T : ℕ → Bool} (t : Text) {v w : Written} → IsWritten T v → pieces t ≡ spelling v →
     tail_blocks (spelling v) ≡ blocks_of v → tail_blocks (spelling w) ≡ blocks_of w → Step v w →
     TextStep T t (join (spelling w))
 spelled_step {T = T} t {v = v} {w = w} h e bs cs s =
@@ -267,21 +268,21 @@ spelled_step {T = T} t {v = v} {w = w} h e bs cs s =
     (subst (λ bs. BlocksStep T k.rule bs (tail_blocks (pieces (join (spelling w))))) (sym first)
     (subst (BlocksStep T k.rule (blocks_of v)) (sym second) k.blocks))
 
-pub step_by_tree : {T : ℕ → Bool} → AreLengths T → (t u : List ℕ) → TreeTextStep T t u → TextStep T t u
+pub step_by_tree : {T : ℕ → Bool} → AreLengths T → (t u : Text) → TreeTextStep T t u → TextStep T t u
 step_by_tree table t u (TreeTextStep.letter_case e) = TextStep.letter_case e
 step_by_tree {T = T} table t u (TreeTextStep.rewritten {v = v} {w = w} h e s) =
     spelled_step t h e (blocks-spelling table v h) (blocks-spelling table w (written_step T s h).0) s
 
 -- texts of identifiers
 
-pub tree_identifier_step : {T : ℕ → Bool} (t u : List ℕ) → IdentifierTextStep T t u →
+pub tree_identifier_step : {T : ℕ → Bool} (t u : Text) → IdentifierTextStep T t u →
     TreeIdentifierTextStep T t u
 tree_identifier_step t u (IdentifierTextStep.letter_case e) = TreeIdentifierTextStep.letter_case e
 tree_identifier_step {T = T} t u (IdentifierTextStep.variant_order {i = i} {j = j} h e k s) =
     subst (TreeIdentifierTextStep T t) (ap join (sym k) ∙ join-pieces u)
     (TreeIdentifierTextStep.variant_order h e (tree_identifier_rule Rule.VariantOrder i j s))
 
-pub identifier_step_by_tree : {T : ℕ → Bool} (t u : List ℕ) → TreeIdentifierTextStep T t u →
+pub identifier_step_by_tree : {T : ℕ → Bool} (t u : Text) → TreeIdentifierTextStep T t u →
     IdentifierTextStep T t u
 identifier_step_by_tree t u (TreeIdentifierTextStep.letter_case e) = IdentifierTextStep.letter_case e
 identifier_step_by_tree t u (TreeIdentifierTextStep.variant_order {j = j} h e s) =

@@ -5,7 +5,8 @@ use Rattle.std.proofs.Common.{nat_lt, append_assoc, append-nil}
 use Rattle.std.proofs.lemmas.Bool.{cond_both}
 use Rattle.std.proofs.lemmas.List.{map-append}
 use Rattle.std.proofs.lemmas.List.Concat.{flat_map-append}
-use Rattle.iloc_spec_grammar.specs.Syntax.{join, AreLengths, languages, SpelledTransform, Unicode, Transform}
+use Rattle.iloc_spec_grammar.specs.Syntax.{Block, code_x, code_u, code_t, Text, join, AreLengths, languages}
+use Rattle.iloc_spec_grammar.specs.Syntax.{SpelledTransform, Unicode, Transform}
 use Rattle.iloc_spec_grammar.specs.Syntax.{identifier_pieces, unicode_pieces, transform_pieces}
 use Rattle.iloc_spec_grammar.specs.Tree.{Extension, unicode, transform, other, extension_block, block_pieces}
 use Rattle.iloc_spec_grammar.specs.Tree.{spelling, transform_form, unicode_form, others_form, private_form}
@@ -26,30 +27,31 @@ use Rattle.iloc_spec_grammar.proofs.RawLaws.{languages_table}
 pub unicode_spelling_is : (u : Unicode) → unicode_spelling u ≡ form_pieces (unicode_form u)
 unicode_spelling_is u = parts.unicode_spelling_is u
     ∙ elim (nat_lt 0 (length u.attributes + length u.keywords))
-    as (λ b. cond b ((117 ∷ []) ∷ unicode_pieces u) []
-    ≡ form_pieces (cond b ((117, unicode (spelled_unicode u)) ∷ []) []))
-    [ true ↦ sym (append-nil ((117 ∷ []) ∷ unicode_pieces u)) | false ↦ refl ]
+    as (λ b. cond b ((code_u ∷ []) ∷ unicode_pieces u) []
+    ≡ form_pieces (cond b ((code_u, unicode (spelled_unicode u)) ∷ []) []))
+    [ true ↦ sym (append-nil ((code_u ∷ []) ∷ unicode_pieces u)) | false ↦ refl ]
 
 pub transform_spelling_is : (m : Transform) → transform_spelling m ≡ form_pieces (transform_form m)
 transform_spelling_is m =
     let n : SpelledTransform = spelled_transform m in
     parts.transform_spelling_is m
     ∙ elim (is_some m.id || nat_lt 0 (length m.fields))
-    as (λ b. cond b ((116 ∷ []) ∷ transform_pieces n) [] ≡ form_pieces (cond b ((116, transform n) ∷ []) []))
-    [ true ↦ sym (append-nil ((116 ∷ []) ∷ transform_pieces n)) | false ↦ refl ]
+    as (λ b.
+    cond b ((code_t ∷ []) ∷ transform_pieces n) [] ≡ form_pieces (cond b ((code_t, transform n) ∷ []) []))
+    [ true ↦ sym (append-nil ((code_t ∷ []) ∷ transform_pieces n)) | false ↦ refl ]
 
-pub other_spelling_is : (o : ℕ × List (List ℕ)) → other_spelling o ≡ form_pieces (others_form (o ∷ []))
+pub other_spelling_is : (o : Block) → other_spelling o ≡ form_pieces (others_form (o ∷ []))
 other_spelling_is o = parts.other_spelling_is o
     ∙ elim (nat_lt 0 (length o.1))
     as (λ b. cond b ((o.0 ∷ []) ∷ o.1) []
-    ≡ form_pieces (map (λ (o : ℕ × List (List ℕ)). (o.0, other o.1)) (cond b (o ∷ []) [])))
+    ≡ form_pieces (map (λ (o : Block). (o.0, other o.1)) (cond b (o ∷ []) [])))
     [ true ↦ sym (append-nil ((o.0 ∷ []) ∷ o.1)) | false ↦ refl ]
 
-pub others_spelling_is : (os : List (ℕ × List (List ℕ))) →
+pub others_spelling_is : (os : List Block) →
     flat_map other_spelling os ≡ form_pieces (others_form os)
 others_spelling_is [] = refl
 others_spelling_is (o ∷ os) = cond_both (nat_lt 0 (length o.1)) _ _ (λ l.
-    flat_map other_spelling (o ∷ os) ≡ form_pieces (map (λ (o : ℕ × List (List ℕ)). (o.0, other o.1)) l))
+    flat_map other_spelling (o ∷ os) ≡ form_pieces (map (λ (o : Block). (o.0, other o.1)) l))
     (λ e. ap (λ l. l ++ flat_map other_spelling os)
     (parts.other_spelling_is o ∙ ap (λ b. cond b ((o.0 ∷ []) ∷ o.1) []) e)
     ∙ ap (λ l. ((o.0 ∷ []) ∷ o.1) ++ l) (others_spelling_is os))
@@ -57,10 +59,10 @@ others_spelling_is (o ∷ os) = cond_both (nat_lt 0 (length o.1)) _ _ (λ l.
     (parts.other_spelling_is o ∙ ap (λ b. cond b ((o.0 ∷ []) ∷ o.1) []) e)
     ∙ others_spelling_is os)
 
-pub private_spelling_is : (ws : List (List ℕ)) →
+pub private_spelling_is : (ws : List Text) →
     private_spelling ws ≡ flat_map block_pieces (option_to_list (private_form ws))
 private_spelling_is [] = parts.private_spelling_none
-private_spelling_is (w ∷ ws) = parts.private_spelling_is w ws ∙ sym (append-nil ((120 ∷ []) ∷ (w ∷ ws)))
+private_spelling_is (w ∷ ws) = parts.private_spelling_is w ws ∙ sym (append-nil ((code_x ∷ []) ∷ (w ∷ ws)))
 
 -- all parts
 
@@ -109,7 +111,7 @@ pub well_formed_in : {T : ℕ → Bool} → AreLengths T → (M : Locale) → Is
 well_formed_in {T = T} table M h = (
   λ m. means_well_formed (text M) M (tree_means (text M) M m),
   λ g. means_by_tree table (text M) M
-      (subst (λ (t : List ℕ). TreeMeans T t M) (sym (text_is M)) (back.reads_back M h g)),
+      (subst (λ (t : Text). TreeMeans T t M) (sym (text_is M)) (back.reads_back M h g)),
 )
 
 pub well_formed_is : (M : Locale) → IsValue languages M → IsWellFormed M ↔ IsTreeWellFormed M

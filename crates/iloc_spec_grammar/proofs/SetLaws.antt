@@ -11,7 +11,7 @@ use Rattle.std.specs.Cmp.{IsTotalOrder}
 use Rattle.std.specs.FinMap.{find, IsAntisymmetric}
 use Rattle.std.specs.FinMap.Entries.{is_some-find, length-put}
 use Rattle.std.proofs.lemmas.List.{map-append, length-map}
-use Rattle.iloc_spec_grammar.specs.Syntax.{word_cmp, is_same, AllDifferent}
+use Rattle.iloc_spec_grammar.specs.Syntax.{Text, word_cmp, is_same, AllDifferent}
 use Rattle.iloc_spec_grammar.specs.Meaning.{map_of, set_of}
 use Rattle.iloc_spec_grammar.proofs.MapLaws.{word_cmp_total, same_words, find-map_of, sorted-map_of}
 use Rattle.iloc_spec_grammar.proofs.MapLaws.{map_of_same}
@@ -41,37 +41,37 @@ module _ {K X : Type 0} (R : K → K → Ordering) where
 
 -- sets as maps to nothing
 
-abbrev pub marked : List (List ℕ) → List (List ℕ × Unit {0})
+abbrev pub marked : List Text → List (Text × Unit {0})
 marked ws = map (λ w. (w, tt {0})) ws
 
-abbrev pub keys : List (List ℕ × Unit {0}) → List (List ℕ)
+abbrev pub keys : List (Text × Unit {0}) → List Text
 keys es = map (λ e. e.0) es
 
-pub remarked : (es : List (List ℕ × Unit {0})) → marked (keys es) ≡ es
+pub remarked : (es : List (Text × Unit {0})) → marked (keys es) ≡ es
 remarked [] = refl
 remarked (e ∷ es) = ap (λ l. e ∷ l) (remarked es)
 
-marked-append : (vs ws : List (List ℕ)) → marked (vs ++ ws) ≡ marked vs ++ marked ws
-marked-append vs ws = map-append (λ (w : List ℕ). (w, tt {0})) vs ws
+marked-append : (vs ws : List Text) → marked (vs ++ ws) ≡ marked vs ++ marked ws
+marked-append vs ws = map-append (λ (w : Text). (w, tt {0})) vs ws
 
 -- the set of a set and more is that of the lists
-pub set_of-first : (vs ws : List (List ℕ)) → set_of (set_of vs ++ ws) ≡ set_of (vs ++ ws)
+pub set_of-first : (vs ws : List Text) → set_of (set_of vs ++ ws) ≡ set_of (vs ++ ws)
 set_of-first vs ws = ap (λ es. keys (map_of word_cmp es))
     (marked-append (set_of vs) ws ∙ ap (λ es. es ++ marked ws) (remarked (map_of word_cmp (marked vs))))
     ∙ ap keys (map_of-first word_cmp word_cmp_total same_words (marked vs) (marked ws))
     ∙ ap (λ es. keys (map_of word_cmp es)) (sym (marked-append vs ws))
 
-pub set_of-last : (vs ws : List (List ℕ)) → set_of (vs ++ set_of ws) ≡ set_of (vs ++ ws)
+pub set_of-last : (vs ws : List Text) → set_of (vs ++ set_of ws) ≡ set_of (vs ++ ws)
 set_of-last vs ws = ap (λ es. keys (map_of word_cmp es))
     (marked-append vs (set_of ws) ∙ ap (λ es. marked vs ++ es) (remarked (map_of word_cmp (marked ws))))
     ∙ ap keys (map_of-last word_cmp word_cmp_total same_words (marked vs) (marked ws))
     ∙ ap (λ es. keys (map_of word_cmp es)) (sym (marked-append vs ws))
 
-pub set_of-set_of : (ws : List (List ℕ)) → set_of (set_of ws) ≡ set_of ws
+pub set_of-set_of : (ws : List Text) → set_of (set_of ws) ≡ set_of ws
 set_of-set_of ws = set_of-last [] ws
 
 -- a word is in the set where it is in the list
-pub any-set_of : (w : List ℕ) (ws : List (List ℕ)) →
+pub any-set_of : (w : Text) (ws : List Text) →
     list_any (is_same w) (set_of ws) ≡ list_any (is_same w) ws
 any-set_of w ws =
     sym (is_some-find word_cmp w (map_of word_cmp (marked ws)))
@@ -81,10 +81,10 @@ any-set_of w ws =
 
 -- lengths: a word that is there adds nothing, another adds one
 
-length-keys : (ws : List (List ℕ)) → length (set_of ws) ≡ length (map_of word_cmp (marked ws))
+length-keys : (ws : List Text) → length (set_of ws) ≡ length (map_of word_cmp (marked ws))
 length-keys ws = length-map (map_of word_cmp (marked ws)) _
 
-pub length-set_of-cons : (w : List ℕ) (ws : List (List ℕ)) →
+pub length-set_of-cons : (w : Text) (ws : List Text) →
     length (set_of (w ∷ ws)) ≡ cond (list_any (is_same w) ws) (length (set_of ws)) (length (set_of ws) + 1)
 length-set_of-cons w ws =
     length-keys (w ∷ ws)
@@ -95,14 +95,14 @@ length-set_of-cons w ws =
     ∙ ap (list_any (is_same w)) (unmarked ws))
     ∙ ap (λ n. cond (list_any (is_same w) ws) n (n + 1)) (sym (length-keys ws))
 
-pub length-set_of : (ws : List (List ℕ)) → length (set_of ws) ≤ length ws
+pub length-set_of : (ws : List Text) → length (set_of ws) ≤ length ws
 length-set_of [] = omega arith
 length-set_of (w ∷ ws) = let h = length-set_of ws in
     rw (length-set_of-cons w ws)
     (cond_both (list_any (is_same w) ws) _ _ (λ n. n ≤ length (w ∷ ws)) (λ _. omega arith) (λ _. omega arith))
 
 -- different words are as many in their set
-pub length-set_of-different : (ws : List (List ℕ)) → AllDifferent word_cmp ws → length (set_of ws) ≡ length ws
+pub length-set_of-different : (ws : List Text) → AllDifferent word_cmp ws → length (set_of ws) ≡ length ws
 length-set_of-different [] d = refl
 length-set_of-different (w ∷ ws) d = let h = length-set_of-different ws d.1 in
     let e : length (set_of (w ∷ ws)) ≡ length (set_of ws) + 1 = length-set_of-cons w ws

@@ -6,7 +6,7 @@ use Rattle.std.specs.Cmp.{nat_cmp_total, tied_itself}
 use Rattle.std.specs.Ordering.{nat_cmp, eq_by_cmp, is_eq}
 use Rattle.std.proofs.lemmas.Bool.{cases_eq, cond_both}
 use Rattle.std.proofs.lemmas.Bool.Decides.{nat_tests}
-use Rattle.iloc_spec_grammar.specs.Syntax.{is_other_singleton, lower_singleton}
+use Rattle.iloc_spec_grammar.specs.Syntax.{code_x, code_u, code_t, is_other_singleton, lower_singleton}
 use Rattle.std.specs.List.{AllByRecursion}
 use Rattle.std.specs.FinMap.{find}
 
@@ -36,32 +36,32 @@ two_more n = grind (arith, nat_tests)
 
 -- the kinds are apart
 
-pub no_u : (c : ℕ) → c ≡ 117 → is_other_singleton c ≡ true → ⊥
+pub no_u : (c : ℕ) → c ≡ code_u → is_other_singleton c ≡ true → ⊥
 no_u c e h = grind (arith, nat_tests)
 
-pub no_t : (c : ℕ) → c ≡ 116 → is_other_singleton c ≡ true → ⊥
+pub no_t : (c : ℕ) → c ≡ code_t → is_other_singleton c ≡ true → ⊥
 no_t c e h = grind (arith, nat_tests)
 
-pub no_x : (c : ℕ) → c ≡ 120 → is_other_singleton c ≡ true → ⊥
+pub no_x : (c : ℕ) → c ≡ code_x → is_other_singleton c ≡ true → ⊥
 no_x c e h = grind (arith, nat_tests)
 
 -- a singleton in lower case: that of `u`, `t` or `x`, or of another part
 pub data IsKind (c : ℕ) : Type 0 where
-  of_u : c ≡ 117 → IsKind c
-  of_t : c ≡ 116 → IsKind c
-  of_x : c ≡ 120 → IsKind c
+  of_u : c ≡ code_u → IsKind c
+  of_t : c ≡ code_t → IsKind c
+  of_x : c ≡ code_x → IsKind c
   another : is_other_singleton c ≡ true → IsKind c
 
 pub kind_of : (c : ℕ) → is_ascii_alphanumeric c ≡ true → IsKind c
-kind_of c h = elim (cases_eq c 117) [
+kind_of c h = elim (cases_eq c code_u) [
   | inl e ↦ of_u e
-  | inr a ↦ elim (cases_eq c 116) [
+  | inr a ↦ elim (cases_eq c code_t) [
     | inl e ↦ of_t e
-    | inr b ↦ elim (cases_eq c 120) [ inl e ↦ of_x e | inr d ↦ another (rest c h a b d) ]
+    | inr b ↦ elim (cases_eq c code_x) [ inl e ↦ of_x e | inr d ↦ another (rest c h a b d) ]
   ]
 ]
   where
-    rest : (c : ℕ) → is_ascii_alphanumeric c ≡ true → (c ≡ 117 → ⊥) → (c ≡ 116 → ⊥) → (c ≡ 120 → ⊥) →
+    rest : (c : ℕ) → is_ascii_alphanumeric c ≡ true → (c ≡ code_u → ⊥) → (c ≡ code_t → ⊥) → (c ≡ code_x → ⊥) →
         is_other_singleton c ≡ true
     rest c h a b d = grind (arith, nat_tests)
 

@@ -10,7 +10,7 @@ use Rattle.std.specs.FinMap.{is_sorted}
 use Rattle.std.specs.FinMap.Entries.{below_all}
 use Rattle.std.proofs.lemmas.Bool.{and_parts, and_from, or_parts, or_from, or_left, or_right}
 use Rattle.std.proofs.lemmas.Bool.{false_from_ne_true, both_ways, cond_both, not-false}
-use Rattle.iloc_spec_grammar.specs.Syntax.{lower, word_cmp, is_same, AllDifferent}
+use Rattle.iloc_spec_grammar.specs.Syntax.{Text, lower, word_cmp, is_same, AllDifferent}
 use Rattle.iloc_spec_grammar.specs.Values.{Reordered}
 use Rattle.iloc_spec_grammar.specs.TreeSteps.{TreeWithout, WithoutRepeats}
 use Rattle.iloc_spec_grammar.proofs.MapLaws.{word_cmp_total, less}
@@ -95,23 +95,23 @@ module _ {K X : Type 0} (R : K → K → Ordering) (key : X → K) where
 
 -- repeats
 
-module _ {X : Type 0} (key : X → List ℕ) where
-  abbrev pub dedup : List (List ℕ) → List X → List X
+module _ {X : Type 0} (key : X → Text) where
+  abbrev pub dedup : List Text → List X → List X
   dedup seen [] = []
   dedup seen (x ∷ xs) =
       cond (list_any (is_same (lower (key x))) seen) (dedup seen xs) (x ∷ dedup (lower (key x) ∷ seen) xs)
 
-  pub without-dedup : (seen : List (List ℕ)) (xs : List X) → WithoutRepeats key seen xs (dedup seen xs)
+  pub without-dedup : (seen : List Text) (xs : List X) → WithoutRepeats key seen xs (dedup seen xs)
   without-dedup seen [] = WithoutRepeats.none
   without-dedup seen (x ∷ xs) = cond_both (list_any (is_same (lower (key x))) seen) _ _
       (WithoutRepeats key seen (x ∷ xs)) (λ e. WithoutRepeats.left_out e (without-dedup seen xs))
       (λ _. WithoutRepeats.stays (without-dedup (lower (key x) ∷ seen) xs))
 
-  abbrev keys : List X → List (List ℕ)
+  abbrev keys : List X → List Text
   keys xs = map (λ x. lower (key x)) xs
 
   -- what was seen is not left
-  unseen-dedup : (k : List ℕ) (seen : List (List ℕ)) (xs : List X) → list_any (is_same k) seen ≡ true →
+  unseen-dedup : (k : Text) (seen : List Text) (xs : List X) → list_any (is_same k) seen ≡ true →
       list_any (is_same k) (keys (dedup seen xs)) ≡ false
   unseen-dedup k seen [] h = refl
   unseen-dedup k seen (x ∷ xs) h = cond_both (list_any (is_same (lower (key x))) seen) _ _
@@ -122,7 +122,7 @@ module _ {X : Type 0} (key : X → List ℕ) where
       not_same e = false_from_ne_true _ (λ t.
           both_ways _ e (sym (list_any_congr (eq_by_cmp_equiv word_cmp_total) k (lower (key x)) seen t) ∙ h))
 
-  pub different-dedup : (seen : List (List ℕ)) (xs : List X) → AllDifferent word_cmp (keys (dedup seen xs))
+  pub different-dedup : (seen : List Text) (xs : List X) → AllDifferent word_cmp (keys (dedup seen xs))
   different-dedup seen [] = tt
   different-dedup seen (x ∷ xs) = cond_both (list_any (is_same (lower (key x))) seen) _ _
       (λ l. AllDifferent word_cmp (keys l)) (λ _. different-dedup seen xs) (λ _. (

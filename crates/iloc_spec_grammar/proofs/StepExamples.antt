@@ -1,7 +1,7 @@
 -- Worked steps, by computing the test of each, and two texts that no step joins.
 use Rattle.std.proofs.Common.{◌≡◌, ℕ, List, refl, sym, ap, ◌∙◌, codes, Result, Ok, Err, Bool, true, false}
 use Rattle.std.proofs.Common.{true≢false}
-use Rattle.iloc_spec_grammar.specs.Syntax.{pieces, join, is_word, lower, upper, title, is_true, is_same}
+use Rattle.iloc_spec_grammar.specs.Syntax.{Text, pieces, join, is_word, lower, upper, title, is_true, is_same}
 use Rattle.iloc_spec_grammar.specs.Syntax.{languages}
 use Rattle.iloc_spec_grammar.specs.Meaning.{Locale, Means, Fault}
 use Rattle.iloc_spec_grammar.specs.Tree.{meaning}
@@ -14,19 +14,19 @@ use Rattle.iloc_spec_grammar.proofs.AnySteps.{chain_means}
 use Rattle.iloc_spec_grammar.specs.StepTests.{is_text_step}
 use Rattle.iloc_spec_grammar.proofs.TextTests.{tests_text_step}
 
-pub step_by_test : (t u : List ℕ) → is_text_step languages t u ≡ true → TextStep languages t u
+pub step_by_test : (t u : Text) → is_text_step languages t u ≡ true → TextStep languages t u
 step_by_test t u e = (tests_text_step languages languages_table t u).holds e
 
 -- a chain leads to no text whose meaning has another text
 
-apart : (n : ℕ) (t u : List ℕ) (M : Locale) → Means languages t M →
+apart : (n : ℕ) (t u : Text) (M : Locale) → Means languages t M →
     (computed_text (locale_result languages t) ≡ computed_text (locale_result languages u) → ⊥) →
     Leads (TextStep languages) n t u → ⊥
 apart n t u M m d c = d (ap computed_text ((computed_means languages languages_table t M).1 m
     ∙ sym
     ((computed_means languages languages_table u M).1 (chain_means languages languages_table n t u M c m))))
 
-is_text : List ℕ → Result (List ℕ) Fault → Bool
+is_text : Text → Result Text Fault → Bool
 is_text t (Ok u) = is_same t u
 is_text t (Err f) = false
 

@@ -9,7 +9,8 @@ use Rattle.std.specs.Ordering.{nat_cmp, eq_by_cmp}
 use Rattle.std.specs.Cmp.{nat_cmp_total}
 use Rattle.std.specs.FinMap.{find, nat_cmp-IsAntisymmetric}
 use Rattle.std.proofs.lemmas.Bool.{or_parts, or_from, not-true, both_ways, false_from_ne_true}
-use Rattle.iloc_spec_grammar.specs.Syntax.{Variant, Subtag, UnicodeKey, TransformKey, Attribute, is_word}
+use Rattle.iloc_spec_grammar.specs.Syntax.{LanguageLengths, Field, Block, code_u, code_t, Text, Variant}
+use Rattle.iloc_spec_grammar.specs.Syntax.{Subtag, UnicodeKey, TransformKey, Attribute, is_word}
 use Rattle.iloc_spec_grammar.specs.Syntax.{IsWord, lower, word_cmp, is_true, SpelledIdentifier, Fields}
 use Rattle.iloc_spec_grammar.specs.Syntax.{IsIdentifier, IsKeyword, IsField, kept, lower_singleton}
 use Rattle.iloc_spec_grammar.specs.Syntax.{AllDifferent}
@@ -53,16 +54,16 @@ identifier_step (TreeIdentifierStep.variants {l = l} {s = s} {r = r} {vs = vs} {
 
 -- fields
 
-abbrev entry : List ℕ × List (List ℕ) → List ℕ × List (List ℕ)
+abbrev entry : Field → Field
 entry f = (lower f.0, normal_values f.1)
 
 fields_reordered : {fs gs : Fields} → keys_differ fs → Reordered fs gs → normal_fields gs ≡ normal_fields fs
 fields_reordered {fs = fs} {gs = gs} d r = sym (map_of_same word_cmp word_cmp_total same_words (map entry fs)
     (map entry gs) (λ q. find_reordered word_cmp word_cmp_total q (map_reordered entry r)
-    (subst (AllDifferent word_cmp) (sym (map-map (λ (e : List ℕ × List (List ℕ)). e.0) entry fs)) d)))
+    (subst (AllDifferent word_cmp) (sym (map-map (λ (e : Field). e.0) entry fs)) d)))
 
 -- what is `true` is dropped
-values_without : {ps qs : List (List ℕ)} → TreeWithout (λ p. is_true (lower p)) ps qs →
+values_without : {ps qs : List Text} → TreeWithout (λ p. is_true (lower p)) ps qs →
     normal_values ps ≡ normal_values qs
 values_without TreeWithout.none = refl
 values_without (TreeWithout.stays {x = x} r) =
@@ -78,7 +79,7 @@ keywords_less : (fs gs : Fields) → AllZip TreeLessTrue fs gs → AllByRecursio
 keywords_less = all_zip TreeLessTrue IsKeyword IsKeyword
     (λ f g z h. (subst (IsWord UnicodeKey) z.0 h.0, all_without (IsWord Attribute) _ z.1 h.1))
 
-abbrev LessKept : List ℕ × List (List ℕ) → List ℕ × List (List ℕ) → Type 0
+abbrev LessKept : Field → Field → Type 0
 LessKept f g = TreeLessTrue f g × (0 < length g.1)
 
 fields_less : (fs gs : Fields) → AllZip LessKept fs gs → AllByRecursion IsField fs → AllByRecursion IsField gs
@@ -86,7 +87,7 @@ fields_less = all_zip LessKept IsField IsField
     (λ f g z h. (subst (IsWord TransformKey) z.0.0 h.0, all_without (IsWord Attribute) _ z.0.1 h.1, z.1))
 
 -- leaving out repeats leaves something, where nothing was seen
-some_left : {X : Type 0} (key : X → List ℕ) {xs ys : List X} → WithoutRepeats key [] xs ys → 0 < length xs →
+some_left : {X : Type 0} (key : X → Text) {xs ys : List X} → WithoutRepeats key [] xs ys → 0 < length xs →
     0 < length ys
 some_left key WithoutRepeats.none h = h
 some_left key (WithoutRepeats.stays r) h = omega arith
@@ -100,16 +101,16 @@ pub record SameParts (e f : Extension) : Type 0 where
   pub t : transform_part (Some f) ≡ transform_part (Some e)
   pub o : (c : ℕ) → other_part (c, f) ≡ other_part (c, e)
 
-repeated_attributes : {vs ws : List (List ℕ)} → WithoutRepeats (λ a. a) [] vs ws →
+repeated_attributes : {vs ws : List Text} → WithoutRepeats (λ a. a) [] vs ws →
     set_of (map lower ws) ≡ set_of (map lower vs)
 repeated_attributes {vs = vs} {ws = ws} r =
-    let marks = map-map {B = List ℕ} (λ w. (w, tt {0})) lower in
-    ap (map (λ (e : List ℕ × Unit {0}). e.0)) (ap (map_of word_cmp) (marks ws)
+    let marks = map-map {B = Text} (λ w. (w, tt {0})) lower in
+    ap (map (λ (e : Text × Unit {0}). e.0)) (ap (map_of word_cmp) (marks ws)
     ∙ sym (map_repeats (λ a. a) (λ a. tt {0}) r) ∙ ap (map_of word_cmp) (sym (marks vs)))
 
 -- a step in what follows `u`, or in what follows `t`, by its two parts
 
-unicode_step : (T : ℕ → Bool) (c : ℕ) (vs ws : List (List ℕ)) (fs gs : Fields) →
+unicode_step : (T : LanguageLengths) (c : ℕ) (vs ws : List Text) (fs gs : Fields) →
     (AllByRecursion (IsWord Attribute) vs → AllByRecursion (IsWord Attribute) ws) →
     (AllByRecursion IsKeyword fs → AllByRecursion IsKeyword gs) →
     (0 < length vs + length fs → 0 < length ws + length gs) → set_of (map lower ws) ≡ set_of (map lower vs) →
@@ -121,7 +122,7 @@ unicode_step T c vs ws fs gs a k n p q h = (
   record { u = λ i. record { attributes = p i; keywords = q i }; t = refl; o = λ c. refl },
 )
 
-fields_step : (T : ℕ → Bool) (c : ℕ) (i : Option SpelledIdentifier) (fs gs : Fields) →
+fields_step : (T : LanguageLengths) (c : ℕ) (i : Option SpelledIdentifier) (fs gs : Fields) →
     (AllByRecursion IsField fs → AllByRecursion IsField gs) → (0 < length fs → 0 < length gs) →
     normal_fields gs ≡ normal_fields fs
     → IsExtension T c (transform_extension i fs) →
@@ -132,7 +133,7 @@ fields_step T c i fs gs k n q h = (
   record { u = refl; t = λ k. record { id = option_map normal_identifier i; fields = q k }; o = λ c. refl },
 )
 
-pub extension_step : (T : ℕ → Bool) {r : TreeRule} {e f : Extension} (c : ℕ) → ExtensionStep r e f →
+pub extension_step : (T : LanguageLengths) {r : TreeRule} {e f : Extension} (c : ℕ) → ExtensionStep r e f →
     IsExtension T c e → IsExtension T c f × SameParts e f
 extension_step T c ExtensionStep.same h = (h, record { u = refl; t = refl; o = λ c. refl })
 extension_step T c (ExtensionStep.identifier {fs = fs} s) h =
@@ -172,7 +173,7 @@ extension_step T c (ExtensionStep.dropped_pieces {ps = ps} {qs = qs} w) h =
         h.0,
         record {
           lengths = all_without (λ p. is_in_range 2 8 (length p) ≡ true) _ w h.1.lengths;
-          nonempty = subst (λ (l : List (List ℕ)). 0 < length l) same h.1.nonempty;
+          nonempty = subst (λ (l : List Text). 0 < length l) same h.1.nonempty;
         },
       ),
       record { u = refl; t = refl; o = λ c. ap (λ l. Some (c, l)) (sym same) },
@@ -183,7 +184,7 @@ extension_step T c (ExtensionStep.dropped_pieces {ps = ps} {qs = qs} w) h =
 abbrev Steps : TreeRule → List (ℕ × Extension) → List (ℕ × Extension) → Type 0
 Steps r es fs = AllZip (λ e f. (e.0 ≡ f.0) × ExtensionStep r e.1 f.1) es fs
 
-rules_step : (T : ℕ → Bool) (r : TreeRule) (es fs : List (ℕ × Extension)) → Steps r es fs →
+rules_step : (T : LanguageLengths) (r : TreeRule) (es fs : List (ℕ × Extension)) → Steps r es fs →
     AllByRecursion (λ e. IsExtension T (lower_singleton e) e.1) es →
     AllByRecursion (λ e. IsExtension T (lower_singleton e) e.1) fs
 rules_step T r = all_zip _ (λ e. IsExtension T (lower_singleton e) e.1)
@@ -196,7 +197,7 @@ singletons_step r = map-zip _ (λ (e : ℕ × Extension). lower_singleton e) (λ
     (λ e f z i. to_ascii_lowercase (z.0 i))
 
 -- a part that is looked up
-part_step : {A : Type 0} (T : ℕ → Bool) (part : Option Extension → A) →
+part_step : {A : Type 0} (T : LanguageLengths) (part : Option Extension → A) →
     ((e f : Extension) → SameParts e f → part (Some f) ≡ part (Some e)) →
     (q : ℕ) (r : TreeRule) (es fs : List (ℕ × Extension)) → Steps r es fs →
     AllByRecursion (λ e. IsExtension T (lower_singleton e) e.1) es →
@@ -214,7 +215,7 @@ part_step T part same q r (e ∷ es) (f ∷ fs) z h =
     ]
 part_step T part same q r _ _ z h = absurd z
 
-others_step : (T : ℕ → Bool) (r : TreeRule) (es fs : List (ℕ × Extension)) → Steps r es fs →
+others_step : (T : LanguageLengths) (r : TreeRule) (es fs : List (ℕ × Extension)) → Steps r es fs →
     AllByRecursion (λ e. IsExtension T (lower_singleton e) e.1) es →
     filter_map other_part (by_singleton fs) ≡ filter_map other_part (by_singleton es)
 others_step T r [] [] z h = refl
@@ -257,28 +258,28 @@ filter_map_reordered h (Reordered.in_turn r s) =
 -- the others have some of the singletons
 none_among_others : (c : ℕ) (es : List (ℕ × Extension)) →
     list_any (eq_by_cmp nat_cmp c) (map (λ (e : ℕ × Extension). e.0) es) ≡ false →
-    list_any (eq_by_cmp nat_cmp c) (map (λ (o : ℕ × List (List ℕ)). o.0) (filter_map other_part es)) ≡ false
+    list_any (eq_by_cmp nat_cmp c) (map (λ (o : Block). o.0) (filter_map other_part es)) ≡ false
 none_among_others c [] h = refl
 none_among_others c (e ∷ es) h =
     let parts = or_parts _ _ h in at_kind e.1 parts.0 (none_among_others c es parts.1)
   where
     at_kind : (x : Extension) → eq_by_cmp nat_cmp c e.0 ≡ false →
-        list_any (eq_by_cmp nat_cmp c) (map (λ (o : ℕ × List (List ℕ)). o.0) (filter_map other_part es))
+        list_any (eq_by_cmp nat_cmp c) (map (λ (o : Block). o.0) (filter_map other_part es))
         ≡ false →
         list_any (eq_by_cmp nat_cmp c)
-        (map (λ (o : ℕ × List (List ℕ)). o.0) (filter_map other_part ((e.0, x) ∷ es)))
+        (map (λ (o : Block). o.0) (filter_map other_part ((e.0, x) ∷ es)))
         ≡ false
     at_kind (other ps) t rest = or_from _ _ t rest
     at_kind _ t rest = rest
 
 different_others : (es : List (ℕ × Extension)) → AllDifferent nat_cmp (map (λ (e : ℕ × Extension). e.0) es) →
-    AllDifferent nat_cmp (map (λ (o : ℕ × List (List ℕ)). o.0) (filter_map other_part es))
+    AllDifferent nat_cmp (map (λ (o : Block). o.0) (filter_map other_part es))
 different_others [] d = tt
 different_others (e ∷ es) d = at_kind e.1 (different_others es d.1)
   where
     at_kind : (x : Extension) →
-        AllDifferent nat_cmp (map (λ (o : ℕ × List (List ℕ)). o.0) (filter_map other_part es)) →
-        AllDifferent nat_cmp (map (λ (o : ℕ × List (List ℕ)). o.0) (filter_map other_part ((e.0, x) ∷ es)))
+        AllDifferent nat_cmp (map (λ (o : Block). o.0) (filter_map other_part es)) →
+        AllDifferent nat_cmp (map (λ (o : Block). o.0) (filter_map other_part ((e.0, x) ∷ es)))
     at_kind (other ps) rest = (both_ways _ (none_among_others e.0 es (false_from_ne_true _ d.0)), rest)
     at_kind _ rest = rest
 
@@ -295,10 +296,10 @@ others_reordered {es = es} {fs = fs} r d = map_of_same nat_cmp nat_cmp_total nat
 
 -- written locales of which each part means the same
 pub same_parts : (v w : Written) → normal_identifier v.id ≡ normal_identifier w.id →
-    unicode_part (find nat_cmp 117 (by_singleton v.extensions))
-    ≡ unicode_part (find nat_cmp 117 (by_singleton w.extensions)) →
-    transform_part (find nat_cmp 116 (by_singleton v.extensions))
-    ≡ transform_part (find nat_cmp 116 (by_singleton w.extensions)) →
+    unicode_part (find nat_cmp code_u (by_singleton v.extensions))
+    ≡ unicode_part (find nat_cmp code_u (by_singleton w.extensions)) →
+    transform_part (find nat_cmp code_t (by_singleton v.extensions))
+    ≡ transform_part (find nat_cmp code_t (by_singleton w.extensions)) →
     private_part v.private ≡ private_part w.private →
     map_of nat_cmp (filter_map other_part (by_singleton v.extensions))
     ≡ map_of nat_cmp (filter_map other_part (by_singleton w.extensions)) →
@@ -307,7 +308,7 @@ same_parts v w i u t x o = λ k.
     record { id = i k; extensions = record { unicode = u k; transform = t k; private = x k; others = o k } }
 
 -- a step keeps the rules and the meaning
-pub written_step : (T : ℕ → Bool) {v w : Written} → Step v w → IsWritten T v →
+pub written_step : (T : LanguageLengths) {v w : Written} → Step v w → IsWritten T v →
     IsWritten T w × (meaning w ≡ meaning v)
 written_step T (Step.block_order {i = i} {es = es} {fs = fs} {x = x} r) h = (
   record {
@@ -319,8 +320,9 @@ written_step T (Step.block_order {i = i} {es = es} {fs = fs} {x = x} r) h = (
   },
   same_parts (record { id = i; extensions = fs; private = x })
       (record { id = i; extensions = es; private = x }) refl
-      (ap unicode_part (sym (find_blocks r h.different 117)))
-      (ap transform_part (sym (find_blocks r h.different 116))) refl (sym (others_reordered r h.different)),
+      (ap unicode_part (sym (find_blocks r h.different code_u)))
+      (ap transform_part (sym (find_blocks r h.different code_t))) refl
+      (sym (others_reordered r h.different)),
 )
 written_step T (Step.inside r {i = i} {j = j} {es = es} {fs = fs} {x = x} s z) h =
     let p = identifier_step s h.id in (
@@ -332,7 +334,7 @@ written_step T (Step.inside r {i = i} {j = j} {es = es} {fs = fs} {x = x} s z) h
       },
       same_parts (record { id = j; extensions = fs; private = x })
           (record { id = i; extensions = es; private = x }) p.1
-          (part_step T unicode_part (λ e f k. k.u) 117 r es fs z h.extensions)
-          (part_step T transform_part (λ e f k. k.t) 116 r es fs z h.extensions) refl
+          (part_step T unicode_part (λ e f k. k.u) code_u r es fs z h.extensions)
+          (part_step T transform_part (λ e f k. k.t) code_t r es fs z h.extensions) refl
           (ap (map_of nat_cmp) (others_step T r es fs z h.extensions)),
     )

@@ -3,7 +3,8 @@ use Rattle.std.proofs.Common.{◌≡◌, ℕ, false, ◌+◌, ◌<◌, ◌≤◌
 use Rattle.std.proofs.Common.{flat_map, refl, sym, ap, ◌∙◌, arith, option_to_list, le_refl, length-append}
 use Rattle.std.specs.List.{AllByRecursion, list_any}
 use Rattle.std.proofs.lemmas.List.Concat.{flat_map-append}
-use Rattle.iloc_spec_grammar.specs.Syntax.{pieces, join, lower, is_true, SpelledIdentifier, Fields}
+use Rattle.iloc_spec_grammar.specs.Syntax.{LanguageLengths, Field, Text, pieces, join, lower, is_true}
+use Rattle.iloc_spec_grammar.specs.Syntax.{SpelledIdentifier, Fields}
 use Rattle.iloc_spec_grammar.specs.Syntax.{identifier_pieces, fields_pieces}
 use Rattle.iloc_spec_grammar.specs.Tree.{Extension, Written, extension_pieces, extension_block, block_pieces}
 use Rattle.iloc_spec_grammar.specs.Tree.{blocks_of, spelling, IsWritten, TreeMeans, meaning}
@@ -14,8 +15,8 @@ use Rattle.iloc_spec_grammar.proofs.Orders.{total_repeats, total_zip}
 use Rattle.iloc_spec_grammar.proofs.StepLaws.{written_step}
 use Rattle.std.proofs.lemmas.Bool.{false_from_ne_true}
 
-module _ (f : List ℕ → ℕ) where
-  abbrev field_size : List ℕ × List (List ℕ) → ℕ
+module _ (f : Text → ℕ) where
+  abbrev field_size : Field → ℕ
   field_size k = f k.0 + total f k.1
 
   fields_size : (fs : Fields) → total f (fields_pieces fs) ≡ total field_size fs
@@ -29,7 +30,7 @@ module _ (f : List ℕ → ℕ) where
   identifier_size (TreeIdentifierStep.variants p) =
       let e = total_reordered f p in omega (arith, total-append f)
 
-  less_size : (j k : List ℕ × List (List ℕ)) → TreeLessTrue j k → field_size k ≤ field_size j
+  less_size : (j k : Field) → TreeLessTrue j k → field_size k ≤ field_size j
   less_size j k z =
       let a = total_without f (λ p. is_true (lower p)) z.1 in let b : f j.0 ≡ f k.0 = ap f z.0 in omega arith
 
@@ -101,10 +102,10 @@ module _ (f : List ℕ → ℕ) where
 
 -- the length of a text is that of its pieces
 
-abbrev pub piece_length : List ℕ → ℕ
+abbrev pub piece_length : Text → ℕ
 piece_length p = length p + 1
 
-pub length-join : (p : List ℕ) (ps : List (List ℕ)) → length (join (p ∷ ps)) + 1 ≡ total piece_length (p ∷ ps)
+pub length-join : (p : Text) (ps : List Text) → length (join (p ∷ ps)) + 1 ≡ total piece_length (p ∷ ps)
 unfolding join
 length-join p [] = omega arith
 length-join p (q ∷ ps) =
@@ -112,16 +113,16 @@ length-join p (q ∷ ps) =
 
 -- how many pieces pass a test
 
-abbrev counted : (List ℕ → Bool) → List ℕ → ℕ
+abbrev counted : (Text → Bool) → Text → ℕ
 counted test p = cond (test p) 1 0
 
-none_counted : (test : List ℕ → Bool) (ps : List (List ℕ)) → AllByRecursion (λ p. test p ≡ false) ps →
+none_counted : (test : Text → Bool) (ps : List Text) → AllByRecursion (λ p. test p ≡ false) ps →
     total (counted test) ps ≡ 0
 none_counted test [] h = refl
 none_counted test (p ∷ ps) h =
     let a : counted test p ≡ 0 = ap (λ b. cond b 1 0) h.0 in let b = none_counted test ps h.1 in omega arith
 
-all_uncounted : (test : List ℕ → Bool) (ps : List (List ℕ)) → total (counted test) ps ≡ 0 →
+all_uncounted : (test : Text → Bool) (ps : List Text) → total (counted test) ps ≡ 0 →
     AllByRecursion (λ p. test p ≡ false) ps
 all_uncounted test [] h = tt
 all_uncounted test (p ∷ ps) h = (
@@ -130,16 +131,16 @@ all_uncounted test (p ∷ ps) h = (
 )
 
 -- a step makes no piece that passes a test
-pub extension_passes : (test : List ℕ → Bool) {r : TreeRule} {e g : Extension} → ExtensionStep r e g →
+pub extension_passes : (test : Text → Bool) {r : TreeRule} {e g : Extension} → ExtensionStep r e g →
     AllByRecursion (λ p. test p ≡ false) (extension_pieces e) →
     AllByRecursion (λ p. test p ≡ false) (extension_pieces g)
 extension_passes test {e = e} {g = g} s h = let a = none_counted test (extension_pieces e) h in
     let b = extension_size (counted test) s in all_uncounted test (extension_pieces g) (omega arith)
 
-abbrev has_hyphen : List ℕ → Bool
+abbrev has_hyphen : Text → Bool
 has_hyphen p = list_any (λ b. b == 45) p
 
-pub step_pieces : (t : List ℕ) {v w : Written} → pieces t ≡ spelling v → Step v w →
+pub step_pieces : (t : Text) {v w : Written} → pieces t ≡ spelling v → Step v w →
     pieces (join (spelling w)) ≡ spelling w
 step_pieces t {v = v} {w = w} e s =
     let a : total (counted has_hyphen) (spelling v) ≡ 0 =
@@ -147,7 +148,7 @@ step_pieces t {v = v} {w = w} e s =
     let b = step_size (counted has_hyphen) s in
     pieces-join w.id.language _ (all_uncounted has_hyphen (spelling w) (omega arith))
 
-pub step_length : (t : List ℕ) {v w : Written} → pieces t ≡ spelling v → Step v w →
+pub step_length : (t : Text) {v w : Written} → pieces t ≡ spelling v → Step v w →
     length (join (spelling w)) ≤ length t
 step_length t {v = v} {w = w} e s =
     let a = step_size piece_length s in
@@ -157,7 +158,7 @@ step_length t {v = v} {w = w} e s =
     omega arith
 
 -- the text after a step means the same
-pub step_means : (T : ℕ → Bool) (t : List ℕ) {v w : Written} → IsWritten T v → pieces t ≡ spelling v →
+pub step_means : (T : LanguageLengths) (t : Text) {v w : Written} → IsWritten T v → pieces t ≡ spelling v →
     Step v w → TreeMeans T (join (spelling w)) (meaning v)
 step_means T t {w = w} h e s = let p = written_step T s h in
     record { written = w; grammatical = p.0; spelled = step_pieces t e s; means = sym p.1 }

@@ -3,7 +3,8 @@ use Rattle.std.proofs.Common.{◌≡◌, inl, inr, ℕ, Bool, true, List, [], �
 use Rattle.std.proofs.Common.{ap₂, ◌∙◌, subst, true≢false}
 use Rattle.std.specs.Result.{is_ok}
 use Rattle.std.proofs.lemmas.Bool.{and_parts, and_from, or_cases, or_left, or_right}
-use Rattle.iloc_spec_grammar.specs.Syntax.{pieces, join, AreLengths, lower, IsIdentifier, identifier_pieces}
+use Rattle.iloc_spec_grammar.specs.Syntax.{LanguageLengths, Text, pieces, join, AreLengths, lower}
+use Rattle.iloc_spec_grammar.specs.Syntax.{IsIdentifier, identifier_pieces}
 use Rattle.iloc_spec_grammar.specs.Tree.{IsWritten, spelling, meaning}
 use Rattle.iloc_spec_grammar.specs.Meaning.{normal_identifier, Fault}
 use Rattle.iloc_spec_grammar.specs.Values.{TextStep, IdentifierTextStep, identifier_text}
@@ -33,20 +34,20 @@ ok_value (Err f) e = absurd (true≢false (sym e))
 -- whole texts
 
 -- what holds of every nonempty list holds of a text's pieces
-of_pieces : (P : List (List ℕ) → Type 0) → ((p : List ℕ) (ps : List (List ℕ)) → P (p ∷ ps)) → (t : List ℕ) →
+of_pieces : (P : List Text → Type 0) → ((p : Text) (ps : List Text) → P (p ∷ ps)) → (t : Text) →
     P (pieces t)
 of_pieces P f t = (elim (pieces t) as (λ ps. pieces t ≡ ps → P ps)
     [ [] ↦ λ e. absurd (pieces_nonempty t e) | p ∷ ps ↦ λ e. f p ps ]) refl
 
 -- what is read of a text spells it
-read_spelling : (t : List ℕ) → spelling (written_of (pieces t)) ≡ pieces t
+read_spelling : (t : Text) → spelling (written_of (pieces t)) ≡ pieces t
 read_spelling t = of_pieces (λ ps. spelling (written_of ps) ≡ ps) spelling-written_of t
 
-read_text : (t : List ℕ) → join (spelling (written_of (pieces t))) ≡ t
+read_text : (t : Text) → join (spelling (written_of (pieces t))) ≡ t
 read_text t = ap join (read_spelling t) ∙ join-pieces t
 
 -- of an accepted text it follows the rules
-read_written : (T : ℕ → Bool) → AreLengths T → (t : List ℕ) → is_ok (locale_result T t) ≡ true →
+read_written : (T : LanguageLengths) → AreLengths T → (t : Text) → is_ok (locale_result T t) ≡ true →
     IsWritten T (written_of (pieces t))
 read_written T table t e =
     let value = ok_value (locale_result T t) e in
@@ -54,7 +55,8 @@ read_written T table t e =
     subst (IsWritten T) (sym (ap written_of m.spelled ∙ written_of-spelling table m.written m.grammatical))
     m.grammatical
 
-text_holds : (T : ℕ → Bool) → AreLengths T → (t u : List ℕ) → is_text_step T t u ≡ true → TreeTextStep T t u
+text_holds : (T : LanguageLengths) → AreLengths T → (t u : Text) → is_text_step T t u ≡ true →
+    TreeTextStep T t u
 unfolding is_text_step
 text_holds T table t u e = elim (or_cases _ _ e) [
   | inl h ↦ TreeTextStep.letter_case ((word_equality (lower t) (lower u)).holds h)
@@ -64,7 +66,8 @@ text_holds T table t u e = elim (or_cases _ _ e) [
       (sym (read_spelling t)) ((tests_step (written_of (pieces t)) (written_of (pieces u))).holds parts.1))
 ]
 
-text_passes : (T : ℕ → Bool) → AreLengths T → {t u : List ℕ} → TreeTextStep T t u → is_text_step T t u ≡ true
+text_passes : (T : LanguageLengths) → AreLengths T → {t u : Text} → TreeTextStep T t u →
+    is_text_step T t u ≡ true
 unfolding is_text_step
 text_passes T table {t = t} {u = u} (TreeTextStep.letter_case e) =
     or_left _ _ ((word_equality (lower t) (lower u)).passes e)
@@ -76,7 +79,7 @@ text_passes T table {t = t} (TreeTextStep.rewritten {v = v} {w = w} g p s) =
     ap written_of (step_pieces t p s) ∙ written_of-spelling table w (written_step T s g).0 in
     or_right _ _ (and_from _ _ (ap is_ok accepted) (ap₂ is_step first second ∙ (tests_step v w).passes s))
 
-pub tests_text_step : (T : ℕ → Bool) → AreLengths T → (t u : List ℕ) →
+pub tests_text_step : (T : LanguageLengths) → AreLengths T → (t u : Text) →
     Tests (is_text_step T t u) (TextStep T t u)
 tests_text_step T table t u = record {
   holds = λ e. step_by_tree table t u (text_holds T table t u e);
@@ -85,14 +88,14 @@ tests_text_step T table t u = record {
 
 -- texts of identifiers
 
-read_identifier_spelling : (t : List ℕ) → identifier_pieces (identifier_of (pieces t)) ≡ pieces t
+read_identifier_spelling : (t : Text) → identifier_pieces (identifier_of (pieces t)) ≡ pieces t
 read_identifier_spelling t =
     of_pieces (λ ps. identifier_pieces (identifier_of ps) ≡ ps) pieces-identifier_of t
 
-read_identifier_text : (t : List ℕ) → join (identifier_pieces (identifier_of (pieces t))) ≡ t
+read_identifier_text : (t : Text) → join (identifier_pieces (identifier_of (pieces t))) ≡ t
 read_identifier_text t = ap join (read_identifier_spelling t) ∙ join-pieces t
 
-read_identifier : (T : ℕ → Bool) (t : List ℕ) → is_ok (identifier_result T (pieces t)) ≡ true →
+read_identifier : (T : LanguageLengths) (t : Text) → is_ok (identifier_result T (pieces t)) ≡ true →
     IsIdentifier T (identifier_of (pieces t))
 read_identifier T t e =
     let value = ok_value (identifier_result T (pieces t)) e in
@@ -100,7 +103,7 @@ read_identifier T t e =
     subst (IsIdentifier T)
     (sym (ap identifier_of m.spelled ∙ identifier_of-pieces m.written m.grammatical.words)) m.grammatical
 
-identifier_text_holds : (T : ℕ → Bool) (t u : List ℕ) → is_identifier_text_step T t u ≡ true →
+identifier_text_holds : (T : LanguageLengths) (t u : Text) → is_identifier_text_step T t u ≡ true →
     TreeIdentifierTextStep T t u
 unfolding is_identifier_text_step
 identifier_text_holds T t u e = elim (or_cases _ _ e) [
@@ -112,7 +115,7 @@ identifier_text_holds T t u e = elim (or_cases _ _ e) [
       (identifier_of (pieces t)) (identifier_of (pieces u))).holds parts.1))
 ]
 
-identifier_text_passes : (T : ℕ → Bool) {t u : List ℕ} → TreeIdentifierTextStep T t u →
+identifier_text_passes : (T : LanguageLengths) {t u : Text} → TreeIdentifierTextStep T t u →
     is_identifier_text_step T t u ≡ true
 unfolding is_identifier_text_step
 identifier_text_passes T {t = t} {u = u} (TreeIdentifierTextStep.letter_case e) =
@@ -127,7 +130,7 @@ identifier_text_passes T {t = t} (TreeIdentifierTextStep.variant_order {i = i} {
     or_right _ _ (and_from _ _ (ap is_ok accepted)
     (ap₂ (is_identifier_step VariantOrder) first second ∙ (tests_identifier_step VariantOrder i j).passes s))
 
-pub tests_identifier_text_step : (T : ℕ → Bool) (t u : List ℕ) →
+pub tests_identifier_text_step : (T : LanguageLengths) (t u : Text) →
     Tests (is_identifier_text_step T t u) (IdentifierTextStep T t u)
 tests_identifier_text_step T t u = record {
   holds = λ e. identifier_step_by_tree t u (identifier_text_holds T t u e);

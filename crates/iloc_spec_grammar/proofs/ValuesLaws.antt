@@ -9,7 +9,8 @@ use Rattle.std.specs.FinMap.{is_sorted}
 use Rattle.std.specs.FinMap.Entries.{below_all}
 use Rattle.std.proofs.lemmas.Bool.{and_parts, and_from}
 use Rattle.std.proofs.lemmas.Bool.Decides.{nat_tests}
-use Rattle.iloc_spec_grammar.specs.Syntax.{Kind, Language, Script, Region, Variant, Subtag, UnicodeKey}
+use Rattle.iloc_spec_grammar.specs.Syntax.{LanguageLengths, Field, Text, Kind, Language, Script, Region}
+use Rattle.iloc_spec_grammar.specs.Syntax.{Variant, Subtag, UnicodeKey}
 use Rattle.iloc_spec_grammar.specs.Syntax.{TransformKey, Attribute, is_word, IsWord, normal, lower, upper}
 use Rattle.iloc_spec_grammar.specs.Syntax.{title, word_cmp, is_true, Stage, IdentifierOf, SpelledIdentifier}
 use Rattle.iloc_spec_grammar.specs.Syntax.{Identifier, Unicode, Transform, Fields, identifier_pieces}
@@ -40,45 +41,45 @@ pub filter_all : {X : Type 0} (test : X → Bool) (xs : List X) → AllByRecursi
 filter_all test [] h = refl
 filter_all test (x ∷ xs) h = rw h.0 (ap (λ ys. x ∷ ys) (filter_all test xs h.1))
 
-pub unmarked : (ws : List (List ℕ)) → map (λ (e : List ℕ × Unit {0}). e.0) (map (λ w. (w, tt {0})) ws) ≡ ws
+pub unmarked : (ws : List Text) → map (λ (e : Text × Unit {0}). e.0) (map (λ w. (w, tt {0})) ws) ≡ ws
 unmarked [] = refl
 unmarked (w ∷ ws) = ap (λ l. w ∷ l) (unmarked ws)
 
 -- Words in order are the keys of a map in order, and the other way round.
 
-all_below : (w : List ℕ) (ws : List (List ℕ)) → AllByRecursion (λ v. word_cmp w v ≡ Less) ws →
+all_below : (w : Text) (ws : List Text) → AllByRecursion (λ v. word_cmp w v ≡ Less) ws →
     below_all word_cmp w (map (λ w. (w, tt {0})) ws) ≡ true
 all_below w [] h = refl
 all_below w (v ∷ ws) h = and_from _ _ (ap is_lt h.0) (all_below w ws h.1)
 
-below_each : (w : List ℕ) (ws : List (List ℕ)) → below_all word_cmp w (map (λ w. (w, tt {0})) ws) ≡ true →
+below_each : (w : Text) (ws : List Text) → below_all word_cmp w (map (λ w. (w, tt {0})) ws) ≡ true →
     AllByRecursion (λ v. word_cmp w v ≡ Less) ws
 below_each w [] h = tt
 below_each w (v ∷ ws) h = let parts = and_parts _ _ h in (less _ parts.0, below_each w ws parts.1)
 
-pub keys_ascend : (ws : List (List ℕ)) → StrictlyAscends word_cmp ws →
+pub keys_ascend : (ws : List Text) → StrictlyAscends word_cmp ws →
     is_sorted word_cmp (map (λ w. (w, tt {0})) ws) ≡ true
 keys_ascend [] h = refl
 keys_ascend (w ∷ ws) h = and_from _ _ (all_below w ws h.0) (keys_ascend ws h.1)
 
-pub ascend_as_keys : (ws : List (List ℕ)) → is_sorted word_cmp (map (λ w. (w, tt {0})) ws) ≡ true →
+pub ascend_as_keys : (ws : List Text) → is_sorted word_cmp (map (λ w. (w, tt {0})) ws) ≡ true →
     StrictlyAscends word_cmp ws
 ascend_as_keys [] h = tt
 ascend_as_keys (w ∷ ws) h =
     let parts = and_parts _ _ h in (below_each w ws parts.0, ascend_as_keys ws parts.1)
 
 -- words in order are their own set, and differ
-pub set_of_ascending : (ws : List (List ℕ)) → StrictlyAscends word_cmp ws → set_of ws ≡ ws
+pub set_of_ascending : (ws : List Text) → StrictlyAscends word_cmp ws → set_of ws ≡ ws
 set_of_ascending ws h =
-    ap (map (λ (e : List ℕ × Unit {0}). e.0)) (map_of_sorted word_cmp _ (keys_ascend ws h)) ∙ unmarked ws
+    ap (map (λ (e : Text × Unit {0}). e.0)) (map_of_sorted word_cmp _ (keys_ascend ws h)) ∙ unmarked ws
 
-pub ascending_different : (ws : List (List ℕ)) → StrictlyAscends word_cmp ws → AllDifferent word_cmp ws
+pub ascending_different : (ws : List Text) → StrictlyAscends word_cmp ws → AllDifferent word_cmp ws
 ascending_different ws h =
     subst (AllDifferent word_cmp) (unmarked ws) (sorted_different word_cmp _ (keys_ascend ws h))
 
 -- identifiers
 
-optional_fixed : (k : Kind) (o : Option (List ℕ)) → IfSome o (IsNormal k) → option_map (normal k) o ≡ o
+optional_fixed : (k : Kind) (o : Option Text) → IfSome o (IsNormal k) → option_map (normal k) o ≡ o
 optional_fixed k None h = refl
 optional_fixed k (Some w) h = ap Some h.1
 
@@ -102,7 +103,7 @@ value_identifier i h = record {
       subst (AllDifferent word_cmp) (sym (value_variants i h)) (ascending_different i.variants h.ascending);
 }
 
-pub same_identifier : {s : Stage} (a b : List ℕ) (c d r q : Option (List ℕ)) (vs ws : List (List ℕ)) → a ≡ b →
+pub same_identifier : {s : Stage} (a b : Text) (c d r q : Option Text) (vs ws : List Text) → a ≡ b →
     c ≡ d → r ≡ q → vs ≡ ws →
     ◌≡◌ {A = IdentifierOf s} (record { language = a; script = c; region = r; variants = vs })
     (record { language = b; script = d; region = q; variants = ws })
@@ -127,7 +128,7 @@ identifier_reads_back i h = record {
 
 -- the same in lower case, as in a transform
 
-word_lower : (k : Kind) (w : List ℕ) → IsWord k w → IsWord k (lower w)
+word_lower : (k : Kind) (w : Text) → IsWord k w → IsWord k (lower w)
 word_lower k w h = is_word-lower k w ∙ h
 
 lower_words : {T : ℕ → Bool} (i : SpelledIdentifier) → HasWords T i → HasWords T (lower_identifier i)
@@ -138,7 +139,7 @@ lower_words {T = T} i h = record {
   variants = all_mapped (IsWord Variant) (IsWord Variant) lower (word_lower Variant) i.variants h.variants;
 }
 
-pub lower_twice : (ws : List (List ℕ)) → map lower (map lower ws) ≡ map lower ws
+pub lower_twice : (ws : List Text) → map lower (map lower ws) ≡ map lower ws
 lower_twice ws = map-then lower lower lower lower-lower ws
 
 pub lower_is_identifier : {T : ℕ → Bool} (i : SpelledIdentifier) → IsIdentifier T i →
@@ -156,7 +157,7 @@ normal-lower_identifier i = same_identifier _ _ _ _ _ _ _ _ (lower-lower i.langu
 
 -- the unicode part
 
-attribute_from : (w : List ℕ) → IsWord Subtag w → length w ≢ 2 → IsWord Attribute w
+attribute_from : (w : Text) → IsWord Subtag w → length w ≢ 2 → IsWord Attribute w
 unfolding is_word
 attribute_from w h n = grind (arith, nat_tests)
 
@@ -165,7 +166,7 @@ pub all_both : {X : Type 0} (P Q : X → Type 0) (xs : List X) → AllByRecursio
 all_both P Q [] h k = tt
 all_both P Q (x ∷ xs) h k = ((h.0, k.0), all_both P Q xs h.1 k.1)
 
-pub values_fixed : (ws : List (List ℕ)) → AllByRecursion (λ w. lower w ≡ w) ws →
+pub values_fixed : (ws : List Text) → AllByRecursion (λ w. lower w ≡ w) ws →
     AllByRecursion (λ w. is_true w ≡ false) ws → normal_values ws ≡ ws
 values_fixed ws h n = ap (filter (λ w. not (is_true w))) (map_fixed lower ws h)
     ∙ (filter_all (λ w. not (is_true w)) ws
@@ -182,7 +183,7 @@ fields_fixed fs sorted h = ap (map_of word_cmp) (map_fixed (λ f. (lower f.0, no
 abbrev pub AreKeywordValues : Fields → Type 0
 AreKeywordValues ks = AllByRecursion (λ f. AllByRecursion (λ w. (is_true w ≡ false) × (length w ≢ 2)) f.1) ks
 
-keyword_rule : (f : List ℕ × List (List ℕ)) → IsNormal UnicodeKey f.0 × AllByRecursion (IsNormal Subtag) f.1 →
+keyword_rule : (f : Field) → IsNormal UnicodeKey f.0 × AllByRecursion (IsNormal Subtag) f.1 →
     AllByRecursion (λ w. (is_true w ≡ false) × (length w ≢ 2)) f.1 → IsKeyword f
 keyword_rule f h v = (
   h.0.0,
@@ -190,7 +191,7 @@ keyword_rule f h v = (
       (λ w n. attribute_from w n.0.0 n.1.1) f.1 (all_both _ _ f.1 h.1 v),
 )
 
-keyword_fixed : (f : List ℕ × List (List ℕ)) →
+keyword_fixed : (f : Field) →
     IsNormal UnicodeKey f.0 × AllByRecursion (IsNormal Subtag) f.1 →
     AllByRecursion (λ w. (is_true w ≡ false) × (length w ≢ 2)) f.1 →
     (lower f.0 ≡ f.0) × (normal_values f.1 ≡ f.1)
@@ -225,11 +226,11 @@ normal_value_unicode u h v =
 
 -- the transform part
 
-abbrev pub IsTransformEntry : List ℕ × List (List ℕ) → Type 0
+abbrev pub IsTransformEntry : Field → Type 0
 IsTransformEntry f =
     IsNormal TransformKey f.0 × AllByRecursion (λ w. IsNormal Attribute w × (is_true w ≡ false)) f.1
 
-pub spelled_rule : (ws : List (List ℕ)) →
+pub spelled_rule : (ws : List Text) →
     AllByRecursion (λ w. IsNormal Attribute w × (is_true w ≡ false)) ws →
     AllByRecursion (IsWord Attribute) (spelled_value ws) × (0 < length (spelled_value ws))
 unfolding is_word
@@ -239,7 +240,7 @@ spelled_rule (w ∷ ws) h = (
   omega arith,
 )
 
-pub spelled_means : (ws : List (List ℕ)) →
+pub spelled_means : (ws : List Text) →
     AllByRecursion (λ w. IsNormal Attribute w × (is_true w ≡ false)) ws →
     normal_values (spelled_value ws) ≡ ws
 unfolding lower is_true
@@ -254,11 +255,11 @@ fields_rule = all_mapped IsTransformEntry IsField (λ f. (f.0, spelled_value f.1
     (λ f h. let r = spelled_rule f.1 h.1 in (h.0.0, r.0, r.1))
 
 fields_mean : (fs : Fields) → AllByRecursion IsTransformEntry fs →
-    map (λ (f : List ℕ × List (List ℕ)). (lower f.0, normal_values f.1)) (spelled_fields fs) ≡ fs
+    map (λ (f : Field). (lower f.0, normal_values f.1)) (spelled_fields fs) ≡ fs
 fields_mean [] h = refl
 fields_mean (f ∷ fs) h = λ i. (h.0.0.1 i, spelled_means f.1 h.0.1 i) ∷ fields_mean fs h.1 i
 
-optional_means : (T : ℕ → Bool) (o : Option Identifier) → IfSome o (IsIdentifierValue T) →
+optional_means : (T : LanguageLengths) (o : Option Identifier) → IfSome o (IsIdentifierValue T) →
     option_map normal_identifier (option_map lower_identifier o) ≡ o
 optional_means T None h = refl
 optional_means T (Some i) h = ap Some (normal-lower_identifier (spelled_identifier i) ∙ normal_value i h)

@@ -9,7 +9,8 @@ use Rattle.std.specs.Cmp.{nat_cmp_total}
 use Rattle.std.specs.FinMap.{is_sorted, find, nat_cmp-IsAntisymmetric}
 use Rattle.std.proofs.lemmas.Bool.Decides.{nat_tests}
 use Rattle.std.proofs.lemmas.Str.Ascii.{lowercase-lowercase}
-use Rattle.iloc_spec_grammar.specs.Syntax.{Kind, Language, Script, Region, Variant, Subtag, UnicodeKey}
+use Rattle.iloc_spec_grammar.specs.Syntax.{LanguageLengths, Field, Block, code_x, code_u, code_t, Text, Kind}
+use Rattle.iloc_spec_grammar.specs.Syntax.{Language, Script, Region, Variant, Subtag, UnicodeKey}
 use Rattle.iloc_spec_grammar.specs.Syntax.{TransformKey, Attribute, PrivateSubtag, is_word, IsWord, normal}
 use Rattle.iloc_spec_grammar.specs.Syntax.{lower, word_cmp, is_true, SpelledIdentifier, SpelledUnicode}
 use Rattle.iloc_spec_grammar.specs.Syntax.{SpelledTransform, Fields, HasWords, IsIdentifier, IsKeyword}
@@ -34,24 +35,24 @@ use Rattle.std.proofs.lemmas.Bool.{cond_both, not-true}
 
 -- sets
 
-pub all-set_of : (P : List ℕ → Type 0) (ws : List (List ℕ)) → AllByRecursion P ws →
+pub all-set_of : (P : Text → Type 0) (ws : List Text) → AllByRecursion P ws →
     AllByRecursion P (set_of ws)
-all-set_of P ws h = all_mapped (λ (e : List ℕ × Unit {0}). P e.0) P (λ e. e.0) (λ e p. p) _ (all-map_of
+all-set_of P ws h = all_mapped (λ (e : Text × Unit {0}). P e.0) P (λ e. e.0) (λ e p. p) _ (all-map_of
     word_cmp same_words (λ e. P e.0) _ (all_mapped P (λ e. P e.0) (λ w. (w, tt {0})) (λ w p. p) ws h))
 
-pub set_of-ascending : (ws : List (List ℕ)) → StrictlyAscends word_cmp (set_of ws)
+pub set_of-ascending : (ws : List Text) → StrictlyAscends word_cmp (set_of ws)
 set_of-ascending ws = let es = map (λ w. (w, tt {0})) ws in
     ascend_as_keys _
     (ap (is_sorted word_cmp) (remarked (map_of word_cmp es)) ∙ is_sorted-map_of word_cmp word_cmp_total es)
 
 -- parts
 
-all_normal : (k : Kind) (ws : List (List ℕ)) → ((p : List ℕ) → normal k p ≡ lower p) →
+all_normal : (k : Kind) (ws : List Text) → ((p : Text) → normal k p ≡ lower p) →
     AllByRecursion (IsWord k) ws → AllByRecursion (IsNormal k) (map lower ws)
 all_normal k ws e =
     all_mapped (IsWord k) (IsNormal k) lower (λ w h. subst (IsNormal k) (e w) (IsNormal-normal k w h)) ws
 
-pub option_normal : (k : Kind) (o : Option (List ℕ)) → IfSome o (IsWord k) →
+pub option_normal : (k : Kind) (o : Option Text) → IfSome o (IsWord k) →
     IfSome (option_map (normal k) o) (IsNormal k)
 option_normal k = some_mapped (IsWord k) (IsNormal k) (normal k) (IsNormal-normal k)
 
@@ -66,35 +67,35 @@ identifier_value {T = T} i h = record {
 }
 
 -- a value: a word of 3 to 8 letters or digits, not `true`
-abbrev IsPlain : List ℕ → Type 0
+abbrev IsPlain : Text → Type 0
 IsPlain w = IsNormal Attribute w × (is_true w ≡ false)
 
-plain_values : (ws : List (List ℕ)) → AllByRecursion (IsWord Attribute) ws →
+plain_values : (ws : List Text) → AllByRecursion (IsWord Attribute) ws →
     AllByRecursion IsPlain (normal_values ws)
 plain_values [] h = tt
 plain_values (w ∷ ws) h = cond_both (not (is_true (lower w))) _ _ (AllByRecursion IsPlain)
     (λ e. ((IsNormal-normal Attribute w h.0, not-true _ e), plain_values ws h.1)) (λ _. plain_values ws h.1)
 
-abbrev IsEntry : Kind → List ℕ × List (List ℕ) → Type 0
+abbrev IsEntry : Kind → Field → Type 0
 IsEntry k f = IsNormal k f.0 × AllByRecursion IsPlain f.1
 
-entries_of : (k : Kind) → ((p : List ℕ) → normal k p ≡ lower p) → (fs : Fields) →
+entries_of : (k : Kind) → ((p : Text) → normal k p ≡ lower p) → (fs : Fields) →
     AllByRecursion (λ f. IsWord k f.0 × AllByRecursion (IsWord Attribute) f.1) fs →
     AllByRecursion (IsEntry k) (map (λ f. (lower f.0, normal_values f.1)) fs)
 entries_of k e = all_mapped (λ f. IsWord k f.0 × AllByRecursion (IsWord Attribute) f.1) (IsEntry k)
     (λ f. (lower f.0, normal_values f.1))
     (λ f h. (subst (IsNormal k) (e f.0) (IsNormal-normal k f.0 h.0), plain_values f.1 h.1))
 
-field_entries : (k : Kind) → ((p : List ℕ) → normal k p ≡ lower p) → (fs : Fields) →
+field_entries : (k : Kind) → ((p : Text) → normal k p ≡ lower p) → (fs : Fields) →
     AllByRecursion (λ f. IsWord k f.0 × AllByRecursion (IsWord Attribute) f.1) fs →
     AllByRecursion (IsEntry k) (normal_fields fs)
 field_entries k e fs h = all-map_of word_cmp same_words (IsEntry k) _ (entries_of k e fs h)
 
-pub attribute_is_word : (w : List ℕ) → IsWord Attribute w → IsWord Subtag w
+pub attribute_is_word : (w : Text) → IsWord Attribute w → IsWord Subtag w
 unfolding is_word
 attribute_is_word w h = grind (arith, nat_tests)
 
-pub attribute_is_subtag : (w : List ℕ) → IsNormal Attribute w → IsNormal Subtag w
+pub attribute_is_subtag : (w : Text) → IsNormal Attribute w → IsNormal Subtag w
 attribute_is_subtag w h = (attribute_is_word w h.0, h.1)
 
 keyword_entries : (fs : Fields) → AllByRecursion IsKeyword fs →
@@ -122,7 +123,7 @@ unicode_well u h =
     (λ w n. (n.1, let l = length-attribute w n.0.0 in omega arith)) f.1 e.1) _
     (keyword_entries u.keywords h.keywords)
 
-pub transform_value : (T : ℕ → Bool) (m : SpelledTransform) → IsTransformBlock T m →
+pub transform_value : (T : LanguageLengths) (m : SpelledTransform) → IsTransformBlock T m →
     IsTransformValue T (normal_transform m)
 transform_value T m h = record {
   id = some_mapped (IsIdentifier T) (IsIdentifierValue T) normal_identifier
@@ -138,36 +139,36 @@ FollowsRule T (unicode u) = IsUnicodeBlock u
 FollowsRule T (transform m) = IsTransformBlock T m
 FollowsRule T (other ps) = IsOther ps
 
-follows : (T : ℕ → Bool) (c : ℕ) (e : Extension) → IsExtension T c e → FollowsRule T e
+follows : (T : LanguageLengths) (c : ℕ) (e : Extension) → IsExtension T c e → FollowsRule T e
 follows T c (unicode u) h = h.1
 follows T c _ h = h.1
 
-part_unicode : (T : ℕ → Bool) (o : Option Extension) → IfSome o (FollowsRule T) →
+part_unicode : (T : LanguageLengths) (o : Option Extension) → IfSome o (FollowsRule T) →
     IsUnicodeValue (unicode_part o)
 part_unicode T (Some (unicode u)) h = unicode_value u h
 part_unicode T _ h = record { attributes = tt; ascending = tt; keywords = tt; keys_ascend = refl }
 
-part_well : (T : ℕ → Bool) (o : Option Extension) → IfSome o (FollowsRule T) →
+part_well : (T : LanguageLengths) (o : Option Extension) → IfSome o (FollowsRule T) →
     AllByRecursion (λ f. AllByRecursion (λ w. (is_true w ≡ false) × (length w ≢ 2)) f.1)
     (unicode_part o).keywords
 part_well T (Some (unicode u)) h = unicode_well u h
 part_well T _ h = tt
 
-part_transform : (T : ℕ → Bool) (o : Option Extension) → IfSome o (FollowsRule T) →
+part_transform : (T : LanguageLengths) (o : Option Extension) → IfSome o (FollowsRule T) →
     IsTransformValue T (transform_part o)
 part_transform T (Some (transform m)) h = transform_value T m h
 part_transform T _ h = record { id = tt; fields = tt; keys_ascend = refl }
 
-kept_normal : (ps : List (List ℕ)) → AllByRecursion (IsNormal Subtag) (kept ps)
+kept_normal : (ps : List Text) → AllByRecursion (IsNormal Subtag) (kept ps)
 kept_normal [] = tt
 kept_normal (p ∷ ps) = cond_both (is_word Subtag p) _ _ (λ l. AllByRecursion (IsNormal Subtag) (map lower l))
     (λ e. (IsNormal-normal Subtag p e, kept_normal ps)) (λ _. kept_normal ps)
 
-abbrev IsOtherEntry : ℕ × List (List ℕ) → Type 0
+abbrev IsOtherEntry : Block → Type 0
 IsOtherEntry o = ((is_other_singleton o.0 ≡ true) × (to_ascii_lowercase o.0 ≡ o.0)) × (0 < length o.1)
     × AllByRecursion (IsNormal Subtag) o.1
 
-other_entries : (T : ℕ → Bool) (es : List (ℕ × Extension)) →
+other_entries : (T : LanguageLengths) (es : List (ℕ × Extension)) →
     AllByRecursion (λ e. IsExtension T (lower_singleton e) e.1) es →
     AllByRecursion IsOtherEntry (filter_map other_part (by_singleton es))
 other_entries T [] h = tt
@@ -179,7 +180,7 @@ other_entries T (e ∷ es) h = at_kind e.1 h.0 (other_entries T es h.1)
     at_kind (other ps) k rest = (((k.0, lowercase-lowercase e.0), k.1.nonempty, kept_normal ps), rest)
     at_kind _ k rest = rest
 
-private_value : (x : Option (ℕ × List (List ℕ))) → IfSome x (λ e. (lower_singleton e ≡ 120) × IsPrivate e.1) →
+private_value : (x : Option Block) → IfSome x (λ e. (lower_singleton e ≡ code_x) × IsPrivate e.1) →
     AllByRecursion (IsNormal PrivateSubtag) (private_part x)
 private_value None h = tt
 private_value (Some e) h = all_normal PrivateSubtag e.1 (λ p. refl) h.1.words
@@ -198,8 +199,8 @@ module _ {T : ℕ → Bool} (w : Written) (h : IsWritten T w) where
   written_value = record {
     id = identifier_value w.id h.id.words;
     extensions = record {
-      unicode = part_unicode T _ (rules 117);
-      transform = part_transform T _ (rules 116);
+      unicode = part_unicode T _ (rules code_u);
+      transform = part_transform T _ (rules code_t);
       private = private_value w.private h.private;
       others = all_weaker IsOtherEntry (λ o. AllByRecursion (IsNormal Subtag) o.1) (λ o x. x.2) _ others;
     };
@@ -211,11 +212,11 @@ module _ {T : ℕ → Bool} (w : Written) (h : IsWritten T w) where
     singletons = all_weaker IsOtherEntry
         (λ o. (is_other_singleton o.0 ≡ true) × (to_ascii_lowercase o.0 ≡ o.0)) (λ o x. x.0) _ others;
     nonempty = all_weaker IsOtherEntry (λ o. 0 < length o.1) (λ o x. x.1) _ others;
-    values = part_well T _ (rules 117);
+    values = part_well T _ (rules code_u);
   }
 
-pub means_value : {T : ℕ → Bool} (t : List ℕ) (M : Locale) → TreeMeans T t M → IsValue T M
+pub means_value : {T : ℕ → Bool} (t : Text) (M : Locale) → TreeMeans T t M → IsValue T M
 means_value {T = T} t M m = subst (IsValue T) (sym m.means) (written_value m.written m.grammatical)
 
-pub means_well_formed : {T : ℕ → Bool} (t : List ℕ) (M : Locale) → TreeMeans T t M → IsTreeWellFormed M
+pub means_well_formed : {T : ℕ → Bool} (t : Text) (M : Locale) → TreeMeans T t M → IsTreeWellFormed M
 means_well_formed t M m = subst IsTreeWellFormed (sym m.means) (written_well_formed m.written m.grammatical)

@@ -1,7 +1,7 @@
 -- Over a wider table each word, identifier and text keeps its meaning.
 use Rattle.std.proofs.Common.{◌≡◌, ℕ, Bool, true, List, length}
 use Rattle.std.proofs.lemmas.Bool.{and_parts, and_from}
-use Rattle.iloc_spec_grammar.specs.Syntax.{Language, two_or_three, languages, is_word, IsWord}
+use Rattle.iloc_spec_grammar.specs.Syntax.{Text, Language, two_or_three, languages, is_word, IsWord}
 use Rattle.iloc_spec_grammar.specs.Syntax.{SpelledIdentifier, Identifier, IsIdentifier}
 use Rattle.iloc_spec_grammar.specs.Tree.{Extension, transform, IsExtension}
 use Rattle.iloc_spec_grammar.specs.Meaning.{Locale, IdentifierMeans, Means}
@@ -10,7 +10,7 @@ use Rattle.iloc_spec_grammar.proofs.RawLaws.{narrow_in_wide}
 use Rattle.std.proofs.lemmas.Option.{IfSome_then}
 
 module _ {T U : ℕ → Bool} (wider : (n : ℕ) → T n ≡ true → U n ≡ true) where
-  pub language : (p : List ℕ) → IsWord (Language T) p → IsWord (Language U) p
+  pub language : (p : Text) → IsWord (Language T) p → IsWord (Language U) p
   unfolding is_word
   language p h = let parts = and_parts _ _ h in and_from _ _ (wider (length p) parts.0) parts.1
 
@@ -61,7 +61,7 @@ module _ {T U : ℕ → Bool} (wider : (n : ℕ) → T n ≡ true → U n ≡ tr
     };
   }
 
-  pub identifier_means_wider : (ps : List (List ℕ)) (i : Identifier) → IdentifierMeans T ps i →
+  pub identifier_means_wider : (ps : List Text) (i : Identifier) → IdentifierMeans T ps i →
       IdentifierMeans U ps i
   identifier_means_wider ps i m = record {
     written = m.written;
@@ -70,7 +70,7 @@ module _ {T U : ℕ → Bool} (wider : (n : ℕ) → T n ≡ true → U n ≡ tr
     means = m.means;
   }
 
-  pub means_wider : (t : List ℕ) (M : Locale) → Means T t M → Means U t M
+  pub means_wider : (t : Text) (M : Locale) → Means T t M → Means U t M
   means_wider t M m =
       let s = m.extensions.1 in let h = s.transform.0 in record {
         id = identifier_means_wider _ M.id m.id;
@@ -94,5 +94,5 @@ module _ {T U : ℕ → Bool} (wider : (n : ℕ) → T n ≡ true → U n ≡ tr
         );
       }
 
-pub means_ours : (t : List ℕ) (M : Locale) → Means two_or_three t M → Means languages t M
+pub means_ours : (t : Text) (M : Locale) → Means two_or_three t M → Means languages t M
 means_ours t M m = means_wider narrow_in_wide t M m

@@ -9,7 +9,8 @@ use Rattle.std.proofs.lemmas.Bool.{and_parts, or_cases, false_from_ne_true}
 use Rattle.std.proofs.lemmas.Bool.Decides.{nat_tests}
 use Rattle.std.proofs.lemmas.List.{length-map}
 use Rattle.std.proofs.lemmas.Str.Ascii.{lowercase-lowercase, lowercase-uppercase}
-use Rattle.iloc_spec_grammar.specs.Syntax.{Kind, Language, Script, Region, Variant, Subtag, UnicodeKey}
+use Rattle.iloc_spec_grammar.specs.Syntax.{LanguageLengths, Text, Kind, Language, Script, Region, Variant}
+use Rattle.iloc_spec_grammar.specs.Syntax.{Subtag, UnicodeKey}
 use Rattle.iloc_spec_grammar.specs.Syntax.{TransformKey, Attribute, PrivateSubtag, SubdivisionSuffix}
 use Rattle.iloc_spec_grammar.specs.Syntax.{CurrencyType, letters, digits, letters_or_digits, is_word, IsWord}
 use Rattle.iloc_spec_grammar.specs.Syntax.{lower, upper, title, normal}
@@ -31,40 +32,40 @@ uppercase-lowercase c = grind (arith, nat_tests)
 
 -- lists of bytes
 
-at-map : (f : ℕ → Bool) → ((c : ℕ) → f (to_ascii_lowercase c) ≡ f c) → (p : List ℕ) (i : ℕ) →
+at-map : (f : ℕ → Bool) → ((c : ℕ) → f (to_ascii_lowercase c) ≡ f c) → (p : Text) (i : ℕ) →
     f (slice_index (map to_ascii_lowercase p) i) ≡ f (slice_index p i)
 at-map f h [] i = refl
 at-map f h (c ∷ p) zero = h c
 at-map f h (c ∷ p) (suc i) = at-map f h p i
 
-pub lower-lower : (p : List ℕ) → lower (lower p) ≡ lower p
+pub lower-lower : (p : Text) → lower (lower p) ≡ lower p
 unfolding lower
 lower-lower p = map-then _ _ _ lowercase-lowercase p
 
-pub lower-upper : (p : List ℕ) → lower (upper p) ≡ lower p
+pub lower-upper : (p : Text) → lower (upper p) ≡ lower p
 unfolding lower upper
 lower-upper p = map-then _ _ _ lowercase-uppercase p
 
-pub lower-title : (p : List ℕ) → lower (title p) ≡ lower p
+pub lower-title : (p : Text) → lower (title p) ≡ lower p
 unfolding lower upper title
 lower-title [] = refl
 lower-title (c ∷ p) = ap₂ ◌∷◌ (lowercase-uppercase c) (map-then _ _ _ lowercase-lowercase p)
 
-pub upper-lower : (p : List ℕ) → upper (lower p) ≡ upper p
+pub upper-lower : (p : Text) → upper (lower p) ≡ upper p
 unfolding lower upper
 upper-lower p = map-then _ _ _ uppercase-lowercase p
 
-pub title-lower : (p : List ℕ) → title (lower p) ≡ title p
+pub title-lower : (p : Text) → title (lower p) ≡ title p
 unfolding lower upper title
 title-lower [] = refl
 title-lower (c ∷ p) = ap₂ ◌∷◌ (uppercase-lowercase c) (map-then _ _ _ lowercase-lowercase p)
 
-pub length-lower : (p : List ℕ) → length (lower p) ≡ length p
+pub length-lower : (p : Text) → length (lower p) ≡ length p
 unfolding lower
 length-lower p = length-map p to_ascii_lowercase
 
 -- a word in any case is a word
-pub is_word-lower : (k : Kind) (p : List ℕ) → is_word k (lower p) ≡ is_word k p
+pub is_word-lower : (k : Kind) (p : Text) → is_word k (lower p) ≡ is_word k p
 unfolding is_word lower
 is_word-lower (Language T) p = ap₂ ◌&&◌ (ap T (length-lower p)) (list_all-mapped _ _ _ alphabetic-lower p)
 is_word-lower Script p =
@@ -91,30 +92,30 @@ is_word-lower SubdivisionSuffix p =
 is_word-lower CurrencyType p =
     ap₂ ◌&&◌ (ap (λ n. n == 3) (length-lower p)) (list_all-mapped _ _ _ alphabetic-lower p)
 
-pub is_word-same : (k : Kind) (p q : List ℕ) → lower p ≡ lower q → is_word k p ≡ is_word k q
+pub is_word-same : (k : Kind) (p q : Text) → lower p ≡ lower q → is_word k p ≡ is_word k q
 is_word-same k p q e = sym (is_word-lower k p) ∙ ap (is_word k) e ∙ is_word-lower k q
 
-pub lower-normal : (k : Kind) (p : List ℕ) → lower (normal k p) ≡ lower p
+pub lower-normal : (k : Kind) (p : Text) → lower (normal k p) ≡ lower p
 lower-normal Script p = lower-title p
 lower-normal Region p = lower-upper p
 lower-normal _ p = lower-lower p
 
 -- the normal form depends on the lower case alone
-pub normal-lower : (k : Kind) (p : List ℕ) → normal k (lower p) ≡ normal k p
+pub normal-lower : (k : Kind) (p : Text) → normal k (lower p) ≡ normal k p
 normal-lower Script p = title-lower p
 normal-lower Region p = upper-lower p
 normal-lower _ p = lower-lower p
 
-pub normal-normal : (k : Kind) (p : List ℕ) → normal k (normal k p) ≡ normal k p
+pub normal-normal : (k : Kind) (p : Text) → normal k (normal k p) ≡ normal k p
 normal-normal k p = sym (normal-lower k (normal k p)) ∙ ap (normal k) (lower-normal k p) ∙ normal-lower k p
 
-pub is_word-normal : (k : Kind) (p : List ℕ) → is_word k (normal k p) ≡ is_word k p
+pub is_word-normal : (k : Kind) (p : Text) → is_word k (normal k p) ≡ is_word k p
 is_word-normal k p = is_word-same k _ _ (lower-normal k p)
 
-pub length-normal : (k : Kind) (p : List ℕ) → length (normal k p) ≡ length p
+pub length-normal : (k : Kind) (p : Text) → length (normal k p) ≡ length p
 length-normal k p = sym (length-lower (normal k p)) ∙ ap length (lower-normal k p) ∙ length-lower p
 
-pub same_normal : (k : Kind) (p q : List ℕ) → (normal k p ≡ normal k q) ↔ (lower p ≡ lower q)
+pub same_normal : (k : Kind) (p q : Text) → (normal k p ≡ normal k q) ↔ (lower p ≡ lower q)
 same_normal k p q = (
   λ e. sym (lower-normal k p) ∙ ap lower e ∙ lower-normal k q,
   λ e. sym (normal-lower k p) ∙ ap (normal k) e ∙ normal-lower k q,
@@ -125,63 +126,63 @@ pub ruleset normal_words_laws = (is_word-normal, normal-normal, length-normal, s
 
 -- lengths and first bytes
 
-pub length-language : (T : ℕ → Bool) (p : List ℕ) → IsWord (Language T) p → T (length p) ≡ true
+pub length-language : (T : LanguageLengths) (p : Text) → IsWord (Language T) p → T (length p) ≡ true
 unfolding is_word
 length-language T p h = (and_parts _ _ h).0
 
-pub length-script : (p : List ℕ) → IsWord Script p → length p ≡ 4
+pub length-script : (p : Text) → IsWord Script p → length p ≡ 4
 unfolding is_word
 length-script p h = grind (arith, nat_tests)
 
-pub length-region : (p : List ℕ) → IsWord Region p → (2 ≤ length p) × (length p ≤ 3)
+pub length-region : (p : Text) → IsWord Region p → (2 ≤ length p) × (length p ≤ 3)
 unfolding is_word
 length-region p h = grind (arith, nat_tests)
 
-pub length-variant : (p : List ℕ) → IsWord Variant p → (4 ≤ length p) × (length p ≤ 8)
+pub length-variant : (p : Text) → IsWord Variant p → (4 ≤ length p) × (length p ≤ 8)
 unfolding is_word
 length-variant p h = grind (arith, nat_tests)
 
-pub length-attribute : (p : List ℕ) → IsWord Attribute p → (3 ≤ length p) × (length p ≤ 8)
+pub length-attribute : (p : Text) → IsWord Attribute p → (3 ≤ length p) × (length p ≤ 8)
 unfolding is_word
 length-attribute p h = grind (arith, nat_tests)
 
-pub length-unicode_key : (p : List ℕ) → IsWord UnicodeKey p → length p ≡ 2
+pub length-unicode_key : (p : Text) → IsWord UnicodeKey p → length p ≡ 2
 unfolding is_word
 length-unicode_key p h = grind (arith, nat_tests)
 
-pub length-transform_key : (p : List ℕ) → IsWord TransformKey p → length p ≡ 2
+pub length-transform_key : (p : Text) → IsWord TransformKey p → length p ≡ 2
 unfolding is_word
 length-transform_key p h = grind (arith, nat_tests)
 
 -- kinds with no word in common
 
-pub region_no_script : (p : List ℕ) → IsWord Region p → is_word Script p ≡ false
+pub region_no_script : (p : Text) → IsWord Region p → is_word Script p ≡ false
 region_no_script p h =
     false_from_ne_true _ (λ s. let a = length-script p s in let b = length-region p h in absurd (omega arith))
 
-pub variant_no_region : (p : List ℕ) → IsWord Variant p → is_word Region p ≡ false
+pub variant_no_region : (p : Text) → IsWord Variant p → is_word Region p ≡ false
 variant_no_region p h = false_from_ne_true _
     (λ s. let a = length-region p s in let b = length-variant p h in absurd (omega arith))
 
 pub digit_no_letter : (c : ℕ) → is_ascii_digit c ≡ true → is_ascii_alphabetic c ≡ false
 digit_no_letter c h = grind (arith, nat_tests)
 
-first_digit : (p : List ℕ) → IsWord Variant p → length p ≡ 4 → is_ascii_digit (slice_index p 0) ≡ true
+first_digit : (p : Text) → IsWord Variant p → length p ≡ 4 → is_ascii_digit (slice_index p 0) ≡ true
 unfolding is_word
 first_digit p h e = grind (arith, nat_tests)
 
-first_letter : (p : List ℕ) → IsWord Script p → is_ascii_alphabetic (slice_index p 0) ≡ true
+first_letter : (p : Text) → IsWord Script p → is_ascii_alphabetic (slice_index p 0) ≡ true
 unfolding is_word
 first_letter [] h = grind (arith, nat_tests)
 first_letter (c ∷ p) h = (and_parts _ _ ((and_parts _ _ h).1)).0
 
-pub variant_no_script : (p : List ℕ) → IsWord Variant p → is_word Script p ≡ false
+pub variant_no_script : (p : Text) → IsWord Variant p → is_word Script p ≡ false
 variant_no_script p h = false_from_ne_true _ (λ s. let a = first_letter p s in
     let b = digit_no_letter (slice_index p 0) (first_digit p h (length-script p s)) in cc)
 
 -- each byte of a word is a letter or a digit
 
-pub every : (f g : ℕ → Bool) → ((c : ℕ) → f c ≡ true → g c ≡ true) → (p : List ℕ) → list_all f p ≡ true →
+pub every : (f g : ℕ → Bool) → ((c : ℕ) → f c ≡ true → g c ≡ true) → (p : Text) → list_all f p ≡ true →
     list_all g p ≡ true
 every f g h [] a = refl
 every f g h (c ∷ p) a = let parts = and_parts _ _ a in ap₂ ◌&&◌ (h c parts.0) (every f g h p parts.1)
@@ -193,14 +194,14 @@ pub digit_is : (c : ℕ) → is_ascii_digit c ≡ true → is_ascii_alphanumeric
 digit_is c h = grind (arith, nat_tests)
 
 two_are : (f g : ℕ → Bool) → ((c : ℕ) → f c ≡ true → is_ascii_alphanumeric c ≡ true) →
-    ((c : ℕ) → g c ≡ true → is_ascii_alphanumeric c ≡ true) → (p : List ℕ) → (length p == 2) ≡ true →
+    ((c : ℕ) → g c ≡ true → is_ascii_alphanumeric c ≡ true) → (p : Text) → (length p == 2) ≡ true →
     f (slice_index p 0) ≡ true → g (slice_index p 1) ≡ true → letters_or_digits p ≡ true
 two_are f g h k [] e a b = refl
 two_are f g h k (c ∷ []) e a b = ap₂ ◌&&◌ (h c a) refl
 two_are f g h k (c ∷ d ∷ []) e a b = ap₂ ◌&&◌ (h c a) (ap₂ ◌&&◌ (k d b) refl)
 two_are f g h k (c ∷ d ∷ x ∷ p) e a b = grind (arith, nat_tests)
 
-pub word_letters_or_digits : (k : Kind) (p : List ℕ) → IsWord k p → letters_or_digits p ≡ true
+pub word_letters_or_digits : (k : Kind) (p : Text) → IsWord k p → letters_or_digits p ≡ true
 unfolding is_word
 word_letters_or_digits (Language T) p h = every _ _ letter_is p (and_parts _ _ h).1
 word_letters_or_digits Script p h = every _ _ letter_is p (and_parts _ _ h).1

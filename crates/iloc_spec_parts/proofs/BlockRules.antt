@@ -2,7 +2,8 @@
 use Rattle.std.proofs.Common.{◌≡◌, ◌≤◌, ◌↔◌, inl, inr, ℕ, Bool, true, List, [], ◌∷◌, sym, refl, subst, arith}
 use Rattle.std.specs.Char.{is_ascii_alphanumeric, to_ascii_lowercase}
 use Rattle.std.proofs.lemmas.Bool.Decides.{nat_tests}
-use Rattle.iloc_spec_grammar.specs.Syntax.{Unicode, Transform, IsOther, is_other_singleton, lower_singleton}
+use Rattle.iloc_spec_grammar.specs.Syntax.{LanguageLengths, Block, code_x, code_u, code_t, Unicode, Transform}
+use Rattle.iloc_spec_grammar.specs.Syntax.{IsOther, is_other_singleton, lower_singleton}
 use Rattle.iloc_spec_grammar.specs.Syntax.{IsPrivate}
 use Rattle.iloc_spec_grammar.specs.Tree.{Extension, unicode, transform, other, extension_pieces, IsExtension}
 use Rattle.iloc_spec_grammar.specs.Tree.{IsBlock}
@@ -11,8 +12,8 @@ use Rattle.iloc_spec_grammar.specs.ByBlocks.{UnicodeMeans, TransformMeans}
 use Rattle.iloc_spec_grammar.proofs.Singletons.{no_u, no_t, no_x}
 use Rattle.iloc_spec_grammar.proofs.SameMeaning.{good_blocks, blocks_spelled}
 
-module _ (T : ℕ → Bool) (b : ℕ × List (List ℕ)) where
-  pub unicode_rule : lower_singleton b ≡ 117 → IsBlock T b ↔ ((u : Unicode) × UnicodeMeans b.1 u)
+module _ (T : LanguageLengths) (b : Block) where
+  pub unicode_rule : lower_singleton b ≡ code_u → IsBlock T b ↔ ((u : Unicode) × UnicodeMeans b.1 u)
   unicode_rule e = (
     λ x. elim x [ inl p ↦ absurd (omega arith) | inr q ↦ at q.0 q.1 q.2 ],
     λ m. inr (unicode m.1.written, (e, m.1.grammatical), m.1.spelled),
@@ -25,7 +26,7 @@ module _ (T : ℕ → Bool) (b : ℕ × List (List ℕ)) where
       at (transform m) h s = absurd (omega arith)
       at (other ps) h s = absurd (no_u _ e h.0)
 
-  pub transform_rule : lower_singleton b ≡ 116 → IsBlock T b ↔ ((m : Transform) × TransformMeans T b.1 m)
+  pub transform_rule : lower_singleton b ≡ code_t → IsBlock T b ↔ ((m : Transform) × TransformMeans T b.1 m)
   transform_rule e = (
     λ x. elim x [ inl p ↦ absurd (omega arith) | inr q ↦ at q.0 q.1 q.2 ],
     λ m. inr (transform m.1.written, (e, m.1.grammatical), m.1.spelled),
@@ -38,7 +39,7 @@ module _ (T : ℕ → Bool) (b : ℕ × List (List ℕ)) where
           (normal_transform m, record { written = m; grammatical = h.1; spelled = s; means = refl })
       at (other ps) h s = absurd (no_t _ e h.0)
 
-  pub private_rule : lower_singleton b ≡ 120 → IsBlock T b ↔ IsPrivate b.1
+  pub private_rule : lower_singleton b ≡ code_x → IsBlock T b ↔ IsPrivate b.1
   private_rule e = (λ x. elim x [ inl p ↦ p.1 | inr q ↦ at q.0 q.1 ], λ h. inl (e, h))
     where
       at : (f : Extension) → IsExtension T (lower_singleton b) f → IsPrivate b.1
@@ -59,27 +60,27 @@ module _ (T : ℕ → Bool) (b : ℕ × List (List ℕ)) where
 
 -- the rule of a block that stands alone
 
-abbrev pub its_own : {T : ℕ → Bool} {X : Type 0} (b : ℕ × List (List ℕ)) → is_ascii_alphanumeric b.0 ≡ true →
+abbrev pub its_own : {T : ℕ → Bool} {X : Type 0} (b : Block) → is_ascii_alphanumeric b.0 ≡ true →
     IsBlock T b ↔ X → AreBlocks T (b ∷ []) ↔ X
 its_own b l rule = (λ a. rule.0 (good_blocks a.1).0.2, λ x. blocks_spelled ((l, refl, rule.1 x), tt))
 
-letter_of : (b : ℕ × List (List ℕ)) (q : ℕ) → lower_singleton b ≡ q → (97 ≤ q) → (q ≤ 122) →
+letter_of : (b : Block) (q : ℕ) → lower_singleton b ≡ q → (97 ≤ q) → (q ≤ 122) →
     is_ascii_alphanumeric b.0 ≡ true
 letter_of b q e l m = grind (arith, nat_tests)
 
 other_letter : (c : ℕ) → is_other_singleton (to_ascii_lowercase c) ≡ true → is_ascii_alphanumeric c ≡ true
 other_letter c h = grind (arith, nat_tests)
 
-module _ (T : ℕ → Bool) (b : ℕ × List (List ℕ)) where
-  pub unicode_alone : lower_singleton b ≡ 117 → AreBlocks T (b ∷ []) ↔ ((u : Unicode) × UnicodeMeans b.1 u)
-  unicode_alone e = its_own b (letter_of b 117 e (omega arith) (omega arith)) (unicode_rule T b e)
+module _ (T : LanguageLengths) (b : Block) where
+  pub unicode_alone : lower_singleton b ≡ code_u → AreBlocks T (b ∷ []) ↔ ((u : Unicode) × UnicodeMeans b.1 u)
+  unicode_alone e = its_own b (letter_of b code_u e (omega arith) (omega arith)) (unicode_rule T b e)
 
-  pub transform_alone : lower_singleton b ≡ 116 →
+  pub transform_alone : lower_singleton b ≡ code_t →
       AreBlocks T (b ∷ []) ↔ ((m : Transform) × TransformMeans T b.1 m)
-  transform_alone e = its_own b (letter_of b 116 e (omega arith) (omega arith)) (transform_rule T b e)
+  transform_alone e = its_own b (letter_of b code_t e (omega arith) (omega arith)) (transform_rule T b e)
 
-  pub private_alone : lower_singleton b ≡ 120 → AreBlocks T (b ∷ []) ↔ IsPrivate b.1
-  private_alone e = its_own b (letter_of b 120 e (omega arith) (omega arith)) (private_rule T b e)
+  pub private_alone : lower_singleton b ≡ code_x → AreBlocks T (b ∷ []) ↔ IsPrivate b.1
+  private_alone e = its_own b (letter_of b code_x e (omega arith) (omega arith)) (private_rule T b e)
 
   pub other_alone : is_other_singleton (lower_singleton b) ≡ true → AreBlocks T (b ∷ []) ↔ IsOther b.1
   other_alone e = its_own b (other_letter b.0 e) (other_rule T b e)

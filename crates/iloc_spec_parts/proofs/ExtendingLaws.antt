@@ -3,7 +3,8 @@ use Rattle.std.proofs.Common.{◌≡◌, ℕ, ◌||◌, List, [], ◌++◌, sym,
 use Rattle.std.specs.List.{AllByRecursion, list_any}
 use Rattle.std.specs.Option.{option_or}
 use Rattle.std.specs.FinMap.{find}
-use Rattle.iloc_spec_grammar.specs.Syntax.{UnicodeKey, Subtag, Attribute, word_cmp, is_same, Unicode}
+use Rattle.iloc_spec_grammar.specs.Syntax.{Field, Text, UnicodeKey, Subtag, Attribute, word_cmp, is_same}
+use Rattle.iloc_spec_grammar.specs.Syntax.{Unicode}
 use Rattle.iloc_spec_grammar.specs.Meaning.{map_of, set_of}
 use Rattle.iloc_spec_grammar.specs.Values.{IsNormal, IsUnicodeValue}
 use Rattle.iloc_spec_grammar.proofs.MapLaws.{word_cmp_total, same_words, find-map_of, all-map_of}
@@ -26,19 +27,19 @@ extend_associative u v w = λ i. record {
       ∙ sym (map_of-first word_cmp word_cmp_total same_words (w.keywords ++ v.keywords) u.keywords)) i;
 }
 
-pub extend_overrides : (u v : Unicode) (k : List ℕ) →
+pub extend_overrides : (u v : Unicode) (k : Text) →
     find word_cmp k (extend u v).keywords
     ≡ option_or (find word_cmp k v.keywords) (find word_cmp k u.keywords)
 extend_overrides u v k = find-map_of word_cmp word_cmp_total k (v.keywords ++ u.keywords)
     ∙ find-append word_cmp k v.keywords u.keywords
 
-pub extend_unites : (u v : Unicode) (w : List ℕ) →
+pub extend_unites : (u v : Unicode) (w : Text) →
     list_any (is_same w) (extend u v).attributes
     ≡ (list_any (is_same w) u.attributes || list_any (is_same w) v.attributes)
 extend_unites u v w =
     any-set_of w (u.attributes ++ v.attributes) ∙ list_any-append (is_same w) u.attributes v.attributes
 
-abbrev IsKeywordValue : List ℕ × List (List ℕ) → Type 0
+abbrev IsKeywordValue : Field → Type 0
 IsKeywordValue f = IsNormal UnicodeKey f.0 × AllByRecursion (IsNormal Subtag) f.1
 
 pub extend_is_value : (u v : Unicode) → IsUnicodeValue u → IsUnicodeValue v → IsUnicodeValue (extend u v)

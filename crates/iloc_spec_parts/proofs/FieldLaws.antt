@@ -2,7 +2,7 @@
 use Rattle.std.proofs.Common.{◌≡◌, ℕ, Bool, true, false, cond, List, [], ◌∷◌, ◌++◌, refl, sym, ap, ◌∙◌}
 use Rattle.std.specs.List.{AllByRecursion}
 use Rattle.std.proofs.lemmas.Bool.{cond_both}
-use Rattle.iloc_spec_grammar.specs.Syntax.{Fields, fields_pieces, first_piece}
+use Rattle.iloc_spec_grammar.specs.Syntax.{Text, Fields, fields_pieces, first_piece}
 use Rattle.iloc_spec_grammar.specs.Reading.{passing, past, EndsBefore, before_key, fields_from}
 use Rattle.iloc_spec_grammar.proofs.ReadBack.{all_append}
 use Rattle.iloc_spec_grammar.proofs.Readings.{fields_all}
@@ -11,31 +11,31 @@ use Rattle.iloc_spec_grammar.proofs.ReadingLaws.{all_while}
 
 -- fronts
 
-pub passing_all : (test : List ℕ → Bool) (ps : List (List ℕ)) →
+pub passing_all : (test : Text → Bool) (ps : List Text) →
     AllByRecursion (λ p. test p ≡ true) (passing test ps)
 passing_all test [] = tt
 passing_all test (p ∷ ps) =
     cond_both (test p) _ _ (AllByRecursion (λ p. test p ≡ true)) (λ e. (e, passing_all test ps)) (λ e. tt)
 
-pub passing_stops : (test : List ℕ → Bool) (xs ys : List (List ℕ)) → AllByRecursion (λ p. test p ≡ true) xs →
+pub passing_stops : (test : Text → Bool) (xs ys : List Text) → AllByRecursion (λ p. test p ≡ true) xs →
     EndsBefore test ys → passing test (xs ++ ys) ≡ xs
 passing_stops test [] [] h s = refl
 passing_stops test [] (y ∷ ys) h s = rw s refl
 passing_stops test (x ∷ xs) ys h s = rw h.0 (ap (λ l. x ∷ l) (passing_stops test xs ys h.1 s))
 
-pub past_stops : (test : List ℕ → Bool) (xs ys : List (List ℕ)) → AllByRecursion (λ p. test p ≡ true) xs →
+pub past_stops : (test : Text → Bool) (xs ys : List Text) → AllByRecursion (λ p. test p ≡ true) xs →
     EndsBefore test ys → past test (xs ++ ys) ≡ ys
 past_stops test [] [] h s = refl
 past_stops test [] (y ∷ ys) h s = rw s refl
 past_stops test (x ∷ xs) ys h s = rw h.0 (past_stops test xs ys h.1 s)
 
-pub all_from_pieces : (first test : List ℕ → Bool) (ps : List (List ℕ)) →
+pub all_from_pieces : (first test : Text → Bool) (ps : List Text) →
     passing_from first test ps ++ past_from first test ps ≡ ps
 all_from_pieces first test ps =
     elim (first (first_piece ps)) as (λ b. cond b (passing test ps) [] ++ cond b (past test ps) ps ≡ ps)
     [ true ↦ all_while test ps | false ↦ refl ]
 
-pub passing_from_all : (first test : List ℕ → Bool) (ps : List (List ℕ)) →
+pub passing_from_all : (first test : Text → Bool) (ps : List Text) →
     AllByRecursion (λ p. test p ≡ true) (passing_from first test ps)
 passing_from_all first test ps = cond_both (first (first_piece ps)) _ _ (AllByRecursion (λ p. test p ≡ true))
     (λ e. passing_all test ps) (λ e. tt)
@@ -43,7 +43,7 @@ passing_from_all first test ps = cond_both (first (first_piece ps)) _ _ (AllByRe
 -- fields
 
 -- a front that begins with a key is its fields
-before_first_key : (key test : List ℕ → Bool) (ps : List (List ℕ)) →
+before_first_key : (key test : Text → Bool) (ps : List Text) →
     before_key key (passing_from key test ps) ≡ []
 before_first_key key test [] = cond_both (key []) _ _ (λ ps. before_key key ps ≡ []) (λ e. refl) (λ e. refl)
 before_first_key key test (p ∷ ps) = cond_both (key p) _ _ (λ ps. before_key key ps ≡ [])
@@ -51,15 +51,15 @@ before_first_key key test (p ∷ ps) = cond_both (key p) _ _ (λ ps. before_key 
     (λ t. ap (λ b. cond b [] (p ∷ before_key key (passing test ps))) e)
     (λ t. refl)) (λ e. refl)
 
-pub front_of_fields : (key test : List ℕ → Bool) (ps : List (List ℕ)) →
+pub front_of_fields : (key test : Text → Bool) (ps : List Text) →
     passing_from key test ps ≡ fields_pieces (fields_from key (passing_from key test ps))
 front_of_fields key test ps =
     let f = passing_from key test ps in
     sym (fields_all key f)
-    ∙ ap (λ (l : List (List ℕ)). l ++ fields_pieces (fields_from key f)) (before_first_key key test ps)
+    ∙ ap (λ (l : List Text). l ++ fields_pieces (fields_from key f)) (before_first_key key test ps)
 
 -- the keys and the values among pieces of which each is the one or the other
-pub fields_words : (key : List ℕ → Bool) (K V : List ℕ → Type 0) (ps : List (List ℕ)) →
+pub fields_words : (key : Text → Bool) (K V : Text → Type 0) (ps : List Text) →
     AllByRecursion (λ p. (key p ≡ true → K p) × (key p ≡ false → V p)) ps →
     AllByRecursion V (before_key key ps)
     × AllByRecursion (λ f. K f.0 × AllByRecursion V f.1) (fields_from key ps)
@@ -75,7 +75,7 @@ fields_words key K V (p ∷ ps) h =
     ] refl
 
 -- a front of fields, where it stops
-pub fields_stop : (key test : List ℕ → Bool) (fs : Fields) (rest : List (List ℕ)) →
+pub fields_stop : (key test : Text → Bool) (fs : Fields) (rest : List Text) →
     AllByRecursion (λ p. test p ≡ true) (fields_pieces fs) → AllByRecursion (λ f. key f.0 ≡ true) fs →
     EndsBefore test rest → EndsBefore key rest → key [] ≡ false →
     (passing_from key test (fields_pieces fs ++ rest) ≡ fields_pieces fs)
@@ -89,7 +89,7 @@ fields_stop key test (f ∷ fs) rest h k s n e = (
       ∙ past_stops test (fields_pieces (f ∷ fs)) rest h s,
 )
 
-pub pieces_pass : (test : List ℕ → Bool) (fs : Fields) →
+pub pieces_pass : (test : Text → Bool) (fs : Fields) →
     AllByRecursion (λ f. (test f.0 ≡ true) × AllByRecursion (λ p. test p ≡ true) f.1) fs →
     AllByRecursion (λ p. test p ≡ true) (fields_pieces fs)
 pieces_pass test [] h = tt

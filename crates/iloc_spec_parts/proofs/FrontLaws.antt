@@ -7,7 +7,7 @@ use Rattle.std.proofs.lemmas.Bool.{or_parts, or_cases, not-false, cond_both, fal
 use Rattle.std.proofs.lemmas.Bool.{ne_eqb, ltb-true}
 use Rattle.std.proofs.lemmas.List.{nil_from_length}
 use Rattle.std.proofs.lemmas.Bool.Decides.{nat_tests}
-use Rattle.iloc_spec_grammar.specs.Syntax.{UnicodeKey, Attribute, is_word, IsWord, lower, Fields}
+use Rattle.iloc_spec_grammar.specs.Syntax.{Field, Text, UnicodeKey, Attribute, is_word, IsWord, lower, Fields}
 use Rattle.iloc_spec_grammar.specs.Syntax.{SpelledUnicode, Unicode, fields_pieces, unicode_pieces, IsKeyword}
 use Rattle.iloc_spec_grammar.specs.Syntax.{IsUnicode, IsOther, kept, front}
 use Rattle.iloc_spec_grammar.specs.Tree.{IsUnicodeBlock}
@@ -38,7 +38,7 @@ use Rattle.std.proofs.Math.Bool.{or-true, and-false}
 
 -- keywords
 
-one_keywords : (ps : List (List ℕ)) (v w : Fields) (rest more : List (List ℕ)) → KeywordsRead ps v rest →
+one_keywords : (ps : List Text) (v w : Fields) (rest more : List Text) → KeywordsRead ps v rest →
     KeywordsRead ps w more → (v ≡ w) × (rest ≡ more)
 one_keywords ps v w rest more a b =
     let same : a.written ≡ b.written = sym (fields_read is_two a.written (keywords_pass a.written a.keywords))
@@ -46,23 +46,23 @@ one_keywords ps v w rest more a b =
     ∙ fields_read is_two b.written (keywords_pass b.written b.keywords) in
     (a.means ∙ ap normal_fields same ∙ sym b.means, a.left ∙ sym b.left)
 
-good_pieces : (ps : List (List ℕ)) → AllByRecursion (λ p. is_keyword_piece p ≡ true) ps →
+good_pieces : (ps : List Text) → AllByRecursion (λ p. is_keyword_piece p ≡ true) ps →
     list_any is_bad_key ps ≡ false →
     AllByRecursion (λ p. (is_two p ≡ true → IsWord UnicodeKey p) × (is_two p ≡ false → IsWord Attribute p)) ps
 good_pieces [] h n = tt
 good_pieces (p ∷ ps) h n = let parts = or_parts (is_bad_key p) (list_any is_bad_key ps) n in
     ((λ e. not-false _ (rw e at parts.0), λ e. rw e at h.0), good_pieces ps h.1 parts.1)
 
-pub two_bytes_of : (p : List ℕ) → IsWord UnicodeKey p → is_two p ≡ true
+pub two_bytes_of : (p : Text) → IsWord UnicodeKey p → is_two p ≡ true
 two_bytes_of p k = ap (λ n. n == 2) (length-unicode_key p k)
 
-pub not_two_bytes : (p : List ℕ) → IsWord Attribute p → is_two p ≡ false
+pub not_two_bytes : (p : Text) → IsWord Attribute p → is_two p ≡ false
 not_two_bytes p h = let l = (length-attribute p h).0 in grind (arith, nat_tests)
 
-pub good_key : (p : List ℕ) → IsWord UnicodeKey p → is_bad_key p ≡ false
+pub good_key : (p : Text) → IsWord UnicodeKey p → is_bad_key p ≡ false
 good_key p h = ap (λ b. is_two p && not b) h ∙ and-false (is_two p)
 
-pub good_value : (p : List ℕ) → IsWord Attribute p → is_bad_key p ≡ false
+pub good_value : (p : Text) → IsWord Attribute p → is_bad_key p ≡ false
 good_value p h = ap (λ b. b && not (is_word UnicodeKey p)) (not_two_bytes p h)
 
 keywords_no_fault : (fs : Fields) → AllByRecursion IsKeyword fs →
@@ -72,12 +72,12 @@ keywords_no_fault (f ∷ fs) h = none_bad (f.0 ∷ f.1) (fields_pieces fs)
     (good_key f.0 h.0.0, all_weaker (IsWord Attribute) (λ p. is_bad_key p ≡ false) good_value f.1 h.0.1)
     (keywords_no_fault fs h.1)
   where
-    none_bad : (xs ys : List (List ℕ)) → AllByRecursion (λ p. is_bad_key p ≡ false) xs →
+    none_bad : (xs ys : List Text) → AllByRecursion (λ p. is_bad_key p ≡ false) xs →
         list_any is_bad_key ys ≡ false → list_any is_bad_key (xs ++ ys) ≡ false
     none_bad [] ys h n = n
     none_bad (x ∷ xs) ys h n = ap₂ ◌||◌ h.0 (none_bad xs ys h.1 n)
 
-pub keywords_read_of : (ps : List (List ℕ)) → list_any is_bad_key (keywords_front ps) ≡ false →
+pub keywords_read_of : (ps : List Text) → list_any is_bad_key (keywords_front ps) ≡ false →
     KeywordsRead ps (normal_fields (fields_from is_two (keywords_front ps))) (after_keywords ps)
 keywords_read_of ps e = record {
   written = fields_from is_two (keywords_front ps);
@@ -92,12 +92,12 @@ pub keywords_answer : Answers KeywordsRead KeywordsFault keywords_result
 keywords_answer ps = cond_both (list_any is_bad_key (keywords_front ps)) _ _
     (Answer KeywordsRead KeywordsFault ps) (λ b. bad_key b) (λ g. keywords_read_of ps g)
 
-keywords_apart : (ps : List (List ℕ)) (m : Fields) (rest : List (List ℕ)) (f : Fault) →
+keywords_apart : (ps : List Text) (m : Fields) (rest : List Text) (f : Fault) →
     KeywordsRead ps m rest → KeywordsFault ps f → ⊥
 keywords_apart ps m rest f h (bad_key b) =
     true≢false (sym b ∙ ap (list_any is_bad_key) h.spelled ∙ keywords_no_fault h.written h.keywords)
 
-keywords_fault : {ps : List (List ℕ)} {f : Fault} → KeywordsFault ps f → f ≡ InvalidExtension
+keywords_fault : {ps : List Text} {f : Fault} → KeywordsFault ps f → f ≡ InvalidExtension
 keywords_fault (bad_key b) = refl
 
 pub keywords_reader : IsReader KeywordsRead KeywordsFault
@@ -106,14 +106,14 @@ keywords_reader = reader_of KeywordsRead KeywordsFault keywords_result keywords_
 
 -- all that comes after `u`
 
-one_unicode : (ps : List (List ℕ)) (v w : Unicode) (rest more : List (List ℕ)) → UnicodeRead ps v rest →
+one_unicode : (ps : List Text) (v w : Unicode) (rest more : List Text) → UnicodeRead ps v rest →
     UnicodeRead ps w more → (v ≡ w) × (rest ≡ more)
 one_unicode ps v w rest more a b =
     let k =
     one_keywords (after_attributes ps) v.keywords w.keywords rest more a.keywords_are b.keywords_are in
     (λ i. record { attributes = (a.attributes_are ∙ sym b.attributes_are) i; keywords = k.0 i }, k.1)
 
-none_of : (xs ys : List (List ℕ)) → nat_lt 0 (length xs + length ys) ≡ false → (xs ≡ []) × (ys ≡ [])
+none_of : (xs ys : List Text) → nat_lt 0 (length xs + length ys) ≡ false → (xs ≡ []) × (ys ≡ [])
 none_of xs ys h =
     let none : length xs + length ys ≡ 0 = grind (arith, nat_tests) in
     (nil_from_length xs (omega arith), nil_from_length ys (omega arith))
@@ -123,7 +123,7 @@ unfolding unicode_result
 unicode_answer ps =
     at_keywords (keywords_result (after_attributes ps)) (keywords_answer (after_attributes ps))
   where
-    at_keywords : (o : Result (Fields × List (List ℕ)) Fault) →
+    at_keywords : (o : Result (Fields × List Text) Fault) →
         Answer KeywordsRead KeywordsFault (after_attributes ps) o →
         Answer UnicodeRead UnicodeFault ps (attributes_and ps o)
     at_keywords (Err f) h = in_keywords h
@@ -134,7 +134,7 @@ unicode_answer ps =
         (λ n. let none = none_of (attributes_front ps) (keywords_front (after_attributes ps)) n in
         both_absent none.0 none.1)
 
-unicode_apart : (ps : List (List ℕ)) (u : Unicode) (rest : List (List ℕ)) (f : Fault) →
+unicode_apart : (ps : List Text) (u : Unicode) (rest : List Text) (f : Fault) →
     UnicodeRead ps u rest → UnicodeFault ps f → ⊥
 unicode_apart ps u rest f h (in_keywords k) =
     keywords_apart (after_attributes ps) u.keywords rest f h.keywords_are k
@@ -142,7 +142,7 @@ unicode_apart ps u rest f h (both_absent a k) =
     let none : 0 < 0 = subst (λ (n : ℕ). 0 < n) ((λ i. length (a i) + length (k i))) h.nonempty in
     absurd (omega arith)
 
-unicode_fault : {ps : List (List ℕ)} {f : Fault} → UnicodeFault ps f → f ≡ InvalidExtension
+unicode_fault : {ps : List Text} {f : Fault} → UnicodeFault ps f → f ≡ InvalidExtension
 unicode_fault (in_keywords h) = keywords_fault h
 unicode_fault (both_absent a k) = refl
 
@@ -152,7 +152,7 @@ unicode_reader = reader_of UnicodeRead UnicodeFault unicode_result unicode_answe
 
 -- and its block
 
-long_keyword_piece : (p : List ℕ) → is_keyword_piece p ≡ true → IsLong p
+long_keyword_piece : (p : Text) → is_keyword_piece p ≡ true → IsLong p
 long_keyword_piece p h = elim (or_cases _ _ h) [
   | inl e ↦ let two = eqb-true (length p) 2 e in ne_eqb (length p) 1 (λ one. absurd (omega arith))
   | inr k ↦ long_attribute p k
@@ -163,7 +163,7 @@ some_pieces : (n : ℕ) (fs : Fields) → (0 < n + length (fields_pieces fs)) �
 some_pieces n [] = (λ h. h, λ h. h)
 some_pieces n (f ∷ fs) = (λ h. omega arith, λ h. omega arith)
 
-unicode_whole : (ps : List (List ℕ)) (u : Unicode) (rest : List (List ℕ)) → UnicodeRead ps u rest →
+unicode_whole : (ps : List Text) (u : Unicode) (rest : List Text) → UnicodeRead ps u rest →
     starts_block rest ≡ true → UnicodeMeans (front ps) u × (rest ≡ from_block ps)
 unicode_whole ps u rest h s =
     let k = h.keywords_are in
@@ -184,7 +184,7 @@ unicode_whole ps u rest h s =
           attributes = passing_all (is_word Attribute) ps;
           keywords = k.keywords;
           nonempty = (some_pieces (length a) k.written).0
-              (subst (λ (l : List (List ℕ)). 0 < length a + length l) k.spelled h.nonempty);
+              (subst (λ (l : List Text). 0 < length a + length l) k.spelled h.nonempty);
         };
         spelled = ap front all ∙ ends.0 ∙ ap (λ l. a ++ l) k.spelled;
         means = λ i. record { attributes = h.attributes_are i; keywords = k.means i };
@@ -192,16 +192,16 @@ unicode_whole ps u rest h s =
       sym (ap from_block all ∙ ends.1),
     )
 
-pub not_attribute : (p : List ℕ) → length p ≤ 2 → is_word Attribute p ≡ false
+pub not_attribute : (p : Text) → length p ≤ 2 → is_word Attribute p ≡ false
 not_attribute p h = false_from_ne_true _ (λ a. let l = length-attribute p a in absurd (omega arith))
 
 -- what may follow a block goes on with none of its parts
-pub record NoneGoOn (rest : List (List ℕ)) : Type 0 where
+pub record NoneGoOn (rest : List Text) : Type 0 where
   pub attribute : EndsBefore (is_word Attribute) rest
   pub keyword_piece : EndsBefore is_keyword_piece rest
   pub two_bytes : EndsBefore is_two rest
 
-pub block_ends : (rest : List (List ℕ)) → starts_block rest ≡ true → NoneGoOn rest
+pub block_ends : (rest : List Text) → starts_block rest ≡ true → NoneGoOn rest
 block_ends [] e = record { attribute = tt; keyword_piece = tt; two_bytes = tt }
 block_ends (p ∷ ps) e =
     let one = eqb-true (length p) 1 e in
@@ -209,10 +209,10 @@ block_ends (p ∷ ps) e =
     let m : is_two p ≡ false = rw one refl in
     record { attribute = n; keyword_piece = λ i. m i || n i; two_bytes = m }
 
-pub value_goes_on : (p : List ℕ) → IsWord Attribute p → is_keyword_piece p ≡ true
+pub value_goes_on : (p : Text) → IsWord Attribute p → is_keyword_piece p ≡ true
 value_goes_on p w = ap (λ b. is_two p || b) w ∙ or-true (is_two p)
 
-keyword_goes_on : (f : List ℕ × List (List ℕ)) → IsKeyword f →
+keyword_goes_on : (f : Field) → IsKeyword f →
     (is_keyword_piece f.0 ≡ true) × AllByRecursion (λ p. is_keyword_piece p ≡ true) f.1
 keyword_goes_on f r = (
   ap (λ b. b || is_word Attribute f.0) (two_bytes_of f.0 r.0),
@@ -220,13 +220,13 @@ keyword_goes_on f r = (
 )
 
 -- what is taken of spelled attributes and keywords
-pub record Taken (w : SpelledUnicode) (rest : List (List ℕ)) : Type 0 where
+pub record Taken (w : SpelledUnicode) (rest : List Text) : Type 0 where
   pub attributes : attributes_front (unicode_pieces w ++ rest) ≡ w.attributes
   pub after : after_attributes (unicode_pieces w ++ rest) ≡ fields_pieces w.keywords ++ rest
   pub keywords : keywords_front (fields_pieces w.keywords ++ rest) ≡ fields_pieces w.keywords
   pub left : after_keywords (fields_pieces w.keywords ++ rest) ≡ rest
 
-pub unicode_taken : (w : SpelledUnicode) (rest : List (List ℕ)) → IsUnicode w → starts_block rest ≡ true →
+pub unicode_taken : (w : SpelledUnicode) (rest : List Text) → IsUnicode w → starts_block rest ≡ true →
     Taken w rest
 unicode_taken w rest g e = record {
   attributes = ap attributes_front all
@@ -260,20 +260,20 @@ unicode_taken w rest g e = record {
         none.keyword_piece none.two_bytes refl
 
 -- the keywords are those that were spelled
-pub keywords_taken : (w : SpelledUnicode) (rest : List (List ℕ)) → IsUnicode w → starts_block rest ≡ true →
+pub keywords_taken : (w : SpelledUnicode) (rest : List Text) → IsUnicode w → starts_block rest ≡ true →
     fields_from is_two (keywords_front (after_attributes (unicode_pieces w ++ rest))) ≡ w.keywords
 keywords_taken w rest g e =
     let t = unicode_taken w rest g e in
     ap (fields_from is_two) (ap keywords_front t.after ∙ t.keywords)
     ∙ fields_read is_two w.keywords (keywords_pass w.keywords g.keywords)
 
-unicode_spelled : (w : SpelledUnicode) (rest : List (List ℕ)) → IsUnicodeBlock w → starts_block rest ≡ true →
+unicode_spelled : (w : SpelledUnicode) (rest : List Text) → IsUnicodeBlock w → starts_block rest ≡ true →
     UnicodeRead (unicode_pieces w ++ rest) (normal_unicode w) rest
 unicode_spelled w rest g e =
     let t = unicode_taken w rest (record { attributes = g.attributes; keywords = g.keywords }) e in
     record {
       attributes_are = ap (λ l. set_of (map lower l)) (sym t.attributes);
-      keywords_are = subst (λ (l : List (List ℕ)). KeywordsRead l (normal_unicode w).keywords rest)
+      keywords_are = subst (λ (l : List Text). KeywordsRead l (normal_unicode w).keywords rest)
           (sym t.after) (record {
             written = w.keywords;
             keywords = g.keywords;
@@ -287,13 +287,13 @@ unicode_spelled w rest g e =
           ((some_pieces (length w.attributes) w.keywords).1 g.nonempty);
     }
 
-unicode_block : (ps : List (List ℕ)) (u : Unicode) → UnicodeMeans (front ps) u →
+unicode_block : (ps : List Text) (u : Unicode) → UnicodeMeans (front ps) u →
     UnicodeRead ps u (from_block ps)
 unicode_block ps u h =
     let pieces_are : unicode_pieces h.written ++ from_block ps ≡ ps =
     ap (λ l. l ++ from_block ps) (sym h.spelled) ∙ front-from_block ps in
     subst (λ (v : Unicode). UnicodeRead ps v (from_block ps)) (sym h.means)
-    (subst (λ (l : List (List ℕ)). UnicodeRead l (normal_unicode h.written) (from_block ps)) pieces_are
+    (subst (λ (l : List Text). UnicodeRead l (normal_unicode h.written) (from_block ps)) pieces_are
     (unicode_spelled h.written (from_block ps) h.grammatical (from_block_starts ps)))
 
 pub unicode_agrees : AgreesWithBlocks UnicodeRead UnicodeFault UnicodeMeans
@@ -307,17 +307,17 @@ other_answer ps = cond_both (is_other (other_front ps)) _ _ (Answer OtherRead Ot
     (λ h. record { follows = (tests_other (other_front ps)).holds h; means = refl; left = refl })
     (λ n. no_word (tests_not (tests_other (other_front ps)) n))
 
-other_apart : (ps ws rest : List (List ℕ)) (f : Fault) → OtherRead ps ws rest → OtherFault ps f → ⊥
+other_apart : (ps ws rest : List Text) (f : Fault) → OtherRead ps ws rest → OtherFault ps f → ⊥
 other_apart ps ws rest f h (no_word n) = n h.follows
 
-one_other_fault : (ps : List (List ℕ)) (f g : Fault) → OtherFault ps f → OtherFault ps g → f ≡ g
+one_other_fault : (ps : List Text) (f g : Fault) → OtherFault ps f → OtherFault ps g → f ≡ g
 one_other_fault ps f g (no_word n) (no_word m) = refl
 
 pub other_reader : IsReader OtherRead OtherFault
 other_reader = reader_of OtherRead OtherFault other_result other_answer
     (λ ps v w rest more a b. (a.means ∙ sym b.means, a.left ∙ sym b.left)) other_apart one_other_fault
 
-other_whole : (ps ws rest : List (List ℕ)) → OtherRead ps ws rest → starts_block rest ≡ true →
+other_whole : (ps ws rest : List Text) → OtherRead ps ws rest → starts_block rest ≡ true →
     OtherMeans (front ps) ws × (rest ≡ from_block ps)
 other_whole ps ws rest h s =
     let all : ps ≡ other_front ps ++ rest =
@@ -328,15 +328,15 @@ other_whole ps ws rest h s =
     let e : other_front ps ≡ front ps = sym (ap front all ∙ ends.0) in
     ((subst IsOther e h.follows, h.means ∙ ap kept e), sym (ap from_block all ∙ ends.1))
 
-other_block : (ps ws : List (List ℕ)) → OtherMeans (front ps) ws → OtherRead ps ws (from_block ps)
+other_block : (ps ws : List Text) → OtherMeans (front ps) ws → OtherRead ps ws (from_block ps)
 other_block ps ws h =
-    subst (λ (l : List (List ℕ)). OtherRead l ws (from_block ps)) (front-from_block ps) (record {
+    subst (λ (l : List Text). OtherRead l ws (from_block ps)) (front-from_block ps) (record {
       follows = subst IsOther (sym front_is) h.0;
       means = h.1 ∙ ap kept (sym front_is);
       left = sym (past_stops has_other_length (front ps) (from_block ps) h.0.lengths ends);
     })
   where
-    stops : (rest : List (List ℕ)) → starts_block rest ≡ true → EndsBefore has_other_length rest
+    stops : (rest : List Text) → starts_block rest ≡ true → EndsBefore has_other_length rest
     stops [] e = tt
     stops (p ∷ ps) e = rw (eqb-true (length p) 1 e) refl
 
@@ -357,10 +357,10 @@ private_answer ps = cond_both (is_private ps) _ _ (Answer PrivateRead PrivateFau
     (λ h. record { follows = (rules.tests_private ps).holds h; means = refl; left = refl })
     (λ n. not_private (tests_not (rules.tests_private ps) n))
 
-private_apart : (ps ws rest : List (List ℕ)) (f : Fault) → PrivateRead ps ws rest → PrivateFault ps f → ⊥
+private_apart : (ps ws rest : List Text) (f : Fault) → PrivateRead ps ws rest → PrivateFault ps f → ⊥
 private_apart ps ws rest f h (not_private n) = n h.follows
 
-one_private_fault : (ps : List (List ℕ)) (f g : Fault) → PrivateFault ps f → PrivateFault ps g → f ≡ g
+one_private_fault : (ps : List Text) (f g : Fault) → PrivateFault ps f → PrivateFault ps g → f ≡ g
 one_private_fault ps f g (not_private n) (not_private m) = refl
 
 pub private_reader : IsReader PrivateRead PrivateFault

@@ -8,7 +8,7 @@ use Rattle.std.specs.Int.{from_le_bytes}
 use Rattle.std.specs.List.{flat_map}
 use Rattle.std.specs.Hash.{HashWrites, u8, slice, option, le_bytes}
 use Rattle.std.specs.declared.cmp.Ordering.{Ordering}
-use Rattle.iloc_spec_grammar.specs.Syntax.{Identifier, Fields, Unicode, Transform}
+use Rattle.iloc_spec_grammar.specs.Syntax.{Block, Text, Identifier, Fields, Unicode, Transform}
 use Rattle.iloc_spec_grammar.specs.Meaning.{Extensions}
 use Rattle.iloc_spec_parts.specs.Orders.{IsExactOrder}
 use Rattle.iloc_spec_parts.specs.Hashes.{HashesByOrder, word_fed, words_fed, identifier_fed, fields_fed}
@@ -118,7 +118,7 @@ pub words_tell : Tells words_fed
 words_tell = list_tells word_tells
 
 pub identifier_tells : Tells identifier_fed
-identifier_tells = through {Y = ((List ℕ × Option (List ℕ)) × Option (List ℕ)) × List (List ℕ)}
+identifier_tells = through {Y = ((Text × Option Text) × Option Text) × List Text}
     (λ i. (((i.language, i.script), i.region), i.variants))
     (λ p. record { language = p.0.0.0; script = p.0.0.1; region = p.0.1; variants = p.1 })
     (λ i. refl)
@@ -129,7 +129,7 @@ pub fields_tell : Tells fields_fed
 fields_tell = list_tells (both_tell word_tells words_tell)
 
 pub unicode_tells : Tells unicode_fed
-unicode_tells = through {Y = Fields × List (List ℕ)} (λ u. (u.keywords, u.attributes))
+unicode_tells = through {Y = Fields × List Text} (λ u. (u.keywords, u.attributes))
     (λ p. record { attributes = p.1; keywords = p.0 }) (λ u. refl) (both_tell fields_tell words_tell)
 
 pub transform_tells : Tells transform_fed
@@ -141,7 +141,7 @@ pub other_tells : Tells other_fed
 other_tells = both_tell byte_tells words_tell
 
 pub extensions_tell : Tells extensions_fed
-extensions_tell = through {Y = ((Unicode × Transform) × List (List ℕ)) × List (ℕ × List (List ℕ))}
+extensions_tell = through {Y = ((Unicode × Transform) × List Text) × List Block}
     (λ e. (((e.unicode, e.transform), e.private), e.others))
     (λ p. record { unicode = p.0.0.0; transform = p.0.0.1; private = p.0.1; others = p.1 })
     (λ e. refl)

@@ -7,7 +7,8 @@ use Rattle.std.specs.Ordering.{nat_cmp, eq_by_cmp}
 use Rattle.std.proofs.lemmas.Bool.{or_parts, eq-eqb, false_from_ne_true}
 use Rattle.std.proofs.lemmas.Bool.Decides.{nat_tests}
 use Rattle.std.proofs.lemmas.List.{length-map}
-use Rattle.iloc_spec_grammar.specs.Syntax.{pieces, AreLengths, PrivateSubtag, is_word, lower, word_cmp}
+use Rattle.iloc_spec_grammar.specs.Syntax.{LanguageLengths, Block, code_x, code_u, code_t, Text, pieces}
+use Rattle.iloc_spec_grammar.specs.Syntax.{AreLengths, PrivateSubtag, is_word, lower, word_cmp}
 use Rattle.iloc_spec_grammar.specs.Syntax.{Spelled, SpelledIdentifier, SpelledUnicode, SpelledTransform}
 use Rattle.iloc_spec_grammar.specs.Syntax.{Identifier, Transform, Fields, identifier_pieces, fields_pieces}
 use Rattle.iloc_spec_grammar.specs.Syntax.{unicode_pieces, transform_pieces, IsIdentifier, IsUnicode}
@@ -33,13 +34,13 @@ use Rattle.iloc_spec_parts.proofs.TransformLaws.{one_front, one_longest, front_l
 same_test : (q c : ℕ) → (c == q) ≡ eq_by_cmp nat_cmp q c
 same_test q c = grind (arith, nat_tests)
 
-pub none_after : (q : ℕ) (bs : List (ℕ × List (List ℕ))) →
+pub none_after : (q : ℕ) (bs : List Block) →
     list_any (eq_by_cmp nat_cmp q) (map (λ b. lower_singleton b) bs) ≡ false → after q bs ≡ []
 none_after q [] d = refl
 none_after q (b ∷ bs) d =
     let parts = or_parts _ _ d in rw (same_test q (lower_singleton b) ∙ parts.0) (none_after q bs parts.1)
 
-later_after : (d : ℕ × List (List ℕ)) (all bs : List (ℕ × List (List ℕ))) →
+later_after : (d : Block) (all bs : List Block) →
     list_any (eq_by_cmp nat_cmp (lower_singleton d)) (map (λ b. lower_singleton b) bs) ≡ false →
     AllByRecursion (λ b. after (lower_singleton b) all ≡ b.1) bs →
     AllByRecursion (λ b. after (lower_singleton b) (d ∷ all) ≡ b.1) bs
@@ -50,7 +51,7 @@ later_after d all (b ∷ bs) n h = let parts = or_parts _ _ n in
     differ : (q c : ℕ) → eq_by_cmp nat_cmp q c ≡ false → (q == c) ≡ false
     differ q c h = grind (arith, nat_tests)
 
-pub each_after : (bs : List (ℕ × List (List ℕ))) → AllDifferent nat_cmp (map (λ b. lower_singleton b) bs) →
+pub each_after : (bs : List Block) → AllDifferent nat_cmp (map (λ b. lower_singleton b) bs) →
     AllByRecursion (λ b. after (lower_singleton b) bs ≡ b.1) bs
 each_after [] d = tt
 each_after (b ∷ bs) d = (
@@ -69,7 +70,7 @@ short_unicode u g a k v =
     let taken = unicode_taken u [] g refl in
     let keys = ap before_bad_key (keywords_taken u [] g refl) ∙ kept_all u.keywords g.keywords in
     (short_unicode_front (unicode_pieces u) [] refl).1 (record {
-      attributes = subst (λ (l : List (List ℕ)). length (set_of (map lower l)) ≤ 4) (sym taken.attributes) a;
+      attributes = subst (λ (l : List Text). length (set_of (map lower l)) ≤ 4) (sym taken.attributes) a;
       keys = subst (λ (fs : Fields). length (normal_fields fs) ≤ 1) (sym keys) k;
       values = subst (AllByRecursion (λ f. length (normal_values f.1) ≤ 4)) (sym keys) v;
     })
@@ -79,9 +80,9 @@ few_variants : (i : SpelledIdentifier) → AllDifferent word_cmp (map lower i.va
 few_variants i d h = subst (λ (n : ℕ). n ≤ 4)
     (length-set_of-different (map lower i.variants) d ∙ length-map i.variants lower) h
 
-front_few : {T : ℕ → Bool} (ps : List (List ℕ)) {o : Option SpelledIdentifier} {middle : List (List ℕ)} →
+front_few : {T : ℕ → Bool} (ps : List Text) {o : Option SpelledIdentifier} {middle : List Text} →
     FrontRead T ps o middle → IfSome (option_map normal_identifier o) (λ i. length i.variants ≤ 4) →
-    (i : SpelledIdentifier) (rest : List (List ℕ)) → IdentifierFront T ps i rest → length i.variants ≤ 4
+    (i : SpelledIdentifier) (rest : List Text) → IdentifierFront T ps i rest → length i.variants ≤ 4
 front_few ps (absent e) h i rest f =
     absurd (true≢false (sym (front_language ps i rest f.words f.spelled) ∙ e))
 front_few ps (present {i = j} {rest = more} g k) h i rest f =
@@ -122,11 +123,11 @@ short_transform table (Some i) g v fs e = subst (IsShortTransform _)
 
 -- no block is another
 
-abbrev Others : List (ℕ × List (List ℕ)) → List (ℕ × List (List ℕ))
+abbrev Others : List Block → List Block
 Others bs =
-    filter {X = ℕ × List (List ℕ)} (λ b. is_other_singleton b.0) (map (λ b. (lower_singleton b, b.1)) bs)
+    filter {X = Block} (λ b. is_other_singleton b.0) (map (λ b. (lower_singleton b, b.1)) bs)
 
-no_first_other : (b : ℕ × List (List ℕ)) (bs : List (ℕ × List (List ℕ))) → Others (b ∷ bs) ≡ [] →
+no_first_other : (b : Block) (bs : List Block) → Others (b ∷ bs) ≡ [] →
     (is_other_singleton (lower_singleton b) ≡ true → ⊥) × (Others bs ≡ [])
 no_first_other b bs e = at (is_other_singleton (lower_singleton b)) refl e
   where
@@ -136,34 +137,34 @@ no_first_other b bs e = at (is_other_singleton (lower_singleton b)) refl e
     at true k e = absurd (cc)
     at false k e = ((λ o. true≢false (sym o ∙ k)), e)
 
-no_other : (bs : List (ℕ × List (List ℕ))) → Others bs ≡ [] →
+no_other : (bs : List Block) → Others bs ≡ [] →
     AllByRecursion (λ b. is_other_singleton (lower_singleton b) ≡ true → ⊥) bs
 no_other [] e = tt
 no_other (b ∷ bs) e = let first = no_first_other b bs e in (first.0, no_other bs first.1)
 
 -- the blocks
 
-module _ (T : ℕ → Bool) (table : AreLengths T) (t : List ℕ) (h : IsInline T t) where
-  short_block : (b : ℕ × List (List ℕ)) → after (lower_singleton b) (tail_blocks (pieces t)) ≡ b.1 →
+module _ (T : LanguageLengths) (table : AreLengths T) (t : Text) (h : IsInline T t) where
+  short_block : (b : Block) → after (lower_singleton b) (tail_blocks (pieces t)) ≡ b.1 →
       (is_other_singleton (lower_singleton b) ≡ true → ⊥) → IsShortBlock T b
   short_block b own none = record {
-    unicode = λ s. subst IsShortUnicode (sym h.spelled.unicode.1 ∙ at 117 s)
+    unicode = λ s. subst IsShortUnicode (sym h.spelled.unicode.1 ∙ at code_u s)
         (short_unicode h.extensions.unicode h.spelled.unicode.0 h.attributes h.keywords h.values);
-    transform = λ s. subst (IsShortTransform T) (sym h.spelled.transform.1 ∙ at 116 s)
+    transform = λ s. subst (IsShortTransform T) (sym h.spelled.transform.1 ∙ at code_t s)
         (short_transform table h.extensions.transform.id h.spelled.transform.0.id h.transform_variants
         h.extensions.transform.fields h.no_fields);
     private = λ s.
-        few b.1 (subst (λ (l : List (List ℕ)). length l ≤ 4) (sym h.spelled.private.1 ∙ at 120 s) h.private);
+        few b.1 (subst (λ (l : List Text). length l ≤ 4) (sym h.spelled.private.1 ∙ at code_x s) h.private);
     other = λ o. absurd (none o);
   }
     where
       at : (q : ℕ) → lower_singleton b ≡ q → after q (tail_blocks (pieces t)) ≡ b.1
       at q s = ap (λ q. after q (tail_blocks (pieces t))) (sym s) ∙ own
 
-      few : (ps : List (List ℕ)) → length ps ≤ 4 → length (passing (is_word PrivateSubtag) ps) ≤ 4
+      few : (ps : List Text) → length ps ≤ 4 → length (passing (is_word PrivateSubtag) ps) ≤ 4
       few ps k = omega (arith, k, passing_short (is_word PrivateSubtag) ps)
 
-  all_blocks : (bs : List (ℕ × List (List ℕ))) →
+  all_blocks : (bs : List Block) →
       AllByRecursion (λ b. after (lower_singleton b) (tail_blocks (pieces t)) ≡ b.1) bs →
       AllByRecursion (λ b. is_other_singleton (lower_singleton b) ≡ true → ⊥) bs →
       AllByRecursion (IsShortBlock T) bs
@@ -178,7 +179,7 @@ module _ (T : ℕ → Bool) (table : AreLengths T) (t : List ℕ) (h : IsInline 
       few_variants i g.different (subst (λ (j : Identifier). length j.variants ≤ 4)
       (h.means.means ∙ ap normal_identifier same) h.variants)
 
-pub inline_by_blocks : (T : ℕ → Bool) → AreLengths T → (t : List ℕ) → IsInline T t → IsInlineByBlocks T t
+pub inline_by_blocks : (T : LanguageLengths) → AreLengths T → (t : Text) → IsInline T t → IsInlineByBlocks T t
 inline_by_blocks T table t h =
     let bs = tail_blocks (pieces t) in record {
       variants = identifier_few T table t h;
@@ -187,12 +188,12 @@ inline_by_blocks T table t h =
     }
 
 -- no long block is reached where all are short
-pub none_long : {T : ℕ → Bool} {bs : List (ℕ × List (List ℕ))} → ReachesLongBlock T bs →
+pub none_long : {T : ℕ → Bool} {bs : List Block} → ReachesLongBlock T bs →
     AllByRecursion (IsShortBlock T) bs → ⊥
 none_long {T = T} (good, rest, c, ps, e, blocks, l, n, x) h =
     x (at good (subst (AllByRecursion (IsShortBlock T)) e h))
   where
-    at : (good : List (ℕ × List (List ℕ))) → AllByRecursion (IsShortBlock T) (good ++ ((c, ps) ∷ rest)) →
+    at : (good : List Block) → AllByRecursion (IsShortBlock T) (good ++ ((c, ps) ∷ rest)) →
         IsShortBlock T (c, ps)
     at [] h = h.0
     at (d ∷ ds) h = at ds h.1

@@ -7,7 +7,8 @@ use Rattle.std.specs.Cmp.{nat_cmp_total}
 use Rattle.std.specs.Ordering.{nat_cmp}
 use Rattle.std.proofs.lemmas.Bool.{eqb-true, leb-true, le-leb, false_from_ne_true}
 use Rattle.std.proofs.lemmas.List.{length-map}
-use Rattle.iloc_spec_grammar.specs.Syntax.{pieces, lower, SpelledIdentifier, SpelledUnicode, Fields}
+use Rattle.iloc_spec_grammar.specs.Syntax.{LanguageLengths, Field, Block, code_x, code_u, Text, pieces, lower}
+use Rattle.iloc_spec_grammar.specs.Syntax.{SpelledIdentifier, SpelledUnicode, Fields}
 use Rattle.iloc_spec_grammar.specs.Syntax.{unicode_pieces, IsUnicode, kept, AllDifferent, AreLengths, head}
 use Rattle.iloc_spec_grammar.specs.Syntax.{tail_blocks, lower_singleton, IsPrivate}
 use Rattle.iloc_spec_grammar.specs.Tree.{Extension, unicode, transform, other, Written, IsWritten}
@@ -57,7 +58,7 @@ unmapped : (o : Option SpelledIdentifier) →
 unmapped None h = tt
 unmapped (Some i) h = h
 
-pub inline_has_few : {T : ℕ → Bool} (t : List ℕ) (h : IsInline T t) →
+pub inline_has_few : {T : ℕ → Bool} (t : Text) (h : IsInline T t) →
     HasFewWords (record { id = h.id; extensions = normal_extensions h.extensions })
 inline_has_few t h = record {
   variants = h.variants;
@@ -66,12 +67,12 @@ inline_has_few t h = record {
   transform_variants = mapped h.extensions.transform.id h.transform_variants;
   no_fields = ap normal_fields h.no_fields;
   private = subst (λ (n : ℕ). n ≤ 4) (sym (length-map h.extensions.private lower)) h.private;
-  no_others = subst (λ (os : List (ℕ × List (List ℕ))).
+  no_others = subst (λ (os : List Block).
       (normal_extensions (record h.extensions { others = os })).others ≡ [])
       (sym h.no_others) refl;
 }
 
-pub inline_of_few : {T : ℕ → Bool} (t : List ℕ) (M : Locale) (e : SpelledExtensions) →
+pub inline_of_few : {T : ℕ → Bool} (t : Text) (M : Locale) (e : SpelledExtensions) →
     IdentifierMeans T (head (pieces t)) M.id → SpellsExtensions T (tail_blocks (pieces t)) e →
     M.extensions ≡ normal_extensions e → HasFewWords M → HaveFewValues e.unicode.keywords → IsInline T t
 inline_of_few t M e i s p h v = record {
@@ -89,13 +90,13 @@ inline_of_few t M e i s p h v = record {
       no_normal_fields e.transform.fields (sym (ap (λ (n : Extensions). n.transform.fields) p) ∙ h.no_fields);
   private = subst (λ (n : ℕ). n ≤ 4) (length-map e.private lower)
       (subst (λ (n : Extensions). length n.private ≤ 4) p h.private);
-  no_others = none_mapped (λ (o : ℕ × List (List ℕ)). (o.0, kept o.1)) e.others
+  no_others = none_mapped (λ (o : Block). (o.0, kept o.1)) e.others
       (none_there nat_cmp nat_cmp_total _ (sym (ap (λ (n : Extensions). n.others) p) ∙ h.no_others));
 }
 
 -- a small text is inline
 
-pub small_is_inline : {T : ℕ → Bool} (t : List ℕ) (r : SmallLocale) → IsSmall T t r → IsInline T t
+pub small_is_inline : {T : ℕ → Bool} (t : Text) (r : SmallLocale) → IsSmall T t r → IsInline T t
 small_is_inline t r h = record {
   id = identifier_of_small r.id;
   extensions = h.written;
@@ -113,22 +114,22 @@ small_is_inline t r h = record {
       no_normal_fields h.written.transform.fields (sym (ap (λ (e : Extensions). e.transform.fields) h.means));
   private = subst (λ (n : ℕ). n ≤ 4) (length-map h.written.private lower)
       (subst (λ (e : Extensions). length e.private ≤ 4) h.means (omega arith));
-  no_others = none_mapped (λ (o : ℕ × List (List ℕ)). (o.0, kept o.1)) h.written.others
+  no_others = none_mapped (λ (o : Block). (o.0, kept o.1)) h.written.others
       (none_there nat_cmp nat_cmp_total _ (sym (ap (λ (e : Extensions). e.others) h.means)));
 }
   where
-    few : (fs : Fields) → length fs ≤ 1 → (o : Option (List ℕ × Option (List ℕ))) →
+    few : (fs : Fields) → length fs ≤ 1 → (o : Option (Text × Option Text)) →
         option_to_list (option_map keyword_of_small o) ≡ normal_fields fs → HaveFewValues fs
     few [] l o e = tt
     few (f ∷ []) l None e = absurd (cc)
     few (f ∷ []) l (Some q) e =
         let both : keyword_of_small q ≡ (lower f.0, normal_values f.1) = cc in
-        let same = ap (λ (e : List ℕ × List (List ℕ)). length e.1) both in
+        let same = ap (λ (e : Field). length e.1) both in
         let one = one_at_most q.1 in
         (omega (arith, same, one), tt)
     few (f ∷ g ∷ fs) l o e = absurd (omega arith)
 
-pub inline_means : {T : ℕ → Bool} (t : List ℕ) → IsInline T t → (M : Locale) × Means T t M
+pub inline_means : {T : ℕ → Bool} (t : Text) → IsInline T t → (M : Locale) × Means T t M
 inline_means t h = (
   record { id = h.id; extensions = normal_extensions h.extensions },
   record { id = h.means; extensions = (h.extensions, h.spelled, refl) },
@@ -143,7 +144,7 @@ HasFewValues _ = Unit {0}
 
 -- The text is a locale with few words: no transform fields, no other extensions, one keyword at
 -- most.
-pub record IsTreeInline (T : ℕ → Bool) (t : List ℕ) : Type 0 where
+pub record IsTreeInline (T : LanguageLengths) (t : Text) : Type 0 where
   pub written : Written
   pub grammatical : IsWritten T written
   pub spelled : pieces t ≡ spelling written
@@ -151,7 +152,7 @@ pub record IsTreeInline (T : ℕ → Bool) (t : List ℕ) : Type 0 where
   pub values : AllByRecursion (λ e. HasFewValues e.1) written.extensions
 
 -- what stands after a singleton is nothing, or what stands after it in some block
-after_holds : (P : List (List ℕ) → Type 0) (q : ℕ) (bs : List (ℕ × List (List ℕ))) →
+after_holds : (P : List Text → Type 0) (q : ℕ) (bs : List Block) →
     AllDifferent nat_cmp (map (λ b. lower_singleton b) bs) → P [] →
     AllByRecursion (λ b. lower_singleton b ≡ q → P b.1) bs → P (after q bs)
 after_holds P q [] d n h = n
@@ -207,14 +208,14 @@ module _ {T : ℕ → Bool} (w : Written) (g : IsWritten T w) (e : SpelledExtens
       each [] k own = tt
       each (x ∷ es) k own = (at x.0 x.1 k.0 own.0, each es k.1 own.1)
 
-  abbrev IsFewSpelled : List (List ℕ) → Type 0
+  abbrev IsFewSpelled : List Text → Type 0
   IsFewSpelled ps = (u : SpelledUnicode) → IsUnicode u → ps ≡ unicode_pieces u → HaveFewValues u.keywords
 
   few_in_parts : AllByRecursion (λ x. HasFewValues x.1) w.extensions → HaveFewValues e.unicode.keywords
-  few_in_parts h = after_holds IsFewSpelled 117 (blocks_of w) s.different none
-      (all_append (λ b. lower_singleton b ≡ 117 → IsFewSpelled b.1) (map extension_block w.extensions)
+  few_in_parts h = after_holds IsFewSpelled code_u (blocks_of w) s.different none
+      (all_append (λ b. lower_singleton b ≡ code_u → IsFewSpelled b.1) (map extension_block w.extensions)
       (option_to_list w.private)
-      (all_mapped extension_block (λ b. lower_singleton b ≡ 117 → IsFewSpelled b.1) w.extensions
+      (all_mapped extension_block (λ b. lower_singleton b ≡ code_u → IsFewSpelled b.1) w.extensions
       (each w.extensions g.extensions h)) (of_private w.private g.private))
       e.unicode s.unicode.0 s.unicode.1
     where
@@ -224,7 +225,7 @@ module _ {T : ℕ → Bool} (w : Written) (g : IsWritten T w) (e : SpelledExtens
           (record { attributes = tt; keywords = tt }) g k)) tt
 
       at : (c : ℕ) (x : Extension) → IsExtension T (lower_singleton (c, x)) x → HasFewValues x →
-          lower_singleton (c, x) ≡ 117 → IsFewSpelled (extension_pieces x)
+          lower_singleton (c, x) ≡ code_u → IsFewSpelled (extension_pieces x)
       at c (unicode v) k few q = λ u g p. subst HaveFewValues
           (same_keywords u v g (record { attributes = k.1.attributes; keywords = k.1.keywords }) (sym p)) few
       at c (transform m) k few q = absurd (omega (arith, k.0, q))
@@ -232,17 +233,17 @@ module _ {T : ℕ → Bool} (w : Written) (g : IsWritten T w) (e : SpelledExtens
 
       each : (es : List (ℕ × Extension)) → AllByRecursion (λ x. IsExtension T (lower_singleton x) x.1) es →
           AllByRecursion (λ x. HasFewValues x.1) es →
-          AllByRecursion (λ x. lower_singleton x ≡ 117 → IsFewSpelled (extension_pieces x.1)) es
+          AllByRecursion (λ x. lower_singleton x ≡ code_u → IsFewSpelled (extension_pieces x.1)) es
       each [] k few = tt
       each (x ∷ es) k few = (at x.0 x.1 k.0 few.0, each es k.1 few.1)
 
-      of_private : (x : Option (ℕ × List (List ℕ))) →
-          IfSome x (λ b. (lower_singleton b ≡ 120) × IsPrivate b.1) →
-          AllByRecursion (λ b. lower_singleton b ≡ 117 → IsFewSpelled b.1) (option_to_list x)
+      of_private : (x : Option Block) →
+          IfSome x (λ b. (lower_singleton b ≡ code_x) × IsPrivate b.1) →
+          AllByRecursion (λ b. lower_singleton b ≡ code_u → IsFewSpelled b.1) (option_to_list x)
       of_private None k = tt
       of_private (Some b) k = ((λ q. absurd (omega (arith, k.0, q))), tt)
 
-pub inline_is_tree : {T : ℕ → Bool} → AreLengths T → (t : List ℕ) → IsInline T t → IsTreeInline T t
+pub inline_is_tree : {T : ℕ → Bool} → AreLengths T → (t : Text) → IsInline T t → IsTreeInline T t
 unfolding inline_means
 inline_is_tree {T = T} table t h =
     let m = tree_means t (inline_means t h).0 (inline_means t h).1 in
@@ -257,7 +258,7 @@ inline_is_tree {T = T} table t h =
           (subst (λ bs. SpellsExtensions T bs h.extensions) bs h.spelled) h.values;
     }
 
-pub tree_is_inline : {T : ℕ → Bool} → AreLengths T → (t : List ℕ) → IsTreeInline T t → IsInline T t
+pub tree_is_inline : {T : ℕ → Bool} → AreLengths T → (t : Text) → IsTreeInline T t → IsInline T t
 tree_is_inline {T = T} table t h =
     let m = means_by_tree table t (meaning h.written)
     (record { written = h.written; grammatical = h.grammatical; spelled = h.spelled; means = refl }) in
@@ -302,7 +303,7 @@ tests_few w M = tests_and
     M.extensions.transform.id) (tests_empty M.extensions.transform.fields))
     (tests_and (tests_at_most _ 4) (tests_empty M.extensions.others)))
 
-tree_passes : {T : ℕ → Bool} → AreLengths T → (t : List ℕ) → IsTreeInline T t → is_inline T t ≡ true
+tree_passes : {T : ℕ → Bool} → AreLengths T → (t : Text) → IsTreeInline T t → is_inline T t ≡ true
 unfolding is_inline
 tree_passes {T = T} table t h =
     let few = h.few in
@@ -317,7 +318,7 @@ tree_passes {T = T} table t h =
       ((few.transform_variants, few.no_fields), (few.private, few.no_others)),
     ))
 
-few_is_tree : {T : ℕ → Bool} → AreLengths T → (t : List ℕ) (r : Result Locale Fault) → locale_result T t ≡ r →
+few_is_tree : {T : ℕ → Bool} → AreLengths T → (t : Text) (r : Result Locale Fault) → locale_result T t ≡ r →
     few_where_read (written_of (pieces t)) r ≡ true → IsTreeInline T t
 few_is_tree table t (Err f) e h = absurd (true≢false (sym h))
 few_is_tree {T = T} table t (Ok M) e h =
@@ -342,7 +343,7 @@ few_is_tree {T = T} table t (Ok M) e h =
       values = few.0.1.1;
     }
 
-pub inline_answer : (T : ℕ → Bool) → AreLengths T → (t : List ℕ) → (is_inline T t ≡ true) ↔ IsInline T t
+pub inline_answer : (T : LanguageLengths) → AreLengths T → (t : Text) → (is_inline T t ≡ true) ↔ IsInline T t
 unfolding is_inline
 inline_answer T table t = (
   λ h. tree_is_inline table t (few_is_tree table t (locale_result T t) refl h),

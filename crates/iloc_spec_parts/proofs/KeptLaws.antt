@@ -2,7 +2,8 @@
 use Rattle.std.proofs.Common.{◌≡◌, ℕ, suc, ◌≤◌, Bool, true, false, cond, List, [], ◌∷◌, ◌++◌, length, refl}
 use Rattle.std.proofs.Common.{sym, ap, ◌∙◌, subst, arith, true≢false}
 use Rattle.std.specs.List.{AllByRecursion}
-use Rattle.iloc_spec_grammar.specs.Syntax.{UnicodeKey, TransformKey, Attribute, is_word, IsWord, Fields}
+use Rattle.iloc_spec_grammar.specs.Syntax.{Field, Text, UnicodeKey, TransformKey, Attribute, is_word, IsWord}
+use Rattle.iloc_spec_grammar.specs.Syntax.{Fields}
 use Rattle.iloc_spec_grammar.specs.Syntax.{IsKeyword, is_one_byte, first_piece, front}
 use Rattle.iloc_spec_grammar.specs.Reading.{passing, rest_of}
 use Rattle.iloc_spec_parts.specs.Fronts.{is_field_piece, fields_front, BeginsField, has_other_length}
@@ -11,7 +12,7 @@ use Rattle.iloc_spec_parts.proofs.TransformLaws.{no_key_empty}
 
 -- keywords
 
-abbrev pub HasKey : List ℕ × List (List ℕ) → Type 0
+abbrev pub HasKey : Field → Type 0
 HasKey f = IsWord UnicodeKey f.0
 
 pub kept_append : (fs gs : Fields) → AllByRecursion HasKey fs →
@@ -26,7 +27,7 @@ kept_all (f ∷ fs) h = ap (λ b. cond b (f ∷ before_bad_key fs) []) h.0.0 ∙
 
 -- the longest front
 
-pub passing_short : (test : List ℕ → Bool) (ps : List (List ℕ)) → length (passing test ps) ≤ length ps
+pub passing_short : (test : Text → Bool) (ps : List Text) → length (passing test ps) ≤ length ps
 passing_short test [] = omega arith
 passing_short test (p ∷ ps) = let h = passing_short test ps in at (test p) h
   where
@@ -35,7 +36,7 @@ passing_short test (p ∷ ps) = let h = passing_short test ps in at (test p) h
     at true h = omega (arith, h)
     at false h = omega (arith, h)
 
-passing_first : (test : List ℕ → Bool) (ps : List (List ℕ)) (q : List ℕ) (qs : List (List ℕ)) →
+passing_first : (test : Text → Bool) (ps : List Text) (q : Text) (qs : List Text) →
     passing test ps ≡ q ∷ qs → (first_piece ps ≡ q) × (passing test (rest_of ps) ≡ qs)
 passing_first test [] q qs e = absurd (cc)
 passing_first test (p ∷ ps) q qs e = at (test p) e
@@ -46,7 +47,7 @@ passing_first test (p ∷ ps) q qs e = at (test p) e
 
 -- fields
 
-front_is : (ps : List (List ℕ)) (q : List ℕ) (qs : List (List ℕ)) → fields_front ps ≡ q ∷ qs →
+front_is : (ps : List Text) (q : Text) (qs : List Text) → fields_front ps ≡ q ∷ qs →
     passing is_field_piece ps ≡ q ∷ qs
 front_is ps q qs e = at (is_word TransformKey (first_piece ps)) e
   where
@@ -55,7 +56,7 @@ front_is ps q qs e = at (is_word TransformKey (first_piece ps)) e
     at false e = absurd (cc)
 
 -- where the fields at the front begin with a key and a value, so do the pieces
-pub begins_field : (ps : List (List ℕ)) (k v : List ℕ) (more : List (List ℕ)) →
+pub begins_field : (ps : List Text) (k v : Text) (more : List Text) →
     fields_front ps ≡ k ∷ v ∷ more → IsWord TransformKey k → IsWord Attribute v → BeginsField ps
 begins_field ps k v more e key value =
     let first = passing_first is_field_piece ps k (v ∷ more) (front_is ps k (v ∷ more) e) in
@@ -63,7 +64,7 @@ begins_field ps k v more e key value =
     (subst (IsWord TransformKey) (sym first.0) key, subst (IsWord Attribute) (sym second.0) value)
 
 -- and then they are some
-pub some_fields : (ps : List (List ℕ)) → BeginsField ps → fields_front ps ≡ [] → ⊥
+pub some_fields : (ps : List Text) → BeginsField ps → fields_front ps ≡ [] → ⊥
 some_fields [] h e = true≢false (sym h.0 ∙ no_key_empty)
 some_fields (p ∷ ps) h e = absurd (nothing (rw h.0 at e))
   where
@@ -72,11 +73,11 @@ some_fields (p ∷ ps) h e = absurd (nothing (rw h.0 at e))
 
 -- other extensions
 
-one_byte_ends : (p : List ℕ) → is_one_byte p ≡ true → has_other_length p ≡ false
+one_byte_ends : (p : Text) → is_one_byte p ≡ true → has_other_length p ≡ false
 one_byte_ends p h = grind arith
 
 -- a front that ends before a piece of one byte stands in the block
-pub other_front-front : (ps : List (List ℕ)) → other_front (front ps) ≡ other_front ps
+pub other_front-front : (ps : List Text) → other_front (front ps) ≡ other_front ps
 other_front-front [] = refl
 other_front-front (p ∷ ps) = at (is_one_byte p) refl (other_front-front ps)
   where

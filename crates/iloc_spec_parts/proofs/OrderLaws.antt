@@ -9,7 +9,7 @@ use Rattle.std.specs.Cmp.{IsTotalOrder, nat_cmp_total, bool_cmp_total, on_total,
 use Rattle.std.specs.Cmp.Lexicographic.{slice_cmp, lists_total, options_total}
 use Rattle.std.specs.FinMap.{IsAntisymmetric, nat_cmp-IsAntisymmetric, slice_cmp-IsAntisymmetric}
 use Rattle.std.proofs.lemmas.Map.Lookups.{exact_pairs}
-use Rattle.iloc_spec_grammar.specs.Syntax.{word_cmp, Identifier, Fields, Unicode, Transform}
+use Rattle.iloc_spec_grammar.specs.Syntax.{Block, Text, word_cmp, Identifier, Fields, Unicode, Transform}
 use Rattle.iloc_spec_grammar.specs.Meaning.{Extensions}
 use Rattle.iloc_spec_parts.specs.Orders.{IsExactOrder, pair_cmp, words_cmp, identifier_cmp, keywords_cmp}
 use Rattle.iloc_spec_parts.specs.Orders.{fields_cmp, unicode_cmp, transform_cmp, other_cmp, extensions_cmp}
@@ -74,7 +74,7 @@ pub words_exact : IsExactOrder words_cmp
 words_exact = short_exact word_exact
 
 pub identifier_exact : IsExactOrder identifier_cmp
-identifier_exact = on_exact {Y = List ℕ × (Option (List ℕ) × (Option (List ℕ) × List (List ℕ)))}
+identifier_exact = on_exact {Y = Text × (Option Text × (Option Text × List Text))}
     (λ i. (i.language, (i.script, (i.region, i.variants))))
     (λ p. record { language = p.0; script = p.1.0; region = p.1.1.0; variants = p.1.1.1 })
     (λ i. refl)
@@ -88,7 +88,7 @@ pub keywords_exact : IsExactOrder keywords_cmp
 keywords_exact = short_exact (pair_exact word_exact words_exact)
 
 pub unicode_exact : IsExactOrder unicode_cmp
-unicode_exact = on_exact {Y = List (List ℕ) × Fields} (λ u. (u.attributes, u.keywords))
+unicode_exact = on_exact {Y = List Text × Fields} (λ u. (u.attributes, u.keywords))
     (λ p. record { attributes = p.0; keywords = p.1 }) (λ u. refl) (pair_exact words_exact keywords_exact)
 
 pub transform_exact : IsExactOrder transform_cmp
@@ -100,7 +100,7 @@ pub other_exact : IsExactOrder other_cmp
 other_exact = pair_exact number_exact words_exact
 
 pub extensions_exact : IsExactOrder extensions_cmp
-extensions_exact = on_exact {Y = Unicode × (Transform × (List (List ℕ) × List (ℕ × List (List ℕ))))}
+extensions_exact = on_exact {Y = Unicode × (Transform × (List Text × List Block))}
     (λ e. (e.unicode, (e.transform, (e.private, e.others))))
     (λ p. record { unicode = p.0; transform = p.1.0; private = p.1.1.0; others = p.1.1.1 })
     (λ e. refl)

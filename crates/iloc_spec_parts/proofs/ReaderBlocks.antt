@@ -6,7 +6,8 @@ use Rattle.std.specs.Char.{to_ascii_lowercase}
 use Rattle.std.specs.Ordering.{nat_cmp, eq_by_cmp}
 use Rattle.std.specs.FinMap.{find}
 use Rattle.std.proofs.lemmas.Bool.{cond_both, eqb-true}
-use Rattle.iloc_spec_grammar.specs.Syntax.{pieces, AreLengths, Unicode, Transform, kept, is_other_singleton}
+use Rattle.iloc_spec_grammar.specs.Syntax.{LanguageLengths, Block, code_x, code_u, code_t, Text, pieces}
+use Rattle.iloc_spec_grammar.specs.Syntax.{AreLengths, Unicode, Transform, kept, is_other_singleton}
 use Rattle.iloc_spec_grammar.specs.Syntax.{lower_singleton, is_one_byte, front, blocks, tail_blocks}
 use Rattle.iloc_spec_grammar.specs.Meaning.{Locale, Extensions, Means, no_unicode, no_transform, Fault}
 use Rattle.iloc_spec_grammar.specs.Tree.{by_singleton}
@@ -24,11 +25,11 @@ use Rattle.iloc_spec_grammar.proofs.Singletons.{no_x, tied}
 
 -- what follows the singleton of a block other than that of `x` has no piece of one byte
 
-pub record IsClosed (ps : List (List ℕ)) : Type 0 where
+pub record IsClosed (ps : List Text) : Type 0 where
   pub whole : front ps ≡ ps
   pub ended : from_block ps ≡ []
 
-closed_front : (ps : List (List ℕ)) → IsClosed (front ps)
+closed_front : (ps : List Text) → IsClosed (front ps)
 closed_front [] = record { whole = refl; ended = refl }
 closed_front (p ∷ ps) =
     cond_both (is_one_byte p) _ _ IsClosed (λ e. record { whole = refl; ended = refl }) (λ e. record {
@@ -36,32 +37,32 @@ closed_front (p ∷ ps) =
       ended = ap (λ b. cond b (p ∷ front ps) (from_block (front ps))) e ∙ (closed_front ps).ended;
     })
 
-abbrev IsXOrClosed : ℕ × List (List ℕ) → Type 0
-IsXOrClosed b = (lower_singleton b ≡ 120) ⊎ IsClosed b.1
+abbrev IsXOrClosed : Block → Type 0
+IsXOrClosed b = (lower_singleton b ≡ code_x) ⊎ IsClosed b.1
 
-blocks_closed : (ps : List (List ℕ)) → AllByRecursion IsXOrClosed (blocks ps)
+blocks_closed : (ps : List Text) → AllByRecursion IsXOrClosed (blocks ps)
 blocks_closed [] = tt
 blocks_closed ([] ∷ ps) = blocks_closed ps
-blocks_closed ((c ∷ []) ∷ ps) = cond_both (to_ascii_lowercase c == 120) _ _ (AllByRecursion IsXOrClosed)
+blocks_closed ((c ∷ []) ∷ ps) = cond_both (to_ascii_lowercase c == code_x) _ _ (AllByRecursion IsXOrClosed)
     (λ e. (inl (eqb-true _ _ e), tt)) (λ e. (inr (closed_front ps), blocks_closed ps))
 blocks_closed ((c ∷ d ∷ p) ∷ ps) = blocks_closed ps
 
-tail_closed : (ps : List (List ℕ)) → AllByRecursion IsXOrClosed (tail_blocks ps)
+tail_closed : (ps : List Text) → AllByRecursion IsXOrClosed (tail_blocks ps)
 tail_closed [] = tt
 tail_closed (p ∷ ps) = blocks_closed ps
 
-closed_of : (q : ℕ) → q ≢ 120 → (c : ℕ) (ps : List (List ℕ)) → c ≡ q → (c ≡ 120) ⊎ IsClosed ps → IsClosed ps
+closed_of : (q : ℕ) → q ≢ code_x → (c : ℕ) (ps : List Text) → c ≡ q → (c ≡ code_x) ⊎ IsClosed ps → IsClosed ps
 closed_of q n c ps e (inl x) = absurd (n (sym e ∙ x))
 closed_of q n c ps e (inr h) = h
 
-found_closed : (q : ℕ) → q ≢ 120 → (bs : List (ℕ × List (List ℕ))) → AllByRecursion IsXOrClosed bs →
+found_closed : (q : ℕ) → q ≢ code_x → (bs : List Block) → AllByRecursion IsXOrClosed bs →
     IfSome (find nat_cmp q (by_singleton bs)) IsClosed
 found_closed q n [] h = tt
 found_closed q n (b ∷ bs) h = cond_both (eq_by_cmp nat_cmp q (lower_singleton b)) _ _ (λ o. IfSome o IsClosed)
     (λ e. closed_of q n (lower_singleton b) b.1 (tied q (lower_singleton b) e) h.0)
     (λ e. found_closed q n bs h.1)
 
-others_closed : (bs : List (ℕ × List (List ℕ))) → AllByRecursion IsXOrClosed bs →
+others_closed : (bs : List Block) → AllByRecursion IsXOrClosed bs →
     AllByRecursion (λ b. IsClosed b.1) (other_blocks (by_singleton bs))
 others_closed [] h = tt
 others_closed (b ∷ bs) h =
@@ -74,27 +75,27 @@ others_closed (b ∷ bs) h =
 
 -- a reader that agrees with the rule of its blocks
 
-module _ {X : Type 0} (R : List (List ℕ) → X → List (List ℕ) → Type 0) (F : List (List ℕ) → Fault → Type 0)
-    (B : List (List ℕ) → X → Type 0) (a : AgreesWithBlocks R F B) (ps : List (List ℕ)) (v : X)
+module _ {X : Type 0} (R : List Text → X → List Text → Type 0) (F : List Text → Fault → Type 0)
+    (B : List Text → X → Type 0) (a : AgreesWithBlocks R F B) (ps : List Text) (v : X)
     (c : IsClosed ps) where
   pub block_read : B ps v → R ps v []
   block_read h =
-      subst (R ps v) c.ended (a.block ps v (subst (λ (qs : List (List ℕ)). B qs v) (sym c.whole) h))
+      subst (R ps v) c.ended (a.block ps v (subst (λ (qs : List Text). B qs v) (sym c.whole) h))
 
   pub read_block : R ps v [] → B ps v
-  read_block h = subst (λ (qs : List (List ℕ)). B qs v) c.whole (a.whole ps v [] h refl).0
+  read_block h = subst (λ (qs : List Text). B qs v) c.whole (a.whole ps v [] h refl).0
 
 -- rules by which the blocks of another give the same
 
 pub record Carries (R S : Rules) : Type 0 where
-  pub unicode : (ps : List (List ℕ)) (v : Unicode) → IsClosed ps → R.unicode ps v → S.unicode ps v
-  pub transform : (ps : List (List ℕ)) (m : Transform) → IsClosed ps → R.transform ps m → S.transform ps m
-  pub private : (ps ws : List (List ℕ)) → R.private ps ws → S.private ps ws
-  pub other : (ps ws : List (List ℕ)) → IsClosed ps → R.other ps ws → S.other ps ws
+  pub unicode : (ps : List Text) (v : Unicode) → IsClosed ps → R.unicode ps v → S.unicode ps v
+  pub transform : (ps : List Text) (m : Transform) → IsClosed ps → R.transform ps m → S.transform ps m
+  pub private : (ps ws : List Text) → R.private ps ws → S.private ps ws
+  pub other : (ps ws : List Text) → IsClosed ps → R.other ps ws → S.other ps ws
 
-part_carried : {X : Type 0} (o : Option (List (List ℕ))) (C : List (List ℕ) → Type 0)
-    (R S : List (List ℕ) → X → Type 0) →
-    ((ps : List (List ℕ)) (v : X) → C ps → R ps v → S ps v) → (empty v : X) → IfSome o C →
+part_carried : {X : Type 0} (o : Option (List Text)) (C : List Text → Type 0)
+    (R S : List Text → X → Type 0) →
+    ((ps : List Text) (v : X) → C ps → R ps v → S ps v) → (empty v : X) → IfSome o C →
     PartIs R empty o v → PartIs S empty o v
 part_carried None C R S f empty v h m = m
 part_carried (Some ps) C R S f empty v h m = f ps v h m
@@ -103,15 +104,15 @@ any_some : {X : Type 0} (o : Option X) → IfSome o (λ _. Unit {0})
 any_some None = tt
 any_some (Some x) = tt
 
-carried : {R S : Rules} → Carries R S → (bs : List (ℕ × List (List ℕ))) (e : Extensions) →
+carried : {R S : Rules} → Carries R S → (bs : List Block) (e : Extensions) →
     AllByRecursion IsXOrClosed bs → BlocksGive R bs e → BlocksGive S bs e
 carried {R = R} {S = S} c bs e closed m = record {
   letters = m.letters;
   different = m.different;
   unicode = part_carried _ IsClosed R.unicode S.unicode c.unicode no_unicode e.unicode
-      (found_closed 117 (λ e. absurd (omega arith)) bs closed) m.unicode;
+      (found_closed code_u (λ e. absurd (omega arith)) bs closed) m.unicode;
   transform = part_carried _ IsClosed R.transform S.transform c.transform no_transform e.transform
-      (found_closed 116 (λ e. absurd (omega arith)) bs closed) m.transform;
+      (found_closed code_t (λ e. absurd (omega arith)) bs closed) m.transform;
   private = part_carried _ (λ _. Unit {0}) R.private S.private (λ ps ws _. c.private ps ws) [] e.private
       (any_some _) m.private;
   each_other = all_weaker (λ b. IsClosed b.1 × R.other b.1 (kept b.1)) (λ b. S.other b.1 (kept b.1))
@@ -120,7 +121,7 @@ carried {R = R} {S = S} c bs e closed m = record {
   others = m.others;
 }
 
-module _ (T : ℕ → Bool) (table : AreLengths T) where
+module _ (T : LanguageLengths) (table : AreLengths T) where
   read_by_grammar : Carries (grammar_rules T) (reading_rules T)
   read_by_grammar = record {
     unicode = λ ps v c. block_read UnicodeRead _ UnicodeMeans unicode_agrees ps v c;
@@ -138,13 +139,13 @@ module _ (T : ℕ → Bool) (table : AreLengths T) where
     other = λ ps ws c. read_block OtherRead _ OtherMeans other_agrees ps ws c;
   }
 
-  all_carried : {R S : Rules} → Carries R S → (t : List ℕ) (M : Locale) → MeansBy R T t M → MeansBy S T t M
+  all_carried : {R S : Rules} → Carries R S → (t : Text) (M : Locale) → MeansBy R T t M → MeansBy S T t M
   all_carried c t M m = record {
     id = m.id;
     extensions = carried c (tail_blocks (pieces t)) M.extensions (tail_closed (pieces t)) m.extensions;
   }
 
-  pub by_readers : (t : List ℕ) (M : Locale) → Means T t M ↔ MeansByReaders T t M
+  pub by_readers : (t : Text) (M : Locale) → Means T t M ↔ MeansByReaders T t M
   by_readers t M = (
     λ m. all_carried read_by_grammar t M (means_by_blocks t M m),
     λ m. blocks_mean t M (all_carried grammar_by_reading t M m),

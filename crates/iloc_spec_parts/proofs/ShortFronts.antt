@@ -6,7 +6,8 @@ use Rattle.std.specs.List.{AllByRecursion, list_any}
 use Rattle.std.specs.Ordering.{nat_cmp, eq_by_cmp}
 use Rattle.std.proofs.lemmas.Bool.{cond_both, false_from_ne_true, eqb-true, or_parts, both_ways, or_from}
 use Rattle.std.proofs.lemmas.Bool.Decides.{nat_tests}
-use Rattle.iloc_spec_grammar.specs.Syntax.{Kind, Language, Script, Region, Variant, Attribute, is_word}
+use Rattle.iloc_spec_grammar.specs.Syntax.{LanguageLengths, Block, Text, Kind, Language, Script, Region}
+use Rattle.iloc_spec_grammar.specs.Syntax.{Variant, Attribute, is_word}
 use Rattle.iloc_spec_grammar.specs.Syntax.{IsWord, AreLengths, lower, word_cmp, SpelledIdentifier, Fields}
 use Rattle.iloc_spec_grammar.specs.Syntax.{lower_singleton, first_piece}
 use Rattle.iloc_spec_grammar.specs.Tree.{HasSingleton, IsNew, IsBlock}
@@ -31,13 +32,13 @@ use Rattle.iloc_spec_parts.proofs.TransformLaws.{read_no_repeats, repeats_in_blo
 
 -- a front that ends before the rest
 
-passing_before : (test : List ℕ → Bool) (ps rest : List (List ℕ)) → EndsBefore test rest →
+passing_before : (test : Text → Bool) (ps rest : List Text) → EndsBefore test rest →
     passing test (ps ++ rest) ≡ passing test ps
 passing_before test [] [] s = refl
 passing_before test [] (q ∷ qs) s = rw s refl
 passing_before test (p ∷ ps) rest s = ap (λ l. cond (test p) (p ∷ l) []) (passing_before test ps rest s)
 
-past_before : (test : List ℕ → Bool) (ps rest : List (List ℕ)) → EndsBefore test rest →
+past_before : (test : Text → Bool) (ps rest : List Text) → EndsBefore test rest →
     past test (ps ++ rest) ≡ past test ps ++ rest
 past_before test [] [] s = refl
 past_before test [] (q ∷ qs) s = rw s refl
@@ -45,13 +46,13 @@ past_before test (p ∷ ps) rest s = elim (test p)
     as (λ b. cond b (past test (ps ++ rest)) (p ∷ (ps ++ rest)) ≡ cond b (past test ps) (p ∷ ps) ++ rest)
     [ true ↦ past_before test ps rest s | false ↦ refl ]
 
-take_before : (test : List ℕ → Bool) (ps rest : List (List ℕ)) → EndsBefore test rest →
+take_before : (test : Text → Bool) (ps rest : List Text) → EndsBefore test rest →
     take_first test (ps ++ rest) ≡ take_first test ps
 take_before test [] [] s = refl
 take_before test [] (q ∷ qs) s = rw s refl
 take_before test (p ∷ ps) rest s = refl
 
-skip_before : (test : List ℕ → Bool) (ps rest : List (List ℕ)) → EndsBefore test rest →
+skip_before : (test : Text → Bool) (ps rest : List Text) → EndsBefore test rest →
     skip_first test (ps ++ rest) ≡ skip_first test ps ++ rest
 skip_before test [] [] s = refl
 skip_before test [] (q ∷ qs) s = rw s refl
@@ -60,30 +61,30 @@ skip_before test (p ∷ ps) rest s =
     [ true ↦ refl | false ↦ refl ]
 
 -- no word of more than one byte begins what may follow a block
-long_ends : (k : Kind) → ((p : List ℕ) → IsWord k p → IsLong p) → (rest : List (List ℕ)) →
+long_ends : (k : Kind) → ((p : Text) → IsWord k p → IsLong p) → (rest : List Text) →
     starts_block rest ≡ true → EndsBefore (is_word k) rest
 long_ends k long [] s = tt
 long_ends k long (p ∷ ps) s = false_from_ne_true (is_word k p) (λ w. true≢false (sym s ∙ long p w))
 
 -- after `u`
 
-keywords_before : (ps rest : List (List ℕ)) → starts_block rest ≡ true →
+keywords_before : (ps rest : List Text) → starts_block rest ≡ true →
     keywords_front (ps ++ rest) ≡ keywords_front ps
 keywords_before [] [] s = refl
 keywords_before [] (q ∷ qs) s = rw (block_ends (q ∷ qs) s).two_bytes refl
 keywords_before (p ∷ ps) rest s = ap (λ l. cond (is_two p) l [])
     (passing_before is_keyword_piece (p ∷ ps) rest (block_ends rest s).keyword_piece)
 
-pub short_unicode_front : (ps rest : List (List ℕ)) → starts_block rest ≡ true →
+pub short_unicode_front : (ps rest : List Text) → starts_block rest ≡ true →
     IsShortUnicode ps ↔ IsShortUnicode (ps ++ rest)
 short_unicode_front ps rest s = (
   λ h. record {
-    attributes = subst (λ (l : List (List ℕ)). length l ≤ 4) (sym attributes) h.attributes;
+    attributes = subst (λ (l : List Text). length l ≤ 4) (sym attributes) h.attributes;
     keys = subst (λ (fs : Fields). length (normal_fields fs) ≤ 1) (sym keywords) h.keys;
     values = subst (AllByRecursion (λ f. length (normal_values f.1) ≤ 4)) (sym keywords) h.values;
   },
   λ h. record {
-    attributes = subst (λ (l : List (List ℕ)). length l ≤ 4) attributes h.attributes;
+    attributes = subst (λ (l : List Text). length l ≤ 4) attributes h.attributes;
     keys = subst (λ (fs : Fields). length (normal_fields fs) ≤ 1) keywords h.keys;
     values = subst (AllByRecursion (λ f. length (normal_values f.1) ≤ 4)) keywords h.values;
   },
@@ -100,51 +101,51 @@ short_unicode_front ps rest s = (
 -- after `t`
 
 -- the pieces after an identifier at the front
-abbrev pub after_identifier : (ℕ → Bool) → List (List ℕ) → List (List ℕ)
+abbrev pub after_identifier : (ℕ → Bool) → List Text → List Text
 after_identifier T ps = cond (is_word (Language T) (first_piece ps)) (after_front ps) ps
 
-region_before : (p : List ℕ) (ps rest : List (List ℕ)) → starts_block rest ≡ true →
+region_before : (p : Text) (ps rest : List Text) → starts_block rest ≡ true →
     after_region (p ∷ (ps ++ rest)) ≡ after_region (p ∷ ps) ++ rest
 region_before p ps rest s = ap (skip_first (is_word Region))
     (skip_before (is_word Script) ps rest (long_ends Script long_script rest s))
     ∙ skip_before (is_word Region) (after_script (p ∷ ps)) rest (long_ends Region long_region rest s)
 
-variants_before : (p : List ℕ) (ps rest : List (List ℕ)) → starts_block rest ≡ true →
+variants_before : (p : Text) (ps rest : List Text) → starts_block rest ≡ true →
     (front_of (p ∷ (ps ++ rest))).variants ≡ (front_of (p ∷ ps)).variants
 unfolding front_of
 variants_before p ps rest s = ap (passing (is_word Variant)) (region_before p ps rest s)
     ∙ passing_before (is_word Variant) (after_region (p ∷ ps)) rest (long_ends Variant long_variant rest s)
 
-after_before : (p : List ℕ) (ps rest : List (List ℕ)) → starts_block rest ≡ true →
+after_before : (p : Text) (ps rest : List Text) → starts_block rest ≡ true →
     after_front (p ∷ (ps ++ rest)) ≡ after_front (p ∷ ps) ++ rest
 unfolding after_front
 after_before p ps rest s = ap (past (is_word Variant)) (region_before p ps rest s)
     ∙ past_before (is_word Variant) (after_region (p ∷ ps)) rest (long_ends Variant long_variant rest s)
 
-no_first_key : (rest : List (List ℕ)) → starts_block rest ≡ true → BeginsField rest → ⊥
+no_first_key : (rest : List Text) → starts_block rest ≡ true → BeginsField rest → ⊥
 no_first_key [] s b = true≢false (sym b.0 ∙ no_key_empty)
 no_first_key (p ∷ ps) s b =
     let l = length-transform_key p b.0 in let one = eqb-true (length p) 1 s in absurd (omega arith)
 
-no_first_value : (rest : List (List ℕ)) → starts_block rest ≡ true → IsWord Attribute (first_piece rest) → ⊥
+no_first_value : (rest : List Text) → starts_block rest ≡ true → IsWord Attribute (first_piece rest) → ⊥
 no_first_value [] s w = true≢false (sym w ∙ not_attribute [] (omega arith))
 no_first_value (p ∷ ps) s w = true≢false (sym s ∙ long_attribute p w)
 
-begins_before : (ps rest : List (List ℕ)) → starts_block rest ≡ true →
+begins_before : (ps rest : List Text) → starts_block rest ≡ true →
     BeginsField ps ↔ BeginsField (ps ++ rest)
 begins_before [] rest s = (λ b. absurd (no_first_key [] refl b), λ b. absurd (no_first_key rest s b))
 begins_before (k ∷ []) rest s =
     (λ b. absurd (no_first_value [] refl b.1), λ b. absurd (no_first_value rest s b.1))
 begins_before (k ∷ v ∷ ps) rest s = (λ b. b, λ b. b)
 
-no_first_language : {T : ℕ → Bool} → AreLengths T → (rest : List (List ℕ)) → starts_block rest ≡ true →
+no_first_language : {T : ℕ → Bool} → AreLengths T → (rest : List Text) → starts_block rest ≡ true →
     is_word (Language T) (first_piece rest) ≡ false
 no_first_language table [] s = no_empty_language table
 no_first_language {T = T} table (p ∷ ps) s =
     false_from_ne_true _ (λ w. let l = table.least _ (length-language T p w) in
     let one = eqb-true (length p) 1 s in absurd (omega arith))
 
-pub none_first : {T : ℕ → Bool} → AreLengths T → (rest : List (List ℕ)) → starts_block rest ≡ true →
+pub none_first : {T : ℕ → Bool} → AreLengths T → (rest : List Text) → starts_block rest ≡ true →
     IsShortTransform T rest
 none_first {T = T} table rest s =
     let none = no_first_language table rest s in record {
@@ -153,17 +154,17 @@ none_first {T = T} table rest s =
           λ r b. no_first_key rest s (subst (λ t. BeginsField (cond t (after_front rest) rest)) none b);
     }
 
-field_before : (T : ℕ → Bool) (p : List ℕ) (ps rest : List (List ℕ)) → starts_block rest ≡ true →
+field_before : (T : LanguageLengths) (p : Text) (ps rest : List Text) → starts_block rest ≡ true →
     BeginsField (after_identifier T (p ∷ ps)) ↔ BeginsField (after_identifier T (p ∷ (ps ++ rest)))
 field_before T p ps rest s =
     elim (is_word (Language T) p) as (λ t. BeginsField (cond t (after_front (p ∷ ps)) (p ∷ ps))
     ↔ BeginsField (cond t (after_front (p ∷ (ps ++ rest))) (p ∷ (ps ++ rest)))) [
-      | true ↦ subst (λ (l : List (List ℕ)). BeginsField (after_front (p ∷ ps)) ↔ BeginsField l)
+      | true ↦ subst (λ (l : List Text). BeginsField (after_front (p ∷ ps)) ↔ BeginsField l)
           (sym (after_before p ps rest s)) (begins_before (after_front (p ∷ ps)) rest s)
       | false ↦ begins_before (p ∷ ps) rest s
     ]
 
-pub short_transform_front : {T : ℕ → Bool} → AreLengths T → (ps rest : List (List ℕ)) →
+pub short_transform_front : {T : ℕ → Bool} → AreLengths T → (ps rest : List Text) →
     starts_block rest ≡ true → IsShortTransform T ps ↔ IsShortTransform T (ps ++ rest)
 short_transform_front table [] rest s = (λ h. none_first table rest s, λ h. none_first table [] refl)
 short_transform_front {T = T} table (p ∷ ps) rest s =
@@ -171,40 +172,40 @@ short_transform_front {T = T} table (p ∷ ps) rest s =
     let repeats = repeats_in_block table (p ∷ ps) rest s in
     let field = field_before T p ps rest s in (
       λ h. record {
-        variants = λ l. subst (λ (vs : List (List ℕ)). length vs ≤ 4) (sym few) (h.variants l);
+        variants = λ l. subst (λ (vs : List Text). length vs ≤ 4) (sym few) (h.variants l);
         no_field = λ n b. h.no_field (λ r. n (repeats.0 r)) (field.1 b);
       },
       λ h. record {
-        variants = λ l. subst (λ (vs : List (List ℕ)). length vs ≤ 4) few (h.variants l);
+        variants = λ l. subst (λ (vs : List Text). length vs ≤ 4) few (h.variants l);
         no_field = λ n b. h.no_field (λ r. n (repeats.1 r)) (field.0 b);
       },
     )
 
 -- by the longest front of an identifier
-pub record IsShortByFronts (T : ℕ → Bool) (ps : List (List ℕ)) : Type 0 where
-  pub variants : (i : SpelledIdentifier) (rest : List (List ℕ)) → IdentifierFront T ps i rest →
+pub record IsShortByFronts (T : LanguageLengths) (ps : List Text) : Type 0 where
+  pub variants : (i : SpelledIdentifier) (rest : List Text) → IdentifierFront T ps i rest →
       length i.variants ≤ 4
-  pub no_field : (o : Option SpelledIdentifier) (middle : List (List ℕ)) → FrontRead T ps o middle →
+  pub no_field : (o : Option SpelledIdentifier) (middle : List Text) → FrontRead T ps o middle →
       ¬ (BeginsField middle)
 
-pub fronts_are_short : {T : ℕ → Bool} (ps : List (List ℕ)) → IsShortTransform T ps → IsShortByFronts T ps
+pub fronts_are_short : {T : ℕ → Bool} (ps : List Text) → IsShortTransform T ps → IsShortByFronts T ps
 fronts_are_short {T = T} [] h =
     record { variants = λ i rest f. let e = f.spelled in absurd (cc); no_field = empty }
   where
-    empty : (o : Option SpelledIdentifier) (middle : List (List ℕ)) → FrontRead T [] o middle →
+    empty : (o : Option SpelledIdentifier) (middle : List Text) → FrontRead T [] o middle →
         ¬ (BeginsField middle)
     empty _ _ (absent e) b = no_first_key [] refl b
     empty _ _ (present g f) b = let e = f.spelled in absurd (cc)
 fronts_are_short {T = T} (p ∷ ps) h = record { variants = few; no_field = no_field }
   where
-    few : (i : SpelledIdentifier) (rest : List (List ℕ)) → IdentifierFront T (p ∷ ps) i rest →
+    few : (i : SpelledIdentifier) (rest : List Text) → IdentifierFront T (p ∷ ps) i rest →
         length i.variants ≤ 4
     few i rest f =
         let l = front_language (p ∷ ps) i rest f.words f.spelled in
         subst (λ (j : SpelledIdentifier). length j.variants ≤ 4)
         (one_longest (p ∷ ps) _ i _ rest (front_is_front p ps l) f).0 (h.variants l)
 
-    no_field : (o : Option SpelledIdentifier) (middle : List (List ℕ)) → FrontRead T (p ∷ ps) o middle →
+    no_field : (o : Option SpelledIdentifier) (middle : List Text) → FrontRead T (p ∷ ps) o middle →
         ¬ (BeginsField middle)
     no_field _ _ (absent e) b = h.no_field (read_no_repeats (p ∷ ps) (absent e))
         (subst (λ t. BeginsField (cond t (after_front (p ∷ ps)) (p ∷ ps))) (sym e) b)
@@ -218,12 +219,12 @@ empty_front : length (front_of []).variants ≤ 4
 unfolding front_of
 empty_front = omega arith
 
-empty_after : (T : ℕ → Bool) → after_identifier T [] ≡ []
+empty_after : (T : LanguageLengths) → after_identifier T [] ≡ []
 unfolding after_front
 empty_after T =
     elim (is_word (Language T) []) as (λ t. cond t (after_front []) [] ≡ []) [ true ↦ refl | false ↦ refl ]
 
-pub short_by_fronts : {T : ℕ → Bool} (ps : List (List ℕ)) → IsShortByFronts T ps → IsShortTransform T ps
+pub short_by_fronts : {T : ℕ → Bool} (ps : List Text) → IsShortByFronts T ps → IsShortTransform T ps
 short_by_fronts {T = T} [] h = record {
   variants = λ l. empty_front;
   no_field = λ n b. no_first_key [] refl (subst BeginsField (empty_after T) b);
@@ -232,7 +233,7 @@ short_by_fronts {T = T} (p ∷ ps) h =
     record { variants = λ l. h.variants _ _ (front_is_front p ps l); no_field = no_field }
   where
     no_field : ¬ (RepeatsVariant T (p ∷ ps)) → ¬ (BeginsField (after_identifier T (p ∷ ps)))
-    no_field n = cond_both (is_word (Language T) p) _ _ (λ (l : List (List ℕ)). ¬ (BeginsField l))
+    no_field n = cond_both (is_word (Language T) p) _ _ (λ (l : List Text). ¬ (BeginsField l))
         (λ l.
         let taken = front_is_front p ps l in
         (elim (all_different word_cmp (map lower (front_of (p ∷ ps)).variants))
@@ -252,18 +253,18 @@ short_by_fronts {T = T} (p ∷ ps) h =
 
 -- A long block is met after those with the singletons in seen: they are good, and its own singleton
 -- is a letter or digit, and new.
-pub data MeetsLongBlock (T : ℕ → Bool) : List ℕ → List (ℕ × List (List ℕ)) → Type 0 where
-  here : {seen : List ℕ} {b : ℕ × List (List ℕ)} {bs : List (ℕ × List (List ℕ))} → HasSingleton b →
+pub data MeetsLongBlock (T : LanguageLengths) : Text → List Block → Type 0 where
+  here : {seen : List ℕ} {b : Block} {bs : List Block} → HasSingleton b →
       IsNew seen b → ¬ (IsShortBlock T b) → MeetsLongBlock T seen (b ∷ bs)
-  later : {seen : List ℕ} {b : ℕ × List (List ℕ)} {bs : List (ℕ × List (List ℕ))} → HasSingleton b →
+  later : {seen : List ℕ} {b : Block} {bs : List Block} → HasSingleton b →
       IsNew seen b → IsBlock T b → MeetsLongBlock T (lower_singleton b ∷ seen) bs →
       MeetsLongBlock T seen (b ∷ bs)
 
 -- what was met, after good blocks
-record Met (T : ℕ → Bool) (seen : List ℕ) (bs : List (ℕ × List (List ℕ))) : Type 0 where
-  good : List (ℕ × List (List ℕ))
-  block : ℕ × List (List ℕ)
-  rest : List (ℕ × List (List ℕ))
+record Met (T : LanguageLengths) (seen : List ℕ) (bs : List Block) : Type 0 where
+  good : List Block
+  block : Block
+  rest : List Block
   whole : bs ≡ good ++ (block ∷ rest)
   good_before : AreGood T seen good
   letter : HasSingleton block
@@ -272,8 +273,8 @@ record Met (T : ℕ → Bool) (seen : List ℕ) (bs : List (ℕ × List (List �
   long : ¬ (IsShortBlock T block)
 
 module _ {T : ℕ → Bool} where
-  after_good : (b : ℕ × List (List ℕ)) (rest : List (ℕ × List (List ℕ))) (seen : List ℕ)
-      (good : List (ℕ × List (List ℕ))) →
+  after_good : (b : Block) (rest : List Block) (seen : List ℕ)
+      (good : List Block) →
       AreGood T seen good → HasSingleton b → IsNew seen b → ¬ (IsSecond good b) → ¬ (IsShortBlock T b) →
       MeetsLongBlock T seen (good ++ (b ∷ rest))
   after_good b rest seen [] g l k n x = here l k x
@@ -282,11 +283,11 @@ module _ {T : ℕ → Bool} where
       later g.0.0 g.0.1 g.0.2
       (after_good b rest (lower_singleton d ∷ seen) ds g.1 l (λ i. parts.0 i || k i) (both_ways _ parts.1) x)
 
-  pub reached_is_met : {bs : List (ℕ × List (List ℕ))} → ReachesLongBlock T bs → MeetsLongBlock T [] bs
+  pub reached_is_met : {bs : List Block} → ReachesLongBlock T bs → MeetsLongBlock T [] bs
   reached_is_met (good, rest, c, ps, e, blocks, l, n, x) =
       subst (MeetsLongBlock T []) (sym e) (after_good (c, ps) rest [] good (good_blocks blocks.1) l refl n x)
 
-  met : {seen : List ℕ} {bs : List (ℕ × List (List ℕ))} → MeetsLongBlock T seen bs → Met T seen bs
+  met : {seen : List ℕ} {bs : List Block} → MeetsLongBlock T seen bs → Met T seen bs
   met (here {b = b} {bs = bs} l n x) = record {
     good = [];
     block = b;
@@ -313,6 +314,6 @@ module _ {T : ℕ → Bool} where
         long = h.long;
       }
 
-  pub met_is_reached : {bs : List (ℕ × List (List ℕ))} → MeetsLongBlock T [] bs → ReachesLongBlock T bs
+  pub met_is_reached : {bs : List Block} → MeetsLongBlock T [] bs → ReachesLongBlock T bs
   met_is_reached m = let h = met m in
       (h.good, h.rest, h.block.0, h.block.1, h.whole, blocks_spelled h.good_before, h.letter, h.first, h.long)

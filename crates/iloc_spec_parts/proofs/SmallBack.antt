@@ -4,7 +4,8 @@ use Rattle.std.proofs.Common.{sym, ap, ◌∙◌, subst, arith, Option, Some, No
 use Rattle.std.proofs.Common.{option_to_list}
 use Rattle.std.specs.List.{AllByRecursion}
 use Rattle.std.proofs.lemmas.Bool.{both_ways, cond_both, not-true}
-use Rattle.iloc_spec_grammar.specs.Syntax.{pieces, join, AreLengths, Kind, Language, Script, Region, Variant}
+use Rattle.iloc_spec_grammar.specs.Syntax.{code_u, Text, pieces, join, AreLengths, Kind, Language, Script}
+use Rattle.iloc_spec_grammar.specs.Syntax.{Region, Variant}
 use Rattle.iloc_spec_grammar.specs.Syntax.{UnicodeKey, Attribute, IsWord, lower, normal, is_true, HasWords}
 use Rattle.iloc_spec_grammar.specs.Syntax.{word_cmp}
 use Rattle.iloc_spec_grammar.specs.Tree.{IsWritten, spelling, printed, spelled_identifier}
@@ -28,12 +29,12 @@ use Rattle.iloc_spec_grammar.proofs.ReadWords.{IsNormal-normal}
 -- a small value is a value
 
 -- one word or none is a set
-pub one_normal : (k : Kind) (o : Option (List ℕ)) → IfSome o (IsNormal k) →
+pub one_normal : (k : Kind) (o : Option Text) → IfSome o (IsNormal k) →
     AllByRecursion (IsNormal k) (option_to_list o)
 one_normal k None h = tt
 one_normal k (Some w) h = (h, tt)
 
-pub one_ascends : (o : Option (List ℕ)) → StrictlyAscends word_cmp (option_to_list o)
+pub one_ascends : (o : Option Text) → StrictlyAscends word_cmp (option_to_list o)
 one_ascends None = tt
 one_ascends (Some w) = (tt, tt)
 
@@ -49,17 +50,17 @@ identifier_is {T = T} r h = record {
 
 -- its text is read as it
 
-abbrev with_u : Option (List ℕ × Option (List ℕ)) → Option WrittenKeyword
-with_u k = option_map (λ k. record { byte = 117; key = k.0; values = option_to_list k.1 }) k
+abbrev with_u : Option (Text × Option Text) → Option WrittenKeyword
+with_u k = option_map (λ k. record { byte = code_u; key = k.0; values = option_to_list k.1 }) k
 
 -- values in normal case, without `true`, stay
-values_stay : (o : Option (List ℕ)) → IfSome o (λ w. IsNormal Attribute w × (is_true w ≡ false)) →
+values_stay : (o : Option Text) → IfSome o (λ w. IsNormal Attribute w × (is_true w ≡ false)) →
     normal_values (option_to_list o) ≡ option_to_list o
 values_stay None h = refl
 values_stay (Some w) h =
     ap (λ v. filter (λ w. not (is_true w)) (v ∷ [])) h.0.1 ∙ ap (λ b. cond (not b) (w ∷ []) []) h.1
 
-words_of : (o : Option (List ℕ)) → IfSome o (λ w. IsNormal Attribute w × (is_true w ≡ false)) →
+words_of : (o : Option Text) → IfSome o (λ w. IsNormal Attribute w × (is_true w ≡ false)) →
     AllByRecursion (IsWord Attribute) (option_to_list o)
 words_of None h = tt
 words_of (Some w) h = (h.0.0, tt)
@@ -68,7 +69,7 @@ keyword_written : {T : ℕ → Bool} (r : SmallLocale) → IsSmallValue T r →
     IsWritten T (small_written (spelled_identifier (identifier_of_small r.id)) (with_u r.keyword))
 keyword_written {T = T} r h = from r.keyword h.key h.value
   where
-    from : (k : Option (List ℕ × Option (List ℕ))) → IfSome k (λ k. IsNormal UnicodeKey k.0) →
+    from : (k : Option (Text × Option Text)) → IfSome k (λ k. IsNormal UnicodeKey k.0) →
         IfSome k (λ k. IfSome k.1 (λ w. IsNormal Attribute w × (is_true w ≡ false))) →
         IsWritten T (small_written (spelled_identifier (identifier_of_small r.id)) (with_u k))
     from None a b =
@@ -91,16 +92,16 @@ printed_small r = elim r.keyword
     ≡ small_written (spelled_identifier (identifier_of_small r.id)) (with_u k))
     [ None ↦ refl | Some k ↦ refl ]
 
-option_stays : (k : Kind) (o : Option (List ℕ)) → IfSome o (IsNormal k) → option_map (normal k) o ≡ o
+option_stays : (k : Kind) (o : Option Text) → IfSome o (IsNormal k) → option_map (normal k) o ≡ o
 option_stays k None h = refl
 option_stays k (Some w) h = ap Some h.1
 
-variant_stays : (o : Option (List ℕ)) → IfSome o (IsNormal Variant) →
+variant_stays : (o : Option Text) → IfSome o (IsNormal Variant) →
     first_item (map lower (option_to_list o)) ≡ o
 variant_stays None h = refl
 variant_stays (Some w) h = ap Some h.1
 
-keyword_stays : (k : Option (List ℕ × Option (List ℕ))) → IfSome k (λ k. IsNormal UnicodeKey k.0) →
+keyword_stays : (k : Option (Text × Option Text)) → IfSome k (λ k. IsNormal UnicodeKey k.0) →
     IfSome k (λ k. IfSome k.1 (λ w. IsNormal Attribute w × (is_true w ≡ false))) →
     option_map (λ (k : WrittenKeyword). (lower k.key, first_item (normal_values k.values))) (with_u k) ≡ k
 keyword_stays None a b = refl
@@ -128,7 +129,7 @@ small_back {T = T} r h = tree_is_small _ r (record {
   };
 })
   where
-    one_left : (k : Option (List ℕ × Option (List ℕ))) →
+    one_left : (k : Option (Text × Option Text)) →
         IfSome k (λ k. IfSome k.1 (λ w. IsNormal Attribute w × (is_true w ≡ false))) →
         IfSome (with_u k) (λ k. length (normal_values k.values) ≤ 1)
     one_left None b = tt
@@ -143,12 +144,12 @@ small_is_well_formed table r h = read_well_formed table _ _ (small_means _ r (sm
 
 -- what is read is a small value
 
-first_is : (ws : List (List ℕ)) → AllByRecursion (IsWord Variant) ws →
+first_is : (ws : List Text) → AllByRecursion (IsWord Variant) ws →
     IfSome (first_item (map lower ws)) (IsNormal Variant)
 first_is [] h = tt
 first_is (w ∷ ws) h = IsNormal-normal Variant w h.0
 
-value_is : (ws : List (List ℕ)) → AllByRecursion (IsWord Attribute) ws →
+value_is : (ws : List Text) → AllByRecursion (IsWord Attribute) ws →
     IfSome (first_item (normal_values ws)) (λ w. IsNormal Attribute w × (is_true w ≡ false))
 value_is [] h = tt
 value_is (w ∷ ws) h = cond_both (not (is_true (lower w))) _ _
@@ -156,7 +157,7 @@ value_is (w ∷ ws) h = cond_both (not (is_true (lower w))) _ _
     (λ e. (IsNormal-normal Attribute w h.0, not-true _ e))
     (λ e. value_is ws h.1)
 
-pub read_is_small_value : {T : ℕ → Bool} (t : List ℕ) (r : SmallLocale) → IsSmall T t r → IsSmallValue T r
+pub read_is_small_value : {T : ℕ → Bool} (t : Text) (r : SmallLocale) → IsSmall T t r → IsSmallValue T r
 read_is_small_value {T = T} t r small = subst (IsSmallValue T) (sym h.means) (record {
   language = IsNormal-normal (Language T) h.id.language words.language;
   script = option_normal Script h.id.script words.script;

@@ -6,7 +6,8 @@ use Rattle.std.specs.List.{AllByRecursion, list_all}
 use Rattle.std.specs.Char.{is_ascii_alphanumeric}
 use Rattle.std.proofs.lemmas.Bool.{and_parts, and_from, cond_both, false_from_ne_true, leb-true, le-leb}
 use Rattle.std.proofs.lemmas.Bool.{eqb-true, eqb-false, eq-eqb, ne_eqb}
-use Rattle.iloc_spec_grammar.specs.Syntax.{pieces, Kind, Language, Script, Region, Variant, UnicodeKey}
+use Rattle.iloc_spec_grammar.specs.Syntax.{LanguageLengths, Field, Block, code_u, Text, pieces, Kind}
+use Rattle.iloc_spec_grammar.specs.Syntax.{Language, Script, Region, Variant, UnicodeKey}
 use Rattle.iloc_spec_grammar.specs.Syntax.{Attribute, is_word, IsWord, AreLengths, SpelledIdentifier}
 use Rattle.iloc_spec_grammar.specs.Syntax.{HasWords, lower_singleton, head, tail_blocks, front, first_piece}
 use Rattle.iloc_spec_grammar.specs.Meaning.{Locale, Means, normal_values, IdentifierMeans, Fault}
@@ -33,11 +34,11 @@ pub use Rattle.iloc_spec_parts.proofs.SmallShapes.{short_different, first-option
 
 -- identifiers
 
-pub small_identifier_means : {T : ℕ → Bool} (ps : List (List ℕ)) (r : SmallIdentifier) →
+pub small_identifier_means : {T : ℕ → Bool} (ps : List Text) (r : SmallIdentifier) →
     IsSmallIdentifier T ps r → IdentifierMeans T ps (identifier_of_small r)
 small_identifier_means ps r h = h
 
-pub one_small_identifier : {T : ℕ → Bool} (ps : List (List ℕ)) (r s : SmallIdentifier) →
+pub one_small_identifier : {T : ℕ → Bool} (ps : List Text) (r s : SmallIdentifier) →
     IsSmallIdentifier T ps r → IsSmallIdentifier T ps s → r ≡ s
 one_small_identifier ps r s a b = small_identifier_is ps r a
     ∙ ap small_identifier
@@ -46,7 +47,7 @@ one_small_identifier ps r s a b = small_identifier_is ps r a
 
 -- small texts are locales
 
-pub small_means : {T : ℕ → Bool} (t : List ℕ) (r : SmallLocale) → IsSmall T t r →
+pub small_means : {T : ℕ → Bool} (t : Text) (r : SmallLocale) → IsSmall T t r →
     Means T t (locale_of_small r)
 small_means t r h = record { id = h.id; extensions = (h.written, h.spelled, h.means) }
 
@@ -63,12 +64,12 @@ small_of_locale M = record {
   keyword = option_map (λ f. (f.0, first_item f.1)) (first_item M.extensions.unicode.keywords);
 }
 
-keyword_back : (o : Option (List ℕ × Option (List ℕ))) →
-    option_map (λ (f : List ℕ × List (List ℕ)). (f.0, first_item f.1))
+keyword_back : (o : Option (Text × Option Text)) →
+    option_map (λ (f : Field). (f.0, first_item f.1))
     (first_item (option_to_list (option_map keyword_of_small o)))
     ≡ o
 keyword_back None = refl
-keyword_back (Some k) = ap (λ (v : Option (List ℕ)). Some (k.0, v)) (first-option k.1)
+keyword_back (Some k) = ap (λ (v : Option Text). Some (k.0, v)) (first-option k.1)
 
 small_of-locale_of_small : (r : SmallLocale) → small_of_locale (locale_of_small r) ≡ r
 unfolding small_of_locale
@@ -82,7 +83,7 @@ small_of-locale_of_small r = λ i. record {
   keyword = keyword_back r.keyword i;
 }
 
-pub one_small : {T : ℕ → Bool} → AreLengths T → (t : List ℕ) (r s : SmallLocale) → IsSmall T t r →
+pub one_small : {T : ℕ → Bool} → AreLengths T → (t : Text) (r s : SmallLocale) → IsSmall T t r →
     IsSmall T t s → r ≡ s
 one_small table t r s a b = sym (small_of-locale_of_small r)
     ∙ ap small_of_locale
@@ -91,15 +92,15 @@ one_small table t r s a b = sym (small_of-locale_of_small r)
 
 -- reading an identifier
 
-all_words : (k : Kind) (ps : List (List ℕ)) → Tests (list_all (is_word k) ps) (AllByRecursion (IsWord k) ps)
+all_words : (k : Kind) (ps : List Text) → Tests (list_all (is_word k) ps) (AllByRecursion (IsWord k) ps)
 all_words k ps = tests_all (is_word k) (IsWord k) (tests_word k) ps
 
-taken : (k : Kind) (qs : List (List ℕ)) → IfSome (take_first (is_word k) qs) (IsWord k)
+taken : (k : Kind) (qs : List Text) → IfSome (take_first (is_word k) qs) (IsWord k)
 taken k [] = tt
 taken k (q ∷ qs) = elim (is_word k q) as (λ b. is_word k q ≡ b → IfSome (cond b (Some q) None) (IsWord k))
     [ true ↦ λ e. e | false ↦ λ e. tt ] refl
 
-pub words_read : (T : ℕ → Bool) (p : List ℕ) (ps : List (List ℕ)) → IsWord (Language T) p →
+pub words_read : (T : LanguageLengths) (p : Text) (ps : List Text) → IsWord (Language T) p →
     AllByRecursion (IsWord Variant) (identifier_of (p ∷ ps)).variants → HasWords T (identifier_of (p ∷ ps))
 unfolding identifier_of
 words_read T p ps h v = record {
@@ -109,7 +110,7 @@ words_read T p ps h v = record {
   variants = v;
 }
 
-small_read : (T : ℕ → Bool) (p : List ℕ) (ps : List (List ℕ)) → IsWord (Language T) p →
+small_read : (T : LanguageLengths) (p : Text) (ps : List Text) → IsWord (Language T) p →
     has_small_variants (identifier_of (p ∷ ps)).variants ≡ true →
     IsSmallIdentifier T (p ∷ ps) (small_identifier (identifier_of (p ∷ ps)))
 small_read T p ps h v =
@@ -122,7 +123,7 @@ small_read T p ps h v =
     })
     (sym (pieces-identifier_of p ps)) few
 
-small_unread : (T : ℕ → Bool) (p : List ℕ) (ps : List (List ℕ)) (r : SmallIdentifier) →
+small_unread : (T : LanguageLengths) (p : Text) (ps : List Text) (r : SmallIdentifier) →
     IsSmallIdentifier T (p ∷ ps) r → has_small_variants (identifier_of (p ∷ ps)).variants ≡ true
 small_unread T p ps r h =
     let e : identifier_of (p ∷ ps) ≡ h.written =
@@ -131,7 +132,7 @@ small_unread T p ps r h =
     ∙ and_from _ _ ((all_words Variant h.written.variants).passes h.grammatical.words.variants)
     (le-leb _ _ (one_variant (p ∷ ps) r h))
 
-pub small_identifier_answer : (T : ℕ → Bool) (p : List ℕ) (ps : List (List ℕ)) →
+pub small_identifier_answer : (T : LanguageLengths) (p : Text) (ps : List Text) →
     MatchResult (small_identifier_result T (p ∷ ps)) (IsSmallIdentifier T (p ∷ ps))
     (HasSmallIdentifierFault T (p ∷ ps))
 unfolding small_identifier_result
@@ -143,13 +144,13 @@ small_identifier_answer T p ps = cond_both (is_word (Language T) p) _ _
     (λ v. no_identifier l (λ r h. true≢false (sym (small_unread T p ps r h) ∙ v))))
     (λ l. no_language l)
 
-pub small_identifier_apart : {T : ℕ → Bool} (ps : List (List ℕ)) (r : SmallIdentifier) (f : Fault) →
+pub small_identifier_apart : {T : ℕ → Bool} (ps : List Text) (r : SmallIdentifier) (f : Fault) →
     IsSmallIdentifier T ps r → HasSmallIdentifierFault T ps f → ⊥
 small_identifier_apart {T = T} ps r f h (no_language e) = true≢false (sym h.grammatical.words.language
-    ∙ ap (λ (l : List (List ℕ)). is_word (Language T) (first_piece l)) (sym h.spelled) ∙ e)
+    ∙ ap (λ (l : List Text). is_word (Language T) (first_piece l)) (sym h.spelled) ∙ e)
 small_identifier_apart ps r f h (no_identifier l n) = n r h
 
-pub one_small_identifier_fault : {T : ℕ → Bool} (ps : List (List ℕ)) {f g : Fault} →
+pub one_small_identifier_fault : {T : ℕ → Bool} (ps : List Text) {f g : Fault} →
     HasSmallIdentifierFault T ps f → HasSmallIdentifierFault T ps g → f ≡ g
 one_small_identifier_fault ps (no_language e) (no_language k) = refl
 one_small_identifier_fault ps (no_language e) (no_identifier k n) = absurd (true≢false (sym k ∙ e))
@@ -158,13 +159,13 @@ one_small_identifier_fault ps (no_identifier l n) (no_identifier k m) = refl
 
 -- the first block
 
-abbrev letter_or_digit : ℕ × List (List ℕ) → Bool
+abbrev letter_or_digit : Block → Bool
 letter_or_digit b = is_ascii_alphanumeric b.0
 
-has_block_fault : (b : ℕ × List (List ℕ)) → SmallBlockFault b (block_fault b)
+has_block_fault : (b : Block) → SmallBlockFault b (block_fault b)
 unfolding block_fault
 has_block_fault b = cond_both (is_ascii_alphanumeric b.0) _ _ (SmallBlockFault b)
-    (λ a. cond_both (lower_singleton b == 117) _ _ (SmallBlockFault b)
+    (λ a. cond_both (lower_singleton b == code_u) _ _ (SmallBlockFault b)
     (λ u. cond_both (is_word Attribute (first_piece b.1)) _ _ (SmallBlockFault b)
     (λ w. attribute (eqb-true _ _ u) w)
     (λ n. cond_both (is_word UnicodeKey (first_piece b.1)) _ _ (SmallBlockFault b)
@@ -172,28 +173,28 @@ has_block_fault b = cond_both (is_ascii_alphanumeric b.0) _ _ (SmallBlockFault b
     (λ u. not_u a (eqb-false _ _ u)))
     (λ a. no_singleton a)
 
-no_both : (p : List ℕ) → IsWord Attribute p → IsWord UnicodeKey p → ⊥
+no_both : (p : Text) → IsWord Attribute p → IsWord UnicodeKey p → ⊥
 no_both p a k = let l = length-attribute p a in let m = length-unicode_key p k in absurd (omega arith)
 
-is_block_fault : (b : ℕ × List (List ℕ)) {f : Fault} → SmallBlockFault b f → block_fault b ≡ f
+is_block_fault : (b : Block) {f : Fault} → SmallBlockFault b f → block_fault b ≡ f
 unfolding block_fault
 is_block_fault b (no_singleton e) = rw e refl
-is_block_fault b (not_u a n) = rw (a, ne_eqb (lower_singleton b) 117 n) refl
-is_block_fault b (attribute u a) = rw (u_letter b.0 u, eq-eqb (lower_singleton b) 117 u, a) refl
-is_block_fault b (no_key u a k) = rw (u_letter b.0 u, eq-eqb (lower_singleton b) 117 u, a, k) refl
+is_block_fault b (not_u a n) = rw (a, ne_eqb (lower_singleton b) code_u n) refl
+is_block_fault b (attribute u a) = rw (u_letter b.0 u, eq-eqb (lower_singleton b) code_u u, a) refl
+is_block_fault b (no_key u a k) = rw (u_letter b.0 u, eq-eqb (lower_singleton b) code_u u, a, k) refl
 is_block_fault b (after_key u k) = rw (
   u_letter b.0 u,
-  eq-eqb (lower_singleton b) 117 u,
+  eq-eqb (lower_singleton b) code_u u,
   false_from_ne_true (is_word Attribute (first_piece b.1)) (λ a. no_both (first_piece b.1) a k),
   k,
 ) refl
 
 -- a small text without a block, and with one
-module _ {T : ℕ → Bool} (t : List ℕ) (r : SmallIdentifier) (h : IsSmallIdentifier T (head (pieces t)) r) where
+module _ {T : ℕ → Bool} (t : Text) (r : SmallIdentifier) (h : IsSmallIdentifier T (head (pieces t)) r) where
   no_block : tail_blocks (pieces t) ≡ [] → IsSmall T t (record { id = r; keyword = None })
   no_block k = small_by_keyword t _ h (record { keyword = None; grammatical = tt; spelled = k; means = refl })
 
-  one_block : (b : ℕ × List (List ℕ)) (bs : List (ℕ × List (List ℕ))) → tail_blocks (pieces t) ≡ b ∷ bs →
+  one_block : (b : Block) (bs : List Block) → tail_blocks (pieces t) ≡ b ∷ bs →
       is_small_block b bs ≡ true → IsSmall T t (record { id = r; keyword = Some (keyword_read b.1) })
   one_block b (d ∷ bs) k s = absurd (true≢false (sym s))
   one_block (c, []) [] k s = absurd (true≢false (sym (and_parts (is_u c) false s).1))
@@ -216,8 +217,8 @@ module _ {T : ℕ → Bool} (t : List ℕ) (r : SmallIdentifier) (h : IsSmallIde
       })
 
 -- a small text with a block has a small one
-has_small_block : {T : ℕ → Bool} (t : List ℕ) (r : SmallLocale) → IsSmall T t r →
-    (b : ℕ × List (List ℕ)) (bs : List (ℕ × List (List ℕ))) → tail_blocks (pieces t) ≡ b ∷ bs →
+has_small_block : {T : ℕ → Bool} (t : Text) (r : SmallLocale) → IsSmall T t r →
+    (b : Block) (bs : List Block) → tail_blocks (pieces t) ≡ b ∷ bs →
     is_small_block b bs ≡ true
 has_small_block t r h b bs e =
     let s = keyword_spelled t r h in from s.keyword s.grammatical (sym e ∙ s.spelled)
@@ -234,7 +235,7 @@ has_small_block t r h b bs e =
         let bs_is : bs ≡ [] = cc in
         (λ i. is_small_block (b_is i) (bs_is i)) ∙ here
 
-pub small_answer : {T : ℕ → Bool} → AreLengths T → (t : List ℕ) →
+pub small_answer : {T : ℕ → Bool} → AreLengths T → (t : Text) →
     MatchResult (small_result T t) (IsSmall T t) (HasSmallFault T t)
 unfolding small_result after_identifier blocks_result
 small_answer {T = T} table t =
@@ -243,14 +244,14 @@ small_answer {T = T} table t =
     Answer : Result SmallLocale Fault → Type 0
     Answer o = MatchResult o (IsSmall T t) (HasSmallFault T t)
 
-    head_answer : (ps : List (List ℕ)) → ps ≢ [] →
+    head_answer : (ps : List Text) → ps ≢ [] →
         MatchResult (small_identifier_result T (head ps)) (IsSmallIdentifier T (head ps))
         (HasSmallIdentifierFault T (head ps))
     head_answer [] n = absurd (n refl)
     head_answer (p ∷ ps) n = small_identifier_answer T p (front ps)
 
     at_blocks : (r : SmallIdentifier) → IsSmallIdentifier T (head (pieces t)) r →
-        (bs : List (ℕ × List (List ℕ))) → tail_blocks (pieces t) ≡ bs → Answer (blocks_result r bs)
+        (bs : List Block) → tail_blocks (pieces t) ≡ bs → Answer (blocks_result r bs)
     at_blocks r h [] k = no_block t r h k
     at_blocks r h (b ∷ bs) k = cond_both (is_small_block b bs) _ _ Answer
         (λ s. one_block t r h b bs k s)
@@ -263,12 +264,12 @@ small_answer {T = T} table t =
     at_identifier (Ok r) h = at_blocks r h (tail_blocks (pieces t)) refl
     at_identifier (Err f) h = bad_head h
 
-pub small_apart : {T : ℕ → Bool} (t : List ℕ) (r : SmallLocale) (f : Fault) → IsSmall T t r →
+pub small_apart : {T : ℕ → Bool} (t : Text) (r : SmallLocale) (f : Fault) → IsSmall T t r →
     HasSmallFault T t f → ⊥
 small_apart t r f h (bad_head x) = small_identifier_apart _ r.id f h.id x
 small_apart t r f h (bad_block s i n e x) = n r h
 
-pub one_small_fault : {T : ℕ → Bool} (t : List ℕ) {f g : Fault} → HasSmallFault T t f → HasSmallFault T t g →
+pub one_small_fault : {T : ℕ → Bool} (t : Text) {f g : Fault} → HasSmallFault T t f → HasSmallFault T t g →
     f ≡ g
 one_small_fault t (bad_head x) (bad_head y) = one_small_identifier_fault _ x y
 one_small_fault t (bad_head x) (bad_block s i n e y) = absurd (small_identifier_apart _ _ _ i x)
@@ -284,12 +285,12 @@ pub by_result : {X Y : Type 0} (P : X → Type 0) (Q : Y → Type 0) (o : Result
 by_result P Q (Ok x) h = inl (x, h)
 by_result P Q (Err y) h = inr (y, h)
 
-pub small_or_fault : {T : ℕ → Bool} → AreLengths T → (t : List ℕ) →
+pub small_or_fault : {T : ℕ → Bool} → AreLengths T → (t : Text) →
     ((r : SmallLocale) × IsSmall T t r) ⊎ ((f : Fault) × HasSmallFault T t f)
 small_or_fault {T = T} table t =
     by_result (IsSmall T t) (HasSmallFault T t) (small_result T t) (small_answer table t)
 
-pub small_identifier_text_answer : (T : ℕ → Bool) (t : List ℕ) →
+pub small_identifier_text_answer : (T : LanguageLengths) (t : Text) →
     MatchResult (small_identifier_result T (pieces t)) (IsSmallIdentifier T (pieces t))
     (HasSmallIdentifierFault T (pieces t))
 small_identifier_text_answer T t = (elim (pieces t) as (λ ps. pieces t ≡ ps →
@@ -298,7 +299,7 @@ small_identifier_text_answer T t = (elim (pieces t) as (λ ps. pieces t ≡ ps �
       | p ∷ ps ↦ λ e. small_identifier_answer T p ps
     ]) refl
 
-pub small_identifier_or_fault : (T : ℕ → Bool) (t : List ℕ) →
+pub small_identifier_or_fault : (T : LanguageLengths) (t : Text) →
     ((r : SmallIdentifier) × IsSmallIdentifier T (pieces t) r)
     ⊎ ((f : Fault) × HasSmallIdentifierFault T (pieces t) f)
 small_identifier_or_fault T t =

@@ -12,7 +12,8 @@ use Rattle.std.specs.FinMap.{find}
 use Rattle.std.proofs.lemmas.Bool.{or_parts, eq-eqb, false_from_ne_true, both_ways}
 use Rattle.std.proofs.lemmas.Bool.Decides.{nat_tests}
 use Rattle.std.proofs.lemmas.List.{length-map}
-use Rattle.iloc_spec_grammar.specs.Syntax.{pieces, UnicodeKey, Attribute, IsWord, lower, word_cmp, Spelled}
+use Rattle.iloc_spec_grammar.specs.Syntax.{Field, Block, code_x, code_u, code_t, Text, pieces, UnicodeKey}
+use Rattle.iloc_spec_grammar.specs.Syntax.{Attribute, IsWord, lower, word_cmp, Spelled}
 use Rattle.iloc_spec_grammar.specs.Syntax.{SpelledIdentifier, SpelledTransform, Identifier, Transform, Fields}
 use Rattle.iloc_spec_grammar.specs.Syntax.{identifier_pieces, fields_pieces, transform_pieces, IsIdentifier}
 use Rattle.iloc_spec_grammar.specs.Syntax.{AllDifferent, kept, is_other_singleton, lower_singleton, head}
@@ -36,13 +37,13 @@ short_list [] h = refl
 short_list (x ∷ []) h = refl
 short_list (x ∷ y ∷ xs) h = absurd (omega arith)
 
-short_set : (ws : List (List ℕ)) → length ws ≤ 1 →
+short_set : (ws : List Text) → length ws ≤ 1 →
     option_to_list (first_item (map lower ws)) ≡ set_of (map lower ws)
 short_set [] h = refl
 short_set (w ∷ []) h = refl
 short_set (w ∷ v ∷ ws) h = absurd (omega arith)
 
-pub short_different : (ws : List (List ℕ)) → length ws ≤ 1 → AllDifferent word_cmp (map lower ws)
+pub short_different : (ws : List Text) → length ws ≤ 1 → AllDifferent word_cmp (map lower ws)
 short_different [] h = tt
 short_different (w ∷ []) h = (both_ways _ refl, tt)
 short_different (w ∷ v ∷ ws) h = absurd (omega arith)
@@ -71,12 +72,12 @@ pub none_mapped : {X Y : Type 0} (f : X → Y) (xs : List X) → map f xs ≡ []
 none_mapped f [] e = refl
 none_mapped f (x ∷ xs) e = absurd (cc)
 
-none_in_set : (ws : List (List ℕ)) → set_of ws ≡ [] → ws ≡ []
-none_in_set ws e = none_mapped (λ (w : List ℕ). (w, tt {0})) ws (none_there word_cmp word_cmp_total
-    (map (λ w. (w, tt {0})) ws) (none_mapped (λ (e : List ℕ × Unit {0}). e.0) _ e))
+none_in_set : (ws : List Text) → set_of ws ≡ [] → ws ≡ []
+none_in_set ws e = none_mapped (λ (w : Text). (w, tt {0})) ws (none_there word_cmp word_cmp_total
+    (map (λ w. (w, tt {0})) ws) (none_mapped (λ (e : Text × Unit {0}). e.0) _ e))
 
 pub no_normal_fields : (fs : Fields) → normal_fields fs ≡ [] → fs ≡ []
-no_normal_fields fs e = none_mapped (λ (f : List ℕ × List (List ℕ)). (lower f.0, normal_values f.1)) fs
+no_normal_fields fs e = none_mapped (λ (f : Field). (lower f.0, normal_values f.1)) fs
     (none_there word_cmp word_cmp_total _ e)
 
 none_of_both : {X : Type 0} (xs ys : List X) → xs ++ ys ≡ [] → (xs ≡ []) × (ys ≡ [])
@@ -89,12 +90,12 @@ pub same_variants : (i : SpelledIdentifier) → length i.variants ≤ 1 →
     identifier_of_small (small_identifier i) ≡ normal_identifier i
 same_variants i h = ap (λ vs. record (normal_identifier i) { variants = vs }) (short_set i.variants h)
 
-pub small_identifier_of : {T : ℕ → Bool} (ps : List (List ℕ)) (i : SpelledIdentifier) → IsIdentifier T i →
+pub small_identifier_of : {T : ℕ → Bool} (ps : List Text) (i : SpelledIdentifier) → IsIdentifier T i →
     ps ≡ identifier_pieces i → length i.variants ≤ 1 → IsSmallIdentifier T ps (small_identifier i)
 small_identifier_of ps i g e few =
     record { written = i; grammatical = g; spelled = e; means = same_variants i few }
 
-pub one_variant : {T : ℕ → Bool} (ps : List (List ℕ)) (r : SmallIdentifier) (h : IsSmallIdentifier T ps r) →
+pub one_variant : {T : ℕ → Bool} (ps : List Text) (r : SmallIdentifier) (h : IsSmallIdentifier T ps r) →
     length h.written.variants ≤ 1
 one_variant ps r h =
     let vs = h.written.variants in
@@ -103,7 +104,7 @@ one_variant ps r h =
     ∙ length-set_of-different (map lower vs) h.grammatical.different ∙ length-map vs lower in
     subst (λ (n : ℕ). n ≤ 1) same (one_at_most r.variant)
 
-pub small_identifier_is : {T : ℕ → Bool} (ps : List (List ℕ)) (r : SmallIdentifier)
+pub small_identifier_is : {T : ℕ → Bool} (ps : List Text) (r : SmallIdentifier)
     (h : IsSmallIdentifier T ps r) →
     r ≡ small_identifier h.written
 small_identifier_is ps r h =
@@ -123,27 +124,27 @@ small_identifier_is ps r h =
 -- a keyword as it is written: its singleton, its key, and the pieces after it
 pub record WrittenKeyword : Type 0 where
   pub byte : ℕ
-  pub key : List ℕ
-  pub values : List (List ℕ)
+  pub key : Text
+  pub values : List Text
 
 -- its key and its first value besides `true`
-abbrev pub small_keyword : WrittenKeyword → List ℕ × Option (List ℕ)
+abbrev pub small_keyword : WrittenKeyword → Text × Option Text
 small_keyword k = (lower k.key, first_item (normal_values k.values))
 
 -- no block, or one with the keyword after its singleton
-abbrev pub keyword_blocks : Option WrittenKeyword → List (ℕ × List (List ℕ))
+abbrev pub keyword_blocks : Option WrittenKeyword → List Block
 keyword_blocks None = []
 keyword_blocks (Some k) = (k.byte, k.key ∷ k.values) ∷ []
 
 -- a keyword after `u` with one value besides `true` at most
 pub record IsSmallKeyword (k : WrittenKeyword) : Type 0 where
-  pub u : to_ascii_lowercase k.byte ≡ 117
+  pub u : to_ascii_lowercase k.byte ≡ code_u
   pub key : IsWord UnicodeKey k.key
   pub values : AllByRecursion (IsWord Attribute) k.values
   pub one_value : length (normal_values k.values) ≤ 1
 
 -- the blocks are none, or one of such a keyword, which is read as o
-pub record SpellsKeyword (bs : List (ℕ × List (List ℕ))) (o : Option (List ℕ × Option (List ℕ))) : Type
+pub record SpellsKeyword (bs : List Block) (o : Option (Text × Option Text)) : Type
     0 where
   pub keyword : Option WrittenKeyword
   pub grammatical : IfSome keyword IsSmallKeyword
@@ -151,19 +152,19 @@ pub record SpellsKeyword (bs : List (ℕ × List (List ℕ))) (o : Option (List 
   pub means : o ≡ option_map small_keyword keyword
 
 -- blocks that have nothing after `t`, `x` and another singleton are blocks of `u`
-abbrev IsOfU : ℕ × List (List ℕ) → Type 0
-IsOfU b = lower_singleton b ≡ 117
+abbrev IsOfU : Block → Type 0
+IsOfU b = lower_singleton b ≡ code_u
 
-abbrev HasPieces : ℕ × List (List ℕ) → Type 0
+abbrev HasPieces : Block → Type 0
 HasPieces b = (is_ascii_alphanumeric b.0 ≡ true) × (0 < length b.1)
 
 nothing_here : {X : Type 0} (xs : List X) → 0 < length xs → xs ≡ [] → ⊥
 nothing_here [] h e = absurd (omega arith)
 nothing_here (x ∷ xs) h e = absurd (cc)
 
-only_u : (bs : List (ℕ × List (List ℕ))) → AllByRecursion HasPieces bs → after 116 bs ≡ [] →
-    after 120 bs ≡ [] →
-    filter {X = ℕ × List (List ℕ)} (λ b. is_other_singleton b.0) (map (λ b. (lower_singleton b, b.1)) bs)
+only_u : (bs : List Block) → AllByRecursion HasPieces bs → after code_t bs ≡ [] →
+    after code_x bs ≡ [] →
+    filter {X = Block} (λ b. is_other_singleton b.0) (map (λ b. (lower_singleton b, b.1)) bs)
     ≡ [] →
     AllByRecursion IsOfU bs
 only_u [] h t x o = tt
@@ -176,16 +177,16 @@ only_u (b ∷ bs) h t x o = (
     at : IsKind (lower_singleton b) → IsOfU b
     at (of_u e) = e
     at (of_t e) = absurd (nothing_here b.1 h.0.1
-        (ap (λ t. cond t b.1 []) (sym (eq-eqb (lower_singleton b) 116 e)) ∙ (none_of_both _ _ t).0))
+        (ap (λ t. cond t b.1 []) (sym (eq-eqb (lower_singleton b) code_t e)) ∙ (none_of_both _ _ t).0))
     at (of_x e) = absurd (nothing_here b.1 h.0.1
-        (ap (λ t. cond t b.1 []) (sym (eq-eqb (lower_singleton b) 120 e)) ∙ (none_of_both _ _ x).0))
+        (ap (λ t. cond t b.1 []) (sym (eq-eqb (lower_singleton b) code_x e)) ∙ (none_of_both _ _ x).0))
     at (another e) = let some : (lower_singleton b, b.1)
-        ∷ filter {X = ℕ × List (List ℕ)} (λ b. is_other_singleton b.0)
+        ∷ filter {X = Block} (λ b. is_other_singleton b.0)
         (map (λ b. (lower_singleton b, b.1)) bs)
         ≡ [] = ap (λ t. cond t
         ((lower_singleton b, b.1)
-        ∷ filter {X = ℕ × List (List ℕ)} (λ b. is_other_singleton b.0)
-        (map (λ b. (lower_singleton b, b.1)) bs)) (filter {X = ℕ × List (List ℕ)}
+        ∷ filter {X = Block} (λ b. is_other_singleton b.0)
+        (map (λ b. (lower_singleton b, b.1)) bs)) (filter {X = Block}
         (λ b. is_other_singleton b.0) (map (λ b. (lower_singleton b, b.1)) bs))) (sym e)
         ∙ o in
         absurd (cc)
@@ -193,51 +194,53 @@ only_u (b ∷ bs) h t x o = (
     others : (t : Bool) →
         cond t
         ((lower_singleton b, b.1)
-        ∷ filter {X = ℕ × List (List ℕ)} (λ b. is_other_singleton b.0)
-        (map (λ b. (lower_singleton b, b.1)) bs)) (filter {X = ℕ × List (List ℕ)}
+        ∷ filter {X = Block} (λ b. is_other_singleton b.0)
+        (map (λ b. (lower_singleton b, b.1)) bs)) (filter {X = Block}
         (λ b. is_other_singleton b.0) (map (λ b. (lower_singleton b, b.1)) bs))
         ≡ [] →
-        filter {X = ℕ × List (List ℕ)} (λ b. is_other_singleton b.0) (map (λ b. (lower_singleton b, b.1)) bs)
+        filter {X = Block} (λ b. is_other_singleton b.0) (map (λ b. (lower_singleton b, b.1)) bs)
         ≡ []
     others true e = absurd (cc)
     others false e = e
 
 -- one of `u` and what it spells
-one_of_u : (bs : List (ℕ × List (List ℕ))) → AllDifferent nat_cmp (map (λ b. lower_singleton b) bs) →
-    AllByRecursion HasPieces bs → AllByRecursion IsOfU bs → (fs : Fields) → after 117 bs ≡ fields_pieces fs →
+one_of_u : (bs : List Block) → AllDifferent nat_cmp (map (λ b. lower_singleton b) bs) →
+    AllByRecursion HasPieces bs → AllByRecursion IsOfU bs → (fs : Fields) →
+    after code_u bs ≡ fields_pieces fs →
     AllByRecursion (λ f. IsWord UnicodeKey f.0 × AllByRecursion (IsWord Attribute) f.1) fs → length fs ≤ 1 →
-    (o : Option (List ℕ × Option (List ℕ))) →
+    (o : Option (Text × Option Text)) →
     option_to_list (option_map keyword_of_small o) ≡ normal_fields fs → SpellsKeyword bs o
 one_of_u [] d h u [] k w l None e = record { keyword = None; grammatical = tt; spelled = refl; means = refl }
 one_of_u [] d h u (f ∷ fs) k w l o e = absurd (cc)
 one_of_u bs d h u [] k w l (Some q) e = absurd (cc)
 one_of_u ((c, ps) ∷ []) d h u [] k w l o e = absurd (nothing_here ps h.0.1
-    (ap (λ t. cond t ps []) (sym (eq-eqb (to_ascii_lowercase c) 117 u.0)) ∙ (none_of_both _ _ k).0))
+    (ap (λ t. cond t ps []) (sym (eq-eqb (to_ascii_lowercase c) code_u u.0)) ∙ (none_of_both _ _ k).0))
 one_of_u ((c, ps) ∷ []) d h u (f ∷ []) k w l None e = absurd (cc)
 one_of_u ((c, ps) ∷ []) d h u (f ∷ []) k w l (Some q) e =
     let pieces_are : ps ≡ f.0 ∷ f.1 =
-    sym (append-nil ps) ∙ ap (λ t. cond t ps [] ++ []) (sym (eq-eqb (to_ascii_lowercase c) 117 u.0)) ∙ k
+    sym (append-nil ps) ∙ ap (λ t. cond t ps [] ++ []) (sym (eq-eqb (to_ascii_lowercase c) code_u u.0)) ∙ k
     ∙ append-nil (f.0 ∷ f.1) in
     let both : keyword_of_small q ≡ (lower f.0, normal_values f.1) = cc in
-    let key : q.0 ≡ lower f.0 = ap (λ (e : List ℕ × List (List ℕ)). e.0) both in
-    let value : option_to_list q.1 ≡ normal_values f.1 = ap (λ (e : List ℕ × List (List ℕ)). e.1) both in
+    let key : q.0 ≡ lower f.0 = ap (λ (e : Field). e.0) both in
+    let value : option_to_list q.1 ≡ normal_values f.1 = ap (λ (e : Field). e.1) both in
     record {
       keyword = Some (record { byte = c; key = f.0; values = f.1 });
       grammatical = record {
         u = u.0;
         key = w.0.0;
         values = w.0.1;
-        one_value = subst (λ (l : List (List ℕ)). length l ≤ 1) value (one_at_most q.1);
+        one_value = subst (λ (l : List Text). length l ≤ 1) value (one_at_most q.1);
       };
       spelled = ap (λ l. (c, l) ∷ []) pieces_are;
       means = λ i. Some (key i, (sym (first-option q.1) ∙ ap first_item value) i);
     }
 one_of_u bs d h u (f ∷ g ∷ fs) k w l o e = absurd (omega arith)
 one_of_u (b ∷ c ∷ bs) d h u fs k w l o e = absurd (true≢false (sym
-    (ap (λ q. eq_by_cmp nat_cmp q (lower_singleton c)) u.0 ∙ ap (eq_by_cmp nat_cmp 117) u.1.0 ∙ self_tied 117)
+    (ap (λ q. eq_by_cmp nat_cmp q (lower_singleton c)) u.0 ∙ ap (eq_by_cmp nat_cmp code_u) u.1.0
+    ∙ self_tied code_u)
     ∙ (or_parts _ _ (false_from_ne_true _ d.0)).0))
 
-pub keyword_spelled : {T : ℕ → Bool} (t : List ℕ) (r : SmallLocale) → IsSmall T t r →
+pub keyword_spelled : {T : ℕ → Bool} (t : Text) (r : SmallLocale) → IsSmall T t r →
     SpellsKeyword (tail_blocks (pieces t)) r.keyword
 keyword_spelled t r h =
     let bs = tail_blocks (pieces t) in
@@ -246,7 +249,7 @@ keyword_spelled t r h =
     let transform_is : transform_pieces e.transform ≡ [] = no_pieces e.transform none_transform in
     let private_is : e.private ≡ [] =
     none_mapped lower e.private (sym (ap (λ (e : Extensions). e.private) h.means)) in
-    let others_are : e.others ≡ [] = none_mapped (λ (o : ℕ × List (List ℕ)). (o.0, kept o.1)) e.others
+    let others_are : e.others ≡ [] = none_mapped (λ (o : Block). (o.0, kept o.1)) e.others
     (none_there nat_cmp nat_cmp_total _ (sym (ap (λ (e : Extensions). e.others) h.means))) in
     let attributes_are : e.unicode.attributes ≡ [] = none_mapped lower e.unicode.attributes
     (none_in_set _ (sym (ap (λ (e : Extensions). e.unicode.attributes) h.means))) in
@@ -280,7 +283,7 @@ keyword_extensions k = record {
   others = [];
 }
 
-pub u_letter : (c : ℕ) → to_ascii_lowercase c ≡ 117 → is_ascii_alphanumeric c ≡ true
+pub u_letter : (c : ℕ) → to_ascii_lowercase c ≡ code_u → is_ascii_alphanumeric c ≡ true
 u_letter c h = grind (arith, nat_tests)
 
 spelled_keyword : {T : ℕ → Bool} (k : Option WrittenKeyword) → IfSome k IsSmallKeyword →
@@ -302,7 +305,7 @@ spelled_keyword (Some k) g = record {
   others = (tt, rw (false_from_ne_true (is_other_singleton (to_ascii_lowercase k.byte)) (no_u _ g.u)) refl);
 }
 
-pub small_by_keyword : {T : ℕ → Bool} (t : List ℕ) (r : SmallLocale) →
+pub small_by_keyword : {T : ℕ → Bool} (t : Text) (r : SmallLocale) →
     IsSmallIdentifier T (head (pieces t)) r.id → SpellsKeyword (tail_blocks (pieces t)) r.keyword →
     IsSmall T t r
 small_by_keyword {T = T} t r id k = record {
@@ -322,5 +325,5 @@ small_by_keyword {T = T} t r id k = record {
     means None g e = e
     means (Some k) g e = e
         ∙ ap
-        (λ (vs : List (List ℕ)). just_unicode (record { attributes = []; keywords = (lower k.key, vs) ∷ [] }))
+        (λ (vs : List Text). just_unicode (record { attributes = []; keywords = (lower k.key, vs) ∷ [] }))
         (short_list (normal_values k.values) g.one_value)

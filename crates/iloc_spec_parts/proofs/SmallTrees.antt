@@ -4,7 +4,8 @@ use Rattle.std.proofs.Common.{refl, sym, ap, ◌∙◌, subst, arith, Option, So
 use Rattle.std.proofs.Common.{true≢false, append-nil}
 use Rattle.std.specs.List.{AllByRecursion}
 use Rattle.std.proofs.lemmas.Bool.{ne_eqb, both_ways}
-use Rattle.iloc_spec_grammar.specs.Syntax.{pieces, UnicodeKey, Attribute, IsWord, SpelledIdentifier, HasWords}
+use Rattle.iloc_spec_grammar.specs.Syntax.{LanguageLengths, code_x, Text, pieces, UnicodeKey, Attribute}
+use Rattle.iloc_spec_grammar.specs.Syntax.{IsWord, SpelledIdentifier, HasWords}
 use Rattle.iloc_spec_grammar.specs.Syntax.{head, tail_blocks, blocks, lower_singleton}
 use Rattle.iloc_spec_grammar.specs.Tree.{Extension, unicode, Written, IsWritten, spelling, block_pieces}
 use Rattle.iloc_spec_grammar.specs.Tree.{extension_block}
@@ -33,7 +34,7 @@ small_written i k = record { id = i; extensions = keyword_extension k; private =
 
 -- The text is an identifier with at most one variant, and perhaps one keyword with at most one value
 -- besides `true`.
-pub record IsTreeSmall (T : ℕ → Bool) (t : List ℕ) (r : SmallLocale) : Type 0 where
+pub record IsTreeSmall (T : LanguageLengths) (t : Text) (r : SmallLocale) : Type 0 where
   pub id : SpelledIdentifier
   pub keyword : Option WrittenKeyword
   pub grammatical : IsWritten T (small_written id keyword)
@@ -46,19 +47,20 @@ pub record IsTreeSmall (T : ℕ → Bool) (t : List ℕ) (r : SmallLocale) : Typ
 
 extension_is : (k : Option WrittenKeyword) → map extension_block (keyword_extension k) ≡ keyword_blocks k
 extension_is None = refl
-extension_is (Some k) = ap (λ (l : List (List ℕ)). (k.byte, k.key ∷ l) ∷ []) (append-nil k.values)
+extension_is (Some k) = ap (λ (l : List Text). (k.byte, k.key ∷ l) ∷ []) (append-nil k.values)
 
-past_long : (xs ys : List (List ℕ)) → AllByRecursion IsLong xs → blocks (xs ++ ys) ≡ blocks ys
+past_long : (xs ys : List Text) → AllByRecursion IsLong xs → blocks (xs ++ ys) ≡ blocks ys
 past_long [] ys h = refl
 past_long ([] ∷ xs) ys h = past_long xs ys h.1
 past_long ((c ∷ []) ∷ xs) ys h = absurd (true≢false h.0)
 past_long ((c ∷ d ∷ p) ∷ xs) ys h = past_long xs ys h.1
 
-long_key : (p : List ℕ) → IsWord UnicodeKey p → IsLong p
+long_key : (p : Text) → IsWord UnicodeKey p → IsLong p
 long_key p h = ne_eqb (length p) 1 (λ e. let l = length-unicode_key p h in absurd (omega arith))
 
 long_blocks : (k : Option WrittenKeyword) → IfSome k IsSmallKeyword →
-    AllByRecursion (λ b. ((lower_singleton b == 120) ≡ false) × AllByRecursion IsLong b.1) (keyword_blocks k)
+    AllByRecursion (λ b. ((lower_singleton b == code_x) ≡ false) × AllByRecursion IsLong b.1)
+    (keyword_blocks k)
 long_blocks None g = tt
 long_blocks (Some k) g = (
   (
@@ -85,7 +87,7 @@ small_rules i None h o = tt
 small_rules i (Some k) h o = let word = h.extensions.0.1.keywords.0 in
     record { u = h.extensions.0.0; key = word.0; values = word.1; one_value = o }
 
-pub tree_is_small : {T : ℕ → Bool} (t : List ℕ) (r : SmallLocale) → IsTreeSmall T t r → IsSmall T t r
+pub tree_is_small : {T : ℕ → Bool} (t : Text) (r : SmallLocale) → IsTreeSmall T t r → IsSmall T t r
 tree_is_small {T = T} t r h =
     let g = small_rules h.id h.keyword h.grammatical h.one_value in
     small_by_keyword t r
@@ -99,7 +101,7 @@ tree_is_small {T = T} t r h =
       means = ap (λ (s : SmallLocale). s.keyword) h.means;
     })
 
-pub small_is_tree : {T : ℕ → Bool} (t : List ℕ) (r : SmallLocale) → IsSmall T t r → IsTreeSmall T t r
+pub small_is_tree : {T : ℕ → Bool} (t : Text) (r : SmallLocale) → IsSmall T t r → IsTreeSmall T t r
 small_is_tree {T = T} t r h =
     let s = keyword_spelled t r h in
     let i = h.id.written in record {
@@ -130,6 +132,6 @@ small_is_tree {T = T} t r h =
     few None g = tt
     few (Some k) g = g.one_value
 
-    at : (ps : List (List ℕ)) → ps ≢ [] → ps ≡ head ps ++ flat_map block_pieces (tail_blocks ps)
+    at : (ps : List Text) → ps ≢ [] → ps ≡ head ps ++ flat_map block_pieces (tail_blocks ps)
     at [] n = absurd (n refl)
     at (p ∷ ps) n = sym (head-and-blocks p ps)

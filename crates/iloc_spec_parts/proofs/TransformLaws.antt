@@ -7,7 +7,8 @@ use Rattle.std.specs.List.{AllByRecursion, list_all}
 use Rattle.std.proofs.lemmas.Bool.{cond_both, false_from_ne_true, eqb-true}
 use Rattle.std.proofs.lemmas.List.{map-append, take-append-le, take-append-drop}
 use Rattle.std.proofs.Math.Seq.{take-append_seam, drop-append_seam}
-use Rattle.iloc_spec_grammar.specs.Syntax.{Language, Script, Region, Variant, TransformKey, Attribute}
+use Rattle.iloc_spec_grammar.specs.Syntax.{LanguageLengths, Field, code_t, Text, Language, Script, Region}
+use Rattle.iloc_spec_grammar.specs.Syntax.{Variant, TransformKey, Attribute}
 use Rattle.iloc_spec_grammar.specs.Syntax.{is_word, IsWord, AreLengths, lower, word_cmp, Spelled}
 use Rattle.iloc_spec_grammar.specs.Syntax.{SpelledIdentifier, Transform, Fields, identifier_pieces}
 use Rattle.iloc_spec_grammar.specs.Syntax.{optional_pieces, fields_pieces, HasWords, IsIdentifier, IsField}
@@ -41,7 +42,7 @@ use Rattle.std.proofs.Math.Bool.{or-true}
 
 -- two lists of one whole
 
-same_fronts : (xs ys a b : List (List ℕ)) → xs ++ a ≡ ys ++ b → length xs ≡ length ys → (xs ≡ ys) × (a ≡ b)
+same_fronts : (xs ys a b : List Text) → xs ++ a ≡ ys ++ b → length xs ≡ length ys → (xs ≡ ys) × (a ≡ b)
 same_fronts xs ys a b e l = (
   sym (take-append_seam xs a) ∙ (λ i. take (l i) (e i)) ∙ take-append_seam ys b,
   sym (drop-append_seam xs a) ∙ (λ i. drop (l i) (e i)) ∙ drop-append_seam ys b,
@@ -49,11 +50,11 @@ same_fronts xs ys a b e l = (
 
 -- two fronts of one list
 
-abbrev NoFirst : (List ℕ → Type 0) → List (List ℕ) → Type 0
+abbrev NoFirst : (Text → Type 0) → List Text → Type 0
 NoFirst P [] = Unit {0}
 NoFirst P (p ∷ ps) = ¬ (P p)
 
-not_longer : (P : List ℕ → Type 0) (xs ys a b : List (List ℕ)) → xs ++ a ≡ ys ++ b → AllByRecursion P ys →
+not_longer : (P : Text → Type 0) (xs ys a b : List Text) → xs ++ a ≡ ys ++ b → AllByRecursion P ys →
     NoFirst P a → length ys ≤ length xs
 not_longer P [] [] a b e h n = omega arith
 not_longer P [] (y ∷ ys) [] b e h n = absurd (cc)
@@ -64,20 +65,20 @@ not_longer P (x ∷ xs) (y ∷ ys) a b e h n =
 
 -- the longest front of an identifier is one
 
-pub front_language : {T : ℕ → Bool} (ps : List (List ℕ)) (i : SpelledIdentifier) (rest : List (List ℕ)) →
+pub front_language : {T : ℕ → Bool} (ps : List Text) (i : SpelledIdentifier) (rest : List Text) →
     HasWords T i → ps ≡ identifier_pieces i ++ rest → IsWord (Language T) (first_piece ps)
 front_language {T = T} ps i rest h e =
-    ap (λ (l : List (List ℕ)). is_word (Language T) (first_piece l)) e ∙ h.language
+    ap (λ (l : List Text). is_word (Language T) (first_piece l)) e ∙ h.language
 
-pub one_longest : {T : ℕ → Bool} (ps : List (List ℕ)) (i j : SpelledIdentifier) (rest more : List (List ℕ)) →
+pub one_longest : {T : ℕ → Bool} (ps : List Text) (i j : SpelledIdentifier) (rest more : List Text) →
     IdentifierFront T ps i rest → IdentifierFront T ps j more → (i ≡ j) × (rest ≡ more)
 one_longest ps i j rest more a b =
     let fronts = same_fronts (identifier_pieces i) (identifier_pieces j) rest more (sym a.spelled ∙ b.spelled)
     (le_antisymm (b.longest i rest a.words a.spelled) (a.longest j more b.words b.spelled)) in
     (one_identifier i j a.words b.words fronts.0, fronts.1)
 
-pub one_front : {T : ℕ → Bool} (ps : List (List ℕ)) {o q : Option SpelledIdentifier}
-    {rest more : List (List ℕ)} →
+pub one_front : {T : ℕ → Bool} (ps : List Text) {o q : Option SpelledIdentifier}
+    {rest more : List Text} →
     FrontRead T ps o rest → FrontRead T ps q more → (o ≡ q) × (rest ≡ more)
 one_front ps (absent e) (absent k) = (refl, refl)
 one_front ps (absent e) (present g b) =
@@ -88,7 +89,7 @@ one_front ps (present h a) (present g b) = let same = one_longest ps _ _ _ _ a b
 
 -- the reading from the left is a longest front
 
-left_longest : (l : List ℕ) (s r : Option (List ℕ)) (vs more : List (List ℕ)) → IfSome s (IsWord Script) →
+left_longest : (l : Text) (s r : Option Text) (vs more : List Text) → IfSome s (IsWord Script) →
     IfSome r (IsWord Region) → AllByRecursion (IsWord Variant) vs →
     length (l ∷ (option_to_list s ++ (option_to_list r ++ vs)))
     ≤ length (identifier_pieces
@@ -119,7 +120,7 @@ left_longest l s r (v ∷ vs) more hs hr hv =
     (total ∙ length-append (l ∷ (option_to_list s ++ (option_to_list r ++ (v ∷ vs)))) (front_variants more)))
     (omega arith)
 
-left_front : (T : ℕ → Bool) (p : List ℕ) (ps : List (List ℕ)) → IsWord (Language T) p →
+left_front : (T : LanguageLengths) (p : Text) (ps : List Text) → IsWord (Language T) p →
     IdentifierFront T (p ∷ ps) (cut_identifier (identifier_of (p ∷ ps)))
     (after_variants (identifier_of (p ∷ ps)).variants)
 left_front T p ps h = record {
@@ -130,12 +131,12 @@ left_front T p ps h = record {
     variants = front_are_variants _;
   };
   spelled = sym (spell_cut (identifier_of (p ∷ ps)) ∙ pieces-identifier_of p ps);
-  longest = λ j more w e. subst (λ (l : List (List ℕ)).
+  longest = λ j more w e. subst (λ (l : List Text).
       length (identifier_pieces j) ≤ length (identifier_pieces (cut_identifier (identifier_of l))))
       (sym e) (left_longest j.language j.script j.region j.variants more w.script w.region w.variants);
 }
 
-no_repeats : {T : ℕ → Bool} (ps : List (List ℕ)) (j : SpelledIdentifier) (rest : List (List ℕ)) →
+no_repeats : {T : ℕ → Bool} (ps : List Text) (j : SpelledIdentifier) (rest : List Text) →
     IsIdentifier T j → IdentifierFront T ps j rest → RepeatsVariant T ps → ⊥
 no_repeats [] j rest h f r = let e = r.3 in absurd (cc)
 no_repeats {T = T} (p ∷ ps) j rest h f r =
@@ -153,10 +154,10 @@ no_repeats {T = T} (p ∷ ps) j rest h f r =
 
 -- fields
 
-abbrev is_key : List ℕ → Bool
+abbrev is_key : Text → Bool
 is_key p = is_word TransformKey p
 
-fields_are : (ps : List (List ℕ)) (fs : Fields) → AllByRecursion IsField fs →
+fields_are : (ps : List Text) (fs : Fields) → AllByRecursion IsField fs →
     fields_front ps ≡ fields_pieces fs → fields_at ps ≡ fs
 fields_are ps fs h e = ap (fields_from is_key) e ∙ fields_read is_key fs (fields_pass fs h)
 
@@ -167,7 +168,7 @@ fields_test o fs = tests_and (tests_all is_field IsField tests_field fs) (tests_
 
 -- what is read is determined
 
-one_transform : (T : ℕ → Bool) (ps : List (List ℕ)) (v w : Transform) (rest more : List (List ℕ)) →
+one_transform : (T : LanguageLengths) (ps : List Text) (v w : Transform) (rest more : List Text) →
     TransformRead T ps v rest → TransformRead T ps w more → (v ≡ w) × (rest ≡ more)
 one_transform T ps v w rest more a b =
     let fronts = one_front ps a.id b.id in
@@ -178,18 +179,18 @@ one_transform T ps v w rest more a b =
       a.left ∙ ap after_fields fronts.1 ∙ sym b.left,
     )
 
-pub read_no_repeats : {T : ℕ → Bool} (ps : List (List ℕ)) {o : Option SpelledIdentifier}
-    {rest : List (List ℕ)} →
+pub read_no_repeats : {T : ℕ → Bool} (ps : List Text) {o : Option SpelledIdentifier}
+    {rest : List Text} →
     FrontRead T ps o rest → RepeatsVariant T ps → ⊥
 read_no_repeats ps (absent e) r = true≢false (sym (front_language ps r.0 r.1 r.2 r.3) ∙ e)
 read_no_repeats ps (present h f) r = no_repeats ps _ _ h f r
 
-transform_apart : (T : ℕ → Bool) (ps : List (List ℕ)) (m : Transform) (rest : List (List ℕ)) (f : Fault) →
+transform_apart : (T : LanguageLengths) (ps : List Text) (m : Transform) (rest : List Text) (f : Fault) →
     TransformRead T ps m rest → TransformFault T ps f → ⊥
 transform_apart T ps m rest f h (repeats r) = read_no_repeats ps h.id r
 transform_apart T ps m rest f h (unread n u) = u m rest h
 
-one_transform_fault : (T : ℕ → Bool) (ps : List (List ℕ)) (f g : Fault) → TransformFault T ps f →
+one_transform_fault : (T : LanguageLengths) (ps : List Text) (f g : Fault) → TransformFault T ps f →
     TransformFault T ps g → f ≡ g
 one_transform_fault T ps f g (repeats r) (repeats q) = refl
 one_transform_fault T ps f g (repeats r) (unread n u) = absurd (n r)
@@ -198,11 +199,11 @@ one_transform_fault T ps f g (unread n u) (unread m v) = refl
 
 -- and what the program gives
 
-abbrev pub IsTransformAnswer : (ℕ → Bool) → List (List ℕ) → Result (Transform × List (List ℕ)) Fault → Type 0
+abbrev pub IsTransformAnswer : (ℕ → Bool) → List Text → Result (Transform × List Text) Fault → Type 0
 IsTransformAnswer T ps o = MatchResult o (λ r. TransformRead T ps r.0 r.1) (TransformFault T ps)
 
-pub fields_answer : {T : ℕ → Bool} (ps : List (List ℕ)) (o : Option SpelledIdentifier)
-    (middle : List (List ℕ)) →
+pub fields_answer : {T : ℕ → Bool} (ps : List Text) (o : Option SpelledIdentifier)
+    (middle : List Text) →
     FrontRead T ps o middle → IsTransformAnswer T ps (fields_result o middle)
 fields_answer {T = T} ps o middle h =
     cond_both (list_all is_field (fields_at middle) && (is_some o || nat_lt 0 (length (fields_at middle)))) _
@@ -256,19 +257,19 @@ transform_answer {T = T} table (p ∷ ps) =
     )))
     (λ l. fields_answer (p ∷ ps) None (p ∷ ps) (absent l))
 
-pub transform_reader : (T : ℕ → Bool) → AreLengths T → IsReader (TransformRead T) (TransformFault T)
+pub transform_reader : (T : LanguageLengths) → AreLengths T → IsReader (TransformRead T) (TransformFault T)
 transform_reader T table = reader_of (TransformRead T) (TransformFault T) (transform_result T)
     (transform_answer table) (one_transform T) (transform_apart T) (one_transform_fault T)
 
 -- its block
 
-front_parts : {T : ℕ → Bool} (ps : List (List ℕ)) {o : Option SpelledIdentifier} {rest : List (List ℕ)} →
+front_parts : {T : ℕ → Bool} (ps : List Text) {o : Option SpelledIdentifier} {rest : List Text} →
     FrontRead T ps o rest → (ps ≡ optional_pieces o ++ rest) × IfSome o (IsIdentifier T)
 front_parts ps (absent e) = (refl, tt)
 front_parts ps (present h f) = (f.spelled, h)
 
-transform_whole : (T : ℕ → Bool) → AreLengths T →
-    (ps : List (List ℕ)) (m : Transform) (rest : List (List ℕ)) → TransformRead T ps m rest →
+transform_whole : (T : LanguageLengths) → AreLengths T →
+    (ps : List Text) (m : Transform) (rest : List Text) → TransformRead T ps m rest →
     starts_block rest ≡ true → TransformMeans T (front ps) m × (rest ≡ from_block ps)
 transform_whole T table ps m rest h s =
     let o = optional_pieces h.written.id in
@@ -279,26 +280,27 @@ transform_whole T table ps m rest h s =
     let all : ps ≡ (o ++ fs) ++ rest = front_is.0 ∙ ap (λ l. o ++ l) middle ∙ sym (append_assoc o fs rest) in
     let g : IsTransformBlock T h.written =
     record { id = front_is.1; fields = h.fields; nonempty = h.nonempty } in
-    let ends = until_block (o ++ fs) rest (long_extension T table 116 (transform h.written) (refl, g)) s in (
+    let ends =
+    until_block (o ++ fs) rest (long_extension T table code_t (transform h.written) (refl, g)) s in (
       record { written = h.written; grammatical = g; spelled = ap front all ∙ ends.0; means = h.means },
       sym (ap from_block all ∙ ends.1),
     )
 
 -- pieces that no identifier goes on with
-abbrev IsInside : List ℕ → Type 0
+abbrev IsInside : Text → Type 0
 IsInside p = IsNoKey p × IsLong p
 
 pub no_key_empty : is_word TransformKey [] ≡ false
 unfolding is_word
 no_key_empty = refl
 
-fields_end : (fs : Fields) (rest : List (List ℕ)) → AllByRecursion IsField fs → starts_block rest ≡ true →
+fields_end : (fs : Fields) (rest : List Text) → AllByRecursion IsField fs → starts_block rest ≡ true →
     NoFirst IsInside (fields_pieces fs ++ rest)
 fields_end [] [] h e = tt
 fields_end [] (p ∷ ps) h e = λ x. true≢false (sym e ∙ x.1)
 fields_end (f ∷ fs) rest h e = λ x. true≢false (sym h.0.0 ∙ x.0)
 
-longest_until : {T : ℕ → Bool} (i j : SpelledIdentifier) (rest more : List (List ℕ)) → HasWords T j →
+longest_until : {T : ℕ → Bool} (i j : SpelledIdentifier) (rest more : List Text) → HasWords T j →
     NoFirst IsInside rest → identifier_pieces i ++ rest ≡ identifier_pieces j ++ more →
     length (identifier_pieces j) ≤ length (identifier_pieces i)
 longest_until i j rest more w n e =
@@ -307,7 +309,7 @@ longest_until i j rest more w n e =
     (all_both IsNoKey IsLong (after_language j) (identifier_no_key j w).1 (long_after_language j w)) n in
     omega arith
 
-rest_stops : (rest : List (List ℕ)) → starts_block rest ≡ true →
+rest_stops : (rest : List Text) → starts_block rest ≡ true →
     EndsBefore is_key rest × EndsBefore is_field_piece rest
 rest_stops [] e = (tt, tt)
 rest_stops (p ∷ ps) e =
@@ -316,9 +318,9 @@ rest_stops (p ∷ ps) e =
     (λ h. let l = length-transform_key p h in absurd (omega arith)) in
     (k, λ i. k i || not_attribute p (omega arith) i)
 
-pub transform_spelled : {T : ℕ → Bool} → (ps rest : List (List ℕ)) (m : Transform) → TransformMeans T ps m →
+pub transform_spelled : {T : ℕ → Bool} → (ps rest : List Text) (m : Transform) → TransformMeans T ps m →
     starts_block rest ≡ true → TransformRead T (ps ++ rest) m rest
-transform_spelled {T = T} ps rest m h e = subst (λ (l : List (List ℕ)). TransformRead T l m rest)
+transform_spelled {T = T} ps rest m h e = subst (λ (l : List Text). TransformRead T l m rest)
     (sym
     (ap (λ l. l ++ rest) h.spelled ∙ append_assoc (optional_pieces h.written.id) (fields_pieces fs) rest))
     (record {
@@ -353,7 +355,7 @@ transform_spelled {T = T} ps rest m h e = subst (λ (l : List (List ℕ)). Trans
           λ j more v q. longest_until i j (fields_pieces fs ++ rest) more v (fields_end fs rest g.fields e) q;
     })
 
-    goes_on : (f : List ℕ × List (List ℕ)) → IsField f →
+    goes_on : (f : Field) → IsField f →
         (is_field_piece f.0 ≡ true) × AllByRecursion (λ p. is_field_piece p ≡ true) f.1
     goes_on f r = (
       ap (λ b. b || is_word Attribute f.0) r.0,
@@ -370,40 +372,40 @@ transform_spelled {T = T} ps rest m h e = subst (λ (l : List (List ℕ)). Trans
         (all_weaker IsField (λ f. is_key f.0 ≡ true) (λ f r. r.0) fs g.fields) (rest_stops rest e).1
         (rest_stops rest e).0 no_key_empty
 
-transform_block : (T : ℕ → Bool) (ps : List (List ℕ)) (m : Transform) → TransformMeans T (front ps) m →
+transform_block : (T : LanguageLengths) (ps : List Text) (m : Transform) → TransformMeans T (front ps) m →
     TransformRead T ps m (from_block ps)
-transform_block T ps m h = subst (λ (l : List (List ℕ)). TransformRead T l m (from_block ps))
+transform_block T ps m h = subst (λ (l : List Text). TransformRead T l m (from_block ps))
     (front-from_block ps) (transform_spelled (front ps) (from_block ps) m h (from_block_starts ps))
 
-pub transform_agrees : (T : ℕ → Bool) → AreLengths T →
+pub transform_agrees : (T : LanguageLengths) → AreLengths T →
     AgreesWithBlocks (TransformRead T) (TransformFault T) (TransformMeans T)
 transform_agrees T table = agreeing (TransformRead T) (TransformFault T) (TransformMeans T)
     (transform_reader T table) (transform_whole T table) (transform_block T)
 
 -- variants that repeat, with and without what follows the block
 
-longer_front : (xs ys a b : List (List ℕ)) → xs ++ a ≡ ys ++ b → length ys ≤ length xs →
-    (c : List (List ℕ)) × (xs ≡ ys ++ c)
+longer_front : (xs ys a b : List Text) → xs ++ a ≡ ys ++ b → length ys ≤ length xs →
+    (c : List Text) × (xs ≡ ys ++ c)
 longer_front xs ys a b e l =
     let first : take (length ys) xs ≡ ys =
     sym (take-append-le (length ys) xs a l) ∙ ap (take (length ys)) e ∙ take-append_seam ys b in
     (drop (length ys) xs, sym (take-append-drop (length ys) xs) ∙ ap (λ l. l ++ drop (length ys) xs) first)
 
-one_is_short : (rest : List (List ℕ)) → starts_block rest ≡ true → NoFirst IsLong rest
+one_is_short : (rest : List Text) → starts_block rest ≡ true → NoFirst IsLong rest
 one_is_short [] e = tt
 one_is_short (p ∷ ps) e = λ l. true≢false (sym e ∙ l)
 
-repeats_before : {T : ℕ → Bool} → (ps rest : List (List ℕ)) → RepeatsVariant T ps →
+repeats_before : {T : ℕ → Bool} → (ps rest : List Text) → RepeatsVariant T ps →
     RepeatsVariant T (ps ++ rest)
 repeats_before ps rest r =
     (r.0, r.1 ++ rest, r.2, ap (λ l. l ++ rest) r.3 ∙ append_assoc (identifier_pieces r.0) r.1 rest, r.4)
 
 -- and what follows a block adds none
-pub repeats_in_block : {T : ℕ → Bool} → AreLengths T → (ps rest : List (List ℕ)) → starts_block rest ≡ true →
+pub repeats_in_block : {T : ℕ → Bool} → AreLengths T → (ps rest : List Text) → starts_block rest ≡ true →
     RepeatsVariant T ps ↔ RepeatsVariant T (ps ++ rest)
 repeats_in_block {T = T} table ps rest s = (repeats_before ps rest, whole ps)
   where
-    no_first : (rest : List (List ℕ)) → starts_block rest ≡ true → RepeatsVariant T rest → ⊥
+    no_first : (rest : List Text) → starts_block rest ≡ true → RepeatsVariant T rest → ⊥
     no_first [] s r = let e = r.3 in absurd (cc)
     no_first (p ∷ ps) s r =
         let heads : p ≡ r.0.language = cc (r.3) in
@@ -411,7 +413,7 @@ repeats_in_block {T = T} table ps rest s = (repeats_before ps rest, whole ps)
         let one = eqb-true (length p) 1 s in
         absurd (omega arith)
 
-    whole : (qs : List (List ℕ)) → RepeatsVariant T (qs ++ rest) → RepeatsVariant T qs
+    whole : (qs : List Text) → RepeatsVariant T (qs ++ rest) → RepeatsVariant T qs
     whole [] r = absurd (no_first rest s r)
     whole (q ∷ qs) r =
         let tails : qs ++ rest ≡ after_language r.0 ++ r.1 = cc (r.3) in
@@ -421,7 +423,7 @@ repeats_in_block {T = T} table ps rest s = (repeats_before ps rest, whole ps)
         let found = longer_front qs (after_language r.0) rest r.1 tails l in
         (r.0, found.0, r.2, (λ i. heads i ∷ found.1 i), r.4)
 
-pub repeats_by_block : (T : ℕ → Bool) → AreLengths T → (ps : List (List ℕ)) →
+pub repeats_by_block : (T : LanguageLengths) → AreLengths T → (ps : List Text) →
     RepeatsVariant T (front ps) ↔ RepeatsVariant T ps
 repeats_by_block T table ps =
     let same = repeats_in_block table (front ps) (from_block ps) (from_block_starts ps) in (

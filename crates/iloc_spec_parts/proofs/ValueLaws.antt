@@ -1,7 +1,7 @@
 -- The text of a value is read as it.
 use Rattle.std.proofs.Common.{◌≡◌, ◌≢◌, ℕ, false, cond, List, [], ◌∷◌, refl, ap, ◌∙◌, Ok, Err}
 use Rattle.std.specs.List.{AllByRecursion, list_all}
-use Rattle.iloc_spec_grammar.specs.Syntax.{pieces, join, IsHyphenFree, Kind, Subtag, Attribute, is_word}
+use Rattle.iloc_spec_grammar.specs.Syntax.{Text, pieces, join, IsHyphenFree, Kind, Subtag, Attribute, is_word}
 use Rattle.iloc_spec_grammar.specs.Syntax.{IsWord, lower, is_true}
 use Rattle.iloc_spec_grammar.specs.Meaning.{normal_values, InvalidSubtag, InvalidExtension}
 use Rattle.iloc_spec_grammar.specs.Values.{IsNormal, spelled_value}
@@ -11,7 +11,7 @@ use Rattle.iloc_spec_grammar.proofs.ValuesLaws.{all_weaker, values_fixed, spelle
 use Rattle.iloc_spec_parts.specs.PartValues.{unicode_value, transform_value}
 use Rattle.iloc_spec_grammar.proofs.RuleTests.{tests_all, tests_word}
 
-cut : (k : Kind) (w : List ℕ) (ws : List (List ℕ)) → AllByRecursion (IsWord k) (w ∷ ws) →
+cut : (k : Kind) (w : Text) (ws : List Text) → AllByRecursion (IsWord k) (w ∷ ws) →
     pieces (join (w ∷ ws)) ≡ w ∷ ws
 cut k w ws h = pieces-join w ws (all_weaker (IsWord k) IsHyphenFree (word_hyphen_free k) (w ∷ ws) h)
 
@@ -19,7 +19,7 @@ no_empty : IsWord Subtag [] → ⊥
 unfolding is_word
 no_empty h = absurd (cc)
 
-pub unicode_value_back : (ws : List (List ℕ)) →
+pub unicode_value_back : (ws : List Text) →
     AllByRecursion (λ w. IsNormal Subtag w × (is_true w ≡ false)) ws → unicode_value (join ws) ≡ Ok ws
 unfolding join pieces
 unicode_value_back [] h = refl
@@ -29,7 +29,7 @@ unicode_value_back (w ∷ ws) h = at (join (w ∷ ws)) (cut Subtag w ws words)
     words =
         all_weaker (λ w. IsNormal Subtag w × (is_true w ≡ false)) (IsWord Subtag) (λ w n. n.0.0) (w ∷ ws) h
 
-    at : (t : List ℕ) → pieces t ≡ w ∷ ws → unicode_value t ≡ Ok (w ∷ ws)
+    at : (t : Text) → pieces t ≡ w ∷ ws → unicode_value t ≡ Ok (w ∷ ws)
     at [] e = let empty : [] ≡ w = cc in absurd (no_empty (ap (is_word Subtag) empty ∙ words.0))
     at (c ∷ t) e =
         ap (λ ps. cond (list_all (is_word Subtag) ps) (Ok (normal_values ps)) (Err InvalidSubtag)) e
@@ -41,17 +41,17 @@ unicode_value_back (w ∷ ws) h = at (join (w ∷ ws)) (cut Subtag w ws words)
         (w ∷ ws) h))
 
 -- an empty one of a transform is spelled `true`
-pub transform_value_back : (ws : List (List ℕ)) →
+pub transform_value_back : (ws : List Text) →
     AllByRecursion (λ w. IsNormal Attribute w × (is_true w ≡ false)) ws →
     transform_value (join (spelled_value ws)) ≡ Ok ws
 transform_value_back ws h =
     from (spelled_value ws) (spelled_rule ws h).0 (spelled_means ws h) (spelled_nonempty ws)
   where
-    spelled_nonempty : (ws : List (List ℕ)) → spelled_value ws ≢ []
+    spelled_nonempty : (ws : List Text) → spelled_value ws ≢ []
     spelled_nonempty [] e = cc
     spelled_nonempty (w ∷ ws) e = cc
 
-    from : (vs : List (List ℕ)) → AllByRecursion (IsWord Attribute) vs → normal_values vs ≡ ws → vs ≢ [] →
+    from : (vs : List Text) → AllByRecursion (IsWord Attribute) vs → normal_values vs ≡ ws → vs ≢ [] →
         transform_value (join vs) ≡ Ok ws
     from [] a m n = absurd (n refl)
     from (v ∷ vs) a m n =

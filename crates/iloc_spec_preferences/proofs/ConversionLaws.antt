@@ -5,7 +5,7 @@ use Rattle.std.proofs.lemmas.Bool.{cond_both}
 use Rattle.std.specs.Option.{option_or}
 use Rattle.std.specs.Result.{result_ok}
 use Rattle.std.specs.FinMap.{find}
-use Rattle.iloc_spec_grammar.specs.Syntax.{Region, AreLengths, word_cmp, is_same, Identifier}
+use Rattle.iloc_spec_grammar.specs.Syntax.{Text, Region, AreLengths, word_cmp, is_same, Identifier}
 use Rattle.iloc_spec_grammar.specs.Meaning.{Locale, Means}
 use Rattle.iloc_spec_grammar.specs.Values.{IsNormal}
 use Rattle.iloc_spec_grammar.proofs.SameMeaning.{one_meaning}
@@ -30,11 +30,11 @@ part_of_locale : (r : SmallLocale) (p : Option Subdivision) → small_part r.id.
     preferred_region r.id.region (read_keyword subdivision_reads sd (locale_of_small r)) ≡ p
 part_of_locale r p e = from r.id.region r.keyword e
   where
-    found : Option (List ℕ × Option (List ℕ)) → Option Subdivision
+    found : Option (Text × Option Text) → Option Subdivision
     found k =
         option_and_then subdivision_reads (find word_cmp sd (option_to_list (option_map keyword_of_small k)))
 
-    at_value : (region : Option (List ℕ)) (o : Option (List ℕ)) →
+    at_value : (region : Option Text) (o : Option Text) →
         option_map (λ s. Some (agreed region s)) (option_and_then named_subdivision o) ≡ Some p →
         preferred_region region (option_and_then subdivision_reads (Some (option_to_list o))) ≡ p
     at_value region None e = absurd (cc)
@@ -45,7 +45,7 @@ part_of_locale r p e = from r.id.region r.keyword e
           | Ok s ↦ λ e. cc
         ]) e
 
-    from : (region : Option (List ℕ)) (k : Option (List ℕ × Option (List ℕ))) → small_part region k ≡ Some p →
+    from : (region : Option Text) (k : Option (Text × Option Text)) → small_part region k ≡ Some p →
         preferred_region region (found k) ≡ p
     from None None e = cc
     from (Some r) None e = cc
@@ -55,7 +55,7 @@ part_of_locale r p e = from r.id.region r.keyword e
         (λ q e. absurd (cc))
         e
 
-pub agrees : {T : ℕ → Bool} → AreLengths T → (t : List ℕ) (d : DataLocale) (M : Locale) → DataMeans T t d →
+pub agrees : {T : ℕ → Bool} → AreLengths T → (t : Text) (d : DataLocale) (M : Locale) → DataMeans T t d →
     Means T t M → d ≡ language_priority (preferences M)
 agrees table t d M h m = from (small_part h.small.id.region h.small.keyword) refl h.means
     ∙ ap (λ (M : Locale). language_priority (preferences M))
@@ -82,7 +82,7 @@ key_of_identifier i h = λ k. record {
   variant = first_item i.variants;
 }
   where
-    part : (r : Option (List ℕ)) → IfSome r (IsNormal Region) →
+    part : (r : Option Text) → IfSome r (IsNormal Region) →
         option_map whole_region r
         ≡ option_or
         (option_and_then named_subdivision (option_map subdivision_text (option_map whole_region r)))

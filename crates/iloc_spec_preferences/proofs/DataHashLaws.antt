@@ -9,13 +9,14 @@ use Rattle.iloc_spec_preferences.specs.DataLocales.{DataLocale, DataKey, data_ke
 use Rattle.iloc_spec_preferences.specs.DataOrders.{subdivision_cmp}
 use Rattle.iloc_spec_preferences.specs.DataHashes.{subdivision_fed, data_key_fed, data_locale_fed}
 use Rattle.iloc_spec_preferences.proofs.DataOrderLaws.{subdivision_exact}
+use Rattle.iloc_spec_grammar.specs.Syntax.{Text}
 
 subdivision_tells : Tells subdivision_fed
-subdivision_tells = through {Y = List ℕ × List ℕ} (λ s. (s.region, s.suffix))
+subdivision_tells = through {Y = Text × Text} (λ s. (s.region, s.suffix))
     (λ p. record { region = p.0; suffix = p.1 }) (λ s. refl) (both_tell word_tells word_tells)
 
 key_tells : Tells data_key_fed
-key_tells = through {Y = ((List ℕ × Option (List ℕ)) × Option Subdivision) × Option (List ℕ)}
+key_tells = through {Y = ((Text × Option Text) × Option Subdivision) × Option Text}
     (λ k. (((k.language, k.script), k.region), k.variant))
     (λ p. record { language = p.0.0.0; script = p.0.0.1; region = p.0.1; variant = p.1 })
     (λ k. refl)

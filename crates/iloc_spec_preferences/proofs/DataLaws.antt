@@ -6,7 +6,8 @@ use Rattle.std.proofs.Common.{append-nil}
 use Rattle.std.specs.Result.{result_ok}
 use Rattle.std.proofs.lemmas.Bool.{cond_both}
 use Rattle.std.proofs.lemmas.Bool.Decides.{nat_tests}
-use Rattle.iloc_spec_grammar.specs.Syntax.{join, Region, Subtag, UnicodeKey, Attribute, SubdivisionSuffix}
+use Rattle.iloc_spec_grammar.specs.Syntax.{Text, join, Region, Subtag, UnicodeKey, Attribute}
+use Rattle.iloc_spec_grammar.specs.Syntax.{SubdivisionSuffix}
 use Rattle.iloc_spec_grammar.specs.Syntax.{is_word, IsWord, AreLengths, lower, is_same, is_true}
 use Rattle.iloc_spec_grammar.specs.Syntax.{identifier_pieces}
 use Rattle.iloc_spec_grammar.specs.Meaning.{Locale, Fault, InvalidExtension}
@@ -36,7 +37,7 @@ use Rattle.iloc_spec_preferences.proofs.SubdivisionLaws.{read_is_subdivision, te
 
 -- what is read of a text
 
-pub data_answer : {T : ℕ → Bool} → AreLengths T → (t : List ℕ) →
+pub data_answer : {T : ℕ → Bool} → AreLengths T → (t : Text) →
     MatchResult (data_result T t) (DataMeans T t) (HasDataFault T t)
 unfolding data_result
 data_answer {T = T} table t = at_small (small_result T t) (small_answer table t)
@@ -54,14 +55,14 @@ data_answer {T = T} table t = at_small (small_result T t) (small_answer table t)
     at_small (Ok r) h = at_data r h (data_of_small r) refl
     at_small (Err f) h = not_small h
 
-pub one_data : {T : ℕ → Bool} → AreLengths T → (t : List ℕ) (d e : DataLocale) → DataMeans T t d →
+pub one_data : {T : ℕ → Bool} → AreLengths T → (t : Text) (d e : DataLocale) → DataMeans T t d →
     DataMeans T t e → d ≡ e
 one_data table t d e a b =
     let same : Some d ≡ Some e =
     sym a.means ∙ ap data_of_small (one_small table t a.small b.small a.is_small b.is_small) ∙ b.means in
     cc
 
-pub data_apart : {T : ℕ → Bool} → AreLengths T → (t : List ℕ) (d : DataLocale) (f : Fault) → DataMeans T t d →
+pub data_apart : {T : ℕ → Bool} → AreLengths T → (t : Text) (d : DataLocale) (f : Fault) → DataMeans T t d →
     HasDataFault T t f → ⊥
 data_apart table t d f h (not_small x) = small_apart t h.small f h.is_small x
 data_apart table t d f h (no_subdivision {r = r} s e) =
@@ -69,7 +70,7 @@ data_apart table t d f h (no_subdivision {r = r} s e) =
     sym h.means ∙ ap data_of_small (one_small table t h.small r h.is_small s) ∙ e in
     cc
 
-pub one_data_fault : {T : ℕ → Bool} (t : List ℕ) {f g : Fault} → HasDataFault T t f → HasDataFault T t g →
+pub one_data_fault : {T : ℕ → Bool} (t : Text) {f g : Fault} → HasDataFault T t f → HasDataFault T t g →
     f ≡ g
 one_data_fault t (not_small x) (not_small y) = one_small_fault t x y
 one_data_fault t (not_small x) (no_subdivision s e) = absurd (small_apart t _ _ s x)
@@ -78,15 +79,15 @@ one_data_fault t (no_subdivision s e) (no_subdivision q k) = refl
 
 -- printing
 
-abbrev keyword_by : Option (List ℕ) → Option (List ℕ × Option (List ℕ))
+abbrev keyword_by : Option Text → Option (Text × Option Text)
 keyword_by o = option_map (λ w. (sd, first_item (subdivision_value w))) o
 
-value_once : (w : List ℕ) → option_to_list (first_item (subdivision_value w)) ≡ subdivision_value w
+value_once : (w : Text) → option_to_list (first_item (subdivision_value w)) ≡ subdivision_value w
 value_once w = elim (is_true (lower w))
     as (λ b. option_to_list (first_item (cond b [] (lower w ∷ []))) ≡ cond b [] (lower w ∷ []))
     [ true ↦ refl | false ↦ refl ]
 
-words_first : (l : List ℕ) (s r v : List (List ℕ)) (rest : List (List ℕ)) →
+words_first : (l : Text) (s r v : List Text) (rest : List Text) →
     (l ∷ (s ++ (r ++ v))) ++ rest ≡ l ∷ (s ++ (r ++ (v ++ rest)))
 words_first l s r v rest =
     ap (λ ws. l ∷ ws) (append_assoc s (r ++ v) rest ∙ ap (λ ws. s ++ ws) (append_assoc r v rest))
@@ -98,7 +99,7 @@ text_of_data d = from (subdivision_keyword d)
     id : SmallIdentifier
     id = record { language = d.language; script = d.script; region = d.region; variant = d.variant }
 
-    from : (o : Option (List ℕ)) →
+    from : (o : Option Text) →
         text (locale_of_small (record { id = id; keyword = keyword_by o }))
         ≡ join (d.language
         ∷ (option_to_list d.script
@@ -112,7 +113,7 @@ text_of_data d = from (subdivision_keyword d)
 
 -- the keyword of a data locale
 
-attribute_from : (w : List ℕ) → IsWord Subtag w → 3 ≤ length w → IsWord Attribute w
+attribute_from : (w : Text) → IsWord Subtag w → 3 ≤ length w → IsWord Attribute w
 unfolding is_word
 attribute_from w h n = grind (arith, nat_tests)
 
@@ -120,10 +121,10 @@ pub sd_key : IsNormal UnicodeKey sd
 unfolding is_word lower
 sd_key = (refl, refl)
 
-abbrev IsKeywordOf : Option (List ℕ) → Type 0
+abbrev IsKeywordOf : Option Text → Type 0
 IsKeywordOf o = IfSome o (λ w. IsWord Subtag w × (3 ≤ length w))
 
-keyword_words : (o : Option (List ℕ)) → IfSome o (IsNormal Subtag) →
+keyword_words : (o : Option Text) → IfSome o (IsNormal Subtag) →
     IsKeywordOf
     (option_and_then (λ w. option_and_then (λ s. cond (is_whole s) None (Some w)) (named_subdivision w)) o)
 keyword_words None h = tt
@@ -146,7 +147,7 @@ small_value_of_data d h =
       value = parts.1;
     }
   where
-    parts_are : (o : Option (List ℕ)) → IsKeywordOf o →
+    parts_are : (o : Option Text) → IsKeywordOf o →
         IfSome (keyword_by o) (λ k. IsNormal UnicodeKey k.0)
         × IfSome (keyword_by o) (λ k. IfSome k.1 (λ w. IsNormal Attribute w × (is_true w ≡ false)))
     parts_are None k = (tt, tt)
@@ -179,19 +180,19 @@ whole_word : IsNormal SubdivisionSuffix whole
 unfolding is_word lower
 whole_word = (refl, refl)
 
-pub whole_region_is : (r : List ℕ) → IsNormal Region r → IsSubdivision (whole_region r)
+pub whole_region_is : (r : Text) → IsNormal Region r → IsSubdivision (whole_region r)
 whole_region_is r h = record { region = h; suffix = whole_word }
 
-whole_part : (r : List ℕ) → IsNormal Region r → IsReadPart (whole_region r)
+whole_part : (r : Text) → IsNormal Region r → IsReadPart (whole_region r)
 whole_part r h = (whole_region_is r h, λ e. absurd (cc))
 
-agreed_part : (region : Option (List ℕ)) (s : Subdivision) → IfSome region (IsNormal Region) → IsReadPart s →
+agreed_part : (region : Option Text) (s : Subdivision) → IfSome region (IsNormal Region) → IsReadPart s →
     IsReadPart (agreed region s)
 agreed_part None s h p = p
 agreed_part (Some r) s h p = elim (is_same r s.region) as (λ b. IsReadPart (cond b s (whole_region r)))
     [ true ↦ p | false ↦ whole_part r h ]
 
-parts_read : (region : Option (List ℕ)) (k : Option (List ℕ × Option (List ℕ))) →
+parts_read : (region : Option Text) (k : Option (Text × Option Text)) →
     IfSome region (IsNormal Region) →
     IfSome k (λ k. IfSome k.1 (λ w. IsNormal Attribute w × (is_true w ≡ false))) →
     IfSome (small_part region k) (λ part. IfSome part IsReadPart)
@@ -202,7 +203,7 @@ parts_read region (Some (k, o)) h v = elim (is_same k sd)
     IfSome (cond b (option_map (λ s. Some (agreed region s)) (option_and_then named_subdivision o)) None)
     (λ part. IfSome part IsReadPart)) [ true ↦ at_value o v | false ↦ tt ]
   where
-    at_value : (o : Option (List ℕ)) → IfSome o (λ w. IsNormal Attribute w × (is_true w ≡ false)) →
+    at_value : (o : Option Text) → IfSome o (λ w. IsNormal Attribute w × (is_true w ≡ false)) →
         IfSome (option_map (λ s. Some (agreed region s)) (option_and_then named_subdivision o))
         (λ part. IfSome part IsReadPart)
     at_value None v = tt
@@ -213,7 +214,7 @@ parts_read region (Some (k, o)) h v = elim (is_same k sd)
               (read_is_subdivision w s e, λ k. ap is_true (text_of_read w s e ∙ v.0.1) ∙ v.1)
         ] refl
 
-read_made : {T : ℕ → Bool} (t : List ℕ) (d : DataLocale) (h : DataMeans T t d) → MadeOf h.small.id d
+read_made : {T : ℕ → Bool} (t : Text) (d : DataLocale) (h : DataMeans T t d) → MadeOf h.small.id d
 read_made t d h = let v = read_is_small_value t h.small h.is_small in
     from (small_part h.small.id.region h.small.keyword)
     (parts_read h.small.id.region h.small.keyword v.region v.value) h.means
@@ -230,7 +231,7 @@ read_made t d h = let v = read_is_small_value t h.small h.is_small in
 text_stays : (p : Subdivision) → IsSubdivision p → lower (subdivision_text p) ≡ subdivision_text p
 text_stays p h = sym (text_of_read _ p (subdivision_back p h))
 
-pub read_is_data_locale : {T : ℕ → Bool} (t : List ℕ) (d : DataLocale) → DataMeans T t d → IsDataLocale T d
+pub read_is_data_locale : {T : ℕ → Bool} (t : Text) (d : DataLocale) → DataMeans T t d → IsDataLocale T d
 read_is_data_locale {T = T} t d h =
     let v = read_is_small_value t h.small h.is_small in
     let m = read_made t d h in
@@ -271,12 +272,12 @@ part_back (Some p) h = rw (subdivision_back p h.0) (elim (is_whole p) as (λ b. 
         small_part (Some p.region) (keyword_by (Some (subdivision_text p))) ≡ Some (Some p)
     with_keyword n = rw (text_stays p h.0, n, subdivision_back p h.0, same_itself p.region) refl
 
-pub read_back : {T : ℕ → Bool} (t : List ℕ) (d : DataLocale) → DataMeans T t d → DataMeans T (data_text d) d
+pub read_back : {T : ℕ → Bool} (t : Text) (d : DataLocale) → DataMeans T t d → DataMeans T (data_text d) d
 read_back {T = T} t d h =
     let m = read_made t d h in
     record {
       small = small_of_data d;
-      is_small = subst (λ (u : List ℕ). IsSmall T u (small_of_data d)) (text_of_data d)
+      is_small = subst (λ (u : Text). IsSmall T u (small_of_data d)) (text_of_data d)
           (small_back (small_of_data d) (small_value_of_data d (read_is_data_locale t d h)));
       means = ap (λ (e : DataLocale). data_of_small (small_of_data e)) m.2
           ∙ ap (option_map (λ part. made_of h.small.id.language h.small.id.script part h.small.id.variant))
@@ -284,7 +285,7 @@ read_back {T = T} t d h =
           ∙ ap Some (sym m.2);
     }
 
-pub data_or_fault : {T : ℕ → Bool} → AreLengths T → (t : List ℕ) →
+pub data_or_fault : {T : ℕ → Bool} → AreLengths T → (t : Text) →
     ((d : DataLocale) × DataMeans T t d) ⊎ ((f : Fault) × HasDataFault T t f)
 data_or_fault {T = T} table t =
     by_result (DataMeans T t) (HasDataFault T t) (data_result T t) (data_answer table t)

@@ -7,13 +7,14 @@ use Rattle.iloc_spec_preferences.specs.DataLocales.{DataLocale, data_key}
 use Rattle.iloc_spec_parts.specs.Orders.{IsExactOrder}
 use Rattle.iloc_spec_preferences.specs.DataOrders.{subdivision_cmp, data_key_cmp, data_locale_cmp}
 use Rattle.iloc_spec_parts.proofs.OrderLaws.{on_exact, pair_exact, option_exact, word_exact}
+use Rattle.iloc_spec_grammar.specs.Syntax.{Text}
 
 pub subdivision_exact : IsExactOrder subdivision_cmp
-subdivision_exact = on_exact {Y = List ℕ × List ℕ} (λ s. (s.region, s.suffix))
+subdivision_exact = on_exact {Y = Text × Text} (λ s. (s.region, s.suffix))
     (λ p. record { region = p.0; suffix = p.1 }) (λ s. refl) (pair_exact word_exact word_exact)
 
 key_exact : IsExactOrder data_key_cmp
-key_exact = on_exact {Y = List ℕ × (Option (List ℕ) × (Option Subdivision × Option (List ℕ)))}
+key_exact = on_exact {Y = Text × (Option Text × (Option Subdivision × Option Text))}
     (λ k. (k.language, (k.script, (k.region, k.variant))))
     (λ p. record { language = p.0; script = p.1.0; region = p.1.1.0; variant = p.1.1.1 })
     (λ k. refl)

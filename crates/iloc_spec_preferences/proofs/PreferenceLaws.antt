@@ -6,7 +6,8 @@ use Rattle.std.specs.Option.{option_or}
 use Rattle.std.specs.Result.{result_ok}
 use Rattle.std.specs.List.{AllByRecursion}
 use Rattle.std.specs.FinMap.{find, is_sorted}
-use Rattle.iloc_spec_grammar.specs.Syntax.{AreLengths, Region, Variant, Subtag, UnicodeKey, word_cmp, is_same}
+use Rattle.iloc_spec_grammar.specs.Syntax.{Field, Text, AreLengths, Region, Variant, Subtag, UnicodeKey}
+use Rattle.iloc_spec_grammar.specs.Syntax.{word_cmp, is_same}
 use Rattle.iloc_spec_grammar.specs.Syntax.{is_word, lower, is_true}
 use Rattle.iloc_spec_grammar.specs.Meaning.{Locale}
 use Rattle.iloc_spec_grammar.specs.Values.{IsNormal, IsValue, IsWellFormed}
@@ -132,7 +133,7 @@ preferences_back p h n = λ i. record {
 
 -- the locale is a well-formed value
 
-abbrev IsEntry : List ℕ × List (List ℕ) → Type 0
+abbrev IsEntry : Field → Type 0
 IsEntry f = (IsNormal UnicodeKey f.0 × AllByRecursion (IsNormal Subtag) f.1)
     × AllByRecursion (λ w. (is_true w ≡ false) × (length w ≢ 2)) f.1
 
@@ -219,7 +220,7 @@ locale_is_well_formed table p h =
 
 -- preferences of a value keep what the type keeps
 
-read_subdivision : (o : Option (List (List ℕ))) → IfSome (option_and_then subdivision_reads o) IsSubdivision
+read_subdivision : (o : Option (List Text)) → IfSome (option_and_then subdivision_reads o) IsSubdivision
 read_subdivision None = tt
 read_subdivision (Some []) = tt
 read_subdivision (Some (w ∷ v ∷ ws)) = tt
@@ -237,12 +238,12 @@ preferences_are {T = T} M h = record {
   region_override = read_subdivision (find word_cmp rg M.extensions.unicode.keywords);
 }
   where
-    first_is : (ws : List (List ℕ)) → AllByRecursion (IsNormal Variant) ws →
+    first_is : (ws : List Text) → AllByRecursion (IsNormal Variant) ws →
         IfSome (first_item ws) (IsNormal Variant)
     first_is [] h = tt
     first_is (w ∷ ws) h = h.0
 
-    region_is : (o : Option (List ℕ)) → IfSome o (IsNormal Region) → (s : Option Subdivision) →
+    region_is : (o : Option Text) → IfSome o (IsNormal Region) → (s : Option Subdivision) →
         IfSome s IsSubdivision → IfSome (preferred_region o s) IsSubdivision
     region_is None h None k = tt
     region_is None h (Some s) k = k

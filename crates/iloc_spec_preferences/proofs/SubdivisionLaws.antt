@@ -10,7 +10,8 @@ use Rattle.std.proofs.lemmas.List.Folds.{list_all-append}
 use Rattle.std.proofs.Math.Seq.{take-append_seam, drop-append_seam}
 use Rattle.std.proofs.lemmas.Bool.Decides.{nat_tests}
 use Rattle.std.proofs.lemmas.List.{map-append}
-use Rattle.iloc_spec_grammar.specs.Syntax.{Region, Subtag, SubdivisionSuffix, is_word, IsWord, word, lower}
+use Rattle.iloc_spec_grammar.specs.Syntax.{Text, Region, Subtag, SubdivisionSuffix, is_word, IsWord, word}
+use Rattle.iloc_spec_grammar.specs.Syntax.{lower}
 use Rattle.iloc_spec_grammar.specs.Syntax.{upper, letters, digits}
 use Rattle.iloc_spec_grammar.specs.Meaning.{Fault, InvalidExtension}
 use Rattle.iloc_spec_grammar.proofs.WordsLaws.{is_word-lower, is_word-normal, normal-normal, lower-lower}
@@ -21,14 +22,14 @@ use Rattle.iloc_spec_preferences.specs.Subdivisions.{subdivision, subdivision_te
 
 -- regions
 
-region_both : (r : List ℕ) → IsWord Region r → list_all is_ascii_alphanumeric r ≡ true
+region_both : (r : Text) → IsWord Region r → list_all is_ascii_alphanumeric r ≡ true
 unfolding is_word
 region_both r h = elim (or_cases ((length r == 2) && letters r) ((length r == 3) && digits r) h) [
   | inl a ↦ every _ _ letter_is r (and_parts _ _ a).1
   | inr a ↦ every _ _ digit_is r (and_parts _ _ a).1
 ]
 
-region_first : (r x : List ℕ) → IsWord Region r → region_length (r ++ x) ≡ length r
+region_first : (r x : Text) → IsWord Region r → region_length (r ++ x) ≡ length r
 unfolding is_word
 region_first [] x h = absurd (true≢false (sym h))
 region_first (c ∷ r) x h =
@@ -40,14 +41,14 @@ region_first (c ∷ r) x h =
           (sym (eqb-true _ _ parts.0))
     ]
 
-suffix_parts : (x : List ℕ) → IsWord SubdivisionSuffix x →
+suffix_parts : (x : Text) → IsWord SubdivisionSuffix x →
     ((1 ≤ length x) × (length x ≤ 4)) × (list_all is_ascii_alphanumeric x ≡ true)
 unfolding is_word
 suffix_parts x h = let parts = and_parts (is_in_range 1 4 (length x)) (list_all is_ascii_alphanumeric x) h in
     ((grind (arith, nat_tests), grind (arith, nat_tests)), parts.1)
 
 -- a region and a suffix are a subtag
-joined_subtag : (r x : List ℕ) → IsWord Region r → IsWord SubdivisionSuffix x → IsWord Subtag (r ++ x)
+joined_subtag : (r x : Text) → IsWord Region r → IsWord SubdivisionSuffix x → IsWord Subtag (r ++ x)
 unfolding is_word
 joined_subtag r x h k =
     let l = length-region r h in
@@ -56,7 +57,7 @@ joined_subtag r x h k =
     and_from _ _ (grind (arith, nat_tests))
     (list_all-append is_ascii_alphanumeric r x ∙ and_from _ _ (region_both r h) s.1)
 
-read_joined : (r x : List ℕ) → IsWord Region r → IsWord SubdivisionSuffix x →
+read_joined : (r x : Text) → IsWord Region r → IsWord SubdivisionSuffix x →
     subdivision (r ++ x) ≡ Ok (record { region = upper r; suffix = lower x })
 read_joined r x h k =
     rw (joined_subtag r x h k, region_first r x h, take-append_seam r x, drop-append_seam r x, h, k) refl
@@ -75,16 +76,16 @@ subdivision_is_subtag s h = joined_subtag (lower s.region) (lower s.suffix)
 
 -- what is read
 
-record Read (w : List ℕ) (s : Subdivision) : Type 0 where
+record Read (w : Text) (s : Subdivision) : Type 0 where
   valid : IsSubdivision s
   same_text : subdivision_text s ≡ lower w
   long : 3 ≤ length w
 
-lower_joined : (a b : List ℕ) → lower a ++ lower b ≡ lower (a ++ b)
+lower_joined : (a b : Text) → lower a ++ lower b ≡ lower (a ++ b)
 unfolding lower
 lower_joined a b = sym (map-append _ a b)
 
-read_parts : (w a b : List ℕ) → a ++ b ≡ w →
+read_parts : (w a b : Text) → a ++ b ≡ w →
     MatchResult (ok_or (both_words (word Region a) (word SubdivisionSuffix b)) InvalidExtension) (Read w)
     (λ f. Unit {0})
 read_parts w a b e = cond_both (is_word Region a) _ _ (λ o.
@@ -103,18 +104,18 @@ read_parts w a b e = cond_both (is_word Region a) _ _ (λ o.
     (λ x. tt))
     (λ r. tt)
 
-read_of : (w : List ℕ) → MatchResult (subdivision w) (Read w) (λ f. Unit {0})
+read_of : (w : Text) → MatchResult (subdivision w) (Read w) (λ f. Unit {0})
 read_of w = cond_both (is_word Subtag w) _ _ (λ o. MatchResult o (Read w) (λ f. Unit {0}))
     (λ h. read_parts w _ _ (take-append-drop (region_length w) w)) (λ h. tt)
 
-read_ok : (w : List ℕ) (s : Subdivision) → subdivision w ≡ Ok s → Read w s
+read_ok : (w : Text) (s : Subdivision) → subdivision w ≡ Ok s → Read w s
 read_ok w s e = subst (λ (o : Result Subdivision Fault). MatchResult o (Read w) (λ f. Unit {0})) e (read_of w)
 
-pub read_is_subdivision : (w : List ℕ) (s : Subdivision) → subdivision w ≡ Ok s → IsSubdivision s
+pub read_is_subdivision : (w : Text) (s : Subdivision) → subdivision w ≡ Ok s → IsSubdivision s
 read_is_subdivision w s e = (read_ok w s e).valid
 
-pub text_of_read : (w : List ℕ) (s : Subdivision) → subdivision w ≡ Ok s → subdivision_text s ≡ lower w
+pub text_of_read : (w : Text) (s : Subdivision) → subdivision w ≡ Ok s → subdivision_text s ≡ lower w
 text_of_read w s e = (read_ok w s e).same_text
 
-pub read_is_long : (w : List ℕ) (s : Subdivision) → subdivision w ≡ Ok s → 3 ≤ length w
+pub read_is_long : (w : Text) (s : Subdivision) → subdivision w ≡ Ok s → 3 ≤ length w
 read_is_long w s e = (read_ok w s e).long
