@@ -113,7 +113,7 @@ impl<T: Copy> ShortWords<T> {
     pub fn single(&self) -> Option<&T>
         ensures { option_copied result ≡ only_of self.now }
     {
-        slices::only(self.as_slice())
+        self.kept.single()
     }
 
     /// The item of a list of exactly one, by value.
@@ -127,7 +127,7 @@ impl<T: Copy> ShortWords<T> {
     pub fn get(&self, index: usize) -> Option<&T>
         ensures { option_copied result ≡ slice_get self.now index }
     {
-        slices::item_at(self.as_slice(), index)
+        self.kept.get(index)
     }
 
     /// The first item, if there is one.

@@ -34,10 +34,7 @@ impl Writeable for Value {
     }
 
     fn writeable_borrow(&self) -> Option<&str> {
-        match self.as_subtags_slice() {
-            [subtag] => Some(subtag.as_str()),
-            _ => None,
-        }
+        Some(self.as_single_subtag()?.as_str())
     }
 }
 
