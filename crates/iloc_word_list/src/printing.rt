@@ -34,7 +34,10 @@ impl Writeable for Value {
     }
 
     fn writeable_borrow(&self) -> Option<&str> {
-        Some(self.as_single_subtag()?.as_str())
+        match self.as_subtags_slice() {
+            [subtag] => Some(subtag.as_str()),
+            _ => None,
+        }
     }
 }
 
