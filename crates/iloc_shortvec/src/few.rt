@@ -1,15 +1,17 @@
 //! One to four items in place.
 ghost use Rattle.std.specs.Prelude.{◌≡◌, ◌<◌, ◌≤◌, ◌+◌, ◌-◌, [], ◌∷◌, ◌++◌, length, insert, remove};
 ghost use Rattle.std.specs.Borrow.{sem};
+ghost use Rattle.std.specs.Iterator.{YieldsFirst, item_count};
 
 use crate::front::front_mut;
+use crate::slices;
 use std::marker::Model;
 
 /// One to four items. The places after them hold copies, and count for nothing.
 #[derive(Drop)]
 pub struct Few<T: Copy> {
     cells: [T; 4],
-    len: usize,
+    len: u8,
 }
 
 impl<T: Copy> Model for Few<T> {
@@ -55,7 +57,7 @@ impl<T: Copy> Few<T> {
         all[..items.len()].copy_from_slice(items);
         Few {
             cells: all,
-            len: items.len(),
+            len: items.len() as u8,
         }
     }
 
@@ -76,7 +78,7 @@ impl<T: Copy> Few<T> {
         ensures not_empty { 0 < length self.now }
         ensures fits { length self.now ≤ 4 }
     {
-        &self.cells[..self.len]
+        &self.cells[..usize::from(self.len)]
     }
 
     /// The items for writing.
@@ -84,7 +86,7 @@ impl<T: Copy> Few<T> {
         ensures* writes_back { sem 𝓛 (few_lends_slice T.row self.entry result) }
         ensures value { result.now ≡ self.old }
     {
-        front_mut(&mut self.cells, self.len)
+        front_mut(&mut self.cells, usize::from(self.len))
     }
 
     /// Puts an item at a place, if there is room.
@@ -93,7 +95,8 @@ impl<T: Copy> Few<T> {
         requires room { length self.old < 4 }
         ensures { self.new ≡ insert self.old index item }
     {
-        self.cells.copy_within(index..self.len, index + 1);
+        self.cells
+            .copy_within(index..usize::from(self.len), index + 1);
         self.cells[index] = item;
         self.len += 1;
     }
@@ -103,10 +106,11 @@ impl<T: Copy> Few<T> {
         requires room { length self.old + length items.now ≤ 4 }
         ensures { self.new ≡ self.old ++ items.now }
     {
-        let end = self.len + items.len();
+        let start = usize::from(self.len);
+        let end = start + items.len();
         let all = &mut self.cells[..];
-        all[self.len..end].copy_from_slice(items);
-        self.len = end;
+        all[start..end].copy_from_slice(items);
+        self.len = end as u8;
     }
 
     /// Removes an item, of several.
@@ -115,7 +119,54 @@ impl<T: Copy> Few<T> {
         requires several { 1 < length self.old }
         ensures { self.new ≡ remove self.old index }
     {
-        self.cells.copy_within(index + 1..self.len, index);
+        self.cells
+            .copy_within(index + 1..usize::from(self.len), index);
         self.len -= 1;
+    }
+}
+
+/// The items by value, seen as the list of those that are left.
+#[derive(Drop)]
+pub struct FewIntoIter<T: Copy> {
+    few: Few<T>,
+    next: usize,
+}
+
+impl<T: Copy> Model for FewIntoIter<T> {
+    ghost use Rattle.std.specs.Prelude.{List, drop};
+
+    ghost Value = { List T };
+
+    ghost view = { λ it. drop it.next it.few };
+}
+
+impl<T: Copy> Iterator for FewIntoIter<T> {
+    type Item = T;
+
+    ghost next_gives = { YieldsFirst (λ rest. rest) };
+
+    ghost remaining = { item_count (λ rest. rest) };
+
+    fn next(&mut self) -> Option<T> {
+        match slices::item_at(self.few.as_slice(), self.next) {
+            Some(item) => {
+                let item = *item;
+                self.next += 1;
+                Some(item)
+            }
+            None => None,
+        }
+    }
+}
+
+impl<T: Copy> IntoIterator for Few<T> {
+    type Item = T;
+
+    type IntoIter = FewIntoIter<T>;
+
+    ghost into_iter_gives = { λ few it. it ≡ few };
+
+    fn into_iter(self) -> FewIntoIter<T> {
+        FewIntoIter { few: self, next: 0 }
     }
 }

@@ -1,12 +1,17 @@
 //! Where a `ShortWords` keeps its items.
-ghost use Rattle.std.specs.Prelude.{◌≡◌, ◌≤◌, ◌<◌, ◌+◌, ◌++◌, length, insert, remove, IfOk, OnOk, OnErr};
+ghost use Rattle.std.specs.Prelude.{◌≡◌, ◌≤◌, ◌<◌, ◌+◌, ◌++◌, length, slice_get, insert, remove, IfOk, OnOk, OnErr};
 ghost use Rattle.std.specs.Borrow.{sem};
+ghost use Rattle.std.specs.Option.{option_copied};
 ghost use Rattle.std.specs.List.Retain.{IsFiltered};
 ghost use Rattle.std.specs.Fn.{CalledAt};
 ghost use Rattle.iloc_shortvec.specs.Kept.{items_of, IsKept};
+ghost use Rattle.iloc_shortvec.specs.Rest.{words_left};
+ghost use Rattle.iloc_shortvec.specs.ShortList.{only_of};
 
 use crate::few::Few;
+use crate::into_iter::WordsRest;
 use crate::items::Nothing;
+use crate::slices;
 use std::alloc::{AllocError, Global};
 
 /// Copies of the items, in a `Vec` of this capacity or more. Refusal: `AllocError`.
@@ -43,9 +48,42 @@ impl<T: Copy> Kept<T> {
         ensures { result.now ≡ items_of self.now }
     {
         match self {
-            Kept::Empty(_) => &[],
+            Kept::Empty(none) => none.as_slice(),
             Kept::Inline(items) => items.as_slice(),
             Kept::Heap(items) => items.as_slice(),
+        }
+    }
+
+    /// The items by value.
+    pub(crate) fn into_rest(self) -> WordsRest<T>
+        ensures { words_left result ≡ items_of self }
+    {
+        match self {
+            Kept::Empty(_none) => WordsRest::Empty,
+            Kept::Inline(items) => WordsRest::Inline(items.into_iter()),
+            Kept::Heap(items) => WordsRest::Heap(items.into_iter()),
+        }
+    }
+
+    /// The item of exactly one.
+    pub(crate) fn single(&self) -> Option<&T>
+        requires { IsKept self.now }
+        ensures { option_copied result ≡ only_of (items_of self.now) }
+    {
+        match self {
+            Kept::Inline(items) => slices::only(items.as_slice()),
+            Kept::Empty(_) | Kept::Heap(_) => None,
+        }
+    }
+
+    /// The item at a place, `None` from the length on.
+    pub(crate) fn get(&self, index: usize) -> Option<&T>
+        ensures { option_copied result ≡ slice_get (items_of self.now) index }
+    {
+        match self {
+            Kept::Empty(_) => None,
+            Kept::Inline(items) => items.as_slice().get(index),
+            Kept::Heap(items) => items.as_slice().get(index),
         }
     }
 

@@ -19,6 +19,6 @@ pub mod short_box_slice;
 pub mod short_words;
 mod slices;
 
-pub use into_iter::ShortBoxSliceIntoIter;
+pub use into_iter::{ShortBoxSliceIntoIter, ShortWordsIntoIter};
 pub use short_box_slice::ShortBoxSlice;
-pub use short_words::{ShortWords, ShortWordsIntoIter};
+pub use short_words::ShortWords;

@@ -70,10 +70,7 @@ impl Value {
     pub fn as_single_subtag(&self) -> Option<&Subtag>
         ensures { option_copied result ≡ only_of self.now }
     {
-        match self.as_subtags_slice() {
-            [only] => Some(only),
-            _ => None,
-        }
+        self.subtags.single()
     }
 
     /// The subtag of a value of exactly one, by value.
@@ -87,7 +84,7 @@ impl Value {
     pub fn get_subtag(&self, idx: usize) -> Option<&Subtag>
         ensures { option_copied result ≡ slice_get self.now idx }
     {
-        self.as_subtags_slice().get(idx)
+        self.subtags.get(idx)
     }
 
     /// Takes out the subtag at a place; `None` from the length on, and then nothing changes.

@@ -1,7 +1,9 @@
 //! The list of subtags of a kind.
 ghost use Rattle.std.specs.Prelude.{◌≡◌, ◌<◌, ◌≤◌, [], ◌∷◌, ◌++◌, length, insert, remove, slice_get, Some, IfOk, OnOk, OnErr, IsOk};
 ghost use Rattle.std.specs.List.{AllByRecursion};
+ghost use Rattle.std.specs.Option.{option_copied};
 ghost use Rattle.iloc_spec_grammar.specs.Values.{IsNormal};
+ghost use Rattle.iloc_shortvec.specs.ShortList.{only_of};
 
 use iloc_shortvec::{ShortWords, ShortWordsIntoIter};
 use iloc_subtags::{WordKind, WordOf, are_normal, is_normal};
@@ -69,6 +71,20 @@ impl<K: WordKind<N>, const N: usize> WordList<K, N> {
         ensures normal { AllByRecursion (IsNormal K.kind) self.now }
     {
         self.words.as_slice()
+    }
+
+    /// The subtag of exactly one.
+    pub fn single(&self) -> Option<&WordOf<K, N>>
+        ensures { option_copied result ≡ only_of self.now }
+    {
+        self.words.single()
+    }
+
+    /// The subtag at a place, `None` from the length on.
+    pub fn get(&self, index: usize) -> Option<&WordOf<K, N>>
+        ensures { option_copied result ≡ slice_get self.now index }
+    {
+        self.words.get(index)
     }
 
     /// Puts a subtag at a place. Up to four subtags allocate nothing; if an allocation fails, nothing changes.
