@@ -1,5 +1,5 @@
 //! Maps compare and hash as the lists of their pairs.
-ghost use Rattle.std.specs.Prelude.{◌&&◌};
+ghost use Rattle.std.specs.Prelude.{◌≡◌, ◌&&◌};
 ghost use Rattle.std.specs.Hash as fed;
 ghost use Rattle.std.specs.Cmp.Lexicographic.{pointwise, lists_per, lists_equiv};
 
@@ -16,8 +16,23 @@ impl<K: Ord + Drop, V: PartialEq + Drop, S: Store<K, V>> PartialEq for LiteMap<K
         (on_per (λ x. x.1) V.PartialEq.laws)) };
 
     fn eq(&self, other: &Self) -> bool {
-        self.as_slice() == other.as_slice()
+        are_equal(self.as_slice(), other.as_slice())
     }
+}
+
+// Whether these are equal pairs, one by one.
+fn are_equal<K: PartialEq, V: PartialEq>(pairs: &[(K, V)], others: &[(K, V)]) -> bool
+    ensures { result ≡ pointwise (λ x y. K.eq x.0 y.0 && V.eq x.1 y.1) pairs.now others.now }
+{
+    if pairs.len() != others.len() {
+        return false;
+    }
+    for i in 0..pairs.len() {
+        if pairs[i].0 != others[i].0 || pairs[i].1 != others[i].1 {
+            return false;
+        }
+    }
+    true
 }
 
 impl<K: Ord + Drop, V: Eq + Drop, S: Store<K, V>> Eq for LiteMap<K, V, S> {

@@ -33,7 +33,7 @@ impl<K: Drop, V: Drop> Store<K, V> for Vec<(K, V)> {
         &mut pair.1
     }
 
-    // It stands apart, so that a key that is there pays nothing for it.
+    // It stands apart, so that a key that is there pays nothing for it. Behind the last pair no pair moves.
     #[inline(never)]
     fn lm_insert(
         &mut self,
@@ -42,10 +42,16 @@ impl<K: Drop, V: Drop> Store<K, V> for Vec<(K, V)> {
         key: K,
         value: V,
     ) -> Result<(), AllocError> {
+        if index == self.len() {
+            return Ok(self.push((key, value))?);
+        }
         Ok(self.insert(index, (key, value))?)
     }
 
     fn lm_remove(&mut self, index: usize) -> (K, V) {
+        if index + 1 == self.len() {
+            return self.take_last();
+        }
         self.remove(index)
     }
 

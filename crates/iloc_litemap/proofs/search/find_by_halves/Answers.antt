@@ -1,5 +1,7 @@
-use Rattle.std.proofs.Common.{◌≡◌, ◌∙◌, ℕ, zero, suc, sym, arith, ◌+◌, ◌*◌, ◌/◌, ◌<◌, ◌≤◌, true, false}
-use Rattle.std.specs.Ordering.{is_le}
+use Rattle.std.proofs.Common.{◌≡◌, ◌∙◌, ℕ, zero, suc, refl, sym, arith, ◌+◌, ◌*◌, ◌/◌, ◌<◌, ◌≤◌, true, false}
+use Rattle.std.proofs.Common.{ap, length, get_or}
+use Rattle.std.proofs.lemmas.List.{get_or_default}
+use Rattle.std.specs.Ordering.{is_le, is_lt, is_eq}
 use Rattle.std.specs.declared.cmp.Ordering.{Ordering}
 use Rattle.std.specs.declared.cmp.Ordering.TheVariants.{Less, Equal, Greater}
 use Rattle.iloc_litemap.specs.Pairs.{place_of}
@@ -17,6 +19,11 @@ up_to_there : (o : Ordering) (n i : ℕ) → Tells n i o → is_le o ≡ false �
 up_to_there Less n i t h = cc
 up_to_there Equal n i t h = cc
 up_to_there Greater n i t h = omega arith
+
+equal : (o : Ordering) → is_eq o ≡ true → Equal ≡ o
+equal Less h = cc
+equal Equal h = refl
+equal Greater h = cc
 
 -- where all pairs are above the key
 at_front : (low n : ℕ) → (0 < low → 2 * low < n) → n ≤ 2 * low → n ≡ 2 * low
@@ -46,20 +53,48 @@ loop-size-preserved g c =
           record { some = omega arith; end = omega arith; from = λ later. omega arith; upto = omega arith }
     ]
 
-pub returns-in-Less : goal.returns-in-Less
-returns-in-Less g c =
-    let t = tells_as_read g.met.K.Ord.total c.args.key.now _ c.loop-size.low _ _ c.requires.ascending
-    (omega arith) c.in-Less.ensures in
-    sym (err_of_rank _ _ (omega (arith, t)))
+not_below : (o : Ordering) (n low : ℕ) → Tells n low o → is_eq o ≡ false → is_lt o ≡ false → n ≤ 2 * low
+not_below Less n low t e l = cc
+not_below Equal n low t e l = cc
+not_below Greater n low t e l = omega arith
 
-pub returns-in-Equal : goal.returns-in-Equal
-returns-in-Equal g c =
+below : (o : Ordering) → is_lt o ≡ true → Less ≡ o
+below Less h = refl
+below Equal h = cc
+below Greater h = cc
+
+pub returns-then-eq : goal.returns-then-eq
+returns-then-eq g c =
+    let eq = rw
+    (g.met.K.Ord.matches_eq (get_or c.args.pairs.now c.loop-size.low c.index-pairs-low.result).0
+    c.args.key.now)
+    at c.eq.ensures in
     let t = tells_as_read g.met.K.Ord.total c.args.key.now _ c.loop-size.low _ _ c.requires.ascending
-    (omega arith) c.in-Equal.ensures in
+    (omega arith) (equal _ (sym eq ∙ c.if-eq.true)) in
     sym (ok_of_rank _ _ (sym t))
 
-pub returns-in-Greater : goal.returns-in-Greater
-returns-in-Greater g c =
+pub returns-then-lt : goal.returns-then-lt
+returns-then-lt g c =
+    let lt = rw
+    (g.met.K.Ord.matches_partial_cmp (get_or c.args.pairs.now c.loop-size.low c.index-pairs-low-2.result).0
+    c.args.key.now) at c.lt.ensures in
     let t = tells_as_read g.met.K.Ord.total c.args.key.now _ c.loop-size.low _ _ c.requires.ascending
-    (omega arith) c.in-Greater.ensures in
-    sym (err_of_rank _ _ (at_front _ _ c.loop-size.invariant.from (omega (arith, t))))
+    (omega arith) (below _ (sym lt ∙ c.if-lt.true)) in
+    sym (err_of_rank _ _ (omega (arith, t)))
+
+pub returns-else-lt : goal.returns-else-lt
+returns-else-lt g c =
+    let pairs = c.args.pairs.now in
+    let low = c.loop-size.low in
+    let inside : low < length pairs = omega arith in
+    let eq = rw (g.met.K.Ord.matches_eq (get_or pairs low c.index-pairs-low.result).0 c.args.key.now)
+    at c.eq.ensures in
+    let lt = rw
+    (g.met.K.Ord.matches_partial_cmp (get_or pairs low c.index-pairs-low-2.result).0 c.args.key.now)
+    at c.lt.ensures in
+    let same = ap (λ e. is_eq (g.K.Ord.cmp e.0 c.args.key.now))
+    (get_or_default pairs low c.index-pairs-low-2.result c.index-pairs-low.result inside) in
+    let t = tells_as_read g.met.K.Ord.total c.args.key.now pairs low c.index-pairs-low-2.result _
+    c.requires.ascending inside refl in
+    let upto = not_below _ _ low t (same ∙ sym eq ∙ c.if-eq.false) (sym lt ∙ c.if-lt.false) in
+    sym (err_of_rank _ _ (at_front _ _ c.loop-size.invariant.from upto))
