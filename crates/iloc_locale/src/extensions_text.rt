@@ -57,6 +57,9 @@ impl Pieces for Extensions {
     }
 
     fn write_pieces<S: Sink>(&self, sink: &mut S, first: bool) -> fmt::Result {
+        if self.is_empty() {
+            return Ok(());
+        }
         self.parts().write_pieces(sink, first)
     }
 }
