@@ -105,9 +105,11 @@ impl From<&Locale> for FormatPreferences {
         ≡ format_preferences (locale_value locale.now) };
 
     fn from(loc: &Locale) -> Self {
-        match FormatPreferences::from_locale_strict(loc) {
-            Ok(preferences) => preferences,
-            Err(preferences) => preferences,
+        FormatPreferences {
+            locale_preferences: LocalePreferences::from(loc),
+            numbering_system: keyword(loc).0,
+            hour_cycle: keyword(loc).0,
+            calendar_algorithm: keyword(loc).0,
         }
     }
 }

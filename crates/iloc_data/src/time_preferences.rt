@@ -93,9 +93,10 @@ impl From<&Locale> for TimePreferences {
     ghost from_gives = { λ locale p. time_value p ≡ time_preferences (locale_value locale.now) };
 
     fn from(loc: &Locale) -> Self {
-        match TimePreferences::from_locale_strict(loc) {
-            Ok(preferences) => preferences,
-            Err(preferences) => preferences,
+        TimePreferences {
+            locale_preferences: LocalePreferences::from(loc),
+            numbering_system: keyword(loc).0,
+            hour_cycle: keyword(loc).0,
         }
     }
 }

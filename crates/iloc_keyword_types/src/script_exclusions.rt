@@ -55,8 +55,9 @@ impl DictionaryBreakScriptExclusions {
     pub fn to_value(&self, alloc: Global) -> Result<Value, AllocError>
         ensures { IfOk result (λ value. value ≡ scripts_give self.now) }
     {
-        let mut subtags = Vec::new(alloc);
-        for script in self.as_inner() {
+        let scripts = self.as_inner();
+        let mut subtags = Vec::with_capacity(alloc, scripts.len())?;
+        for script in scripts {
             subtags.push(Subtag::from(*script))?;
         }
         Ok(Value::from_vec_unchecked(subtags))

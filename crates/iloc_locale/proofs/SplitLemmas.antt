@@ -2,10 +2,10 @@
 use Rattle.std.proofs.Common.{◌≡◌, ℕ, suc, ◌+◌, ◌<◌, ◌≤◌, true, false, cond, List, [], ◌∷◌, ◌++◌, take, drop}
 use Rattle.std.proofs.Common.{flat_map, nat_le, refl, sym, ap, ◌∙◌, arith, append-nil}
 use Rattle.std.proofs.lemmas.Bool.Decides.{nat_tests}
-use Rattle.iloc_spec_grammar.specs.Syntax.{Unicode, Transform}
 use Rattle.iloc_spec_grammar.specs.Meaning.{Extensions}
 use Rattle.iloc_spec_grammar.specs.Values.{before_above, other_spelling, transform_spelling, unicode_spelling}
 use Rattle.iloc_spec_grammar.specs.Values.{private_spelling, extensions_spelling}
+use Rattle.iloc_writeable.specs.Pieces.{is_there}
 use Rattle.iloc_spec_grammar.proofs.PartTexts.{spelling_around}
 
 abbrev Others : Type 0
@@ -41,15 +41,16 @@ split_there bs (o ∷ os) = elim (nat_le o.0 116)
     [ true ↦ ap (λ xs. o ∷ xs) (split_there bs os) | false ↦ refl ]
 
 -- the pieces of the parts, the others in two
-pub parts_pieces : (e : Extensions) (before after : Others) (t : Transform) (u : Unicode)
-    (x : List (List ℕ)) →
-    ((bs : Others) → before_above bs e.others ≡ before ++ (bs ++ after)) → t ≡ e.transform → u ≡ e.unicode →
-    x ≡ e.private
-    → flat_map other_spelling before
-    ++ (transform_spelling t ++ (unicode_spelling u ++ (flat_map other_spelling after ++ private_spelling x)))
+pub parts_pieces : (e : Extensions) (before after : Others) (t u x : List (List ℕ)) →
+    ((bs : Others) → before_above bs e.others ≡ before ++ (bs ++ after)) →
+    t ≡ transform_spelling e.transform → u ≡ unicode_spelling e.unicode → x ≡ private_spelling e.private
+    → flat_map other_spelling before ++ (t ++ (u ++ (flat_map other_spelling after ++ x)))
     ≡ extensions_spelling e
 parts_pieces e before after t u x others a b c =
-    (λ k. flat_map other_spelling before
-    ++ (transform_spelling (a k)
-    ++ (unicode_spelling (b k) ++ (flat_map other_spelling after ++ private_spelling (c k)))))
+    (λ k. flat_map other_spelling before ++ (a k ++ (b k ++ (flat_map other_spelling after ++ c k))))
     ∙ sym (spelling_around e before after others)
+
+-- a part without pieces
+pub none_there : (ps : List (List ℕ)) → is_there ps ≡ false → [] ≡ ps
+none_there [] h = refl
+none_there (p ∷ ps) h = cc

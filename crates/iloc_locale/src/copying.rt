@@ -1,35 +1,61 @@
 //! Copies extensions, without their empty parts.
-ghost use Rattle.std.specs.Prelude.{◌≡◌, [], OnOk};
-ghost use Rattle.iloc_spec_grammar.specs.Meaning.{no_extensions, no_transform, no_unicode};
-ghost use Rattle.iloc_unicode.specs.UnicodeValue as unicodes;
+ghost use Rattle.std.specs.Prelude.{◌≡◌, [], IsTrue, OnOk};
+ghost use Rattle.iloc_spec_grammar.specs.Meaning.{no_extensions, no_transform};
 ghost use Rattle.iloc_transform.specs.TransformReading as transforms;
 ghost use Rattle.iloc_locale.specs.ExtensionsValue.{value_of};
 
 use crate::extensions::Extensions;
 use iloc_other::{Other, Private};
 use iloc_transform::Transform;
-use iloc_unicode::{Attributes, Keywords, Unicode};
+use iloc_unicode::{Attributes, Keywords};
 use std::alloc::AllocError;
 
-/// Copies each part that is there into extensions that have none.
-#[inline(never)]
+/// Copies each part that is there into extensions that have none. Most have keywords alone.
+#[inline(always)]
 pub(crate) fn fill_from(to: &mut Extensions, from: &Extensions) -> Result<(), AllocError>
     requires { value_of to.old ≡ no_extensions }
     ensures { OnOk result (value_of to.new ≡ value_of from.now) }
 {
-    copy_unicode(&mut to.unicode, &from.unicode)?;
+    copy_keywords(&mut to.unicode.keywords, &from.unicode.keywords)?;
+    if has_keywords_alone(from) {
+        return Ok(());
+    }
+    fill_rest(to, from)
+}
+
+// Whether there is nothing but keywords.
+#[inline(always)]
+fn has_keywords_alone(extensions: &Extensions) -> bool
+    ensures attributes { IsTrue result → extensions.now.unicode.attributes ≡ [] }
+    ensures transform { IsTrue result → transforms.value_of extensions.now.transform ≡ no_transform }
+    ensures private { IsTrue result → extensions.now.private ≡ [] }
+    ensures others { IsTrue result → extensions.now.other.items ≡ [] }
+{
+    extensions.unicode.attributes.is_empty()
+        && extensions.transform.is_empty()
+        && extensions.private.is_empty()
+        && extensions.other.is_empty()
+}
+
+// Copies each part but the keywords.
+#[inline(never)]
+fn fill_rest(to: &mut Extensions, from: &Extensions) -> Result<(), AllocError>
+    requires attributes { to.old.unicode.attributes ≡ [] }
+    requires transform { transforms.value_of to.old.transform ≡ no_transform }
+    requires private { to.old.private ≡ [] }
+    requires others { to.old.other.items ≡ [] }
+    ensures keywords { OnOk result (to.new.unicode.keywords ≡ to.old.unicode.keywords) }
+    ensures attributes { OnOk result
+        (to.new.unicode.attributes ≡ from.now.unicode.attributes) }
+    ensures transform { OnOk result
+        (transforms.value_of to.new.transform ≡ transforms.value_of from.now.transform) }
+    ensures private { OnOk result (to.new.private ≡ from.now.private) }
+    ensures others { OnOk result (to.new.other.items ≡ from.now.other.items) }
+{
+    copy_attributes(&mut to.unicode.attributes, &from.unicode.attributes)?;
     copy_transform(&mut to.transform, &from.transform)?;
     copy_private(&mut to.private, &from.private)?;
     copy_others(&mut to.other, &from.other)
-}
-
-#[inline(always)]
-fn copy_unicode(to: &mut Unicode, from: &Unicode) -> Result<(), AllocError>
-    requires { unicodes.value_of to.old ≡ no_unicode }
-    ensures { OnOk result (unicodes.value_of to.new ≡ unicodes.value_of from.now) }
-{
-    copy_keywords(&mut to.keywords, &from.keywords)?;
-    copy_attributes(&mut to.attributes, &from.attributes)
 }
 
 #[inline(always)]

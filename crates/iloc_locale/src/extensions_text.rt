@@ -1,7 +1,10 @@
 //! Prints extensions.
-ghost use Rattle.std.specs.Prelude.{◌≡◌, ◌++◌, List, Some};
+ghost use Rattle.std.specs.Prelude.{◌≡◌, ◌++◌, List, Some, flat_map, option_to_list};
 ghost use Rattle.iloc_spec_grammar.specs.Syntax.{Block};
 ghost use Rattle.iloc_spec_grammar.specs.Values.{before_above, extensions_spelling, extensions_text};
+ghost use Rattle.iloc_spec_grammar.specs.Values.{private_spelling, transform_spelling, unicode_spelling};
+ghost use Rattle.iloc_transform.specs.TransformReading as transforms;
+ghost use Rattle.iloc_unicode.specs.UnicodeValue as unicodes;
 
 use crate::extensions::Extensions;
 use iloc_other::{Other, Private};
@@ -11,16 +14,34 @@ use iloc_writeable::{Pieces, Sink, Writeable};
 use std::fmt;
 
 impl Extensions {
-    // The parts in the order in which they are printed.
-    fn parts(&self) -> (&[Other], &Transform, &Unicode, &[Other], &Private)
+    // The parts in the order in which they are printed, `None` for one that is empty.
+    #[inline(always)]
+    fn parts(
+        &self,
+    ) -> (
+        &[Other],
+        Option<&Transform>,
+        Option<&Unicode>,
+        &[Other],
+        Option<&Private>,
+    )
         ensures others { (bs : List Block)
             → before_above bs self.now.other.items ≡ result.0.now ++ (bs ++ result.3.now) }
-        ensures transform { result.1.now ≡ self.now.transform }
-        ensures unicode { result.2.now ≡ self.now.unicode }
-        ensures private { result.4.now ≡ self.now.private }
+        ensures transform { flat_map (λ m. transform_spelling (transforms.value_of m.now))
+            (option_to_list result.1) ≡ transform_spelling (transforms.value_of self.now.transform) }
+        ensures unicode { flat_map (λ u. unicode_spelling (unicodes.value_of u.now))
+            (option_to_list result.2) ≡ unicode_spelling (unicodes.value_of self.now.unicode) }
+        ensures private { flat_map (λ p. private_spelling p.now) (option_to_list result.4)
+            ≡ private_spelling self.now.private }
     {
         let (before, after) = split_after_t(&self.other);
-        (before, &self.transform, &self.unicode, after, &self.private)
+        (
+            before,
+            there(&self.transform),
+            there(&self.unicode),
+            after,
+            there(&self.private),
+        )
     }
 }
 
@@ -67,6 +88,15 @@ impl fmt::Display for Extensions {
     fn fmt<W: fmt::Write>(&self, f: &mut fmt::Formatter<W>) -> fmt::Result {
         self.write_to(f)
     }
+}
+
+// The part, if it has a piece.
+#[tactic(auto, using(crate::proofs::SplitLemmas::none_there))]
+#[inline(always)]
+fn there<P: Pieces>(part: &P) -> Option<&P>
+    ensures { flat_map (λ p. P.pieces p.now) (option_to_list result) ≡ P.pieces part.now }
+{
+    if part.has_pieces() { Some(part) } else { None }
 }
 
 // The others up to the first singleton above `t`, and the remaining ones.

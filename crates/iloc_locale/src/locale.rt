@@ -47,9 +47,6 @@ impl Clone for Locale {
             id: self.id.clone()?,
             extensions: Extensions::new(*self.extensions.other.allocator()),
         };
-        if self.extensions.is_empty() {
-            return Ok(copy);
-        }
         fill_from(&mut copy.extensions, &self.extensions)?;
         Ok(copy)
     }

@@ -1,4 +1,5 @@
 //! The length of a printed text, without the text.
+ghost use Rattle.std.specs.Prelude.{◌≡◌, ℕ};
 
 use crate::hint::LengthHint;
 use crate::sink::Sink;
@@ -7,26 +8,48 @@ use std::fmt;
 /// Adds up the lengths of what is written to it, and keeps none of it.
 #[derive(Drop)]
 pub(crate) struct Counting {
-    pub(crate) hint: LengthHint,
+    // `None` if the sum doesn't fit.
+    sum: Option<usize>,
+}
+
+impl Counting {
+    ghost use Rattle.iloc_writeable.specs.Hints.{fitting, hint_of};
+
+    /// Nothing is counted yet.
+    pub(crate) fn new() -> Self
+        ensures { result.sum ≡ fitting 0 }
+    {
+        Counting { sum: Some(0) }
+    }
+
+    /// The hint of the length so far.
+    pub(crate) fn hint(&self) -> LengthHint
+        ensures { (n : ℕ) → self.now.sum ≡ fitting n → result ≡ hint_of n }
+    {
+        LengthHint(self.sum.unwrap_or(usize::MAX), self.sum)
+    }
 }
 
 impl Sink for Counting {
     ghost use Rattle.iloc_writeable.specs.Counting.{Counted};
 
-    ghost took = { λ a t b. Counted a.hint t b.hint };
+    ghost took = { λ a t b. Counted a.sum t b.sum };
 
     ghost failed = { λ _ _ _ _. ⊥ };
 
     fn write_str(&mut self, text: &str) -> fmt::Result {
-        self.hint += text.len();
+        self.sum = match self.sum {
+            Some(sum) => sum.checked_add(text.len()),
+            None => None,
+        };
         Ok(())
     }
 
     ghost use Rattle.iloc_writeable.specs.Counting.{counted_nothing, counted_both};
 
-    ghost took_nothing = { λ s. counted_nothing s.hint };
+    ghost took_nothing = { λ s. counted_nothing s.sum };
 
-    ghost took_then_took = { λ a b c s t p q. counted_both a.hint b.hint c.hint s t p q };
+    ghost took_then_took = { λ a b c s t p q. counted_both a.sum b.sum c.sum s t p q };
 
     ghost took_then_failed = { λ a b c s t u p q. q };
 

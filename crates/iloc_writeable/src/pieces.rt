@@ -60,7 +60,12 @@ impl Pieces for &str {
         true
     }
 
+    // (a singleton is one byte)
+    #[inline(always)]
     fn write_pieces<S: Sink>(&self, sink: &mut S, first: bool) -> fmt::Result {
+        if let [byte @ 0..128] = self.as_bytes() {
+            return sink.write_short_piece([*byte, 0, 0, 0, 0, 0, 0, 0], 1, first);
+        }
         write_piece(sink, self, first)
     }
 }

@@ -1,7 +1,11 @@
 //! Short pieces, written at once.
-ghost use Rattle.std.specs.Prelude.{◌≡◌, ℕ, ◌+◌, ◌-◌, ◌<◌, ◌≤◌, [], ◌∷◌, ◌++◌, length, take, vec_len, vec_capacity, All};
+ghost use Rattle.std.specs.Prelude.{◌≡◌, ℕ, ◌+◌, ◌-◌, ◌<◌, ◌≤◌, ◌%◌, [], ◌∷◌, ◌++◌, length, map, take, vec_len, vec_capacity, All};
+ghost use Rattle.std.specs.String.{string_len, string_capacity};
 ghost use Rattle.iloc_writeable.specs.Pieces.{hyphened};
+ghost use Rattle.iloc_writeable.specs.StringSink.{Appended};
 ghost use Rattle.iloc_writeable.specs.VecSink.{Extended};
+
+use std::alloc::Allocator;
 
 // A hyphen, and the bytes.
 #[inline(always)]
@@ -43,6 +47,43 @@ pub(crate) fn append_front<const M: usize>(bytes: &mut Vec<u8>, all: &[u8; M], c
     let before = bytes.len();
     match bytes.extend_from_slice(all) {
         Ok(()) => bytes.truncate(before + count),
+        Err(_) => unreachable!(),
+    }
+}
+
+// The bytes without their highest bits, so that all are ASCII.
+#[inline(always)]
+pub(crate) fn low_bytes(bytes: &[u8; 8]) -> [u8; 8]
+    ensures { result ≡ map (λ b. b % 128) bytes.now }
+{
+    let [a, b, c, d, e, f, g, h] = *bytes;
+    [
+        a % 128,
+        b % 128,
+        c % 128,
+        d % 128,
+        e % 128,
+        f % 128,
+        g % 128,
+        h % 128,
+    ]
+}
+
+// Appends the first of these bytes, which are ASCII, if there is room for all of them.
+#[inline(always)]
+pub(crate) fn push_front<A: Allocator, const M: usize>(
+    text: &mut String<A>,
+    all: &[u8; M],
+    count: usize,
+)
+    requires room { string_len text.old + M ≤ string_capacity text.old }
+    requires within { count ≤ M }
+    requires ascii { All (λ b. b < 128) all.now }
+    ensures { Appended text.old (take count all.now) text.new }
+{
+    let before = text.as_bytes().len();
+    match text.push_str(unsafe { str::from_utf8_unchecked(all) }) {
+        Ok(()) => text.truncate(before + count),
         Err(_) => unreachable!(),
     }
 }

@@ -5,4 +5,4 @@ use Rattle.iloc_keyword_types.proofs.script_exclusions.DictionaryBreakScriptExcl
 
 abbrev pub invariant-loop-script : goal.invariant-loop-script
 invariant-loop-script l =
-    l.subtags.items ++ scripts_give (drop l.script-index l.script-items) ≡ scripts_give l.script-items
+    l.subtags.items ++ scripts_give (drop l.script-index l.scripts) ≡ scripts_give l.scripts

@@ -1,8 +1,6 @@
 -- The pieces of the parts are those of the extensions.
 use Rattle.std.proofs.Common.{ap, ◌∙◌}
 use Rattle.iloc_writeable.specs.Pieces.{is_there}
-use Rattle.iloc_unicode.specs.UnicodeValue as unicode
-use Rattle.iloc_transform.specs.TransformReading as transform
 use Rattle.iloc_locale.specs.ExtensionsValue.{value_of}
 use Rattle.iloc_locale.proofs.SplitLemmas.{parts_pieces}
 use Rattle.iloc_locale.proofs.extensions_text.ExtensionsPieces.has_pieces.Goals as goal
@@ -12,4 +10,4 @@ returns c =
     let parts = c.parts.ensures in
     c.has_pieces.ensures
     ∙ ap is_there (parts_pieces (value_of c.args.self.now) _ _ _ _ _ parts.others
-    (ap transform.value_of parts.transform) (ap unicode.value_of parts.unicode) parts.private)
+    parts.transform parts.unicode parts.private)

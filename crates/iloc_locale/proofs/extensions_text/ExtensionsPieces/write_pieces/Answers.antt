@@ -4,8 +4,6 @@ use Rattle.iloc_spec_grammar.specs.Values.{extensions_spelling}
 use Rattle.iloc_writeable.specs.Pieces.{hyphened}
 use Rattle.iloc_spec_grammar.specs.Meaning.{no_extensions}
 use Rattle.iloc_writeable.specs.Writing.{Writes}
-use Rattle.iloc_unicode.specs.UnicodeValue as unicode
-use Rattle.iloc_transform.specs.TransformReading as transform
 use Rattle.iloc_locale.specs.ExtensionsValue.{value_of}
 use Rattle.iloc_locale.proofs.SplitLemmas.{parts_pieces}
 use Rattle.iloc_locale.proofs.extensions_text.ExtensionsPieces.write_pieces.Goals as goal
@@ -26,5 +24,5 @@ returns g c =
     let parts = c.parts.ensures in
     subst (λ (ps : List (List ℕ)). Writes g.S.Sink.took g.S.Sink.failed c.args.sink.now
     (hyphened c.args.first ps) c.write_pieces.new.sink c.write_pieces.result)
-    (parts_pieces (value_of c.args.self.now) _ _ _ _ _ parts.others (ap transform.value_of parts.transform)
-    (ap unicode.value_of parts.unicode) parts.private) c.write_pieces.ensures
+    (parts_pieces (value_of c.args.self.now) _ _ _ _ _ parts.others parts.transform
+    parts.unicode parts.private) c.write_pieces.ensures
