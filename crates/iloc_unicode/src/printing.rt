@@ -1,16 +1,13 @@
 //! Prints keywords.
-ghost use Rattle.std.specs.Prelude.{◌≡◌, Some, false};
+ghost use Rattle.std.specs.Prelude.{◌≡◌, Some};
 ghost use Rattle.std.specs.Ordering.{nat_cmp};
 ghost use Rattle.std.specs.Cmp.Lexicographic.{slice_cmp};
 ghost use Rattle.iloc_spec_grammar.specs.Syntax.{join, fields_pieces};
-ghost use Rattle.iloc_writeable.specs.Counting.{Counted};
-ghost use Rattle.iloc_writeable.specs.Pieces.{hyphened};
 
 use crate::keywords::Keywords;
-use iloc_subtags::Subtag;
 use iloc_writeable::compare::cmp_utf8;
 use iloc_writeable::pieces::Pieces;
-use iloc_writeable::{LengthHint, Sink, Writeable};
+use iloc_writeable::{Sink, Writeable};
 use std::cmp::Ordering;
 use std::fmt;
 
@@ -37,18 +34,6 @@ impl Writeable for Keywords {
         self.write_joined(sink)
     }
 
-    // The lengths are added up, with no sink between.
-    fn writeable_length_hint(&self) -> LengthHint {
-        let mut hint = LengthHint::exact(0);
-        let mut hyphen = 0;
-        for pair in self.as_slice() {
-            hint += hyphen + pair.0.to_piece().len();
-            hint = with_subtags(hint, pair.1.as_subtags_slice());
-            hyphen = 1;
-        }
-        hint
-    }
-
     fn writeable_borrow(&self) -> Option<&str> {
         None
     }
@@ -69,14 +54,4 @@ impl Keywords {
     {
         cmp_utf8(self, other)
     }
-}
-
-// The hint of a text, and behind it of each subtag after a hyphen.
-fn with_subtags(mut hint: LengthHint, subtags: &[Subtag]) -> LengthHint
-    ensures { Counted hint (hyphened false subtags.now) result }
-{
-    for subtag in subtags {
-        hint += 1 + subtag.len();
-    }
-    hint
 }
