@@ -68,10 +68,7 @@ impl Other {
     pub fn get_ext_str(&self) -> &str
         ensures { result.now ≡ self.now.0 ∷ [] }
     {
-        match str::from_utf8(slice::from_ref(&self.ext)) {
-            Ok(text) => text,
-            Err(_) => unreachable!(),
-        }
+        unsafe { str::from_utf8_unchecked(slice::from_ref(&self.ext)) }
     }
 
     /// The singleton as a character.
