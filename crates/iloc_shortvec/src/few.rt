@@ -1,10 +1,8 @@
 //! One to four items in place.
 ghost use Rattle.std.specs.Prelude.{◌≡◌, ◌<◌, ◌≤◌, ◌+◌, ◌-◌, [], ◌∷◌, ◌++◌, length, insert, remove};
 ghost use Rattle.std.specs.Borrow.{sem};
-ghost use Rattle.std.specs.Iterator.{YieldsFirst, item_count};
 
 use crate::front::front_mut;
-use crate::slices;
 use std::marker::Model;
 
 /// One to four items. The places after them hold copies, and count for nothing.
@@ -122,51 +120,5 @@ impl<T: Copy> Few<T> {
         self.cells
             .copy_within(index + 1..usize::from(self.len), index);
         self.len -= 1;
-    }
-}
-
-/// The items by value, seen as the list of those that are left.
-#[derive(Drop)]
-pub struct FewIntoIter<T: Copy> {
-    few: Few<T>,
-    next: usize,
-}
-
-impl<T: Copy> Model for FewIntoIter<T> {
-    ghost use Rattle.std.specs.Prelude.{List, drop};
-
-    ghost Value = { List T };
-
-    ghost view = { λ it. drop it.next it.few };
-}
-
-impl<T: Copy> Iterator for FewIntoIter<T> {
-    type Item = T;
-
-    ghost next_gives = { YieldsFirst (λ rest. rest) };
-
-    ghost remaining = { item_count (λ rest. rest) };
-
-    fn next(&mut self) -> Option<T> {
-        match slices::item_at(self.few.as_slice(), self.next) {
-            Some(item) => {
-                let item = *item;
-                self.next += 1;
-                Some(item)
-            }
-            None => None,
-        }
-    }
-}
-
-impl<T: Copy> IntoIterator for Few<T> {
-    type Item = T;
-
-    type IntoIter = FewIntoIter<T>;
-
-    ghost into_iter_gives = { λ few it. it ≡ few };
-
-    fn into_iter(self) -> FewIntoIter<T> {
-        FewIntoIter { few: self, next: 0 }
     }
 }

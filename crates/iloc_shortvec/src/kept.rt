@@ -5,11 +5,9 @@ ghost use Rattle.std.specs.Option.{option_copied};
 ghost use Rattle.std.specs.List.Retain.{IsFiltered};
 ghost use Rattle.std.specs.Fn.{CalledAt};
 ghost use Rattle.iloc_shortvec.specs.Kept.{items_of, IsKept};
-ghost use Rattle.iloc_shortvec.specs.Rest.{words_left};
 ghost use Rattle.iloc_shortvec.specs.ShortList.{only_of};
 
 use crate::few::Few;
-use crate::into_iter::WordsRest;
 use crate::items::Nothing;
 use crate::slices;
 use std::alloc::{AllocError, Global};
@@ -51,17 +49,6 @@ impl<T: Copy> Kept<T> {
             Kept::Empty(none) => none.as_slice(),
             Kept::Inline(items) => items.as_slice(),
             Kept::Heap(items) => items.as_slice(),
-        }
-    }
-
-    /// The items by value.
-    pub(crate) fn into_rest(self) -> WordsRest<T>
-        ensures { words_left result ≡ items_of self }
-    {
-        match self {
-            Kept::Empty(_none) => WordsRest::Empty,
-            Kept::Inline(items) => WordsRest::Inline(items.into_iter()),
-            Kept::Heap(items) => WordsRest::Heap(items.into_iter()),
         }
     }
 

@@ -19,6 +19,6 @@ pub mod short_box_slice;
 pub mod short_words;
 mod slices;
 
-pub use into_iter::{ShortBoxSliceIntoIter, ShortWordsIntoIter};
+pub use into_iter::ShortBoxSliceIntoIter;
 pub use short_box_slice::ShortBoxSlice;
-pub use short_words::ShortWords;
+pub use short_words::{ShortWords, ShortWordsIntoIter};

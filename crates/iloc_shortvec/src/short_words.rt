@@ -7,7 +7,7 @@ ghost use Rattle.std.specs.Fn.{CalledAt};
 ghost use Rattle.std.specs.Hash as fed;
 ghost use Rattle.std.specs.Hash.{items_Alike};
 ghost use Rattle.std.specs.Fmt.{debug_list};
-ghost use Rattle.std.specs.Iterator.{IsFinite, Drains};
+ghost use Rattle.std.specs.Iterator.{IsFinite, Drains, YieldsFirst, item_count};
 ghost use Rattle.std.specs.Iterator.Adapters.{IterYieldsInOrder};
 ghost use Rattle.std.specs.Slice.Iter.{iter_rest};
 ghost use Rattle.std.specs.Ordering.{as_partial_cmp};
@@ -19,7 +19,6 @@ ghost use Rattle.iloc_spec_grammar.specs.ShortLists.{short_cmp};
 ghost use Rattle.iloc_shortvec.specs.ShortOrder.{short_total, short_ties};
 
 use crate::few::Few;
-use crate::into_iter::ShortWordsIntoIter;
 use crate::items::Nothing;
 use crate::kept::{Kept, kept_of};
 use crate::slices;
@@ -337,6 +336,40 @@ impl<T: Copy + Ord> PartialOrd for ShortWords<T> {
     }
 }
 
+/// The items of a list by value, seen as the list of those that are left.
+#[derive(Drop)]
+pub struct ShortWordsIntoIter<T: Copy> {
+    words: ShortWords<T>,
+    next: usize,
+}
+
+impl<T: Copy> Model for ShortWordsIntoIter<T> {
+    ghost use Rattle.std.specs.Prelude.{List, drop};
+
+    ghost Value = { List T };
+
+    ghost view = { λ it. drop it.next it.words };
+}
+
+impl<T: Copy> Iterator for ShortWordsIntoIter<T> {
+    type Item = T;
+
+    ghost next_gives = { YieldsFirst (λ rest. rest) };
+
+    ghost remaining = { item_count (λ rest. rest) };
+
+    fn next(&mut self) -> Option<T> {
+        match slices::item_at(self.words.as_slice(), self.next) {
+            Some(item) => {
+                let item = *item;
+                self.next += 1;
+                Some(item)
+            }
+            None => None,
+        }
+    }
+}
+
 impl<T: Copy> IntoIterator for ShortWords<T> {
     type Item = T;
 
@@ -345,9 +378,9 @@ impl<T: Copy> IntoIterator for ShortWords<T> {
     ghost into_iter_gives = { λ list it. it ≡ list };
 
     fn into_iter(self) -> ShortWordsIntoIter<T> {
-        let ShortWords { kept } = self;
         ShortWordsIntoIter {
-            rest: kept.into_rest(),
+            words: self,
+            next: 0,
         }
     }
 }

@@ -3,7 +3,7 @@ use Rattle.std.proofs.Common.{refl, sym, ap, ◌∙◌, arith}
 use Rattle.std.specs.List.{slice_get}
 use Rattle.std.proofs.lemmas.Option.{slice_get_within, get_or_from_slice_get}
 use Rattle.iloc_shortvec.proofs.Filtered.{from_place}
-use Rattle.iloc_shortvec.proofs.few.FewIntoIterIterator.next.Goals as goal
+use Rattle.iloc_shortvec.proofs.short_words.ShortWordsIntoIterIterator.next.Goals as goal
 
 -- what is left begins with the item at the place, and is nothing where there is none
 drop_at : {T : Type 0} (xs ys : List T) (n : ℕ) (x : T) → ys ≡ xs → Some x ≡ slice_get ys n →
@@ -31,7 +31,7 @@ overflow_add-self g c = next_fits c.as_slice.result.now c.self.inside.next c.in-
 
 pub returns-in-Some-clause-steps : goal.returns-in-Some-clause-steps
 returns-in-Some-clause-steps g c = sym c.self.view_is
-    ∙ drop_at c.self.inside.few _ c.self.inside.next _ c.as_slice.ensures.items c.in-Some.ensures
+    ∙ drop_at c.self.inside.words _ c.self.inside.next _ c.as_slice.ensures c.in-Some.ensures
 
 pub returns-in-Some-clause-goes : goal.returns-in-Some-clause-goes
 returns-in-Some-clause-goes g c = record {
@@ -43,8 +43,8 @@ returns-in-Some-clause-goes g c = record {
 pub returns-in-None-clause-steps : goal.returns-in-None-clause-steps
 returns-in-None-clause-steps g c =
     let e = sym c.self.view_is
-    ∙ none_at c.self.inside.few c.self.inside.next
-    (c.in-None.ensures ∙ ap (λ xs. slice_get xs c.self.inside.next) c.as_slice.ensures.items) in
+    ∙ none_at c.self.inside.words c.self.inside.next
+    (c.in-None.ensures ∙ ap (λ xs. slice_get xs c.self.inside.next) c.as_slice.ensures) in
     (e, e)
 
 pub returns-in-None-clause-goes : goal.returns-in-None-clause-goes
