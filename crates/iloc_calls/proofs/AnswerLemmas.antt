@@ -8,7 +8,7 @@ use Rattle.std.specs.Ordering.{is_eq, nat_cmp}
 use Rattle.std.specs.Cmp.Lexicographic.{slice_cmp}
 use Rattle.std.specs.declared.cmp.Ordering.{Ordering}
 use Rattle.std.specs.declared.cmp.Ordering.TheVariants.{Equal}
-use Rattle.iloc_spec_grammar.specs.Syntax.{pieces, languages, Identifier}
+use Rattle.iloc_spec_grammar.specs.Syntax.{Text, pieces, languages, Identifier}
 use Rattle.iloc_spec_grammar.specs.Meaning as meaning
 use Rattle.iloc_spec_grammar.specs.Meaning.{IdentifierMeans, Means}
 use Rattle.iloc_spec_grammar.specs.Values.{identifier_text, text}
@@ -66,24 +66,24 @@ no_status UnknownNumber k e h = omega (arith, e, h)
 no_status NotFound k e h = omega (arith, e, h)
 
 -- what was read has a normal text, which is that of the text; a refusal is the status of the text
-abbrev pub Reads : {X : Type 0} → Mode → List ℕ → (X → List ℕ) → Result X ParseError → Type 0
+abbrev pub Reads : {X : Type 0} → Mode → Text → (X → Text) → Result X ParseError → Type 0
 Reads mode t text_of r =
     MatchResult r (λ x. IsNormalText languages mode t (text_of x)) (λ e. JudgedAs mode t (status_of e))
 
-abbrev pub text_of_identifier : LanguageIdentifier → List ℕ
+abbrev pub text_of_identifier : LanguageIdentifier → Text
 text_of_identifier i = identifier_text (langid.value_of i)
 
-abbrev pub text_of_locale : types.Locale → List ℕ
+abbrev pub text_of_locale : types.Locale → Text
 text_of_locale l = text (locale.value_of l)
 
-abbrev pub text_of_data : data_types.DataLocale → List ℕ
+abbrev pub text_of_data : data_types.DataLocale → Text
 text_of_data d = data_text (data_locale.value_of d)
 
-abbrev pub text_of_parts : DataParts → List ℕ
+abbrev pub text_of_parts : DataParts → Text
 text_of_parts p = data_text (parts.value_of p)
 
 -- a reader answers by the grammar, with its memory: so what it read has a normal text
-by_grammar : {X : Type 0} (mode : Mode) (t : List ℕ) (text_of : X → List ℕ) {IsMeant : X → Type 0}
+by_grammar : {X : Type 0} (mode : Mode) (t : Text) (text_of : X → Text) {IsMeant : X → Type 0}
     → ((x : X) → IsMeant x → IsNormalText languages mode t (text_of x)) → (r : Result X ParseError)
     → Answers IsMeant (IsFaulty languages mode t) ⊤ r → RunsOutOnlyIf (CallWantsMemory mode t) r
     → Reads mode t text_of r
@@ -94,34 +94,34 @@ by_grammar mode t text_of normal (Err refusals.InvalidExtension) h m = h
 by_grammar mode t text_of normal (Err refusals.DuplicatedExtension) h m = h
 by_grammar mode t text_of normal (Err refusals.OutOfMemory) h m = m
 
-pub identifier_read : (t : List ℕ) (r : Result LanguageIdentifier ParseError) →
+pub identifier_read : (t : Text) (r : Result LanguageIdentifier ParseError) →
     langid.IdentifierReads (pieces t) r
     → RunsOutOnlyIf (langid.IdentifierWantsMemory (pieces t)) r → Reads Langid t text_of_identifier r
 identifier_read t = by_grammar Langid t text_of_identifier (λ i h. (langid.value_of i, h, refl))
 
-pub locale_read : (t : List ℕ) (r : Result types.Locale ParseError) → LocaleTextReads t r
+pub locale_read : (t : Text) (r : Result types.Locale ParseError) → LocaleTextReads t r
     → RunsOutOnlyIf (LocaleWantsMemory t) r → Reads Locale t text_of_locale r
 locale_read t = by_grammar Locale t text_of_locale (λ l h. (locale.value_of l, h, refl))
 
-pub data_read : (t : List ℕ) (r : Result data_types.DataLocale ParseError) → DataTextReads t r →
+pub data_read : (t : Text) (r : Result data_types.DataLocale ParseError) → DataTextReads t r →
     RunsOutOnlyIf ⊥ r
     → Reads Data t text_of_data r
 data_read t = by_grammar Data t text_of_data (λ d h. (data_locale.value_of d, h, refl))
 
 -- the parts of a data locale that were parsed have its text
-pub parts_judged : (t : List ℕ) (p : DataParts) → DataMeans languages t (parts.value_of p) →
+pub parts_judged : (t : Text) (p : DataParts) → DataMeans languages t (parts.value_of p) →
     JudgedAs Data t Done
 parts_judged t p h = (text_of_parts p, (parts.value_of p, h, refl))
 
 -- so the text is judged as it was read
-pub judged : {X : Type 0} (mode : Mode) (t : List ℕ) (text_of : X → List ℕ) (r : Result X ParseError)
+pub judged : {X : Type 0} (mode : Mode) (t : Text) (text_of : X → Text) (r : Result X ParseError)
     (s : Status)
     → Reads mode t text_of r → MatchResult r (λ x. s ≡ Done) (λ e. s ≡ status_of e) → JudgedAs mode t s
 judged mode t text_of (Ok x) s h e = subst (JudgedAs mode t) (sym e) (text_of x, h)
 judged mode t text_of (Err f) s h e = subst (JudgedAs mode t) (sym e) h
 
 -- and compared as it was read
-pub compared : {X : Type 0} (mode : Mode) (t other : List ℕ) (before after : ℤ) (text_of : X → List ℕ)
+pub compared : {X : Type 0} (mode : Mode) (t other : Text) (before after : ℤ) (text_of : X → Text)
     (r : Result X ParseError) (s : Status)
     → Reads mode t text_of r
     → MatchResult r (λ x. (s ≡ Done) × (after ≡ order_number (slice_cmp nat_cmp (text_of x) other)))
@@ -141,7 +141,7 @@ compared mode t other before after text_of (Err refusals.OutOfMemory) s h e =
     subst (ComparesTo mode t other before after) (sym e.0) (h, e.1)
 
 -- two texts are ordered as both were read
-module _ {X : Type 0} (mode : Mode) (t other : List ℕ) (before after : ℤ) (text_of : X → List ℕ)
+module _ {X : Type 0} (mode : Mode) (t other : Text) (before after : ℤ) (text_of : X → Text)
     (s : Status) where
   abbrev Ordered : Result X ParseError → Result X ParseError → Type 0
   Ordered first second = MatchResult first
@@ -192,10 +192,10 @@ number_of_same : (P : Type 0) (same : Bool) → IsTrue same ↔ P →
 number_of_same P true e = inl (refl, e.0 refl)
 number_of_same P false e = inr (refl, λ m. true≢false (sym (e.1 m)))
 
-abbrev Told : Mode → List ℕ → List ℕ → ℕ → Type 0
+abbrev Told : Mode → Text → Text → ℕ → Type 0
 Told mode t other after = ((after ≡ 1) × MeanSame mode t other) ⊎ ((after ≡ 0) × ¬ (MeanSame mode t other))
 
-told : (mode : Mode) (t other : List ℕ) (after : ℕ) (same : Bool) → after ≡ from_bool same →
+told : (mode : Mode) (t other : Text) (after : ℕ) (same : Bool) → after ≡ from_bool same →
     IsTrue same ↔ MeanSame mode t other → Told mode t other after
 told mode t other after same a e =
     subst (Told mode t other) (sym a) (number_of_same (MeanSame mode t other) same e)
@@ -203,7 +203,7 @@ told mode t other after same a e =
 equal_order : (o : Ordering) (same : Bool) → same ≡ is_eq o → IsTrue same ↔ (o ≡ Equal)
 equal_order o same e = (λ s. (Equal-is o).0 (sym e ∙ s), λ h. e ∙ (Equal-is o).1 h)
 
-pub same_identifiers_read : (t other : List ℕ) (before after : ℕ) (i j : Identifier) (same : Bool)
+pub same_identifiers_read : (t other : Text) (before after : ℕ) (i j : Identifier) (same : Bool)
     → IdentifierMeans languages (pieces t) i → IdentifierMeans languages (pieces other) j
     → same ≡ is_eq (identifier_cmp i j) → after ≡ from_bool same → TellsSame Langid t other before after Done
 same_identifiers_read t other before after i j same m n e a =
@@ -220,7 +220,7 @@ same_identifiers_read t other before after i j same m n e a =
       ),
     )
 
-pub same_locales_read : (t other : List ℕ) (before after : ℕ) (M N : meaning.Locale) (same : Bool)
+pub same_locales_read : (t other : Text) (before after : ℕ) (M N : meaning.Locale) (same : Bool)
     → Means languages t M → Means languages other N
     → same ≡ is_eq (locale_cmp M N) → after ≡ from_bool same → TellsSame Locale t other before after Done
 same_locales_read t other before after M N same m n e a =
@@ -233,7 +233,7 @@ same_locales_read t other before after M N same m n e a =
       ),
     )
 
-pub same_data_read : (t other : List ℕ) (before after : ℕ) (d e : DataLocale) (o : Ordering) (same : Bool)
+pub same_data_read : (t other : Text) (before after : ℕ) (d e : DataLocale) (o : Ordering) (same : Bool)
     → DataMeans languages t d → DataMeans languages other e →
     o ≡ slice_cmp nat_cmp (data_text d) (data_text e)
     → same ≡ is_eq o → after ≡ from_bool same → TellsSame Data t other before after Done
@@ -255,11 +255,11 @@ same_data_read t other before after d e o same m n is f a =
   where
     one_value : data_text d ≡ data_text e → d ≡ e
     one_value x = one_data languages_table (data_text e) d e
-        (subst (λ (u : List ℕ). DataMeans languages u d) x (read_back t d m)) (read_back other e n)
+        (subst (λ (u : Text). DataMeans languages u d) x (read_back t d m)) (read_back other e n)
 
 -- What is refused means nothing, unless memory was wanted.
 
-no_identifier : (ps : List (List ℕ)) (e : ParseError) → langid.IdentifierReads ps (Err e) →
+no_identifier : (ps : List Text) (e : ParseError) → langid.IdentifierReads ps (Err e) →
     (e ≡ refusals.OutOfMemory → ⊥) → (i : Identifier) → IdentifierMeans languages ps i → ⊥
 no_identifier ps refusals.InvalidLanguage h n i m = identifier_apart ps i _ m h
 no_identifier ps refusals.InvalidSubtag h n i m = identifier_apart ps i _ m h
@@ -267,7 +267,7 @@ no_identifier ps refusals.InvalidExtension h n i m = identifier_apart ps i _ m h
 no_identifier ps refusals.DuplicatedExtension h n i m = identifier_apart ps i _ m h
 no_identifier ps refusals.OutOfMemory h n i m = absurd (n refl)
 
-pub other_identifier : (t other : List ℕ) (before after : ℕ) (i : Identifier) (e : ParseError) (s : Status) →
+pub other_identifier : (t other : Text) (before after : ℕ) (i : Identifier) (e : ParseError) (s : Status) →
     IdentifierMeans languages (pieces t) i
     → langid.IdentifierReads (pieces other) (Err e) →
     RunsOutOnlyIf {X = LanguageIdentifier} (langid.IdentifierWantsMemory (pieces other)) (Err e)
@@ -283,7 +283,7 @@ other_identifier t other before after i e s m h w (inr r) =
     subst (TellsSame Langid t other before after) (sym r.1)
     ((identifier_text i, (i, m, refl)), inr (r.2, λ k. no_identifier (pieces other) e h r.0 k.0 k.2))
 
-no_locale : (t : List ℕ) (e : ParseError) → LocaleTextReads t (Err e) → (e ≡ refusals.OutOfMemory → ⊥) →
+no_locale : (t : Text) (e : ParseError) → LocaleTextReads t (Err e) → (e ≡ refusals.OutOfMemory → ⊥) →
     (M : meaning.Locale) → Means languages t M → ⊥
 no_locale t refusals.InvalidLanguage h n M m = accepted_no_fault languages_table t M _ m h
 no_locale t refusals.InvalidSubtag h n M m = accepted_no_fault languages_table t M _ m h
@@ -291,7 +291,7 @@ no_locale t refusals.InvalidExtension h n M m = accepted_no_fault languages_tabl
 no_locale t refusals.DuplicatedExtension h n M m = accepted_no_fault languages_table t M _ m h
 no_locale t refusals.OutOfMemory h n M m = absurd (n refl)
 
-pub other_locale : (t other : List ℕ) (before after : ℕ) (M : meaning.Locale) (e : ParseError) (s : Status) →
+pub other_locale : (t other : Text) (before after : ℕ) (M : meaning.Locale) (e : ParseError) (s : Status) →
     Means languages t M
     → LocaleTextReads other (Err e) → RunsOutOnlyIf {X = types.Locale} (LocaleWantsMemory other) (Err e)
     → RefusedTells e before after s → TellsSame Locale t other before after s
@@ -302,7 +302,7 @@ other_locale t other before after M e s m h w (inr r) =
     subst (TellsSame Locale t other before after) (sym r.1)
     ((text M, (M, m, refl)), inr (r.2, λ k. no_locale other e h r.0 k.0 k.2))
 
-no_data_locale : (t : List ℕ) (e : ParseError) → DataTextReads t (Err e) →
+no_data_locale : (t : Text) (e : ParseError) → DataTextReads t (Err e) →
     RunsOutOnlyIf {X = data_types.DataLocale} ⊥ (Err e) → (d : DataLocale) → DataMeans languages t d → ⊥
 no_data_locale t refusals.InvalidLanguage h w d m = data_apart languages_table t d _ m h
 no_data_locale t refusals.InvalidSubtag h w d m = data_apart languages_table t d _ m h
@@ -310,14 +310,14 @@ no_data_locale t refusals.InvalidExtension h w d m = data_apart languages_table 
 no_data_locale t refusals.DuplicatedExtension h w d m = data_apart languages_table t d _ m h
 no_data_locale t refusals.OutOfMemory h w d m = absurd w
 
-pub other_data_locale : (t other : List ℕ) (before after : ℕ) (d : DataLocale) (e : ParseError) →
+pub other_data_locale : (t other : Text) (before after : ℕ) (d : DataLocale) (e : ParseError) →
     DataMeans languages t d
     → DataTextReads other (Err e) → RunsOutOnlyIf {X = data_types.DataLocale} ⊥ (Err e) → after ≡ 0 →
     TellsSame Data t other before after Done
 other_data_locale t other before after d e m h w a =
     ((data_text d, (d, m, refl)), inr (a, λ s. no_data_locale other e h w s.0 s.2))
 
-pub unprinted_data_locale : (t other : List ℕ) (before : ℕ) (e : DataLocale) (s : Status) →
+pub unprinted_data_locale : (t other : Text) (before : ℕ) (e : DataLocale) (s : Status) →
     DataMeans languages other e → s ≡ OutOfMemory
     → (other ≡ data_text e → ⊥) → TellsSame Data t other before before s
 unprinted_data_locale t other before e s m q n =

@@ -2,7 +2,7 @@
 -- than a data locale's.
 use Rattle.std.proofs.Common.{◌≡◌, ℕ, ◌+◌, ◌≤◌, List, length, refl, ap, arith}
 use Rattle.std.proofs.lemmas.Bool.Decides.{nat_tests}
-use Rattle.iloc_spec_grammar.specs.Syntax.{languages, pieces}
+use Rattle.iloc_spec_grammar.specs.Syntax.{Text, languages, pieces}
 use Rattle.iloc_spec_grammar.specs.Meaning.{IdentifierMeans, Means}
 use Rattle.iloc_spec_grammar.specs.Values.{identifier_text, text}
 use Rattle.iloc_spec_grammar.proofs.AnySteps.{shortest, length-identifier_means}
@@ -26,7 +26,7 @@ use Rattle.iloc_data_parts.specs.PartsReading as parts
 use Rattle.iloc_data_parts.specs.declared.parts.DataParts.{DataParts}
 use Rattle.iloc_told.specs.Modes.{IsNormalText}
 
-normal_text_fits : (m : Mode) (t n : List ℕ) → IsNormalText languages m t n → length n ≤ length t + growth m
+normal_text_fits : (m : Mode) (t n : Text) → IsNormalText languages m t n → length n ≤ length t + growth m
 normal_text_fits Langid t n h =
     let a : length (identifier_text h.0) ≡ length t = length-identifier_means languages t h.0 h.1 in
     let b : length n ≡ length (identifier_text h.0) = ap length h.2 in
@@ -42,19 +42,19 @@ normal_text_fits Data t n h =
 
 -- so is the text of what was parsed
 
-pub identifier_fits : (t : List ℕ) (i : LanguageIdentifier) →
+pub identifier_fits : (t : Text) (i : LanguageIdentifier) →
     IdentifierMeans languages (pieces t) (langid.value_of i) → length (text_of_identifier i) ≤ length t
 identifier_fits t i h = let a : length (text_of_identifier i) ≤ length t + 0 =
     normal_text_fits Langid t (text_of_identifier i) (langid.value_of i, h, refl) in
     omega (arith, a)
 
-pub locale_fits : (t : List ℕ) (l : types.Locale) → Means languages t (locale.value_of l) →
+pub locale_fits : (t : Text) (l : types.Locale) → Means languages t (locale.value_of l) →
     length (text_of_locale l) ≤ length t
 locale_fits t l h = let a : length (text_of_locale l) ≤ length t + 0 =
     normal_text_fits Locale t (text_of_locale l) (locale.value_of l, h, refl) in
     omega (arith, a)
 
-pub parts_fit : (t : List ℕ) (p : DataParts) → DataMeans languages t (parts.value_of p) →
+pub parts_fit : (t : Text) (p : DataParts) → DataMeans languages t (parts.value_of p) →
     length (text_of_parts p) ≤ length t + 4
 parts_fit t p h = normal_text_fits Data t (text_of_parts p) (parts.value_of p, h, refl)
 
@@ -62,7 +62,7 @@ saturated_below : (n : ℕ) → saturated n ≤ n
 saturated_below n = grind (arith, nat_tests)
 
 -- so is the room that is asked for
-pub needed_fits : (m : Mode) (t before after : List ℕ) (needed : ℕ) (s : Status) →
+pub needed_fits : (m : Mode) (t before after : Text) (needed : ℕ) (s : Status) →
     NormalizesTo m t before after needed s → needed ≤ length t + growth m
 needed_fits m t before after needed Done h =
     let a = normal_text_fits m t h.0 h.1 in let b = h.2.1 in omega (arith, a, b)

@@ -7,9 +7,10 @@ use Rattle.iloc_told.specs.declared.Mode.{Mode}
 use Rattle.iloc_faults.specs.Places.{IsFaultPlace}
 use Rattle.iloc_calls.specs.Faults.{FindsFault}
 use Rattle.iloc_calls.specs.Numbers.{status_of}
+use Rattle.iloc_spec_grammar.specs.Syntax.{Text}
 
 -- a refusal and its place are what a caller finds, whatever stood there before
-pub refusal_found : (mode : Mode) (t : List ℕ) (before : ℕ × ℕ) (start end : ℕ) (e : ParseError)
+pub refusal_found : (mode : Mode) (t : Text) (before : ℕ × ℕ) (start end : ℕ) (e : ParseError)
     → HasRefusal mode t e → IsFaultPlace mode t start end →
     FindsFault mode t before (start, end) (status_of e)
 refusal_found mode t before start end refusals.InvalidLanguage why place = (why, place)

@@ -18,10 +18,10 @@ use Rattle.iloc_calls.specs.declared.status.Status.TheVariants.{InvalidExtension
 use Rattle.iloc_calls.specs.declared.status.Status.TheVariants.{OutOfMemory, BufferTooSmall, UnknownNumber}
 use Rattle.iloc_calls.specs.declared.status.Status.TheVariants.{NotFound}
 use Rattle.iloc_told.specs.Modes.{IsNormalText}
-use Rattle.iloc_spec_grammar.specs.Syntax.{languages}
+use Rattle.iloc_spec_grammar.specs.Syntax.{Text, languages}
 
 -- what hands out the normal text normalizes
-pub handed_out : (mode : Mode) (t normal before after : List ℕ) (needed : ℕ) (s : Status) →
+pub handed_out : (mode : Mode) (t normal before after : Text) (needed : ℕ) (s : Status) →
     IsNormalText languages mode t normal
     → HandsOut normal before after needed s → NormalizesTo mode t before after needed s
 handed_out mode t normal before after needed Done n h = (normal, n, h)
@@ -39,7 +39,7 @@ plain_length : (p : Plain) → AreWords p → length (identifier_text (value_of 
 plain_length p h = ap length (sym h.normal) ∙ length-take-le p.len p.bytes (omega (arith, h.wide, h.fits))
 
 -- a plain text for which there is too little room
-pub withheld : (mode : Mode) (t : List ℕ) (p : Plain) (before : List ℕ) (needed : ℕ) → IsPlain t p →
+pub withheld : (mode : Mode) (t : Text) (p : Plain) (before : Text) (needed : ℕ) → IsPlain t p →
     length before < p.len → needed ≡ p.len
     → NormalizesTo mode t before before needed BufferTooSmall
 withheld mode t p before needed h few is =
@@ -53,7 +53,7 @@ withheld mode t p before needed h few is =
     )
 
 -- a text that is refused has the status of its fault
-pub refused_judged : (mode : Mode) (t : List ℕ) (e : ParseError) → HasRefusal mode t e →
+pub refused_judged : (mode : Mode) (t : Text) (e : ParseError) → HasRefusal mode t e →
     JudgedAs mode t (status_of e)
 refused_judged mode t refusals.InvalidLanguage h = h
 refused_judged mode t refusals.InvalidSubtag h = h

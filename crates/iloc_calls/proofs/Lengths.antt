@@ -6,7 +6,8 @@ use Rattle.std.proofs.Common.{length-append}
 use Rattle.std.specs.Result.{result_ok}
 use Rattle.std.proofs.lemmas.Bool.{cond_both}
 use Rattle.std.proofs.lemmas.Bool.Decides.{nat_tests}
-use Rattle.iloc_spec_grammar.specs.Syntax.{join, dashes, Region, languages, is_word, is_same, is_true, lower}
+use Rattle.iloc_spec_grammar.specs.Syntax.{Text, join, dashes, Region, languages, is_word, is_same, is_true}
+use Rattle.iloc_spec_grammar.specs.Syntax.{lower}
 use Rattle.iloc_spec_grammar.specs.Values.{IsNormal, text, extensions_spelling}
 use Rattle.iloc_spec_grammar.proofs.AnySteps.{shortest}
 use Rattle.iloc_spec_grammar.proofs.MapLaws.{same_is}
@@ -24,20 +25,20 @@ use Rattle.iloc_spec_preferences.proofs.SubdivisionLaws.{subdivision_back, read_
 use Rattle.iloc_spec_preferences.proofs.DataLaws.{whole_region_is}
 
 -- the bytes that a word takes with its hyphen, and those of a keyword after `u`
-abbrev share : Option (List ℕ) → ℕ
+abbrev share : Option Text → ℕ
 share None = 0
 share (Some w) = 1 + length w
 
-abbrev keyword_share : Option (List ℕ × Option (List ℕ)) → ℕ
+abbrev keyword_share : Option (Text × Option Text) → ℕ
 keyword_share None = 0
 keyword_share (Some k) = 2 + (1 + length k.0) + share k.1
 
-dashes_share : (o : Option (List ℕ)) → length (dashes (option_to_list o)) ≡ share o
+dashes_share : (o : Option Text) → length (dashes (option_to_list o)) ≡ share o
 dashes_share None = refl
 dashes_share (Some w) = let e : length (w ++ []) ≡ length w = ap length (append-nil w) in omega (arith, e)
 
 -- the length of four words and what follows them
-length_of_words : (l : List ℕ) (s r v : Option (List ℕ)) (rest : List (List ℕ))
+length_of_words : (l : Text) (s r v : Option Text) (rest : List Text)
     → length (join (l ∷ (option_to_list s ++ (option_to_list r ++ (option_to_list v ++ rest)))))
     ≡ length l + share s + share r + share v + length (dashes rest)
 length_of_words l s r v rest =
@@ -50,7 +51,7 @@ length_of_words l s r v rest =
     omega (arith, a, b, c, e)
 
 -- the length of a small locale's text
-length_of_small : (i : SmallIdentifier) (k : Option (List ℕ × Option (List ℕ)))
+length_of_small : (i : SmallIdentifier) (k : Option (Text × Option Text))
     → length (text (locale_of_small (record { id = i; keyword = k })))
     ≡ length i.language + share i.script + share i.region + share i.variant + keyword_share k
 unfolding extensions_spelling
@@ -70,9 +71,9 @@ length_of_small i None =
 length_of_small i (Some k) =
     let a = dashes_share i.script in
     let b = dashes_share i.region in let c = dashes_share i.variant in let d = dashes_share k.1 in
-    let w : List (List ℕ) =
+    let w : List Text =
     option_to_list i.script ++ (option_to_list i.region ++ option_to_list i.variant) in
-    let v : List (List ℕ) = (option_to_list k.1 ++ []) ++ [] in
+    let v : List Text = (option_to_list k.1 ++ []) ++ [] in
     let e : length (join (i.language ∷ (w ++ (codes "u" ∷ k.0 ∷ v))))
     ≡ length i.language + length (dashes (w ++ (codes "u" ∷ k.0 ∷ v))) =
     ap length (join-dashes i.language (w ++ (codes "u" ∷ k.0 ∷ v)))
@@ -94,7 +95,7 @@ length_of_small i (Some k) =
     omega (arith, a, b, c, d, f, g, h, m, n, q)
 
 -- what a keyword's value takes when it is printed
-value_share : (w : List ℕ) → length (dashes (codes "u" ∷ sd ∷ subdivision_value w)) ≤ 6 + length w
+value_share : (w : Text) → length (dashes (codes "u" ∷ sd ∷ subdivision_value w)) ≤ 6 + length w
 value_share w = cond_both (is_true (lower w)) [] (lower w ∷ [])
     (λ ws. length (dashes (codes "u" ∷ sd ∷ ws)) ≤ 6 + length w)
     (λ e. let n : length (dashes (codes "u" ∷ sd ∷ [])) ≡ 5 = refl in omega (arith, n))
@@ -104,10 +105,10 @@ value_share w = cond_both (is_true (lower w)) [] (lower w ∷ [])
     omega (arith, e)) in
     omega (arith, m, n))
 
-abbrev printed : List ℕ → Option Subdivision → Option (List ℕ)
+abbrev printed : Text → Option Subdivision → Option Text
 printed w o = option_and_then (λ s. cond (is_whole s) None (Some w)) o
 
-printed_share : (w : List ℕ) (o : Option Subdivision) →
+printed_share : (w : Text) (o : Option Subdivision) →
     length (dashes (subdivision_pieces (printed w o))) ≤ 6 + length w
 printed_share w None = let n : length (dashes []) ≡ 0 = refl in omega (arith, n)
 printed_share w (Some s) =
@@ -115,29 +116,29 @@ printed_share w (Some s) =
     (λ e. let n : length (dashes []) ≡ 0 = refl in omega (arith, n)) (λ e. value_share w)
 
 -- the pieces of a part's subdivision, and the length of a text that is made of a part
-abbrev tail_of : Option Subdivision → List (List ℕ)
+abbrev tail_of : Option Subdivision → List Text
 tail_of part = subdivision_pieces
     (option_and_then (λ w. printed w (named_subdivision w)) (option_map subdivision_text part))
 
-data_length : (l : List ℕ) (s v : Option (List ℕ)) (part : Option Subdivision)
+data_length : (l : Text) (s v : Option Text) (part : Option Subdivision)
     → length (data_text (made_of l s part v))
     ≡ length l + share s + share (option_map (λ p. p.region) part) + share v + length (dashes (tail_of part))
 data_length l s v part = length_of_words l s (option_map (λ p. p.region) part) v (tail_of part)
 
 -- a whole region has no subdivision to print
-whole_tail : (r : List ℕ) → IsNormal Region r → length (dashes (tail_of (Some (whole_region r)))) ≡ 0
+whole_tail : (r : Text) → IsNormal Region r → length (dashes (tail_of (Some (whole_region r)))) ≡ 0
 whole_tail r h = rw (subdivision_back (whole_region r) (whole_region_is r h)) refl
 
-region_is_short : (r : List ℕ) → is_word Region r ≡ true → length r ≤ 3
+region_is_short : (r : Text) → is_word Region r ≡ true → length r ≤ 3
 unfolding is_word
 region_is_short r h = grind (arith, nat_tests)
 
 -- A part grows by a region at most.
-abbrev Fits : Option (List ℕ) → Option (List ℕ × Option (List ℕ)) → Option Subdivision → Type 0
+abbrev Fits : Option Text → Option (Text × Option Text) → Option Subdivision → Type 0
 Fits region k part = share (option_map (λ p. p.region) part) + length (dashes (tail_of part))
     ≤ share region + keyword_share k + 4
 
-named_fits : (region : Option (List ℕ)) (w : List ℕ) (s : Subdivision) → IfSome region (IsNormal Region) →
+named_fits : (region : Option Text) (w : Text) (s : Subdivision) → IfSome region (IsNormal Region) →
     subdivision w ≡ Ok s → Fits region (Some (sd, Some w)) (Some (agreed region s))
 named_fits None w s h e =
     let a : length (dashes (tail_of (Some s))) ≤ 6 + length (subdivision_text s) =
@@ -157,7 +158,7 @@ named_fits (Some r) w s h e =
     omega (arith, a, b, c, n))
     (λ other. let a = whole_tail r h in omega (arith, a))
 
-value_fits : (region : Option (List ℕ)) (o : Option (List ℕ)) (part : Option Subdivision) →
+value_fits : (region : Option Text) (o : Option Text) (part : Option Subdivision) →
     IfSome region (IsNormal Region)
     → option_map (λ s. Some (agreed region s)) (option_and_then named_subdivision o) ≡ Some part →
     Fits region (Some (sd, o)) part
@@ -171,7 +172,7 @@ value_fits region (Some w) part h e = from (subdivision w) refl e
     from (Ok s) q e = let same : Some (agreed region s) ≡ part = cc in
         subst (Fits region (Some (sd, Some w))) same (named_fits region w s h q)
 
-part_fits : (region : Option (List ℕ)) (k : Option (List ℕ × Option (List ℕ))) (part : Option Subdivision) →
+part_fits : (region : Option Text) (k : Option (Text × Option Text)) (part : Option Subdivision) →
     IfSome region (IsNormal Region)
     → small_part region k ≡ Some part → Fits region k part
 part_fits None None part h e = let same : None ≡ part = cc in
@@ -185,11 +186,11 @@ part_fits region (Some (k, o)) part h e = from (is_same k sd) refl e
         ≡ Some part →
         Fits region (Some (k, o)) part
     from false q e = absurd (cc)
-    from true q e = subst (λ (x : List ℕ). Fits region (Some (x, o)) part) (sym (same_is k sd q))
+    from true q e = subst (λ (x : Text). Fits region (Some (x, o)) part) (sym (same_is k sd q))
         (value_fits region o part h e)
 
 -- a data locale's text is at most four bytes longer than a text that means it
-pub data_text_fits : (t : List ℕ) (d : DataLocale) → DataMeans languages t d →
+pub data_text_fits : (t : Text) (d : DataLocale) → DataMeans languages t d →
     length (data_text d) ≤ length t + 4
 data_text_fits t d h = from (small_part r.id.region r.keyword) refl h.means
   where

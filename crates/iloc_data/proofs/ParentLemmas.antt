@@ -5,7 +5,7 @@ use Rattle.std.proofs.Common.{option_map, option_to_list, inl, inr, append-nil, 
 use Rattle.std.specs.Prelude.{codes, IfSome, option_and_then, if◌then◌else◌}
 use Rattle.std.specs.Option.{is_some, option_or}
 use Rattle.std.specs.Result.{result_ok}
-use Rattle.iloc_spec_grammar.specs.Syntax.{Region, languages, is_word, lower}
+use Rattle.iloc_spec_grammar.specs.Syntax.{Text, Region, languages, is_word, lower}
 use Rattle.iloc_spec_grammar.specs.Meaning.{Fault}
 use Rattle.iloc_spec_grammar.specs.Values.{IsNormal}
 use Rattle.iloc_spec_grammar.proofs.MapLaws.{same_is}
@@ -23,7 +23,7 @@ use Rattle.iloc_data.specs.DataParents.{IsUnknownAfter, LacksLastDataPart}
 of_some : {X : Type 0} {x y : X} → Some x ≡ Some y → x ≡ y
 of_some e = cc
 
-pub known_language : (w : List ℕ) → (w ≡ codes "und" → false ≡ true) → is_unknown_language w ≡ false
+pub known_language : (w : Text) → (w ≡ codes "und" → false ≡ true) → is_unknown_language w ≡ false
 known_language w h = by (is_unknown_language w) refl
   where
     by : (b : Bool) → is_unknown_language w ≡ b → is_unknown_language w ≡ false
@@ -31,19 +31,19 @@ known_language w h = by (is_unknown_language w) refl
     by false e = e
 
 -- a region is the same as a whole
-whole_of_region : (r : Option (List ℕ)) → option_map (λ s. s.region) (option_map whole_region r) ≡ r
+whole_of_region : (r : Option Text) → option_map (λ s. s.region) (option_map whole_region r) ≡ r
 whole_of_region None = refl
 whole_of_region (Some r) = refl
 
 -- what holds of a parent in each case holds of all
 module _ (P : DataLocale → DataLocale → Type 0)
-    (part : (d : DataLocale) (w : List ℕ) → subdivision_keyword d ≡ Some w → P d (with_whole_region d))
-    (variant : (d : DataLocale) (v : List ℕ) → subdivision_keyword d ≡ None → d.variant ≡ Some v
+    (part : (d : DataLocale) (w : Text) → subdivision_keyword d ≡ Some w → P d (with_whole_region d))
+    (variant : (d : DataLocale) (v : Text) → subdivision_keyword d ≡ None → d.variant ≡ Some v
     → P d (record (with_whole_region d) { variant = None }))
-    (region : (d : DataLocale) (r : List ℕ) → subdivision_keyword d ≡ None → d.variant ≡ None →
+    (region : (d : DataLocale) (r : Text) → subdivision_keyword d ≡ None → d.variant ≡ None →
     region_of d ≡ Some r
     → P d (record (with_whole_region d) { region = None }))
-    (script : (d : DataLocale) (s : List ℕ) → subdivision_keyword d ≡ None → d.variant ≡ None →
+    (script : (d : DataLocale) (s : Text) → subdivision_keyword d ≡ None → d.variant ≡ None →
     region_of d ≡ None
     → d.script ≡ Some s → P d (record (with_whole_region d) { script = None }))
     (language : (d : DataLocale) → subdivision_keyword d ≡ None → d.variant ≡ None → region_of d ≡ None →
@@ -56,21 +56,21 @@ module _ (P : DataLocale → DataLocale → Type 0)
   at_language true k v r s h e = cc
   at_language false k v r s h e = subst (P d) (of_some e) (language d k v r s h)
 
-  at_script : (o : Option (List ℕ)) → subdivision_keyword d ≡ None → d.variant ≡ None → region_of d ≡ None →
+  at_script : (o : Option Text) → subdivision_keyword d ≡ None → d.variant ≡ None → region_of d ≡ None →
       d.script ≡ o
       → option_or (option_map (λ _. record (with_whole_region d) { script = None }) o)
       (if is_unknown_language d.language then None else Some unknown_data) ≡ Some p → P d p
   at_script (Some s) k v r h e = subst (P d) (of_some e) (script d s k v r h)
   at_script None k v r h e = at_language (is_unknown_language d.language) k v r h refl e
 
-  at_region : (o : Option (List ℕ)) → subdivision_keyword d ≡ None → d.variant ≡ None → region_of d ≡ o
+  at_region : (o : Option Text) → subdivision_keyword d ≡ None → d.variant ≡ None → region_of d ≡ o
       → option_or (option_map (λ _. record (with_whole_region d) { region = None }) o)
       (option_or (option_map (λ _. record (with_whole_region d) { script = None }) d.script)
       (if is_unknown_language d.language then None else Some unknown_data)) ≡ Some p → P d p
   at_region (Some r) k v h e = subst (P d) (of_some e) (region d r k v h)
   at_region None k v h e = at_script d.script k v h refl e
 
-  at_variant : (o : Option (List ℕ)) → subdivision_keyword d ≡ None → d.variant ≡ o
+  at_variant : (o : Option Text) → subdivision_keyword d ≡ None → d.variant ≡ o
       → option_or (option_map (λ _. record (with_whole_region d) { variant = None }) o)
       (option_or (option_map (λ _. record (with_whole_region d) { region = None }) (region_of d))
       (option_or (option_map (λ _. record (with_whole_region d) { script = None }) d.script)
@@ -78,7 +78,7 @@ module _ (P : DataLocale → DataLocale → Type 0)
   at_variant (Some v) k h e = subst (P d) (of_some e) (variant d v k h)
   at_variant None k h e = at_region (region_of d) k h refl e
 
-  at_part : (o : Option (List ℕ)) → subdivision_keyword d ≡ o
+  at_part : (o : Option Text) → subdivision_keyword d ≡ o
       → option_or (option_map (λ _. with_whole_region d) o)
       (option_or (option_map (λ _. record (with_whole_region d) { variant = None }) d.variant)
       (option_or (option_map (λ _. record (with_whole_region d) { region = None }) (region_of d))
@@ -124,21 +124,21 @@ module _ (d : DataLocale) where
     },
   )
 
-  end_at_script : (o : Option (List ℕ)) → subdivision_keyword d ≡ None → d.variant ≡ None →
+  end_at_script : (o : Option Text) → subdivision_keyword d ≡ None → d.variant ≡ None →
       region_of d ≡ None → d.script ≡ o
       → option_or (option_map (λ _. record (with_whole_region d) { script = None }) o)
       (if is_unknown_language d.language then None else Some unknown_data) ≡ None → IsEnd d
   end_at_script (Some s) k v r h e = cc
   end_at_script None k v r h e = end_at_language (is_unknown_language d.language) k v r h refl e
 
-  end_at_region : (o : Option (List ℕ)) → subdivision_keyword d ≡ None → d.variant ≡ None → region_of d ≡ o
+  end_at_region : (o : Option Text) → subdivision_keyword d ≡ None → d.variant ≡ None → region_of d ≡ o
       → option_or (option_map (λ _. record (with_whole_region d) { region = None }) o)
       (option_or (option_map (λ _. record (with_whole_region d) { script = None }) d.script)
       (if is_unknown_language d.language then None else Some unknown_data)) ≡ None → IsEnd d
   end_at_region (Some r) k v h e = cc
   end_at_region None k v h e = end_at_script d.script k v h refl e
 
-  end_at_variant : (o : Option (List ℕ)) → subdivision_keyword d ≡ None → d.variant ≡ o
+  end_at_variant : (o : Option Text) → subdivision_keyword d ≡ None → d.variant ≡ o
       → option_or (option_map (λ _. record (with_whole_region d) { variant = None }) o)
       (option_or (option_map (λ _. record (with_whole_region d) { region = None }) (region_of d))
       (option_or (option_map (λ _. record (with_whole_region d) { script = None }) d.script)
@@ -146,7 +146,7 @@ module _ (d : DataLocale) where
   end_at_variant (Some v) k h e = cc
   end_at_variant None k h e = end_at_region (region_of d) k h refl e
 
-  end_at_part : (o : Option (List ℕ)) → subdivision_keyword d ≡ o
+  end_at_part : (o : Option Text) → subdivision_keyword d ≡ o
       → option_or (option_map (λ _. with_whole_region d) o)
       (option_or (option_map (λ _. record (with_whole_region d) { variant = None }) d.variant)
       (option_or (option_map (λ _. record (with_whole_region d) { region = None }) (region_of d))
@@ -177,7 +177,7 @@ chain_ends (suc n) d h = goes_on n d h (data_parent d) refl (λ p. chain_ends n 
 pub no_parent : data_parent unknown_data ≡ None
 no_parent = refl
 
-at_most_one : (o : Option (List ℕ)) → length (option_to_list o) ≤ 1
+at_most_one : (o : Option Text) → length (option_to_list o) ≤ 1
 at_most_one None = omega arith
 at_most_one (Some w) = omega arith
 
@@ -198,17 +198,17 @@ few_parts d = omega (
 -- what a parent lacks
 
 -- the pieces of these parts
-abbrev pieces_of : List ℕ → Option (List ℕ) → Option (List ℕ) → Option (List ℕ) → Option (List ℕ) →
-    List (List ℕ)
+abbrev pieces_of : Text → Option Text → Option Text → Option Text → Option Text →
+    List Text
 pieces_of l s r v k =
     l ∷ (option_to_list s ++ (option_to_list r ++ (option_to_list v ++ subdivision_pieces k)))
 
-has_pieces : (d : DataLocale) (s r v k : Option (List ℕ)) → d.script ≡ s → d.region ≡ r → d.variant ≡ v →
+has_pieces : (d : DataLocale) (s r v k : Option Text) → d.script ≡ s → d.region ≡ r → d.variant ≡ v →
     subdivision_keyword d ≡ k
     → data_pieces d ≡ pieces_of d.language s r v k
 has_pieces d s r v k a b c e = λ i. pieces_of d.language (a i) (b i) (c i) (e i)
 
-cut_region : (l : List ℕ) (s : Option (List ℕ)) (r : List ℕ) →
+cut_region : (l : Text) (s : Option Text) (r : Text) →
     pieces_of l s (Some r) None None ≡ pieces_of l s None None None ++ r ∷ []
 cut_region l s r = simp append-nil
 
@@ -242,7 +242,7 @@ lacks_last d p same e = by_parent (λ d p. d.region ≡ region_of d → LacksLas
 
 -- a parent is a data locale
 
-region_normal : (o r : Option (List ℕ)) → IfSome r (IsNormal Region)
+region_normal : (o r : Option Text) → IfSome r (IsNormal Region)
     → IfSome
     (option_map (λ s. s.region) (option_or (option_and_then named_subdivision o) (option_map whole_region r)))
     (IsNormal Region)
@@ -288,7 +288,7 @@ abbrev is_part : Option Subdivision → Bool
 is_part None = false
 is_part (Some s) = not (is_whole s)
 
-part_printed : (o r : Option (List ℕ)) →
+part_printed : (o r : Option Text) →
     is_some (option_and_then
     (λ w. option_and_then (λ s. if is_whole s then None else Some w) (named_subdivision w)) o)
     ≡ is_part (option_or (option_and_then named_subdivision o) (option_map whole_region r))
@@ -300,7 +300,7 @@ part_printed (Some w) r = by (named_subdivision w)
     printed true = refl
     printed false = refl
 
-    none : (r : Option (List ℕ)) → false ≡ is_part (option_map whole_region r)
+    none : (r : Option Text) → false ≡ is_part (option_map whole_region r)
     none None = refl
     none (Some r) = refl
 
@@ -326,13 +326,13 @@ key_parent k =
     (option_or (option_map (λ _. record w { script = None }) k.script)
     (if is_unknown_language k.language then None else Some (data_key unknown_data)))))
 
-mapped : (o : Option (List ℕ)) (d : DataLocale) (p : Option DataLocale) →
+mapped : (o : Option Text) (d : DataLocale) (p : Option DataLocale) →
     option_map data_key (option_or (option_map (λ _. d) o) p)
     ≡ option_or (option_map (λ _. data_key d) o) (option_map data_key p)
 mapped None d p = refl
 mapped (Some w) d p = refl
 
-if_there : (o : Option (List ℕ)) (k : DataKey) → option_map (λ _. k) o ≡ (if is_some o then Some k else None)
+if_there : (o : Option Text) (k : DataKey) → option_map (λ _. k) o ≡ (if is_some o then Some k else None)
 if_there None k = refl
 if_there (Some w) k = refl
 
@@ -374,11 +374,11 @@ none : {X : Type 0} (o : Option X) → false ≡ is_some o → o ≡ None
 none None h = refl
 none (Some x) h = absurd (true≢false (sym h))
 
-no_word : (o : Option (List ℕ)) → false ≡ is_some (option_map subdivision_value o) → o ≡ None
+no_word : (o : Option Text) → false ≡ is_some (option_map subdivision_value o) → o ≡ None
 no_word None h = refl
 no_word (Some w) h = absurd (true≢false (sym h))
 
-pub language_left : (d e w : DataLocale) (k : Option (List (List ℕ))) →
+pub language_left : (d e w : DataLocale) (k : Option (List Text)) →
     k ≡ option_map subdivision_value (subdivision_keyword d)
     → false ≡ is_some k → false ≡ is_some d.variant → w ≡ with_whole_region d → false ≡ is_some w.region →
     false ≡ is_some d.script

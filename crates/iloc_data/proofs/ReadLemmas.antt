@@ -2,7 +2,7 @@
 use Rattle.std.specs.Prelude.{⊤}
 use Rattle.std.proofs.Common.{◌≡◌, ℕ, List, Option, Some, None, sym, ap, ◌∙◌, Result, Ok, Err, IfOk}
 use Rattle.std.proofs.Common.{option_map}
-use Rattle.iloc_spec_grammar.specs.Syntax.{languages, two_or_three}
+use Rattle.iloc_spec_grammar.specs.Syntax.{Text, languages, two_or_three}
 use Rattle.iloc_spec_grammar.specs.Meaning as meaning
 use Rattle.iloc_spec_grammar.specs.Meaning.{Means, Fault}
 use Rattle.iloc_spec_grammar.proofs.RawLaws.{languages_table, narrow_in_wide}
@@ -31,13 +31,13 @@ use Rattle.iloc_data.specs.Reads.{DataTextReads}
 abbrev of_part : LocaleParts → Option (Option Subdivision) → Option parts.DataLocale
 of_part p o = option_map (λ part. made_of p.0 p.1 part p.3) o
 
-pub accepted : (t : List ℕ) (p : LocaleParts) (part : Option Subdivision) (d : parts.DataLocale) →
+pub accepted : (t : Text) (p : LocaleParts) (part : Option Subdivision) (d : parts.DataLocale) →
     SmallLocaleTextReads t (Ok p) → small_part p.2 p.4 ≡ Some part → d ≡ made_of p.0 p.1 part p.3 →
     DataMeans languages t d
 accepted t p part d s h e =
     record { small = small_locale_of p; is_small = s; means = ap (of_part p) h ∙ ap Some (sym e) }
 
-pub not_read : (t : List ℕ) (e : ParseError) → SmallLocaleTextReads t (Err e) → DataTextReads t (Err e)
+pub not_read : (t : Text) (e : ParseError) → SmallLocaleTextReads t (Err e) → DataTextReads t (Err e)
 not_read t InvalidLanguage h = not_small h
 not_read t InvalidSubtag h = not_small h
 not_read t InvalidExtension h = not_small h
@@ -45,7 +45,7 @@ not_read t DuplicatedExtension h = not_small h
 not_read t OutOfMemory h = absurd h
 
 -- memory never runs out
-pub not_without : (t : List ℕ) (e : ParseError) → SmallLocaleTextReads t (Err e) →
+pub not_without : (t : Text) (e : ParseError) → SmallLocaleTextReads t (Err e) →
     RunsOutOnlyIf {X = DataLocale} ⊥ (Err e)
 not_without t InvalidLanguage h = tt
 not_without t InvalidSubtag h = tt
@@ -53,54 +53,54 @@ not_without t InvalidExtension h = tt
 not_without t DuplicatedExtension h = tt
 not_without t OutOfMemory h = h
 
-pub no_part : (t : List ℕ) (p : LocaleParts) → SmallLocaleTextReads t (Ok p) → small_part p.2 p.4 ≡ None →
+pub no_part : (t : Text) (p : LocaleParts) → SmallLocaleTextReads t (Ok p) → small_part p.2 p.4 ≡ None →
     DataTextReads t (Err InvalidExtension)
 no_part t p s h = no_subdivision s (ap (of_part p) h)
 
 -- what is owed to each text
 
-data_judges : (t : List ℕ) → Judges (DataMeans languages t) (HasDataFault languages t)
+data_judges : (t : Text) → Judges (DataMeans languages t) (HasDataFault languages t)
 data_judges t = record {
   one = one_data languages_table t;
   apart = data_apart languages_table t;
   one_fault = λ f g. one_data_fault t;
 }
 
-pub data_accepts : (t : List ℕ) (r : Result DataLocale ParseError) → DataTextReads t r →
+pub data_accepts : (t : Text) (r : Result DataLocale ParseError) → DataTextReads t r →
     (d : parts.DataLocale) → DataMeans languages t d → Accepts value_of ⊤ d r
 data_accepts t r h = accepts value_of ⊤ (data_judges t) r h
 
-pub data_refuses : (t : List ℕ) (r : Result DataLocale ParseError) → DataTextReads t r → (f : Fault) →
+pub data_refuses : (t : Text) (r : Result DataLocale ParseError) → DataTextReads t r → (f : Fault) →
     HasDataFault languages t f → Refuses ⊤ f r
 data_refuses t r h = refuses value_of ⊤ (data_judges t) r h
 
 -- what else is known of what is read
 
-ours : (t : List ℕ) (d : parts.DataLocale) → DataMeans two_or_three t d → DataMeans languages t d
+ours : (t : Text) (d : parts.DataLocale) → DataMeans two_or_three t d → DataMeans languages t d
 ours t d h = data_wider narrow_in_wide t d h
 
-pub reads_back : (t : List ℕ) (d : parts.DataLocale) → DataMeans languages t d →
+pub reads_back : (t : Text) (d : parts.DataLocale) → DataMeans languages t d →
     DataMeans languages (data_text d) d
 reads_back t d h = read_back t d h
 
-pub is_converted : (t : List ℕ) (d : parts.DataLocale) → DataMeans languages t d → (M : meaning.Locale) →
+pub is_converted : (t : Text) (d : parts.DataLocale) → DataMeans languages t d → (M : meaning.Locale) →
     Means languages t M → d ≡ language_priority (preferences M)
 is_converted t d h M m = agrees languages_table t d M h m
 
 -- a text that means a data locale is small, and so it means a locale
-pub is_meant : (t : List ℕ) (d : parts.DataLocale) → DataMeans languages t d
+pub is_meant : (t : Text) (d : parts.DataLocale) → DataMeans languages t d
     → (M : meaning.Locale) × Means languages t M × (d ≡ language_priority (preferences M))
 is_meant t d h =
     let M : meaning.Locale = locale_of_small h.small in
     let m : Means languages t M = small_means t h.small h.is_small in
     (M, m, is_converted t d h M m)
 
-pub meant_of : (t : List ℕ) (r : Result DataLocale ParseError) → DataTextReads t r
+pub meant_of : (t : Text) (r : Result DataLocale ParseError) → DataTextReads t r
     → IfOk r
     (λ d. (M : meaning.Locale) × Means languages t M × (value_of d ≡ language_priority (preferences M)))
 meant_of t (Ok d) h = is_meant t (value_of d) h
 meant_of t (Err e) h = tt
 
-pub keeps_narrow : (t : List ℕ) (r : Result DataLocale ParseError) → DataTextReads t r →
+pub keeps_narrow : (t : Text) (r : Result DataLocale ParseError) → DataTextReads t r →
     (d : parts.DataLocale) → DataMeans two_or_three t d → Accepts value_of ⊤ d r
 keeps_narrow t r h d n = data_accepts t r h d (ours t d n)

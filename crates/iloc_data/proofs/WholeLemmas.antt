@@ -5,7 +5,8 @@ use Rattle.std.specs.Prelude.{IfSome, if◌then◌else◌, option_and_then, ok_o
 use Rattle.std.specs.Result.{result_ok}
 use Rattle.std.specs.Char.{is_ascii_alphabetic}
 use Rattle.std.proofs.lemmas.Bool.Decides.{nat_tests}
-use Rattle.iloc_spec_grammar.specs.Syntax.{Region, Subtag, SubdivisionSuffix, is_word, word, lower, upper}
+use Rattle.iloc_spec_grammar.specs.Syntax.{Text, Region, Subtag, SubdivisionSuffix, is_word, word, lower}
+use Rattle.iloc_spec_grammar.specs.Syntax.{upper}
 use Rattle.iloc_spec_grammar.specs.Syntax.{is_same}
 use Rattle.iloc_spec_grammar.specs.Meaning.{InvalidSubtag, InvalidExtension}
 use Rattle.iloc_spec_preferences.specs.Subdivisions.{Subdivision, both_words}
@@ -15,22 +16,22 @@ use Rattle.std.specs.Cmp.Lexicographic.{pointwise}
 use Rattle.iloc_data_parts.proofs.RegionLemmas.{words_tie}
 
 -- the word, where it names a part of a region
-abbrev part_named : Option Subdivision → List ℕ → Option (List ℕ)
+abbrev part_named : Option Subdivision → Text → Option Text
 part_named named w = option_and_then (λ s. if is_whole s then None else Some w) named
 
 -- of a word that is a subtag or not, its region and its suffix
-abbrev named_by : Bool → Option (List ℕ) → Option (List ℕ) → Option Subdivision
+abbrev named_by : Bool → Option Text → Option Text → Option Subdivision
 named_by subtag region suffix =
     result_ok (if subtag then ok_or (both_words region suffix) InvalidExtension else Err InvalidSubtag)
 
-whole_suffix : (subtag : Bool) (region suffix : Option (List ℕ)) (w : List ℕ) →
+whole_suffix : (subtag : Bool) (region suffix : Option Text) (w : Text) →
     IfSome suffix (λ s. is_same s whole ≡ true) → part_named (named_by subtag region suffix) w ≡ None
 whole_suffix false region suffix w h = refl
 whole_suffix true None suffix w h = refl
 whole_suffix true (Some r) None w h = refl
 whole_suffix true (Some r) (Some s) w h = ap (λ b. if b then None else Some w) h
 
-no_region : (subtag : Bool) (region suffix : Option (List ℕ)) (w : List ℕ) → region ≡ None →
+no_region : (subtag : Bool) (region suffix : Option Text) (w : Text) → region ≡ None →
     part_named (named_by subtag region suffix) w ≡ None
 no_region subtag region suffix w e = ap (λ r. part_named (named_by subtag r suffix) w) e ∙ whole_less subtag
   where
@@ -38,7 +39,7 @@ no_region subtag region suffix w e = ap (λ r. part_named (named_by subtag r suf
     whole_less true = refl
     whole_less false = refl
 
-none_is : (suffix : Option (List ℕ)) → suffix ≡ None → IfSome suffix (λ s. is_same s whole ≡ true)
+none_is : (suffix : Option Text) → suffix ≡ None → IfSome suffix (λ s. is_same s whole ≡ true)
 none_is None e = tt
 none_is (Some s) e = cc
 
@@ -57,7 +58,7 @@ too_long c = refl
 after_two : (a b : ℕ) → part_named (named_subdivision (a ∷ b ∷ whole)) (a ∷ b ∷ whole) ≡ None
 after_two a b = by (is_ascii_alphabetic a)
   where
-    w : List ℕ
+    w : Text
     w = a ∷ b ∷ whole
 
     by : (letter : Bool) →
@@ -72,7 +73,7 @@ after_two a b = by (is_ascii_alphabetic a)
 after_three : (a b c : ℕ) → part_named (named_subdivision (a ∷ b ∷ c ∷ whole)) (a ∷ b ∷ c ∷ whole) ≡ None
 after_three a b c = by (is_ascii_alphabetic a)
   where
-    w : List ℕ
+    w : Text
     w = a ∷ b ∷ c ∷ whole
 
     no_suffix : word SubdivisionSuffix (c ∷ whole) ≡ None
@@ -86,10 +87,10 @@ after_three a b c = by (is_ascii_alphabetic a)
     by true = whole_suffix (is_word Subtag w) _ _ w (none_is _ no_suffix)
     by false = whole_suffix (is_word Subtag w) _ _ w whole_is_whole
 
-same_end : (w : List ℕ) → pointwise nat_eq whole w ≡ true → whole ≡ w
+same_end : (w : Text) → pointwise nat_eq whole w ≡ true → whole ≡ w
 same_end w h = same_is whole w (sym (words_tie whole w) ∙ h)
 
-pub named_whole : (w : List ℕ) → 6 ≤ length w → length w ≤ 7 →
+pub named_whole : (w : Text) → 6 ≤ length w → length w ≤ 7 →
     pointwise nat_eq whole (drop (length w - 4) w) ≡ true → part_named (named_subdivision w) w ≡ None
 named_whole [] l u h = absurd (omega (arith, l))
 named_whole (a ∷ []) l u h = absurd (omega (arith, l))

@@ -5,7 +5,8 @@ use Rattle.std.proofs.Common.{option_map, is_some, if◌then◌else◌, Err}
 use Rattle.std.specs.List.{AllByRecursion, list_all}
 use Rattle.std.specs.FinMap.{find, put}
 use Rattle.std.proofs.lemmas.List.{map-append}
-use Rattle.iloc_spec_grammar.specs.Syntax.{TransformKey, Attribute, is_word, IsWord, lower, word_cmp, Fields}
+use Rattle.iloc_spec_grammar.specs.Syntax.{Text, TransformKey, Attribute, is_word, IsWord, lower, word_cmp}
+use Rattle.iloc_spec_grammar.specs.Syntax.{Fields}
 use Rattle.iloc_spec_grammar.specs.Syntax.{fields_pieces, IsField}
 use Rattle.iloc_spec_grammar.specs.Meaning.{map_of, normal_fields, normal_values}
 use Rattle.iloc_spec_grammar.specs.Reading.{take_first, skip_first, passing, past, before_key, fields_from}
@@ -26,27 +27,27 @@ use Rattle.iloc_spec_grammar.proofs.ReadBack.{all_append}
 use Rattle.iloc_spec_grammar.proofs.ReadingLaws.{length-past}
 use Rattle.iloc_spec_parts.proofs.TransformLaws.{no_key_empty}
 
-abbrev is_key : List ℕ → Bool
+abbrev is_key : Text → Bool
 is_key p = is_word TransformKey p
 
 -- of the pieces before, those up to now are taken, as fields that mean m
-pub record TakingFields (before now : List (List ℕ)) (m : Fields) : Type 0 where
+pub record TakingFields (before now : List Text) (m : Fields) : Type 0 where
   pub taken : Fields
   pub fields : AllByRecursion IsField taken
   pub front : fields_front before ≡ fields_pieces taken ++ fields_front now
   pub rest : after_fields before ≡ after_fields now
   pub means : m ≡ normal_fields taken
 
-pub takes_nothing : (ps : List (List ℕ)) → TakingFields ps ps []
+pub takes_nothing : (ps : List Text) → TakingFields ps ps []
 takes_nothing ps = record { taken = []; fields = tt; front = refl; rest = refl; means = refl }
 
 -- after a key: its values, and the next fields
 
-key_goes_on : (p : List ℕ) (ps : List (List ℕ)) → IsWord TransformKey p →
+key_goes_on : (p : Text) (ps : List Text) → IsWord TransformKey p →
     (fields_front (p ∷ ps) ≡ p ∷ passing is_field_piece ps) × (after_fields (p ∷ ps) ≡ past is_field_piece ps)
 key_goes_on p ps k = (rw k refl, rw k refl)
 
-after_values : (ps : List (List ℕ)) →
+after_values : (ps : List Text) →
     (passing is_field_piece ps ≡ attributes_front ps ++ fields_front (past (is_word Attribute) ps))
     × (past is_field_piece ps ≡ after_fields (past (is_word Attribute) ps))
 after_values [] = (rw no_key_empty refl, rw no_key_empty refl)
@@ -65,13 +66,13 @@ after_values (p ∷ ps) = by (is_word Attribute p) refl (is_key p) refl (after_v
 
 -- one field more
 
-pieces-last : (fs : Fields) (f : List ℕ × List (List ℕ)) →
+pieces-last : (fs : Fields) (f : Text × List Text) →
     fields_pieces (fs ++ f ∷ []) ≡ fields_pieces fs ++ (f.0 ∷ f.1)
 pieces-last [] f = append-nil (f.0 ∷ f.1)
 pieces-last (g ∷ fs) f = ap (λ l. (g.0 ∷ g.1) ++ l) (pieces-last fs f)
     ∙ sym (append_assoc (g.0 ∷ g.1) (fields_pieces fs) (f.0 ∷ f.1))
 
-values_are : (ps : List (List ℕ)) → AllByRecursion (IsWord Attribute) (attributes_front ps)
+values_are : (ps : List Text) → AllByRecursion (IsWord Attribute) (attributes_front ps)
 values_are [] = tt
 values_are (p ∷ ps) = by (is_word Attribute p) refl (values_are ps)
   where
@@ -80,7 +81,7 @@ values_are (p ∷ ps) = by (is_word Attribute p) refl (values_are ps)
     by true e more = (e, more)
     by false e more = tt
 
-normal-last : (fs : Fields) (p : List ℕ) (vs : List (List ℕ)) →
+normal-last : (fs : Fields) (p : Text) (vs : List Text) →
     normal_fields (fs ++ (p, vs) ∷ [])
     ≡ (if is_some (find word_cmp (lower p) (normal_fields fs)) then normal_fields fs else put word_cmp
     (lower p) (normal_values vs) (normal_fields fs))
@@ -90,7 +91,7 @@ normal-last fs p vs =
     (normal_values vs)
 
 -- a key with its values
-pub takes_field : (before now : List (List ℕ)) (m : Fields) (k : List ℕ) (qs more v : List (List ℕ))
+pub takes_field : (before now : List Text) (m : Fields) (k : Text) (qs more v : List Text)
     (n : Fields) →
     TakingFields before now m
     → Some k ≡ option_map lower (take_first is_key now) → qs ≡ skip_first is_key now
@@ -100,7 +101,7 @@ pub takes_field : (before now : List (List ℕ)) (m : Fields) (k : List ℕ) (qs
 takes_field before now m k qs more v n h e s r i =
     let t = took TransformKey now k e in
     let p = t.0 in
-    let vs : List (List ℕ) = attributes_front qs in
+    let vs : List Text = attributes_front qs in
     let first : now ≡ p ∷ qs = t.3 ∙ ap (λ l. p ∷ l) (sym s) in
     let goes = key_goes_on p qs t.1 in
     let after = after_values qs in
@@ -120,18 +121,18 @@ takes_field before now m k qs more v n h e s r i =
     }
 
 -- where no key follows
-no_more : (now : List (List ℕ)) → None ≡ option_map lower (take_first is_key now) →
+no_more : (now : List Text) → None ≡ option_map lower (take_first is_key now) →
     (fields_front now ≡ []) × (after_fields now ≡ now)
 no_more [] e = (rw no_key_empty refl, rw no_key_empty refl)
 no_more (p ∷ ps) e = by (is_key p) refl e
   where
     by : (b : Bool) → is_key p ≡ b →
-        ◌≡◌ {A = Option (List ℕ)} None (option_map lower (cond b (Some p) None)) →
+        ◌≡◌ {A = Option Text} None (option_map lower (cond b (Some p) None)) →
         (fields_front (p ∷ ps) ≡ []) × (after_fields (p ∷ ps) ≡ p ∷ ps)
     by true h e = cc
     by false h e = (rw h refl, rw h refl)
 
-pub takes_all : (before now : List (List ℕ)) (m : Fields) → TakingFields before now m →
+pub takes_all : (before now : List Text) (m : Fields) → TakingFields before now m →
     None ≡ option_map lower (take_first is_key now) → FieldsRead before m now
 takes_all before now m h e =
     let n = no_more now e in
@@ -144,9 +145,9 @@ takes_all before now m h e =
     }
 
 -- the front, where a key stands
-front_at : (before now : List (List ℕ)) (m : Fields) (k : List ℕ) → TakingFields before now m →
+front_at : (before now : List Text) (m : Fields) (k : Text) → TakingFields before now m →
     Some k ≡ option_map lower (take_first is_key now) →
-    (p : List ℕ) × IsWord TransformKey p × (taken : Fields)
+    (p : Text) × IsWord TransformKey p × (taken : Fields)
     × (fields_front before ≡ fields_pieces taken ++ (p ∷ passing is_field_piece (skip_first is_key now)))
 front_at before now m k h e =
     let t = took TransformKey now k e in (
@@ -160,12 +161,12 @@ front_at before now m k h e =
 
 -- memory is wanted for a field
 
-begins : (ps : List (List ℕ)) (k : List ℕ) (vs more : List (List ℕ)) → fields_front ps ≡ (k ∷ vs) ++ more →
+begins : (ps : List Text) (k : Text) (vs more : List Text) → fields_front ps ≡ (k ∷ vs) ++ more →
     IsWord TransformKey k → AllByRecursion (IsWord Attribute) vs → 0 < length vs → BeginsField ps
 begins ps k [] more e key all some = absurd (omega (arith, some))
 begins ps k (v ∷ vs) more e key all some = begins_field ps k v (vs ++ more) e key all.0
 
-pub wants_memory : (before now : List (List ℕ)) (m : Fields) (k : List ℕ) (qs : List (List ℕ)) →
+pub wants_memory : (before now : List Text) (m : Fields) (k : Text) (qs : List Text) →
     TakingFields before now m → Some k ≡ option_map lower (take_first is_key now) →
     qs ≡ skip_first is_key now → 0 < length (attributes_front qs) → BeginsField before
 wants_memory before now m k qs h e s some = at h.taken h.fields h.front
@@ -181,20 +182,20 @@ wants_memory before now m k qs h e s some = at h.taken h.fields h.front
     at (f ∷ fs) g front = begins before f.0 f.1 (fields_pieces fs ++ fields_front now)
         (front ∙ append_assoc (f.0 ∷ f.1) (fields_pieces fs) (fields_front now)) g.0.0 g.0.1 g.0.2
 
-some_values : (vs : List (List ℕ)) → 4 < length (normal_values vs) → 0 < length vs
+some_values : (vs : List Text) → 4 < length (normal_values vs) → 0 < length vs
 some_values [] h = absurd (omega (arith, h))
 some_values (v ∷ vs) h = omega arith
 
 -- a key without a value
 
-no_field : (p : List ℕ) (b : Bool) → (is_field (p, []) && b) ≡ false
+no_field : (p : Text) (b : Bool) → (is_field (p, []) && b) ≡ false
 no_field p b = by (is_word TransformKey p)
   where
     by : (k : Bool) → (((k && true) && false) && b) ≡ false
     by true = refl
     by false = refl
 
-later_false : (xs ys : List (List ℕ)) → list_all is_field (fields_from is_key ys) ≡ false →
+later_false : (xs ys : List Text) → list_all is_field (fields_from is_key ys) ≡ false →
     list_all is_field (fields_from is_key (xs ++ ys)) ≡ false
 later_false [] ys h = h
 later_false (x ∷ xs) ys h = by (is_key x) (later_false xs ys h)
@@ -210,7 +211,7 @@ later_false (x ∷ xs) ys h = by (is_key x) (later_false xs ys h)
     by true more = and_false _ _ more
     by false more = more
 
-no_value_there : (qs : List (List ℕ)) → attributes_front qs ≡ [] →
+no_value_there : (qs : List Text) → attributes_front qs ≡ [] →
     before_key is_key (passing is_field_piece qs) ≡ []
 no_value_there [] e = refl
 no_value_there (q ∷ qs) e = by (is_word Attribute q) refl (is_key q) refl e
@@ -221,12 +222,12 @@ no_value_there (q ∷ qs) e = by (is_word Attribute q) refl (is_key q) refl e
     by false h true i e = rw (h, i) (rw i refl)
     by false h false i e = rw (h, i) refl
 
-pub lacks_value : (before now : List (List ℕ)) (m : Fields) (k : List ℕ) (qs : List (List ℕ)) →
+pub lacks_value : (before now : List Text) (m : Fields) (k : Text) (qs : List Text) →
     TakingFields before now m → Some k ≡ option_map lower (take_first is_key now) →
     qs ≡ skip_first is_key now → attributes_front qs ≡ [] → list_all is_field (fields_at before) ≡ false
 lacks_value before now m k qs h e s n =
     let f = front_at before now m k h e in
-    let rest : List (List ℕ) = passing is_field_piece (skip_first is_key now) in
+    let rest : List Text = passing is_field_piece (skip_first is_key now) in
     let none : before_key is_key rest ≡ [] =
     no_value_there (skip_first is_key now) (ap attributes_front (sym s) ∙ n) in
     let here : list_all is_field (fields_from is_key (f.0 ∷ rest)) ≡ false =
@@ -234,7 +235,7 @@ lacks_value before now m k qs h e s n =
     ap (λ l. list_all is_field (fields_from is_key l)) f.3 ∙ later_false (fields_pieces f.2) (f.0 ∷ rest) here
 
 -- what the reader of a value refuses, the reader of fields does
-pub refuses : (before now : List (List ℕ)) (m : Fields) (k : List ℕ) (qs rest left : List (List ℕ))
+pub refuses : (before now : List Text) (m : Fields) (k : Text) (qs rest left : List Text)
     (f : ParseError) →
     TakingFields before now m → Some k ≡ option_map lower (take_first is_key now) →
     qs ≡ skip_first is_key now → FieldValueReads qs rest (Err f) → FieldsFills before left (Err f)
@@ -245,7 +246,7 @@ refuses before now m k qs rest left InvalidLanguage h e s r = let other = r.0 in
 refuses before now m k qs rest left InvalidSubtag h e s r = let other = r.0 in cc
 refuses before now m k qs rest left DuplicatedExtension h e s r = let other = r.0 in cc
 
-pub shorter : (now qs more : List (List ℕ)) (k : List ℕ) → Some k ≡ option_map lower (take_first is_key now) →
+pub shorter : (now qs more : List Text) (k : Text) → Some k ≡ option_map lower (take_first is_key now) →
     qs ≡ skip_first is_key now → more ≡ past (is_word Attribute) qs → length more < length now
 shorter now qs more k e s r =
     let t = took TransformKey now k e in

@@ -3,17 +3,17 @@ use Rattle.std.proofs.Common.{◌≡◌, ℕ, Bool, true, false, cond, List, [],
 use Rattle.std.proofs.Common.{OnErr}
 use Rattle.std.specs.FinMap.{put, find}
 use Rattle.std.specs.List.{AllByRecursion, items_where_true}
-use Rattle.iloc_spec_grammar.specs.Syntax.{word_cmp, Fields, TransformKey}
+use Rattle.iloc_spec_grammar.specs.Syntax.{Text, word_cmp, Fields, TransformKey}
 use Rattle.iloc_spec_grammar.proofs.MapLaws.{same_words, all-put}
 use Rattle.iloc_fields.specs.FieldsReading.{IsFieldPair}
 use Rattle.iloc_fields.specs.ValueReading.{IsValueWord}
 use Rattle.iloc_spec_grammar.specs.Values.{IsNormal}
 
-put_pairs : (k : List ℕ) (v : List (List ℕ)) → IsNormal TransformKey k → AllByRecursion IsValueWord v →
+put_pairs : (k : Text) (v : List Text) → IsNormal TransformKey k → AllByRecursion IsValueWord v →
     (es : Fields) → AllByRecursion IsFieldPair es → AllByRecursion IsFieldPair (put word_cmp k v es)
 put_pairs k v n w es h = all-put word_cmp same_words IsFieldPair k v es (n, w) h
 
-pub added_pairs : (k : List ℕ) (v : List (List ℕ)) → IsNormal TransformKey k → AllByRecursion IsValueWord v →
+pub added_pairs : (k : Text) (v : List Text) → IsNormal TransformKey k → AllByRecursion IsValueWord v →
     (es : Fields) → AllByRecursion IsFieldPair es →
     AllByRecursion IsFieldPair (cond (is_some (find word_cmp k es)) es (put word_cmp k v es))
 added_pairs k v n w es h =
@@ -28,7 +28,7 @@ kept_pairs P (true ∷ bs) (x ∷ xs) h = (h.0, kept_pairs P bs xs h.1)
 kept_pairs P (false ∷ bs) (x ∷ xs) h = kept_pairs P bs xs h.1
 
 -- after a pair was set, or memory refused
-pub set_pairs : {X Z : Type 0} (k : List ℕ) (v : List (List ℕ)) → IsNormal TransformKey k →
+pub set_pairs : {X Z : Type 0} (k : Text) (v : List Text) → IsNormal TransformKey k →
     AllByRecursion IsValueWord v → (es : Fields) → AllByRecursion IsFieldPair es →
     (fs : Fields) (r : Result X Z) → OnOk r (fs ≡ put word_cmp k v es) → OnErr r (fs ≡ es) →
     AllByRecursion IsFieldPair fs

@@ -7,14 +7,15 @@ use Rattle.iloc_subtags.specs.Judging.{Accepts, Refuses}
 use Rattle.iloc_subtags.proofs.Judged.{Judges, told, accepts, refuses}
 use Rattle.iloc_spec_parts.specs.PartValues.{transform_value}
 use Rattle.iloc_fields.specs.ValueReading.{FieldValueTextReads}
+use Rattle.iloc_spec_grammar.specs.Syntax.{Text}
 
-value_judges : (t : List ℕ) → Judges (λ v. transform_value t ≡ Ok v) (λ f. transform_value t ≡ Err f)
+value_judges : (t : Text) → Judges (λ v. transform_value t ≡ Ok v) (λ f. transform_value t ≡ Err f)
 value_judges t = told (transform_value t)
 
-pub value_accepts : (t : List ℕ) (r : Result (List (List ℕ)) ParseError) → FieldValueTextReads t r →
-    (v : List (List ℕ)) → transform_value t ≡ Ok v → Accepts (λ v. v) ⊤ v r
+pub value_accepts : (t : Text) (r : Result (List Text) ParseError) → FieldValueTextReads t r →
+    (v : List Text) → transform_value t ≡ Ok v → Accepts (λ v. v) ⊤ v r
 value_accepts t r h = accepts (λ v. v) ⊤ (value_judges t) r h
 
-pub value_refuses : (t : List ℕ) (r : Result (List (List ℕ)) ParseError) → FieldValueTextReads t r →
+pub value_refuses : (t : Text) (r : Result (List Text) ParseError) → FieldValueTextReads t r →
     (f : Fault) → transform_value t ≡ Err f → Refuses ⊤ f r
 value_refuses t r h = refuses (λ v. v) ⊤ (value_judges t) r h

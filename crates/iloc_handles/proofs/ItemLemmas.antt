@@ -8,6 +8,7 @@ use Rattle.std.proofs.lemmas.Option.{slice_get_past, slice_get_read}
 use Rattle.iloc_calls.specs.Answers.{Tells}
 use Rattle.iloc_calls.specs.declared.status.Status.{Status}
 use Rattle.iloc_calls.specs.declared.status.Status.TheVariants.{NotFound}
+use Rattle.iloc_spec_grammar.specs.Syntax.{Text}
 
 -- the item that is lent is the one at the index
 pub item_at : {X : Type 0} (xs : List X) (i : ℕ) (r : Option (Bor X)) → IsItemAt xs i r →
@@ -21,6 +22,6 @@ copied_there None = refl
 copied_there (Some x) = refl
 
 -- nothing is handed out of what is not there
-pub tells_none : (before : List ℕ) (needed : ℕ) (status : Status) → status ≡ NotFound → needed ≡ 0
+pub tells_none : (before : Text) (needed : ℕ) (status : Status) → status ≡ NotFound → needed ≡ 0
     → Tells None before before needed status
 tells_none before needed status s n = subst (λ t. Tells None before before needed t) (sym s) (n, refl)

@@ -9,7 +9,7 @@ use Rattle.std.specs.declared.cmp.Ordering.TheVariants.{Less, Equal, Greater}
 use Rattle.std.specs.FinMap.{find, put}
 use Rattle.std.specs.FinMap.Entries.{by_order}
 use Rattle.std.proofs.lemmas.Bool.Decides.{nat_tests}
-use Rattle.iloc_spec_grammar.specs.Syntax.{Block}
+use Rattle.iloc_spec_grammar.specs.Syntax.{Text, Block}
 use Rattle.iloc_handles.specs.OtherPlaces.{how_many_less, place_of_singleton}
 
 tied : (a b : ℕ) → b ≡ a → eq_by_cmp nat_cmp a b ≡ true
@@ -78,7 +78,7 @@ equal a b h = grind (arith, nat_tests)
 greater : (a b : ℕ) → nat_lt b a ≡ true → nat_cmp a b ≡ Greater
 greater a b h = grind (arith, nat_tests)
 
-module _ (c : ℕ) (ws : List (List ℕ)) where
+module _ (c : ℕ) (ws : List Text) where
   abbrev Put : Block → List Block → Ordering → List Block
   Put p os r = by_order r ((c, ws) ∷ p ∷ os) ((p.0, ws) ∷ os) (p ∷ put nat_cmp c ws os)
 

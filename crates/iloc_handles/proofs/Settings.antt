@@ -6,7 +6,7 @@ use Rattle.std.specs.Int.{from_bool}
 use Rattle.std.specs.Ordering.{is_eq}
 use Rattle.std.specs.Cmp.{Equal-is}
 use Rattle.std.specs.declared.cmp.Ordering.{Ordering}
-use Rattle.iloc_spec_grammar.specs.Syntax.{languages}
+use Rattle.iloc_spec_grammar.specs.Syntax.{Text, languages}
 use Rattle.iloc_spec_grammar.specs.Meaning as meaning
 use Rattle.iloc_spec_grammar.specs.Meaning.{Means}
 use Rattle.iloc_spec_grammar.proofs.RawLaws.{languages_table}
@@ -29,13 +29,13 @@ equal_by_order M N o same is e = (
 )
 
 -- the number of what holds exactly if a text means the locale
-by_number : (t : List ℕ) (M : meaning.Locale) (before : ℕ) (same : Bool) → IsTrue same ↔ Means languages t M
+by_number : (t : Text) (M : meaning.Locale) (before : ℕ) (same : Bool) → IsTrue same ↔ Means languages t M
     → TellsMeant t M before (from_bool same) Done
 by_number t M before true e = inl (refl, e.0 refl)
 by_number t M before false e = inr (refl, λ m. true≢false (sym (e.1 m)))
 
 -- a text means the locale exactly if it was parsed as that
-pub meant : (t : List ℕ) (M N : meaning.Locale) (before after : ℕ) (o : Ordering) (same : Bool) →
+pub meant : (t : Text) (M N : meaning.Locale) (before after : ℕ) (o : Ordering) (same : Bool) →
     Means languages t N
     → o ≡ locale_cmp M N → same ≡ is_eq o → after ≡ from_bool same → TellsMeant t M before after Done
 meant t M N before after o same n is e a =

@@ -10,7 +10,7 @@ use Rattle.std.specs.FinMap.{find, is_sorted}
 use Rattle.std.specs.FinMap.Entries.{below_all}
 use Rattle.std.specs.Ordering.{is_lt}
 use Rattle.iloc_spec_grammar.proofs.SetLaws.{marked}
-use Rattle.iloc_spec_grammar.specs.Syntax.{Kind, IsWord, is_word, is_same, normal, read, word_cmp}
+use Rattle.iloc_spec_grammar.specs.Syntax.{Text, Kind, IsWord, is_word, is_same, normal, read, word_cmp}
 use Rattle.iloc_spec_grammar.specs.Values.{StrictlyAscends}
 use Rattle.iloc_word_set.specs.Ascending.{ascends}
 use Rattle.iloc_word_set.proofs.SetLaws.{kept_all, search_old, search_removed, ascending-filter}
@@ -19,11 +19,11 @@ use Rattle.iloc_handles.specs.Subtags.{HasWord, without_word}
 use Rattle.iloc_handles.specs.Pairs.{HasKey}
 
 -- what reading a text as a subtag answers, by the answer
-abbrev pub ReadWord : Kind → ParseError → List ℕ → Result (List ℕ) ParseError → Type 0
+abbrev pub ReadWord : Kind → ParseError → Text → Result Text ParseError → Type 0
 ReadWord k refusal t r =
     MatchResult r (λ w. IsWord k t × (w ≡ normal k t)) (λ e. (is_word k t ≡ false) × (e ≡ refusal))
 
-pub read_word : (k : Kind) (refusal : ParseError) (t : List ℕ) (r : Result (List ℕ) ParseError)
+pub read_word : (k : Kind) (refusal : ParseError) (t : Text) (r : Result Text ParseError)
     → r ≡ read k refusal t → ReadWord k refusal t r
 read_word k refusal t r is = subst (ReadWord k refusal t) (sym is) (by_test (is_word k t) refl)
   where
@@ -32,43 +32,43 @@ read_word k refusal t r is = subst (ReadWord k refusal t) (sym is) (by_test (is_
     by_test false h = rw h (refl, refl)
 
 -- a subtag is among others exactly if its text is
-pub has_exactly : (k : Kind) (t w : List ℕ) (ws : List (List ℕ)) (b : Bool) → IsWord k t → w ≡ normal k t
+pub has_exactly : (k : Kind) (t w : Text) (ws : List Text) (b : Bool) → IsWord k t → w ≡ normal k t
     → b ≡ list_any (is_same w) ws → IsTrue b ↔ HasWord k t ws
 has_exactly k t w ws b is e h =
-    let Among : List ℕ → Type 0 = λ v. list_any (is_same v) ws ≡ true in
+    let Among : Text → Type 0 = λ v. list_any (is_same v) ws ≡ true in
     (λ s. (is, subst Among e (sym h ∙ s)), λ p. h ∙ subst Among (sym e) p.1)
 
 -- without a subtag that is not there, all stay
-pub absent_stays : (k : Kind) (t w : List ℕ) (ws after : List (List ℕ)) → w ≡ normal k t →
+pub absent_stays : (k : Kind) (t w : Text) (ws after : List Text) → w ≡ normal k t →
     false ≡ list_any (is_same w) ws
     → after ≡ filter (λ v. not (is_same w v)) ws → (HasWord k t ws → ⊥) × (after ≡ ws)
 absent_stays k t w ws after e h is =
-    let Among : List ℕ → Type 0 = λ v. list_any (is_same v) ws ≡ true in
+    let Among : Text → Type 0 = λ v. list_any (is_same v) ws ≡ true in
     (λ p. true≢false (sym (subst Among (sym e) p.1) ∙ sym h), is ∙ kept_all w ws (sym h))
 
 -- a key that is not found is not there
-pub absent_key : {V : Type 0} (k : Kind) (t w : List ℕ) (ks : List (List ℕ × V)) → w ≡ normal k t
+pub absent_key : {V : Type 0} (k : Kind) (t w : Text) (ks : List (Text × V)) → w ≡ normal k t
     → false ≡ is_some (find word_cmp w ks) → HasKey k t ks → ⊥
 absent_key k t w ks e h p =
-    let There : List ℕ → Type 0 = λ v. is_some (find word_cmp v ks) ≡ true in
+    let There : Text → Type 0 = λ v. is_some (find word_cmp v ks) ≡ true in
     true≢false (sym (subst There (sym e) p.1) ∙ sym h)
 
 -- what is left of a set passes the test for one
-pub removed_ascends : (x : List ℕ) (ws : List (List ℕ)) (i : ℕ) → StrictlyAscends word_cmp ws → i < length ws
+pub removed_ascends : (x : Text) (ws : List Text) (i : ℕ) → StrictlyAscends word_cmp ws → i < length ws
     → HoldsAt (λ y. word_cmp y x ≡ Equal) ws i → ascends word_cmp (remove ws i) ≡ true
 removed_ascends x ws i h l at =
-    let p : List ℕ → Bool = λ w. not (is_same x w) in
+    let p : Text → Bool = λ w. not (is_same x w) in
     subst (λ vs. ascends word_cmp vs ≡ true) (sym (search_removed ws ws x i refl h l at))
     (ascending (filter p ws) (ascending-filter p ws h))
 
 -- a subtag that is not found is not there
-pub absent_word : (k : Kind) (t w : List ℕ) (ws : List (List ℕ)) → w ≡ normal k t →
+pub absent_word : (k : Kind) (t w : Text) (ws : List Text) → w ≡ normal k t →
     list_any (is_same w) ws ≡ false
     → HasWord k t ws → ⊥
 absent_word k t w ws e h p = true≢false (sym (subst (λ v. list_any (is_same v) ws ≡ true) (sym e) p.1) ∙ h)
 
 -- what a binary search found was there, and without it all others are left
-pub removed_word : (k : Kind) (t w : List ℕ) (slice ws kept : List (List ℕ)) (i : ℕ) → w ≡ normal k t →
+pub removed_word : (k : Kind) (t w : Text) (slice ws kept : List Text) (i : ℕ) → w ≡ normal k t →
     slice ≡ ws
     → StrictlyAscends word_cmp ws → i < length slice → HoldsAt (λ y. word_cmp y w ≡ Equal) slice i →
     kept ≡ remove slice i

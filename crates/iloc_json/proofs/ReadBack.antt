@@ -3,7 +3,7 @@ use Rattle.std.proofs.Common.{◌≡◌, ℕ, List, Option, Some, Result, Ok, Er
 use Rattle.std.proofs.Common.{subst}
 use Rattle.serde_json.specs.Data.{Data, string}
 use Rattle.serde_json.specs.Find.{as_str}
-use Rattle.iloc_spec_grammar.specs.Syntax.{Kind, read, normal, languages, pieces}
+use Rattle.iloc_spec_grammar.specs.Syntax.{Text, Kind, read, normal, languages, pieces}
 use Rattle.iloc_spec_grammar.specs.Values.{IsNormal, IsIdentifierValue, IsWellFormed, identifier_text, text}
 use Rattle.iloc_spec_grammar.specs.Meaning as faults
 use Rattle.iloc_spec_grammar.proofs.IdentifierTexts.{identifier_text_means, identifier_apart}
@@ -25,13 +25,13 @@ use Rattle.iloc_json.specs.Errors.{json_error}
 use Rattle.iloc_json.specs.Answers.{IsIdentifierAnswer, IsLocaleAnswer}
 use Rattle.iloc_json.specs.Json.{as_json, SucceedsOr, ReadsText}
 
-normal_read : (k : Kind) (e : ParseError) (w : List ℕ) → IsNormal k w → read k e w ≡ Ok w
+normal_read : (k : Kind) (e : ParseError) (w : Text) → IsNormal k w → read k e w ≡ Ok w
 normal_read k e w h = ap (λ b. if b then Ok (normal k w) else Err e) h.0 ∙ ap Ok h.1
 
-pub word_back : (k : Kind) (e : ParseError) (w : List ℕ) → IsNormal k w → (r : Result (List ℕ) ParseError) →
+pub word_back : (k : Kind) (e : ParseError) (w : Text) → IsNormal k w → (r : Result Text ParseError) →
     r ≡ read k e w → SucceedsOr OutOfMemory (λ other. other ≡ w) r
 word_back k e w h r is =
-    subst (λ (x : Result (List ℕ) ParseError). SucceedsOr OutOfMemory (λ other. other ≡ w) x)
+    subst (λ (x : Result Text ParseError). SucceedsOr OutOfMemory (λ other. other ≡ w) x)
     (sym (is ∙ normal_read k e w h)) refl
 
 pub identifier_back : (i : LanguageIdentifier) → IsIdentifierValue languages (identifier_of i) →
@@ -72,12 +72,12 @@ as_json_back : {X : Type 0} (same : X → Type 0) (x : Result X ParseError) → 
 as_json_back same (Ok x) h = h
 as_json_back same (Err e) h = ap json_error h
 
-pub json_back : {X : Type 0} (reads : List ℕ → Result X ParseError → Type 0) (same : X → Type 0)
-    (t : List ℕ) →
+pub json_back : {X : Type 0} (reads : Text → Result X ParseError → Type 0) (same : X → Type 0)
+    (t : Text) →
     ((x : Result X ParseError) → reads t x → SucceedsOr OutOfMemory same x) → (d : Data) → d ≡ string t →
     (r : Result X JsonError) → ReadsText reads (as_str d) r → SucceedsOr NoRoom same r
 json_back {X} reads same t back d is r h =
     let k : ReadsText reads (Some t) r =
-    subst (λ (o : Option (List ℕ)). ReadsText reads o r) (ap as_str is) h in
+    subst (λ (o : Option Text). ReadsText reads o r) (ap as_str is) h in
     subst (λ (y : Result X JsonError). SucceedsOr NoRoom same y) (sym k.2)
     (as_json_back same k.0 (back k.0 k.1))

@@ -7,7 +7,7 @@ use Rattle.std.specs.Ordering.{is_eq, ordering_then, eq_by_cmp}
 use Rattle.std.specs.declared.cmp.Ordering.{Ordering}
 use Rattle.std.specs.declared.cmp.Ordering.TheVariants.{Less, Equal, Greater}
 use Rattle.std.specs.Cmp.Lexicographic.{slice_cmp, pointwise, texts_ties}
-use Rattle.iloc_spec_grammar.specs.Syntax.{word_cmp, is_same}
+use Rattle.iloc_spec_grammar.specs.Syntax.{Text, word_cmp, is_same}
 use Rattle.iloc_spec_preferences.specs.Keywords as keywords
 use Rattle.iloc_spec_preferences.specs.Keywords.{EnumValue, numbered, variants, further_readings, readings}
 use Rattle.iloc_spec_preferences.specs.Keywords.{hijri_kinds}
@@ -16,13 +16,13 @@ use Rattle.iloc_keyword_types.proofs.EnumLemmas.{variant, one_word, more_words, 
 use Rattle.iloc_keyword_types.specs.CalendarReading.{calendar_reads}
 use Rattle.iloc_spec_grammar.proofs.MapLaws.{same_is}
 
-abbrev cs : List (List ℕ)
+abbrev cs : List Text
 cs = variants keywords.CalendarAlgorithm
 
-abbrev W : List (List ℕ) → List (List ℕ) → Ordering
+abbrev W : List Text → List Text → Ordering
 W = slice_cmp word_cmp
 
-find_either : (q : List (List ℕ)) (xs ys : List (List (List ℕ) × EnumValue)) →
+find_either : (q : List Text) (xs ys : List (List Text × EnumValue)) →
     find W q (xs ++ ys) ≡ option_or (find W q xs) (find W q ys)
 find_either q [] ys = refl
 find_either q (x ∷ xs) ys = elim (eq_by_cmp W q x.0)
@@ -55,38 +55,38 @@ then_greater Less s = refl
 then_greater Equal s = first_greater s
 then_greater Greater s = refl
 
-abbrev kind_entry : List ℕ × ℕ → List (List ℕ) × EnumValue
+abbrev kind_entry : Text × ℕ → List Text × EnumValue
 kind_entry e = (codes "islamic" ∷ e.0 ∷ [], (9, Some e.1))
 
-abbrev short_form : List (List ℕ) × EnumValue
+abbrev short_form : List Text × EnumValue
 short_form = (codes "islamicc" ∷ [], (9, Some 2))
 
-abbrev long_form : List (List ℕ) × EnumValue
+abbrev long_form : List Text × EnumValue
 long_form = (codes "ethiopic" ∷ codes "amete" ∷ codes "alem" ∷ [], (4, None))
 
-abbrev old_forms : List (List (List ℕ) × EnumValue)
+abbrev old_forms : List (List Text × EnumValue)
 old_forms = short_form ∷ long_form ∷ []
 
-pass : (q : List (List ℕ)) (e : List (List ℕ) × EnumValue) (es : List (List (List ℕ) × EnumValue)) →
+pass : (q : List Text) (e : List Text × EnumValue) (es : List (List Text × EnumValue)) →
     eq_by_cmp W q e.0 ≡ false → find W q (e ∷ es) ≡ find W q es
 pass q e es h = ap (λ b. cond b (Some e.1) (find W q es)) h
 
 -- one word
 
-not_kinds : (w : List ℕ) (es : List (List ℕ × ℕ)) → find W (w ∷ []) (map kind_entry es) ≡ None
+not_kinds : (w : Text) (es : List (Text × ℕ)) → find W (w ∷ []) (map kind_entry es) ≡ None
 not_kinds w [] = refl
 not_kinds w (e ∷ es) =
     pass (w ∷ []) (kind_entry e) (map kind_entry es) (first_less (word_cmp w (codes "islamic")))
     ∙ not_kinds w es
 
-of_old : (w : List ℕ) →
+of_old : (w : Text) →
     find W (w ∷ []) old_forms ≡ cond (is_same w (codes "islamicc")) (Some (9, Some 2)) None
 of_old w =
     ap (λ o. cond (is_eq (ordering_then (word_cmp w (codes "islamicc")) Equal)) (Some (9, Some 2)) o)
     (pass (w ∷ []) long_form [] (first_less (word_cmp w (codes "ethiopic"))))
     ∙ ap (λ b. cond b (Some (9, Some 2)) None) (first_equal (word_cmp w (codes "islamicc")))
 
-one : (w : List ℕ) →
+one : (w : Text) →
     find W (w ∷ []) (readings keywords.CalendarAlgorithm)
     ≡ option_or (option_map variant (find word_cmp w (numbered 0 cs)))
     (cond (is_same w (codes "islamicc")) (Some (9, Some 2)) None)
@@ -102,12 +102,12 @@ or_none : (o : Option EnumValue) → option_or o None ≡ o
 or_none None = refl
 or_none (Some x) = refl
 
-pub old_form : (w : List ℕ) → pointwise nat_eq w (codes "islamicc") ≡ true →
+pub old_form : (w : Text) → pointwise nat_eq w (codes "islamicc") ≡ true →
     calendar_reads (w ∷ []) ≡ Some (9, Some 2)
 unfolding calendar_reads
 old_form w h = rw (same_is w (codes "islamicc") (sym (texts_ties w (codes "islamicc")) ∙ h)) refl
 
-pub plain_form : (w : List ℕ) → pointwise nat_eq w (codes "islamicc") ≡ false →
+pub plain_form : (w : Text) → pointwise nat_eq w (codes "islamicc") ≡ false →
     calendar_reads (w ∷ []) ≡ option_map variant (table_place w cs)
 unfolding calendar_reads table_place
 plain_form w h = one w
@@ -125,7 +125,7 @@ both_none : (b : Bool) → ◌≡◌ {A = Option EnumValue} (cond b None None) N
 both_none true = refl
 both_none false = refl
 
-kinds : (v w : List ℕ) (r : Ordering) → word_cmp v (codes "islamic") ≡ r → (es : List (List ℕ × ℕ)) →
+kinds : (v w : Text) (r : Ordering) → word_cmp v (codes "islamic") ≡ r → (es : List (Text × ℕ)) →
     find W (v ∷ w ∷ []) (map kind_entry es) ≡ cond (is_eq r) (option_map of_kind (find word_cmp w es)) None
 kinds v w r h [] = sym (both_none (is_eq r))
 kinds v w Less h (e ∷ es) = pass (v ∷ w ∷ []) (kind_entry e) (map kind_entry es)
@@ -143,7 +143,7 @@ kinds v w Equal h (e ∷ es) =
     as (λ b. cond b (Some (9, Some e.1)) (option_map of_kind (find word_cmp w es))
     ≡ option_map of_kind (cond b (Some e.1) (find word_cmp w es))) [ true ↦ refl | false ↦ refl ])
 
-two : (v w : List ℕ) →
+two : (v w : Text) →
     find W (v ∷ w ∷ []) (readings keywords.CalendarAlgorithm)
     ≡ cond (is_same v (codes "islamic")) (option_map of_kind (find word_cmp w (numbered 0 hijri_kinds))) None
 two v w =
@@ -157,14 +157,14 @@ two v w =
     ∙ or_none (find W (v ∷ w ∷ []) (map kind_entry (numbered 0 hijri_kinds)))
     ∙ kinds v w (word_cmp v (codes "islamic")) refl (numbered 0 hijri_kinds)
 
-pub no_kind : (v w : List ℕ) → pointwise nat_eq v (codes "islamic") ≡ false →
+pub no_kind : (v w : Text) → pointwise nat_eq v (codes "islamic") ≡ false →
     calendar_reads (v ∷ w ∷ []) ≡ None
 unfolding calendar_reads
 no_kind v w h = two v w
     ∙ ap (λ b. cond b (option_map of_kind (find word_cmp w (numbered 0 hijri_kinds))) None)
     (sym (texts_ties v (codes "islamic")) ∙ h)
 
-pub with_kind : (v w : List ℕ) → pointwise nat_eq v (codes "islamic") ≡ true →
+pub with_kind : (v w : Text) → pointwise nat_eq v (codes "islamic") ≡ true →
     calendar_reads (v ∷ w ∷ []) ≡ option_map of_kind (table_place w hijri_kinds)
 unfolding calendar_reads table_place
 with_kind v w h = two v w
@@ -173,14 +173,14 @@ with_kind v w h = two v w
 
 -- three words, and more
 
-no_kinds : (u v w : List ℕ) (ws : List (List ℕ)) (es : List (List ℕ × ℕ)) →
+no_kinds : (u v w : Text) (ws : List Text) (es : List (Text × ℕ)) →
     find W (u ∷ v ∷ w ∷ ws) (map kind_entry es) ≡ None
 no_kinds u v w ws [] = refl
 no_kinds u v w ws (e ∷ es) = pass (u ∷ v ∷ w ∷ ws) (kind_entry e) (map kind_entry es)
     (then_greater (word_cmp u (codes "islamic")) (word_cmp v e.0))
     ∙ no_kinds u v w ws es
 
-three : (u v w : List ℕ) (ws : List (List ℕ)) →
+three : (u v w : Text) (ws : List Text) →
     find W (u ∷ v ∷ w ∷ ws) (readings keywords.CalendarAlgorithm)
     ≡ cond (is_eq (W (u ∷ v ∷ w ∷ ws) (codes "ethiopic" ∷ codes "amete" ∷ codes "alem" ∷ [])))
     (Some (4, None)) None
@@ -203,7 +203,7 @@ all_equal Greater s t = refl
 abbrev pub ethioaa_where : Bool → Bool → Bool → Option EnumValue
 ethioaa_where a b d = cond (a && (b && d)) (Some (4, None)) None
 
-pub three_words : (u v w : List ℕ) →
+pub three_words : (u v w : Text) →
     calendar_reads (u ∷ v ∷ w ∷ [])
     ≡ ethioaa_where (pointwise nat_eq u (codes "ethiopic")) (pointwise nat_eq v (codes "amete"))
     (pointwise nat_eq w (codes "alem"))
@@ -220,7 +220,7 @@ then_then_greater Less s t = refl
 then_then_greater Equal s t = then_greater s t
 then_then_greater Greater s t = refl
 
-four_words : (t u v w : List ℕ) (ws : List (List ℕ)) → calendar_reads (t ∷ u ∷ v ∷ w ∷ ws) ≡ None
+four_words : (t u v w : Text) (ws : List Text) → calendar_reads (t ∷ u ∷ v ∷ w ∷ ws) ≡ None
 unfolding calendar_reads
 four_words t u v w ws = three t u v (w ∷ ws)
     ∙ ap (λ b. cond b (Some (4, None)) None) (then_then_greater (word_cmp t (codes "ethiopic"))
@@ -230,11 +230,11 @@ no_words : calendar_reads [] ≡ None
 unfolding calendar_reads
 no_words = refl
 
-pub below_one : (ws : List (List ℕ)) → length ws < 1 → None ≡ calendar_reads ws
+pub below_one : (ws : List Text) → length ws < 1 → None ≡ calendar_reads ws
 below_one [] h = sym no_words
 below_one (w ∷ ws) h = absurd (omega (arith, h))
 
-pub from_four : (ws : List (List ℕ)) → 4 ≤ length ws → None ≡ calendar_reads ws
+pub from_four : (ws : List Text) → 4 ≤ length ws → None ≡ calendar_reads ws
 from_four [] h = absurd (omega (arith, h))
 from_four (t ∷ []) h = absurd (omega (arith, h))
 from_four (t ∷ u ∷ []) h = absurd (omega (arith, h))

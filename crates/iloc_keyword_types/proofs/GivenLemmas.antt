@@ -1,6 +1,6 @@
 -- What each calendar is turned into.
 use Rattle.std.proofs.Common.{◌≡◌, ℕ, List, [], ◌∷◌, Some, None, refl, ap, ◌∙◌, sym, codes, option_and_then}
-use Rattle.iloc_spec_grammar.specs.Syntax.{Subtag, is_true, is_word, lower}
+use Rattle.iloc_spec_grammar.specs.Syntax.{Text, Subtag, is_true, is_word, lower}
 use Rattle.iloc_spec_grammar.specs.Values.{IsNormal}
 use Rattle.iloc_spec_preferences.specs.Keywords as keywords
 use Rattle.iloc_spec_preferences.specs.Keywords.{variants, hijri_kinds, enum_reads, enum_gives}
@@ -85,7 +85,7 @@ given_kind c k h =
     ap (enum_gives keywords.CalendarAlgorithm) (λ i. (hijri_place c (kind_place k) h i, sym h i))
     ∙ of_number k
 
-pub reads_back : (c : CalendarAlgorithm) (v : List (List ℕ)) →
+pub reads_back : (c : CalendarAlgorithm) (v : List Text) →
     enum_gives keywords.CalendarAlgorithm (value_of c) ≡ Some v →
     enum_reads keywords.CalendarAlgorithm v ≡ Some (value_of c)
 reads_back c v h = sym (ap (option_and_then (enum_reads keywords.CalendarAlgorithm)) h) ∙ (known c).back

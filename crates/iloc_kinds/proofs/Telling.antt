@@ -6,7 +6,8 @@ use Rattle.std.specs.Char.{to_ascii_lowercase, is_ascii_alphanumeric}
 use Rattle.std.specs.List.{AllByRecursion}
 use Rattle.std.proofs.lemmas.Bool.{false_from_ne_true, and_parts}
 use Rattle.std.proofs.lemmas.Bool.Decides.{nat_tests}
-use Rattle.iloc_spec_grammar.specs.Syntax.{Text, Block, Language, Script, Region, Variant, Subtag, UnicodeKey}
+use Rattle.iloc_spec_grammar.specs.Syntax.{code_x, code_u, code_t, Text, Block, Language, Script, Region}
+use Rattle.iloc_spec_grammar.specs.Syntax.{Variant, Subtag, UnicodeKey}
 use Rattle.iloc_spec_grammar.specs.Syntax.{TransformKey, Attribute, PrivateSubtag, Bounds, languages, is_word}
 use Rattle.iloc_spec_grammar.specs.Syntax.{IsWord, is_one_byte, is_other_singleton, SpelledIdentifier}
 use Rattle.iloc_spec_grammar.specs.Syntax.{Unicode, Transform, Fields, identifier_pieces, is_true}
@@ -363,7 +364,7 @@ unicode_rest : (u : Unicode) → AllByRecursion (IsWord Attribute) u.attributes
     → {es : List Text} {q : List KindedPiece} → AreRest es q → AreRest (unicode_spelling u ++ es)
     (parts_of_unicode u ++ q)
 unfolding unicode_spelling
-unicode_rest u h f r = block_told 117 states.Attributes refl refl r (unicode_told u h f)
+unicode_rest u h f r = block_told code_u states.Attributes refl refl r (unicode_told u h f)
 
 -- `t` and what follows it
 transform_rest : (m : Transform) → IfSome (option_map lower_identifier m.id) (HasWords languages)
@@ -372,7 +373,7 @@ transform_rest : (m : Transform) → IfSome (option_map lower_identifier m.id) (
     (parts_of_transform m ++ q)
 unfolding transform_spelling
 transform_rest m h f r =
-    block_told 116 states.Transform refl refl r
+    block_told code_t states.Transform refl refl r
     (told_as (ap (λ l. l ++ fields_pieces (spelled_fields m.fields)) (id_pieces-low m.id)) refl
     (transform_told (option_map lower_identifier m.id) (spelled_fields m.fields) h f))
 
@@ -386,10 +387,10 @@ private_rest : (ws : List Text) → AllByRecursion (IsWord PrivateSubtag) ws
 unfolding private_spelling
 private_rest [] h = record { are = refl; begins = λ s o. refl; words = tt }
 private_rest (w ∷ ws) h = record {
-  are = ap (λ l. (kinds.Singleton, 120 ∷ []) ∷ l) (private_told (w ∷ ws));
-  begins = one_begins 120 (w ∷ ws);
+  are = ap (λ l. (kinds.Singleton, code_x ∷ []) ∷ l) (private_told (w ∷ ws));
+  begins = one_begins code_x (w ∷ ws);
   words = (
-    (byte_word 120 refl, refl),
+    (byte_word code_x refl, refl),
     all_mapped (IsWord PrivateSubtag) IsOfKind (λ w. (kinds.Private, w))
         (λ w h. h) (w ∷ ws) h,
   );
@@ -404,7 +405,7 @@ others_begun : (c : ℕ) → is_other_singleton c ≡ true → begun c ≡ state
 others_begun c h = let e = apart c h in rw (e.0, e.1, e.2) refl
   where
     apart : (c : ℕ) → is_other_singleton c ≡ true
-        → ((c == 116) ≡ false) × ((c == 117) ≡ false) × ((c == 120) ≡ false)
+        → ((c == code_t) ≡ false) × ((c == code_u) ≡ false) × ((c == code_x) ≡ false)
     apart c h = (grind (arith, nat_tests), grind (arith, nat_tests), grind (arith, nat_tests))
 
 others_rest : (os : List Block) → AllByRecursion IsOtherPart os
@@ -428,13 +429,13 @@ others_rest (o ∷ os) h {es} {q} r =
 before_all : (P : Block → Type 0) (os : List Block) → AllByRecursion P os → AllByRecursion P (before_t os)
 before_all P [] h = tt
 before_all P (o ∷ os) h =
-    elim (nat_le o.0 116) as (λ b. AllByRecursion P (cond b (o ∷ before_t os) []))
+    elim (nat_le o.0 code_t) as (λ b. AllByRecursion P (cond b (o ∷ before_t os) []))
     [ true ↦ (h.0, before_all P os h.1) | false ↦ tt ]
 
 after_all : (P : Block → Type 0) (os : List Block) → AllByRecursion P os → AllByRecursion P (after_t os)
 after_all P [] h = tt
 after_all P (o ∷ os) h =
-    elim (nat_le o.0 116) as (λ b. AllByRecursion P (cond b (after_t os) (o ∷ os)))
+    elim (nat_le o.0 code_t) as (λ b. AllByRecursion P (cond b (after_t os) (o ∷ os)))
     [ true ↦ after_all P os h.1 | false ↦ h ]
 
 -- ---- the whole text

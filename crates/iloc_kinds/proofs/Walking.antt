@@ -87,17 +87,17 @@ unfolding rows_of
 length_rows_of ps = length_rows 0 ps
 
 -- the rows up to this piece stand in the table, and what was behind them still does
-pub record IsWritten (t : Text) (at : Left) (s : State) (from : ℕ) (before table : List ℕ) : Type 0 where
+pub record IsWritten (t : Text) (at : Left) (s : State) (from : ℕ) (before table : Text) : Type 0 where
   pub left : IsRemainder at
   pub short : AreShortPieces (pieces_left at)
-  pub done : List ℕ
+  pub done : Text
   pub long : length done ≡ from
   pub rows : rows_from 0 (told Start (pieces t)) ≡ done ++ rows_from at.at (told s (pieces_left at))
   pub stands : table ≡ done ++ drop from before
   pub fits : from + 3 * length (pieces_left at) ≤ length before
   pub end : at.at + at.len ≡ length t
 
-pub write_begins : (M : Locale) (t : Text) (at : Left) (before : List ℕ) → IsNormalTextOf M t
+pub write_begins : (M : Locale) (t : Text) (at : Left) (before : Text) → IsNormalTextOf M t
     → length (rows_of (parts_of M)) ≤ length before
     → IsRemainder at → at.at ≡ 0 → at.len ≡ length t → bytes_left at ≡ take (length t) t
     → IsWritten t at Start 0 before before
@@ -115,17 +115,17 @@ write_begins M t at before h room l a n e =
       end = omega arith;
     }
 
-module _ {t : Text} {at : Left} {s : State} {from : ℕ} {before table : List ℕ}
+module _ {t : Text} {at : Left} {s : State} {from : ℕ} {before table : Text}
     (h : IsWritten t at s from before table) where
   -- the three numbers of this piece
-  abbrev row : List ℕ → List ℕ
+  abbrev row : Text → Text
   row rest = at.at ∷ (at.at + at.n) ∷ kind_number (step s (piece_left at)).0 ∷ rest
 
   long_is : at.n ≡ length (piece_left at)
   long_is = length_piece h.left (first_short at h.short)
 
   -- the table with them
-  stands_more : (after : List ℕ) → after ≡ take from table ++ row (drop (from + 3) table)
+  stands_more : (after : Text) → after ≡ take from table ++ row (drop (from + 3) table)
       → after ≡ (h.done ++ row []) ++ drop (from + 3) before
   stands_more after e =
       let front : take from table ≡ h.done = ap (take from) h.stands
@@ -160,7 +160,7 @@ module _ {t : Text} {at : Left} {s : State} {from : ℕ} {before table : List �
   pub ends_within : at.at + at.n ≤ length t
   ends_within = omega (arith, h.end, long_is, length_rest h.left, first_within (bytes_left at))
 
-  pub write_on : {m : Left} (after : List ℕ) → after ≡ take from table ++ row (drop (from + 3) table)
+  pub write_on : {m : Left} (after : Text) → after ≡ take from table ++ row (drop (from + 3) table)
       → IsNextPiece at m
       → IsWritten t m (step s (piece_left at)).1 (from + 3) before after
   write_on {m} after e n =
@@ -179,7 +179,7 @@ module _ {t : Text} {at : Left} {s : State} {from : ℕ} {before table : List �
       }
 
   -- all rows
-  pub write_ends : (after : List ℕ) → after ≡ take from table ++ row (drop (from + 3) table) → at.n ≡ at.len
+  pub write_ends : (after : Text) → after ≡ take from table ++ row (drop (from + 3) table) → at.n ≡ at.len
       → (M : Locale) → IsNormalTextOf M t
       → after ≡ rows_of (parts_of M) ++ drop (length (rows_of (parts_of M))) before
   unfolding rows_of

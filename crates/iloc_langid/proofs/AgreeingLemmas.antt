@@ -10,7 +10,8 @@ use Rattle.std.specs.declared.cmp.Ordering.{Ordering}
 use Rattle.std.specs.declared.cmp.Ordering.TheVariants.{Less, Equal, Greater}
 use Rattle.std.proofs.lemmas.Bool.{and_parts, and_from, or_parts, false_from_ne_true}
 use Rattle.std.proofs.lemmas.List.{length-map}
-use Rattle.iloc_spec_grammar.specs.Syntax.{Language, Script, Region, Variant, is_word, IsWord, lower, title}
+use Rattle.iloc_spec_grammar.specs.Syntax.{Text, Language, Script, Region, Variant, is_word, IsWord, lower}
+use Rattle.iloc_spec_grammar.specs.Syntax.{title}
 use Rattle.iloc_spec_grammar.specs.Syntax.{upper, word_cmp, is_same, languages, SpelledIdentifier, Identifier}
 use Rattle.iloc_spec_grammar.specs.Syntax.{AllDifferent, first_piece}
 use Rattle.iloc_spec_grammar.specs.Meaning.{IdentifierMeans, set_of, map_of}
@@ -32,26 +33,26 @@ use Rattle.iloc_spec_grammar.proofs.SetLaws.{any-set_of}
 use Rattle.iloc_langid.proofs.FrontLemmas.{plain_front, plain_of, front_gives, whole_gives}
 use Rattle.iloc_langid.proofs.SmallLemmas.{parts_are, after_region-pieces, past_none}
 
-among-any : (ps : List (List ℕ)) (w : List ℕ) → is_among ps w ≡ list_any (is_same w) (map lower ps)
+among-any : (ps : List Text) (w : Text) → is_among ps w ≡ list_any (is_same w) (map lower ps)
 among-any [] w = refl
 among-any (p ∷ ps) w = ap (λ b. is_same w (lower p) || b) (among-any ps w)
 
 -- a word that is there, taken to the front
-taken_out : (w : List ℕ) (qs : List (List ℕ)) → list_any (is_same w) qs ≡ true →
-    (rest : List (List ℕ)) × Reordered qs (w ∷ rest)
+taken_out : (w : Text) (qs : List Text) → list_any (is_same w) qs ≡ true →
+    (rest : List Text) × Reordered qs (w ∷ rest)
 taken_out w [] h = absurd (true≢false (sym h))
 taken_out w (q ∷ qs) h = by (is_same w q) refl h (λ k. taken_out w qs k)
   where
     by : (b : Bool) → is_same w q ≡ b → (b || list_any (is_same w) qs) ≡ true →
-        (list_any (is_same w) qs ≡ true → (rest : List (List ℕ)) × Reordered qs (w ∷ rest)) →
-        (rest : List (List ℕ)) × Reordered (q ∷ qs) (w ∷ rest)
+        (list_any (is_same w) qs ≡ true → (rest : List Text) × Reordered qs (w ∷ rest)) →
+        (rest : List Text) × Reordered (q ∷ qs) (w ∷ rest)
     by true e k more = (qs, subst (λ x. Reordered (q ∷ qs) (x ∷ qs)) (sym (same_is w q e)) (itself (q ∷ qs)))
     by false e k more = let (rest, r) = more k in (q ∷ rest, in_turn (front_kept r) first_two)
 
 later : (a b : Bool) → (a || b) ≡ true → a ≡ false → b ≡ true
 later a b h e = subst (λ x. (x || b) ≡ true) e h
 
-still_there : (w : List ℕ) (qs rest : List (List ℕ)) → Reordered qs (w ∷ rest) → (vs : List (List ℕ)) →
+still_there : (w : Text) (qs rest : List Text) → Reordered qs (w ∷ rest) → (vs : List Text) →
     list_any (is_same w) vs ≡ false
     → AllByRecursion (λ v. list_any (is_same v) qs ≡ true) vs →
     AllByRecursion (λ v. list_any (is_same v) rest ≡ true) vs
@@ -63,7 +64,7 @@ still_there w qs rest r (v ∷ vs) d h =
     )
 
 -- as many words, and each of them there: the same ones
-all_there : (ws qs : List (List ℕ)) → AllDifferent word_cmp ws → length qs ≡ length ws →
+all_there : (ws qs : List Text) → AllDifferent word_cmp ws → length qs ≡ length ws →
     AllByRecursion (λ w. list_any (is_same w) qs ≡ true) ws → Reordered qs ws
 all_there [] [] d e h = none
 all_there [] (q ∷ qs) d e h = absurd (omega (arith, e))
@@ -75,7 +76,7 @@ all_there (w ∷ ws) qs d e h =
     (front_kept (all_there ws rest d.1 k (still_there w qs rest r ws (false_from_ne_true _ d.0) h.1)))
 
 -- a set of different words has these words
-put_reordered : (w : List ℕ) (es : List (List ℕ × Unit {0})) →
+put_reordered : (w : Text) (es : List (Text × Unit {0})) →
     list_any (is_same w) (map (λ e. e.0) es) ≡ false →
     Reordered (w ∷ map (λ e. e.0) es) (map (λ e. e.0) (put word_cmp w (tt {0}) es))
 put_reordered w [] h = itself (w ∷ [])
@@ -88,48 +89,48 @@ put_reordered w (e ∷ es) h = by (word_cmp w e.0) refl (put_reordered w es (or_
     by Equal l more = absurd (true≢false (sym (ap is_eq l) ∙ (or_parts _ _ h).0))
     by Greater l more = rw l (in_turn first_two (front_kept more))
 
-set_reordered : (ws : List (List ℕ)) → AllDifferent word_cmp ws → Reordered ws (set_of ws)
+set_reordered : (ws : List Text) → AllDifferent word_cmp ws → Reordered ws (set_of ws)
 set_reordered [] d = none
 set_reordered (w ∷ ws) d = in_turn (front_kept (set_reordered ws d.1)) (put_reordered w
     (map_of word_cmp (map (λ w. (w, tt {0})) ws)) (any-set_of w ws ∙ false_from_ne_true _ d.0))
 
-all_tests : (test : List ℕ → Bool) (ws : List (List ℕ)) → list_all test ws ≡ true →
+all_tests : (test : Text → Bool) (ws : List Text) → list_all test ws ≡ true →
     AllByRecursion (λ w. test w ≡ true) ws
 all_tests test [] h = tt
 all_tests test (w ∷ ws) h = let parts = and_parts _ _ h in (parts.0, all_tests test ws parts.1)
 
-tests_all : (test : List ℕ → Bool) (ws : List (List ℕ)) → AllByRecursion (λ w. test w ≡ true) ws →
+tests_all : (test : Text → Bool) (ws : List Text) → AllByRecursion (λ w. test w ≡ true) ws →
     list_all test ws ≡ true
 tests_all test [] h = refl
 tests_all test (w ∷ ws) h = and_from _ _ h.0 (tests_all test ws h.1)
 
-among_all : (ps ws : List (List ℕ)) → AllByRecursion (λ w. is_among ps w ≡ true) ws →
+among_all : (ps ws : List Text) → AllByRecursion (λ w. is_among ps w ≡ true) ws →
     AllByRecursion (λ w. list_any (is_same w) (map lower ps) ≡ true) ws
 among_all ps [] h = tt
 among_all ps (w ∷ ws) h = (sym (among-any ps w) ∙ h.0, among_all ps ws h.1)
 
-all_among : (ps ws : List (List ℕ)) → AllByRecursion (λ w. list_any (is_same w) (map lower ps) ≡ true) ws →
+all_among : (ps ws : List Text) → AllByRecursion (λ w. list_any (is_same w) (map lower ps) ≡ true) ws →
     AllByRecursion (λ w. is_among ps w ≡ true) ws
 all_among ps [] h = tt
 all_among ps (w ∷ ws) h = (among-any ps w ∙ h.0, all_among ps ws h.1)
 
-lower_variants : (ps : List (List ℕ)) → AllByRecursion (IsWord Variant) (map lower ps) →
+lower_variants : (ps : List Text) → AllByRecursion (IsWord Variant) (map lower ps) →
     AllByRecursion (IsWord Variant) ps
 lower_variants [] h = tt
 lower_variants (p ∷ ps) h = (sym (is_word-lower Variant p) ∙ h.0, lower_variants ps h.1)
 
-normal_variants : (ws : List (List ℕ)) → AllByRecursion (IsNormal Variant) ws →
+normal_variants : (ws : List Text) → AllByRecursion (IsNormal Variant) ws →
     AllByRecursion (IsWord Variant) ws
 normal_variants [] h = tt
 normal_variants (w ∷ ws) h = (h.0.0, normal_variants ws h.1)
 
 -- pieces that have the variants are variants, all different, and their set is that of the variants
-pub record AreThese (ps ws : List (List ℕ)) : Type 0 where
+pub record AreThese (ps ws : List Text) : Type 0 where
   pub words : AllByRecursion (IsWord Variant) ps
   pub different : AllDifferent word_cmp (map lower ps)
   pub set_is : ws ≡ set_of (map lower ps)
 
-pub are_these : (ps ws : List (List ℕ)) → StrictlyAscends word_cmp ws → AllByRecursion (IsNormal Variant) ws →
+pub are_these : (ps ws : List Text) → StrictlyAscends word_cmp ws → AllByRecursion (IsNormal Variant) ws →
     length ps ≡ length ws → are_all_among ps ws ≡ true → AreThese ps ws
 are_these ps ws up n e h =
     let r = all_there ws (map lower ps) (ascending_different ws up) (length-map ps lower ∙ e)
@@ -140,8 +141,8 @@ are_these ps ws up n e h =
       set_is = sym (set_of_reordered r ∙ set_of_ascending ws up);
     }
 
-each_there : (ws qs : List (List ℕ)) →
-    ((w : List ℕ) → list_any (is_same w) ws ≡ true → list_any (is_same w) qs ≡ true) →
+each_there : (ws qs : List Text) →
+    ((w : Text) → list_any (is_same w) ws ≡ true → list_any (is_same w) qs ≡ true) →
     AllByRecursion (λ w. list_any (is_same w) qs ≡ true) ws
 each_there [] qs f = tt
 each_there (w ∷ ws) qs f = (
@@ -153,7 +154,7 @@ each_there (w ∷ ws) qs f = (
     or_later true b h = refl
     or_later false b h = h
 
-pub these_are : (ps ws : List (List ℕ)) → AreThese ps ws →
+pub these_are : (ps ws : List Text) → AreThese ps ws →
     (length ps ≡ length ws) × (are_all_among ps ws ≡ true)
 these_are ps ws t =
     let r : Reordered (map lower ps) ws =
@@ -165,21 +166,21 @@ these_are ps ws t =
 
 -- what a test of two optional words has told
 
-pub same_option : (a b : Option (List ℕ)) → option_eq (pointwise nat_eq) a b ≡ true → a ≡ b
+pub same_option : (a b : Option Text) → option_eq (pointwise nat_eq) a b ≡ true → a ≡ b
 same_option None None h = refl
 same_option None (Some w) h = absurd (true≢false (sym h))
 same_option (Some v) None h = absurd (true≢false (sym h))
 same_option (Some v) (Some w) h = ap Some (same_text v w (sym h))
 
-pub other_option : (a b : Option (List ℕ)) → option_eq (pointwise nat_eq) a b ≡ false → a ≡ b → ⊥
+pub other_option : (a b : Option Text) → option_eq (pointwise nat_eq) a b ≡ false → a ≡ b → ⊥
 other_option None None h e = true≢false h
 other_option None (Some w) h e = cc
 other_option (Some v) None h e = cc
 other_option (Some v) (Some w) h e = other_text v w (sym h) cc
 
 -- The parts of an identifier, taken one after the other from pieces.
-module _ (ps : List (List ℕ)) (first : List ℕ) (qs rs us : List (List ℕ)) (i : LanguageIdentifier)
-    (l : List ℕ) (s r : Option (List ℕ))
+module _ (ps : List Text) (first : Text) (qs rs us : List Text) (i : LanguageIdentifier)
+    (l : Text) (s r : Option Text)
     (e : ps ≡ first ∷ qs) (w : IsWord (Language languages) first) (le : l ≡ lower first)
     (se : s ≡ option_map title (take_first (is_word Script) qs)) (er : rs ≡ skip_first (is_word Script) qs)
     (re : r ≡ option_map upper (take_first (is_word Region) rs))

@@ -1,6 +1,7 @@
 -- The language, the script and the region that pieces begin with.
 use Rattle.std.proofs.Common.{◌≡◌, ℕ, List, [], ◌∷◌, sym, ap, ◌∙◌, subst, option_map}
-use Rattle.iloc_spec_grammar.specs.Syntax.{Identifier, SpelledIdentifier, Language, IsWord, lower, title}
+use Rattle.iloc_spec_grammar.specs.Syntax.{Text, Identifier, SpelledIdentifier, Language, IsWord, lower}
+use Rattle.iloc_spec_grammar.specs.Syntax.{title}
 use Rattle.iloc_spec_grammar.specs.Syntax.{upper, languages, head}
 use Rattle.iloc_spec_grammar.specs.Meaning.{IdentifierMeans}
 use Rattle.iloc_spec_grammar.specs.Reading.{front_of}
@@ -10,7 +11,7 @@ use Rattle.iloc_langid.proofs.HeadLemmas.{script_at_front, region_at_front}
 use Rattle.iloc_langid.proofs.SmallLemmas.{parts_are}
 
 -- pieces that mean an identifier begin with its language, script and region
-means_begins : (ps : List (List ℕ)) (i : Identifier) → IdentifierMeans languages ps i → IsFrontOf ps i
+means_begins : (ps : List Text) (i : Identifier) → IdentifierMeans languages ps i → IsFrontOf ps i
 means_begins ps i m =
     let is : front_of ps ≡ m.written =
     ap front_of m.spelled ∙ front_of-pieces m.written m.grammatical.words in
@@ -25,7 +26,7 @@ means_begins ps i m =
     }
 
 -- the head of pieces begins as they do
-head_begins : (ps : List (List ℕ)) (i : Identifier) → IsFrontOf (head ps) i → IsFrontOf ps i
+head_begins : (ps : List Text) (i : Identifier) → IsFrontOf (head ps) i → IsFrontOf ps i
 head_begins [] i b = b
 head_begins (p ∷ ps) i b = record {
   word = b.word;
@@ -34,6 +35,6 @@ head_begins (p ∷ ps) i b = record {
   region = b.region ∙ ap (option_map upper) (region_at_front ps);
 }
 
-pub head_means_begins : (ps : List (List ℕ)) (i : Identifier)
+pub head_means_begins : (ps : List Text) (i : Identifier)
     → IdentifierMeans languages (head ps) i → IsFrontOf ps i
 head_means_begins ps i m = head_begins ps i (means_begins (head ps) i m)

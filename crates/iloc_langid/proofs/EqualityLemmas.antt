@@ -4,26 +4,26 @@ use Rattle.std.proofs.lemmas.Bool.{and_parts, and_from}
 use Rattle.std.proofs.lemmas.Cmp.{nat_list_eq_equiv}
 use Rattle.std.specs.Cmp.Lexicographic.{pointwise, same_text}
 use Rattle.std.specs.Option.{option_eq}
-use Rattle.iloc_spec_grammar.specs.Syntax.{Identifier}
+use Rattle.iloc_spec_grammar.specs.Syntax.{Text, Identifier}
 use Rattle.iloc_langid.specs.declared.identifier.LanguageIdentifier.{LanguageIdentifier}
 use Rattle.iloc_langid.specs.Reads.{value_of}
 use Rattle.iloc_langid.proofs.AgreeingLemmas.{same_option}
 
-pub same_words : (vs ws : List (List ℕ)) → pointwise (pointwise nat_eq) vs ws ≡ true → vs ≡ ws
+pub same_words : (vs ws : List Text) → pointwise (pointwise nat_eq) vs ws ≡ true → vs ≡ ws
 same_words [] [] h = refl
 same_words [] (w ∷ ws) h = cc
 same_words (v ∷ vs) [] h = cc
 same_words (v ∷ vs) (w ∷ ws) h =
     let parts = and_parts _ _ h in λ i. same_text v w (sym parts.0) i ∷ same_words vs ws parts.1 i
 
-words_themselves : (ws : List (List ℕ)) → pointwise (pointwise nat_eq) ws ws ≡ true
+words_themselves : (ws : List Text) → pointwise (pointwise nat_eq) ws ws ≡ true
 words_themselves [] = refl
 words_themselves (w ∷ ws) = and_from _ _ (nat_list_eq_equiv.refl w) (words_themselves ws)
 
-pub equal_words : (vs ws : List (List ℕ)) → vs ≡ ws → pointwise (pointwise nat_eq) vs ws ≡ true
+pub equal_words : (vs ws : List Text) → vs ≡ ws → pointwise (pointwise nat_eq) vs ws ≡ true
 equal_words vs ws e = subst (λ x. pointwise (pointwise nat_eq) vs x ≡ true) e (words_themselves vs)
 
-option_itself : (a : Option (List ℕ)) → option_eq (pointwise nat_eq) a a ≡ true
+option_itself : (a : Option Text) → option_eq (pointwise nat_eq) a a ≡ true
 option_itself None = refl
 option_itself (Some w) = nat_list_eq_equiv.refl w
 

@@ -4,7 +4,8 @@ use Rattle.std.proofs.Common.{◌≡◌, ◌≢◌, ◌<◌, ℕ, inl, inr, Bool
 use Rattle.std.proofs.Common.{refl, sym, ap, ◌∙◌, subst, append-nil, cond, Some, None, option_map, Result, Ok}
 use Rattle.std.proofs.Common.{Err, true≢false}
 use Rattle.std.specs.Result.{result_and}
-use Rattle.iloc_spec_grammar.specs.Syntax.{Language, Script, Region, is_word, IsWord, normal, lower, title}
+use Rattle.iloc_spec_grammar.specs.Syntax.{Text, Language, Script, Region, is_word, IsWord, normal, lower}
+use Rattle.iloc_spec_grammar.specs.Syntax.{title}
 use Rattle.iloc_spec_grammar.specs.Syntax.{upper, languages, first_piece, front, head}
 use Rattle.iloc_spec_grammar.specs.Meaning.{IdentifierMeans, HasIdentifierFault, not_a_language}
 use Rattle.iloc_spec_grammar.specs.Meaning.{not_an_identifier}
@@ -36,7 +37,7 @@ no_language : {P : Type 0} → IsWord (Language languages) [] → P
 no_language h = absurd (true≢false (sym h ∙ no_empty_language))
 
 -- no language was taken from the front
-pub none_first : (ps : List (List ℕ)) →
+pub none_first : (ps : List Text) →
     None ≡ option_map (normal (Language languages)) (take_first (is_word (Language languages)) ps) →
     is_word (Language languages) (first_piece ps) ≡ false
 none_first [] e = no_empty_language
@@ -49,7 +50,7 @@ none_first (p ∷ ps) e = by (is_word (Language languages) p) refl e
     by false h e = h
 
 -- the language, the script and the region, taken one after the other
-pub plain_front : (ps : List (List ℕ)) (first : List ℕ) (qs rs us : List (List ℕ)) (plain : PlainParts)
+pub plain_front : (ps : List Text) (first : Text) (qs rs us : List Text) (plain : PlainParts)
     → ps ≡ first ∷ qs → IsWord (Language languages) first → plain.language ≡ lower first
     → plain.script ≡ option_map title (take_first (is_word Script) qs) → rs ≡ skip_first (is_word Script) qs
     → plain.region ≡ option_map upper (take_first (is_word Region) rs) → us ≡ skip_first (is_word Region) rs
@@ -68,7 +69,7 @@ abbrev pub plain_of : LanguageIdentifier → PlainParts
 plain_of i = record { language = i.language; script = i.script; region = i.region }
 
 -- these, and the variants after them
-module _ (ps us rest : List (List ℕ)) (i : LanguageIdentifier) (plain : IsPlainFront ps us (plain_of i)) where
+module _ (ps us rest : List Text) (i : LanguageIdentifier) (plain : IsPlainFront ps us (plain_of i)) where
   pub front_gives : VariantsReads us rest (Ok i.variants) → FrontComputed ps rest (Ok i)
   unfolding front_of after_front
   front_gives v =
@@ -103,24 +104,24 @@ module _ (ps us rest : List (List ℕ)) (i : LanguageIdentifier) (plain : IsPlai
   front_filled (Err f) v = front_refuses f v
 
 -- what the pieces are read as, and when memory may run out
-abbrev pub ReadsWithMemory : List (List ℕ) → Result LanguageIdentifier ParseError → Type 0
+abbrev pub ReadsWithMemory : List Text → Result LanguageIdentifier ParseError → Type 0
 ReadsWithMemory ps = Answers (λ i. IdentifierMeans languages ps (value_of i))
     (HasIdentifierFault languages ps) (IdentifierWantsMemory ps)
 
 -- each by itself, of a refusal
 
-pub refused_reads : (ps : List (List ℕ)) (f : ParseError) → ReadsWithMemory ps (Err f) →
+pub refused_reads : (ps : List Text) (f : ParseError) → ReadsWithMemory ps (Err f) →
     IdentifierReads ps (Err f)
 refused_reads ps f h = without_memory (λ (i : LanguageIdentifier). IdentifierMeans languages ps (value_of i))
     (HasIdentifierFault languages ps) (IdentifierWantsMemory ps) (Err f) h
 
-pub refused_wants : (ps : List (List ℕ)) (f : ParseError) → ReadsWithMemory ps (Err f) →
+pub refused_wants : (ps : List Text) (f : ParseError) → ReadsWithMemory ps (Err f) →
     RunsOutOnlyIf {X = Unit {0}} (IdentifierWantsMemory ps) (Err f)
 refused_wants ps f h =
     runs_out (λ (x : Unit {0}). ⊤) (HasIdentifierFault languages ps) (IdentifierWantsMemory ps) (Err f) h
 
 -- where the front should end before rest
-module _ (p : List ℕ) (qs rest : List (List ℕ)) (ends : EndsWords rest) (r : List (List ℕ)) where
+module _ (p : Text) (qs rest : List Text) (ends : EndsWords rest) (r : List Text) where
   cut_refuses : (f : ParseError) → FrontComputed (p ∷ (qs ++ rest)) r (Err f) →
       ReadsWithMemory (p ∷ qs) (Err f)
   cut_refuses InvalidLanguage (inl g) = not_a_language g.1
@@ -147,11 +148,11 @@ ends_nowhere = record { script = tt; region = tt; variant = tt }
 
 -- all the pieces
 
-at_end : (p : List ℕ) (ps r : List (List ℕ)) (x : Result LanguageIdentifier ParseError) →
+at_end : (p : Text) (ps r : List Text) (x : Result LanguageIdentifier ParseError) →
     FrontComputed (p ∷ ps) r x → FrontComputed (p ∷ (ps ++ [])) r x
 at_end p ps r x g = subst (λ l. FrontComputed (p ∷ l) r x) (sym (append-nil ps)) g
 
-pub whole_refuses : (ps r : List (List ℕ)) (f : ParseError) → FrontComputed ps r (Err f) →
+pub whole_refuses : (ps r : List Text) (f : ParseError) → FrontComputed ps r (Err f) →
     ReadsWithMemory ps (Err f)
 whole_refuses (p ∷ ps) r f g = cut_refuses p ps [] ends_nowhere r f (at_end p ps r (Err f) g)
 whole_refuses [] r InvalidLanguage (inl g) = not_a_language g.1
@@ -164,32 +165,32 @@ whole_refuses [] r InvalidExtension (inr g) = let other = g.0 in cc
 whole_refuses [] r DuplicatedExtension (inl g) = let other = g.0 in cc
 whole_refuses [] r DuplicatedExtension (inr g) = let other = g.0 in cc
 
-pub whole_gives : (ps r : List (List ℕ)) (i : LanguageIdentifier) → FrontComputed ps r (Ok i) → r ≡ [] →
+pub whole_gives : (ps r : List Text) (i : LanguageIdentifier) → FrontComputed ps r (Ok i) → r ≡ [] →
     IdentifierReads ps (Ok i)
 whole_gives [] r i g e = no_language g.0
 whole_gives (p ∷ ps) r i g e = cut_gives p ps [] ends_nowhere r i (at_end p ps r (Ok i) g) e
 
-pub whole_more : (ps r : List (List ℕ)) (i : LanguageIdentifier) → FrontComputed ps r (Ok i) → r ≢ [] →
+pub whole_more : (ps r : List Text) (i : LanguageIdentifier) → FrontComputed ps r (Ok i) → r ≢ [] →
     IdentifierReads ps (Err InvalidSubtag)
 whole_more [] r i g n = no_language g.0
 whole_more (p ∷ ps) r i g n = cut_more p ps [] ends_nowhere r i (at_end p ps r (Ok i) g) n
 
 -- the pieces before the first block
 
-at_block : (p : List ℕ) (ps r : List (List ℕ)) (x : Result LanguageIdentifier ParseError) →
+at_block : (p : Text) (ps r : List Text) (x : Result LanguageIdentifier ParseError) →
     FrontComputed (p ∷ ps) r x → FrontComputed (p ∷ (front ps ++ from_block ps)) r x
 at_block p ps r x g = subst (λ l. FrontComputed (p ∷ l) r x) (sym (front-from_block ps)) g
 
-block_ends : (ps : List (List ℕ)) → EndsWords (from_block ps)
+block_ends : (ps : List Text) → EndsWords (from_block ps)
 block_ends ps = starts_ends (from_block ps) (from_block_starts ps)
 
-pub head_refuses : (ps r : List (List ℕ)) (f : ParseError) → FrontComputed ps r (Err f) →
+pub head_refuses : (ps r : List Text) (f : ParseError) → FrontComputed ps r (Err f) →
     ReadsWithMemory (head ps) (Err f)
 head_refuses (p ∷ ps) r f g =
     cut_refuses p (front ps) (from_block ps) (block_ends ps) r f (at_block p ps r (Err f) g)
 head_refuses [] r f g = whole_refuses [] r f g
 
-starts_there : (p : List ℕ) (ps r : List (List ℕ)) (i : LanguageIdentifier) →
+starts_there : (p : Text) (ps r : List Text) (i : LanguageIdentifier) →
     FrontComputed (p ∷ ps) r (Ok i) → starts_block r ≡ true → r ≡ from_block ps
 starts_there p ps r i g s =
     let cut : r ≡ after_front (p ∷ front ps) ++ from_block ps =
@@ -198,14 +199,14 @@ starts_there p ps r i g s =
     (after_long p (front ps) (front_long ps)) (ap starts_block (sym cut) ∙ s) in
     cut ∙ ap (λ l. l ++ from_block ps) none
 
-pub head_gives : (ps r : List (List ℕ)) (i : LanguageIdentifier) → FrontComputed ps r (Ok i) →
+pub head_gives : (ps r : List Text) (i : LanguageIdentifier) → FrontComputed ps r (Ok i) →
     starts_block r ≡ true → IdentifierReads (head ps) (Ok i) × (r ≡ after_head ps)
 head_gives [] r i g s = no_language g.0
 head_gives (p ∷ ps) r i g s =
     let e = starts_there p ps r i g s in
     (cut_gives p (front ps) (from_block ps) (block_ends ps) r i (at_block p ps r (Ok i) g) e, e)
 
-pub head_more : (ps r : List (List ℕ)) (i : LanguageIdentifier) → FrontComputed ps r (Ok i) →
+pub head_more : (ps r : List Text) (i : LanguageIdentifier) → FrontComputed ps r (Ok i) →
     starts_block r ≡ false → IdentifierReads (head ps) (Err InvalidSubtag)
 head_more [] r i g s = no_language g.0
 head_more (p ∷ ps) r i g s =
@@ -214,16 +215,16 @@ head_more (p ∷ ps) r i g s =
 
 -- what a look at the next piece says
 
-pub peeked_none : (ps : List (List ℕ)) → None ≡ first_item ps → ps ≡ []
+pub peeked_none : (ps : List Text) → None ≡ first_item ps → ps ≡ []
 peeked_none [] e = refl
 peeked_none (p ∷ ps) e = cc
 
-pub peeked_some : (ps : List (List ℕ)) (p : List ℕ) → Some p ≡ first_item ps → ps ≢ []
+pub peeked_some : (ps : List Text) (p : Text) → Some p ≡ first_item ps → ps ≢ []
 peeked_some [] p e = cc
 peeked_some (q ∷ ps) p e = λ h. cc
 
 -- the reading from the left is that of the longest front
-pub front_reads : (ps rest : List (List ℕ)) (r : Result LanguageIdentifier ParseError) →
+pub front_reads : (ps rest : List Text) (r : Result LanguageIdentifier ParseError) →
     FrontComputed ps rest r → FrontReads ps rest r
 front_reads (p ∷ ps) rest (Ok i) g = (
   front_of (p ∷ ps),

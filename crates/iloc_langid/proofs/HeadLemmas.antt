@@ -3,7 +3,8 @@ use Rattle.std.proofs.Common.{◌≡◌, ◌≢◌, ℕ, Bool, true, false, cond
 use Rattle.std.proofs.Common.{arith, Option, Some, None, option_map, Result, Ok, Err, MatchResult, true≢false}
 use Rattle.std.proofs.lemmas.Bool.{false_from_ne_true}
 use Rattle.std.proofs.lemmas.Bool.Decides.{nat_tests}
-use Rattle.iloc_spec_grammar.specs.Syntax.{pieces, Language, Script, Region, Variant, is_word, IsWord, lower}
+use Rattle.iloc_spec_grammar.specs.Syntax.{Text, pieces, Language, Script, Region, Variant, is_word, IsWord}
+use Rattle.iloc_spec_grammar.specs.Syntax.{lower}
 use Rattle.iloc_spec_grammar.specs.Syntax.{title, upper, languages, is_one_byte, front, blocks, head}
 use Rattle.iloc_spec_grammar.specs.Syntax.{tail_blocks, first_piece}
 use Rattle.iloc_spec_grammar.specs.Reading.{take_first, skip_first, after_region, starts_block}
@@ -30,22 +31,22 @@ use Rattle.iloc_subtags.specs.Judging.{error_of}
 
 -- a word of an identifier is longer than one byte
 
-long_script : (p : List ℕ) → IsWord Script p → is_one_byte p ≡ false
+long_script : (p : Text) → IsWord Script p → is_one_byte p ≡ false
 long_script p h = let l = length-script p h in grind (arith, nat_tests)
 
-long_region : (p : List ℕ) → IsWord Region p → is_one_byte p ≡ false
+long_region : (p : Text) → IsWord Region p → is_one_byte p ≡ false
 long_region p h = let l = length-region p h in grind (arith, nat_tests)
 
-long_variant : (p : List ℕ) → IsWord Variant p → is_one_byte p ≡ false
+long_variant : (p : Text) → IsWord Variant p → is_one_byte p ≡ false
 long_variant p h = let l = length-variant p h in grind (arith, nat_tests)
 
 -- so words are taken from the head alone
 
-module _ (test : List ℕ → Bool) (long : (p : List ℕ) → test p ≡ true → is_one_byte p ≡ false) where
-  no_word : (p : List ℕ) → is_one_byte p ≡ true → test p ≡ false
+module _ (test : Text → Bool) (long : (p : Text) → test p ≡ true → is_one_byte p ≡ false) where
+  no_word : (p : Text) → is_one_byte p ≡ true → test p ≡ false
   no_word p e = false_from_ne_true (test p) (λ w. true≢false (sym e ∙ long p w))
 
-  take_front : (ps : List (List ℕ)) → take_first test (front ps) ≡ take_first test ps
+  take_front : (ps : List Text) → take_first test (front ps) ≡ take_first test ps
   take_front [] = refl
   take_front (p ∷ ps) = by (is_one_byte p) refl
     where
@@ -54,7 +55,7 @@ module _ (test : List ℕ → Bool) (long : (p : List ℕ) → test p ≡ true �
       by true e = rw (no_word p e) refl
       by false e = refl
 
-  skip_front : (ps : List (List ℕ)) → skip_first test (front ps) ≡ front (skip_first test ps)
+  skip_front : (ps : List Text) → skip_first test (front ps) ≡ front (skip_first test ps)
   skip_front [] = refl
   skip_front (p ∷ ps) = by (is_one_byte p) (test p) refl refl
     where
@@ -65,7 +66,7 @@ module _ (test : List ℕ → Bool) (long : (p : List ℕ) → test p ≡ true �
       by false true e w = rw w refl
       by false false e w = rw (w, e) refl
 
-  skip_blocks : (ps : List (List ℕ)) → blocks (skip_first test ps) ≡ blocks ps
+  skip_blocks : (ps : List Text) → blocks (skip_first test ps) ≡ blocks ps
   skip_blocks [] = refl
   skip_blocks (p ∷ ps) = by (test p) refl
     where
@@ -73,26 +74,26 @@ module _ (test : List ℕ → Bool) (long : (p : List ℕ) → test p ≡ true �
       by true w = sym (blocks_past p ps (long p w))
       by false w = refl
 
-script_front : (ps : List (List ℕ)) →
+script_front : (ps : List Text) →
     skip_first (is_word Script) (front ps) ≡ front (skip_first (is_word Script) ps)
 script_front ps = skip_front (is_word Script) long_script ps
 
-region_front : (p : List ℕ) (ps : List (List ℕ)) → after_region (p ∷ front ps) ≡ front (after_region (p ∷ ps))
+region_front : (p : Text) (ps : List Text) → after_region (p ∷ front ps) ≡ front (after_region (p ∷ ps))
 region_front p ps = ap (skip_first (is_word Region)) (script_front ps)
     ∙ skip_front (is_word Region) long_region (skip_first (is_word Script) ps)
 
 -- a script and a region after the first piece
-pub script_at_front : (ps : List (List ℕ)) →
+pub script_at_front : (ps : List Text) →
     take_first (is_word Script) (front ps) ≡ take_first (is_word Script) ps
 script_at_front ps = take_front (is_word Script) long_script ps
 
-pub region_at_front : (ps : List (List ℕ))
+pub region_at_front : (ps : List Text)
     → take_first (is_word Region) (skip_first (is_word Script) (front ps))
     ≡ take_first (is_word Region) (skip_first (is_word Script) ps)
 region_at_front ps = ap (take_first (is_word Region)) (script_front ps)
     ∙ take_front (is_word Region) long_region (skip_first (is_word Script) ps)
 
-front_parts-front : (p : List ℕ) (ps : List (List ℕ)) → front_parts (p ∷ front ps) ≡ front_parts (p ∷ ps)
+front_parts-front : (p : Text) (ps : List Text) → front_parts (p ∷ front ps) ≡ front_parts (p ∷ ps)
 front_parts-front p ps =
     let s = script_at_front ps in
     let r = region_at_front ps in
@@ -100,12 +101,12 @@ front_parts-front p ps =
     ∙ take_front (is_word Variant) long_variant (after_region (p ∷ ps)) in
     λ i. (lower p, option_map title (s i), option_map upper (r i), option_map lower (v i))
 
-after_parts-front : (p : List ℕ) (ps : List (List ℕ)) →
+after_parts-front : (p : Text) (ps : List Text) →
     after_parts (p ∷ front ps) ≡ front (after_parts (p ∷ ps))
 after_parts-front p ps = ap (skip_first (is_word Variant)) (region_front p ps)
     ∙ skip_front (is_word Variant) long_variant (after_region (p ∷ ps))
 
-blocks-after_parts : (p : List ℕ) (ps : List (List ℕ)) → blocks (after_parts (p ∷ ps)) ≡ blocks ps
+blocks-after_parts : (p : Text) (ps : List Text) → blocks (after_parts (p ∷ ps)) ≡ blocks ps
 blocks-after_parts p ps =
     skip_blocks (is_word Variant) long_variant (after_region (p ∷ ps))
     ∙ skip_blocks (is_word Region) long_region (skip_first (is_word Script) ps)
@@ -113,13 +114,13 @@ blocks-after_parts p ps =
 
 -- what is read from all pieces is read from the head, and what is left begins with the blocks
 
-head_gives : (ps rest : List (List ℕ)) (p : Parts) → SmallFrontReads ps rest (Ok p) →
+head_gives : (ps rest : List Text) (p : Parts) → SmallFrontReads ps rest (Ok p) →
     SmallFrontReads (head ps) (front rest) (Ok p)
 head_gives [] rest p g = (g.0, g.1, ap front g.2)
 head_gives (q ∷ ps) rest p g =
     (g.0, g.1 ∙ sym (front_parts-front q ps), ap front g.2 ∙ sym (after_parts-front q ps))
 
-blocks_left : (ps rest : List (List ℕ)) (p : Parts) → SmallFrontReads ps rest (Ok p) →
+blocks_left : (ps rest : List Text) (p : Parts) → SmallFrontReads ps rest (Ok p) →
     tail_blocks ps ≡ blocks rest
 blocks_left [] rest p g = ap blocks (sym g.2)
 blocks_left (q ∷ ps) rest p g = sym (blocks-after_parts q ps) ∙ ap blocks (sym g.2)
@@ -129,10 +130,10 @@ blocks_left (q ∷ ps) rest p g = sym (blocks-after_parts q ps) ∙ ap blocks (s
 no_pieces : {P : Type 0} (r : SmallIdentifier) → IsSmallIdentifier languages [] r → P
 no_pieces r h = absurd (empty (sym h.spelled))
   where
-    empty : {q : List ℕ} {qs : List (List ℕ)} → q ∷ qs ≡ [] → ⊥
+    empty : {q : Text} {qs : List Text} → q ∷ qs ≡ [] → ⊥
     empty e = cc
 
-result_is : (ps : List (List ℕ)) (r : SmallIdentifier) → IsSmallIdentifier languages ps r →
+result_is : (ps : List Text) (r : SmallIdentifier) → IsSmallIdentifier languages ps r →
     small_identifier_result languages ps ≡ Ok r
 result_is [] r h = no_pieces r h
 result_is (p ∷ ps) r h =
@@ -144,7 +145,7 @@ result_is (p ∷ ps) r h =
     by (Ok s) k = ap Ok (one_small_identifier (p ∷ ps) s r k h)
     by (Err f) k = absurd (small_identifier_apart (p ∷ ps) r f h k)
 
-fault_reads : (t : List ℕ) (f : Fault) → HasSmallFault languages t f →
+fault_reads : (t : Text) (f : Fault) → HasSmallFault languages t f →
     SmallLocaleTextReads t (Err (error_of f))
 fault_reads t faults.InvalidLanguage h = h
 fault_reads t faults.InvalidSubtag h = h
@@ -156,13 +157,13 @@ fault_reads t faults.DuplicatedExtension h = h
 abbrev pub with_parts : Parts → Option Keyword → LocaleParts
 with_parts p k = (p.0, p.1, p.2, p.3, k)
 
-module _ (t : List ℕ) (ps rest : List (List ℕ)) (p : Parts) (e : ps ≡ pieces t)
+module _ (t : Text) (ps rest : List Text) (p : Parts) (e : ps ≡ pieces t)
     (g : SmallFrontReads ps rest (Ok p)) where
   result_after : front rest ≡ [] → small_result languages t ≡ after_identifier (Ok (small_of p)) (blocks rest)
   unfolding small_result
   result_after n =
       ap
-      (λ (l : List (List ℕ)). after_identifier (small_identifier_result languages (head l)) (tail_blocks l))
+      (λ (l : List Text). after_identifier (small_identifier_result languages (head l)) (tail_blocks l))
       (sym e)
       ∙ ap (λ o. after_identifier o (tail_blocks ps))
       (result_is (head ps) (small_of p) (parts_whole (head ps) (front rest) p (head_gives ps rest p g) n))
@@ -181,19 +182,19 @@ module _ (t : List ℕ) (ps rest : List (List ℕ)) (p : Parts) (e : ps ≡ piec
 
   pub more_pieces : starts_block rest ≡ false → SmallLocaleTextReads t (Err InvalidSubtag)
   more_pieces more =
-      subst (λ (l : List (List ℕ)). HasSmallIdentifierFault languages (head l) faults.InvalidSubtag →
+      subst (λ (l : List Text). HasSmallIdentifierFault languages (head l) faults.InvalidSubtag →
       HasSmallFault languages t faults.InvalidSubtag)
       (sym e) (λ h. bad_head h)
       (parts_more (head ps) (front rest) p (head_gives ps rest p g) (some rest more))
     where
-      some : (qs : List (List ℕ)) → starts_block qs ≡ false → front qs ≢ []
+      some : (qs : List Text) → starts_block qs ≡ false → front qs ≢ []
       some [] h = absurd (true≢false h)
       some (q ∷ later) h = λ none. nonempty (sym (ap (λ b. cond b [] (q ∷ front later)) h) ∙ none)
         where
           nonempty : q ∷ front later ≡ [] → ⊥
           nonempty h = cc
 
-  module _ (c : ℕ) (later : List (List ℕ)) (n : rest ≡ (c ∷ []) ∷ later) where
+  module _ (c : ℕ) (later : List Text) (n : rest ≡ (c ∷ []) ∷ later) where
     block_answer : MatchResult (with_keyword (small_of p) (block_result c later)) (IsSmall languages t)
         (HasSmallFault languages t)
     unfolding after_identifier
@@ -224,12 +225,12 @@ module _ (t : List ℕ) (ps rest : List (List ℕ)) (p : Parts) (e : ps ≡ piec
 
 -- its first piece is no language
 
-pub front_refused : (t : List ℕ) (ps rest : List (List ℕ)) (r : ParseError) → ps ≡ pieces t →
+pub front_refused : (t : Text) (ps rest : List Text) (r : ParseError) → ps ≡ pieces t →
     SmallFrontReads ps rest (Err r) → SmallLocaleTextReads t (Err r)
 front_refused t ps rest InvalidLanguage e g = bad_head (subst
-    (λ (l : List (List ℕ)). HasSmallIdentifierFault languages (head l) faults.InvalidLanguage) e (by ps g.1))
+    (λ (l : List Text). HasSmallIdentifierFault languages (head l) faults.InvalidLanguage) e (by ps g.1))
   where
-    by : (qs : List (List ℕ)) → is_word (Language languages) (first_piece qs) ≡ false →
+    by : (qs : List Text) → is_word (Language languages) (first_piece qs) ≡ false →
         HasSmallIdentifierFault languages (head qs) faults.InvalidLanguage
     by [] h = no_language h
     by (q ∷ qs) h = no_language h

@@ -5,11 +5,12 @@ use Rattle.iloc_spec_grammar.specs.Meaning.{Fault}
 use Rattle.iloc_subtags.specs.declared.parse_error.ParseError.{ParseError}
 use Rattle.iloc_subtags.specs.Judging.{Answers, Refusal, Accepts, Refuses}
 use Rattle.iloc_subtags.proofs.Judged.{Judges, accepts, refuses}
+use Rattle.iloc_spec_grammar.specs.Syntax.{Text}
 
-module _ {X M : Type 0} (bytes : X → List ℕ) (print : M → List ℕ) {Means : M → Type 0}
+module _ {X M : Type 0} (bytes : X → Text) (print : M → Text) {Means : M → Type 0}
     {HasFault : Fault → Type 0} (judges : Judges Means HasFault) where
   -- the text of what is meant
-  abbrev IsPrinted : List ℕ → Type 0
+  abbrev IsPrinted : Text → Type 0
   IsPrinted t = (m : M) × Means m × (t ≡ print m)
 
   prints_judge : Judges IsPrinted HasFault

@@ -1,6 +1,6 @@
 -- The normal text of an identifier.
 use Rattle.std.proofs.Common.{◌≡◌, inr, ℕ, false, true, List, length, sym, ap, ◌∙◌, subst, true≢false, arith}
-use Rattle.iloc_spec_grammar.specs.Syntax.{pieces, languages, Identifier}
+use Rattle.iloc_spec_grammar.specs.Syntax.{Text, pieces, languages, Identifier}
 use Rattle.iloc_spec_grammar.specs.Meaning.{IdentifierMeans}
 use Rattle.iloc_spec_grammar.specs.Values.{identifier_text, IdentifierTextStep, Leads}
 use Rattle.iloc_spec_grammar.proofs.IdentifierLaws.{one_meaning}
@@ -13,10 +13,10 @@ use Rattle.iloc_told.specs.NormalTexts.{IsNotNormal}
 use Rattle.iloc_told.specs.declared.Mode.TheVariants.{Langid}
 
 -- the text of the meaning is the normal text
-pub is_normalized : (input : List ℕ) (i : Identifier) (t : List ℕ) →
+pub is_normalized : (input : Text) (i : Identifier) (t : Text) →
     IdentifierMeans languages (pieces input) i → t ≡ identifier_text i → IsNormalizedIdentifier input t
 is_normalized input i t m e =
-    let as_long : (u : List ℕ) (j : Identifier) → IdentifierMeans languages (pieces input) j
+    let as_long : (u : Text) (j : Identifier) → IdentifierMeans languages (pieces input) j
     → IdentifierMeans languages (pieces u) j → length u ≡ length t =
     λ u j mj mu.
     sym (length-identifier_means languages u j mu)
@@ -43,13 +43,13 @@ is_normalized input i t m e =
     }
 
 -- memory was refused for the text of another than the input
-pub refuses_memory : (input : List ℕ) (i : Identifier) → IdentifierMeans languages (pieces input) i →
+pub refuses_memory : (input : Text) (i : Identifier) → IdentifierMeans languages (pieces input) i →
     (input ≡ identifier_text i → false ≡ true) → NormalizingIdentifierWantsMemory input
 refuses_memory input i m other = inr (i, m, λ e. absurd (true≢false (sym (other e))))
 
 -- what is told at once is normalized so
-pub told_text : (t u : List ℕ) → IsNormalText languages Langid t u → IsNormalizedIdentifier t u
+pub told_text : (t u : Text) → IsNormalText languages Langid t u → IsNormalizedIdentifier t u
 told_text t u (i, m, e) = is_normalized t i u m e
 
-pub told_other : (t : List ℕ) → IsNotNormal Langid t → NormalizingIdentifierWantsMemory t
+pub told_other : (t : Text) → IsNotNormal Langid t → NormalizingIdentifierWantsMemory t
 told_other t (u, (i, m, e), other) = inr (i, m, λ s. other (s ∙ sym e))

@@ -7,7 +7,8 @@ use Rattle.std.specs.Prelude.{codes, if◌then◌else◌}
 use Rattle.std.specs.List.{AllByRecursion}
 use Rattle.std.specs.Option.{is_some}
 use Rattle.std.specs.declared.cmp.Ordering.TheVariants.{Less}
-use Rattle.iloc_spec_grammar.specs.Syntax.{Identifier, identifier_pieces, languages, Variant, is_word, lower}
+use Rattle.iloc_spec_grammar.specs.Syntax.{Text, Identifier, identifier_pieces, languages, Variant, is_word}
+use Rattle.iloc_spec_grammar.specs.Syntax.{lower}
 use Rattle.iloc_spec_grammar.specs.Syntax.{word_cmp, is_same}
 use Rattle.iloc_spec_grammar.specs.Values.{IsNormal, StrictlyAscends, IsIdentifierValue}
 use Rattle.iloc_spec_grammar.proofs.MapLaws.{word_cmp_total, same_itself, same_is}
@@ -17,15 +18,15 @@ use Rattle.iloc_langid.specs.Parents.{LacksLastPart}
 
 -- the last of an ascending list
 
-last_holds : (P : List ℕ → Type 0) (fs : List (List ℕ)) (x : List ℕ) → AllByRecursion P (fs ++ x ∷ []) → P x
+last_holds : (P : Text → Type 0) (fs : List Text) (x : Text) → AllByRecursion P (fs ++ x ∷ []) → P x
 last_holds P [] x h = h.0
 last_holds P (f ∷ fs) x h = last_holds P fs x h.1
 
-other_below : (f x : List ℕ) → word_cmp f x ≡ Less → is_same x f ≡ false
+other_below : (f x : Text) → word_cmp f x ≡ Less → is_same x f ≡ false
 other_below f x h = rw (word_cmp_total.antisymm x f, h) refl
 
-module _ (x : List ℕ) where
-  filtered : (fs : List (List ℕ)) → StrictlyAscends word_cmp (fs ++ x ∷ []) →
+module _ (x : Text) where
+  filtered : (fs : List Text) → StrictlyAscends word_cmp (fs ++ x ∷ []) →
       filter (λ w. not (is_same x w)) (fs ++ x ∷ []) ≡ fs
   filtered [] s = rw (same_itself x) refl
   filtered (f ∷ fs) s = rw (other_below f x (last_holds (λ y. word_cmp f y ≡ Less) fs x s.0))
@@ -40,19 +41,19 @@ split_last : {X : Type 0} (w : X) (ws : List X) (x : X) → x ≡ get_or (w ∷ 
 split_last w [] x e = ap (λ v. v ∷ []) (sym e)
 split_last w (v ∷ vs) x e = ap (λ us. w ∷ us) (split_last v vs x e)
 
-module _ (x w : List ℕ) (ws : List (List ℕ)) (is : x ≡ get_or (w ∷ ws) (length ws) x) where
+module _ (x w : Text) (ws : List Text) (is : x ≡ get_or (w ∷ ws) (length ws) x) where
   without_last : StrictlyAscends word_cmp (w ∷ ws) → filter (λ v. not (is_same x v)) (w ∷ ws) ≡ front w ws
   without_last s = ap (filter (λ v. not (is_same x v))) (split_last w ws x is)
       ∙ filtered x (front w ws) (subst (StrictlyAscends word_cmp) (split_last w ws x is) s)
 
 -- what taking out the last of a set leaves
-pub taken_out : (slice old new : List (List ℕ)) (x : List ℕ) → slice ≡ old → StrictlyAscends word_cmp old
+pub taken_out : (slice old new : List Text) (x : Text) → slice ≡ old → StrictlyAscends word_cmp old
     → 0 < length slice → x ≡ get_or slice (length slice - 1) x → new ≡ filter (λ v. not (is_same x v)) old →
     but_last old ≡ Some new
 taken_out slice old new x same s some is left = by old s (subst (λ vs. 0 < length vs) same some)
     (subst (λ vs. x ≡ get_or vs (length vs - 1) x) same is) left
   where
-    by : (ws : List (List ℕ)) → StrictlyAscends word_cmp ws → 0 < length ws → x ≡ get_or ws (length ws - 1) x
+    by : (ws : List Text) → StrictlyAscends word_cmp ws → 0 < length ws → x ≡ get_or ws (length ws - 1) x
         → new ≡ filter (λ v. not (is_same x v)) ws → but_last ws ≡ Some new
     by [] s some is left = absurd (omega arith)
     by (w ∷ ws) s some is left =
@@ -61,10 +62,10 @@ taken_out slice old new x same s some is left = by old s (subst (λ vs. 0 < leng
 
 -- parents
 
-pub unknown_language : (w : List ℕ) → w ≡ codes "und" → is_unknown_language w ≡ true
+pub unknown_language : (w : Text) → w ≡ codes "und" → is_unknown_language w ≡ true
 unknown_language w e = subst (λ v. is_same v (codes "und") ≡ true) (sym e) (same_itself (codes "und"))
 
-pub known_language : (w : List ℕ) → (w ≡ codes "und" → false ≡ true) → is_unknown_language w ≡ false
+pub known_language : (w : Text) → (w ≡ codes "und" → false ≡ true) → is_unknown_language w ≡ false
 known_language w h = by (is_unknown_language w) refl
   where
     by : (b : Bool) → is_unknown_language w ≡ b → is_unknown_language w ≡ false
@@ -76,25 +77,25 @@ of_some e = cc
 
 -- what holds of a parent in each case holds of all
 module _ (P : Identifier → Identifier → Type 0)
-    (variants : (l : List ℕ) (s r : Option (List ℕ)) (v : List ℕ) (vs : List (List ℕ))
+    (variants : (l : Text) (s r : Option Text) (v : Text) (vs : List Text)
     → P (record { language = l; script = s; region = r; variants = v ∷ vs })
     (record { language = l; script = s; region = r; variants = front v vs }))
-    (region : (l : List ℕ) (s : Option (List ℕ)) (r : List ℕ)
+    (region : (l : Text) (s : Option Text) (r : Text)
     → P (record { language = l; script = s; region = Some r; variants = [] })
     (record { language = l; script = s; region = None; variants = [] }))
-    (script : (l s : List ℕ)
+    (script : (l s : Text)
     → P (record { language = l; script = Some s; region = None; variants = [] })
     (record { language = l; script = None; region = None; variants = [] }))
-    (language : (l : List ℕ) → is_unknown_language l ≡ false
+    (language : (l : Text) → is_unknown_language l ≡ false
     → P (record { language = l; script = None; region = None; variants = [] }) unknown_identifier) where
-  at_language : (p : Identifier) (l : List ℕ) (b : Bool) → is_unknown_language l ≡ b
+  at_language : (p : Identifier) (l : Text) (b : Bool) → is_unknown_language l ≡ b
       → (if b then None else Some unknown_identifier) ≡ Some p
       → P (record { language = l; script = None; region = None; variants = [] }) p
   at_language p l true h e = cc
   at_language p l false h e = subst (P (record { language = l; script = None; region = None; variants = [] }))
       (of_some e) (language l h)
 
-  at_parts : (p : Identifier) (l : List ℕ) (s r : Option (List ℕ)) (vs : List (List ℕ))
+  at_parts : (p : Identifier) (l : Text) (s r : Option Text) (vs : List Text)
       → parent_of (record { language = l; script = s; region = r; variants = vs }) ≡ Some p
       → P (record { language = l; script = s; region = r; variants = vs }) p
   at_parts p l s r (v ∷ vs) e = subst (P (record { language = l; script = s; region = r; variants = v ∷ vs }))
@@ -121,12 +122,12 @@ one_fewer = by_parent (λ i p. part_count i ≡ part_count p + 1)
 
 -- the chain ends
 
-at_unknown : (l : List ℕ) (b : Bool) → is_unknown_language l ≡ b
+at_unknown : (l : Text) (b : Bool) → is_unknown_language l ≡ b
     → (if b then None else Some unknown_identifier) ≡ None → is_unknown_language l ≡ true
 at_unknown l true h e = h
 at_unknown l false h e = cc
 
-at_end : (l : List ℕ) (s r : Option (List ℕ)) (vs : List (List ℕ))
+at_end : (l : Text) (s r : Option Text) (vs : List Text)
     → parent_of (record { language = l; script = s; region = r; variants = vs }) ≡ None
     → record { language = l; script = s; region = r; variants = vs } ≡ unknown_identifier
 at_end l s r (v ∷ vs) e = cc
@@ -183,12 +184,12 @@ lacks_last = by_parent LacksLastPart
 
 -- a parent is an identifier
 
-all_front : (P : List ℕ → Type 0) (w : List ℕ) (ws : List (List ℕ)) → AllByRecursion P (w ∷ ws) →
+all_front : (P : Text → Type 0) (w : Text) (ws : List Text) → AllByRecursion P (w ∷ ws) →
     AllByRecursion P (front w ws)
 all_front P w [] h = tt
 all_front P w (v ∷ vs) h = (h.0, all_front P v vs h.1)
 
-front_ascends : (w : List ℕ) (ws : List (List ℕ)) → StrictlyAscends word_cmp (w ∷ ws) →
+front_ascends : (w : Text) (ws : List Text) → StrictlyAscends word_cmp (w ∷ ws) →
     StrictlyAscends word_cmp (front w ws)
 front_ascends w [] h = tt
 front_ascends w (v ∷ vs) h = (all_front (λ y. word_cmp w y ≡ Less) v vs h.0, front_ascends v vs h.1)
@@ -225,7 +226,7 @@ parent_value i p v e = by_parent (λ i p. IsIdentifierValue languages i → IsId
     i p e v
 
 -- what leaving the language answers
-pub language_left : (l w : List ℕ) (s r : Option (List ℕ)) (vs ws : List (List ℕ)) → but_last vs ≡ None →
+pub language_left : (l w : Text) (s r : Option Text) (vs ws : List Text) → but_last vs ≡ None →
     ws ≡ vs
     → false ≡ is_some r → false ≡ is_some s → (l ≡ codes "und" → false ≡ true) → w ≡ codes "und"
     → parent_of (record { language = l; script = s; region = r; variants = vs })

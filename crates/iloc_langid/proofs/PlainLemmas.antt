@@ -1,6 +1,6 @@
 -- From what a plain text means to what is taken from its pieces.
 use Rattle.std.proofs.Common.{◌≡◌, ℕ, List, [], None, Ok, Err, refl, sym, ap, ◌∙◌, subst, option_map}
-use Rattle.iloc_spec_grammar.specs.Syntax.{Language, IsWord, lower, title, upper, languages}
+use Rattle.iloc_spec_grammar.specs.Syntax.{Text, Language, IsWord, lower, title, upper, languages}
 use Rattle.iloc_spec_grammar.specs.Syntax.{SpelledIdentifier, Identifier, pieces, first_piece}
 use Rattle.iloc_spec_grammar.specs.Meaning.{IdentifierMeans, not_a_language}
 use Rattle.iloc_spec_grammar.specs.Reading.{after_region, front_of}
@@ -23,7 +23,7 @@ use Rattle.iloc_langid.proofs.SmallLemmas.{parts_are, after_region-pieces, parts
 use Rattle.iloc_langid.proofs.HeadLemmas.{nothing_more}
 
 -- pieces that mean an identifier in which no variant is written are its other words, and nothing is left
-module _ (ps : List (List ℕ)) (i : Identifier) (m : IdentifierMeans languages ps i)
+module _ (ps : List Text) (i : Identifier) (m : IdentifierMeans languages ps i)
     (none : m.written.variants ≡ []) where
   front_is : front_of ps ≡ m.written
   front_is = ap front_of m.spelled ∙ front_of-pieces m.written m.grammatical.words
@@ -44,12 +44,12 @@ module _ (ps : List (List ℕ)) (i : Identifier) (m : IdentifierMeans languages 
   }
 
 -- an identifier of these words alone is what the pieces mean
-pub plain_means : (ps : List (List ℕ)) (i : LanguageIdentifier) → IsPlainFront ps [] (plain_of i) →
+pub plain_means : (ps : List Text) (i : LanguageIdentifier) → IsPlainFront ps [] (plain_of i) →
     i.variants ≡ [] → IdentifierMeans languages ps (value_of i)
 plain_means ps i plain none = whole_gives ps [] i (front_gives ps [] [] i plain (none, tt, refl)) refl
 
 -- a text that begins with no language is refused so
-pub no_language_read : (t : List ℕ) (e : ParseError) → (e ≡ InvalidLanguage) × IsFront t fronts.NoLanguage →
+pub no_language_read : (t : Text) (e : ParseError) → (e ≡ InvalidLanguage) × IsFront t fronts.NoLanguage →
     IdentifierReads (pieces t) (Err e)
 no_language_read t InvalidLanguage (is, h) = not_a_language h
 no_language_read t InvalidSubtag (is, h) = absurd (cc)
@@ -58,11 +58,11 @@ no_language_read t DuplicatedExtension (is, h) = absurd (cc)
 no_language_read t OutOfMemory (is, h) = absurd (cc)
 
 -- and the small locale of them what the text is
-pub plain_small : (t : List ℕ) (plain : PlainParts) → IsPlainFront (pieces t) [] plain →
+pub plain_small : (t : Text) (plain : PlainParts) → IsPlainFront (pieces t) [] plain →
     SmallLocaleTextReads t (Ok (plain.language, plain.script, plain.region, None, None))
 plain_small t plain f = nothing_more t (pieces t) [] (plain.language, plain.script, plain.region, None) refl
     (parts_give (pieces t) [] [] plain None f refl refl) refl
 
-pub no_language_small : (t : List ℕ) → IsFront t fronts.NoLanguage →
+pub no_language_small : (t : Text) → IsFront t fronts.NoLanguage →
     SmallLocaleTextReads t (Err InvalidLanguage)
 no_language_small t h = small.bad_head (small.no_language (head_language t ∙ h))

@@ -3,7 +3,8 @@ use Rattle.std.proofs.Common.{◌≡◌, ◌≢◌, ℕ, ◌≤◌, Bool, true, 
 use Rattle.std.proofs.Common.{refl, sym, ap, ◌∙◌, subst, arith, append-nil, Option, option_map, Result, Ok}
 use Rattle.std.proofs.Common.{Err, IfOk, true≢false}
 use Rattle.std.specs.List.{AllByRecursion}
-use Rattle.iloc_spec_grammar.specs.Syntax.{Language, Script, Region, Variant, is_word, IsWord, lower, title}
+use Rattle.iloc_spec_grammar.specs.Syntax.{Text, Language, Script, Region, Variant, is_word, IsWord, lower}
+use Rattle.iloc_spec_grammar.specs.Syntax.{title}
 use Rattle.iloc_spec_grammar.specs.Syntax.{upper, languages, SpelledIdentifier, HasWords, identifier_pieces}
 use Rattle.iloc_spec_grammar.specs.Syntax.{first_piece}
 use Rattle.iloc_spec_grammar.specs.Reading.{first_item, take_first, skip_first, passing, past, rest_of}
@@ -29,11 +30,11 @@ use Rattle.iloc_spec_grammar.specs.Meaning.{Fault, IdentifierMeans}
 use Rattle.iloc_subtags.specs.Judging.{Accepts, Refuses}
 use Rattle.iloc_subtags.proofs.Judged.{Judges, accepts, refuses}
 
-abbrev variant : List ℕ → Bool
+abbrev variant : Text → Bool
 variant p = is_word Variant p
 
 -- after one variant at most nothing is left: there is one at most
-few : (us : List (List ℕ)) → skip_first variant us ≡ [] →
+few : (us : List Text) → skip_first variant us ≡ [] →
     (passing variant us ≡ us) × (length us ≤ 1)
     × (first_item (map lower us) ≡ option_map lower (take_first variant us))
 few [] e = (refl, omega arith, refl)
@@ -49,39 +50,39 @@ few (u ∷ us) e = by (variant u) refl e
         nonempty e = cc
 
 -- one variant at most, and nothing else, leaves nothing
-none_left : (us : List (List ℕ)) → length us ≤ 1 → AllByRecursion (IsWord Variant) us →
+none_left : (us : List Text) → length us ≤ 1 → AllByRecursion (IsWord Variant) us →
     skip_first variant us ≡ []
 none_left [] l h = refl
 none_left (u ∷ []) l h = rw h.0 refl
 none_left (u ∷ v ∷ us) l h = absurd (omega (arith, l))
 
 -- the variants at the front, and what follows them
-kept_are : (ps : List (List ℕ)) → (front_of ps).variants ≡ passing variant (after_region ps)
+kept_are : (ps : List Text) → (front_of ps).variants ≡ passing variant (after_region ps)
 unfolding front_of
 kept_are ps = refl
 
-left_are : (ps : List (List ℕ)) → after_front ps ≡ past variant (after_region ps)
+left_are : (ps : List Text) → after_front ps ≡ past variant (after_region ps)
 unfolding after_front
 left_are ps = refl
 
-pub parts_are : (ps : List (List ℕ)) →
+pub parts_are : (ps : List Text) →
     ((front_of ps).language ≡ first_piece ps)
     × ((front_of ps).script ≡ take_first (is_word Script) (rest_of ps))
     × ((front_of ps).region ≡ take_first (is_word Region) (after_script ps))
 unfolding front_of
 parts_are ps = (refl, refl, refl)
 
-nothing_after : (xs ys : List (List ℕ)) → xs ++ ys ≡ xs → ys ≡ []
+nothing_after : (xs ys : List Text) → xs ++ ys ≡ xs → ys ≡ []
 nothing_after [] ys e = e
 nothing_after (x ∷ xs) ys e = nothing_after xs ys cc
 
 -- where all pieces are variants, none are left
-pub past_none : (us : List (List ℕ)) → passing variant us ≡ us → past variant us ≡ []
+pub past_none : (us : List Text) → passing variant us ≡ us → past variant us ≡ []
 past_none us e =
     nothing_after us (past variant us) (ap (λ l. l ++ past variant us) (sym e) ∙ all_while variant us)
 
 -- what is read whole
-pub small_read : (p : List ℕ) (ps : List (List ℕ)) → IsWord (Language languages) p →
+pub small_read : (p : Text) (ps : List Text) → IsWord (Language languages) p →
     after_parts (p ∷ ps) ≡ [] → IsSmallIdentifier languages (p ∷ ps) (small_of (front_parts (p ∷ ps)))
 small_read p ps h e =
     let us = after_region (p ∷ ps) in
@@ -119,7 +120,7 @@ after_region-pieces w h =
     ∙ append-nil w.variants
 
 -- an identifier with one variant at most leaves nothing
-pub small_left : (ps : List (List ℕ)) (r : SmallIdentifier) → IsSmallIdentifier languages ps r →
+pub small_left : (ps : List Text) (r : SmallIdentifier) → IsSmallIdentifier languages ps r →
     after_parts ps ≡ []
 small_left ps r h =
     let e = after_region-pieces h.written h.grammatical.words in
@@ -130,17 +131,17 @@ small_left ps r h =
 no_parts : {P : Type 0} → IsWord (Language languages) [] → P
 no_parts h = absurd (true≢false (sym h ∙ no_empty_language))
 
-pub parts_whole : (ps rest : List (List ℕ)) (p : Parts) → SmallFrontReads ps rest (Ok p) → rest ≡ [] →
+pub parts_whole : (ps rest : List Text) (p : Parts) → SmallFrontReads ps rest (Ok p) → rest ≡ [] →
     SmallReads ps (Ok p)
 parts_whole [] rest p g e = no_parts g.0
 parts_whole (q ∷ ps) rest p g e = subst (λ x. IsSmallIdentifier languages (q ∷ ps) (small_of x)) (sym g.1)
     (small_read q ps g.0 (sym g.2 ∙ e))
 
-pub parts_more : (ps rest : List (List ℕ)) (p : Parts) → SmallFrontReads ps rest (Ok p) → rest ≢ [] →
+pub parts_more : (ps rest : List Text) (p : Parts) → SmallFrontReads ps rest (Ok p) → rest ≢ [] →
     SmallReads ps (Err InvalidSubtag)
 parts_more ps rest p g n = no_identifier g.0 (λ r h. n (g.2 ∙ small_left ps r h))
 
-pub parts_refused : (ps rest : List (List ℕ)) (e : ParseError) → SmallFrontReads ps rest (Err e) →
+pub parts_refused : (ps rest : List Text) (e : ParseError) → SmallFrontReads ps rest (Err e) →
     SmallReads ps (Err e)
 parts_refused ps rest InvalidLanguage g = no_language g.1
 parts_refused ps rest InvalidSubtag g = let other = g.0 in cc
@@ -149,7 +150,7 @@ parts_refused ps rest DuplicatedExtension g = let other = g.0 in cc
 parts_refused ps rest OutOfMemory g = g
 
 -- the parts at the front, and a variant after them
-pub parts_give : (ps us rest : List (List ℕ)) (plain : PlainParts) (v : Option (List ℕ)) →
+pub parts_give : (ps us rest : List Text) (plain : PlainParts) (v : Option Text) →
     IsPlainFront ps us plain
     → v ≡ option_map lower (take_first variant us) → rest ≡ skip_first variant us
     → SmallFrontReads ps rest (Ok (plain.language, plain.script, plain.region, v))
@@ -166,7 +167,7 @@ parts_give ps us rest plain v f e el = (
 
 -- what is owed to each text
 
-small_judges : (ps : List (List ℕ)) →
+small_judges : (ps : List Text) →
     Judges (IsSmallIdentifier languages ps) (HasSmallIdentifierFault languages ps)
 small_judges ps = record {
   one = one_small_identifier ps;
@@ -174,15 +175,15 @@ small_judges ps = record {
   one_fault = λ f g. one_small_identifier_fault ps;
 }
 
-pub small_accepts : (ps : List (List ℕ)) (r : Result Parts ParseError) → SmallReads ps r →
+pub small_accepts : (ps : List Text) (r : Result Parts ParseError) → SmallReads ps r →
     (s : SmallIdentifier) → IsSmallIdentifier languages ps s → Accepts small_of ⊥ s r
 small_accepts ps r h = accepts small_of ⊥ (small_judges ps) r h
 
-pub small_refuses : (ps : List (List ℕ)) (r : Result Parts ParseError) → SmallReads ps r → (f : Fault) →
+pub small_refuses : (ps : List Text) (r : Result Parts ParseError) → SmallReads ps r → (f : Fault) →
     HasSmallIdentifierFault languages ps f → Refuses ⊥ f r
 small_refuses ps r h = refuses small_of ⊥ (small_judges ps) r h
 
-pub small_means : (ps : List (List ℕ)) (r : Result Parts ParseError) → SmallReads ps r →
+pub small_means : (ps : List Text) (r : Result Parts ParseError) → SmallReads ps r →
     IfOk r (λ p. IdentifierMeans languages ps (identifier_of_small (small_of p)))
 small_means ps (Ok p) h = small_identifier_means ps (small_of p) h
 small_means ps (Err e) h = tt

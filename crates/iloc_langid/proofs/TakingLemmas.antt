@@ -11,7 +11,7 @@ use Rattle.std.proofs.lemmas.Bool.{both_ways}
 use Rattle.std.proofs.lemmas.List.Sorted.{IsPermutation-refl, IsPermutation-sym, IsPermutation-push_more}
 use Rattle.std.proofs.lemmas.List.Sorted.{IsPermutation-append_left, length_permutation}
 use Rattle.std.proofs.lemmas.List.Sorted.{list_any-IsPermutation}
-use Rattle.iloc_spec_grammar.specs.Syntax.{Variant, is_word, IsWord, normal, lower, word_cmp, is_same}
+use Rattle.iloc_spec_grammar.specs.Syntax.{Text, Variant, is_word, IsWord, normal, lower, word_cmp, is_same}
 use Rattle.iloc_spec_grammar.specs.Syntax.{AllDifferent}
 use Rattle.iloc_spec_grammar.specs.Meaning.{set_of}
 use Rattle.iloc_spec_grammar.specs.Values.{IsNormal, StrictlyAscends}
@@ -32,24 +32,24 @@ use Rattle.iloc_langid.specs.Reads.{VariantsReads}
 use Rattle.iloc_langid.proofs.LowercaseLemmas.{lower-variants}
 
 -- of the variants before, those up to now are taken, as these words
-pub record Taking (before now words : List (List ℕ)) : Type 0 where
-  pub taken : List (List ℕ)
+pub record Taking (before now words : List Text) : Type 0 where
+  pub taken : List Text
   pub keeps : passing (is_word Variant) before ≡ taken ++ passing (is_word Variant) now
   pub skips : past (is_word Variant) before ≡ past (is_word Variant) now
   pub permutes : IsPermutation (map lower taken) words
 
-pub taking_none : (ps : List (List ℕ)) → Taking ps ps []
+pub taking_none : (ps : List Text) → Taking ps ps []
 taking_none ps = record { taken = []; keeps = refl; skips = refl; permutes = IsPermutation-refl [] }
 
-map-last : (xs : List (List ℕ)) (p : List ℕ) → map lower (xs ++ p ∷ []) ≡ map lower xs ++ lower p ∷ []
+map-last : (xs : List Text) (p : Text) → map lower (xs ++ p ∷ []) ≡ map lower xs ++ lower p ∷ []
 map-last xs p = map-append lower xs (p ∷ [])
 
-module _ (before now words : List (List ℕ)) (t : Taking before now words) (p : List ℕ) (h : IsWord Variant p)
-    (later : List (List ℕ)) (e : now ≡ p ∷ later) where
+module _ (before now words : List Text) (t : Taking before now words) (p : Text) (h : IsWord Variant p)
+    (later : List Text) (e : now ≡ p ∷ later) where
   keeps_more : passing (is_word Variant) before ≡ t.taken ++ p ∷ passing (is_word Variant) later
   keeps_more = t.keeps ∙ ap (λ ps. t.taken ++ passing (is_word Variant) ps) e ∙ rw h refl
 
-  pub taking_one_more : (more : List (List ℕ)) → IsPermutation (lower p ∷ words) more →
+  pub taking_one_more : (more : List Text) → IsPermutation (lower p ∷ words) more →
       Taking before later more
   taking_one_more more m = record {
     taken = t.taken ++ p ∷ [];
@@ -77,14 +77,14 @@ not_fewer m n h l = omega (arith, h, l)
 
 -- words that are known to be variants stand before
 
-few_pass : (ws ps : List (List ℕ)) → AllByRecursion (IsNormal Variant) ws →
+few_pass : (ws ps : List Text) → AllByRecursion (IsNormal Variant) ws →
     (passing (is_word Variant) (ws ++ ps) ≡ ws ++ passing (is_word Variant) ps)
     × (past (is_word Variant) (ws ++ ps) ≡ past (is_word Variant) ps)
 few_pass [] ps n = (refl, refl)
 few_pass (w ∷ ws) ps n =
     let more = few_pass ws ps n.1 in let h = n.0.0 in rw h (ap (λ l. w ∷ l) more.0, more.1)
 
-pub taking_few : (ws ps : List (List ℕ)) → AllByRecursion (IsNormal Variant) ws → Taking (ws ++ ps) ps ws
+pub taking_few : (ws ps : List Text) → AllByRecursion (IsNormal Variant) ws → Taking (ws ++ ps) ps ws
 taking_few ws ps n = record {
   taken = ws;
   keeps = (few_pass ws ps n).0;
@@ -92,14 +92,14 @@ taking_few ws ps n = record {
   permutes = subst (λ vs. IsPermutation vs ws) (sym (lower-variants ws n)) (IsPermutation-refl ws);
 }
 
-different_permutation : (vs ws : List (List ℕ)) → IsPermutation vs ws → AllDifferent word_cmp vs →
+different_permutation : (vs ws : List Text) → IsPermutation vs ws → AllDifferent word_cmp vs →
     AllDifferent word_cmp ws
 different_permutation vs ws p d = differ ws
     (ap length (sym (permuted_set vs ws p)) ∙ length-set_of-different vs d ∙ sym (length_permutation vs ws p))
 
 -- what is read after them is read of all
-pub taken_after : (before now ws rest : List (List ℕ)) → Taking before now ws →
-    AllByRecursion (IsNormal Variant) ws → (r : Result (List (List ℕ)) ParseError) →
+pub taken_after : (before now ws rest : List Text) → Taking before now ws →
+    AllByRecursion (IsNormal Variant) ws → (r : Result (List Text) ParseError) →
     VariantsReads (ws ++ now) rest r → VariantsReads before rest r
 taken_after before now ws rest t n r = by r
   where
@@ -119,7 +119,7 @@ taken_after before now ws rest t n r = by r
     as_many : length (passing (is_word Variant) (ws ++ now)) ≡ length (passing (is_word Variant) before)
     as_many = sym (length-map _ lower) ∙ length_permutation _ _ same ∙ length-map _ lower
 
-    by : (r : Result (List (List ℕ)) ParseError) → VariantsReads (ws ++ now) rest r →
+    by : (r : Result (List Text) ParseError) → VariantsReads (ws ++ now) rest r →
         VariantsReads before rest r
     by (Ok vs) v = (
       v.0 ∙ sym (permuted_set _ _ same),
@@ -133,8 +133,8 @@ taken_after before now ws rest t n r = by r
     by (Err DuplicatedExtension) v = let other = v.0 in cc
 
 -- all are taken
-module _ (before now words : List (List ℕ)) (t : Taking before now words)
-    (none : (passing (is_word Variant) now ≡ []) × (past (is_word Variant) now ≡ now)) (set : List (List ℕ))
+module _ (before now words : List Text) (t : Taking before now words)
+    (none : (passing (is_word Variant) now ≡ []) × (past (is_word Variant) now ≡ now)) (set : List Text)
     (e : set ≡ set_of words) where
   all_of : IsPermutation (map lower (passing (is_word Variant) before)) words
   all_of = subst (λ ps. IsPermutation (map lower ps) words)
@@ -162,7 +162,7 @@ module _ (before now words : List (List ℕ)) (t : Taking before now words)
       let n = ap length set_is ∙ length-set_of-different _ d in
       omega (arith, fewer, l, n)
 
-pub more_done : (before now words later set : List (List ℕ)) → Taking before now words →
+pub more_done : (before now words later set : List Text) → Taking before now words →
     None ≡ option_map (normal Variant) (take_first (is_word Variant) now) →
     later ≡ skip_first (is_word Variant) now → set ≡ set_of words → (length set < length words → ⊥) →
     VariantsReads before later (Ok set)
@@ -171,7 +171,7 @@ more_done before now words later set t e l is many =
     subst (λ rest. VariantsReads before rest (Ok set)) (sym (l ∙ stays))
     (taken_all before now words t (ended, past_is) set is many)
 
-pub more_twice : (before now words set : List (List ℕ)) → Taking before now words →
+pub more_twice : (before now words set : List Text) → Taking before now words →
     None ≡ option_map (normal Variant) (take_first (is_word Variant) now) → set ≡ set_of words →
     length set < length words → ¬ (AllDifferent word_cmp (map lower (passing (is_word Variant) before)))
 more_twice before now words set t e is fewer =
@@ -179,10 +179,10 @@ more_twice before now words set t e is fewer =
     taken_twice before now words t (ended, past_is) set is fewer
 
 -- the same, of what a take of a word says
-module _ (before now words : List (List ℕ)) (t : Taking before now words) (w : List ℕ) (later : List (List ℕ))
+module _ (before now words : List Text) (t : Taking before now words) (w : Text) (later : List Text)
     (e : Some w ≡ option_map (normal Variant) (take_first (is_word Variant) now))
     (l : later ≡ skip_first (is_word Variant) now) where
-  pub takes_new : (more : List (List ℕ)) → IsPermutation (w ∷ words) more → Taking before later more
+  pub takes_new : (more : List Text) → IsPermutation (w ∷ words) more → Taking before later more
   takes_new more m =
       let (p, h, same, cut) = took Variant now w e in
       taking_one_more before now words t p h later (cut ∙ ap (λ ps. p ∷ ps) (sym l)) more
@@ -209,23 +209,23 @@ module _ (before now words : List (List ℕ)) (t : Taking before now words) (w :
 below : (n : ℕ) → n ≤ 4 → (n ≡ 4 → ⊥) → n < 4
 below n l h = omega (arith, l, h)
 
-pub record TakingFew (before now set : List (List ℕ)) : Type 0 where
+pub record TakingFew (before now set : List Text) : Type 0 where
   pub taking : Taking before now set
   pub ascending : StrictlyAscends word_cmp set
   pub normal : AllByRecursion (IsNormal Variant) set
   pub short : length set < 4
 
-pub few_none : (ps : List (List ℕ)) → TakingFew ps ps []
+pub few_none : (ps : List Text) → TakingFew ps ps []
 few_none ps = record { taking = taking_none ps; ascending = tt; normal = tt; short = omega arith }
 
-pub few_known : (ws ps : List (List ℕ)) → AllByRecursion (IsNormal Variant) ws → StrictlyAscends word_cmp ws →
+pub few_known : (ws ps : List Text) → AllByRecursion (IsNormal Variant) ws → StrictlyAscends word_cmp ws →
     length ws < 4 → TakingFew (ws ++ ps) ps ws
 few_known ws ps n a l = record { taking = taking_few ws ps n; ascending = a; normal = n; short = l }
 
-module _ (before now set : List (List ℕ)) (t : TakingFew before now set) (w : List ℕ) (later : List (List ℕ))
+module _ (before now set : List Text) (t : TakingFew before now set) (w : Text) (later : List Text)
     (e : Some w ≡ option_map (normal Variant) (take_first (is_word Variant) now))
     (l : later ≡ skip_first (is_word Variant) now)
-    (more : List (List ℕ)) (added : Bool) (a : added ≡ not (list_any (is_same w) set))
+    (more : List Text) (added : Bool) (a : added ≡ not (list_any (is_same w) set))
     (is : more ≡ set_of (w ∷ set)) where
   normal_word : IsNormal Variant w
   normal_word = let (p, h, same, cut) = took Variant now w e in
@@ -250,7 +250,7 @@ module _ (before now set : List (List ℕ)) (t : TakingFew before now set) (w : 
     short = below _ few_length fewer;
   }
 
-  pub few_more : added ≡ true → (rest : List (List ℕ)) (r : Result (List (List ℕ)) ParseError) →
+  pub few_more : added ≡ true → (rest : List Text) (r : Result (List Text) ParseError) →
       VariantsReads (more ++ later) rest r → VariantsReads before rest r
   few_more new rest r = taken_after before later more rest (few_taken new) few_normal r
 
@@ -261,7 +261,7 @@ module _ (before now set : List (List ℕ)) (t : TakingFew before now set) (w : 
 not_less : (n : ℕ) → n < n → ⊥
 not_less n l = omega (arith, l)
 
-pub few_done : (before now set later : List (List ℕ)) → TakingFew before now set →
+pub few_done : (before now set later : List Text) → TakingFew before now set →
     None ≡ option_map (normal Variant) (take_first (is_word Variant) now) →
     later ≡ skip_first (is_word Variant) now → VariantsReads before later (Ok set)
 few_done before now set later t e l = more_done before now set later set t.taking e l
@@ -269,12 +269,12 @@ few_done before now set later t e l = more_done before now set later set t.takin
 
 -- a variant that no other follows
 
-ended : (ps : List (List ℕ)) → EndsBefore (is_word Variant) ps →
+ended : (ps : List Text) → EndsBefore (is_word Variant) ps →
     (passing (is_word Variant) ps ≡ []) × (past (is_word Variant) ps ≡ ps)
 ended [] h = (refl, refl)
 ended (p ∷ ps) h = (rw h refl, rw h refl)
 
-pub one_variant : (ps rest : List (List ℕ)) (v : List ℕ) →
+pub one_variant : (ps rest : List Text) (v : Text) →
     Some v ≡ option_map lower (take_first (is_word Variant) ps) → rest ≡ skip_first (is_word Variant) ps →
     EndsBefore (is_word Variant) rest → VariantsReads ps rest (Ok (v ∷ []))
 one_variant ps rest v e r ends =

@@ -5,7 +5,7 @@ use Rattle.std.specs.Prelude.{if◌then◌else◌}
 use Rattle.std.specs.List.{list_all}
 use Rattle.std.specs.Option.{is_some}
 use Rattle.std.proofs.lemmas.Bool.Decides.{nat_tests}
-use Rattle.iloc_spec_grammar.specs.Syntax.{Attribute, is_word, IsWord, is_true, lower, read}
+use Rattle.iloc_spec_grammar.specs.Syntax.{Text, Attribute, is_word, IsWord, is_true, lower, read}
 use Rattle.iloc_spec_grammar.specs.Meaning.{normal_values}
 use Rattle.iloc_spec_grammar.specs.Reading.{first_item}
 use Rattle.iloc_spec_grammar.specs.Meaning as faults
@@ -16,27 +16,27 @@ use Rattle.iloc_langid.specs.BlockReads.{answer_of, value_result}
 -- a word of values is a subtag
 -- the values at the front of the pieces
 
-value_end : (v : Option (List ℕ)) → value_result (option_to_list v) [] ≡ Ok v
+value_end : (v : Option Text) → value_result (option_to_list v) [] ≡ Ok v
 unfolding value_result
 value_end None = refl
 value_end (Some w) = refl
 
-value_other : (ws : List (List ℕ)) (p : List ℕ) (ps : List (List ℕ)) → is_word Attribute p ≡ false →
+value_other : (ws : List Text) (p : Text) (ps : List Text) → is_word Attribute p ≡ false →
     value_result ws (p ∷ ps) ≡ Err faults.InvalidSubtag
 unfolding value_result
 value_other ws p ps h = rw h refl
 
-two_many : (v w : List ℕ) (ws : List (List ℕ)) → nat_le (length (v ∷ w ∷ ws)) 1 ≡ false
+two_many : (v w : Text) (ws : List Text) → nat_le (length (v ∷ w ∷ ws)) 1 ≡ false
 two_many v w ws = grind (arith, nat_tests)
 
-no_value : (b : Bool) (ws : List (List ℕ)) → nat_le (length ws) 1 ≡ false →
+no_value : (b : Bool) (ws : List Text) → nat_le (length ws) 1 ≡ false →
     (if b && nat_le (length ws) 1 then Ok (first_item ws) else Err faults.InvalidSubtag)
     ≡ Err faults.InvalidSubtag
 no_value true ws h = rw h refl
 no_value false ws h = refl
 
-module _ (p : List ℕ) (ps : List (List ℕ)) (h : IsWord Attribute p) where
-  value_true : (ws : List (List ℕ)) → is_true (lower p) ≡ true → value_result ws (p ∷ ps) ≡ value_result ws ps
+module _ (p : Text) (ps : List Text) (h : IsWord Attribute p) where
+  value_true : (ws : List Text) → is_true (lower p) ≡ true → value_result ws (p ∷ ps) ≡ value_result ws ps
   unfolding value_result
   value_true ws t = rw (h, t) refl
 
@@ -44,7 +44,7 @@ module _ (p : List ℕ) (ps : List (List ℕ)) (h : IsWord Attribute p) where
   unfolding value_result
   value_first t = rw (h, t) refl
 
-  value_second : (w : List ℕ) → is_true (lower p) ≡ false →
+  value_second : (w : Text) → is_true (lower p) ≡ false →
       value_result (w ∷ []) (p ∷ ps) ≡ Err faults.InvalidSubtag
   unfolding value_result
   value_second w t = rw (h, t) (no_value (list_all (is_word Attribute) ps) (w ∷ lower p ∷ normal_values ps)
@@ -52,7 +52,7 @@ module _ (p : List ℕ) (ps : List (List ℕ)) (h : IsWord Attribute p) where
 
 -- what reading a piece says of it
 
-word_read : (p w : List ℕ) → Ok w ≡ read Attribute InvalidExtension p → IsWord Attribute p × (w ≡ lower p)
+word_read : (p w : Text) → Ok w ≡ read Attribute InvalidExtension p → IsWord Attribute p × (w ≡ lower p)
 word_read p w e = by (is_word Attribute p) refl e
   where
     by : (b : Bool) → is_word Attribute p ≡ b → Ok w ≡ (if b then Ok (lower p) else Err InvalidExtension) →
@@ -60,7 +60,7 @@ word_read p w e = by (is_word Attribute p) refl e
     by true h e = (h, cc)
     by false h e = cc
 
-word_refused : (p : List ℕ) (e : ParseError) → Err e ≡ read Attribute InvalidExtension p →
+word_refused : (p : Text) (e : ParseError) → Err e ≡ read Attribute InvalidExtension p →
     is_word Attribute p ≡ false
 word_refused p f e = by (is_word Attribute p) refl e
   where
@@ -70,12 +70,12 @@ word_refused p f e = by (is_word Attribute p) refl e
     by false h e = h
 
 -- with the value so far, the pieces now are what all of them were
-module _ (before now later : List (List ℕ)) (v : Option (List ℕ))
+module _ (before now later : List Text) (v : Option Text)
     (same : value_result (option_to_list v) now ≡ value_result [] before) where
   pub all_read : now ≡ [] → Ok v ≡ answer_of (value_result [] before)
   all_read e = ap answer_of (sym (value_end v) ∙ ap (value_result (option_to_list v)) (sym e) ∙ same)
 
-  module _ (p : List ℕ) (step : now ≡ p ∷ later) where
+  module _ (p : Text) (step : now ≡ p ∷ later) where
     same_step : value_result (option_to_list v) (p ∷ later) ≡ value_result [] before
     same_step = ap (value_result (option_to_list v)) (sym step) ∙ same
 
@@ -84,14 +84,14 @@ module _ (before now later : List (List ℕ)) (v : Option (List ℕ))
     other_read e h =
         ap answer_of (sym (value_other (option_to_list v) p later (word_refused p e h)) ∙ same_step)
 
-    module _ (w : List ℕ) (h : Ok w ≡ read Attribute InvalidExtension p) where
+    module _ (w : Text) (h : Ok w ≡ read Attribute InvalidExtension p) where
       spelled : {b : Bool} → b ≡ is_true w → is_true (lower p) ≡ b
       spelled t = ap is_true (sym (word_read p w h).1) ∙ sym t
 
       pub true_read : true ≡ is_true w → value_result (option_to_list v) later ≡ value_result [] before
       true_read t = sym (value_true p later (word_read p w h).0 (option_to_list v) (spelled t)) ∙ same_step
 
-      pub first_read : false ≡ is_true w → false ≡ is_some v → (x : List ℕ) → x ≡ w →
+      pub first_read : false ≡ is_true w → false ≡ is_some v → (x : Text) → x ≡ w →
           value_result (x ∷ []) later ≡ value_result [] before
       first_read t e x is =
           ap (λ y. value_result (y ∷ []) later) (is ∙ (word_read p w h).1)
@@ -99,7 +99,7 @@ module _ (before now later : List (List ℕ)) (v : Option (List ℕ))
           ∙ ap (λ o. value_result (option_to_list o) (p ∷ later)) (sym (none v e))
           ∙ same_step
         where
-          none : (o : Option (List ℕ)) → false ≡ is_some o → o ≡ None
+          none : (o : Option Text) → false ≡ is_some o → o ≡ None
           none None e = refl
           none (Some y) e = absurd (true≢false (sym e))
 
@@ -107,7 +107,7 @@ module _ (before now later : List (List ℕ)) (v : Option (List ℕ))
           Err InvalidSubtag ≡ answer_of (value_result [] before)
       second_read t s = ap answer_of (sym (by v s) ∙ same_step)
         where
-          by : (o : Option (List ℕ)) → true ≡ is_some o →
+          by : (o : Option Text) → true ≡ is_some o →
               value_result (option_to_list o) (p ∷ later) ≡ Err faults.InvalidSubtag
           by None s = absurd (true≢false s)
           by (Some x) s = value_second p later (word_read p w h).0 x (spelled t)

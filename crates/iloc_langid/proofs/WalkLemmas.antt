@@ -8,7 +8,7 @@ use Rattle.std.proofs.Math.Dec.{eqb-suc-suc}
 use Rattle.std.proofs.lemmas.Bool.{or_parts, false_from_ne_true}
 use Rattle.std.proofs.lemmas.List.{take-append-drop}
 use Rattle.std.proofs.lemmas.List.Folds.{list_all-append}
-use Rattle.iloc_spec_grammar.specs.Syntax.{Variant, is_word, lower, word_cmp, is_same, AllDifferent}
+use Rattle.iloc_spec_grammar.specs.Syntax.{Text, Variant, is_word, lower, word_cmp, is_same, AllDifferent}
 use Rattle.iloc_spec_grammar.specs.Values.{IsNormal}
 use Rattle.iloc_spec_grammar.proofs.WordsLaws.{is_word-lower}
 use Rattle.iloc_spec_grammar.proofs.MapLaws.{same_itself, same_is, same_words}
@@ -16,7 +16,7 @@ use Rattle.iloc_spec_grammar.proofs.ValuesLaws.{ascending_different}
 use Rattle.iloc_langid.specs.Agreeing.{is_among, are_all_among, are_just, AreVariants}
 
 -- other words are other words the other way round
-pub apart : (v w : List ℕ) → is_same v w ≡ false → is_same w v ≡ false
+pub apart : (v w : Text) → is_same v w ≡ false → is_same w v ≡ false
 apart v w e = by (is_same w v) refl
   where
     by : (b : Bool) → is_same w v ≡ b → b ≡ false
@@ -25,7 +25,7 @@ apart v w e = by (is_same w v) refl
     by false s = refl
 
 -- a piece that is none of the words changes nothing
-not_among : (p : List ℕ) (ps ws : List (List ℕ)) → list_any (is_same (lower p)) ws ≡ false →
+not_among : (p : Text) (ps ws : List Text) → list_any (is_same (lower p)) ws ≡ false →
     are_all_among (p ∷ ps) ws ≡ are_all_among ps ws
 not_among p ps [] h = refl
 not_among p ps (w ∷ ws) h =
@@ -33,7 +33,7 @@ not_among p ps (w ∷ ws) h =
     rw (apart _ _ parts.0) (ap (λ b. is_among ps w && b) (not_among p ps ws parts.1))
 
 -- the piece is the first word
-pub first_equal : (p w : List ℕ) (ps ws : List (List ℕ)) → AreVariants (w ∷ ws) → lower p ≡ w →
+pub first_equal : (p w : Text) (ps ws : List Text) → AreVariants (w ∷ ws) → lower p ≡ w →
     are_just (p ∷ ps) (w ∷ ws) ≡ are_just ps ws
 first_equal p w ps ws s e =
     let here : is_same w (lower p) ≡ true = subst (λ x. is_same w x ≡ true) (sym e) (same_itself w) in
@@ -44,42 +44,42 @@ first_equal p w ps ws s e =
 
 -- parts of a set
 
-below_take : (x : List ℕ) (n : ℕ) (ws : List (List ℕ)) → AllByRecursion (λ w. word_cmp x w ≡ Less) ws →
+below_take : (x : Text) (n : ℕ) (ws : List Text) → AllByRecursion (λ w. word_cmp x w ≡ Less) ws →
     AllByRecursion (λ w. word_cmp x w ≡ Less) (take n ws)
 below_take x zero ws h = tt
 below_take x (suc n) [] h = tt
 below_take x (suc n) (w ∷ ws) h = (h.0, below_take x n ws h.1)
 
-pub front_set : (n : ℕ) (ws : List (List ℕ)) → AreVariants ws → AreVariants (take n ws)
+pub front_set : (n : ℕ) (ws : List Text) → AreVariants ws → AreVariants (take n ws)
 front_set zero ws s = (tt, tt)
 front_set (suc n) [] s = s
 front_set (suc n) (w ∷ ws) s =
     let rest = front_set n ws (s.0.1, s.1.1) in
     ((below_take w n ws s.0.0, rest.0), (s.1.0, rest.1))
 
-pub back_set : (n : ℕ) (ws : List (List ℕ)) → AreVariants ws → AreVariants (drop n ws)
+pub back_set : (n : ℕ) (ws : List Text) → AreVariants ws → AreVariants (drop n ws)
 back_set zero ws s = s
 back_set (suc n) [] s = s
 back_set (suc n) (w ∷ ws) s = back_set n ws (s.0.1, s.1.1)
 
-pub among_parts : (ps ws : List (List ℕ)) (n : ℕ) →
+pub among_parts : (ps ws : List Text) (n : ℕ) →
     are_all_among ps ws ≡ (are_all_among ps (take n ws) && are_all_among ps (drop n ws))
 among_parts ps ws n = ap (are_all_among ps) (sym (take-append-drop n ws))
     ∙ list_all-append (is_among ps) (take n ws) (drop n ws)
 
 -- whether each word is marked as found, or is among the pieces that are left
-abbrev pub are_found : List (List ℕ) → List (List ℕ) → List Bool → Bool
+abbrev pub are_found : List Text → List Text → List Bool → Bool
 are_found ps [] found = true
 are_found ps (w ∷ ws) [] = is_among ps w && are_found ps ws []
 are_found ps (w ∷ ws) (b ∷ found) = (b || is_among ps w) && are_found ps ws found
 
-pub none_found : (ps ws : List (List ℕ)) (n : ℕ) → are_found ps ws (replicate n false) ≡ are_all_among ps ws
+pub none_found : (ps ws : List Text) (n : ℕ) → are_found ps ws (replicate n false) ≡ are_all_among ps ws
 none_found ps [] n = refl
 none_found ps (w ∷ ws) zero = ap (λ b. is_among ps w && b) (none_found ps ws zero)
 none_found ps (w ∷ ws) (suc n) = ap (λ b. is_among ps w && b) (none_found ps ws n)
 
 -- a piece that is none of the words marks none
-pub other_found : (p : List ℕ) (ps ws : List (List ℕ)) (found : List Bool) →
+pub other_found : (p : Text) (ps ws : List Text) (found : List Bool) →
     list_any (is_same (lower p)) ws ≡ false → are_found (p ∷ ps) ws found ≡ are_found ps ws found
 other_found p ps [] found h = refl
 other_found p ps (w ∷ ws) [] h =
@@ -90,7 +90,7 @@ other_found p ps (w ∷ ws) (b ∷ found) h =
     rw (apart _ _ parts.0) (ap (λ c. (b || is_among ps w) && c) (other_found p ps ws found parts.1))
 
 -- a piece that is no variant is none of them
-pub no_variant : (p : List ℕ) (ws : List (List ℕ)) → AllByRecursion (IsNormal Variant) ws →
+pub no_variant : (p : Text) (ws : List Text) → AllByRecursion (IsNormal Variant) ws →
     is_word Variant p ≡ false → list_any (is_same (lower p)) ws ≡ false
 no_variant p [] n h = refl
 no_variant p (w ∷ ws) n h = by (is_same (lower p) w) refl (no_variant p ws n.1 h)
@@ -102,7 +102,7 @@ no_variant p (w ∷ ws) n h = by (is_same (lower p) w) refl (no_variant p ws n.1
     by false s more = more
 
 -- a word that stands later is not the first one
-not_first : (p w : List ℕ) (ws : List (List ℕ)) (at : ℕ) → at < length ws → list_any (is_same w) ws ≡ false →
+not_first : (p w : Text) (ws : List Text) (at : ℕ) → at < length ws → list_any (is_same w) ws ≡ false →
     HoldsAt (λ y. word_cmp y (lower p) ≡ Equal) ws at → is_same (lower p) w ≡ false
 not_first p w [] at l d h = absurd (omega (arith, l))
 not_first p w (v ∷ ws) zero l d h =
@@ -110,7 +110,7 @@ not_first p w (v ∷ ws) zero l d h =
 not_first p w (v ∷ ws) (suc at) l d h = not_first p w ws at (omega (arith, l)) (or_parts _ _ d).1 h
 
 -- the piece at its place among the words is marked
-pub one_found : (p : List ℕ) (ps ws : List (List ℕ)) (found : List Bool) (at : ℕ) → AllDifferent word_cmp ws →
+pub one_found : (p : Text) (ps ws : List Text) (found : List Bool) (at : ℕ) → AllDifferent word_cmp ws →
     at < length ws → length ws ≤ length found
     → HoldsAt (λ y. word_cmp y (lower p) ≡ Equal) ws at →
     are_found (p ∷ ps) ws found ≡ are_found ps ws (slice_set found at true)
@@ -132,7 +132,7 @@ one_found p ps (w ∷ ws) (b ∷ found) (suc at) d l n h =
 
 -- after the last piece all words are found where no mark is missing
 pub all_found : (is_missing : Bool → Bool) → is_missing true ≡ false → is_missing false ≡ true →
-    (ws : List (List ℕ)) (found : List Bool)
+    (ws : List Text) (found : List Bool)
     → length ws ≤ length found → are_found [] ws found ≡ not (list_any is_missing (take (length ws) found))
 all_found is_missing t f [] found l = refl
 all_found is_missing t f (w ∷ ws) [] l = absurd (omega (arith, l))

@@ -87,6 +87,7 @@ use Rattle.iloc_spec_grammar.proofs.Singletons.{
 }
 use Rattle.iloc_spec_parts.proofs.SmallShapes.{none_there, none_mapped, no_normal_fields}
 use Rattle.iloc_told.proofs.PlainAnswers as alone
+use Rattle.iloc_spec_grammar.specs.Syntax.{Block, code_x, code_u, code_t, Text}
 
 -- the text of an identifier alone
 pub text_alone : (i : Identifier) (e : Extensions) → e ≡ no_extensions
@@ -113,8 +114,8 @@ lowered b = (lower_singleton b, b.1)
 abbrev others_in : List Block → List Block
 others_in bs = filter {X = Block} (λ b. is_other_singleton b.0) (map lowered bs)
 
-no_block : (bs : List Block) → AllByRecursion HasPieces bs → after 117 bs ≡ [] → after 116 bs ≡ []
-    → after 120 bs ≡ [] → others_in bs ≡ [] → bs ≡ []
+no_block : (bs : List Block) → AllByRecursion HasPieces bs → after code_u bs ≡ [] → after code_t bs ≡ []
+    → after code_x bs ≡ [] → others_in bs ≡ [] → bs ≡ []
 no_block [] h u t x o = refl
 no_block (b ∷ bs) h u t x o = absurd (at (kind_of (lower_singleton b) (lower_letter b.0 h.0.0)))
   where
@@ -124,9 +125,9 @@ no_block (b ∷ bs) h u t x o = absurd (at (kind_of (lower_singleton b) (lower_l
         some_piece b.1 h.0.1 (here ∙ first_none _ (after s bs) n)
 
     at : IsKind (lower_singleton b) → ⊥
-    at (of_u e) = none_after 117 e u
-    at (of_t e) = none_after 116 e t
-    at (of_x e) = none_after 120 e x
+    at (of_u e) = none_after code_u e u
+    at (of_t e) = none_after code_t e t
+    at (of_x e) = none_after code_x e x
     at (another e) =
         let some : lowered b ∷ others_in bs ≡ [] =
         ap (λ t. cond t (lowered b ∷ others_in bs) (others_in bs)) (sym e) ∙ o in
@@ -134,11 +135,11 @@ no_block (b ∷ bs) h u t x o = absurd (at (kind_of (lower_singleton b) (lower_l
 
 -- parts that mean nothing have no piece
 
-no_words : (ws : List (List ℕ)) → set_of (map lower ws) ≡ [] → ws ≡ []
+no_words : (ws : List Text) → set_of (map lower ws) ≡ [] → ws ≡ []
 no_words ws e =
-    let entries = none_mapped (λ (e : List ℕ × Unit {0}). e.0) _ e in
+    let entries = none_mapped (λ (e : Text × Unit {0}). e.0) _ e in
     none_mapped lower ws
-    (none_mapped (λ (w : List ℕ). (w, tt {0})) (map lower ws) (none_there word_cmp word_cmp_total _ entries))
+    (none_mapped (λ (w : Text). (w, tt {0})) (map lower ws) (none_there word_cmp word_cmp_total _ entries))
 
 no_unicode_pieces : (u : SpelledUnicode) → no_unicode ≡ normal_unicode u → unicode_pieces u ≡ []
 no_unicode_pieces u e =
@@ -174,22 +175,22 @@ mean_none bs (w, s, m) =
 
 -- So the pieces are all in the head.
 
-whole_front : (ps : List (List ℕ)) → blocks ps ≡ [] → front ps ≡ ps
+whole_front : (ps : List Text) → blocks ps ≡ [] → front ps ≡ ps
 whole_front [] h = refl
 whole_front ([] ∷ ps) h = ap (λ qs. [] ∷ qs) (whole_front ps h)
-whole_front ((c ∷ []) ∷ ps) h = absurd (by (to_ascii_lowercase c == 120) h)
+whole_front ((c ∷ []) ∷ ps) h = absurd (by (to_ascii_lowercase c == code_x) h)
   where
     by : (b : Bool) → cond b ((c, ps) ∷ []) ((c, front ps) ∷ blocks ps) ≡ [] → ⊥
     by true e = cc
     by false e = cc
 whole_front ((c ∷ d ∷ p) ∷ ps) h = rw two_more (ap (λ qs. (c ∷ d ∷ p) ∷ qs) (whole_front ps h))
 
-whole_head : (ps : List (List ℕ)) → tail_blocks ps ≡ [] → head ps ≡ ps
+whole_head : (ps : List Text) → tail_blocks ps ≡ [] → head ps ≡ ps
 whole_head [] h = refl
 whole_head (p ∷ ps) h = ap (λ qs. p ∷ qs) (whole_front ps h)
 
 -- a text means an identifier alone exactly if its pieces mean the identifier
-pub means_alone : (t : List ℕ) (i : Identifier) (e : Extensions) → e ≡ no_extensions
+pub means_alone : (t : Text) (i : Identifier) (e : Extensions) → e ≡ no_extensions
     → IdentifierMeans languages (pieces t) i ↔ Means languages t (record { id = i; extensions = e })
 means_alone t i e n =
     let ps = pieces t in

@@ -9,7 +9,8 @@ use Rattle.std.specs.Char.{is_ascii_alphanumeric, to_ascii_lowercase}
 use Rattle.std.specs.Ordering.{nat_cmp}
 use Rattle.std.specs.FinMap.{put}
 use Rattle.std.proofs.lemmas.Bool.Decides.{nat_tests}
-use Rattle.iloc_spec_grammar.specs.Syntax.{languages, IsOther, is_other_singleton, kept, is_one_byte, front}
+use Rattle.iloc_spec_grammar.specs.Syntax.{code_x, code_u, code_t, Text, languages, IsOther}
+use Rattle.iloc_spec_grammar.specs.Syntax.{is_other_singleton, kept, is_one_byte, front}
 use Rattle.iloc_spec_grammar.specs.Syntax.{blocks}
 use Rattle.iloc_spec_grammar.specs.Syntax as written
 use Rattle.iloc_spec_grammar.specs.Meaning.{Extensions, no_extensions, BlocksMean, HasBlockFault}
@@ -60,28 +61,28 @@ no_many (f ∷ fs) a h = at (has_many_values f) refl (no_many fs a.1) h
     at true e more k = few (length (normal_values f.1)) a.0 e
     at false e more k = more k
 
-short_unicode : (ps : List (List ℕ)) → IsShortUnicode ps → UnicodeWantsMemory ps → ⊥
+short_unicode : (ps : List Text) → IsShortUnicode ps → UnicodeWantsMemory ps → ⊥
 short_unicode ps s (fifth_attribute h) = let a = s.attributes in omega (arith, a, h)
 short_unicode ps s (for_keywords (second_key h)) = let a = s.keys in omega (arith, a, h)
 short_unicode ps s (for_keywords (fifth_value h)) = no_many _ s.values h
 
-short_transform : (ps : List (List ℕ)) → IsShortTransform languages ps → transform.TransformWantsMemory ps → ⊥
+short_transform : (ps : List Text) → IsShortTransform languages ps → transform.TransformWantsMemory ps → ⊥
 short_transform ps s (transform.variants h) =
     let a = (fronts_are_short ps s).variants h.written h.rest h.front in let b = h.many in omega (arith, a, b)
 short_transform ps s (transform.fields {id = id} {middle = middle} f h) =
     (fronts_are_short ps s).no_field id middle f h
 
-module _ {start : List (List ℕ)} {c : ℕ} {ps : List (List ℕ)} {M : Extensions}
+module _ {start : List Text} {c : ℕ} {ps : List Text} {M : Extensions}
     (a : BlockAt languages start c ps M) where
-  pub unicode_goes : to_ascii_lowercase c ≡ 117 → (rest : List (List ℕ)) (u : Unicode) →
+  pub unicode_goes : to_ascii_lowercase c ≡ code_u → (rest : List Text) (u : Unicode) →
       UnicodeBlock ps rest (Ok u) →
       BlocksDone languages start rest (record M { unicode = unicode.value_of u })
   unicode_goes e rest u h =
-      subst (λ (r : List (List ℕ)). BlocksDone languages start r (record M { unicode = unicode.value_of u }))
+      subst (λ (r : List Text). BlocksDone languages start r (record M { unicode = unicode.value_of u }))
       (sym h.1) (unicode_done a e (unicode.value_of u) h.0)
 
-  pub unicode_fails : to_ascii_lowercase c ≡ 117 →
-      (rest more : List (List ℕ)) (N : Extensions) (f : ParseError) → UnicodeBlock ps rest (Err f) →
+  pub unicode_fails : to_ascii_lowercase c ≡ code_u →
+      (rest more : List Text) (N : Extensions) (f : ParseError) → UnicodeBlock ps rest (Err f) →
       BlockReads start more N (Err f)
   unicode_fails e rest more N InvalidLanguage h = absurd h
   unicode_fails e rest more N InvalidSubtag h = absurd h
@@ -89,15 +90,15 @@ module _ {start : List (List ℕ)} {c : ℕ} {ps : List (List ℕ)} {M : Extensi
   unicode_fails e rest more N DuplicatedExtension h = absurd h
   unicode_fails e rest more N OutOfMemory h = unicode_long a e (λ s. short_unicode ps s h)
 
-  pub transform_goes : to_ascii_lowercase c ≡ 116 → (rest : List (List ℕ)) (m : Transform) →
+  pub transform_goes : to_ascii_lowercase c ≡ code_t → (rest : List Text) (m : Transform) →
       TransformBlock ps rest (Ok m) →
       BlocksDone languages start rest (record M { transform = transform.value_of m })
   transform_goes e rest m h = subst
-      (λ (r : List (List ℕ)). BlocksDone languages start r (record M { transform = transform.value_of m }))
+      (λ (r : List Text). BlocksDone languages start r (record M { transform = transform.value_of m }))
       (sym h.1) (transform_done a e (transform.value_of m) h.0)
 
-  pub transform_fails : to_ascii_lowercase c ≡ 116 →
-      (rest more : List (List ℕ)) (N : Extensions) (f : ParseError) → TransformBlock ps rest (Err f) →
+  pub transform_fails : to_ascii_lowercase c ≡ code_t →
+      (rest more : List Text) (N : Extensions) (f : ParseError) → TransformBlock ps rest (Err f) →
       BlockReads start more N (Err f)
   transform_fails e rest more N InvalidLanguage h = absurd h
   transform_fails e rest more N InvalidSubtag h = transform_repeats a e h
@@ -106,14 +107,14 @@ module _ {start : List (List ℕ)} {c : ℕ} {ps : List (List ℕ)} {M : Extensi
   transform_fails e rest more N OutOfMemory h =
       transform_long a languages_table e (λ s. short_transform ps s h)
 
-  pub private_goes : to_ascii_lowercase c ≡ 120 → (rest ws : List (List ℕ)) → PrivateFills ps rest (Ok ws) →
+  pub private_goes : to_ascii_lowercase c ≡ code_x → (rest ws : List Text) → PrivateFills ps rest (Ok ws) →
       BlocksDone languages start rest (record M { private = ws })
   private_goes e rest ws h =
-      subst (λ (r : List (List ℕ)). BlocksDone languages start r (record M { private = ws })) (sym h.left)
+      subst (λ (r : List Text). BlocksDone languages start r (record M { private = ws })) (sym h.left)
       (private_done a e ws (record { words = h.follows.words; nonempty = h.follows.nonempty }, h.means))
 
-  pub private_fails : to_ascii_lowercase c ≡ 120 →
-      (rest more : List (List ℕ)) (N : Extensions) (f : ParseError) → PrivateFills ps rest (Err f) →
+  pub private_fails : to_ascii_lowercase c ≡ code_x →
+      (rest more : List Text) (N : Extensions) (f : ParseError) → PrivateFills ps rest (Err f) →
       BlockReads start more N (Err f)
   private_fails e rest more N InvalidLanguage h = let other = private_names ps faults.InvalidLanguage h in cc
   private_fails e rest more N InvalidSubtag h = let other = private_names ps faults.InvalidSubtag h in cc
@@ -122,27 +123,27 @@ module _ {start : List (List ℕ)} {c : ℕ} {ps : List (List ℕ)} {M : Extensi
       let other = private_names ps faults.DuplicatedExtension h in cc
   private_fails e rest more N OutOfMemory h = private_long a e (λ l. omega (arith, l, h))
 
-  pub private_reads : to_ascii_lowercase c ≡ 120 →
-      (rest ws : List (List ℕ)) (r : Result (Unit {0}) ParseError) →
+  pub private_reads : to_ascii_lowercase c ≡ code_x →
+      (rest ws : List Text) (r : Result (Unit {0}) ParseError) →
       PrivateFills ps rest (result_and r (Ok ws)) → BlockReads start rest (record M { private = ws }) r
   private_reads e rest ws (Ok x) h = private_goes e rest ws h
   private_reads e rest ws (Err f) h = private_fails e rest rest (record M { private = ws }) f h
 
   pub other_goes : is_other_singleton (to_ascii_lowercase c) ≡ true →
-      (rest : List (List ℕ)) (o : ℕ × List (List ℕ)) (os : List (ℕ × List (List ℕ))) →
+      (rest : List Text) (o : ℕ × List Text) (os : List (ℕ × List Text)) →
       OtherBlock (to_ascii_lowercase c) ps rest (Ok o) → os ≡ put nat_cmp o.0 o.1 M.others →
       BlocksDone languages start rest (record M { others = os })
   other_goes k rest o os h e =
       let same : os ≡ put nat_cmp (to_ascii_lowercase c) (kept (front ps)) M.others =
-      e ∙ ap (λ (x : ℕ × List (List ℕ)). put nat_cmp x.0 x.1 M.others) h.0 in
+      e ∙ ap (λ (x : ℕ × List Text). put nat_cmp x.0 x.1 M.others) h.0 in
       let means =
-      subst (λ (w : List (List ℕ)). OtherMeans (front ps) w) (ap (λ (x : ℕ × List (List ℕ)). x.1) h.0) h.1 in
-      subst (λ (r : List (List ℕ)). BlocksDone languages start r (record M { others = os })) (sym h.2) (subst
-      (λ (l : List (ℕ × List (List ℕ))). BlocksDone languages start (from_block ps) (record M { others = l }))
+      subst (λ (w : List Text). OtherMeans (front ps) w) (ap (λ (x : ℕ × List Text). x.1) h.0) h.1 in
+      subst (λ (r : List Text). BlocksDone languages start r (record M { others = os })) (sym h.2) (subst
+      (λ (l : List (ℕ × List Text)). BlocksDone languages start (from_block ps) (record M { others = l }))
       (sym same) (other_done a k means))
 
   pub other_fails : is_other_singleton (to_ascii_lowercase c) ≡ true →
-      (rest more : List (List ℕ)) (N : Extensions) (f : ParseError) →
+      (rest more : List Text) (N : Extensions) (f : ParseError) →
       OtherBlock (to_ascii_lowercase c) ps rest (Err f) → BlockReads start more N (Err f)
   other_fails k rest more N InvalidLanguage h = absurd h
   other_fails k rest more N InvalidSubtag h = absurd h
@@ -151,25 +152,25 @@ module _ {start : List (List ℕ)} {c : ℕ} {ps : List (List ℕ)} {M : Extensi
   other_fails k rest more N OutOfMemory h = other_long a k (λ s. let few = s.0 in omega (arith, few, h))
 
   pub other_full : is_other_singleton (to_ascii_lowercase c) ≡ true → IsOther (front ps) →
-      (more : List (List ℕ)) (N : Extensions) (f : ParseError) → f ≡ OutOfMemory →
+      (more : List Text) (N : Extensions) (f : ParseError) → f ≡ OutOfMemory →
       BlockReads start more N (Err f)
   other_full k whole more N f e =
       subst (λ (x : ParseError). BlockReads start more N (Err x)) (sym e) (other_long a k (λ s. s.1 whole))
 
 -- the byte of a block, with its form in lower case
 
-pub letter_refused : {start : List (List ℕ)} {c : ℕ} {ps : List (List ℕ)} {M : Extensions} →
+pub letter_refused : {start : List Text} {c : ℕ} {ps : List Text} {M : Extensions} →
     BlocksDone languages start ((c ∷ []) ∷ ps) M → is_ascii_alphanumeric c ≡ false →
     HasBlockFault languages (blocks start) faults.InvalidExtension
 letter_refused d h = no_letter d h
 
-pub part_refused : {start : List (List ℕ)} {c : ℕ} {ps : List (List ℕ)} {M : Extensions} (ext : ℕ) →
+pub part_refused : {start : List Text} {c : ℕ} {ps : List Text} {M : Extensions} (ext : ℕ) →
     BlocksDone languages start ((c ∷ []) ∷ ps) M → is_ascii_alphanumeric c ≡ true →
     ext ≡ to_ascii_lowercase c → is_read M ext ≡ true →
     HasBlockFault languages (blocks start) faults.DuplicatedExtension
 part_refused {M = M} ext d h e r = met_before d h (ap (is_read M) (sym e) ∙ r)
 
-pub block_at : {start : List (List ℕ)} {c : ℕ} {ps : List (List ℕ)} {M : Extensions} (ext : ℕ) →
+pub block_at : {start : List Text} {c : ℕ} {ps : List Text} {M : Extensions} (ext : ℕ) →
     BlocksDone languages start ((c ∷ []) ∷ ps) M → is_ascii_alphanumeric c ≡ true →
     ext ≡ to_ascii_lowercase c → is_read M ext ≡ false → BlockAt languages start c ps M
 block_at {M = M} ext d h e r = record { before = d; letter = h; new = ap (is_read M) (sym e) ∙ r }
@@ -178,9 +179,9 @@ pub at_letter : (c ext : ℕ) → to_ascii_lowercase c ≡ ext → is_other_sing
     is_other_singleton (to_ascii_lowercase c) ≡ true
 at_letter c ext e o = ap is_other_singleton e ∙ o
 
-pub other_inserted : {start : List (List ℕ)} {c : ℕ} {ps : List (List ℕ)} {M : Extensions} →
+pub other_inserted : {start : List Text} {c : ℕ} {ps : List Text} {M : Extensions} →
     BlockAt languages start c ps M → (ext : ℕ) → to_ascii_lowercase c ≡ ext → is_other_singleton ext ≡ true →
-    (rest : List (List ℕ)) (o : ℕ × List (List ℕ)) (old os : List (ℕ × List (List ℕ)))
+    (rest : List Text) (o : ℕ × List Text) (old os : List (ℕ × List Text))
     (r : Result (Unit {0}) ParseError)
     → OtherBlock ext ps rest (Ok o) → M.others ≡ old → OnOk r (os ≡ put nat_cmp o.0 o.1 old) →
     IfErr r (λ f. f ≡ OutOfMemory) → BlockReads start rest (record M { others = os }) r
@@ -192,24 +193,24 @@ other_inserted {c = c} {M = M} a ext e k rest o old os (Err f) h m g i =
 
 -- what is left is no longer
 
-from_block_short : (ps : List (List ℕ)) → length (from_block ps) ≤ length ps
+from_block_short : (ps : List Text) → length (from_block ps) ≤ length ps
 from_block_short [] = omega arith
 from_block_short (p ∷ ps) = let h = from_block_short ps in
     elim (is_one_byte p) as (λ b. length (cond b (p ∷ ps) (from_block ps)) ≤ suc (length ps))
     [ true ↦ omega arith | false ↦ omega (arith, h) ]
 
-pub rest_short : (ps rest : List (List ℕ)) → rest ≡ from_block ps → length rest ≤ length ps
+pub rest_short : (ps rest : List Text) → rest ≡ from_block ps → length rest ≤ length ps
 rest_short ps rest e =
-    let h = from_block_short ps in let k = ap (λ (l : List (List ℕ)). length l) e in omega (arith, h, k)
+    let h = from_block_short ps in let k = ap (λ (l : List Text). length l) e in omega (arith, h, k)
 
-pub none_short : (ps rest : List (List ℕ)) → rest ≡ [] → length rest ≤ length ps
-none_short ps rest e = let k = ap (λ (l : List (List ℕ)). length l) e in omega (arith, k)
+pub none_short : (ps rest : List Text) → rest ≡ [] → length rest ≤ length ps
+none_short ps rest e = let k = ap (λ (l : List Text). length l) e in omega (arith, k)
 
 pub on_any : {A X E : Type 0} (r : Result X E) → A → OnOk r A
 on_any (Ok x) a = a
 on_any (Err e) a = tt
 
-pub private_shorter : (ps rest ws : List (List ℕ)) (r : Result (Unit {0}) ParseError) →
+pub private_shorter : (ps rest ws : List Text) (r : Result (Unit {0}) ParseError) →
     PrivateFills ps rest (result_and r (Ok ws)) → OnOk r (length rest ≤ length ps)
 private_shorter ps rest ws (Ok x) h = none_short ps rest h.left
 private_shorter ps rest ws (Err e) h = tt
@@ -235,22 +236,23 @@ no_value f (Some x) h = absurd (true≢false (sym h))
 read_at : (M : Extensions) (c d : ℕ) → c ≡ d → is_read M c ≡ false → is_read M d ≡ false
 read_at M c d e h = ap (is_read M) (sym e) ∙ h
 
-pub no_unicode : (M : Extensions) (c : ℕ) → c ≡ 117 → is_read M c ≡ false →
+pub no_unicode : (M : Extensions) (c : ℕ) → c ≡ code_u → is_read M c ≡ false →
     (M.unicode.attributes ≡ []) × (M.unicode.keywords ≡ [])
 no_unicode M c e h =
-    let p = both_true _ _ (read_at M c 117 e h) in
+    let p = both_true _ _ (read_at M c code_u e h) in
     (no_items M.unicode.attributes p.0, no_items M.unicode.keywords p.1)
 
-pub no_transform : (M : Extensions) (m : Transform) (c : ℕ) → M.transform ≡ transform.value_of m → c ≡ 116 →
+pub no_transform : (M : Extensions) (m : Transform) (c : ℕ) → M.transform ≡ transform.value_of m →
+    c ≡ code_t →
     is_read M c ≡ false → (m.lang ≡ None) × (m.fields ≡ [])
 no_transform M m c v e h =
     let p =
     both_true _ _ (ap (λ (t : written.Transform). not (not (is_some t.id) && (length t.fields == 0))) (sym v)
-    ∙ read_at M c 116 e h) in
+    ∙ read_at M c code_t e h) in
     (no_value langid.value_of m.lang p.0, no_items m.fields p.1)
 
-pub no_private : (M : Extensions) (c : ℕ) → c ≡ 120 → is_read M c ≡ false → M.private ≡ []
-no_private M c e h = no_items M.private (not-false _ (read_at M c 120 e h))
+pub no_private : (M : Extensions) (c : ℕ) → c ≡ code_x → is_read M c ≡ false → M.private ≡ []
+no_private M c e h = no_items M.private (not-false _ (read_at M c code_x e h))
 
 -- the whole loop
 
@@ -273,7 +275,7 @@ none_mean = (
   refl,
 )
 
-pub none_done : (start : List (List ℕ)) (M : Extensions) → starts_block start ≡ true → M ≡ no_extensions →
+pub none_done : (start : List Text) (M : Extensions) → starts_block start ≡ true → M ≡ no_extensions →
     BlocksDone languages start start M
 none_done start M s e = record {
   done = [];
@@ -282,12 +284,12 @@ none_done start M s e = record {
   means = subst (BlocksMean languages []) (sym e) none_mean;
 }
 
-pub all_done : (start : List (List ℕ)) (M : Extensions) → BlocksDone languages start [] M →
+pub all_done : (start : List Text) (M : Extensions) → BlocksDone languages start [] M →
     BlocksMean languages (blocks start) M
-all_done start M d = subst (λ (bs : List (ℕ × List (List ℕ))). BlocksMean languages bs M) (sym d.together)
+all_done start M d = subst (λ (bs : List (ℕ × List Text)). BlocksMean languages bs M) (sym d.together)
     (turned_means d.done M d.means)
 
-pub whole_fails : (start rest more : List (List ℕ)) (M : Extensions) (f : ParseError) →
+pub whole_fails : (start rest more : List Text) (M : Extensions) (f : ParseError) →
     BlockReads start rest M (Err f) → BlocksReads start M (Err f)
 whole_fails start rest more M InvalidLanguage h = h
 whole_fails start rest more M InvalidSubtag h = h
@@ -296,13 +298,13 @@ whole_fails start rest more M DuplicatedExtension h = h
 whole_fails start rest more M OutOfMemory h = h
 
 -- the loop goes on after a byte
-pub goes_on : {start : List (List ℕ)} {M : Extensions} (now rest : List (List ℕ)) (b : ℕ) →
+pub goes_on : {start : List Text} {M : Extensions} (now rest : List Text) (b : ℕ) →
     BlocksDone languages start now M → Some b ≡ byte_at now → rest ≡ rest_of now →
     BlocksDone languages start ((b ∷ []) ∷ rest) M
 goes_on {start = start} {M = M} now rest b d e r =
-    subst (λ (l : List (List ℕ)). BlocksDone languages start l M) (byte_first now rest b e r) d
+    subst (λ (l : List Text). BlocksDone languages start l M) (byte_first now rest b e r) d
 
-pub stops : (start now : List (List ℕ)) (M : Extensions) → BlocksDone languages start now M →
+pub stops : (start now : List Text) (M : Extensions) → BlocksDone languages start now M →
     None ≡ byte_at now → BlocksMean languages (blocks start) M
 stops start now M d e = all_done start M
-    (subst (λ (l : List (List ℕ)). BlocksDone languages start l M) (no_byte now d.begins e) d)
+    (subst (λ (l : List Text). BlocksDone languages start l M) (no_byte now d.begins e) d)

@@ -12,7 +12,8 @@ use Rattle.std.specs.Cmp.{nat_cmp_total}
 use Rattle.std.specs.FinMap.{find, put}
 use Rattle.std.specs.FinMap.Entries.{by_order, is_some-find}
 use Rattle.std.proofs.lemmas.Bool.Decides.{nat_tests}
-use Rattle.iloc_spec_grammar.specs.Syntax.{lower, word_cmp, SpelledIdentifier, Unicode, Transform, Fields}
+use Rattle.iloc_spec_grammar.specs.Syntax.{code_x, code_u, code_t, Text, lower, word_cmp, SpelledIdentifier}
+use Rattle.iloc_spec_grammar.specs.Syntax.{Unicode, Transform, Fields}
 use Rattle.iloc_spec_grammar.specs.Syntax.{kept, lower_singleton, is_other_singleton, IsPrivate}
 use Rattle.iloc_spec_grammar.specs.Tree.{by_singleton}
 use Rattle.iloc_spec_grammar.specs.Meaning.{Extensions, map_of, set_of, normal_fields, normal_identifier}
@@ -41,28 +42,28 @@ length-keys : {K X : Type 0} (es : List (K × X)) → length (map (λ e. e.0) es
 length-keys [] = refl
 length-keys (e ∷ es) = ap suc (length-keys es)
 
-set_there : (w : List ℕ) (ws : List (List ℕ)) → (length (set_of (map lower (w ∷ ws))) == 0) ≡ false
+set_there : (w : Text) (ws : List Text) → (length (set_of (map lower (w ∷ ws))) == 0) ≡ false
 set_there w ws =
     ap (λ n. n == 0) (length-keys (map_of word_cmp (map (λ v. (v, tt {0})) (map lower (w ∷ ws)))))
     ∙ length-put word_cmp (lower w) (tt {0}) (map_of word_cmp (map (λ v. (v, tt {0})) (map lower ws)))
 
-fields_there : (f : List ℕ × List (List ℕ)) (fs : Fields) → (length (normal_fields (f ∷ fs)) == 0) ≡ false
+fields_there : (f : Text × List Text) (fs : Fields) → (length (normal_fields (f ∷ fs)) == 0) ≡ false
 fields_there f fs = length-put word_cmp _ _ (normal_fields fs)
 
 -- a part that was read isn't empty
 
-pub some_unicode : (ps : List (List ℕ)) (v : Unicode) → UnicodeMeans ps v →
+pub some_unicode : (ps : List Text) (v : Unicode) → UnicodeMeans ps v →
     ((length v.attributes == 0) && (length v.keywords == 0)) ≡ false
 some_unicode ps v m = ap (λ (u : Unicode). (length u.attributes == 0) && (length u.keywords == 0)) m.means
     ∙ at m.written.attributes m.written.keywords m.grammatical.nonempty
   where
-    at : (ws : List (List ℕ)) (fs : Fields) → 0 < length ws + length fs →
+    at : (ws : List Text) (fs : Fields) → 0 < length ws + length fs →
         ((length (set_of (map lower ws)) == 0) && (length (normal_fields fs) == 0)) ≡ false
     at [] [] h = absurd (omega (arith, h))
     at [] (f ∷ fs) h = fields_there f fs
     at (w ∷ ws) fs h = ap (λ b. b && (length (normal_fields fs) == 0)) (set_there w ws)
 
-pub some_transform : (T : ℕ → Bool) (ps : List (List ℕ)) (v : Transform) → TransformMeans T ps v →
+pub some_transform : (T : ℕ → Bool) (ps : List Text) (v : Transform) → TransformMeans T ps v →
     (not (is_some v.id) && (length v.fields == 0)) ≡ false
 some_transform T ps v m = ap (λ (u : Transform). not (is_some u.id) && (length u.fields == 0)) m.means
     ∙ at m.written.id m.written.fields m.grammatical.nonempty
@@ -73,34 +74,34 @@ some_transform T ps v m = ap (λ (u : Transform). not (is_some u.id) && (length 
     at None [] h = absurd (let l = h refl in omega (arith, l))
     at None (f ∷ fs) h = fields_there f fs
 
-pub some_private : (ps ws : List (List ℕ)) → IsPrivate ps → ws ≡ map lower ps → (length ws == 0) ≡ false
+pub some_private : (ps ws : List Text) → IsPrivate ps → ws ≡ map lower ps → (length ws == 0) ≡ false
 some_private [] ws h e = absurd (let l = h.nonempty in omega (arith, l))
-some_private (p ∷ ps) ws h e = ap (λ (l : List (List ℕ)). length l == 0) e ∙ not_zero (length (map lower ps))
+some_private (p ∷ ps) ws h e = ap (λ (l : List Text). length l == 0) e ∙ not_zero (length (map lower ps))
 
 -- singletons that were read
 
-known : (T : ℕ → Bool) (q : ℕ) (ds : List (ℕ × List (List ℕ))) →
+known : (T : ℕ → Bool) (q : ℕ) (ds : List (ℕ × List Text)) →
     is_some (find nat_cmp q (by_singleton ds))
     ≡ list_any (eq_by_cmp nat_cmp q) (map (λ b. lower_singleton b) ds)
 known T q ds = is_some-find nat_cmp q (by_singleton ds) ∙ ap (list_any (eq_by_cmp nat_cmp q)) (letter_keys ds)
 
-part_known : {X : Type 0} (Rule : List (List ℕ) → X → Type 0) (is_empty : X → Bool) →
-    ((ps : List (List ℕ)) (v : X) → Rule ps v → is_empty v ≡ false) → (empty : X) → is_empty empty ≡ true →
-    (o : Option (List (List ℕ))) (v : X) → PartIs Rule empty o v → not (is_empty v) ≡ is_some o
+part_known : {X : Type 0} (Rule : List Text → X → Type 0) (is_empty : X → Bool) →
+    ((ps : List Text) (v : X) → Rule ps v → is_empty v ≡ false) → (empty : X) → is_empty empty ≡ true →
+    (o : Option (List Text)) (v : X) → PartIs Rule empty o v → not (is_empty v) ≡ is_some o
 part_known Rule is_empty some empty none None v h = ap (λ u. not (is_empty u)) h ∙ ap not none
 part_known Rule is_empty some empty none (Some ps) v h = ap not (some ps v h)
 
 same_test : (a b : ℕ) → (a == b) ≡ eq_by_cmp nat_cmp b a
 same_test a b = grind (arith, nat_tests)
 
-any_key : (q : ℕ) (os : List (ℕ × List (List ℕ))) → list_any (λ o. o.0 == q) os ≡ is_some (find nat_cmp q os)
+any_key : (q : ℕ) (os : List (ℕ × List Text)) → list_any (λ o. o.0 == q) os ≡ is_some (find nat_cmp q os)
 any_key q [] = refl
 any_key q (o ∷ os) = ap₂ ◌||◌ (same_test o.0 q) (any_key q os)
     ∙ elim (eq_by_cmp nat_cmp q o.0)
     as (λ b. (b || is_some (find nat_cmp q os)) ≡ is_some (cond b (Some o.1) (find nat_cmp q os)))
     [ true ↦ refl | false ↦ refl ]
 
-others_known : (q : ℕ) (bs : List (ℕ × List (List ℕ))) → is_other_singleton q ≡ true →
+others_known : (q : ℕ) (bs : List (ℕ × List Text)) → is_other_singleton q ≡ true →
     is_some (find nat_cmp q (map (λ b. (b.0, kept b.1)) (other_blocks (by_singleton bs))))
     ≡ is_some (find nat_cmp q (by_singleton bs))
 others_known q [] h = refl
@@ -125,8 +126,8 @@ others_known q (b ∷ bs) h = at (eq_by_cmp nat_cmp q (lower_singleton b))
 
 is_read-other : (M : Extensions) (c : ℕ) → is_other_singleton c ≡ true →
     is_read M c ≡ list_any (λ o. o.0 == c) M.others
-is_read-other M c h = at (c == 117) (c == 116) (c == 120) (no c 117 h (λ e. no_u c e h))
-    (no c 116 h (λ e. no_t c e h)) (no c 120 h (λ e. no_x c e h))
+is_read-other M c h = at (c == code_u) (c == code_t) (c == code_x) (no c code_u h (λ e. no_u c e h))
+    (no c code_t h (λ e. no_t c e h)) (no c code_x h (λ e. no_x c e h))
   where
     no : (c k : ℕ) → is_other_singleton c ≡ true → (c ≡ k → ⊥) → (c == k) ≡ false
     no c k h n = grind (arith, nat_tests)
@@ -142,7 +143,7 @@ is_read-other M c h = at (c == 117) (c == 116) (c == 120) (no c 117 h (λ e. no_
     at false false false e f g = refl
 
 -- which singletons were read shows in the parts
-pub read_is_known : (T : ℕ → Bool) (ds : List (ℕ × List (List ℕ))) (M : Extensions) (c : ℕ) →
+pub read_is_known : (T : ℕ → Bool) (ds : List (ℕ × List Text)) (M : Extensions) (c : ℕ) →
     BlocksGive (grammar_rules T) ds M → is_ascii_alphanumeric c ≡ true →
     is_read M c ≡ list_any (eq_by_cmp nat_cmp c) (map (λ b. lower_singleton b) ds)
 read_is_known T ds M c m h = at (kind_of c h) ∙ known T c ds
@@ -150,13 +151,13 @@ read_is_known T ds M c m h = at (kind_of c h) ∙ known T c ds
     at : IsKind c → is_read M c ≡ is_some (find nat_cmp c (by_singleton ds))
     at (of_u e) = subst (λ (q : ℕ). is_read M q ≡ is_some (find nat_cmp q (by_singleton ds))) (sym e)
         (part_known UnicodeMeans (λ v. (length v.attributes == 0) && (length v.keywords == 0)) some_unicode
-        no_unicode refl (find nat_cmp 117 (by_singleton ds)) M.unicode m.unicode)
+        no_unicode refl (find nat_cmp code_u (by_singleton ds)) M.unicode m.unicode)
     at (of_t e) = subst (λ (q : ℕ). is_read M q ≡ is_some (find nat_cmp q (by_singleton ds))) (sym e)
         (part_known (TransformMeans T) (λ v. not (is_some v.id) && (length v.fields == 0)) (some_transform T)
-        no_transform refl (find nat_cmp 116 (by_singleton ds)) M.transform m.transform)
+        no_transform refl (find nat_cmp code_t (by_singleton ds)) M.transform m.transform)
     at (of_x e) = subst (λ (q : ℕ). is_read M q ≡ is_some (find nat_cmp q (by_singleton ds))) (sym e)
         (part_known PrivateMeans (λ v. length v == 0) (λ ps ws h. some_private ps ws h.0 h.1) [] refl
-        (find nat_cmp 120 (by_singleton ds)) M.private m.private)
+        (find nat_cmp code_x (by_singleton ds)) M.private m.private)
     at (another o) =
         is_read-other M c o ∙ any_key c M.others ∙ ap (λ os. is_some (find nat_cmp c os)) m.others
         ∙ ap is_some

@@ -1,7 +1,7 @@
 -- From the locale that was read to its normal text.
 use Rattle.std.proofs.Common.{◌≡◌, inl, inr, ◌↔◌, IsTrue, ℕ, ◌≤◌, Bool, true, false, List, length, refl, sym}
 use Rattle.std.proofs.Common.{ap, ◌∙◌, subst, true≢false, IfOk, Err, Ok, Result}
-use Rattle.iloc_spec_grammar.specs.Syntax.{languages, is_same}
+use Rattle.iloc_spec_grammar.specs.Syntax.{Text, languages, is_same}
 use Rattle.iloc_spec_grammar.specs.Meaning as meaning
 use Rattle.iloc_spec_grammar.specs.Meaning.{Means}
 use Rattle.iloc_spec_grammar.specs.Values.{IsWellFormed, text}
@@ -28,7 +28,7 @@ use Rattle.iloc_locale.proofs.ReadLemmas.{inline_wants_none}
 use Rattle.iloc_spec_parts.specs.Inline.{IsInline}
 use Rattle.std.specs.Cmp.{Equal-is}
 
-pub is_normalized : (t u : List ℕ) (M : meaning.Locale) → Means languages t M → u ≡ text M →
+pub is_normalized : (t u : Text) (M : meaning.Locale) → Means languages t M → u ≡ text M →
     IsNormalizedLocale t u
 is_normalized t u M m e = subst (IsNormalizedLocale t) (sym e) (record {
   text_is = (M, m, refl);
@@ -41,16 +41,16 @@ is_normalized t u M m e = subst (IsNormalizedLocale t) (sym e) (record {
   together = λ v L N l n. texts_lead_to_one languages languages_table t v L N l n;
 })
 
-pub refuses_memory : (t : List ℕ) (M : meaning.Locale) → Means languages t M → (t ≡ text M → false ≡ true) →
+pub refuses_memory : (t : Text) (M : meaning.Locale) → Means languages t M → (t ≡ text M → false ≡ true) →
     NormalizingWantsMemory t
 refuses_memory t M m other = inr (M, m, λ e. absurd (true≢false (sym (other e))))
 
 -- a normal text that is inline wants no memory
-pub normal_inline : (t : List ℕ) → IsInline languages t → IsTextOf t t → NormalizingWantsMemory t → ⊥
+pub normal_inline : (t : Text) → IsInline languages t → IsTextOf t t → NormalizingWantsMemory t → ⊥
 normal_inline t i n (inl h) = inline_wants_none t i h
 normal_inline t i n (inr h) = h.2 (n.2 ∙ ap text (one_meaning languages_table t n.0 h.0 n.1 h.1))
 
-pub same_meaning_ties : (t : List ℕ) (L M : meaning.Locale) (same : Bool) → Means languages t L →
+pub same_meaning_ties : (t : Text) (L M : meaning.Locale) (same : Bool) → Means languages t L →
     same ≡ is_eq (locale_cmp M L) → IsTrue same ↔ Means languages t M
 same_meaning_ties t L M same m e = (
   λ s. subst (Means languages t)
@@ -58,7 +58,7 @@ same_meaning_ties t L M same m e = (
   λ n. e ∙ ap is_eq ((locale_exact.exact M L).1 (one_meaning languages_table t M L n m)),
 )
 
-pub no_meaning : (t : List ℕ) (M : meaning.Locale) (f : ParseError) → LocaleTextReads t (Err f) →
+pub no_meaning : (t : Text) (M : meaning.Locale) (f : ParseError) → LocaleTextReads t (Err f) →
     (f ≡ OutOfMemory → ⊥) → Means languages t M → ⊥
 no_meaning t M InvalidLanguage h n m = accepted_no_fault languages_table t M meaning.InvalidLanguage m h
 no_meaning t M InvalidSubtag h n m = accepted_no_fault languages_table t M meaning.InvalidSubtag m h
@@ -67,7 +67,7 @@ no_meaning t M DuplicatedExtension h n m =
     accepted_no_fault languages_table t M meaning.DuplicatedExtension m h
 no_meaning t M OutOfMemory h n m = n refl
 
-pub refusal_differs : (t : List ℕ) (M : meaning.Locale) (f : ParseError) {E : Type 0} (r : Result Bool E) →
+pub refusal_differs : (t : Text) (M : meaning.Locale) (f : ParseError) {E : Type 0} (r : Result Bool E) →
     LocaleTextReads t (Err f) → IfOk r (λ same. (same ≡ false) × ¬ (f ≡ OutOfMemory)) →
     IfOk r (λ same. IsTrue same ↔ Means languages t M)
 refusal_differs t M f (Ok same) h d =
@@ -79,14 +79,14 @@ pub text_means_only : (M : meaning.Locale) → IsWellFormed M → MeansOnly (tex
 text_means_only M w = (w, λ N n. one_meaning languages_table (text M) N M n w)
 
 -- what is told at once is normalized so
-pub told_text : (t u : List ℕ) → IsNormalText languages Locale t u → IsNormalizedLocale t u
+pub told_text : (t u : Text) → IsNormalText languages Locale t u → IsNormalizedLocale t u
 told_text t u (M, m, e) = is_normalized t u M m e
 
-pub told_other : (t : List ℕ) → IsNotNormal Locale t → NormalizingWantsMemory t
+pub told_other : (t : Text) → IsNotNormal Locale t → NormalizingWantsMemory t
 told_other t (u, (M, m, e), other) = inr (M, m, λ s. other (s ∙ sym e))
 
 -- A text against a well-formed value.
-module _ (t : List ℕ) (M : meaning.Locale) (w : IsWellFormed M) where
+module _ (t : Text) (M : meaning.Locale) (w : IsWellFormed M) where
   -- the text of the value means it
   pub own_text_means : true ≡ is_same (text M) t → Means languages t M
   own_text_means e = subst (λ u. Means languages u M) (same_is (text M) t (sym e)) w
@@ -99,7 +99,7 @@ module _ (t : List ℕ) (M : meaning.Locale) (w : IsWellFormed M) where
       true≢false (sym (same_itself (text M)) ∙ ap (is_same (text M)) own ∙ sym e)
 
   -- and each text does exactly if its normal text is that of the value
-  pub normal_text_tells : (u : List ℕ) (same : Bool) → IsNormalText languages Locale t u
+  pub normal_text_tells : (u : Text) (same : Bool) → IsNormalText languages Locale t u
       → same ≡ is_same (text M) u → IsTrue same ↔ Means languages t M
   normal_text_tells u same (N, m, is) e = (
     λ s.
@@ -112,7 +112,7 @@ module _ (t : List ℕ) (M : meaning.Locale) (w : IsWellFormed M) where
   )
 
 -- a text that has a fault means nothing
-pub faulty_differs : (t : List ℕ) (M : meaning.Locale) (f : ParseError) → HasRefusal Locale t f
+pub faulty_differs : (t : Text) (M : meaning.Locale) (f : ParseError) → HasRefusal Locale t f
     → Means languages t M → ⊥
 faulty_differs t M InvalidLanguage h m = no_meaning t M InvalidLanguage h (λ e. cc) m
 faulty_differs t M InvalidSubtag h m = no_meaning t M InvalidSubtag h (λ e. cc) m

@@ -1,6 +1,6 @@
 -- What the block of each kind is read as, by cases on the whole answer.
 use Rattle.std.specs.Prelude.{◌≡◌, ℕ, ◌<◌, List, length, Result, Ok, Err}
-use Rattle.iloc_spec_grammar.specs.Syntax.{languages, IsOther, kept, front}
+use Rattle.iloc_spec_grammar.specs.Syntax.{Text, languages, IsOther, kept, front}
 use Rattle.iloc_spec_grammar.specs.Syntax as written
 use Rattle.iloc_spec_parts.specs.Fronts.{other_front}
 use Rattle.iloc_spec_grammar.specs.Reading.{from_block}
@@ -18,7 +18,7 @@ use Rattle.iloc_transform.specs.TransformReading as transform
 
 -- the pieces up to the next block mean the part, and the rest is left
 
-abbrev pub UnicodeBlock : List (List ℕ) → List (List ℕ) → Result Unicode ParseError → Type 0
+abbrev pub UnicodeBlock : List Text → List Text → Result Unicode ParseError → Type 0
 UnicodeBlock ps rest (Ok u) = UnicodeMeans (front ps) (unicode.value_of u) × (rest ≡ from_block ps)
 UnicodeBlock ps rest (Err InvalidExtension) = (v : written.Unicode) → ¬ (UnicodeMeans (front ps) v)
 UnicodeBlock ps rest (Err OutOfMemory) = UnicodeWantsMemory ps
@@ -26,7 +26,7 @@ UnicodeBlock ps rest (Err InvalidLanguage) = ⊥
 UnicodeBlock ps rest (Err InvalidSubtag) = ⊥
 UnicodeBlock ps rest (Err DuplicatedExtension) = ⊥
 
-abbrev pub TransformBlock : List (List ℕ) → List (List ℕ) → Result Transform ParseError → Type 0
+abbrev pub TransformBlock : List Text → List Text → Result Transform ParseError → Type 0
 TransformBlock ps rest (Ok m) =
     TransformMeans languages (front ps) (transform.value_of m) × (rest ≡ from_block ps)
 TransformBlock ps rest (Err InvalidSubtag) = RepeatsVariant languages (front ps)
@@ -36,7 +36,7 @@ TransformBlock ps rest (Err OutOfMemory) = transform.TransformWantsMemory ps
 TransformBlock ps rest (Err InvalidLanguage) = ⊥
 TransformBlock ps rest (Err DuplicatedExtension) = ⊥
 
-abbrev pub OtherBlock : ℕ → List (List ℕ) → List (List ℕ) → Result (ℕ × List (List ℕ)) ParseError → Type 0
+abbrev pub OtherBlock : ℕ → List Text → List Text → Result (ℕ × List Text) ParseError → Type 0
 OtherBlock ext ps rest (Ok o) =
     (o ≡ (ext, kept (front ps))) × OtherMeans (front ps) o.1 × (rest ≡ from_block ps)
 OtherBlock ext ps rest (Err InvalidExtension) = ¬ (IsOther (front ps))

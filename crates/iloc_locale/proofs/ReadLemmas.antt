@@ -3,7 +3,7 @@ use Rattle.std.specs.Prelude.{⊤}
 use Rattle.std.proofs.Common.{◌≡◌, inl, inr, ℕ, ◌<◌, true, List, [], ◌∷◌, length, refl, sym, ap, ◌∙◌, subst}
 use Rattle.std.proofs.Common.{arith, Result, Ok, Err, IfOk}
 use Rattle.std.specs.Result.{result_and}
-use Rattle.iloc_spec_grammar.specs.Syntax.{pieces, Language, IsWord, languages, two_or_three}
+use Rattle.iloc_spec_grammar.specs.Syntax.{Text, pieces, Language, IsWord, languages, two_or_three}
 use Rattle.iloc_spec_grammar.specs.Syntax.{identifier_pieces, head, blocks, tail_blocks, first_piece}
 use Rattle.iloc_spec_grammar.specs.Meaning as meaning
 use Rattle.iloc_spec_grammar.specs.Meaning.{IdentifierMeans, Means, BlocksMean, Fault, HasFault}
@@ -42,18 +42,18 @@ use Rattle.iloc_subtags.proofs.Judged.{Judges, accepts, refuses, without_memory,
 
 -- the head and the blocks after it
 
-tail_is : (ps : List (List ℕ)) → blocks (after_head ps) ≡ tail_blocks ps
+tail_is : (ps : List Text) → blocks (after_head ps) ≡ tail_blocks ps
 tail_is [] = refl
 tail_is (p ∷ ps) = blocks-from_block ps
 
-pub after_head_starts : (ps : List (List ℕ)) → starts_block (after_head ps) ≡ true
+pub after_head_starts : (ps : List Text) → starts_block (after_head ps) ≡ true
 after_head_starts ps = from_block_starts (rest_of ps)
 
-same_first : (ps : List (List ℕ)) → first_piece (head ps) ≡ first_piece ps
+same_first : (ps : List Text) → first_piece (head ps) ≡ first_piece ps
 same_first [] = refl
 same_first (p ∷ ps) = refl
 
-pub head_accepts : (t : List ℕ) (id : LanguageIdentifier) (e : meaning.Extensions) →
+pub head_accepts : (t : Text) (id : LanguageIdentifier) (e : meaning.Extensions) →
     IdentifierReads (head (pieces t)) (Ok id) → BlocksMean languages (blocks (after_head (pieces t))) e →
     Means languages t (record { id = langid.value_of id; extensions = e })
 head_accepts t id e h b =
@@ -61,7 +61,7 @@ head_accepts t id e h b =
 
 -- where no memory is wanted
 
-head_few : (t : List ℕ) → IsInline languages t → 4 < length (front_of (head (pieces t))).variants → ⊥
+head_few : (t : Text) → IsInline languages t → 4 < length (front_of (head (pieces t))).variants → ⊥
 head_few t i h =
     let w = i.means.written in
     let e : head (pieces t) ≡ identifier_pieces w = i.means.spelled in
@@ -71,17 +71,17 @@ head_few t i h =
     ∙ ap (λ j. length j.variants) (front_of-pieces w i.means.grammatical.words) in
     omega (arith, few, k, h)
 
-pub inline_wants_none : (t : List ℕ) → IsInline languages t → LocaleWantsMemory t → ⊥
+pub inline_wants_none : (t : Text) → IsInline languages t → LocaleWantsMemory t → ⊥
 inline_wants_none t i (inl x) = head_few t i x.1
 inline_wants_none t i (inr x) = none_long x.1 (inline_by_blocks languages languages_table t i).short_blocks
 
 -- and it is wanted only after a language
-pub wants_language : (t : List ℕ) → LocaleWantsMemory t → IsWord (Language languages) (first_piece (pieces t))
+pub wants_language : (t : Text) → LocaleWantsMemory t → IsWord (Language languages) (first_piece (pieces t))
 wants_language t (inl x) = subst (λ p. IsWord (Language languages) p) (same_first (pieces t)) x.0
 wants_language t (inr x) = subst (λ p. IsWord (Language languages) p)
     (sym (ap first_piece x.0.2) ∙ same_first (pieces t)) x.0.1.words.language
 
-pub head_refused : (t : List ℕ) (e : ParseError) → IdentifierReads (head (pieces t)) (Err e) →
+pub head_refused : (t : Text) (e : ParseError) → IdentifierReads (head (pieces t)) (Err e) →
     RunsOutOnlyIf {X = Unit {0}} (langid.IdentifierWantsMemory (head (pieces t))) (Err e) →
     LocaleTextAnswers t (Err e)
 head_refused t InvalidLanguage h m = in_head h
@@ -90,17 +90,17 @@ head_refused t InvalidExtension h m = in_head h
 head_refused t DuplicatedExtension h m = in_head h
 head_refused t OutOfMemory h m = inl m
 
-spells : (t : List ℕ) (id : LanguageIdentifier) → IdentifierReads (head (pieces t)) (Ok id) →
+spells : (t : Text) (id : LanguageIdentifier) → IdentifierReads (head (pieces t)) (Ok id) →
     SpellsIdentifier languages (head (pieces t))
 spells t id h = (h.written, h.grammatical, h.spelled)
 
-blocks_fault : (t : List ℕ) (id : LanguageIdentifier) (f : Fault) →
+blocks_fault : (t : Text) (id : LanguageIdentifier) (f : Fault) →
     IdentifierReads (head (pieces t)) (Ok id) → HasBlockFault languages (blocks (after_head (pieces t))) f →
     HasFault languages t f
 blocks_fault t id f h b =
     in_block (spells t id h) (subst (λ bs. HasBlockFault languages bs f) (tail_is (pieces t)) b)
 
-pub blocks_refused : (t : List ℕ) (id : LanguageIdentifier) (x : meaning.Extensions) (e : ParseError) →
+pub blocks_refused : (t : Text) (id : LanguageIdentifier) (x : meaning.Extensions) (e : ParseError) →
     IdentifierReads (head (pieces t)) (Ok id) → BlocksReads (after_head (pieces t)) x (Err e) →
     LocaleTextAnswers t (Err e)
 blocks_refused t id x InvalidLanguage h b = blocks_fault t id meaning.InvalidLanguage h b
@@ -110,7 +110,7 @@ blocks_refused t id x DuplicatedExtension h b = blocks_fault t id meaning.Duplic
 blocks_refused t id x OutOfMemory h b =
     inr (spells t id h, subst (ReachesLongBlock languages) (tail_is (pieces t)) b)
 
-pub blocks_read : (t : List ℕ) (l : Locale) (r : Result (Unit {0}) ParseError) →
+pub blocks_read : (t : Text) (l : Locale) (r : Result (Unit {0}) ParseError) →
     IdentifierReads (head (pieces t)) (Ok l.id) →
     BlocksReads (after_head (pieces t)) (extensions.value_of l.extensions) r →
     LocaleTextAnswers t (result_and r (Ok l))
@@ -122,14 +122,14 @@ pub none_after_unknown : (l : Locale) → value_of l ≡ unknown_locale →
 none_after_unknown l e = ap (λ (M : meaning.Locale). M.extensions) e
 
 -- what is told of a plain text at once: it is an identifier alone
-pub plain_means : (t : List ℕ) (l : Locale) → IdentifierMeans languages (pieces t) (langid.value_of l.id) →
+pub plain_means : (t : Text) (l : Locale) → IdentifierMeans languages (pieces t) (langid.value_of l.id) →
     extensions.value_of l.extensions ≡ meaning.no_extensions → Means languages t (value_of l)
 plain_means t l m none = subst
     (λ (e : meaning.Extensions). Means languages t (record { id = langid.value_of l.id; extensions = e }))
     (sym none) (means_alone t (langid.value_of l.id) m)
 
 -- a text that begins with no language is refused so
-pub no_language_read : (t : List ℕ) (e : ParseError) → (e ≡ InvalidLanguage) × IsFront t fronts.NoLanguage →
+pub no_language_read : (t : Text) (e : ParseError) → (e ≡ InvalidLanguage) × IsFront t fronts.NoLanguage →
     LocaleTextReads t (Err e)
 no_language_read t InvalidLanguage (is, h) = no_language_refused modes.Locale t h
 no_language_read t InvalidSubtag (is, h) = absurd (cc)
@@ -141,46 +141,46 @@ no_language_read t OutOfMemory (is, h) = absurd (cc)
 
 -- memory apart
 
-pub reads_apart : (t : List ℕ) (r : Result Locale ParseError) → LocaleTextAnswers t r → LocaleTextReads t r
+pub reads_apart : (t : Text) (r : Result Locale ParseError) → LocaleTextAnswers t r → LocaleTextReads t r
 reads_apart t r h = without_memory (λ (l : Locale). Means languages t (value_of l)) (HasFault languages t)
     (LocaleWantsMemory t) r h
 
-pub reads_memory : (t : List ℕ) (r : Result Locale ParseError) → LocaleTextAnswers t r →
+pub reads_memory : (t : Text) (r : Result Locale ParseError) → LocaleTextAnswers t r →
     RunsOutOnlyIf (LocaleWantsMemory t) r
 reads_memory t r h =
     runs_out (λ (l : Locale). Means languages t (value_of l)) (HasFault languages t) (LocaleWantsMemory t) r h
 
-pub reads_answer : (t : List ℕ) (r : Result Locale ParseError) → LocaleTextReads t r →
+pub reads_answer : (t : Text) (r : Result Locale ParseError) → LocaleTextReads t r →
     RunsOutOnlyIf (LocaleWantsMemory t) r → LocaleTextAnswers t r
 reads_answer t r h m = with_memory (λ (l : Locale). Means languages t (value_of l)) (HasFault languages t)
     (LocaleWantsMemory t) r h m
 
-pub reads_well_formed : (t : List ℕ) (r : Result Locale ParseError) → LocaleTextReads t r →
+pub reads_well_formed : (t : Text) (r : Result Locale ParseError) → LocaleTextReads t r →
     IfOk r (λ l. IsValue languages (value_of l) × IsWellFormed (value_of l))
 reads_well_formed t (Ok l) h =
     (means_a_value t (value_of l) h, read_well_formed languages_table t (value_of l) h)
 reads_well_formed t (Err e) h = tt
 
-pub reads_steps : (t : List ℕ) (r : Result Locale ParseError) → LocaleTextReads t r →
-    IfOk r (λ l. (n : ℕ) (u : List ℕ) → Leads (TextStep languages) n t u → Means languages u (value_of l))
+pub reads_steps : (t : Text) (r : Result Locale ParseError) → LocaleTextReads t r →
+    IfOk r (λ l. (n : ℕ) (u : Text) → Leads (TextStep languages) n t u → Means languages u (value_of l))
 reads_steps t (Ok l) h = λ n u c. chain_means languages languages_table n t u (value_of l) c h
 reads_steps t (Err e) h = tt
 
-pub locales_judge : (t : List ℕ) → Judges (Means languages t) (HasFault languages t)
+pub locales_judge : (t : Text) → Judges (Means languages t) (HasFault languages t)
 locales_judge t = record {
   one = one_meaning languages_table t;
   apart = accepted_no_fault languages_table t;
   one_fault = λ f g. one_fault t;
 }
 
-pub reads_accepts : (t : List ℕ) (r : Result Locale ParseError) → LocaleTextReads t r → (M : meaning.Locale) →
+pub reads_accepts : (t : Text) (r : Result Locale ParseError) → LocaleTextReads t r → (M : meaning.Locale) →
     Means languages t M → Accepts value_of ⊤ M r
 reads_accepts t r h = accepts value_of ⊤ (locales_judge t) r h
 
-pub reads_refuses : (t : List ℕ) (r : Result Locale ParseError) → LocaleTextReads t r → (f : Fault) →
+pub reads_refuses : (t : Text) (r : Result Locale ParseError) → LocaleTextReads t r → (f : Fault) →
     HasFault languages t f → Refuses ⊤ f r
 reads_refuses t r h = refuses value_of ⊤ (locales_judge t) r h
 
-pub reads_narrow : (t : List ℕ) (r : Result Locale ParseError) → LocaleTextReads t r → (M : meaning.Locale) →
+pub reads_narrow : (t : Text) (r : Result Locale ParseError) → LocaleTextReads t r → (M : meaning.Locale) →
     Means two_or_three t M → Accepts value_of ⊤ M r
 reads_narrow t r h M m = reads_accepts t r h M (means_ours t M m)

@@ -7,7 +7,8 @@ use Rattle.std.specs.Char.{is_ascii_alphanumeric, to_ascii_lowercase}
 use Rattle.std.specs.Ordering.{nat_cmp, eq_by_cmp}
 use Rattle.std.specs.FinMap.{put}
 use Rattle.std.proofs.lemmas.Bool.Decides.{nat_tests}
-use Rattle.iloc_spec_grammar.specs.Syntax.{AreLengths, Unicode, Transform, IsOther, kept, AllDifferent}
+use Rattle.iloc_spec_grammar.specs.Syntax.{code_x, code_u, code_t, Text, AreLengths, Unicode, Transform}
+use Rattle.iloc_spec_grammar.specs.Syntax.{IsOther, kept, AllDifferent}
 use Rattle.iloc_spec_grammar.specs.Syntax.{lower_singleton, is_other_singleton, front, blocks, IsPrivate}
 use Rattle.iloc_spec_grammar.specs.Syntax.{is_word, PrivateSubtag}
 use Rattle.iloc_spec_grammar.specs.Tree.{IsBlock, TreeBlockFault, no_singleton, duplicated, repeats_variant}
@@ -34,39 +35,39 @@ use Rattle.iloc_spec_grammar.proofs.Singletons.{lower_letter, two_more, no_t}
 
 -- blocks of pieces
 
-pub blocks-from_block : (ps : List (List ℕ)) → blocks (from_block ps) ≡ blocks ps
+pub blocks-from_block : (ps : List Text) → blocks (from_block ps) ≡ blocks ps
 blocks-from_block [] = refl
 blocks-from_block ([] ∷ ps) = blocks-from_block ps
 blocks-from_block ((c ∷ []) ∷ ps) = refl
 blocks-from_block ((c ∷ d ∷ p) ∷ ps) =
     ap (λ b. blocks (cond b ((c ∷ d ∷ p) ∷ ps) (from_block ps))) (two_more (length p)) ∙ blocks-from_block ps
 
-block_until : (c : ℕ) (ps : List (List ℕ)) → (to_ascii_lowercase c == 120) ≡ false →
+block_until : (c : ℕ) (ps : List Text) → (to_ascii_lowercase c == code_x) ≡ false →
     blocks ((c ∷ []) ∷ ps) ≡ (c, front ps) ∷ blocks (from_block ps)
 block_until c ps e = ap (λ b. cond b ((c, ps) ∷ []) ((c, front ps) ∷ blocks ps)) e
     ∙ ap (λ bs. (c, front ps) ∷ bs) (sym (blocks-from_block ps))
 
-block_of_x : (c : ℕ) (ps : List (List ℕ)) → to_ascii_lowercase c ≡ 120 → blocks ((c ∷ []) ∷ ps) ≡ (c, ps) ∷ []
+block_of_x : (c : ℕ) (ps : List Text) → to_ascii_lowercase c ≡ code_x → blocks ((c ∷ []) ∷ ps) ≡ (c, ps) ∷ []
 block_of_x c ps e =
     ap (λ b. cond b ((c, ps) ∷ []) ((c, front ps) ∷ blocks ps)) (same (to_ascii_lowercase c) e)
   where
-    same : (n : ℕ) → n ≡ 120 → (n == 120) ≡ true
+    same : (n : ℕ) → n ≡ code_x → (n == code_x) ≡ true
     same n e = grind (arith, nat_tests)
 
-some_block : (c : ℕ) (ps : List (List ℕ)) →
-    (qs : List (List ℕ)) × (bs : List (ℕ × List (List ℕ))) × (blocks ((c ∷ []) ∷ ps) ≡ (c, qs) ∷ bs)
-some_block c ps = at (to_ascii_lowercase c == 120)
+some_block : (c : ℕ) (ps : List Text) →
+    (qs : List Text) × (bs : List (ℕ × List Text)) × (blocks ((c ∷ []) ∷ ps) ≡ (c, qs) ∷ bs)
+some_block c ps = at (to_ascii_lowercase c == code_x)
   where
     at : (b : Bool) →
-        (qs : List (List ℕ)) × (bs : List (ℕ × List (List ℕ)))
+        (qs : List Text) × (bs : List (ℕ × List Text))
         × (cond b ((c, ps) ∷ []) ((c, front ps) ∷ blocks ps) ≡ (c, qs) ∷ bs)
     at true = (ps, [], refl)
     at false = (front ps, blocks ps, refl)
 
-other_than : (n k : ℕ) → n ≡ k → (k ≡ 120 → ⊥) → (n == 120) ≡ false
+other_than : (n k : ℕ) → n ≡ k → (k ≡ code_x → ⊥) → (n == code_x) ≡ false
 other_than n k e d = grind (arith, nat_tests)
 
-no_x : (n : ℕ) → is_other_singleton n ≡ true → (n == 120) ≡ false
+no_x : (n : ℕ) → is_other_singleton n ≡ true → (n == code_x) ≡ false
 no_x n h = grind (arith, nat_tests)
 
 apart : (n k m : ℕ) → n ≡ k → n ≡ m → (k == m) ≡ false → ⊥
@@ -75,11 +76,11 @@ apart n k m e f h = grind (arith, nat_tests)
 -- the blocks that were read, one after the other
 
 -- what holds from here on, after the singletons of the blocks that were read, holds of all
-after : {T : ℕ → Bool} (P : List ℕ → List (ℕ × List (List ℕ)) → Type 0)
-    → ((seen : List ℕ) (b : ℕ × List (List ℕ)) (bs : List (ℕ × List (List ℕ))) →
+after : {T : ℕ → Bool} (P : Text → List (ℕ × List Text) → Type 0)
+    → ((seen : List ℕ) (b : ℕ × List Text) (bs : List (ℕ × List Text)) →
     is_ascii_alphanumeric b.0 ≡ true → list_any (eq_by_cmp nat_cmp (lower_singleton b)) seen ≡ false →
     IsBlock T b → P (lower_singleton b ∷ seen) bs → P seen (b ∷ bs))
-    → (ds bs : List (ℕ × List (List ℕ))) → AllByRecursion (λ b. is_ascii_alphanumeric b.0 ≡ true) ds →
+    → (ds bs : List (ℕ × List Text)) → AllByRecursion (λ b. is_ascii_alphanumeric b.0 ≡ true) ds →
     AllDifferent nat_cmp (map (λ b. lower_singleton b) ds) → AllByRecursion (IsBlock T) ds →
     P (map (λ b. lower_singleton b) ds) bs → P [] (onto ds bs)
 after P step [] bs l n r h = h
@@ -87,19 +88,19 @@ after P step (d ∷ ds) bs l n r h = after P step ds (d ∷ bs) l.1 n.1 r.1
     (step (map (λ b. lower_singleton b) ds) d bs l.0 (false_from_ne_true _ n.0) r.0 h)
 
 -- good blocks follow the rules of their singletons
-rules_of : (T : ℕ → Bool) (seen : List ℕ) (ds : List (ℕ × List (List ℕ))) → AreGood T seen ds →
+rules_of : (T : ℕ → Bool) (seen : List ℕ) (ds : List (ℕ × List Text)) → AreGood T seen ds →
     AllByRecursion (IsBlock T) ds
 rules_of T seen [] g = tt
 rules_of T seen (d ∷ ds) g = (g.0.2, rules_of T (lower_singleton d ∷ seen) ds g.1)
 
-module _ {T : ℕ → Bool} {start : List (List ℕ)} {c : ℕ} {ps : List (List ℕ)} {M : Extensions} where
+module _ {T : ℕ → Bool} {start : List Text} {c : ℕ} {ps : List Text} {M : Extensions} where
   gives : (d : BlocksDone T start ((c ∷ []) ∷ ps) M) → BlocksGive (grammar_rules T) d.done M
   gives d = mean_give d.means
 
   rules : (d : BlocksDone T start ((c ∷ []) ∷ ps) M) → AllByRecursion (IsBlock T) d.done
   rules d = rules_of T [] d.done (good_blocks d.means.1)
 
-  bad_here : (qs : List (List ℕ)) (bs : List (ℕ × List (List ℕ))) → blocks ((c ∷ []) ∷ ps) ≡ (c, qs) ∷ bs →
+  bad_here : (qs : List Text) (bs : List (ℕ × List Text)) → blocks ((c ∷ []) ∷ ps) ≡ (c, qs) ∷ bs →
       (d : BlocksDone T start ((c ∷ []) ∷ ps) M) → (f : Fault) →
       TreeBlockFault T (map (λ b. lower_singleton b) d.done) (c, qs) f → HasBlockFault T (blocks start) f
   bad_here qs bs e d f h =
@@ -126,7 +127,7 @@ module _ {T : ℕ → Bool} {start : List (List ℕ)} {c : ℕ} {ps : List (List
         (read_is_known T a.before.done M (to_ascii_lowercase c) (gives a.before) (lower_letter c a.letter))
         ∙ a.new
 
-    good : (qs rest : List (List ℕ)) (N : Extensions) → blocks ((c ∷ []) ∷ ps) ≡ (c, qs) ∷ blocks rest →
+    good : (qs rest : List Text) (N : Extensions) → blocks ((c ∷ []) ∷ ps) ≡ (c, qs) ∷ blocks rest →
         starts_block rest ≡ true → BlocksGive (grammar_rules T) ((c, qs) ∷ a.before.done) N →
         BlocksDone T start rest N
     good qs rest N e s m = record {
@@ -136,12 +137,12 @@ module _ {T : ℕ → Bool} {start : List (List ℕ)} {c : ℕ} {ps : List (List
       means = give_mean m;
     }
 
-    breaks : (qs : List (List ℕ)) (bs : List (ℕ × List (List ℕ))) → blocks ((c ∷ []) ∷ ps) ≡ (c, qs) ∷ bs →
-        ¬ ((to_ascii_lowercase c ≡ 116) × RepeatsVariant T qs) → ¬ (IsBlock T (c, qs)) →
+    breaks : (qs : List Text) (bs : List (ℕ × List Text)) → blocks ((c ∷ []) ∷ ps) ≡ (c, qs) ∷ bs →
+        ¬ ((to_ascii_lowercase c ≡ code_t) × RepeatsVariant T qs) → ¬ (IsBlock T (c, qs)) →
         HasBlockFault T (blocks start) InvalidExtension
     breaks qs bs e v r = bad_here qs bs e a.before InvalidExtension (breaks_rule a.letter fresh v r)
 
-    long_here : (qs : List (List ℕ)) (bs : List (ℕ × List (List ℕ))) → blocks ((c ∷ []) ∷ ps) ≡ (c, qs) ∷ bs →
+    long_here : (qs : List Text) (bs : List (ℕ × List Text)) → blocks ((c ∷ []) ∷ ps) ≡ (c, qs) ∷ bs →
         ¬ (IsShortBlock T (c, qs)) → ReachesLongBlock T (blocks start)
     long_here qs bs e n =
         met_is_reached (subst (MeetsLongBlock T []) (sym (a.before.together ∙ ap (onto a.before.done) e))
@@ -150,50 +151,52 @@ module _ {T : ℕ → Bool} {start : List (List ℕ)} {c : ℕ} {ps : List (List
 
     -- after `u`
 
-    pub unicode_done : to_ascii_lowercase c ≡ 117 → (v : Unicode) → UnicodeMeans (front ps) v →
+    pub unicode_done : to_ascii_lowercase c ≡ code_u → (v : Unicode) → UnicodeMeans (front ps) v →
         BlocksDone T start (from_block ps) (record M { unicode = v })
     unicode_done e v m = good (front ps) (from_block ps) (record M { unicode = v })
-        (block_until c ps (other_than (to_ascii_lowercase c) 117 e (λ d. absurd (omega (arith, d)))))
+        (block_until c ps (other_than (to_ascii_lowercase c) code_u e (λ d. absurd (omega (arith, d)))))
         (from_block_starts ps) (unicode_added (c, front ps) (gives a.before) a.letter fresh e v m)
 
-    pub unicode_bad : to_ascii_lowercase c ≡ 117 → ((v : Unicode) → ¬ (UnicodeMeans (front ps) v)) →
+    pub unicode_bad : to_ascii_lowercase c ≡ code_u → ((v : Unicode) → ¬ (UnicodeMeans (front ps) v)) →
         HasBlockFault T (blocks start) InvalidExtension
     unicode_bad e n = breaks (front ps) (blocks (from_block ps))
-        (block_until c ps (other_than (to_ascii_lowercase c) 117 e (λ d. absurd (omega (arith, d)))))
-        (λ h. apart (to_ascii_lowercase c) 117 116 e h.0 refl)
+        (block_until c ps (other_than (to_ascii_lowercase c) code_u e (λ d. absurd (omega (arith, d)))))
+        (λ h. apart (to_ascii_lowercase c) code_u code_t e h.0 refl)
         (λ r. let s = (unicode_rule T (c, front ps) e).0 r in n s.0 s.1)
 
-    pub unicode_long : to_ascii_lowercase c ≡ 117 → ¬ (IsShortUnicode ps) → ReachesLongBlock T (blocks start)
+    pub unicode_long : to_ascii_lowercase c ≡ code_u → ¬ (IsShortUnicode ps) →
+        ReachesLongBlock T (blocks start)
     unicode_long e n = long_here (front ps) (blocks (from_block ps))
-        (block_until c ps (other_than (to_ascii_lowercase c) 117 e (λ d. absurd (omega (arith, d)))))
+        (block_until c ps (other_than (to_ascii_lowercase c) code_u e (λ d. absurd (omega (arith, d)))))
         (λ s. n (subst IsShortUnicode (front-from_block ps)
         ((short_unicode_front (front ps) (from_block ps) (from_block_starts ps)).0 (s.unicode e))))
 
     -- after `t`
 
-    pub transform_done : to_ascii_lowercase c ≡ 116 → (v : Transform) → TransformMeans T (front ps) v →
+    pub transform_done : to_ascii_lowercase c ≡ code_t → (v : Transform) → TransformMeans T (front ps) v →
         BlocksDone T start (from_block ps) (record M { transform = v })
     transform_done e v m = good (front ps) (from_block ps) (record M { transform = v })
-        (block_until c ps (other_than (to_ascii_lowercase c) 116 e (λ d. absurd (omega (arith, d)))))
+        (block_until c ps (other_than (to_ascii_lowercase c) code_t e (λ d. absurd (omega (arith, d)))))
         (from_block_starts ps) (transform_added (c, front ps) (gives a.before) a.letter fresh e v m)
 
-    pub transform_repeats : to_ascii_lowercase c ≡ 116 → RepeatsVariant T (front ps) →
+    pub transform_repeats : to_ascii_lowercase c ≡ code_t → RepeatsVariant T (front ps) →
         HasBlockFault T (blocks start) InvalidSubtag
     transform_repeats e r = bad_here (front ps) (blocks (from_block ps))
-        (block_until c ps (other_than (to_ascii_lowercase c) 116 e (λ d. absurd (omega (arith, d))))) a.before
+        (block_until c ps (other_than (to_ascii_lowercase c) code_t e (λ d. absurd (omega (arith, d)))))
+        a.before
         InvalidSubtag (repeats_variant a.letter fresh e r)
 
-    pub transform_bad : to_ascii_lowercase c ≡ 116 → ¬ (RepeatsVariant T (front ps)) →
+    pub transform_bad : to_ascii_lowercase c ≡ code_t → ¬ (RepeatsVariant T (front ps)) →
         ((v : Transform) → ¬ (TransformMeans T (front ps) v)) →
         HasBlockFault T (blocks start) InvalidExtension
     transform_bad e v n = breaks (front ps) (blocks (from_block ps))
-        (block_until c ps (other_than (to_ascii_lowercase c) 116 e (λ d. absurd (omega (arith, d)))))
+        (block_until c ps (other_than (to_ascii_lowercase c) code_t e (λ d. absurd (omega (arith, d)))))
         (λ h. v h.1) (λ r. let s = (transform_rule T (c, front ps) e).0 r in n s.0 s.1)
 
-    pub transform_long : AreLengths T → to_ascii_lowercase c ≡ 116 → ¬ (IsShortTransform T ps) →
+    pub transform_long : AreLengths T → to_ascii_lowercase c ≡ code_t → ¬ (IsShortTransform T ps) →
         ReachesLongBlock T (blocks start)
     transform_long table e n = long_here (front ps) (blocks (from_block ps))
-        (block_until c ps (other_than (to_ascii_lowercase c) 116 e (λ d. absurd (omega (arith, d)))))
+        (block_until c ps (other_than (to_ascii_lowercase c) code_t e (λ d. absurd (omega (arith, d)))))
         (λ s. n (subst (IsShortTransform T) (front-from_block ps)
         ((short_transform_front table (front ps) (from_block ps) (from_block_starts ps)).0 (s.transform e))))
 
@@ -221,16 +224,17 @@ module _ {T : ℕ → Bool} {start : List (List ℕ)} {c : ℕ} {ps : List (List
 
     -- after `x`
 
-    pub private_done : to_ascii_lowercase c ≡ 120 → (v : List (List ℕ)) → PrivateMeans ps v →
+    pub private_done : to_ascii_lowercase c ≡ code_x → (v : List Text) → PrivateMeans ps v →
         BlocksDone T start [] (record M { private = v })
     private_done e v m = good ps [] (record M { private = v }) (block_of_x c ps e) refl
         (private_added (c, ps) (gives a.before) a.letter fresh e v m)
 
-    pub private_bad : to_ascii_lowercase c ≡ 120 → ¬ (IsPrivate ps) →
+    pub private_bad : to_ascii_lowercase c ≡ code_x → ¬ (IsPrivate ps) →
         HasBlockFault T (blocks start) InvalidExtension
-    private_bad e n = breaks ps [] (block_of_x c ps e) (λ h. apart (to_ascii_lowercase c) 120 116 e h.0 refl)
+    private_bad e n =
+        breaks ps [] (block_of_x c ps e) (λ h. apart (to_ascii_lowercase c) code_x code_t e h.0 refl)
         (λ r. n ((private_rule T (c, ps) e).0 r))
 
-    pub private_long : to_ascii_lowercase c ≡ 120 → ¬ (length (passing (is_word PrivateSubtag) ps) ≤ 4) →
+    pub private_long : to_ascii_lowercase c ≡ code_x → ¬ (length (passing (is_word PrivateSubtag) ps) ≤ 4) →
         ReachesLongBlock T (blocks start)
     private_long e n = long_here ps [] (block_of_x c ps e) (λ s. n (s.private e))

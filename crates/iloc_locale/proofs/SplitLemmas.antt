@@ -7,24 +7,26 @@ use Rattle.iloc_spec_grammar.specs.Values.{before_above, other_spelling, transfo
 use Rattle.iloc_spec_grammar.specs.Values.{private_spelling, extensions_spelling}
 use Rattle.iloc_writeable.specs.Pieces.{is_there}
 use Rattle.iloc_spec_grammar.proofs.PartTexts.{spelling_around}
+use Rattle.iloc_spec_grammar.specs.Syntax.{code_t, Text}
 
 abbrev Others : Type 0
-Others = List (ℕ × List (List ℕ))
+Others = List (ℕ × List Text)
 
 -- how many stand before the first above `t`
 pub count : Others → ℕ
 count [] = 0
-count (o ∷ os) = cond (nat_le o.0 116) (suc (count os)) 0
+count (o ∷ os) = cond (nat_le o.0 code_t) (suc (count os)) 0
 
-pub count_hit : (o : ℕ × List (List ℕ)) (os : Others) → 116 < o.0 → count (o ∷ os) ≡ 0
+pub count_hit : (o : ℕ × List Text) (os : Others) → code_t < o.0 → count (o ∷ os) ≡ 0
 unfolding count
 count_hit o os h =
-    let above : nat_le o.0 116 ≡ false = grind (arith, nat_tests) in ap (λ b. cond b (suc (count os)) 0) above
+    let above : nat_le o.0 code_t ≡ false = grind (arith, nat_tests) in
+    ap (λ b. cond b (suc (count os)) 0) above
 
-pub count_miss : (o : ℕ × List (List ℕ)) (os : Others) → o.0 ≤ 116 → count (o ∷ os) ≡ count os + 1
+pub count_miss : (o : ℕ × List Text) (os : Others) → o.0 ≤ code_t → count (o ∷ os) ≡ count os + 1
 unfolding count
 count_miss o os h = let next : suc (count os) ≡ count os + 1 = omega arith in
-    let below : nat_le o.0 116 ≡ true = grind (arith, nat_tests) in
+    let below : nat_le o.0 code_t ≡ true = grind (arith, nat_tests) in
     ap (λ b. cond b (suc (count os)) 0) below ∙ next
 
 pub count_none : count [] ≡ 0
@@ -35,13 +37,13 @@ count_none = refl
 pub split_there : (bs os : Others) → before_above bs os ≡ take (count os) os ++ (bs ++ drop (count os) os)
 unfolding count
 split_there bs [] = sym (append-nil bs)
-split_there bs (o ∷ os) = elim (nat_le o.0 116)
+split_there bs (o ∷ os) = elim (nat_le o.0 code_t)
     as (λ b. cond b (o ∷ before_above bs os) (bs ++ (o ∷ os))
     ≡ take (cond b (suc (count os)) 0) (o ∷ os) ++ (bs ++ drop (cond b (suc (count os)) 0) (o ∷ os)))
     [ true ↦ ap (λ xs. o ∷ xs) (split_there bs os) | false ↦ refl ]
 
 -- the pieces of the parts, the others in two
-pub parts_pieces : (e : Extensions) (before after : Others) (t u x : List (List ℕ)) →
+pub parts_pieces : (e : Extensions) (before after : Others) (t u x : List Text) →
     ((bs : Others) → before_above bs e.others ≡ before ++ (bs ++ after)) →
     t ≡ transform_spelling e.transform → u ≡ unicode_spelling e.unicode → x ≡ private_spelling e.private
     → flat_map other_spelling before ++ (t ++ (u ++ (flat_map other_spelling after ++ x)))
@@ -51,6 +53,6 @@ parts_pieces e before after t u x others a b c =
     ∙ sym (spelling_around e before after others)
 
 -- a part without pieces
-pub none_there : (ps : List (List ℕ)) → is_there ps ≡ false → [] ≡ ps
+pub none_there : (ps : List Text) → is_there ps ≡ false → [] ≡ ps
 none_there [] h = refl
 none_there (p ∷ ps) h = cc

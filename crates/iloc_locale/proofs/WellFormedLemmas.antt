@@ -11,7 +11,7 @@ use Rattle.std.specs.declared.cmp.Ordering.{Ordering}
 use Rattle.std.specs.declared.cmp.Ordering.TheVariants.{Less, Equal, Greater}
 use Rattle.std.specs.Char.{to_ascii_lowercase}
 use Rattle.std.proofs.lemmas.Bool.Decides.{nat_tests}
-use Rattle.iloc_spec_grammar.specs.Syntax.{is_true, is_other_singleton}
+use Rattle.iloc_spec_grammar.specs.Syntax.{Text, is_true, is_other_singleton}
 use Rattle.iloc_spec_grammar.specs.Meaning.{Extensions}
 use Rattle.iloc_spec_grammar.specs.Values.{AreWellFormed}
 use Rattle.iloc_locale.specs.WellFormed.{has_own_place, is_in_place, is_plain, is_read_back}
@@ -27,9 +27,9 @@ module _ {X : Type 0} (test : X → Bool) (P : X → Type 0) where
   all_met meets (x ∷ xs) h = and_from _ _ (meets x h.0) (all_met meets xs h.1)
 
 abbrev Others : Type 0
-Others = List (ℕ × List (List ℕ))
+Others = List (ℕ × List Text)
 
-own_singleton : (o : ℕ × List (List ℕ)) → has_own_place o ≡ true →
+own_singleton : (o : ℕ × List Text) → has_own_place o ≡ true →
     (is_other_singleton o.0 ≡ true) × (to_ascii_lowercase o.0 ≡ o.0) × (0 < length o.1)
 own_singleton o h =
     let first =
@@ -43,7 +43,7 @@ own_singleton o h =
     some : nat_lt 0 (length o.1) ≡ true → 0 < length o.1
     some e = grind (arith, nat_tests)
 
-place_met : (o : ℕ × List (List ℕ)) → is_other_singleton o.0 ≡ true → to_ascii_lowercase o.0 ≡ o.0 →
+place_met : (o : ℕ × List Text) → is_other_singleton o.0 ≡ true → to_ascii_lowercase o.0 ≡ o.0 →
     0 < length o.1 → has_own_place o ≡ true
 place_met o a b n =
     and_from (is_other_singleton o.0) ((to_ascii_lowercase o.0 == o.0) && nat_lt 0 (length o.1)) a
@@ -61,7 +61,7 @@ places_met : (os : Others) →
 places_met [] s n = refl
 places_met (o ∷ os) s n = and_from _ _ (place_met o s.0.0 s.0.1 n.0) (places_met os s.1 n.1)
 
-plain_shown : (w : List ℕ) → is_plain w ≡ true → (is_true w ≡ false) × (length w ≢ 2)
+plain_shown : (w : Text) → is_plain w ≡ true → (is_true w ≡ false) × (length w ≢ 2)
 plain_shown w h =
     let parts = and_parts _ _ h in
     (not-true (is_true w) parts.0, λ e. true≢false (sym parts.1 ∙ ap not (two e)))
@@ -69,13 +69,13 @@ plain_shown w h =
     two : length w ≡ 2 → (length w == 2) ≡ true
     two e = grind (arith, nat_tests)
 
-plain_met : (w : List ℕ) → is_true w ≡ false → length w ≢ 2 → is_plain w ≡ true
+plain_met : (w : Text) → is_true w ≡ false → length w ≢ 2 → is_plain w ≡ true
 plain_met w e n = and_from _ _ (ap not e) (ap not (no_two n))
   where
     no_two : length w ≢ 2 → (length w == 2) ≡ false
     no_two n = grind (arith, nat_tests)
 
-abbrev Plain : List ℕ → Type 0
+abbrev Plain : Text → Type 0
 Plain w = (is_true w ≡ false) × (length w ≢ 2)
 
 pub by_tests : (e : Extensions) (b : Bool) → b ≡ (is_in_place e.others && is_read_back e.unicode.keywords) →
@@ -126,13 +126,13 @@ below_lower x y l (o ∷ os) h =
 -- each is below the next
 abbrev Adjacent : Others → Type 0
 Adjacent os =
-    (k : ℕ) (d : ℕ × List (List ℕ)) → k + 1 < length os → (get_or os k d).0 < (get_or os (k + 1) d).0
+    (k : ℕ) (d : ℕ × List Text) → k + 1 < length os → (get_or os k d).0 < (get_or os (k + 1) d).0
 
-next_of : (o : ℕ × List (List ℕ)) (os : Others) (k : ℕ) (d : ℕ × List (List ℕ)) →
+next_of : (o : ℕ × List Text) (os : Others) (k : ℕ) (d : ℕ × List Text) →
     get_or (o ∷ os) (k + 1) d ≡ get_or os k d
 next_of o os k d = let next : k + 1 ≡ suc k = omega arith in ap (λ n. get_or (o ∷ os) n d) next
 
-later : (o : ℕ × List (List ℕ)) (os : Others) → Adjacent (o ∷ os) → Adjacent os
+later : (o : ℕ × List Text) (os : Others) → Adjacent (o ∷ os) → Adjacent os
 later o os h k d l = subst (λ x. x.0 < (get_or os (k + 1) d).0) (next_of o os k d) (subst
     (λ x. (get_or (o ∷ os) (k + 1) d).0 < x.0) (next_of o os (k + 1) d) (h (k + 1) d (omega (arith, l))))
 

@@ -10,13 +10,13 @@ use Rattle.std.proofs.lemmas.List.{map-append}
 use Rattle.std.proofs.lemmas.List.Elements.{All-cons, All-nil}
 use Rattle.std.proofs.lemmas.Str.{IsUtf8-from_ascii}
 use Rattle.std.proofs.lemmas.Str.Ascii.{IsAscii-from_all}
-use Rattle.iloc_spec_grammar.specs.Syntax.{Subtag, is_word, lower, kept}
+use Rattle.iloc_spec_grammar.specs.Syntax.{Text, Subtag, is_word, lower, kept}
 use Rattle.iloc_spec_grammar.specs.Meaning as faults
 use Rattle.iloc_spec_grammar.specs.Reading.{take_first, skip_first, passing, past}
 use Rattle.iloc_spec_parts.specs.Fronts.{has_other_length, other_front, OtherRead, OtherFault, no_word}
 
 -- a piece of the front was taken, or none
-pub took : (test : List ℕ → Bool) (ps : List (List ℕ)) (p : List ℕ) → Some p ≡ take_first test ps →
+pub took : (test : Text → Bool) (ps : List Text) (p : Text) → Some p ≡ take_first test ps →
     (test p ≡ true) × (ps ≡ p ∷ skip_first test ps)
 took test [] p e = cc
 took test (q ∷ ps) p e = by (test q) refl e
@@ -26,25 +26,25 @@ took test (q ∷ ps) p e = by (test q) refl e
     by true h e = let same : p ≡ q = cc in (ap test same ∙ h, rw h (λ i. sym same i ∷ ps))
     by false h e = cc
 
-pub took_none : (test : List ℕ → Bool) (ps : List (List ℕ)) → None ≡ take_first test ps →
+pub took_none : (test : Text → Bool) (ps : List Text) → None ≡ take_first test ps →
     (passing test ps ≡ []) × (past test ps ≡ ps) × (skip_first test ps ≡ ps)
 took_none test [] e = (refl, refl, refl)
 took_none test (q ∷ ps) e = by (test q) refl e
   where
-    by : (b : Bool) → test q ≡ b → ◌≡◌ {A = Option (List ℕ)} None (cond b (Some q) None) →
+    by : (b : Bool) → test q ≡ b → ◌≡◌ {A = Option Text} None (cond b (Some q) None) →
         (passing test (q ∷ ps) ≡ []) × (past test (q ∷ ps) ≡ q ∷ ps) × (skip_first test (q ∷ ps) ≡ q ∷ ps)
     by true h e = cc
     by false h e = (rw h refl, rw h refl, rw h refl)
 
 -- of the pieces before, those up to now are taken, with these words
-pub record TakingPieces (before now ws : List (List ℕ)) : Type 0 where
-  pub taken : List (List ℕ)
+pub record TakingPieces (before now ws : List Text) : Type 0 where
+  pub taken : List Text
   pub front : other_front before ≡ taken ++ other_front now
   pub rest : past has_other_length before ≡ past has_other_length now
   pub lengths : AllByRecursion (λ p. has_other_length p ≡ true) taken
   pub means : ws ≡ kept taken
 
-pub takes_nothing : (ps : List (List ℕ)) → TakingPieces ps ps []
+pub takes_nothing : (ps : List Text) → TakingPieces ps ps []
 takes_nothing ps = record { taken = []; front = refl; rest = refl; lengths = tt; means = refl }
 
 pub all_last : {X : Type 0} (P : X → Type 0) (xs : List X) (x : X) → AllByRecursion P xs → P x →
@@ -52,7 +52,7 @@ pub all_last : {X : Type 0} (P : X → Type 0) (xs : List X) (x : X) → AllByRe
 all_last P [] x h p = (p, tt)
 all_last P (y ∷ xs) x h p = (h.0, all_last P xs x h.1 p)
 
-filter-append : (test : List ℕ → Bool) (xs ys : List (List ℕ)) →
+filter-append : (test : Text → Bool) (xs ys : List Text) →
     filter test (xs ++ ys) ≡ filter test xs ++ filter test ys
 filter-append test [] ys = refl
 filter-append test (x ∷ xs) ys = elim (test x)
@@ -60,22 +60,22 @@ filter-append test (x ∷ xs) ys = elim (test x)
     ≡ cond b (x ∷ filter test xs) (filter test xs) ++ filter test ys)
     [ true ↦ ap (λ l. x ∷ l) (filter-append test xs ys) | false ↦ filter-append test xs ys ]
 
-kept-append : (xs ys : List (List ℕ)) → kept (xs ++ ys) ≡ kept xs ++ kept ys
+kept-append : (xs ys : List Text) → kept (xs ++ ys) ≡ kept xs ++ kept ys
 kept-append xs ys = ap (map lower) (filter-append (is_word Subtag) xs ys)
     ∙ map-append lower (filter (is_word Subtag) xs) (filter (is_word Subtag) ys)
 
-kept-last : (xs : List (List ℕ)) (p : List ℕ) →
+kept-last : (xs : List Text) (p : Text) →
     kept (xs ++ p ∷ []) ≡ (if is_word Subtag p then kept xs ++ lower p ∷ [] else kept xs)
 kept-last xs p = kept-append xs (p ∷ [])
     ∙ elim (is_word Subtag p)
     as (λ b. kept xs ++ map lower (cond b (p ∷ []) []) ≡ cond b (kept xs ++ lower p ∷ []) (kept xs))
     [ true ↦ refl | false ↦ append-nil (kept xs) ]
 
-front_first : (p : List ℕ) (ps : List (List ℕ)) → has_other_length p ≡ true →
+front_first : (p : Text) (ps : List Text) → has_other_length p ≡ true →
     (other_front (p ∷ ps) ≡ p ∷ other_front ps) × (past has_other_length (p ∷ ps) ≡ past has_other_length ps)
 front_first p ps h = (rw h refl, rw h refl)
 
-pub takes_piece : (before now ws : List (List ℕ)) (p : List ℕ) (more vs : List (List ℕ)) →
+pub takes_piece : (before now ws : List Text) (p : Text) (more vs : List Text) →
     TakingPieces before now ws → Some p ≡ take_first has_other_length now →
     more ≡ skip_first has_other_length now → vs ≡ (if is_word Subtag p then ws ++ lower p ∷ [] else ws) →
     TakingPieces before more vs
@@ -93,11 +93,11 @@ takes_piece before now ws p more vs h e s v =
           v ∙ ap (λ l. if is_word Subtag p then l ++ lower p ∷ [] else l) h.means ∙ sym (kept-last h.taken p);
     }
 
-kept-first : (p : List ℕ) (ps : List (List ℕ)) → is_word Subtag p ≡ true → kept (p ∷ ps) ≡ lower p ∷ kept ps
+kept-first : (p : Text) (ps : List Text) → is_word Subtag p ≡ true → kept (p ∷ ps) ≡ lower p ∷ kept ps
 kept-first p ps h = rw h refl
 
 -- a fifth word
-pub wants_memory : (before now ws : List (List ℕ)) (p : List ℕ) (more : List (List ℕ)) →
+pub wants_memory : (before now ws : List Text) (p : Text) (more : List Text) →
     TakingPieces before now ws → Some p ≡ take_first has_other_length now →
     more ≡ skip_first has_other_length now → is_word Subtag p ≡ true → (length ws < 4 → ⊥) →
     4 < length (kept (other_front before))
@@ -116,7 +116,7 @@ wants_memory before now ws p more h e s w n =
     omega (arith, many, same, n)
 
 -- at the end of the front
-whole : (before now ws : List (List ℕ)) → (h : TakingPieces before now ws) →
+whole : (before now ws : List Text) → (h : TakingPieces before now ws) →
     None ≡ take_first has_other_length now →
     (other_front before ≡ h.taken) × (past has_other_length before ≡ now)
 whole before now ws h e = let t = took_none has_other_length now e in
@@ -125,21 +125,21 @@ whole before now ws h e = let t = took_none has_other_length now e in
 some : (n : ℕ) → (n ≡ 0 → ⊥) → 0 < n
 some n h = omega (arith, h)
 
-pub takes_all : (before now ws : List (List ℕ)) → TakingPieces before now ws →
+pub takes_all : (before now ws : List Text) → TakingPieces before now ws →
     None ≡ take_first has_other_length now → (length ws ≡ 0 → ⊥) → OtherRead before ws now
 takes_all before now ws h e n =
     let w = whole before now ws h e in
     record {
       follows = record {
         lengths = subst (AllByRecursion (λ p. has_other_length p ≡ true)) (sym w.0) h.lengths;
-        nonempty = subst (λ (l : List (List ℕ)). 0 < length (kept l)) (sym w.0)
+        nonempty = subst (λ (l : List Text). 0 < length (kept l)) (sym w.0)
             (some (length (kept h.taken)) (λ z. n (ap length h.means ∙ z)));
       };
       means = h.means ∙ ap kept (sym w.0);
       left = sym w.1;
     }
 
-pub takes_none : (before now ws : List (List ℕ)) → TakingPieces before now ws →
+pub takes_none : (before now ws : List Text) → TakingPieces before now ws →
     None ≡ take_first has_other_length now → length ws ≡ 0 → OtherFault before faults.InvalidExtension
 takes_none before now ws h e n = no_word (λ i.
     let w = whole before now ws h e in

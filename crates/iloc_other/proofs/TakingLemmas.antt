@@ -4,31 +4,31 @@ use Rattle.std.proofs.Common.{◌≡◌, ◌↔◌, ℕ, suc, ◌+◌, ◌<◌, 
 use Rattle.std.proofs.Common.{sym, ap, ◌∙◌, subst, arith, append_assoc, append-nil, true≢false}
 use Rattle.std.specs.List.{AllByRecursion}
 use Rattle.std.proofs.lemmas.List.{length-map, length_push}
-use Rattle.iloc_spec_grammar.specs.Syntax.{PrivateSubtag, is_word, IsWord, lower}
+use Rattle.iloc_spec_grammar.specs.Syntax.{Text, PrivateSubtag, is_word, IsWord, lower}
 use Rattle.iloc_spec_grammar.specs.Meaning as faults
 use Rattle.iloc_spec_parts.specs.Fronts.{PrivateRead, PrivateFault, not_private}
 
-abbrev AllWords : List (List ℕ) → Type 0
+abbrev AllWords : List Text → Type 0
 AllWords ps = AllByRecursion (IsWord PrivateSubtag) ps
 
 -- the pieces before are words just where those that are left are, and mean these words and what is left
-pub record TakingWords (before now ws : List (List ℕ)) : Type 0 where
+pub record TakingWords (before now ws : List Text) : Type 0 where
   pub words : AllWords before ↔ AllWords now
   pub means : ws ++ map lower now ≡ map lower before
   pub front : length ws + length (passing (is_word PrivateSubtag) now)
       ≡ length (passing (is_word PrivateSubtag) before)
 
-pub takes_nothing : (ps : List (List ℕ)) → TakingWords ps ps []
+pub takes_nothing : (ps : List Text) → TakingWords ps ps []
 takes_nothing ps = record { words = (λ h. h, λ h. h); means = refl; front = omega arith }
 
-module _ (before now ws : List (List ℕ)) (t : TakingWords before now ws) where
-  module _ (p : List ℕ) (more : List (List ℕ)) (e : now ≡ p ∷ more) where
+module _ (before now ws : List Text) (t : TakingWords before now ws) where
+  module _ (p : Text) (more : List Text) (e : now ≡ p ∷ more) where
     word_first : IsWord PrivateSubtag p →
         length (passing (is_word PrivateSubtag) now) ≡ suc (length (passing (is_word PrivateSubtag) more))
     word_first w = ap (λ l. length (passing (is_word PrivateSubtag) l)) e
         ∙ ap (λ b. length (cond b (p ∷ passing (is_word PrivateSubtag) more) [])) w
 
-    pub takes_word : (vs : List (List ℕ)) → IsWord PrivateSubtag p → vs ≡ ws ++ lower p ∷ [] →
+    pub takes_word : (vs : List Text) → IsWord PrivateSubtag p → vs ≡ ws ++ lower p ∷ [] →
         TakingWords before more vs
     takes_word vs w v = record {
       words = (λ h. (subst AllWords e (t.words.0 h)).1, λ h. t.words.1 (subst AllWords (sym e) (w, h)));
@@ -51,7 +51,7 @@ module _ (before now ws : List (List ℕ)) (t : TakingWords before now ws) where
     all_taken : ws ≡ map lower before
     all_taken = sym (append-nil ws) ∙ ap (λ l. ws ++ map lower l) (sym e) ∙ t.means
 
-    some : (ps : List (List ℕ)) → (ps ≡ [] → ⊥) → 0 < length ps
+    some : (ps : List Text) → (ps ≡ [] → ⊥) → 0 < length ps
     some [] n = absurd (n refl)
     some (p ∷ ps) n = omega arith
 

@@ -2,7 +2,7 @@
 use Rattle.std.proofs.Common.{◌≡◌, ◌≢◌, ℕ, true, false, List, refl, sym, ap, ◌∙◌, subst, arith, Some, None}
 use Rattle.std.proofs.Common.{Result, Ok, Err}
 use Rattle.std.proofs.lemmas.Bool.Decides.{nat_tests}
-use Rattle.iloc_spec_grammar.specs.Syntax.{pieces, is_other_singleton}
+use Rattle.iloc_spec_grammar.specs.Syntax.{code_x, Text, pieces, is_other_singleton}
 use Rattle.iloc_spec_grammar.specs.Meaning as faults
 use Rattle.iloc_spec_grammar.specs.Reading.{rest_of}
 use Rattle.iloc_spec_parts.specs.Fronts.{OtherRead, OtherFault, PrivateRead, PrivateFault}
@@ -20,13 +20,13 @@ use Rattle.iloc_other.proofs.SingletonLemmas.{begins, part_reads, part_fault, pa
 pub another_letter : (c d : ℕ) → d ≢ c → is_letter c d ≡ false
 another_letter c d h = grind (arith, nat_tests)
 
-module _ (t : List ℕ) where
+module _ (t : Text) where
   pub private_none : None ≡ singleton_at (pieces t) → PrivateTextFault t faults.InvalidExtension
-  private_none e = part_none (is_letter 120) (pieces t) PrivateFault e
+  private_none e = part_none (is_letter code_x) (pieces t) PrivateFault e
 
-  pub private_other : (c : ℕ) → Some c ≡ singleton_at (pieces t) → c ≢ 120 →
+  pub private_other : (c : ℕ) → Some c ≡ singleton_at (pieces t) → c ≢ code_x →
       PrivateTextFault t faults.InvalidExtension
-  private_other c e n = part_other (is_letter 120) (pieces t) PrivateFault c e (another_letter 120 c n)
+  private_other c e n = part_other (is_letter code_x) (pieces t) PrivateFault c e (another_letter code_x c n)
 
   pub other_none : None ≡ singleton_at (pieces t) → OtherTextFault t faults.InvalidExtension
   other_none e = part_none is_other_singleton (pieces t) OtherFault e
@@ -35,30 +35,31 @@ module _ (t : List ℕ) where
       OtherTextFault t faults.InvalidExtension
   other_other c e n = part_other is_other_singleton (pieces t) OtherFault c e n
 
-  module _ (c : ℕ) (found : Some c ≡ singleton_at (pieces t)) (more rest : List (List ℕ))
+  module _ (c : ℕ) (found : Some c ≡ singleton_at (pieces t)) (more rest : List Text)
       (after : more ≡ rest_of (pieces t)) where
-    pub private_reads : c ≡ 120 → (r : Result (List (List ℕ)) ParseError) → PrivateReads more rest r →
+    pub private_reads : c ≡ code_x → (r : Result (List Text) ParseError) → PrivateReads more rest r →
         PrivateTextReads t r
     private_reads x (Ok ws) h = (
       rest,
-      part_reads (is_letter 120) (pieces t) PrivateRead 120 ws rest (ap (λ d. Some d) (sym x) ∙ found) refl
+      part_reads (is_letter code_x) (pieces t) PrivateRead code_x ws rest (ap (λ d. Some d) (sym x) ∙ found)
+          refl
           (subst (λ l. PrivateRead l ws rest) after h),
     )
     private_reads x (Err InvalidExtension) h =
-        part_fault (is_letter 120) (pieces t) PrivateFault 120 faults.InvalidExtension
+        part_fault (is_letter code_x) (pieces t) PrivateFault code_x faults.InvalidExtension
         (ap (λ d. Some d) (sym x) ∙ found) refl (subst (λ l. PrivateFault l faults.InvalidExtension) after h)
     private_reads x (Err OutOfMemory) h = tt
     private_reads x (Err InvalidLanguage) h =
-        part_fault (is_letter 120) (pieces t) PrivateFault 120 faults.InvalidLanguage
+        part_fault (is_letter code_x) (pieces t) PrivateFault code_x faults.InvalidLanguage
         (ap (λ d. Some d) (sym x) ∙ found) refl (subst (λ l. PrivateFault l faults.InvalidLanguage) after h)
     private_reads x (Err InvalidSubtag) h =
-        part_fault (is_letter 120) (pieces t) PrivateFault 120 faults.InvalidSubtag
+        part_fault (is_letter code_x) (pieces t) PrivateFault code_x faults.InvalidSubtag
         (ap (λ d. Some d) (sym x) ∙ found) refl (subst (λ l. PrivateFault l faults.InvalidSubtag) after h)
-    private_reads x (Err DuplicatedExtension) h = part_fault (is_letter 120) (pieces t) PrivateFault 120
+    private_reads x (Err DuplicatedExtension) h = part_fault (is_letter code_x) (pieces t) PrivateFault code_x
         faults.DuplicatedExtension (ap (λ d. Some d) (sym x) ∙ found) refl
         (subst (λ l. PrivateFault l faults.DuplicatedExtension) after h)
 
-    pub private_memory : c ≡ 120 → (r : Result (List (List ℕ)) ParseError) →
+    pub private_memory : c ≡ code_x → (r : Result (List Text) ParseError) →
         RunsOutOnlyIf (PrivateWantsMemory more) r → RunsOutOnlyIf (PrivateTextWants t) r
     private_memory x (Ok o) h = tt
     private_memory x (Err InvalidLanguage) h = tt
@@ -66,11 +67,11 @@ module _ (t : List ℕ) where
     private_memory x (Err InvalidExtension) h = tt
     private_memory x (Err DuplicatedExtension) h = tt
     private_memory x (Err OutOfMemory) h = (
-      begins (is_letter 120) (pieces t) 120 (ap (λ d. Some d) (sym x) ∙ found),
+      begins (is_letter code_x) (pieces t) code_x (ap (λ d. Some d) (sym x) ∙ found),
       subst PrivateWantsMemory after h,
     )
 
-    pub other_reads : is_other_singleton c ≡ true → (r : Result (ℕ × List (List ℕ)) ParseError) →
+    pub other_reads : is_other_singleton c ≡ true → (r : Result (ℕ × List Text) ParseError) →
         OtherReads c more rest r → OtherTextReads t r
     other_reads x (Ok o) h = (
       rest,
@@ -88,7 +89,7 @@ module _ (t : List ℕ) where
     other_reads x (Err DuplicatedExtension) h = part_fault is_other_singleton (pieces t) OtherFault c
         faults.DuplicatedExtension found x (subst (λ l. OtherFault l faults.DuplicatedExtension) after h)
 
-    pub other_memory : is_other_singleton c ≡ true → (r : Result (ℕ × List (List ℕ)) ParseError) →
+    pub other_memory : is_other_singleton c ≡ true → (r : Result (ℕ × List Text) ParseError) →
         RunsOutOnlyIf (OtherWantsMemory more) r → RunsOutOnlyIf (OtherTextWants t) r
     other_memory x (Ok o) h = tt
     other_memory x (Err InvalidLanguage) h = tt

@@ -2,7 +2,7 @@
 use Rattle.std.proofs.Common.{◌≡◌, ◌≢◌, inl, inr, ℕ, false, List, [], ◌∷◌, refl, sym, ap, ◌∙◌, subst, Option}
 use Rattle.std.proofs.Common.{Some, None, option_map, Result, Ok, Err, OnOk, true≢false}
 use Rattle.std.specs.Prelude.{is_some}
-use Rattle.iloc_spec_grammar.specs.Syntax.{pieces, languages, Identifier, blocks, head}
+use Rattle.iloc_spec_grammar.specs.Syntax.{Text, pieces, languages, Identifier, blocks, head}
 use Rattle.iloc_spec_grammar.specs.Meaning as meaning
 use Rattle.iloc_spec_grammar.specs.Meaning.{IdentifierMeans, Means, BlocksMean, in_head, no_extensions}
 use Rattle.iloc_spec_grammar.specs.Meaning.{without_extensions}
@@ -24,11 +24,11 @@ use Rattle.iloc_data_parts.specs.PartsReading.{PartsTextReads}
 use Rattle.iloc_told.specs.declared.Mode.TheVariants.{Langid, Locale, Data}
 use Rattle.iloc_lines.specs.Answers.{line_answer, refusal_text}
 
-pub answer_accepted : (t : List ℕ) (i : Identifier) → IdentifierMeans languages (pieces t) i →
+pub answer_accepted : (t : Text) (i : Identifier) → IdentifierMeans languages (pieces t) i →
     line_answer languages Langid t ≡ identifier_text i
 answer_accepted t i m = sym (only_answer languages_table Langid t (identifier_text i) (inl (i, m, refl)))
 
-pub answer_refused : (t : List ℕ) (e : ParseError) → IdentifierReads (pieces t) (Err e) → e ≢ OutOfMemory →
+pub answer_refused : (t : Text) (e : ParseError) → IdentifierReads (pieces t) (Err e) → e ≢ OutOfMemory →
     line_answer languages Langid t ≡ refusal_text e
 answer_refused t InvalidLanguage r n = sym (only_answer languages_table Langid t
     (refusal_text InvalidLanguage) (inr (meaning.InvalidLanguage, r, refl)))
@@ -40,11 +40,11 @@ answer_refused t DuplicatedExtension r n = sym (only_answer languages_table Lang
     (refusal_text DuplicatedExtension) (inr (meaning.DuplicatedExtension, r, refl)))
 answer_refused t OutOfMemory r n = absurd (n refl)
 
-pub locale_accepted : (t : List ℕ) (M : meaning.Locale) → Means languages t M →
+pub locale_accepted : (t : Text) (M : meaning.Locale) → Means languages t M →
     line_answer languages Locale t ≡ text M
 locale_accepted t M m = sym (only_answer languages_table Locale t (text M) (inl (M, m, refl)))
 
-pub locale_refused : (t : List ℕ) (e : ParseError) → LocaleTextAnswers t (Err e) → e ≢ OutOfMemory →
+pub locale_refused : (t : Text) (e : ParseError) → LocaleTextAnswers t (Err e) → e ≢ OutOfMemory →
     line_answer languages Locale t ≡ refusal_text e
 locale_refused t InvalidLanguage r n = sym (only_answer languages_table Locale t
     (refusal_text InvalidLanguage) (inr (meaning.InvalidLanguage, r, refl)))
@@ -58,7 +58,7 @@ locale_refused t OutOfMemory r n = absurd (n refl)
 
 -- where no piece is left after the head, and where the head is bad
 
-pub nothing_left : {X : Type 0} (f : X → List ℕ) (ps : List (List ℕ)) (o : Option X) →
+pub nothing_left : {X : Type 0} (f : X → Text) (ps : List Text) (o : Option X) →
     option_map f o ≡ first_item ps → is_some o ≡ false → ps ≡ []
 nothing_left f [] o e n = refl
 nothing_left f (p ∷ ps) None e n = absurd (true≢false (sym (ap is_some e)))
@@ -84,14 +84,14 @@ none_mean = (
   refl,
 )
 
-pub head_alone : (t : List ℕ) (id : LanguageIdentifier) (ps : List (List ℕ)) →
+pub head_alone : (t : Text) (id : LanguageIdentifier) (ps : List Text) →
     IdentifierReads (head (pieces t)) (Ok id) → ps ≡ after_head (pieces t) → ps ≡ [] →
     line_answer languages Locale t ≡ identifier_text (value_of id)
 head_alone t id ps h r e = locale_accepted t (without_extensions (value_of id)) (head_accepts t id
     no_extensions h (subst (λ rest. BlocksMean languages (blocks rest) no_extensions) (sym e ∙ r) none_mean))
     ∙ text_alone (value_of id) no_extensions refl
 
-pub head_bad : (t : List ℕ) (e : ParseError) → IdentifierReads (head (pieces t)) (Err e) → e ≢ OutOfMemory →
+pub head_bad : (t : Text) (e : ParseError) → IdentifierReads (head (pieces t)) (Err e) → e ≢ OutOfMemory →
     line_answer languages Locale t ≡ refusal_text e
 head_bad t InvalidLanguage h n = locale_refused t InvalidLanguage (in_head h) n
 head_bad t InvalidSubtag h n = locale_refused t InvalidSubtag (in_head h) n
@@ -99,11 +99,11 @@ head_bad t InvalidExtension h n = locale_refused t InvalidExtension (in_head h) 
 head_bad t DuplicatedExtension h n = locale_refused t DuplicatedExtension (in_head h) n
 head_bad t OutOfMemory h n = absurd (n refl)
 
-pub data_accepted : (t : List ℕ) (d : DataLocale) → DataMeans languages t d →
+pub data_accepted : (t : Text) (d : DataLocale) → DataMeans languages t d →
     line_answer languages Data t ≡ data_text d
 data_accepted t d m = sym (only_answer languages_table Data t (data_text d) (inl (d, m, refl)))
 
-pub data_refused : (t : List ℕ) (e : ParseError) → PartsTextReads t (Err e) →
+pub data_refused : (t : Text) (e : ParseError) → PartsTextReads t (Err e) →
     line_answer languages Data t ≡ refusal_text e
 data_refused t InvalidLanguage r = sym (only_answer languages_table Data t (refusal_text InvalidLanguage)
     (inr (meaning.InvalidLanguage, r, refl)))

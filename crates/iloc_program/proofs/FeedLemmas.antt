@@ -10,8 +10,9 @@ use Rattle.iloc_program.specs.Numbered.{AddsText, AreEntries}
 use Rattle.iloc_program.specs.Feeding.{Feeds, Ends}
 use Rattle.iloc_program.proofs.LineEntries.{AreEntries-append, AreEntries-one, ended-append}
 use Rattle.iloc_program.proofs.LineEntries.{AllByRecursion-append}
+use Rattle.iloc_spec_grammar.specs.Syntax.{Text}
 
-module _ (IsEntry : ℕ → List ℕ → List ℕ → Type 0) (n : ℕ) (pending : List ℕ) (old : List ℕ) where
+module _ (IsEntry : ℕ → Text → Text → Type 0) (n : ℕ) (pending : Text) (old : Text) where
   pub Feeds-nothing : IsOneLine pending → Feeds IsEntry n pending [] old old pending n
   Feeds-nothing one = record {
     lines = [];
@@ -25,7 +26,7 @@ module _ (IsEntry : ℕ → List ℕ → List ℕ → Type 0) (n : ℕ) (pending
   }
 
   -- a line that ends
-  pub Feeds-line : (taken line mid new pending' pending2 : List ℕ) (next next2 : ℕ) →
+  pub Feeds-line : (taken line mid new pending' pending2 : Text) (next next2 : ℕ) →
       Feeds IsEntry n pending taken old mid pending' next
       → IsOneLine line → AddsText (IsEntry next (pending' ++ line)) mid new → next2 ≡ next + 1 → pending2 ≡ []
       → Feeds IsEntry n pending (taken ++ (line ++ 10 ∷ [])) old new pending2 next2
@@ -41,20 +42,20 @@ module _ (IsEntry : ℕ → List ℕ → List ℕ → Type 0) (n : ℕ) (pending
             (All-append (λ c. c ≢ 10) pending' line f.one_line one, tt);
         one_line = subst IsOneLine (sym none) (All-nil (λ c. c ≢ 10));
         cut = sym (append_assoc pending taken (line ++ 10 ∷ []))
-            ∙ ap (λ (t : List ℕ). t ++ (line ++ 10 ∷ [])) f.cut
+            ∙ ap (λ (t : Text). t ++ (line ++ 10 ∷ [])) f.cut
             ∙ regrouped (ended f.lines) pending' line
-            ∙ sym (ap (λ (t : List ℕ). ended (f.lines ++ whole ∷ []) ++ t) none
+            ∙ sym (ap (λ (t : Text). ended (f.lines ++ whole ∷ []) ++ t) none
             ∙ append-nil (ended (f.lines ++ whole ∷ [])) ∙ ended-append f.lines (whole ∷ []));
         are_entries = AreEntries-append IsEntry n f.lines (whole ∷ []) f.added entry f.are_entries here;
-        adds = added ∙ ap (λ (t : List ℕ). t ++ entry) f.adds ∙ append_assoc old f.added entry;
+        adds = added ∙ ap (λ (t : Text). t ++ entry) f.adds ∙ append_assoc old f.added entry;
         counts = omega (arith, e, f.counts, length-append f.lines (whole ∷ []));
       }
     where
-      regrouped : (a b c : List ℕ) → (a ++ b) ++ (c ++ 10 ∷ []) ≡ a ++ (((b ++ c) ++ 10 ∷ []) ++ [])
+      regrouped : (a b c : Text) → (a ++ b) ++ (c ++ 10 ∷ []) ≡ a ++ (((b ++ c) ++ 10 ∷ []) ++ [])
       regrouped a b c = rw (append-nil ((b ++ c) ++ 10 ∷ [])) (simp append_assoc)
 
   -- what follows the last line that ends
-  pub Feeds-rest : (taken rest new pending' pending2 : List ℕ) (next : ℕ) →
+  pub Feeds-rest : (taken rest new pending' pending2 : Text) (next : ℕ) →
       Feeds IsEntry n pending taken old new pending' next
       → IsOneLine rest → pending2 ≡ pending' ++ rest →
       Feeds IsEntry n pending (taken ++ rest) old new pending2 next
@@ -63,8 +64,8 @@ module _ (IsEntry : ℕ → List ℕ → List ℕ → Type 0) (n : ℕ) (pending
     added = f.added;
     are_lines = f.are_lines;
     one_line = subst IsOneLine (sym e) (All-append (λ c. c ≢ 10) pending' rest f.one_line one);
-    cut = sym (append_assoc pending taken rest) ∙ ap (λ (t : List ℕ). t ++ rest) f.cut
-        ∙ append_assoc (ended f.lines) pending' rest ∙ ap (λ (t : List ℕ). ended f.lines ++ t) (sym e);
+    cut = sym (append_assoc pending taken rest) ∙ ap (λ (t : Text). t ++ rest) f.cut
+        ∙ append_assoc (ended f.lines) pending' rest ∙ ap (λ (t : Text). ended f.lines ++ t) (sym e);
     are_entries = f.are_entries;
     adds = f.adds;
     counts = f.counts;
@@ -72,30 +73,30 @@ module _ (IsEntry : ℕ → List ℕ → List ℕ → Type 0) (n : ℕ) (pending
 
 -- the last line, if it is empty or not
 
-pub Ends-nothing : (IsEntry : ℕ → List ℕ → List ℕ → Type 0) (n : ℕ) (pending old : List ℕ) → pending ≡ [] →
+pub Ends-nothing : (IsEntry : ℕ → Text → Text → Type 0) (n : ℕ) (pending old : Text) → pending ≡ [] →
     Ends IsEntry n pending old old n
 Ends-nothing IsEntry n pending old none =
-    subst (λ (t : List ℕ). Ends IsEntry n t old old n) (sym none) (record {
+    subst (λ (t : Text). Ends IsEntry n t old old n) (sym none) (record {
       added = [];
       is_listing = refl;
       adds = sym (append-nil old);
       counts = omega arith;
     })
 
-pub Ends-line : (IsEntry : ℕ → List ℕ → List ℕ → Type 0) (n : ℕ) (pending old new : List ℕ) (next : ℕ) →
+pub Ends-line : (IsEntry : ℕ → Text → Text → Type 0) (n : ℕ) (pending old new : Text) (next : ℕ) →
     IsOneLine pending → 0 < length pending
     → AddsText (IsEntry n (pending ++ [])) old new → next ≡ n + 1 → Ends IsEntry n pending old new next
 Ends-line IsEntry n [] old new next one some a e = absurd (omega (arith, some))
 Ends-line IsEntry n (c ∷ pending) old new next one some (entry, is, added) e =
     let line = c ∷ pending in
     let cut : lines_of line ≡ line ∷ [] = lines_of-last c pending one in
-    let whole : IsEntry n line entry = subst (λ (t : List ℕ). IsEntry n t entry) (append-nil line) is in
+    let whole : IsEntry n line entry = subst (λ (t : Text). IsEntry n t entry) (append-nil line) is in
     record {
       added = entry;
-      is_listing = subst (λ (ls : List (List ℕ)). AreEntries IsEntry n ls entry) (sym cut)
+      is_listing = subst (λ (ls : List Text). AreEntries IsEntry n ls entry) (sym cut)
           (AreEntries-one IsEntry n line entry whole);
       adds = added;
-      counts = e ∙ ap (λ (ls : List (List ℕ)). n + length ls) (sym cut);
+      counts = e ∙ ap (λ (ls : List Text). n + length ls) (sym cut);
     }
 
 -- two facts of a result

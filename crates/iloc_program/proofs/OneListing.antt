@@ -1,7 +1,7 @@
 -- A line has one entry, and an input one listing. Without options it is the output.
 use Rattle.std.proofs.Common.{◌≡◌, ℕ, ◌+◌, List, [], ◌∷◌, ◌++◌, inl, inr, refl, sym, ap, ap₂, ◌∙◌, subst}
 use Rattle.std.specs.List.{flat_map}
-use Rattle.iloc_spec_grammar.specs.Syntax.{languages}
+use Rattle.iloc_spec_grammar.specs.Syntax.{Text, languages}
 use Rattle.iloc_spec_grammar.specs.Meaning as faults
 use Rattle.iloc_spec_grammar.proofs.IdentifierTexts.{identifier_apart, one_identifier_fault}
 use Rattle.iloc_spec_grammar.proofs.RawLaws.{languages_table}
@@ -29,18 +29,18 @@ use Rattle.iloc_program.specs.Listing.{IsEntry, accepted_entry, refused_entry, n
 
 -- without options
 
-plain_entry : (mode : Mode) (n : ℕ) (line t : List ℕ) → IsEntry mode nothing_asked n line t →
+plain_entry : (mode : Mode) (n : ℕ) (line t : Text) → IsEntry mode nothing_asked n line t →
     t ≡ reply languages mode line
 plain_entry mode n line t (inl (normal, is, e)) = e ∙ normal_reply mode line normal is
 plain_entry mode n line t (inr (f, is, e)) = e ∙ refused_reply mode line f.refusal is.refusal
 
-plain_entries : (mode : Mode) (n : ℕ) (lines : List (List ℕ)) (t : List ℕ) →
+plain_entries : (mode : Mode) (n : ℕ) (lines : List Text) (t : Text) →
     AreEntries (IsEntry mode nothing_asked) n lines t → t ≡ flat_map (reply languages mode) lines
 plain_entries mode n [] t e = e
 plain_entries mode n (line ∷ lines) t (entry, rest, is, others, e) =
     e ∙ ap₂ ◌++◌ (plain_entry mode n line entry is) (plain_entries mode (n + 1) lines rest others)
 
-pub plain_listing : (mode : Mode) (n : ℕ) (input t : List ℕ) →
+pub plain_listing : (mode : Mode) (n : ℕ) (input t : Text) →
     IsListing (IsEntry mode nothing_asked) n input t → IsOutput languages mode input t
 plain_listing mode n input t is =
     subst (IsOutput languages mode input) (sym (plain_entries mode n (lines_of input) t is))
@@ -49,7 +49,7 @@ plain_listing mode n input t is =
 -- one entry
 
 -- a refusal names a fault of the text
-fault_of_refusal : (mode : Mode) (t : List ℕ) (e : ParseError) → HasRefusal mode t e →
+fault_of_refusal : (mode : Mode) (t : Text) (e : ParseError) → HasRefusal mode t e →
     (f : faults.Fault) × IsFaulty languages mode t f × (e ≡ error_of f)
 fault_of_refusal mode t InvalidLanguage h = (faults.InvalidLanguage, h, refl)
 fault_of_refusal mode t InvalidSubtag h = (faults.InvalidSubtag, h, refl)
@@ -57,43 +57,43 @@ fault_of_refusal mode t InvalidExtension h = (faults.InvalidExtension, h, refl)
 fault_of_refusal mode t DuplicatedExtension h = (faults.DuplicatedExtension, h, refl)
 fault_of_refusal mode t OutOfMemory h = absurd h
 
-same_fault : (mode : Mode) (t : List ℕ) (f g : faults.Fault) → IsFaulty languages mode t f →
+same_fault : (mode : Mode) (t : Text) (f g : faults.Fault) → IsFaulty languages mode t f →
     IsFaulty languages mode t g → f ≡ g
 same_fault Langid t f g x y = one_identifier_fault _ x y
 same_fault Locale t f g x y = one_fault t x y
 same_fault Data t f g x y = one_data_fault t x y
 
-apart : (mode : Mode) (t normal : List ℕ) (f : faults.Fault) → IsNormalText languages mode t normal →
+apart : (mode : Mode) (t normal : Text) (f : faults.Fault) → IsNormalText languages mode t normal →
     IsFaulty languages mode t f → ⊥
 apart Langid t normal f x y = identifier_apart _ _ _ x.1 y
 apart Locale t normal f x y = accepted_no_fault languages_table t _ _ x.1 y
 apart Data t normal f x y = data_apart languages_table t _ _ x.1 y
 
-one_refusal : (mode : Mode) (t : List ℕ) (d e : ParseError) → HasRefusal mode t d → HasRefusal mode t e →
+one_refusal : (mode : Mode) (t : Text) (d e : ParseError) → HasRefusal mode t d → HasRefusal mode t e →
     d ≡ e
 one_refusal mode t d e x y =
     let f = fault_of_refusal mode t d x in
     let g = fault_of_refusal mode t e y in
     f.2 ∙ ap error_of (same_fault mode t f.0 g.0 f.1 g.1) ∙ sym g.2
 
-one_whole_fault : (mode : Mode) (t : List ℕ) (f g : Fault) → IsFault mode t f → IsFault mode t g → f ≡ g
+one_whole_fault : (mode : Mode) (t : Text) (f g : Fault) → IsFault mode t f → IsFault mode t g → f ≡ g
 one_whole_fault mode t f g x y =
     let why : f.refusal ≡ g.refusal = one_refusal mode t f.refusal g.refusal x.refusal y.refusal in
     let place : (f.start ≡ g.start) × (f.end ≡ g.end) =
     one_place mode t f.start f.end g.start g.end x.place y.place in
     λ i. record { refusal = why i; start = place.0 i; end = place.1 i }
 
-no_both : (mode : Mode) (t normal : List ℕ) (f : Fault) → IsNormalText languages mode t normal →
+no_both : (mode : Mode) (t normal : Text) (f : Fault) → IsNormalText languages mode t normal →
     IsFault mode t f → ⊥
 no_both mode t normal f x y =
     let g = fault_of_refusal mode t f.refusal y.refusal in apart mode t normal g.0 x g.1
 
-one_normal : (mode : Mode) (t a b : List ℕ) → IsNormalText languages mode t a →
+one_normal : (mode : Mode) (t a b : Text) → IsNormalText languages mode t a →
     IsNormalText languages mode t b → a ≡ b
 one_normal mode t a b x y =
     only_answer languages_table mode t a (inl x) ∙ sym (only_answer languages_table mode t b (inl y))
 
-one_entry : (mode : Mode) (l : Listing) (n : ℕ) (line s t : List ℕ) → IsEntry mode l n line s →
+one_entry : (mode : Mode) (l : Listing) (n : ℕ) (line s t : Text) → IsEntry mode l n line s →
     IsEntry mode l n line t → s ≡ t
 one_entry mode l n line s t (inl (a, x, d)) (inl (b, y, e)) =
     d ∙ ap (accepted_entry l) (one_normal mode line a b x y) ∙ sym e
@@ -102,7 +102,7 @@ one_entry mode l n line s t (inr (f, x, d)) (inl (b, y, e)) = absurd (no_both mo
 one_entry mode l n line s t (inr (f, x, d)) (inr (g, y, e)) =
     d ∙ ap (refused_entry l n line) (one_whole_fault mode line f g x y) ∙ sym e
 
-entries_once : (mode : Mode) (l : Listing) (n : ℕ) (lines : List (List ℕ)) (s t : List ℕ) →
+entries_once : (mode : Mode) (l : Listing) (n : ℕ) (lines : List Text) (s t : Text) →
     AreEntries (IsEntry mode l) n lines s → AreEntries (IsEntry mode l) n lines t → s ≡ t
 entries_once mode l n [] s t x y = x ∙ sym y
 entries_once mode l n (line ∷ lines) s t (entry, rest, is, others, d) (entry', rest', is', others', e) =
@@ -111,6 +111,6 @@ entries_once mode l n (line ∷ lines) s t (entry, rest, is, others, d) (entry',
     (entries_once mode l (n + 1) lines rest rest' others others')
     ∙ sym e
 
-pub one_listing : (mode : Mode) (l : Listing) (n : ℕ) (input s t : List ℕ) →
+pub one_listing : (mode : Mode) (l : Listing) (n : ℕ) (input s t : Text) →
     IsListing (IsEntry mode l) n input s → IsListing (IsEntry mode l) n input t → s ≡ t
 one_listing mode l n input s t x y = entries_once mode l n (lines_of input) s t x y

@@ -3,9 +3,10 @@ use Rattle.std.proofs.Common.{◌≡◌, ℕ, true, List, [], ◌∷◌, length,
 use Rattle.iloc_spec_grammar.specs.Reading.{rest_of, starts_block}
 use Rattle.iloc_spec_grammar.proofs.Singletons.{two_more}
 use Rattle.iloc_subtags.specs.NextPiece.{byte_at}
+use Rattle.iloc_spec_grammar.specs.Syntax.{Text}
 
 -- the piece stands first, and the others are left
-pub byte_first : (ps rest : List (List ℕ)) (b : ℕ) → Some b ≡ byte_at ps → rest ≡ rest_of ps →
+pub byte_first : (ps rest : List Text) (b : ℕ) → Some b ≡ byte_at ps → rest ≡ rest_of ps →
     ps ≡ (b ∷ []) ∷ rest
 byte_first [] rest b e r = absurd (cc)
 byte_first ([] ∷ ps) rest b e r = absurd (cc)
@@ -14,7 +15,7 @@ byte_first ((c ∷ []) ∷ ps) rest b e r =
 byte_first ((c ∷ d ∷ p) ∷ ps) rest b e r = absurd (cc)
 
 -- if none is there where a part ends, nothing is left
-pub no_byte : (ps : List (List ℕ)) → starts_block ps ≡ true → None ≡ byte_at ps → ps ≡ []
+pub no_byte : (ps : List Text) → starts_block ps ≡ true → None ≡ byte_at ps → ps ≡ []
 no_byte [] s e = refl
 no_byte ([] ∷ ps) s e = absurd (true≢false (sym s))
 no_byte ((c ∷ []) ∷ ps) s e = absurd (cc)

@@ -11,17 +11,17 @@ use Rattle.iloc_tinystr.specs.TinyText.{is_tiny_text}
 use Rattle.iloc_tinystr.proofs.ByBytes.{alike}
 use Rattle.iloc_tinystr.proofs.TinyTextLemmas.{length-le-tiny}
 use Rattle.iloc_subtags.specs.KindLaws.{region_fits, unicode_key_fits, transform_key_fits}
-use Rattle.iloc_spec_grammar.specs.Syntax.{Kind, Language, Script, Region, Variant, Subtag, UnicodeKey}
+use Rattle.iloc_spec_grammar.specs.Syntax.{Text, Kind, Language, Script, Region, Variant, Subtag, UnicodeKey}
 use Rattle.iloc_spec_grammar.specs.Syntax.{TransformKey, Attribute, PrivateSubtag, SubdivisionSuffix}
 use Rattle.iloc_spec_grammar.specs.Syntax.{CurrencyType, is_word, IsWord, normal, lower, upper, title}
 use Rattle.iloc_spec_grammar.specs.Syntax.{greatest, raw}
 use Rattle.iloc_spec_grammar.specs.Values.{IsNormal}
 
-no_longer : (w : List ℕ) (n : ℕ) → is_tiny_text n w ≡ true → n < length w → ⊥
+no_longer : (w : Text) (n : ℕ) → is_tiny_text n w ≡ true → n < length w → ⊥
 no_longer w n tiny long = omega (arith, length-le-tiny n w tiny)
 
 -- a region of two letters has no third byte
-pub third_byte : (w : List ℕ) → IsNormal Region w → eqb (get_or (raw 8 Region w) 2 0) 0 ≡ eqb (length w) 2
+pub third_byte : (w : Text) → IsNormal Region w → eqb (get_or (raw 8 Region w) 2 0) 0 ≡ eqb (length w) 2
 unfolding is_word
 third_byte [] h = let word = h.0 in cc
 third_byte (a ∷ []) h = let word = h.0 in cc
@@ -50,7 +50,7 @@ first_lower b r s h =
     ∙ omega (arith, lower_byte b small h)
 
 -- a script in lower case, by its first byte
-pub script_lower : (w : List ℕ) → IsNormal Script w → bit_or (number w) 32 ≡ number (lower w)
+pub script_lower : (w : Text) → IsNormal Script w → bit_or (number w) 32 ≡ number (lower w)
 unfolding is_word lower upper title
 script_lower [] h = let word = h.0 in cc
 script_lower (a ∷ w) h =
@@ -66,7 +66,7 @@ two_lower a b r ha hb =
     ∙ ap (λ y. to_ascii_lowercase a + 256 * y) (first_lower b r 0 hb ∙ omega (arith, or_zero_r r))
 
 -- a region in lower case, by its first two bytes
-pub region_lower : (w : List ℕ) → IsNormal Region w → bit_or (number w) 8224 ≡ number (lower w)
+pub region_lower : (w : Text) → IsNormal Region w → bit_or (number w) 8224 ≡ number (lower w)
 unfolding is_word lower
 region_lower [] h = let word = h.0 in cc
 region_lower (a ∷ []) h = let word = h.0 in cc
@@ -82,7 +82,7 @@ region_lower (a ∷ b ∷ d ∷ e ∷ w) h =
     absurd (no_longer (a ∷ b ∷ d ∷ e ∷ w) 3 (region_fits (a ∷ b ∷ d ∷ e ∷ w) h.0) (omega arith))
 
 -- a key in lower case, by its two bytes
-pub key_lower : (k : Kind) → greatest 8 k ≡ 2 → (w : List ℕ) → IsWord k w
+pub key_lower : (k : Kind) → greatest 8 k ≡ 2 → (w : Text) → IsWord k w
     → bit_or (number w) 8224 ≡ number (normal k w)
 unfolding is_word lower
 key_lower UnicodeKey e [] word = cc

@@ -1,13 +1,13 @@
 -- A word has a length of its kind.
-use Rattle.std.specs.Prelude.{◌≡◌, ℕ, true, List, length}
+use Rattle.std.specs.Prelude.{◌≡◌, true, length}
 use Rattle.std.proofs.Common.{arith}
 use Rattle.std.proofs.lemmas.Bool.Decides.{nat_tests}
-use Rattle.iloc_spec_grammar.specs.Syntax.{Kind, Language, Script, Region, Variant, Subtag, UnicodeKey}
+use Rattle.iloc_spec_grammar.specs.Syntax.{Text, Kind, Language, Script, Region, Variant, Subtag, UnicodeKey}
 use Rattle.iloc_spec_grammar.specs.Syntax.{TransformKey, Attribute, PrivateSubtag, SubdivisionSuffix}
 use Rattle.iloc_spec_grammar.specs.Syntax.{CurrencyType, is_word, IsWord}
 use Rattle.iloc_subtags.specs.Lengths.{has_length}
 
-pub word_has_length : (k : Kind) (p : List ℕ) → IsWord k p → has_length k (length p) ≡ true
+pub word_has_length : (k : Kind) (p : Text) → IsWord k p → has_length k (length p) ≡ true
 unfolding is_word has_length
 word_has_length (Language T) p h = grind (arith, nat_tests)
 word_has_length Script p h = grind (arith, nat_tests)

@@ -4,7 +4,7 @@ use Rattle.std.proofs.Common.{ap, ◌∙◌, arith, Some, None, true≢false, na
 use Rattle.std.proofs.lemmas.Bool.Decides.{nat_tests}
 use Rattle.std.proofs.lemmas.Bool.{false_from_ne_true}
 use Rattle.std.proofs.lemmas.List.{length-take-le}
-use Rattle.iloc_spec_grammar.specs.Syntax.{pieces, Kind, is_word}
+use Rattle.iloc_spec_grammar.specs.Syntax.{Text, pieces, Kind, is_word}
 use Rattle.iloc_spec_grammar.specs.Reading.{EndsBefore, first_item, take_first}
 use Rattle.iloc_subtags.specs.Lengths.{has_length}
 use Rattle.iloc_subtags.specs.NextPiece.{next_has_length}
@@ -25,7 +25,7 @@ first_left it h = ap (λ b. first_item (cond b (pieces it.text.now) [])) (is_le 
     ∙ ap first_item (it.first h)
 
 -- a piece of another length is no word of the kind
-pub other_length : (k : Kind) (p : List ℕ) (n : ℕ) → length p ≡ n → has_length k n ≡ false
+pub other_length : (k : Kind) (p : Text) (n : ℕ) → length p ≡ n → has_length k n ≡ false
     → is_word k p ≡ false
 other_length k p n e other = by (is_word k p) refl
   where
@@ -62,6 +62,6 @@ next_length k it few = by (nat_le it.len (length it.text.now)) refl
         (λ t. true≢false (sym (is_le it.len (length it.text.now) (it.within (few t))) ∙ e))
 
 -- a next piece of another length is no word of the kind
-pub ends_before : (k : Kind) (ps : List (List ℕ)) → next_has_length k ps ≡ false → EndsBefore (is_word k) ps
+pub ends_before : (k : Kind) (ps : List Text) → next_has_length k ps ≡ false → EndsBefore (is_word k) ps
 ends_before k [] other = tt
 ends_before k (p ∷ ps) other = other_length k p (length p) refl other

@@ -2,7 +2,7 @@
 use Rattle.std.proofs.Common.{◌≡◌, ℕ, ◌<◌, ◌≤◌, Bool, true, false, List, length, refl, ◌∙◌, arith}
 use Rattle.iloc_tinystr.specs.TinyText.{is_tiny_text}
 use Rattle.iloc_tinystr.proofs.TinyTextLemmas.{length-le-tiny}
-use Rattle.iloc_spec_grammar.specs.Syntax.{Kind, Language, Script, Region, Variant, Subtag, UnicodeKey}
+use Rattle.iloc_spec_grammar.specs.Syntax.{Text, Kind, Language, Script, Region, Variant, Subtag, UnicodeKey}
 use Rattle.iloc_spec_grammar.specs.Syntax.{TransformKey, Attribute, PrivateSubtag, SubdivisionSuffix}
 use Rattle.iloc_spec_grammar.specs.Syntax.{CurrencyType, is_word, IsWord, normal, greatest}
 use Rattle.iloc_spec_grammar.proofs.WordsLaws.{is_word-normal}
@@ -25,9 +25,9 @@ pub size-le : (k : Kind) (n : ℕ) → greatest 8 k ≡ n → n ≤ 8
 size-le k n size = omega (arith, greatest-le k, size)
 
 module _ (k : Kind) (n : ℕ) (size : greatest 8 k ≡ n)
-    (fits : (text : List ℕ) → IsWord k text → is_tiny_text n text ≡ true) where
+    (fits : (text : Text) → IsWord k text → is_tiny_text n text ≡ true) where
   -- a longer piece is no word
-  pub no_long_word : (text : List ℕ) → 8 < length text → is_word k text ≡ false
+  pub no_long_word : (text : Text) → 8 < length text → is_word k text ≡ false
   no_long_word text long = by (is_word k text) refl
     where
       by : (b : Bool) → is_word k text ≡ b → is_word k text ≡ false
@@ -35,5 +35,5 @@ module _ (k : Kind) (n : ℕ) (size : greatest 8 k ≡ n)
       by false e = e
 
   -- the normal form of a word is a short text
-  pub normal_fits : (text : List ℕ) → IsWord k text → is_tiny_text n (normal k text) ≡ true
+  pub normal_fits : (text : Text) → IsWord k text → is_tiny_text n (normal k text) ≡ true
   normal_fits text h = fits (normal k text) (is_word-normal k text ∙ h)

@@ -2,7 +2,8 @@
 use Rattle.std.proofs.Common.{◌≡◌, ℕ, ◌<◌, ◌≤◌, List, [], ◌∷◌, ◌++◌, length, map, refl, sym, ap, ◌∙◌, subst}
 use Rattle.std.proofs.Common.{arith, Option, IfSome, option_map, true≢false}
 use Rattle.std.proofs.lemmas.List.{length-map}
-use Rattle.iloc_spec_grammar.specs.Syntax.{Language, IsWord, lower, languages, SpelledIdentifier, Identifier}
+use Rattle.iloc_spec_grammar.specs.Syntax.{Text, Language, IsWord, lower, languages, SpelledIdentifier}
+use Rattle.iloc_spec_grammar.specs.Syntax.{Identifier}
 use Rattle.iloc_spec_grammar.specs.Syntax.{identifier_pieces, fields_pieces}
 use Rattle.iloc_spec_grammar.specs.Syntax as written
 use Rattle.iloc_spec_grammar.specs.Meaning.{normal_identifier, front, first_piece}
@@ -18,7 +19,7 @@ use Rattle.iloc_transform.specs.LangReading.{HasFiveVariants}
 use Rattle.iloc_transform.specs.TransformReading.{TransformWantsMemory, variants, fields}
 use Rattle.iloc_transform.proofs.TransformLemmas.{no_fields}
 
-same_fronts : (xs ys a b : List (List ℕ)) → xs ++ a ≡ ys ++ b → length xs ≡ length ys → xs ≡ ys
+same_fronts : (xs ys a b : List Text) → xs ++ a ≡ ys ++ b → length xs ≡ length ys → xs ≡ ys
 same_fronts [] [] a b e l = refl
 same_fronts [] (y ∷ ys) a b e l = absurd (omega (arith, l))
 same_fronts (x ∷ xs) [] a b e l = absurd (omega (arith, l))
@@ -29,7 +30,7 @@ same_fronts (x ∷ xs) (y ∷ ys) a b e l =
     (λ i. heads i ∷ rest i)
 
 -- one identifier is the longest at the front
-one_longest : (ps : List (List ℕ)) (i j : SpelledIdentifier) (rest more : List (List ℕ)) →
+one_longest : (ps : List Text) (i j : SpelledIdentifier) (rest more : List Text) →
     IdentifierFront languages ps i rest → IdentifierFront languages ps j more → i ≡ j
 one_longest ps i j rest more a b =
     let m : length (identifier_pieces j) ≤ length (identifier_pieces i) =
@@ -39,12 +40,12 @@ one_longest ps i j rest more a b =
     one_identifier i j a.words b.words (same_fronts (identifier_pieces i) (identifier_pieces j) rest more
     (sym a.spelled ∙ b.spelled) (omega (arith, m, n)))
 
-begins_language : (ps : List (List ℕ)) (i : SpelledIdentifier) (rest : List (List ℕ)) →
+begins_language : (ps : List Text) (i : SpelledIdentifier) (rest : List Text) →
     IdentifierFront languages ps i rest → IsWord (Language languages) (first_piece ps)
-begins_language ps i rest f = subst (λ (l : List (List ℕ)). IsWord (Language languages) (first_piece l))
+begins_language ps i rest f = subst (λ (l : List Text). IsWord (Language languages) (first_piece l))
     (sym f.spelled) f.words.language
 
-few_variants : (ps : List (List ℕ)) (o : Option SpelledIdentifier) (middle : List (List ℕ)) →
+few_variants : (ps : List Text) (o : Option SpelledIdentifier) (middle : List Text) →
     FrontRead languages ps o middle → IfSome (option_map normal_identifier o) (λ i. length i.variants ≤ 4) →
     HasFiveVariants ps → ⊥
 few_variants ps _ _ (absent e) few h = true≢false (sym (begins_language ps h.written h.rest h.front) ∙ e)
@@ -58,7 +59,7 @@ few_variants ps _ _ (present {i = i} {rest = rest} w f) few h =
     let many : 4 < length h.written.variants = h.many in
     absurd (omega (arith, kept, all, those, many, few))
 
-read_takes_none : (ps : List (List ℕ)) (m : written.Transform) (rest : List (List ℕ)) →
+read_takes_none : (ps : List Text) (m : written.Transform) (rest : List Text) →
     TransformRead languages ps m rest → IfSome m.id (λ i. length i.variants ≤ 4) → m.fields ≡ [] →
     TransformWantsMemory ps → ⊥
 read_takes_none ps m rest r few none (variants h) = few_variants ps r.written.id r.middle r.id
@@ -70,7 +71,7 @@ read_takes_none ps m rest r few none (fields {id = o} {middle = middle} f n) =
     (sym (ap (λ (n : written.Transform). n.fields) r.means) ∙ none)) in
     some_fields middle n (ap fields_front same ∙ r.spelled ∙ ap fields_pieces gone)
 
-pub few_take_none : (ps : List (List ℕ)) (m : written.Transform) → TransformMeans languages (front ps) m →
+pub few_take_none : (ps : List Text) (m : written.Transform) → TransformMeans languages (front ps) m →
     IfSome m.id (λ i. length i.variants ≤ 4) → m.fields ≡ [] → TransformWantsMemory ps → ⊥
 few_take_none ps m h few none w = read_takes_none ps m (from_block ps)
     ((transform_agrees languages languages_table).block ps m h) few none w

@@ -8,7 +8,8 @@ use Rattle.std.specs.FinMap.Entries.{by_order}
 use Rattle.std.specs.declared.cmp.Ordering.TheVariants.{Less, Equal, Greater}
 use Rattle.std.proofs.lemmas.Bool.{and_parts, not-true}
 use Rattle.std.proofs.lemmas.Bool.Decides.{nat_tests}
-use Rattle.iloc_spec_grammar.specs.Syntax.{pieces, Language, is_word, read, lower, languages, word_cmp}
+use Rattle.iloc_spec_grammar.specs.Syntax.{code_t, Text, pieces, Language, is_word, read, lower, languages}
+use Rattle.iloc_spec_grammar.specs.Syntax.{word_cmp}
 use Rattle.iloc_spec_grammar.specs.Syntax.{TransformKey}
 use Rattle.iloc_spec_grammar.specs.Syntax as written
 use Rattle.iloc_spec_grammar.specs.Meaning.{normal_identifier, normal_transform, normal_fields, normal_values}
@@ -42,11 +43,11 @@ use Rattle.iloc_langid.proofs.FrontLemmas.{no_empty_language}
 
 -- the identifier
 
-pub no_lang : (ps : List (List ℕ)) → None ≡ first_item ps → LangRead ps None ps
+pub no_lang : (ps : List Text) → None ≡ first_item ps → LangRead ps None ps
 no_lang [] e = record { written = None; front = absent no_empty_language; means = refl }
 no_lang (p ∷ ps) e = cc
 
-pub other_lang : {E : Type 0} (e f : E) (ps : List (List ℕ)) (p : List ℕ) → Some p ≡ first_item ps →
+pub other_lang : {E : Type 0} (e f : E) (ps : List Text) (p : Text) → Some p ≡ first_item ps →
     Err f ≡ read (Language languages) e p → LangRead ps None ps
 other_lang e f [] p i h = cc
 other_lang e f (q ∷ ps) p i h = let same : p ≡ q = cc in record {
@@ -56,7 +57,7 @@ other_lang e f (q ∷ ps) p i h = let same : p ≡ q = cc in record {
   means = refl;
 }
 
-pub some_lang : (ps rest : List (List ℕ)) (i : LanguageIdentifier) → FrontReads ps rest (Ok i) →
+pub some_lang : (ps rest : List Text) (i : LanguageIdentifier) → FrontReads ps rest (Ok i) →
     LangRead ps (Some i) rest
 some_lang ps rest i r = record {
   written = Some r.0;
@@ -65,7 +66,7 @@ some_lang ps rest i r = record {
 }
 
 -- after a language, what is wrong with the front of an identifier is a repeated variant
-pub front_refused : {E : Type 0} (e : E) (w p : List ℕ) (ps rest left : List (List ℕ)) (f : ParseError) →
+pub front_refused : {E : Type 0} (e : E) (w p : Text) (ps rest left : List Text) (f : ParseError) →
     Some p ≡ first_item ps → Ok w ≡ read (Language languages) e p → FrontReads ps rest (Err f) →
     LangFills ps left (Err f)
 front_refused e w p [] rest left f i h g = cc
@@ -86,7 +87,7 @@ front_refused e w p (q ∷ ps) rest left OutOfMemory i h g =
 
 -- fields that mean none are none
 
-put_some : (k : List ℕ) (v : List (List ℕ)) (es : written.Fields) → length (put word_cmp k v es) ≡ 0 → ⊥
+put_some : (k : Text) (v : List Text) (es : written.Fields) → length (put word_cmp k v es) ≡ 0 → ⊥
 put_some k v [] e = absurd (omega (arith, e))
 put_some k v (e ∷ es) h = elim (word_cmp k e.0)
     as (λ o. length (by_order o ((k, v) ∷ e ∷ es) ((e.0, v) ∷ es) (e ∷ put word_cmp k v es)) ≡ 0 → ⊥) [
@@ -101,7 +102,7 @@ no_fields (f ∷ fs) e = absurd (put_some (lower f.0) (normal_values f.1) (norma
 
 -- all of it
 
-module _ (ps middle : List (List ℕ)) (lang : Option LanguageIdentifier) (l : LangRead ps lang middle) where
+module _ (ps middle : List Text) (lang : Option LanguageIdentifier) (l : LangRead ps lang middle) where
   some_written : {X Y : Type 0} (f : X → Y) (o : Option X) → is_some (option_map f o) ≡ is_some o
   some_written f None = refl
   some_written f (Some x) = refl
@@ -115,7 +116,7 @@ module _ (ps middle : List (List ℕ)) (lang : Option LanguageIdentifier) (l : L
   answer : (f : Fault) → fields_result l.written middle ≡ Err f → TransformFault languages ps f
   answer f e = subst (IsTransformAnswer languages ps) e (fields_answer ps l.written middle l.front)
 
-  pub whole : (m : written.Fields) (rest : List (List ℕ)) → FieldsRead middle m rest →
+  pub whole : (m : written.Fields) (rest : List Text) → FieldsRead middle m rest →
       (not (is_some lang) && (length m == 0)) ≡ false →
       TransformRead languages ps (record { id = option_map langid.value_of lang; fields = m }) rest
   whole m rest r n = record {
@@ -134,7 +135,7 @@ module _ (ps middle : List (List ℕ)) (lang : Option LanguageIdentifier) (l : L
       some [] e h = absurd (true≢false (sym (ap (λ l. length l == 0) e) ∙ h))
       some (f ∷ fs) e h = omega arith
 
-  pub nothing : (m : written.Fields) (rest : List (List ℕ)) → FieldsRead middle m rest →
+  pub nothing : (m : written.Fields) (rest : List Text) → FieldsRead middle m rest →
       (not (is_some lang) && (length m == 0)) ≡ true → TransformFault languages ps faults.InvalidExtension
   nothing m rest r n =
       let parts = and_parts (not (is_some lang)) (length m == 0) n in
@@ -157,7 +158,7 @@ module _ (ps middle : List (List ℕ)) (lang : Option LanguageIdentifier) (l : L
       (Ok (normal_transform (record { id = l.written; fields = fields_at middle }), after_fields middle))
       (Err faults.InvalidExtension))
 
-  pub bad_fields : (f : ParseError) (rest left : List (List ℕ)) → FieldsFills middle rest (Err f) →
+  pub bad_fields : (f : ParseError) (rest left : List Text) → FieldsFills middle rest (Err f) →
       TransformFills ps left (Err f)
   bad_fields InvalidExtension rest left r = lacking r.1
   bad_fields OutOfMemory rest left r = fields l.front r
@@ -165,7 +166,7 @@ module _ (ps middle : List (List ℕ)) (lang : Option LanguageIdentifier) (l : L
   bad_fields InvalidSubtag rest left r = let other = r.0 in cc
   bad_fields DuplicatedExtension rest left r = let other = r.0 in cc
 
-pub no_transform : (ps rest left : List (List ℕ)) (f : ParseError) → LangFills ps rest (Err f) →
+pub no_transform : (ps rest left : List Text) (f : ParseError) → LangFills ps rest (Err f) →
     TransformFills ps left (Err f)
 no_transform ps rest left InvalidSubtag r = repeats r.1
 no_transform ps rest left OutOfMemory r = variants r
@@ -175,25 +176,25 @@ no_transform ps rest left DuplicatedExtension r = let other = r.0 in cc
 
 -- a text
 
-module _ (t : List ℕ) where
+module _ (t : Text) where
   pub text_none : None ≡ singleton_at (pieces t) → TransformTextFault languages t faults.InvalidExtension
-  text_none e = part_none (is_letter 116) (pieces t) (TransformFault languages) e
+  text_none e = part_none (is_letter code_t) (pieces t) (TransformFault languages) e
 
-  pub text_other : (c : ℕ) → Some c ≡ singleton_at (pieces t) → c ≢ 116 →
+  pub text_other : (c : ℕ) → Some c ≡ singleton_at (pieces t) → c ≢ code_t →
       TransformTextFault languages t faults.InvalidExtension
   text_other c e n =
-      part_other (is_letter 116) (pieces t) (TransformFault languages) c e (another_letter 116 c n)
+      part_other (is_letter code_t) (pieces t) (TransformFault languages) c e (another_letter code_t c n)
 
-  module _ (found : Some 116 ≡ singleton_at (pieces t)) (more rest : List (List ℕ))
+  module _ (found : Some code_t ≡ singleton_at (pieces t)) (more rest : List Text)
       (after : more ≡ rest_of (pieces t)) where
     fault : (f : Fault) → TransformFault languages more f → TransformTextFault languages t f
-    fault f h = part_fault (is_letter 116) (pieces t) (TransformFault languages) 116 f found refl
+    fault f h = part_fault (is_letter code_t) (pieces t) (TransformFault languages) code_t f found refl
         (subst (λ l. TransformFault languages l f) after h)
 
     pub text_reads : (r : Result Transform ParseError) → TransformReads more rest r → TransformTextReads t r
     text_reads (Ok m) h = (
       rest,
-      part_reads (is_letter 116) (pieces t) (TransformRead languages) 116 (value_of m) rest found refl
+      part_reads (is_letter code_t) (pieces t) (TransformRead languages) code_t (value_of m) rest found refl
           (subst (λ l. TransformRead languages l (value_of m) rest) after h),
     )
     text_reads (Err InvalidSubtag) h = fault faults.InvalidSubtag h
@@ -210,4 +211,4 @@ module _ (t : List ℕ) where
     text_memory (Err InvalidExtension) h = tt
     text_memory (Err DuplicatedExtension) h = tt
     text_memory (Err OutOfMemory) h =
-        (begins (is_letter 116) (pieces t) 116 found, subst TransformWantsMemory after h)
+        (begins (is_letter code_t) (pieces t) code_t found, subst TransformWantsMemory after h)

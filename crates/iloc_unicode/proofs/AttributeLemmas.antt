@@ -3,7 +3,7 @@ use Rattle.std.proofs.Common.{◌≡◌, ℕ, ◌<◌, ◌≤◌, false, cond, L
 use Rattle.std.proofs.Common.{◌∙◌, subst, arith, append-nil, Some, None, option_map}
 use Rattle.std.specs.List.{AllByRecursion}
 use Rattle.std.proofs.lemmas.List.Sorted.{IsPermutation-sym, IsPermutation-middle}
-use Rattle.iloc_spec_grammar.specs.Syntax.{Attribute, is_word, lower, word_cmp}
+use Rattle.iloc_spec_grammar.specs.Syntax.{Text, Attribute, is_word, lower, word_cmp}
 use Rattle.iloc_spec_grammar.specs.Meaning.{set_of}
 use Rattle.iloc_spec_grammar.specs.Reading.{take_first, skip_first, passing, past}
 use Rattle.iloc_spec_grammar.specs.Values.{IsNormal, StrictlyAscends}
@@ -19,25 +19,25 @@ use Rattle.iloc_subtags.proofs.PeekLemmas.{ends_before}
 use Rattle.iloc_subtags.proofs.TakingLemmas.{took, took_none}
 
 -- of the words before, those up to now are taken, as these words
-pub record Gathered (before now words : List (List ℕ)) : Type 0 where
+pub record Gathered (before now words : List Text) : Type 0 where
   pub gives : set_of (words ++ map lower (passing (is_word Attribute) now)) ≡ attributes_read before
   pub skips : past (is_word Attribute) now ≡ after_attributes before
 
-pub gathered_none : (ps : List (List ℕ)) → Gathered ps ps []
+pub gathered_none : (ps : List Text) → Gathered ps ps []
 gathered_none ps = record { gives = refl; skips = refl }
 
 -- a word that stands behind others stands before them as well
-moved : (w : List ℕ) (vs more : List (List ℕ)) → set_of ((w ∷ vs) ++ more) ≡ set_of (vs ++ w ∷ more)
+moved : (w : Text) (vs more : List Text) → set_of ((w ∷ vs) ++ more) ≡ set_of (vs ++ w ∷ more)
 moved w vs more = permuted_set _ _ (IsPermutation-sym _ _ (IsPermutation-middle vs w more))
 
 -- words more make no shorter set
-grows : (more vs : List (List ℕ)) → length (set_of vs) ≤ length (set_of (vs ++ more))
+grows : (more vs : List Text) → length (set_of vs) ≤ length (set_of (vs ++ more))
 grows [] vs = rw (append-nil vs) (omega arith)
 grows (w ∷ more) vs = let h = set_grows w (vs ++ more) in
     let e = ap length (moved w vs more) in omega (arith, grows more vs, h, e)
 
-module _ (before now words : List (List ℕ)) (t : Gathered before now words) (w : List ℕ)
-    (later : List (List ℕ)) (e : Some w ≡ option_map lower (take_first (is_word Attribute) now))
+module _ (before now words : List Text) (t : Gathered before now words) (w : Text)
+    (later : List Text) (e : Some w ≡ option_map lower (take_first (is_word Attribute) now))
     (l : later ≡ skip_first (is_word Attribute) now) where
   found : map lower (passing (is_word Attribute) now) ≡ w ∷ map lower (passing (is_word Attribute) later)
   found =
@@ -55,7 +55,7 @@ module _ (before now words : List (List ℕ)) (t : Gathered before now words) (w
   with_word : set_of ((w ∷ words) ++ map lower (passing (is_word Attribute) later)) ≡ attributes_read before
   with_word = moved w words _ ∙ ap (λ vs. set_of (words ++ vs)) (sym found) ∙ t.gives
 
-  pub gathered_more : (more : List (List ℕ)) → set_of more ≡ set_of (w ∷ words) → Gathered before later more
+  pub gathered_more : (more : List Text) → set_of more ≡ set_of (w ∷ words) → Gathered before later more
   gathered_more more is = record {
     gives =
         sym (set_of-first more _) ∙ ap (λ s. set_of (s ++ map lower (passing (is_word Attribute) later))) is
@@ -72,7 +72,7 @@ module _ (before now words : List (List ℕ)) (t : Gathered before now words) (w
 
 -- words that are known to be attributes stand before
 
-few_pass : (ws ps : List (List ℕ)) → AllByRecursion (IsNormal Attribute) ws →
+few_pass : (ws ps : List Text) → AllByRecursion (IsNormal Attribute) ws →
     (map lower (passing (is_word Attribute) (ws ++ ps)) ≡ ws ++ map lower (passing (is_word Attribute) ps))
     × (past (is_word Attribute) (ws ++ ps) ≡ past (is_word Attribute) ps)
 few_pass [] ps n = (refl, refl)
@@ -82,13 +82,13 @@ few_pass (w ∷ ws) ps n =
     let l = n.0.1 in
     rw h (rw l (ap (λ vs. w ∷ vs) more.0), more.1)
 
-pub gathered_few : (ws ps : List (List ℕ)) → AllByRecursion (IsNormal Attribute) ws →
+pub gathered_few : (ws ps : List Text) → AllByRecursion (IsNormal Attribute) ws →
     Gathered (ws ++ ps) ps ws
 gathered_few ws ps n =
     record { gives = ap set_of (sym (few_pass ws ps n).0); skips = sym (few_pass ws ps n).1 }
 
 -- what is read after them is read of all
-pub gathered_after : (before now ws : List (List ℕ)) → Gathered before now ws →
+pub gathered_after : (before now ws : List Text) → Gathered before now ws →
     AllByRecursion (IsNormal Attribute) ws →
     (attributes_read (ws ++ now) ≡ attributes_read before)
     × (after_attributes (ws ++ now) ≡ after_attributes before)
@@ -96,7 +96,7 @@ gathered_after before now ws t n =
     (ap set_of (few_pass ws now n).0 ∙ t.gives, (few_pass ws now n).1 ∙ t.skips)
 
 -- all are taken
-pub gathered_all : (before now words set : List (List ℕ)) → Gathered before now words →
+pub gathered_all : (before now words set : List Text) → Gathered before now words →
     None ≡ option_map lower (take_first (is_word Attribute) now) → set ≡ set_of words →
     (set ≡ attributes_read before) × (skip_first (is_word Attribute) now ≡ after_attributes before)
 gathered_all before now words set t e is =
@@ -110,19 +110,19 @@ gathered_all before now words set t e is =
 below : (n : ℕ) → n ≤ 4 → (n ≡ 4 → ⊥) → n < 4
 below n l h = omega (arith, l, h)
 
-pub record GatheredFew (before now set : List (List ℕ)) : Type 0 where
+pub record GatheredFew (before now set : List Text) : Type 0 where
   pub gathered : Gathered before now set
   pub ascending : StrictlyAscends word_cmp set
   pub normal : AllByRecursion (IsNormal Attribute) set
   pub short : length set < 4
 
-pub few_none : (ps : List (List ℕ)) → GatheredFew ps ps []
+pub few_none : (ps : List Text) → GatheredFew ps ps []
 few_none ps = record { gathered = gathered_none ps; ascending = tt; normal = tt; short = omega arith }
 
-module _ (before now set : List (List ℕ)) (t : GatheredFew before now set) (w : List ℕ)
-    (later : List (List ℕ)) (e : Some w ≡ option_map lower (take_first (is_word Attribute) now))
+module _ (before now set : List Text) (t : GatheredFew before now set) (w : Text)
+    (later : List Text) (e : Some w ≡ option_map lower (take_first (is_word Attribute) now))
     (l : later ≡ skip_first (is_word Attribute) now)
-    (more : List (List ℕ)) (is : more ≡ set_of (w ∷ set)) where
+    (more : List Text) (is : more ≡ set_of (w ∷ set)) where
   few_gathered : Gathered before later more
   few_gathered =
       gathered_more before now set t.gathered w later e l more (ap set_of is ∙ set_of-set_of (w ∷ set))
@@ -149,14 +149,14 @@ module _ (before now set : List (List ℕ)) (t : GatheredFew before now set) (w 
       × (after_attributes (more ++ later) ≡ after_attributes before)
   few_more = gathered_after before later more few_gathered few_normal
 
-pub few_done : (before now set : List (List ℕ)) → GatheredFew before now set →
+pub few_done : (before now set : List Text) → GatheredFew before now set →
     None ≡ option_map lower (take_first (is_word Attribute) now) →
     (set ≡ attributes_read before) × (skip_first (is_word Attribute) now ≡ after_attributes before)
 few_done before now set t e =
     gathered_all before now set set t.gathered e (sym (set_of_ascending set t.ascending))
 
 -- a next piece that is too short or too long for an attribute: none stands at the front
-pub no_attributes : (ps : List (List ℕ)) → next_has_length Attribute ps ≡ false →
+pub no_attributes : (ps : List Text) → next_has_length Attribute ps ≡ false →
     (attributes_read ps ≡ []) × (after_attributes ps ≡ ps)
 no_attributes ps other =
     let ends = ends_before Attribute ps other in (

@@ -10,7 +10,8 @@ use Rattle.std.specs.Option.{option_or}
 use Rattle.std.specs.FinMap.{put, find, is_sorted}
 use Rattle.std.proofs.lemmas.Bool.Decides.{nat_tests}
 use Rattle.std.proofs.lemmas.List.{map-append}
-use Rattle.iloc_spec_grammar.specs.Syntax.{UnicodeKey, Attribute, is_word, IsWord, is_same, lower, word_cmp}
+use Rattle.iloc_spec_grammar.specs.Syntax.{Text, UnicodeKey, Attribute, is_word, IsWord, is_same, lower}
+use Rattle.iloc_spec_grammar.specs.Syntax.{word_cmp}
 use Rattle.iloc_spec_grammar.specs.Syntax.{Fields}
 use Rattle.iloc_spec_grammar.specs.Meaning.{map_of, normal_values, normal_fields, InvalidExtension}
 use Rattle.iloc_spec_grammar.specs.Meaning.{first_piece}
@@ -34,28 +35,28 @@ use Rattle.std.proofs.Math.Bool.{or-true}
 use Rattle.iloc_spec_grammar.proofs.ReadingLaws.{length-past}
 
 -- the next piece is as long as a key if it has two bytes
-pub two_bytes : (ps : List (List ℕ)) → next_has_length UnicodeKey ps ≡ is_two (first_piece ps)
+pub two_bytes : (ps : List Text) → next_has_length UnicodeKey ps ≡ is_two (first_piece ps)
 unfolding has_length
 two_bytes [] = refl
 two_bytes (p ∷ ps) = refl
 
 -- pieces after a key: its values, and then the next keywords
 
-module _ (test : List ℕ → Bool) where
-  passing_on : (p : List ℕ) (ps : List (List ℕ)) → test p ≡ true → passing test (p ∷ ps) ≡ p ∷ passing test ps
+module _ (test : Text → Bool) where
+  passing_on : (p : Text) (ps : List Text) → test p ≡ true → passing test (p ∷ ps) ≡ p ∷ passing test ps
   passing_on p ps h = ap (λ b. cond b (p ∷ passing test ps) []) h
 
-  passing_off : (p : List ℕ) (ps : List (List ℕ)) → test p ≡ false → passing test (p ∷ ps) ≡ []
+  passing_off : (p : Text) (ps : List Text) → test p ≡ false → passing test (p ∷ ps) ≡ []
   passing_off p ps h = ap (λ b. cond b (p ∷ passing test ps) []) h
 
-  past_on : (p : List ℕ) (ps : List (List ℕ)) → test p ≡ true → past test (p ∷ ps) ≡ past test ps
+  past_on : (p : Text) (ps : List Text) → test p ≡ true → past test (p ∷ ps) ≡ past test ps
   past_on p ps h = ap (λ b. cond b (past test ps) (p ∷ ps)) h
 
-  past_off : (p : List ℕ) (ps : List (List ℕ)) → test p ≡ false → past test (p ∷ ps) ≡ p ∷ ps
+  past_off : (p : Text) (ps : List Text) → test p ≡ false → past test (p ∷ ps) ≡ p ∷ ps
   past_off p ps h = ap (λ b. cond b (past test ps) (p ∷ ps)) h
 
 -- a piece that is no value begins keywords, or ends them
-no_value : (q : List ℕ) (qs : List (List ℕ)) (b : Bool) → is_two q ≡ b → is_word Attribute q ≡ false →
+no_value : (q : Text) (qs : List Text) (b : Bool) → is_two q ≡ b → is_word Attribute q ≡ false →
     (passing is_keyword_piece (q ∷ qs) ≡ keywords_front (q ∷ qs))
     × (past is_keyword_piece (q ∷ qs) ≡ after_keywords (q ∷ qs))
 no_value q qs true t h = (
@@ -70,7 +71,7 @@ no_value q qs false t h =
           ∙ ap (λ b. cond b (past is_keyword_piece (q ∷ qs)) (q ∷ qs)) (sym t),
     )
 
-after_key : (qs : List (List ℕ)) →
+after_key : (qs : List Text) →
     (passing is_keyword_piece qs
     ≡ passing (is_word Attribute) qs ++ keywords_front (past (is_word Attribute) qs))
     × (past is_keyword_piece qs ≡ after_keywords (past (is_word Attribute) qs))
@@ -98,23 +99,23 @@ after_key (q ∷ qs) = by (is_word Attribute q) refl (after_key qs)
       n.1 ∙ ap after_keywords (sym (past_off (is_word Attribute) q qs h)),
     )
 
-goes_on : (p : List ℕ) → is_two p ≡ true → is_keyword_piece p ≡ true
+goes_on : (p : Text) → is_two p ≡ true → is_keyword_piece p ≡ true
 goes_on p h = ap (λ b. b || is_word Attribute p) h
 
-front_at : (p : List ℕ) (qs : List (List ℕ)) → is_two p ≡ true →
+front_at : (p : Text) (qs : List Text) → is_two p ≡ true →
     keywords_front (p ∷ qs)
     ≡ p ∷ (passing (is_word Attribute) qs ++ keywords_front (past (is_word Attribute) qs))
 front_at p qs h = ap (λ b. cond b (passing is_keyword_piece (p ∷ qs)) []) h
     ∙ passing_on is_keyword_piece p qs (goes_on p h) ∙ ap (λ l. p ∷ l) (after_key qs).0
 
-rest_at : (p : List ℕ) (qs : List (List ℕ)) → is_two p ≡ true →
+rest_at : (p : Text) (qs : List Text) → is_two p ≡ true →
     after_keywords (p ∷ qs) ≡ after_keywords (past (is_word Attribute) qs)
 rest_at p qs h = ap (λ b. cond b (past is_keyword_piece (p ∷ qs)) (p ∷ qs)) h
     ∙ past_on is_keyword_piece p qs (goes_on p h) ∙ (after_key qs).1
 
 -- the values before the next key
 
-front_begins : (ps : List (List ℕ)) → before_key is_two (keywords_front ps) ≡ []
+front_begins : (ps : List Text) → before_key is_two (keywords_front ps) ≡ []
 front_begins [] = refl
 front_begins (p ∷ ps) = (elim (is_two p)
     as (λ b. is_two p ≡ b → before_key is_two (cond b (passing is_keyword_piece (p ∷ ps)) []) ≡ []) [
@@ -123,7 +124,7 @@ front_begins (p ∷ ps) = (elim (is_two p)
       | false ↦ λ h. refl
     ]) refl
 
-values_first : (qs more : List (List ℕ)) → before_key is_two more ≡ [] →
+values_first : (qs more : List Text) → before_key is_two more ≡ [] →
     (before_key is_two (passing (is_word Attribute) qs ++ more) ≡ passing (is_word Attribute) qs)
     × (fields_from is_two (passing (is_word Attribute) qs ++ more) ≡ fields_from is_two more)
 values_first [] more e = (e, refl)
@@ -147,7 +148,7 @@ values_first (q ∷ qs) more e = by (is_word Attribute q) refl (values_first qs 
     )
     by false h rest = (e, refl)
 
-fields_at : (p : List ℕ) (qs : List (List ℕ)) → is_two p ≡ true →
+fields_at : (p : Text) (qs : List Text) → is_two p ≡ true →
     fields_from is_two (keywords_front (p ∷ qs))
     ≡ (p, passing (is_word Attribute) qs) ∷ fields_from is_two (keywords_front (past (is_word Attribute) qs))
 fields_at p qs h =
@@ -162,7 +163,7 @@ fields_at p qs h =
 
 -- bad keys
 
-bad_values : (qs more : List (List ℕ)) →
+bad_values : (qs more : List Text) →
     list_any is_bad_key (passing (is_word Attribute) qs ++ more) ≡ list_any is_bad_key more
 bad_values [] more = refl
 bad_values (q ∷ qs) more = (elim (is_word Attribute q) as (λ b. is_word Attribute q ≡ b →
@@ -173,7 +174,7 @@ bad_values (q ∷ qs) more = (elim (is_word Attribute q) as (λ b. is_word Attri
       | false ↦ λ h. refl
     ]) refl
 
-bad_at : (p : List ℕ) (qs : List (List ℕ)) → IsWord UnicodeKey p →
+bad_at : (p : Text) (qs : List Text) → IsWord UnicodeKey p →
     list_any is_bad_key (keywords_front (p ∷ qs))
     ≡ list_any is_bad_key (keywords_front (past (is_word Attribute) qs))
 bad_at p qs h = ap (list_any is_bad_key) (front_at p qs (two_bytes_of p h))
@@ -183,7 +184,7 @@ bad_at p qs h = ap (list_any is_bad_key) (front_at p qs (two_bytes_of p h))
     ∙ bad_values qs (keywords_front (past (is_word Attribute) qs))
 
 -- of the pieces before, the fields up to now are in the map
-pub record Filled (before now : List (List ℕ)) (m : Fields) : Type 0 where
+pub record Filled (before now : List Text) (m : Fields) : Type 0 where
   pub fields : Fields
   pub keys : AllByRecursion HasKey fields
   pub all : fields_from is_two (keywords_front before) ≡ fields ++ fields_from is_two (keywords_front now)
@@ -195,7 +196,7 @@ pub record Filled (before now : List (List ℕ)) (m : Fields) : Type 0 where
 
 module _ {X : Type 0} where
   -- two keys that are there make two pairs
-  two_found : (a k : List ℕ) → (a ≡ k → ⊥) → (es : List (List ℕ × X)) → is_some (find word_cmp a es) ≡ true →
+  two_found : (a k : Text) → (a ≡ k → ⊥) → (es : List (Text × X)) → is_some (find word_cmp a es) ≡ true →
       is_some (find word_cmp k es) ≡ true → 1 < length es
   two_found a k n [] h g = absurd (true≢false (sym h))
   two_found a k n (e ∷ []) h g =
@@ -207,7 +208,7 @@ module _ {X : Type 0} where
       one false v h = absurd (true≢false (sym h))
   two_found a k n (e ∷ f ∷ es) h g = omega arith
 
-abbrev normal_field : List ℕ × List (List ℕ) → List ℕ × List (List ℕ)
+abbrev normal_field : Text × List Text → Text × List Text
 normal_field f = (lower f.0, normal_values f.1)
 
 any_at : {X : Type 0} (test : X → Bool) (xs : List X) (x : X) (ys : List X) → test x ≡ true →
@@ -215,14 +216,14 @@ any_at : {X : Type 0} (test : X → Bool) (xs : List X) (x : X) (ys : List X) �
 any_at test [] x ys h = ap (λ b. b || list_any test ys) h
 any_at test (y ∷ xs) x ys h = ap (λ b. test y || b) (any_at test xs x ys h) ∙ or-true (test y)
 
-module _ (before now : List (List ℕ)) (m : Fields) (t : Filled before now m) (w : List ℕ)
-    (later : List (List ℕ)) (e : Some w ≡ option_map lower (take_first (is_word UnicodeKey) now))
+module _ (before now : List Text) (m : Fields) (t : Filled before now m) (w : Text)
+    (later : List Text) (e : Some w ≡ option_map lower (take_first (is_word UnicodeKey) now))
     (l : later ≡ skip_first (is_word UnicodeKey) now) where
-  now_is : (p : List ℕ) × IsWord UnicodeKey p × (w ≡ lower p) × (now ≡ p ∷ later)
+  now_is : (p : Text) × IsWord UnicodeKey p × (w ≡ lower p) × (now ≡ p ∷ later)
   now_is = let (p, h, same, cut) = took UnicodeKey now w e in (p, h, same, cut ∙ ap (λ ps. p ∷ ps) (sym l))
 
   -- all fields: those so far, the one at the key, and more
-  all_is : (p : List ℕ) → IsWord UnicodeKey p → now ≡ p ∷ later →
+  all_is : (p : Text) → IsWord UnicodeKey p → now ≡ p ∷ later →
       fields_from is_two (keywords_front before)
       ≡ t.fields ++ (p, passing (is_word Attribute) later)
       ∷ fields_from is_two (keywords_front (past (is_word Attribute) later))
@@ -230,17 +231,17 @@ module _ (before now : List (List ℕ)) (m : Fields) (t : Filled before now m) (
       ∙ ap (λ fs. t.fields ++ fs) (fields_at p later (two_bytes_of p h))
 
   -- those that are kept, which go on after it
-  kept_is : (p : List ℕ) → IsWord UnicodeKey p → now ≡ p ∷ later →
+  kept_is : (p : Text) → IsWord UnicodeKey p → now ≡ p ∷ later →
       keywords_kept before
       ≡ t.fields ++ (p, passing (is_word Attribute) later) ∷ keywords_kept (past (is_word Attribute) later)
   kept_is p h cut =
       let more : Fields = fields_from is_two (keywords_front (past (is_word Attribute) later)) in
-      let f : List ℕ × List (List ℕ) = (p, passing (is_word Attribute) later) in
+      let f : Text × List Text = (p, passing (is_word Attribute) later) in
       ap before_bad_key (all_is p h cut) ∙ kept_append t.fields (f ∷ more) t.keys
       ∙ ap (λ b. t.fields ++ cond b (f ∷ before_bad_key more) []) h
 
   -- less is left
-  pub filled_less : (after : List (List ℕ)) → after ≡ past (is_word Attribute) later →
+  pub filled_less : (after : List Text) → after ≡ past (is_word Attribute) later →
       length after < length now
   filled_less after a =
       let (p, h, same, cut) = now_is in
@@ -250,7 +251,7 @@ module _ (before now : List (List ℕ)) (m : Fields) (t : Filled before now m) (
       let n : length now ≡ suc (length later) = ap length cut in
       omega arith
 
-  pub filled_more : (value after : List (List ℕ)) (n : Fields) →
+  pub filled_more : (value after : List Text) (n : Fields) →
       value ≡ normal_values (passing (is_word Attribute) later) → after ≡ past (is_word Attribute) later →
       n ≡ cond (is_some (find word_cmp w m)) m (put word_cmp w value m) → Filled before after n
   filled_more value after n v a is =
@@ -295,7 +296,7 @@ module _ (before now : List (List ℕ)) (m : Fields) (t : Filled before now m) (
       let (p, h, same, cut) = now_is in
       second_key (by m t.means new some p same (kept_is p h cut))
     where
-      there : (q : List ℕ) (fs more : Fields) (f : List ℕ × List (List ℕ)) →
+      there : (q : Text) (fs more : Fields) (f : Text × List Text) →
           is_some (option_or (find word_cmp q (map normal_field fs))
           (find word_cmp q (normal_field f ∷ map normal_field more)))
           ≡ true →
@@ -306,19 +307,19 @@ module _ (before now : List (List ℕ)) (m : Fields) (t : Filled before now m) (
           ∙ find-append word_cmp q (map normal_field fs) (normal_field f ∷ map normal_field more))
           ∙ h
 
-      first : (o r : Option (List (List ℕ))) → is_some o ≡ true → is_some (option_or o r) ≡ true
+      first : (o r : Option (List Text)) → is_some o ≡ true → is_some (option_or o r) ≡ true
       first None r h = absurd (true≢false (sym h))
       first (Some x) r h = refl
 
-      second : (o r : Option (List (List ℕ))) → is_some r ≡ true → is_some (option_or o r) ≡ true
+      second : (o r : Option (List Text)) → is_some r ≡ true → is_some (option_or o r) ≡ true
       second None r h = h
       second (Some x) r h = refl
 
-      itself : (q : List ℕ) → eq_by_cmp word_cmp q q ≡ true
+      itself : (q : Text) → eq_by_cmp word_cmp q q ≡ true
       itself q = (eq_by_cmp_equiv word_cmp_total).refl q
 
       by : (m : Fields) → m ≡ normal_fields t.fields → is_some (find word_cmp w m) ≡ false →
-          (length m < 1 → ⊥) → (p : List ℕ) → w ≡ lower p →
+          (length m < 1 → ⊥) → (p : Text) → w ≡ lower p →
           keywords_kept before
           ≡ t.fields ++ (p, passing (is_word Attribute) later)
           ∷ keywords_kept (past (is_word Attribute) later) →
@@ -337,7 +338,7 @@ module _ (before now : List (List ℕ)) (m : Fields) (t : Filled before now m) (
           (find word_cmp (lower p) (map normal_field (keywords_kept (past (is_word Attribute) later))))))
           (itself (lower p))))))
         where
-          found : (q : List ℕ) → q ≡ x.0 → is_some (find word_cmp q (x ∷ xs)) ≡ true
+          found : (q : Text) → q ≡ x.0 → is_some (find word_cmp q (x ∷ xs)) ≡ true
           found q e = ap (λ k. is_some (cond (eq_by_cmp word_cmp k x.0) (Some x.1) (find word_cmp k xs))) e
               ∙ ap (λ b. is_some (cond b (Some x.1) (find word_cmp x.0 xs))) (itself x.0)
 
@@ -346,12 +347,12 @@ module _ (before now : List (List ℕ)) (m : Fields) (t : Filled before now m) (
 
 -- nothing more can be taken
 
-no_key : (now : List (List ℕ)) → is_two (first_piece now) ≡ false →
+no_key : (now : List Text) → is_two (first_piece now) ≡ false →
     (keywords_front now ≡ []) × (after_keywords now ≡ now)
 no_key now h =
     (ap (λ b. cond b (passing is_keyword_piece now) []) h, ap (λ b. cond b (past is_keyword_piece now) now) h)
 
-pub filled_all : (before now rest : List (List ℕ)) (m : Fields) → Filled before now m →
+pub filled_all : (before now rest : List Text) (m : Fields) → Filled before now m →
     rest ≡ skip_first (is_word UnicodeKey) now → is_two (first_piece rest) ≡ false →
     None ≡ option_map lower (take_first (is_word UnicodeKey) now) → KeywordsRead before m rest
 filled_all before now rest m t stays h none =
@@ -360,20 +361,20 @@ filled_all before now rest m t stays h none =
     let all : fields_from is_two (keywords_front before) ≡ t.fields =
     t.all ∙ ap (λ ps. t.fields ++ fields_from is_two ps) ends.0 ∙ append-nil t.fields in
     let read = keywords_read_of before (t.bad ∙ ap (list_any is_bad_key) ends.0) in
-    subst (λ (r : Fields × List (List ℕ)). KeywordsRead before r.0 r.1)
+    subst (λ (r : Fields × List Text). KeywordsRead before r.0 r.1)
     (λ i. ((ap normal_fields all ∙ sym t.means) i, (t.rest ∙ ends.1 ∙ sym same) i)) read
 
-not_key : (q : List ℕ) (b : Bool) → None ≡ option_map lower (cond b (Some q) None) → b ≡ false
+not_key : (q : Text) (b : Bool) → None ≡ option_map lower (cond b (Some q) None) → b ≡ false
 not_key q true h = cc
 not_key q false h = refl
 
-pub filled_bad : (before now rest : List (List ℕ)) (m : Fields) → Filled before now m →
+pub filled_bad : (before now rest : List Text) (m : Fields) → Filled before now m →
     rest ≡ skip_first (is_word UnicodeKey) now → is_two (first_piece rest) ≡ true →
     None ≡ option_map lower (take_first (is_word UnicodeKey) now) → KeywordsFault before InvalidExtension
 filled_bad before now rest m t stays h none =
     at now t (ap (λ ps. is_two (first_piece ps)) (sym (stays ∙ (took_none UnicodeKey now none).2)) ∙ h) none
   where
-    at : (now : List (List ℕ)) → Filled before now m → is_two (first_piece now) ≡ true →
+    at : (now : List Text) → Filled before now m → is_two (first_piece now) ≡ true →
         None ≡ option_map lower (take_first (is_word UnicodeKey) now) → KeywordsFault before InvalidExtension
     at [] t h none = absurd (true≢false (sym h))
     at (q ∷ qs) t h none = bad_key (t.bad ∙ ap (list_any is_bad_key) (front_at q qs h)
@@ -385,15 +386,15 @@ filled_bad before now rest m t stays h none =
 -- A map of one pair over another map.
 
 -- the key of the first pair is there
-pub first_found : (m : Fields) (e : List ℕ × List (List ℕ)) → 1 ≤ length m → e ≡ get_or m 0 e
+pub first_found : (m : Fields) (e : Text × List Text) → 1 ≤ length m → e ≡ get_or m 0 e
     → is_some (find word_cmp e.0 m) ≡ true
 first_found [] e l is = absurd (omega (arith, l))
 first_found (a ∷ m) e l is =
-    ap (λ (x : List ℕ × List (List ℕ)). is_some (find word_cmp x.0 (a ∷ m))) is
+    ap (λ (x : Text × List Text). is_some (find word_cmp x.0 (a ∷ m))) is
     ∙ ap (λ b. is_some (cond b (Some a.1) (find word_cmp a.0 m))) (same_itself a.0)
 
 -- the pair is set
-pub only_put : (m es : Fields) (k : List ℕ) (v : List (List ℕ)) → length m ≡ 1
+pub only_put : (m es : Fields) (k : Text) (v : List Text) → length m ≡ 1
     → Some v ≡ find word_cmp k m → is_sorted word_cmp es ≡ true
     → put word_cmp k v es ≡ map_of word_cmp (m ++ es)
 only_put [] es k v l f s = absurd (omega (arith, l))

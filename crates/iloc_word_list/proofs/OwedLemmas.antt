@@ -7,14 +7,15 @@ use Rattle.iloc_subtags.specs.Judging.{Accepts, Refuses}
 use Rattle.iloc_subtags.proofs.Judged.{Judges, told, accepts, refuses}
 use Rattle.iloc_spec_parts.specs.PartValues.{unicode_value}
 use Rattle.iloc_word_list.specs.Reads.{ValueTextReads}
+use Rattle.iloc_spec_grammar.specs.Syntax.{Text}
 
-value_judges : (t : List ℕ) → Judges (λ v. unicode_value t ≡ Ok v) (λ f. unicode_value t ≡ Err f)
+value_judges : (t : Text) → Judges (λ v. unicode_value t ≡ Ok v) (λ f. unicode_value t ≡ Err f)
 value_judges t = told (unicode_value t)
 
-pub value_accepts : (t : List ℕ) (r : Result (List (List ℕ)) ParseError) → ValueTextReads t r →
-    (v : List (List ℕ)) → unicode_value t ≡ Ok v → Accepts (λ v. v) ⊤ v r
+pub value_accepts : (t : Text) (r : Result (List Text) ParseError) → ValueTextReads t r →
+    (v : List Text) → unicode_value t ≡ Ok v → Accepts (λ v. v) ⊤ v r
 value_accepts t r h = accepts (λ v. v) ⊤ (value_judges t) r h
 
-pub value_refuses : (t : List ℕ) (r : Result (List (List ℕ)) ParseError) → ValueTextReads t r → (f : Fault) →
+pub value_refuses : (t : Text) (r : Result (List Text) ParseError) → ValueTextReads t r → (f : Fault) →
     unicode_value t ≡ Err f → Refuses ⊤ f r
 value_refuses t r h = refuses (λ v. v) ⊤ (value_judges t) r h

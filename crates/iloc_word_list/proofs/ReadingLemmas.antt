@@ -1,26 +1,26 @@
 -- Words that are taken one at a time, and added without `true`.
 use Rattle.std.proofs.Common.{◌≡◌, ℕ, suc, ◌+◌, ◌≤◌, true, false, not, cond, List, [], ◌∷◌, ◌++◌, length, map}
 use Rattle.std.proofs.Common.{sym, ap, ◌∙◌, arith, append_assoc, append-nil, length-append, Some, option_map}
-use Rattle.iloc_spec_grammar.specs.Syntax.{Kind, is_word, IsWord, normal, is_true}
+use Rattle.iloc_spec_grammar.specs.Syntax.{Text, Kind, is_word, IsWord, normal, is_true}
 use Rattle.iloc_spec_grammar.specs.Reading.{take_first, skip_first, passing, past}
 use Rattle.iloc_subtags.proofs.TakingLemmas.{took}
 use Rattle.iloc_word_list.specs.Values.{without_true, with_subtag}
 
 -- a word of values is a subtag
 -- the words of the kind at the front, normal
-abbrev pub words_read : Kind → List (List ℕ) → List (List ℕ)
+abbrev pub words_read : Kind → List Text → List Text
 words_read k ps = map (normal k) (passing (is_word k) ps)
 
-words_read_more : (k : Kind) (p : List ℕ) (ps : List (List ℕ)) → IsWord k p →
+words_read_more : (k : Kind) (p : Text) (ps : List Text) → IsWord k p →
     words_read k (p ∷ ps) ≡ normal k p ∷ words_read k ps
 words_read_more k p ps h = ap (λ b. map (normal k) (cond b (p ∷ passing (is_word k) ps) [])) h
 
 -- of the words before, those up to now are in the value
-pub record Valued (k : Kind) (before now value : List (List ℕ)) : Type 0 where
+pub record Valued (k : Kind) (before now value : List Text) : Type 0 where
   pub gives : value ++ without_true (words_read k now) ≡ without_true (words_read k before)
   pub skips : past (is_word k) now ≡ past (is_word k) before
 
-one_more : (v : List (List ℕ)) (w : List ℕ) (ws : List (List ℕ)) →
+one_more : (v : List Text) (w : Text) (ws : List Text) →
     with_subtag v w ++ without_true ws ≡ v ++ without_true (w ∷ ws)
 one_more v w ws = elim (is_true w) as (λ b. (v ++ cond (not b) (w ∷ []) []) ++ without_true ws
     ≡ v ++ cond (not b) (w ∷ without_true ws) (without_true ws)) [
@@ -28,17 +28,17 @@ one_more v w ws = elim (is_true w) as (λ b. (v ++ cond (not b) (w ∷ []) []) +
       | false ↦ append_assoc v (w ∷ []) (without_true ws)
     ]
 
-module _ (k : Kind) (before now value : List (List ℕ)) (t : Valued k before now value) (w : List ℕ)
-    (later : List (List ℕ)) (e : Some w ≡ option_map (normal k) (take_first (is_word k) now))
+module _ (k : Kind) (before now value : List Text) (t : Valued k before now value) (w : Text)
+    (later : List Text) (e : Some w ≡ option_map (normal k) (take_first (is_word k) now))
     (l : later ≡ skip_first (is_word k) now) where
-  now_is : (p : List ℕ) × IsWord k p × (w ≡ normal k p) × (now ≡ p ∷ later)
+  now_is : (p : Text) × IsWord k p × (w ≡ normal k p) × (now ≡ p ∷ later)
   now_is = let (p, h, same, cut) = took k now w e in (p, h, same, cut ∙ ap (λ ps. p ∷ ps) (sym l))
 
   words_now : words_read k now ≡ w ∷ words_read k later
   words_now = let (p, h, same, cut) = now_is in
       ap (words_read k) cut ∙ words_read_more k p later h ∙ ap (λ v. v ∷ words_read k later) (sym same)
 
-  pub valued_more : (more : List (List ℕ)) → more ≡ with_subtag value w → Valued k before later more
+  pub valued_more : (more : List Text) → more ≡ with_subtag value w → Valued k before later more
   valued_more more is = let (p, h, same, cut) = now_is in record {
     gives = ap (λ v. v ++ without_true (words_read k later)) is ∙ one_more value w (words_read k later)
         ∙ ap (λ ws. value ++ without_true ws) (sym words_now) ∙ t.gives;

@@ -2,13 +2,13 @@
 use Rattle.std.proofs.Common.{◌≡◌, ℕ, Bool, true, false, cond, ◌&&◌, ◌==◌, List, [], ◌∷◌, length, refl, sym}
 use Rattle.std.proofs.Common.{ap, ◌∙◌, true≢false, Some, None, Ok, Err}
 use Rattle.std.specs.List.{list_all}
-use Rattle.iloc_spec_grammar.specs.Syntax.{pieces, Subtag, is_word}
+use Rattle.iloc_spec_grammar.specs.Syntax.{Text, pieces, Subtag, is_word}
 use Rattle.iloc_spec_grammar.specs.Meaning.{normal_values}
 use Rattle.iloc_spec_grammar.specs.Reading.{passing, past, first_item}
 use Rattle.iloc_spec_grammar.specs.Meaning as faults
 use Rattle.iloc_spec_parts.specs.PartValues.{unicode_value}
 
-all_past : (test : List ℕ → Bool) (ps : List (List ℕ)) → first_item (past test ps) ≡ None →
+all_past : (test : Text → Bool) (ps : List Text) → first_item (past test ps) ≡ None →
     (list_all test ps ≡ true) × (passing test ps ≡ ps)
 all_past test [] e = (refl, refl)
 all_past test (p ∷ ps) e = (elim (test p) as (λ b. first_item (cond b (past test ps) (p ∷ ps)) ≡ None →
@@ -17,7 +17,7 @@ all_past test (p ∷ ps) e = (elim (test p) as (λ b. first_item (cond b (past t
       | false ↦ λ e. cc
     ]) e
 
-not_all : (test : List ℕ → Bool) (ps : List (List ℕ)) (q : List ℕ) → first_item (past test ps) ≡ Some q →
+not_all : (test : Text → Bool) (ps : List Text) (q : Text) → first_item (past test ps) ≡ Some q →
     list_all test ps ≡ false
 not_all test [] q e = cc
 not_all test (p ∷ ps) q e = (elim (test p)
@@ -26,14 +26,14 @@ not_all test (p ∷ ps) q e = (elim (test p)
       | false ↦ λ e. refl
     ]) e
 
-value_of : (t : List ℕ) → (length t == 0) ≡ false →
+value_of : (t : Text) → (length t == 0) ≡ false →
     unicode_value t
     ≡ cond (list_all (is_word Subtag) (pieces t)) (Ok (normal_values (pieces t))) (Err faults.InvalidSubtag)
 value_of [] h = absurd (true≢false h)
 value_of (c ∷ t) h = refl
 
 -- no piece is left: all are words
-pub whole_read : (t : List ℕ) (rest v : List (List ℕ)) → (length t == 0) ≡ false → None ≡ first_item rest →
+pub whole_read : (t : Text) (rest v : List Text) → (length t == 0) ≡ false → None ≡ first_item rest →
     rest ≡ past (is_word Subtag) (pieces t) → v ≡ normal_values (passing (is_word Subtag) (pieces t)) →
     unicode_value t ≡ Ok v
 whole_read t rest v h e r is =
@@ -42,7 +42,7 @@ whole_read t rest v h e r is =
     ∙ ap Ok (ap normal_values (sym all.1) ∙ sym is)
 
 -- a piece is left, which is no word
-pub whole_left : (t : List ℕ) (rest : List (List ℕ)) (p : List ℕ) → (length t == 0) ≡ false →
+pub whole_left : (t : Text) (rest : List Text) (p : Text) → (length t == 0) ≡ false →
     Some p ≡ first_item rest → rest ≡ past (is_word Subtag) (pieces t) →
     unicode_value t ≡ Err faults.InvalidSubtag
 whole_left t rest p h e r = value_of t h

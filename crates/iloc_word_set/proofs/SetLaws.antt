@@ -13,7 +13,7 @@ use Rattle.std.specs.FinMap.Entries.{below_all, is_some-find, where_key, is_sort
 use Rattle.std.proofs.lemmas.Bool.{and_parts, or_parts}
 use Rattle.std.proofs.lemmas.List.{drop_all, drop_more}
 use Rattle.std.proofs.lemmas.List.Elements.{All-from_recursion}
-use Rattle.iloc_spec_grammar.specs.Syntax.{word_cmp, is_same}
+use Rattle.iloc_spec_grammar.specs.Syntax.{Text, word_cmp, is_same}
 use Rattle.iloc_spec_grammar.specs.Meaning.{set_of}
 use Rattle.iloc_spec_grammar.specs.Values.{StrictlyAscends}
 use Rattle.iloc_spec_grammar.proofs.MapLaws.{word_cmp_total, same_words, to_T, less, map_of_same}
@@ -25,10 +25,10 @@ use Rattle.std.proofs.lemmas.List.Folds.{list_any-append}
 
 -- the order
 
-turned : (x y : List ℕ) (r : Ordering) → word_cmp y x ≡ r → word_cmp x y ≡ ordering_reverse r
+turned : (x y : Text) (r : Ordering) → word_cmp y x ≡ r → word_cmp x y ≡ ordering_reverse r
 turned x y r h = word_cmp_total.antisymm x y ∙ ap ordering_reverse h
 
-less_index : (a b x : List ℕ) → word_cmp a b ≡ Less →
+less_index : (a b x : Text) → word_cmp a b ≡ Less →
     ordering_index (word_cmp a x) ≤ ordering_index (word_cmp b x)
 less_index a b x h = by (word_cmp b x) refl
   where
@@ -44,7 +44,7 @@ less_index a b x h = by (word_cmp b x) refl
     by Greater e = top (word_cmp a x)
 
 -- the answers of a search rise along a set
-rising : (x : List ℕ) (ws : List (List ℕ)) → StrictlyAscends word_cmp ws →
+rising : (x : Text) (ws : List Text) → StrictlyAscends word_cmp ws →
     IsNonDecreasingBy (λ y. ordering_index (word_cmp y x)) ws
 rising x [] s i j d le lt = absurd (omega (arith, lt))
 rising x (y ∷ ys) s zero zero d le lt = omega arith
@@ -55,27 +55,27 @@ rising x (y ∷ ys) s (suc i) (suc j) d le lt = rising x ys s.1 i j d (omega (ar
 
 -- one word more
 
-set_of-put : (x : List ℕ) (ws : List (List ℕ)) → StrictlyAscends word_cmp ws →
+set_of-put : (x : Text) (ws : List Text) → StrictlyAscends word_cmp ws →
     set_of (x ∷ ws) ≡ keys (put word_cmp x (tt {0}) (marked ws))
 set_of-put x ws h =
     ap (λ es. keys (put word_cmp x (tt {0}) es)) (map_of_sorted word_cmp (marked ws) (keys_ascend ws h))
 
-none_below : (x y : List ℕ) (ys : List (List ℕ)) → word_cmp x y ≡ Less →
+none_below : (x y : Text) (ys : List Text) → word_cmp x y ≡ Less →
     AllByRecursion (λ z. word_cmp y z ≡ Less) ys → list_any (is_same x) ys ≡ false
 none_below x y [] l s = refl
 none_below x y (z ∷ zs) l s = rw (word_cmp_total.trans x y z l s.0) (none_below x y zs l s.1)
 
 -- the place of a word that is not there
-abbrev IsPlace : List ℕ → List (List ℕ) → ℕ → Type 0
+abbrev IsPlace : Text → List Text → ℕ → Type 0
 IsPlace x ws i = IsPartitionPoint (λ y. word_cmp y x ≡ Less) (λ y. word_cmp y x ≡ Greater) ws i
 
-place_later : (x y : List ℕ) (ys : List (List ℕ)) (i : ℕ) → IsPlace x (y ∷ ys) (suc i) → IsPlace x ys i
+place_later : (x y : Text) (ys : List Text) (i : ℕ) → IsPlace x (y ∷ ys) (suc i) → IsPlace x ys i
 place_later x y ys i p = (
   λ k d a b. p.0 (suc k) d (omega arith) (omega (arith, b)),
   λ k d a b. p.1 (suc k) d (omega (arith, a)) (omega (arith, b)),
 )
 
-insert_is_put : (x : List ℕ) (ws : List (List ℕ)) (i : ℕ) → i ≤ length ws → IsPlace x ws i →
+insert_is_put : (x : Text) (ws : List Text) (i : ℕ) → i ≤ length ws → IsPlace x ws i →
     insert ws i x ≡ keys (put word_cmp x (tt {0}) (marked ws))
 insert_is_put x [] zero l p = refl
 insert_is_put x [] (suc i) l p = absurd (omega (arith, l))
@@ -85,7 +85,7 @@ insert_is_put x (y ∷ ys) (suc i) l p =
     rw (turned x y Less (p.0 0 y (omega arith) (omega arith)))
     (ap (λ l. y ∷ l) (insert_is_put x ys i (omega (arith, l)) (place_later x y ys i p)))
 
-place_is_new : (x : List ℕ) (ws : List (List ℕ)) (i : ℕ) → i ≤ length ws → StrictlyAscends word_cmp ws →
+place_is_new : (x : Text) (ws : List Text) (i : ℕ) → i ≤ length ws → StrictlyAscends word_cmp ws →
     IsPlace x ws i → list_any (is_same x) ws ≡ false
 place_is_new x [] i l s p = refl
 place_is_new x (y ∷ ys) zero l s p =
@@ -96,11 +96,11 @@ place_is_new x (y ∷ ys) (suc i) l s p =
     (place_is_new x ys i (omega (arith, l)) s.1 (place_later x y ys i p))
 
 -- what a binary search tells of a word that is not there
-pub record IsNew (x : List ℕ) (ws : List (List ℕ)) (i : ℕ) : Type 0 where
+pub record IsNew (x : Text) (ws : List Text) (i : ℕ) : Type 0 where
   pub absent : list_any (is_same x) ws ≡ false
   pub set : insert ws i x ≡ set_of (x ∷ ws)
 
-pub search_new : (slice ws : List (List ℕ)) (x : List ℕ) (i : ℕ) → slice ≡ ws → StrictlyAscends word_cmp ws →
+pub search_new : (slice ws : List Text) (x : Text) (i : ℕ) → slice ≡ ws → StrictlyAscends word_cmp ws →
     i ≤ length slice → (IsNonDecreasingBy (λ y. ordering_index (word_cmp y x)) slice → IsPlace x slice i) →
     IsNew x ws i
 search_new slice ws x i e s l p =
@@ -112,7 +112,7 @@ search_new slice ws x i e s l p =
 
 -- a word that is there
 
-tied_is_there : (x : List ℕ) (ws : List (List ℕ)) (i : ℕ) → i < length ws →
+tied_is_there : (x : Text) (ws : List Text) (i : ℕ) → i < length ws →
     HoldsAt (λ y. word_cmp y x ≡ Equal) ws i → list_any (is_same x) ws ≡ true
 tied_is_there x [] i l h = absurd (omega (arith, l))
 tied_is_there x (y ∷ ys) zero l h = rw (turned x y Equal (h y)) refl
@@ -120,7 +120,7 @@ tied_is_there x (y ∷ ys) (suc i) l h = elim (is_same x y) as (λ b. (b || list
     [ true ↦ refl | false ↦ tied_is_there x ys i (omega (arith, l)) h ]
 
 -- a word before the one that is there is below it
-before_tied : (x y : List ℕ) (ys : List (List ℕ)) (i : ℕ) → i < length ys →
+before_tied : (x y : Text) (ys : List Text) (i : ℕ) → i < length ys →
     AllByRecursion (λ z. word_cmp y z ≡ Less) ys → HoldsAt (λ z. word_cmp z x ≡ Equal) ys i →
     word_cmp x y ≡ Greater
 before_tied x y ys i l s h =
@@ -130,7 +130,7 @@ before_tied x y ys i l s h =
     let same : z ≡ x = same_words z x (h y) in
     turned x y Less (ap (word_cmp y) (sym same) ∙ down)
 
-put_there : (x : List ℕ) (ws : List (List ℕ)) (i : ℕ) → i < length ws → StrictlyAscends word_cmp ws →
+put_there : (x : Text) (ws : List Text) (i : ℕ) → i < length ws → StrictlyAscends word_cmp ws →
     HoldsAt (λ y. word_cmp y x ≡ Equal) ws i → keys (put word_cmp x (tt {0}) (marked ws)) ≡ ws
 put_there x [] i l s h = absurd (omega (arith, l))
 put_there x (y ∷ ys) zero l s h = rw (turned x y Equal (h y)) (ap (λ l. y ∷ l) (unmarked ys))
@@ -139,11 +139,11 @@ put_there x (y ∷ ys) (suc i) l s h =
     (ap (λ l. y ∷ l) (put_there x ys i (omega (arith, l)) s.1 h))
 
 -- what a binary search tells of a word that is there
-pub record IsThere (x : List ℕ) (ws : List (List ℕ)) : Type 0 where
+pub record IsThere (x : Text) (ws : List Text) : Type 0 where
   pub present : list_any (is_same x) ws ≡ true
   pub set : ws ≡ set_of (x ∷ ws)
 
-pub search_old : (slice ws : List (List ℕ)) (x : List ℕ) (i : ℕ) → slice ≡ ws → StrictlyAscends word_cmp ws →
+pub search_old : (slice ws : List Text) (x : Text) (i : ℕ) → slice ≡ ws → StrictlyAscends word_cmp ws →
     i < length slice → HoldsAt (λ y. word_cmp y x ≡ Equal) slice i → IsThere x ws
 search_old slice ws x i e s l h =
     rw (← e) (record {
@@ -153,12 +153,12 @@ search_old slice ws x i e s l h =
 
 -- one word less
 
-kept_above : (x : List ℕ) (ws : List (List ℕ)) → AllByRecursion (λ v. word_cmp x v ≡ Less) ws →
+kept_above : (x : Text) (ws : List Text) → AllByRecursion (λ v. word_cmp x v ≡ Less) ws →
     filter (λ w. not (is_same x w)) ws ≡ ws
 kept_above x [] h = refl
 kept_above x (w ∷ ws) h = rw h.0 (ap (λ l. w ∷ l) (kept_above x ws h.1))
 
-remove_is_filter : (x : List ℕ) (ws : List (List ℕ)) (i : ℕ) → i < length ws → StrictlyAscends word_cmp ws →
+remove_is_filter : (x : Text) (ws : List Text) (i : ℕ) → i < length ws → StrictlyAscends word_cmp ws →
     HoldsAt (λ y. word_cmp y x ≡ Equal) ws i → remove ws i ≡ filter (λ w. not (is_same x w)) ws
 remove_is_filter x [] i l s h = absurd (omega (arith, l))
 remove_is_filter x (y ∷ ys) zero l s h =
@@ -170,18 +170,18 @@ remove_is_filter x (y ∷ ys) (suc i) l s h =
     (ap (λ l. y ∷ l) (remove_is_filter x ys i (omega (arith, l)) s.1 h))
 
 -- what is not there is not taken out
-pub kept_all : (x : List ℕ) (ws : List (List ℕ)) → list_any (is_same x) ws ≡ false →
+pub kept_all : (x : Text) (ws : List Text) → list_any (is_same x) ws ≡ false →
     filter (λ w. not (is_same x w)) ws ≡ ws
 kept_all x [] h = refl
 kept_all x (w ∷ ws) h = let parts = or_parts (is_same x w) (list_any (is_same x) ws) h in
     rw parts.0 (ap (λ l. w ∷ l) (kept_all x ws parts.1))
 
-pub search_removed : (slice ws : List (List ℕ)) (x : List ℕ) (i : ℕ) → slice ≡ ws →
+pub search_removed : (slice ws : List Text) (x : Text) (i : ℕ) → slice ≡ ws →
     StrictlyAscends word_cmp ws → i < length slice → HoldsAt (λ y. word_cmp y x ≡ Equal) slice i →
     remove ws i ≡ filter (λ w. not (is_same x w)) ws
 search_removed slice ws x i e s l h = rw (← e) (remove_is_filter x slice i l (rw e s) h)
 
-marked-filter : (p : List ℕ → Bool) (ws : List (List ℕ)) →
+marked-filter : (p : Text → Bool) (ws : List Text) →
     where_key word_cmp p (marked ws) ≡ marked (filter p ws)
 marked-filter p [] = refl
 marked-filter p (w ∷ ws) = elim (p w)
@@ -191,7 +191,7 @@ marked-filter p (w ∷ ws) = elim (p w)
       | false ↦ marked-filter p ws
     ]
 
-pub ascending-filter : (p : List ℕ → Bool) (ws : List (List ℕ)) → StrictlyAscends word_cmp ws →
+pub ascending-filter : (p : Text → Bool) (ws : List Text) → StrictlyAscends word_cmp ws →
     StrictlyAscends word_cmp (filter p ws)
 ascending-filter p ws h = ascend_as_keys _ (from_T _ (subst (λ es. T (is_sorted word_cmp es))
     (marked-filter p ws) (is_sorted-where_key word_cmp p (marked ws) (to_T _ (keys_ascend ws h)))))
@@ -204,12 +204,12 @@ same_mark None (Some y) e = cc
 same_mark (Some x) None e = cc
 same_mark (Some x) (Some y) e = refl
 
-is_some-marked : (q : List ℕ) (ws : List (List ℕ)) →
+is_some-marked : (q : Text) (ws : List Text) →
     is_some (find word_cmp q (marked ws)) ≡ list_any (is_same q) ws
 is_some-marked q ws = is_some-find word_cmp q (marked ws) ∙ ap (list_any (is_same q)) (unmarked ws)
 
 -- lists with the same words have one set
-pub same_set : (vs ws : List (List ℕ)) → ((q : List ℕ) → list_any (is_same q) vs ≡ list_any (is_same q) ws) →
+pub same_set : (vs ws : List Text) → ((q : Text) → list_any (is_same q) vs ≡ list_any (is_same q) ws) →
     set_of vs ≡ set_of ws
 same_set vs ws h = ap keys (map_of_same word_cmp word_cmp_total same_words (marked vs) (marked ws)
     (λ q. same_mark _ _ (is_some-marked q vs ∙ h q ∙ sym (is_some-marked q ws))))
@@ -221,7 +221,7 @@ moved true false c = refl
 moved false b c = refl
 
 -- a word moves from the words that are left to the set
-pub union_step : (x : List ℕ) (ws rest : List (List ℕ)) →
+pub union_step : (x : Text) (ws rest : List Text) →
     set_of (set_of (x ∷ ws) ++ rest) ≡ set_of (ws ++ x ∷ rest)
 union_step x ws rest = same_set _ _ (λ q.
     list_any-append (is_same q) (set_of (x ∷ ws)) rest
@@ -231,13 +231,13 @@ union_step x ws rest = same_set _ _ (λ q.
 
 -- lists that ascend
 
-below_later : (x y : List ℕ) (ws : List (List ℕ)) → word_cmp x y ≡ Less →
+below_later : (x y : Text) (ws : List Text) → word_cmp x y ≡ Less →
     AllByRecursion (λ w. word_cmp y w ≡ Less) ws → AllByRecursion (λ w. word_cmp x w ≡ Less) ws
 below_later x y [] l h = tt
 below_later x y (w ∷ ws) l h = (word_cmp_total.trans x y w l h.0, below_later x y ws l h.1)
 
 -- the test for a set is what a set keeps
-pub set_ascends : (ws : List (List ℕ)) → ascends word_cmp ws ≡ true → StrictlyAscends word_cmp ws
+pub set_ascends : (ws : List Text) → ascends word_cmp ws ≡ true → StrictlyAscends word_cmp ws
 set_ascends [] h = tt
 set_ascends (x ∷ []) h = (tt, tt)
 set_ascends (x ∷ (y ∷ ws)) h =
@@ -247,13 +247,13 @@ set_ascends (x ∷ (y ∷ ws)) h =
     ((down, below_later x y ws down later.0), later)
 
 -- the end of a union
-pub union_done : (ws items all : List (List ℕ)) (i : ℕ) → length items ≤ i → StrictlyAscends word_cmp ws →
+pub union_done : (ws items all : List Text) (i : ℕ) → length items ≤ i → StrictlyAscends word_cmp ws →
     set_of (ws ++ drop i items) ≡ set_of all → ws ≡ set_of all
 union_done ws items all i l s e =
     sym (set_of_ascending ws s)
     ∙ ap set_of (sym (append-nil ws) ∙ ap (λ rest. ws ++ rest) (sym (drop_all i items l))) ∙ e
 
-pub union_next : (x : List ℕ) (ws items new all : List (List ℕ)) (i : ℕ) → i < length items →
+pub union_next : (x : Text) (ws items new all : List Text) (i : ℕ) → i < length items →
     x ≡ get_or items i x → new ≡ set_of (x ∷ ws) → set_of (ws ++ drop i items) ≡ all →
     set_of (new ++ drop (i + 1) items) ≡ all
 union_next x ws items new all i l is e h =

@@ -90,7 +90,7 @@ locale_of_normal Data t n (d, m, e) =
     }
 
 -- what is handed out is the rows of that locale
-pub parts_written : {mode : Mode} {t : Text} (room : Text) (end : ℕ) (before after : List ℕ) (needed : ℕ)
+pub parts_written : {mode : Mode} {t : Text} (room : Text) (end : ℕ) (before after : Text) (needed : ℕ)
     (status : Status)
     → (h : HasLocale mode t (take end room)) → end ≤ length room
     → IsNormalText languages mode t (take end room)

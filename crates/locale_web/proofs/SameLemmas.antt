@@ -2,7 +2,7 @@
 use Rattle.std.proofs.Common.{◌≡◌, ℕ, Bool, true, false, IsTrue, ◌↔◌, ◌⊎◌, List, inl, inr, refl, sym, ap, ◌∙◌}
 use Rattle.std.proofs.Common.{subst, true≢false}
 use Rattle.std.specs.Int.{from_bool}
-use Rattle.iloc_spec_grammar.specs.Syntax.{pieces, languages}
+use Rattle.iloc_spec_grammar.specs.Syntax.{Text, pieces, languages}
 use Rattle.iloc_spec_grammar.specs.Meaning as meaning
 use Rattle.iloc_spec_grammar.specs.Meaning.{IdentifierMeans, Means}
 use Rattle.iloc_spec_grammar.proofs.RawLaws.{languages_table}
@@ -24,7 +24,7 @@ use Rattle.iloc_calls.specs.declared.status.Status.TheVariants.{Done}
 use Rattle.locale_web.specs.Answers.{SameIsWritten}
 
 -- two texts have one normal text exactly if they mean the same
-pub same_normal : (mode : Mode) (t u a b : List ℕ) → IsNormalText languages mode t a →
+pub same_normal : (mode : Mode) (t u a b : Text) → IsNormalText languages mode t a →
     IsNormalText languages mode u b → (a ≡ b) ↔ MeanSame mode t u
 same_normal Langid t u a b (i, m, e) (j, n, f) =
     let q = same_identifier_meaning (pieces t) (pieces u) i j m n in (
@@ -50,10 +50,10 @@ same_normal Data t u a b (d, m, e) (c, n, f) = (
   where
     one_value : data_text d ≡ data_text c → d ≡ c
     one_value x = one_data languages_table (data_text c) d c
-        (subst (λ (v : List ℕ). DataMeans languages v d) x (read_back t d m)) (read_back u c n)
+        (subst (λ (v : Text). DataMeans languages v d) x (read_back t d m)) (read_back u c n)
 
 -- a text with a fault means nothing
-pub faulty_apart : (mode : Mode) (t u : List ℕ) (f : meaning.Fault) → IsFaulty languages mode u f →
+pub faulty_apart : (mode : Mode) (t u : Text) (f : meaning.Fault) → IsFaulty languages mode u f →
     MeanSame mode t u → ⊥
 faulty_apart Langid t u f h (i, m, n) = identifier_apart (pieces u) i f n h
 faulty_apart Locale t u f h (M, m, n) = accepted_no_fault languages_table u M f n h
@@ -65,7 +65,7 @@ number_of_same P true e = inl (refl, e.0 refl)
 number_of_same P false e = inr (refl, λ m. true≢false (sym (e.1 m)))
 
 -- two texts mean the same exactly if the same bytes were put
-pub bytes_same : (mode : Mode) (t u a b : List ℕ) (before after : ℕ) (same : Bool) →
+pub bytes_same : (mode : Mode) (t u a b : Text) (before after : ℕ) (same : Bool) →
     IsNormalText languages mode t a → IsNormalText languages mode u b
     → after ≡ from_bool same → IsTrue same ↔ (a ≡ b) → SameIsWritten mode t u before after Done
 bytes_same mode t u a b before after same h k is e =
@@ -76,7 +76,7 @@ bytes_same mode t u a b before after same h k is e =
     )
 
 -- and a text that means something means nothing that is refused
-pub refused_apart : (mode : Mode) (t u : List ℕ) (e : ParseError) → HasRefusal mode u e → MeanSame mode t u →
+pub refused_apart : (mode : Mode) (t u : Text) (e : ParseError) → HasRefusal mode u e → MeanSame mode t u →
     ⊥
 refused_apart mode t u refusals.InvalidLanguage h m = faulty_apart mode t u meaning.InvalidLanguage h m
 refused_apart mode t u refusals.InvalidSubtag h m = faulty_apart mode t u meaning.InvalidSubtag h m

@@ -5,6 +5,7 @@ use Rattle.std.specs.Ordering.{nat_cmp}
 use Rattle.iloc_handles.proofs.ItemLemmas.{item_at}
 use Rattle.iloc_handles.proofs.OtherLemmas.{at_singleton}
 use Rattle.iloc_handles.proofs.others.other_of.Goals as goal
+use Rattle.iloc_spec_grammar.specs.Syntax.{Text}
 
 pub returns : goal.returns
 returns c =
@@ -12,5 +13,5 @@ returns c =
     let small = c.to_ascii_lowercase in
     item_at _ _ _ c.get.ensures.lookup ∙ ap (slice_get others.result.now) c.place_of.ensures
     ∙ at_singleton small.result others.result.now
-    ∙ (λ i. option_map (λ (ws : List (List ℕ)). (small.ensures.value i, ws))
+    ∙ (λ i. option_map (λ (ws : List Text). (small.ensures.value i, ws))
     (find nat_cmp (small.ensures.value i) (others.ensures.value i)))

@@ -1,12 +1,13 @@
 use Rattle.std.proofs.Common.{◌++◌, ap, ◌∙◌, arith, List, ℕ}
 use Rattle.iloc_json.proofs.CarryLemmas.{refused, no_memory, one_more, dropped}
 use Rattle.iloc_json.proofs.carry.carry_v1.Goals as goal
+use Rattle.iloc_spec_grammar.specs.Syntax.{Text}
 
 pub words-preserved : goal.words-preserved
 words-preserved c = one_more c.args.row.now c.words.rest.now c.words.carried.items c.words.count
     c.in-Ok.language _ _ c.words.invariant c.words-test.true c.in-Ok.ensures.0 c.in-Ok.ensures.1
     (dropped c.words.rest.now c.words-test.true) (c.in-Ok-extend_from_slice.ensures.items
-    ∙ ap (λ (x : List ℕ). c.words.carried.items ++ x) c.into_raw.ensures)
+    ∙ ap (λ (x : Text). c.words.carried.items ++ x) c.into_raw.ensures)
 
 pub returns-in_default-clause-err : goal.returns-in_default-clause-err
 returns-in_default-clause-err c = refused c.args.row.now c.words.rest.now c.words.carried.items c.words.count

@@ -1,6 +1,6 @@
 -- The word of the variant is a subtag, and reads as the variant.
 use Rattle.std.proofs.Common.{◌≡◌, List, [], ◌∷◌, ℕ, Some, ap, ◌∙◌, slice_get}
-use Rattle.iloc_spec_grammar.specs.Syntax.{Subtag}
+use Rattle.iloc_spec_grammar.specs.Syntax.{Text, Subtag}
 use Rattle.iloc_spec_grammar.specs.Values.{IsNormal}
 use Rattle.iloc_spec_preferences.specs.Keywords.{EnumKeyword, variants, enum_gives}
 use Rattle.iloc_word_list.specs.Values.{without_true}
@@ -10,7 +10,7 @@ use Rattle.iloc_keyword_types.proofs.enum_keyword.give_keyword.Goals.{After-word
 use Rattle.iloc_keyword_types.proofs.enum_keyword.give_keyword.Goals as goal
 
 module _ (g : _) (c : goal.After-word_number g) where
-  abbrev word : List ℕ
+  abbrev word : Text
   word = word_at g.E.WordEnum.words (g.E.WordEnum.place c.args.keyword)
 
   is_normal : IsNormal Subtag word
@@ -27,7 +27,7 @@ returns g c =
     keyword : EnumKeyword
     keyword = g.E.EnumKeyword.keyword
 
-    words : List (List ℕ)
+    words : List Text
     words = g.E.WordEnum.words
 
     same : words ≡ variants keyword
@@ -45,5 +45,5 @@ returns g c =
     value : enum_gives keyword (variant place) ≡ Some c.from_subtag.result
     value = given keyword words same g.met.E.EnumKeyword.plain place at c.from_subtag.result
         (c.from_subtag.ensures
-        ∙ ap (λ (w : List ℕ). without_true (w ∷ []))
+        ∙ ap (λ (w : Text). without_true (w ∷ []))
         (c.known_subtag.ensures (word_at words place) normal c.word_number.ensures))

@@ -1,6 +1,6 @@
 use Rattle.std.proofs.Common.{◌≡◌, ◌<◌, ◌∙◌, ℕ, List, [], ◌∷◌, Some, length, refl, sym, ap, subst, arith}
 use Rattle.std.proofs.Common.{codes}
-use Rattle.iloc_spec_grammar.specs.Syntax.{Subtag, is_word, lower}
+use Rattle.iloc_spec_grammar.specs.Syntax.{Text, Subtag, is_word, lower}
 use Rattle.iloc_spec_grammar.specs.Values.{IsNormal, spelled_value}
 use Rattle.iloc_spec_parts.specs.SingleValues.{single}
 use Rattle.iloc_keyword_types.proofs.enum_keyword.only_word.Goals as goal
@@ -9,7 +9,7 @@ true_is_normal : IsNormal Subtag (codes "true")
 unfolding is_word lower
 true_is_normal = (refl, refl)
 
-none : (ws : List (List ℕ)) → length ws < 1 → ws ≡ []
+none : (ws : List Text) → length ws < 1 → ws ≡ []
 none [] h = refl
 none (w ∷ ws) h = absurd (omega arith)
 

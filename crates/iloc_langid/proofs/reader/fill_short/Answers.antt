@@ -1,5 +1,5 @@
 use Rattle.std.proofs.Common.{List, [], ℕ, subst}
-use Rattle.iloc_spec_grammar.specs.Syntax.{pieces}
+use Rattle.iloc_spec_grammar.specs.Syntax.{Text, pieces}
 use Rattle.iloc_langid.specs.PlainReads.{IsPlainFront}
 use Rattle.iloc_langid.proofs.PlainLemmas.{plain_means}
 use Rattle.iloc_langid.proofs.reader.fill_short.Goals as goal
@@ -7,5 +7,5 @@ use Rattle.iloc_langid.proofs.reader.fill_short.Goals as goal
 pub returns-in-Some-clause-told : goal.returns-in-Some-clause-told
 returns-in-Some-clause-told c =
     λ _. plain_means (pieces c.args.text.now) _
-    (subst (λ (t : List ℕ). IsPlainFront (pieces t) [] c.in-Some.told) c.load-lanes.ensures c.in-Some.ensures)
+    (subst (λ (t : Text). IsPlainFront (pieces t) [] c.in-Some.told) c.load-lanes.ensures c.in-Some.ensures)
     c.requires

@@ -1,7 +1,7 @@
 use Rattle.std.proofs.Common.{List, [], ℕ, subst}
 use Rattle.iloc_fronts.specs.Front.{IsFront}
 use Rattle.iloc_fronts.specs.declared.front.Front.TheVariants as fronts
-use Rattle.iloc_spec_grammar.specs.Syntax.{pieces}
+use Rattle.iloc_spec_grammar.specs.Syntax.{Text, pieces}
 use Rattle.iloc_langid.specs.PlainReads.{IsPlainFront}
 use Rattle.iloc_langid.proofs.PlainLemmas.{plain_small, no_language_small}
 use Rattle.iloc_langid.proofs.small_locale.read_small_locale.Goals as goal
@@ -9,10 +9,10 @@ use Rattle.iloc_langid.proofs.small_locale.read_small_locale.Goals as goal
 pub returns-in-Some : goal.returns-in-Some
 returns-in-Some c =
     plain_small c.args.code_units.now c.in-Some.plain (subst
-    (λ (t : List ℕ). IsPlainFront (pieces t) [] c.in-Some.plain) c.load-lanes.ensures c.in-Some.ensures)
+    (λ (t : Text). IsPlainFront (pieces t) [] c.in-Some.plain) c.load-lanes.ensures c.in-Some.ensures)
 
 pub returns-then-not-begins_with_language : goal.returns-then-not-begins_with_language
 returns-then-not-begins_with_language c =
     no_language_small c.args.code_units.now
-    (subst (λ (t : List ℕ). IsFront t fronts.NoLanguage) c.load-lanes.ensures
+    (subst (λ (t : Text). IsFront t fronts.NoLanguage) c.load-lanes.ensures
     (c.begins_with_language.ensures c.if-not-begins_with_language.true))

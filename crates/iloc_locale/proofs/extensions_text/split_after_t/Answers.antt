@@ -4,13 +4,15 @@ use Rattle.iloc_locale.proofs.SplitLemmas.{count, count_none, count_hit, count_m
 use borrow.Author.Tests.{tests}
 use Rattle.iloc_locale.proofs.extensions_text.split_after_t.Goals.{After-split_at}
 use Rattle.iloc_locale.proofs.extensions_text.split_after_t.Goals as goal
+use Rattle.iloc_spec_grammar.specs.Syntax.{code_t}
 
 place : (c : After-split_at) → c.unwrap_or.result ≡ count c.args.others.now
 place c =
     let others = c.args.others.now in
     c.unwrap_or.ensures
-    ∙ sym (index_from_first count (λ o. 116 < o.0) (λ o. o.0 ≤ 116) count_none count_hit count_miss others _
-    (IsFirst-from_position _ _ _ (λ o. 116 < o.0) (λ o. o.0 ≤ 116) c.position-above.ensures.ran
+    ∙ sym
+    (index_from_first count (λ o. code_t < o.0) (λ o. o.0 ≤ code_t) count_none count_hit count_miss others _
+    (IsFirst-from_position _ _ _ (λ o. code_t < o.0) (λ o. o.0 ≤ code_t) c.position-above.ensures.ran
     (YieldsList-from_slice others c.iter.ensures.rest) (λ x q k. search (rules, tests))
     (λ x q k. search (rules, tests))))
 

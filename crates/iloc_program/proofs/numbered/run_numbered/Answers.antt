@@ -7,6 +7,7 @@ use Rattle.iloc_program.proofs.RunLemmas.{Stands-end, Stands-end_part, Stands-fe
 use Rattle.iloc_program.proofs.RunLemmas.{Stands-front, Stands-kept, Stands-part, Stands-read}
 use Rattle.iloc_program.proofs.RunLemmas.{Stands-read_none}
 use Rattle.iloc_program.proofs.numbered.run_numbered.Goals as goal
+use Rattle.iloc_spec_grammar.specs.Syntax.{Text}
 
 pub returns-in_err-room-clause-err : goal.returns-in_err-room-clause-err
 returns-in_err-room-clause-err g c = on_err _ _
@@ -44,7 +45,7 @@ returns-in_err-write_whole-clause-err g c =
     (Stands-read_none _ _ _ _ _ _ _ _ _ _ _ c.reads.invariant.stands c.in-Ok.ensures.bytes.0
     c.if-count-eq0.true)
     end c.in_ok-next.ensures c.clear.ensures took.bytes
-    (subst (λ (t : List ℕ). StartsWith t took.written) c.as_slice.ensures took.begins))
+    (subst (λ (t : Text). StartsWith t took.written) c.as_slice.ensures took.begins))
 
 pub returns-in_err-number-clause-err : goal.returns-in_err-number-clause-err
 returns-in_err-number-clause-err g c =
@@ -62,7 +63,7 @@ returns-in_err-write_whole-2-clause-err g c =
     (Stands-read _ _ _ _ _ _ _ _ piece _ c.reads.invariant.stands
     (subst (Consumes _ _) (sym given) c.in-Ok.ensures.bytes.0))
     c.in_ok-number.ensures c.clear.ensures took.bytes
-    (subst (λ (t : List ℕ). StartsWith t took.written) c.as_slice-in-reads.ensures took.begins))
+    (subst (λ (t : Text). StartsWith t took.written) c.as_slice-in-reads.ensures took.begins))
 
 pub reads-preserved : goal.reads-preserved
 reads-preserved g c =

@@ -3,9 +3,10 @@ use Rattle.std.proofs.Common.{ℕ, List, subst}
 use Rattle.iloc_data.specs.Reads.{DataTextReads}
 use Rattle.iloc_data.proofs.ReadLemmas.{data_accepts, data_refuses, meant_of, keeps_narrow}
 use Rattle.iloc_data.proofs.data_locale.DataLocale.try_from_str.Goals as goal
+use Rattle.iloc_spec_grammar.specs.Syntax.{Text}
 
 pub returns-clause-reads : goal.returns-clause-reads
-returns-clause-reads c = subst (λ (t : List ℕ). DataTextReads t c.try_from_utf8.result)
+returns-clause-reads c = subst (λ (t : Text). DataTextReads t c.try_from_utf8.result)
     c.as_bytes.ensures.value c.try_from_utf8.ensures.reads
 
 pub returns-clause-memory : goal.returns-clause-memory

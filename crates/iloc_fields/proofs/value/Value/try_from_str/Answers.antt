@@ -4,13 +4,14 @@ use Rattle.iloc_fields.specs.ValueReading.{FieldValueTextReads, FieldValueTextWa
 use Rattle.iloc_subtags.specs.Judging.{RunsOutOnlyIf}
 use Rattle.iloc_fields.proofs.ValueOwed.{value_accepts, value_refuses}
 use Rattle.iloc_fields.proofs.value.Value.try_from_str.Goals as goal
+use Rattle.iloc_spec_grammar.specs.Syntax.{Text}
 
 pub returns-clause-reads : goal.returns-clause-reads
-returns-clause-reads c = subst (λ (t : List ℕ). FieldValueTextReads t c.try_from_utf8.result)
+returns-clause-reads c = subst (λ (t : Text). FieldValueTextReads t c.try_from_utf8.result)
     c.as_bytes.ensures.value c.try_from_utf8.ensures.reads
 
 pub returns-clause-memory : goal.returns-clause-memory
-returns-clause-memory c = subst (λ (t : List ℕ). RunsOutOnlyIf (FieldValueTextWants t) c.try_from_utf8.result)
+returns-clause-memory c = subst (λ (t : Text). RunsOutOnlyIf (FieldValueTextWants t) c.try_from_utf8.result)
     c.as_bytes.ensures.value c.try_from_utf8.ensures.memory
 
 pub returns-clause-accepted : goal.returns-clause-accepted

@@ -1,5 +1,5 @@
 use Rattle.std.proofs.Common.{◌≡◌, ℕ, List, [], ◌∷◌, sym, ap, ◌∙◌, refl, Some}
-use Rattle.iloc_spec_grammar.specs.Syntax.{Subtag}
+use Rattle.iloc_spec_grammar.specs.Syntax.{Text, Subtag}
 use Rattle.iloc_spec_grammar.specs.Values.{IsNormal}
 use Rattle.iloc_spec_preferences.specs.Keywords as keywords
 use Rattle.iloc_spec_preferences.specs.Keywords.{variants, hijri_kinds}
@@ -32,7 +32,7 @@ returns-in-None-clause-value c = (
   c.from_subtag.result,
   given_plain c.args.self.now (sym c.in-None.ensures)
       ∙ ap Some (sym (c.from_subtag.ensures
-      ∙ ap (λ (w : List ℕ). without_true (w ∷ []))
+      ∙ ap (λ (w : Text). without_true (w ∷ []))
       (c.known_subtag-word.ensures _ (calendar_normal c.args.self.now) c.word_number.ensures))),
   refl,
 )

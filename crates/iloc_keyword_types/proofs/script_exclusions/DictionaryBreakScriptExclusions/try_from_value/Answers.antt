@@ -4,6 +4,7 @@ use Rattle.iloc_spec_preferences.specs.Keywords.{scripts_read}
 use Rattle.iloc_keyword_types.proofs.ScriptLemmas.{none_before, takes_script, refuses_word, ends, lengthens}
 use Rattle.iloc_keyword_types.proofs.ScriptLemmas.{no_room}
 use Rattle.iloc_keyword_types.proofs.script_exclusions.DictionaryBreakScriptExclusions.try_from_value.Goals as goal
+use Rattle.iloc_spec_grammar.specs.Syntax.{Text}
 
 pub loop-subtag-init : goal.loop-subtag-init
 loop-subtag-init c =
@@ -19,7 +20,7 @@ returns-in_default c =
 pub returns-in_err-push : goal.returns-in_err-push
 returns-in_err-push c =
     let p = err_from_is_err_and c.from_residual.result c.from_residual.ensures.1 in
-    rw (p.1, p.2) (subst (λ (ws : List (List ℕ)). 4 < length ws) c.as_subtags_slice-subtags.ensures.subtags
+    rw (p.1, p.2) (subst (λ (ws : List Text). 4 < length ws) c.as_subtags_slice-subtags.ensures.subtags
     (no_room (length c.loop-subtag.scripts) _ c.loop-subtag.subtag-index c.in_err-push.ensures.succeeds
     c.loop-subtag.invariant.1 c.loop-subtag-test.true))
 

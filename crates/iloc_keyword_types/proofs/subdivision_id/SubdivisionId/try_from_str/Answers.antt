@@ -3,9 +3,10 @@ use Rattle.std.proofs.Common.{ℕ, List, subst}
 use Rattle.iloc_keyword_types.specs.Subdivisions.{SubdivisionTextReads}
 use Rattle.iloc_keyword_types.proofs.OwedLemmas.{subdivision_accepts, subdivision_refuses}
 use Rattle.iloc_keyword_types.proofs.subdivision_id.SubdivisionId.try_from_str.Goals as goal
+use Rattle.iloc_spec_grammar.specs.Syntax.{Text}
 
 pub returns-clause-reads : goal.returns-clause-reads
-returns-clause-reads c = subst (λ (t : List ℕ). SubdivisionTextReads t c.try_from_utf8.result)
+returns-clause-reads c = subst (λ (t : Text). SubdivisionTextReads t c.try_from_utf8.result)
     c.as_bytes.ensures.value c.try_from_utf8.ensures.reads
 
 pub returns-clause-accepted : goal.returns-clause-accepted

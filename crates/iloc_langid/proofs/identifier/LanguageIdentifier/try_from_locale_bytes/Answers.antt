@@ -1,13 +1,13 @@
 -- the head of the pieces is read
 use Rattle.std.proofs.Common.{ℕ, List, subst}
-use Rattle.iloc_spec_grammar.specs.Syntax.{pieces, head}
+use Rattle.iloc_spec_grammar.specs.Syntax.{Text, pieces, head}
 use Rattle.iloc_subtags.specs.Judging.{RunsOutOnlyIf}
 use Rattle.iloc_langid.specs.Reads.{IdentifierReads, IdentifierWantsMemory}
 use Rattle.iloc_langid.proofs.ReadLemmas.{reads_accepts, reads_refuses}
 use Rattle.iloc_langid.proofs.identifier.LanguageIdentifier.try_from_locale_bytes.Goals as goal
 
 pub returns-clause-reads : goal.returns-clause-reads
-returns-clause-reads c = subst (λ (ps : List (List ℕ)). IdentifierReads (head ps) c.read_head.result)
+returns-clause-reads c = subst (λ (ps : List Text). IdentifierReads (head ps) c.read_head.result)
     c.new.ensures c.read_head.ensures.reads
 
 pub returns-clause-accepted : goal.returns-clause-accepted
@@ -20,5 +20,5 @@ returns-clause-refused c =
 
 pub returns-clause-memory : goal.returns-clause-memory
 returns-clause-memory c =
-    subst (λ (ps : List (List ℕ)). RunsOutOnlyIf (IdentifierWantsMemory (head ps)) c.read_head.result)
+    subst (λ (ps : List Text). RunsOutOnlyIf (IdentifierWantsMemory (head ps)) c.read_head.result)
     c.new.ensures c.read_head.ensures.memory

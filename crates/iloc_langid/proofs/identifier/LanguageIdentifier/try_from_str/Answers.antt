@@ -1,13 +1,13 @@
 -- a text is read as its bytes are
 use Rattle.std.proofs.Common.{ℕ, List, subst}
-use Rattle.iloc_spec_grammar.specs.Syntax.{pieces}
+use Rattle.iloc_spec_grammar.specs.Syntax.{Text, pieces}
 use Rattle.iloc_subtags.specs.Judging.{RunsOutOnlyIf}
 use Rattle.iloc_langid.specs.Reads.{IdentifierReads, IdentifierWantsMemory}
 use Rattle.iloc_langid.proofs.ReadLemmas.{reads_accepts, reads_refuses, reads_narrow}
 use Rattle.iloc_langid.proofs.identifier.LanguageIdentifier.try_from_str.Goals as goal
 
 pub returns-clause-reads : goal.returns-clause-reads
-returns-clause-reads c = subst (λ (t : List ℕ). IdentifierReads (pieces t) c.try_from_utf8.result)
+returns-clause-reads c = subst (λ (t : Text). IdentifierReads (pieces t) c.try_from_utf8.result)
     c.as_bytes.ensures.value c.try_from_utf8.ensures.reads
 
 pub returns-clause-accepted : goal.returns-clause-accepted
@@ -22,5 +22,5 @@ returns-clause-narrow c = reads_narrow c.args.s.now c.try_from_utf8.result (retu
 
 pub returns-clause-memory : goal.returns-clause-memory
 returns-clause-memory c =
-    subst (λ (t : List ℕ). RunsOutOnlyIf (IdentifierWantsMemory (pieces t)) c.try_from_utf8.result)
+    subst (λ (t : Text). RunsOutOnlyIf (IdentifierWantsMemory (pieces t)) c.try_from_utf8.result)
     c.as_bytes.ensures.value c.try_from_utf8.ensures.memory

@@ -1,7 +1,7 @@
 use Rattle.std.proofs.Common.{◌≡◌, List, ℕ, ◌∙◌, sym, ap, subst, refl, true≢false}
 use Rattle.std.specs.Ordering.{is_eq}
 use Rattle.std.specs.Cmp.Lexicographic.{same_text}
-use Rattle.iloc_spec_grammar.specs.Syntax.{languages}
+use Rattle.iloc_spec_grammar.specs.Syntax.{Text, languages}
 use Rattle.iloc_told.specs.Modes.{IsNormalText}
 use Rattle.iloc_told.specs.Told.{HasRefusal}
 use Rattle.iloc_told.specs.declared.Mode.TheVariants as modes
@@ -29,9 +29,9 @@ returns-in-Normal c =
     let well = c.is_well_formed.ensures.back c.if-not-is_well_formed.false in
     let untied = c.if-is_eq.ensures ∙ ap is_eq c.strict_cmp.ensures in
     let normal = c.in-Normal.normal.now in
-    let told = subst (λ (u : List ℕ). IsNormalText languages modes.Locale u normal)
+    let told = subst (λ (u : Text). IsNormalText languages modes.Locale u normal)
     c.in_window.ensures c.in-Normal.ensures.told in
-    let own = subst (λ (u : List ℕ). IsNormalText languages modes.Locale t u)
+    let own = subst (λ (u : Text). IsNormalText languages modes.Locale t u)
     (same_text _ _ c.if-eq.ensures) told in
     (λ s. absurd (true≢false (sym s)), λ m. absurd (other_text_differs t M well untied own m))
 
@@ -41,7 +41,7 @@ returns-in-Normal-2 c =
     let M = value_of c.args.self.now in
     let well = c.is_well_formed.ensures.back c.if-not-is_well_formed.false in
     let normal = c.in-Normal.normal.now in
-    let told = subst (λ (u : List ℕ). IsNormalText languages modes.Locale u normal)
+    let told = subst (λ (u : Text). IsNormalText languages modes.Locale u normal)
     c.in_window.ensures c.in-Normal.ensures.told in
     normal_text_tells t M well normal _ told
     (c.is_eq-in-Normal-2.ensures ∙ ap is_eq c.strict_cmp-in-Normal-2.ensures)
@@ -51,6 +51,6 @@ returns-in-Refused c =
     let t = c.args.text.now in
     let M = value_of c.args.self.now in
     let e = c.in-Refused.field-0 in
-    let faulty = subst (λ (u : List ℕ). HasRefusal modes.Locale u e)
+    let faulty = subst (λ (u : Text). HasRefusal modes.Locale u e)
     c.in_window.ensures c.in-Refused.ensures.told in
     (λ s. absurd (true≢false (sym s)), λ m. absurd (faulty_differs t M e faulty m))

@@ -4,13 +4,14 @@ use Rattle.iloc_locale.specs.LocaleReading.{LocaleTextReads, LocaleWantsMemory}
 use Rattle.iloc_subtags.specs.Judging.{RunsOutOnlyIf}
 use Rattle.iloc_locale.proofs.ReadLemmas.{reads_accepts, reads_refuses, reads_narrow}
 use Rattle.iloc_locale.proofs.locale.Locale.try_from_str.Goals as goal
+use Rattle.iloc_spec_grammar.specs.Syntax.{Text}
 
 pub returns-clause-reads : goal.returns-clause-reads
-returns-clause-reads c = subst (λ (t : List ℕ). LocaleTextReads t c.try_from_utf8.result)
+returns-clause-reads c = subst (λ (t : Text). LocaleTextReads t c.try_from_utf8.result)
     c.as_bytes.ensures.value c.try_from_utf8.ensures.reads
 
 pub returns-clause-memory : goal.returns-clause-memory
-returns-clause-memory c = subst (λ (t : List ℕ). RunsOutOnlyIf (LocaleWantsMemory t) c.try_from_utf8.result)
+returns-clause-memory c = subst (λ (t : Text). RunsOutOnlyIf (LocaleWantsMemory t) c.try_from_utf8.result)
     c.as_bytes.ensures.value c.try_from_utf8.ensures.memory
 
 pub returns-clause-accepted : goal.returns-clause-accepted

@@ -3,6 +3,7 @@ use Rattle.iloc_langid.specs.Reads as langid
 use Rattle.iloc_locale.specs.ExtensionsValue as extensions
 use Rattle.iloc_locale.proofs.AloneLemmas.{text_alone}
 use Rattle.iloc_locale.proofs.printing.LocaleWriteable.writeable_borrow.Goals as goal
+use Rattle.iloc_spec_grammar.specs.Syntax.{Text}
 
 pub returns-then-not-is_empty-clause-lends : goal.returns-then-not-is_empty-clause-lends
 returns-then-not-is_empty-clause-lends c = (
@@ -17,6 +18,6 @@ returns-clause-lends c = (
 )
 
 pub returns-clause-text : goal.returns-clause-text
-returns-clause-text c = subst (λ (x : List ℕ). IfSome c.writeable_borrow.result (λ t. t.now ≡ x))
+returns-clause-text c = subst (λ (x : Text). IfSome c.writeable_borrow.result (λ t. t.now ≡ x))
     (sym (text_alone (langid.value_of c.args.self.now.id) (extensions.value_of c.args.self.now.extensions)
     (c.is_empty.ensures.0 c.if-not-is_empty.false))) c.writeable_borrow.ensures.text

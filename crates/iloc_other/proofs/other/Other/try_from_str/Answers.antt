@@ -4,13 +4,14 @@ use Rattle.iloc_other.specs.Reading.{OtherTextReads, OtherTextWants}
 use Rattle.iloc_subtags.specs.Judging.{RunsOutOnlyIf}
 use Rattle.iloc_other.proofs.OwedLemmas.{other_accepts, other_refuses}
 use Rattle.iloc_other.proofs.other.Other.try_from_str.Goals as goal
+use Rattle.iloc_spec_grammar.specs.Syntax.{Text}
 
 pub returns-clause-reads : goal.returns-clause-reads
-returns-clause-reads c = subst (λ (t : List ℕ). OtherTextReads t c.try_from_utf8.result)
+returns-clause-reads c = subst (λ (t : Text). OtherTextReads t c.try_from_utf8.result)
     c.as_bytes.ensures.value c.try_from_utf8.ensures.reads
 
 pub returns-clause-memory : goal.returns-clause-memory
-returns-clause-memory c = subst (λ (t : List ℕ). RunsOutOnlyIf (OtherTextWants t) c.try_from_utf8.result)
+returns-clause-memory c = subst (λ (t : Text). RunsOutOnlyIf (OtherTextWants t) c.try_from_utf8.result)
     c.as_bytes.ensures.value c.try_from_utf8.ensures.memory
 
 pub returns-clause-accepted : goal.returns-clause-accepted

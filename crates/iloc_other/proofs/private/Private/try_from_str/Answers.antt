@@ -4,13 +4,14 @@ use Rattle.iloc_other.specs.Reading.{PrivateTextReads, PrivateTextWants}
 use Rattle.iloc_subtags.specs.Judging.{RunsOutOnlyIf}
 use Rattle.iloc_other.proofs.OwedLemmas.{private_accepts, private_refuses}
 use Rattle.iloc_other.proofs.private.Private.try_from_str.Goals as goal
+use Rattle.iloc_spec_grammar.specs.Syntax.{Text}
 
 pub returns-clause-reads : goal.returns-clause-reads
-returns-clause-reads c = subst (λ (t : List ℕ). PrivateTextReads t c.try_from_utf8.result)
+returns-clause-reads c = subst (λ (t : Text). PrivateTextReads t c.try_from_utf8.result)
     c.as_bytes.ensures.value c.try_from_utf8.ensures.reads
 
 pub returns-clause-memory : goal.returns-clause-memory
-returns-clause-memory c = subst (λ (t : List ℕ). RunsOutOnlyIf (PrivateTextWants t) c.try_from_utf8.result)
+returns-clause-memory c = subst (λ (t : Text). RunsOutOnlyIf (PrivateTextWants t) c.try_from_utf8.result)
     c.as_bytes.ensures.value c.try_from_utf8.ensures.memory
 
 pub returns-clause-accepted : goal.returns-clause-accepted

@@ -3,12 +3,13 @@ use Rattle.std.specs.Prelude.{MatchOption, IfSome, IfNone}
 use Rattle.std.proofs.lemmas.List.{length-take-le}
 use Rattle.iloc_subtags.proofs.PeekLemmas.{none_left, first_left}
 use Rattle.iloc_subtags.proofs.subtag_iterator.SubtagIterator.peek_short.Goals as goal
+use Rattle.iloc_spec_grammar.specs.Syntax.{Text}
 
 pub returns-then-not-has_length : goal.returns-then-not-has_length
 returns-then-not-has_length g c =
     none_left g.K.WordKind.kind c.args.self.now (sym c.has_length.ensures.value ∙ c.if-not-has_length.true)
 
-peeked : (A : Type 0) (first : Option (List ℕ)) (n : ℕ) (text : List ℕ) (r : Option (List ℕ)) →
+peeked : (A : Type 0) (first : Option Text) (n : ℕ) (text : Text) (r : Option Text) →
     n ≤ length text → n ≤ 8 → first ≡ Some (take n text)
     → IfSome r (λ piece. piece ≡ take n text) → IfNone r (8 < length (take n text)) →
     MatchOption r A (λ piece. first ≡ Some piece)

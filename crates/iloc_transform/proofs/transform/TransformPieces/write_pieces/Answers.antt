@@ -1,5 +1,5 @@
 use Rattle.std.proofs.Common.{List, ℕ, sym, ap, ◌∙◌, subst, option_map}
-use Rattle.iloc_spec_grammar.specs.Syntax.{optional_pieces}
+use Rattle.iloc_spec_grammar.specs.Syntax.{Text, optional_pieces}
 use Rattle.iloc_spec_grammar.specs.Values.{lower_identifier}
 use Rattle.iloc_langid.specs.Reads.{value_of}
 use Rattle.iloc_writeable.specs.Pieces.{hyphened}
@@ -8,12 +8,12 @@ use Rattle.iloc_transform.proofs.TextLemmas.{transform_none, transform_some}
 use Rattle.iloc_transform.proofs.transform.TransformPieces.write_pieces.Goals as goal
 
 pub returns-then-is_empty : goal.returns-then-is_empty
-returns-then-is_empty g c = subst (λ (t : List ℕ). g.S.Sink.took c.args.sink.now t c.args.sink.now)
+returns-then-is_empty g c = subst (λ (t : Text). g.S.Sink.took c.args.sink.now t c.args.sink.now)
     (transform_none c.args.self.now.lang c.args.self.now.fields c.args.first
     (sym c.is_empty.ensures ∙ c.if-is_empty.true)) (g.met.S.Sink.took_nothing _)
 
 pub returns : goal.returns
-returns g c = subst (λ (ps : List (List ℕ)). Writes g.S.Sink.took g.S.Sink.failed c.args.sink.now
+returns g c = subst (λ (ps : List Text). Writes g.S.Sink.took g.S.Sink.failed c.args.sink.now
     (hyphened c.args.first ps) c.write_pieces.new.sink c.write_pieces.result)
     (transform_some c.args.self.now.lang c.args.self.now.fields _
     (c.lowercase-lang.ensures

@@ -6,16 +6,17 @@ use Rattle.iloc_unicode.specs.UnicodeReads.{UnicodeFills}
 use Rattle.iloc_unicode.proofs.UnicodeLemmas.{no_letter, after_letter, TextAnswers, reads_apart, reads_memory}
 use Rattle.iloc_unicode.proofs.UnicodeLemmas.{unicode_joined}
 use Rattle.iloc_unicode.proofs.unicode.Unicode.read_text.Goals as goal
+use Rattle.iloc_spec_grammar.specs.Syntax.{code_u}
 
 pub returns-then-not-takes_u-clause-reads : goal.returns-then-not-takes_u-clause-reads
 returns-then-not-takes_u-clause-reads c =
-    no_letter c.args.code_units.now (ap (begins_part (is_letter 117)) (sym c.new-iter.ensures)
+    no_letter c.args.code_units.now (ap (begins_part (is_letter code_u)) (sym c.new-iter.ensures)
     ∙ sym c.takes_u.ensures.u ∙ c.if-not-takes_u.true)
 
 answers : (c : goal.After-try_from_iter) → TextAnswers c.args.code_units.now c.try_from_iter.result
 answers c =
     after_letter c.args.code_units.now (left c.try_from_iter.new.iter) c.try_from_iter.result
-    (ap (begins_part (is_letter 117)) (sym c.new-iter.ensures) ∙ sym c.takes_u.ensures.u
+    (ap (begins_part (is_letter code_u)) (sym c.new-iter.ensures) ∙ sym c.takes_u.ensures.u
     ∙ c.if-not-takes_u.false)
     (subst (λ ps. UnicodeFills ps (left c.try_from_iter.new.iter) c.try_from_iter.result)
     (c.takes_u.ensures.rest ∙ ap rest_of c.new-iter.ensures)

@@ -4,9 +4,10 @@ use Rattle.iloc_subtags.specs.Judging.{RunsOutOnlyIf}
 use Rattle.iloc_word_list.specs.Reads.{ValueTextReads, ValueTextWants}
 use Rattle.iloc_word_list.proofs.OwedLemmas.{value_accepts, value_refuses}
 use Rattle.iloc_word_list.proofs.value.Value.try_from_str.Goals as goal
+use Rattle.iloc_spec_grammar.specs.Syntax.{Text}
 
 pub returns-clause-reads : goal.returns-clause-reads
-returns-clause-reads c = subst (λ (t : List ℕ). ValueTextReads t c.try_from_utf8.result)
+returns-clause-reads c = subst (λ (t : Text). ValueTextReads t c.try_from_utf8.result)
     c.as_bytes.ensures.value c.try_from_utf8.ensures.reads
 
 pub returns-clause-accepted : goal.returns-clause-accepted
@@ -16,5 +17,5 @@ pub returns-clause-refused : goal.returns-clause-refused
 returns-clause-refused c = value_refuses c.args.s.now c.try_from_utf8.result (returns-clause-reads c)
 
 pub returns-clause-memory : goal.returns-clause-memory
-returns-clause-memory c = subst (λ (t : List ℕ). RunsOutOnlyIf (ValueTextWants t) c.try_from_utf8.result)
+returns-clause-memory c = subst (λ (t : Text). RunsOutOnlyIf (ValueTextWants t) c.try_from_utf8.result)
     c.as_bytes.ensures.value c.try_from_utf8.ensures.memory
