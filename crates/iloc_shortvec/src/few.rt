@@ -6,10 +6,13 @@ use crate::front::front_mut;
 use std::marker::Model;
 
 /// One to four items. The places after them hold copies, and count for nothing.
+///
+/// In a list the tag and seven bytes stand before the cells, so that these begin at a multiple of eight bytes.
 #[derive(Drop)]
 pub struct Few<T: Copy> {
-    cells: [T; 4],
     len: u8,
+    unused: [u8; 6],
+    cells: [T; 4],
 }
 
 impl<T: Copy> Model for Few<T> {
@@ -30,8 +33,9 @@ impl<T: Copy> Few<T> {
         ensures { result ≡ item ∷ [] }
     {
         Few {
-            cells: [item; 4],
             len: 1,
+            unused: [0; 6],
+            cells: [item; 4],
         }
     }
 
@@ -40,8 +44,9 @@ impl<T: Copy> Few<T> {
         ensures { result ≡ first ∷ second ∷ [] }
     {
         Few {
-            cells: [first, second, second, second],
             len: 2,
+            unused: [0; 6],
+            cells: [first, second, second, second],
         }
     }
 
@@ -54,8 +59,9 @@ impl<T: Copy> Few<T> {
         let mut all = [items[0]; 4];
         all[..items.len()].copy_from_slice(items);
         Few {
-            cells: all,
             len: items.len() as u8,
+            unused: [0; 6],
+            cells: all,
         }
     }
 
@@ -65,8 +71,9 @@ impl<T: Copy> Few<T> {
         ensures { result ≡ self.now }
     {
         Few {
-            cells: self.cells,
             len: self.len,
+            unused: [0; 6],
+            cells: self.cells,
         }
     }
 
