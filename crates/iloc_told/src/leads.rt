@@ -31,10 +31,7 @@ pub fn read_found(mode: Mode, window: &[u8], len: usize) -> Option<Lead>
     ensures { IfSome result (IsLead mode (take len window.now)) }
 {
     match mode {
-        Mode::Langid => match find_block(window, len) {
-            Some(_) => Some(Lead::Refused(ParseError::InvalidSubtag)),
-            None => None,
-        },
+        Mode::Langid => lead_of_identifier(window, len),
         Mode::Locale => None,
         Mode::Data => match find_block(window, len) {
             Some(block) => lead_of_found(window, len, block),
@@ -52,6 +49,33 @@ pub fn read_lead(mode: Mode, window: &[u8], len: usize) -> Lead
     match mode {
         Mode::Data => lead_of_front(window, len),
         Mode::Langid | Mode::Locale => lead_of_language(window, len),
+    }
+}
+
+/// What both tell of an identifier or a locale; of a data locale, whether it begins with a language.
+#[inline(always)]
+pub(crate) fn lead_of_outlined(mode: Mode, window: &[u8], len: usize) -> Lead
+    requires { len + 16 ≤ length window.now }
+    ensures { IsLead mode (take len window.now) result }
+{
+    match mode {
+        Mode::Langid => match lead_of_identifier(window, len) {
+            Some(lead) => lead,
+            None => lead_of_language(window, len),
+        },
+        Mode::Locale | Mode::Data => lead_of_language(window, len),
+    }
+}
+
+// What the first piece of one byte tells of an identifier. It has no block.
+#[inline(always)]
+fn lead_of_identifier(window: &[u8], len: usize) -> Option<Lead>
+    requires { len + 16 ≤ length window.now }
+    ensures { IfSome result (IsLead modes.Langid (take len window.now)) }
+{
+    match find_block(window, len) {
+        Some(_) => Some(Lead::Refused(ParseError::InvalidSubtag)),
+        None => None,
     }
 }
 
