@@ -413,44 +413,6 @@ module _ (t : List ℕ) (b : Block) (h : IsFront t (fronts.Block b))
       data_fault t faults.InvalidExtension
       (ap data_of_result found.1 ∙ ap (λ o. ok_or o faults.InvalidExtension) found.2)
 
--- ---- two variants or more
-
--- variants and nothing after them have no block
-only_variants : (qs : List (List ℕ)) → past (is_word Variant) qs ≡ [] → front qs ≡ qs
-only_variants [] e = refl
-only_variants (q ∷ qs) e = elim (cases_Bool (is_word Variant q)) [
-  | inl fits ↦ front_long q qs (long_variant q fits)
-      ∙ ap (λ rs. q ∷ rs)
-      (only_variants qs (sym (ap (λ (x : Bool). cond x (past (is_word Variant) qs) (q ∷ qs)) fits) ∙ e))
-  | inr fails ↦ absurd (none (sym (ap (λ (x : Bool). cond x (past (is_word Variant) qs) (q ∷ qs)) fails) ∙ e))
-]
-  where
-    none : ¬ (q ∷ qs ≡ [])
-    none e = cc
-
-variants_of : (i : SpelledIdentifier) → HasWords languages i → after_region (identifier_pieces i) ≡ i.variants
-unfolding identifier_of
-variants_of i h = ap (λ (j : SpelledIdentifier). j.variants) (identifier_of-pieces i h)
-
-many_in_head : (t : List ℕ) → past (is_word Variant) (after_region (pieces t)) ≡ [] →
-    2 ≤ length (after_region (pieces t)) → (r : SmallIdentifier) →
-    ¬ (IsSmallIdentifier languages (head (pieces t)) r)
-many_in_head t = at_pieces (λ qs. past (is_word Variant) (after_region qs) ≡ [] →
-    2 ≤ length (after_region qs) → (r : SmallIdentifier) → ¬ (IsSmallIdentifier languages (head qs) r)) by t
-  where
-    by : (p : List ℕ) (qs : List (List ℕ)) → past (is_word Variant) (after_region (p ∷ qs)) ≡ [] →
-        2 ≤ length (after_region (p ∷ qs)) → (r : SmallIdentifier) →
-        ¬ (IsSmallIdentifier languages (p ∷ front qs) r)
-    by p qs e l r s =
-        let same : after_region (p ∷ qs) ≡ s.written.variants =
-        sym (head_region p qs ∙ only_variants (after_region (p ∷ qs)) e) ∙ ap after_region s.spelled
-        ∙ variants_of s.written s.grammatical.words in
-        omega (arith, ap length same, one_variant (p ∷ front qs) r s)
-
-pub variants_refused : (t : List ℕ) (n : ℕ) → IsFront t (fronts.Variants n) → HasRefusal Data t InvalidSubtag
-variants_refused t n h =
-    not_small (small.bad_head (small.no_identifier (head_language t ∙ h.0) (many_in_head t h.1.0 h.1.1)))
-
 -- ---- a singleton that is no letter and no digit
 
 pub no_letter_no_u : (c : ℕ) → is_ascii_alphanumeric c ≡ false → is_u c ≡ false
