@@ -227,17 +227,6 @@ other_block_refused t b l g letter other =
     let first : ℕ × List (List ℕ) = (get_or b.window.now 0 0, told.0) in
     data_refused t first told.1 l told.2 (no_u first told.1 other) (other_fault first letter other)
 
--- the same facts as the contract of the front has them
-
-pub misfit_is_refused : (mode : Mode) (t : List ℕ) → IsFront t fronts.Misfit → HasRefusal mode t InvalidSubtag
-unfolding after_front
-misfit_is_refused mode t h = misfit_refused mode t h.0 h.1
-
-pub block_is_refused : (t : List ℕ) (b : Block) → IsFront t (fronts.Block b) →
-    HasRefusal Langid t InvalidSubtag
-unfolding after_front
-block_is_refused t b h = block_is_no_identifier t b h.0 h.1.rest
-
 -- a piece of one byte after a language: it is that of a block, or comes after a piece that fits nowhere
 pub found_is_refused : (t : List ℕ) (b : Block) → IsFound t b → HasRefusal Langid t InvalidSubtag
 unfolding after_front

@@ -7,13 +7,13 @@ use Rattle.std.specs.Char.{is_ascii_alphanumeric, to_ascii_lowercase}
 use Rattle.std.specs.List.{AllByRecursion, list_all}
 use Rattle.std.proofs.lemmas.Bool.{cases_Bool, true≢false, false_from_ne_true}
 use Rattle.std.proofs.lemmas.Bool.Decides.{nat_tests}
-use Rattle.iloc_spec_grammar.specs.Syntax.{pieces, Kind, Language, Script, Region, Variant, SpelledIdentifier}
-use Rattle.iloc_spec_grammar.specs.Syntax.{identifier_pieces, HasWords, UnicodeKey, Attribute, is_word}
+use Rattle.iloc_spec_grammar.specs.Syntax.{pieces, Kind, Language, Script, Region, Variant}
+use Rattle.iloc_spec_grammar.specs.Syntax.{UnicodeKey, Attribute, is_word}
 use Rattle.iloc_spec_grammar.specs.Syntax.{IsWord, is_same, languages, lower, is_one_byte, front, blocks}
 use Rattle.iloc_spec_grammar.specs.Syntax.{head, tail_blocks, first_piece}
 use Rattle.iloc_spec_grammar.specs.Tree.{block_pieces}
 use Rattle.iloc_spec_grammar.specs.Meaning.{normal_values, Fault}
-use Rattle.iloc_spec_grammar.specs.Reading.{first_item, passing, past, skip_first, rest_of, identifier_of}
+use Rattle.iloc_spec_grammar.specs.Reading.{first_item, passing, skip_first, rest_of, identifier_of}
 use Rattle.iloc_spec_grammar.specs.Reading.{after_region, after_front}
 use Rattle.iloc_spec_grammar.specs.Meaning as faults
 use Rattle.iloc_spec_grammar.proofs.WordsLaws.{length-unicode_key}
@@ -24,16 +24,13 @@ use Rattle.iloc_spec_grammar.proofs.PiecesLaws.{at_pieces}
 use Rattle.iloc_spec_grammar.proofs.Readings.{IsLong, long_script, long_region, long_variant, long_attribute}
 use Rattle.iloc_spec_grammar.proofs.Readings.{not_two, two}
 use Rattle.iloc_spec_grammar.proofs.FaultLaws.{all_blocks}
-use Rattle.iloc_spec_parts.specs.Small.{SmallIdentifier, IsSmallIdentifier, SmallLocale}
-use Rattle.iloc_spec_parts.specs.Small as small
-use Rattle.iloc_spec_grammar.proofs.IdentifierLaws.{identifier_of-pieces}
+use Rattle.iloc_spec_parts.specs.Small.{SmallLocale}
 use Rattle.iloc_spec_parts.specs.SmallComputing.{small_identifier, small_identifier_result}
 use Rattle.iloc_spec_parts.specs.SmallComputing.{has_small_variants, is_u, is_small_block, has_small_keyword}
 use Rattle.iloc_spec_parts.specs.SmallComputing.{keyword_read, block_fault, blocks_result, after_identifier}
 use Rattle.iloc_spec_parts.specs.SmallComputing.{small_result}
-use Rattle.iloc_spec_parts.proofs.SmallShapes.{one_variant}
 use Rattle.iloc_spec_preferences.proofs.Keys.{sd}
-use Rattle.iloc_spec_preferences.specs.DataLocales.{not_small, agreed, made_of, named_subdivision, small_part}
+use Rattle.iloc_spec_preferences.specs.DataLocales.{agreed, made_of, named_subdivision, small_part}
 use Rattle.iloc_spec_preferences.specs.DataLocales.{data_of_small}
 use Rattle.iloc_spec_preferences.specs.Subdivisions.{Subdivision}
 use Rattle.iloc_spec_preferences.specs.DataComputing.{data_result, data_of_result}
@@ -45,7 +42,7 @@ use Rattle.iloc_fronts.specs.declared.front.Front.TheVariants as fronts
 use Rattle.iloc_fronts.specs.declared.keyword.Keyword.TheVariants as keyword
 use Rattle.iloc_told.specs.Told.{HasRefusal}
 use Rattle.iloc_told.specs.declared.Mode.TheVariants.{Data}
-use Rattle.iloc_told.proofs.FrontAnswers.{head_language, BeginsWell, blocks_left, data_fault, data_refused}
+use Rattle.iloc_told.proofs.FrontAnswers.{BeginsWell, blocks_left, data_fault, data_refused}
 
 -- ---- the block of `u`
 
@@ -412,44 +409,6 @@ module _ (t : List ℕ) (b : Block) (h : IsFront t (fronts.Block b))
       let found = single_result few (single_reads rest s) in
       data_fault t faults.InvalidExtension
       (ap data_of_result found.1 ∙ ap (λ o. ok_or o faults.InvalidExtension) found.2)
-
--- ---- two variants or more
-
--- variants and nothing after them have no block
-only_variants : (qs : List (List ℕ)) → past (is_word Variant) qs ≡ [] → front qs ≡ qs
-only_variants [] e = refl
-only_variants (q ∷ qs) e = elim (cases_Bool (is_word Variant q)) [
-  | inl fits ↦ front_long q qs (long_variant q fits)
-      ∙ ap (λ rs. q ∷ rs)
-      (only_variants qs (sym (ap (λ (x : Bool). cond x (past (is_word Variant) qs) (q ∷ qs)) fits) ∙ e))
-  | inr fails ↦ absurd (none (sym (ap (λ (x : Bool). cond x (past (is_word Variant) qs) (q ∷ qs)) fails) ∙ e))
-]
-  where
-    none : ¬ (q ∷ qs ≡ [])
-    none e = cc
-
-variants_of : (i : SpelledIdentifier) → HasWords languages i → after_region (identifier_pieces i) ≡ i.variants
-unfolding identifier_of
-variants_of i h = ap (λ (j : SpelledIdentifier). j.variants) (identifier_of-pieces i h)
-
-many_in_head : (t : List ℕ) → past (is_word Variant) (after_region (pieces t)) ≡ [] →
-    2 ≤ length (after_region (pieces t)) → (r : SmallIdentifier) →
-    ¬ (IsSmallIdentifier languages (head (pieces t)) r)
-many_in_head t = at_pieces (λ qs. past (is_word Variant) (after_region qs) ≡ [] →
-    2 ≤ length (after_region qs) → (r : SmallIdentifier) → ¬ (IsSmallIdentifier languages (head qs) r)) by t
-  where
-    by : (p : List ℕ) (qs : List (List ℕ)) → past (is_word Variant) (after_region (p ∷ qs)) ≡ [] →
-        2 ≤ length (after_region (p ∷ qs)) → (r : SmallIdentifier) →
-        ¬ (IsSmallIdentifier languages (p ∷ front qs) r)
-    by p qs e l r s =
-        let same : after_region (p ∷ qs) ≡ s.written.variants =
-        sym (head_region p qs ∙ only_variants (after_region (p ∷ qs)) e) ∙ ap after_region s.spelled
-        ∙ variants_of s.written s.grammatical.words in
-        omega (arith, ap length same, one_variant (p ∷ front qs) r s)
-
-pub variants_refused : (t : List ℕ) (n : ℕ) → IsFront t (fronts.Variants n) → HasRefusal Data t InvalidSubtag
-variants_refused t n h =
-    not_small (small.bad_head (small.no_identifier (head_language t ∙ h.0) (many_in_head t h.1.0 h.1.1)))
 
 -- ---- a singleton that is no letter and no digit
 

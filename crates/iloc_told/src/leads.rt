@@ -1,6 +1,5 @@
 //! What the beginning of a text tells: why it is refused, or that the rest has to be read.
-ghost use Rattle.std.specs.Prelude.{◌≡◌, ◌+◌, ◌<◌, ◌≤◌, IfSome, IsTrue, true, false, length, take, get_or};
-ghost use Rattle.std.specs.Char.{is_ascii_alphanumeric};
+ghost use Rattle.std.specs.Prelude.{◌≡◌, ◌+◌, ◌≤◌, IfSome, IsTrue, true, length, take, get_or};
 ghost use Rattle.iloc_spec_parts.specs.SmallComputing.{is_u};
 ghost use Rattle.iloc_fronts.specs.Front.{IsFound};
 ghost use Rattle.iloc_told.specs.Told.{ArePlain, IsLead};
@@ -8,7 +7,8 @@ ghost use Rattle.iloc_told.specs.declared.Mode.{Mode};
 ghost use Rattle.iloc_told.specs.declared.Mode.TheVariants as modes;
 
 use crate::Mode;
-use iloc_fronts::{Block, Front, Keyword, find_block, read_front, read_keyword};
+use crate::data::{Data, read_data};
+use iloc_fronts::{Block, Keyword, find_block, read_keyword};
 use iloc_outline::outline::begins_with_language;
 use iloc_plain::read_plain;
 use iloc_subtags::ParseError;
@@ -47,7 +47,7 @@ pub fn read_lead(mode: Mode, window: &[u8], len: usize) -> Lead
     ensures { IsLead mode (take len window.now) result }
 {
     match mode {
-        Mode::Data => lead_of_front(window, len),
+        Mode::Data => lead_of_data(window, len),
         Mode::Langid | Mode::Locale => lead_of_language(window, len),
     }
 }
@@ -139,33 +139,17 @@ fn lead_of_language(window: &[u8], len: usize) -> Lead
     Lead::Refused(ParseError::InvalidLanguage)
 }
 
-// What the front of a data locale tells. It has one variant at most.
+// What a data locale tells, as it is read.
 #[inline(always)]
-fn lead_of_front(window: &[u8], len: usize) -> Lead
-    requires { len + 16 ≤ length window.now }
+fn lead_of_data(window: &[u8], len: usize) -> Lead
+    requires { len ≤ length window.now }
     ensures { IsLead modes.Data (take len window.now) result }
 {
-    match read_front(window, len) {
-        Front::NoLanguage => Lead::Refused(ParseError::InvalidLanguage),
-        Front::Misfit => Lead::Refused(ParseError::InvalidSubtag),
-        Front::Variants(_) => Lead::Refused(ParseError::InvalidSubtag),
-        Front::Block(block) => {
-            if is_other(block) {
-                return Lead::Refused(ParseError::InvalidSubtag);
-            }
-            Lead::Outline
-        }
-        Front::Variant(_) | Front::Other => Lead::Outline,
+    match lead_of_language(window, len) {
+        Lead::Outline => match read_data(window, len) {
+            Data::Refused(error) => Lead::Refused(error),
+            Data::Head(_) | Data::Named(_, _) => Lead::Outline,
+        },
+        refused => refused,
     }
-}
-
-// Whether the block is of a letter or digit other than `u`. A data locale has none.
-#[inline(always)]
-fn is_other(block: Block<'_>) -> bool
-    requires { 0 < length block.window.now }
-    ensures { IsTrue result → (is_ascii_alphanumeric (get_or block.entry.window.now 0 0) ≡ true)
-        × (is_u (get_or block.entry.window.now 0 0) ≡ false) }
-{
-    let singleton = block.window[0];
-    singleton != b'u' && singleton != b'U' && singleton.is_ascii_alphanumeric()
 }
