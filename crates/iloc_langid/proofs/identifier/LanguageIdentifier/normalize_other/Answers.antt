@@ -1,12 +1,17 @@
+use Rattle.std.specs.Prelude.{◌≢◌, ⊤}
+use Rattle.std.proofs.Common.{Err}
 use Rattle.iloc_langid.specs.Normalizing.{IsNormalizedIdentifier}
 use Rattle.iloc_langid.proofs.NormalizingLemmas.{told_text, told_other}
 use Rattle.iloc_told.proofs.AsciiLemmas.{normal_utf8}
 use Rattle.iloc_told.proofs.NormalLemmas.{normal_text, refusal, refused, runs_out}
-use Rattle.iloc_told.specs.declared.Mode.TheVariants.{Langid}
+use Rattle.iloc_told.specs.declared.Mode.TheVariants.{Langid, Data}
 use Rattle.iloc_langid.proofs.identifier.LanguageIdentifier.normalize_other.Goals as goal
 
+other : Langid ≢ Data
+other is = cc
+
 pub text_of-requires : goal.text_of-requires
-text_of-requires c = normal_utf8 Langid (λ is. grind) c.args.input.now c.in-Normal.normal.now c.in-Normal.ensures.told
+text_of-requires c = normal_utf8 Langid other c.args.input.now c.in-Normal.normal.now c.in-Normal.ensures.told
 
 pub returns-in-Normal-clause-ok : goal.returns-in-Normal-clause-ok
 returns-in-Normal-clause-ok c =
@@ -24,9 +29,10 @@ returns-in-Normal-clause-memory c =
 
 pub returns-in-Refused-clause-err : goal.returns-in-Refused-clause-err
 returns-in-Refused-clause-err c =
-    refused Langid c.args.input.now _ (refusal _ Langid c.args.input.now c.in-Refused.refusal c.in-Refused.ensures.told)
+    refused {Z = ⊤} Langid c.args.input.now (Err c.in-Refused.refusal)
+    (refusal ⊤ Langid c.args.input.now c.in-Refused.refusal c.in-Refused.ensures.told)
 
 pub returns-in-Refused-clause-memory : goal.returns-in-Refused-clause-memory
 returns-in-Refused-clause-memory c =
-    runs_out Langid c.args.input.now (told_other c.args.input.now) _
-    (refusal _ Langid c.args.input.now c.in-Refused.refusal c.in-Refused.ensures.told)
+    runs_out {Z = ⊤} Langid c.args.input.now (told_other c.args.input.now) (Err c.in-Refused.refusal)
+    (refusal ⊤ Langid c.args.input.now c.in-Refused.refusal c.in-Refused.ensures.told)

@@ -1,12 +1,17 @@
+use Rattle.std.specs.Prelude.{◌≢◌, ⊤}
+use Rattle.std.proofs.Common.{Err}
 use Rattle.iloc_locale.specs.LocaleReading.{IsNormalizedLocale}
 use Rattle.iloc_locale.proofs.NormalLemmas.{told_text, told_other}
 use Rattle.iloc_told.proofs.AsciiLemmas.{normal_utf8}
 use Rattle.iloc_told.proofs.NormalLemmas.{normal_text, refusal, refused, runs_out}
-use Rattle.iloc_told.specs.declared.Mode.TheVariants.{Locale}
+use Rattle.iloc_told.specs.declared.Mode.TheVariants.{Locale, Data}
 use Rattle.iloc_locale.proofs.locale.Locale.normalize_other.Goals as goal
 
+other : Locale ≢ Data
+other is = cc
+
 pub text_of-requires : goal.text_of-requires
-text_of-requires c = normal_utf8 Locale (λ is. grind) c.args.input.now c.in-Normal.normal.now c.in-Normal.ensures.told
+text_of-requires c = normal_utf8 Locale other c.args.input.now c.in-Normal.normal.now c.in-Normal.ensures.told
 
 pub returns-in-Normal-clause-ok : goal.returns-in-Normal-clause-ok
 returns-in-Normal-clause-ok c =
@@ -24,9 +29,10 @@ returns-in-Normal-clause-memory c =
 
 pub returns-in-Refused-clause-err : goal.returns-in-Refused-clause-err
 returns-in-Refused-clause-err c =
-    refused Locale c.args.input.now _ (refusal _ Locale c.args.input.now c.in-Refused.refusal c.in-Refused.ensures.told)
+    refused {Z = ⊤} Locale c.args.input.now (Err c.in-Refused.refusal)
+    (refusal ⊤ Locale c.args.input.now c.in-Refused.refusal c.in-Refused.ensures.told)
 
 pub returns-in-Refused-clause-memory : goal.returns-in-Refused-clause-memory
 returns-in-Refused-clause-memory c =
-    runs_out Locale c.args.input.now (told_other c.args.input.now) _
-    (refusal _ Locale c.args.input.now c.in-Refused.refusal c.in-Refused.ensures.told)
+    runs_out {Z = ⊤} Locale c.args.input.now (told_other c.args.input.now) (Err c.in-Refused.refusal)
+    (refusal ⊤ Locale c.args.input.now c.in-Refused.refusal c.in-Refused.ensures.told)
