@@ -16,7 +16,8 @@ text_of-requires c = normal_utf8 Locale other c.args.input.now c.in-Normal.norma
 pub returns-in-Normal-clause-ok : goal.returns-in-Normal-clause-ok
 returns-in-Normal-clause-ok c =
     let t = c.args.input.now in
-    normal_text Locale t (IsNormalizedLocale t) (told_text t) c.text_of.result (c.text_of.ensures Locale c.in-Normal.ensures.told)
+    normal_text Locale t (IsNormalizedLocale t) (told_text t) c.text_of.result
+    (c.text_of.ensures Locale c.in-Normal.ensures.told)
 
 pub returns-in-Normal-clause-err : goal.returns-in-Normal-clause-err
 returns-in-Normal-clause-err c =
