@@ -10,7 +10,9 @@ ghost use Rattle.iloc_writeable.specs.Writing.{IsLent};
 use crate::agreeing::has_variants;
 use crate::identifier::LanguageIdentifier;
 use iloc_subtags::{Language, ParseError, RegionKind, ScriptKind, SubtagIterator, take_word};
-use iloc_told::{Mode, normalize_short, normalize_told};
+use iloc_told::told::ROOM;
+use iloc_told::window::{WINDOW, tell_text};
+use iloc_told::{Mode, Told, normalize_short, text_of};
 use iloc_writeable::to_string_or_borrow;
 use std::alloc::Global;
 use std::borrow::CowStr;
@@ -49,9 +51,12 @@ impl LanguageIdentifier {
         ensures err { IfErr result (Refusal (HasIdentifierFault languages (pieces input.now)) ⊤) }
         ensures memory { RunsOutOnlyIf (NormalizingIdentifierWantsMemory input.now) result }
     {
-        match normalize_told(alloc, Mode::Langid, input) {
-            Some(normal) => normal,
-            None => Self::normalize_parsed(alloc, input),
+        let mut window = [0u8; WINDOW];
+        let mut room = [0u8; ROOM];
+        match tell_text(Mode::Langid, input, &mut window, &mut room) {
+            Told::Normal(normal) => text_of(alloc, input, normal),
+            Told::Refused(refusal) => Err(refusal),
+            Told::Nothing => Self::normalize_parsed(alloc, input),
         }
     }
 

@@ -14,7 +14,9 @@ use crate::is_well_formed;
 use crate::locale::Locale;
 use iloc_langid::read_small_locale;
 use iloc_subtags::{Language, ParseError, Region, Script, Subtag, UnicodeKey, Variant};
-use iloc_told::{Mode, normalize_short, normalize_told};
+use iloc_told::told::ROOM;
+use iloc_told::window::{WINDOW, tell_text};
+use iloc_told::{Mode, Told, normalize_short, text_of};
 use iloc_writeable::to_string_or_borrow;
 use std::alloc::Global;
 use std::borrow::CowStr;
@@ -51,9 +53,12 @@ impl Locale {
         ensures err { IfErr result (Refusal (HasFault languages input.now) ⊤) }
         ensures memory { RunsOutOnlyIf (NormalizingWantsMemory input.now) result }
     {
-        match normalize_told(alloc, Mode::Locale, input) {
-            Some(normal) => normal,
-            None => Self::normalize_parsed(alloc, input),
+        let mut window = [0u8; WINDOW];
+        let mut room = [0u8; ROOM];
+        match tell_text(Mode::Locale, input, &mut window, &mut room) {
+            Told::Normal(normal) => text_of(alloc, input, normal),
+            Told::Refused(refusal) => Err(refusal),
+            Told::Nothing => Self::normalize_parsed(alloc, input),
         }
     }
 

@@ -12,6 +12,7 @@ use Rattle.iloc_subtags.specs.declared.parse_error.ParseError.TheVariants.{Dupli
 use Rattle.iloc_subtags.specs.Judging.{Refusal, RunsOutOnlyIf}
 use Rattle.iloc_told.specs.Modes.{IsNormalText, IsFaulty}
 use Rattle.iloc_told.specs.NormalTexts.{IsNotNormal, IsNormalizedAs}
+use Rattle.iloc_told.specs.Told.{HasRefusal}
 use Rattle.iloc_told.specs.declared.Mode.{Mode}
 
 module _ {Z : Type 0} (mode : Mode) (t : List ℕ) where
@@ -41,3 +42,12 @@ module _ {Z : Type 0} (mode : Mode) (t : List ℕ) where
   runs_out wants (Err InvalidExtension) h = tt
   runs_out wants (Err DuplicatedExtension) h = tt
   runs_out wants (Err OutOfMemory) h = wants h
+
+-- what is told of a refused text may be answered
+pub refusal : (Z : Type 0) (mode : Mode) (t : List ℕ) (e : ParseError) → HasRefusal mode t e
+    → IsNormalizedAs {Z = Z} mode t (Err e)
+refusal Z mode t InvalidLanguage h = h
+refusal Z mode t InvalidSubtag h = h
+refusal Z mode t InvalidExtension h = h
+refusal Z mode t DuplicatedExtension h = h
+refusal Z mode t OutOfMemory h = absurd h

@@ -5,7 +5,7 @@
 //! the normal text: of identifiers and locales as their outline gives it (`iloc_outline`), and of data locales as they are
 //! read piece by piece (`data`, `subdivisions`, `data_writing`). Four kinds of callers stand on it: the lines of the
 //! program (`iloc_lines`), the calls for C (`iloc_calls`), and `normalize` of identifiers and of locales
-//! (`normalize_short`, `normalize_told`).
+//! (`normalize_short`, `tell_text`, `text_of`).
 //!
 //! It promises in the words of the grammar (`IsNormalWritten`, `IsTold`) that what is written is the normal text of what
 //! the text means, or that the text has the fault. A normal text is at most four bytes longer than the text, and only
@@ -27,7 +27,7 @@ pub mod window;
 pub mod writing;
 
 pub use leads::{Lead, read_found, read_lead};
-pub use normal_text::{normalize_short, normalize_told};
+pub use normal_text::{normalize_short, text_of};
 pub use told::{Told, tell};
 pub use writing::{Written, write_normal};
 

@@ -7,8 +7,6 @@ ghost use Rattle.iloc_told.specs.Modes.{IsNormalText};
 ghost use Rattle.iloc_told.specs.NormalTexts.{IsNormalizedAs};
 
 use crate::Mode;
-use crate::told::{ROOM, Told, tell};
-use crate::window::{MOST, WINDOW, put_in_front};
 use iloc_fronts::begins_with_language;
 use iloc_plain::load::load;
 use iloc_plain::tell_normal;
@@ -66,35 +64,10 @@ fn own_front(alloc: Global, bytes: u8x16, len: usize) -> Result<String, AllocErr
     String::from_str(alloc, unsafe { str::from_utf8_unchecked(front) })
 }
 
-/// The normal text in the mode of what the text means, borrowed exactly if the text is that already, or why the text
-/// is refused. `None` says nothing of the text, which then has more than `MOST` bytes. Out of memory comes only if the
-/// text is not normal.
-#[inline(always)]
-pub fn normalize_told(
-    alloc: Global,
-    mode: Mode,
-    input: &[u8],
-) -> Option<Result<CowStr<'_, Global>, ParseError>>
-    requires { mode ≢ Mode.Data }
-    ensures normal { IfSome result (IsNormalizedAs mode input.now) }
-    ensures few { IfNone result (MOST < length input.now) }
-{
-    if input.len() > MOST {
-        return None;
-    }
-    let mut window = [0u8; WINDOW];
-    put_in_front(input, &mut window);
-    let mut room = [0u8; ROOM];
-    match tell(mode, &window, input.len(), &mut room) {
-        Told::Normal(normal) => Some(text_of(alloc, input, normal)),
-        Told::Refused(refusal) => Some(Err(refusal)),
-        Told::Nothing => None,
-    }
-}
-
-// The normal text of an input, borrowed exactly if it is the input. It is a call, so that a refusal pays nothing for it.
+/// The normal text of an input, borrowed exactly if it is the input. Out of memory comes only if it is not. It is a call,
+/// so that a refusal pays nothing for it.
 #[inline(never)]
-fn text_of<'a>(
+pub fn text_of<'a>(
     alloc: Global,
     input: &'a [u8],
     normal: &[u8],

@@ -6,7 +6,7 @@ use iloc_locale::Locale;
 use iloc_subtags::{Language, ParseError, Region, Script, Variant};
 use iloc_told::told::ROOM;
 use iloc_told::window::{WINDOW, tell_text};
-use iloc_told::{Mode, Told, normalize_short, normalize_told};
+use iloc_told::{Mode, Told, normalize_short};
 use std::alloc::Global;
 use std::borrow::CowStr;
 use std::str;
@@ -30,10 +30,10 @@ fn at_once(out: &mut String, told: Option<Result<CowStr<'_, Global>, ParseError>
     }
 }
 
-// Says the normal text of a data locale as it is written from its bytes.
-fn data_at_once(out: &mut String, text: &[u8]) {
+// Says the normal text in the mode as it is written from the bytes of the text.
+fn told(out: &mut String, mode: Mode, text: &[u8]) {
     let (mut window, mut room) = ([0u8; WINDOW], [0u8; ROOM]);
-    match tell_text(Mode::Data, text, &mut window, &mut room) {
+    match tell_text(mode, text, &mut window, &mut room) {
         Told::Normal(normal) => bytes(out, normal),
         Told::Refused(error) => refuse(out, error),
         Told::Nothing => say(out, "not told"),
@@ -107,9 +107,9 @@ pub fn answer(what: &str, call: &Call<'_>, out: &mut String) {
         "normal" => normal(out, Locale::normalize_utf8(alloc, text)),
         "normalid" => normal(out, LanguageIdentifier::normalize_utf8(alloc, text)),
         "toldshort" => at_once(out, normalize_short(alloc, text)),
-        "toldid" => at_once(out, normalize_told(alloc, Mode::Langid, text)),
-        "told" => at_once(out, normalize_told(alloc, Mode::Locale, text)),
-        "tolddata" => data_at_once(out, text),
+        "toldid" => told(out, Mode::Langid, text),
+        "told" => told(out, Mode::Locale, text),
+        "tolddata" => told(out, Mode::Data, text),
         "small" => small(
             out,
             Locale::try_from_utf8_with_single_variant_single_keyword_unicode_extension(text),
