@@ -4,7 +4,7 @@ use Rattle.std.proofs.Common.{Option, Some, None, nat_lt, refl, ◌∙◌}
 use Rattle.std.specs.List.{list_all}
 use Rattle.std.specs.Char.{is_ascii_alphanumeric, to_ascii_lowercase}
 use Rattle.std.proofs.lemmas.Bool.{and_parts, not-true, or_parts}
-use Rattle.iloc_spec_grammar.specs.Syntax.{Text, Block, code_t, code_x, PrivateSubtag, languages, is_word}
+use Rattle.iloc_spec_grammar.specs.Syntax.{code_u, Text, Block, code_t, code_x, PrivateSubtag, languages, is_word}
 use Rattle.iloc_spec_grammar.specs.Syntax.{word_cmp, lower_singleton, is_other_singleton, front, blocks}
 use Rattle.iloc_spec_grammar.specs.Meaning.{Fault, InvalidSubtag, InvalidExtension, DuplicatedExtension}
 use Rattle.iloc_spec_grammar.specs.Reading.{transform_of}
@@ -23,20 +23,20 @@ use Rattle.iloc_faults.proofs.Bodies.{and_true, of_unicode, unicode_is, has_leng
 use Rattle.iloc_faults.proofs.Bodies.{after_word, repeats_none}
 
 -- the fault of the blocks that follow, if the block is good
-abbrev pub block_answer : Bool → List ℕ → List Text → Option Fault
+abbrev pub block_answer : Bool → Text → List Text → Option Fault
 block_answer fits seen ps = cond fits (first_fault languages seen (blocks ps)) (Some InvalidExtension)
 
 -- the same after `t`, where a variant may be repeated
-abbrev pub transform_answer : Bool → Bool → List ℕ → List Text → Option Fault
+abbrev pub transform_answer : Bool → Bool → Text → List Text → Option Fault
 transform_answer fits again seen ps = cond fits (first_fault languages seen (blocks ps))
     (cond again (Some InvalidSubtag) (Some InvalidExtension))
 
 -- the same in the head
-abbrev pub head_answer : Bool → List ℕ → List Text → Option Fault
+abbrev pub head_answer : Bool → Text → List Text → Option Fault
 head_answer fits seen ps = cond fits (first_fault languages seen (blocks ps)) (Some InvalidSubtag)
 
 -- words of an identifier were read
-abbrev pub in_words : (Stage → Part) → Stage → List Text → List ℕ → Reached
+abbrev pub in_words : (Stage → Part) → Stage → List Text → Text → Reached
 in_words of stage vs seen = record { part = of stage; variants = vs; seen = seen }
 
 abbrev pub Differ : List Text → Type 0
@@ -92,28 +92,28 @@ at_end = record {
 -- ---- a block begins
 
 -- the fault of a block with a new singleton, or of those that follow
-abbrev pub rest_fault : List ℕ → Block → List Block → Option Fault
+abbrev pub rest_fault : Text → Block → List Block → Option Fault
 rest_fault seen b bs = cond (is_block languages b) (first_fault languages (lower_singleton b ∷ seen) bs)
     (cond ((lower_singleton b == code_t) && repeats_variant languages b.1) (Some InvalidSubtag)
     (Some InvalidExtension))
 
 -- the block of the singleton and of what belongs to it
-abbrev pub body_fault : ℕ → List ℕ → List Text → Option Fault
+abbrev pub body_fault : ℕ → Text → List Text → Option Fault
 body_fault c seen ps = cond (to_ascii_lowercase c == code_x) (rest_fault seen (c, ps) [])
     (rest_fault seen (c, front ps) (blocks ps))
 
 -- the same of any block
-abbrev pub block_fault : Bool → Bool → ℕ → List ℕ → List Text → Option Fault
+abbrev pub block_fault : Bool → Bool → ℕ → Text → List Text → Option Fault
 block_fault letter second c seen ps =
     cond (not letter) (Some InvalidExtension) (cond second (Some DuplicatedExtension) (body_fault c seen ps))
 
 -- another singleton is none of the three
 apart : (c : ℕ) → is_other_singleton c ≡ true →
-    ((c == 116) ≡ false) × ((c == 117) ≡ false) × ((c == 120) ≡ false)
+    ((c == code_t) ≡ false) × ((c == code_u) ≡ false) × ((c == code_x) ≡ false)
 apart c h =
-    let n = or_parts ((c == 116) || (c == 117)) (c == 120)
-    (not-true _ (and_parts (is_ascii_alphanumeric c) (not (c == 116 || c == 117 || c == 120)) h).1) in
-    let m = or_parts (c == 116) (c == 117) n.0 in
+    let n = or_parts ((c == code_t) || (c == code_u)) (c == code_x)
+    (not-true _ (and_parts (is_ascii_alphanumeric c) (not (c == code_t || c == code_u || c == code_x)) h).1) in
+    let m = or_parts (c == code_t) (c == code_u) n.0 in
     (m.0, m.1, n.1)
 
 or_false : (a : Bool) → (a || false) ≡ a
@@ -129,9 +129,9 @@ module _ {ps : List Text} (at : Claims ps) where
       by : IsKind (to_ascii_lowercase c) →
           outcome Locale (plain (to_ascii_lowercase c ∷ seen) (part_of (to_ascii_lowercase c))) ps
           ≡ body_fault c seen ps
-      by (of_u e) = rw e (rw unicode_is (at.unicode (117 ∷ seen)))
-      by (of_t e) = rw e (at.transform (116 ∷ seen))
-      by (of_x e) = rw e (rw or_false (at.private (120 ∷ seen)))
+      by (of_u e) = rw e (rw unicode_is (at.unicode (code_u ∷ seen)))
+      by (of_t e) = rw e (at.transform (code_t ∷ seen))
+      by (of_x e) = rw e (rw or_false (at.private (code_x ∷ seen)))
       by (another h) = let n = apart (to_ascii_lowercase c) h in
           rw (n.0, n.1, h, n.2) (at.other (to_ascii_lowercase c ∷ seen))
 

@@ -172,7 +172,7 @@ single_some c ps =
 
 tail_of_u : (c : ℕ) (ps : List Text) → is_u c ≡ true →
     data_tail (blocks ((c ∷ []) ∷ ps)) ≡ (keyword (front ps) && empty (blocks ps))
-tail_of_u c ps h = let e : to_ascii_lowercase c ≡ 117 = eqb-true _ _ h in rw e (by (blocks ps))
+tail_of_u c ps h = let e : to_ascii_lowercase c ≡ code_u = eqb-true _ _ h in rw e (by (blocks ps))
   where
     by : (bs : List Block) → data_tail ((c, front ps) ∷ bs) ≡ (keyword (front ps) && empty bs)
     by [] = rw (h, and_true) refl

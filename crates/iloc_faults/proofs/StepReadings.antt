@@ -8,7 +8,7 @@ use Rattle.std.specs.Char.{to_ascii_lowercase}
 use Rattle.std.proofs.lemmas.Bool.{ne_eqb, and_parts}
 use Rattle.iloc_spec_parts.specs.SmallComputing.{is_u}
 use Rattle.std.proofs.lemmas.List.{map-append}
-use Rattle.iloc_spec_grammar.specs.Syntax.{Text, Variant, languages, is_word, IsWord, lower, word_cmp}
+use Rattle.iloc_spec_grammar.specs.Syntax.{code_u, Text, Variant, languages, is_word, IsWord, lower, word_cmp}
 use Rattle.iloc_spec_grammar.specs.Syntax.{is_one_byte}
 use Rattle.iloc_spec_grammar.specs.Syntax as kinds
 use Rattle.iloc_spec_grammar.proofs.ReadBack.{all_append}
@@ -224,7 +224,7 @@ block_read at part bits seen one begins new h p e = (
 -- that of a data locale, and none of it
 pub data_read : (at : Left) (part : Part) (stage : Stage) (bits : ℕ) (seen : List ℕ) →
     AreSingletonsSeen bits seen → is_one_byte (piece_left at) ≡ true → part ≡ Head stage →
-    to_ascii_lowercase (slice_index (piece_left at) 0) ≡ 117
+    to_ascii_lowercase (slice_index (piece_left at) 0) ≡ code_u
     → (s : Option State) → s ≡ option_map (bare bits) (Some Subdivision) →
     IsPieceRead at (block_next Data part seen (slice_index (piece_left at) 0)) s
 data_read at part stage bits seen h one e u s f = rw (e, f) (rw u (
@@ -236,7 +236,7 @@ data_read at part stage bits seen h one e u s f = rw (e, f) (rw u (
 ))
 
 pub data_other : (at : Left) (part : Part) (seen : List ℕ) →
-    to_ascii_lowercase (slice_index (piece_left at) 0) ≢ 117 →
+    to_ascii_lowercase (slice_index (piece_left at) 0) ≢ code_u →
     IsPieceRead at (block_next Data part seen (slice_index (piece_left at) 0)) None
 data_other at (Head stage) seen n =
     let e : is_u (slice_index (piece_left at) 0) ≡ false = ne_eqb _ _ n in rw e refl

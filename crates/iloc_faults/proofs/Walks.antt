@@ -87,7 +87,7 @@ pub record IsWalked (mode : Mode) (t : Text) (at : Left) (s : State) : Type 0 wh
   pub left : IsRemainder at
   pub done : List Text
   pub variants : List Text
-  pub seen : List ℕ
+  pub seen : Text
   pub start : at.at ≡ length (dashes done)
   pub cut : pieces t ≡ done ++ pieces_left at
   pub ran : run mode (Some started) done ≡ Some (reached s.part variants seen)
@@ -96,7 +96,7 @@ pub record IsWalked (mode : Mode) (t : Text) (at : Left) (s : State) : Type 0 wh
 -- all of them came
 pub record IsAll (mode : Mode) (t : Text) (s : State) : Type 0 where
   pub variants : List Text
-  pub seen : List ℕ
+  pub seen : Text
   pub ran : run mode (Some started) (pieces t) ≡ Some (reached s.part variants seen)
 
 pub walk_starts : (mode : Mode) (t : Text) (at : Left) → IsRemainder at → at.at ≡ 0 →

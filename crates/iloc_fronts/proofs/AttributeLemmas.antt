@@ -8,7 +8,7 @@ use Rattle.std.proofs.lemmas.Bool.{cases_Bool}
 use Rattle.std.proofs.lemmas.Bool.Decides.{nat_tests}
 use Rattle.std.proofs.lemmas.List.{length-take-le, get_or-take}
 use Rattle.std.proofs.lemmas.List.Splits.{slice_split-cons_no}
-use Rattle.iloc_spec_grammar.specs.Syntax.{Attribute, pieces, first_piece, is_word, letters_or_digits}
+use Rattle.iloc_spec_grammar.specs.Syntax.{Text, Attribute, pieces, first_piece, is_word, letters_or_digits}
 use Rattle.iloc_fronts.specs.Run.{IsRunOf, is_hyphen, fails}
 use Rattle.iloc_fronts.specs.Front.{IsFirst}
 use Rattle.iloc_fronts.specs.Keyword.{IsFirstAttribute}
@@ -25,13 +25,13 @@ pub no_hyphen : (b : ℕ) → is_ascii_alphanumeric b ≡ true → fails is_hyph
 no_hyphen b e = grind (arith, nat_tests)
 
 -- a byte that is no hyphen stands in the first piece, so that is no word
-all_onto : (c : ℕ) (ps : List (List ℕ)) →
+all_onto : (c : ℕ) (ps : List Text) →
     letters_or_digits (first_piece (onto_first c ps))
     ≡ is_ascii_alphanumeric c && letters_or_digits (first_piece ps)
 all_onto c [] = refl
 all_onto c (p ∷ ps) = refl
 
-stranger : (k : ℕ) (t : List ℕ) → k < length t → Free k t → fails is_hyphen (get_or t k 0) ≡ true →
+stranger : (k : ℕ) (t : Text) → k < length t → Free k t → fails is_hyphen (get_or t k 0) ≡ true →
     is_ascii_alphanumeric (get_or t k 0) ≡ false
     → letters_or_digits (first_piece (slice_split is_hyphen t)) ≡ false
 stranger k [] l f h e = absurd (omega arith)
@@ -44,9 +44,9 @@ stranger (suc k) (c ∷ t) l f h e =
     ∙ ap (λ (b : Bool). is_ascii_alphanumeric c && b) (stranger k t (omega arith) (later k c t f) h e)
     ∙ and-false (is_ascii_alphanumeric c)
 
-module _ (w : List ℕ) (len run : ℕ) (room : len + 16 ≤ length w)
+module _ (w : Text) (len run : ℕ) (room : len + 16 ≤ length w)
     (r : IsRunOf 13 is_ascii_alphanumeric w run) where
-  abbrev text : List ℕ
+  abbrev text : Text
   text = take len w
 
   whole : length text ≡ len

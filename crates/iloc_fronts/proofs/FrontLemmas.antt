@@ -7,7 +7,7 @@ use Rattle.std.proofs.lemmas.Bool.{cases_lt, cases_Bool}
 use Rattle.std.proofs.lemmas.Bool.Decides.{nat_tests}
 use Rattle.std.proofs.lemmas.List.{get_or-take, length-drop, length-take-le, take-take, drop-take}
 use Rattle.std.proofs.lemmas.List.Splits.{slice_split-cons_yes, slice_split-cons_no}
-use Rattle.iloc_spec_grammar.specs.Syntax.{pieces, first_piece, Kind, Attribute, Language, Script, Region}
+use Rattle.iloc_spec_grammar.specs.Syntax.{Text, pieces, first_piece, Kind, Attribute, Language, Script, Region}
 use Rattle.iloc_spec_grammar.specs.Syntax.{UnicodeKey, Variant, is_word, IsWord, is_true, lower, languages}
 use Rattle.iloc_spec_grammar.specs.Meaning.{normal_values}
 use Rattle.iloc_spec_grammar.specs.Reading.{past, skip_first, starts_block, after_region}
@@ -23,7 +23,7 @@ use Rattle.iloc_fronts.specs.declared.front.Front.TheVariants as front
 -- ---- the first piece, by the bytes before the first hyphen
 
 -- no hyphen is among the first n bytes
-abbrev pub Free : ℕ → List ℕ → Type 0
+abbrev pub Free : ℕ → Text → Type 0
 Free n t = (i : ℕ) → i < n → fails is_hyphen (get_or t i 0) ≡ true
 
 pub is_no : (b : Bool) → not b ≡ true → b ≡ false
@@ -34,30 +34,30 @@ is_yes : (b : Bool) → not b ≡ false → b ≡ true
 is_yes true e = refl
 is_yes false e = sym e
 
-pub later : (n c : ℕ) (t : List ℕ) → Free (suc n) (c ∷ t) → Free n t
+pub later : (n c : ℕ) (t : Text) → Free (suc n) (c ∷ t) → Free n t
 later n c t h i l = h (suc i) (omega arith)
 
-pub go_on : (n c : ℕ) (t : List ℕ) → Free (suc n) (c ∷ t) →
+pub go_on : (n c : ℕ) (t : Text) → Free (suc n) (c ∷ t) →
     slice_split is_hyphen (c ∷ t) ≡ onto_first c (slice_split is_hyphen t)
 go_on n c t h = slice_split-cons_no is_hyphen c t (is_no _ (h 0 (omega arith)))
 
-cut_at : (k : ℕ) (t : List ℕ) → k < length t → Free k t → fails is_hyphen (get_or t k 0) ≡ false
+cut_at : (k : ℕ) (t : Text) → k < length t → Free k t → fails is_hyphen (get_or t k 0) ≡ false
     → slice_split is_hyphen t ≡ take k t ∷ slice_split is_hyphen (drop (suc k) t)
 cut_at zero [] l h e = absurd (omega arith)
 cut_at zero (c ∷ t) l h e = slice_split-cons_yes is_hyphen c t (is_yes _ e)
 cut_at (suc k) [] l h e = absurd (omega arith)
 cut_at (suc k) (c ∷ t) l h e = go_on k c t h ∙ ap (onto_first c) (cut_at k t (omega arith) (later k c t h) e)
 
-uncut : (t : List ℕ) → Free (length t) t → slice_split is_hyphen t ≡ t ∷ []
+uncut : (t : Text) → Free (length t) t → slice_split is_hyphen t ≡ t ∷ []
 uncut [] h = refl
 uncut (c ∷ t) h = go_on (length t) c t h ∙ ap (onto_first c) (uncut t (later (length t) c t h))
 
-pub first_onto : (c : ℕ) (ps : List (List ℕ)) →
+pub first_onto : (c : ℕ) (ps : List Text) →
     length (first_piece (onto_first c ps)) ≡ suc (length (first_piece ps))
 first_onto c [] = refl
 first_onto c (p ∷ ps) = refl
 
-pub goes_far : (k : ℕ) (t : List ℕ) → k ≤ length t → Free k t →
+pub goes_far : (k : ℕ) (t : Text) → k ≤ length t → Free k t →
     k ≤ length (first_piece (slice_split is_hyphen t))
 goes_far zero t l h = omega arith
 goes_far (suc k) [] l h = absurd (omega arith)
@@ -69,7 +69,7 @@ goes_far (suc k) (c ∷ t) l h =
     )
 
 -- n bytes come before the first hyphen of what the line has
-pub first_by : (w : List ℕ) (len n : ℕ) → len ≤ length w → n ≤ len → n ≤ 16
+pub first_by : (w : Text) (len n : ℕ) → len ≤ length w → n ≤ len → n ≤ 16
     → ((i : ℕ) → i < n → fails is_hyphen (get_or w i 0) ≡ true)
     → (n < len → n < 16 → fails is_hyphen (get_or w n 0) ≡ false) → IsFirst (take len w) n
 unfolding pieces
@@ -91,7 +91,7 @@ first_by w len n inside less few pass ends =
     }
 
 -- n is the lesser of the line's length and of the bytes before the first hyphen of the window
-pub first_is : (w : List ℕ) (len k n : ℕ) → 16 ≤ length w → len ≤ length w → IsRun (fails is_hyphen) w k
+pub first_is : (w : Text) (len k n : ℕ) → 16 ≤ length w → len ≤ length w → IsRun (fails is_hyphen) w k
     → n ≤ len → n ≤ k → (n < len → n ≡ k) → IsFirst (take len w) n
 first_is w len k n wide inside r few less least =
     first_by w len n inside few (omega (arith, r.few)) (λ i early. r.pass i (omega arith))
@@ -102,13 +102,13 @@ first_is w len k n wide inside r few less least =
 -- ---- words among the pieces
 
 -- where the first piece is no word of the kind, not all are
-pub all_fail : (k : Kind) (t : List ℕ) → is_word k (first_piece (pieces t)) ≡ false →
+pub all_fail : (k : Kind) (t : Text) → is_word k (first_piece (pieces t)) ≡ false →
     list_all (is_word k) (pieces t) ≡ false
 all_fail k t = at_pieces (λ ps. is_word k (first_piece ps) ≡ false → list_all (is_word k) ps ≡ false)
     (λ p ps e. ap (λ (b : Bool). b && list_all (is_word k) ps) e) t
 
 -- the pieces of a value that are not `true`
-pub values_later : (p : List ℕ) (ps : List (List ℕ)) →
+pub values_later : (p : Text) (ps : List Text) →
     length (normal_values ps) ≤ length (normal_values (p ∷ ps))
 values_later p ps = by (is_true (lower p))
   where
@@ -117,18 +117,18 @@ values_later p ps = by (is_true (lower p))
     by true = omega arith
     by false = omega arith
 
-pub values_word : (p : List ℕ) (ps : List (List ℕ)) → is_true (lower p) ≡ false →
+pub values_word : (p : Text) (ps : List Text) → is_true (lower p) ≡ false →
     length (normal_values (p ∷ ps)) ≡ suc (length (normal_values ps))
 values_word p ps e =
     ap (λ (b : Bool). length (cond (not b) (lower p ∷ normal_values ps) (normal_values ps))) e
 
-pub values_true : (p : List ℕ) (ps : List (List ℕ)) → is_true (lower p) ≡ true →
+pub values_true : (p : Text) (ps : List Text) → is_true (lower p) ≡ true →
     normal_values (p ∷ ps) ≡ normal_values ps
 values_true p ps e = ap (λ (b : Bool). cond (not b) (lower p ∷ normal_values ps) (normal_values ps)) e
 
 -- no word of the kind has more than eight bytes
 abbrev pub IsShort : Kind → Type 0
-IsShort k = (p : List ℕ) → IsWord k p → length p ≤ 8
+IsShort k = (p : Text) → IsWord k p → length p ≤ 8
 
 pub short_language : IsShort (Language languages)
 short_language p h = languages_table.most (length p) (length-language languages p h)
@@ -148,14 +148,14 @@ short_attribute p h = (length-attribute p h).1
 pub short_variant : IsShort Variant
 short_variant p h = (length-variant p h).1
 
-pub too_long : (k : Kind) → IsShort k → (p : List ℕ) → 8 < length p → is_word k p ≡ false
+pub too_long : (k : Kind) → IsShort k → (p : Text) → 8 < length p → is_word k p ≡ false
 too_long k short p more = elim (cases_Bool (is_word k p)) [
   | inl fits ↦ absurd (omega (arith, short p fits))
   | inr fails ↦ fails
 ]
 
 -- what follows a byte of the line, in the line and in the rest of the window
-pub later_bytes : (w : List ℕ) (len n : ℕ) → len ≤ length w → n < len
+pub later_bytes : (w : Text) (len n : ℕ) → len ≤ length w → n < len
     → drop (suc n) (take len w) ≡ take (len - n - 1) (take (length w - (n + 1)) (drop (n + 1) w))
 later_bytes w len n inside less =
     let parts : len ≡ suc n + (len - n - 1) = omega arith in
@@ -165,12 +165,12 @@ later_bytes w len n inside less =
     ∙ ap (λ (m : ℕ). take (len - n - 1) (drop m w)) one_more
     ∙ sym (take-take (len - n - 1) (length w - (n + 1)) (drop (n + 1) w) enough)
 
-module _ (w : List ℕ) (len n : ℕ) (room : len + 16 ≤ length w) (first : IsFirst (take len w) n) where
-  abbrev text : List ℕ
+module _ (w : Text) (len n : ℕ) (room : len + 16 ≤ length w) (first : IsFirst (take len w) n) where
+  abbrev text : Text
   text = take len w
 
   -- what follows the first piece and its hyphen, in the rest of the window
-  abbrev pub next : List ℕ
+  abbrev pub next : Text
   next = take (len - n - 1) (take (length w - (n + 1)) (drop (n + 1) w))
 
   whole : length text ≡ len
@@ -288,12 +288,12 @@ module _ (w : List ℕ) (len n : ℕ) (room : len + 16 ≤ length w) (first : Is
   pub one_byte : n ≡ 1 → first_piece (pieces text) ≡ get_or w 0 0 ∷ []
   one_byte one = short_first (omega arith) ∙ ap (λ (m : ℕ). take m w) one ∙ front w (omega arith)
     where
-      front : (v : List ℕ) → 1 ≤ length v → take 1 v ≡ get_or v 0 0 ∷ []
+      front : (v : Text) → 1 ≤ length v → take 1 v ≡ get_or v 0 0 ∷ []
       front [] l = absurd (omega arith)
       front (b ∷ v) l = refl
 
 -- what is so of the pieces after a language is so of the text
-pub is_front : (t : List ℕ) (f : Front) → IsWord (Language languages) (first_piece (pieces t))
+pub is_front : (t : Text) (f : Front) → IsWord (Language languages) (first_piece (pieces t))
     → GoesOnAs (after_region (pieces t)) f → IsFront t f
 is_front t front.NoLanguage l g = absurd (g tt)
 is_front t front.Misfit l g = (l, g)

@@ -9,7 +9,7 @@ use Rattle.std.proofs.lemmas.Bool.{cases_Bool, cases_lt, true≢false}
 use Rattle.std.proofs.lemmas.Bool.Decides.{nat_tests}
 use Rattle.std.proofs.lemmas.List.{get_or-take, length-drop, length-take-le}
 use Rattle.std.proofs.lemmas.List.Splits.{slice_split-cons_no, slice_split-cons_yes}
-use Rattle.iloc_spec_grammar.specs.Syntax.{Attribute, UnicodeKey, pieces, first_piece, is_word, IsWord}
+use Rattle.iloc_spec_grammar.specs.Syntax.{Text, Attribute, UnicodeKey, pieces, first_piece, is_word, IsWord}
 use Rattle.iloc_spec_grammar.specs.Syntax.{is_true, lower}
 use Rattle.iloc_spec_grammar.specs.Meaning.{normal_values}
 use Rattle.iloc_fronts.specs.Run.{is_hyphen, fails}
@@ -27,18 +27,18 @@ letter : (b : ℕ) → is_ascii_alphanumeric b ≡ true → 57 < b → is_ascii_
 letter b e more = grind (arith, nat_tests)
 
 -- a word whose number is another is not `sd`
-pub other_number : (p : List ℕ) (n : ℕ) → n ≡ two_number p → n ≢ 29540 → lower p ≢ codes "sd"
+pub other_number : (p : Text) (n : ℕ) → n ≡ two_number p → n ≢ 29540 → lower p ≢ codes "sd"
 other_number p n e other same = other (e ∙ ap (λ l. 256 * get_or l 0 0 + get_or l 1 0) same)
 
 -- one word more at most
-pub one_word : (p : List ℕ) (ps : List (List ℕ)) → length (normal_values ps) ≡ 0 →
+pub one_word : (p : Text) (ps : List Text) → length (normal_values ps) ≡ 0 →
     length (normal_values (p ∷ ps)) ≤ 1
 one_word p ps none = elim (cases_Bool (is_true (lower p))) [
   | inl holds ↦ omega (arith, ap length (values_true p ps holds))
   | inr fails ↦ omega (arith, values_word p ps fails)
 ]
 
-module _ (w : List ℕ) (len : ℕ) (room : len + 16 ≤ length w)
+module _ (w : Text) (len : ℕ) (room : len + 16 ≤ length w)
     (first : is_ascii_alphanumeric (get_or w 0 0) ≡ true)
     (second : is_ascii_alphanumeric (get_or w 1 0) ≡ true) where
   free : (i : ℕ) → i < 2 → fails is_hyphen (get_or w i 0) ≡ true
@@ -73,7 +73,7 @@ module _ (w : List ℕ) (len : ℕ) (room : len + 16 ≤ length w)
 
   -- a key, and a piece after it
   module _ (more : 57 < get_or w 1 0) (least : 3 ≤ len) (hyphen : get_or w 2 0 ≡ 45) where
-    abbrev value : List ℕ
+    abbrev value : Text
     value = take (length w - 3) (drop 3 w)
 
     abbrev left : ℕ
@@ -90,11 +90,11 @@ module _ (w : List ℕ) (len : ℕ) (room : len + 16 ≤ length w)
 
     pub no_value : is_word Attribute (first_piece (pieces (take left value))) ≡ false →
         IsKeywordOf (pieces (take len w)) keyword.Misfit
-    no_value e = subst (λ (ps : List (List ℕ)). IsKeywordOf ps keyword.Misfit) (sym after_key)
+    no_value e = subst (λ (ps : List Text). IsKeywordOf ps keyword.Misfit) (sym after_key)
         (is_key more, all_fail Attribute (take left value) e)
 
     module _ (n : ℕ) (word : IsFirstAttribute value left n) where
-      abbrev piece : List ℕ
+      abbrev piece : Text
       piece = take n value
 
       -- the piece is all of the value
@@ -110,7 +110,7 @@ module _ (w : List ℕ) (len : ℕ) (room : len + 16 ≤ length w)
 
       -- others follow it
       module _ (goes : n ≢ left) where
-        abbrev others : List (List ℕ)
+        abbrev others : List Text
         others = pieces (next value left n value_room word.first)
 
         parts : pieces (take len w) ≡ take 2 w ∷ piece ∷ others
@@ -123,14 +123,14 @@ module _ (w : List ℕ) (len : ℕ) (room : len + 16 ≤ length w)
 
         pub other_misfit : list_all (is_word Attribute) others ≡ false →
             IsKeywordOf (pieces (take len w)) keyword.Misfit
-        other_misfit e = subst (λ (ps : List (List ℕ)). IsKeywordOf ps keyword.Misfit) (sym parts)
+        other_misfit e = subst (λ (ps : List Text). IsKeywordOf ps keyword.Misfit) (sym parts)
             (is_key more, all_is ∙ e)
 
         pub many_values : list_all (is_word Attribute) others ≡ true → (words : ℕ) →
             words ≡ length (normal_values others)
             → (1 < words) ⊎ ((words ≡ 1) × (is_true (lower piece) ≡ false)) →
             IsKeywordOf (pieces (take len w)) keyword.Many
-        many_values e words count many = subst (λ (ps : List (List ℕ)). IsKeywordOf ps keyword.Many)
+        many_values e words count many = subst (λ (ps : List Text). IsKeywordOf ps keyword.Many)
             (sym parts) (is_key more, all_is ∙ e, least_two many)
           where
             least_two : (1 < words) ⊎ ((words ≡ 1) × (is_true (lower piece) ≡ false)) →
@@ -152,7 +152,7 @@ module _ (w : List ℕ) (len : ℕ) (room : len + 16 ≤ length w)
             ]
 
 -- a first piece that was found is an attribute
-pub attribute_found : (w : List ℕ) (len : ℕ) → len + 16 ≤ length w → (found : Option ℕ)
+pub attribute_found : (w : Text) (len : ℕ) → len + 16 ≤ length w → (found : Option ℕ)
     → MatchOption found (is_word Attribute (first_piece (pieces (take len w))) ≡ false)
     (IsFirstAttribute w len) →
     is_some found ≡ true
@@ -162,7 +162,7 @@ attribute_found w len room (Some n) word e =
 attribute_found w len room None word e = absurd (true≢false (sym e))
 
 -- a first piece of one byte, and what follows its hyphen
-pub after_one : (c : ℕ) (t : List ℕ) → 2 ≤ length t → first_piece (pieces t) ≡ c ∷ [] →
+pub after_one : (c : ℕ) (t : Text) → 2 ≤ length t → first_piece (pieces t) ≡ c ∷ [] →
     pieces t ≡ (c ∷ []) ∷ pieces (drop 2 t)
 unfolding pieces
 after_one c [] l e = absurd (omega arith)

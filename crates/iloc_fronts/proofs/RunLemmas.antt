@@ -9,14 +9,15 @@ use Rattle.std.proofs.lemmas.List.Sums.{prefix_len_passes, prefix_len_stops, pre
 use Rattle.std.proofs.lemmas.Simd.{map-map, mask_l-mod}
 use lib.Lanes.{mask_l, top, Each1}
 use Rattle.iloc_fronts.specs.Run.{IsRun, IsRunOf}
+use Rattle.iloc_spec_grammar.specs.Syntax.{Text}
 
 -- two tests that agree on the 256 bytes
-same_map : (q r : ℕ → Bool) (v : List ℕ) → Each1 (Fits w8) v → agree_below q r 256 ≡ true → map q v ≡ map r v
+same_map : (q r : ℕ → Bool) (v : Text) → Each1 (Fits w8) v → agree_below q r 256 ≡ true → map q v ≡ map r v
 same_map q r [] fits e = refl
 same_map q r (b ∷ v) fits e = λ j. agree_below_at q r 256 b e (fits.0).fits j ∷ same_map q r v fits.1 e j
 
 -- a mask of lanes that were computed from v tells the test exactly
-pub mask_is : (f : ℕ → ℕ) (p : ℕ → Bool) (v z : List ℕ) → (length v ≡ 16) × Each1 (Fits w8) v → z ≡ map f v
+pub mask_is : (f : ℕ → ℕ) (p : ℕ → Bool) (v z : Text) → (length v ≡ 16) × Each1 (Fits w8) v → z ≡ map f v
     → agree_below (λ b. top 7 (f b)) p 256 ≡ true → mask_l (map (top 7) z) % 2 ^ 64 ≡ mask_l (map p v)
 mask_is f p v z fits e all =
     let few : length (map p v) ≤ 64 = omega (arith, length-map v p, fits.0) in
@@ -25,7 +26,7 @@ mask_is f p v z fits e all =
     ∙ mask_l-mod (map p v) 64 few
 
 -- the bytes before the first that is marked are a run
-pub run_is : (p q : ℕ → Bool) (w : List ℕ) (n : ℕ) → 16 ≤ length w → ((b : ℕ) → not (p b) ≡ q b)
+pub run_is : (p q : ℕ → Bool) (w : Text) (n : ℕ) → 16 ≤ length w → ((b : ℕ) → not (p b) ≡ q b)
     → n ≡ prefix_len (λ b. not (p b)) (take 16 w) → IsRun q w n
 run_is p q w n wide same e =
     let r : ℕ → Bool = λ b. not (p b) in
@@ -66,14 +67,14 @@ eighth false false true n = omega arith
 eighth false false false n = omega arith
 
 -- thirteen bytes, and three that no test marks
-abbrev pub padded : List ℕ → List ℕ
+abbrev pub padded : Text → Text
 padded w = take 13 w ++ 97 ∷ 97 ∷ 97 ∷ []
 
-pub length-padded : (w : List ℕ) → 13 ≤ length w → length (padded w) ≡ 16
+pub length-padded : (w : Text) → 13 ≤ length w → length (padded w) ≡ 16
 length-padded w wide =
     length-append (take 13 w) (97 ∷ 97 ∷ 97 ∷ []) ∙ ap (λ n. n + 3) (length-take-le 13 w wide)
 
-pub later_mask : (p : ℕ → Bool) → p 97 ≡ false → (w : List ℕ) → 16 ≤ length w →
+pub later_mask : (p : ℕ → Bool) → p 97 ≡ false → (w : Text) → 16 ≤ length w →
     mask_l (map p (take 16 w)) / 2 ^ 3 ≡ mask_l (map p (padded (drop 3 w)))
 later_mask p none [] l = absurd (omega arith)
 later_mask p none (a ∷ []) l = absurd (omega arith)
@@ -84,7 +85,7 @@ later_mask p none (a ∷ b ∷ c ∷ w) l =
     ∙ ap (λ (m : Bool). map p (take 13 w) ++ m ∷ m ∷ m ∷ []) none))
 
 -- a run of these is one of thirteen bytes
-pub later_run : (q : ℕ → Bool) (w : List ℕ) (n : ℕ) → 13 ≤ length w → IsRun q (padded w) n → IsRunOf 13 q w n
+pub later_run : (q : ℕ → Bool) (w : Text) (n : ℕ) → 13 ≤ length w → IsRun q (padded w) n → IsRunOf 13 q w n
 later_run q w n wide r = record {
   pass = λ i less few. sym (ap q (same i few)) ∙ r.pass i less;
   ends = λ few. sym (ap q (same n few)) ∙ r.ends (omega arith);

@@ -7,11 +7,11 @@ use Rattle.std.specs.Char.{is_ascii_alphabetic, is_ascii_alphanumeric, is_ascii_
 use Rattle.std.proofs.lemmas.Bool.{cases_lt}
 use Rattle.std.proofs.lemmas.Bool.Decides.{nat_tests}
 use Rattle.std.proofs.lemmas.List.{length-take-le}
-use Rattle.iloc_spec_grammar.specs.Syntax.{Attribute, Language, Script, Region, UnicodeKey, Variant, is_word}
+use Rattle.iloc_spec_grammar.specs.Syntax.{Text, Attribute, Language, Script, Region, UnicodeKey, Variant, is_word}
 use Rattle.iloc_spec_grammar.specs.Syntax.{letters, digits, letters_or_digits, languages}
 use Rattle.iloc_fronts.specs.Run.{IsRun}
 
-pub all_pass : (p : ℕ → Bool) (n : ℕ) (w : List ℕ) → n ≤ length w →
+pub all_pass : (p : ℕ → Bool) (n : ℕ) (w : Text) → n ≤ length w →
     ((i : ℕ) → i < n → p (get_or w i 0) ≡ true) → list_all p (take n w) ≡ true
 all_pass p zero w l h = refl
 all_pass p (suc n) [] l h = absurd (omega arith)
@@ -22,7 +22,7 @@ pub and-false : (b : Bool) → (b && false) ≡ false
 and-false true = refl
 and-false false = refl
 
-one_fails : (p : ℕ → Bool) (k n : ℕ) (w : List ℕ) → k < n → n ≤ length w → p (get_or w k 0) ≡ false →
+one_fails : (p : ℕ → Bool) (k n : ℕ) (w : Text) → k < n → n ≤ length w → p (get_or w k 0) ≡ false →
     list_all p (take n w) ≡ false
 one_fails p k zero w l m e = absurd (omega arith)
 one_fails p k (suc n) [] l m e = absurd (omega arith)
@@ -31,7 +31,7 @@ one_fails p (suc k) (suc n) (b ∷ w) l m e =
     ap (λ a. p b && a) (one_fails p k n w (omega arith) (omega arith) e) ∙ and-false (p b)
 
 -- n bytes are all of the class where no fewer come first
-pub run_tests : (p : ℕ → Bool) (w : List ℕ) (k n : ℕ) → 16 ≤ length w → n ≤ 16 → IsRun p w k →
+pub run_tests : (p : ℕ → Bool) (w : Text) (k n : ℕ) → 16 ≤ length w → n ≤ 16 → IsRun p w k →
     nat_le n k ≡ list_all p (take n w)
 run_tests p w k n wide few r = elim (cases_lt k n) [
   | inl less ↦
@@ -43,7 +43,7 @@ run_tests p w k n wide few r = elim (cases_lt k n) [
       yes ∙ sym (all_pass p n w (omega arith) (λ i inside. r.pass i (omega arith)))
 ]
 
-module _ (w : List ℕ) (n : ℕ) (wide : 16 ≤ length w) (few : n ≤ 16) where
+module _ (w : Text) (n : ℕ) (wide : 16 ≤ length w) (few : n ≤ 16) where
   long : length (take n w) ≡ n
   long = length-take-le n w (omega arith)
 

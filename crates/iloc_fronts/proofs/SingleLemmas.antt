@@ -13,7 +13,7 @@ use Rattle.std.proofs.lemmas.Nat.Bits.{bit_at-suc, bit_at-trailing_zeros, bit_at
 use Rattle.std.proofs.lemmas.Simd.{bit_mask_l, mask_l-lt}
 use lib.Count.{count_trailing_zeros}
 use lib.Lanes.{mask_l}
-use Rattle.iloc_spec_grammar.specs.Syntax.{pieces, first_piece, is_one_byte, is_word, Script, Region, Variant}
+use Rattle.iloc_spec_grammar.specs.Syntax.{Text, pieces, first_piece, is_one_byte, is_word, Script, Region, Variant}
 use Rattle.iloc_spec_grammar.specs.Reading.{past, skip_first, starts_block, after_region}
 use Rattle.iloc_spec_grammar.proofs.PiecesLaws.{at_pieces}
 use Rattle.iloc_spec_grammar.proofs.Readings.{IsLong, long_script, long_region, long_variant}
@@ -22,13 +22,13 @@ use Rattle.iloc_fronts.proofs.FrontLemmas.{later_bytes}
 
 -- ---- in a mask of hyphens
 
-marked : (v : List ℕ) (i : ℕ) → get_or (map is_hyphen v) i false ≡ true →
+marked : (v : Text) (i : ℕ) → get_or (map is_hyphen v) i false ≡ true →
     (is_hyphen (get_or v i 0) ≡ true) × (i < length v)
 marked [] i e = absurd (cc)
 marked (b ∷ v) zero e = (e, omega arith)
 marked (b ∷ v) (suc i) e = let t = marked v i e in (t.0, omega (arith, t.1))
 
-mark_of : (v : List ℕ) (i : ℕ) → i < length v → get_or (map is_hyphen v) i false ≡ is_hyphen (get_or v i 0)
+mark_of : (v : Text) (i : ℕ) → i < length v → get_or (map is_hyphen v) i false ≡ is_hyphen (get_or v i 0)
 mark_of [] i l = absurd (omega arith)
 mark_of (b ∷ v) zero l = refl
 mark_of (b ∷ v) (suc i) l = mark_of v i (omega arith)
@@ -44,9 +44,9 @@ not_both true true e h = absurd (omega arith)
 not_both true false e h = refl
 not_both false b e h = absurd (true≢false (sym h))
 
-module _ (w : List ℕ) (m : ℕ) (wide : 16 ≤ length w) (e : m ≡ mask_l (map is_hyphen (take 16 w)))
+module _ (w : Text) (m : ℕ) (wide : 16 ≤ length w) (e : m ≡ mask_l (map is_hyphen (take 16 w)))
     (some : 0 < bit_and m (m / 4)) where
-  abbrev v : List ℕ
+  abbrev v : Text
   v = take 16 w
 
   abbrev n : ℕ
@@ -105,7 +105,7 @@ module _ (w : List ℕ) (m : ℕ) (wide : 16 ≤ length w) (e : m ≡ mask_l (ma
 -- ---- in the pieces
 
 -- no hyphen of the first k bytes has another one two bytes later
-abbrev NoneBefore : List ℕ → ℕ → Type 0
+abbrev NoneBefore : Text → ℕ → Type 0
 NoneBefore t k =
     (i : ℕ) → i < k → is_hyphen (get_or t i 0) ≡ true → is_hyphen (get_or t (suc (suc i)) 0) ≡ false
 
@@ -113,7 +113,7 @@ two_bytes : (n : ℕ) → (suc (suc n) == 1) ≡ false
 two_bytes n = grind (arith, nat_tests)
 
 -- a first piece before a hyphen is long if no hyphen follows its first byte
-first_long : (t : List ℕ) (k : ℕ) → k < length t → is_hyphen (get_or t k 0) ≡ true →
+first_long : (t : Text) (k : ℕ) → k < length t → is_hyphen (get_or t k 0) ≡ true →
     is_hyphen (get_or t 1 0) ≡ false → IsLong (first_piece (pieces t))
 unfolding pieces
 first_long [] k l h e = absurd (omega arith)
@@ -130,13 +130,13 @@ first_long (c ∷ d ∷ t) k l h e = elim (cases_Bool (is_hyphen c)) [
 ]
 
 -- long pieces, after a first one, come before the others
-record IsCut (t : List ℕ) (rest : List (List ℕ)) : Type 0 where
-  first : List ℕ
-  between : List (List ℕ)
+record IsCut (t : Text) (rest : List Text) : Type 0 where
+  first : Text
+  between : List Text
   cut : pieces t ≡ first ∷ (between ++ rest)
   long : AllByRecursion IsLong between
 
-cut_single : (t : List ℕ) (k : ℕ) → k < length t → is_hyphen (get_or t k 0) ≡ true → NoneBefore t k →
+cut_single : (t : Text) (k : ℕ) → k < length t → is_hyphen (get_or t k 0) ≡ true → NoneBefore t k →
     IsCut t (pieces (drop (suc k) t))
 unfolding pieces
 cut_single [] k l h none = absurd (omega arith)
@@ -167,18 +167,18 @@ cut_single (c ∷ t) (suc k) l h none =
 
 -- ---- after the words that fit
 
-record IsAhead (rest ps : List (List ℕ)) : Type 0 where
-  between : List (List ℕ)
+record IsAhead (rest ps : List Text) : Type 0 where
+  between : List Text
   cut : ps ≡ between ++ rest
   long : AllByRecursion IsLong between
 
-module _ (r : List ℕ) (rs : List (List ℕ)) (one : is_one_byte r ≡ true) where
+module _ (r : Text) (rs : List Text) (one : is_one_byte r ≡ true) where
   -- words have more than a byte
-  fails : (f : List ℕ → Bool) → ((p : List ℕ) → f p ≡ true → IsLong p) → f r ≡ false
+  fails : (f : Text → Bool) → ((p : Text) → f p ≡ true → IsLong p) → f r ≡ false
   fails f word =
       elim (cases_Bool (f r)) [ inl is ↦ absurd (true≢false (sym one ∙ word r is)) | inr other ↦ other ]
 
-  skips : (f : List ℕ → Bool) → ((p : List ℕ) → f p ≡ true → IsLong p) → (qs : List (List ℕ)) →
+  skips : (f : Text → Bool) → ((p : Text) → f p ≡ true → IsLong p) → (qs : List Text) →
       AllByRecursion IsLong qs → IsAhead (r ∷ rs) (skip_first f (qs ++ r ∷ rs))
   skips f word [] h =
       record { between = []; cut = ap (λ (b : Bool). cond b rs (r ∷ rs)) (fails f word); long = tt }
@@ -195,7 +195,7 @@ module _ (r : List ℕ) (rs : List (List ℕ)) (one : is_one_byte r ≡ true) wh
     }
   ]
 
-  passes : (f : List ℕ → Bool) → ((p : List ℕ) → f p ≡ true → IsLong p) → (qs : List (List ℕ)) →
+  passes : (f : Text → Bool) → ((p : Text) → f p ≡ true → IsLong p) → (qs : List Text) →
       AllByRecursion IsLong qs → IsAhead (r ∷ rs) (past f (qs ++ r ∷ rs))
   passes f word [] h =
       record { between = []; cut = ap (λ (b : Bool). cond b (past f rs) (r ∷ rs)) (fails f word); long = tt }
@@ -214,12 +214,12 @@ module _ (r : List ℕ) (rs : List (List ℕ)) (one : is_one_byte r ≡ true) wh
     }
   ]
 
-  starts : (qs : List (List ℕ)) → AllByRecursion IsLong qs → starts_block (qs ++ r ∷ rs) ≡ true →
+  starts : (qs : List Text) → AllByRecursion IsLong qs → starts_block (qs ++ r ∷ rs) ≡ true →
       qs ++ r ∷ rs ≡ r ∷ rs
   starts [] h e = refl
   starts (q ∷ qs) h e = absurd (true≢false (sym e ∙ h.0))
 
-  next_block : (p : List ℕ) (qs : List (List ℕ)) → AllByRecursion IsLong qs
+  next_block : (p : Text) (qs : List Text) → AllByRecursion IsLong qs
       → starts_block (past (is_word Variant) (after_region (p ∷ (qs ++ r ∷ rs)))) ≡ true
       → past (is_word Variant) (after_region (p ∷ (qs ++ r ∷ rs))) ≡ r ∷ rs
   next_block p qs h =
@@ -232,7 +232,7 @@ module _ (r : List ℕ) (rs : List (List ℕ)) (one : is_one_byte r ≡ true) wh
       λ e. same ∙ starts v.between v.long (sym (ap starts_block same) ∙ e)
 
 -- a block that follows the words of an identifier begins with the first piece of one byte
-pub next_is : (t : List ℕ) (k : ℕ) → k < length t → is_hyphen (get_or t k 0) ≡ true → NoneBefore t k
+pub next_is : (t : Text) (k : ℕ) → k < length t → is_hyphen (get_or t k 0) ≡ true → NoneBefore t k
     → (c : ℕ) → first_piece (pieces (drop (suc k) t)) ≡ c ∷ []
     → starts_block (past (is_word Variant) (after_region (pieces t))) ≡ true
     → past (is_word Variant) (after_region (pieces t)) ≡ pieces (drop (suc k) t)
@@ -242,21 +242,21 @@ next_is t k l h none c one =
     → starts_block (past (is_word Variant) (after_region (pieces t))) ≡ true →
     past (is_word Variant) (after_region (pieces t)) ≡ rest)
     (λ q qs cut first.
-    let after = λ (ps : List (List ℕ)). past (is_word Variant) (after_region ps) in
+    let after = λ (ps : List Text). past (is_word Variant) (after_region ps) in
     λ e. ap after cut
     ∙ next_block q qs (ap is_one_byte first) r.first r.between r.long
     (sym (ap (λ ps. starts_block (after ps)) cut) ∙ e))
     (drop (suc k) t) r.cut one
 
 -- what comes before a hyphen, and what follows it
-cut_text : (t : List ℕ) (k : ℕ) → k < length t → is_hyphen (get_or t k 0) ≡ true →
+cut_text : (t : Text) (k : ℕ) → k < length t → is_hyphen (get_or t k 0) ≡ true →
     t ≡ take k t ++ 45 ∷ drop (suc k) t
 cut_text [] k l h = absurd (omega arith)
 cut_text (c ∷ t) zero l h = ap (λ b. b ∷ t) (eqb-true c 45 h)
 cut_text (c ∷ t) (suc k) l h = ap (λ u. c ∷ u) (cut_text t k (omega arith) h)
 
 -- a byte between hyphens is a piece
-pub one_between : (t : List ℕ) → is_hyphen (get_or t 0 0) ≡ false → is_hyphen (get_or t 1 0) ≡ true →
+pub one_between : (t : Text) → is_hyphen (get_or t 0 0) ≡ false → is_hyphen (get_or t 1 0) ≡ true →
     1 < length t → first_piece (pieces t) ≡ get_or t 0 0 ∷ []
 unfolding pieces
 one_between [] a b l = absurd (omega arith)
@@ -266,13 +266,13 @@ one_between (c ∷ d ∷ t) a b l = ap first_piece
 
 -- ---- in a line
 
-module _ (w : List ℕ) (len at : ℕ) (room : len + 16 ≤ length w) (s : IsFirstSingle w at)
+module _ (w : Text) (len at : ℕ) (room : len + 16 ≤ length w) (s : IsFirstSingle w at)
     (inside : at + 2 < len) (other : get_or w (at + 1) 0 ≢ 45) where
-  abbrev text : List ℕ
+  abbrev text : Text
   text = take len w
 
   -- what follows the hyphen, in the rest of the window
-  abbrev window : List ℕ
+  abbrev window : Text
   window = take (length w - (at + 1)) (drop (at + 1) w)
 
   rest : drop (suc at) text ≡ take (len - at - 1) window

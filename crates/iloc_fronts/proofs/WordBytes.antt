@@ -7,14 +7,14 @@ use Rattle.std.specs.Char.{is_ascii_alphanumeric, to_ascii_lowercase}
 use Rattle.std.proofs.lemmas.Bool.{eqb-true, cases_Bool, eq-eqb, agree_below}
 use Rattle.std.proofs.lemmas.Bool.Decides.{nat_tests, Decides-ltb}
 use Rattle.std.proofs.lemmas.List.{length-map, length-take-le}
-use Rattle.iloc_spec_grammar.specs.Syntax.{lower, is_same, is_true}
+use Rattle.iloc_spec_grammar.specs.Syntax.{code_u, code_t, Text, lower, is_same, is_true}
 use Rattle.iloc_spec_grammar.proofs.MapLaws.{same_words, same_itself}
 use Rattle.iloc_plain.proofs.LaneLemmas.{of_byte}
 
 -- ---- the bytes of pieces
 
 -- the first two bytes in lower case
-pub first_two : (w : List ℕ) → 2 ≤ length w →
+pub first_two : (w : Text) → 2 ≤ length w →
     (get_or (lower (take 2 w)) 0 0 ≡ to_ascii_lowercase (get_or w 0 0))
     × (get_or (lower (take 2 w)) 1 0 ≡ to_ascii_lowercase (get_or w 1 0))
 unfolding lower
@@ -50,23 +50,23 @@ pub folded_fits : (c : ℕ) → c < 256 → bit_or c 32 < 256
 folded_fits c small =
     (Decides-ltb (bit_or c 32) 256).0 (of_byte (λ b. true) (λ b. nat_lt (bit_or b 32) 256) refl c small refl)
 
-pub true_word : (w : List ℕ) → is_true w ≡ true → codes "true" ≡ w
+pub true_word : (w : Text) → is_true w ≡ true → codes "true" ≡ w
 unfolding is_true
 true_word w h = same_words (codes "true") w ((Equal-is _).0 h)
 
-pub no_true : (p : List ℕ) → (is_true (lower p) ≡ true → ⊥) → is_true (lower p) ≡ false
+pub no_true : (p : Text) → (is_true (lower p) ≡ true → ⊥) → is_true (lower p) ≡ false
 no_true p h = elim (cases_Bool (is_true (lower p))) [
   | inl is ↦ absurd (h is)
   | inr other ↦ other
 ]
 
-abbrev pub TrueBytes : List ℕ → ℕ → Type 0
+abbrev pub TrueBytes : Text → ℕ → Type 0
 TrueBytes w n =
-    (n ≡ 4) × (to_ascii_lowercase (get_or w 0 0) ≡ 116) × (to_ascii_lowercase (get_or w 1 0) ≡ 114)
-    × (to_ascii_lowercase (get_or w 2 0) ≡ 117) × (to_ascii_lowercase (get_or w 3 0) ≡ 101)
+    (n ≡ 4) × (to_ascii_lowercase (get_or w 0 0) ≡ code_t) × (to_ascii_lowercase (get_or w 1 0) ≡ 114)
+    × (to_ascii_lowercase (get_or w 2 0) ≡ code_u) × (to_ascii_lowercase (get_or w 3 0) ≡ 101)
 
 -- the bytes of `true`
-pub true_bytes : (w : List ℕ) (n : ℕ) → n ≤ length w → is_true (lower (take n w)) ≡ true → TrueBytes w n
+pub true_bytes : (w : Text) (n : ℕ) → n ≤ length w → is_true (lower (take n w)) ≡ true → TrueBytes w n
 unfolding lower
 true_bytes w n inside h = by n
     (sym (length-take-le n w inside) ∙ sym (length-map (take n w) to_ascii_lowercase) ∙ ap length (sym word))
@@ -75,7 +75,7 @@ true_bytes w n inside h = by n
     word : codes "true" ≡ map to_ascii_lowercase (take n w)
     word = true_word _ h
 
-    bytes : (v : List ℕ) → 4 ≤ length v → codes "true" ≡ map to_ascii_lowercase (take 4 v) → TrueBytes v 4
+    bytes : (v : Text) → 4 ≤ length v → codes "true" ≡ map to_ascii_lowercase (take 4 v) → TrueBytes v 4
     bytes [] l e = absurd (omega arith)
     bytes (a ∷ []) l e = absurd (omega arith)
     bytes (a ∷ b ∷ []) l e = absurd (omega arith)
@@ -94,13 +94,13 @@ true_bytes w n inside h = by n
         (sym e) (bytes w) l h
 
 -- ... are `true`
-pub true_here : (w : List ℕ) (n : ℕ) → n ≤ length w → TrueBytes w n → is_true (lower (take n w)) ≡ true
+pub true_here : (w : Text) (n : ℕ) → n ≤ length w → TrueBytes w n → is_true (lower (take n w)) ≡ true
 unfolding lower is_true
 true_here w n inside h = subst (λ (k : ℕ). is_true (map to_ascii_lowercase (take k w)) ≡ true) (sym h.0)
     (bytes w (omega (arith, h.0)) h.1 h.2 h.3 h.4)
   where
-    bytes : (v : List ℕ) → 4 ≤ length v → to_ascii_lowercase (get_or v 0 0) ≡ 116 →
-        to_ascii_lowercase (get_or v 1 0) ≡ 114 → to_ascii_lowercase (get_or v 2 0) ≡ 117 →
+    bytes : (v : Text) → 4 ≤ length v → to_ascii_lowercase (get_or v 0 0) ≡ code_t →
+        to_ascii_lowercase (get_or v 1 0) ≡ 114 → to_ascii_lowercase (get_or v 2 0) ≡ code_u →
         to_ascii_lowercase (get_or v 3 0) ≡ 101
         → is_true (map to_ascii_lowercase (take 4 v)) ≡ true
     bytes [] l p q r s = absurd (omega arith)

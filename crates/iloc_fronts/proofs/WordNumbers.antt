@@ -10,21 +10,21 @@ use Rattle.std.specs.Char.{is_ascii_alphanumeric, to_ascii_lowercase}
 use Rattle.std.proofs.lemmas.Bool.{and_parts, cases_lt}
 use Rattle.std.proofs.lemmas.Bool.Decides.{nat_tests}
 use Rattle.std.proofs.Math.Nat.{mul-le-mul_right}
-use Rattle.iloc_spec_grammar.specs.Syntax.{Attribute, Variant, IsWord, letters_or_digits, lower, word_cmp}
+use Rattle.iloc_spec_grammar.specs.Syntax.{Text, Attribute, Variant, IsWord, letters_or_digits, lower, word_cmp}
 use Rattle.iloc_spec_grammar.proofs.WordsLaws.{length-attribute, length-variant, length-lower}
 use Rattle.iloc_spec_grammar.proofs.WordsLaws.{word_letters_or_digits}
 use Rattle.iloc_fronts.specs.Words.{IsUpToEight, high_first, word_number}
 
 -- ---- how great they are
 
-abbrev Bytes : List ℕ → Type 0
+abbrev Bytes : Text → Type 0
 Bytes p = (i : ℕ) → get_or p i 0 < 256
 
 pow_some : (n : ℕ) → 0 < 256 ^ n
 pow_some zero = omega arith
 pow_some (suc n) = omega (arith, pow-suc 256 n, pow_some n)
 
-number_fits : (n : ℕ) (p : List ℕ) → Bytes p → high_first n p < 256 ^ n
+number_fits : (n : ℕ) (p : Text) → Bytes p → high_first n p < 256 ^ n
 unfolding high_first
 number_fits zero p h = omega arith
 number_fits (suc n) [] h = pow_some (suc n)
@@ -35,15 +35,15 @@ number_fits (suc n) (b ∷ p) h =
 -- ---- the order of words
 
 -- bytes above zero
-abbrev AreAbove : List ℕ → Type 0
+abbrev AreAbove : Text → Type 0
 AreAbove p = AllByRecursion (λ b. (0 < b) × (b < 256)) p
 
-above_bytes : (p : List ℕ) → AreAbove p → Bytes p
+above_bytes : (p : Text) → AreAbove p → Bytes p
 above_bytes [] h i = omega arith
 above_bytes (b ∷ p) h zero = h.0.1
 above_bytes (b ∷ p) h (suc i) = above_bytes p h.1 i
 
-above_word : (p : List ℕ) → letters_or_digits p ≡ true → AreAbove (lower p)
+above_word : (p : Text) → letters_or_digits p ≡ true → AreAbove (lower p)
 unfolding lower
 above_word [] h = tt
 above_word (b ∷ p) h = let parts = and_parts _ _ h in (byte b parts.0, above_word p parts.1)
@@ -76,7 +76,7 @@ rest_counts w x y = elim (cases_lt x y) [
   ]
 ]
 
-order : (n : ℕ) (p q : List ℕ) → length p ≤ n → length q ≤ n → AreAbove p → AreAbove q →
+order : (n : ℕ) (p q : Text) → length p ≤ n → length q ≤ n → AreAbove p → AreAbove q →
     nat_cmp (high_first n p) (high_first n q) ≡ slice_cmp nat_cmp p q
 unfolding high_first
 order zero [] [] l m h k = refl
@@ -106,20 +106,20 @@ order (suc n) (a ∷ p) (b ∷ q) l m h k =
     ]
 
 -- words are ordered as their numbers are
-pub word_order : (p q : List ℕ) → IsUpToEight p → IsUpToEight q →
+pub word_order : (p q : Text) → IsUpToEight p → IsUpToEight q →
     nat_cmp (word_number p) (word_number q) ≡ word_cmp (lower p) (lower q)
 unfolding word_number
 word_order p q h k = order 8 (lower p) (lower q) (omega (arith, length-lower p, h.few))
     (omega (arith, length-lower q, k.few)) (above_word p h.bytes) (above_word q k.bytes)
 
-pub attribute_fits : (p : List ℕ) → IsWord Attribute p → IsUpToEight p
+pub attribute_fits : (p : Text) → IsWord Attribute p → IsUpToEight p
 attribute_fits p h = record {
   some = omega (arith, (length-attribute p h).0);
   few = (length-attribute p h).1;
   bytes = word_letters_or_digits Attribute p h;
 }
 
-pub variant_fits : (p : List ℕ) → IsWord Variant p → IsUpToEight p
+pub variant_fits : (p : Text) → IsWord Variant p → IsUpToEight p
 variant_fits p h = record {
   some = omega (arith, (length-variant p h).0);
   few = (length-variant p h).1;

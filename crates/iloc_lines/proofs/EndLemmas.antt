@@ -16,6 +16,7 @@ use Rattle.std.proofs.lemmas.Bool.Decides.{nat_tests}
 use Rattle.std.proofs.lemmas.List.Elements.{All-from_get_or}
 use Rattle.iloc_lines.specs.Lines.{IsLineEnd, IsOneLine}
 use Rattle.memchr.specs.Find.{IsFirstByte, Nowhere, Passes, NoneBefore, is_byte}
+use Rattle.iloc_spec_grammar.specs.Syntax.{Text}
 
 not-false : (b : Bool) → not b ≡ true → b ≡ false
 not-false true e = sym e
@@ -26,7 +27,7 @@ not-true true e = refl
 not-true false e = sym e
 
 -- where fewer than n of the first n bytes come before the first that passes, it stands after these
-pub first_passes : (p : ℕ → Bool) (hay : List ℕ) (n k : ℕ) → n ≤ length hay →
+pub first_passes : (p : ℕ → Bool) (hay : Text) (n k : ℕ) → n ≤ length hay →
     k ≡ prefix_len (λ b. not (p b)) (take n hay) → k < n
     → length (take n hay) ≡ n → NoneBefore (Passes p hay) 0 (length hay) k × Passes p hay k
 first_passes p hay n k within e few long =
@@ -48,8 +49,8 @@ first_passes p hay n k within e few long =
       here,
     )
 
-module _ (n : ℕ) (hay : List ℕ) (long : n ≤ length hay) (few : n ≤ 64) (fits : 2 ^ n ≤ 2 ^ 64) where
-  abbrev front : List ℕ
+module _ (n : ℕ) (hay : Text) (long : n ≤ length hay) (few : n ≤ 64) (fits : 2 ^ n ≤ 2 ^ 64) where
+  abbrev front : Text
   front = take n hay
 
   size : length front ≡ n
@@ -75,7 +76,7 @@ module _ (n : ℕ) (hay : List ℕ) (long : n ≤ length hay) (few : n ≤ 64) (
       ∙ trailing_mask_l p 64 front (omega (arith, size)) (subst (λ (k : ℕ). 0 < k) e some)) within size
 
 -- where the mask of the first n is empty, none of them passes
-pub none_passes : (p : ℕ → Bool) (hay : List ℕ) (n : ℕ) → n ≤ length hay → mask_l (map p (take n hay)) ≡ 0 →
+pub none_passes : (p : ℕ → Bool) (hay : Text) (n : ℕ) → n ≤ length hay → mask_l (map p (take n hay)) ≡ 0 →
     Nowhere (Passes p hay) 0 n
 none_passes p hay n within e i low less passes =
     let q = λ (b : ℕ). not (p b) in
@@ -86,7 +87,7 @@ none_passes p hay n within e i low less passes =
     false≢true (sym none ∙ passes)
 
 -- the first that passes in what follows, where none does before
-later_passes : (p : ℕ → Bool) (hay part : List ℕ) (at k : ℕ) → Nowhere (Passes p hay) 0 at →
+later_passes : (p : ℕ → Bool) (hay part : Text) (at k : ℕ) → Nowhere (Passes p hay) 0 at →
     length hay ≡ at + length part → ((i : ℕ) → i < length part → get_or part i 0 ≡ get_or hay (at + i) 0)
     → NoneBefore (Passes p part) 0 (length part) k × Passes p part k →
     NoneBefore (Passes p hay) 0 (length hay) (at + k) × Passes p hay (at + k)
@@ -107,7 +108,7 @@ later_passes p hay part at k none long same f = (
 )
 
 -- the first LF, told by a mask of the n bytes that follow, where none comes before
-pub later_end : (at n : ℕ) (hay : List ℕ) → at + n ≤ length hay → n ≤ 64 → 2 ^ n ≤ 2 ^ 64 →
+pub later_end : (at n : ℕ) (hay : Text) → at + n ≤ length hay → n ≤ 64 → 2 ^ n ≤ 2 ^ 64 →
     Nowhere (Passes (is_byte 10) hay) 0 at
     → (m : ℕ) → m ≡ mask_l (map (is_byte 10) (take n (drop at hay))) → 0 < m →
     IsFirstByte (is_byte 10) hay (Some (at + count_trailing_zeros 64 m))
@@ -117,7 +118,7 @@ later_end at n hay long few fits none m e some =
     (λ i less. get_or-drop at hay i 0) (first_end n (drop at hay) (omega (arith, size)) few fits m e some)
 
 -- where that mask is empty too, none is among all of them
-pub none_later : (p : ℕ → Bool) (at n : ℕ) (hay : List ℕ) → at + n ≤ length hay →
+pub none_later : (p : ℕ → Bool) (at n : ℕ) (hay : Text) → at + n ≤ length hay →
     Nowhere (Passes p hay) 0 at → mask_l (map p (take n (drop at hay))) ≡ 0
     → Nowhere (Passes p hay) 0 (at + n)
 none_later p at n hay long none e i low less passes = elim (cases_lt i at) [
@@ -130,7 +131,7 @@ none_later p at n hay long none e i low less passes = elim (cases_lt i at) [
 
 -- ---- where the line ends
 
-none_before : (hay : List ℕ) (k : ℕ) → k ≤ length hay → Nowhere (Passes (is_byte 10) hay) 0 k →
+none_before : (hay : Text) (k : ℕ) → k ≤ length hay → Nowhere (Passes (is_byte 10) hay) 0 k →
     IsOneLine (take k hay)
 none_before hay k within none =
     All-from_get_or (λ c. c ≢ 10) (take k hay) 0
@@ -139,7 +140,7 @@ none_before hay k within none =
     none i (omega arith) small (ap (is_byte 10) (sym (get_or-take k hay i 0 small) ∙ e)))
 
 -- the first LF ends it
-pub end_there : (hay : List ℕ) (k : ℕ) → IsFirstByte (is_byte 10) hay (Some k) → IsLineEnd hay k
+pub end_there : (hay : Text) (k : ℕ) → IsFirstByte (is_byte 10) hay (Some k) → IsLineEnd hay k
 end_there hay k f = record {
   within = omega (arith, f.0.high);
   before = none_before hay k (omega (arith, f.0.high)) f.0.before;
@@ -152,7 +153,7 @@ end_there hay k f = record {
     next : suc k ≡ k + 1
     next = omega arith
 
-pub end_nowhere : (hay : List ℕ) → IsFirstByte (is_byte 10) hay None → IsLineEnd hay (length hay)
+pub end_nowhere : (hay : Text) → IsFirstByte (is_byte 10) hay None → IsLineEnd hay (length hay)
 end_nowhere hay none = record {
   within = omega arith;
   before = none_before hay (length hay) (omega arith) none;

@@ -5,12 +5,13 @@ use Rattle.std.proofs.lemmas.List.Elements.{All-nil, All-cons}
 use Rattle.std.proofs.lemmas.Bool.{cases_eq}
 use Rattle.iloc_lines.specs.Lines.{ended, IsOneLine, ReadsEnded, ReadsOpen, IsEndedOrOpen}
 use Rattle.iloc_lines.proofs.LineCuts.{lines_of-cut, lines_of-last}
+use Rattle.iloc_spec_grammar.specs.Syntax.{Text}
 
 pub reads_ended : ReadsEnded
 reads_ended [] h = refl
 reads_ended (line ∷ lines) h =
     rw append_assoc
-    (lines_of-cut line (ended lines) h.0 ∙ ap (λ (t : List (List ℕ)). line ∷ t) (reads_ended lines h.1))
+    (lines_of-cut line (ended lines) h.0 ∙ ap (λ (t : List Text). line ∷ t) (reads_ended lines h.1))
 
 pub reads_open : ReadsOpen
 reads_open [] [] h o some = absurd (some refl)
@@ -19,23 +20,23 @@ reads_open (line ∷ lines) last h o some =
     let joined : (line ++ 10 ∷ []) ++ ended lines ++ last ≡ line ++ 10 ∷ (ended lines ++ last) =
     simp append_assoc in
     rw joined (lines_of-cut line (ended lines ++ last) h.0
-    ∙ ap (λ (t : List (List ℕ)). line ∷ t) (reads_open lines last h.1 o some))
+    ∙ ap (λ (t : List Text). line ∷ t) (reads_open lines last h.1 o some))
 
-Form : List ℕ → Type 0
-Form text = (lines : List (List ℕ)) × AllByRecursion IsOneLine lines
-    × ((text ≡ ended lines) ⊎ ((last : List ℕ) × IsOneLine last × (last ≢ []) × (text ≡ ended lines ++ last)))
+Form : Text → Type 0
+Form text = (lines : List Text) × AllByRecursion IsOneLine lines
+    × ((text ≡ ended lines) ⊎ ((last : Text) × IsOneLine last × (last ≢ []) × (text ≡ ended lines ++ last)))
 
-cut : (c : ℕ) (text : List ℕ) → c ≡ 10 → Form text → Form (c ∷ text)
+cut : (c : ℕ) (text : Text) → c ≡ 10 → Form text → Form (c ∷ text)
 unfolding Form
 cut c text e (lines, h, inl whole) =
-    ([] ∷ lines, (All-nil (λ (b : ℕ). b ≢ 10), h), inl (rw e (ap (λ (t : List ℕ). 10 ∷ t) whole)))
+    ([] ∷ lines, (All-nil (λ (b : ℕ). b ≢ 10), h), inl (rw e (ap (λ (t : Text). 10 ∷ t) whole)))
 cut c text e (lines, h, inr (last, o, some, whole)) = (
   [] ∷ lines,
   (All-nil (λ (b : ℕ). b ≢ 10), h),
-  inr (last, o, some, rw e (ap (λ (t : List ℕ). 10 ∷ t) whole)),
+  inr (last, o, some, rw e (ap (λ (t : Text). 10 ∷ t) whole)),
 )
 
-grown : (c : ℕ) (text : List ℕ) → c ≢ 10 → Form text → Form (c ∷ text)
+grown : (c : ℕ) (text : Text) → c ≢ 10 → Form text → Form (c ∷ text)
 unfolding Form
 grown c text e ([], h, inl whole) = (
   [],
@@ -44,13 +45,13 @@ grown c text e ([], h, inl whole) = (
     c ∷ [],
     All-cons (λ (b : ℕ). b ≢ 10) c [] e (All-nil (λ (b : ℕ). b ≢ 10)),
     (λ (z : c ∷ [] ≡ []). cc),
-    ap (λ (t : List ℕ). c ∷ t) whole,
+    ap (λ (t : Text). c ∷ t) whole,
   ),
 )
 grown c text e (line ∷ lines, h, inl whole) = (
   (c ∷ line) ∷ lines,
   (All-cons (λ (b : ℕ). b ≢ 10) c line e h.0, h.1),
-  inl (ap (λ (t : List ℕ). c ∷ t) whole),
+  inl (ap (λ (t : Text). c ∷ t) whole),
 )
 grown c text e ([], h, inr (last, o, some, whole)) = (
   [],
@@ -59,20 +60,20 @@ grown c text e ([], h, inr (last, o, some, whole)) = (
     c ∷ last,
     All-cons (λ (b : ℕ). b ≢ 10) c last e o,
     (λ (z : c ∷ last ≡ []). cc),
-    ap (λ (t : List ℕ). c ∷ t) whole,
+    ap (λ (t : Text). c ∷ t) whole,
   ),
 )
 grown c text e (line ∷ lines, h, inr (last, o, some, whole)) = (
   (c ∷ line) ∷ lines,
   (All-cons (λ (b : ℕ). b ≢ 10) c line e h.0, h.1),
-  inr (last, o, some, ap (λ (t : List ℕ). c ∷ t) whole),
+  inr (last, o, some, ap (λ (t : Text). c ∷ t) whole),
 )
 
-by_byte : (c : ℕ) (text : List ℕ) → Form text → (c ≡ 10) ⊎ (c ≢ 10) → Form (c ∷ text)
+by_byte : (c : ℕ) (text : Text) → Form text → (c ≡ 10) ⊎ (c ≢ 10) → Form (c ∷ text)
 by_byte c text f (inl e) = cut c text e f
 by_byte c text f (inr e) = grown c text e f
 
-form : (text : List ℕ) → Form text
+form : (text : Text) → Form text
 unfolding Form
 form [] = ([], tt, inl refl)
 form (c ∷ text) = by_byte c text (form text) (cases_eq c 10)

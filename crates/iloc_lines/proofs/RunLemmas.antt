@@ -8,7 +8,7 @@ use Rattle.std.specs.Io.{StartsWith}
 use Rattle.std.specs.Io.KnownBytes.{Appends, Consumes, IsAtEnd, Keeps}
 use Rattle.iloc_told.specs.declared.Mode.{Mode}
 use Rattle.iloc_spec_grammar.proofs.RawLaws.{languages_table}
-use Rattle.iloc_spec_grammar.specs.Syntax.{languages}
+use Rattle.iloc_spec_grammar.specs.Syntax.{Text, languages}
 use Rattle.iloc_lines.specs.Answers.{IsOutput, output}
 use Rattle.iloc_lines.proofs.OutputLaws.{is_output}
 use Rattle.iloc_lines.specs.Output.{BeginsOutput, WritesAll, WritesBeginning}
@@ -17,31 +17,31 @@ use Rattle.iloc_lines.proofs.KnownLemmas.{Consumes-kept, Consumes-nothing, Consu
 
 -- whatever comes next, the answer to all goes on from what is written with the answer to what is pending and
 -- that
-pub record Stands (mode : Mode) (unread unread' held held' : Option (List ℕ)) (pending : List ℕ) : Type
+pub record Stands (mode : Mode) (unread unread' held held' : Option Text) (pending : Text) : Type
     0 where
-  pub read : List ℕ
-  pub written : List ℕ
+  pub read : Text
+  pub written : Text
   pub reads : Consumes unread unread' read
   pub writes : Appends held held' written
-  pub ahead : (next : List ℕ) →
+  pub ahead : (next : Text) →
       output languages mode (read ++ next) ≡ written ++ output languages mode (pending ++ next)
 
 -- these replies bring the pending bytes to others
-pub record Replies (mode : Mode) (pending pending' replies : List ℕ) : Type 0 where
-  pub ahead : (next : List ℕ) →
+pub record Replies (mode : Mode) (pending pending' replies : Text) : Type 0 where
+  pub ahead : (next : Text) →
       output languages mode (pending ++ next) ≡ replies ++ output languages mode (pending' ++ next)
 
-StartsWith-front : (whole front rest : List ℕ) → whole ≡ front ++ rest → StartsWith whole front
+StartsWith-front : (whole front rest : Text) → whole ≡ front ++ rest → StartsWith whole front
 StartsWith-front whole front rest e = rw e (take-append_seam front rest)
 
 -- a part of a text, after what stands before it and before what follows it
-StartsWith-within : (whole before bytes rest part : List ℕ) → StartsWith bytes part →
+StartsWith-within : (whole before bytes rest part : Text) → StartsWith bytes part →
     whole ≡ before ++ (bytes ++ rest) → StartsWith whole (before ++ part)
 StartsWith-within whole before bytes rest part h e =
     let split : bytes ≡ part ++ drop (length part) bytes =
-    sym (take-append-drop (length part) bytes) ∙ ap (λ (t : List ℕ). t ++ drop (length part) bytes) h in
+    sym (take-append-drop (length part) bytes) ∙ ap (λ (t : Text). t ++ drop (length part) bytes) h in
     StartsWith-front whole (before ++ part) (drop (length part) bytes ++ rest)
-    (e ∙ ap (λ (t : List ℕ). before ++ (t ++ rest)) split ∙ simp append_assoc)
+    (e ∙ ap (λ (t : Text). before ++ (t ++ rest)) split ∙ simp append_assoc)
 
 -- a fact that holds whatever the result
 pub on_err : {T E : Type 0} (r : Result T E) (P : Type 0) → P → OnErr r P
@@ -58,7 +58,7 @@ on_err_then (Err e) P Q p f = f p
 
 module _ (mode : Mode) where
   -- before the first read
-  pub Stands-first : (u h : Option (List ℕ)) → Stands mode u u h h []
+  pub Stands-first : (u h : Option Text) → Stands mode u u h h []
   Stands-first u h = record {
     read = [];
     written = [];
@@ -67,7 +67,7 @@ module _ (mode : Mode) where
     ahead = λ next. refl;
   }
 
-  pub Stands-kept : (u u' u2 h h' : Option (List ℕ)) (pending : List ℕ) → Stands mode u u' h h' pending →
+  pub Stands-kept : (u u' u2 h h' : Option Text) (pending : Text) → Stands mode u u' h h' pending →
       Keeps u' u2 → Stands mode u u2 h h' pending
   Stands-kept u u' u2 h h' pending s k = record {
     read = s.read;
@@ -77,7 +77,7 @@ module _ (mode : Mode) where
     ahead = s.ahead;
   }
 
-  pub Stands-read : (u u' u2 h h' : Option (List ℕ)) (pending piece : List ℕ) →
+  pub Stands-read : (u u' u2 h h' : Option Text) (pending piece : Text) →
       Stands mode u u' h h' pending → Consumes u' u2 piece
       → Stands mode u u2 h h' (pending ++ piece)
   Stands-read u u' u2 h h' pending piece s k = record {
@@ -89,7 +89,7 @@ module _ (mode : Mode) where
   }
 
   -- a read of no bytes
-  pub Stands-read_none : (u u' u2 h h' : Option (List ℕ)) (pending block : List ℕ) (count : ℕ) →
+  pub Stands-read_none : (u u' u2 h h' : Option Text) (pending block : Text) (count : ℕ) →
       Stands mode u u' h h' pending
       → Consumes u' u2 (take count block) → count ≡ 0 → Stands mode u u2 h h' pending
   Stands-read_none u u' u2 h h' pending block count s k none =
@@ -98,17 +98,17 @@ module _ (mode : Mode) where
       (Stands-read u u' u2 h h' pending [] s (subst (Consumes u' u2) nothing k))
 
   -- what `feed` ensures, from no replies
-  pub Replies-fed : (old pending piece pending' replies : List ℕ) → old ≡ []
-      → ((next : List ℕ) →
+  pub Replies-fed : (old pending piece pending' replies : Text) → old ≡ []
+      → ((next : Text) →
       old ++ output languages mode (pending ++ (piece ++ next))
       ≡ replies ++ output languages mode (pending' ++ next))
       → Replies mode (pending ++ piece) pending' replies
   Replies-fed old pending piece pending' replies none f = record {
     ahead = λ next. ap (output languages mode) (append_assoc pending piece next)
-        ∙ ap (λ (t : List ℕ). t ++ output languages mode (pending ++ (piece ++ next))) (sym none) ∙ f next;
+        ∙ ap (λ (t : Text). t ++ output languages mode (pending ++ (piece ++ next))) (sym none) ∙ f next;
   }
 
-  pub Stands-written : (u u' h h' h2 : Option (List ℕ)) (pending pending' replies : List ℕ) →
+  pub Stands-written : (u u' h h' h2 : Option Text) (pending pending' replies : Text) →
       Stands mode u u' h h' pending
       → Replies mode pending pending' replies → Appends h' h2 replies → Stands mode u u' h h2 pending'
   Stands-written u u' h h' h2 pending pending' replies s r k = record {
@@ -116,28 +116,28 @@ module _ (mode : Mode) where
     written = s.written ++ replies;
     reads = s.reads;
     writes = appends_both h h' h2 s.written replies s.writes k;
-    ahead = λ next. s.ahead next ∙ ap (λ (t : List ℕ). s.written ++ t) (r.ahead next)
+    ahead = λ next. s.ahead next ∙ ap (λ (t : Text). s.written ++ t) (r.ahead next)
         ∙ sym (append_assoc s.written replies (output languages mode (pending' ++ next)));
   }
 
-  IfSome-all : (u : Option (List ℕ)) (P : List ℕ → Type 0) → ((left : List ℕ) → P left) → IfSome u P
+  IfSome-all : (u : Option Text) (P : Text → Type 0) → ((left : Text) → P left) → IfSome u P
   IfSome-all None P f = tt
   IfSome-all (Some left) P f = f left
 
-  at_end : (u : Option (List ℕ)) (P : List ℕ → Type 0) → IsAtEnd u → P [] → IfSome u P
+  at_end : (u : Option Text) (P : Text → Type 0) → IsAtEnd u → P [] → IfSome u P
   at_end None P e p = tt
   at_end (Some left) P e p = subst P (sym e) p
 
-  now : (read written out : List ℕ) → output languages mode (read ++ []) ≡ written ++ out →
+  now : (read written out : Text) → output languages mode (read ++ []) ≡ written ++ out →
       output languages mode read ≡ written ++ out
   now read written out e = ap (output languages mode) (sym (append-nil read)) ∙ e
 
   -- what begins the output that is computed
-  begins_output : (input written : List ℕ) → StartsWith (output languages mode input) written →
+  begins_output : (input written : Text) → StartsWith (output languages mode input) written →
       BeginsOutput mode input written
   begins_output input written h = (output languages mode input, is_output languages_table mode input, h)
 
-  pub Stands-front : (u u' h h' : Option (List ℕ)) (pending : List ℕ) → Stands mode u u' h h' pending →
+  pub Stands-front : (u u' h h' : Option Text) (pending : Text) → Stands mode u u' h h' pending →
       WritesBeginning mode u u' h h'
   Stands-front u u' h h' pending s = record {
     read = s.read;
@@ -151,15 +151,15 @@ module _ (mode : Mode) where
         s.written (output languages mode (pending ++ left)) (s.ahead left)));
   }
 
-  pub Stands-part : (u u' h h' h2 : Option (List ℕ)) (pending pending' replies part : List ℕ) →
+  pub Stands-part : (u u' h h' h2 : Option Text) (pending pending' replies part : Text) →
       Stands mode u u' h h' pending
       → Replies mode pending pending' replies → Appends h' h2 part → StartsWith replies part →
       WritesBeginning mode u u' h h2
   Stands-part u u' h h' h2 pending pending' replies part s r k b =
-      let whole : (next : List ℕ) →
+      let whole : (next : Text) →
       output languages mode (s.read ++ next)
       ≡ s.written ++ (replies ++ output languages mode (pending' ++ next)) =
-      λ next. s.ahead next ∙ ap (λ (t : List ℕ). s.written ++ t) (r.ahead next) in
+      λ next. s.ahead next ∙ ap (λ (t : Text). s.written ++ t) (r.ahead next) in
       record {
         read = s.read;
         written = s.written ++ part;
@@ -173,14 +173,14 @@ module _ (mode : Mode) where
             (output languages mode (pending' ++ left)) part b (whole left)));
       }
 
-  last : (u u' h h' : Option (List ℕ)) (pending replies : List ℕ) → (s : Stands mode u u' h h' pending) →
+  last : (u u' h h' : Option Text) (pending replies : Text) → (s : Stands mode u u' h h' pending) →
       replies ≡ output languages mode pending
       → output languages mode s.read ≡ s.written ++ replies
   last u u' h h' pending replies s e =
       now s.read s.written _ (s.ahead [])
-      ∙ ap (λ (t : List ℕ). s.written ++ t) (ap (output languages mode) (append-nil pending) ∙ sym e)
+      ∙ ap (λ (t : Text). s.written ++ t) (ap (output languages mode) (append-nil pending) ∙ sym e)
 
-  pub Stands-end : (u u' h h' h2 : Option (List ℕ)) (pending replies : List ℕ) →
+  pub Stands-end : (u u' h h' h2 : Option Text) (pending replies : Text) →
       Stands mode u u' h h' pending → IsAtEnd u'
       → replies ≡ output languages mode pending → Appends h' h2 replies → WritesAll mode u u' h h2
   Stands-end u u' h h' h2 pending replies s end e k = record {
@@ -193,7 +193,7 @@ module _ (mode : Mode) where
         (is_output languages_table mode s.read);
   }
 
-  pub Stands-end_part : (u u' h h' h2 : Option (List ℕ)) (pending replies part : List ℕ) →
+  pub Stands-end_part : (u u' h h' h2 : Option Text) (pending replies part : Text) →
       Stands mode u u' h h' pending → IsAtEnd u'
       → replies ≡ output languages mode pending → Appends h' h2 part → StartsWith replies part →
       WritesBeginning mode u u' h h2
@@ -201,7 +201,7 @@ module _ (mode : Mode) where
       let whole : BeginsOutput mode s.read (s.written ++ part) = begins_output s.read (s.written ++ part)
       (StartsWith-within (output languages mode s.read) s.written replies [] part b
       (last u u' h h' pending replies s e
-      ∙ ap (λ (t : List ℕ). s.written ++ t) (sym (append-nil replies)))) in
+      ∙ ap (λ (t : Text). s.written ++ t) (sym (append-nil replies)))) in
       record {
         read = s.read;
         written = s.written ++ part;
@@ -209,5 +209,5 @@ module _ (mode : Mode) where
         writes = appends_both h h' h2 s.written part s.writes k;
         begins = whole;
         begins_all = at_end u' (λ left. BeginsOutput mode (s.read ++ left) (s.written ++ part)) end
-            (subst (λ (t : List ℕ). BeginsOutput mode t (s.written ++ part)) (sym (append-nil s.read)) whole);
+            (subst (λ (t : Text). BeginsOutput mode t (s.written ++ part)) (sym (append-nil s.read)) whole);
       }

@@ -65,7 +65,7 @@ abbrev pub ArePlain : List Part → Type 0
 ArePlain ps = AllByRecursion (λ q. q.role ≢ Singleton) ps
 
 -- the ranks of blocks, and their parts in groups
-abbrev pub ranks : List Block → List ℕ
+abbrev pub ranks : List Block → Text
 ranks bs = map (λ b. rank (lower_singleton b)) bs
 
 abbrev pub groups_of : List Block → List (ℕ × List Part)
@@ -171,7 +171,7 @@ repeated_bad c [] e r = absurd (true≢false (sym (and_parts _ _ r).0 ∙ no_lan
 repeated_bad c (p ∷ ps) e r = false_from_ne_true _
     (λ g. (tests_denied (tests_different word_cmp (map lower (front_of (p ∷ ps)).variants))).holds
     (and_parts _ _ r).1
-    (no_repeat (transform_of (p ∷ ps)) (t_rule languages (p ∷ ps) (rule_of languages (c, p ∷ ps) 116 e g))
+    (no_repeat (transform_of (p ∷ ps)) (t_rule languages (p ∷ ps) (rule_of languages (c, p ∷ ps) code_t e g))
     (front_of (p ∷ ps)) (after_front (p ∷ ps)) (front_words (p ∷ ps) (and_parts _ _ r).0)
     (pieces-transform_of (p ∷ ps) ∙ sym (pieces-front_of p ps))))
 
@@ -459,7 +459,7 @@ or_last true false = refl
 or_last false true = refl
 or_last false false = refl
 
-any_last : (q : ℕ) (c : ℕ) (ks : List ℕ) → list_any (eq_by_cmp nat_cmp q) (ks ++ c ∷ [])
+any_last : (q : ℕ) (c : ℕ) (ks : Text) → list_any (eq_by_cmp nat_cmp q) (ks ++ c ∷ [])
     ≡ (eq_by_cmp nat_cmp q c || list_any (eq_by_cmp nat_cmp q) ks)
 any_last q c ks = list_any-append (eq_by_cmp nat_cmp q) ks (c ∷ [])
     ∙ or_last (list_any (eq_by_cmp nat_cmp q) ks) (eq_by_cmp nat_cmp q c)
@@ -468,7 +468,7 @@ rank_some : (c : ℕ) → is_ascii_alphanumeric c ≡ true → 0 < rank (to_asci
 rank_some c a = grind (arith, nat_tests)
 
 -- a new rank that is not less than the greatest is greater
-greatest : (c last : ℕ) (ks : List ℕ) → is_ascii_alphanumeric c ≡ true → (last ≡ 0) ⊎ IsAmong nat_cmp last ks
+greatest : (c last : ℕ) (ks : Text) → is_ascii_alphanumeric c ≡ true → (last ≡ 0) ⊎ IsAmong nat_cmp last ks
     → list_any (eq_by_cmp nat_cmp (rank (to_ascii_lowercase c))) ks ≡ false
     → last ≤ rank (to_ascii_lowercase c) → last < rank (to_ascii_lowercase c)
 greatest c last ks a there new h = elim (cases_lt last (rank (to_ascii_lowercase c))) [

@@ -124,14 +124,14 @@ some_unicode (w ∷ ws) fs h = omega (
 )
 
 unicode_printed : (u : SpelledUnicode) → IsUnicodeBlock u →
-    (117 ∷ []) ∷ flat_map printed_part (unicode_parts u)
+    (code_u ∷ []) ∷ flat_map printed_part (unicode_parts u)
     ≡ unicode_spelling (normal_unicode u)
 unfolding unicode_spelling
 unicode_printed u h =
-    ap (λ l. (117 ∷ []) ∷ l) (flat_map-append printed_part (in_order (map _ u.attributes))
+    ap (λ l. (code_u ∷ []) ∷ l) (flat_map-append printed_part (in_order (map _ u.attributes))
     (in_order (map _ u.keywords))
     ∙ (λ j. attributes_printed u.attributes h.attributes j ++ keywords_printed u.keywords h.keywords j))
-    ∙ sym (printed_some 117 (unicode_pieces (normal_unicode u))
+    ∙ sym (printed_some code_u (unicode_pieces (normal_unicode u))
     (some_unicode u.attributes u.keywords h.nonempty))
 
 some_transform : (o : Option SpelledIdentifier) (fs : Fields) → (o ≡ None → 0 < length fs)
@@ -149,24 +149,24 @@ optional_printed T (Some i) h = ap (λ l. map lower (front_pieces i) ++ l)
     (variants_printed i.variants h.words.variants) ∙ sym (identifier_low i)
 
 transform_printed : (T : ℕ → Bool) (m : SpelledTransform) → IsTransformBlock T m
-    → (116 ∷ []) ∷ (map lower (optional_front m.id) ++ flat_map printed_part (transform_parts m))
+    → (code_t ∷ []) ∷ (map lower (optional_front m.id) ++ flat_map printed_part (transform_parts m))
     ≡ transform_spelling (normal_transform m)
 unfolding transform_spelling
 transform_printed T m h =
     let front : List Text = map lower (optional_front m.id) in
     let variants : List Part = variant_parts (optional_variants m.id) in
     let fields : List Part = in_order (map (field_part roles.Field) m.fields) in
-    ap (λ l. (116 ∷ []) ∷ l) (
+    ap (λ l. (code_t ∷ []) ∷ l) (
     ap (λ l. front ++ l) (flat_map-append printed_part variants fields)
     ∙ sym (append_assoc front (flat_map printed_part variants) (flat_map printed_part fields))
     ∙ (λ j. optional_printed T m.id h.id j ++ values_printed m.fields h.fields j))
-    ∙ sym (printed_some 116 (map lower (optional_pieces (option_map normal_identifier m.id)) ++ fields_pieces
+    ∙ sym (printed_some code_t (map lower (optional_pieces (option_map normal_identifier m.id)) ++ fields_pieces
     (spelled_fields (normal_fields m.fields))) (some_transform m.id m.fields h.nonempty))
 
-private_printed : (ps : List Text) → IsPrivate ps → (120 ∷ []) ∷ map lower ps
+private_printed : (ps : List Text) → IsPrivate ps → (code_x ∷ []) ∷ map lower ps
     ≡ private_spelling (map lower ps)
 unfolding private_spelling
-private_printed ps h = sym (printed_some 120 (map lower ps) (omega (arith, length-map ps lower, h.nonempty)))
+private_printed ps h = sym (printed_some code_x (map lower ps) (omega (arith, length-map ps lower, h.nonempty)))
 
 other_printed : (c : ℕ) (ps : List Text) → IsOther ps → (c ∷ []) ∷ kept ps ≡ other_spelling (c, kept ps)
 unfolding other_spelling
@@ -189,7 +189,7 @@ start c d e ps rest = ap (λ l. l ++ flat_map printed_part rest) (singleton_prin
     (λ n. (n ∷ []) ∷ (cond (is_other_singleton n) (kept ps) (map lower ps) ++ flat_map printed_part rest)) e
 
 abbrev pub Rule : (ℕ → Bool) → ℕ → List Text → Type 0
-Rule T c ps = ((c ≡ 120) × IsPrivate ps) ⊎ IsExtension T c (extension_of c ps)
+Rule T c ps = ((c ≡ code_x) × IsPrivate ps) ⊎ IsExtension T c (extension_of c ps)
 
 -- a good block follows the rule of its singleton
 pub rule_of : (T : ℕ → Bool) (b : Block) (c : ℕ) → lower_singleton b ≡ c → is_block T b ≡ true → Rule T c b.1
@@ -200,24 +200,24 @@ rule_of T b c e g = subst (λ n. Rule T n b.1) e
           inr (extension_read T (lower_singleton b) b.1 x)
     ])
 
-u_rule : (T : ℕ → Bool) (ps : List Text) → Rule T 117 ps → IsUnicodeBlock (unicode_of ps)
+u_rule : (T : ℕ → Bool) (ps : List Text) → Rule T code_u ps → IsUnicodeBlock (unicode_of ps)
 u_rule T ps (inl x) = absurd (let e = x.0 in omega arith)
 u_rule T ps (inr x) = x.1
 
 -- that of `t`
-pub t_rule : (T : ℕ → Bool) (ps : List Text) → Rule T 116 ps → IsTransformBlock T (transform_of ps)
+pub t_rule : (T : ℕ → Bool) (ps : List Text) → Rule T code_t ps → IsTransformBlock T (transform_of ps)
 t_rule T ps (inl x) = absurd (let e = x.0 in omega arith)
 t_rule T ps (inr x) = x.1
 
-x_rule : (T : ℕ → Bool) (ps : List Text) → Rule T 120 ps → IsPrivate ps
+x_rule : (T : ℕ → Bool) (ps : List Text) → Rule T code_x ps → IsPrivate ps
 x_rule T ps (inl x) = x.1
-x_rule T ps (inr x) = absurd (no_x 120 refl x.0)
+x_rule T ps (inr x) = absurd (no_x code_x refl x.0)
 
 other_rule : (T : ℕ → Bool) (c : ℕ) (ps : List Text) → is_other_singleton c ≡ true → Rule T c ps → IsOther ps
 other_rule T c ps o (inl x) = absurd (no_x c x.0 o)
 other_rule T c ps o (inr x) =
-    let t : (c == 116) ≡ false = ne_eqb _ _ (λ e. no_t c e o) in
-    let u : (c == 117) ≡ false = ne_eqb _ _ (λ e. no_u c e o) in
+    let t : (c == code_t) ≡ false = ne_eqb _ _ (λ e. no_t c e o) in
+    let u : (c == code_u) ≡ false = ne_eqb _ _ (λ e. no_u c e o) in
     (rw (t, u) at x).1
 
 -- the parts of a good block print what its value prints
@@ -225,21 +225,21 @@ pub block_printed : (T : ℕ → Bool) (b : Block) → is_ascii_alphanumeric b.0
     → flat_map printed_part (block_parts b) ≡ spelled (lower_singleton b) b.1
 block_printed T b a g = elim (kind_of (lower_singleton b) (lower_letter b.0 a)) [
   | of_u k ↦
-      ap (λ c. flat_map printed_part (parts_at c b)) k ∙ start b.0 117 k [] (unicode_parts (unicode_of b.1))
-      ∙ unicode_printed (unicode_of b.1) (u_rule T b.1 (rule_of T b 117 k g))
+      ap (λ c. flat_map printed_part (parts_at c b)) k ∙ start b.0 code_u k [] (unicode_parts (unicode_of b.1))
+      ∙ unicode_printed (unicode_of b.1) (u_rule T b.1 (rule_of T b code_u k g))
       ∙ ap (λ c. spelled c b.1) (sym k)
   | of_t k ↦ ap (λ c. flat_map printed_part (parts_at c b)) k
-      ∙ start b.0 116 k (optional_front (transform_of b.1).id) (transform_parts (transform_of b.1))
-      ∙ transform_printed T (transform_of b.1) (t_rule T b.1 (rule_of T b 116 k g))
+      ∙ start b.0 code_t k (optional_front (transform_of b.1).id) (transform_parts (transform_of b.1))
+      ∙ transform_printed T (transform_of b.1) (t_rule T b.1 (rule_of T b code_t k g))
       ∙ ap (λ c. spelled c b.1) (sym k)
-  | of_x k ↦ ap (λ c. flat_map printed_part (parts_at c b)) k ∙ start b.0 120 k b.1 []
-      ∙ ap (λ l. (120 ∷ []) ∷ l) (append-nil (map lower b.1))
-      ∙ private_printed b.1 (x_rule T b.1 (rule_of T b 120 k g)) ∙ ap (λ c. spelled c b.1) (sym k)
+  | of_x k ↦ ap (λ c. flat_map printed_part (parts_at c b)) k ∙ start b.0 code_x k b.1 []
+      ∙ ap (λ l. (code_x ∷ []) ∷ l) (append-nil (map lower b.1))
+      ∙ private_printed b.1 (x_rule T b.1 (rule_of T b code_x k g)) ∙ ap (λ c. spelled c b.1) (sym k)
   | another o ↦
       let c : ℕ = lower_singleton b in
-      let t : (c == 116) ≡ false = ne_eqb _ _ (λ e. no_t c e o) in
-      let u : (c == 117) ≡ false = ne_eqb _ _ (λ e. no_u c e o) in
-      let x : (c == 120) ≡ false = ne_eqb _ _ (λ e. no_x c e o) in
+      let t : (c == code_t) ≡ false = ne_eqb _ _ (λ e. no_t c e o) in
+      let u : (c == code_u) ≡ false = ne_eqb _ _ (λ e. no_u c e o) in
+      let x : (c == code_x) ≡ false = ne_eqb _ _ (λ e. no_x c e o) in
       let k : IsOther b.1 = other_rule T c b.1 o (rule_of T b c refl g) in
       let one : flat_map printed_part (singleton_part b.0 b.1 ∷ []) ≡ other_spelling (c, kept b.1) =
       start b.0 c refl b.1 [] ∙ ap (λ h. (c ∷ []) ∷ (cond h (kept b.1) (map lower b.1) ++ [])) o

@@ -15,7 +15,7 @@ use Rattle.std.proofs.lemmas.List.Concat.{flat_map-append}
 use Rattle.std.proofs.lemmas.Simd.{map-map}
 use Rattle.std.proofs.lemmas.Str.Ascii.{lowercase-lowercase}
 use Rattle.std.proofs.lemmas.List.{map-append}
-use Rattle.iloc_spec_grammar.specs.Syntax.{Text, LanguageLengths, Block, code_t, code_x, lower, kept}
+use Rattle.iloc_spec_grammar.specs.Syntax.{code_u, Text, LanguageLengths, Block, code_t, code_x, lower, kept}
 use Rattle.iloc_spec_grammar.specs.Syntax.{languages, is_other_singleton, lower_singleton, tail_blocks}
 use Rattle.iloc_spec_grammar.specs.Meaning.{map_of, no_transform, no_unicode, InvalidExtension}
 use Rattle.iloc_spec_grammar.specs.Meaning.{DuplicatedExtension, InvalidSubtag}
@@ -95,15 +95,15 @@ shown_other o = (o.0, other_spelling o)
 
 -- `t`, `u`, `x` and the others
 abbrev shown : List (ℕ × Extension) → List Text → List (ℕ × List Text)
-shown es x = (116, transform_spelling (transform_part (find nat_cmp 116 es))) ∷
-    (117, unicode_spelling (unicode_part (find nat_cmp 117 es)))
+shown es x = (code_t, transform_spelling (transform_part (find nat_cmp code_t es))) ∷
+    (code_u, unicode_spelling (unicode_part (find nat_cmp code_u es)))
     ∷ (255, private_spelling x) ∷ map shown_other (filter_map other_part es)
 
 abbrev shown_blocks : List Block → List (ℕ × List Text)
 shown_blocks bs = map (λ b. (rank b.0, spelled b.0 b.1)) bs
 
 abbrev nothing : List (ℕ × List Text)
-nothing = (116, []) ∷ (117, []) ∷ (255, []) ∷ []
+nothing = (code_t, []) ∷ (code_u, []) ∷ (255, []) ∷ []
 
 -- a test that is repeated, and tests in another order
 shadowed : {A : Type 0} (b : Bool) (x y z : A) → cond b x z ≡ cond b x (cond b y z)
@@ -134,23 +134,23 @@ abbrev Agree : List Block → ℕ → Type 0
 Agree bs q = find nat_cmp q (shown (extensions_at bs) (private_at bs))
     ≡ find nat_cmp q (shown_blocks bs ++ nothing)
 
-at_t : (ps : List Text) (bs : List Block) (q : ℕ) → Agree bs q → Agree ((116, ps) ∷ bs) q
-at_t ps bs q e = shadowed (eq_by_cmp nat_cmp q 116) _ _ _
-    ∙ ap (cond (eq_by_cmp nat_cmp q 116) (Some (spelled 116 ps))) e
+at_t : (ps : List Text) (bs : List Block) (q : ℕ) → Agree bs q → Agree ((code_t, ps) ∷ bs) q
+at_t ps bs q e = shadowed (eq_by_cmp nat_cmp q code_t) _ _ _
+    ∙ ap (cond (eq_by_cmp nat_cmp q code_t) (Some (spelled code_t ps))) e
 
-at_u : (ps : List Text) (bs : List Block) (q : ℕ) → Agree bs q → Agree ((117, ps) ∷ bs) q
+at_u : (ps : List Text) (bs : List Block) (q : ℕ) → Agree bs q → Agree ((code_u, ps) ∷ bs) q
 at_u ps bs q e =
-    ap (cond (eq_by_cmp nat_cmp q 116) _) (shadowed (eq_by_cmp nat_cmp q 117) _ _ _)
-    ∙ swapped q 116 117 (λ e. omega arith) _ _ _
-    ∙ ap (cond (eq_by_cmp nat_cmp q 117) (Some (spelled 117 ps))) e
+    ap (cond (eq_by_cmp nat_cmp q code_t) _) (shadowed (eq_by_cmp nat_cmp q code_u) _ _ _)
+    ∙ swapped q code_t code_u (λ e. omega arith) _ _ _
+    ∙ ap (cond (eq_by_cmp nat_cmp q code_u) (Some (spelled code_u ps))) e
 
-at_x : (ps : List Text) (q : ℕ) → Agree ((120, ps) ∷ []) q
+at_x : (ps : List Text) (q : ℕ) → Agree ((code_x, ps) ∷ []) q
 at_x ps q =
-    (λ j. cond (eq_by_cmp nat_cmp q 116) (Some (no_transform_shown j))
-    (cond (eq_by_cmp nat_cmp q 117) (Some (no_unicode_shown j))
-    (shadowed (eq_by_cmp nat_cmp q 255) (Some (spelled 120 ps)) (Some []) None j)))
-    ∙ ap (cond (eq_by_cmp nat_cmp q 116) (Some [])) (swapped q 117 255 (λ e. omega arith) _ _ _)
-    ∙ swapped q 116 255 (λ e. omega arith) _ _ _
+    (λ j. cond (eq_by_cmp nat_cmp q code_t) (Some (no_transform_shown j))
+    (cond (eq_by_cmp nat_cmp q code_u) (Some (no_unicode_shown j))
+    (shadowed (eq_by_cmp nat_cmp q 255) (Some (spelled code_x ps)) (Some []) None j)))
+    ∙ ap (cond (eq_by_cmp nat_cmp q code_t) (Some [])) (swapped q code_u 255 (λ e. omega arith) _ _ _)
+    ∙ swapped q code_t 255 (λ e. omega arith) _ _ _
 
 no_private_shown : private_spelling [] ≡ []
 unfolding private_spelling
@@ -162,28 +162,28 @@ other_below c o = grind (arith, nat_tests)
 at_other : (c : ℕ) (ps : List Text) (bs : List Block) (q : ℕ) → is_other_singleton c ≡ true → Agree bs q
     → Agree ((c, ps) ∷ bs) q
 at_other c ps bs q o e =
-    let t : (c == 116) ≡ false = ne_eqb _ _ (λ k. no_t c k o) in
-    let u : (c == 117) ≡ false = ne_eqb _ _ (λ k. no_u c k o) in
-    let x : (c == 120) ≡ false = ne_eqb _ _ (λ k. no_x c k o) in
-    let a : eq_by_cmp nat_cmp 116 c ≡ false = untied 116 c (λ k. no_t c k o) in
-    let b : eq_by_cmp nat_cmp 117 c ≡ false = untied 117 c (λ k. no_u c k o) in
+    let t : (c == code_t) ≡ false = ne_eqb _ _ (λ k. no_t c k o) in
+    let u : (c == code_u) ≡ false = ne_eqb _ _ (λ k. no_u c k o) in
+    let x : (c == code_x) ≡ false = ne_eqb _ _ (λ k. no_x c k o) in
+    let a : eq_by_cmp nat_cmp code_t c ≡ false = untied code_t c (λ k. no_t c k o) in
+    let b : eq_by_cmp nat_cmp code_u c ≡ false = untied code_u c (λ k. no_u c k o) in
     let s : Option (List Text) = Some (other_spelling (c, kept ps)) in
     rw (x, t, u, a, b) (
-    ap (cond (eq_by_cmp nat_cmp q 116) _) (ap (cond (eq_by_cmp nat_cmp q 117) _)
+    ap (cond (eq_by_cmp nat_cmp q code_t) _) (ap (cond (eq_by_cmp nat_cmp q code_u) _)
     (swapped q 255 c (λ k. let m = other_below c o in omega arith) _ s _)
-    ∙ swapped q 117 c (λ k. no_u c (sym k) o) _ s _)
-    ∙ swapped q 116 c (λ k. no_t c (sym k) o) _ s _ ∙ ap (cond (eq_by_cmp nat_cmp q c) s) e
+    ∙ swapped q code_u c (λ k. no_u c (sym k) o) _ s _)
+    ∙ swapped q code_t c (λ k. no_t c (sym k) o) _ s _ ∙ ap (cond (eq_by_cmp nat_cmp q c) s) e
     )
 
 agree : (bs : List Block) → EndsAtX bs → AllByRecursion
     (λ b. (to_ascii_lowercase b.0 ≡ b.0) × (is_ascii_alphanumeric b.0 ≡ true)) bs → (q : ℕ) → Agree bs q
-agree [] x h q = (λ j. cond (eq_by_cmp nat_cmp q 116) (Some (no_transform_shown j))
-    (cond (eq_by_cmp nat_cmp q 117) (Some (no_unicode_shown j))
+agree [] x h q = (λ j. cond (eq_by_cmp nat_cmp q code_t) (Some (no_transform_shown j))
+    (cond (eq_by_cmp nat_cmp q code_u) (Some (no_unicode_shown j))
     (cond (eq_by_cmp nat_cmp q 255) (Some (no_private_shown j)) None)))
 agree (b ∷ bs) x h q = elim (kind_of b.0 h.0.1) [
   | of_t k ↦ subst (λ c. Agree ((c, b.1) ∷ bs) q) (sym k) (at_t b.1 bs q (agree bs x.1 h.1 q))
   | of_u k ↦ subst (λ c. Agree ((c, b.1) ∷ bs) q) (sym k) (at_u b.1 bs q (agree bs x.1 h.1 q))
-  | of_x k ↦ subst (λ l. Agree (b ∷ l) q) (sym (x.0 (ap (λ c. c == 120) (h.0.0 ∙ k))))
+  | of_x k ↦ subst (λ l. Agree (b ∷ l) q) (sym (x.0 (ap (λ c. c == code_x) (h.0.0 ∙ k))))
       (subst (λ c. Agree ((c, b.1) ∷ []) q) (sym k) (at_x b.1 q))
   | another o ↦ at_other b.0 b.1 bs q o (agree bs x.1 h.1 q)
 ]
@@ -193,26 +193,26 @@ agree (b ∷ bs) x h q = elim (kind_of b.0 h.0.1) [
 abbrev IsOtherKey : Block → Type 0
 IsOtherKey o = is_other_singleton o.0 ≡ true
 
-before_low : (os : List Block) → AllByRecursion IsOtherKey os → AllByRecursion (λ o. o.0 < 116) (before_t os)
+before_low : (os : List Block) → AllByRecursion IsOtherKey os → AllByRecursion (λ o. o.0 < code_t) (before_t os)
 before_low [] h = tt
-before_low (o ∷ os) h = cond_both (nat_le o.0 116) _ _ (AllByRecursion (λ o. o.0 < 116))
+before_low (o ∷ os) h = cond_both (nat_le o.0 code_t) _ _ (AllByRecursion (λ o. o.0 < code_t))
     (λ e. (less_t o.0 h.0 e, before_low os h.1)) (λ _. tt)
   where
-    less_t : (c : ℕ) → is_other_singleton c ≡ true → nat_le c 116 ≡ true → c < 116
+    less_t : (c : ℕ) → is_other_singleton c ≡ true → nat_le c code_t ≡ true → c < code_t
     less_t c o e = grind (arith, nat_tests)
 
 -- keys above `u` and below the rank of `x`
 abbrev IsBetween : Block → Type 0
-IsBetween o = (117 < o.0) × (o.0 < 255)
+IsBetween o = (code_u < o.0) × (o.0 < 255)
 
-above_each : (k : ℕ) (os : List Block) → 116 < k → below_all nat_cmp k os ≡ true
+above_each : (k : ℕ) (os : List Block) → code_t < k → below_all nat_cmp k os ≡ true
     → AllByRecursion IsOtherKey os → AllByRecursion IsBetween os
 above_each k [] l b h = tt
 above_each k (o ∷ os) l b h =
     let parts = and_parts _ _ b in
     ((above k o.0 l parts.0 h.0, other_below o.0 h.0), above_each k os l parts.1 h.1)
   where
-    above : (k c : ℕ) → 116 < k → is_lt (nat_cmp k c) ≡ true → is_other_singleton c ≡ true → 117 < c
+    above : (k c : ℕ) → code_t < k → is_lt (nat_cmp k c) ≡ true → is_other_singleton c ≡ true → code_u < c
     above k c l e o = grind (arith, nat_tests)
 
 after_high : (os : List Block) → is_sorted nat_cmp os ≡ true → AllByRecursion IsOtherKey os
@@ -220,18 +220,18 @@ after_high : (os : List Block) → is_sorted nat_cmp os ≡ true → AllByRecurs
 after_high [] s h = tt
 after_high (o ∷ os) s h =
     let parts = and_parts _ _ s in
-    cond_both (nat_le o.0 116) _ _ (AllByRecursion IsBetween) (λ _. after_high os parts.1 h.1)
+    cond_both (nat_le o.0 code_t) _ _ (AllByRecursion IsBetween) (λ _. after_high os parts.1 h.1)
     (λ e. ((above o.0 h.0 e, other_below o.0 h.0), above_each o.0 os (later o.0 e) parts.0 h.1))
   where
-    later : (c : ℕ) → nat_le c 116 ≡ false → 116 < c
+    later : (c : ℕ) → nat_le c code_t ≡ false → code_t < c
     later c e = grind (arith, nat_tests)
 
-    above : (c : ℕ) → is_other_singleton c ≡ true → nat_le c 116 ≡ false → 117 < c
+    above : (c : ℕ) → is_other_singleton c ≡ true → nat_le c code_t ≡ false → code_u < c
     above c o e = grind (arith, nat_tests)
 
 before_after : (os : List Block) → before_t os ++ after_t os ≡ os
 before_after [] = refl
-before_after (o ∷ os) = elim (nat_le o.0 116) as
+before_after (o ∷ os) = elim (nat_le o.0 code_t) as
     (λ b. cond b (o ∷ before_t os) [] ++ cond b (after_t os) (o ∷ os) ≡ o ∷ os) [
       | true ↦
           ap (λ l. o ∷ l) (before_after os)
@@ -243,9 +243,9 @@ shown_in_order : (es : List (ℕ × Extension)) (x : List Text)
     → AllByRecursion IsOtherKey (filter_map other_part es)
     → flat (map_of nat_cmp (shown es x)) ≡ extensions_spelling
     (record {
-      unicode = unicode_part (find nat_cmp 117 es);
+      unicode = unicode_part (find nat_cmp code_u es);
       transform =
-          transform_part (find nat_cmp 116 es);
+          transform_part (find nat_cmp code_t es);
       private = x;
       others =
           map_of nat_cmp (filter_map other_part es);
@@ -256,12 +256,12 @@ shown_in_order es x h =
     (filter_map other_part es) h in
     let before : List (ℕ × List Text) = map shown_other (before_t os) in
     let after : List (ℕ × List Text) = map shown_other (after_t os) in
-    let t : List Text = transform_spelling (transform_part (find nat_cmp 116 es)) in
-    let u : List Text = unicode_spelling (unicode_part (find nat_cmp 117 es)) in
+    let t : List Text = transform_spelling (transform_part (find nat_cmp code_t es)) in
+    let u : List Text = unicode_spelling (unicode_part (find nat_cmp code_u es)) in
     let last : List (ℕ × List Text) = (255, private_spelling x) ∷ [] in
-    let low : AllByRecursion (λ e. e.0 < 116) before =
-    all_mapped (λ (o : Block). o.0 < 116) _ shown_other (λ o k. k) (before_t os) (before_low os keys) in
-    let high : AllByRecursion (λ e. (117 < e.0) × (e.0 < 255)) after =
+    let low : AllByRecursion (λ e. e.0 < code_t) before =
+    all_mapped (λ (o : Block). o.0 < code_t) _ shown_other (λ o k. k) (before_t os) (before_low os keys) in
+    let high : AllByRecursion (λ e. (code_u < e.0) × (e.0 < 255)) after =
     all_mapped IsBetween _ shown_other (λ o k. k) (after_t os)
     (after_high os (is_sorted-map_of nat_cmp nat_cmp_total (filter_map other_part es)) keys) in
     let others : map_of nat_cmp (map shown_other (filter_map other_part es)) ≡ before ++ after =
@@ -269,30 +269,30 @@ shown_in_order es x h =
     (λ (o : Block). o.0) (λ o. other_spelling o) (λ e f _ _. refl) (filter_map other_part es)
     (all_of _ (λ _. tt) (filter_map other_part es)))
     ∙ ap (map shown_other) (sym (before_after os)) ∙ map-append shown_other (before_t os) (after_t os) in
-    let in_order : map_of nat_cmp (shown es x) ≡ before ++ (116, t) ∷ (117, u) ∷ (after ++ last) =
-    ap (λ l. put nat_cmp 116 t (put nat_cmp 117 u (put nat_cmp 255 (private_spelling x) l)))
+    let in_order : map_of nat_cmp (shown es x) ≡ before ++ (code_t, t) ∷ (code_u, u) ∷ (after ++ last) =
+    ap (λ l. put nat_cmp code_t t (put nat_cmp code_u u (put nat_cmp 255 (private_spelling x) l)))
     (others ∙ sym (append-nil (before ++ after)))
-    ∙ ap (λ l. put nat_cmp 116 t (put nat_cmp 117 u l))
+    ∙ ap (λ l. put nat_cmp code_t t (put nat_cmp code_u u l))
     (put_between 255 (private_spelling x) (before ++ after) []
     (all_append (λ e. e.0 < 255) before after (all_weaker _ _ (λ e k. omega arith) before low)
     (all_weaker _ _ (λ e k. k.1) after high)) tt ∙ append_assoc before after last)
-    ∙ ap (put nat_cmp 116 t) (put_between 117 u before (after ++ last)
+    ∙ ap (put nat_cmp code_t t) (put_between code_u u before (after ++ last)
     (all_weaker _ _ (λ e k. omega arith) before low)
-    (all_append (λ e. 117 < e.0) after last (all_weaker _ _ (λ e k. k.0) after high)
+    (all_append (λ e. code_u < e.0) after last (all_weaker _ _ (λ e k. k.0) after high)
     (omega arith, tt)))
-    ∙ put_between 116 t before ((117, u) ∷ (after ++ last)) low (
+    ∙ put_between code_t t before ((code_u, u) ∷ (after ++ last)) low (
       omega arith,
-      all_append (λ e. 116 < e.0) after last (all_weaker _ _ (λ e k. omega arith) after high)
+      all_append (λ e. code_t < e.0) after last (all_weaker _ _ (λ e k. omega arith) after high)
           (omega arith, tt),
     ) in
-    ap flat in_order ∙ flat-append before ((116, t) ∷ (117, u) ∷ (after ++ last))
+    ap flat in_order ∙ flat-append before ((code_t, t) ∷ (code_u, u) ∷ (after ++ last))
     ∙ (λ j. flat_map-map (λ (e : ℕ × List Text). e.1) shown_other (before_t os) j ++
     (t ++ (u ++ (flat-append after last ∙ (λ i. flat_map-map (λ (e : ℕ × List Text). e.1) shown_other
     (after_t os) i ++ append-nil (private_spelling x) i)) j)))
     ∙ sym (spelling_of_parts (record {
-      unicode = unicode_part (find nat_cmp 117 es);
+      unicode = unicode_part (find nat_cmp code_u es);
       transform =
-          transform_part (find nat_cmp 116 es);
+          transform_part (find nat_cmp code_t es);
       private = x;
       others = os;
     }))
@@ -310,16 +310,16 @@ others_at (b ∷ bs) h = elim (kind_of b.0 h.0) [
   | of_x k ↦ subst (λ c. AllByRecursion IsOtherKey (filter_map other_part (extensions_at ((c, b.1) ∷ bs))))
       (sym k) tt
   | another o ↦
-      let t : (b.0 == 116) ≡ false = ne_eqb _ _ (λ k. no_t b.0 k o) in
-      let u : (b.0 == 117) ≡ false = ne_eqb _ _ (λ k. no_u b.0 k o) in
-      let x : (b.0 == 120) ≡ false = ne_eqb _ _ (λ k. no_x b.0 k o) in
+      let t : (b.0 == code_t) ≡ false = ne_eqb _ _ (λ k. no_t b.0 k o) in
+      let u : (b.0 == code_u) ≡ false = ne_eqb _ _ (λ k. no_u b.0 k o) in
+      let x : (b.0 == code_x) ≡ false = ne_eqb _ _ (λ k. no_x b.0 k o) in
       rw (x, t, u) (o, others_at bs h.1)
 ]
 
 ends_low : (bs : List Block) → EndsAtX bs → EndsAtX (by_singleton bs)
 ends_low [] e = tt
 ends_low (b ∷ bs) e = (
-  (λ k. ap by_singleton (e.0 (sym (ap (λ c. c == 120) (lowercase-lowercase b.0)) ∙ k))),
+  (λ k. ap by_singleton (e.0 (sym (ap (λ c. c == code_x) (lowercase-lowercase b.0)) ∙ k))),
   ends_low bs e.1,
 )
 
@@ -363,9 +363,9 @@ blocks_text ps h =
     (λ b g. (lowercase-lowercase b.0, lower_letter b.0 g.0)) bs good in
     (λ j. let es : List (ℕ × Extension) = low_extensions bs j in
     extensions_spelling (record {
-      unicode = unicode_part (find nat_cmp 117 es);
+      unicode = unicode_part (find nat_cmp code_u es);
       transform =
-          transform_part (find nat_cmp 116 es);
+          transform_part (find nat_cmp code_t es);
       private = low_private bs j;
       others =
           map_of nat_cmp (filter_map other_part es);
@@ -375,9 +375,9 @@ blocks_text ps h =
     ∙ ap flat (map_of_same nat_cmp nat_cmp_total nat_cmp-IsAntisymmetric
     (shown (extensions_at low) (private_at low)) (shown_blocks low ++ nothing)
     (agree low (ends_low bs (tail_ends ps)) letters))
-    ∙ ap (λ l. flat (map_of nat_cmp l)) (sym (append_assoc (shown_blocks low ++ (116, []) ∷ [])
-    ((117, []) ∷ []) ((255, []) ∷ []) ∙ append_assoc (shown_blocks low) ((116, []) ∷ [])
-    ((117, []) ∷ (255, []) ∷ [])))
-    ∙ flat-last 255 ((shown_blocks low ++ (116, []) ∷ []) ++ (117, []) ∷ [])
-    ∙ flat-last 117 (shown_blocks low ++ (116, []) ∷ []) ∙ flat-last 116 (shown_blocks low)
+    ∙ ap (λ l. flat (map_of nat_cmp l)) (sym (append_assoc (shown_blocks low ++ (code_t, []) ∷ [])
+    ((code_u, []) ∷ []) ((255, []) ∷ []) ∙ append_assoc (shown_blocks low) ((code_t, []) ∷ [])
+    ((code_u, []) ∷ (255, []) ∷ [])))
+    ∙ flat-last 255 ((shown_blocks low ++ (code_t, []) ∷ []) ++ (code_u, []) ∷ [])
+    ∙ flat-last code_u (shown_blocks low ++ (code_t, []) ∷ []) ∙ flat-last code_t (shown_blocks low)
     ∙ sym (blocks_printed languages bs good)

@@ -50,7 +50,7 @@ byte_first [] h = absurd (true≢false (sym h))
 byte_first (p ∷ ps) h = ap (λ q. q ∷ ps) (one_byte p h)
 
 -- no rank is above the greatest
-unseen : (last r : ℕ) → last < r → (ks : List ℕ) → AllByRecursion (λ k. k ≤ last) ks
+unseen : (last r : ℕ) → last < r → (ks : Text) → AllByRecursion (λ k. k ≤ last) ks
     → list_any (eq_by_cmp nat_cmp r) ks ≡ false
 unseen last r l [] h = refl
 unseen last r l (k ∷ ks) h = or_from _ _ (untied r k (λ e. absurd (omega (arith, h.0))))

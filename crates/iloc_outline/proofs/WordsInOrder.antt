@@ -73,7 +73,7 @@ equal_keys a b e = ap is_eq (sym (nat_cmp_is b a Equal (sym (ranked a b Equal (s
     tie Less p = absurd (true≢false (sym p))
     tie Greater p = absurd (true≢false (sym p))
 
-different_more : (ks : List ℕ) (k : ℕ) → AllDifferent nat_cmp ks → ¬ (IsAmong nat_cmp k ks)
+different_more : (ks : Text) (k : ℕ) → AllDifferent nat_cmp ks → ¬ (IsAmong nat_cmp k ks)
     → AllDifferent nat_cmp (ks ++ k ∷ [])
 different_more [] k d a = ((λ e. true≢false (sym e)), tt)
 different_more (j ∷ ks) k d a = (
@@ -87,7 +87,7 @@ different_more (j ∷ ks) k d a = (
   different_more ks k d.1 (λ e. a (or_right _ _ e)),
 )
 
-not_different : (ks more : List ℕ) (k : ℕ) → IsAmong nat_cmp k ks → ¬ (AllDifferent nat_cmp (ks ++ k ∷ more))
+not_different : (ks more : Text) (k : ℕ) → IsAmong nat_cmp k ks → ¬ (AllDifferent nat_cmp (ks ++ k ∷ more))
 not_different [] more k a d = true≢false (sym a)
 not_different (j ∷ ks) more k a d = elim (or_cases _ _ a) [
   | inl u ↦ d.0 (list_any-append (eq_by_cmp nat_cmp j) ks (k ∷ more)

@@ -10,7 +10,7 @@ use Rattle.std.proofs.lemmas.Bool.{false_from_ne_true}
 use Rattle.std.proofs.lemmas.Bool.Decides.{nat_tests}
 use Rattle.std.proofs.lemmas.List.{length-map}
 use Rattle.std.proofs.lemmas.Nat.{pow_pos}
-use Rattle.iloc_spec_grammar.specs.Syntax.{Kind, Language, Script, Region, Variant, Subtag, UnicodeKey}
+use Rattle.iloc_spec_grammar.specs.Syntax.{Text, Kind, Language, Script, Region, Variant, Subtag, UnicodeKey}
 use Rattle.iloc_spec_grammar.specs.Syntax.{TransformKey, Attribute, PrivateSubtag, SubdivisionSuffix}
 use Rattle.iloc_spec_grammar.specs.Syntax.{CurrencyType, letters_or_digits, is_word, IsWord, Bounds}
 use Rattle.iloc_spec_grammar.proofs.General.{list_all-mapped}
@@ -32,16 +32,16 @@ digit b = grind (arith, nat_tests)
 either : (b : ℕ) → is_ascii_alphanumeric (typical b) ≡ is_ascii_alphanumeric b
 either b = grind (arith, nat_tests)
 
-at-map : (f : ℕ → Bool) → ((b : ℕ) → f (typical b) ≡ f b) → (p : List ℕ) (i : ℕ) →
+at-map : (f : ℕ → Bool) → ((b : ℕ) → f (typical b) ≡ f b) → (p : Text) (i : ℕ) →
     f (slice_index (map typical p) i) ≡ f (slice_index p i)
 at-map f h [] i = refl
 at-map f h (b ∷ p) zero = h b
 at-map f h (b ∷ p) (suc i) = at-map f h p i
 
-long : (f : ℕ → Bool) (p : List ℕ) → f (length (map typical p)) ≡ f (length p)
+long : (f : ℕ → Bool) (p : Text) → f (length (map typical p)) ≡ f (length p)
 long f p = ap f (length-map p typical)
 
-typical_word : (k : Kind) (p : List ℕ) → is_word k (map typical p) ≡ is_word k p
+typical_word : (k : Kind) (p : Text) → is_word k (map typical p) ≡ is_word k p
 unfolding is_word
 typical_word (Language T) p = ap₂ ◌&&◌ (long T p) (list_all-mapped _ _ _ letter p)
 typical_word Script p = ap₂ ◌&&◌ (long (λ n. n == 4) p) (list_all-mapped _ _ _ letter p)
@@ -63,12 +63,12 @@ typical_word CurrencyType p = ap₂ ◌&&◌ (long (λ n. n == 3) p) (list_all-m
 -- ---- the text that a shape spells
 
 -- at most n letters and digits
-abbrev pub spell_bits : ℕ → ℕ → List ℕ
+abbrev pub spell_bits : ℕ → ℕ → Text
 spell_bits zero s = []
 spell_bits (suc n) s = cond (nat_le s 1) [] (cond (s % 2 == 1) 48 97 ∷ spell_bits n (s / 2))
 
 -- at most eight, or a hyphen for what is no word
-unfoldable pub spell : ℕ → List ℕ
+unfoldable pub spell : ℕ → Text
 spell s = cond (s == 0) (45 ∷ []) (spell_bits 8 s)
 
 step_by : (a : Bool) (c n m : ℕ) → c ≡ cond a 0 1 → 0 < m →
@@ -87,12 +87,12 @@ step_by false c n m e l =
 step : (a : Bool) (n m : ℕ) → 0 < m → spell_bits (suc n) (cond a 0 1 + 2 * m) ≡ cond a 97 48 ∷ spell_bits n m
 step a n m l = step_by a (cond a 0 1) n m refl l
 
-pub some_bits : (p : List ℕ) → 0 < bits p
+pub some_bits : (p : Text) → 0 < bits p
 unfolding bits
 some_bits [] = omega arith
 some_bits (b ∷ p) = omega (arith, some_bits p)
 
-few_bits : (n : ℕ) (p : List ℕ) → length p ≤ n → bits p < 2 ^ suc n
+few_bits : (n : ℕ) (p : Text) → length p ≤ n → bits p < 2 ^ suc n
 unfolding bits
 few_bits zero [] l = omega arith
 few_bits zero (b ∷ p) l = absurd (omega arith)
@@ -106,7 +106,7 @@ few_bits (suc n) (b ∷ p) l = bit (is_ascii_alphabetic b) (few_bits n p (omega 
 word_byte : (b : ℕ) → is_ascii_alphanumeric b ≡ true → cond (is_ascii_alphabetic b) 97 48 ≡ typical b
 word_byte b h = grind (arith, nat_tests)
 
-spelled : (n : ℕ) (p : List ℕ) → length p ≤ n → letters_or_digits p ≡ true →
+spelled : (n : ℕ) (p : Text) → length p ≤ n → letters_or_digits p ≡ true →
     spell_bits n (bits p) ≡ map typical p
 unfolding bits
 spelled zero [] l h = refl
@@ -138,28 +138,28 @@ no_word SubdivisionSuffix = refl
 no_word CurrencyType = refl
 
 -- the bits of at least n bytes
-many_bits : (n : ℕ) (p : List ℕ) → n ≤ length p → 2 ^ n ≤ bits p
+many_bits : (n : ℕ) (p : Text) → n ≤ length p → 2 ^ n ≤ bits p
 unfolding bits
 many_bits zero p l = omega (arith, some_bits p)
 many_bits (suc n) [] l = absurd (omega arith)
 many_bits (suc n) (b ∷ p) l = omega (arith, pow-suc 2 n, many_bits n p (omega arith))
 
 -- no word is longer than eight bytes
-pub few_bytes : (k : Kind) → Bounds 8 k → (p : List ℕ) → IsWord k p → length p ≤ 8
+pub few_bytes : (k : Kind) → Bounds 8 k → (p : Text) → IsWord k p → length p ≤ 8
 unfolding is_word
 few_bytes (Language T) ends p h = ends (length p) (and_parts _ _ h).0
 few_bytes _ ends p h = grind (arith, nat_tests)
 
 -- what has another byte is none
-shape_of_none : (p : List ℕ) → letters_or_digits p ≡ false → shape_of p ≡ 0
+shape_of_none : (p : Text) → letters_or_digits p ≡ false → shape_of p ≡ 0
 unfolding shape_of
 shape_of_none p h = ap (λ (a : Bool). cond a (bits p) 0) h
 
-shape_of_one : (p : List ℕ) → letters_or_digits p ≡ true → shape_of p ≡ bits p
+shape_of_one : (p : Text) → letters_or_digits p ≡ true → shape_of p ≡ bits p
 unfolding shape_of
 shape_of_one p h = ap (λ (a : Bool). cond a (bits p) 0) h
 
-spell_of : (k : Kind) (p : List ℕ) → length p ≤ 8 → letters_or_digits p ≡ true →
+spell_of : (k : Kind) (p : Text) → length p ≤ 8 → letters_or_digits p ≡ true →
     is_word k p ≡ is_word k (spell (bits p))
 unfolding spell
 spell_of k p few all =
@@ -170,7 +170,7 @@ spell_of k p few all =
 -- a test of shapes that agrees with what they spell, and which no greater number passes, tells the words
 pub told : (k : Kind) (t : ℕ → Bool) → Bounds 8 k → agree_below t (λ s. is_word k (spell s)) 512 ≡ true →
     ((s : ℕ) → 512 ≤ s → t s ≡ false)
-    → (p : List ℕ) → is_word k p ≡ t (shape_of p)
+    → (p : Text) → is_word k p ≡ t (shape_of p)
 told k t ends e many p = elim (cases_Bool (letters_or_digits p)) [
   | inl all ↦ elim (cases_lt (length p) 9) [
     | inl few ↦

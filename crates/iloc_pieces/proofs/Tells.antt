@@ -5,7 +5,7 @@ use Rattle.std.specs.Cmp.{Equal-is}
 use Rattle.std.specs.Char.{is_ascii_alphabetic, is_ascii_alphanumeric, to_ascii_lowercase}
 use Rattle.std.proofs.lemmas.Bool.{false_from_ne_true, and_parts, cases_Bool, eqb-true, eqb-false}
 use Rattle.std.proofs.lemmas.Bool.Decides.{nat_tests}
-use Rattle.iloc_spec_grammar.specs.Syntax.{Text, Kind, Script, IsWord, is_word, is_one_byte, is_true, is_same}
+use Rattle.iloc_spec_grammar.specs.Syntax.{code_u, code_t, Text, Kind, Script, IsWord, is_word, is_one_byte, is_true, is_same}
 use Rattle.iloc_spec_grammar.specs.Syntax.{lower, Bounds}
 use Rattle.iloc_spec_grammar.proofs.MapLaws.{same_itself, same_words}
 use Rattle.iloc_spec_grammar.proofs.WordsLaws.{word_letters_or_digits, letter_is, length-script}
@@ -65,7 +65,7 @@ single_shape (b ∷ c ∷ p) h = absurd (grind (arith, nat_tests))
 -- ---- `true`
 
 -- the bytes of the word
-pub true_word : (w : List ℕ) → is_true w ≡ true → codes "true" ≡ w
+pub true_word : (w : Text) → is_true w ≡ true → codes "true" ≡ w
 unfolding is_true
 true_word w h = same_words (codes "true") w ((Equal-is _).0 h)
 
@@ -89,7 +89,7 @@ or_four a b c d k l m n =
 
 -- which are those of `true`
 apart : (a b c d : ℕ) → a < 256 → b < 256 → c < 256 → d < 256 → four a b c d ≡ 1702195828
-    → (a ≡ 116) × (b ≡ 114) × (c ≡ 117) × (d ≡ 101)
+    → (a ≡ code_t) × (b ≡ 114) × (c ≡ code_u) × (d ≡ 101)
 apart a b c d k l m n e = (omega arith, omega arith, omega arith, omega arith)
 
 letter_fits : (b : ℕ) → is_ascii_alphabetic b ≡ true → (b < 256) × (to_ascii_lowercase b < 256)

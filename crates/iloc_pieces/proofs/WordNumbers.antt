@@ -10,7 +10,7 @@ use Rattle.std.proofs.Math.Nat.{mul-add-div_right, mul-le-mul_right, zero-mul, m
 use Rattle.std.proofs.Math.Nat.{div-eq_of_lt, mod-eq_of_lt}
 use Rattle.std.specs.List.{take-map}
 use Rattle.std.proofs.lemmas.List.{length-append, length-replicate, get_or-drop}
-use Rattle.iloc_spec_grammar.specs.Syntax.{UnicodeKey, TransformKey, IsWord, letters_or_digits, lower}
+use Rattle.iloc_spec_grammar.specs.Syntax.{Text, UnicodeKey, TransformKey, IsWord, letters_or_digits, lower}
 use Rattle.iloc_spec_grammar.proofs.WordsLaws.{length-unicode_key, length-transform_key}
 use Rattle.iloc_spec_grammar.proofs.WordsLaws.{word_letters_or_digits}
 use Rattle.iloc_tinystr.specs.Number.{number}
@@ -19,21 +19,21 @@ use Rattle.iloc_fronts.specs.Words.{IsUpToEight, high_first, word_number}
 
 -- ---- eight bytes as one number
 
-abbrev pub Bytes : List ℕ → Type 0
+abbrev pub Bytes : Text → Type 0
 Bytes p = (i : ℕ) → get_or p i 0 < 256
 
 -- parts of bytes are bytes
-pub bytes_take : (k : ℕ) (p : List ℕ) → Bytes p → Bytes (take k p)
+pub bytes_take : (k : ℕ) (p : Text) → Bytes p → Bytes (take k p)
 bytes_take zero p h i = omega arith
 bytes_take (suc k) [] h i = h i
 bytes_take (suc k) (b ∷ p) h zero = h 0
 bytes_take (suc k) (b ∷ p) h (suc i) = bytes_take k p (λ j. h (suc j)) i
 
-pub bytes_drop : (k : ℕ) (p : List ℕ) → Bytes p → Bytes (drop k p)
+pub bytes_drop : (k : ℕ) (p : Text) → Bytes p → Bytes (drop k p)
 bytes_drop k p h i = subst (λ (b : ℕ). b < 256) (sym (get_or-drop k p i 0)) (h (k + i))
 
 -- eight bytes, the first highest
-pub highest_first : (z : List ℕ) → length z ≡ 8
+pub highest_first : (z : Text) → length z ≡ 8
     → get_or z 0 0 * 72057594037927936 + get_or z 1 0 * 281474976710656 + get_or z 2 0 * 1099511627776
     + get_or z 3 0 * 4294967296 + get_or z 4 0 * 16777216 + get_or z 5 0 * 65536
     + get_or z 6 0 * 256 + get_or z 7 0 ≡ high_first 8 z
@@ -42,10 +42,10 @@ highest_first (a ∷ b ∷ c ∷ d ∷ e ∷ f ∷ g ∷ h ∷ []) long = omega 
 highest_first z long = absurd (omega arith)
 
 -- or the first lowest, swapped
-swapped : (z : List ℕ) → length z ≡ 8 → Bytes z → swap_bytes w64 (number z) ≡ high_first 8 z
+swapped : (z : Text) → length z ≡ 8 → Bytes z → swap_bytes w64 (number z) ≡ high_first 8 z
 unfolding high_first
 swapped (a ∷ b ∷ c ∷ d ∷ e ∷ f ∷ g ∷ h ∷ []) long small =
-    let bs : List ℕ = a ∷ b ∷ c ∷ d ∷ e ∷ f ∷ g ∷ h ∷ [] in
+    let bs : Text = a ∷ b ∷ c ∷ d ∷ e ∷ f ∷ g ∷ h ∷ [] in
     let low : number bs % 2 ^ 64 ≡ from_le_bytes w64 bs =
     omega (arith, small 0, small 1, small 2, small 3, small 4, small 5, small 6, small 7) in
     let fits : number bs < 2 ^ 64 =
@@ -60,7 +60,7 @@ pow_some : (n : ℕ) → 0 < 256 ^ n
 pow_some zero = omega arith
 pow_some (suc n) = omega (arith, pow-suc 256 n, pow_some n)
 
-number_fits : (n : ℕ) (p : List ℕ) → Bytes p → high_first n p < 256 ^ n
+number_fits : (n : ℕ) (p : Text) → Bytes p → high_first n p < 256 ^ n
 unfolding high_first
 number_fits zero p h = omega arith
 number_fits (suc n) [] h = pow_some (suc n)
@@ -80,7 +80,7 @@ split_power : (m n : ℕ) → n ≤ m → 256 ^ m ≡ 256 ^ n * 256 ^ (m - n)
 split_power m n l = let all : n + (m - n) ≡ m =
     omega arith in ap (λ k. 256 ^ k) (sym all) ∙ pow-add 256 n (m - n)
 
-cut_number : (m n : ℕ) (p : List ℕ) → n ≤ m → Bytes p
+cut_number : (m n : ℕ) (p : Text) → n ≤ m → Bytes p
     → high_first m p / 256 ^ (m - n) * 256 ^ (m - n) ≡ high_first m (take n p)
 unfolding high_first
 cut_number m zero p l h =
@@ -102,12 +102,12 @@ cut_number (suc m) (suc n) (b ∷ p) l h =
 
 -- ---- the number of a word
 
-low_bits : (p : List ℕ) → letters_or_digits p ≡ true → map (λ b. bit_or b 32) p ≡ lower p
+low_bits : (p : Text) → letters_or_digits p ≡ true → map (λ b. bit_or b 32) p ≡ lower p
 unfolding lower
 low_bits [] h = refl
 low_bits (b ∷ p) h = let parts = and_parts _ _ h in λ j. low_bit b parts.0 j ∷ low_bits p parts.1 j
 
-bytes_or : (p : List ℕ) → Bytes p → Bytes (map (λ b. bit_or b 32) p)
+bytes_or : (p : Text) → Bytes p → Bytes (map (λ b. bit_or b 32) p)
 bytes_or [] h i = h i
 bytes_or (b ∷ p) h zero = or_of_8 b 32 (h 0) (omega arith)
 bytes_or (b ∷ p) h (suc i) = bytes_or p (λ j. h (suc j)) i
@@ -124,7 +124,7 @@ power_of (suc k) =
     ap (λ j. 2 ^ j) more ∙ pow-add 2 8 (8 * k) ∙ ap (λ m. 256 * m) (power_of k) ∙ omega (arith, pow-suc 256 k)
 
 -- bit 5 of each byte
-or_bytes : (n : ℕ) (z : List ℕ) → length z ≡ n → Bytes z
+or_bytes : (n : ℕ) (z : Text) → length z ≡ n → Bytes z
     → bit_or (high_first n z) (high_first n (replicate n 32)) ≡ high_first n (map (λ b. bit_or b 32) z)
 unfolding high_first
 or_bytes zero [] long small = refl
@@ -144,7 +144,7 @@ or_bytes (suc n) (b ∷ z) long small =
     ∙ (λ j. bit_or b 32 * power_of n j + or_bytes n z (omega arith) rest j)
 
 -- the number of eight bytes with bit 5, cut behind n letters and digits
-pub number_is : (z : List ℕ) (n x : ℕ) → length z ≡ 8 → n ≤ 8 → Bytes z → letters_or_digits (take n z) ≡ true
+pub number_is : (z : Text) (n x : ℕ) → length z ≡ 8 → n ≤ 8 → Bytes z → letters_or_digits (take n z) ≡ true
     → x ≡ high_first 8 z
     → bit_or x 2314885530818453536 / 2 ^ (64 - 8 * n) * 2 ^ (64 - 8 * n) % 2 ^ 64 ≡ word_number (take n z)
 unfolding word_number high_first
@@ -159,7 +159,7 @@ number_is z n x long few small word e =
     let cut : high_first 8 low / 256 ^ (8 - n) * 256 ^ (8 - n) ≡ high_first 8 (lower (take n z)) =
     cut_number 8 n low few bytes ∙ ap (high_first 8) first in
     let fits : high_first 8 (lower (take n z)) < 2 ^ 64 =
-    subst (λ (p : List ℕ). high_first 8 p < 256 ^ 8) first
+    subst (λ (p : Text). high_first 8 p < 256 ^ 8) first
     (number_fits 8 (take n low) (bytes_take n low bytes)) in
     (λ j. eight j / power j * power j % 2 ^ 64) ∙ ap (λ m. m % 2 ^ 64) cut ∙ mod-eq_of_lt fits
 
@@ -168,22 +168,22 @@ no_number : (k : ℕ) → number (replicate k 0) ≡ 0
 no_number zero = refl
 no_number (suc k) = ap (λ m. 0 + 256 * m) (no_number k)
 
-number-zeros : (p : List ℕ) (k : ℕ) → number (p ++ replicate k 0) ≡ number p
+number-zeros : (p : Text) (k : ℕ) → number (p ++ replicate k 0) ≡ number p
 number-zeros [] k = no_number k
 number-zeros (b ∷ p) k = ap (λ m. b + 256 * m) (number-zeros p k)
 
-bytes_zeros : (p : List ℕ) (k : ℕ) → Bytes p → Bytes (p ++ replicate k 0)
+bytes_zeros : (p : Text) (k : ℕ) → Bytes p → Bytes (p ++ replicate k 0)
 bytes_zeros [] k h i = fits_replicate k 0 (omega arith) i
 bytes_zeros (b ∷ p) k h zero = h 0
 bytes_zeros (b ∷ p) k h (suc i) = bytes_zeros p k (λ j. h (suc j)) i
 
 -- the number of a word, the first byte lowest, swapped
-pub short_number_is : (p : List ℕ) (x : ℕ) → length p ≤ 8 → Bytes p → letters_or_digits p ≡ true
+pub short_number_is : (p : Text) (x : ℕ) → length p ≤ 8 → Bytes p → letters_or_digits p ≡ true
     → x ≡ swap_bytes w64 (number p)
     → bit_or x 2314885530818453536 / 2 ^ (64 - 8 * length p) * 2 ^ (64 - 8 * length p) % 2 ^ 64
     ≡ word_number p
 short_number_is p x few small word e =
-    let z : List ℕ = p ++ replicate (8 - length p) 0 in
+    let z : Text = p ++ replicate (8 - length p) 0 in
     let long : length z ≡ 8 =
     omega (
       arith,
@@ -198,7 +198,7 @@ short_number_is p x few small word e =
 
 -- ---- words that have numbers
 
-pub key_fits : (p : List ℕ) → IsWord UnicodeKey p → IsUpToEight p
+pub key_fits : (p : Text) → IsWord UnicodeKey p → IsUpToEight p
 key_fits p h =
     record {
       some = omega (arith, length-unicode_key p h);
@@ -207,7 +207,7 @@ key_fits p h =
       bytes = word_letters_or_digits UnicodeKey p h;
     }
 
-pub field_key_fits : (p : List ℕ) → IsWord TransformKey p → IsUpToEight p
+pub field_key_fits : (p : Text) → IsWord TransformKey p → IsUpToEight p
 field_key_fits p h =
     record {
       some = omega (arith, length-transform_key p h);

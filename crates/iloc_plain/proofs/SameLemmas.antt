@@ -9,6 +9,7 @@ use Rattle.std.proofs.Math.Nat.{pow-suc}
 use Rattle.std.proofs.lemmas.Simd.{tops_compared, mask_l-mod, length-zip2}
 use lib.Lanes.{zip2, mask_l, top}
 use mir.Val.{bits, hbits}
+use Rattle.iloc_spec_grammar.specs.Syntax.{Text}
 
 abbrev differ : ℕ → ℕ → Bool
 differ a b = not (eqb a b)
@@ -38,7 +39,7 @@ same_byte a b e = grind (arith, nat_tests)
 no_difference : (a b : ℕ) → a ≡ b → differ a b ≡ false
 no_difference a b e = grind (arith, nat_tests)
 
-same_lanes : (v w : List ℕ) (n : ℕ) → length v ≡ length w → n ≤ length v →
+same_lanes : (v w : Text) (n : ℕ) → length v ≡ length w → n ≤ length v →
     (mask_l (zip2 differ v w) % 2 ^ n ≡ 0) ↔ (take n v ≡ take n w)
 same_lanes v w zero long few = (λ _. refl, λ _. omega arith)
 same_lanes [] w (suc n) long few = absurd (omega arith)
@@ -59,7 +60,7 @@ is_none : (m : ℕ) → IsTrue (nat_eq m 0) ↔ (m ≡ 0)
 is_none m = (λ e. grind (arith, nat_tests), λ e. grind (arith, nat_tests))
 
 -- by the bits that mark the lanes that differ
-pub same_first : (v w : List ℕ) (n : ℕ) → length v ≡ 16 → length w ≡ 16 → n ≤ 16
+pub same_first : (v w : Text) (n : ℕ) → length v ≡ 16 → length w ≡ 16 → n ≤ 16
     → IsTrue (nat_eq
     (bit_and
     (mask_l (map (top (hbits w8)) (zip2 (λ a b. cond (differ a b) (2 ^ bits w8 - 1) 0) v w)) % 2 ^ 64)

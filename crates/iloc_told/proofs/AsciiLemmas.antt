@@ -8,7 +8,7 @@ use Rattle.std.proofs.lemmas.Bool.Decides.{nat_tests}
 use Rattle.std.proofs.lemmas.List.Elements.{All-from_recursion}
 use Rattle.std.proofs.lemmas.Str.{IsUtf8-from_ascii}
 use Rattle.std.proofs.lemmas.Str.Ascii.{IsAscii-from_all}
-use Rattle.iloc_spec_grammar.specs.Syntax.{pieces, join, Kind, IsWord, languages, Identifier}
+use Rattle.iloc_spec_grammar.specs.Syntax.{Text, pieces, join, Kind, IsWord, languages, Identifier}
 use Rattle.iloc_spec_grammar.specs.Meaning as grammar
 use Rattle.iloc_spec_grammar.specs.Meaning.{Means}
 use Rattle.iloc_spec_grammar.specs.Values.{IsIdentifierValue, identifier_text, text}
@@ -24,29 +24,29 @@ use Rattle.iloc_told.specs.Modes.{IsNormalText}
 use Rattle.iloc_told.specs.declared.Mode.{Mode}
 use Rattle.iloc_told.specs.declared.Mode.TheVariants.{Langid, Locale, Data}
 
-abbrev AreAscii : List ℕ → Type 0
+abbrev AreAscii : Text → Type 0
 AreAscii = AllByRecursion (λ b. b < 128)
 
 ascii_byte : (c : ℕ) → is_ascii_alphanumeric c ≡ true → c < 128
 ascii_byte c h = grind (arith, nat_tests)
 
-ascii_bytes : (p : List ℕ) → list_all is_ascii_alphanumeric p ≡ true → AreAscii p
+ascii_bytes : (p : Text) → list_all is_ascii_alphanumeric p ≡ true → AreAscii p
 ascii_bytes [] h = tt
 ascii_bytes (c ∷ p) h = (ascii_byte c (first_so _ _ h), ascii_bytes p (second_so _ _ h))
 
-ascii_word : (k : Kind) (p : List ℕ) → IsWord k p → AreAscii p
+ascii_word : (k : Kind) (p : Text) → IsWord k p → AreAscii p
 ascii_word k p h = ascii_bytes p (word_letters_or_digits k p h)
 
 ascii_singleton : (c : ℕ) → is_ascii_alphanumeric (to_ascii_lowercase c) ≡ true → AreAscii (c ∷ [])
 ascii_singleton c h = (ascii_byte c (letter c h), tt)
 
-ascii_join : (p : List ℕ) (ps : List (List ℕ)) → AllByRecursion AreAscii (p ∷ ps) → AreAscii (join (p ∷ ps))
+ascii_join : (p : Text) (ps : List Text) → AllByRecursion AreAscii (p ∷ ps) → AreAscii (join (p ∷ ps))
 unfolding join
 ascii_join p [] h = h.0
 ascii_join p (q ∷ ps) h =
     all_append (λ b. b < 128) p (45 ∷ join (q ∷ ps)) h.0 (omega arith, ascii_join q ps h.1)
 
-utf8_join : (p : List ℕ) (ps : List (List ℕ)) → AllByRecursion AreAscii (p ∷ ps) → IsUtf8 (join (p ∷ ps))
+utf8_join : (p : Text) (ps : List Text) → AllByRecursion AreAscii (p ∷ ps) → IsUtf8 (join (p ∷ ps))
 utf8_join p ps h =
     IsUtf8-from_ascii _ (IsAscii-from_all _ (All-from_recursion (λ b. b < 128) _ (ascii_join p ps h)))
 
@@ -55,14 +55,14 @@ unfolding identifier_text
 identifier_utf8 i h = utf8_join i.language _
     (identifier_each AreAscii ascii_word ascii_singleton (spelled_identifier i) (value_words h))
 
-locale_utf8 : (t : List ℕ) (M : grammar.Locale) → Means languages t M → IsUtf8 (text M)
+locale_utf8 : (t : Text) (M : grammar.Locale) → Means languages t M → IsUtf8 (text M)
 locale_utf8 t M m =
     subst IsUtf8 (sym (text_is M))
     (utf8_join M.id.language _
     (printed_each M (means_a_value t M m) (means_tests t M m) AreAscii ascii_word ascii_singleton))
 
 -- the normal text of an identifier or of a locale is UTF-8
-pub normal_utf8 : (mode : Mode) → mode ≢ Data → (t u : List ℕ) → IsNormalText languages mode t u → IsUtf8 u
+pub normal_utf8 : (mode : Mode) → mode ≢ Data → (t u : Text) → IsNormalText languages mode t u → IsUtf8 u
 normal_utf8 Langid other t u (i, m, e) =
     subst IsUtf8 (sym e) (identifier_utf8 i (identifier_means_value (pieces t) i m))
 normal_utf8 Locale other t u (M, m, e) = subst IsUtf8 (sym e) (locale_utf8 t M m)

@@ -7,7 +7,7 @@ use Rattle.std.specs.Char.{is_ascii_alphanumeric, to_ascii_lowercase}
 use Rattle.std.specs.List.{list_all}
 use Rattle.std.proofs.lemmas.Bool.{and_parts}
 use Rattle.std.proofs.lemmas.Bool.Decides.{nat_tests}
-use Rattle.iloc_spec_grammar.specs.Syntax.{Text, Attribute, UnicodeKey, IsWord, is_same, is_word, lower}
+use Rattle.iloc_spec_grammar.specs.Syntax.{code_x, code_u, Text, Attribute, UnicodeKey, IsWord, is_same, is_word, lower}
 use Rattle.iloc_spec_grammar.specs.Syntax.{front, blocks, first_piece}
 use Rattle.iloc_spec_grammar.specs.Tree.{block_pieces}
 use Rattle.iloc_spec_grammar.specs.Meaning.{Fault, InvalidExtension, InvalidSubtag, normal_values}
@@ -55,8 +55,8 @@ module _ (c : ℕ) (u : is_u c ≡ true) (r : SmallIdentifier) (ps : List Text) 
   letter : is_ascii_alphanumeric c ≡ true
   letter = letter_u c u
 
-  no_x : (to_ascii_lowercase c == 120) ≡ false
-  no_x = let same : to_ascii_lowercase c ≡ 117 = grind (arith, nat_tests, u) in grind (arith, nat_tests)
+  no_x : (to_ascii_lowercase c == code_x) ≡ false
+  no_x = let same : to_ascii_lowercase c ≡ code_u = grind (arith, nat_tests, u) in grind (arith, nat_tests)
 
   blocks_are : blocks ((c ∷ []) ∷ ps) ≡ (c, front ps) ∷ blocks ps
   blocks_are = ap (λ (b : Bool). cond b ((c, ps) ∷ []) ((c, front ps) ∷ blocks ps)) no_x

@@ -5,34 +5,34 @@ use Rattle.std.proofs.lemmas.List.{take-take, take-map, map-append}
 use Rattle.std.proofs.lemmas.Slice.{take-put_mid}
 use borrow.Rule.Slice.PartMut.{put_mid, same_len_mid}
 use Rattle.std.specs.Char.{to_ascii_lowercase}
-use Rattle.iloc_spec_grammar.specs.Syntax.{lower}
+use Rattle.iloc_spec_grammar.specs.Syntax.{Text, lower}
 use Rattle.iloc_spec_grammar.proofs.WordsLaws.{length-lower}
 
-take_nothing : (n : ℕ) → ◌≡◌ {A = List ℕ} (take n []) []
+take_nothing : (n : ℕ) → ◌≡◌ {A = Text} (take n []) []
 take_nothing zero = refl
 take_nothing (suc n) = refl
 
 -- the first bytes, and more of them
-pub take_two : (a b : ℕ) (t : List ℕ) → take (a + b) t ≡ take a t ++ take b (drop a t)
+pub take_two : (a b : ℕ) (t : Text) → take (a + b) t ≡ take a t ++ take b (drop a t)
 take_two zero b t = let same : 0 + b ≡ b = omega arith in ap (λ (m : ℕ). take m t) same
 take_two (suc a) b [] = take_nothing (suc a + b) ∙ sym (take_nothing b)
 take_two (suc a) b (x ∷ t) = let one : suc a + b ≡ suc (a + b) = omega arith in
     ap (λ (m : ℕ). take m (x ∷ t)) one ∙ ap (λ l. x ∷ l) (take_two a b t)
 
 -- bytes in lower case, and more of them
-pub lower_two : (a b : ℕ) (t : List ℕ) →
+pub lower_two : (a b : ℕ) (t : Text) →
     lower (take a t) ++ lower (take b (drop a t)) ≡ lower (take (a + b) t)
 unfolding lower
 lower_two a b t =
     sym (map-append to_ascii_lowercase (take a t) (take b (drop a t))) ∙ ap lower (sym (take_two a b t))
 
 -- the first of the first bytes
-pub lower_front : (n m : ℕ) (t : List ℕ) → n ≤ m → take n (lower (take m t)) ≡ lower (take n t)
+pub lower_front : (n m : ℕ) (t : Text) → n ≤ m → take n (lower (take m t)) ≡ lower (take n t)
 unfolding lower
 lower_front n m t few = take-map to_ascii_lowercase n (take m t) ∙ ap lower (take-take n m t few)
 
 -- the first of the sixteen bytes that stand at a place
-pub lower_part : (n a : ℕ) (t : List ℕ) → n ≤ 16 → a + 16 ≤ length t
+pub lower_part : (n a : ℕ) (t : Text) → n ≤ 16 → a + 16 ≤ length t
     → take n (lower (take 16 (take (length t - a) (drop a t)))) ≡ lower (take n (drop a t))
 unfolding lower
 lower_part n a t few room =
@@ -41,7 +41,7 @@ lower_part n a t few room =
     ∙ take-take n (length t - a) (drop a t) (omega (arith, few, room)))
 
 -- one part more, of k bytes up to the n-th
-module _ (at k n count : ℕ) (from to part : List ℕ) (few : k ≤ 16) (sum : n ≡ at + k) (fits : n ≤ count)
+module _ (at k n count : ℕ) (from to part : Text) (few : k ≤ 16) (sum : n ≡ at + k) (fits : n ≤ count)
     (bytes : count + 16 ≤ length from)
     (room : length to ≡ count)
     (is : part ≡ take k (lower (take 16 (take (length from - at) (drop at from))))) where
@@ -65,7 +65,7 @@ module _ (at k n count : ℕ) (from to part : List ℕ) (few : k ≤ 16) (sum : 
       ∙ (λ j. before j ++ is_lower j) ∙ lower_two at k from ∙ ap (λ (m : ℕ). lower (take m from)) (sym sum)
 
 -- sixteen bytes are all of the sixteen
-pub sixteen : (k : ℕ) (t part : List ℕ) → k ≡ 16 → part ≡ lower (take 16 t) →
+pub sixteen : (k : ℕ) (t part : Text) → k ≡ 16 → part ≡ lower (take 16 t) →
     part ≡ take k (lower (take 16 t))
 unfolding lower
 sixteen k t part e is =

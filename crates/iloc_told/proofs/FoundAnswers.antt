@@ -4,7 +4,7 @@ use Rattle.std.proofs.Common.{inr, sym, ap, ◌∙◌, arith}
 use Rattle.std.specs.Prelude.{option_to_list}
 use Rattle.std.specs.Char.{is_ascii_alphanumeric}
 use Rattle.std.proofs.lemmas.Bool.{cases_Bool, cases_lt}
-use Rattle.iloc_spec_grammar.specs.Syntax.{pieces, SpelledIdentifier, identifier_pieces, Variant, is_one_byte}
+use Rattle.iloc_spec_grammar.specs.Syntax.{Text, pieces, SpelledIdentifier, identifier_pieces, Variant, is_one_byte}
 use Rattle.iloc_spec_grammar.specs.Syntax.{is_word, first_piece}
 use Rattle.iloc_spec_grammar.specs.Reading.{after_front, after_region, front_of, passing, starts_block}
 use Rattle.iloc_spec_grammar.proofs.PiecesLaws.{at_pieces}
@@ -31,7 +31,7 @@ abbrev pub counted : Block → ℕ → Block
 counted b n = record b { tail = n }
 
 -- if it follows the words of an identifier, it is the first block
-pub is_first : (t : List ℕ) (b : Block) → IsFound t b → starts_block (after_front (pieces t)) ≡ true →
+pub is_first : (t : Text) (b : Block) → IsFound t b → starts_block (after_front (pieces t)) ≡ true →
     (n : ℕ) × IsFront t (fronts.Block (counted b n))
 unfolding after_front
 is_first t b f is =
@@ -68,7 +68,7 @@ is_first t b f is =
 
 -- a text that is refused for its first block is refused for this one: another piece that fits nowhere is
 -- refused too
-pub found_refused : (t : List ℕ) (b : Block) → IsFound t b →
+pub found_refused : (t : Text) (b : Block) → IsFound t b →
     ((n : ℕ) → IsFront t (fronts.Block (counted b n)) → HasRefusal Data t InvalidSubtag) →
     HasRefusal Data t InvalidSubtag
 found_refused t b f told = elim (cases_Bool (starts_block (after_front (pieces t)))) [
@@ -76,13 +76,13 @@ found_refused t b f told = elim (cases_Bool (starts_block (after_front (pieces t
   | inr other ↦ misfit_refused Data t f.begins other
 ]
 
-pub other_found_refused : (t : List ℕ) (b : Block) → IsFound t b →
+pub other_found_refused : (t : Text) (b : Block) → IsFound t b →
     is_ascii_alphanumeric (get_or b.window.now 0 0) ≡ true → is_u (get_or b.window.now 0 0) ≡ false →
     HasRefusal Data t InvalidSubtag
 other_found_refused t b f letter other =
     found_refused t b f (λ n h. other_block_refused t (counted b n) h.0 h.1 letter other)
 
-module _ (t : List ℕ) (b : Block) (f : IsFound t b) (u : is_u (get_or b.window.now 0 0) ≡ true) where
+module _ (t : Text) (b : Block) (f : IsFound t b) (u : is_u (get_or b.window.now 0 0) ≡ true) where
   letter : is_ascii_alphanumeric (get_or b.window.now 0 0) ≡ true
   letter = letter_u (get_or b.window.now 0 0) u
 
@@ -99,12 +99,12 @@ module _ (t : List ℕ) (b : Block) (f : IsFound t b) (u : is_u (get_or b.window
 -- ---- after a plain identifier
 
 -- pieces from a block on, after an identifier without variants
-after_plain : (i : SpelledIdentifier) (rest : List (List ℕ)) → i.variants ≡ [] →
+after_plain : (i : SpelledIdentifier) (rest : List Text) → i.variants ≡ [] →
     (front_of (identifier_pieces i) ≡ i) → (after_front (identifier_pieces i) ≡ []) → starts_block rest ≡ true
     → (after_front (identifier_pieces i ++ rest) ≡ rest) × (after_region (identifier_pieces i ++ rest) ≡ rest)
 unfolding after_front front_of
 after_plain i rest none same nothing s =
-    let later : List (List ℕ) = option_to_list i.script ++ (option_to_list i.region ++ i.variants) in
+    let later : List Text = option_to_list i.script ++ (option_to_list i.region ++ i.variants) in
     let left : after_front (identifier_pieces i ++ rest) ≡ rest =
     after_front-append i.language later rest (starts_ends rest s) ∙ ap (λ l. l ++ rest) nothing in
     let variants : passing (is_word Variant) (after_region (identifier_pieces i ++ rest)) ≡ [] =
@@ -117,7 +117,7 @@ after_plain i rest none same nothing s =
     )
 
 -- the block follows at once
-pub plain_before : (t : List ℕ) (b : Block) (p : Plain) → IsFound t b →
+pub plain_before : (t : Text) (b : Block) (p : Plain) → IsFound t b →
     IsPlain (take (length t - (b.len + 1)) t) p → IsFront t (fronts.Block b)
 unfolding after_front
 plain_before t b p f plain = (
@@ -135,7 +135,7 @@ plain_before t b p f plain = (
     i : SpelledIdentifier
     i = plain.means.written
 
-    rest : List (List ℕ)
+    rest : List Text
     rest = pieces (rest_of_block b)
 
     starts : starts_block rest ≡ true
@@ -154,7 +154,7 @@ plain_before t b p f plain = (
         (ap after_front parts ∙ both.0, ap after_region parts ∙ both.1)
 
 -- a keyword of one word at most is none of a data locale
-pub found_single_refused : (t : List ℕ) (b : Block) (p : Plain) → IsFound t b →
+pub found_single_refused : (t : Text) (b : Block) (p : Plain) → IsFound t b →
     IsPlain (take (length t - (b.len + 1)) t) p → is_u (get_or b.window.now 0 0) ≡ true →
     IsKeywordOf (after_singleton b) keyword.Single → HasRefusal Data t InvalidExtension
 found_single_refused t b p f plain u k =

@@ -7,7 +7,7 @@ use Rattle.std.specs.Char.{is_ascii_alphanumeric, to_ascii_lowercase}
 use Rattle.std.specs.List.{AllByRecursion, list_all}
 use Rattle.std.proofs.lemmas.Bool.{cases_Bool, true≢false, false_from_ne_true}
 use Rattle.std.proofs.lemmas.Bool.Decides.{nat_tests}
-use Rattle.iloc_spec_grammar.specs.Syntax.{pieces, Kind, Language, Script, Region, Variant}
+use Rattle.iloc_spec_grammar.specs.Syntax.{code_x, code_u, Text, pieces, Kind, Language, Script, Region, Variant}
 use Rattle.iloc_spec_grammar.specs.Syntax.{UnicodeKey, Attribute, is_word}
 use Rattle.iloc_spec_grammar.specs.Syntax.{IsWord, is_same, languages, lower, is_one_byte, front, blocks}
 use Rattle.iloc_spec_grammar.specs.Syntax.{head, tail_blocks, first_piece}
@@ -46,24 +46,24 @@ use Rattle.iloc_told.proofs.FrontAnswers.{BeginsWell, blocks_left, data_fault, d
 
 -- ---- the block of `u`
 
-module _ (t : List ℕ) (b : Block) (l : BeginsWell t) (g : GoesOn (after_region (pieces t)) b)
+module _ (t : Text) (b : Block) (l : BeginsWell t) (g : GoesOn (after_region (pieces t)) b)
     (u : is_u (get_or b.window.now 0 0) ≡ true) where
   abbrev c : ℕ
   c = get_or b.window.now 0 0
 
-  abbrev ps : List (List ℕ)
+  abbrev ps : List Text
   ps = after_singleton b
 
   -- its singleton, and the pieces up to the next one
-  abbrev first : ℕ × List (List ℕ)
+  abbrev first : ℕ × List Text
   first = (c, front ps)
 
   pieces_of_block : pieces (rest_of_block b) ≡ (c ∷ []) ∷ ps
   pieces_of_block = at_pieces (λ qs. first_piece qs ≡ c ∷ [] → qs ≡ (c ∷ []) ∷ rest_of qs)
       (λ q qs e. ap (λ r. r ∷ qs) e) (rest_of_block b) g.singleton
 
-  no_x : (to_ascii_lowercase c == 120) ≡ false
-  no_x = let same : to_ascii_lowercase c ≡ 117 = grind (arith, nat_tests, u) in grind (arith, nat_tests)
+  no_x : (to_ascii_lowercase c == code_x) ≡ false
+  no_x = let same : to_ascii_lowercase c ≡ code_u = grind (arith, nat_tests, u) in grind (arith, nat_tests)
 
   after_is : after_front (pieces t) ≡ pieces (rest_of_block b)
   unfolding after_front
@@ -75,16 +75,16 @@ module _ (t : List ℕ) (b : Block) (l : BeginsWell t) (g : GoesOn (after_region
 
 -- ---- the variants before the block
 
-pub front_past : (xs qs : List (List ℕ)) → AllByRecursion IsLong xs → front (xs ++ qs) ≡ xs ++ front qs
+pub front_past : (xs qs : List Text) → AllByRecursion IsLong xs → front (xs ++ qs) ≡ xs ++ front qs
 front_past [] qs h = refl
 front_past (x ∷ xs) qs h =
     ap (λ (b : Bool). cond b [] (x ∷ front (xs ++ qs))) h.0 ∙ ap (λ l. x ∷ l) (front_past xs qs h.1)
 
-module _ (t : List ℕ) (b : Block) (g : GoesOn (after_region (pieces t)) b) where
-  abbrev after : List (List ℕ)
+module _ (t : Text) (b : Block) (g : GoesOn (after_region (pieces t)) b) where
+  abbrev after : List Text
   after = after_region (pieces t)
 
-  abbrev before : List (List ℕ)
+  abbrev before : List Text
   before = passing (is_word Variant) after
 
   variants_pass : AllByRecursion (λ p. is_word Variant p ≡ true) before
@@ -108,7 +108,7 @@ module _ (t : List ℕ) (b : Block) (g : GoesOn (after_region (pieces t)) b) whe
   total : length before + length (pieces (rest_of_block b)) ≡ length after
   total = sym (length-append before (pieces (rest_of_block b))) ∙ ap length parts_are
 
-  all_true : (vs : List (List ℕ)) → AllByRecursion (λ p. is_word Variant p ≡ true) vs →
+  all_true : (vs : List Text) → AllByRecursion (λ p. is_word Variant p ≡ true) vs →
       list_all (is_word Variant) vs ≡ true
   all_true [] h = refl
   all_true (v ∷ vs) h = rw h.0 (all_true vs h.1)
@@ -135,19 +135,19 @@ and_both false b e = absurd (true≢false (sym e))
 
 -- ---- pieces that make no small keyword
 
-pub no_key : (qs : List (List ℕ)) → is_word UnicodeKey (first_piece qs) ≡ false → has_small_keyword qs ≡ false
+pub no_key : (qs : List Text) → is_word UnicodeKey (first_piece qs) ≡ false → has_small_keyword qs ≡ false
 no_key [] e = refl
 no_key (p ∷ qs) e =
     ap (λ (x : Bool). x && (list_all (is_word Attribute) qs && nat_le (length (normal_values qs)) 1)) e
 
-no_values : (qs : List (List ℕ)) → list_all (is_word Attribute) (rest_of qs) ≡ false →
+no_values : (qs : List Text) → list_all (is_word Attribute) (rest_of qs) ≡ false →
     has_small_keyword qs ≡ false
 no_values [] e = refl
 no_values (p ∷ qs) e =
     ap (λ (x : Bool). is_word UnicodeKey p && (x && nat_le (length (normal_values qs)) 1)) e
     ∙ and-false (is_word UnicodeKey p)
 
-many_values : (qs : List (List ℕ)) → 2 ≤ length (normal_values (rest_of qs)) → has_small_keyword qs ≡ false
+many_values : (qs : List Text) → 2 ≤ length (normal_values (rest_of qs)) → has_small_keyword qs ≡ false
 many_values [] l = refl
 many_values (p ∷ qs) l =
     let more : nat_le (length (normal_values qs)) 1 ≡ false = grind (arith, nat_tests) in
@@ -155,23 +155,23 @@ many_values (p ∷ qs) l =
     ∙ ap (λ (x : Bool). is_word UnicodeKey p && x) (and-false (list_all (is_word Attribute) qs))
     ∙ and-false (is_word UnicodeKey p)
 
-pub front_first : (qs : List (List ℕ)) → IsLong (first_piece qs) → first_piece (front qs) ≡ first_piece qs
+pub front_first : (qs : List Text) → IsLong (first_piece qs) → first_piece (front qs) ≡ first_piece qs
 front_first [] e = refl
 front_first (q ∷ qs) e = ap (λ (o : Bool). first_piece (cond o [] (q ∷ front qs))) e
 
-pub attribute_no_key : (p : List ℕ) → IsWord Attribute p → is_word UnicodeKey p ≡ false
+pub attribute_no_key : (p : Text) → IsWord Attribute p → is_word UnicodeKey p ≡ false
 attribute_no_key p h = elim (cases_Bool (is_word UnicodeKey p)) [
   | inl key ↦ absurd (true≢false (sym (two p key) ∙ not_two p h))
   | inr other ↦ other
 ]
 
-pub key_no_attribute : (p : List ℕ) → IsWord UnicodeKey p → is_word Attribute p ≡ false
+pub key_no_attribute : (p : Text) → IsWord UnicodeKey p → is_word Attribute p ≡ false
 key_no_attribute p h = elim (cases_Bool (is_word Attribute p)) [
   | inl word ↦ absurd (true≢false (sym (two p h) ∙ not_two p word))
   | inr other ↦ other
 ]
 
-pub key_long : (p : List ℕ) → IsWord UnicodeKey p → IsLong p
+pub key_long : (p : Text) → IsWord UnicodeKey p → IsLong p
 key_long p h = let two : length p ≡ 2 = length-unicode_key p h in grind (arith, nat_tests)
 
 -- the fault by whether the singleton is a letter and `u`, and an attribute or a key follows
@@ -182,7 +182,7 @@ fault_by a s x y =
     faults.InvalidSubtag)
     else faults.InvalidExtension
 
-pub fault_is : (b : ℕ × List (List ℕ)) (x y : Bool) → is_ascii_alphanumeric b.0 ≡ true → is_u b.0 ≡ true
+pub fault_is : (b : ℕ × List Text) (x y : Bool) → is_ascii_alphanumeric b.0 ≡ true → is_u b.0 ≡ true
     → is_word Attribute (first_piece b.1) ≡ x → is_word UnicodeKey (first_piece b.1) ≡ y →
     block_fault b ≡ fault_by true true x y
 unfolding block_fault
@@ -190,15 +190,15 @@ fault_is b x y letter u attribute key = λ j. fault_by (letter j) (u j) (attribu
 
 -- ---- pieces that make one
 
-pub skip_long : (q : List ℕ) (qs : List (List ℕ)) → IsLong q → blocks (q ∷ qs) ≡ blocks qs
+pub skip_long : (q : Text) (qs : List Text) → IsLong q → blocks (q ∷ qs) ≡ blocks qs
 skip_long [] qs h = refl
 skip_long (c ∷ []) qs h = absurd (true≢false h)
 skip_long (c ∷ d ∷ p) qs h = refl
 
-pub front_long : (q : List ℕ) (qs : List (List ℕ)) → IsLong q → front (q ∷ qs) ≡ q ∷ front qs
+pub front_long : (q : Text) (qs : List Text) → IsLong q → front (q ∷ qs) ≡ q ∷ front qs
 front_long q qs h = ap (λ (o : Bool). cond o [] (q ∷ front qs)) h
 
-pub values_whole : (qs : List (List ℕ)) → list_all (is_word Attribute) qs ≡ true →
+pub values_whole : (qs : List Text) → list_all (is_word Attribute) qs ≡ true →
     (front qs ≡ qs) × (blocks qs ≡ [])
 values_whole [] h = (refl, refl)
 values_whole (q ∷ qs) h =
@@ -208,7 +208,7 @@ values_whole (q ∷ qs) h =
     (front_long q qs long ∙ ap (λ rs. q ∷ rs) later.0, skip_long q qs long ∙ later.1)
 
 -- a key and its values are before the next block
-pub whole_front : (qs : List (List ℕ)) → IsWord UnicodeKey (first_piece qs) →
+pub whole_front : (qs : List Text) → IsWord UnicodeKey (first_piece qs) →
     list_all (is_word Attribute) (rest_of qs) ≡ true → front qs ≡ qs
 whole_front [] k v = refl
 whole_front (q ∷ qs) k v = front_long q qs (key_long q k) ∙ ap (λ rs. q ∷ rs) (values_whole qs v).0
@@ -221,13 +221,13 @@ abbrev both_hold : Bool → Bool → Bool
 both_hold x y = x && y
 
 -- what a keyword of one word at most is read as
-record Reads (qs : List (List ℕ)) : Type 0 where
+record Reads (qs : List Text) : Type 0 where
   whole : front qs ≡ qs
   alone : blocks qs ≡ []
   small : has_small_keyword qs ≡ true
-  unread : (region : Option (List ℕ)) → small_part region (Some (keyword_read qs)) ≡ None
+  unread : (region : Option Text) → small_part region (Some (keyword_read qs)) ≡ None
 
-single_reads : (qs : List (List ℕ)) → IsSingle qs → Reads qs
+single_reads : (qs : List Text) → IsSingle qs → Reads qs
 single_reads [] s = absurd (no_word s.key)
 single_reads (q ∷ qs) s =
     let long = key_long q s.key in
@@ -245,14 +245,14 @@ single_reads (q ∷ qs) s =
     both : Bool → Bool → Bool → Bool
     both x y z = x && (y && z)
 
-    part : Option (List ℕ) → Bool → Option Subdivision → Option (Option Subdivision)
+    part : Option Text → Bool → Option Subdivision → Option (Option Subdivision)
     part region named o = if named then option_map (λ s. Some (agreed region s)) o else None
 
-    never : (region : Option (List ℕ)) (named : Bool) → part region named None ≡ None
+    never : (region : Option Text) (named : Bool) → part region named None ≡ None
     never region true = refl
     never region false = refl
 
-    unread : (lower q ≢ codes "sd") ⊎ (qs ≡ []) → (region : Option (List ℕ)) →
+    unread : (lower q ≢ codes "sd") ⊎ (qs ≡ []) → (region : Option Text) →
         small_part region (Some (keyword_read (q ∷ qs))) ≡ None
     unread (inl differs) region =
         let other : is_same (lower q) sd ≡ false =
@@ -260,16 +260,16 @@ single_reads (q ∷ qs) s =
         ap (λ (x : Bool). part region x (option_and_then named_subdivision (first_item (normal_values qs))))
         other
     unread (inr none) region =
-        ap (λ (rs : List (List ℕ)). part region (is_same (lower q) sd)
+        ap (λ (rs : List Text). part region (is_same (lower q) sd)
         (option_and_then named_subdivision (first_item (normal_values rs)))) none
         ∙ never region (is_same (lower q) sd)
 
 -- ---- the head of a text with no variants
 
 abbrev pub PassesLong : Kind → Type 0
-PassesLong k = (p : List ℕ) → IsWord k p → IsLong p
+PassesLong k = (p : Text) → IsWord k p → IsLong p
 
-pub skip_front : (k : Kind) → PassesLong k → (qs : List (List ℕ)) →
+pub skip_front : (k : Kind) → PassesLong k → (qs : List Text) →
     skip_first (is_word k) (front qs) ≡ front (skip_first (is_word k) qs)
 skip_front k long [] = refl
 skip_front k long (q ∷ qs) = elim (cases_Bool (is_word k q)) [
@@ -289,14 +289,14 @@ skip_front k long (q ∷ qs) = elim (cases_Bool (is_word k q)) [
         ap (skip_first (is_word k)) (front_long q qs one)
         ∙ ap (λ (x : Bool). cond x (front qs) (q ∷ front qs)) fails ∙ sym (front_long q qs one)
 
-pub head_region : (p : List ℕ) (qs : List (List ℕ)) →
+pub head_region : (p : Text) (qs : List Text) →
     after_region (p ∷ front qs) ≡ front (after_region (p ∷ qs))
 head_region p qs =
     ap (skip_first (is_word Region)) (skip_front Script long_script qs)
     ∙ skip_front Region long_region (skip_first (is_word Script) qs)
 
 -- so the head is small
-pub small_head : (p : List ℕ) (qs : List (List ℕ)) → IsWord (Language languages) p →
+pub small_head : (p : Text) (qs : List Text) → IsWord (Language languages) p →
     has_small_variants (front (after_region (p ∷ qs))) ≡ true
     → small_identifier_result languages (p ∷ front qs) ≡ Ok (small_identifier (identifier_of (p ∷ front qs)))
 unfolding small_identifier_result identifier_of
@@ -308,7 +308,7 @@ small_head p qs l h =
     Err faults.InvalidLanguage
 
 -- ... and one with more variants is not
-pub large_head : (p : List ℕ) (qs : List (List ℕ)) → IsWord (Language languages) p →
+pub large_head : (p : Text) (qs : List Text) → IsWord (Language languages) p →
     has_small_variants (front (after_region (p ∷ qs))) ≡ false
     → small_identifier_result languages (p ∷ front qs) ≡ Err faults.InvalidSubtag
 unfolding small_identifier_result identifier_of
@@ -324,19 +324,19 @@ large_head p qs l h =
 pub letter_u : (c : ℕ) → is_u c ≡ true → is_ascii_alphanumeric c ≡ true
 letter_u c u = grind (arith, nat_tests)
 
-module _ (t : List ℕ) (b : Block) (h : IsFront t (fronts.Block b))
+module _ (t : Text) (b : Block) (h : IsFront t (fronts.Block b))
     (letter : is_ascii_alphanumeric (get_or b.window.now 0 0) ≡ true)
     (u : is_u (get_or b.window.now 0 0) ≡ true) where
-  abbrev block : ℕ × List (List ℕ)
+  abbrev block : ℕ × List Text
   block = first t b h.0 h.1 u
 
-  abbrev rest : List (List ℕ)
+  abbrev rest : List Text
   rest = after_singleton b
 
   there : tail_blocks (pieces t) ≡ block ∷ blocks rest
   there = found t b h.0 h.1 u
 
-  not_alone : (bs : List (ℕ × List (List ℕ))) → has_small_keyword (front rest) ≡ false →
+  not_alone : (bs : List (ℕ × List Text)) → has_small_keyword (front rest) ≡ false →
       is_small_block block bs ≡ false
   not_alone [] e = ap (λ (x : Bool). is_u block.0 && x) e ∙ and-false (is_u block.0)
   not_alone (d ∷ bs) e = refl
@@ -359,7 +359,7 @@ module _ (t : List ℕ) (b : Block) (h : IsFront t (fronts.Block b))
       data_refused t block (blocks rest) h.0 there (by (blocks rest) refl)
       (fault_is block false true letter u attribute key)
     where
-      by : (bs : List (ℕ × List (List ℕ))) → blocks rest ≡ bs → is_small_block block bs ≡ false
+      by : (bs : List (ℕ × List Text)) → blocks rest ≡ bs → is_small_block block bs ≡ false
       by [] none =
           let whole : front rest ≡ rest = sym (append-nil (front rest))
           ∙ ap (λ bs. front rest ++ flat_map block_pieces bs) (sym none) ∙ all_blocks rest in
@@ -382,14 +382,14 @@ module _ (t : List ℕ) (b : Block) (h : IsFront t (fronts.Block b))
   unfolding small_result after_identifier blocks_result
   single_result few read = at_pieces Found by t h.0 there (few_before t b h.1 few)
     where
-      Found : List (List ℕ) → Type 0
+      Found : List Text → Type 0
       Found qs = IsWord (Language languages) (first_piece qs) → tail_blocks qs ≡ block ∷ blocks rest →
           has_small_variants (front (after_region qs)) ≡ true
           → (r : SmallLocale)
           × (after_identifier (small_identifier_result languages (head qs)) (tail_blocks qs) ≡ Ok r)
           × (data_of_small r ≡ None)
 
-      by : (p : List ℕ) (qs : List (List ℕ)) → Found (p ∷ qs)
+      by : (p : Text) (qs : List Text) → Found (p ∷ qs)
       by p qs l e none =
           let id = small_identifier (identifier_of (p ∷ front qs)) in
           let found : SmallLocale = record { id = id; keyword = Some (keyword_read rest) } in
@@ -415,7 +415,7 @@ module _ (t : List ℕ) (b : Block) (h : IsFront t (fronts.Block b))
 pub no_letter_no_u : (c : ℕ) → is_ascii_alphanumeric c ≡ false → is_u c ≡ false
 no_letter_no_u c e = grind (arith, nat_tests)
 
-pub unlettered_fault : (b : ℕ × List (List ℕ)) → is_ascii_alphanumeric b.0 ≡ false →
+pub unlettered_fault : (b : ℕ × List Text) → is_ascii_alphanumeric b.0 ≡ false →
     block_fault b ≡ faults.InvalidExtension
 unfolding block_fault
 unlettered_fault b e = rw e refl

@@ -3,7 +3,7 @@ use Rattle.std.specs.Prelude.{◌↔◌, ⊤, IfErr, Result}
 use Rattle.std.proofs.Common.{◌≡◌, ℕ, List, Ok, Err, IfOk}
 use Rattle.std.specs.Cow.{cow_str_bytes}
 use Rattle.std.specs.declared.borrow.CowStr.{CowStr}
-use Rattle.iloc_spec_grammar.specs.Syntax.{languages}
+use Rattle.iloc_spec_grammar.specs.Syntax.{Text, languages}
 use Rattle.iloc_writeable.specs.Writing.{IsLent}
 use Rattle.iloc_subtags.specs.declared.parse_error.ParseError.{ParseError}
 use Rattle.iloc_subtags.specs.declared.parse_error.ParseError.TheVariants.{InvalidLanguage, InvalidSubtag}
@@ -15,9 +15,9 @@ use Rattle.iloc_told.specs.NormalTexts.{IsNotNormal, IsNormalizedAs}
 use Rattle.iloc_told.specs.Told.{HasRefusal}
 use Rattle.iloc_told.specs.declared.Mode.{Mode}
 
-module _ {Z : Type 0} (mode : Mode) (t : List ℕ) where
+module _ {Z : Type 0} (mode : Mode) (t : Text) where
   -- a text is what the caller says of normal texts
-  pub normal_text : (IsText : List ℕ → Type 0) → ((u : List ℕ) → IsNormalText languages mode t u → IsText u) →
+  pub normal_text : (IsText : Text → Type 0) → ((u : Text) → IsNormalText languages mode t u → IsText u) →
       (r : Result (CowStr Z) ParseError) → IsNormalizedAs mode t r
       → IfOk r (λ c. IsText (cow_str_bytes c) × (IsLent c ↔ (t ≡ cow_str_bytes c)))
   normal_text IsText is (Ok c) h = (is (cow_str_bytes c) h.0, h.1)
@@ -44,7 +44,7 @@ module _ {Z : Type 0} (mode : Mode) (t : List ℕ) where
   runs_out wants (Err OutOfMemory) h = wants h
 
 -- what is told of a refused text may be answered
-pub refusal : (Z : Type 0) (mode : Mode) (t : List ℕ) (e : ParseError) → HasRefusal mode t e
+pub refusal : (Z : Type 0) (mode : Mode) (t : Text) (e : ParseError) → HasRefusal mode t e
     → IsNormalizedAs {Z = Z} mode t (Err e)
 refusal Z mode t InvalidLanguage h = h
 refusal Z mode t InvalidSubtag h = h

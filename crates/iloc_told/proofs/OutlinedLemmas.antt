@@ -1,7 +1,7 @@
 -- When an outline tells nothing.
 use Rattle.std.proofs.Common.{◌≡◌, inl, inr, ℕ, ◌+◌, ◌≤◌, List, [], ◌∷◌, ◌++◌, length, length-append, sym, ap}
 use Rattle.std.proofs.Common.{◌∙◌, arith}
-use Rattle.iloc_spec_grammar.specs.Syntax.{pieces, join, dashes}
+use Rattle.iloc_spec_grammar.specs.Syntax.{Text, pieces, join, dashes}
 use Rattle.iloc_spec_grammar.proofs.PartTexts.{join-dashes}
 use Rattle.iloc_spec_grammar.proofs.PiecesLaws.{at_pieces, join-pieces}
 use Rattle.iloc_told.specs.Told.{IsBeyond, IsNothingOnlyIf}
@@ -9,32 +9,32 @@ use Rattle.iloc_told.specs.declared.told.Told.{Told}
 use Rattle.iloc_told.specs.declared.told.Told.TheVariants as told
 
 -- a text has at most one piece more than bytes
-few_dashes : (ps : List (List ℕ)) → length ps ≤ length (dashes ps)
+few_dashes : (ps : List Text) → length ps ≤ length (dashes ps)
 few_dashes [] = omega arith
 few_dashes (p ∷ ps) =
     let more : length ps ≤ length (dashes ps) = few_dashes ps in
     let both : length (p ++ dashes ps) ≡ length p + length (dashes ps) = length-append p (dashes ps) in
     omega (arith, more, both)
 
-few_joined : (t p : List ℕ) (ps : List (List ℕ)) → join (p ∷ ps) ≡ t → length (p ∷ ps) ≤ length t + 1
+few_joined : (t p : Text) (ps : List Text) → join (p ∷ ps) ≡ t → length (p ∷ ps) ≤ length t + 1
 few_joined t p ps e =
     let whole : length (p ++ dashes ps) ≡ length t = ap length (sym (join-dashes p ps) ∙ e) in
     let both : length (p ++ dashes ps) ≡ length p + length (dashes ps) = length-append p (dashes ps) in
     let more : length ps ≤ length (dashes ps) = few_dashes ps in
     omega (arith, whole, both, more)
 
-pub few_pieces : (t : List ℕ) → length (pieces t) ≤ length t + 1
+pub few_pieces : (t : Text) → length (pieces t) ≤ length t + 1
 few_pieces t = at_pieces (λ ps. join ps ≡ t → length ps ≤ length t + 1) (few_joined t) t (join-pieces t)
 
 -- a short text is not beyond an outline
-pub not_beyond : (t : List ℕ) (room : ℕ) → length t ≤ 48 → 64 ≤ room → IsBeyond room t → ⊥
+pub not_beyond : (t : Text) (room : ℕ) → length t ≤ 48 → 64 ≤ room → IsBeyond room t → ⊥
 not_beyond t room short wide (inl many) =
     let few : length (pieces t) ≤ length t + 1 = few_pieces t in omega (arith, few, many, short)
 not_beyond t room short wide (inr (inl long)) = omega (arith, long, short)
 not_beyond t room short wide (inr (inr narrow)) = omega (arith, narrow, short, wide)
 
 -- so something is told of it
-pub few_told : (t : List ℕ) (room : ℕ) (Reason : Type 0) (told : Told) → length t ≤ 48 → 64 ≤ room
+pub few_told : (t : Text) (room : ℕ) (Reason : Type 0) (told : Told) → length t ≤ 48 → 64 ≤ room
     → IsNothingOnlyIf (IsBeyond room t) told → IsNothingOnlyIf Reason told
 few_told t room Reason (told.Normal n) short wide h = tt
 few_told t room Reason (told.Refused e) short wide h = tt

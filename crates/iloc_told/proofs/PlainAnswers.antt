@@ -3,7 +3,7 @@ use Rattle.std.proofs.Common.{suc, ◌≡◌, ◌≢◌, ℕ, ◌≤◌, List, [
 use Rattle.std.proofs.Common.{Result, IfSome, option_map, refl, sym, ap, ◌∙◌, arith, append-nil}
 use Rattle.std.specs.Prelude.{if◌then◌else◌, option_to_list, option_and_then}
 use Rattle.std.specs.Result.{result_ok}
-use Rattle.iloc_spec_grammar.specs.Syntax.{pieces, lower, join, Region, languages, Identifier}
+use Rattle.iloc_spec_grammar.specs.Syntax.{Text, pieces, lower, join, Region, languages, Identifier}
 use Rattle.iloc_spec_grammar.specs.Syntax.{identifier_pieces}
 use Rattle.iloc_spec_grammar.specs.Meaning.{IdentifierMeans, Means, without_extensions, no_extensions, Fault}
 use Rattle.iloc_spec_grammar.specs.Meaning.{set_of}
@@ -28,7 +28,7 @@ use Rattle.iloc_told.specs.declared.Mode.{Mode}
 use Rattle.iloc_told.specs.declared.Mode.TheVariants.{Langid, Locale, Data}
 
 -- an identifier alone is a locale without extensions
-pub means_alone : (t : List ℕ) (i : Identifier) → IdentifierMeans languages (pieces t) i →
+pub means_alone : (t : Text) (i : Identifier) → IdentifierMeans languages (pieces t) i →
     Means languages t (without_extensions i)
 means_alone t i m = means_by_tree languages_table t (without_extensions i) (record {
   written = record { id = m.written; extensions = []; private = None };
@@ -42,14 +42,14 @@ unfolding identifier_text extensions_spelling
 text_alone i = ap join (append-nil (identifier_pieces i))
 
 -- in another mode than that of data locales it means the identifier alone
-alone_normal : (t : List ℕ) (i : Identifier) → IdentifierMeans languages (pieces t) i → (mode : Mode) →
+alone_normal : (t : Text) (i : Identifier) → IdentifierMeans languages (pieces t) i → (mode : Mode) →
     mode ≢ Data → IsNormalText languages mode t (identifier_text i)
 alone_normal t i m Langid other = (i, m, refl)
 alone_normal t i m Locale other = (without_extensions i, means_alone t i m, sym (text_alone i))
 alone_normal t i m Data other = absurd (other refl)
 
 -- a whole region is printed as the region
-no_keyword : (r : Option (List ℕ)) → IfSome r (IsNormal Region) →
+no_keyword : (r : Option Text) → IfSome r (IsNormal Region) →
     subdivision_keyword (made_of [] None (option_map whole_region r) None) ≡ None
 no_keyword None h = refl
 no_keyword (Some r) h =
@@ -57,29 +57,29 @@ no_keyword (Some r) h =
     (λ s. if is_whole s then None else Some (subdivision_text (whole_region r))) (result_ok o))
     (subdivision_back (whole_region r) (whole_region_is r h))
 
-same_region : (r : Option (List ℕ)) →
+same_region : (r : Option Text) →
     option_map (λ (p : Subdivision). p.region) (option_map whole_region r) ≡ r
 same_region None = refl
 same_region (Some r) = refl
 
-one_set : (ws : List (List ℕ)) → length ws ≤ 1 → set_of (map lower ws) ≡ map lower ws
+one_set : (ws : List Text) → length ws ≤ 1 → set_of (map lower ws) ≡ map lower ws
 one_set [] l = refl
 one_set (w ∷ []) l = refl
 one_set (w ∷ v ∷ ws) l = absurd (omega arith)
 
-pub one_item : (ws : List (List ℕ)) → length ws ≤ 1 → option_to_list (first_item ws) ≡ ws
+pub one_item : (ws : List Text) → length ws ≤ 1 → option_to_list (first_item ws) ≡ ws
 one_item [] l = refl
 one_item (w ∷ []) l = refl
 one_item (w ∷ v ∷ ws) l = absurd (omega arith)
 
-length_lower : (ws : List (List ℕ)) → length (map lower ws) ≡ length ws
+length_lower : (ws : List Text) → length (map lower ws) ≡ length ws
 length_lower [] = refl
 length_lower (w ∷ ws) = ap suc (length_lower ws)
 
 -- an identifier with at most one variant
-module _ (t : List ℕ) (i : Identifier) (m : IdentifierMeans languages (pieces t) i)
+module _ (t : Text) (i : Identifier) (m : IdentifierMeans languages (pieces t) i)
     (f : length i.variants ≤ 1) where
-  abbrev pub variants : List (List ℕ)
+  abbrev pub variants : List Text
   variants = m.written.variants
 
   pub few : length variants ≤ 1
@@ -149,7 +149,7 @@ module _ (t : List ℕ) (i : Identifier) (m : IdentifierMeans languages (pieces 
   few_normal Locale = alone_normal t i m Locale (λ e. cc)
   few_normal Data = (data_of, data_means, sym data_text_is)
 
-pub plain_normal : (mode : Mode) (t : List ℕ) (p : Plain) → IsPlain t p →
+pub plain_normal : (mode : Mode) (t : Text) (p : Plain) → IsPlain t p →
     IsNormalText languages mode t (identifier_text (value_of p))
 unfolding plain_identifier
 plain_normal mode t p h = few_normal t (value_of p) h.means (omega arith) mode

@@ -6,7 +6,7 @@ use Rattle.iloc_lines.proofs.RunLemmas.{Replies-fed, Stands-end, Stands-end_part
 use Rattle.iloc_lines.proofs.RunLemmas.{Stands-kept, Stands-part, Stands-read, Stands-read_none}
 use Rattle.iloc_lines.proofs.RunLemmas.{Stands-written, on_err, on_err_then, on_ok_then}
 use Rattle.iloc_lines.specs.Answers.{output}
-use Rattle.iloc_spec_grammar.specs.Syntax.{languages}
+use Rattle.iloc_spec_grammar.specs.Syntax.{Text, languages}
 use Rattle.iloc_lines.proofs.run_with.Goals as goal
 
 pub returns-in_err-room-clause-err : goal.returns-in_err-room-clause-err
@@ -30,7 +30,7 @@ returns-then-count-eq0-clause-ok g c =
     let end = c.in-Ok.ensures.bytes.1 c.if-count-eq0.true room in
     let written : c.as_slice.result.now ≡ output languages g.A.Answers.mode c.reads.pending.items =
     c.as_slice.ensures ∙ c.in_ok-finish.ensures
-    ∙ ap (λ (t : List ℕ). t ++ output languages g.A.Answers.mode c.reads.pending.items) c.clear.ensures in
+    ∙ ap (λ (t : Text). t ++ output languages g.A.Answers.mode c.reads.pending.items) c.clear.ensures in
     on_ok_then _ _ _ c.write_whole.ensures.ok (λ took. Stands-end _ _ _ _ _ _ _ c.as_slice.result.now
     (Stands-read_none _ _ _ _ _ _ _ _ _ c.reads.invariant.stands c.in-Ok.ensures.bytes.0 c.if-count-eq0.true)
     end written took)
@@ -41,7 +41,7 @@ returns-then-count-eq0-clause-err g c =
     let end = c.in-Ok.ensures.bytes.1 c.if-count-eq0.true room in
     let written : c.as_slice.result.now ≡ output languages g.A.Answers.mode c.reads.pending.items =
     c.as_slice.ensures ∙ c.in_ok-finish.ensures
-    ∙ ap (λ (t : List ℕ). t ++ output languages g.A.Answers.mode c.reads.pending.items) c.clear.ensures in
+    ∙ ap (λ (t : Text). t ++ output languages g.A.Answers.mode c.reads.pending.items) c.clear.ensures in
     on_err_then _ _ _ c.write_whole.ensures.err
     (λ took. Stands-end_part _ _ _ _ _ _ _ c.as_slice.result.now took.written
     (Stands-read_none _ _ _ _ _ _ _ _ _ c.reads.invariant.stands c.in-Ok.ensures.bytes.0 c.if-count-eq0.true)
@@ -64,7 +64,7 @@ returns-in_err-write_whole-clause-err g c =
     (Stands-read _ _ _ _ _ _ _ piece c.reads.invariant.stands
     (subst (Consumes _ _) (sym given) c.in-Ok.ensures.bytes.0))
     fed took.bytes
-    (subst (λ (t : List ℕ). StartsWith t took.written) c.as_slice-in-reads.ensures took.begins))
+    (subst (λ (t : Text). StartsWith t took.written) c.as_slice-in-reads.ensures took.begins))
 
 pub reads-preserved : goal.reads-preserved
 reads-preserved g c =

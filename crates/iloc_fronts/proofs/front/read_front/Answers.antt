@@ -1,5 +1,5 @@
 use Rattle.std.proofs.Common.{◌≡◌, ℕ, List, take, subst, sym, ap, ◌∙◌}
-use Rattle.iloc_spec_grammar.specs.Syntax.{Language, IsWord, is_word, languages, first_piece, pieces}
+use Rattle.iloc_spec_grammar.specs.Syntax.{Text, Language, IsWord, is_word, languages, first_piece, pieces}
 use Rattle.iloc_spec_grammar.specs.Reading.{after_region}
 use Rattle.iloc_fronts.specs.Front.{GoesOnAs}
 use Rattle.iloc_fronts.specs.Left.{pieces_of}
@@ -26,8 +26,8 @@ returns-in-Some c =
     ∙ c.if-not-is_language.false in
     let next : pieces_of c.in-Some.next ≡ after_region (pieces_of l) = c.in-Some.ensures.pieces in
     is_front (take c.args.len c.args.window.now) c.after_region.result
-    (subst (λ (ps : List (List ℕ)). IsWord (Language languages) (first_piece ps)) same language)
-    (subst (λ (ps : List (List ℕ)). GoesOnAs ps c.after_region.result) (next ∙ ap after_region same)
+    (subst (λ (ps : List Text). IsWord (Language languages) (first_piece ps)) same language)
+    (subst (λ (ps : List Text). GoesOnAs ps c.after_region.result) (next ∙ ap after_region same)
     c.after_region.ensures)
 
 pub returns-in-None : goal.returns-in-None
@@ -38,4 +38,4 @@ returns-in-None c =
     let language : IsWord (Language languages) (first_piece (pieces_of l)) =
     first_word l c.left_in-left.ensures.left (Language languages) short_language ∙ sym c.is_language.ensures
     ∙ c.if-not-is_language.false in
-    (subst (λ (ps : List (List ℕ)). IsWord (Language languages) (first_piece ps)) same language, tt)
+    (subst (λ (ps : List Text). IsWord (Language languages) (first_piece ps)) same language, tt)

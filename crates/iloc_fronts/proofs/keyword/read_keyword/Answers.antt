@@ -1,7 +1,7 @@
 use Rattle.std.proofs.Common.{◌≡◌, ◌≤◌, ◌+◌, ◌-◌, ℕ, List, length, take, drop, get_or, subst, sym, ap, ◌∙◌}
 use Rattle.std.proofs.Common.{arith}
 use Rattle.std.proofs.lemmas.List.{drop-take, length-take-le, take-take}
-use Rattle.iloc_spec_grammar.specs.Syntax.{pieces}
+use Rattle.iloc_spec_grammar.specs.Syntax.{Text, pieces}
 use Rattle.iloc_spec_grammar.specs.Reading.{rest_of}
 use Rattle.iloc_fronts.specs.Keyword.{IsKeywordOf}
 use Rattle.iloc_fronts.proofs.KeyLemmas.{after_one}
@@ -16,6 +16,6 @@ returns c =
     let same : drop 2 (take len w) ≡ take (len - 2) (take (length w - 2) (drop 2 w)) =
     ap (λ (m : ℕ). drop 2 (take m w)) split ∙ drop-take 2 (len - 2) w
     ∙ sym (take-take (len - 2) (length w - 2) (drop 2 w) (omega arith)) in
-    subst (λ (ps : List (List ℕ)). IsKeywordOf ps c.keyword_of.result)
+    subst (λ (ps : List Text). IsKeywordOf ps c.keyword_of.result)
     (sym (ap rest_of (after_one (get_or w 0 0) (take len w) long c.requires.singleton) ∙ ap pieces same))
     c.keyword_of.ensures

@@ -2,6 +2,7 @@ use Rattle.std.proofs.Common.{◌≡◌, ◌+◌, ◌*◌, ℕ, ◌<◌, ◌==�
 use Rattle.std.proofs.lemmas.Bool.{cases_Bool, eqb-true, eqb-false}
 use Rattle.iloc_fronts.proofs.WordBytes.{no_true, true_bytes, true_here, same_letter, folded_fits}
 use Rattle.iloc_fronts.proofs.words.is_true.Goals as goal
+use Rattle.iloc_spec_grammar.specs.Syntax.{code_u, code_t}
 
 pub returns-then-n-ne4 : goal.returns-then-n-ne4
 returns-then-n-ne4 c =
@@ -14,7 +15,7 @@ four a b c d = (a + 256 * b) + 65536 * (c + 256 * d)
 
 -- which are those of `true`
 apart : (a b c d : ℕ) → a < 256 → b < 256 → c < 256 → d < 256 → four a b c d ≡ 1702195828 →
-    (a ≡ 116) × (b ≡ 114) × (c ≡ 117) × (d ≡ 101)
+    (a ≡ code_t) × (b ≡ 114) × (c ≡ code_u) × (d ≡ 101)
 apart a b c d k l m n e = (
   omega (arith, k, l, m, n, e),
   omega (arith, k, l, m, n, e),
@@ -26,9 +27,9 @@ pub returns : goal.returns
 returns c =
     let w = c.args.window.now in
     let byte : (i : ℕ) → get_or w i 0 < 256 = λ i. (c.type_inv.window i).fits in
-    let t = same_letter 116 refl refl (get_or w 0 0) (byte 0) in
+    let t = same_letter code_t refl refl (get_or w 0 0) (byte 0) in
     let r = same_letter 114 refl refl (get_or w 1 0) (byte 1) in
-    let u = same_letter 117 refl refl (get_or w 2 0) (byte 2) in
+    let u = same_letter code_u refl refl (get_or w 2 0) (byte 2) in
     let e = same_letter 101 refl refl (get_or w 3 0) (byte 3) in
     let fits : (i : ℕ) → bit_or (get_or w i 0) 32 < 256 = λ i. folded_fits (get_or w i 0) (byte i) in
     let number : ℕ = four (bit_or (get_or w 0 0) 32) (bit_or (get_or w 1 0) 32) (bit_or (get_or w 2 0) 32)

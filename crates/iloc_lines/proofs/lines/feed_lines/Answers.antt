@@ -6,7 +6,7 @@ use Rattle.iloc_lines.specs.Lines.{IsOneLine}
 use Rattle.std.proofs.lemmas.Bool.Decides.{nat_tests}
 use Rattle.std.proofs.lemmas.List.{drop-drop, length-drop, take_all}
 use Rattle.std.proofs.lemmas.List.Elements.{All-nil}
-use Rattle.iloc_spec_grammar.specs.Syntax.{languages}
+use Rattle.iloc_spec_grammar.specs.Syntax.{Text, languages}
 use Rattle.iloc_spec_grammar.specs.Values.{identifier_text}
 use Rattle.iloc_plain.specs.Plain.{value_of}
 use Rattle.iloc_lines.proofs.LineCuts.{output-cut}
@@ -45,14 +45,14 @@ lines-preserved g c =
     elim c.if-later-lt16.branch [
       | then-later-lt16+else-is_empty+in_ok-reply w ↦
           ap held w.replies-is ∙ w.in_ok-reply.ensures
-          ∙ ap (λ (t : List ℕ). held c.lines.replies ++ reply languages mode t) c.split_at.ensures.front
+          ∙ ap (λ (t : Text). held c.lines.replies ++ reply languages mode t) c.split_at.ensures.front
       | else-later-lt16+then-not-may_begin+in_ok-write_refusal w ↦
           ap held w.replies-is ∙ w.in_ok-write_refusal.ensures.text
-          ∙ ap (λ (t : List ℕ). held c.lines.replies ++ t) (refused_reply mode line InvalidLanguage
+          ∙ ap (λ (t : Text). held c.lines.replies ++ t) (refused_reply mode line InvalidLanguage
           (no_language_refused mode line (w.may_begin.ensures w.if-not-may_begin.true)))
       | else-later-lt16+else-not-may_begin+in-Some+in_ok-push_plain w ↦
           ap held w.replies-is ∙ w.in_ok-push_plain.ensures
-          ∙ ap (λ (t : List ℕ). held c.lines.replies ++ t)
+          ∙ ap (λ (t : Text). held c.lines.replies ++ t)
           (normal_reply mode line (identifier_text (value_of w.in-Some.plain))
           (plain_normal mode line w.in-Some.plain w.in-Some.ensures))
       | else-later-lt16+else-not-may_begin+in_default+in_ok-reply_to w ↦
@@ -64,7 +64,7 @@ lines-preserved g c =
     ∙ ap (drop 1) back ∙ drop-drop 1 end rest in
     record {
       ahead = λ next. c.lines.invariant.ahead next
-          ∙ ap (λ (t : List ℕ). held c.lines.replies ++ t)
+          ∙ ap (λ (t : Text). held c.lines.replies ++ t)
           (output-cut languages mode [] rest line later next (All-nil (λ (b : ℕ). b ≢ 10)) ends.before
           (ends.newline less))
           ∙ sym (append_assoc (held c.lines.replies) (reply languages mode line)
@@ -83,7 +83,7 @@ returns-clause-one_line g c =
     grown c.extend_from_slice.result c.extend_from_slice.new.self.items c.args.pending.now.items rest
     c.extend_from_slice.ensures.items c.requires whole
   where
-    grown : {T E : Type 0} (r : Result T E) (new old more : List ℕ) →
+    grown : {T E : Type 0} (r : Result T E) (new old more : Text) →
         new ≡ (if is_ok r then old ++ more else old) → old ≡ [] → IsOneLine more → OnOk r (IsOneLine new)
-    grown (Ok x) new old more e none h = subst IsOneLine (sym (e ∙ ap (λ (t : List ℕ). t ++ more) none)) h
+    grown (Ok x) new old more e none h = subst IsOneLine (sym (e ∙ ap (λ (t : Text). t ++ more) none)) h
     grown (Err x) new old more e none h = tt

@@ -7,13 +7,14 @@ use Rattle.iloc_told.specs.declared.writing.Written.{Written}
 use Rattle.iloc_told.specs.Told.{HasRefusal}
 use Rattle.iloc_lines.proofs.PlainLemmas.{normal_reply, refused_reply}
 use Rattle.iloc_lines.proofs.lines.reply_to.Goals as goal
+use Rattle.iloc_spec_grammar.specs.Syntax.{Text}
 
 pub returns-in-Refused : goal.returns-in-Refused
 returns-in-Refused g c =
     let mode = g.A.Answers.mode in
     let line = take c.args.len c.args.window.now in
     let told : HasRefusal mode line c.in-Refused.error = c.in-Refused.ensures in
-    subst (λ (t : List ℕ).
+    subst (λ (t : Text).
     OnOk c.write_refusal.result (held c.write_refusal.new.replies ≡ held c.args.replies.now ++ t))
     (refused_reply mode line c.in-Refused.error told) c.write_refusal.ensures.text
 
@@ -27,7 +28,7 @@ returns-in-Normal g c =
     subst (λ (m : Mode). IsReplied m line before after c.in_ok-push_told.field-0) c.mode.ensures
     c.in_ok-push_told.ensures in
     let is = subst (λ (w : Written). IsReplied mode line before after w) c.in-Normal.is told in
-    is.2 ∙ ap (λ (t : List ℕ). before ++ t) (normal_reply mode line is.0 is.1)
+    is.2 ∙ ap (λ (t : Text). before ++ t) (normal_reply mode line is.0 is.1)
 
 pub returns-in-Refused-2 : goal.returns-in-Refused-2
 returns-in-Refused-2 g c =
@@ -39,9 +40,9 @@ returns-in-Refused-2 g c =
     subst (λ (m : Mode). IsReplied m line before after c.in_ok-push_told.field-0) c.mode.ensures
     c.in_ok-push_told.ensures in
     let is = subst (λ (w : Written). IsReplied mode line before after w) c.in-Refused-2.is told in
-    subst (λ (t : List ℕ).
+    subst (λ (t : Text).
     OnOk c.write_refusal-in-Refused-2.result (held c.write_refusal-in-Refused-2.new.replies ≡ before ++ t))
     (refused_reply mode line c.in-Refused-2.error is.0)
-    (subst (λ (t : List ℕ). OnOk c.write_refusal-in-Refused-2.result
+    (subst (λ (t : Text). OnOk c.write_refusal-in-Refused-2.result
     (held c.write_refusal-in-Refused-2.new.replies ≡ t ++ (refusal_text c.in-Refused-2.error ++ 10 ∷ [])))
     is.1 c.write_refusal-in-Refused-2.ensures.text)

@@ -2,7 +2,7 @@
 use Rattle.std.proofs.Common.{◌≡◌, List, ℕ, ◌≤◌, ◌++◌, length, take, sym, ap, subst, ◌∙◌, arith}
 use Rattle.std.proofs.Common.{length-append}
 use Rattle.std.proofs.lemmas.List.{take-append-le}
-use Rattle.iloc_spec_grammar.specs.Syntax.{Language, languages, first_piece, is_word, pieces}
+use Rattle.iloc_spec_grammar.specs.Syntax.{Text, Language, languages, first_piece, is_word, pieces}
 use Rattle.iloc_fronts.specs.Front.{IsFirst}
 use Rattle.iloc_fronts.proofs.FrontLemmas.{short_language, word_of_first}
 use Rattle.iloc_outline.proofs.outline.begins_with_language.Goals as goal
@@ -15,9 +15,9 @@ returns c =
     let many : 16 ≤ length w = omega (arith, c.if-window-lt16.false) in
     let wide : take k (w ++ w) ≡ take k w = take-append-le k w w c.requires in
     let first : IsFirst (take k (w ++ w)) n =
-    subst (λ (x : List ℕ). IsFirst x n) (sym wide) c.first_len.ensures in
+    subst (λ (x : Text). IsFirst x n) (sym wide) c.first_len.ensures in
     let is : is_word (Language languages) (first_piece (pieces (take k w))) ≡ c.is_language.result =
-    ap (λ (x : List ℕ). is_word (Language languages) (first_piece (pieces x))) (sym wide)
+    ap (λ (x : Text). is_word (Language languages) (first_piece (pieces x))) (sym wide)
     ∙ word_of_first (w ++ w) k n (omega (arith, c.requires, many, length-append w w)) first
     (Language languages) short_language
     ∙ ap (is_word (Language languages)) (take-append-le n w w (omega (arith, first.few, many)))

@@ -1,6 +1,6 @@
 use Rattle.std.proofs.Common.{◌≡◌, ◌≤◌, ◌-◌, List, ℕ, length, take, drop, sym, ap, subst, ◌∙◌, arith}
 use Rattle.std.proofs.lemmas.List.{length-drop, length-take-le, take-take, take_all}
-use Rattle.iloc_spec_grammar.specs.Syntax.{letters_or_digits}
+use Rattle.iloc_spec_grammar.specs.Syntax.{Text, letters_or_digits}
 use Rattle.iloc_fronts.specs.Words.{word_number}
 use Rattle.iloc_pieces.proofs.WordNumbers.{Bytes, bytes_take, bytes_drop, highest_first, number_is}
 use Rattle.iloc_pieces.proofs.left.number_at.Goals as goal
@@ -20,7 +20,7 @@ returns-in-Some c =
     let long : length (take n u) ≡ n = length-take-le n u (omega (arith, length-drop c.args.at w)) in
     let few : n ≤ 8 = omega (arith, c.requires.word.few) in
     let bytes : Bytes z =
-    subst (λ (p : List ℕ). Bytes p) (sym is)
+    subst (λ (p : Text). Bytes p) (sym is)
     (bytes_take 8 u (bytes_drop c.args.at w (λ i. (c.type_inv.window i).fits))) in
     let front : take n z ≡ take n u = ap (take n) is ∙ take-take n 8 u few in
     number_is z n _ eight few bytes (ap letters_or_digits front ∙ c.requires.word.bytes)

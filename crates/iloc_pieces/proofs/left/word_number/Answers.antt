@@ -2,6 +2,7 @@ use Rattle.std.proofs.Common.{List, ℕ, sym, ap, subst, ◌∙◌, arith}
 use Rattle.iloc_fronts.specs.Words.{IsUpToEight, word_number}
 use Rattle.iloc_pieces.proofs.LeftLemmas.{length_piece, piece_inside, short_bytes}
 use Rattle.iloc_pieces.proofs.left.word_number.Goals as goal
+use Rattle.iloc_spec_grammar.specs.Syntax.{Text}
 
 pub number_at-requires-clause-inside : goal.number_at-requires-clause-inside
 number_at-requires-clause-inside c =
@@ -9,7 +10,7 @@ number_at-requires-clause-inside c =
 
 pub number_at-requires-clause-word : goal.number_at-requires-clause-word
 number_at-requires-clause-word c =
-    subst (λ (p : List ℕ). IsUpToEight p)
+    subst (λ (p : Text). IsUpToEight p)
     (sym (short_bytes c.requires.left c.requires.word.few)) c.requires.word
 
 pub returns : goal.returns

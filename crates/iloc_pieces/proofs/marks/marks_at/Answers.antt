@@ -4,6 +4,7 @@ use Rattle.std.proofs.lemmas.List.{length-append, length-drop, length-take-le, t
 use Rattle.std.proofs.lemmas.List.{take_all}
 use Rattle.iloc_pieces.specs.Marks.{AreMarks, closed}
 use Rattle.iloc_pieces.proofs.marks.marks_at.Goals as goal
+use Rattle.iloc_spec_grammar.specs.Syntax.{Text}
 
 pub returns-then-left-lt16 : goal.returns-then-left-lt16
 returns-then-left-lt16 c =
@@ -20,7 +21,7 @@ returns-then-left-lt16 c =
       known = c.args.left + 1;
       few = omega arith;
       enough = inr long;
-      marks = subst (λ (t : List ℕ). AreMarks t c.closed_at.result) all
+      marks = subst (λ (t : Text). AreMarks t c.closed_at.result) all
           (c.closed_at.ensures v (omega (arith, c.load_at.ensures.wide)) c.marks_of-marks.ensures);
     }
 
@@ -39,5 +40,5 @@ returns-else-left-lt16 c =
       known = 16;
       few = omega arith;
       enough = inl (omega arith);
-      marks = subst (λ (t : List ℕ). AreMarks t c.marks_of-marks.result) all c.marks_of-marks.ensures;
+      marks = subst (λ (t : Text). AreMarks t c.marks_of-marks.result) all c.marks_of-marks.ensures;
     }

@@ -1,6 +1,6 @@
 use Rattle.std.proofs.Common.{◌≡◌, ◌-◌, ℕ, List, Option, IfSome, inl, inr, refl, subst, take, drop, ap, ◌∙◌}
 use Rattle.std.specs.Cmp.Lexicographic.{texts_ties}
-use Rattle.iloc_spec_grammar.specs.Syntax.{is_same, upper}
+use Rattle.iloc_spec_grammar.specs.Syntax.{Text, is_same, upper}
 use Rattle.iloc_told.proofs.Named.{put_all, put_head, put_part, put_whole}
 use Rattle.iloc_told.proofs.data_writing.write_named.Goals as goal
 use Rattle.iloc_told.proofs.data_writing.write_named.Goals.{
@@ -33,7 +33,7 @@ returns-then-not-is_same-clause-put c =
     let front = c.args.head.now.front.end in
     let v = c.args.value.now in
     let piece : c.unwrap.result ≡ take (front - start) (drop start w) =
-    subst (λ (o : Option (List ℕ)). IfSome o (λ p. p ≡ take (front - start)
+    subst (λ (o : Option Text). IfSome o (λ p. p ≡ take (front - start)
     (drop start w))) c.unwrap.ensures c.of.ensures.short in
     let agrees = c.eq-is_same.ensures ∙ texts_ties c.to_ascii_uppercase-region.result c.region_of.result
     ∙ ap (is_same c.to_ascii_uppercase-region.result) c.region_of.ensures in
@@ -60,7 +60,7 @@ returns-clause-put c =
     let front = c.args.head.now.front.end in
     let v = c.args.value.now in
     let piece : c.unwrap.result ≡ take (front - start) (drop start w) =
-    subst (λ (o : Option (List ℕ)). IfSome o (λ p. p ≡ take (front - start)
+    subst (λ (o : Option Text). IfSome o (λ p. p ≡ take (front - start)
     (drop start w))) c.unwrap.ensures c.of.ensures.short in
     let agrees = c.eq-is_same.ensures ∙ texts_ties c.to_ascii_uppercase-region.result c.region_of.result
     ∙ ap (is_same c.to_ascii_uppercase-region.result) c.region_of.ensures in

@@ -1,6 +1,6 @@
 use Rattle.std.proofs.Common.{List, ℕ, sym, subst, ◌∙◌, true≢false, IfSome}
 use Rattle.std.specs.Str.{IsUtf8}
-use Rattle.iloc_spec_grammar.specs.Syntax.{languages}
+use Rattle.iloc_spec_grammar.specs.Syntax.{Text, languages}
 use Rattle.iloc_plain.specs.Normal.{IsToldPlain}
 use Rattle.iloc_plain.specs.Plain.{value_of}
 use Rattle.iloc_told.specs.Modes.{IsNormalText}
@@ -11,7 +11,7 @@ use Rattle.iloc_told.proofs.normal_text.normalize_short.Goals as goal
 
 pub from_utf8_unchecked-requires : goal.from_utf8_unchecked-requires
 from_utf8_unchecked-requires c =
-    let h = subst (λ (t : List ℕ). IsToldPlain t c.in-Some.told) c.load-lanes.ensures c.in-Some.ensures in
+    let h = subst (λ (t : Text). IsToldPlain t c.in-Some.told) c.load-lanes.ensures c.in-Some.ensures in
     subst IsUtf8 (sym (h.exactly.0 c.if-told.true))
     (identifier_utf8 (value_of c.in-Some.told.plain) h.plain.value)
 
@@ -22,7 +22,7 @@ own_front-requires-clause-utf8 c =
 
 pub returns-then-told : goal.returns-then-told
 returns-then-told c =
-    let h = subst (λ (t : List ℕ). IsToldPlain t c.in-Some.told) c.load-lanes.ensures c.in-Some.ensures in
+    let h = subst (λ (t : Text). IsToldPlain t c.in-Some.told) c.load-lanes.ensures c.in-Some.ensures in
     let same = c.from_utf8_unchecked.ensures ∙ h.exactly.0 c.if-told.true in
     λ mode. (
       subst (IsNormalText languages mode c.args.input.now) (sym same)
@@ -32,7 +32,7 @@ returns-then-told c =
 
 pub returns-in-Ok : goal.returns-in-Ok
 returns-in-Ok c =
-    let h = subst (λ (t : List ℕ). IsToldPlain t c.in-Some.told) c.load-lanes.ensures c.in-Some.ensures in
+    let h = subst (λ (t : Text). IsToldPlain t c.in-Some.told) c.load-lanes.ensures c.in-Some.ensures in
     let owned = c.in-Ok.ensures ∙ h.plain.words.normal in
     λ mode. (
       subst (IsNormalText languages mode c.args.input.now) (sym owned)
@@ -42,7 +42,7 @@ returns-in-Ok c =
 
 pub returns-in-Err : goal.returns-in-Err
 returns-in-Err c =
-    let h = subst (λ (t : List ℕ). IsToldPlain t c.in-Some.told) c.load-lanes.ensures c.in-Some.ensures in
+    let h = subst (λ (t : Text). IsToldPlain t c.in-Some.told) c.load-lanes.ensures c.in-Some.ensures in
     λ mode. (
       _,
       plain_normal mode c.args.input.now c.in-Some.told.plain h.plain,
@@ -51,5 +51,5 @@ returns-in-Err c =
 
 pub returns-in_default : goal.returns-in_default
 returns-in_default c =
-    λ mode. subst (λ (t : List ℕ). IfSome c.refuse_short.result (IsNormalizedAs mode t)) c.load-lanes.ensures
+    λ mode. subst (λ (t : Text). IfSome c.refuse_short.result (IsNormalizedAs mode t)) c.load-lanes.ensures
     (c.refuse_short.ensures mode)

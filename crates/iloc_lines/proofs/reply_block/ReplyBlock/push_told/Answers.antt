@@ -3,6 +3,7 @@ use Rattle.std.proofs.Common.{append_assoc}
 use Rattle.std.proofs.lemmas.List.{length-drop, length-take-le}
 use Rattle.iloc_lines.proofs.BlockLemmas.{counted}
 use Rattle.iloc_lines.proofs.reply_block.ReplyBlock.push_told.Goals as goal
+use Rattle.iloc_spec_grammar.specs.Syntax.{Text}
 
 pub returns-in-Normal : goal.returns-in-Normal
 returns-in-Normal c =
@@ -21,7 +22,7 @@ returns-in-Normal c =
     (omega (arith, long, same, c.in_ok-make_room.ensures.room)) (omega (arith, w.0, w.1)) in (
       take n to,
       w.2,
-      after ∙ ap (λ (t : List ℕ). t ++ 10 ∷ []) stored
+      after ∙ ap (λ (t : Text). t ++ 10 ∷ []) stored
           ∙ append_assoc (take start room.items) (take n to) (10 ∷ [])
-          ∙ ap (λ (t : List ℕ). t ++ (take n to ++ 10 ∷ [])) c.make_room.ensures.held,
+          ∙ ap (λ (t : Text). t ++ (take n to ++ 10 ∷ [])) c.make_room.ensures.held,
     )
