@@ -1,24 +1,20 @@
 -- From the first piece of a line to what stands at its front.
-use Rattle.std.proofs.Common.{◌≡◌, ◌≢◌, ℕ, zero, suc, ◌+◌, ◌-◌, ◌<◌, ◌≤◌, ◌==◌, Bool, true, false, cond, not}
+use Rattle.std.proofs.Common.{◌≡◌, ◌≢◌, ℕ, zero, suc, ◌+◌, ◌-◌, ◌<◌, ◌≤◌, Bool, true, false, cond, not}
 use Rattle.std.proofs.Common.{◌&&◌, List, [], ◌∷◌, length, get_or, take, drop, refl, sym, ap, ◌∙◌, subst}
 use Rattle.std.proofs.Common.{arith, inl, inr}
 use Rattle.std.specs.List.{slice_split, onto_first, list_all}
 use Rattle.std.proofs.lemmas.Bool.{cases_lt, cases_Bool}
-use Rattle.std.proofs.lemmas.Bool.Decides.{nat_tests}
 use Rattle.std.proofs.lemmas.List.{get_or-take, length-drop, length-take-le, take-take, drop-take}
 use Rattle.std.proofs.lemmas.List.Splits.{slice_split-cons_yes, slice_split-cons_no}
-use Rattle.iloc_spec_grammar.specs.Syntax.{Text, pieces, first_piece, Kind, Attribute, Language, Script, Region}
-use Rattle.iloc_spec_grammar.specs.Syntax.{UnicodeKey, Variant, is_word, IsWord, is_true, lower, languages}
+use Rattle.iloc_spec_grammar.specs.Syntax.{Text, pieces, first_piece, Kind, Attribute, Language}
+use Rattle.iloc_spec_grammar.specs.Syntax.{UnicodeKey, is_word, IsWord, is_true, lower, languages}
 use Rattle.iloc_spec_grammar.specs.Meaning.{normal_values}
-use Rattle.iloc_spec_grammar.specs.Reading.{past, skip_first, starts_block, after_region}
 use Rattle.iloc_spec_grammar.proofs.PiecesLaws.{at_pieces}
-use Rattle.iloc_spec_grammar.proofs.WordsLaws.{length-language, length-script, length-region, length-variant}
+use Rattle.iloc_spec_grammar.proofs.WordsLaws.{length-language}
 use Rattle.iloc_spec_grammar.proofs.WordsLaws.{length-attribute, length-unicode_key}
 use Rattle.iloc_spec_grammar.proofs.RawLaws.{languages_table}
 use Rattle.iloc_fronts.specs.Run.{IsRun, is_hyphen, fails}
-use Rattle.iloc_fronts.specs.Front.{IsFirst, GoesOnAs, IsFront}
-use Rattle.iloc_fronts.specs.declared.front.Front.{Front}
-use Rattle.iloc_fronts.specs.declared.front.Front.TheVariants as front
+use Rattle.iloc_fronts.specs.Front.{IsFirst}
 
 -- ---- the first piece, by the bytes before the first hyphen
 
@@ -133,20 +129,11 @@ IsShort k = (p : Text) → IsWord k p → length p ≤ 8
 pub short_language : IsShort (Language languages)
 short_language p h = languages_table.most (length p) (length-language languages p h)
 
-pub short_script : IsShort Script
-short_script p h = omega (arith, length-script p h)
-
-pub short_region : IsShort Region
-short_region p h = omega (arith, (length-region p h).1)
-
 pub short_key : IsShort UnicodeKey
 short_key p h = omega (arith, length-unicode_key p h)
 
 pub short_attribute : IsShort Attribute
 short_attribute p h = (length-attribute p h).1
-
-pub short_variant : IsShort Variant
-short_variant p h = (length-variant p h).1
 
 pub too_long : (k : Kind) → IsShort k → (p : Text) → 8 < length p → is_word k p ≡ false
 too_long k short p more = elim (cases_Bool (is_word k p)) [
@@ -238,66 +225,3 @@ module _ (w : Text) (len n : ℕ) (room : len + 16 ≤ length w) (first : IsFirs
       let dropped : length (drop (n + 1) w) ≡ length w - (n + 1) = length-drop (n + 1) w in
       let enough : length w - (n + 1) ≤ length (drop (n + 1) w) = omega arith in
       omega (arith, length-take-le (length w - (n + 1)) (drop (n + 1) w) enough, inside)
-
-  pub skips_none : (k : Kind) → IsShort k → is_word k (take n w) ≡ false →
-      skip_first (is_word k) (pieces text) ≡ pieces text
-  skips_none k short fails = by (word_of_first k short ∙ fails)
-    where
-      by : is_word k (first_piece (pieces text)) ≡ false → skip_first (is_word k) (pieces text) ≡ pieces text
-      by = at_pieces (λ ps. is_word k (first_piece ps) ≡ false → skip_first (is_word k) ps ≡ ps)
-          (λ p ps e. ap (λ (b : Bool). cond b ps (p ∷ ps)) e) text
-
-  pub passes_none : (k : Kind) → IsShort k → is_word k (take n w) ≡ false →
-      past (is_word k) (pieces text) ≡ pieces text
-  passes_none k short fails = by (word_of_first k short ∙ fails)
-    where
-      by : is_word k (first_piece (pieces text)) ≡ false → past (is_word k) (pieces text) ≡ pieces text
-      by = at_pieces (λ ps. is_word k (first_piece ps) ≡ false → past (is_word k) ps ≡ ps)
-          (λ p ps e. ap (λ (b : Bool). cond b (past (is_word k) ps) (p ∷ ps)) e) text
-
-  pub skips_one : (k : Kind) → IsShort k → is_word k (take n w) ≡ true → n ≢ len
-      → skip_first (is_word k) (pieces text) ≡ pieces (next)
-  skips_one k short fits more =
-      ap (skip_first (is_word k)) (after_word k short fits more)
-      ∙ ap (λ (b : Bool). cond b (pieces (next)) (take n w ∷ pieces (next))) fits
-
-  pub passes_one : (k : Kind) → IsShort k → is_word k (take n w) ≡ true → n ≢ len
-      → past (is_word k) (pieces text) ≡ past (is_word k) (pieces (next))
-  passes_one k short fits more =
-      ap (past (is_word k)) (after_word k short fits more)
-      ∙ ap (λ (b : Bool). cond b (past (is_word k) (pieces (next))) (take n w ∷ pieces (next))) fits
-
-  -- a first piece of another length begins no block
-  pub begins_none : n ≢ 1 → starts_block (pieces text) ≡ false
-  begins_none other = by first_length
-    where
-      first_length : (length (first_piece (pieces text)) == 1) ≡ false
-      first_length = elim (cases_lt n 16) [
-        | inl less ↦ ap (λ p. length p == 1) (short_first less)
-            ∙ ap (λ m. m == 1) (length-take-le n w (omega (arith, inside))) ∙ grind (arith, nat_tests)
-        | inr more ↦
-            let sixteen : n ≡ 16 = omega (arith, first.few) in
-            let many : 16 ≤ length (first_piece (pieces text)) = first.long sixteen in
-            grind (arith, nat_tests)
-      ]
-
-      by : (length (first_piece (pieces text)) == 1) ≡ false → starts_block (pieces text) ≡ false
-      by = at_pieces (λ ps. (length (first_piece ps) == 1) ≡ false → starts_block ps ≡ false) (λ p ps e. e)
-          text
-
-  pub one_byte : n ≡ 1 → first_piece (pieces text) ≡ get_or w 0 0 ∷ []
-  one_byte one = short_first (omega arith) ∙ ap (λ (m : ℕ). take m w) one ∙ front w (omega arith)
-    where
-      front : (v : Text) → 1 ≤ length v → take 1 v ≡ get_or v 0 0 ∷ []
-      front [] l = absurd (omega arith)
-      front (b ∷ v) l = refl
-
--- what is so of the pieces after a language is so of the text
-pub is_front : (t : Text) (f : Front) → IsWord (Language languages) (first_piece (pieces t))
-    → GoesOnAs (after_region (pieces t)) f → IsFront t f
-is_front t front.NoLanguage l g = absurd (g tt)
-is_front t front.Misfit l g = (l, g)
-is_front t (front.Block b) l g = (l, g)
-is_front t front.Other l g = (l, g)
-is_front t (front.Variant n) l g = (l, g)
-is_front t (front.Variants n) l g = (l, g)

@@ -2,7 +2,6 @@ pub mod RunLemmas
 pub mod RunWords
 pub mod FrontLemmas
 pub mod SingleLemmas
-pub mod LeftLemmas
 pub mod AttributeLemmas
 pub mod KeyLemmas
 pub mod WordBytes

@@ -1,14 +1,14 @@
 -- Whether bytes that come first are all of a class.
-use Rattle.std.proofs.Common.{◌≡◌, ℕ, zero, suc, ◌<◌, ◌≤◌, ◌==◌, Bool, true, false, ◌&&◌, ◌||◌, nat_le, List}
+use Rattle.std.proofs.Common.{◌≡◌, ℕ, zero, suc, ◌<◌, ◌≤◌, ◌==◌, Bool, true, false, ◌&&◌, nat_le}
 use Rattle.std.proofs.Common.{[], ◌∷◌, length, get_or, take, refl, sym, ap, ◌∙◌, arith, inl, inr}
 use Rattle.std.specs.List.{list_all}
 use Rattle.std.specs.Int.{is_in_range}
-use Rattle.std.specs.Char.{is_ascii_alphabetic, is_ascii_alphanumeric, is_ascii_digit}
+use Rattle.std.specs.Char.{is_ascii_alphabetic, is_ascii_alphanumeric}
 use Rattle.std.proofs.lemmas.Bool.{cases_lt}
 use Rattle.std.proofs.lemmas.Bool.Decides.{nat_tests}
 use Rattle.std.proofs.lemmas.List.{length-take-le}
-use Rattle.iloc_spec_grammar.specs.Syntax.{Text, Attribute, Language, Script, Region, UnicodeKey, Variant, is_word}
-use Rattle.iloc_spec_grammar.specs.Syntax.{letters, digits, letters_or_digits, languages}
+use Rattle.iloc_spec_grammar.specs.Syntax.{Text, Attribute, Language, UnicodeKey, is_word}
+use Rattle.iloc_spec_grammar.specs.Syntax.{letters, letters_or_digits, languages}
 use Rattle.iloc_fronts.specs.Run.{IsRun}
 
 pub all_pass : (p : ℕ → Bool) (n : ℕ) (w : Text) → n ≤ length w →
@@ -50,22 +50,6 @@ module _ (w : Text) (n : ℕ) (wide : 16 ≤ length w) (few : n ≤ 16) where
   pub language_is : is_word (Language languages) (take n w) ≡ languages n && letters (take n w)
   unfolding is_word
   language_is = ap (λ m. languages m && letters (take n w)) long
-
-  pub script_is : is_word Script (take n w) ≡ (n == 4) && letters (take n w)
-  unfolding is_word
-  script_is = ap (λ m. (m == 4) && letters (take n w)) long
-
-  pub region_is : is_word Region (take n w)
-      ≡ ((n == 2) && letters (take n w)) || ((n == 3) && digits (take n w))
-  unfolding is_word
-  region_is = ap (λ m. ((m == 2) && letters (take n w)) || ((m == 3) && digits (take n w))) long
-
-  pub variant_is : is_word Variant (take n w)
-      ≡ (is_in_range 5 8 n || ((n == 4) && is_ascii_digit (get_or (take n w) 0 0)))
-      && letters_or_digits (take n w)
-  unfolding is_word
-  variant_is = ap (λ m. (is_in_range 5 8 m || ((m == 4) && is_ascii_digit (get_or (take n w) 0 0)))
-      && letters_or_digits (take n w)) long
 
   pub key_is : is_word UnicodeKey (take n w)
       ≡ (n == 2)

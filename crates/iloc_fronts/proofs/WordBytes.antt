@@ -1,5 +1,5 @@
 -- The bytes of words: the first two, and those of `true`.
-use Rattle.std.proofs.Common.{inl, inr, codes, take, ◌≡◌, ℕ, ◌<◌, ◌≤◌, true, false, List, [], ◌∷◌, length}
+use Rattle.std.proofs.Common.{inl, inr, codes, take, ◌≡◌, ℕ, ◌<◌, ◌≤◌, true, false, [], ◌∷◌, length}
 use Rattle.std.proofs.Common.{map, get_or, bit_or, ◌==◌, refl, sym, ap, ◌∙◌, subst, arith, Bool, not, ◌||◌}
 use Rattle.std.proofs.Common.{nat_lt, ◌↔◌}
 use Rattle.std.specs.Cmp.{Equal-is}

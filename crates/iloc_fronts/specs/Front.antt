@@ -1,12 +1,10 @@
 -- What stands at the front of a line: the words of an identifier that fit, and what follows them.
 use Rattle.std.specs.Prelude.{◌≡◌, ℕ, suc, ◌+◌, ◌-◌, ◌<◌, ◌≤◌, true, false, [], ◌∷◌, ◌++◌, List, length, take}
-use Rattle.std.specs.Prelude.{drop, get_or, ⊤}
+use Rattle.std.specs.Prelude.{drop, get_or}
 use Rattle.iloc_spec_grammar.specs.Syntax.{Text, pieces, first_piece, Language, Variant, is_word, IsWord}
 use Rattle.iloc_spec_grammar.specs.Syntax.{languages}
 use Rattle.iloc_spec_grammar.specs.Reading.{past, starts_block, after_region}
 use Rattle.iloc_fronts.specs.declared.front.Block.{Block}
-use Rattle.iloc_fronts.specs.declared.front.Front.{Front}
-use Rattle.iloc_fronts.specs.declared.front.Front.TheVariants as front
 
 -- n bytes come before the first hyphen of t; of a longer first piece n is 16
 pub record IsFirst (t : Text) (n : ℕ) : Type 0 where
@@ -29,28 +27,13 @@ pub record GoesOn (ps : List Text) (b : Block) : Type 0 where
   pub some : 0 < b.len
   pub room : b.len + 16 ≤ length b.window.now
 
--- a variant of so many bytes is all
-pub record IsOneVariant (ps : List Text) (n : ℕ) : Type 0 where
-  pub variant : Text
-  pub all : ps ≡ variant ∷ []
-  pub is : IsWord Variant variant
-  pub long : length variant ≡ n
+-- no language comes first
+abbrev pub HasNoLanguage : Text → Type 0
+HasNoLanguage t = is_word (Language languages) (first_piece (pieces t)) ≡ false
 
--- what the pieces after a region are: variants, and then nothing, a piece that fits nowhere, or a
--- block
-abbrev pub GoesOnAs : List Text → Front → Type 0
-GoesOnAs ps front.NoLanguage = ¬ ⊤
-GoesOnAs ps front.Misfit = starts_block (past (is_word Variant) ps) ≡ false
-GoesOnAs ps (front.Block b) = GoesOn ps b
-GoesOnAs ps (front.Variant n) = IsOneVariant ps n
-GoesOnAs ps (front.Variants n) = (past (is_word Variant) ps ≡ []) × (2 ≤ length ps)
-GoesOnAs ps front.Other = ⊤
-
--- what the text is: no language comes first, or what follows a language is as said
-abbrev pub IsFront : Text → Front → Type 0
-IsFront t front.NoLanguage = is_word (Language languages) (first_piece (pieces t)) ≡ false
-IsFront t f = IsWord (Language languages) (first_piece (pieces t))
-    × GoesOnAs (after_region (pieces t)) f
+-- a language comes first, and the block follows the words of an identifier
+abbrev pub HasBlock : Text → Block → Type 0
+HasBlock t b = IsWord (Language languages) (first_piece (pieces t)) × GoesOn (after_region (pieces t)) b
 
 -- a language comes first, and the block later; if a block follows the words of an identifier, it is
 -- this one

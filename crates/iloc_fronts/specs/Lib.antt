@@ -1,6 +1,5 @@
 pub mod Words
 pub mod Run
 pub mod Front
-pub mod Left
 pub mod Keyword
 pub mod Walk

@@ -1,7 +1,7 @@
 //! How many bytes of a class come first among sixteen.
 ghost use Rattle.std.specs.Prelude.{◌≡◌, ◌≤◌, length, drop, map, take};
 ghost use Rattle.std.specs.Simd.Lanes.{mask_l};
-ghost use Rattle.std.specs.Char.{is_ascii_alphabetic, is_ascii_alphanumeric, is_ascii_digit};
+ghost use Rattle.std.specs.Char.{is_ascii_alphabetic, is_ascii_alphanumeric};
 ghost use Rattle.iloc_fronts.specs.Run.{IsRun, IsRunOf, is_hyphen, fails};
 ghost use Rattle.iloc_fronts.specs.Walk.{single_marks};
 
@@ -18,17 +18,7 @@ fn no_letters_in(v: u8x16) -> u64
         .to_bitmask()
 }
 
-// A bit for each byte that is no digit.
-#[inline(always)]
-fn no_digits_in(v: u8x16) -> u64
-    ensures { result ≡ mask_l (map (fails is_ascii_digit) v) }
-{
-    (v - u8x16::splat(48))
-        .simd_ge(u8x16::splat(10))
-        .to_bitmask()
-}
-
-// A bit for each byte that is neither.
+// A bit for each byte that is neither a letter nor a digit.
 #[inline(always)]
 fn no_alphanumerics_in(v: u8x16) -> u64
     ensures { result ≡ mask_l (map (fails is_ascii_alphanumeric) v) }
@@ -53,15 +43,6 @@ pub(crate) fn first_letters(window: &[u8]) -> usize
     ensures { IsRun is_ascii_alphabetic window.now result }
 {
     before_marked(no_letters_in(u8x16::from_slice(window)))
-}
-
-// How many digits come first.
-#[inline(always)]
-pub(crate) fn first_digits(window: &[u8]) -> usize
-    requires { 16 ≤ length window.now }
-    ensures { IsRun is_ascii_digit window.now result }
-{
-    before_marked(no_digits_in(u8x16::from_slice(window)))
 }
 
 // How many letters and digits come first.

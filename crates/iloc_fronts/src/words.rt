@@ -6,19 +6,15 @@ ghost use Rattle.iloc_fronts.specs.Words.{two_number};
 ghost use Rattle.iloc_spec_grammar.specs.Syntax.{
   Attribute,
   Language,
-  Region,
-  Script,
-  Variant,
   is_true,
   is_word,
   lower,
   languages,
   letters,
-  digits,
   letters_or_digits,
 };
 
-use crate::run::{first_alphanumerics, first_digits, first_letters};
+use crate::run::{first_alphanumerics, first_letters};
 use iloc_plain::is_language_length;
 
 // Whether the first `n` bytes are letters.
@@ -31,17 +27,7 @@ fn are_letters(window: &[u8], n: usize) -> bool
     n <= first_letters(window)
 }
 
-// Whether they are digits.
-#[inline(always)]
-fn are_digits(window: &[u8], n: usize) -> bool
-    requires wide { 16 ≤ length window.now }
-    requires few { n ≤ 16 }
-    ensures { result ≡ digits (take n window.now) }
-{
-    n <= first_digits(window)
-}
-
-// Whether they are letters and digits.
+// Whether the first `n` bytes are letters and digits.
 #[inline(always)]
 fn are_letters_or_digits(window: &[u8], n: usize) -> bool
     requires wide { 16 ≤ length window.now }
@@ -75,48 +61,6 @@ pub fn is_language(window: &[u8], n: usize) -> bool
         return false;
     }
     are_letters(window, n)
-}
-
-/// Whether the first `n` bytes are a script.
-#[inline(always)]
-pub fn is_script(window: &[u8], n: usize) -> bool
-    requires wide { 16 ≤ length window.now }
-    requires few { n ≤ 16 }
-    ensures { result ≡ is_word Script (take n window.now) }
-{
-    n == 4 && are_letters(window, n)
-}
-
-/// Whether the first `n` bytes are a region.
-#[inline(always)]
-pub fn is_region(window: &[u8], n: usize) -> bool
-    requires wide { 16 ≤ length window.now }
-    requires few { n ≤ 16 }
-    ensures { result ≡ is_word Region (take n window.now) }
-{
-    if n == 2 {
-        return are_letters(window, n);
-    }
-    if n != 3 {
-        return false;
-    }
-    are_digits(window, n)
-}
-
-/// Whether the first `n` bytes are a variant.
-#[inline(always)]
-pub fn is_variant(window: &[u8], n: usize) -> bool
-    requires wide { 16 ≤ length window.now }
-    requires few { n ≤ 16 }
-    ensures { result ≡ is_word Variant (take n window.now) }
-{
-    if n < 4 || n > 8 {
-        return false;
-    }
-    if n == 4 && !window[0].is_ascii_digit() {
-        return false;
-    }
-    are_letters_or_digits(window, n)
 }
 
 /// Whether the first `n` bytes are an attribute, or a piece of a value.

@@ -10,8 +10,7 @@ use Rattle.iloc_subtags.specs.declared.parse_error.ParseError.{ParseError}
 use Rattle.iloc_subtags.specs.declared.parse_error.ParseError.TheVariants.{InvalidLanguage, InvalidSubtag}
 use Rattle.iloc_subtags.specs.declared.parse_error.ParseError.TheVariants.{InvalidExtension}
 use Rattle.iloc_subtags.specs.declared.parse_error.ParseError.TheVariants.{DuplicatedExtension, OutOfMemory}
-use Rattle.iloc_fronts.specs.Front.{IsFront}
-use Rattle.iloc_fronts.specs.declared.front.Front.TheVariants as fronts
+use Rattle.iloc_fronts.specs.Front.{HasNoLanguage}
 use Rattle.iloc_langid.specs.declared.identifier.LanguageIdentifier.{LanguageIdentifier}
 use Rattle.iloc_langid.specs.declared.plain.PlainParts.{PlainParts}
 use Rattle.iloc_langid.specs.PlainReads.{IsPlainFront}
@@ -49,7 +48,7 @@ pub plain_means : (ps : List Text) (i : LanguageIdentifier) → IsPlainFront ps 
 plain_means ps i plain none = whole_gives ps [] i (front_gives ps [] [] i plain (none, tt, refl)) refl
 
 -- a text that begins with no language is refused so
-pub no_language_read : (t : Text) (e : ParseError) → (e ≡ InvalidLanguage) × IsFront t fronts.NoLanguage →
+pub no_language_read : (t : Text) (e : ParseError) → (e ≡ InvalidLanguage) × HasNoLanguage t →
     IdentifierReads (pieces t) (Err e)
 no_language_read t InvalidLanguage (is, h) = not_a_language h
 no_language_read t InvalidSubtag (is, h) = absurd (cc)
@@ -63,6 +62,6 @@ pub plain_small : (t : Text) (plain : PlainParts) → IsPlainFront (pieces t) []
 plain_small t plain f = nothing_more t (pieces t) [] (plain.language, plain.script, plain.region, None) refl
     (parts_give (pieces t) [] [] plain None f refl refl) refl
 
-pub no_language_small : (t : Text) → IsFront t fronts.NoLanguage →
+pub no_language_small : (t : Text) → HasNoLanguage t →
     SmallLocaleTextReads t (Err InvalidLanguage)
 no_language_small t h = small.bad_head (small.no_language (head_language t ∙ h))

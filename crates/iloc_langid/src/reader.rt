@@ -5,8 +5,7 @@ ghost use Rattle.iloc_spec_grammar.specs.Syntax.{pieces, head, languages};
 ghost use Rattle.iloc_spec_grammar.specs.Meaning.{IdentifierMeans};
 ghost use Rattle.iloc_spec_grammar.specs.Reading.{after_head};
 ghost use Rattle.iloc_subtags.specs.Left.{left};
-ghost use Rattle.iloc_fronts.specs.Front.{IsFront};
-ghost use Rattle.iloc_fronts.specs.declared.front.Front.TheVariants as fronts;
+ghost use Rattle.iloc_fronts.specs.Front.{HasNoLanguage};
 ghost use Rattle.iloc_subtags.specs.Judging.{RunsOutOnlyIf};
 ghost use Rattle.iloc_langid.specs.Reads.{value_of, VariantsReads, FrontComputed, FrontReads, IdentifierReads, IdentifierWantsMemory};
 ghost use Rattle.iloc_langid.specs.Unknown.{unknown_identifier};
@@ -181,7 +180,7 @@ pub fn fill_short(text: &[u8], identifier: &mut LanguageIdentifier) -> Result<bo
         → IdentifierMeans languages (pieces text.now) (value_of identifier.new)) }
     ensures not_told { IfOk result (λ told. told ≡ false → identifier.new ≡ identifier.old) }
     ensures refused { IfErr result (λ e. (e ≡ ParseError.InvalidLanguage)
-        × IsFront text.now fronts.NoLanguage) }
+        × HasNoLanguage text.now) }
 {
     if text.len() > 16 {
         return Ok(false);

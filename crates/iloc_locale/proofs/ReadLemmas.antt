@@ -28,8 +28,7 @@ use Rattle.iloc_langid.specs.Reads as langid
 use Rattle.iloc_langid.specs.Reads.{IdentifierReads}
 use Rattle.iloc_locale.specs.ExtensionsValue as extensions
 use Rattle.iloc_locale.specs.Whole.{BlocksReads}
-use Rattle.iloc_fronts.specs.Front.{IsFront}
-use Rattle.iloc_fronts.specs.declared.front.Front.TheVariants as fronts
+use Rattle.iloc_fronts.specs.Front.{HasNoLanguage, HasBlock}
 use Rattle.iloc_told.specs.declared.Mode.TheVariants as modes
 use Rattle.iloc_told.proofs.FrontAnswers.{no_language_refused}
 use Rattle.iloc_told.proofs.PlainAnswers.{means_alone}
@@ -129,7 +128,7 @@ plain_means t l m none = subst
     (sym none) (means_alone t (langid.value_of l.id) m)
 
 -- a text that begins with no language is refused so
-pub no_language_read : (t : Text) (e : ParseError) → (e ≡ InvalidLanguage) × IsFront t fronts.NoLanguage →
+pub no_language_read : (t : Text) (e : ParseError) → (e ≡ InvalidLanguage) × HasNoLanguage t →
     LocaleTextReads t (Err e)
 no_language_read t InvalidLanguage (is, h) = no_language_refused modes.Locale t h
 no_language_read t InvalidSubtag (is, h) = absurd (cc)

@@ -13,10 +13,9 @@ use Rattle.iloc_spec_grammar.proofs.ReadingLaws.{front_of-append, front_of-piece
 use Rattle.iloc_spec_parts.specs.SmallComputing.{is_u}
 use Rattle.iloc_plain.specs.Plain.{IsPlain}
 use Rattle.iloc_plain.specs.declared.plain.Plain.{Plain}
-use Rattle.iloc_fronts.specs.Front.{IsFound, IsFront, rest_of_block}
+use Rattle.iloc_fronts.specs.Front.{IsFound, HasBlock, rest_of_block}
 use Rattle.iloc_fronts.specs.Keyword.{IsKeywordOf, after_singleton}
 use Rattle.iloc_fronts.specs.declared.front.Block.{Block}
-use Rattle.iloc_fronts.specs.declared.front.Front.TheVariants as fronts
 use Rattle.iloc_fronts.specs.declared.keyword.Keyword.TheVariants as keyword
 use Rattle.iloc_subtags.specs.declared.parse_error.ParseError.TheVariants.{InvalidExtension, InvalidSubtag}
 use Rattle.iloc_told.specs.Told.{HasRefusal}
@@ -32,7 +31,7 @@ counted b n = record b { tail = n }
 
 -- if it follows the words of an identifier, it is the first block
 pub is_first : (t : Text) (b : Block) → IsFound t b → starts_block (after_front (pieces t)) ≡ true →
-    (n : ℕ) × IsFront t (fronts.Block (counted b n))
+    (n : ℕ) × HasBlock t (counted b n)
 unfolding after_front
 is_first t b f is =
     elim (cases_lt (1 + length (pieces (rest_of_block b))) (length (after_region (pieces t)))) [
@@ -69,7 +68,7 @@ is_first t b f is =
 -- a text that is refused for its first block is refused for this one: another piece that fits nowhere is
 -- refused too
 pub found_refused : (t : Text) (b : Block) → IsFound t b →
-    ((n : ℕ) → IsFront t (fronts.Block (counted b n)) → HasRefusal Data t InvalidSubtag) →
+    ((n : ℕ) → HasBlock t (counted b n) → HasRefusal Data t InvalidSubtag) →
     HasRefusal Data t InvalidSubtag
 found_refused t b f told = elim (cases_Bool (starts_block (after_front (pieces t)))) [
   | inl is ↦ let first = is_first t b f is in told first.0 first.1
@@ -118,7 +117,7 @@ after_plain i rest none same nothing s =
 
 -- the block follows at once
 pub plain_before : (t : Text) (b : Block) (p : Plain) → IsFound t b →
-    IsPlain (take (length t - (b.len + 1)) t) p → IsFront t (fronts.Block b)
+    IsPlain (take (length t - (b.len + 1)) t) p → HasBlock t b
 unfolding after_front
 plain_before t b p f plain = (
   f.begins,

@@ -29,9 +29,8 @@ use Rattle.iloc_spec_preferences.specs.DataLocales.{DataLocale, DataMeans, HasDa
 use Rattle.iloc_spec_preferences.proofs.DataLaws.{data_answer}
 use Rattle.iloc_spec_preferences.specs.DataComputing.{data_result, data_of_result}
 use Rattle.iloc_subtags.specs.declared.parse_error.ParseError.TheVariants.{InvalidLanguage, InvalidSubtag}
-use Rattle.iloc_fronts.specs.Front.{GoesOn, IsFound, IsFront, rest_of_block}
+use Rattle.iloc_fronts.specs.Front.{GoesOn, IsFound, HasNoLanguage, rest_of_block}
 use Rattle.iloc_fronts.specs.declared.front.Block.{Block}
-use Rattle.iloc_fronts.specs.declared.front.Front.TheVariants as fronts
 use Rattle.iloc_outline.specs.Outlines.{BeginsWithLanguage}
 use Rattle.iloc_told.specs.Told.{HasRefusal}
 use Rattle.iloc_told.specs.declared.Mode.{Mode}
@@ -58,7 +57,7 @@ head_language t = sym (ap (is_word (Language languages)) (same_first (pieces t))
 
 -- ---- no language
 
-pub no_language_refused : (mode : Mode) (t : Text) → IsFront t fronts.NoLanguage →
+pub no_language_refused : (mode : Mode) (t : Text) → HasNoLanguage t →
     HasRefusal mode t InvalidLanguage
 no_language_refused Langid t h = not_a_language h
 no_language_refused Locale t h = in_head (not_a_language (head_language t ∙ h))

@@ -35,10 +35,9 @@ use Rattle.iloc_spec_preferences.specs.DataLocales.{data_of_small}
 use Rattle.iloc_spec_preferences.specs.Subdivisions.{Subdivision}
 use Rattle.iloc_spec_preferences.specs.DataComputing.{data_result, data_of_result}
 use Rattle.iloc_subtags.specs.declared.parse_error.ParseError.TheVariants.{InvalidSubtag, InvalidExtension}
-use Rattle.iloc_fronts.specs.Front.{GoesOn, IsFront, rest_of_block}
+use Rattle.iloc_fronts.specs.Front.{GoesOn, HasBlock, rest_of_block}
 use Rattle.iloc_fronts.specs.Keyword.{IsKeywordOf, IsSingle, after_singleton}
 use Rattle.iloc_fronts.specs.declared.front.Block.{Block}
-use Rattle.iloc_fronts.specs.declared.front.Front.TheVariants as fronts
 use Rattle.iloc_fronts.specs.declared.keyword.Keyword.TheVariants as keyword
 use Rattle.iloc_told.specs.Told.{HasRefusal}
 use Rattle.iloc_told.specs.declared.Mode.TheVariants.{Data}
@@ -324,7 +323,7 @@ large_head p qs l h =
 pub letter_u : (c : ℕ) → is_u c ≡ true → is_ascii_alphanumeric c ≡ true
 letter_u c u = grind (arith, nat_tests)
 
-module _ (t : Text) (b : Block) (h : IsFront t (fronts.Block b))
+module _ (t : Text) (b : Block) (h : HasBlock t b)
     (letter : is_ascii_alphanumeric (get_or b.window.now 0 0) ≡ true)
     (u : is_u (get_or b.window.now 0 0) ≡ true) where
   abbrev block : ℕ × List Text

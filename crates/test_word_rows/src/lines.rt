@@ -2,12 +2,11 @@
 //! silently went the old way would show nowhere else.
 //!
 //! `line-plain TEXT` says the normal text. In the other calls the second argument says how many bytes of the first are the
-//! line: `line-window` says the normal text, `line-front` what stands at the front, `line-block` the first block by the
-//! first piece of one byte, and `line-keyword` what follows the singleton of the first block. A line of which nothing is
-//! said is `not told`.
+//! line: `line-window` says the normal text, `line-block` the first block by the first piece of one byte, and
+//! `line-keyword` what follows the singleton of that block. A line of which nothing is said is `not told`.
 ghost use Rattle.iloc_plain.specs.Plain.{AreWords};
 
-use iloc_fronts::{Block, Front, Keyword, find_block, read_front, read_keyword};
+use iloc_fronts::{Block, Keyword, find_block, read_keyword};
 use iloc_plain::{Plain, read_plain, read_plain_text};
 use test_page::argument::number_of;
 use test_page::{bytes, number, say};
@@ -56,27 +55,6 @@ fn block(block: &Block<'_>, out: &mut String) {
     )
 }
 
-// Says what stands at the front, if sixteen bytes follow the line at least.
-fn front(window: &[u8], len: usize, out: &mut String) {
-    if window.len() < 16 || len > window.len() - 16 {
-        return say(out, "not told");
-    }
-    match read_front(window, len) {
-        Front::NoLanguage => say(out, "no language"),
-        Front::Misfit => say(out, "misfit"),
-        Front::Block(found) => block(&found, out),
-        Front::Variant(n) => {
-            say(out, "variant ");
-            number(out, n)
-        }
-        Front::Variants(tail) => {
-            say(out, "variants ");
-            number(out, tail)
-        }
-        Front::Other => say(out, "not told"),
-    }
-}
-
 // Says the first block by the first piece of one byte, if sixteen bytes follow the line at least.
 fn first_block(window: &[u8], len: usize, out: &mut String) {
     if window.len() < 16 || len > window.len() - 16 {
@@ -93,9 +71,9 @@ fn keyword_of(window: &[u8], len: usize) -> Keyword {
     if window.len() < 16 || len > window.len() - 16 {
         return Keyword::Other;
     }
-    match read_front(window, len) {
-        Front::Block(block) => read_keyword(block),
-        _ => Keyword::Other,
+    match find_block(window, len) {
+        Some(block) => read_keyword(block),
+        None => Keyword::Other,
     }
 }
 
@@ -119,7 +97,6 @@ pub fn answer(what: &str, text: &[u8], len: &[u8], out: &mut String) {
     match what {
         "plain" => plain(text, out),
         "window" => window(text, number_of(len), out),
-        "front" => front(text, number_of(len), out),
         "block" => first_block(text, number_of(len), out),
         "keyword" => keyword(text, number_of(len), out),
         _ => say(out, "no call"),

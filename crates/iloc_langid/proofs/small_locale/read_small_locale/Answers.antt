@@ -1,6 +1,5 @@
 use Rattle.std.proofs.Common.{List, [], ℕ, subst}
-use Rattle.iloc_fronts.specs.Front.{IsFront}
-use Rattle.iloc_fronts.specs.declared.front.Front.TheVariants as fronts
+use Rattle.iloc_fronts.specs.Front.{HasNoLanguage}
 use Rattle.iloc_spec_grammar.specs.Syntax.{Text, pieces}
 use Rattle.iloc_langid.specs.PlainReads.{IsPlainFront}
 use Rattle.iloc_langid.proofs.PlainLemmas.{plain_small, no_language_small}
@@ -14,5 +13,5 @@ returns-in-Some c =
 pub returns-then-not-begins_with_language : goal.returns-then-not-begins_with_language
 returns-then-not-begins_with_language c =
     no_language_small c.args.code_units.now
-    (subst (λ (t : Text). IsFront t fronts.NoLanguage) c.load-lanes.ensures
+    (subst (λ (t : Text). HasNoLanguage t) c.load-lanes.ensures
     (c.begins_with_language.ensures c.if-not-begins_with_language.true))
