@@ -32,7 +32,7 @@ def clauses(row):
     if row.kind in ("tell", "ask"):
         yield "ensures same { handle.new.value ≡ handle.old.value }"
     if row.kind == "tell":
-        yield f"ensures told {{ EndsAs (Tells ({gives}) buffer.old buffer.new needed.new) result }}"
+        yield f"ensures answered {{ EndsAs (Tells ({gives}) buffer.old buffer.new needed.new) result }}"
     elif row.kind == "ask":
         yield f"ensures answered {{ {'IsTrue result ↔' if row.gives == 'bool' else 'result ≡'} {gives} }}"
     if row.kind == "by":

@@ -36,7 +36,7 @@ pub extern "C" fn icu_locale_get_attribute(
     needed: &mut usize,
 ) -> u32
     ensures same { handle.new.value ≡ handle.old.value }
-    ensures told { EndsAs (Tells (attribute_at index (held_locale handle.old.value)) buffer.old
+    ensures answered { EndsAs (Tells (attribute_at index (held_locale handle.old.value)) buffer.old
         buffer.new needed.new) result }
 {
     tell(alloc, handle, &WordAt(OfAttributes, index), buffer, needed)

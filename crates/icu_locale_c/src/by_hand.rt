@@ -49,7 +49,7 @@ pub extern "C" fn icu_locale_eq_text(
     same: &mut u8,
 ) -> u32
     ensures same_locale { handle.new.value ≡ handle.old.value }
-    ensures told { EndsAs (TellsMeant text.now (held_locale handle.old.value) same.old same.new)
+    ensures answered { EndsAs (TellsMeant text.now (held_locale handle.old.value) same.old same.new)
         result }
 {
     tell_meant(alloc, handle, text, same).number()

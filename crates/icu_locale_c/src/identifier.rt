@@ -20,7 +20,7 @@ pub extern "C" fn icu_locale_get_base_name(
     needed: &mut usize,
 ) -> u32
     ensures same { handle.new.value ≡ handle.old.value }
-    ensures told { EndsAs (Tells (Some (identifier_text (held_locale handle.old.value).id))
+    ensures answered { EndsAs (Tells (Some (identifier_text (held_locale handle.old.value).id))
         buffer.old buffer.new needed.new) result }
 {
     tell(alloc, handle, &Named::BaseName, buffer, needed)
@@ -35,7 +35,7 @@ pub extern "C" fn icu_locale_get_language(
     needed: &mut usize,
 ) -> u32
     ensures same { handle.new.value ≡ handle.old.value }
-    ensures told { EndsAs (Tells (Some (held_locale handle.old.value).id.language) buffer.old
+    ensures answered { EndsAs (Tells (Some (held_locale handle.old.value).id.language) buffer.old
         buffer.new needed.new) result }
 {
     tell(alloc, handle, &Named::Language, buffer, needed)
@@ -50,7 +50,7 @@ pub extern "C" fn icu_locale_get_script(
     needed: &mut usize,
 ) -> u32
     ensures same { handle.new.value ≡ handle.old.value }
-    ensures told { EndsAs (Tells (Some (text_or_empty (held_locale handle.old.value).id.script))
+    ensures answered { EndsAs (Tells (Some (text_or_empty (held_locale handle.old.value).id.script))
         buffer.old buffer.new needed.new) result }
 {
     tell(alloc, handle, &Named::Script, buffer, needed)
@@ -65,7 +65,7 @@ pub extern "C" fn icu_locale_get_region(
     needed: &mut usize,
 ) -> u32
     ensures same { handle.new.value ≡ handle.old.value }
-    ensures told { EndsAs (Tells (Some (text_or_empty (held_locale handle.old.value).id.region))
+    ensures answered { EndsAs (Tells (Some (text_or_empty (held_locale handle.old.value).id.region))
         buffer.old buffer.new needed.new) result }
 {
     tell(alloc, handle, &Named::Region, buffer, needed)

@@ -37,7 +37,7 @@ pub extern "C" fn icu_locale_get_keyword_key(
     needed: &mut usize,
 ) -> u32
     ensures same { handle.new.value ≡ handle.old.value }
-    ensures told { EndsAs (Tells (key_at index (keywords_of (held_locale handle.old.value)))
+    ensures answered { EndsAs (Tells (key_at index (keywords_of (held_locale handle.old.value)))
         buffer.old buffer.new needed.new) result }
 {
     tell(alloc, handle, &KeyAt(OfKeywords, index), buffer, needed)
@@ -53,7 +53,7 @@ pub extern "C" fn icu_locale_get_keyword_value(
     needed: &mut usize,
 ) -> u32
     ensures same { handle.new.value ≡ handle.old.value }
-    ensures told { EndsAs (Tells (option_map join (value_at index
+    ensures answered { EndsAs (Tells (option_map join (value_at index
         (keywords_of (held_locale handle.old.value)))) buffer.old buffer.new needed.new) result }
 {
     tell(alloc, handle, &ValueAt(OfKeywords, index), buffer, needed)
@@ -69,7 +69,7 @@ pub extern "C" fn icu_locale_get_keyword(
     needed: &mut usize,
 ) -> u32
     ensures same { handle.new.value ≡ handle.old.value }
-    ensures told { EndsAs (Tells (option_map join (value_of_key UnicodeKey key.now
+    ensures answered { EndsAs (Tells (option_map join (value_of_key UnicodeKey key.now
         (keywords_of (held_locale handle.old.value)))) buffer.old buffer.new needed.new) result }
 {
     tell(alloc, handle, &ValueOf(OfKeywords, key), buffer, needed)

@@ -18,7 +18,7 @@ pub extern "C" fn icu_locale_get_calendar_algorithm(
     needed: &mut usize,
 ) -> u32
     ensures same { handle.new.value ≡ handle.old.value }
-    ensures told { EndsAs (Tells (calendar_text (held_locale handle.old.value)) buffer.old
+    ensures answered { EndsAs (Tells (calendar_text (held_locale handle.old.value)) buffer.old
         buffer.new needed.new) result }
 {
     tell(alloc, handle, &Named::Calendar, buffer, needed)
@@ -33,7 +33,7 @@ pub extern "C" fn icu_locale_get_hour_cycle(
     needed: &mut usize,
 ) -> u32
     ensures same { handle.new.value ≡ handle.old.value }
-    ensures told { EndsAs (Tells (hours_text (held_locale handle.old.value)) buffer.old buffer.new
+    ensures answered { EndsAs (Tells (hours_text (held_locale handle.old.value)) buffer.old buffer.new
         needed.new) result }
 {
     tell(alloc, handle, &Named::HourCycle, buffer, needed)
@@ -48,7 +48,7 @@ pub extern "C" fn icu_locale_get_numbering_system(
     needed: &mut usize,
 ) -> u32
     ensures same { handle.new.value ≡ handle.old.value }
-    ensures told { EndsAs (Tells (numbering_text (held_locale handle.old.value)) buffer.old
+    ensures answered { EndsAs (Tells (numbering_text (held_locale handle.old.value)) buffer.old
         buffer.new needed.new) result }
 {
     tell(alloc, handle, &Named::NumberingSystem, buffer, needed)

@@ -27,7 +27,7 @@ pub extern "C" fn icu_locale_get_transform_language(
     needed: &mut usize,
 ) -> u32
     ensures same { handle.new.value ≡ handle.old.value }
-    ensures told { EndsAs (Tells (transform_language (held_locale handle.old.value)) buffer.old
+    ensures answered { EndsAs (Tells (transform_language (held_locale handle.old.value)) buffer.old
         buffer.new needed.new) result }
 {
     tell(alloc, handle, &Named::TransformLanguage, buffer, needed)
@@ -66,7 +66,7 @@ pub extern "C" fn icu_locale_get_field_key(
     needed: &mut usize,
 ) -> u32
     ensures same { handle.new.value ≡ handle.old.value }
-    ensures told { EndsAs (Tells (key_at index (fields_of (held_locale handle.old.value)))
+    ensures answered { EndsAs (Tells (key_at index (fields_of (held_locale handle.old.value)))
         buffer.old buffer.new needed.new) result }
 {
     tell(alloc, handle, &KeyAt(OfFields, index), buffer, needed)
@@ -82,7 +82,7 @@ pub extern "C" fn icu_locale_get_field_value(
     needed: &mut usize,
 ) -> u32
     ensures same { handle.new.value ≡ handle.old.value }
-    ensures told { EndsAs (Tells (option_map field_value_text
+    ensures answered { EndsAs (Tells (option_map field_value_text
         (value_at index (fields_of (held_locale handle.old.value)))) buffer.old buffer.new
         needed.new) result }
 {
@@ -99,7 +99,7 @@ pub extern "C" fn icu_locale_get_field(
     needed: &mut usize,
 ) -> u32
     ensures same { handle.new.value ≡ handle.old.value }
-    ensures told { EndsAs (Tells (option_map field_value_text (value_of_key TransformKey key.now
+    ensures answered { EndsAs (Tells (option_map field_value_text (value_of_key TransformKey key.now
         (fields_of (held_locale handle.old.value)))) buffer.old buffer.new needed.new) result }
 {
     tell(alloc, handle, &ValueOf(OfFields, key), buffer, needed)
@@ -149,7 +149,7 @@ pub extern "C" fn icu_locale_get_private(
     needed: &mut usize,
 ) -> u32
     ensures same { handle.new.value ≡ handle.old.value }
-    ensures told { EndsAs (Tells (Some (private_text
+    ensures answered { EndsAs (Tells (Some (private_text
         (held_locale handle.old.value).extensions.private)) buffer.old buffer.new needed.new)
         result }
 {

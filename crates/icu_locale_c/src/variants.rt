@@ -36,7 +36,7 @@ pub extern "C" fn icu_locale_get_variant(
     needed: &mut usize,
 ) -> u32
     ensures same { handle.new.value ≡ handle.old.value }
-    ensures told { EndsAs (Tells (variant_at index (held_locale handle.old.value)) buffer.old
+    ensures answered { EndsAs (Tells (variant_at index (held_locale handle.old.value)) buffer.old
         buffer.new needed.new) result }
 {
     tell(alloc, handle, &WordAt(OfVariants, index), buffer, needed)

@@ -84,7 +84,7 @@ pub extern "C" fn icu_locale_to_string(
     needed: &mut usize,
 ) -> u32
     ensures same { handle.new.value ≡ handle.old.value }
-    ensures told { EndsAs (Tells (Some (text_of (held_locale handle.old.value))) buffer.old
+    ensures answered { EndsAs (Tells (Some (text_of (held_locale handle.old.value))) buffer.old
         buffer.new needed.new) result }
 {
     tell(alloc, handle, &Named::Whole, buffer, needed)

@@ -99,8 +99,8 @@ pub use Rattle.iloc_spec_preferences.specs.DataComputing
 pub use Rattle.iloc_spec_preferences.specs.DataExamples
 pub use Rattle.iloc_spec_preferences.specs.PreferenceExamples
 pub use Rattle.iloc_subtags.specs.Lengths
-pub use Rattle.iloc_told.specs.Modes
-pub use Rattle.iloc_told.specs.Told
+pub use Rattle.iloc_normalize.specs.Modes
+pub use Rattle.iloc_normalize.specs.Answered
 pub use Rattle.iloc_faults.specs.Places as FaultPlaces
 pub use Rattle.iloc_transform.specs.LangReading
 pub use Rattle.iloc_unicode.specs.Equality as UnicodePartEquality

@@ -99,7 +99,7 @@ pub mod parser {
 /// fault stands").
 pub mod faults {
     pub use iloc_faults::{Fault, fault_of};
-    pub use iloc_told::Mode;
+    pub use iloc_normalize::Mode;
 }
 
 /// Language identifiers.

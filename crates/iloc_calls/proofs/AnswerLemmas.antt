@@ -34,8 +34,8 @@ use Rattle.iloc_data_parts.specs.declared.parts.DataParts.{DataParts}
 use Rattle.iloc_data.specs.DataValue as data_locale
 use Rattle.iloc_data.specs.Reads.{DataTextReads}
 use Rattle.iloc_data.specs.declared.data_locale.DataLocale as data_types
-use Rattle.iloc_told.specs.declared.Mode.{Mode}
-use Rattle.iloc_told.specs.declared.Mode.TheVariants.{Langid, Locale, Data}
+use Rattle.iloc_normalize.specs.declared.Mode.{Mode}
+use Rattle.iloc_normalize.specs.declared.Mode.TheVariants.{Langid, Locale, Data}
 use Rattle.iloc_calls.specs.Answers.{CallWantsMemory, JudgedAs, ComparesTo, WritesOrder, OrdersTo, MeanSame}
 use Rattle.iloc_calls.specs.Answers.{RefusedTells, TellsSame, order_number}
 use Rattle.iloc_calls.specs.Numbers.{mode_number, number_of, status_of}
@@ -44,7 +44,7 @@ use Rattle.iloc_calls.specs.declared.status.Status.TheVariants.{Done, InvalidLan
 use Rattle.iloc_calls.specs.declared.status.Status.TheVariants.{InvalidExtension, DuplicatedExtension}
 use Rattle.iloc_calls.specs.declared.status.Status.TheVariants.{OutOfMemory, BufferTooSmall, UnknownNumber}
 use Rattle.iloc_calls.specs.declared.status.Status.TheVariants.{NotFound}
-use Rattle.iloc_told.specs.Modes.{IsNormalText, IsFaulty}
+use Rattle.iloc_normalize.specs.Modes.{IsNormalText, IsFaulty}
 use Rattle.std.specs.Cmp.{Equal-is}
 
 -- no mode has a number above 2
@@ -192,13 +192,14 @@ number_of_same : (P : Type 0) (same : Bool) → IsTrue same ↔ P →
 number_of_same P true e = inl (refl, e.0 refl)
 number_of_same P false e = inr (refl, λ m. true≢false (sym (e.1 m)))
 
-abbrev Told : Mode → Text → Text → ℕ → Type 0
-Told mode t other after = ((after ≡ 1) × MeanSame mode t other) ⊎ ((after ≡ 0) × ¬ (MeanSame mode t other))
+abbrev Answered : Mode → Text → Text → ℕ → Type 0
+Answered mode t other after =
+    ((after ≡ 1) × MeanSame mode t other) ⊎ ((after ≡ 0) × ¬ (MeanSame mode t other))
 
 told : (mode : Mode) (t other : Text) (after : ℕ) (same : Bool) → after ≡ from_bool same →
-    IsTrue same ↔ MeanSame mode t other → Told mode t other after
+    IsTrue same ↔ MeanSame mode t other → Answered mode t other after
 told mode t other after same a e =
-    subst (Told mode t other) (sym a) (number_of_same (MeanSame mode t other) same e)
+    subst (Answered mode t other) (sym a) (number_of_same (MeanSame mode t other) same e)
 
 equal_order : (o : Ordering) (same : Bool) → same ≡ is_eq o → IsTrue same ↔ (o ≡ Equal)
 equal_order o same e = (λ s. (Equal-is o).0 (sym e ∙ s), λ h. e ∙ (Equal-is o).1 h)

@@ -8,8 +8,8 @@ use Rattle.iloc_spec_grammar.specs.Values.{identifier_text, text}
 use Rattle.iloc_spec_grammar.proofs.AnySteps.{shortest, length-identifier_means}
 use Rattle.iloc_spec_preferences.specs.DataLocales.{DataMeans, data_text}
 use Rattle.iloc_writeable.specs.Hints.{saturated}
-use Rattle.iloc_told.specs.declared.Mode.{Mode}
-use Rattle.iloc_told.specs.declared.Mode.TheVariants.{Langid, Locale, Data}
+use Rattle.iloc_normalize.specs.declared.Mode.{Mode}
+use Rattle.iloc_normalize.specs.declared.Mode.TheVariants.{Langid, Locale, Data}
 use Rattle.iloc_calls.specs.declared.status.Status.{Status}
 use Rattle.iloc_calls.specs.declared.status.Status.TheVariants.{Done, InvalidLanguage, InvalidSubtag}
 use Rattle.iloc_calls.specs.declared.status.Status.TheVariants.{InvalidExtension, DuplicatedExtension}
@@ -24,7 +24,7 @@ use Rattle.iloc_locale.specs.LocaleReading as locale
 use Rattle.iloc_locale.specs.declared.locale.Locale as types
 use Rattle.iloc_data_parts.specs.PartsReading as parts
 use Rattle.iloc_data_parts.specs.declared.parts.DataParts.{DataParts}
-use Rattle.iloc_told.specs.Modes.{IsNormalText}
+use Rattle.iloc_normalize.specs.Modes.{IsNormalText}
 
 normal_text_fits : (m : Mode) (t n : Text) → IsNormalText languages m t n → length n ≤ length t + growth m
 normal_text_fits Langid t n h =

@@ -5,11 +5,11 @@ use Rattle.iloc_spec_grammar.specs.Values.{identifier_text}
 use Rattle.iloc_writeable.specs.Hints.{saturated}
 use Rattle.iloc_plain.specs.Plain.{AreWords, IsPlain, value_of}
 use Rattle.iloc_plain.specs.declared.plain.Plain.{Plain}
-use Rattle.iloc_told.proofs.PlainAnswers.{plain_normal}
+use Rattle.iloc_normalize.proofs.PlainAnswers.{plain_normal}
 use Rattle.iloc_subtags.specs.declared.parse_error.ParseError.{ParseError}
 use Rattle.iloc_subtags.specs.declared.parse_error.ParseError.TheVariants as refusals
-use Rattle.iloc_told.specs.Told.{HasRefusal}
-use Rattle.iloc_told.specs.declared.Mode.{Mode}
+use Rattle.iloc_normalize.specs.Answered.{HasRefusal}
+use Rattle.iloc_normalize.specs.declared.Mode.{Mode}
 use Rattle.iloc_calls.specs.Answers.{HandsOut, JudgedAs, NormalizesTo}
 use Rattle.iloc_calls.specs.Numbers.{status_of}
 use Rattle.iloc_calls.specs.declared.status.Status.{Status}
@@ -17,7 +17,7 @@ use Rattle.iloc_calls.specs.declared.status.Status.TheVariants.{Done, InvalidLan
 use Rattle.iloc_calls.specs.declared.status.Status.TheVariants.{InvalidExtension, DuplicatedExtension}
 use Rattle.iloc_calls.specs.declared.status.Status.TheVariants.{OutOfMemory, BufferTooSmall, UnknownNumber}
 use Rattle.iloc_calls.specs.declared.status.Status.TheVariants.{NotFound}
-use Rattle.iloc_told.specs.Modes.{IsNormalText}
+use Rattle.iloc_normalize.specs.Modes.{IsNormalText}
 use Rattle.iloc_spec_grammar.specs.Syntax.{Text, languages}
 
 -- what hands out the normal text normalizes

@@ -1,7 +1,7 @@
 -- What a caller finds of the fault of a text.
 use Rattle.std.specs.Prelude.{◌≡◌, ℕ}
 use Rattle.iloc_spec_grammar.specs.Syntax.{Text}
-use Rattle.iloc_told.specs.declared.Mode.{Mode}
+use Rattle.iloc_normalize.specs.declared.Mode.{Mode}
 use Rattle.iloc_faults.specs.Places.{IsAccepted, IsFaultPlace}
 use Rattle.iloc_calls.specs.Answers.{JudgedAs}
 use Rattle.iloc_calls.specs.declared.status.Status.{Status}

@@ -3,8 +3,8 @@ ghost use Rattle.std.specs.Prelude.{◌≡◌, ◌↔◌, ◌+◌, ◌<◌, ◌�
 ghost use Rattle.iloc_calls.specs.declared.status.Status.{Status};
 ghost use Rattle.iloc_calls.specs.Answers.{HandsOut, JudgedAs, Normalizes, NormalizesTo};
 ghost use Rattle.iloc_calls.specs.Numbers.{EndsAs, mode_number, number_of, status_of};
-ghost use Rattle.iloc_told.specs.declared.Mode.{Mode};
-ghost use Rattle.iloc_told.specs.declared.Mode.TheVariants as modes;
+ghost use Rattle.iloc_normalize.specs.declared.Mode.{Mode};
+ghost use Rattle.iloc_normalize.specs.declared.Mode.TheVariants as modes;
 
 use crate::filling::{hand_out_bytes, hand_out_fitting_plain, hand_out_within};
 use crate::status::Status;
@@ -12,11 +12,11 @@ use iloc_data_parts::DataParts;
 use iloc_langid::LanguageIdentifier;
 use iloc_langid::reader::read_into as read_identifier;
 use iloc_locale::Locale;
+use iloc_normalize::answered::ROOM;
+use iloc_normalize::window::{WINDOW, answer_text};
+use iloc_normalize::{Answered, Mode};
 use iloc_plain::read_plain_text;
 use iloc_subtags::ParseError;
-use iloc_told::told::ROOM;
-use iloc_told::window::{WINDOW, tell_text};
-use iloc_told::{Mode, Told};
 use std::alloc::Global;
 
 /// The mode of that number.
@@ -58,10 +58,10 @@ fn judge_other(alloc: Global, mode: Mode, text: &[u8]) -> Status
 {
     let mut window = [0u8; WINDOW];
     let mut room = [0u8; ROOM];
-    match tell_text(mode, text, &mut window, &mut room) {
-        Told::Normal(_) => Status::Done,
-        Told::Refused(refusal) => Status::from(refusal),
-        Told::Nothing => judge_parsed(alloc, mode, text),
+    match answer_text(mode, text, &mut window, &mut room) {
+        Answered::Normal(_) => Status::Done,
+        Answered::Refused(refusal) => Status::from(refusal),
+        Answered::Nothing => judge_parsed(alloc, mode, text),
     }
 }
 
@@ -203,14 +203,14 @@ fn normalize_other(
     ensures { Normalizes mode text.now buffer.old buffer.new needed.new result }
 {
     match mode_of(mode) {
-        Some(mode) => normalize_told(alloc, mode, text, buffer, needed),
+        Some(mode) => normalize_outlined(alloc, mode, text, buffer, needed),
         None => refuse(Status::UnknownNumber, needed).number(),
     }
 }
 
 // Hands out the normal text as it is written from the bytes, without a value.
 #[inline(always)]
-fn normalize_told(
+fn normalize_outlined(
     alloc: Global,
     mode: Mode,
     text: &[u8],
@@ -221,10 +221,10 @@ fn normalize_told(
 {
     let mut window = [0u8; WINDOW];
     let mut room = [0u8; ROOM];
-    match tell_text(mode, text, &mut window, &mut room) {
-        Told::Normal(normal) => hand_out_bytes(normal, buffer, needed).number(),
-        Told::Refused(refusal) => refuse(Status::from(refusal), needed).number(),
-        Told::Nothing => normalize_parsed(alloc, mode, text, buffer, needed).number(),
+    match answer_text(mode, text, &mut window, &mut room) {
+        Answered::Normal(normal) => hand_out_bytes(normal, buffer, needed).number(),
+        Answered::Refused(refusal) => refuse(Status::from(refusal), needed).number(),
+        Answered::Nothing => normalize_parsed(alloc, mode, text, buffer, needed).number(),
     }
 }
 

@@ -1,6 +1,6 @@
 //! Finds the fault of a refused text.
 ghost use Rattle.std.specs.Prelude.{◌≡◌, ◌<◌};
-ghost use Rattle.iloc_told.specs.declared.Mode.{Mode};
+ghost use Rattle.iloc_normalize.specs.declared.Mode.{Mode};
 ghost use Rattle.iloc_calls.specs.declared.status.Status.{Status};
 ghost use Rattle.iloc_calls.specs.Faults.{FindsFault};
 ghost use Rattle.iloc_calls.specs.Numbers.{EndsAs, mode_number, number_of};
@@ -8,7 +8,7 @@ ghost use Rattle.iloc_calls.specs.Numbers.{EndsAs, mode_number, number_of};
 use crate::answers::mode_of;
 use crate::status::Status;
 use iloc_faults::fault_of;
-use iloc_told::Mode;
+use iloc_normalize::Mode;
 
 /// Why the text is refused, and the place of its fault; of another text nothing is written.
 ///

@@ -7,8 +7,8 @@ ghost use Rattle.iloc_calls.specs.declared.status.Status.{Status};
 ghost use Rattle.iloc_calls.specs.Answers.{HandsOut, Tells};
 
 use crate::status::Status;
+use iloc_normalize::copying::{copy_all, copy_ends};
 use iloc_plain::Plain;
-use iloc_told::copying::{copy_all, copy_ends};
 use iloc_writeable::{Sink, Writeable};
 use std::fmt;
 

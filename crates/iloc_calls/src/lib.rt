@@ -7,7 +7,7 @@
 #![tactic(auto)]
 
 ghost use Rattle.std.specs.Prelude.{◌≡◌, ◌+◌, ◌<◌, ◌≤◌, length};
-ghost use Rattle.iloc_told.specs.declared.Mode.{Mode};
+ghost use Rattle.iloc_normalize.specs.declared.Mode.{Mode};
 ghost use Rattle.iloc_calls.specs.declared.status.Status.{Status};
 ghost use Rattle.iloc_calls.specs.Answers.{
   ComparesTo,

@@ -1,14 +1,14 @@
 //! Tells whether two texts have the same meaning.
 ghost use Rattle.iloc_calls.specs.Answers.{RefusedTells, TellsSame};
-ghost use Rattle.iloc_told.specs.declared.Mode.TheVariants.{Langid, Locale as OfLocale, Data};
+ghost use Rattle.iloc_normalize.specs.declared.Mode.TheVariants.{Langid, Locale as OfLocale, Data};
 
 use crate::comparing::order_of;
 use crate::data::read_data;
 use crate::status::Status;
 use iloc_langid::LanguageIdentifier;
 use iloc_locale::Locale;
+use iloc_normalize::Mode;
 use iloc_subtags::ParseError;
-use iloc_told::Mode;
 use std::alloc::Global;
 
 /// A refused text means something else, unless memory ran out when it was parsed.

@@ -18,9 +18,9 @@ use Rattle.iloc_spec_parts.specs.SmallComputing.{small_result, after_identifier,
 use Rattle.iloc_spec_preferences.specs.DataLocales.{DataMeans, HasDataFault}
 use Rattle.iloc_spec_preferences.specs.DataComputing.{data_of_result, data_result}
 use Rattle.iloc_spec_preferences.proofs.DataLaws.{data_answer, data_apart}
-use Rattle.iloc_told.specs.Modes.{IsFaulty}
-use Rattle.iloc_told.specs.declared.Mode.{Mode}
-use Rattle.iloc_told.specs.declared.Mode.TheVariants.{Langid, Locale, Data}
+use Rattle.iloc_normalize.specs.Modes.{IsFaulty}
+use Rattle.iloc_normalize.specs.declared.Mode.{Mode}
+use Rattle.iloc_normalize.specs.declared.Mode.TheVariants.{Langid, Locale, Data}
 use Rattle.iloc_faults.specs.Next.{started, outcome}
 use Rattle.iloc_faults.specs.Places.{IsAccepted}
 use Rattle.iloc_faults.proofs.Locales.{locale_fault, locale_verdict}

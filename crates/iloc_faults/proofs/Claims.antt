@@ -4,14 +4,15 @@ use Rattle.std.proofs.Common.{Option, Some, None, nat_lt, refl, ◌∙◌}
 use Rattle.std.specs.List.{list_all}
 use Rattle.std.specs.Char.{is_ascii_alphanumeric, to_ascii_lowercase}
 use Rattle.std.proofs.lemmas.Bool.{and_parts, not-true, or_parts}
-use Rattle.iloc_spec_grammar.specs.Syntax.{code_u, Text, Block, code_t, code_x, PrivateSubtag, languages, is_word}
+use Rattle.iloc_spec_grammar.specs.Syntax.{code_u, Text, Block, code_t, code_x, PrivateSubtag, languages}
+use Rattle.iloc_spec_grammar.specs.Syntax.{is_word}
 use Rattle.iloc_spec_grammar.specs.Syntax.{word_cmp, lower_singleton, is_other_singleton, front, blocks}
 use Rattle.iloc_spec_grammar.specs.Meaning.{Fault, InvalidSubtag, InvalidExtension, DuplicatedExtension}
 use Rattle.iloc_spec_grammar.specs.Reading.{transform_of}
 use Rattle.iloc_spec_grammar.specs.Computing.{all_different, is_transform, is_other, is_private, is_block}
 use Rattle.iloc_spec_grammar.specs.Computing.{first_fault, repeats_variant}
 use Rattle.iloc_spec_grammar.proofs.Singletons.{IsKind, of_u, of_t, of_x, another, kind_of, lower_letter}
-use Rattle.iloc_told.specs.declared.Mode.TheVariants.{Locale}
+use Rattle.iloc_normalize.specs.declared.Mode.TheVariants.{Locale}
 use Rattle.iloc_faults.specs.declared.state.Part.{Part}
 use Rattle.iloc_faults.specs.declared.state.Part.TheVariants.{Head, Transform, Source, FieldKey, FieldValue}
 use Rattle.iloc_faults.specs.declared.state.Part.TheVariants.{Unicode, Keyword, Other, OtherWord, Private}
@@ -112,7 +113,8 @@ apart : (c : ℕ) → is_other_singleton c ≡ true →
     ((c == code_t) ≡ false) × ((c == code_u) ≡ false) × ((c == code_x) ≡ false)
 apart c h =
     let n = or_parts ((c == code_t) || (c == code_u)) (c == code_x)
-    (not-true _ (and_parts (is_ascii_alphanumeric c) (not (c == code_t || c == code_u || c == code_x)) h).1) in
+    (not-true _
+    (and_parts (is_ascii_alphanumeric c) (not (c == code_t || c == code_u || c == code_x)) h).1) in
     let m = or_parts (c == code_t) (c == code_u) n.0 in
     (m.0, m.1, n.1)
 

@@ -20,7 +20,7 @@ use Rattle.iloc_spec_parts.specs.SmallComputing.{small_identifier, small_identif
 use Rattle.iloc_spec_parts.specs.SmallComputing.{after_identifier, has_small_variants}
 use Rattle.iloc_spec_preferences.specs.DataLocales.{named_subdivision}
 use Rattle.iloc_spec_preferences.specs.DataComputing.{data_of_result}
-use Rattle.iloc_told.specs.declared.Mode.TheVariants.{Data}
+use Rattle.iloc_normalize.specs.declared.Mode.TheVariants.{Data}
 use Rattle.iloc_faults.specs.declared.state.Part.TheVariants.{Head, Subdivision, SubdivisionKey}
 use Rattle.iloc_faults.specs.declared.state.Part.TheVariants.{SubdivisionValue}
 use Rattle.iloc_faults.specs.declared.state.Stage.{Stage}

@@ -16,10 +16,10 @@ use Rattle.iloc_subtags.specs.declared.parse_error.ParseError.TheVariants.{Dupli
 use Rattle.iloc_subtags.specs.Judging.{Refusal, error_of}
 use Rattle.iloc_data_parts.specs.PartsReading.{PartsTextReads, value_of}
 use Rattle.iloc_data_parts.specs.declared.parts.DataParts.{DataParts}
-use Rattle.iloc_told.specs.Told.{HasRefusal}
-use Rattle.iloc_told.specs.Modes.{IsFaulty}
-use Rattle.iloc_told.specs.declared.Mode.{Mode}
-use Rattle.iloc_told.specs.declared.Mode.TheVariants.{Data}
+use Rattle.iloc_normalize.specs.Answered.{HasRefusal}
+use Rattle.iloc_normalize.specs.Modes.{IsFaulty}
+use Rattle.iloc_normalize.specs.declared.Mode.{Mode}
+use Rattle.iloc_normalize.specs.declared.Mode.TheVariants.{Data}
 use Rattle.iloc_faults.specs.declared.Fault.{Fault}
 use Rattle.iloc_faults.specs.Next.{started, outcome}
 use Rattle.iloc_faults.specs.Places.{IsAccepted, IsFaultPlace, IsFault}

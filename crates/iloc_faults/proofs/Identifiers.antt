@@ -8,7 +8,7 @@ use Rattle.iloc_spec_grammar.specs.Syntax.{Text, Language, languages, is_word, w
 use Rattle.iloc_spec_grammar.specs.Meaning.{InvalidLanguage, InvalidSubtag}
 use Rattle.iloc_spec_grammar.specs.Reading.{identifier_of}
 use Rattle.iloc_spec_grammar.specs.Computing.{is_identifier}
-use Rattle.iloc_told.specs.declared.Mode.TheVariants.{Langid}
+use Rattle.iloc_normalize.specs.declared.Mode.TheVariants.{Langid}
 use Rattle.iloc_faults.specs.declared.state.Part.TheVariants.{Head}
 use Rattle.iloc_faults.specs.declared.state.Stage.{Stage}
 use Rattle.iloc_faults.specs.declared.state.Stage.TheVariants as stages

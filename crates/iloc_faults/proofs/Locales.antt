@@ -12,7 +12,7 @@ use Rattle.iloc_spec_grammar.specs.Reading.{transform_of, identifier_of}
 use Rattle.iloc_spec_grammar.specs.Computing.{is_transform, is_other, is_private, is_identifier, is_field}
 use Rattle.iloc_spec_grammar.specs.Computing.{first_fault, repeats_variant}
 use Rattle.iloc_spec_grammar.proofs.Singletons.{two_more}
-use Rattle.iloc_told.specs.declared.Mode.TheVariants.{Locale}
+use Rattle.iloc_normalize.specs.declared.Mode.TheVariants.{Locale}
 use Rattle.iloc_faults.specs.declared.state.Part.TheVariants.{Head, Transform, Source, FieldKey, FieldValue}
 use Rattle.iloc_faults.specs.declared.state.Part.TheVariants.{Unicode, Keyword, Other, OtherWord, Private}
 use Rattle.iloc_faults.specs.declared.state.Part.TheVariants.{PrivateWord}

@@ -12,8 +12,8 @@ use Rattle.iloc_spec_grammar.specs.Syntax.{code_u, Text, Variant, languages, is_
 use Rattle.iloc_spec_grammar.specs.Syntax.{is_one_byte}
 use Rattle.iloc_spec_grammar.specs.Syntax as kinds
 use Rattle.iloc_spec_grammar.proofs.ReadBack.{all_append}
-use Rattle.iloc_told.specs.declared.Mode.{Mode}
-use Rattle.iloc_told.specs.declared.Mode.TheVariants.{Langid, Locale, Data}
+use Rattle.iloc_normalize.specs.declared.Mode.{Mode}
+use Rattle.iloc_normalize.specs.declared.Mode.TheVariants.{Langid, Locale, Data}
 use Rattle.iloc_pieces.specs.Left.{IsRemainder, IsShortPiece, piece_left, pieces_left}
 use Rattle.iloc_pieces.specs.declared.left.Left.{Left}
 use Rattle.iloc_pieces.proofs.LeftLemmas.{short_variant, short_region, short_script, short_field_key}

@@ -13,7 +13,7 @@ use Rattle.iloc_subtags.specs.Judging.{error_of}
 use Rattle.iloc_pieces.specs.Left.{IsRemainder, IsNextPiece, piece_left, pieces_left, bytes_left}
 use Rattle.iloc_pieces.specs.declared.left.Left.{Left}
 use Rattle.iloc_pieces.proofs.LeftLemmas.{length_rest, next_at, last_piece}
-use Rattle.iloc_told.specs.declared.Mode.{Mode}
+use Rattle.iloc_normalize.specs.declared.Mode.{Mode}
 use Rattle.iloc_faults.specs.declared.Fault.{Fault}
 use Rattle.iloc_faults.specs.declared.state.Part.TheVariants.{Start}
 use Rattle.iloc_faults.specs.declared.state.State.{State}

@@ -10,7 +10,7 @@ use Rattle.iloc_spec_grammar.specs.Syntax as kinds
 use Rattle.iloc_spec_grammar.specs.Reading.{skip_first, passing}
 use Rattle.iloc_spec_grammar.specs.Computing.{all_different}
 use Rattle.iloc_spec_grammar.proofs.WordsLaws.{length-script, length-region, length-variant}
-use Rattle.iloc_told.specs.declared.Mode.{Mode}
+use Rattle.iloc_normalize.specs.declared.Mode.{Mode}
 use Rattle.iloc_faults.specs.declared.state.Stage.{Stage}
 use Rattle.iloc_faults.specs.declared.state.Stage.TheVariants.{Language, Script, Region}
 use Rattle.iloc_faults.specs.Next.{is_new, after_region_next, after_script_next, word_next}

@@ -14,8 +14,8 @@ use Rattle.iloc_spec_grammar.specs.Meaning.{Fault, InvalidLanguage, InvalidSubta
 use Rattle.iloc_spec_grammar.specs.Meaning.{DuplicatedExtension}
 use Rattle.iloc_spec_parts.specs.SmallComputing.{is_u}
 use Rattle.iloc_spec_preferences.specs.DataLocales.{named_subdivision}
-use Rattle.iloc_told.specs.declared.Mode.{Mode}
-use Rattle.iloc_told.specs.declared.Mode.TheVariants.{Langid, Locale, Data}
+use Rattle.iloc_normalize.specs.declared.Mode.{Mode}
+use Rattle.iloc_normalize.specs.declared.Mode.TheVariants.{Langid, Locale, Data}
 use Rattle.iloc_faults.specs.declared.state.Part.{Part}
 use Rattle.iloc_faults.specs.declared.state.Part.TheVariants.{Start, Head, Transform, Source, FieldKey}
 use Rattle.iloc_faults.specs.declared.state.Part.TheVariants.{FieldValue, Unicode, Keyword, Other, OtherWord}

@@ -5,9 +5,9 @@ use Rattle.iloc_spec_grammar.specs.Syntax.{Text, pieces, dashes, languages, Iden
 use Rattle.iloc_spec_grammar.specs.Meaning.{Means, IdentifierMeans}
 use Rattle.iloc_spec_grammar.specs.Meaning as grammar
 use Rattle.iloc_spec_preferences.specs.DataLocales.{DataLocale, DataMeans}
-use Rattle.iloc_told.specs.Told.{HasRefusal}
-use Rattle.iloc_told.specs.declared.Mode.{Mode}
-use Rattle.iloc_told.specs.declared.Mode.TheVariants.{Langid, Locale, Data}
+use Rattle.iloc_normalize.specs.Answered.{HasRefusal}
+use Rattle.iloc_normalize.specs.declared.Mode.{Mode}
+use Rattle.iloc_normalize.specs.declared.Mode.TheVariants.{Langid, Locale, Data}
 use Rattle.iloc_faults.specs.declared.Fault.{Fault}
 
 -- the text means something in the mode

@@ -9,7 +9,7 @@ use Rattle.iloc_spec_grammar.specs.Meaning as grammar
 use Rattle.iloc_subtags.specs.Judging.{error_of}
 use Rattle.iloc_pieces.specs.Left.{IsRemainder, IsNextPiece, IsShortPiece, piece_left, pieces_left}
 use Rattle.iloc_pieces.specs.declared.left.Left.{Left}
-use Rattle.iloc_told.specs.declared.Mode.{Mode}
+use Rattle.iloc_normalize.specs.declared.Mode.{Mode}
 use Rattle.iloc_faults.specs.declared.Fault.{Fault}
 use Rattle.iloc_faults.specs.declared.state.Part.{Part}
 use Rattle.iloc_faults.specs.declared.state.Part.TheVariants.{Head, Source}

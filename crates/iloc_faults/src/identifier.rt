@@ -8,8 +8,8 @@ ghost use Rattle.iloc_faults.specs.Next.{after_region_next, after_script_next, i
 ghost use Rattle.iloc_faults.specs.States.{AreVariantsRead, AreVariantsBetween, IsEarly, IsWordRead};
 
 use crate::state::Stage;
+use iloc_normalize::Mode;
 use iloc_pieces::left::{Left, is_region, is_script, is_variant, next, word_number};
-use iloc_told::Mode;
 
 // Whether a piece from the first variant on, before the piece, is the same word.
 fn is_repeated(first: Left<'_>, at: Left<'_>) -> bool

@@ -1,7 +1,7 @@
 //! Laws of the definitions: the place of a fault is one.
 ghost use Rattle.std.specs.Prelude.{◌≡◌, ℕ};
 ghost use Rattle.iloc_spec_grammar.specs.Syntax.{Text};
-ghost use Rattle.iloc_told.specs.declared.Mode.{Mode};
+ghost use Rattle.iloc_normalize.specs.declared.Mode.{Mode};
 ghost use Rattle.iloc_faults.specs.Places.{IsFaultPlace};
 
 /// Two places of one text are equal.

@@ -8,7 +8,7 @@
 //! promises that it returns `None` exactly for accepted texts, and else the refusal of the parser and the place. It
 //! allocates nothing. The law `one_place` says that a text has one place.
 //!
-//! It stands on the definitions, on pieces (`iloc_pieces`), on the modes of `iloc_told`, and on the reader of data locales
+//! It stands on the definitions, on pieces (`iloc_pieces`), on the modes of `iloc_normalize`, and on the reader of data locales
 //! (`iloc_data_parts`).
 #![tactic(auto)]
 
@@ -23,8 +23,8 @@ mod step;
 mod tests;
 mod walk;
 
+use iloc_normalize::Mode;
 use iloc_subtags::ParseError;
-use iloc_told::Mode;
 
 /// Why a text is refused, and where.
 #[derive(Clone, Debug, Drop, PartialEq, Eq)]

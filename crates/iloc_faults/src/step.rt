@@ -4,7 +4,7 @@ ghost use Rattle.std.specs.Char.{is_ascii_alphanumeric, to_ascii_lowercase};
 ghost use Rattle.iloc_spec_grammar.specs.Syntax.{Text, is_one_byte, is_same, lower};
 ghost use Rattle.iloc_subtags.specs.Judging.{error_of};
 ghost use Rattle.iloc_pieces.specs.Left.{IsRemainder, piece_left};
-ghost use Rattle.iloc_told.specs.declared.Mode.TheVariants as modes;
+ghost use Rattle.iloc_normalize.specs.declared.Mode.TheVariants as modes;
 ghost use Rattle.iloc_faults.specs.Next as steps;
 ghost use Rattle.iloc_faults.specs.Next.{begins_block, block_next, inside_next, may_begin, part_of, piece_next, subdivision_next, when};
 ghost use Rattle.iloc_faults.specs.States.{IsRead, IsPieceRead, bare, bit_place, reached};
@@ -12,12 +12,12 @@ ghost use Rattle.iloc_faults.specs.States.{IsRead, IsPieceRead, bare, bit_place,
 use crate::identifier::read_word;
 use crate::state::{Part, Stage, State, may_end, takes_any};
 use iloc_data_parts::region::named;
+use iloc_normalize::Mode;
 use iloc_pieces::left::{
     Left, is_alphanumeric, is_attribute, is_between, is_field_key, is_key, is_language, is_private,
     is_single, is_subtag, is_true, is_variant, singleton,
 };
 use iloc_subtags::{ParseError, Subtag};
-use iloc_told::Mode;
 
 // The subdivision of a data locale, or a `true` that it leaves out.
 #[tactic(auto, using(iloc_pieces::proofs::LeftLemmas::short_attribute))]

@@ -1,10 +1,10 @@
 // The expected places are worked out by hand from the definition (`specs/Places.antt`).
 use crate::{Fault, fault_of};
+use iloc_normalize::Mode;
+use iloc_normalize::Mode::{Data, Langid, Locale};
 use iloc_subtags::ParseError::{
     self, DuplicatedExtension, InvalidExtension, InvalidLanguage, InvalidSubtag,
 };
-use iloc_told::Mode;
-use iloc_told::Mode::{Data, Langid, Locale};
 
 fn at(refusal: ParseError, start: usize, end: usize) -> Option<Fault> {
     Some(Fault {

@@ -2,7 +2,7 @@
 ghost use Rattle.std.specs.Prelude.{◌≡◌, ◌↔◌, ◌+◌, None, IfSome, length};
 ghost use Rattle.iloc_spec_grammar.specs.Syntax.{pieces};
 ghost use Rattle.iloc_pieces.specs.Left.{IsRemainder, piece_left};
-ghost use Rattle.iloc_told.specs.declared.Mode.TheVariants as modes;
+ghost use Rattle.iloc_normalize.specs.declared.Mode.TheVariants as modes;
 ghost use Rattle.iloc_faults.specs.Next.{started, outcome};
 ghost use Rattle.iloc_faults.specs.Places.{IsAccepted, IsFault};
 ghost use Rattle.iloc_faults.specs.States.{IsFaultFound};
@@ -11,9 +11,9 @@ use crate::Fault;
 use crate::state::{Part, State, may_end};
 use crate::step::{refusal, step};
 use iloc_data_parts::DataParts;
+use iloc_normalize::Mode;
 use iloc_pieces::left::{Left, is_last, left_in, next};
 use iloc_subtags::ParseError;
-use iloc_told::Mode;
 
 // Where the piece ends.
 fn end_of(at: Left<'_>) -> usize

@@ -13,7 +13,8 @@ use Rattle.std.proofs.lemmas.Nat.Bits.{bit_at-suc, bit_at-trailing_zeros, bit_at
 use Rattle.std.proofs.lemmas.Simd.{bit_mask_l, mask_l-lt}
 use lib.Count.{count_trailing_zeros}
 use lib.Lanes.{mask_l}
-use Rattle.iloc_spec_grammar.specs.Syntax.{Text, pieces, first_piece, is_one_byte, is_word, Script, Region, Variant}
+use Rattle.iloc_spec_grammar.specs.Syntax.{Text, pieces, first_piece, is_one_byte, is_word, Script, Region}
+use Rattle.iloc_spec_grammar.specs.Syntax.{Variant}
 use Rattle.iloc_spec_grammar.specs.Reading.{past, skip_first, starts_block, after_region}
 use Rattle.iloc_spec_grammar.proofs.PiecesLaws.{at_pieces}
 use Rattle.iloc_spec_grammar.proofs.Readings.{IsLong, long_script, long_region, long_variant}

@@ -10,7 +10,8 @@ use Rattle.std.specs.Char.{is_ascii_alphanumeric, to_ascii_lowercase}
 use Rattle.std.proofs.lemmas.Bool.{and_parts, cases_lt}
 use Rattle.std.proofs.lemmas.Bool.Decides.{nat_tests}
 use Rattle.std.proofs.Math.Nat.{mul-le-mul_right}
-use Rattle.iloc_spec_grammar.specs.Syntax.{Text, Attribute, Variant, IsWord, letters_or_digits, lower, word_cmp}
+use Rattle.iloc_spec_grammar.specs.Syntax.{Text, Attribute, Variant, IsWord, letters_or_digits, lower}
+use Rattle.iloc_spec_grammar.specs.Syntax.{word_cmp}
 use Rattle.iloc_spec_grammar.proofs.WordsLaws.{length-attribute, length-variant, length-lower}
 use Rattle.iloc_spec_grammar.proofs.WordsLaws.{word_letters_or_digits}
 use Rattle.iloc_fronts.specs.Words.{IsUpToEight, high_first, word_number}

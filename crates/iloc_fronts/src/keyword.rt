@@ -42,7 +42,7 @@ pub enum Keyword {
     Many,
     /// The key `sd`, and one piece. No clause says it: who uses it tests what it finds there.
     Subdivision,
-    /// Nothing that is told.
+    /// Nothing is known.
     Other,
 }
 

@@ -72,7 +72,7 @@ pub fn tell<P: Part>(
     needed: &mut usize,
 ) -> u32
     ensures same { handle.new.value ≡ handle.old.value }
-    ensures told { EndsAs (Tells (P.text part.now (held_locale handle.old.value)) buffer.old
+    ensures answered { EndsAs (Tells (P.text part.now (held_locale handle.old.value)) buffer.old
         buffer.new needed.new) result }
 {
     match handle.take(alloc) {

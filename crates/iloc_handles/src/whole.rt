@@ -110,7 +110,7 @@ impl<'a> Question for AgainstBytes<'a> {
 /// Writes 1 if the text means the locale, and else 0.
 pub fn tell_meant(alloc: Global, handle: &mut Handle, text: &[u8], same: &mut u8) -> Status
     ensures same_locale { handle.new.value ≡ handle.old.value }
-    ensures told { TellsMeant text.now (held_locale handle.old.value) same.old same.new result }
+    ensures answered { TellsMeant text.now (held_locale handle.old.value) same.old same.new result }
 {
     match Locale::try_from_utf8(alloc, text) {
         Ok(parsed) => {

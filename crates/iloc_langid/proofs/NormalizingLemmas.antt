@@ -8,9 +8,9 @@ use Rattle.iloc_spec_grammar.proofs.IdentifierTexts.{identifier_means_again, sam
 use Rattle.iloc_spec_grammar.proofs.AnySteps.{length-identifier_means, identifier_chain_to_text}
 use Rattle.iloc_spec_grammar.proofs.AnySteps.{identifiers_lead_to_one}
 use Rattle.iloc_langid.specs.Normalizing.{IsNormalizedIdentifier, NormalizingIdentifierWantsMemory}
-use Rattle.iloc_told.specs.Modes.{IsNormalText}
-use Rattle.iloc_told.specs.NormalTexts.{IsNotNormal}
-use Rattle.iloc_told.specs.declared.Mode.TheVariants.{Langid}
+use Rattle.iloc_normalize.specs.Modes.{IsNormalText}
+use Rattle.iloc_normalize.specs.NormalTexts.{IsNotNormal}
+use Rattle.iloc_normalize.specs.declared.Mode.TheVariants.{Langid}
 
 -- the text of the meaning is the normal text
 pub is_normalized : (input : Text) (i : Identifier) (t : Text) →

@@ -16,7 +16,7 @@ use Rattle.iloc_langid.specs.declared.plain.PlainParts.{PlainParts}
 use Rattle.iloc_langid.specs.PlainReads.{IsPlainFront}
 use Rattle.iloc_langid.specs.Reads.{value_of, IdentifierReads}
 use Rattle.iloc_langid.specs.SmallLocaleReads.{SmallLocaleTextReads}
-use Rattle.iloc_told.proofs.FrontAnswers.{head_language}
+use Rattle.iloc_normalize.proofs.FrontAnswers.{head_language}
 use Rattle.iloc_langid.proofs.FrontLemmas.{plain_of, front_gives, whole_gives}
 use Rattle.iloc_langid.proofs.SmallLemmas.{parts_are, after_region-pieces, parts_give}
 use Rattle.iloc_langid.proofs.HeadLemmas.{nothing_more}

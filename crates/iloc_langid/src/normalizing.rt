@@ -9,10 +9,10 @@ ghost use Rattle.iloc_writeable.specs.Writing.{IsLent};
 
 use crate::agreeing::has_variants;
 use crate::identifier::LanguageIdentifier;
+use iloc_normalize::answered::ROOM;
+use iloc_normalize::window::{WINDOW, answer_text};
+use iloc_normalize::{Answered, Mode, normalize_short, text_of};
 use iloc_subtags::{Language, ParseError, RegionKind, ScriptKind, SubtagIterator, take_word};
-use iloc_told::told::ROOM;
-use iloc_told::window::{WINDOW, tell_text};
-use iloc_told::{Mode, Told, normalize_short, text_of};
 use iloc_writeable::to_string_or_borrow;
 use std::alloc::Global;
 use std::borrow::CowStr;
@@ -53,10 +53,10 @@ impl LanguageIdentifier {
     {
         let mut window = [0u8; WINDOW];
         let mut room = [0u8; ROOM];
-        match tell_text(Mode::Langid, input, &mut window, &mut room) {
-            Told::Normal(normal) => text_of(alloc, input, normal),
-            Told::Refused(refusal) => Err(refusal),
-            Told::Nothing => Self::normalize_parsed(alloc, input),
+        match answer_text(Mode::Langid, input, &mut window, &mut room) {
+            Answered::Normal(normal) => text_of(alloc, input, normal),
+            Answered::Refused(refusal) => Err(refusal),
+            Answered::Nothing => Self::normalize_parsed(alloc, input),
         }
     }
 

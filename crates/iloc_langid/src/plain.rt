@@ -40,7 +40,7 @@ pub(crate) fn take_plain(iter: &mut SubtagIterator<'_>) -> Option<PlainParts>
 
 /// The subtags of the first bytes if they are a plain text (`iloc_plain`). `None` says nothing of them.
 #[inline(always)]
-pub(crate) fn tell_plain(v: u8x16, len: usize) -> Option<PlainParts>
+pub(crate) fn plain_parts(v: u8x16, len: usize) -> Option<PlainParts>
     requires { len ≤ 16 }
     ensures { IfSome result (IsPlainFront (pieces (take len v)) []) }
 {

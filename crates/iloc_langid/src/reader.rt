@@ -11,7 +11,7 @@ ghost use Rattle.iloc_langid.specs.Reads.{value_of, VariantsReads, FrontComputed
 ghost use Rattle.iloc_langid.specs.Unknown.{unknown_identifier};
 
 use crate::identifier::LanguageIdentifier;
-use crate::plain::{take_plain, tell_plain};
+use crate::plain::{plain_parts, take_plain};
 use iloc_fronts::begins_with_language;
 use iloc_plain::load::load;
 use iloc_subtags::{
@@ -169,14 +169,14 @@ pub(crate) fn fill_text(
     fill_whole(alloc, &mut SubtagIterator::new(code_units), identifier)
 }
 
-/// Turns an identifier without variants into that of a plain text, told at once: then it returns `true`. `false` says
+/// Turns an identifier without variants into that of a plain text, if it is one: then it returns `true`. `false` says
 /// nothing of the text, and leaves the identifier as it was.
 ///
 /// Refuses with `InvalidLanguage` a text of at most sixteen bytes that begins with no language.
 #[inline(always)]
 pub fn fill_short(text: &[u8], identifier: &mut LanguageIdentifier) -> Result<bool, ParseError>
     requires { identifier.old.variants ≡ [] }
-    ensures told { IfOk result (λ told. told ≡ true
+    ensures answered { IfOk result (λ told. told ≡ true
         → IdentifierMeans languages (pieces text.now) (value_of identifier.new)) }
     ensures not_told { IfOk result (λ told. told ≡ false → identifier.new ≡ identifier.old) }
     ensures refused { IfErr result (λ e. (e ≡ ParseError.InvalidLanguage)
@@ -186,7 +186,7 @@ pub fn fill_short(text: &[u8], identifier: &mut LanguageIdentifier) -> Result<bo
         return Ok(false);
     }
     let lanes = load(text);
-    if let Some(told) = tell_plain(lanes, text.len()) {
+    if let Some(told) = plain_parts(lanes, text.len()) {
         identifier.language = told.language;
         identifier.script = told.script;
         identifier.region = told.region;

@@ -11,7 +11,7 @@ ghost use Rattle.iloc_langid.specs.BlockReads.{
   value_result,
 };
 
-use crate::plain::tell_plain;
+use crate::plain::plain_parts;
 use crate::small::read_small_front;
 use iloc_fronts::begins_with_language;
 use iloc_plain::load::load;
@@ -45,7 +45,7 @@ pub fn read_small_locale(code_units: &[u8]) -> Result<SmallLocaleParts, ParseErr
 {
     if code_units.len() <= 16 {
         let lanes = load(code_units);
-        if let Some(plain) = tell_plain(lanes, code_units.len()) {
+        if let Some(plain) = plain_parts(lanes, code_units.len()) {
             return Ok((plain.language, plain.script, plain.region, None, None));
         }
         if !begins_with_language(lanes, code_units.len()) {

@@ -4,7 +4,7 @@ use Rattle.std.proofs.Common.{append_assoc, arith, append-nil}
 use Rattle.std.specs.List.{AllByRecursion}
 use Rattle.std.proofs.lemmas.List.Elements.{recursion_from_All, All-append}
 use Rattle.iloc_lines.specs.Answers.{output, reply}
-use Rattle.iloc_told.specs.declared.Mode.{Mode}
+use Rattle.iloc_normalize.specs.declared.Mode.{Mode}
 use Rattle.iloc_lines.specs.Lines.{lines_of, onto_first, IsOneLine}
 use Rattle.iloc_spec_grammar.specs.Syntax.{Text}
 

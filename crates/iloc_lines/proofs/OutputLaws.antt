@@ -15,9 +15,9 @@ use Rattle.iloc_spec_preferences.proofs.DataLaws.{data_answer, one_data, data_ap
 use Rattle.iloc_spec_grammar.specs.Computing.{identifier_result, locale_result}
 use Rattle.iloc_lines.specs.Lines.{lines_of, ended}
 use Rattle.iloc_lines.specs.Answers.{refusal, IsAnswer, IsOutput, text_or_refusal, line_answer, reply, output}
-use Rattle.iloc_told.specs.Modes.{IsNormalText, IsFaulty}
-use Rattle.iloc_told.specs.declared.Mode.{Mode}
-use Rattle.iloc_told.specs.declared.Mode.TheVariants.{Langid, Locale, Data}
+use Rattle.iloc_normalize.specs.Modes.{IsNormalText, IsFaulty}
+use Rattle.iloc_normalize.specs.declared.Mode.{Mode}
+use Rattle.iloc_normalize.specs.declared.Mode.TheVariants.{Langid, Locale, Data}
 use Rattle.iloc_spec_grammar.proofs.ComputingLaws.{text_identifier_answers, locale_answers}
 
 -- an answer to each result

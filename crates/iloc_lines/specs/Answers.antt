@@ -11,9 +11,9 @@ use Rattle.iloc_subtags.specs.declared.parse_error.ParseError.{ParseError}
 use Rattle.iloc_subtags.specs.Judging.{error_of}
 use Rattle.iloc_subtags.specs.ParseError.{words_of}
 use Rattle.iloc_lines.specs.Lines.{lines_of, ended}
-use Rattle.iloc_told.specs.Modes.{IsNormalText, IsFaulty}
-use Rattle.iloc_told.specs.declared.Mode.{Mode}
-use Rattle.iloc_told.specs.declared.Mode.TheVariants.{Langid, Locale, Data}
+use Rattle.iloc_normalize.specs.Modes.{IsNormalText, IsFaulty}
+use Rattle.iloc_normalize.specs.declared.Mode.{Mode}
+use Rattle.iloc_normalize.specs.declared.Mode.TheVariants.{Langid, Locale, Data}
 
 -- The answer to a line that is refused so.
 abbrev pub refusal_text : ParseError → Text

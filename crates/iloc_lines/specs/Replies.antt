@@ -1,11 +1,11 @@
 -- What was written of a line behind the replies before it.
 use Rattle.std.specs.Prelude.{◌≡◌, [], ◌∷◌, ◌++◌}
 use Rattle.iloc_spec_grammar.specs.Syntax.{Text, languages}
-use Rattle.iloc_told.specs.Modes.{IsNormalText}
-use Rattle.iloc_told.specs.Told.{HasRefusal}
-use Rattle.iloc_told.specs.declared.Mode.{Mode}
-use Rattle.iloc_told.specs.declared.writing.Written.{Written}
-use Rattle.iloc_told.specs.declared.writing.Written.TheVariants.{Normal, Refused, Nothing}
+use Rattle.iloc_normalize.specs.Modes.{IsNormalText}
+use Rattle.iloc_normalize.specs.Answered.{HasRefusal}
+use Rattle.iloc_normalize.specs.declared.Mode.{Mode}
+use Rattle.iloc_normalize.specs.declared.writing.Written.{Written}
+use Rattle.iloc_normalize.specs.declared.writing.Written.TheVariants.{Normal, Refused, Nothing}
 
 -- the normal text in the mode and a newline stand behind what was held; or nothing more does, and a
 -- refusal is that of the line

@@ -3,8 +3,8 @@ ghost use Rattle.std.specs.Prelude.{◌≡◌, ◌<◌, [], ◌∷◌, ◌++◌,
 ghost use Rattle.iloc_spec_grammar.specs.Syntax.{Text, LanguageLengths, AreLengths, languages};
 ghost use Rattle.iloc_lines.specs.Lines.{IsOneLine, ReadsEnded, ReadsOpen, IsEndedOrOpen};
 ghost use Rattle.iloc_lines.specs.Answers.{IsAnswer, IsOutput, line_answer, reply, output};
-ghost use Rattle.iloc_told.specs.declared.Mode.{Mode};
-ghost use Rattle.iloc_told.specs.declared.Mode.TheVariants.{Langid, Locale, Data};
+ghost use Rattle.iloc_normalize.specs.declared.Mode.{Mode};
+ghost use Rattle.iloc_normalize.specs.declared.Mode.TheVariants.{Langid, Locale, Data};
 
 /// What is computed of a line is its one answer in the words of the grammar.
 pub fn line_answers()

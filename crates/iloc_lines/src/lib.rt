@@ -4,7 +4,7 @@
 //! (`laws`) say that there is one of each, and that it is computed. It promises that what `run_with` writes is the output
 //! of what it reads, if each line is answered as `Answers` says: that is what `iloc_program` adds.
 //!
-//! Most lines are answered without a value, by the steps of `iloc_told`. So it stands on no parser. Memory is as long as
+//! Most lines are answered without a value, by the steps of `iloc_normalize`. So it stands on no parser. Memory is as long as
 //! the longest line and its answer; reads and writes are in blocks of 64 KiB.
 #![tactic(auto)]
 
@@ -21,7 +21,7 @@ mod lines;
 pub mod replies;
 pub mod reply_block;
 
-pub use iloc_told::Mode;
+pub use iloc_normalize::Mode;
 pub use replies::{write_refusal, write_text};
 pub use reply_block::ReplyBlock;
 use std::alloc::{AllocError, Global};
@@ -66,7 +66,7 @@ pub fn ending(outcome: Option<&Result<(), RunError>>) -> (&'static str, u8)
 
 /// What answers lines in one mode.
 pub trait Answers {
-    ghost use Rattle.iloc_told.specs.declared.Mode.{Mode};
+    ghost use Rattle.iloc_normalize.specs.declared.Mode.{Mode};
 
     ghost mode: { Mode };
 

@@ -23,7 +23,7 @@ ghost use Rattle.std.specs.Prelude.{
 ghost use Rattle.std.specs.Io.KnownBytes.{Appends};
 ghost use Rattle.iloc_writeable.specs.Growth.{AddsBeginning};
 ghost use Rattle.iloc_lines.specs.ReplyBlock.{held};
-ghost use Rattle.iloc_told.specs.Told.{IsLead};
+ghost use Rattle.iloc_normalize.specs.Answered.{IsLead};
 ghost use Rattle.iloc_lines.specs.Lines.{IsLineEnd, IsOneLine};
 ghost use Rattle.iloc_plain.specs.Plain.{IsPlain};
 ghost use Rattle.std.specs.Simd.Lanes.{mask_l};
@@ -35,10 +35,10 @@ use crate::replies::write_refusal;
 use crate::reply_block::ReplyBlock;
 use crate::{Answers, RunError};
 use iloc_fronts::may_begin;
+use iloc_normalize::{Lead, Written, read_found, read_lead};
 use iloc_outline::spans::Spans;
 use iloc_plain::{Plain, read_plain};
 use iloc_subtags::ParseError;
-use iloc_told::{Lead, Written, read_found, read_lead};
 use memchr::memchr_iter;
 use std::alloc::{AllocError, Global};
 use std::io::Write;
@@ -154,7 +154,7 @@ fn lead_of<A: Answers>(answers: &A, window: &[u8], len: usize) -> Lead
     }
 }
 
-// Adds the reply to the line that this window begins with, if it is not plain: at once if it is told, and else as the
+// Adds the reply to the line that this window begins with, if it is not plain: without a value if that answers it, and else as the
 // mode parses it. Sixteen bytes behind the line may be loaded. The spans are room for the outline of a line.
 #[inline(always)]
 fn reply_to<A: Answers>(
@@ -172,7 +172,7 @@ fn reply_to<A: Answers>(
         Lead::Refused(error) => return write_refusal(error, replies),
         lead => lead,
     };
-    match replies.push_told(answers.mode(), lead, window, len, spans)? {
+    match replies.push_answered(answers.mode(), lead, window, len, spans)? {
         Written::Normal(_) => Ok(()),
         Written::Refused(error) => write_refusal(error, replies),
         Written::Nothing => answers.reply(&window[..len], replies),

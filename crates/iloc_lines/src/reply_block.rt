@@ -1,9 +1,9 @@
 //! The replies to a block of lines, as they are collected.
 ghost use Rattle.std.specs.Prelude.{◌≡◌, ◌+◌, ◌≤◌, [], ◌∷◌, ◌++◌, length, take, vec_len, IfOk, OnOk, OnErr};
 
+use iloc_normalize::{Lead, Mode, Written, write_normal};
 use iloc_outline::spans::Spans;
 use iloc_plain::Plain;
-use iloc_told::{Lead, Mode, Written, write_normal};
 use iloc_writeable::Sink;
 use std::alloc::{AllocError, Global};
 use std::cmp::max;
@@ -24,7 +24,7 @@ pub struct ReplyBlock {
 impl ReplyBlock {
     ghost use Rattle.iloc_lines.specs.ReplyBlock.{held};
     ghost use Rattle.iloc_lines.specs.Replies.{IsReplied};
-    ghost use Rattle.iloc_told.specs.Told.{IsLead};
+    ghost use Rattle.iloc_normalize.specs.Answered.{IsLead};
     ghost use Rattle.iloc_spec_grammar.specs.Values.{identifier_text};
     ghost use Rattle.iloc_plain.specs.Plain.{AreWords, value_of};
 
@@ -88,7 +88,7 @@ impl ReplyBlock {
 
     /// Adds the normal text of the first `len` bytes, of which their beginning tells this, and a newline; or nothing.
     #[inline(always)]
-    pub(crate) fn push_told(
+    pub(crate) fn push_answered(
         &mut self,
         mode: Mode,
         lead: Lead,

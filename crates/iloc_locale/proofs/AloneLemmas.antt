@@ -86,7 +86,7 @@ use Rattle.iloc_spec_grammar.proofs.Singletons.{
   two_more,
 }
 use Rattle.iloc_spec_parts.proofs.SmallShapes.{none_there, none_mapped, no_normal_fields}
-use Rattle.iloc_told.proofs.PlainAnswers as alone
+use Rattle.iloc_normalize.proofs.PlainAnswers as alone
 use Rattle.iloc_spec_grammar.specs.Syntax.{Block, code_x, code_u, code_t, Text}
 
 -- the text of an identifier alone

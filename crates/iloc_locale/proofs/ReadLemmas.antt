@@ -29,9 +29,9 @@ use Rattle.iloc_langid.specs.Reads.{IdentifierReads}
 use Rattle.iloc_locale.specs.ExtensionsValue as extensions
 use Rattle.iloc_locale.specs.Whole.{BlocksReads}
 use Rattle.iloc_fronts.specs.Front.{HasNoLanguage, HasBlock}
-use Rattle.iloc_told.specs.declared.Mode.TheVariants as modes
-use Rattle.iloc_told.proofs.FrontAnswers.{no_language_refused}
-use Rattle.iloc_told.proofs.PlainAnswers.{means_alone}
+use Rattle.iloc_normalize.specs.declared.Mode.TheVariants as modes
+use Rattle.iloc_normalize.proofs.FrontAnswers.{no_language_refused}
+use Rattle.iloc_normalize.proofs.PlainAnswers.{means_alone}
 use Rattle.iloc_locale.proofs.RoundLaws.{blocks-from_block}
 use Rattle.iloc_locale.specs.declared.locale.Locale.{Locale}
 use Rattle.iloc_locale.specs.LocaleReading.{value_of, unknown_locale, LocaleWantsMemory, LocaleTextReads}

@@ -9,9 +9,9 @@ ghost use Rattle.iloc_spec_parts.specs.Orders.{locale_cmp};
 
 use crate::locale::Locale;
 use iloc_langid::beginning::begins_with;
+use iloc_normalize::answered::ROOM;
+use iloc_normalize::{Answered, Mode, answer};
 use iloc_subtags::ParseError;
-use iloc_told::told::ROOM;
-use iloc_told::{Mode, Told, tell};
 use iloc_writeable::cmp_utf8;
 use std::alloc::{AllocError, Global};
 use std::cmp::Ordering;
@@ -49,7 +49,7 @@ impl Locale {
         if !begins_with(other.as_bytes(), &self.id) {
             return Ok(false);
         }
-        match self.compare_told(other.as_bytes()) {
+        match self.compare_outlined(other.as_bytes()) {
             Some(same) => Ok(same),
             None => self.compare_parsed(alloc, other),
         }
@@ -57,7 +57,7 @@ impl Locale {
 
     // Whether the text means this locale, by its normal text. `None` says nothing.
     #[inline(never)]
-    fn compare_told(&self, text: &[u8]) -> Option<bool>
+    fn compare_outlined(&self, text: &[u8]) -> Option<bool>
         ensures { IfSome result
             (λ same. IsTrue same ↔ Means languages text.now (value_of self.now)) }
     {
@@ -71,11 +71,11 @@ impl Locale {
             return None;
         }
         let mut room = [0u8; ROOM];
-        match tell(Mode::Locale, &in_window(text), text.len(), &mut room) {
-            Told::Normal(normal) if normal == text => Some(false),
-            Told::Normal(normal) => Some(self.strict_cmp(normal).is_eq()),
-            Told::Refused(_) => Some(false),
-            Told::Nothing => None,
+        match answer(Mode::Locale, &in_window(text), text.len(), &mut room) {
+            Answered::Normal(normal) if normal == text => Some(false),
+            Answered::Normal(normal) => Some(self.strict_cmp(normal).is_eq()),
+            Answered::Refused(_) => Some(false),
+            Answered::Nothing => None,
         }
     }
 

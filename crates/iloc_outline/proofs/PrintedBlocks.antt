@@ -160,13 +160,15 @@ transform_printed T m h =
     ap (λ l. front ++ l) (flat_map-append printed_part variants fields)
     ∙ sym (append_assoc front (flat_map printed_part variants) (flat_map printed_part fields))
     ∙ (λ j. optional_printed T m.id h.id j ++ values_printed m.fields h.fields j))
-    ∙ sym (printed_some code_t (map lower (optional_pieces (option_map normal_identifier m.id)) ++ fields_pieces
+    ∙ sym
+        (printed_some code_t (map lower (optional_pieces (option_map normal_identifier m.id)) ++ fields_pieces
     (spelled_fields (normal_fields m.fields))) (some_transform m.id m.fields h.nonempty))
 
 private_printed : (ps : List Text) → IsPrivate ps → (code_x ∷ []) ∷ map lower ps
     ≡ private_spelling (map lower ps)
 unfolding private_spelling
-private_printed ps h = sym (printed_some code_x (map lower ps) (omega (arith, length-map ps lower, h.nonempty)))
+private_printed ps h =
+    sym (printed_some code_x (map lower ps) (omega (arith, length-map ps lower, h.nonempty)))
 
 other_printed : (c : ℕ) (ps : List Text) → IsOther ps → (c ∷ []) ∷ kept ps ≡ other_spelling (c, kept ps)
 unfolding other_spelling
@@ -225,7 +227,8 @@ pub block_printed : (T : ℕ → Bool) (b : Block) → is_ascii_alphanumeric b.0
     → flat_map printed_part (block_parts b) ≡ spelled (lower_singleton b) b.1
 block_printed T b a g = elim (kind_of (lower_singleton b) (lower_letter b.0 a)) [
   | of_u k ↦
-      ap (λ c. flat_map printed_part (parts_at c b)) k ∙ start b.0 code_u k [] (unicode_parts (unicode_of b.1))
+      ap (λ c. flat_map printed_part (parts_at c b)) k
+      ∙ start b.0 code_u k [] (unicode_parts (unicode_of b.1))
       ∙ unicode_printed (unicode_of b.1) (u_rule T b.1 (rule_of T b code_u k g))
       ∙ ap (λ c. spelled c b.1) (sym k)
   | of_t k ↦ ap (λ c. flat_map printed_part (parts_at c b)) k

@@ -193,7 +193,8 @@ agree (b ∷ bs) x h q = elim (kind_of b.0 h.0.1) [
 abbrev IsOtherKey : Block → Type 0
 IsOtherKey o = is_other_singleton o.0 ≡ true
 
-before_low : (os : List Block) → AllByRecursion IsOtherKey os → AllByRecursion (λ o. o.0 < code_t) (before_t os)
+before_low : (os : List Block) → AllByRecursion IsOtherKey os →
+    AllByRecursion (λ o. o.0 < code_t) (before_t os)
 before_low [] h = tt
 before_low (o ∷ os) h = cond_both (nat_le o.0 code_t) _ _ (AllByRecursion (λ o. o.0 < code_t))
     (λ e. (less_t o.0 h.0 e, before_low os h.1)) (λ _. tt)

@@ -8,7 +8,7 @@
 //! text is the normal text (`IsIdentifierOutlined`, `IsLocaleOutlined`). `Full` says that the text has more than 64
 //! pieces. They take texts of fewer than 65,536 bytes that begin with a language. `copy_outline` writes the normal text.
 //!
-//! `iloc_told` asks it of each identifier and each locale that is not plain, and whose beginning does not refuse it.
+//! `iloc_normalize` asks it of each identifier and each locale that is not plain, and whose beginning does not refuse it.
 //! docs/DECISIONS.md says what that costs.
 //!
 //! It stands on the grammar (`iloc_spec_grammar`), on pieces (`iloc_pieces`), on `iloc_plain`, on the refusals of

@@ -5,7 +5,8 @@ use Rattle.std.specs.Cmp.{Equal-is}
 use Rattle.std.specs.Char.{is_ascii_alphabetic, is_ascii_alphanumeric, to_ascii_lowercase}
 use Rattle.std.proofs.lemmas.Bool.{false_from_ne_true, and_parts, cases_Bool, eqb-true, eqb-false}
 use Rattle.std.proofs.lemmas.Bool.Decides.{nat_tests}
-use Rattle.iloc_spec_grammar.specs.Syntax.{code_u, code_t, Text, Kind, Script, IsWord, is_word, is_one_byte, is_true, is_same}
+use Rattle.iloc_spec_grammar.specs.Syntax.{code_u, code_t, Text, Kind, Script, IsWord, is_word, is_one_byte}
+use Rattle.iloc_spec_grammar.specs.Syntax.{is_true, is_same}
 use Rattle.iloc_spec_grammar.specs.Syntax.{lower, Bounds}
 use Rattle.iloc_spec_grammar.proofs.MapLaws.{same_itself, same_words}
 use Rattle.iloc_spec_grammar.proofs.WordsLaws.{word_letters_or_digits, letter_is, length-script}

@@ -6,6 +6,6 @@ use Rattle.iloc_plain.specs.Plain.{IsPlain, value_of}
 use Rattle.iloc_plain.specs.declared.normal.PlainText.{PlainText}
 
 -- the text is that plain identifier, and called normal exactly if it is the identifier's text
-pub record IsToldPlain (t : Text) (told : PlainText) : Type 0 where
+pub record IsPlainText (t : Text) (told : PlainText) : Type 0 where
   pub plain : IsPlain t told.plain
   pub exactly : IsTrue told.is_normal ↔ (t ≡ identifier_text (value_of told.plain))

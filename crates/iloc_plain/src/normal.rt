@@ -1,12 +1,12 @@
 //! Tells whether a plain text is its normal text already.
 ghost use Rattle.std.specs.Prelude.{◌≡◌, ◌↔◌, ◌≤◌, IfSome, IsTrue, take};
-ghost use Rattle.iloc_plain.specs.Normal.{IsToldPlain};
+ghost use Rattle.iloc_plain.specs.Normal.{IsPlainText};
 
 use crate::plain::Plain;
 use crate::read::read_lanes;
 use std::simd::prelude::*;
 
-/// A plain identifier, and what is told of the text it was read from.
+/// A plain identifier, and what the text was that it was read from.
 #[derive(Drop)]
 pub struct PlainText {
     /// The identifier.
@@ -18,9 +18,9 @@ pub struct PlainText {
 /// The plain identifier that the first `len` bytes are, and whether they are its normal text already.
 /// `None` says nothing of them.
 #[inline(always)]
-pub fn tell_normal(v: u8x16, len: usize) -> Option<PlainText>
+pub fn normal_plain(v: u8x16, len: usize) -> Option<PlainText>
     requires { len ≤ 16 }
-    ensures { IfSome result (IsToldPlain (take len v)) }
+    ensures { IfSome result (IsPlainText (take len v)) }
 {
     let plain = read_lanes(v, len)?;
     let is_normal = are_same(v, plain.bytes, plain.len);

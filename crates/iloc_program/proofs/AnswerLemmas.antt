@@ -21,7 +21,7 @@ use Rattle.iloc_locale.proofs.ReadLemmas.{head_accepts}
 use Rattle.iloc_locale.specs.LocaleReading.{LocaleTextAnswers}
 use Rattle.iloc_spec_preferences.specs.DataLocales.{DataLocale, DataMeans, data_text}
 use Rattle.iloc_data_parts.specs.PartsReading.{PartsTextReads}
-use Rattle.iloc_told.specs.declared.Mode.TheVariants.{Langid, Locale, Data}
+use Rattle.iloc_normalize.specs.declared.Mode.TheVariants.{Langid, Locale, Data}
 use Rattle.iloc_lines.specs.Answers.{line_answer, refusal_text}
 
 pub answer_accepted : (t : Text) (i : Identifier) → IdentifierMeans languages (pieces t) i →

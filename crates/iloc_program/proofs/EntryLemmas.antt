@@ -5,9 +5,9 @@ use Rattle.std.specs.Prelude.{if◌then◌else◌}
 use Rattle.iloc_spec_grammar.specs.Syntax.{Text, languages}
 use Rattle.iloc_spec_grammar.specs.Values.{identifier_text, text}
 use Rattle.iloc_spec_preferences.specs.DataLocales.{data_text}
-use Rattle.iloc_told.specs.Modes.{IsNormalText}
-use Rattle.iloc_told.specs.declared.Mode.{Mode}
-use Rattle.iloc_told.specs.declared.Mode.TheVariants.{Langid, Locale, Data}
+use Rattle.iloc_normalize.specs.Modes.{IsNormalText}
+use Rattle.iloc_normalize.specs.declared.Mode.{Mode}
+use Rattle.iloc_normalize.specs.declared.Mode.TheVariants.{Langid, Locale, Data}
 use Rattle.iloc_faults.specs.Places.{IsAccepted, IsFault}
 use Rattle.iloc_faults.specs.declared.Fault.{Fault}
 use Rattle.iloc_lines.specs.Answers.{reply}

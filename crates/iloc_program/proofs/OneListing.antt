@@ -12,10 +12,10 @@ use Rattle.iloc_subtags.specs.declared.parse_error.ParseError.{ParseError}
 use Rattle.iloc_subtags.specs.declared.parse_error.ParseError.TheVariants.{InvalidLanguage, InvalidSubtag}
 use Rattle.iloc_subtags.specs.declared.parse_error.ParseError.TheVariants.{InvalidExtension}
 use Rattle.iloc_subtags.specs.declared.parse_error.ParseError.TheVariants.{DuplicatedExtension, OutOfMemory}
-use Rattle.iloc_told.specs.Modes.{IsNormalText, IsFaulty}
-use Rattle.iloc_told.specs.Told.{HasRefusal}
-use Rattle.iloc_told.specs.declared.Mode.{Mode}
-use Rattle.iloc_told.specs.declared.Mode.TheVariants.{Langid, Locale, Data}
+use Rattle.iloc_normalize.specs.Modes.{IsNormalText, IsFaulty}
+use Rattle.iloc_normalize.specs.Answered.{HasRefusal}
+use Rattle.iloc_normalize.specs.declared.Mode.{Mode}
+use Rattle.iloc_normalize.specs.declared.Mode.TheVariants.{Langid, Locale, Data}
 use Rattle.iloc_faults.specs.Places.{IsFault}
 use Rattle.iloc_faults.specs.declared.Fault.{Fault}
 use Rattle.iloc_faults.proofs.OnePlace.{one_place}

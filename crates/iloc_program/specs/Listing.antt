@@ -5,8 +5,8 @@ use Rattle.std.specs.Prelude.{drop, if◌then◌else◌}
 use Rattle.std.specs.List.{flat_map}
 use Rattle.std.specs.Fmt.{decimal, digit_glyph}
 use Rattle.iloc_spec_grammar.specs.Syntax.{Text, languages}
-use Rattle.iloc_told.specs.Modes.{IsNormalText}
-use Rattle.iloc_told.specs.declared.Mode.{Mode}
+use Rattle.iloc_normalize.specs.Modes.{IsNormalText}
+use Rattle.iloc_normalize.specs.declared.Mode.{Mode}
 use Rattle.iloc_faults.specs.Places.{IsFault}
 use Rattle.iloc_faults.specs.declared.Fault.{Fault}
 use Rattle.iloc_lines.specs.Answers.{refusal_text}

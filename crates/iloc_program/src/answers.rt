@@ -26,7 +26,7 @@ impl Identifiers {
 }
 
 impl Answers for Identifiers {
-    ghost use Rattle.iloc_told.specs.declared.Mode.TheVariants.{Langid};
+    ghost use Rattle.iloc_normalize.specs.declared.Mode.TheVariants.{Langid};
 
     ghost mode = { Langid };
 
@@ -63,7 +63,7 @@ impl Locales {
 }
 
 impl Answers for Locales {
-    ghost use Rattle.iloc_told.specs.declared.Mode.TheVariants.{Locale};
+    ghost use Rattle.iloc_normalize.specs.declared.Mode.TheVariants.{Locale};
 
     ghost mode = { Locale };
 
@@ -93,7 +93,7 @@ impl Answers for Locales {
 pub struct DataLocales;
 
 impl Answers for DataLocales {
-    ghost use Rattle.iloc_told.specs.declared.Mode.TheVariants.{Data};
+    ghost use Rattle.iloc_normalize.specs.declared.Mode.TheVariants.{Data};
 
     ghost mode = { Data };
 

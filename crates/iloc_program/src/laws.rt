@@ -5,7 +5,7 @@ ghost use Rattle.iloc_lines.specs.Answers.{IsOutput};
 ghost use Rattle.iloc_program.specs.Numbered.{IsListing};
 ghost use Rattle.iloc_program.specs.declared.numbered.Listing.{Listing};
 ghost use Rattle.iloc_program.specs.Listing.{IsEntry, nothing_asked};
-ghost use Rattle.iloc_told.specs.declared.Mode.{Mode};
+ghost use Rattle.iloc_normalize.specs.declared.Mode.{Mode};
 
 /// Two listings of one input are equal.
 pub fn one_listing()

@@ -14,9 +14,9 @@ use Rattle.iloc_spec_preferences.specs.DataLocales.{DataLocale, DataMeans, data_
 use Rattle.iloc_spec_preferences.proofs.DataLaws.{locale_of_data_is_value, locale_of_data_is_well_formed}
 use Rattle.iloc_spec_preferences.proofs.DataLaws.{read_is_data_locale, text_of_data}
 use Rattle.iloc_kinds.specs.Kinds.{IsNormalTextOf, parts_of, rows_of}
-use Rattle.iloc_told.specs.Modes.{IsNormalText}
-use Rattle.iloc_told.specs.declared.Mode.{Mode}
-use Rattle.iloc_told.specs.declared.Mode.TheVariants.{Langid, Locale, Data}
+use Rattle.iloc_normalize.specs.Modes.{IsNormalText}
+use Rattle.iloc_normalize.specs.declared.Mode.{Mode}
+use Rattle.iloc_normalize.specs.declared.Mode.TheVariants.{Langid, Locale, Data}
 use Rattle.iloc_writeable.specs.Hints.{saturated}
 use Rattle.iloc_calls.specs.Answers.{HandsOut}
 use Rattle.iloc_calls.specs.declared.status.Status.{Status}

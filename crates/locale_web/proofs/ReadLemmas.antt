@@ -18,10 +18,10 @@ use Rattle.iloc_outline.specs.Outlines.{BeginsWithLanguage, Gives}
 use Rattle.iloc_outline.specs.declared.outline.Outline.{Outline}
 use Rattle.iloc_outline.specs.declared.spans.Spans.{Spans}
 use Rattle.iloc_subtags.specs.declared.parse_error.ParseError.TheVariants.{InvalidLanguage}
-use Rattle.iloc_told.proofs.FrontAnswers.{no_language_refused}
-use Rattle.iloc_told.specs.Told.{HasRefusal}
-use Rattle.iloc_told.specs.declared.Mode.{Mode}
-use Rattle.iloc_told.specs.declared.Mode.TheVariants.{Langid, Locale, Data}
+use Rattle.iloc_normalize.proofs.FrontAnswers.{no_language_refused}
+use Rattle.iloc_normalize.specs.Answered.{HasRefusal}
+use Rattle.iloc_normalize.specs.declared.Mode.{Mode}
+use Rattle.iloc_normalize.specs.declared.Mode.TheVariants.{Langid, Locale, Data}
 use Rattle.locale_web.specs.Reading.{IsReadInto, IsNormalWithin}
 use Rattle.locale_web.specs.declared.reading.Found.TheVariants as founds
 

@@ -15,10 +15,10 @@ use Rattle.iloc_spec_preferences.specs.DataLocales.{DataMeans, data_text}
 use Rattle.iloc_spec_preferences.proofs.DataLaws.{one_data, data_apart, read_back}
 use Rattle.iloc_subtags.specs.declared.parse_error.ParseError.{ParseError}
 use Rattle.iloc_subtags.specs.declared.parse_error.ParseError.TheVariants as refusals
-use Rattle.iloc_told.specs.Modes.{IsNormalText, IsFaulty}
-use Rattle.iloc_told.specs.Told.{HasRefusal}
-use Rattle.iloc_told.specs.declared.Mode.{Mode}
-use Rattle.iloc_told.specs.declared.Mode.TheVariants.{Langid, Locale, Data}
+use Rattle.iloc_normalize.specs.Modes.{IsNormalText, IsFaulty}
+use Rattle.iloc_normalize.specs.Answered.{HasRefusal}
+use Rattle.iloc_normalize.specs.declared.Mode.{Mode}
+use Rattle.iloc_normalize.specs.declared.Mode.TheVariants.{Langid, Locale, Data}
 use Rattle.iloc_calls.specs.Answers.{MeanSame}
 use Rattle.iloc_calls.specs.declared.status.Status.TheVariants.{Done}
 use Rattle.locale_web.specs.Answers.{SameIsWritten}

@@ -6,9 +6,9 @@ use Rattle.iloc_spec_grammar.specs.Meaning.{Means, IdentifierMeans, without_exte
 use Rattle.iloc_spec_grammar.specs.Values.{text}
 use Rattle.iloc_spec_preferences.specs.DataLocales.{DataLocale, DataMeans, locale_of_data}
 use Rattle.iloc_kinds.specs.Kinds.{parts_of, rows_of}
-use Rattle.iloc_told.specs.Modes.{IsNormalText}
-use Rattle.iloc_told.specs.declared.Mode.{Mode}
-use Rattle.iloc_told.specs.declared.Mode.TheVariants.{Langid, Locale, Data}
+use Rattle.iloc_normalize.specs.Modes.{IsNormalText}
+use Rattle.iloc_normalize.specs.declared.Mode.{Mode}
+use Rattle.iloc_normalize.specs.declared.Mode.TheVariants.{Langid, Locale, Data}
 use Rattle.iloc_calls.specs.Answers.{HandsOut}
 use Rattle.iloc_calls.specs.declared.status.Status.{Status}
 use Rattle.iloc_calls.specs.declared.status.Status.TheVariants.{Done, BufferTooSmall}

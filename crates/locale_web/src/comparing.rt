@@ -4,7 +4,7 @@ ghost use Rattle.locale_web.specs.Answers.{IsOneBeyond, OrderIsWritten, SameIsWr
 
 use crate::normalizing::{Placed, put};
 use iloc_calls::{Status, number};
-use iloc_told::Mode;
+use iloc_normalize::Mode;
 
 /// Writes the byte order of the normal texts of both, as -1, 0 or 1. `None` if one is beyond what its room is for.
 pub(crate) fn compare(

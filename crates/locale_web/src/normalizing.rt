@@ -11,11 +11,11 @@ use crate::data::DataText;
 use crate::reading::{Found, read, text_end};
 use iloc_calls::{Status, hand_out};
 use iloc_data_parts::DataParts;
+use iloc_normalize::Mode;
+use iloc_normalize::copying::copy_all;
 use iloc_outline::printing::copy_outline;
 use iloc_outline::spans::Spans;
 use iloc_subtags::ParseError;
-use iloc_told::Mode;
-use iloc_told::copying::copy_all;
 
 // How much larger than a text its room is.
 const MORE: usize = 16;

@@ -8,7 +8,7 @@ ghost use Rattle.locale_web.specs.Parts.{NoPartIsWritten, PartsAreWritten};
 use crate::normalizing::{Placed, put};
 use iloc_calls::Status;
 use iloc_kinds::rows::{count_pieces, write_rows};
-use iloc_told::Mode;
+use iloc_normalize::Mode;
 
 // How many numbers stand for a piece.
 const ROW: usize = 3;

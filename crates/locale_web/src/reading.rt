@@ -1,20 +1,20 @@
 //! Reads a text.
 ghost use Rattle.std.specs.Prelude.{◌≡◌, ◌↔◌, ◌≤◌, Some, MatchOption, length, take};
 ghost use Rattle.iloc_calls.specs.Numbers.{mode_number};
-ghost use Rattle.iloc_told.specs.declared.Mode.{Mode};
-ghost use Rattle.iloc_told.specs.declared.Mode.TheVariants as modes;
+ghost use Rattle.iloc_normalize.specs.declared.Mode.{Mode};
+ghost use Rattle.iloc_normalize.specs.declared.Mode.TheVariants as modes;
 ghost use Rattle.iloc_outline.specs.declared.spans.Spans.{Spans};
 ghost use Rattle.locale_web.specs.Answers.{IsJudged};
 ghost use Rattle.locale_web.specs.Reading.{IsPastLimits, IsReadInto};
 
 use iloc_calls::Status;
 use iloc_data_parts::DataParts;
+use iloc_normalize::Mode;
 use iloc_outline::outline::{
     Outline, Outlined, begins_with_language, outline_identifier, outline_locale,
 };
 use iloc_outline::spans::Spans;
 use iloc_subtags::ParseError;
-use iloc_told::Mode;
 
 // The longest text that is outlined.
 const MOST: usize = 65535;

@@ -3,14 +3,14 @@ use iloc_data::DataLocale;
 use iloc_keyword_types::SubdivisionId;
 use iloc_langid::{LanguageIdentifier, SmallLocaleParts, read_small_locale};
 use iloc_locale::Locale;
+use iloc_normalize::answered::ROOM;
+use iloc_normalize::window::{WINDOW, answer_text};
+use iloc_normalize::{Answered, Mode, normalize_short};
 use iloc_subtags::{Language, ParseError, Region, Script, Variant};
-use iloc_told::told::ROOM;
-use iloc_told::window::{WINDOW, tell_text};
-use iloc_told::{Mode, Told, normalize_short};
 use std::alloc::Global;
 use std::borrow::CowStr;
 use std::str;
-use test_page::told::lent;
+use test_page::answered::lent;
 use test_page::{Call, bytes, printed, put, put_some, refuse, say};
 
 // Says a normal text, or why it was refused.
@@ -33,10 +33,10 @@ fn at_once(out: &mut String, told: Option<Result<CowStr<'_, Global>, ParseError>
 // Says the normal text in the mode as it is written from the bytes of the text.
 fn told(out: &mut String, mode: Mode, text: &[u8]) {
     let (mut window, mut room) = ([0u8; WINDOW], [0u8; ROOM]);
-    match tell_text(mode, text, &mut window, &mut room) {
-        Told::Normal(normal) => bytes(out, normal),
-        Told::Refused(error) => refuse(out, error),
-        Told::Nothing => say(out, "not told"),
+    match answer_text(mode, text, &mut window, &mut room) {
+        Answered::Normal(normal) => bytes(out, normal),
+        Answered::Refused(error) => refuse(out, error),
+        Answered::Nothing => say(out, "not told"),
     }
 }
 

@@ -1,4 +1,4 @@
-use Rattle.iloc_told.specs.declared.Mode.TheVariants.{Data}
+use Rattle.iloc_normalize.specs.declared.Mode.TheVariants.{Data}
 use Rattle.iloc_faults.proofs.FaultAnswers.{good_is, bad_is, inside_is}
 use Rattle.iloc_faults.proofs.fault_of.Goals as goal
 

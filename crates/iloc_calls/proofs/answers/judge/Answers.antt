@@ -1,7 +1,7 @@
 -- A plain text means something in each mode.
 use Rattle.iloc_spec_grammar.specs.Values.{identifier_text}
 use Rattle.iloc_plain.specs.Plain.{value_of}
-use Rattle.iloc_told.proofs.PlainAnswers.{plain_normal}
+use Rattle.iloc_normalize.proofs.PlainAnswers.{plain_normal}
 use Rattle.iloc_calls.proofs.answers.judge.Goals as goal
 
 pub returns-in-Some : goal.returns-in-Some

@@ -2,4 +2,4 @@
 use Rattle.iloc_calls.proofs.answers.judge_other.Goals as goal
 
 pub returns-in-Normal : goal.returns-in-Normal
-returns-in-Normal c = (_, c.in-Normal.ensures.told)
+returns-in-Normal c = (_, c.in-Normal.ensures.answered)

@@ -3,7 +3,7 @@
 use Rattle.std.proofs.Common.{refl, arith}
 use Rattle.iloc_spec_grammar.specs.Values.{identifier_text}
 use Rattle.iloc_plain.specs.Plain.{value_of}
-use Rattle.iloc_told.proofs.PlainAnswers.{plain_normal}
+use Rattle.iloc_normalize.proofs.PlainAnswers.{plain_normal}
 use Rattle.iloc_calls.specs.declared.status.Status.TheVariants.{BufferTooSmall}
 use Rattle.iloc_calls.proofs.AnswerLemmas.{no_mode}
 use Rattle.iloc_calls.proofs.HandedLemmas.{handed_out, withheld}

@@ -1,5 +1,5 @@
 use Rattle.std.proofs.Common.{None}
-use Rattle.iloc_told.specs.declared.Mode.TheVariants.{Data}
+use Rattle.iloc_normalize.specs.declared.Mode.TheVariants.{Data}
 use Rattle.iloc_faults.proofs.FaultAnswers.{good_is, data_not, never_accepted}
 use Rattle.iloc_faults.proofs.walk.data_fault.Goals as goal
 

@@ -4,8 +4,8 @@ use Rattle.iloc_handles.specs.Held.{held_locale}
 use Rattle.iloc_handles.proofs.Settings.{meant}
 use Rattle.iloc_handles.proofs.whole.tell_meant.Goals as goal
 
-pub returns-in-Ok-clause-told : goal.returns-in-Ok-clause-told
-returns-in-Ok-clause-told c =
+pub returns-in-Ok-clause-answered : goal.returns-in-Ok-clause-answered
+returns-in-Ok-clause-answered c =
     meant c.args.text.now (held_locale c.args.handle.now.value) (value_of c.in-Ok.parsed) c.args.same.now
     c.from.result
     c.ask-order.result c.is_eq.result c.in-Ok.ensures.reads c.ask-order.ensures.answered c.is_eq.ensures

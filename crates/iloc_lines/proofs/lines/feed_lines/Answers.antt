@@ -10,9 +10,9 @@ use Rattle.iloc_spec_grammar.specs.Syntax.{Text, languages}
 use Rattle.iloc_spec_grammar.specs.Values.{identifier_text}
 use Rattle.iloc_plain.specs.Plain.{value_of}
 use Rattle.iloc_lines.proofs.LineCuts.{output-cut}
-use Rattle.iloc_told.proofs.PlainAnswers.{plain_normal}
+use Rattle.iloc_normalize.proofs.PlainAnswers.{plain_normal}
 use Rattle.iloc_lines.proofs.PlainLemmas.{normal_reply, refused_reply}
-use Rattle.iloc_told.proofs.FrontAnswers.{no_language_refused}
+use Rattle.iloc_normalize.proofs.FrontAnswers.{no_language_refused}
 use Rattle.iloc_subtags.specs.declared.parse_error.ParseError.TheVariants.{InvalidLanguage}
 use Rattle.iloc_lines.specs.ReplyBlock.{held}
 use Rattle.iloc_lines.proofs.lines.feed_lines.Goals as goal

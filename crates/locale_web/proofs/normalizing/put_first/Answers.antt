@@ -1,7 +1,7 @@
 -- What the outline gives was copied.
 use Rattle.std.proofs.Common.{take, sym, subst, arith}
 use Rattle.iloc_spec_grammar.specs.Syntax.{languages}
-use Rattle.iloc_told.specs.Modes.{IsNormalText}
+use Rattle.iloc_normalize.specs.Modes.{IsNormalText}
 use Rattle.locale_web.proofs.normalizing.put_first.Goals as goal
 
 pub returns-in-Outlined : goal.returns-in-Outlined

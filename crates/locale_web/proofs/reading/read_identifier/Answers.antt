@@ -1,6 +1,6 @@
 -- The outline gives the normal text; a text that begins with no language is refused.
 use Rattle.std.proofs.Common.{take}
-use Rattle.iloc_told.specs.declared.Mode.TheVariants.{Langid}
+use Rattle.iloc_normalize.specs.declared.Mode.TheVariants.{Langid}
 use Rattle.locale_web.proofs.ReadLemmas.{no_language, identifier_outlined}
 use Rattle.locale_web.proofs.reading.read_identifier.Goals as goal
 

@@ -1,6 +1,6 @@
 -- The outline gives the normal text; a text that begins with no language is refused.
 use Rattle.std.proofs.Common.{take}
-use Rattle.iloc_told.specs.declared.Mode.TheVariants.{Locale}
+use Rattle.iloc_normalize.specs.declared.Mode.TheVariants.{Locale}
 use Rattle.locale_web.proofs.ReadLemmas.{no_language, locale_outlined}
 use Rattle.locale_web.proofs.reading.read_locale.Goals as goal
 

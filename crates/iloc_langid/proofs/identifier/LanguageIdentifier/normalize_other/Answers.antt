@@ -2,38 +2,39 @@ use Rattle.std.specs.Prelude.{◌≢◌, ⊤}
 use Rattle.std.proofs.Common.{Err}
 use Rattle.iloc_langid.specs.Normalizing.{IsNormalizedIdentifier}
 use Rattle.iloc_langid.proofs.NormalizingLemmas.{told_text, told_other}
-use Rattle.iloc_told.proofs.AsciiLemmas.{normal_utf8}
-use Rattle.iloc_told.proofs.NormalLemmas.{normal_text, refusal, refused, runs_out}
-use Rattle.iloc_told.specs.declared.Mode.TheVariants.{Langid, Data}
+use Rattle.iloc_normalize.proofs.AsciiLemmas.{normal_utf8}
+use Rattle.iloc_normalize.proofs.NormalLemmas.{normal_text, refusal, refused, runs_out}
+use Rattle.iloc_normalize.specs.declared.Mode.TheVariants.{Langid, Data}
 use Rattle.iloc_langid.proofs.identifier.LanguageIdentifier.normalize_other.Goals as goal
 
 other : Langid ≢ Data
 other is = cc
 
 pub text_of-requires : goal.text_of-requires
-text_of-requires c = normal_utf8 Langid other c.args.input.now c.in-Normal.normal.now c.in-Normal.ensures.told
+text_of-requires c =
+    normal_utf8 Langid other c.args.input.now c.in-Normal.normal.now c.in-Normal.ensures.answered
 
 pub returns-in-Normal-clause-ok : goal.returns-in-Normal-clause-ok
 returns-in-Normal-clause-ok c =
     let t = c.args.input.now in
     normal_text Langid t (IsNormalizedIdentifier t) (told_text t) c.text_of.result
-    (c.text_of.ensures Langid c.in-Normal.ensures.told)
+    (c.text_of.ensures Langid c.in-Normal.ensures.answered)
 
 pub returns-in-Normal-clause-err : goal.returns-in-Normal-clause-err
 returns-in-Normal-clause-err c =
-    refused Langid c.args.input.now c.text_of.result (c.text_of.ensures Langid c.in-Normal.ensures.told)
+    refused Langid c.args.input.now c.text_of.result (c.text_of.ensures Langid c.in-Normal.ensures.answered)
 
 pub returns-in-Normal-clause-memory : goal.returns-in-Normal-clause-memory
 returns-in-Normal-clause-memory c =
     runs_out Langid c.args.input.now (told_other c.args.input.now) c.text_of.result
-    (c.text_of.ensures Langid c.in-Normal.ensures.told)
+    (c.text_of.ensures Langid c.in-Normal.ensures.answered)
 
 pub returns-in-Refused-clause-err : goal.returns-in-Refused-clause-err
 returns-in-Refused-clause-err c =
     refused {Z = ⊤} Langid c.args.input.now (Err c.in-Refused.refusal)
-    (refusal ⊤ Langid c.args.input.now c.in-Refused.refusal c.in-Refused.ensures.told)
+    (refusal ⊤ Langid c.args.input.now c.in-Refused.refusal c.in-Refused.ensures.answered)
 
 pub returns-in-Refused-clause-memory : goal.returns-in-Refused-clause-memory
 returns-in-Refused-clause-memory c =
     runs_out {Z = ⊤} Langid c.args.input.now (told_other c.args.input.now) (Err c.in-Refused.refusal)
-    (refusal ⊤ Langid c.args.input.now c.in-Refused.refusal c.in-Refused.ensures.told)
+    (refusal ⊤ Langid c.args.input.now c.in-Refused.refusal c.in-Refused.ensures.answered)

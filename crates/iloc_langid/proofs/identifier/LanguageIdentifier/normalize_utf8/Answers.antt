@@ -5,8 +5,8 @@ use Rattle.iloc_langid.specs.Normalizing.{IsNormalizedIdentifier}
 use Rattle.iloc_langid.proofs.NormalAnswers.{prints_accepts, prints_refuses}
 use Rattle.iloc_langid.proofs.ReadLemmas.{identifiers_judge}
 use Rattle.iloc_langid.proofs.NormalizingLemmas.{told_text, told_other}
-use Rattle.iloc_told.proofs.NormalLemmas.{normal_text, refused, runs_out}
-use Rattle.iloc_told.specs.declared.Mode.TheVariants.{Langid}
+use Rattle.iloc_normalize.proofs.NormalLemmas.{normal_text, refused, runs_out}
+use Rattle.iloc_normalize.specs.declared.Mode.TheVariants.{Langid}
 use Rattle.iloc_langid.proofs.identifier.LanguageIdentifier.normalize_utf8.Goals as goal
 
 pub returns-in-Some-clause-ok : goal.returns-in-Some-clause-ok

@@ -4,8 +4,8 @@ use Rattle.iloc_langid.proofs.NormalAnswers.{prints_accepts, prints_refuses}
 use Rattle.iloc_locale.proofs.ReadLemmas.{locales_judge}
 use Rattle.iloc_locale.specs.LocaleReading.{IsNormalizedLocale}
 use Rattle.iloc_locale.proofs.NormalLemmas.{told_text, told_other}
-use Rattle.iloc_told.proofs.NormalLemmas.{normal_text, refused, runs_out}
-use Rattle.iloc_told.specs.declared.Mode.TheVariants.{Locale}
+use Rattle.iloc_normalize.proofs.NormalLemmas.{normal_text, refused, runs_out}
+use Rattle.iloc_normalize.specs.declared.Mode.TheVariants.{Locale}
 use Rattle.iloc_locale.proofs.locale.Locale.normalize_utf8.Goals as goal
 
 pub returns-in-Some-clause-ok : goal.returns-in-Some-clause-ok

@@ -60,7 +60,7 @@ made i e = Ok (record { id = i; extensions = e })
 pub returns-then-branch-clause-reads : goal.returns-then-branch-clause-reads
 returns-then-branch-clause-reads c =
     plain_means c.args.code_units.now (record { id = c.fill_short.new.identifier; extensions = c.new.result })
-    (c.in_ok-fill_short.ensures.told c.if-branch.true) c.new.ensures
+    (c.in_ok-fill_short.ensures.answered c.if-branch.true) c.new.ensures
 
 pub returns-then-branch-clause-accepted : goal.returns-then-branch-clause-accepted
 returns-then-branch-clause-accepted c = reads_accepts c.args.code_units.now

@@ -1,7 +1,7 @@
 -- From what `fault_of` says of the line.
 use Rattle.std.proofs.Common.{ℕ, List, refl, subst}
 use Rattle.std.proofs.lemmas.Result.{on_ok_weaker}
-use Rattle.iloc_told.specs.declared.Mode.{Mode}
+use Rattle.iloc_normalize.specs.declared.Mode.{Mode}
 use Rattle.iloc_faults.specs.Places.{IsAccepted, IsFault}
 use Rattle.iloc_lines.specs.ReplyBlock.{held}
 use Rattle.iloc_program.proofs.EntryLemmas.{left_out, refused, replied}

@@ -1,0 +1,332 @@
+-- What a subtag names as a value of `sd`.
+use Rattle.std.proofs.Common.{◌≡◌, ◌≢◌, ℕ, zero, suc, ◌+◌, ◌-◌, ◌*◌, ◌/◌, ◌%◌, ◌≤◌, ◌==◌, Bool, true, false}
+use Rattle.std.proofs.Common.{cond, ◌&&◌, [], ◌∷◌, ◌++◌, length, get_or, take, drop, codes, Option, None}
+use Rattle.std.proofs.Common.{Some, Ok, Err, refl, sym, ap, ap₂, ◌∙◌, arith, inl, inr, take-append-drop}
+use Rattle.std.proofs.Common.{true≢false}
+use Rattle.std.specs.Prelude.{if◌then◌else◌, ok_or}
+use Rattle.std.specs.Char.{is_ascii_alphabetic, is_ascii_alphanumeric, to_ascii_lowercase}
+use Rattle.std.specs.Result.{result_ok}
+use Rattle.std.proofs.lemmas.Bool.{and_from, and_parts, eq-eqb, eqb-true}
+use Rattle.std.proofs.lemmas.Bool.Decides.{nat_tests}
+use Rattle.std.proofs.lemmas.List.{drop-drop, drop-take, map-append, take-take}
+use Rattle.iloc_spec_grammar.specs.Syntax.{Text, Attribute, Region, Subtag, SubdivisionSuffix, UnicodeKey}
+use Rattle.iloc_spec_grammar.specs.Syntax.{IsWord, is_same, is_true, is_word, letters_or_digits, lower}
+use Rattle.iloc_spec_grammar.specs.Syntax.{normal, upper}
+use Rattle.iloc_spec_grammar.specs.Meaning as faults
+use Rattle.iloc_spec_grammar.proofs.MapLaws.{same_is, same_itself}
+use Rattle.iloc_spec_grammar.proofs.WordsLaws.{is_word-lower, is_word-normal, length-attribute}
+use Rattle.iloc_spec_grammar.proofs.WordsLaws.{length-unicode_key, lower-lower, lower-upper, normal-normal}
+use Rattle.iloc_spec_grammar.proofs.WordsLaws.{word_letters_or_digits}
+use Rattle.iloc_spec_preferences.specs.DataLocales.{named_subdivision}
+use Rattle.iloc_spec_preferences.specs.Subdivisions.{Subdivision, both_words, region_length, subdivision}
+use Rattle.iloc_spec_preferences.specs.Subdivisions.{subdivision_text}
+use Rattle.iloc_spec_preferences.proofs.SubdivisionLaws.{subdivision_back}
+use Rattle.iloc_pieces.specs.Left.{IsRemainder, IsShortPiece, piece_left}
+use Rattle.iloc_pieces.specs.Shape.{bits, shape_of}
+use Rattle.iloc_pieces.specs.declared.left.Left.{Left}
+use Rattle.iloc_pieces.proofs.LeftLemmas.{length_piece, piece_byte, short_attribute, short_bytes}
+use Rattle.iloc_normalize.specs.Subdivisions.{EndsRegion, IsNamed, bytes_at}
+
+-- ---- the key
+
+one_test : (x y : Bool) → (x ≡ true → y ≡ true) → (y ≡ true → x ≡ true) → x ≡ y
+one_test true true f g = refl
+one_test false false f g = refl
+one_test true false f g = sym (f refl)
+one_test false true f g = g refl
+
+sd_of : (p : Text) → length p ≡ 2 → is_same (lower p) (codes "sd")
+    ≡ ((to_ascii_lowercase (get_or p 0 0) == 115) && (to_ascii_lowercase (get_or p 1 0) == 100))
+unfolding lower
+sd_of (a ∷ b ∷ []) e = one_test _ _
+    (λ h. let k : to_ascii_lowercase a ∷ to_ascii_lowercase b ∷ [] ≡ 115 ∷ 100 ∷ [] =
+    same_is (to_ascii_lowercase a ∷ to_ascii_lowercase b ∷ []) (codes "sd") h in
+    let x : to_ascii_lowercase a ≡ 115 = cc in
+    let y : to_ascii_lowercase b ≡ 100 = cc in
+    and_from _ _ (eq-eqb _ _ x) (eq-eqb _ _ y))
+    (λ h. let k = and_parts _ _ h in
+    ap₂ (λ (u v : ℕ). is_same (u ∷ v ∷ []) (codes "sd")) {x = to_ascii_lowercase a} {y = 115}
+    {u = to_ascii_lowercase b} {v = 100} (eqb-true _ _ k.0) (eqb-true _ _ k.1) ∙ same_itself (codes "sd"))
+sd_of [] e = absurd (omega arith)
+sd_of (a ∷ []) e = absurd (omega arith)
+sd_of (a ∷ b ∷ c ∷ p) e = absurd (omega arith)
+
+-- a key is `sd` if its two bytes are
+pub sd_is : {l : Left} → IsRemainder l → IsWord UnicodeKey (piece_left l)
+    → is_same (lower (piece_left l)) (codes "sd")
+    ≡ ((to_ascii_lowercase (get_or l.window.now l.at 0) == 115)
+    && (to_ascii_lowercase (get_or l.window.now (l.at + 1) 0) == 100))
+sd_is {l = l} h k =
+    let two = length-unicode_key (piece_left l) k in
+    sd_of (piece_left l) two
+    ∙ ap₂ (λ u v. (to_ascii_lowercase u == 115) && (to_ascii_lowercase v == 100))
+    (piece_byte h 0 (omega arith)
+    ∙ ap (λ i. get_or l.window.now i 0) (omega arith)) (piece_byte h 1 (omega arith))
+
+-- ---- a region and a suffix
+
+lower_joined : (a b : Text) → lower (a ++ b) ≡ lower a ++ lower b
+unfolding lower
+lower_joined a b = map-append to_ascii_lowercase a b
+
+-- a region of k bytes, and a suffix
+pub named_parts : (v : Text) (k : ℕ) → IsWord Region (take k v) → IsWord SubdivisionSuffix (drop k v)
+    → subdivision (lower v) ≡ Ok (record { region = upper (take k v); suffix = lower (drop k v) })
+named_parts v k r x =
+    let s : Subdivision = record { region = upper (take k v); suffix = lower (drop k v) } in
+    let same : lower v ≡ subdivision_text s =
+    ap lower (sym (take-append-drop k v)) ∙ lower_joined (take k v) (drop k v)
+    ∙ (λ j. sym (lower-upper (take k v)) j ++ sym (lower-lower (drop k v)) j) in
+    ap subdivision same
+    ∙ subdivision_back s (record {
+      region = (is_word-normal Region (take k v) ∙ r, normal-normal Region (take k v));
+      suffix = (
+        is_word-normal SubdivisionSuffix (drop k v)
+            ∙ x,
+        normal-normal SubdivisionSuffix (drop k v),
+      );
+    })
+
+lower_take : (k : ℕ) (v : Text) → take k (lower v) ≡ lower (take k v)
+unfolding lower
+lower_take zero v = refl
+lower_take (suc k) [] = refl
+lower_take (suc k) (c ∷ v) = ap (λ l. to_ascii_lowercase c ∷ l) (lower_take k v)
+
+lower_drop : (k : ℕ) (v : Text) → drop k (lower v) ≡ lower (drop k v)
+unfolding lower
+lower_drop zero v = refl
+lower_drop (suc k) [] = refl
+lower_drop (suc k) (c ∷ v) = lower_drop k v
+
+-- no region, or no suffix
+pub unnamed : (v : Text) → EndsRegion v 0 → named_subdivision (lower v) ≡ None
+unnamed v none = by (is_word Subtag t) (is_word Region (take k t)) (is_word SubdivisionSuffix
+    (drop k t)) lowered
+  where
+    t : Text
+    t = lower v
+
+    k : ℕ
+    k = region_length (lower v)
+
+    read_as : Bool → Bool → Bool → Option Subdivision
+    read_as s x y = result_ok (if s then ok_or (both_words (if x then Some (normal Region
+        (take k t)) else None)
+        (if y then Some (normal SubdivisionSuffix (drop k t)) else None)) faults.InvalidExtension
+        else Err faults.InvalidSubtag)
+
+    by : (s x y : Bool) → (x && y) ≡ false → read_as s x y ≡ None
+    by true true true e = absurd (true≢false e)
+    by true true false e = refl
+    by true false y e = refl
+    by false x y e = refl
+
+    lowered : (is_word Region (take k t) && is_word SubdivisionSuffix (drop k t)) ≡ false
+    lowered =
+        (λ j. (ap (is_word Region) (lower_take k v) ∙ is_word-lower Region (take k v)) j
+        && (ap (is_word SubdivisionSuffix) (lower_drop k v) ∙ is_word-lower SubdivisionSuffix (drop k v)) j)
+        ∙ none
+
+-- ---- shapes
+
+shape_is : (p : Text) → letters_or_digits p ≡ true → shape_of p ≡ bits p
+unfolding shape_of
+shape_is p h = ap (λ (a : Bool). cond a (bits p) 0) h
+
+abbrev bit : ℕ → ℕ
+bit b = cond (is_ascii_alphabetic b) 0 1
+
+low_bit : (b : ℕ) → bit b ≤ 1
+low_bit b = elim (is_ascii_alphabetic b) as (λ
+    (a : Bool). cond a 0 1 ≤ 1) [ true ↦ omega arith | false ↦ omega arith ]
+
+-- by the first bit the region is letters or digits
+low_letter : (c : ℕ) → is_ascii_alphabetic (to_ascii_lowercase c) ≡ is_ascii_alphabetic c
+low_letter c = grind (arith, nat_tests)
+
+letter_of : (b m : ℕ) → (bit b + 2 * m) % 2 ≡ 0 → is_ascii_alphabetic b ≡ true
+letter_of b m e = by (is_ascii_alphabetic b) refl
+  where
+    by : (a : Bool) → is_ascii_alphabetic b ≡ a → a ≡ true
+    by true h = refl
+    by false h = let one : bit b ≡ 1 = ap (λ (a : Bool). cond a 0 1) h in absurd (omega (arith, one, e))
+
+digit_of : (b m : ℕ) → (bit b + 2 * m) % 2 ≢ 0 → is_ascii_alphabetic b ≡ false
+digit_of b m e = by (is_ascii_alphabetic b) refl
+  where
+    by : (a : Bool) → is_ascii_alphabetic b ≡ a → a ≡ false
+    by false h = refl
+    by true h = let none : bit b ≡ 0 = ap (λ (a : Bool). cond a 0 1) h in absurd (e (omega (arith, none)))
+
+module _ (a b c : ℕ) (q : Text) (all : letters_or_digits (a ∷ b ∷ c ∷ q) ≡ true) where
+  abbrev p : Text
+  p = a ∷ b ∷ c ∷ q
+
+  first : is_ascii_alphanumeric a ≡ true
+  first = (and_parts (is_ascii_alphanumeric a) (letters_or_digits (b ∷ c ∷ q)) all).0
+
+  later : letters_or_digits (b ∷ c ∷ q) ≡ true
+  later = (and_parts (is_ascii_alphanumeric a) (letters_or_digits (b ∷ c ∷ q)) all).1
+
+  second : is_ascii_alphanumeric b ≡ true
+  second = (and_parts (is_ascii_alphanumeric b) (letters_or_digits (c ∷ q)) later).0
+
+  last : letters_or_digits (c ∷ q) ≡ true
+  last = (and_parts (is_ascii_alphanumeric b) (letters_or_digits (c ∷ q)) later).1
+
+  third : is_ascii_alphanumeric c ≡ true
+  third = (and_parts (is_ascii_alphanumeric c) (letters_or_digits q) last).0
+
+  rest : letters_or_digits q ≡ true
+  rest = (and_parts (is_ascii_alphanumeric c) (letters_or_digits q) last).1
+
+  whole : shape_of p ≡ bit a + 2 * (bit b + 2 * (bit c + 2 * bits q))
+  unfolding bits
+  whole = shape_is p all
+
+  pub two_letters : shape_of p % 2 ≡ 0 → region_length (lower p) ≡ 2
+  unfolding lower
+  two_letters e =
+      let l : is_ascii_alphabetic a ≡ true =
+      letter_of a (bit b + 2 * (bit c + 2 * bits q)) (ap (λ n. n % 2) (sym whole) ∙ e) in
+      ap (λ (x : Bool). if x then 2 else 3) (low_letter a ∙ l)
+
+  pub three_digits : shape_of p % 2 ≢ 0 → region_length (lower p) ≡ 3
+  unfolding lower
+  three_digits e =
+      let l : is_ascii_alphabetic a ≡ false =
+      digit_of a (bit b + 2 * (bit c + 2 * bits q)) (λ z. e (ap (λ n. n % 2) whole ∙ z)) in
+      ap (λ (x : Bool). if x then 2 else 3) (low_letter a ∙ l)
+
+  pub front_two : shape_of (take 2 p) ≡ shape_of p % 4 + 4
+  unfolding bits
+  front_two =
+      let words : letters_or_digits (a ∷ b ∷ []) ≡ true = λ j. first j && (second j && true) in
+      let x = low_bit a in let y = low_bit b in
+      let is = shape_is (a ∷ b ∷ []) words in
+      let w = whole in
+      omega (arith, is, w, x, y)
+
+  pub rest_two : shape_of (drop 2 p) ≡ shape_of p / 4
+  unfolding bits
+  rest_two =
+      let x = low_bit a in let y = low_bit b in
+      let is = shape_is (c ∷ q) last in
+      let w = whole in
+      omega (arith, is, w, x, y)
+
+  pub front_three : shape_of (take 3 p) ≡ shape_of p % 8 + 8
+  unfolding bits
+  front_three =
+      let words : letters_or_digits (a ∷ b ∷ c ∷ []) ≡ true =
+      λ j. first j && (second j && (third j && true)) in
+      let x = low_bit a in let y = low_bit b in let z = low_bit c in
+      let is = shape_is (a ∷ b ∷ c ∷ []) words in
+      let w = whole in
+      omega (arith, is, w, x, y, z)
+
+  pub rest_three : shape_of (drop 3 p) ≡ shape_of p / 8
+  unfolding bits
+  rest_three =
+      let x = low_bit a in let y = low_bit b in let z = low_bit c in
+      let is = shape_is q rest in
+      let w = whole in
+      omega (arith, is, w, x, y, z)
+
+-- what the shape says
+pub record Parts (p : Text) : Type 0 where
+  pub two : shape_of p % 2 ≡ 0 → region_length (lower p) ≡ 2
+  pub three : shape_of p % 2 ≢ 0 → region_length (lower p) ≡ 3
+  pub front_two : shape_of (take 2 p) ≡ shape_of p % 4 + 4
+  pub rest_two : shape_of (drop 2 p) ≡ shape_of p / 4
+  pub front_three : shape_of (take 3 p) ≡ shape_of p % 8 + 8
+  pub rest_three : shape_of (drop 3 p) ≡ shape_of p / 8
+
+pub parts : (p : Text) → letters_or_digits p ≡ true → 3 ≤ length p → Parts p
+parts [] all l = absurd (omega arith)
+parts (a ∷ []) all l = absurd (omega arith)
+parts (a ∷ b ∷ []) all l = absurd (omega arith)
+parts (a ∷ b ∷ c ∷ q) all l = record {
+  two = two_letters a b c q all;
+  three = three_digits a b c q all;
+  front_two = front_two a b c q all;
+  rest_two = rest_two a b c q all;
+  front_three = front_three a b c q all;
+  rest_three = rest_three a b c q all;
+}
+
+and-false : (b : Bool) → (b && false) ≡ false
+and-false true = refl
+and-false false = refl
+
+-- the region has k bytes, if the words are
+module _ (p : Text) (k : ℕ) (at : region_length (lower p) ≡ k) where
+  abbrev both : ℕ → Bool
+  both n = is_word Region (take n p) && is_word SubdivisionSuffix (drop n p)
+
+  pub no_region : is_word Region (take k p) ≡ false → EndsRegion p 0
+  no_region e = ap both at ∙ ap (λ (b : Bool). b && is_word SubdivisionSuffix (drop k p)) e
+
+  pub no_suffix : is_word SubdivisionSuffix (drop k p) ≡ false → EndsRegion p 0
+  no_suffix e = ap both at ∙ ap (λ (b : Bool). is_word Region (take k p) && b) e
+      ∙ and-false (is_word Region (take k p))
+
+-- ---- what a word names
+
+two_or_three : (t : Text) → (2 ≤ region_length t) × (region_length t ≤ 3)
+two_or_three [] = (omega arith, omega arith)
+two_or_three (c ∷ t) = elim (is_ascii_alphabetic c) as (λ (b : Bool). (2 ≤ (if b then 2 else 3))
+    × ((if b then 2 else 3) ≤ 3)) [
+      | true ↦ (omega arith, omega arith)
+      | false ↦ (omega arith, omega arith)
+    ]
+
+module _ (m : Left) (left : IsRemainder m) (word : IsWord Attribute (piece_left m)) where
+  short : IsShortPiece (piece_left m)
+  short = short_attribute (piece_left m) word
+
+  -- its shape
+  pub shape_there : shape_of (piece_left m) ≡ m.shape
+  shape_there = elim left.piece [
+    | inl s ↦ sym s.shape
+    | inr k ↦ absurd (let l = k.long in let s = short in omega arith)
+  ]
+
+  pub all_there : letters_or_digits (piece_left m) ≡ true
+  all_there = word_letters_or_digits Attribute (piece_left m) word
+
+  pub long_there : 3 ≤ length (piece_left m)
+  long_there = (length-attribute (piece_left m) word).0
+
+  -- so many bytes of it are the region
+  pub named_there : is_true (lower (piece_left m)) ≡ false → (k : ℕ) → k ≢ 0 → EndsRegion (piece_left m) k
+      → (s : Subdivision) × IsNamed m.window.now (record { at = m.at; len = m.n; region = k }) s
+  named_there other zero some h = absurd (some refl)
+  named_there other (suc k) some h =
+      let p = piece_left m in
+      let w = m.window.now in
+      let n = suc k in
+      let long = length_piece left short in
+      let few = two_or_three (lower p) in
+      let size : (2 ≤ n) × (n ≤ 3) = (omega (arith, few.0, h.0), omega (arith, few.1, h.0)) in
+      let l = long_there in
+      let bytes : bytes_at w m.at m.n ≡ p = short_bytes left short in
+      let within : n ≤ m.n = omega (arith, size.1, l, long) in
+      let region : bytes_at w m.at n ≡ take n p =
+      sym (take-take n m.n (drop m.at w) within) ∙ ap (take n) bytes in
+      let parts : m.n ≡ n + (m.n - n) = omega (arith, within) in
+      let suffix : bytes_at w (m.at + n) (m.n - n) ≡ drop n p =
+      sym (ap (λ (i : ℕ). drop n (take i (drop m.at w))) parts ∙ drop-take n (m.n - n) (drop m.at w)
+      ∙ ap (take (m.n - n)) (drop-drop n m.at w)) ∙ ap (drop n) bytes in (
+        record { region = upper (take n p); suffix = lower (drop n p) },
+        record {
+          few = within;
+          most = size.1;
+          some = size.0;
+          other = ap (λ (t : Text). is_true (lower t)) bytes ∙ other;
+          names = ap (λ (t : Text). subdivision (lower t)) bytes ∙ named_parts p n h.1 h.2;
+          region = ap upper (sym region);
+          suffix = ap lower (sym suffix);
+        },
+      )

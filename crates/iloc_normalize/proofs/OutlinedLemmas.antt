@@ -1,0 +1,41 @@
+-- When an outline tells nothing.
+use Rattle.std.proofs.Common.{◌≡◌, inl, inr, ℕ, ◌+◌, ◌≤◌, List, [], ◌∷◌, ◌++◌, length, length-append, sym, ap}
+use Rattle.std.proofs.Common.{◌∙◌, arith}
+use Rattle.iloc_spec_grammar.specs.Syntax.{Text, pieces, join, dashes}
+use Rattle.iloc_spec_grammar.proofs.PartTexts.{join-dashes}
+use Rattle.iloc_spec_grammar.proofs.PiecesLaws.{at_pieces, join-pieces}
+use Rattle.iloc_normalize.specs.Answered.{IsBeyond, IsNothingOnlyIf}
+use Rattle.iloc_normalize.specs.declared.answered.Answered.{Answered}
+use Rattle.iloc_normalize.specs.declared.answered.Answered.TheVariants as answered
+
+-- a text has at most one piece more than bytes
+few_dashes : (ps : List Text) → length ps ≤ length (dashes ps)
+few_dashes [] = omega arith
+few_dashes (p ∷ ps) =
+    let more : length ps ≤ length (dashes ps) = few_dashes ps in
+    let both : length (p ++ dashes ps) ≡ length p + length (dashes ps) = length-append p (dashes ps) in
+    omega (arith, more, both)
+
+few_joined : (t p : Text) (ps : List Text) → join (p ∷ ps) ≡ t → length (p ∷ ps) ≤ length t + 1
+few_joined t p ps e =
+    let whole : length (p ++ dashes ps) ≡ length t = ap length (sym (join-dashes p ps) ∙ e) in
+    let both : length (p ++ dashes ps) ≡ length p + length (dashes ps) = length-append p (dashes ps) in
+    let more : length ps ≤ length (dashes ps) = few_dashes ps in
+    omega (arith, whole, both, more)
+
+pub few_pieces : (t : Text) → length (pieces t) ≤ length t + 1
+few_pieces t = at_pieces (λ ps. join ps ≡ t → length ps ≤ length t + 1) (few_joined t) t (join-pieces t)
+
+-- a short text is not beyond an outline
+pub not_beyond : (t : Text) (room : ℕ) → length t ≤ 48 → 64 ≤ room → IsBeyond room t → ⊥
+not_beyond t room short wide (inl many) =
+    let few : length (pieces t) ≤ length t + 1 = few_pieces t in omega (arith, few, many, short)
+not_beyond t room short wide (inr (inl long)) = omega (arith, long, short)
+not_beyond t room short wide (inr (inr narrow)) = omega (arith, narrow, short, wide)
+
+-- so something is told of it
+pub few_answered : (t : Text) (room : ℕ) (Reason : Type 0) (told : Answered) → length t ≤ 48 → 64 ≤ room
+    → IsNothingOnlyIf (IsBeyond room t) told → IsNothingOnlyIf Reason told
+few_answered t room Reason (answered.Normal n) short wide h = tt
+few_answered t room Reason (answered.Refused e) short wide h = tt
+few_answered t room Reason answered.Nothing short wide b = absurd (not_beyond t room short wide b)

@@ -1,0 +1,237 @@
+-- What is read from the beginning of a text on, as a data locale.
+use Rattle.std.proofs.Common.{◌≡◌, ◌⊎◌, inl, inr, ℕ, suc, ◌+◌, ◌≤◌, true, false, List, [], ◌∷◌, ◌++◌, length}
+use Rattle.std.proofs.Common.{take, Some, None, Ok, Err, refl, sym, ap, ◌∙◌, subst, arith, append_assoc}
+use Rattle.std.proofs.Common.{append-nil, length-append, option_map}
+use Rattle.std.proofs.Math.Seq.{take-append-add}
+use Rattle.std.proofs.lemmas.List.{append_cancel_left, length-take-le, take-take}
+use Rattle.iloc_spec_grammar.specs.Syntax.{Text, Variant, SpelledIdentifier, IsWord, first_piece, is_one_byte}
+use Rattle.iloc_spec_grammar.specs.Syntax.{is_word, join, languages, pieces}
+use Rattle.iloc_spec_grammar.specs.Meaning.{Fault, InvalidSubtag, normal_identifier}
+use Rattle.iloc_spec_grammar.specs.Reading.{after_front, after_region, front_of, rest_of, starts_block}
+use Rattle.iloc_spec_grammar.proofs.PiecesLaws.{at_pieces}
+use Rattle.iloc_spec_grammar.proofs.ReadingLaws.{all_while}
+use Rattle.iloc_spec_parts.specs.Small.{SmallIdentifier}
+use Rattle.iloc_spec_parts.specs.SmallComputing.{blocks_result, small_identifier}
+use Rattle.iloc_spec_preferences.specs.DataComputing.{data_result}
+use Rattle.iloc_spec_preferences.specs.DataLocales.{HasDataFault, made_of, whole_region}
+use Rattle.iloc_subtags.specs.Judging.{error_of}
+use Rattle.iloc_pieces.specs.Left.{IsPast, IsRemainder, bytes_left, piece_left, pieces_left, whole_text}
+use Rattle.iloc_pieces.specs.declared.left.Left.{Left}
+use Rattle.iloc_pieces.proofs.LeftLemmas.{begins, first_within, length_piece, length_rest, short_variant}
+use Rattle.iloc_outline.specs.Identifier.{IsAfterFront, IsFrontRead, front_text}
+use Rattle.iloc_outline.specs.Outlines.{BeginsWithLanguage}
+use Rattle.iloc_outline.specs.Parts.{front_pieces}
+use Rattle.iloc_outline.specs.declared.identifier.Front.{Front}
+use Rattle.iloc_outline.proofs.Fronts.{begins_text}
+use Rattle.iloc_outline.proofs.Meanings.{refused}
+use Rattle.iloc_outline.proofs.TransformLemmas.{pieces_front_of}
+use Rattle.iloc_outline.proofs.TransformReading.{pieces_front}
+use Rattle.iloc_normalize.specs.Data.{IsDataBehind, IsDataRead, IsHead, data_alone}
+use Rattle.iloc_normalize.specs.Subdivisions.{IsNamed, data_behind, data_with}
+use Rattle.iloc_normalize.specs.Answered.{HasRefusal}
+use Rattle.iloc_normalize.specs.declared.Mode.TheVariants as modes
+use Rattle.iloc_normalize.specs.declared.data.Data.{Data}
+use Rattle.iloc_normalize.specs.declared.data.Data.TheVariants as datas
+use Rattle.iloc_normalize.specs.declared.data.Head.{Head}
+use Rattle.iloc_normalize.proofs.FrontAnswers.{data_fault}
+use Rattle.iloc_normalize.proofs.Heads.{AreVariants, head_printed, head_with, meant, misfit, words_with}
+
+alone_is : (r : SmallIdentifier) → data_behind r []
+    ≡ Ok (made_of r.language r.script (option_map whole_region r.region) r.variant)
+unfolding blocks_result
+alone_is r = refl
+
+single_starts : (t : Text) → is_one_byte (first_piece (pieces t)) ≡ true → starts_block (pieces t) ≡ true
+single_starts t = at_pieces (λ ps. is_one_byte (first_piece ps) ≡ true
+    → starts_block ps ≡ true) (λ p ps e. e) t
+
+first_and_rest : (t : Text) → pieces t ≡ first_piece (pieces t) ∷ rest_of (pieces t)
+first_and_rest t = at_pieces (λ ps. ps ≡ first_piece ps ∷ rest_of ps) (λ p ps. refl) t
+
+refusal : (t : Text) (f : Fault) → data_result languages t ≡ Err f → HasRefusal modes.Data t (error_of f)
+refusal t f e = refused (HasDataFault languages t) f (error_of f) refl (data_fault t f e)
+
+-- ---- a block behind the head
+
+module _ (w : Text) (len : ℕ) (language : BeginsWithLanguage (take len w)) (vs : List Text)
+    (variants : AreVariants vs)
+    (few : length vs ≤ 1) (h : Head) (head : IsHead w h (head_with (pieces (take len w)) vs)) where
+  abbrev t : Text
+  t = take len w
+
+  abbrev i : SpelledIdentifier
+  i = head_with (pieces t) vs
+
+  -- nothing follows
+  pub read_alone : after_region (pieces t) ≡ vs ++ [] → h.end ≤ len → IsDataRead w len (datas.Head h)
+  read_alone cut inside = (
+    data_alone i,
+    meant t language vs [] cut variants few refl ∙ alone_is (small_identifier i),
+    record { written = i; head = head; is = refl },
+    inside,
+  )
+
+  module _ (k : Left) (cut : after_region (pieces t) ≡ vs ++ pieces_left k) (window : k.window.now ≡ w)
+      (at : k.at ≡ h.end + 1) (end : k.at + k.len ≡ len)
+      (odd : ((vs ≡ []) × (is_word Variant (piece_left k) ≡ false)) ⊎ (length vs ≡ 1)) where
+    by_block : is_one_byte (piece_left k) ≡ true
+        → data_result languages t ≡ data_behind (small_identifier i) (pieces_left k)
+    by_block single = meant t language vs (pieces_left k) cut variants few (single_starts
+        (bytes_left k) single)
+
+    pub read_on : (d : Data) → IsDataBehind h k d → IsDataRead w len d
+    read_on (datas.Head j) r = absurd r
+    read_on (datas.Named j v) r =
+        let s = r.2.0 in
+        let p = r.2.1 in
+        let behind = p.behind in
+        let inside = p.inside in
+        subst (λ (g : Head). IsDataRead w len (datas.Named g v)) (sym r.0) (
+          data_with (small_identifier i) s,
+          by_block r.1 ∙ r.2.2 (small_identifier i),
+          record {
+            written = i;
+            head = head;
+            named = s;
+            names = subst (λ (u : Text). IsNamed u v s) window p.named;
+            behind = omega (arith, at, behind);
+            inside = omega (arith, inside, end);
+            is = refl;
+          },
+        )
+    read_on (datas.Refused e) (inl (longer, is)) =
+        subst (HasRefusal modes.Data t) (sym is)
+        (refusal t InvalidSubtag (misfit t language vs (pieces_left k) cut variants (piece_left k)
+        (rest_of (pieces_left k))
+        (first_and_rest (bytes_left k)) longer odd))
+    read_on (datas.Refused e) (inr (single, (f, is, means))) =
+        subst (HasRefusal modes.Data t) (sym is)
+        (refusal t f (by_block single ∙ means (small_identifier i)))
+
+-- ---- the head
+
+module _ (w : Text) (len : ℕ) (inside : len ≤ length w) (language : BeginsWithLanguage (take len w))
+    (l : Left)
+    (left : IsRemainder l) (rest : bytes_left l ≡ take len w) (first : l.at ≡ 0) (size : l.len ≡ len)
+    (window : l.window.now ≡ w) (m : Left) (f : Front) (read : IsFrontRead l m f) where
+  abbrev u : Text
+  u = take len w
+
+  abbrev fs : List Text
+  fs = front_pieces (front_of (pieces u))
+
+  few : f.end ≤ len
+  few = let a = read.inside in omega (arith, a, first, size)
+
+  same : pieces_left l ≡ pieces u
+  same = ap pieces rest
+
+  whole : whole_text l ≡ u
+  whole = begins_text l first ∙ rest
+
+  front_bytes : take f.end w ≡ join fs
+  front_bytes =
+      sym (take-take f.end len w few) ∙ ap (take f.end) (sym whole) ∙ read.text first
+      ∙ ap (λ ps. join (front_pieces (front_of ps))) same
+
+  front_printed : front_text f.script f.region (take f.end w) ≡ join (front_pieces (normal_identifier
+      (front_of (pieces u))))
+  front_printed =
+      ap (front_text f.script f.region) (sym (take-take f.end len w few) ∙ ap (take f.end) (sym whole))
+      ∙ read.printed first
+      ∙ ap (λ ps. join (front_pieces (normal_identifier (front_of ps)))) same
+
+  long : f.end ≡ length (join fs)
+  long = sym (length-take-le f.end w (omega (arith, few, inside))) ∙ ap length front_bytes
+
+  -- no variant
+
+  pub front_head : (rs : List Text) → after_region (pieces u) ≡ [] ++ rs
+      → IsHead w (record { front = f; end = f.end }) (head_with (pieces u) [])
+  front_head rs cut =
+      head_printed w (record { front = f; end = f.end }) (head_with (pieces u) [])
+      (words_with u language [] rs cut tt) (omega arith) (omega arith) (omega
+      (arith, few, inside)) front_bytes front_printed
+      (read.within first) (sym (append-nil (take f.end w)))
+
+  -- it is all of the text
+  pub all_front : IsAfterFront l None → after_region (pieces u) ≡ [] ++ []
+  unfolding front_of after_front
+  all_front cut =
+      let i = front_of (pieces u) in
+      let all : pieces u ≡ fs = sym same ∙ cut ∙ ap (λ ps. front_pieces (front_of ps)) same in
+      let none : i.variants ++ after_front (pieces u) ≡ [] =
+      append_cancel_left fs (i.variants ++ after_front (pieces u)) []
+      (sym (append_assoc fs i.variants (after_front (pieces u)))
+      ∙ ap (λ ps. ps ++ after_front (pieces u)) (sym (pieces_front (Some i)))
+      ∙ pieces_front_of (pieces u) language ∙ all ∙ sym (append-nil fs)) in
+      sym (all_while (is_word Variant) (after_region (pieces u))) ∙ none
+
+  -- something follows
+  module _ (after : IsAfterFront l (Some m)) where
+    past : IsPast l m (front_pieces (front_of (pieces_left l)))
+    past = after.0
+
+    pub left_there : IsRemainder m
+    left_there = past.left
+
+    pub at_front : m.at ≡ f.end + 1
+    at_front =
+        let cut = past.rest (λ e. cc) in
+        let join_is : length (join (front_pieces (front_of (pieces_left l)))) ≡ length (join fs) =
+        ap (λ ps. length (join (front_pieces (front_of ps)))) same in
+        let a = past.end in
+        let b = length_rest left in
+        let c = length_rest past.left in
+        let d = ap length cut in
+        let e = length-append (join (front_pieces (front_of (pieces_left l)))) (45 ∷ bytes_left m) in
+        omega (arith, a, b, c, d, e, long, join_is, first)
+
+    pub end_there : m.at + m.len ≡ len
+    end_there = let a = past.end in omega (arith, a, first, size)
+
+    pub window_there : m.window.now ≡ w
+    window_there = past.window ∙ window
+
+    pub pieces_there : after_region (pieces u) ≡ pieces_left m
+    pieces_there = ap after_region (sym same) ∙ sym after.1
+
+    text_there : u ≡ join fs ++ 45 ∷ bytes_left m
+    text_there = sym rest ∙ past.rest (λ e. cc)
+        ∙ ap (λ ps. join (front_pieces (front_of ps)) ++ 45 ∷ bytes_left m) same
+
+    -- a variant
+    module _ (word : IsWord Variant (piece_left m)) where
+      abbrev pub v : Text
+      v = piece_left m
+
+      abbrev pub varied : Head
+      varied = record { front = f; end = m.at + m.n }
+
+      size_there : m.n ≡ length v
+      size_there = length_piece left_there (short_variant v word)
+
+      pub within_there : m.at + m.n ≤ len
+      within_there =
+          let a = first_within (bytes_left m) in
+          let b = length_rest left_there in
+          omega (arith, a, b, end_there, size_there)
+
+      cut_there : take (m.at + m.n) w ≡ take f.end w ++ (45 ∷ v) ++ []
+      cut_there =
+          let reach : m.at + m.n ≡ length (join fs) + suc (length v) =
+          omega (arith, at_front, long, size_there) in
+          sym (take-take (m.at + m.n) len w within_there) ∙ ap (take (m.at + m.n)) text_there
+          ∙ ap (λ (n : ℕ). take n (join fs ++ 45 ∷ bytes_left m)) reach
+          ∙ take-append-add (join fs) (45 ∷ bytes_left m) (suc (length v))
+          ∙ (λ j. sym front_bytes j ++ 45 ∷ begins (bytes_left m) j)
+          ∙ sym (append-nil (take f.end w ++ 45 ∷ v))
+
+      pub varied_head : (rs : List Text) → after_region (pieces u) ≡ (v ∷ []) ++ rs
+          → IsHead w varied (head_with (pieces u) (v ∷ []))
+      varied_head rs cut =
+          head_printed w varied (head_with (pieces u) (v ∷ [])) (words_with u language (v ∷ []) rs cut
+          (word, tt)) (omega arith)
+          (omega (arith, at_front)) (omega (arith, within_there, inside)) front_bytes front_printed
+          (read.within first)
+          (cut_there ∙ append_assoc (take f.end w) (45 ∷ v) [])

@@ -1,0 +1,55 @@
+use Rattle.std.proofs.Common.{List, ℕ, sym, subst, ◌∙◌, true≢false, IfSome}
+use Rattle.std.specs.Str.{IsUtf8}
+use Rattle.iloc_spec_grammar.specs.Syntax.{Text, languages}
+use Rattle.iloc_plain.specs.Normal.{IsPlainText}
+use Rattle.iloc_plain.specs.Plain.{value_of}
+use Rattle.iloc_normalize.specs.Modes.{IsNormalText}
+use Rattle.iloc_normalize.specs.NormalTexts.{IsNormalizedAs}
+use Rattle.iloc_normalize.proofs.AsciiLemmas.{identifier_utf8}
+use Rattle.iloc_normalize.proofs.PlainAnswers.{plain_normal}
+use Rattle.iloc_normalize.proofs.normal_text.normalize_short.Goals as goal
+
+pub from_utf8_unchecked-requires : goal.from_utf8_unchecked-requires
+from_utf8_unchecked-requires c =
+    let h = subst (λ (t : Text). IsPlainText t c.in-Some.told) c.load-lanes.ensures c.in-Some.ensures in
+    subst IsUtf8 (sym (h.exactly.0 c.if-told.true))
+    (identifier_utf8 (value_of c.in-Some.told.plain) h.plain.value)
+
+pub own_front-requires-clause-utf8 : goal.own_front-requires-clause-utf8
+own_front-requires-clause-utf8 c =
+    let h = c.in-Some.ensures in
+    subst IsUtf8 (sym h.plain.words.normal) (identifier_utf8 (value_of c.in-Some.told.plain) h.plain.value)
+
+pub returns-then-told : goal.returns-then-told
+returns-then-told c =
+    let h = subst (λ (t : Text). IsPlainText t c.in-Some.told) c.load-lanes.ensures c.in-Some.ensures in
+    let same = c.from_utf8_unchecked.ensures ∙ h.exactly.0 c.if-told.true in
+    λ mode. (
+      subst (IsNormalText languages mode c.args.input.now) (sym same)
+          (plain_normal mode c.args.input.now c.in-Some.told.plain h.plain),
+      (λ _. sym c.from_utf8_unchecked.ensures, λ _. tt),
+    )
+
+pub returns-in-Ok : goal.returns-in-Ok
+returns-in-Ok c =
+    let h = subst (λ (t : Text). IsPlainText t c.in-Some.told) c.load-lanes.ensures c.in-Some.ensures in
+    let owned = c.in-Ok.ensures ∙ h.plain.words.normal in
+    λ mode. (
+      subst (IsNormalText languages mode c.args.input.now) (sym owned)
+          (plain_normal mode c.args.input.now c.in-Some.told.plain h.plain),
+      (λ l. absurd l, λ e. absurd (true≢false (sym (h.exactly.1 (e ∙ owned)) ∙ c.if-told.false))),
+    )
+
+pub returns-in-Err : goal.returns-in-Err
+returns-in-Err c =
+    let h = subst (λ (t : Text). IsPlainText t c.in-Some.told) c.load-lanes.ensures c.in-Some.ensures in
+    λ mode. (
+      _,
+      plain_normal mode c.args.input.now c.in-Some.told.plain h.plain,
+      λ e. absurd (true≢false (sym (h.exactly.1 e) ∙ c.if-told.false)),
+    )
+
+pub returns-in_default : goal.returns-in_default
+returns-in_default c =
+    λ mode. subst (λ (t : Text). IfSome c.refuse_short.result (IsNormalizedAs mode t)) c.load-lanes.ensures
+    (c.refuse_short.ensures mode)

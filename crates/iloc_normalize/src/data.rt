@@ -1,0 +1,83 @@
+//! Reads data locales.
+ghost use Rattle.std.specs.Prelude.{◌≡◌, ◌≤◌, ◌+◌, length, take};
+ghost use Rattle.iloc_pieces.specs.Left.{IsRemainder, piece_left};
+ghost use Rattle.iloc_outline.specs.Outlines.{BeginsWithLanguage};
+ghost use Rattle.iloc_normalize.specs.Data.{IsDataBehind, IsDataRead};
+
+use crate::subdivisions::{Keyword, Value, read_keyword};
+use iloc_outline::identifier::{Front, read_front};
+use iloc_pieces::left::{
+    Left, advance, is_alphanumeric, is_last, is_single, is_variant, left_in, next, singleton,
+};
+use iloc_subtags::ParseError;
+
+/// The identifier at the beginning of a data locale.
+#[derive(Clone, Copy)]
+pub(crate) struct Head {
+    /// Its language, script and region.
+    pub(crate) front: Front,
+    /// Where it ends, perhaps with a variant.
+    pub(crate) end: usize,
+}
+
+/// What a text is as a data locale.
+#[derive(Drop)]
+pub(crate) enum Data {
+    /// An identifier with one variant at most.
+    Head(Head),
+    /// Such an identifier, and a subdivision.
+    Named(Head, Value),
+    /// It is refused.
+    Refused(ParseError),
+}
+
+// Reads the block that follows the head.
+#[inline(always)]
+fn read_block(head: Head, left: Left<'_>) -> Data
+    requires { IsRemainder left }
+    ensures { IsDataBehind head left.entry result }
+{
+    if !is_single(left) {
+        return Data::Refused(ParseError::InvalidSubtag);
+    }
+    if !is_alphanumeric(left) {
+        return Data::Refused(ParseError::InvalidExtension);
+    }
+    if singleton(left) != b'u' {
+        return Data::Refused(ParseError::InvalidSubtag);
+    }
+    if is_last(left) {
+        return Data::Refused(ParseError::InvalidExtension);
+    }
+    match read_keyword(next(left)) {
+        Keyword::Misfit => Data::Refused(ParseError::InvalidSubtag),
+        Keyword::Unnamed => Data::Refused(ParseError::InvalidExtension),
+        Keyword::Named(value) => Data::Named(head, value),
+    }
+}
+
+/// Reads the first `len` bytes as a data locale.
+#[inline(always)]
+pub(crate) fn read_data(window: &[u8], len: usize) -> Data
+    requires inside { len ≤ length window.now }
+    requires begins { BeginsWithLanguage (take len window.now) }
+    ensures { IsDataRead window.now len result }
+{
+    let mut left = left_in(window, len);
+    let front = read_front(&mut left);
+    let mut head = Head {
+        front,
+        end: front.end,
+    };
+    if front.is_all {
+        return Data::Head(head);
+    }
+    if is_variant(left) {
+        head.end = left.at + left.n;
+        if is_last(left) {
+            return Data::Head(head);
+        }
+        advance(&mut left);
+    }
+    read_block(head, left)
+}

@@ -1,8 +1,0 @@
-use Rattle.iloc_told.specs.declared.Mode.TheVariants.{Data}
-use Rattle.iloc_told.proofs.leads.lead_of_data.Goals as goal
-
-pub read_data-requires-clause-begins : goal.read_data-requires-clause-begins
-read_data-requires-clause-begins c = c.in-Outline.ensures Data
-
-pub returns-in_default : goal.returns-in_default
-returns-in_default c = c.lead_of_language.ensures Data

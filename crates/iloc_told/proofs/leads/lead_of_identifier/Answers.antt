@@ -1,6 +1,0 @@
-use Rattle.std.proofs.Common.{take}
-use Rattle.iloc_told.proofs.FrontAnswers.{found_is_refused}
-use Rattle.iloc_told.proofs.leads.lead_of_identifier.Goals as goal
-
-pub returns-in-Some : goal.returns-in-Some
-returns-in-Some c = found_is_refused (take c.args.len c.args.window.now) _ c.in-Some.ensures

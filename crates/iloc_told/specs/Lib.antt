@@ -1,5 +1,0 @@
-pub mod Modes
-pub mod Told
-pub mod Subdivisions
-pub mod Data
-pub mod NormalTexts
