@@ -10,8 +10,8 @@ use iloc_writeable::{Pieces, Writeable};
 use std::alloc::Global;
 use std::cmp::Ordering;
 use std::{fmt, str};
-use test_page::answered::{told, whole};
 use test_page::steps::{Step, fills, replaces};
+use test_page::told::{told, whole};
 use test_page::{Answering, order, put, put_some, say, truth};
 
 /// Says what the value shows where it is looked into.

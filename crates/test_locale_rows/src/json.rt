@@ -41,7 +41,7 @@ fn answered(what: &str, call: &Call<'_>, out: &mut String) -> bool {
     let kind = str::from_utf8(call.first).unwrap_or("");
     match (what, str::from_utf8(call.second)) {
         ("carry", _) => refusals::carried(call.alloc, call.first, out),
-        ("error", Ok(case)) => refusals::answered(kind, case, out),
+        ("error", Ok(case)) => refusals::told(kind, case, out),
         (_, Ok(text)) => of_kind(call.alloc, what, kind, text, out),
         (_, Err(_)) => {
             say(out, "no text");

@@ -9,8 +9,8 @@ use iloc_writeable::Writeable;
 use std::alloc::Global;
 use std::cmp::Ordering;
 use std::str;
-use test_page::answered::whole;
 use test_page::steps::Step;
+use test_page::told::whole;
 use test_page::{Answering, Ask, Call, order, put, refuse, refused, say, truth};
 
 // Says whether the text means the locale, or that an allocation failed.

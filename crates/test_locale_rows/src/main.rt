@@ -32,7 +32,7 @@ use iloc_keyword_types::SubdivisionId;
 use iloc_langid::LanguageIdentifier;
 use iloc_locale::{Extensions, Locale};
 use std::io;
-use test_page::answered::{answer, told};
+use test_page::told::{answer, told};
 use test_page::{Ask, Asking, Call, Judged, page, say};
 
 /// The program: what it asks of a type stands at the type's `impl` of `Answering`.

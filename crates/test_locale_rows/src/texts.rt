@@ -10,7 +10,7 @@ use iloc_subtags::{Language, ParseError, Region, Script, Variant};
 use std::alloc::Global;
 use std::borrow::CowStr;
 use std::str;
-use test_page::answered::lent;
+use test_page::told::lent;
 use test_page::{Call, bytes, printed, put, put_some, refuse, say};
 
 // Says a normal text, or why it was refused.

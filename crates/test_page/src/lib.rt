@@ -8,17 +8,17 @@
 //! on printing.
 #![tactic(auto)]
 
-pub mod answered;
 pub mod argument;
 pub mod rows;
 pub mod steps;
+pub mod told;
 
-pub use answered::{Answering, Ask};
 use iloc_subtags::ParseError;
 use iloc_writeable::Writeable;
 pub use rows::{Asking, Call, Judged, Program, page};
 use std::cmp::Ordering;
 use std::hash::{DefaultHasher, Hash, Hasher};
+pub use told::{Answering, Ask};
 
 /// Says the text.
 pub fn say(out: &mut String, text: &str) {

@@ -1,6 +1,6 @@
 //! Preferences of locales.
-use crate::answered::{Answering, Making, made};
 use crate::formatters;
+use crate::told::{Answering, Making, made};
 use iloc_data::{DataLocale, LocalePreferences};
 use iloc_langid::LanguageIdentifier;
 use iloc_locale::Locale;

@@ -14,21 +14,21 @@
 //! once.
 #![tactic(auto)]
 
-mod answered;
 mod enums;
 mod formatters;
 mod keyword;
 mod keywords;
 mod locales;
+mod told;
 mod variants;
 
-use answered::{extended, handed_over, told};
 use iloc_data::{DataLocale, FormatPreferences, TimePreferences};
 use iloc_langid::LanguageIdentifier;
 use iloc_locale::Locale;
 use std::alloc::Global;
 use std::io;
 use test_page::{Call, Program, page};
+use told::{extended, handed_over, told};
 
 #[derive(Drop)]
 struct Rows;
