@@ -161,7 +161,7 @@ transform_printed T m h =
     ∙ sym (append_assoc front (flat_map printed_part variants) (flat_map printed_part fields))
     ∙ (λ j. optional_printed T m.id h.id j ++ values_printed m.fields h.fields j))
     ∙ sym
-        (printed_some code_t (map lower (optional_pieces (option_map normal_identifier m.id)) ++ fields_pieces
+    (printed_some code_t (map lower (optional_pieces (option_map normal_identifier m.id)) ++ fields_pieces
     (spelled_fields (normal_fields m.fields))) (some_transform m.id m.fields h.nonempty))
 
 private_printed : (ps : List Text) → IsPrivate ps → (code_x ∷ []) ∷ map lower ps
