@@ -14,24 +14,24 @@ returns-then-has_part-clause-reads c = λ start d. part_refused c.to_ascii_lower
     (sym c.is_ascii_alphanumeric.ensures.value ∙ c.if-not-is_ascii_alphanumeric.false)
     c.to_ascii_lowercase-ext.ensures.value (sym c.has_part.ensures ∙ c.if-has_part.true)
 
-pub returns-in-code_u-clause-reads : goal.returns-in-code_u-clause-reads
-returns-in-code_u-clause-reads c =
+pub returns-in-117-clause-reads : goal.returns-in-117-clause-reads
+returns-in-117-clause-reads c =
     λ start d. c.take_unicode.ensures.reads start c.args.byte (value_of c.args.extensions.now)
     (block_at c.to_ascii_lowercase-ext.result d
     (sym c.is_ascii_alphanumeric.ensures.value ∙ c.if-not-is_ascii_alphanumeric.false)
     c.to_ascii_lowercase-ext.ensures.value (sym c.has_part.ensures ∙ c.if-has_part.false))
     (sym c.to_ascii_lowercase-ext.ensures.value ∙ c.in-117.is)
 
-pub returns-in-code_t-clause-reads : goal.returns-in-code_t-clause-reads
-returns-in-code_t-clause-reads c =
+pub returns-in-116-clause-reads : goal.returns-in-116-clause-reads
+returns-in-116-clause-reads c =
     λ start d. c.take_transform.ensures.reads start c.args.byte (value_of c.args.extensions.now)
     (block_at c.to_ascii_lowercase-ext.result d
     (sym c.is_ascii_alphanumeric.ensures.value ∙ c.if-not-is_ascii_alphanumeric.false)
     c.to_ascii_lowercase-ext.ensures.value (sym c.has_part.ensures ∙ c.if-has_part.false))
     (sym c.to_ascii_lowercase-ext.ensures.value ∙ c.in-116.is)
 
-pub returns-in-code_x-clause-reads : goal.returns-in-code_x-clause-reads
-returns-in-code_x-clause-reads c =
+pub returns-in-120-clause-reads : goal.returns-in-120-clause-reads
+returns-in-120-clause-reads c =
     λ start d. c.take_private.ensures.reads start c.args.byte (value_of c.args.extensions.now)
     (block_at c.to_ascii_lowercase-ext.result d
     (sym c.is_ascii_alphanumeric.ensures.value ∙ c.if-not-is_ascii_alphanumeric.false)

@@ -4,8 +4,8 @@ use Rattle.iloc_outline.proofs.BlocksLemmas.{IsReadAt}
 use Rattle.iloc_outline.proofs.blocks.read_apart.Goals as goal
 use Rattle.iloc_spec_grammar.specs.Syntax.{code_x}
 
-pub returns-in-code_x : goal.returns-in-code_x
-returns-in-code_x c = λ k e s.
+pub returns-in-120 : goal.returns-in-120
+returns-in-120 c = λ k e s.
     let r = c.read_private in
     subst (λ b. IsReadAt b k c.args.left.now r.new.left c.args.spans.now r.new.spans c.args.in_order.now
     c.args.in_order.now r.result) (sym (ap (λ n. n == code_x) (e ∙ c.in-120.is)))
