@@ -29,8 +29,8 @@ pub extern "C" fn icu_locale_get_other(
     needed: &mut usize,
 ) -> u32
     ensures same { handle.new.value ≡ handle.old.value }
-    ensures answered { EndsAs (Tells (other_text_at singleton (held_locale handle.old.value)) buffer.old
-        buffer.new needed.new) result }
+    ensures answered { EndsAs (Tells (other_text_at singleton (held_locale handle.old.value))
+        buffer.old buffer.new needed.new) result }
 {
     tell(alloc, handle, &OfOther(singleton), buffer, needed)
 }

@@ -33,8 +33,8 @@ pub extern "C" fn icu_locale_get_hour_cycle(
     needed: &mut usize,
 ) -> u32
     ensures same { handle.new.value ≡ handle.old.value }
-    ensures answered { EndsAs (Tells (hours_text (held_locale handle.old.value)) buffer.old buffer.new
-        needed.new) result }
+    ensures answered { EndsAs (Tells (hours_text (held_locale handle.old.value)) buffer.old
+        buffer.new needed.new) result }
 {
     tell(alloc, handle, &Named::HourCycle, buffer, needed)
 }

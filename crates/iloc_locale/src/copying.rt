@@ -27,7 +27,8 @@ pub(crate) fn fill_from(to: &mut Extensions, from: &Extensions) -> Result<(), Al
 #[inline(always)]
 fn has_keywords_alone(extensions: &Extensions) -> bool
     ensures attributes { IsTrue result → extensions.now.unicode.attributes ≡ [] }
-    ensures transform { IsTrue result → transforms.value_of extensions.now.transform ≡ no_transform }
+    ensures transform { IsTrue result
+        → transforms.value_of extensions.now.transform ≡ no_transform }
     ensures private { IsTrue result → extensions.now.private ≡ [] }
     ensures others { IsTrue result → extensions.now.other.items ≡ [] }
 {
