@@ -205,7 +205,7 @@ inline result<std::string> try_normalize(std::string_view text, mode as = mode::
 {
     std::string normal(text.size() + 4, '\0');
     std::size_t needed = 0;
-    const status told = detail::answered(icu_locale_normalize(static_cast<icu_locale_mode>(as), detail::bytes(text),
+    const status told = detail::told(icu_locale_normalize(static_cast<icu_locale_mode>(as), detail::bytes(text),
         text.size(), reinterpret_cast<std::uint8_t *>(normal.data()), normal.size(), &needed));
     if (told != status::done)
         return told;
@@ -221,14 +221,14 @@ inline std::string normalize(std::string_view text, mode as = mode::locale)
 /* status::done if the text has a meaning; otherwise why it has none. */
 [[nodiscard]] inline status check(std::string_view text, mode as = mode::locale)
 {
-    return detail::answered(icu_locale_check(static_cast<icu_locale_mode>(as), detail::bytes(text), text.size()));
+    return detail::told(icu_locale_check(static_cast<icu_locale_mode>(as), detail::bytes(text), text.size()));
 }
 
 /* The byte order of the text's normal form against other bytes, which are not normalized: -1, 0 or 1. */
 inline result<int> try_strict_cmp(std::string_view text, std::string_view other, mode as = mode::locale)
 {
     std::int8_t order = 0;
-    const status told = detail::answered(icu_locale_strict_cmp(static_cast<icu_locale_mode>(as), detail::bytes(text),
+    const status told = detail::told(icu_locale_strict_cmp(static_cast<icu_locale_mode>(as), detail::bytes(text),
         text.size(), detail::bytes(other), other.size(), &order));
     return told == status::done ? result<int>(static_cast<int>(order)) : result<int>(told);
 }
@@ -242,7 +242,7 @@ inline int strict_cmp(std::string_view text, std::string_view other, mode as = m
 inline result<bool> try_normalizing_eq(std::string_view text, std::string_view other, mode as = mode::locale)
 {
     std::uint8_t same = 0;
-    const status told = detail::answered(icu_locale_normalizing_eq(static_cast<icu_locale_mode>(as), detail::bytes(text),
+    const status told = detail::told(icu_locale_normalizing_eq(static_cast<icu_locale_mode>(as), detail::bytes(text),
         text.size(), detail::bytes(other), other.size(), &same));
     return told == status::done ? result<bool>(same == 1) : result<bool>(told);
 }
@@ -256,7 +256,7 @@ inline bool normalizing_eq(std::string_view text, std::string_view other, mode a
 inline result<int> try_compare(std::string_view text, std::string_view other, mode as = mode::locale)
 {
     std::int8_t order = 0;
-    const status told = detail::answered(icu_locale_compare(static_cast<icu_locale_mode>(as), detail::bytes(text),
+    const status told = detail::told(icu_locale_compare(static_cast<icu_locale_mode>(as), detail::bytes(text),
         text.size(), detail::bytes(other), other.size(), &order));
     return told == status::done ? result<int>(static_cast<int>(order)) : result<int>(told);
 }
@@ -284,13 +284,13 @@ public:
         return told == icu_locale::status::done ? result<locale>(std::move(made)) : result<locale>(told);
     }
 
-    locale(const locale &from) { detail::answered(icu_locale_copy(&held_, &from.held_)); }
+    locale(const locale &from) { detail::told(icu_locale_copy(&held_, &from.held_)); }
     locale(locale &&from) noexcept : held_(from.held_) { from.held_.at = nullptr; }
 
     locale &operator=(const locale &from)
     {
         if (this != &from)
-            detail::answered(icu_locale_copy(&held_, &from.held_));
+            detail::told(icu_locale_copy(&held_, &from.held_));
         return *this;
     }
 
@@ -311,7 +311,7 @@ public:
     /* The locale becomes what the text means. */
     [[nodiscard]] icu_locale::status try_assign(std::string_view text)
     {
-        return detail::answered(icu_locale_parse(&held_, detail::bytes(text), text.size()));
+        return detail::told(icu_locale_parse(&held_, detail::bytes(text), text.size()));
     }
 
     locale &assign(std::string_view text)
@@ -355,7 +355,7 @@ public:
     }
     void add_variant(std::string_view text) { accept(try_add_variant(text), text); }
     bool remove_variant(std::string_view text) { return is_done(set(icu_locale_remove_variant, text)); }
-    void clear_variants() { accept(detail::answered(icu_locale_clear_variants(&held_))); }
+    void clear_variants() { accept(detail::told(icu_locale_clear_variants(&held_))); }
 
     /* Keywords of the extension u, as pairs of key and value, by ascending key. The value of kn in en-u-kn is empty. */
     std::vector<std::pair<std::string, std::string>> keywords() const
@@ -374,7 +374,7 @@ public:
         accept(try_set_keyword(key, value), key, value);
     }
     bool remove_keyword(std::string_view key) { return is_done(set(icu_locale_remove_keyword, key)); }
-    void clear_keywords() { accept(detail::answered(icu_locale_clear_keywords(&held_))); }
+    void clear_keywords() { accept(detail::told(icu_locale_clear_keywords(&held_))); }
 
     /* Attributes of the extension u, ascending. The calls are those of variants. */
     std::vector<std::string> attributes() const { return list(icu_locale_attribute_count, icu_locale_get_attribute); }
@@ -388,7 +388,7 @@ public:
     }
     void add_attribute(std::string_view text) { accept(try_add_attribute(text), text); }
     bool remove_attribute(std::string_view text) { return is_done(set(icu_locale_remove_attribute, text)); }
-    void clear_attributes() { accept(detail::answered(icu_locale_clear_attributes(&held_))); }
+    void clear_attributes() { accept(detail::told(icu_locale_clear_attributes(&held_))); }
 
     /* The identifier of the extension t, such as de-Latn in en-t-de-latn, if there is one. An empty text removes it. */
     std::optional<std::string> transform_language() const { return read(icu_locale_get_transform_language); }
@@ -415,7 +415,7 @@ public:
     }
     void set_field(std::string_view key, std::string_view value) { accept(try_set_field(key, value), key, value); }
     bool remove_field(std::string_view key) { return is_done(set(icu_locale_remove_field, key)); }
-    void clear_fields() { accept(detail::answered(icu_locale_clear_fields(&held_))); }
+    void clear_fields() { accept(detail::told(icu_locale_clear_fields(&held_))); }
 
     /* The private extension with its x, such as x-a-b; empty if there is none. An empty text removes it. */
     std::string private_extension() const { return *read(icu_locale_get_private); }
@@ -448,7 +448,7 @@ public:
     bool normalizing_eq(std::string_view text) const
     {
         std::uint8_t same = 0;
-        detail::answered(icu_locale_eq_text(&held_, detail::bytes(text), text.size(), &same));
+        detail::told(icu_locale_eq_text(&held_, detail::bytes(text), text.size(), &same));
         return same == 1;
     }
 
@@ -470,14 +470,14 @@ public:
     void set_other(std::string_view text) { accept(try_set_other(text), text); }
     bool remove_other(char singleton)
     {
-        return is_done(detail::answered(icu_locale_remove_other(&held_, static_cast<std::uint8_t>(singleton))));
+        return is_done(detail::told(icu_locale_remove_other(&held_, static_cast<std::uint8_t>(singleton))));
     }
 
     /* Adds the attributes and keywords of the other locale. At a key of both, the other's value wins. */
     void extend_unicode(const locale &from)
     {
         if (this != &from)
-            accept(detail::answered(icu_locale_extend_unicode(&held_, &from.held_)));
+            accept(detail::told(icu_locale_extend_unicode(&held_, &from.held_)));
     }
 
     /* The text of the data locale, by which data is looked up: en-US of en-GB-u-rg-uszzzz, by region. */
@@ -492,7 +492,7 @@ public:
     int data_strict_cmp(std::string_view other, priority by = priority::language) const
     {
         std::int8_t order = 0;
-        accept(detail::answered(icu_locale_data_cmp_bytes(
+        accept(detail::told(icu_locale_data_cmp_bytes(
             &held_, static_cast<icu_locale_priority>(by), detail::bytes(other), other.size(), &order)));
         return order;
     }
@@ -505,7 +505,7 @@ public:
             data_strict_cmp({}, by);  // an unknown priority is refused here too
             return 0;
         }
-        accept(detail::answered(icu_locale_data_cmp(&held_, &other.held_, static_cast<icu_locale_priority>(by), &order)));
+        accept(detail::told(icu_locale_data_cmp(&held_, &other.held_, static_cast<icu_locale_priority>(by), &order)));
         return order;
     }
 
@@ -566,7 +566,7 @@ private:
         if (told != ICU_LOCALE_BUFFER_TOO_SMALL)
             throw error(static_cast<icu_locale::status>(told));
         std::string text(needed, '\0');
-        accept(detail::answered(call(&held_, reinterpret_cast<std::uint8_t *>(text.data()), text.size(), &needed)));
+        accept(detail::told(call(&held_, reinterpret_cast<std::uint8_t *>(text.data()), text.size(), &needed)));
         return text;
     }
 
@@ -607,12 +607,12 @@ private:
 
     template <class Call> icu_locale::status set(Call call, std::string_view text)
     {
-        return detail::answered(call(&held_, detail::bytes(text), text.size()));
+        return detail::told(call(&held_, detail::bytes(text), text.size()));
     }
 
     template <class Call> icu_locale::status set(Call call, std::string_view key, std::string_view value)
     {
-        return detail::answered(call(&held_, detail::bytes(key), key.size(), detail::bytes(value), value.size()));
+        return detail::told(call(&held_, detail::bytes(key), key.size(), detail::bytes(value), value.size()));
     }
 
     mutable icu_locale_t held_ = ICU_LOCALE_UND;  // calls that only read also write to the handle meanwhile

@@ -59,7 +59,7 @@ def changers(row):
     """Yields the members that change the locale: what is set or added can be refused, by a status or an error."""
     name, given = name_of(row), ", ".join(texts(row))
     if not row.asked:
-        yield member(f"void {name}()", f"accept(detail::answered({row.symbol}(&held_)));")
+        yield member(f"void {name}()", f"accept(detail::told({row.symbol}(&held_)));")
     elif name.startswith("remove_"):
         yield member(f"bool {name}({parameters(row)})", f"return is_done(set({row.symbol}, {given}));")
     else:
