@@ -1,12 +1,21 @@
-"""Lays out a long line of `.antt` over several lines, as rt fmt leaves it.
+"""Breaks the lines of a text of `.antt` that are too long: of its imports, its comments and its code. They are laid out as rt
+fmt leaves them.
 
-A line is read by its brackets, its operators and its binders. It is broken at the lowest depth at which it can be: after
+A line of code is read by its brackets, its operators and its binders. It is broken at the lowest depth at which it can be: after
 `→`, before any other operator, and before an argument. What goes on stands four columns further in than the declaration, the
 field or the case that it is part of, at whatever depth. A list, a record or cases that one line does not hold have a line for
 each part, two columns further in than the line that opens them."""
+import itertools
 import re
+import textwrap
+
+from common import without_suffix
 
 WIDTH, STEP, PART = 110, 4, 2
+USE = re.compile(r"((?:pub )?use \S*\{)(.*)\}$")
+MODULE = re.compile(r"(?:pub )?use [^{]*$")
+# What a line ends with below which declarations, parts of a list or cases begin.
+OPENS = re.compile(r"(?:\bwhere|[({\[])$")
 STRING = re.compile(r'"(?:[^"\\]|\\.)*"|«[^»]*»')
 CLOSERS = {"(": ")", "{": "}", "[": "]"}
 # Operators, those that bind least first. A line is broken before them.
@@ -107,14 +116,10 @@ def hugs(node):
     return isinstance(node, Parts) or node.flat.startswith(("λ ", "(λ ", "record ", "(record ", "["))
 
 
-def cost(lines, tail):
-    """Returns how bad lines are before a tail: first those that are too long, and then all."""
-    return sum(len(it) > WIDTH for it in [*lines[:-1], lines[-1] + " " * tail]), len(lines)
-
-
 def better(here, below, tail, is_first):
-    """Returns the lines that cost less, and of equal ones the first if these are wanted."""
-    costs = cost(here, tail), cost(below, tail)
+    """Returns the lines of which fewer are too long before a tail, or that are fewer, and of equal ones the first if these
+    are wanted."""
+    costs = [(sum(len(it) > WIDTH for it in [*lines[:-1], lines[-1] + " " * tail]), len(lines)) for lines in (here, below)]
     return here if costs[0] < costs[1] or is_first and costs[0] == costs[1] else below
 
 
@@ -179,26 +184,18 @@ def phrase(words):
     for signs, is_below in ((("=", "↦"), True), ((":",), False)):
         at = next((at for at, it in enumerate(texts[:binder]) if it in signs), None)
         if at is not None and at + 1 < len(words):
-            return Head(named(words[: at + 1]), phrase(words[at + 1 :]), is_below)
-    if binder == 0:
-        return bound(words, texts)
+            first = chain(words[: at + 1]) if at < 2 else Glue([phrase(words[:at]), f" {texts[at]}"])
+            return Head(first, phrase(words[at + 1 :]), is_below)
     if binder < len(words):
-        return chain(words[:binder] + [[bound(words[binder:], texts[binder:])]])
-    inside = next((at for at, it in enumerate(texts) if it == "in"), None)
-    return goes_on(words, inside) if inside else chain(words)
+        node = bound(words[binder:], texts[binder:])
+        return chain([*words[:binder], [node]]) if binder else node
+    inside = texts.index("in") if "in" in texts else 0
+    return then(Glue([phrase(words[:inside]), " in"]), words[inside + 1 :]) if inside else chain(words)
 
 
-def named(words):
-    """Returns the node of what stands before `=`, with it."""
-    if len(words) < 3:
-        return chain(words)
-    return Glue([phrase(words[:-1]), " " + said(words[-1])])
-
-
-def goes_on(words, inside):
-    """Returns the node of words with an `in`, and of what follows it on lines below."""
-    parts = [Glue([phrase(words[:inside]), " in"])]
-    return Run(parts + [phrase(words[inside + 1 :])]) if words[inside + 1 :] else parts[0]
+def then(first, words):
+    """Returns the node of what ends with `in`, and of what follows it on lines below."""
+    return Run([first, phrase(words)]) if words else first
 
 
 def bound(words, texts):
@@ -207,17 +204,11 @@ def bound(words, texts):
         at = next((at for at, it in enumerate(words) if ends(it, ".")), len(words) - 1)
         head = chain(words[: at + 1])
         return Head(head, phrase(words[at + 1 :]), True) if words[at + 1 :] else head
-    depth, inside = 0, None
-    for at, it in enumerate(texts):
-        depth += {"let": 1, "in": -1}.get(it, 0)
-        if depth == 0:
-            inside = at
-            break
+    depths = itertools.accumulate({"let": 1, "in": -1}.get(it, 0) for it in texts)
+    inside = next((at for at, it in enumerate(depths) if not it), None)
     if inside is None:
-        return Glue(["let ", phrase(words[1:])]) if words[1:] else Glue(["let"])
-    first = Glue(["let ", phrase(words[1:inside]), " in"])
-    rest = phrase(words[inside + 1 :]) if words[inside + 1 :] else None
-    return Run([first, rest]) if rest else first
+        return Glue(["let ", phrase(words[1:])] if words[1:] else ["let"])
+    return then(Glue(["let ", phrase(words[1:inside]), " in"]), words[inside + 1 :])
 
 
 def chain(words):
@@ -226,20 +217,16 @@ def chain(words):
         return Glue(["→ ", chain(words[1:])])
     arrows = split(words, lambda it: said(it) == "→")
     if len(arrows) > 1:
-        return Run([after(it, "→") for it in arrows])
+        ends_so = lambda it: said(it[-1]) == "→" and len(it) > 1
+        return Run([Glue([chain(it[:-1]), " →"]) if ends_so(it) else chain(it) for it in arrows])
     for kind in OPERATORS:
         if any(said(it) in kind for it in words[1:-1]):
             parts = split(words, lambda it: False, lambda it: said(it) in kind)
             return Run([operand(it) for it in parts])
     if len(words) > 1 and said(words[0]) in BEFORE:
         return operand(words)
-    parts = [glued(it) for it in arguments(words)]
+    parts = arguments(words)
     return Run(parts, is_call=True) if len(parts) > 1 else parts[0]
-
-
-def after(words, sign):
-    """Returns the node of words whose last is an operator that stays with them."""
-    return Glue([chain(words[:-1]), f" {sign}"]) if said(words[-1]) == sign and len(words) > 1 else chain(words)
 
 
 def operand(words):
@@ -248,15 +235,79 @@ def operand(words):
 
 
 def arguments(words):
-    """Returns words that are broken apart: `record { .. }`, what follows `as` or `at`, and `where` stay with what is before."""
+    """Returns the nodes of words that are broken apart: `record { .. }`, what follows `as` or `at`, and `where` stay with what is before."""
     parts = []
     for it in words:
         before = "".join(parts[-1]).split(" ") if parts and all(isinstance(one, str) for one in parts[-1]) else [""]
         is_fields = not isinstance(it[0], str) and it[0].flat.startswith("{ ")
         stays = before[-1] in ("record", "as", "at", "←") or before[0] == "record" and is_fields or said(it) == "where"
         parts[-1:] = [[*parts[-1], " ", *it]] if parts and stays else [*parts[-1:], list(it)]
-    return parts
+    return [it[0] if len(it) == 1 and not isinstance(it[0], str) else Glue(it) for it in parts]
 
 
-def glued(pieces):
-    return pieces[0] if len(pieces) == 1 and not isinstance(pieces[0], str) else Glue(pieces)
+def column(line):
+    return len(line) - len(line.lstrip())
+
+
+def comment(lines):
+    """Returns the lines of a comment, filled anew from its first line on."""
+    before = re.match(r"\s*-- *", lines[0])[0]
+    text = " ".join(it.strip().lstrip("-").strip() for it in lines)
+    return textwrap.wrap(text, WIDTH, initial_indent=before, subsequent_indent=before, break_long_words=False, break_on_hyphens=False)
+
+
+def goes_on(lines, at):
+    """Returns whether a line goes on from one above it, as far as their columns tell."""
+    place, first = column(lines[at]), lines[at]
+    for line in [it for it in reversed(lines[:at]) if it.strip() and not it.strip().startswith("--")]:
+        if column(first) == place and OPENS.search(line):
+            return False
+        if column(line) < place:
+            return not lines[at].lstrip().startswith("| ")
+        first = line
+    return False
+
+
+def code(lines, at):
+    """Returns the lines of a long line of code."""
+    bare, place = lines[at].strip(), column(lines[at])
+    if MODULE.match(bare):
+        return [lines[at]]
+    if found := USE.match(bare):
+        return names(" " * place + found[1], found[2].split(", "))
+    # (rt fmt has a bracket whose parts stand below at the end of the line before them)
+    bracket = (re.search(r" [({[]$", bare) or [""])[0]
+    node = phrase(read(without_suffix(bare, bracket))[0])
+    made = laid(node, " " * place, place + STEP * (not goes_on(lines, at)), len(bracket))
+    return [*made[:-1], made[-1] + bracket]
+
+
+def names(line, found):
+    """Returns several `use` lines of one module for one with these names, or a line for each where one is too long for that."""
+    if any(len(line) + len(it) + 1 > WIDTH for it in found):
+        return [line, *(f"{' ' * (column(line) + PART)}{it}," for it in found), " " * column(line) + "}"]
+    lines = []
+    for it in found:
+        if lines and len(lines[-1]) + len(it) + 3 <= WIDTH:
+            lines[-1] += f", {it}"
+        else:
+            lines.append(line + it)
+    return [f"{it}}}" for it in lines]
+
+
+def broken(text):
+    """Returns the text with its long lines broken."""
+    lines, made, at = text.split("\n"), [], 0
+    while at < len(lines):
+        line, end = lines[at], at + 1
+        if len(line) <= WIDTH:
+            made.append(line)
+        elif line.strip().startswith("--"):
+            before = re.match(r"\s*-- ", line)
+            while end < len(lines) and before and re.match(rf"{before[0]}\w", lines[end]):
+                end += 1
+            made += comment(lines[at:end])
+        else:
+            made += [line] if " -- " in STRING.sub("", line) else code(lines, at)
+        at = end
+    return "\n".join(made)

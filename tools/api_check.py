@@ -6,7 +6,7 @@ import re
 
 import api_examples
 import api_search
-from api_model import entries
+from api_model import shown
 from common import read
 
 # Words of the language, which declare and are no names.
@@ -69,7 +69,7 @@ def parts_of_statements():
 
 def not_tried():
     """Yields each call that no test, program of rows or user's program makes, as far as its type or its name tells."""
-    made, every = api_examples.tried_keys(), [it for entry in entries() if not entry.see and not entry.is_law for it in entry.calls]
+    made, every = api_examples.tried_keys(), [it for entry in shown() if not entry.is_law for it in entry.calls]
     yield from (f"{it.title}: no test makes this call: add a row" for it in every if it.key not in made)
 
 

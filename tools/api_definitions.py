@@ -1,7 +1,9 @@
 """Reads the definitions that contracts cite (`specs/*.antt`), and the page that tells them in words."""
+import collections
 import functools
 import re
 
+from antt import bound_in_file
 from api_source import libraries, sources
 from common import read
 
@@ -11,11 +13,11 @@ USES = re.compile(r"^(?:pub )?use [^{\n]*(?:\{[^}]*\})?.*\n?", re.M)
 
 
 class Block:
-    """A definition with its comment, or a remark between definitions: the text, and what it declares."""
+    """A definition with its comment, or a remark between definitions: the text, its place in the file, and what it declares."""
 
-    def __init__(self, text, declared):
-        self.text = text
-        public = [it for it in declared if re.match(r"[^=:]*\bpub ", it.lines[0])]
+    def __init__(self, text, at, declared):
+        self.text, self.at = text, at
+        public = [it for it in declared if it.is_public()]
         self.names = list(dict.fromkeys(it.name for it in public))
         self.name = self.names[0] if self.names else ""
         shapes = [it for it in public if it.kind in ("data", "record")]
@@ -25,35 +27,19 @@ class Block:
         """Returns the places of the block on its page."""
         return self.names + [f"{owner}.{name}" for owner, _, name in self.members]
 
-    def fields(self):
-        return {name for _, is_record, name in self.members if is_record}
-
 
 class Definitions:
-    """A file of definitions: its blocks, and what the names in it mean."""
+    """A file of definitions: its blocks, the places of its names on its page (of cases, if only one type has them), and the
+    places of those that it binds."""
 
-    def __init__(self, crate, module, read_module):
-        self.crate, self.module, self.path = crate, module, read_module.path
-        self.text = read_module.text
-        self.blocks = list(blocks_of(read_module))
-        self.cases = self.read_cases()
-        self.own = {**self.cases, **{name: name for block in self.blocks for name in block.names}}
-        named = [(shown, path, name) for shown, (path, name) in read_module.items.items()]
-        named += [(shown, path, "") for shown, path in read_module.modules.items()]
-        self.used = {shown: (path[1], ".".join(path[3:]), name) for shown, path, name in named if path[0] == "Rattle"}
-
-    def read_cases(self):
-        """Returns the place of each case of a type, by its name, if only one type has it."""
-        cases = [it for block in self.blocks for it in block.members if not it[1]]
-        named = [name for _, _, name in cases]
-        return {name: f"{owner}.{name}" for owner, _, name in cases if named.count(name) == 1}
-
-    def is_case(self, name):
-        """Returns whether a name in a pattern is a case, which the pattern does not bind."""
-        if name not in self.used:
-            return name in self.cases
-        crate, module, made = self.used[name]
-        return (crate, module) not in files() or made in files()[crate, module].cases
+    def __init__(self, read_module):
+        self.read, self.path, self.blocks = read_module, read_module.path, [*blocks_of(read_module)]
+        self.crate, self.module = read_module.name[1], ".".join(read_module.name[3:])
+        cases = [(name, owner) for block in self.blocks for owner, is_record, name in block.members if not is_record]
+        count = collections.Counter(name for name, _ in cases)
+        self.own = {name: f"{owner}.{name}" for name, owner in cases if count[name] == 1}
+        self.own.update((name, name) for block in self.blocks for name in block.names)
+        self.bound = bound_in_file(read_module, lambda names: sources().is_constructor(read_module, names))
 
     def page(self):
         return f"spec.{self.crate}.{self.module}.html"
@@ -61,50 +47,42 @@ class Definitions:
 
 def blocks_of(module):
     """Yields the blocks of a file: each ends at an empty line before the next declaration or remark."""
-    lines, first = [], 1
+    lines, first, start, at = [], 1, 0, 0
     for number, line in enumerate([*module.text.split("\n"), ""], 1):
         if line.strip():
-            first = first if lines else number
+            first, start = (first, start) if lines else (number, at)
             lines.append(line)
         elif lines:
-            kept = USES.sub("", "\n".join(lines)).rstrip("\n")
+            whole = "\n".join(lines)
+            kept = USES.sub("", whole).rstrip("\n")
             if re.sub(r"(?m)^(?:pub )?mod .*", "", kept).strip():
-                yield Block(kept, [it for it in module.definitions if first <= it.line < number])
+                yield Block(kept, start + whole.index(kept), [it for it in module.definitions if first <= it.line < number])
             lines = []
+        at += len(line) + 1
 
 
 @functools.lru_cache(maxsize=None)
 def files():
-    """Returns the files of definitions by crate and module."""
-    found = {}
-    for crate in libraries():
-        made = [it for it in sources().modules.values() if it.name[1] == crate and len(it.name) > 3]
-        for it in sorted(made, key=lambda one: one.path):
-            found[crate, ".".join(it.name[3:])] = Definitions(crate, ".".join(it.name[3:]), it)
-    return found
+    """Returns the files of definitions by the paths of their modules."""
+    every = [it for it in sources().modules.values() if len(it.name) > 3]
+    made = [it for crate in libraries() for it in sorted(every, key=lambda one: one.path) if it.name[1] == crate]
+    return {it.name: Definitions(it) for it in made}
 
 
-def address(crate, module, name):
-    """Returns the page and the anchor of a definition, or nothing; what a module passes on is followed."""
-    it = files().get((crate, module))
-    if not it:
-        return ""
-    if not name:
-        return it.page()
-    if name in it.own:
-        return f"{it.page()}#{it.own[name]}"
-    return address(*it.used[name]) if name in it.used and it.used[name][:2] != (crate, module) else ""
+def address(module, word):
+    """Returns the page and the anchor of what a word of a module means by its `use` lines, or nothing; what another module
+    passes on is followed."""
+    path, name = module.brought(word)
+    path, name = sources().stands(path, name)
+    it = files().get(path)
+    if not it or not name:
+        return it.page() if it else ""
+    return f"{it.page()}#{it.own[name]}" if name in it.own else ""
 
 
-def within(definitions, token):
+def within(definitions, word):
     """Returns the address of a name in a file of definitions."""
-    first, _, rest = token.partition(".")
-    if first in definitions.own and not rest:
-        return f"#{definitions.own[first]}"
-    if first in definitions.used:
-        crate, module, name = definitions.used[first]
-        return address(crate, module, name or rest.split(".")[0])
-    return ""
+    return f"#{definitions.own[word]}" if word in definitions.own else address(definitions.read, word)
 
 
 def slug(heading):

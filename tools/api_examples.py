@@ -8,10 +8,10 @@ import os
 import re
 
 import api_words
-from api_model import entries
+from api_model import shown
 from api_source import CORE, libraries, sources
 from common import ROOT, read, without_prefix, without_suffix
-from trusted_rt import blanked, closing, joined
+from rattle import blanked, closing, joined
 
 # The longest statement that is shown.
 LONGEST = 120
@@ -19,9 +19,9 @@ FIRST = ("crates/example_first_locale", "crates/example_recipes")
 STATIC = re.compile(r"\b([A-Z]\w*)(?:::<[^>()]*>)?::(\w+)(?:::<[^>()]*>)?\(")
 METHOD = re.compile(r"\b(\w+)((?:\.[a-z_]\w*)*)\.(\w+)(?:::<[^>()]*>)?\(")
 BARE = re.compile(r"(?<![\w.:])(\w+)(?:::<[^>()]*>)?\(")
-LET = re.compile(r"let (?:mut )?(\w+)(?:: [^=]+)? = (?:match )?(\w+)(?:::<[^>()]*>)?::(\w+)\(")
+LET = re.compile(r"let (?:mut )?(\w+)(?:: [^=]+)? = (?:match )?(\w+)(?:::<[^>()]*>)?::(?:try_from|from|new|unknown|default)\w*\(")
 MATCHED = re.compile(
-    r"(?:match|let) (\w+)(?:::<[^>()]*>)?::(try_\w+|new)\([^{]*\{[^{}]*?\bOk\((?:mut )?(\w+)\)"
+    r"(?:match|let) (\w+)(?:::<[^>()]*>)?::(?:try_\w+|new)\([^{]*\{[^{}]*?\bOk\((?:mut )?(\w+)\)"
 )
 ANNOTATED = re.compile(r"let (?:mut )?(\w+): (\w+)")
 BOUND = re.compile(r"\b([A-Z]\w*): (?:\w+::)*([A-Z]\w+)")
@@ -44,7 +44,7 @@ def files():
 
 @functools.lru_cache(maxsize=None)
 def by_home():
-    return {(it.crate, made_name(it)): it for it in entries() if not it.see}
+    return {(it.crate, made_name(it)): it for it in shown()}
 
 
 def made_name(entry):
@@ -124,15 +124,8 @@ def types_in(header, body, known, own):
         elif inner and bare(inner.group(1)) in known:
             for taken in re.findall(rf"match {name} \{{\s*(?:Some|Ok)\((?:mut )?(\w+)\)", body):
                 found[taken] = known[bare(inner.group(1))]
-    for name, kind in ANNOTATED.findall(body):
-        if kind in known:
-            found[name] = known[kind]
-    for name, kind, call in LET.findall(body):
-        if kind in known and re.match(r"try_from|from|new|unknown|default", call):
-            found[name] = known[kind]
-    for kind, call, name in MATCHED.findall(body):
-        if kind in known:
-            found[name] = known[kind]
+    told = [*ANNOTATED.findall(body), *LET.findall(body), *((name, kind) for kind, name in MATCHED.findall(body))]
+    found.update((name, known[kind]) for name, kind in told if kind in known)
     for name, start, fields in BORROWED.findall(body):
         if start in found and along(found[start], fields):
             found[name] = along(found[start], fields)
@@ -156,15 +149,9 @@ def made_on(line, known, types):
         yield None, name
 
 
-@functools.lru_cache(maxsize=None)
-def owners():
-    """Returns the name of the type of each `impl`."""
-    return {it.item: it.type_name for it in sources().impls}
-
-
 def functions_of(path):
     """Yields each function of a file with its module."""
-    for source in [it for made in sources().rust.values() for it in made.values() if it.path == path]:
+    for source in [it for it in sources().files if it.path == path]:
         for item in source.items:
             yield from ((source, it) for it in (item, *item.inner) if it.kind == "fn")
 
@@ -176,7 +163,8 @@ def lines_of(path):
         opened = item.text.index("(")
         start = closing(blanked(item.text), opened)
         known = names_of(source)
-        own = known.get(owners().get(item.owner))
+        impl = sources().impl_of.get(item.owner)
+        own = known.get(impl.type_name) if impl else None
         bound = {name: known[kind] for name, kind in BOUND.findall(item.text[:opened]) if kind in known}
         named = {**known, **bound}
         first, lines = item.line + item.text.count("\n", 0, start), item.text[start:].split("\n")

@@ -8,12 +8,9 @@ PROGRAM = "iloc_lines"
 
 def laws(sources):
     """Returns the laws of the crates of definitions and of the program: public functions with no body."""
-    found = []
-    for crate in [it for it in sources.crates if it.startswith("iloc_spec_") or it == PROGRAM]:
-        for path, source in sources.rust[crate].items():
-            functions = [it for it in source.items if it.kind == "fn" and it.is_public and path[-1:] != ("tests",)]
-            found += [it for it in functions if "".join(it.text.split()).endswith("}{}")]
-    return found
+    every = [it for it in sources.items if it.crate.startswith("iloc_spec_") or it.crate == PROGRAM]
+    public = [it for it in every if it.kind == "fn" and it.is_public and it.module.path_names[-1:] != ("tests",)]
+    return [it for it in public if "".join(it.text.split()).endswith("}{}")]
 
 
 def cited(sources):
@@ -25,13 +22,7 @@ def cited(sources):
         kind = sources.struct_of(item) if item.kind in ("struct", "enum", "type") else None
         seen = [it for it in sources.cites(kind) if it.kind == "ghost"] if kind else []
         found += [one for it in seen for one in sources.cites(it)]
-    closed, waiting = {}, [it for it in found if isinstance(it, graph.antt.Definition)]
-    while waiting:
-        it = waiting.pop()
-        if it not in closed:
-            closed[it] = True
-            waiting += [one for one in sources.cites(it) if isinstance(one, graph.antt.Definition)]
-    return closed
+    return [it for it in graph.reach(sources, found, graph.is_definition) if graph.is_definition(it)]
 
 
 def faults():

@@ -9,16 +9,19 @@ import shutil
 import api_definitions
 import api_markup
 import api_search
-from api_bound import TOKEN, bound_in, of_function, of_module
+from antt import bound_in
 from api_definitions import files, slug, told, within
 from api_examples import examples, remark, tried
 from api_markdown import LAWS, json_types, trait_homes
 from api_markup import code, dim, esc, items, leads, marked, source, tag
-from api_model import model
-from api_names import Sources, call_at, entry_at, field_id, module_file, short, shown_entries
-from api_source import CORE, ghost_uses
-from common import ROOT, read, without_prefix, without_suffix, write as put
+from api_model import base_of, model, short, shown
+from api_names import Sources, call_at, entry_at, field_id, module_file
+from api_source import CORE, sources
+from common import ROOT, read, without_prefix, write as put
+from trusted_graph import Contract
 
+NAME = r"[A-Za-z_][\w']*(?:-[\w']+)*"
+TOKEN = re.compile(rf"{NAME}(?:\.{NAME})*")
 SIGNS = re.compile(r"[λ→×≡↔≢≤⊎¬∷⊥⊤∥]|\+\+")
 PAGE = """<!doctype html>
 <html lang="en"><head><meta charset="utf-8">
@@ -41,21 +44,17 @@ which is proved. Each name in a contract leads to its definition.</p>
 
 def of_type(crate, name):
     """Returns the address of a public type that a clause names."""
-    found = [it.path for it in shown_entries() if (it.crate, it.name) == (crate, name)]
+    found = [it.path for it in shown() if (it.crate, it.name) == (crate, name)]
     return entry_at(found[0]) if found else ""
 
 
-def meant(item, token):
-    """Returns where a name in a clause of the item is defined: by the nearest `ghost use` above it."""
-    first, _, rest = token.partition(".")
-    fits = [(at, home) for at, name, home in ghost_uses(item.path) if name == first]
-    above = [home for at, home in fits if at <= item.line] or [home for _, home in fits]
-    if not above:
-        return ""
-    crate, module, name = above[-1]
-    if module.startswith("declared."):
-        return of_type(crate, without_suffix(module, ".TheVariants").rpartition(".")[2])
-    return api_definitions.address(crate, module, name or rest.split(".")[0])
+def meant(item, word):
+    """Returns where a word in a clause of the item is defined, by the `ghost use` lines in its scope."""
+    scope = sources().scope(item)
+    path, _ = scope.brought(word)
+    if path[3:4] == ("declared",):
+        return of_type(path[1], [it for it in path if it != "TheVariants"][-1])
+    return api_definitions.address(scope, word)
 
 
 def coloured(text, address, bound=(), start=0):
@@ -75,7 +74,7 @@ def signs(text):
 
 
 def clause_html(clause, item):
-    bound = bound_in(clause.fact, of_function(item.signature))
+    bound = bound_in(clause.fact, Contract(sources(), item).parameters(item))
     fact = coloured(clause.fact, lambda token: meant(item, token), bound)
     label = " " + tag("b", clause.label, kind="l") if clause.label else ""
     return f"{tag('b', clause.kind, kind='k')}{label} {{ {fact} }}"
@@ -135,7 +134,7 @@ def heading(level, anchor, inner):
 
 def public_type(name, module):
     """Returns the address of the public type of this name: of the module, or of all if only one has it."""
-    named = [it for it in shown_entries() if it.name == name and it.kind != "fn"]
+    named = [it for it in shown() if it.name == name and it.kind != "fn"]
     near = [it for it in named if it.module == module] or [it for it in named if len(named) == 1]
     return entry_at(near[0].path) if near else ""
 
@@ -178,11 +177,6 @@ def ghosts_html(entry):
     ghosts = [(it, text) for it, text in first if re.match(r"ghost (?!use)", text)]
     said = [f"{code(text)} {marked(it.sentence(), entry.path)}" for it, text in ghosts]
     return folded("What contracts say of it", said)
-
-
-def base_of(entry):
-    """Returns the generic type that an alias names."""
-    return next((it for it in shown_entries() if it.name == entry.base), None) if entry.base else None
 
 
 def base_html(entry):
@@ -249,12 +243,10 @@ def module_html(module):
 
 def block_html(block, definitions):
     """Returns a definition, its names linked, with the part of the page that tells it in words."""
-    names = of_module(definitions.text).union(block.fields())
-    bound = bound_in(block.text, names, definitions.own, definitions.is_case)
-    lines, start = [], 0
+    lines, start = [], block.at
     for line in block.text.split("\n"):
         text, dash, said = line.partition("--")
-        linked = coloured(text, lambda token: within(definitions, token), bound, start)
+        linked = coloured(text, lambda word: within(definitions, word), definitions.bound, start)
         lines.append(linked + (tag("span", f"--{marked(said)}", kind="c") if dash else ""))
         start += len(line) + 1
     anchors = "".join(tag("span", "", id=name) for name in block.anchors())

@@ -3,8 +3,9 @@ import os
 import re
 
 import api_words
+from api_definitions import slug
 from api_examples import examples, remark, tried
-from api_model import KEYS_BY_NAME, error_of, is_law, model
+from api_model import KEYS_BY_NAME, base_of, error_of, is_law, model, short, shown
 from api_source import CORE
 from common import ROOT, without_prefix
 
@@ -37,12 +38,7 @@ LAWS = "A law is a function that does nothing. Call it where a proof needs the f
 
 def page_of(module):
     """Returns the file of a module's page."""
-    return f"{HOME}/{module.replace(f'{CORE}::', '').replace('::', '.')}.md"
-
-
-def anchor(title):
-    """Returns the anchor that a heading of this code has."""
-    return re.sub(r"[^\w -]", "", title.lower()).replace(" ", "-")
+    return f"{HOME}/{(short(module) or CORE).replace('::', '.')}.md"
 
 
 def link(entry_path, within):
@@ -50,25 +46,20 @@ def link(entry_path, within):
     module, _, name = entry_path.rpartition("::")
     file = page_of(module).rpartition("/")[2]
     at = "" if module == within else file
-    return f"[`{without_prefix(entry_path, f'{CORE}::')}`]({at}#{anchor(name)})"
+    return f"[`{short(entry_path)}`]({at}#{slug(name)})"
 
 
 def example_row(call):
     """Returns the line of a program that makes the call, with a link."""
-    found = examples().get(call.key)
-    if not found:
-        return ""
-    path, number, line = found
-    return f"- Example: `{line}` in [{without_prefix(path, 'crates/')}](../../{path}#L{number})"
+    found = [examples()[call.key]] if call.key in examples() else []
+    return [f"- Example: `{line}` in [{without_prefix(path, 'crates/')}](../../{path}#L{number})" for path, number, line in found]
 
 
 def tried_row(path):
     """Returns rows that the gate runs of a reader: what is given, and what is answered."""
-    found = tried(without_prefix(path, f"{CORE}::"))
-    rows = [f"[`{given}`](../../{file}#L{number}) is answered `{answer}`" for file, number, given, answer in found]
-    said = "; ".join(rows)
-    told = remark(without_prefix(path, f"{CORE}::"))
-    return [f"- Tried: {said}" + (f" ({told})" if told else "") + "."] if found else []
+    rows = [f"[`{given}`](../../{file}#L{number}) is answered `{answer}`" for file, number, given, answer in tried(short(path))]
+    told = remark(short(path))
+    return [f"- Tried: {'; '.join(rows)}" + (f" ({told})" if told else "") + "."] if rows else []
 
 
 def refusal_rows(call):
@@ -81,7 +72,7 @@ def call_rows(call, module):
     rows += ["", *[it for part in call.details for it in (part, "")]] if call.details else [""]
     facts = [f"- Needs: {it}" for it in call.needs] + refusal_rows(call)
     facts += [f"- Memory: {call.memory}"] if call.memory else []
-    facts += tried_row(f"{module}::{call.title}") + ([example_row(call)] if example_row(call) else [])
+    facts += tried_row(f"{module}::{call.title}") + example_row(call)
     facts += [f"- States: `{it.fact}`" for it in call.item.stated if is_law(call.item)]
     labels = ", ".join(f"`{it.label}`" for it in call.item.stated if it.label and it.kind != "requires")
     named = f", clauses {labels}" if labels else ""
@@ -117,9 +108,8 @@ def entry_rows(entry, homes):
     rows += tried_row(entry.path) + [""] if tried_row(entry.path) else []
     if entry.refusal:
         rows += [f"Its refusal is `{entry.refusal}`.", ""]
-    if entry.base:
-        base = link(f"{base_home(entry.base)}::{entry.base}", entry.module)
-        rows += [f"It is a {base}, and has its calls and traits.", ""]
+    if base_of(entry):
+        rows += [f"It is a {link(base_of(entry).path, entry.module)}, and has its calls and traits.", ""]
     rows += [f"- `{text}`{told(said)}" for text, said in entry.fields] + [""]
     rows += trait_rows(entry, homes)
     if entry.name == "JsonText":
@@ -127,22 +117,15 @@ def entry_rows(entry, homes):
     return rows + [it for call in entry.calls for it in call_rows(call, entry.module)]
 
 
-def base_home(base):
-    """Returns the module at which a generic type is shown."""
-    return next(it.module for module in model() for it in module.entries if it.name == base and not it.see)
-
-
 def json_types():
     """Returns the paths of the types that are written as JSON strings."""
-    found = [it for module in model() for it in module.entries if not it.see]
-    has = {it.name for it in found if any(given.trait == "JsonText" for given in it.given)}
-    return [it.path for it in found if it.name in has - {"WordOf"} or it.base == "WordOf" and "WordOf" in has]
+    has = {it.name for it in shown() if any(given.trait == "JsonText" for given in it.given)}
+    return [it.path for it in shown() if it.name in has - {"WordOf"} or it.base == "WordOf" and "WordOf" in has]
 
 
 def trait_homes():
     """Returns the paths of the public traits by their names."""
-    traits = [it for module in model() for it in module.entries if it.kind == "trait" and not it.see]
-    return {it.name: it.path for it in traits}
+    return {it.name: it.path for it in shown() if it.kind == "trait"}
 
 
 def module_page(module):
@@ -176,7 +159,7 @@ def pages():
 def broken_links(made):
     """Returns each link within these pages that leads to no page or to no heading."""
     heading = re.compile(r"^#+ (.*)$", re.M)
-    headings = {path: set(map(anchor, heading.findall(text))) for path, text in made.items()}
+    headings = {path: set(map(slug, heading.findall(text))) for path, text in made.items()}
     faults = []
     for path, text in made.items():
         folder = path.rpartition("/")[0]
@@ -228,8 +211,7 @@ def rust_row(entry):
         elif call.rust and change(call):
             changed.setdefault(change(call), []).append(f"`{call.name}`")
     said = [f"{', '.join(names)}: {how}" for how, names in changed.items()]
-    here = f"`{without_prefix(entry.path, f'{CORE}::')}`"
-    there = api_words.BASES.get(entry.name) or f"`{without_prefix(entry.rust, f'{CORE}::')}`"
+    here, there = f"`{short(entry.path)}`", api_words.BASES.get(entry.name) or f"`{short(entry.rust)}`"
     return f"| {there} | {here} | {'; '.join(named + said)} |" if said or named or there != here else None
 
 

@@ -5,7 +5,7 @@ import functools
 import re
 
 import api_words
-from api_source import ALIAS, CORE, HEAD, crate, ghost_uses, libraries, modules, sources
+from api_source import ALIAS, CORE, HEAD, crate, libraries, modules, sources
 from common import without_prefix
 
 OURS = ("Writeable", "Sink", "Word", "WordKind", "Store", "PreferenceKey", "JsonText", "TextValue")
@@ -97,7 +97,12 @@ class Module:
 
     @property
     def short(self):
-        return without_prefix(without_prefix(self.path, CORE), "::") or CORE
+        return short(self.path) or CORE
+
+
+def short(path):
+    """Returns a path within the public crate."""
+    return without_prefix(without_prefix(path, CORE), "::")
 
 
 def fits(table, fact):
@@ -163,11 +168,10 @@ def reader(home, made):
 
 def relation(item):
     """Returns the refusals of a parser and when it may run out of memory, of the relation that it states."""
-    for clause in item.stated:
-        for name in re.findall(r"\b[A-Z]\w+", clause.fact):
-            for _, shown, (home, _, made) in ghost_uses(item.path):
-                if shown == name and (words := reader(home, made)):
-                    return words
+    for name in re.findall(r"\b[A-Z]\w+", facts(item)):
+        path, made = sources().scope(item).items.get(name, ((), ""))
+        if path[:1] == ("Rattle",) and (words := reader(path[1], made)):
+            return words
     return None
 
 
@@ -259,29 +263,21 @@ def sink_or_closure(item):
 
 def rust_of_call(entry, owner, name):
     """Returns what stands in the Rust crate for the call."""
-    if not entry:
-        return ""
-    special = api_words.OWN_CALLS_OF.get(f"{owner}::{name}", api_words.OWN_CALLS.get(name))
-    if special is None:
-        return f"{entry}::{name}"
-    return special
+    special = api_words.OWN_CALLS_OF.get(f"{owner}::{name}", api_words.OWN_CALLS.get(name, f"{entry}::{name}"))
+    return special if entry else ""
 
 
 def rust_of(module, name):
     """Returns the path of the item in the Rust crate; empty if it has none."""
-    short = without_prefix(without_prefix(module, CORE), "::")
-    if short.startswith(api_words.OWN_MODULES):
+    inner = short(module)
+    if inner.startswith(api_words.OWN_MODULES):
         return ""
-    special = api_words.OWN.get(f"{short}::{name}")
+    special = api_words.OWN.get(f"{inner}::{name}")
     if special is not None:
         return special
-    if short in api_words.CRATES_OF_RUST:
-        return f"{api_words.CRATES_OF_RUST[short]}::{name}"
-    if short in ("langid", "locale", "data", ""):
-        return f"{CORE}::{name}"
-    if short == "parser":
-        return f"{CORE}::{name}"
-    return f"{CORE}::{short}::{name}"
+    if inner in api_words.CRATES_OF_RUST:
+        return f"{inner}::{name}"
+    return f"{CORE}::{name}" if inner in ("langid", "locale", "data", "parser", "") else f"{CORE}::{inner}::{name}"
 
 
 def call_of(item, owner, home, rust, made):
@@ -449,3 +445,14 @@ def model():
 
 def entries():
     return [it for module in model() for it in module.entries]
+
+
+@functools.lru_cache(maxsize=None)
+def shown():
+    """Returns the entries that are described, and not only named."""
+    return [it for it in entries() if not it.see]
+
+
+def base_of(entry):
+    """Returns the generic type that an alias names, or None."""
+    return next((it for it in shown() if it.name == entry.base), None) if entry.base else None

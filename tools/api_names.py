@@ -3,7 +3,7 @@ import functools
 import os
 import re
 
-from api_model import model
+from api_model import short, shown
 from api_source import CORE
 from common import ROOT, read, without_prefix
 
@@ -15,10 +15,6 @@ def module_file(path):
     return f"module.{short(path) or CORE}.html".replace("::", ".")
 
 
-def short(path):
-    return without_prefix(without_prefix(path, CORE), "::")
-
-
 def entry_at(path):
     """Returns the address of an entry."""
     module, _, name = path.rpartition("::")
@@ -28,12 +24,6 @@ def entry_at(path):
 def call_at(call, module):
     """Returns the address of a call of an entry of the module."""
     return f"{module_file(module)}#{call.title.replace('::', '.')}"
-
-
-@functools.lru_cache(maxsize=None)
-def shown_entries():
-    """Returns the entries that are described, and not only named."""
-    return [it for module in model() for it in module.entries if not it.see]
 
 
 def field_name(text):
@@ -54,7 +44,7 @@ def addresses():
     def put(name, module, address):
         found.setdefault(name, {}).setdefault(module, address)
 
-    for entry in shown_entries():
+    for entry in shown():
         put(entry.name, entry.module, entry_at(entry.path))
         put(f"{short(entry.module)}::{entry.name}", entry.module, entry_at(entry.path))
         for call in entry.calls if entry.kind != "fn" else []:

@@ -2,8 +2,8 @@
 import re
 
 from api_definitions import WORDS, files, slug
-from api_model import model
-from api_names import call_at, entry_at, field_id, field_name, module_file, shown_entries, short
+from api_model import base_of, model, short, shown
+from api_names import call_at, entry_at, field_id, field_name, module_file
 from common import read
 
 # What is found is in this order, where the words of a query fit alike.
@@ -30,9 +30,9 @@ def of_entry(entry):
         yield f"{home}::{entry.name}::{field_name(text)}", at, said or entry.sentence, VARIANT + rare, text
     for call in [] if is_call else entry.calls:
         yield f"{home}::{call.title}", call_at(call, entry.module), call.sentence, CALL + rare, said_of(call)
-    for base in shown_entries() if entry.base else []:
-        for call in base.calls if base.name == entry.base else []:
-            yield f"{home}::{entry.name}::{call.name}", call_at(call, base.module), call.sentence, CALL + 1, ""
+    base = base_of(entry)
+    for call in base.calls if base else []:
+        yield f"{home}::{entry.name}::{call.name}", call_at(call, base.module), call.sentence, CALL + 1, ""
 
 
 def of_words():
@@ -46,7 +46,7 @@ def of_words():
 def items():
     """Returns what search finds: title, address, what is said, its kind, and what else is sought in."""
     found = [(f"{it.short} (module)", module_file(it.path), it.comment, MODULE, "") for it in model()]
-    found += [it for entry in shown_entries() for it in of_entry(entry)]
+    found += [it for entry in shown() for it in of_entry(entry)]
     found += of_words()
     for it in files().values():
         for block in it.blocks:

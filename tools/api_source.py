@@ -1,4 +1,4 @@
-"""The public items of the crates, of what trusted_rt and trusted_antt read of the sources."""
+"""The public items of the crates, of what rattle and antt read of the sources."""
 import functools
 import re
 
@@ -87,14 +87,3 @@ def modules():
         if uses or not names:
             found.append(("::".join((CORE, *names)), comment, uses))
     return found
-
-
-@functools.lru_cache(maxsize=None)
-def ghost_uses(path):
-    """Returns (line, name, where it is defined) of each name that the file's clauses may use: (crate, module, name)."""
-    found = set()
-    for it in [one for made in sources().rust.values() for one in made.values() if one.path == path]:
-        for text, line in [*it.ghost_uses, *(one for item in it.items for one in item.uses)]:
-            named = [it for it in trusted_graph.antt.used(text) if it[0][0] == "Rattle"]
-            found.update((line, shown, (at[1], ".".join(at[3:]), name or "")) for at, name, shown in named)
-    return sorted(found)

@@ -25,15 +25,12 @@ CONDITIONS = [
     (r"^IsNormal words\.Subtag input$", r"The text has 2 to 8 lower-case letters or digits."),
     (r"^ascends word_cmp input\.items ≡ true$", r"The items ascend strictly. `subtags::is_strictly_ascending` tests it."),
     (r"^is_ascii_alphanumeric ext ≡ true$", r"`ext` is an ASCII letter or digit."),
-    (r"^self\.old ≡ \[\]$", r"The receiver is empty."),
-    (r"^self\.old\.(\w+) ≡ (?:\[\]|None)$", r"`\1` is empty."),
 ]
 
 # When a call surely allocates nothing, by the premise of a clause that ends in `IsOk result`.
 ENOUGH = [
     (r"^$", "always"),
     (r"^length self\.old < 4$", "fewer than four are held"),
-    (r"^length self\.old\.1 < 4$", "fewer than four are held"),
     (r"^length self\.old < 1$", "there is no key yet"),
     (r"^(?:self\.old|items_of self\.old) ≡ \[\]$", "the list is empty"),
     (r"^length self\.old < S\.free$", "the store has a place left inline: of a `ShortBoxSlice` if the map is empty, of a `Vec` never"),
@@ -48,7 +45,6 @@ ENOUGH = [
     (r"^is_true subtag ≡ true$", "the subtag is `true`"),
     (r"^reference_bytes\.now ≡ W\.text writeable\.now$", "the bytes are the printed text"),
     (r"^lends self\.now$", "the value lends its text: `writeable_borrow` is `Some`"),
-    (r"^length \(normal_values .*\) ≤ 4$", "at most four subtags besides `true` are parsed"),
 ]
 
 # Relations that leave no answer but `Ok`.
@@ -113,8 +109,7 @@ READERS = {
     "iloc_word_list.ValueTextReads": ([("InvalidSubtag", "the text is not empty, and not all of it is subtags of 2 to 8 letters or digits")], "there are more than four subtags besides `true`"),
     "iloc_transform.TransformTextReads": (begins("`t`", TRANSFORM), "there is a field, or a fifth variant"),
     "iloc_transform.TransformReads": (TRANSFORM, "there is a field, or a fifth variant"),
-    "iloc_fields.FieldsReads": ([("InvalidExtension", "a key has no value")], "there is a field"),
-    "iloc_fields.FieldValueTextReads": ([("InvalidExtension", "not all of the text is subtags of 3 to 8 letters or digits, one at least")], "there are more than four subtags besides `true`"),
+    "iloc_transform.FieldValueTextReads": ([("InvalidExtension", "not all of the text is subtags of 3 to 8 letters or digits, one at least")], "there are more than four subtags besides `true`"),
     "iloc_other.OtherTextReads": (begins("a letter or digit other than `t`, `u`, `x`", OTHER), FIVE_WORDS),
     "iloc_other.OtherReads": (OTHER, FIVE_WORDS),
     "iloc_other.PrivateTextReads": (begins("`x`", PRIVATE), "there are more than four private subtags"),
@@ -130,13 +125,6 @@ READERS = {
     "iloc_json.ReadsText": (
         [("NotText", "the JSON value is no string"), ("Parse", "the parser of the type refuses the string; its refusal is inside")],
         "`OutOfMemory` only if the parser of the type runs out of memory. That of a subtag never does.",
-    ),
-    "iloc_subtags.Refused": (
-        [
-            ("Length", "the length is no multiple of three; this is tested first"),
-            ("Word", "the subtag at that place, counted from 0, is no old raw form of a language"),
-        ],
-        "the first subtag is an old raw form; it is returned in place of a bad one that stands later",
     ),
     "iloc_program.WritesBeginning": (
         [
@@ -184,7 +172,7 @@ GIVEN = {
 }
 
 # Modules that are crates of their own in Rust.
-CRATES_OF_RUST = {"tinystr": "tinystr", "writeable": "writeable", "litemap": "litemap"}
+CRATES_OF_RUST = {"tinystr", "writeable", "litemap"}
 
 # The items of the Rust crate, and of the crates beside it, that stand here under the same name, by module.
 IN_RUST = {
@@ -257,7 +245,7 @@ BASES = {
 # Calls that stand for another item of Rust (empty: nothing does).
 OWN_CALLS = {
     **dict.fromkeys((
-        "extend_from_map item_mut try_from_raw_v1 from_piece to_piece from_word is_well_formed read fill "
+        "extend_from_map item_mut try_from_raw_v1 from_piece to_piece from_word is_well_formed "
         "union write_short_piece lm_empty lm_pairs lm_value_mut lm_from_vec"
     ).split(), ""),
     "unknown": "the constant UNKNOWN",
@@ -303,7 +291,6 @@ CHANGES = {
     "TinyAsciiStr::try_from_utf8": "an `Option` in place of a `Result`",
     "TinyAsciiStr::try_from_raw": "an `Option` in place of a `Result`",
     "LiteMap::iter": "references to pairs in place of pairs of references",
-    "DictionaryBreakScriptExclusions::as_inner": "a slice in place of a `Vec`",
     "Locale::normalizing_eq": "`alloc` first, `?`",
     "Keywords::remove": "a `&Key`",
     "LiteMap::remove": "a `&K`",

@@ -8,22 +8,42 @@ WIDE = 120  # the width of lines in C, C++ and Rust
 OPERATORS = {"◌≡◌": "≡", "◌↔◌": "↔"}
 
 
+# A parameter in each language: a handle, a text, a number, a place to write to, and the place for an answer.
+PARAMETERS = {
+    "Rattle": (
+        "{own}: &mut Handle", "{text}: &[u8]", "{name}: {rust}", "{name}: &mut {rust}",
+        "buffer: &mut [u8], needed: &mut usize",
+    ),
+    "C": (
+        "{const}icu_locale_t *{handle}", "const uint8_t *{text}, size_t {length}", "{c} {name}", "{c} *{name}",
+        "uint8_t *buffer, size_t room, size_t *needed",
+    ),
+    "Rust": (
+        "{handle}: *mut icu_locale_t", "{text}: *const u8, {length}: usize", "{name}: {rust}", "{name}: *mut {rust}",
+        "buffer: *mut u8, room: usize, needed: *mut usize",
+    ),
+    "Python": ("_LOCALE", "*_TEXT", "{python}", "{python}", "*_BUFFER"),
+}
+
+
+def parameters(row, language):
+    """Yields what a call takes, in this language."""
+    for name in row.takes:
+        kind = next((at for at, it in enumerate((HANDLES, TEXTS, NUMBERS, PLACES)) if name in it), -1)
+        rust, c, python = NUMBERS.get(name) or PLACES.get(name) or ("", "", "")
+        own, const = "handle" if name in ("reads", "changes") else name, "" if name == "changes" else "const "
+        length = row.length_of(name) if name in TEXTS else ""
+        given = {"handle": HANDLES.get(name), "text": TEXTS.get(name), "rust": rust, "c": c, "python": python}
+        yield from PARAMETERS[language][kind].format(name=name, own=own, const=const, length=length, **given).split(", ")
+
+
+def head_with(head, parameters, tail, width):
+    """Returns the head of a function in Rattle or Rust: on one line if it fits, else with a line for each parameter."""
+    line, indent = f"{head}{', '.join(parameters)}{tail}", head[: len(head) - len(head.lstrip())]
+    return line if len(line) <= width else "\n".join([head, *[f"{indent}    {it}," for it in parameters], f"{indent}{tail}"])
+
+
 # Rattle: the exports.
-
-
-def rattle_parameters(row):
-    yield "alloc: Global"
-    for it in row.takes:
-        if it in HANDLES:
-            yield f"{'handle' if it in ('reads', 'changes') else it}: &mut Handle"
-        elif it in TEXTS:
-            yield f"{TEXTS[it]}: &[u8]"
-        elif it in NUMBERS:
-            yield f"{it}: {NUMBERS[it][0]}"
-        elif it in PLACES:
-            yield f"{it}: &mut {PLACES[it][0]}"
-        else:
-            yield from ("buffer: &mut [u8]", "needed: &mut usize")
 
 
 def clauses(row):
@@ -68,11 +88,8 @@ CALLS = {
 
 def export(row):
     """Returns the function of a row."""
-    head, parameters = f'pub extern "C" fn {row.symbol}', [*rattle_parameters(row)]
-    gives = f" -> {RESULTS[row.gives][0]}"
-    line = f"{head}({', '.join(parameters)}){gives}"
-    if len(line) > WIDTH:
-        line = "\n".join([f"{head}(", *[f"    {it}," for it in parameters], f"){gives}"])
+    given = ["alloc: Global", *parameters(row, "Rattle")]
+    line = head_with(f'pub extern "C" fn {row.symbol}(', given, f") -> {RESULTS[row.gives][0]}", WIDTH)
     kept = "\n".join(fill(kept_together(it), WIDTH, "    ", " " * 8) for it in clauses(row))
     body = CALLS[row.kind][1].format(row.thing)
     return f"/// {row.says}\n#[unsafe(no_mangle)]\n{line}\n{kept}\n{{\n    {body}\n}}\n"
@@ -103,24 +120,10 @@ def module(says, rows, imports, made):
 # C: the declarations.
 
 
-def c_parameters(row):
-    for it in row.takes:
-        if it in HANDLES:
-            yield f"{'' if it == 'changes' else 'const '}icu_locale_t *{HANDLES[it]}"
-        elif it in TEXTS:
-            yield from (f"const uint8_t *{TEXTS[it]}", f"size_t {row.length_of(it)}")
-        elif it in NUMBERS:
-            yield f"{NUMBERS[it][1]} {it}"
-        elif it in PLACES:
-            yield f"{PLACES[it][1]} *{it}"
-        else:
-            yield from ("uint8_t *buffer", "size_t room", "size_t *needed")
-
-
 def never_null(row):
     """Returns the numbers of the parameters in C that are handles or places to write to."""
     named = {f"*{it}" for it in (*PLACES, "needed")}
-    words = enumerate(c_parameters(row), 1)
+    words = enumerate(parameters(row, "C"), 1)
     return [at for at, it in words if "icu_locale_t *" in it or it.split()[-1] in named]
 
 
@@ -139,8 +142,8 @@ def attributes(row):
 
 def declaration(row):
     """Returns the declaration of a call in C."""
-    parameters, head = [*c_parameters(row)] or ["void"], attributes(row)
-    units = [*[f"{it}," for it in parameters[:-1]], f"{parameters[-1]})", "ICU_LOCALE_NOEXCEPT;"]
+    given, head = [*parameters(row, "C")] or ["void"], attributes(row)
+    units = [*[f"{it}," for it in given[:-1]], f"{given[-1]})", "ICU_LOCALE_NOEXCEPT;"]
     start = f"{head}{' ' if head == 'extern' else chr(10)}{RESULTS[row.gives][1]} {row.symbol}("
     first, last = start[: start.rfind("\n") + 1], start[start.rfind("\n") + 1 :]
     return first + fill(units, WIDE, last, "    ")
@@ -149,29 +152,10 @@ def declaration(row):
 # Rust: the declarations of sys.rs.
 
 
-def rust_parameters(row):
-    for it in row.takes:
-        if it in HANDLES:
-            yield f"{HANDLES[it]}: *mut icu_locale_t"
-        elif it in TEXTS:
-            yield from (f"{TEXTS[it]}: *const u8", f"{row.length_of(it)}: usize")
-        elif it in NUMBERS:
-            yield f"{it}: {NUMBERS[it][0]}"
-        elif it in PLACES:
-            yield f"{it}: *mut {PLACES[it][0]}"
-        else:
-            yield from ("buffer: *mut u8", "room: usize", "needed: *mut usize")
-
-
 def rust_declaration(row):
     """Returns the declaration of a call in Rust."""
-    parameters = [*rust_parameters(row)]
     gives = f" -> {RESULTS[row.gives][0]};" if row.gives != "nothing" else ";"
-    head = f"    pub fn {row.symbol}("
-    line = f"{head}{', '.join(parameters)})"
-    if len(line + gives) <= WIDE:
-        return line + gives
-    return "\n".join([head, *[f"        {it}," for it in parameters], f"    ){gives}"])
+    return head_with(f"    pub fn {row.symbol}(", [*parameters(row, "Rust")], f"){gives}", WIDE)
 
 
 # Python: the forms of the calls.
@@ -179,10 +163,7 @@ def rust_declaration(row):
 
 def python_form(row):
     """Returns the types of the arguments of a call."""
-    types = []
-    for it in row.takes:
-        known = NUMBERS.get(it) or PLACES.get(it)
-        types.append("_LOCALE" if it in HANDLES else "*_TEXT" if it in TEXTS else known[2] if known else "*_BUFFER")
+    types = [*parameters(row, "Python")]
     return f'    "{row.name}": ({", ".join(types)}{"," if len(types) == 1 else ""}),\n'
 
 

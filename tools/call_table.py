@@ -1,6 +1,8 @@
 """The table tools/calls.txt: its rows, what a call takes in each language, and what is wrong, by file and line."""
 import re
 
+from written import faults_of
+
 TABLE = "tools/calls.txt"
 KINDS = ("tell", "ask", "change", "by")
 # A result in the table, in Rattle and Rust, in C, and in Python.
@@ -122,17 +124,7 @@ def wrong_in_export(row):
         yield "the member for C++ would take more than texts, so it is written by hand. Write `-` into the sixth field"
 
 
-def wrong_in_table(table):
-    """Yields each row with what is wrong with it, by itself or beside those above it."""
-    known = {}
-    for row in table.rows:
-        yield from ((row, it) for it in wrong_in_row(row))
-        first = known.setdefault(row.name, row.number)
-        if first != row.number:
-            yield row, f"the call `{row.name}` is already that of line {first}. Change one of the two rows"
-
-
 def table_of(text):
     """Returns the table, and what is wrong with its rows, each with its file and line."""
     table = Table(text)
-    return table, [f"{TABLE}:{row.number}: {what}" for row, what in wrong_in_table(table)]
+    return table, faults_of(TABLE, table.rows, wrong_in_row, (("call", "name"),))

@@ -2,7 +2,10 @@
 
 It needs nothing but Python, so that --help answers on a machine without the toolchain."""
 import argparse
+import importlib.machinery
+import importlib.util
 import os
+import re
 import shutil
 import sys
 
@@ -23,10 +26,32 @@ def parser(name, doc):
     return Parser(prog=name, description=doc, formatter_class=form, allow_abbrev=False)
 
 
+def loaded(path):
+    """Returns a script as a module, by its path in the repository or its whole path."""
+    loader = importlib.machinery.SourceFileLoader(os.path.basename(path), os.path.join(ROOT, path))
+    made = importlib.util.module_from_spec(importlib.util.spec_from_loader(loader.name, loader))
+    loader.exec_module(made)
+    return made
+
+
 def stop(name, what, then, status=1):
     """Ends the script: what happened to what, and what to do next."""
     print(f"{name}: {what}. {then}", file=sys.stderr)
     sys.exit(status)
+
+
+def say(text):
+    """Tells how far the script is."""
+    print(f"{os.path.basename(sys.argv[0])}: {text}", file=sys.stderr, flush=True)
+
+
+def start(main):
+    """Runs a script that may prove, and ends with its status."""
+    try:
+        sys.exit(main())
+    except KeyboardInterrupt:
+        say("stopped: what is proved is kept, and the same command goes on from there")
+        sys.exit(130)
 
 
 def toolchain(name):
@@ -73,6 +98,12 @@ def counted(passed, failed):
     """Prints the last line of a test, and returns its status."""
     print(f"{int(passed)} passed, {int(failed)} failed")
     return 1 if failed or not passed else 0
+
+
+def first_sentence(text):
+    """Returns the first sentence of a text, or all of it."""
+    found = re.match(r"(.+?[.!])(?= [A-Z`]|$)", text)
+    return (found[1] if found else text).strip()
 
 
 def without_prefix(text, prefix):

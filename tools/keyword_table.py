@@ -1,6 +1,8 @@
 """The table tools/keywords.txt: its rows, and what is wrong with them, by file and line."""
 import re
 
+from written import faults_of
+
 TABLE = "tools/keywords.txt"
 FIELDS = "key | type | what the type says | what its key names | default | texts and variants"
 NAME = re.compile(r"[A-Z][A-Za-z0-9]*")
@@ -51,19 +53,8 @@ def wrong_in_row(row):
         yield f"the default `{row.default}` is no variant of this row. Name one of them, or leave the field empty"
 
 
-def wrong_in_table(rows):
-    """Yields each row with what is wrong with it, by itself or beside those above it."""
-    keys, names = {}, {}
-    for row in rows:
-        yield from ((row, it) for it in wrong_in_row(row))
-        for what, own, known in (("key", row.key, keys), ("type", row.name, names)):
-            first = known.setdefault(own, row.number)
-            if own and first != row.number:
-                yield row, f"the {what} `{own}` is already that of line {first}. Change one of the two rows"
-
-
 def rows_of(text):
     """Returns the rows of the table's text, and what is wrong with them, each with its file and line."""
     lines = [(number, it) for number, it in enumerate(text.splitlines(), 1) if it.strip() and it[0] != "#"]
     rows = [Keyword(it, number) for number, it in lines]
-    return rows, [f"{TABLE}:{row.number}: {what}" for row, what in wrong_in_table(rows)]
+    return rows, faults_of(TABLE, rows, wrong_in_row, (("key", "key"), ("type", "name")))

@@ -8,24 +8,15 @@ tools/test_scripts says which of them are gone.
 A crate's stamp, by which rt tells whether its library is that of the present text, is asked for once
 in each run of a tool."""
 import functools
-import importlib.machinery
-import importlib.util
 import os
 import shutil
 import sys
 
-from common import ROOT, toolchain
+from common import ROOT, loaded, toolchain
 
 
-def load():
-    toolchain(os.path.basename(sys.argv[0]))
-    loader = importlib.machinery.SourceFileLoader("rt_main", os.path.realpath(shutil.which("rt")))
-    made = importlib.util.module_from_spec(importlib.util.spec_from_loader("rt_main", loader))
-    loader.exec_module(made)
-    return made
-
-
-rt = load()
+toolchain(os.path.basename(sys.argv[0]))
+rt = loaded(os.path.realpath(shutil.which("rt")))
 rtlib = rt.rtlib
 rtlib.Crate.stamp = functools.lru_cache(maxsize=None)(rtlib.Crate.stamp)
 

@@ -8,7 +8,7 @@ import time
 from kept_by_ci import KeptByCi
 from kit import lanes, read
 from proof_room import Proof
-from sources import sum_of
+from sources import PROVED_PARTS, files_of, sum_of
 
 # About what the proof of a library from nothing takes, in processor seconds: for reading what it
 # stands on, and for each line of its source. (The 25 of the program took 43 to 52 processor minutes.)
@@ -17,8 +17,7 @@ EACH, A_LINE = 10, 0.13
 
 def texts_of(crate):
     """Returns the paths of the texts of the crate, and of all below it."""
-    folders = [f"{it.folder}/{part}" for it in [crate, *crate.below()] for part in ("src", "specs", "proofs")]
-    return [f"{at}/{it}" for folder in folders for at, _, names in os.walk(folder) for it in names]
+    return [path for it in [crate, *crate.below()] for path in files_of(it.name, PROVED_PARTS)]
 
 
 def is_fresh(crate):

@@ -21,6 +21,7 @@ SETS = {
     "variants": ("[A-Za-z0-9]{5,8}|[0-9][A-Za-z0-9]{3}", REFUSED_SUBTAG),
     "attributes": ("[A-Za-z0-9]{3,8}", REFUSED_EXTENSION),
 }
+MAPS = ("keywords", "fields", "others")
 SLOTS = 4
 WORDS = ["", "en", "EN", "gsw", "abcd", "Und", "sinhalese", "e", "latn", "LATN", "Arab", "US", "gb", "419", "41", "4190"]
 WORDS += ["posix", "POSIX", "1994", "199a", "a199", "macos", "valencia", "fonipa", "abcdefghi", "rozaj", "biske", "x"]
@@ -88,7 +89,8 @@ class Model:
         self.private = private[0].split("-") if private else []
         attributes, keywords = fields_of(self.others.pop("u", []), lambda it: len(it) == 2)
         self.attributes, self.keywords = set(attributes), {key: "-".join(value) for key, value in keywords}
-        self.variants = set(self.variants)
+        before, fields = fields_of(self.others.pop("t", []), lambda it: re.fullmatch("[a-z][0-9]", it))
+        self.transform, self.fields, self.variants = "-".join(before), dict(fields), set(self.variants)
 
     def base(self):
         return "-".join(it for it in (self.language, self.script, self.region, *sorted(self.variants)) if it)
@@ -96,8 +98,9 @@ class Model:
     def written(self):
         blocks = {key: "-".join([key, *words]) for key, words in self.others.items()}
         unicode = [*sorted(self.attributes), *(it for pair in sorted(self.keywords.items()) for it in pair if it)]
-        if unicode:
-            blocks["u"] = "-".join(["u", *unicode])
+        fields = [it for key, value in sorted(self.fields.items()) for it in (key, *value)]
+        transform = [it for it in (self.transform, *fields) if it]
+        blocks.update({key: "-".join([key, *words]) for key, words in (("u", unicode), ("t", transform)) if words})
         ends = ["-".join(["x", *self.private])] if self.private else []
         return "-".join([self.base(), *(blocks[key] for key in sorted(blocks)), *ends])
 
@@ -107,34 +110,21 @@ class Model:
 
     def order(self):
         """What locales are ordered by."""
-        before, fields = fields_of(self.others.get("t", []), lambda it: re.fullmatch("[a-z][0-9]", it))
-        transform = [order_of_identifier(*identifier_of(before))] if before else []
+        transform = [order_of_identifier(*identifier_of(self.transform.split("-")))] if self.transform else []
         keywords = [(key, short([it for it in value.split("-") if it])) for key, value in sorted(self.keywords.items())]
-        others = [(key, short(words)) for key, words in sorted(self.others.items()) if key != "t"]
+        fields, others = ([(key, short(words)) for key, words in sorted(it.items())] for it in (self.fields, self.others))
         return (
             order_of_identifier(self.language, self.script, self.region, self.variants),
             (short(sorted(self.attributes)), short(keywords)),
-            (transform, [(key, short(words)) for key, words in fields]),
+            (transform, fields),
             short(self.private),
             others,
         )
 
-    def transform(self):
-        """The identifier of the extension t, in its normal form, and the fields."""
-        before, fields = fields_of(self.others.get("t", []), lambda it: re.fullmatch("[a-z][0-9]", it))
-        if not before:
-            return "", dict(fields)
-        language, script, region, variants = identifier_of(before)
-        words = [language, script.capitalize(), region.upper(), *sorted(variants)]
-        return "-".join(it for it in words if it), dict(fields)
-
-    def set_transform(self, identifier, fields):
-        words = [it for it in identifier.lower().split("-") if it]
-        for key, value in sorted(fields.items()):
-            words += [key, *value]
-        self.others.pop("t", None)
-        if words:
-            self.others["t"] = words
+    def transformed(self):
+        """The identifier of the extension t, in its normal form."""
+        language, script, region, variants = identifier_of(self.transform.split("-"))
+        return "-".join(it for it in (language, script.capitalize(), region.upper(), *sorted(variants)) if it)
 
     def hash(self):
         """FNV-1a of the normal form."""
@@ -148,13 +138,11 @@ class Model:
         text = self.written()
         fields = [text, self.base(), self.language, self.script, self.region, ",".join(sorted(self.variants))]
         fields += [",".join(sorted(self.attributes)), ",".join(f"{key}={value}" for key, value in sorted(self.keywords.items()))]
-        identifier, pairs = self.transform()
-        fields += [identifier, ",".join(f"{key}={'-'.join(value)}" for key, value in sorted(pairs.items()))]
+        fields += [self.transformed(), ",".join(f"{key}={'-'.join(value)}" for key, value in sorted(self.fields.items()))]
         fields.append("-".join(["x", *self.private]) if self.private else "")
-        fields.append(",".join("-".join([key, *self.others[key]]) for key in sorted(self.others) if key != "t"))
+        fields.append(",".join("-".join([key, *self.others[key]]) for key in sorted(self.others)))
         fields += [self.data_text(False), self.data_text(True), *self.preferences()]
         return "\t".join([*fields, f"{int(text == 'und')}{int(self.is_well_formed())}", f"{self.hash():016x}"])
-
 
     def subdivision(self, key):
         """Region and suffix of the keyword, if its value is a subdivision."""
@@ -218,7 +206,7 @@ def pairs_wanted():
 
 def rows_of(crate):
     """The rows of a crate of table tests, each as its call, its arguments and its answer."""
-    asked, answers = ((TOP / "crates" / crate / it).read_bytes().decode().split("\n") for it in ("stdin", "stdout"))
+    asked, answers = ((TOP / "crates" / crate / it).read_bytes().decode().split("\n")[:-1] for it in ("stdin", "stdout"))
     for row, answer in zip(asked, answers):
         call, *words = row.split("\t")
         yield call, [re.sub(rb"\\x(..)", lambda it: bytes([int(it[1], 16)]), word.encode()) for word in words], answer
@@ -280,8 +268,11 @@ class Script:
         words = [it if isinstance(it, bytes) else str(it).encode() for it in given]
         self.steps.append(b"\t".join([call.encode(), b"%d" % at, *words]))
         does, _, part = call.partition("-")
-        if f"{part.rstrip('s')}s" in SETS:
-            answer = self.in_set(self.slots[at], does, f"{part.rstrip('s')}s", *given)
+        part = f"{part.rstrip('s')}s"
+        if part in SETS:
+            answer = self.in_set(self.slots[at], does, part, *given)
+        elif part in MAPS and does != "set":
+            answer = self.in_map(getattr(self.slots[at], part), does, part, *given)
         else:
             answer = getattr(self, call.replace("-", "_"))(self.slots[at], at, *given)
         self.wanted.append(f"{answer}\t{self.slots[at].written()}")
@@ -338,45 +329,32 @@ class Script:
         it.keywords[key.lower()] = "-".join(words)
         return "ok"
 
-    def get_keyword(self, it, _, key):
-        value = it.keywords.get(key.lower())
-        return "none" if value is None else f"={value}"
-
-    def remove_keyword(self, it, _, key):
-        return "none" if it.keywords.pop(key.lower(), None) is None else "ok"
-
-    def clear_keywords(self, it, _):
-        it.keywords.clear()
-        return "ok"
+    @staticmethod
+    def in_map(held, does, part, key=""):
+        """What is answered where a key of a map is looked up or taken out, or all are taken out."""
+        key = key.lower()
+        if does == "clear":
+            held.clear()
+            return "ok"
+        if key not in held:
+            return "none"
+        value = held.pop(key) if does == "remove" else held[key]
+        words = [value] if part == "keywords" else [*[key] * (part == "others"), *value]
+        return "ok" if does == "remove" else f"={'-'.join(words)}"
 
     def transform_language(self, it, _, text):
         normal = self.identifiers[text] if text else ""
         if normal.startswith("! "):
             return normal
-        it.set_transform(normal, it.transform()[1])
+        it.transform = normal.lower()
         return "ok"
 
     def set_field(self, it, _, key, value):
         words = value.lower().split("-")
         if not re.fullmatch("[A-Za-z][0-9]", key) or not all(re.fullmatch("[a-z0-9]{3,8}", it) for it in words):
             return REFUSED_EXTENSION
-        identifier, fields = it.transform()
-        it.set_transform(identifier, {**fields, key.lower(): [it for it in words if it != "true"] or ["true"]})
+        it.fields[key.lower()] = [it for it in words if it != "true"] or ["true"]
         return "ok"
-
-    def get_field(self, it, _, key):
-        value = it.transform()[1].get(key.lower())
-        return "none" if value is None else f"={'-'.join(value)}"
-
-    def clear_fields(self, it, _):
-        it.set_transform(it.transform()[0], {})
-        return "ok"
-
-    def remove_field(self, it, _, key):
-        identifier, fields = it.transform()
-        is_there = fields.pop(key.lower(), None) is not None
-        it.set_transform(identifier, fields)
-        return "ok" if is_there else "none"
 
     def set_other(self, it, _, text):
         """A piece of 2 to 8 bytes that is no subtag is left out; one must stay."""
@@ -386,13 +364,6 @@ class Script:
             return REFUSED_EXTENSION
         it.others[singleton.decode()] = kept
         return "ok"
-
-    def get_other(self, it, _, singleton):
-        words = it.others.get(singleton.lower()) if singleton != "t" else None
-        return "none" if words is None else "=" + "-".join([singleton.lower(), *words])
-
-    def remove_other(self, it, _, singleton):
-        return "none" if singleton in "tT" or it.others.pop(singleton.lower(), None) is None else "ok"
 
     def extend(self, it, _, other):
         more = self.slots[other]

@@ -7,7 +7,7 @@ locale: only from the row."""
 import functools
 import re
 
-from object_model import REFUSED_EXTENSION, REFUSED_SUBTAG, TOP
+from object_model import REFUSED_EXTENSION, REFUSED_SUBTAG, rows_of
 
 # More attributes than this are not added one by one.
 MANY = 64
@@ -50,25 +50,19 @@ class Unsaid(Exception):
 def expanded(word):
     """Returns the bytes of a word of a row, without its short forms."""
     def items(found):
-        kind, first, last, text = [*found[1].split("."), "", ""][:4]
+        kind, first, last, text = [*found[1].decode().split("."), "", ""][:4]
         first, last = int(first), int(last)
         numbers = range(first, last + 1) if first <= last else range(first, last - 1, -1)
-        return "".join(ITEMS[kind](it) + text for it in numbers)
+        return "".join(ITEMS[kind](it) + text for it in numbers).encode()
 
-    whole = re.sub(r"\{([nutr]\.[^{}]*)\}", items, word)
-    return re.sub(rb"\\x(..)", lambda it: bytes([int(it[1], 16)]), whole.encode())
+    return re.sub(rb"\{([nutr]\.[^{}]*)\}", items, word)
 
 
 @functools.lru_cache(maxsize=None)
 def rows():
     """Returns each row as its call, its two arguments and its answer. A row with a third argument names the answer there."""
-    found = []
-    asked, answers = ((TOP / "crates" / "test_part_rows" / it).read_text(encoding="utf-8").split("\n")[:-1] for it in ("stdin", "stdout"))
-    for row, answer in zip(asked, answers):
-        call, *words = row.split("\t")
-        first, second, *wanted = [*map(expanded, words), *[b""] * (2 - len(words))]
-        found.append((call, first, second, wanted[0].decode() if wanted else answer))
-    return found
+    every = [(call, [*map(expanded, words), b"", b""], answer) for call, words, answer in rows_of("test_part_rows")]
+    return [(call, *words[:2], words[2].decode() or answer) for call, words, answer in every]
 
 
 def written(kind, text):
@@ -90,11 +84,6 @@ def may_be_parsed(kind, text, answer):
         return is_all_there(kind, text, answer)
     start = {"unicode": rb"(?i:u)-", "transform": rb"(?i:t)-"}.get(kind, b"")
     return re.fullmatch(start + rb"[A-Za-z0-9]{2,8}(-[A-Za-z0-9]{2,8})*", text) is not None
-
-
-def fits_other(text, answer):
-    """Returns whether the whole text is the extension: a piece of another length than 2 to 8 ends the parser of it alone."""
-    return answer.startswith("! ") or all(2 <= len(it) <= 8 for it in text.split(b"-")[1:])
 
 
 def outcome(answer, text):
@@ -148,7 +137,8 @@ def set_steps(kind, text, answer):
     if kind == "attributes":
         return added(text, answer)
     if kind in SETS:
-        if kind == "other" and not fits_other(text, answer):
+        # (a piece of another length than 2 to 8 ends the parser of the extension alone)
+        if kind == "other" and not answer.startswith("! ") and not all(2 <= len(it) <= 8 for it in text.split(b"-")[1:]):
             raise Unsaid(STOPS)
         if kind == "private" and not text:
             raise Unsaid(MADE)
@@ -298,20 +288,12 @@ def steps_of(row, keeps_well_formed, takes_bytes):
     if {*b"\t\n"} & {*first, *second}:
         raise Unsaid(BYTES)
     steps = [(b"parse\t0\tund", "ok", "und"), *makes(*row)]
-    if not takes_bytes and any(it.startswith(b"set-other") and not is_utf8(it) for it, _, _ in steps):
+    if not takes_bytes and any(it.startswith(b"set-other") and it.decode(errors="ignore").encode() != it for it, _, _ in steps):
         raise Unsaid(NO_STR)
     # Python refuses a value that would be parsed as another keyword.
     if keeps_well_formed and "uvalue" in call and any(len(it) == 2 for it in first.split(b"-")) and not row[3].startswith("! "):
         steps = [*steps[:1], (steps[1][0], REFUSED_SUBTAG, "und")]
     return steps
-
-
-def is_utf8(text):
-    try:
-        text.decode()
-    except UnicodeDecodeError:
-        return False
-    return True
 
 
 @functools.lru_cache(maxsize=None)

@@ -1,6 +1,7 @@
 """Sums of sources, which tell whether a program that was built of them is still of the present text."""
 import hashlib
 import os
+import shutil
 
 from common import ROOT, below, crates_of
 
@@ -49,9 +50,7 @@ def keep(made, program, sources):
     os.makedirs(os.path.dirname(program), exist_ok=True)
     part = f"{program}.{os.getpid()}"
     try:
-        with open(made, "rb") as one, open(part, "wb") as other:
-            while block := one.read(1 << 20):
-                other.write(block)
+        shutil.copyfile(made, part)
         os.chmod(part, 0o755)
         os.replace(part, program)
         with open(part, "w", encoding="ascii") as it:

@@ -1,6 +1,7 @@
 """The rows of tools/benchmark drawn as a picture: for each measure a panel, in it for each set and
 mode a bar of each program, with what a line costs, and how much that is of the Rust crate's."""
 
+import html
 from typing import NamedTuple
 
 COLOURS = ["#3b6ea5", "#d9903d"]
@@ -9,7 +10,7 @@ LABELS, PANEL, NUMBERS, RATIOS = 210, 250, 42, 70
 
 
 class Row(NamedTuple):
-    """What a line of a set costs in a mode: for each measure, each program."""
+    """What a line of a set costs in a mode, or a call: for each measure, each program."""
 
     set: str
     mode: str
@@ -19,8 +20,7 @@ class Row(NamedTuple):
 
 
 def text(left, top, words, more=""):
-    safe = words.replace("&", "&amp;").replace("<", "&lt;")
-    return f'<text x="{left:.0f}" y="{top:.0f}"{more}>{safe}</text>'
+    return f'<text x="{left:.0f}" y="{top:.0f}"{more}>{html.escape(words, quote=False)}</text>'
 
 
 def places(rows, bars):

@@ -6,9 +6,9 @@ import functools
 import os
 import re
 
-import trusted_antt as antt
-import trusted_rt as rt
-from common import crates_of, read
+import antt
+import rattle as rt
+from common import below, crates_of, read
 
 SEEN = ("Value", "view", "invariant")  # the members of `Model` by which contracts see a type, and what it always keeps
 PRIMITIVE = set("u8 u16 u32 u64 u128 usize i8 i16 i32 i64 i128 isize bool char str f32 f64".split())
@@ -79,16 +79,17 @@ class Sources:
 
     def __init__(self, root):
         self.root = root
-        self.below = {name: line.partition(":")[2].split() for name, line in crates_of(f"{root}/crates.txt").items()}
-        self.crates = list(self.below)
+        self.lines = crates_of(f"{root}/crates.txt")
+        self.crates = list(self.lines)
         self.modules, self.rust = {}, {}
         self.unknown = {}  # what cites a name that nothing explains -> names
         for crate in self.crates:
             self.read_specs(crate)
             self.rust[crate] = rt.read_crate(root, crate)
-        self.impls = [
-            Impl(item) for made in self.rust.values() for source in made.values() for item in source.items if item.kind == "impl"
-        ]
+        self.files = [source for made in self.rust.values() for source in made.values()]
+        self.items = [it for source in self.files for it in source.items]
+        self.impls = [Impl(it) for it in self.items if it.kind == "impl"]
+        self.impl_of = {it.item: it for it in self.impls}
 
     def read_specs(self, crate):
         top = f"{self.root}/crates/{crate}/specs"
@@ -102,6 +103,9 @@ class Sources:
                 module = antt.Module(path, os.path.relpath(f"{folder}/{name}", self.root), read(f"{folder}/{name}"))
                 antt.Reader(module)
                 self.modules[path] = module
+
+    def definitions(self):
+        return [it for module in self.modules.values() for it in module.definitions]
 
     # Names of antt.
 
@@ -117,22 +121,15 @@ class Sources:
 
     def item(self, path, name):
         """Returns the items that a name of the module at this path means; none for std's."""
-        if len(path) < 2 or path[0] != "Rattle" or path[1] not in self.rust:
+        path, name = self.stands(path, name)
+        if len(path) < 2 or path[0] != "Rattle" or path[1] not in self.rust or path[2:3] in (("proofs",), ("goals",)):
             return []
-        part = path[2] if len(path) > 2 else ""
-        if part == "proofs" or part == "goals":
-            return []
-        path = self.passed_on(path)
-        if len(path) > 3 and path[3] in ("declared", "contracts"):
+        if path[3:4] in (("declared",), ("contracts",)):
             return self.declared(path, name)
         module = self.modules.get(path)
-        if module is None:
-            raise Unknown(f"no module {'.'.join(path)}")
-        if name in module.declared:
-            return [module.declared[name]]
-        if name in module.passed and name in module.items:
-            return self.item(self.full(module, module.items[name][0]), module.items[name][1])
-        raise Unknown(f"{'.'.join(path)} has no {name}")
+        if module is None or name not in module.declared:
+            raise Unknown(f"{'.'.join(path)} has no {name}")
+        return [module.declared[name]]
 
     def passed_on(self, path):
         """Returns where the module of a path stands, which another module may pass on by `pub use`."""
@@ -149,9 +146,7 @@ class Sources:
         inner = [it for it in path[4:] if it not in ("TheVariants", "TheConstants")]
         sources = self.rust[path[1]]
         if path[-1] == "TheConstants":
-            source = sources.get(tuple(inner)) or sources.get(())
-            found = [it for made in sources.values() for it in made.items if it.kind == "const" and it.name == name]
-            return found[:1]
+            return [it for made in sources.values() for it in made.items if it.kind == "const" and it.name == name][:1]
         for size in range(len(inner), -1, -1):
             source = sources.get(tuple(inner[:size]))
             wanted = inner[size] if size < len(inner) else name
@@ -253,6 +248,7 @@ class Sources:
 
     # What an item cites.
 
+    @functools.lru_cache(maxsize=None)
     def scope(self, item):
         """Returns a module of antt that stands for the ghost use lines in scope of an item of src/."""
         owner = item.owner or item
@@ -266,31 +262,22 @@ class Sources:
                     made.items[bound] = (path, name)
         return made
 
-    def member(self, owner, name, source):
-        """Returns the ghost member of an `impl`, of its trait, or of what the trait stands on."""
-        found = [it for it in owner.inner if it.kind == "ghost" and it.name == name]
-        if found:
-            return found
-        if owner.kind == "impl":
-            named = next((it.trait for it in self.impls if it.item is owner), None)
-            trait = self.trait(source, named) if named else None
-            return self.member(trait, name, trait.module) if trait else []
-        above = without_generics(owner.head.partition(":")[2])
-        for it in re.findall(r"[\w:]+", above):
-            trait = self.trait(owner.module, it)
-            found = self.member(trait, name, trait.module) if trait else []
-            if found:
-                return found
-        return []
+    def trait_of(self, owner):
+        """Returns a trait, or that of an `impl`, if a crate here declares it."""
+        named = self.impl_of[owner].trait if owner.kind == "impl" else None
+        return owner if owner.kind == "trait" else self.trait(owner.module, named) if named else None
 
-    def bounded(self, bounds, names, source):
-        """Returns the member that `T.m` means, of the traits that bound T."""
-        for it in re.findall(r"[\w:]+", without_generics(bounds.get(names[0], ""))):
-            trait = self.trait(source, it)
-            found = self.member(trait, names[-1], trait.module) if trait else []
-            if found:
-                return found
-        return []
+    def member(self, owner, name):
+        """Returns the ghost member of an `impl`, of its trait, or of what the trait stands on."""
+        found, trait = [it for it in owner.inner if it.kind == "ghost" and it.name == name], self.trait_of(owner)
+        if found or trait is None:
+            return found
+        return self.member(trait, name) if trait is not owner else self.bounded(owner.head.partition(":")[2], name, owner.module)
+
+    def bounded(self, bounds, name, source):
+        """Returns the member of this name of the first trait among bounds that has one."""
+        traits = [self.trait(source, it) for it in re.findall(r"[\w:]+", without_generics(bounds))]
+        return next(filter(None, (self.member(it, name) for it in traits if it)), [])
 
     def quoted(self, source, bounds, type_text, trait, member):
         """Returns what `⟦<Type as Trait>⟧.member` stands for: members, or for a derived trait those of the fields."""
@@ -304,7 +291,7 @@ class Sources:
             inner = self.struct_of(item)
             by_hand = [it for it in self.impls_of(inner) if it.trait == trait] if inner else []
             if by_hand:
-                found.extend(it for one in by_hand for it in self.member(one.item, member, one.item.module))
+                found.extend(it for one in by_hand for it in self.member(one.item, member))
             elif inner and trait in inner.derives:
                 for field in self.types_in(inner.module, inner.text):
                     of(field)
@@ -318,7 +305,7 @@ class Sources:
         bounds = {}
         if item.owner:
             if item.owner.kind == "impl":
-                bounds.update(next(it.bounds for it in self.impls if it.item is item.owner))
+                bounds.update(self.impl_of[item.owner].bounds)
             else:
                 bounds.update(generics(item.owner.head[len(item.owner.name) + 1 :])[0])
         head = item.head.strip()
@@ -338,16 +325,14 @@ class Sources:
 
         def meant(names):
             if names[0] in bounds:
-                return self.bounded(bounds, names, item.module) if len(names) > 1 else []
+                return self.bounded(bounds[names[0]], names[-1], item.module) if len(names) > 1 else []
             if names[0] == "Self":
-                return self.member(item.owner, names[-1], item.module) if len(names) > 1 and item.owner else []
+                return self.member(item.owner, names[-1]) if len(names) > 1 and item.owner else []
             in_antt = self.lookup(scope, names)
             if in_antt is not None:
                 return in_antt
-            if item.owner:
-                member = self.member(item.owner, names[0], item.module)
-                if member:
-                    return member
+            if item.owner and (member := self.member(item.owner, names[0])):
+                return member
             named = self.rust_name(item.module, tuple(names))
             if named:
                 return [named] if named.kind in ("struct", "enum", "type", "const", "static") else []
@@ -397,13 +382,13 @@ class Sources:
         if not member.owner or member.owner.kind != "trait":
             return []
         near = self.under("icu_locale_core") or set(self.crates)
-        impls = [it.item for it in self.impls if it.item.crate in near and it.trait and self.trait(it.item.module, it.trait) is member.owner]
+        impls = [it.item for it in self.impls if it.item.crate in near and self.trait_of(it.item) is member.owner]
         return [one for it in impls for one in it.inner if one.kind == "ghost" and one.name == member.name]
 
     @functools.lru_cache(maxsize=None)
     def under(self, crate):
         """Returns the crates that a crate stands on."""
-        return {one for it in self.below.get(crate, ()) if it in self.below for one in (it, *self.under(it))}
+        return {*below(crate, self.lines)} - {crate}
 
     # Where names stand.
 
@@ -427,7 +412,7 @@ class Sources:
     def brought_in(self, item, text):
         """Yields (word, path, name) for each word of a text that a `use` line in the item's scope brings in."""
         module = item.module if isinstance(item, antt.Definition) else self.scope(item)
-        text = re.sub(r"(?m)(^|\s)--.*$", "", text)
+        text = antt.without_comments(text)
         for word in dict.fromkeys(re.findall(r"\"[^\"]*\"|«[^»]*»|[^\s(){};,⟦⟧]+", text)):
             head, _, rest = word.partition(".")
             found = self.origin(module, head.strip("«»"))
@@ -462,7 +447,7 @@ class Contract:
 
     def __init__(self, sources, item, owner=None):
         self.sources, self.item, self.owner = sources, item, owner
-        trait = sources.trait(owner.item.module, owner.trait) if owner and owner.trait else None
+        trait = sources.trait_of(owner.item) if owner else None
         above = [it for it in trait.inner if it.kind == "fn" and it.name == item.name] if trait else []
         self.all_stated = above + ([item] if item.clauses or not above else [])
         self.stated = self.all_stated[0]
@@ -483,9 +468,7 @@ class Contract:
         head = generics(stated.head.strip()[len(stated.name) :])[1]
         opened = head.find("(")
         inner = head[opened + 1 : rt.closing(head, opened) - 1] if opened >= 0 else ""
-        bound = {"result", "self"}
-        for it in re.findall(rf"(?:^|[,(])\s*(?:mut\s+)?({rt.NAME})\s*:", inner):
-            bound.add(it)
+        bound = {"result", "self", *re.findall(rf"(?:^|[,(])\s*(?:mut\s+)?({rt.NAME})\s*:", inner)}
         return bound | {name for kind, name in stated.clauses if kind == "ghost"}
 
     def signature_types(self):
@@ -515,29 +498,33 @@ class Contract:
         return [item]
 
 
+def is_definition(item):
+    return isinstance(item, antt.Definition)
+
+
+def reach(sources, roots, leads_on):
+    """Returns all that the roots lead to, by way of what leads on."""
+    seen, waiting = {}, list(roots)
+    while waiting:
+        it = waiting.pop()
+        if it not in seen:
+            seen[it] = True
+            waiting += sources.cites(it) if leads_on(it) else ()
+    return list(seen)
+
+
 class Closure:
     """All that some contracts cite, down to std. Definitions that only views and types lead to stand apart."""
 
     def __init__(self, sources, roots, types=()):
         self.sources = sources
-        self.definitions = [it for it in self.reach(roots, through_types=False) if isinstance(it, antt.Definition)]
-        everything = self.reach([*roots, *types], through_types=True)
+        plain = reach(sources, roots, lambda it: is_definition(it) or it.kind == "ghost")
+        self.definitions = [it for it in plain if is_definition(it)]
+        everything = reach(sources, [*roots, *types], lambda it: True)
         direct = set(self.definitions)
-        self.behind = [it for it in everything if isinstance(it, antt.Definition) and it not in direct]
+        self.behind = [it for it in everything if is_definition(it) and it not in direct]
         self.types = [it for it in everything if isinstance(it, rt.Item) and it.kind in ("struct", "enum", "type", "const")]
         self.members = [it for it in everything if isinstance(it, rt.Item) and it.kind == "ghost"]
-
-    def reach(self, roots, through_types):
-        """Returns all that the roots lead to; a type leads on only where types count."""
-        seen, waiting = {}, list(roots)
-        while waiting:
-            it = waiting.pop()
-            if it in seen:
-                continue
-            seen[it] = True
-            if through_types or isinstance(it, antt.Definition) or it.kind == "ghost":
-                waiting += self.sources.cites(it)
-        return list(seen)
 
     def ordered(self, definitions):
         """Returns the definitions by files in reading order: a file after those that it rests on."""
@@ -552,7 +539,7 @@ class Closure:
             done.add(path)
             for it in sorted(files[path], key=lambda one: one.line):
                 for cited in self.sources.cites(it):
-                    if isinstance(cited, antt.Definition) and cited.module.path in files:
+                    if is_definition(cited) and cited.module.path in files:
                         visit(cited.module.path)
             order.append(path)
 
@@ -572,10 +559,7 @@ LAWS = set("laws respects_eq matches_eq matches_partial_cmp total remaining inva
 
 def data_members(sources, owner):
     """Returns the ghost members of a trait or an `impl` that say something; laws are proved facts about these."""
-    trait = owner
-    if owner.kind == "impl":
-        named = next(it.trait for it in sources.impls if it.item is owner)
-        trait = sources.trait(owner.module, named) if named else None
+    trait = sources.trait_of(owner)
     if trait is None:
         return [it for it in owner.inner if it.kind == "ghost" and it.name not in LAWS]
     last = max((n for n, it in enumerate(trait.inner) if it.kind == "fn" and "final" not in it.text[:12]), default=0)
@@ -604,15 +588,9 @@ def contracts_of(sources, item):
 
 def passed_on(sources, crate):
     """Returns the items that a crate's public modules name, at any depth."""
-    found = []
-    for source in sources.rust[crate].values():
-        if source.path_names and source.path_names[-1] == "tests":
-            continue
-        for path in source.names.values():
-            item = sources.rust_name(source, path)
-            if item is not None and item.kind != "impl" and item.crate != crate:
-                found.append(item)
-    return list(dict.fromkeys(found))
+    files = [it for it in sources.rust[crate].values() if it.path_names[-1:] != ("tests",)]
+    named = dict.fromkeys(sources.rust_name(it, path) for it in files for path in it.names.values())
+    return [it for it in named if it is not None and it.kind != "impl" and it.crate != crate]
 
 
 def offered(sources, crate):
@@ -642,23 +620,15 @@ def public(sources):
 
 def library(sources):
     """Returns all public contracts of the crates that icu_locale_core names in crates.txt."""
-    items = [it for crate in sources.below["icu_locale_core"] if crate in sources.rust for it in offered(sources, crate)]
+    names = sources.lines["icu_locale_core"].partition(":")[2].split()
+    items = [it for crate in names if crate in sources.rust for it in offered(sources, crate)]
     return [(it, ()) for item in items for it in contracts_of(sources, item)]
 
 
 def functions(sources):
     """Returns every function of the crates' sources with its `impl`."""
-    found = []
-    for made in sources.rust.values():
-        for source in made.values():
-            for item in source.items:
-                if item.kind == "fn":
-                    found.append(Contract(sources, item))
-                elif item.kind == "trait":
-                    found += [Contract(sources, it) for it in item.inner if it.kind == "fn"]
-    for one in sources.impls:
-        found += [Contract(sources, it, one) for it in one.item.inner if it.kind == "fn"]
-    return found
+    every = [it for item in sources.items for it in (item, *item.inner) if it.kind == "fn"]
+    return [Contract(sources, it, sources.impl_of.get(it.owner)) for it in every]
 
 
 def named(sources, name):

@@ -160,8 +160,7 @@ class Pages:
         return "\n\n".join(shown)
 
     def part_definition(self, path, name):
-        found = [it for module in self.sources.modules.values() for it in module.definitions]
-        found = [it for it in found if (it.module.path, it.name) == (path, name)]
+        found = [it for it in self.sources.definitions() if (it.module.path, it.name) == (path, name)]
         if len(found) != 1:
             raise Wrong(f"{path} has {len(found)} definitions {name}: name one that it has")
         return f"`{path}`:\n\n```text\n{quoted(found[0])}\n```"
@@ -192,8 +191,7 @@ class Pages:
         return "\n".join(lines)
 
     def part_outside(self):
-        library = [it for it in self.sources.modules.values() if it.name[1].startswith(("iloc_", "icu_"))]
-        every = [it for module in library for it in module.definitions]
+        every = [it for it in self.sources.definitions() if it.module.name[1].startswith(("iloc_", "icu_"))]
         lines = sum(it.count() for it in every)
         read = sum(it.count() for it in self.plain.definitions)
         said = f"`specs/` of the library holds {len(every):,} definitions in {lines:,} lines."
@@ -294,24 +292,24 @@ def check(sources):
     return common.counted(max(count - failed, 0), failed)
 
 
+def alike(definitions, key):
+    """Returns the groups of definitions that have the same key."""
+    groups = {}
+    for it in definitions:
+        groups.setdefault(key(it), []).append(it)
+    return [it for it in groups.values() if len(it) > 1]
+
+
 def same_text(sources):
     """Returns the groups of definitions whose texts differ in names of their own alone, signatures aside."""
-    groups = {}
-    for module in sources.modules.values():
-        for it in module.definitions:
-            if it.kind not in ("abstract", "data", "record"):
-                groups.setdefault(shape_of(sources, it), []).append(it)
-    return [it for it in groups.values() if len(it) > 1]
+    every = [it for it in sources.definitions() if it.kind not in ("abstract", "data", "record")]
+    return alike(every, lambda it: shape_of(sources, it))
 
 
 def same_name(sources):
     """Returns the groups of public definitions that share a name, but for what several types have alike."""
-    groups = {}
-    for module in sources.modules.values():
-        for it in module.definitions:
-            if it.kind != "abstract" and it.name not in ALIKE and re.match(r"[^=:]*\bpub ", it.lines[0]):
-                groups.setdefault(it.name, []).append(it)
-    return [it for it in groups.values() if len(it) > 1]
+    every = [it for it in sources.definitions() if it.kind != "abstract" and it.is_public() and it.name not in ALIKE]
+    return alike(every, lambda it: it.name)
 
 
 def named(group):
@@ -345,23 +343,3 @@ def shape_of(sources, definition):
         else:
             shape.append(token)
     return tuple(shape)
-
-
-def cited_by_nothing(sources):
-    """Returns the definitions that no clause and no ghost member leads to: proofs or nothing use them."""
-    owners = [it for made in sources.rust.values() for source in made.values() for it in source.items]
-    members = [one for it in owners for one in it.inner if one.kind == "ghost"]
-    found = graph.closure_of(sources, [(it, ()) for it in graph.functions(sources) + members])
-    kept = set(found.definitions) | set(found.behind)
-    return [it for module in sources.modules.values() for it in module.definitions if it.kind != "abstract" and it not in kept]
-
-
-def twice(sources):
-    """Says which definitions stand twice, and which no contract cites."""
-    for group in same_text(sources):
-        print(f"the same text: {named(group)}")
-    for group in same_name(sources):
-        print(f"one name for two things: {named(group)}")
-    for it in cited_by_nothing(sources):
-        print(f"cited by no contract: {it.name} ({it.where})")
-    return 0

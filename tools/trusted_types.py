@@ -3,14 +3,14 @@
 All of it is printed from the sources, so that no field, view, invariant or import can change unseen."""
 import re
 
-import trusted_antt as antt
+import antt
 import trusted_graph as graph
-import trusted_rt as rt
+import rattle as rt
 
 
 def bare(text):
     """Returns a text of src/ on one line, without comments and attributes."""
-    text = re.sub(r"#\[[^\]]*\]", " ", re.sub(r"//[^\n]*", " ", text))
+    text = re.sub(r"#\[[^\]]*\]", " ", rt.without_comments(text))
     return re.sub(r"\(\s+|\s+\)", lambda it: it[0].strip(), " ".join(text.split()))
 
 
@@ -89,5 +89,4 @@ def names_part(sources, closure, contracts):
 
 def prelude_names(sources):
     """Returns the definitions, constructors and fields named as a word that antt or its prelude provides."""
-    every = [it for module in sources.modules.values() for it in module.definitions]
-    return [(it, name) for it in every for name in (it.name, *it.members) if name in antt.WORDS]
+    return [(it, name) for it in sources.definitions() for name in (it.name, *it.members) if name in antt.WORDS]

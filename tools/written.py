@@ -4,7 +4,7 @@ import os
 import re
 import sys
 
-from common import counted, differing, write
+from common import counted, differing, parser, read, write
 
 WIDTH = 100
 
@@ -39,17 +39,45 @@ def replaced(text, pattern, new, path):
     return text[: found[0].start()] + new + text[found[0].end() :]
 
 
-def write_or_check(files, is_check):
-    """Writes each file of which this is not the text, or only names it. Returns the status of the script."""
-    script, differ = os.path.basename(sys.argv[0]), differing(files)
-    for path in differ:
+def between(path, marks, text):
+    """Returns the file with this text between its two lines that have these marks, each of which stands there once."""
+    lines = read(path).split("\n")
+    places = [[at for at, line in enumerate(lines) if it in line] for it in marks]
+    if [len(it) for it in places] != [1, 1] or places[0] > places[1]:
+        lost = f"{path} has not one line `{marks[0]}` and, below it, one line `{marks[1]}`"
+        sys.exit(f"{os.path.basename(sys.argv[0])}: {lost}: put them where the text is to stand")
+    return "\n".join([*lines[: places[0][0] + 1], text, *lines[places[1][0] :]])
+
+
+def faults_of(path, rows, wrong_in_row, names):
+    """Returns what is wrong with the rows of a table, each with its file and line: by itself, or that a row above has its
+    name. `names` has what names there are, and the attributes that have them."""
+    known, found = {}, []
+    for row in rows:
+        found += [(row, it) for it in wrong_in_row(row)]
+        for what, attribute in names:
+            own = getattr(row, attribute)
+            first = known.setdefault((what, own), row.number)
+            if own and first != row.number:
+                found.append((row, f"the {what} `{own}` is already that of line {first}. Change one of the two rows"))
+    return [f"{path}:{row.number}: {what}" for row, what in found]
+
+
+def write_by_table(doc, path, table_of, all_files):
+    """Runs a script that writes each file of which the text is not what a table says, or with --check only names it. It says
+    instead what is wrong with the rows, if anything is. Returns its status."""
+    script = os.path.basename(sys.argv[0])
+    words = parser(f"tools/{script}", doc)
+    words.add_argument("--check", action="store_true", help="write nothing; say which files differ from the table")
+    is_check = words.parse_args().check
+    table, wrong = table_of(read(path))
+    if wrong:
+        print(*wrong, sep="\n", file=sys.stderr)
+        return counted(0, len(wrong)) if is_check else 1
+    files = all_files(table)
+    differ = differing(files)
+    for it in differ:
         if not is_check:
-            write(path, files[path])
-        print(f"{script}: {path} {f'is not what the table says: run tools/{script}' if is_check else 'written'}")
+            write(it, files[it])
+        print(f"{script}: {it} {f'is not what the table says: run tools/{script}' if is_check else 'written'}")
     return counted(not differ, bool(differ)) if is_check else 0
-
-
-def wrong_table(wrong, is_check):
-    """Says what is wrong with the rows of a table. Returns the status of the script."""
-    print(*wrong, sep="\n", file=sys.stderr)
-    return counted(0, len(wrong)) if is_check else 1

@@ -2,8 +2,8 @@
 ghost use Rattle.std.specs.Prelude.{◌≡◌, ◌<◌};
 ghost use Rattle.std.specs.Ordering.{nat_cmp};
 ghost use Rattle.std.specs.Cmp.Lexicographic.{slice_cmp};
-ghost use Rattle.iloc_spec_preferences.specs.DataLocales.{data_text};
-ghost use Rattle.iloc_spec_preferences.specs.DataOrders.{data_locale_cmp};
+ghost use Rattle.iloc_spec_parts.specs.DataLocales.{data_text};
+ghost use Rattle.iloc_spec_parts.specs.DataOrders.{data_locale_cmp};
 ghost use Rattle.iloc_calls.specs.Answers.{HandsOut, order_number};
 ghost use Rattle.iloc_calls.specs.Numbers.{EndsAs, number_of};
 ghost use Rattle.iloc_calls.specs.declared.status.Status.{Status};

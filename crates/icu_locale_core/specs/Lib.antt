@@ -11,13 +11,13 @@ pub use Rattle.iloc_spec_parts.specs.Small
 pub use Rattle.iloc_spec_parts.specs.Inline
 pub use Rattle.iloc_spec_parts.specs.Orders
 pub use Rattle.iloc_spec_parts.specs.Hashes
-pub use Rattle.iloc_spec_preferences.specs.Subdivisions
-pub use Rattle.iloc_spec_preferences.specs.DataLocales
-pub use Rattle.iloc_spec_preferences.specs.DataOrders
-pub use Rattle.iloc_spec_preferences.specs.DataHashes
-pub use Rattle.iloc_spec_preferences.specs.Keywords
-pub use Rattle.iloc_spec_preferences.specs.Preferences
-pub use Rattle.iloc_spec_preferences.specs.Formatters
+pub use Rattle.iloc_spec_parts.specs.Subdivisions
+pub use Rattle.iloc_spec_parts.specs.DataLocales
+pub use Rattle.iloc_spec_parts.specs.DataOrders
+pub use Rattle.iloc_spec_parts.specs.DataHashes
+pub use Rattle.iloc_spec_parts.specs.Keywords
+pub use Rattle.iloc_spec_parts.specs.Preferences
+pub use Rattle.iloc_spec_parts.specs.Formatters
 pub use Rattle.iloc_subtags.specs.Judging
 pub use Rattle.iloc_writeable.specs.Writing
 pub use Rattle.iloc_writeable.specs.Hints
@@ -61,11 +61,11 @@ pub use Rattle.iloc_litemap.specs.Calls as MapCalls
 pub use Rattle.iloc_litemap.specs.Lends as MapLends
 pub use Rattle.iloc_subtags.specs.ParseError as ParseErrorWords
 pub use Rattle.iloc_subtags.specs.RawForms
-pub use Rattle.iloc_word_set.specs.Ascending
+pub use Rattle.iloc_word_list.specs.Ascending
 pub use Rattle.iloc_langid.specs.Unknown
 pub use Rattle.iloc_langid.specs.Parents
-pub use Rattle.iloc_fields.specs.FieldsReading
-pub use Rattle.iloc_fields.specs.ValueReading as FieldValueReading
+pub use Rattle.iloc_transform.specs.FieldsReading
+pub use Rattle.iloc_transform.specs.ValueReading as FieldValueReading
 pub use Rattle.iloc_spec_parts.specs.SingleValues
 pub use Rattle.iloc_word_list.specs.Refusals as PreferenceRefusals
 pub use Rattle.iloc_unicode.specs.UnicodeReads
@@ -83,6 +83,7 @@ pub use Rattle.iloc_keyword_types.specs.Hijri
 pub use Rattle.iloc_lines.specs.Lines as ProgramLines
 pub use Rattle.iloc_shortvec.specs.Items as ShortItems
 pub use Rattle.iloc_shortvec.specs.Kept as ShortKept
+pub use Rattle.iloc_shortvec.specs.Left as ShortLeft
 pub use Rattle.iloc_shortvec.specs.Rest as ShortRest
 pub use Rattle.iloc_spec_grammar.specs.ByBlocks
 pub use Rattle.iloc_spec_grammar.specs.Computing
@@ -95,9 +96,9 @@ pub use Rattle.iloc_spec_parts.specs.Examples as PartExamples
 pub use Rattle.iloc_spec_parts.specs.PartComputing
 pub use Rattle.iloc_spec_parts.specs.Readers
 pub use Rattle.iloc_spec_parts.specs.SmallComputing
-pub use Rattle.iloc_spec_preferences.specs.DataComputing
-pub use Rattle.iloc_spec_preferences.specs.DataExamples
-pub use Rattle.iloc_spec_preferences.specs.PreferenceExamples
+pub use Rattle.iloc_spec_parts.specs.DataComputing
+pub use Rattle.iloc_spec_parts.specs.DataExamples
+pub use Rattle.iloc_spec_parts.specs.PreferenceExamples
 pub use Rattle.iloc_subtags.specs.Lengths
 pub use Rattle.iloc_normalize.specs.Modes
 pub use Rattle.iloc_normalize.specs.Answered

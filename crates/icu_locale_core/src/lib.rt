@@ -77,7 +77,7 @@ pub mod litemap {
 /// The subtags of identifiers, and sets of variants.
 pub mod subtags {
     pub use iloc_subtags::{Language, Region, Script, Subtag, Variant, Word, WordKind, WordOf};
-    pub use iloc_word_set::{Variants, WordSet, hashes, is_strictly_ascending};
+    pub use iloc_word_list::{Variants, WordSet, is_strictly_ascending, set_hashes as hashes};
 
     /// The kinds of subtags by name, for code that is generic over them: each subtag is a `WordOf<Kind, N>`.
     pub mod kinds {
@@ -137,7 +137,7 @@ pub mod extensions {
     /// The transform extension: an identifier and fields.
     pub mod transform {
         pub use crate::together::transform_extensions as together;
-        pub use iloc_fields::field_laws::{
+        pub use iloc_transform::field_laws::{
             equality as fields_equality, hashes as fields_hashes, orders,
         };
         pub use iloc_transform::{Fields, Key, Transform, Value, equality, hashes};
@@ -215,7 +215,7 @@ pub mod bench {
 /// Laws of the definitions: their orders are total, and what is fed to a hasher tells values apart.
 pub mod laws {
     pub use iloc_spec_parts::orders::{hashes, orders};
-    pub use iloc_spec_preferences::regions::{data_hashes, data_orders};
+    pub use iloc_spec_parts::regions::{data_hashes, data_orders};
 
     /// The grammar: words, meanings, faults, normal texts, and the steps that lead to them.
     pub mod grammar {
@@ -267,7 +267,7 @@ pub mod laws {
 
     /// Keyword types, and how preferences are merged.
     pub mod preferences {
-        pub use iloc_spec_preferences::preferences::{
+        pub use iloc_spec_parts::preferences::{
             by_example, data_locales_of_locales, keywords, keywords_by_example, merging,
             merging_formatters, preferences_of_locales,
         };
@@ -275,7 +275,7 @@ pub mod laws {
 
     /// Subdivisions and data locales.
     pub mod regions {
-        pub use iloc_spec_preferences::regions::{
+        pub use iloc_spec_parts::regions::{
             by_example, data_hashes, data_locale_or_one_fault, data_locales, data_orders,
             subdivisions, wider_data_locales,
         };

@@ -1,7 +1,7 @@
 //! For each type with a `total_cmp`: it is `Equal` exactly if two values are `==`, and then they hash alike.
 ghost use Rattle.std.specs.Ordering.{on};
 ghost use Rattle.iloc_spec_parts.specs.Orders.{identifier_cmp, unicode_cmp, transform_cmp, extensions_cmp, locale_cmp};
-ghost use Rattle.iloc_spec_preferences.specs.DataOrders.{data_locale_cmp};
+ghost use Rattle.iloc_spec_parts.specs.DataOrders.{data_locale_cmp};
 ghost use Rattle.iloc_langid.specs.Reads as langid;
 ghost use Rattle.iloc_unicode.specs.UnicodeValue as unicode;
 ghost use Rattle.iloc_transform.specs.TransformReading as transform;

@@ -18,8 +18,8 @@ use Rattle.iloc_spec_grammar.proofs.IdentifierLaws as identifiers
 use Rattle.iloc_spec_grammar.proofs.SameMeaning as locales
 use Rattle.iloc_spec_parts.specs.Orders.{identifier_cmp, locale_cmp}
 use Rattle.iloc_spec_parts.proofs.OrderLaws.{word_exact, identifier_exact, locale_exact}
-use Rattle.iloc_spec_preferences.specs.DataLocales.{DataLocale, DataMeans, data_text}
-use Rattle.iloc_spec_preferences.proofs.DataLaws.{one_data, data_apart, read_back}
+use Rattle.iloc_spec_parts.specs.DataLocales.{DataLocale, DataMeans, data_text}
+use Rattle.iloc_spec_parts.proofs.DataLaws.{one_data, data_apart, read_back}
 use Rattle.iloc_spec_grammar.proofs.IdentifierTexts.{identifier_apart}
 use Rattle.iloc_subtags.specs.declared.parse_error.ParseError.{ParseError}
 use Rattle.iloc_subtags.specs.declared.parse_error.ParseError.TheVariants as refusals

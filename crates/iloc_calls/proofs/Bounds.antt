@@ -6,7 +6,7 @@ use Rattle.iloc_spec_grammar.specs.Syntax.{Text, languages, pieces}
 use Rattle.iloc_spec_grammar.specs.Meaning.{IdentifierMeans, Means}
 use Rattle.iloc_spec_grammar.specs.Values.{identifier_text, text}
 use Rattle.iloc_spec_grammar.proofs.AnySteps.{shortest, length-identifier_means}
-use Rattle.iloc_spec_preferences.specs.DataLocales.{DataMeans, data_text}
+use Rattle.iloc_spec_parts.specs.DataLocales.{DataMeans, data_text}
 use Rattle.iloc_writeable.specs.Hints.{saturated}
 use Rattle.iloc_normalize.specs.declared.Mode.{Mode}
 use Rattle.iloc_normalize.specs.declared.Mode.TheVariants.{Langid, Locale, Data}

@@ -3,8 +3,8 @@ use Rattle.std.proofs.Common.{◌≡◌, ◌<◌, ℕ, List, length, length-take
 use Rattle.std.proofs.lemmas.Bool.Decides.{nat_tests}
 use Rattle.iloc_spec_grammar.specs.Values.{identifier_text}
 use Rattle.iloc_writeable.specs.Hints.{saturated}
-use Rattle.iloc_plain.specs.Plain.{AreWords, IsPlain, value_of}
-use Rattle.iloc_plain.specs.declared.plain.Plain.{Plain}
+use Rattle.iloc_pieces.specs.Plain.{AreWords, IsPlain, value_of}
+use Rattle.iloc_pieces.specs.declared.plain.Plain.{Plain}
 use Rattle.iloc_normalize.proofs.PlainAnswers.{plain_normal}
 use Rattle.iloc_subtags.specs.declared.parse_error.ParseError.{ParseError}
 use Rattle.iloc_subtags.specs.declared.parse_error.ParseError.TheVariants as refusals

@@ -16,13 +16,13 @@ use Rattle.iloc_spec_grammar.proofs.WordsLaws.{length-lower}
 use Rattle.iloc_spec_parts.specs.Small.{SmallIdentifier, SmallLocale, locale_of_small}
 use Rattle.iloc_spec_parts.proofs.SmallLaws.{small_means}
 use Rattle.iloc_spec_parts.proofs.SmallBack.{read_is_small_value}
-use Rattle.iloc_spec_preferences.specs.Subdivisions.{Subdivision, subdivision, subdivision_text}
-use Rattle.iloc_spec_preferences.proofs.Keys.{sd}
-use Rattle.iloc_spec_preferences.specs.DataLocales.{DataLocale, DataMeans, whole_region, is_whole}
-use Rattle.iloc_spec_preferences.specs.DataLocales.{named_subdivision, made_of, agreed, small_part}
-use Rattle.iloc_spec_preferences.specs.DataLocales.{subdivision_value, subdivision_pieces, data_text}
-use Rattle.iloc_spec_preferences.proofs.SubdivisionLaws.{subdivision_back, read_is_subdivision, text_of_read}
-use Rattle.iloc_spec_preferences.proofs.DataLaws.{whole_region_is}
+use Rattle.iloc_spec_parts.specs.Subdivisions.{Subdivision, subdivision, subdivision_text}
+use Rattle.iloc_spec_parts.proofs.Keys.{sd}
+use Rattle.iloc_spec_parts.specs.DataLocales.{DataLocale, DataMeans, whole_region, is_whole}
+use Rattle.iloc_spec_parts.specs.DataLocales.{named_subdivision, made_of, agreed, small_part}
+use Rattle.iloc_spec_parts.specs.DataLocales.{subdivision_value, subdivision_pieces, data_text}
+use Rattle.iloc_spec_parts.proofs.SubdivisionLaws.{subdivision_back, read_is_subdivision, text_of_read}
+use Rattle.iloc_spec_parts.proofs.DataLaws.{whole_region_is}
 
 -- the bytes that a word takes with its hyphen, and those of a keyword after `u`
 abbrev share : Option Text → ℕ

@@ -7,7 +7,7 @@ use Rattle.std.specs.declared.cmp.Ordering.TheVariants.{Less, Equal, Greater}
 use Rattle.iloc_spec_grammar.specs.Syntax.{Text, pieces, languages, Identifier}
 use Rattle.iloc_spec_grammar.specs.Meaning as meaning
 use Rattle.iloc_spec_grammar.specs.Meaning.{IdentifierMeans, Means}
-use Rattle.iloc_spec_preferences.specs.DataLocales.{DataLocale, DataMeans}
+use Rattle.iloc_spec_parts.specs.DataLocales.{DataLocale, DataMeans}
 use Rattle.iloc_writeable.specs.Hints.{saturated}
 use Rattle.iloc_langid.specs.Reads as langid_reads
 use Rattle.iloc_locale.specs.LocaleReading as locale

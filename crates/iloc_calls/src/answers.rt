@@ -15,7 +15,7 @@ use iloc_locale::Locale;
 use iloc_normalize::answered::ROOM;
 use iloc_normalize::window::{WINDOW, answer_text};
 use iloc_normalize::{Answered, Mode};
-use iloc_plain::read_plain_text;
+use iloc_pieces::read_plain_text;
 use iloc_subtags::ParseError;
 use std::alloc::Global;
 

@@ -2,13 +2,13 @@
 ghost use Rattle.std.specs.Prelude.{◌≡◌, ◌+◌, ◌≤◌, length, option_map};
 ghost use Rattle.std.specs.Option.{option_copied};
 ghost use Rattle.iloc_spec_grammar.specs.Values.{identifier_text};
-ghost use Rattle.iloc_plain.specs.Plain.{AreWords, value_of};
+ghost use Rattle.iloc_pieces.specs.Plain.{AreWords, value_of};
 ghost use Rattle.iloc_calls.specs.declared.status.Status.{Status};
 ghost use Rattle.iloc_calls.specs.Answers.{HandsOut, Tells};
 
 use crate::status::Status;
 use iloc_normalize::copying::{copy_all, copy_ends};
-use iloc_plain::Plain;
+use iloc_pieces::Plain;
 use iloc_writeable::{Sink, Writeable};
 use std::fmt;
 

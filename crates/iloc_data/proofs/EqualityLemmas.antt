@@ -1,9 +1,9 @@
 -- The test of equality decides whether two data locales stand for the same.
 use Rattle.std.proofs.Common.{◌≡◌, ◌↔◌, Bool, IsTrue}
 use Rattle.std.specs.Cmp.{Equal-is}
-use Rattle.iloc_spec_preferences.specs.DataLocales.{data_key}
-use Rattle.iloc_spec_preferences.specs.DataOrders.{data_locale_cmp}
-use Rattle.iloc_spec_preferences.proofs.DataOrderLaws.{data_locale_ties}
+use Rattle.iloc_spec_parts.specs.DataLocales.{data_key}
+use Rattle.iloc_spec_parts.specs.DataOrders.{data_locale_cmp}
+use Rattle.iloc_spec_parts.proofs.DataOrderLaws.{data_locale_ties}
 use Rattle.iloc_data.specs.declared.data_locale.DataLocale.{DataLocale}
 use Rattle.iloc_data.specs.DataValue.{value_of}
 use Rattle.iloc_data.specs.DataEquality.{same_key}

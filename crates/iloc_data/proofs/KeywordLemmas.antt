@@ -4,7 +4,7 @@ use Rattle.std.proofs.Common.{option_and_then}
 use Rattle.std.specs.FinMap.{find}
 use Rattle.iloc_spec_grammar.specs.Syntax.{Text, word_cmp}
 use Rattle.iloc_spec_grammar.specs.Meaning.{Locale}
-use Rattle.iloc_spec_preferences.specs.Preferences.{read_keyword, is_readable}
+use Rattle.iloc_spec_parts.specs.Preferences.{read_keyword, is_readable}
 
 module _ {X : Type 0} (reads : List Text → Option X) where
   pub absent : (k : Text) (M : Locale) → None ≡ find word_cmp k M.extensions.unicode.keywords →

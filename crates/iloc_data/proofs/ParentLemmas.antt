@@ -9,12 +9,12 @@ use Rattle.iloc_spec_grammar.specs.Syntax.{Text, Region, languages, is_word, low
 use Rattle.iloc_spec_grammar.specs.Meaning.{Fault}
 use Rattle.iloc_spec_grammar.specs.Values.{IsNormal}
 use Rattle.iloc_spec_grammar.proofs.MapLaws.{same_is}
-use Rattle.iloc_spec_preferences.specs.Subdivisions.{Subdivision, subdivision}
-use Rattle.iloc_spec_preferences.specs.DataLocales.{DataLocale, DataKey, IsDataLocale, data_key, data_pieces}
-use Rattle.iloc_spec_preferences.specs.DataLocales.{is_whole, whole, whole_region, named_subdivision}
-use Rattle.iloc_spec_preferences.specs.DataLocales.{region_part, subdivision_keyword, subdivision_pieces}
-use Rattle.iloc_spec_preferences.specs.DataLocales.{subdivision_value}
-use Rattle.iloc_spec_preferences.proofs.SubdivisionLaws.{read_is_subdivision}
+use Rattle.iloc_spec_parts.specs.Subdivisions.{Subdivision, subdivision}
+use Rattle.iloc_spec_parts.specs.DataLocales.{DataLocale, DataKey, IsDataLocale, data_key, data_pieces}
+use Rattle.iloc_spec_parts.specs.DataLocales.{is_whole, whole, whole_region, named_subdivision}
+use Rattle.iloc_spec_parts.specs.DataLocales.{region_part, subdivision_keyword, subdivision_pieces}
+use Rattle.iloc_spec_parts.specs.DataLocales.{subdivision_value}
+use Rattle.iloc_spec_parts.proofs.SubdivisionLaws.{read_is_subdivision}
 use Rattle.iloc_langid.specs.Parents.{is_unknown_language, after_steps}
 use Rattle.iloc_data.specs.DataValue.{unknown_data}
 use Rattle.iloc_data.specs.DataParents.{region_of, with_whole_region, data_parent, data_part_count}

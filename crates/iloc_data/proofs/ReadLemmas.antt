@@ -9,14 +9,14 @@ use Rattle.iloc_spec_grammar.proofs.RawLaws.{languages_table, narrow_in_wide}
 use Rattle.iloc_langid.specs.SmallLocaleReads.{LocaleParts, small_locale_of, SmallLocaleTextReads}
 use Rattle.iloc_spec_parts.specs.Small.{locale_of_small}
 use Rattle.iloc_spec_parts.proofs.SmallLaws.{small_means}
-use Rattle.iloc_spec_preferences.specs.Subdivisions.{Subdivision}
-use Rattle.iloc_spec_preferences.specs.DataLocales as parts
-use Rattle.iloc_spec_preferences.specs.DataLocales.{DataMeans, HasDataFault, not_small, no_subdivision}
-use Rattle.iloc_spec_preferences.specs.DataLocales.{made_of, small_part, data_text}
-use Rattle.iloc_spec_preferences.proofs.DataLaws.{data_apart, one_data, one_data_fault, read_back}
-use Rattle.iloc_spec_preferences.proofs.WiderData.{data_wider}
-use Rattle.iloc_spec_preferences.specs.Preferences.{language_priority, preferences}
-use Rattle.iloc_spec_preferences.proofs.ConversionLaws.{agrees}
+use Rattle.iloc_spec_parts.specs.Subdivisions.{Subdivision}
+use Rattle.iloc_spec_parts.specs.DataLocales as parts
+use Rattle.iloc_spec_parts.specs.DataLocales.{DataMeans, HasDataFault, not_small, no_subdivision}
+use Rattle.iloc_spec_parts.specs.DataLocales.{made_of, small_part, data_text}
+use Rattle.iloc_spec_parts.proofs.DataLaws.{data_apart, one_data, one_data_fault, read_back}
+use Rattle.iloc_spec_parts.proofs.WiderData.{data_wider}
+use Rattle.iloc_spec_parts.specs.Preferences.{language_priority, preferences}
+use Rattle.iloc_spec_parts.proofs.ConversionLaws.{agrees}
 use Rattle.iloc_subtags.specs.declared.parse_error.ParseError.{ParseError}
 use Rattle.iloc_subtags.specs.declared.parse_error.ParseError.TheVariants.{InvalidLanguage, InvalidSubtag}
 use Rattle.iloc_subtags.specs.declared.parse_error.ParseError.TheVariants.{InvalidExtension}

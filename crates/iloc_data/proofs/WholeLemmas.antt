@@ -9,8 +9,8 @@ use Rattle.iloc_spec_grammar.specs.Syntax.{Text, Region, Subtag, SubdivisionSuff
 use Rattle.iloc_spec_grammar.specs.Syntax.{upper}
 use Rattle.iloc_spec_grammar.specs.Syntax.{is_same}
 use Rattle.iloc_spec_grammar.specs.Meaning.{InvalidSubtag, InvalidExtension}
-use Rattle.iloc_spec_preferences.specs.Subdivisions.{Subdivision, both_words}
-use Rattle.iloc_spec_preferences.specs.DataLocales.{whole, is_whole, named_subdivision}
+use Rattle.iloc_spec_parts.specs.Subdivisions.{Subdivision, both_words}
+use Rattle.iloc_spec_parts.specs.DataLocales.{whole, is_whole, named_subdivision}
 use Rattle.iloc_spec_grammar.proofs.MapLaws.{same_is}
 use Rattle.std.specs.Cmp.Lexicographic.{pointwise}
 use Rattle.iloc_data_parts.proofs.RegionLemmas.{words_tie}

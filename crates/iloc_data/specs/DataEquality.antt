@@ -2,7 +2,7 @@
 -- rule, as in the Rust crate.
 use Rattle.std.proofs.Common.{Bool}
 use Rattle.std.specs.Ordering.{eq_by_cmp}
-use Rattle.iloc_spec_preferences.specs.DataOrders.{data_locale_cmp}
+use Rattle.iloc_spec_parts.specs.DataOrders.{data_locale_cmp}
 use Rattle.iloc_data.specs.declared.data_locale.DataLocale.{DataLocale}
 use Rattle.iloc_data.specs.DataValue.{value_of}
 

@@ -1,8 +1,8 @@
 -- Laws of the equality of data locales.
 use Rattle.std.proofs.Common.{◌≡◌, true, ap}
 use Rattle.std.specs.Cmp.{IsEquivalence, eq_by_cmp_equiv, on_equiv, Equal-is}
-use Rattle.iloc_spec_preferences.specs.DataHashes.{data_key_fed, data_locale_fed}
-use Rattle.iloc_spec_preferences.proofs.DataOrderLaws.{data_locale_total, data_locale_ties}
+use Rattle.iloc_spec_parts.specs.DataHashes.{data_key_fed, data_locale_fed}
+use Rattle.iloc_spec_parts.proofs.DataOrderLaws.{data_locale_total, data_locale_ties}
 use Rattle.iloc_data.specs.declared.data_locale.DataLocale.{DataLocale}
 use Rattle.iloc_data.specs.DataValue.{value_of}
 use Rattle.iloc_data.specs.DataEquality.{same_key}

@@ -5,8 +5,8 @@ use Rattle.std.specs.Prelude.{◌≡◌, ◌⊎◌, ℕ, ◌+◌, ◌<◌, List,
 use Rattle.std.specs.Prelude.{option_map, option_to_list, if◌then◌else◌}
 use Rattle.std.specs.Option.{option_or}
 use Rattle.iloc_spec_grammar.specs.Syntax.{Text}
-use Rattle.iloc_spec_preferences.specs.DataLocales.{DataLocale, data_key, data_pieces, region_part}
-use Rattle.iloc_spec_preferences.specs.DataLocales.{subdivision_keyword}
+use Rattle.iloc_spec_parts.specs.DataLocales.{DataLocale, data_key, data_pieces, region_part}
+use Rattle.iloc_spec_parts.specs.DataLocales.{subdivision_keyword}
 use Rattle.iloc_langid.specs.Parents.{is_unknown_language, after_steps}
 use Rattle.iloc_data.specs.DataValue.{unknown_data}
 

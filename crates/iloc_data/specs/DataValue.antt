@@ -1,6 +1,6 @@
 -- What a `DataLocale` stands for. This library's rule.
 use Rattle.std.specs.Prelude.{None, codes}
-use Rattle.iloc_spec_preferences.specs.DataLocales as parts
+use Rattle.iloc_spec_parts.specs.DataLocales as parts
 use Rattle.iloc_data.specs.declared.data_locale.DataLocale.{DataLocale}
 
 -- Its fields, as the definitions have them.

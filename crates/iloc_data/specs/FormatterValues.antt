@@ -1,8 +1,8 @@
 -- What preferences of formatters stand for: this library's rule.
 use denote.Enum.Declared.{tag_of as place}
 use Rattle.std.specs.Prelude.{None, option_map}
-use Rattle.iloc_spec_preferences.specs.Keywords.{EnumValue}
-use Rattle.iloc_spec_preferences.specs.Formatters as rules
+use Rattle.iloc_spec_parts.specs.Keywords.{EnumValue}
+use Rattle.iloc_spec_parts.specs.Formatters as rules
 use Rattle.iloc_enum_keywords.specs.declared.hour_cycle.HourCycle.{HourCycle}
 use Rattle.iloc_enum_keywords.specs.contracts.hour_cycle.HourCycle.{the_type}
 use Rattle.iloc_keyword_types.specs.Calendars.{value_of}

@@ -3,9 +3,9 @@ use Rattle.std.specs.Prelude.{◌≡◌, ⊤, Result, IfOk}
 use Rattle.iloc_spec_grammar.specs.Syntax.{Text, languages, two_or_three}
 use Rattle.iloc_spec_grammar.specs.Meaning as meaning
 use Rattle.iloc_spec_grammar.specs.Meaning.{Means, Fault}
-use Rattle.iloc_spec_preferences.specs.DataLocales as parts
-use Rattle.iloc_spec_preferences.specs.DataLocales.{DataMeans, HasDataFault, data_text}
-use Rattle.iloc_spec_preferences.specs.Preferences.{language_priority, preferences}
+use Rattle.iloc_spec_parts.specs.DataLocales as parts
+use Rattle.iloc_spec_parts.specs.DataLocales.{DataMeans, HasDataFault, data_text}
+use Rattle.iloc_spec_parts.specs.Preferences.{language_priority, preferences}
 use Rattle.iloc_subtags.specs.declared.parse_error.ParseError.{ParseError}
 use Rattle.iloc_subtags.specs.Judging.{Answers, Accepts, Refuses, RunsOutOnlyIf}
 use Rattle.iloc_data.specs.declared.data_locale.DataLocale.{DataLocale}

@@ -2,8 +2,8 @@
 ghost use Rattle.std.specs.Prelude.{◌≡◌, ◌↔◌, IsTrue};
 ghost use Rattle.std.specs.Ordering.{nat_cmp};
 ghost use Rattle.std.specs.Cmp.Lexicographic.{slice_cmp};
-ghost use Rattle.iloc_spec_preferences.specs.DataLocales.{data_key, data_text};
-ghost use Rattle.iloc_spec_preferences.specs.DataOrders.{data_locale_cmp};
+ghost use Rattle.iloc_spec_parts.specs.DataLocales.{data_key, data_text};
+ghost use Rattle.iloc_spec_parts.specs.DataOrders.{data_locale_cmp};
 
 use crate::data_locale::DataLocale;
 use iloc_keyword_types::subdivisions_compare;
@@ -63,7 +63,7 @@ impl Eq for DataLocale {
 
 /// What is equal feeds a hasher alike.
 impl Hash for DataLocale {
-    ghost use Rattle.iloc_spec_preferences.specs.DataHashes.{data_locale_fed};
+    ghost use Rattle.iloc_spec_parts.specs.DataHashes.{data_locale_fed};
     ghost use Rattle.iloc_data.specs.DataValue.{value_of};
     ghost use Rattle.iloc_data.specs.DataEqualityLaws.{fed_alike};
 

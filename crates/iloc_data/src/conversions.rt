@@ -4,7 +4,7 @@ ghost use Rattle.iloc_spec_grammar.specs.Syntax.{languages};
 ghost use Rattle.iloc_spec_grammar.specs.Meaning as meaning;
 ghost use Rattle.iloc_spec_grammar.specs.Values.{IsValue, IsWellFormed, text};
 ghost use Rattle.iloc_locale.specs.LocaleReading.{value_of as locale_value};
-ghost use Rattle.iloc_spec_preferences.specs.DataLocales.{data_text, locale_of_data};
+ghost use Rattle.iloc_spec_parts.specs.DataLocales.{data_text, locale_of_data};
 
 use crate::data_locale::DataLocale;
 use crate::locale_preferences::LocalePreferences;
@@ -16,12 +16,12 @@ use iloc_langid::LanguageIdentifier;
 use iloc_locale::{Extensions, Locale};
 use iloc_subtags::{Language, Region, Script};
 use iloc_unicode::{Attributes, Keywords, Unicode};
-use iloc_word_set::Variants;
+use iloc_word_list::Variants;
 use std::alloc::Global;
 
 impl DataLocale {
     ghost use Rattle.iloc_data.specs.DataValue.{value_of};
-    ghost use Rattle.iloc_spec_preferences.specs.DataLocales.{locale_with_keywords};
+    ghost use Rattle.iloc_spec_parts.specs.DataLocales.{locale_with_keywords};
 
     /// The locale of the same parts: the one well-formed locale that prints the same text. It allocates nothing.
     pub fn into_locale(self, alloc: Global) -> Locale
@@ -75,7 +75,7 @@ impl DataLocale {
 impl From<&Locale> for DataLocale {
     ghost use Rattle.std.specs.Prelude.{◌≡◌};
     ghost use Rattle.iloc_locale.specs.LocaleReading.{value_of as locale_value};
-    ghost use Rattle.iloc_spec_preferences.specs.Preferences.{language_priority, preferences};
+    ghost use Rattle.iloc_spec_parts.specs.Preferences.{language_priority, preferences};
     ghost use Rattle.iloc_data.specs.DataValue.{value_of};
 
     ghost from_gives = { λ locale d. value_of d
@@ -90,7 +90,7 @@ impl From<&Locale> for DataLocale {
 impl From<Locale> for DataLocale {
     ghost use Rattle.std.specs.Prelude.{◌≡◌};
     ghost use Rattle.iloc_locale.specs.LocaleReading.{value_of as locale_value};
-    ghost use Rattle.iloc_spec_preferences.specs.Preferences.{language_priority, preferences};
+    ghost use Rattle.iloc_spec_parts.specs.Preferences.{language_priority, preferences};
     ghost use Rattle.iloc_data.specs.DataValue.{value_of};
 
     ghost from_gives = { λ locale d. value_of d
@@ -105,7 +105,7 @@ impl From<Locale> for DataLocale {
 impl From<&LanguageIdentifier> for DataLocale {
     ghost use Rattle.std.specs.Prelude.{◌≡◌};
     ghost use Rattle.iloc_langid.specs.Reads.{value_of as identifier_of};
-    ghost use Rattle.iloc_spec_preferences.specs.DataLocales.{data_of_identifier};
+    ghost use Rattle.iloc_spec_parts.specs.DataLocales.{data_of_identifier};
     ghost use Rattle.iloc_data.specs.DataValue.{value_of};
 
     ghost from_gives = { λ langid d. value_of d ≡ data_of_identifier (identifier_of langid.now) };
@@ -125,7 +125,7 @@ impl From<&LanguageIdentifier> for DataLocale {
 impl From<LanguageIdentifier> for DataLocale {
     ghost use Rattle.std.specs.Prelude.{◌≡◌};
     ghost use Rattle.iloc_langid.specs.Reads.{value_of as identifier_of};
-    ghost use Rattle.iloc_spec_preferences.specs.DataLocales.{data_of_identifier};
+    ghost use Rattle.iloc_spec_parts.specs.DataLocales.{data_of_identifier};
     ghost use Rattle.iloc_data.specs.DataValue.{value_of};
 
     ghost from_gives = { λ langid d. value_of d ≡ data_of_identifier (identifier_of langid) };
@@ -138,7 +138,7 @@ impl From<LanguageIdentifier> for DataLocale {
 /// Made of the whole of the region.
 impl From<(Language, Option<Script>, Option<Region>)> for DataLocale {
     ghost use Rattle.std.specs.Prelude.{◌≡◌};
-    ghost use Rattle.iloc_spec_preferences.specs.DataLocales.{data_of_parts};
+    ghost use Rattle.iloc_spec_parts.specs.DataLocales.{data_of_parts};
     ghost use Rattle.iloc_data.specs.DataValue.{value_of};
 
     ghost from_gives = { λ lsr d. value_of d ≡ data_of_parts lsr.0 lsr.1 lsr.2 };

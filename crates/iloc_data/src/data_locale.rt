@@ -1,11 +1,11 @@
 //! The type, and its parsers.
 ghost use Rattle.std.specs.Prelude.{◌≡◌, ◌↔◌, ⊤, IsTrue, IfOk};
-ghost use Rattle.iloc_spec_preferences.specs.Preferences.{language_priority, preferences};
+ghost use Rattle.iloc_spec_parts.specs.Preferences.{language_priority, preferences};
 ghost use Rattle.iloc_spec_grammar.specs.Syntax.{languages, two_or_three};
 ghost use Rattle.iloc_spec_grammar.specs.Meaning as meaning;
 ghost use Rattle.iloc_spec_grammar.specs.Meaning.{Means, Fault};
-ghost use Rattle.iloc_spec_preferences.specs.DataLocales as parts;
-ghost use Rattle.iloc_spec_preferences.specs.DataLocales.{DataMeans, HasDataFault, data_text};
+ghost use Rattle.iloc_spec_parts.specs.DataLocales as parts;
+ghost use Rattle.iloc_spec_parts.specs.DataLocales.{DataMeans, HasDataFault, data_text};
 ghost use Rattle.iloc_subtags.specs.Judging.{Accepts, Refuses, RunsOutOnlyIf};
 
 use iloc_data_parts::region::part_of;

@@ -1,7 +1,7 @@
 //! Preferences of a formatter of dates and times.
 ghost use Rattle.std.specs.Prelude.{◌≡◌, true, false, MatchResult};
 ghost use Rattle.iloc_locale.specs.LocaleReading.{value_of as locale_value};
-ghost use Rattle.iloc_spec_preferences.specs.Formatters.{
+ghost use Rattle.iloc_spec_parts.specs.Formatters.{
   format_preferences,
   is_strict_format,
   merge_format,
@@ -83,8 +83,8 @@ impl FormatPreferences {
 /// `und`, and nothing else.
 impl Default for FormatPreferences {
     ghost use Rattle.std.specs.Prelude.{◌≡◌};
-    ghost use Rattle.iloc_spec_preferences.specs.Formatters.{plain_format, plain_time};
-    ghost use Rattle.iloc_spec_preferences.specs.Preferences.{default_preferences};
+    ghost use Rattle.iloc_spec_parts.specs.Formatters.{plain_format, plain_time};
+    ghost use Rattle.iloc_spec_parts.specs.Preferences.{default_preferences};
     ghost use Rattle.iloc_data.specs.FormatterValues.{format_value};
 
     ghost is_default = { λ p. format_value p ≡ plain_format (plain_time default_preferences) };
@@ -98,7 +98,7 @@ impl Default for FormatPreferences {
 impl From<&Locale> for FormatPreferences {
     ghost use Rattle.std.specs.Prelude.{◌≡◌};
     ghost use Rattle.iloc_locale.specs.LocaleReading.{value_of as locale_value};
-    ghost use Rattle.iloc_spec_preferences.specs.Formatters.{format_preferences};
+    ghost use Rattle.iloc_spec_parts.specs.Formatters.{format_preferences};
     ghost use Rattle.iloc_data.specs.FormatterValues.{format_value};
 
     ghost from_gives = { λ locale p. format_value p
@@ -118,7 +118,7 @@ impl From<&Locale> for FormatPreferences {
 impl From<Locale> for FormatPreferences {
     ghost use Rattle.std.specs.Prelude.{◌≡◌};
     ghost use Rattle.iloc_locale.specs.LocaleReading.{value_of as locale_value};
-    ghost use Rattle.iloc_spec_preferences.specs.Formatters.{format_preferences};
+    ghost use Rattle.iloc_spec_parts.specs.Formatters.{format_preferences};
     ghost use Rattle.iloc_data.specs.FormatterValues.{format_value};
 
     ghost from_gives = { λ locale p. format_value p ≡ format_preferences (locale_value locale) };
@@ -132,8 +132,8 @@ impl From<Locale> for FormatPreferences {
 impl From<&LanguageIdentifier> for FormatPreferences {
     ghost use Rattle.std.specs.Prelude.{◌≡◌};
     ghost use Rattle.iloc_langid.specs.Reads.{value_of as identifier_of};
-    ghost use Rattle.iloc_spec_preferences.specs.Preferences.{identifier_preferences};
-    ghost use Rattle.iloc_spec_preferences.specs.Formatters.{plain_format, plain_time};
+    ghost use Rattle.iloc_spec_parts.specs.Preferences.{identifier_preferences};
+    ghost use Rattle.iloc_spec_parts.specs.Formatters.{plain_format, plain_time};
     ghost use Rattle.iloc_data.specs.FormatterValues.{format_value};
 
     ghost from_gives = { λ langid p. format_value p
@@ -148,8 +148,8 @@ impl From<&LanguageIdentifier> for FormatPreferences {
 impl From<LanguageIdentifier> for FormatPreferences {
     ghost use Rattle.std.specs.Prelude.{◌≡◌};
     ghost use Rattle.iloc_langid.specs.Reads.{value_of as identifier_of};
-    ghost use Rattle.iloc_spec_preferences.specs.Preferences.{identifier_preferences};
-    ghost use Rattle.iloc_spec_preferences.specs.Formatters.{plain_format, plain_time};
+    ghost use Rattle.iloc_spec_parts.specs.Preferences.{identifier_preferences};
+    ghost use Rattle.iloc_spec_parts.specs.Formatters.{plain_format, plain_time};
     ghost use Rattle.iloc_data.specs.FormatterValues.{format_value};
 
     ghost from_gives = { λ langid p. format_value p

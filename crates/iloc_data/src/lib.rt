@@ -2,7 +2,7 @@
 //!
 //! A data locale has a language, and perhaps a script, a region, a variant and a subdivision of the region. A text
 //! means one if it is small and its keyword, if there is one, is `sd` with a readable subdivision (UTS #35, section
-//! 3.6.5). Such a text is parsed without an allocation, as the definitions of `iloc_spec_preferences` say. Every
+//! 3.6.5). Such a text is parsed without an allocation, as the definitions of `iloc_spec_parts` say. Every
 //! other text is refused with the fault that they name. What was parsed prints a text that parses back as it. Two
 //! data locales are equal, tie and hash alike if they stand for the same: a subdivision that can be parsed counts
 //! before the region, and a region alone stands for the whole region.
@@ -21,8 +21,8 @@
 
 ghost use Rattle.std.specs.Prelude.{◌≡◌, ◌≤◌, Some, None, option_map};
 ghost use Rattle.iloc_spec_grammar.specs.Syntax.{languages};
-ghost use Rattle.iloc_spec_preferences.specs.DataLocales as parts;
-ghost use Rattle.iloc_spec_preferences.specs.DataLocales.{data_key, IsDataLocale};
+ghost use Rattle.iloc_spec_parts.specs.DataLocales as parts;
+ghost use Rattle.iloc_spec_parts.specs.DataLocales.{data_key, IsDataLocale};
 ghost use Rattle.iloc_data.specs.DataValue.{unknown_data};
 ghost use Rattle.iloc_data.specs.DataParents.{
   region_of,

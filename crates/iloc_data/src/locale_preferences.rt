@@ -1,7 +1,7 @@
 //! What locales say of language, script, region and variant: how it is parsed, extended, and made a data locale.
 ghost use Rattle.std.specs.Prelude.{◌≡◌, true, false, MatchResult};
 ghost use Rattle.iloc_locale.specs.LocaleReading.{value_of as locale_value};
-ghost use Rattle.iloc_spec_preferences.specs.Preferences.{
+ghost use Rattle.iloc_spec_parts.specs.Preferences.{
   Preferences,
   preferences,
   default_preferences,
@@ -42,7 +42,7 @@ pub struct LocalePreferences {
 }
 
 impl Model for LocalePreferences {
-    ghost use Rattle.iloc_spec_preferences.specs.Preferences.{Preferences};
+    ghost use Rattle.iloc_spec_parts.specs.Preferences.{Preferences};
 
     ghost Value = { Preferences };
 
@@ -189,7 +189,7 @@ fn merged_region(
 impl From<&Locale> for LocalePreferences {
     ghost use Rattle.std.specs.Prelude.{◌≡◌};
     ghost use Rattle.iloc_locale.specs.LocaleReading.{value_of as locale_value};
-    ghost use Rattle.iloc_spec_preferences.specs.Preferences.{preferences};
+    ghost use Rattle.iloc_spec_parts.specs.Preferences.{preferences};
 
     ghost from_gives = { λ locale p. p ≡ preferences (locale_value locale.now) };
 
@@ -205,7 +205,7 @@ impl From<&Locale> for LocalePreferences {
 impl From<&LanguageIdentifier> for LocalePreferences {
     ghost use Rattle.std.specs.Prelude.{◌≡◌};
     ghost use Rattle.iloc_langid.specs.Reads.{value_of as identifier_of};
-    ghost use Rattle.iloc_spec_preferences.specs.Preferences.{identifier_preferences};
+    ghost use Rattle.iloc_spec_parts.specs.Preferences.{identifier_preferences};
 
     ghost from_gives = { λ langid p. p ≡ identifier_preferences (identifier_of langid.now) };
 
@@ -223,7 +223,7 @@ impl From<&LanguageIdentifier> for LocalePreferences {
 /// `und`, and nothing else.
 impl Default for LocalePreferences {
     ghost use Rattle.std.specs.Prelude.{◌≡◌};
-    ghost use Rattle.iloc_spec_preferences.specs.Preferences.{default_preferences};
+    ghost use Rattle.iloc_spec_parts.specs.Preferences.{default_preferences};
 
     ghost is_default = { λ p. p ≡ default_preferences };
 

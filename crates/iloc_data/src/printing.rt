@@ -5,7 +5,7 @@ use std::fmt;
 
 /// The pieces are language, script, region, variant, and `u`, `sd` and the value of a subdivision that is printed.
 impl Pieces for DataLocale {
-    ghost use Rattle.iloc_spec_preferences.specs.DataLocales.{data_pieces};
+    ghost use Rattle.iloc_spec_parts.specs.DataLocales.{data_pieces};
     ghost use Rattle.iloc_data.specs.DataValue.{value_of};
 
     ghost pieces = { λ d. data_pieces (value_of d) };
@@ -35,7 +35,7 @@ impl Pieces for DataLocale {
 /// and not a whole region, joined by hyphens. It is borrowed if there is a language and nothing else.
 impl Writeable for DataLocale {
     ghost use Rattle.std.specs.Prelude.{◌≡◌, None};
-    ghost use Rattle.iloc_spec_preferences.specs.DataLocales.{data_text};
+    ghost use Rattle.iloc_spec_parts.specs.DataLocales.{data_text};
     ghost use Rattle.iloc_data.specs.DataValue.{value_of};
 
     ghost text = { λ d. data_text (value_of d) };
@@ -64,7 +64,7 @@ impl Writeable for DataLocale {
 /// Prints the text between `DataLocale{` and `}`.
 impl fmt::Debug for DataLocale {
     ghost use Rattle.std.specs.Prelude.{Some, ◌++◌, codes};
-    ghost use Rattle.iloc_spec_preferences.specs.DataLocales.{data_text};
+    ghost use Rattle.iloc_spec_parts.specs.DataLocales.{data_text};
     ghost use Rattle.iloc_data.specs.DataValue.{value_of};
 
     ghost debug_output = { λ d. Some (codes "DataLocale{" ++ data_text (value_of d) ++ codes "}") };
@@ -76,7 +76,7 @@ impl fmt::Debug for DataLocale {
 
 impl fmt::Display for DataLocale {
     ghost use Rattle.std.specs.Prelude.{Some};
-    ghost use Rattle.iloc_spec_preferences.specs.DataLocales.{data_text};
+    ghost use Rattle.iloc_spec_parts.specs.DataLocales.{data_text};
     ghost use Rattle.iloc_data.specs.DataValue.{value_of};
 
     ghost output = { λ d. Some (data_text (value_of d)) };

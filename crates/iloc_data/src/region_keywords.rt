@@ -1,8 +1,8 @@
 //! What the keywords `sd` and `rg` of a locale say.
 ghost use Rattle.std.specs.Prelude.{◌≡◌};
 ghost use Rattle.iloc_locale.specs.LocaleReading.{value_of as locale_value};
-ghost use Rattle.iloc_spec_preferences.specs.Keywords.{subdivision_reads};
-ghost use Rattle.iloc_spec_preferences.specs.Preferences.{is_readable, read_keyword};
+ghost use Rattle.iloc_spec_parts.specs.Keywords.{subdivision_reads};
+ghost use Rattle.iloc_spec_parts.specs.Preferences.{is_readable, read_keyword};
 
 use iloc_keyword_types::{KeywordKind, SubdivisionId, SubdivisionKeyword};
 use iloc_locale::Locale;

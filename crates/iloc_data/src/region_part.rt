@@ -8,8 +8,8 @@ ghost use Rattle.std.specs.Prelude.{
   Some,
   None,
 };
-ghost use Rattle.iloc_spec_preferences.specs.DataLocales as parts;
-ghost use Rattle.iloc_spec_preferences.specs.DataLocales.{
+ghost use Rattle.iloc_spec_parts.specs.DataLocales as parts;
+ghost use Rattle.iloc_spec_parts.specs.DataLocales.{
   named_subdivision,
   subdivision_keyword,
   subdivision_value,

@@ -1,7 +1,7 @@
 //! Preferences of a time formatter.
 ghost use Rattle.std.specs.Prelude.{◌≡◌, true, false, MatchResult};
 ghost use Rattle.iloc_locale.specs.LocaleReading.{value_of as locale_value};
-ghost use Rattle.iloc_spec_preferences.specs.Formatters.{
+ghost use Rattle.iloc_spec_parts.specs.Formatters.{
   is_strict_time,
   merge_time,
   time_preferences,
@@ -68,8 +68,8 @@ impl TimePreferences {
 /// `und`, and nothing else.
 impl Default for TimePreferences {
     ghost use Rattle.std.specs.Prelude.{◌≡◌};
-    ghost use Rattle.iloc_spec_preferences.specs.Formatters.{plain_time};
-    ghost use Rattle.iloc_spec_preferences.specs.Preferences.{default_preferences};
+    ghost use Rattle.iloc_spec_parts.specs.Formatters.{plain_time};
+    ghost use Rattle.iloc_spec_parts.specs.Preferences.{default_preferences};
     ghost use Rattle.iloc_data.specs.FormatterValues.{time_value};
 
     ghost is_default = { λ p. time_value p ≡ plain_time default_preferences };
@@ -87,7 +87,7 @@ impl Default for TimePreferences {
 impl From<&Locale> for TimePreferences {
     ghost use Rattle.std.specs.Prelude.{◌≡◌};
     ghost use Rattle.iloc_locale.specs.LocaleReading.{value_of as locale_value};
-    ghost use Rattle.iloc_spec_preferences.specs.Formatters.{time_preferences};
+    ghost use Rattle.iloc_spec_parts.specs.Formatters.{time_preferences};
     ghost use Rattle.iloc_data.specs.FormatterValues.{time_value};
 
     ghost from_gives = { λ locale p. time_value p ≡ time_preferences (locale_value locale.now) };
@@ -105,7 +105,7 @@ impl From<&Locale> for TimePreferences {
 impl From<Locale> for TimePreferences {
     ghost use Rattle.std.specs.Prelude.{◌≡◌};
     ghost use Rattle.iloc_locale.specs.LocaleReading.{value_of as locale_value};
-    ghost use Rattle.iloc_spec_preferences.specs.Formatters.{time_preferences};
+    ghost use Rattle.iloc_spec_parts.specs.Formatters.{time_preferences};
     ghost use Rattle.iloc_data.specs.FormatterValues.{time_value};
 
     ghost from_gives = { λ locale p. time_value p ≡ time_preferences (locale_value locale) };
@@ -119,8 +119,8 @@ impl From<Locale> for TimePreferences {
 impl From<&LanguageIdentifier> for TimePreferences {
     ghost use Rattle.std.specs.Prelude.{◌≡◌};
     ghost use Rattle.iloc_langid.specs.Reads.{value_of as identifier_of};
-    ghost use Rattle.iloc_spec_preferences.specs.Preferences.{identifier_preferences};
-    ghost use Rattle.iloc_spec_preferences.specs.Formatters.{plain_time};
+    ghost use Rattle.iloc_spec_parts.specs.Preferences.{identifier_preferences};
+    ghost use Rattle.iloc_spec_parts.specs.Formatters.{plain_time};
     ghost use Rattle.iloc_data.specs.FormatterValues.{time_value};
 
     ghost from_gives = { λ langid p. time_value p
@@ -139,8 +139,8 @@ impl From<&LanguageIdentifier> for TimePreferences {
 impl From<LanguageIdentifier> for TimePreferences {
     ghost use Rattle.std.specs.Prelude.{◌≡◌};
     ghost use Rattle.iloc_langid.specs.Reads.{value_of as identifier_of};
-    ghost use Rattle.iloc_spec_preferences.specs.Preferences.{identifier_preferences};
-    ghost use Rattle.iloc_spec_preferences.specs.Formatters.{plain_time};
+    ghost use Rattle.iloc_spec_parts.specs.Preferences.{identifier_preferences};
+    ghost use Rattle.iloc_spec_parts.specs.Formatters.{plain_time};
     ghost use Rattle.iloc_data.specs.FormatterValues.{time_value};
 
     ghost from_gives = { λ langid p. time_value p

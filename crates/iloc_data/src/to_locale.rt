@@ -2,7 +2,7 @@
 ghost use Rattle.std.specs.Prelude.{◌≡◌, ◌≤◌, ◌++◌, true, length, IfOk, IsOk, codes};
 ghost use Rattle.iloc_spec_grammar.specs.Values.{IsWellFormed};
 ghost use Rattle.iloc_locale.specs.LocaleReading.{value_of as locale_value};
-ghost use Rattle.iloc_spec_preferences.specs.Preferences.{
+ghost use Rattle.iloc_spec_parts.specs.Preferences.{
   SpellsNoTrue,
   preferences,
   is_strict,

@@ -2,9 +2,9 @@
 ghost use Rattle.std.specs.Prelude.{IfSome};
 ghost use Rattle.iloc_spec_grammar.specs.Syntax.{languages};
 ghost use Rattle.iloc_spec_grammar.specs.Values.{IsNormal};
-ghost use Rattle.iloc_spec_preferences.specs.DataLocales.{IsDataLocale};
-ghost use Rattle.iloc_spec_preferences.specs.Subdivisions.{IsSubdivision};
-ghost use Rattle.iloc_spec_preferences.specs.Preferences.{IsPreferences};
+ghost use Rattle.iloc_spec_parts.specs.DataLocales.{IsDataLocale};
+ghost use Rattle.iloc_spec_parts.specs.Subdivisions.{IsSubdivision};
+ghost use Rattle.iloc_spec_parts.specs.Preferences.{IsPreferences};
 ghost use Rattle.iloc_data.specs.DataValue.{value_of};
 
 use crate::data_locale::DataLocale;

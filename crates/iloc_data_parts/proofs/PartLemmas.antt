@@ -6,9 +6,9 @@ use Rattle.std.specs.Result.{result_ok}
 use Rattle.iloc_spec_grammar.specs.Syntax.{Text, Subtag}
 use Rattle.iloc_spec_grammar.specs.Values.{IsNormal}
 use Rattle.iloc_word_list.specs.Values.{without_true}
-use Rattle.iloc_spec_preferences.specs.Subdivisions.{Subdivision, subdivision, subdivision_text}
-use Rattle.iloc_spec_preferences.specs.DataLocales.{is_whole, made_of, named_subdivision, subdivision_keyword}
-use Rattle.iloc_spec_preferences.specs.DataLocales.{subdivision_value}
+use Rattle.iloc_spec_parts.specs.Subdivisions.{Subdivision, subdivision, subdivision_text}
+use Rattle.iloc_spec_parts.specs.DataLocales.{is_whole, made_of, named_subdivision, subdivision_keyword}
+use Rattle.iloc_spec_parts.specs.DataLocales.{subdivision_value}
 use Rattle.iloc_data_parts.proofs.RegionLemmas.{printed_value}
 
 keyword_of : (s : Subdivision) (w : Text) (o : Option Subdivision) (b : Bool) → o ≡ Some s →

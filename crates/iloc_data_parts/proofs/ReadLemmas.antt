@@ -2,9 +2,9 @@
 use Rattle.std.proofs.Common.{◌≡◌, ℕ, List, Option, Some, None, ap, Ok, Err, option_map}
 use Rattle.iloc_spec_grammar.specs.Syntax.{Text, languages}
 use Rattle.iloc_langid.specs.SmallLocaleReads.{LocaleParts, small_locale_of, SmallLocaleTextReads}
-use Rattle.iloc_spec_preferences.specs.Subdivisions.{Subdivision}
-use Rattle.iloc_spec_preferences.specs.DataLocales as parts
-use Rattle.iloc_spec_preferences.specs.DataLocales.{DataMeans, not_small, no_subdivision, made_of, small_part}
+use Rattle.iloc_spec_parts.specs.Subdivisions.{Subdivision}
+use Rattle.iloc_spec_parts.specs.DataLocales as parts
+use Rattle.iloc_spec_parts.specs.DataLocales.{DataMeans, not_small, no_subdivision, made_of, small_part}
 use Rattle.iloc_subtags.specs.declared.parse_error.ParseError.{ParseError}
 use Rattle.iloc_subtags.specs.declared.parse_error.ParseError.TheVariants.{InvalidLanguage, InvalidSubtag}
 use Rattle.iloc_subtags.specs.declared.parse_error.ParseError.TheVariants.{InvalidExtension}

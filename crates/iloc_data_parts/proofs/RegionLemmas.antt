@@ -5,7 +5,7 @@ use Rattle.std.specs.Cmp.Lexicographic.{pointwise, texts_ties}
 use Rattle.iloc_spec_grammar.specs.Syntax.{Text, Subtag, is_same, is_true}
 use Rattle.iloc_spec_grammar.specs.Values.{IsNormal}
 use Rattle.iloc_word_list.specs.Values.{without_true}
-use Rattle.iloc_spec_preferences.specs.DataLocales.{subdivision_value}
+use Rattle.iloc_spec_parts.specs.DataLocales.{subdivision_value}
 
 pub words_tie : (v w : Text) → pointwise nat_eq v w ≡ is_same v w
 words_tie v w = texts_ties v w

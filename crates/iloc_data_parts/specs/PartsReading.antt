@@ -1,8 +1,8 @@
 -- What the parts that a text names stand for, and what their reader answers.
 use Rattle.std.specs.Prelude.{Result}
 use Rattle.iloc_spec_grammar.specs.Syntax.{Text, languages}
-use Rattle.iloc_spec_preferences.specs.DataLocales as parts
-use Rattle.iloc_spec_preferences.specs.DataLocales.{DataMeans, HasDataFault, made_of}
+use Rattle.iloc_spec_parts.specs.DataLocales as parts
+use Rattle.iloc_spec_parts.specs.DataLocales.{DataMeans, HasDataFault, made_of}
 use Rattle.iloc_subtags.specs.declared.parse_error.ParseError.{ParseError}
 use Rattle.iloc_subtags.specs.Judging.{Answers}
 use Rattle.iloc_data_parts.specs.declared.parts.DataParts.{DataParts}

@@ -1,6 +1,6 @@
 //! The parts that a text names, their parser and their text.
 ghost use Rattle.std.specs.Prelude.{◌≡◌, option_map};
-ghost use Rattle.iloc_spec_preferences.specs.DataLocales.{subdivision_keyword, subdivision_value};
+ghost use Rattle.iloc_spec_parts.specs.DataLocales.{subdivision_keyword, subdivision_value};
 
 use crate::region::{is_whole, part_of};
 use iloc_keyword_types::SubdivisionId;
@@ -64,7 +64,7 @@ impl DataParts {
 
 /// The pieces are language, script, region, variant, and `u`, `sd` and the value of a subdivision that is printed.
 impl Pieces for DataParts {
-    ghost use Rattle.iloc_spec_preferences.specs.DataLocales.{data_pieces};
+    ghost use Rattle.iloc_spec_parts.specs.DataLocales.{data_pieces};
     ghost use Rattle.iloc_data_parts.specs.PartsReading.{value_of};
 
     ghost pieces = { λ p. data_pieces (value_of p) };
@@ -91,7 +91,7 @@ impl Pieces for DataParts {
 
 /// Prints the text of the data locale that is made of the parts.
 impl Writeable for DataParts {
-    ghost use Rattle.iloc_spec_preferences.specs.DataLocales.{data_text};
+    ghost use Rattle.iloc_spec_parts.specs.DataLocales.{data_text};
     ghost use Rattle.iloc_data_parts.specs.PartsReading.{value_of};
 
     ghost text = { λ p. data_text (value_of p) };

@@ -1,8 +1,8 @@
 //! What a region and a subdivision stand for together.
 ghost use Rattle.std.specs.Prelude.{◌≡◌, MatchResult, Some, None};
-ghost use Rattle.iloc_spec_preferences.specs.DataLocales as parts;
-ghost use Rattle.iloc_spec_preferences.specs.DataLocales.{named_subdivision, small_part};
-ghost use Rattle.iloc_spec_preferences.specs.Preferences.{preferred_region, same_region};
+ghost use Rattle.iloc_spec_parts.specs.DataLocales as parts;
+ghost use Rattle.iloc_spec_parts.specs.DataLocales.{named_subdivision, small_part};
+ghost use Rattle.iloc_spec_parts.specs.Preferences.{preferred_region, same_region};
 
 use iloc_keyword_types::SubdivisionId;
 use iloc_langid::SmallKeyword;

@@ -15,9 +15,9 @@ use Rattle.iloc_spec_grammar.proofs.PiecesLaws.{at_pieces}
 use Rattle.iloc_spec_grammar.proofs.ComputingLaws.{locale_answers, computed_means, computed_identifier}
 use Rattle.iloc_spec_grammar.proofs.ComputingLaws.{text_identifier_answers}
 use Rattle.iloc_spec_parts.specs.SmallComputing.{small_result, after_identifier, small_identifier_result}
-use Rattle.iloc_spec_preferences.specs.DataLocales.{DataMeans, HasDataFault}
-use Rattle.iloc_spec_preferences.specs.DataComputing.{data_of_result, data_result}
-use Rattle.iloc_spec_preferences.proofs.DataLaws.{data_answer, data_apart}
+use Rattle.iloc_spec_parts.specs.DataLocales.{DataMeans, HasDataFault}
+use Rattle.iloc_spec_parts.specs.DataComputing.{data_of_result, data_result}
+use Rattle.iloc_spec_parts.proofs.DataLaws.{data_answer, data_apart}
 use Rattle.iloc_normalize.specs.Modes.{IsFaulty}
 use Rattle.iloc_normalize.specs.declared.Mode.{Mode}
 use Rattle.iloc_normalize.specs.declared.Mode.TheVariants.{Langid, Locale, Data}

@@ -15,7 +15,7 @@ use Rattle.iloc_spec_grammar.specs.Syntax.{Text, languages, Language, Variant, U
 use Rattle.iloc_spec_grammar.specs.Syntax.{Attribute, PrivateSubtag, Subtag, is_word, lower, is_same, read}
 use Rattle.iloc_spec_grammar.specs.Syntax as kinds
 use Rattle.iloc_spec_grammar.proofs.WellRead.{attribute_is_word}
-use Rattle.iloc_spec_preferences.specs.DataLocales.{named_subdivision}
+use Rattle.iloc_spec_parts.specs.DataLocales.{named_subdivision}
 use Rattle.iloc_spec_grammar.proofs.MapLaws.{same_itself, same_is}
 use Rattle.iloc_spec_grammar.proofs.WordsLaws.{length-lower}
 use Rattle.iloc_spec_grammar.proofs.Singletons.{untied, self_tied}

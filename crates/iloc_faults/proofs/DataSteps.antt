@@ -18,8 +18,8 @@ use Rattle.iloc_spec_parts.specs.Small.{SmallIdentifier}
 use Rattle.iloc_spec_parts.specs.SmallComputing.{is_u, has_small_keyword, is_small_block, keyword_read}
 use Rattle.iloc_spec_parts.specs.SmallComputing.{small_identifier, small_identifier_result, blocks_result}
 use Rattle.iloc_spec_parts.specs.SmallComputing.{after_identifier, has_small_variants}
-use Rattle.iloc_spec_preferences.specs.DataLocales.{named_subdivision}
-use Rattle.iloc_spec_preferences.specs.DataComputing.{data_of_result}
+use Rattle.iloc_spec_parts.specs.DataLocales.{named_subdivision}
+use Rattle.iloc_spec_parts.specs.DataComputing.{data_of_result}
 use Rattle.iloc_normalize.specs.declared.Mode.TheVariants.{Data}
 use Rattle.iloc_faults.specs.declared.state.Part.TheVariants.{Head, Subdivision, SubdivisionKey}
 use Rattle.iloc_faults.specs.declared.state.Part.TheVariants.{SubdivisionValue}

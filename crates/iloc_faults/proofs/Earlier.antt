@@ -9,12 +9,12 @@ use Rattle.std.proofs.lemmas.List.Folds.{list_any-append}
 use Rattle.iloc_spec_grammar.specs.Syntax.{Text, join, first_piece, Variant, IsWord, lower, word_cmp}
 use Rattle.iloc_spec_grammar.proofs.PiecesLaws.{join-pieces, pieces_nonempty}
 use Rattle.iloc_spec_grammar.proofs.Singletons.{self_tied, untied}
-use Rattle.iloc_fronts.specs.Words.{word_number}
+use Rattle.iloc_pieces.specs.Words.{word_number}
 use Rattle.iloc_pieces.specs.Left.{IsRemainder, IsNextPiece, IsShortPiece, piece_left, pieces_left}
 use Rattle.iloc_pieces.specs.Left.{bytes_left}
 use Rattle.iloc_pieces.specs.declared.left.Left.{Left}
 use Rattle.iloc_pieces.proofs.LeftLemmas.{cut_after, length_rest, last_piece, short_variant}
-use Rattle.iloc_fronts.proofs.WordNumbers.{variant_fits, word_order}
+use Rattle.iloc_pieces.proofs.WordOrder.{variant_fits, word_order}
 use Rattle.iloc_faults.specs.States.{AreVariantsBetween}
 
 -- no variant is left between them

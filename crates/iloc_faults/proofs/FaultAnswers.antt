@@ -7,8 +7,8 @@ use Rattle.iloc_spec_grammar.specs.Meaning as grammar
 use Rattle.iloc_spec_grammar.proofs.PiecesLaws.{at_pieces, join-pieces}
 use Rattle.iloc_spec_grammar.proofs.PartTexts.{join-dashes}
 use Rattle.iloc_spec_grammar.proofs.RawLaws.{languages_table}
-use Rattle.iloc_spec_preferences.specs.DataLocales.{HasDataFault}
-use Rattle.iloc_spec_preferences.proofs.DataLaws.{data_apart}
+use Rattle.iloc_spec_parts.specs.DataLocales.{HasDataFault}
+use Rattle.iloc_spec_parts.proofs.DataLaws.{data_apart}
 use Rattle.iloc_subtags.specs.declared.parse_error.ParseError.{ParseError}
 use Rattle.iloc_subtags.specs.declared.parse_error.ParseError.TheVariants.{InvalidLanguage, InvalidSubtag}
 use Rattle.iloc_subtags.specs.declared.parse_error.ParseError.TheVariants.{InvalidExtension}

@@ -4,7 +4,7 @@ use Rattle.std.specs.Prelude.{◌≡◌, ◌⊎◌, ℕ, ◌+◌, List, [], ◌�
 use Rattle.iloc_spec_grammar.specs.Syntax.{Text, pieces, dashes, languages, Identifier}
 use Rattle.iloc_spec_grammar.specs.Meaning.{Means, IdentifierMeans}
 use Rattle.iloc_spec_grammar.specs.Meaning as grammar
-use Rattle.iloc_spec_preferences.specs.DataLocales.{DataLocale, DataMeans}
+use Rattle.iloc_spec_parts.specs.DataLocales.{DataLocale, DataMeans}
 use Rattle.iloc_normalize.specs.Answered.{HasRefusal}
 use Rattle.iloc_normalize.specs.declared.Mode.{Mode}
 use Rattle.iloc_normalize.specs.declared.Mode.TheVariants.{Langid, Locale, Data}

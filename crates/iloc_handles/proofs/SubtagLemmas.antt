@@ -1,5 +1,5 @@
 -- From what is read to whether it is a subtag.
-use Rattle.iloc_word_set.proofs.CollectorLaws.{ascending}
+use Rattle.iloc_word_list.proofs.CollectorLaws.{ascending}
 use Rattle.std.proofs.Common.{◌≡◌, ◌↔◌, ℕ, ◌<◌, List, [], ◌∷◌, Bool, true, false, IsTrue, Result, length}
 use Rattle.std.proofs.Common.{remove, refl, sym, ap, subst, ◌∙◌, true≢false}
 use Rattle.std.specs.Prelude.{MatchResult, not, filter, is_some}
@@ -12,8 +12,8 @@ use Rattle.std.specs.Ordering.{is_lt}
 use Rattle.iloc_spec_grammar.proofs.SetLaws.{marked}
 use Rattle.iloc_spec_grammar.specs.Syntax.{Text, Kind, IsWord, is_word, is_same, normal, read, word_cmp}
 use Rattle.iloc_spec_grammar.specs.Values.{StrictlyAscends}
-use Rattle.iloc_word_set.specs.Ascending.{ascends}
-use Rattle.iloc_word_set.proofs.SetLaws.{kept_all, search_old, search_removed, ascending-filter}
+use Rattle.iloc_word_list.specs.Ascending.{ascends}
+use Rattle.iloc_word_list.proofs.SetLaws.{kept_all, search_old, search_removed, ascending-filter}
 use Rattle.iloc_subtags.specs.declared.parse_error.ParseError.{ParseError}
 use Rattle.iloc_handles.specs.Subtags.{HasWord, without_word}
 use Rattle.iloc_handles.specs.Pairs.{HasKey}

@@ -2,11 +2,11 @@
 use Rattle.std.specs.Prelude.{ℕ, [], Option, codes, option_map, option_and_then, slice_get, unwrap_or}
 use Rattle.iloc_spec_grammar.specs.Syntax.{Text, join}
 use Rattle.iloc_spec_grammar.specs.Meaning.{Locale}
-use Rattle.iloc_spec_preferences.specs.DataLocales.{DataLocale}
-use Rattle.iloc_spec_preferences.specs.Preferences.{language_priority, preferences, read_keyword}
-use Rattle.iloc_spec_preferences.specs.Preferences.{region_priority}
-use Rattle.iloc_spec_preferences.specs.Keywords.{CalendarAlgorithm, HourCycle, enum_reads, enum_words, key}
-use Rattle.iloc_spec_preferences.specs.Keywords.{single, variants}
+use Rattle.iloc_spec_parts.specs.DataLocales.{DataLocale}
+use Rattle.iloc_spec_parts.specs.Preferences.{language_priority, preferences, read_keyword}
+use Rattle.iloc_spec_parts.specs.Preferences.{region_priority}
+use Rattle.iloc_spec_parts.specs.Keywords.{CalendarAlgorithm, HourCycle, enum_reads, enum_words, key}
+use Rattle.iloc_spec_parts.specs.Keywords.{single, variants}
 use Rattle.iloc_handles.specs.declared.data.Priority.{Priority}
 use Rattle.iloc_handles.specs.declared.data.Priority.TheVariants.{Language, Region}
 

@@ -8,7 +8,7 @@ use Rattle.iloc_spec_grammar.specs.Values.{identifier_text}
 use Rattle.iloc_spec_parts.specs.PartValues.{transform_value}
 use Rattle.iloc_spec_parts.specs.Parts.{PrivateText, PrivateTextFault}
 use Rattle.iloc_langid.specs.Reads.{IdentifierWantsMemory}
-use Rattle.iloc_fields.specs.ValueReading.{FieldValueTextWants}
+use Rattle.iloc_transform.specs.ValueReading.{FieldValueTextWants}
 use Rattle.iloc_other.specs.Reading.{PrivateTextWants}
 use Rattle.iloc_handles.specs.Finding.{Changing, Sets}
 use Rattle.iloc_handles.specs.Pairs.{Map}

@@ -1,7 +1,7 @@
 //! The attributes of a locale.
 ghost use Rattle.std.specs.Prelude.{◌≡◌, ◌<◌, ◌∷◌, [], true, IfOk, length, remove};
 ghost use Rattle.iloc_spec_grammar.specs.Syntax.{word_cmp};
-ghost use Rattle.iloc_word_set.specs.Ascending.{ascends};
+ghost use Rattle.iloc_word_list.specs.Ascending.{ascends};
 ghost use Rattle.iloc_handles.specs.Attributes.{AddsAttribute, RemovesAttribute, attributes_of};
 
 use crate::asking::Change;

@@ -8,9 +8,9 @@ use Rattle.std.specs.declared.cmp.Ordering.{Ordering}
 use Rattle.std.specs.declared.cmp.Ordering.TheVariants.{Less, Equal, Greater}
 use Rattle.std.specs.Cmp.Lexicographic.{slice_cmp, pointwise, texts_ties}
 use Rattle.iloc_spec_grammar.specs.Syntax.{Text, word_cmp, is_same}
-use Rattle.iloc_spec_preferences.specs.Keywords as keywords
-use Rattle.iloc_spec_preferences.specs.Keywords.{EnumValue, numbered, variants, further_readings, readings}
-use Rattle.iloc_spec_preferences.specs.Keywords.{hijri_kinds}
+use Rattle.iloc_spec_parts.specs.Keywords as keywords
+use Rattle.iloc_spec_parts.specs.Keywords.{EnumValue, numbered, variants, further_readings, readings}
+use Rattle.iloc_spec_parts.specs.Keywords.{hijri_kinds}
 use Rattle.iloc_keyword_types.specs.WordTables.{table_place}
 use Rattle.iloc_keyword_types.proofs.EnumLemmas.{variant, one_word, more_words, entry}
 use Rattle.iloc_keyword_types.specs.CalendarReading.{calendar_reads}

@@ -2,8 +2,8 @@
 use Rattle.std.proofs.Common.{◌≡◌, ℕ, List, [], ◌∷◌, Some, None, refl, ap, ◌∙◌, sym, codes, option_and_then}
 use Rattle.iloc_spec_grammar.specs.Syntax.{Text, Subtag, is_true, is_word, lower}
 use Rattle.iloc_spec_grammar.specs.Values.{IsNormal}
-use Rattle.iloc_spec_preferences.specs.Keywords as keywords
-use Rattle.iloc_spec_preferences.specs.Keywords.{variants, hijri_kinds, enum_reads, enum_gives}
+use Rattle.iloc_spec_parts.specs.Keywords as keywords
+use Rattle.iloc_spec_parts.specs.Keywords.{variants, hijri_kinds, enum_reads, enum_gives}
 use Rattle.iloc_word_list.specs.Values.{without_true}
 use Rattle.iloc_keyword_types.specs.WordTables.{word_at}
 use Rattle.iloc_keyword_types.specs.declared.hijri.HijriCalendarAlgorithm.{HijriCalendarAlgorithm}

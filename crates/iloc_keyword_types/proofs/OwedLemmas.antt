@@ -4,7 +4,7 @@ use Rattle.iloc_spec_grammar.specs.Meaning.{Fault}
 use Rattle.iloc_subtags.specs.declared.parse_error.ParseError.{ParseError}
 use Rattle.iloc_subtags.specs.Judging.{Accepts, Refuses}
 use Rattle.iloc_subtags.proofs.Judged.{Judges, told, accepts, refuses}
-use Rattle.iloc_spec_preferences.specs.Subdivisions.{Subdivision, subdivision}
+use Rattle.iloc_spec_parts.specs.Subdivisions.{Subdivision, subdivision}
 use Rattle.iloc_keyword_types.specs.Subdivisions.{SubdivisionTextReads}
 use Rattle.iloc_spec_grammar.specs.Syntax.{Text}
 

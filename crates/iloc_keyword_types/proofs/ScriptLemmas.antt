@@ -4,7 +4,7 @@ use Rattle.std.proofs.Common.{◌∙◌, arith, append-nil, append_assoc, true, 
 use Rattle.std.proofs.Common.{None}
 use Rattle.std.proofs.lemmas.List.{drop_all, drop_more, length_push}
 use Rattle.iloc_spec_grammar.specs.Syntax.{Text, Script, word}
-use Rattle.iloc_spec_preferences.specs.Keywords.{with_first, scripts_read}
+use Rattle.iloc_spec_parts.specs.Keywords.{with_first, scripts_read}
 
 -- the scripts so far, and what the rest reads as
 abbrev pub together : List Text → Option (List Text) → Option (List Text)

@@ -1,7 +1,7 @@
 -- Where the text of each calendar stands.
 use Rattle.std.specs.Prelude.{◌≡◌, Some, slice_get, refl}
-use Rattle.iloc_spec_preferences.specs.Keywords as keywords
-use Rattle.iloc_spec_preferences.specs.Keywords.{variants}
+use Rattle.iloc_spec_parts.specs.Keywords as keywords
+use Rattle.iloc_spec_parts.specs.Keywords.{variants}
 use Rattle.iloc_keyword_types.specs.WordTables.{word_at}
 use Rattle.iloc_keyword_types.specs.declared.calendar_algorithm.CalendarAlgorithm.{CalendarAlgorithm}
 use Rattle.iloc_keyword_types.specs.declared.calendar_algorithm.CalendarAlgorithm.TheVariants.{Buddhist}

@@ -3,8 +3,8 @@
 use denote.Enum.Declared.{tag_of}
 use Rattle.std.specs.Prelude.{ℕ, Option, None, option_map}
 use Rattle.iloc_spec_grammar.specs.Syntax.{Text, join}
-use Rattle.iloc_spec_preferences.specs.Keywords as keywords
-use Rattle.iloc_spec_preferences.specs.Keywords.{EnumValue, enum_words}
+use Rattle.iloc_spec_parts.specs.Keywords as keywords
+use Rattle.iloc_spec_parts.specs.Keywords.{EnumValue, enum_words}
 use Rattle.iloc_keyword_types.specs.declared.calendar_algorithm.CalendarAlgorithm.{CalendarAlgorithm}
 use Rattle.iloc_keyword_types.specs.declared.calendar_algorithm.CalendarAlgorithm.TheVariants.{Hijri}
 use Rattle.iloc_keyword_types.specs.contracts.calendar_algorithm.CalendarAlgorithm.{the_type}

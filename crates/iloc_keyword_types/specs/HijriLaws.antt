@@ -1,6 +1,6 @@
 -- Where the text of each kind of Hijri calendar stands.
 use Rattle.std.specs.Prelude.{◌≡◌, Some, slice_get, refl}
-use Rattle.iloc_spec_preferences.specs.Keywords.{hijri_kinds}
+use Rattle.iloc_spec_parts.specs.Keywords.{hijri_kinds}
 use Rattle.iloc_keyword_types.specs.WordTables.{word_at}
 use Rattle.iloc_keyword_types.specs.declared.hijri.HijriCalendarAlgorithm.{HijriCalendarAlgorithm}
 use Rattle.iloc_keyword_types.specs.declared.hijri.HijriCalendarAlgorithm.TheVariants.{Umalqura, Tbla, Civil}

@@ -1,7 +1,7 @@
 -- What the parser of a list of scripts returns. This library's rule.
 use Rattle.std.specs.Prelude.{◌≡◌, ◌<◌, List, length, Some, None, Result, Ok, Err}
 use Rattle.iloc_spec_grammar.specs.Syntax.{Text}
-use Rattle.iloc_spec_preferences.specs.Keywords.{scripts_read}
+use Rattle.iloc_spec_parts.specs.Keywords.{scripts_read}
 use Rattle.iloc_word_list.specs.declared.errors.PreferencesParseError.{PreferencesParseError}
 use Rattle.iloc_word_list.specs.declared.errors.PreferencesParseError.TheVariants.{InvalidKeywordValue}
 use Rattle.iloc_word_list.specs.declared.errors.PreferencesParseError.TheVariants.{OutOfMemory}

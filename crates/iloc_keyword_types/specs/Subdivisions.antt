@@ -1,7 +1,7 @@
 -- What a text is read as, as a subdivision.
 use Rattle.std.specs.Prelude.{◌≡◌, Result, Ok, Err}
 use Rattle.iloc_spec_grammar.specs.Syntax.{Text}
-use Rattle.iloc_spec_preferences.specs.Subdivisions.{Subdivision, subdivision}
+use Rattle.iloc_spec_parts.specs.Subdivisions.{Subdivision, subdivision}
 use Rattle.iloc_subtags.specs.declared.parse_error.ParseError.{ParseError}
 use Rattle.iloc_subtags.specs.Judging.{Answers}
 

@@ -1,6 +1,6 @@
 //! Calendars.
 ghost use Rattle.std.specs.Prelude.{◌≡◌, Some, None, option_map};
-ghost use Rattle.iloc_spec_preferences.specs.Keywords.{CalendarAlgorithm as the_keyword, variants};
+ghost use Rattle.iloc_spec_parts.specs.Keywords.{CalendarAlgorithm as the_keyword, variants};
 ghost use Rattle.iloc_tinystr.specs.Number.{number};
 ghost use Rattle.iloc_keyword_types.specs.WordTables.{word_at};
 ghost use Rattle.iloc_keyword_types.specs.Hijri.{kind_place};

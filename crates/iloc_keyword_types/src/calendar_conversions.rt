@@ -1,6 +1,6 @@
 //! Calendars as values of their keyword.
 ghost use Rattle.std.specs.Prelude.{◌≡◌, ℕ, List, [], ◌∷◌, Some, IfOk, option_map};
-ghost use Rattle.iloc_spec_preferences.specs.Keywords.{
+ghost use Rattle.iloc_spec_parts.specs.Keywords.{
   CalendarAlgorithm as the_keyword,
   key as key_of_keyword,
   enum_reads,

@@ -1,6 +1,6 @@
 //! The kinds of Hijri calendars.
 ghost use Rattle.std.specs.Prelude.{◌≡◌};
-ghost use Rattle.iloc_spec_preferences.specs.Keywords.{hijri_kinds};
+ghost use Rattle.iloc_spec_parts.specs.Keywords.{hijri_kinds};
 ghost use Rattle.iloc_tinystr.specs.Number.{number};
 ghost use Rattle.iloc_keyword_types.specs.WordTables.{word_at};
 ghost use Rattle.iloc_keyword_types.specs.Hijri.{kind_place};

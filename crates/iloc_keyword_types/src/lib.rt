@@ -12,14 +12,14 @@
 //! definitions say, and turned into the value that they say. Only the list of scripts may allocate: to be parsed
 //! from more than four, and to be turned into a value.
 //!
-//! It stands on the definitions of keywords and of regions (`iloc_spec_preferences`), on subtags and on values
+//! It stands on the definitions of keywords and of regions (`iloc_spec_parts`), on subtags and on values
 //! (`iloc_subtags`, `iloc_word_list`).
 #![tactic(auto)]
 
 ghost use Rattle.std.specs.Prelude.{◌≡◌, ◌↔◌, true};
 ghost use Rattle.std.specs.Ordering.{on, then_cmp};
 ghost use Rattle.iloc_spec_grammar.specs.Syntax.{word_cmp};
-ghost use Rattle.iloc_spec_preferences.specs.DataHashes.{subdivision_fed};
+ghost use Rattle.iloc_spec_parts.specs.DataHashes.{subdivision_fed};
 
 use std::hash::Hash;
 

@@ -1,7 +1,7 @@
 //! A keyword whose value is a list of scripts.
 ghost use Rattle.std.specs.Prelude.{◌≡◌, Some, IfOk, codes};
 ghost use Rattle.iloc_spec_grammar.specs.Syntax.{word, Script as the_kind};
-ghost use Rattle.iloc_spec_preferences.specs.Keywords.{scripts_give};
+ghost use Rattle.iloc_spec_parts.specs.Keywords.{scripts_give};
 ghost use Rattle.iloc_keyword_types.specs.Reads.{ReadsUnder};
 ghost use Rattle.iloc_keyword_types.specs.Scripts.{ReadsScripts};
 

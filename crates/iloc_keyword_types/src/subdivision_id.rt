@@ -20,7 +20,7 @@ pub struct SubdivisionId {
 }
 
 impl Model for SubdivisionId {
-    ghost use Rattle.iloc_spec_preferences.specs.Subdivisions.{Subdivision};
+    ghost use Rattle.iloc_spec_parts.specs.Subdivisions.{Subdivision};
 
     ghost Value = { Subdivision };
 
@@ -30,7 +30,7 @@ impl Model for SubdivisionId {
 }
 
 impl SubdivisionId {
-    ghost use Rattle.iloc_spec_preferences.specs.Subdivisions.{Subdivision, subdivision, subdivision_text};
+    ghost use Rattle.iloc_spec_parts.specs.Subdivisions.{Subdivision, subdivision, subdivision_text};
     ghost use Rattle.iloc_keyword_types.specs.Subdivisions.{SubdivisionTextReads};
 
     /// The subdivision of that region with that suffix.
@@ -111,7 +111,7 @@ impl FromStr for SubdivisionId {
 
 /// Prints region and suffix in lower case, without a hyphen.
 impl Writeable for SubdivisionId {
-    ghost use Rattle.iloc_spec_preferences.specs.Subdivisions.{subdivision_text};
+    ghost use Rattle.iloc_spec_parts.specs.Subdivisions.{subdivision_text};
 
     ghost text = { subdivision_text };
 
@@ -125,7 +125,7 @@ impl Writeable for SubdivisionId {
 }
 
 impl fmt::Display for SubdivisionId {
-    ghost use Rattle.iloc_spec_preferences.specs.Subdivisions.{subdivision_text};
+    ghost use Rattle.iloc_spec_parts.specs.Subdivisions.{subdivision_text};
 
     ghost output = { λ s. Some (subdivision_text s) };
 

@@ -1,6 +1,6 @@
 //! Keywords that stand for a subdivision: of the region, and of the region in its place.
 ghost use Rattle.std.specs.Prelude.{codes};
-ghost use Rattle.iloc_spec_preferences.specs.Keywords.{subdivision_reads, subdivision_gives};
+ghost use Rattle.iloc_spec_parts.specs.Keywords.{subdivision_reads, subdivision_gives};
 
 use crate::single_keyword::{KeywordKind, SingleKeyword, SubtagContent};
 use crate::{SubdivisionId, known_keys};

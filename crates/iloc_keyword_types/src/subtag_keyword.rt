@@ -1,7 +1,7 @@
 //! Keywords that stand for the subtag of their value: numbering systems and time zones.
 ghost use Rattle.std.specs.Prelude.{codes};
 ghost use Rattle.iloc_spec_parts.specs.SingleValues.{single};
-ghost use Rattle.iloc_spec_preferences.specs.Keywords.{subtag_gives};
+ghost use Rattle.iloc_spec_parts.specs.Keywords.{subtag_gives};
 
 use crate::known_keys;
 use crate::single_keyword::{KeywordKind, SingleKeyword, SubtagContent};

@@ -1,7 +1,7 @@
 //! Enums of which each variant has a word, and how a variant is found by its word.
 ghost use Rattle.std.specs.Prelude.{◌≡◌, ℕ, List, Some, map, option_map, find, nat_eq, slice_get};
 ghost use Rattle.std.specs.Cmp.Lexicographic.{pointwise};
-ghost use Rattle.iloc_spec_preferences.specs.Keywords.{numbered};
+ghost use Rattle.iloc_spec_parts.specs.Keywords.{numbered};
 ghost use Rattle.iloc_keyword_types.specs.WordTables.{table_place, word_at};
 
 /// An enum of which each variant has a word of its own.

@@ -10,7 +10,7 @@ use Rattle.iloc_subtags.specs.declared.parse_error.ParseError.{ParseError}
 use Rattle.iloc_subtags.specs.declared.parse_error.ParseError.TheVariants.{InvalidLanguage, InvalidSubtag}
 use Rattle.iloc_subtags.specs.declared.parse_error.ParseError.TheVariants.{InvalidExtension}
 use Rattle.iloc_subtags.specs.declared.parse_error.ParseError.TheVariants.{DuplicatedExtension, OutOfMemory}
-use Rattle.iloc_fronts.specs.Front.{HasNoLanguage}
+use Rattle.iloc_pieces.specs.Front.{HasNoLanguage}
 use Rattle.iloc_langid.specs.declared.identifier.LanguageIdentifier.{LanguageIdentifier}
 use Rattle.iloc_langid.specs.declared.plain.PlainParts.{PlainParts}
 use Rattle.iloc_langid.specs.PlainReads.{IsPlainFront}

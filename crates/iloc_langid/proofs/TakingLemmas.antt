@@ -23,7 +23,7 @@ use Rattle.iloc_spec_grammar.proofs.ReadWords.{IsNormal-normal}
 use Rattle.iloc_spec_grammar.proofs.ValuesLaws.{set_of_ascending}
 use Rattle.iloc_spec_grammar.proofs.WellRead.{set_of-ascending, all-set_of}
 use Rattle.iloc_subtags.proofs.TakingLemmas.{took, took_none}
-use Rattle.iloc_word_set.proofs.CollectorLaws.{permuted_set, differ, taken_in, known_there, one_more}
+use Rattle.iloc_word_list.proofs.CollectorLaws.{permuted_set, differ, taken_in, known_there, one_more}
 use Rattle.iloc_subtags.specs.declared.parse_error.ParseError.{ParseError}
 use Rattle.iloc_subtags.specs.declared.parse_error.ParseError.TheVariants.{InvalidLanguage, InvalidSubtag}
 use Rattle.iloc_subtags.specs.declared.parse_error.ParseError.TheVariants.{InvalidExtension}

@@ -3,7 +3,7 @@ ghost use Rattle.std.specs.Prelude.{◌≡◌};
 
 use crate::identifier::LanguageIdentifier;
 use iloc_subtags::{Language, Region, Script};
-use iloc_word_set::Variants;
+use iloc_word_list::Variants;
 
 /// The language alone.
 impl From<Language> for LanguageIdentifier {

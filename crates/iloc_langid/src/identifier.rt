@@ -12,7 +12,7 @@ ghost use Rattle.iloc_langid.specs.Unknown.{unknown_identifier};
 
 use crate::reader::{fill_short, fill_text, read_head};
 use iloc_subtags::{Language, ParseError, Region, Script, SubtagIterator, WordKind, WordOf};
-use iloc_word_set::Variants;
+use iloc_word_list::Variants;
 use iloc_writeable::{Pieces, Sink, Writeable, cmp_utf8};
 use std::alloc::{AllocError, Global};
 use std::borrow::CowStr;

@@ -5,7 +5,7 @@ ghost use Rattle.iloc_langid.specs.Parents.{but_last, parent_of, part_count};
 
 use crate::identifier::LanguageIdentifier;
 use iloc_subtags::Language;
-use iloc_word_set::Variants;
+use iloc_word_list::Variants;
 
 impl LanguageIdentifier {
     /// Takes away the last part of the printed text: the last variant, else the region, else the script, else

@@ -4,7 +4,7 @@ ghost use Rattle.iloc_spec_grammar.specs.Syntax.{first_piece, Language as langua
 ghost use Rattle.iloc_subtags.specs.Left.{left};
 ghost use Rattle.iloc_langid.specs.PlainReads.{IsPlainFront};
 
-use iloc_plain::read_lanes;
+use iloc_pieces::read_lanes;
 use iloc_subtags::{
     Language, LanguageKind, Region, RegionKind, Script, ScriptKind, SubtagIterator,
     subtag_of_normal, take_word,
@@ -38,7 +38,7 @@ pub(crate) fn take_plain(iter: &mut SubtagIterator<'_>) -> Option<PlainParts>
     })
 }
 
-/// The subtags of the first bytes if they are a plain text (`iloc_plain`). `None` says nothing of them.
+/// The subtags of the first bytes if they are a plain text (`iloc_pieces`). `None` says nothing of them.
 #[inline(always)]
 pub(crate) fn plain_parts(v: u8x16, len: usize) -> Option<PlainParts>
     requires { len ≤ 16 }

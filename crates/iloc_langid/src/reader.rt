@@ -5,20 +5,20 @@ ghost use Rattle.iloc_spec_grammar.specs.Syntax.{pieces, head, languages};
 ghost use Rattle.iloc_spec_grammar.specs.Meaning.{IdentifierMeans};
 ghost use Rattle.iloc_spec_grammar.specs.Reading.{after_head};
 ghost use Rattle.iloc_subtags.specs.Left.{left};
-ghost use Rattle.iloc_fronts.specs.Front.{HasNoLanguage};
+ghost use Rattle.iloc_pieces.specs.Front.{HasNoLanguage};
 ghost use Rattle.iloc_subtags.specs.Judging.{RunsOutOnlyIf};
 ghost use Rattle.iloc_langid.specs.Reads.{value_of, VariantsReads, FrontComputed, FrontReads, IdentifierReads, IdentifierWantsMemory};
 ghost use Rattle.iloc_langid.specs.Unknown.{unknown_identifier};
 
 use crate::identifier::LanguageIdentifier;
 use crate::plain::{plain_parts, take_plain};
-use iloc_fronts::begins_with_language;
-use iloc_plain::load::load;
+use iloc_pieces::begins_with_language;
+use iloc_pieces::load::load;
 use iloc_subtags::{
     ParseError, SubtagIterator, VariantKind, WordKind, WordOf, is_at_block, next_has_length,
     take_word,
 };
-use iloc_word_set::{Variants, WordCollector};
+use iloc_word_list::{Variants, WordCollector};
 use std::alloc::Global;
 
 // Takes the variants that stand at the front, in place of those before. A set of n variants costs

@@ -13,8 +13,8 @@ ghost use Rattle.iloc_langid.specs.BlockReads.{
 
 use crate::plain::plain_parts;
 use crate::small::read_small_front;
-use iloc_fronts::begins_with_language;
-use iloc_plain::load::load;
+use iloc_pieces::begins_with_language;
+use iloc_pieces::load::load;
 use iloc_subtags::{
     Attribute, AttributeKind, Language, ParseError, Region, Script, Subtag, SubtagIterator,
     UnicodeKey, UnicodeKeyKind, Variant, is_at_block, subtag_of, take_byte, take_word,

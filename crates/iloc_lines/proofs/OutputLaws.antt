@@ -9,9 +9,9 @@ use Rattle.iloc_spec_grammar.proofs.IdentifierLaws as identifiers
 use Rattle.iloc_spec_grammar.proofs.IdentifierTexts.{identifier_apart, one_identifier_fault}
 use Rattle.iloc_spec_grammar.proofs.SameMeaning as locales
 use Rattle.iloc_spec_grammar.proofs.SameFaults.{accepted_no_fault, one_fault}
-use Rattle.iloc_spec_preferences.specs.DataLocales.{DataMeans, HasDataFault, data_text}
-use Rattle.iloc_spec_preferences.specs.DataComputing.{data_result}
-use Rattle.iloc_spec_preferences.proofs.DataLaws.{data_answer, one_data, data_apart, one_data_fault}
+use Rattle.iloc_spec_parts.specs.DataLocales.{DataMeans, HasDataFault, data_text}
+use Rattle.iloc_spec_parts.specs.DataComputing.{data_result}
+use Rattle.iloc_spec_parts.proofs.DataLaws.{data_answer, one_data, data_apart, one_data_fault}
 use Rattle.iloc_spec_grammar.specs.Computing.{identifier_result, locale_result}
 use Rattle.iloc_lines.specs.Lines.{lines_of, ended}
 use Rattle.iloc_lines.specs.Answers.{refusal, IsAnswer, IsOutput, text_or_refusal, line_answer, reply, output}

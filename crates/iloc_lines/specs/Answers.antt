@@ -5,8 +5,8 @@ use Rattle.iloc_spec_grammar.specs.Syntax.{Text, LanguageLengths, pieces}
 use Rattle.iloc_spec_grammar.specs.Meaning.{Fault}
 use Rattle.iloc_spec_grammar.specs.Values.{identifier_text, text}
 use Rattle.iloc_spec_grammar.specs.Computing.{identifier_result, locale_result}
-use Rattle.iloc_spec_preferences.specs.DataLocales.{data_text}
-use Rattle.iloc_spec_preferences.specs.DataComputing.{data_result}
+use Rattle.iloc_spec_parts.specs.DataLocales.{data_text}
+use Rattle.iloc_spec_parts.specs.DataComputing.{data_result}
 use Rattle.iloc_subtags.specs.declared.parse_error.ParseError.{ParseError}
 use Rattle.iloc_subtags.specs.Judging.{error_of}
 use Rattle.iloc_subtags.specs.ParseError.{words_of}

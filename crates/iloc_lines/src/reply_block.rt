@@ -3,7 +3,7 @@ ghost use Rattle.std.specs.Prelude.{◌≡◌, ◌+◌, ◌≤◌, [], ◌∷◌
 
 use iloc_normalize::{Lead, Mode, Written, write_normal};
 use iloc_outline::spans::Spans;
-use iloc_plain::Plain;
+use iloc_pieces::Plain;
 use iloc_writeable::Sink;
 use std::alloc::{AllocError, Global};
 use std::cmp::max;
@@ -26,7 +26,7 @@ impl ReplyBlock {
     ghost use Rattle.iloc_lines.specs.Replies.{IsReplied};
     ghost use Rattle.iloc_normalize.specs.Answered.{IsLead};
     ghost use Rattle.iloc_spec_grammar.specs.Values.{identifier_text};
-    ghost use Rattle.iloc_plain.specs.Plain.{AreWords, value_of};
+    ghost use Rattle.iloc_pieces.specs.Plain.{AreWords, value_of};
 
     /// No bytes. It allocates nothing.
     pub fn new(alloc: Global) -> Self

@@ -85,31 +85,26 @@ told_text t u (M, m, e) = is_normalized t u M m e
 pub told_other : (t : Text) → IsNotNormal Locale t → NormalizingWantsMemory t
 told_other t (u, (M, m, e), other) = inr (M, m, λ s. other (s ∙ sym e))
 
--- A text against a well-formed value.
-module _ (t : Text) (M : meaning.Locale) (w : IsWellFormed M) where
-  -- the text of the value means it
-  pub own_text_means : true ≡ is_same (text M) t → Means languages t M
-  own_text_means e = subst (λ u. Means languages u M) (same_is (text M) t (sym e)) w
-
-  -- another text that is its own normal text does not
-  pub other_text_differs : false ≡ is_same (text M) t → IsNormalText languages Locale t t
+-- A text against a value.
+module _ (t : Text) (M : meaning.Locale) where
+  -- the normal text of a text that means it is its own
+  pub other_text_differs : (u : Text) → false ≡ is_same (text M) u → IsNormalText languages Locale t u
       → Means languages t M → ⊥
-  other_text_differs e (N, m, is) n =
-      let own : text M ≡ t = ap text (one_meaning languages_table t M N n m) ∙ sym is in
+  other_text_differs u e (N, m, is) n =
+      let own : text M ≡ u = ap text (one_meaning languages_table t M N n m) ∙ sym is in
       true≢false (sym (same_itself (text M)) ∙ ap (is_same (text M)) own ∙ sym e)
 
-  -- and each text does exactly if its normal text is that of the value
-  pub normal_text_tells : (u : Text) (same : Bool) → IsNormalText languages Locale t u
-      → same ≡ is_same (text M) u → IsTrue same ↔ Means languages t M
-  normal_text_tells u same (N, m, is) e = (
-    λ s.
-        let alike : text N ≡ text M = sym is ∙ sym (same_is (text M) u (sym e ∙ s)) in
+  -- and of a well-formed value, each text with that normal text means it
+  module _ (w : IsWellFormed M) where
+    pub own_text_means : true ≡ is_same (text M) t → Means languages t M
+    own_text_means e = subst (λ u. Means languages u M) (same_is (text M) t (sym e)) w
+
+    pub normal_text_means : (u : Text) → true ≡ is_same (text M) u → IsNormalText languages Locale t u
+        → Means languages t M
+    normal_text_means u e (N, m, is) =
+        let alike : text N ≡ text M = sym is ∙ sym (same_is (text M) u (sym e)) in
         let well : IsWellFormed N = means_again languages_table t N m in
-        subst (Means languages t) (same_text_same_value N M well w alike) m,
-    λ n.
-        let own : text M ≡ u = ap text (one_meaning languages_table t M N n m) ∙ sym is in
-        e ∙ sym (ap (is_same (text M)) own) ∙ same_itself (text M),
-  )
+        subst (Means languages t) (same_text_same_value N M well w alike) m
 
 -- a text that has a fault means nothing
 pub faulty_differs : (t : Text) (M : meaning.Locale) (f : ParseError) → HasRefusal Locale t f

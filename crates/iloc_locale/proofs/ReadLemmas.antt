@@ -28,7 +28,7 @@ use Rattle.iloc_langid.specs.Reads as langid
 use Rattle.iloc_langid.specs.Reads.{IdentifierReads}
 use Rattle.iloc_locale.specs.ExtensionsValue as extensions
 use Rattle.iloc_locale.specs.Whole.{BlocksReads}
-use Rattle.iloc_fronts.specs.Front.{HasNoLanguage, HasBlock}
+use Rattle.iloc_pieces.specs.Front.{HasNoLanguage, HasBlock}
 use Rattle.iloc_normalize.specs.declared.Mode.TheVariants as modes
 use Rattle.iloc_normalize.proofs.FrontAnswers.{no_language_refused}
 use Rattle.iloc_normalize.proofs.PlainAnswers.{means_alone}

@@ -61,11 +61,12 @@ impl Locale {
         ensures { IfSome result
             (λ same. IsTrue same ↔ Means languages text.now (value_of self.now)) }
     {
-        if !self.is_well_formed() {
-            return None;
-        }
         if self.strict_cmp(text).is_eq() {
-            return Some(true);
+            return if self.is_well_formed() {
+                Some(true)
+            } else {
+                None
+            };
         }
         if text.len() > MOST {
             return None;
@@ -73,7 +74,16 @@ impl Locale {
         let mut room = [0u8; ROOM];
         match answer(Mode::Locale, &in_window(text), text.len(), &mut room) {
             Answered::Normal(normal) if normal == text => Some(false),
-            Answered::Normal(normal) => Some(self.strict_cmp(normal).is_eq()),
+            Answered::Normal(normal) => {
+                if self.strict_cmp(normal).is_ne() {
+                    return Some(false);
+                }
+                if self.is_well_formed() {
+                    Some(true)
+                } else {
+                    None
+                }
+            }
             Answered::Refused(_) => Some(false),
             Answered::Nothing => None,
         }

@@ -65,6 +65,7 @@ impl Writeable for Locale {
         self.write_joined(sink)
     }
 
+    #[inline(always)]
     fn writeable_borrow(&self) -> Option<&str> {
         if !self.extensions.is_empty() {
             return None;

@@ -18,9 +18,9 @@ use Rattle.iloc_spec_grammar.proofs.Readings.{long_attribute}
 use Rattle.iloc_spec_parts.specs.Small.{SmallIdentifier, SmallLocale}
 use Rattle.iloc_spec_parts.specs.SmallComputing.{block_fault, blocks_result, has_small_keyword}
 use Rattle.iloc_spec_parts.specs.SmallComputing.{is_small_block, is_u, keyword_read}
-use Rattle.iloc_spec_preferences.specs.DataComputing.{data_of_result}
-use Rattle.iloc_spec_preferences.specs.DataLocales.{DataLocale, agreed, made_of, named_subdivision}
-use Rattle.iloc_spec_preferences.specs.Subdivisions.{Subdivision}
+use Rattle.iloc_spec_parts.specs.DataComputing.{data_of_result}
+use Rattle.iloc_spec_parts.specs.DataLocales.{DataLocale, agreed, made_of, named_subdivision}
+use Rattle.iloc_spec_parts.specs.Subdivisions.{Subdivision}
 use Rattle.iloc_normalize.specs.Subdivisions.{MeansWithU, data_behind, data_with, has_small_value}
 use Rattle.iloc_normalize.proofs.KeywordAnswers.{and-false, attribute_no_key, fault_is, front_first, key_long}
 use Rattle.iloc_normalize.proofs.KeywordAnswers.{key_no_attribute, letter_u, no_key, no_word, skip_long}

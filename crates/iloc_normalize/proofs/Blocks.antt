@@ -11,7 +11,7 @@ use Rattle.iloc_spec_grammar.proofs.PiecesLaws.{at_pieces}
 use Rattle.iloc_spec_grammar.proofs.Singletons.{two_more}
 use Rattle.iloc_spec_parts.specs.Small.{SmallIdentifier}
 use Rattle.iloc_spec_parts.specs.SmallComputing.{block_fault, blocks_result, is_u, keyword_read}
-use Rattle.iloc_spec_preferences.specs.DataComputing.{data_of_result}
+use Rattle.iloc_spec_parts.specs.DataComputing.{data_of_result}
 use Rattle.iloc_pieces.specs.Left.{IsNextPiece, IsRemainder, bytes_left, piece_left, pieces_left}
 use Rattle.iloc_pieces.specs.declared.left.Left.{Left}
 use Rattle.iloc_pieces.proofs.LeftLemmas.{next_at}

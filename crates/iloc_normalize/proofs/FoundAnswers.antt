@@ -1,9 +1,9 @@
--- Data locales that are told by their first piece of one byte.
-use Rattle.std.proofs.Common.{◌≡◌, ℕ, ◌+◌, ◌-◌, true, false, List, [], ◌∷◌, ◌++◌, length, get_or, take, inl}
+-- Data locales that are refused for their first piece of one byte.
+use Rattle.std.proofs.Common.{◌≡◌, ◌+◌, ◌-◌, true, false, List, [], ◌∷◌, ◌++◌, length, get_or, take, inl}
 use Rattle.std.proofs.Common.{inr, sym, ap, ◌∙◌, arith}
 use Rattle.std.specs.Prelude.{option_to_list}
 use Rattle.std.specs.Char.{is_ascii_alphanumeric}
-use Rattle.std.proofs.lemmas.Bool.{cases_Bool, cases_lt}
+use Rattle.std.proofs.lemmas.Bool.{cases_Bool}
 use Rattle.iloc_spec_grammar.specs.Syntax.{Text, pieces, SpelledIdentifier, identifier_pieces, Variant}
 use Rattle.iloc_spec_grammar.specs.Syntax.{is_one_byte}
 use Rattle.iloc_spec_grammar.specs.Syntax.{is_word, first_piece}
@@ -12,12 +12,12 @@ use Rattle.iloc_spec_grammar.proofs.PiecesLaws.{at_pieces}
 use Rattle.iloc_spec_grammar.proofs.ReadingLaws.{after_front-append, after_front-pieces, all_while}
 use Rattle.iloc_spec_grammar.proofs.ReadingLaws.{front_of-append, front_of-pieces, starts_ends}
 use Rattle.iloc_spec_parts.specs.SmallComputing.{is_u}
-use Rattle.iloc_plain.specs.Plain.{IsPlain}
-use Rattle.iloc_plain.specs.declared.plain.Plain.{Plain}
-use Rattle.iloc_fronts.specs.Front.{IsFound, HasBlock, rest_of_block}
-use Rattle.iloc_fronts.specs.Keyword.{IsKeywordOf, after_singleton}
-use Rattle.iloc_fronts.specs.declared.front.Block.{Block}
-use Rattle.iloc_fronts.specs.declared.keyword.Keyword.TheVariants as keyword
+use Rattle.iloc_pieces.specs.Plain.{IsPlain}
+use Rattle.iloc_pieces.specs.declared.plain.Plain.{Plain}
+use Rattle.iloc_pieces.specs.Front.{IsFound, HasBlock, rest_of_block}
+use Rattle.iloc_pieces.specs.Keyword.{IsKeywordOf, after_singleton}
+use Rattle.iloc_pieces.specs.declared.front.Block.{Block}
+use Rattle.iloc_pieces.specs.declared.keyword.Keyword.TheVariants as keyword
 use Rattle.iloc_subtags.specs.declared.parse_error.ParseError.TheVariants.{InvalidExtension, InvalidSubtag}
 use Rattle.iloc_normalize.specs.Answered.{HasRefusal}
 use Rattle.iloc_normalize.specs.declared.Mode.TheVariants.{Data}
@@ -26,53 +26,18 @@ use Rattle.iloc_normalize.proofs.FrontAnswers.{misfit_refused, other_block_refus
 use Rattle.iloc_normalize.proofs.KeywordAnswers.{attribute_refused, letter_u, many_refused, single_refused}
 use Rattle.iloc_normalize.proofs.KeywordAnswers.{misfit_refused as keyword_misfit_refused}
 
--- the same block, with another number for what comes before it
-abbrev pub counted : Block → ℕ → Block
-counted b n = record b { tail = n }
-
 -- if it follows the words of an identifier, it is the first block
 pub is_first : (t : Text) (b : Block) → IsFound t b → starts_block (after_front (pieces t)) ≡ true →
-    (n : ℕ) × HasBlock t (counted b n)
+    HasBlock t b
 unfolding after_front
-is_first t b f is =
-    elim (cases_lt (1 + length (pieces (rest_of_block b))) (length (after_region (pieces t)))) [
-      | inl more ↦ (
-        b.len + 10,
-        (
-          f.begins,
-          record {
-            rest = f.next is;
-            singleton = f.singleton;
-            few = λ few. absurd (omega (arith, few));
-            many = λ _. omega (arith, more);
-            some = f.some;
-            room = f.room;
-          },
-        ),
-      )
-      | inr less ↦ (
-        b.len,
-        (
-          f.begins,
-          record {
-            rest = f.next is;
-            singleton = f.singleton;
-            few = λ _. omega (arith, less);
-            many = λ many. absurd (omega (arith, many));
-            some = f.some;
-            room = f.room;
-          },
-        ),
-      )
-    ]
+is_first t b f is = (f.begins, record { rest = f.next is; singleton = f.singleton })
 
 -- a text that is refused for its first block is refused for this one: another piece that fits nowhere is
 -- refused too
 pub found_refused : (t : Text) (b : Block) → IsFound t b →
-    ((n : ℕ) → HasBlock t (counted b n) → HasRefusal Data t InvalidSubtag) →
-    HasRefusal Data t InvalidSubtag
-found_refused t b f told = elim (cases_Bool (starts_block (after_front (pieces t)))) [
-  | inl is ↦ let first = is_first t b f is in told first.0 first.1
+    (HasBlock t b → HasRefusal Data t InvalidSubtag) → HasRefusal Data t InvalidSubtag
+found_refused t b f refused = elim (cases_Bool (starts_block (after_front (pieces t)))) [
+  | inl is ↦ refused (is_first t b f is)
   | inr other ↦ misfit_refused Data t f.begins other
 ]
 
@@ -80,7 +45,7 @@ pub other_found_refused : (t : Text) (b : Block) → IsFound t b →
     is_ascii_alphanumeric (get_or b.window.now 0 0) ≡ true → is_u (get_or b.window.now 0 0) ≡ false →
     HasRefusal Data t InvalidSubtag
 other_found_refused t b f letter other =
-    found_refused t b f (λ n h. other_block_refused t (counted b n) h.0 h.1 letter other)
+    found_refused t b f (λ h. other_block_refused t b h.0 h.1 letter other)
 
 module _ (t : Text) (b : Block) (f : IsFound t b) (u : is_u (get_or b.window.now 0 0) ≡ true) where
   letter : is_ascii_alphanumeric (get_or b.window.now 0 0) ≡ true
@@ -88,13 +53,13 @@ module _ (t : Text) (b : Block) (f : IsFound t b) (u : is_u (get_or b.window.now
 
   pub found_attribute_refused : IsKeywordOf (after_singleton b) keyword.Attribute →
       HasRefusal Data t InvalidSubtag
-  found_attribute_refused k = found_refused t b f (λ n h. attribute_refused t (counted b n) h letter u k)
+  found_attribute_refused k = found_refused t b f (λ h. attribute_refused t b h letter u k)
 
   pub found_misfit_refused : IsKeywordOf (after_singleton b) keyword.Misfit → HasRefusal Data t InvalidSubtag
-  found_misfit_refused k = found_refused t b f (λ n h. keyword_misfit_refused t (counted b n) h letter u k)
+  found_misfit_refused k = found_refused t b f (λ h. keyword_misfit_refused t b h letter u k)
 
   pub found_many_refused : IsKeywordOf (after_singleton b) keyword.Many → HasRefusal Data t InvalidSubtag
-  found_many_refused k = found_refused t b f (λ n h. many_refused t (counted b n) h letter u k)
+  found_many_refused k = found_refused t b f (λ h. many_refused t b h letter u k)
 
 -- ---- after a plain identifier
 
@@ -116,47 +81,33 @@ after_plain i rest none same nothing s =
           ∙ (λ j. variants j ++ left j),
     )
 
--- the block follows at once
-pub plain_before : (t : Text) (b : Block) (p : Plain) → IsFound t b →
-    IsPlain (take (length t - (b.len + 1)) t) p → HasBlock t b
-unfolding after_front
-plain_before t b p f plain = (
-  f.begins,
-  record {
-    rest = f.next (ap starts_block left.0 ∙ starts);
-    singleton = f.singleton;
-    few = λ _. omega (arith, ap length left.1);
-    many = λ many. absurd (omega (arith, many, f.tail));
-    some = f.some;
-    room = f.room;
-  },
-)
-  where
-    i : SpelledIdentifier
-    i = plain.means.written
+-- the block follows a plain identifier at once, so a keyword of one word at most is none of a data locale
+module _ (t : Text) (b : Block) (p : Plain) (f : IsFound t b)
+    (plain : IsPlain (take (length t - (b.len + 1)) t) p) where
+  abbrev i : SpelledIdentifier
+  i = plain.means.written
 
-    rest : List Text
-    rest = pieces (rest_of_block b)
+  abbrev rest : List Text
+  rest = pieces (rest_of_block b)
 
-    starts : starts_block rest ≡ true
-    starts = at_pieces (λ ps. first_piece ps ≡ get_or b.window.now 0 0 ∷ [] → starts_block ps ≡ true)
-        (λ q qs e. ap is_one_byte e) (rest_of_block b) f.singleton
+  starts : starts_block rest ≡ true
+  starts = at_pieces (λ ps. first_piece ps ≡ get_or b.window.now 0 0 ∷ [] → starts_block ps ≡ true)
+      (λ q qs e. ap is_one_byte e) (rest_of_block b) f.singleton
 
-    parts : pieces t ≡ identifier_pieces i ++ rest
-    parts = ap pieces f.cut ∙ pieces_both (take (length t - (b.len + 1)) t) (rest_of_block b)
-        ∙ ap (λ ps. ps ++ rest) plain.means.spelled
+  parts : pieces t ≡ identifier_pieces i ++ rest
+  parts = ap pieces f.cut ∙ pieces_both (take (length t - (b.len + 1)) t) (rest_of_block b)
+      ∙ ap (λ ps. ps ++ rest) plain.means.spelled
 
-    left : (after_front (pieces t) ≡ rest) × (after_region (pieces t) ≡ rest)
-    left =
-        let words = plain.means.grammatical.words in
-        let both =
-        after_plain i rest plain.no_variant (front_of-pieces i words) (after_front-pieces i words) starts in
-        (ap after_front parts ∙ both.0, ap after_region parts ∙ both.1)
+  left : (after_front (pieces t) ≡ rest) × (after_region (pieces t) ≡ rest)
+  left =
+      let words = plain.means.grammatical.words in
+      let both =
+      after_plain i rest plain.no_variant (front_of-pieces i words) (after_front-pieces i words) starts in
+      (ap after_front parts ∙ both.0, ap after_region parts ∙ both.1)
 
--- a keyword of one word at most is none of a data locale
-pub found_single_refused : (t : Text) (b : Block) (p : Plain) → IsFound t b →
-    IsPlain (take (length t - (b.len + 1)) t) p → is_u (get_or b.window.now 0 0) ≡ true →
-    IsKeywordOf (after_singleton b) keyword.Single → HasRefusal Data t InvalidExtension
-found_single_refused t b p f plain u k =
-    single_refused t b (plain_before t b p f plain) (letter_u (get_or b.window.now 0 0) u) u
-    (omega (arith, f.tail)) k
+  pub found_single_refused : is_u (get_or b.window.now 0 0) ≡ true →
+      IsKeywordOf (after_singleton b) keyword.Single → HasRefusal Data t InvalidExtension
+  found_single_refused u k =
+      single_refused t b (is_first t b f (ap starts_block left.0 ∙ starts))
+      (letter_u (get_or b.window.now 0 0) u) u
+      (omega (arith, ap length left.1)) k

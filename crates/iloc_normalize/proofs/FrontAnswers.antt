@@ -26,12 +26,12 @@ use Rattle.iloc_spec_parts.specs.SmallComputing.{small_identifier, small_identif
 use Rattle.iloc_spec_parts.specs.SmallComputing.{has_small_variants, is_u, is_small_block, has_small_keyword}
 use Rattle.iloc_spec_parts.specs.SmallComputing.{block_fault, keyword_read, blocks_result, after_identifier}
 use Rattle.iloc_spec_parts.specs.SmallComputing.{small_result}
-use Rattle.iloc_spec_preferences.specs.DataLocales.{DataLocale, DataMeans, HasDataFault, not_small}
-use Rattle.iloc_spec_preferences.proofs.DataLaws.{data_answer}
-use Rattle.iloc_spec_preferences.specs.DataComputing.{data_result, data_of_result}
+use Rattle.iloc_spec_parts.specs.DataLocales.{DataLocale, DataMeans, HasDataFault, not_small}
+use Rattle.iloc_spec_parts.proofs.DataLaws.{data_answer}
+use Rattle.iloc_spec_parts.specs.DataComputing.{data_result, data_of_result}
 use Rattle.iloc_subtags.specs.declared.parse_error.ParseError.TheVariants.{InvalidLanguage, InvalidSubtag}
-use Rattle.iloc_fronts.specs.Front.{GoesOn, IsFound, HasNoLanguage, rest_of_block}
-use Rattle.iloc_fronts.specs.declared.front.Block.{Block}
+use Rattle.iloc_pieces.specs.Front.{GoesOn, IsFound, HasNoLanguage, rest_of_block}
+use Rattle.iloc_pieces.specs.declared.front.Block.{Block}
 use Rattle.iloc_outline.specs.Outlines.{BeginsWithLanguage}
 use Rattle.iloc_normalize.specs.Answered.{HasRefusal}
 use Rattle.iloc_normalize.specs.declared.Mode.{Mode}

@@ -20,7 +20,7 @@ use Rattle.iloc_spec_grammar.proofs.Readings.{IsLong, long_variant}
 use Rattle.iloc_spec_grammar.proofs.ValuesLaws.{all_weaker}
 use Rattle.iloc_spec_parts.specs.SmallComputing.{after_identifier, blocks_result, has_small_variants}
 use Rattle.iloc_spec_parts.specs.SmallComputing.{small_identifier, small_identifier_result, small_result}
-use Rattle.iloc_spec_preferences.specs.DataComputing.{data_of_result, data_result}
+use Rattle.iloc_spec_parts.specs.DataComputing.{data_of_result, data_result}
 use Rattle.iloc_outline.specs.Identifier.{front_text}
 use Rattle.iloc_outline.specs.Parts.{front_pieces}
 use Rattle.iloc_outline.proofs.Fronts.{front_text-append}

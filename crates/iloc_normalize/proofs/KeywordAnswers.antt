@@ -1,5 +1,5 @@
 -- Data locales that are refused for the keyword in their first block.
-use Rattle.std.proofs.Common.{◌≡◌, ◌≢◌, ◌⊎◌, inl, inr, ℕ, ◌+◌, ◌<◌, ◌≤◌, ◌==◌, Bool, true, false, cond, ◌&&◌}
+use Rattle.std.proofs.Common.{◌≡◌, ◌≢◌, ◌⊎◌, inl, inr, ℕ, ◌+◌, ◌≤◌, ◌==◌, Bool, true, false, cond, ◌&&◌}
 use Rattle.std.proofs.Common.{nat_le, List, [], ◌∷◌, ◌++◌, length, flat_map, get_or, codes, Option, None}
 use Rattle.std.proofs.Common.{Some, option_map, Ok, Err, refl, sym, ap, ◌∙◌, arith, append-nil, length-append}
 use Rattle.std.specs.Prelude.{if◌then◌else◌, option_and_then, ok_or}
@@ -30,16 +30,16 @@ use Rattle.iloc_spec_parts.specs.SmallComputing.{small_identifier, small_identif
 use Rattle.iloc_spec_parts.specs.SmallComputing.{has_small_variants, is_u, is_small_block, has_small_keyword}
 use Rattle.iloc_spec_parts.specs.SmallComputing.{keyword_read, block_fault, blocks_result, after_identifier}
 use Rattle.iloc_spec_parts.specs.SmallComputing.{small_result}
-use Rattle.iloc_spec_preferences.proofs.Keys.{sd}
-use Rattle.iloc_spec_preferences.specs.DataLocales.{agreed, made_of, named_subdivision, small_part}
-use Rattle.iloc_spec_preferences.specs.DataLocales.{data_of_small}
-use Rattle.iloc_spec_preferences.specs.Subdivisions.{Subdivision}
-use Rattle.iloc_spec_preferences.specs.DataComputing.{data_result, data_of_result}
+use Rattle.iloc_spec_parts.proofs.Keys.{sd}
+use Rattle.iloc_spec_parts.specs.DataLocales.{agreed, made_of, named_subdivision, small_part}
+use Rattle.iloc_spec_parts.specs.DataLocales.{data_of_small}
+use Rattle.iloc_spec_parts.specs.Subdivisions.{Subdivision}
+use Rattle.iloc_spec_parts.specs.DataComputing.{data_result, data_of_result}
 use Rattle.iloc_subtags.specs.declared.parse_error.ParseError.TheVariants.{InvalidSubtag, InvalidExtension}
-use Rattle.iloc_fronts.specs.Front.{GoesOn, HasBlock, rest_of_block}
-use Rattle.iloc_fronts.specs.Keyword.{IsKeywordOf, IsSingle, after_singleton}
-use Rattle.iloc_fronts.specs.declared.front.Block.{Block}
-use Rattle.iloc_fronts.specs.declared.keyword.Keyword.TheVariants as keyword
+use Rattle.iloc_pieces.specs.Front.{GoesOn, HasBlock, rest_of_block}
+use Rattle.iloc_pieces.specs.Keyword.{IsKeywordOf, IsSingle, after_singleton}
+use Rattle.iloc_pieces.specs.declared.front.Block.{Block}
+use Rattle.iloc_pieces.specs.declared.keyword.Keyword.TheVariants as keyword
 use Rattle.iloc_normalize.specs.Answered.{HasRefusal}
 use Rattle.iloc_normalize.specs.declared.Mode.TheVariants.{Data}
 use Rattle.iloc_normalize.proofs.FrontAnswers.{BeginsWell, blocks_left, data_fault, data_refused}
@@ -113,17 +113,12 @@ module _ (t : Text) (b : Block) (g : GoesOn (after_region (pieces t)) b) where
   all_true [] h = refl
   all_true (v ∷ vs) h = rw h.0 (all_true vs h.1)
 
-  pub few_before : b.tail ≤ b.len + 9 → has_small_variants (front after) ≡ true
+  pub few_before : length after ≤ 1 + length (pieces (rest_of_block b)) →
+      has_small_variants (front after) ≡ true
   few_before few =
       let le : nat_le (length before) 1 ≡ true =
-      (let short : length before ≤ 1 = omega (arith, g.few few, total) in grind (arith, nat_tests)) in
+      (let short : length before ≤ 1 = omega (arith, few, total) in grind (arith, nat_tests)) in
       ap has_small_variants before_is ∙ (λ j. all_true before variants_pass j && le j)
-
-  pub many_before : b.len + 9 < b.tail → has_small_variants (front after) ≡ false
-  many_before many =
-      let more : nat_le (length before) 1 ≡ false =
-      (let long : 2 ≤ length before = omega (arith, g.many many, total) in grind (arith, nat_tests)) in
-      ap has_small_variants before_is ∙ (λ j. all_true before variants_pass j && more j)
 
 pub and-false : (b : Bool) → (b && false) ≡ false
 and-false true = refl
@@ -377,7 +372,7 @@ module _ (t : Text) (b : Block) (h : HasBlock t b)
       (fault_is block false true letter u attribute key)
 
   -- what is read of a whole text with such a keyword
-  single_result : b.tail ≤ b.len + 9 → Reads rest →
+  single_result : length (after_region (pieces t)) ≤ 1 + length (pieces (rest_of_block b)) → Reads rest →
       (r : SmallLocale) × (small_result languages t ≡ Ok r) × (data_of_small r ≡ None)
   unfolding small_result after_identifier blocks_result
   single_result few read = at_pieces Found by t h.0 there (few_before t b h.1 few)
@@ -402,8 +397,8 @@ module _ (t : Text) (b : Block) (h : HasBlock t b)
             ap (option_map (λ part. made_of id.language id.script part id.variant)) (read.unread id.region),
           )
 
-  pub single_refused : b.tail ≤ b.len + 9 → IsKeywordOf rest keyword.Single →
-      HasRefusal Data t InvalidExtension
+  pub single_refused : length (after_region (pieces t)) ≤ 1 + length (pieces (rest_of_block b)) →
+      IsKeywordOf rest keyword.Single → HasRefusal Data t InvalidExtension
   unfolding data_result
   single_refused few s =
       let found = single_result few (single_reads rest s) in

@@ -5,7 +5,7 @@ use Rattle.std.specs.Result.{result_ok}
 use Rattle.iloc_spec_grammar.specs.Syntax.{UnicodeKey, IsWord, lower}
 use Rattle.iloc_spec_grammar.specs.Reading.{first_item}
 use Rattle.iloc_spec_grammar.proofs.WordsLaws.{length-unicode_key}
-use Rattle.iloc_spec_preferences.specs.DataLocales.{named_subdivision}
+use Rattle.iloc_spec_parts.specs.DataLocales.{named_subdivision}
 use Rattle.iloc_pieces.specs.Left.{bytes_left, piece_left, pieces_left}
 use Rattle.iloc_pieces.specs.declared.left.Left.{Left}
 use Rattle.iloc_pieces.proofs.LeftLemmas.{first_within, length_rest, piece_bytes}

@@ -1,5 +1,6 @@
 pub mod AsciiLemmas
 pub mod CopyLemmas
+mod EndLemmas
 mod CutLemmas
 pub mod PlainAnswers
 pub mod FrontAnswers

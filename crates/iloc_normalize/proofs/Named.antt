@@ -5,8 +5,8 @@ use Rattle.iloc_spec_grammar.specs.Syntax.{Text, SpelledIdentifier, Region, IsWo
 use Rattle.iloc_spec_grammar.specs.Syntax.{lower, upper}
 use Rattle.iloc_spec_grammar.specs.Meaning.{normal_identifier}
 use Rattle.iloc_spec_grammar.proofs.WordsLaws.{length-region}
-use Rattle.iloc_spec_preferences.specs.DataLocales.{DataLocale, data_text, is_whole, whole}
-use Rattle.iloc_spec_preferences.specs.Subdivisions.{Subdivision}
+use Rattle.iloc_spec_parts.specs.DataLocales.{DataLocale, data_text, is_whole, whole}
+use Rattle.iloc_spec_parts.specs.Subdivisions.{Subdivision}
 use Rattle.iloc_outline.specs.Identifier.{front_text}
 use Rattle.iloc_outline.specs.Parts.{front_pieces}
 use Rattle.iloc_normalize.specs.Data.{HasValue, IsRegionStart}

@@ -17,10 +17,10 @@ use Rattle.iloc_spec_grammar.proofs.MapLaws.{same_is, same_itself}
 use Rattle.iloc_spec_grammar.proofs.WordsLaws.{is_word-lower, is_word-normal, length-attribute}
 use Rattle.iloc_spec_grammar.proofs.WordsLaws.{length-unicode_key, lower-lower, lower-upper, normal-normal}
 use Rattle.iloc_spec_grammar.proofs.WordsLaws.{word_letters_or_digits}
-use Rattle.iloc_spec_preferences.specs.DataLocales.{named_subdivision}
-use Rattle.iloc_spec_preferences.specs.Subdivisions.{Subdivision, both_words, region_length, subdivision}
-use Rattle.iloc_spec_preferences.specs.Subdivisions.{subdivision_text}
-use Rattle.iloc_spec_preferences.proofs.SubdivisionLaws.{subdivision_back}
+use Rattle.iloc_spec_parts.specs.DataLocales.{named_subdivision}
+use Rattle.iloc_spec_parts.specs.Subdivisions.{Subdivision, both_words, region_length, subdivision}
+use Rattle.iloc_spec_parts.specs.Subdivisions.{subdivision_text}
+use Rattle.iloc_spec_parts.proofs.SubdivisionLaws.{subdivision_back}
 use Rattle.iloc_pieces.specs.Left.{IsRemainder, IsShortPiece, piece_left}
 use Rattle.iloc_pieces.specs.Shape.{bits, shape_of}
 use Rattle.iloc_pieces.specs.declared.left.Left.{Left}

@@ -15,14 +15,14 @@ use Rattle.iloc_spec_grammar.proofs.SameMeaning.{means_by_tree}
 use Rattle.iloc_spec_grammar.proofs.SetLaws.{length-set_of-different}
 use Rattle.iloc_spec_parts.specs.Small.{SmallLocale}
 use Rattle.iloc_spec_parts.proofs.SmallTrees.{tree_is_small}
-use Rattle.iloc_spec_preferences.specs.DataLocales.{DataLocale, DataMeans, data_text, made_of, whole_region}
-use Rattle.iloc_spec_preferences.specs.DataLocales.{is_whole, subdivision_keyword, subdivision_pieces}
-use Rattle.iloc_spec_preferences.specs.Subdivisions.{Subdivision, subdivision_text}
-use Rattle.iloc_spec_preferences.proofs.DataLaws.{whole_region_is}
-use Rattle.iloc_spec_preferences.proofs.SubdivisionLaws.{subdivision_back}
-use Rattle.iloc_plain.specs.Plain.{IsPlain, value_of}
-use Rattle.iloc_plain.specs.Shape.{plain_identifier}
-use Rattle.iloc_plain.specs.declared.plain.Plain.{Plain}
+use Rattle.iloc_spec_parts.specs.DataLocales.{DataLocale, DataMeans, data_text, made_of, whole_region}
+use Rattle.iloc_spec_parts.specs.DataLocales.{is_whole, subdivision_keyword, subdivision_pieces}
+use Rattle.iloc_spec_parts.specs.Subdivisions.{Subdivision, subdivision_text}
+use Rattle.iloc_spec_parts.proofs.DataLaws.{whole_region_is}
+use Rattle.iloc_spec_parts.proofs.SubdivisionLaws.{subdivision_back}
+use Rattle.iloc_pieces.specs.Plain.{IsPlain, value_of}
+use Rattle.iloc_pieces.specs.PlainShape.{plain_identifier}
+use Rattle.iloc_pieces.specs.declared.plain.Plain.{Plain}
 use Rattle.iloc_normalize.specs.Modes.{IsNormalText}
 use Rattle.iloc_normalize.specs.declared.Mode.{Mode}
 use Rattle.iloc_normalize.specs.declared.Mode.TheVariants.{Langid, Locale, Data}

@@ -12,8 +12,8 @@ use Rattle.iloc_spec_grammar.proofs.PiecesLaws.{at_pieces}
 use Rattle.iloc_spec_grammar.proofs.ReadingLaws.{all_while}
 use Rattle.iloc_spec_parts.specs.Small.{SmallIdentifier}
 use Rattle.iloc_spec_parts.specs.SmallComputing.{blocks_result, small_identifier}
-use Rattle.iloc_spec_preferences.specs.DataComputing.{data_result}
-use Rattle.iloc_spec_preferences.specs.DataLocales.{HasDataFault, made_of, whole_region}
+use Rattle.iloc_spec_parts.specs.DataComputing.{data_result}
+use Rattle.iloc_spec_parts.specs.DataLocales.{HasDataFault, made_of, whole_region}
 use Rattle.iloc_subtags.specs.Judging.{error_of}
 use Rattle.iloc_pieces.specs.Left.{IsPast, IsRemainder, bytes_left, piece_left, pieces_left, whole_text}
 use Rattle.iloc_pieces.specs.declared.left.Left.{Left}

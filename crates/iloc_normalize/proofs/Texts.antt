@@ -16,12 +16,12 @@ use Rattle.iloc_spec_grammar.proofs.PartTexts.{join-append}
 use Rattle.iloc_spec_grammar.proofs.WordsLaws.{is_word-normal, lower-lower, normal-normal}
 use Rattle.iloc_spec_parts.specs.SmallComputing.{small_identifier}
 use Rattle.iloc_spec_parts.specs.Small.{SmallIdentifier}
-use Rattle.iloc_spec_preferences.specs.DataLocales.{agreed, data_text, is_whole, made_of, subdivision_keyword}
-use Rattle.iloc_spec_preferences.specs.DataLocales.{subdivision_pieces, whole_region}
-use Rattle.iloc_spec_preferences.specs.Subdivisions.{IsSubdivision, Subdivision, subdivision}
-use Rattle.iloc_spec_preferences.specs.Subdivisions.{subdivision_text}
-use Rattle.iloc_spec_preferences.proofs.DataLaws.{whole_region_is}
-use Rattle.iloc_spec_preferences.proofs.SubdivisionLaws.{read_is_subdivision, subdivision_back, text_of_read}
+use Rattle.iloc_spec_parts.specs.DataLocales.{agreed, data_text, is_whole, made_of, subdivision_keyword}
+use Rattle.iloc_spec_parts.specs.DataLocales.{subdivision_pieces, whole_region}
+use Rattle.iloc_spec_parts.specs.Subdivisions.{IsSubdivision, Subdivision, subdivision}
+use Rattle.iloc_spec_parts.specs.Subdivisions.{subdivision_text}
+use Rattle.iloc_spec_parts.proofs.DataLaws.{whole_region_is}
+use Rattle.iloc_spec_parts.proofs.SubdivisionLaws.{read_is_subdivision, subdivision_back, text_of_read}
 use Rattle.iloc_outline.specs.Parts.{front_pieces}
 use Rattle.iloc_normalize.specs.Data.{data_alone}
 use Rattle.iloc_normalize.specs.Subdivisions.{data_with}

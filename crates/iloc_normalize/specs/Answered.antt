@@ -3,8 +3,8 @@ use Rattle.std.specs.Prelude.{◌⊎◌, ℕ, ◌+◌, ◌^◌, ◌<◌, ◌≤�
 use Rattle.iloc_spec_grammar.specs.Syntax.{Text, languages}
 use Rattle.iloc_subtags.specs.declared.parse_error.ParseError.{ParseError}
 use Rattle.iloc_subtags.specs.Judging.{Refusal}
-use Rattle.iloc_plain.specs.Plain.{IsPlain}
-use Rattle.iloc_plain.specs.declared.plain.Plain.{Plain}
+use Rattle.iloc_pieces.specs.Plain.{IsPlain}
+use Rattle.iloc_pieces.specs.declared.plain.Plain.{Plain}
 use Rattle.iloc_outline.specs.Outlines.{BeginsWithLanguage, IsLimit}
 use Rattle.iloc_normalize.specs.Modes.{IsNormalText, IsFaulty}
 use Rattle.iloc_normalize.specs.declared.Mode.{Mode}

@@ -6,9 +6,9 @@ use Rattle.iloc_spec_grammar.specs.Syntax.{languages, lower}
 use Rattle.iloc_spec_grammar.specs.Meaning.{Fault, InvalidSubtag, normal_identifier}
 use Rattle.iloc_spec_parts.specs.Small.{SmallIdentifier}
 use Rattle.iloc_spec_parts.specs.SmallComputing.{small_identifier}
-use Rattle.iloc_spec_preferences.specs.DataComputing.{data_result}
-use Rattle.iloc_spec_preferences.specs.DataLocales.{DataLocale, made_of, whole_region}
-use Rattle.iloc_spec_preferences.specs.Subdivisions.{Subdivision}
+use Rattle.iloc_spec_parts.specs.DataComputing.{data_result}
+use Rattle.iloc_spec_parts.specs.DataLocales.{DataLocale, made_of, whole_region}
+use Rattle.iloc_spec_parts.specs.Subdivisions.{Subdivision}
 use Rattle.iloc_outline.specs.Identifier.{front_text}
 use Rattle.iloc_outline.specs.Parts.{front_pieces}
 use Rattle.iloc_pieces.specs.Left.{piece_left, pieces_left}

@@ -4,7 +4,7 @@ use Rattle.iloc_spec_grammar.specs.Syntax.{Text, LanguageLengths, pieces, Identi
 use Rattle.iloc_spec_grammar.specs.Meaning.{Means, IdentifierMeans, Fault, HasIdentifierFault, HasFault}
 use Rattle.iloc_spec_grammar.specs.Meaning as grammar
 use Rattle.iloc_spec_grammar.specs.Values.{identifier_text, text}
-use Rattle.iloc_spec_preferences.specs.DataLocales.{DataLocale, DataMeans, HasDataFault, data_text}
+use Rattle.iloc_spec_parts.specs.DataLocales.{DataLocale, DataMeans, HasDataFault, data_text}
 use Rattle.iloc_normalize.specs.declared.Mode.{Mode}
 use Rattle.iloc_normalize.specs.declared.Mode.TheVariants.{Langid, Locale, Data}
 

@@ -8,9 +8,9 @@ use Rattle.iloc_spec_grammar.specs.Meaning.{Fault, InvalidSubtag, InvalidExtensi
 use Rattle.iloc_spec_grammar.specs.Reading.{rest_of}
 use Rattle.iloc_spec_parts.specs.Small.{SmallIdentifier}
 use Rattle.iloc_spec_parts.specs.SmallComputing.{blocks_result, is_u}
-use Rattle.iloc_spec_preferences.specs.DataComputing.{data_of_result}
-use Rattle.iloc_spec_preferences.specs.DataLocales.{DataLocale, agreed, made_of, named_subdivision}
-use Rattle.iloc_spec_preferences.specs.Subdivisions.{Subdivision, region_length, subdivision}
+use Rattle.iloc_spec_parts.specs.DataComputing.{data_of_result}
+use Rattle.iloc_spec_parts.specs.DataLocales.{DataLocale, agreed, made_of, named_subdivision}
+use Rattle.iloc_spec_parts.specs.Subdivisions.{Subdivision, region_length, subdivision}
 use Rattle.iloc_pieces.specs.Left.{IsRemainder, piece_left, pieces_left}
 use Rattle.iloc_pieces.specs.declared.left.Left.{Left}
 use Rattle.iloc_normalize.specs.declared.subdivisions.Keyword.{Keyword}

@@ -52,7 +52,7 @@ fn answer_data<'a>(window: &[u8], len: usize, room: &'a mut [u8]) -> Answered<'a
 }
 
 // What an identifier or a locale is answered.
-#[inline(never)]
+#[inline(always)]
 fn answer_outlined<'a>(mode: Mode, window: &[u8], len: usize, room: &'a mut [u8]) -> Answered<'a>
     requires { len + 16 ≤ length window.now }
     ensures answered { IsAnswered mode (take len window.now) result }

@@ -1,8 +1,9 @@
 //! Copies of bytes. Few are copied in place, without a call.
-ghost use Rattle.std.specs.Prelude.{◌≡◌, ◌+◌, ◌≤◌, length, take};
+ghost use Rattle.std.specs.Prelude.{◌≡◌, ◌+◌, ◌<◌, ◌≤◌, length, take};
 ghost use Rattle.iloc_spec_grammar.specs.Syntax.{lower};
 
-use iloc_plain::first_in_lower_case;
+use iloc_pieces::first_in_lower_case;
+use std::simd::prelude::*;
 
 /// Copies the first and the last `W` bytes, which together are all of them. All are loaded before any is stored.
 #[inline(always)]
@@ -21,19 +22,56 @@ pub fn copy_ends<const W: usize>(from: &[u8], to: &mut [u8])
     to[last..].copy_from_slice(&back);
 }
 
+/// Copies the first and the last sixteen bytes, which together are all of them.
+#[inline(always)]
+pub(crate) fn copy_sixteens(from: &[u8], to: &mut [u8])
+    requires same { length to.old ≡ length from.now }
+    requires wide { 16 ≤ length from.now }
+    requires few { length from.now ≤ 32 }
+    ensures { to.new ≡ from.now }
+{
+    let last = from.len() - 16;
+    let front = u8x16::from_slice(from);
+    let back = u8x16::from_slice(&from[last..]);
+    front.copy_to_slice(to);
+    back.copy_to_slice(&mut to[last..]);
+}
+
 /// Copies all bytes.
 #[inline(always)]
 pub fn copy_all(from: &[u8], to: &mut [u8])
     requires { length to.old ≡ length from.now }
     ensures { to.new ≡ from.now }
 {
-    match from.len() {
-        0 => (),
-        1 => to[0] = from[0],
-        2..=3 => copy_ends::<2>(from, to),
-        4..=7 => copy_ends::<4>(from, to),
-        8..=16 => copy_ends::<8>(from, to),
-        _ => to.copy_from_slice(from),
+    let len = from.len();
+    if len < 8 {
+        return copy_few(from, to);
+    }
+    if len <= 16 {
+        return copy_ends::<8>(from, to);
+    }
+    if len <= 32 {
+        return copy_sixteens(from, to);
+    }
+    to.copy_from_slice(from);
+}
+
+// Copies fewer than eight bytes.
+#[inline(always)]
+fn copy_few(from: &[u8], to: &mut [u8])
+    requires same { length to.old ≡ length from.now }
+    requires few { length from.now < 8 }
+    ensures { to.new ≡ from.now }
+{
+    let len = from.len();
+    if len >= 4 {
+        return copy_ends::<4>(from, to);
+    }
+    if len >= 2 {
+        return copy_ends::<2>(from, to);
+    }
+    if len == 1 {
+        to[0] = from[0];
     }
 }
 

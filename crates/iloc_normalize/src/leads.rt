@@ -1,16 +1,15 @@
 //! What the beginning of a text tells: why it is refused, or that the rest has to be read.
 ghost use Rattle.std.specs.Prelude.{◌≡◌, ◌+◌, ◌≤◌, IfSome, IsTrue, true, length, take, get_or};
 ghost use Rattle.iloc_spec_parts.specs.SmallComputing.{is_u};
-ghost use Rattle.iloc_fronts.specs.Front.{IsFound};
+ghost use Rattle.iloc_pieces.specs.Front.{IsFound};
 ghost use Rattle.iloc_normalize.specs.Answered.{ArePlain, IsLead};
 ghost use Rattle.iloc_normalize.specs.declared.Mode.{Mode};
 ghost use Rattle.iloc_normalize.specs.declared.Mode.TheVariants as modes;
 
 use crate::Mode;
 use crate::data::{Data, read_data};
-use iloc_fronts::{Block, Keyword, find_block, read_keyword};
 use iloc_outline::outline::begins_with_language;
-use iloc_plain::read_plain;
+use iloc_pieces::{Block, Keyword, find_block, read_keyword, read_plain};
 use iloc_subtags::ParseError;
 
 /// What the beginning of a text tells.

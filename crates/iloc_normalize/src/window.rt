@@ -5,7 +5,7 @@ ghost use Rattle.iloc_normalize.specs.declared.Mode.TheVariants as Mode;
 
 use crate::Mode;
 use crate::answered::{Answered, ROOM, answer};
-use crate::copying::{copy_all, copy_ends};
+use crate::copying::{copy_all, copy_ends, copy_sixteens};
 
 /// How long a text may be that is looked at here.
 pub const MOST: usize = 48;
@@ -22,7 +22,7 @@ pub(crate) fn put_in_front(text: &[u8], window: &mut [u8; WINDOW])
     let front = &mut window[..text.len()];
     match text.len() {
         0..=16 => copy_all(text, front),
-        17..=32 => copy_ends::<16>(text, front),
+        17..=32 => copy_sixteens(text, front),
         _ => copy_ends::<32>(text, front),
     }
 }

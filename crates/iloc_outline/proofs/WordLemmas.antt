@@ -7,7 +7,7 @@ use Rattle.iloc_spec_grammar.specs.Reading.{passing, EndsBefore}
 use Rattle.iloc_spec_grammar.proofs.PiecesLaws.{at_pieces}
 use Rattle.iloc_pieces.specs.Left.{IsRemainder, IsLater, IsPast, IsShortPiece, IsSpanned, piece_left}
 use Rattle.iloc_pieces.specs.Left.{pieces_left, bytes_left, whole_text}
-use Rattle.iloc_fronts.specs.Words.{IsUpToEight, word_number}
+use Rattle.iloc_pieces.specs.Words.{IsUpToEight, word_number}
 use Rattle.iloc_outline.specs.Parts.{word_part, printed_part}
 use Rattle.iloc_outline.specs.Reading.{IsOfWord, role_kind}
 use Rattle.iloc_outline.specs.Spans.{IsSpan}
@@ -17,7 +17,7 @@ use Rattle.iloc_outline.specs.declared.span.Role.TheVariants as roles
 use Rattle.iloc_outline.specs.declared.span.Span.{Span}
 use Rattle.iloc_pieces.proofs.LeftLemmas.{length_piece, length_text, spanned_piece}
 use Rattle.iloc_outline.proofs.RoleLemmas.{short_kind}
-use Rattle.iloc_fronts.proofs.WordNumbers.{attribute_fits, variant_fits}
+use Rattle.iloc_pieces.proofs.WordOrder.{attribute_fits, variant_fits}
 use Rattle.iloc_outline.proofs.SpansLemmas.{not_edited}
 
 -- ---- words

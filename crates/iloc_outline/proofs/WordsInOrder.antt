@@ -17,7 +17,7 @@ use Rattle.iloc_spec_grammar.proofs.ValuesLaws.{all_weaker}
 use Rattle.iloc_outline.specs.Inserting.{IsPutFrom}
 use Rattle.iloc_pieces.specs.Left.{IsRemainder, IsLater, IsNextPiece, IsPast, piece_left, pieces_left}
 use Rattle.iloc_pieces.specs.Left.{whole_text}
-use Rattle.iloc_fronts.specs.Words.{IsUpToEight, word_number}
+use Rattle.iloc_pieces.specs.Words.{IsUpToEight, word_number}
 use Rattle.iloc_outline.specs.Parts.{Part, word_part}
 use Rattle.iloc_outline.specs.Reading.{IsOfWord, IsTooMuch, MayBe, ReadsWords, role_kind, words_of}
 use Rattle.iloc_outline.specs.Spans.{IsSpan}
@@ -33,7 +33,7 @@ use Rattle.iloc_pieces.proofs.LeftLemmas.{last_piece, past_next, past_none, piec
 use Rattle.iloc_outline.proofs.RoleLemmas.{short_kind}
 use Rattle.iloc_outline.proofs.WordLemmas.{ends_before, length-pieces_of, passing_cut, passing_more, span_of}
 use Rattle.iloc_outline.proofs.WordLemmas.{word_fits, word_next, word_span}
-use Rattle.iloc_fronts.proofs.WordNumbers.{word_order}
+use Rattle.iloc_pieces.proofs.WordOrder.{word_order}
 
 -- ---- words differ where their numbers do
 

@@ -9,7 +9,7 @@ use Rattle.iloc_spec_grammar.specs.Syntax.{SpelledIdentifier, SpelledUnicode, Sp
 use Rattle.iloc_spec_grammar.specs.Meaning.{map_of, normal_values}
 use Rattle.iloc_spec_grammar.specs.Values.{spelled_value}
 use Rattle.iloc_spec_grammar.specs.Reading.{unicode_of, transform_of}
-use Rattle.iloc_fronts.specs.Words.{word_number}
+use Rattle.iloc_pieces.specs.Words.{word_number}
 use Rattle.iloc_outline.specs.declared.span.Role.{Role}
 use Rattle.iloc_outline.specs.declared.span.Role.TheVariants.{Variant, Singleton, Attribute, Keyword}
 use Rattle.iloc_outline.specs.declared.span.Role.TheVariants.{Field as FieldRole}

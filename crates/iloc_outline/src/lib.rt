@@ -11,8 +11,8 @@
 //! `iloc_normalize` asks it of each identifier and each locale that is not plain, and whose beginning does not refuse it.
 //! docs/DECISIONS.md says what that costs.
 //!
-//! It stands on the grammar (`iloc_spec_grammar`), on pieces (`iloc_pieces`), on `iloc_plain`, on the refusals of
-//! `iloc_subtags` and on definitions of `iloc_fronts`.
+//! It stands on the grammar (`iloc_spec_grammar`), on pieces (`iloc_pieces`), on `iloc_pieces`, on the refusals of
+//! `iloc_subtags` and on definitions of `iloc_pieces`.
 #![tactic(auto)]
 
 pub mod blocks;

@@ -13,7 +13,7 @@ use lib.Lanes.{mask_l}
 use Rattle.iloc_spec_grammar.specs.Syntax.{Text, letters_or_digits, pieces, first_piece}
 use Rattle.iloc_pieces.specs.Shape.{bits, shape_of}
 use Rattle.iloc_pieces.specs.Marks.{closed, no_letter, is_odd}
-use Rattle.iloc_fronts.specs.Run.{is_hyphen}
+use Rattle.iloc_pieces.specs.Run.{is_hyphen}
 use Rattle.iloc_pieces.proofs.Masks.{low}
 
 -- ---- the first piece of a text that is closed by a hyphen

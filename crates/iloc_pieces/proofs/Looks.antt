@@ -10,7 +10,7 @@ use Rattle.iloc_spec_grammar.proofs.PartTexts.{join-dashes}
 use Rattle.iloc_pieces.specs.Left.{IsRemainder, HasShape, IsLong, IsNextPiece, IsShortPiece, piece_left}
 use Rattle.iloc_pieces.specs.Left.{pieces_left, bytes_left}
 use Rattle.iloc_pieces.specs.Marks.{AreMarks, AreKnown, AreMarksSeen, closed}
-use Rattle.iloc_fronts.specs.Run.{is_hyphen}
+use Rattle.iloc_pieces.specs.Run.{is_hyphen}
 use Rattle.iloc_pieces.specs.Shape.{shape_of}
 use Rattle.iloc_pieces.specs.declared.left.Left.{Left}
 use Rattle.iloc_pieces.specs.declared.marks.Marks.{Marks}

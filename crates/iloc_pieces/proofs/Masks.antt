@@ -12,7 +12,7 @@ use Rattle.std.proofs.lemmas.Simd.{zip2_of_maps, splat_is_map, map-map, mask_l-m
 use lib.Lanes.{zip2, mask_l, top, Each1}
 use Rattle.iloc_spec_grammar.specs.Syntax.{Text}
 use Rattle.iloc_pieces.specs.Marks.{AreMarks, closed, no_letter, is_odd}
-use Rattle.iloc_fronts.specs.Run.{is_hyphen}
+use Rattle.iloc_pieces.specs.Run.{is_hyphen}
 use Rattle.iloc_pieces.specs.declared.marks.Marks.{Marks}
 
 -- ---- lanes

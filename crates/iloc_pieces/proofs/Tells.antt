@@ -15,7 +15,7 @@ use Rattle.iloc_pieces.specs.Left.{IsRemainder, IsShortPiece, piece_left}
 use Rattle.iloc_pieces.specs.Shape.{bits, shape_of}
 use Rattle.iloc_pieces.specs.declared.left.Left.{Left}
 use Rattle.iloc_pieces.proofs.LeftLemmas.{short_word}
-use Rattle.iloc_fronts.proofs.WordBytes.{low_bit}
+use Rattle.iloc_pieces.proofs.WordBytes.{low_bit}
 use Rattle.std.proofs.lemmas.Nat.{or_block}
 
 hyphen_shape : shape_of (45 ∷ []) ≡ 0

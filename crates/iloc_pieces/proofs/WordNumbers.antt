@@ -14,8 +14,8 @@ use Rattle.iloc_spec_grammar.specs.Syntax.{Text, UnicodeKey, TransformKey, IsWor
 use Rattle.iloc_spec_grammar.proofs.WordsLaws.{length-unicode_key, length-transform_key}
 use Rattle.iloc_spec_grammar.proofs.WordsLaws.{word_letters_or_digits}
 use Rattle.iloc_tinystr.specs.Number.{number}
-use Rattle.iloc_fronts.proofs.WordBytes.{low_bit}
-use Rattle.iloc_fronts.specs.Words.{IsUpToEight, high_first, word_number}
+use Rattle.iloc_pieces.proofs.WordBytes.{low_bit}
+use Rattle.iloc_pieces.specs.Words.{IsUpToEight, high_first, word_number}
 
 -- ---- eight bytes as one number
 

@@ -1,3 +1,12 @@
+pub mod Words
+pub mod Run
+pub mod Front
+pub mod Keyword
+pub mod Walk
+pub mod Marked
+pub mod PlainShape
+pub mod Plain
+pub mod Normal
 pub mod Marks
 pub mod Shape
 pub mod Left

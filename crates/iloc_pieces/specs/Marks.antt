@@ -3,7 +3,7 @@ use Rattle.std.specs.Prelude.{◌≡◌, ◌≤◌, ◌⊎◌, ℕ, Bool, not, �
 use Rattle.std.specs.Simd.Lanes.{mask_l}
 use Rattle.std.specs.Char.{is_ascii_alphabetic, is_ascii_alphanumeric}
 use Rattle.iloc_spec_grammar.specs.Syntax.{Text}
-use Rattle.iloc_fronts.specs.Run.{is_hyphen}
+use Rattle.iloc_pieces.specs.Run.{is_hyphen}
 use Rattle.iloc_pieces.specs.declared.marks.Marks.{Marks}
 
 -- whether the byte is no letter, or in no word and no hyphen

@@ -21,7 +21,7 @@ ghost use Rattle.iloc_spec_grammar.specs.Syntax.{
 };
 ghost use Rattle.iloc_pieces.specs.Left.{IsRemainder, IsNextPiece, IsShortPiece, piece_left, pieces_left, bytes_left};
 ghost use Rattle.iloc_pieces.specs.Marks.{AreMarksSeen};
-ghost use Rattle.iloc_fronts.specs.Words.{IsUpToEight, word_number};
+ghost use Rattle.iloc_pieces.specs.Words.{IsUpToEight, word_number};
 
 use crate::marks::{Marks, marks_at};
 use crate::shape;

@@ -1,17 +1,51 @@
-//! The pieces of a text, read from the left, and what each may be.
+//! What is read of a text by bit masks of its bytes: plain texts, beginnings, and pieces with what each may be.
 //!
-//! Bit masks of sixteen bytes say where a piece ends, which of its bytes are no letters, and which are in no word
-//! (`marks`). They give a piece its *shape*: a bit for each byte, set for a digit, and a last one above. By its shape a
-//! piece is tested for each kind of word (`shape`). `left` holds what is left of a text, from a piece on: `left_in`
-//! begins, `next` gives the next piece, `advance` goes on to it, and `word_number` gives the number by which words
-//! are ordered.
+//! **Plain texts** (`plain`). A text is plain here if it is a language, perhaps a script and a region, and nothing else, in
+//! at most sixteen bytes: `de`, `en-us`, `zh-HANT-tw`, `es-419`. Most identifiers in use are plain. `read_plain` promises
+//! that a text for which it returns `Some` means the identifier of these subtags, by the grammar (`IsPlain`), and that the
+//! bytes begin with its normal text. `normal_plain` also says of bytes that are loaded whether they are their normal text
+//! already (`IsPlainText`). Two steps find all plain shapes. The first hyphen ends the language. What follows has one of
+//! six shapes, and its length says which (`tail`): a row of a table says where letters, hyphens and digits are wanted, and
+//! which letters are turned to upper case. docs/ARCHITECTURE.md says how to add a shape.
 //!
-//! It promises that the tests are those of the grammar (`is_word`), and that what is left after a piece is what its
-//! hyphen leaves (`IsNextPiece`). It allocates nothing.
+//! **Beginnings** (`front`, `keyword`). `may_begin` says by the length of the first piece that a line begins with no
+//! language (`HasNoLanguage`), and `begins_with_language` says it of a short text with no room behind it. `find_block`
+//! finds the first piece of one byte, whatever comes before it (`IsFound`). `read_keyword` says what keyword follows the
+//! singleton of the first block (`IsKeywordOf`). Sixteen bytes from a piece on show its length and whether it is a word
+//! (`run`, `words`).
 //!
-//! It stands on the grammar (`iloc_spec_grammar`), on `iloc_plain` and on definitions of `iloc_fronts`.
+//! Of both, `None` and `Keyword::Other` say nothing: the caller reads the text as it would without them. So each caller
+//! keeps its own contract, and a form that is not known here costs time and nothing else.
+//!
+//! **Pieces** (`marks`, `shape`, `left`). Masks of sixteen bytes say where a piece ends, which of its bytes are no letters,
+//! and which are in no word. They give a piece its *shape*: a bit for each byte, set for a digit, and a last one above. By
+//! its shape a piece is tested for each kind of word. `left` holds what is left of a text, from a piece on: `left_in`
+//! begins, `next` gives the next piece, `advance` goes on to it, and `word_number` gives the number by which words are
+//! ordered. The tests are those of the grammar (`is_word`), and what is left after a piece is what its hyphen leaves
+//! (`IsNextPiece`).
+//!
+//! It allocates nothing. It stands on the grammar (`iloc_spec_grammar`) and on pieces as numbers (`iloc_tinystr`).
 #![tactic(auto)]
 
+pub mod front;
+pub mod keyword;
+mod lanes;
 pub mod left;
+pub mod load;
+mod marked;
 pub mod marks;
+pub mod normal;
+pub mod plain;
+mod read;
+mod run;
 pub mod shape;
+mod tail;
+pub mod words;
+
+pub use front::{Block, begins_with_language, find_block, may_begin};
+pub use keyword::{Keyword, read_keyword};
+pub use load::first_in_lower_case;
+pub use marked::{before_marked, is_language_length};
+pub use normal::{PlainText, are_same, normal_plain};
+pub use plain::Plain;
+pub use read::{read_lanes, read_plain, read_plain_text};

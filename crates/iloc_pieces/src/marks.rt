@@ -3,7 +3,7 @@ ghost use Rattle.std.specs.Prelude.{◌≡◌, ◌≢◌, ◌+◌, ◌<◌, ◌�
 ghost use Rattle.iloc_spec_grammar.specs.Syntax.{Text};
 ghost use Rattle.iloc_pieces.specs.Marks.{AreKnown, AreMarks, closed};
 
-use iloc_plain::load::load;
+use crate::load::load;
 use std::simd::prelude::*;
 
 /// A bit for each of the bytes from a piece on, as far as they are known. A hyphen ends the text here.

@@ -19,7 +19,7 @@ use Rattle.iloc_langid.specs.Reads.{IdentifierReads, value_of}
 use Rattle.iloc_locale.proofs.AloneLemmas.{text_alone}
 use Rattle.iloc_locale.proofs.ReadLemmas.{head_accepts}
 use Rattle.iloc_locale.specs.LocaleReading.{LocaleTextAnswers}
-use Rattle.iloc_spec_preferences.specs.DataLocales.{DataLocale, DataMeans, data_text}
+use Rattle.iloc_spec_parts.specs.DataLocales.{DataLocale, DataMeans, data_text}
 use Rattle.iloc_data_parts.specs.PartsReading.{PartsTextReads}
 use Rattle.iloc_normalize.specs.declared.Mode.TheVariants.{Langid, Locale, Data}
 use Rattle.iloc_lines.specs.Answers.{line_answer, refusal_text}

@@ -6,7 +6,7 @@ use Rattle.iloc_spec_grammar.specs.Meaning as faults
 use Rattle.iloc_spec_grammar.proofs.IdentifierTexts.{identifier_apart, one_identifier_fault}
 use Rattle.iloc_spec_grammar.proofs.RawLaws.{languages_table}
 use Rattle.iloc_spec_grammar.proofs.SameFaults.{accepted_no_fault, one_fault}
-use Rattle.iloc_spec_preferences.proofs.DataLaws.{data_apart, one_data_fault}
+use Rattle.iloc_spec_parts.proofs.DataLaws.{data_apart, one_data_fault}
 use Rattle.iloc_subtags.specs.Judging.{error_of}
 use Rattle.iloc_subtags.specs.declared.parse_error.ParseError.{ParseError}
 use Rattle.iloc_subtags.specs.declared.parse_error.ParseError.TheVariants.{InvalidLanguage, InvalidSubtag}

@@ -1,5 +1,5 @@
 -- The list that a `ShortWords` holds, by how it is kept.
-use Rattle.std.specs.Prelude.{◌≤◌, List, [], length}
+use Rattle.std.specs.Prelude.{◌≤◌, ℕ, List, [], length, take}
 use Rattle.std.specs.Vec.{with_items}
 use Rattle.iloc_shortvec.specs.ShortList.{overwritten}
 use Rattle.iloc_shortvec.specs.declared.kept.Kept.{Kept}
@@ -8,17 +8,23 @@ use Rattle.iloc_shortvec.specs.declared.kept.Kept.TheVariants.{Empty, Inline, He
 -- the items
 abbrev pub items_of : {T : Type 0} → Kept T → List T
 items_of (Empty none) = []
-items_of (Inline items) = items
+items_of (Inline count cells) = take count cells
 items_of (Heap items) = items.items
+
+-- how many cells in place are used
+abbrev pub count_of : {T : Type 0} → Kept T → ℕ
+count_of (Empty none) = 0
+count_of (Inline count cells) = count
+count_of (Heap items) = 0
 
 -- at least five items are on the heap
 abbrev pub IsKept : {T : Type 0} → Kept T → Type 0
 IsKept (Empty none) = Unit {0}
-IsKept (Inline items) = Unit {0}
+IsKept (Inline count cells) = Unit {0}
 IsKept (Heap items) = 5 ≤ length items.items
 
 -- the same place, after a write of its items as a slice
 abbrev pub with_list : {T : Type 0} → Kept T → List T → Kept T
 with_list (Empty none) ws = Empty none
-with_list (Inline items) ws = Inline (overwritten items ws)
+with_list (Inline count cells) ws = Inline count (overwritten cells ws)
 with_list (Heap items) ws = Heap (with_items items ws)

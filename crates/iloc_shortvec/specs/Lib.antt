@@ -3,6 +3,7 @@ pub mod Items
 pub mod ItemsLends
 pub mod Kept
 pub mod KeptLends
+pub mod Left
 pub mod NothingLends
 pub mod Rest
 pub mod ShortBoxSliceLends

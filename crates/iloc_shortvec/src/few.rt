@@ -1,131 +1,181 @@
 //! One to four items in place.
-ghost use Rattle.std.specs.Prelude.{◌≡◌, ◌<◌, ◌≤◌, ◌+◌, ◌-◌, [], ◌∷◌, ◌++◌, length, insert, remove};
+ghost use Rattle.std.specs.Prelude.{◌≡◌, ◌<◌, ◌≤◌, ◌+◌, ◌-◌, [], ◌∷◌, ◌++◌, length, insert, remove, take, drop};
 ghost use Rattle.std.specs.Borrow.{sem};
+ghost use Rattle.std.specs.Iterator.{YieldsFirst};
 
 use crate::front::front_mut;
 use std::marker::Model;
 
-/// One to four items. The places after them hold copies, and count for nothing.
+/// How many of four cells are used.
+#[derive(Clone, Copy)]
+pub struct Count {
+    used: u8,
+}
+
+impl Model for Count {
+    ghost use Rattle.std.specs.Prelude.{ℕ, ◌≤◌};
+
+    ghost Value = { ℕ };
+
+    ghost view = { λ c. c.used };
+
+    ghost invariant = { λ c. c.used ≤ 4 };
+
+    ghost inverse = { λ n. record { used = n } };
+}
+
+impl Count {
+    /// This many.
+    pub fn of(used: usize) -> Self
+        requires { used ≤ 4 }
+        ensures { result ≡ used }
+    {
+        Count { used: used as u8 }
+    }
+
+    /// The number.
+    pub fn get(self) -> usize
+        ensures value { result ≡ self }
+        ensures few { result ≤ 4 }
+    {
+        usize::from(self.used)
+    }
+}
+
+/// Four cells, of which the first ones are used. The others hold copies, and count for nothing.
 ///
-/// In a list the tag and seven bytes stand before the cells, so that these begin at a multiple of eight bytes.
+/// They begin at a multiple of eight bytes. So a list is copied by whole words: the tag and the count stand before them.
 #[derive(Drop)]
 pub struct Few<T: Copy> {
-    len: u8,
-    unused: [u8; 6],
+    aligned: [u64; 0],
     cells: [T; 4],
 }
 
 impl<T: Copy> Model for Few<T> {
-    ghost use Rattle.std.specs.Prelude.{◌≡◌, ◌≤◌, ◌<◌, List, length, take};
+    ghost use Rattle.std.specs.Prelude.{◌≡◌, List, length};
 
     ghost Value = { List T };
 
-    ghost view = { λ f. take f.len f.cells };
+    ghost view = { λ f. f.cells };
 
-    ghost invariant = { λ f. (0 < f.len) × (f.len ≤ 4) × (length f.cells ≡ 4) };
+    ghost invariant = { λ f. length f.cells ≡ 4 };
 }
 
 impl<T: Copy> Few<T> {
     ghost use Rattle.iloc_shortvec.specs.FewLends.{few_lends_slice};
 
+    // These cells.
+    fn of(cells: [T; 4]) -> Self
+        ensures { result ≡ cells }
+    {
+        Few { aligned: [], cells }
+    }
+
     /// One item.
     pub fn one(item: T) -> Self
-        ensures { result ≡ item ∷ [] }
+        ensures { take 1 result ≡ item ∷ [] }
     {
-        Few {
-            len: 1,
-            unused: [0; 6],
-            cells: [item; 4],
-        }
+        Few::of([item; 4])
     }
 
     /// Two items.
     pub fn two(first: T, second: T) -> Self
-        ensures { result ≡ first ∷ second ∷ [] }
+        ensures { take 2 result ≡ first ∷ second ∷ [] }
     {
-        Few {
-            len: 2,
-            unused: [0; 6],
-            cells: [first, second, second, second],
-        }
+        Few::of([first, second, second, second])
     }
 
     /// Copies of one to four items.
     pub fn from_slice(items: &[T]) -> Self
         requires not_empty { 0 < length items.now }
         requires fits { length items.now ≤ 4 }
-        ensures { result ≡ items.now }
+        ensures { take (length items.now) result ≡ items.now }
     {
         let mut all = [items[0]; 4];
         all[..items.len()].copy_from_slice(items);
-        Few {
-            len: items.len() as u8,
-            unused: [0; 6],
-            cells: all,
-        }
+        Few::of(all)
     }
 
-    /// The same items once more.
+    /// The same cells once more.
     #[inline(always)]
     pub fn copied(&self) -> Self
         ensures { result ≡ self.now }
     {
-        Few {
-            len: self.len,
-            unused: [0; 6],
-            cells: self.cells,
-        }
+        Few::of(self.cells)
     }
 
-    /// The items.
-    pub fn as_slice(&self) -> &[T]
-        ensures items { result.now ≡ self.now }
-        ensures not_empty { 0 < length self.now }
-        ensures fits { length self.now ≤ 4 }
+    /// The first items.
+    pub fn as_slice(&self, count: Count) -> &[T]
+        ensures items { result.now ≡ take count self.now }
+        ensures length { length result.now ≡ count }
+        ensures fits { length result.now ≤ 4 }
     {
-        &self.cells[..usize::from(self.len)]
+        &self.cells[..count.get()]
     }
 
-    /// The items for writing.
-    pub fn as_mut_slice(&mut self) -> &mut [T]
+    /// The first items for writing.
+    pub fn as_mut_slice(&mut self, count: Count) -> &mut [T]
         ensures* writes_back { sem 𝓛 (few_lends_slice T.row self.entry result) }
-        ensures value { result.now ≡ self.old }
+        ensures value { result.now ≡ take count self.old }
     {
-        front_mut(&mut self.cells, usize::from(self.len))
+        front_mut(&mut self.cells, count.get())
     }
 
     /// Puts an item at a place, if there is room.
-    pub fn insert(&mut self, index: usize, item: T)
-        requires place { index ≤ length self.old }
-        requires room { length self.old < 4 }
-        ensures { self.new ≡ insert self.old index item }
+    pub fn insert(&mut self, count: Count, index: usize, item: T)
+        requires place { index ≤ count }
+        requires room { count < 4 }
+        ensures { take (count + 1) self.new ≡ insert (take count self.old) index item }
     {
-        self.cells
-            .copy_within(index..usize::from(self.len), index + 1);
+        self.cells.copy_within(index..count.get(), index + 1);
         self.cells[index] = item;
-        self.len += 1;
     }
 
     /// Adds copies of the items at the end.
-    pub fn extend_from_slice(&mut self, items: &[T])
-        requires room { length self.old + length items.now ≤ 4 }
-        ensures { self.new ≡ self.old ++ items.now }
+    pub fn extend_from_slice(&mut self, count: Count, items: &[T])
+        requires room { count + length items.now ≤ 4 }
+        ensures { take (count + length items.now) self.new ≡ take count self.old ++ items.now }
     {
-        let start = usize::from(self.len);
-        let end = start + items.len();
+        let start = count.get();
         let all = &mut self.cells[..];
-        all[start..end].copy_from_slice(items);
-        self.len = end as u8;
+        all[start..start + items.len()].copy_from_slice(items);
     }
 
-    /// Removes an item, of several.
-    pub fn remove(&mut self, index: usize)
-        requires place { index < length self.old }
-        requires several { 1 < length self.old }
-        ensures { self.new ≡ remove self.old index }
+    /// Removes an item.
+    pub fn remove(&mut self, count: Count, index: usize)
+        requires { index < count }
+        ensures { take (count - 1) self.new ≡ remove (take count self.old) index }
     {
-        self.cells
-            .copy_within(index + 1..usize::from(self.len), index);
-        self.len -= 1;
+        self.cells.copy_within(index + 1..count.get(), index);
+    }
+
+    /// The first cell.
+    pub fn first(&self) -> T
+        ensures { take 1 self.now ≡ result ∷ [] }
+    {
+        self.cells[0]
+    }
+
+    /// The cells after the first, and the last once more.
+    pub fn after_first(&self) -> Self
+        ensures { take 3 result ≡ drop 1 self.now }
+    {
+        let [_, second, third, last] = self.cells;
+        Few::of([second, third, last, last])
+    }
+
+    /// Takes out the first of so many items, if there is one.
+    #[inline(always)]
+    pub fn take_first(&mut self, count: &mut Count) -> Option<T>
+        ensures { YieldsFirst (λ items. items) (take count.old self.old) result
+            (take count.new self.new) }
+    {
+        if count.get() == 0 {
+            return None;
+        }
+        let item = self.first();
+        *self = self.after_first();
+        *count = Count::of(count.get() - 1);
+        Some(item)
     }
 }

@@ -4,13 +4,15 @@ ghost use Rattle.std.specs.Borrow.{sem};
 ghost use Rattle.std.specs.Option.{option_copied};
 ghost use Rattle.std.specs.List.Retain.{IsFiltered};
 ghost use Rattle.std.specs.Fn.{CalledAt};
-ghost use Rattle.iloc_shortvec.specs.Kept.{items_of, IsKept};
+ghost use Rattle.iloc_shortvec.specs.Kept.{items_of, count_of, IsKept};
+ghost use Rattle.iloc_shortvec.specs.Left.{words_left};
 ghost use Rattle.iloc_shortvec.specs.ShortList.{only_of};
 
-use crate::few::Few;
+use crate::few::{Count, Few};
 use crate::items::Nothing;
 use crate::slices;
 use std::alloc::{AllocError, Global};
+use std::vec;
 
 /// Copies of the items, in a `Vec` of this capacity or more. Refusal: `AllocError`.
 fn copies<T: Copy>(alloc: Global, items: &[T], capacity: usize) -> Result<Vec<T>, AllocError>
@@ -24,8 +26,16 @@ fn copies<T: Copy>(alloc: Global, items: &[T], capacity: usize) -> Result<Vec<T>
 /// No items, one to four in place, or a `Vec`.
 pub(crate) enum Kept<T: Copy> {
     Empty(Nothing<T>),
-    Inline(Few<T>),
+    Inline(Count, Few<T>),
     Heap(Vec<T>),
+}
+
+/// What an iterator over the items has left.
+#[derive(Drop)]
+pub(crate) enum Left<T: Copy> {
+    Done,
+    Inline(Count, Few<T>),
+    Heap(vec::IntoIter<T, Global>),
 }
 
 // Written out, so that whoever lets a list go proves a call.
@@ -33,7 +43,7 @@ impl<T: Copy> Drop for Kept<T> {
     fn drop(self) {
         match self {
             Kept::Empty(_none) => {}
-            Kept::Inline(_items) => {}
+            Kept::Inline(_count, _items) => {}
             Kept::Heap(_items) => {}
         }
     }
@@ -47,7 +57,7 @@ impl<T: Copy> Kept<T> {
     {
         match self {
             Kept::Empty(none) => none.as_slice(),
-            Kept::Inline(items) => items.as_slice(),
+            Kept::Inline(count, items) => items.as_slice(*count),
             Kept::Heap(items) => items.as_slice(),
         }
     }
@@ -58,7 +68,7 @@ impl<T: Copy> Kept<T> {
         ensures { option_copied result ≡ only_of (items_of self.now) }
     {
         match self {
-            Kept::Inline(items) => slices::only(items.as_slice()),
+            Kept::Inline(count, items) => slices::only(items.as_slice(*count)),
             Kept::Empty(_) | Kept::Heap(_) => None,
         }
     }
@@ -69,8 +79,18 @@ impl<T: Copy> Kept<T> {
     {
         match self {
             Kept::Empty(_) => None,
-            Kept::Inline(items) => items.as_slice().get(index),
+            Kept::Inline(count, items) => items.as_slice(*count).get(index),
             Kept::Heap(items) => items.as_slice().get(index),
+        }
+    }
+
+    // How many cells are used, if the items are in place.
+    fn count(&self) -> Count
+        ensures { result ≡ count_of self.now }
+    {
+        match self {
+            Kept::Inline(count, _) => *count,
+            Kept::Empty(_) | Kept::Heap(_) => Count::of(0),
         }
     }
 
@@ -78,9 +98,10 @@ impl<T: Copy> Kept<T> {
         ensures* writes_back { sem 𝓛 (kept_lends_slice T.row self.entry result) }
         ensures value { result.now ≡ items_of self.old }
     {
+        let count = self.count();
         match self {
             Kept::Empty(none) => none.as_mut_slice(),
-            Kept::Inline(items) => items.as_mut_slice(),
+            Kept::Inline(_, items) => items.as_mut_slice(count),
             Kept::Heap(items) => items.as_mut_slice(),
         }
     }
@@ -93,10 +114,12 @@ impl<T: Copy> Kept<T> {
         ensures items { items_of self.new ≡ insert (items_of self.old) index item }
         ensures kept { IsKept self.new }
     {
-        if let Kept::Inline(few) = self {
-            few.insert(index, item);
+        if let Kept::Inline(count, few) = self {
+            let _ = few.as_slice(*count);
+            few.insert(*count, index, item);
+            *count = Count::of(count.get() + 1);
         } else {
-            *self = Kept::Inline(Few::one(item));
+            *self = Kept::Inline(Count::of(1), Few::one(item));
         }
     }
 
@@ -130,8 +153,10 @@ impl<T: Copy> Kept<T> {
         ensures items { items_of self.new ≡ items_of self.old ++ items.now }
         ensures kept { IsKept self.new }
     {
-        if let Kept::Inline(few) = self {
-            few.extend_from_slice(items);
+        if let Kept::Inline(count, few) = self {
+            let _ = few.as_slice(*count);
+            few.extend_from_slice(*count, items);
+            *count = Count::of(count.get() + items.len());
         } else {
             *self = Kept::from_short(items);
         }
@@ -161,9 +186,10 @@ impl<T: Copy> Kept<T> {
     {
         match self {
             Kept::Empty(_) => {}
-            Kept::Inline(few) => {
-                if few.as_slice().len() > 1 {
-                    few.remove(index);
+            Kept::Inline(count, few) => {
+                if few.as_slice(*count).len() > 1 {
+                    few.remove(*count, index);
+                    *count = Count::of(count.get() - 1);
                 } else {
                     *self = Kept::Empty(Nothing::new());
                 }
@@ -171,6 +197,17 @@ impl<T: Copy> Kept<T> {
             Kept::Heap(items) => {
                 items.remove(index);
             }
+        }
+    }
+
+    /// The items by value.
+    pub(crate) fn into_left(self) -> Left<T>
+        ensures { words_left result ≡ items_of self }
+    {
+        match self {
+            Kept::Empty(_none) => Left::Done,
+            Kept::Inline(count, items) => Left::Inline(count, items),
+            Kept::Heap(items) => Left::Heap(items.into_iter()),
         }
     }
 
@@ -195,7 +232,7 @@ impl<T: Copy> Kept<T> {
         if items.is_empty() {
             return Kept::Empty(Nothing::new());
         }
-        Kept::Inline(Few::from_slice(items))
+        Kept::Inline(Count::of(items.len()), Few::from_slice(items))
     }
 }
 

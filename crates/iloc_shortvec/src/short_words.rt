@@ -18,9 +18,9 @@ ghost use Rattle.iloc_shortvec.specs.ShortList.{only_of};
 ghost use Rattle.iloc_spec_grammar.specs.ShortLists.{short_cmp};
 ghost use Rattle.iloc_shortvec.specs.ShortOrder.{short_total, short_ties};
 
-use crate::few::Few;
+use crate::few::{Count, Few};
 use crate::items::Nothing;
-use crate::kept::{Kept, kept_of};
+use crate::kept::{Kept, Left, kept_of};
 use crate::slices;
 use std::alloc::{AllocError, Global};
 use std::cmp::Ordering;
@@ -66,7 +66,7 @@ impl<T: Copy> ShortWords<T> {
         ensures { result ≡ item ∷ [] }
     {
         ShortWords {
-            kept: Kept::Inline(Few::one(item)),
+            kept: Kept::Inline(Count::of(1), Few::one(item)),
         }
     }
 
@@ -76,7 +76,7 @@ impl<T: Copy> ShortWords<T> {
         ensures succeeds { IsOk result }
     {
         Ok(ShortWords {
-            kept: Kept::Inline(Few::two(first, second)),
+            kept: Kept::Inline(Count::of(2), Few::two(first, second)),
         })
     }
 
@@ -224,7 +224,7 @@ impl<T: Copy> ShortWords<T> {
     {
         match &mut self.kept {
             Kept::Empty(_) => {}
-            Kept::Inline(few) => self.kept = kept_of(few.as_slice(), keep),
+            Kept::Inline(count, few) => self.kept = kept_of(few.as_slice(*count), keep),
             Kept::Heap(items) => {
                 items.retain(keep);
                 self.kept.settle();
@@ -254,8 +254,8 @@ impl<T: Copy> ShortWords<T> {
     {
         match &self.kept {
             Kept::Empty(_) => Ok(ShortWords::new()),
-            Kept::Inline(few) => Ok(ShortWords {
-                kept: Kept::Inline(few.copied()),
+            Kept::Inline(count, few) => Ok(ShortWords {
+                kept: Kept::Inline(*count, few.copied()),
             }),
             Kept::Heap(items) => {
                 let all = Vec::from_slice(*items.allocator(), items.as_slice())?;
@@ -339,16 +339,17 @@ impl<T: Copy + Ord> PartialOrd for ShortWords<T> {
 /// The items of a list by value, seen as the list of those that are left.
 #[derive(Drop)]
 pub struct ShortWordsIntoIter<T: Copy> {
-    words: ShortWords<T>,
-    next: usize,
+    left: Left<T>,
 }
 
 impl<T: Copy> Model for ShortWordsIntoIter<T> {
-    ghost use Rattle.std.specs.Prelude.{List, drop};
+    ghost use Rattle.std.specs.Prelude.{List};
 
     ghost Value = { List T };
 
-    ghost view = { λ it. drop it.next it.words };
+    ghost use Rattle.iloc_shortvec.specs.Left.{words_left};
+
+    ghost view = { λ it. words_left it.left };
 }
 
 impl<T: Copy> Iterator for ShortWordsIntoIter<T> {
@@ -359,13 +360,10 @@ impl<T: Copy> Iterator for ShortWordsIntoIter<T> {
     ghost remaining = { item_count (λ rest. rest) };
 
     fn next(&mut self) -> Option<T> {
-        match slices::item_at(self.words.as_slice(), self.next) {
-            Some(item) => {
-                let item = *item;
-                self.next += 1;
-                Some(item)
-            }
-            None => None,
+        match &mut self.left {
+            Left::Done => None,
+            Left::Inline(count, few) => few.take_first(count),
+            Left::Heap(items) => items.next(),
         }
     }
 }
@@ -379,8 +377,7 @@ impl<T: Copy> IntoIterator for ShortWords<T> {
 
     fn into_iter(self) -> ShortWordsIntoIter<T> {
         ShortWordsIntoIter {
-            words: self,
-            next: 0,
+            left: self.kept.into_left(),
         }
     }
 }

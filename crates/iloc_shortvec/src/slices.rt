@@ -1,5 +1,5 @@
 //! What both lists read of their items.
-ghost use Rattle.std.specs.Prelude.{◌≡◌, slice_get};
+ghost use Rattle.std.specs.Prelude.{◌≡◌};
 ghost use Rattle.std.specs.Option.{option_copied};
 ghost use Rattle.iloc_shortvec.specs.ShortList.{only_of};
 ghost use Rattle.iloc_spec_grammar.specs.ShortLists.{short_cmp};
@@ -14,13 +14,6 @@ pub(crate) fn only<T>(items: &[T]) -> Option<&T>
         [only] => Some(only),
         _ => None,
     }
-}
-
-/// The item at a place, `None` from the length on.
-pub(crate) fn item_at<T>(items: &[T], index: usize) -> Option<&T>
-    ensures { option_copied result ≡ slice_get items.now index }
-{
-    items.get(index)
 }
 
 /// At most one item comes before more, and items are compared one by one within each class.

@@ -1,3 +1,13 @@
+pub mod Subdivisions
+pub mod DataLocales
+pub mod DataComputing
+pub mod DataOrders
+pub mod DataHashes
+pub mod DataExamples
+pub mod Keywords
+pub mod Preferences
+pub mod Formatters
+pub mod PreferenceExamples
 pub mod Readers
 pub mod Fronts
 pub mod SingleValues

@@ -31,7 +31,7 @@ use Rattle.iloc_subtags.specs.declared.parse_error.ParseError.TheVariants.{Dupli
 use Rattle.iloc_langid.specs.Reads.{FrontReads}
 use Rattle.iloc_langid.specs.Reads as langid
 use Rattle.iloc_langid.specs.declared.identifier.LanguageIdentifier.{LanguageIdentifier}
-use Rattle.iloc_fields.specs.FieldsReading.{FieldsRead, FieldsFills}
+use Rattle.iloc_transform.specs.FieldsReading.{FieldsRead, FieldsFills}
 use Rattle.iloc_transform.specs.LangReading.{LangRead, LangFills}
 use Rattle.iloc_subtags.specs.Judging.{RunsOutOnlyIf}
 use Rattle.iloc_transform.specs.TransformReading.{value_of, TransformWantsMemory, variants, fields}

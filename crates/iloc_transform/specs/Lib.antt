@@ -1,2 +1,5 @@
+pub mod ValueReading
+pub mod FieldsReading
+pub mod FieldsOrder
 pub mod LangReading
 pub mod TransformReading

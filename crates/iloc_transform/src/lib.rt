@@ -1,9 +1,11 @@
 //! The transform extension: an identifier and fields.
 //!
-//! Parsers take exactly what the grammar of UTS #35, section 3, allows after `t`, by its definition in
-//! `iloc_spec_parts`, and print it as the normal text does, the identifier in lower case.
+//! A value of a field is a list of subtags, fields are a map from keys to values (`fields`, `value`). Parsers take exactly
+//! what the grammar of UTS #35, section 3, allows after `t`, by its definition in `iloc_spec_parts`, and print it as the
+//! normal text does, the identifier in lower case.
 //!
-//! It stands on the identifiers of `iloc_langid` and the fields of `iloc_fields`, which it passes on.
+//! It stands on the identifiers of `iloc_langid`, the maps of `iloc_litemap`, the lists of `iloc_shortvec` and the subtags
+//! of `iloc_subtags`.
 #![tactic(auto)]
 
 ghost use Rattle.std.specs.Prelude.{◌≡◌, ◌≤◌, ◌↔◌, IsTrue, ℕ, List, [], length, IfSome};
@@ -17,11 +19,15 @@ ghost use Rattle.iloc_transform.specs.TransformReading.{TransformWantsMemory, va
 
 use std::hash::Hash;
 
+pub mod field_laws;
+pub mod fields;
 mod lang;
 pub mod transform;
+pub mod value;
 
-pub use iloc_fields::{Fields, Key, Value};
+pub use fields::{Fields, Key};
 pub use transform::Transform;
+pub use value::Value;
 
 /// A block that means an identifier of at most four variants, or none, and no field allocates nothing.
 pub fn few_words()

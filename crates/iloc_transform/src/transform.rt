@@ -30,9 +30,9 @@ ghost use Rattle.iloc_transform.specs.TransformReading.{
   TransformWantsMemory,
 };
 
+use crate::Fields;
+use crate::fields::fill_fields;
 use crate::lang::{cmp_langs, fill_lang, lowercase};
-use iloc_fields::Fields;
-use iloc_fields::fields::fill_fields;
 use iloc_langid::LanguageIdentifier;
 use iloc_other::singleton::take_singleton;
 use iloc_subtags::{ParseError, SubtagIterator};

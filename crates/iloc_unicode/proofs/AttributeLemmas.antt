@@ -11,7 +11,7 @@ use Rattle.iloc_spec_grammar.proofs.ReadWords.{IsNormal-normal}
 use Rattle.iloc_spec_grammar.proofs.SetLaws.{set_of-first, set_of-set_of, length-set_of}
 use Rattle.iloc_spec_grammar.proofs.ValuesLaws.{set_of_ascending}
 use Rattle.iloc_spec_grammar.proofs.WellRead.{set_of-ascending, all-set_of}
-use Rattle.iloc_word_set.proofs.CollectorLaws.{permuted_set, set_grows}
+use Rattle.iloc_word_list.proofs.CollectorLaws.{permuted_set, set_grows}
 use Rattle.iloc_spec_parts.specs.Fronts.{attributes_read, after_attributes}
 use Rattle.iloc_spec_parts.proofs.FieldLaws.{passing_stops, past_stops}
 use Rattle.iloc_subtags.specs.NextPiece.{next_has_length}

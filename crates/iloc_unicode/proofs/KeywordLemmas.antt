@@ -2,7 +2,6 @@
 use Rattle.std.proofs.Common.{◌≡◌, ℕ, suc, ◌<◌, ◌≤◌, Bool, true, false, not, cond, ◌&&◌, ◌||◌, List, [], ◌∷◌}
 use Rattle.std.proofs.Common.{◌++◌, length, map, refl, sym, ap, ap₂, ◌∙◌, arith, true≢false, subst}
 use Rattle.std.proofs.Common.{append-nil, append_assoc, Option, Some, None, option_map, is_some, nat_lt}
-use Rattle.std.proofs.Common.{get_or}
 use Rattle.std.specs.List.{AllByRecursion, list_any}
 use Rattle.std.specs.Ordering.{eq_by_cmp}
 use Rattle.std.specs.Cmp.{eq_by_cmp_equiv}
@@ -10,14 +9,14 @@ use Rattle.std.specs.Option.{option_or}
 use Rattle.std.specs.FinMap.{put, find, is_sorted}
 use Rattle.std.proofs.lemmas.Bool.Decides.{nat_tests}
 use Rattle.std.proofs.lemmas.List.{map-append}
-use Rattle.iloc_spec_grammar.specs.Syntax.{Text, UnicodeKey, Attribute, is_word, IsWord, is_same, lower}
+use Rattle.iloc_spec_grammar.specs.Syntax.{Text, UnicodeKey, Attribute, is_word, IsWord, lower}
 use Rattle.iloc_spec_grammar.specs.Syntax.{word_cmp}
 use Rattle.iloc_spec_grammar.specs.Syntax.{Fields}
 use Rattle.iloc_spec_grammar.specs.Meaning.{map_of, normal_values, normal_fields, InvalidExtension}
 use Rattle.iloc_spec_grammar.specs.Meaning.{first_piece}
 use Rattle.iloc_spec_grammar.specs.Reading.{take_first, skip_first, passing, past, is_two, before_key}
 use Rattle.iloc_spec_grammar.specs.Reading.{fields_from}
-use Rattle.iloc_spec_grammar.proofs.MapLaws.{word_cmp_total, same_words, same_is, same_itself, map_of_sorted}
+use Rattle.iloc_spec_grammar.proofs.MapLaws.{word_cmp_total, same_words, map_of_sorted}
 use Rattle.iloc_spec_grammar.proofs.MapLaws.{find-map_of}
 use Rattle.iloc_spec_grammar.proofs.SetLaws.{find-append}
 use Rattle.iloc_spec_parts.specs.Fronts.{is_keyword_piece, keywords_front, after_keywords, is_bad_key}
@@ -385,26 +384,10 @@ filled_bad before now rest m t stays h none =
 
 -- A map of one pair over another map.
 
--- the key of the first pair is there
-pub first_found : (m : Fields) (e : Text × List Text) → 1 ≤ length m → e ≡ get_or m 0 e
-    → is_some (find word_cmp e.0 m) ≡ true
-first_found [] e l is = absurd (omega (arith, l))
-first_found (a ∷ m) e l is =
-    ap (λ (x : Text × List Text). is_some (find word_cmp x.0 (a ∷ m))) is
-    ∙ ap (λ b. is_some (cond b (Some a.1) (find word_cmp a.0 m))) (same_itself a.0)
-
--- the pair is set
-pub only_put : (m es : Fields) (k : Text) (v : List Text) → length m ≡ 1
-    → Some v ≡ find word_cmp k m → is_sorted word_cmp es ≡ true
-    → put word_cmp k v es ≡ map_of word_cmp (m ++ es)
-only_put [] es k v l f s = absurd (omega (arith, l))
-only_put (e ∷ []) es k v l f s = by (is_same k e.0) refl f
-  where
-    by : (b : Bool) → is_same k e.0 ≡ b → Some v ≡ cond b (Some e.1) None
-        → put word_cmp k v es ≡ map_of word_cmp (e ∷ es)
-    by true same is =
-        let key : k ≡ e.0 = same_is k e.0 same in
-        let value : v ≡ e.1 = cc in
-        rw (key, value) (sym (ap (put word_cmp e.0 e.1) (map_of_sorted word_cmp es s)))
-    by false same is = cc
-only_put (a ∷ b ∷ m) es k v l f s = absurd (omega (arith, l))
+-- the only pair is set
+pub only_put : (m rest es : Fields) (k : Text) (v : List Text) → length m ≡ 1 → m ≡ (k, v) ∷ rest →
+    is_sorted word_cmp es ≡ true → put word_cmp k v es ≡ map_of word_cmp (m ++ es)
+only_put m [] es k v l is s =
+    sym (ap (λ (fs : Fields). map_of word_cmp (fs ++ es)) is
+    ∙ ap (put word_cmp k v) (map_of_sorted word_cmp es s))
+only_put m (e ∷ rest) es k v l is s = let two = ap length is in absurd (omega (arith, l, two))

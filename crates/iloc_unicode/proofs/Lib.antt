@@ -3,3 +3,4 @@ mod KeywordLemmas
 mod PrintLemmas
 mod UnicodeLemmas
 mod OwedLemmas
+mod LengthLemmas

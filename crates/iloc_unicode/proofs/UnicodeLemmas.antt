@@ -1,6 +1,7 @@
 -- Attributes and keywords, read one after the other, and the letter before them.
 use Rattle.std.proofs.Common.{◌≡◌, ℕ, suc, ◌+◌, ◌<◌, true, false, ◌&&◌, ◌==◌, List, [], ◌∷◌, length, map}
-use Rattle.std.proofs.Common.{refl, sym, ap, ◌∙◌, subst, arith, true≢false, Some, None, Result, Ok, Err}
+use Rattle.std.proofs.Common.{◌++◌, append-nil, ap₂, refl, sym, ap, ◌∙◌, subst, arith, true≢false, Some, None}
+use Rattle.std.proofs.Common.{Result, Ok, Err}
 use Rattle.std.specs.Char.{to_ascii_lowercase}
 use Rattle.std.specs.FinMap.{put}
 use Rattle.std.specs.FinMap.Entries.{by_order}
@@ -8,8 +9,12 @@ use Rattle.std.specs.declared.cmp.Ordering.TheVariants.{Less, Equal, Greater}
 use Rattle.std.proofs.lemmas.Bool.{and_parts}
 use Rattle.std.proofs.lemmas.Bool.Decides.{nat_tests}
 use Rattle.std.proofs.lemmas.List.{length-map}
-use Rattle.iloc_spec_grammar.specs.Syntax.{code_u, Text, pieces, lower, word_cmp, Fields, fields_pieces}
+use Rattle.iloc_spec_grammar.specs.Syntax.{code_u, Text, pieces, lower, word_cmp, Fields, Unicode}
+use Rattle.iloc_spec_grammar.specs.Syntax.{fields_pieces}
 use Rattle.iloc_spec_grammar.specs.Meaning.{map_of, set_of, normal_fields}
+use Rattle.iloc_spec_grammar.specs.Values.{StrictlyAscends}
+use Rattle.iloc_spec_grammar.proofs.ValuesLaws.{set_of_ascending}
+use Rattle.iloc_spec_parts.specs.Extending.{extend}
 use Rattle.iloc_spec_grammar.specs.Reading.{rest_of}
 use Rattle.iloc_spec_grammar.specs.Meaning as faults
 use Rattle.iloc_spec_parts.specs.Fronts.{attributes_front, after_attributes, attributes_read, keywords_front}
@@ -179,3 +184,17 @@ after_letter t rest (Err InvalidSubtag) h g =
     let (b, spelled, same) = begins (pieces t) h in after_singleton spelled h g
 after_letter t rest (Err DuplicatedExtension) h g =
     let (b, spelled, same) = begins (pieces t) h in after_singleton spelled h g
+
+-- no attribute more
+pub none_added : (ws vs : List Text) → StrictlyAscends word_cmp ws → length vs ≡ 0 → ws ≡ set_of (ws ++ vs)
+none_added ws [] a n = sym (ap set_of (append-nil ws) ∙ set_of_ascending ws a)
+none_added ws (v ∷ vs) a n = absurd (omega (arith, n))
+
+-- and the keywords of both
+pub extended_alike : (u v w : Unicode) → StrictlyAscends word_cmp u.attributes → length v.attributes ≡ 0 →
+    w.attributes ≡ u.attributes → w.keywords ≡ map_of word_cmp (v.keywords ++ u.keywords) → w ≡ extend u v
+extended_alike u v w a n ws fs = ap₂ (λ (ats : List Text) (ks : Fields). pair ats ks)
+    (ws ∙ none_added u.attributes v.attributes a n) fs
+  where
+    pair : List Text → Fields → Unicode
+    pair ats ks = record { attributes = ats; keywords = ks }

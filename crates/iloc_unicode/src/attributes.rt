@@ -34,10 +34,10 @@ ghost use Rattle.iloc_subtags.specs.Judging.{Accepts, RunsOutOnlyIf};
 ghost use Rattle.iloc_unicode.specs.Reads.{AttributesTextReads, AttributesWantMemory};
 ghost use Rattle.iloc_word_list.specs.Equality.{words_eq};
 ghost use Rattle.iloc_word_list.specs.EqualityLaws.{words_exact};
-ghost use Rattle.iloc_word_set.specs.Ascending.{ascends};
+ghost use Rattle.iloc_word_list.specs.Ascending.{ascends};
 
 use iloc_subtags::{Attribute, AttributeKind, ParseError, SubtagIterator};
-use iloc_word_set::WordSet;
+use iloc_word_list::WordSet;
 use iloc_writeable::pieces::Pieces;
 use iloc_writeable::{Sink, Writeable};
 use std::alloc::{AllocError, Global};

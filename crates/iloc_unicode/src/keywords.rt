@@ -252,27 +252,25 @@ impl Keywords {
         ensures err { OnErr result (self.new ≡ self.old) }
         ensures succeeds { length other ≡ 0 → IsOk result }
     {
-        if let [pair] = other.as_slice() {
-            let key = pair.0;
-            return self.set_only(alloc, key, other);
+        if let [_] = other.as_slice() {
+            return self.set_only(alloc, other);
         }
         let _ = other.as_slice();
         let Keywords { map } = other;
         self.map.extend_from_map(alloc, map)
     }
 
-    // Sets the pair of a map that has this key and no other.
+    // Sets the pair of a map that has no other.
     #[inline(never)]
-    fn set_only(&mut self, alloc: Global, key: Key, only: Keywords) -> Result<(), AllocError>
-        requires one { length only ≡ 1 }
-        requires known { is_some (find word_cmp key only) ≡ true }
+    fn set_only(&mut self, alloc: Global, only: Keywords) -> Result<(), AllocError>
+        requires { length only ≡ 1 }
         ensures ok { OnOk result (self.new ≡ map_of word_cmp (only ++ self.old)) }
         ensures err { OnErr result (self.new ≡ self.old) }
     {
         let _ = self.as_slice();
-        let Keywords { mut map } = only;
-        match map.remove(&key) {
-            Some(value) => {
+        let Keywords { map } = only;
+        match map.into_iter().next() {
+            Some((key, value)) => {
                 self.set(alloc, key, value)?;
                 Ok(())
             }

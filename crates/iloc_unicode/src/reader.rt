@@ -17,8 +17,7 @@ use iloc_subtags::{
     AttributeKind, ParseError, SubtagIterator, UnicodeKeyKind, next_has_length, take_byte,
     take_word,
 };
-use iloc_word_list::read_value;
-use iloc_word_set::{WordCollector, WordSet};
+use iloc_word_list::{WordCollector, WordSet, read_value};
 use std::alloc::{AllocError, Global};
 
 impl Attributes {

@@ -115,6 +115,10 @@ impl Unicode {
         ensures associative { (u v w : UnicodeParts)
             → extend (extend u v) w ≡ extend u (extend v w) }
     {
+        let _ = self.attributes.as_slice();
+        if other.attributes.is_empty() {
+            return self.keywords.extend_from_keywords(alloc, other.keywords);
+        }
         let attributes = self.attributes.union(alloc, &other.attributes)?;
         self.keywords.extend_from_keywords(alloc, other.keywords)?;
         self.attributes = attributes;

@@ -1,3 +1,6 @@
+pub mod AscendingLaws
+pub mod SetLaws
+pub mod CollectorLaws
 pub mod CurrencyLemmas
 mod CutLemmas
 mod PrintLemmas

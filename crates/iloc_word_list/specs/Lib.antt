@@ -1,3 +1,6 @@
+pub mod Ascending
+pub mod TakingIn
+pub mod Collected
 pub mod Equality
 pub mod EqualityLaws
 pub mod Reads

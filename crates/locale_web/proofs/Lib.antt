@@ -1,3 +1,6 @@
+pub mod Placing
+pub mod Telling
+pub mod Walking
 pub mod LocaleLemmas
 pub mod PartLemmas
 pub mod ReadLemmas

@@ -10,10 +10,10 @@ use Rattle.iloc_spec_grammar.proofs.IdentifierTexts.{identifier_means_value}
 use Rattle.iloc_spec_grammar.proofs.PartTexts.{text_of_parts}
 use Rattle.iloc_spec_grammar.proofs.RawLaws.{languages_table}
 use Rattle.iloc_spec_grammar.proofs.SameText.{well_formed_is}
-use Rattle.iloc_spec_preferences.specs.DataLocales.{DataLocale, DataMeans, data_text, locale_of_data}
-use Rattle.iloc_spec_preferences.proofs.DataLaws.{locale_of_data_is_value, locale_of_data_is_well_formed}
-use Rattle.iloc_spec_preferences.proofs.DataLaws.{read_is_data_locale, text_of_data}
-use Rattle.iloc_kinds.specs.Kinds.{IsNormalTextOf, parts_of, rows_of}
+use Rattle.iloc_spec_parts.specs.DataLocales.{DataLocale, DataMeans, data_text, locale_of_data}
+use Rattle.iloc_spec_parts.proofs.DataLaws.{locale_of_data_is_value, locale_of_data_is_well_formed}
+use Rattle.iloc_spec_parts.proofs.DataLaws.{read_is_data_locale, text_of_data}
+use Rattle.locale_web.specs.Kinds.{IsNormalTextOf, parts_of, rows_of}
 use Rattle.iloc_normalize.specs.Modes.{IsNormalText}
 use Rattle.iloc_normalize.specs.declared.Mode.{Mode}
 use Rattle.iloc_normalize.specs.declared.Mode.TheVariants.{Langid, Locale, Data}

@@ -9,7 +9,7 @@ use Rattle.iloc_spec_grammar.specs.Meaning.{Means, IdentifierMeans}
 use Rattle.iloc_spec_grammar.specs.Syntax.{Identifier}
 use Rattle.iloc_spec_grammar.specs.Values.{identifier_text, text}
 use Rattle.iloc_spec_grammar.proofs.AnySteps.{shortest, length-identifier_means}
-use Rattle.iloc_spec_preferences.specs.DataLocales.{DataMeans, data_text}
+use Rattle.iloc_spec_parts.specs.DataLocales.{DataMeans, data_text}
 use Rattle.iloc_writeable.specs.Hints.{saturated}
 use Rattle.iloc_calls.proofs.Bounds.{parts_fit}
 use Rattle.iloc_data_parts.specs.PartsReading as parts

@@ -11,8 +11,8 @@ use Rattle.iloc_spec_grammar.proofs.Corollaries.{same_meaning}
 use Rattle.iloc_spec_grammar.proofs.IdentifierLaws as identifiers
 use Rattle.iloc_spec_grammar.proofs.IdentifierTexts.{identifier_apart, same_identifier_meaning}
 use Rattle.iloc_spec_grammar.proofs.SameMeaning as locales
-use Rattle.iloc_spec_preferences.specs.DataLocales.{DataMeans, data_text}
-use Rattle.iloc_spec_preferences.proofs.DataLaws.{one_data, data_apart, read_back}
+use Rattle.iloc_spec_parts.specs.DataLocales.{DataMeans, data_text}
+use Rattle.iloc_spec_parts.proofs.DataLaws.{one_data, data_apart, read_back}
 use Rattle.iloc_subtags.specs.declared.parse_error.ParseError.{ParseError}
 use Rattle.iloc_subtags.specs.declared.parse_error.ParseError.TheVariants as refusals
 use Rattle.iloc_normalize.specs.Modes.{IsNormalText, IsFaulty}

@@ -4,8 +4,8 @@ use Rattle.iloc_spec_grammar.specs.Syntax.{Text, Identifier, pieces, languages}
 use Rattle.iloc_spec_grammar.specs.Meaning as meaning
 use Rattle.iloc_spec_grammar.specs.Meaning.{Means, IdentifierMeans, without_extensions}
 use Rattle.iloc_spec_grammar.specs.Values.{text}
-use Rattle.iloc_spec_preferences.specs.DataLocales.{DataLocale, DataMeans, locale_of_data}
-use Rattle.iloc_kinds.specs.Kinds.{parts_of, rows_of}
+use Rattle.iloc_spec_parts.specs.DataLocales.{DataLocale, DataMeans, locale_of_data}
+use Rattle.locale_web.specs.Kinds.{parts_of, rows_of}
 use Rattle.iloc_normalize.specs.Modes.{IsNormalText}
 use Rattle.iloc_normalize.specs.declared.Mode.{Mode}
 use Rattle.iloc_normalize.specs.declared.Mode.TheVariants.{Langid, Locale, Data}

@@ -1,7 +1,7 @@
 -- What a text is read as.
 use Rattle.std.specs.Prelude.{◌⊎◌, ⊤, ℕ, ◌+◌, ◌≤◌, ◌<◌, length, take}
 use Rattle.iloc_spec_grammar.specs.Syntax.{Text, pieces, languages}
-use Rattle.iloc_spec_preferences.specs.DataLocales.{data_text}
+use Rattle.iloc_spec_parts.specs.DataLocales.{data_text}
 use Rattle.iloc_normalize.specs.Modes.{IsNormalText}
 use Rattle.iloc_normalize.specs.Answered.{HasRefusal}
 use Rattle.iloc_normalize.specs.declared.Mode.{Mode}

@@ -2,7 +2,7 @@
 //! has none of.
 ghost use Rattle.std.specs.Prelude.{◌≡◌, option_map, option_to_list};
 ghost use Rattle.iloc_spec_grammar.specs.Syntax as words;
-ghost use Rattle.iloc_spec_preferences.specs.DataLocales.{subdivision_keyword, subdivision_value};
+ghost use Rattle.iloc_spec_parts.specs.DataLocales.{subdivision_keyword, subdivision_value};
 ghost use Rattle.iloc_data_parts.specs.PartsReading.{value_of};
 
 use iloc_data_parts::DataParts;
@@ -53,7 +53,7 @@ fn subdivision_of(parts: &DataParts) -> Option<Option<Subtag>>
 
 /// The pieces are language, script, region, variant, and `u`, `sd` and the value of a subdivision that is printed.
 impl Pieces for DataText {
-    ghost use Rattle.iloc_spec_preferences.specs.DataLocales.{data_pieces};
+    ghost use Rattle.iloc_spec_parts.specs.DataLocales.{data_pieces};
     ghost use Rattle.iloc_data_parts.specs.PartsReading.{value_of};
 
     ghost pieces = { λ d. data_pieces (value_of d.parts) };
@@ -83,7 +83,7 @@ impl Pieces for DataText {
 
 /// Prints the text of the data locale that is made of the parts.
 impl Writeable for DataText {
-    ghost use Rattle.iloc_spec_preferences.specs.DataLocales.{data_text};
+    ghost use Rattle.iloc_spec_parts.specs.DataLocales.{data_text};
     ghost use Rattle.iloc_data_parts.specs.PartsReading.{value_of};
 
     ghost text = { λ d. data_text (value_of d.parts) };

@@ -5,7 +5,15 @@
 //! status as the calls of the C library give it (`iloc_calls`), or `BEYOND` of a text beyond what is read at once.
 //!
 //! Identifiers and locales are read by their outline (`iloc_outline`): up to 64 pieces and 65,535 bytes. Data locales are
-//! parsed, however long they are (`iloc_data_parts`). No call takes memory, so the module asks its page for nothing.
+//! parsed, however long they are (`iloc_data_parts`).
+//!
+//! What each piece of a normal text is, a page can show: language, script, region, variant, singleton, attribute, key,
+//! value, field, or a piece of another extension or of the private part. `parts_of` (`specs/Kinds.antt`) says it of a
+//! locale, part by part, as its text has them. `write_rows` finds it in the text, piece by piece from the left: it keeps
+//! which part it is in, a `State`, and tells each piece by its shape. The rows that it writes are those of the parts, in
+//! order, each with its place.
+//!
+//! No call takes memory, so the module asks its page for nothing.
 #![tactic(auto)]
 
 ghost use Rattle.std.specs.Prelude.{◌≡◌, ◌<◌, ◌≤◌, MatchOption, length, take};
@@ -29,9 +37,13 @@ ghost use Rattle.locale_web.specs.Reading.{IsPastLimits};
 
 mod comparing;
 mod data;
+pub mod kind;
+pub mod laws;
 mod normalizing;
 mod parts;
 mod reading;
+pub mod rows;
+mod state;
 
 use comparing::{compare, tell_same};
 use iloc_calls::{Status, find_fault};

@@ -3,7 +3,7 @@ ghost use Rattle.std.specs.Prelude.{◌≡◌, ◌↔◌, ◌+◌, ◌≤◌, Is
 ghost use Rattle.iloc_spec_grammar.specs.Syntax.{languages};
 ghost use Rattle.iloc_calls.specs.Answers.{HandsOut};
 ghost use Rattle.iloc_data_parts.specs.PartsReading.{value_of};
-ghost use Rattle.iloc_spec_preferences.specs.DataLocales.{data_text};
+ghost use Rattle.iloc_spec_parts.specs.DataLocales.{data_text};
 ghost use Rattle.locale_web.specs.Answers.{NormalIsWritten, NothingIsWritten};
 ghost use Rattle.locale_web.specs.Reading.{IsPut};
 

@@ -1,13 +1,13 @@
 //! Hands out the parts of normal texts.
 ghost use Rattle.std.specs.Prelude.{◌≡◌, MatchOption, length, take};
 ghost use Rattle.iloc_spec_grammar.specs.Meaning.{Locale};
-ghost use Rattle.iloc_kinds.specs.Kinds.{IsNormalTextOf, parts_of, rows_of};
+ghost use Rattle.locale_web.specs.Kinds.{IsNormalTextOf, parts_of, rows_of};
 ghost use Rattle.iloc_calls.specs.Answers.{HandsOut};
 ghost use Rattle.locale_web.specs.Parts.{NoPartIsWritten, PartsAreWritten};
 
 use crate::normalizing::{Placed, put};
+use crate::rows::{count_pieces, write_rows};
 use iloc_calls::Status;
-use iloc_kinds::rows::{count_pieces, write_rows};
 use iloc_normalize::Mode;
 
 // How many numbers stand for a piece.

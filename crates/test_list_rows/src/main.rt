@@ -23,7 +23,7 @@ mod steps;
 use iloc_litemap::LiteMap;
 use iloc_shortvec::{ShortBoxSlice, ShortWords};
 use iloc_subtags::Subtag;
-use iloc_word_set::{Variants, is_strictly_ascending};
+use iloc_word_list::{Variants, is_strictly_ascending};
 use lists::Listed;
 use sizes::Room;
 use std::io;

@@ -1,7 +1,7 @@
 //! Steps on a set of variants. Several words in one step have slashes between.
 use crate::steps::{Step, Stepping, answered, compared, is_done, replaced};
 use iloc_subtags::Variant;
-use iloc_word_set::{Variants, WordSet, is_strictly_ascending};
+use iloc_word_list::{Variants, WordSet, is_strictly_ascending};
 use iloc_writeable::Writeable;
 use std::alloc::{AllocError, Global};
 use test_page::{number, put, put_or_none, say};

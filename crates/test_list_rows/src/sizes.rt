@@ -5,7 +5,7 @@ use crate::printing::say_room;
 use crate::steps::{Step, Stepping};
 use iloc_litemap::{LiteMap, Probe, Store, place};
 use iloc_shortvec::{ShortBoxSlice, ShortWords};
-use iloc_word_set::Variants;
+use iloc_word_list::Variants;
 use iloc_writeable::{Writeable, to_string_or_borrow};
 use std::alloc::{AllocError, Global};
 use test_page::argument::number_of;

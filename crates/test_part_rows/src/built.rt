@@ -8,8 +8,7 @@ use iloc_subtags::{
 };
 use iloc_transform::{Fields, Transform, Value as FieldValue};
 use iloc_unicode::{Attributes, Keywords, Unicode};
-use iloc_word_list::Value;
-use iloc_word_set::is_strictly_ascending;
+use iloc_word_list::{Value, is_strictly_ascending};
 use std::alloc::{AllocError, Global};
 use test_page::steps::words;
 use test_page::told::made;

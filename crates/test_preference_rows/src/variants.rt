@@ -53,6 +53,13 @@ fn named_enum(word: &str, value: &Value, out: &mut String) {
             EmojiPresentationStyle::Text,
             out,
         ),
+        _ => named_later(word, value, out),
+    }
+}
+
+// And of the keys after these.
+fn named_later(word: &str, value: &Value, out: &mut String) {
+    match word {
         "fw" => is(FirstDay::try_from(value), FirstDay::Wed, out),
         "hc" => is(HourCycle::try_from(value), HourCycle::Clock12, out),
         "lb" => is(LineBreakStyle::try_from(value), LineBreakStyle::Loose, out),

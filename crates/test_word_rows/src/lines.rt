@@ -1,13 +1,12 @@
-//! Lines told at once. The contracts of `iloc_plain` and `iloc_fronts` let a parser say nothing, so a shape that
+//! Lines told at once. The contracts of `iloc_pieces` and `iloc_pieces` let a parser say nothing, so a shape that
 //! silently went the old way would show nowhere else.
 //!
 //! `line-plain TEXT` says the normal text. In the other calls the second argument says how many bytes of the first are the
 //! line: `line-window` says the normal text, `line-block` the first block by the first piece of one byte, and
 //! `line-keyword` what follows the singleton of that block. A line of which nothing is said is `not told`.
-ghost use Rattle.iloc_plain.specs.Plain.{AreWords};
+ghost use Rattle.iloc_pieces.specs.Plain.{AreWords};
 
-use iloc_fronts::{Block, Keyword, find_block, read_keyword};
-use iloc_plain::{Plain, read_plain, read_plain_text};
+use iloc_pieces::{Block, Keyword, Plain, find_block, read_keyword, read_plain, read_plain_text};
 use test_page::argument::number_of;
 use test_page::{bytes, number, say};
 
@@ -39,20 +38,12 @@ fn window(text: &[u8], len: usize, out: &mut String) {
     }
 }
 
-// Says the block's first byte, how many bytes the line has from there on, and whether variants stand before it.
+// Says the block's first byte, and how many bytes the line has from there on.
 fn block(block: &Block<'_>, out: &mut String) {
     say(out, "block ");
     bytes(out, block.window.get(..1).unwrap_or(b""));
     say(out, " ");
     number(out, block.len);
-    say(
-        out,
-        if block.tail == block.len {
-            " first"
-        } else {
-            " after variants"
-        },
-    )
 }
 
 // Says the first block by the first piece of one byte, if sixteen bytes follow the line at least.

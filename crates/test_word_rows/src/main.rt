@@ -1,7 +1,7 @@
 //! Table tests of short texts, subtags and lines told at once. A test is a line `CALL TAB argument TAB argument` of
 //! `stdin` and the same line of `stdout`. For example, `word-language TAB German` gives `german german\x00\x00`. The
-//! tests make every public call of short texts, of subtags of each kind, of refusals, and of `iloc_plain` and
-//! `iloc_fronts`, and outline texts.
+//! tests make every public call of short texts, of subtags of each kind, of refusals, and of `iloc_pieces` and
+//! `iloc_pieces`, and outline texts.
 //!
 //! A call that parses answers what it parsed, or `! ` and the words of the refusal. `tiny-N`, `text-N` and
 //! `tinyraw-N` parse a short text of a size. `CALL-KIND` makes a call of a subtag of the kind, and `two-tiny`

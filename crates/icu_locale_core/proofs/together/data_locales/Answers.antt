@@ -1,5 +1,5 @@
 use Rattle.std.specs.Cmp.{Equal-is}
-use Rattle.iloc_spec_preferences.specs.DataOrders.{data_locale_cmp}
+use Rattle.iloc_spec_parts.specs.DataOrders.{data_locale_cmp}
 use Rattle.iloc_data.specs.DataEqualityLaws.{fed_alike}
 use Rattle.iloc_data.specs.DataValue.{value_of}
 use Rattle.icu_locale_core.proofs.together.data_locales.Goals as goal

@@ -1,6 +1,6 @@
 -- A plain text means something in each mode.
 use Rattle.iloc_spec_grammar.specs.Values.{identifier_text}
-use Rattle.iloc_plain.specs.Plain.{value_of}
+use Rattle.iloc_pieces.specs.Plain.{value_of}
 use Rattle.iloc_normalize.proofs.PlainAnswers.{plain_normal}
 use Rattle.iloc_calls.proofs.answers.judge.Goals as goal
 

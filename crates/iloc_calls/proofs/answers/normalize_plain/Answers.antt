@@ -2,7 +2,7 @@
 -- is too little room.
 use Rattle.std.proofs.Common.{refl, arith}
 use Rattle.iloc_spec_grammar.specs.Values.{identifier_text}
-use Rattle.iloc_plain.specs.Plain.{value_of}
+use Rattle.iloc_pieces.specs.Plain.{value_of}
 use Rattle.iloc_normalize.proofs.PlainAnswers.{plain_normal}
 use Rattle.iloc_calls.specs.declared.status.Status.TheVariants.{BufferTooSmall}
 use Rattle.iloc_calls.proofs.AnswerLemmas.{no_mode}

@@ -1,6 +1,6 @@
 use Rattle.std.proofs.Common.{◌≡◌, ℕ, ◌≤◌, ◌-◌, length, drop, true, nat_eq, sym, subst, ◌∙◌, arith}
 use Rattle.std.specs.Cmp.Lexicographic.{pointwise}
-use Rattle.iloc_spec_preferences.specs.DataLocales.{whole}
+use Rattle.iloc_spec_parts.specs.DataLocales.{whole}
 use Rattle.iloc_data.proofs.WholeLemmas.{named_whole}
 use Rattle.iloc_data.proofs.region_part.ends_as_whole.Goals as goal
 

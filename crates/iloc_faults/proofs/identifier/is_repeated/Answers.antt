@@ -1,6 +1,6 @@
 use Rattle.std.proofs.Common.{sym, ◌∙◌}
 use Rattle.iloc_pieces.proofs.LeftLemmas.{short_variant}
-use Rattle.iloc_fronts.proofs.WordNumbers.{variant_fits}
+use Rattle.iloc_pieces.proofs.WordOrder.{variant_fits}
 use Rattle.iloc_faults.proofs.Earlier.{walk_starts, here, goes_further, walk_found, walk_more, walk_ends}
 use Rattle.iloc_faults.proofs.identifier.is_repeated.Goals as goal
 

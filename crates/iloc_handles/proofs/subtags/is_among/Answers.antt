@@ -1,6 +1,6 @@
 -- A binary search finds the subtag exactly if it is there.
 use Rattle.std.proofs.Common.{refl, sym}
-use Rattle.iloc_word_set.proofs.SetLaws.{search_old, search_new}
+use Rattle.iloc_word_list.proofs.SetLaws.{search_old, search_new}
 use Rattle.iloc_handles.proofs.subtags.is_among.Goals as goal
 
 pub returns-in-Ok : goal.returns-in-Ok

@@ -2,7 +2,7 @@
 use Rattle.std.proofs.Common.{◌≡◌, List, [], ◌∷◌, ℕ, Some, ap, ◌∙◌, slice_get}
 use Rattle.iloc_spec_grammar.specs.Syntax.{Text, Subtag}
 use Rattle.iloc_spec_grammar.specs.Values.{IsNormal}
-use Rattle.iloc_spec_preferences.specs.Keywords.{EnumKeyword, variants, enum_gives}
+use Rattle.iloc_spec_parts.specs.Keywords.{EnumKeyword, variants, enum_gives}
 use Rattle.iloc_word_list.specs.Values.{without_true}
 use Rattle.iloc_keyword_types.specs.WordTables.{word_at}
 use Rattle.iloc_keyword_types.proofs.EnumLemmas.{given, read_back, normal_word, variant}

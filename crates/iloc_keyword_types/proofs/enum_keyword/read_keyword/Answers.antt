@@ -3,7 +3,7 @@ use Rattle.std.proofs.Common.{◌≡◌, sym, ap, ◌∙◌, eqb, nat_eq, option
 use Rattle.std.specs.Cmp.Lexicographic.{pointwise}
 use Rattle.iloc_tinystr.specs.Number.{number}
 use Rattle.iloc_tinystr.proofs.RawOrder.{number_same}
-use Rattle.iloc_spec_preferences.specs.Keywords.{enum_reads}
+use Rattle.iloc_spec_parts.specs.Keywords.{enum_reads}
 use Rattle.iloc_keyword_types.specs.WordTables.{table_place, word_at}
 use Rattle.iloc_keyword_types.proofs.EnumLemmas.{answered, read_by_word, normal_word, variant}
 use Rattle.iloc_keyword_types.proofs.TableLemmas.{first_by_word, find_same}

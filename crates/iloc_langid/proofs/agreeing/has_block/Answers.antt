@@ -5,7 +5,7 @@ use Rattle.std.specs.declared.cmp.Ordering.TheVariants.{Equal}
 use Rattle.iloc_spec_grammar.specs.Syntax.{Variant, word_cmp, is_same}
 use Rattle.iloc_spec_grammar.proofs.ReadWords.{accepted_from_read, refused_from_read}
 use Rattle.iloc_spec_grammar.proofs.ValuesLaws.{ascending_different}
-use Rattle.iloc_word_set.proofs.SetLaws.{search_new}
+use Rattle.iloc_word_list.proofs.SetLaws.{search_new}
 use Rattle.iloc_subtags.specs.Left.{left}
 use Rattle.iloc_langid.proofs.WalkLemmas.{are_found, none_found, other_found, one_found, no_variant}
 use Rattle.iloc_langid.proofs.WalkLemmas.{all_found}

@@ -1,6 +1,6 @@
 use Rattle.std.proofs.Common.{◌≡◌, take, ◌∙◌, rules}
 use Rattle.iloc_spec_grammar.specs.Syntax.{pieces}
-use Rattle.iloc_plain.specs.Plain.{value_of}
+use Rattle.iloc_pieces.specs.Plain.{value_of}
 use Rattle.iloc_langid.proofs.PlainLemmas.{front_of_meaning}
 use Rattle.iloc_langid.proofs.plain.plain_parts.Goals as goal
 

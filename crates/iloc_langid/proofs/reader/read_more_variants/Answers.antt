@@ -1,7 +1,7 @@
 use Rattle.std.proofs.Common.{◌≡◌, ℕ, ◌<◌, ◌≤◌, ◌++◌, true≢false, refl, arith, false, true, sym, subst}
 use Rattle.std.proofs.lemmas.Result.{err_from_is_err_and}
 use Rattle.iloc_subtags.specs.Left.{left}
-use Rattle.iloc_word_set.proofs.CollectorLaws.{known_there, one_more}
+use Rattle.iloc_word_list.proofs.CollectorLaws.{known_there, one_more}
 use Rattle.iloc_langid.proofs.TakingLemmas.{Taking, taking_few, takes_new, takes_old, takes_much, more_done}
 use Rattle.iloc_langid.proofs.TakingLemmas.{more_twice}
 use Rattle.iloc_langid.proofs.reader.read_more_variants.Goals as goal

@@ -1,5 +1,5 @@
 use Rattle.std.proofs.Common.{List, [], ℕ, subst}
-use Rattle.iloc_fronts.specs.Front.{HasNoLanguage}
+use Rattle.iloc_pieces.specs.Front.{HasNoLanguage}
 use Rattle.iloc_spec_grammar.specs.Syntax.{Text, pieces}
 use Rattle.iloc_langid.specs.PlainReads.{IsPlainFront}
 use Rattle.iloc_langid.proofs.PlainLemmas.{plain_small, no_language_small}

@@ -6,7 +6,7 @@ use Rattle.iloc_spec_grammar.specs.Values.{identifier_text, extensions_spelling}
 use Rattle.iloc_spec_grammar.specs.Computing.{locale_result}
 use Rattle.iloc_spec_parts.specs.SmallComputing.{small_result, small_identifier_result, after_identifier}
 use Rattle.iloc_spec_parts.specs.SmallComputing.{blocks_result, block_fault}
-use Rattle.iloc_spec_preferences.specs.DataComputing.{data_result}
+use Rattle.iloc_spec_parts.specs.DataComputing.{data_result}
 use Rattle.iloc_lines.specs.Answers.{line_answer}
 use Rattle.iloc_lines.proofs.laws.by_example.Goals as goal
 

@@ -8,7 +8,7 @@ use Rattle.std.proofs.lemmas.List.{drop-drop, length-drop, take_all}
 use Rattle.std.proofs.lemmas.List.Elements.{All-nil}
 use Rattle.iloc_spec_grammar.specs.Syntax.{Text, languages}
 use Rattle.iloc_spec_grammar.specs.Values.{identifier_text}
-use Rattle.iloc_plain.specs.Plain.{value_of}
+use Rattle.iloc_pieces.specs.Plain.{value_of}
 use Rattle.iloc_lines.proofs.LineCuts.{output-cut}
 use Rattle.iloc_normalize.proofs.PlainAnswers.{plain_normal}
 use Rattle.iloc_lines.proofs.PlainLemmas.{normal_reply, refused_reply}

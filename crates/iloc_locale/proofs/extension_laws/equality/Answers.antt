@@ -1,4 +1,4 @@
-use Rattle.iloc_fields.proofs.FieldsEqualityLemmas.{fields_decide}
+use Rattle.iloc_transform.proofs.FieldsEqualityLemmas.{fields_decide}
 use Rattle.iloc_transform.proofs.EqualityLemmas.{identifier_decides, transform_decides}
 use Rattle.iloc_locale.proofs.ExtensionsEquality.{parts_decide}
 use Rattle.iloc_locale.proofs.extension_laws.equality.Goals as goal

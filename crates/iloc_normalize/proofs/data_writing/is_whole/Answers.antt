@@ -7,7 +7,7 @@ use Rattle.std.proofs.lemmas.List.{length-drop, length-take-le}
 use Rattle.iloc_spec_grammar.specs.Syntax.{Text, lower}
 use Rattle.iloc_spec_grammar.proofs.MapLaws.{same_is}
 use Rattle.iloc_spec_grammar.proofs.WordsLaws.{length-lower}
-use Rattle.iloc_spec_preferences.specs.DataLocales.{whole}
+use Rattle.iloc_spec_parts.specs.DataLocales.{whole}
 use Rattle.iloc_normalize.specs.Subdivisions.{bytes_at}
 use Rattle.iloc_normalize.proofs.data_writing.is_whole.Goals as goal
 

@@ -1,6 +1,6 @@
 use Rattle.std.proofs.Common.{◌≡◌, length, take, sym, ap, ◌∙◌, arith}
 use Rattle.std.proofs.lemmas.List.{length-take-le}
-use Rattle.iloc_spec_preferences.specs.DataLocales.{data_text}
+use Rattle.iloc_spec_parts.specs.DataLocales.{data_text}
 use Rattle.iloc_normalize.proofs.FrontAnswers.{data_meant}
 use Rattle.iloc_normalize.proofs.Texts.{alone_text}
 use Rattle.iloc_normalize.proofs.data_writing.write_data.Goals as goal

@@ -1,6 +1,6 @@
 use Rattle.std.proofs.Common.{◌≡◌, ◌+◌, ◌-◌, length, take, sym, ap, ◌∙◌, subst, arith}
 use Rattle.std.proofs.lemmas.List.{length-take-le, take-take}
-use Rattle.iloc_plain.specs.Plain.{IsPlain}
+use Rattle.iloc_pieces.specs.Plain.{IsPlain}
 use Rattle.iloc_normalize.specs.Answered.{ArePlain}
 use Rattle.iloc_normalize.proofs.FoundAnswers.{found_attribute_refused, found_many_refused}
 use Rattle.iloc_normalize.proofs.FoundAnswers.{found_misfit_refused}

@@ -1,8 +1,8 @@
 use Rattle.std.proofs.Common.{List, ℕ, sym, subst, ◌∙◌, true≢false, IfSome}
 use Rattle.std.specs.Str.{IsUtf8}
 use Rattle.iloc_spec_grammar.specs.Syntax.{Text, languages}
-use Rattle.iloc_plain.specs.Normal.{IsPlainText}
-use Rattle.iloc_plain.specs.Plain.{value_of}
+use Rattle.iloc_pieces.specs.Normal.{IsPlainText}
+use Rattle.iloc_pieces.specs.Plain.{value_of}
 use Rattle.iloc_normalize.specs.Modes.{IsNormalText}
 use Rattle.iloc_normalize.specs.NormalTexts.{IsNormalizedAs}
 use Rattle.iloc_normalize.proofs.AsciiLemmas.{identifier_utf8}

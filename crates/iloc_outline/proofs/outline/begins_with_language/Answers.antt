@@ -3,8 +3,8 @@ use Rattle.std.proofs.Common.{◌≡◌, List, ℕ, ◌≤◌, ◌++◌, length,
 use Rattle.std.proofs.Common.{length-append}
 use Rattle.std.proofs.lemmas.List.{take-append-le}
 use Rattle.iloc_spec_grammar.specs.Syntax.{Text, Language, languages, first_piece, is_word, pieces}
-use Rattle.iloc_fronts.specs.Front.{IsFirst}
-use Rattle.iloc_fronts.proofs.FrontLemmas.{short_language, word_of_first}
+use Rattle.iloc_pieces.specs.Front.{IsFirst}
+use Rattle.iloc_pieces.proofs.FrontLemmas.{short_language, word_of_first}
 use Rattle.iloc_outline.proofs.outline.begins_with_language.Goals as goal
 
 pub returns : goal.returns

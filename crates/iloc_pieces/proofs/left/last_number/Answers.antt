@@ -3,7 +3,7 @@ use Rattle.std.proofs.Common.{◌∙◌, arith}
 use Rattle.std.specs.Int.{w64, swap_bytes}
 use Rattle.std.proofs.lemmas.List.{length-drop, length-take-le}
 use Rattle.iloc_tinystr.specs.Number.{number}
-use Rattle.iloc_fronts.specs.Words.{word_number}
+use Rattle.iloc_pieces.specs.Words.{word_number}
 use Rattle.iloc_pieces.proofs.WordNumbers.{Bytes, bytes_take, bytes_drop, short_number_is}
 use Rattle.iloc_pieces.proofs.left.last_number.Goals as goal
 

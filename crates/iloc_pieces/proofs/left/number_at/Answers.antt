@@ -1,7 +1,7 @@
 use Rattle.std.proofs.Common.{◌≡◌, ◌≤◌, ◌-◌, List, ℕ, length, take, drop, sym, ap, subst, ◌∙◌, arith}
 use Rattle.std.proofs.lemmas.List.{length-drop, length-take-le, take-take, take_all}
 use Rattle.iloc_spec_grammar.specs.Syntax.{Text, letters_or_digits}
-use Rattle.iloc_fronts.specs.Words.{word_number}
+use Rattle.iloc_pieces.specs.Words.{word_number}
 use Rattle.iloc_pieces.proofs.WordNumbers.{Bytes, bytes_take, bytes_drop, highest_first, number_is}
 use Rattle.iloc_pieces.proofs.left.number_at.Goals as goal
 

@@ -1,5 +1,5 @@
 use Rattle.std.proofs.Common.{List, ℕ, sym, ap, subst, ◌∙◌, arith}
-use Rattle.iloc_fronts.specs.Words.{IsUpToEight, word_number}
+use Rattle.iloc_pieces.specs.Words.{IsUpToEight, word_number}
 use Rattle.iloc_pieces.proofs.LeftLemmas.{length_piece, piece_inside, short_bytes}
 use Rattle.iloc_pieces.proofs.left.word_number.Goals as goal
 use Rattle.iloc_spec_grammar.specs.Syntax.{Text}

@@ -1,7 +1,7 @@
 use Rattle.std.proofs.Common.{◌≤◌, ◌<◌, ◌∷◌, ◌++◌, ℕ, true≢false, length, sym, subst, arith}
 use Rattle.iloc_spec_grammar.specs.Meaning.{set_of}
 use Rattle.iloc_subtags.specs.Left.{left}
-use Rattle.iloc_word_set.proofs.CollectorLaws.{set_taken}
+use Rattle.iloc_word_list.proofs.CollectorLaws.{set_taken}
 use Rattle.iloc_unicode.proofs.AttributeLemmas.{Gathered, gathered_few, gathered_more, gathered_many}
 use Rattle.iloc_unicode.proofs.reader.read_more_attributes.Goals as goal
 

@@ -1,7 +1,7 @@
 -- Three numbers stand for each piece.
 use Rattle.std.proofs.Common.{◌≡◌, ◌*◌, ℕ, length, min, refl, ap, ◌∙◌, arith}
-use Rattle.iloc_kinds.specs.Kinds.{parts_of, rows_of}
-use Rattle.iloc_kinds.proofs.Walking.{length_rows_of}
+use Rattle.locale_web.specs.Kinds.{parts_of, rows_of}
+use Rattle.locale_web.proofs.Walking.{length_rows_of}
 use Rattle.locale_web.proofs.LocaleLemmas.{min_saturated}
 use Rattle.locale_web.proofs.parts.hand_out_rows.Goals as goal
 

@@ -1,7 +1,7 @@
 use Rattle.std.proofs.Common.{ap, sym, ◌∙◌, subst}
 use Rattle.iloc_spec_grammar.proofs.RawLaws.{languages_table}
 use Rattle.iloc_spec_grammar.specs.Values.{IsWellFormed, text}
-use Rattle.iloc_spec_preferences.proofs.DataLaws.{text_of_data, locale_of_data_is_well_formed, only_locale}
+use Rattle.iloc_spec_parts.proofs.DataLaws.{text_of_data, locale_of_data_is_well_formed, only_locale}
 use Rattle.iloc_data.specs.DataValue.{value_of}
 use Rattle.iloc_data.proofs.data_locale.DataLocale.into_locale.Goals as goal
 

@@ -1,7 +1,7 @@
 -- The law of the default ones extended; the others are found.
 use Rattle.std.proofs.Common.{rules, ap, ◌∙◌}
-use Rattle.iloc_spec_preferences.specs.Preferences.{merge}
-use Rattle.iloc_spec_preferences.proofs.PreferenceLaws.{default_merge}
+use Rattle.iloc_spec_parts.specs.Preferences.{merge}
+use Rattle.iloc_spec_parts.proofs.PreferenceLaws.{default_merge}
 use Rattle.iloc_data.proofs.locale_preferences.LocalePreferences.extend.Goals as goal
 
 pub returns-clause-value : goal.returns-clause-value

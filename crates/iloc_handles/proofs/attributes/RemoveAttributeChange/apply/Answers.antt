@@ -2,7 +2,7 @@
 use Rattle.std.proofs.Common.{refl, sym, ap, subst, remove}
 use Rattle.iloc_spec_grammar.specs.Syntax.{Attribute, word_cmp}
 use Rattle.iloc_spec_grammar.specs.Values.{StrictlyAscends}
-use Rattle.iloc_word_set.proofs.SetLaws.{search_new}
+use Rattle.iloc_word_list.proofs.SetLaws.{search_new}
 use Rattle.iloc_locale.specs.LocaleReading.{value_of}
 use Rattle.iloc_handles.specs.Attributes.{with_attributes}
 use Rattle.iloc_handles.proofs.SubtagLemmas.{absent_word, removed_ascends, removed_word}

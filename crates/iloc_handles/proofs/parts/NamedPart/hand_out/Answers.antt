@@ -1,7 +1,7 @@
 -- The hour cycle that is read is told by its word.
 use Rattle.std.proofs.Common.{Some, [], option_map, slice_get, sym, ap, ◌∙◌, subst}
 use Rattle.std.specs.Prelude.{unwrap_or}
-use Rattle.iloc_spec_preferences.specs.Keywords.{EnumValue, HourCycle, variants}
+use Rattle.iloc_spec_parts.specs.Keywords.{EnumValue, HourCycle, variants}
 use Rattle.iloc_locale.specs.LocaleReading.{value_of}
 use Rattle.iloc_calls.specs.Answers.{Tells}
 use Rattle.iloc_data.specs.FormatterValues.{hours_value}

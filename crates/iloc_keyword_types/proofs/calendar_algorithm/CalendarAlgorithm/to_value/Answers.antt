@@ -1,8 +1,8 @@
 use Rattle.std.proofs.Common.{◌≡◌, ℕ, List, [], ◌∷◌, sym, ap, ◌∙◌, refl, Some}
 use Rattle.iloc_spec_grammar.specs.Syntax.{Text, Subtag}
 use Rattle.iloc_spec_grammar.specs.Values.{IsNormal}
-use Rattle.iloc_spec_preferences.specs.Keywords as keywords
-use Rattle.iloc_spec_preferences.specs.Keywords.{variants, hijri_kinds}
+use Rattle.iloc_spec_parts.specs.Keywords as keywords
+use Rattle.iloc_spec_parts.specs.Keywords.{variants, hijri_kinds}
 use Rattle.iloc_word_list.specs.Values.{without_true}
 use Rattle.iloc_keyword_types.specs.WordTables.{word_at}
 use Rattle.iloc_keyword_types.proofs.EnumLemmas.{normal_word}

@@ -1,6 +1,6 @@
 use Rattle.std.proofs.Common.{◌≡◌, Option, Some, None, option_map, sym}
 use Rattle.std.specs.Option.{ok_or}
-use Rattle.iloc_spec_preferences.specs.Keywords.{EnumValue}
+use Rattle.iloc_spec_parts.specs.Keywords.{EnumValue}
 use Rattle.iloc_word_list.specs.declared.errors.PreferencesParseError.TheVariants.{InvalidKeywordValue}
 use Rattle.iloc_keyword_types.specs.Reads.{Reads}
 use Rattle.iloc_keyword_types.specs.declared.calendar_algorithm.CalendarAlgorithm.{CalendarAlgorithm}

@@ -1,6 +1,6 @@
 -- The subtags so far, and those of the rest, are those of all.
 use Rattle.std.proofs.Common.{◌≡◌, ◌++◌, drop}
-use Rattle.iloc_spec_preferences.specs.Keywords.{scripts_give}
+use Rattle.iloc_spec_parts.specs.Keywords.{scripts_give}
 use Rattle.iloc_keyword_types.proofs.script_exclusions.DictionaryBreakScriptExclusions.to_value.Given as goal
 
 abbrev pub invariant-loop-script : goal.invariant-loop-script

@@ -1,6 +1,6 @@
 use Rattle.std.proofs.Common.{ℕ, ◌<◌, List, length, refl, sym, ap, ◌∙◌, subst}
 use Rattle.std.proofs.lemmas.Result.{err_from_is_err_and}
-use Rattle.iloc_spec_preferences.specs.Keywords.{scripts_read}
+use Rattle.iloc_spec_parts.specs.Keywords.{scripts_read}
 use Rattle.iloc_keyword_types.proofs.ScriptLemmas.{none_before, takes_script, refuses_word, ends, lengthens}
 use Rattle.iloc_keyword_types.proofs.ScriptLemmas.{no_room}
 use Rattle.iloc_keyword_types.proofs.script_exclusions.DictionaryBreakScriptExclusions.try_from_value.Goals as goal

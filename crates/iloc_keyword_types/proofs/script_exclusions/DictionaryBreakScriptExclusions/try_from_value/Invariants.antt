@@ -1,6 +1,6 @@
 -- The scripts so far, with what the rest reads as, are what all reads as.
 use Rattle.std.proofs.Common.{◌≡◌, length, drop}
-use Rattle.iloc_spec_preferences.specs.Keywords.{scripts_read}
+use Rattle.iloc_spec_parts.specs.Keywords.{scripts_read}
 use Rattle.iloc_keyword_types.proofs.ScriptLemmas.{together}
 use Rattle.iloc_keyword_types.proofs.script_exclusions.DictionaryBreakScriptExclusions.try_from_value.Given as goal
 

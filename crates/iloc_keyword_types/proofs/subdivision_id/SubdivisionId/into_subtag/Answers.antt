@@ -8,8 +8,8 @@ use Rattle.iloc_spec_grammar.specs.Syntax.{Region, lower}
 use Rattle.iloc_spec_grammar.proofs.WordsLaws.{is_word-lower}
 use Rattle.iloc_subtags.specs.KindLaws.{region_fits, subdivision_suffix_fits}
 use Rattle.iloc_subtags.proofs.KindLemmas.{region_lower}
-use Rattle.iloc_spec_preferences.specs.Subdivisions.{Subdivision, IsSubdivision}
-use Rattle.iloc_spec_preferences.proofs.SubdivisionLaws.{subdivision_back}
+use Rattle.iloc_spec_parts.specs.Subdivisions.{Subdivision, IsSubdivision}
+use Rattle.iloc_spec_parts.proofs.SubdivisionLaws.{subdivision_back}
 use Rattle.iloc_keyword_types.proofs.TextLemmas.{joined, joined_normal}
 use Rattle.iloc_keyword_types.proofs.subdivision_id.SubdivisionId.into_subtag.Goals.{After-to_piece-2}
 use Rattle.iloc_keyword_types.proofs.subdivision_id.SubdivisionId.into_subtag.Goals as goal

@@ -1,5 +1,7 @@
-use Rattle.std.proofs.Common.{◌≡◌, List, ℕ, ◌∙◌, sym, ap, subst, refl, true≢false}
-use Rattle.std.specs.Ordering.{is_eq}
+use Rattle.std.proofs.Common.{◌≡◌, List, ℕ, ◌∙◌, sym, ap, subst, refl, true, false, true≢false}
+use Rattle.std.specs.Ordering.{is_eq, is_ne}
+use Rattle.std.specs.declared.cmp.Ordering.{Ordering}
+use Rattle.std.specs.declared.cmp.Ordering.TheVariants.{Less, Equal, Greater}
 use Rattle.std.specs.Cmp.Lexicographic.{same_text}
 use Rattle.iloc_spec_grammar.specs.Syntax.{Text, languages}
 use Rattle.iloc_normalize.specs.Modes.{IsNormalText}
@@ -9,16 +11,26 @@ use Rattle.iloc_locale.specs.LocaleReading.{value_of}
 use Rattle.iloc_locale.proofs.NormalLemmas.{
   own_text_means,
   other_text_differs,
-  normal_text_tells,
+  normal_text_means,
   faulty_differs,
 }
 use Rattle.iloc_locale.proofs.locale.Locale.compare_outlined.Goals as goal
 
-pub returns-then-is_eq : goal.returns-then-is_eq
-returns-then-is_eq c =
+apart : (o : Ordering) → is_ne o ≡ true → false ≡ is_eq o
+apart Less h = refl
+apart Equal h = cc
+apart Greater h = refl
+
+alike : (o : Ordering) → is_ne o ≡ false → true ≡ is_eq o
+alike Less h = cc
+alike Equal h = refl
+alike Greater h = cc
+
+pub returns-then-is_well_formed : goal.returns-then-is_well_formed
+returns-then-is_well_formed c =
     let t = c.args.text.now in
     let M = value_of c.args.self.now in
-    let well = c.is_well_formed.ensures.back c.if-not-is_well_formed.false in
+    let well = c.is_well_formed.ensures.back c.if-is_well_formed.true in
     let tied = c.if-is_eq.ensures ∙ ap is_eq c.strict_cmp.ensures in
     (λ s. own_text_means t M well tied, λ m. refl)
 
@@ -26,25 +38,36 @@ pub returns-in-Normal : goal.returns-in-Normal
 returns-in-Normal c =
     let t = c.args.text.now in
     let M = value_of c.args.self.now in
-    let well = c.is_well_formed.ensures.back c.if-not-is_well_formed.false in
     let untied = c.if-is_eq.ensures ∙ ap is_eq c.strict_cmp.ensures in
     let normal = c.in-Normal.normal.now in
     let told = subst (λ (u : Text). IsNormalText languages modes.Locale u normal)
     c.in_window.ensures c.in-Normal.ensures.answered in
     let own = subst (λ (u : Text). IsNormalText languages modes.Locale t u)
     (same_text _ _ c.if-eq.ensures) told in
-    (λ s. absurd (true≢false (sym s)), λ m. absurd (other_text_differs t M well untied own m))
+    (λ s. absurd (true≢false (sym s)), λ m. absurd (other_text_differs t M t untied own m))
 
-pub returns-in-Normal-2 : goal.returns-in-Normal-2
-returns-in-Normal-2 c =
+pub returns-then-is_ne : goal.returns-then-is_ne
+returns-then-is_ne c =
     let t = c.args.text.now in
     let M = value_of c.args.self.now in
-    let well = c.is_well_formed.ensures.back c.if-not-is_well_formed.false in
     let normal = c.in-Normal.normal.now in
     let told = subst (λ (u : Text). IsNormalText languages modes.Locale u normal)
     c.in_window.ensures c.in-Normal.ensures.answered in
-    normal_text_tells t M well normal _ told
-    (c.is_eq-in-Normal-2.ensures ∙ ap is_eq c.strict_cmp-in-Normal-2.ensures)
+    let untied = apart c.strict_cmp-in-Normal-2.result (sym c.if-is_ne.ensures)
+    ∙ ap is_eq c.strict_cmp-in-Normal-2.ensures in
+    (λ s. absurd (true≢false (sym s)), λ m. absurd (other_text_differs t M normal untied told m))
+
+pub returns-then-is_well_formed-2 : goal.returns-then-is_well_formed-2
+returns-then-is_well_formed-2 c =
+    let t = c.args.text.now in
+    let M = value_of c.args.self.now in
+    let well = c.is_well_formed-in-Normal-2.ensures.back c.if-is_well_formed-2.true in
+    let normal = c.in-Normal.normal.now in
+    let told = subst (λ (u : Text). IsNormalText languages modes.Locale u normal)
+    c.in_window.ensures c.in-Normal.ensures.answered in
+    let tied = alike c.strict_cmp-in-Normal-2.result (sym c.if-is_ne.ensures)
+    ∙ ap is_eq c.strict_cmp-in-Normal-2.ensures in
+    (λ s. normal_text_means t M well normal tied told, λ m. refl)
 
 pub returns-in-Refused : goal.returns-in-Refused
 returns-in-Refused c =

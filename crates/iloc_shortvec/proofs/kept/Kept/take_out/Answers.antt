@@ -1,4 +1,4 @@
-use Rattle.std.proofs.Common.{◌≡◌, ◌<◌, ◌≤◌, ℕ, zero, suc, List, []}
+use Rattle.std.proofs.Common.{◌≡◌, ◌<◌, ◌≤◌, ◌-◌, ℕ, zero, suc, List, [], take}
 use Rattle.std.proofs.Common.{◌∷◌, length, remove, refl, sym, ap, ◌∙◌, subst, arith}
 use Rattle.iloc_shortvec.specs.Kept.{items_of}
 use Rattle.iloc_shortvec.proofs.kept.Kept.take_out.Goals as goal
@@ -22,8 +22,11 @@ returns-in-Empty g c =
     absurd (omega (arith, c.requires))
 
 pub returns-then-as_slice-gt1 : goal.returns-then-as_slice-gt1
-returns-then-as_slice-gt1 g c = c.remove.ensures ∙ ap (λ k. remove (items_of k) c.args.index)
-    (sym c.in-Inline.is)
+returns-then-as_slice-gt1 g c =
+    let left : c.of.result ≡ c.in-Inline.count - 1 =
+    omega (arith, c.of.ensures, c.get.ensures.value) in
+    ap (λ n. take n c.remove.new.self) left
+    ∙ (c.remove.ensures ∙ ap (λ k. remove (items_of k) c.args.index) (sym c.in-Inline.is))
 
 pub returns-else-as_slice-gt1 : goal.returns-else-as_slice-gt1
 returns-else-as_slice-gt1 g c =

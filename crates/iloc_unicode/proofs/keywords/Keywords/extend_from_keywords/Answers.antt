@@ -1,18 +1,10 @@
-use Rattle.std.proofs.Common.{◌≡◌, ◌∙◌, ◌++◌, ap₂, reverse, is_some, subst, true}
-use Rattle.std.specs.FinMap.{find}
+use Rattle.std.proofs.Common.{◌∙◌, ◌++◌, ap₂, reverse}
 use Rattle.std.proofs.lemmas.Result.{on_ok_weaker}
-use Rattle.iloc_spec_grammar.specs.Syntax.{word_cmp, Fields}
+use Rattle.iloc_spec_grammar.specs.Syntax.{word_cmp}
 use Rattle.iloc_spec_grammar.specs.Meaning.{map_of}
 use Rattle.iloc_spec_grammar.proofs.MapLaws.{word_cmp_total, same_words}
 use Rattle.iloc_litemap.proofs.Maps.{reversed_over}
-use Rattle.iloc_unicode.proofs.KeywordLemmas.{first_found}
 use Rattle.iloc_unicode.proofs.keywords.Keywords.extend_from_keywords.Goals as goal
-
-pub set_only-requires-clause-known : goal.set_only-requires-clause-known
-set_only-requires-clause-known c =
-    let pair = c.pair-item.result in
-    subst (λ (m : Fields). is_some (find word_cmp pair.0 m) ≡ true) c.as_slice.ensures.pairs
-    (first_found c.as_slice.result.now pair c.in-len1.len_at_least c.pair-item.is)
 
 pub returns-clause-ok : goal.returns-clause-ok
 returns-clause-ok c = on_ok_weaker c.extend_from_map.result (λ is. is

@@ -1,8 +1,0 @@
-use Rattle.iloc_fields.proofs.FieldsEqualityLemmas.{words_decide, fields_decide}
-use Rattle.iloc_fields.proofs.field_laws.equality.Goals as goal
-
-pub returns-clause-values : goal.returns-clause-values
-returns-clause-values c = words_decide
-
-pub returns-clause-fields : goal.returns-clause-fields
-returns-clause-fields c = fields_decide

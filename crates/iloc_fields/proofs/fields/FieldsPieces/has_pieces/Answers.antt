@@ -1,5 +1,0 @@
-use Rattle.iloc_fields.proofs.PrintLemmas.{there_are_pieces}
-use Rattle.iloc_fields.proofs.fields.FieldsPieces.has_pieces.Goals as goal
-
-pub returns : goal.returns
-returns c = there_are_pieces c.args.self.now c.is_empty.result c.is_empty.ensures

@@ -1,3 +1,0 @@
-pub mod ValueReading
-pub mod FieldsReading
-pub mod FieldsOrder

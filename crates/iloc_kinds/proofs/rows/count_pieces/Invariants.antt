@@ -1,8 +1,0 @@
-use Rattle.iloc_kinds.proofs.Walking.{IsCounted}
-use Rattle.iloc_kinds.proofs.rows.count_pieces.Given as goal
-
-abbrev pub invariant-pieces : goal.invariant-pieces
-invariant-pieces l = IsCounted l.normal l.at l.count
-
-abbrev pub decreases-pieces : goal.decreases-pieces
-decreases-pieces l = l.at.len

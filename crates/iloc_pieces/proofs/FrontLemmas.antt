@@ -1,0 +1,227 @@
+-- From the first piece of a line to what stands at its front.
+use Rattle.std.proofs.Common.{◌≡◌, ◌≢◌, ℕ, zero, suc, ◌+◌, ◌-◌, ◌<◌, ◌≤◌, Bool, true, false, cond, not}
+use Rattle.std.proofs.Common.{◌&&◌, List, [], ◌∷◌, length, get_or, take, drop, refl, sym, ap, ◌∙◌, subst}
+use Rattle.std.proofs.Common.{arith, inl, inr}
+use Rattle.std.specs.List.{slice_split, onto_first, list_all}
+use Rattle.std.proofs.lemmas.Bool.{cases_lt, cases_Bool}
+use Rattle.std.proofs.lemmas.List.{get_or-take, length-drop, length-take-le, take-take, drop-take}
+use Rattle.std.proofs.lemmas.List.Splits.{slice_split-cons_yes, slice_split-cons_no}
+use Rattle.iloc_spec_grammar.specs.Syntax.{Text, pieces, first_piece, Kind, Attribute, Language}
+use Rattle.iloc_spec_grammar.specs.Syntax.{UnicodeKey, is_word, IsWord, is_true, lower, languages}
+use Rattle.iloc_spec_grammar.specs.Meaning.{normal_values}
+use Rattle.iloc_spec_grammar.proofs.PiecesLaws.{at_pieces}
+use Rattle.iloc_spec_grammar.proofs.WordsLaws.{length-language}
+use Rattle.iloc_spec_grammar.proofs.WordsLaws.{length-attribute, length-unicode_key}
+use Rattle.iloc_spec_grammar.proofs.RawLaws.{languages_table}
+use Rattle.iloc_pieces.specs.Run.{IsRun, is_hyphen, fails}
+use Rattle.iloc_pieces.specs.Front.{IsFirst}
+
+-- ---- the first piece, by the bytes before the first hyphen
+
+-- no hyphen is among the first n bytes
+abbrev pub Free : ℕ → Text → Type 0
+Free n t = (i : ℕ) → i < n → fails is_hyphen (get_or t i 0) ≡ true
+
+pub is_no : (b : Bool) → not b ≡ true → b ≡ false
+is_no true e = sym e
+is_no false e = refl
+
+is_yes : (b : Bool) → not b ≡ false → b ≡ true
+is_yes true e = refl
+is_yes false e = sym e
+
+pub later : (n c : ℕ) (t : Text) → Free (suc n) (c ∷ t) → Free n t
+later n c t h i l = h (suc i) (omega arith)
+
+pub go_on : (n c : ℕ) (t : Text) → Free (suc n) (c ∷ t) →
+    slice_split is_hyphen (c ∷ t) ≡ onto_first c (slice_split is_hyphen t)
+go_on n c t h = slice_split-cons_no is_hyphen c t (is_no _ (h 0 (omega arith)))
+
+cut_at : (k : ℕ) (t : Text) → k < length t → Free k t → fails is_hyphen (get_or t k 0) ≡ false
+    → slice_split is_hyphen t ≡ take k t ∷ slice_split is_hyphen (drop (suc k) t)
+cut_at zero [] l h e = absurd (omega arith)
+cut_at zero (c ∷ t) l h e = slice_split-cons_yes is_hyphen c t (is_yes _ e)
+cut_at (suc k) [] l h e = absurd (omega arith)
+cut_at (suc k) (c ∷ t) l h e = go_on k c t h ∙ ap (onto_first c) (cut_at k t (omega arith) (later k c t h) e)
+
+uncut : (t : Text) → Free (length t) t → slice_split is_hyphen t ≡ t ∷ []
+uncut [] h = refl
+uncut (c ∷ t) h = go_on (length t) c t h ∙ ap (onto_first c) (uncut t (later (length t) c t h))
+
+pub first_onto : (c : ℕ) (ps : List Text) →
+    length (first_piece (onto_first c ps)) ≡ suc (length (first_piece ps))
+first_onto c [] = refl
+first_onto c (p ∷ ps) = refl
+
+pub goes_far : (k : ℕ) (t : Text) → k ≤ length t → Free k t →
+    k ≤ length (first_piece (slice_split is_hyphen t))
+goes_far zero t l h = omega arith
+goes_far (suc k) [] l h = absurd (omega arith)
+goes_far (suc k) (c ∷ t) l h =
+    omega (
+      arith,
+      ap (λ ps. length (first_piece ps)) (go_on k c t h) ∙ first_onto c (slice_split is_hyphen t),
+      goes_far k t (omega arith) (later k c t h),
+    )
+
+-- n bytes come before the first hyphen of what the line has
+pub first_by : (w : Text) (len n : ℕ) → len ≤ length w → n ≤ len → n ≤ 16
+    → ((i : ℕ) → i < n → fails is_hyphen (get_or w i 0) ≡ true)
+    → (n < len → n < 16 → fails is_hyphen (get_or w n 0) ≡ false) → IsFirst (take len w) n
+unfolding pieces
+first_by w len n inside less few pass ends =
+    let t = take len w in
+    let long : length t ≡ len = length-take-le len w inside in
+    let free : Free n t = λ i early.
+    let there : i < len = omega arith in
+    ap (fails is_hyphen) (get_or-take len w i 0 there) ∙ pass i early in
+    record {
+      within = omega arith;
+      few = few;
+      cut = λ more short.
+          let there : n < len = omega arith in
+          cut_at n t more free (ap (fails is_hyphen) (get_or-take len w n 0 there) ∙ ends there short);
+      last = λ short whole. uncut t (subst (λ (m : ℕ). Free m t) whole free);
+      long = λ sixteen. subst (λ (m : ℕ). m ≤ length (first_piece (slice_split is_hyphen t))) sixteen
+          (goes_far n t (omega arith) free);
+    }
+
+-- n is the lesser of the line's length and of the bytes before the first hyphen of the window
+pub first_is : (w : Text) (len k n : ℕ) → 16 ≤ length w → len ≤ length w → IsRun (fails is_hyphen) w k
+    → n ≤ len → n ≤ k → (n < len → n ≡ k) → IsFirst (take len w) n
+first_is w len k n wide inside r few less least =
+    first_by w len n inside few (omega (arith, r.few)) (λ i early. r.pass i (omega arith))
+    (λ more short.
+    let same : n ≡ k = least more in
+    ap (λ i. fails is_hyphen (get_or w i 0)) same ∙ r.ends (omega arith))
+
+-- ---- words among the pieces
+
+-- where the first piece is no word of the kind, not all are
+pub all_fail : (k : Kind) (t : Text) → is_word k (first_piece (pieces t)) ≡ false →
+    list_all (is_word k) (pieces t) ≡ false
+all_fail k t = at_pieces (λ ps. is_word k (first_piece ps) ≡ false → list_all (is_word k) ps ≡ false)
+    (λ p ps e. ap (λ (b : Bool). b && list_all (is_word k) ps) e) t
+
+-- the pieces of a value that are not `true`
+pub values_later : (p : Text) (ps : List Text) →
+    length (normal_values ps) ≤ length (normal_values (p ∷ ps))
+values_later p ps = by (is_true (lower p))
+  where
+    by : (b : Bool) →
+        length (normal_values ps) ≤ length (cond (not b) (lower p ∷ normal_values ps) (normal_values ps))
+    by true = omega arith
+    by false = omega arith
+
+pub values_word : (p : Text) (ps : List Text) → is_true (lower p) ≡ false →
+    length (normal_values (p ∷ ps)) ≡ suc (length (normal_values ps))
+values_word p ps e =
+    ap (λ (b : Bool). length (cond (not b) (lower p ∷ normal_values ps) (normal_values ps))) e
+
+pub values_true : (p : Text) (ps : List Text) → is_true (lower p) ≡ true →
+    normal_values (p ∷ ps) ≡ normal_values ps
+values_true p ps e = ap (λ (b : Bool). cond (not b) (lower p ∷ normal_values ps) (normal_values ps)) e
+
+-- no word of the kind has more than eight bytes
+abbrev pub IsShort : Kind → Type 0
+IsShort k = (p : Text) → IsWord k p → length p ≤ 8
+
+pub short_language : IsShort (Language languages)
+short_language p h = languages_table.most (length p) (length-language languages p h)
+
+pub short_key : IsShort UnicodeKey
+short_key p h = omega (arith, length-unicode_key p h)
+
+pub short_attribute : IsShort Attribute
+short_attribute p h = (length-attribute p h).1
+
+pub too_long : (k : Kind) → IsShort k → (p : Text) → 8 < length p → is_word k p ≡ false
+too_long k short p more = elim (cases_Bool (is_word k p)) [
+  | inl fits ↦ absurd (omega (arith, short p fits))
+  | inr fails ↦ fails
+]
+
+-- what follows a byte of the line, in the line and in the rest of the window
+pub later_bytes : (w : Text) (len n : ℕ) → len ≤ length w → n < len
+    → drop (suc n) (take len w) ≡ take (len - n - 1) (take (length w - (n + 1)) (drop (n + 1) w))
+later_bytes w len n inside less =
+    let parts : len ≡ suc n + (len - n - 1) = omega arith in
+    let one_more : suc n ≡ n + 1 = omega arith in
+    let enough : len - n - 1 ≤ length w - (n + 1) = omega arith in
+    ap (λ (m : ℕ). drop (suc n) (take m w)) parts ∙ drop-take (suc n) (len - n - 1) w
+    ∙ ap (λ (m : ℕ). take (len - n - 1) (drop m w)) one_more
+    ∙ sym (take-take (len - n - 1) (length w - (n + 1)) (drop (n + 1) w) enough)
+
+module _ (w : Text) (len n : ℕ) (room : len + 16 ≤ length w) (first : IsFirst (take len w) n) where
+  abbrev text : Text
+  text = take len w
+
+  -- what follows the first piece and its hyphen, in the rest of the window
+  abbrev pub next : Text
+  next = take (len - n - 1) (take (length w - (n + 1)) (drop (n + 1) w))
+
+  whole : length text ≡ len
+  whole = length-take-le len w (omega arith)
+
+  inside : n ≤ len
+  inside = omega (arith, first.within, whole)
+
+  front_same : take n text ≡ take n w
+  front_same = take-take n len w inside
+
+  -- a short first piece is the first n bytes
+  pub short_first : n < 16 → first_piece (pieces text) ≡ take n w
+  short_first short = elim (cases_lt n len) [
+    | inl less ↦ ap first_piece (first.cut (omega (arith, whole)) short) ∙ front_same
+    | inr more ↦
+        let same : n ≡ len = omega (arith, inside) in
+        ap first_piece (first.last short (omega (arith, whole))) ∙ ap (λ (m : ℕ). take m w) (sym same)
+  ]
+
+  -- the first bytes are a word where the first piece is
+  pub word_of_first : (k : Kind) → IsShort k → is_word k (first_piece (pieces text)) ≡ is_word k (take n w)
+  word_of_first k short = elim (cases_lt n 16) [
+    | inl less ↦ ap (is_word k) (short_first less)
+    | inr more ↦
+        let sixteen : n ≡ 16 = omega (arith, first.few) in
+        let piece : 8 < length (first_piece (pieces text)) = omega (arith, first.long sixteen) in
+        let bytes : 8 < length (take n w) = omega (arith, length-take-le n w (omega (arith, inside))) in
+        too_long k short (first_piece (pieces text)) piece ∙ sym (too_long k short (take n w) bytes)
+  ]
+
+  pub word_is_short : (k : Kind) → IsShort k → is_word k (take n w) ≡ true → n < 16
+  word_is_short k short fits =
+      omega (arith, short (take n w) fits, length-take-le n w (omega (arith, inside)))
+
+  -- a short piece that doesn't end the line: the other pieces are those of what follows its hyphen
+  pub after_short : n < 16 → n ≢ len → pieces text ≡ take n w ∷ pieces next
+  after_short few more =
+      let less : n < len = omega (arith, inside) in
+      let rest : drop (suc n) (take len w) ≡ next = later_bytes w len n (omega arith) less in
+      first.cut (omega (arith, whole)) few ∙ (λ j. front_same j ∷ pieces (rest j))
+
+  pub after_word : (k : Kind) → IsShort k → is_word k (take n w) ≡ true → n ≢ len →
+      pieces text ≡ take n w ∷ pieces next
+  after_word k short fits more = after_short (word_is_short k short fits) more
+
+  -- so all pieces are words of the kind where those after it are
+  pub all_later : (k : Kind) → IsShort k → is_word k (take n w) ≡ true → n ≢ len →
+      list_all (is_word k) (pieces text) ≡ list_all (is_word k) (pieces next)
+  all_later k short fits more =
+      ap (list_all (is_word k)) (after_word k short fits more)
+      ∙ ap (λ (b : Bool). b && list_all (is_word k) (pieces next)) fits
+
+  -- a short piece, and a word, that ends the line
+  pub whole_short : n < 16 → n ≡ len → pieces text ≡ take n w ∷ []
+  whole_short few end = first.last few (omega (arith, whole)) ∙ (λ j. take (sym end j) w ∷ [])
+
+  pub whole_word : (k : Kind) → IsShort k → is_word k (take n w) ≡ true → n ≡ len →
+      pieces text ≡ take n w ∷ []
+  whole_word k short fits end = whole_short (word_is_short k short fits) end
+
+  -- sixteen bytes stay behind what is left of the line
+  pub room_left : n ≢ len → len - n - 1 + 16 ≤ length (take (length w - (n + 1)) (drop (n + 1) w))
+  room_left more =
+      let dropped : length (drop (n + 1) w) ≡ length w - (n + 1) = length-drop (n + 1) w in
+      let enough : length w - (n + 1) ≤ length (drop (n + 1) w) = omega arith in
+      omega (arith, length-take-le (length w - (n + 1)) (drop (n + 1) w) enough, inside)

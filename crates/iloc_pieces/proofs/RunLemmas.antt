@@ -1,0 +1,97 @@
+-- From a mask of sixteen bytes to those that come first.
+use Rattle.std.proofs.Common.{◌≡◌, ℕ, ◌+◌, ◌*◌, ◌/◌, ◌%◌, ◌^◌, ◌<◌, ◌≤◌, Bool, true, false, cond, not, List}
+use Rattle.std.proofs.Common.{[], ◌∷◌, ◌++◌, length, map, get_or, take, drop, Fits, w8, refl, sym, ap, ◌∙◌}
+use Rattle.std.proofs.Common.{arith, length-append}
+use Rattle.std.specs.List.{prefix_len}
+use Rattle.std.proofs.lemmas.Bool.{agree_below, agree_below_at}
+use Rattle.std.proofs.lemmas.List.{length-map, length-take-le, get_or-take, get_or_append_left, map-append}
+use Rattle.std.proofs.lemmas.List.Sums.{prefix_len_passes, prefix_len_stops, prefix_len-le-length}
+use Rattle.std.proofs.lemmas.Simd.{map-map, mask_l-mod}
+use lib.Lanes.{mask_l, top, Each1}
+use Rattle.iloc_pieces.specs.Run.{IsRun, IsRunOf}
+use Rattle.iloc_spec_grammar.specs.Syntax.{Text}
+
+-- two tests that agree on the 256 bytes
+same_map : (q r : ℕ → Bool) (v : Text) → Each1 (Fits w8) v → agree_below q r 256 ≡ true → map q v ≡ map r v
+same_map q r [] fits e = refl
+same_map q r (b ∷ v) fits e = λ j. agree_below_at q r 256 b e (fits.0).fits j ∷ same_map q r v fits.1 e j
+
+-- a mask of lanes that were computed from v tells the test exactly
+pub mask_is : (f : ℕ → ℕ) (p : ℕ → Bool) (v z : Text) → (length v ≡ 16) × Each1 (Fits w8) v → z ≡ map f v
+    → agree_below (λ b. top 7 (f b)) p 256 ≡ true → mask_l (map (top 7) z) % 2 ^ 64 ≡ mask_l (map p v)
+mask_is f p v z fits e all =
+    let few : length (map p v) ≤ 64 = omega (arith, length-map v p, fits.0) in
+    ap (λ l. mask_l (map (top 7) l) % 2 ^ 64) e
+    ∙ ap (λ l. mask_l l % 2 ^ 64) (map-map (top 7) f v ∙ same_map (λ b. top 7 (f b)) p v fits.1 all)
+    ∙ mask_l-mod (map p v) 64 few
+
+-- the bytes before the first that is marked are a run
+pub run_is : (p q : ℕ → Bool) (w : Text) (n : ℕ) → 16 ≤ length w → ((b : ℕ) → not (p b) ≡ q b)
+    → n ≡ prefix_len (λ b. not (p b)) (take 16 w) → IsRun q w n
+run_is p q w n wide same e =
+    let r : ℕ → Bool = λ b. not (p b) in
+    let long : length (take 16 w) ≡ 16 = length-take-le 16 w wide in
+    let le : prefix_len r (take 16 w) ≤ length (take 16 w) = prefix_len-le-length r (take 16 w) in
+    record {
+      few = omega arith;
+      pass = λ i less.
+          let inside : i < prefix_len r (take 16 w) = omega arith in
+          let small : i < 16 = omega arith in
+          sym (same (get_or w i 0)) ∙ ap r (sym (get_or-take 16 w i 0 small))
+          ∙ prefix_len_passes r (take 16 w) i 0 inside;
+      ends = λ less.
+          let inside : prefix_len r (take 16 w) < length (take 16 w) = omega arith in
+          sym (same (get_or w n 0)) ∙ ap r (sym (get_or-take 16 w n 0 less))
+          ∙ ap (λ i. r (get_or (take 16 w) i 0)) e ∙ prefix_len_stops r (take 16 w) 0 inside;
+    }
+
+pub twice : (b : Bool) → not (not b) ≡ b
+twice true = refl
+twice false = refl
+
+-- ---- after three bytes
+
+-- marks of bytes that are added and not marked change nothing
+unmarked : (ms : List Bool) → mask_l (ms ++ false ∷ false ∷ false ∷ []) ≡ mask_l ms
+unmarked [] = refl
+unmarked (m ∷ ms) = ap (λ n. cond m 1 0 + 2 * n) (unmarked ms)
+
+eighth : (a b c : Bool) (n : ℕ) → (cond a 1 0 + 2 * (cond b 1 0 + 2 * (cond c 1 0 + 2 * n))) / 2 ^ 3 ≡ n
+eighth true true true n = omega arith
+eighth true true false n = omega arith
+eighth true false true n = omega arith
+eighth true false false n = omega arith
+eighth false true true n = omega arith
+eighth false true false n = omega arith
+eighth false false true n = omega arith
+eighth false false false n = omega arith
+
+-- thirteen bytes, and three that no test marks
+abbrev pub padded : Text → Text
+padded w = take 13 w ++ 97 ∷ 97 ∷ 97 ∷ []
+
+pub length-padded : (w : Text) → 13 ≤ length w → length (padded w) ≡ 16
+length-padded w wide =
+    length-append (take 13 w) (97 ∷ 97 ∷ 97 ∷ []) ∙ ap (λ n. n + 3) (length-take-le 13 w wide)
+
+pub later_mask : (p : ℕ → Bool) → p 97 ≡ false → (w : Text) → 16 ≤ length w →
+    mask_l (map p (take 16 w)) / 2 ^ 3 ≡ mask_l (map p (padded (drop 3 w)))
+later_mask p none [] l = absurd (omega arith)
+later_mask p none (a ∷ []) l = absurd (omega arith)
+later_mask p none (a ∷ b ∷ []) l = absurd (omega arith)
+later_mask p none (a ∷ b ∷ c ∷ w) l =
+    eighth (p a) (p b) (p c) (mask_l (map p (take 13 w))) ∙ sym (unmarked (map p (take 13 w)))
+    ∙ sym (ap mask_l (map-append p (take 13 w) (97 ∷ 97 ∷ 97 ∷ [])
+    ∙ ap (λ (m : Bool). map p (take 13 w) ++ m ∷ m ∷ m ∷ []) none))
+
+-- a run of these is one of thirteen bytes
+pub later_run : (q : ℕ → Bool) (w : Text) (n : ℕ) → 13 ≤ length w → IsRun q (padded w) n → IsRunOf 13 q w n
+later_run q w n wide r = record {
+  pass = λ i less few. sym (ap q (same i few)) ∙ r.pass i less;
+  ends = λ few. sym (ap q (same n few)) ∙ r.ends (omega arith);
+}
+  where
+    same : (i : ℕ) → i < 13 → get_or (padded w) i 0 ≡ get_or w i 0
+    same i few =
+        get_or_append_left (take 13 w) (97 ∷ 97 ∷ 97 ∷ []) 0 i (omega (arith, length-take-le 13 w wide))
+        ∙ get_or-take 13 w i 0 few

@@ -1,0 +1,329 @@
+-- From the first piece of one byte to the first block.
+use Rattle.std.proofs.Common.{◌≡◌, ◌≢◌, ℕ, zero, suc, ◌+◌, ◌-◌, ◌/◌, ◌^◌, ◌<◌, ◌≤◌, ◌==◌, Bool, true, false}
+use Rattle.std.proofs.Common.{cond, min, List, [], ◌∷◌, ◌++◌, length, map, get_or, take, drop, bit_and, w64}
+use Rattle.std.proofs.Common.{refl, sym, ap, ◌∙◌, arith, inl, inr}
+use Rattle.std.specs.Int.{bit_at}
+use Rattle.std.specs.List.{AllByRecursion, onto_first}
+use Rattle.std.proofs.lemmas.Bool.{cases_Bool, eqb-true, true≢false}
+use Rattle.std.proofs.lemmas.Bool.Decides.{nat_tests}
+use Rattle.std.proofs.lemmas.List.{get_or-drop, get_or-take, length-drop, length-map, length-take-le}
+use Rattle.std.proofs.lemmas.List.Splits.{slice_split-cons_yes, slice_split-cons_no}
+use Rattle.std.proofs.lemmas.Nat.{and_le_l}
+use Rattle.std.proofs.lemmas.Nat.Bits.{bit_at-suc, bit_at-trailing_zeros, bit_at_and}
+use Rattle.std.proofs.lemmas.Simd.{bit_mask_l, mask_l-lt}
+use lib.Count.{count_trailing_zeros}
+use lib.Lanes.{mask_l}
+use Rattle.iloc_spec_grammar.specs.Syntax.{Text, pieces, first_piece, is_one_byte, is_word, Script, Region}
+use Rattle.iloc_spec_grammar.specs.Syntax.{Variant}
+use Rattle.iloc_spec_grammar.specs.Reading.{past, skip_first, starts_block, after_region}
+use Rattle.iloc_spec_grammar.proofs.PiecesLaws.{at_pieces}
+use Rattle.iloc_spec_grammar.proofs.Readings.{IsLong, long_script, long_region, long_variant}
+use Rattle.iloc_pieces.specs.Run.{IsFirstSingle, is_hyphen}
+use Rattle.iloc_pieces.proofs.FrontLemmas.{later_bytes}
+
+-- ---- in a mask of hyphens
+
+marked : (v : Text) (i : ℕ) → get_or (map is_hyphen v) i false ≡ true →
+    (is_hyphen (get_or v i 0) ≡ true) × (i < length v)
+marked [] i e = absurd (cc)
+marked (b ∷ v) zero e = (e, omega arith)
+marked (b ∷ v) (suc i) e = let t = marked v i e in (t.0, omega (arith, t.1))
+
+mark_of : (v : Text) (i : ℕ) → i < length v → get_or (map is_hyphen v) i false ≡ is_hyphen (get_or v i 0)
+mark_of [] i l = absurd (omega arith)
+mark_of (b ∷ v) zero l = refl
+mark_of (b ∷ v) (suc i) l = mark_of v i (omega arith)
+
+both_set : (a b : Bool) → min (cond a 1 0) (cond b 1 0) ≡ 1 → (a ≡ true) × (b ≡ true)
+both_set true true e = (refl, refl)
+both_set true false e = absurd (omega arith)
+both_set false true e = absurd (omega arith)
+both_set false false e = absurd (omega arith)
+
+not_both : (a b : Bool) → min (cond a 1 0) (cond b 1 0) ≡ 0 → a ≡ true → b ≡ false
+not_both true true e h = absurd (omega arith)
+not_both true false e h = refl
+not_both false b e h = absurd (true≢false (sym h))
+
+module _ (w : Text) (m : ℕ) (wide : 16 ≤ length w) (e : m ≡ mask_l (map is_hyphen (take 16 w)))
+    (some : 0 < bit_and m (m / 4)) where
+  abbrev v : Text
+  v = take 16 w
+
+  abbrev n : ℕ
+  n = count_trailing_zeros 64 (bit_and m (m / 4))
+
+  abbrev mark : ℕ → Bool
+  mark i = get_or (map is_hyphen v) i false
+
+  long : length v ≡ 16
+  long = length-take-le 16 w wide
+
+  small : bit_and m (m / 4) < 2 ^ 64
+  small =
+      let below : mask_l (map is_hyphen v) < 2 ^ length (map is_hyphen v) = mask_l-lt (map is_hyphen v) in
+      let size : 2 ^ length (map is_hyphen v) ≡ 2 ^ 16 = ap (λ k. 2 ^ k) (length-map v is_hyphen ∙ long) in
+      omega (arith, and_le_l m (m / 4), e, below, size)
+
+  lowest : (n < 64) × (bit_at (bit_and m (m / 4)) n ≡ 1)
+      × ((i : ℕ) → i < n → bit_at (bit_and m (m / 4)) i ≡ 0)
+  lowest = bit_at-trailing_zeros w64 (bit_and m (m / 4)) some small
+
+  low : (i : ℕ) → bit_at m i ≡ cond (mark i) 1 0
+  low i = ap (λ x. bit_at x i) e ∙ bit_mask_l (map is_hyphen v) i
+
+  high : (i : ℕ) → bit_at (m / 4) i ≡ cond (mark (suc (suc i))) 1 0
+  high i =
+      let halves : m / 4 ≡ m / 2 / 2 = omega arith in
+      ap (λ x. bit_at x i) halves ∙ sym (bit_at-suc (m / 2) i) ∙ sym (bit_at-suc m (suc i))
+      ∙ low (suc (suc i))
+
+  both : (i : ℕ) → bit_at (bit_and m (m / 4)) i ≡ min (cond (mark i) 1 0) (cond (mark (suc (suc i))) 1 0)
+  both i = bit_at_and m (m / 4) i ∙ (λ j. min (low i j) (high i j))
+
+  set : (mark n ≡ true) × (mark (suc (suc n)) ≡ true)
+  set = both_set (mark n) (mark (suc (suc n))) (sym (both n) ∙ lowest.1)
+
+  shown : (i : ℕ) → mark i ≡ true → is_hyphen (get_or w i 0) ≡ true
+  shown i h =
+      let there = marked v i h in
+      ap is_hyphen (sym (get_or-take 16 w i 0 (omega (arith, there.1, long)))) ∙ there.0
+
+  -- the lowest bit that is set both in the mask and two bits later
+  pub single_is : IsFirstSingle w (count_trailing_zeros 64 (bit_and m (m / 4)))
+  single_is = record {
+    few = omega (arith, (marked v (suc (suc n)) (set.1)).1, long);
+    there = shown n (set.0);
+    after = shown (suc (suc n)) (set.1);
+    first = λ i less hyphen.
+        let few : suc (suc i) < length v = omega (arith, (marked v (suc (suc n)) (set.1)).1) in
+        let none = not_both (mark i) (mark (suc (suc i))) (sym (both i) ∙ lowest.2 i less)
+        (mark_of v i (omega arith) ∙ ap is_hyphen (get_or-take 16 w i 0 (omega (arith, long))) ∙ hyphen) in
+        ap is_hyphen (sym (get_or-take 16 w (suc (suc i)) 0 (omega (arith, long))))
+        ∙ sym (mark_of v (suc (suc i)) few) ∙ none;
+  }
+
+-- ---- in the pieces
+
+-- no hyphen of the first k bytes has another one two bytes later
+abbrev NoneBefore : Text → ℕ → Type 0
+NoneBefore t k =
+    (i : ℕ) → i < k → is_hyphen (get_or t i 0) ≡ true → is_hyphen (get_or t (suc (suc i)) 0) ≡ false
+
+two_bytes : (n : ℕ) → (suc (suc n) == 1) ≡ false
+two_bytes n = grind (arith, nat_tests)
+
+-- a first piece before a hyphen is long if no hyphen follows its first byte
+first_long : (t : Text) (k : ℕ) → k < length t → is_hyphen (get_or t k 0) ≡ true →
+    is_hyphen (get_or t 1 0) ≡ false → IsLong (first_piece (pieces t))
+unfolding pieces
+first_long [] k l h e = absurd (omega arith)
+first_long (c ∷ []) zero l h e =
+    ap (λ ps. is_one_byte (first_piece ps)) (slice_split-cons_yes is_hyphen c [] h)
+first_long (c ∷ []) (suc k) l h e = absurd (omega arith)
+first_long (c ∷ d ∷ t) k l h e = elim (cases_Bool (is_hyphen c)) [
+  | inl is ↦ ap (λ ps. is_one_byte (first_piece ps)) (slice_split-cons_yes is_hyphen c (d ∷ t) is)
+  | inr other ↦
+      ap (λ ps. is_one_byte (first_piece ps)) (slice_split-cons_no is_hyphen c (d ∷ t) other
+      ∙ ap (onto_first c) (slice_split-cons_no is_hyphen d t e))
+      ∙ at_pieces (λ ps. is_one_byte (first_piece (onto_first c (onto_first d ps))) ≡ false)
+      (λ p ps. two_bytes (length p)) t
+]
+
+-- long pieces, after a first one, come before the others
+record IsCut (t : Text) (rest : List Text) : Type 0 where
+  first : Text
+  between : List Text
+  cut : pieces t ≡ first ∷ (between ++ rest)
+  long : AllByRecursion IsLong between
+
+cut_single : (t : Text) (k : ℕ) → k < length t → is_hyphen (get_or t k 0) ≡ true → NoneBefore t k →
+    IsCut t (pieces (drop (suc k) t))
+unfolding pieces
+cut_single [] k l h none = absurd (omega arith)
+cut_single (c ∷ t) zero l h none =
+    record { first = []; between = []; cut = slice_split-cons_yes is_hyphen c t h; long = tt }
+cut_single (c ∷ t) (suc k) l h none =
+    let r = cut_single t k (omega arith) h (λ i less. none (suc i) (omega arith)) in
+    elim (cases_Bool (is_hyphen c)) [
+      | inl is ↦
+          record {
+            first = [];
+            between = r.first ∷ r.between;
+            cut = slice_split-cons_yes is_hyphen c t is ∙ ap (λ ps. [] ∷ ps) r.cut;
+            long = (
+              sym (ap (λ ps. is_one_byte (first_piece ps)) r.cut)
+                  ∙ first_long t k (omega arith) h (none 0 (omega arith) is),
+              r.long,
+            );
+          }
+      | inr other ↦
+          record {
+            first = c ∷ r.first;
+            between = r.between;
+            cut = slice_split-cons_no is_hyphen c t other ∙ ap (onto_first c) r.cut;
+            long = r.long;
+          }
+    ]
+
+-- ---- after the words that fit
+
+record IsAhead (rest ps : List Text) : Type 0 where
+  between : List Text
+  cut : ps ≡ between ++ rest
+  long : AllByRecursion IsLong between
+
+module _ (r : Text) (rs : List Text) (one : is_one_byte r ≡ true) where
+  -- words have more than a byte
+  fails : (f : Text → Bool) → ((p : Text) → f p ≡ true → IsLong p) → f r ≡ false
+  fails f word =
+      elim (cases_Bool (f r)) [ inl is ↦ absurd (true≢false (sym one ∙ word r is)) | inr other ↦ other ]
+
+  skips : (f : Text → Bool) → ((p : Text) → f p ≡ true → IsLong p) → (qs : List Text) →
+      AllByRecursion IsLong qs → IsAhead (r ∷ rs) (skip_first f (qs ++ r ∷ rs))
+  skips f word [] h =
+      record { between = []; cut = ap (λ (b : Bool). cond b rs (r ∷ rs)) (fails f word); long = tt }
+  skips f word (q ∷ qs) h = elim (cases_Bool (f q)) [
+    | inl is ↦ record {
+      between = qs;
+      cut = ap (λ (b : Bool). cond b (qs ++ r ∷ rs) (q ∷ (qs ++ r ∷ rs))) is;
+      long = h.1;
+    }
+    | inr other ↦ record {
+      between = q ∷ qs;
+      cut = ap (λ (b : Bool). cond b (qs ++ r ∷ rs) (q ∷ (qs ++ r ∷ rs))) other;
+      long = h;
+    }
+  ]
+
+  passes : (f : Text → Bool) → ((p : Text) → f p ≡ true → IsLong p) → (qs : List Text) →
+      AllByRecursion IsLong qs → IsAhead (r ∷ rs) (past f (qs ++ r ∷ rs))
+  passes f word [] h =
+      record { between = []; cut = ap (λ (b : Bool). cond b (past f rs) (r ∷ rs)) (fails f word); long = tt }
+  passes f word (q ∷ qs) h = elim (cases_Bool (f q)) [
+    | inl is ↦
+        let later = passes f word qs h.1 in
+        record {
+          between = later.between;
+          cut = ap (λ (b : Bool). cond b (past f (qs ++ r ∷ rs)) (q ∷ (qs ++ r ∷ rs))) is ∙ later.cut;
+          long = later.long;
+        }
+    | inr other ↦ record {
+      between = q ∷ qs;
+      cut = ap (λ (b : Bool). cond b (past f (qs ++ r ∷ rs)) (q ∷ (qs ++ r ∷ rs))) other;
+      long = h;
+    }
+  ]
+
+  starts : (qs : List Text) → AllByRecursion IsLong qs → starts_block (qs ++ r ∷ rs) ≡ true →
+      qs ++ r ∷ rs ≡ r ∷ rs
+  starts [] h e = refl
+  starts (q ∷ qs) h e = absurd (true≢false (sym e ∙ h.0))
+
+  next_block : (p : Text) (qs : List Text) → AllByRecursion IsLong qs
+      → starts_block (past (is_word Variant) (after_region (p ∷ (qs ++ r ∷ rs)))) ≡ true
+      → past (is_word Variant) (after_region (p ∷ (qs ++ r ∷ rs))) ≡ r ∷ rs
+  next_block p qs h =
+      let s = skips (is_word Script) long_script qs h in
+      let g = skips (is_word Region) long_region s.between s.long in
+      let v = passes (is_word Variant) long_variant g.between g.long in
+      let same : past (is_word Variant) (after_region (p ∷ (qs ++ r ∷ rs))) ≡ v.between ++ r ∷ rs =
+      ap (λ ps. past (is_word Variant) (skip_first (is_word Region) ps)) s.cut
+      ∙ ap (past (is_word Variant)) g.cut ∙ v.cut in
+      λ e. same ∙ starts v.between v.long (sym (ap starts_block same) ∙ e)
+
+-- a block that follows the words of an identifier begins with the first piece of one byte
+pub next_is : (t : Text) (k : ℕ) → k < length t → is_hyphen (get_or t k 0) ≡ true → NoneBefore t k
+    → (c : ℕ) → first_piece (pieces (drop (suc k) t)) ≡ c ∷ []
+    → starts_block (past (is_word Variant) (after_region (pieces t))) ≡ true
+    → past (is_word Variant) (after_region (pieces t)) ≡ pieces (drop (suc k) t)
+next_is t k l h none c one =
+    let r = cut_single t k l h none in
+    at_pieces (λ rest. pieces t ≡ r.first ∷ (r.between ++ rest) → first_piece rest ≡ c ∷ []
+    → starts_block (past (is_word Variant) (after_region (pieces t))) ≡ true →
+    past (is_word Variant) (after_region (pieces t)) ≡ rest)
+    (λ q qs cut first.
+    let after = λ (ps : List Text). past (is_word Variant) (after_region ps) in
+    λ e. ap after cut
+    ∙ next_block q qs (ap is_one_byte first) r.first r.between r.long
+    (sym (ap (λ ps. starts_block (after ps)) cut) ∙ e))
+    (drop (suc k) t) r.cut one
+
+-- what comes before a hyphen, and what follows it
+cut_text : (t : Text) (k : ℕ) → k < length t → is_hyphen (get_or t k 0) ≡ true →
+    t ≡ take k t ++ 45 ∷ drop (suc k) t
+cut_text [] k l h = absurd (omega arith)
+cut_text (c ∷ t) zero l h = ap (λ b. b ∷ t) (eqb-true c 45 h)
+cut_text (c ∷ t) (suc k) l h = ap (λ u. c ∷ u) (cut_text t k (omega arith) h)
+
+-- a byte between hyphens is a piece
+pub one_between : (t : Text) → is_hyphen (get_or t 0 0) ≡ false → is_hyphen (get_or t 1 0) ≡ true →
+    1 < length t → first_piece (pieces t) ≡ get_or t 0 0 ∷ []
+unfolding pieces
+one_between [] a b l = absurd (omega arith)
+one_between (c ∷ []) a b l = absurd (omega arith)
+one_between (c ∷ d ∷ t) a b l = ap first_piece
+    (slice_split-cons_no is_hyphen c (d ∷ t) a ∙ ap (onto_first c) (slice_split-cons_yes is_hyphen d t b))
+
+-- ---- in a line
+
+module _ (w : Text) (len at : ℕ) (room : len + 16 ≤ length w) (s : IsFirstSingle w at)
+    (inside : at + 2 < len) (other : get_or w (at + 1) 0 ≢ 45) where
+  abbrev text : Text
+  text = take len w
+
+  -- what follows the hyphen, in the rest of the window
+  abbrev window : Text
+  window = take (length w - (at + 1)) (drop (at + 1) w)
+
+  rest : drop (suc at) text ≡ take (len - at - 1) window
+  rest = later_bytes w len at (omega arith) (omega arith)
+
+  hyphen_at : (i : ℕ) → i < len → is_hyphen (get_or text i 0) ≡ is_hyphen (get_or w i 0)
+  hyphen_at i l = ap is_hyphen (get_or-take len w i 0 l)
+
+  behind : (i k : ℕ) → suc at + i ≡ k → k < len →
+      is_hyphen (get_or (drop (suc at) text) i 0) ≡ is_hyphen (get_or w k 0)
+  behind i k e l =
+      ap is_hyphen (get_or-drop (suc at) text i 0) ∙ ap (λ n. is_hyphen (get_or text n 0)) e ∙ hyphen_at k l
+
+  no_hyphen : is_hyphen (get_or w (at + 1) 0) ≡ false
+  no_hyphen = grind (arith, nat_tests)
+
+  one : first_piece (pieces (drop (suc at) text)) ≡ get_or (drop (suc at) text) 0 0 ∷ []
+  one =
+      one_between (drop (suc at) text) (behind 0 (at + 1) (omega arith) (omega arith) ∙ no_hyphen)
+      (behind 1 (suc (suc at)) (omega arith) (omega arith) ∙ s.after)
+      (omega (arith, length-drop (suc at) text, length-take-le len w (omega arith)))
+
+  pub singleton_there : first_piece (pieces (take (len - at - 1) window)) ≡ get_or window 0 0 ∷ []
+  singleton_there =
+      ap (λ t. first_piece (pieces t)) (sym rest) ∙ one ∙ ap (λ t. get_or t 0 0 ∷ []) rest
+      ∙ ap (λ b. b ∷ []) (get_or-take (len - at - 1) window 0 0 (omega arith))
+
+  whole : length text ≡ len
+  whole = length-take-le len w (omega arith)
+
+  pub cut_there : text ≡ take (length text - (len - at - 1 + 1)) text ++ 45 ∷ take (len - at - 1) window
+  cut_there =
+      let before : at ≡ length text - (len - at - 1 + 1) = omega (arith, whole) in
+      cut_text text at (omega (arith, whole)) (hyphen_at at (omega arith) ∙ s.there)
+      ∙ (λ j. take (before j) text ++ 45 ∷ rest j)
+
+  pub less_there : len - at - 1 < length text
+  less_there = omega (arith, whole)
+
+  pub next_there : starts_block (past (is_word Variant) (after_region (pieces text))) ≡ true
+      → past (is_word Variant) (after_region (pieces text)) ≡ pieces (take (len - at - 1) window)
+  next_there e =
+      next_is text at (omega (arith, whole)) (hyphen_at at (omega arith) ∙ s.there)
+      (λ i less h.
+      hyphen_at (suc (suc i)) (omega arith) ∙ s.first i less (sym (hyphen_at i (omega arith)) ∙ h))
+      (get_or (drop (suc at) text) 0 0) one e
+      ∙ ap pieces rest
+
+  pub room_there : len - at - 1 + 16 ≤ length window
+  room_there =
+      let dropped : length (drop (at + 1) w) ≡ length w - (at + 1) = length-drop (at + 1) w in
+      let enough : length w - (at + 1) ≤ length (drop (at + 1) w) = omega arith in
+      omega (arith, length-take-le (length w - (at + 1)) (drop (at + 1) w) enough)

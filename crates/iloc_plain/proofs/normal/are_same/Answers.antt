@@ -1,5 +1,0 @@
-use Rattle.iloc_plain.proofs.SameLemmas.{same_first}
-use Rattle.iloc_plain.proofs.normal.are_same.Goals as goal
-
-pub returns : goal.returns
-returns c = same_first c.args.v c.args.w c.args.len c.fits-v.0 c.fits-w.0 c.requires

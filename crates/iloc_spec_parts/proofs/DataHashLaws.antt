@@ -1,0 +1,54 @@
+-- Subdivisions and data locales are told by what they feed a hasher.
+use Rattle.std.proofs.Common.{◌≡◌, ◌↔◌, ℕ, ◌^◌, ◌<◌, ◌≤◌, ◌+◌, List, [], ◌++◌, length, Option, Some, None}
+use Rattle.std.proofs.Common.{refl, ap, arith, length-append}
+use Rattle.std.specs.Hash.{HashWrites, option}
+use Rattle.iloc_spec_parts.specs.Hashes.{HashesByOrder, word_fed}
+use Rattle.iloc_spec_parts.proofs.HashLaws.{Tells, word_tells, both_tell, option_tells, through, hashes_by}
+use Rattle.iloc_spec_parts.specs.Subdivisions.{Subdivision}
+use Rattle.iloc_spec_parts.specs.DataLocales.{DataLocale, DataKey, data_key}
+use Rattle.iloc_spec_parts.specs.DataOrders.{subdivision_cmp}
+use Rattle.iloc_spec_parts.specs.DataHashes.{subdivision_fed, data_key_fed, data_locale_fed}
+use Rattle.iloc_spec_parts.proofs.DataOrderLaws.{subdivision_exact}
+use Rattle.iloc_spec_grammar.specs.Syntax.{Text}
+
+subdivision_tells : Tells subdivision_fed
+subdivision_tells = through {Y = Text × Text} (λ s. (s.region, s.suffix))
+    (λ p. record { region = p.0; suffix = p.1 }) (λ s. refl) (both_tell word_tells word_tells)
+
+key_tells : Tells data_key_fed
+key_tells = through {Y = ((Text × Option Text) × Option Subdivision) × Option Text}
+    (λ k. (((k.language, k.script), k.region), k.variant))
+    (λ p. record { language = p.0.0.0; script = p.0.0.1; region = p.0.1; variant = p.1 })
+    (λ k. refl)
+    (both_tell (both_tell (both_tell word_tells (option_tells word_tells)) (option_tells subdivision_tells))
+    (option_tells word_tells))
+
+pub subdivision_hashes : HashesByOrder subdivision_cmp subdivision_fed
+subdivision_hashes = hashes_by subdivision_exact subdivision_tells
+
+-- a key makes few writes
+
+optional_few : {X : Type 0} (f : X → HashWrites) (n : ℕ) → ((x : X) → length (f x) ≤ n) → (o : Option X) →
+    length (option f o) ≤ n + 1
+optional_few f n h None = omega arith
+optional_few f n h (Some x) = let l = h x in omega arith
+
+key_few : (k : DataKey) → length (data_key_fed k) < 2 ^ 64
+key_few k =
+    let s = optional_few word_fed 2 (λ w. omega arith) k.script in
+    let r = optional_few subdivision_fed 4 (λ t. omega arith) k.region in
+    let v = optional_few word_fed 2 (λ w. omega arith) k.variant in
+    let a = length-append (word_fed k.language ++ option word_fed k.script ++ option subdivision_fed k.region)
+    (option word_fed k.variant) in
+    let b =
+    length-append (word_fed k.language ++ option word_fed k.script) (option subdivision_fed k.region) in
+    let c = length-append (word_fed k.language) (option word_fed k.script) in
+    omega arith
+
+pub data_locale_hashes : (d e : DataLocale) →
+    (data_locale_fed d ≡ data_locale_fed e) ↔ (data_key d ≡ data_key e)
+data_locale_hashes d e = (
+  (λ h. (key_tells.told (data_key d) (data_key e) [] [] (key_few (data_key d)) (key_few (data_key e))
+      (ap (λ ws. ws ++ []) h)).0),
+  (λ h. ap data_key_fed h),
+)

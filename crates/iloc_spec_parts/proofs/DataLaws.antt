@@ -1,0 +1,297 @@
+-- Data locales: reading and printing.
+use Rattle.std.proofs.Common.{◌≡◌, ◌≤◌, ◌⊎◌, ℕ, Bool, true, false, cond, List, [], ◌∷◌, ◌++◌, length, refl}
+use Rattle.std.proofs.Common.{sym, ap, ◌∙◌, subst, arith, Option, Some, None, IfSome, MatchResult, Result, Ok}
+use Rattle.std.proofs.Common.{Err, ok_or, option_map, option_and_then, option_to_list, codes, append_assoc}
+use Rattle.std.proofs.Common.{append-nil}
+use Rattle.std.specs.Result.{result_ok}
+use Rattle.std.proofs.lemmas.Bool.{cond_both}
+use Rattle.std.proofs.lemmas.Bool.Decides.{nat_tests}
+use Rattle.iloc_spec_grammar.specs.Syntax.{Text, join, Region, Subtag, UnicodeKey, Attribute}
+use Rattle.iloc_spec_grammar.specs.Syntax.{SubdivisionSuffix}
+use Rattle.iloc_spec_grammar.specs.Syntax.{is_word, IsWord, AreLengths, lower, is_same, is_true}
+use Rattle.iloc_spec_grammar.specs.Syntax.{identifier_pieces}
+use Rattle.iloc_spec_grammar.specs.Meaning.{Locale, Fault, InvalidExtension}
+use Rattle.iloc_spec_grammar.specs.Values.{IsNormal, IsValue, IsWellFormed, extensions_spelling, text}
+use Rattle.iloc_spec_grammar.proofs.MapLaws.{same_itself, same_is}
+use Rattle.iloc_spec_grammar.proofs.WordsLaws.{is_word-lower, lower-lower}
+use Rattle.iloc_spec_grammar.proofs.Corollaries.{same_text_same_value}
+use Rattle.iloc_spec_parts.specs.Small.{SmallIdentifier, SmallLocale, identifier_of_small, locale_of_small}
+use Rattle.iloc_spec_parts.specs.Small.{IsSmall, HasSmallFault, IsSmallValue}
+use Rattle.iloc_spec_grammar.specs.Reading.{first_item}
+use Rattle.iloc_spec_parts.specs.Subdivisions.{Subdivision, subdivision, subdivision_text}
+use Rattle.iloc_spec_parts.specs.Subdivisions.{IsSubdivision}
+use Rattle.iloc_spec_parts.specs.DataComputing.{data_of_result, data_result}
+use Rattle.iloc_spec_parts.specs.DataLocales.{DataLocale, IsDataLocale, whole, whole_region, is_whole}
+use Rattle.iloc_spec_parts.specs.DataLocales.{named_subdivision, made_of, agreed, small_part}
+use Rattle.iloc_spec_parts.specs.DataLocales.{data_of_small, DataMeans, HasDataFault, not_small}
+use Rattle.iloc_spec_parts.specs.DataLocales.{no_subdivision, subdivision_value, subdivision_keyword}
+use Rattle.iloc_spec_parts.specs.DataLocales.{subdivision_pieces, data_text, small_of_data}
+use Rattle.iloc_spec_parts.specs.DataLocales.{locale_of_data}
+use Rattle.iloc_spec_parts.proofs.Keys.{sd}
+use Rattle.iloc_spec_parts.proofs.SmallLaws.{one_small, small_answer, small_apart, one_small_fault, by_result}
+use Rattle.iloc_spec_parts.specs.SmallComputing.{small_result}
+use Rattle.iloc_spec_parts.proofs.SmallBack.{small_back, small_is_value, small_is_well_formed}
+use Rattle.iloc_spec_parts.proofs.SmallBack.{read_is_small_value}
+use Rattle.iloc_spec_parts.proofs.SubdivisionLaws.{subdivision_back, subdivision_is_subtag}
+use Rattle.iloc_spec_parts.proofs.SubdivisionLaws.{read_is_subdivision, text_of_read, read_is_long}
+
+-- what is read of a text
+
+pub data_answer : {T : ℕ → Bool} → AreLengths T → (t : Text) →
+    MatchResult (data_result T t) (DataMeans T t) (HasDataFault T t)
+unfolding data_result
+data_answer {T = T} table t = at_small (small_result T t) (small_answer table t)
+  where
+    Answer : Result DataLocale Fault → Type 0
+    Answer o = MatchResult o (DataMeans T t) (HasDataFault T t)
+
+    at_data : (r : SmallLocale) → IsSmall T t r → (o : Option DataLocale) → data_of_small r ≡ o →
+        Answer (ok_or o InvalidExtension)
+    at_data r h None e = no_subdivision h e
+    at_data r h (Some d) e = record { small = r; is_small = h; means = e }
+
+    at_small : (o : Result SmallLocale Fault) → MatchResult o (IsSmall T t) (HasSmallFault T t) →
+        Answer (data_of_result o)
+    at_small (Ok r) h = at_data r h (data_of_small r) refl
+    at_small (Err f) h = not_small h
+
+pub one_data : {T : ℕ → Bool} → AreLengths T → (t : Text) (d e : DataLocale) → DataMeans T t d →
+    DataMeans T t e → d ≡ e
+one_data table t d e a b =
+    let same : Some d ≡ Some e =
+    sym a.means ∙ ap data_of_small (one_small table t a.small b.small a.is_small b.is_small) ∙ b.means in
+    cc
+
+pub data_apart : {T : ℕ → Bool} → AreLengths T → (t : Text) (d : DataLocale) (f : Fault) → DataMeans T t d →
+    HasDataFault T t f → ⊥
+data_apart table t d f h (not_small x) = small_apart t h.small f h.is_small x
+data_apart table t d f h (no_subdivision {r = r} s e) =
+    let same : Some d ≡ None =
+    sym h.means ∙ ap data_of_small (one_small table t h.small r h.is_small s) ∙ e in
+    cc
+
+pub one_data_fault : {T : ℕ → Bool} (t : Text) {f g : Fault} → HasDataFault T t f → HasDataFault T t g →
+    f ≡ g
+one_data_fault t (not_small x) (not_small y) = one_small_fault t x y
+one_data_fault t (not_small x) (no_subdivision s e) = absurd (small_apart t _ _ s x)
+one_data_fault t (no_subdivision s e) (not_small y) = absurd (small_apart t _ _ s y)
+one_data_fault t (no_subdivision s e) (no_subdivision q k) = refl
+
+-- printing
+
+abbrev keyword_by : Option Text → Option (Text × Option Text)
+keyword_by o = option_map (λ w. (sd, first_item (subdivision_value w))) o
+
+value_once : (w : Text) → option_to_list (first_item (subdivision_value w)) ≡ subdivision_value w
+value_once w = elim (is_true (lower w))
+    as (λ b. option_to_list (first_item (cond b [] (lower w ∷ []))) ≡ cond b [] (lower w ∷ []))
+    [ true ↦ refl | false ↦ refl ]
+
+words_first : (l : Text) (s r v : List Text) (rest : List Text) →
+    (l ∷ (s ++ (r ++ v))) ++ rest ≡ l ∷ (s ++ (r ++ (v ++ rest)))
+words_first l s r v rest =
+    ap (λ ws. l ∷ ws) (append_assoc s (r ++ v) rest ∙ ap (λ ws. s ++ ws) (append_assoc r v rest))
+
+pub text_of_data : (d : DataLocale) → text (locale_of_data d) ≡ data_text d
+unfolding extensions_spelling
+text_of_data d = from (subdivision_keyword d)
+  where
+    id : SmallIdentifier
+    id = record { language = d.language; script = d.script; region = d.region; variant = d.variant }
+
+    from : (o : Option Text) →
+        text (locale_of_small (record { id = id; keyword = keyword_by o }))
+        ≡ join (d.language
+        ∷ (option_to_list d.script
+        ++ (option_to_list d.region ++ (option_to_list d.variant ++ subdivision_pieces o))))
+    from None = ap join (words_first d.language (option_to_list d.script) (option_to_list d.region)
+        (option_to_list d.variant) [])
+    from (Some w) = ap join (ap (λ vs. identifier_pieces (identifier_of_small id) ++ (codes "u" ∷ sd ∷ vs))
+        (append-nil _ ∙ append-nil _ ∙ value_once w)
+        ∙ words_first d.language (option_to_list d.script) (option_to_list d.region)
+        (option_to_list d.variant) (subdivision_pieces (Some w)))
+
+-- the keyword of a data locale
+
+attribute_from : (w : Text) → IsWord Subtag w → 3 ≤ length w → IsWord Attribute w
+unfolding is_word
+attribute_from w h n = grind (arith, nat_tests)
+
+pub sd_key : IsNormal UnicodeKey sd
+unfolding is_word lower
+sd_key = (refl, refl)
+
+abbrev IsKeywordOf : Option Text → Type 0
+IsKeywordOf o = IfSome o (λ w. IsWord Subtag w × (3 ≤ length w))
+
+keyword_words : (o : Option Text) → IfSome o (IsNormal Subtag) →
+    IsKeywordOf
+    (option_and_then (λ w. option_and_then (λ s. cond (is_whole s) None (Some w)) (named_subdivision w)) o)
+keyword_words None h = tt
+keyword_words (Some w) h = elim (subdivision w) as (λ r.
+    subdivision w ≡ r → IsKeywordOf (option_and_then (λ s. cond (is_whole s) None (Some w)) (result_ok r))) [
+      | Err f ↦ λ e. tt
+      | Ok s ↦ λ e. cond_both (is_whole s) _ _ IsKeywordOf (λ w. tt) (λ w. (h.0, read_is_long _ s e))
+    ] refl
+
+pub small_value_of_data : {T : ℕ → Bool} (d : DataLocale) → IsDataLocale T d →
+    IsSmallValue T (small_of_data d)
+small_value_of_data d h =
+    let parts = parts_are (subdivision_keyword d) (keyword_words d.subdivision h.subdivision) in
+    record {
+      language = h.language;
+      script = h.script;
+      region = h.region;
+      variant = h.variant;
+      key = parts.0;
+      value = parts.1;
+    }
+  where
+    parts_are : (o : Option Text) → IsKeywordOf o →
+        IfSome (keyword_by o) (λ k. IsNormal UnicodeKey k.0)
+        × IfSome (keyword_by o) (λ k. IfSome k.1 (λ w. IsNormal Attribute w × (is_true w ≡ false)))
+    parts_are None k = (tt, tt)
+    parts_are (Some w) k = (
+      sd_key,
+      cond_both (is_true (lower w)) _ _
+          (λ ws. IfSome (first_item ws) (λ w. IsNormal Attribute w × (is_true w ≡ false))) (λ e. tt)
+          (λ e. ((is_word-lower Attribute w ∙ attribute_from w k.0 k.1, lower-lower w), e)),
+    )
+
+-- the locale that a data locale becomes is a value, and well-formed
+pub locale_of_data_is_value : {T : ℕ → Bool} (d : DataLocale) → IsDataLocale T d →
+    IsValue T (locale_of_data d)
+locale_of_data_is_value d h = small_is_value (small_of_data d) (small_value_of_data d h)
+
+pub locale_of_data_is_well_formed : {T : ℕ → Bool} → AreLengths T → (d : DataLocale) → IsDataLocale T d →
+    IsWellFormed (locale_of_data d)
+locale_of_data_is_well_formed table d h =
+    small_is_well_formed table (small_of_data d) (small_value_of_data d h)
+
+-- what is read: made of a part that spells no `true`
+
+abbrev IsReadPart : Subdivision → Type 0
+IsReadPart p = IsSubdivision p × (is_whole p ≡ false → is_true (subdivision_text p) ≡ false)
+
+abbrev MadeOf : SmallIdentifier → DataLocale → Type 0
+MadeOf i d = (p : Option Subdivision) × IfSome p IsReadPart × (d ≡ made_of i.language i.script p i.variant)
+
+whole_word : IsNormal SubdivisionSuffix whole
+unfolding is_word lower
+whole_word = (refl, refl)
+
+pub whole_region_is : (r : Text) → IsNormal Region r → IsSubdivision (whole_region r)
+whole_region_is r h = record { region = h; suffix = whole_word }
+
+whole_part : (r : Text) → IsNormal Region r → IsReadPart (whole_region r)
+whole_part r h = (whole_region_is r h, λ e. absurd (cc))
+
+agreed_part : (region : Option Text) (s : Subdivision) → IfSome region (IsNormal Region) → IsReadPart s →
+    IsReadPart (agreed region s)
+agreed_part None s h p = p
+agreed_part (Some r) s h p = elim (is_same r s.region) as (λ b. IsReadPart (cond b s (whole_region r)))
+    [ true ↦ p | false ↦ whole_part r h ]
+
+parts_read : (region : Option Text) (k : Option (Text × Option Text)) →
+    IfSome region (IsNormal Region) →
+    IfSome k (λ k. IfSome k.1 (λ w. IsNormal Attribute w × (is_true w ≡ false))) →
+    IfSome (small_part region k) (λ part. IfSome part IsReadPart)
+parts_read None None h v = tt
+parts_read (Some r) None h v = whole_part r h
+parts_read region (Some (k, o)) h v = elim (is_same k sd)
+    as (λ b.
+    IfSome (cond b (option_map (λ s. Some (agreed region s)) (option_and_then named_subdivision o)) None)
+    (λ part. IfSome part IsReadPart)) [ true ↦ at_value o v | false ↦ tt ]
+  where
+    at_value : (o : Option Text) → IfSome o (λ w. IsNormal Attribute w × (is_true w ≡ false)) →
+        IfSome (option_map (λ s. Some (agreed region s)) (option_and_then named_subdivision o))
+        (λ part. IfSome part IsReadPart)
+    at_value None v = tt
+    at_value (Some w) v = elim (subdivision w) as (λ r. subdivision w ≡ r →
+        IfSome (option_map (λ s. Some (agreed region s)) (result_ok r)) (λ part. IfSome part IsReadPart)) [
+          | Err f ↦ λ e. tt
+          | Ok s ↦ λ e. agreed_part region s h
+              (read_is_subdivision w s e, λ k. ap is_true (text_of_read w s e ∙ v.0.1) ∙ v.1)
+        ] refl
+
+read_made : {T : ℕ → Bool} (t : Text) (d : DataLocale) (h : DataMeans T t d) → MadeOf h.small.id d
+read_made t d h = let v = read_is_small_value t h.small h.is_small in
+    from (small_part h.small.id.region h.small.keyword)
+    (parts_read h.small.id.region h.small.keyword v.region v.value) h.means
+  where
+    from : (o : Option (Option Subdivision)) → IfSome o (λ part. IfSome part IsReadPart) →
+        option_map (λ part. made_of h.small.id.language h.small.id.script part h.small.id.variant) o
+        ≡ Some d →
+        MadeOf h.small.id d
+    from None p e = absurd (cc)
+    from (Some part) p e = (part, p, cc)
+
+-- it prints as it was read
+
+text_stays : (p : Subdivision) → IsSubdivision p → lower (subdivision_text p) ≡ subdivision_text p
+text_stays p h = sym (text_of_read _ p (subdivision_back p h))
+
+pub read_is_data_locale : {T : ℕ → Bool} (t : Text) (d : DataLocale) → DataMeans T t d → IsDataLocale T d
+read_is_data_locale {T = T} t d h =
+    let v = read_is_small_value t h.small h.is_small in
+    let m = read_made t d h in
+    subst (IsDataLocale T) (sym m.2) (record {
+      language = v.language;
+      script = v.script;
+      region = region_is m.0 m.1;
+      variant = v.variant;
+      subdivision = subdivision_is m.0 m.1;
+    })
+  where
+    region_is : (p : Option Subdivision) → IfSome p IsReadPart →
+        IfSome (option_map (λ p. p.region) p) (IsNormal Region)
+    region_is None h = tt
+    region_is (Some p) h = h.0.region
+
+    subdivision_is : (p : Option Subdivision) → IfSome p IsReadPart →
+        IfSome (option_map subdivision_text p) (IsNormal Subtag)
+    subdivision_is None h = tt
+    subdivision_is (Some p) h = (subdivision_is_subtag p h.0, text_stays p h.0)
+
+-- the part that is printed for a part is read as it
+part_back : (p : Option Subdivision) → IfSome p IsReadPart →
+    small_part (option_map (λ p. p.region) p) (keyword_by
+    (option_and_then (λ w. option_and_then (λ s. cond (is_whole s) None (Some w)) (named_subdivision w))
+    (option_map subdivision_text p)))
+    ≡ Some p
+part_back None h = refl
+part_back (Some p) h = rw (subdivision_back p h.0) (elim (is_whole p) as (λ b. is_whole p ≡ b →
+    small_part (Some p.region) (keyword_by (cond b None (Some (subdivision_text p)))) ≡ Some (Some p)) [
+      | true ↦
+          λ e.
+          ap (λ x. Some (Some (record { region = p.region; suffix = x }))) (sym (same_is p.suffix whole e))
+      | false ↦ λ e. with_keyword (h.1 e)
+    ] refl)
+  where
+    with_keyword : is_true (subdivision_text p) ≡ false →
+        small_part (Some p.region) (keyword_by (Some (subdivision_text p))) ≡ Some (Some p)
+    with_keyword n = rw (text_stays p h.0, n, subdivision_back p h.0, same_itself p.region) refl
+
+pub read_back : {T : ℕ → Bool} (t : Text) (d : DataLocale) → DataMeans T t d → DataMeans T (data_text d) d
+read_back {T = T} t d h =
+    let m = read_made t d h in
+    record {
+      small = small_of_data d;
+      is_small = subst (λ (u : Text). IsSmall T u (small_of_data d)) (text_of_data d)
+          (small_back (small_of_data d) (small_value_of_data d (read_is_data_locale t d h)));
+      means = ap (λ (e : DataLocale). data_of_small (small_of_data e)) m.2
+          ∙ ap (option_map (λ part. made_of h.small.id.language h.small.id.script part h.small.id.variant))
+          (part_back m.0 m.1)
+          ∙ ap Some (sym m.2);
+    }
+
+pub data_or_fault : {T : ℕ → Bool} → AreLengths T → (t : Text) →
+    ((d : DataLocale) × DataMeans T t d) ⊎ ((f : Fault) × HasDataFault T t f)
+data_or_fault {T = T} table t =
+    by_result (DataMeans T t) (HasDataFault T t) (data_result T t) (data_answer table t)
+
+-- no other well-formed value has its text
+pub only_locale : {T : ℕ → Bool} → AreLengths T → (d : DataLocale) → IsDataLocale T d → (M : Locale) →
+    IsValue T M → IsWellFormed M → text M ≡ data_text d → M ≡ locale_of_data d
+only_locale {T = T} table d h M v w e = same_text_same_value M (locale_of_data d) w
+    (locale_of_data_is_well_formed table d h) (e ∙ sym (text_of_data d))

@@ -1,6 +1,0 @@
--- Region and suffix are cut apart again.
-use Rattle.iloc_spec_preferences.proofs.SubdivisionLaws.{subdivision_back, read_is_subdivision, text_of_read}
-use Rattle.iloc_spec_preferences.proofs.regions.subdivisions.Goals as goal
-
-pub returns : goal.returns
-returns c = record { back = subdivision_back; valid = read_is_subdivision; same = text_of_read }

@@ -1,3 +1,0 @@
-pub mod AscendingLaws
-pub mod SetLaws
-pub mod CollectorLaws

@@ -1,3 +1,0 @@
-pub mod Ascending
-pub mod TakingIn
-pub mod Collected

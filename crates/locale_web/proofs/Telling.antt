@@ -1,0 +1,531 @@
+-- The pieces of a normal text, told from the left, are the parts of its locale.
+use Rattle.std.proofs.Common.{◌≡◌, ◌≢◌, ℕ, ◌≤◌, ◌==◌, Bool, true, false, cond, List, [], ◌∷◌, ◌++◌, length}
+use Rattle.std.proofs.Common.{map, flat_map, Option, Some, None, IfSome, option_map, option_to_list, nat_le}
+use Rattle.std.proofs.Common.{codes, refl, sym, ap, ◌∙◌, subst, arith, append_assoc, append-nil, true≢false}
+use Rattle.std.specs.Char.{to_ascii_lowercase, is_ascii_alphanumeric}
+use Rattle.std.specs.List.{AllByRecursion}
+use Rattle.std.proofs.lemmas.Bool.{false_from_ne_true, and_parts}
+use Rattle.std.proofs.lemmas.Bool.Decides.{nat_tests}
+use Rattle.iloc_spec_grammar.specs.Syntax.{code_x, code_u, code_t, Text, Block, Language, Script, Region}
+use Rattle.iloc_spec_grammar.specs.Syntax.{Variant, Subtag, UnicodeKey}
+use Rattle.iloc_spec_grammar.specs.Syntax.{TransformKey, Attribute, PrivateSubtag, Bounds, languages, is_word}
+use Rattle.iloc_spec_grammar.specs.Syntax.{IsWord, is_one_byte, is_other_singleton, SpelledIdentifier}
+use Rattle.iloc_spec_grammar.specs.Syntax.{Unicode, Transform, Fields, identifier_pieces, is_true}
+use Rattle.iloc_spec_grammar.specs.Syntax.{optional_pieces, fields_pieces, unicode_pieces, HasWords}
+use Rattle.iloc_spec_grammar.specs.Syntax.{IsHyphenFree, pieces, join}
+use Rattle.iloc_spec_grammar.specs.Syntax as words
+use Rattle.iloc_spec_grammar.specs.Meaning.{Locale, Extensions}
+use Rattle.iloc_spec_grammar.specs.Tree.{before_t, after_t, spelled_identifier}
+use Rattle.iloc_spec_grammar.specs.Values.{IsNormal, AreWellFormed, IsExtensionsValue, IsIdentifierValue}
+use Rattle.iloc_spec_grammar.specs.Values.{lower_identifier, spelled_value, spelled_fields, printed_pieces}
+use Rattle.iloc_spec_grammar.specs.Values.{unicode_spelling, transform_spelling, other_spelling}
+use Rattle.iloc_spec_grammar.specs.Values.{private_spelling, extensions_spelling}
+use Rattle.iloc_spec_grammar.proofs.General.{some_mapped, all_mapped}
+use Rattle.iloc_spec_grammar.proofs.PartTexts.{spelling_of_parts, id_pieces-low}
+use Rattle.iloc_spec_grammar.proofs.PiecesLaws.{pieces-join}
+use Rattle.iloc_spec_grammar.proofs.RawLaws.{languages_table}
+use Rattle.iloc_spec_grammar.proofs.ReadBack.{word_hyphen_free, all_append}
+use Rattle.iloc_spec_grammar.proofs.Readings.{language_no_key, identifier_no_key}
+use Rattle.iloc_spec_grammar.proofs.ValuesLaws.{value_words, value_identifier, lower_is_identifier}
+use Rattle.iloc_spec_grammar.proofs.ValuesLaws.{all_weaker, all_both, spelled_rule}
+use Rattle.iloc_spec_grammar.proofs.WordsLaws.{length-language, length-script, length-region, length-variant}
+use Rattle.iloc_spec_grammar.proofs.WordsLaws.{length-attribute, length-unicode_key, length-transform_key}
+use Rattle.iloc_spec_grammar.proofs.WordsLaws.{region_no_script, variant_no_script, variant_no_region}
+use Rattle.iloc_pieces.specs.Left.{IsShortPiece}
+use Rattle.iloc_pieces.proofs.LeftLemmas.{short_word}
+use Rattle.locale_web.specs.Kinds.{KindedPiece, of_kind, parts_of_identifier, parts_of_optional}
+use Rattle.locale_web.specs.Kinds.{parts_of_fields, parts_of_block, parts_of_transform, parts_of_unicode}
+use Rattle.locale_web.specs.Kinds.{parts_of_others, parts_of_private, parts_of_extensions, parts_of, IsOfKind}
+use Rattle.locale_web.specs.Kinds.{IsNormalTextOf}
+use Rattle.locale_web.specs.Steps.{AreShortPieces, begun, inside, step, told, word_kind}
+use Rattle.locale_web.specs.declared.kind.Kind.{Kind}
+use Rattle.locale_web.specs.declared.kind.Kind.TheVariants as kinds
+use Rattle.locale_web.specs.declared.state.State.{State}
+use Rattle.locale_web.specs.declared.state.State.TheVariants as states
+
+-- ---- pieces that are no longer than a word, and hold no hyphen
+
+abbrev pub IsPlain : Text → Type 0
+IsPlain p = IsShortPiece p × IsHyphenFree p
+
+pub plain_word : (k : words.Kind) → Bounds 8 k → (p : Text) → IsWord k p → IsPlain p
+plain_word k b p h = (short_word k b p h, word_hyphen_free k p h)
+
+pub plain_of : (w : KindedPiece) → IsOfKind w → IsPlain w.1
+plain_of (kinds.Language, p) h = plain_word (Language languages) languages_table.most p h
+plain_of (kinds.Script, p) h = plain_word Script tt p h
+plain_of (kinds.Region, p) h = plain_word Region tt p h
+plain_of (kinds.Variant, p) h = plain_word Variant tt p h
+plain_of (kinds.Singleton, p) h = plain_word PrivateSubtag tt p h.0
+plain_of (kinds.Attribute, p) h = plain_word Attribute tt p h
+plain_of (kinds.Key, p) h = plain_word UnicodeKey tt p h
+plain_of (kinds.Value, p) h = plain_word Attribute tt p h
+plain_of (kinds.Field, p) h = plain_word TransformKey tt p h
+plain_of (kinds.Other, p) h = plain_word Subtag tt p h
+plain_of (kinds.Private, p) h = plain_word PrivateSubtag tt p h
+
+-- ---- what a word is, by the state
+
+many_bytes : (n : ℕ) → 2 ≤ n → (n == 1) ≡ false
+many_bytes n h = grind (arith, nat_tests)
+
+-- a piece of more than one byte begins no part
+in_part : (s : State) (p : Text) → 2 ≤ length p → step s p ≡ inside s p
+in_part states.Private p h = refl
+in_part s p h = let e = many_bytes (length p) h in rw e refl
+
+long_subtag : (p : Text) → IsWord Subtag p → 2 ≤ length p
+unfolding is_word
+long_subtag p h = grind (arith, nat_tests)
+
+long_language : (p : Text) → IsWord (Language languages) p → 2 ≤ length p
+long_language p h = languages_table.least (length p) (length-language languages p h)
+
+-- words of an identifier
+
+script_is : (p : Text) → IsWord Script p → word_kind p ≡ kinds.Script
+script_is p h = rw h refl
+
+region_is : (p : Text) → IsWord Region p → word_kind p ≡ kinds.Region
+region_is p h = let n = region_no_script p h in rw (n, h) refl
+
+variant_is : (p : Text) → IsWord Variant p → word_kind p ≡ kinds.Variant
+variant_is p h = let n = variant_no_script p h in let m = variant_no_region p h in rw (n, m) refl
+
+-- a state in which words are those of an identifier
+record TakesWords (s : State) : Type 0 where
+  script : (p : Text) → IsWord Script p → step s p ≡ (kinds.Script, s)
+  region : (p : Text) → IsWord Region p → step s p ≡ (kinds.Region, s)
+  variant : (p : Text) → IsWord Variant p → step s p ≡ (kinds.Variant, s)
+
+head_takes : TakesWords states.Head
+head_takes = record {
+  script = λ p h. in_part states.Head p (let n = length-script p h in omega arith)
+      ∙ ap (λ k. (k, states.Head)) (script_is p h);
+  region = λ p h. in_part states.Head p (let n = length-region p h in omega arith)
+      ∙ ap (λ k. (k, states.Head)) (region_is p h);
+  variant = λ p h. in_part states.Head p (let n = length-variant p h in omega arith)
+      ∙ ap (λ k. (k, states.Head)) (variant_is p h);
+}
+
+no_key : (p : Text) → length p ≢ 2 → is_word TransformKey p ≡ false
+no_key p h = false_from_ne_true _ (λ k. h (length-transform_key p k))
+
+en_is : IsWord (Language languages) (codes "en")
+unfolding is_word languages
+en_is = refl
+
+region_no_key : (p : Text) → IsWord Region p → is_word TransformKey p ≡ false
+region_no_key p h =
+    let i : SpelledIdentifier =
+    record { language = codes "en"; script = None; region = Some p; variants = [] } in
+    let words : HasWords languages i = record { language = en_is; script = tt; region = h; variants = tt } in
+    (identifier_no_key {T = languages} i words).1.0
+
+in_source : (p : Text) → 2 ≤ length p → is_word TransformKey p ≡ false
+    → step states.Source p ≡ (word_kind p, states.Source)
+in_source p h n = in_part states.Source p h ∙ rw n refl
+
+source_takes : TakesWords states.Source
+source_takes = record {
+  script = λ p h. let n = length-script p h in in_source p (omega arith) (no_key p (omega arith))
+      ∙ ap (λ k. (k, states.Source)) (script_is p h);
+  region = λ p h. let n = length-region p h in in_source p (omega arith) (region_no_key p h)
+      ∙ ap (λ k. (k, states.Source)) (region_is p h);
+  variant = λ p h. let n = length-variant p h in in_source p (omega arith) (no_key p (omega arith))
+      ∙ ap (λ k. (k, states.Source)) (variant_is p h);
+}
+
+-- keys, and what follows them
+
+-- a key of `t`, and one of `u`, in each state in which it may come
+abbrev IsFieldIn : State → Type 0
+IsFieldIn s = (p : Text) → IsWord TransformKey p → step s p ≡ (kinds.Field, states.Fields)
+
+abbrev IsKeyIn : State → Type 0
+IsKeyIn s = (p : Text) → IsWord UnicodeKey p → step s p ≡ (kinds.Key, states.Keywords)
+
+two_in : (s : State) (p : Text) → length p ≡ 2 → step s p ≡ inside s p
+two_in s p h = in_part s p (omega arith)
+
+field_in_transform : IsFieldIn states.Transform
+field_in_transform p h = two_in states.Transform p (length-transform_key p h) ∙ rw h refl
+
+field_in_source : IsFieldIn states.Source
+field_in_source p h = two_in states.Source p (length-transform_key p h) ∙ rw h refl
+
+field_in_fields : IsFieldIn states.Fields
+field_in_fields p h = two_in states.Fields p (length-transform_key p h) ∙ rw h refl
+
+key_in_attributes : IsKeyIn states.Attributes
+key_in_attributes p h = two_in states.Attributes p (length-unicode_key p h) ∙ rw h refl
+
+key_in_keywords : IsKeyIn states.Keywords
+key_in_keywords p h = two_in states.Keywords p (length-unicode_key p h) ∙ rw h refl
+
+-- attributes and values
+no_unicode_key : (p : Text) → length p ≢ 2 → is_word UnicodeKey p ≡ false
+no_unicode_key p h = false_from_ne_true _ (λ k. h (length-unicode_key p k))
+
+value_in_fields : (p : Text) → IsWord Attribute p → step states.Fields p ≡ (kinds.Value, states.Fields)
+value_in_fields p h =
+    let n = length-attribute p h in
+    let k = no_key p (omega arith) in
+    in_part states.Fields p (omega arith) ∙ rw k refl
+
+value_in_keywords : (p : Text) → IsWord Attribute p → step states.Keywords p ≡ (kinds.Value, states.Keywords)
+value_in_keywords p h =
+    let n = length-attribute p h in
+    let k = no_unicode_key p (omega arith) in
+    in_part states.Keywords p (omega arith) ∙ rw k refl
+
+attribute_in : (p : Text) → IsWord Attribute p
+    → step states.Attributes p ≡ (kinds.Attribute, states.Attributes)
+attribute_in p h =
+    let n = length-attribute p h in
+    let k = no_unicode_key p (omega arith) in
+    in_part states.Attributes p (omega arith) ∙ rw k refl
+
+-- a language, first or after `t`
+language_in_start : (p : Text) → IsWord (Language languages) p
+    → step states.Start p ≡ (kinds.Language, states.Head)
+language_in_start p h = in_part states.Start p (long_language p h)
+
+language_in_transform : (p : Text) → IsWord (Language languages) p
+    → step states.Transform p ≡ (kinds.Language, states.Source)
+language_in_transform p h =
+    let k = language_no_key languages p h in
+    in_part states.Transform p (long_language p h) ∙ rw k refl
+
+-- subtags of other extensions, and after `x`
+other_in : (p : Text) → IsWord Subtag p → step states.Other p ≡ (kinds.Other, states.Other)
+other_in p h = in_part states.Other p (long_subtag p h)
+
+private_in : (p : Text) → step states.Private p ≡ (kinds.Private, states.Private)
+private_in p = refl
+
+-- ---- what is told of the pieces of a part, whatever part follows
+
+abbrev pub is_open : State → Bool
+is_open states.Private = false
+is_open s = true
+
+-- the pieces begin a part, or are none: the state before them does not matter
+abbrev pub Begins : List Text → Type 0
+Begins qs = (s : State) → is_open s ≡ true → told s qs ≡ told states.Other qs
+
+pub record AreTold (s : State) (ps : List Text) (parts : List KindedPiece) : Type 0 where
+  pub each : (qs : List Text) → Begins qs → told s (ps ++ qs) ≡ parts ++ told states.Other qs
+  pub words : AllByRecursion IsOfKind parts
+
+nothing_told : (s : State) → is_open s ≡ true → AreTold s [] []
+nothing_told s o = record { each = λ qs begins. begins s o; words = tt }
+
+one_told : {s next : State} {k : Kind} {ps : List Text} {parts : List KindedPiece} (p : Text) →
+    step s p ≡ (k, next)
+    → IsOfKind (k, p)
+    → AreTold next ps parts → AreTold s (p ∷ ps) ((k, p) ∷ parts)
+one_told {k = k} {ps = ps} p is word h = record {
+  each = λ qs begins. ap (λ w. (w.0, p) ∷ told w.1 (ps ++ qs)) is ∙ ap (λ ws. (k, p) ∷ ws) (h.each qs begins);
+  words = (word, h.words);
+}
+
+-- words of one kind, which leave the state as it is
+each_told : (s : State) (k : Kind) (K : words.Kind) → ((p : Text) → IsWord K p → IsOfKind (k, p))
+    → ((p : Text) → IsWord K p → step s p ≡ (k, s))
+    → (ws : List Text) → AllByRecursion (IsWord K) ws
+    → {ps : List Text} {parts : List KindedPiece} → AreTold s ps parts →
+    AreTold s (ws ++ ps) (of_kind k ws ++ parts)
+each_told s k K b is [] h rest = rest
+each_told s k K b is (w ∷ ws) h rest =
+    one_told w (is w h.0) (b w h.0) (each_told s k K b is ws h.1 rest)
+
+optional_told : (s : State) (k : Kind) (K : words.Kind) → ((p : Text) → IsWord K p → IsOfKind (k, p))
+    → ((p : Text) → IsWord K p → step s p ≡ (k, s))
+    → (o : Option Text) → IfSome o (IsWord K)
+    → {ps : List Text} {parts : List KindedPiece} → AreTold s ps parts
+    → AreTold s (option_to_list o ++ ps) (of_kind k (option_to_list o) ++ parts)
+optional_told s k K b is None h rest = rest
+optional_told s k K b is (Some w) h rest = one_told w (is w h) (b w h) rest
+
+-- the same of equal lists
+told_as : {s : State} {ps qs : List Text} {xs ys : List KindedPiece} → ps ≡ qs → xs ≡ ys → AreTold s ps xs
+    → AreTold s qs ys
+told_as {s} {ps} {qs} {xs} {ys} e f h = subst (λ (l : List Text). AreTold s l ys) e
+    (subst (λ (l : List KindedPiece). AreTold s ps l) f h)
+
+three : {X : Type 0} (a b c d : List X) → a ++ (b ++ (c ++ d)) ≡ (a ++ (b ++ c)) ++ d
+three a b c d = sym (append_assoc a (b ++ c) d ∙ ap (λ l. a ++ l) (append_assoc b c d))
+
+-- words after a language
+after_language_told : {s : State} → TakesWords s → (i : SpelledIdentifier) → HasWords languages i
+    → {ps : List Text} {parts : List KindedPiece} → AreTold s ps parts
+    → AreTold s ((option_to_list i.script ++ (option_to_list i.region ++ i.variants)) ++ ps)
+    ((of_kind kinds.Script (option_to_list i.script)
+    ++ (of_kind kinds.Region (option_to_list i.region) ++ of_kind kinds.Variant i.variants)) ++ parts)
+after_language_told {s} takes i h {ps} {parts} rest =
+    told_as (three (option_to_list i.script) (option_to_list i.region) i.variants ps)
+    (three (of_kind kinds.Script (option_to_list i.script)) (of_kind kinds.Region (option_to_list i.region))
+    (of_kind kinds.Variant i.variants) parts)
+    (optional_told s kinds.Script Script (λ p h. h) takes.script i.script h.script
+    (optional_told s kinds.Region Region (λ p h. h) takes.region i.region h.region
+    (each_told s kinds.Variant Variant (λ p h. h) takes.variant i.variants h.variants rest)))
+
+-- an identifier, in front or after `t`
+identifier_told : {first s : State}
+    → ((p : Text) → IsWord (Language languages) p → step first p ≡ (kinds.Language, s)) → TakesWords s
+    → (i : SpelledIdentifier) → HasWords languages i
+    → {ps : List Text} {parts : List KindedPiece} → AreTold s ps parts
+    → AreTold first (identifier_pieces i ++ ps) (parts_of_identifier i ++ parts)
+identifier_told is takes i h rest =
+    one_told i.language (is i.language h.language) h.language
+    (after_language_told takes i h rest)
+
+-- each key is a word of the kind, and each value one of three bytes or more
+abbrev AreFields : words.Kind → Fields → Type 0
+AreFields K fs = AllByRecursion (λ f. IsWord K f.0 × AllByRecursion (IsWord Attribute) f.1) fs
+
+-- fields: the first key comes in one state, and each other in another
+module _ (s : State) (k : Kind) (K : words.Kind) (b : (p : Text) → IsWord K p → IsOfKind (k, p))
+    (o : is_open s ≡ true) (key : (p : Text) → IsWord K p → step s p ≡ (k, s))
+    (value : (p : Text) → IsWord Attribute p → step s p ≡ (kinds.Value, s)) where
+  fields_told : (first : State) → is_open first ≡ true → ((p : Text) → IsWord K p → step first p ≡ (k, s))
+      → (fs : Fields) → AreFields K fs → AreTold first (fields_pieces fs) (parts_of_fields k fs)
+  fields_told first i is [] h = nothing_told first i
+  fields_told first i is (f ∷ fs) h =
+      one_told f.0 (is f.0 h.0.0) (b f.0 h.0.0)
+      (each_told s kinds.Value Attribute (λ p h. h) value f.1 h.0.1 (fields_told s o key fs h.1))
+
+-- what follows `u`
+unicode_told : (u : Unicode) → AllByRecursion (IsWord Attribute) u.attributes
+    → AreFields UnicodeKey u.keywords
+    → AreTold states.Attributes (unicode_pieces u) (of_kind kinds.Attribute u.attributes
+    ++ parts_of_fields kinds.Key u.keywords)
+unicode_told u h f =
+    each_told states.Attributes kinds.Attribute Attribute (λ p h. h) attribute_in u.attributes h
+    (fields_told states.Keywords kinds.Key UnicodeKey (λ p h. h) refl key_in_keywords value_in_keywords
+    states.Attributes refl key_in_attributes u.keywords f)
+
+-- what follows `t`
+transform_told : (o : Option SpelledIdentifier) (fs : Fields) → IfSome o (HasWords languages)
+    → AreFields TransformKey fs
+    → AreTold states.Transform (optional_pieces o ++ fields_pieces fs)
+    (parts_of_optional o ++ parts_of_fields kinds.Field fs)
+transform_told None fs h f =
+    fields_told states.Fields kinds.Field TransformKey (λ p h. h) refl field_in_fields value_in_fields
+    states.Transform refl field_in_transform fs f
+transform_told (Some i) fs h f =
+    identifier_told language_in_transform source_takes i h
+    (fields_told states.Fields kinds.Field TransformKey (λ p h. h) refl field_in_fields value_in_fields
+    states.Source refl field_in_source fs f)
+
+-- ---- the parts that follow the identifier
+
+pub record AreRest (es : List Text) (parts : List KindedPiece) : Type 0 where
+  pub are : told states.Other es ≡ parts
+  pub begins : Begins es
+  pub words : AllByRecursion IsOfKind parts
+
+told_alone : {s : State} {ps : List Text} {parts : List KindedPiece} → AreTold s ps parts → told s ps ≡ parts
+told_alone {s} {ps} {parts} h = ap (told s) (sym (append-nil ps)) ∙ h.each [] (λ s o. refl) ∙ append-nil parts
+
+-- a piece of one byte begins a part in each state but the last
+one_begins : (c : ℕ) (rest : List Text) → Begins ((c ∷ []) ∷ rest)
+one_begins c rest states.Private o = absurd (true≢false (sym o))
+one_begins c rest s o = refl
+
+byte_word : (c : ℕ) → is_ascii_alphanumeric c ≡ true → IsWord PrivateSubtag (c ∷ [])
+unfolding is_word
+byte_word c h = rw h refl
+
+-- a part with its singleton, and what follows it
+module _ (c : ℕ) (s : State) (is : begun (to_ascii_lowercase c) ≡ s)
+    (byte : is_ascii_alphanumeric c ≡ true) {es : List Text} {q : List KindedPiece} (r : AreRest es q) where
+  some_told : (ps : List Text) → AreTold s ps (told s ps) → AreRest (printed_pieces (c, ps) ++ es)
+      (parts_of_block c (told s ps) ++ q)
+  some_told [] h = r
+  some_told (p ∷ ps) h = record {
+    are = ap (λ n. (kinds.Singleton, c ∷ []) ∷ told n ((p ∷ ps) ++ es)) is
+        ∙ ap (λ l. (kinds.Singleton, c ∷ []) ∷ l) (h.each es r.begins ∙ ap (λ l. told s (p ∷ ps) ++ l) r.are);
+    begins = one_begins c ((p ∷ ps) ++ es);
+    words = ((byte_word c byte, refl), all_append IsOfKind (told s (p ∷ ps)) q h.words r.words);
+  }
+
+  block_told : {ps : List Text} {parts : List KindedPiece} → AreTold s ps parts
+      → AreRest (printed_pieces (c, ps) ++ es) (parts_of_block c parts ++ q)
+  block_told {ps} {parts} h =
+      let e = told_alone h in
+      subst (λ (xs : List KindedPiece). AreRest (printed_pieces (c, ps) ++ es) (parts_of_block c xs ++ q)) e
+      (some_told ps (told_as refl (sym e) h))
+
+-- `u` and what follows it
+unicode_rest : (u : Unicode) → AllByRecursion (IsWord Attribute) u.attributes
+    → AreFields UnicodeKey u.keywords
+    → {es : List Text} {q : List KindedPiece} → AreRest es q → AreRest (unicode_spelling u ++ es)
+    (parts_of_unicode u ++ q)
+unfolding unicode_spelling
+unicode_rest u h f r = block_told code_u states.Attributes refl refl r (unicode_told u h f)
+
+-- `t` and what follows it
+transform_rest : (m : Transform) → IfSome (option_map lower_identifier m.id) (HasWords languages)
+    → AreFields TransformKey (spelled_fields m.fields)
+    → {es : List Text} {q : List KindedPiece} → AreRest es q → AreRest (transform_spelling m ++ es)
+    (parts_of_transform m ++ q)
+unfolding transform_spelling
+transform_rest m h f r =
+    block_told code_t states.Transform refl refl r
+    (told_as (ap (λ l. l ++ fields_pieces (spelled_fields m.fields)) (id_pieces-low m.id)) refl
+    (transform_told (option_map lower_identifier m.id) (spelled_fields m.fields) h f))
+
+-- `x` and what follows it
+private_told : (ws : List Text) → told states.Private ws ≡ of_kind kinds.Private ws
+private_told [] = refl
+private_told (w ∷ ws) = ap (λ l. (kinds.Private, w) ∷ l) (private_told ws)
+
+private_rest : (ws : List Text) → AllByRecursion (IsWord PrivateSubtag) ws
+    → AreRest (private_spelling ws) (parts_of_private ws)
+unfolding private_spelling
+private_rest [] h = record { are = refl; begins = λ s o. refl; words = tt }
+private_rest (w ∷ ws) h = record {
+  are = ap (λ l. (kinds.Singleton, code_x ∷ []) ∷ l) (private_told (w ∷ ws));
+  begins = one_begins code_x (w ∷ ws);
+  words = (
+    (byte_word code_x refl, refl),
+    all_mapped (IsWord PrivateSubtag) IsOfKind (λ w. (kinds.Private, w))
+        (λ w h. h) (w ∷ ws) h,
+  );
+}
+
+-- other extensions
+abbrev IsOtherPart : Block → Type 0
+IsOtherPart (c, ws) =
+    ((is_other_singleton c ≡ true) × (to_ascii_lowercase c ≡ c)) × AllByRecursion (IsWord Subtag) ws
+
+others_begun : (c : ℕ) → is_other_singleton c ≡ true → begun c ≡ states.Other
+others_begun c h = let e = apart c h in rw (e.0, e.1, e.2) refl
+  where
+    apart : (c : ℕ) → is_other_singleton c ≡ true
+        → ((c == code_t) ≡ false) × ((c == code_u) ≡ false) × ((c == code_x) ≡ false)
+    apart c h = (grind (arith, nat_tests), grind (arith, nat_tests), grind (arith, nat_tests))
+
+others_rest : (os : List Block) → AllByRecursion IsOtherPart os
+    → {es : List Text} {q : List KindedPiece} → AreRest es q
+    → AreRest (flat_map other_spelling os ++ es) (parts_of_others os ++ q)
+unfolding other_spelling
+others_rest [] h r = r
+others_rest (o ∷ os) h {es} {q} r =
+    let told = told_as (append-nil o.1) (append-nil (of_kind kinds.Other o.1))
+    (each_told states.Other kinds.Other Subtag (λ p h. h) other_in o.1 h.0.1
+    (nothing_told states.Other refl)) in
+    let n = block_told o.0 states.Other (ap begun h.0.0.1 ∙ others_begun o.0 h.0.0.0)
+    (and_parts _ _ h.0.0.0).0
+    (others_rest os h.1 r) told in
+    subst (λ (l : List Text). AreRest l (parts_of_others (o ∷ os) ++ q))
+    (sym (append_assoc (printed_pieces o) (flat_map other_spelling os) es))
+    (subst (λ (l : List KindedPiece). AreRest (printed_pieces o ++ (flat_map other_spelling os ++ es)) l)
+    (sym (append_assoc (parts_of_block o.0 (of_kind kinds.Other o.1)) (parts_of_others os) q)) n)
+
+-- what holds of all holds of those before `t`, and of those after
+before_all : (P : Block → Type 0) (os : List Block) → AllByRecursion P os → AllByRecursion P (before_t os)
+before_all P [] h = tt
+before_all P (o ∷ os) h =
+    elim (nat_le o.0 code_t) as (λ b. AllByRecursion P (cond b (o ∷ before_t os) []))
+    [ true ↦ (h.0, before_all P os h.1) | false ↦ tt ]
+
+after_all : (P : Block → Type 0) (os : List Block) → AllByRecursion P os → AllByRecursion P (after_t os)
+after_all P [] h = tt
+after_all P (o ∷ os) h =
+    elim (nat_le o.0 code_t) as (λ b. AllByRecursion P (cond b (after_t os) (o ∷ os)))
+    [ true ↦ after_all P os h.1 | false ↦ h ]
+
+-- ---- the whole text
+
+attribute_from : (w : Text) → IsWord Subtag w → length w ≢ 2 → IsWord Attribute w
+unfolding is_word
+attribute_from w h n = grind (arith, nat_tests)
+
+module _ (e : Extensions) (v : IsExtensionsValue languages e) (w : AreWellFormed e) where
+  attributes_are : AllByRecursion (IsWord Attribute) e.unicode.attributes
+  attributes_are = all_weaker (IsNormal Attribute) (IsWord Attribute)
+      (λ w n. n.0) e.unicode.attributes v.unicode.attributes
+
+  keywords_are : AreFields UnicodeKey e.unicode.keywords
+  keywords_are =
+      all_weaker (λ f. (IsNormal UnicodeKey f.0 × AllByRecursion (IsNormal Subtag) f.1) × AllByRecursion
+      (λ w. (is_true w ≡ false) × (length w ≢ 2)) f.1)
+      (λ f. IsWord UnicodeKey f.0 × AllByRecursion (IsWord Attribute) f.1)
+      (λ f b. (
+        b.0.0.0,
+        all_weaker (λ w. IsNormal Subtag w × ((is_true w ≡ false) × (length w ≢ 2)))
+            (IsWord Attribute) (λ w n. attribute_from w n.0.0 n.1.1) f.1 (all_both _ _ f.1 b.0.1 b.1),
+      ))
+      e.unicode.keywords (all_both _ _ e.unicode.keywords v.unicode.keywords w.values)
+
+  source_is : IfSome (option_map lower_identifier e.transform.id) (HasWords languages)
+  source_is =
+      some_mapped (IsIdentifierValue languages) (HasWords languages) lower_identifier
+      (λ i g. (lower_is_identifier (spelled_identifier i) (value_identifier i g)).words) e.transform.id
+      v.transform.id
+
+  fields_are : AreFields TransformKey (spelled_fields e.transform.fields)
+  fields_are =
+      all_mapped (λ f. IsNormal TransformKey f.0 × AllByRecursion
+      (λ w. IsNormal Attribute w × (is_true w ≡ false)) f.1)
+      (λ f. IsWord TransformKey f.0 × AllByRecursion (IsWord Attribute) f.1)
+      (λ f. (f.0, spelled_value f.1)) (λ f h. (h.0.0, (spelled_rule f.1 h.1).0)) e.transform.fields
+      v.transform.fields
+
+  private_are : AllByRecursion (IsWord PrivateSubtag) e.private
+  private_are = all_weaker (IsNormal PrivateSubtag) (IsWord PrivateSubtag) (λ w n. n.0) e.private v.private
+
+  others_are : AllByRecursion IsOtherPart e.others
+  others_are =
+      all_both _ _ e.others w.singletons
+      (all_weaker (λ o. AllByRecursion (IsNormal Subtag) o.1) (λ o. AllByRecursion (IsWord Subtag) o.1)
+      (λ o h. all_weaker (IsNormal Subtag) (IsWord Subtag) (λ w n. n.0) o.1 h) e.others v.others)
+
+  extensions_rest : AreRest (extensions_spelling e) (parts_of_extensions e)
+  extensions_rest =
+      subst (λ (l : List Text). AreRest l (parts_of_extensions e)) (sym (spelling_of_parts e))
+      (others_rest (before_t e.others) (before_all IsOtherPart e.others others_are)
+      (transform_rest e.transform source_is fields_are
+      (unicode_rest e.unicode attributes_are keywords_are
+      (others_rest (after_t e.others) (after_all IsOtherPart e.others others_are)
+      (private_rest e.private private_are)))))
+
+-- the pieces of parts are those that are told
+pub told_pieces : (s : State) (ps : List Text) → map (λ (w : KindedPiece). w.1) (told s ps) ≡ ps
+told_pieces s [] = refl
+told_pieces s (p ∷ ps) = ap (λ l. p ∷ l) (told_pieces (step s p).1 ps)
+
+-- what the pieces of a normal text are
+pub record AreParts (M : Locale) (t : Text) : Type 0 where
+  pub told : told states.Start (pieces t) ≡ parts_of M
+  pub short : AreShortPieces (pieces t)
+  pub words : AllByRecursion IsOfKind (parts_of M)
+
+pub text_told : (M : Locale) (t : Text) → IsNormalTextOf M t → AreParts M t
+unfolding parts_of
+text_told M t h =
+    let e = M.extensions in
+    let rest = extensions_rest e h.value.extensions h.tests in
+    let id = identifier_told {first = states.Start} {s = states.Head} language_in_start head_takes
+    (spelled_identifier M.id)
+    (value_words h.value.id) (nothing_told states.Head refl) in
+    let front = told_as (append-nil (identifier_pieces M.id)) (append-nil (parts_of_identifier M.id)) id in
+    let all = identifier_pieces M.id ++ extensions_spelling e in
+    let are : told states.Start all ≡ parts_of M =
+    front.each (extensions_spelling e) rest.begins ∙ ap (λ l. parts_of_identifier M.id ++ l) rest.are in
+    let words : AllByRecursion IsOfKind (parts_of M) =
+    all_append IsOfKind (parts_of_identifier M.id) (parts_of_extensions e) front.words rest.words in
+    let plain : AllByRecursion IsPlain all =
+    subst (AllByRecursion IsPlain)
+    (ap (map (λ (w : KindedPiece). w.1)) (sym are) ∙ told_pieces states.Start all)
+    (all_mapped IsOfKind IsPlain (λ w. w.1) plain_of (parts_of M) words) in
+    let cut : pieces t ≡ all = ap pieces h.text ∙ pieces-join M.id.language _
+    (all_weaker IsPlain IsHyphenFree (λ p h. h.1) all plain) in
+    record {
+      told = ap (told states.Start) cut ∙ are;
+      short = subst AreShortPieces (sym cut) (all_weaker IsPlain IsShortPiece (λ p h. h.0) all plain);
+      words = words;
+    }

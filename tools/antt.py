@@ -1,0 +1,415 @@
+"""Reads definitions, the files of specs/: where each stands, which names its text cites, and which it binds.
+
+Names are resolved as antt does: a bound variable first, then what the file declares, then what its
+`use` lines bring, then modules by the last name of their path, by `as`, or by the whole path. A
+name behind a dot is a field, unless what stands before the dots is a module or a type."""
+import functools
+import itertools
+import re
+from dataclasses import dataclass, field
+
+from common import first_sentence, without_suffix
+
+TOKEN = re.compile(r'"(?:[^"\\]|\\.)*"|[(){};,@]|«[^»]*»|[^\s(){}.;,@"«»]+|\.')
+WORDS = {  # what antt itself and its prelude `Prim` provide, and no file declares
+    "Type", "Unit", "tt", "absurd", "λ", "let", "in", "elim", "as", "record", "→", "×", "=", "↦", "|",
+    ":", "[", "]", "_", "⊥", "¬", "IsProp", "IsSet", "refl", "where", "do", "∥", "∥₁", "unfold", "rw",
+    "rw⁻¹", "simp", "search", "grw", "cc", "omega", "grind", "hlevel", "assumption", "first_of", "cap",
+    "Prim", "suc", "zero", "open", "use", "deriving", "module", "⌜", "⌝", "𝓛", "Dec", "yes", "no",
+}
+OPENING, CLOSING = {"(": ")", "{": "}", "[": "]"}, set(")}]")
+
+
+@dataclass(eq=False)
+class Definition:
+    """A definition of a file of specs/, with all that its text cites."""
+
+    module: "Module"
+    name: str
+    kind: str
+    line: int
+    lines: list = field(default_factory=list)
+    comment: list = field(default_factory=list)
+    parts: list = field(default_factory=list)  # (text, how it binds names)
+    members: list = field(default_factory=list)  # constructors, or fields
+
+    where = property(lambda self: f"{self.module.path}:{self.line}")
+    group = "definitions"
+
+    def sentence(self):
+        """Returns the first sentence of the comment above it."""
+        return first_sentence(" ".join(self.comment).strip())
+
+    def is_public(self):
+        return re.match(r"[^=:]*\bpub ", self.lines[0]) is not None
+
+    def count(self):
+        return sum(1 for it in self.lines if it.strip() and not it.strip().startswith("--"))
+
+    def __repr__(self):
+        return f"{'.'.join(self.module.name)}.{self.name}"
+
+
+@dataclass(eq=False)
+class Module:
+    """A file of specs/: its `use` and `mod` lines, and its definitions by name."""
+
+    name: tuple
+    path: str
+    text: str
+    items: dict = field(default_factory=dict)  # name in use lines -> (module path, name there)
+    modules: dict = field(default_factory=dict)  # name -> module path
+    passed: set = field(default_factory=set)  # what `pub use` passes on
+    children: set = field(default_factory=set)
+    declared: dict = field(default_factory=dict)  # name -> Definition
+    definitions: list = field(default_factory=list)
+
+    def brought(self, word):
+        """Returns the path of the module and the name there that a word stands for by the `use` lines; no name for a module."""
+        first, _, rest = word.partition(".")
+        return (self.modules[first], rest.partition(".")[0]) if first in self.modules else self.items.get(first, ((), ""))
+
+    @functools.lru_cache(maxsize=None)
+    def operators(self):
+        """Returns the operators that the file brings in, by each of their signs: `≡` is `◌≡◌`."""
+        named = [it for it in self.items if "◌" in it]
+        return {sign: it for it in named for sign in it.split("◌") if sign}
+
+
+def split_path(text):
+    """Returns the names of a path, in which an escaped name is one."""
+    return [it.strip("«»") for it in re.findall(r"«[^»]*»|[^.\s]+", text)]
+
+
+def used(text):
+    """Yields (path, name, bound) for each item of a use line, or (path, None, bound) for a module."""
+    text = re.sub(r"--.*", "", text).strip().rstrip(";")
+    found = re.match(r"(.+?)\.\{(.*)\}$", text, re.S)
+    if found:
+        for it in filter(None, (part.strip() for part in found[2].split(","))):
+            named, _, bound = it.partition(" as ")
+            path = split_path(found[1]) + split_path(named)
+            yield tuple(path[:-1]), path[-1], (bound or path[-1]).strip()
+    else:
+        named, _, bound = text.partition(" as ")
+        path = split_path(named)
+        yield tuple(path), None, (bound or path[-1]).strip()
+
+
+def indent(line):
+    return len(line) - len(line.lstrip())
+
+
+def is_code(line):
+    return bool(line.strip()) and not line.strip().startswith("--")
+
+
+def without_comments(text):
+    """Returns the text with blanks in the place of its comments."""
+    return re.sub(r"(?m)(?:^|(?<=\s))--.*$", lambda it: " " * len(it[0]), text)
+
+
+class At(str):
+    """A text with its place in that of a file."""
+
+    def __new__(cls, text, at):
+        made = super().__new__(cls, text)
+        made.at = at
+        return made
+
+    def part(self, start, end=None):
+        return At(self[start:end], self.at + start)
+
+
+class Reader:
+    """Reads a file's lines into its module."""
+
+    def __init__(self, module):
+        self.module, self.lines, self.bare = module, module.text.split("\n"), without_comments(module.text)
+        self.starts = [0, *itertools.accumulate(len(it) + 1 for it in self.lines)]
+        self.block(0, len(self.lines), [])
+
+    def text(self, first, end):
+        """Returns lines without their comments."""
+        text = At(self.bare[self.starts[first] : self.starts[end] - 1].rstrip(), self.starts[first])
+        return text.part(len(text) - len(text.lstrip()))
+
+    def chunks(self, start, end):
+        """Yields the first and last line of each declaration, with its comment's lines."""
+        code = [n for n in range(start, end) if is_code(self.lines[n])]
+        if not code:
+            return
+        depth = indent(self.lines[code[0]])
+        heads = [n for n in code if indent(self.lines[n]) <= depth and self.lines[n].strip()[0] not in CLOSING]
+        for number, head in enumerate(heads):
+            stop = heads[number + 1] if number + 1 < len(heads) else end
+            last = max(n for n in code if head <= n < stop)
+            comment, above = [], head - 1
+            while above >= start and self.lines[above].strip().startswith("--"):
+                comment.insert(0, self.lines[above].strip()[2:].strip())
+                above -= 1
+            yield head, last + 1, comment
+
+    def block(self, start, end, params):
+        current = None
+        for head, stop, comment in self.chunks(start, end):
+            text = self.text(head, stop)
+            first = text.split()[0]
+            if re.match(r"(unfoldable )?(pub )?use\b", text):
+                self.use(text)
+            elif re.match(r"(pub )?mod\b", text):
+                self.module.children.add(text.split()[-1])
+            elif first in ("infix", "infixl", "infixr"):
+                pass
+            elif first == "module":
+                body = next(n for n in range(head, stop) if self.lines[n].rstrip().endswith("where"))
+                named = re.match(r"module _ (.*?)\s+where$", self.text(head, body + 1), re.S)
+                self.block(body + 1, stop, params + [text.part(*named.span(1))])
+            elif first == "unfolding" and current:
+                current.lines += self.lines[head:stop]
+            elif re.match(r"(pub )?(data|record)\b", text):
+                current = self.shape(head, stop, comment, text, params)
+            elif current and self.is_clause(text, current.name):
+                current.lines += self.lines[head:stop]
+                current.parts.append((text, "clause"))
+            else:
+                current = self.signature(head, stop, comment, text, params)
+
+    def is_clause(self, text, name):
+        tokens = TOKEN.findall(text)
+        if tokens[0] != name:
+            return False
+        return ":" not in tokens[1:2]
+
+    def add(self, definition, params):
+        definition.parts = [(it, "params") for it in params] + definition.parts
+        self.module.declared[definition.name] = definition
+        self.module.definitions.append(definition)
+        return definition
+
+    def signature(self, head, stop, comment, text, params):
+        found = re.match(r"(?:(abbrev|unfoldable)\s+)?(?:pub\s+)?(?:(abbrev|unfoldable)\s+)?(\S+)\s*:?(.*)$", text, re.S)
+        made = Definition(self.module, found[3].strip("«»"), found[1] or found[2] or "abstract", head + 1)
+        made.lines, made.comment = self.lines[head:stop], comment
+        made.parts = [(text.part(found.start(4)), "type")]
+        return self.add(made, params)
+
+    def shape(self, head, stop, comment, text, params):
+        found = re.match(r"(?:pub\s+)?(data|record)\s+(\S+)", text)
+        made = Definition(self.module, found[2], found[1], head + 1)
+        made.lines, made.comment = self.lines[head:stop], comment
+        body = next((n for n in range(head, stop) if self.lines[n].rstrip().endswith(" where")), stop - 1)
+        header = without_suffix(self.text(head, body + 1), "where")
+        made.parts = [(text.part(found.end(), len(header)), "params")]
+        for at, end, _ in self.chunks(body + 1, stop):
+            line = self.text(at, end)
+            colon = re.search(r"\s:\s|$", line)
+            names = [line.part(*it.span()) for it in re.finditer(r"(?<!\S)(?!pub )\S+", line[: colon.start()])]
+            made.members += names
+            made.parts.append((line.part(colon.end()), "field" if found[1] == "record" else "constructor", names))
+        self.add(made, params)
+        if found[1] == "data":
+            for it in made.members:
+                self.module.declared.setdefault(it, made)
+        return made
+
+    def use(self, text):
+        shared = "pub use" in text
+        for path, name, bound in used(re.sub(r"^(unfoldable )?(pub )?use\s+", "", text)):
+            if name is None:
+                self.module.modules[bound] = path
+            else:
+                self.module.items[bound] = (path, name)
+            if shared:
+                self.module.passed.add(bound)
+
+
+def tree(text):
+    """Returns the tokens as nested lists; a path `a.b` is one token, and `.f` after a bracket is left out."""
+    stack, flat, start = [[]], [], getattr(text, "at", 0)
+    for found in TOKEN.finditer(text):
+        token = At(found[0], start + found.start())
+        if token == "." and text[found.end() : found.end() + 1].strip():
+            flat.append("·")  # a dot that joins
+        else:
+            flat.append(token)
+    number = 0
+    while number < len(flat):
+        token = flat[number]
+        if token == "·":
+            before = flat[number - 1] if number else ""
+            joins = number and before not in CLOSING and before not in OPENING and before not in ",;"
+            if joins and isinstance(stack[-1][-1], str) and stack[-1][-1] not in WORDS:
+                stack[-1][-1] = At(f"{stack[-1][-1]}.{flat[number + 1].strip('«»')}", stack[-1][-1].at)
+            number += 2
+            continue
+        if token in OPENING:
+            stack.append([token])
+        elif token in CLOSING:
+            closed = stack.pop()
+            stack[-1].append(closed)
+        elif not token.startswith('"'):
+            stack[-1].append(At(token.strip("«»"), token.at) if token.startswith("«") else token)
+        number += 1
+    return stack[0]
+
+
+def parts_of(nodes, separators):
+    """Returns the runs of nodes between the separators."""
+    runs = [[]]
+    for it in nodes:
+        if isinstance(it, str) and it in separators:
+            runs.append([])
+        else:
+            runs[-1].append(it)
+    return runs
+
+
+class Names:
+    """Finds the names that a text cites: found(path) tells what a path means, or None where it means nothing here."""
+
+    def __init__(self, found, is_constructor, unknown):
+        self.found, self.is_constructor, self.unknown = found, is_constructor, unknown
+        self.cited = []
+        self.places = set()  # of the names that are bound, where they are and where they are named
+
+    def name(self, path, bound):
+        names = path.split(".")
+        if names[0] in bound:
+            self.places.add(path.at)
+        if names[0] in bound or re.fullmatch(r"[0-9][0-9a-fA-F_xob]*", names[0]) or names[0].startswith("⟦"):
+            return
+        meant = self.found(names)
+        if meant is not None:
+            self.cited += meant  # a definition may be named as a word of the prelude, and counts before it
+        elif names[0] not in WORDS:
+            self.unknown(path)
+
+    def pattern(self, nodes, bound):
+        """Binds the variables of patterns, and cites their constructors."""
+        for it in nodes:
+            if isinstance(it, list):
+                inner = it[1:]
+                if it[0] == "{" and "=" in inner:
+                    inner = inner[inner.index("=") + 1 :]
+                self.pattern([n for n in inner if n not in (",", ";")], bound)
+            elif self.is_constructor(it.split(".")):
+                self.name(it, set())
+            elif it in WORDS or re.fullmatch(r"[0-9].*", it):
+                continue
+            else:
+                bound.add(it.split(".")[0])
+                self.places.add(it.at)
+
+    def binder(self, group, bound):
+        """Binds what a group as (x y : A) or {x : A} binds; returns whether it is one."""
+        inner = group[1:]
+        if ":" not in inner or group[0] == "[":
+            return False
+        at = inner.index(":")
+        if any(isinstance(it, list) for it in inner[:at]) and group[0] == "{":
+            return False
+        self.walk(inner[at + 1 :], set(bound))
+        self.pattern(inner[:at], bound)
+        return True
+
+    def lambda_(self, nodes, at, bound):
+        """Binds the variables of the λ at this place, and returns the place after its dot."""
+        while at < len(nodes) and nodes[at] != ".":
+            it = nodes[at]
+            if isinstance(it, list) and not self.binder(it, bound):
+                self.pattern([it], bound)
+            elif isinstance(it, str):
+                bound.add(it)
+                self.places.add(it.at)
+            at += 1
+        return at + 1
+
+    def let(self, nodes, at, bound):
+        """Reads a let up to its `in`, and returns the place after that."""
+        depth, end = 1, at
+        while end < len(nodes):
+            depth += {"let": 1, "in": -1}.get(nodes[end], 0) if isinstance(nodes[end], str) else 0
+            if depth == 0:
+                break
+            end += 1
+        inner = nodes[at:end]
+        equal = inner.index("=") if "=" in inner else len(inner)
+        kind = inner.index(":") if ":" in inner[:equal] else equal
+        self.walk(inner[kind + 1 : equal], set(bound))
+        self.walk(inner[equal + 1 :], set(bound))
+        self.pattern(inner[:kind], bound)
+        return end + 1
+
+    def group(self, group, bound):
+        """Reads what stands in brackets; the scope of what it binds ends there."""
+        kind, inner = group[0], group[1:]
+        if kind == "[":
+            for run in parts_of(inner, "|"):
+                scope = set(bound)
+                if "↦" in run:
+                    self.pattern(run[: run.index("↦")], scope)
+                    run = run[run.index("↦") + 1 :]
+                self.walk(run, scope)
+            return
+        for run in parts_of(inner, ";,"):
+            if kind == "{" and len(run) > 1 and run[1] == "=":
+                self.places.update(it.at for it in run[:1] if isinstance(it, str))
+                run = run[2:]  # the name of a field, or of an implicit argument
+            self.walk(run, set(bound))
+
+    def walk(self, nodes, bound):
+        """Cites the names of a term; what it binds holds up to its end."""
+        at = 0
+        while at < len(nodes):
+            it = nodes[at]
+            at += 1
+            if isinstance(it, list):
+                if not self.binder(it, bound):
+                    self.group(it, bound)
+            elif it == "λ":
+                at = self.lambda_(nodes, at, bound)
+            elif it == "let":
+                at = self.let(nodes, at, bound)
+            elif it not in (";", ",", "."):
+                self.name(it, bound)
+
+    def clause(self, nodes, bound):
+        """Reads a clause of a definition: its patterns, and then its body."""
+        equal = nodes.index("=") if "=" in nodes else len(nodes)
+        scope = set(bound)
+        self.pattern(nodes[1:equal], scope)
+        self.walk(nodes[equal + 1 :], scope)
+
+    def definition(self, parts):
+        """Cites the names of all parts of a definition."""
+        bound = set()
+        for text, how, *names in parts:
+            nodes = tree(text)
+            if how == "clause":
+                self.clause(nodes, bound)
+            elif how == "type":
+                self.walk(nodes, set(bound))
+            elif how == "params":
+                self.walk(nodes, bound)
+            else:
+                self.walk(nodes, set(bound))
+                if how == "field":
+                    bound |= set(names[0])
+                    self.places.update(it.at for it in names[0])
+
+
+def bound_in(text, names):
+    """Returns the places of the names that are bound in a clause, where these names are bound around it."""
+    reader = Names(lambda names: [], lambda names: False, lambda name: None)
+    reader.walk(tree(text), set(names))
+    return reader.places
+
+
+def bound_in_file(module, is_constructor):
+    """Returns the places of the names that the definitions of a file bind: a lambda, a parameter, a `let`, the left side of
+    an equation, or a field of a record. Such a name leads to no definition."""
+    reader = Names(lambda names: [], is_constructor, lambda name: None)
+    for it in module.definitions:
+        reader.definition(it.parts)
+    return reader.places

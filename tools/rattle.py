@@ -1,0 +1,312 @@
+"""The items of a crate's src/ that contracts go through: types, traits, `impl`s with their ghost members,
+and functions with their clauses. It reads them by their brackets, and knows no more of Rattle than that."""
+import functools
+import os
+import re
+from dataclasses import dataclass, field
+
+from common import first_sentence, read, without_prefix, without_suffix
+
+SKIP = re.compile(r"//[^\n]*|\"(?:[^\"\\]|\\.)*\"|b?'(?:[^'\\\n]|\\[^\n]{1,6}?)'", re.S)
+NAME = r"[A-Za-z_]\w*"
+ITEM = re.compile(
+    rf"\s*((?:pub(?:\([^)]*\))?\s+)?)(?:(?:const|unsafe|final|default|async)\s+)*"
+    rf"(ghost\s+use|ghost|use|mod|struct|enum|trait|impl|fn|type|const|static|macro_rules!)\b"
+)
+
+
+def blanked(text):
+    """Returns the text with comments and quoted texts blank, all else where it was."""
+    return SKIP.sub(lambda it: re.sub(r"[^\n]", " ", it[0]) if it[0][0] == "/" else " " * len(it[0]), text)
+
+
+def without_comments(text):
+    return SKIP.sub(lambda it: "" if it[0][0] == "/" else it[0], text)
+
+
+def joined(text):
+    """Returns the text in one line, as a person writes a short signature."""
+    text = re.sub(r"\s+", " ", text).strip()
+    return text.replace("( ", "(").replace(", )", ")").replace("< ", "<").replace(", >", ">")
+
+
+@dataclass(eq=False)
+class Clause:
+    """A clause of a contract: requires or ensures, its label, and its fact."""
+
+    kind: str
+    label: str
+    fact: str
+
+
+@dataclass(eq=False)
+class Item:
+    """A type, a trait, an `impl`, a function, or a ghost member."""
+
+    module: "Source"
+    kind: str
+    name: str
+    line: int
+    head: str  # up to the clauses and the body
+    comment: list
+    text: str = ""  # all of it
+    inner: list = field(default_factory=list)
+    clauses: dict = field(default_factory=dict)  # name -> (kind, text, line)
+    stated: list = field(default_factory=list)  # the clauses, but for ghost ones, in their order
+    doc: list = field(default_factory=list)  # the lines after `///`
+    before: str = ""  # what stands before its name, as `pub fn`
+    is_public: bool = False
+    derives: tuple = ()
+    owner: "Item" = None  # the trait or `impl` in which it stands
+    uses: list = field(default_factory=list)  # its ghost use lines
+    body: str = ""  # of a ghost member
+
+    where = property(lambda self: f"{self.module.path}:{self.line}")
+    crate = property(lambda self: self.module.crate)
+    path = property(lambda self: self.module.path)
+    lines = property(lambda self: self.text.split("\n"))
+    group = property(lambda self: "members" if self.kind == "ghost" else "types")
+
+    @functools.cached_property
+    def signature(self):
+        """The text up to the clauses and the body, in one line."""
+        return without_suffix(joined(self.before + self.head), ",")
+
+    def paragraphs(self):
+        """Returns the paragraphs of the comment, without its examples."""
+        text = re.sub(r"```text\n.*?```", "", "\n".join(self.doc), flags=re.S)
+        return [" ".join(it.split()) for it in re.split(r"\n ?\n", text) if it.strip()]
+
+    def sentence(self):
+        """Returns the first sentence of the comment."""
+        return first_sentence((self.paragraphs() or [""])[0])
+
+    def details(self):
+        """Returns what the comment says after its first sentence."""
+        whole = self.paragraphs()
+        rest = [without_prefix(whole[0], self.sentence()).strip()] + whole[1:] if whole else []
+        return [it for it in rest if it]
+
+    def count(self):
+        """Returns the lines of its text, without comments, attributes and blank lines."""
+        lines = (it.strip() for it in self.text.split("\n"))
+        return sum(1 for it in lines if it and not it.startswith(("//", "#[")))
+
+    def __repr__(self):
+        where = "::".join((self.module.crate, *self.module.path_names))
+        owner = f"{self.owner.name}." if self.owner else ""
+        return f"{where}::{owner}{self.name}"
+
+
+@dataclass(eq=False)
+class Source:
+    """A module of a crate: a file, or a block `mod name { .. }` of one."""
+
+    crate: str
+    path_names: tuple
+    path: str
+    items: list = field(default_factory=list)
+    ghost_uses: list = field(default_factory=list)
+    names: dict = field(default_factory=dict)  # name -> path, by `use` lines
+    passed: list = field(default_factory=list)  # (path, name) of `pub use` lines
+    is_block: bool = False
+    doc: list = field(default_factory=list)  # of a block
+    mods: set = field(default_factory=set)
+
+
+def closing(text, at):
+    """Returns the place after the bracket that closes the one at this place."""
+    depth, pairs = 0, {"(": ")", "{": "}", "[": "]"}
+    for place in range(at, len(text)):
+        if text[place] in pairs:
+            depth += 1
+        elif text[place] in pairs.values():
+            depth -= 1
+            if depth == 0:
+                return place + 1
+    raise ValueError("an open bracket")
+
+
+def comment_above(lines, line):
+    """Returns the lines of the comment above a line, counted from 0, those that begin with `///`, and the derives."""
+    comment, doc, derives, above, is_doc = [], [], [], line - 1, True
+    while above >= 0:
+        bare = lines[above].strip()
+        if bare.startswith("//"):
+            comment.insert(0, bare.lstrip("/!").strip() or " ")
+            is_doc = is_doc and bare.startswith("///")
+            doc[:0] = [bare[4:].rstrip() or " "] if is_doc else []
+        elif bare.startswith("#[") or bare.endswith("]") and "#[" in "\n".join(lines[max(0, above - 6) : above + 1]):
+            if "derive" in bare:
+                derives[:0] = re.findall(NAME, bare.partition("derive")[2].partition(";")[0])
+        else:
+            break
+        above -= 1
+    return comment, doc, tuple(it for it in derives if it[0].isupper())
+
+
+def expanded(text):
+    """Yields (path, bound) for each name of a Rust `use` line."""
+    text = text.strip()
+    found = re.match(r"^(.*?)\{(.*)\}$", text, re.S)
+    if not found:
+        path, _, bound = text.partition(" as ")
+        names = [it.strip() for it in path.split("::")]
+        if names[-1] == "self":
+            names.pop()
+        yield tuple(names), (bound.strip() or "".join(names[-1:]))
+        return
+    depth, start, parts = 0, 0, []
+    for place, it in enumerate(found[2] + ","):
+        depth += {"{": 1, "}": -1}.get(it, 0)
+        if it == "," and depth == 0:
+            parts.append(found[2][start:place])
+            start = place + 1
+    for part in filter(str.strip, parts):
+        for path, bound in expanded(part):
+            before = tuple(it.strip() for it in found[1].split("::") if it.strip())
+            yield before + path, bound or before[-1]
+
+
+class Reader:
+    """Reads a file's items, and those of the files that its `mod` lines name."""
+
+    def __init__(self, crate, folder, path, names, made, root):
+        self.text = read(os.path.join(root, path))
+        self.blank, self.lines = blanked(self.text), self.text.split("\n")
+        self.crate, self.folder, self.made, self.root = crate, folder, made, root
+        self.source = Source(crate, names, path)
+        made[names] = self.source
+        self.items(self.source, 0, len(self.text), None)
+
+    def line(self, at):
+        return self.text.count("\n", 0, at)
+
+    def items(self, source, at, end, owner):
+        while at < end:
+            found = ITEM.match(self.blank, at)
+            if not found:
+                attribute = re.match(r"\s*#!?(?=\[)", self.blank[at:end])
+                if attribute:
+                    at = closing(self.blank, at + attribute.end())
+                    continue
+                rest = re.match(rf"\s*(?:{NAME}!|\S)", self.blank[at:end])
+                if not rest:
+                    return
+                at += rest.end()
+                continue
+            start = found.start() + len(found[0]) - len(found[0].lstrip())
+            at = self.item(source, found[2].split(), start, found.end(), owner, found[1].strip() == "pub")
+
+    def item(self, source, kind, start, at, owner, is_public):
+        """Reads the item that begins there, and returns the place after it."""
+        if kind == ["ghost", "use"] or kind == ["use"] or kind == ["mod"]:
+            return self.line_item(source, kind, at, owner, is_public)
+        if kind == ["ghost"]:
+            return self.ghost(source, start, at, owner)
+        if kind == ["macro_rules!"]:
+            return closing(self.blank, self.blank.index("{", at))
+        line = self.line(start)
+        comment, doc, derives = comment_above(self.lines, line)
+        named = re.compile(rf"\s*({NAME})").match(self.blank, at)
+        made = Item(source, kind[0], named[1] if named else "", line + 1, "", comment, is_public=is_public)
+        made.derives, made.owner, made.doc, made.before = derives, owner, doc, self.text[start:at]
+        end = self.rest(source, made, at)
+        made.text = self.text[start:end]
+        (owner.inner if owner else source.items).append(made)
+        return end
+
+    def line_item(self, source, kind, at, owner, is_public):
+        stop = self.blank.index(";", at)
+        if kind == ["mod"]:
+            name = re.match(rf"\s*({NAME})\s*(;|\{{)", self.blank[at:])
+            source.mods.add(name[1])
+            inner = source.path_names + (name[1],)
+            if name[2] == "{":
+                opened = self.blank.index("{", at)
+                doc = comment_above(self.lines, self.line(at))[1]
+                block = Source(self.crate, inner, source.path, is_block=True, doc=doc)
+                block.ghost_uses, self.made[inner] = list(source.ghost_uses), block
+                end = closing(self.blank, opened)
+                self.items(block, opened + 1, end - 1, None)
+                return end
+            for path in (f"{'/'.join(inner)}.rt", f"{'/'.join(inner)}/mod.rt"):
+                if os.path.isfile(os.path.join(self.root, self.folder, path)):
+                    Reader(self.crate, self.folder, f"{self.folder}/{path}", inner, self.made, self.root)
+            return stop + 1
+        text = self.text[at:stop]
+        if kind == ["use"]:
+            for path, bound in expanded(text):
+                source.names[bound] = path
+                source.passed += [(path, bound)] if is_public else []
+        elif owner:
+            owner.uses.append((text, self.line(at) + 1))
+        else:
+            source.ghost_uses.append((text, self.line(at) + 1))
+        return stop + 1
+
+    def ghost(self, source, start, at, owner):
+        """Reads a ghost member: `ghost name: { type };`, `ghost name: { type } = { term };` or `ghost name = { term };`."""
+        named = re.compile(rf"\s*({NAME})\s*([:=])\s*\{{").match(self.blank, at)
+        end = closing(self.blank, named.end() - 1)
+        line = self.line(start)
+        comment, doc, _ = comment_above(self.lines, line)
+        made = Item(source, "ghost", named[1], line + 1, "", comment, owner=owner, doc=doc)
+        made.body = self.text[named.end() : end - 1]
+        default = re.compile(r"\s*=\s*\{").match(self.blank, end)
+        end = closing(self.blank, default.end() - 1) if default else end
+        stop = re.compile(r"\s*[;,]").match(self.blank, end)
+        end = stop.end() if stop else end
+        made.text = self.text[start:end]
+        if owner:
+            owner.inner.append(made)
+        return end
+
+    def rest(self, source, made, at):
+        """Reads what follows the item's name, and returns the place after its end."""
+        start = at
+        while True:
+            found = re.compile(r"[\[({;]|\b(?:requires|ensures)\b\*?|\bghost\b(?!\s+use)").search(self.blank, at)
+            if found is None:
+                return len(self.text)
+            sign = found[0]
+            if sign in "([":
+                at = closing(self.blank, found.start())
+            elif sign in ("{", ";"):
+                made.head = made.head or self.text[start : found.start()]
+                if sign == ";":
+                    return found.end()
+                return self.body(source, made, found.start())
+            elif made.kind != "fn":
+                at = found.end()
+            else:
+                made.head = made.head or self.text[start : found.start()]
+                at = self.clause(made, found)
+
+    def clause(self, made, found):
+        opened = self.blank.index("{", found.end())
+        end = closing(self.blank, opened)
+        name = self.blank[found.end() : opened].strip().rstrip(":").strip()
+        kind = found[0].rstrip("*")
+        text = self.text[opened + 1 : end - 1].strip()
+        made.clauses[(kind, name)] = (text, self.line(found.start()) + 1)
+        made.stated += [Clause(found[0], name, re.sub(r"\s+", " ", text))] if kind != "ghost" else []
+        stop = re.compile(r"\s*,").match(self.blank, end)
+        return stop.end() if stop else end
+
+    def body(self, source, made, opened):
+        end = closing(self.blank, opened)
+        if made.kind in ("trait", "impl"):
+            made.name = made.name if made.kind == "trait" else " ".join(made.head.split())
+            self.items(source, opened + 1, end - 1, made)
+        return end
+
+
+def read_crate(root, name):
+    """Returns the modules of a crate by their paths."""
+    made, folder = {}, f"crates/{name}/src"
+    for file in ("lib.rt", "main.rt"):
+        if os.path.isfile(os.path.join(root, folder, file)):
+            Reader(name, folder, f"{folder}/{file}", (), made, root)
+            return made
+    return made
