@@ -1,4 +1,4 @@
-"""The public items of the crates, of what rattle and antt read of the sources."""
+"""The public items of the crates: what `rattle` and `antt` read from the sources, put together."""
 import functools
 import re
 
