@@ -5,6 +5,7 @@ import argparse
 import importlib.machinery
 import importlib.util
 import os
+import pathlib
 import re
 import shutil
 import sys
@@ -18,6 +19,17 @@ class Parser(argparse.ArgumentParser):
     def error(self, message):
         more = f"{self.prog}: {message}. {self.prog} --help says what it takes.\n"
         self.exit(2, self.format_usage() + more)
+
+
+    def flag(self, name, text):
+        """Adds an option that is given or not."""
+        self.add_argument(name, action="store_true", help=text)
+
+    def only(self, given, known, told):
+        """Returns what is given, or all that is known where nothing is; ends the script where one is not known."""
+        for it in [it for it in given if it not in known]:
+            self.error(told.format(it))
+        return given or [*known]
 
 
 def parser(name, doc):
@@ -63,14 +75,12 @@ def toolchain(name):
 
 def read(path, errors="strict"):
     """Returns the text of a file, by its path in the repository or its whole path."""
-    with open(os.path.join(ROOT, path), encoding="utf-8", errors=errors) as it:
-        return it.read()
+    return pathlib.Path(ROOT, path).read_text(encoding="utf-8", errors=errors)
 
 
 def write(path, text):
     """Gives a file this text, by its path in the repository or its whole path."""
-    with open(os.path.join(ROOT, path), "w", encoding="utf-8") as it:
-        it.write(text)
+    pathlib.Path(ROOT, path).write_text(text, encoding="utf-8")
 
 
 def differing(texts):
@@ -85,9 +95,19 @@ class Counts:
 
     def see(self, name, is_right, told=""):
         """Counts a case, and says what is wrong with it."""
-        self.passed, self.failed = self.passed + bool(is_right), self.failed + (not is_right)
+        self.add(bool(is_right), not is_right)
         if not is_right:
             print(f"{name}: {told}" if told else name, flush=True)
+
+    def see_all(self, faults):
+        """Counts each of these faults and says it, or one case that is right if there is none."""
+        for it in faults:
+            self.see(it, False)
+        self.passed += not faults
+
+    def add(self, passed, failed):
+        """Counts so many cases."""
+        self.passed, self.failed = self.passed + passed, self.failed + failed
 
     def end(self):
         """Prints the last line, and returns the status."""
