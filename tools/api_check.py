@@ -14,11 +14,6 @@ NO_NAMES = {"abbrev", "let", "in", "pub", "record", "data", "module", "use", "wh
 LAMBDA = re.compile(r'<i class="s">λ</i> ((?:(?!\. ).)*)\. ')
 
 
-def texts_of(folder):
-    """Returns the text of each page."""
-    return {it: read(f"{folder}/{it}") for it in sorted(os.listdir(folder)) if it.endswith(".html")}
-
-
 def broken_links(texts, folder, places, found):
     """Yields each link of the pages and of search that leads nowhere, or to the network."""
     links = [("search.js", it[1]) for it in found]
@@ -60,23 +55,20 @@ def not_found(found):
             yield f"search for '{query}' does not find {wanted} first: {', '.join(first) or 'nothing'}"
 
 
-def parts_of_statements():
-    """Yields each example that is the rest of a statement, or the beginning of one."""
+def wrong_examples():
+    """Yields each example that is a part of a statement; and each call that no test, program of rows or user's program
+    makes, as far as its type or its name tells."""
     for (_, *names), (path, number, line) in api_examples.examples().items():
         if not api_examples.is_whole(line):
             yield f"the example of {'::'.join(names)} is part of a statement: {line} ({path}:{number})"
-
-
-def not_tried():
-    """Yields each call that no test, program of rows or user's program makes, as far as its type or its name tells."""
     made, every = api_examples.tried_keys(), [it for entry in shown() if not entry.is_law for it in entry.calls]
     yield from (f"{it.title}: no test makes this call: add a row" for it in every if it.key not in made)
 
 
 def faults(folder):
     """Returns what is wrong with the pages in a folder, each as a line; and how many things were looked at."""
-    texts, found = texts_of(folder), api_search.items()
+    texts = {it: read(f"{folder}/{it}") for it in sorted(os.listdir(folder)) if it.endswith(".html")}
+    found = api_search.items()
     places = {name: collections.Counter(re.findall(r'\bid="([^"]*)"', text)) for name, text in texts.items()}
     told = [*broken_links(texts, folder, places, found), *wrong_ids(places), *bound_links(texts), *not_found(found)]
-    told += [*parts_of_statements(), *not_tried()]
-    return told, len(texts) + len(api_search.WANTED)
+    return [*told, *wrong_examples()], len(texts) + len(api_search.WANTED)

@@ -9,7 +9,7 @@ import re
 
 import api_words
 from api_model import shown
-from api_source import CORE, libraries, sources
+from api_source import CORE, HEAD, libraries, sources
 from common import ROOT, read, without_prefix, without_suffix
 from rattle import blanked, closing, joined
 
@@ -44,11 +44,8 @@ def files():
 
 @functools.lru_cache(maxsize=None)
 def by_home():
-    return {(it.crate, made_name(it)): it for it in shown()}
-
-
-def made_name(entry):
-    return re.search(r"pub (?:unsafe )?\w+ (\w+)", entry.item.signature).group(1)
+    """Returns the items that are shown, by their crates and their names there."""
+    return {(it.crate, HEAD.match(it.item.signature)[2]): it for it in shown()}
 
 
 @functools.lru_cache(maxsize=None)
@@ -149,17 +146,11 @@ def made_on(line, known, types):
         yield None, name
 
 
-def functions_of(path):
-    """Yields each function of a file with its module."""
-    for source in [it for it in sources().files if it.path == path]:
-        for item in source.items:
-            yield from ((source, it) for it in (item, *item.inner) if it.kind == "fn")
-
-
 def lines_of(path):
     """Yields each line within a function, with its number, the names of the file and the types."""
-    macros = macros_of(read(path))
-    for source, item in functions_of(path):
+    macros, within = macros_of(read(path)), [it for it in sources().files if it.path == path]
+    every = [(source, one) for source in within for it in source.items for one in (it, *it.inner)]
+    for source, item in [it for it in every if it[1].kind == "fn"]:
         opened = item.text.index("(")
         start = closing(blanked(item.text), opened)
         known = names_of(source)
@@ -224,13 +215,6 @@ def whole(path, number, line):
     return text if is_whole(text) and len(text) <= LONGEST else line
 
 
-def worth(path, line):
-    """Returns how little a line says to a reader: least one within the library, then a part of a statement, a call on
-    `self`, and an arm of a `match`."""
-    is_part = not is_whole(without_suffix(line, "{ .. }"))
-    return path.split("/")[1].startswith("iloc_"), is_part, "self." in line, "=>" in line
-
-
 def calls_in(path):
     """Yields each call of a file, as its key or as a name that only one call has, with the number and text of its line."""
     for number, line, known, types in lines_of(path):
@@ -259,9 +243,11 @@ def examples():
 
 
 def best(lines):
-    """Returns the first of the lines that say most, as a whole statement where it is short."""
+    """Returns the first of the lines that say most, as a whole statement where it is short. Least says one within the
+    library, then a part of a statement, a call on `self`, and an arm of a `match`."""
     told = [(path, number, whole(path, number, re.sub(r" // .*| \} else \{$", "", line))) for path, number, line in lines[:40]]
-    return min(told, key=lambda it: worth(it[0], it[2]))
+    is_part = lambda line: not is_whole(without_suffix(line, "{ .. }"))
+    return min(told, key=lambda it: (it[0].startswith("crates/iloc_"), is_part(it[2]), "self." in it[2], "=>" in it[2]))
 
 
 @functools.lru_cache(maxsize=None)

@@ -42,18 +42,13 @@ which is proved. Each name in a contract leads to its definition.</p>
 <p>Press <code>/</code> to search. The arrow keys choose, Enter opens, Escape closes.</p>"""
 
 
-def of_type(crate, name):
-    """Returns the address of a public type that a clause names."""
-    found = [it.path for it in shown() if (it.crate, it.name) == (crate, name)]
-    return entry_at(found[0]) if found else ""
-
-
 def meant(item, word):
     """Returns where a word in a clause of the item is defined, by the `ghost use` lines in its scope."""
     scope = sources().scope(item)
     path, _ = scope.brought(word)
     if path[3:4] == ("declared",):
-        return of_type(path[1], [it for it in path if it != "TheVariants"][-1])
+        wanted = path[1], [it for it in path if it != "TheVariants"][-1]
+        return next((entry_at(it.path) for it in shown() if (it.crate, it.name) == wanted), "")
     return api_definitions.address(scope, word)
 
 
@@ -98,25 +93,17 @@ def tried_html(path):
     return items(rows) + marked(remark(short(path))) if rows else ""
 
 
-def example_html(call):
-    """Returns a line of a program that makes the call."""
-    found = examples().get(call.key)
-    if not found:
-        return ""
-    path, number, line = found
-    return f"{code(line)} {tag('span', source(path, number), kind='rust')}"
-
-
 def facts_html(call, module):
     """Returns what a call needs, refuses and takes, with examples and its name in Rust."""
     near = f"{module}::{call.owner}"
     refusals = [f"{marked(f'`{name}`', near)} if {marked(when, near)}." for name, when in call.refuses]
+    path, number, line = examples().get(call.key, ("", 0, ""))
     rows = [("Needs", marked(it, near)) for it in call.needs]
     rows += [
         ("Refuses", items(refusals)),
         ("Memory", marked(call.memory, near)),
         ("Tried", tried_html(f"{module}::{call.title}")),
-        ("Example", example_html(call)),
+        ("Example", f"{code(line)} {tag('span', source(path, number), kind='rust')}" if path else ""),
         ("In Rust", code(call.rust) if call.rust else ""),
     ]
     return tag("dl", "".join(tag("dt", head) + tag("dd", said) for head, said in rows if said))
@@ -179,24 +166,12 @@ def ghosts_html(entry):
     return folded("What contracts say of it", said)
 
 
-def base_html(entry):
-    """Returns the generic type that an alias names, with a link."""
-    home = base_of(entry)
-    return tag("p", f"It is a {leads(entry_at(home.path), code(home.name))}, and has its traits.") if home else ""
-
-
 def calls_html(entry):
     """Returns the names of a type's calls, and of those of the generic type that it names."""
     home = base_of(entry)
     calls = [(it, entry.module) for it in entry.calls] + [(it, home.module) for it in (home.calls if home else [])]
     names = [leads(call_at(it, module), code(it.name)) for it, module in calls]
     return tag("p", f"Calls: {', '.join(names)}.", kind="names") if names else ""
-
-
-def field_html(entry, text, said):
-    """Returns a field or a variant, with what is said of it."""
-    declared = tag("code", signature_html(text, entry.module))
-    return tag("span", declared, id=field_id(entry, text)) + (f" {marked(said, entry.path)}" if said else "")
 
 
 def entry_html(entry):
@@ -214,15 +189,16 @@ def entry_html(entry):
 def about_type(entry):
     """Returns what is said of a type before its calls: their names first."""
     has = [leads(entry_at(it), code(short(it))) for it in json_types()] if entry.name == "JsonText" else []
-    tries, refusal = tried_html(entry.path), marked(f"`{entry.refusal}`", entry.path)
+    tries, refusal, home = tried_html(entry.path), marked(f"`{entry.refusal}`", entry.path), base_of(entry)
+    fields = [(tag("code", signature_html(text, entry.module)), field_id(entry, text), said) for text, said in entry.fields]
     return [
         tag("p", marked(entry.sentence, entry.path)),
         calls_html(entry),
-        items([field_html(entry, text, said) for text, said in entry.fields]),
+        items([tag("span", it, id=at) + (f" {marked(said, entry.path)}" if said else "") for it, at, said in fields]),
         paragraphs("", entry.details, entry.path),
         tag("p", "Tried:") + tries if tries else "",
         tag("p", f"Its refusal is {refusal}.") if entry.refusal else "",
-        base_html(entry),
+        tag("p", f"It is a {leads(entry_at(home.path), code(home.name))}, and has its traits.") if home else "",
         dim(f"In Rust: {code(entry.rust)}" if entry.rust else "The Rust crate has no such item."),
         tag("p", f"Types that have it: {', '.join(has)}.") if has else "",
         ghosts_html(entry),

@@ -49,12 +49,6 @@ def link(entry_path, within):
     return f"[`{short(entry_path)}`]({at}#{slug(name)})"
 
 
-def example_row(call):
-    """Returns the line of a program that makes the call, with a link."""
-    found = [examples()[call.key]] if call.key in examples() else []
-    return [f"- Example: `{line}` in [{without_prefix(path, 'crates/')}](../../{path}#L{number})" for path, number, line in found]
-
-
 def tried_row(path):
     """Returns rows that the gate runs of a reader: what is given, and what is answered."""
     rows = [f"[`{given}`](../../{file}#L{number}) is answered `{answer}`" for file, number, given, answer in tried(short(path))]
@@ -62,17 +56,14 @@ def tried_row(path):
     return [f"- Tried: {'; '.join(rows)}" + (f" ({told})" if told else "") + "."] if rows else []
 
 
-def refusal_rows(call):
-    rows = [f"  - `{name}` if {when}." for name, when in call.refuses]
-    return ["- Refuses:"] + rows if rows else []
-
-
 def call_rows(call, module):
     rows = [f"#### `{call.title}`", "", f"    {call.signature}", "", call.sentence or "."]
     rows += ["", *[it for part in call.details for it in (part, "")]] if call.details else [""]
-    facts = [f"- Needs: {it}" for it in call.needs] + refusal_rows(call)
-    facts += [f"- Memory: {call.memory}"] if call.memory else []
-    facts += tried_row(f"{module}::{call.title}") + example_row(call)
+    facts = [f"- Needs: {it}" for it in call.needs] + ["- Refuses:"] * bool(call.refuses)
+    facts += [f"  - `{name}` if {when}." for name, when in call.refuses]
+    facts += [f"- Memory: {call.memory}"] * bool(call.memory) + tried_row(f"{module}::{call.title}")
+    for path, number, line in [examples()[call.key]] if call.key in examples() else []:
+        facts.append(f"- Example: `{line}` in [{without_prefix(path, 'crates/')}](../../{path}#L{number})")
     facts += [f"- States: `{it.fact}`" for it in call.item.stated if is_law(call.item)]
     labels = ", ".join(f"`{it.label}`" for it in call.item.stated if it.label and it.kind != "requires")
     named = f", clauses {labels}" if labels else ""

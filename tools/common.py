@@ -78,6 +78,11 @@ def read(path, errors="strict"):
     return pathlib.Path(ROOT, path).read_text(encoding="utf-8", errors=errors)
 
 
+def rows_of(path):
+    """Returns the lines of a table that are neither blank nor comments."""
+    return [it for it in read(path).splitlines() if it.strip() and it[0] != "#"]
+
+
 def write(path, text):
     """Gives a file this text, by its path in the repository or its whole path."""
     pathlib.Path(ROOT, path).write_text(text, encoding="utf-8")

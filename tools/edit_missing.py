@@ -8,14 +8,16 @@ takes and returns nothing; a derived implementation has no text.
 A line of tools/no_mutants.txt is what has none, as it is printed here, then `|`, and the reason. In it `*` stands for any
 text. A line that fits nothing without a mutant is a fault. This file needs nothing but Python."""
 import os
+import pathlib
 import re
 
-from common import ROOT, below, counted, crates_of
+from common import ROOT, below, counted, crates_of, rows_of
 from edit_places import closing, functions, parameters
+from sources import files_of
 
-LIST = f"{ROOT}/tools/no_mutants.txt"
+LIST = "tools/no_mutants.txt"
 TOPS = ("icu_locale_core", "icu_locale_c", "locale_web", "locale_normal")
-# A character, a string, or a comment.
+# A character, a string, or a comment, in whose place blanks are read.
 UNREAD = re.compile(rb"""'(?:\\[^\n]|[^'\\\n])'|"(?:\\.|[^"\\])*"|//[^\n]*""", re.S)
 TYPE = re.compile(rb"^pub (?:struct|enum|type) (\w+)", re.M)
 IMPL = re.compile(rb"^(?:unsafe )?impl\b[^{;]*\{", re.M)
@@ -23,29 +25,10 @@ PUBLIC = re.compile(rb"\bpub (?:const |unsafe |final )*\Z")
 LAW = re.compile(rb"fn \w+(?:<[^>]*>)?\(\)\s*(?:ensures|\{)")
 
 
-def read(path):
-    with open(path, "rb") as it:
-        return it.read()
-
-
-def without_texts(source):
-    """Returns the source with blanks in place of its comments, strings and characters."""
-    return UNREAD.sub(lambda found: re.sub(rb"[^\n]", b" ", found[0]), source)
-
-
-def sources(crate):
-    """Returns the sources of the crate, by their paths in it."""
-    folder = f"{ROOT}/crates/{crate}"
-    walked = [f"{at}/{it}" for at, _, names in os.walk(f"{folder}/src") for it in names if it.endswith(".rt")]
-    return {os.path.relpath(it, folder): read(it) for it in sorted(walked)}
-
-
-def edits_of(crate):
-    """Yields the text of each mutant of the crate."""
-    for folder in (f"{ROOT}/crates/{crate}/{part}" for part in ("edits", "must-fail")):
-        for name in sorted(os.listdir(folder)) if os.path.isdir(folder) else ():
-            if name.endswith(".edit"):
-                yield read(f"{folder}/{name}")
+def texts_of(crate, part, end):
+    """Returns the files of a part of the crate whose names end so, by their paths in it."""
+    paths = [it for it in files_of(crate, (part,)) if it.endswith(end)]
+    return {os.path.relpath(it, f"{ROOT}/crates/{crate}"): pathlib.Path(it).read_bytes() for it in paths}
 
 
 def places(text, texts):
@@ -79,7 +62,7 @@ def is_for_public(head, types):
 
 def wanted(source, types):
     """Yields the name of each thing that needs a mutant, with the ranges of its bodies."""
-    bare = without_texts(source)
+    bare = UNREAD.sub(lambda found: re.sub(rb"[^\n]", b" ", found[0]), source)
     every = [it for it in functions(bare) if bare[it[1] : it[2]].strip(b"{} \n") and not LAW.match(bare, it[0])]
     for start, body, end, name, owner in every:
         if owner[:5] == "trait" or PUBLIC.search(bare, 0, start):
@@ -96,10 +79,10 @@ def missing():
     lines, crates, found, count = crates_of(f"{ROOT}/crates.txt"), [], [], 0
     for top in TOPS:
         below(top, lines, crates)
-    every = {it: sources(it) for it in crates}
+    every = {it: texts_of(it, "src", ".rt") for it in crates}
     types = {it for texts in every.values() for text in texts.values() for it in TYPE.findall(text)}
     for crate, texts in every.items():
-        changed = {at for edit in edits_of(crate) for at in places(edit, texts)}
+        changed = {at for edit in texts_of(crate, "edits", ".edit").values() for at in places(edit, texts)}
         for file, source in texts.items():
             there = [place for path, place in changed if path == file]
             for name, bodies in wanted(source, types):
@@ -117,7 +100,7 @@ def fits(form, name):
 def faults():
     """Returns what has no mutant and no reason, and the lines of the list that are wrong; and how many things are right."""
     found, count = missing()
-    rows = [line.split("|", 1) for line in read(LIST).decode().splitlines() if line.strip() and line[0] != "#"]
+    rows = [line.split("|", 1) for line in rows_of(LIST)]
     forms = [row[0].strip() for row in rows]
     wrong = [f"{it}: HAS NO MUTANT" for it in found if not any(fits(form, it) for form in forms)]
     count += len(found) - len(wrong)

@@ -15,8 +15,7 @@ import shutil
 import tempfile
 import types
 
-from edit_places import placed
-from edit_trial import GOAL, LIMIT, NAME, RESTS, STATUS, Edit, Trial, calls_in, edits_at, goals_of, own_reason
+from edit_trial import GOAL, LIMIT, NAME, RESTS, STATUS, Edit, Trial, edits_at, goals_of, own_reason
 from kit import read, rt, rtlib
 from libraries import is_fresh
 
@@ -70,11 +69,7 @@ class OnlyTrial(Trial):
 
     def prepare(self):
         """Returns where the crate's functions stand."""
-        blanked = rtlib.blanked(self.crate.folder)
-        there = placed(self.crate, blanked, names_proved(self.crate))
-        inside = lambda path: os.path.relpath(path, self.crate.folder)
-        self.calls = calls_in({inside(it): text.encode() for it, text in blanked.items()}, there)
-        return there
+        return self.place(names_proved(self.crate))
 
     def edit(self, path, there):
         made = Edit(self.crate, path, there)

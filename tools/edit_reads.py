@@ -13,8 +13,9 @@ import re
 
 from edit_missing import places
 from edit_places import functions
-from edit_sums import digest, files_of, is_open, sum_of, without_comments, without_layout
+from edit_sums import digest, is_open, sum_of, without_comments, without_layout
 from kit import LOGIC, read, rtlib
+from sources import files_of
 
 WORD = re.compile(r"[^\s(){}\[\];,.`\"'&<>?!|=+*/@#$◌:]+")
 METHOD = re.compile(r"(?:\.|::)\s*(\w+)")
@@ -98,7 +99,7 @@ def items_of(folder):
     """Returns what stands in a crate, by names."""
     crate, found = os.path.basename(folder), {}
     sources = [File(crate, it, blanked) for it, blanked in rtlib.blanked(folder).items() if it.endswith(".rt")]
-    logic = [File(crate, it) for it in files_of(folder, "specs", "proofs") if it.endswith(".antt")]
+    logic = [File(crate, it) for it in files_of(folder, ("specs", "proofs")) if it.endswith(".antt")]
     for file in sources + logic:
         for name, items in file.items.items():
             found.setdefault(name, []).extend(items)
@@ -158,7 +159,7 @@ class Reads:
         module = os.path.splitext(os.path.relpath(file, "src"))[0]
         top = os.path.join(self.folder, "proofs", "" if module in ("lib", "main") else module)
         inside = lambda path: os.path.relpath(path, top).split(os.sep)
-        return [it for it in files_of(self.folder, "proofs") if inside(it)[0] != ".." and name in inside(it)[:-1]]
+        return [it for it in files_of(self.folder, ("proofs",)) if inside(it)[0] != ".." and name in inside(it)[:-1]]
 
     def sum_of(self, path):
         """Returns the sum of a mutant, and of what its check reads."""

@@ -5,8 +5,10 @@ import hashlib
 import os
 import re
 
+from common import rows_of
 from edit_places import functions
 from kit import LOGIC, ROOT, read, rtlib
+from sources import PROVED_PARTS, files_of
 
 RECORD = f"{ROOT}/tools/edits.record"
 ABOUT = """\
@@ -44,11 +46,6 @@ def without_layout(text):
     return b"".join(re.sub(rb"\[\s*\|", b"[", re.sub(rb"[,;]?\s*([)}\]])", rb"\1", text)).split())
 
 
-def files_of(folder, *below):
-    walked = [(at, names) for part in below for at, _, names in os.walk(f"{folder}/{part}")]
-    return sorted(f"{at}/{it}" for at, names in walked for it in names)
-
-
 def is_open(text, start, body):
     """Returns whether others may read the body of this function."""
     return re.search(rb"\b(const|impl)\b", text[max(start - 20, 0) : body])
@@ -82,23 +79,22 @@ def interface(crate):
 def sum_of(crate):
     """Returns a sum of what a verdict on an edit of the crate rests on, but the edit."""
     own = []
-    for path in files_of(crate.folder, "src", "specs", "proofs"):
+    for path in files_of(crate.folder, PROVED_PARTS):
         own += [os.path.relpath(path, crate.folder), without_layout(without_comments(path, read(path)))]
     below = sorted(f"{it.name} {interface(it)}" for it in crate.below())
     return digest(LOGIC, repr(crate.of_kit), *below, *own)
 
 
-def edits_of(crate, folder):
+def edits_of(crate):
     """Returns the paths of the crate's edits, and of what stands among them and is none."""
-    there = files_of(crate.folder, folder)
-    inside = lambda it: os.path.relpath(it, f"{crate.folder}/{folder}")
-    good = [it for it in there if EDIT_NAME.fullmatch(inside(it))]
+    there = files_of(crate.folder, ("edits",))
+    good = [it for it in there if EDIT_NAME.fullmatch(os.path.relpath(it, f"{crate.folder}/edits"))]
     return good, [it for it in there if it not in good and not it.endswith(".md")]
 
 
 def recorded():
     """Returns the verdicts: the sum and by what it was refused, of each mutant."""
-    rows = [it.split() for it in read(RECORD).decode().splitlines() if it.strip() and it[0] != "#"]
+    rows = [it.split() for it in rows_of(RECORD)] if os.path.isfile(RECORD) else []
     return {row[0]: tuple(row[1:]) for row in rows if len(row) == 3}
 
 

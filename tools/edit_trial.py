@@ -23,6 +23,7 @@ from edit_places import placed
 from kit import AT_LIMIT, REFUSALS, read, rt, rtlib
 
 REFUSED, WAITS, ALONE = "refused", "waits", "alone"
+MOST = 24  # edits in a batch
 # By what an edit is refused. Only the first says that a contract rules its body out. A batch refuses
 # for that reason alone: what it cannot tell apart is tried alone, and judged by rt's words.
 GOAL, LIMIT, NAME = "goal", "limit", "name"
@@ -129,9 +130,10 @@ class Trial:
     # how the last line of a check begins
     ends = "logic="
 
-    def __init__(self, crate, options, jobs):
+    flags = ["--jobs", "1"]
+
+    def __init__(self, crate, options):
         self.crate, self.options, self.calls = crate, options, {}
-        self.flags = ["--jobs", str(jobs)]
         self.longest, self.spent = 0.0, 0.0
 
     def is_over(self):
@@ -152,22 +154,22 @@ class Trial:
         began, before = time.time(), used()
         with self.kept(what) as kept:
             given = call(kept)
-        self.longest, took = max(self.longest, time.time() - began), used() - before
-        self.spent += took
-        if self.options.times:
-            say(f"{self.crate.name}: {what or 'the crate itself'}: {took:.1f} processor seconds")
+        self.longest = max(self.longest, time.time() - began)
+        self.spent += used() - before
         return given
 
     def prepare(self):
         """Checks the crate itself, and returns where its functions stand, or None where it is not
         proved."""
         ran = self.timed("", lambda kept: rt.checked(self.crate, {}, self.flags, kept))
-        if ran.returncode or rtlib.STALE.search(ran.stdout):
-            return None
+        is_proved = not ran.returncode and not rtlib.STALE.search(ran.stdout)
+        return self.place({*re.findall(r"^fn (\S+): ", ran.stdout, re.M)}) if is_proved else None
+
+    def place(self, names):
+        """Returns where the functions stand to which a check gives these names, and notes what calls what."""
         blanked = rtlib.blanked(self.crate.folder)
-        there = placed(self.crate, blanked, {*re.findall(r"^fn (\S+): ", ran.stdout, re.M)})
-        inside = lambda path: os.path.relpath(path, self.crate.folder)
-        self.calls = calls_in({inside(it): text.encode() for it, text in blanked.items()}, there)
+        there = placed(self.crate, blanked, names)
+        self.calls = calls_in({os.path.relpath(it, self.crate.folder): text.encode() for it, text in blanked.items()}, there)
         return there
 
     def edit(self, path, there):
@@ -233,7 +235,7 @@ class Trial:
         """Returns one edit of each function that calls no other function with an edit left."""
         first = {it.function: it for it in reversed(left)}
         free = [it for it in first.values() if not self.rests_on(it.function, {*first})]
-        return (free or [*first.values()])[: self.options.size]
+        return (free or [*first.values()])[:MOST]
 
     def in_batches(self, left, alone):
         """Yields each edit that a batch refuses with the reason, and puts those to be tried alone
@@ -259,7 +261,7 @@ class Trial:
     def verdicts(self, edits):
         """Yields each edit with by what it is refused, or None, and what to say, until the time is
         out."""
-        left = [it for it in edits if it.function and not self.options.alone]
+        left = [it for it in edits if it.function]
         alone = [it for it in edits if it not in left]
         for it, reason in self.in_batches(left, alone):
             yield it, GOAL, f"{it.name}: refused: {reason}"

@@ -10,7 +10,6 @@ from edit_sums import edits_of
 from edit_trial import Edit, name_of, say, together
 from kit import lanes, rt, rtlib
 
-FOLDER = "edits"
 NOTHING = ["--jobs", "1", "--only", ""]
 # The last line of a check of no function.
 ENDS = "only=0"
@@ -71,7 +70,7 @@ def try_types(crates, names):
     tasks, refused, count = [], [], 0
     for crate in crates:
         is_asked = lambda path: not names or {crate.name, name_of(crate, path)} & {*names}
-        paths = [it for it in edits_of(crate, FOLDER)[0] if is_asked(it)]
+        paths = [it for it in edits_of(crate)[0] if is_asked(it)]
         batches, alone, wrong = batches_of(crate, paths)
         count, refused = count + len(paths), refused + wrong
         tasks += [(crate, batch, None) for batch in batches] + [(crate, [it], it.texts) for it in alone]

@@ -7,20 +7,12 @@ from common import ROOT, parser
 
 def arguments(doc):
     words = parser("tools/edits", doc)
-    flag = lambda name, text: words.add_argument(name, action="store_true", help=text)
-    flag("--all", "every crate, and every edit")
-    flag("--list", "say what would be tried")
-    flag("--alone", "try each edit alone")
-    flag("--whole", "check whole crates, and not only the functions with edits")
-    flag("--times", "say what each check took")
-    flag("--types", "put them through the front end alone, which proves nothing: each must type-check")
-    flag("--named", "those of tools/named_mutants.txt alone: each must be refused by a goal")
-    flag("--missing", "name the public functions and implementations that have no mutant, and no reason why")
-    words.add_argument(
-        "--minutes", type=float, default=1e6, metavar="N",
-        help="start nothing that may end later",
-    )
-    words.add_argument("--size", type=int, default=24, metavar="N", help="edits in a batch at most")
+    words.flag("--all", "every crate, and every edit")
+    words.flag("--list", "say what would be tried")
+    words.flag("--types", "put them through the front end alone, which proves nothing: each must type-check")
+    words.flag("--named", "those of tools/named_mutants.txt alone: each must be refused by a goal")
+    words.flag("--missing", "name the public functions and implementations that have no mutant, and no reason why")
+    words.add_argument("--minutes", type=float, default=1e6, metavar="N", help="start nothing that may end later")
     words.add_argument("--worker", nargs=2, help=argparse.SUPPRESS)
     words.add_argument("names", nargs="*", metavar="NAME")
     given = words.parse_args()

@@ -5,20 +5,19 @@ Where the crate's library is not there, or its text is newer, they are first che
 function of a mutant must be refused for a reason of its own, and by a goal."""
 import os
 
+from common import rows_of
 from edit_only import OnlyTrial
 from edit_trial import Edit
-from kit import ROOT, read, rt, rtlib
+from kit import ROOT, rt, rtlib
 from libraries import is_fresh
 
-LIST = f"{ROOT}/tools/named_mutants.txt"
+LIST = "tools/named_mutants.txt"
 
 
 def listed():
     """Returns the functions that must be refused, by CRATE/MUTANT, and what is wrong with the list."""
     rows, wrong = {}, []
-    for line in read(LIST).decode().splitlines():
-        if not line.strip() or line[0] == "#":
-            continue
+    for line in rows_of(LIST):
         name, functions, *_ = [it.strip() for it in line.split("|")] + [""]
         crates = {it.partition("::")[0] for it in functions.split()}
         key = f"{min(crates, default='')}/{name}"
@@ -27,14 +26,14 @@ def listed():
             wrong.append(f"{name}: NOT TRIED: there is no {os.path.relpath(path, ROOT)}, or it is listed twice")
         else:
             rows[key] = tuple(functions.split())
-    return rows, wrong or ([] if rows else [f"{os.path.relpath(LIST, ROOT)} names no mutant"])
+    return rows, wrong or ([] if rows else [f"{LIST} names no mutant"])
 
 
 class NamedTrial(OnlyTrial):
     """The checks of one crate with its named edits made."""
 
     def __init__(self, crate, options, functions):
-        super().__init__(crate, options, 1)
+        super().__init__(crate, options)
         self.functions = functions
 
     def edit(self, path, there):

@@ -10,7 +10,7 @@ PROVED_PARTS, CODE_PARTS = ("src", "specs", "proofs"), ("src",)
 
 
 def files_of(name, parts):
-    """Returns the paths of the crate's sources, in order."""
+    """Returns the paths of the sources of a crate, or of one in a folder elsewhere, in order."""
     folders = [os.path.join(ROOT, "crates", name, part) for part in parts]
     walked = [(at, it) for folder in folders for at, _, names in os.walk(folder) for it in names]
     return sorted(os.path.join(at, it) for at, it in walked)
