@@ -3,6 +3,7 @@ of its signature, its clauses and the table of words."""
 import dataclasses
 import functools
 import re
+from typing import NamedTuple
 
 import api_words
 from api_source import ALIAS, CORE, HEAD, crate, libraries, modules, sources
@@ -22,11 +23,7 @@ UNTOLD = "`UNTOLD`"
 KEYS_BY_NAME = "extensions::unicode::key"
 OF_PREFERENCES = "Its key, what its value reads as, and the value that it is turned into."
 GIVERS = {
-    "Sink": "the sink",
-    "FnMut": "the closure",
-    "IntoIterator": "the iterator",
-    "Read": "the reader",
-    "Write": "the writer",
+    "Sink": "the sink", "FnMut": "the closure", "IntoIterator": "the iterator", "Read": "the reader", "Write": "the writer",
 }
 
 
@@ -52,8 +49,7 @@ class Call:
         return f"{self.owner}::{self.name}" if self.owner else self.name
 
 
-@dataclasses.dataclass
-class Given:
+class Given(NamedTuple):
     """A trait that a type has: its name, and what is special for the type."""
 
     trait: str
@@ -72,11 +68,11 @@ class Entry:
     signature: str
     sentence: str
     details: list
-    fields: list
-    calls: list
-    given: list
-    base: str
-    rust: str
+    rust: str = ""
+    base: str = ""
+    fields: list = ()
+    calls: list = ()
+    given: list = ()
     see: str = ""
     refusal: str = ""
 
@@ -255,18 +251,6 @@ def nothing_if(whens):
     return f" Allocates nothing if {', or if '.join(whens)}." if whens else ""
 
 
-def sink_or_closure(item):
-    """Returns what is said of memory where the call runs code of its caller."""
-    found = [words for name, words in GIVERS.items() if re.search(rf"[:+] (?:\w+::)?{name}\b", item.signature)]
-    return f" What {' and '.join(found)} takes is its own." if found else ""
-
-
-def rust_of_call(entry, owner, name):
-    """Returns what stands in the Rust crate for the call."""
-    special = api_words.OWN_CALLS_OF.get(f"{owner}::{name}", api_words.OWN_CALLS.get(name, f"{entry}::{name}"))
-    return special if entry else ""
-
-
 def rust_of(module, name):
     """Returns the path of the item in the Rust crate; empty if it has none."""
     inner = short(module)
@@ -281,15 +265,16 @@ def rust_of(module, name):
 
 
 def call_of(item, owner, home, rust, made):
-    name = re.search(r"fn (\w+)", item.signature).group(1)
+    """Returns a call, with what is said of memory where it runs code of its caller, and what stands in the Rust crate."""
+    name = re.search(r"fn (\w+)", item.signature)[1]
     given, wants = refuses(item, owner, name)
     sentence = api_words.SENTENCES.get(f"{owner}::{name}") or item.sentence()
     signature = expanded(without_prefix(item.signature, "pub "), home)
-    return Call(
-        owner, name, item, home, signature, sentence, item.details() + explained(signature),
-        needs(item), given, memory(item, wants) + sink_or_closure(item), rust_of_call(rust, owner, name),
-        (home, made, name),
-    )
+    givers = [words for it, words in GIVERS.items() if re.search(rf"[:+] (?:\w+::)?{it}\b", item.signature)]
+    told = memory(item, wants) + (f" What {' and '.join(givers)} takes is its own." if givers else "")
+    own = api_words.OWN_CALLS_OF.get(f"{owner}::{name}", api_words.OWN_CALLS.get(name, f"{rust}::{name}")) if rust else ""
+    details = item.details() + explained(signature)
+    return Call(owner, name, item, home, signature, sentence, details, needs(item), given, told, own, (home, made, name))
 
 
 @functools.lru_cache(maxsize=None)
@@ -360,14 +345,8 @@ def given_of(home, name):
     return [Given(trait, api_words.GIVEN.get(trait, said)) for trait, said in found.items()]
 
 
-def head_of(item, kind, made, shown, home):
-    """Returns the first line of an item, an alias by its public name."""
-    if kind == "type":
-        return item.signature.replace(f"type {made}", f"type {shown}")
-    return expanded(item.signature, home)
-
-
 def entry_of(module, home, made, shown, seen):
+    """Returns the entry of an item, an alias by its public name; of one that was seen only where it is described."""
     it = crate(home)
     if made not in it.items:
         raise SystemExit(f"list_api: no public item {made} in the crate {home}: see crates/{CORE}/src/lib.rt")
@@ -375,50 +354,38 @@ def entry_of(module, home, made, shown, seen):
     kind, rust = HEAD.match(item.signature).group(1), rust_of(module, shown)
     alias = ALIAS.match(item.signature)
     base = alias.group(3) if alias and alias.group(3) in it.items else ""
-    entry = Entry(
-        module, shown, kind, item, home, head_of(item, kind, made, shown, home),
-        api_words.SENTENCES.get(shown) or item.sentence(), item.details(), [], [], [], base, rust,
-    )
+    is_alias, said = kind == "type", api_words.SENTENCES.get(shown) or item.sentence()
+    head = item.signature.replace(f"type {made}", f"type {shown}") if is_alias else expanded(item.signature, home)
+    entry = Entry(module, shown, kind, item, home, head, said, item.details(), rust, base)
     if (home, made) in seen:
         entry.see = seen[home, made]
         return entry
     seen[home, made] = entry.path
     if kind == "fn":
-        entry.calls = [under_its_name(call_of(item, "", home, rust, made), shown)]
-        entry.calls[0].rust = entry.rust = "" if entry.is_law else rust
+        call, entry.rust = call_of(item, "", home, rust, made), "" if entry.is_law else rust
+        signature = re.sub(rf"\bfn {call.name}\b", f"fn {shown}", call.signature)
+        entry.calls = [dataclasses.replace(call, name=shown, signature=signature, rust=entry.rust)]
     elif kind == "trait":
         inner = [at for at in item.inner if "fn " in at.signature]
         entry.calls = [call_of(at, shown, home, rust, made) for at in inner]
     else:
         entry.fields = fields_of(item) if kind in ("struct", "enum") else []
-        entry.calls = [call_of(at, shown, home, rust, made) for at in in_order(it.calls(made), item)]
+        in_order = sorted(it.calls(made), key=lambda at: (at.path != item.path, at.path, at.line))
+        entry.calls = [call_of(at, shown, home, rust, made) for at in in_order]
         entry.given = given_of(it, made)
         refusal = kinds().get(made, "") if home == "iloc_subtags" else ""
         entry.refusal = refusal if refusal not in " ".join(entry.details) else ""
     return entry
 
 
-def under_its_name(call, shown):
-    """Returns the call of a function by the name under which it is passed on."""
-    signature = re.sub(rf"\bfn {call.name}\b", f"fn {shown}", call.signature)
-    return dataclasses.replace(call, name=shown, signature=signature)
-
-
-def in_order(calls, item):
-    """Returns the calls, those beside the type first."""
-    return sorted(calls, key=lambda at: (at.path != item.path, at.path, at.line))
-
-
 def base_entry(entry):
     """Returns the entry of the generic type that an alias names."""
-    it = crate(entry.crate)
-    item = it.items[entry.base]
-    made = Entry(
-        entry.module, entry.base, "struct", item, entry.crate, item.signature, item.sentence(),
-        item.details() + explained(item.signature), [], [], [], "", "",
-    )
-    made.calls = [call_of(at, entry.base, entry.crate, entry.rust, entry.base) for at in it.calls(entry.base)]
-    made.given = given_of(it, entry.base)
+    it, base, home = crate(entry.crate), entry.base, entry.crate
+    item = it.items[base]
+    details = item.details() + explained(item.signature)
+    made = Entry(entry.module, base, "struct", item, home, item.signature, item.sentence(), details)
+    made.calls = [call_of(at, base, home, entry.rust, base) for at in it.calls(base)]
+    made.given = given_of(it, base)
     return made
 
 
