@@ -44,7 +44,7 @@ class Definition:
         return re.match(r"[^=:]*\bpub ", self.lines[0]) is not None
 
     def count(self):
-        return sum(1 for it in self.lines if it.strip() and not it.strip().startswith("--"))
+        return sum(map(is_code, self.lines))
 
     def __repr__(self):
         return f"{'.'.join(self.module.name)}.{self.name}"
@@ -177,9 +177,7 @@ class Reader:
 
     def is_clause(self, text, name):
         tokens = TOKEN.findall(text)
-        if tokens[0] != name:
-            return False
-        return ":" not in tokens[1:2]
+        return tokens[0] == name and tokens[1:2] != [":"]
 
     def add(self, definition, params):
         definition.parts = [(it, "params") for it in params] + definition.parts

@@ -13,6 +13,8 @@ ITEM = re.compile(
     rf"\s*((?:pub(?:\([^)]*\))?\s+)?)(?:(?:const|unsafe|final|default|async)\s+)*"
     rf"(ghost\s+use|ghost|use|mod|struct|enum|trait|impl|fn|type|const|static|macro_rules!)\b"
 )
+# An attribute up to its bracket, and what else stands between items.
+ATTRIBUTE, REST = re.compile(r"\s*#!?(?=\[)"), re.compile(rf"\s*(?:{NAME}!|\S)")
 
 
 def blanked(text):
@@ -88,9 +90,8 @@ class Item:
         return [it for it in rest if it]
 
     def count(self):
-        """Returns the lines of its text, without comments, attributes and blank lines."""
-        lines = (it.strip() for it in self.text.split("\n"))
-        return sum(1 for it in lines if it and not it.startswith(("//", "#[")))
+        """Returns how many lines its text has, without comments, attributes and blank lines."""
+        return sum(bool(it.strip()) and not it.strip().startswith(("//", "#[")) for it in self.lines)
 
     def __repr__(self):
         where = "::".join((self.module.crate, *self.module.path_names))
@@ -116,14 +117,11 @@ class Source:
 
 def closing(text, at):
     """Returns the place after the bracket that closes the one at this place."""
-    depth, pairs = 0, {"(": ")", "{": "}", "[": "]"}
-    for place in range(at, len(text)):
-        if text[place] in pairs:
-            depth += 1
-        elif text[place] in pairs.values():
-            depth -= 1
-            if depth == 0:
-                return place + 1
+    depth = 0
+    for found in re.compile(r"[(){}\[\]]").finditer(text, at):
+        depth += 1 if found[0] in "({[" else -1
+        if not depth:
+            return found.end()
     raise ValueError("an open bracket")
 
 
@@ -184,19 +182,15 @@ class Reader:
 
     def items(self, source, at, end, owner):
         while at < end:
-            found = ITEM.match(self.blank, at)
-            if not found:
-                attribute = re.match(r"\s*#!?(?=\[)", self.blank[at:end])
-                if attribute:
-                    at = closing(self.blank, at + attribute.end())
-                    continue
-                rest = re.match(rf"\s*(?:{NAME}!|\S)", self.blank[at:end])
-                if not rest:
-                    return
-                at += rest.end()
-                continue
-            start = found.start() + len(found[0]) - len(found[0].lstrip())
-            at = self.item(source, found[2].split(), start, found.end(), owner, found[1].strip() == "pub")
+            found, attribute = ITEM.match(self.blank, at), ATTRIBUTE.match(self.blank, at, end)
+            rest = REST.match(self.blank, at, end)
+            if found:
+                start = found.start() + len(found[0]) - len(found[0].lstrip())
+                at = self.item(source, found[2].split(), start, found.end(), owner, found[1].strip() == "pub")
+            elif attribute:
+                at = closing(self.blank, attribute.end())
+            else:
+                at = rest.end() if rest else end
 
     def item(self, source, kind, start, at, owner, is_public):
         """Reads the item that begins there, and returns the place after it."""

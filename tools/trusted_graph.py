@@ -3,12 +3,13 @@
 A definition is an item of a file of specs/. Types stand in src/, and so do their members: the ghost
 members of traits and `impl`s, as the `view` by which contracts see a type. The closure ends at std."""
 import functools
+import itertools
 import os
 import re
 
 import antt
 import rattle as rt
-from common import below, crates_of, read
+from common import below, crates_of, read, without_prefix
 
 SEEN = ("Value", "view", "invariant")  # the members of `Model` by which contracts see a type, and what it always keeps
 PRIMITIVE = set("u8 u16 u32 u64 u128 usize i8 i16 i32 i64 i128 isize bool char str f32 f64".split())
@@ -19,17 +20,15 @@ class Unknown(Exception):
     """A name that nothing in scope explains."""
 
 
+def depths(text):
+    """Returns how many angle brackets are open behind each sign of a text; that of an arrow is none."""
+    return [*itertools.accumulate({"<": 1, ">": -1}.get(it, 0) for it in re.sub("[-=]>", "  ", text))]
+
+
 def without_generics(text):
     """Returns the text without what stands in angle brackets."""
-    kept, depth = [], 0
-    for place, it in enumerate(text):
-        if it == "<":
-            depth += 1
-        elif it == ">" and text[place - 1] not in "-=":
-            depth -= 1
-        elif depth == 0:
-            kept.append(it)
-    return "".join(kept)
+    after = depths(text)
+    return "".join(it for it, *depth in zip(text, [0, *after], after) if not any(depth))
 
 
 def generics(head):
@@ -37,12 +36,8 @@ def generics(head):
     text = head.strip()
     if not text.startswith("<"):
         return {}, text
-    depth = 0
-    for place, it in enumerate(text):
-        depth += {"<": 1, ">": -1}.get(it, 0) if text[place - 1 : place + 1] not in ("->", "=>") else 0
-        if depth == 0:
-            break
-    return bounds_in(text[1:place]), text[place + 1 :].strip()
+    end = depths(text).index(0)
+    return bounds_in(text[1:end]), text[end + 1 :].strip()
 
 
 def bounds_in(text):
@@ -302,18 +297,15 @@ class Sources:
 
     def bounds_of(self, item):
         """Returns the bounds of all type parameters in scope of an item of src/."""
-        bounds = {}
-        if item.owner:
-            if item.owner.kind == "impl":
-                bounds.update(self.impl_of[item.owner].bounds)
-            else:
-                bounds.update(generics(item.owner.head[len(item.owner.name) + 1 :])[0])
-        head = item.head.strip()
+        bounds, owner = {}, item.owner
+        if owner and owner.kind == "impl":
+            bounds.update(self.impl_of[owner].bounds)
+        elif owner:
+            bounds.update(generics(owner.head[len(owner.name) + 1 :])[0])
         if item.kind != "ghost":
-            head = head[len(item.name) :] if head.startswith(item.name) else head
+            head = without_prefix(item.head.strip(), item.name)
             bounds.update(generics(head)[0])
-            if " where" in head:
-                bounds.update(bounds_in(head.partition(" where")[2]))
+            bounds.update(bounds_in(head.partition(" where")[2]))
         return bounds
 
     def cited_by_text(self, item, text, bound):
@@ -350,20 +342,16 @@ class Sources:
             found = self.lookup(module, names)
         except Unknown:
             return True
-        if found is None:
-            return False
         if not found:
-            return names[0] in module.items or len(names) > 1
+            return found is not None and (names[0] in module.items or len(names) > 1)
         return any(it.kind == "enum" or names[-1] in getattr(it, "members", ()) for it in found)
 
     def note(self, item, name):
         self.unknown.setdefault(item, set()).add(name)
 
     def cited_by_definition(self, item):
-        def meant(names):
-            return self.lookup(item.module, names)
-
-        reader = antt.Names(meant, lambda names: self.is_constructor(item.module, names), lambda it: self.note(item, it))
+        meant, is_constructor = (functools.partial(it, item.module) for it in (self.lookup, self.is_constructor))
+        reader = antt.Names(meant, is_constructor, lambda it: self.note(item, it))
         reader.definition(item.parts)
         return [it for it in reader.cited if it is not item]
 
