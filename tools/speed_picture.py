@@ -4,6 +4,8 @@ mode a bar of each program, with what a line costs, and how much that is of the 
 import html
 from typing import NamedTuple
 
+from written import svg
+
 COLOURS = ["#3b6ea5", "#d9903d"]
 BAR, GAP, GROUP, EDGE = 13, 8, 30, 16
 LABELS, PANEL, NUMBERS, RATIOS = 210, 250, 42, 70
@@ -62,9 +64,7 @@ def panel(measure, rows, edges, left):
         costs = row.costs[measure]
         for at, (cost, colour) in enumerate(zip(costs, COLOURS)):
             top, wide = edge + at * BAR, round(cost / most * PANEL)
-            out.append(
-                f'<rect x="{left}" y="{top}" width="{wide}" height="{BAR - 2}" fill="{colour}"/>'
-            )
+            out.append(f'<rect x="{left}" y="{top}" width="{wide}" height="{BAR - 2}" fill="{colour}"/>')
             out.append(text(left + wide + 5, top + BAR - 3, f"{cost:.0f}"))
         if len(costs) == 2:
             ratio = f"{costs[0] / costs[1]:.2f}"
@@ -78,14 +78,8 @@ def picture(rows, names):
     edges, height = places(rows, len(names))
     measures = list(rows[0].costs)
     width = EDGE + LABELS + len(measures) * (PANEL + NUMBERS + RATIOS)
-    out = [
-        f'<svg xmlns="http://www.w3.org/2000/svg" viewBox="0 0 {width} {height}"'
-        f' font-family="sans-serif" font-size="12">',
-        f'<rect width="{width}" height="{height}" fill="white"/>',
-        *legend(names),
-        *labels(rows, edges, len(names)),
-    ]
+    out = [*legend(names), *labels(rows, edges, len(names))]
     for at, measure in enumerate(measures):
         left = EDGE + LABELS + at * (PANEL + NUMBERS + RATIOS)
         out += panel(measure, rows, edges, left)
-    return "\n".join(out + ["</svg>", ""])
+    return svg(width, height, out)

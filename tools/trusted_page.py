@@ -15,7 +15,6 @@ A part stands between `<!-- trusted: WHAT -->` and `<!-- /trusted -->`, where WH
 import difflib
 import os
 import re
-import sys
 import textwrap
 
 import common
@@ -44,19 +43,9 @@ def headline(sources):
 
 def without_memory(sources, contracts):
     """Returns the closure of the contracts but for their clauses on memory."""
-    kept = []
-    for it, wanted in contracts:
-        if isinstance(it, graph.Contract):
-            names = [name for name, _, _ in it.clauses(wanted)]
-            kept.append((it, tuple(name for name in names if name != ON_MEMORY) or ("",)))
-        else:
-            kept.append((it, wanted))
-    return graph.closure_of(sources, kept)
-
-
-def size(definitions):
-    files = {it.module.path for it in definitions}
-    return f"{len(definitions)} definitions, {lines_of(definitions)} lines, {len(files)} files"
+    named = lambda it, wanted: it.clauses(wanted) if isinstance(it, graph.Contract) else ()
+    kept = lambda it, wanted: tuple(name for name, _, _ in named(it, wanted) if name != ON_MEMORY) or ("",)
+    return graph.closure_of(sources, [(it, kept(it, wanted)) for it, wanted in contracts])
 
 
 def lines_of(items):
@@ -64,21 +53,19 @@ def lines_of(items):
 
 
 def counted(closure):
-    inner = closure.types + closure.members
-    lines = sum(it.count() for it in inner)
-    silent = sum(1 for it in closure.definitions if not it.sentence())
-    said = f"{size(closure.definitions)}; {silent} definitions have no sentence"
-    said += f"\nbeside these: {len(closure.types)} types and {len(closure.members)} members, {lines} lines"
-    if closure.behind:
-        said += f"; through them alone {size(closure.behind)}"
-    return said
+    """Returns in words how much a closure holds."""
+    files = lambda every: len({it.module.path for it in every})
+    size = lambda every: f"{len(every)} definitions, {lines_of(every)} lines, {files(every)} files"
+    silent = sum(not it.sentence() for it in closure.definitions)
+    said = f"{size(closure.definitions)}; {silent} definitions have no sentence\nbeside these: {len(closure.types)} types"
+    said += f" and {len(closure.members)} members, {lines_of(closure.types + closure.members)} lines"
+    return said + (f"; through them alone {size(closure.behind)}" if closure.behind else "")
 
 
-def tell_unknown(sources):
-    """Returns 1 if some name in what was read is explained by nothing in scope, and says which."""
-    for item, names in sources.unknown.items():
-        print(f"trusted: {item.where}: {item.name} cites {', '.join(sorted(names))}, which nothing in scope explains", file=sys.stderr)
-    return 1 if sources.unknown else 0
+def unknown(sources):
+    """Returns which names in what was read nothing in scope explains."""
+    told = "{}: {} cites {}, which nothing in scope explains".format
+    return [told(it.where, it.name, ", ".join(sorted(names))) for it, names in sources.unknown.items()]
 
 
 def reading(text):
@@ -185,17 +172,15 @@ class Pages:
         for call, kind, text in self.clauses():
             if kind == ON_MEMORY:
                 lines.append(f"{call}: {kind} {{ {' '.join(text.split())} }}")
-        lines += ["```", "", f"They cite {len(only)} definitions of {sum(it.count() for it in only)} lines that no other clause cites:", ""]
+        lines += ["```", "", f"They cite {len(only)} definitions of {lines_of(only)} lines that no other clause cites:", ""]
         for path, found in self.whole.ordered(only):
             lines.append(f"- `{path}`: {', '.join(f'`{it.name}`' for it in found)}")
         return "\n".join(lines)
 
     def part_outside(self):
         every = [it for it in self.sources.definitions() if it.module.name[1].startswith(("iloc_", "icu_"))]
-        lines = sum(it.count() for it in every)
-        read = sum(it.count() for it in self.plain.definitions)
-        said = f"`specs/` of the library holds {len(every):,} definitions in {lines:,} lines."
-        said += f" These pages show {read:,} of these lines."
+        said = f"`specs/` of the library holds {len(every):,} definitions in {lines_of(every):,} lines."
+        said += f" These pages show {lines_of(self.plain.definitions):,} of these lines."
         return f"{said} The headline rests on no other, but for memory and for the views of stop 8."
 
     def made_of(self, path, text, is_wanted, wrong):
@@ -275,11 +260,14 @@ def check(sources):
     """Says which parts of the pages are not what the sources give, and which definitions have no sentence."""
     texts = texts_of(sources)
     made, wrong = Pages(sources).made(texts)
-    wrong += [f"{it.where}: {it.name} cites {', '.join(sorted(names))}, which nothing in scope explains" for it, names in sources.unknown.items()]
-    library = graph.closure_of(sources, graph.library(sources))
+    wrong += unknown(sources)
+    library, every = graph.closure_of(sources, graph.library(sources)), sources.definitions()
     wrong += [f"{it.where}: {it.name} has no sentence" for it in library.definitions if not it.sentence()]
-    wrong += [f"the same text: {named(group)}" for group in same_text(sources)]
-    wrong += [f"one name for two things: {named(group)}" for group in same_name(sources)]
+    # (texts that differ in names of their own alone, signatures aside; and public names, but for what several types have alike)
+    with_text = [it for it in every if it.kind not in ("abstract", "data", "record")]
+    wrong += [f"the same text: {it}" for it in alike(with_text, lambda it: shape_of(sources, it))]
+    with_name = [it for it in every if it.kind != "abstract" and it.is_public() and it.name not in ALIKE]
+    wrong += [f"one name for two things: {it}" for it in alike(with_name, lambda it: it.name)]
     count = 0
     for path, text in texts.items():
         for old, new in zip(PART.finditer(text), PART.finditer(made[path])):
@@ -293,27 +281,11 @@ def check(sources):
 
 
 def alike(definitions, key):
-    """Returns the groups of definitions that have the same key."""
+    """Returns for each group of definitions that have the same key their names and places."""
     groups = {}
     for it in definitions:
-        groups.setdefault(key(it), []).append(it)
-    return [it for it in groups.values() if len(it) > 1]
-
-
-def same_text(sources):
-    """Returns the groups of definitions whose texts differ in names of their own alone, signatures aside."""
-    every = [it for it in sources.definitions() if it.kind not in ("abstract", "data", "record")]
-    return alike(every, lambda it: shape_of(sources, it))
-
-
-def same_name(sources):
-    """Returns the groups of public definitions that share a name, but for what several types have alike."""
-    every = [it for it in sources.definitions() if it.kind != "abstract" and it.is_public() and it.name not in ALIKE]
-    return alike(every, lambda it: it.name)
-
-
-def named(group):
-    return ", ".join(f"{it.name} ({it.where})" for it in group)
+        groups.setdefault(key(it), []).append(f"{it.name} ({it.where})")
+    return [", ".join(it) for it in groups.values() if len(it) > 1]
 
 
 def shape_of(sources, definition):
