@@ -119,6 +119,15 @@ class Counts:
         return counted(self.passed, self.failed)
 
 
+class Cases(Counts):
+    """The cases so far, of which one name may stand for many. It says of each whether it is as wanted."""
+
+    def see(self, name, wrong="", number=1):
+        """Counts this number of cases, or one that failed, with what is wrong."""
+        self.add(0 if wrong else number, bool(wrong))
+        print(f"{name}: {wrong or f'{number} as wanted'}", flush=True)
+
+
 def counted(passed, failed):
     """Prints the last line of a test, and returns its status."""
     print(f"{int(passed)} passed, {int(failed)} failed")

@@ -191,17 +191,20 @@ def pair_wanted(first, second, other):
     return f"{order} {int(first == second)} {int(model.hash() == Model(second).hash())} {against}"
 
 
+def neighbours(mode):
+    """Each text and its normal form in the mode, with itself, with the next text and with the normal form: the other text,
+    and its normal form."""
+    every = [*zip(lines("texts.in"), lines(f"{mode}.out"))]
+    for (text, normal), after in zip(every, [*every[1:], every[0]]):
+        own = [] if normal.startswith(b"! ") else [(normal, normal)]
+        yield from ((text, normal, *other) for other in [(text, normal), after, *own])
+
+
 def pairs_wanted():
-    """Each text with itself, with its normal form and with the next text; and what is wanted of them."""
-    texts, normals = lines("texts.in"), [it.decode() for it in lines("locale.out")]
-    given, wanted = [], []
-    for at, (text, normal) in enumerate(zip(texts, normals)):
-        after = (at + 1) % len(texts)
-        own = [] if normal.startswith("! ") else [(normal.encode(), normal)]
-        for other, means in [(text, normal), (texts[after], normals[after]), *own]:
-            given.append((text, other))
-            wanted.append(pair_wanted(normal, means, other))
-    return given, wanted
+    """Pairs of texts, and what is wanted of them."""
+    every = [*neighbours("locale")]
+    wanted = [pair_wanted(normal.decode(), means.decode(), other) for _, normal, other, means in every]
+    return [(text, other) for text, _, other, _ in every], wanted
 
 
 def rows_of(crate):
