@@ -2,6 +2,7 @@
 
 A locale is known by the normal form that the vectors have for its text. The model takes the normal form apart, and
 changes and orders the parts by docs/DEFINITIONS.md. It calls no library."""
+import copy
 import pathlib
 import random
 import re
@@ -22,6 +23,12 @@ SETS = {
     "attributes": ("[A-Za-z0-9]{3,8}", REFUSED_EXTENSION),
 }
 MAPS = ("keywords", "fields", "others")
+# The single words of a locale: what each is, the refusal of what is none, and in which case it is written.
+PARTS = {
+    "language": ("[A-Za-z]{2,3}|[A-Za-z]{5,8}", REFUSED_LANGUAGE, str.lower),
+    "script": ("[A-Za-z]{4}", REFUSED_SUBTAG, str.capitalize),
+    "region": ("[A-Za-z]{2}|[0-9]{3}", REFUSED_SUBTAG, str.upper),
+}
 SLOTS = 4
 WORDS = ["", "en", "EN", "gsw", "abcd", "Und", "sinhalese", "e", "latn", "LATN", "Arab", "US", "gb", "419", "41", "4190"]
 WORDS += ["posix", "POSIX", "1994", "199a", "a199", "macos", "valencia", "fonipa", "abcdefghi", "rozaj", "biske", "x"]
@@ -121,11 +128,6 @@ class Model:
             others,
         )
 
-    def transformed(self):
-        """The identifier of the extension t, in its normal form."""
-        language, script, region, variants = identifier_of(self.transform.split("-"))
-        return "-".join(it for it in (language, script.capitalize(), region.upper(), *sorted(variants)) if it)
-
     def hash(self):
         """FNV-1a of the normal form."""
         found = 0xCBF29CE484222325
@@ -138,7 +140,9 @@ class Model:
         text = self.written()
         fields = [text, self.base(), self.language, self.script, self.region, ",".join(sorted(self.variants))]
         fields += [",".join(sorted(self.attributes)), ",".join(f"{key}={value}" for key, value in sorted(self.keywords.items()))]
-        fields += [self.transformed(), ",".join(f"{key}={'-'.join(value)}" for key, value in sorted(self.fields.items()))]
+        language, script, region, variants = identifier_of(self.transform.split("-"))
+        transformed = (language, script.capitalize(), region.upper(), *sorted(variants))
+        fields += ["-".join(filter(None, transformed)), ",".join(f"{key}={'-'.join(value)}" for key, value in sorted(self.fields.items()))]
         fields.append("-".join(["x", *self.private]) if self.private else "")
         fields.append(",".join("-".join([key, *self.others[key]]) for key in sorted(self.others)))
         fields += [self.data_text(False), self.data_text(True), *self.preferences()]
@@ -170,12 +174,6 @@ class Model:
 
 def compared(first, second):
     return (first > second) - (first < second)
-
-
-def parts_wanted():
-    """Each text, and what is wanted of the locale that it means."""
-    normals = [it.decode() for it in lines("locale.out")]
-    return [it if it.startswith("! ") else Model(it).parts() for it in normals]
 
 
 def pair_wanted(first, second, other):
@@ -272,7 +270,9 @@ class Script:
         self.steps.append(b"\t".join([call.encode(), b"%d" % at, *words]))
         does, _, part = call.partition("-")
         part = f"{part.rstrip('s')}s"
-        if part in SETS:
+        if call in PARTS:
+            answer = self.set_word(self.slots[at], call, *given)
+        elif part in SETS:
             answer = self.in_set(self.slots[at], does, part, *given)
         elif part in MAPS and does != "set":
             answer = self.in_map(getattr(self.slots[at], part), does, part, *given)
@@ -287,22 +287,13 @@ class Script:
         self.slots[at] = Model(normal)
         return "ok"
 
-    def language(self, it, _, word):
-        if word and not re.fullmatch("(?a:[A-Za-z]{2,3}|[A-Za-z]{5,8})", word):
-            return REFUSED_LANGUAGE
-        it.language = word.lower() or "und"
-        return "ok"
-
-    def script(self, it, _, word):
-        if word and not re.fullmatch("[A-Za-z]{4}", word):
-            return REFUSED_SUBTAG
-        it.script = word.capitalize()
-        return "ok"
-
-    def region(self, it, _, word):
-        if word and not re.fullmatch("[A-Za-z]{2}|[0-9]{3}", word):
-            return REFUSED_SUBTAG
-        it.region = word.upper()
+    @staticmethod
+    def set_word(it, part, word):
+        """What is answered where the language, the script or the region is set."""
+        form, refused, in_case = PARTS[part]
+        if word and not re.fullmatch(form, word):
+            return refused
+        setattr(it, part, in_case(word) or ("und" if part == "language" else ""))
         return "ok"
 
     @staticmethod
@@ -389,19 +380,14 @@ class Script:
         return "ok"
 
     def copy(self, _, at, other):
-        self.slots[at] = self.twin(other)
+        self.slots[at] = copy.deepcopy(self.slots[other])
         return "ok"
 
     def move(self, _, at, other):
-        self.slots[at] = self.twin(other)
+        self.copy(_, at, other)
         if other != at:
             self.slots[other] = Model()
         return "ok"
-
-    def twin(self, at):
-        made, was = Model(), self.slots[at]
-        made.__dict__ = {name: type(it)(it) for name, it in was.__dict__.items()}
-        return made
 
     def compare(self, it, _, other):
         first, second = it.order(), self.slots[other].order()
