@@ -12,7 +12,7 @@ import tempfile
 import threading
 import time
 
-from common import ROOT, below, crates_of
+from common import ROOT, below, crates_of, write
 
 PREFIX = "icu-locale-proof-"
 LEFT_OUT = shutil.ignore_patterns("out", "edits", "*.in")
@@ -38,8 +38,7 @@ def furnish(room, names, lines):
         shutil.copytree(f"{ROOT}/crates/{name}", copy, ignore=LEFT_OUT, copy_function=shutil.copyfile)
         for at, _, _ in os.walk(copy):
             os.chmod(at, 0o755)
-    with open(f"{room}/crates.txt", "w", encoding="utf-8") as it:
-        it.writelines(f"{lines[name]}\n" for name in names)
+    write(f"{room}/crates.txt", "".join(f"{lines[name]}\n" for name in names))
     if os.path.isfile(f"{ROOT}/HANDLES"):
         shutil.copyfile(f"{ROOT}/HANDLES", f"{room}/HANDLES")
     os.mkdir(f"{room}/.git")
@@ -86,8 +85,7 @@ class Proof:
             if proved or kept:
                 self.done.add((proved or kept)[1])
             if proved:
-                minutes = (time.time() - self.began) / 60
-                far = f"{len(self.done)} of {len(self.names)} crates proved, {minutes:.0f} min"
+                far = f"{len(self.done)} of {len(self.names)} crates proved, {(time.time() - self.began) / 60:.0f} min"
                 self.say(f"{far} ({proved[1]})")
 
     def is_running(self):
