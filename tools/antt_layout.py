@@ -9,6 +9,7 @@ import itertools
 import re
 import textwrap
 
+from antt import indent as column
 from common import without_suffix
 
 WIDTH, STEP, PART = 110, 4, 2
@@ -243,10 +244,6 @@ def arguments(words):
         stays = before[-1] in ("record", "as", "at", "←") or before[0] == "record" and is_fields or said(it) == "where"
         parts[-1:] = [[*parts[-1], " ", *it]] if parts and stays else [*parts[-1:], list(it)]
     return [it[0] if len(it) == 1 and not isinstance(it[0], str) else Glue(it) for it in parts]
-
-
-def column(line):
-    return len(line) - len(line.lstrip())
 
 
 def comment(lines):

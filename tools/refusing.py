@@ -42,16 +42,11 @@ def make_with(folder, source, renamed):
     return static
 
 
-def make_refusing(folder):
-    """Makes the library whose requests a test can refuse (bindings/c/refusing.h)."""
-    renamed = {it: f"refusing_{it}" for it in ("malloc", "realloc", "free")}
-    return make_with(folder, TOP / "bindings" / "c" / "refusing.c", renamed)
-
-
-def make_guarding(folder):
-    """Makes the library whose blocks stand beside pages that end the program (bindings/c/guarding.h)."""
-    renamed = {it: f"guarding_{it}" for it in ("malloc", "realloc", "free")}
-    return make_with(folder, TOP / "bindings" / "c" / "guarding.c", renamed)
+def make_own_malloc(folder, name):
+    """Makes the library whose requests a test can refuse (bindings/c/refusing.h), or the one whose blocks stand beside pages
+    that end the program (guarding.h)."""
+    renamed = {it: f"{name}_{it}" for it in ("malloc", "realloc", "free")}
+    return make_with(folder, TOP / "bindings" / "c" / f"{name}.c", renamed)
 
 
 def make_another(folder):

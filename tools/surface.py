@@ -2,9 +2,9 @@
 
 A program makes its calls in two runs, of few and of more rounds. The cost of a call is the difference of what its
 function took, with all that it called, by the difference of the rounds. Both programs must give equal sums."""
-import math
 import pathlib
 import re
+import statistics
 import subprocess
 from typing import NamedTuple
 
@@ -46,10 +46,8 @@ def run(binary, calls, rounds, folder):
     """Makes the calls, and returns their sums and the costs of their functions."""
     counted = folder / "callgrind"
     tool = ["valgrind", "--tool=callgrind", "--compress-strings=no", "--compress-pos=no"]
-    ran = subprocess.run(
-        [*tool, f"--callgrind-out-file={counted}", binary], input=questions(calls, rounds),
-        capture_output=True, text=True, check=True,
-    )
+    words = [*tool, f"--callgrind-out-file={counted}", binary]
+    ran = subprocess.run(words, input=questions(calls, rounds), capture_output=True, text=True, check=True)
     sums = dict(line.rsplit(" ", 1) for line in ran.stdout.splitlines())
     return sums, costs_in(counted.read_text())
 
@@ -95,18 +93,14 @@ def measured(folder, rust, say):
     return rows
 
 
-def mean(rows):
-    """Returns the geometric mean of the ratios."""
-    return math.exp(sum(math.log(it.ratio()) for it in rows) / len(rows))
-
-
 def table(rows):
     """Returns the page's part: a summary, the calls with the worst first, and those that say nothing."""
     kept = sorted((it for it in rows if not it.is_removed()), key=lambda it: -it.ratio())
     removed = sorted(it.call.name for it in rows if it.is_removed())
-    slower = sum(it.ratio() > 1 for it in kept)
+    slower = lambda rows: sum(it.ratio() > 1 for it in rows)
+    mean = lambda rows: statistics.geometric_mean(it.ratio() for it in rows)
     lines = [
-        f"{len(kept)} calls were compared. {slower} of them take more instructions than the Rust crate's. The"
+        f"{len(kept)} calls were compared. {slower(kept)} of them take more instructions than the Rust crate's. The"
         f" geometric mean of the ratios is {mean(kept):.2f}.",
         "",
         "| Module | Calls | Slower | Geometric mean |",
@@ -115,7 +109,7 @@ def table(rows):
     for module in dict.fromkeys(it.call.module for it in rows):
         own = [it for it in kept if it.call.module == module]
         if own:
-            lines.append(f"| {module} | {len(own)} | {sum(it.ratio() > 1 for it in own)} | {mean(own):.2f} |")
+            lines.append(f"| {module} | {len(own)} | {slower(own)} | {mean(own):.2f} |")
     lines += ["", "| Call | Module | Instructions a call: this library | Rust crate | Ratio |", "|---|---|---|---|---|"]
     for it in kept:
         lines.append(f"| {it.call.name} | {it.call.module} | {it.ours:.0f} | {it.crate:.0f} | {it.ratio():.2f} |")
