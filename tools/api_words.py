@@ -93,14 +93,11 @@ READERS = {
     "iloc_locale.LocaleTextReads": (LOCALE, LONG_LOCALE),
     "iloc_locale.NormalizingWantsMemory": (LOCALE, f"the text is accepted and not normalized, or {LONG_LOCALE}"),
     "iloc_langid.SmallLocaleTextReads": (SMALL, None),
-    "iloc_data.DataTextReads": (
-        [
-            NO_LANGUAGE,
-            ("InvalidSubtag", BAD_SMALL),
-            ("InvalidExtension", "the first singleton is no letter or digit, neither a key nor an attribute follows `u`, or the keyword is not `sd` with a readable subdivision"),
-        ],
-        None,
-    ),
+    "iloc_data.DataTextReads": ([
+        NO_LANGUAGE,
+        ("InvalidSubtag", BAD_SMALL),
+        ("InvalidExtension", "the first singleton is no letter or digit, neither a key nor an attribute follows `u`, or the keyword is not `sd` with a readable subdivision"),
+    ], None),
     "iloc_unicode.AttributesTextReads": ([], "there are more than four different attributes"),
     "iloc_unicode.KeywordsTextReads": (KEYWORDS, "there is a second key, or a keyword of more than four subtags besides `true`"),
     "iloc_unicode.KeywordsReads": (KEYWORDS, "there is a second key, or a keyword of more than four subtags besides `true`"),
@@ -114,13 +111,10 @@ READERS = {
     "iloc_other.OtherReads": (OTHER, FIVE_WORDS),
     "iloc_other.PrivateTextReads": (begins("`x`", PRIVATE), "there are more than four private subtags"),
     "iloc_other.PrivateReads": (PRIVATE, "there are more than four private subtags"),
-    "iloc_keyword_types.SubdivisionTextReads": (
-        [
-            ("InvalidSubtag", "the text is no subtag of 2 to 8 letters or digits"),
-            ("InvalidExtension", "its beginning is no region, or its rest no suffix of 1 to 4 letters or digits"),
-        ],
-        None,
-    ),
+    "iloc_keyword_types.SubdivisionTextReads": ([
+        ("InvalidSubtag", "the text is no subtag of 2 to 8 letters or digits"),
+        ("InvalidExtension", "its beginning is no region, or its rest no suffix of 1 to 4 letters or digits"),
+    ], None),
     "iloc_keyword_types.ReadsScripts": ([("InvalidKeywordValue", "a subtag of the value is no script")], "there are more than four scripts"),
     "iloc_json.ReadsText": (
         [("NotText", "the JSON value is no string"), ("Parse", "the parser of the type refuses the string; its refusal is inside")],
@@ -141,10 +135,10 @@ BY_CALL = {
     "JsonText::to_json": ([], "May allocate: `OutOfMemory` if that fails."),
     "TextValue::read_text": ([("ParseError", "the parser of the type refuses the text")], "`OutOfMemory` only if the parser of the type runs out of memory."),
     "write_to_io": ([("io::Error", "the writer fails, or takes no byte (`WriteZero`); it then took a beginning of the text")], None),
-    "Writeable::write_to": ([("fmt::Error", "the sink fails; it then took a beginning of the text")], None),
-    "Sink::write_str": ([("fmt::Error", "the sink fails; it then took a beginning of the text")], None),
-    "Sink::write_short_piece": ([("fmt::Error", "the sink fails; it then took a beginning of the text")], None),
-    "Sink::write_char": ([("fmt::Error", "the sink fails; it then took a beginning of the text")], None),
+    **dict.fromkeys(
+        ("Writeable::write_to", "Sink::write_str", "Sink::write_short_piece", "Sink::write_char"),
+        ([("fmt::Error", "the sink fails; it then took a beginning of the text")], None),
+    ),
     "Word::try_from_utf8": ([("ParseError", "the text is no subtag of the kind; each kind has one refusal")], None),
     "place": ([("Err", "the key is not there; the place is where it would go")], None),
     "FormatPreferences::from_locale_strict": ([("Err", "a keyword of these preferences is there and cannot be parsed, or `sd` is of another region; the same preferences are inside")], None),
@@ -202,34 +196,19 @@ IN_RUST = {
 
 # Own items: what the Rust crate does not have, or has by another name (the value; empty: nothing).
 OWN = {
+    **dict.fromkeys((
+        "writeable::IoSink writeable::write_to_io shortvec::ShortWords shortvec::ShortWordsIntoIter litemap::Probe "
+        "litemap::place subtags::Word subtags::WordKind subtags::WordOf subtags::is_strictly_ascending faults::Fault "
+        "faults::fault_of faults::Mode langid::equality locale::equality locale::OrderedLocale json::JsonError json::TextValue"
+    ).split(), ""),
+    **dict.fromkeys((
+        "bench::FormatPreferences bench::TimePreferences preferences::FormatPreferences preferences::TimePreferences"
+    ).split(), "a type that define_preferences! makes"),
     "writeable::Sink": "core::fmt::Write",
-    "writeable::IoSink": "",
-    "writeable::write_to_io": "",
-    "writeable::to_string_or_borrow": "writeable::to_string_or_borrow",
-    "shortvec::ShortWords": "",
-    "shortvec::ShortWordsIntoIter": "",
-    "litemap::Probe": "",
-    "litemap::place": "",
-    "subtags::Word": "",
-    "subtags::WordKind": "",
-    "subtags::WordOf": "",
-    "subtags::is_strictly_ascending": "",
     "parser::SubtagIterator": "parser::SubtagIterator (private)",
-    "faults::Fault": "",
-    "faults::fault_of": "",
-    "faults::Mode": "",
-    "langid::equality": "",
-    "locale::equality": "",
-    "locale::OrderedLocale": "",
     "extensions::unicode::KeywordsIter": "impl Iterator (unnamed)",
     "litemap::Store": "litemap::store::Store (and its kin)",
-    "json::JsonError": "",
     "json::JsonText": "serde::Serialize, serde::Deserialize",
-    "json::TextValue": "",
-    "bench::FormatPreferences": "a type that define_preferences! makes",
-    "bench::TimePreferences": "a type that define_preferences! makes",
-    "preferences::FormatPreferences": "a type that define_preferences! makes",
-    "preferences::TimePreferences": "a type that define_preferences! makes",
     "bench::CarryError": "",
     "bench::carry_v1": "",
 }
@@ -287,9 +266,7 @@ OWN_CALLS_OF = {
 
 # What changes at a call, where the signature alone does not tell it.
 CHANGES = {
-    "TinyAsciiStr::try_from_str": "an `Option` in place of a `Result`",
-    "TinyAsciiStr::try_from_utf8": "an `Option` in place of a `Result`",
-    "TinyAsciiStr::try_from_raw": "an `Option` in place of a `Result`",
+    **{f"TinyAsciiStr::try_from_{it}": "an `Option` in place of a `Result`" for it in ("str", "utf8", "raw")},
     "LiteMap::iter": "references to pairs in place of pairs of references",
     "Locale::normalizing_eq": "`alloc` first, `?`",
     "Keywords::remove": "a `&Key`",
@@ -316,11 +293,7 @@ ROWS = {
     "extensions::transform::Value::try_from_utf8": "tvalue",
     "extensions::other::Other::try_from_utf8": "other",
     "extensions::private::Private::try_from_utf8": "private",
-    "subtags::Language": "word-language",
-    "subtags::Script": "word-script",
-    "subtags::Region": "word-region",
-    "subtags::Variant": "word-variant",
-    "subtags::Subtag": "word-subtag",
+    **{f"subtags::{it}": f"word-{it.lower()}" for it in ("Language", "Script", "Region", "Variant", "Subtag")},
     "extensions::unicode::Key": "word-ukey",
     "extensions::unicode::Attribute": "word-attribute",
     "extensions::unicode::SubdivisionSuffix": "word-suffix",
