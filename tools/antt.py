@@ -187,15 +187,12 @@ class Reader:
 
     def signature(self, head, stop, comment, text, params):
         found = re.match(r"(?:(abbrev|unfoldable)\s+)?(?:pub\s+)?(?:(abbrev|unfoldable)\s+)?(\S+)\s*:?(.*)$", text, re.S)
-        made = Definition(self.module, found[3].strip("«»"), found[1] or found[2] or "abstract", head + 1)
-        made.lines, made.comment = self.lines[head:stop], comment
-        made.parts = [(text.part(found.start(4)), "type")]
-        return self.add(made, params)
+        name, kind, parts = found[3].strip("«»"), found[1] or found[2] or "abstract", [(text.part(found.start(4)), "type")]
+        return self.add(Definition(self.module, name, kind, head + 1, self.lines[head:stop], comment, parts), params)
 
     def shape(self, head, stop, comment, text, params):
         found = re.match(r"(?:pub\s+)?(data|record)\s+(\S+)", text)
-        made = Definition(self.module, found[2], found[1], head + 1)
-        made.lines, made.comment = self.lines[head:stop], comment
+        made = Definition(self.module, found[2], found[1], head + 1, self.lines[head:stop], comment)
         body = next((n for n in range(head, stop) if self.lines[n].rstrip().endswith(" where")), stop - 1)
         header = without_suffix(self.text(head, body + 1), "where")
         made.parts = [(text.part(found.end(), len(header)), "params")]

@@ -161,15 +161,10 @@ def rust_declaration(row):
 # Python: the forms of the calls.
 
 
-def python_form(row):
-    """Returns the types of the arguments of a call."""
-    types = [*parameters(row, "Python")]
-    return f'    "{row.name}": ({", ".join(types)}{"," if len(types) == 1 else ""}),\n'
-
-
 def python_forms(rows):
     """Returns what Python says of all calls but `version`, which it asks before it knows them."""
     rows = [it for it in rows if it.name != "version"]
     others = "".join(f'    "{it.name}": {RESULTS[it.gives][2]},\n' for it in rows if RESULTS[it.gives][2])
-    forms = "".join(map(python_form, rows))
+    given = [(it.name, [*parameters(it, "Python")]) for it in rows]
+    forms = "".join(f'    "{name}": ({", ".join(it)}{"," * (len(it) == 1)}),\n' for name, it in given)
     return f"_FORMS = {{\n{forms}}}\n_RETURNS: Dict[str, Any] = {{\n{others}}}\n"

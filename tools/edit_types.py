@@ -50,18 +50,6 @@ def refused_of(crate, edits):
     return refused_of(crate, edits[:half]) + refused_of(crate, edits[half:])
 
 
-def is_single(edit):
-    """Returns whether the edit changes one file in one place."""
-    return not edit.why and len(edit.texts) == 1
-
-
-def batches_of(crate, paths):
-    """Returns what is put through together, and the edits that cannot be applied, with the reason."""
-    edits = [Edit(crate, it, []) for it in paths]
-    wrong = [(it, it.why) for it in edits if it.why]
-    return [*apart([it for it in edits if is_single(it)])], [it for it in edits if not it.why and not is_single(it)], wrong
-
-
 def try_types(crates, names):
     """Puts the edits of these crates through the front end, or those that are named. Returns how many it takes, and how
     many it refuses."""
@@ -70,10 +58,12 @@ def try_types(crates, names):
     tasks, refused, count = [], [], 0
     for crate in crates:
         is_asked = lambda path: not names or {crate.name, name_of(crate, path)} & {*names}
-        paths = [it for it in edits_of(crate)[0] if is_asked(it)]
-        batches, alone, wrong = batches_of(crate, paths)
-        count, refused = count + len(paths), refused + wrong
-        tasks += [(crate, batch, None) for batch in batches] + [(crate, [it], it.texts) for it in alone]
+        edits = [Edit(crate, it, []) for it in edits_of(crate)[0] if is_asked(it)]
+        good = [it for it in edits if not it.why]
+        count, refused = count + len(edits), refused + [(it, it.why) for it in edits if it.why]
+        # (an edit of several files is put through alone)
+        tasks += [(crate, batch, None) for batch in apart([it for it in good if len(it.texts) == 1])]
+        tasks += [(crate, [it], it.texts) for it in good if len(it.texts) != 1]
 
     def run(task):
         crate, edits, texts = task

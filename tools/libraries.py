@@ -44,23 +44,13 @@ def is_usable(crate):
     return crate.is_built() and fits(crate)
 
 
-def seconds(crate):
-    return EACH + A_LINE * crate.count(rb"\n")
-
-
 def estimate(crates):
     """Returns about how many minutes the proofs take on these processors."""
-    names, chain = {it.name for it in crates}, {}
+    seconds, chain = {it.name: EACH + A_LINE * it.count(rb"\n") for it in crates}, {}
     for it in crates:
-        below = [chain[dep.name] for dep in it.below() if dep.name in names]
-        chain[it.name] = seconds(it) + max(below, default=0)
-    total = sum(map(seconds, crates)) / lanes()
-    return max(total, *chain.values()) / 60
-
-
-def minutes_of(crates):
-    """Returns in words how long these proofs take."""
-    return f"about {max(estimate(crates), 1):.0f} minutes on {lanes()} processors, once"
+        below = [chain[dep.name] for dep in it.below() if dep.name in seconds]
+        chain[it.name] = seconds[it.name] + max(below, default=0)
+    return max(sum(seconds.values()) / lanes(), *chain.values()) / 60
 
 
 def with_below(crates):
@@ -98,7 +88,8 @@ def take(crates):
 def prove_by_ci(crates, say, until=None):
     """Proves the libraries by rt ci, which keeps them. Returns whether the time was out, and the names of those that
     are not proved."""
-    say(f"proving {len(crates)} libraries by rt ci, which keeps them for all checkouts: {minutes_of(crates)}")
+    minutes = f"about {max(estimate(crates), 1):.0f} minutes on {lanes()} processors, once"
+    say(f"proving {len(crates)} libraries by rt ci, which keeps them for all checkouts: {minutes}")
     names = [it.name for it in crates]
     proof = Proof(names, say)
     try:

@@ -71,17 +71,13 @@ def written(kind, text):
     return "und" if is_bare else f"{FRONTS[kind]}-{text}".rstrip("-")
 
 
-def is_all_there(kind, text, answer):
-    """Returns whether all pieces of a text are in its normal form, but for true in the extension u."""
-    may_go = None if kind == "transform" else b"true"
-    pieces = [sorted(it for it in whole.lower().split(b"-") if it != may_go) for whole in (text, answer.encode())]
-    return pieces[0] == pieces[1]
-
-
 def may_be_parsed(kind, text, answer):
-    """Returns whether a locale with this block is parsed as the block alone: nothing is left out, and no other block begins."""
+    """Returns whether a locale with this block is parsed as the block alone: nothing is left out, but for true in the
+    extension u, and no other block begins."""
     if not answer.startswith("! "):
-        return is_all_there(kind, text, answer)
+        may_go = None if kind == "transform" else b"true"
+        pieces = [sorted(it for it in whole.lower().split(b"-") if it != may_go) for whole in (text, answer.encode())]
+        return pieces[0] == pieces[1]
     start = {"unicode": rb"(?i:u)-", "transform": rb"(?i:t)-"}.get(kind, b"")
     return re.fullmatch(start + rb"[A-Za-z0-9]{2,8}(-[A-Za-z0-9]{2,8})*", text) is not None
 
@@ -228,8 +224,7 @@ def extended(kind, text, now):
         words = [it for it in text.split(b"-") if it]
         if len(words) > MANY:
             raise Unsaid(LONG)
-        steps = [(b"add-attribute\t0\t" + it, "ok", None) for it in words]
-        return [*steps[:-1], *((step, wanted, now) for step, wanted, _ in steps[-1:])]
+        return [(b"add-attribute\t0\t" + it, "ok", now if at == len(words) else None) for at, it in enumerate(words, 1)]
     return [(parsed(kind, text, 1), "ok", None), (b"extend\t0\t1", "ok", now)]
 
 

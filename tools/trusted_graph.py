@@ -5,6 +5,7 @@ members of traits and `impl`s, as the `view` by which contracts see a type. The 
 import functools
 import itertools
 import os
+import pathlib
 import re
 
 import antt
@@ -87,17 +88,12 @@ class Sources:
         self.impl_of = {it.item: it for it in self.impls}
 
     def read_specs(self, crate):
-        top = f"{self.root}/crates/{crate}/specs"
-        for folder, _, names in sorted(os.walk(top)):
-            for name in sorted(names):
-                if not name.endswith(".antt"):
-                    continue
-                inner = os.path.relpath(f"{folder}/{name}", top)[: -len(".antt")].split("/")
-                inner = inner[:-1] if inner[-1] == "Lib" else inner
-                path = ("Rattle", crate, "specs", *inner)
-                module = antt.Module(path, os.path.relpath(f"{folder}/{name}", self.root), read(f"{folder}/{name}"))
-                antt.Reader(module)
-                self.modules[path] = module
+        top = pathlib.Path(os.path.abspath(self.root), "crates", crate, "specs")
+        for path in sorted(top.rglob("*.antt")):
+            inner = path.relative_to(top).with_suffix("").parts
+            name = ("Rattle", crate, "specs", *(inner[:-1] if inner[-1] == "Lib" else inner))
+            self.modules[name] = antt.Module(name, os.path.relpath(path, self.root), read(path))
+            antt.Reader(self.modules[name])
 
     def definitions(self):
         return [it for module in self.modules.values() for it in module.definitions]

@@ -214,8 +214,9 @@ class Pages:
                 wrong.append(f"{names}: {call} has a clause '{kind}': a call of the headline asks nothing of its callers")
             elif kind != ON_MEMORY and (call, name) not in self.shown:
                 wrong.append(f"{names}: the clause {name!r} of {call} is not shown: add a part 'clause {call} {name}'")
-        for it, name in types.prelude_names(self.sources):
-            wrong.append(f"{it.where}: {name} is a word of antt or of its prelude: name it otherwise")
+        named = [(it.where, name) for it in self.sources.definitions() for name in (it.name, *it.members)]
+        told = "{}: {} is a word of antt or of its prelude: name it otherwise".format
+        wrong += [told(*it) for it in named if it[1] in graph.antt.WORDS]
         return made, wrong
 
     def clauses(self):

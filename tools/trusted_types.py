@@ -3,7 +3,6 @@
 All of it is printed from the sources, so that no field, view, invariant or import can change unseen."""
 import re
 
-import antt
 import trusted_graph as graph
 import rattle as rt
 
@@ -85,8 +84,3 @@ def names_part(sources, closure, contracts):
     lines += ["", "Names that stand for others, by the files in which they do:", ""]
     lines += [f"- `{path}`: {', '.join(sorted(names))}" for path, names in sorted(renamed.items())]
     return "\n".join(lines)
-
-
-def prelude_names(sources):
-    """Returns the definitions, constructors and fields named as a word that antt or its prelude provides."""
-    return [(it, name) for it in sources.definitions() for name in (it.name, *it.members) if name in antt.WORDS]
