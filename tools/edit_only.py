@@ -15,7 +15,7 @@ import shutil
 import tempfile
 import types
 
-from edit_trial import GOAL, LIMIT, NAME, RESTS, STATUS, Edit, Trial, edits_at, goals_of, own_reason
+from edit_trial import GOAL, LIMIT, NAME, RESTS, STATUS, Trial, edits_at, goals_of, own_reason
 from kit import read, rt, rtlib
 from libraries import is_fresh
 
@@ -55,8 +55,8 @@ class OnlyTrial(Trial):
     ends = "only="
     is_alone = False
 
-    def flags_for(self, edits):
-        return [*self.flags, *(it for edit in edits for name in edit.functions for it in ("--only", name))]
+    def flags_for(self, functions):
+        return [*self.flags, *(it for name in functions for it in ("--only", name))]
 
     @contextlib.contextmanager
     def kept(self, what):
@@ -70,11 +70,6 @@ class OnlyTrial(Trial):
     def prepare(self):
         """Returns where the crate's functions stand."""
         return self.place(names_proved(self.crate))
-
-    def edit(self, path, there):
-        made = Edit(self.crate, path, there)
-        made.functions = (made.function,) if made.function else ()
-        return made
 
     def alone(self, edit):
         kind, text = self.twice(edit) if edit.functions else (None, "")
@@ -93,7 +88,7 @@ class OnlyTrial(Trial):
 
     def once(self, edit):
         """Returns by what the edit is refused in one check, the weakest of its functions, and what to say."""
-        flags = self.flags_for([edit])
+        flags = self.flags_for(edit.functions)
         ran = self.timed(edit.name, lambda kept: rt.checked(self.crate, edit.texts, flags, kept))
         said = ran.stdout.rstrip("\n").split("\n")
         bad = next((it for it in said if rt.unread(it, edit.texts)), "")

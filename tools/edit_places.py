@@ -94,7 +94,7 @@ def owners(head):
 
 def names_tried(crate_name, file, name, owner):
     """Returns patterns of the names that a check may give to this function, the likeliest first."""
-    inner = [it for it in file[len("src/") : -len(".rt")].split("/")]
+    inner = file[len("src/") : -len(".rt")].split("/")
     stem = "::".join([crate_name, *(it for it in inner if it not in ("lib", "main", "mod"))])
     if not owner:
         return [f"{stem}::{name}"]
@@ -113,10 +113,8 @@ def placed(crate, texts, names):
     for path, text in texts.items():
         file, text = os.path.relpath(path, crate.folder), text.encode()
         for start, body, end, name, owner in functions(text) if file.endswith(".rt") else ():
-            for pattern in names_tried(crate.name, file, name, owner):
-                known = [it for it in names if re.fullmatch(pattern, it)]
-                if known:
-                    break
+            tried = names_tried(crate.name, file, name, owner)
+            known = next(filter(None, ([it for it in names if re.fullmatch(one, it)] for one in tried)), ())
             if len(known) == 1 and not ALONE.search(text[:start]):
                 found.append((file, body, end, known[0]))
     all_names = [it[3] for it in found]

@@ -60,7 +60,7 @@ class Edit:
     """An edit, and the function in whose body it stands, where that is one."""
 
     def __init__(self, crate, path, there):
-        self.path, self.name, self.function = path, name_of(crate, path), None
+        self.path, self.name, self.function, self.functions = path, name_of(crate, path), None, ()
         self.texts, self.why = rt.read_edit(path, crate.folder)
         if self.why or len(self.texts) != 1:
             return
@@ -71,7 +71,7 @@ class Edit:
         self.end, self.new = len(old) - tail, new[self.start : len(new) - tail]
         for file, body, end, name in there:
             if file == self.file and body < self.start and self.end < end:
-                self.function = name
+                self.function, self.functions = name, (name,)
                 break
 
 
@@ -175,14 +175,14 @@ class Trial:
     def edit(self, path, there):
         return Edit(self.crate, path, there)
 
-    def flags_for(self, edits):
-        """Returns the flags of a check of these edits."""
+    def flags_for(self, functions):
+        """Returns the flags of a check of edits in these functions."""
         return self.flags
 
     def batch(self, edits):
         """Checks these edits at once, and returns the verdict on each, or None where that check
         says nothing."""
-        texts, flags = together(self.crate, edits), self.flags_for(edits)
+        texts, flags = together(self.crate, edits), self.flags_for([it.function for it in edits])
         check = lambda kept: rt.checked(self.crate, texts, flags, kept)
         ran = self.timed(f"a batch of {len(edits)}", check)
         verdicts, stray = self.judged(edits, texts, ran)

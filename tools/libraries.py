@@ -24,12 +24,8 @@ def is_fresh(crate):
     """Returns whether the crate's library came here after its text and that of the libraries below,
     as is what the gate left; or else is of that text, which takes long to tell. A gate links what its
     toolchain kept, if it keeps anything, so the folder's time tells when it came, and not a file's."""
-    if not fits(crate):
-        return False
     came = os.path.getmtime(crate.rlib) if os.path.isfile(f"{crate.rlib}/format") else 0
-    if came > max(map(os.path.getmtime, texts_of(crate))):
-        return True
-    return crate.is_built()
+    return fits(crate) and (came > max(map(os.path.getmtime, texts_of(crate))) or crate.is_built())
 
 
 def fits(crate):

@@ -49,8 +49,7 @@ class NamedTrial(OnlyTrial):
         super().prepare()  # (which notes what calls what)
         if is_fresh(self.crate):
             return []
-        every = {name: None for names in self.functions.values() for name in names}
-        flags = [*self.flags, *(it for name in every for it in ("--only", name))]
+        flags = self.flags_for(dict.fromkeys(name for names in self.functions.values() for name in names))
         ran = self.timed("its functions as they stand", lambda kept: rt.checked(self.crate, {}, flags, kept))
         return None if ran.returncode or rtlib.STALE.search(ran.stdout) else []
 

@@ -30,6 +30,8 @@ PARTS = {
     "region": ("[A-Za-z]{2}|[0-9]{3}", REFUSED_SUBTAG, str.upper),
 }
 SLOTS = 4
+# How table tests name an order.
+ORDERS = {"Less": "-1", "Equal": "0", "Greater": "1"}
 WORDS = ["", "en", "EN", "gsw", "abcd", "Und", "sinhalese", "e", "latn", "LATN", "Arab", "US", "gb", "419", "41", "4190"]
 WORDS += ["posix", "POSIX", "1994", "199a", "a199", "macos", "valencia", "fonipa", "abcdefghi", "rozaj", "biske", "x"]
 WORDS += ["en-US", "-", "en-", "!!", "\N{LATIN SMALL LETTER E WITH ACUTE}a", "foo", "FOO", "attr", "fo", "toolongword"]
@@ -215,13 +217,12 @@ def rows_of(crate):
 
 def rows_wanted():
     """The pairs of crates/test_locale_rows whose order the vectors have, with order and equality."""
-    orders = {"Less": "-1", "Equal": "0", "Greater": "1"}
     given, wanted = [], []
     for call, texts, answer in rows_of("test_locale_rows"):
         order, is_same, *_ = [*answer.split(" "), ""]
-        if call == "two-locale" and len(texts) == 2 and order in orders:
+        if call == "two-locale" and len(texts) == 2 and order in ORDERS:
             given.append(tuple(texts))
-            wanted.append(f"{orders[order]} {int(is_same == 'true')}")
+            wanted.append(f"{ORDERS[order]} {int(is_same == 'true')}")
     return given, wanted
 
 

@@ -7,7 +7,7 @@ locale: only from the row."""
 import functools
 import re
 
-from object_model import REFUSED_EXTENSION, REFUSED_SUBTAG, rows_of
+from object_model import ORDERS, REFUSED_EXTENSION, REFUSED_SUBTAG, rows_of
 
 # More attributes than this are not added one by one.
 MANY = 64
@@ -31,7 +31,6 @@ LEAVES = {
     "unicode-keywords": b"clear-attributes\t0", "unicode-attributes": b"clear-keywords\t0",
     "transform-fields": b"transform-language\t0\t", "transform-lang": b"clear-fields\t0",
 }
-ORDERS = {"Less": "-1", "Equal": "0", "Greater": "1"}
 STOPS = "is read up to what does not fit: a locale is parsed to its end"
 ALONE = "is asked of a part by itself: a length hint, an item, emptiness, or its own text against bytes"
 MADE = "is made of parts in a form that no call takes: without subtags, with the subtag true, or in upper case"
