@@ -106,9 +106,6 @@ def told():
 @functools.lru_cache(maxsize=None)
 def by_name():
     """Returns the address of each name that only one file defines."""
-    found = {}
-    for it in files().values():
-        for block in it.blocks:
-            if block.name:
-                found.setdefault(block.name, set()).add(f"{it.page()}#{block.name}")
-    return {name: next(iter(places)) for name, places in found.items() if len(places) == 1}
+    named = {(block.name, f"{it.page()}#{block.name}") for it in files().values() for block in it.blocks if block.name}
+    count = collections.Counter(name for name, _ in named)
+    return {name: place for name, place in named if count[name] == 1}

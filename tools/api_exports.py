@@ -15,9 +15,7 @@ def laws(sources):
 
 def cited(sources):
     """Returns the definitions that contracts of users cite, and all that these rest on: of clauses, members and views."""
-    found = []
-    for it, wanted in graph.public(sources):
-        found += it.cites(wanted) if isinstance(it, graph.Contract) else sources.cites(it)
+    found = [one for it, _ in graph.public(sources) for one in (it.cites() if isinstance(it, graph.Contract) else sources.cites(it))]
     for item in graph.passed_on(sources, CORE):
         kind = sources.struct_of(item) if item.kind in ("struct", "enum", "type") else None
         seen = [it for it in sources.cites(kind) if it.kind == "ghost"] if kind else []
@@ -34,7 +32,6 @@ def faults():
     there = {path for name, path in lib.modules.items() if name in lib.passed}
     modules = dict.fromkeys(it.module.name for it in cited(sources))
     told = [f"{it.where}: the law {it.name} is not passed on by {CORE}: name it in a module of `laws`" for it in wanted if it not in passed]
-    for name in modules:
-        if name not in there and name[1] != CORE:
-            told.append(f"{lib.path}: no `pub use {'.'.join(name)}`, on whose definitions a contract rests")
+    lost = [".".join(it) for it in modules if it not in there and it[1] != CORE]
+    told += [f"{lib.path}: no `pub use {it}`, on whose definitions a contract rests" for it in lost]
     return told, len(wanted) + len(modules)

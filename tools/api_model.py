@@ -131,28 +131,24 @@ def unworded():
 def unplaced():
     """Returns the paths of items of which nobody has said whether the Rust crate has them."""
     found = []
-    for module in model():
+    for module in [it for it in model() if it.short != KEYS_BY_NAME]:
         known = api_words.IN_RUST.get(module.short, "").split()
-        for entry in module.entries:
-            name = entry.path.rpartition("::")[2]
-            is_same = entry.rust and entry.rust.rpartition("::")[2] == name
-            is_told = entry.see or name in known or f"{module.short}::{name}" in api_words.OWN
-            if is_same and not is_told and module.short != KEYS_BY_NAME:
-                found.append(f"{module.short}::{name}")
+        same = [it for it in module.entries if it.rust and it.rust.rpartition("::")[2] == it.name and not it.see]
+        paths = [f"{module.short}::{it.name}" for it in same if it.name not in known]
+        found += [it for it in paths if it not in api_words.OWN]
     return found
 
 
 def enough(item):
     """Returns when the call surely allocates nothing."""
-    found = []
+    found = {}
     for clause in item.stated:
         ends = re.match(r"(?:(.*) → )?(?:IsOk result|IsOkAnd result IsLent)$", clause.fact)
         if ends and clause.kind == "ensures":
-            premise = ends.group(1) or ""
-            found.append(fits(api_words.ENOUGH, premise) or f"`{premise}`")
+            found[fits(api_words.ENOUGH, ends[1] or "") or f"`{ends[1]}`"] = True
         if re.match(api_words.ALWAYS, clause.fact):
-            found.append("always")
-    return list(dict.fromkeys(found))
+            found["always"] = True
+    return [*found]
 
 
 def reader(home, made):
@@ -173,13 +169,11 @@ def relation(item):
 
 def kinds():
     """Returns each alias of a subtag with the refusal of its kind."""
-    it, found = crate("iloc_subtags"), {}
-    for trait, _, base, item in it.given:
-        if trait.startswith("WordKind<"):
-            refusal = re.search(r"ParseError::(\w+)\n", "\n".join(item.lines)).group(1)
-            found[base] = refusal
+    it = crate("iloc_subtags")
+    kinds = [(base, item) for trait, _, base, item in it.given if trait.startswith("WordKind<")]
+    found = {base: re.search(r"ParseError::(\w+)\n", item.text)[1] for base, item in kinds}
     words = [(alias, re.match(r"WordOf<(\w+)", whole)) for whole, alias in it.aliases.items()]
-    return {alias: found[kind.group(1)] for alias, kind in words if kind}
+    return {alias: found[kind[1]] for alias, kind in words if kind}
 
 
 def by_refusal():
@@ -278,20 +272,11 @@ def call_of(item, owner, home, rust, made):
 
 
 @functools.lru_cache(maxsize=None)
-def exported():
-    """Returns the names of the public crate's items, by crate and name there."""
-    return {(home, made) for _, _, uses in modules() for home, made, _ in uses}
-
-
-@functools.lru_cache(maxsize=None)
 def short_forms(home):
     """Returns what the aliases of tuples stand for that are no public items."""
-    found = {}
-    for name, item in crate(home).items.items():
-        alias = re.match(r"pub type (\w+) = (\(.*\))$", item.signature)
-        if alias and (home, name) not in exported():
-            found[alias.group(1)] = alias.group(2)
-    return found
+    exported = {made for _, _, uses in modules() for it, made, _ in uses if it == home}
+    aliases = [re.match(r"pub type (\w+) = (\(.*\))$", it.signature) for it in crate(home).items.values()]
+    return {it[1]: it[2] for it in aliases if it and it[1] not in exported}
 
 
 def expanded(signature, home):

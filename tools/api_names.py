@@ -64,9 +64,7 @@ def public(name, near):
     if at := addresses().get(f"{owner}::{name}", {}).get(module):
         return at
     places = addresses().get(name, {})
-    if module in places:
-        return places[module]
-    return next(iter(places.values())) if len(places) == 1 else ""
+    return places.get(module) or (next(iter(places.values())) if len(places) == 1 else "")
 
 
 class Sources:

@@ -46,13 +46,9 @@ def of_words():
 def items():
     """Returns what search finds: title, address, what is said, its kind, and what else is sought in."""
     found = [(f"{it.short} (module)", module_file(it.path), it.comment, MODULE, "") for it in model()]
-    found += [it for entry in shown() for it in of_entry(entry)]
-    found += of_words()
-    for it in files().values():
-        for block in it.blocks:
-            if block.name:
-                where = f"{it.crate}: {it.module}"
-                found.append((f"{block.name} (definition)", f"{it.page()}#{block.name}", where, DEFINITION, ""))
+    found += [it for entry in shown() for it in of_entry(entry)] + [*of_words()]
+    named = [(it, block.name) for it in files().values() for block in it.blocks if block.name]
+    found += [(f"{name} (definition)", f"{it.page()}#{name}", f"{it.crate}: {it.module}", DEFINITION, "") for it, name in named]
     return [[title, at, said.replace("`", ""), kind, more.replace("`", "")] for title, at, said, kind, more in found]
 
 

@@ -43,11 +43,8 @@ class Crate:
 
     def calls(self, name):
         """Returns the public calls of the type, or of the kind that the alias names."""
-        found = []
-        for whole, base, item in self.impls:
-            if name in (self.aliases.get(whole), base) and name == self.aliases.get(whole, base):
-                found += [it for it in item.inner if re.match(r"pub (const )?fn ", it.signature)]
-        return found
+        own = [item for whole, base, item in self.impls if name == self.aliases.get(whole, base)]
+        return [it for item in own for it in item.inner if re.match(r"pub (const )?fn ", it.signature)]
 
 
 @functools.lru_cache(maxsize=None)
