@@ -2,6 +2,7 @@
 
 The programs that use the public crate come first, then the programs of rows and the tests. What a call
 is made on is told by the parameters and the `let`s of the function, and by the fields of structs."""
+import collections
 import functools
 import glob
 import os
@@ -31,15 +32,11 @@ BORROWED = re.compile(r"let (?:mut )?(\w+) = &(?:mut )?(\w+)((?:\.\w+)*);")
 
 def files():
     """Returns the files that the gate runs: programs of users, programs of rows, tests; then the library's own."""
-    inner, found = set(libraries()), []
-    for name in sorted(os.listdir(f"{ROOT}/crates")):
-        if name not in inner or name == CORE:
-            found += glob.glob(f"{ROOT}/crates/{name}/src/*.rt")
-    paths = [os.path.relpath(it, ROOT) for it in found]
-    paths = [it for it in paths if not it.startswith(f"crates/{CORE}/") or it.endswith("tests.rt")]
-    first = sorted(paths, key=lambda it: (f"use {CORE}::" not in read(it), not it.startswith(FIRST), it))
-    within = [glob.glob(f"{ROOT}/crates/{name}/src/*.rt") for name in libraries() if name != CORE]
-    return first + sorted(os.path.relpath(it, ROOT) for found in within for it in found)
+    paths = sorted(os.path.relpath(it, ROOT) for it in glob.glob(f"{ROOT}/crates/*/src/*.rt"))
+    within = [it for it in paths if it.split("/")[1] in libraries()]
+    own = [it for it in within if not it.startswith(f"crates/{CORE}/")]
+    first = [it for it in paths if it not in within or it.startswith(f"crates/{CORE}/") and it.endswith("tests.rt")]
+    return sorted(first, key=lambda it: (f"use {CORE}::" not in read(it), not it.startswith(FIRST), it)) + own
 
 
 @functools.lru_cache(maxsize=None)
@@ -56,11 +53,9 @@ def calls_of(entry):
 @functools.lru_cache(maxsize=None)
 def only_ones():
     """Returns the calls whose names no other type has."""
-    found = {}
-    for entry in by_home().values():
-        for call in entry.calls:
-            found.setdefault(call.name, []).append(call.key)
-    return {name: keys[0] for name, keys in found.items() if len(keys) == 1}
+    calls = [call for entry in by_home().values() for call in entry.calls]
+    count = collections.Counter(it.name for it in calls)
+    return {it.name: it.key for it in calls if count[it.name] == 1}
 
 
 def names_of(source):
@@ -236,9 +231,8 @@ def examples():
     """Returns for each call's key the path, the number and the text of a statement that makes it. A whole statement
     comes before a part of one. What is told by the name alone counts only if no line is told by the type."""
     found, guessed = {}, {}
-    for path in files():
-        for is_typed, key, number, line in calls_in(path):
-            (found if is_typed else guessed).setdefault(key, []).append((path, number, line))
+    for path, (is_typed, key, number, line) in [(path, it) for path in files() for it in calls_in(path)]:
+        (found if is_typed else guessed).setdefault(key, []).append((path, number, line))
     return {key: best(lines) for key, lines in {**guessed, **found}.items()}
 
 
