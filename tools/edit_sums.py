@@ -1,11 +1,10 @@
 """Sums that tell whether a verdict on a crate's edits still holds, and the record of verdicts."""
-import contextlib
 import fcntl
 import hashlib
 import os
 import re
 
-from common import rows_of
+from common import rows_of, write
 from edit_places import functions
 from kit import LOGIC, ROOT, read, rtlib
 from sources import PROVED_PARTS, files_of
@@ -98,19 +97,11 @@ def recorded():
     return {row[0]: tuple(row[1:]) for row in rows if len(row) == 3}
 
 
-@contextlib.contextmanager
-def alone():
-    """Keeps other processes from writing the record."""
+def record(rows, gone=()):
+    """Puts verdicts into the record, by the names of their mutants, and takes out those that are gone. Meanwhile no other
+    process writes it."""
     with open(f"{ROOT}/out/edits.lock", "w") as lock:
         fcntl.flock(lock, fcntl.LOCK_EX)
-        yield
-
-
-def record(rows, gone=()):
-    """Puts verdicts into the record, by the names of their mutants, and takes out those that are gone."""
-    with alone():
         every = {name: row for name, row in {**recorded(), **rows}.items() if row and name not in gone}
-        with open(f"{RECORD}.new", "w") as it:
-            it.write(ABOUT)
-            it.writelines(" ".join([name, *row]) + "\n" for name, row in sorted(every.items()))
+        write(f"{RECORD}.new", ABOUT + "".join(f"{' '.join([name, *row])}\n" for name, row in sorted(every.items())))
         os.replace(f"{RECORD}.new", RECORD)
