@@ -149,9 +149,7 @@ def pages():
 
 def broken_links(made):
     """Returns each link within these pages that leads to no page or to no heading."""
-    heading = re.compile(r"^#+ (.*)$", re.M)
-    headings = {path: set(map(slug, heading.findall(text))) for path, text in made.items()}
-    faults = []
+    headings, faults = {path: set(map(slug, re.findall(r"(?m)^#+ (.*)$", text))) for path, text in made.items()}, []
     for path, text in made.items():
         folder = path.rpartition("/")[0]
         for target, place in re.findall(r"\]\(([\w./]*\.md)?#?([\w-]*)\)", text):
@@ -177,30 +175,24 @@ def allocator_table():
     rows = [f"| {' | '.join(heads)} |", "|---|---|---|---|"]
     for module in model():
         for entry in module.entries:
-            kinds = {"may": [], "keeps": [], "own": []}
-            for call in entry.calls:
-                if kind := allocator_kind(call):
-                    kinds[kind].append(f"`{call.name}`")
-            if any(kinds.values()) and not entry.see:
+            kinds = [[f"`{it.name}`" for it in entry.calls if allocator_kind(it) == kind] for kind in ("may", "keeps", "own")]
+            if any(kinds) and not entry.see:
                 name = entry.name if entry.kind != "fn" else module.short
                 where = "" if "::" not in module.short or entry.kind == "fn" else f" of `{module.short}`"
-                rows.append(f"| `{name}`{where} | {' | '.join(', '.join(it) for it in kinds.values())} |")
+                rows.append(f"| `{name}`{where} | {' | '.join(map(', '.join, kinds))} |")
     return "\n".join(rows) + "\n\n`clone` never takes the allocator: write `x.clone()?`."
-
-
-def change(call):
-    """Returns what a Rust program changes at the call, but for the allocator and `?` (allocator_table)."""
-    return api_words.CHANGES.get(f"{call.owner}::{call.name}", "")
 
 
 def rust_row(entry):
     """Returns the row of a type: what changes, and what has another name. None if all is as it is."""
     changed, named = {}, []
     for call in entry.calls:
+        # (what changes but for the allocator and `?`, which allocator_table says)
+        change = api_words.CHANGES.get(f"{call.owner}::{call.name}")
         if call.rust and call.rust.rpartition("::")[2] != call.name:
             named.append(f"`{without_prefix(call.rust, entry.rust + '::')}`: `{call.name}`")
-        elif call.rust and change(call):
-            changed.setdefault(change(call), []).append(f"`{call.name}`")
+        elif call.rust and change:
+            changed.setdefault(change, []).append(f"`{call.name}`")
     said = [f"{', '.join(names)}: {how}" for how, names in changed.items()]
     here, there = f"`{short(entry.path)}`", api_words.BASES.get(entry.name) or f"`{short(entry.rust)}`"
     return f"| {there} | {here} | {'; '.join(named + said)} |" if said or named or there != here else None

@@ -228,6 +228,7 @@ class Pages:
 
 
 def between(definitions, first, last):
+    """Returns the definitions from the first to the last of these names, or none if one is not there."""
     names = [it.name for it in definitions]
     return definitions[names.index(first) : names.index(last) + 1] if {first, last} <= set(names) else []
 
