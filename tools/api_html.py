@@ -55,17 +55,13 @@ def meant(item, word):
 def coloured(text, address, bound=(), start=0):
     """Returns a fact or a line of a definition with its signs marked, and its names linked but for those that are
     bound, by their places. The line begins at `start`."""
-    out, at = [], 0
+    out, at = "", 0
+    signs = lambda text: SIGNS.sub(lambda it: tag("i", it[0], kind="s"), esc(text))
     for found in TOKEN.finditer(text):
-        is_bound = start + found.start() in bound
-        out.append(signs(text[at : found.start()]))
-        out.append(leads("" if is_bound else address(found.group(0)), esc(found.group(0))))
+        target = "" if start + found.start() in bound else address(found[0])
+        out += signs(text[at : found.start()]) + leads(target, esc(found[0]))
         at = found.end()
-    return "".join(out + [signs(text[at:])])
-
-
-def signs(text):
-    return SIGNS.sub(lambda it: tag("i", it.group(0), kind="s"), esc(text))
+    return out + signs(text[at:])
 
 
 def clause_html(clause, item):
@@ -86,10 +82,8 @@ def contract_html(item):
 
 def tried_html(path):
     """Returns rows that the gate runs of a reader."""
-    rows = []
-    for file, number, given, answer in tried(short(path)):
-        where = tag("span", source(file, number), kind="rust")
-        rows.append(f"{code(given)} is answered {code(answer)} {where}")
+    every = [(tag("span", source(file, number), kind="rust"), *row) for file, number, *row in tried(short(path))]
+    rows = [f"{code(given)} is answered {code(answer)} {where}" for where, given, answer in every]
     return items(rows) + marked(remark(short(path))) if rows else ""
 
 
@@ -150,19 +144,16 @@ def folded(head, rows):
 
 def given_html(entry):
     """Returns the traits of a type, each with what is special for the type."""
-    homes, rows = trait_homes(), []
-    for it in entry.given:
-        link = leads(entry_at(homes[it.trait]) if it.trait in homes else "", code(it.trait))
-        rows.append(link + (f": {marked(it.said, entry.path)}" if it.said else ""))
+    homes = trait_homes()
+    link = lambda trait: leads(entry_at(homes[trait]) if trait in homes else "", code(trait))
+    rows = [link(it.trait) + (f": {marked(it.said, entry.path)}" if it.said else "") for it in entry.given]
     return folded(f"Traits ({len(rows)})", rows)
 
 
 def ghosts_html(entry):
     """Returns the members of a trait that contracts speak of."""
-    inner = entry.item.inner if entry.kind == "trait" else []
-    first = [(it, " ".join(" ".join(it.lines).split())) for it in inner]
-    ghosts = [(it, text) for it, text in first if re.match(r"ghost (?!use)", text)]
-    said = [f"{code(text)} {marked(it.sentence(), entry.path)}" for it, text in ghosts]
+    ghosts = [it for it in entry.item.inner if it.kind == "ghost"] if entry.kind == "trait" else []
+    said = [f"{code(' '.join(it.text.split()))} {marked(it.sentence(), entry.path)}" for it in ghosts]
     return folded("What contracts say of it", said)
 
 
