@@ -1,6 +1,7 @@
 """Sums of sources, which tell whether a program that was built of them is still of the present text."""
 import hashlib
 import os
+import pathlib
 import shutil
 
 from common import ROOT, below, crates_of
@@ -19,8 +20,7 @@ def files_of(name, parts):
 def sum_of(path):
     """Returns the sum of a file, or no sum if it cannot be read."""
     try:
-        with open(path, "rb") as it:
-            return hashlib.sha256(it.read()).hexdigest()
+        return hashlib.sha256(pathlib.Path(path).read_bytes()).hexdigest()
     except OSError:
         return ""
 
@@ -39,8 +39,7 @@ def sum_of_sources(names, parts, *more):
 def is_current(program, sources):
     """Returns whether the program is the one that was kept for these sources."""
     try:
-        with open(f"{program}.stamp", encoding="ascii") as it:
-            return it.read() == f"{sources} {sum_of(program)}\n"
+        return pathlib.Path(f"{program}.stamp").read_text(encoding="ascii") == f"{sources} {sum_of(program)}\n"
     except (OSError, ValueError):
         return False
 
@@ -53,8 +52,7 @@ def keep(made, program, sources):
         shutil.copyfile(made, part)
         os.chmod(part, 0o755)
         os.replace(part, program)
-        with open(part, "w", encoding="ascii") as it:
-            it.write(f"{sources} {sum_of(program)}\n")
+        pathlib.Path(part).write_text(f"{sources} {sum_of(program)}\n", encoding="ascii")
         os.replace(part, f"{program}.stamp")
     finally:
         if os.path.exists(part):
