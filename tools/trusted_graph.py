@@ -22,7 +22,7 @@ class Unknown(Exception):
 
 
 def depths(text):
-    """Returns how many angle brackets are open behind each sign of a text; that of an arrow is none."""
+    """Returns how many angle brackets are open behind each sign of a text; an arrow has none."""
     return [*itertools.accumulate({"<": 1, ">": -1}.get(it, 0) for it in re.sub("[-=]>", "  ", text))]
 
 
