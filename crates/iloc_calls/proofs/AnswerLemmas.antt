@@ -187,7 +187,7 @@ module _ {X : Type 0} (mode : Mode) (t other : Text) (before after : ℤ) (text_
 
 -- Two values mean the same where they are one value.
 
-number_of_same : (P : Type 0) (same : Bool) → IsTrue same ↔ P →
+pub number_of_same : (P : Type 0) (same : Bool) → IsTrue same ↔ P →
     ((from_bool same ≡ 1) × P) ⊎ ((from_bool same ≡ 0) × ¬ P)
 number_of_same P true e = inl (refl, e.0 refl)
 number_of_same P false e = inr (refl, λ m. true≢false (sym (e.1 m)))

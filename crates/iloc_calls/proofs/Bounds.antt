@@ -1,6 +1,6 @@
 -- How long a normal text is: as an identifier's text, no longer than a locale's, at most four bytes longer
 -- than a data locale's.
-use Rattle.std.proofs.Common.{◌≡◌, ℕ, ◌+◌, ◌≤◌, List, length, refl, ap, arith}
+use Rattle.std.proofs.Common.{◌≡◌, ℕ, ◌+◌, ◌≤◌, length, refl, ap, arith}
 use Rattle.std.proofs.lemmas.Bool.Decides.{nat_tests}
 use Rattle.iloc_spec_grammar.specs.Syntax.{Text, languages, pieces}
 use Rattle.iloc_spec_grammar.specs.Meaning.{IdentifierMeans, Means}

@@ -1,5 +1,5 @@
 -- The refusal of a fault is the status of the text.
-use Rattle.std.proofs.Common.{ℕ, List}
+use Rattle.std.proofs.Common.{ℕ}
 use Rattle.iloc_subtags.specs.declared.parse_error.ParseError.{ParseError}
 use Rattle.iloc_subtags.specs.declared.parse_error.ParseError.TheVariants as refusals
 use Rattle.iloc_normalize.specs.Answered.{HasRefusal}

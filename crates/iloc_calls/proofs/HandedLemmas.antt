@@ -1,5 +1,5 @@
 -- What is handed out and what is refused, of a text that is told at once.
-use Rattle.std.proofs.Common.{◌≡◌, ◌<◌, ℕ, List, length, length-take-le, refl, sym, ap, ◌∙◌, arith}
+use Rattle.std.proofs.Common.{◌≡◌, ◌<◌, ℕ, length, length-take-le, refl, sym, ap, ◌∙◌, arith}
 use Rattle.std.proofs.lemmas.Bool.Decides.{nat_tests}
 use Rattle.iloc_spec_grammar.specs.Values.{identifier_text}
 use Rattle.iloc_writeable.specs.Hints.{saturated}
@@ -8,10 +8,8 @@ use Rattle.iloc_pieces.specs.declared.plain.Plain.{Plain}
 use Rattle.iloc_normalize.proofs.PlainAnswers.{plain_normal}
 use Rattle.iloc_subtags.specs.declared.parse_error.ParseError.{ParseError}
 use Rattle.iloc_subtags.specs.declared.parse_error.ParseError.TheVariants as refusals
-use Rattle.iloc_normalize.specs.Answered.{HasRefusal}
 use Rattle.iloc_normalize.specs.declared.Mode.{Mode}
-use Rattle.iloc_calls.specs.Answers.{HandsOut, JudgedAs, NormalizesTo}
-use Rattle.iloc_calls.specs.Numbers.{status_of}
+use Rattle.iloc_calls.specs.Answers.{HandsOut, NormalizesTo}
 use Rattle.iloc_calls.specs.declared.status.Status.{Status}
 use Rattle.iloc_calls.specs.declared.status.Status.TheVariants.{Done, InvalidLanguage, InvalidSubtag}
 use Rattle.iloc_calls.specs.declared.status.Status.TheVariants.{InvalidExtension, DuplicatedExtension}
@@ -51,12 +49,3 @@ withheld mode t p before needed h few is =
       plain_normal mode t p h,
       (less, is ∙ sym same ∙ ap saturated (sym long), refl),
     )
-
--- a text that is refused has the status of its fault
-pub refused_judged : (mode : Mode) (t : Text) (e : ParseError) → HasRefusal mode t e →
-    JudgedAs mode t (status_of e)
-refused_judged mode t refusals.InvalidLanguage h = h
-refused_judged mode t refusals.InvalidSubtag h = h
-refused_judged mode t refusals.InvalidExtension h = h
-refused_judged mode t refusals.DuplicatedExtension h = h
-refused_judged mode t refusals.OutOfMemory h = absurd h

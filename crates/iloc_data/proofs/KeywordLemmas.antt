@@ -1,5 +1,5 @@
 -- What a keyword that is there or not reads as.
-use Rattle.std.proofs.Common.{◌≡◌, ℕ, true, List, Option, Some, None, ap, is_some, is_none, ◌||◌}
+use Rattle.std.proofs.Common.{◌≡◌, true, List, Option, Some, None, ap, is_some, is_none, ◌||◌}
 use Rattle.std.proofs.Common.{option_and_then}
 use Rattle.std.specs.FinMap.{find}
 use Rattle.iloc_spec_grammar.specs.Syntax.{Text, word_cmp}

@@ -19,16 +19,7 @@ use Rattle.iloc_langid.specs.Parents.{is_unknown_language, after_steps}
 use Rattle.iloc_data.specs.DataValue.{unknown_data}
 use Rattle.iloc_data.specs.DataParents.{region_of, with_whole_region, data_parent, data_part_count}
 use Rattle.iloc_data.specs.DataParents.{IsUnknownAfter, LacksLastDataPart}
-
-of_some : {X : Type 0} {x y : X} → Some x ≡ Some y → x ≡ y
-of_some e = cc
-
-pub known_language : (w : Text) → (w ≡ codes "und" → false ≡ true) → is_unknown_language w ≡ false
-known_language w h = by (is_unknown_language w) refl
-  where
-    by : (b : Bool) → is_unknown_language w ≡ b → is_unknown_language w ≡ false
-    by true e = absurd (true≢false (sym (h (same_is w (codes "und") e))))
-    by false e = e
+use Rattle.iloc_langid.proofs.ParentLemmas.{known_language, of_some}
 
 -- a region is the same as a whole
 whole_of_region : (r : Option Text) → option_map (λ s. s.region) (option_map whole_region r) ≡ r

@@ -1,7 +1,6 @@
 -- From the small locale that was read, or its refusal, to what the reader of data locales answers.
 use Rattle.std.specs.Prelude.{⊤}
-use Rattle.std.proofs.Common.{◌≡◌, ℕ, List, Option, Some, None, sym, ap, ◌∙◌, Result, Ok, Err, IfOk}
-use Rattle.std.proofs.Common.{option_map}
+use Rattle.std.proofs.Common.{◌≡◌, Option, Some, None, sym, ap, ◌∙◌, Result, Ok, Err, IfOk}
 use Rattle.iloc_spec_grammar.specs.Syntax.{Text, languages, two_or_three}
 use Rattle.iloc_spec_grammar.specs.Meaning as meaning
 use Rattle.iloc_spec_grammar.specs.Meaning.{Means, Fault}
@@ -26,10 +25,7 @@ use Rattle.iloc_subtags.specs.Judging.{Accepts, Refuses, RunsOutOnlyIf}
 use Rattle.iloc_subtags.proofs.Judged.{Judges, accepts, refuses}
 use Rattle.iloc_data.specs.DataValue.{value_of}
 use Rattle.iloc_data.specs.Reads.{DataTextReads}
-
--- the parts of the small locale, with its region part
-abbrev of_part : LocaleParts → Option (Option Subdivision) → Option parts.DataLocale
-of_part p o = option_map (λ part. made_of p.0 p.1 part p.3) o
+use Rattle.iloc_data_parts.proofs.ReadLemmas.{of_part}
 
 pub accepted : (t : Text) (p : LocaleParts) (part : Option Subdivision) (d : parts.DataLocale) →
     SmallLocaleTextReads t (Ok p) → small_part p.2 p.4 ≡ Some part → d ≡ made_of p.0 p.1 part p.3 →

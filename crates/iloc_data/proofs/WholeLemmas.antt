@@ -1,5 +1,5 @@
 -- Words that name the whole of a region, or nothing.
-use Rattle.std.proofs.Common.{◌≡◌, ℕ, ◌-◌, ◌≤◌, Bool, true, false, List, [], ◌∷◌, length, take, drop, Option}
+use Rattle.std.proofs.Common.{◌≡◌, ℕ, ◌-◌, ◌≤◌, Bool, true, false, [], ◌∷◌, length, take, drop, Option}
 use Rattle.std.proofs.Common.{Some, None, refl, sym, ap, subst, ◌∙◌, arith, Err, nat_eq}
 use Rattle.std.specs.Prelude.{IfSome, if◌then◌else◌, option_and_then, ok_or}
 use Rattle.std.specs.Result.{result_ok}

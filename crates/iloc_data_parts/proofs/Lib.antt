@@ -1,3 +1,3 @@
 pub mod RegionLemmas
-mod ReadLemmas
-mod PartLemmas
+pub mod ReadLemmas
+pub mod PartLemmas

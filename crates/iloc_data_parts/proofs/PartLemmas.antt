@@ -1,5 +1,5 @@
 -- The subdivision that is printed of a region part.
-use Rattle.std.proofs.Common.{◌≡◌, ℕ, Bool, true, false, List, [], ◌∷◌, Option, Some, None, sym, ap, ◌∙◌}
+use Rattle.std.proofs.Common.{◌≡◌, Bool, true, false, [], ◌∷◌, Option, Some, None, sym, ap, ◌∙◌}
 use Rattle.std.proofs.Common.{option_map, option_and_then, Ok}
 use Rattle.std.specs.Prelude.{if◌then◌else◌}
 use Rattle.std.specs.Result.{result_ok}
@@ -11,13 +11,13 @@ use Rattle.iloc_spec_parts.specs.DataLocales.{is_whole, made_of, named_subdivisi
 use Rattle.iloc_spec_parts.specs.DataLocales.{subdivision_value}
 use Rattle.iloc_data_parts.proofs.RegionLemmas.{printed_value}
 
-keyword_of : (s : Subdivision) (w : Text) (o : Option Subdivision) (b : Bool) → o ≡ Some s →
+pub keyword_of : (s : Subdivision) (w : Text) (o : Option Subdivision) (b : Bool) → o ≡ Some s →
     is_whole s ≡ b →
     option_and_then (λ s. if is_whole s then None else Some w) o ≡ (if b then None else Some w)
 keyword_of s w o b h e = ap (λ o. option_and_then (λ s. if is_whole s then None else Some w) o) h
     ∙ ap (λ b. if b then None else Some w) e
 
-named_back : (s : Subdivision) → subdivision (subdivision_text s) ≡ Ok s →
+pub named_back : (s : Subdivision) → subdivision (subdivision_text s) ≡ Ok s →
     named_subdivision (subdivision_text s) ≡ Some s
 named_back s h = ap result_ok h
 

@@ -1,5 +1,5 @@
 -- From the small locale that was read, or its refusal, to what the reader of the parts answers.
-use Rattle.std.proofs.Common.{◌≡◌, ℕ, List, Option, Some, None, ap, Ok, Err, option_map}
+use Rattle.std.proofs.Common.{◌≡◌, Option, Some, None, ap, Ok, Err, option_map}
 use Rattle.iloc_spec_grammar.specs.Syntax.{Text, languages}
 use Rattle.iloc_langid.specs.SmallLocaleReads.{LocaleParts, small_locale_of, SmallLocaleTextReads}
 use Rattle.iloc_spec_parts.specs.Subdivisions.{Subdivision}
@@ -12,7 +12,7 @@ use Rattle.iloc_subtags.specs.declared.parse_error.ParseError.TheVariants.{Dupli
 use Rattle.iloc_data_parts.specs.PartsReading.{PartsTextReads}
 
 -- the parts of the small locale, with its region part
-abbrev of_part : LocaleParts → Option (Option Subdivision) → Option parts.DataLocale
+abbrev pub of_part : LocaleParts → Option (Option Subdivision) → Option parts.DataLocale
 of_part p o = option_map (λ part. made_of p.0 p.1 part p.3) o
 
 pub accepted : (t : Text) (p : LocaleParts) (part : Option Subdivision) → SmallLocaleTextReads t (Ok p) →

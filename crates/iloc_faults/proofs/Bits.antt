@@ -2,25 +2,27 @@
 use Rattle.std.proofs.Common.{◌≡◌, ◌≢◌, inl, inr, ℕ, ◌+◌, ◌*◌, ◌-◌, ◌<◌, ◌≤◌, ◌^◌, Bool, true, false, ◌==◌}
 use Rattle.std.proofs.Common.{◌||◌, ◌&&◌, List, [], ◌∷◌, length, get_or, take, drop, Result, Ok, Err, Option}
 use Rattle.std.proofs.Common.{Some, None, IfSome, codes, max, refl, sym, ap, ap₂, ◌∙◌, arith, true≢false}
-use Rattle.std.proofs.Common.{is_some}
+use Rattle.std.proofs.Common.{is_some, ⊎_elim}
+use Rattle.std.proofs.Math.Logic.{∥∥₁_elim}
+use Rattle.std.specs.Coded.{Coded-set, coded_ℕ}
 use Rattle.std.specs.Char.{is_ascii_alphanumeric, to_ascii_lowercase}
 use Rattle.std.specs.Ordering.{nat_cmp, eq_by_cmp}
 use Rattle.std.specs.Int.{bit_at}
 use lib.Bits.{bit_and, bit_or}
-use Rattle.std.proofs.lemmas.Bool.{cases_Bool, false_from_ne_true, eqb-true, eq-eqb, and_from, or_cases}
+use Rattle.std.proofs.lemmas.Bool.{cases_Bool, false_from_ne_true, or_cases}
 use Rattle.std.proofs.lemmas.Bool.{or_left, or_right, cases_eq, and_parts}
 use Rattle.std.proofs.lemmas.Bool.Decides.{nat_tests}
 use Rattle.std.proofs.lemmas.Nat.Bits.{and_pow, bit_at_or, bit_at-pow_same, bit_at-pow_other, bit_at-zero}
-use Rattle.iloc_spec_grammar.specs.Syntax.{Text, languages, Language, Variant, UnicodeKey, TransformKey}
-use Rattle.iloc_spec_grammar.specs.Syntax.{Attribute, PrivateSubtag, Subtag, is_word, lower, is_same, read}
+use Rattle.iloc_spec_grammar.specs.Syntax.{Text, languages, Language, TransformKey}
+use Rattle.iloc_spec_grammar.specs.Syntax.{Attribute, Subtag, is_word, lower, is_same, read}
 use Rattle.iloc_spec_grammar.specs.Syntax as kinds
 use Rattle.iloc_spec_grammar.proofs.WellRead.{attribute_is_word}
 use Rattle.iloc_spec_parts.specs.DataLocales.{named_subdivision}
-use Rattle.iloc_spec_grammar.proofs.MapLaws.{same_itself, same_is}
+use Rattle.iloc_spec_grammar.proofs.MapLaws.{same_is}
 use Rattle.iloc_spec_grammar.proofs.WordsLaws.{length-lower}
 use Rattle.iloc_spec_grammar.proofs.Singletons.{untied, self_tied}
-use Rattle.iloc_pieces.specs.Left.{IsRemainder, IsShortPiece, piece_left}
-use Rattle.iloc_pieces.specs.declared.left.Left.{Left}
+use Rattle.iloc_pieces.specs.Left.{IsShortPiece, piece_left}
+use Rattle.iloc_pieces.specs.declared.cursor.Left.{Left}
 use Rattle.iloc_pieces.proofs.LeftLemmas.{short_language, short_key, short_field_key, short_attribute}
 use Rattle.iloc_pieces.proofs.LeftLemmas.{short_private, between_short, piece_inside, piece_byte, short_bytes}
 use Rattle.iloc_pieces.proofs.LeftLemmas.{length_piece}
@@ -31,6 +33,7 @@ use Rattle.iloc_faults.specs.declared.state.Part.TheVariants.{Private, PrivateWo
 use Rattle.iloc_faults.specs.declared.state.Part.TheVariants.{SubdivisionKey, SubdivisionValue}
 use Rattle.iloc_faults.specs.Next.{is_seen, when, piece_next, subdivision_next}
 use Rattle.iloc_faults.specs.States.{AreSingletonsSeen, bit_place}
+use Rattle.iloc_normalize.proofs.Names.{sd_of}
 
 -- ---- bits
 
@@ -147,60 +150,38 @@ piece_short (Source stage) p = tt
 
 -- ---- the key `sd`
 
-pub two_long : {l : Left} → IsRemainder l → l.n ≡ 2 → length (piece_left l) ≡ 2
-two_long h e = elim h.piece [ inl s ↦ sym s.long ∙ e | inr k ↦ absurd (let m = k.most in omega arith) ]
+pub two_long : (l : Left) → l.n ≡ 2 → length (piece_left l) ≡ 2
+two_long l e = ∥∥₁_elim l.piece (Coded-set coded_ℕ _ _) (⊎_elim
+    (λ s. sym s.long ∙ e)
+    (λ k. absurd (let m = k.most in omega arith)))
 
-pub not_two : {l : Left} → IsRemainder l → l.n ≢ 2 → is_same (lower (piece_left l)) (codes "sd") ≡ false
-not_two {l = l} h n = false_from_ne_true _ (λ e.
+pub not_two : (l : Left) → l.n ≢ 2 → is_same (lower (piece_left l)) (codes "sd") ≡ false
+not_two l n = false_from_ne_true _ (λ e.
     let two : length (piece_left l) ≡ 2 =
     sym (length-lower (piece_left l)) ∙ ap length (same_is (lower (piece_left l)) (codes "sd") e) in
-    elim h.piece [ inl s ↦ n (s.long ∙ two) | inr k ↦ let m = k.long in absurd (omega arith) ])
-
-one_test : (x y : Bool) → (x ≡ true → y ≡ true) → (y ≡ true → x ≡ true) → x ≡ y
-one_test true true f g = refl
-one_test false false f g = refl
-one_test true false f g = sym (f refl)
-one_test false true f g = g refl
-
-sd_of : (p : Text) → length p ≡ 2 →
-    is_same (lower p) (codes "sd")
-    ≡ ((to_ascii_lowercase (get_or p 0 0) == 115) && (to_ascii_lowercase (get_or p 1 0) == 100))
-unfolding lower
-sd_of (a ∷ b ∷ []) e = one_test _ _
-    (λ h. let k : to_ascii_lowercase a ∷ to_ascii_lowercase b ∷ [] ≡ 115 ∷ 100 ∷ [] =
-    same_is (to_ascii_lowercase a ∷ to_ascii_lowercase b ∷ []) (codes "sd") h in
-    let x : to_ascii_lowercase a ≡ 115 = cc in
-    let y : to_ascii_lowercase b ≡ 100 = cc in
-    and_from _ _ (eq-eqb _ _ x) (eq-eqb _ _ y))
-    (λ h. let k = and_parts _ _ h in
-    ap₂ (λ (u v : ℕ). is_same (u ∷ v ∷ []) (codes "sd")) {x = to_ascii_lowercase a} {y = 115}
-    {u = to_ascii_lowercase b} {v = 100} (eqb-true _ _ k.0) (eqb-true _ _ k.1)
-    ∙ same_itself (codes "sd"))
-sd_of [] e = absurd (omega arith)
-sd_of (a ∷ []) e = absurd (omega arith)
-sd_of (a ∷ b ∷ d ∷ p) e = absurd (omega arith)
+    n (length_piece l (omega arith) ∙ two))
 
 -- the piece by its bytes in the window
-pub sd_is : {l : Left} → IsRemainder l → l.n ≡ 2 →
+pub sd_is : (l : Left) → l.n ≡ 2 →
     is_same (lower (piece_left l)) (codes "sd")
     ≡ ((to_ascii_lowercase (get_or l.window.now l.at 0) == 115)
     && (to_ascii_lowercase (get_or l.window.now (l.at + 1) 0) == 100))
-sd_is {l = l} h e =
-    let two = two_long h e in
+sd_is l e =
+    let two = two_long l e in
     sd_of (piece_left l) two
     ∙ ap₂ (λ u v. (to_ascii_lowercase u == 115) && (to_ascii_lowercase v == 100))
-    (piece_byte h 0 (omega arith) ∙ ap (λ i. get_or l.window.now i 0) (omega arith))
-    (piece_byte h 1 (omega arith))
+    (piece_byte l 0 (omega arith) ∙ ap (λ i. get_or l.window.now i 0) (omega arith))
+    (piece_byte l 1 (omega arith))
 
 -- ---- the value of `sd`
 
 -- the bytes of the piece, as they are cut from the window
-pub cut_bytes : {l : Left} → IsRemainder l → IsShortPiece (piece_left l) →
+pub cut_bytes : (l : Left) → IsShortPiece (piece_left l) →
     take (l.at + l.n - l.at) (drop l.at l.window.now) ≡ piece_left l
-cut_bytes {l = l} h short = ap (λ k. take k (drop l.at l.window.now)) (omega arith) ∙ short_bytes h short
+cut_bytes l short = ap (λ k. take k (drop l.at l.window.now)) (omega arith) ∙ short_bytes l short
 
-pub cut_inside : {l : Left} → IsRemainder l → IsShortPiece (piece_left l) → l.at + l.n ≤ length l.window.now
-cut_inside {l = l} h short = let e = length_piece h short in let i = piece_inside h in omega arith
+pub cut_inside : (l : Left) → IsShortPiece (piece_left l) → l.at + l.n ≤ length l.window.now
+cut_inside l short = let e = length_piece l short in let i = piece_inside l in omega arith
 
 -- the text of a result
 text_in : {E : Type 0} → Result Text E → Option Text

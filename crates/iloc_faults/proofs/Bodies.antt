@@ -4,7 +4,7 @@ use Rattle.std.proofs.Common.{length, map, Some, None, nat_lt, codes, refl, sym,
 use Rattle.std.proofs.Common.{true≢false}
 use Rattle.std.specs.List.{list_all}
 use Rattle.std.specs.Int.{is_in_range}
-use Rattle.std.proofs.lemmas.Bool.{cases_Bool, false_from_ne_true, lt-ltb, eqb-true, eqb-false}
+use Rattle.std.proofs.lemmas.Bool.{cases_Bool, false_from_ne_true, lt-ltb, eqb-false}
 use Rattle.iloc_spec_grammar.specs.Syntax.{Text, Fields, Language, Script, Region, Variant, UnicodeKey}
 use Rattle.iloc_spec_grammar.specs.Syntax.{TransformKey, Attribute, Subtag, languages, is_word, IsWord, lower}
 use Rattle.iloc_spec_grammar.specs.Syntax.{word_cmp}
@@ -18,18 +18,16 @@ use Rattle.iloc_faults.proofs.Words.{good, repeats}
 use Rattle.iloc_spec_grammar.proofs.Readings.{language_no_key, identifier_no_key}
 use Rattle.iloc_faults.specs.declared.state.Stage.{Stage}
 use Rattle.iloc_faults.specs.declared.state.Stage.TheVariants as stages
+use Rattle.iloc_pieces.proofs.AttributeLemmas.{and-true}
+use Rattle.iloc_spec_parts.proofs.BrokenBlocks.{two_no_attribute}
+
+pub or_false : (a : Bool) → (a || false) ≡ a
+or_false true = refl
+or_false false = refl
 
 pub and_assoc : (a b c : Bool) → ((a && b) && c) ≡ (a && (b && c))
 and_assoc true b c = refl
 and_assoc false b c = refl
-
-pub and_true : (a : Bool) → (a && true) ≡ a
-and_true true = refl
-and_true false = refl
-
-or_false : (a : Bool) → (a || false) ≡ a
-or_false true = refl
-or_false false = refl
 
 -- one item more is some
 pub one_is_some : (n : ℕ) → nat_lt 0 (suc n) ≡ true
@@ -40,10 +38,6 @@ one_is_some n = lt-ltb 0 (suc n) (omega arith)
 -- whether the piece may stand after `u`
 abbrev pub of_unicode : Text → Bool
 of_unicode p = is_word Attribute p || is_word UnicodeKey p
-
-two_no_attribute : (p : Text) → is_two p ≡ true → is_word Attribute p ≡ false
-two_no_attribute p h = false_from_ne_true _
-    (λ e. let k = length-attribute p e in let n : length p ≡ 2 = eqb-true _ _ h in absurd (omega arith))
 
 more_no_key : (p : Text) → is_two p ≡ false → is_word UnicodeKey p ≡ false
 more_no_key p h = false_from_ne_true _ (λ e. absurd (eqb-false _ _ h (length-unicode_key p e)))
@@ -82,7 +76,7 @@ pub other_is : (p : Text) (ps : List Text) →
     is_other (p ∷ ps) ≡ (has_length p && cond (is_word Subtag p) (list_all has_length ps) (is_other ps))
 other_is p ps = elim (cases_Bool (is_word Subtag p)) [
   | inl e ↦ rw (e, one_is_some) (and_assoc (has_length p) (list_all has_length ps) true
-      ∙ ap (λ b. has_length p && b) (and_true (list_all has_length ps)))
+      ∙ ap (λ b. has_length p && b) (and-true (list_all has_length ps)))
   | inr e ↦ rw e (and_assoc (has_length p) _ _)
 ]
 
@@ -124,7 +118,7 @@ pub after_key_is : (p : Text) (ps : List Text) → after_key (p ∷ ps) ≡ (is_
 after_key_is p ps = elim (cases_Bool (is_word TransformKey p)) [
   | inl e ↦ let n = key_no_attribute p e in rw (e, n) refl
   | inr e ↦ rw (e, one_is_some) (ap (λ b. b && list_all is_field (fields ps))
-      (and_true (is_word Attribute p && list_all (is_word Attribute) (values ps)))
+      (and-true (is_word Attribute p && list_all (is_word Attribute) (values ps)))
       ∙ and_assoc (is_word Attribute p) (list_all (is_word Attribute) (values ps))
       (list_all is_field (fields ps)))
 ]
@@ -145,7 +139,7 @@ identifier_is p ps =
     rw (s, r)
     (ap (λ b. (b && list_all (is_word Variant) (skip_first (is_word Region) (skip_first (is_word Script) ps)))
     && all_different word_cmp (map lower (skip_first (is_word Region) (skip_first (is_word Script) ps))))
-    (and_true _)
+    (and-true _)
     ∙ and_assoc (is_word (Language languages) p) _ _)
 
 -- whether the pieces go on with words of the identifier, and then with fields
@@ -176,11 +170,6 @@ pub key_no_variant : (p : Text) → IsWord TransformKey p → is_word Variant p 
 key_no_variant p h = false_from_ne_true _
     (λ e. let k = length-variant p e in let n = length-transform_key p h in absurd (omega arith))
 
--- nothing follows `t`
-pub transform_none : is_transform languages (transform_of []) ≡ false
-unfolding transform_of
-transform_none = refl
-
 pub repeats_none : repeats_variant languages [] ≡ false
 unfolding is_word languages
 repeats_none = refl
@@ -192,8 +181,8 @@ pub transform_is : (p : Text) (ps : List Text) →
     (is_word (Language languages) p && after_word stages.Language [] ps)
 unfolding transform_of
 transform_is p ps = elim (cases_Bool (is_word TransformKey p)) [
-  | inl e ↦ rw (e, one_is_some) (and_true _ ∙ field_is p ps e)
-  | inr e ↦ rw e (and_true _ ∙ ap (λ b. b && list_all is_field (fields ps)) (identifier_is p (values ps))
+  | inl e ↦ rw (e, one_is_some) (and-true _ ∙ field_is p ps e)
+  | inr e ↦ rw e (and-true _ ∙ ap (λ b. b && list_all is_field (fields ps)) (identifier_is p (values ps))
       ∙ and_assoc (is_word (Language languages) p) _ _)
 ]
 

@@ -20,8 +20,10 @@ use Rattle.iloc_faults.specs.declared.state.Part.TheVariants.{PrivateWord}
 use Rattle.iloc_faults.specs.declared.state.Stage.{Stage}
 use Rattle.iloc_faults.specs.Next.{Reached, plain, may_end, takes_any, part_of, is_seen, outcome}
 use Rattle.iloc_faults.proofs.Words.{good, repeats, good_end}
-use Rattle.iloc_faults.proofs.Bodies.{and_true, of_unicode, unicode_is, has_length, after_value, after_key}
+use Rattle.iloc_faults.proofs.Bodies.{of_unicode, unicode_is, has_length, after_value, after_key}
+use Rattle.iloc_faults.proofs.Bodies.{or_false}
 use Rattle.iloc_faults.proofs.Bodies.{after_word, repeats_none}
+use Rattle.iloc_pieces.proofs.AttributeLemmas.{and-true}
 
 -- the fault of the blocks that follow, if the block is good
 abbrev pub block_answer : Bool → Text → List Text → Option Fault
@@ -83,7 +85,7 @@ at_end = record {
   other = λ seen. refl;
   field_value = λ seen. refl;
   field_key = λ seen. refl;
-  source = λ stage vs seen d. let g = good_end stage vs d in rw (and_true, g) refl;
+  source = λ stage vs seen d. let g = good_end stage vs d in rw (and-true, g) refl;
   transform = λ seen. rw repeats_none refl;
   private_word = λ seen. refl;
   private = λ seen. refl;
@@ -117,10 +119,6 @@ apart c h =
     (and_parts (is_ascii_alphanumeric c) (not (c == code_t || c == code_u || c == code_x)) h).1) in
     let m = or_parts (c == code_t) (c == code_u) n.0 in
     (m.0, m.1, n.1)
-
-or_false : (a : Bool) → (a || false) ≡ a
-or_false true = refl
-or_false false = refl
 
 module _ {ps : List Text} (at : Claims ps) where
   of_block : (c : ℕ) (seen : List ℕ) → is_ascii_alphanumeric c ≡ true →

@@ -6,7 +6,7 @@ use Rattle.std.specs.List.{list_all}
 use Rattle.std.specs.Char.{to_ascii_lowercase}
 use Rattle.std.proofs.lemmas.Bool.{cases_Bool, and_right, lt-leb, le-leb, eqb-true}
 use Rattle.iloc_spec_grammar.specs.Syntax.{Text, Block, code_u, code_x, Language, Variant, UnicodeKey}
-use Rattle.iloc_spec_grammar.specs.Syntax.{Attribute, languages, is_word, IsWord, lower, is_same, is_true}
+use Rattle.iloc_spec_grammar.specs.Syntax.{Attribute, languages, is_word, lower, is_same, is_true}
 use Rattle.iloc_spec_grammar.specs.Syntax.{is_one_byte, front, blocks}
 use Rattle.iloc_spec_grammar.specs.Syntax as kinds
 use Rattle.iloc_spec_grammar.specs.Meaning.{Fault, normal_values}
@@ -27,8 +27,9 @@ use Rattle.iloc_faults.specs.declared.state.Stage.{Stage}
 use Rattle.iloc_faults.specs.declared.state.Stage.TheVariants as stages
 use Rattle.iloc_faults.specs.Next.{plain, started, after_region_next, after_script_next, word_next, outcome}
 use Rattle.iloc_faults.proofs.Words.{tail}
-use Rattle.iloc_faults.proofs.Bodies.{and_assoc, and_true}
+use Rattle.iloc_faults.proofs.Bodies.{and_assoc}
 use Rattle.iloc_faults.proofs.Claims.{in_words}
+use Rattle.iloc_pieces.proofs.AttributeLemmas.{and-true}
 
 -- whether there is no fault
 abbrev pub fine : Option Fault → Bool
@@ -114,7 +115,7 @@ more_than_one (suc n) = lt-leb (suc (suc n)) 1 (omega arith) ∙ sym (lt-leb (su
 trues_is : (p : Text) (qs : List Text) →
     trues (p ∷ qs) ≡ ((is_word Attribute p && is_true (lower p)) && trues qs)
 trues_is p qs = elim (cases_Bool (is_true (lower p))) [
-  | inl e ↦ rw (e, and_true) (and_assoc (is_word Attribute p) (list_all (is_word Attribute) qs)
+  | inl e ↦ rw (e, and-true) (and_assoc (is_word Attribute p) (list_all (is_word Attribute) qs)
       (nat_le (length (normal_values qs)) 0))
   | inr e ↦ let n = lt-leb (suc (length (normal_values qs))) 0 (omega arith) in
       rw (e, n)
@@ -175,7 +176,7 @@ tail_of_u : (c : ℕ) (ps : List Text) → is_u c ≡ true →
 tail_of_u c ps h = let e : to_ascii_lowercase c ≡ code_u = eqb-true _ _ h in rw e (by (blocks ps))
   where
     by : (bs : List Block) → data_tail ((c, front ps) ∷ bs) ≡ (keyword (front ps) && empty bs)
-    by [] = rw (h, and_true) refl
+    by [] = rw (h, and-true) refl
     by (d ∷ bs) = sym (and_right (keyword (front ps)) false refl)
 
 tail_of_other : (c : ℕ) (ps : List Text) → is_u c ≡ false → data_tail (blocks ((c ∷ []) ∷ ps)) ≡ false

@@ -10,46 +10,46 @@ use Rattle.iloc_spec_grammar.specs.Syntax.{Text, join, first_piece, Variant, IsW
 use Rattle.iloc_spec_grammar.proofs.PiecesLaws.{join-pieces, pieces_nonempty}
 use Rattle.iloc_spec_grammar.proofs.Singletons.{self_tied, untied}
 use Rattle.iloc_pieces.specs.Words.{word_number}
-use Rattle.iloc_pieces.specs.Left.{IsRemainder, IsNextPiece, IsShortPiece, piece_left, pieces_left}
+use Rattle.iloc_pieces.specs.Left.{IsNextPiece, IsShortPiece, piece_left, pieces_left}
 use Rattle.iloc_pieces.specs.Left.{bytes_left}
-use Rattle.iloc_pieces.specs.declared.left.Left.{Left}
+use Rattle.iloc_pieces.specs.declared.cursor.Left.{Left}
 use Rattle.iloc_pieces.proofs.LeftLemmas.{cut_after, length_rest, last_piece, short_variant}
 use Rattle.iloc_pieces.proofs.WordOrder.{variant_fits, word_order}
 use Rattle.iloc_faults.specs.States.{AreVariantsBetween}
 
 -- no variant is left between them
-pub none_left : {l at : Left} → IsRemainder at → AreVariantsBetween l at [] → l.at ≡ at.at
-none_left {l = l} {at = at} k h =
+pub none_left : {l at : Left} → AreVariantsBetween l at [] → l.at ≡ at.at
+none_left {l = l} {at = at} h =
     let same : bytes_left l ≡ bytes_left at =
     sym (join-pieces (bytes_left l)) ∙ ap join h.cut ∙ join-pieces (bytes_left at) in
-    omega (arith, h.end, length_rest h.left, length_rest k, ap length same)
+    omega (arith, h.end, length_rest l, length_rest at, ap length same)
 
 -- some are
-pub some_left : {l at : Left} {p : Text} {ps : List Text} → IsRemainder at →
+pub some_left : {l at : Left} {p : Text} {ps : List Text} →
     AreVariantsBetween l at (p ∷ ps) → l.at < at.at
-some_left {l = l} {at = at} {p = p} {ps = ps} k h =
+some_left {l = l} {at = at} {p = p} {ps = ps} h =
     let cut : bytes_left l ≡ join (p ∷ ps) ++ 45 ∷ bytes_left at =
     cut_after (p ∷ ps) (bytes_left l) (bytes_left at) h.cut (λ e. cc) in
     omega (
       arith,
       h.end,
-      length_rest h.left,
-      length_rest k,
+      length_rest l,
+      length_rest at,
       ap length cut,
       length-append (join (p ∷ ps)) (45 ∷ bytes_left at),
     )
 
 -- before the piece there is one
-pub one_there : {l at : Left} {ps : List Text} → IsRemainder at → AreVariantsBetween l at ps → l.at < at.at →
+pub one_there : {l at : Left} {ps : List Text} → AreVariantsBetween l at ps → l.at < at.at →
     (p : Text) × (qs : List Text) × (ps ≡ p ∷ qs)
-one_there {ps = []} k h less = absurd (let e = none_left k h in omega arith)
-one_there {ps = p ∷ ps} k h less = (p, ps, refl)
+one_there {ps = []} h less = absurd (let e = none_left h in omega arith)
+one_there {ps = p ∷ ps} h less = (p, ps, refl)
 
 -- at the piece there is none
-pub none_there : {l at : Left} {ps : List Text} → IsRemainder at → AreVariantsBetween l at ps → at.at ≤ l.at →
+pub none_there : {l at : Left} {ps : List Text} → AreVariantsBetween l at ps → at.at ≤ l.at →
     ps ≡ []
-none_there {ps = []} k h most = refl
-none_there {ps = p ∷ ps} k h most = absurd (let e = some_left k h in omega arith)
+none_there {ps = []} h most = refl
+none_there {ps = p ∷ ps} h most = absurd (let e = some_left h in omega arith)
 
 pub first_is : {l at : Left} {p : Text} {ps : List Text} → AreVariantsBetween l at (p ∷ ps) → piece_left l ≡ p
 first_is h = ap first_piece h.cut
@@ -57,7 +57,7 @@ first_is h = ap first_piece h.cut
 -- it is not the last piece
 pub not_last : {l at : Left} {p : Text} {ps : List Text} → AreVariantsBetween l at (p ∷ ps) → l.n ≢ l.len
 not_last {l = l} {at = at} {p = p} {ps = ps} h e =
-    let end = last_piece l h.left e (subst IsShortPiece (sym (first_is h)) (short_variant p h.words.0)) in
+    let end = last_piece l e (subst IsShortPiece (sym (first_is h)) (short_variant p h.words.0)) in
     let rest : ps ++ pieces_left at ≡ [] = cc (sym h.cut ∙ end.one) in
     pieces_nonempty (bytes_left at) (none ps rest)
   where
@@ -69,7 +69,6 @@ not_last {l = l} {at = at} {p = p} {ps = ps} h e =
 pub nearer : {l at m : Left} {p : Text} {ps : List Text} → AreVariantsBetween l at (p ∷ ps) →
     IsNextPiece l m → AreVariantsBetween m at ps
 nearer {l = l} {at = at} {m = m} {p = p} {ps = ps} h next = record {
-  left = next.left;
   end = h.end ∙ sym next.end;
   cut = let both : piece_left l ∷ pieces_left m ≡ p ∷ (ps ++ pieces_left at) = sym next.pieces ∙ h.cut in cc;
   words = h.words.1;
@@ -102,24 +101,24 @@ same_between {at = at} {ps = ps} {qs = qs} h k = cancel ps qs (pieces_left at) (
 pub walk_starts : {first at : Left} (ps : List Text) → AreVariantsBetween first at ps → Walked first first at
 walk_starts ps h = record { done = []; rest = ps; before = h; all = h; none = refl }
 
-module _ {first earlier at : Left} (k : IsRemainder at) (word : IsWord Variant (piece_left at)) where
+module _ {first earlier at : Left} (word : IsWord Variant (piece_left at)) where
   module _ (w : Walked first earlier at) where
     -- the piece here is a variant
     pub here : earlier.at < at.at → IsWord Variant (piece_left earlier)
-    here less = let o = one_there k w.before less in
+    here less = let o = one_there w.before less in
         let b = subst (AreVariantsBetween earlier at) o.2 w.before in
         subst (IsWord Variant) (sym (first_is b)) b.words.0
 
     pub goes_further : earlier.at < at.at → earlier.n ≢ earlier.len
     goes_further less =
-        let o = one_there k w.before less in not_last (subst (AreVariantsBetween earlier at) o.2 w.before)
+        let o = one_there w.before less in not_last (subst (AreVariantsBetween earlier at) o.2 w.before)
 
     -- it is the same
     pub walk_found : earlier.at < at.at → word_number (piece_left earlier) ≡ word_number (piece_left at) →
         (ps : List Text) → AreVariantsBetween first at ps
         → true ≡ list_any (eq_by_cmp word_cmp (lower (piece_left at))) (map lower ps)
     walk_found less e ps h =
-        let o = one_there k w.before less in
+        let o = one_there w.before less in
         let b = subst (AreVariantsBetween earlier at) o.2 w.before in
         let tie : eq_by_cmp word_cmp (lower (piece_left at)) (lower o.0) ≡ true =
         ap (λ q. eq_by_cmp word_cmp (lower (piece_left at)) (lower q)) (sym (first_is b))
@@ -137,7 +136,7 @@ module _ {first earlier at : Left} (k : IsRemainder at) (word : IsWord Variant (
         word_number (piece_left earlier) ≢ word_number (piece_left at) → IsNextPiece earlier m →
         Walked first m at
     walk_more {m = m} less e next =
-        let o = one_there k w.before less in
+        let o = one_there w.before less in
         let b = subst (AreVariantsBetween earlier at) o.2 w.before in
         let test = eq_by_cmp word_cmp (lower (piece_left at)) in
         let tie : test (lower o.0) ≡ false =
@@ -158,7 +157,7 @@ module _ {first earlier at : Left} (k : IsRemainder at) (word : IsWord Variant (
     pub walk_ends : at.at ≤ earlier.at → (ps : List Text) → AreVariantsBetween first at ps →
         false ≡ list_any (eq_by_cmp word_cmp (lower (piece_left at))) (map lower ps)
     walk_ends most ps h =
-        let n = none_there k w.before most in
+        let n = none_there w.before most in
         sym (ap (λ qs. list_any (eq_by_cmp word_cmp (lower (piece_left at))) (map lower qs))
         (same_between h w.all ∙ ap (λ qs. w.done ++ qs) n ∙ append-nil w.done)
         ∙ w.none)

@@ -1,11 +1,9 @@
 -- What the walk says, in the words of the definitions.
 use Rattle.std.proofs.Common.{◌≡◌, ◌≢◌, ◌↔◌, inl, inr, ℕ, ◌≤◌, ◌∷◌, ◌++◌, length, Option, Some, None, IfSome}
-use Rattle.std.proofs.Common.{Result, Ok, Err, refl, sym, ap, ◌∙◌, subst, arith, length-append, true≢false}
+use Rattle.std.proofs.Common.{Result, Err, refl, sym, ap, ◌∙◌, subst, arith, length-append, true≢false}
 use Rattle.std.proofs.lemmas.List.Concat.{flat_map-append}
-use Rattle.iloc_spec_grammar.specs.Syntax.{Text, pieces, join, dashes, languages}
+use Rattle.iloc_spec_grammar.specs.Syntax.{Text, pieces, dashes, languages}
 use Rattle.iloc_spec_grammar.specs.Meaning as grammar
-use Rattle.iloc_spec_grammar.proofs.PiecesLaws.{at_pieces, join-pieces}
-use Rattle.iloc_spec_grammar.proofs.PartTexts.{join-dashes}
 use Rattle.iloc_spec_grammar.proofs.RawLaws.{languages_table}
 use Rattle.iloc_spec_parts.specs.DataLocales.{HasDataFault}
 use Rattle.iloc_spec_parts.proofs.DataLaws.{data_apart}
@@ -14,9 +12,8 @@ use Rattle.iloc_subtags.specs.declared.parse_error.ParseError.TheVariants.{Inval
 use Rattle.iloc_subtags.specs.declared.parse_error.ParseError.TheVariants.{InvalidExtension}
 use Rattle.iloc_subtags.specs.declared.parse_error.ParseError.TheVariants.{DuplicatedExtension, OutOfMemory}
 use Rattle.iloc_subtags.specs.Judging.{Refusal, error_of}
-use Rattle.iloc_data_parts.specs.PartsReading.{PartsTextReads, value_of}
+use Rattle.iloc_data_parts.specs.PartsReading.{PartsTextReads}
 use Rattle.iloc_data_parts.specs.declared.parts.DataParts.{DataParts}
-use Rattle.iloc_normalize.specs.Answered.{HasRefusal}
 use Rattle.iloc_normalize.specs.Modes.{IsFaulty}
 use Rattle.iloc_normalize.specs.declared.Mode.{Mode}
 use Rattle.iloc_normalize.specs.declared.Mode.TheVariants.{Data}
@@ -26,6 +23,7 @@ use Rattle.iloc_faults.specs.Places.{IsAccepted, IsFaultPlace, IsFault}
 use Rattle.iloc_faults.specs.States.{IsFaultFound}
 use Rattle.iloc_faults.proofs.DataSteps.{fine}
 use Rattle.iloc_faults.proofs.Answers.{accepted_is, faulty_is}
+use Rattle.iloc_pieces.proofs.LeftLemmas.{dashed}
 
 -- the error names the fault
 refused : (Has : grammar.Fault → Type 0) (f : grammar.Fault) (e : ParseError) → e ≡ error_of f → Has f →
@@ -68,29 +66,12 @@ faulty t InvalidExtension h = (grammar.InvalidExtension, h)
 faulty t DuplicatedExtension h = (grammar.DuplicatedExtension, h)
 faulty t OutOfMemory h = absurd h
 
-pub data_read : (t : Text) (p : DataParts) (r : Result DataParts ParseError) → PartsTextReads t r → r ≡ Ok p →
-    IsAccepted Data t
-data_read t p r h e = (value_of p, subst (PartsTextReads t) e h)
-
 pub data_not : (t : Text) (e : ParseError) (r : Result DataParts ParseError) → PartsTextReads t r →
     r ≡ Err e → ¬ (IsAccepted Data t)
 data_not t e r h k a =
     let f = faulty t e (subst (PartsTextReads t) k h) in data_apart languages_table t a.0 f.0 a.1 f.1
 
-pub data_is : (t : Text) (e : ParseError) (r : Result DataParts ParseError) → PartsTextReads t r → r ≡ Err e →
-    (f g : Fault) → IsFaultFound Data t f → g.refusal ≡ e → g.start ≡ f.start → g.end ≡ f.end →
-    IsFault Data t g
-data_is t e r h k f g found x y z = record {
-  refusal = subst (HasRefusal Data t) (sym x) (subst (PartsTextReads t) k h);
-  place = subst (λ (a : ℕ). IsFaultPlace Data t a g.end) (sym y)
-      (subst (λ (b : ℕ). IsFaultPlace Data t f.start b) (sym z) found.place);
-}
-
 -- ---- the place lies within the text
-
-dashed : (t : Text) → dashes (pieces t) ≡ 45 ∷ t
-dashed t = at_pieces (λ ps. dashes ps ≡ 45 ∷ join ps) (λ p ps. ap (λ q. 45 ∷ q) (sym (join-dashes p ps))) t
-    ∙ ap (λ q. 45 ∷ q) (join-pieces t)
 
 place_inside : (mode : Mode) (t : Text) (a b : ℕ) → IsFaultPlace mode t a b → (a ≤ b) × (b ≤ length t)
 place_inside mode t a b (inr p) = let x = p.from in let y = p.to in (omega arith, omega arith)

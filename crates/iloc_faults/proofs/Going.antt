@@ -25,9 +25,6 @@ run mode None ps = None
 run mode (Some r) [] = Some r
 run mode (Some r) (p ∷ ps) = run mode (next mode r p) ps
 
-pub run_none : (mode : Mode) (ps : List Text) → run mode None ps ≡ None
-run_none mode ps = refl
-
 pub run_append : (mode : Mode) (o : Option Reached) (xs ys : List Text) →
     run mode o (xs ++ ys) ≡ run mode (run mode o xs) ys
 run_append mode None xs ys = refl

@@ -18,14 +18,15 @@ use Rattle.iloc_faults.specs.declared.state.Part.TheVariants.{Unicode, Keyword, 
 use Rattle.iloc_faults.specs.declared.state.Part.TheVariants.{PrivateWord}
 use Rattle.iloc_faults.specs.declared.state.Stage.{Stage}
 use Rattle.iloc_faults.specs.declared.state.Stage.TheVariants as stages
-use Rattle.iloc_faults.specs.Next.{Reached, plain, started, word_next, on_next, outcome, piece_fault}
+use Rattle.iloc_faults.specs.Next.{plain, started, word_next, outcome}
 use Rattle.iloc_faults.proofs.Words.{good, repeats, good_after, repeats_after, good_end, no_next, word_step}
-use Rattle.iloc_faults.proofs.Bodies.{and_true, one_is_some, of_unicode, has_length, other_is, values, fields}
+use Rattle.iloc_faults.proofs.Bodies.{one_is_some, of_unicode, has_length, other_is, values, fields}
 use Rattle.iloc_faults.proofs.Bodies.{after_value, after_key, after_value_is, after_key_is, after_word}
 use Rattle.iloc_faults.proofs.Bodies.{field_is, key_no_language, key_no_script, key_no_region, key_no_variant}
 use Rattle.iloc_faults.proofs.Bodies.{transform_is, repeats_is, identifier_is}
 use Rattle.iloc_faults.proofs.Claims.{Claims, block_answer, transform_answer, head_answer, in_words, Differ}
 use Rattle.iloc_faults.proofs.Claims.{at_end, begins}
+use Rattle.iloc_pieces.proofs.AttributeLemmas.{and-true}
 
 many : (vs : List Text) (v : Text) →
     Rattle.iloc_faults.specs.Next.is_new Locale vs v ≡ not (list_any (eq_by_cmp word_cmp v) vs)
@@ -43,12 +44,12 @@ at_single c {ps = ps} at = record {
   field_value = λ seen. begins at c FieldValue [] seen refl refl;
   field_key = λ seen. refl;
   source = λ stage vs seen d.
-      let g = good_end stage vs d in rw (and_true, g) (begins at c (Source stage) vs seen refl refl);
+      let g = good_end stage vs d in rw (and-true, g) (begins at c (Source stage) vs seen refl refl);
   transform = λ seen. refl;
   private_word = λ seen. elim (cases_Bool (is_word PrivateSubtag (c ∷ [])))
       [ inl e ↦ rw e (at.private_word seen) | inr e ↦ rw e refl ];
   private = λ seen. elim (cases_Bool (is_word PrivateSubtag (c ∷ [])))
-      [ inl e ↦ rw (e, one_is_some, and_true) (at.private_word seen) | inr e ↦ rw e refl ];
+      [ inl e ↦ rw (e, one_is_some, and-true) (at.private_word seen) | inr e ↦ rw e refl ];
   head = λ stage vs seen d. let g = good_end stage vs d in rw g (begins at c (Head stage) vs seen refl refl);
 }
 
@@ -69,7 +70,7 @@ module _ (p : Text) (ps : List Text) (long : is_one_byte p ≡ false) (passed : 
       outcome Locale (plain seen Unicode) (p ∷ ps)
       ≡ block_answer (list_all of_unicode (front (p ∷ ps)) && nat_lt 0 (length (front (p ∷ ps)))) seen
       (p ∷ ps)
-  unicode seen = rw (long, passed, one_is_some, and_true)
+  unicode seen = rw (long, passed, one_is_some, and-true)
       (elim (cases_Bool (of_unicode p)) [ inl e ↦ rw e (at.keyword seen) | inr e ↦ rw e refl ])
 
   other_word : (seen : List ℕ) →
@@ -124,7 +125,7 @@ module _ (p : Text) (ps : List Text) (long : is_one_byte p ≡ false) (passed : 
 
   private : (seen : List ℕ) →
       outcome Locale (plain seen Private) (p ∷ ps) ≡ cond (is_private (p ∷ ps)) None (Some InvalidExtension)
-  private seen = rw (long, one_is_some, and_true) (elim (cases_Bool (is_word PrivateSubtag p))
+  private seen = rw (long, one_is_some, and-true) (elim (cases_Bool (is_word PrivateSubtag p))
       [ inl e ↦ rw e (at.private_word seen) | inr e ↦ rw e refl ])
 
   head : (stage : Stage) (vs : List Text) (seen : List ℕ) → Differ vs →

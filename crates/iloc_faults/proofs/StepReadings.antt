@@ -1,21 +1,17 @@
 -- What the functions of the reader say of one piece more.
-use Rattle.std.proofs.Common.{◌≡◌, ◌≢◌, ℕ, Bool, true, false, not, ◌&&◌, List, [], ◌∷◌, ◌++◌, map}
+use Rattle.std.proofs.Common.{◌≡◌, ◌≢◌, ℕ, Bool, true, false, ◌&&◌, List, [], ◌∷◌, ◌++◌, map}
 use Rattle.std.proofs.Common.{slice_index, true≢false, Option, Some, None, IfSome, option_map, refl, sym, ap}
 use Rattle.std.proofs.Common.{◌∙◌, subst, append_assoc}
-use Rattle.std.specs.List.{list_any}
-use Rattle.std.specs.Ordering.{eq_by_cmp}
 use Rattle.std.specs.Char.{to_ascii_lowercase}
-use Rattle.std.proofs.lemmas.Bool.{ne_eqb, and_parts}
-use Rattle.iloc_spec_parts.specs.SmallComputing.{is_u}
 use Rattle.std.proofs.lemmas.List.{map-append}
-use Rattle.iloc_spec_grammar.specs.Syntax.{code_u, Text, Variant, languages, is_word, IsWord, lower, word_cmp}
+use Rattle.iloc_spec_grammar.specs.Syntax.{code_u, Text, Variant, languages, is_word, IsWord, lower}
 use Rattle.iloc_spec_grammar.specs.Syntax.{is_one_byte}
 use Rattle.iloc_spec_grammar.specs.Syntax as kinds
 use Rattle.iloc_spec_grammar.proofs.ReadBack.{all_append}
 use Rattle.iloc_normalize.specs.declared.Mode.{Mode}
-use Rattle.iloc_normalize.specs.declared.Mode.TheVariants.{Langid, Locale, Data}
-use Rattle.iloc_pieces.specs.Left.{IsRemainder, IsShortPiece, piece_left, pieces_left}
-use Rattle.iloc_pieces.specs.declared.left.Left.{Left}
+use Rattle.iloc_normalize.specs.declared.Mode.TheVariants.{Locale, Data}
+use Rattle.iloc_pieces.specs.Left.{IsShortPiece, piece_left, pieces_left}
+use Rattle.iloc_pieces.specs.declared.cursor.Left.{Left}
 use Rattle.iloc_pieces.proofs.LeftLemmas.{short_variant, short_region, short_script, short_field_key}
 use Rattle.iloc_pieces.proofs.LeftLemmas.{single_short}
 use Rattle.iloc_faults.specs.declared.state.Part.{Part}
@@ -35,21 +31,10 @@ use Rattle.iloc_faults.proofs.Bits.{language_short, piece_short}
 
 -- ---- whether a variant is new
 
-pub new_first : (mode : Mode) (vs : List Text) (v : Text) → vs ≡ [] → true ≡ is_new mode vs v
-new_first Data vs v e = rw e refl
-new_first Langid vs v e = rw e refl
-new_first Locale vs v e = rw e refl
-
 pub new_data : (vs : List Text) (ps : List Text) (v : Text) → vs ≡ map lower ps → ps ≢ [] →
     false ≡ is_new Data vs v
 new_data vs [] v e some = absurd (some refl)
 new_data vs (p ∷ ps) v e some = rw e refl
-
-pub new_many : (mode : Mode) → mode ≢ Data → (vs ps : List Text) (v : Text) → vs ≡ map lower ps → (b : Bool) →
-    b ≡ list_any (eq_by_cmp word_cmp v) (map lower ps) → not b ≡ is_new mode vs v
-new_many Data n vs ps v e b h = absurd (n refl)
-new_many Langid n vs ps v e b h = rw e (ap not h)
-new_many Locale n vs ps v e b h = rw e (ap not h)
 
 -- ---- words of an identifier
 
@@ -66,17 +51,17 @@ module _ (mode : Mode) (vs : List Text) (at : Left) where
       after_region_next mode vs (piece_left at) ≡ Some (Region, vs ++ (lower (piece_left at) ∷ []))
   both e n = rw (e, n) refl
 
-  pub variant_first : IsRemainder at → is_word Variant (piece_left at) ≡ true →
+  pub variant_first : is_word Variant (piece_left at) ≡ true →
       is_new mode vs (lower (piece_left at)) ≡ true → vs ≡ [] →
       IsWordRead at (after_region_next mode vs (piece_left at)) (Some (Region, Some at))
-  variant_first k e n z = (
+  variant_first e n z = (
     vs ++ (lower (piece_left at) ∷ []),
     both e n,
     short_variant (piece_left at) e,
     tt,
     λ m next. (
       piece_left at ∷ [],
-      record { left = k; end = next.end; cut = next.pieces; words = (e, tt) },
+      record { end = next.end; cut = next.pieces; words = (e, tt) },
       ap (λ ws. ws ++ (lower (piece_left at) ∷ [])) z,
       λ w. cc,
     ),
@@ -93,7 +78,6 @@ module _ (mode : Mode) (vs : List Text) (at : Left) where
     λ m next. (
       h.0 ++ (piece_left at ∷ []),
       record {
-        left = h.1.left;
         end = next.end ∙ h.1.end;
         cut = h.1.cut ∙ ap (λ qs. h.0 ++ qs) next.pieces
             ∙ sym (append_assoc h.0 (piece_left at ∷ []) (pieces_left m));
@@ -112,12 +96,6 @@ pub region_read : (mode : Mode) (at : Left) → is_word kinds.Region (piece_left
     IsWordRead at (after_script_next mode [] (piece_left at)) (Some (Region, None))
 region_read mode at e = ([], rw e refl, short_region (piece_left at) e, tt, λ m next. refl)
 
-pub region_not : (mode : Mode) (at : Left) (o : Option (Stage × Option Left)) →
-    is_word kinds.Region (piece_left at) ≡ false →
-    IsWordRead at (after_region_next mode [] (piece_left at)) o →
-    IsWordRead at (after_script_next mode [] (piece_left at)) o
-region_not mode at o e h = rw e h
-
 -- no variant comes before a script or a region
 pub none_yet : (at : Left) (first : Option Left) (vs : List Text) → first ≡ None →
     AreVariantsRead first at vs → vs ≡ []
@@ -128,17 +106,6 @@ pub script_read : (mode : Mode) (at : Left) (vs : List Text) → vs ≡ [] →
     is_word kinds.Script (piece_left at) ≡ true →
     IsWordRead at (word_next mode Language vs (piece_left at)) (Some (Script, None))
 script_read mode at vs z e = (vs, rw e refl, short_script (piece_left at) e, refl, λ m next. z)
-
-pub script_not : (mode : Mode) (at : Left) (vs : List Text) (o : Option (Stage × Option Left)) → vs ≡ [] →
-    is_word kinds.Script (piece_left at) ≡ false →
-    IsWordRead at (after_script_next mode [] (piece_left at)) o →
-    IsWordRead at (word_next mode Language vs (piece_left at)) o
-script_not mode at vs o z e h = rw (e, z) h
-
-pub after_script : (mode : Mode) (at : Left) (vs : List Text) (o : Option (Stage × Option Left)) → vs ≡ [] →
-    IsWordRead at (after_script_next mode [] (piece_left at)) o →
-    IsWordRead at (word_next mode Script vs (piece_left at)) o
-after_script mode at vs o z h = rw z h
 
 -- ---- parts without variants
 
@@ -189,12 +156,6 @@ no_word_read of at seen o e = ap (option_map (λ (x : Stage × List Text). reach
 
 -- ---- singletons
 
--- a block may not begin
-pub block_none : (at : Left) (part : Part) (seen : List ℕ) →
-    may_begin part (slice_index (piece_left at) 0) ≡ false →
-    IsPieceRead at (block_next Locale part seen (slice_index (piece_left at) 0)) None
-block_none at part seen e = rw e refl
-
 -- its singleton was seen
 pub block_seen : (at : Left) (part : Part) (seen : List ℕ) →
     is_seen seen (slice_index (piece_left at) 0) ≡ true →
@@ -234,26 +195,6 @@ data_read at part stage bits seen h one e u s f = rw (e, f) (rw u (
   single_short (piece_left at) one,
   λ m next. record { seen_are = h; variants_are = refl; early = tt },
 ))
-
-pub data_other : (at : Left) (part : Part) (seen : List ℕ) →
-    to_ascii_lowercase (slice_index (piece_left at) 0) ≢ code_u →
-    IsPieceRead at (block_next Data part seen (slice_index (piece_left at) 0)) None
-data_other at (Head stage) seen n =
-    let e : is_u (slice_index (piece_left at) 0) ≡ false = ne_eqb _ _ n in rw e refl
-data_other at Start seen n = refl
-data_other at Transform seen n = refl
-data_other at (Source stage) seen n = refl
-data_other at FieldKey seen n = refl
-data_other at FieldValue seen n = refl
-data_other at Unicode seen n = refl
-data_other at Keyword seen n = refl
-data_other at Other seen n = refl
-data_other at OtherWord seen n = refl
-data_other at Private seen n = refl
-data_other at PrivateWord seen n = refl
-data_other at Subdivision seen n = refl
-data_other at SubdivisionKey seen n = refl
-data_other at SubdivisionValue seen n = refl
 
 -- ---- pieces inside
 
@@ -367,7 +308,3 @@ pub inside_read : (mode : Mode) (at : Left) (part : Part) (vs : List Text) (seen
     IsPieceRead at (inside_next mode part vs seen (piece_left at)) s →
     IsPieceRead at (next mode (reached part vs seen) (piece_left at)) s
 inside_read mode at part vs seen e s h = rw e h
-
--- a piece that begins a block has one byte
-pub one_begins : (part : Part) (p : Text) → begins_block part p ≡ true → is_one_byte p ≡ true
-one_begins part p e = (and_parts _ _ e).0

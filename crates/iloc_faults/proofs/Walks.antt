@@ -2,7 +2,7 @@
 use Rattle.std.proofs.Common.{◌≡◌, ◌≢◌, inl, inr, ℕ, zero, suc, ◌+◌, ◌-◌, ◌<◌, ◌≤◌, true, false, ◌==◌, List}
 use Rattle.std.proofs.Common.{[], ◌∷◌, ◌++◌, length, get_or, take, drop, Option, Some, None, refl, sym, ap}
 use Rattle.std.proofs.Common.{◌∙◌, arith, append_assoc, append-nil, length-append, take_all}
-use Rattle.std.specs.List.{slice_split, onto_first}
+use Rattle.std.specs.List.{slice_split}
 use Rattle.std.proofs.lemmas.Bool.{eq-eqb, ne_eqb, cases_lt}
 use Rattle.std.proofs.lemmas.List.{get_or-take, get_or-drop}
 use Rattle.std.proofs.lemmas.List.Concat.{flat_map-append}
@@ -10,8 +10,8 @@ use Rattle.iloc_spec_grammar.specs.Syntax.{Text, pieces, dashes, first_piece}
 use Rattle.iloc_spec_grammar.specs.Meaning.{InvalidExtension}
 use Rattle.iloc_spec_grammar.proofs.PiecesLaws.{at_pieces}
 use Rattle.iloc_subtags.specs.Judging.{error_of}
-use Rattle.iloc_pieces.specs.Left.{IsRemainder, IsNextPiece, piece_left, pieces_left, bytes_left}
-use Rattle.iloc_pieces.specs.declared.left.Left.{Left}
+use Rattle.iloc_pieces.specs.Left.{IsNextPiece, piece_left, pieces_left, bytes_left}
+use Rattle.iloc_pieces.specs.declared.cursor.Left.{Left}
 use Rattle.iloc_pieces.proofs.LeftLemmas.{length_rest, next_at, last_piece}
 use Rattle.iloc_normalize.specs.declared.Mode.{Mode}
 use Rattle.iloc_faults.specs.declared.Fault.{Fault}
@@ -21,12 +21,9 @@ use Rattle.iloc_faults.specs.Next.{Reached, started, may_end, next, piece_fault,
 use Rattle.iloc_faults.specs.States.{IsRead, IsPieceRead, IsFaultFound, reached}
 use Rattle.iloc_faults.proofs.Going.{run, run_append, verdict_run, goes_on, goes_no_longer}
 use Rattle.iloc_faults.proofs.Bits.{none_seen}
+use Rattle.iloc_pieces.proofs.FrontLemmas.{first_onto}
 
 -- ---- where a piece ends
-
-onto : (c : ℕ) (ps : List Text) → length (first_piece (onto_first c ps)) ≡ suc (length (first_piece ps))
-onto c [] = refl
-onto c (p ∷ ps) = refl
 
 -- the first piece is as long as no hyphen comes
 first_long : (t : Text) (n : ℕ) → n ≤ length t → ((k : ℕ) → k < n → get_or t k 0 ≢ 45) →
@@ -37,7 +34,7 @@ first_long (c ∷ t) zero l none ends = let e = eq-eqb c 45 (ends (omega arith))
 first_long (c ∷ t) (suc n) l none ends =
     let e = ne_eqb c 45 (none 0 (omega arith)) in
     let h = first_long t n (omega arith) (λ k m. none (suc k) (omega arith)) (λ m. ends (omega arith)) in
-    rw e (onto c (slice_split (λ b. b == 45) t) ∙ ap suc h)
+    rw e (first_onto c (slice_split (λ b. b == 45) t) ∙ ap suc h)
 
 -- from the piece on, no hyphen comes before the end
 pub record IsScanned (l : Left) (end : ℕ) : Type 0 where
@@ -45,7 +42,7 @@ pub record IsScanned (l : Left) (end : ℕ) : Type 0 where
   pub to : end ≤ l.at + l.len
   pub none : (k : ℕ) → k < end - l.at → get_or l.window.now (l.at + k) 0 ≢ 45
 
-module _ {l : Left} (h : IsRemainder l) where
+module _ (l : Left) where
   byte_is : (k : ℕ) → k < l.len → get_or (bytes_left l) k 0 ≡ get_or l.window.now (l.at + k) 0
   byte_is k less = get_or-take l.len (drop l.at l.window.now) k 0 less ∙ get_or-drop l.at l.window.now k 0
 
@@ -73,7 +70,7 @@ module _ {l : Left} (h : IsRemainder l) where
   scan_ends end s ends =
       let f = s.from in
       let t = s.to in
-      let r = length_rest h in
+      let r = length_rest l in
       let n : length (piece_left l) ≡ end - l.at = first_long (bytes_left l) (end - l.at) (omega arith)
       (λ k less e. s.none k less (sym (byte_is k (omega arith)) ∙ e))
       (λ less. byte_is (end - l.at) (omega arith) ∙ ap (λ i. get_or l.window.now i 0) (omega arith)
@@ -84,7 +81,6 @@ module _ {l : Left} (h : IsRemainder l) where
 
 -- so far each piece came, and the state says what was read
 pub record IsWalked (mode : Mode) (t : Text) (at : Left) (s : State) : Type 0 where
-  pub left : IsRemainder at
   pub done : List Text
   pub variants : List Text
   pub seen : Text
@@ -99,11 +95,10 @@ pub record IsAll (mode : Mode) (t : Text) (s : State) : Type 0 where
   pub seen : Text
   pub ran : run mode (Some started) (pieces t) ≡ Some (reached s.part variants seen)
 
-pub walk_starts : (mode : Mode) (t : Text) (at : Left) → IsRemainder at → at.at ≡ 0 →
+pub walk_starts : (mode : Mode) (t : Text) (at : Left) → at.at ≡ 0 →
     bytes_left at ≡ take (length t) t →
     IsWalked mode t at (record { part = Start; variants = None; seen = 0 })
-walk_starts mode t at h e b = record {
-  left = h;
+walk_starts mode t at e b = record {
   done = [];
   variants = [];
   seen = [];
@@ -168,11 +163,10 @@ module _ {mode : Mode} {t : Text} {at : Left} {s : State} (w : IsWalked mode t a
   pub walk_on : {m : Left} (q : State) → IsPieceRead at (next mode now (piece_left at)) (Some q) →
       IsNextPiece at m → IsWalked mode t m q
   walk_on {m = m} q r n = record {
-    left = n.left;
     done = w.done ++ (piece_left at ∷ []);
     variants = r.0;
     seen = r.1;
-    start = let k = next_at w.left n in
+    start = let k = next_at at m n in
         omega (
           arith,
           w.start,
@@ -190,7 +184,7 @@ module _ {mode : Mode} {t : Text} {at : Left} {s : State} (w : IsWalked mode t a
   pub walk_all : (q : State) → IsPieceRead at (next mode now (piece_left at)) (Some q) → at.n ≡ at.len →
       IsAll mode t q
   walk_all q r e =
-      let end = last_piece at w.left e r.3 in
+      let end = last_piece at e r.3 in
       record {
         variants = r.0;
         seen = r.1;

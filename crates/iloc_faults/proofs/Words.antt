@@ -5,7 +5,7 @@ use Rattle.std.proofs.Common.{append-nil}
 use Rattle.std.specs.List.{list_any, list_all}
 use Rattle.std.specs.Ordering.{eq_by_cmp}
 use Rattle.std.proofs.lemmas.Bool.{and_right, cases_Bool, false_from_ne_true, eqb-true}
-use Rattle.iloc_spec_grammar.specs.Syntax.{Text, Variant, is_word, IsWord, lower, word_cmp, is_one_byte}
+use Rattle.iloc_spec_grammar.specs.Syntax.{Text, Variant, is_word, lower, word_cmp, is_one_byte}
 use Rattle.iloc_spec_grammar.specs.Syntax as kinds
 use Rattle.iloc_spec_grammar.specs.Reading.{skip_first, passing}
 use Rattle.iloc_spec_grammar.specs.Computing.{all_different}

@@ -7,8 +7,8 @@ use Rattle.std.specs.Int.{bit_at}
 use Rattle.iloc_spec_grammar.specs.Syntax.{Text, pieces, Variant, IsWord, lower}
 use Rattle.iloc_spec_grammar.specs.Meaning as grammar
 use Rattle.iloc_subtags.specs.Judging.{error_of}
-use Rattle.iloc_pieces.specs.Left.{IsRemainder, IsNextPiece, IsShortPiece, piece_left, pieces_left}
-use Rattle.iloc_pieces.specs.declared.left.Left.{Left}
+use Rattle.iloc_pieces.specs.Left.{IsNextPiece, IsShortPiece, piece_left, pieces_left}
+use Rattle.iloc_pieces.specs.declared.cursor.Left.{Left}
 use Rattle.iloc_normalize.specs.declared.Mode.{Mode}
 use Rattle.iloc_faults.specs.declared.Fault.{Fault}
 use Rattle.iloc_faults.specs.declared.state.Part.{Part}
@@ -30,7 +30,6 @@ AreSingletonsSeen bits seen = (c : ℕ) → is_ascii_alphanumeric c ≡ true
 
 -- from the first piece up to the other there are these variants
 pub record AreVariantsBetween (first at : Left) (ps : List Text) : Type 0 where
-  pub left : IsRemainder first
   pub end : at.at + at.len ≡ first.at + first.len
   pub cut : pieces_left first ≡ ps ++ pieces_left at
   pub words : AllByRecursion (IsWord Variant) ps

@@ -3,7 +3,7 @@ ghost use Rattle.std.specs.Prelude.{◌≡◌, List, [], map};
 ghost use Rattle.std.specs.List.{list_any};
 ghost use Rattle.std.specs.Ordering.{eq_by_cmp};
 ghost use Rattle.iloc_spec_grammar.specs.Syntax.{Text, IsWord, Variant, lower, word_cmp};
-ghost use Rattle.iloc_pieces.specs.Left.{IsRemainder, piece_left};
+ghost use Rattle.iloc_pieces.specs.Left.{piece_left};
 ghost use Rattle.iloc_faults.specs.Next.{after_region_next, after_script_next, is_new, word_next};
 ghost use Rattle.iloc_faults.specs.States.{AreVariantsRead, AreVariantsBetween, IsEarly, IsWordRead};
 
@@ -13,7 +13,6 @@ use iloc_pieces::left::{Left, is_region, is_script, is_variant, next, word_numbe
 
 // Whether a piece from the first variant on, before the piece, is the same word.
 fn is_repeated(first: Left<'_>, at: Left<'_>) -> bool
-    requires left { IsRemainder at }
     requires word { IsWord Variant (piece_left at) }
     requires before { (ps : List Text) × AreVariantsBetween first at ps }
     ensures { (ps : List Text) → AreVariantsBetween first.entry at.entry ps
@@ -32,7 +31,6 @@ fn is_repeated(first: Left<'_>, at: Left<'_>) -> bool
 
 // Whether the piece, a variant, may follow the variants before it: it is none of them, and a data locale has one at most.
 fn is_new(mode: Mode, variants: Option<Left<'_>>, at: Left<'_>) -> bool
-    requires left { IsRemainder at }
     requires word { IsWord Variant (piece_left at) }
     requires before { (vs : List Text) × AreVariantsRead variants at vs }
     ensures { (vs : List Text) → AreVariantsRead variants.entry at.entry vs
@@ -53,8 +51,7 @@ fn read_variant<'a>(
     variants: Option<Left<'a>>,
     at: Left<'a>,
 ) -> Option<(Stage, Option<Left<'a>>)>
-    requires left { IsRemainder at }
-    requires before { (vs : List Text) × AreVariantsRead variants at vs }
+    requires { (vs : List Text) × AreVariantsRead variants at vs }
     ensures { (vs : List Text) → AreVariantsRead variants.entry at.entry vs
         → IsWordRead at.entry (after_region_next mode vs (piece_left at.entry)) result }
 {
@@ -72,7 +69,6 @@ fn read_variant<'a>(
 
 // What was read once the piece is read too, after a script.
 fn read_region<'a>(mode: Mode, at: Left<'a>) -> Option<(Stage, Option<Left<'a>>)>
-    requires { IsRemainder at }
     ensures { IsWordRead at.entry (after_script_next mode [] (piece_left at.entry)) result }
 {
     if is_region(at) {
@@ -89,7 +85,6 @@ pub fn read_word<'a>(
     variants: Option<Left<'a>>,
     at: Left<'a>,
 ) -> Option<(Stage, Option<Left<'a>>)>
-    requires left { IsRemainder at }
     requires before { (vs : List Text) × AreVariantsRead variants at vs }
     requires early { IsEarly stage variants }
     ensures { (vs : List Text) → AreVariantsRead variants.entry at.entry vs

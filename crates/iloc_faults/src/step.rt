@@ -3,7 +3,7 @@ ghost use Rattle.std.specs.Prelude.{◌≡◌, ◌≢◌, ℕ, ◌^◌, List, So
 ghost use Rattle.std.specs.Char.{is_ascii_alphanumeric, to_ascii_lowercase};
 ghost use Rattle.iloc_spec_grammar.specs.Syntax.{Text, is_one_byte, is_same, lower};
 ghost use Rattle.iloc_subtags.specs.Judging.{error_of};
-ghost use Rattle.iloc_pieces.specs.Left.{IsRemainder, piece_left};
+ghost use Rattle.iloc_pieces.specs.Left.{piece_left};
 ghost use Rattle.iloc_normalize.specs.declared.Mode.TheVariants as modes;
 ghost use Rattle.iloc_faults.specs.Next as steps;
 ghost use Rattle.iloc_faults.specs.Next.{begins_block, block_next, inside_next, may_begin, part_of, piece_next, subdivision_next, when};
@@ -22,7 +22,6 @@ use iloc_subtags::{ParseError, Subtag};
 // The subdivision of a data locale, or a `true` that it leaves out.
 #[tactic(auto, using(iloc_pieces::proofs::LeftLemmas::short_attribute))]
 fn read_subdivision(at: Left<'_>) -> Option<Part>
-    requires { IsRemainder at }
     ensures { result ≡ subdivision_next (piece_left at.entry) }
 {
     if !is_attribute(at) {
@@ -39,7 +38,6 @@ fn read_subdivision(at: Left<'_>) -> Option<Part>
 
 // Whether the piece is `sd`, in whatever case.
 fn is_sd(at: Left<'_>) -> bool
-    requires { IsRemainder at }
     ensures { result ≡ is_same (lower (piece_left at.entry)) (codes "sd") }
 {
     if at.n != 2 {
@@ -61,7 +59,6 @@ fn when(holds: bool, part: Part) -> Option<Part>
 
 // What was read once a piece of a block is read too.
 fn read_piece(part: Part, at: Left<'_>) -> Option<Part>
-    requires { IsRemainder at }
     ensures { result ≡ piece_next part (piece_left at.entry) }
 {
     match part {
@@ -106,8 +103,7 @@ fn plain<'a>(seen: u64, part: Option<Part>) -> Option<State<'a>>
 
 // What was read once a piece is read that begins no block.
 fn read_inside<'a>(mode: Mode, state: State<'a>, at: Left<'a>) -> Option<State<'a>>
-    requires left { IsRemainder at }
-    requires read { (vs : List Text) × (seen : List ℕ) × IsRead state at vs seen }
+    requires { (vs : List Text) × (seen : List ℕ) × IsRead state at vs seen }
     ensures { (vs : List Text) (seen : List ℕ) → IsRead state.entry at.entry vs seen
         → IsPieceRead at.entry
         (inside_next mode state.entry.part vs seen (piece_left at.entry)) result }
@@ -176,8 +172,7 @@ fn part_of(byte: u8) -> Part
 // Whether a block may begin with the piece after the part: it is a letter or digit.
 #[inline]
 fn may_begin(part: Part, at: Left<'_>) -> bool
-    requires left { IsRemainder at }
-    requires single { is_one_byte (piece_left at) ≡ true }
+    requires { is_one_byte (piece_left at) ≡ true }
     ensures { result ≡ may_begin part (slice_index (piece_left at.entry) 0) }
 {
     may_end(part) && is_alphanumeric(at)
@@ -185,8 +180,7 @@ fn may_begin(part: Part, at: Left<'_>) -> bool
 
 // What was read with the singleton of a locale too, if a block may begin with it.
 fn read_block<'a>(state: State<'a>, at: Left<'a>) -> Option<State<'a>>
-    requires left { IsRemainder at }
-    requires single { is_one_byte (piece_left at) ≡ true }
+    requires { is_one_byte (piece_left at) ≡ true }
     ensures { (vs : List Text) (seen : List ℕ) → IsRead state.entry at.entry vs seen
         → IsPieceRead at.entry (block_next modes.Locale state.entry.part seen
         (slice_index (piece_left at.entry) 0)) result }
@@ -208,8 +202,7 @@ fn read_block<'a>(state: State<'a>, at: Left<'a>) -> Option<State<'a>>
 
 // What was read with the singleton of a data locale too: `u` alone, after the identifier.
 fn read_data_block<'a>(state: State<'a>, at: Left<'a>) -> Option<State<'a>>
-    requires left { IsRemainder at }
-    requires single { is_one_byte (piece_left at) ≡ true }
+    requires { is_one_byte (piece_left at) ≡ true }
     ensures { (vs : List Text) (seen : List ℕ) → IsRead state.entry at.entry vs seen
         → IsPieceRead at.entry (block_next modes.Data state.entry.part seen
         (slice_index (piece_left at.entry) 0)) result }
@@ -222,8 +215,7 @@ fn read_data_block<'a>(state: State<'a>, at: Left<'a>) -> Option<State<'a>>
 
 // What was read with the singleton too, in the mode.
 fn read_singleton<'a>(mode: Mode, state: State<'a>, at: Left<'a>) -> Option<State<'a>>
-    requires left { IsRemainder at }
-    requires single { is_one_byte (piece_left at) ≡ true }
+    requires { is_one_byte (piece_left at) ≡ true }
     ensures { (vs : List Text) (seen : List ℕ) → IsRead state.entry at.entry vs seen
         → IsPieceRead at.entry (block_next mode state.entry.part seen
         (slice_index (piece_left at.entry) 0)) result }
@@ -238,7 +230,6 @@ fn read_singleton<'a>(mode: Mode, state: State<'a>, at: Left<'a>) -> Option<Stat
 // Whether the piece begins a block after the part.
 #[inline]
 fn begins_block(part: Part, at: Left<'_>) -> bool
-    requires { IsRemainder at }
     ensures { result ≡ begins_block part (piece_left at.entry) }
 {
     is_single(at) && !takes_any(part)
@@ -246,8 +237,7 @@ fn begins_block(part: Part, at: Left<'_>) -> bool
 
 /// What was read with the piece too; `None` if the piece may not come next.
 pub fn step<'a>(mode: Mode, state: State<'a>, at: Left<'a>) -> Option<State<'a>>
-    requires left { IsRemainder at }
-    requires read { (vs : List Text) × (seen : List ℕ) × IsRead state at vs seen }
+    requires { (vs : List Text) × (seen : List ℕ) × IsRead state at vs seen }
     ensures { (vs : List Text) (seen : List ℕ) → IsRead state.entry at.entry vs seen
         → IsPieceRead at.entry
         (steps.next mode (reached state.entry.part vs seen) (piece_left at.entry)) result }
@@ -260,7 +250,6 @@ pub fn step<'a>(mode: Mode, state: State<'a>, at: Left<'a>) -> Option<State<'a>>
 
 /// Why the piece, which may not come next, is refused.
 pub fn refusal(mode: Mode, part: Part, at: Left<'_>) -> ParseError
-    requires { IsRemainder at }
     ensures { result ≡ error_of (steps.piece_fault mode part (piece_left at.entry)) }
 {
     match mode {

@@ -1,7 +1,7 @@
 //! Walks over the pieces of a text until one may not come next.
 ghost use Rattle.std.specs.Prelude.{◌≡◌, ◌↔◌, ◌+◌, None, IfSome, length};
 ghost use Rattle.iloc_spec_grammar.specs.Syntax.{pieces};
-ghost use Rattle.iloc_pieces.specs.Left.{IsRemainder, piece_left};
+ghost use Rattle.iloc_pieces.specs.Left.{piece_left};
 ghost use Rattle.iloc_normalize.specs.declared.Mode.TheVariants as modes;
 ghost use Rattle.iloc_faults.specs.Next.{started, outcome};
 ghost use Rattle.iloc_faults.specs.Places.{IsAccepted, IsFault};
@@ -17,7 +17,6 @@ use iloc_subtags::ParseError;
 
 // Where the piece ends.
 fn end_of(at: Left<'_>) -> usize
-    requires { IsRemainder at }
     ensures { result ≡ at.entry.at + length (piece_left at.entry) }
 {
     let mut end = at.at;

@@ -1,14 +1,10 @@
 -- What is lent of a list, and what is handed out of it.
-use Rattle.std.proofs.Common.{◌≡◌, ℕ, List, refl, sym, subst}
+use Rattle.std.proofs.Common.{◌≡◌, ℕ, List, refl, sym}
 use Rattle.std.specs.Prelude.{Option, Some, None, is_some}
 use Rattle.std.specs.Option.{option_copied}
 use Rattle.std.specs.Slice.{IsItemAt}
 use Rattle.std.proofs.Common.{Bor, length, slice_get}
 use Rattle.std.proofs.lemmas.Option.{slice_get_past, slice_get_read}
-use Rattle.iloc_calls.specs.Answers.{Tells}
-use Rattle.iloc_calls.specs.declared.status.Status.{Status}
-use Rattle.iloc_calls.specs.declared.status.Status.TheVariants.{NotFound}
-use Rattle.iloc_spec_grammar.specs.Syntax.{Text}
 
 -- the item that is lent is the one at the index
 pub item_at : {X : Type 0} (xs : List X) (i : ℕ) (r : Option (Bor X)) → IsItemAt xs i r →
@@ -20,8 +16,3 @@ item_at xs i (Some x) h = sym (slice_get_read xs (length xs) i x.now refl h.3.0 
 pub copied_there : {X : Type 0} (r : Option (Bor X)) → is_some (option_copied r) ≡ is_some r
 copied_there None = refl
 copied_there (Some x) = refl
-
--- nothing is handed out of what is not there
-pub tells_none : (before : Text) (needed : ℕ) (status : Status) → status ≡ NotFound → needed ≡ 0
-    → Tells None before before needed status
-tells_none before needed status s n = subst (λ t. Tells None before before needed t) (sym s) (n, refl)

@@ -1,15 +1,11 @@
 -- From what is read to whether it is a subtag.
 use Rattle.iloc_word_list.proofs.CollectorLaws.{ascending}
-use Rattle.std.proofs.Common.{◌≡◌, ◌↔◌, ℕ, ◌<◌, List, [], ◌∷◌, Bool, true, false, IsTrue, Result, length}
+use Rattle.std.proofs.Common.{◌≡◌, ◌↔◌, ℕ, ◌<◌, List, [], Bool, true, false, IsTrue, Result, length}
 use Rattle.std.proofs.Common.{remove, refl, sym, ap, subst, ◌∙◌, true≢false}
 use Rattle.std.specs.Prelude.{MatchResult, not, filter, is_some}
 use Rattle.std.specs.List.{list_any, HoldsAt}
 use Rattle.std.specs.declared.cmp.Ordering.TheVariants.{Equal}
-use Rattle.std.proofs.lemmas.Bool.{and_parts}
-use Rattle.std.specs.FinMap.{find, is_sorted}
-use Rattle.std.specs.FinMap.Entries.{below_all}
-use Rattle.std.specs.Ordering.{is_lt}
-use Rattle.iloc_spec_grammar.proofs.SetLaws.{marked}
+use Rattle.std.specs.FinMap.{find}
 use Rattle.iloc_spec_grammar.specs.Syntax.{Text, Kind, IsWord, is_word, is_same, normal, read, word_cmp}
 use Rattle.iloc_spec_grammar.specs.Values.{StrictlyAscends}
 use Rattle.iloc_word_list.specs.Ascending.{ascends}

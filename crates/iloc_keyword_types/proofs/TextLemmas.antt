@@ -1,5 +1,5 @@
 -- The text of a subdivision is a subtag, and read as the subdivision.
-use Rattle.std.proofs.Common.{◌≡◌, ℕ, List, ◌++◌, sym, ap₂, ◌∙◌, subst, true}
+use Rattle.std.proofs.Common.{◌≡◌, ◌++◌, sym, ap₂, ◌∙◌, subst, true}
 use Rattle.std.specs.List.{list_all}
 use Rattle.std.specs.Cmp.{second_so}
 use Rattle.iloc_tinystr.specs.TinyText.{is_text_byte}

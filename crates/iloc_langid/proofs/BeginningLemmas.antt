@@ -1,5 +1,5 @@
 -- The language, the script and the region that pieces begin with.
-use Rattle.std.proofs.Common.{◌≡◌, ℕ, List, [], ◌∷◌, sym, ap, ◌∙◌, subst, option_map}
+use Rattle.std.proofs.Common.{◌≡◌, List, [], ◌∷◌, sym, ap, ◌∙◌, subst, option_map}
 use Rattle.iloc_spec_grammar.specs.Syntax.{Text, Identifier, SpelledIdentifier, Language, IsWord, lower}
 use Rattle.iloc_spec_grammar.specs.Syntax.{title}
 use Rattle.iloc_spec_grammar.specs.Syntax.{upper, languages, head}

@@ -24,6 +24,8 @@ use Rattle.iloc_langid.specs.BlockReads.{answer_of, block_result, refusal_withou
 use Rattle.iloc_subtags.proofs.TakingLemmas.{took}
 use Rattle.std.proofs.Math.Bool.{and-false}
 use Rattle.iloc_subtags.specs.Judging.{error_of}
+use Rattle.iloc_normalize.proofs.KeywordAnswers.{key_no_attribute}
+use Rattle.iloc_normalize.proofs.Behind.{no_attribute as no_empty_attribute, no_word_key}
 
 -- a word is longer than one byte
 long_attribute : (p : Text) → IsWord Attribute p → is_one_byte p ≡ false
@@ -47,7 +49,7 @@ some_block false x y ys e = cc
 two_bytes : (c d : ℕ) (p : Text) → is_one_byte (c ∷ d ∷ p) ≡ false
 two_bytes c d p = grind (arith, nat_tests)
 
-front_all : (ps : List Text) → blocks ps ≡ [] → front ps ≡ ps
+pub front_all : (ps : List Text) → blocks ps ≡ [] → front ps ≡ ps
 front_all [] e = refl
 front_all ([] ∷ ps) e = ap (λ l. [] ∷ l) (front_all ps e)
 front_all ((c ∷ []) ∷ ps) e =
@@ -81,19 +83,11 @@ module _ (k : Kind) (empty : is_word k [] ≡ false)
       by true e = empty ∙ sym (false_from_ne_true (is_word k p) (λ w. true≢false (sym e ∙ long p w)))
       by false e = refl
 
-no_empty_attribute : is_word Attribute [] ≡ false
-unfolding is_word
-no_empty_attribute = refl
-
-no_empty_key : is_word UnicodeKey [] ≡ false
-unfolding is_word
-no_empty_key = refl
-
 fault_front : (c : ℕ) (ps : List Text) → block_fault (c, front ps) ≡ block_fault (c, ps)
 unfolding block_fault
 fault_front c ps = rw (
   first_front Attribute no_empty_attribute long_attribute ps,
-  first_front UnicodeKey no_empty_key long_key ps,
+  first_front UnicodeKey no_word_key long_key ps,
 ) refl
 
 -- the first block of the pieces from a singleton on, and that nothing follows it
@@ -162,7 +156,7 @@ pub keyless : (ps rest : List Text) (e : ParseError) →
     e ≡ refusal_without_key rest → Err e ≡ answer_of (block_result code_u ps)
 unfolding block_result block_fault
 keyless ps rest e none l is =
-    let (no_key, stays) = not_taken UnicodeKey no_empty_key ps none in
+    let (no_key, stays) = not_taken UnicodeKey no_word_key ps none in
     let e_is : e ≡ refusal_without_key ps = is ∙ ap refusal_without_key (l ∙ stays) in
     rw (no_keyword ps no_key, no_key, e_is) (ap Err (by (is_word Attribute (first_piece ps))))
   where
@@ -181,14 +175,10 @@ abbrev pub with_key : Text → Result (Option Text) Fault → Result Keyword Fau
 with_key k (Ok v) = Ok (k, v)
 with_key k (Err f) = Err f
 
-no_attribute_key : (p : Text) → IsWord UnicodeKey p → is_word Attribute p ≡ false
-no_attribute_key p k = false_from_ne_true (is_word Attribute p)
-    (λ a. let l = length-attribute p a in let m = length-unicode_key p k in absurd (omega arith))
-
 keyed : (p : Text) (ps : List Text) → IsWord UnicodeKey p →
     block_result code_u (p ∷ ps) ≡ with_key (lower p) (value_result [] ps)
 unfolding block_result block_fault value_result
-keyed p ps k = rw (k, no_attribute_key p k)
+keyed p ps k = rw (k, key_no_attribute p k)
     (by (list_all (is_word Attribute) ps && nat_le (length (normal_values ps)) 1))
   where
     by : (b : Bool) →

@@ -1,6 +1,6 @@
 -- From what a front is read as to what the whole or the head is read as.
 use Rattle.std.specs.Prelude.{⊤}
-use Rattle.std.proofs.Common.{◌≡◌, ◌≢◌, ◌<◌, ℕ, inl, inr, Bool, true, false, List, [], ◌∷◌, ◌++◌, length}
+use Rattle.std.proofs.Common.{◌≡◌, ◌≢◌, ◌<◌, inl, inr, Bool, true, false, List, [], ◌∷◌, ◌++◌, length}
 use Rattle.std.proofs.Common.{refl, sym, ap, ◌∙◌, subst, append-nil, cond, Some, None, option_map, Result, Ok}
 use Rattle.std.proofs.Common.{Err, true≢false}
 use Rattle.std.specs.Result.{result_and}
@@ -33,7 +33,7 @@ pub no_empty_language : is_word (Language languages) [] ≡ false
 unfolding is_word languages
 no_empty_language = refl
 
-no_language : {P : Type 0} → IsWord (Language languages) [] → P
+pub no_language : {P : Type 0} → IsWord (Language languages) [] → P
 no_language h = absurd (true≢false (sym h ∙ no_empty_language))
 
 -- no language was taken from the front

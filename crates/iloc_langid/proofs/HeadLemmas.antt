@@ -28,6 +28,7 @@ use Rattle.iloc_langid.specs.SmallLocaleReads.{Keyword, LocaleParts, small_local
 use Rattle.iloc_langid.specs.BlockReads.{answer_of, block_result}
 use Rattle.iloc_langid.proofs.BlockLemmas.{blocks_past, with_keyword, blocks_read}
 use Rattle.iloc_subtags.specs.Judging.{error_of}
+use Rattle.iloc_normalize.proofs.KeywordAnswers.{head_region}
 
 -- a word of an identifier is longer than one byte
 
@@ -78,10 +79,6 @@ script_front : (ps : List Text) →
     skip_first (is_word Script) (front ps) ≡ front (skip_first (is_word Script) ps)
 script_front ps = skip_front (is_word Script) long_script ps
 
-region_front : (p : Text) (ps : List Text) → after_region (p ∷ front ps) ≡ front (after_region (p ∷ ps))
-region_front p ps = ap (skip_first (is_word Region)) (script_front ps)
-    ∙ skip_front (is_word Region) long_region (skip_first (is_word Script) ps)
-
 -- a script and a region after the first piece
 pub script_at_front : (ps : List Text) →
     take_first (is_word Script) (front ps) ≡ take_first (is_word Script) ps
@@ -97,13 +94,13 @@ front_parts-front : (p : Text) (ps : List Text) → front_parts (p ∷ front ps)
 front_parts-front p ps =
     let s = script_at_front ps in
     let r = region_at_front ps in
-    let v = ap (take_first (is_word Variant)) (region_front p ps)
+    let v = ap (take_first (is_word Variant)) (head_region p ps)
     ∙ take_front (is_word Variant) long_variant (after_region (p ∷ ps)) in
     λ i. (lower p, option_map title (s i), option_map upper (r i), option_map lower (v i))
 
 after_parts-front : (p : Text) (ps : List Text) →
     after_parts (p ∷ front ps) ≡ front (after_parts (p ∷ ps))
-after_parts-front p ps = ap (skip_first (is_word Variant)) (region_front p ps)
+after_parts-front p ps = ap (skip_first (is_word Variant)) (head_region p ps)
     ∙ skip_front (is_word Variant) long_variant (after_region (p ∷ ps))
 
 blocks-after_parts : (p : Text) (ps : List Text) → blocks (after_parts (p ∷ ps)) ≡ blocks ps

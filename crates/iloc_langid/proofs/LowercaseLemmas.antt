@@ -1,5 +1,5 @@
 -- Normal words that are in lower case already.
-use Rattle.std.proofs.Common.{◌≡◌, ℕ, List, [], ◌∷◌, map, refl, ap₂}
+use Rattle.std.proofs.Common.{◌≡◌, List, [], ◌∷◌, map, refl, ap₂}
 use Rattle.std.specs.List.{AllByRecursion}
 use Rattle.iloc_spec_grammar.specs.Syntax.{Text, Variant, lower}
 use Rattle.iloc_spec_grammar.specs.Values.{IsNormal}

@@ -1,5 +1,5 @@
 -- The normal text of an identifier.
-use Rattle.std.proofs.Common.{◌≡◌, inr, ℕ, false, true, List, length, sym, ap, ◌∙◌, subst, true≢false, arith}
+use Rattle.std.proofs.Common.{◌≡◌, inr, false, true, length, sym, ap, ◌∙◌, subst, true≢false, arith}
 use Rattle.iloc_spec_grammar.specs.Syntax.{Text, pieces, languages, Identifier}
 use Rattle.iloc_spec_grammar.specs.Meaning.{IdentifierMeans}
 use Rattle.iloc_spec_grammar.specs.Values.{identifier_text, IdentifierTextStep, Leads}

@@ -62,9 +62,6 @@ taken_out slice old new x same s some is left = by old s (subst (λ vs. 0 < leng
 
 -- parents
 
-pub unknown_language : (w : Text) → w ≡ codes "und" → is_unknown_language w ≡ true
-unknown_language w e = subst (λ v. is_same v (codes "und") ≡ true) (sym e) (same_itself (codes "und"))
-
 pub known_language : (w : Text) → (w ≡ codes "und" → false ≡ true) → is_unknown_language w ≡ false
 known_language w h = by (is_unknown_language w) refl
   where
@@ -72,7 +69,7 @@ known_language w h = by (is_unknown_language w) refl
     by true e = absurd (true≢false (sym (h (same_is w (codes "und") e))))
     by false e = e
 
-of_some : {X : Type 0} {x y : X} → Some x ≡ Some y → x ≡ y
+pub of_some : {X : Type 0} {x y : X} → Some x ≡ Some y → x ≡ y
 of_some e = cc
 
 -- what holds of a parent in each case holds of all

@@ -1,5 +1,5 @@
 -- From what a plain text means to what is taken from its pieces.
-use Rattle.std.proofs.Common.{◌≡◌, ℕ, List, [], None, Ok, Err, refl, sym, ap, ◌∙◌, subst, option_map}
+use Rattle.std.proofs.Common.{◌≡◌, List, [], None, Ok, Err, refl, sym, ap, ◌∙◌, subst, option_map}
 use Rattle.iloc_spec_grammar.specs.Syntax.{Text, Language, IsWord, lower, title, upper, languages}
 use Rattle.iloc_spec_grammar.specs.Syntax.{SpelledIdentifier, Identifier, pieces, first_piece}
 use Rattle.iloc_spec_grammar.specs.Meaning.{IdentifierMeans, not_a_language}

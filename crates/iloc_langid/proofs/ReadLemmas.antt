@@ -1,6 +1,6 @@
 -- What else is known of an identifier that was read.
 use Rattle.std.specs.Prelude.{⊤}
-use Rattle.std.proofs.Common.{ℕ, List, Result, Ok, Err}
+use Rattle.std.proofs.Common.{List, Result, Ok, Err}
 use Rattle.iloc_spec_grammar.specs.Syntax.{Text, pieces, languages, two_or_three, Identifier}
 use Rattle.iloc_spec_grammar.specs.Meaning.{IdentifierMeans, Fault, HasIdentifierFault}
 use Rattle.iloc_spec_grammar.proofs.IdentifierLaws.{one_meaning}

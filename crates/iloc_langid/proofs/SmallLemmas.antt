@@ -1,7 +1,7 @@
 -- Identifiers with at most one variant, read from the left.
-use Rattle.std.proofs.Common.{◌≡◌, ◌≢◌, ℕ, ◌≤◌, Bool, true, false, cond, List, [], ◌∷◌, ◌++◌, length, map}
+use Rattle.std.proofs.Common.{◌≡◌, ◌≢◌, ◌≤◌, Bool, true, false, cond, List, [], ◌∷◌, ◌++◌, length, map}
 use Rattle.std.proofs.Common.{refl, sym, ap, ◌∙◌, subst, arith, append-nil, Option, option_map, Result, Ok}
-use Rattle.std.proofs.Common.{Err, IfOk, true≢false}
+use Rattle.std.proofs.Common.{Err, IfOk}
 use Rattle.std.specs.List.{AllByRecursion}
 use Rattle.iloc_spec_grammar.specs.Syntax.{Text, Language, Script, Region, Variant, is_word, IsWord, lower}
 use Rattle.iloc_spec_grammar.specs.Syntax.{title}
@@ -21,7 +21,7 @@ use Rattle.iloc_langid.specs.declared.plain.PlainParts.{PlainParts}
 use Rattle.iloc_langid.specs.PlainReads.{IsPlainFront}
 use Rattle.iloc_langid.specs.SmallReads.{Parts, small_of, SmallReads, front_parts, after_parts}
 use Rattle.iloc_langid.specs.SmallReads.{SmallFrontReads}
-use Rattle.iloc_langid.proofs.FrontLemmas.{no_empty_language}
+use Rattle.iloc_langid.proofs.FrontLemmas.{no_language as no_parts}
 use Rattle.iloc_spec_parts.specs.SmallComputing.{small_identifier}
 use Rattle.iloc_spec_parts.proofs.SmallShapes.{small_identifier_of, one_variant}
 use Rattle.iloc_spec_parts.proofs.SmallLaws.{short_different, small_identifier_means, one_small_identifier}
@@ -127,9 +127,6 @@ small_left ps r h =
     subst (λ l. after_parts l ≡ []) (sym h.spelled)
     (ap (skip_first variant) e
     ∙ none_left h.written.variants (one_variant ps r h) h.grammatical.words.variants)
-
-no_parts : {P : Type 0} → IsWord (Language languages) [] → P
-no_parts h = absurd (true≢false (sym h ∙ no_empty_language))
 
 pub parts_whole : (ps rest : List Text) (p : Parts) → SmallFrontReads ps rest (Ok p) → rest ≡ [] →
     SmallReads ps (Ok p)

@@ -1,6 +1,6 @@
 -- The first LF, told by masks of some bytes.
-use Rattle.std.proofs.Common.{◌≡◌, ◌≢◌, suc, ◌++◌, ◌∷◌, None, ℕ, ◌^◌, ◌<◌, ◌≤◌, Bool, true, false, not, List}
-use Rattle.std.proofs.Common.{length, map, get_or, take, drop, ◌+◌, ◌-◌, refl, sym, ap, ◌∙◌, subst, arith}
+use Rattle.std.proofs.Common.{◌≡◌, ◌≢◌, suc, ◌++◌, ◌∷◌, None, ℕ, ◌^◌, ◌<◌, ◌≤◌, Bool, true, false, not}
+use Rattle.std.proofs.Common.{length, map, get_or, take, drop, ◌+◌, ◌-◌, sym, ap, ◌∙◌, subst, arith}
 use Rattle.std.proofs.Common.{inl, inr, Some}
 use Rattle.std.specs.List.{prefix_len}
 use Rattle.std.proofs.lemmas.Bool.{false≢true, cases_lt}
@@ -17,14 +17,7 @@ use Rattle.std.proofs.lemmas.List.Elements.{All-from_get_or}
 use Rattle.iloc_lines.specs.Lines.{IsLineEnd, IsOneLine}
 use Rattle.memchr.specs.Find.{IsFirstByte, Nowhere, Passes, NoneBefore, is_byte}
 use Rattle.iloc_spec_grammar.specs.Syntax.{Text}
-
-not-false : (b : Bool) → not b ≡ true → b ≡ false
-not-false true e = sym e
-not-false false e = refl
-
-not-true : (b : Bool) → not b ≡ false → b ≡ true
-not-true true e = refl
-not-true false e = sym e
+use Rattle.iloc_pieces.proofs.FrontLemmas.{is_no, is_yes}
 
 -- where fewer than n of the first n bytes come before the first that passes, it stands after these
 pub first_passes : (p : ℕ → Bool) (hay : Text) (n k : ℕ) → n ≤ length hay →
@@ -35,7 +28,7 @@ first_passes p hay n k within e few long =
     let there : prefix_len q (take n hay) < length (take n hay) = omega arith in
     let here : p (get_or hay k 0) ≡ true =
     ap p (sym (get_or-take n hay k 0 few)) ∙ ap (λ i. p (get_or (take n hay) i 0)) e
-    ∙ not-true _ (prefix_len_stops q (take n hay) 0 there) in (
+    ∙ is_yes _ (prefix_len_stops q (take n hay) 0 there) in (
       record {
         low = omega arith;
         high = omega arith;
@@ -43,7 +36,7 @@ first_passes p hay n k within e few long =
             let early : i < prefix_len q (take n hay) = omega arith in
             let small : i < n = omega arith in
             let none : p (get_or hay i 0) ≡ false = ap p (sym (get_or-take n hay i 0 small))
-            ∙ not-false _ (prefix_len_passes q (take n hay) i 0 early) in
+            ∙ is_no _ (prefix_len_passes q (take n hay) i 0 early) in
             absurd (false≢true (sym none ∙ passes));
       },
       here,
@@ -83,7 +76,7 @@ none_passes p hay n within e i low less passes =
     let all : prefix_len q (take n hay) ≡ length (take n hay) = leading_from_mask_l p (take n hay) e in
     let there : i < prefix_len q (take n hay) = omega (arith, all, length-take-le n hay within) in
     let none : p (get_or hay i 0) ≡ false =
-    ap p (sym (get_or-take n hay i 0 less)) ∙ not-false _ (prefix_len_passes q (take n hay) i 0 there) in
+    ap p (sym (get_or-take n hay i 0 less)) ∙ is_no _ (prefix_len_passes q (take n hay) i 0 there) in
     false≢true (sym none ∙ passes)
 
 -- the first that passes in what follows, where none does before

@@ -1,62 +1,16 @@
 -- An identifier without extensions.
-use Rattle.std.proofs.Common.{
-  ◌≡◌,
-  ◌↔◌,
-  ◌==◌,
-  ℕ,
-  ◌<◌,
-  Bool,
-  true,
-  false,
-  cond,
-  List,
-  [],
-  ◌∷◌,
-  ◌++◌,
-  length,
-  map,
-  filter,
-  Option,
-  Some,
-  None,
-  option_map,
-  refl,
-  sym,
-  ap,
-  ◌∙◌,
-  subst,
-  arith,
-}
+use Rattle.std.proofs.Common.{◌≡◌, ◌↔◌, ℕ, ◌<◌, true, cond, List, [], ◌∷◌, ◌++◌, length, map, filter, Option}
+use Rattle.std.proofs.Common.{Some, None, option_map, refl, sym, ap, ◌∙◌, subst}
 use Rattle.std.specs.List.{AllByRecursion}
-use Rattle.std.specs.Char.{is_ascii_alphanumeric, to_ascii_lowercase}
+use Rattle.std.specs.Char.{is_ascii_alphanumeric}
 use Rattle.std.specs.Ordering.{nat_cmp}
 use Rattle.std.specs.Cmp.{nat_cmp_total}
 use Rattle.std.proofs.lemmas.Bool.{eq-eqb}
-use Rattle.iloc_spec_grammar.specs.Syntax.{
-  Block,
-  Fields,
-  Identifier,
-  Spelled,
-  SpelledIdentifier,
-  SpelledTransform,
-  SpelledUnicode,
-  Transform,
-  Unicode,
-  blocks,
-  front,
-  head,
-  is_other_singleton,
-  kept,
-  languages,
-  lower,
-  lower_singleton,
-  pieces,
-  tail_blocks,
-  transform_pieces,
-  unicode_pieces,
-  word_cmp,
-  fields_pieces,
-}
+use Rattle.iloc_spec_grammar.specs.Syntax.{Block, Fields, Identifier, Spelled, SpelledIdentifier}
+use Rattle.iloc_spec_grammar.specs.Syntax.{SpelledTransform, SpelledUnicode, Transform, Unicode, head}
+use Rattle.iloc_spec_grammar.specs.Syntax.{is_other_singleton, kept, languages, lower, lower_singleton}
+use Rattle.iloc_spec_grammar.specs.Syntax.{pieces, tail_blocks, transform_pieces, unicode_pieces, word_cmp}
+use Rattle.iloc_spec_grammar.specs.Syntax.{fields_pieces}
 use Rattle.iloc_spec_grammar.specs.Meaning.{
   BlocksMean,
   Extensions,
@@ -75,19 +29,11 @@ use Rattle.iloc_spec_grammar.specs.Meaning.{
 }
 use Rattle.iloc_spec_grammar.specs.Values.{text, identifier_text}
 use Rattle.iloc_spec_grammar.proofs.MapLaws.{word_cmp_total}
-use Rattle.iloc_spec_grammar.proofs.Singletons.{
-  IsKind,
-  of_u,
-  of_t,
-  of_x,
-  another,
-  kind_of,
-  lower_letter,
-  two_more,
-}
-use Rattle.iloc_spec_parts.proofs.SmallShapes.{none_there, none_mapped, no_normal_fields}
+use Rattle.iloc_spec_grammar.proofs.Singletons.{IsKind, of_u, of_t, of_x, another, kind_of, lower_letter}
+use Rattle.iloc_spec_parts.proofs.SmallShapes.{none_there, none_mapped, no_normal_fields, nothing_here}
 use Rattle.iloc_normalize.proofs.PlainAnswers as alone
 use Rattle.iloc_spec_grammar.specs.Syntax.{Block, code_x, code_u, code_t, Text}
+use Rattle.iloc_langid.proofs.BlockLemmas.{front_all}
 
 -- the text of an identifier alone
 pub text_alone : (i : Identifier) (e : Extensions) → e ≡ no_extensions
@@ -96,10 +42,6 @@ text_alone i e n =
     ap (λ (x : Extensions). text (record { id = i; extensions = x })) n ∙ alone.text_alone i
 
 -- A block has a piece, which some part of the extensions takes.
-
-some_piece : {X : Type 0} (xs : List X) → 0 < length xs → xs ≡ [] → ⊥
-some_piece [] h e = absurd (omega arith)
-some_piece (x ∷ xs) h e = cc
 
 first_none : {X : Type 0} (xs ys : List X) → xs ++ ys ≡ [] → xs ≡ []
 first_none [] ys e = refl
@@ -122,7 +64,7 @@ no_block (b ∷ bs) h u t x o = absurd (at (kind_of (lower_singleton b) (lower_l
     none_after : (s : ℕ) → lower_singleton b ≡ s → after s (b ∷ bs) ≡ [] → ⊥
     none_after s e n =
         let here = ap (λ t. cond t b.1 []) (sym (eq-eqb (lower_singleton b) s e)) in
-        some_piece b.1 h.0.1 (here ∙ first_none _ (after s bs) n)
+        nothing_here b.1 h.0.1 (here ∙ first_none _ (after s bs) n)
 
     at : IsKind (lower_singleton b) → ⊥
     at (of_u e) = none_after code_u e u
@@ -175,19 +117,9 @@ mean_none bs (w, s, m) =
 
 -- So the pieces are all in the head.
 
-whole_front : (ps : List Text) → blocks ps ≡ [] → front ps ≡ ps
-whole_front [] h = refl
-whole_front ([] ∷ ps) h = ap (λ qs. [] ∷ qs) (whole_front ps h)
-whole_front ((c ∷ []) ∷ ps) h = absurd (by (to_ascii_lowercase c == code_x) h)
-  where
-    by : (b : Bool) → cond b ((c, ps) ∷ []) ((c, front ps) ∷ blocks ps) ≡ [] → ⊥
-    by true e = cc
-    by false e = cc
-whole_front ((c ∷ d ∷ p) ∷ ps) h = rw two_more (ap (λ qs. (c ∷ d ∷ p) ∷ qs) (whole_front ps h))
-
 whole_head : (ps : List Text) → tail_blocks ps ≡ [] → head ps ≡ ps
 whole_head [] h = refl
-whole_head (p ∷ ps) h = ap (λ qs. p ∷ qs) (whole_front ps h)
+whole_head (p ∷ ps) h = ap (λ qs. p ∷ qs) (front_all ps h)
 
 -- a text means an identifier alone exactly if its pieces mean the identifier
 pub means_alone : (t : Text) (i : Identifier) (e : Extensions) → e ≡ no_extensions

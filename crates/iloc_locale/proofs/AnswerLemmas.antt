@@ -256,7 +256,7 @@ no_private M c e h = no_items M.private (not-false _ (read_at M c code_x e h))
 
 -- the whole loop
 
-none_mean : BlocksMean languages [] no_extensions
+pub none_mean : BlocksMean languages [] no_extensions
 none_mean = (
   record {
     unicode = record { attributes = []; keywords = [] };

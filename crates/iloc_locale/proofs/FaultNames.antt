@@ -1,5 +1,5 @@
 -- The faults that the readers of the parts name.
-use Rattle.std.proofs.Common.{◌≡◌, ◌⊎◌, inl, inr, ℕ, List, refl}
+use Rattle.std.proofs.Common.{◌≡◌, ◌⊎◌, inl, inr, List, refl}
 use Rattle.iloc_spec_grammar.specs.Syntax.{Text, languages}
 use Rattle.iloc_spec_grammar.specs.Meaning.{Fault, InvalidSubtag, InvalidExtension}
 use Rattle.iloc_spec_parts.specs.Fronts.{after_attributes, KeywordsFault, bad_key, UnicodeFault, in_keywords}

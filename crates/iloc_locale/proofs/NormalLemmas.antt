@@ -1,5 +1,5 @@
 -- From the locale that was read to its normal text.
-use Rattle.std.proofs.Common.{◌≡◌, inl, inr, ◌↔◌, IsTrue, ℕ, ◌≤◌, Bool, true, false, List, length, refl, sym}
+use Rattle.std.proofs.Common.{◌≡◌, inl, inr, ◌↔◌, IsTrue, ◌≤◌, Bool, true, false, length, refl, sym}
 use Rattle.std.proofs.Common.{ap, ◌∙◌, subst, true≢false, IfOk, Err, Ok, Result}
 use Rattle.iloc_spec_grammar.specs.Syntax.{Text, languages, is_same}
 use Rattle.iloc_spec_grammar.specs.Meaning as meaning

@@ -12,7 +12,7 @@ use Rattle.iloc_spec_grammar.specs.Values.{IsValue, IsWellFormed, TextStep, Lead
 use Rattle.iloc_spec_grammar.specs.Reading.{rest_of, front_of, after_head, starts_block}
 use Rattle.iloc_spec_grammar.proofs.RawLaws.{languages_table}
 use Rattle.iloc_spec_grammar.proofs.SameMeaning.{one_meaning}
-use Rattle.iloc_spec_grammar.proofs.SameFaults.{accepted_no_fault, one_fault}
+use Rattle.iloc_spec_grammar.proofs.SameFaults.{accepted_no_fault, one_fault, first_of_head}
 use Rattle.iloc_spec_grammar.proofs.Corollaries.{means_a_value, read_well_formed}
 use Rattle.iloc_spec_grammar.proofs.WiderTables.{means_ours}
 use Rattle.iloc_spec_grammar.proofs.AnySteps.{chain_means}
@@ -28,7 +28,7 @@ use Rattle.iloc_langid.specs.Reads as langid
 use Rattle.iloc_langid.specs.Reads.{IdentifierReads}
 use Rattle.iloc_locale.specs.ExtensionsValue as extensions
 use Rattle.iloc_locale.specs.Whole.{BlocksReads}
-use Rattle.iloc_pieces.specs.Front.{HasNoLanguage, HasBlock}
+use Rattle.iloc_pieces.specs.Front.{HasNoLanguage}
 use Rattle.iloc_normalize.specs.declared.Mode.TheVariants as modes
 use Rattle.iloc_normalize.proofs.FrontAnswers.{no_language_refused}
 use Rattle.iloc_normalize.proofs.PlainAnswers.{means_alone}
@@ -47,10 +47,6 @@ tail_is (p ∷ ps) = blocks-from_block ps
 
 pub after_head_starts : (ps : List Text) → starts_block (after_head ps) ≡ true
 after_head_starts ps = from_block_starts (rest_of ps)
-
-same_first : (ps : List Text) → first_piece (head ps) ≡ first_piece ps
-same_first [] = refl
-same_first (p ∷ ps) = refl
 
 pub head_accepts : (t : Text) (id : LanguageIdentifier) (e : meaning.Extensions) →
     IdentifierReads (head (pieces t)) (Ok id) → BlocksMean languages (blocks (after_head (pieces t))) e →
@@ -76,9 +72,9 @@ inline_wants_none t i (inr x) = none_long x.1 (inline_by_blocks languages langua
 
 -- and it is wanted only after a language
 pub wants_language : (t : Text) → LocaleWantsMemory t → IsWord (Language languages) (first_piece (pieces t))
-wants_language t (inl x) = subst (λ p. IsWord (Language languages) p) (same_first (pieces t)) x.0
+wants_language t (inl x) = subst (λ p. IsWord (Language languages) p) (first_of_head (pieces t)) x.0
 wants_language t (inr x) = subst (λ p. IsWord (Language languages) p)
-    (sym (ap first_piece x.0.2) ∙ same_first (pieces t)) x.0.1.words.language
+    (sym (ap first_piece x.0.2) ∙ first_of_head (pieces t)) x.0.1.words.language
 
 pub head_refused : (t : Text) (e : ParseError) → IdentifierReads (head (pieces t)) (Err e) →
     RunsOutOnlyIf {X = Unit {0}} (langid.IdentifierWantsMemory (head (pieces t))) (Err e) →

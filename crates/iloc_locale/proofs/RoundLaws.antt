@@ -32,6 +32,7 @@ use Rattle.iloc_locale.specs.Blocks.{BlocksDone, BlockAt, onto, is_read}
 use Rattle.iloc_locale.proofs.ArmLaws.{read_is_known}
 use Rattle.iloc_locale.proofs.StepLaws.{unicode_added, transform_added, private_added, other_added}
 use Rattle.iloc_spec_grammar.proofs.Singletons.{lower_letter, two_more, no_t}
+use Rattle.iloc_normalize.proofs.FrontAnswers.{first_block}
 
 -- blocks of pieces
 
@@ -53,16 +54,6 @@ block_of_x c ps e =
   where
     same : (n : ℕ) → n ≡ code_x → (n == code_x) ≡ true
     same n e = grind (arith, nat_tests)
-
-some_block : (c : ℕ) (ps : List Text) →
-    (qs : List Text) × (bs : List (ℕ × List Text)) × (blocks ((c ∷ []) ∷ ps) ≡ (c, qs) ∷ bs)
-some_block c ps = at (to_ascii_lowercase c == code_x)
-  where
-    at : (b : Bool) →
-        (qs : List Text) × (bs : List (ℕ × List Text))
-        × (cond b ((c, ps) ∷ []) ((c, front ps) ∷ blocks ps) ≡ (c, qs) ∷ bs)
-    at true = (ps, [], refl)
-    at false = (front ps, blocks ps, refl)
 
 other_than : (n k : ℕ) → n ≡ k → (k ≡ code_x → ⊥) → (n == code_x) ≡ false
 other_than n k e d = grind (arith, nat_tests)
@@ -111,12 +102,12 @@ module _ {T : ℕ → Bool} {start : List Text} {c : ℕ} {ps : List Text} {M : 
   -- the singleton is no letter or digit
   pub no_letter : BlocksDone T start ((c ∷ []) ∷ ps) M → is_ascii_alphanumeric c ≡ false →
       HasBlockFault T (blocks start) InvalidExtension
-  no_letter d h = let b = some_block c ps in bad_here b.0 b.1 b.2 d InvalidExtension (no_singleton h)
+  no_letter d h = let b = first_block c ps in bad_here b.0 b.1 b.2 d InvalidExtension (no_singleton h)
 
   -- it was met before
   pub met_before : BlocksDone T start ((c ∷ []) ∷ ps) M → is_ascii_alphanumeric c ≡ true →
       is_read M (to_ascii_lowercase c) ≡ true → HasBlockFault T (blocks start) DuplicatedExtension
-  met_before d h r = let b = some_block c ps in
+  met_before d h r = let b = first_block c ps in
       bad_here b.0 b.1 b.2 d DuplicatedExtension
       (duplicated h (sym (read_is_known T d.done M (to_ascii_lowercase c) (gives d) (lower_letter c h)) ∙ r))
 

@@ -5,10 +5,7 @@ use Rattle.std.proofs.Common.{true≢false}
 use Rattle.std.specs.List.{AllByRecursion, IsAllAdjacentAnswer, list_all}
 use Rattle.std.specs.FinMap.{is_sorted}
 use Rattle.std.specs.FinMap.Entries.{below_all}
-use Rattle.std.specs.Ordering.{nat_cmp, is_lt, MatchOrdering}
-use Rattle.std.specs.Cmp.{nat_cmp_is, ranked}
-use Rattle.std.specs.declared.cmp.Ordering.{Ordering}
-use Rattle.std.specs.declared.cmp.Ordering.TheVariants.{Less, Equal, Greater}
+use Rattle.std.specs.Ordering.{nat_cmp}
 use Rattle.std.specs.Char.{to_ascii_lowercase}
 use Rattle.std.proofs.lemmas.Bool.Decides.{nat_tests}
 use Rattle.iloc_spec_grammar.specs.Syntax.{Text, is_true, is_other_singleton}
@@ -16,6 +13,7 @@ use Rattle.iloc_spec_grammar.specs.Meaning.{Extensions}
 use Rattle.iloc_spec_grammar.specs.Values.{AreWellFormed}
 use Rattle.iloc_locale.specs.WellFormed.{has_own_place, is_in_place, is_plain, is_read_back}
 use Rattle.std.proofs.lemmas.Bool.{not-true, and_parts, and_from}
+use Rattle.iloc_spec_grammar.proofs.ReadBack.{nat_lt_from, nat_lt_to}
 
 module _ {X : Type 0} (test : X → Bool) (P : X → Type 0) where
   all_shown : ((x : X) → test x ≡ true → P x) → (xs : List X) → list_all test xs ≡ true → AllByRecursion P xs
@@ -104,24 +102,13 @@ by_tests e b same = (λ h. shown (sym same ∙ h), λ w. same ∙ met w)
 
 -- Each is below the next, and so below all that follow.
 
-lt_shown : (x y : ℕ) → is_lt (nat_cmp x y) ≡ true → x < y
-lt_shown x y h = go (nat_cmp x y) (ranked x y (nat_cmp x y) refl) h
-  where
-    go : (r : Ordering) → MatchOrdering r (x < y) (x ≡ y) (y < x) → is_lt r ≡ true → x < y
-    go Less l e = l
-    go Equal l e = absurd (true≢false (sym e))
-    go Greater l e = absurd (true≢false (sym e))
-
-lt_met : (x y : ℕ) → x < y → is_lt (nat_cmp x y) ≡ true
-lt_met x y l = ap is_lt (sym (nat_cmp_is x y Less l))
-
 below_lower : (x y : ℕ) → x < y → (os : Others) → below_all nat_cmp y os ≡ true →
     below_all nat_cmp x os ≡ true
 below_lower x y l [] h = refl
 below_lower x y l (o ∷ os) h =
     let parts = and_parts _ _ h in
-    let above = lt_shown y o.0 parts.0 in
-    and_from _ _ (lt_met x o.0 (omega arith)) (below_lower x y l os parts.1)
+    let above = nat_lt_from y o.0 parts.0 in
+    and_from _ _ (nat_lt_to x o.0 (omega arith)) (below_lower x y l os parts.1)
 
 -- each is below the next
 abbrev Adjacent : Others → Type 0
@@ -142,13 +129,14 @@ ascending (o ∷ []) h = refl
 ascending (o ∷ p ∷ os) h =
     let first : o.0 < p.0 = h 0 o (omega arith) in
     let rest = ascending (p ∷ os) (later o (p ∷ os) h) in
-    and_from _ _ (and_from _ _ (lt_met o.0 p.0 first) (below_lower o.0 p.0 first os (and_parts _ _ rest).0))
+    and_from _ _
+    (and_from _ _ (nat_lt_to o.0 p.0 first) (below_lower o.0 p.0 first os (and_parts _ _ rest).0))
     rest
 
 adjacent : (os : Others) → is_sorted nat_cmp os ≡ true → Adjacent os
 adjacent [] h k d l = absurd (omega (arith, l))
 adjacent (o ∷ []) h k d l = absurd (omega (arith, l))
-adjacent (o ∷ p ∷ os) h zero d l = lt_shown o.0 p.0 (and_parts _ _ (and_parts _ _ h).0).0
+adjacent (o ∷ p ∷ os) h zero d l = nat_lt_from o.0 p.0 (and_parts _ _ (and_parts _ _ h).0).0
 adjacent (o ∷ p ∷ os) h (suc k) d l =
     let steps : k + 1 ≡ suc k = omega arith in
     subst (λ n. (get_or (p ∷ os) k d).0 < (get_or (o ∷ p ∷ os) (n + 1) d).0) steps

@@ -14,7 +14,7 @@ use Rattle.iloc_spec_grammar.specs.Tree.{block_pieces}
 use Rattle.iloc_spec_grammar.specs.Meaning.{Fault, InvalidExtension, InvalidSubtag, normal_values}
 use Rattle.iloc_spec_grammar.specs.Reading.{first_item, rest_of}
 use Rattle.iloc_spec_grammar.proofs.FaultLaws.{all_blocks}
-use Rattle.iloc_spec_grammar.proofs.Readings.{long_attribute}
+use Rattle.iloc_spec_grammar.proofs.Readings.{long_attribute, blocks_skip}
 use Rattle.iloc_spec_parts.specs.Small.{SmallIdentifier, SmallLocale}
 use Rattle.iloc_spec_parts.specs.SmallComputing.{block_fault, blocks_result, has_small_keyword}
 use Rattle.iloc_spec_parts.specs.SmallComputing.{is_small_block, is_u, keyword_read}
@@ -22,9 +22,12 @@ use Rattle.iloc_spec_parts.specs.DataComputing.{data_of_result}
 use Rattle.iloc_spec_parts.specs.DataLocales.{DataLocale, agreed, made_of, named_subdivision}
 use Rattle.iloc_spec_parts.specs.Subdivisions.{Subdivision}
 use Rattle.iloc_normalize.specs.Subdivisions.{MeansWithU, data_behind, data_with, has_small_value}
-use Rattle.iloc_normalize.proofs.KeywordAnswers.{and-false, attribute_no_key, fault_is, front_first, key_long}
-use Rattle.iloc_normalize.proofs.KeywordAnswers.{key_no_attribute, letter_u, no_key, no_word, skip_long}
-use Rattle.iloc_normalize.proofs.KeywordAnswers.{front_long, values_whole}
+use Rattle.iloc_normalize.proofs.KeywordAnswers.{attribute_no_key, fault_is, front_first}
+use Rattle.iloc_normalize.proofs.KeywordAnswers.{key_no_attribute, letter_u, no_key, no_word}
+use Rattle.iloc_normalize.proofs.KeywordAnswers.{values_whole}
+use Rattle.iloc_pieces.proofs.RunWords.{and-false}
+use Rattle.iloc_spec_parts.proofs.SmallTrees.{long_key}
+use Rattle.iloc_outline.proofs.BodyLemmas.{front_first as front_long}
 
 -- ---- the first piece
 
@@ -106,7 +109,7 @@ module _ (c : ℕ) (u : is_u c ≡ true) (r : SmallIdentifier) (ps : List Text) 
   pub misfit_behind : IsWord UnicodeKey (first_piece ps) → has_small_value (rest_of ps) ≡ false
       → data_behind r ((c ∷ []) ∷ ps) ≡ Err InvalidSubtag
   misfit_behind k v =
-      let same = front_first ps (key_long (first_piece ps) k) in
+      let same = front_first ps (long_key (first_piece ps) k) in
       let attribute : is_word Attribute (first_piece (front ps)) ≡ false =
       ap (is_word Attribute) same ∙ key_no_attribute (first_piece ps) k in
       let key : is_word UnicodeKey (first_piece (front ps)) ≡ true = ap (is_word UnicodeKey) same ∙ k in
@@ -138,9 +141,9 @@ module _ (c : ℕ) (u : is_u c ≡ true) (r : SmallIdentifier) (p : Text) (qs : 
       let parts = and_parts (list_all (is_word Attribute) qs) (nat_le (length
       (normal_values qs)) 1) small in
       let whole = values_whole qs parts.0 in
-      let long = key_long p key in
+      let long = long_key p key in
       let front_is : front (p ∷ qs) ≡ p ∷ qs = front_long p qs long ∙ ap (λ rs. p ∷ rs) whole.0 in
-      let none : blocks (p ∷ qs) ≡ [] = skip_long p qs long ∙ whole.1 in
+      let none : blocks (p ∷ qs) ≡ [] = blocks_skip p qs long ∙ whole.1 in
       let id : Bool → Bool → Bool → Result SmallLocale Fault = λ x y z.
       if (x && (y && z)) then Ok (record {
         id = r;

@@ -1,6 +1,6 @@
 -- What the pieces behind a head are.
 use Rattle.std.proofs.Common.{◌≡◌, ℕ, ◌+◌, true, false, List, [], ◌∷◌, length, slice_index, Ok, Err, Some}
-use Rattle.std.proofs.Common.{refl, sym, ap, ◌∙◌, subst, arith, true≢false}
+use Rattle.std.proofs.Common.{refl, ap, ◌∙◌, subst, arith}
 use Rattle.std.specs.Prelude.{if◌then◌else◌}
 use Rattle.std.specs.Char.{is_ascii_alphanumeric}
 use Rattle.std.proofs.lemmas.Bool.{eqb-true}
@@ -8,12 +8,11 @@ use Rattle.iloc_spec_grammar.specs.Syntax.{Text, is_one_byte, pieces, first_piec
 use Rattle.iloc_spec_grammar.specs.Meaning.{Fault, InvalidExtension, InvalidSubtag}
 use Rattle.iloc_spec_grammar.specs.Reading.{rest_of}
 use Rattle.iloc_spec_grammar.proofs.PiecesLaws.{at_pieces}
-use Rattle.iloc_spec_grammar.proofs.Singletons.{two_more}
 use Rattle.iloc_spec_parts.specs.Small.{SmallIdentifier}
 use Rattle.iloc_spec_parts.specs.SmallComputing.{block_fault, blocks_result, is_u, keyword_read}
 use Rattle.iloc_spec_parts.specs.DataComputing.{data_of_result}
-use Rattle.iloc_pieces.specs.Left.{IsNextPiece, IsRemainder, bytes_left, piece_left, pieces_left}
-use Rattle.iloc_pieces.specs.declared.left.Left.{Left}
+use Rattle.iloc_pieces.specs.Left.{IsNextPiece, bytes_left, piece_left, pieces_left}
+use Rattle.iloc_pieces.specs.declared.cursor.Left.{Left}
 use Rattle.iloc_pieces.proofs.LeftLemmas.{next_at}
 use Rattle.iloc_normalize.specs.Data.{IsDataBehind}
 use Rattle.iloc_normalize.specs.Subdivisions.{IsKeywordRead, IsNamed, data_behind}
@@ -24,12 +23,7 @@ use Rattle.iloc_normalize.specs.declared.subdivisions.Value.{Value}
 use Rattle.iloc_normalize.proofs.Behind.{no_key_behind, no_attribute, no_word_key}
 use Rattle.iloc_normalize.proofs.FrontAnswers.{first_block, no_u, other_fault}
 use Rattle.iloc_normalize.proofs.KeywordAnswers.{no_letter_no_u, unlettered_fault}
-
--- a piece of one byte is that byte
-one_byte : (p : Text) → is_one_byte p ≡ true → p ≡ slice_index p 0 ∷ []
-one_byte [] e = absurd (true≢false (sym e))
-one_byte (c ∷ []) e = refl
-one_byte (c ∷ d ∷ p) e = absurd (true≢false (sym e ∙ two_more (length p)))
+use Rattle.iloc_outline.proofs.SingletonSteps.{one_byte}
 
 single_first : (t : Text) → is_one_byte (first_piece (pieces t)) ≡ true
     → pieces t ≡ (slice_index (first_piece (pieces t)) 0 ∷ []) ∷ rest_of (pieces t)
@@ -52,7 +46,7 @@ other_block r c ps f other fault =
           Some (keyword_read qs);
     }) else Err (fault qs j)))
 
-module _ (h : Head) (l : Left) (left : IsRemainder l) (single : is_one_byte (piece_left l) ≡ true) where
+module _ (h : Head) (l : Left) (single : is_one_byte (piece_left l) ≡ true) where
   abbrev c : ℕ
   c = slice_index (piece_left l) 0
 
@@ -118,4 +112,4 @@ module _ (h : Head) (l : Left) (left : IsRemainder l) (single : is_one_byte (pie
           next_at_one : m.at ≡ l.at + 2
           next_at_one =
               let one : length (piece_left l) ≡ 1 = eqb-true _ _ single in
-              let next = next_at left n in omega (arith, one, next)
+              let next = next_at l m n in omega (arith, one, next)

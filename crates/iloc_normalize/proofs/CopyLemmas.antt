@@ -1,5 +1,5 @@
 -- Parts that are copied one after the other.
-use Rattle.std.proofs.Common.{◌≡◌, ℕ, zero, suc, ◌+◌, ◌-◌, ◌≤◌, List, [], ◌∷◌, ◌++◌, length, take, drop, refl}
+use Rattle.std.proofs.Common.{◌≡◌, ℕ, zero, suc, ◌+◌, ◌-◌, ◌≤◌, [], ◌∷◌, ◌++◌, length, take, drop, refl}
 use Rattle.std.proofs.Common.{sym, ap, ◌∙◌, arith, length-drop, length-take-le}
 use Rattle.std.proofs.lemmas.List.{take-take, take-map, map-append}
 use Rattle.std.proofs.lemmas.Slice.{take-put_mid}
@@ -25,11 +25,6 @@ pub lower_two : (a b : ℕ) (t : Text) →
 unfolding lower
 lower_two a b t =
     sym (map-append to_ascii_lowercase (take a t) (take b (drop a t))) ∙ ap lower (sym (take_two a b t))
-
--- the first of the first bytes
-pub lower_front : (n m : ℕ) (t : Text) → n ≤ m → take n (lower (take m t)) ≡ lower (take n t)
-unfolding lower
-lower_front n m t few = take-map to_ascii_lowercase n (take m t) ∙ ap lower (take-take n m t few)
 
 -- the first of the sixteen bytes that stand at a place
 pub lower_part : (n a : ℕ) (t : Text) → n ≤ 16 → a + 16 ≤ length t

@@ -4,7 +4,6 @@ use Rattle.std.proofs.Common.{List, [], ◌∷◌, ◌++◌, get_or, Some, Resul
 use Rattle.std.proofs.Common.{◌∙◌, subst}
 use Rattle.std.specs.Prelude.{if◌then◌else◌}
 use Rattle.std.specs.Char.{is_ascii_alphanumeric, to_ascii_lowercase}
-use Rattle.std.specs.List.{AllByRecursion}
 use Rattle.std.proofs.lemmas.Bool.{cases_Bool, true≢false, false_from_ne_true}
 use Rattle.iloc_spec_grammar.specs.Syntax.{code_x, Text, pieces, Language, is_word, IsWord, languages, front}
 use Rattle.iloc_spec_grammar.specs.Syntax.{blocks, head}
@@ -16,7 +15,7 @@ use Rattle.iloc_spec_grammar.specs.Meaning.{in_head}
 use Rattle.iloc_spec_grammar.specs.Meaning as faults
 use Rattle.iloc_spec_grammar.proofs.PiecesLaws.{at_pieces, pieces_nonempty}
 use Rattle.iloc_spec_grammar.proofs.RawLaws.{languages_table}
-use Rattle.iloc_spec_grammar.proofs.Readings.{IsLong, after_language, long_after_language}
+use Rattle.iloc_spec_grammar.proofs.Readings.{after_language, long_after_language, blocks_past}
 use Rattle.iloc_spec_grammar.proofs.ReadingLaws.{pieces-front_of, front_words, after_front-pieces}
 use Rattle.iloc_spec_grammar.proofs.ReadingLaws.{starts_ends, front-from_block, from_block_starts}
 use Rattle.iloc_spec_grammar.proofs.ReadingLaws.{refuses_more}
@@ -100,13 +99,6 @@ misfit_refused Data t l none =
 pub block_is_no_identifier : (t : Text) (b : Block) → BeginsWell t →
     after_front (pieces t) ≡ pieces (rest_of_block b) → HasRefusal Langid t InvalidSubtag
 block_is_no_identifier t b l rest = langid_refused t l (λ e. pieces_nonempty (rest_of_block b) (sym rest ∙ e))
-
--- pieces of more than one byte begin no block
-pub blocks_past : (xs rest : List Text) → AllByRecursion IsLong xs → blocks (xs ++ rest) ≡ blocks rest
-blocks_past [] rest h = refl
-blocks_past ([] ∷ xs) rest h = blocks_past xs rest h.1
-blocks_past ((c ∷ []) ∷ xs) rest h = absurd (true≢false h.0)
-blocks_past ((c ∷ d ∷ p) ∷ xs) rest h = blocks_past xs rest h.1
 
 -- the blocks are those of what is left after the words that fit
 pub blocks_left : (t : Text) → BeginsWell t → tail_blocks (pieces t) ≡ blocks (after_front (pieces t))

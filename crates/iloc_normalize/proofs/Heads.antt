@@ -13,9 +13,6 @@ use Rattle.iloc_spec_grammar.specs.Meaning.{InvalidSubtag, normal_identifier}
 use Rattle.iloc_spec_grammar.specs.Reading.{after_front, after_region, front_of, identifier_of, past}
 use Rattle.iloc_spec_grammar.specs.Reading.{starts_block}
 use Rattle.iloc_spec_grammar.proofs.PiecesLaws.{at_pieces}
-use Rattle.iloc_spec_grammar.proofs.RawLaws.{languages_table}
-use Rattle.iloc_spec_grammar.proofs.WordsLaws.{length-language}
-use Rattle.std.proofs.lemmas.Bool.{ne_eqb}
 use Rattle.iloc_spec_grammar.proofs.Readings.{IsLong, long_variant}
 use Rattle.iloc_spec_grammar.proofs.ValuesLaws.{all_weaker}
 use Rattle.iloc_spec_parts.specs.SmallComputing.{after_identifier, blocks_result, has_small_variants}
@@ -25,18 +22,13 @@ use Rattle.iloc_outline.specs.Identifier.{front_text}
 use Rattle.iloc_outline.specs.Parts.{front_pieces}
 use Rattle.iloc_outline.proofs.Fronts.{front_text-append}
 use Rattle.iloc_outline.proofs.OutlineLemmas.{lower-dashes}
-use Rattle.iloc_outline.proofs.TransformLemmas.{front_of_body, words_front}
+use Rattle.iloc_outline.proofs.TransformLemmas.{front_of_body, words_front, long_language}
 use Rattle.iloc_normalize.specs.Data.{IsHead}
 use Rattle.iloc_normalize.specs.Subdivisions.{bytes_at, data_behind}
 use Rattle.iloc_normalize.specs.declared.data.Head.{Head}
 use Rattle.iloc_normalize.proofs.FrontAnswers.{BeginsWell, blocks_left}
-use Rattle.iloc_normalize.proofs.KeywordAnswers.{front_long, front_past, head_region, large_head, small_head}
-
--- a language is no singleton
-long_language : (p : Text) → IsWord (Language languages) p → IsLong p
-long_language p h =
-    let l = languages_table.least _ (length-language languages p h) in ne_eqb _ _ (λ e. absurd
-    (omega arith))
+use Rattle.iloc_normalize.proofs.KeywordAnswers.{head_region, large_head, small_head}
+use Rattle.iloc_outline.proofs.BodyLemmas.{front_none, front_past, front_first}
 
 -- ---- variants, and what comes behind them
 
@@ -65,10 +57,6 @@ past_variants (v ∷ vs) rest h s =
     ap (λ (b : Bool). cond b (past (is_word Variant) (vs ++ rest)) (v ∷ (vs ++ rest))) h.0
     ∙ past_variants vs rest h.1 s
 
-front_block : (rest : List Text) → starts_block rest ≡ true → front rest ≡ []
-front_block [] s = refl
-front_block (q ∷ qs) s = ap (λ (b : Bool). cond b [] (q ∷ front qs)) s
-
 -- ---- the head alone, or before a block
 
 -- the identifier at the front with these variants
@@ -85,7 +73,7 @@ module _ (t : Text) (begins : BeginsWell t) (vs rest : List Text) (cut : after_r
     left_over = ap (past (is_word Variant)) cut ∙ past_variants vs rest variants starts
 
     before : front (vs ++ rest) ≡ vs
-    before = front_past vs rest (all_long vs variants) ∙ ap (λ qs. vs ++ qs) (front_block rest starts)
+    before = front_past vs rest (all_long vs variants) ∙ ap (λ qs. vs ++ qs) (front_none rest starts)
         ∙ append-nil vs
 
     small : has_small_variants (front (vs ++ rest)) ≡ true
@@ -105,7 +93,7 @@ module _ (t : Text) (begins : BeginsWell t) (vs rest : List Text) (cut : after_r
     unfolding identifier_of front_of
     head_is p qs word e =
         let body = front_of_body (p ∷ qs) word in
-        let first : front (p ∷ qs) ≡ p ∷ front qs = front_long p qs (long_language p word) in
+        let first : front (p ∷ qs) ≡ p ∷ front qs = front_first p qs (long_language p word) in
         let same : front_of (p ∷ front qs) ≡ front_of (p ∷ qs) = ap front_of (sym first) ∙ body in
         let last : after_region (p ∷ front qs) ≡ vs = head_region p qs ∙ ap front e ∙ before in
         λ j. record {
@@ -139,7 +127,7 @@ module _ (t : Text) (begins : BeginsWell t) (vs rest : List Text) (cut : after_r
       (odd : ((vs ≡ []) × (is_word Variant q ≡ false)) ⊎ (length vs ≡ 1)) where
     front_is : front (vs ++ rest) ≡ vs ++ q ∷ front more
     front_is = front_past vs rest (all_long vs variants)
-        ∙ ap (λ qs. vs ++ qs) (ap front goes_on ∙ front_long q more longer)
+        ∙ ap (λ qs. vs ++ qs) (ap front goes_on ∙ front_first q more longer)
 
     large : has_small_variants (vs ++ q ∷ front more) ≡ false
     large = by odd

@@ -17,12 +17,12 @@ use Rattle.iloc_spec_grammar.specs.Meaning.{normal_values, Fault}
 use Rattle.iloc_spec_grammar.specs.Reading.{first_item, passing, skip_first, rest_of, identifier_of}
 use Rattle.iloc_spec_grammar.specs.Reading.{after_region, after_front}
 use Rattle.iloc_spec_grammar.specs.Meaning as faults
-use Rattle.iloc_spec_grammar.proofs.WordsLaws.{length-unicode_key}
 use Rattle.iloc_spec_grammar.proofs.ReadingLaws.{all_while, keep_while_passes}
 use Rattle.iloc_spec_grammar.proofs.ValuesLaws.{all_weaker}
 use Rattle.iloc_spec_grammar.proofs.MapLaws.{same_is}
 use Rattle.iloc_spec_grammar.proofs.PiecesLaws.{at_pieces}
 use Rattle.iloc_spec_grammar.proofs.Readings.{IsLong, long_script, long_region, long_variant, long_attribute}
+use Rattle.iloc_spec_grammar.proofs.Readings.{blocks_skip}
 use Rattle.iloc_spec_grammar.proofs.Readings.{not_two, two}
 use Rattle.iloc_spec_grammar.proofs.FaultLaws.{all_blocks}
 use Rattle.iloc_spec_parts.specs.Small.{SmallLocale}
@@ -43,6 +43,9 @@ use Rattle.iloc_pieces.specs.declared.keyword.Keyword.TheVariants as keyword
 use Rattle.iloc_normalize.specs.Answered.{HasRefusal}
 use Rattle.iloc_normalize.specs.declared.Mode.TheVariants.{Data}
 use Rattle.iloc_normalize.proofs.FrontAnswers.{BeginsWell, blocks_left, data_fault, data_refused}
+use Rattle.iloc_pieces.proofs.RunWords.{and-false}
+use Rattle.iloc_spec_parts.proofs.SmallTrees.{long_key}
+use Rattle.iloc_outline.proofs.BodyLemmas.{front_past, front_first as front_long}
 
 -- ---- the block of `u`
 
@@ -74,11 +77,6 @@ module _ (t : Text) (b : Block) (l : BeginsWell t) (g : GoesOn (after_region (pi
       ∙ ap (λ (x : Bool). cond x ((c, ps) ∷ []) (first ∷ blocks ps)) no_x
 
 -- ---- the variants before the block
-
-pub front_past : (xs qs : List Text) → AllByRecursion IsLong xs → front (xs ++ qs) ≡ xs ++ front qs
-front_past [] qs h = refl
-front_past (x ∷ xs) qs h =
-    ap (λ (b : Bool). cond b [] (x ∷ front (xs ++ qs))) h.0 ∙ ap (λ l. x ∷ l) (front_past xs qs h.1)
 
 module _ (t : Text) (b : Block) (g : GoesOn (after_region (pieces t)) b) where
   abbrev after : List Text
@@ -119,10 +117,6 @@ module _ (t : Text) (b : Block) (g : GoesOn (after_region (pieces t)) b) where
       let le : nat_le (length before) 1 ≡ true =
       (let short : length before ≤ 1 = omega (arith, few, total) in grind (arith, nat_tests)) in
       ap has_small_variants before_is ∙ (λ j. all_true before variants_pass j && le j)
-
-pub and-false : (b : Bool) → (b && false) ≡ false
-and-false true = refl
-and-false false = refl
 
 and_both : (a b : Bool) → (a && b) ≡ true → (a ≡ true) × (b ≡ true)
 and_both true b e = (refl, e)
@@ -166,9 +160,6 @@ key_no_attribute p h = elim (cases_Bool (is_word Attribute p)) [
   | inr other ↦ other
 ]
 
-pub key_long : (p : Text) → IsWord UnicodeKey p → IsLong p
-key_long p h = let two : length p ≡ 2 = length-unicode_key p h in grind (arith, nat_tests)
-
 -- the fault by whether the singleton is a letter and `u`, and an attribute or a key follows
 abbrev pub fault_by : Bool → Bool → Bool → Bool → Fault
 fault_by a s x y =
@@ -185,14 +176,6 @@ fault_is b x y letter u attribute key = λ j. fault_by (letter j) (u j) (attribu
 
 -- ---- pieces that make one
 
-pub skip_long : (q : Text) (qs : List Text) → IsLong q → blocks (q ∷ qs) ≡ blocks qs
-skip_long [] qs h = refl
-skip_long (c ∷ []) qs h = absurd (true≢false h)
-skip_long (c ∷ d ∷ p) qs h = refl
-
-pub front_long : (q : Text) (qs : List Text) → IsLong q → front (q ∷ qs) ≡ q ∷ front qs
-front_long q qs h = ap (λ (o : Bool). cond o [] (q ∷ front qs)) h
-
 pub values_whole : (qs : List Text) → list_all (is_word Attribute) qs ≡ true →
     (front qs ≡ qs) × (blocks qs ≡ [])
 values_whole [] h = (refl, refl)
@@ -200,13 +183,13 @@ values_whole (q ∷ qs) h =
     let parts = and_both (is_word Attribute q) (list_all (is_word Attribute) qs) h in
     let long = long_attribute q parts.0 in
     let later = values_whole qs parts.1 in
-    (front_long q qs long ∙ ap (λ rs. q ∷ rs) later.0, skip_long q qs long ∙ later.1)
+    (front_long q qs long ∙ ap (λ rs. q ∷ rs) later.0, blocks_skip q qs long ∙ later.1)
 
 -- a key and its values are before the next block
 pub whole_front : (qs : List Text) → IsWord UnicodeKey (first_piece qs) →
     list_all (is_word Attribute) (rest_of qs) ≡ true → front qs ≡ qs
 whole_front [] k v = refl
-whole_front (q ∷ qs) k v = front_long q qs (key_long q k) ∙ ap (λ rs. q ∷ rs) (values_whole qs v).0
+whole_front (q ∷ qs) k v = front_long q qs (long_key q k) ∙ ap (λ rs. q ∷ rs) (values_whole qs v).0
 
 pub no_word : IsWord UnicodeKey [] → ⊥
 unfolding is_word
@@ -225,11 +208,11 @@ record Reads (qs : List Text) : Type 0 where
 single_reads : (qs : List Text) → IsSingle qs → Reads qs
 single_reads [] s = absurd (no_word s.key)
 single_reads (q ∷ qs) s =
-    let long = key_long q s.key in
+    let long = long_key q s.key in
     let values = values_whole qs s.values in
     record {
       whole = front_long q qs long ∙ ap (λ rs. q ∷ rs) values.0;
-      alone = skip_long q qs long ∙ values.1;
+      alone = blocks_skip q qs long ∙ values.1;
       small = λ j. both (s.key j) (s.values j) (few j);
       unread = λ region. unread s.other region;
     }
@@ -347,7 +330,7 @@ module _ (t : Text) (b : Block) (h : HasBlock t b)
 
   pub misfit_refused : IsKeywordOf rest keyword.Misfit → HasRefusal Data t InvalidSubtag
   misfit_refused k =
-      let same = front_first rest (key_long (first_piece rest) k.0) in
+      let same = front_first rest (long_key (first_piece rest) k.0) in
       let attribute : is_word Attribute (first_piece (front rest)) ≡ false =
       ap (is_word Attribute) same ∙ key_no_attribute (first_piece rest) k.0 in
       let key : is_word UnicodeKey (first_piece (front rest)) ≡ true = ap (is_word UnicodeKey) same ∙ k.0 in
@@ -363,7 +346,7 @@ module _ (t : Text) (b : Block) (h : HasBlock t b)
 
   pub many_refused : IsKeywordOf rest keyword.Many → HasRefusal Data t InvalidSubtag
   many_refused k =
-      let same = front_first rest (key_long (first_piece rest) k.0) in
+      let same = front_first rest (long_key (first_piece rest) k.0) in
       let attribute : is_word Attribute (first_piece (front rest)) ≡ false =
       ap (is_word Attribute) same ∙ key_no_attribute (first_piece rest) k.0 in
       let key : is_word UnicodeKey (first_piece (front rest)) ≡ true = ap (is_word UnicodeKey) same ∙ k.0 in

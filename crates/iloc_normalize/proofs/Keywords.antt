@@ -7,7 +7,7 @@ use Rattle.iloc_spec_grammar.specs.Reading.{first_item}
 use Rattle.iloc_spec_grammar.proofs.WordsLaws.{length-unicode_key}
 use Rattle.iloc_spec_parts.specs.DataLocales.{named_subdivision}
 use Rattle.iloc_pieces.specs.Left.{bytes_left, piece_left, pieces_left}
-use Rattle.iloc_pieces.specs.declared.left.Left.{Left}
+use Rattle.iloc_pieces.specs.declared.cursor.Left.{Left}
 use Rattle.iloc_pieces.proofs.LeftLemmas.{first_within, length_rest, piece_bytes}
 use Rattle.iloc_normalize.specs.Subdivisions.{IsKeywordRead, IsNamed, IsNamedBy, IsOnly, bytes_at}
 use Rattle.iloc_normalize.specs.declared.subdivisions.Keyword.{Keyword}
@@ -27,13 +27,13 @@ keyword_named key m w h (keywords.Named v) n =
     let s = n.3.0 in
     let two = length-unicode_key (piece_left key) w in
     let behind = h.behind in
-    let rest = length_rest h.left in
+    let rest = length_rest m in
     let first = first_within (bytes_left m) in
     let end = h.end in
     let at = n.1 in
     let len = n.2 in
     let bytes : bytes_at m.window.now v.at v.len ≡ piece_left m =
-    (λ j. take (n.2 j) (drop (n.1 j) m.window.now)) ∙ piece_bytes h.left in
+    (λ j. take (n.2 j) (drop (n.1 j) m.window.now)) ∙ piece_bytes m in
     let names : named_subdivision (lower (piece_left m)) ≡ Some s =
     ap (λ t. named_subdivision (lower t)) (sym bytes) ∙ ap result_ok n.3.1.names in (
       s,

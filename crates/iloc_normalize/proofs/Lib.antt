@@ -6,10 +6,10 @@ pub mod PlainAnswers
 pub mod FrontAnswers
 mod OutlinedLemmas
 mod FoundAnswers
-mod KeywordAnswers
+pub mod KeywordAnswers
 pub mod Subtags
 pub mod Names
-mod Behind
+pub mod Behind
 mod Keywords
 mod Heads
 mod Blocks

@@ -1,41 +1,45 @@
 -- What a subtag names as a value of `sd`.
 use Rattle.std.proofs.Common.{◌≡◌, ◌≢◌, ℕ, zero, suc, ◌+◌, ◌-◌, ◌*◌, ◌/◌, ◌%◌, ◌≤◌, ◌==◌, Bool, true, false}
 use Rattle.std.proofs.Common.{cond, ◌&&◌, [], ◌∷◌, ◌++◌, length, get_or, take, drop, codes, Option, None}
-use Rattle.std.proofs.Common.{Some, Ok, Err, refl, sym, ap, ap₂, ◌∙◌, arith, inl, inr, take-append-drop}
+use Rattle.std.proofs.Common.{Some, Ok, Err, refl, sym, ap, ap₂, ◌∙◌, arith, take-append-drop}
 use Rattle.std.proofs.Common.{true≢false}
 use Rattle.std.specs.Prelude.{if◌then◌else◌, ok_or}
 use Rattle.std.specs.Char.{is_ascii_alphabetic, is_ascii_alphanumeric, to_ascii_lowercase}
 use Rattle.std.specs.Result.{result_ok}
 use Rattle.std.proofs.lemmas.Bool.{and_from, and_parts, eq-eqb, eqb-true}
-use Rattle.std.proofs.lemmas.Bool.Decides.{nat_tests}
-use Rattle.std.proofs.lemmas.List.{drop-drop, drop-take, map-append, take-take}
+use Rattle.std.proofs.lemmas.List.{drop-drop, drop-take, take-take}
 use Rattle.iloc_spec_grammar.specs.Syntax.{Text, Attribute, Region, Subtag, SubdivisionSuffix, UnicodeKey}
 use Rattle.iloc_spec_grammar.specs.Syntax.{IsWord, is_same, is_true, is_word, letters_or_digits, lower}
 use Rattle.iloc_spec_grammar.specs.Syntax.{normal, upper}
 use Rattle.iloc_spec_grammar.specs.Meaning as faults
 use Rattle.iloc_spec_grammar.proofs.MapLaws.{same_is, same_itself}
 use Rattle.iloc_spec_grammar.proofs.WordsLaws.{is_word-lower, is_word-normal, length-attribute}
+use Rattle.iloc_spec_grammar.proofs.WordsLaws.{alphabetic-lower}
 use Rattle.iloc_spec_grammar.proofs.WordsLaws.{length-unicode_key, lower-lower, lower-upper, normal-normal}
 use Rattle.iloc_spec_grammar.proofs.WordsLaws.{word_letters_or_digits}
 use Rattle.iloc_spec_parts.specs.DataLocales.{named_subdivision}
 use Rattle.iloc_spec_parts.specs.Subdivisions.{Subdivision, both_words, region_length, subdivision}
 use Rattle.iloc_spec_parts.specs.Subdivisions.{subdivision_text}
 use Rattle.iloc_spec_parts.proofs.SubdivisionLaws.{subdivision_back}
-use Rattle.iloc_pieces.specs.Left.{IsRemainder, IsShortPiece, piece_left}
+use Rattle.iloc_pieces.specs.Left.{IsShortPiece, piece_left}
 use Rattle.iloc_pieces.specs.Shape.{bits, shape_of}
-use Rattle.iloc_pieces.specs.declared.left.Left.{Left}
+use Rattle.iloc_pieces.specs.declared.cursor.Left.{Left}
 use Rattle.iloc_pieces.proofs.LeftLemmas.{length_piece, piece_byte, short_attribute, short_bytes}
+use Rattle.iloc_pieces.proofs.Tells.{shape_left}
 use Rattle.iloc_normalize.specs.Subdivisions.{EndsRegion, IsNamed, bytes_at}
+use Rattle.iloc_pieces.proofs.RunWords.{and-false}
+use Rattle.iloc_pieces.proofs.Shapes.{shape_of_one}
+use Rattle.iloc_outline.proofs.OutlineLemmas.{lower-append}
 
 -- ---- the key
 
-one_test : (x y : Bool) → (x ≡ true → y ≡ true) → (y ≡ true → x ≡ true) → x ≡ y
+pub one_test : (x y : Bool) → (x ≡ true → y ≡ true) → (y ≡ true → x ≡ true) → x ≡ y
 one_test true true f g = refl
 one_test false false f g = refl
 one_test true false f g = sym (f refl)
 one_test false true f g = g refl
 
-sd_of : (p : Text) → length p ≡ 2 → is_same (lower p) (codes "sd")
+pub sd_of : (p : Text) → length p ≡ 2 → is_same (lower p) (codes "sd")
     ≡ ((to_ascii_lowercase (get_or p 0 0) == 115) && (to_ascii_lowercase (get_or p 1 0) == 100))
 unfolding lower
 sd_of (a ∷ b ∷ []) e = one_test _ _
@@ -52,22 +56,18 @@ sd_of (a ∷ []) e = absurd (omega arith)
 sd_of (a ∷ b ∷ c ∷ p) e = absurd (omega arith)
 
 -- a key is `sd` if its two bytes are
-pub sd_is : {l : Left} → IsRemainder l → IsWord UnicodeKey (piece_left l)
+pub sd_is : (l : Left) → IsWord UnicodeKey (piece_left l)
     → is_same (lower (piece_left l)) (codes "sd")
     ≡ ((to_ascii_lowercase (get_or l.window.now l.at 0) == 115)
     && (to_ascii_lowercase (get_or l.window.now (l.at + 1) 0) == 100))
-sd_is {l = l} h k =
+sd_is l k =
     let two = length-unicode_key (piece_left l) k in
     sd_of (piece_left l) two
     ∙ ap₂ (λ u v. (to_ascii_lowercase u == 115) && (to_ascii_lowercase v == 100))
-    (piece_byte h 0 (omega arith)
-    ∙ ap (λ i. get_or l.window.now i 0) (omega arith)) (piece_byte h 1 (omega arith))
+    (piece_byte l 0 (omega arith)
+    ∙ ap (λ i. get_or l.window.now i 0) (omega arith)) (piece_byte l 1 (omega arith))
 
 -- ---- a region and a suffix
-
-lower_joined : (a b : Text) → lower (a ++ b) ≡ lower a ++ lower b
-unfolding lower
-lower_joined a b = map-append to_ascii_lowercase a b
 
 -- a region of k bytes, and a suffix
 pub named_parts : (v : Text) (k : ℕ) → IsWord Region (take k v) → IsWord SubdivisionSuffix (drop k v)
@@ -75,7 +75,7 @@ pub named_parts : (v : Text) (k : ℕ) → IsWord Region (take k v) → IsWord S
 named_parts v k r x =
     let s : Subdivision = record { region = upper (take k v); suffix = lower (drop k v) } in
     let same : lower v ≡ subdivision_text s =
-    ap lower (sym (take-append-drop k v)) ∙ lower_joined (take k v) (drop k v)
+    ap lower (sym (take-append-drop k v)) ∙ lower-append (take k v) (drop k v)
     ∙ (λ j. sym (lower-upper (take k v)) j ++ sym (lower-lower (drop k v)) j) in
     ap subdivision same
     ∙ subdivision_back s (record {
@@ -130,20 +130,12 @@ unnamed v none = by (is_word Subtag t) (is_word Region (take k t)) (is_word Subd
 
 -- ---- shapes
 
-shape_is : (p : Text) → letters_or_digits p ≡ true → shape_of p ≡ bits p
-unfolding shape_of
-shape_is p h = ap (λ (a : Bool). cond a (bits p) 0) h
-
 abbrev bit : ℕ → ℕ
 bit b = cond (is_ascii_alphabetic b) 0 1
 
 low_bit : (b : ℕ) → bit b ≤ 1
 low_bit b = elim (is_ascii_alphabetic b) as (λ
     (a : Bool). cond a 0 1 ≤ 1) [ true ↦ omega arith | false ↦ omega arith ]
-
--- by the first bit the region is letters or digits
-low_letter : (c : ℕ) → is_ascii_alphabetic (to_ascii_lowercase c) ≡ is_ascii_alphabetic c
-low_letter c = grind (arith, nat_tests)
 
 letter_of : (b m : ℕ) → (bit b + 2 * m) % 2 ≡ 0 → is_ascii_alphabetic b ≡ true
 letter_of b m e = by (is_ascii_alphabetic b) refl
@@ -183,28 +175,28 @@ module _ (a b c : ℕ) (q : Text) (all : letters_or_digits (a ∷ b ∷ c ∷ q)
 
   whole : shape_of p ≡ bit a + 2 * (bit b + 2 * (bit c + 2 * bits q))
   unfolding bits
-  whole = shape_is p all
+  whole = shape_of_one p all
 
   pub two_letters : shape_of p % 2 ≡ 0 → region_length (lower p) ≡ 2
   unfolding lower
   two_letters e =
       let l : is_ascii_alphabetic a ≡ true =
       letter_of a (bit b + 2 * (bit c + 2 * bits q)) (ap (λ n. n % 2) (sym whole) ∙ e) in
-      ap (λ (x : Bool). if x then 2 else 3) (low_letter a ∙ l)
+      ap (λ (x : Bool). if x then 2 else 3) (alphabetic-lower a ∙ l)
 
   pub three_digits : shape_of p % 2 ≢ 0 → region_length (lower p) ≡ 3
   unfolding lower
   three_digits e =
       let l : is_ascii_alphabetic a ≡ false =
       digit_of a (bit b + 2 * (bit c + 2 * bits q)) (λ z. e (ap (λ n. n % 2) whole ∙ z)) in
-      ap (λ (x : Bool). if x then 2 else 3) (low_letter a ∙ l)
+      ap (λ (x : Bool). if x then 2 else 3) (alphabetic-lower a ∙ l)
 
   pub front_two : shape_of (take 2 p) ≡ shape_of p % 4 + 4
   unfolding bits
   front_two =
       let words : letters_or_digits (a ∷ b ∷ []) ≡ true = λ j. first j && (second j && true) in
       let x = low_bit a in let y = low_bit b in
-      let is = shape_is (a ∷ b ∷ []) words in
+      let is = shape_of_one (a ∷ b ∷ []) words in
       let w = whole in
       omega (arith, is, w, x, y)
 
@@ -212,7 +204,7 @@ module _ (a b c : ℕ) (q : Text) (all : letters_or_digits (a ∷ b ∷ c ∷ q)
   unfolding bits
   rest_two =
       let x = low_bit a in let y = low_bit b in
-      let is = shape_is (c ∷ q) last in
+      let is = shape_of_one (c ∷ q) last in
       let w = whole in
       omega (arith, is, w, x, y)
 
@@ -222,7 +214,7 @@ module _ (a b c : ℕ) (q : Text) (all : letters_or_digits (a ∷ b ∷ c ∷ q)
       let words : letters_or_digits (a ∷ b ∷ c ∷ []) ≡ true =
       λ j. first j && (second j && (third j && true)) in
       let x = low_bit a in let y = low_bit b in let z = low_bit c in
-      let is = shape_is (a ∷ b ∷ c ∷ []) words in
+      let is = shape_of_one (a ∷ b ∷ c ∷ []) words in
       let w = whole in
       omega (arith, is, w, x, y, z)
 
@@ -230,7 +222,7 @@ module _ (a b c : ℕ) (q : Text) (all : letters_or_digits (a ∷ b ∷ c ∷ q)
   unfolding bits
   rest_three =
       let x = low_bit a in let y = low_bit b in let z = low_bit c in
-      let is = shape_is q rest in
+      let is = shape_of_one q rest in
       let w = whole in
       omega (arith, is, w, x, y, z)
 
@@ -256,10 +248,6 @@ parts (a ∷ b ∷ c ∷ q) all l = record {
   rest_three = rest_three a b c q all;
 }
 
-and-false : (b : Bool) → (b && false) ≡ false
-and-false true = refl
-and-false false = refl
-
 -- the region has k bytes, if the words are
 module _ (p : Text) (k : ℕ) (at : region_length (lower p) ≡ k) where
   abbrev both : ℕ → Bool
@@ -282,16 +270,13 @@ two_or_three (c ∷ t) = elim (is_ascii_alphabetic c) as (λ (b : Bool). (2 ≤ 
       | false ↦ (omega arith, omega arith)
     ]
 
-module _ (m : Left) (left : IsRemainder m) (word : IsWord Attribute (piece_left m)) where
+module _ (m : Left) (word : IsWord Attribute (piece_left m)) where
   short : IsShortPiece (piece_left m)
   short = short_attribute (piece_left m) word
 
   -- its shape
   pub shape_there : shape_of (piece_left m) ≡ m.shape
-  shape_there = elim left.piece [
-    | inl s ↦ sym s.shape
-    | inr k ↦ absurd (let l = k.long in let s = short in omega arith)
-  ]
+  shape_there = sym (shape_left m short)
 
   pub all_there : letters_or_digits (piece_left m) ≡ true
   all_there = word_letters_or_digits Attribute (piece_left m) word
@@ -307,11 +292,11 @@ module _ (m : Left) (left : IsRemainder m) (word : IsWord Attribute (piece_left 
       let p = piece_left m in
       let w = m.window.now in
       let n = suc k in
-      let long = length_piece left short in
+      let long = length_piece m short in
       let few = two_or_three (lower p) in
       let size : (2 ≤ n) × (n ≤ 3) = (omega (arith, few.0, h.0), omega (arith, few.1, h.0)) in
       let l = long_there in
-      let bytes : bytes_at w m.at m.n ≡ p = short_bytes left short in
+      let bytes : bytes_at w m.at m.n ≡ p = short_bytes m short in
       let within : n ≤ m.n = omega (arith, size.1, l, long) in
       let region : bytes_at w m.at n ≡ take n p =
       sym (take-take n m.n (drop m.at w) within) ∙ ap (take n) bytes in

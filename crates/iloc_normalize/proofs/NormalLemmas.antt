@@ -1,6 +1,6 @@
 -- What is answered of a normal text, as a caller says it of what it returns.
 use Rattle.std.specs.Prelude.{◌↔◌, ⊤, IfErr, Result}
-use Rattle.std.proofs.Common.{◌≡◌, ℕ, List, Ok, Err, IfOk}
+use Rattle.std.proofs.Common.{◌≡◌, Ok, Err, IfOk}
 use Rattle.std.specs.Cow.{cow_str_bytes}
 use Rattle.std.specs.declared.borrow.CowStr.{CowStr}
 use Rattle.iloc_spec_grammar.specs.Syntax.{Text, languages}

@@ -4,19 +4,18 @@ use Rattle.std.proofs.Common.{take, Some, None, Ok, Err, refl, sym, ap, ◌∙�
 use Rattle.std.proofs.Common.{append-nil, length-append, option_map}
 use Rattle.std.proofs.Math.Seq.{take-append-add}
 use Rattle.std.proofs.lemmas.List.{append_cancel_left, length-take-le, take-take}
-use Rattle.iloc_spec_grammar.specs.Syntax.{Text, Variant, SpelledIdentifier, IsWord, first_piece, is_one_byte}
+use Rattle.iloc_spec_grammar.specs.Syntax.{Text, Variant, SpelledIdentifier, IsWord, is_one_byte}
 use Rattle.iloc_spec_grammar.specs.Syntax.{is_word, join, languages, pieces}
 use Rattle.iloc_spec_grammar.specs.Meaning.{Fault, InvalidSubtag, normal_identifier}
-use Rattle.iloc_spec_grammar.specs.Reading.{after_front, after_region, front_of, rest_of, starts_block}
-use Rattle.iloc_spec_grammar.proofs.PiecesLaws.{at_pieces}
+use Rattle.iloc_spec_grammar.specs.Reading.{after_front, after_region, front_of, rest_of}
 use Rattle.iloc_spec_grammar.proofs.ReadingLaws.{all_while}
 use Rattle.iloc_spec_parts.specs.Small.{SmallIdentifier}
 use Rattle.iloc_spec_parts.specs.SmallComputing.{blocks_result, small_identifier}
 use Rattle.iloc_spec_parts.specs.DataComputing.{data_result}
 use Rattle.iloc_spec_parts.specs.DataLocales.{HasDataFault, made_of, whole_region}
 use Rattle.iloc_subtags.specs.Judging.{error_of}
-use Rattle.iloc_pieces.specs.Left.{IsPast, IsRemainder, bytes_left, piece_left, pieces_left, whole_text}
-use Rattle.iloc_pieces.specs.declared.left.Left.{Left}
+use Rattle.iloc_pieces.specs.Left.{IsPast, bytes_left, piece_left, pieces_left, whole_text}
+use Rattle.iloc_pieces.specs.declared.cursor.Left.{Left}
 use Rattle.iloc_pieces.proofs.LeftLemmas.{begins, first_within, length_piece, length_rest, short_variant}
 use Rattle.iloc_outline.specs.Identifier.{IsAfterFront, IsFrontRead, front_text}
 use Rattle.iloc_outline.specs.Outlines.{BeginsWithLanguage}
@@ -35,18 +34,13 @@ use Rattle.iloc_normalize.specs.declared.data.Data.TheVariants as datas
 use Rattle.iloc_normalize.specs.declared.data.Head.{Head}
 use Rattle.iloc_normalize.proofs.FrontAnswers.{data_fault}
 use Rattle.iloc_normalize.proofs.Heads.{AreVariants, head_printed, head_with, meant, misfit, words_with}
+use Rattle.iloc_outline.proofs.HeadLemmas.{single_starts}
+use Rattle.iloc_outline.proofs.PrintingLemmas.{pieces_behind}
 
 alone_is : (r : SmallIdentifier) → data_behind r []
     ≡ Ok (made_of r.language r.script (option_map whole_region r.region) r.variant)
 unfolding blocks_result
 alone_is r = refl
-
-single_starts : (t : Text) → is_one_byte (first_piece (pieces t)) ≡ true → starts_block (pieces t) ≡ true
-single_starts t = at_pieces (λ ps. is_one_byte (first_piece ps) ≡ true
-    → starts_block ps ≡ true) (λ p ps e. e) t
-
-first_and_rest : (t : Text) → pieces t ≡ first_piece (pieces t) ∷ rest_of (pieces t)
-first_and_rest t = at_pieces (λ ps. ps ≡ first_piece ps ∷ rest_of ps) (λ p ps. refl) t
 
 refusal : (t : Text) (f : Fault) → data_result languages t ≡ Err f → HasRefusal modes.Data t (error_of f)
 refusal t f e = refused (HasDataFault languages t) f (error_of f) refl (data_fault t f e)
@@ -103,7 +97,7 @@ module _ (w : Text) (len : ℕ) (language : BeginsWithLanguage (take len w)) (vs
         subst (HasRefusal modes.Data t) (sym is)
         (refusal t InvalidSubtag (misfit t language vs (pieces_left k) cut variants (piece_left k)
         (rest_of (pieces_left k))
-        (first_and_rest (bytes_left k)) longer odd))
+        (pieces_behind (bytes_left k)) longer odd))
     read_on (datas.Refused e) (inr (single, (f, is, means))) =
         subst (HasRefusal modes.Data t) (sym is)
         (refusal t f (by_block single ∙ means (small_identifier i)))
@@ -112,7 +106,7 @@ module _ (w : Text) (len : ℕ) (language : BeginsWithLanguage (take len w)) (vs
 
 module _ (w : Text) (len : ℕ) (inside : len ≤ length w) (language : BeginsWithLanguage (take len w))
     (l : Left)
-    (left : IsRemainder l) (rest : bytes_left l ≡ take len w) (first : l.at ≡ 0) (size : l.len ≡ len)
+    (rest : bytes_left l ≡ take len w) (first : l.at ≡ 0) (size : l.len ≡ len)
     (window : l.window.now ≡ w) (m : Left) (f : Front) (read : IsFrontRead l m f) where
   abbrev u : Text
   u = take len w
@@ -172,17 +166,14 @@ module _ (w : Text) (len : ℕ) (inside : len ≤ length w) (language : BeginsWi
     past : IsPast l m (front_pieces (front_of (pieces_left l)))
     past = after.0
 
-    pub left_there : IsRemainder m
-    left_there = past.left
-
     pub at_front : m.at ≡ f.end + 1
     at_front =
         let cut = past.rest (λ e. cc) in
         let join_is : length (join (front_pieces (front_of (pieces_left l)))) ≡ length (join fs) =
         ap (λ ps. length (join (front_pieces (front_of ps)))) same in
         let a = past.end in
-        let b = length_rest left in
-        let c = length_rest past.left in
+        let b = length_rest l in
+        let c = length_rest m in
         let d = ap length cut in
         let e = length-append (join (front_pieces (front_of (pieces_left l)))) (45 ∷ bytes_left m) in
         omega (arith, a, b, c, d, e, long, join_is, first)
@@ -209,12 +200,12 @@ module _ (w : Text) (len : ℕ) (inside : len ≤ length w) (language : BeginsWi
       varied = record { front = f; end = m.at + m.n }
 
       size_there : m.n ≡ length v
-      size_there = length_piece left_there (short_variant v word)
+      size_there = length_piece m (short_variant v word)
 
       pub within_there : m.at + m.n ≤ len
       within_there =
           let a = first_within (bytes_left m) in
-          let b = length_rest left_there in
+          let b = length_rest m in
           omega (arith, a, b, end_there, size_there)
 
       cut_there : take (m.at + m.n) w ≡ take f.end w ++ (45 ∷ v) ++ []

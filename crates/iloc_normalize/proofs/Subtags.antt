@@ -8,18 +8,14 @@ use Rattle.iloc_spec_grammar.specs.Syntax.{first_piece}
 use Rattle.iloc_spec_grammar.specs.Meaning.{normal_values}
 use Rattle.iloc_spec_grammar.specs.Reading.{rest_of}
 use Rattle.iloc_spec_grammar.proofs.PiecesLaws.{at_pieces}
-use Rattle.iloc_pieces.specs.Left.{IsRemainder, IsNextPiece, IsShortPiece, piece_left, pieces_left}
+use Rattle.iloc_pieces.specs.Left.{IsNextPiece, IsShortPiece, piece_left, pieces_left}
 use Rattle.iloc_pieces.specs.Left.{bytes_left}
-use Rattle.iloc_pieces.specs.declared.left.Left.{Left}
+use Rattle.iloc_pieces.specs.declared.cursor.Left.{Left}
 use Rattle.iloc_pieces.proofs.LeftLemmas.{next_at, short_attribute}
 use Rattle.iloc_normalize.specs.Subdivisions.{IsOnly, are_trues, has_small_value}
+use Rattle.iloc_pieces.proofs.FrontLemmas.{values_true}
 
 -- ---- lists of pieces
-
-values_true : (p : Text) (ps : List Text) → is_true (lower p) ≡ true
-    → normal_values (p ∷ ps) ≡ normal_values ps
-values_true p ps e =
-    ap (λ (b : Bool). cond (not b) (lower p ∷ normal_values ps) (normal_values ps)) e
 
 values_other : (p : Text) (ps : List Text) → is_true (lower p) ≡ false
     → normal_values (p ∷ ps) ≡ lower p ∷ normal_values ps
@@ -152,7 +148,6 @@ module _ (word at m : Left) (same : are_trues (rest_of (pieces_left word)) ≡ a
 
 -- from the key on only `true` was passed
 pub record Reaches (key at : Left) : Type 0 where
-  pub left : IsRemainder at
   pub short : IsShortPiece (piece_left at)
   pub window : at.window.now ≡ key.window.now
   pub end : at.at + at.len ≡ key.at + key.len
@@ -160,9 +155,8 @@ pub record Reaches (key at : Left) : Type 0 where
   pub small : has_small_value (rest_of (pieces_left key)) ≡ has_small_value (rest_of (pieces_left at))
   pub values : normal_values (rest_of (pieces_left key)) ≡ normal_values (rest_of (pieces_left at))
 
-pub reaches_key : (key : Left) → IsRemainder key → IsShortPiece (piece_left key) → Reaches key key
-reaches_key key h short = record {
-  left = h;
+pub reaches_key : (key : Left) → IsShortPiece (piece_left key) → Reaches key key
+reaches_key key short = record {
   short = short;
   window = refl;
   end = refl;
@@ -196,8 +190,7 @@ module _ (key at : Left) (h : Reaches key at) where
       pub reaches_more : is_true (lower (piece_left m)) ≡ true → Reaches key m
       reaches_more e =
           let same = small_true (bytes_left m) word e in
-          let next = next_at h.left n in record {
-            left = n.left;
+          let next = next_at at m n in record {
             short = short_attribute (piece_left m) word;
             window = n.window ∙ h.window;
             end = n.end ∙ h.end;
@@ -211,8 +204,7 @@ module _ (key at : Left) (h : Reaches key at) where
           → IsOnly key m
       only_one e r =
           let both = small_only (bytes_left m) word e r in
-          let next = next_at h.left n in record {
-            left = n.left;
+          let next = next_at at m n in record {
             window = n.window ∙ h.window;
             behind = omega (arith, h.from, next);
             end = n.end ∙ h.end;

@@ -12,7 +12,7 @@ use Rattle.iloc_spec_parts.specs.Subdivisions.{Subdivision}
 use Rattle.iloc_outline.specs.Identifier.{front_text}
 use Rattle.iloc_outline.specs.Parts.{front_pieces}
 use Rattle.iloc_pieces.specs.Left.{piece_left, pieces_left}
-use Rattle.iloc_pieces.specs.declared.left.Left.{Left}
+use Rattle.iloc_pieces.specs.declared.cursor.Left.{Left}
 use Rattle.iloc_subtags.specs.Judging.{error_of}
 use Rattle.iloc_normalize.specs.Subdivisions.{IsNamed, NamesPast, bytes_at, data_behind, data_with}
 use Rattle.iloc_normalize.specs.Answered.{HasRefusal}

@@ -11,8 +11,8 @@ use Rattle.iloc_spec_parts.specs.SmallComputing.{blocks_result, is_u}
 use Rattle.iloc_spec_parts.specs.DataComputing.{data_of_result}
 use Rattle.iloc_spec_parts.specs.DataLocales.{DataLocale, agreed, made_of, named_subdivision}
 use Rattle.iloc_spec_parts.specs.Subdivisions.{Subdivision, region_length, subdivision}
-use Rattle.iloc_pieces.specs.Left.{IsRemainder, piece_left, pieces_left}
-use Rattle.iloc_pieces.specs.declared.left.Left.{Left}
+use Rattle.iloc_pieces.specs.Left.{piece_left, pieces_left}
+use Rattle.iloc_pieces.specs.declared.cursor.Left.{Left}
 use Rattle.iloc_normalize.specs.declared.subdivisions.Keyword.{Keyword}
 use Rattle.iloc_normalize.specs.declared.subdivisions.Keyword.TheVariants as keywords
 use Rattle.iloc_normalize.specs.declared.subdivisions.Subtags.{Subtags}
@@ -33,7 +33,6 @@ has_small_value ps = list_all (is_word Attribute) ps && nat_le (length (normal_v
 
 -- the piece m follows l, and is the only one that is not `true`
 pub record IsOnly (l m : Left) : Type 0 where
-  pub left : IsRemainder m
   pub window : m.window.now ≡ l.window.now
   pub behind : l.at + length (piece_left l) + 1 ≤ m.at
   pub end : m.at + m.len ≡ l.at + l.len

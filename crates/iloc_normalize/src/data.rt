@@ -1,6 +1,6 @@
 //! Reads data locales.
 ghost use Rattle.std.specs.Prelude.{◌≡◌, ◌≤◌, ◌+◌, length, take};
-ghost use Rattle.iloc_pieces.specs.Left.{IsRemainder, piece_left};
+ghost use Rattle.iloc_pieces.specs.Left.{piece_left};
 ghost use Rattle.iloc_outline.specs.Outlines.{BeginsWithLanguage};
 ghost use Rattle.iloc_normalize.specs.Data.{IsDataBehind, IsDataRead};
 
@@ -34,7 +34,6 @@ pub(crate) enum Data {
 // Reads the block that follows the head.
 #[inline(always)]
 fn read_block(head: Head, left: Left<'_>) -> Data
-    requires { IsRemainder left }
     ensures { IsDataBehind head left.entry result }
 {
     if !is_single(left) {

@@ -2,7 +2,7 @@
 ghost use Rattle.std.specs.Prelude.{◌≡◌, ◌≤◌, true, false, length, codes};
 ghost use Rattle.iloc_spec_grammar.specs.Syntax.{Attribute, IsWord, Text, UnicodeKey, is_same, is_true, letters_or_digits, lower};
 ghost use Rattle.iloc_spec_grammar.specs.Reading.{rest_of};
-ghost use Rattle.iloc_pieces.specs.Left.{IsRemainder, IsShortPiece, piece_left, pieces_left};
+ghost use Rattle.iloc_pieces.specs.Left.{IsShortPiece, piece_left, pieces_left};
 ghost use Rattle.iloc_pieces.specs.Shape.{shape_of};
 ghost use Rattle.iloc_normalize.specs.Subdivisions.{AreSubtagsRead, EndsRegion, IsKeywordRead, IsNamedBy, are_trues};
 
@@ -45,8 +45,7 @@ enum Subtags<'a> {
 // Whether nothing but `true` follows the piece.
 #[inline(always)]
 fn ends_in_trues(word: Left<'_>) -> bool
-    requires left { IsRemainder word }
-    requires short { IsShortPiece (piece_left word) }
+    requires { IsShortPiece (piece_left word) }
     ensures { result ≡ are_trues (rest_of (pieces_left word.entry)) }
 {
     let mut at = word;
@@ -65,8 +64,7 @@ fn ends_in_trues(word: Left<'_>) -> bool
 // Reads the subtags that follow the key, up to the end of the text.
 #[inline(always)]
 fn read_subtags<'a>(key: Left<'a>) -> Subtags<'a>
-    requires left { IsRemainder key }
-    requires short { IsShortPiece (piece_left key) }
+    requires { IsShortPiece (piece_left key) }
     ensures { AreSubtagsRead key.entry result }
 {
     let mut at = key;
@@ -91,8 +89,7 @@ fn read_subtags<'a>(key: Left<'a>) -> Subtags<'a>
 // Whether the key is `sd`, in whatever case.
 #[inline(always)]
 fn is_sd(key: Left<'_>) -> bool
-    requires left { IsRemainder key }
-    requires key { IsWord UnicodeKey (piece_left key) }
+    requires { IsWord UnicodeKey (piece_left key) }
     ensures { result ≡ is_same (lower (piece_left key.entry)) (codes "sd") }
 {
     if key.window[key.at].to_ascii_lowercase() != b's' {
@@ -123,9 +120,7 @@ fn region_len(shape: usize) -> usize
 // What the subtag names as a value of the key.
 #[inline(always)]
 fn named(key: Left<'_>, word: Left<'_>) -> Keyword
-    requires left { IsRemainder key }
     requires key { IsWord UnicodeKey (piece_left key) }
-    requires word_left { IsRemainder word }
     requires word { IsWord Attribute (piece_left word) }
     requires other { is_true (lower (piece_left word)) ≡ false }
     ensures { IsNamedBy key.entry word.entry result }
@@ -147,7 +142,6 @@ fn named(key: Left<'_>, word: Left<'_>) -> Keyword
 /// Reads what follows the singleton, from the piece behind it up to the end of the text.
 #[inline(always)]
 pub(crate) fn read_keyword(key: Left<'_>) -> Keyword
-    requires { IsRemainder key }
     ensures { IsKeywordRead key.entry result }
 {
     if is_attribute(key) {

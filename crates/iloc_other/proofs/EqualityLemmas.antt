@@ -5,9 +5,6 @@ use Rattle.std.proofs.lemmas.Bool.Decides.{Decides-and, Decides-eqb, Decides-lik
 use lib.Pointwise.{pointwise, pointwise_decides, bytes_decides}
 use Rattle.iloc_spec_grammar.specs.Syntax.{Text}
 
-pub word_decides : (v w : Text) → Decides (pointwise nat_eq v w) (v ≡ w)
-word_decides = bytes_decides
-
 pub words_decide : (v w : List Text) → Decides (pointwise (pointwise nat_eq) v w) (v ≡ w)
 words_decide = pointwise_decides bytes_decides
 

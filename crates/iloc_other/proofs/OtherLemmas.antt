@@ -1,7 +1,7 @@
 -- Pieces of other extensions that are taken one at a time.
-use Rattle.std.proofs.Common.{◌≡◌, ℕ, suc, ◌+◌, ◌<◌, Bool, true, false, cond, List, [], ◌∷◌, ◌++◌, length}
-use Rattle.std.proofs.Common.{map, filter, refl, sym, ap, ◌∙◌, subst, arith, append_assoc, append-nil}
-use Rattle.std.proofs.Common.{length-append, Option, Some, None, if◌then◌else◌, ◌==◌}
+use Rattle.std.proofs.Common.{◌≡◌, ℕ, ◌+◌, ◌<◌, Bool, true, false, cond, List, [], ◌∷◌, ◌++◌, length}
+use Rattle.std.proofs.Common.{map, filter, refl, sym, ap, ◌∙◌, arith, append_assoc, append-nil}
+use Rattle.std.proofs.Common.{Option, Some, None, if◌then◌else◌, ◌==◌}
 use Rattle.std.specs.List.{AllByRecursion}
 use Rattle.std.specs.Char.{is_ascii_alphanumeric}
 use Rattle.std.specs.Str.{IsUtf8}
@@ -13,7 +13,7 @@ use Rattle.std.proofs.lemmas.Str.Ascii.{IsAscii-from_all}
 use Rattle.iloc_spec_grammar.specs.Syntax.{Text, Subtag, is_word, lower, kept}
 use Rattle.iloc_spec_grammar.specs.Meaning as faults
 use Rattle.iloc_spec_grammar.specs.Reading.{take_first, skip_first, passing, past}
-use Rattle.iloc_spec_parts.specs.Fronts.{has_other_length, other_front, OtherRead, OtherFault, no_word}
+use Rattle.iloc_spec_parts.specs.Fronts.{has_other_length, other_front, OtherFault, no_word}
 
 -- a piece of the front was taken, or none
 pub took : (test : Text → Bool) (ps : List Text) (p : Text) → Some p ≡ take_first test ps →
@@ -43,9 +43,6 @@ pub record TakingPieces (before now ws : List Text) : Type 0 where
   pub rest : past has_other_length before ≡ past has_other_length now
   pub lengths : AllByRecursion (λ p. has_other_length p ≡ true) taken
   pub means : ws ≡ kept taken
-
-pub takes_nothing : (ps : List Text) → TakingPieces ps ps []
-takes_nothing ps = record { taken = []; front = refl; rest = refl; lengths = tt; means = refl }
 
 pub all_last : {X : Type 0} (P : X → Type 0) (xs : List X) (x : X) → AllByRecursion P xs → P x →
     AllByRecursion P (xs ++ x ∷ [])
@@ -93,51 +90,12 @@ takes_piece before now ws p more vs h e s v =
           v ∙ ap (λ l. if is_word Subtag p then l ++ lower p ∷ [] else l) h.means ∙ sym (kept-last h.taken p);
     }
 
-kept-first : (p : Text) (ps : List Text) → is_word Subtag p ≡ true → kept (p ∷ ps) ≡ lower p ∷ kept ps
-kept-first p ps h = rw h refl
-
--- a fifth word
-pub wants_memory : (before now ws : List Text) (p : Text) (more : List Text) →
-    TakingPieces before now ws → Some p ≡ take_first has_other_length now →
-    more ≡ skip_first has_other_length now → is_word Subtag p ≡ true → (length ws < 4 → ⊥) →
-    4 < length (kept (other_front before))
-wants_memory before now ws p more h e s w n =
-    let t = took has_other_length now p e in
-    let first : now ≡ p ∷ more = t.1 ∙ ap (λ l. p ∷ l) (sym s) in
-    let all : kept (other_front before) ≡ kept h.taken ++ (lower p ∷ kept (other_front more)) =
-    ap kept
-    (h.front ∙ ap (λ l. h.taken ++ other_front l) first ∙ ap (λ l. h.taken ++ l) (front_first p more t.0).0)
-    ∙ kept-append h.taken (p ∷ other_front more)
-    ∙ ap (λ l. kept h.taken ++ l) (kept-first p (other_front more) w) in
-    let many : length (kept (other_front before))
-    ≡ length (kept h.taken) + suc (length (kept (other_front more))) =
-    ap length all ∙ length-append (kept h.taken) (lower p ∷ kept (other_front more)) in
-    let same : length ws ≡ length (kept h.taken) = ap length h.means in
-    omega (arith, many, same, n)
-
 -- at the end of the front
 whole : (before now ws : List Text) → (h : TakingPieces before now ws) →
     None ≡ take_first has_other_length now →
     (other_front before ≡ h.taken) × (past has_other_length before ≡ now)
 whole before now ws h e = let t = took_none has_other_length now e in
     (h.front ∙ ap (λ l. h.taken ++ l) t.0 ∙ append-nil h.taken, h.rest ∙ t.1)
-
-some : (n : ℕ) → (n ≡ 0 → ⊥) → 0 < n
-some n h = omega (arith, h)
-
-pub takes_all : (before now ws : List Text) → TakingPieces before now ws →
-    None ≡ take_first has_other_length now → (length ws ≡ 0 → ⊥) → OtherRead before ws now
-takes_all before now ws h e n =
-    let w = whole before now ws h e in
-    record {
-      follows = record {
-        lengths = subst (AllByRecursion (λ p. has_other_length p ≡ true)) (sym w.0) h.lengths;
-        nonempty = subst (λ (l : List Text). 0 < length (kept l)) (sym w.0)
-            (some (length (kept h.taken)) (λ z. n (ap length h.means ∙ z)));
-      };
-      means = h.means ∙ ap kept (sym w.0);
-      left = sym w.1;
-    }
 
 pub takes_none : (before now ws : List Text) → TakingPieces before now ws →
     None ≡ take_first has_other_length now → length ws ≡ 0 → OtherFault before faults.InvalidExtension

@@ -1,6 +1,6 @@
 -- Private words that are taken one at a time.
 use Rattle.iloc_spec_grammar.specs.Reading.{passing}
-use Rattle.std.proofs.Common.{◌≡◌, ◌↔◌, ℕ, suc, ◌+◌, ◌<◌, false, cond, List, [], ◌∷◌, ◌++◌, length, map, refl}
+use Rattle.std.proofs.Common.{◌≡◌, ◌↔◌, suc, ◌+◌, ◌<◌, false, cond, List, [], ◌∷◌, ◌++◌, length, map, refl}
 use Rattle.std.proofs.Common.{sym, ap, ◌∙◌, subst, arith, append_assoc, append-nil, true≢false}
 use Rattle.std.specs.List.{AllByRecursion}
 use Rattle.std.proofs.lemmas.List.{length-map, length_push}
@@ -17,9 +17,6 @@ pub record TakingWords (before now ws : List Text) : Type 0 where
   pub means : ws ++ map lower now ≡ map lower before
   pub front : length ws + length (passing (is_word PrivateSubtag) now)
       ≡ length (passing (is_word PrivateSubtag) before)
-
-pub takes_nothing : (ps : List Text) → TakingWords ps ps []
-takes_nothing ps = record { words = (λ h. h, λ h. h); means = refl; front = omega arith }
 
 module _ (before now ws : List Text) (t : TakingWords before now ws) where
   module _ (p : Text) (more : List Text) (e : now ≡ p ∷ more) where

@@ -21,21 +21,13 @@ use Rattle.iloc_spec_grammar.specs.Meaning.{map_of}
 use Rattle.iloc_spec_grammar.proofs.MapLaws.{less, all-map_of, sorted-map_of, is_sorted-map_of, find-map_of}
 use Rattle.iloc_spec_grammar.proofs.MapLaws.{map_of_same}
 use Rattle.iloc_spec_grammar.proofs.SetLaws.{find-append}
+use Rattle.iloc_outline.proofs.Maps.{or_none}
+use Rattle.iloc_pieces.proofs.WordOrder.{is_less, is_greater}
 
 -- ---- numbers as keys
 
-lesser : (a b : ℕ) → a < b → nat_cmp a b ≡ Less
-lesser a b l = sym (nat_cmp_is a b Less l)
-
-greater : (a b : ℕ) → b < a → nat_cmp a b ≡ Greater
-greater a b l = sym (nat_cmp_is a b Greater l)
-
 some_or : {X : Type 0} (a b : Option X) (x : X) → a ≡ Some x → option_or a b ≡ a
 some_or a b x e = ap (λ p. option_or p b) e ∙ sym e
-
-or_none : {X : Type 0} (a : Option X) → option_or a None ≡ a
-or_none (Some x) = refl
-or_none None = refl
 
 module _ {X : Type 0} where
   -- an equal key is there: the entry is left out
@@ -81,7 +73,7 @@ module _ {X : Type 0} where
       (less _ (and_parts _ _ b).0)
   put_between k v (f ∷ front) back a b =
       ap (λ r. by_order r ((k, v) ∷ f ∷ (front ++ back)) ((f.0, v) ∷ (front ++ back))
-      (f ∷ put nat_cmp k v (front ++ back))) (greater k f.0 a.0)
+      (f ∷ put nat_cmp k v (front ++ back))) (is_greater k f.0 a.0)
       ∙ ap (λ l. f ∷ l) (put_between k v front back a.1 b)
 
   find_between : (k : ℕ) (front back : List (ℕ × X)) → IsAbove k front → below_all nat_cmp k back ≡ true →
@@ -91,7 +83,7 @@ module _ {X : Type 0} where
       ap (λ r. cond (is_eq r) (Some e.1) (find nat_cmp k es)) (less _ (and_parts _ _ b).0)
       ∙ find_between k [] es tt (and_parts _ _ b).1
   find_between k (f ∷ front) back a b =
-      ap (λ r. cond (is_eq r) (Some f.1) (find nat_cmp k (front ++ back))) (greater k f.0 a.0)
+      ap (λ r. cond (is_eq r) (Some f.1) (find nat_cmp k (front ++ back))) (is_greater k f.0 a.0)
       ∙ find_between k front back a.1 b
 
   below_less : (k l : ℕ) (es : List (ℕ × X)) → k < l → below_all nat_cmp l es ≡ true →
@@ -100,7 +92,7 @@ module _ {X : Type 0} where
   below_less k l (e ∷ es) p h =
       let parts = and_parts _ _ h in
       let first : l < e.0 = ranked l e.0 Less (sym (less _ parts.0)) in
-      and_from _ _ (ap is_lt (lesser k e.0 (omega arith))) (below_less k l es p parts.1)
+      and_from _ _ (ap is_lt (is_less k e.0 (omega arith))) (below_less k l es p parts.1)
 
 -- ---- items by their numbers
 
@@ -153,7 +145,7 @@ module _ {X : Type 0} (word : X → ℕ) where
   below_from : (w : ℕ) (xs : List X) (i : ℕ) → is_sorted nat_cmp (numbered xs) ≡ true → i < length xs →
       w < nth xs i → below_all nat_cmp w (numbered (drop i xs)) ≡ true
   below_from w [] i h l p = absurd (omega arith)
-  below_from w (x ∷ xs) zero h l p = and_from _ _ (ap is_lt (lesser w (word x) p))
+  below_from w (x ∷ xs) zero h l p = and_from _ _ (ap is_lt (is_less w (word x) p))
       (below_less w (word x) (numbered xs) p (and_parts _ _ h).0)
   below_from w (x ∷ xs) (suc i) h l p = below_from w xs i (and_parts _ _ h).1 (omega arith) p
 
@@ -169,7 +161,7 @@ module _ {X : Type 0} (word : X → ℕ) where
       let first : word x < nth xs i = below_at (word x) xs i (and_parts _ _ h).0 (omega arith) in
       let rest = found_at xs i (and_parts _ _ h).1 (omega arith) in (
         rest.0,
-        ap (λ r. cond (is_eq r) (Some x) (find nat_cmp (nth xs i) (numbered xs))) (greater _ _ first)
+        ap (λ r. cond (is_eq r) (Some x) (find nat_cmp (nth xs i) (numbered xs))) (is_greater _ _ first)
             ∙ rest.1,
       )
 
@@ -266,7 +258,7 @@ module _ {X : Type 0} (word : X → ℕ) where
         let es = map_of nat_cmp (numbered xs) in
         ap (find nat_cmp (word x)) (sym (append-nil es)) ∙ find_between (word x) es [] all_above refl
 
-    -- a greater number is not among theirs
+    -- a is_greater number is not among theirs
     pub among_less : ¬ (IsAmong nat_cmp (word x) (map word xs))
     among_less a = true≢false (sym a ∙ sym (found_among (word x) xs) ∙ ap is_some none_behind)
 

@@ -19,7 +19,7 @@ use Rattle.std.proofs.lemmas.List.Concat.{flat_map-append}
 use Rattle.std.proofs.lemmas.List.Folds.{list_any-append}
 use Rattle.std.proofs.lemmas.Simd.{map-map}
 use Rattle.iloc_spec_grammar.specs.Syntax.{Text, Block, AllDifferent, HasWords, SpelledIdentifier}
-use Rattle.iloc_spec_grammar.specs.Syntax.{SpelledUnicode, SpelledTransform, IsAmong, IsIdentifier, Language}
+use Rattle.iloc_spec_grammar.specs.Syntax.{SpelledUnicode, SpelledTransform, IsAmong, IsIdentifier}
 use Rattle.iloc_spec_grammar.specs.Syntax.{TransformKey, Fields, code_t, code_u, code_x, front, blocks}
 use Rattle.iloc_spec_grammar.specs.Syntax.{first_piece, identifier_pieces, is_one_byte, is_word, languages}
 use Rattle.iloc_spec_grammar.specs.Syntax.{lower, lower_singleton, optional_pieces, transform_pieces}
@@ -42,13 +42,13 @@ use Rattle.iloc_spec_grammar.proofs.Readings.{optional_no_key, pieces-transform_
 use Rattle.iloc_spec_grammar.proofs.RuleTests.{tests_denied, tests_different, tests_not}
 use Rattle.iloc_outline.specs.Blocks.{AreBegun, IsBlockRead, ReadsBlocks, body_of}
 use Rattle.iloc_outline.specs.Groups.{AreGroups, IsGroup, parts_in}
-use Rattle.iloc_pieces.specs.Left.{IsLater, IsRemainder, piece_left, pieces_left, whole_text}
+use Rattle.iloc_pieces.specs.Left.{IsLater, piece_left, pieces_left, whole_text}
 use Rattle.iloc_outline.specs.Parts.{Part, block_parts, blocks_parts, field_part, in_order, optional_front}
 use Rattle.iloc_outline.specs.Parts.{optional_variants, printed_part, rank, ranked, singleton_part}
 use Rattle.iloc_outline.specs.Parts.{transform_parts, unicode_parts, variant_parts, word_part}
 use Rattle.iloc_outline.specs.Reading.{IsBody, IsPrivateBody, IsTooMuch, Puts}
 use Rattle.iloc_outline.specs.Spans.{Spell, held_spans}
-use Rattle.iloc_pieces.specs.declared.left.Left.{Left}
+use Rattle.iloc_pieces.specs.declared.cursor.Left.{Left}
 use Rattle.iloc_outline.specs.declared.reading.Found.{Found}
 use Rattle.iloc_outline.specs.declared.reading.Found.TheVariants.{End, Next, Bad, Repeated, Full}
 use Rattle.iloc_outline.specs.declared.span.Role.{Role}
@@ -59,6 +59,7 @@ use Rattle.iloc_outline.proofs.Maps.{flat-append, put_between}
 use Rattle.iloc_outline.proofs.SpansLemmas.{length-held, spell_length}
 use Rattle.iloc_outline.proofs.PartsInOrder.{all_in_order}
 use Rattle.iloc_outline.proofs.PrintedBlocks.{rule_of, t_rule}
+use Rattle.iloc_outline.proofs.TransformLemmas.{no_language}
 
 -- parts that are no singletons
 abbrev pub ArePlain : List Part → Type 0
@@ -93,7 +94,6 @@ pub record IsDone (l : Left) (old : Spans) (o : Bool) (rest : List Text) (last :
 -- and the next singleton is reached
 pub record IsAt (l : Left) (old : Spans) (o : Bool) (at : Left) (last : ℕ) (now : Spans)
     (n : Bool) : Type 0 where
-  pub left : IsRemainder at
   pub later : IsLater at
   pub single : is_one_byte (piece_left at) ≡ true
   pub text : whole_text at ≡ whole_text l
@@ -160,10 +160,6 @@ no_repeat m h i rest w e = elim (cases_Bool (all_different word_cmp (map lower i
         d (some_repeat word_cmp (map lower i.variants) _
         (subst (AllDifferent word_cmp) (ap (map lower) same ∙ map-append lower i.variants _) g.different))
 
-no_language : is_word (Language languages) [] ≡ false
-unfolding is_word languages
-no_language = refl
-
 -- the block whose variant is repeated is bad
 repeated_bad : (c : ℕ) (ps : List Text) → to_ascii_lowercase c ≡ code_t → repeats_variant languages ps ≡ true
     → is_block languages (c, ps) ≡ false
@@ -219,10 +215,10 @@ read_end c l k old new o n h = at (to_ascii_lowercase c == code_x) refl h
 -- another block follows
 pub record IsReadTo (c : ℕ) (l k : Left) (old new : Spans) (o n : Bool) : Type 0 where
   pub read : IsRead c (whole_text l) (pieces_left l) (pieces_left k) old new o n
-  pub left : IsRemainder k
   pub later : IsLater k
   pub single : is_one_byte (piece_left k) ≡ true
   pub less : k.len ≤ l.len
+  pub window : k.window.now ≡ l.window.now
   pub end : k.at + k.len ≡ l.at + l.len
   pub text : whole_text k ≡ whole_text l
 
@@ -251,10 +247,10 @@ read_next c l k old new o n h = at (to_ascii_lowercase c == code_x) refl h
             good = h.3.good;
             puts = h.3.puts;
           };
-          left = h.1.left;
           later = h.1.later;
           single = h.2;
           less = h.1.less;
+          window = h.1.window;
           end = h.1.end;
           text = h.1.text;
         }

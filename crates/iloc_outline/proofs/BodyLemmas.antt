@@ -1,5 +1,5 @@
 -- What follows a singleton: the pieces up to the next block, and the parts that are put for them.
-use Rattle.std.proofs.Common.{◌≡◌, ◌≢◌, ℕ, ◌+◌, ◌<◌, ◌≤◌, Bool, true, false, cond, List, [], ◌∷◌, ◌++◌}
+use Rattle.std.proofs.Common.{◌≡◌, ◌≢◌, ℕ, ◌<◌, Bool, true, false, cond, List, [], ◌∷◌, ◌++◌}
 use Rattle.std.proofs.Common.{length, map, refl, sym, ap, ap₂, ◌∙◌, subst, arith, append-nil, length-append}
 use Rattle.std.proofs.Common.{true≢false}
 use Rattle.std.specs.List.{AllByRecursion}
@@ -15,8 +15,8 @@ use Rattle.iloc_spec_grammar.proofs.Readings.{IsLong}
 use Rattle.iloc_outline.specs.Parts.{Part, printed_part, rank, singleton_part}
 use Rattle.iloc_pieces.specs.Left.{IsSpanned, piece_left, pieces_left, bytes_left}
 use Rattle.iloc_outline.specs.Spans.{AreShort, IsSpan, Spell, held_spans}
-use Rattle.iloc_outline.specs.Reading.{IsTooMuch, Puts, block_span}
-use Rattle.iloc_pieces.specs.declared.left.Left.{Left}
+use Rattle.iloc_outline.specs.Reading.{Puts, block_span}
+use Rattle.iloc_pieces.specs.declared.cursor.Left.{Left}
 use Rattle.iloc_outline.specs.declared.span.Span.{Span}
 use Rattle.iloc_outline.specs.declared.spans.Spans.{Spans}
 use Rattle.iloc_outline.proofs.SpansLemmas.{adds_then, not_edited, spell_put}
@@ -27,7 +27,7 @@ front_past [] rest h = refl
 front_past (p ∷ ps) rest h = rw h.0 (ap (λ l. p ∷ l) (front_past ps rest h.1))
 
 -- ... and ends where a block begins
-front_none : (rest : List Text) → starts_block rest ≡ true → front rest ≡ []
+pub front_none : (rest : List Text) → starts_block rest ≡ true → front rest ≡ []
 front_none [] h = refl
 front_none (p ∷ rest) h = rw h
 
@@ -82,12 +82,6 @@ puts_then t xs ys ps qs old mid new o m n a b = record {
       let first = a.order later.0 in
       (first.0, flat_map-append printed_part xs ys ∙ ap₂ ◌++◌ first.1 later.1 ∙ sym (map-append lower ps qs));
 }
-
--- what is too much after others is too much
-pub too_much : (old mid : Spans) (m n k : ℕ) → length (held_spans mid) ≤ length (held_spans old) + m →
-    m + n ≤ k
-    → IsTooMuch mid n → IsTooMuch old k
-too_much old mid m n k few le h = omega arith
 
 -- ---- the singleton
 

@@ -10,14 +10,14 @@ use Rattle.iloc_spec_grammar.specs.Syntax.{fields_pieces, first_piece}
 use Rattle.iloc_spec_grammar.proofs.ReadBack.{all_append}
 use Rattle.iloc_outline.specs.Fields.{IsAfterValues, PrintsAsItIs, IsValueRead}
 use Rattle.iloc_outline.specs.Inserting.{IsPutFrom}
-use Rattle.iloc_pieces.specs.Left.{IsRemainder, IsLater, IsPast, IsSpanned, piece_left, pieces_left}
+use Rattle.iloc_pieces.specs.Left.{IsLater, IsPast, IsSpanned, piece_left, pieces_left}
 use Rattle.iloc_pieces.specs.Left.{bytes_left, whole_text}
 use Rattle.iloc_pieces.specs.Words.{IsUpToEight, word_number}
 use Rattle.iloc_outline.specs.Parts.{Part, field_part}
 use Rattle.iloc_outline.specs.Reading.{EndsInKey, IsFieldOfRole, IsTooMuch, ReadsFields, role_key, unless_end}
 use Rattle.iloc_outline.specs.Spans.{IsSpan}
 use Rattle.iloc_outline.specs.declared.fields.Value.{Value}
-use Rattle.iloc_pieces.specs.declared.left.Left.{Left}
+use Rattle.iloc_pieces.specs.declared.cursor.Left.{Left}
 use Rattle.iloc_outline.specs.declared.sorting.Inserted.{Inserted}
 use Rattle.iloc_outline.specs.declared.sorting.Inserted.TheVariants.{Put, There, Full}
 use Rattle.iloc_outline.specs.declared.span.Role.{Role}
@@ -81,11 +81,11 @@ pub record Takes (r : Role) (l at : Left) (old new : Spans) (last : ℕ) (o n : 
   pub gathers : Gathers (whole_text l) (map (field_part r) fields) old new last o n
 
 -- none
-pub takes_none : (r : Role) (l : Left) → IsRemainder l → IsLater l → (s : Spans) (o : Bool)
+pub takes_none : (r : Role) (l : Left) → IsLater l → (s : Spans) (o : Bool)
     → Takes r l l s s 0 o o
-takes_none r l h later s o = record {
+takes_none r l later s o = record {
   fields = [];
-  past = past_none h later;
+  past = past_none l later;
   each = tt;
   ends = inl refl;
   gathers = gathers_none (whole_text l) s 0 o;
@@ -111,11 +111,11 @@ module _ (r : Role) (l at : Left) (old mid : Spans) (last : ℕ) (o n : Bool)
 
   module _ (to : Left) (v : Value) (h : IsValueRead at to v) where
     spanned : IsSpanned (whole_text at) (at.at - 1) v.end (piece_left at ∷ h.values)
-    spanned = h.end (at.at - 1) [] (spanned_none w.past.left w.past.later)
+    spanned = h.end (at.at - 1) [] (spanned_none at w.past.later)
 
     -- the field lies within the text
     pub field_within : v.end ≤ l.at + l.len
-    field_within = omega (arith, spanned.inside, length_text w.past.left, w.past.end)
+    field_within = omega (arith, spanned.inside, length_text at, w.past.end)
 
     after : (next : Option Left) → unless_end v.is_end to ≡ next → IsAfterValues at h.values next
     after next e = subst (IsAfterValues at h.values) e h.next
@@ -126,8 +126,8 @@ module _ (r : Role) (l at : Left) (old mid : Spans) (last : ℕ) (o n : Bool)
         let k = after (Some next) e in
         omega (
           arith,
-          length_rest w.past.left,
-          length_rest k.0.left,
+          length_rest at,
+          length_rest next,
           ap length (k.0.rest (λ none. cc)),
           length-append (join (piece_left at ∷ h.values)) (45 ∷ bytes_left next),
         )

@@ -3,7 +3,7 @@ use Rattle.std.proofs.Common.{◌≡◌, ℕ, Bool, true, false, List, [], ◌++
 use Rattle.std.proofs.Common.{append-nil}
 use Rattle.std.proofs.lemmas.List.{append_cancel_left}
 use Rattle.iloc_spec_grammar.specs.Syntax.{Text, Language, head, is_word, languages, pieces}
-use Rattle.iloc_spec_grammar.specs.Meaning.{Fault, HasIdentifierFault, IdentifierMeans, SpellsIdentifier}
+use Rattle.iloc_spec_grammar.specs.Meaning.{Fault, HasIdentifierFault, SpellsIdentifier}
 use Rattle.iloc_spec_grammar.specs.Meaning.{normal_identifier, not_a_language, not_an_identifier}
 use Rattle.iloc_spec_grammar.specs.Meaning as faults
 use Rattle.iloc_spec_grammar.proofs.PiecesLaws.{pieces_nonempty}
@@ -12,7 +12,7 @@ use Rattle.iloc_pieces.specs.Left.{pieces_left, bytes_left}
 use Rattle.iloc_outline.specs.Outlines.{AreHeadRead, BeginsWithLanguage, IsFinished, IsIdentifierOutlined}
 use Rattle.iloc_outline.specs.Outlines.{IsLocaleOutlined, ReadsHead}
 use Rattle.iloc_outline.specs.Spans.{held_spans}
-use Rattle.iloc_pieces.specs.declared.left.Left.{Left}
+use Rattle.iloc_pieces.specs.declared.cursor.Left.{Left}
 use Rattle.iloc_outline.specs.declared.outline.Head.TheVariants as heads
 use Rattle.iloc_outline.specs.declared.outline.Outline.{Outline}
 use Rattle.iloc_outline.specs.declared.outline.Outlined.TheVariants.{Normal}
@@ -22,9 +22,9 @@ use Rattle.iloc_subtags.specs.declared.parse_error.ParseError.{ParseError}
 use Rattle.iloc_subtags.specs.declared.parse_error.ParseError.TheVariants.{InvalidLanguage, InvalidSubtag}
 use Rattle.iloc_subtags.specs.declared.parse_error.ParseError.TheVariants.{InvalidExtension}
 use Rattle.iloc_subtags.specs.declared.parse_error.ParseError.TheVariants.{DuplicatedExtension, OutOfMemory}
-use Rattle.iloc_outline.proofs.HeadLemmas.{head_first}
 use Rattle.iloc_outline.proofs.OutlineLemmas.{all_head, alone_in_order, alone_outlined, identifier_in_order}
 use Rattle.iloc_outline.proofs.OutlineLemmas.{identifier_outlined, locale_in_order, locale_outlined, whole}
+use Rattle.iloc_spec_grammar.proofs.SameFaults.{first_of_head}
 
 -- what holds of the outline of a text in order, and of another, holds of the finished one
 finish : (P : Spans → Outline → Type 0) (t : Text) (o : Outline) (end : ℕ) (n : Bool)
@@ -55,7 +55,7 @@ pub finished_locale : (t : Text) (o : Outline) (before : Spans) (m : Bool) (l : 
     (n : Bool) → AreHeadRead t l before m (heads.Block o) → ReadsBlocks l before spans m n
     → (end : ℕ) (new : Spans) (r : Outline) → end ≡ length t → IsFinished o end n spans new r
     → IsLocaleOutlined t new (Normal r)
-finished_locale t o before m l spans n (is, later, same, single, cut, after, begun, h) b end new r e f =
+finished_locale t o before m l spans n (later, same, single, cut, after, begun, h) b end new r e f =
     finish (λ s q. IsLocaleOutlined t s (Normal q)) t o end n spans new r e f
     (locale_in_order t o before m l h same cut after spans n b)
     (locale_outlined t o before m l h same cut after spans n b)
@@ -78,9 +78,9 @@ refuses_block t l word cut = not_an_identifier word (λ s. pieces_nonempty (byte
 fault_of_all : (ps : List Text) {f : Fault} → HasIdentifierFault languages (head ps) f
     → HasIdentifierFault languages ps f
 fault_of_all ps (not_a_language e) =
-    not_a_language (ap (is_word (Language languages)) (sym (head_first ps)) ∙ e)
+    not_a_language (ap (is_word (Language languages)) (sym (first_of_head ps)) ∙ e)
 fault_of_all ps (not_an_identifier word n) =
-    not_an_identifier (ap (is_word (Language languages)) (sym (head_first ps)) ∙ word)
+    not_an_identifier (ap (is_word (Language languages)) (sym (first_of_head ps)) ∙ word)
     (λ s. n (subst (SpellsIdentifier languages) (sym (head_all ps s)) s))
 
 pub refused_all : (ps : List Text) (e : ParseError) → Refusal (HasIdentifierFault languages (head ps)) ⊥ e

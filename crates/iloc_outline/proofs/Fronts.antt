@@ -22,11 +22,11 @@ use Rattle.iloc_spec_grammar.proofs.WordsLaws.{length-language, length-lower, le
 use Rattle.iloc_spec_grammar.proofs.WordsLaws.{length-script, upper-lower}
 use Rattle.iloc_outline.specs.Identifier.{IsFrontRead, IsAfterFront, IsOnePast, front_text, raised}
 use Rattle.iloc_pieces.specs.Left as left
-use Rattle.iloc_pieces.specs.Left.{IsRemainder, IsLater, IsNextPiece, IsPast, IsSpanned, IsShortPiece}
+use Rattle.iloc_pieces.specs.Left.{IsLater, IsNextPiece, IsPast, IsSpanned}
 use Rattle.iloc_pieces.specs.Left.{piece_left, pieces_left, whole_text}
 use Rattle.iloc_outline.specs.Parts.{front_pieces}
 use Rattle.iloc_outline.specs.Reading.{unless_end}
-use Rattle.iloc_pieces.specs.declared.left.Left.{Left}
+use Rattle.iloc_pieces.specs.declared.cursor.Left.{Left}
 use Rattle.iloc_pieces.proofs.LeftLemmas.{length_piece, length_rest, length_text, next_at, past_first}
 use Rattle.iloc_pieces.proofs.LeftLemmas.{past_next, short_language, short_word, spanned_all, spanned_both}
 
@@ -46,13 +46,13 @@ abbrev pub end_of : Left → Option Left → ℕ
 end_of l None = l.at + l.len
 end_of l (Some m) = m.at - 1
 
-after_end : (l : Left) (ps : List Text) (o : Option Left) → IsRemainder l → IsAfter l o ps →
+after_end : (l : Left) (ps : List Text) (o : Option Left) → IsAfter l o ps →
     (start : ℕ) (qs : List Text) → IsLater l
     → IsSpanned (whole_text l) start (l.at - 1) qs → IsSpanned (whole_text l) start (end_of l o) (qs ++ ps)
-after_end l ps None h a start qs later s =
+after_end l ps None a start qs later s =
     subst (λ (rs : List Text). IsSpanned (whole_text l) start (l.at + l.len) (qs ++ rs)) a
-    (spanned_both s (spanned_all h later))
-after_end l ps (Some m) h a start qs later s = a.spanned later start qs s
+    (spanned_both s (spanned_all l later))
+after_end l ps (Some m) a start qs later s = a.spanned later start qs s
 
 after_inside : (l : Left) (ps : List Text) (o : Option Left) → IsAfter l o ps → end_of l o ≤ l.at + l.len
 after_inside l ps None a = omega arith
@@ -65,20 +65,20 @@ begins_text l first =
     (λ j. take (first j + l.len) l.window.now) ∙ ap (λ n. take n l.window.now) none
     ∙ (λ j. take l.len (drop (sym first j) l.window.now))
 
-after_text : (l : Left) (ps : List Text) (o : Option Left) → IsRemainder l → IsAfter l o ps → ps ≢ [] →
+after_text : (l : Left) (ps : List Text) (o : Option Left) → IsAfter l o ps → ps ≢ [] →
     l.at ≡ 0
     → take (end_of l o) (whole_text l) ≡ join ps
-after_text l ps None h a some first =
-    take_all (l.at + l.len) (whole_text l) (omega (arith, length_text h)) ∙ begins_text l first
+after_text l ps None a some first =
+    take_all (l.at + l.len) (whole_text l) (omega (arith, length_text l)) ∙ begins_text l first
     ∙ sym (join-pieces (left.bytes_left l)) ∙ ap join a
-after_text l ps (Some m) h a some first =
+after_text l ps (Some m) a some first =
     let cut : whole_text l ≡ join ps ++ 45 ∷ left.bytes_left m = begins_text l first ∙ a.rest some in
     let long : m.at - 1 ≡ length (join ps) =
     omega (
       arith,
       a.end,
-      length_text h,
-      length_rest a.left,
+      length_text l,
+      length_rest m,
       ap length cut,
       length-append (join ps) (45 ∷ left.bytes_left m),
     ) in
@@ -286,7 +286,7 @@ raised-append n (suc k) t u h =
     (sym (append_assoc (upper (take n (drop (suc k) t))) (drop (suc k + n) t) u))
     ∙ sym (append_assoc (take (suc k) t) _ u)
 
-length-raised : (n k : ℕ) (t : Text) → length (raised n k t) ≡ length t
+pub length-raised : (n k : ℕ) (t : Text) → length (raised n k t) ≡ length t
 unfolding upper
 length-raised n zero t = refl
 length-raised n (suc k) t =
@@ -324,12 +324,12 @@ next_is : (l : Left) (o : Option Left) → IsAfter l o (front_pieces (front_of (
 next_is l None a e = a
 next_is l (Some m) a e = (a, sym e)
 
-pub front_read : (l m : Left) (all : Bool) (s r : ℕ) → IsRemainder l →
+pub front_read : (l m : Left) (all : Bool) (s r : ℕ) →
     IsWord (Language languages) (piece_left l)
     → ReadsFront l (unless_end all m) s r
     → IsFrontRead l m (record { is_all = all; end = end_of l (unless_end all m); script = s; region = r })
 unfolding front_of
-front_read l m all s r h language f =
+front_read l m all s r language f =
     let o = unless_end all m in
     let ps = pieces_left l in
     let words = front_pieces (front_of ps) in
@@ -338,10 +338,10 @@ front_read l m all s r h language f =
     let region = take_first_passes (is_word Region) (after_script ps) in
     let inside = after_inside l words o f.passed in
     let text : l.at ≡ 0 → take (end_of l o) (whole_text l) ≡ join words =
-    after_text l words o h f.passed (λ e. cc) in
+    after_text l words o f.passed (λ e. cc) in
     record {
       next = next_is l o f.passed f.rest;
-      end = after_end l words o h f.passed;
+      end = after_end l words o f.passed;
       inside = inside;
       text = text;
       printed = λ first.
@@ -351,7 +351,7 @@ front_read l m all s r h language f =
           let long = languages_table.least _ (length-language languages (piece_left l) language) in
           let both = placed (piece_left l) i.script i.region long script region in
           let end : end_of l o ≡ length (join words) =
-          sym (length-take-le (end_of l o) (whole_text l) (omega (arith, length_text h)))
+          sym (length-take-le (end_of l o) (whole_text l) (omega (arith, length_text l)))
           ∙ ap length (text first) in
           let s_is = f.script first in
           let r_is = f.region first in
@@ -369,20 +369,20 @@ front_alone l one = record {
 }
 
 -- where a piece begins, if others were passed from the beginning on
-past_at : {l m : Left} {ps : List Text} → IsRemainder l → IsPast l m ps → ps ≢ [] → l.at ≡ 0 →
+past_at : {l m : Left} {ps : List Text} → IsPast l m ps → ps ≢ [] → l.at ≡ 0 →
     m.at ≡ suc (length (join ps))
-past_at {l} {m} {ps} h p some first =
+past_at {l} {m} {ps} p some first =
     let cut : left.bytes_left l ≡ join ps ++ 45 ∷ left.bytes_left m = p.rest some in
     omega (
       arith,
       p.end,
-      length_rest h,
-      length_rest p.left,
+      length_rest l,
+      length_rest m,
       ap length cut,
       length-append (join ps) (45 ∷ left.bytes_left m),
     )
 
-module _ {l m : Left} (h : IsRemainder l) (language : IsWord (Language languages) (piece_left l))
+module _ {l m : Left} (language : IsWord (Language languages) (piece_left l))
     (next : IsNextPiece l m)
     (b : Bool) (is : b ≡ is_word Script (piece_left m)) (s : ℕ) (at : s ≡ cond b m.at 0) where
   abbrev script : Option Text
@@ -392,7 +392,7 @@ module _ {l m : Left} (h : IsRemainder l) (language : IsWord (Language languages
   region third = take_first (is_word Region) (pieces_of_next third)
 
   begun : IsPast l m (piece_left l ∷ [])
-  begun = past_first h (short_language (piece_left l) language) next
+  begun = past_first (short_language (piece_left l) language) next
 
   script_is : (front_of (pieces_left l)).script ≡ script
   unfolding front_of
@@ -403,7 +403,7 @@ module _ {l m : Left} (h : IsRemainder l) (language : IsWord (Language languages
     where
       by : (b : Bool) → b ≡ is_word Script (piece_left m) → s ≡ cond b m.at 0 →
           s ≡ script_at (piece_left l) script
-      by true e p = p ∙ omega (arith, next_at h next)
+      by true e p = p ∙ omega (arith, next_at l m next)
           ∙ ap (script_at (piece_left l)) (sym (took Script (left.bytes_left m) (sym e)))
       by false e p = p ∙ ap (script_at (piece_left l)) (sym (took_none Script (left.bytes_left m) (sym e)))
 
@@ -439,10 +439,6 @@ module _ {l m : Left} (h : IsRemainder l) (language : IsWord (Language languages
     first_step : Steps Script l m (Some n) (piece_left l ∷ [])
     first_step = step Script tt begun b is (Some n) one
 
-    -- the piece is one of the text
-    pub third_left : IsRemainder n
-    third_left = first_step.passed.left
-
     module _ (c : Bool) (fits : c ≡ is_word Region (piece_left n)) where
       region_place : (r : ℕ) → r ≡ cond (c && (n.n == 2)) n.at 0 → l.at ≡ 0
           → r ≡ region_at (piece_left l) (front_of (pieces_left l)).script (front_of (pieces_left l)).region
@@ -450,13 +446,13 @@ module _ {l m : Left} (h : IsRemainder l) (language : IsWord (Language languages
           ∙ (λ j. region_at (piece_left l) (sym script_is j) (sym (region_is (Some n) first_step) j))
         where
           there : n.at ≡ suc (length (join (piece_left l ∷ option_to_list script)))
-          there = past_at h first_step.passed (λ e. cc) first
+          there = past_at first_step.passed (λ e. cc) first
 
           by : (c : Bool) → c ≡ is_word Region (piece_left n) → r ≡ cond (c && (n.n == 2)) n.at 0 →
               r ≡ region_at (piece_left l) script (region (Some n))
           by true e p =
               let long : n.n ≡ length (piece_left n) =
-              length_piece third_left (short_word Region tt (piece_left n) (sym e)) in
+              length_piece n (short_word Region tt (piece_left n) (sym e)) in
               p ∙ (λ j. cond (long j == 2) (there j) 0)
               ∙ ap (region_at (piece_left l) script) (sym (took Region (left.bytes_left n) (sym e)))
           by false e p =

@@ -23,6 +23,7 @@ use Rattle.iloc_outline.specs.declared.span.Span.{Span}
 use Rattle.iloc_outline.specs.contracts.span.Role.{the_type}
 use Rattle.iloc_outline.proofs.SpansLemmas.{zip_append, zip_take, zip_drop}
 use denote.Enum.Bare.{sameb}
+use Rattle.iloc_spec_grammar.proofs.SameMeaning.{same_test as tied_number}
 
 abbrev pub is_singleton : Role → Bool
 is_singleton Singleton = true
@@ -74,10 +75,6 @@ module _ (test : ℕ → Bool) where
   none_plain [] h = refl
   none_plain (p ∷ ps) h = ap (λ b. (b && test p.word) || list_any
       (λ (p : Part). is_singleton p.role && test p.word) ps) (no_singleton p.role h.0) ∙ none_plain ps h.1
-
--- an order by numbers tells equal ones
-tied_number : (a b : ℕ) → (b == a) ≡ eq_by_cmp nat_cmp a b
-tied_number a b = grind (arith, nat_tests)
 
 any_group : (rank : ℕ) (gs : List (ℕ × List Part)) → AllByRecursion IsGroup gs
     → list_any (λ (p : Part). is_of_rank rank p.role p.word) (parts_in gs)

@@ -16,13 +16,13 @@ use Rattle.iloc_spec_grammar.proofs.ReadingLaws.{from_block_starts, front-from_b
 use Rattle.iloc_spec_grammar.proofs.ReadingLaws.{refuses_repeat, starts_ends}
 use Rattle.iloc_spec_grammar.proofs.Readings.{after_language}
 use Rattle.iloc_outline.specs.Identifier.{IsAfterFront, IsFrontRead, front_text}
-use Rattle.iloc_pieces.specs.Left.{IsRemainder, IsPast, piece_left, pieces_left, bytes_left, whole_text}
+use Rattle.iloc_pieces.specs.Left.{IsPast, piece_left, pieces_left, bytes_left, whole_text}
 use Rattle.iloc_outline.specs.Outlines.{AreHeadRead, ReadsHead, parts_text}
 use Rattle.iloc_outline.specs.Parts.{front_pieces, printed_part, variant_parts}
 use Rattle.iloc_outline.specs.Reading.{AreWordsRead, ReadsWords}
 use Rattle.iloc_outline.specs.Spans.{IsSpan, Spell, held_spans}
 use Rattle.iloc_outline.specs.declared.identifier.Front.{Front}
-use Rattle.iloc_pieces.specs.declared.left.Left.{Left}
+use Rattle.iloc_pieces.specs.declared.cursor.Left.{Left}
 use Rattle.iloc_outline.specs.declared.outline.Head.TheVariants as heads
 use Rattle.iloc_outline.specs.declared.outline.Outline.{Outline}
 use Rattle.iloc_outline.specs.declared.reading.Found.{Found}
@@ -40,6 +40,7 @@ use Rattle.iloc_outline.proofs.SpansLemmas.{spell_length}
 use Rattle.iloc_outline.proofs.TransformLemmas.{at_language, long_front, pieces_front_of, variants_of}
 use Rattle.iloc_outline.proofs.TransformLemmas.{words_front}
 use Rattle.iloc_outline.proofs.TransformReading.{pieces_front}
+use Rattle.iloc_spec_grammar.proofs.SameFaults.{first_of_head}
 
 -- ---- heads that are no identifier
 
@@ -61,10 +62,6 @@ one_twice = at_language _ (λ p ps h.
     (refuses_repeat languages p (front ps) (from_block ps)
     (starts_ends (from_block ps) (from_block_starts ps))))
 
-pub head_first : (ps : List Text) → first_piece (head ps) ≡ first_piece ps
-head_first [] = refl
-head_first (p ∷ ps) = refl
-
 -- behind a head a block begins
 after_starts : (ps : List Text) → starts_block (after_head ps) ≡ true
 after_starts [] = refl
@@ -74,7 +71,7 @@ starts_single : (t : Text) → starts_block (pieces t) ≡ true → is_one_byte 
 starts_single t = at_pieces (λ ps. starts_block ps ≡ true → is_one_byte (first_piece ps) ≡ true)
     (λ p ps e. e) t
 
-single_starts : (t : Text) → is_one_byte (first_piece (pieces t)) ≡ true → starts_block (pieces t) ≡ true
+pub single_starts : (t : Text) → is_one_byte (first_piece (pieces t)) ≡ true → starts_block (pieces t) ≡ true
 single_starts t = at_pieces (λ ps. is_one_byte (first_piece ps) ≡ true → starts_block ps ≡ true)
     (λ p ps e. e) t
 
@@ -103,7 +100,7 @@ no_items (x ∷ xs) ys h = cc
 abbrev pub outline_of : Front → Outline
 outline_of f = record { front = f.end; script = f.script; region = f.region }
 
-module _ (l : Left) (f : Front) (is : IsRemainder l) (first : l.at ≡ 0)
+module _ (l : Left) (f : Front) (first : l.at ≡ 0)
     (word : IsWord (Language languages) (piece_left l)) (m : Left) (read : IsFrontRead l m f) where
   abbrev i : SpelledIdentifier
   i = front_of (pieces_left l)
@@ -112,7 +109,7 @@ module _ (l : Left) (f : Front) (is : IsRemainder l) (first : l.at ≡ 0)
   whole = begins_text l first
 
   begins : IsWord (Language languages) (first_piece (head (pieces_left l)))
-  begins = ap (is_word (Language languages)) (head_first (pieces_left l)) ∙ word
+  begins = ap (is_word (Language languages)) (first_of_head (pieces_left l)) ∙ word
 
   pieces_i : identifier_pieces i ≡ front_pieces i ++ i.variants
   pieces_i = pieces_front (Some i)
@@ -127,7 +124,7 @@ module _ (l : Left) (f : Front) (is : IsRemainder l) (first : l.at ≡ 0)
   }
 
   inside : f.end ≤ length (bytes_left l)
-  inside = subst (λ t. f.end ≤ length t) whole (omega (arith, read.inside, length_text is))
+  inside = subst (λ t. f.end ≤ length t) whole (omega (arith, read.inside, length_text l))
 
   front_bytes : take f.end (bytes_left l) ≡ join (front_pieces i)
   front_bytes = subst (λ t. take f.end t ≡ join (front_pieces i)) whole (read.text first)
@@ -244,7 +241,6 @@ module _ (l : Left) (f : Front) (is : IsRemainder l) (first : l.at ≡ 0)
       head_block single =
           let both = head_words (pieces_left l) (pieces_left k) word before.pieces
           (single_starts (bytes_left k) single) in (
-            before.left,
             before.later,
             before.text ∙ whole,
             single,

@@ -6,7 +6,7 @@ use Rattle.std.specs.Option.{option_or}
 use Rattle.std.specs.Ordering.{nat_cmp, eq_by_cmp, is_eq}
 use Rattle.std.specs.declared.cmp.Ordering.{Ordering}
 use Rattle.std.specs.declared.cmp.Ordering.TheVariants.{Less, Equal, Greater}
-use Rattle.std.specs.Cmp.{nat_cmp_total, nat_cmp_is}
+use Rattle.std.specs.Cmp.{nat_cmp_total}
 use Rattle.std.specs.FinMap.{put, find, IsAntisymmetric, nat_cmp-IsAntisymmetric}
 use Rattle.std.specs.FinMap.Entries.{by_order}
 use Rattle.std.proofs.lemmas.Bool.{cond_both}
@@ -14,6 +14,7 @@ use Rattle.iloc_spec_grammar.specs.Meaning.{map_of}
 use Rattle.iloc_spec_grammar.proofs.MapLaws.{find-map_of, all-map_of, map_of_same}
 use Rattle.iloc_spec_grammar.proofs.SetLaws.{find-append}
 use Rattle.iloc_spec_grammar.proofs.Singletons.{tied}
+use Rattle.iloc_pieces.proofs.WordOrder.{is_less, is_greater}
 
 -- ---- entries under other keys, which are ordered alike
 
@@ -50,12 +51,6 @@ module _ {K X L Y : Type 0} (R : K → K → Ordering) (S : L → L → Ordering
 
 -- ---- an entry between others
 
-is_less : (m n : ℕ) → m < n → nat_cmp m n ≡ Less
-is_less m n l = sym (nat_cmp_is m n Less l)
-
-is_greater : (m n : ℕ) → n < m → nat_cmp m n ≡ Greater
-is_greater m n l = sym (nat_cmp_is m n Greater l)
-
 -- an entry stands between those of lesser and those of greater keys
 pub put_between : {X : Type 0} (k : ℕ) (v : X) (es fs : List (ℕ × X)) → AllByRecursion (λ e. e.0 < k) es
     → AllByRecursion (λ e. k < e.0) fs → put nat_cmp k v (es ++ fs) ≡ es ++ (k, v) ∷ fs
@@ -89,7 +84,7 @@ flat-put k (e ∷ es) h =
       | Greater ↦ λ h. ap (λ l. e.1 ++ l) (flat-put k es h)
     ] h
 
-or_none : {X : Type 0} (o : Option X) → option_or o None ≡ o
+pub or_none : {X : Type 0} (o : Option X) → option_or o None ≡ o
 or_none None = refl
 or_none (Some v) = refl
 

@@ -31,12 +31,9 @@ use Rattle.iloc_outline.specs.Outlines.{parts_text}
 use Rattle.iloc_outline.specs.Parts.{Part, blocks_parts, front_pieces, printed_part, variant_parts}
 use Rattle.iloc_outline.proofs.PartsInOrder.{variants_printed}
 use Rattle.iloc_outline.proofs.PrintedParts.{blocks_text}
+use Rattle.iloc_spec_grammar.proofs.SameFaults.{first_of_head}
 
 -- ---- the meaning, or the fault
-
-first_of_head : (ps : List Text) → first_piece (head ps) ≡ first_piece ps
-first_of_head [] = refl
-first_of_head (p ∷ ps) = refl
 
 -- the head is read as what it spells
 head_read : (ps : List Text) (i : Identifier) → (m : IdentifierMeans languages ps i) → identifier_of ps

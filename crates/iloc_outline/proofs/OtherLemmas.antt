@@ -25,7 +25,7 @@ use Rattle.iloc_pieces.specs.Left.{bytes_left, whole_text}
 use Rattle.iloc_outline.specs.Parts.{block_parts, printed_part, rank, singleton_part}
 use Rattle.iloc_outline.specs.Reading.{IsBody, IsPrivateBody, IsPutOther, Puts, ReadsBlock, block_span}
 use Rattle.iloc_outline.specs.Spans.{held_spans}
-use Rattle.iloc_pieces.specs.declared.left.Left.{Left}
+use Rattle.iloc_pieces.specs.declared.cursor.Left.{Left}
 use Rattle.iloc_outline.specs.declared.reading.Found.{Found}
 use Rattle.iloc_outline.specs.declared.reading.Found.TheVariants.{End, Next, Bad}
 use Rattle.iloc_outline.specs.declared.spans.Spans.{Spans}

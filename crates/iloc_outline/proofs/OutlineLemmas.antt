@@ -24,7 +24,7 @@ use Rattle.iloc_outline.specs.Outlines.{parts_text}
 use Rattle.iloc_outline.specs.Parts.{Part, blocks_parts, front_pieces, variant_parts}
 use Rattle.iloc_outline.specs.Spans.{IsSpan, Spell, held_spans}
 use Rattle.iloc_outline.specs.declared.blocks.Blocks.TheVariants.{Refused, Full}
-use Rattle.iloc_pieces.specs.declared.left.Left.{Left}
+use Rattle.iloc_pieces.specs.declared.cursor.Left.{Left}
 use Rattle.iloc_outline.specs.declared.outline.Outline.{Outline}
 use Rattle.iloc_outline.specs.declared.outline.Outlined.TheVariants as outlined
 use Rattle.iloc_outline.specs.declared.spans.Spans.{Spans}

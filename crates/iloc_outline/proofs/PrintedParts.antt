@@ -29,7 +29,7 @@ use Rattle.iloc_spec_grammar.proofs.FaultLaws.{EndsAtX, tail_ends}
 use Rattle.iloc_spec_grammar.proofs.General.{all_of, all_mapped, map-same}
 use Rattle.iloc_spec_grammar.proofs.MapLaws.{all-map_of, is_sorted-map_of, map_of_same}
 use Rattle.iloc_spec_grammar.proofs.ReadBack.{all_append}
-use Rattle.iloc_spec_grammar.proofs.PartTexts.{spelling_of_parts}
+use Rattle.iloc_spec_grammar.proofs.PartTexts.{spelling_of_parts, private_spelling_none}
 use Rattle.iloc_spec_grammar.proofs.ValuesLaws.{all_weaker}
 use Rattle.iloc_spec_grammar.proofs.Singletons.{of_u, of_t, of_x, another, kind_of, lower_letter, no_t, no_u}
 use Rattle.iloc_spec_grammar.proofs.Singletons.{no_x, tied, untied}
@@ -152,10 +152,6 @@ at_x ps q =
     ∙ ap (cond (eq_by_cmp nat_cmp q code_t) (Some [])) (swapped q code_u 255 (λ e. omega arith) _ _ _)
     ∙ swapped q code_t 255 (λ e. omega arith) _ _ _
 
-no_private_shown : private_spelling [] ≡ []
-unfolding private_spelling
-no_private_shown = refl
-
 other_below : (c : ℕ) → is_other_singleton c ≡ true → c < 255
 other_below c o = grind (arith, nat_tests)
 
@@ -179,7 +175,7 @@ agree : (bs : List Block) → EndsAtX bs → AllByRecursion
     (λ b. (to_ascii_lowercase b.0 ≡ b.0) × (is_ascii_alphanumeric b.0 ≡ true)) bs → (q : ℕ) → Agree bs q
 agree [] x h q = (λ j. cond (eq_by_cmp nat_cmp q code_t) (Some (no_transform_shown j))
     (cond (eq_by_cmp nat_cmp q code_u) (Some (no_unicode_shown j))
-    (cond (eq_by_cmp nat_cmp q 255) (Some (no_private_shown j)) None)))
+    (cond (eq_by_cmp nat_cmp q 255) (Some (private_spelling_none j)) None)))
 agree (b ∷ bs) x h q = elim (kind_of b.0 h.0.1) [
   | of_t k ↦ subst (λ c. Agree ((c, b.1) ∷ bs) q) (sym k) (at_t b.1 bs q (agree bs x.1 h.1 q))
   | of_u k ↦ subst (λ c. Agree ((c, b.1) ∷ bs) q) (sym k) (at_u b.1 bs q (agree bs x.1 h.1 q))

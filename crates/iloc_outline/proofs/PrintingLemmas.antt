@@ -4,20 +4,20 @@ use Rattle.std.proofs.Common.{not, List, [], ◌∷◌, ◌++◌, length, take, 
 use Rattle.std.proofs.Common.{ap, ◌∙◌, subst, arith, add-zero, append_assoc, append-nil, slice_index}
 use Rattle.std.proofs.Common.{slice_index_or, slice_set, add-one}
 use Rattle.std.specs.Prelude.{codes, if◌then◌else◌}
-use Rattle.std.specs.Char.{to_ascii_lowercase, to_ascii_uppercase}
+use Rattle.std.specs.Char.{to_ascii_lowercase}
 use Rattle.std.specs.List.{AllByRecursion, AllZip}
 use Rattle.std.proofs.Math.Seq.{take-suc}
 use Rattle.std.proofs.lemmas.Grind.{flat_map-append}
 use Rattle.std.proofs.lemmas.List.{drop-drop, drop-take, get_or-drop, get_or-take, map-append}
-use Rattle.std.proofs.lemmas.List.{take-append-drop, length-append, length-map, length-drop, length-take-le}
+use Rattle.std.proofs.lemmas.List.{take-append-drop, length-append, length-drop, length-take-le}
 use Rattle.std.proofs.lemmas.List.{take-take, take_more_set}
 use Rattle.iloc_spec_grammar.specs.Syntax.{Text, dashes, first_piece, is_other_singleton, is_true, kept}
-use Rattle.iloc_spec_grammar.specs.Syntax.{lower, pieces, upper}
+use Rattle.iloc_spec_grammar.specs.Syntax.{lower, pieces}
 use Rattle.iloc_spec_grammar.specs.Values.{spelled_value}
 use Rattle.iloc_spec_grammar.proofs.PiecesLaws.{at_pieces, pieces-join}
 use Rattle.iloc_spec_grammar.proofs.PartTexts.{join-dashes}
 use Rattle.iloc_spec_grammar.proofs.WordsLaws.{length-lower}
-use Rattle.iloc_pieces.specs.Left.{IsEnd, IsRemainder, IsNextPiece, IsShortPiece, piece_left, pieces_left}
+use Rattle.iloc_pieces.specs.Left.{IsEnd, IsNextPiece, IsShortPiece, piece_left, pieces_left}
 use Rattle.iloc_pieces.specs.Left.{bytes_left}
 use Rattle.iloc_outline.specs.Printing.{bytes_from, edited_text, is_kept, kept_pieces, printed_role}
 use Rattle.iloc_outline.specs.Printing.{span_text}
@@ -34,21 +34,22 @@ use Rattle.iloc_outline.specs.declared.span.Role.{Role}
 use Rattle.iloc_outline.specs.declared.span.Role.TheVariants as roles
 use Rattle.iloc_outline.specs.contracts.span.Role.{the_type}
 use denote.Enum.Bare.{sameb}
-use Rattle.iloc_pieces.specs.declared.left.Left.{Left}
+use Rattle.iloc_pieces.specs.declared.cursor.Left.{Left}
 use Rattle.iloc_pieces.proofs.LeftLemmas.{begins, first_within, length_piece, length_rest}
+use Rattle.iloc_outline.proofs.Fronts.{length-raised}
 
 -- a short piece lies within the window, and its bytes are those from its place on
-module _ (l : Left) (h : IsRemainder l) (short : IsShortPiece (piece_left l)) where
+module _ (l : Left) (short : IsShortPiece (piece_left l)) where
   pub piece_within : l.n ≤ l.len
-  piece_within = omega (arith, length_piece h short, first_within (bytes_left l), length_rest h)
+  piece_within = omega (arith, length_piece l short, first_within (bytes_left l), length_rest l)
 
   pub piece_inside : l.at + l.n ≤ length l.window.now
-  piece_inside = omega (arith, piece_within, h.inside)
+  piece_inside = omega (arith, piece_within, l.inside)
 
   pub piece_bytes : take l.n (drop l.at l.window.now) ≡ piece_left l
   piece_bytes =
       sym (take-take l.n l.len (drop l.at l.window.now) piece_within)
-      ∙ ap (λ n. take n (bytes_left l)) (length_piece h short) ∙ begins (bytes_left l)
+      ∙ ap (λ n. take n (bytes_left l)) (length_piece l short) ∙ begins (bytes_left l)
 
   pub piece_first : l.n ≢ 0 → slice_index (piece_left l) 0 ≡ slice_index l.window.now l.at
   piece_first some =
@@ -427,30 +428,6 @@ span_room w spans ps h F to i d end l inside e =
 
 -- ---- the front
 
-pub length-upper : (t : Text) → length (upper t) ≡ length t
-unfolding upper
-length-upper t = length-map t to_ascii_uppercase
-
-pub length-raised : (n at : ℕ) (t : Text) → length (raised n at t) ≡ length t
-length-raised n zero t = refl
-length-raised n (suc k) t =
-    let all : take (suc k) t ++ (take n (drop (suc k) t) ++ drop (suc k + n) t) ≡ t =
-    ap (λ u. take (suc k) t ++ (take n (drop (suc k) t) ++ u)) (sym (drop-drop n (suc k) t))
-    ∙ ap (λ u. take (suc k) t ++ u) (take-append-drop n (drop (suc k) t))
-    ∙ take-append-drop (suc k) t in
-    omega (
-      arith,
-      ap length all,
-      length-append (take (suc k) t)
-          (take n (drop (suc k) t) ++ drop (suc k + n) t),
-      length-append (take n (drop (suc k) t))
-          (drop (suc k + n) t),
-      length-append (take (suc k) t) (upper (take n (drop (suc k) t)) ++ drop (suc k + n) t),
-      length-append
-          (upper (take n (drop (suc k) t))) (drop (suc k + n) t),
-      length-upper (take n (drop (suc k) t)),
-    )
-
 pub length-front_text : (script region : ℕ) (t : Text) → length (front_text script region t) ≡ length t
 length-front_text script region t =
     length-raised 2 region (raised 1 script (lower t)) ∙ length-raised 1 script (lower t) ∙ length-lower t
@@ -476,58 +453,3 @@ module _ (w : Text) (len : ℕ) (l : len ≤ length w) (o : Outline) (spans : Sp
         length-take-le o.front w
             (omega (arith, front_within)),
       )
-
--- what comes behind the pieces that are kept
-abbrev pub closing_rest : Role → List Text → Text
-closing_rest roles.Field [] = codes "-true"
-closing_rest roles.Field (p ∷ ps) = []
-closing_rest _ ps = []
-
-closing_is : (r : Role) (ps : List Text) → dashes (closing r ps) ≡ dashes ps ++ closing_rest r ps
-closing_is roles.Variant ps = sym (append-nil (dashes ps))
-closing_is roles.Singleton ps = sym (append-nil (dashes ps))
-closing_is roles.Attribute ps = sym (append-nil (dashes ps))
-closing_is roles.Keyword ps = sym (append-nil (dashes ps))
-closing_is roles.Field [] = refl
-closing_is roles.Field (p ∷ ps) = sym (append-nil (dashes (p ∷ ps)))
-
-pub rest_true : (r : Role) (ps : List Text) → r ≡ roles.Field → length (dashes ps) ≡ 0 → closing_rest r ps
-    ≡ codes "-true"
-rest_true r ps e h = λ j. closing_rest (e j) (no_dashes ps h j)
-
-pub rest_none : (r : Role) (ps : List Text) → (r ≡ roles.Field → length (dashes ps) ≢ 0) → closing_rest r ps
-    ≡ []
-rest_none roles.Variant ps h = refl
-rest_none roles.Singleton ps h = refl
-rest_none roles.Attribute ps h = refl
-rest_none roles.Keyword ps h = refl
-rest_none roles.Field [] h = absurd (h refl refl)
-rest_none roles.Field (p ∷ ps) h = refl
-
--- the first piece, those that are kept, and what comes behind them
-pub parts_here : (r role : Role) (rest p : Text) → rest ≡ p → role
-    ≡ printed_role r (first_piece (pieces rest))
-    → edited_text r p ≡ (45 ∷ lower (first_piece (pieces rest))) ++ (dashes
-    (kept_pieces role (rest_of (pieces rest))) ++ closing_rest role
-    (kept_pieces role (rest_of (pieces rest))))
-parts_here r role rest p is e =
-    ap (edited_text r) (sym is) ∙ edited_is r rest
-    ∙ ap (λ t. (45 ∷ lower (first_piece (pieces rest))) ++ t)
-    (ap (λ q. dashes (closing q (kept_pieces q (rest_of (pieces rest))))) (sym e)
-    ∙ closing_is role (kept_pieces role (rest_of (pieces rest))))
-
--- what is printed of a span that is not edited
-pub plain_text : (t : Text) (s : Span) → s.edited ≡ false → span_text t s ≡ lower (bytes_from t s.start s.end)
-plain_text t s e = ap (λ b. cond b (edited_text s.role (bytes_from t (s.start + 1) s.end))
-    (lower (bytes_from t s.start s.end))) e
-
-pub plain_long : (t : Text) (s : Span) → s.edited ≡ false → s.end ≤ length t → length (span_text t s)
-    ≡ s.end - s.start
-plain_long t s e l =
-    ap length (plain_text t s e) ∙ length-lower (bytes_from t s.start s.end)
-    ∙ length-take-le (s.end - s.start) (drop s.start t) (omega (arith, length-drop s.start t))
-
-pub edited_is_text : (t : Text) (s : Span) → s.edited ≡ true → span_text t s
-    ≡ edited_text s.role (bytes_from t (s.start + 1) s.end)
-edited_is_text t s e = ap (λ b. cond b (edited_text s.role (bytes_from t (s.start + 1) s.end))
-    (lower (bytes_from t s.start s.end))) e

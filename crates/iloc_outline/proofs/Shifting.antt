@@ -24,13 +24,6 @@ pub take_back : {X : Type 0} (us : List X) (i n : ℕ) (d : X) → i < length us
     ≡ slice_index_or us i d ∷ take n (drop (suc i) us)
 take_back us i n d l = ap (take (suc n)) (drop-cons us i d l)
 
--- the front, and what is behind it
-pub take_front : {X : Type 0} (us rest : List X) (n : ℕ) → n ≤ length us → take n (take n us ++ rest)
-    ≡ take n us
-take_front us rest zero l = refl
-take_front [] rest (suc n) l = absurd (omega arith)
-take_front (u ∷ us) rest (suc n) l = ap (λ l. u ∷ l) (take_front us rest n (omega arith))
-
 module _ {X : Type 0} (us : List X) (at made from : ℕ) (d : X) (now : List X) (a : at ≤ from)
     (b : from ≤ made) (c : made < length us)
     (is : now ≡ take (from + 1) us ++ (take (made - from) (drop from us) ++ drop (made + 1) us)) where

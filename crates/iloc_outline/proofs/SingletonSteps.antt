@@ -8,8 +8,8 @@ use Rattle.std.specs.Char.{is_ascii_alphanumeric, to_ascii_lowercase}
 use Rattle.std.specs.Ordering.{nat_cmp, eq_by_cmp}
 use Rattle.std.specs.FinMap.{put, is_sorted}
 use Rattle.std.proofs.lemmas.Bool.{or_from}
-use Rattle.iloc_spec_grammar.specs.Syntax.{Text, IsAmong, Language, blocks, code_t, code_u, code_x}
-use Rattle.iloc_spec_grammar.specs.Syntax.{first_piece, is_one_byte, is_other_singleton, is_word, languages}
+use Rattle.iloc_spec_grammar.specs.Syntax.{Text, IsAmong, blocks, code_t, code_u, code_x}
+use Rattle.iloc_spec_grammar.specs.Syntax.{first_piece, is_one_byte, is_other_singleton, languages}
 use Rattle.iloc_spec_grammar.specs.Syntax.{lower, word_cmp}
 use Rattle.iloc_spec_grammar.specs.Meaning.{Fault}
 use Rattle.iloc_spec_grammar.specs.Meaning as faults
@@ -23,12 +23,12 @@ use Rattle.iloc_subtags.specs.declared.parse_error.ParseError.TheVariants.{Dupli
 use Rattle.iloc_subtags.specs.Judging.{error_of}
 use Rattle.iloc_outline.specs.Blocks.{AreBegun, IsBlockRead, body_of}
 use Rattle.iloc_outline.specs.Groups.{AreGroups, parts_in}
-use Rattle.iloc_pieces.specs.Left.{IsEnd, IsLater, IsRemainder, IsNextPiece, IsSpanned, piece_left}
+use Rattle.iloc_pieces.specs.Left.{IsEnd, IsLater, IsNextPiece, IsSpanned, piece_left}
 use Rattle.iloc_pieces.specs.Left.{pieces_left, whole_text}
 use Rattle.iloc_outline.specs.Parts.{Part, block_parts, rank}
 use Rattle.iloc_outline.specs.Reading.{IsTooMuch}
 use Rattle.iloc_outline.specs.Spans.{Spell}
-use Rattle.iloc_pieces.specs.declared.left.Left.{Left}
+use Rattle.iloc_pieces.specs.declared.cursor.Left.{Left}
 use Rattle.iloc_outline.specs.declared.reading.Found.TheVariants.{End, Next, Bad, Repeated, Full}
 use Rattle.iloc_outline.specs.declared.spans.Spans.{Spans}
 use Rattle.iloc_outline.proofs.BlocksLemmas.{IsAt, IsDone, IsRead, at_start, groups_of, is_bad, is_placed}
@@ -36,10 +36,12 @@ use Rattle.iloc_outline.proofs.BlocksLemmas.{is_second, no_letter, ranks, read_b
 use Rattle.iloc_outline.proofs.BlocksLemmas.{read_next, read_repeated, repeats, stays, told}
 use Rattle.iloc_outline.proofs.SpansLemmas.{length-held, spell_length}
 use Rattle.iloc_pieces.proofs.LeftLemmas.{past_first, single_short, spanned_next, spanned_none}
+use Rattle.iloc_pieces.proofs.RunWords.{and-false}
+use Rattle.iloc_outline.proofs.TransformLemmas.{no_language}
 
 -- ---- the byte of a singleton
 
-one_byte : (p : Text) → is_one_byte p ≡ true → p ≡ slice_index p 0 ∷ []
+pub one_byte : (p : Text) → is_one_byte p ≡ true → p ≡ slice_index p 0 ∷ []
 one_byte [] h = absurd (true≢false (sym h))
 one_byte (c ∷ []) h = refl
 one_byte (c ∷ d ∷ p) h = absurd (true≢false (sym h ∙ two_more (length p)))
@@ -56,24 +58,16 @@ unseen last r l [] h = refl
 unseen last r l (k ∷ ks) h = or_from _ _ (untied r k (λ e. absurd (omega (arith, h.0))))
     (unseen last r l ks h.1)
 
-and_no : (b : Bool) → (b && false) ≡ false
-and_no true = refl
-and_no false = refl
-
-no_language : is_word (Language languages) [] ≡ false
-unfolding is_word languages
-no_language = refl
-
 -- a singleton with nothing behind it is bad
 empty_block : (c : ℕ) → is_block languages (c, []) ≡ false
 unfolding transform_of unicode_of
-empty_block c = or_from _ _ (and_no (to_ascii_lowercase c == code_x))
+empty_block c = or_from _ _ (and-false (to_ascii_lowercase c == code_x))
     (at (to_ascii_lowercase c == code_t) (to_ascii_lowercase c == code_u))
   where
     at : (t u : Bool) → is_extension languages (to_ascii_lowercase c) (extension_by t u []) ≡ false
-    at true u = and_no (to_ascii_lowercase c == code_t)
-    at false true = and_no (to_ascii_lowercase c == code_u)
-    at false false = and_no (is_other_singleton (to_ascii_lowercase c))
+    at true u = and-false (to_ascii_lowercase c == code_t)
+    at false true = and-false (to_ascii_lowercase c == code_u)
+    at false false = and-false (is_other_singleton (to_ascii_lowercase c))
 
 nothing_bad : (c : ℕ) → (is_block languages (c, body_of c []) ≡ false)
     × (((to_ascii_lowercase c == code_t) && repeats_variant languages (body_of c [])) ≡ false)
@@ -83,7 +77,7 @@ nothing_bad c = subst (λ ps. (is_block languages (c, ps) ≡ false)
       empty_block c,
       ap (λ b. (to_ascii_lowercase c == code_t) &&
           (b && not (all_different word_cmp (map lower (front_of []).variants)))) no_language
-          ∙ and_no (to_ascii_lowercase c == code_t),
+          ∙ and-false (to_ascii_lowercase c == code_t),
     )
   where
     none : (b : Bool) → cond {A = List Text} b [] [] ≡ []
@@ -123,15 +117,15 @@ module _ {l : Left} {old : Spans} {o : Bool} {at : Left} {last : ℕ} {now : Spa
 
     -- the text is the same
     pub same_text : whole_text m ≡ whole_text l
-    same_text = (past_first h.left (single_short (piece_left at) h.single) next).text ∙ h.text
+    same_text = (past_first (single_short (piece_left at) h.single) next).text ∙ h.text
 
     -- the bytes of the singleton
     pub spanned_at : IsSpanned (whole_text m) (at.at - 1) (m.at - 1) ((byte_at ∷ []) ∷ [])
     spanned_at = subst (λ t. IsSpanned t (at.at - 1) (m.at - 1) ((byte_at ∷ []) ∷ []))
-        (sym (past_first h.left (single_short (piece_left at) h.single) next).text)
+        (sym (past_first (single_short (piece_left at) h.single) next).text)
         (subst (λ q. IsSpanned (whole_text at) (at.at - 1) (m.at - 1) (q ∷ []))
         (one_byte (piece_left at) h.single)
-        (spanned_next h.left h.later next (spanned_none h.left h.later)))
+        (spanned_next h.later next (spanned_none at h.later)))
 
   module _ (letter : is_ascii_alphanumeric byte_at ≡ true) where
     -- whether the rank is among those of the blocks before
@@ -286,7 +280,6 @@ module _ {l : Left} {old : Spans} {o : Bool} {at : Left} {last : ℕ} {now : Spa
     next_at j r top placed d =
         let to = read_next byte_at m j now mid p k r in
         record {
-          left = to.left;
           later = to.later;
           single = to.single;
           text = to.text ∙ same_text x.next;
@@ -299,11 +292,10 @@ module _ {l : Left} {old : Spans} {o : Bool} {at : Left} {last : ℕ} {now : Spa
     less_at j r = omega (arith, (read_next byte_at m j now mid p k r).less, x.next.less)
 
 -- at the first singleton
-pub starts_at : (l : Left) (old : Spans) (o : Bool) → IsRemainder l → IsLater l →
+pub starts_at : (l : Left) (old : Spans) (o : Bool) → IsLater l →
     is_one_byte (piece_left l) ≡ true
     → IsAt l old o l 0 old o
-starts_at l old o left later single = record {
-  left = left;
+starts_at l old o later single = record {
   later = later;
   single = single;
   text = refl;

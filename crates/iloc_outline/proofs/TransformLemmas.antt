@@ -62,7 +62,7 @@ block_of_t c ps e (inr (x, h, cut)) = by x h cut
     by (transform m) h cut = (m, h.1, cut)
     by (other qs) h cut = absurd (no_t (to_ascii_lowercase c) e h.0)
 
-no_language : is_word (Language languages) [] ≡ false
+pub no_language : is_word (Language languages) [] ≡ false
 unfolding is_word languages
 no_language = refl
 
@@ -241,7 +241,7 @@ pub at_language : (P : List Text → Type 0)
 at_language P f [] h = absurd (true≢false (sym h ∙ no_language))
 at_language P f (p ∷ ps) h = f p ps h
 
-long_language : (p : Text) → IsWord (Language languages) p → IsLong p
+pub long_language : (p : Text) → IsWord (Language languages) p → IsLong p
 long_language p h = let l =
     languages_table.least _ (length-language languages p h) in ne_eqb _ _ (λ e. absurd (omega arith))
 

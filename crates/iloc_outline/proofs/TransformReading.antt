@@ -19,15 +19,13 @@ use Rattle.iloc_spec_grammar.proofs.WordsLaws.{length-transform_key}
 use Rattle.iloc_pieces.specs.Left.{IsPast, IsSpanned, piece_left, pieces_left, bytes_left, whole_text}
 use Rattle.iloc_outline.specs.Parts.{block_parts, field_part, front_pieces, in_order, optional_front}
 use Rattle.iloc_outline.specs.Parts.{optional_variants, rank, singleton_part, transform_parts, variant_parts}
-use Rattle.iloc_outline.specs.Reading.{AreFieldsRead, AreWordsRead, EndsAtBlock, EndsInKey, IsBody, IsFoundAt}
+use Rattle.iloc_outline.specs.Reading.{AreFieldsRead, AreWordsRead, EndsAtBlock, EndsInKey, IsBody}
 use Rattle.iloc_outline.specs.Reading.{Puts, ReadsBlock, ReadsFields, ReadsWords, block_span}
 use Rattle.iloc_outline.specs.Spans.{held_spans}
-use Rattle.iloc_pieces.specs.declared.left.Left.{Left}
+use Rattle.iloc_pieces.specs.declared.cursor.Left.{Left}
 use Rattle.iloc_outline.specs.declared.reading.Found.{Found}
 use Rattle.iloc_outline.specs.declared.reading.Found.TheVariants.{End, Next, Bad, Repeated, Full}
-use Rattle.iloc_outline.specs.declared.span.Role.{Role}
 use Rattle.iloc_outline.specs.declared.span.Role.TheVariants as roles
-use Rattle.iloc_outline.specs.declared.span.Role.TheVariants.{Singleton}
 use Rattle.iloc_outline.specs.declared.spans.Spans.{Spans}
 use Rattle.iloc_pieces.proofs.LeftLemmas.{past_past}
 use Rattle.iloc_outline.proofs.BodyLemmas.{front_ends, front_first, front_goes_on, front_past, front_single}
@@ -36,12 +34,6 @@ use Rattle.iloc_outline.proofs.TransformLemmas.{AreFields, after_front_body, alo
 use Rattle.iloc_outline.proofs.TransformLemmas.{long_front, no_repeat, pieces_front_of, repeats, variants_of}
 use Rattle.iloc_outline.proofs.TransformLemmas.{words_front, no_fields_first, no_fields_key, no_fields_later}
 use Rattle.iloc_outline.proofs.TransformLemmas.{none_repeats, transform_good}
-
--- what is left after fields is a piece of a text
-pub fields_left : (r : Role) (l m : Left) (old new : Spans) (o n : Bool) (s : Found)
-    → AreFieldsRead r l m old new o n s → IsFoundAt m s
-fields_left r l m old new o n Next h = h.1.left
-fields_left r l m old new o n _ h = tt
 
 -- ---- good blocks
 

@@ -10,10 +10,10 @@ use Rattle.iloc_spec_grammar.specs.Values.{spelled_value}
 use Rattle.iloc_spec_grammar.proofs.MapLaws.{same_is}
 use Rattle.iloc_spec_grammar.proofs.ReadBack.{all_append}
 use Rattle.iloc_outline.specs.Fields.{PrintsAsItIs, IsValueRead}
-use Rattle.iloc_pieces.specs.Left.{IsRemainder, IsLater, IsNextPiece, IsPast, IsShortPiece, IsSpanned}
+use Rattle.iloc_pieces.specs.Left.{IsLater, IsNextPiece, IsPast, IsShortPiece, IsSpanned}
 use Rattle.iloc_pieces.specs.Left.{piece_left, whole_text}
 use Rattle.iloc_outline.specs.Reading.{IsOfField}
-use Rattle.iloc_pieces.specs.declared.left.Left.{Left}
+use Rattle.iloc_pieces.specs.declared.cursor.Left.{Left}
 use Rattle.iloc_outline.specs.declared.span.Role.{Role}
 use Rattle.iloc_outline.specs.declared.span.Role.TheVariants as roles
 use Rattle.iloc_pieces.proofs.LeftLemmas.{last_piece, past_next, past_none, pieces_end, short_attribute}
@@ -86,11 +86,11 @@ pub record Reaches (key at : Left) (n : ℕ) (t : Bool) : Type 0 where
   pub room : n + at.len ≤ key.len
 
 -- none
-pub reaches_key : (key : Left) → IsRemainder key → IsLater key → IsShortPiece (piece_left key) →
+pub reaches_key : (key : Left) → IsLater key → IsShortPiece (piece_left key) →
     Reaches key key 0 false
-reaches_key key h later short = record {
+reaches_key key later short = record {
   before = [];
-  past = past_none h later;
+  past = past_none key later;
   values = [];
   pieces = refl;
   short = short;
@@ -110,7 +110,7 @@ module _ (key at : Left) (n : ℕ) (t : Bool) (h : Reaches key at n t) (later : 
   pub value_last : at.n ≡ at.len
       → IsValueRead key at (record { is_end = true; end = at.at + at.n; count = n; has_true = t })
   value_last last =
-      let end = last_piece at h.past.left last h.short in
+      let end = last_piece at last h.short in
       record {
         values = h.values;
         each = h.each;

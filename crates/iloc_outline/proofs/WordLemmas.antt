@@ -5,13 +5,13 @@ use Rattle.std.specs.List.{AllByRecursion}
 use Rattle.iloc_spec_grammar.specs.Syntax.{Text, Kind, IsWord, is_word, lower, first_piece}
 use Rattle.iloc_spec_grammar.specs.Reading.{passing, EndsBefore}
 use Rattle.iloc_spec_grammar.proofs.PiecesLaws.{at_pieces}
-use Rattle.iloc_pieces.specs.Left.{IsRemainder, IsLater, IsPast, IsShortPiece, IsSpanned, piece_left}
+use Rattle.iloc_pieces.specs.Left.{IsLater, IsPast, IsShortPiece, IsSpanned, piece_left}
 use Rattle.iloc_pieces.specs.Left.{pieces_left, bytes_left, whole_text}
 use Rattle.iloc_pieces.specs.Words.{IsUpToEight, word_number}
 use Rattle.iloc_outline.specs.Parts.{word_part, printed_part}
 use Rattle.iloc_outline.specs.Reading.{IsOfWord, role_kind}
 use Rattle.iloc_outline.specs.Spans.{IsSpan}
-use Rattle.iloc_pieces.specs.declared.left.Left.{Left}
+use Rattle.iloc_pieces.specs.declared.cursor.Left.{Left}
 use Rattle.iloc_outline.specs.declared.span.Role.{Role}
 use Rattle.iloc_outline.specs.declared.span.Role.TheVariants as roles
 use Rattle.iloc_outline.specs.declared.span.Span.{Span}
@@ -77,32 +77,32 @@ word_next k l =
     (λ p ps e. (passing (is_word k) ps, ap (λ b. cond b (p ∷ passing (is_word k) ps) []) e)) (bytes_left l)
 
 -- a short piece after its hyphen
-pub short_piece : (l : Left) → IsRemainder l → IsLater l → IsShortPiece (piece_left l)
+pub short_piece : (l : Left) → IsLater l → IsShortPiece (piece_left l)
     → IsSpanned (whole_text l) (l.at - 1) (l.at + l.n) (piece_left l ∷ [])
-short_piece l h later short =
-    let long : l.at + length (piece_left l) ≡ l.at + l.n = omega (arith, length_piece h short) in
+short_piece l later short =
+    let long : l.at + length (piece_left l) ≡ l.at + l.n = omega (arith, length_piece l short) in
     subst (λ (n : ℕ). IsSpanned (whole_text l) (l.at - 1) n (piece_left l ∷ [])) long
-    (spanned_piece l h later)
+    (spanned_piece l later)
 
 -- it ends within the text
 pub end_within : (l at : Left) (ps : List Text) → IsPast l at ps → IsShortPiece (piece_left at)
     → at.at + at.n ≤ l.at + l.len
 end_within l at ps past short =
-    omega (arith, (short_piece at past.left past.later short).inside, length_text past.left, past.end)
+    omega (arith, (short_piece at past.later short).inside, length_text at, past.end)
 
 -- the span of a word
 abbrev pub span_of : Role → ℕ → Left → Span
 span_of r n l = record { word = n; start = l.at - 1; end = l.at + l.n; role = r; edited = false }
 
 -- it is that part of the text
-pub word_span : (r : Role) → IsOfWord r → (l : Left) → IsRemainder l → IsLater l →
+pub word_span : (r : Role) → IsOfWord r → (l : Left) → IsLater l →
     IsWord (role_kind r) (piece_left l)
     → (n : ℕ) → n ≡ word_number (piece_left l) →
     IsSpan (whole_text l) (span_of r n l) (word_part r (piece_left l))
-word_span r role l h k word n e = record {
+word_span r role l k word n e = record {
   role = refl;
   word = e;
-  spanned = short_piece l h k (short_kind r (piece_left l) word);
+  spanned = short_piece l k (short_kind r (piece_left l) word);
   same = λ _. printed_word r role (piece_left l);
   short = not_edited;
 }

@@ -15,13 +15,13 @@ use Rattle.iloc_spec_grammar.proofs.ReadBack.{all_append}
 use Rattle.iloc_spec_grammar.proofs.ReadingLaws.{keep_all, keep_while_passes}
 use Rattle.iloc_spec_grammar.proofs.ValuesLaws.{all_weaker}
 use Rattle.iloc_outline.specs.Inserting.{IsPutFrom}
-use Rattle.iloc_pieces.specs.Left.{IsRemainder, IsLater, IsNextPiece, IsPast, piece_left, pieces_left}
+use Rattle.iloc_pieces.specs.Left.{IsLater, IsNextPiece, IsPast, piece_left, pieces_left}
 use Rattle.iloc_pieces.specs.Left.{whole_text}
 use Rattle.iloc_pieces.specs.Words.{IsUpToEight, word_number}
 use Rattle.iloc_outline.specs.Parts.{Part, word_part}
 use Rattle.iloc_outline.specs.Reading.{IsOfWord, IsTooMuch, MayBe, ReadsWords, role_kind, words_of}
 use Rattle.iloc_outline.specs.Spans.{IsSpan}
-use Rattle.iloc_pieces.specs.declared.left.Left.{Left}
+use Rattle.iloc_pieces.specs.declared.cursor.Left.{Left}
 use Rattle.iloc_outline.specs.declared.sorting.Inserted.{Inserted}
 use Rattle.iloc_outline.specs.declared.sorting.Inserted.TheVariants.{Put, There, Full}
 use Rattle.iloc_outline.specs.declared.span.Role.{Role}
@@ -112,11 +112,11 @@ pub record Walks (r : Role) (l at : Left) (old new : Spans) (last : ℕ) (o n : 
   pub gathers : Gathers (whole_text l) (map (word_part r) words) old new last o n
   pub differ : r ≡ roles.Variant → AllDifferent nat_cmp (map word_number words)
 
-pub walks_none : (r : Role) (l : Left) → IsRemainder l → IsLater l → (s : Spans) (o : Bool) →
+pub walks_none : (r : Role) (l : Left) → IsLater l → (s : Spans) (o : Bool) →
     Walks r l l s s 0 o o
-walks_none r l h k s o = record {
+walks_none r l k s o = record {
   words = [];
-  past = past_none h k;
+  past = past_none l k;
   each = tt;
   gathers = gathers_none (whole_text l) s 0 o;
   differ = λ e. tt;
@@ -159,7 +159,7 @@ module _ (r : Role) (l at : Left) (old mid : Spans) (last : ℕ) (o n : Bool)
     span : IsSpan (whole_text l) (span_of r m at) (word_part r (piece_left at))
     span =
         subst (λ t. IsSpan t (span_of r m at) (word_part r (piece_left at))) w.past.text
-        (word_span r role at w.past.left w.past.later word m e)
+        (word_span r role at w.past.later word m e)
 
     abbrev IsNow : Inserted → Type 0
     IsNow i = IsPutFrom old.count (span_of r m at) mid new last now n k i
@@ -239,7 +239,7 @@ module _ (r : Role) (l at : Left) (old mid : Spans) (last : ℕ) (o n : Bool)
       pub walks_end : at.n ≡ at.len → ReadsWords r l (pieces_left l) old new o k
       walks_end end =
           let all : pieces_left l ≡ more =
-          pieces_end w.past (last_piece at w.past.left end (short_kind r (piece_left at) word)) in
+          pieces_end w.past (last_piece at end (short_kind r (piece_left at) word)) in
           subst (λ ps. ReadsWords r l ps old new o k) (sym all)
           (walked r l more old new now o k
           (sym (ap (words_of r) all ∙ keep_all (is_word (role_kind r)) more each_more))

@@ -1,5 +1,6 @@
 -- What the blocks of a text are read as.
-use Rattle.std.specs.Prelude.{◌≡◌, ◌≢◌, Bool, true, ℕ, List, [], ◌++◌, ◌==◌, length, map, flat_map, Some}
+use Rattle.std.specs.Prelude.{◌≡◌, ◌≢◌, ◌-◌, Bool, true, ℕ, List, [], ◌∷◌, ◌++◌, ◌==◌, length, map, flat_map}
+use Rattle.std.specs.Prelude.{Some}
 use Rattle.std.specs.Prelude.{None, MatchBool, if◌then◌else◌}
 use Rattle.std.specs.List.{AllByRecursion}
 use Rattle.std.specs.Char.{to_ascii_lowercase}
@@ -7,13 +8,13 @@ use Rattle.iloc_spec_grammar.specs.Syntax.{Text, code_x, front, blocks, language
 use Rattle.iloc_spec_grammar.specs.Meaning.{Fault}
 use Rattle.iloc_spec_grammar.specs.Computing.{first_fault}
 use Rattle.iloc_subtags.specs.Judging.{error_of}
-use Rattle.iloc_pieces.specs.Left.{pieces_left, whole_text}
+use Rattle.iloc_pieces.specs.Left.{IsSpanned, pieces_left, whole_text}
 use Rattle.iloc_outline.specs.Parts.{Part, blocks_parts, printed_part}
 use Rattle.iloc_outline.specs.Reading.{IsBody, IsPrivateBody, IsTooMuch}
 use Rattle.iloc_outline.specs.Spans.{Spell}
 use Rattle.iloc_outline.specs.declared.blocks.Blocks.{Blocks}
 use Rattle.iloc_outline.specs.declared.blocks.Blocks.TheVariants.{Good, Refused, Full}
-use Rattle.iloc_pieces.specs.declared.left.Left.{Left}
+use Rattle.iloc_pieces.specs.declared.cursor.Left.{Left}
 use Rattle.iloc_outline.specs.declared.reading.Found.{Found}
 use Rattle.iloc_outline.specs.declared.span.Role.TheVariants.{Singleton}
 use Rattle.iloc_outline.specs.declared.spans.Spans.{Spans}
@@ -26,6 +27,16 @@ body_of c ps = if to_ascii_lowercase c == code_x then ps else front ps
 abbrev pub IsBlockRead : ℕ → Left → Left → Spans → Spans → Bool → Bool → Found → Type 0
 IsBlockRead c l m old new o n r = MatchBool (to_ascii_lowercase c == code_x)
     (IsPrivateBody c l old new o n r) (IsBody c l m old new o n r)
+
+-- the singleton, in whatever case, stands before what is left, and its hyphen at start
+abbrev pub HasSingletonBefore : ℕ → ℕ → Left → Type 0
+HasSingletonBefore byte start l = (c : ℕ) × (to_ascii_lowercase c ≡ byte)
+    × IsSpanned (whole_text l) start (l.at - 1) ((c ∷ []) ∷ [])
+
+-- the block was read so, whatever the case of the singleton, if its hyphen stands at start
+abbrev pub IsBlockReadAt : ℕ → ℕ → Left → Left → Spans → Spans → Bool → Bool → Found → Type 0
+IsBlockReadAt byte start l m old new o n r = (c : ℕ) → to_ascii_lowercase c ≡ byte
+    → IsSpanned (whole_text l) start (l.at - 1) ((c ∷ []) ∷ []) → IsBlockRead c l m old new o n r
 
 -- spans of the text, none of which is a singleton
 abbrev pub AreBegun : Text → Spans → Type 0

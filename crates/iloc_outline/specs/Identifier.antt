@@ -9,7 +9,7 @@ use Rattle.iloc_pieces.specs.Left.{whole_text}
 use Rattle.iloc_outline.specs.Parts.{front_pieces}
 use Rattle.iloc_outline.specs.Reading.{unless_end}
 use Rattle.iloc_outline.specs.declared.identifier.Front.{Front}
-use Rattle.iloc_pieces.specs.declared.left.Left.{Left}
+use Rattle.iloc_pieces.specs.declared.cursor.Left.{Left}
 
 -- one piece was passed if it fits, and else none
 abbrev pub IsOnePast : Bool → Left → Option Left → Type 0

@@ -1,5 +1,6 @@
 -- What the readers of parts find.
-use Rattle.std.specs.Prelude.{◌≡◌, ◌⊎◌, ℕ, ◌+◌, ◌<◌, ◌≤◌, Bool, true, false, List, [], ◌∷◌, ◌++◌, length, map}
+use Rattle.std.specs.Prelude.{◌≡◌, ◌⊎◌, ℕ, ◌+◌, ◌-◌, ◌^◌, ◌<◌, ◌≤◌, Bool, true, false, List, [], ◌∷◌, ◌++◌}
+use Rattle.std.specs.Prelude.{length, map}
 use Rattle.std.specs.Prelude.{flat_map, ⊤, Option, Some, None}
 use Rattle.std.specs.List.{AllByRecursion}
 use Rattle.std.specs.Char.{to_ascii_lowercase}
@@ -9,16 +10,26 @@ use Rattle.iloc_spec_grammar.specs.Syntax.{IsKeyword, IsField, is_one_byte, lowe
 use Rattle.iloc_spec_grammar.specs.Syntax.{AllDifferent}
 use Rattle.iloc_spec_grammar.specs.Reading.{passing}
 use Rattle.iloc_spec_grammar.specs.Computing.{is_block, repeats_variant}
-use Rattle.iloc_pieces.specs.Left.{IsRemainder, IsPast, piece_left, pieces_left, whole_text}
+use Rattle.iloc_pieces.specs.Left.{IsLater, IsPast, IsSpanned, piece_left, pieces_left, whole_text}
 use Rattle.iloc_outline.specs.Parts.{Part, printed_part, word_part, field_part, in_order, block_parts}
 use Rattle.iloc_outline.specs.Spans.{AddsParts, held_spans}
-use Rattle.iloc_pieces.specs.declared.left.Left.{Left}
+use Rattle.iloc_pieces.specs.declared.cursor.Left.{Left}
 use Rattle.iloc_outline.specs.declared.reading.Found.{Found}
 use Rattle.iloc_outline.specs.declared.reading.Found.TheVariants.{End, Next, Bad, Repeated, Full}
 use Rattle.iloc_outline.specs.declared.span.Role.{Role}
 use Rattle.iloc_outline.specs.declared.span.Role.TheVariants as roles
 use Rattle.iloc_outline.specs.declared.span.Span.{Span}
 use Rattle.iloc_outline.specs.declared.spans.Spans.{Spans}
+
+-- a hyphen comes before l, in a text of which sixteen bits hold every place
+pub record IsWithin (l : Left) : Type 0 where
+  pub later : IsLater l
+  pub few : l.at + l.len < 2 ^ 16
+
+-- and before that a singleton, whose hyphen stands at start
+pub record FollowsSingleton (start : ℕ) (l : Left) : Type 0 where
+  pub within : IsWithin l
+  pub before : start < l.at
 
 -- the pieces ps were put as these parts; if the text is still in order, they are printed as they stand
 pub record Puts (t : Text) (added : List Part) (ps : List Text) (old new : Spans) (o n : Bool) : Type 0 where
@@ -136,6 +147,11 @@ IsBody c l m old new o n Repeated = (to_ascii_lowercase c ≡ code_t)
     × (repeats_variant languages (front (pieces_left l)) ≡ true)
 IsBody c l m old new o n Full = IsTooMuch old (1 + length (pieces_left l))
 
+-- so it was, whatever the case of the singleton, if its hyphen stands at start
+abbrev pub IsBodyAt : ℕ → ℕ → Left → Left → Spans → Spans → Bool → Bool → Found → Type 0
+IsBodyAt byte start l m old new o n r = (c : ℕ) → to_ascii_lowercase c ≡ byte
+    → IsSpanned (whole_text l) start (l.at - 1) ((c ∷ []) ∷ []) → IsBody c l m old new o n r
+
 -- the same of `x`, which takes all the rest
 abbrev pub IsPrivateBody : ℕ → Left → Spans → Spans → Bool → Bool → Found → Type 0
 IsPrivateBody c l old new o n End = (is_block languages (c, pieces_left l) ≡ true)
@@ -155,11 +171,6 @@ IsPutOther span old new o n good r = (r ≡ Full) × IsTooMuch old 1
 abbrev pub unless_end : Bool → Left → Option Left
 unless_end true m = None
 unless_end false m = Some m
-
--- if a piece is left, it is one of a text
-abbrev pub IsFoundAt : Left → Found → Type 0
-IsFoundAt m Next = IsRemainder m
-IsFoundAt m _ = ⊤
 
 -- if what is left is longer than a singleton, it is bad instead
 abbrev pub EndsAtBlock : Left → Found → Found → Type 0

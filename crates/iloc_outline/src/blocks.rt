@@ -1,9 +1,10 @@
 //! Reads the blocks of a locale.
-ghost use Rattle.std.specs.Prelude.{◌≡◌, ◌≢◌, ◌<◌, ◌+◌, ◌-◌, ◌^◌, ℕ, [], ◌∷◌, true};
-ghost use Rattle.std.specs.Char.{is_ascii_alphanumeric, to_ascii_lowercase};
+ghost use Rattle.std.specs.Prelude.{◌≡◌, ◌≢◌, true};
+ghost use Rattle.std.specs.Char.{is_ascii_alphanumeric};
 ghost use Rattle.iloc_spec_grammar.specs.Syntax.{code_u, is_one_byte};
-ghost use Rattle.iloc_outline.specs.Blocks.{AreBegun, AreBlocksRead, IsBlockRead};
-ghost use Rattle.iloc_pieces.specs.Left.{IsRemainder, IsLater, IsSpanned, piece_left, whole_text};
+ghost use Rattle.iloc_outline.specs.Blocks.{AreBegun, AreBlocksRead, HasSingletonBefore, IsBlockReadAt};
+ghost use Rattle.iloc_pieces.specs.Left.{piece_left, whole_text};
+ghost use Rattle.iloc_outline.specs.Reading.{FollowsSingleton, IsWithin};
 ghost use Rattle.iloc_outline.specs.Parts.{rank};
 
 use crate::other::{read_other, read_private};
@@ -43,14 +44,11 @@ fn read_body(
     spans: &mut Spans,
     in_order: &mut bool,
 ) -> Found
-    requires left { IsRemainder left.old }
-    requires later { IsLater left.old }
-    requires few { left.old.at + left.old.len < 2 ^ 16 }
-    requires before { start < left.old.at }
+    requires follows { FollowsSingleton start left.old }
+    requires singleton { HasSingletonBefore byte start left.old }
     requires letter { is_ascii_alphanumeric byte ≡ true }
-    ensures { (c : ℕ) → to_ascii_lowercase c ≡ byte
-        → IsSpanned (whole_text left.old) start (left.old.at - 1) ((c ∷ []) ∷ [])
-        → IsBlockRead c left.old left.new spans.old spans.new in_order.old in_order.new result }
+    ensures { IsBlockReadAt byte start left.old left.new spans.old spans.new in_order.old
+        in_order.new result }
 {
     if byte == b'u' {
         return read_unicode(start, left, spans, in_order);
@@ -58,7 +56,8 @@ fn read_body(
     read_another(byte, start, left, spans, in_order)
 }
 
-// What follows another singleton than `u`. The reader of it works on a copy, so that the cursor need not be stored.
+// What follows another singleton than `u`. The reader of it works on a copy, so that the cursor need not be stored. Where
+// another block follows, the copy is put back but for its window, which is the same.
 #[inline(always)]
 fn read_another(
     byte: u8,
@@ -67,22 +66,25 @@ fn read_another(
     spans: &mut Spans,
     in_order: &mut bool,
 ) -> Found
-    requires left { IsRemainder left.old }
-    requires later { IsLater left.old }
-    requires few { left.old.at + left.old.len < 2 ^ 16 }
-    requires before { start < left.old.at }
+    requires follows { FollowsSingleton start left.old }
+    requires singleton { HasSingletonBefore byte start left.old }
     requires letter { is_ascii_alphanumeric byte ≡ true }
     requires another { byte ≢ code_u }
-    ensures { (c : ℕ) → to_ascii_lowercase c ≡ byte
-        → IsSpanned (whole_text left.old) start (left.old.at - 1) ((c ∷ []) ∷ [])
-        → IsBlockRead c left.old left.new spans.old spans.new in_order.old in_order.new result }
+    ensures { IsBlockReadAt byte start left.old left.new spans.old spans.new in_order.old
+        in_order.new result }
 {
     let mut next = *left;
     let found = read_apart(byte, start, &mut next, spans, in_order);
-    *left = Left {
-        window: left.window,
-        ..next
-    };
+    if let Found::Next = found {
+        *left = Left {
+            window: left.window,
+            at: next.at,
+            len: next.len,
+            n: next.n,
+            shape: next.shape,
+            marks: next.marks,
+        };
+    }
     found
 }
 
@@ -95,15 +97,11 @@ fn read_apart(
     spans: &mut Spans,
     in_order: &mut bool,
 ) -> Found
-    requires left { IsRemainder left.old }
-    requires later { IsLater left.old }
-    requires few { left.old.at + left.old.len < 2 ^ 16 }
-    requires before { start < left.old.at }
+    requires follows { FollowsSingleton start left.old }
     requires letter { is_ascii_alphanumeric byte ≡ true }
     requires another { byte ≢ code_u }
-    ensures { (c : ℕ) → to_ascii_lowercase c ≡ byte
-        → IsSpanned (whole_text left.old) start (left.old.at - 1) ((c ∷ []) ∷ [])
-        → IsBlockRead c left.old left.new spans.old spans.new in_order.old in_order.new result }
+    ensures { IsBlockReadAt byte start left.old left.new spans.old spans.new in_order.old
+        in_order.new result }
 {
     match byte {
         b't' => read_transform(start, left, spans, in_order),
@@ -115,9 +113,7 @@ fn read_apart(
 /// Reads the blocks from a singleton on, and puts them in the order of their singletons.
 #[inline(always)]
 pub fn read_blocks(left: &mut Left<'_>, spans: &mut Spans, in_order: &mut bool) -> Blocks
-    requires left { IsRemainder left.old }
-    requires later { IsLater left.old }
-    requires few { left.old.at + left.old.len < 2 ^ 16 }
+    requires within { IsWithin left.old }
     requires single { is_one_byte (piece_left left.old) ≡ true }
     requires begun { AreBegun (whole_text left.old) spans.old }
     ensures { AreBlocksRead left.old spans.old spans.new in_order.old in_order.new result }

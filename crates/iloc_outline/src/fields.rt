@@ -1,8 +1,8 @@
 //! Reads keywords of `u` and fields of `t`.
-ghost use Rattle.std.specs.Prelude.{◌≡◌, ◌<◌, ◌+◌, ◌^◌, false};
+ghost use Rattle.std.specs.Prelude.{◌≡◌, false};
 ghost use Rattle.iloc_spec_grammar.specs.Syntax.{is_word};
-ghost use Rattle.iloc_pieces.specs.Left.{IsRemainder, IsLater, IsShortPiece, piece_left};
-ghost use Rattle.iloc_outline.specs.Reading.{AreFieldsRead, IsOfField, role_key};
+ghost use Rattle.iloc_pieces.specs.Left.{IsLater, IsShortPiece, piece_left};
+ghost use Rattle.iloc_outline.specs.Reading.{AreFieldsRead, IsOfField, IsWithin, role_key};
 ghost use Rattle.iloc_outline.specs.Fields.{PrintsAsItIs, IsValueRead};
 
 use crate::reading::Found;
@@ -29,7 +29,6 @@ struct Value {
 // Whether the piece is a key.
 #[inline(always)]
 fn is_key_of(role: Role, left: Left<'_>) -> bool
-    requires { IsRemainder left }
     ensures { result ≡ is_word (role_key role) (piece_left left.entry) }
 {
     match role {
@@ -41,7 +40,6 @@ fn is_key_of(role: Role, left: Left<'_>) -> bool
 // Reads the value that follows a key, up to the piece that follows it.
 #[inline(always)]
 fn read_value(left: &mut Left<'_>) -> Value
-    requires left { IsRemainder left.old }
     requires later { IsLater left.old }
     requires short { IsShortPiece (piece_left left.old) }
     ensures { IsValueRead left.old left.new result }
@@ -85,9 +83,7 @@ fn is_edited(role: Role, value: &Value) -> bool
 #[inline(always)]
 pub fn read_fields(role: Role, left: &mut Left<'_>, spans: &mut Spans, in_order: &mut bool) -> Found
     requires role { IsOfField role }
-    requires left { IsRemainder left.old }
-    requires later { IsLater left.old }
-    requires few { left.old.at + left.old.len < 2 ^ 16 }
+    requires within { IsWithin left.old }
     ensures { AreFieldsRead role left.old left.new spans.old spans.new in_order.old in_order.new
         result }
 {

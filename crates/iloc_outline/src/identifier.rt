@@ -3,7 +3,7 @@ ghost use Rattle.std.specs.Prelude.{◌≡◌, true, if◌then◌else◌};
 ghost use Rattle.iloc_spec_grammar.specs.Syntax.{IsWord, Language, languages};
 ghost use Rattle.iloc_outline.specs.Identifier.{IsFrontRead, IsOnePast};
 ghost use Rattle.iloc_outline.specs.Reading.{unless_end};
-ghost use Rattle.iloc_pieces.specs.Left.{IsRemainder, IsShortPiece, piece_left};
+ghost use Rattle.iloc_pieces.specs.Left.{IsShortPiece, piece_left};
 
 use iloc_pieces::left::{Left, advance, is_last, is_region, is_script};
 
@@ -23,8 +23,7 @@ pub struct Front {
 // Passes the piece, if it fits. Whether the text ends with it.
 #[inline(always)]
 fn ends_at(fits: bool, left: &mut Left<'_>) -> bool
-    requires left { IsRemainder left.old }
-    requires short { fits ≡ true → IsShortPiece (piece_left left.old) }
+    requires { fits ≡ true → IsShortPiece (piece_left left.old) }
     ensures { IsOnePast fits left.old (unless_end result left.new) }
 {
     if !fits {
@@ -48,8 +47,7 @@ fn place(asked: bool, left: Left<'_>) -> usize
 /// Reads a language, and perhaps a script and a region.
 #[inline(always)]
 pub fn read_front(left: &mut Left<'_>) -> Front
-    requires left { IsRemainder left.old }
-    requires language { IsWord (Language languages) (piece_left left.old) }
+    requires { IsWord (Language languages) (piece_left left.old) }
     ensures { IsFrontRead left.old left.new result }
 {
     let whole = left.at + left.len;

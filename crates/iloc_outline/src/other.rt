@@ -1,9 +1,9 @@
 //! Reads what follows the singleton `x`, or another one than `t` and `u`.
-ghost use Rattle.std.specs.Prelude.{◌≡◌, ◌-◌, ◌<◌, ◌+◌, ◌^◌, ℕ, Bool, [], ◌∷◌, true};
+ghost use Rattle.std.specs.Prelude.{◌≡◌, ◌-◌, ◌<◌, ◌^◌, ℕ, Bool, [], ◌∷◌, true};
 ghost use Rattle.std.specs.Char.{to_ascii_lowercase};
 ghost use Rattle.iloc_spec_grammar.specs.Syntax.{code_x, is_other_singleton};
-ghost use Rattle.iloc_pieces.specs.Left.{IsRemainder, IsLater, IsSpanned, whole_text};
-ghost use Rattle.iloc_outline.specs.Reading.{IsBody, IsPrivateBody, IsPutOther, block_span};
+ghost use Rattle.iloc_pieces.specs.Left.{IsSpanned, whole_text};
+ghost use Rattle.iloc_outline.specs.Reading.{FollowsSingleton, IsBodyAt, IsPrivateBody, IsPutOther, block_span};
 
 use crate::reading::Found;
 use crate::span::{Role, Span};
@@ -16,10 +16,7 @@ const LAST: u64 = 255;
 /// Reads private subtags up to the end of the text, one at least. The singleton begins at the hyphen at `start`.
 #[inline(always)]
 pub fn read_private(start: usize, left: &mut Left<'_>, spans: &mut Spans) -> Found
-    requires left { IsRemainder left.old }
-    requires later { IsLater left.old }
-    requires few { left.old.at + left.old.len < 2 ^ 16 }
-    requires before { start < left.old.at }
+    requires follows { FollowsSingleton start left.old }
     ensures { (c : ℕ) → to_ascii_lowercase c ≡ code_x
         → IsSpanned (whole_text left.old) start (left.old.at - 1) ((c ∷ []) ∷ [])
         → (o : Bool) → IsPrivateBody c left.old spans.old spans.new o o result }
@@ -53,14 +50,10 @@ pub fn read_other(
     spans: &mut Spans,
     in_order: &mut bool,
 ) -> Found
-    requires left { IsRemainder left.old }
-    requires later { IsLater left.old }
-    requires few { left.old.at + left.old.len < 2 ^ 16 }
-    requires before { start < left.old.at }
+    requires follows { FollowsSingleton start left.old }
     requires other { is_other_singleton byte ≡ true }
-    ensures { (c : ℕ) → to_ascii_lowercase c ≡ byte
-        → IsSpanned (whole_text left.old) start (left.old.at - 1) ((c ∷ []) ∷ [])
-        → IsBody c left.old left.new spans.old spans.new in_order.old in_order.new result }
+    ensures { IsBodyAt byte start left.old left.new spans.old spans.new in_order.old in_order.new
+        result }
 {
     let mut is_good = false;
     let mut edited = false;

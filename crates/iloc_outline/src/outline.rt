@@ -1,6 +1,6 @@
 //! The outline of a text, as an identifier or as a locale.
 ghost use Rattle.std.specs.Prelude.{◌≡◌, ◌↔◌, ◌≤◌, ◌<◌, ◌+◌, ◌^◌, [], IsTrue, length, take};
-ghost use Rattle.iloc_pieces.specs.Left.{IsRemainder, bytes_left};
+ghost use Rattle.iloc_pieces.specs.Left.{bytes_left};
 ghost use Rattle.iloc_outline.specs.Outlines.{AreHeadRead, BeginsWithLanguage, IsFinished, IsIdentifierOutlined, IsLocaleOutlined};
 
 use crate::blocks::{Blocks, read_blocks};
@@ -73,7 +73,6 @@ fn begins_few(window: &[u8], len: usize) -> bool
 /// Reads the identifier at the beginning of a text. In `in_order` it says whether its variants are in order.
 #[inline(always)]
 pub fn read_head(left: &mut Left<'_>, spans: &mut Spans, in_order: &mut bool) -> Head
-    requires left { IsRemainder left.old }
     requires first { left.old.at ≡ 0 }
     requires few { left.old.len < 2 ^ 16 }
     requires begins { BeginsWithLanguage (bytes_left left.old) }

@@ -4,7 +4,7 @@ ghost use Rattle.std.specs.Char.{to_ascii_lowercase};
 ghost use Rattle.std.specs.List.{AllByRecursion};
 ghost use Rattle.iloc_spec_grammar.specs.Syntax.{Text, dashes, lower, is_other_singleton, pieces};
 ghost use Rattle.iloc_outline.specs.Identifier.{front_text, raised};
-ghost use Rattle.iloc_pieces.specs.Left.{IsRemainder, IsShortPiece, piece_left, pieces_left};
+ghost use Rattle.iloc_pieces.specs.Left.{IsShortPiece, piece_left, pieces_left};
 ghost use Rattle.iloc_outline.specs.Outlines.{Gives, parts_text};
 ghost use Rattle.iloc_outline.specs.Parts.{Part};
 ghost use Rattle.iloc_outline.specs.Printing.{GivesShort, HasRoomForParts, behind_hyphen, edited_text, is_kept, kept_pieces, printed_role, span_text};
@@ -80,7 +80,6 @@ fn raise_two(to: &mut [u8], end: usize, at: usize)
 // Writes a hyphen and the piece in lower case from `start` on. Where they end.
 #[inline(always)]
 fn copy_piece(left: Left<'_>, to: &mut [u8], start: usize) -> usize
-    requires left { IsRemainder left }
     requires short { IsShortPiece (piece_left left) }
     requires room { start + length (piece_left left) + 17 ≤ length to.old }
     ensures end { result ≡ start + length (piece_left left.entry) + 1 }
@@ -102,8 +101,7 @@ fn is_other_byte(byte: u8) -> bool
 // Whether the piece begins as the singleton of another extension does.
 #[inline(always)]
 fn is_other(left: Left<'_>) -> bool
-    requires left { IsRemainder left }
-    requires short { IsShortPiece (piece_left left) }
+    requires { IsShortPiece (piece_left left) }
     ensures { result
         ≡ is_other_singleton (to_ascii_lowercase (slice_index (piece_left left.entry) 0)) }
 {
@@ -116,8 +114,7 @@ fn is_other(left: Left<'_>) -> bool
 // Whether a piece behind the first of an edited part is printed.
 #[inline(always)]
 pub(crate) fn is_kept(role: Role, left: Left<'_>) -> bool
-    requires left { IsRemainder left }
-    requires short { IsShortPiece (piece_left left) }
+    requires { IsShortPiece (piece_left left) }
     ensures { result ≡ is_kept role (piece_left left.entry) }
 {
     match role {
@@ -130,7 +127,6 @@ pub(crate) fn is_kept(role: Role, left: Left<'_>) -> bool
 // Writes the pieces behind this one that are kept, each behind a hyphen, from `start` on. Where they end.
 #[inline(always)]
 fn copy_kept(role: Role, first: Left<'_>, to: &mut [u8], start: usize) -> usize
-    requires left { IsRemainder first }
     requires short { AllByRecursion IsShortPiece (pieces_left first) }
     requires room { start + length (dashes (kept_pieces role (rest_of (pieces_left first)))) + 16
         ≤ length to.old }
@@ -165,8 +161,7 @@ fn put_true(to: &mut [u8], start: usize) -> usize
 // Of which role a part is as it is printed: a singleton of another extension only is one.
 #[inline(always)]
 pub(crate) fn printed_role(role: Role, first: Left<'_>) -> Role
-    requires left { IsRemainder first }
-    requires short { IsShortPiece (piece_left first) }
+    requires { IsShortPiece (piece_left first) }
     ensures { result ≡ printed_role role (piece_left first.entry) }
 {
     if role == Role::Singleton && !is_other(first) {

@@ -1,6 +1,5 @@
 //! What some pieces are.
-ghost use Rattle.iloc_pieces.specs.Left.{IsRemainder};
-ghost use Rattle.iloc_outline.specs.Reading.{EndsAtBlock, IsFoundAt};
+ghost use Rattle.iloc_outline.specs.Reading.{EndsAtBlock};
 
 use iloc_pieces::left::{Left, is_single};
 
@@ -23,7 +22,6 @@ impl Found {
     /// What the pieces of a block are: a piece of one byte comes next, or the block is bad.
     #[inline(always)]
     pub fn at_block(self, next: &Left<'_>) -> Found
-        requires { IsFoundAt next.now self }
         ensures { EndsAtBlock next.now self result }
     {
         match self {

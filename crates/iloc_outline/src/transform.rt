@@ -1,9 +1,8 @@
 //! Reads what follows the singleton `t`.
-ghost use Rattle.std.specs.Prelude.{◌≡◌, ◌-◌, ◌<◌, ◌+◌, ◌^◌, ℕ, [], ◌∷◌, false};
-ghost use Rattle.std.specs.Char.{to_ascii_lowercase};
+ghost use Rattle.std.specs.Prelude.{◌≡◌, ◌<◌, ◌^◌, false};
 ghost use Rattle.iloc_spec_grammar.specs.Syntax.{Language, code_t, is_word, languages};
-ghost use Rattle.iloc_pieces.specs.Left.{IsRemainder, IsLater, IsSpanned, piece_left, whole_text};
-ghost use Rattle.iloc_outline.specs.Reading.{IsBody, block_span};
+ghost use Rattle.iloc_pieces.specs.Left.{piece_left};
+ghost use Rattle.iloc_outline.specs.Reading.{FollowsSingleton, IsBodyAt, block_span};
 
 use crate::fields::read_fields;
 use crate::identifier::read_front;
@@ -38,13 +37,9 @@ pub fn read_transform(
     spans: &mut Spans,
     in_order: &mut bool,
 ) -> Found
-    requires left { IsRemainder left.old }
-    requires later { IsLater left.old }
-    requires few { left.old.at + left.old.len < 2 ^ 16 }
-    requires before { start < left.old.at }
-    ensures { (c : ℕ) → to_ascii_lowercase c ≡ code_t
-        → IsSpanned (whole_text left.old) start (left.old.at - 1) ((c ∷ []) ∷ [])
-        → IsBody c left.old left.new spans.old spans.new in_order.old in_order.new result }
+    requires follows { FollowsSingleton start left.old }
+    ensures { IsBodyAt code_t start left.old left.new spans.old spans.new in_order.old in_order.new
+        result }
 {
     if !is_language(*left) {
         return read_fields_alone(start, left, spans, in_order);
@@ -70,14 +65,10 @@ fn read_fields_alone(
     spans: &mut Spans,
     in_order: &mut bool,
 ) -> Found
-    requires left { IsRemainder left.old }
-    requires later { IsLater left.old }
-    requires few { left.old.at + left.old.len < 2 ^ 16 }
-    requires before { start < left.old.at }
+    requires follows { FollowsSingleton start left.old }
     requires alone { is_word (Language languages) (piece_left left.old) ≡ false }
-    ensures { (c : ℕ) → to_ascii_lowercase c ≡ code_t
-        → IsSpanned (whole_text left.old) start (left.old.at - 1) ((c ∷ []) ∷ [])
-        → IsBody c left.old left.new spans.old spans.new in_order.old in_order.new result }
+    ensures { IsBodyAt code_t start left.old left.new spans.old spans.new in_order.old in_order.new
+        result }
 {
     if is_single(*left) {
         return Found::Bad;

@@ -1,9 +1,6 @@
 //! Reads what follows the singleton `u`.
-ghost use Rattle.std.specs.Prelude.{◌≡◌, ◌-◌, ◌<◌, ◌+◌, ◌^◌, ℕ, [], ◌∷◌};
-ghost use Rattle.std.specs.Char.{to_ascii_lowercase};
 ghost use Rattle.iloc_spec_grammar.specs.Syntax.{code_u};
-ghost use Rattle.iloc_pieces.specs.Left.{IsRemainder, IsLater, IsSpanned, whole_text};
-ghost use Rattle.iloc_outline.specs.Reading.{IsBody};
+ghost use Rattle.iloc_outline.specs.Reading.{FollowsSingleton, IsBodyAt};
 
 use crate::fields::read_fields;
 use crate::reading::Found;
@@ -20,13 +17,9 @@ pub fn read_unicode(
     spans: &mut Spans,
     in_order: &mut bool,
 ) -> Found
-    requires left { IsRemainder left.old }
-    requires later { IsLater left.old }
-    requires few { left.old.at + left.old.len < 2 ^ 16 }
-    requires before { start < left.old.at }
-    ensures { (c : ℕ) → to_ascii_lowercase c ≡ code_u
-        → IsSpanned (whole_text left.old) start (left.old.at - 1) ((c ∷ []) ∷ [])
-        → IsBody c left.old left.new spans.old spans.new in_order.old in_order.new result }
+    requires follows { FollowsSingleton start left.old }
+    ensures { IsBodyAt code_u start left.old left.new spans.old spans.new in_order.old in_order.new
+        result }
 {
     if is_single(*left) {
         return Found::Bad;

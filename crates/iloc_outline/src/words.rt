@@ -1,8 +1,8 @@
 //! Reads variants and attributes.
-ghost use Rattle.std.specs.Prelude.{◌≡◌, ◌<◌, ◌+◌, ◌^◌};
+ghost use Rattle.std.specs.Prelude.{◌≡◌};
 ghost use Rattle.iloc_spec_grammar.specs.Syntax.{is_word};
-ghost use Rattle.iloc_pieces.specs.Left.{IsRemainder, IsLater, piece_left};
-ghost use Rattle.iloc_outline.specs.Reading.{AreWordsRead, IsOfWord, role_kind};
+ghost use Rattle.iloc_pieces.specs.Left.{piece_left};
+ghost use Rattle.iloc_outline.specs.Reading.{AreWordsRead, IsOfWord, IsWithin, role_kind};
 
 use crate::reading::Found;
 use crate::sorting::{Inserted, put_from};
@@ -13,7 +13,6 @@ use iloc_pieces::left::{Left, advance, is_attribute, is_last, is_variant, word_n
 // Whether the piece is a word of this role.
 #[inline(always)]
 fn fits(role: Role, left: Left<'_>) -> bool
-    requires { IsRemainder left }
     ensures { result ≡ is_word (role_kind role) (piece_left left.entry) }
 {
     match role {
@@ -27,9 +26,7 @@ fn fits(role: Role, left: Left<'_>) -> bool
 #[inline(always)]
 pub fn read_words(role: Role, left: &mut Left<'_>, spans: &mut Spans, in_order: &mut bool) -> Found
     requires role { IsOfWord role }
-    requires left { IsRemainder left.old }
-    requires later { IsLater left.old }
-    requires few { left.old.at + left.old.len < 2 ^ 16 }
+    requires within { IsWithin left.old }
     ensures { AreWordsRead role left.old left.new spans.old spans.new in_order.old in_order.new
         result }
 {

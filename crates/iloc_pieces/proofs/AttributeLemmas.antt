@@ -16,7 +16,7 @@ use Rattle.iloc_pieces.proofs.RunWords.{all_pass, and-false, attribute_is}
 use Rattle.iloc_pieces.proofs.FrontLemmas.{Free, first_by, go_on, goes_far, is_no, later, short_attribute}
 use Rattle.iloc_pieces.proofs.FrontLemmas.{too_long, word_of_first}
 
-and-true : (b : Bool) → (b && true) ≡ b
+pub and-true : (b : Bool) → (b && true) ≡ b
 and-true true = refl
 and-true false = refl
 

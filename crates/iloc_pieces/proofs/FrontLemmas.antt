@@ -26,7 +26,7 @@ pub is_no : (b : Bool) → not b ≡ true → b ≡ false
 is_no true e = sym e
 is_no false e = refl
 
-is_yes : (b : Bool) → not b ≡ false → b ≡ true
+pub is_yes : (b : Bool) → not b ≡ false → b ≡ true
 is_yes true e = refl
 is_yes false e = sym e
 

@@ -1,6 +1,6 @@
 -- From the bits of a mask to the bytes of a vector.
 use Rattle.std.proofs.Common.{◌≡◌, ℕ, zero, suc, ◌+◌, ◌-◌, ◌/◌, ◌%◌, ◌^◌, ◌<◌, ◌≤◌, Bool, true, false, not}
-use Rattle.std.proofs.Common.{◌||◌, ◌==◌, cond, List, [], ◌∷◌, length, map, get_or, drop, replicate, Fits, w8}
+use Rattle.std.proofs.Common.{◌||◌, ◌==◌, cond, [], ◌∷◌, length, map, get_or, drop, replicate, Fits, w8}
 use Rattle.std.proofs.Common.{refl, sym, ap, ◌∙◌, arith, IsTrue, leb}
 use Rattle.std.specs.Prelude.{nat_eq}
 use mir.Val.{bits}

@@ -1,6 +1,6 @@
 -- Pieces that are passed, and the bytes that they are.
 use Rattle.std.proofs.Common.{◌≡◌, ◌≢◌, ℕ, suc, ◌+◌, ◌-◌, ◌<◌, ◌≤◌, ◌==◌, true, List, [], ◌∷◌, ◌++◌, length}
-use Rattle.std.proofs.Common.{get_or, take, drop, refl, sym, ap, ◌∙◌, subst, arith, inl, inr, append_assoc}
+use Rattle.std.proofs.Common.{get_or, take, drop, refl, sym, ap, ◌∙◌, subst, arith, append_assoc, ⊎_elim}
 use Rattle.std.proofs.Common.{append-nil}
 use Rattle.std.specs.Int.{is_in_range}
 use Rattle.std.specs.List.{AllByRecursion}
@@ -8,15 +8,17 @@ use Rattle.std.proofs.Math.Seq.{take-add, take-append_seam, drop-cons}
 use Rattle.std.proofs.lemmas.Bool.Decides.{nat_tests}
 use Rattle.std.proofs.lemmas.List.{drop-drop, drop-take, length-append, length-drop, length-take-le}
 use Rattle.std.proofs.lemmas.List.{get_or-take, get_or-drop, take-take, take_all}
-use Rattle.iloc_spec_grammar.specs.Syntax.{Text, Kind, Language, Script, Region, Variant, Subtag, UnicodeKey}
+use Rattle.std.proofs.Math.Logic.{∥∥₁_elim}
+use Rattle.std.specs.Coded.{Coded-set, coded_ℕ}
+use Rattle.iloc_spec_grammar.specs.Syntax.{Text, Kind, Language, Script, Region, Variant, UnicodeKey}
 use Rattle.iloc_spec_grammar.specs.Syntax.{TransformKey, Attribute, PrivateSubtag, IsWord, Bounds, languages}
 use Rattle.iloc_spec_grammar.specs.Syntax.{is_one_byte, pieces, join, dashes, first_piece, IsHyphenFree}
 use Rattle.iloc_spec_grammar.proofs.PartTexts.{join-append, join-dashes, dashes-append}
 use Rattle.iloc_spec_grammar.proofs.PiecesLaws.{at_pieces, join-pieces, pieces-join, pieces_hyphen_free}
 use Rattle.iloc_spec_grammar.proofs.RawLaws.{languages_table}
-use Rattle.iloc_pieces.specs.Left.{IsRemainder, IsLater, IsNextPiece, IsPast, IsEnd, IsSpanned, IsShortPiece}
+use Rattle.iloc_pieces.specs.Left.{IsLater, IsNextPiece, IsPast, IsEnd, IsSpanned, IsShortPiece}
 use Rattle.iloc_pieces.specs.Left.{piece_left, pieces_left, bytes_left, whole_text}
-use Rattle.iloc_pieces.specs.declared.left.Left.{Left}
+use Rattle.iloc_pieces.specs.declared.cursor.Left.{Left}
 use Rattle.iloc_pieces.proofs.Shapes.{few_bytes}
 
 -- ---- words are short
@@ -46,9 +48,6 @@ short_field_key p h = few_bytes TransformKey tt p h
 
 pub short_attribute : (p : Text) → IsWord Attribute p → IsShortPiece p
 short_attribute p h = few_bytes Attribute tt p h
-
-pub short_subtag : (p : Text) → IsWord Subtag p → IsShortPiece p
-short_subtag p h = few_bytes Subtag tt p h
 
 pub short_private : (p : Text) → IsWord PrivateSubtag p → IsShortPiece p
 short_private p h = few_bytes PrivateSubtag tt p h
@@ -95,7 +94,7 @@ first_within t = at_pieces (λ ps. join ps ≡ t → length (first_piece ps) ≤
     by : (p : Text) (ps : List Text) → join (p ∷ ps) ≡ t → length p ≤ length t
     by p ps e = omega (arith, ap length (sym (join-dashes p ps) ∙ e), length-append p (dashes ps))
 
-dashed : (t : Text) → dashes (pieces t) ≡ 45 ∷ t
+pub dashed : (t : Text) → dashes (pieces t) ≡ 45 ∷ t
 dashed t = at_pieces (λ ps. dashes ps ≡ 45 ∷ join ps) (λ p ps. ap (λ q. 45 ∷ q) (sym (join-dashes p ps))) t
     ∙ ap (λ q. 45 ∷ q) (join-pieces t)
 
@@ -131,49 +130,48 @@ first_cut t more =
 -- ---- the last piece
 
 -- the length of a short piece
-pub length_piece : {l : Left} → IsRemainder l → IsShortPiece (piece_left l) → l.n ≡ length (piece_left l)
-length_piece h short = elim h.piece [
-  | inl shape ↦ shape.long
-  | inr long ↦ absurd (omega (arith, long.long))
-]
+pub length_piece : (l : Left) → IsShortPiece (piece_left l) → l.n ≡ length (piece_left l)
+length_piece l short = ∥∥₁_elim l.piece (Coded-set coded_ℕ _ _) (⊎_elim
+    (λ shape. shape.long)
+    (λ long. absurd (omega (arith, long.long))))
 
 -- how long is what is left, and the text
-pub length_rest : {l : Left} → IsRemainder l → length (bytes_left l) ≡ l.len
-length_rest {l} h =
-    length-take-le l.len (drop l.at l.window.now) (omega (arith, length-drop l.at l.window.now, h.inside))
+pub length_rest : (l : Left) → length (bytes_left l) ≡ l.len
+length_rest l =
+    length-take-le l.len (drop l.at l.window.now) (omega (arith, length-drop l.at l.window.now, l.inside))
 
-pub length_text : {l : Left} → IsRemainder l → length (whole_text l) ≡ l.at + l.len
-length_text {l} h = length-take-le (l.at + l.len) l.window.now h.inside
+pub length_text : (l : Left) → length (whole_text l) ≡ l.at + l.len
+length_text l = length-take-le (l.at + l.len) l.window.now l.inside
 
 -- the piece lies within the window
-pub piece_inside : {l : Left} → IsRemainder l → l.at + length (piece_left l) ≤ length l.window.now
-piece_inside {l} h = omega (arith, h.inside, length_rest h, first_within (bytes_left l))
+pub piece_inside : (l : Left) → l.at + length (piece_left l) ≤ length l.window.now
+piece_inside l = omega (arith, l.inside, length_rest l, first_within (bytes_left l))
 
 -- the piece is among the window's bytes
-pub piece_bytes : {l : Left} → IsRemainder l →
+pub piece_bytes : (l : Left) →
     take (length (piece_left l)) (drop l.at l.window.now) ≡ piece_left l
-piece_bytes {l} h =
-    let few : length (piece_left l) ≤ l.len = omega (arith, length_rest h, first_within (bytes_left l)) in
+piece_bytes l =
+    let few : length (piece_left l) ≤ l.len = omega (arith, length_rest l, first_within (bytes_left l)) in
     sym (take-take (length (piece_left l)) l.len (drop l.at l.window.now) few) ∙ begins (bytes_left l)
 
 -- the same by the length that is known
-pub short_bytes : {l : Left} → IsRemainder l → IsShortPiece (piece_left l)
+pub short_bytes : (l : Left) → IsShortPiece (piece_left l)
     → take l.n (drop l.at l.window.now) ≡ piece_left l
-short_bytes {l} h short = ap (λ n. take n (drop l.at l.window.now)) (length_piece h short) ∙ piece_bytes h
+short_bytes l short = ap (λ n. take n (drop l.at l.window.now)) (length_piece l short) ∙ piece_bytes l
 
 -- each of its bytes
-pub piece_byte : {l : Left} → IsRemainder l → (i : ℕ) → i < length (piece_left l)
+pub piece_byte : (l : Left) (i : ℕ) → i < length (piece_left l)
     → get_or (piece_left l) i 0 ≡ get_or l.window.now (l.at + i) 0
-piece_byte {l} h i early =
-    ap (λ p. get_or p i 0) (sym (piece_bytes h))
+piece_byte l i early =
+    ap (λ p. get_or p i 0) (sym (piece_bytes l))
     ∙ get_or-take (length (piece_left l)) (drop l.at l.window.now) i 0 early
     ∙ get_or-drop l.at l.window.now i 0
 
 -- a short piece that is as long as what is left is the last one
-pub last_piece : (l : Left) → IsRemainder l → l.n ≡ l.len → IsShortPiece (piece_left l) → IsEnd l
-last_piece l h end short = record {
+pub last_piece : (l : Left) → l.n ≡ l.len → IsShortPiece (piece_left l) → IsEnd l
+last_piece l end short = record {
   all = end;
-  one = one_piece (bytes_left l) (omega (arith, length_piece h short, length_rest h));
+  one = one_piece (bytes_left l) (omega (arith, length_piece l short, length_rest l));
 }
 
 -- it is all that is left
@@ -202,89 +200,88 @@ spanned_both {t} {start} {middle} {end} {ps} {qs} s r =
     }
 
 -- no piece has no bytes
-pub spanned_none : {l : Left} → IsRemainder l → IsLater l → IsSpanned (whole_text l) (l.at - 1) (l.at - 1) []
-spanned_none {l} h later =
+pub spanned_none : (l : Left) → IsLater l → IsSpanned (whole_text l) (l.at - 1) (l.at - 1) []
+spanned_none l later =
     let none : (l.at - 1) - (l.at - 1) ≡ 0 = omega arith in
     record {
       ascends = omega arith;
-      inside = omega (arith, length_text h);
+      inside = omega (arith, length_text l);
       bytes = ap (λ n. take n (drop (l.at - 1) (whole_text l))) none;
     }
 
 -- the hyphen before a piece, and what is left
-pub hyphen_rest : {l : Left} → IsRemainder l → IsLater l → drop (l.at - 1) (whole_text l) ≡ 45 ∷ bytes_left l
-hyphen_rest {l} h later =
+pub hyphen_rest : (l : Left) → IsLater l → drop (l.at - 1) (whole_text l) ≡ 45 ∷ bytes_left l
+hyphen_rest l later =
     let w = l.window.now in
     let parts : l.at + l.len ≡ (l.at - 1) + suc l.len = omega (arith, later.after) in
-    let there : l.at - 1 < length w = omega (arith, later.after, h.inside) in
+    let there : l.at - 1 < length w = omega (arith, later.after, l.inside) in
     let next : suc (l.at - 1) ≡ l.at = omega (arith, later.after) in
     ap (λ n. drop (l.at - 1) (take n w)) parts ∙ drop-take (l.at - 1) (suc l.len) w
     ∙ ap (take (suc l.len)) (drop-cons w (l.at - 1) 0 there)
     ∙ (λ j. later.hyphen j ∷ take l.len (drop (next j) w))
 
 -- one piece behind its hyphen
-pub spanned_piece : (l : Left) → IsRemainder l → IsLater l
+pub spanned_piece : (l : Left) → IsLater l
     → IsSpanned (whole_text l) (l.at - 1) (l.at + length (piece_left l)) (piece_left l ∷ [])
-spanned_piece l h later =
+spanned_piece l later =
     let long : l.at + length (piece_left l) - (l.at - 1) ≡ suc (length (piece_left l)) =
     omega (arith, later.after) in
     record {
       ascends = omega arith;
-      inside = omega (arith, length_text h, length_rest h, first_within (bytes_left l));
-      bytes = (λ j. take (long j) (hyphen_rest h later j))
+      inside = omega (arith, length_text l, length_rest l, first_within (bytes_left l));
+      bytes = (λ j. take (long j) (hyphen_rest l later j))
           ∙ ap (λ q. 45 ∷ q) (begins (bytes_left l) ∙ sym (append-nil (piece_left l)));
     }
 
 -- all that is left
-pub spanned_all : {l : Left} → IsRemainder l → IsLater l
+pub spanned_all : (l : Left) → IsLater l
     → IsSpanned (whole_text l) (l.at - 1) (l.at + l.len) (pieces_left l)
-spanned_all {l} h later =
+spanned_all l later =
     let long : l.at + l.len - (l.at - 1) ≡ suc l.len = omega (arith, later.after) in
     record {
       ascends = omega arith;
-      inside = omega (arith, length_text h);
-      bytes = (λ j. take (long j) (hyphen_rest h later j))
-          ∙ ap (λ q. 45 ∷ q) (take_all l.len (bytes_left l) (omega (arith, length_rest h)))
+      inside = omega (arith, length_text l);
+      bytes = (λ j. take (long j) (hyphen_rest l later j))
+          ∙ ap (λ q. 45 ∷ q) (take_all l.len (bytes_left l) (omega (arith, length_rest l)))
           ∙ sym (dashed (bytes_left l));
     }
 
 -- where the next piece begins
-pub next_at : {l k : Left} → IsRemainder l → IsNextPiece l k → k.at ≡ l.at + length (piece_left l) + 1
-next_at {l} {k} h next =
+pub next_at : (l k : Left) → IsNextPiece l k → k.at ≡ l.at + length (piece_left l) + 1
+next_at l k next =
     omega (
       arith,
       next.end,
-      length_rest h,
-      length_rest next.left,
+      length_rest l,
+      length_rest k,
       ap length next.rest,
       length-append (piece_left l) (45 ∷ bytes_left k),
     )
 
 -- one piece more, after which another begins
-pub spanned_next : {l k : Left} {start : ℕ} {ps : List Text} → IsRemainder l → IsLater l → IsNextPiece l k
+pub spanned_next : {l k : Left} {start : ℕ} {ps : List Text} → IsLater l → IsNextPiece l k
     → IsSpanned (whole_text l) start (l.at - 1) ps
     → IsSpanned (whole_text l) start (k.at - 1) (ps ++ (piece_left l ∷ []))
-spanned_next {l} {k} {start} {ps} h later next s =
-    let end : l.at + length (piece_left l) ≡ k.at - 1 = omega (arith, next_at h next) in
+spanned_next {l} {k} {start} {ps} later next s =
+    let end : l.at + length (piece_left l) ≡ k.at - 1 = omega (arith, next_at l k next) in
     subst (λ (n : ℕ). IsSpanned (whole_text l) start n (ps ++ (piece_left l ∷ []))) end
-    (spanned_both s (spanned_piece l h later))
+    (spanned_both s (spanned_piece l later))
 
 -- one piece more, the last one
-pub spanned_last : {l : Left} {start : ℕ} {ps : List Text} → IsRemainder l → IsLater l → IsEnd l
+pub spanned_last : {l : Left} {start : ℕ} {ps : List Text} → IsLater l → IsEnd l
     → IsSpanned (whole_text l) start (l.at - 1) ps
     → IsSpanned (whole_text l) start (l.at + l.n) (ps ++ (piece_left l ∷ []))
-spanned_last {l} {start} {ps} h later end s =
+spanned_last {l} {start} {ps} later end s =
     let long : l.at + length (piece_left l) ≡ l.at + l.n =
-    omega (arith, end.all, length_rest h, ap length (last_rest end)) in
+    omega (arith, end.all, length_rest l, ap length (last_rest end)) in
     subst (λ (n : ℕ). IsSpanned (whole_text l) start n (ps ++ (piece_left l ∷ []))) long
-    (spanned_both s (spanned_piece l h later))
+    (spanned_both s (spanned_piece l later))
 
 -- ---- pieces that are passed
 
 -- no piece is passed
-pub past_none : {l : Left} → IsRemainder l → IsLater l → IsPast l l []
-past_none {l} h later = record {
-  left = h;
+pub past_none : (l : Left) → IsLater l → IsPast l l []
+past_none l later = record {
   later = later;
   less = omega arith;
   window = refl;
@@ -297,17 +294,16 @@ past_none {l} h later = record {
 }
 
 -- l need not be later
-pub past_first : {l k : Left} → IsRemainder l → IsShortPiece (piece_left l) → IsNextPiece l k →
+pub past_first : {l k : Left} → IsShortPiece (piece_left l) → IsNextPiece l k →
     IsPast l k (piece_left l ∷ [])
-past_first {l} {k} h short next = record {
-  left = next.left;
+past_first {l} {k} short next = record {
   later = next.later;
   less = omega (arith, next.less);
   window = next.window;
   end = next.end;
   text = λ j. take (next.end j) (next.window j);
   pieces = next.pieces;
-  spanned = λ later start qs s. spanned_next h later next s;
+  spanned = λ later start qs s. spanned_next later next s;
   rest = cut_after (piece_left l ∷ []) (bytes_left l) (bytes_left k) next.pieces;
 }
 
@@ -317,7 +313,6 @@ past_past {l} {m} {k} {ps} {qs} p q =
     let all : pieces_left l ≡ (ps ++ qs) ++ pieces_left k =
     p.pieces ∙ ap (λ rs. ps ++ rs) q.pieces ∙ sym (append_assoc ps qs (pieces_left k)) in
     record {
-      left = q.left;
       later = q.later;
       less = omega (arith, p.less, q.less);
       window = q.window ∙ p.window;
@@ -337,11 +332,7 @@ past_past {l} {m} {k} {ps} {qs} p q =
 pub past_next : {l m k : Left} {ps : List Text} → IsPast l m ps → IsShortPiece (piece_left m) →
     IsNextPiece m k
     → IsPast l k (ps ++ (piece_left m ∷ []))
-past_next p short next = past_past p (past_first p.left short next)
-
--- the text ends where it did
-pub same_end : {l m : Left} {ps : List Text} → IsPast l m ps → m.at + m.len ≡ l.at + l.len
-same_end p = p.end
+past_next p short next = past_past p (past_first short next)
 
 -- all the pieces, where the last one is reached
 pub pieces_end : {l m : Left} {ps : List Text} → IsPast l m ps → IsEnd m
@@ -356,6 +347,6 @@ spanned_end {l} {m} {start} {ps} {qs} p end later s =
     subst (λ (xs : List Text). IsSpanned (whole_text l) start (m.at + m.n) xs)
     (append_assoc qs ps (piece_left m ∷ []))
     (subst (λ (t : Text). IsSpanned t start (m.at + m.n) ((qs ++ ps) ++ (piece_left m ∷ []))) p.text
-    (spanned_last p.left p.later end
+    (spanned_last p.later end
     (subst (λ (t : Text). IsSpanned t start (m.at - 1) (qs ++ ps)) (sym p.text)
     (p.spanned later start qs s))))

@@ -1,18 +1,20 @@
 -- The piece that marks tell, and the next one.
 use Rattle.std.proofs.Common.{◌≡◌, ◌≢◌, ℕ, suc, ◌+◌, ◌-◌, ◌<◌, ◌≤◌, [], ◌∷◌, ◌++◌, length, get_or, take, drop}
-use Rattle.std.proofs.Common.{refl, sym, ap, ◌∙◌, subst, arith, inl, inr, append-nil}
+use Rattle.std.proofs.Common.{refl, sym, ap, ◌∙◌, subst, arith, inl, inr, append-nil, ⊎_elim}
 use Rattle.std.proofs.lemmas.List.{drop-drop, drop-take, get_or-drop, get_or-take, length-append, length-take}
 use Rattle.std.proofs.lemmas.List.{length-take-le, drop-append-le}
 use Rattle.std.proofs.lemmas.Simd.{trailing_mask_l}
+use Rattle.std.proofs.Math.Logic.{∥∥₁_map}
 use lib.Count.{count_trailing_zeros}
 use Rattle.iloc_spec_grammar.specs.Syntax.{Text, pieces, first_piece}
 use Rattle.iloc_spec_grammar.proofs.PartTexts.{join-dashes}
-use Rattle.iloc_pieces.specs.Left.{IsRemainder, HasShape, IsLong, IsNextPiece, IsShortPiece, piece_left}
+use Rattle.iloc_pieces.specs.Left.{IsNextPiece, IsShortPiece, piece_left}
 use Rattle.iloc_pieces.specs.Left.{pieces_left, bytes_left}
+use Rattle.iloc_pieces.specs.Piece.{HasShape, IsLong}
 use Rattle.iloc_pieces.specs.Marks.{AreMarks, AreKnown, AreMarksSeen, closed}
 use Rattle.iloc_pieces.specs.Run.{is_hyphen}
 use Rattle.iloc_pieces.specs.Shape.{shape_of}
-use Rattle.iloc_pieces.specs.declared.left.Left.{Left}
+use Rattle.iloc_pieces.specs.declared.cursor.Left.{Left}
 use Rattle.iloc_pieces.specs.declared.marks.Marks.{Marks}
 use Rattle.iloc_pieces.proofs.Ends.{before, first_marked, first_unmarked, some_marked}
 use Rattle.iloc_pieces.proofs.LeftLemmas.{first_within, first_cut, cut_after, length_piece, length_rest}
@@ -22,16 +24,14 @@ pub seen_known : {rest : Text} {m : Marks} → AreKnown rest m → AreMarksSeen 
 seen_known k = record { known = k.known; few = k.few; enough = λ _. k.enough; marks = k.marks }
 
 -- where no hyphen is marked, the piece is long
-pub long_piece : {rest : Text} {m : Marks} (l : Left) → AreMarksSeen rest m → m.ends ≡ 0 → l.n ≡ 16 →
-    l.shape ≡ 0
-    → IsLong rest l
-long_piece {rest} {m} l s none most shape = record {
-  most = most;
+pub long_piece : {rest : Text} {m : Marks} → AreMarksSeen rest m → m.ends ≡ 0 → IsLong rest 16 0
+long_piece {rest} {m} s none = record {
+  most = refl;
   long = elim (s.enough none) [
     | inl many ↦ omega (arith, reach)
     | inr all ↦ absurd (omega (arith, reach, first_within rest, length-append rest (45 ∷ [])))
   ];
-  shape = shape;
+  shape = refl;
 }
   where
     reach : s.known ≤ length (first_piece (pieces rest))
@@ -59,20 +59,20 @@ module _ {rest : Text} {m : Marks} (s : AreMarksSeen rest m) (some : m.ends ≢ 
   first = first_marked rest s.known (omega (arith, s.marks.ends))
 
   -- a piece whose end is marked
-  pub short_piece : (l : Left) → l.marks ≡ m → l.n ≡ count_trailing_zeros 64 m.ends
-      → l.shape ≡ shape_of (take (before seen) seen) → HasShape rest l
-  short_piece l marks n shape =
+  pub short_piece : (shape : ℕ) → shape ≡ shape_of (take (before seen) seen)
+      → HasShape rest (count_trailing_zeros 64 m.ends) shape m
+  short_piece shape is =
       let l : before seen < length seen = some_marked seen (omega (arith, s.marks.ends)) in
       let long : length (first_piece (pieces rest)) ≡ before seen =
       ap length first ∙ length-take-le (before seen) seen (omega arith) in
       record {
         few = omega (arith, inside, zeros, s.few);
-        long = n ∙ zeros ∙ sym long;
-        shape = shape ∙ ap shape_of (sym first);
+        long = zeros ∙ sym long;
+        shape = is ∙ ap shape_of (sym first);
         known = s.known;
         enough = omega (arith, inside, zeros);
         most = s.few;
-        marks = subst (λ (r : Marks). AreMarks seen r) (sym marks) s.marks;
+        marks = s.marks;
       }
 
 seam : (p q : Text) → get_or (p ++ 45 ∷ q) (length p) 0 ≡ 45
@@ -81,7 +81,7 @@ seam (b ∷ p) q = seam p q
 
 -- ---- the next piece
 
-module _ {l : Left} (h : IsRemainder l) (short : IsShortPiece (piece_left l)) (more : l.n ≢ l.len) where
+module _ (l : Left) (short : IsShortPiece (piece_left l)) (more : l.n ≢ l.len) where
   abbrev past : ℕ
   past = l.n + 1
 
@@ -91,7 +91,7 @@ module _ {l : Left} (h : IsRemainder l) (short : IsShortPiece (piece_left l)) (m
 
   -- the text goes on behind the piece and its hyphen
   pub not_last : past ≤ l.len
-  not_last = omega (arith, length_piece h short, length_rest h, first_within (bytes_left l))
+  not_last = omega (arith, length_piece l short, length_rest l, first_within (bytes_left l))
 
   after_is : drop past (bytes_left l) ≡ after
   after_is =
@@ -102,8 +102,8 @@ module _ {l : Left} (h : IsRemainder l) (short : IsShortPiece (piece_left l)) (m
 
   cut : pieces_left l ≡ piece_left l ∷ pieces after
   cut =
-      let long : suc (length (piece_left l)) ≡ past = omega (arith, length_piece h short) in
-      first_cut (bytes_left l) (omega (arith, length_piece h short, length_rest h, not_last))
+      let long : suc (length (piece_left l)) ≡ past = omega (arith, length_piece l short) in
+      first_cut (bytes_left l) (omega (arith, length_piece l short, length_rest l, not_last))
       ∙ ap (λ t. piece_left l ∷ pieces t) (ap (λ n. drop n (bytes_left l)) long ∙ after_is)
 
   text : bytes_left l ≡ piece_left l ++ 45 ∷ after
@@ -112,39 +112,37 @@ module _ {l : Left} (h : IsRemainder l) (short : IsShortPiece (piece_left l)) (m
 
   -- its marks
   pub next_seen : (r : Marks) → ((v : Text) → AreMarks v l.marks → AreMarks (drop past v) r) → r.ends ≢ 0
-      → AreMarksSeen after r
-  next_seen r later some = elim h.piece [
-    | inl s ↦
-        let parts : s.known ≡ past + (s.known - past) = omega (arith, s.enough) in
-        let inside : past ≤ length (bytes_left l) = omega (arith, length_rest h, not_last) in
-        let there : drop past (take s.known (closed (bytes_left l))) ≡ take (s.known - past) (closed after) =
-        ap (λ n. drop past (take n (closed (bytes_left l)))) parts
-        ∙ drop-take past (s.known - past) (closed (bytes_left l))
-        ∙ ap (take (s.known - past))
-        (drop-append-le past (bytes_left l) (45 ∷ []) inside ∙ ap closed after_is) in
-        record {
-          known = s.known - past;
-          few = omega (arith, s.most);
-          enough = λ none. absurd (some none);
-          marks = subst (λ (v : Text). AreMarks v r) there (later _ s.marks);
-        }
-    | inr long ↦ absurd (omega (arith, long.long))
-  ]
+      → ∥ AreMarksSeen after r ∥₁
+  next_seen r later some = ∥∥₁_map l.piece (⊎_elim
+      (λ s.
+      let parts : s.known ≡ past + (s.known - past) = omega (arith, s.enough) in
+      let inside : past ≤ length (bytes_left l) = omega (arith, length_rest l, not_last) in
+      let there : drop past (take s.known (closed (bytes_left l))) ≡ take (s.known - past) (closed after) =
+      ap (λ n. drop past (take n (closed (bytes_left l)))) parts
+      ∙ drop-take past (s.known - past) (closed (bytes_left l))
+      ∙ ap (take (s.known - past))
+      (drop-append-le past (bytes_left l) (45 ∷ []) inside ∙ ap closed after_is) in
+      record {
+        known = s.known - past;
+        few = omega (arith, s.most);
+        enough = λ none. absurd (some none);
+        marks = subst (λ (v : Text). AreMarks v r) there (later _ s.marks);
+      })
+      (λ long. absurd (omega (arith, long.long))))
 
   -- what begins there is the next piece
-  pub next_piece : (m : Left) → IsRemainder m → m.at ≡ l.at + past → m.len ≡ l.len - past
+  pub next_piece : (m : Left) → m.at ≡ l.at + past → m.len ≡ l.len - past
       → m.window.now ≡ l.window.now → IsNextPiece l m
-  next_piece m g at len window =
+  next_piece m at len window =
       let rest : bytes_left m ≡ after = λ j. take (len j) (drop (at j) (window j)) in
       let before : m.at - 1 ≡ l.at + l.n = omega arith in
       let early : l.n < l.len = omega (arith, not_last) in
       record {
-        left = g;
         later = record {
           after = omega arith;
           hyphen = (λ j. get_or (window j) (before j) 0) ∙ sym (get_or-drop l.at l.window.now l.n 0)
               ∙ sym (get_or-take l.len (drop l.at l.window.now) l.n 0 early)
-              ∙ (λ j. get_or (text j) (length_piece h short j) 0) ∙ seam (piece_left l) after;
+              ∙ (λ j. get_or (text j) (length_piece l short j) 0) ∙ seam (piece_left l) after;
         };
         less = omega (arith, not_last);
         window = window;

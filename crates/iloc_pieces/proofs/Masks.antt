@@ -1,24 +1,25 @@
 -- Bytes as bits: of lanes, of the first and the later ones, and of one that is added.
 use Rattle.std.proofs.Common.{◌≡◌, ℕ, zero, suc, ◌+◌, ◌-◌, ◌*◌, ◌/◌, ◌%◌, ◌^◌, ◌<◌, ◌≤◌, Bool, true, false}
-use Rattle.std.proofs.Common.{cond, [], ◌∷◌, ◌++◌, length, map, take, drop, replicate, Fits, w8, bit_and}
+use Rattle.std.proofs.Common.{cond, [], ◌∷◌, ◌++◌, length, map, take, drop, Fits, w8, bit_and}
 use Rattle.std.proofs.Common.{bit_or, refl, sym, ap, subst, ◌∙◌, arith, pow-suc}
 use Rattle.std.specs.Int.Bits.{or_zero_l, or_zero_r}
 use Rattle.std.proofs.Math.Nat.{mod-one, zero-mod, div-one, zero-div, div-div-eq-div-mul}
-use Rattle.std.proofs.Math.Arith.{mod-mul}
 use Rattle.std.proofs.lemmas.Bool.{agree_below, agree_below_at}
 use Rattle.std.proofs.lemmas.List.{length-map, length-take-le}
 use Rattle.std.proofs.lemmas.Nat.{and_mask, or_block, pow_pos}
-use Rattle.std.proofs.lemmas.Simd.{zip2_of_maps, splat_is_map, map-map, mask_l-mod, mask_l-lt}
-use lib.Lanes.{zip2, mask_l, top, Each1}
+use Rattle.std.proofs.lemmas.Simd.{map-map, mask_l-mod, mask_l-lt}
+use lib.Lanes.{mask_l, top, Each1}
 use Rattle.iloc_spec_grammar.specs.Syntax.{Text}
 use Rattle.iloc_pieces.specs.Marks.{AreMarks, closed, no_letter, is_odd}
 use Rattle.iloc_pieces.specs.Run.{is_hyphen}
 use Rattle.iloc_pieces.specs.declared.marks.Marks.{Marks}
+use Rattle.iloc_pieces.proofs.SameLemmas.{low_bit, bit as bit_lt}
 
 -- ---- lanes
 
 -- two tests that agree on the 256 bytes
-same_map : (q r : ℕ → Bool) (v : Text) → Each1 (Fits w8) v → agree_below q r 256 ≡ true → map q v ≡ map r v
+pub same_map : (q r : ℕ → Bool) (v : Text) → Each1 (Fits w8) v → agree_below q r 256 ≡ true →
+    map q v ≡ map r v
 same_map q r [] fits e = refl
 same_map q r (b ∷ v) fits e = λ j. agree_below_at q r 256 b e (fits.0).fits j ∷ same_map q r v fits.1 e j
 
@@ -31,27 +32,7 @@ mask_is f p v z fits e all =
     ∙ ap (λ l. mask_l l % 2 ^ 64) (map-map (top 7) f v ∙ same_map (λ b. top 7 (f b)) p v fits.1 all)
     ∙ mask_l-mod (map p v) 64 few
 
--- an operation with one byte in all lanes, on a vector that was computed lane by lane from v
-pub then_splat : (h : ℕ → ℕ → ℕ) (f : ℕ → ℕ) (v : Text) (n y : ℕ) {z : Text} → length v ≡ n → z ≡ map f v
-    → zip2 h z (replicate n y) ≡ map (λ b. h (f b) y) v
-then_splat h f v n y long e = zip2_of_maps h f (λ _. y) v e (splat_is_map v n y long)
-
--- the same with the byte on the left
-pub splat_then : (h : ℕ → ℕ → ℕ) (f : ℕ → ℕ) (v : Text) (n y : ℕ) {z : Text} → length v ≡ n → z ≡ map f v
-    → zip2 h (replicate n y) z ≡ map (λ b. h y (f b)) v
-splat_then h f v n y long e = zip2_of_maps h (λ _. y) f v (splat_is_map v n y long) e
-
 -- ---- the first bits
-
-one_bit : (a m k : ℕ) → a < 2 → 0 < k → (a + 2 * m) % (k * 2) ≡ a + 2 * (m % k)
-one_bit a m k small l =
-    let half : (a + 2 * m) / 2 ≡ m = omega arith in
-    let low : (a + 2 * m) % 2 ≡ a = omega arith in
-    mod-mul (a + 2 * m) {m = k} {c = 2} l (omega arith) ∙ (λ j. (half j % k) * 2 + low j) ∙ omega arith
-
-bit_lt : (a : Bool) → cond a 1 0 < 2
-bit_lt true = omega arith
-bit_lt false = omega arith
 
 -- they mark the first bytes
 pub low : (q : ℕ → Bool) (n : ℕ) (v : Text) → mask_l (map q v) % 2 ^ n ≡ mask_l (map q (take n v))
@@ -59,7 +40,7 @@ low q zero v = mod-one (mask_l (map q v))
 low q (suc n) [] = zero-mod (2 ^ suc n)
 low q (suc n) (b ∷ v) =
     ap (λ k. (cond (q b) 1 0 + 2 * mask_l (map q v)) % k) (pow-suc 2 n)
-    ∙ one_bit (cond (q b) 1 0) (mask_l (map q v)) (2 ^ n) (bit_lt (q b)) (pow_pos n)
+    ∙ low_bit (cond (q b) 1 0) (mask_l (map q v)) (2 ^ n) (bit_lt (q b)) (pow_pos n)
     ∙ ap (λ m. cond (q b) 1 0 + 2 * m) (low q n v)
 
 pub masked : (q : ℕ → Bool) (n x e : ℕ) (v : Text) → e ≡ 2 ^ n → x ≡ mask_l (map q v)

@@ -1,29 +1,13 @@
 -- From a mask of sixteen bytes to those that come first.
-use Rattle.std.proofs.Common.{◌≡◌, ℕ, ◌+◌, ◌*◌, ◌/◌, ◌%◌, ◌^◌, ◌<◌, ◌≤◌, Bool, true, false, cond, not, List}
-use Rattle.std.proofs.Common.{[], ◌∷◌, ◌++◌, length, map, get_or, take, drop, Fits, w8, refl, sym, ap, ◌∙◌}
+use Rattle.std.proofs.Common.{◌≡◌, ℕ, ◌+◌, ◌*◌, ◌/◌, ◌^◌, ◌<◌, ◌≤◌, Bool, true, false, cond, not, List}
+use Rattle.std.proofs.Common.{[], ◌∷◌, ◌++◌, length, map, get_or, take, drop, refl, sym, ap, ◌∙◌}
 use Rattle.std.proofs.Common.{arith, length-append}
 use Rattle.std.specs.List.{prefix_len}
-use Rattle.std.proofs.lemmas.Bool.{agree_below, agree_below_at}
-use Rattle.std.proofs.lemmas.List.{length-map, length-take-le, get_or-take, get_or_append_left, map-append}
+use Rattle.std.proofs.lemmas.List.{length-take-le, get_or-take, get_or_append_left, map-append}
 use Rattle.std.proofs.lemmas.List.Sums.{prefix_len_passes, prefix_len_stops, prefix_len-le-length}
-use Rattle.std.proofs.lemmas.Simd.{map-map, mask_l-mod}
-use lib.Lanes.{mask_l, top, Each1}
+use lib.Lanes.{mask_l}
 use Rattle.iloc_pieces.specs.Run.{IsRun, IsRunOf}
 use Rattle.iloc_spec_grammar.specs.Syntax.{Text}
-
--- two tests that agree on the 256 bytes
-same_map : (q r : ℕ → Bool) (v : Text) → Each1 (Fits w8) v → agree_below q r 256 ≡ true → map q v ≡ map r v
-same_map q r [] fits e = refl
-same_map q r (b ∷ v) fits e = λ j. agree_below_at q r 256 b e (fits.0).fits j ∷ same_map q r v fits.1 e j
-
--- a mask of lanes that were computed from v tells the test exactly
-pub mask_is : (f : ℕ → ℕ) (p : ℕ → Bool) (v z : Text) → (length v ≡ 16) × Each1 (Fits w8) v → z ≡ map f v
-    → agree_below (λ b. top 7 (f b)) p 256 ≡ true → mask_l (map (top 7) z) % 2 ^ 64 ≡ mask_l (map p v)
-mask_is f p v z fits e all =
-    let few : length (map p v) ≤ 64 = omega (arith, length-map v p, fits.0) in
-    ap (λ l. mask_l (map (top 7) l) % 2 ^ 64) e
-    ∙ ap (λ l. mask_l l % 2 ^ 64) (map-map (top 7) f v ∙ same_map (λ b. top 7 (f b)) p v fits.1 all)
-    ∙ mask_l-mod (map p v) 64 few
 
 -- the bytes before the first that is marked are a run
 pub run_is : (p q : ℕ → Bool) (w : Text) (n : ℕ) → 16 ≤ length w → ((b : ℕ) → not (p b) ≡ q b)

@@ -1,6 +1,6 @@
 -- Two vectors are the same at their first lanes exactly if no lane there differs.
 use Rattle.std.proofs.Common.{◌≡◌, ℕ, zero, suc, ◌+◌, ◌-◌, ◌*◌, ◌/◌, ◌%◌, ◌^◌, ◌<◌, ◌≤◌, Bool, true, false}
-use Rattle.std.proofs.Common.{IsTrue, not, cond, List, [], ◌∷◌, length, take, map, bit_and, ◌↔◌, w8, refl}
+use Rattle.std.proofs.Common.{IsTrue, not, cond, [], ◌∷◌, length, take, map, bit_and, ◌↔◌, w8, refl}
 use Rattle.std.proofs.Common.{sym, ap, ◌∙◌, arith, eqb}
 use Rattle.std.specs.Prelude.{nat_eq}
 use Rattle.std.proofs.lemmas.Bool.Decides.{nat_tests}
@@ -15,13 +15,13 @@ abbrev differ : ℕ → ℕ → Bool
 differ a b = not (eqb a b)
 
 -- a number of one bit more
-low_bit : (c m p : ℕ) → c < 2 → 0 < p → (c + 2 * m) % (p * 2) ≡ c + 2 * (m % p)
+pub low_bit : (c m p : ℕ) → c < 2 → 0 < p → (c + 2 * m) % (p * 2) ≡ c + 2 * (m % p)
 low_bit c m p few some =
     let small : m % p < p = omega arith in
     let whole : c + 2 * m ≡ m / p * (p * 2) + (c + 2 * (m % p)) = omega arith in
     ap (λ y. y % (p * 2)) whole ∙ mod-mul-add (m / p) (p * 2) (c + 2 * (m % p)) (omega arith)
 
-bit : (b : Bool) → cond b 1 0 < 2
+pub bit : (b : Bool) → cond b 1 0 < 2
 bit true = omega arith
 bit false = omega arith
 

@@ -1,7 +1,7 @@
 -- A piece of at most eight bytes is a word of the same kinds as the text that its shape spells. So a test of
 -- a word is one of its shape where the two agree on 512 numbers.
 use Rattle.std.proofs.Common.{◌≡◌, ℕ, zero, suc, ◌+◌, ◌*◌, ◌/◌, ◌%◌, ◌^◌, ◌<◌, ◌≤◌, ◌==◌, nat_le, Bool, true}
-use Rattle.std.proofs.Common.{false, cond, ◌&&◌, ◌||◌, List, [], ◌∷◌, length, map, slice_index, refl, sym, ap}
+use Rattle.std.proofs.Common.{false, cond, ◌&&◌, ◌||◌, [], ◌∷◌, length, map, slice_index, refl, sym, ap}
 use Rattle.std.proofs.Common.{ap₂, ◌∙◌, arith, inl, inr, pow-suc}
 use Rattle.std.specs.Int.{is_in_range}
 use Rattle.std.specs.Char.{is_ascii_alphabetic, is_ascii_digit, is_ascii_alphanumeric}
@@ -155,7 +155,7 @@ shape_of_none : (p : Text) → letters_or_digits p ≡ false → shape_of p ≡ 
 unfolding shape_of
 shape_of_none p h = ap (λ (a : Bool). cond a (bits p) 0) h
 
-shape_of_one : (p : Text) → letters_or_digits p ≡ true → shape_of p ≡ bits p
+pub shape_of_one : (p : Text) → letters_or_digits p ≡ true → shape_of p ≡ bits p
 unfolding shape_of
 shape_of_one p h = ap (λ (a : Bool). cond a (bits p) 0) h
 

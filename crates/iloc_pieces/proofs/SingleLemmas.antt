@@ -1,5 +1,5 @@
 -- From the first piece of one byte to the first block.
-use Rattle.std.proofs.Common.{◌≡◌, ◌≢◌, ℕ, zero, suc, ◌+◌, ◌-◌, ◌/◌, ◌^◌, ◌<◌, ◌≤◌, ◌==◌, Bool, true, false}
+use Rattle.std.proofs.Common.{◌≡◌, ◌≢◌, ℕ, zero, suc, ◌+◌, ◌-◌, ◌/◌, ◌^◌, ◌<◌, ◌≤◌, Bool, true, false}
 use Rattle.std.proofs.Common.{cond, min, List, [], ◌∷◌, ◌++◌, length, map, get_or, take, drop, bit_and, w64}
 use Rattle.std.proofs.Common.{refl, sym, ap, ◌∙◌, arith, inl, inr}
 use Rattle.std.specs.Int.{bit_at}
@@ -20,6 +20,7 @@ use Rattle.iloc_spec_grammar.proofs.PiecesLaws.{at_pieces}
 use Rattle.iloc_spec_grammar.proofs.Readings.{IsLong, long_script, long_region, long_variant}
 use Rattle.iloc_pieces.specs.Run.{IsFirstSingle, is_hyphen}
 use Rattle.iloc_pieces.proofs.FrontLemmas.{later_bytes}
+use Rattle.iloc_spec_grammar.proofs.Singletons.{two_more}
 
 -- ---- in a mask of hyphens
 
@@ -110,9 +111,6 @@ abbrev NoneBefore : Text → ℕ → Type 0
 NoneBefore t k =
     (i : ℕ) → i < k → is_hyphen (get_or t i 0) ≡ true → is_hyphen (get_or t (suc (suc i)) 0) ≡ false
 
-two_bytes : (n : ℕ) → (suc (suc n) == 1) ≡ false
-two_bytes n = grind (arith, nat_tests)
-
 -- a first piece before a hyphen is long if no hyphen follows its first byte
 first_long : (t : Text) (k : ℕ) → k < length t → is_hyphen (get_or t k 0) ≡ true →
     is_hyphen (get_or t 1 0) ≡ false → IsLong (first_piece (pieces t))
@@ -127,7 +125,7 @@ first_long (c ∷ d ∷ t) k l h e = elim (cases_Bool (is_hyphen c)) [
       ap (λ ps. is_one_byte (first_piece ps)) (slice_split-cons_no is_hyphen c (d ∷ t) other
       ∙ ap (onto_first c) (slice_split-cons_no is_hyphen d t e))
       ∙ at_pieces (λ ps. is_one_byte (first_piece (onto_first c (onto_first d ps))) ≡ false)
-      (λ p ps. two_bytes (length p)) t
+      (λ p ps. two_more (length p)) t
 ]
 
 -- long pieces, after a first one, come before the others

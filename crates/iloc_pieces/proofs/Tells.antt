@@ -1,22 +1,24 @@
 -- What the shape of a piece tells.
-use Rattle.std.proofs.Common.{◌≡◌, ℕ, ◌+◌, ◌*◌, ◌<◌, ◌==◌, Bool, true, false, not, ◌&&◌, cond, List, [], ◌∷◌}
-use Rattle.std.proofs.Common.{get_or, bit_or, ◌^◌, codes, refl, sym, ap, ◌∙◌, arith, inl, inr}
-use Rattle.std.specs.Cmp.{Equal-is}
+use Rattle.std.proofs.Common.{◌≡◌, ℕ, ◌+◌, ◌*◌, ◌<◌, ◌==◌, Bool, true, false, not, ◌&&◌, cond, [], ◌∷◌}
+use Rattle.std.proofs.Common.{get_or, bit_or, ◌^◌, codes, refl, sym, ap, ◌∙◌, arith, inl, inr, ⊎_elim}
 use Rattle.std.specs.Char.{is_ascii_alphabetic, is_ascii_alphanumeric, to_ascii_lowercase}
 use Rattle.std.proofs.lemmas.Bool.{false_from_ne_true, and_parts, cases_Bool, eqb-true, eqb-false}
 use Rattle.std.proofs.lemmas.Bool.Decides.{nat_tests}
 use Rattle.iloc_spec_grammar.specs.Syntax.{code_u, code_t, Text, Kind, Script, IsWord, is_word, is_one_byte}
 use Rattle.iloc_spec_grammar.specs.Syntax.{is_true, is_same}
 use Rattle.iloc_spec_grammar.specs.Syntax.{lower, Bounds}
-use Rattle.iloc_spec_grammar.proofs.MapLaws.{same_itself, same_words}
+use Rattle.iloc_spec_grammar.proofs.MapLaws.{same_itself}
 use Rattle.iloc_spec_grammar.proofs.WordsLaws.{word_letters_or_digits, letter_is, length-script}
 use Rattle.iloc_spec_grammar.proofs.WordsLaws.{is_word-lower}
-use Rattle.iloc_pieces.specs.Left.{IsRemainder, IsShortPiece, piece_left}
+use Rattle.iloc_pieces.specs.Left.{IsShortPiece, piece_left}
 use Rattle.iloc_pieces.specs.Shape.{bits, shape_of}
-use Rattle.iloc_pieces.specs.declared.left.Left.{Left}
+use Rattle.iloc_pieces.specs.declared.cursor.Left.{Left}
 use Rattle.iloc_pieces.proofs.LeftLemmas.{short_word}
 use Rattle.iloc_pieces.proofs.WordBytes.{low_bit}
 use Rattle.std.proofs.lemmas.Nat.{or_block}
+use Rattle.std.proofs.Math.Logic.{∥∥₁_elim}
+use Rattle.std.specs.Coded.{Coded-set, coded_bool, coded_ℕ}
+use Rattle.iloc_spec_grammar.proofs.Canonical.{true_word}
 
 hyphen_shape : shape_of (45 ∷ []) ≡ 0
 unfolding shape_of
@@ -26,23 +28,21 @@ hyphen_no_word : (k : Kind) → is_word k (45 ∷ []) ≡ false
 hyphen_no_word k = false_from_ne_true _ (λ h. let all = word_letters_or_digits k (45 ∷ []) h in absurd (cc))
 
 -- a test of shapes that tells words tells whether the piece is one
-pub told_left : (k : Kind) → Bounds 8 k → {l : Left} → IsRemainder l → (r : Bool)
+pub told_left : (k : Kind) → Bounds 8 k → (l : Left) (r : Bool)
     → ((p : Text) → shape_of p ≡ l.shape → r ≡ is_word k p)
     → r ≡ is_word k (piece_left l)
-told_left k ends {l} h r tells = elim h.piece [
-  | inl s ↦ tells (piece_left l) (sym s.shape)
-  | inr long ↦
-      let none : is_word k (piece_left l) ≡ false =
-      false_from_ne_true _ (λ w. omega (arith, short_word k ends (piece_left l) w, long.long)) in
-      tells (45 ∷ []) (hyphen_shape ∙ sym long.shape) ∙ hyphen_no_word k ∙ sym none
-]
+told_left k ends l r tells = ∥∥₁_elim l.piece (Coded-set coded_bool _ _) (⊎_elim
+    (λ s. tells (piece_left l) (sym s.shape))
+    (λ long.
+    let none : is_word k (piece_left l) ≡ false =
+    false_from_ne_true _ (λ w. omega (arith, short_word k ends (piece_left l) w, long.long)) in
+    tells (45 ∷ []) (hyphen_shape ∙ sym long.shape) ∙ hyphen_no_word k ∙ sym none))
 
 -- the shape of a short piece
-pub shape_left : {l : Left} → IsRemainder l → IsShortPiece (piece_left l) → l.shape ≡ shape_of (piece_left l)
-shape_left {l} h short = elim h.piece [
-  | inl s ↦ s.shape
-  | inr long ↦ absurd (omega (arith, long.long))
-]
+pub shape_left : (l : Left) → IsShortPiece (piece_left l) → l.shape ≡ shape_of (piece_left l)
+shape_left l short = ∥∥₁_elim l.piece (Coded-set coded_ℕ _ _) (⊎_elim
+    (λ s. s.shape)
+    (λ long. absurd (omega (arith, long.long))))
 
 -- ---- of one byte
 
@@ -64,11 +64,6 @@ single_shape (b ∷ []) h = one_shape b
 single_shape (b ∷ c ∷ p) h = absurd (grind (arith, nat_tests))
 
 -- ---- `true`
-
--- the bytes of the word
-pub true_word : (w : Text) → is_true w ≡ true → codes "true" ≡ w
-unfolding is_true
-true_word w h = same_words (codes "true") w ((Equal-is _).0 h)
 
 -- bit 5 of two numbers
 or_byte : (a m n : ℕ) → a < 256 → bit_or (a + 256 * m) (32 + 256 * n) ≡ bit_or a 32 + 256 * bit_or m n

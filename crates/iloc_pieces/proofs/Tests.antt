@@ -1,5 +1,5 @@
 -- The tests of shapes, one for each kind of words: each is a table of 512, and a bound.
-use Rattle.std.proofs.Common.{◌≡◌, ℕ, ◌≤◌, nat_le, cond, false, ◌&&◌, ◌||◌, List, refl, bit_or, bit_and}
+use Rattle.std.proofs.Common.{◌≡◌, ℕ, ◌≤◌, nat_le, cond, false, ◌&&◌, ◌||◌, refl, bit_or, bit_and}
 use Rattle.std.proofs.Common.{arith}
 use Rattle.std.specs.Prelude.{nat_eq, nat_lt}
 use Rattle.std.proofs.lemmas.Bool.Decides.{nat_tests}

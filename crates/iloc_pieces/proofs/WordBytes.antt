@@ -2,14 +2,14 @@
 use Rattle.std.proofs.Common.{inl, inr, codes, take, ◌≡◌, ℕ, ◌<◌, ◌≤◌, true, false, [], ◌∷◌, length}
 use Rattle.std.proofs.Common.{map, get_or, bit_or, ◌==◌, refl, sym, ap, ◌∙◌, subst, arith, Bool, not, ◌||◌}
 use Rattle.std.proofs.Common.{nat_lt, ◌↔◌}
-use Rattle.std.specs.Cmp.{Equal-is}
 use Rattle.std.specs.Char.{is_ascii_alphanumeric, to_ascii_lowercase}
 use Rattle.std.proofs.lemmas.Bool.{eqb-true, cases_Bool, eq-eqb, agree_below}
 use Rattle.std.proofs.lemmas.Bool.Decides.{nat_tests, Decides-ltb}
 use Rattle.std.proofs.lemmas.List.{length-map, length-take-le}
 use Rattle.iloc_spec_grammar.specs.Syntax.{code_u, code_t, Text, lower, is_same, is_true}
-use Rattle.iloc_spec_grammar.proofs.MapLaws.{same_words, same_itself}
+use Rattle.iloc_spec_grammar.proofs.MapLaws.{same_itself}
 use Rattle.iloc_pieces.proofs.LaneLemmas.{of_byte}
+use Rattle.iloc_spec_grammar.proofs.Canonical.{true_word}
 
 -- ---- the bytes of pieces
 
@@ -49,10 +49,6 @@ same_letter l to from c small = (
 pub folded_fits : (c : ℕ) → c < 256 → bit_or c 32 < 256
 folded_fits c small =
     (Decides-ltb (bit_or c 32) 256).0 (of_byte (λ b. true) (λ b. nat_lt (bit_or b 32) 256) refl c small refl)
-
-pub true_word : (w : Text) → is_true w ≡ true → codes "true" ≡ w
-unfolding is_true
-true_word w h = same_words (codes "true") w ((Equal-is _).0 h)
 
 pub no_true : (p : Text) → (is_true (lower p) ≡ true → ⊥) → is_true (lower p) ≡ false
 no_true p h = elim (cases_Bool (is_true (lower p))) [

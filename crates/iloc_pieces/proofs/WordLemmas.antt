@@ -6,7 +6,6 @@ use Rattle.std.proofs.Common.{eqb, leb}
 use borrow.Author.Tests.{eqb-true}
 use Rattle.std.specs.Int.Bits.{and_zero_r}
 use Rattle.std.specs.Cmp.{first_so, second_so}
-use Rattle.std.specs.List.{list_all}
 use Rattle.std.specs.Char.{is_ascii_alphabetic, is_ascii_digit, to_ascii_lowercase, to_ascii_uppercase}
 use Rattle.std.proofs.lemmas.Bool.{agree_below, cases_lt, le-leb}
 use Rattle.std.proofs.lemmas.List.{get_or_past, get_or_append_left, get_or-append-add, get_or-drop, drop-drop}
@@ -30,6 +29,7 @@ use Rattle.iloc_pieces.specs.Plain.{AreNormal, place_at}
 use Rattle.iloc_pieces.specs.declared.tail.Place.{Place}
 use Rattle.iloc_pieces.specs.declared.tail.Tail.{Tail}
 use Rattle.iloc_pieces.proofs.LaneLemmas.{of_byte}
+use Rattle.iloc_pieces.proofs.RunWords.{all_pass}
 
 -- ---- parts of a text
 
@@ -96,13 +96,6 @@ text_is f _ _ x ShapeOf.script_region l h = two_hyphens f 2 x (omega arith) h.0 
 text_is f _ _ x ShapeOf.script_code l h = two_hyphens f 3 x (omega arith) h.0 h.1
 
 -- ---- words of parts
-
-all_front : (p : ℕ → Bool) (k : ℕ) (x : Text) → k ≤ length x → ((i : ℕ) → i < k → p (get_or x i 0) ≡ true) →
-    list_all p (take k x) ≡ true
-all_front p zero x l h = refl
-all_front p (suc k) [] l h = absurd (omega arith)
-all_front p (suc k) (b ∷ x) l h =
-    rw (h 0 (omega arith)) (all_front p k x (omega arith) (λ i m. h (suc i) (omega arith)))
 
 map_front : (g : ℕ → ℕ) (k : ℕ) (v w : Text) → k ≤ length v → k ≤ length w →
     ((i : ℕ) → i < k → get_or w i 0 ≡ g (get_or v i 0)) → take k w ≡ map g (take k v)
@@ -193,7 +186,7 @@ module _ {v w : Text} {f : ℕ} {ps : List Place} (h : IsFound v w f ps) where
       (is_ascii_alphabetic (get_or v i 0) ≡ true) × (get_or w i 0 ≡ to_ascii_lowercase (get_or v i 0)) =
       λ i l. stands_as lower_letter is_ascii_alphabetic to_ascii_lowercase refl _ _ (byte i (omega arith))
       (h.first i l) in (
-        rw (size, h.language) (all_front is_ascii_alphabetic f v (omega arith) (λ i l. (at i l).0)),
+        rw (size, h.language) (all_pass is_ascii_alphabetic f v (omega arith) (λ i l. (at i l).0)),
         map_front to_ascii_lowercase f v w (omega arith) (omega (arith, h.long)) (λ i l. (at i l).1),
       )
 

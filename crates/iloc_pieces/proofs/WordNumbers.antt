@@ -1,5 +1,5 @@
 -- The numbers of words, and how they are computed.
-use Rattle.std.proofs.Common.{◌≡◌, ℕ, zero, suc, ◌+◌, ◌-◌, ◌*◌, ◌/◌, ◌%◌, ◌^◌, ◌<◌, ◌≤◌, true, List, [], ◌∷◌}
+use Rattle.std.proofs.Common.{◌≡◌, ℕ, zero, suc, ◌+◌, ◌-◌, ◌*◌, ◌/◌, ◌%◌, ◌^◌, ◌<◌, ◌≤◌, true, [], ◌∷◌}
 use Rattle.std.proofs.Common.{length, map, get_or, take, drop, replicate, ◌++◌, bit_or, refl, sym, ap, ◌∙◌}
 use Rattle.std.proofs.Common.{subst, arith, pow-suc}
 use Rattle.std.specs.Int.{w64, swap_bytes, from_be_bytes, from_le_bytes}
@@ -56,11 +56,11 @@ swapped z long small = absurd (omega arith)
 
 -- ---- the first of them, with zeros behind
 
-pow_some : (n : ℕ) → 0 < 256 ^ n
+pub pow_some : (n : ℕ) → 0 < 256 ^ n
 pow_some zero = omega arith
 pow_some (suc n) = omega (arith, pow-suc 256 n, pow_some n)
 
-number_fits : (n : ℕ) (p : Text) → Bytes p → high_first n p < 256 ^ n
+pub number_fits : (n : ℕ) (p : Text) → Bytes p → high_first n p < 256 ^ n
 unfolding high_first
 number_fits zero p h = omega arith
 number_fits (suc n) [] h = pow_some (suc n)

@@ -1,6 +1,6 @@
 -- The numbers of words have the order of the words.
 use Rattle.std.proofs.Common.{◌≡◌, ℕ, zero, suc, ◌+◌, ◌*◌, ◌^◌, ◌<◌, ◌≤◌, true, [], ◌∷◌, length, get_or}
-use Rattle.std.proofs.Common.{refl, sym, ap, ◌∙◌, arith, inl, inr, pow-suc}
+use Rattle.std.proofs.Common.{refl, sym, ap, ◌∙◌, arith, inl, inr}
 use Rattle.std.specs.List.{AllByRecursion}
 use Rattle.std.specs.Ordering.{nat_cmp, ordering_then}
 use Rattle.std.specs.Cmp.{nat_cmp_is}
@@ -15,23 +15,12 @@ use Rattle.iloc_spec_grammar.specs.Syntax.{word_cmp}
 use Rattle.iloc_spec_grammar.proofs.WordsLaws.{length-attribute, length-variant, length-lower}
 use Rattle.iloc_spec_grammar.proofs.WordsLaws.{word_letters_or_digits}
 use Rattle.iloc_pieces.specs.Words.{IsUpToEight, high_first, word_number}
+use Rattle.iloc_pieces.proofs.WordNumbers.{pow_some, number_fits}
 
 -- ---- how great they are
 
 abbrev Bytes : Text → Type 0
 Bytes p = (i : ℕ) → get_or p i 0 < 256
-
-pow_some : (n : ℕ) → 0 < 256 ^ n
-pow_some zero = omega arith
-pow_some (suc n) = omega (arith, pow-suc 256 n, pow_some n)
-
-number_fits : (n : ℕ) (p : Text) → Bytes p → high_first n p < 256 ^ n
-unfolding high_first
-number_fits zero p h = omega arith
-number_fits (suc n) [] h = pow_some (suc n)
-number_fits (suc n) (b ∷ p) h =
-    let few : b ≤ 255 = omega (arith, h 0) in
-    omega (arith, pow-suc 256 n, number_fits n p (λ i. h (suc i)), mul-le-mul_right (256 ^ n) few)
 
 -- ---- the order of words
 
@@ -53,13 +42,13 @@ above_word (b ∷ p) h = let parts = and_parts _ _ h in (byte b parts.0, above_w
         (0 < to_ascii_lowercase b) × (to_ascii_lowercase b < 256)
     byte b e = (grind (arith, nat_tests), grind (arith, nat_tests))
 
-is_less : (x y : ℕ) → x < y → nat_cmp x y ≡ Less
+pub is_less : (x y : ℕ) → x < y → nat_cmp x y ≡ Less
 is_less x y l = sym (nat_cmp_is x y Less l)
 
 is_equal : (x y : ℕ) → x ≡ y → nat_cmp x y ≡ Equal
 is_equal x y e = sym (nat_cmp_is x y Equal e)
 
-is_greater : (x y : ℕ) → y < x → nat_cmp x y ≡ Greater
+pub is_greater : (x y : ℕ) → y < x → nat_cmp x y ≡ Greater
 is_greater x y l = sym (nat_cmp_is x y Greater l)
 
 first_counts : (a b w x y : ℕ) → a < b → x < w → a * w + x < b * w + y

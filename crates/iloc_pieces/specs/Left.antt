@@ -1,10 +1,8 @@
 -- What is left of a text, from a piece on.
-use Rattle.std.specs.Prelude.{◌≡◌, ◌≢◌, ◌⊎◌, ℕ, ◌+◌, ◌-◌, ◌≤◌, ◌<◌, List, [], ◌∷◌, ◌++◌, length, take, drop}
+use Rattle.std.specs.Prelude.{◌≡◌, ◌≢◌, ℕ, ◌+◌, ◌-◌, ◌≤◌, ◌<◌, List, [], ◌∷◌, ◌++◌, length, take, drop}
 use Rattle.std.specs.Prelude.{slice_index}
 use Rattle.iloc_spec_grammar.specs.Syntax.{Text, pieces, first_piece, join, dashes}
-use Rattle.iloc_pieces.specs.Marks.{AreMarks, closed}
-use Rattle.iloc_pieces.specs.Shape.{shape_of}
-use Rattle.iloc_pieces.specs.declared.left.Left.{Left}
+use Rattle.iloc_pieces.specs.declared.cursor.Left.{Left}
 
 -- the bytes that are left
 abbrev pub bytes_left : Left → Text
@@ -21,28 +19,6 @@ piece_left l = first_piece (pieces_left l)
 abbrev pub IsShortPiece : Text → Type 0
 IsShortPiece p = length p ≤ 8
 
--- the length and the shape of a piece of fewer than sixteen bytes, and the marks of some bytes from it on, up
--- to its end at least
-pub record HasShape (rest : Text) (l : Left) : Type 0 where
-  pub few : l.n < 16
-  pub long : l.n ≡ length (first_piece (pieces rest))
-  pub shape : l.shape ≡ shape_of (first_piece (pieces rest))
-  pub known : ℕ
-  pub enough : l.n < known
-  pub most : known ≤ 16
-  pub marks : AreMarks (take known (closed rest)) l.marks
-
--- a longer piece
-pub record IsLong (rest : Text) (l : Left) : Type 0 where
-  pub most : l.n ≡ 16
-  pub long : 16 ≤ length (first_piece (pieces rest))
-  pub shape : l.shape ≡ 0
-
--- the text lies within the window, and the piece is as said
-pub record IsRemainder (l : Left) : Type 0 where
-  pub inside : l.at + l.len ≤ length l.window.now
-  pub piece : HasShape (bytes_left l) l ⊎ IsLong (bytes_left l) l
-
 -- the whole text
 abbrev pub whole_text : Left → Text
 whole_text l = take (l.at + l.len) l.window.now
@@ -54,7 +30,6 @@ pub record IsLater (l : Left) : Type 0 where
 
 -- m is one piece further than l
 pub record IsNextPiece (l m : Left) : Type 0 where
-  pub left : IsRemainder m
   pub later : IsLater m
   pub less : m.len < l.len
   pub window : m.window.now ≡ l.window.now
@@ -70,7 +45,6 @@ pub record IsSpanned (t : Text) (start end : ℕ) (ps : List Text) : Type 0 wher
 
 -- from l to m these pieces are passed
 pub record IsPast (l m : Left) (ps : List Text) : Type 0 where
-  pub left : IsRemainder m
   pub later : IsLater m
   pub less : m.len ≤ l.len
   pub window : m.window.now ≡ l.window.now

@@ -9,4 +9,5 @@ pub mod Plain
 pub mod Normal
 pub mod Marks
 pub mod Shape
+pub mod Piece
 pub mod Left

@@ -19,36 +19,19 @@ ghost use Rattle.iloc_spec_grammar.specs.Syntax.{
   languages,
   lower,
 };
-ghost use Rattle.iloc_pieces.specs.Left.{IsRemainder, IsNextPiece, IsShortPiece, piece_left, pieces_left, bytes_left};
+ghost use Rattle.iloc_pieces.specs.Left.{IsNextPiece, IsShortPiece, piece_left, pieces_left, bytes_left};
 ghost use Rattle.iloc_pieces.specs.Marks.{AreMarksSeen};
 ghost use Rattle.iloc_pieces.specs.Words.{IsUpToEight, word_number};
 
+pub use crate::cursor::Left;
 use crate::marks::{Marks, marks_at};
 use crate::shape;
 use iloc_tinystr::number_of;
-
-/// A piece of a text, and what is left of the text from it on.
-#[derive(Clone, Copy)]
-pub struct Left<'a> {
-    /// The text, and perhaps what follows it.
-    pub window: &'a [u8],
-    /// Where the piece begins.
-    pub at: usize,
-    /// How many bytes the text has from there on.
-    pub len: usize,
-    /// The length of the piece; sixteen if it is longer.
-    pub n: usize,
-    /// The shape of the piece; 0 if it is longer than fifteen bytes.
-    pub shape: usize,
-    /// The marks from the piece on.
-    pub marks: Marks,
-}
 
 /// The first `len` bytes of the window, at their first piece.
 #[inline(always)]
 pub fn left_in(window: &[u8], len: usize) -> Left<'_>
     requires { len ≤ length window.now }
-    ensures left { IsRemainder result }
     ensures rest { bytes_left result ≡ take len window.now }
     ensures at { result.at ≡ 0 }
     ensures len { result.len ≡ len }
@@ -61,8 +44,7 @@ pub fn left_in(window: &[u8], len: usize) -> Left<'_>
 #[inline(always)]
 fn look(window: &[u8], at: usize, len: usize, marks: Marks) -> Left<'_>
     requires inside { at + len ≤ length window.now }
-    requires seen { AreMarksSeen (take len (drop at window.now)) marks }
-    ensures left { IsRemainder result }
+    requires seen { ∥ AreMarksSeen (take len (drop at window.now)) marks ∥₁ }
     ensures at { result.at ≡ at }
     ensures len { result.len ≡ len }
     ensures window { result.window.now ≡ window.now }
@@ -104,7 +86,6 @@ pub fn is_last(left: Left<'_>) -> bool
 /// The next piece.
 #[inline(always)]
 pub fn next(left: Left<'_>) -> Left<'_>
-    requires left { IsRemainder left }
     requires short { IsShortPiece (piece_left left) }
     requires more { left.n ≢ left.len }
     ensures { IsNextPiece left.entry result }
@@ -124,7 +105,6 @@ pub fn next(left: Left<'_>) -> Left<'_>
 /// Goes on to the next piece.
 #[inline(always)]
 pub fn advance(left: &mut Left<'_>)
-    requires left { IsRemainder left.old }
     requires short { IsShortPiece (piece_left left.old) }
     requires more { left.old.n ≢ left.old.len }
     ensures { IsNextPiece left.old left.new }
@@ -135,7 +115,6 @@ pub fn advance(left: &mut Left<'_>)
 /// Whether the piece is a language.
 #[inline(always)]
 pub fn is_language(left: Left<'_>) -> bool
-    requires { IsRemainder left }
     ensures { result ≡ is_word (Language languages) (piece_left left.entry) }
 {
     shape::is_language(left.shape)
@@ -144,7 +123,6 @@ pub fn is_language(left: Left<'_>) -> bool
 /// Whether the piece is a script.
 #[inline(always)]
 pub fn is_script(left: Left<'_>) -> bool
-    requires { IsRemainder left }
     ensures { result ≡ is_word Script (piece_left left.entry) }
 {
     shape::is_script(left.shape)
@@ -153,7 +131,6 @@ pub fn is_script(left: Left<'_>) -> bool
 /// Whether the piece is a region.
 #[inline(always)]
 pub fn is_region(left: Left<'_>) -> bool
-    requires { IsRemainder left }
     ensures { result ≡ is_word Region (piece_left left.entry) }
 {
     shape::is_region(left.shape)
@@ -162,7 +139,6 @@ pub fn is_region(left: Left<'_>) -> bool
 /// Whether the piece is a variant.
 #[inline(always)]
 pub fn is_variant(left: Left<'_>) -> bool
-    requires { IsRemainder left }
     ensures { result ≡ is_word Variant (piece_left left.entry) }
 {
     shape::is_variant(left.shape)
@@ -171,7 +147,6 @@ pub fn is_variant(left: Left<'_>) -> bool
 /// Whether the piece is a key of `u`.
 #[inline(always)]
 pub fn is_key(left: Left<'_>) -> bool
-    requires { IsRemainder left }
     ensures { result ≡ is_word UnicodeKey (piece_left left.entry) }
 {
     shape::is_key(left.shape)
@@ -180,7 +155,6 @@ pub fn is_key(left: Left<'_>) -> bool
 /// Whether the piece is a key of `t`.
 #[inline(always)]
 pub fn is_field_key(left: Left<'_>) -> bool
-    requires { IsRemainder left }
     ensures { result ≡ is_word TransformKey (piece_left left.entry) }
 {
     shape::is_field_key(left.shape)
@@ -189,7 +163,6 @@ pub fn is_field_key(left: Left<'_>) -> bool
 /// Whether the piece is an attribute, or a subtag of a value.
 #[inline(always)]
 pub fn is_attribute(left: Left<'_>) -> bool
-    requires { IsRemainder left }
     ensures { result ≡ is_word Attribute (piece_left left.entry) }
 {
     shape::is_attribute(left.shape)
@@ -198,7 +171,6 @@ pub fn is_attribute(left: Left<'_>) -> bool
 /// Whether the piece is a subtag of another extension.
 #[inline(always)]
 pub fn is_subtag(left: Left<'_>) -> bool
-    requires { IsRemainder left }
     ensures { result ≡ is_word Subtag (piece_left left.entry) }
 {
     shape::is_subtag(left.shape)
@@ -207,7 +179,6 @@ pub fn is_subtag(left: Left<'_>) -> bool
 /// Whether the piece is a subtag after `x`.
 #[inline(always)]
 pub fn is_private(left: Left<'_>) -> bool
-    requires { IsRemainder left }
     ensures { result ≡ is_word PrivateSubtag (piece_left left.entry) }
 {
     shape::is_private(left.shape)
@@ -216,7 +187,6 @@ pub fn is_private(left: Left<'_>) -> bool
 /// Whether the piece has one byte, as a singleton has.
 #[inline(always)]
 pub fn is_single(left: Left<'_>) -> bool
-    requires { IsRemainder left }
     ensures { result ≡ is_one_byte (piece_left left.entry) }
 {
     left.n == 1
@@ -225,7 +195,6 @@ pub fn is_single(left: Left<'_>) -> bool
 /// Whether the piece has two to eight bytes, as a subtag has.
 #[inline(always)]
 pub fn is_between(left: Left<'_>) -> bool
-    requires { IsRemainder left }
     ensures { result ≡ is_in_range 2 8 (length (piece_left left.entry)) }
 {
     left.n >= 2 && left.n <= 8
@@ -234,8 +203,7 @@ pub fn is_between(left: Left<'_>) -> bool
 /// Whether a piece of one byte is a letter or digit.
 #[inline(always)]
 pub fn is_alphanumeric(left: Left<'_>) -> bool
-    requires left { IsRemainder left }
-    requires single { is_one_byte (piece_left left) ≡ true }
+    requires { is_one_byte (piece_left left) ≡ true }
     ensures { result ≡ is_ascii_alphanumeric (slice_index (piece_left left.entry) 0) }
 {
     left.shape != 0
@@ -244,8 +212,7 @@ pub fn is_alphanumeric(left: Left<'_>) -> bool
 /// The byte of a singleton, in lower case.
 #[inline(always)]
 pub fn singleton(left: Left<'_>) -> u8
-    requires left { IsRemainder left }
-    requires single { is_one_byte (piece_left left) ≡ true }
+    requires { is_one_byte (piece_left left) ≡ true }
     ensures { result ≡ to_ascii_lowercase (slice_index (piece_left left.entry) 0) }
 {
     left.window[left.at].to_ascii_lowercase()
@@ -254,8 +221,7 @@ pub fn singleton(left: Left<'_>) -> u8
 /// Whether the piece is `true`, in whatever case.
 #[inline(always)]
 pub fn is_true(left: Left<'_>) -> bool
-    requires left { IsRemainder left }
-    requires short { IsShortPiece (piece_left left) }
+    requires { IsShortPiece (piece_left left) }
     ensures { result ≡ is_true (lower (piece_left left.entry)) }
 {
     if left.shape != 16 {
@@ -300,8 +266,7 @@ fn last_number(window: &[u8], at: usize, n: usize) -> u64
 /// zeros behind a shorter one.
 #[inline(always)]
 pub fn word_number(left: Left<'_>) -> u64
-    requires left { IsRemainder left }
-    requires word { IsUpToEight (piece_left left) }
+    requires { IsUpToEight (piece_left left) }
     ensures { result ≡ word_number (piece_left left.entry) }
 {
     number_at(left.window, left.at, left.n)

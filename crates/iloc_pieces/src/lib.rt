@@ -1,4 +1,4 @@
-//! What is read of a text by bit masks of its bytes: plain texts, beginnings, and pieces with what each may be.
+//! A text read sixteen bytes at a time, by bit masks: plain texts, beginnings, and pieces.
 //!
 //! **Plain texts** (`plain`). A text is plain here if it is a language, perhaps a script and a region, and nothing else, in
 //! at most sixteen bytes: `de`, `en-us`, `zh-HANT-tw`, `es-419`. Most identifiers in use are plain. `read_plain` promises
@@ -27,6 +27,7 @@
 //! It allocates nothing. It stands on the grammar (`iloc_spec_grammar`) and on pieces as numbers (`iloc_tinystr`).
 #![tactic(auto)]
 
+mod cursor;
 pub mod front;
 pub mod keyword;
 mod lanes;

@@ -1,5 +1,5 @@
 -- The answers to lines, from what their readers say.
-use Rattle.std.proofs.Common.{◌≡◌, ◌≢◌, inl, inr, ℕ, false, List, [], ◌∷◌, refl, sym, ap, ◌∙◌, subst, Option}
+use Rattle.std.proofs.Common.{◌≡◌, ◌≢◌, inl, inr, false, List, [], ◌∷◌, refl, sym, ap, ◌∙◌, subst, Option}
 use Rattle.std.proofs.Common.{Some, None, option_map, Result, Ok, Err, OnOk, true≢false}
 use Rattle.std.specs.Prelude.{is_some}
 use Rattle.iloc_spec_grammar.specs.Syntax.{Text, pieces, languages, Identifier, blocks, head}
@@ -23,6 +23,7 @@ use Rattle.iloc_spec_parts.specs.DataLocales.{DataLocale, DataMeans, data_text}
 use Rattle.iloc_data_parts.specs.PartsReading.{PartsTextReads}
 use Rattle.iloc_normalize.specs.declared.Mode.TheVariants.{Langid, Locale, Data}
 use Rattle.iloc_lines.specs.Answers.{line_answer, refusal_text}
+use Rattle.iloc_locale.proofs.AnswerLemmas.{none_mean}
 
 pub answer_accepted : (t : Text) (i : Identifier) → IdentifierMeans languages (pieces t) i →
     line_answer languages Langid t ≡ identifier_text i
@@ -63,26 +64,6 @@ pub nothing_left : {X : Type 0} (f : X → Text) (ps : List Text) (o : Option X)
 nothing_left f [] o e n = refl
 nothing_left f (p ∷ ps) None e n = absurd (true≢false (sym (ap is_some e)))
 nothing_left f (p ∷ ps) (Some x) e n = absurd (true≢false n)
-
--- no blocks mean no extensions
-none_mean : BlocksMean languages [] no_extensions
-none_mean = (
-  record {
-    unicode = record { attributes = []; keywords = [] };
-    transform = record { id = None; fields = [] };
-    private = [];
-    others = [];
-  },
-  record {
-    each_block = tt;
-    different = tt;
-    unicode = (record { attributes = tt; keywords = tt }, refl);
-    transform = (record { id = tt; fields = tt }, refl);
-    private = (tt, refl);
-    others = (tt, refl);
-  },
-  refl,
-)
 
 pub head_alone : (t : Text) (id : LanguageIdentifier) (ps : List Text) →
     IdentifierReads (head (pieces t)) (Ok id) → ps ≡ after_head (pieces t) → ps ≡ [] →

@@ -2,7 +2,6 @@
 use Rattle.std.proofs.Common.{◌≡◌, ◌≢◌, ℕ, ◌+◌, ◌<◌, List, [], ◌∷◌, ◌++◌, length, refl, sym, ap, ◌∙◌, subst}
 use Rattle.std.proofs.Common.{arith, append_assoc, append-nil, length-append}
 use Rattle.std.specs.Prelude.{Result, Ok, Err, OnOk, IfOk}
-use Rattle.std.specs.List.{AllByRecursion}
 use Rattle.std.proofs.lemmas.List.Elements.{All-nil, All-append}
 use Rattle.iloc_lines.specs.Lines.{lines_of, ended, IsOneLine}
 use Rattle.iloc_lines.proofs.LineCuts.{lines_of-last}
@@ -72,16 +71,6 @@ module _ (IsEntry : ℕ → Text → Text → Type 0) (n : ℕ) (pending : Text)
   }
 
 -- the last line, if it is empty or not
-
-pub Ends-nothing : (IsEntry : ℕ → Text → Text → Type 0) (n : ℕ) (pending old : Text) → pending ≡ [] →
-    Ends IsEntry n pending old old n
-Ends-nothing IsEntry n pending old none =
-    subst (λ (t : Text). Ends IsEntry n t old old n) (sym none) (record {
-      added = [];
-      is_listing = refl;
-      adds = sym (append-nil old);
-      counts = omega arith;
-    })
 
 pub Ends-line : (IsEntry : ℕ → Text → Text → Type 0) (n : ℕ) (pending old new : Text) (next : ℕ) →
     IsOneLine pending → 0 < length pending

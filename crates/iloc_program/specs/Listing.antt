@@ -1,6 +1,6 @@
 -- What is written for one line of a listing: its normal text, or why it is refused, with the number
 -- of the line before and the place of the fault behind, if that is asked. This library's rule.
-use Rattle.std.specs.Prelude.{◌≡◌, ◌⊎◌, ℕ, ◌-◌, ◌/◌, ◌%◌, ◌==◌, nat_lt, false, [], ◌∷◌, ◌++◌, codes, take}
+use Rattle.std.specs.Prelude.{◌≡◌, ◌⊎◌, ℕ, ◌-◌, ◌/◌, ◌%◌, ◌==◌, nat_lt, false, [], ◌∷◌, ◌++◌, take}
 use Rattle.std.specs.Prelude.{drop, if◌then◌else◌}
 use Rattle.std.specs.List.{flat_map}
 use Rattle.std.specs.Fmt.{decimal, digit_glyph}

@@ -292,7 +292,11 @@ impl<T: Copy + PartialEq> PartialEq for ShortWords<T> {
     ghost laws = { lists_per T.laws };
 
     fn eq(&self, other: &Self) -> bool {
-        self.as_slice() == other.as_slice()
+        // Most lists that are compared are both empty.
+        match (&self.kept, &other.kept) {
+            (Kept::Empty(_), Kept::Empty(_)) => true,
+            _ => self.as_slice() == other.as_slice(),
+        }
     }
 }
 

@@ -1,12 +1,12 @@
 -- The laws of steps between texts, one and any number, by those of the tree.
-use Rattle.std.proofs.Common.{◌≡◌, ◌↔◌, inl, inr, ℕ, zero, suc, ◌≤◌, Bool, false, List, [], ◌∷◌, length, refl}
+use Rattle.std.proofs.Common.{◌≡◌, ◌↔◌, inl, inr, ℕ, zero, suc, ◌≤◌, false, List, [], ◌∷◌, length, refl}
 use Rattle.std.proofs.Common.{sym, ap, ◌∙◌, subst, ◌==◌, le_of_eq, le_trans}
 use Rattle.std.specs.Char.{to_ascii_lowercase}
 use Rattle.std.specs.List.{AllByRecursion}
 use Rattle.std.proofs.lemmas.Bool.{cases_Bool, cond_both, both_ways}
 use Rattle.iloc_spec_grammar.specs.Syntax.{LanguageLengths, Block, code_x, Text, pieces, join, lower}
 use Rattle.iloc_spec_grammar.specs.Syntax.{AreLengths, SpelledIdentifier, Identifier}
-use Rattle.iloc_spec_grammar.specs.Syntax.{identifier_pieces, lower_singleton, is_one_byte, front, blocks}
+use Rattle.iloc_spec_grammar.specs.Syntax.{identifier_pieces, lower_singleton, is_one_byte, blocks}
 use Rattle.iloc_spec_grammar.specs.Syntax.{head, tail_blocks}
 use Rattle.iloc_spec_grammar.specs.Meaning.{Locale, Means, IdentifierMeans, SpellsIdentifier}
 use Rattle.iloc_spec_grammar.specs.Meaning.{normal_identifier}
@@ -35,6 +35,7 @@ use Rattle.iloc_spec_grammar.proofs.SameMeaning.{one_meaning}
 use Rattle.iloc_spec_grammar.proofs.SameText.{text_is}
 use Rattle.iloc_spec_grammar.proofs.SameSteps.{tree_step, spelled_step, tree_identifier_step}
 use Rattle.iloc_spec_grammar.proofs.SameSteps.{identifier_step_by_tree}
+use Rattle.iloc_spec_grammar.proofs.ReadingLaws.{front_long}
 
 -- one step
 
@@ -42,11 +43,6 @@ pub text_step_means : (T : LanguageLengths) → AreLengths T → (t u : Text) (M
     Means T t M → Means T u M
 text_step_means T table t u M s m =
     means_by_tree table u M (tree.text_step_means T table t u M (tree_step t u s) (tree_means t M m))
-
--- texts that are equal without case mean the same
-pub case_means : (T : LanguageLengths) → AreLengths T → (t u : Text) (M : Locale) → lower t ≡ lower u →
-    Means T t M → Means T u M
-case_means T table t u M e m = text_step_means T table t u M (TextStep.letter_case e) m
 
 pub text_step_length : (T : LanguageLengths) (t u : Text) → TextStep T t u → length u ≤ length t
 text_step_length T t u s = tree.text_step_length T t u (tree_step t u s)
@@ -66,11 +62,6 @@ chain_length T (suc n) t u (inl e) = le_of_eq (ap length (sym e))
 chain_length T (suc n) t u (inr c) = le_trans (chain_length T n c.0 u c.2) (text_step_length T t c.0 c.1)
 
 -- blocks of a text have pieces of more than one byte, but for that of `x`
-
-front_long : (ps : List Text) → AllByRecursion IsLong (front ps)
-front_long [] = tt
-front_long (p ∷ ps) =
-    cond_both (is_one_byte p) _ _ (AllByRecursion IsLong) (λ e. tt) (λ e. (e, front_long ps))
 
 abbrev IsLongBlock : Block → Type 0
 IsLongBlock b = (lower_singleton b == code_x) ≡ false → AllByRecursion IsLong b.1

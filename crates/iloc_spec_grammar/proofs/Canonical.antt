@@ -110,7 +110,7 @@ none_true : (ps : List Text) → AllByRecursion (λ q. is_true (lower q) ≡ fal
 none_true ps = all_weaker (λ q. not (is_true (lower q)) ≡ true) (λ q. is_true (lower q) ≡ false)
     (λ q e. not-true _ e) (no_trues ps) (filter-passes (λ q. not (is_true (lower q))) ps)
 
-true_word : (w : Text) → is_true w ≡ true → codes "true" ≡ w
+pub true_word : (w : Text) → is_true w ≡ true → codes "true" ≡ w
 unfolding is_true
 true_word w h = same_words (codes "true") w ((Equal-is _).0 h)
 

@@ -1,5 +1,5 @@
 -- The answers of the plain programs are the meaning and the fault of a text.
-use Rattle.std.proofs.Common.{◌≡◌, ℕ, Bool, List, ap, subst, Result, Ok, Err, MatchResult, ◌↔◌}
+use Rattle.std.proofs.Common.{◌≡◌, ℕ, Bool, ap, subst, Result, Ok, Err, MatchResult, ◌↔◌}
 use Rattle.iloc_spec_grammar.specs.Syntax.{LanguageLengths, Text, pieces, AreLengths, Identifier}
 use Rattle.iloc_spec_grammar.specs.Meaning.{Locale, Means, IdentifierMeans, Fault, HasFault}
 use Rattle.iloc_spec_grammar.specs.Meaning.{HasIdentifierFault}

@@ -1,5 +1,5 @@
 -- What follows for whole texts.
-use Rattle.std.proofs.Common.{◌≡◌, ℕ, Bool, List, ap, subst, ◌↔◌}
+use Rattle.std.proofs.Common.{◌≡◌, ℕ, Bool, ap, subst, ◌↔◌}
 use Rattle.iloc_spec_grammar.specs.Syntax.{LanguageLengths, Text, AreLengths, languages}
 use Rattle.iloc_spec_grammar.specs.Meaning.{Locale, Means}
 use Rattle.iloc_spec_grammar.specs.Tree.{IsTreeWellFormed}

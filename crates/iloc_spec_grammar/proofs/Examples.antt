@@ -1,6 +1,6 @@
 -- Worked examples, computed by the plain program.
 use Rattle.std.proofs.lemmas.Bool.{both_ways}
-use Rattle.std.proofs.Common.{◌≡◌, ℕ, List, [], ◌∷◌, refl, codes, Result, Ok, Err, arith, true≢false, None}
+use Rattle.std.proofs.Common.{◌≡◌, [], ◌∷◌, refl, codes, Result, Ok, Err, arith, None}
 use Rattle.iloc_spec_grammar.specs.Syntax.{code_t, Text, pieces, join, is_word, lower, upper, title, is_true}
 use Rattle.iloc_spec_grammar.specs.Syntax.{languages}
 use Rattle.iloc_spec_grammar.specs.Syntax.{SpelledIdentifier, Identifier}

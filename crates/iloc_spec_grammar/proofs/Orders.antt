@@ -38,12 +38,6 @@ turned (Reordered.front_kept r) = Reordered.front_kept (turned r)
 turned Reordered.first_two = Reordered.first_two
 turned (Reordered.in_turn r s) = Reordered.in_turn (turned s) (turned r)
 
--- the same list before both, and behind both
-pub reordered_before : {X : Type 0} (zs : List X) {xs ys : List X} → Reordered xs ys →
-    Reordered (zs ++ xs) (zs ++ ys)
-reordered_before [] r = r
-reordered_before (z ∷ zs) r = Reordered.front_kept (reordered_before zs r)
-
 pub reordered_after : {X : Type 0} (zs : List X) {xs ys : List X} → Reordered xs ys →
     Reordered (xs ++ zs) (ys ++ zs)
 reordered_after zs Reordered.none = itself zs

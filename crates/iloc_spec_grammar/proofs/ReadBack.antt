@@ -179,10 +179,10 @@ pieces_spelled w h o = pieces-join w.id.language _ (written_hyphen_free w h o)
 
 -- lists of entries in order
 
-nat_lt_from : (a b : ℕ) → is_lt (nat_cmp a b) ≡ true → a < b
+pub nat_lt_from : (a b : ℕ) → is_lt (nat_cmp a b) ≡ true → a < b
 nat_lt_from a b h = grind (arith, nat_tests)
 
-nat_lt_to : (a b : ℕ) → a < b → is_lt (nat_cmp a b) ≡ true
+pub nat_lt_to : (a b : ℕ) → a < b → is_lt (nat_cmp a b) ≡ true
 nat_lt_to a b h = grind (arith, nat_tests)
 
 below_lt : {X : Type 0} (k : ℕ) (es : List (ℕ × X)) → below_all nat_cmp k es ≡ true →

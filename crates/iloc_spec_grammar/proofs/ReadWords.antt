@@ -1,5 +1,5 @@
 -- Reading a word.
-use Rattle.std.proofs.Common.{◌≡◌, ◌↔◌, ℕ, false, List, length, refl, sym, ap, ◌∙◌, Some, Ok, Err, Bool, true}
+use Rattle.std.proofs.Common.{◌≡◌, ◌↔◌, false, length, refl, sym, ap, ◌∙◌, Some, Ok, Err, Bool, true}
 use Rattle.std.proofs.Common.{Result, cond}
 use Rattle.iloc_spec_grammar.specs.Syntax.{Text, Kind, is_word, IsWord, normal, lower, word, read}
 use Rattle.iloc_spec_grammar.specs.Values.{IsNormal}

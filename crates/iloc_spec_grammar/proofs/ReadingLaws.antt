@@ -103,19 +103,19 @@ take_first-append test [] [] h = refl
 take_first-append test [] (q ∷ rest) h = rw h
 take_first-append test (p ∷ ps) rest h = refl
 
-skip_first-append : (test : Text → Bool) (ps rest : List Text) → EndsBefore test rest →
+pub skip_first-append : (test : Text → Bool) (ps rest : List Text) → EndsBefore test rest →
     skip_first test (ps ++ rest) ≡ skip_first test ps ++ rest
 skip_first-append test [] [] h = refl
 skip_first-append test [] (q ∷ rest) h = rw h
 skip_first-append test (p ∷ ps) rest h = cond-map (λ l. l ++ rest) _ _ refl refl refl
 
-keep_while-append : (test : Text → Bool) (ps rest : List Text) → EndsBefore test rest →
+pub keep_while-append : (test : Text → Bool) (ps rest : List Text) → EndsBefore test rest →
     passing test (ps ++ rest) ≡ passing test ps
 keep_while-append test [] [] h = refl
 keep_while-append test [] (q ∷ rest) h = rw h
 keep_while-append test (p ∷ ps) rest h = ap (λ l. cond (test p) (p ∷ l) []) (keep_while-append test ps rest h)
 
-skip_while-append : (test : Text → Bool) (ps rest : List Text) → EndsBefore test rest →
+pub skip_while-append : (test : Text → Bool) (ps rest : List Text) → EndsBefore test rest →
     past test (ps ++ rest) ≡ past test ps ++ rest
 skip_while-append test [] [] h = refl
 skip_while-append test [] (q ∷ rest) h = rw h

@@ -35,7 +35,7 @@ use Rattle.iloc_spec_grammar.proofs.Singletons.{no_t, no_u}
 abbrev pub IsLong : Text → Type 0
 IsLong p = is_one_byte p ≡ false
 
-long : (n : ℕ) → 2 ≤ n → (n == 1) ≡ false
+pub long : (n : ℕ) → 2 ≤ n → (n == 1) ≡ false
 long n h = ne_eqb _ _ (λ e. absurd (omega arith))
 
 pub long_script : (p : Text) → IsWord Script p → IsLong p
@@ -82,21 +82,18 @@ long_extension T t c (other ps) h =
 
 -- blocks
 
-Raw : Type 0
-Raw = Block
-
 front_before : (xs : List Text) (bs : List Block) → AllByRecursion IsLong xs →
     front (xs ++ flat_map block_pieces bs) ≡ xs
 front_before [] [] h = refl
 front_before [] (b ∷ bs) h = refl
 front_before (x ∷ xs) bs h = rw h.0 (ap (λ l. x ∷ l) (front_before xs bs h.1))
 
-blocks_skip : (p : Text) (ps : List Text) → IsLong p → blocks (p ∷ ps) ≡ blocks ps
+pub blocks_skip : (p : Text) (ps : List Text) → IsLong p → blocks (p ∷ ps) ≡ blocks ps
 blocks_skip [] ps h = refl
 blocks_skip (c ∷ []) ps h = absurd (true≢false h)
 blocks_skip (c ∷ d ∷ p) ps h = refl
 
-blocks_past : (xs ys : List Text) → AllByRecursion IsLong xs → blocks (xs ++ ys) ≡ blocks ys
+pub blocks_past : (xs ys : List Text) → AllByRecursion IsLong xs → blocks (xs ++ ys) ≡ blocks ys
 blocks_past [] ys h = refl
 blocks_past (x ∷ xs) ys h = blocks_skip x (xs ++ ys) h.0 ∙ blocks_past xs ys h.1
 

@@ -3,7 +3,6 @@ use Rattle.std.proofs.Common.{◌≡◌, ◌⊎◌, inl, inr, ℕ, Bool, true, f
 use Rattle.std.proofs.Common.{ap, ◌∙◌, subst, true≢false, Result, Ok, Err, MatchResult, ◌↔◌, map}
 use Rattle.std.specs.List.{list_any}
 use Rattle.std.specs.Char.{is_ascii_alphanumeric}
-use Rattle.std.specs.Cmp.{unsigned_tied}
 use Rattle.std.specs.Ordering.{nat_cmp, eq_by_cmp}
 use Rattle.std.proofs.Math.Bool.{or-false}
 use Rattle.std.proofs.lemmas.Bool.{or_cases, cases_Bool, false_from_ne_true}
@@ -142,7 +141,7 @@ fault_of_first {T = T} x = let r = bad_split T x in (
 
 -- whole texts
 
-first_of_head : (ps : List Text) → first_piece (head ps) ≡ first_piece ps
+pub first_of_head : (ps : List Text) → first_piece (head ps) ≡ first_piece ps
 first_of_head [] = refl
 first_of_head (p ∷ ps) = refl
 

@@ -38,10 +38,10 @@ abbrev or_empty : Option (List Text) → List Text
 or_empty None = []
 or_empty (Some ps) = ps
 
-same_test : (q c : ℕ) → (c == q) ≡ eq_by_cmp nat_cmp q c
+pub same_test : (q c : ℕ) → (c == q) ≡ eq_by_cmp nat_cmp q c
 same_test q c = grind (arith, nat_tests)
 
-none_after : (q : ℕ) (bs : List Block) →
+pub none_after : (q : ℕ) (bs : List Block) →
     list_any (eq_by_cmp nat_cmp q) (map (λ b. lower_singleton b) bs) ≡ false → after q bs ≡ []
 none_after q [] d = refl
 none_after q (b ∷ bs) d =

@@ -14,7 +14,6 @@ use Rattle.iloc_spec_grammar.specs.Tree.{IsTransformBlock, IsExtension, IsWritte
 use Rattle.iloc_spec_grammar.specs.Meaning.{Locale, Means, AreBlocks, normal_identifier, normal_extensions}
 use Rattle.iloc_spec_grammar.specs.Values.{Reordered, Rule, AttributesStep, FieldsStep, IdentifierStep}
 use Rattle.iloc_spec_grammar.specs.Values.{BlockStep, BlocksStep, TextStep, IdentifierTextStep}
-use Rattle.iloc_spec_grammar.specs.Values.{identifier_text}
 use Rattle.iloc_spec_grammar.specs.TreeSteps.{TreeRule, TreeIdentifierStep, ExtensionStep, Step, TreeTextStep}
 use Rattle.iloc_spec_grammar.specs.TreeSteps.{TreeIdentifierTextStep, written}
 use Rattle.iloc_spec_grammar.specs.Reading.{identifier_of, written_of, unicode_of, transform_of, extension_of}

@@ -1,6 +1,6 @@
 -- The printed text is the text of the printed tree, so that the tests tell which values are well-formed.
 use Rattle.std.proofs.Common.{◌≡◌, ◌↔◌, ℕ, ◌+◌, ◌||◌, Bool, true, false, cond, List, [], ◌∷◌, ◌++◌, length}
-use Rattle.std.proofs.Common.{map, flat_map, refl, sym, ap, ◌∙◌, subst, option_map, option_to_list, is_some}
+use Rattle.std.proofs.Common.{map, flat_map, refl, sym, ap, ◌∙◌, subst, option_to_list, is_some}
 use Rattle.std.proofs.Common.{nat_lt, append_assoc, append-nil}
 use Rattle.std.proofs.lemmas.Bool.{cond_both}
 use Rattle.std.proofs.lemmas.List.{map-append}
@@ -13,7 +13,7 @@ use Rattle.iloc_spec_grammar.specs.Tree.{spelling, transform_form, unicode_form,
 use Rattle.iloc_spec_grammar.specs.Tree.{extensions_form, before_t, after_t, printed, tree_text, form_pieces}
 use Rattle.iloc_spec_grammar.specs.Tree.{TreeMeans, IsTreeWellFormed, spelled_transform, spelled_unicode}
 use Rattle.iloc_spec_grammar.specs.Meaning.{Locale, Extensions, Means}
-use Rattle.iloc_spec_grammar.specs.Values.{lower_identifier, spelled_fields, unicode_spelling}
+use Rattle.iloc_spec_grammar.specs.Values.{unicode_spelling}
 use Rattle.iloc_spec_grammar.specs.Values.{transform_spelling, other_spelling, private_spelling}
 use Rattle.iloc_spec_grammar.specs.Values.{extensions_spelling, text, IsValue, IsWellFormed}
 use Rattle.iloc_spec_grammar.proofs.PartTexts as parts

@@ -1,5 +1,5 @@
 -- Worked steps, by computing the test of each, and two texts that no step joins.
-use Rattle.std.proofs.Common.{◌≡◌, ℕ, List, refl, sym, ap, ◌∙◌, codes, Result, Ok, Err, Bool, true, false}
+use Rattle.std.proofs.Common.{◌≡◌, ℕ, refl, sym, ap, ◌∙◌, codes, Result, Ok, Err, Bool, true, false}
 use Rattle.std.proofs.Common.{true≢false}
 use Rattle.iloc_spec_grammar.specs.Syntax.{Text, pieces, join, is_word, lower, upper, title, is_true, is_same}
 use Rattle.iloc_spec_grammar.specs.Syntax.{languages}

@@ -1,5 +1,5 @@
 -- The tests of the steps between texts.
-use Rattle.std.proofs.Common.{◌≡◌, inl, inr, ℕ, Bool, true, List, [], ◌∷◌, Result, Ok, Err, refl, sym, ap}
+use Rattle.std.proofs.Common.{◌≡◌, inl, inr, true, [], Result, Ok, Err, refl, sym, ap}
 use Rattle.std.proofs.Common.{ap₂, ◌∙◌, subst, true≢false}
 use Rattle.std.specs.Result.{is_ok}
 use Rattle.std.proofs.lemmas.Bool.{and_parts, and_from, or_cases, or_left, or_right}
@@ -7,11 +7,11 @@ use Rattle.iloc_spec_grammar.specs.Syntax.{LanguageLengths, Text, pieces, join, 
 use Rattle.iloc_spec_grammar.specs.Syntax.{IsIdentifier, identifier_pieces}
 use Rattle.iloc_spec_grammar.specs.Tree.{IsWritten, spelling, meaning}
 use Rattle.iloc_spec_grammar.specs.Meaning.{normal_identifier, Fault}
-use Rattle.iloc_spec_grammar.specs.Values.{TextStep, IdentifierTextStep, identifier_text}
+use Rattle.iloc_spec_grammar.specs.Values.{TextStep, IdentifierTextStep}
 use Rattle.iloc_spec_grammar.specs.TreeSteps.{VariantOrder, TreeTextStep, TreeIdentifierTextStep}
 use Rattle.iloc_spec_grammar.specs.Reading.{identifier_of, written_of}
 use Rattle.iloc_spec_grammar.specs.Computing.{identifier_result, locale_result}
-use Rattle.iloc_spec_grammar.proofs.PiecesLaws.{pieces_nonempty, join-pieces}
+use Rattle.iloc_spec_grammar.proofs.PiecesLaws.{join-pieces, at_pieces}
 use Rattle.iloc_spec_grammar.proofs.IdentifierLaws.{pieces-identifier_of, identifier_of-pieces}
 use Rattle.iloc_spec_grammar.proofs.IdentifierTexts.{pieces-identifier_text}
 use Rattle.iloc_spec_grammar.proofs.Readings.{written_of-spelling}
@@ -33,15 +33,9 @@ ok_value (Err f) e = absurd (true≢false (sym e))
 
 -- whole texts
 
--- what holds of every nonempty list holds of a text's pieces
-of_pieces : (P : List Text → Type 0) → ((p : Text) (ps : List Text) → P (p ∷ ps)) → (t : Text) →
-    P (pieces t)
-of_pieces P f t = (elim (pieces t) as (λ ps. pieces t ≡ ps → P ps)
-    [ [] ↦ λ e. absurd (pieces_nonempty t e) | p ∷ ps ↦ λ e. f p ps ]) refl
-
 -- what is read of a text spells it
 read_spelling : (t : Text) → spelling (written_of (pieces t)) ≡ pieces t
-read_spelling t = of_pieces (λ ps. spelling (written_of ps) ≡ ps) spelling-written_of t
+read_spelling t = at_pieces (λ ps. spelling (written_of ps) ≡ ps) spelling-written_of t
 
 read_text : (t : Text) → join (spelling (written_of (pieces t))) ≡ t
 read_text t = ap join (read_spelling t) ∙ join-pieces t
@@ -90,7 +84,7 @@ tests_text_step T table t u = record {
 
 read_identifier_spelling : (t : Text) → identifier_pieces (identifier_of (pieces t)) ≡ pieces t
 read_identifier_spelling t =
-    of_pieces (λ ps. identifier_pieces (identifier_of ps) ≡ ps) pieces-identifier_of t
+    at_pieces (λ ps. identifier_pieces (identifier_of ps) ≡ ps) pieces-identifier_of t
 
 read_identifier_text : (t : Text) → join (identifier_pieces (identifier_of (pieces t))) ≡ t
 read_identifier_text t = ap join (read_identifier_spelling t) ∙ join-pieces t

@@ -79,7 +79,7 @@ ascending_different ws h =
 
 -- identifiers
 
-optional_fixed : (k : Kind) (o : Option Text) → IfSome o (IsNormal k) → option_map (normal k) o ≡ o
+pub optional_fixed : (k : Kind) (o : Option Text) → IfSome o (IsNormal k) → option_map (normal k) o ≡ o
 optional_fixed k None h = refl
 optional_fixed k (Some w) h = ap Some h.1
 
@@ -157,7 +157,7 @@ normal-lower_identifier i = same_identifier _ _ _ _ _ _ _ _ (lower-lower i.langu
 
 -- the unicode part
 
-attribute_from : (w : Text) → IsWord Subtag w → length w ≢ 2 → IsWord Attribute w
+pub attribute_from : (w : Text) → IsWord Subtag w → length w ≢ 2 → IsWord Attribute w
 unfolding is_word
 attribute_from w h n = grind (arith, nat_tests)
 

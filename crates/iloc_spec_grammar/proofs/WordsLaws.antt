@@ -1,5 +1,5 @@
 -- Normal words are words, and normal. Kinds that stand side by side have no word in common.
-use Rattle.std.proofs.Common.{◌≡◌, inl, inr, ℕ, zero, suc, ◌≤◌, Bool, true, false, ◌&&◌, ◌||◌, ◌==◌, List, []}
+use Rattle.std.proofs.Common.{◌≡◌, inl, inr, ℕ, zero, suc, ◌≤◌, Bool, true, false, ◌&&◌, ◌||◌, ◌==◌, []}
 use Rattle.std.proofs.Common.{◌∷◌, length, map, slice_index, refl, sym, ap, ap₂, ◌∙◌, arith, ◌↔◌}
 use Rattle.std.specs.List.{list_all}
 use Rattle.std.specs.Char.{is_ascii_alphabetic, is_ascii_digit, is_ascii_alphanumeric, to_ascii_lowercase}
@@ -18,7 +18,7 @@ use Rattle.iloc_spec_grammar.proofs.General.{map-then, list_all-mapped}
 
 -- bytes
 
-alphabetic-lower : (c : ℕ) → is_ascii_alphabetic (to_ascii_lowercase c) ≡ is_ascii_alphabetic c
+pub alphabetic-lower : (c : ℕ) → is_ascii_alphabetic (to_ascii_lowercase c) ≡ is_ascii_alphabetic c
 alphabetic-lower c = grind (arith, nat_tests)
 
 digit-lower : (c : ℕ) → is_ascii_digit (to_ascii_lowercase c) ≡ is_ascii_digit c

@@ -16,7 +16,7 @@ use Rattle.iloc_spec_grammar.specs.Syntax.{lower_singleton, HasWords, AllDiffere
 use Rattle.iloc_spec_grammar.specs.Syntax.{IsOther, unicode_pieces, transform_pieces, is_other_singleton}
 use Rattle.iloc_spec_grammar.specs.Syntax.{IsAmong}
 use Rattle.std.specs.Char.{is_ascii_alphanumeric, to_ascii_lowercase}
-use Rattle.std.specs.List.{list_any, AllByRecursion}
+use Rattle.std.specs.List.{AllByRecursion}
 pub use Rattle.iloc_spec_grammar.specs.Syntax.{is_one_byte, front, blocks, head, tail_blocks, first_piece}
 
 -- the map of the entries: by ascending keys (UTS #35 3.2.1), and of equal keys the first stays (RFC

@@ -8,17 +8,16 @@ use Rattle.iloc_spec_grammar.specs.Syntax.{UnicodeKey, TransformKey, Attribute, 
 use Rattle.iloc_spec_grammar.specs.Syntax.{lower, kept, lower_singleton, is_other_singleton, first_piece}
 use Rattle.iloc_spec_grammar.specs.Meaning.{set_of, normal_fields, normal_values}
 use Rattle.iloc_spec_grammar.specs.Reading.{is_two, rest_of, after_front}
-use Rattle.iloc_spec_grammar.proofs.Readings.{language_no_key}
+use Rattle.iloc_spec_grammar.proofs.Readings.{language_no_key, not_two}
 use Rattle.iloc_spec_grammar.proofs.Singletons.{no_u, no_t, no_x}
 use Rattle.iloc_spec_parts.specs.Fronts.{attributes_front, after_attributes, is_bad_key, BeginsField}
 use Rattle.iloc_spec_parts.specs.Fronts.{has_other_length, other_front, keywords_kept}
-use Rattle.iloc_spec_parts.proofs.FrontLaws.{not_two_bytes}
 use Rattle.iloc_spec_parts.specs.Inline.{IsShortUnicode, IsShortTransform, IsShortOther, IsShortBlock}
 
 -- after `u`
 
-two_no_attribute : (p : Text) → is_two p ≡ true → is_word Attribute p ≡ false
-two_no_attribute p two = false_from_ne_true _ (λ h. true≢false (sym two ∙ not_two_bytes p h))
+pub two_no_attribute : (p : Text) → is_two p ≡ true → is_word Attribute p ≡ false
+two_no_attribute p two = false_from_ne_true _ (λ h. true≢false (sym two ∙ not_two p h))
 
 none_kept : (p : Text) (qs : List Text) → is_two p ≡ true → is_word UnicodeKey p ≡ false →
     keywords_kept (p ∷ qs) ≡ []

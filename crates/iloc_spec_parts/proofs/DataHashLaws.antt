@@ -1,5 +1,5 @@
 -- Subdivisions and data locales are told by what they feed a hasher.
-use Rattle.std.proofs.Common.{◌≡◌, ◌↔◌, ℕ, ◌^◌, ◌<◌, ◌≤◌, ◌+◌, List, [], ◌++◌, length, Option, Some, None}
+use Rattle.std.proofs.Common.{◌≡◌, ◌↔◌, ℕ, ◌^◌, ◌<◌, ◌≤◌, ◌+◌, [], ◌++◌, length, Option, Some, None}
 use Rattle.std.proofs.Common.{refl, ap, arith, length-append}
 use Rattle.std.specs.Hash.{HashWrites, option}
 use Rattle.iloc_spec_parts.specs.Hashes.{HashesByOrder, word_fed}

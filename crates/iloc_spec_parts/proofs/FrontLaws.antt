@@ -1,5 +1,5 @@
 -- The readers of what comes after `u`, after other singletons and after `x`.
-use Rattle.std.proofs.Common.{◌≡◌, ◌↔◌, inl, inr, ℕ, ◌+◌, ◌<◌, ◌≤◌, true, false, not, ◌&&◌, ◌||◌, ◌==◌}
+use Rattle.std.proofs.Common.{◌≡◌, ◌↔◌, inl, inr, ℕ, ◌+◌, ◌<◌, ◌≤◌, true, false, not, ◌&&◌, ◌||◌}
 use Rattle.std.proofs.Common.{nat_lt, List, [], ◌∷◌, ◌++◌, length, map, refl, sym, ap, ap₂, ◌∙◌, subst, arith}
 use Rattle.std.proofs.Common.{true≢false, append_assoc, Result, Ok, Err}
 use Rattle.std.specs.List.{AllByRecursion, list_any}
@@ -17,7 +17,8 @@ use Rattle.iloc_spec_grammar.specs.Reading.{EndsBefore, starts_block, from_block
 use Rattle.iloc_spec_grammar.proofs.WordsLaws.{length-attribute, length-unicode_key}
 use Rattle.iloc_spec_grammar.proofs.ValuesLaws.{all_weaker}
 use Rattle.iloc_spec_grammar.proofs.ReadBack.{all_append}
-use Rattle.iloc_spec_grammar.proofs.Readings.{IsLong, long_attribute, long_between, keywords_pass}
+use Rattle.iloc_spec_grammar.proofs.Readings.{IsLong, long_attribute, long_between, keywords_pass, not_two}
+use Rattle.iloc_spec_grammar.proofs.Readings.{two as two_bytes_of}
 use Rattle.iloc_spec_grammar.proofs.Readings.{fields_read}
 use Rattle.iloc_spec_grammar.proofs.ReadingLaws.{front-from_block, from_block_starts, all_while}
 use Rattle.iloc_spec_grammar.specs.Computing.{is_other, is_private}
@@ -53,17 +54,11 @@ good_pieces [] h n = tt
 good_pieces (p ∷ ps) h n = let parts = or_parts (is_bad_key p) (list_any is_bad_key ps) n in
     ((λ e. not-false _ (rw e at parts.0), λ e. rw e at h.0), good_pieces ps h.1 parts.1)
 
-pub two_bytes_of : (p : Text) → IsWord UnicodeKey p → is_two p ≡ true
-two_bytes_of p k = ap (λ n. n == 2) (length-unicode_key p k)
-
-pub not_two_bytes : (p : Text) → IsWord Attribute p → is_two p ≡ false
-not_two_bytes p h = let l = (length-attribute p h).0 in grind (arith, nat_tests)
-
 pub good_key : (p : Text) → IsWord UnicodeKey p → is_bad_key p ≡ false
 good_key p h = ap (λ b. is_two p && not b) h ∙ and-false (is_two p)
 
 pub good_value : (p : Text) → IsWord Attribute p → is_bad_key p ≡ false
-good_value p h = ap (λ b. b && not (is_word UnicodeKey p)) (not_two_bytes p h)
+good_value p h = ap (λ b. b && not (is_word UnicodeKey p)) (not_two p h)
 
 keywords_no_fault : (fs : Fields) → AllByRecursion IsKeyword fs →
     list_any is_bad_key (fields_pieces fs) ≡ false

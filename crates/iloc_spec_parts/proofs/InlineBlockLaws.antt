@@ -28,17 +28,9 @@ use Rattle.iloc_spec_parts.proofs.ShortFronts.{IsShortByFronts, short_by_fronts,
 use Rattle.iloc_spec_parts.proofs.ShortFronts.{none_first}
 use Rattle.iloc_spec_parts.proofs.SmallShapes.{no_normal_fields}
 use Rattle.iloc_spec_parts.proofs.TransformLaws.{one_front, one_longest, front_language, transform_spelled}
+use Rattle.iloc_spec_grammar.proofs.SameMeaning.{none_after}
 
 -- the pieces after the singleton of a block are its own
-
-same_test : (q c : ℕ) → (c == q) ≡ eq_by_cmp nat_cmp q c
-same_test q c = grind (arith, nat_tests)
-
-pub none_after : (q : ℕ) (bs : List Block) →
-    list_any (eq_by_cmp nat_cmp q) (map (λ b. lower_singleton b) bs) ≡ false → after q bs ≡ []
-none_after q [] d = refl
-none_after q (b ∷ bs) d =
-    let parts = or_parts _ _ d in rw (same_test q (lower_singleton b) ∙ parts.0) (none_after q bs parts.1)
 
 later_after : (d : Block) (all bs : List Block) →
     list_any (eq_by_cmp nat_cmp (lower_singleton d)) (map (λ b. lower_singleton b) bs) ≡ false →

@@ -23,14 +23,14 @@ use Rattle.iloc_spec_grammar.proofs.RuleTests.{Tests, tests_and, tests_all, test
 use Rattle.iloc_spec_grammar.proofs.ReadBack.{all_append}
 use Rattle.iloc_spec_grammar.proofs.Readings.{written_of-spelling, blocks-spelling}
 use Rattle.iloc_spec_grammar.proofs.ComputingLaws.{computed_means}
-use Rattle.iloc_spec_grammar.proofs.SameMeaning.{tree_means, means_by_tree}
+use Rattle.iloc_spec_grammar.proofs.SameMeaning.{tree_means, means_by_tree, none_after}
 use Rattle.iloc_spec_grammar.proofs.Singletons.{no_u}
 use Rattle.iloc_spec_parts.specs.Small.{SmallLocale, identifier_of_small, keyword_of_small, IsSmall}
 use Rattle.iloc_spec_parts.specs.Inline.{IsInline}
 use Rattle.iloc_spec_parts.specs.SmallComputing.{has_few_values, has_few_words, few_where_read, is_inline}
 use Rattle.iloc_spec_parts.specs.Fronts.{after_attributes, keywords_front}
 use Rattle.iloc_spec_parts.proofs.FrontLaws.{keywords_taken}
-use Rattle.iloc_spec_parts.proofs.InlineBlockLaws.{none_after, each_after}
+use Rattle.iloc_spec_parts.proofs.InlineBlockLaws.{each_after}
 use Rattle.iloc_spec_parts.proofs.SmallShapes.{one_at_most, none_mapped, none_there, no_normal_fields}
 
 -- what a text means has few words

@@ -1,5 +1,5 @@
 -- Each value of an enum keyword is read of the list that it gives.
-use Rattle.std.proofs.Common.{rules, ◌≡◌, List, [], ◌∷◌, refl, ap, ◌∙◌, Some, false, ℕ}
+use Rattle.std.proofs.Common.{rules, ◌≡◌, List, [], ◌∷◌, refl, ap, ◌∙◌, Some, false}
 use Rattle.std.specs.List.{AllByRecursion}
 use Rattle.iloc_spec_grammar.specs.Syntax.{Text, Script, CurrencyType, is_true, lower, word}
 use Rattle.iloc_spec_grammar.specs.Values.{IsNormal}

@@ -10,7 +10,6 @@ use Rattle.iloc_spec_parts.proofs.FrontLaws.{unicode_reader, unicode_answer, oth
 use Rattle.iloc_spec_parts.proofs.FrontLaws.{private_reader, private_answer}
 use Rattle.iloc_spec_parts.proofs.TransformLaws.{transform_reader, transform_answer}
 use Rattle.iloc_spec_parts.proofs.PartLaws.{part_reader}
-use Rattle.std.proofs.Common.{ℕ, Bool}
 
 pub unicode_part : IsReader (PartRead (is_letter code_u) UnicodeRead)
     (PartFault (is_letter code_u) UnicodeFault)

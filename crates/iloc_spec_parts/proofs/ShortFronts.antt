@@ -1,25 +1,24 @@
 -- Short blocks: they are short whatever follows them. And other words for them: by the longest front
 -- of an identifier, and by the singletons that were seen.
-use Rattle.std.proofs.Common.{◌≡◌, ◌↔◌, ℕ, ◌≤◌, Bool, true, false, cond, ◌==◌, ◌||◌, List, [], ◌∷◌, ◌++◌}
+use Rattle.std.proofs.Common.{◌≡◌, ◌↔◌, ℕ, ◌≤◌, Bool, true, false, cond, ◌||◌, List, [], ◌∷◌, ◌++◌}
 use Rattle.std.proofs.Common.{length, map, refl, sym, ap, ◌∙◌, subst, arith, Option, true≢false}
-use Rattle.std.specs.List.{AllByRecursion, list_any}
-use Rattle.std.specs.Ordering.{nat_cmp, eq_by_cmp}
+use Rattle.std.specs.List.{AllByRecursion}
 use Rattle.std.proofs.lemmas.Bool.{cond_both, false_from_ne_true, eqb-true, or_parts, both_ways, or_from}
-use Rattle.std.proofs.lemmas.Bool.Decides.{nat_tests}
 use Rattle.iloc_spec_grammar.specs.Syntax.{LanguageLengths, Block, Text, Kind, Language, Script, Region}
 use Rattle.iloc_spec_grammar.specs.Syntax.{Variant, Attribute, is_word}
 use Rattle.iloc_spec_grammar.specs.Syntax.{IsWord, AreLengths, lower, word_cmp, SpelledIdentifier, Fields}
 use Rattle.iloc_spec_grammar.specs.Syntax.{lower_singleton, first_piece}
 use Rattle.iloc_spec_grammar.specs.Tree.{HasSingleton, IsNew, IsBlock}
 use Rattle.iloc_spec_grammar.specs.Meaning.{set_of, normal_fields, normal_values, RepeatsVariant, IsSecond}
-use Rattle.iloc_spec_grammar.specs.Reading.{passing, past, take_first, skip_first, EndsBefore, starts_block}
+use Rattle.iloc_spec_grammar.specs.Reading.{passing, past, skip_first, EndsBefore, starts_block}
 use Rattle.iloc_spec_grammar.specs.Reading.{is_two, after_script, after_region, front_of, after_front}
 use Rattle.iloc_spec_grammar.specs.Reading.{IdentifierFront, fields_from}
 use Rattle.iloc_spec_grammar.specs.Computing.{all_different}
 use Rattle.iloc_spec_grammar.proofs.WordsLaws.{length-language, length-transform_key}
 use Rattle.iloc_spec_grammar.proofs.FaultLaws.{AreGood}
 use Rattle.iloc_spec_grammar.proofs.Readings.{IsLong, long_script, long_region, long_variant, long_attribute}
-use Rattle.iloc_spec_grammar.proofs.ReadingLaws.{front_is_front}
+use Rattle.iloc_spec_grammar.proofs.ReadingLaws.{front_is_front, skip_while-append, skip_first-append}
+use Rattle.iloc_spec_grammar.proofs.ReadingLaws.{keep_while-append}
 use Rattle.iloc_spec_grammar.proofs.RuleTests.{tests_different, tests_not}
 use Rattle.iloc_spec_grammar.proofs.SameMeaning.{good_blocks, blocks_spelled}
 use Rattle.iloc_spec_parts.specs.Fronts.{attributes_read, after_attributes, is_keyword_piece, keywords_front}
@@ -31,34 +30,6 @@ use Rattle.iloc_spec_parts.proofs.TransformLaws.{front_language, one_longest, no
 use Rattle.iloc_spec_parts.proofs.TransformLaws.{read_no_repeats, repeats_in_block}
 
 -- a front that ends before the rest
-
-passing_before : (test : Text → Bool) (ps rest : List Text) → EndsBefore test rest →
-    passing test (ps ++ rest) ≡ passing test ps
-passing_before test [] [] s = refl
-passing_before test [] (q ∷ qs) s = rw s refl
-passing_before test (p ∷ ps) rest s = ap (λ l. cond (test p) (p ∷ l) []) (passing_before test ps rest s)
-
-past_before : (test : Text → Bool) (ps rest : List Text) → EndsBefore test rest →
-    past test (ps ++ rest) ≡ past test ps ++ rest
-past_before test [] [] s = refl
-past_before test [] (q ∷ qs) s = rw s refl
-past_before test (p ∷ ps) rest s = elim (test p)
-    as (λ b. cond b (past test (ps ++ rest)) (p ∷ (ps ++ rest)) ≡ cond b (past test ps) (p ∷ ps) ++ rest)
-    [ true ↦ past_before test ps rest s | false ↦ refl ]
-
-take_before : (test : Text → Bool) (ps rest : List Text) → EndsBefore test rest →
-    take_first test (ps ++ rest) ≡ take_first test ps
-take_before test [] [] s = refl
-take_before test [] (q ∷ qs) s = rw s refl
-take_before test (p ∷ ps) rest s = refl
-
-skip_before : (test : Text → Bool) (ps rest : List Text) → EndsBefore test rest →
-    skip_first test (ps ++ rest) ≡ skip_first test ps ++ rest
-skip_before test [] [] s = refl
-skip_before test [] (q ∷ qs) s = rw s refl
-skip_before test (p ∷ ps) rest s =
-    elim (test p) as (λ b. cond b (ps ++ rest) (p ∷ (ps ++ rest)) ≡ cond b ps (p ∷ ps) ++ rest)
-    [ true ↦ refl | false ↦ refl ]
 
 -- no word of more than one byte begins what may follow a block
 long_ends : (k : Kind) → ((p : Text) → IsWord k p → IsLong p) → (rest : List Text) →
@@ -73,7 +44,7 @@ keywords_before : (ps rest : List Text) → starts_block rest ≡ true →
 keywords_before [] [] s = refl
 keywords_before [] (q ∷ qs) s = rw (block_ends (q ∷ qs) s).two_bytes refl
 keywords_before (p ∷ ps) rest s = ap (λ l. cond (is_two p) l [])
-    (passing_before is_keyword_piece (p ∷ ps) rest (block_ends rest s).keyword_piece)
+    (keep_while-append is_keyword_piece (p ∷ ps) rest (block_ends rest s).keyword_piece)
 
 pub short_unicode_front : (ps rest : List Text) → starts_block rest ≡ true →
     IsShortUnicode ps ↔ IsShortUnicode (ps ++ rest)
@@ -92,10 +63,10 @@ short_unicode_front ps rest s = (
   where
     attributes : attributes_read (ps ++ rest) ≡ attributes_read ps
     attributes = ap (λ l. set_of (map lower l))
-        (passing_before (is_word Attribute) ps rest (block_ends rest s).attribute)
+        (keep_while-append (is_word Attribute) ps rest (block_ends rest s).attribute)
 
     keywords : keywords_kept (after_attributes (ps ++ rest)) ≡ keywords_kept (after_attributes ps)
-    keywords = ap keywords_kept (past_before (is_word Attribute) ps rest (block_ends rest s).attribute)
+    keywords = ap keywords_kept (skip_while-append (is_word Attribute) ps rest (block_ends rest s).attribute)
         ∙ ap (λ l. before_bad_key (fields_from is_two l)) (keywords_before (after_attributes ps) rest s)
 
 -- after `t`
@@ -107,20 +78,20 @@ after_identifier T ps = cond (is_word (Language T) (first_piece ps)) (after_fron
 region_before : (p : Text) (ps rest : List Text) → starts_block rest ≡ true →
     after_region (p ∷ (ps ++ rest)) ≡ after_region (p ∷ ps) ++ rest
 region_before p ps rest s = ap (skip_first (is_word Region))
-    (skip_before (is_word Script) ps rest (long_ends Script long_script rest s))
-    ∙ skip_before (is_word Region) (after_script (p ∷ ps)) rest (long_ends Region long_region rest s)
+    (skip_first-append (is_word Script) ps rest (long_ends Script long_script rest s))
+    ∙ skip_first-append (is_word Region) (after_script (p ∷ ps)) rest (long_ends Region long_region rest s)
 
 variants_before : (p : Text) (ps rest : List Text) → starts_block rest ≡ true →
     (front_of (p ∷ (ps ++ rest))).variants ≡ (front_of (p ∷ ps)).variants
 unfolding front_of
 variants_before p ps rest s = ap (passing (is_word Variant)) (region_before p ps rest s)
-    ∙ passing_before (is_word Variant) (after_region (p ∷ ps)) rest (long_ends Variant long_variant rest s)
+    ∙ keep_while-append (is_word Variant) (after_region (p ∷ ps)) rest (long_ends Variant long_variant rest s)
 
 after_before : (p : Text) (ps rest : List Text) → starts_block rest ≡ true →
     after_front (p ∷ (ps ++ rest)) ≡ after_front (p ∷ ps) ++ rest
 unfolding after_front
 after_before p ps rest s = ap (past (is_word Variant)) (region_before p ps rest s)
-    ∙ past_before (is_word Variant) (after_region (p ∷ ps)) rest (long_ends Variant long_variant rest s)
+    ∙ skip_while-append (is_word Variant) (after_region (p ∷ ps)) rest (long_ends Variant long_variant rest s)
 
 no_first_key : (rest : List Text) → starts_block rest ≡ true → BeginsField rest → ⊥
 no_first_key [] s b = true≢false (sym b.0 ∙ no_key_empty)

@@ -6,14 +6,14 @@ use Rattle.std.specs.List.{AllByRecursion}
 use Rattle.std.proofs.lemmas.Bool.{both_ways, cond_both, not-true}
 use Rattle.iloc_spec_grammar.specs.Syntax.{code_u, Text, pieces, join, AreLengths, Kind, Language, Script}
 use Rattle.iloc_spec_grammar.specs.Syntax.{Region, Variant}
-use Rattle.iloc_spec_grammar.specs.Syntax.{UnicodeKey, Attribute, IsWord, lower, normal, is_true, HasWords}
+use Rattle.iloc_spec_grammar.specs.Syntax.{UnicodeKey, Attribute, IsWord, lower, is_true, HasWords}
 use Rattle.iloc_spec_grammar.specs.Syntax.{word_cmp}
 use Rattle.iloc_spec_grammar.specs.Tree.{IsWritten, spelling, printed, spelled_identifier}
 use Rattle.iloc_spec_grammar.specs.Meaning.{normal_values}
 use Rattle.iloc_spec_grammar.specs.Values.{IsNormal, StrictlyAscends, IsValue, IsWellFormed}
 use Rattle.iloc_spec_grammar.specs.Values.{IsIdentifierValue, text}
 use Rattle.iloc_spec_grammar.proofs.ReadBack.{pieces_spelled, OfWords}
-use Rattle.iloc_spec_grammar.proofs.ValuesLaws.{value_identifier}
+use Rattle.iloc_spec_grammar.proofs.ValuesLaws.{value_identifier, optional_fixed}
 use Rattle.iloc_spec_grammar.proofs.WellRead.{option_normal}
 use Rattle.iloc_spec_grammar.proofs.Corollaries.{means_a_value, read_well_formed}
 use Rattle.iloc_spec_grammar.proofs.SameText.{text_is}
@@ -92,10 +92,6 @@ printed_small r = elim r.keyword
     ≡ small_written (spelled_identifier (identifier_of_small r.id)) (with_u k))
     [ None ↦ refl | Some k ↦ refl ]
 
-option_stays : (k : Kind) (o : Option Text) → IfSome o (IsNormal k) → option_map (normal k) o ≡ o
-option_stays k None h = refl
-option_stays k (Some w) h = ap Some h.1
-
 variant_stays : (o : Option Text) → IfSome o (IsNormal Variant) →
     first_item (map lower (option_to_list o)) ≡ o
 variant_stays None h = refl
@@ -121,8 +117,8 @@ small_back {T = T} r h = tree_is_small _ r (record {
   means = λ i. record {
     id = record {
       language = sym h.language.1 i;
-      script = sym (option_stays Script r.id.script h.script) i;
-      region = sym (option_stays Region r.id.region h.region) i;
+      script = sym (optional_fixed Script r.id.script h.script) i;
+      region = sym (optional_fixed Region r.id.region h.region) i;
       variant = sym (variant_stays r.id.variant h.variant) i;
     };
     keyword = sym (keyword_stays r.keyword h.key h.value) i;

@@ -159,9 +159,6 @@ one_small_identifier_fault ps (no_identifier l n) (no_identifier k m) = refl
 
 -- the first block
 
-abbrev letter_or_digit : Block → Bool
-letter_or_digit b = is_ascii_alphanumeric b.0
-
 has_block_fault : (b : Block) → SmallBlockFault b (block_fault b)
 unfolding block_fault
 has_block_fault b = cond_both (is_ascii_alphanumeric b.0) _ _ (SmallBlockFault b)

@@ -158,7 +158,7 @@ IsOfU b = lower_singleton b ≡ code_u
 abbrev HasPieces : Block → Type 0
 HasPieces b = (is_ascii_alphanumeric b.0 ≡ true) × (0 < length b.1)
 
-nothing_here : {X : Type 0} (xs : List X) → 0 < length xs → xs ≡ [] → ⊥
+pub nothing_here : {X : Type 0} (xs : List X) → 0 < length xs → xs ≡ [] → ⊥
 nothing_here [] h e = absurd (omega arith)
 nothing_here (x ∷ xs) h e = absurd (cc)
 

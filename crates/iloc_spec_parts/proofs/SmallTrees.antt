@@ -1,7 +1,7 @@
 -- Small texts by the trees that they spell.
 use Rattle.std.proofs.Common.{◌≡◌, ◌≢◌, ℕ, ◌≤◌, Bool, false, ◌==◌, List, [], ◌∷◌, ◌++◌, length, map, flat_map}
 use Rattle.std.proofs.Common.{refl, sym, ap, ◌∙◌, subst, arith, Option, Some, None, IfSome, option_map}
-use Rattle.std.proofs.Common.{true≢false, append-nil}
+use Rattle.std.proofs.Common.{append-nil}
 use Rattle.std.specs.List.{AllByRecursion}
 use Rattle.std.proofs.lemmas.Bool.{ne_eqb, both_ways}
 use Rattle.iloc_spec_grammar.specs.Syntax.{LanguageLengths, code_x, Text, pieces, UnicodeKey, Attribute}
@@ -13,6 +13,7 @@ use Rattle.iloc_spec_grammar.specs.Meaning.{normal_values}
 use Rattle.iloc_spec_grammar.proofs.FaultLaws.{head-and-blocks}
 use Rattle.iloc_spec_grammar.proofs.PiecesLaws.{pieces_nonempty}
 use Rattle.iloc_spec_grammar.proofs.Readings.{IsLong, long_attribute, after_language, long_after_language}
+use Rattle.iloc_spec_grammar.proofs.Readings.{blocks_past}
 use Rattle.iloc_spec_grammar.proofs.Readings.{head-spelling, blocks_spelled}
 use Rattle.iloc_spec_grammar.proofs.WordsLaws.{length-unicode_key}
 use Rattle.iloc_spec_grammar.proofs.ValuesLaws.{all_weaker}
@@ -49,13 +50,7 @@ extension_is : (k : Option WrittenKeyword) → map extension_block (keyword_exte
 extension_is None = refl
 extension_is (Some k) = ap (λ (l : List Text). (k.byte, k.key ∷ l) ∷ []) (append-nil k.values)
 
-past_long : (xs ys : List Text) → AllByRecursion IsLong xs → blocks (xs ++ ys) ≡ blocks ys
-past_long [] ys h = refl
-past_long ([] ∷ xs) ys h = past_long xs ys h.1
-past_long ((c ∷ []) ∷ xs) ys h = absurd (true≢false h.0)
-past_long ((c ∷ d ∷ p) ∷ xs) ys h = past_long xs ys h.1
-
-long_key : (p : Text) → IsWord UnicodeKey p → IsLong p
+pub long_key : (p : Text) → IsWord UnicodeKey p → IsLong p
 long_key p h = ne_eqb (length p) 1 (λ e. let l = length-unicode_key p h in absurd (omega arith))
 
 long_blocks : (k : Option WrittenKeyword) → IfSome k IsSmallKeyword →
@@ -73,7 +68,7 @@ long_blocks (Some k) g = (
 small_blocks : {T : ℕ → Bool} (i : SpelledIdentifier) → HasWords T i → (k : Option WrittenKeyword) →
     IfSome k IsSmallKeyword → tail_blocks (spelling (small_written i k)) ≡ keyword_blocks k
 small_blocks i w k g =
-    past_long (after_language i) _ (long_after_language i w)
+    blocks_past (after_language i) _ (long_after_language i w)
     ∙ ap (λ bs. blocks (flat_map block_pieces (bs ++ []))) (extension_is k)
     ∙ blocks_spelled (keyword_blocks k) None (long_blocks k g) tt
     ∙ append-nil (keyword_blocks k)

@@ -1,5 +1,5 @@
 -- A subdivision's text is read as it, and what is read has the text in lower case.
-use Rattle.std.proofs.Common.{◌≡◌, ℕ, ◌≤◌, true, ◌&&◌, ◌==◌, List, [], ◌∷◌, ◌++◌, length, take-append-drop}
+use Rattle.std.proofs.Common.{◌≡◌, ◌≤◌, true, ◌&&◌, ◌==◌, [], ◌∷◌, ◌++◌, length, take-append-drop}
 use Rattle.std.proofs.Common.{length-append, refl, sym, ap, ap₂, ◌∙◌, subst, arith, Some, Result, Ok, ok_or}
 use Rattle.std.proofs.Common.{inl, inr, true≢false, MatchResult}
 use Rattle.std.specs.List.{list_all}

@@ -1,5 +1,5 @@
 -- The text of a value is read as it.
-use Rattle.std.proofs.Common.{◌≡◌, ◌≢◌, ℕ, false, cond, List, [], ◌∷◌, refl, ap, ◌∙◌, Ok, Err}
+use Rattle.std.proofs.Common.{◌≡◌, ◌≢◌, false, cond, List, [], ◌∷◌, refl, ap, ◌∙◌, Ok, Err}
 use Rattle.std.specs.List.{AllByRecursion, list_all}
 use Rattle.iloc_spec_grammar.specs.Syntax.{Text, pieces, join, IsHyphenFree, Kind, Subtag, Attribute, is_word}
 use Rattle.iloc_spec_grammar.specs.Syntax.{IsWord, lower, is_true}

@@ -1,5 +1,5 @@
 -- Over a wider table data locales stay what they are.
-use Rattle.std.proofs.Common.{◌≡◌, ℕ, Bool, true, List}
+use Rattle.std.proofs.Common.{◌≡◌, ℕ, Bool, true}
 use Rattle.iloc_spec_parts.proofs.WiderSmall.{small_wider}
 use Rattle.iloc_spec_parts.specs.DataLocales.{DataLocale, DataMeans}
 use Rattle.iloc_spec_grammar.specs.Syntax.{Text}

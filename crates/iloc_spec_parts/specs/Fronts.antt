@@ -7,7 +7,7 @@ use Rattle.std.specs.Prelude.{if◌then◌else◌, Option, Some, None, nat_lt, �
 use Rattle.std.specs.Int.{is_in_range}
 use Rattle.std.specs.List.{AllByRecursion, list_any, list_all}
 use Rattle.iloc_spec_grammar.specs.Syntax.{Text, LanguageLengths, Language, UnicodeKey, TransformKey}
-use Rattle.iloc_spec_grammar.specs.Syntax.{Attribute, PrivateSubtag, is_word, IsWord, lower, word_cmp}
+use Rattle.iloc_spec_grammar.specs.Syntax.{Attribute, is_word, IsWord, lower, word_cmp}
 use Rattle.iloc_spec_grammar.specs.Syntax.{SpelledIdentifier, SpelledTransform, Unicode, Transform, Fields}
 use Rattle.iloc_spec_grammar.specs.Syntax.{fields_pieces, IsKeyword, IsField, IsOther, IsPrivate}
 use Rattle.iloc_spec_grammar.specs.Syntax.{IsIdentifier, kept, first_piece}

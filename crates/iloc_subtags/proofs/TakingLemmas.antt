@@ -1,5 +1,5 @@
 -- What a take of a word tells.
-use Rattle.std.proofs.Common.{◌≡◌, ℕ, Bool, true, false, cond, List, [], ◌∷◌, refl, Some, None, option_map}
+use Rattle.std.proofs.Common.{◌≡◌, Bool, true, false, cond, List, [], ◌∷◌, refl, Some, None, option_map}
 use Rattle.iloc_spec_grammar.specs.Syntax.{Text, Kind, is_word, IsWord, normal}
 use Rattle.iloc_spec_grammar.specs.Reading.{take_first, skip_first, passing, past}
 

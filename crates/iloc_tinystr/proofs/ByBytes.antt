@@ -104,9 +104,6 @@ ors = record { zeros = refl; block = or_block }
 pub xors : ByBlocks bit_xor
 xors = record { zeros = refl; block = xor_block }
 
-pub sums : ByBlocks (λ a b. a + b)
-sums = record { zeros = refl; block = λ k a b r s h j. omega arith }
-
 module _ {o : ℕ → ℕ → ℕ} (by : ByBlocks o) where
   pub first_byte : (c d r s : ℕ) → c < 256 → d < 256 → o (c + 256 * r) (d + 256 * s) ≡ o c d + 256 * o r s
   first_byte c d r s c-lt d-lt =

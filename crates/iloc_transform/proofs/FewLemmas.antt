@@ -1,5 +1,5 @@
 -- A transform of few words takes no memory.
-use Rattle.std.proofs.Common.{◌≡◌, ℕ, ◌<◌, ◌≤◌, List, [], ◌∷◌, ◌++◌, length, map, refl, sym, ap, ◌∙◌, subst}
+use Rattle.std.proofs.Common.{◌≡◌, ◌<◌, ◌≤◌, List, [], ◌∷◌, ◌++◌, length, map, refl, sym, ap, ◌∙◌, subst}
 use Rattle.std.proofs.Common.{arith, Option, IfSome, option_map, true≢false}
 use Rattle.std.proofs.lemmas.List.{length-map}
 use Rattle.iloc_spec_grammar.specs.Syntax.{Text, Language, IsWord, lower, languages, SpelledIdentifier}

@@ -1,13 +1,11 @@
 -- `==` at values and fields decides whether they are the same.
-use Rattle.std.proofs.Common.{◌≡◌, ℕ, ◌&&◌, List, nat_eq, ap}
+use Rattle.std.proofs.Common.{◌≡◌, ◌&&◌, List, nat_eq, ap}
 use Rattle.std.specs.Bool.{Decides}
 use Rattle.std.proofs.lemmas.Bool.Decides.{Decides-and, Decides-like}
 use lib.Pointwise.{pointwise, pointwise_decides, bytes_decides}
 use Rattle.iloc_spec_grammar.specs.Syntax as written
 use Rattle.iloc_spec_grammar.specs.Syntax.{Text}
-
-pub words_decide : (v w : List Text) → Decides (pointwise (pointwise nat_eq) v w) (v ≡ w)
-words_decide = pointwise_decides bytes_decides
+use Rattle.iloc_other.proofs.EqualityLemmas.{words_decide}
 
 -- fields, pair by pair
 

@@ -1,6 +1,6 @@
 -- Fields that are taken one at a time.
-use Rattle.std.proofs.Common.{◌≡◌, ℕ, suc, ◌<◌, Bool, true, false, cond, ◌&&◌, List, [], ◌∷◌, ◌++◌, length}
-use Rattle.std.proofs.Common.{map, refl, sym, ap, ◌∙◌, arith, append_assoc, append-nil, Option, Some, None}
+use Rattle.std.proofs.Common.{◌≡◌, suc, ◌<◌, Bool, true, false, cond, ◌&&◌, List, [], ◌∷◌, ◌++◌, length}
+use Rattle.std.proofs.Common.{map, refl, sym, ap, ◌∙◌, arith, append_assoc, append-nil, Some}
 use Rattle.std.proofs.Common.{option_map, is_some, if◌then◌else◌, Err}
 use Rattle.std.specs.List.{AllByRecursion, list_all}
 use Rattle.std.specs.FinMap.{find, put}
@@ -22,7 +22,7 @@ use Rattle.iloc_subtags.specs.declared.parse_error.ParseError.TheVariants.{Inval
 use Rattle.iloc_subtags.specs.declared.parse_error.ParseError.TheVariants.{DuplicatedExtension, OutOfMemory}
 use Rattle.iloc_spec_parts.specs.Fronts.{attributes_front}
 use Rattle.iloc_transform.specs.ValueReading.{FieldValueReads}
-use Rattle.iloc_transform.specs.FieldsReading.{FieldsRead, FieldsFills}
+use Rattle.iloc_transform.specs.FieldsReading.{FieldsFills}
 use Rattle.iloc_spec_grammar.proofs.ReadBack.{all_append}
 use Rattle.iloc_spec_grammar.proofs.ReadingLaws.{length-past}
 use Rattle.iloc_spec_parts.proofs.TransformLaws.{no_key_empty}
@@ -37,9 +37,6 @@ pub record TakingFields (before now : List Text) (m : Fields) : Type 0 where
   pub front : fields_front before ≡ fields_pieces taken ++ fields_front now
   pub rest : after_fields before ≡ after_fields now
   pub means : m ≡ normal_fields taken
-
-pub takes_nothing : (ps : List Text) → TakingFields ps ps []
-takes_nothing ps = record { taken = []; fields = tt; front = refl; rest = refl; means = refl }
 
 -- after a key: its values, and the next fields
 
@@ -118,30 +115,6 @@ takes_field before now m k qs more v n h e s r i =
           ∙ (λ j. if is_some (find word_cmp (t.2 j) (h.means j)) then h.means j else put word_cmp (t.2 j)
           (r.1 j) (h.means j))
           ∙ sym (normal-last h.taken p vs);
-    }
-
--- where no key follows
-no_more : (now : List Text) → None ≡ option_map lower (take_first is_key now) →
-    (fields_front now ≡ []) × (after_fields now ≡ now)
-no_more [] e = (rw no_key_empty refl, rw no_key_empty refl)
-no_more (p ∷ ps) e = by (is_key p) refl e
-  where
-    by : (b : Bool) → is_key p ≡ b →
-        ◌≡◌ {A = Option Text} None (option_map lower (cond b (Some p) None)) →
-        (fields_front (p ∷ ps) ≡ []) × (after_fields (p ∷ ps) ≡ p ∷ ps)
-    by true h e = cc
-    by false h e = (rw h refl, rw h refl)
-
-pub takes_all : (before now : List Text) (m : Fields) → TakingFields before now m →
-    None ≡ option_map lower (take_first is_key now) → FieldsRead before m now
-takes_all before now m h e =
-    let n = no_more now e in
-    record {
-      written = h.taken;
-      fields = h.fields;
-      spelled = h.front ∙ ap (λ l. fields_pieces h.taken ++ l) n.0 ∙ append-nil (fields_pieces h.taken);
-      means = h.means;
-      left = sym (h.rest ∙ n.1);
     }
 
 -- the front, where a key stands

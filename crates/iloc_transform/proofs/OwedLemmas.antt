@@ -1,5 +1,5 @@
 -- What the reader of transforms owes to each text.
-use Rattle.std.proofs.Common.{ℕ, List, ap, Result}
+use Rattle.std.proofs.Common.{ap, Result}
 use Rattle.std.specs.Prelude.{⊤}
 use Rattle.iloc_spec_grammar.specs.Syntax.{code_t, Text, languages, pieces}
 use Rattle.iloc_spec_grammar.specs.Syntax as written

@@ -1,19 +1,18 @@
 -- Subtags of a value that are taken one at a time.
-use Rattle.std.proofs.Common.{◌≡◌, ℕ, suc, ◌+◌, ◌<◌, Bool, true, false, not, cond, List, [], ◌∷◌, ◌++◌}
-use Rattle.std.proofs.Common.{length, refl, sym, ap, ◌∙◌, subst, arith, append-nil, length-append, Some, None}
-use Rattle.std.proofs.Common.{option_map, Ok, Err}
+use Rattle.std.proofs.Common.{◌≡◌, ◌+◌, ◌<◌, Bool, true, false, cond, List, [], ◌∷◌, ◌++◌}
+use Rattle.std.proofs.Common.{length, refl, sym, ap, ◌∙◌, subst, Some, None}
+use Rattle.std.proofs.Common.{Ok, Err}
 use Rattle.std.specs.List.{list_all}
 use Rattle.std.proofs.lemmas.Bool.{and_parts, false_from_ne_true}
-use Rattle.iloc_spec_grammar.specs.Syntax.{Text, pieces, Attribute, is_word, IsWord, lower, is_true}
+use Rattle.iloc_spec_grammar.specs.Syntax.{Text, pieces, Attribute, is_word}
 use Rattle.iloc_spec_grammar.specs.Meaning.{normal_values}
-use Rattle.iloc_spec_grammar.specs.Reading.{take_first, skip_first, passing, past}
+use Rattle.iloc_spec_grammar.specs.Reading.{passing, past}
 use Rattle.iloc_spec_grammar.specs.Reading.{first_item}
 use Rattle.iloc_spec_grammar.proofs.PiecesLaws.{pieces_nonempty}
 use Rattle.iloc_subtags.specs.declared.parse_error.ParseError.{ParseError}
 use Rattle.iloc_subtags.specs.declared.parse_error.ParseError.TheVariants.{InvalidLanguage, InvalidSubtag}
 use Rattle.iloc_subtags.specs.declared.parse_error.ParseError.TheVariants.{InvalidExtension}
 use Rattle.iloc_subtags.specs.declared.parse_error.ParseError.TheVariants.{DuplicatedExtension, OutOfMemory}
-use Rattle.iloc_subtags.proofs.TakingLemmas.{took, took_none}
 use Rattle.iloc_subtags.specs.Judging.{Answers, RunsOutOnlyIf}
 use Rattle.iloc_subtags.proofs.Judged.{without_memory, runs_out}
 use Rattle.iloc_spec_parts.specs.PartValues.{transform_value}
@@ -24,39 +23,6 @@ use Rattle.iloc_transform.specs.ValueReading.{FieldValueReads, FieldValueTextRea
 pub record TakingValues (before now v : List Text) : Type 0 where
   pub front : v ++ normal_values (attributes_front now) ≡ normal_values (attributes_front before)
   pub rest : past (is_word Attribute) now ≡ past (is_word Attribute) before
-
-pub takes_nothing : (ps : List Text) → TakingValues ps ps []
-takes_nothing ps = record { front = refl; rest = refl }
-
-front_first : (p : Text) (ps : List Text) → IsWord Attribute p →
-    (attributes_front (p ∷ ps) ≡ p ∷ attributes_front ps)
-    × (past (is_word Attribute) (p ∷ ps) ≡ past (is_word Attribute) ps)
-front_first p ps h = (rw h refl, rw h refl)
-
--- a fifth subtag
-pub wants_memory : (before now v : List Text) (w : Text) → TakingValues before now v →
-    Some w ≡ option_map lower (take_first (is_word Attribute) now) → is_true w ≡ false → (length v < 4 → ⊥) →
-    4 < length (normal_values (attributes_front before))
-wants_memory before now v w h e t n =
-    let k = took Attribute now w e in
-    let f = front_first k.0 (skip_first (is_word Attribute) now) k.1 in
-    let more : List Text = attributes_front (skip_first (is_word Attribute) now) in
-    let false_there : is_true (lower k.0) ≡ false = ap is_true (sym k.2) ∙ t in
-    let all : v ++ (lower k.0 ∷ normal_values more) ≡ normal_values (attributes_front before) =
-    ap (λ b. v ++ cond (not b) (lower k.0 ∷ normal_values more) (normal_values more)) (sym false_there)
-    ∙ ap (λ l. v ++ normal_values l) (sym (ap attributes_front k.3 ∙ f.0)) ∙ h.front in
-    let many : length (normal_values (attributes_front before))
-    ≡ length v + suc (length (normal_values more)) =
-    ap length (sym all) ∙ length-append v (lower k.0 ∷ normal_values more) in
-    omega (arith, many, n)
-
--- at the end of the front
-pub takes_all : (before now v : List Text) → TakingValues before now v →
-    None ≡ option_map lower (take_first (is_word Attribute) now) →
-    (v ≡ normal_values (attributes_front before)) × (now ≡ past (is_word Attribute) before)
-takes_all before now v h e =
-    let t = took_none Attribute now e in
-    (sym (append-nil v) ∙ ap (λ l. v ++ normal_values l) (sym t.0) ∙ h.front, sym t.1 ∙ h.rest)
 
 -- a whole text
 

@@ -23,7 +23,7 @@ use Rattle.iloc_spec_parts.specs.Fronts.{is_keyword_piece, keywords_front, after
 use Rattle.iloc_spec_parts.specs.Fronts.{KeywordsRead, KeywordsFault, bad_key, before_bad_key, keywords_kept}
 use Rattle.iloc_spec_parts.proofs.KeptLaws.{HasKey, kept_append}
 use Rattle.iloc_spec_grammar.proofs.ReadBack.{all_append}
-use Rattle.iloc_spec_parts.proofs.FrontLaws.{not_two_bytes, two_bytes_of, good_value, good_key, value_goes_on}
+use Rattle.iloc_spec_parts.proofs.FrontLaws.{good_value, good_key, value_goes_on}
 use Rattle.iloc_spec_parts.proofs.FrontLaws.{keywords_read_of}
 use Rattle.iloc_litemap.proofs.Maps.{tied, map_of_more}
 use Rattle.iloc_unicode.specs.Reads.{has_many_values, KeywordsWantMemory, second_key, fifth_value}
@@ -32,6 +32,7 @@ use Rattle.iloc_subtags.specs.NextPiece.{next_has_length}
 use Rattle.iloc_subtags.proofs.TakingLemmas.{took, took_none}
 use Rattle.std.proofs.Math.Bool.{or-true}
 use Rattle.iloc_spec_grammar.proofs.ReadingLaws.{length-past}
+use Rattle.iloc_spec_grammar.proofs.Readings.{not_two, two as two_bytes_of}
 
 -- the next piece is as long as a key if it has two bytes
 pub two_bytes : (ps : List Text) → next_has_length UnicodeKey ps ≡ is_two (first_piece ps)
@@ -136,7 +137,7 @@ values_first (q ∷ qs) more e = by (is_word Attribute q) refl (values_first qs 
         ≡ cond b (q ∷ passing (is_word Attribute) qs) [])
         × (fields_from is_two (cond b (q ∷ passing (is_word Attribute) qs) [] ++ more)
         ≡ fields_from is_two more)
-    by true h rest = let n = not_two_bytes q h in (
+    by true h rest = let n = not_two q h in (
       ap (λ b. cond b [] (q ∷ before_key is_two (passing (is_word Attribute) qs ++ more))) n
           ∙ ap (λ l. q ∷ l) rest.0,
       ap (λ b. cond b

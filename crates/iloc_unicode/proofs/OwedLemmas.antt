@@ -1,6 +1,6 @@
 -- What the readers owe to each text.
 use Rattle.std.specs.Prelude.{⊤}
-use Rattle.std.proofs.Common.{ℕ, List, sym, ap, ◌∙◌, Result}
+use Rattle.std.proofs.Common.{List, sym, ap, ◌∙◌, Result}
 use Rattle.iloc_spec_grammar.specs.Syntax.{code_u, Text, pieces, Fields}
 use Rattle.iloc_spec_grammar.specs.Syntax as written
 use Rattle.iloc_spec_grammar.specs.Meaning.{Fault}

@@ -34,6 +34,7 @@ use Rattle.iloc_unicode.specs.UnicodeReads.{UnicodeReads, UnicodeWantsMemory, Un
 use Rattle.iloc_unicode.specs.UnicodeReads.{UnicodeTextWants, for_keywords}
 use Rattle.iloc_unicode.specs.UnicodeValue.{value_of}
 use Rattle.iloc_unicode.specs.declared.unicode.Unicode as shown
+use Rattle.iloc_spec_parts.proofs.SmallShapes.{none_mapped}
 
 -- the letter before the part, by the byte that is taken
 
@@ -71,16 +72,12 @@ module _ {X : Type 0} where
   no_entries [] h = refl
   no_entries (e ∷ es) h = absurd (true≢false (sym h ∙ put_some e.0 e.1 (map_of word_cmp es)))
 
-unmapped : {X Y : Type 0} (f : X → Y) (xs : List X) → map f xs ≡ [] → xs ≡ []
-unmapped f [] e = refl
-unmapped f (x ∷ xs) e = absurd (cc)
-
 no_words : (ws : List Text) → (length (set_of (map lower ws)) == 0) ≡ true → ws ≡ []
-no_words ws h = unmapped lower ws (unmapped (λ (w : Text). (w, tt {0})) (map lower ws)
+no_words ws h = none_mapped lower ws (none_mapped (λ (w : Text). (w, tt {0})) (map lower ws)
     (no_entries _ (ap (λ n. n == 0) (sym (length-map _ _)) ∙ h)))
 
 no_fields : (fs : Fields) → (length (normal_fields fs) == 0) ≡ true → fs ≡ []
-no_fields fs h = unmapped (λ (f : Text × List Text). _) fs (no_entries _ h)
+no_fields fs h = none_mapped (λ (f : Text × List Text). _) fs (no_entries _ h)
 
 -- what both readers took, where that is something
 pub unicode_read : (ps middle rest a : List Text) (m : Fields) → a ≡ attributes_read ps →

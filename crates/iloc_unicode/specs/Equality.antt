@@ -1,5 +1,5 @@
 -- The equality tests of keywords and of the whole extension.
-use Rattle.std.proofs.Common.{ℕ, Bool, ◌&&◌, List, nat_eq}
+use Rattle.std.proofs.Common.{Bool, ◌&&◌, List, nat_eq}
 use Rattle.iloc_spec_grammar.specs.Syntax.{Text, Fields, Unicode}
 use lib.Pointwise.{pointwise}
 use Rattle.iloc_word_list.specs.Equality.{words_eq}

@@ -1,5 +1,5 @@
 -- The equality tests of keywords and of the whole extension find exactly equal values equal.
-use Rattle.std.proofs.Common.{ℕ, ap}
+use Rattle.std.proofs.Common.{ap}
 use Rattle.std.proofs.lemmas.Bool.{and_parts, and_from}
 use Rattle.iloc_word_list.specs.Equality.{IsExactTest}
 use Rattle.iloc_word_list.specs.EqualityLaws.{word_exact, words_exact, lists_exact}

@@ -1,5 +1,5 @@
 -- The order of keywords, which ties exactly if their equality test does.
-use Rattle.std.proofs.Common.{◌≡◌, ℕ, ◌&&◌, List, refl, ap₂, ◌∙◌}
+use Rattle.std.proofs.Common.{◌≡◌, ◌&&◌, List, refl, ap₂, ◌∙◌}
 use Rattle.std.specs.Ordering.{is_eq, eq_by_cmp, ordering_then}
 use Rattle.std.specs.declared.cmp.Ordering.{Ordering}
 use Rattle.std.specs.declared.cmp.Ordering.TheVariants.{Less, Equal, Greater}

@@ -1,5 +1,5 @@
 -- What keywords end as, when one of their values is lent.
-use Rattle.std.specs.Prelude.{ℕ, List, Option}
+use Rattle.std.specs.Prelude.{List, Option}
 use Rattle.std.specs.Borrow.{LendsIf, Fml, MutBor}
 use Rattle.std.specs.FinMap.{put}
 use Rattle.iloc_spec_grammar.specs.Syntax.{Text, word_cmp, Fields}

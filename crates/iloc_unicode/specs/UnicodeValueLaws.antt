@@ -1,5 +1,4 @@
 -- The equality test of what they stand for finds exactly equal values equal.
-use Rattle.std.specs.Prelude.{ℕ}
 use Rattle.std.proofs.Common.{ap}
 use Rattle.iloc_spec_grammar.specs.Syntax as written
 use Rattle.iloc_word_list.specs.Equality.{IsExactTest}

@@ -190,6 +190,11 @@ impl Keywords {
         ensures succeeds { length self.old < 1 → IsOk result }
         ensures known { is_some (find word_cmp key self.old) ≡ true → IsOk result }
     {
+        // A first pair needs no place.
+        if self.is_empty() {
+            *self = Keywords::new_single(key, value);
+            return Ok(None);
+        }
         self.map.insert(alloc, key, value)
     }
 
@@ -341,10 +346,11 @@ impl Ord for Keywords {
     ghost matches_eq = { keywords_ties };
 
     fn cmp(&self, other: &Self) -> Ordering {
-        match (self.map.len() > 1, other.map.len() > 1) {
+        let (own, others) = (self.as_slice(), other.as_slice());
+        match (own.len() > 1, others.len() > 1) {
             (false, true) => Ordering::Less,
             (true, false) => Ordering::Greater,
-            _ => self.as_slice().cmp(&other.as_slice()),
+            _ => own.cmp(&others),
         }
     }
 }
@@ -375,6 +381,9 @@ impl Clone for Keywords {
     ghost is_clone = { λ a b. b ≡ a };
 
     fn clone(&self) -> Result<Self, AllocError> {
+        if let [(key, value)] = self.as_slice() {
+            return Ok(Keywords::new_single(*key, value.clone()?));
+        }
         Ok(Keywords {
             map: self.map.clone()?,
         })

@@ -1,5 +1,5 @@
 -- Printed values.
-use Rattle.std.proofs.Common.{◌≡◌, ℕ, List, ap, sym, ◌∙◌, Bool, IsTrue, ◌↔◌}
+use Rattle.std.proofs.Common.{◌≡◌, ap, sym, ◌∙◌, Bool, IsTrue, ◌↔◌}
 use Rattle.std.specs.Ordering.{nat_cmp, is_eq}
 use Rattle.std.specs.Cmp.{Equal-is, eq_by_cmp_equiv}
 use Rattle.std.specs.Cmp.Lexicographic.{slice_cmp}

@@ -1,5 +1,5 @@
 -- The equality test of lists, item by item.
-use Rattle.std.proofs.Common.{◌≡◌, ◌↔◌, ℕ, Bool, true, List, nat_eq}
+use Rattle.std.proofs.Common.{◌≡◌, ◌↔◌, Bool, true, List, nat_eq}
 use Rattle.iloc_spec_grammar.specs.Syntax.{Text}
 use lib.Pointwise.{pointwise}
 

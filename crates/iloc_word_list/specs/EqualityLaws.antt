@@ -1,5 +1,5 @@
 -- The equality test of lists, item by item, finds exactly equal lists equal.
-use Rattle.std.proofs.Common.{◌≡◌, ℕ, Bool, true, ap, nat_eq}
+use Rattle.std.proofs.Common.{◌≡◌, Bool, true, ap, nat_eq}
 use lib.Pointwise.{pointwise, pointwise_decides, bytes_decides}
 use Rattle.iloc_word_list.specs.Equality.{IsExactTest, words_eq}
 

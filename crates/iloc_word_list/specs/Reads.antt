@@ -1,5 +1,5 @@
 -- What a text is read as, as a whole value.
-use Rattle.std.specs.Prelude.{◌≡◌, ⊤, ℕ, ◌<◌, List, length, Result, Ok, Err}
+use Rattle.std.specs.Prelude.{◌≡◌, ⊤, ◌<◌, List, length, Result, Ok, Err}
 use Rattle.iloc_spec_grammar.specs.Syntax.{Text, pieces, Subtag, is_word}
 use Rattle.iloc_spec_grammar.specs.Meaning.{normal_values}
 use Rattle.iloc_spec_grammar.specs.Reading.{passing}

@@ -1,5 +1,5 @@
 -- Why the value of a keyword is refused, and what a reader of keywords answers.
-use Rattle.std.specs.Prelude.{◌≡◌, ℕ, Option, Some, None, Result, Ok, Err, codes}
+use Rattle.std.specs.Prelude.{◌≡◌, Option, Some, None, Result, Ok, Err, codes}
 use Rattle.iloc_spec_grammar.specs.Syntax.{Text}
 use Rattle.iloc_word_list.specs.declared.errors.PreferencesParseError.{PreferencesParseError}
 use Rattle.iloc_word_list.specs.declared.errors.PreferencesParseError.TheVariants.{InvalidKeywordValue}

@@ -1,5 +1,5 @@
 -- What taking a word in makes of a list of words.
-use Rattle.std.specs.Prelude.{◌≡◌, ℕ, Bool, true, false, List, ◌∷◌}
+use Rattle.std.specs.Prelude.{◌≡◌, Bool, true, false, List, ◌∷◌}
 use Rattle.std.specs.List.{list_any}
 use Rattle.std.specs.List.Sorted.{IsPermutation}
 use Rattle.iloc_spec_grammar.specs.Syntax.{Text, is_same}

@@ -1,5 +1,5 @@
 -- Lists of subtags in which `true` isn't kept.
-use Rattle.std.specs.Prelude.{ℕ, not, List, [], ◌∷◌, ◌++◌, filter}
+use Rattle.std.specs.Prelude.{not, List, [], ◌∷◌, ◌++◌, filter}
 use Rattle.iloc_spec_grammar.specs.Syntax.{Text, is_true}
 
 -- the words other than `true`

@@ -1,13 +1,12 @@
 -- The locale whose text a normal text is.
-use Rattle.std.proofs.Common.{◌≡◌, ℕ, ◌≤◌, List, length, take, min, refl, sym, ◌∙◌, arith, append-nil}
+use Rattle.std.proofs.Common.{◌≡◌, ℕ, ◌≤◌, length, take, min, refl, sym, ◌∙◌, arith}
 use Rattle.std.proofs.lemmas.Bool.Decides.{nat_tests}
 use Rattle.iloc_spec_grammar.specs.Syntax.{Text, Identifier, languages, pieces}
 use Rattle.iloc_spec_grammar.specs.Meaning as meaning
 use Rattle.iloc_spec_grammar.specs.Meaning.{IdentifierMeans, without_extensions}
-use Rattle.iloc_spec_grammar.specs.Values.{identifier_text, text, extensions_spelling}
+use Rattle.iloc_spec_grammar.specs.Values.{identifier_text, text}
 use Rattle.iloc_spec_grammar.proofs.Corollaries.{means_a_value, means_tests}
 use Rattle.iloc_spec_grammar.proofs.IdentifierTexts.{identifier_means_value}
-use Rattle.iloc_spec_grammar.proofs.PartTexts.{text_of_parts}
 use Rattle.iloc_spec_grammar.proofs.RawLaws.{languages_table}
 use Rattle.iloc_spec_grammar.proofs.SameText.{well_formed_is}
 use Rattle.iloc_spec_parts.specs.DataLocales.{DataLocale, DataMeans, data_text, locale_of_data}
@@ -22,16 +21,13 @@ use Rattle.iloc_calls.specs.Answers.{HandsOut}
 use Rattle.iloc_calls.specs.declared.status.Status.{Status}
 use Rattle.iloc_calls.specs.declared.status.Status.TheVariants.{Done, BufferTooSmall}
 use Rattle.locale_web.specs.Parts.{MeansLocale, PartsAreWritten}
+use Rattle.iloc_normalize.proofs.PlainAnswers.{text_alone}
 
 -- the locale that a text means in the mode, and whose text the normal text is
 pub record HasLocale (mode : Mode) (t n : Text) : Type 0 where
   pub locale : meaning.Locale
   pub meant : MeansLocale mode t locale
   pub is : IsNormalTextOf locale n
-
-alone_text : (i : Identifier) → text (without_extensions i) ≡ identifier_text i
-unfolding extensions_spelling
-alone_text i = text_of_parts (without_extensions i) ∙ append-nil (identifier_text i)
 
 alone_is : (t : Text) (i : Identifier) → IdentifierMeans languages (pieces t) i
     → IsNormalTextOf (without_extensions i) (identifier_text i)
@@ -46,7 +42,7 @@ alone_is t i m = record {
     };
   };
   tests = record { ascending = refl; singletons = tt; nonempty = tt; values = tt };
-  text = sym (alone_text i);
+  text = sym (text_alone i);
 }
 
 data_is : (t : Text) (d : DataLocale) → DataMeans languages t d →

@@ -1,7 +1,6 @@
 -- From outlines and parts to what a text is read as.
-use Rattle.std.proofs.Common.{◌≡◌, ◌↔◌, ℕ, ◌≤◌, ◌<◌, ◌^◌, Bool, false, IsTrue, List, length, refl, sym, ◌∙◌}
-use Rattle.std.proofs.Common.{true≢false, arith}
-use Rattle.std.proofs.lemmas.Bool.{false_from_ne_true}
+use Rattle.std.proofs.Common.{◌≡◌, ℕ, ◌≤◌, ◌<◌, ◌^◌, length, refl}
+use Rattle.std.proofs.Common.{arith}
 use Rattle.std.proofs.lemmas.Bool.Decides.{nat_tests}
 use Rattle.iloc_spec_grammar.specs.Syntax.{Text, pieces, languages}
 use Rattle.iloc_spec_grammar.specs.Meaning as grammar
@@ -14,22 +13,12 @@ use Rattle.iloc_writeable.specs.Hints.{saturated}
 use Rattle.iloc_calls.proofs.Bounds.{parts_fit}
 use Rattle.iloc_data_parts.specs.PartsReading as parts
 use Rattle.iloc_data_parts.specs.declared.parts.DataParts.{DataParts}
-use Rattle.iloc_outline.specs.Outlines.{BeginsWithLanguage, Gives}
+use Rattle.iloc_outline.specs.Outlines.{Gives}
 use Rattle.iloc_outline.specs.declared.outline.Outline.{Outline}
 use Rattle.iloc_outline.specs.declared.spans.Spans.{Spans}
-use Rattle.iloc_subtags.specs.declared.parse_error.ParseError.TheVariants.{InvalidLanguage}
-use Rattle.iloc_normalize.proofs.FrontAnswers.{no_language_refused}
-use Rattle.iloc_normalize.specs.Answered.{HasRefusal}
-use Rattle.iloc_normalize.specs.declared.Mode.{Mode}
 use Rattle.iloc_normalize.specs.declared.Mode.TheVariants.{Langid, Locale, Data}
 use Rattle.locale_web.specs.Reading.{IsReadInto, IsNormalWithin}
 use Rattle.locale_web.specs.declared.reading.Found.TheVariants as founds
-
--- a text that begins with no language is refused
-pub no_language : (mode : Mode) (t : Text) (begins : Bool) → IsTrue begins ↔ BeginsWithLanguage t →
-    begins ≡ false → HasRefusal mode t InvalidLanguage
-no_language mode t begins e f =
-    no_language_refused mode t (false_from_ne_true _ (λ h. true≢false (sym (e.1 h) ∙ f)))
 
 -- an identifier's outline gives its normal text, which is as long
 pub identifier_outlined : (t : Text) (spans : Spans) (o : Outline) (i : Identifier) →

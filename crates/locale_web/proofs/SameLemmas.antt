@@ -1,6 +1,6 @@
 -- Two texts have one normal text exactly if they mean the same.
-use Rattle.std.proofs.Common.{◌≡◌, ℕ, Bool, true, false, IsTrue, ◌↔◌, ◌⊎◌, List, inl, inr, refl, sym, ap, ◌∙◌}
-use Rattle.std.proofs.Common.{subst, true≢false}
+use Rattle.std.proofs.Common.{◌≡◌, ℕ, Bool, IsTrue, ◌↔◌, ◌⊎◌, sym, ap, ◌∙◌}
+use Rattle.std.proofs.Common.{subst}
 use Rattle.std.specs.Int.{from_bool}
 use Rattle.iloc_spec_grammar.specs.Syntax.{Text, pieces, languages}
 use Rattle.iloc_spec_grammar.specs.Meaning as meaning
@@ -22,6 +22,7 @@ use Rattle.iloc_normalize.specs.declared.Mode.TheVariants.{Langid, Locale, Data}
 use Rattle.iloc_calls.specs.Answers.{MeanSame}
 use Rattle.iloc_calls.specs.declared.status.Status.TheVariants.{Done}
 use Rattle.locale_web.specs.Answers.{SameIsWritten}
+use Rattle.iloc_calls.proofs.AnswerLemmas.{number_of_same}
 
 -- two texts have one normal text exactly if they mean the same
 pub same_normal : (mode : Mode) (t u a b : Text) → IsNormalText languages mode t a →
@@ -58,11 +59,6 @@ pub faulty_apart : (mode : Mode) (t u : Text) (f : meaning.Fault) → IsFaulty l
 faulty_apart Langid t u f h (i, m, n) = identifier_apart (pieces u) i f n h
 faulty_apart Locale t u f h (M, m, n) = accepted_no_fault languages_table u M f n h
 faulty_apart Data t u f h (d, m, n) = data_apart languages_table u d f n h
-
-number_of_same : (P : Type 0) (same : Bool) → IsTrue same ↔ P →
-    ((from_bool same ≡ 1) × P) ⊎ ((from_bool same ≡ 0) × ¬ P)
-number_of_same P true e = inl (refl, e.0 refl)
-number_of_same P false e = inr (refl, λ m. true≢false (sym (e.1 m)))
 
 -- two texts mean the same exactly if the same bytes were put
 pub bytes_same : (mode : Mode) (t u a b : Text) (before after : ℕ) (same : Bool) →

@@ -9,10 +9,10 @@ use Rattle.std.proofs.lemmas.Bool.Decides.{nat_tests}
 use Rattle.iloc_spec_grammar.specs.Syntax.{code_x, code_u, code_t, Text, Block, Language, Script, Region}
 use Rattle.iloc_spec_grammar.specs.Syntax.{Variant, Subtag, UnicodeKey}
 use Rattle.iloc_spec_grammar.specs.Syntax.{TransformKey, Attribute, PrivateSubtag, Bounds, languages, is_word}
-use Rattle.iloc_spec_grammar.specs.Syntax.{IsWord, is_one_byte, is_other_singleton, SpelledIdentifier}
+use Rattle.iloc_spec_grammar.specs.Syntax.{IsWord, is_other_singleton, SpelledIdentifier}
 use Rattle.iloc_spec_grammar.specs.Syntax.{Unicode, Transform, Fields, identifier_pieces, is_true}
 use Rattle.iloc_spec_grammar.specs.Syntax.{optional_pieces, fields_pieces, unicode_pieces, HasWords}
-use Rattle.iloc_spec_grammar.specs.Syntax.{IsHyphenFree, pieces, join}
+use Rattle.iloc_spec_grammar.specs.Syntax.{IsHyphenFree, pieces}
 use Rattle.iloc_spec_grammar.specs.Syntax as words
 use Rattle.iloc_spec_grammar.specs.Meaning.{Locale, Extensions}
 use Rattle.iloc_spec_grammar.specs.Tree.{before_t, after_t, spelled_identifier}
@@ -25,8 +25,9 @@ use Rattle.iloc_spec_grammar.proofs.PartTexts.{spelling_of_parts, id_pieces-low}
 use Rattle.iloc_spec_grammar.proofs.PiecesLaws.{pieces-join}
 use Rattle.iloc_spec_grammar.proofs.RawLaws.{languages_table}
 use Rattle.iloc_spec_grammar.proofs.ReadBack.{word_hyphen_free, all_append}
-use Rattle.iloc_spec_grammar.proofs.Readings.{language_no_key, identifier_no_key}
+use Rattle.iloc_spec_grammar.proofs.Readings.{language_no_key, identifier_no_key, long}
 use Rattle.iloc_spec_grammar.proofs.ValuesLaws.{value_words, value_identifier, lower_is_identifier}
+use Rattle.iloc_spec_grammar.proofs.ValuesLaws.{attribute_from}
 use Rattle.iloc_spec_grammar.proofs.ValuesLaws.{all_weaker, all_both, spelled_rule}
 use Rattle.iloc_spec_grammar.proofs.WordsLaws.{length-language, length-script, length-region, length-variant}
 use Rattle.iloc_spec_grammar.proofs.WordsLaws.{length-attribute, length-unicode_key, length-transform_key}
@@ -66,13 +67,10 @@ plain_of (kinds.Private, p) h = plain_word PrivateSubtag tt p h
 
 -- ---- what a word is, by the state
 
-many_bytes : (n : ℕ) → 2 ≤ n → (n == 1) ≡ false
-many_bytes n h = grind (arith, nat_tests)
-
 -- a piece of more than one byte begins no part
 in_part : (s : State) (p : Text) → 2 ≤ length p → step s p ≡ inside s p
 in_part states.Private p h = refl
-in_part s p h = let e = many_bytes (length p) h in rw e refl
+in_part s p h = let e = long (length p) h in rw e refl
 
 long_subtag : (p : Text) → IsWord Subtag p → 2 ≤ length p
 unfolding is_word
@@ -200,9 +198,6 @@ language_in_transform p h =
 -- subtags of other extensions, and after `x`
 other_in : (p : Text) → IsWord Subtag p → step states.Other p ≡ (kinds.Other, states.Other)
 other_in p h = in_part states.Other p (long_subtag p h)
-
-private_in : (p : Text) → step states.Private p ≡ (kinds.Private, states.Private)
-private_in p = refl
 
 -- ---- what is told of the pieces of a part, whatever part follows
 
@@ -439,10 +434,6 @@ after_all P (o ∷ os) h =
     [ true ↦ after_all P os h.1 | false ↦ h ]
 
 -- ---- the whole text
-
-attribute_from : (w : Text) → IsWord Subtag w → length w ≢ 2 → IsWord Attribute w
-unfolding is_word
-attribute_from w h n = grind (arith, nat_tests)
 
 module _ (e : Extensions) (v : IsExtensionsValue languages e) (w : AreWellFormed e) where
   attributes_are : AllByRecursion (IsWord Attribute) e.unicode.attributes

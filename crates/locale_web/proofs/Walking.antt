@@ -6,9 +6,9 @@ use Rattle.std.proofs.lemmas.List.{take_at, drop_at, drop-drop}
 use Rattle.iloc_spec_grammar.specs.Syntax.{Text, pieces, first_piece}
 use Rattle.iloc_spec_grammar.specs.Meaning.{Locale}
 use Rattle.iloc_spec_grammar.proofs.PiecesLaws.{at_pieces}
-use Rattle.iloc_pieces.specs.Left.{IsRemainder, IsNextPiece, IsShortPiece, bytes_left, piece_left}
+use Rattle.iloc_pieces.specs.Left.{IsNextPiece, IsShortPiece, bytes_left, piece_left}
 use Rattle.iloc_pieces.specs.Left.{pieces_left}
-use Rattle.iloc_pieces.specs.declared.left.Left.{Left}
+use Rattle.iloc_pieces.specs.declared.cursor.Left.{Left}
 use Rattle.iloc_pieces.proofs.LeftLemmas.{first_within, last_piece, length_piece, length_rest, next_at}
 use Rattle.locale_web.specs.Kinds.{KindedPiece, IsNormalTextOf, kind_number, parts_of, rows_from, rows_of}
 use Rattle.locale_web.specs.Steps.{AreShortPieces, step, told}
@@ -30,18 +30,16 @@ whole t l e = ap pieces (e ∙ take_all (length t) t (omega arith))
 
 -- so many pieces were counted, up to this one
 pub record IsCounted (t : Text) (at : Left) (count : ℕ) : Type 0 where
-  pub left : IsRemainder at
   pub short : AreShortPieces (pieces_left at)
   pub sum : count + length (pieces_left at) ≡ length (pieces t) + 1
   pub few : count ≤ at.at + 1
   pub end : at.at + at.len ≡ length t
 
-pub count_begins : (t : Text) (at : Left) → AreShortPieces (pieces t) → IsRemainder at → at.at ≡ 0
+pub count_begins : (t : Text) (at : Left) → AreShortPieces (pieces t) → at.at ≡ 0
     → at.len ≡ length t → bytes_left at ≡ take (length t) t → IsCounted t at 1
-count_begins t at h l a n e =
+count_begins t at h a n e =
     let w = whole t at e in
     record {
-      left = l;
       short = subst AreShortPieces (sym w) h;
       sum = omega (arith, ap length w);
       few =
@@ -49,22 +47,10 @@ count_begins t at h l a n e =
       end = omega arith;
     }
 
-pub count_on : {t : Text} {at m : Left} {count : ℕ} → IsCounted t at count → IsNextPiece at m
-    → IsCounted t m (count + 1)
-count_on {t} {at} {m} {count} c n =
-    let w = subst AreShortPieces n.pieces c.short in
-    record {
-      left = n.left;
-      short = w.1;
-      sum = omega (arith, c.sum, ap length n.pieces);
-      few = omega (arith, c.few, next_at c.left n);
-      end = omega (arith, c.end, n.end);
-    }
-
 pub count_ends : {t : Text} {at : Left} {count : ℕ} → IsCounted t at count → at.n ≡ at.len
     → count ≡ length (pieces t)
 count_ends {t} {at} {count} c e =
-    let one = last_piece at c.left e (first_short at c.short) in
+    let one = last_piece at e (first_short at c.short) in
     omega (arith, c.sum, ap length one.one)
 
 length_told : (s : State) (ps : List Text) → length (told s ps) ≡ length ps
@@ -88,7 +74,6 @@ length_rows_of ps = length_rows 0 ps
 
 -- the rows up to this piece stand in the table, and what was behind them still does
 pub record IsWritten (t : Text) (at : Left) (s : State) (from : ℕ) (before table : Text) : Type 0 where
-  pub left : IsRemainder at
   pub short : AreShortPieces (pieces_left at)
   pub done : Text
   pub long : length done ≡ from
@@ -99,13 +84,12 @@ pub record IsWritten (t : Text) (at : Left) (s : State) (from : ℕ) (before tab
 
 pub write_begins : (M : Locale) (t : Text) (at : Left) (before : Text) → IsNormalTextOf M t
     → length (rows_of (parts_of M)) ≤ length before
-    → IsRemainder at → at.at ≡ 0 → at.len ≡ length t → bytes_left at ≡ take (length t) t
+    → at.at ≡ 0 → at.len ≡ length t → bytes_left at ≡ take (length t) t
     → IsWritten t at Start 0 before before
 unfolding rows_of
-write_begins M t at before h room l a n e =
+write_begins M t at before h room a n e =
     let w = whole t at e in
     record {
-      left = l;
       short = subst AreShortPieces (sym w) (text_told M t h).short;
       done = [];
       long = refl;
@@ -122,7 +106,7 @@ module _ {t : Text} {at : Left} {s : State} {from : ℕ} {before table : Text}
   row rest = at.at ∷ (at.at + at.n) ∷ kind_number (step s (piece_left at)).0 ∷ rest
 
   long_is : at.n ≡ length (piece_left at)
-  long_is = length_piece h.left (first_short at h.short)
+  long_is = length_piece at (first_short at h.short)
 
   -- the table with them
   stands_more : (after : Text) → after ≡ take from table ++ row (drop (from + 3) table)
@@ -158,7 +142,7 @@ module _ {t : Text} {at : Left} {s : State} {from : ℕ} {before table : Text}
 
   -- the piece ends within the text
   pub ends_within : at.at + at.n ≤ length t
-  ends_within = omega (arith, h.end, long_is, length_rest h.left, first_within (bytes_left at))
+  ends_within = omega (arith, h.end, long_is, length_rest at, first_within (bytes_left at))
 
   pub write_on : {m : Left} (after : Text) → after ≡ take from table ++ row (drop (from + 3) table)
       → IsNextPiece at m
@@ -166,13 +150,12 @@ module _ {t : Text} {at : Left} {s : State} {from : ℕ} {before table : Text}
   write_on {m} after e n =
       let w = subst AreShortPieces n.pieces h.short in
       record {
-        left = n.left;
         short = w.1;
         done = h.done ++ row [];
         long = omega (arith, h.long, length-append h.done (row []));
         rows = rows_more (pieces_left m) n.pieces
             ∙ ap (λ k. (h.done ++ row []) ++ rows_from k (told (step s (piece_left at)).1 (pieces_left m)))
-            (sym (next_at h.left n));
+            (sym (next_at at m n));
         stands = stands_more after e;
         fits = omega (arith, h.fits, ap length n.pieces);
         end = omega (arith, h.end, n.end);
@@ -184,7 +167,7 @@ module _ {t : Text} {at : Left} {s : State} {from : ℕ} {before table : Text}
       → after ≡ rows_of (parts_of M) ++ drop (length (rows_of (parts_of M))) before
   unfolding rows_of
   write_ends after e last M is =
-      let one = last_piece at h.left last (first_short at h.short) in
+      let one = last_piece at last (first_short at h.short) in
       let all : rows_from 0 (parts_of M) ≡ h.done ++ row [] =
       ap (rows_from 0) (sym (text_told M t is).told) ∙ rows_more [] one.one ∙ append-nil (h.done ++ row []) in
       let long : length (rows_from 0 (parts_of M)) ≡ from + 3 =

@@ -34,7 +34,7 @@ fn is_true(word: &Subtag) -> bool
 }
 
 // The value of `sd` as it is printed: the subdivision if it is not a whole region.
-#[tactic(auto, using(crate::proofs::PartLemmas::whole_keyword, crate::proofs::PartLemmas::part_keyword))]
+#[tactic(auto, using(iloc_data_parts::proofs::PartLemmas::whole_keyword, crate::proofs::PartLemmas::part_keyword))]
 fn subdivision_of(parts: &DataParts) -> Option<Option<Subtag>>
     ensures { option_map option_to_list result
         ≡ option_map subdivision_value (subdivision_keyword (value_of parts.now)) }

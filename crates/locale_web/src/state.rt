@@ -2,7 +2,7 @@
 ghost use Rattle.std.specs.Prelude.{◌≡◌, slice_index, true};
 ghost use Rattle.std.specs.Char.{to_ascii_lowercase};
 ghost use Rattle.iloc_spec_grammar.specs.Syntax.{is_one_byte};
-ghost use Rattle.iloc_pieces.specs.Left.{IsRemainder, piece_left};
+ghost use Rattle.iloc_pieces.specs.Left.{piece_left};
 ghost use Rattle.locale_web.specs.Steps.{is_singleton_piece, begun, inside, step, word_kind};
 
 use crate::kind::Kind;
@@ -33,7 +33,6 @@ pub enum State {
 
 // What a word after a language is.
 fn word_kind(at: Left<'_>) -> Kind
-    requires { IsRemainder at }
     ensures { result ≡ word_kind (piece_left at.entry) }
 {
     if is_script(at) {
@@ -59,7 +58,6 @@ fn begun(byte: u8) -> State
 
 // Whether the piece begins a part: it has one byte, and is not private.
 fn is_singleton_piece(state: State, at: Left<'_>) -> bool
-    requires { IsRemainder at }
     ensures { result ≡ is_singleton_piece state (piece_left at.entry) }
 {
     match state {
@@ -70,7 +68,6 @@ fn is_singleton_piece(state: State, at: Left<'_>) -> bool
 
 // What a piece is that begins no part, and what comes after it.
 fn inside(state: State, at: Left<'_>) -> (Kind, State)
-    requires { IsRemainder at }
     ensures { result ≡ inside state (piece_left at.entry) }
 {
     match state {
@@ -113,7 +110,6 @@ fn inside(state: State, at: Left<'_>) -> (Kind, State)
 
 /// What the piece is, and what comes after it.
 pub fn step(state: State, at: Left<'_>) -> (Kind, State)
-    requires { IsRemainder at }
     ensures { result ≡ step state (piece_left at.entry) }
 {
     if is_singleton_piece(state, at) {

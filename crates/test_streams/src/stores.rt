@@ -27,7 +27,7 @@ fn three<S: Store<u16, u16>>(alloc: Global) -> Result<S, AllocError> {
 
 /// Takes the first pair out, if there is one.
 fn take_first<S: Store<u16, u16>>(store: &mut S) -> Option<(u16, u16)> {
-    if store.lm_pairs().is_empty() {
+    if store.lm_is_empty() {
         return None;
     }
     Some(store.lm_remove(0))
@@ -36,7 +36,7 @@ fn take_first<S: Store<u16, u16>>(store: &mut S) -> Option<(u16, u16)> {
 /// Keeps the pairs above 1, sets the first value, and takes that pair out.
 fn change<S: Store<u16, u16>>(store: &mut S) -> Option<(u16, u16)> {
     store.lm_retain(|key: &u16, _value: &u16| *key > 1);
-    if !store.lm_pairs().is_empty() {
+    if !store.lm_is_empty() {
         *store.lm_value_mut(0) = 9;
     }
     take_first(store)

@@ -1,7 +1,7 @@
 use Rattle.std.proofs.Common.{◌≡◌, false, Option, sym, subst}
 use Rattle.iloc_spec_grammar.specs.Syntax.{lower}
 use Rattle.iloc_pieces.specs.Left.{piece_left}
-use Rattle.iloc_pieces.specs.declared.left.Left.{Left}
+use Rattle.iloc_pieces.specs.declared.cursor.Left.{Left}
 use Rattle.iloc_normalize.specs.declared.Mode.{Mode}
 use Rattle.iloc_faults.specs.Next.{is_new}
 use Rattle.iloc_faults.specs.States.{AreVariantsRead}

@@ -22,7 +22,7 @@ pub returns : goal.returns
 returns c vs seen h =
     let begins = sym c.may_begin.ensures ∙ c.if-not-may_begin.false in
     let bit = c.bit_of-bit.ensures ∙ ap (λ (x : ℕ). 2 ^ bit_place x) c.singleton-byte.ensures in
-    block_read c.args.at c.args.state.part _ seen c.requires.single begins
+    block_read c.args.at c.args.state.part _ seen c.requires begins
     (seen_not c.args.state.seen seen h.seen_are (slice_index (piece_left c.args.at) 0)
     (and_parts (may_end c.args.state.part) (is_ascii_alphanumeric (slice_index (piece_left c.args.at) 0))
     begins).1 (sym (ap (bit_and c.args.state.seen) bit) ∙ c.if-state-bit-ne0.false))

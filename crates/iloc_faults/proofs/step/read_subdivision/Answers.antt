@@ -8,14 +8,14 @@ use Rattle.iloc_faults.proofs.step.read_subdivision.Goals as goal
 pub slice_bounds-try_from_utf8-end : goal.slice_bounds-try_from_utf8-end
 slice_bounds-try_from_utf8-end c =
     let a = sym c.is_attribute.ensures ∙ c.if-not-is_attribute.false in
-    cut_inside c.requires (short_attribute _ a)
+    cut_inside c.args.at (short_attribute _ a)
 
 pub returns-in-Ok : goal.returns-in-Ok
 returns-in-Ok c =
     let a = sym c.is_attribute.ensures ∙ c.if-not-is_attribute.false in
     let t = sym c.is_true.ensures ∙ c.if-is_true.false in
     named_next (piece_left c.args.at) _ c.in-Ok.word a t
-    (ap (read Subtag _) (sym (cut_bytes c.requires (short_attribute _ a))) ∙ sym c.try_from_utf8.ensures
+    (ap (read Subtag _) (sym (cut_bytes c.args.at (short_attribute _ a))) ∙ sym c.try_from_utf8.ensures
     ∙ c.in-Ok.is) _
     (c.when.ensures
     ∙ ap (λ b. Rattle.iloc_faults.specs.Next.when b
@@ -26,5 +26,5 @@ pub returns-in-Err : goal.returns-in-Err
 returns-in-Err c =
     let a = sym c.is_attribute.ensures ∙ c.if-not-is_attribute.false in
     absurd (named_never (piece_left c.args.at) _ c.in-Err.field-0 a
-    (ap (read Subtag _) (sym (cut_bytes c.requires (short_attribute _ a))) ∙ sym c.try_from_utf8.ensures
+    (ap (read Subtag _) (sym (cut_bytes c.args.at (short_attribute _ a))) ∙ sym c.try_from_utf8.ensures
     ∙ c.in-Err.is))

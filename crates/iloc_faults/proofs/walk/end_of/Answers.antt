@@ -4,8 +4,8 @@ use Rattle.iloc_faults.proofs.walk.end_of.Goals as goal
 
 pub returns-else-at-end-ne45 : goal.returns-else-at-end-ne45
 returns-else-at-end-ne45 c =
-    scan_ends c.requires c.loop-end.end c.loop-end.invariant (λ _. c.if-at-end-ne45.false)
+    scan_ends c.args.at c.loop-end.end c.loop-end.invariant (λ _. c.if-at-end-ne45.false)
 
 pub returns-after-loop-end : goal.returns-after-loop-end
 returns-after-loop-end c =
-    scan_ends c.requires c.loop-end.end c.loop-end.invariant (λ less. absurd (omega arith))
+    scan_ends c.args.at c.loop-end.end c.loop-end.invariant (λ less. absurd (omega arith))

@@ -4,7 +4,7 @@ use Rattle.iloc_faults.proofs.Walks.{none_else}
 use Rattle.iloc_faults.proofs.walk.walk.Goals as goal
 
 pub pieces-init : goal.pieces-init
-pieces-init c = walk_starts c.args.mode c.args.text.now c.left_in-at.result c.left_in-at.ensures.left
+pieces-init c = walk_starts c.args.mode c.args.text.now c.left_in-at.result
     c.left_in-at.ensures.at c.left_in-at.ensures.rest
 
 pub returns-in_default-clause-bad : goal.returns-in_default-clause-bad

@@ -1,5 +1,5 @@
 -- The one at the place of the singleton is that of the singleton, if there is one.
-use Rattle.std.proofs.Common.{ℕ, List, option_map, slice_get, ap, ◌∙◌}
+use Rattle.std.proofs.Common.{List, option_map, slice_get, ap, ◌∙◌}
 use Rattle.std.specs.FinMap.{find}
 use Rattle.std.specs.Ordering.{nat_cmp}
 use Rattle.iloc_handles.proofs.ItemLemmas.{item_at}

@@ -1,4 +1,4 @@
-use Rattle.std.proofs.Common.{◌++◌, ap, ◌∙◌, arith, List, ℕ}
+use Rattle.std.proofs.Common.{◌++◌, ap, ◌∙◌, arith}
 use Rattle.iloc_json.proofs.CarryLemmas.{refused, no_memory, one_more, dropped}
 use Rattle.iloc_json.proofs.carry.carry_v1.Goals as goal
 use Rattle.iloc_spec_grammar.specs.Syntax.{Text}

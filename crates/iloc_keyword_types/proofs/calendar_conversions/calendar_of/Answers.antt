@@ -1,4 +1,4 @@
-use Rattle.std.proofs.Common.{ℕ, List, length, ◌<◌, ◌≤◌, subst}
+use Rattle.std.proofs.Common.{List, length, ◌<◌, ◌≤◌, subst}
 use Rattle.iloc_keyword_types.proofs.CalendarLemmas.{below_one, from_four}
 use Rattle.iloc_keyword_types.proofs.calendar_conversions.calendar_of.Goals as goal
 use Rattle.iloc_spec_grammar.specs.Syntax.{Text}

@@ -1,4 +1,4 @@
-use Rattle.std.proofs.Common.{◌≡◌, ◌<◌, ◌∙◌, ℕ, List, [], ◌∷◌, Some, length, refl, sym, ap, subst, arith}
+use Rattle.std.proofs.Common.{◌≡◌, ◌<◌, ◌∙◌, List, [], ◌∷◌, Some, length, refl, sym, ap, subst, arith}
 use Rattle.std.proofs.Common.{codes}
 use Rattle.iloc_spec_grammar.specs.Syntax.{Text, Subtag, is_word, lower}
 use Rattle.iloc_spec_grammar.specs.Values.{IsNormal, spelled_value}

@@ -1,4 +1,4 @@
-use Rattle.std.proofs.Common.{List, [], ℕ, subst}
+use Rattle.std.proofs.Common.{[], subst}
 use Rattle.iloc_spec_grammar.specs.Syntax.{Text, pieces}
 use Rattle.iloc_langid.specs.PlainReads.{IsPlainFront}
 use Rattle.iloc_langid.proofs.PlainLemmas.{plain_means}

@@ -1,4 +1,4 @@
-use Rattle.std.proofs.Common.{List, [], ℕ, subst}
+use Rattle.std.proofs.Common.{[], subst}
 use Rattle.iloc_pieces.specs.Front.{HasNoLanguage}
 use Rattle.iloc_spec_grammar.specs.Syntax.{Text, pieces}
 use Rattle.iloc_langid.specs.PlainReads.{IsPlainFront}

@@ -1,4 +1,4 @@
-use Rattle.std.proofs.Common.{◌≡◌, ℕ, List, ◌++◌, length}
+use Rattle.std.proofs.Common.{◌≡◌, ◌++◌, length}
 use Rattle.iloc_lines.specs.ReplyBlock.{held}
 use Rattle.iloc_lines.specs.Answers.{output}
 use Rattle.iloc_spec_grammar.specs.Syntax.{Text, languages}

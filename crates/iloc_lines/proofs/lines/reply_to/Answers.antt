@@ -1,4 +1,4 @@
-use Rattle.std.proofs.Common.{ℕ, List, [], ◌∷◌, ◌≡◌, ◌++◌, ◌∙◌, ap, OnOk, subst, take}
+use Rattle.std.proofs.Common.{[], ◌∷◌, ◌≡◌, ◌++◌, ◌∙◌, ap, OnOk, subst, take}
 use Rattle.iloc_lines.specs.Answers.{refusal_text}
 use Rattle.iloc_lines.specs.Replies.{IsReplied}
 use Rattle.iloc_lines.specs.ReplyBlock.{held}

@@ -1,4 +1,4 @@
-use Rattle.std.proofs.Common.{List, ℕ, subst}
+use Rattle.std.proofs.Common.{List, subst}
 use Rattle.iloc_locale.specs.ExtensionsValue.{value_of}
 use Rattle.iloc_locale.specs.Whole.{BlocksReads}
 use Rattle.iloc_locale.proofs.ReadLemmas.{blocks_read}

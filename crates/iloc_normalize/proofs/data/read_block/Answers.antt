@@ -16,7 +16,7 @@ returns-then-not-is_alphanumeric c =
       (
         InvalidExtension,
         refl,
-        unlettered c.args.head c.args.left c.requires single
+        unlettered c.args.head c.args.left single
             (sym c.is_alphanumeric.ensures ∙ c.if-not-is_alphanumeric.true),
       ),
     )
@@ -31,7 +31,7 @@ returns-then-singleton-ne117 c =
       (
         InvalidSubtag,
         refl,
-        other_letter c.args.head c.args.left c.requires single
+        other_letter c.args.head c.args.left single
             (sym c.is_alphanumeric.ensures ∙ c.if-not-is_alphanumeric.false) other,
       ),
     )
@@ -46,8 +46,8 @@ returns-then-is_last c =
       (
         InvalidExtension,
         refl,
-        u_alone c.args.head c.args.left c.requires single u
-            (last_piece c.args.left c.requires (c.is_last.ensures.0 c.if-is_last.true)
+        u_alone c.args.head c.args.left single u
+            (last_piece c.args.left (c.is_last.ensures.0 c.if-is_last.true)
             (single_short _ single)).one,
       ),
     )
@@ -65,7 +65,7 @@ returns-in-Misfit c =
       (
         InvalidSubtag,
         refl,
-        misfit_read c.args.head c.args.left c.requires single u c.next.result c.next.ensures
+        misfit_read c.args.head c.args.left single u c.next.result c.next.ensures
             c.in-Misfit.ensures,
       ),
     )
@@ -80,7 +80,7 @@ returns-in-Unnamed c =
       (
         InvalidExtension,
         refl,
-        unnamed_read c.args.head c.args.left c.requires single u c.next.result c.next.ensures
+        unnamed_read c.args.head c.args.left single u c.next.result c.next.ensures
             c.in-Unnamed.ensures,
       ),
     )
@@ -90,5 +90,5 @@ returns-in-Named c =
     let single = sym c.is_single.ensures ∙ c.if-not-is_single.false in
     let u : is_u (slice_index (piece_left c.args.left) 0) ≡ true = eq-eqb _ _ (sym c.singleton.ensures
     ∙ c.if-singleton-ne117.false) in
-    named_read c.args.head c.args.left c.requires single u c.next.result c.next.ensures c.in-Named.value
+    named_read c.args.head c.args.left single u c.next.result c.next.ensures c.in-Named.value
     c.in-Named.ensures

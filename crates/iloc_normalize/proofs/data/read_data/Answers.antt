@@ -1,13 +1,13 @@
 use Rattle.std.proofs.Common.{◌≡◌, ◌+◌, inl, inr, Bool, false, true, [], ◌∷◌, refl, sym, ◌∙◌, subst, arith}
-use Rattle.iloc_pieces.specs.Left.{IsRemainder, piece_left, pieces_left}
-use Rattle.iloc_pieces.specs.declared.left.Left.{Left}
+use Rattle.iloc_pieces.specs.Left.{piece_left, pieces_left}
+use Rattle.iloc_pieces.specs.declared.cursor.Left.{Left}
 use Rattle.iloc_pieces.proofs.LeftLemmas.{last_piece, length_piece, next_at, short_variant}
 use Rattle.iloc_outline.specs.Identifier.{IsAfterFront, IsFrontRead}
 use Rattle.iloc_outline.specs.Reading.{unless_end}
 use Rattle.iloc_outline.specs.declared.identifier.Front.{Front}
 use Rattle.iloc_normalize.specs.Data.{IsDataBehind}
 use Rattle.iloc_normalize.specs.declared.data.Head.{Head}
-use Rattle.iloc_normalize.proofs.Reading.{all_front, at_front, end_there, front_head, left_there}
+use Rattle.iloc_normalize.proofs.Reading.{all_front, at_front, end_there, front_head}
 use Rattle.iloc_normalize.proofs.Reading.{pieces_there}
 use Rattle.iloc_normalize.proofs.Reading.{read_alone, read_on, varied_head, window_there, within_there}
 use Rattle.iloc_normalize.proofs.data.read_data.Goals as goal
@@ -27,13 +27,30 @@ returns-then-front c =
     let m = c.read_front-front.new.left in
     let f = c.read_front-front.result in
     let read = c.read_front-front.ensures in
-    let cut = all_front w len c.requires.inside c.requires.begins l e.left e.rest e.at e.len e.window m f
+    let cut = all_front w len c.requires.inside c.requires.begins l e.rest e.at e.len e.window m f
     read
     (follows l m f true read c.if-front.true) in
     read_alone w len c.requires.begins [] tt (omega arith) (record { front = f; end = f.end })
-    (front_head w len c.requires.inside c.requires.begins l e.left e.rest e.at e.len e.window m f read []
+    (front_head w len c.requires.inside c.requires.begins l e.rest e.at e.len e.window m f read []
     cut) cut
     (let a = read.inside in let b = e.at in let d = e.len in omega (arith, a, b, d))
+
+pub overflow_add-head : goal.overflow_add-head
+overflow_add-head c =
+    let l = c.left_in-left.result in
+    let e = c.left_in-left.ensures in
+    let f = c.read_front-front.result in
+    let read = c.read_front-front.ensures in
+    let m = c.read_front-front.new.left in
+    let word = sym c.is_variant.ensures ∙ c.if-is_variant.true in
+    omega (
+      arith,
+      within_there c.args.window.now c.args.len c.requires.inside c.requires.begins l e.rest e.at e.len
+          e.window m
+          f read
+          (follows l m f false read c.if-front.false) word,
+      c.requires.inside,
+    )
 
 pub returns-then-is_last : goal.returns-then-is_last
 returns-then-is_last c =
@@ -46,49 +63,21 @@ returns-then-is_last c =
     let read = c.read_front-front.ensures in
     let after = follows l m f false read c.if-front.false in
     let word = sym c.is_variant.ensures ∙ c.if-is_variant.true in
-    let there = left_there w len c.requires.inside c.requires.begins l e.left e.rest e.at e.len e.window m
-    f read after in
-    let last = last_piece m there (c.is_last.ensures.0 c.if-is_last.true) (short_variant _ word) in
-    let cut = pieces_there w len c.requires.inside c.requires.begins l e.left e.rest e.at e.len e.window m
+    let last = last_piece m (c.is_last.ensures.0 c.if-is_last.true) (short_variant _ word) in
+    let cut = pieces_there w len c.requires.inside c.requires.begins l e.rest e.at e.len e.window m
     f read after ∙ last.one in
     read_alone w len c.requires.begins (piece_left m ∷ []) (word, tt) (omega arith) (record {
       front =
           f;
       end = m.at + m.n;
     })
-    (varied_head w len c.requires.inside c.requires.begins l e.left e.rest e.at e.len e.window m f read
+    (varied_head w len c.requires.inside c.requires.begins l e.rest e.at e.len e.window m f read
     after word [] cut) cut
-    (within_there w len c.requires.inside c.requires.begins l e.left e.rest e.at e.len e.window m f read
+    (within_there w len c.requires.inside c.requires.begins l e.rest e.at e.len e.window m f read
     after word)
-
-pub advance-requires-clause-left : goal.advance-requires-clause-left
-advance-requires-clause-left c =
-    let l = c.left_in-left.result in
-    let e = c.left_in-left.ensures in
-    let m = c.read_front-front.new.left in
-    let f = c.read_front-front.result in
-    let read = c.read_front-front.ensures in
-    left_there c.args.window.now c.args.len c.requires.inside c.requires.begins l e.left e.rest e.at e.len
-    e.window m f read
-    (follows l m f false read c.if-front.false)
 
 pub advance-requires-clause-short : goal.advance-requires-clause-short
 advance-requires-clause-short c = short_variant _ (sym c.is_variant.ensures ∙ c.if-is_variant.true)
-
-pub read_block-requires : goal.read_block-requires
-read_block-requires c =
-    let l = c.left_in-left.result in
-    let e = c.left_in-left.ensures in
-    let m = c.read_front-front.new.left in
-    let f = c.read_front-front.result in
-    let read = c.read_front-front.ensures in
-    elim c.if-is_variant.branch [
-      | then-is_variant+else-is_last x ↦ subst IsRemainder (sym x.left-is) x.advance.ensures.left
-      | else-is_variant x ↦ subst IsRemainder (sym x.left-is)
-          (left_there c.args.window.now c.args.len c.requires.inside c.requires.begins l e.left e.rest e.at
-          e.len e.window m f read
-          (follows l m f false read c.if-front.false))
-    ]
 
 pub returns : goal.returns
 returns c =
@@ -100,31 +89,29 @@ returns c =
     let f = c.read_front-front.result in
     let read = c.read_front-front.ensures in
     let after = follows l m f false read c.if-front.false in
-    let there = pieces_there w len c.requires.inside c.requires.begins l e.left e.rest e.at e.len e.window
+    let there = pieces_there w len c.requires.inside c.requires.begins l e.rest e.at e.len e.window
     m f read after in
-    let at = at_front w len c.requires.inside c.requires.begins l e.left e.rest e.at e.len e.window m f
+    let at = at_front w len c.requires.inside c.requires.begins l e.rest e.at e.len e.window m f
     read after in
-    let end = end_there w len c.requires.inside c.requires.begins l e.left e.rest e.at e.len e.window m f
+    let end = end_there w len c.requires.inside c.requires.begins l e.rest e.at e.len e.window m f
     read after in
-    let window = window_there w len c.requires.inside c.requires.begins l e.left e.rest e.at e.len e.window
+    let window = window_there w len c.requires.inside c.requires.begins l e.rest e.at e.len e.window
     m f read after in
-    let left = left_there w len c.requires.inside c.requires.begins l e.left e.rest e.at e.len e.window m f
-    read after in
     elim c.if-is_variant.branch [
       | then-is_variant+else-is_last x ↦
           let word = sym c.is_variant.ensures ∙ x.if-is_variant.true in
           let k = x.advance.new.left in
           let n = x.advance.ensures in
           let cut = there ∙ n.pieces in
-          let next = next_at left n in
-          let size = length_piece left (short_variant _ word) in
+          let next = next_at m k n in
+          let size = length_piece m (short_variant _ word) in
           let stop = n.end in
           read_on w len c.requires.begins (piece_left m ∷ []) (word, tt) (omega arith) (record {
             front =
                 f;
             end = m.at + m.n;
           })
-          (varied_head w len c.requires.inside c.requires.begins l e.left e.rest e.at e.len e.window m f
+          (varied_head w len c.requires.inside c.requires.begins l e.rest e.at e.len e.window m f
           read after word (pieces_left k) cut)
           k cut (n.window ∙ window) (omega (arith, next, size)) (omega (arith, stop, end)) (inr refl)
           c.read_block.result (subst (λ (g : Head). IsDataBehind g k c.read_block.result) x.head-is
@@ -133,7 +120,7 @@ returns c =
       | else-is_variant x ↦
           let other = sym c.is_variant.ensures ∙ x.if-is_variant.false in
           read_on w len c.requires.begins [] tt (omega arith) (record { front = f; end = f.end })
-          (front_head w len c.requires.inside c.requires.begins l e.left e.rest e.at e.len e.window m f
+          (front_head w len c.requires.inside c.requires.begins l e.rest e.at e.len e.window m f
           read (pieces_left m) there)
           m there window at end (inl (refl, other))
           c.read_block.result (subst (λ (g : Head). IsDataBehind g m c.read_block.result) x.head-is

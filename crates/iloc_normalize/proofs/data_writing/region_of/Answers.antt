@@ -1,4 +1,4 @@
-use Rattle.std.proofs.Common.{◌≡◌, ◌+◌, ◌-◌, ℕ, List, Option, IfSome, subst, take, drop, ap, ◌∙◌, arith}
+use Rattle.std.proofs.Common.{◌≡◌, ◌+◌, ◌-◌, ℕ, Option, IfSome, subst, take, drop, ap, ◌∙◌, arith}
 use Rattle.iloc_spec_grammar.specs.Syntax.{Text, upper}
 use Rattle.iloc_normalize.proofs.data_writing.region_of.Goals as goal
 

@@ -1,4 +1,4 @@
-use Rattle.std.proofs.Common.{◌≡◌, ◌-◌, ℕ, List, Option, IfSome, inl, inr, refl, subst, take, drop, ap, ◌∙◌}
+use Rattle.std.proofs.Common.{◌≡◌, ◌-◌, Option, IfSome, inl, inr, refl, subst, take, drop, ap, ◌∙◌}
 use Rattle.std.specs.Cmp.Lexicographic.{texts_ties}
 use Rattle.iloc_spec_grammar.specs.Syntax.{Text, is_same, upper}
 use Rattle.iloc_normalize.proofs.Named.{put_all, put_head, put_part, put_whole}

@@ -1,4 +1,4 @@
-use Rattle.std.proofs.Common.{List, ℕ, sym, subst, ◌∙◌, true≢false, IfSome}
+use Rattle.std.proofs.Common.{sym, subst, ◌∙◌, true≢false, IfSome}
 use Rattle.std.specs.Str.{IsUtf8}
 use Rattle.iloc_spec_grammar.specs.Syntax.{Text, languages}
 use Rattle.iloc_pieces.specs.Normal.{IsPlainText}

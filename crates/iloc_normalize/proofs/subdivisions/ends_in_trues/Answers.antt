@@ -10,8 +10,8 @@ returns-then-not-is_attribute c =
     no_word c.args.word c.trues.at c.next-at.result c.trues.invariant.same c.next-at.ensures
     (sym c.is_attribute.ensures ∙ c.if-not-is_attribute.true)
 
-pub is_true-requires-clause-short : goal.is_true-requires-clause-short
-is_true-requires-clause-short c = short_attribute _ (sym c.is_attribute.ensures
+pub is_true-requires : goal.is_true-requires
+is_true-requires c = short_attribute _ (sym c.is_attribute.ensures
     ∙ c.if-not-is_attribute.false)
 
 pub returns-then-not-is_true : goal.returns-then-not-is_true
@@ -23,7 +23,6 @@ returns-then-not-is_true c =
 pub trues-preserved : goal.trues-preserved
 trues-preserved c =
     let word = sym c.is_attribute.ensures ∙ c.if-not-is_attribute.false in record {
-      left = c.next-at.ensures.left;
       short = short_attribute _ word;
       same = goes_on c.args.word c.trues.at c.next-at.result c.trues.invariant.same c.next-at.ensures word
           (sym c.is_true.ensures ∙ c.if-not-is_true.false);
@@ -33,5 +32,4 @@ pub returns : goal.returns
 returns c =
     sym (c.trues.invariant.same
     ∙ ap (λ ps. are_trues (rest_of ps))
-    (last_piece c.trues.at c.trues.invariant.left
-    (c.is_last.ensures.0 c.trues-test.false) c.trues.invariant.short).one)
+    (last_piece c.trues.at (c.is_last.ensures.0 c.trues-test.false) c.trues.invariant.short).one)

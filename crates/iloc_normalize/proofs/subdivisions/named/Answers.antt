@@ -8,21 +8,19 @@ use Rattle.iloc_normalize.proofs.subdivisions.named.Goals as goal
 pub returns-then-region-eq0 : goal.returns-then-region-eq0
 returns-then-region-eq0 c =
     let m = c.args.word in
-    let left = c.requires.word_left in
     let word = c.requires.word in
     inr (unnamed (piece_left m) (subst (EndsRegion (piece_left m)) c.if-region-eq0.true
-    (c.region_len-region.ensures (piece_left m) (all_there m left word) (long_there m left word)
-    (shape_there m left word))))
+    (c.region_len-region.ensures (piece_left m) (all_there m word) (long_there m word)
+    (shape_there m word))))
 
 pub returns : goal.returns
 returns c =
     let m = c.args.word in
-    let left = c.requires.word_left in
     let word = c.requires.word in (
       sym c.is_sd.ensures ∙ c.if-not-is_sd.false,
       refl,
-      length_piece left (short_attribute (piece_left m) word),
-      named_there m left word c.requires.other c.region_len-region.result c.if-region-eq0.false
-          (c.region_len-region.ensures (piece_left m) (all_there m left word) (long_there m left word)
-          (shape_there m left word)),
+      length_piece m (short_attribute (piece_left m) word),
+      named_there m word c.requires.other c.region_len-region.result c.if-region-eq0.false
+          (c.region_len-region.ensures (piece_left m) (all_there m word) (long_there m word)
+          (shape_there m word)),
     )

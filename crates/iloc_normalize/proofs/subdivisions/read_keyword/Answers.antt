@@ -19,8 +19,8 @@ returns-then-not-is_key c =
     ∙ c.if-is_attribute.false)
     (sym c.is_key.ensures ∙ c.if-not-is_key.true)
 
-pub read_subtags-requires-clause-short : goal.read_subtags-requires-clause-short
-read_subtags-requires-clause-short c =
+pub read_subtags-requires : goal.read_subtags-requires
+read_subtags-requires c =
     short_key (piece_left c.args.key) (sym c.is_key.ensures ∙ c.if-not-is_key.false)
 
 pub returns-in-Misfit : goal.returns-in-Misfit

@@ -4,21 +4,21 @@ use Rattle.iloc_normalize.proofs.Subtags.{misfit, not_only, only_one, only_trues
 use Rattle.iloc_normalize.proofs.subdivisions.read_subtags.Goals as goal
 
 pub trues-init : goal.trues-init
-trues-init c = reaches_key c.args.key c.requires.left c.requires.short
+trues-init c = reaches_key c.args.key c.requires
 
 pub returns-then-is_last : goal.returns-then-is_last
 returns-then-is_last c =
     let h = c.trues.invariant in
     only_trues c.args.key c.trues.at h
-    (last_piece c.trues.at h.left (c.is_last.ensures.0 c.if-is_last.true) h.short).one
+    (last_piece c.trues.at (c.is_last.ensures.0 c.if-is_last.true) h.short).one
 
 pub returns-then-not-is_attribute : goal.returns-then-not-is_attribute
 returns-then-not-is_attribute c =
     misfit c.args.key c.trues.at c.trues.invariant c.next-at.result c.next-at.ensures
     (sym c.is_attribute.ensures ∙ c.if-not-is_attribute.true)
 
-pub is_true-requires-clause-short : goal.is_true-requires-clause-short
-is_true-requires-clause-short c = short_attribute _ (sym c.is_attribute.ensures
+pub is_true-requires : goal.is_true-requires
+is_true-requires c = short_attribute _ (sym c.is_attribute.ensures
     ∙ c.if-not-is_attribute.false)
 
 pub trues-preserved : goal.trues-preserved
@@ -27,8 +27,8 @@ trues-preserved c =
     (sym c.is_attribute.ensures ∙ c.if-not-is_attribute.false) (sym c.is_true.ensures
     ∙ c.if-not-is_true.false)
 
-pub ends_in_trues-requires-clause-short : goal.ends_in_trues-requires-clause-short
-ends_in_trues-requires-clause-short c = short_attribute _ (sym c.is_attribute.ensures
+pub ends_in_trues-requires : goal.ends_in_trues-requires
+ends_in_trues-requires c = short_attribute _ (sym c.is_attribute.ensures
     ∙ c.if-not-is_attribute.false)
 
 pub returns-then-ends_in_trues : goal.returns-then-ends_in_trues

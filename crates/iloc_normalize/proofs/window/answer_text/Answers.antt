@@ -1,4 +1,4 @@
-use Rattle.std.proofs.Common.{◌<◌, List, ℕ, length, subst, arith}
+use Rattle.std.proofs.Common.{◌<◌, length, subst, arith}
 use Rattle.iloc_normalize.specs.Answered.{IsBeyond, IsNothingOnlyIf}
 use Rattle.iloc_normalize.proofs.OutlinedLemmas.{few_answered}
 use Rattle.iloc_normalize.proofs.window.answer_text.Goals as goal

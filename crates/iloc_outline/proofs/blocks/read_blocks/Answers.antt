@@ -18,7 +18,7 @@ use Rattle.iloc_outline.proofs.blocks.read_blocks.Goals.{then-rank-last+else-has
 pub singletons-init : goal.singletons-init
 singletons-init c =
     at.starts_at c.args.left.now c.args.spans.now c.args.in_order.now
-    c.requires.left c.requires.later c.requires.single
+    c.requires.within.later c.requires.single
 
 pub returns-then-not-is_alphanumeric : goal.returns-then-not-is_alphanumeric
 returns-then-not-is_alphanumeric c =
@@ -49,8 +49,13 @@ returns-then-is_last c =
           c.if-rank-last.in_order w.in_order-is
     ] in
     at.refuses_end h letter fresh.new
-    (last_piece c.singletons.left h.left (c.is_last.ensures.0 c.if-is_last.true)
+    (last_piece c.singletons.left (c.is_last.ensures.0 c.if-is_last.true)
     (single_short (piece_left c.singletons.left) h.single))
+
+pub read_body-found-requires-clause-singleton : goal.read_body-found-requires-clause-singleton
+read_body-found-requires-clause-singleton c =
+    let h = c.singletons.invariant in
+    (at.byte_at h, sym c.singleton-byte.ensures, at.spanned_at h c.advance.ensures)
 
 -- what was read behind the singleton, if it is r
 abbrev IsReadAs : After-read_body-found → Found → Type 0

@@ -4,7 +4,7 @@ use Rattle.iloc_outline.specs.contracts.span.Role.{the_type}
 use Rattle.iloc_outline.specs.declared.span.Role.TheVariants.{Field}
 use Rattle.iloc_outline.specs.Reading.{unless_end}
 use Rattle.iloc_outline.specs.declared.fields.Value.{Value}
-use Rattle.iloc_pieces.specs.declared.left.Left.{Left}
+use Rattle.iloc_pieces.specs.declared.cursor.Left.{Left}
 use Rattle.iloc_outline.proofs.FieldLemmas.{ends_in_key, field_less, field_within, key_kind_fits, takes_end}
 use Rattle.iloc_outline.proofs.FieldLemmas.{takes_full, takes_more, takes_none, takes_past}
 use Rattle.iloc_outline.proofs.GatherLemmas.{gathers_from}
@@ -24,14 +24,8 @@ ends m v = ap (behind m)
 
 pub keys-init : goal.keys-init
 keys-init c =
-    takes_none c.args.role c.args.left.now c.requires.left c.requires.later c.args.spans.now
+    takes_none c.args.role c.args.left.now c.requires.within.later c.args.spans.now
     c.args.in_order.now
-
-pub is_key_of-requires : goal.is_key_of-requires
-is_key_of-requires c = c.keys.invariant.past.left
-
-pub read_value-value-requires-clause-left : goal.read_value-value-requires-clause-left
-read_value-value-requires-clause-left c = c.keys.invariant.past.left
 
 pub read_value-value-requires-clause-later : goal.read_value-value-requires-clause-later
 read_value-value-requires-clause-later c = c.keys.invariant.past.later
@@ -50,15 +44,12 @@ returns-then-value-eq0 c =
           field (sym c.is_key_of.ensures ∙ c.keys-test.true) c.if-value-eq0.true,
     )
 
-pub word_number-word-requires-clause-left : goal.word_number-word-requires-clause-left
-word_number-word-requires-clause-left c = c.keys.invariant.past.left
-
-pub word_number-word-requires-clause-word : goal.word_number-word-requires-clause-word
-word_number-word-requires-clause-word c =
+pub word_number-word-requires : goal.word_number-word-requires
+word_number-word-requires c =
     key_kind_fits c.args.role _ (sym c.is_key_of.ensures ∙ c.keys-test.true)
 
 pub overflow_cast-span : goal.overflow_cast-span
-overflow_cast-span c = omega (arith, c.keys.invariant.past.end, c.requires.few)
+overflow_cast-span c = omega (arith, c.keys.invariant.past.end, c.requires.within.few)
 
 pub overflow_cast-span-in-keys : goal.overflow_cast-span-in-keys
 overflow_cast-span-in-keys c =
@@ -66,7 +57,7 @@ overflow_cast-span-in-keys c =
     let inside =
     field_within c.args.role c.args.left.now c.keys.left _ _ _ _ _ c.keys.invariant v.new.left v.result
     v.ensures in
-    omega (arith, c.requires.few)
+    omega (arith, c.requires.within.few)
 
 pub put_from-requires : goal.put_from-requires
 put_from-requires c = gathers_from _ _ _ _ _ _ _ c.keys.invariant.gathers

@@ -7,20 +7,17 @@ use Rattle.iloc_outline.proofs.fields.read_value.Goals as goal
 use Rattle.iloc_outline.proofs.fields.read_value.Goals.{then-has_true, else-has_true}
 
 pub values-init : goal.values-init
-values-init c = reaches_key c.args.left.now c.requires.left c.requires.later c.requires.short
+values-init c = reaches_key c.args.left.now c.requires.later c.requires.short
 
 pub overflow_add-result : goal.overflow_add-result
 overflow_add-result c =
     let h = c.values.invariant in
-    omega (arith, end_within c.args.left.now c.values.left h.before h.past h.short, c.requires.left.inside)
+    omega (arith, end_within c.args.left.now c.values.left h.before h.past h.short, c.args.left.now.inside)
 
 pub returns-then-is_last : goal.returns-then-is_last
 returns-then-is_last c =
     value_last c.args.left.now c.values.left _ _ c.values.invariant c.requires.later
     (c.is_last.ensures.0 c.if-is_last.true)
-
-pub advance-requires-clause-left : goal.advance-requires-clause-left
-advance-requires-clause-left c = c.values.invariant.past.left
 
 pub advance-requires-clause-short : goal.advance-requires-clause-short
 advance-requires-clause-short c = c.values.invariant.short
@@ -30,12 +27,12 @@ returns-then-not-is_attribute c =
     value_before c.args.left.now c.values.left _ _ c.values.invariant c.requires.later
     c.advance.new.left c.advance.ensures (sym c.is_attribute.ensures ∙ c.if-not-is_attribute.true)
 
-pub is_true-has_true-requires-clause-short : goal.is_true-has_true-requires-clause-short
-is_true-has_true-requires-clause-short c =
+pub is_true-has_true-requires : goal.is_true-has_true-requires
+is_true-has_true-requires c =
     short_attribute _ (sym c.is_attribute.ensures ∙ c.if-not-is_attribute.false)
 
 pub overflow_add-count : goal.overflow_add-count
-overflow_add-count c = omega (arith, c.values.invariant.room, c.advance.ensures.less, c.requires.left.inside)
+overflow_add-count c = omega (arith, c.values.invariant.room, c.advance.ensures.less, c.args.left.now.inside)
 
 pub values-smaller : goal.values-smaller
 values-smaller c = c.advance.ensures.less

@@ -7,5 +7,5 @@ pub returns-then-is_last : goal.returns-then-is_last
 returns-then-is_last c =
     let fits = c.if-not-fits.false in
     subst (λ (b : Bool). IsOnePast b c.args.left.now None) (sym fits)
-    (last_piece c.args.left.now c.requires.left (c.is_last.ensures.0 c.if-is_last.true)
-    (c.requires.short fits)).one
+    (last_piece c.args.left.now (c.is_last.ensures.0 c.if-is_last.true)
+    (c.requires fits)).one

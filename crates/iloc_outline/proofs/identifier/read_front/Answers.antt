@@ -1,6 +1,6 @@
 use Rattle.std.proofs.Common.{◌≡◌, ◌==◌, ◌&&◌, Bool, true, false, None, Some, cond, sym, ap, subst, ◌∙◌}
 use Rattle.iloc_pieces.specs.Left.{piece_left}
-use Rattle.iloc_pieces.specs.declared.left.Left.{Left}
+use Rattle.iloc_pieces.specs.declared.cursor.Left.{Left}
 use Rattle.iloc_outline.specs.Identifier.{IsOnePast}
 use Rattle.iloc_outline.specs.Reading.{unless_end}
 use Rattle.iloc_outline.proofs.Fronts.{front_read, front_alone, front_to_script, front_to_region}
@@ -17,17 +17,17 @@ goes_on : (fits : Bool) (l m : Left) (r : Bool) → r ≡ false → IsOnePast fi
     → IsOnePast fits l (Some m)
 goes_on fits l m r = subst (λ (b : Bool). IsOnePast fits l (unless_end b m))
 
-pub ends_at-requires-clause-short : goal.ends_at-requires-clause-short
-ends_at-requires-clause-short c = λ _. short_language (piece_left c.args.left.now) c.requires.language
+pub ends_at-requires : goal.ends_at-requires
+ends_at-requires c = λ _. short_language (piece_left c.args.left.now) c.requires
 
 pub returns-then-ends_at : goal.returns-then-ends_at
 returns-then-ends_at c =
     let l = c.args.left.now in
-    front_read l c.ends_at.new.left true _ _ c.requires.left c.requires.language
+    front_read l c.ends_at.new.left true _ _ c.requires
     (front_alone l (ends true l c.ends_at.new.left _ c.if-ends_at.true c.ends_at.ensures))
 
-pub ends_at-requires-2-clause-short : goal.ends_at-requires-2-clause-short
-ends_at-requires-2-clause-short c =
+pub ends_at-requires-2 : goal.ends_at-requires-2
+ends_at-requires-2 c =
     λ is. short_script (piece_left c.ends_at.new.left) (sym c.is_script-has_script.ensures ∙ is)
 
 pub returns-then-ends_at-2 : goal.returns-then-ends_at-2
@@ -36,13 +36,13 @@ returns-then-ends_at-2 c =
     let second = c.ends_at.new.left in
     let has = c.is_script-has_script in
     let next = goes_on true l second _ c.if-ends_at.false c.ends_at.ensures in
-    front_read l c.ends_at-2.new.left true c.place.result _ c.requires.left c.requires.language
-    (front_to_script c.requires.left c.requires.language next has.result has.ensures
+    front_read l c.ends_at-2.new.left true c.place.result _ c.requires
+    (front_to_script c.requires next has.result has.ensures
     c.place.result c.place.ensures
     (ends has.result second c.ends_at-2.new.left _ c.if-ends_at-2.true c.ends_at-2.ensures))
 
-pub ends_at-requires-3-clause-short : goal.ends_at-requires-3-clause-short
-ends_at-requires-3-clause-short c =
+pub ends_at-requires-3 : goal.ends_at-requires-3
+ends_at-requires-3 c =
     λ is. short_region (piece_left c.ends_at-2.new.left) (sym c.is_region-has_region.ensures ∙ is)
 
 pub returns-then-ends_at-3 : goal.returns-then-ends_at-3
@@ -58,8 +58,8 @@ returns-then-ends_at-3 c =
       | else-has_region w ↦ w.place-is ∙ w.if-has_region.false
           ∙ sym (ap (λ (b : Bool). b && (third.n == 2)) w.if-has_region.false)
     ] in
-    front_read l c.ends_at-3.new.left true c.place.result c.place-2.result c.requires.left c.requires.language
-    (front_to_region c.requires.left c.requires.language next has.result has.ensures
+    front_read l c.ends_at-3.new.left true c.place.result c.place-2.result c.requires
+    (front_to_region c.requires next has.result has.ensures
     c.place.result c.place.ensures third
     (goes_on has.result second third _ c.if-ends_at-2.false c.ends_at-2.ensures)
     fits.result fits.ensures c.place-2.result
@@ -80,8 +80,8 @@ returns c =
       | else-has_region w ↦ w.place-is ∙ w.if-has_region.false
           ∙ sym (ap (λ (b : Bool). b && (third.n == 2)) w.if-has_region.false)
     ] in
-    front_read l last false c.place.result c.place-2.result c.requires.left c.requires.language
-    (front_to_region c.requires.left c.requires.language next has.result has.ensures
+    front_read l last false c.place.result c.place-2.result c.requires
+    (front_to_region c.requires next has.result has.ensures
     c.place.result c.place.ensures third
     (goes_on has.result second third _ c.if-ends_at-2.false c.ends_at-2.ensures)
     fits.result fits.ensures c.place-2.result

@@ -11,7 +11,7 @@ use Rattle.iloc_outline.proofs.other.read_private.Goals as goal
 
 pub words-init : goal.words-init
 words-init c = record {
-  passed = record { words = []; past = past_none c.requires.left c.requires.later; each = tt };
+  passed = record { words = []; past = past_none c.args.left.now c.requires.follows.within.later; each = tt };
   spans =
       refl;
 }
@@ -21,11 +21,11 @@ returns-then-is_last c = λ c' e spanned o.
     let word : IsWord PrivateSubtag (piece_left c.words.left) =
     sym c.is_private.ensures ∙ c.words-test.true in
     let end : IsEnd c.words.left =
-    last_piece c.words.left c.words.invariant.passed.past.left (c.is_last.ensures.0 c.if-is_last.true)
+    last_piece c.words.left (c.is_last.ensures.0 c.if-is_last.true)
     (short_private (piece_left c.words.left) word) in
     let span : Span = block_span 255 c.args.start (c.words.left.at + c.words.left.n) false in
     private_end c' c.args.start c.args.left.now c.words.left c.args.spans.now c.put.new.self o e
-    c.requires.later
+    c.requires.follows.within.later
     spanned c.words.invariant.passed word end
     (c.put.ensures.put c.if-not-put.false ∙ ap (λ s. held_spans s ++ span ∷ []) c.words.invariant.spans)
 

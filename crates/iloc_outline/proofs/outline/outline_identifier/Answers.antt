@@ -20,7 +20,7 @@ returns-in-Block c =
     let new = c.read_head.new in
     let h = subst (λ t. AreHeadRead t new.left new.spans new.in_order (Block c.in-Block.field-0))
     c.left_in-left.ensures.rest c.in-Block.ensures in
-    refuses_block (take c.args.len c.args.window.now) new.left c.requires.begins h.4
+    refuses_block (take c.args.len c.args.window.now) new.left c.requires.begins h.3
 
 pub returns-in-Refused : goal.returns-in-Refused
 returns-in-Refused c =

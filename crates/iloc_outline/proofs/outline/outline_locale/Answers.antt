@@ -41,7 +41,7 @@ returns-in-Refused-read_blocks c =
     let h = subst (λ t. AreHeadRead t head.left head.spans head.in_order (Block c.in-Block.outline))
     c.left_in-left.ensures.rest c.in-Block.ensures in
     locale_refused (take c.args.len c.args.window.now) c.in-Block.outline head.spans head.in_order
-    head.left h.7 h.2 h.4 h.5 new.spans new.in_order c.in-Refused-read_blocks.error
+    head.left h.6 h.1 h.3 h.4 new.spans new.in_order c.in-Refused-read_blocks.error
     c.in-Refused-read_blocks.ensures
 
 pub returns-in-Full-read_blocks : goal.returns-in-Full-read_blocks
@@ -51,4 +51,4 @@ returns-in-Full-read_blocks c =
     let h = subst (λ t. AreHeadRead t head.left head.spans head.in_order (Block c.in-Block.outline))
     c.left_in-left.ensures.rest c.in-Block.ensures in
     locale_full (take c.args.len c.args.window.now) c.in-Block.outline head.spans head.in_order
-    head.left h.7 h.2 h.4 h.5 new.spans new.in_order c.in-Full-read_blocks.ensures
+    head.left h.6 h.1 h.3 h.4 new.spans new.in_order c.in-Full-read_blocks.ensures

@@ -1,6 +1,6 @@
 -- Variants up to the end or to a block, or what is wrong.
 use Rattle.std.proofs.Common.{◌≡◌, Bool, true, false, sym, ◌∙◌, subst}
-use Rattle.iloc_pieces.specs.declared.left.Left.{Left}
+use Rattle.iloc_pieces.specs.declared.cursor.Left.{Left}
 use Rattle.iloc_outline.specs.Identifier.{IsAfterFront, IsFrontRead}
 use Rattle.iloc_outline.specs.Reading.{AreWordsRead, unless_end}
 use Rattle.iloc_outline.specs.declared.identifier.Front.{Front}
@@ -17,7 +17,7 @@ pub returns-then-front : goal.returns-then-front
 returns-then-front c =
     let l = c.args.left.now in
     let front = c.read_front-front in
-    head_front l front.result c.requires.left c.requires.first c.requires.begins front.new.left front.ensures
+    head_front l front.result c.requires.first c.requires.begins front.new.left front.ensures
     c.clear.new.self c.clear.ensures
     (subst (λ (b : Bool). IsAfterFront l (unless_end b front.new.left)) c.if-front.true front.ensures.next)
 
@@ -26,7 +26,7 @@ returns-in-End c =
     let l = c.args.left.now in
     let front = c.read_front-front in
     let words = c.read_words in
-    head_variants l front.result c.requires.left c.requires.first c.requires.begins front.new.left
+    head_variants l front.result c.requires.first c.requires.begins front.new.left
     front.ensures (goes_on l front.new.left front.result front.ensures c.if-front.false)
     c.clear.new.self c.clear.ensures words.new.left words.new.spans words.new.in_order
     (subst (AreWordsRead Variant front.new.left words.new.left c.clear.new.self words.new.spans true
@@ -37,7 +37,7 @@ returns-else-not-is_single c =
     let l = c.args.left.now in
     let front = c.read_front-front in
     let words = c.read_words in
-    head_block l front.result c.requires.left c.requires.first c.requires.begins front.new.left
+    head_block l front.result c.requires.first c.requires.begins front.new.left
     front.ensures (goes_on l front.new.left front.result front.ensures c.if-front.false)
     c.clear.new.self c.clear.ensures words.new.left words.new.spans words.new.in_order
     (subst (AreWordsRead Variant front.new.left words.new.left c.clear.new.self words.new.spans true
@@ -49,7 +49,7 @@ returns-then-not-is_single c =
     let l = c.args.left.now in
     let front = c.read_front-front in
     let words = c.read_words in
-    head_stranger l front.result c.requires.left c.requires.first c.requires.begins front.new.left
+    head_stranger l front.result c.requires.first c.requires.begins front.new.left
     front.ensures (goes_on l front.new.left front.result front.ensures c.if-front.false)
     c.clear.new.self c.clear.ensures words.new.left words.new.spans words.new.in_order
     (subst (AreWordsRead Variant front.new.left words.new.left c.clear.new.self words.new.spans true
@@ -61,7 +61,7 @@ returns-in-Bad c =
     let l = c.args.left.now in
     let front = c.read_front-front in
     let words = c.read_words in
-    head_other l front.result c.requires.left c.requires.first c.requires.begins front.new.left
+    head_other l front.result c.requires.first c.requires.begins front.new.left
     front.ensures (goes_on l front.new.left front.result front.ensures c.if-front.false)
     c.clear.new.self c.clear.ensures words.new.left words.new.spans words.new.in_order words.result
     words.ensures c.in-Bad.is

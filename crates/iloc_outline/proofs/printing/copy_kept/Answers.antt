@@ -29,7 +29,6 @@ pieces-preserved-then-is_kept c =
     let T = dashes (kept_pieces c.args.role (rest_of (pieces_left c.args.first))) in
     let kept = sym c.is_kept.ensures ∙ c.if-is_kept.true in
     record {
-      left = c.next-at.ensures.left;
       short = next_short c.pieces.at c.next-at.result c.next-at.ensures h.short;
       inside = omega (
         arith,
@@ -50,7 +49,7 @@ pub returns-clause-copied : goal.returns-clause-copied
 returns-clause-copied c =
     let h = c.pieces.invariant in
     kept_all c.args.role c.pieces.at
-    (last_piece c.pieces.at h.left (c.is_last.ensures.0 c.pieces-test.false)
+    (last_piece c.pieces.at (c.is_last.ensures.0 c.pieces-test.false)
     (first_short (bytes_left c.pieces.at) h.short)) (take c.args.start c.args.to.now)
     (dashes (kept_pieces c.args.role (rest_of (pieces_left c.args.first)))) c.pieces.to c.pieces.end h.all
 

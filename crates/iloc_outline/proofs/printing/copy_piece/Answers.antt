@@ -7,19 +7,19 @@ use Rattle.iloc_outline.proofs.PrintingLemmas.{piece_bytes, piece_inside, piece_
 use Rattle.iloc_outline.proofs.printing.copy_piece.Goals as goal
 
 pub copy_lower-requires-clause-inside : goal.copy_lower-requires-clause-inside
-copy_lower-requires-clause-inside c = piece_inside c.args.left c.requires.left c.requires.short
+copy_lower-requires-clause-inside c = piece_inside c.args.left c.requires.short
 
 pub copy_lower-requires-clause-room : goal.copy_lower-requires-clause-room
 copy_lower-requires-clause-room c =
     omega (
       arith,
-      length_piece c.requires.left c.requires.short,
+      length_piece c.args.left c.requires.short,
       c.requires.room,
       length-set c.args.to.now c.args.start 45,
     )
 
 pub returns-clause-end : goal.returns-clause-end
-returns-clause-end c = omega (arith, length_piece c.requires.left c.requires.short)
+returns-clause-end c = omega (arith, length_piece c.args.left c.requires.short)
 
 pub returns-clause-copied : goal.returns-clause-copied
 returns-clause-copied c =
@@ -27,4 +27,4 @@ returns-clause-copied c =
     (omega (arith, c.requires.room))
     (c.copy_lower.ensures ∙ ap (λ t. take (c.args.start + 1)
     (slice_set c.args.to.now c.args.start 45) ++ lower t)
-    (piece_bytes c.args.left c.requires.left c.requires.short))
+    (piece_bytes c.args.left c.requires.short))

@@ -3,8 +3,7 @@ use Rattle.std.proofs.Common.{◌≡◌, false, [], ◌∷◌, ◌++◌, sym, �
 use Rattle.iloc_spec_grammar.specs.Syntax.{is_one_byte}
 use Rattle.iloc_pieces.specs.Left.{piece_left}
 use Rattle.iloc_outline.specs.Spans.{held_spans}
-use Rattle.iloc_outline.proofs.TransformReading.{alone_read, fields_left, transform_single}
-use Rattle.iloc_outline.specs.declared.span.Role.TheVariants.{Field}
+use Rattle.iloc_outline.proofs.TransformReading.{alone_read, transform_single}
 use Rattle.iloc_outline.proofs.transform.read_fields_alone.Goals as goal
 
 pub returns-then-is_single : goal.returns-then-is_single
@@ -13,9 +12,6 @@ returns-then-is_single c = λ c' e spanned.
     c.args.spans.now
     c.args.in_order.now c.args.in_order.now
     (sym c.is_single.ensures ∙ c.if-is_single.true)
-
-pub at_block-requires : goal.at_block-requires
-at_block-requires c = fields_left Field c.args.left.now _ _ _ _ _ c.read_fields.result c.read_fields.ensures
 
 pub returns : goal.returns
 returns c = λ c' e spanned.

@@ -3,8 +3,8 @@ use Rattle.std.proofs.Common.{◌≡◌, Bool, [], ◌∷◌, ◌++◌, sym, ◌
 use Rattle.iloc_outline.specs.Identifier.{IsAfterFront}
 use Rattle.iloc_outline.specs.Reading.{AreWordsRead, unless_end}
 use Rattle.iloc_outline.specs.Spans.{held_spans}
-use Rattle.iloc_outline.specs.declared.span.Role.TheVariants.{Field, Variant}
-use Rattle.iloc_outline.proofs.TransformReading.{fields_left, front_alone, variants_alone, variants_read}
+use Rattle.iloc_outline.specs.declared.span.Role.TheVariants.{Variant}
+use Rattle.iloc_outline.proofs.TransformReading.{front_alone, variants_alone, variants_read}
 use Rattle.iloc_outline.proofs.transform.read_transform.Goals as goal
 
 pub returns-then-front : goal.returns-then-front
@@ -13,17 +13,11 @@ returns-then-front c = λ c' e spanned.
     let front = c.read_front-front in
     front_alone c' c.args.start front.result.end l e
     (sym c.is_language.ensures ∙ c.if-not-is_language.false)
-    (front.ensures.end c.args.start ((c' ∷ []) ∷ []) c.requires.later spanned) c.args.spans.now
+    (front.ensures.end c.args.start ((c' ∷ []) ∷ []) c.requires.follows.within.later spanned) c.args.spans.now
     c.put.new.self c.args.in_order.now
     (subst (λ s. held_spans c.put.new.self ≡ held_spans c.args.spans.now ++ s ∷ []) c.singleton.ensures
     (c.put.ensures.put c.if-not-put.false)) front.new.left
     (subst (λ (b : Bool). IsAfterFront l (unless_end b front.new.left)) c.if-front.true front.ensures.next)
-
-pub at_block-requires : goal.at_block-requires
-at_block-requires c =
-    fields_left Field c.read_words.new.left c.read_fields.new.left c.read_words.new.spans
-    c.read_fields.new.spans c.read_words.new.in_order c.read_fields.new.in_order
-    c.read_fields.result c.read_fields.ensures
 
 pub returns-in-Next : goal.returns-in-Next
 returns-in-Next c = λ c' e spanned.
@@ -34,7 +28,7 @@ returns-in-Next c = λ c' e spanned.
     front.ensures.next in
     variants_read c' c.args.start front.result.end l e
     (sym c.is_language.ensures ∙ c.if-not-is_language.false)
-    (front.ensures.end c.args.start ((c' ∷ []) ∷ []) c.requires.later spanned) c.args.spans.now
+    (front.ensures.end c.args.start ((c' ∷ []) ∷ []) c.requires.follows.within.later spanned) c.args.spans.now
     c.put.new.self c.args.in_order.now
     (subst (λ s. held_spans c.put.new.self ≡ held_spans c.args.spans.now ++ s ∷ []) c.singleton.ensures
     (c.put.ensures.put c.if-not-put.false))
@@ -54,7 +48,7 @@ returns-in_default c = λ c' e spanned.
     front.ensures.next in
     variants_alone c' c.args.start front.result.end l e
     (sym c.is_language.ensures ∙ c.if-not-is_language.false)
-    (front.ensures.end c.args.start ((c' ∷ []) ∷ []) c.requires.later spanned) c.args.spans.now
+    (front.ensures.end c.args.start ((c' ∷ []) ∷ []) c.requires.follows.within.later spanned) c.args.spans.now
     c.put.new.self c.args.in_order.now
     (subst (λ s. held_spans c.put.new.self ≡ held_spans c.args.spans.now ++ s ∷ []) c.singleton.ensures
     (c.put.ensures.put c.if-not-put.false))

@@ -11,23 +11,17 @@ use Rattle.iloc_outline.proofs.words.read_words.Goals.{in-Put, in-There+else-eq}
 
 pub words-init : goal.words-init
 words-init c =
-    walks_none c.args.role c.args.left.now c.requires.left c.requires.later c.args.spans.now
+    walks_none c.args.role c.args.left.now c.requires.within.later c.args.spans.now
     c.args.in_order.now
 
-pub fits-requires : goal.fits-requires
-fits-requires c = c.words.invariant.past.left
-
-pub word_number-requires-clause-left : goal.word_number-requires-clause-left
-word_number-requires-clause-left c = c.words.invariant.past.left
-
-pub word_number-requires-clause-word : goal.word_number-requires-clause-word
-word_number-requires-clause-word c = word_fits c.args.role _ (sym c.fits.ensures ∙ c.words-test.true)
+pub word_number-requires : goal.word_number-requires
+word_number-requires c = word_fits c.args.role _ (sym c.fits.ensures ∙ c.words-test.true)
 
 pub overflow_cast-span-in-words : goal.overflow_cast-span-in-words
 overflow_cast-span-in-words c =
     let w = c.words.invariant in
     let short = short_kind c.args.role _ (sym c.fits.ensures ∙ c.words-test.true) in
-    omega (arith, end_within c.args.left.now c.words.left w.words w.past short, c.requires.few)
+    omega (arith, end_within c.args.left.now c.words.left w.words w.past short, c.requires.within.few)
 
 pub put_from-requires : goal.put_from-requires
 put_from-requires c = gathers_from _ _ _ _ _ _ _ c.words.invariant.gathers

@@ -7,5 +7,5 @@ use Rattle.iloc_pieces.proofs.left.is_alphanumeric.Goals as goal
 pub returns : goal.returns
 returns c =
     let p = piece_left c.args.left in
-    ap (λ s. not (s == 0)) (shape_left c.requires.left (single_short p c.requires.single))
-    ∙ single_shape p c.requires.single
+    ap (λ s. not (s == 0)) (shape_left c.args.left (single_short p c.requires))
+    ∙ single_shape p c.requires

@@ -3,4 +3,4 @@ use Rattle.iloc_pieces.proofs.Tells.{told_left}
 use Rattle.iloc_pieces.proofs.left.is_field_key.Goals as goal
 
 pub returns : goal.returns
-returns c = told_left TransformKey tt c.requires _ c.is_field_key.ensures
+returns c = told_left TransformKey tt c.args.left _ c.is_field_key.ensures

@@ -4,4 +4,4 @@ use Rattle.iloc_pieces.proofs.Tells.{told_left}
 use Rattle.iloc_pieces.proofs.left.is_language.Goals as goal
 
 pub returns : goal.returns
-returns c = told_left (Language languages) languages_table.most c.requires _ c.is_language.ensures
+returns c = told_left (Language languages) languages_table.most c.args.left _ c.is_language.ensures

@@ -3,4 +3,4 @@ use Rattle.iloc_pieces.proofs.Tells.{told_left}
 use Rattle.iloc_pieces.proofs.left.is_region.Goals as goal
 
 pub returns : goal.returns
-returns c = told_left Region tt c.requires _ c.is_region.ensures
+returns c = told_left Region tt c.args.left _ c.is_region.ensures

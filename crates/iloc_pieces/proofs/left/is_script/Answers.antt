@@ -3,4 +3,4 @@ use Rattle.iloc_pieces.proofs.Tells.{told_left}
 use Rattle.iloc_pieces.proofs.left.is_script.Goals as goal
 
 pub returns : goal.returns
-returns c = told_left Script tt c.requires _ c.is_script.ensures
+returns c = told_left Script tt c.args.left _ c.is_script.ensures

@@ -3,4 +3,4 @@ use Rattle.iloc_pieces.proofs.Tells.{told_left}
 use Rattle.iloc_pieces.proofs.left.is_subtag.Goals as goal
 
 pub returns : goal.returns
-returns c = told_left Subtag tt c.requires _ c.is_subtag.ensures
+returns c = told_left Subtag tt c.args.left _ c.is_subtag.ensures

@@ -12,25 +12,25 @@ pub returns-then-left-ne16 : goal.returns-then-left-ne16
 returns-then-left-ne16 c =
     let p = piece_left c.args.left in
     sym (false_from_ne_true _ (λ h. c.if-left-ne16.true
-    (shape_left c.requires.left c.requires.short ∙ eqb-true _ _ (sym (script_is p) ∙ true_script p h))))
+    (shape_left c.args.left c.requires ∙ eqb-true _ _ (sym (script_is p) ∙ true_script p h))))
 
 pub slice_bounds-copy_from_slice-end-2 : goal.slice_bounds-copy_from_slice-end-2
 slice_bounds-copy_from_slice-end-2 c =
     let p = piece_left c.args.left in
     let script : IsWord Script p =
-    script_is p ∙ eq-eqb _ _ (sym (shape_left c.requires.left c.requires.short) ∙ c.if-left-ne16.false) in
-    omega (arith, piece_inside c.requires.left, length-script p script)
+    script_is p ∙ eq-eqb _ _ (sym (shape_left c.args.left c.requires) ∙ c.if-left-ne16.false) in
+    omega (arith, piece_inside c.args.left, length-script p script)
 
 pub returns : goal.returns
 returns c =
     let l = c.args.left in
     let p = piece_left l in
     let script : IsWord Script p =
-    script_is p ∙ eq-eqb _ _ (sym (shape_left c.requires.left c.requires.short) ∙ c.if-left-ne16.false) in
+    script_is p ∙ eq-eqb _ _ (sym (shape_left c.args.left c.requires) ∙ c.if-left-ne16.false) in
     let four : l.at + 4 - l.at ≡ length p = omega (arith, length-script p script) in
     let bytes : c.copy_from_slice.new.self ≡ p =
     c.copy_from_slice.ensures.after ∙ ap (λ n. take n (drop l.at l.window.now)) four
-    ∙ piece_bytes c.requires.left in
+    ∙ piece_bytes l in
     true_number p script _
     (c.from_le_bytes.ensures
     ∙ (λ j. get_or (bytes j) 0 0 + get_or (bytes j) 1 0 * 256 + get_or (bytes j) 2 0 * 65536 + get_or

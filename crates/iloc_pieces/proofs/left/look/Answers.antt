@@ -1,4 +1,5 @@
-use Rattle.std.proofs.Common.{◌≡◌, ◌<◌, take, drop, inl, inr, refl, ◌∙◌, arith}
+use Rattle.std.proofs.Common.{◌≡◌, ◌<◌, take, drop, inl, inr, ◌∙◌, arith}
+use Rattle.std.proofs.Math.Logic.{∥∥₁_map}
 use Rattle.iloc_pieces.specs.Marks.{closed}
 use Rattle.iloc_pieces.specs.Shape.{shape_of}
 use Rattle.iloc_pieces.proofs.Ends.{before, odd_shape, piece_shape}
@@ -6,15 +7,11 @@ use Rattle.iloc_pieces.proofs.Looks.{long_piece, short_piece}
 use Rattle.iloc_pieces.proofs.left.look.Goals as goal
 use Rattle.iloc_pieces.proofs.left.look.Goals.{then-marks-piece-ne0, else-marks-piece-ne0}
 
-pub returns-then-marks-eq0-clause-left : goal.returns-then-marks-eq0-clause-left
-returns-then-marks-eq0-clause-left c = record {
-  inside = c.requires.inside;
-  piece = inr (long_piece _ c.requires.seen c.if-marks-eq0.true refl refl);
-}
+pub invariant_of-result-clause-piece : goal.invariant_of-result-clause-piece
+invariant_of-result-clause-piece c = ∥∥₁_map c.requires.seen (λ s. inr (long_piece s c.if-marks-eq0.true))
 
-pub returns-clause-left : goal.returns-clause-left
-returns-clause-left c =
-    let s = c.requires.seen in
+pub invariant_of-result-2-clause-piece : goal.invariant_of-result-2-clause-piece
+invariant_of-result-2-clause-piece c = ∥∥₁_map c.requires.seen (λ s.
     let m = c.args.marks in
     let v = take s.known (closed (take c.args.len (drop c.args.at c.args.window.now))) in
     let some : 0 < m.ends = omega (arith, c.if-marks-eq0.false) in
@@ -26,7 +23,4 @@ returns-clause-left c =
           ∙ piece_shape v m.ends s.marks.ends some m.odd m.others s.marks.odd s.marks.others
           w.if-marks-piece-ne0.false
     ] in
-    record {
-      inside = c.requires.inside;
-      piece = inl (short_piece s c.if-marks-eq0.false _ refl refl shape);
-    }
+    inl (short_piece s c.if-marks-eq0.false _ shape))

@@ -7,14 +7,14 @@ use Rattle.iloc_pieces.proofs.left.singleton.Goals as goal
 
 pub bounds-left-left : goal.bounds-left-left
 bounds-left-left c =
-    let one : length (piece_left c.args.left) ≡ 1 = eqb-true _ _ c.requires.single in
-    omega (arith, piece_inside c.requires.left)
+    let one : length (piece_left c.args.left) ≡ 1 = eqb-true _ _ c.requires in
+    omega (arith, piece_inside c.args.left)
 
 pub returns : goal.returns
 returns c =
     let l = c.args.left in
-    let one : length (piece_left l) ≡ 1 = eqb-true _ _ c.requires.single in
+    let one : length (piece_left l) ≡ 1 = eqb-true _ _ c.requires in
     let there : l.at + 0 ≡ l.at = omega arith in
     c.to_ascii_lowercase.ensures.value
     ∙ ap to_ascii_lowercase
-    (sym (piece_byte c.requires.left 0 (omega arith) ∙ ap (λ i. get_or l.window.now i 0) there))
+    (sym (piece_byte l 0 (omega arith) ∙ ap (λ i. get_or l.window.now i 0) there))

@@ -1,4 +1,4 @@
-use Rattle.std.proofs.Common.{List, ℕ, sym, ap, subst, ◌∙◌, arith}
+use Rattle.std.proofs.Common.{sym, ap, subst, ◌∙◌, arith}
 use Rattle.iloc_pieces.specs.Words.{IsUpToEight, word_number}
 use Rattle.iloc_pieces.proofs.LeftLemmas.{length_piece, piece_inside, short_bytes}
 use Rattle.iloc_pieces.proofs.left.word_number.Goals as goal
@@ -6,12 +6,12 @@ use Rattle.iloc_spec_grammar.specs.Syntax.{Text}
 
 pub number_at-requires-clause-inside : goal.number_at-requires-clause-inside
 number_at-requires-clause-inside c =
-    omega (arith, length_piece c.requires.left c.requires.word.few, piece_inside c.requires.left)
+    omega (arith, length_piece c.args.left c.requires.few, piece_inside c.args.left)
 
 pub number_at-requires-clause-word : goal.number_at-requires-clause-word
 number_at-requires-clause-word c =
     subst (λ (p : Text). IsUpToEight p)
-    (sym (short_bytes c.requires.left c.requires.word.few)) c.requires.word
+    (sym (short_bytes c.args.left c.requires.few)) c.requires
 
 pub returns : goal.returns
-returns c = c.number_at.ensures ∙ ap word_number (short_bytes c.requires.left c.requires.word.few)
+returns c = c.number_at.ensures ∙ ap word_number (short_bytes c.args.left c.requires.few)

@@ -1,4 +1,4 @@
-use Rattle.std.proofs.Common.{List, ℕ, take, ◌≡◌, IfSome, subst}
+use Rattle.std.proofs.Common.{take, ◌≡◌, IfSome, subst}
 use Rattle.std.proofs.lemmas.List.{take-take}
 use Rattle.iloc_pieces.specs.Plain.{IsPlain}
 use Rattle.iloc_pieces.proofs.read.read_plain.Goals as goal

@@ -1,8 +1,8 @@
 use Rattle.std.proofs.Common.{refl}
 use Rattle.std.proofs.lemmas.Simd.{zip2_splat}
 use Rattle.iloc_pieces.specs.Run.{is_hyphen}
-use Rattle.iloc_pieces.proofs.RunLemmas.{mask_is}
 use Rattle.iloc_pieces.proofs.run.hyphens_of.Goals as goal
+use Rattle.iloc_pieces.proofs.Masks.{mask_is}
 
 pub returns : goal.returns
 returns c =

@@ -1,6 +1,6 @@
-use Rattle.std.proofs.Common.{◌≡◌, ◌+◌, ◌<◌, ◌≤◌, ◌++◌, take, ap, sym, ◌∙◌, arith, length, length-append}
+use Rattle.std.proofs.Common.{◌≡◌, ◌+◌, ◌≤◌, ◌++◌, take, ap, sym, ◌∙◌, arith, length, length-append}
 use Rattle.std.proofs.lemmas.List.{length-take-le}
-use Rattle.std.specs.String.{string_bytes, string_len}
+use Rattle.std.specs.String.{string_bytes}
 use Rattle.iloc_writeable.proofs.ShortLemmas.{ascii_text, front_ends, front_taken}
 use Rattle.iloc_writeable.proofs.short.push_front.Goals as goal
 

@@ -1,12 +1,13 @@
 -- The outline gives the normal text; a text that begins with no language is refused.
 use Rattle.std.proofs.Common.{take}
 use Rattle.iloc_normalize.specs.declared.Mode.TheVariants.{Locale}
-use Rattle.locale_web.proofs.ReadLemmas.{no_language, locale_outlined}
+use Rattle.locale_web.proofs.ReadLemmas.{locale_outlined}
 use Rattle.locale_web.proofs.reading.read_locale.Goals as goal
+use Rattle.iloc_normalize.proofs.FrontAnswers.{unbegun_refused}
 
 pub returns-then-not-begins_with_language : goal.returns-then-not-begins_with_language
 returns-then-not-begins_with_language c =
-    no_language Locale (take c.args.len c.args.window.now) c.begins_with_language.result
+    unbegun_refused Locale (take c.args.len c.args.window.now) c.begins_with_language.result
     c.begins_with_language.ensures
     c.if-not-begins_with_language.true
 

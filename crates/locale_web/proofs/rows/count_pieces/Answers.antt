@@ -8,7 +8,7 @@ pub pieces-init : goal.pieces-init
 pieces-init c =
     let h = c.requires in
     let l = c.left_in-at.ensures in
-    count_begins c.args.normal.now c.left_in-at.result (text_told h.0 c.args.normal.now h.1).short l.left l.at
+    count_begins c.args.normal.now c.left_in-at.result (text_told h.0 c.args.normal.now h.1).short l.at
     l.len l.rest
 
 pub returns : goal.returns

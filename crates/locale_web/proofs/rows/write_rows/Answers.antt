@@ -10,7 +10,7 @@ pieces-init c =
     let h = c.requires.normal in
     let l = c.left_in-at.ensures in
     write_begins h.0 c.args.normal.now c.left_in-at.result c.args.table.now h.1
-    (c.requires.room h.0 h.1) l.left l.at l.len l.rest
+    (c.requires.room h.0 h.1) l.at l.len l.rest
 
 pub overflow_add-at : goal.overflow_add-at
 overflow_add-at c = let e = ends_within c.pieces.invariant in omega arith

@@ -1,4 +1,4 @@
-use Rattle.std.proofs.Common.{◌≡◌, ◌≤◌, length, take, arith}
+use Rattle.std.proofs.Common.{◌≡◌, length, take, arith}
 use Rattle.iloc_spec_grammar.specs.Syntax.{languages}
 use Rattle.iloc_spec_grammar.specs.Values.{identifier_text}
 use Rattle.iloc_spec_grammar.proofs.AnySteps.{length-identifier_means}

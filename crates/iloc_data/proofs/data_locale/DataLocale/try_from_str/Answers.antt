@@ -1,5 +1,5 @@
 -- a text is read as its bytes are
-use Rattle.std.proofs.Common.{ℕ, List, subst}
+use Rattle.std.proofs.Common.{subst}
 use Rattle.iloc_data.specs.Reads.{DataTextReads}
 use Rattle.iloc_data.proofs.ReadLemmas.{data_accepts, data_refuses, meant_of, keeps_narrow}
 use Rattle.iloc_data.proofs.data_locale.DataLocale.try_from_str.Goals as goal

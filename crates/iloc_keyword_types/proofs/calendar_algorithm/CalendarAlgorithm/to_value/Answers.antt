@@ -1,4 +1,4 @@
-use Rattle.std.proofs.Common.{◌≡◌, ℕ, List, [], ◌∷◌, sym, ap, ◌∙◌, refl, Some}
+use Rattle.std.proofs.Common.{◌≡◌, [], ◌∷◌, sym, ap, ◌∙◌, refl, Some}
 use Rattle.iloc_spec_grammar.specs.Syntax.{Text, Subtag}
 use Rattle.iloc_spec_grammar.specs.Values.{IsNormal}
 use Rattle.iloc_spec_parts.specs.Keywords as keywords

@@ -1,4 +1,4 @@
-use Rattle.std.proofs.Common.{ℕ, ◌<◌, List, length, refl, sym, ap, ◌∙◌, subst}
+use Rattle.std.proofs.Common.{◌<◌, List, length, refl, sym, ap, ◌∙◌, subst}
 use Rattle.std.proofs.lemmas.Result.{err_from_is_err_and}
 use Rattle.iloc_spec_parts.specs.Keywords.{scripts_read}
 use Rattle.iloc_keyword_types.proofs.ScriptLemmas.{none_before, takes_script, refuses_word, ends, lengthens}

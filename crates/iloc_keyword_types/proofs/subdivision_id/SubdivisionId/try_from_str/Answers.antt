@@ -1,5 +1,5 @@
 -- what is owed to each text follows from what is read
-use Rattle.std.proofs.Common.{ℕ, List, subst}
+use Rattle.std.proofs.Common.{subst}
 use Rattle.iloc_keyword_types.specs.Subdivisions.{SubdivisionTextReads}
 use Rattle.iloc_keyword_types.proofs.OwedLemmas.{subdivision_accepts, subdivision_refuses}
 use Rattle.iloc_keyword_types.proofs.subdivision_id.SubdivisionId.try_from_str.Goals as goal

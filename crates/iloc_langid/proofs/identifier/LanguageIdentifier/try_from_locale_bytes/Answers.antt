@@ -1,5 +1,5 @@
 -- the head of the pieces is read
-use Rattle.std.proofs.Common.{ℕ, List, subst}
+use Rattle.std.proofs.Common.{List, subst}
 use Rattle.iloc_spec_grammar.specs.Syntax.{Text, pieces, head}
 use Rattle.iloc_subtags.specs.Judging.{RunsOutOnlyIf}
 use Rattle.iloc_langid.specs.Reads.{IdentifierReads, IdentifierWantsMemory}

@@ -1,5 +1,5 @@
 -- a text is read as its bytes are
-use Rattle.std.proofs.Common.{ℕ, List, subst}
+use Rattle.std.proofs.Common.{subst}
 use Rattle.iloc_spec_grammar.specs.Syntax.{Text, pieces}
 use Rattle.iloc_subtags.specs.Judging.{RunsOutOnlyIf}
 use Rattle.iloc_langid.specs.Reads.{IdentifierReads, IdentifierWantsMemory}

@@ -1,5 +1,5 @@
 -- Nothing is printed where there is no extension, and else the pieces of the parts.
-use Rattle.std.proofs.Common.{◌≡◌, ℕ, List, [], Bool, true, false, refl, sym, ap, ◌∙◌, subst}
+use Rattle.std.proofs.Common.{◌≡◌, List, [], Bool, true, false, refl, sym, ap, ◌∙◌, subst}
 use Rattle.iloc_spec_grammar.specs.Values.{extensions_spelling}
 use Rattle.iloc_writeable.specs.Pieces.{hyphened}
 use Rattle.iloc_spec_grammar.specs.Meaning.{no_extensions}

@@ -1,6 +1,6 @@
 -- a text is normalized as its bytes are
 use Rattle.std.specs.Prelude.{⊤}
-use Rattle.std.proofs.Common.{ℕ, List, IfErr, subst}
+use Rattle.std.proofs.Common.{IfErr, subst}
 use Rattle.iloc_spec_grammar.specs.Syntax.{Text, languages}
 use Rattle.iloc_spec_grammar.specs.Meaning.{Locale, Means, Fault, HasFault}
 use Rattle.iloc_spec_grammar.specs.Values.{text}

@@ -1,4 +1,4 @@
-use Rattle.std.proofs.Common.{◌≡◌, List, ℕ, IfSome, sym, ◌∙◌, subst, true≢false}
+use Rattle.std.proofs.Common.{◌≡◌, IfSome, sym, ◌∙◌, subst, true≢false}
 use Rattle.iloc_langid.specs.Reads as langid
 use Rattle.iloc_locale.specs.ExtensionsValue as extensions
 use Rattle.iloc_locale.proofs.AloneLemmas.{text_alone}

@@ -1,4 +1,4 @@
-use Rattle.std.proofs.Common.{List, ℕ, sym, ◌∙◌, subst, true≢false}
+use Rattle.std.proofs.Common.{List, sym, ◌∙◌, subst, true≢false}
 use Rattle.iloc_writeable.specs.Pieces.{hyphened}
 use Rattle.iloc_writeable.specs.Writing.{Writes}
 use Rattle.iloc_other.proofs.PrintLemmas.{private_none, private_some}

@@ -1,4 +1,4 @@
-use Rattle.std.proofs.Common.{◌≡◌, ◌++◌, ℕ, true, not, List, Ok, Err, ap, ◌∙◌, subst, sym, [], ◌∷◌}
+use Rattle.std.proofs.Common.{◌≡◌, ◌++◌, true, not, List, Ok, Err, ap, ◌∙◌, subst, sym, [], ◌∷◌}
 use Rattle.std.proofs.lemmas.Result.{on_ok_weaker}
 use Rattle.iloc_spec_grammar.specs.Syntax.{Text, head}
 use Rattle.iloc_spec_grammar.specs.Reading.{after_head, starts_block}

@@ -1,5 +1,5 @@
 -- what is owed to each text follows from what is read
-use Rattle.std.proofs.Common.{ℕ, List, subst}
+use Rattle.std.proofs.Common.{subst}
 use Rattle.iloc_transform.specs.TransformReading.{TransformTextReads, TransformTextWants}
 use Rattle.iloc_subtags.specs.Judging.{RunsOutOnlyIf}
 use Rattle.iloc_transform.proofs.OwedLemmas.{transform_accepts, transform_refuses}

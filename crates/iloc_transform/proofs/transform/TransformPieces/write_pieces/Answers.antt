@@ -1,4 +1,4 @@
-use Rattle.std.proofs.Common.{List, ℕ, sym, ap, ◌∙◌, subst, option_map}
+use Rattle.std.proofs.Common.{List, sym, ap, ◌∙◌, subst, option_map}
 use Rattle.iloc_spec_grammar.specs.Syntax.{Text, optional_pieces}
 use Rattle.iloc_spec_grammar.specs.Values.{lower_identifier}
 use Rattle.iloc_langid.specs.Reads.{value_of}

@@ -1,4 +1,4 @@
-use Rattle.std.proofs.Common.{List, ℕ, sym, ◌∙◌, subst}
+use Rattle.std.proofs.Common.{List, sym, ◌∙◌, subst}
 use Rattle.iloc_writeable.specs.Pieces.{hyphened}
 use Rattle.iloc_writeable.specs.Writing.{Writes}
 use Rattle.iloc_unicode.specs.UnicodeValue.{value_of}

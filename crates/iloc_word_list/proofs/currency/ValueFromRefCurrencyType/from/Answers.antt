@@ -1,5 +1,5 @@
 -- The word of a currency is a subtag, and no `true`.
-use Rattle.std.proofs.Common.{List, ℕ, [], ◌∷◌, ap, ◌∙◌, lit<}
+use Rattle.std.proofs.Common.{[], ◌∷◌, ap, ◌∙◌, lit<}
 use Rattle.iloc_word_list.specs.Values.{without_true}
 use Rattle.iloc_word_list.proofs.CurrencyLemmas.{currency_normal, currency_alone}
 use Rattle.iloc_word_list.proofs.currency.ValueFromRefCurrencyType.from.Goals as goal

@@ -1,5 +1,4 @@
-use Rattle.std.proofs.Common.{◌≡◌, ℕ, List, ◌∷◌, [], ◌+◌, ◌%◌, take, map, ap, sym, subst, ◌∙◌, arith}
-use Rattle.std.specs.Prelude.{All}
+use Rattle.std.proofs.Common.{◌≡◌, ℕ, List, ◌∷◌, [], take, ap, sym, subst, ◌∙◌, arith}
 use Rattle.iloc_writeable.specs.Pieces.{hyphened}
 use Rattle.iloc_writeable.specs.StringSink.{Appended, Refused}
 use Rattle.iloc_writeable.specs.Writing.{Writes}
