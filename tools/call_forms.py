@@ -48,19 +48,17 @@ def head_with(head, parameters, tail, width):
 
 def clauses(row):
     """Yields the clauses of an export."""
-    gives = re.sub(r"\bit\b", "(held_locale handle.old.value)", row.clause)
-    if row.kind in ("tell", "ask"):
-        yield "ensures same { handle.new.value ≡ handle.old.value }"
+    gives, answered = row.clause, "IsTrue result ↔" if row.gives == "bool" else "result ≡"
     if row.kind == "tell":
-        yield f"ensures answered {{ EndsAs (Tells ({gives}) buffer.old buffer.new needed.new) result }}"
-    elif row.kind == "ask":
-        yield f"ensures answered {{ {'IsTrue result ↔' if row.gives == 'bool' else 'result ≡'} {gives} }}"
-    if row.kind == "by":
-        yield "ensures same { from.new.value ≡ from.old.value }"
+        answered, gives = "EndsAs", f"(Tells ({gives}) buffer.old buffer.new needed.new) result"
+    if row.kind in ("tell", "ask"):
+        yield f"ensures {{ IsAsked handle.old.value handle.new.value (λ it. {answered} {gives}) }}"
+    elif row.kind == "change":
+        yield f"ensures {{ IsChanged ({gives}) handle.old.value handle.new.value result }}"
+    else:
         gives = re.sub(r"\bfrom\b", "(held_locale from.old.value)", gives)
-    if row.kind in ("change", "by"):
-        yield f"ensures changed {{ EndsAs (Changes ({gives}) handle.old.value handle.new.value) result }}"
-        yield "ensures tight { IsTight handle.new.value }"
+        yield "ensures same { from.new.value ≡ from.old.value }"
+        yield f"ensures changed {{ IsChanged ({gives}) handle.old.value handle.new.value result }}"
 
 
 def kept_together(clause):

@@ -6,8 +6,7 @@ ghost use Rattle.iloc_calls.specs.Answers.{Tells};
 ghost use Rattle.iloc_calls.specs.Numbers.{EndsAs};
 ghost use Rattle.iloc_handles.specs.Clearing.{Clears};
 ghost use Rattle.iloc_handles.specs.declared.clearing.Clear.{Clear};
-ghost use Rattle.iloc_handles.specs.Held.{IsTight, held_locale};
-ghost use Rattle.iloc_handles.specs.Finding.{Changes};
+ghost use Rattle.iloc_handles.specs.Finding.{IsAsked, IsChanged};
 ghost use Rattle.iloc_handles.specs.Subtags.{HasWord};
 ghost use Rattle.iloc_handles.specs.Attributes.{AddsAttribute, RemovesAttribute, attribute_at, attributes_of};
 
@@ -20,8 +19,7 @@ use std::alloc::Global;
 /// How many attributes there are.
 #[unsafe(no_mangle)]
 pub extern "C" fn icu_locale_attribute_count(alloc: Global, handle: &mut Handle) -> usize
-    ensures same { handle.new.value ≡ handle.old.value }
-    ensures answered { result ≡ length (attributes_of (held_locale handle.old.value)) }
+    ensures { IsAsked handle.old.value handle.new.value (λ it. result ≡ length (attributes_of it)) }
 {
     ask(alloc, handle, &WordCount(OfAttributes))
 }
@@ -35,9 +33,8 @@ pub extern "C" fn icu_locale_get_attribute(
     buffer: &mut [u8],
     needed: &mut usize,
 ) -> u32
-    ensures same { handle.new.value ≡ handle.old.value }
-    ensures answered { EndsAs (Tells (attribute_at index (held_locale handle.old.value)) buffer.old
-        buffer.new needed.new) result }
+    ensures { IsAsked handle.old.value handle.new.value (λ it. EndsAs (Tells (attribute_at index it)
+        buffer.old buffer.new needed.new) result) }
 {
     tell(alloc, handle, &WordAt(OfAttributes, index), buffer, needed)
 }
@@ -45,9 +42,8 @@ pub extern "C" fn icu_locale_get_attribute(
 /// Whether the text is one of the attributes.
 #[unsafe(no_mangle)]
 pub extern "C" fn icu_locale_has_attribute(alloc: Global, handle: &mut Handle, text: &[u8]) -> bool
-    ensures same { handle.new.value ≡ handle.old.value }
-    ensures answered { IsTrue result ↔ HasWord Attribute text.now
-        (attributes_of (held_locale handle.old.value)) }
+    ensures { IsAsked handle.old.value handle.new.value (λ it. IsTrue result ↔ HasWord Attribute
+        text.now (attributes_of it)) }
 {
     ask(alloc, handle, &HasText(OfAttributes, text))
 }
@@ -55,9 +51,7 @@ pub extern "C" fn icu_locale_has_attribute(alloc: Global, handle: &mut Handle, t
 /// Adds the attribute of the text.
 #[unsafe(no_mangle)]
 pub extern "C" fn icu_locale_add_attribute(alloc: Global, handle: &mut Handle, text: &[u8]) -> u32
-    ensures changed { EndsAs (Changes (AddsAttribute text.now) handle.old.value handle.new.value)
-        result }
-    ensures tight { IsTight handle.new.value }
+    ensures { IsChanged (AddsAttribute text.now) handle.old.value handle.new.value result }
 {
     make_change(alloc, handle, &AddAttribute(text))
 }
@@ -69,9 +63,7 @@ pub extern "C" fn icu_locale_remove_attribute(
     handle: &mut Handle,
     text: &[u8],
 ) -> u32
-    ensures changed { EndsAs (Changes (RemovesAttribute text.now) handle.old.value handle.new.value)
-        result }
-    ensures tight { IsTight handle.new.value }
+    ensures { IsChanged (RemovesAttribute text.now) handle.old.value handle.new.value result }
 {
     make_change(alloc, handle, &RemoveAttribute(text))
 }
@@ -79,9 +71,7 @@ pub extern "C" fn icu_locale_remove_attribute(
 /// Removes all attributes.
 #[unsafe(no_mangle)]
 pub extern "C" fn icu_locale_clear_attributes(alloc: Global, handle: &mut Handle) -> u32
-    ensures changed { EndsAs (Changes (Clears Clear.Attributes) handle.old.value handle.new.value)
-        result }
-    ensures tight { IsTight handle.new.value }
+    ensures { IsChanged (Clears Clear.Attributes) handle.old.value handle.new.value result }
 {
     make_change(alloc, handle, &Clear::Attributes)
 }

@@ -3,7 +3,7 @@ ghost use Rattle.std.specs.Prelude.{◌≡◌, ◌↔◌, IsTrue, None};
 ghost use Rattle.iloc_spec_parts.specs.Orders.{locale_cmp};
 ghost use Rattle.iloc_calls.specs.Answers.{order_number};
 ghost use Rattle.iloc_calls.specs.Numbers.{EndsAs};
-ghost use Rattle.iloc_handles.specs.Held.{held_locale};
+ghost use Rattle.iloc_handles.specs.Finding.{IsAsked};
 ghost use Rattle.iloc_handles.specs.Whole.{TellsMeant};
 
 use iloc_calls::number;
@@ -21,10 +21,8 @@ pub extern "C" fn icu_locale_free(alloc: Global, handle: &mut Handle)
 /// The order of two locales by their parts, as -1, 0 or 1.
 #[unsafe(no_mangle)]
 pub extern "C" fn icu_locale_cmp(alloc: Global, handle: &mut Handle, other: &mut Handle) -> i8
-    ensures same { handle.new.value ≡ handle.old.value }
-    ensures same_other { other.new.value ≡ other.old.value }
-    ensures answered { result ≡ order_number
-        (locale_cmp (held_locale handle.old.value) (held_locale other.old.value)) }
+    ensures { IsAsked handle.old.value handle.new.value (λ it. IsAsked other.old.value
+        other.new.value (λ that. result ≡ order_number (locale_cmp it that))) }
 {
     number(order_of(alloc, handle, other))
 }
@@ -32,10 +30,8 @@ pub extern "C" fn icu_locale_cmp(alloc: Global, handle: &mut Handle, other: &mut
 /// Whether two locales are equal.
 #[unsafe(no_mangle)]
 pub extern "C" fn icu_locale_eq(alloc: Global, handle: &mut Handle, other: &mut Handle) -> bool
-    ensures same { handle.new.value ≡ handle.old.value }
-    ensures same_other { other.new.value ≡ other.old.value }
-    ensures answered { IsTrue result
-        ↔ (held_locale handle.old.value ≡ held_locale other.old.value) }
+    ensures { IsAsked handle.old.value handle.new.value (λ it. IsAsked other.old.value
+        other.new.value (λ that. IsTrue result ↔ (it ≡ that))) }
 {
     iloc_handles::eq(alloc, handle, other)
 }
@@ -48,9 +44,8 @@ pub extern "C" fn icu_locale_eq_text(
     text: &[u8],
     same: &mut u8,
 ) -> u32
-    ensures same_locale { handle.new.value ≡ handle.old.value }
-    ensures answered { EndsAs (TellsMeant text.now (held_locale handle.old.value) same.old same.new)
-        result }
+    ensures { IsAsked handle.old.value handle.new.value
+        (λ it. EndsAs (TellsMeant text.now it same.old same.new) result) }
 {
     tell_meant(alloc, handle, text, same).number()
 }

@@ -1,11 +1,10 @@
 //! Calls on the identifier of a locale.
 // Written by tools/write_calls from tools/calls.txt: change that table and not this file.
-ghost use Rattle.std.specs.Prelude.{◌≡◌, Some};
+ghost use Rattle.std.specs.Prelude.{Some};
 ghost use Rattle.iloc_spec_grammar.specs.Values.{identifier_text};
 ghost use Rattle.iloc_calls.specs.Answers.{Tells};
 ghost use Rattle.iloc_calls.specs.Numbers.{EndsAs};
-ghost use Rattle.iloc_handles.specs.Held.{IsTight, held_locale};
-ghost use Rattle.iloc_handles.specs.Finding.{Changes};
+ghost use Rattle.iloc_handles.specs.Finding.{IsAsked, IsChanged};
 ghost use Rattle.iloc_handles.specs.Identifier.{SetsLanguage, SetsRegion, SetsScript, text_or_empty};
 
 use iloc_handles::{Handle, Named, SetLanguage, SetRegion, SetScript, make_change, tell};
@@ -19,9 +18,8 @@ pub extern "C" fn icu_locale_get_base_name(
     buffer: &mut [u8],
     needed: &mut usize,
 ) -> u32
-    ensures same { handle.new.value ≡ handle.old.value }
-    ensures answered { EndsAs (Tells (Some (identifier_text (held_locale handle.old.value).id))
-        buffer.old buffer.new needed.new) result }
+    ensures { IsAsked handle.old.value handle.new.value (λ it. EndsAs (Tells
+        (Some (identifier_text it.id)) buffer.old buffer.new needed.new) result) }
 {
     tell(alloc, handle, &Named::BaseName, buffer, needed)
 }
@@ -34,9 +32,8 @@ pub extern "C" fn icu_locale_get_language(
     buffer: &mut [u8],
     needed: &mut usize,
 ) -> u32
-    ensures same { handle.new.value ≡ handle.old.value }
-    ensures answered { EndsAs (Tells (Some (held_locale handle.old.value).id.language) buffer.old
-        buffer.new needed.new) result }
+    ensures { IsAsked handle.old.value handle.new.value (λ it. EndsAs (Tells (Some it.id.language)
+        buffer.old buffer.new needed.new) result) }
 {
     tell(alloc, handle, &Named::Language, buffer, needed)
 }
@@ -49,9 +46,8 @@ pub extern "C" fn icu_locale_get_script(
     buffer: &mut [u8],
     needed: &mut usize,
 ) -> u32
-    ensures same { handle.new.value ≡ handle.old.value }
-    ensures answered { EndsAs (Tells (Some (text_or_empty (held_locale handle.old.value).id.script))
-        buffer.old buffer.new needed.new) result }
+    ensures { IsAsked handle.old.value handle.new.value (λ it. EndsAs (Tells
+        (Some (text_or_empty it.id.script)) buffer.old buffer.new needed.new) result) }
 {
     tell(alloc, handle, &Named::Script, buffer, needed)
 }
@@ -64,9 +60,8 @@ pub extern "C" fn icu_locale_get_region(
     buffer: &mut [u8],
     needed: &mut usize,
 ) -> u32
-    ensures same { handle.new.value ≡ handle.old.value }
-    ensures answered { EndsAs (Tells (Some (text_or_empty (held_locale handle.old.value).id.region))
-        buffer.old buffer.new needed.new) result }
+    ensures { IsAsked handle.old.value handle.new.value (λ it. EndsAs (Tells
+        (Some (text_or_empty it.id.region)) buffer.old buffer.new needed.new) result) }
 {
     tell(alloc, handle, &Named::Region, buffer, needed)
 }
@@ -74,9 +69,7 @@ pub extern "C" fn icu_locale_get_region(
 /// Sets the language to the subtag of the text; an empty text makes it `und`.
 #[unsafe(no_mangle)]
 pub extern "C" fn icu_locale_set_language(alloc: Global, handle: &mut Handle, text: &[u8]) -> u32
-    ensures changed { EndsAs (Changes (SetsLanguage text.now) handle.old.value handle.new.value)
-        result }
-    ensures tight { IsTight handle.new.value }
+    ensures { IsChanged (SetsLanguage text.now) handle.old.value handle.new.value result }
 {
     make_change(alloc, handle, &SetLanguage(text))
 }
@@ -84,9 +77,7 @@ pub extern "C" fn icu_locale_set_language(alloc: Global, handle: &mut Handle, te
 /// Sets the script to the subtag of the text; an empty text removes it.
 #[unsafe(no_mangle)]
 pub extern "C" fn icu_locale_set_script(alloc: Global, handle: &mut Handle, text: &[u8]) -> u32
-    ensures changed { EndsAs (Changes (SetsScript text.now) handle.old.value handle.new.value)
-        result }
-    ensures tight { IsTight handle.new.value }
+    ensures { IsChanged (SetsScript text.now) handle.old.value handle.new.value result }
 {
     make_change(alloc, handle, &SetScript(text))
 }
@@ -94,9 +85,7 @@ pub extern "C" fn icu_locale_set_script(alloc: Global, handle: &mut Handle, text
 /// Sets the region to the subtag of the text; an empty text removes it.
 #[unsafe(no_mangle)]
 pub extern "C" fn icu_locale_set_region(alloc: Global, handle: &mut Handle, text: &[u8]) -> u32
-    ensures changed { EndsAs (Changes (SetsRegion text.now) handle.old.value handle.new.value)
-        result }
-    ensures tight { IsTight handle.new.value }
+    ensures { IsChanged (SetsRegion text.now) handle.old.value handle.new.value result }
 {
     make_change(alloc, handle, &SetRegion(text))
 }

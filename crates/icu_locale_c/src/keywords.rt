@@ -6,8 +6,8 @@ ghost use Rattle.iloc_calls.specs.Answers.{Tells};
 ghost use Rattle.iloc_calls.specs.Numbers.{EndsAs};
 ghost use Rattle.iloc_handles.specs.Clearing.{Clears};
 ghost use Rattle.iloc_handles.specs.declared.clearing.Clear.{Clear};
-ghost use Rattle.iloc_handles.specs.Held.{IsTight, held_locale};
-ghost use Rattle.iloc_handles.specs.Finding.{Changes};
+ghost use Rattle.iloc_handles.specs.Held.{held_locale};
+ghost use Rattle.iloc_handles.specs.Finding.{IsAsked, IsChanged};
 ghost use Rattle.iloc_handles.specs.Keywords.{keywords, keywords_of};
 ghost use Rattle.iloc_handles.specs.Pairs.{RemovesPair, SetsPair, key_at, value_at, value_of_key};
 ghost use Rattle.iloc_handles.specs.Whole.{ExtendsUnicode};
@@ -21,8 +21,7 @@ use std::alloc::Global;
 /// How many keywords there are.
 #[unsafe(no_mangle)]
 pub extern "C" fn icu_locale_keyword_count(alloc: Global, handle: &mut Handle) -> usize
-    ensures same { handle.new.value ≡ handle.old.value }
-    ensures answered { result ≡ length (keywords_of (held_locale handle.old.value)) }
+    ensures { IsAsked handle.old.value handle.new.value (λ it. result ≡ length (keywords_of it)) }
 {
     ask(alloc, handle, &PairCount(OfKeywords))
 }
@@ -36,9 +35,8 @@ pub extern "C" fn icu_locale_get_keyword_key(
     buffer: &mut [u8],
     needed: &mut usize,
 ) -> u32
-    ensures same { handle.new.value ≡ handle.old.value }
-    ensures answered { EndsAs (Tells (key_at index (keywords_of (held_locale handle.old.value)))
-        buffer.old buffer.new needed.new) result }
+    ensures { IsAsked handle.old.value handle.new.value (λ it. EndsAs (Tells
+        (key_at index (keywords_of it)) buffer.old buffer.new needed.new) result) }
 {
     tell(alloc, handle, &KeyAt(OfKeywords, index), buffer, needed)
 }
@@ -52,9 +50,9 @@ pub extern "C" fn icu_locale_get_keyword_value(
     buffer: &mut [u8],
     needed: &mut usize,
 ) -> u32
-    ensures same { handle.new.value ≡ handle.old.value }
-    ensures answered { EndsAs (Tells (option_map join (value_at index
-        (keywords_of (held_locale handle.old.value)))) buffer.old buffer.new needed.new) result }
+    ensures { IsAsked handle.old.value handle.new.value (λ it. EndsAs (Tells
+        (option_map join (value_at index (keywords_of it))) buffer.old buffer.new needed.new)
+        result) }
 {
     tell(alloc, handle, &ValueAt(OfKeywords, index), buffer, needed)
 }
@@ -68,9 +66,9 @@ pub extern "C" fn icu_locale_get_keyword(
     buffer: &mut [u8],
     needed: &mut usize,
 ) -> u32
-    ensures same { handle.new.value ≡ handle.old.value }
-    ensures answered { EndsAs (Tells (option_map join (value_of_key UnicodeKey key.now
-        (keywords_of (held_locale handle.old.value)))) buffer.old buffer.new needed.new) result }
+    ensures { IsAsked handle.old.value handle.new.value (λ it. EndsAs (Tells (option_map join
+        (value_of_key UnicodeKey key.now (keywords_of it))) buffer.old buffer.new needed.new)
+        result) }
 {
     tell(alloc, handle, &ValueOf(OfKeywords, key), buffer, needed)
 }
@@ -83,9 +81,8 @@ pub extern "C" fn icu_locale_set_keyword(
     key: &[u8],
     value: &[u8],
 ) -> u32
-    ensures changed { EndsAs (Changes (SetsPair UnicodeKey keywords key.now value.now)
-        handle.old.value handle.new.value) result }
-    ensures tight { IsTight handle.new.value }
+    ensures { IsChanged (SetsPair UnicodeKey keywords key.now value.now) handle.old.value
+        handle.new.value result }
 {
     make_change(alloc, handle, &SetPair(OfKeywords, key, value))
 }
@@ -93,9 +90,8 @@ pub extern "C" fn icu_locale_set_keyword(
 /// Removes the keyword with this key.
 #[unsafe(no_mangle)]
 pub extern "C" fn icu_locale_remove_keyword(alloc: Global, handle: &mut Handle, key: &[u8]) -> u32
-    ensures changed { EndsAs (Changes (RemovesPair UnicodeKey keywords key.now) handle.old.value
-        handle.new.value) result }
-    ensures tight { IsTight handle.new.value }
+    ensures { IsChanged (RemovesPair UnicodeKey keywords key.now) handle.old.value handle.new.value
+        result }
 {
     make_change(alloc, handle, &RemovePair(OfKeywords, key))
 }
@@ -103,9 +99,7 @@ pub extern "C" fn icu_locale_remove_keyword(alloc: Global, handle: &mut Handle, 
 /// Removes all keywords.
 #[unsafe(no_mangle)]
 pub extern "C" fn icu_locale_clear_keywords(alloc: Global, handle: &mut Handle) -> u32
-    ensures changed { EndsAs (Changes (Clears Clear.Keywords) handle.old.value handle.new.value)
-        result }
-    ensures tight { IsTight handle.new.value }
+    ensures { IsChanged (Clears Clear.Keywords) handle.old.value handle.new.value result }
 {
     make_change(alloc, handle, &Clear::Keywords)
 }
@@ -118,9 +112,8 @@ pub extern "C" fn icu_locale_extend_unicode(
     from: &mut Handle,
 ) -> u32
     ensures same { from.new.value ≡ from.old.value }
-    ensures changed { EndsAs (Changes (ExtendsUnicode (held_locale from.old.value)) handle.old.value
-        handle.new.value) result }
-    ensures tight { IsTight handle.new.value }
+    ensures changed { IsChanged (ExtendsUnicode (held_locale from.old.value)) handle.old.value
+        handle.new.value result }
 {
     change_by(alloc, handle, from, Merge::ExtendUnicode)
 }

@@ -1,10 +1,9 @@
 //! Calls on the other extensions of a locale.
 // Written by tools/write_calls from tools/calls.txt: change that table and not this file.
-ghost use Rattle.std.specs.Prelude.{◌≡◌, ◌↔◌, IsTrue};
+ghost use Rattle.std.specs.Prelude.{◌↔◌, IsTrue};
 ghost use Rattle.iloc_calls.specs.Answers.{Tells};
 ghost use Rattle.iloc_calls.specs.Numbers.{EndsAs};
-ghost use Rattle.iloc_handles.specs.Held.{IsTight, held_locale};
-ghost use Rattle.iloc_handles.specs.Finding.{Changes};
+ghost use Rattle.iloc_handles.specs.Finding.{IsAsked, IsChanged};
 ghost use Rattle.iloc_handles.specs.Others.{HasOther as IsThere, RemovesOther, SetsOther, other_text_at};
 
 use iloc_handles::{Handle, HasOther, OfOther, RemoveOther, SetOther, ask, make_change, tell};
@@ -13,8 +12,8 @@ use std::alloc::Global;
 /// Whether there is an extension of the singleton, in either case.
 #[unsafe(no_mangle)]
 pub extern "C" fn icu_locale_has_other(alloc: Global, handle: &mut Handle, singleton: u8) -> bool
-    ensures same { handle.new.value ≡ handle.old.value }
-    ensures answered { IsTrue result ↔ IsThere singleton (held_locale handle.old.value) }
+    ensures { IsAsked handle.old.value handle.new.value
+        (λ it. IsTrue result ↔ IsThere singleton it) }
 {
     ask(alloc, handle, &HasOther(singleton))
 }
@@ -28,9 +27,8 @@ pub extern "C" fn icu_locale_get_other(
     buffer: &mut [u8],
     needed: &mut usize,
 ) -> u32
-    ensures same { handle.new.value ≡ handle.old.value }
-    ensures answered { EndsAs (Tells (other_text_at singleton (held_locale handle.old.value))
-        buffer.old buffer.new needed.new) result }
+    ensures { IsAsked handle.old.value handle.new.value (λ it. EndsAs (Tells
+        (other_text_at singleton it) buffer.old buffer.new needed.new) result) }
 {
     tell(alloc, handle, &OfOther(singleton), buffer, needed)
 }
@@ -38,9 +36,7 @@ pub extern "C" fn icu_locale_get_other(
 /// Sets the extension of its singleton to that of the text.
 #[unsafe(no_mangle)]
 pub extern "C" fn icu_locale_set_other(alloc: Global, handle: &mut Handle, text: &[u8]) -> u32
-    ensures changed { EndsAs (Changes (SetsOther text.now) handle.old.value handle.new.value)
-        result }
-    ensures tight { IsTight handle.new.value }
+    ensures { IsChanged (SetsOther text.now) handle.old.value handle.new.value result }
 {
     make_change(alloc, handle, &SetOther(text))
 }
@@ -48,9 +44,7 @@ pub extern "C" fn icu_locale_set_other(alloc: Global, handle: &mut Handle, text:
 /// Removes the extension of the singleton, in either case.
 #[unsafe(no_mangle)]
 pub extern "C" fn icu_locale_remove_other(alloc: Global, handle: &mut Handle, singleton: u8) -> u32
-    ensures changed { EndsAs (Changes (RemovesOther singleton) handle.old.value handle.new.value)
-        result }
-    ensures tight { IsTight handle.new.value }
+    ensures { IsChanged (RemovesOther singleton) handle.old.value handle.new.value result }
 {
     make_change(alloc, handle, &RemoveOther(singleton))
 }

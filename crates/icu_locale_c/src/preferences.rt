@@ -1,9 +1,8 @@
 //! Calls on the preferences that formatters take from a locale.
 // Written by tools/write_calls from tools/calls.txt: change that table and not this file.
-ghost use Rattle.std.specs.Prelude.{◌≡◌};
 ghost use Rattle.iloc_calls.specs.Answers.{Tells};
 ghost use Rattle.iloc_calls.specs.Numbers.{EndsAs};
-ghost use Rattle.iloc_handles.specs.Held.{held_locale};
+ghost use Rattle.iloc_handles.specs.Finding.{IsAsked};
 ghost use Rattle.iloc_handles.specs.Data.{calendar_text, hours_text, numbering_text};
 
 use iloc_handles::{Handle, Named, tell};
@@ -17,9 +16,8 @@ pub extern "C" fn icu_locale_get_calendar_algorithm(
     buffer: &mut [u8],
     needed: &mut usize,
 ) -> u32
-    ensures same { handle.new.value ≡ handle.old.value }
-    ensures answered { EndsAs (Tells (calendar_text (held_locale handle.old.value)) buffer.old
-        buffer.new needed.new) result }
+    ensures { IsAsked handle.old.value handle.new.value (λ it. EndsAs
+        (Tells (calendar_text it) buffer.old buffer.new needed.new) result) }
 {
     tell(alloc, handle, &Named::Calendar, buffer, needed)
 }
@@ -32,9 +30,8 @@ pub extern "C" fn icu_locale_get_hour_cycle(
     buffer: &mut [u8],
     needed: &mut usize,
 ) -> u32
-    ensures same { handle.new.value ≡ handle.old.value }
-    ensures answered { EndsAs (Tells (hours_text (held_locale handle.old.value)) buffer.old
-        buffer.new needed.new) result }
+    ensures { IsAsked handle.old.value handle.new.value (λ it. EndsAs
+        (Tells (hours_text it) buffer.old buffer.new needed.new) result) }
 {
     tell(alloc, handle, &Named::HourCycle, buffer, needed)
 }
@@ -47,9 +44,8 @@ pub extern "C" fn icu_locale_get_numbering_system(
     buffer: &mut [u8],
     needed: &mut usize,
 ) -> u32
-    ensures same { handle.new.value ≡ handle.old.value }
-    ensures answered { EndsAs (Tells (numbering_text (held_locale handle.old.value)) buffer.old
-        buffer.new needed.new) result }
+    ensures { IsAsked handle.old.value handle.new.value (λ it. EndsAs
+        (Tells (numbering_text it) buffer.old buffer.new needed.new) result) }
 {
     tell(alloc, handle, &Named::NumberingSystem, buffer, needed)
 }

@@ -7,8 +7,7 @@ ghost use Rattle.iloc_calls.specs.Answers.{Tells};
 ghost use Rattle.iloc_calls.specs.Numbers.{EndsAs};
 ghost use Rattle.iloc_handles.specs.Clearing.{Clears};
 ghost use Rattle.iloc_handles.specs.declared.clearing.Clear.{Clear};
-ghost use Rattle.iloc_handles.specs.Held.{IsTight, held_locale};
-ghost use Rattle.iloc_handles.specs.Finding.{Changes};
+ghost use Rattle.iloc_handles.specs.Finding.{IsAsked, IsChanged};
 ghost use Rattle.iloc_handles.specs.Pairs.{RemovesPair, SetsPair, key_at, value_at, value_of_key};
 ghost use Rattle.iloc_handles.specs.Transform.{SetsPrivate, SetsTransformLanguage, fields, fields_of, transform_language};
 
@@ -26,9 +25,8 @@ pub extern "C" fn icu_locale_get_transform_language(
     buffer: &mut [u8],
     needed: &mut usize,
 ) -> u32
-    ensures same { handle.new.value ≡ handle.old.value }
-    ensures answered { EndsAs (Tells (transform_language (held_locale handle.old.value)) buffer.old
-        buffer.new needed.new) result }
+    ensures { IsAsked handle.old.value handle.new.value (λ it. EndsAs (Tells (transform_language it)
+        buffer.old buffer.new needed.new) result) }
 {
     tell(alloc, handle, &Named::TransformLanguage, buffer, needed)
 }
@@ -40,9 +38,7 @@ pub extern "C" fn icu_locale_set_transform_language(
     handle: &mut Handle,
     text: &[u8],
 ) -> u32
-    ensures changed { EndsAs (Changes (SetsTransformLanguage text.now) handle.old.value
-        handle.new.value) result }
-    ensures tight { IsTight handle.new.value }
+    ensures { IsChanged (SetsTransformLanguage text.now) handle.old.value handle.new.value result }
 {
     make_change(alloc, handle, &SetTransformLanguage(text))
 }
@@ -50,8 +46,7 @@ pub extern "C" fn icu_locale_set_transform_language(
 /// How many fields there are.
 #[unsafe(no_mangle)]
 pub extern "C" fn icu_locale_field_count(alloc: Global, handle: &mut Handle) -> usize
-    ensures same { handle.new.value ≡ handle.old.value }
-    ensures answered { result ≡ length (fields_of (held_locale handle.old.value)) }
+    ensures { IsAsked handle.old.value handle.new.value (λ it. result ≡ length (fields_of it)) }
 {
     ask(alloc, handle, &PairCount(OfFields))
 }
@@ -65,9 +60,8 @@ pub extern "C" fn icu_locale_get_field_key(
     buffer: &mut [u8],
     needed: &mut usize,
 ) -> u32
-    ensures same { handle.new.value ≡ handle.old.value }
-    ensures answered { EndsAs (Tells (key_at index (fields_of (held_locale handle.old.value)))
-        buffer.old buffer.new needed.new) result }
+    ensures { IsAsked handle.old.value handle.new.value (λ it. EndsAs (Tells
+        (key_at index (fields_of it)) buffer.old buffer.new needed.new) result) }
 {
     tell(alloc, handle, &KeyAt(OfFields, index), buffer, needed)
 }
@@ -81,10 +75,9 @@ pub extern "C" fn icu_locale_get_field_value(
     buffer: &mut [u8],
     needed: &mut usize,
 ) -> u32
-    ensures same { handle.new.value ≡ handle.old.value }
-    ensures answered { EndsAs (Tells (option_map field_value_text
-        (value_at index (fields_of (held_locale handle.old.value)))) buffer.old buffer.new
-        needed.new) result }
+    ensures { IsAsked handle.old.value handle.new.value (λ it. EndsAs (Tells (option_map
+        field_value_text (value_at index (fields_of it))) buffer.old buffer.new needed.new)
+        result) }
 {
     tell(alloc, handle, &ValueAt(OfFields, index), buffer, needed)
 }
@@ -98,9 +91,9 @@ pub extern "C" fn icu_locale_get_field(
     buffer: &mut [u8],
     needed: &mut usize,
 ) -> u32
-    ensures same { handle.new.value ≡ handle.old.value }
-    ensures answered { EndsAs (Tells (option_map field_value_text (value_of_key TransformKey key.now
-        (fields_of (held_locale handle.old.value)))) buffer.old buffer.new needed.new) result }
+    ensures { IsAsked handle.old.value handle.new.value (λ it. EndsAs (Tells (option_map
+        field_value_text (value_of_key TransformKey key.now (fields_of it))) buffer.old buffer.new
+        needed.new) result) }
 {
     tell(alloc, handle, &ValueOf(OfFields, key), buffer, needed)
 }
@@ -113,9 +106,8 @@ pub extern "C" fn icu_locale_set_field(
     key: &[u8],
     value: &[u8],
 ) -> u32
-    ensures changed { EndsAs (Changes (SetsPair TransformKey fields key.now value.now)
-        handle.old.value handle.new.value) result }
-    ensures tight { IsTight handle.new.value }
+    ensures { IsChanged (SetsPair TransformKey fields key.now value.now) handle.old.value
+        handle.new.value result }
 {
     make_change(alloc, handle, &SetPair(OfFields, key, value))
 }
@@ -123,9 +115,8 @@ pub extern "C" fn icu_locale_set_field(
 /// Removes the field with this key.
 #[unsafe(no_mangle)]
 pub extern "C" fn icu_locale_remove_field(alloc: Global, handle: &mut Handle, key: &[u8]) -> u32
-    ensures changed { EndsAs (Changes (RemovesPair TransformKey fields key.now) handle.old.value
-        handle.new.value) result }
-    ensures tight { IsTight handle.new.value }
+    ensures { IsChanged (RemovesPair TransformKey fields key.now) handle.old.value handle.new.value
+        result }
 {
     make_change(alloc, handle, &RemovePair(OfFields, key))
 }
@@ -133,9 +124,7 @@ pub extern "C" fn icu_locale_remove_field(alloc: Global, handle: &mut Handle, ke
 /// Removes all fields.
 #[unsafe(no_mangle)]
 pub extern "C" fn icu_locale_clear_fields(alloc: Global, handle: &mut Handle) -> u32
-    ensures changed { EndsAs (Changes (Clears Clear.Fields) handle.old.value handle.new.value)
-        result }
-    ensures tight { IsTight handle.new.value }
+    ensures { IsChanged (Clears Clear.Fields) handle.old.value handle.new.value result }
 {
     make_change(alloc, handle, &Clear::Fields)
 }
@@ -148,10 +137,8 @@ pub extern "C" fn icu_locale_get_private(
     buffer: &mut [u8],
     needed: &mut usize,
 ) -> u32
-    ensures same { handle.new.value ≡ handle.old.value }
-    ensures answered { EndsAs (Tells (Some (private_text
-        (held_locale handle.old.value).extensions.private)) buffer.old buffer.new needed.new)
-        result }
+    ensures { IsAsked handle.old.value handle.new.value (λ it. EndsAs (Tells
+        (Some (private_text it.extensions.private)) buffer.old buffer.new needed.new) result) }
 {
     tell(alloc, handle, &Named::Private, buffer, needed)
 }
@@ -159,9 +146,7 @@ pub extern "C" fn icu_locale_get_private(
 /// Sets the private extension to that of the text, which begins with `x`; an empty text removes it.
 #[unsafe(no_mangle)]
 pub extern "C" fn icu_locale_set_private(alloc: Global, handle: &mut Handle, text: &[u8]) -> u32
-    ensures changed { EndsAs (Changes (SetsPrivate text.now) handle.old.value handle.new.value)
-        result }
-    ensures tight { IsTight handle.new.value }
+    ensures { IsChanged (SetsPrivate text.now) handle.old.value handle.new.value result }
 {
     make_change(alloc, handle, &SetPrivate(text))
 }

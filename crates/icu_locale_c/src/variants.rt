@@ -6,8 +6,7 @@ ghost use Rattle.iloc_calls.specs.Answers.{Tells};
 ghost use Rattle.iloc_calls.specs.Numbers.{EndsAs};
 ghost use Rattle.iloc_handles.specs.Clearing.{Clears};
 ghost use Rattle.iloc_handles.specs.declared.clearing.Clear.{Clear};
-ghost use Rattle.iloc_handles.specs.Held.{IsTight, held_locale};
-ghost use Rattle.iloc_handles.specs.Finding.{Changes};
+ghost use Rattle.iloc_handles.specs.Finding.{IsAsked, IsChanged};
 ghost use Rattle.iloc_handles.specs.Subtags.{HasWord};
 ghost use Rattle.iloc_handles.specs.Identifier.{AddsVariant, RemovesVariant, variant_at};
 
@@ -20,8 +19,7 @@ use std::alloc::Global;
 /// How many variants there are.
 #[unsafe(no_mangle)]
 pub extern "C" fn icu_locale_variant_count(alloc: Global, handle: &mut Handle) -> usize
-    ensures same { handle.new.value ≡ handle.old.value }
-    ensures answered { result ≡ length (held_locale handle.old.value).id.variants }
+    ensures { IsAsked handle.old.value handle.new.value (λ it. result ≡ length it.id.variants) }
 {
     ask(alloc, handle, &WordCount(OfVariants))
 }
@@ -35,9 +33,8 @@ pub extern "C" fn icu_locale_get_variant(
     buffer: &mut [u8],
     needed: &mut usize,
 ) -> u32
-    ensures same { handle.new.value ≡ handle.old.value }
-    ensures answered { EndsAs (Tells (variant_at index (held_locale handle.old.value)) buffer.old
-        buffer.new needed.new) result }
+    ensures { IsAsked handle.old.value handle.new.value (λ it. EndsAs (Tells (variant_at index it)
+        buffer.old buffer.new needed.new) result) }
 {
     tell(alloc, handle, &WordAt(OfVariants, index), buffer, needed)
 }
@@ -45,9 +42,8 @@ pub extern "C" fn icu_locale_get_variant(
 /// Whether the text is one of the variants.
 #[unsafe(no_mangle)]
 pub extern "C" fn icu_locale_has_variant(alloc: Global, handle: &mut Handle, text: &[u8]) -> bool
-    ensures same { handle.new.value ≡ handle.old.value }
-    ensures answered { IsTrue result ↔ HasWord Variant text.now
-        (held_locale handle.old.value).id.variants }
+    ensures { IsAsked handle.old.value handle.new.value (λ it. IsTrue result ↔ HasWord Variant
+        text.now it.id.variants) }
 {
     ask(alloc, handle, &HasText(OfVariants, text))
 }
@@ -55,9 +51,7 @@ pub extern "C" fn icu_locale_has_variant(alloc: Global, handle: &mut Handle, tex
 /// Adds the variant of the text.
 #[unsafe(no_mangle)]
 pub extern "C" fn icu_locale_add_variant(alloc: Global, handle: &mut Handle, text: &[u8]) -> u32
-    ensures changed { EndsAs (Changes (AddsVariant text.now) handle.old.value handle.new.value)
-        result }
-    ensures tight { IsTight handle.new.value }
+    ensures { IsChanged (AddsVariant text.now) handle.old.value handle.new.value result }
 {
     make_change(alloc, handle, &AddVariant(text))
 }
@@ -65,9 +59,7 @@ pub extern "C" fn icu_locale_add_variant(alloc: Global, handle: &mut Handle, tex
 /// Removes the variant of the text.
 #[unsafe(no_mangle)]
 pub extern "C" fn icu_locale_remove_variant(alloc: Global, handle: &mut Handle, text: &[u8]) -> u32
-    ensures changed { EndsAs (Changes (RemovesVariant text.now) handle.old.value handle.new.value)
-        result }
-    ensures tight { IsTight handle.new.value }
+    ensures { IsChanged (RemovesVariant text.now) handle.old.value handle.new.value result }
 {
     make_change(alloc, handle, &RemoveVariant(text))
 }
@@ -75,9 +67,7 @@ pub extern "C" fn icu_locale_remove_variant(alloc: Global, handle: &mut Handle, 
 /// Removes all variants.
 #[unsafe(no_mangle)]
 pub extern "C" fn icu_locale_clear_variants(alloc: Global, handle: &mut Handle) -> u32
-    ensures changed { EndsAs (Changes (Clears Clear.Variants) handle.old.value handle.new.value)
-        result }
-    ensures tight { IsTight handle.new.value }
+    ensures { IsChanged (Clears Clear.Variants) handle.old.value handle.new.value result }
 {
     make_change(alloc, handle, &Clear::Variants)
 }

@@ -8,8 +8,8 @@ ghost use Rattle.iloc_locale.specs.LocaleReading.{unknown_locale};
 ghost use Rattle.iloc_calls.specs.Answers.{Tells, order_number};
 ghost use Rattle.iloc_calls.specs.Numbers.{EndsAs};
 ghost use Rattle.iloc_calls.specs.Hashing.{hash_of};
-ghost use Rattle.iloc_handles.specs.Held.{IsTight, held_locale};
-ghost use Rattle.iloc_handles.specs.Finding.{Changes};
+ghost use Rattle.iloc_handles.specs.Held.{held_locale};
+ghost use Rattle.iloc_handles.specs.Finding.{IsAsked, IsChanged};
 ghost use Rattle.iloc_handles.specs.Whole.{Copies, ParsesTo};
 
 use iloc_handles::{
@@ -20,9 +20,7 @@ use std::alloc::Global;
 /// Stands for what the text means, from then on.
 #[unsafe(no_mangle)]
 pub extern "C" fn icu_locale_parse(alloc: Global, handle: &mut Handle, text: &[u8]) -> u32
-    ensures changed { EndsAs (Changes (ParsesTo text.now) handle.old.value handle.new.value)
-        result }
-    ensures tight { IsTight handle.new.value }
+    ensures { IsChanged (ParsesTo text.now) handle.old.value handle.new.value result }
 {
     make_change(alloc, handle, &FromText(text))
 }
@@ -31,9 +29,8 @@ pub extern "C" fn icu_locale_parse(alloc: Global, handle: &mut Handle, text: &[u
 #[unsafe(no_mangle)]
 pub extern "C" fn icu_locale_copy(alloc: Global, handle: &mut Handle, from: &mut Handle) -> u32
     ensures same { from.new.value ≡ from.old.value }
-    ensures changed { EndsAs (Changes (Copies (held_locale from.old.value)) handle.old.value
-        handle.new.value) result }
-    ensures tight { IsTight handle.new.value }
+    ensures changed { IsChanged (Copies (held_locale from.old.value)) handle.old.value
+        handle.new.value result }
 {
     change_by(alloc, handle, from, Merge::Copy)
 }
@@ -41,8 +38,8 @@ pub extern "C" fn icu_locale_copy(alloc: Global, handle: &mut Handle, from: &mut
 /// Whether it stands for `und`.
 #[unsafe(no_mangle)]
 pub extern "C" fn icu_locale_is_und(alloc: Global, handle: &mut Handle) -> bool
-    ensures same { handle.new.value ≡ handle.old.value }
-    ensures answered { IsTrue result ↔ ((held_locale handle.old.value) ≡ unknown_locale) }
+    ensures { IsAsked handle.old.value handle.new.value
+        (λ it. IsTrue result ↔ (it ≡ unknown_locale)) }
 {
     ask(alloc, handle, &Test::Und)
 }
@@ -50,8 +47,7 @@ pub extern "C" fn icu_locale_is_und(alloc: Global, handle: &mut Handle) -> bool
 /// Whether the text of the locale means this locale.
 #[unsafe(no_mangle)]
 pub extern "C" fn icu_locale_is_well_formed(alloc: Global, handle: &mut Handle) -> bool
-    ensures same { handle.new.value ≡ handle.old.value }
-    ensures answered { IsTrue result ↔ IsWellFormed (held_locale handle.old.value) }
+    ensures { IsAsked handle.old.value handle.new.value (λ it. IsTrue result ↔ IsWellFormed it) }
 {
     ask(alloc, handle, &Test::WellFormed)
 }
@@ -59,9 +55,8 @@ pub extern "C" fn icu_locale_is_well_formed(alloc: Global, handle: &mut Handle) 
 /// The byte order of the normal form against other bytes, as -1, 0 or 1.
 #[unsafe(no_mangle)]
 pub extern "C" fn icu_locale_cmp_bytes(alloc: Global, handle: &mut Handle, other: &[u8]) -> i8
-    ensures same { handle.new.value ≡ handle.old.value }
-    ensures answered { result ≡ order_number (slice_cmp nat_cmp
-        (text_of (held_locale handle.old.value)) other.now) }
+    ensures { IsAsked handle.old.value handle.new.value (λ it. result ≡ order_number
+        (slice_cmp nat_cmp (text_of it) other.now)) }
 {
     ask(alloc, handle, &AgainstBytes(other))
 }
@@ -69,8 +64,7 @@ pub extern "C" fn icu_locale_cmp_bytes(alloc: Global, handle: &mut Handle, other
 /// The hash of the normal form, FNV-1a of its bytes.
 #[unsafe(no_mangle)]
 pub extern "C" fn icu_locale_hash(alloc: Global, handle: &mut Handle) -> u64
-    ensures same { handle.new.value ≡ handle.old.value }
-    ensures answered { result ≡ hash_of (text_of (held_locale handle.old.value)) }
+    ensures { IsAsked handle.old.value handle.new.value (λ it. result ≡ hash_of (text_of it)) }
 {
     ask(alloc, handle, &Hashed)
 }
@@ -83,9 +77,8 @@ pub extern "C" fn icu_locale_to_string(
     buffer: &mut [u8],
     needed: &mut usize,
 ) -> u32
-    ensures same { handle.new.value ≡ handle.old.value }
-    ensures answered { EndsAs (Tells (Some (text_of (held_locale handle.old.value))) buffer.old
-        buffer.new needed.new) result }
+    ensures { IsAsked handle.old.value handle.new.value (λ it. EndsAs
+        (Tells (Some (text_of it)) buffer.old buffer.new needed.new) result) }
 {
     tell(alloc, handle, &Named::Whole, buffer, needed)
 }

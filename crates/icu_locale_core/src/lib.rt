@@ -159,7 +159,9 @@ pub mod extensions {
 pub mod locale {
     pub use crate::together::locales as together;
     pub use iloc_locale::ordered::equality as ordered_equality;
-    pub use iloc_locale::{Locale, OrderedLocale, equality, hashes, memory};
+    pub use iloc_locale::{
+        Locale, OrderedLocale, equality, every_locale_is_a_value, hashes, memory,
+    };
 }
 
 /// Data locales: the parts of a locale by which data is looked up.

@@ -19,8 +19,6 @@ mod identifier;
 pub mod laws;
 mod state;
 mod step;
-#[cfg(test)]
-mod tests;
 mod walk;
 
 use iloc_normalize::Mode;

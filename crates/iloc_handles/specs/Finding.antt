@@ -1,5 +1,5 @@
 -- What a caller finds after a call on a handle, by its status.
-use Rattle.std.specs.Prelude.{◌≡◌, ◌≢◌, ◌⊎◌, Option, None}
+use Rattle.std.specs.Prelude.{◌≡◌, ◌≢◌, ◌⊎◌, ℕ, Option, None}
 use Rattle.iloc_spec_grammar.specs.Meaning as meaning
 use Rattle.iloc_spec_grammar.specs.Meaning.{Fault}
 use Rattle.iloc_locale.specs.LocaleReading.{unknown_locale}
@@ -9,7 +9,8 @@ use Rattle.iloc_calls.specs.declared.status.Status.TheVariants.{Done, InvalidLan
 use Rattle.iloc_calls.specs.declared.status.Status.TheVariants.{InvalidExtension, DuplicatedExtension}
 use Rattle.iloc_calls.specs.declared.status.Status.TheVariants.{OutOfMemory, BufferTooSmall, UnknownNumber}
 use Rattle.iloc_calls.specs.declared.status.Status.TheVariants.{NotFound}
-use Rattle.iloc_handles.specs.Held.{held_locale}
+use Rattle.iloc_calls.specs.Numbers.{EndsAs}
+use Rattle.iloc_handles.specs.Held.{IsTight, held_locale}
 
 -- a relation of the locale before, the locale after, and the status
 abbrev pub Changing : Type 1
@@ -27,6 +28,17 @@ abbrev pub Changes : Changing → Option Locale → Option Locale → Status →
 Changes P before after status =
     P (held_locale before) (held_locale after) status
     ⊎ ((status ≡ OutOfMemory) × LacksBox P before after)
+
+-- The two kinds of calls.
+
+-- a call that reads: the handle is as before, and what is answered is so of its locale
+abbrev pub IsAsked : Option Locale → Option Locale → (meaning.Locale → Type 0) → Type 0
+IsAsked before after IsAnswered = (after ≡ before) × IsAnswered (held_locale before)
+
+-- a call that changes: the locale is changed so, with the number of that status, and a handle that
+-- stands for `und` afterwards has no box
+abbrev pub IsChanged : Changing → Option Locale → Option Locale → ℕ → Type 0
+IsChanged P before after number = EndsAs (Changes P before after) number × IsTight after
 
 -- Setting.
 

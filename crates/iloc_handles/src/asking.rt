@@ -6,8 +6,8 @@ ghost use Rattle.iloc_locale.specs.LocaleReading.{value_of};
 ghost use Rattle.iloc_calls.specs.Answers.{Tells};
 ghost use Rattle.iloc_calls.specs.Numbers.{EndsAs, status_of};
 ghost use Rattle.iloc_calls.specs.declared.status.Status.{Status};
-ghost use Rattle.iloc_handles.specs.Held.{IsTight, held_locale};
-ghost use Rattle.iloc_handles.specs.Finding.{Changes};
+ghost use Rattle.iloc_handles.specs.Held.{IsTight};
+ghost use Rattle.iloc_handles.specs.Finding.{Changes, IsAsked, IsChanged};
 
 use crate::handle::{Handle, is_und};
 use iloc_calls::Status;
@@ -71,9 +71,8 @@ pub fn tell<P: Part>(
     buffer: &mut [u8],
     needed: &mut usize,
 ) -> u32
-    ensures same { handle.new.value ≡ handle.old.value }
-    ensures answered { EndsAs (Tells (P.text part.now (held_locale handle.old.value)) buffer.old
-        buffer.new needed.new) result }
+    ensures { IsAsked handle.old.value handle.new.value
+        (λ it. EndsAs (Tells (P.text part.now it) buffer.old buffer.new needed.new) result) }
 {
     match handle.take(alloc) {
         Some(boxed) => {
@@ -89,8 +88,8 @@ pub fn tell<P: Part>(
 
 /// Answers the question.
 pub fn ask<Q: Question>(alloc: Global, handle: &mut Handle, question: &Q) -> Q::Answer
-    ensures same { handle.new.value ≡ handle.old.value }
-    ensures answered { Q.is_answer question.now (held_locale handle.old.value) result }
+    ensures { IsAsked handle.old.value handle.new.value
+        (λ it. Q.is_answer question.now it result) }
 {
     match handle.take(alloc) {
         Some(boxed) => {
@@ -104,9 +103,7 @@ pub fn ask<Q: Question>(alloc: Global, handle: &mut Handle, question: &Q) -> Q::
 
 /// Changes the locale.
 pub fn make_change<C: Change>(alloc: Global, handle: &mut Handle, change: &C) -> u32
-    ensures changed { EndsAs (Changes (C.changes change.now) handle.old.value handle.new.value)
-        result }
-    ensures tight { IsTight handle.new.value }
+    ensures { IsChanged (C.changes change.now) handle.old.value handle.new.value result }
 {
     let Some(mut boxed) = handle.take(alloc) else {
         return change_und(alloc, handle, change).number();

@@ -7,7 +7,7 @@ ghost use Rattle.iloc_spec_parts.specs.Orders.{locale_cmp};
 ghost use Rattle.iloc_locale.specs.LocaleReading.{value_of};
 ghost use Rattle.iloc_calls.specs.Answers.{order_number};
 ghost use Rattle.iloc_calls.specs.Hashing.{hash_of};
-ghost use Rattle.iloc_handles.specs.Held.{held_locale};
+ghost use Rattle.iloc_handles.specs.Finding.{IsAsked};
 ghost use Rattle.iloc_handles.specs.Whole.{ParsesTo, Passes, TellsMeant};
 
 use crate::asking::{Change, Question, ask, put_parsed};
@@ -67,10 +67,8 @@ impl<'a> Question for Against<'a> {
 
 /// The order of the locales of two handles.
 pub fn order_of(alloc: Global, handle: &mut Handle, other: &mut Handle) -> Ordering
-    ensures same { handle.new.value ≡ handle.old.value }
-    ensures same_other { other.new.value ≡ other.old.value }
-    ensures answered { result
-        ≡ locale_cmp (held_locale handle.old.value) (held_locale other.old.value) }
+    ensures { IsAsked handle.old.value handle.new.value (λ it. IsAsked other.old.value
+        other.new.value (λ that. result ≡ locale_cmp it that)) }
 {
     match other.take(alloc) {
         Some(boxed) => {
@@ -84,10 +82,8 @@ pub fn order_of(alloc: Global, handle: &mut Handle, other: &mut Handle) -> Order
 
 /// Whether two locales are equal.
 pub fn eq(alloc: Global, handle: &mut Handle, other: &mut Handle) -> bool
-    ensures same { handle.new.value ≡ handle.old.value }
-    ensures same_other { other.new.value ≡ other.old.value }
-    ensures answered { IsTrue result
-        ↔ (held_locale handle.old.value ≡ held_locale other.old.value) }
+    ensures { IsAsked handle.old.value handle.new.value (λ it. IsAsked other.old.value
+        other.new.value (λ that. IsTrue result ↔ (it ≡ that))) }
 {
     order_of(alloc, handle, other).is_eq()
 }
@@ -109,8 +105,8 @@ impl<'a> Question for AgainstBytes<'a> {
 
 /// Writes 1 if the text means the locale, and else 0.
 pub fn tell_meant(alloc: Global, handle: &mut Handle, text: &[u8], same: &mut u8) -> Status
-    ensures same_locale { handle.new.value ≡ handle.old.value }
-    ensures answered { TellsMeant text.now (held_locale handle.old.value) same.old same.new result }
+    ensures { IsAsked handle.old.value handle.new.value
+        (λ it. TellsMeant text.now it same.old same.new result) }
 {
     match Locale::try_from_utf8(alloc, text) {
         Ok(parsed) => {

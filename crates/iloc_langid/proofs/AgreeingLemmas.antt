@@ -76,15 +76,15 @@ all_there (w ∷ ws) qs d e h =
     (front_kept (all_there ws rest d.1 k (still_there w qs rest r ws (false_from_ne_true _ d.0) h.1)))
 
 -- a set of different words has these words
-put_reordered : (w : Text) (es : List (Text × Unit {0})) →
+put_reordered : (w : Text) (es : List (Text × Text)) →
     list_any (is_same w) (map (λ e. e.0) es) ≡ false →
-    Reordered (w ∷ map (λ e. e.0) es) (map (λ e. e.0) (put word_cmp w (tt {0}) es))
+    Reordered (w ∷ map (λ e. e.0) es) (map (λ e. e.0) (put word_cmp w w es))
 put_reordered w [] h = itself (w ∷ [])
 put_reordered w (e ∷ es) h = by (word_cmp w e.0) refl (put_reordered w es (or_parts _ _ h).1)
   where
     by : (o : Ordering) → word_cmp w e.0 ≡ o →
-        Reordered (w ∷ map (λ e. e.0) es) (map (λ e. e.0) (put word_cmp w (tt {0}) es)) →
-        Reordered (w ∷ e.0 ∷ map (λ e. e.0) es) (map (λ e. e.0) (put word_cmp w (tt {0}) (e ∷ es)))
+        Reordered (w ∷ map (λ e. e.0) es) (map (λ e. e.0) (put word_cmp w w es)) →
+        Reordered (w ∷ e.0 ∷ map (λ e. e.0) es) (map (λ e. e.0) (put word_cmp w w (e ∷ es)))
     by Less l more = rw l (itself (w ∷ e.0 ∷ map (λ e. e.0) es))
     by Equal l more = absurd (true≢false (sym (ap is_eq l) ∙ (or_parts _ _ h).0))
     by Greater l more = rw l (in_turn first_two (front_kept more))
@@ -92,7 +92,7 @@ put_reordered w (e ∷ es) h = by (word_cmp w e.0) refl (put_reordered w es (or_
 set_reordered : (ws : List Text) → AllDifferent word_cmp ws → Reordered ws (set_of ws)
 set_reordered [] d = none
 set_reordered (w ∷ ws) d = in_turn (front_kept (set_reordered ws d.1)) (put_reordered w
-    (map_of word_cmp (map (λ w. (w, tt {0})) ws)) (any-set_of w ws ∙ false_from_ne_true _ d.0))
+    (map_of word_cmp (map (λ w. (w, w)) ws)) (any-set_of w ws ∙ false_from_ne_true _ d.0))
 
 all_tests : (test : Text → Bool) (ws : List Text) → list_all test ws ≡ true →
     AllByRecursion (λ w. test w ≡ true) ws

@@ -79,9 +79,9 @@ no_block (b ∷ bs) h u t x o = absurd (at (kind_of (lower_singleton b) (lower_l
 
 no_words : (ws : List Text) → set_of (map lower ws) ≡ [] → ws ≡ []
 no_words ws e =
-    let entries = none_mapped (λ (e : Text × Unit {0}). e.0) _ e in
+    let entries = none_mapped (λ (e : Text × Text). e.0) _ e in
     none_mapped lower ws
-    (none_mapped (λ (w : Text). (w, tt {0})) (map lower ws) (none_there word_cmp word_cmp_total _ entries))
+    (none_mapped (λ (w : Text). (w, w)) (map lower ws) (none_there word_cmp word_cmp_total _ entries))
 
 no_unicode_pieces : (u : SpelledUnicode) → no_unicode ≡ normal_unicode u → unicode_pieces u ≡ []
 no_unicode_pieces u e =

@@ -44,8 +44,8 @@ length-keys (e ∷ es) = ap suc (length-keys es)
 
 set_there : (w : Text) (ws : List Text) → (length (set_of (map lower (w ∷ ws))) == 0) ≡ false
 set_there w ws =
-    ap (λ n. n == 0) (length-keys (map_of word_cmp (map (λ v. (v, tt {0})) (map lower (w ∷ ws)))))
-    ∙ length-put word_cmp (lower w) (tt {0}) (map_of word_cmp (map (λ v. (v, tt {0})) (map lower ws)))
+    ap (λ n. n == 0) (length-keys (map_of word_cmp (map (λ v. (v, v)) (map lower (w ∷ ws)))))
+    ∙ length-put word_cmp (lower w) (lower w) (map_of word_cmp (map (λ v. (v, v)) (map lower ws)))
 
 fields_there : (f : Text × List Text) (fs : Fields) → (length (normal_fields (f ∷ fs)) == 0) ≡ false
 fields_there f fs = length-put word_cmp _ _ (normal_fields fs)

@@ -8,12 +8,12 @@ use Rattle.iloc_spec_grammar.specs.Syntax.{identifier_pieces, head, blocks, tail
 use Rattle.iloc_spec_grammar.specs.Meaning as meaning
 use Rattle.iloc_spec_grammar.specs.Meaning.{IdentifierMeans, Means, BlocksMean, Fault, HasFault}
 use Rattle.iloc_spec_grammar.specs.Meaning.{HasBlockFault, in_head, in_block, SpellsIdentifier}
-use Rattle.iloc_spec_grammar.specs.Values.{IsValue, IsWellFormed, TextStep, Leads}
+use Rattle.iloc_spec_grammar.specs.Values.{IsWellFormed, TextStep, Leads}
 use Rattle.iloc_spec_grammar.specs.Reading.{rest_of, front_of, after_head, starts_block}
 use Rattle.iloc_spec_grammar.proofs.RawLaws.{languages_table}
 use Rattle.iloc_spec_grammar.proofs.SameMeaning.{one_meaning}
 use Rattle.iloc_spec_grammar.proofs.SameFaults.{accepted_no_fault, one_fault, first_of_head}
-use Rattle.iloc_spec_grammar.proofs.Corollaries.{means_a_value, read_well_formed}
+use Rattle.iloc_spec_grammar.proofs.Corollaries.{read_well_formed}
 use Rattle.iloc_spec_grammar.proofs.WiderTables.{means_ours}
 use Rattle.iloc_spec_grammar.proofs.AnySteps.{chain_means}
 use Rattle.iloc_spec_grammar.proofs.ReadingLaws.{from_block_starts, front_of-pieces}
@@ -151,9 +151,8 @@ reads_answer t r h m = with_memory (λ (l : Locale). Means languages t (value_of
     (LocaleWantsMemory t) r h m
 
 pub reads_well_formed : (t : Text) (r : Result Locale ParseError) → LocaleTextReads t r →
-    IfOk r (λ l. IsValue languages (value_of l) × IsWellFormed (value_of l))
-reads_well_formed t (Ok l) h =
-    (means_a_value t (value_of l) h, read_well_formed languages_table t (value_of l) h)
+    IfOk r (λ l. IsWellFormed (value_of l))
+reads_well_formed t (Ok l) h = read_well_formed languages_table t (value_of l) h
 reads_well_formed t (Err e) h = tt
 
 pub reads_steps : (t : Text) (r : Result Locale ParseError) → LocaleTextReads t r →

@@ -28,6 +28,7 @@
 
 ghost use Rattle.std.specs.Prelude.{◌≡◌, ◌↔◌, IsTrue};
 ghost use Rattle.iloc_spec_grammar.specs.Syntax.{Text, pieces, Language, IsWord, languages, first_piece};
+ghost use Rattle.iloc_spec_grammar.specs.Values.{IsValue};
 ghost use Rattle.iloc_spec_parts.specs.Inline.{IsInline};
 ghost use Rattle.iloc_spec_parts.specs.Hashes.{locale_fed};
 ghost use Rattle.iloc_locale.specs.LocaleReading.{LocaleWantsMemory, IsTextOf, NormalizingWantsMemory, value_of};
@@ -76,6 +77,19 @@ pub fn memory()
     ensures normal { (t : Text) → IsInline languages t → IsTextOf t t
         → ¬ (NormalizingWantsMemory t) }
 {}
+
+/// Every locale, parsed or built, is a value: sets and maps ascend strictly, and all subtags are in the normal
+/// case of their kinds. A proof calls this to know it of one; it looks at each part, and does nothing else.
+///
+/// ```text
+/// every_locale_is_a_value(&locale) // ()
+/// ```
+pub fn every_locale_is_a_value(locale: &Locale)
+    ensures { IsValue languages (value_of locale.now) }
+{
+    let _ = locale.id.is_unknown();
+    kept::look_at(&locale.extensions);
+}
 
 /// A hasher is fed the identifier and the extensions.
 pub fn hashes()

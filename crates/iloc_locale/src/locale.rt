@@ -5,7 +5,7 @@ ghost use Rattle.iloc_spec_grammar.specs.Syntax.{Text, pieces, languages, two_or
 ghost use Rattle.iloc_spec_grammar.specs.Meaning as meaning;
 ghost use Rattle.iloc_spec_grammar.specs.Meaning.{Means, Fault, HasFault};
 ghost use Rattle.iloc_spec_grammar.specs.Reading.{after_head, starts_block};
-ghost use Rattle.iloc_spec_grammar.specs.Values.{TextStep, Leads, IsValue, IsWellFormed};
+ghost use Rattle.iloc_spec_grammar.specs.Values.{TextStep, Leads, IsWellFormed};
 ghost use Rattle.iloc_subtags.specs.Left.{left};
 ghost use Rattle.iloc_langid.specs.Reads as langid;
 ghost use Rattle.iloc_locale.specs.LocaleReading.{value_of, unknown_locale, LocaleTextAnswers};
@@ -83,8 +83,7 @@ impl Locale {
         ensures refused { (f : Fault) → HasFault languages code_units.now f
             → Refuses ⊤ f result }
         ensures memory { RunsOutOnlyIf (LocaleWantsMemory code_units.now) result }
-        ensures well_formed { IfOk result
-            (λ l. IsValue languages (value_of l) × IsWellFormed (value_of l)) }
+        ensures well_formed { IfOk result (λ l. IsWellFormed (value_of l)) }
         ensures steps { IfOk result (λ l. (n : ℕ) (u : Text)
             → Leads (TextStep languages) n code_units.now u → Means languages u (value_of l)) }
         ensures narrow { (M : meaning.Locale) → Means two_or_three code_units.now M
@@ -131,8 +130,7 @@ impl Locale {
         ensures refused { (f : Fault) → HasFault languages s.now f
             → Refuses ⊤ f result }
         ensures memory { RunsOutOnlyIf (LocaleWantsMemory s.now) result }
-        ensures well_formed { IfOk result
-            (λ l. IsValue languages (value_of l) × IsWellFormed (value_of l)) }
+        ensures well_formed { IfOk result (λ l. IsWellFormed (value_of l)) }
         ensures steps { IfOk result (λ l. (n : ℕ) (u : Text)
             → Leads (TextStep languages) n s.now u → Means languages u (value_of l)) }
         ensures narrow { (M : meaning.Locale) → Means two_or_three s.now M

@@ -4,7 +4,7 @@ ghost use Rattle.std.specs.Cow.{cow_str_bytes};
 ghost use Rattle.iloc_spec_grammar.specs.Syntax.{languages};
 ghost use Rattle.iloc_spec_grammar.specs.Meaning as meaning;
 ghost use Rattle.iloc_spec_grammar.specs.Meaning.{Means, Fault, HasFault};
-ghost use Rattle.iloc_spec_grammar.specs.Values.{IsValue, IsWellFormed, AreWellFormed, text};
+ghost use Rattle.iloc_spec_grammar.specs.Values.{IsWellFormed, AreWellFormed, text};
 ghost use Rattle.iloc_writeable.specs.Writing.{IsLent};
 ghost use Rattle.iloc_spec_parts.specs.Small.{SmallLocale, IsSmall, HasSmallFault, locale_of_small};
 ghost use Rattle.iloc_subtags.specs.Judging.{Refusal, Accepts, Refuses, RunsOutOnlyIf};
@@ -91,16 +91,13 @@ impl Locale {
     /// Whether the text of this locale parses back as it: the others ascend by singletons of their own, each
     /// with a subtag, and no value of a keyword holds `true` or a subtag of two characters.
     ///
-    /// If it is, the text means this locale, and no other well-formed value has the same text. Every
-    /// locale, well-formed or not, parsed or built, is a value: sets and maps ascend strictly, and all subtags
-    /// are in the normal case of their kinds.
+    /// If it is, the text means this locale, and no other well-formed value has the same text.
     pub fn is_well_formed(&self) -> bool
         ensures exactly { IsTrue result ↔ IsWellFormed (value_of self.now) }
         ensures tests { IsTrue result ↔ AreWellFormed (value_of self.now).extensions }
-        ensures value { IsValue languages (value_of self.now) }
         ensures back { IsTrue result
             → Means languages (text (value_of self.now)) (value_of self.now) }
-        ensures one { IsTrue result → (M : meaning.Locale) → IsValue languages M → IsWellFormed M
+        ensures one { IsTrue result → (M : meaning.Locale) → IsWellFormed M
             → text M ≡ text (value_of self.now) → M ≡ value_of self.now }
     {
         let _ = self.id.is_unknown();

@@ -10,7 +10,7 @@ use Rattle.iloc_spec_grammar.specs.Syntax.{lower, word_cmp, first_piece, fields_
 use Rattle.iloc_spec_grammar.specs.Meaning.{map_of, set_of, normal_values, normal_fields}
 use Rattle.iloc_spec_grammar.specs.Reading.{rest_of}
 use Rattle.iloc_spec_grammar.specs.Values.{spelled_value, spelled_fields}
-use Rattle.iloc_spec_grammar.proofs.General.{all_mapped}
+use Rattle.iloc_spec_grammar.proofs.General.{all_mapped, all_of}
 use Rattle.iloc_spec_grammar.proofs.MapLaws.{same_words, all-map_of}
 use Rattle.iloc_spec_grammar.proofs.ValuesLaws.{all_weaker}
 use Rattle.iloc_pieces.specs.Words.{IsUpToEight, word_number}
@@ -90,18 +90,25 @@ words_printed : (r : Role) (ws : List Text) → AllByRecursion
     → flat_map printed_part (in_order (map (word_part r) ws)) ≡ set_of (map lower ws)
 words_printed r ws h =
     let fs : Fields = map (λ w. (w, [])) ws in
+    let es : List (Text × Unit {0}) = map (λ (f : Text × List Text). (lower f.0, tt {0})) fs in
     ap (λ ps. flat_map printed_part (in_order ps)) (sym
     (map-map {B = Text × List Text} (field_part r) (λ w. (w, [])) ws))
     ∙ map_printed r (λ _. tt {0}) (λ _. []) fs (all_mapped _ _ (λ w. (w, [])) (λ w k. k) ws h)
-    ∙ firsts (map_of word_cmp (map (λ (f : Text × List Text). (lower f.0, tt {0})) fs))
-    ∙ ap (λ es. map (λ (e : Text × Unit {0}). e.0) (map_of word_cmp es))
-    (map-map {B = Text × List Text} (λ f. (lower f.0, tt {0})) (λ w. (w, [])) ws
-    ∙ sym (map-map (λ (w : Text). (w, tt {0})) lower ws))
+    ∙ firsts (map_of word_cmp es)
+    ∙ ap (map (λ (e : Text × Text). e.0)) (map_of_carried word_cmp word_cmp same_words same_words
+    (λ _. Unit {0}) (λ e. e.0) (λ e. e.0) (λ e f _ _. refl) es (all_of _ (λ _. tt) es)
+    ∙ ap (map_of word_cmp) (doubled ws))
   where
     firsts : (es : List (Text × Unit {0})) → flat_map (λ (e : Text × Unit {0}). e.0 ∷ []) es
-        ≡ map (λ e. e.0) es
+        ≡ map (λ (e : Text × Text). e.0) (map (λ (e : Text × Unit {0}). (e.0, e.0)) es)
     firsts [] = refl
     firsts (e ∷ es) = ap (λ l. e.0 ∷ l) (firsts es)
+
+    doubled : (ws : List Text) → map {B = Text × Text} (λ (e : Text × Unit {0}). (e.0, e.0))
+        (map (λ (f : Text × List Text). (lower f.0, tt {0})) (map (λ w. (w, [])) ws))
+        ≡ map (λ w. (w, w)) (map lower ws)
+    doubled [] = refl
+    doubled (w ∷ ws) = ap (λ l. (lower w, lower w) ∷ l) (doubled ws)
 
 -- ---- of variants, attributes, keywords and fields
 

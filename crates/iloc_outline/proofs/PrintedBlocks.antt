@@ -105,9 +105,9 @@ singleton_printed c ps = refl
 some_words : (ws : List Text) → 0 < length ws → 0 < length (set_of ws)
 some_words ws h = omega (
   arith,
-  some_map word_cmp (map (λ w. (w, tt {0})) ws)
-      (omega (arith, length-map {B = Text × Unit {0}} ws (λ w. (w, tt {0})))),
-  length-map (map_of word_cmp (map (λ w. (w, tt {0})) ws)) (λ (e : Text × Unit {0}). e.0),
+  some_map word_cmp (map (λ w. (w, w)) ws)
+      (omega (arith, length-map {B = Text × Text} ws (λ w. (w, w)))),
+  length-map (map_of word_cmp (map (λ w. (w, w)) ws)) (λ (e : Text × Text). e.0),
 )
 
 some_normal : (fs : Fields) → 0 < length fs → 0 < length (normal_fields fs)

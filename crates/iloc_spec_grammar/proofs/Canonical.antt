@@ -218,8 +218,8 @@ IsCanonical (other ps) = kept ps ≡ low ps
 sorted_set : (ws : List Text) → AllDifferent word_cmp (map lower ws) →
     set_of (low (sort_words ws)) ≡ low (sort_words ws)
 sorted_set ws d = set_of_ascending (low (sort_words ws))
-    (ascend_as_keys _ (ap (is_sorted word_cmp) (map-map {B = Text} (λ w. (w, tt {0})) lower (sort_words ws))
-    ∙ sorted-sort word_cmp lower word_cmp_total (λ w. tt {0}) ws d))
+    (ascend_as_keys _ (ap (is_sorted word_cmp) (map-map {B = Text} (λ w. (w, w)) lower (sort_words ws))
+    ∙ sorted-sort word_cmp lower word_cmp_total lower ws d))
 
 no_true_entries : (fs : Fields) →
     AllByRecursion (λ f. AllByRecursion (λ q. is_true (lower q) ≡ false) f.1) fs →

@@ -7,11 +7,12 @@ use Rattle.std.specs.Cmp.{IsTotalOrder, eq_by_cmp_equiv}
 use Rattle.std.specs.declared.cmp.Ordering.{Ordering}
 use Rattle.std.specs.FinMap.{find}
 use Rattle.std.proofs.lemmas.Bool.{or_parts, or_from, false_from_ne_true, both_ways}
-use Rattle.iloc_spec_grammar.specs.Syntax.{Text, word_cmp, lower, AllDifferent}
+use Rattle.iloc_spec_grammar.specs.Syntax.{Text, word_cmp, is_same, lower, AllDifferent}
 use Rattle.iloc_spec_grammar.specs.Meaning.{map_of, set_of}
 use Rattle.iloc_spec_grammar.specs.Values.{Reordered}
 use Rattle.iloc_spec_grammar.specs.TreeSteps.{TreeWithout, WithoutRepeats}
 use Rattle.iloc_spec_grammar.proofs.MapLaws.{map_of_same, word_cmp_total, same_words}
+use Rattle.iloc_spec_grammar.proofs.SetLaws.{same_set}
 use Rattle.std.proofs.lemmas.Map.Steps.{list_any_congr}
 
 pub all_reordered : {X : Type 0} (P : X → Type 0) {xs ys : List X} → Reordered xs ys → AllByRecursion P xs →
@@ -132,25 +133,9 @@ find_reordered R o q (Reordered.first_two {x = x} {y = y}) h = swap_conds (eq_by
 find_reordered R o q (Reordered.in_turn r s) h =
     find_reordered R o q r h ∙ find_reordered R o q s (different_reordered R o (map_reordered (λ e. e.0) r) h)
 
-same_value : {A : Type 0} (a b : Bool) (x z : A) → cond a x (cond b x z) ≡ cond b x (cond a x z)
-same_value true true x z = refl
-same_value true false x z = refl
-same_value false b x z = refl
-
-marks_reordered : (q : Text) {vs ws : List Text} → Reordered vs ws →
-    find word_cmp q (map (λ w. (w, tt {0})) vs) ≡ find word_cmp q (map (λ w. (w, tt {0})) ws)
-marks_reordered q Reordered.none = refl
-marks_reordered q (Reordered.front_kept {x = x} r) =
-    ap (cond (eq_by_cmp word_cmp q x) (Some (tt {0}))) (marks_reordered q r)
-marks_reordered q (Reordered.first_two {x = x} {y = y}) =
-    same_value (eq_by_cmp word_cmp q x) (eq_by_cmp word_cmp q y) _ _
-marks_reordered q (Reordered.in_turn r s) = marks_reordered q r ∙ marks_reordered q s
-
 -- a set has no order
 pub set_of_reordered : {vs ws : List Text} → Reordered vs ws → set_of vs ≡ set_of ws
-set_of_reordered {vs = vs} {ws = ws} r =
-    ap (map (λ (e : Text × Unit {0}). e.0)) (map_of_same word_cmp word_cmp_total same_words
-    (map (λ w. (w, tt {0})) vs) (map (λ w. (w, tt {0})) ws) (λ q. marks_reordered q r))
+set_of_reordered r = same_set _ _ (λ q. any_reordered (is_same q) r)
 
 -- the later of equal keys are never found
 

@@ -1,20 +1,21 @@
 -- Maps of lists, and sets of lists of words: what they hold, how long they are, and lists one after the
 -- other.
 use Rattle.std.proofs.Common.{◌≡◌, ◌+◌, ◌≤◌, true, false, cond, List, [], ◌∷◌, ◌++◌, length, map, refl}
-use Rattle.std.proofs.Common.{sym, ap, ◌∙◌, arith, Some}
+use Rattle.std.proofs.Common.{sym, ap, ap₂, ◌∙◌, arith, Some, None, Bool, ◌&&◌, ◌||◌}
 use Rattle.std.specs.Prelude.{is_some}
 use Rattle.std.specs.Option.{option_or}
 use Rattle.std.specs.List.{list_any}
-use Rattle.std.specs.Ordering.{eq_by_cmp}
+use Rattle.std.specs.Ordering.{eq_by_cmp, is_lt}
 use Rattle.std.specs.declared.cmp.Ordering.{Ordering}
 use Rattle.std.specs.Cmp.{IsTotalOrder}
-use Rattle.std.specs.FinMap.{find, IsAntisymmetric}
-use Rattle.std.specs.FinMap.Entries.{is_some-find, length-put}
-use Rattle.std.proofs.lemmas.List.{map-append, length-map}
+use Rattle.std.specs.FinMap.{find, is_sorted, IsAntisymmetric}
+use Rattle.std.specs.FinMap.Entries.{below_all, is_some-find, length-put}
+use Rattle.std.proofs.lemmas.List.{length-map}
+use Rattle.std.proofs.lemmas.List.Folds.{list_any-append}
 use Rattle.iloc_spec_grammar.specs.Syntax.{Text, word_cmp, is_same, AllDifferent}
 use Rattle.iloc_spec_grammar.specs.Meaning.{map_of, set_of}
 use Rattle.iloc_spec_grammar.proofs.MapLaws.{word_cmp_total, same_words, find-map_of, sorted-map_of}
-use Rattle.iloc_spec_grammar.proofs.MapLaws.{map_of_same}
+use Rattle.iloc_spec_grammar.proofs.MapLaws.{map_of_same, same_is}
 use Rattle.iloc_spec_grammar.proofs.ValuesLaws.{unmarked}
 use Rattle.std.proofs.lemmas.Bool.{cond_both, false_from_ne_true}
 
@@ -39,36 +40,41 @@ module _ {K X : Type 0} (R : K → K → Ordering) where
   map_of-last o same es fs = map_of_same R o same _ _ (λ q. find-append q es (map_of R fs)
       ∙ ap (λ p. option_or (find R q es) p) (find-map_of R o q fs) ∙ sym (find-append q es fs))
 
--- sets as maps to nothing
+-- sets as maps of each word to itself
 
-abbrev pub marked : List Text → List (Text × Unit {0})
-marked ws = map (λ w. (w, tt {0})) ws
+abbrev pub marked : List Text → List (Text × Text)
+marked ws = map (λ w. (w, w)) ws
 
-abbrev pub keys : List (Text × Unit {0}) → List Text
+abbrev pub keys : List (Text × Text) → List Text
 keys es = map (λ e. e.0) es
 
-pub remarked : (es : List (Text × Unit {0})) → marked (keys es) ≡ es
-remarked [] = refl
-remarked (e ∷ es) = ap (λ l. e ∷ l) (remarked es)
+-- whether entries ascend rests on their keys
+below-keys : (w : Text) (es : List (Text × Text)) →
+    below_all word_cmp w (marked (keys es)) ≡ below_all word_cmp w es
+below-keys w [] = refl
+below-keys w (e ∷ es) = ap (λ b. is_lt (word_cmp w e.0) && b) (below-keys w es)
 
-marked-append : (vs ws : List Text) → marked (vs ++ ws) ≡ marked vs ++ marked ws
-marked-append vs ws = map-append (λ (w : Text). (w, tt {0})) vs ws
+pub sorted-keys : (es : List (Text × Text)) → is_sorted word_cmp (marked (keys es)) ≡ is_sorted word_cmp es
+sorted-keys [] = refl
+sorted-keys (e ∷ es) = ap₂ ◌&&◌ (below-keys e.0 es) (sorted-keys es)
 
--- the set of a set and more is that of the lists
-pub set_of-first : (vs ws : List Text) → set_of (set_of vs ++ ws) ≡ set_of (vs ++ ws)
-set_of-first vs ws = ap (λ es. keys (map_of word_cmp es))
-    (marked-append (set_of vs) ws ∙ ap (λ es. es ++ marked ws) (remarked (map_of word_cmp (marked vs))))
-    ∙ ap keys (map_of-first word_cmp word_cmp_total same_words (marked vs) (marked ws))
-    ∙ ap (λ es. keys (map_of word_cmp es)) (sym (marked-append vs ws))
+-- a word that is found is found as itself
+find-marked : (q : Text) (ws : List Text) →
+    find word_cmp q (marked ws) ≡ cond (list_any (is_same q) ws) (Some q) None
+find-marked q [] = refl
+find-marked q (w ∷ ws) = by (is_same q w) refl (find-marked q ws)
+  where
+    by : (b : Bool) → is_same q w ≡ b →
+        find word_cmp q (marked ws) ≡ cond (list_any (is_same q) ws) (Some q) None →
+        find word_cmp q (marked (w ∷ ws)) ≡ cond (list_any (is_same q) (w ∷ ws)) (Some q) None
+    by true e h = rw e (ap Some (sym (same_is q w e)))
+    by false e h = rw e h
 
-pub set_of-last : (vs ws : List Text) → set_of (vs ++ set_of ws) ≡ set_of (vs ++ ws)
-set_of-last vs ws = ap (λ es. keys (map_of word_cmp es))
-    (marked-append vs (set_of ws) ∙ ap (λ es. marked vs ++ es) (remarked (map_of word_cmp (marked ws))))
-    ∙ ap keys (map_of-last word_cmp word_cmp_total same_words (marked vs) (marked ws))
-    ∙ ap (λ es. keys (map_of word_cmp es)) (sym (marked-append vs ws))
-
-pub set_of-set_of : (ws : List Text) → set_of (set_of ws) ≡ set_of ws
-set_of-set_of ws = set_of-last [] ws
+-- lists with the same words have one set
+pub same_set : (vs ws : List Text) → ((q : Text) → list_any (is_same q) vs ≡ list_any (is_same q) ws) →
+    set_of vs ≡ set_of ws
+same_set vs ws h = ap keys (map_of_same word_cmp word_cmp_total same_words (marked vs) (marked ws)
+    (λ q. find-marked q vs ∙ ap (λ b. cond b (Some q) None) (h q) ∙ sym (find-marked q ws)))
 
 -- a word is in the set where it is in the list
 pub any-set_of : (w : Text) (ws : List Text) →
@@ -79,6 +85,18 @@ any-set_of w ws =
     ∙ is_some-find word_cmp w (marked ws)
     ∙ ap (list_any (is_same w)) (unmarked ws)
 
+-- the set of a set and more is that of the lists
+pub set_of-first : (vs ws : List Text) → set_of (set_of vs ++ ws) ≡ set_of (vs ++ ws)
+set_of-first vs ws = same_set _ _ (λ q. list_any-append (is_same q) (set_of vs) ws
+    ∙ ap (λ b. b || list_any (is_same q) ws) (any-set_of q vs) ∙ sym (list_any-append (is_same q) vs ws))
+
+pub set_of-last : (vs ws : List Text) → set_of (vs ++ set_of ws) ≡ set_of (vs ++ ws)
+set_of-last vs ws = same_set _ _ (λ q. list_any-append (is_same q) vs (set_of ws)
+    ∙ ap (λ b. list_any (is_same q) vs || b) (any-set_of q ws) ∙ sym (list_any-append (is_same q) vs ws))
+
+pub set_of-set_of : (ws : List Text) → set_of (set_of ws) ≡ set_of ws
+set_of-set_of ws = set_of-last [] ws
+
 -- lengths: a word that is there adds nothing, another adds one
 
 length-keys : (ws : List Text) → length (set_of ws) ≡ length (map_of word_cmp (marked ws))
@@ -88,7 +106,7 @@ pub length-set_of-cons : (w : Text) (ws : List Text) →
     length (set_of (w ∷ ws)) ≡ cond (list_any (is_same w) ws) (length (set_of ws)) (length (set_of ws) + 1)
 length-set_of-cons w ws =
     length-keys (w ∷ ws)
-    ∙ length-put word_cmp word_cmp_total w (tt {0}) (map_of word_cmp (marked ws))
+    ∙ length-put word_cmp word_cmp_total w w (map_of word_cmp (marked ws))
     (sorted-map_of word_cmp word_cmp_total (marked ws))
     ∙ ap (λ b. cond b (length (map_of word_cmp (marked ws))) (length (map_of word_cmp (marked ws)) + 1))
     (ap is_some (find-map_of word_cmp word_cmp_total w (marked ws)) ∙ is_some-find word_cmp w (marked ws)

@@ -104,9 +104,9 @@ pub record SameParts (e f : Extension) : Type 0 where
 repeated_attributes : {vs ws : List Text} → WithoutRepeats (λ a. a) [] vs ws →
     set_of (map lower ws) ≡ set_of (map lower vs)
 repeated_attributes {vs = vs} {ws = ws} r =
-    let marks = map-map {B = Text} (λ w. (w, tt {0})) lower in
-    ap (map (λ (e : Text × Unit {0}). e.0)) (ap (map_of word_cmp) (marks ws)
-    ∙ sym (map_repeats (λ a. a) (λ a. tt {0}) r) ∙ ap (map_of word_cmp) (sym (marks vs)))
+    let marks = map-map {B = Text} (λ w. (w, w)) lower in
+    ap (map (λ (e : Text × Text). e.0)) (ap (map_of word_cmp) (marks ws)
+    ∙ sym (map_repeats (λ a. a) lower r) ∙ ap (map_of word_cmp) (sym (marks vs)))
 
 -- a step in what follows `u`, or in what follows `t`, by its two parts
 

@@ -1,5 +1,5 @@
 -- The tests of the steps between texts.
-use Rattle.std.proofs.Common.{◌≡◌, inl, inr, true, [], Result, Ok, Err, refl, sym, ap}
+use Rattle.std.proofs.Common.{◌≡◌, inl, inr, true, Result, Ok, Err, refl, sym, ap}
 use Rattle.std.proofs.Common.{ap₂, ◌∙◌, subst, true≢false}
 use Rattle.std.specs.Result.{is_ok}
 use Rattle.std.proofs.lemmas.Bool.{and_parts, and_from, or_cases, or_left, or_right}

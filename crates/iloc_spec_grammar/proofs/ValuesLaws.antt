@@ -41,28 +41,28 @@ pub filter_all : {X : Type 0} (test : X → Bool) (xs : List X) → AllByRecursi
 filter_all test [] h = refl
 filter_all test (x ∷ xs) h = rw h.0 (ap (λ ys. x ∷ ys) (filter_all test xs h.1))
 
-pub unmarked : (ws : List Text) → map (λ (e : Text × Unit {0}). e.0) (map (λ w. (w, tt {0})) ws) ≡ ws
+pub unmarked : (ws : List Text) → map (λ (e : Text × Text). e.0) (map (λ w. (w, w)) ws) ≡ ws
 unmarked [] = refl
 unmarked (w ∷ ws) = ap (λ l. w ∷ l) (unmarked ws)
 
 -- Words in order are the keys of a map in order, and the other way round.
 
 all_below : (w : Text) (ws : List Text) → AllByRecursion (λ v. word_cmp w v ≡ Less) ws →
-    below_all word_cmp w (map (λ w. (w, tt {0})) ws) ≡ true
+    below_all word_cmp w (map (λ w. (w, w)) ws) ≡ true
 all_below w [] h = refl
 all_below w (v ∷ ws) h = and_from _ _ (ap is_lt h.0) (all_below w ws h.1)
 
-below_each : (w : Text) (ws : List Text) → below_all word_cmp w (map (λ w. (w, tt {0})) ws) ≡ true →
+below_each : (w : Text) (ws : List Text) → below_all word_cmp w (map (λ w. (w, w)) ws) ≡ true →
     AllByRecursion (λ v. word_cmp w v ≡ Less) ws
 below_each w [] h = tt
 below_each w (v ∷ ws) h = let parts = and_parts _ _ h in (less _ parts.0, below_each w ws parts.1)
 
 pub keys_ascend : (ws : List Text) → StrictlyAscends word_cmp ws →
-    is_sorted word_cmp (map (λ w. (w, tt {0})) ws) ≡ true
+    is_sorted word_cmp (map (λ w. (w, w)) ws) ≡ true
 keys_ascend [] h = refl
 keys_ascend (w ∷ ws) h = and_from _ _ (all_below w ws h.0) (keys_ascend ws h.1)
 
-pub ascend_as_keys : (ws : List Text) → is_sorted word_cmp (map (λ w. (w, tt {0})) ws) ≡ true →
+pub ascend_as_keys : (ws : List Text) → is_sorted word_cmp (map (λ w. (w, w)) ws) ≡ true →
     StrictlyAscends word_cmp ws
 ascend_as_keys [] h = tt
 ascend_as_keys (w ∷ ws) h =
@@ -71,7 +71,7 @@ ascend_as_keys (w ∷ ws) h =
 -- words in order are their own set, and differ
 pub set_of_ascending : (ws : List Text) → StrictlyAscends word_cmp ws → set_of ws ≡ ws
 set_of_ascending ws h =
-    ap (map (λ (e : Text × Unit {0}). e.0)) (map_of_sorted word_cmp _ (keys_ascend ws h)) ∙ unmarked ws
+    ap (map (λ (e : Text × Text). e.0)) (map_of_sorted word_cmp _ (keys_ascend ws h)) ∙ unmarked ws
 
 pub ascending_different : (ws : List Text) → StrictlyAscends word_cmp ws → AllDifferent word_cmp ws
 ascending_different ws h =

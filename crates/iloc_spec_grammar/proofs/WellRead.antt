@@ -1,12 +1,12 @@
 -- What a text means is a well-formed value.
 use Rattle.std.proofs.Common.{◌≡◌, ◌≢◌, ℕ, ◌<◌, Bool, true, false, not, List, [], ◌∷◌, length, map}
-use Rattle.std.proofs.Common.{filter_map, refl, sym, ap, ◌∙◌, subst, arith, Option, Some, None, IfSome}
+use Rattle.std.proofs.Common.{filter_map, refl, sym, ◌∙◌, subst, arith, Option, Some, None, IfSome}
 use Rattle.std.proofs.Common.{option_map}
 use Rattle.std.specs.List.{AllByRecursion}
 use Rattle.std.specs.Char.{to_ascii_lowercase}
 use Rattle.std.specs.Ordering.{nat_cmp}
 use Rattle.std.specs.Cmp.{nat_cmp_total}
-use Rattle.std.specs.FinMap.{is_sorted, find, nat_cmp-IsAntisymmetric}
+use Rattle.std.specs.FinMap.{find, nat_cmp-IsAntisymmetric}
 use Rattle.std.proofs.lemmas.Bool.Decides.{nat_tests}
 use Rattle.std.proofs.lemmas.Str.Ascii.{lowercase-lowercase}
 use Rattle.iloc_spec_grammar.specs.Syntax.{LanguageLengths, Field, Block, code_x, code_u, code_t, Text, Kind}
@@ -26,7 +26,7 @@ use Rattle.iloc_spec_grammar.specs.Values.{IsTransformValue, IsValue}
 use Rattle.iloc_spec_grammar.proofs.WordsLaws.{length-attribute}
 use Rattle.iloc_spec_grammar.proofs.MapLaws.{is_sorted-map_of, all-map_of, word_cmp_total, same_words}
 use Rattle.iloc_spec_grammar.proofs.ValuesLaws.{all_weaker, ascend_as_keys}
-use Rattle.iloc_spec_grammar.proofs.SetLaws.{remarked}
+use Rattle.iloc_spec_grammar.proofs.SetLaws.{sorted-keys}
 use Rattle.iloc_spec_grammar.proofs.ReadWords.{IsNormal-normal}
 use Rattle.iloc_spec_grammar.proofs.ReadBack.{plain_fields}
 use Rattle.iloc_spec_grammar.proofs.General.{all_mapped, some_mapped}
@@ -37,13 +37,13 @@ use Rattle.std.proofs.lemmas.Bool.{cond_both, not-true}
 
 pub all-set_of : (P : Text → Type 0) (ws : List Text) → AllByRecursion P ws →
     AllByRecursion P (set_of ws)
-all-set_of P ws h = all_mapped (λ (e : Text × Unit {0}). P e.0) P (λ e. e.0) (λ e p. p) _ (all-map_of
-    word_cmp same_words (λ e. P e.0) _ (all_mapped P (λ e. P e.0) (λ w. (w, tt {0})) (λ w p. p) ws h))
+all-set_of P ws h = all_mapped (λ (e : Text × Text). P e.0) P (λ e. e.0) (λ e p. p) _ (all-map_of
+    word_cmp same_words (λ e. P e.0) _ (all_mapped P (λ e. P e.0) (λ w. (w, w)) (λ w p. p) ws h))
 
 pub set_of-ascending : (ws : List Text) → StrictlyAscends word_cmp (set_of ws)
-set_of-ascending ws = let es = map (λ w. (w, tt {0})) ws in
+set_of-ascending ws = let es = map (λ w. (w, w)) ws in
     ascend_as_keys _
-    (ap (is_sorted word_cmp) (remarked (map_of word_cmp es)) ∙ is_sorted-map_of word_cmp word_cmp_total es)
+    (sorted-keys (map_of word_cmp es) ∙ is_sorted-map_of word_cmp word_cmp_total es)
 
 -- parts
 

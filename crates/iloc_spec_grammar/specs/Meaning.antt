@@ -25,9 +25,9 @@ abbrev pub map_of : {K X : Type 0} → (K → K → Ordering) → List (K × X) 
 map_of cmp [] = []
 map_of cmp ((key, x) ∷ es) = put cmp key x (map_of cmp es)
 
--- the set of the words, ascending (UTS #35 3.2.1)
+-- the set of the words, ascending: the keys of a map (UTS #35 3.2.1)
 abbrev pub set_of : List Text → List Text
-set_of ws = map (λ (w, _). w) (map_of word_cmp (map (λ w. (w, tt {0})) ws))
+set_of ws = map (λ (w, _). w) (map_of word_cmp (map (λ w. (w, w)) ws))
 
 -- Normal forms.
 

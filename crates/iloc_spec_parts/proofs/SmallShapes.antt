@@ -73,8 +73,8 @@ none_mapped f [] e = refl
 none_mapped f (x ∷ xs) e = absurd (cc)
 
 none_in_set : (ws : List Text) → set_of ws ≡ [] → ws ≡ []
-none_in_set ws e = none_mapped (λ (w : Text). (w, tt {0})) ws (none_there word_cmp word_cmp_total
-    (map (λ w. (w, tt {0})) ws) (none_mapped (λ (e : Text × Unit {0}). e.0) _ e))
+none_in_set ws e = none_mapped (λ (w : Text). (w, w)) ws (none_there word_cmp word_cmp_total
+    (map (λ w. (w, w)) ws) (none_mapped (λ (e : Text × Text). e.0) _ e))
 
 pub no_normal_fields : (fs : Fields) → normal_fields fs ≡ [] → fs ≡ []
 no_normal_fields fs e = none_mapped (λ (f : Field). (lower f.0, normal_values f.1)) fs

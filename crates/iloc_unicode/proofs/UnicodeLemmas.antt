@@ -73,7 +73,7 @@ module _ {X : Type 0} where
   no_entries (e ∷ es) h = absurd (true≢false (sym h ∙ put_some e.0 e.1 (map_of word_cmp es)))
 
 no_words : (ws : List Text) → (length (set_of (map lower ws)) == 0) ≡ true → ws ≡ []
-no_words ws h = none_mapped lower ws (none_mapped (λ (w : Text). (w, tt {0})) (map lower ws)
+no_words ws h = none_mapped lower ws (none_mapped (λ (w : Text). (w, w)) (map lower ws)
     (no_entries _ (ap (λ n. n == 0) (sym (length-map _ _)) ∙ h)))
 
 no_fields : (fs : Fields) → (length (normal_fields fs) == 0) ≡ true → fs ≡ []

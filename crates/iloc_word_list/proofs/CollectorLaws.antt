@@ -21,12 +21,13 @@ use Rattle.iloc_spec_grammar.specs.Syntax.{Text, word_cmp, is_same, AllDifferent
 use Rattle.iloc_spec_grammar.specs.Meaning.{map_of, set_of}
 use Rattle.iloc_spec_grammar.specs.Values.{StrictlyAscends}
 use Rattle.iloc_spec_grammar.proofs.MapLaws.{word_cmp_total, same_words}
-use Rattle.iloc_spec_grammar.proofs.SetLaws.{marked, keys, set_of-set_of, length-set_of-cons, length-set_of}
+use Rattle.iloc_spec_grammar.proofs.SetLaws.{marked, keys, same_set, set_of-set_of, length-set_of-cons}
+use Rattle.iloc_spec_grammar.proofs.SetLaws.{length-set_of}
 use Rattle.iloc_spec_grammar.proofs.ValuesLaws.{set_of_ascending}
 use Rattle.iloc_spec_grammar.proofs.WellRead.{set_of-ascending}
 use Rattle.iloc_word_list.specs.Ascending.{ascends}
 use Rattle.iloc_word_list.specs.TakingIn.{TakesIn}
-use Rattle.iloc_word_list.proofs.SetLaws.{same_set, set_ascends}
+use Rattle.iloc_word_list.proofs.SetLaws.{set_ascends}
 
 -- how long sets are
 
@@ -65,14 +66,14 @@ known_set w ws h = same_set (w ∷ ws) ws (λ q. by q (is_same q w) refl)
 swapped : (v w : Text) (ws : List Text) → IsPermutation (v ∷ w ∷ ws) (w ∷ v ∷ ws)
 swapped v w ws = IsPermutation-middle (v ∷ []) w ws
 
-put_permutes : (w : Text) (es : List (Text × Unit {0})) → list_any (is_same w) (keys es) ≡ false →
-    IsPermutation (w ∷ keys es) (keys (put word_cmp w (tt {0}) es))
+put_permutes : (w : Text) (es : List (Text × Text)) → list_any (is_same w) (keys es) ≡ false →
+    IsPermutation (w ∷ keys es) (keys (put word_cmp w w es))
 put_permutes w [] h = IsPermutation-refl (w ∷ [])
 put_permutes w (e ∷ es) h = by (word_cmp w e.0) refl (put_permutes w es (or_parts _ _ h).1)
   where
     by : (o : Ordering) → word_cmp w e.0 ≡ o →
-        IsPermutation (w ∷ keys es) (keys (put word_cmp w (tt {0}) es)) →
-        IsPermutation (w ∷ e.0 ∷ keys es) (keys (put word_cmp w (tt {0}) (e ∷ es)))
+        IsPermutation (w ∷ keys es) (keys (put word_cmp w w es)) →
+        IsPermutation (w ∷ e.0 ∷ keys es) (keys (put word_cmp w w (e ∷ es)))
     by Less l more = rw l (IsPermutation-refl (w ∷ e.0 ∷ keys es))
     by Equal l more = absurd (true≢false (sym (ap is_eq l) ∙ (or_parts _ _ h).0))
     by Greater l more =

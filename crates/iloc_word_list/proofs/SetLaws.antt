@@ -1,26 +1,26 @@
 -- A set of words as an ascending list: where a search ends, and words more or less.
 use Rattle.std.proofs.Common.{◌≡◌, ℕ, zero, suc, ◌<◌, ◌≤◌, Bool, true, false, cond, not, ◌||◌, T, List, []}
 use Rattle.std.proofs.Common.{◌∷◌, ◌++◌, length, filter, remove, drop, get_or, append-nil, ◌+◌, refl, sym, ap}
-use Rattle.std.proofs.Common.{◌∙◌, subst, arith, Option, Some, None}
-use Rattle.std.specs.Prelude.{insert, is_some}
+use Rattle.std.proofs.Common.{◌∙◌, subst, arith}
+use Rattle.std.specs.Prelude.{insert}
 use Rattle.std.specs.List.{AllByRecursion, HoldsAt, list_any, slice_index_or}
 use Rattle.std.specs.List.Sorted.{IsNonDecreasingBy, IsPartitionPoint}
 use Rattle.std.specs.Ordering.{ordering_index, ordering_reverse}
 use Rattle.std.specs.declared.cmp.Ordering.{Ordering}
 use Rattle.std.specs.declared.cmp.Ordering.TheVariants.{Less, Equal, Greater}
-use Rattle.std.specs.FinMap.{put, find, is_sorted}
-use Rattle.std.specs.FinMap.Entries.{is_some-find, where_key, is_sorted-where_key}
+use Rattle.std.specs.FinMap.{put, is_sorted}
+use Rattle.std.specs.FinMap.Entries.{where_key, is_sorted-where_key}
 use Rattle.std.proofs.lemmas.Bool.{and_parts, or_parts}
 use Rattle.std.proofs.lemmas.List.{drop_all, drop_more}
 use Rattle.std.proofs.lemmas.List.Elements.{All-from_recursion}
 use Rattle.iloc_spec_grammar.specs.Syntax.{Text, word_cmp, is_same}
 use Rattle.iloc_spec_grammar.specs.Meaning.{set_of}
 use Rattle.iloc_spec_grammar.specs.Values.{StrictlyAscends}
-use Rattle.iloc_spec_grammar.proofs.MapLaws.{word_cmp_total, same_words, to_T, less, map_of_same}
+use Rattle.iloc_spec_grammar.proofs.MapLaws.{word_cmp_total, same_words, to_T, less}
 use Rattle.iloc_spec_grammar.proofs.MapLaws.{map_of_sorted, from_T}
 use Rattle.iloc_spec_grammar.proofs.ValuesLaws.{unmarked, set_of_ascending, keys_ascend, ascend_as_keys}
 use Rattle.iloc_word_list.specs.Ascending.{ascends}
-use Rattle.iloc_spec_grammar.proofs.SetLaws.{marked, keys, any-set_of}
+use Rattle.iloc_spec_grammar.proofs.SetLaws.{marked, keys, same_set, any-set_of}
 use Rattle.std.proofs.lemmas.List.Folds.{list_any-append}
 
 -- the order
@@ -56,9 +56,9 @@ rising x (y ∷ ys) s (suc i) (suc j) d le lt = rising x ys s.1 i j d (omega (ar
 -- one word more
 
 set_of-put : (x : Text) (ws : List Text) → StrictlyAscends word_cmp ws →
-    set_of (x ∷ ws) ≡ keys (put word_cmp x (tt {0}) (marked ws))
+    set_of (x ∷ ws) ≡ keys (put word_cmp x x (marked ws))
 set_of-put x ws h =
-    ap (λ es. keys (put word_cmp x (tt {0}) es)) (map_of_sorted word_cmp (marked ws) (keys_ascend ws h))
+    ap (λ es. keys (put word_cmp x x es)) (map_of_sorted word_cmp (marked ws) (keys_ascend ws h))
 
 none_below : (x y : Text) (ys : List Text) → word_cmp x y ≡ Less →
     AllByRecursion (λ z. word_cmp y z ≡ Less) ys → list_any (is_same x) ys ≡ false
@@ -76,7 +76,7 @@ place_later x y ys i p = (
 )
 
 insert_is_put : (x : Text) (ws : List Text) (i : ℕ) → i ≤ length ws → IsPlace x ws i →
-    insert ws i x ≡ keys (put word_cmp x (tt {0}) (marked ws))
+    insert ws i x ≡ keys (put word_cmp x x (marked ws))
 insert_is_put x [] zero l p = refl
 insert_is_put x [] (suc i) l p = absurd (omega (arith, l))
 insert_is_put x (y ∷ ys) zero l p =
@@ -131,7 +131,7 @@ before_tied x y ys i l s h =
     turned x y Less (ap (word_cmp y) (sym same) ∙ down)
 
 put_there : (x : Text) (ws : List Text) (i : ℕ) → i < length ws → StrictlyAscends word_cmp ws →
-    HoldsAt (λ y. word_cmp y x ≡ Equal) ws i → keys (put word_cmp x (tt {0}) (marked ws)) ≡ ws
+    HoldsAt (λ y. word_cmp y x ≡ Equal) ws i → keys (put word_cmp x x (marked ws)) ≡ ws
 put_there x [] i l s h = absurd (omega (arith, l))
 put_there x (y ∷ ys) zero l s h = rw (turned x y Equal (h y)) (ap (λ l. y ∷ l) (unmarked ys))
 put_there x (y ∷ ys) (suc i) l s h =
@@ -185,9 +185,9 @@ marked-filter : (p : Text → Bool) (ws : List Text) →
     where_key word_cmp p (marked ws) ≡ marked (filter p ws)
 marked-filter p [] = refl
 marked-filter p (w ∷ ws) = elim (p w)
-    as (λ b. cond b ((w, tt {0}) ∷ where_key word_cmp p (marked ws)) (where_key word_cmp p (marked ws))
+    as (λ b. cond b ((w, w) ∷ where_key word_cmp p (marked ws)) (where_key word_cmp p (marked ws))
     ≡ marked (cond b (w ∷ filter p ws) (filter p ws))) [
-      | true ↦ ap (λ l. (w, tt {0}) ∷ l) (marked-filter p ws)
+      | true ↦ ap (λ l. (w, w) ∷ l) (marked-filter p ws)
       | false ↦ marked-filter p ws
     ]
 
@@ -196,25 +196,6 @@ pub ascending-filter : (p : Text → Bool) (ws : List Text) → StrictlyAscends 
 ascending-filter p ws h = ascend_as_keys _ (from_T _ (subst (λ es. T (is_sorted word_cmp es))
     (marked-filter p ws) (is_sorted-where_key word_cmp p (marked ws) (to_T _ (keys_ascend ws h)))))
 
--- the words of two sets
-
-same_mark : (a b : Option (Unit {0})) → is_some a ≡ is_some b → a ≡ b
-same_mark None None e = refl
-same_mark None (Some y) e = cc
-same_mark (Some x) None e = cc
-same_mark (Some x) (Some y) e = refl
-
-is_some-marked : (q : Text) (ws : List Text) →
-    is_some (find word_cmp q (marked ws)) ≡ list_any (is_same q) ws
-is_some-marked q ws = is_some-find word_cmp q (marked ws) ∙ ap (list_any (is_same q)) (unmarked ws)
-
--- lists with the same words have one set
-pub same_set : (vs ws : List Text) → ((q : Text) → list_any (is_same q) vs ≡ list_any (is_same q) ws) →
-    set_of vs ≡ set_of ws
-same_set vs ws h = ap keys (map_of_same word_cmp word_cmp_total same_words (marked vs) (marked ws)
-    (λ q. same_mark _ _ (is_some-marked q vs ∙ h q ∙ sym (is_some-marked q ws))))
-
--- a word is in the set where it is in the list
 moved : (a b c : Bool) → ((a || b) || c) ≡ (b || (a || c))
 moved true true c = refl
 moved true false c = refl

@@ -3,7 +3,7 @@ use crate::Rows;
 use crate::changes::{keyword, others, retains, says_same};
 use crate::identifiers::debug;
 use iloc_data::DataLocale;
-use iloc_locale::{Extensions, Locale, OrderedLocale, is_well_formed};
+use iloc_locale::{Extensions, Locale, OrderedLocale, every_locale_is_a_value, is_well_formed};
 use iloc_subtags::ParseError;
 use iloc_writeable::Writeable;
 use std::alloc::Global;
@@ -30,7 +30,10 @@ fn says(locale: &Locale, step: &Step<'_>, out: &mut String) {
         b"cmp" => order(out, locale.strict_cmp(step.first)),
         b"empty" => truth(out, locale.extensions.is_empty()),
         b"lent" => say(out, locale.writeable_borrow().unwrap_or("none")),
-        _ => truth(out, locale.is_well_formed()),
+        _ => {
+            every_locale_is_a_value(locale);
+            truth(out, locale.is_well_formed())
+        }
     }
     say(out, " ")
 }

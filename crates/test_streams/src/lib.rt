@@ -1,6 +1,6 @@
 //! Tests of what no table test can say: sinks, readers and writers that fail in mid-stream, or give and take one byte a
 //! call; parts of many types that print as one text; lists and maps whose items own memory; the room that a text takes;
-//! values that are read in place of others.
+//! values that are read in place of others; the places of faults.
 //!
 //! `FailingSink` tells its text and counts its failures. The crate stands on the crates whose calls it makes, up to
 //! `iloc_program`.
@@ -10,6 +10,8 @@ pub mod failing;
 
 pub use failing::FailingSink;
 
+#[cfg(test)]
+mod faults;
 #[cfg(test)]
 mod listings;
 #[cfg(test)]

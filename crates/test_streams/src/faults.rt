@@ -1,5 +1,5 @@
-// The expected places are worked out by hand from the definition (`specs/Places.antt`).
-use crate::{Fault, fault_of};
+//! Faults of texts. The expected places are worked out by hand from the definition (`Places.antt` of `iloc_faults`).
+use iloc_faults::{Fault, fault_of};
 use iloc_normalize::Mode;
 use iloc_normalize::Mode::{Data, Langid, Locale};
 use iloc_subtags::ParseError::{
