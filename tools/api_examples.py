@@ -58,6 +58,13 @@ def only_ones():
     return {it.name: it.key for it in calls if count[it.name] == 1}
 
 
+@functools.lru_cache(maxsize=None)
+def laws():
+    """Returns the keys of the laws, which are no methods."""
+    entries = [it for it in by_home().values() if "::laws" in it.module]
+    return {call.key for it in entries for call in it.calls}
+
+
 def names_of(source):
     """Returns the types that a module knows by name, as (crate, name); of a library not its own, whose calls say little."""
     named = [it for it in source.names.items() if it[1][0] != "crate" or source.crate == CORE]
@@ -216,7 +223,8 @@ def calls_in(path):
         if line.startswith("//") or "fn " in line:
             continue
         for key, name in made_on(line, known, types):
-            if key or name in only_ones():
+            is_method = re.search(rf"\.{re.escape(name)}\(", line)
+            if key or name in only_ones() and not (is_method and only_ones()[name] in laws()):
                 yield key, key or only_ones()[name], number, line
 
 

@@ -1,7 +1,7 @@
 -- The bits of singletons, and what else the reader knows of bytes.
 use Rattle.std.proofs.Common.{◌≡◌, ◌≢◌, inl, inr, ℕ, ◌+◌, ◌*◌, ◌-◌, ◌<◌, ◌≤◌, ◌^◌, Bool, true, false, ◌==◌}
-use Rattle.std.proofs.Common.{◌||◌, ◌&&◌, List, [], ◌∷◌, length, get_or, take, drop, Result, Ok, Err, Option}
-use Rattle.std.proofs.Common.{Some, None, IfSome, codes, max, refl, sym, ap, ap₂, ◌∙◌, arith, true≢false}
+use Rattle.std.proofs.Common.{◌||◌, ◌&&◌, List, [], ◌∷◌, length, get_or, take, drop, Option}
+use Rattle.std.proofs.Common.{IfSome, codes, max, refl, sym, ap, ap₂, ◌∙◌, arith, true≢false}
 use Rattle.std.proofs.Common.{is_some, ⊎_elim}
 use Rattle.std.proofs.Math.Logic.{∥∥₁_elim}
 use Rattle.std.specs.Coded.{Coded-set, coded_ℕ}
@@ -14,9 +14,8 @@ use Rattle.std.proofs.lemmas.Bool.{or_left, or_right, cases_eq, and_parts}
 use Rattle.std.proofs.lemmas.Bool.Decides.{nat_tests}
 use Rattle.std.proofs.lemmas.Nat.Bits.{and_pow, bit_at_or, bit_at-pow_same, bit_at-pow_other, bit_at-zero}
 use Rattle.iloc_spec_grammar.specs.Syntax.{Text, languages, Language, TransformKey}
-use Rattle.iloc_spec_grammar.specs.Syntax.{Attribute, Subtag, is_word, lower, is_same, read}
+use Rattle.iloc_spec_grammar.specs.Syntax.{Attribute, Subtag, is_word, lower, is_same}
 use Rattle.iloc_spec_grammar.specs.Syntax as kinds
-use Rattle.iloc_spec_grammar.proofs.WellRead.{attribute_is_word}
 use Rattle.iloc_spec_parts.specs.DataLocales.{named_subdivision}
 use Rattle.iloc_spec_grammar.proofs.MapLaws.{same_is}
 use Rattle.iloc_spec_grammar.proofs.WordsLaws.{length-lower}
@@ -183,29 +182,9 @@ cut_bytes l short = ap (λ k. take k (drop l.at l.window.now)) (omega arith) ∙
 pub cut_inside : (l : Left) → IsShortPiece (piece_left l) → l.at + l.n ≤ length l.window.now
 cut_inside l short = let e = length_piece l short in let i = piece_inside l in omega arith
 
--- the text of a result
-text_in : {E : Type 0} → Result Text E → Option Text
-text_in (Ok w) = Some w
-text_in (Err e) = None
-
-read_in : {E : Type 0} (p : Text) (refusal : E) → is_word Attribute p ≡ true →
-    text_in (read Subtag refusal p) ≡ Some (lower p)
-unfolding text_in
-read_in p refusal a = let s = attribute_is_word p a in rw s refl
-
--- what is read of it names a subdivision, or not
-pub named_next : {E : Type 0} (p : Text) (refusal : E) (w : Text) → is_word Attribute p ≡ true →
-    kinds.is_true (lower p) ≡ false → read Subtag refusal p ≡ Ok w → (o : Option Part) →
-    o ≡ when (is_some (named_subdivision w)) SubdivisionValue → o ≡ subdivision_next p
-unfolding text_in
-named_next p refusal w a t e o f =
-    let same : Some (lower p) ≡ Some w = sym (read_in p refusal a) ∙ ap text_in e in
-    let word : w ≡ lower p = cc in
-    rw (a, t) (f ∙ ap (λ v. when (is_some (named_subdivision v)) SubdivisionValue) word)
-
-pub named_never : {E : Type 0} (p : Text) (refusal e : E) → is_word Attribute p ≡ true →
-    read Subtag refusal p ≡ Err e → ⊥
-unfolding text_in
-named_never p refusal e a k =
-    let same : Some (lower p) ≡ None = sym (read_in p refusal a) ∙ ap text_in k in
-    cc
+-- if these bytes name a subdivision, it may come next
+pub named_next : (p w : Text) → is_word Attribute p ≡ true → kinds.is_true (lower p) ≡ false → w ≡ p →
+    (names : Bool) → names ≡ is_some (named_subdivision (lower w)) → (o : Option Part) →
+    o ≡ when names SubdivisionValue → o ≡ subdivision_next p
+named_next p w a t e names n o f = rw (a, t)
+    (f ∙ ap (λ b. when b SubdivisionValue) (n ∙ ap (λ v. is_some (named_subdivision (lower v))) e))

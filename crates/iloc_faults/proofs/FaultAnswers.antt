@@ -1,19 +1,11 @@
 -- What the walk says, in the words of the definitions.
 use Rattle.std.proofs.Common.{◌≡◌, ◌≢◌, ◌↔◌, inl, inr, ℕ, ◌≤◌, ◌∷◌, ◌++◌, length, Option, Some, None, IfSome}
-use Rattle.std.proofs.Common.{Result, Err, refl, sym, ap, ◌∙◌, subst, arith, length-append, true≢false}
+use Rattle.std.proofs.Common.{refl, sym, ap, ◌∙◌, subst, arith, length-append, true≢false}
 use Rattle.std.proofs.lemmas.List.Concat.{flat_map-append}
 use Rattle.iloc_spec_grammar.specs.Syntax.{Text, pieces, dashes, languages}
 use Rattle.iloc_spec_grammar.specs.Meaning as grammar
-use Rattle.iloc_spec_grammar.proofs.RawLaws.{languages_table}
-use Rattle.iloc_spec_parts.specs.DataLocales.{HasDataFault}
-use Rattle.iloc_spec_parts.proofs.DataLaws.{data_apart}
 use Rattle.iloc_subtags.specs.declared.parse_error.ParseError.{ParseError}
-use Rattle.iloc_subtags.specs.declared.parse_error.ParseError.TheVariants.{InvalidLanguage, InvalidSubtag}
-use Rattle.iloc_subtags.specs.declared.parse_error.ParseError.TheVariants.{InvalidExtension}
-use Rattle.iloc_subtags.specs.declared.parse_error.ParseError.TheVariants.{DuplicatedExtension, OutOfMemory}
 use Rattle.iloc_subtags.specs.Judging.{Refusal, error_of}
-use Rattle.iloc_data_parts.specs.PartsReading.{PartsTextReads}
-use Rattle.iloc_data_parts.specs.declared.parts.DataParts.{DataParts}
 use Rattle.iloc_normalize.specs.Modes.{IsFaulty}
 use Rattle.iloc_normalize.specs.declared.Mode.{Mode}
 use Rattle.iloc_normalize.specs.declared.Mode.TheVariants.{Data}
@@ -55,22 +47,6 @@ bad_is mode t n (Some f) bad = record {
   place = bad.place;
 }
 
--- ---- data locales
-
--- some fault is there
-faulty : (t : Text) (e : ParseError) → Refusal (HasDataFault languages t) ⊥ e →
-    (f : grammar.Fault) × HasDataFault languages t f
-faulty t InvalidLanguage h = (grammar.InvalidLanguage, h)
-faulty t InvalidSubtag h = (grammar.InvalidSubtag, h)
-faulty t InvalidExtension h = (grammar.InvalidExtension, h)
-faulty t DuplicatedExtension h = (grammar.DuplicatedExtension, h)
-faulty t OutOfMemory h = absurd h
-
-pub data_not : (t : Text) (e : ParseError) (r : Result DataParts ParseError) → PartsTextReads t r →
-    r ≡ Err e → ¬ (IsAccepted Data t)
-data_not t e r h k a =
-    let f = faulty t e (subst (PartsTextReads t) k h) in data_apart languages_table t a.0 f.0 a.1 f.1
-
 -- ---- the place lies within the text
 
 place_inside : (mode : Mode) (t : Text) (a b : ℕ) → IsFaultPlace mode t a b → (a ≤ b) × (b ≤ length t)
@@ -94,7 +70,3 @@ pub inside_is : (mode : Mode) (t : Text) (o : Option Fault) → IfSome o (IsFaul
     IfSome o (λ f. (f.start ≤ f.end) × (f.end ≤ length t))
 inside_is mode t None h = tt
 inside_is mode t (Some f) h = place_inside mode t f.start f.end h.place
-
-pub never_accepted : (mode : Mode) (t : Text) (f : Fault) → ¬ (IsAccepted mode t) →
-    (Some f ≡ None) ↔ IsAccepted mode t
-never_accepted mode t f n = (λ e. cc, λ a. absurd (n a))

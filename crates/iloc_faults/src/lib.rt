@@ -8,8 +8,8 @@
 //! promises that it returns `None` exactly for accepted texts, and else the refusal of the parser and the place. It
 //! allocates nothing. The law `one_place` says that a text has one place.
 //!
-//! It stands on the definitions, on pieces (`iloc_pieces`), on the modes of `iloc_normalize`, and on the reader of data locales
-//! (`iloc_data_parts`).
+//! It stands on the definitions, on pieces (`iloc_pieces`), and on `iloc_normalize`: on its modes, and on what it says of a data
+//! locale without building a value (`data_refusal`, `names_subdivision`).
 #![tactic(auto)]
 
 ghost use Rattle.std.specs.Prelude.{◌≡◌, ◌↔◌, ◌≤◌, None, IfSome, length};

@@ -11,13 +11,12 @@ ghost use Rattle.iloc_faults.specs.States.{IsRead, IsPieceRead, bare, bit_place,
 
 use crate::identifier::read_word;
 use crate::state::{Part, Stage, State, may_end, takes_any};
-use iloc_data_parts::region::named;
-use iloc_normalize::Mode;
+use iloc_normalize::{Mode, names_subdivision};
 use iloc_pieces::left::{
     Left, is_alphanumeric, is_attribute, is_between, is_field_key, is_key, is_language, is_private,
     is_single, is_subtag, is_true, is_variant, singleton,
 };
-use iloc_subtags::{ParseError, Subtag};
+use iloc_subtags::ParseError;
 
 // The subdivision of a data locale, or a `true` that it leaves out.
 #[tactic(auto, using(iloc_pieces::proofs::LeftLemmas::short_attribute))]
@@ -30,10 +29,8 @@ fn read_subdivision(at: Left<'_>) -> Option<Part>
     if is_true(at) {
         return Some(Part::SubdivisionKey);
     }
-    match Subtag::try_from_utf8(&at.window[at.at..at.at + at.n]) {
-        Ok(word) => when(named(&word).is_some(), Part::SubdivisionValue),
-        Err(_) => None,
-    }
+    let word = &at.window[at.at..at.at + at.n];
+    when(names_subdivision(word), Part::SubdivisionValue)
 }
 
 // Whether the piece is `sd`, in whatever case.

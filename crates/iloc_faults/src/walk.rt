@@ -10,8 +10,7 @@ ghost use Rattle.iloc_faults.specs.States.{IsFaultFound};
 use crate::Fault;
 use crate::state::{Part, State, may_end};
 use crate::step::{refusal, step};
-use iloc_data_parts::DataParts;
-use iloc_normalize::Mode;
+use iloc_normalize::{Mode, data_refusal};
 use iloc_pieces::left::{Left, is_last, left_in, next};
 use iloc_subtags::ParseError;
 
@@ -68,9 +67,7 @@ pub fn data_fault(text: &[u8]) -> Option<Fault>
     ensures accepted { (result ≡ None) ↔ IsAccepted modes.Data text.now }
     ensures refused { IfSome result (IsFault modes.Data text.now) }
 {
-    let Err(refusal) = DataParts::try_from_utf8(text) else {
-        return None;
-    };
+    let refusal = data_refusal(text)?;
     match walk(Mode::Data, text) {
         Some(found) => Some(Fault {
             refusal,

@@ -1,12 +1,8 @@
--- The bytes of a block of replies, and the block as a sink.
-use Rattle.std.specs.Prelude.{◌≡◌, ◌++◌, take}
+-- The bytes of a block of replies.
+use Rattle.std.specs.Prelude.{take}
 use Rattle.iloc_spec_grammar.specs.Syntax.{Text}
 use Rattle.iloc_lines.specs.declared.reply_block.ReplyBlock.{ReplyBlock}
 
 -- the bytes that count
 abbrev pub held : ReplyBlock → Text
 held b = take b.len b.room.items
-
--- the text stands after what was held
-abbrev pub ReplyAdded : ReplyBlock → Text → ReplyBlock → Type 0
-ReplyAdded old text new = held new ≡ held old ++ text

@@ -2,27 +2,28 @@
 //!
 //! `specs/Answers.antt` defines the answer to a line and the output for an input, in the words of the grammar. The laws
 //! (`laws`) say that there is one of each, and that it is computed. It promises that what `run_with` writes is the output
-//! of what it reads, if each line is answered as `Answers` says: that is what `iloc_program` adds.
+//! of what it reads, in the mode that its caller names by a type (`InMode`), and that `reply_line` adds the reply to a line.
 //!
-//! Most lines are answered without a value, by the steps of `iloc_normalize`. So it stands on no parser. Memory is as long as
-//! the longest line and its answer; reads and writes are in blocks of 64 KiB.
+//! Every line is answered without a value, by the steps of `iloc_normalize`. So it stands on no parser. Memory is as long as
+//! the longest line and its answer, and the places of its parts, if it has more than 64. Reads and writes are in blocks
+//! of 64 KiB.
 #![tactic(auto)]
 
-ghost use Rattle.std.specs.Prelude.{◌≡◌, ◌++◌, OnOk, OnErr, option_copied};
+ghost use Rattle.std.specs.Prelude.{◌≡◌, OnOk, OnErr, option_copied};
 ghost use Rattle.iloc_lines.specs.Output.{WritesAll, WritesBeginning};
-ghost use Rattle.iloc_lines.specs.ReplyBlock.{held};
 ghost use Rattle.iloc_lines.specs.declared.RunError.TheVariants.{OutOfMemory};
 ghost use Rattle.iloc_lines.specs.Ending.{ending_status, ending_text};
-ghost use Rattle.iloc_lines.specs.Answers.{reply};
-ghost use Rattle.iloc_spec_grammar.specs.Syntax.{languages};
 
 pub mod laws;
 mod lines;
-pub mod replies;
+pub mod modes;
+mod replies;
 pub mod reply_block;
 
 pub use iloc_normalize::Mode;
-pub use replies::{write_refusal, write_text};
+use iloc_outline::spans::Spans;
+pub use lines::reply_line;
+pub use modes::{DataLocales, Identifiers, InMode, Locales};
 pub use reply_block::ReplyBlock;
 use std::alloc::{AllocError, Global};
 use std::io::{Read, Write};
@@ -64,26 +65,10 @@ pub fn ending(outcome: Option<&Result<(), RunError>>) -> (&'static str, u8)
     }
 }
 
-/// What answers lines in one mode.
-pub trait Answers {
-    ghost use Rattle.iloc_normalize.specs.declared.Mode.{Mode};
-
-    ghost mode: { Mode };
-
-    /// The mode.
-    fn mode(&self) -> Mode
-        ensures { result ≡ mode };
-
-    /// Adds the reply to one line.
-    fn reply(&mut self, line: &[u8], replies: &mut ReplyBlock) -> Result<(), AllocError>
-        ensures { OnOk result (held replies.new ≡ held replies.old
-            ++ reply languages mode line.now) };
-}
-
 /// Writes the answer to each line of what the reader gives, up to its end. No call is made again after an error.
-pub fn run_with<A: Answers, R: Read, W: Write>(
+pub fn run_with<A: InMode, R: Read, W: Write>(
     alloc: Global,
-    answers: &mut A,
+    answers: &A,
     reader: &mut R,
     writer: &mut W,
 ) -> Result<(), RunError>
@@ -96,6 +81,7 @@ pub fn run_with<A: Answers, R: Read, W: Write>(
     let mut room = lines::new_block(alloc)?;
     let block = room.as_mut_slice();
     let mut pending = Vec::new(alloc);
+    let mut spans = Spans::growing(alloc);
     let mut replies = ReplyBlock::new(alloc);
     'reads: for _ in 0..u64::MAX {
         replies.clear();
@@ -103,11 +89,11 @@ pub fn run_with<A: Answers, R: Read, W: Write>(
             return Err(RunError::Read);
         };
         if count == 0 {
-            lines::finish(answers, &mut pending, &mut replies)?;
+            lines::finish(answers, &mut pending, &mut spans, &mut replies)?;
             return lines::write_whole(writer, replies.as_slice());
         }
         let (piece, _) = block.split_at(count);
-        lines::feed(answers, &mut pending, piece, &mut replies)?;
+        lines::feed(answers, &mut pending, piece, &mut spans, &mut replies)?;
         lines::write_whole(writer, replies.as_slice())?;
     }
     Err(RunError::Read)

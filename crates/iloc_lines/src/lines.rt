@@ -31,10 +31,11 @@ ghost use Rattle.iloc_spec_grammar.specs.Syntax.{Text, languages};
 ghost use Rattle.iloc_lines.specs.Answers.{reply, output};
 ghost use Rattle.memchr.specs.Find.{Nowhere, Passes, is_byte};
 
+use crate::RunError;
+use crate::modes::InMode;
 use crate::replies::write_refusal;
 use crate::reply_block::ReplyBlock;
-use crate::{Answers, RunError};
-use iloc_normalize::{Lead, Written, read_found, read_lead};
+use iloc_normalize::{Lead, Mode, Written, read_found, read_lead};
 use iloc_outline::spans::Spans;
 use iloc_pieces::{Plain, may_begin, read_plain};
 use iloc_subtags::ParseError;
@@ -142,7 +143,7 @@ fn plain_line(window: &[u8], len: usize) -> Option<Plain>
 // What the beginning of the line tells that this window begins with. It is generic, so that each mode has its own and only
 // what that asks is left of it. Sixteen bytes behind the line may be loaded.
 #[inline(always)]
-fn lead_of<A: Answers>(answers: &A, window: &[u8], len: usize) -> Lead
+fn lead_of<A: InMode>(answers: &A, window: &[u8], len: usize) -> Lead
     requires { len + 16 ≤ length window.now }
     ensures { IsLead A.mode (take len window.now) result }
 {
@@ -153,11 +154,37 @@ fn lead_of<A: Answers>(answers: &A, window: &[u8], len: usize) -> Lead
     }
 }
 
-// Adds the reply to the line that this window begins with, if it is not plain: without a value if that answers it, and else as the
-// mode parses it. Sixteen bytes behind the line may be loaded. The spans are room for the outline of a line.
+// Adds the reply to the line that this window begins with, of which the beginning tells this. Sixteen bytes behind the line
+// may be loaded. The spans are room for the outline of a line. Nothing is written only if memory is refused.
 #[inline(always)]
-fn reply_to<A: Answers>(
-    answers: &mut A,
+fn reply_as(
+    mode: Mode,
+    lead: Lead,
+    window: &[u8],
+    len: usize,
+    spans: &mut Spans,
+    replies: &mut ReplyBlock,
+) -> Result<(), AllocError>
+    requires wide { len + 16 ≤ length window.now }
+    requires lead { IsLead mode (take len window.now) lead }
+    ensures { OnOk result (held replies.new
+        ≡ held replies.old ++ reply languages mode (take len window.now)) }
+{
+    if let Lead::Refused(error) = lead {
+        return write_refusal(error, replies);
+    }
+    match replies.push_answered(mode, lead, window, len, spans)? {
+        Written::Normal(_) => Ok(()),
+        Written::Refused(error) => write_refusal(error, replies),
+        Written::Nothing => Err(AllocError),
+    }
+}
+
+// Adds the reply to the line that this window begins with. Sixteen bytes behind the line may be loaded. It is called from one
+// place only, since `lead_of` is too large to be inlined in two.
+#[inline(always)]
+fn reply_to<A: InMode>(
+    answers: &A,
     window: &[u8],
     len: usize,
     spans: &mut Spans,
@@ -167,39 +194,78 @@ fn reply_to<A: Answers>(
     ensures { OnOk result (held replies.new
         ≡ held replies.old ++ reply languages A.mode (take len window.now)) }
 {
-    let lead = match lead_of(answers, window, len) {
-        Lead::Refused(error) => return write_refusal(error, replies),
-        lead => lead,
-    };
-    match replies.push_answered(answers.mode(), lead, window, len, spans)? {
-        Written::Normal(_) => Ok(()),
-        Written::Refused(error) => write_refusal(error, replies),
-        Written::Nothing => answers.reply(&window[..len], replies),
+    let lead = lead_of(answers, window, len);
+    reply_as(answers.mode(), lead, window, len, spans, replies)
+}
+
+// Adds the reply to the line that this window begins with, in a mode that is only known when it runs. So the call is one for
+// all modes. Sixteen bytes behind the line may be loaded.
+#[inline(always)]
+fn reply_in(
+    mode: Mode,
+    window: &[u8],
+    len: usize,
+    spans: &mut Spans,
+    replies: &mut ReplyBlock,
+) -> Result<(), AllocError>
+    requires { len + 16 ≤ length window.now }
+    ensures { OnOk result (held replies.new
+        ≡ held replies.old ++ reply languages mode (take len window.now)) }
+{
+    match plain_line(window, len) {
+        Some(plain) => replies.push_plain(&plain),
+        None => {
+            let lead = read_lead(mode, window, len);
+            reply_as(mode, lead, window, len, spans, replies)
+        }
     }
 }
 
-// Adds the reply to the line that is pending, and forgets the line.
+// Adds the reply to the line that is pending, and forgets the line. Sixteen bytes are put behind it, which may be loaded.
 #[inline(never)]
-fn end_pending<A: Answers>(
-    answers: &mut A,
+fn end_pending(
+    mode: Mode,
     pending: &mut Vec<u8>,
+    spans: &mut Spans,
     replies: &mut ReplyBlock,
 ) -> Result<(), AllocError>
     ensures replies { OnOk result
-        (held replies.new ≡ held replies.old ++ reply languages A.mode pending.old.items) }
+        (held replies.new ≡ held replies.old ++ reply languages mode pending.old.items) }
     ensures pending { OnOk result (pending.new.items ≡ []) }
 {
-    answers.reply(pending.as_slice(), replies)?;
+    let len = pending.len();
+    pending.extend_from_slice(&[0; 16])?;
+    reply_in(mode, pending.as_slice(), len, spans, replies)?;
     pending.clear();
     Ok(())
 }
 
+/// Adds the reply to one line, wherever it stands. It is copied to the room, which is empty afterwards. The spans are room for
+/// the outline of the line.
+#[inline(never)]
+pub fn reply_line(
+    mode: Mode,
+    line: &[u8],
+    room: &mut Vec<u8>,
+    spans: &mut Spans,
+    replies: &mut ReplyBlock,
+) -> Result<(), AllocError>
+    ensures replies { OnOk result
+        (held replies.new ≡ held replies.old ++ reply languages mode line.now) }
+    ensures room { OnOk result (room.new.items ≡ []) }
+{
+    room.clear();
+    room.extend_from_slice(line)?;
+    end_pending(mode, room, spans, replies)
+}
+
 // Adds the replies to the lines that these bytes end, if nothing is pending, and keeps the start of
-// the next line.
-fn feed_lines<A: Answers>(
-    answers: &mut A,
+// the next line. A line near the end of the bytes is answered in the room of what is pending.
+fn feed_lines<A: InMode>(
+    answers: &A,
     pending: &mut Vec<u8>,
     bytes: &[u8],
+    spans: &mut Spans,
     replies: &mut ReplyBlock,
 ) -> Result<(), AllocError>
     requires { pending.old.items ≡ [] }
@@ -208,7 +274,6 @@ fn feed_lines<A: Answers>(
         held replies.old ++ output languages A.mode (bytes.now ++ next)
         ≡ held replies.new ++ output languages A.mode (pending.new.items ++ next)) }
 {
-    let mut spans = Spans::new();
     let mut rest = bytes;
     'lines: loop {
         let end = line_end(rest);
@@ -217,13 +282,13 @@ fn feed_lines<A: Answers>(
             if later.is_empty() {
                 break 'lines;
             }
-            answers.reply(line, replies)?;
+            reply_line(answers.mode(), line, pending, spans, replies)?;
         } else if !may_begin(rest, end) {
             write_refusal(ParseError::InvalidLanguage, replies)?;
         } else if let Some(plain) = plain_line(rest, end) {
             replies.push_plain(&plain)?;
         } else {
-            reply_to(answers, rest, end, &mut spans, replies)?;
+            reply_to(answers, rest, end, spans, replies)?;
         }
         rest = &later[1..];
     }
@@ -232,10 +297,11 @@ fn feed_lines<A: Answers>(
 
 // Adds the replies to the lines that this piece of the input ends, and keeps the start of the next line.
 // What is pending is answered first, so that no other line asks for it.
-pub(crate) fn feed<A: Answers>(
-    answers: &mut A,
+pub(crate) fn feed<A: InMode>(
+    answers: &A,
     pending: &mut Vec<u8>,
     piece: &[u8],
+    spans: &mut Spans,
     replies: &mut ReplyBlock,
 ) -> Result<(), AllocError>
     requires { IsOneLine pending.old.items }
@@ -246,20 +312,21 @@ pub(crate) fn feed<A: Answers>(
         ≡ held replies.new ++ output languages A.mode (pending.new.items ++ next)) }
 {
     if pending.is_empty() {
-        return feed_lines(answers, pending, piece, replies);
+        return feed_lines(answers, pending, piece, spans, replies);
     }
     let Some((line, later)) = split_line(piece) else {
         return pending.extend_from_slice(piece);
     };
     pending.extend_from_slice(line)?;
-    end_pending(answers, pending, replies)?;
-    feed_lines(answers, pending, later, replies)
+    end_pending(answers.mode(), pending, spans, replies)?;
+    feed_lines(answers, pending, later, spans, replies)
 }
 
 // Adds the reply to a last line without a newline, if there is one.
-pub(crate) fn finish<A: Answers>(
-    answers: &mut A,
+pub(crate) fn finish<A: InMode>(
+    answers: &A,
     pending: &mut Vec<u8>,
+    spans: &mut Spans,
     replies: &mut ReplyBlock,
 ) -> Result<(), AllocError>
     requires { IsOneLine pending.old.items }
@@ -269,7 +336,7 @@ pub(crate) fn finish<A: Answers>(
     if pending.is_empty() {
         return Ok(());
     }
-    end_pending(answers, pending, replies)
+    end_pending(answers.mode(), pending, spans, replies)
 }
 
 // Writes all of it, by as many calls as the writer takes. A write of no bytes is an error, and no error is tried again.

@@ -1,26 +1,15 @@
-//! What is replied to a line: the text of a value, or why there is none.
+//! What is replied to a line that is refused.
 ghost use Rattle.std.specs.Prelude.{◌≡◌, ◌≢◌, [], ◌∷◌, ◌++◌, OnOk};
 ghost use Rattle.iloc_lines.specs.ReplyBlock.{held};
 ghost use Rattle.iloc_lines.specs.Answers.{refusal_text};
 
 use crate::reply_block::ReplyBlock;
 use iloc_subtags::ParseError;
-use iloc_writeable::Writeable;
 use std::alloc::AllocError;
 
-/// Adds the text of a value and a newline. A write to replies fails only if an allocation fails.
-pub fn write_text<T: Writeable>(value: &T, replies: &mut ReplyBlock) -> Result<(), AllocError>
-    ensures { OnOk result (held replies.new ≡ held replies.old ++ (T.text value.now ++ 10 ∷ [])) }
-{
-    match value.write_to(replies) {
-        Ok(()) => replies.push(b'\n'),
-        Err(_) => Err(AllocError),
-    }
-}
-
-/// Adds why a line has no answer, and a newline. That an allocation fails is no answer to a line.
+// Adds why a line has no answer, and a newline. That an allocation fails is no answer to a line.
 #[inline(always)]
-pub fn write_refusal(error: ParseError, replies: &mut ReplyBlock) -> Result<(), AllocError>
+pub(crate) fn write_refusal(error: ParseError, replies: &mut ReplyBlock) -> Result<(), AllocError>
     ensures text { OnOk result (held replies.new
         ≡ held replies.old ++ (refusal_text error ++ 10 ∷ [])) }
     ensures known { OnOk result (error ≢ ParseError.OutOfMemory) }

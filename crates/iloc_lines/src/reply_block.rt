@@ -4,16 +4,14 @@ ghost use Rattle.std.specs.Prelude.{◌≡◌, ◌+◌, ◌≤◌, [], ◌∷◌
 use iloc_normalize::{Lead, Mode, Written, write_normal};
 use iloc_outline::spans::Spans;
 use iloc_pieces::Plain;
-use iloc_writeable::Sink;
 use std::alloc::{AllocError, Global};
 use std::cmp::max;
-use std::fmt;
 
 // The room that is made first, so that the replies to most blocks need no more.
 const FIRST_ROOM: usize = 131_072;
 
-/// Bytes that count, and room behind them. What stands in the room says nothing, so that a short piece is
-/// stored as eight bytes at once, whatever its length.
+/// Bytes that count, and room behind them. What stands in the room says nothing, so that a plain text is
+/// stored as sixteen bytes at once, whatever its length.
 #[derive(Drop)]
 pub struct ReplyBlock {
     room: Vec<u8>,
@@ -162,41 +160,4 @@ impl ReplyBlock {
         self.room.as_mut_slice()[start..end].copy_from_slice(bytes);
         self.len = start + count;
     }
-}
-
-/// It holds its text exactly, and after a failure all that was written before it.
-impl Sink for ReplyBlock {
-    ghost use Rattle.iloc_lines.specs.ReplyBlock.{ReplyAdded};
-    ghost use Rattle.iloc_lines.specs.ReplyBlockLaws.{added_nothing, added_both};
-
-    ghost took = { ReplyAdded };
-
-    ghost failed = { λ a t _ b. ReplyAdded a t b };
-
-    fn write_str(&mut self, text: &str) -> fmt::Result {
-        match self.extend_from_slice(text.as_bytes()) {
-            Ok(()) => Ok(()),
-            Err(_) => Err(fmt::Error),
-        }
-    }
-
-    #[inline(always)]
-    fn write_short_piece(&mut self, padded: [u8; 8], len: usize, first: bool) -> fmt::Result {
-        if self.make_room(9).is_err() {
-            return Err(fmt::Error);
-        }
-        if !first {
-            self.put(b"-", 1);
-        }
-        self.put(&padded, len);
-        Ok(())
-    }
-
-    ghost took_nothing = { added_nothing };
-
-    ghost took_then_took = { added_both };
-
-    ghost took_then_failed = { λ a b c s t _ p q. added_both a b c s t p q };
-
-    ghost failed_of_more = { λ _ _ _ _ _ p. p };
 }

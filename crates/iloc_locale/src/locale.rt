@@ -1,13 +1,10 @@
 //! The type, and its parsers.
-ghost use Rattle.std.specs.Prelude.{◌≡◌, ⊤, ℕ, true, List, IfOk, Ok};
+ghost use Rattle.std.specs.Prelude.{◌≡◌, ⊤, ℕ, IfOk, Ok};
 ghost use Rattle.std.specs.Result.{result_and};
-ghost use Rattle.iloc_spec_grammar.specs.Syntax.{Text, pieces, languages, two_or_three, head};
+ghost use Rattle.iloc_spec_grammar.specs.Syntax.{Text, languages, two_or_three};
 ghost use Rattle.iloc_spec_grammar.specs.Meaning as meaning;
 ghost use Rattle.iloc_spec_grammar.specs.Meaning.{Means, Fault, HasFault};
-ghost use Rattle.iloc_spec_grammar.specs.Reading.{after_head, starts_block};
 ghost use Rattle.iloc_spec_grammar.specs.Values.{TextStep, Leads, IsWellFormed};
-ghost use Rattle.iloc_subtags.specs.Left.{left};
-ghost use Rattle.iloc_langid.specs.Reads as langid;
 ghost use Rattle.iloc_locale.specs.LocaleReading.{value_of, unknown_locale, LocaleTextAnswers};
 
 use crate::copying::fill_from;
@@ -138,22 +135,4 @@ impl Locale {
     {
         Self::try_from_utf8(alloc, s.as_bytes())
     }
-}
-
-/// Parses the pieces that are left as the blocks after the head, which this locale's identifier was parsed from,
-/// for programs that keep one locale for many texts: `iloc_langid::reader::fill_head` parses the head. What
-/// extensions there were go; after a refusal the locale holds some of what was parsed.
-#[inline(never)]
-pub fn read_rest(
-    alloc: Global,
-    iter: &mut SubtagIterator<'_>,
-    locale: &mut Locale,
-) -> Result<(), ParseError>
-    requires starts { starts_block (left iter.old) ≡ true }
-    ensures { (t : Text) → langid.IdentifierReads (head (pieces t)) (Ok locale.old.id)
-        → left iter.old ≡ after_head (pieces t)
-        → LocaleTextAnswers t (result_and result (Ok locale.new)) }
-{
-    locale.extensions.clear();
-    read_blocks(alloc, iter, &mut locale.extensions)
 }

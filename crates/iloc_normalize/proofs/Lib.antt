@@ -14,6 +14,7 @@ mod Keywords
 mod Heads
 mod Blocks
 mod Reading
+mod Refusals
 mod Regions
 mod Puts
 mod Texts

@@ -2,11 +2,11 @@
 use Rattle.std.proofs.Common.{◌≡◌, ◌≢◌, ℕ, zero, suc, ◌+◌, ◌-◌, ◌*◌, ◌/◌, ◌%◌, ◌≤◌, ◌==◌, Bool, true, false}
 use Rattle.std.proofs.Common.{cond, ◌&&◌, [], ◌∷◌, ◌++◌, length, get_or, take, drop, codes, Option, None}
 use Rattle.std.proofs.Common.{Some, Ok, Err, refl, sym, ap, ap₂, ◌∙◌, arith, take-append-drop}
-use Rattle.std.proofs.Common.{true≢false}
+use Rattle.std.proofs.Common.{true≢false, not, is_some}
 use Rattle.std.specs.Prelude.{if◌then◌else◌, ok_or}
 use Rattle.std.specs.Char.{is_ascii_alphabetic, is_ascii_alphanumeric, to_ascii_lowercase}
 use Rattle.std.specs.Result.{result_ok}
-use Rattle.std.proofs.lemmas.Bool.{and_from, and_parts, eq-eqb, eqb-true}
+use Rattle.std.proofs.lemmas.Bool.{and_from, and_parts, eq-eqb, eqb-true, ne_eqb}
 use Rattle.std.proofs.lemmas.List.{drop-drop, drop-take, take-take}
 use Rattle.iloc_spec_grammar.specs.Syntax.{Text, Attribute, Region, Subtag, SubdivisionSuffix, UnicodeKey}
 use Rattle.iloc_spec_grammar.specs.Syntax.{IsWord, is_same, is_true, is_word, letters_or_digits, lower}
@@ -127,6 +127,14 @@ unnamed v none = by (is_word Subtag t) (is_word Region (take k t)) (is_word Subd
         (λ j. (ap (is_word Region) (lower_take k v) ∙ is_word-lower Region (take k v)) j
         && (ap (is_word SubdivisionSuffix) (lower_drop k v) ∙ is_word-lower SubdivisionSuffix (drop k v)) j)
         ∙ none
+
+-- so many bytes of it are the region of what it names
+pub names_by_region : (v : Text) (k : ℕ) → EndsRegion v k →
+    is_some (named_subdivision (lower v)) ≡ not (k == 0)
+names_by_region v zero none = ap is_some (unnamed v none)
+names_by_region v (suc k) h =
+    ap (λ r. is_some (result_ok r)) (named_parts v (suc k) h.1 h.2)
+    ∙ sym (ap not (ne_eqb (suc k) 0 (λ e. absurd (omega (arith, e)))))
 
 -- ---- shapes
 

@@ -30,8 +30,7 @@ few_pieces t = at_pieces (λ ps. join ps ≡ t → length ps ≤ length t + 1) (
 pub not_beyond : (t : Text) (room : ℕ) → length t ≤ 48 → 64 ≤ room → IsBeyond room t → ⊥
 not_beyond t room short wide (inl many) =
     let few : length (pieces t) ≤ length t + 1 = few_pieces t in omega (arith, few, many, short)
-not_beyond t room short wide (inr (inl long)) = omega (arith, long, short)
-not_beyond t room short wide (inr (inr narrow)) = omega (arith, narrow, short, wide)
+not_beyond t room short wide (inr narrow) = omega (arith, narrow, short, wide)
 
 -- so something is told of it
 pub few_answered : (t : Text) (room : ℕ) (Reason : Type 0) (told : Answered) → length t ≤ 48 → 64 ≤ room

@@ -1,5 +1,5 @@
 -- What is told of a text at once.
-use Rattle.std.specs.Prelude.{◌⊎◌, ℕ, ◌+◌, ◌^◌, ◌<◌, ◌≤◌, length, take, ⊤}
+use Rattle.std.specs.Prelude.{◌⊎◌, ℕ, ◌+◌, ◌<◌, ◌≤◌, length, take, ⊤}
 use Rattle.iloc_spec_grammar.specs.Syntax.{Text, languages}
 use Rattle.iloc_subtags.specs.declared.parse_error.ParseError.{ParseError}
 use Rattle.iloc_subtags.specs.Judging.{Refusal}
@@ -34,10 +34,10 @@ IsAnswered mode t (answered.Normal n) = IsNormalText languages mode t n.now
 IsAnswered mode t (answered.Refused e) = HasRefusal mode t e
 IsAnswered mode t answered.Nothing = ⊤
 
--- The text is not outlined in a room of so many bytes: it has more than 64 pieces, or 65,536 bytes
--- or more, or there is no room for its bytes and sixteen more. This library's rule.
+-- The text is not outlined in a room of so many bytes: it has more than 64 pieces, or there is no
+-- room for its bytes and sixteen more. This library's rule.
 abbrev pub IsBeyond : ℕ → Text → Type 0
-IsBeyond room t = IsLimit t ⊎ (2 ^ 16 ≤ length t) ⊎ (room < length t + 16)
+IsBeyond room t = IsLimit t ⊎ (room < length t + 16)
 
 -- nothing is told for this reason only
 abbrev pub IsNothingOnlyIf : Type 0 → Answered → Type 0

@@ -1,11 +1,16 @@
 //! Reads data locales.
-ghost use Rattle.std.specs.Prelude.{◌≡◌, ◌≤◌, ◌+◌, length, take};
+ghost use Rattle.std.specs.Prelude.{◌≡◌, ◌↔◌, ◌≤◌, ◌+◌, None, IfSome, length, take};
+ghost use Rattle.iloc_spec_grammar.specs.Syntax.{languages};
+ghost use Rattle.iloc_spec_parts.specs.DataLocales.{DataLocale, DataMeans};
 ghost use Rattle.iloc_pieces.specs.Left.{piece_left};
 ghost use Rattle.iloc_outline.specs.Outlines.{BeginsWithLanguage};
+ghost use Rattle.iloc_normalize.specs.Answered.{HasRefusal};
 ghost use Rattle.iloc_normalize.specs.Data.{IsDataBehind, IsDataRead};
+ghost use Rattle.iloc_normalize.specs.declared.Mode.TheVariants as modes;
 
 use crate::subdivisions::{Keyword, Value, read_keyword};
 use iloc_outline::identifier::{Front, read_front};
+use iloc_outline::outline::begins_with_language;
 use iloc_pieces::left::{
     Left, advance, is_alphanumeric, is_last, is_single, is_variant, left_in, next, singleton,
 };
@@ -79,4 +84,19 @@ pub(crate) fn read_data(window: &[u8], len: usize) -> Data
         advance(&mut left);
     }
     read_block(head, left)
+}
+
+/// Why a text is refused as a data locale; `None` if it is accepted. No text is too long, and it allocates nothing.
+pub fn data_refusal(text: &[u8]) -> Option<ParseError>
+    ensures accepted { (result ≡ None)
+        ↔ ((d : DataLocale) × DataMeans languages text.now d) }
+    ensures refused { IfSome result (HasRefusal modes.Data text.now) }
+{
+    if !begins_with_language(text, text.len()) {
+        return Some(ParseError::InvalidLanguage);
+    }
+    match read_data(text, text.len()) {
+        Data::Refused(error) => Some(error),
+        Data::Head(_) | Data::Named(_, _) => None,
+    }
 }

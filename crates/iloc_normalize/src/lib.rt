@@ -5,12 +5,13 @@
 //! the normal text: of identifiers and locales as their outline gives it (`iloc_outline`), and of data locales as they are
 //! read piece by piece (`data`, `subdivisions`, `data_writing`). Four kinds of callers stand on it: the lines of the
 //! program (`iloc_lines`), the calls for C (`iloc_calls`), and `normalize` of identifiers and of locales
-//! (`normalize_short`, `answer_text`, `text_of`).
+//! (`normalize_short`, `answer_text`, `text_of`). A fifth, `iloc_faults`, asks of data locales alone why one is refused
+//! (`data_refusal`), and what names a subdivision (`names_subdivision`).
 //!
 //! It promises in the words of the grammar (`IsNormalWritten`, `IsAnswered`) that what is written is the normal text of what
 //! the text means, or that the text has the fault. A normal text is at most four bytes longer than the text, and only
 //! where a subdivision gives a data locale its region. `Nothing` says that the text is beyond the outline (`IsBeyond`):
-//! more than 64 pieces, 65,536 bytes or more, or more than there is room for. The caller then parses.
+//! more than 64 pieces, or more bytes than there is room for. Where the spans may grow it then says that memory was refused.
 #![tactic(auto)]
 
 ghost use Rattle.std.specs.Prelude.{◌≡◌, ◌↔◌, Some};
@@ -27,8 +28,10 @@ pub mod window;
 pub mod writing;
 
 pub use answered::{Answered, answer};
+pub use data::data_refusal;
 pub use leads::{Lead, read_found, read_lead};
 pub use normal_text::{normalize_short, text_of};
+pub use subdivisions::names_subdivision;
 pub use writing::{Written, write_normal};
 
 /// What a text is read as.

@@ -1,12 +1,13 @@
 //! Reads what follows the singleton `u` of a data locale: the keyword `sd`.
-ghost use Rattle.std.specs.Prelude.{◌≡◌, ◌≤◌, true, false, length, codes};
+ghost use Rattle.std.specs.Prelude.{◌≡◌, ◌≤◌, true, false, is_some, length, codes};
 ghost use Rattle.iloc_spec_grammar.specs.Syntax.{Attribute, IsWord, Text, UnicodeKey, is_same, is_true, letters_or_digits, lower};
 ghost use Rattle.iloc_spec_grammar.specs.Reading.{rest_of};
+ghost use Rattle.iloc_spec_parts.specs.DataLocales.{named_subdivision};
 ghost use Rattle.iloc_pieces.specs.Left.{IsShortPiece, piece_left, pieces_left};
 ghost use Rattle.iloc_pieces.specs.Shape.{shape_of};
 ghost use Rattle.iloc_normalize.specs.Subdivisions.{AreSubtagsRead, EndsRegion, IsKeywordRead, IsNamedBy, are_trues};
 
-use iloc_pieces::left::{Left, is_attribute, is_key, is_last, is_true, next};
+use iloc_pieces::left::{Left, is_attribute, is_key, is_last, is_true, left_in, next};
 use iloc_pieces::shape::{is_region, is_suffix};
 
 /// A value of `sd` that names a subdivision.
@@ -115,6 +116,14 @@ fn region_len(shape: usize) -> usize
         return 3;
     }
     0
+}
+
+/// Whether the word, of three to eight letters or digits, names a subdivision.
+pub fn names_subdivision(word: &[u8]) -> bool
+    requires { IsWord Attribute word.now }
+    ensures { result ≡ is_some (named_subdivision (lower word.now)) }
+{
+    region_len(left_in(word, word.len()).shape) != 0
 }
 
 // What the subtag names as a value of the key.

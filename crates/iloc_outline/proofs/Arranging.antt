@@ -31,7 +31,7 @@ some_or a b x e = ap (λ p. option_or p b) e ∙ sym e
 
 module _ {X : Type 0} where
   -- an equal key is there: the entry is left out
-  map_of_there : (es : List (ℕ × X)) (k : ℕ) (v x : X) → find nat_cmp k (map_of nat_cmp es) ≡ Some x
+  pub map_of_there : (es : List (ℕ × X)) (k : ℕ) (v x : X) → find nat_cmp k (map_of nat_cmp es) ≡ Some x
       → map_of nat_cmp (es ++ (k, v) ∷ []) ≡ map_of nat_cmp es
   map_of_there es k v x e =
       map_of_same nat_cmp nat_cmp_total nat_cmp-IsAntisymmetric _ _
@@ -50,7 +50,7 @@ module _ {X : Type 0} where
           ap (λ b. option_or (find nat_cmp q es) (cond b (Some v) None)) t ∙ or_none (find nat_cmp q es)
 
   -- none is there: it is put into the map
-  map_of_new : (es : List (ℕ × X)) (k : ℕ) (v : X) → find nat_cmp k (map_of nat_cmp es) ≡ None
+  pub map_of_new : (es : List (ℕ × X)) (k : ℕ) (v : X) → find nat_cmp k (map_of nat_cmp es) ≡ None
       → map_of nat_cmp (es ++ (k, v) ∷ []) ≡ put nat_cmp k v (map_of nat_cmp es)
   map_of_new es k v e =
       same_entries nat_cmp nat_cmp_total nat_cmp-IsAntisymmetric _ _
@@ -104,7 +104,7 @@ module _ {X : Type 0} (word : X → ℕ) where
   abbrev pub arranged : List X → List X
   arranged xs = map (λ (_, x). x) (map_of nat_cmp (numbered xs))
 
-  renumbered : (es : List (ℕ × X)) → AllByRecursion (λ e. e.0 ≡ word e.1) es →
+  pub renumbered : (es : List (ℕ × X)) → AllByRecursion (λ e. e.0 ≡ word e.1) es →
       numbered (map (λ (_, x). x) es) ≡ es
   renumbered [] h = refl
   renumbered (e ∷ es) h = λ i. (sym h.0 i, e.1) ∷ renumbered es h.1 i
@@ -113,10 +113,17 @@ module _ {X : Type 0} (word : X → ℕ) where
   all_numbered [] = tt
   all_numbered (x ∷ xs) = (refl, all_numbered xs)
 
-  numbered-arranged : (xs : List X) → numbered (arranged xs) ≡ map_of nat_cmp (numbered xs)
+  pub numbered-arranged : (xs : List X) → numbered (arranged xs) ≡ map_of nat_cmp (numbered xs)
   numbered-arranged xs =
       renumbered (map_of nat_cmp (numbered xs))
       (all-map_of nat_cmp nat_cmp-IsAntisymmetric (λ e. e.0 ≡ word e.1) (numbered xs) (all_numbered xs))
+
+  -- what is in order stays
+  pub arranged_twice : (xs : List X) → arranged (arranged xs) ≡ arranged xs
+  arranged_twice xs =
+      ap (λ es. map (λ (_, x). x) (map_of nat_cmp es)) (numbered-arranged xs)
+      ∙ ap (map (λ (_, x). x)) (map_of_same nat_cmp nat_cmp_total nat_cmp-IsAntisymmetric
+      (map_of nat_cmp (numbered xs)) (numbered xs) (λ q. find-map_of nat_cmp nat_cmp_total q (numbered xs)))
 
   arranged-numbered : (ss : List X) (es : List (ℕ × X)) → numbered ss ≡ es → map (λ (_, x). x) es ≡ ss
   arranged-numbered [] es e = ap (map (λ (_, x). x)) (sym e)
@@ -175,14 +182,14 @@ module _ {X : Type 0} (word : X → ℕ) where
   sorted xs =
       ap (is_sorted nat_cmp) (numbered-arranged xs) ∙ is_sorted-map_of nat_cmp nat_cmp_total (numbered xs)
 
-  numbered-more : (xs : List X) (x : X) → numbered (xs ++ x ∷ []) ≡ numbered xs ++ (word x, x) ∷ []
+  pub numbered-more : (xs : List X) (x : X) → numbered (xs ++ x ∷ []) ≡ numbered xs ++ (word x, x) ∷ []
   numbered-more xs x = map-append (λ y. (word y, y)) xs (x ∷ [])
 
   keys-numbered : (xs : List X) → map (λ (e : ℕ × X). e.0) (numbered xs) ≡ map word xs
   keys-numbered [] = refl
   keys-numbered (x ∷ xs) = ap (λ l. word x ∷ l) (keys-numbered xs)
 
-  found_among : (k : ℕ) (xs : List X)
+  pub found_among : (k : ℕ) (xs : List X)
       → is_some (find nat_cmp k (map_of nat_cmp (numbered xs))) ≡ list_any (eq_by_cmp nat_cmp k) (map word xs)
   found_among k xs =
       ap is_some (find-map_of nat_cmp nat_cmp_total k (numbered xs))

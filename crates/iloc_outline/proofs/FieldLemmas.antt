@@ -1,5 +1,5 @@
 -- Fields are passed one after another, and each is put where it belongs.
-use Rattle.std.proofs.Common.{◌≡◌, ◌≢◌, ◌⊎◌, ℕ, ◌+◌, ◌-◌, ◌<◌, ◌≤◌, Bool, false, List, [], ◌∷◌, ◌++◌, length}
+use Rattle.std.proofs.Common.{◌≡◌, ◌≢◌, ℕ, ◌-◌, ◌<◌, ◌≤◌, Bool, false, List, [], ◌∷◌, ◌++◌, length}
 use Rattle.std.proofs.Common.{map, refl, sym, ap, ◌∙◌, subst, arith, inl, inr, append-nil, length-append}
 use Rattle.std.proofs.Common.{Option, Some, None}
 use Rattle.std.specs.List.{AllByRecursion}
@@ -9,13 +9,14 @@ use Rattle.iloc_spec_grammar.specs.Syntax.{Text, Field, Fields, Attribute, IsWor
 use Rattle.iloc_spec_grammar.specs.Syntax.{fields_pieces, first_piece}
 use Rattle.iloc_spec_grammar.proofs.ReadBack.{all_append}
 use Rattle.iloc_outline.specs.Fields.{IsAfterValues, PrintsAsItIs, IsValueRead}
+use Rattle.iloc_outline.specs.Gathering.{Gathers, Takes, pieces_in}
 use Rattle.iloc_outline.specs.Inserting.{IsPutFrom}
 use Rattle.iloc_pieces.specs.Left.{IsLater, IsPast, IsSpanned, piece_left, pieces_left}
 use Rattle.iloc_pieces.specs.Left.{bytes_left, whole_text}
 use Rattle.iloc_pieces.specs.Words.{IsUpToEight, word_number}
 use Rattle.iloc_outline.specs.Parts.{Part, field_part}
 use Rattle.iloc_outline.specs.Reading.{EndsInKey, IsFieldOfRole, IsTooMuch, ReadsFields, role_key, unless_end}
-use Rattle.iloc_outline.specs.Spans.{IsSpan}
+use Rattle.iloc_outline.specs.Spans.{IsSpan, held_spans}
 use Rattle.iloc_outline.specs.declared.fields.Value.{Value}
 use Rattle.iloc_pieces.specs.declared.cursor.Left.{Left}
 use Rattle.iloc_outline.specs.declared.sorting.Inserted.{Inserted}
@@ -24,10 +25,10 @@ use Rattle.iloc_outline.specs.declared.span.Role.{Role}
 use Rattle.iloc_outline.specs.declared.span.Role.TheVariants as roles
 use Rattle.iloc_outline.specs.declared.span.Span.{Span}
 use Rattle.iloc_outline.specs.declared.spans.Spans.{Spans}
-use Rattle.iloc_outline.proofs.GatherLemmas.{Gathers, gathers_few, gathers_full, gathers_none, gathers_put}
-use Rattle.iloc_outline.proofs.GatherLemmas.{gathers_puts, gathers_there, pieces_in}
-use Rattle.iloc_pieces.proofs.LeftLemmas.{length_rest, length_text, past_none, past_past, spanned_none}
-use Rattle.iloc_outline.proofs.SpansLemmas.{field_short}
+use Rattle.iloc_outline.proofs.GatherLemmas.{gathers_few, gathers_none, gathers_put, gathers_puts}
+use Rattle.iloc_outline.proofs.GatherLemmas.{gathers_there}
+use Rattle.iloc_pieces.proofs.LeftLemmas.{length_rest, past_none, past_past, spanned_none}
+use Rattle.iloc_outline.proofs.SpansLemmas.{field_short, length-held}
 use Rattle.iloc_outline.proofs.WordLemmas.{length-pieces_of}
 use Rattle.iloc_pieces.proofs.WordNumbers.{field_key_fits, key_fits}
 
@@ -72,16 +73,8 @@ pieces_fields r (f ∷ fs) = ap (λ ps. (f.0 ∷ f.1) ++ ps) (pieces_fields r fs
 
 -- ---- the fields that come first
 
--- from l on these fields were passed and put in order
-pub record Takes (r : Role) (l at : Left) (old new : Spans) (last : ℕ) (o n : Bool) : Type 0 where
-  pub fields : Fields
-  pub past : IsPast l at (fields_pieces fields)
-  pub each : AllByRecursion (IsFieldOfRole r) fields
-  pub ends : (fields ≡ []) ⊎ (is_word Attribute (piece_left at) ≡ false)
-  pub gathers : Gathers (whole_text l) (map (field_part r) fields) old new last o n
-
 -- none
-pub takes_none : (r : Role) (l : Left) → IsLater l → (s : Spans) (o : Bool)
+pub takes_none : (r : Role) (l : Left) → IsLater l → (s : List Span) (o : Bool)
     → Takes r l l s s 0 o o
 takes_none r l later s o = record {
   fields = [];
@@ -93,29 +86,43 @@ takes_none r l later s o = record {
 
 -- fields that were put in order are read
 taken : (r : Role) (l : Left) (fs : Fields) (old new : Spans) (last : ℕ) (o n : Bool)
-    → AllByRecursion (IsFieldOfRole r) fs → Gathers (whole_text l) (map (field_part r) fs) old new last o n
+    → AllByRecursion (IsFieldOfRole r) fs
+    → Gathers (whole_text l) (map (field_part r) fs) (held_spans old) (held_spans new) last o n
     → ReadsFields r l fs old new o n
 taken r l fs old new last o n each g =
     let few : length (map (field_part r) fs) ≤ length (fields_pieces fs) =
     omega (arith, length-map fs (field_part r), length-fields_pieces fs) in
     record {
       each = each;
-      puts = gathers_puts _ _ _ _ _ _ _ g (fields_pieces fs) (pieces_fields r fs) few;
+      puts = gathers_puts _ _ _ _ _ _ _ g old new refl refl (fields_pieces fs) (pieces_fields r fs) few;
     }
 
-module _ (r : Role) (l at : Left) (old mid : Spans) (last : ℕ) (o n : Bool)
-    (w : Takes r l at old mid last o n) where
+module _ (r : Role) (l at : Left) (old : Spans) (mid : List Span) (last : ℕ) (o n : Bool)
+    (w : Takes r l at (held_spans old) mid last o n) where
   -- where no key comes next
-  pub takes_past : ReadsFields r l w.fields old mid o n
-  takes_past = taken r l w.fields old mid last o n w.each w.gathers
+  pub takes_past : (new : Spans) → mid ≡ held_spans new → ReadsFields r l w.fields old new o n
+  takes_past new e =
+      taken r l w.fields old new last o n w.each
+      (subst (λ ss. Gathers (whole_text l) (map (field_part r) w.fields) (held_spans old) ss last o n) e
+      w.gathers)
+
+  -- where there is no room
+  pub takes_full : 64 ≤ length mid → IsTooMuch old (length (pieces_left l))
+  takes_full full =
+      omega (
+        arith,
+        full,
+        gathers_few _ _ _ _ _ _ _ w.gathers,
+        length-map w.fields (field_part r),
+        ap length w.past.pieces,
+        length-append (fields_pieces w.fields) (pieces_left at),
+        length-pieces_of at,
+        length-fields_pieces w.fields,
+      )
 
   module _ (to : Left) (v : Value) (h : IsValueRead at to v) where
     spanned : IsSpanned (whole_text at) (at.at - 1) v.end (piece_left at ∷ h.values)
     spanned = h.end (at.at - 1) [] (spanned_none at w.past.later)
-
-    -- the field lies within the text
-    pub field_within : v.end ≤ l.at + l.len
-    field_within = omega (arith, spanned.inside, length_text at, w.past.end)
 
     after : (next : Option Left) → unless_end v.is_end to ≡ next → IsAfterValues at h.values next
     after next e = subst (IsAfterValues at h.values) e h.next
@@ -158,7 +165,8 @@ module _ (r : Role) (l at : Left) (old mid : Spans) (last : ℕ) (o n : Bool)
         cut None k = ends [] (k ∙ ap (λ vs. piece_left at ∷ vs) (sym (append-nil h.values))) refl
         cut (Some m) k = ends (pieces_left m) k.0.pieces k.1
 
-    module _ (key : IsWord (role_key r) (piece_left at)) (some : r ≡ roles.Field → v.count ≢ 0) (new : Spans)
+    module _ (key : IsWord (role_key r) (piece_left at)) (some : r ≡ roles.Field → v.count ≢ 0)
+        (new : List Span)
         (k edited : Bool) (m now : ℕ) (e : m ≡ word_number (piece_left at))
         (plain : edited ≡ false → PrintsAsItIs r v.count v.has_true) where
       abbrev field : Field
@@ -176,6 +184,10 @@ module _ (r : Role) (l at : Left) (old mid : Spans) (last : ℕ) (o n : Bool)
       abbrev IsNow : Inserted → Type 0
       IsNow i = IsPutFrom old.count span mid new last now n k i
 
+      counted : (i : Inserted) → IsNow i → IsPutFrom (length (held_spans old)) span mid new last now n k i
+      counted i =
+          subst (λ (q : ℕ). IsPutFrom q span mid new last now n k i) (sym (length-held old))
+
       is_field : IsFieldOfRole r field
       is_field =
           field_of r (piece_left at) h.values key h.each (λ t. let l = some t in omega (arith, h.count))
@@ -192,39 +204,28 @@ module _ (r : Role) (l at : Left) (old mid : Spans) (last : ℕ) (o n : Bool)
       is_span : IsSpan (whole_text l) span (field_part r field)
       is_span = subst (λ t. IsSpan t span (field_part r field)) w.past.text field_span
 
-      -- where there is no room
-      pub takes_full : (i : Inserted) → IsNow i → i ≡ Full → IsTooMuch old (length (pieces_left l))
-      takes_full i h is =
-          let full = gathers_full _ parts old mid last o n w.gathers new now k span _ is_span
-          (subst IsNow is h) in
-          omega (
-            arith,
-            full,
-            gathers_few _ _ _ _ _ _ _ w.gathers,
-            length-map w.fields (field_part r),
-            ap length w.past.pieces,
-            length-append (fields_pieces w.fields) (pieces_left at),
-            length-pieces_of at,
-            length-fields_pieces w.fields,
-          )
-
       module _ (i : Inserted) (is : IsNow i) (room : i ≢ Full) where
         each_more : AllByRecursion (IsFieldOfRole r) more
         each_more = all_append (IsFieldOfRole r) w.fields (field ∷ []) w.each (is_field, tt)
 
         put : (j : Inserted) → IsNow j → j ≢ Full
-            → Gathers (whole_text l) (parts ++ (field_part r field ∷ [])) old new now o k
-        put Put h t = (gathers_put _ parts old mid last o n w.gathers new now k span _ is_span h).0
-        put There h t = (gathers_there _ parts old mid last o n w.gathers new now k span _ is_span h).0
+            → Gathers (whole_text l) (parts ++ (field_part r field ∷ [])) (held_spans old) new now o k
+        put Put h t =
+            (gathers_put _ parts (held_spans old) mid last o n w.gathers new now k span _ is_span
+            (counted Put h)).0
+        put There h t =
+            (gathers_there _ parts (held_spans old) mid last o n w.gathers new now k span _ is_span
+            (counted There h)).0
         put Full h t = absurd (t refl)
 
-        gathered : Gathers (whole_text l) (map (field_part r) more) old new now o k
+        gathered : Gathers (whole_text l) (map (field_part r) more) (held_spans old) new now o k
         gathered =
-            subst (λ ps. Gathers (whole_text l) ps old new now o k)
+            subst (λ ps. Gathers (whole_text l) ps (held_spans old) new now o k)
             (sym (map-append (field_part r) w.fields (field ∷ []))) (put i is room)
 
         -- one field more
-        pub takes_more : (next : Left) → unless_end v.is_end to ≡ Some next → Takes r l next old new now o k
+        pub takes_more : (next : Left) → unless_end v.is_end to ≡ Some next
+            → Takes r l next (held_spans old) new now o k
         takes_more next t =
             let a = after (Some next) t in
             record {
@@ -236,11 +237,13 @@ module _ (r : Role) (l at : Left) (old mid : Spans) (last : ℕ) (o n : Bool)
             }
 
         -- the last one
-        pub takes_end : unless_end v.is_end to ≡ None
-            → (fs : Fields) × (pieces_left l ≡ fields_pieces fs) × ReadsFields r l fs old new o k
-        takes_end t = (
+        pub takes_end : (then : Spans) → new ≡ held_spans then → unless_end v.is_end to ≡ None
+            → (fs : Fields) × (pieces_left l ≡ fields_pieces fs) × ReadsFields r l fs old then o k
+        takes_end then s t = (
           more,
           w.past.pieces ∙ ap (λ ps. fields_pieces w.fields ++ ps) (after None t)
               ∙ sym (pieces_more w.fields field),
-          taken r l more old new now o k each_more gathered,
+          taken r l more old then now o k each_more
+              (subst (λ ss. Gathers (whole_text l) (map (field_part r) more) (held_spans old) ss now o k) s
+              gathered),
         )

@@ -10,34 +10,25 @@ use Rattle.std.proofs.lemmas.Slice.Zip.{AllZip-long}
 use Rattle.iloc_spec_grammar.specs.Syntax.{Text, IsAmong, lower}
 use Rattle.iloc_spec_grammar.proofs.ReadBack.{all_append}
 use Rattle.iloc_spec_grammar.proofs.ValuesLaws.{all_weaker}
+use Rattle.iloc_outline.specs.Gathering.{Gathers, pieces_in}
 use Rattle.iloc_outline.specs.Inserting.{IsPutFrom, spans_in_order}
 use Rattle.iloc_outline.specs.Parts.{Part, in_order, printed_part}
 use Rattle.iloc_outline.specs.Reading.{Puts}
 use Rattle.iloc_outline.specs.Spans.{IsSpan, held_spans}
+use Rattle.iloc_outline.specs.declared.sorting.Inserted.{Inserted}
 use Rattle.iloc_outline.specs.declared.sorting.Inserted.TheVariants.{Put, There, Full}
 use Rattle.iloc_outline.specs.declared.span.Span.{Span}
 use Rattle.iloc_outline.specs.declared.spans.Spans.{Spans}
 use Rattle.iloc_outline.proofs.Arranging.{among_less, arranged_behind, length-arranged}
-use Rattle.iloc_outline.proofs.SpansLemmas.{length-held, zip_append, zip_arranged}
-
-abbrev pub pieces_in : List Part → List Text
-pieces_in ps = flat_map (λ p. p.pieces) ps
-
--- the parts were put in order, none of a number above the last; if n, they are printed as they stand
-pub record Gathers (t : Text) (ps : List Part) (old new : Spans) (last : ℕ) (o n : Bool) : Type 0 where
-  pub spans : List Span
-  pub each : AllZip (IsSpan t) spans ps
-  pub stand : held_spans new ≡ held_spans old ++ spans_in_order spans
-  pub within : AllByRecursion (λ p. p.word ≤ last) ps
-  pub order : n ≡ true → (o ≡ true) × (flat_map printed_part (in_order ps) ≡ map lower (pieces_in ps))
+use Rattle.iloc_outline.proofs.SpansLemmas.{zip_append, zip_arranged}
 
 -- none
-pub gathers_none : (t : Text) (s : Spans) (last : ℕ) (o : Bool) → Gathers t [] s s last o o
+pub gathers_none : (t : Text) (s : List Span) (last : ℕ) (o : Bool) → Gathers t [] s s last o o
 gathers_none t s last o =
     record {
       spans = [];
       each = tt;
-      stand = sym (append-nil (held_spans s));
+      stand = sym (append-nil s);
       within = tt;
       order = λ e. (e, refl);
     }
@@ -56,47 +47,42 @@ numbers t [] (p ∷ ps) h = absurd h
 numbers t (s ∷ ss) [] h = absurd h
 numbers t (s ∷ ss) (p ∷ ps) h = λ j. h.0.word j ∷ numbers t ss ps h.1 j
 
-module _ (t : Text) (ps : List Part) (old mid : Spans) (last : ℕ) (o n : Bool)
+module _ (t : Text) (ps : List Part) (old mid : List Span) (last : ℕ) (o n : Bool)
     (g : Gathers t ps old mid last o n) where
   -- they stand behind those that there were
-  pub gathers_from : old.count ≤ mid.count
-  gathers_from =
-      omega (
-        arith,
-        ap length g.stand,
-        length-append (held_spans old) (spans_in_order g.spans),
-        length-held old,
-        length-held mid,
-      )
+  pub gathers_from : length old ≤ length mid
+  gathers_from = omega (arith, ap length g.stand, length-append old (spans_in_order g.spans))
 
-  pub gathers_few : length (held_spans mid) ≤ length (held_spans old) + length ps
+  pub gathers_few : length mid ≤ length old + length ps
   gathers_few =
       omega (
         arith,
         ap length g.stand,
-        length-append (held_spans old) (spans_in_order g.spans),
+        length-append old (spans_in_order g.spans),
         length-arranged (λ s. s.word) g.spans,
         AllZip-long (IsSpan t) g.spans ps g.each,
       )
 
   -- so they were put
-  pub gathers_puts : (pieces : List Text) → pieces_in ps ≡ pieces → length ps ≤ length pieces
-      → Puts t (in_order ps) pieces old mid o n
-  gathers_puts pieces e l = record {
-    adds = λ qs h. subst (λ (ss : List Span). AllZip (IsSpan t) ss (qs ++ in_order ps)) (sym g.stand)
-        (zip_append (IsSpan t) (held_spans old) (spans_in_order g.spans) qs (in_order ps) h
+  pub gathers_puts : (before new : Spans) → old ≡ held_spans before → mid ≡ held_spans new
+      → (pieces : List Text) → pieces_in ps ≡ pieces → length ps ≤ length pieces
+      → Puts t (in_order ps) pieces before new o n
+  gathers_puts before new is now pieces e l = record {
+    adds = λ qs h. subst (λ (ss : List Span). AllZip (IsSpan t) ss (qs ++ in_order ps)) (sym g.stand ∙ now)
+        (zip_append (IsSpan t) old (spans_in_order g.spans) qs (in_order ps)
+        (subst (λ (ss : List Span). AllZip (IsSpan t) ss qs) (sym is) h)
         (zip_arranged (IsSpan t) (λ s. s.word) (λ p. p.word) (λ s p is. is.word) g.spans ps g.each));
-    few = omega (arith, gathers_few);
+    few = omega (arith, gathers_few, ap length is, ap length now);
     order = λ k. ((g.order k).0, (g.order k).1 ∙ ap (map lower) e);
   }
 
   -- ---- one part more
 
-  module _ (new : Spans) (now : ℕ) (k : Bool) (s : Span) (p : Part) (is : IsSpan t s p) where
+  module _ (new : List Span) (now : ℕ) (k : Bool) (s : Span) (p : Part) (is : IsSpan t s p) where
     abbrev more : List Part
     more = ps ++ (p ∷ [])
 
-    gathered : held_spans new ≡ held_spans old ++ spans_in_order (g.spans ++ s ∷ []) → last ≤ now →
+    gathered : new ≡ old ++ spans_in_order (g.spans ++ s ∷ []) → last ≤ now →
         s.word ≤ now
         → (k ≡ true → (o ≡ true) × (flat_map printed_part (in_order more) ≡ map lower (pieces_in more)))
         → Gathers t more old new now o k
@@ -121,12 +107,12 @@ module _ (t : Text) (ps : List Part) (old mid : Spans) (last : ℕ) (o n : Bool)
           spans_within t s.word g.spans ps g.each
           (all_weaker (λ q. q.word ≤ last) (λ q. q.word < s.word) (λ q a. omega arith) ps g.within)
 
-      stands : held_spans new ≡ held_spans mid ++ s ∷ [] →
-          held_spans new ≡ held_spans old ++ spans_in_order (g.spans ++ s ∷ [])
+      stands : new ≡ mid ++ s ∷ [] →
+          new ≡ old ++ spans_in_order (g.spans ++ s ∷ [])
       stands e =
           e ∙ ap (λ ss. ss ++ s ∷ []) g.stand
-          ∙ append_assoc (held_spans old) (spans_in_order g.spans) (s ∷ [])
-          ∙ ap (λ ss. held_spans old ++ ss) (sym (arranged_behind (λ s. s.word) g.spans s below_span))
+          ∙ append_assoc old (spans_in_order g.spans) (s ∷ [])
+          ∙ ap (λ ss. old ++ ss) (sym (arranged_behind (λ s. s.word) g.spans s below_span))
 
       order_more : (k ≡ true → (n ≡ true) × (s.edited ≡ false)) → k ≡ true
           → (o ≡ true) × (flat_map printed_part (in_order more) ≡ map lower (pieces_in more))
@@ -154,30 +140,33 @@ module _ (t : Text) (ps : List Part) (old mid : Spans) (last : ℕ) (o n : Bool)
         (subst (λ m. IsAmong nat_cmp m (map (λ q. q.word) ps)) (sym is.word) a))
 
     -- its number is new
-    pub gathers_put : IsPutFrom old.count s mid new last now n k Put
+    pub gathers_put : IsPutFrom (length old) s mid new last now n k Put
         → Gathers t more old new now o k × ¬ (IsAmong nat_cmp p.word (map (λ q. q.word) ps))
     gathers_put h = elim h [
       | inl b ↦ (
         gathered (stands b.0 b.3) (omega (arith, b.0, b.1)) (omega (arith, b.1)) (order_more b.0 b.2),
         among_less (λ q. q.word) ps p (below b.0),
       )
-      | inr b ↦ (let i = b.3 (held_spans old) g.spans (length-held old) g.stand in (
-        gathered i.0 (omega (arith, b.1)) (omega (arith, b.0, b.1)) (λ e. absurd (true≢false (sym e ∙ b.2))),
+      | inr b ↦ (let i = b.3 old g.spans refl g.stand in (
+        gathered i.0 b.0 b.1 (λ e. absurd (true≢false (sym e ∙ b.2))),
         same_none i.1,
       ))
     ]
 
     -- its number is there
-    pub gathers_there : IsPutFrom old.count s mid new last now n k There
+    pub gathers_there : IsPutFrom (length old) s mid new last now n k There
         → Gathers t more old new now o k × IsAmong nat_cmp p.word (map (λ q. q.word) ps)
     gathers_there h = elim h [
       | inl b ↦ absurd (b.3 tt)
-      | inr b ↦ (let i = b.3 (held_spans old) g.spans (length-held old) g.stand in (
-        gathered i.0 (omega (arith, b.1)) (omega (arith, b.0, b.1)) (λ e. absurd (true≢false (sym e ∙ b.2))),
+      | inr b ↦ (let i = b.3 old g.spans refl g.stand in (
+        gathered i.0 b.0 b.1 (λ e. absurd (true≢false (sym e ∙ b.2))),
         same_number i.1,
       ))
     ]
 
-    -- there is no room for it
-    pub gathers_full : IsPutFrom old.count s mid new last now n k Full → length (held_spans mid) ≡ 64
-    gathers_full h = elim h [ inl b ↦ b.3 | inr b ↦ b.3 ]
+-- where there is no room for it nothing is changed
+pub put_full : (from : ℕ) (s : Span) (old new : List Span) (last now : ℕ) (o n : Bool) (r : Inserted) →
+    r ≡ Full
+    → IsPutFrom from s old new last now o n r → new ≡ old
+put_full from s old new last now o n r is h =
+    elim (subst (IsPutFrom from s old new last now o n) is h) [ inl b ↦ b.3 | inr b ↦ b.3 ]

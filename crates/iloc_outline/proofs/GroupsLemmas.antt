@@ -11,10 +11,10 @@ use Rattle.std.specs.FinMap.{put}
 use Rattle.std.specs.FinMap.Entries.{by_order}
 use Rattle.std.proofs.lemmas.Bool.{or_parts, or_right}
 use Rattle.std.proofs.lemmas.Bool.Decides.{nat_tests}
-use Rattle.std.proofs.lemmas.List.{length-take-le, take-take, drop-take, get_or-take}
+use Rattle.std.proofs.lemmas.List.{length-take-le, take-take, drop-drop, drop-take, get_or-take}
 use Rattle.std.proofs.lemmas.List.Folds.{list_any-append}
 use Rattle.iloc_spec_grammar.specs.Syntax.{Text, IsAmong}
-use Rattle.iloc_outline.specs.Groups.{AreGroups, IsGroup, parts_in}
+use Rattle.iloc_outline.specs.Groups.{AreGroups, IsGroup, is_greater, is_singleton, parts_in}
 use Rattle.iloc_outline.specs.Parts.{Part}
 use Rattle.iloc_outline.specs.Spans.{IsSpan}
 use Rattle.iloc_outline.specs.declared.span.Role.{Role}
@@ -24,10 +24,6 @@ use Rattle.iloc_outline.specs.contracts.span.Role.{the_type}
 use Rattle.iloc_outline.proofs.SpansLemmas.{zip_append, zip_take, zip_drop}
 use denote.Enum.Bare.{sameb}
 use Rattle.iloc_spec_grammar.proofs.SameMeaning.{same_test as tied_number}
-
-abbrev pub is_singleton : Role → Bool
-is_singleton Singleton = true
-is_singleton _ = false
 
 -- as the code asks it
 pub singleton_told : (r : Role) → sameb the_type r Singleton ≡ is_singleton r
@@ -47,10 +43,6 @@ no_singleton Field n = refl
 -- whether a singleton has the rank
 abbrev pub is_of_rank : ℕ → Role → ℕ → Bool
 is_of_rank rank role word = is_singleton role && (word == rank)
-
--- whether a singleton has a greater rank
-abbrev pub is_greater : ℕ → Role → ℕ → Bool
-is_greater rank role word = is_singleton role && nat_lt rank word
 
 -- ---- partners
 
@@ -184,36 +176,35 @@ group_put rank new ((r, p ∷ ps) ∷ gs) h n =
         ((r, p ∷ ps) ∷ put nat_cmp rank new gs))) (sym e)
 
 -- the last spans are put before the first block of a greater rank
-pub spell_placed : (rank : ℕ) (t : Text) (list : List Span) (count : ℕ) (new : List Span)
-    (before ps : List Part) (gs : List (ℕ × List Part)) (from at : ℕ) (d : Span)
-    → AreGroups before gs → ¬ (IsAmong nat_cmp rank (map (λ (r, _). r) gs)) → length (before ++ parts_in gs)
-    ≡ from
-    → AllZip (IsSpan t) (take count list) ((before ++ parts_in gs) ++ ps) → at ≤ from → from ≤ count
-    → count ≤ length list
+pub spell_placed : (rank : ℕ) (t : Text) (list new : List Span) (before ps : List Part)
+    (gs : List (ℕ × List Part)) (from at : ℕ) (d : Span)
+    → AreGroups before gs → ¬ (IsAmong nat_cmp rank (map (λ (r, _). r) gs))
+    → length (before ++ parts_in gs) ≡ from
+    → AllZip (IsSpan t) list ((before ++ parts_in gs) ++ ps) → at ≤ from → from ≤ length list
     → list_any (λ s. is_greater rank s.role s.word) (take at list) ≡ false
     → (at < from → is_greater rank (slice_index_or list at d).role (slice_index_or list at d).word ≡ true)
-    → new ≡ take at list ++ (take (count - from) (drop from list) ++ drop at (take from list))
+    → new ≡ take at list ++ (drop (from - at) (drop at list) ++ take (from - at) (drop at list))
     → AllZip (IsSpan t) new (before ++ parts_in (put nat_cmp rank ps gs))
-spell_placed rank t list count new before ps gs from at d g n long h low middle high none some e =
+spell_placed rank t list new before ps gs from at d g n long h low middle none some e =
     let f = λ (s : Span). is_greater rank s.role s.word in
     let test = λ (p : Part). is_greater rank p.role p.word in
     let R = IsSpan t in
-    let moved = take (count - from) (drop from list) in
-    let m : from + (count - from) ≡ count = omega arith in
+    let moved = drop from list in
+    let m : at + (from - at) ≡ from = omega arith in
     let front : AllZip R (take from list) (before ++ parts_in gs) =
-    subst (λ (ss : List Span). AllZip R ss (before ++ parts_in gs)) (ap (λ k. take k (take count list)) long
-    ∙ take-take from count list middle)
-    (zip_take R (take count list) (before ++ parts_in gs) ps h) in
+    subst (λ (k : ℕ). AllZip R (take k list) (before ++ parts_in gs)) long
+    (zip_take R list (before ++ parts_in gs) ps h) in
     let back : AllZip R moved ps =
-    subst (λ (ss : List Span). AllZip R ss ps)
-    (ap (λ k. drop k (take count list)) long ∙ ap (λ k. drop from (take k list)) (sym m)
-    ∙ drop-take from (count - from) list)
-    (zip_drop R (take count list) (before ++ parts_in gs) ps h) in
-    let all : length (take from list) ≡ from = length-take-le from list (omega arith) in
+    subst (λ (k : ℕ). AllZip R (drop k list) ps) long (zip_drop R list (before ++ parts_in gs) ps h) in
+    let behind : drop (from - at) (drop at list) ≡ moved =
+    drop-drop (from - at) at list ∙ ap (λ k. drop k list) m in
+    let between : take (from - at) (drop at list) ≡ drop at (take from list) =
+    sym (drop-take at (from - at) list) ∙ ap (λ k. drop at (take k list)) m in
     let is : new ≡ inserted f moved (take from list) =
-    e ∙ (λ j. sym (take-take at from list low) j ++ (moved ++ drop at (take from list)))
+    e ∙ (λ j. sym (take-take at from list low) j ++ (behind j ++ between j))
     ∙ inserted_at f moved (take from list) at d (ap (list_any f) (take-take at from list low) ∙ none)
-    (λ l. let k : at < from = omega arith in ap f (get_or-take from list at d k) ∙ some k) (omega arith) in
+    (λ l. let k : at < from = omega (arith, length-take-le from list middle) in
+    ap f (get_or-take from list at d k) ∙ some k) (omega (arith, length-take-le from list middle)) in
     let parts : inserted test ps (before ++ parts_in gs) ≡ before ++ parts_in (put nat_cmp rank ps gs) =
     inserted_behind test ps before (parts_in gs) (none_plain (λ w. nat_lt rank w) before g.0)
     ∙ ap (λ l. before ++ l) (group_put rank ps gs g.1 n) in

@@ -5,12 +5,14 @@ pub mod PrintedBlocks
 pub mod PrintedParts
 pub mod Shifting
 pub mod Arranging
+pub mod GroupPuts
 pub mod SortingSteps
 pub mod SpansLemmas
 pub mod GroupsLemmas
 pub mod GatherLemmas
 pub mod WordLemmas
 pub mod WordsInOrder
+pub mod GroupSteps
 pub mod ValueLemmas
 pub mod CopyingLemmas
 pub mod Fronts

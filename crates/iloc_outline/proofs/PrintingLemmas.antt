@@ -23,11 +23,10 @@ use Rattle.iloc_outline.specs.Printing.{bytes_from, edited_text, is_kept, kept_p
 use Rattle.iloc_outline.specs.Printing.{span_text}
 use Rattle.iloc_spec_grammar.specs.Reading.{rest_of}
 use Rattle.iloc_outline.specs.Outlines.{Gives, parts_text}
-use Rattle.iloc_outline.specs.Spans.{AreShort, IsSpan, Spell, held_spans}
+use Rattle.iloc_outline.specs.Spans.{AreShort, IsSpan}
 use Rattle.iloc_outline.specs.Identifier.{front_text, raised}
 use Rattle.iloc_outline.specs.declared.outline.Outline.{Outline}
 use Rattle.iloc_outline.specs.declared.spans.Spans.{Spans}
-use Rattle.iloc_outline.proofs.SpansLemmas.{length-held}
 use Rattle.iloc_outline.specs.declared.span.Span.{Span}
 use Rattle.iloc_outline.specs.Parts.{Part, printed_part, printed_by}
 use Rattle.iloc_outline.specs.declared.span.Role.{Role}
@@ -400,30 +399,19 @@ spell_wider w len l [] (p ∷ ps) h = absurd h
 spell_wider w len l (s ∷ ss) [] h = absurd h
 spell_wider w len l (s ∷ ss) (p ∷ ps) h = (span_wider w len l s p h.0, spell_wider w len l ss ps h.1)
 
-pub spell_span : (t : Text) (spans : Spans) (ps : List Part) → Spell t spans ps → (i : ℕ) (d : Span)
-    → i < spans.count
-    → (p : Part) × IsSpan t (slice_index_or spans.list i d) p
-spell_span t spans ps h i d l =
-    let there = span_at t (held_spans spans) ps i d h (omega (arith, length-held spans)) in
-    (there.0, subst (λ (s : Span). IsSpan t s there.0) (get_or-take spans.count spans.list i d l) there.1)
-
 -- there is room for one span more
-pub span_room : (w : Text) (spans : Spans) (ps : List Part) → Spell w spans ps
-    → (F to : Text) (i : ℕ) (d : Span) (end : ℕ) → i < spans.count → end ≤ length to
-    → take end to ≡ F ++ flat_map (span_text w) (take i (held_spans spans))
-    → end + length (span_text w (slice_index_or spans.list i d)) ≤ length F + length (parts_text ps)
-span_room w spans ps h F to i d end l inside e =
-    let there : i < length (held_spans spans) = omega (arith, length-held spans) in
+pub span_room : (w : Text) (ss : List Span) (ps : List Part) → AllZip (IsSpan w) ss ps
+    → (F to : Text) (i : ℕ) (d : Span) (end : ℕ) → i < length ss → end ≤ length to
+    → take end to ≡ F ++ flat_map (span_text w) (take i ss)
+    → end + length (span_text w (slice_index_or ss i d)) ≤ length F + length (parts_text ps)
+span_room w ss ps h F to i d end there inside e =
     omega (
       arith,
       ap length e,
       length-take-le end to inside,
-      length-append F
-          (flat_map (span_text w) (take i (held_spans spans))),
-      flat_room (span_text w) (held_spans spans) i d there,
-      ap length (spans_are w (held_spans spans) ps h),
-      ap (λ s. length (span_text w s))
-          (get_or-take spans.count spans.list i d l),
+      length-append F (flat_map (span_text w) (take i ss)),
+      flat_room (span_text w) ss i d there,
+      ap length (spans_are w ss ps h),
     )
 
 -- ---- the front

@@ -7,7 +7,7 @@ use Rattle.std.proofs.Math.Seq.{drop-cons, take-suc, take-append-add, drop-appen
 use Rattle.std.proofs.Math.ListN.{length-map}
 use Rattle.std.proofs.lemmas.List.{map-append, take-append-drop, drop-drop, length-drop, length-take-le}
 use Rattle.std.proofs.lemmas.List.{take-take, drop-take, get_or-take, get_or-append-add, get_or-drop}
-use Rattle.std.proofs.lemmas.List.{append-nil, take-map}
+use Rattle.std.proofs.lemmas.List.{append-nil, take-map, take_all}
 use Rattle.iloc_spec_grammar.specs.Syntax.{IsAmong}
 use Rattle.iloc_outline.proofs.Arranging.{among_none, among_there, arranged, arranged_new, arranged_there}
 use Rattle.iloc_outline.proofs.Arranging.{nth, IsPlace}
@@ -110,6 +110,26 @@ module _ {X : Type 0} (word : X → ℕ) (now F xs : List X) (made : ℕ) (insid
     put_there =
         sorted
         ∙ ap (λ l. F ++ l) (sym (arranged_there word xs u (at - length F) (omega (arith, long)) here_at))
+
+-- all of a list where one was put at a place
+module _ {X : Type 0} (held new : List X) (at : ℕ) (u : X) (l : at ≤ length held)
+    (e : new ≡ take at held ++ u ∷ drop at held) where
+  pub all_new : take (length held + 1) new ≡ new
+  all_new =
+      take_all (length held + 1) new
+      (omega (
+        arith,
+        ap length e,
+        length-append (take at held) (u ∷ drop at held),
+        length-take-le at held l,
+        length-drop at held,
+      ))
+
+  pub is_new : take (length held + 1) new ≡ take at held ++ (u ∷ take (length held - at) (drop at held))
+  is_new =
+      all_new ∙ e
+      ∙ ap (λ ys. take at held ++ u ∷ ys)
+      (sym (take_all (length held - at) (drop at held) (omega (arith, length-drop at held))))
 
 -- there are as many as before, where another stood behind them
 pub same_long : {X : Type 0} (now news : List X) (made at : ℕ) (u : X) → at ≤ made → made < length now

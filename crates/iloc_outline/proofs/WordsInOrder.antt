@@ -1,5 +1,6 @@
 -- Words are passed one after another, and each is put where it belongs.
-use Rattle.std.proofs.Common.{◌≡◌, ◌⊎◌, ℕ, Bool, true, false, ◌||◌, List, [], ◌∷◌, ◌++◌, length, map, sym, ap}
+use Rattle.std.proofs.Common.{◌≡◌, ◌⊎◌, ◌≤◌, ℕ, Bool, true, false, ◌||◌, List, [], ◌∷◌, ◌++◌, length, map}
+use Rattle.std.proofs.Common.{sym, ap}
 use Rattle.std.proofs.Common.{◌∙◌, refl, subst, arith, inl, inr, length-append, true≢false}
 use Rattle.std.specs.Cmp.{nat_cmp_is, ranked}
 use Rattle.std.specs.List.{AllByRecursion, list_any}
@@ -14,23 +15,26 @@ use Rattle.iloc_spec_grammar.specs.Syntax.{Text, AllDifferent, IsAmong, IsWord, 
 use Rattle.iloc_spec_grammar.proofs.ReadBack.{all_append}
 use Rattle.iloc_spec_grammar.proofs.ReadingLaws.{keep_all, keep_while_passes}
 use Rattle.iloc_spec_grammar.proofs.ValuesLaws.{all_weaker}
+use Rattle.iloc_outline.specs.Gathering.{Gathers, Walks, pieces_in}
 use Rattle.iloc_outline.specs.Inserting.{IsPutFrom}
-use Rattle.iloc_pieces.specs.Left.{IsLater, IsNextPiece, IsPast, piece_left, pieces_left}
+use Rattle.iloc_pieces.specs.Left.{IsLater, IsNextPiece, piece_left, pieces_left}
 use Rattle.iloc_pieces.specs.Left.{whole_text}
 use Rattle.iloc_pieces.specs.Words.{IsUpToEight, word_number}
 use Rattle.iloc_outline.specs.Parts.{Part, word_part}
 use Rattle.iloc_outline.specs.Reading.{IsOfWord, IsTooMuch, MayBe, ReadsWords, role_kind, words_of}
-use Rattle.iloc_outline.specs.Spans.{IsSpan}
+use Rattle.iloc_outline.specs.Spans.{IsSpan, held_spans}
 use Rattle.iloc_pieces.specs.declared.cursor.Left.{Left}
 use Rattle.iloc_outline.specs.declared.sorting.Inserted.{Inserted}
-use Rattle.iloc_outline.specs.declared.sorting.Inserted.TheVariants.{Put, There, Full}
+use Rattle.iloc_outline.specs.declared.sorting.Inserted.TheVariants.{Put, There}
 use Rattle.iloc_outline.specs.declared.span.Role.{Role}
 use Rattle.iloc_outline.specs.declared.span.Role.TheVariants as roles
+use Rattle.iloc_outline.specs.declared.span.Span.{Span}
 use Rattle.iloc_outline.specs.declared.spans.Spans.{Spans}
-use Rattle.iloc_outline.proofs.GatherLemmas.{Gathers, gathers_few, gathers_full, gathers_none, gathers_put}
-use Rattle.iloc_outline.proofs.GatherLemmas.{gathers_puts, gathers_there, pieces_in}
+use Rattle.iloc_outline.proofs.GatherLemmas.{gathers_few, gathers_none, gathers_put, gathers_puts}
+use Rattle.iloc_outline.proofs.GatherLemmas.{gathers_there}
 use Rattle.iloc_pieces.proofs.LeftLemmas.{last_piece, past_next, past_none, pieces_end}
 use Rattle.iloc_outline.proofs.RoleLemmas.{short_kind}
+use Rattle.iloc_outline.proofs.SpansLemmas.{length-held}
 use Rattle.iloc_outline.proofs.WordLemmas.{ends_before, length-pieces_of, passing_cut, passing_more, span_of}
 use Rattle.iloc_outline.proofs.WordLemmas.{word_fits, word_next, word_span}
 use Rattle.iloc_pieces.proofs.WordOrder.{word_order}
@@ -104,15 +108,7 @@ pieces_words r (p ∷ ps) = ap (λ l. p ∷ l) (pieces_words r ps)
 numbers_words : (r : Role) (ps : List Text) → map (λ p. p.word) (map (word_part r) ps) ≡ map word_number ps
 numbers_words r ps = map-map (λ p. p.word) (word_part r) ps
 
--- from l on these words were passed and put in order
-pub record Walks (r : Role) (l at : Left) (old new : Spans) (last : ℕ) (o n : Bool) : Type 0 where
-  pub words : List Text
-  pub past : IsPast l at words
-  pub each : AllByRecursion (IsWord (role_kind r)) words
-  pub gathers : Gathers (whole_text l) (map (word_part r) words) old new last o n
-  pub differ : r ≡ roles.Variant → AllDifferent nat_cmp (map word_number words)
-
-pub walks_none : (r : Role) (l : Left) → IsLater l → (s : Spans) (o : Bool) →
+pub walks_none : (r : Role) (l : Left) → IsLater l → (s : List Span) (o : Bool) →
     Walks r l l s s 0 o o
 walks_none r l k s o = record {
   words = [];
@@ -125,29 +121,46 @@ walks_none r l k s o = record {
 -- words that were put in order are read
 walked : (r : Role) (l : Left) (ps : List Text) (old new : Spans) (last : ℕ) (o n : Bool)
     → ps ≡ words_of r (pieces_left l) → AllByRecursion (IsWord (role_kind r)) ps
-    → Gathers (whole_text l) (map (word_part r) ps) old new last o n
+    → Gathers (whole_text l) (map (word_part r) ps) (held_spans old) (held_spans new) last o n
     → (r ≡ roles.Variant → AllDifferent nat_cmp (map word_number ps)) → ReadsWords r l ps old new o n
 walked r l ps old new last o n e each g d = record {
   words = e;
   may_be = may_be r ps (all_weaker (IsWord (role_kind r)) IsUpToEight (word_fits r) ps each) d;
-  puts = gathers_puts _ _ _ _ _ _ _ g ps (pieces_words r ps) (omega (arith, length-map ps (word_part r)));
+  puts = gathers_puts _ _ _ _ _ _ _ g old new refl refl ps (pieces_words r ps)
+      (omega (arith, length-map ps (word_part r)));
 }
 
 -- a word was put, or is there already and no variant
 abbrev pub IsKept : Role → Inserted → Type 0
 IsKept r i = (i ≡ Put) ⊎ (i ≡ There) × (r ≡ roles.Variant → ⊥)
 
-module _ (r : Role) (l at : Left) (old mid : Spans) (last : ℕ) (o n : Bool)
-    (w : Walks r l at old mid last o n) where
+module _ (r : Role) (l at : Left) (old : Spans) (mid : List Span) (last : ℕ) (o n : Bool)
+    (w : Walks r l at (held_spans old) mid last o n) where
   -- where no word comes next
-  pub walks_past : is_word (role_kind r) (piece_left at) ≡ false → ReadsWords r l w.words old mid o n
-  walks_past none =
+  pub walks_past : (new : Spans) → mid ≡ held_spans new → is_word (role_kind r) (piece_left at) ≡ false
+      → ReadsWords r l w.words old new o n
+  walks_past new e none =
       let k = role_kind r in
       let cut = passing_cut (is_word k) w.words (pieces_left at) w.each (ends_before k at none) in
-      walked r l w.words old mid last o n (sym (ap (words_of r) w.past.pieces ∙ cut)) w.each w.gathers
+      walked r l w.words old new last o n (sym (ap (words_of r) w.past.pieces ∙ cut)) w.each
+      (subst (λ ss. Gathers (whole_text l) (map (word_part r) w.words) (held_spans old) ss last o n) e
+      w.gathers)
       w.differ
 
-  module _ (role : IsOfWord r) (word : IsWord (role_kind r) (piece_left at)) (new : Spans) (k : Bool)
+  -- where there is no room
+  pub walks_full : 64 ≤ length mid → IsTooMuch old (length (pieces_left l))
+  walks_full full =
+      omega (
+        arith,
+        full,
+        gathers_few _ _ _ _ _ _ _ w.gathers,
+        length-map w.words (word_part r),
+        ap length w.past.pieces,
+        length-append w.words (pieces_left at),
+        length-pieces_of at,
+      )
+
+  module _ (role : IsOfWord r) (word : IsWord (role_kind r) (piece_left at)) (new : List Span) (k : Bool)
       (m now : ℕ)
       (e : m ≡ word_number (piece_left at)) where
     abbrev more : List Text
@@ -164,25 +177,17 @@ module _ (r : Role) (l at : Left) (old mid : Spans) (last : ℕ) (o n : Bool)
     abbrev IsNow : Inserted → Type 0
     IsNow i = IsPutFrom old.count (span_of r m at) mid new last now n k i
 
-    -- where there is no room
-    pub walks_full : (i : Inserted) → IsNow i → i ≡ Full → IsTooMuch old (length (pieces_left l))
-    walks_full i h is =
-        let full = gathers_full _ parts old mid last o n w.gathers new now k _ _ span (subst IsNow is h) in
-        omega (
-          arith,
-          full,
-          gathers_few _ _ _ _ _ _ _ w.gathers,
-          length-map w.words (word_part r),
-          ap length w.past.pieces,
-          length-append w.words (pieces_left at),
-          length-pieces_of at,
-        )
+    counted : (i : Inserted) → IsNow i
+        → IsPutFrom (length (held_spans old)) (span_of r m at) mid new last now n k i
+    counted i =
+        subst (λ (q : ℕ). IsPutFrom q (span_of r m at) mid new last now n k i) (sym (length-held old))
 
     -- where a number is there, words are not all different
     pub walks_repeat : (i : Inserted) → IsNow i → i ≡ There
         → ¬ (AllDifferent word_cmp (map lower (words_of r (pieces_left l))))
     walks_repeat i h is d =
-        let g = gathers_there _ parts old mid last o n w.gathers new now k _ _ span (subst IsNow is h) in
+        let g = gathers_there _ parts (held_spans old) mid last o n w.gathers new now k _ _ span
+        (counted There (subst IsNow is h)) in
         let eights : AllByRecursion IsUpToEight (words_of r (pieces_left l)) =
         all_weaker (IsWord (role_kind r)) IsUpToEight (word_fits r) _
         (keep_while_passes (is_word (role_kind r)) (pieces_left l)) in
@@ -204,20 +209,23 @@ module _ (r : Role) (l at : Left) (old mid : Spans) (last : ℕ) (o n : Bool)
 
     -- the word was put, or is there and may be
     module _ (i : Inserted) (h : IsNow i) (may : IsKept r i) where
-      gathered : Gathers (whole_text l) (map (word_part r) more) old new now o k
+      gathered : Gathers (whole_text l) (map (word_part r) more) (held_spans old) new now o k
       gathered =
-          subst (λ ps. Gathers (whole_text l) ps old new now o k)
+          subst (λ ps. Gathers (whole_text l) ps (held_spans old) new now o k)
           (sym (map-append (word_part r) w.words (piece_left at ∷ []))) (elim may [
             | inl is ↦
-                (gathers_put _ parts old mid last o n w.gathers new now k _ _ span (subst IsNow is h)).0
+                (gathers_put _ parts (held_spans old) mid last o n w.gathers new now k _ _ span
+                (counted Put (subst IsNow is h))).0
             | inr b ↦
-                (gathers_there _ parts old mid last o n w.gathers new now k _ _ span (subst IsNow b.0 h)).0
+                (gathers_there _ parts (held_spans old) mid last o n w.gathers new now k _ _ span
+                (counted There (subst IsNow b.0 h))).0
           ])
 
       differ_more : r ≡ roles.Variant → AllDifferent nat_cmp (map word_number more)
       differ_more v = elim may [
         | inl is ↦
-            let g = gathers_put _ parts old mid last o n w.gathers new now k _ _ span (subst IsNow is h) in
+            let g = gathers_put _ parts (held_spans old) mid last o n w.gathers new now k _ _ span
+            (counted Put (subst IsNow is h)) in
             subst (AllDifferent nat_cmp) numbers_more
             (different_more (map word_number w.words) (word_number (piece_left at)) (w.differ v)
             (λ a. g.1 (subst (IsAmong nat_cmp (word_number (piece_left at)))
@@ -226,7 +234,7 @@ module _ (r : Role) (l at : Left) (old mid : Spans) (last : ℕ) (o n : Bool)
       ]
 
       -- one word more
-      pub walks_more : (next : Left) → IsNextPiece at next → Walks r l next old new now o k
+      pub walks_more : (next : Left) → IsNextPiece at next → Walks r l next (held_spans old) new now o k
       walks_more next k = record {
         words = more;
         past = past_next w.past (short_kind r (piece_left at) word) k;
@@ -236,11 +244,15 @@ module _ (r : Role) (l at : Left) (old mid : Spans) (last : ℕ) (o n : Bool)
       }
 
       -- the last one
-      pub walks_end : at.n ≡ at.len → ReadsWords r l (pieces_left l) old new o k
-      walks_end end =
+      pub walks_end : (then : Spans) → new ≡ held_spans then → at.n ≡ at.len
+          → ReadsWords r l (pieces_left l) old then o k
+      walks_end then s end =
           let all : pieces_left l ≡ more =
           pieces_end w.past (last_piece at end (short_kind r (piece_left at) word)) in
-          subst (λ ps. ReadsWords r l ps old new o k) (sym all)
-          (walked r l more old new now o k
+          subst (λ ps. ReadsWords r l ps old then o k) (sym all)
+          (walked r l more old then now o k
           (sym (ap (words_of r) all ∙ keep_all (is_word (role_kind r)) more each_more))
-          each_more gathered differ_more)
+          each_more
+          (subst (λ ss. Gathers (whole_text l) (map (word_part r) more) (held_spans old) ss now o k) s
+          gathered)
+          differ_more)

@@ -1,5 +1,5 @@
 -- What the readers of parts find.
-use Rattle.std.specs.Prelude.{◌≡◌, ◌⊎◌, ℕ, ◌+◌, ◌-◌, ◌^◌, ◌<◌, ◌≤◌, Bool, true, false, List, [], ◌∷◌, ◌++◌}
+use Rattle.std.specs.Prelude.{◌≡◌, ◌⊎◌, ℕ, ◌+◌, ◌-◌, ◌<◌, ◌≤◌, Bool, true, false, List, [], ◌∷◌, ◌++◌}
 use Rattle.std.specs.Prelude.{length, map}
 use Rattle.std.specs.Prelude.{flat_map, ⊤, Option, Some, None}
 use Rattle.std.specs.List.{AllByRecursion}
@@ -11,6 +11,7 @@ use Rattle.iloc_spec_grammar.specs.Syntax.{AllDifferent}
 use Rattle.iloc_spec_grammar.specs.Reading.{passing}
 use Rattle.iloc_spec_grammar.specs.Computing.{is_block, repeats_variant}
 use Rattle.iloc_pieces.specs.Left.{IsLater, IsPast, IsSpanned, piece_left, pieces_left, whole_text}
+use Rattle.iloc_pieces.specs.Words.{word_number}
 use Rattle.iloc_outline.specs.Parts.{Part, printed_part, word_part, field_part, in_order, block_parts}
 use Rattle.iloc_outline.specs.Spans.{AddsParts, held_spans}
 use Rattle.iloc_pieces.specs.declared.cursor.Left.{Left}
@@ -21,14 +22,9 @@ use Rattle.iloc_outline.specs.declared.span.Role.TheVariants as roles
 use Rattle.iloc_outline.specs.declared.span.Span.{Span}
 use Rattle.iloc_outline.specs.declared.spans.Spans.{Spans}
 
--- a hyphen comes before l, in a text of which sixteen bits hold every place
-pub record IsWithin (l : Left) : Type 0 where
-  pub later : IsLater l
-  pub few : l.at + l.len < 2 ^ 16
-
--- and before that a singleton, whose hyphen stands at start
+-- a hyphen comes before l, and before that a singleton, whose hyphen stands at start
 pub record FollowsSingleton (start : ℕ) (l : Left) : Type 0 where
-  pub within : IsWithin l
+  pub later : IsLater l
   pub before : start < l.at
 
 -- the pieces ps were put as these parts; if the text is still in order, they are printed as they stand
@@ -56,6 +52,16 @@ IsOfWord _ = ¬ ⊤
 -- the words of a role that come first among the pieces
 abbrev pub words_of : Role → List Text → List Text
 words_of r ps = passing (is_word (role_kind r)) ps
+
+-- the span of a word
+abbrev pub word_span : Role → Left → Span
+word_span r l = record {
+  word = word_number (piece_left l);
+  start = l.at - 1;
+  end = l.at + l.n;
+  role = r;
+  edited = false;
+}
 
 -- variants differ
 abbrev pub MayBe : Role → List Text → Type 0

@@ -3,8 +3,8 @@ ghost use Rattle.std.specs.Prelude.{◌≡◌, ◌≢◌, true};
 ghost use Rattle.std.specs.Char.{is_ascii_alphanumeric};
 ghost use Rattle.iloc_spec_grammar.specs.Syntax.{code_u, is_one_byte};
 ghost use Rattle.iloc_outline.specs.Blocks.{AreBegun, AreBlocksRead, HasSingletonBefore, IsBlockReadAt};
-ghost use Rattle.iloc_pieces.specs.Left.{piece_left, whole_text};
-ghost use Rattle.iloc_outline.specs.Reading.{FollowsSingleton, IsWithin};
+ghost use Rattle.iloc_pieces.specs.Left.{IsLater, piece_left, whole_text};
+ghost use Rattle.iloc_outline.specs.Reading.{FollowsSingleton};
 ghost use Rattle.iloc_outline.specs.Parts.{rank};
 
 use crate::other::{read_other, read_private};
@@ -43,6 +43,7 @@ fn read_body(
     left: &mut Left<'_>,
     spans: &mut Spans,
     in_order: &mut bool,
+    grows: bool,
 ) -> Found
     requires follows { FollowsSingleton start left.old }
     requires singleton { HasSingletonBefore byte start left.old }
@@ -51,9 +52,9 @@ fn read_body(
         in_order.new result }
 {
     if byte == b'u' {
-        return read_unicode(start, left, spans, in_order);
+        return read_unicode(start, left, spans, in_order, grows);
     }
-    read_another(byte, start, left, spans, in_order)
+    read_another(byte, start, left, spans, in_order, grows)
 }
 
 // What follows another singleton than `u`. The reader of it works on a copy, so that the cursor need not be stored. Where
@@ -65,6 +66,7 @@ fn read_another(
     left: &mut Left<'_>,
     spans: &mut Spans,
     in_order: &mut bool,
+    grows: bool,
 ) -> Found
     requires follows { FollowsSingleton start left.old }
     requires singleton { HasSingletonBefore byte start left.old }
@@ -74,7 +76,7 @@ fn read_another(
         in_order.new result }
 {
     let mut next = *left;
-    let found = read_apart(byte, start, &mut next, spans, in_order);
+    let found = read_beside(byte, start, &mut next, spans, in_order, grows);
     if let Found::Next = found {
         *left = Left {
             window: left.window,
@@ -88,7 +90,29 @@ fn read_another(
     found
 }
 
-// Reads what follows another singleton than `u`. It is a call of its own, so that readers of `u` stay small.
+// Reads what follows another singleton than `u`, by one of two calls. Each is apart, so that readers of `u` stay small.
+#[inline(always)]
+fn read_beside(
+    byte: u8,
+    start: usize,
+    left: &mut Left<'_>,
+    spans: &mut Spans,
+    in_order: &mut bool,
+    grows: bool,
+) -> Found
+    requires follows { FollowsSingleton start left.old }
+    requires letter { is_ascii_alphanumeric byte ≡ true }
+    requires another { byte ≢ code_u }
+    ensures { IsBlockReadAt byte start left.old left.new spans.old spans.new in_order.old
+        in_order.new result }
+{
+    if grows {
+        return read_apart_growing(byte, start, left, spans, in_order);
+    }
+    read_apart(byte, start, left, spans, in_order)
+}
+
+// Reads it with the room in place.
 #[inline(never)]
 fn read_apart(
     byte: u8,
@@ -103,17 +127,58 @@ fn read_apart(
     ensures { IsBlockReadAt byte start left.old left.new spans.old spans.new in_order.old
         in_order.new result }
 {
+    read_by_singleton::<false>(byte, start, left, spans, in_order)
+}
+
+// Reads it with room that grows.
+#[inline(never)]
+fn read_apart_growing(
+    byte: u8,
+    start: usize,
+    left: &mut Left<'_>,
+    spans: &mut Spans,
+    in_order: &mut bool,
+) -> Found
+    requires follows { FollowsSingleton start left.old }
+    requires letter { is_ascii_alphanumeric byte ≡ true }
+    requires another { byte ≢ code_u }
+    ensures { IsBlockReadAt byte start left.old left.new spans.old spans.new in_order.old
+        in_order.new result }
+{
+    read_by_singleton::<true>(byte, start, left, spans, in_order)
+}
+
+// Reads what follows `t`, `x` or another singleton.
+#[inline(always)]
+fn read_by_singleton<const GROWS: bool>(
+    byte: u8,
+    start: usize,
+    left: &mut Left<'_>,
+    spans: &mut Spans,
+    in_order: &mut bool,
+) -> Found
+    requires follows { FollowsSingleton start left.old }
+    requires letter { is_ascii_alphanumeric byte ≡ true }
+    requires another { byte ≢ code_u }
+    ensures { IsBlockReadAt byte start left.old left.new spans.old spans.new in_order.old
+        in_order.new result }
+{
     match byte {
-        b't' => read_transform(start, left, spans, in_order),
-        b'x' => read_private(start, left, spans),
-        _ => read_other(byte, start, left, spans, in_order),
+        b't' => read_transform(start, left, spans, in_order, GROWS),
+        b'x' => read_private(start, left, spans, GROWS),
+        _ => read_other(byte, start, left, spans, in_order, GROWS),
     }
 }
 
 /// Reads the blocks from a singleton on, and puts them in the order of their singletons.
 #[inline(always)]
-pub fn read_blocks(left: &mut Left<'_>, spans: &mut Spans, in_order: &mut bool) -> Blocks
-    requires within { IsWithin left.old }
+pub fn read_blocks(
+    left: &mut Left<'_>,
+    spans: &mut Spans,
+    in_order: &mut bool,
+    grows: bool,
+) -> Blocks
+    requires later { IsLater left.old }
     requires single { is_one_byte (piece_left left.old) ≡ true }
     requires begun { AreBegun (whole_text left.old) spans.old }
     ensures { AreBlocksRead left.old spans.old spans.new in_order.old in_order.new result }
@@ -137,7 +202,7 @@ pub fn read_blocks(left: &mut Left<'_>, spans: &mut Spans, in_order: &mut bool) 
         let from = spans.count;
         let start = left.at - 1;
         advance(left);
-        let found = read_body(byte, start, left, spans, in_order);
+        let found = read_body(byte, start, left, spans, in_order, grows);
         match found {
             Found::Bad => return Blocks::Refused(ParseError::InvalidExtension),
             Found::Repeated => return Blocks::Refused(ParseError::InvalidSubtag),

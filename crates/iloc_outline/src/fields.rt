@@ -2,7 +2,7 @@
 ghost use Rattle.std.specs.Prelude.{◌≡◌, false};
 ghost use Rattle.iloc_spec_grammar.specs.Syntax.{is_word};
 ghost use Rattle.iloc_pieces.specs.Left.{IsLater, IsShortPiece, piece_left};
-ghost use Rattle.iloc_outline.specs.Reading.{AreFieldsRead, IsOfField, IsWithin, role_key};
+ghost use Rattle.iloc_outline.specs.Reading.{AreFieldsRead, IsOfField, role_key};
 ghost use Rattle.iloc_outline.specs.Fields.{PrintsAsItIs, IsValueRead};
 
 use crate::reading::Found;
@@ -81,9 +81,15 @@ fn is_edited(role: Role, value: &Value) -> bool
 /// Reads the keywords or fields that come first, and puts their spans in order; of equal keys the first stays. A key of `t`
 /// has a value.
 #[inline(always)]
-pub fn read_fields(role: Role, left: &mut Left<'_>, spans: &mut Spans, in_order: &mut bool) -> Found
+pub fn read_fields(
+    role: Role,
+    left: &mut Left<'_>,
+    spans: &mut Spans,
+    in_order: &mut bool,
+    grows: bool,
+) -> Found
     requires role { IsOfField role }
-    requires within { IsWithin left.old }
+    requires later { IsLater left.old }
     ensures { AreFieldsRead role left.old left.new spans.old spans.new in_order.old in_order.new
         result }
 {
@@ -98,12 +104,12 @@ pub fn read_fields(role: Role, left: &mut Left<'_>, spans: &mut Spans, in_order:
         }
         let span = Span {
             word,
-            start: start as u16,
-            end: value.end as u16,
+            start,
+            end: value.end,
             role,
             edited: is_edited(role, &value),
         };
-        if let Inserted::Full = put_from(spans, from, &mut last, span, in_order) {
+        if let Inserted::Full = put_from(spans, from, &mut last, span, in_order, grows) {
             return Found::Full;
         }
         if value.is_end {

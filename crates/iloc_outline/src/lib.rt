@@ -6,18 +6,21 @@
 //!
 //! `outline_identifier` and `outline_locale` promise that a text has the fault that they name, or that the outline's
 //! text is the normal text (`IsIdentifierOutlined`, `IsLocaleOutlined`). `Full` says that the text has more than 64
-//! pieces. They take texts of fewer than 65,536 bytes that begin with a language. `copy_outline` writes the normal text.
+//! pieces, for so many spans have room in place. `outline_long_identifier` and `outline_long_locale` read such a text where
+//! the room grows (`more`), and then `Full` comes only if memory is refused. Many words are put in order by a tree
+//! (`group`). All of them take texts that begin with a language. `copy_outline` writes the normal text.
 //!
 //! `iloc_normalize` asks it of each identifier and each locale that is not plain, and whose beginning does not refuse it.
 //! docs/DECISIONS.md says what that costs.
 //!
-//! It stands on the grammar (`iloc_spec_grammar`), on pieces (`iloc_pieces`), on `iloc_pieces`, on the refusals of
-//! `iloc_subtags` and on definitions of `iloc_pieces`.
+//! It stands on the grammar (`iloc_spec_grammar`), on pieces (`iloc_pieces`) and on the refusals of `iloc_subtags`.
 #![tactic(auto)]
 
 pub mod blocks;
 pub mod fields;
+pub mod group;
 pub mod identifier;
+pub mod more;
 pub mod other;
 pub mod outline;
 pub mod printing;

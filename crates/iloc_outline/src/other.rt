@@ -15,7 +15,7 @@ const LAST: u64 = 255;
 
 /// Reads private subtags up to the end of the text, one at least. The singleton begins at the hyphen at `start`.
 #[inline(always)]
-pub fn read_private(start: usize, left: &mut Left<'_>, spans: &mut Spans) -> Found
+pub fn read_private(start: usize, left: &mut Left<'_>, spans: &mut Spans, grows: bool) -> Found
     requires follows { FollowsSingleton start left.old }
     ensures { (c : ℕ) → to_ascii_lowercase c ≡ code_x
         → IsSpanned (whole_text left.old) start (left.old.at - 1) ((c ∷ []) ∷ [])
@@ -25,12 +25,12 @@ pub fn read_private(start: usize, left: &mut Left<'_>, spans: &mut Spans) -> Fou
         if is_last(*left) {
             let span = Span {
                 word: LAST,
-                start: start as u16,
-                end: (left.at + left.n) as u16,
+                start,
+                end: left.at + left.n,
                 role: Role::Singleton,
                 edited: false,
             };
-            if !spans.put(span) {
+            if !spans.put(span, grows) {
                 return Found::Full;
             }
             return Found::End;
@@ -49,6 +49,7 @@ pub fn read_other(
     left: &mut Left<'_>,
     spans: &mut Spans,
     in_order: &mut bool,
+    grows: bool,
 ) -> Found
     requires follows { FollowsSingleton start left.old }
     requires other { is_other_singleton byte ≡ true }
@@ -68,7 +69,7 @@ pub fn read_other(
                 return Found::Bad;
             }
             let end = left.at + left.n;
-            return put_other(byte, start, end, edited, spans, in_order, Found::End);
+            return put_other(byte, start, end, edited, spans, in_order, grows, Found::End);
         }
         advance(left);
     }
@@ -76,7 +77,16 @@ pub fn read_other(
         return Found::Bad;
     }
     let end = left.at - 1;
-    put_other(byte, start, end, edited, spans, in_order, Found::Next)
+    put_other(
+        byte,
+        start,
+        end,
+        edited,
+        spans,
+        in_order,
+        grows,
+        Found::Next,
+    )
 }
 
 // Puts the span of the block, which is edited if a piece is left out.
@@ -88,10 +98,9 @@ fn put_other(
     edited: bool,
     spans: &mut Spans,
     in_order: &mut bool,
+    grows: bool,
     found: Found,
 ) -> Found
-    requires start { start < 2 ^ 16 }
-    requires end { end < 2 ^ 16 }
     ensures { IsPutOther (block_span byte start end edited) spans.old spans.new in_order.old
         in_order.new found result }
 {
@@ -100,12 +109,12 @@ fn put_other(
     }
     let span = Span {
         word: byte as u64,
-        start: start as u16,
-        end: end as u16,
+        start,
+        end,
         role: Role::Singleton,
         edited,
     };
-    if !spans.put(span) {
+    if !spans.put(span, grows) {
         return Found::Full;
     }
     found

@@ -1,5 +1,5 @@
 //! The outline of a text, as an identifier or as a locale.
-ghost use Rattle.std.specs.Prelude.{◌≡◌, ◌↔◌, ◌≤◌, ◌<◌, ◌+◌, ◌^◌, [], IsTrue, length, take};
+ghost use Rattle.std.specs.Prelude.{◌≡◌, ◌↔◌, ◌≤◌, ◌<◌, ◌+◌, [], IsTrue, length, take};
 ghost use Rattle.iloc_pieces.specs.Left.{bytes_left};
 ghost use Rattle.iloc_outline.specs.Outlines.{AreHeadRead, BeginsWithLanguage, IsFinished, IsIdentifierOutlined, IsLocaleOutlined};
 
@@ -72,9 +72,8 @@ fn begins_few(window: &[u8], len: usize) -> bool
 
 /// Reads the identifier at the beginning of a text. In `in_order` it says whether its variants are in order.
 #[inline(always)]
-pub fn read_head(left: &mut Left<'_>, spans: &mut Spans, in_order: &mut bool) -> Head
+pub fn read_head(left: &mut Left<'_>, spans: &mut Spans, in_order: &mut bool, grows: bool) -> Head
     requires first { left.old.at ≡ 0 }
-    requires few { left.old.len < 2 ^ 16 }
     requires begins { BeginsWithLanguage (bytes_left left.old) }
     ensures { AreHeadRead (bytes_left left.old) left.new spans.new in_order.new result }
 {
@@ -89,7 +88,7 @@ pub fn read_head(left: &mut Left<'_>, spans: &mut Spans, in_order: &mut bool) ->
     if front.is_all {
         return Head::All(outline);
     }
-    match read_words(Role::Variant, left, spans, in_order) {
+    match read_words(Role::Variant, left, spans, in_order, grows) {
         Found::End => Head::All(outline),
         Found::Next => {
             if !is_single(*left) {
@@ -118,17 +117,37 @@ pub fn finished(outline: Outline, end: usize, spans: &mut Spans, in_order: bool)
     }
 }
 
-/// The outline of the first `len` bytes as an identifier.
+/// The outline of the first `len` bytes as an identifier. `Full` comes only if there are more than 64 pieces.
 #[inline(always)]
 pub fn outline_identifier(window: &[u8], len: usize, spans: &mut Spans) -> Outlined
     requires inside { len ≤ length window.now }
-    requires few { len < 2 ^ 16 }
+    requires begins { BeginsWithLanguage (take len window.now) }
+    ensures { IsIdentifierOutlined (take len window.now) spans.new result }
+{
+    read_identifier::<false>(window, len, spans)
+}
+
+/// It again, where the room in place was too small: `Full` says that the spans may not grow, or that memory was refused.
+#[inline(never)]
+pub fn outline_long_identifier(window: &[u8], len: usize, spans: &mut Spans) -> Outlined
+    requires inside { len ≤ length window.now }
+    requires begins { BeginsWithLanguage (take len window.now) }
+    ensures { IsIdentifierOutlined (take len window.now) spans.new result }
+{
+    read_identifier::<true>(window, len, spans)
+}
+
+// Reads the first `len` bytes as an identifier, with room that grows or not. Each is a function of its own with one caller,
+// so that it is inlined.
+#[inline(always)]
+fn read_identifier<const GROWS: bool>(window: &[u8], len: usize, spans: &mut Spans) -> Outlined
+    requires inside { len ≤ length window.now }
     requires begins { BeginsWithLanguage (take len window.now) }
     ensures { IsIdentifierOutlined (take len window.now) spans.new result }
 {
     let mut left = left_in(window, len);
     let mut in_order = true;
-    match read_head(&mut left, spans, &mut in_order) {
+    match read_head(&mut left, spans, &mut in_order, GROWS) {
         Head::All(outline) => Outlined::Normal(finished(outline, len, spans, in_order)),
         Head::Block(_) => Outlined::Refused(ParseError::InvalidSubtag),
         Head::Refused(error) => Outlined::Refused(error),
@@ -136,23 +155,42 @@ pub fn outline_identifier(window: &[u8], len: usize, spans: &mut Spans) -> Outli
     }
 }
 
-/// The outline of the first `len` bytes as a locale.
+/// The outline of the first `len` bytes as a locale. `Full` comes only if there are more than 64 pieces.
 #[inline(always)]
 pub fn outline_locale(window: &[u8], len: usize, spans: &mut Spans) -> Outlined
     requires inside { len ≤ length window.now }
-    requires few { len < 2 ^ 16 }
+    requires begins { BeginsWithLanguage (take len window.now) }
+    ensures { IsLocaleOutlined (take len window.now) spans.new result }
+{
+    read_locale::<false>(window, len, spans)
+}
+
+/// It again, where the room in place was too small: `Full` says that the spans may not grow, or that memory was refused.
+#[inline(never)]
+pub fn outline_long_locale(window: &[u8], len: usize, spans: &mut Spans) -> Outlined
+    requires inside { len ≤ length window.now }
+    requires begins { BeginsWithLanguage (take len window.now) }
+    ensures { IsLocaleOutlined (take len window.now) spans.new result }
+{
+    read_locale::<true>(window, len, spans)
+}
+
+// Reads the first `len` bytes as a locale, in two functions likewise.
+#[inline(always)]
+fn read_locale<const GROWS: bool>(window: &[u8], len: usize, spans: &mut Spans) -> Outlined
+    requires inside { len ≤ length window.now }
     requires begins { BeginsWithLanguage (take len window.now) }
     ensures { IsLocaleOutlined (take len window.now) spans.new result }
 {
     let mut left = left_in(window, len);
     let mut in_order = true;
-    let outline = match read_head(&mut left, spans, &mut in_order) {
+    let outline = match read_head(&mut left, spans, &mut in_order, GROWS) {
         Head::All(outline) => return Outlined::Normal(finished(outline, len, spans, in_order)),
         Head::Block(outline) => outline,
         Head::Refused(error) => return Outlined::Refused(error),
         Head::Full => return Outlined::Full,
     };
-    match read_blocks(&mut left, spans, &mut in_order) {
+    match read_blocks(&mut left, spans, &mut in_order, GROWS) {
         Blocks::Good => Outlined::Normal(finished(outline, len, spans, in_order)),
         Blocks::Refused(error) => Outlined::Refused(error),
         Blocks::Full => Outlined::Full,

@@ -182,8 +182,8 @@ fn copy_edited(window: &[u8], span: &Span, to: &mut [u8], start: usize) -> usize
     ensures copied { take result to.new ≡ take start to.old
         ++ edited_text span.now.role (behind_hyphen window.now span.now) }
 {
-    let from = span.start as usize + 1;
-    let first = left_in(&window[from..], span.end as usize - from);
+    let from = span.start + 1;
+    let first = left_in(&window[from..], span.end - from);
     let role = printed_role(span.role, first);
     let begun = copy_piece(first, to, start);
     let end = copy_kept(role, first, to, begun);
@@ -208,8 +208,8 @@ fn copy_span(window: &[u8], span: &Span, to: &mut [u8], start: usize) -> usize
     if span.edited {
         return copy_edited(window, span, to, start);
     }
-    let from = span.start as usize;
-    let count = span.end as usize - from;
+    let from = span.start;
+    let count = span.end - from;
     copy_lower(window, from, count, to, start);
     start + count
 }
@@ -235,9 +235,10 @@ pub fn copy_spans(window: &[u8], spans: &Spans, to: &mut [u8], start: usize) -> 
     ensures copied { (ps : List Part) → Spell window.now spans.now ps
         → take result to.new ≡ take start to.old ++ parts_text ps }
 {
+    let held = spans.as_slice();
     let mut end = start;
-    for i in 0..spans.count {
-        end = copy_span(window, &spans.list[i], to, end);
+    for i in 0..held.len() {
+        end = copy_span(window, &held[i], to, end);
     }
     end
 }

@@ -1,12 +1,13 @@
 //! Spans in order.
-ghost use Rattle.std.specs.Prelude.{◌≡◌, ◌≢◌, ◌+◌, ◌-◌, ◌<◌, ◌≤◌, ◌↔◌, ℕ, List, [], ◌∷◌, ◌++◌, IsTrue, length, map, slice_index, take, drop, true, false};
+ghost use Rattle.std.specs.Prelude.{◌≡◌, ◌≢◌, ◌+◌, ◌-◌, ◌<◌, ◌≤◌, ◌↔◌, ℕ, List, [], ◌∷◌, ◌++◌, IsTrue, length, map, slice_index, slice_index_or, take, drop, true, false};
+ghost use Rattle.std.specs.List.{list_any};
 ghost use Rattle.std.specs.Ordering.{nat_cmp};
 ghost use Rattle.std.specs.FinMap.{is_sorted, put};
 ghost use Rattle.iloc_spec_grammar.specs.Syntax.{Text, IsAmong};
 ghost use Rattle.iloc_outline.specs.Parts.{Part};
-ghost use Rattle.iloc_outline.specs.Spans.{Spell};
-ghost use Rattle.iloc_outline.specs.Inserting.{IsSpanInserted, IsPutFrom};
-ghost use Rattle.iloc_outline.specs.Groups.{AreGroups, parts_in};
+ghost use Rattle.iloc_outline.specs.Spans.{Spell, held_spans};
+ghost use Rattle.iloc_outline.specs.Inserting.{IsInserted, IsPutFrom};
+ghost use Rattle.iloc_outline.specs.Groups.{AreGroups, is_greater, parts_in};
 
 use crate::span::{Role, Span};
 use crate::spans::{MOST, Spans};
@@ -31,20 +32,22 @@ pub fn put_from(
     last: &mut u64,
     span: Span,
     in_order: &mut bool,
+    grows: bool,
 ) -> Inserted
     requires { from ≤ spans.old.count }
-    ensures { IsPutFrom from span spans.old spans.new last.old last.new in_order.old in_order.new
-        result }
+    ensures put { IsPutFrom from span (held_spans spans.old) (held_spans spans.new)
+        last.old last.new in_order.old in_order.new result }
+    ensures full { result ≡ Inserted.Full → 64 ≤ length (held_spans spans.old) }
 {
     if span.edited {
         *in_order = false;
     }
     if span.word <= *last {
         *in_order = false;
-        return insert_from(spans, from, span);
+        return insert_from(spans, from, span.apart());
     }
     *last = span.word;
-    if spans.put(span) {
+    if spans.put(span, grows) {
         Inserted::Put
     } else {
         Inserted::Full
@@ -55,25 +58,52 @@ pub fn put_from(
 #[inline(never)]
 pub fn insert_from(spans: &mut Spans, from: usize, span: Span) -> Inserted
     requires { from ≤ spans.old.count }
-    ensures { IsSpanInserted from span spans.old spans.new result }
+    ensures inserted { IsInserted from span (held_spans spans.old) (held_spans spans.new) result }
+    ensures full { result ≡ Inserted.Full → 64 ≤ length (held_spans spans.old) }
 {
-    let Spans { list, count } = spans;
+    if spans.count >= MOST {
+        return insert_more(spans, from, span);
+    }
+    let Spans { list, count, .. } = spans;
     let at = place_of(list, from, *count, &span);
     if at < *count && list[at].word == span.word {
         return Inserted::There;
-    }
-    if *count >= MOST {
-        return Inserted::Full;
     }
     insert_at(list, at, *count, span);
     *count += 1;
     Inserted::Put
 }
 
+// Puts it so where the room in place is full. There may be too many words to try each place: a group takes them.
+#[inline(never)]
+fn insert_more(spans: &mut Spans, from: usize, span: Span) -> Inserted
+    requires from { from ≤ spans.old.count }
+    requires many { 64 ≤ spans.old.count }
+    ensures { IsInserted from span (held_spans spans.old) (held_spans spans.new) result }
+{
+    match span.role {
+        Role::Variant | Role::Attribute => return Inserted::Full,
+        Role::Singleton | Role::Keyword | Role::Field => (),
+    }
+    if !spans.move_out() {
+        return Inserted::Full;
+    }
+    let held = spans.as_slice();
+    let at = place_of(held, from, held.len(), &span);
+    if at < held.len() && held[at].word == span.word {
+        return Inserted::There;
+    }
+    if spans.insert(at, span) {
+        Inserted::Put
+    } else {
+        Inserted::Full
+    }
+}
+
 // Where the last span comes before this one, counted from `from`, and one further.
 #[inline(always)]
-fn place_of(list: &[Span; 64], from: usize, made: usize, span: &Span) -> usize
-    requires made { made ≤ 64 }
+fn place_of(list: &[Span], from: usize, made: usize, span: &Span) -> usize
+    requires made { made ≤ length list.now }
     requires from { from ≤ made }
     ensures least { from ≤ result }
     ensures within { result ≤ made }
@@ -114,8 +144,9 @@ pub fn has_block(spans: &Spans, rank: u64) -> bool
         → Spell t spans.now (before ++ parts_in groups)
         → IsTrue result ↔ IsAmong nat_cmp rank (map (λ (r, _). r) groups) }
 {
-    for i in 0..spans.count {
-        let span = &spans.list[i];
+    let held = spans.as_slice();
+    for i in 0..held.len() {
+        let span = &held[i];
         if span.role == Role::Singleton && span.word == rank {
             return true;
         }
@@ -136,13 +167,38 @@ pub fn place_block(spans: &mut Spans, from: usize, rank: u64)
         → Spell t spans.new (before ++ parts_in (put nat_cmp rank ps groups)) }
     ensures same { spans.new.count ≡ spans.old.count }
 {
-    let Spans { list, count } = spans;
-    let mut at = 0;
-    'places: while at < from && !(list[at].role == Role::Singleton && list[at].word > rank) {
-        at += 1;
-    }
-    for i in from..*count {
+    let at = place_before(spans.as_slice(), from, rank);
+    spans.turn(at, from);
+}
+
+/// Moves the spans in place from `from` on before those from `at` on, one by one: mostly they are few.
+pub(crate) fn turn_in_place(list: &mut [Span; 64], at: usize, from: usize, count: usize)
+    requires low { at ≤ from }
+    requires high { from ≤ count }
+    requires room { count ≤ 64 }
+    ensures turned { take count list.new ≡ take at list.old
+        ++ (take (count - from) (drop from list.old) ++ drop at (take from list.old)) }
+    ensures long { length list.new ≡ 64 }
+{
+    for i in from..count {
         let span = list[i];
         insert_at(list, at + (i - from), i, span);
     }
+}
+
+// Where the first block of a greater rank begins among the first `from` spans; `from` if there is none.
+#[inline(always)]
+fn place_before(held: &[Span], from: usize, rank: u64) -> usize
+    requires { from ≤ length held.now }
+    ensures within { result ≤ from }
+    ensures none { list_any (λ s. is_greater rank s.role s.word) (take result held.now) ≡ false }
+    ensures some { (d : Span) → result < from
+        → is_greater rank (slice_index_or held.now result d).role
+        (slice_index_or held.now result d).word ≡ true }
+{
+    let mut at = 0;
+    'places: while at < from && !(held[at].role == Role::Singleton && held[at].word > rank) {
+        at += 1;
+    }
+    at
 }

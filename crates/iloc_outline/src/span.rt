@@ -1,4 +1,5 @@
 //! Parts of a text that stay together when they are sorted.
+ghost use Rattle.std.specs.Prelude.{◌≡◌};
 
 /// What a part is.
 #[derive(Clone, Copy, PartialEq, Eq)]
@@ -21,14 +22,33 @@ pub struct Span {
     /// The number of its first subtag; of a singleton its rank.
     pub word: u64,
     /// Where it begins.
-    pub start: u16,
+    pub start: usize,
     /// Where it ends.
-    pub end: u16,
+    pub end: usize,
     /// What it is.
     pub role: Role,
     /// Whether its normal text may differ from it by more than the case of letters.
     pub edited: bool,
 }
+
+impl Span {
+    /// The span, as a value that stands apart: one that is passed to a call that is not inlined would be stored first.
+    #[inline(always)]
+    pub(crate) fn apart(&self) -> Span
+        ensures { result ≡ self.now }
+    {
+        Span {
+            word: self.word,
+            start: self.start,
+            end: self.end,
+            role: self.role,
+            edited: self.edited,
+        }
+    }
+}
+
+/// Room for 64 parts, and none.
+pub const NO_SPANS: &[Span; 64] = &[NO_SPAN; 64];
 
 /// No part.
 pub const NO_SPAN: Span = Span {

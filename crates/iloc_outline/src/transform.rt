@@ -15,14 +15,12 @@ use iloc_pieces::left::{Left, is_language, is_single};
 // The span of the singleton from one hyphen up to another.
 #[inline(always)]
 fn singleton(start: usize, end: usize) -> Span
-    requires start { start < 2 ^ 16 }
-    requires end { end < 2 ^ 16 }
     ensures { result ≡ block_span code_t start end false }
 {
     Span {
         word: b't' as u64,
-        start: start as u16,
-        end: end as u16,
+        start,
+        end,
         role: Role::Singleton,
         edited: false,
     }
@@ -36,23 +34,24 @@ pub fn read_transform(
     left: &mut Left<'_>,
     spans: &mut Spans,
     in_order: &mut bool,
+    grows: bool,
 ) -> Found
     requires follows { FollowsSingleton start left.old }
     ensures { IsBodyAt code_t start left.old left.new spans.old spans.new in_order.old in_order.new
         result }
 {
     if !is_language(*left) {
-        return read_fields_alone(start, left, spans, in_order);
+        return read_fields_alone(start, left, spans, in_order, grows);
     }
     let front = read_front(left);
-    if !spans.put(singleton(start, front.end)) {
+    if !spans.put(singleton(start, front.end), grows) {
         return Found::Full;
     }
     if front.is_all {
         return Found::End;
     }
-    match read_words(Role::Variant, left, spans, in_order) {
-        Found::Next => read_fields(Role::Field, left, spans, in_order).at_block(left),
+    match read_words(Role::Variant, left, spans, in_order, grows) {
+        Found::Next => read_fields(Role::Field, left, spans, in_order, grows).at_block(left),
         found => found,
     }
 }
@@ -64,6 +63,7 @@ fn read_fields_alone(
     left: &mut Left<'_>,
     spans: &mut Spans,
     in_order: &mut bool,
+    grows: bool,
 ) -> Found
     requires follows { FollowsSingleton start left.old }
     requires alone { is_word (Language languages) (piece_left left.old) ≡ false }
@@ -73,8 +73,8 @@ fn read_fields_alone(
     if is_single(*left) {
         return Found::Bad;
     }
-    if !spans.put(singleton(start, left.at - 1)) {
+    if !spans.put(singleton(start, left.at - 1), grows) {
         return Found::Full;
     }
-    read_fields(Role::Field, left, spans, in_order).at_block(left)
+    read_fields(Role::Field, left, spans, in_order, grows).at_block(left)
 }

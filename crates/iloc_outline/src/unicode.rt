@@ -16,6 +16,7 @@ pub fn read_unicode(
     left: &mut Left<'_>,
     spans: &mut Spans,
     in_order: &mut bool,
+    grows: bool,
 ) -> Found
     requires follows { FollowsSingleton start left.old }
     ensures { IsBodyAt code_u start left.old left.new spans.old spans.new in_order.old in_order.new
@@ -26,16 +27,16 @@ pub fn read_unicode(
     }
     let singleton = Span {
         word: b'u' as u64,
-        start: start as u16,
-        end: (left.at - 1) as u16,
+        start,
+        end: left.at - 1,
         role: Role::Singleton,
         edited: false,
     };
-    if !spans.put(singleton) {
+    if !spans.put(singleton, grows) {
         return Found::Full;
     }
-    let found = match read_words(Role::Attribute, left, spans, in_order) {
-        Found::Next => read_fields(Role::Keyword, left, spans, in_order),
+    let found = match read_words(Role::Attribute, left, spans, in_order, grows) {
+        Found::Next => read_fields(Role::Keyword, left, spans, in_order, grows),
         found => found,
     };
     found.at_block(left)

@@ -1,9 +1,15 @@
 //! Reads variants and attributes.
-ghost use Rattle.std.specs.Prelude.{◌≡◌};
-ghost use Rattle.iloc_spec_grammar.specs.Syntax.{is_word};
-ghost use Rattle.iloc_pieces.specs.Left.{piece_left};
-ghost use Rattle.iloc_outline.specs.Reading.{AreWordsRead, IsOfWord, IsWithin, role_kind};
+ghost use Rattle.std.specs.Prelude.{◌≡◌, ◌⊎◌, ◌≤◌, ◌++◌, ℕ, Bool, length};
+ghost use Rattle.iloc_spec_grammar.specs.Syntax.{IsWord, is_word};
+ghost use Rattle.iloc_pieces.specs.Left.{IsLater, piece_left};
+ghost use Rattle.iloc_outline.specs.Gathering.{Walks};
+ghost use Rattle.iloc_outline.specs.Group.{group_spans};
+ghost use Rattle.iloc_outline.specs.Reading.{AreWordsRead, IsOfWord, role_kind, word_span};
+ghost use Rattle.iloc_outline.specs.Spans.{held_spans};
+ghost use Rattle.iloc_outline.specs.declared.spans.Spans.{Spans};
+ghost use Rattle.iloc_pieces.specs.declared.cursor.Left.{Left};
 
+use crate::group::Group;
 use crate::reading::Found;
 use crate::sorting::{Inserted, put_from};
 use crate::span::{Role, Span};
@@ -21,26 +27,87 @@ fn fits(role: Role, left: Left<'_>) -> bool
     }
 }
 
+// The span of the word.
+#[inline(always)]
+fn span_of(role: Role, left: Left<'_>) -> Span
+    requires later { IsLater left }
+    requires word { IsWord (role_kind role) (piece_left left) }
+    ensures { result ≡ word_span role left.entry }
+{
+    Span {
+        word: word_number(left),
+        start: left.at - 1,
+        end: left.at + left.n,
+        role,
+        edited: false,
+    }
+}
+
 /// Reads the words of this role that come first, attributes or variants, and puts their spans in order. A variant that comes
 /// twice is refused; of equal attributes the first stays.
 #[inline(always)]
-pub fn read_words(role: Role, left: &mut Left<'_>, spans: &mut Spans, in_order: &mut bool) -> Found
+pub fn read_words(
+    role: Role,
+    left: &mut Left<'_>,
+    spans: &mut Spans,
+    in_order: &mut bool,
+    grows: bool,
+) -> Found
     requires role { IsOfWord role }
-    requires within { IsWithin left.old }
+    requires later { IsLater left.old }
     ensures { AreWordsRead role left.old left.new spans.old spans.new in_order.old in_order.new
         result }
 {
     let from = spans.count;
     let mut last = 0;
     'words: while fits(role, *left) {
-        let span = Span {
-            word: word_number(*left),
-            start: (left.at - 1) as u16,
-            end: (left.at + left.n) as u16,
-            role,
-            edited: false,
-        };
-        match put_from(spans, from, &mut last, span, in_order) {
+        let span = span_of(role, *left);
+        match put_from(spans, from, &mut last, span, in_order, grows) {
+            Inserted::Put => (),
+            Inserted::There => {
+                if role == Role::Variant {
+                    return Found::Repeated;
+                }
+            }
+            Inserted::Full => {
+                if grows {
+                    return read_more_words(role, left, spans, from, in_order);
+                }
+                return Found::Full;
+            }
+        }
+        if is_last(*left) {
+            return Found::End;
+        }
+        advance(left);
+    }
+    Found::Next
+}
+
+// Reads the rest of them where there is no room in place: all of the group, which began at `from` and of which so many
+// were read, is put in order by a tree.
+#[inline(never)]
+fn read_more_words(
+    role: Role,
+    left: &mut Left<'_>,
+    spans: &mut Spans,
+    from: usize,
+    in_order: &mut bool,
+) -> Found
+    requires role { IsOfWord role }
+    requires later { IsLater left.old }
+    requires from { from ≤ spans.old.count }
+    requires many { 64 ≤ length (held_spans spans.old) }
+    ensures { (first : Left) (old : Spans) (last : ℕ) (o n : Bool) → old.count ≡ from
+        → Walks role first left.old (held_spans old) (held_spans spans.old) last o n
+        → AreWordsRead role first left.new old spans.new o in_order.new result }
+{
+    *in_order = false;
+    let Some(mut group) = spans.take_from(from) else {
+        return Found::Full;
+    };
+    'words: while fits(role, *left) {
+        match group.put(span_of(role, *left)) {
             Inserted::Put => (),
             Inserted::There => {
                 if role == Role::Variant {
@@ -50,9 +117,21 @@ pub fn read_words(role: Role, left: &mut Left<'_>, spans: &mut Spans, in_order: 
             Inserted::Full => return Found::Full,
         }
         if is_last(*left) {
-            return Found::End;
+            return put_group(&group, spans, Found::End);
         }
         advance(left);
     }
-    Found::Next
+    put_group(&group, spans, Found::Next)
+}
+
+// What was found, once the group is put behind the other spans.
+fn put_group(group: &Group, spans: &mut Spans, found: Found) -> Found
+    ensures { (result ≡ Found.Full) ⊎ (result ≡ found)
+        × (held_spans spans.new ≡ held_spans spans.old ++ group_spans group.now) }
+{
+    if group.put_into(spans) {
+        found
+    } else {
+        Found::Full
+    }
 }

@@ -1,5 +1,5 @@
 -- The entry of a line, from what is said of the line.
-use Rattle.std.proofs.Common.{◌≡◌, ℕ, true, false, [], ◌++◌, inl, inr, refl, sym, ap, ◌∙◌}
+use Rattle.std.proofs.Common.{◌≡◌, ℕ, true, false, ◌++◌, inl, inr, refl, sym, ap, ◌∙◌}
 use Rattle.std.proofs.Common.{append-nil}
 use Rattle.iloc_spec_grammar.specs.Syntax.{Text, languages}
 use Rattle.iloc_spec_grammar.specs.Values.{identifier_text, text}

@@ -6,23 +6,31 @@ ghost use Rattle.iloc_program.specs.Listing.{number_column, place_columns, refus
 use crate::numbered::{Listing, Lists};
 use crate::quoting::{write_decimal, write_shown};
 use iloc_faults::{Fault, fault_of};
-use iloc_lines::{Answers, ReplyBlock};
+use iloc_lines::{InMode, ReplyBlock, reply_line};
+use iloc_outline::spans::Spans;
 use std::alloc::{AllocError, Global};
 
-/// Answers lines in the mode of these answers, and lists what becomes of them.
+/// Answers lines in the mode of these answers, and lists what becomes of them. It keeps its room from line to line.
 #[derive(Drop)]
 pub(crate) struct Listed<A> {
     alloc: Global,
     answers: A,
+    room: Vec<u8>,
+    spans: Spans,
 }
 
 impl<A> Listed<A> {
     pub(crate) fn new(alloc: Global, answers: A) -> Self {
-        Listed { alloc, answers }
+        Listed {
+            alloc,
+            answers,
+            room: Vec::new(alloc),
+            spans: Spans::growing(alloc),
+        }
     }
 }
 
-impl<A: Answers> Lists for Listed<A> {
+impl<A: InMode> Lists for Listed<A> {
     ghost use Rattle.iloc_program.specs.Listing.{IsEntry};
 
     ghost is_entry = { IsEntry A.mode };
@@ -34,10 +42,11 @@ impl<A: Answers> Lists for Listed<A> {
         line: &[u8],
         replies: &mut ReplyBlock,
     ) -> Result<(), AllocError> {
-        match fault_of(self.answers.mode(), line) {
+        let mode = self.answers.mode();
+        match fault_of(mode, line) {
             Some(fault) => write_refused(self.alloc, listing, number, line, fault, replies),
             None if listing.only_refused => Ok(()),
-            None => self.answers.reply(line, replies),
+            None => reply_line(mode, line, &mut self.room, &mut self.spans, replies),
         }
     }
 }

@@ -4,10 +4,9 @@ ghost use Rattle.std.specs.Prelude.{IfOk, OnErr};
 ghost use Rattle.iloc_program.specs.Numbered.{ListsAll, ListsBeginning};
 ghost use Rattle.iloc_program.specs.Listing.{IsEntry};
 
-use crate::answers::{DataLocales, Identifiers, Locales};
 use crate::entries::Listed;
 use crate::numbered::{Listing, run_numbered};
-use iloc_lines::{Mode, RunError};
+use iloc_lines::{DataLocales, Identifiers, Locales, Mode, RunError};
 use std::alloc::Global;
 use std::io::{Read, Write};
 
@@ -42,11 +41,11 @@ pub fn run_listed<R: Read, W: Write>(
 {
     match mode {
         Mode::Langid => {
-            let mut listed = Listed::new(alloc, Identifiers::new(alloc));
+            let mut listed = Listed::new(alloc, Identifiers);
             run_numbered(alloc, &mut listed, listing, first, reader, writer)
         }
         Mode::Locale => {
-            let mut listed = Listed::new(alloc, Locales::new(alloc));
+            let mut listed = Listed::new(alloc, Locales);
             run_numbered(alloc, &mut listed, listing, first, reader, writer)
         }
         Mode::Data => {

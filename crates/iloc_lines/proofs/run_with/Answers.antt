@@ -10,7 +10,7 @@ use Rattle.iloc_spec_grammar.specs.Syntax.{Text, languages}
 use Rattle.iloc_lines.proofs.run_with.Goals as goal
 
 pub returns-in_err-room-clause-err : goal.returns-in_err-room-clause-err
-returns-in_err-room-clause-err g c = on_err _ _ (Stands-front _ _ _ _ _ _ (Stands-first g.A.Answers.mode _ _))
+returns-in_err-room-clause-err g c = on_err _ _ (Stands-front _ _ _ _ _ _ (Stands-first g.A.InMode.mode _ _))
 
 pub returns-clause-err : goal.returns-clause-err
 returns-clause-err g c = Stands-front _ _ _ _ _ _ c.reads.invariant.stands
@@ -28,9 +28,9 @@ pub returns-then-count-eq0-clause-ok : goal.returns-then-count-eq0-clause-ok
 returns-then-count-eq0-clause-ok g c =
     let room : 0 < length c.read.new.buf = omega arith in
     let end = c.in-Ok.ensures.bytes.1 c.if-count-eq0.true room in
-    let written : c.as_slice.result.now ≡ output languages g.A.Answers.mode c.reads.pending.items =
+    let written : c.as_slice.result.now ≡ output languages g.A.InMode.mode c.reads.pending.items =
     c.as_slice.ensures ∙ c.in_ok-finish.ensures
-    ∙ ap (λ (t : Text). t ++ output languages g.A.Answers.mode c.reads.pending.items) c.clear.ensures in
+    ∙ ap (λ (t : Text). t ++ output languages g.A.InMode.mode c.reads.pending.items) c.clear.ensures in
     on_ok_then _ _ _ c.write_whole.ensures.ok (λ took. Stands-end _ _ _ _ _ _ _ c.as_slice.result.now
     (Stands-read_none _ _ _ _ _ _ _ _ _ c.reads.invariant.stands c.in-Ok.ensures.bytes.0 c.if-count-eq0.true)
     end written took)
@@ -39,9 +39,9 @@ pub returns-then-count-eq0-clause-err : goal.returns-then-count-eq0-clause-err
 returns-then-count-eq0-clause-err g c =
     let room : 0 < length c.read.new.buf = omega arith in
     let end = c.in-Ok.ensures.bytes.1 c.if-count-eq0.true room in
-    let written : c.as_slice.result.now ≡ output languages g.A.Answers.mode c.reads.pending.items =
+    let written : c.as_slice.result.now ≡ output languages g.A.InMode.mode c.reads.pending.items =
     c.as_slice.ensures ∙ c.in_ok-finish.ensures
-    ∙ ap (λ (t : Text). t ++ output languages g.A.Answers.mode c.reads.pending.items) c.clear.ensures in
+    ∙ ap (λ (t : Text). t ++ output languages g.A.InMode.mode c.reads.pending.items) c.clear.ensures in
     on_err_then _ _ _ c.write_whole.ensures.err
     (λ took. Stands-end_part _ _ _ _ _ _ _ c.as_slice.result.now took.written
     (Stands-read_none _ _ _ _ _ _ _ _ _ c.reads.invariant.stands c.in-Ok.ensures.bytes.0 c.if-count-eq0.true)
@@ -57,7 +57,7 @@ returns-in_err-write_whole-clause-err g c =
     let count = c.in-Ok.count in
     let piece = c.split_at.result.0.now in
     let given : piece ≡ take count c.read.new.buf = c.split_at.ensures.front in
-    let fed = Replies-fed g.A.Answers.mode (held c.clear.new.self) c.reads.pending.items piece
+    let fed = Replies-fed g.A.InMode.mode (held c.clear.new.self) c.reads.pending.items piece
     c.feed.new.pending.items (held c.feed.new.replies) c.clear.ensures c.in_ok-feed.ensures.ahead in
     let took = c.in_err-write_whole.ensures.err in
     on_err _ _ (Stands-part _ _ _ _ _ _ _ _ _ took.written
@@ -72,7 +72,7 @@ reads-preserved g c =
     let piece = c.split_at.result.0.now in
     let replies = held c.feed.new.replies in
     let given : piece ≡ take count c.read.new.buf = c.split_at.ensures.front in
-    let fed = Replies-fed g.A.Answers.mode (held c.clear.new.self) c.reads.pending.items piece
+    let fed = Replies-fed g.A.InMode.mode (held c.clear.new.self) c.reads.pending.items piece
     c.feed.new.pending.items replies c.clear.ensures c.in_ok-feed.ensures.ahead in
     let written : replies ≡ c.as_slice-in-reads.result.now = sym c.as_slice-in-reads.ensures in
     record {

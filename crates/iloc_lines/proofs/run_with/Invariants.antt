@@ -7,6 +7,6 @@ abbrev pub invariant-reads : goal.invariant-reads
 invariant-reads g l = record {
   one_line : IsOneLine l.pending.items;
   room : 0 < length l.block;
-  stands : Stands g.A.Answers.mode (g.R.Read.remaining l.fn.reader) (g.R.Read.remaining l.reader)
+  stands : Stands g.A.InMode.mode (g.R.Read.remaining l.fn.reader) (g.R.Read.remaining l.reader)
       (g.W.Write.contents l.fn.writer) (g.W.Write.contents l.writer) l.pending.items;
 }

@@ -3,16 +3,18 @@ use Rattle.std.proofs.lemmas.Result.{on_ok_weaker}
 use Rattle.iloc_spec_grammar.specs.Syntax.{Text, languages}
 use Rattle.iloc_lines.proofs.LineCuts.{output-cut}
 use Rattle.iloc_lines.specs.ReplyBlock.{held}
+use Rattle.iloc_normalize.specs.declared.Mode.{Mode}
 use Rattle.iloc_lines.specs.Answers.{reply, output}
 use Rattle.iloc_lines.proofs.lines.feed.Goals as goal
 
 -- the line that was pending is answered, and then what follows it
 pub returns-clause-ahead : goal.returns-clause-ahead
 returns-clause-ahead g c =
-    let mode = g.A.Answers.mode in
+    let mode = g.A.InMode.mode in
     let before = held c.args.replies.now in
     let line = c.args.pending.now.items ++ c.in-Some.line.now in
     let replied = c.in_ok-end_pending.ensures.replies
+    ∙ ap (λ (m : Mode). before ++ reply languages m c.extend_from_slice-2.new.self.items) c.mode.ensures
     ∙ ap (λ (t : Text). before ++ reply languages mode t) c.in_ok-extend_from_slice.ensures.items in
     on_ok_weaker c.feed_lines-2.result
     (λ later next.

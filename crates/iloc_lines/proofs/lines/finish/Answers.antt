@@ -7,4 +7,5 @@ pub returns : goal.returns
 returns g c =
     let pending = c.args.pending.now.items in
     let some : 0 < length pending = search rules in
-    rw (output-last languages g.A.Answers.mode pending c.requires some) c.end_pending.ensures.replies
+    rw (output-last languages g.A.InMode.mode pending c.requires some, ← c.mode.ensures)
+    c.end_pending.ensures.replies

@@ -18,7 +18,7 @@ use Rattle.iloc_outline.proofs.blocks.read_blocks.Goals.{then-rank-last+else-has
 pub singletons-init : goal.singletons-init
 singletons-init c =
     at.starts_at c.args.left.now c.args.spans.now c.args.in_order.now
-    c.requires.within.later c.requires.single
+    c.requires.later c.requires.single
 
 pub returns-then-not-is_alphanumeric : goal.returns-then-not-is_alphanumeric
 returns-then-not-is_alphanumeric c =

@@ -1,11 +1,14 @@
-use Rattle.std.proofs.Common.{◌≡◌, ◌≢◌, ◌∙◌, Bool, None, Option, Some, ap, arith, false, rules, sym, true}
+use Rattle.std.proofs.Common.{◌≡◌, ◌≢◌, ◌∙◌, Bool, None, Option, Some, ap, arith, false, refl, rules, sym}
+use Rattle.std.proofs.Common.{true}
 use denote.Enum.Bare.{same_false, same_true}
 use Rattle.iloc_outline.specs.contracts.span.Role.{the_type}
 use Rattle.iloc_outline.specs.declared.span.Role.TheVariants.{Field}
 use Rattle.iloc_outline.specs.Reading.{unless_end}
+use Rattle.iloc_outline.specs.Spans.{held_spans}
+use Rattle.iloc_outline.proofs.SpansLemmas.{length-held}
 use Rattle.iloc_outline.specs.declared.fields.Value.{Value}
 use Rattle.iloc_pieces.specs.declared.cursor.Left.{Left}
-use Rattle.iloc_outline.proofs.FieldLemmas.{ends_in_key, field_less, field_within, key_kind_fits, takes_end}
+use Rattle.iloc_outline.proofs.FieldLemmas.{ends_in_key, field_less, key_kind_fits, takes_end}
 use Rattle.iloc_outline.proofs.FieldLemmas.{takes_full, takes_more, takes_none, takes_past}
 use Rattle.iloc_outline.proofs.GatherLemmas.{gathers_from}
 use Rattle.iloc_outline.proofs.RoleLemmas.{short_key_kind}
@@ -24,7 +27,7 @@ ends m v = ap (behind m)
 
 pub keys-init : goal.keys-init
 keys-init c =
-    takes_none c.args.role c.args.left.now c.requires.within.later c.args.spans.now
+    takes_none c.args.role c.args.left.now c.requires.later (held_spans c.args.spans.now)
     c.args.in_order.now
 
 pub read_value-value-requires-clause-later : goal.read_value-value-requires-clause-later
@@ -39,7 +42,8 @@ returns-then-value-eq0 c =
     let v = c.read_value-value in
     let field = same_true the_type (search rules) _ _ (sym c.if-eq.ensures) in (
       field,
-      ends_in_key c.args.role c.args.left.now c.keys.left _ _ _ _ _ c.keys.invariant v.new.left v.result
+      ends_in_key c.args.role c.args.left.now c.keys.left c.args.spans.now _ _ _ _ c.keys.invariant v.new.left
+          v.result
           v.ensures
           field (sym c.is_key_of.ensures ∙ c.keys-test.true) c.if-value-eq0.true,
     )
@@ -48,31 +52,19 @@ pub word_number-word-requires : goal.word_number-word-requires
 word_number-word-requires c =
     key_kind_fits c.args.role _ (sym c.is_key_of.ensures ∙ c.keys-test.true)
 
-pub overflow_cast-span : goal.overflow_cast-span
-overflow_cast-span c = omega (arith, c.keys.invariant.past.end, c.requires.within.few)
-
-pub overflow_cast-span-in-keys : goal.overflow_cast-span-in-keys
-overflow_cast-span-in-keys c =
-    let v = c.read_value-value in
-    let inside =
-    field_within c.args.role c.args.left.now c.keys.left _ _ _ _ _ c.keys.invariant v.new.left v.result
-    v.ensures in
-    omega (arith, c.requires.within.few)
-
 pub put_from-requires : goal.put_from-requires
-put_from-requires c = gathers_from _ _ _ _ _ _ _ c.keys.invariant.gathers
+put_from-requires c =
+    omega (
+      arith,
+      gathers_from _ _ _ _ _ _ _ c.keys.invariant.gathers,
+      length-held c.args.spans.now,
+      length-held c.keys.spans,
+    )
 
 pub returns-in-Full : goal.returns-in-Full
 returns-in-Full c =
-    let v = c.read_value-value in
-    let key = sym c.is_key_of.ensures ∙ c.keys-test.true in
-    let some : c.args.role ≡ Field → c.read_value-value.result.count ≢ 0 = λ t. elim c.else-eq.branch [
-      | else-eq-via-then-eq+else-value-eq0 b ↦ b.if-value-eq0.false
-      | else-eq-via-else-eq b ↦ absurd (same_false the_type _ _ (sym b.if-eq.ensures) t)
-    ] in
-    takes_full _ c.args.left.now c.keys.left _ _ _ _ _ c.keys.invariant v.new.left v.result v.ensures key some
-    c.put_from.new.spans _ _ _ _ c.word_number-word.ensures c.is_edited.ensures c.put_from.result
-    c.put_from.ensures c.in-Full.is
+    takes_full _ c.args.left.now c.keys.left c.args.spans.now _ _ _ _ c.keys.invariant
+    (c.put_from.ensures.full c.in-Full.is)
 
 pub keys-preserved : goal.keys-preserved
 keys-preserved c =
@@ -82,9 +74,10 @@ keys-preserved c =
       | else-eq-via-then-eq+else-value-eq0 b ↦ b.if-value-eq0.false
       | else-eq-via-else-eq b ↦ absurd (same_false the_type _ _ (sym b.if-eq.ensures) t)
     ] in
-    takes_more _ c.args.left.now c.keys.left _ _ _ _ _ c.keys.invariant v.new.left v.result v.ensures key some
-    c.put_from.new.spans _ _ _ _ c.word_number-word.ensures c.is_edited.ensures c.put_from.result
-    c.put_from.ensures c.in_default.not-Full v.new.left (goes_on v.new.left v.result c.if-value.false)
+    takes_more _ c.args.left.now c.keys.left c.args.spans.now _ _ _ _ c.keys.invariant v.new.left v.result
+    v.ensures key some
+    (held_spans c.put_from.new.spans) _ _ _ _ c.word_number-word.ensures c.is_edited.ensures c.put_from.result
+    c.put_from.ensures.put c.in_default.not-Full v.new.left (goes_on v.new.left v.result c.if-value.false)
 
 pub returns-then-value : goal.returns-then-value
 returns-then-value c =
@@ -94,14 +87,17 @@ returns-then-value c =
       | else-eq-via-then-eq+else-value-eq0 b ↦ b.if-value-eq0.false
       | else-eq-via-else-eq b ↦ absurd (same_false the_type _ _ (sym b.if-eq.ensures) t)
     ] in
-    takes_end _ c.args.left.now c.keys.left _ _ _ _ _ c.keys.invariant v.new.left v.result v.ensures key some
-    c.put_from.new.spans _ _ _ _ c.word_number-word.ensures c.is_edited.ensures c.put_from.result
-    c.put_from.ensures c.in_default.not-Full (ends v.new.left v.result c.if-value.true)
+    takes_end _ c.args.left.now c.keys.left c.args.spans.now _ _ _ _ c.keys.invariant v.new.left v.result
+    v.ensures key some
+    (held_spans c.put_from.new.spans) _ _ _ _ c.word_number-word.ensures c.is_edited.ensures c.put_from.result
+    c.put_from.ensures.put c.in_default.not-Full c.put_from.new.spans refl
+    (ends v.new.left v.result c.if-value.true)
 
 pub keys-smaller : goal.keys-smaller
 keys-smaller c =
     let v = c.read_value-value in
-    field_less c.args.role c.args.left.now c.keys.left _ _ _ _ _ c.keys.invariant v.new.left v.result
+    field_less c.args.role c.args.left.now c.keys.left c.args.spans.now _ _ _ _ c.keys.invariant v.new.left
+    v.result
     v.ensures
     v.new.left (goes_on v.new.left v.result c.if-value.false)
 
@@ -112,5 +108,5 @@ returns c =
       w.past,
       sym c.is_key_of.ensures ∙ c.keys-test.false,
       w.ends,
-      takes_past c.args.role c.args.left.now c.keys.left _ _ _ _ _ w,
+      takes_past c.args.role c.args.left.now c.keys.left c.args.spans.now _ _ _ _ w c.keys.spans refl,
     )

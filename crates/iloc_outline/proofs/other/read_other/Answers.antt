@@ -38,7 +38,7 @@ pieces-init c = record {
   passed = record {
     words =
         [];
-    past = past_none c.args.left.now c.requires.follows.within.later;
+    past = past_none c.args.left.now c.requires.follows.later;
     are =
         record { each = tt; good = refl; edited = refl };
   };
@@ -81,7 +81,7 @@ returns-then-is_last c = λ c' e spanned.
     c.if-is_subtag.edited (one_more after)
     (ended after c.if-is_last.true) c.args.start c.args.spans.now c.put_other.new.spans c.args.in_order.now
     c.put_other.new.in_order c.put_other.result
-    c.if-not-is_good.false c.requires.follows.within.later spanned
+    c.if-not-is_good.false c.requires.follows.later spanned
     (put_at c' c.args.byte c.args.start (c.pieces.left.at + c.pieces.left.n) c.if-is_subtag.edited
     c.args.spans.now c.pieces.spans c.put_other.new.spans
     c.args.in_order.now c.pieces.in_order c.put_other.new.in_order End c.put_other.result e
@@ -112,7 +112,7 @@ returns c = λ c' e spanned.
     c.args.spans.now c.put_other-2.new.spans c.args.in_order.now c.put_other-2.new.in_order
     c.put_other-2.result
     (sym c.is_single.ensures ∙ c.if-not-is_single.false) c.if-not-is_good-2.false
-    c.requires.follows.within.later spanned
+    c.requires.follows.later spanned
     (put_at c' c.args.byte c.args.start (c.pieces.left.at - 1) c.pieces.edited c.args.spans.now c.pieces.spans
     c.put_other-2.new.spans
     c.args.in_order.now c.pieces.in_order c.put_other-2.new.in_order Next c.put_other-2.result e

@@ -11,7 +11,7 @@ use Rattle.iloc_outline.proofs.other.read_private.Goals as goal
 
 pub words-init : goal.words-init
 words-init c = record {
-  passed = record { words = []; past = past_none c.args.left.now c.requires.follows.within.later; each = tt };
+  passed = record { words = []; past = past_none c.args.left.now c.requires.follows.later; each = tt };
   spans =
       refl;
 }
@@ -25,7 +25,7 @@ returns-then-is_last c = λ c' e spanned o.
     (short_private (piece_left c.words.left) word) in
     let span : Span = block_span 255 c.args.start (c.words.left.at + c.words.left.n) false in
     private_end c' c.args.start c.args.left.now c.words.left c.args.spans.now c.put.new.self o e
-    c.requires.follows.within.later
+    c.requires.follows.later
     spanned c.words.invariant.passed word end
     (c.put.ensures.put c.if-not-put.false ∙ ap (λ s. held_spans s ++ span ∷ []) c.words.invariant.spans)
 

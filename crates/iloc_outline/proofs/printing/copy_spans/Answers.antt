@@ -1,32 +1,45 @@
-use Rattle.std.proofs.Common.{◌++◌, flat_map, take, ap, ◌∙◌, arith}
+use Rattle.std.proofs.Common.{◌≡◌, List, ◌++◌, flat_map, take, ap, sym, subst, ◌∙◌, arith}
+use Rattle.std.specs.List.{AllZip}
 use Rattle.std.proofs.lemmas.List.{length-take-le, take_all}
 use Rattle.iloc_outline.specs.Printing.{span_text}
-use Rattle.iloc_outline.specs.Spans.{held_spans}
+use Rattle.iloc_spec_grammar.specs.Syntax.{Text}
+use Rattle.iloc_outline.specs.Parts.{Part}
+use Rattle.iloc_outline.specs.Spans.{IsSpan, Spell, held_spans}
+use Rattle.iloc_outline.specs.declared.span.Span.{Span}
+use Rattle.iloc_outline.specs.declared.spans.Spans.{Spans}
 use Rattle.iloc_outline.specs.declared.span.TheConstants.{NO_SPAN}
-use Rattle.iloc_outline.proofs.PrintingLemmas.{span_room, span_short, span_some, spans_are, spell_span}
-use Rattle.iloc_outline.proofs.SpansLemmas.{length-held}
+use Rattle.iloc_outline.proofs.PrintingLemmas.{span_room, span_short, span_some, spans_are, span_at}
 use Rattle.iloc_outline.proofs.printing.copy_spans.Goals as goal
+
+-- the spans as a slice are those parts too
+spelled : (t : Text) (spans : Spans) (ps : List Part) (ss : List Span) → ss ≡ held_spans spans
+    → Spell t spans ps → AllZip (IsSpan t) ss ps
+spelled t spans ps ss e h = subst (λ (xs : List Span). AllZip (IsSpan t) xs ps) (sym e) h
 
 pub copy_span-end-requires-clause-ascends : goal.copy_span-end-requires-clause-ascends
 copy_span-end-requires-clause-ascends c =
-    (spell_span c.args.window.now c.args.spans.now c.requires.parts c.requires.spell c.loop-i.i NO_SPAN
+    (span_at c.args.window.now c.as_slice-held.result.now c.requires.parts c.loop-i.i NO_SPAN
+    (spelled c.args.window.now c.args.spans.now c.requires.parts _ c.as_slice-held.ensures c.requires.spell)
     c.loop-i-test.true).1.spanned.ascends
 
 pub copy_span-end-requires-clause-inside : goal.copy_span-end-requires-clause-inside
 copy_span-end-requires-clause-inside c =
-    (spell_span c.args.window.now c.args.spans.now c.requires.parts c.requires.spell c.loop-i.i NO_SPAN
+    (span_at c.args.window.now c.as_slice-held.result.now c.requires.parts c.loop-i.i NO_SPAN
+    (spelled c.args.window.now c.args.spans.now c.requires.parts _ c.as_slice-held.ensures c.requires.spell)
     c.loop-i-test.true).1.spanned.inside
 
 pub copy_span-end-requires-clause-some : goal.copy_span-end-requires-clause-some
 copy_span-end-requires-clause-some c =
-    let there = spell_span c.args.window.now c.args.spans.now c.requires.parts c.requires.spell c.loop-i.i
-    NO_SPAN c.loop-i-test.true in
+    let there = span_at c.args.window.now c.as_slice-held.result.now c.requires.parts c.loop-i.i NO_SPAN
+    (spelled c.args.window.now c.args.spans.now c.requires.parts _ c.as_slice-held.ensures c.requires.spell)
+    c.loop-i-test.true in
     span_some c.args.window.now _ there.0 there.1
 
 pub copy_span-end-requires-clause-short : goal.copy_span-end-requires-clause-short
 copy_span-end-requires-clause-short c =
-    let there = spell_span c.args.window.now c.args.spans.now c.requires.parts c.requires.spell c.loop-i.i
-    NO_SPAN c.loop-i-test.true in
+    let there = span_at c.args.window.now c.as_slice-held.result.now c.requires.parts c.loop-i.i NO_SPAN
+    (spelled c.args.window.now c.args.spans.now c.requires.parts _ c.as_slice-held.ensures c.requires.spell)
+    c.loop-i-test.true in
     span_short c.args.window.now _ there.0 there.1
 
 pub copy_span-end-requires-clause-room : goal.copy_span-end-requires-clause-room
@@ -34,7 +47,9 @@ copy_span-end-requires-clause-room c =
     let h = c.loop-i.invariant in
     omega (
       arith,
-      span_room c.args.window.now c.args.spans.now c.requires.parts c.requires.spell
+      span_room c.args.window.now c.as_slice-held.result.now c.requires.parts
+          (spelled c.args.window.now c.args.spans.now c.requires.parts _ c.as_slice-held.ensures
+          c.requires.spell)
           (take c.args.start c.args.to.now) c.loop-i.to c.loop-i.i NO_SPAN c.loop-i.end
           c.loop-i-test.true h.inside h.copied,
       length-take-le c.args.start c.args.to.now
@@ -45,8 +60,10 @@ copy_span-end-requires-clause-room c =
 
 pub returns-clause-copied : goal.returns-clause-copied
 returns-clause-copied c = λ ps s.
-    let spans = c.args.spans.now in
+    let w = c.args.window.now in
+    let held = c.as_slice-held.result.now in
     c.loop-i.invariant.copied
-    ∙ ap (λ ss. take c.args.start c.args.to.now ++ flat_map (span_text c.args.window.now) ss)
-    (take_all c.loop-i.i (held_spans spans) (omega (arith, length-held spans, c.loop-i-test.false)))
-    ∙ ap (λ t. take c.args.start c.args.to.now ++ t) (spans_are c.args.window.now (held_spans spans) ps s)
+    ∙ ap (λ ss. take c.args.start c.args.to.now ++ flat_map (span_text w) ss)
+    (take_all c.loop-i.i held (omega (arith, c.loop-i-test.false)))
+    ∙ ap (λ t. take c.args.start c.args.to.now ++ t)
+    (spans_are w held ps (spelled w c.args.spans.now ps _ c.as_slice-held.ensures s))

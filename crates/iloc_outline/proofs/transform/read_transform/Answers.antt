@@ -13,7 +13,7 @@ returns-then-front c = λ c' e spanned.
     let front = c.read_front-front in
     front_alone c' c.args.start front.result.end l e
     (sym c.is_language.ensures ∙ c.if-not-is_language.false)
-    (front.ensures.end c.args.start ((c' ∷ []) ∷ []) c.requires.follows.within.later spanned) c.args.spans.now
+    (front.ensures.end c.args.start ((c' ∷ []) ∷ []) c.requires.follows.later spanned) c.args.spans.now
     c.put.new.self c.args.in_order.now
     (subst (λ s. held_spans c.put.new.self ≡ held_spans c.args.spans.now ++ s ∷ []) c.singleton.ensures
     (c.put.ensures.put c.if-not-put.false)) front.new.left
@@ -28,7 +28,7 @@ returns-in-Next c = λ c' e spanned.
     front.ensures.next in
     variants_read c' c.args.start front.result.end l e
     (sym c.is_language.ensures ∙ c.if-not-is_language.false)
-    (front.ensures.end c.args.start ((c' ∷ []) ∷ []) c.requires.follows.within.later spanned) c.args.spans.now
+    (front.ensures.end c.args.start ((c' ∷ []) ∷ []) c.requires.follows.later spanned) c.args.spans.now
     c.put.new.self c.args.in_order.now
     (subst (λ s. held_spans c.put.new.self ≡ held_spans c.args.spans.now ++ s ∷ []) c.singleton.ensures
     (c.put.ensures.put c.if-not-put.false))
@@ -48,7 +48,7 @@ returns-in_default c = λ c' e spanned.
     front.ensures.next in
     variants_alone c' c.args.start front.result.end l e
     (sym c.is_language.ensures ∙ c.if-not-is_language.false)
-    (front.ensures.end c.args.start ((c' ∷ []) ∷ []) c.requires.follows.within.later spanned) c.args.spans.now
+    (front.ensures.end c.args.start ((c' ∷ []) ∷ []) c.requires.follows.later spanned) c.args.spans.now
     c.put.new.self c.args.in_order.now
     (subst (λ s. held_spans c.put.new.self ≡ held_spans c.args.spans.now ++ s ∷ []) c.singleton.ensures
     (c.put.ensures.put c.if-not-put.false))

@@ -1,9 +1,11 @@
-use Rattle.iloc_outline.proofs.WordsInOrder.{Walks}
+use Rattle.iloc_outline.specs.Gathering.{Walks}
+use Rattle.iloc_outline.specs.Spans.{held_spans}
 use Rattle.iloc_outline.proofs.words.read_words.Given as goal
 
 -- the words up to here were passed and put in order
 abbrev pub invariant-words : goal.invariant-words
-invariant-words l = Walks l.fn.role l.fn.left l.left l.fn.spans l.spans l.last l.fn.in_order l.in_order
+invariant-words l = Walks l.fn.role l.fn.left l.left (held_spans l.fn.spans) (held_spans l.spans) l.last
+    l.fn.in_order l.in_order
 
 abbrev pub decreases-words : goal.decreases-words
 decreases-words l = l.left.len

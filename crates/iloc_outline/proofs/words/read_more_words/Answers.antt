@@ -1,0 +1,138 @@
+use Rattle.std.specs.Prelude.{⊤}
+use Rattle.std.proofs.Common.{rules, ◌≡◌, ◌≢◌, ◌+◌, ◌++◌, false, length, take, drop, ap, ◌∙◌, sym, subst, inl}
+use Rattle.std.proofs.Common.{inr, refl}
+use denote.Enum.Bare.{same_false, same_true}
+use Rattle.iloc_outline.specs.contracts.span.Role.{the_type}
+use Rattle.iloc_outline.specs.Group.{group_spans}
+use Rattle.iloc_outline.specs.Inserting.{IsPutFrom, spans_in_order}
+use Rattle.iloc_outline.specs.Reading.{AreWordsRead}
+use Rattle.iloc_outline.specs.Spans.{held_spans}
+use Rattle.iloc_outline.specs.declared.span.Role.{Role}
+use Rattle.iloc_outline.specs.declared.span.Span.{Span}
+use Rattle.iloc_outline.specs.declared.sorting.Inserted.{Inserted}
+use Rattle.iloc_outline.specs.declared.sorting.Inserted.TheVariants.{Put, There, Full}
+use Rattle.iloc_outline.proofs.GroupSteps.{grouped_put_from, walks_out}
+use Rattle.iloc_outline.proofs.RoleLemmas.{short_kind}
+use Rattle.iloc_outline.proofs.SpansLemmas.{length-held}
+use Rattle.iloc_outline.proofs.WordsInOrder.{IsKept, walks_end, walks_full, walks_more, walks_past}
+use Rattle.iloc_outline.proofs.WordsInOrder.{walks_repeat}
+use Rattle.iloc_outline.proofs.words.read_more_words.Goals as goal
+use Rattle.iloc_outline.proofs.words.read_more_words.Goals.{in-Put, in-There+else-eq}
+
+has_room : Inserted → Type 0
+has_room Full = ⊥
+has_room _ = ⊤
+
+there_full : There ≡ Full → ⊥
+unfolding has_room
+there_full e = subst has_room e tt
+
+put_full : Put ≡ Full → ⊥
+unfolding has_room
+put_full e = subst has_room e tt
+
+not_full : (r : Role) (i : Inserted) → IsKept r i → i ≢ Full
+not_full r Put may e = put_full e
+not_full r There may e = there_full e
+not_full r Full may e = elim may [ inl p ↦ put_full (sym p) | inr b ↦ there_full (sym b.0) ]
+
+pub returns-in_default : goal.returns-in_default
+returns-in_default c = λ first old last o n is w. walks_full _ _ _ old _ _ _ _ w c.requires.many
+
+pub words-init : goal.words-init
+words-init c = (
+  c.requires.later,
+  λ first old last o n is w.
+      let held = held_spans c.args.spans.now in
+      let long = sym (length-held old ∙ is) in
+      let out = walks_out _ _ _ _ _ _ _ _ w (held_spans c.take_from.new.self) (group_spans c.in-Some.group)
+      (c.in-Some.ensures.1 ∙ ap (λ k. take k held) long)
+      (c.in-Some.ensures.0 ∙ ap (λ k. spans_in_order (drop k held)) long) in
+      (out.0, (last, out.1)),
+)
+
+pub returns-then-eq : goal.returns-then-eq
+returns-then-eq c = λ first old last o n is w.
+    let h = c.words.invariant.1 first old last o n is w in
+    let F = held_spans c.words.spans in
+    let word = sym c.fits.ensures ∙ c.words-test.true in
+    let put = subst (λ (s : Span). IsPutFrom old.count s (F ++ group_spans c.words.group)
+    (F ++ group_spans c.put.new.self) h.1.0 (h.1.0 + s.word) false false c.put.result) c.span_of.ensures
+    (grouped_put_from old.count c.span_of.result F (group_spans c.words.group) (group_spans c.put.new.self)
+    h.1.0 c.put.result (ap length h.0 ∙ length-held old) (λ f. there_full (sym c.in-There.is ∙ f))
+    c.put.ensures) in (
+      same_true the_type (search rules) _ _ (sym c.eq.ensures ∙ c.if-eq.true),
+      walks_repeat _ _ _ old _ _ _ _ h.1.1 c.requires.role word (F ++ group_spans c.put.new.self) _ _ _ refl
+          c.put.result put c.in-There.is,
+    )
+
+pub returns-in-Full : goal.returns-in-Full
+returns-in-Full c = λ first old last o n is w. walks_full _ _ _ old _ _ _ _ w c.requires.many
+
+pub returns-then-is_last : goal.returns-then-is_last
+returns-then-is_last c = λ first old last o n is w.
+    let may : IsKept c.args.role c.put.result = elim c.match-put.branch [
+      | in-Put b ↦ inl b.in-Put.is
+      | in-There+else-eq b ↦ inr (b.in-There.is, same_false the_type _ _ (sym b.eq.ensures ∙ b.if-eq.false))
+    ] in
+    let h = c.words.invariant.1 first old last o n is w in
+    let F = held_spans c.words.spans in
+    let word = sym c.fits.ensures ∙ c.words-test.true in
+    let put = subst (λ (s : Span). IsPutFrom old.count s (F ++ group_spans c.words.group)
+    (F ++ group_spans c.put.new.self) h.1.0 (h.1.0 + s.word) false false c.put.result) c.span_of.ensures
+    (grouped_put_from old.count c.span_of.result F (group_spans c.words.group) (group_spans c.put.new.self)
+    h.1.0 c.put.result (ap length h.0 ∙ length-held old) (not_full c.args.role c.put.result may)
+    c.put.ensures) in
+    elim c.put_group.ensures [
+      | inl f ↦ subst (AreWordsRead c.args.role first c.words.left old c.put_group.new.spans o false) (sym f)
+          (walks_full _ _ _ old _ _ _ _ w c.requires.many)
+      | inr b ↦
+          subst (AreWordsRead c.args.role first c.words.left old c.put_group.new.spans o false) (sym b.0)
+          (walks_end _ _ _ old _ _ _ _ h.1.1 c.requires.role word (F ++ group_spans c.put.new.self) _ _ _ refl
+          c.put.result put may c.put_group.new.spans (sym b.1) (c.is_last.ensures.0 c.if-is_last.true))
+    ]
+
+pub advance-requires-clause-short : goal.advance-requires-clause-short
+advance-requires-clause-short c = short_kind c.args.role _ (sym c.fits.ensures ∙ c.words-test.true)
+
+pub words-preserved : goal.words-preserved
+words-preserved c = (
+  c.advance.ensures.later,
+  λ first old last o n is w.
+      let may : IsKept c.args.role c.put.result = elim c.match-put.branch [
+        | in-Put b ↦ inl b.in-Put.is
+        | in-There+else-eq b ↦ inr (b.in-There.is, same_false the_type _ _ (sym b.eq.ensures ∙ b.if-eq.false))
+      ] in
+      let h = c.words.invariant.1 first old last o n is w in
+      let F = held_spans c.words.spans in
+      let word = sym c.fits.ensures ∙ c.words-test.true in
+      let put = subst (λ (s : Span). IsPutFrom old.count s (F ++ group_spans c.words.group)
+      (F ++ group_spans c.put.new.self) h.1.0 (h.1.0 + s.word) false false c.put.result) c.span_of.ensures
+      (grouped_put_from old.count c.span_of.result F (group_spans c.words.group) (group_spans c.put.new.self)
+      h.1.0 c.put.result (ap length h.0 ∙ length-held old) (not_full c.args.role c.put.result may)
+      c.put.ensures) in (
+        h.0,
+        (
+          _,
+          walks_more _ _ _ old _ _ _ _ h.1.1 c.requires.role word (F ++ group_spans c.put.new.self) _ _ _ refl
+              c.put.result put may c.advance.new.left c.advance.ensures,
+        ),
+      ),
+)
+
+pub returns : goal.returns
+returns c = λ first old last o n is w.
+    let h = c.words.invariant.1 first old last o n is w in
+    let none = sym c.fits.ensures ∙ c.words-test.false in
+    elim c.put_group-2.ensures [
+      | inl f ↦
+          subst (AreWordsRead c.args.role first c.words.left old c.put_group-2.new.spans o false) (sym f)
+          (walks_full _ _ _ old _ _ _ _ w c.requires.many)
+      | inr b ↦
+          subst (AreWordsRead c.args.role first c.words.left old c.put_group-2.new.spans o false) (sym b.0) (
+            h.1.1.words,
+            h.1.1.past,
+            none,
+            walks_past _ _ _ old _ _ _ _ h.1.1 c.put_group-2.new.spans (sym b.1) none,
+          )
+    ]
