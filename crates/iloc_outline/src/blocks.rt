@@ -7,6 +7,7 @@ ghost use Rattle.iloc_pieces.specs.Left.{IsLater, piece_left, whole_text};
 ghost use Rattle.iloc_outline.specs.Reading.{FollowsSingleton};
 ghost use Rattle.iloc_outline.specs.Parts.{rank};
 
+use crate::growth::Growth;
 use crate::other::{read_other, read_private};
 use crate::reading::Found;
 use crate::sorting::{has_block, place_block};
@@ -37,13 +38,12 @@ fn rank_of(byte: u8) -> u64
 
 // What follows the singleton, whose byte in lower case is given.
 #[inline(always)]
-fn read_body(
+fn read_body<G: Growth>(
     byte: u8,
     start: usize,
     left: &mut Left<'_>,
     spans: &mut Spans,
     in_order: &mut bool,
-    grows: bool,
 ) -> Found
     requires follows { FollowsSingleton start left.old }
     requires singleton { HasSingletonBefore byte start left.old }
@@ -52,21 +52,20 @@ fn read_body(
         in_order.new result }
 {
     if byte == b'u' {
-        return read_unicode(start, left, spans, in_order, grows);
+        return read_unicode::<G>(start, left, spans, in_order);
     }
-    read_another(byte, start, left, spans, in_order, grows)
+    read_another::<G>(byte, start, left, spans, in_order)
 }
 
 // What follows another singleton than `u`. The reader of it works on a copy, so that the cursor need not be stored. Where
 // another block follows, the copy is put back but for its window, which is the same.
 #[inline(always)]
-fn read_another(
+fn read_another<G: Growth>(
     byte: u8,
     start: usize,
     left: &mut Left<'_>,
     spans: &mut Spans,
     in_order: &mut bool,
-    grows: bool,
 ) -> Found
     requires follows { FollowsSingleton start left.old }
     requires singleton { HasSingletonBefore byte start left.old }
@@ -76,7 +75,7 @@ fn read_another(
         in_order.new result }
 {
     let mut next = *left;
-    let found = read_beside(byte, start, &mut next, spans, in_order, grows);
+    let found = read_apart::<G>(byte, start, &mut next, spans, in_order);
     if let Found::Next = found {
         *left = Left {
             window: left.window,
@@ -90,67 +89,9 @@ fn read_another(
     found
 }
 
-// Reads what follows another singleton than `u`, by one of two calls. Each is apart, so that readers of `u` stay small.
-#[inline(always)]
-fn read_beside(
-    byte: u8,
-    start: usize,
-    left: &mut Left<'_>,
-    spans: &mut Spans,
-    in_order: &mut bool,
-    grows: bool,
-) -> Found
-    requires follows { FollowsSingleton start left.old }
-    requires letter { is_ascii_alphanumeric byte ≡ true }
-    requires another { byte ≢ code_u }
-    ensures { IsBlockReadAt byte start left.old left.new spans.old spans.new in_order.old
-        in_order.new result }
-{
-    if grows {
-        return read_apart_growing(byte, start, left, spans, in_order);
-    }
-    read_apart(byte, start, left, spans, in_order)
-}
-
-// Reads it with the room in place.
+// Reads what follows another singleton than `u`. It is apart, so that readers of `u` stay small.
 #[inline(never)]
-fn read_apart(
-    byte: u8,
-    start: usize,
-    left: &mut Left<'_>,
-    spans: &mut Spans,
-    in_order: &mut bool,
-) -> Found
-    requires follows { FollowsSingleton start left.old }
-    requires letter { is_ascii_alphanumeric byte ≡ true }
-    requires another { byte ≢ code_u }
-    ensures { IsBlockReadAt byte start left.old left.new spans.old spans.new in_order.old
-        in_order.new result }
-{
-    read_by_singleton::<false>(byte, start, left, spans, in_order)
-}
-
-// Reads it with room that grows.
-#[inline(never)]
-fn read_apart_growing(
-    byte: u8,
-    start: usize,
-    left: &mut Left<'_>,
-    spans: &mut Spans,
-    in_order: &mut bool,
-) -> Found
-    requires follows { FollowsSingleton start left.old }
-    requires letter { is_ascii_alphanumeric byte ≡ true }
-    requires another { byte ≢ code_u }
-    ensures { IsBlockReadAt byte start left.old left.new spans.old spans.new in_order.old
-        in_order.new result }
-{
-    read_by_singleton::<true>(byte, start, left, spans, in_order)
-}
-
-// Reads what follows `t`, `x` or another singleton.
-#[inline(always)]
-fn read_by_singleton<const GROWS: bool>(
+fn read_apart<G: Growth>(
     byte: u8,
     start: usize,
     left: &mut Left<'_>,
@@ -164,19 +105,18 @@ fn read_by_singleton<const GROWS: bool>(
         in_order.new result }
 {
     match byte {
-        b't' => read_transform(start, left, spans, in_order, GROWS),
-        b'x' => read_private(start, left, spans, GROWS),
-        _ => read_other(byte, start, left, spans, in_order, GROWS),
+        b't' => read_transform::<G>(start, left, spans, in_order),
+        b'x' => read_private::<G>(start, left, spans),
+        _ => read_other::<G>(byte, start, left, spans, in_order),
     }
 }
 
 /// Reads the blocks from a singleton on, and puts them in the order of their singletons.
 #[inline(always)]
-pub fn read_blocks(
+pub fn read_blocks<G: Growth>(
     left: &mut Left<'_>,
     spans: &mut Spans,
     in_order: &mut bool,
-    grows: bool,
 ) -> Blocks
     requires later { IsLater left.old }
     requires single { is_one_byte (piece_left left.old) ≡ true }
@@ -202,7 +142,7 @@ pub fn read_blocks(
         let from = spans.count;
         let start = left.at - 1;
         advance(left);
-        let found = read_body(byte, start, left, spans, in_order, grows);
+        let found = read_body::<G>(byte, start, left, spans, in_order);
         match found {
             Found::Bad => return Blocks::Refused(ParseError::InvalidExtension),
             Found::Repeated => return Blocks::Refused(ParseError::InvalidSubtag),

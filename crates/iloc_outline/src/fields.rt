@@ -5,6 +5,7 @@ ghost use Rattle.iloc_pieces.specs.Left.{IsLater, IsShortPiece, piece_left};
 ghost use Rattle.iloc_outline.specs.Reading.{AreFieldsRead, IsOfField, role_key};
 ghost use Rattle.iloc_outline.specs.Fields.{PrintsAsItIs, IsValueRead};
 
+use crate::growth::Growth;
 use crate::reading::Found;
 use crate::sorting::{Inserted, put_from};
 use crate::span::{Role, Span};
@@ -81,12 +82,11 @@ fn is_edited(role: Role, value: &Value) -> bool
 /// Reads the keywords or fields that come first, and puts their spans in order; of equal keys the first stays. A key of `t`
 /// has a value.
 #[inline(always)]
-pub fn read_fields(
+pub fn read_fields<G: Growth>(
     role: Role,
     left: &mut Left<'_>,
     spans: &mut Spans,
     in_order: &mut bool,
-    grows: bool,
 ) -> Found
     requires role { IsOfField role }
     requires later { IsLater left.old }
@@ -109,7 +109,7 @@ pub fn read_fields(
             role,
             edited: is_edited(role, &value),
         };
-        if let Inserted::Full = put_from(spans, from, &mut last, span, in_order, grows) {
+        if let Inserted::Full = put_from::<G>(spans, from, &mut last, span, in_order) {
             return Found::Full;
         }
         if value.is_end {

@@ -49,7 +49,7 @@ impl Group {
             ≡ held_spans spans.old ++ group_spans self.now }
     {
         for span in self.tree.values() {
-            if !spans.put(*span, true) {
+            if !spans.put_anywhere(*span) {
                 return false;
             }
         }

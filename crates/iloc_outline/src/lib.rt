@@ -19,6 +19,7 @@
 pub mod blocks;
 pub mod fields;
 pub mod group;
+pub mod growth;
 pub mod identifier;
 pub mod more;
 pub mod other;

@@ -5,6 +5,7 @@ ghost use Rattle.iloc_spec_grammar.specs.Syntax.{code_x, is_other_singleton};
 ghost use Rattle.iloc_pieces.specs.Left.{IsSpanned, whole_text};
 ghost use Rattle.iloc_outline.specs.Reading.{FollowsSingleton, IsBodyAt, IsPrivateBody, IsPutOther, block_span};
 
+use crate::growth::Growth;
 use crate::reading::Found;
 use crate::span::{Role, Span};
 use crate::spans::Spans;
@@ -15,7 +16,7 @@ const LAST: u64 = 255;
 
 /// Reads private subtags up to the end of the text, one at least. The singleton begins at the hyphen at `start`.
 #[inline(always)]
-pub fn read_private(start: usize, left: &mut Left<'_>, spans: &mut Spans, grows: bool) -> Found
+pub fn read_private<G: Growth>(start: usize, left: &mut Left<'_>, spans: &mut Spans) -> Found
     requires follows { FollowsSingleton start left.old }
     ensures { (c : ℕ) → to_ascii_lowercase c ≡ code_x
         → IsSpanned (whole_text left.old) start (left.old.at - 1) ((c ∷ []) ∷ [])
@@ -30,7 +31,7 @@ pub fn read_private(start: usize, left: &mut Left<'_>, spans: &mut Spans, grows:
                 role: Role::Singleton,
                 edited: false,
             };
-            if !spans.put(span, grows) {
+            if !spans.put::<G>(span) {
                 return Found::Full;
             }
             return Found::End;
@@ -43,13 +44,12 @@ pub fn read_private(start: usize, left: &mut Left<'_>, spans: &mut Spans, grows:
 /// Reads pieces of two to eight bytes up to the next block, of which one at least is a subtag. The singleton, whose byte in
 /// lower case is given, begins at the hyphen at `start`.
 #[inline(always)]
-pub fn read_other(
+pub fn read_other<G: Growth>(
     byte: u8,
     start: usize,
     left: &mut Left<'_>,
     spans: &mut Spans,
     in_order: &mut bool,
-    grows: bool,
 ) -> Found
     requires follows { FollowsSingleton start left.old }
     requires other { is_other_singleton byte ≡ true }
@@ -69,7 +69,7 @@ pub fn read_other(
                 return Found::Bad;
             }
             let end = left.at + left.n;
-            return put_other(byte, start, end, edited, spans, in_order, grows, Found::End);
+            return put_other::<G>(byte, start, end, edited, spans, in_order, Found::End);
         }
         advance(left);
     }
@@ -77,28 +77,18 @@ pub fn read_other(
         return Found::Bad;
     }
     let end = left.at - 1;
-    put_other(
-        byte,
-        start,
-        end,
-        edited,
-        spans,
-        in_order,
-        grows,
-        Found::Next,
-    )
+    put_other::<G>(byte, start, end, edited, spans, in_order, Found::Next)
 }
 
 // Puts the span of the block, which is edited if a piece is left out.
 #[inline(always)]
-fn put_other(
+fn put_other<G: Growth>(
     byte: u8,
     start: usize,
     end: usize,
     edited: bool,
     spans: &mut Spans,
     in_order: &mut bool,
-    grows: bool,
     found: Found,
 ) -> Found
     ensures { IsPutOther (block_span byte start end edited) spans.old spans.new in_order.old
@@ -114,7 +104,7 @@ fn put_other(
         role: Role::Singleton,
         edited,
     };
-    if !spans.put(span, grows) {
+    if !spans.put::<G>(span) {
         return Found::Full;
     }
     found

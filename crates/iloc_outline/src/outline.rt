@@ -4,6 +4,7 @@ ghost use Rattle.iloc_pieces.specs.Left.{bytes_left};
 ghost use Rattle.iloc_outline.specs.Outlines.{AreHeadRead, BeginsWithLanguage, IsFinished, IsIdentifierOutlined, IsLocaleOutlined};
 
 use crate::blocks::{Blocks, read_blocks};
+use crate::growth::{Growing, Growth, InPlace};
 use crate::identifier::read_front;
 use crate::reading::Found;
 use crate::span::Role;
@@ -72,7 +73,7 @@ fn begins_few(window: &[u8], len: usize) -> bool
 
 /// Reads the identifier at the beginning of a text. In `in_order` it says whether its variants are in order.
 #[inline(always)]
-pub fn read_head(left: &mut Left<'_>, spans: &mut Spans, in_order: &mut bool, grows: bool) -> Head
+pub fn read_head<G: Growth>(left: &mut Left<'_>, spans: &mut Spans, in_order: &mut bool) -> Head
     requires first { left.old.at ≡ 0 }
     requires begins { BeginsWithLanguage (bytes_left left.old) }
     ensures { AreHeadRead (bytes_left left.old) left.new spans.new in_order.new result }
@@ -88,7 +89,7 @@ pub fn read_head(left: &mut Left<'_>, spans: &mut Spans, in_order: &mut bool, gr
     if front.is_all {
         return Head::All(outline);
     }
-    match read_words(Role::Variant, left, spans, in_order, grows) {
+    match read_words::<G>(Role::Variant, left, spans, in_order) {
         Found::End => Head::All(outline),
         Found::Next => {
             if !is_single(*left) {
@@ -124,7 +125,7 @@ pub fn outline_identifier(window: &[u8], len: usize, spans: &mut Spans) -> Outli
     requires begins { BeginsWithLanguage (take len window.now) }
     ensures { IsIdentifierOutlined (take len window.now) spans.new result }
 {
-    read_identifier::<false>(window, len, spans)
+    read_identifier::<InPlace>(window, len, spans)
 }
 
 /// It again, where the room in place was too small: `Full` says that the spans may not grow, or that memory was refused.
@@ -134,20 +135,20 @@ pub fn outline_long_identifier(window: &[u8], len: usize, spans: &mut Spans) -> 
     requires begins { BeginsWithLanguage (take len window.now) }
     ensures { IsIdentifierOutlined (take len window.now) spans.new result }
 {
-    read_identifier::<true>(window, len, spans)
+    read_identifier::<Growing>(window, len, spans)
 }
 
 // Reads the first `len` bytes as an identifier, with room that grows or not. Each is a function of its own with one caller,
 // so that it is inlined.
 #[inline(always)]
-fn read_identifier<const GROWS: bool>(window: &[u8], len: usize, spans: &mut Spans) -> Outlined
+fn read_identifier<G: Growth>(window: &[u8], len: usize, spans: &mut Spans) -> Outlined
     requires inside { len ≤ length window.now }
     requires begins { BeginsWithLanguage (take len window.now) }
     ensures { IsIdentifierOutlined (take len window.now) spans.new result }
 {
     let mut left = left_in(window, len);
     let mut in_order = true;
-    match read_head(&mut left, spans, &mut in_order, GROWS) {
+    match read_head::<G>(&mut left, spans, &mut in_order) {
         Head::All(outline) => Outlined::Normal(finished(outline, len, spans, in_order)),
         Head::Block(_) => Outlined::Refused(ParseError::InvalidSubtag),
         Head::Refused(error) => Outlined::Refused(error),
@@ -162,7 +163,7 @@ pub fn outline_locale(window: &[u8], len: usize, spans: &mut Spans) -> Outlined
     requires begins { BeginsWithLanguage (take len window.now) }
     ensures { IsLocaleOutlined (take len window.now) spans.new result }
 {
-    read_locale::<false>(window, len, spans)
+    read_locale::<InPlace>(window, len, spans)
 }
 
 /// It again, where the room in place was too small: `Full` says that the spans may not grow, or that memory was refused.
@@ -172,25 +173,25 @@ pub fn outline_long_locale(window: &[u8], len: usize, spans: &mut Spans) -> Outl
     requires begins { BeginsWithLanguage (take len window.now) }
     ensures { IsLocaleOutlined (take len window.now) spans.new result }
 {
-    read_locale::<true>(window, len, spans)
+    read_locale::<Growing>(window, len, spans)
 }
 
 // Reads the first `len` bytes as a locale, in two functions likewise.
 #[inline(always)]
-fn read_locale<const GROWS: bool>(window: &[u8], len: usize, spans: &mut Spans) -> Outlined
+fn read_locale<G: Growth>(window: &[u8], len: usize, spans: &mut Spans) -> Outlined
     requires inside { len ≤ length window.now }
     requires begins { BeginsWithLanguage (take len window.now) }
     ensures { IsLocaleOutlined (take len window.now) spans.new result }
 {
     let mut left = left_in(window, len);
     let mut in_order = true;
-    let outline = match read_head(&mut left, spans, &mut in_order, GROWS) {
+    let outline = match read_head::<G>(&mut left, spans, &mut in_order) {
         Head::All(outline) => return Outlined::Normal(finished(outline, len, spans, in_order)),
         Head::Block(outline) => outline,
         Head::Refused(error) => return Outlined::Refused(error),
         Head::Full => return Outlined::Full,
     };
-    match read_blocks(&mut left, spans, &mut in_order, GROWS) {
+    match read_blocks::<G>(&mut left, spans, &mut in_order) {
         Blocks::Good => Outlined::Normal(finished(outline, len, spans, in_order)),
         Blocks::Refused(error) => Outlined::Refused(error),
         Blocks::Full => Outlined::Full,

@@ -9,6 +9,7 @@ ghost use Rattle.iloc_outline.specs.Spans.{Spell, held_spans};
 ghost use Rattle.iloc_outline.specs.Inserting.{IsInserted, IsPutFrom};
 ghost use Rattle.iloc_outline.specs.Groups.{AreGroups, is_greater, parts_in};
 
+use crate::growth::Growth;
 use crate::span::{Role, Span};
 use crate::spans::{MOST, Spans};
 
@@ -26,13 +27,12 @@ pub enum Inserted {
 /// Puts a span behind the others if its number is greater than the last one, which it is from then on; else where it belongs
 /// among those from `from` on. In `in_order` it says whether it stands behind the others and is not edited.
 #[inline(always)]
-pub fn put_from(
+pub fn put_from<G: Growth>(
     spans: &mut Spans,
     from: usize,
     last: &mut u64,
     span: Span,
     in_order: &mut bool,
-    grows: bool,
 ) -> Inserted
     requires { from ≤ spans.old.count }
     ensures put { IsPutFrom from span (held_spans spans.old) (held_spans spans.new)
@@ -44,10 +44,10 @@ pub fn put_from(
     }
     if span.word <= *last {
         *in_order = false;
-        return insert_from(spans, from, span.apart());
+        return insert_from::<G>(spans, from, span.apart());
     }
     *last = span.word;
-    if spans.put(span, grows) {
+    if spans.put::<G>(span) {
         Inserted::Put
     } else {
         Inserted::Full
@@ -56,13 +56,13 @@ pub fn put_from(
 
 /// Puts a span where it belongs among those from `from` on, which are in the order of their numbers and differ.
 #[inline(never)]
-pub fn insert_from(spans: &mut Spans, from: usize, span: Span) -> Inserted
+pub fn insert_from<G: Growth>(spans: &mut Spans, from: usize, span: Span) -> Inserted
     requires { from ≤ spans.old.count }
     ensures inserted { IsInserted from span (held_spans spans.old) (held_spans spans.new) result }
     ensures full { result ≡ Inserted.Full → 64 ≤ length (held_spans spans.old) }
 {
     if spans.count >= MOST {
-        return insert_more(spans, from, span);
+        return G::insert(spans, from, span);
     }
     let Spans { list, count, .. } = spans;
     let at = place_of(list, from, *count, &span);
@@ -74,9 +74,9 @@ pub fn insert_from(spans: &mut Spans, from: usize, span: Span) -> Inserted
     Inserted::Put
 }
 
-// Puts it so where the room in place is full. There may be too many words to try each place: a group takes them.
+/// Puts it so where the room in place is full. There may be too many words to try each place: a group takes them.
 #[inline(never)]
-fn insert_more(spans: &mut Spans, from: usize, span: Span) -> Inserted
+pub fn insert_more(spans: &mut Spans, from: usize, span: Span) -> Inserted
     requires from { from ≤ spans.old.count }
     requires many { 64 ≤ spans.old.count }
     ensures { IsInserted from span (held_spans spans.old) (held_spans spans.new) result }

@@ -3,6 +3,7 @@ ghost use Rattle.std.specs.Prelude.{◌≡◌, ◌≢◌, ◌+◌, ◌-◌, ◌<
 ghost use Rattle.iloc_outline.specs.More.{more_spans};
 
 use crate::group::Group;
+use crate::growth::Growth;
 use crate::more::{self, More};
 use crate::sorting::{Inserted, turn_in_place};
 use crate::span::{NO_SPANS, Span};
@@ -91,17 +92,27 @@ impl Spans {
         self.count = 0;
     }
 
-    /// Puts a span behind the others, field by field: as a whole it would be stored twice. `false` if there is no room for it: in place there is room for 64, and room that grows
-    /// ends where memory is refused. If `grows` is false, only the room in place counts.
+    /// Puts a span behind the others. `false` if there is no room for it: in place there is room for 64, and room that grows
+    /// ends where memory is refused.
     #[inline(always)]
-    pub fn put(&mut self, span: Span, grows: bool) -> bool
+    pub fn put<G: Growth>(&mut self, span: Span) -> bool
         ensures put { result ≡ true → held_spans self.new ≡ held_spans self.old ++ span ∷ [] }
         ensures full { result ≡ false → (64 ≤ length (held_spans self.old))
             × (held_spans self.new ≡ held_spans self.old) }
     {
         if self.count >= MOST {
-            return grows && self.put_more(span.apart());
+            return G::put(self, span.apart());
         }
+        self.put_in_place(span);
+        true
+    }
+
+    // Puts it where there is room in place, field by field: as a whole it would be stored twice.
+    #[inline(always)]
+    fn put_in_place(&mut self, span: Span)
+        requires { self.old.count < 64 }
+        ensures { held_spans self.new ≡ held_spans self.old ++ span ∷ [] }
+    {
         let to = &mut self.list[self.count];
         to.word = span.word;
         to.start = span.start;
@@ -109,6 +120,16 @@ impl Spans {
         to.role = span.role;
         to.edited = span.edited;
         self.count += 1;
+    }
+
+    /// Puts a span behind the others, wherever there is room. `false` if memory is refused, or no room grows.
+    pub(crate) fn put_anywhere(&mut self, span: Span) -> bool
+        ensures { result ≡ true → held_spans self.new ≡ held_spans self.old ++ span ∷ [] }
+    {
+        if self.count >= MOST {
+            return self.put_more(span);
+        }
+        self.put_in_place(span);
         true
     }
 
@@ -165,9 +186,9 @@ impl Spans {
         self.count = to;
     }
 
-    // Puts it where the room in place is full.
+    /// Puts a span behind the others where the room in place is full. `false` if memory is refused, or no room grows.
     #[inline(never)]
-    fn put_more(&mut self, span: Span) -> bool
+    pub(crate) fn put_more(&mut self, span: Span) -> bool
         requires { 64 ≤ self.old.count }
         ensures put { result ≡ true → held_spans self.new ≡ held_spans self.old ++ span ∷ [] }
         ensures full { result ≡ false → held_spans self.new ≡ held_spans self.old }

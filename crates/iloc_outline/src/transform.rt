@@ -5,6 +5,7 @@ ghost use Rattle.iloc_pieces.specs.Left.{piece_left};
 ghost use Rattle.iloc_outline.specs.Reading.{FollowsSingleton, IsBodyAt, block_span};
 
 use crate::fields::read_fields;
+use crate::growth::Growth;
 use crate::identifier::read_front;
 use crate::reading::Found;
 use crate::span::{Role, Span};
@@ -29,41 +30,39 @@ fn singleton(start: usize, end: usize) -> Span
 /// Reads an identifier and fields, one of both at least, up to the next block. The singleton begins at the hyphen at
 /// `start`.
 #[inline(always)]
-pub fn read_transform(
+pub fn read_transform<G: Growth>(
     start: usize,
     left: &mut Left<'_>,
     spans: &mut Spans,
     in_order: &mut bool,
-    grows: bool,
 ) -> Found
     requires follows { FollowsSingleton start left.old }
     ensures { IsBodyAt code_t start left.old left.new spans.old spans.new in_order.old in_order.new
         result }
 {
     if !is_language(*left) {
-        return read_fields_alone(start, left, spans, in_order, grows);
+        return read_fields_alone::<G>(start, left, spans, in_order);
     }
     let front = read_front(left);
-    if !spans.put(singleton(start, front.end), grows) {
+    if !spans.put::<G>(singleton(start, front.end)) {
         return Found::Full;
     }
     if front.is_all {
         return Found::End;
     }
-    match read_words(Role::Variant, left, spans, in_order, grows) {
-        Found::Next => read_fields(Role::Field, left, spans, in_order, grows).at_block(left),
+    match read_words::<G>(Role::Variant, left, spans, in_order) {
+        Found::Next => read_fields::<G>(Role::Field, left, spans, in_order).at_block(left),
         found => found,
     }
 }
 
 // Reads fields, one at least.
 #[inline(always)]
-fn read_fields_alone(
+fn read_fields_alone<G: Growth>(
     start: usize,
     left: &mut Left<'_>,
     spans: &mut Spans,
     in_order: &mut bool,
-    grows: bool,
 ) -> Found
     requires follows { FollowsSingleton start left.old }
     requires alone { is_word (Language languages) (piece_left left.old) ≡ false }
@@ -73,8 +72,8 @@ fn read_fields_alone(
     if is_single(*left) {
         return Found::Bad;
     }
-    if !spans.put(singleton(start, left.at - 1), grows) {
+    if !spans.put::<G>(singleton(start, left.at - 1)) {
         return Found::Full;
     }
-    read_fields(Role::Field, left, spans, in_order, grows).at_block(left)
+    read_fields::<G>(Role::Field, left, spans, in_order).at_block(left)
 }

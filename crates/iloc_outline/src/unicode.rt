@@ -3,6 +3,7 @@ ghost use Rattle.iloc_spec_grammar.specs.Syntax.{code_u};
 ghost use Rattle.iloc_outline.specs.Reading.{FollowsSingleton, IsBodyAt};
 
 use crate::fields::read_fields;
+use crate::growth::Growth;
 use crate::reading::Found;
 use crate::span::{Role, Span};
 use crate::spans::Spans;
@@ -11,12 +12,11 @@ use iloc_pieces::left::{Left, is_single};
 
 /// Reads attributes and keywords, one at least, up to the next block. The singleton begins at the hyphen at `start`.
 #[inline(always)]
-pub fn read_unicode(
+pub fn read_unicode<G: Growth>(
     start: usize,
     left: &mut Left<'_>,
     spans: &mut Spans,
     in_order: &mut bool,
-    grows: bool,
 ) -> Found
     requires follows { FollowsSingleton start left.old }
     ensures { IsBodyAt code_u start left.old left.new spans.old spans.new in_order.old in_order.new
@@ -32,11 +32,11 @@ pub fn read_unicode(
         role: Role::Singleton,
         edited: false,
     };
-    if !spans.put(singleton, grows) {
+    if !spans.put::<G>(singleton) {
         return Found::Full;
     }
-    let found = match read_words(Role::Attribute, left, spans, in_order, grows) {
-        Found::Next => read_fields(Role::Keyword, left, spans, in_order, grows),
+    let found = match read_words::<G>(Role::Attribute, left, spans, in_order) {
+        Found::Next => read_fields::<G>(Role::Keyword, left, spans, in_order),
         found => found,
     };
     found.at_block(left)

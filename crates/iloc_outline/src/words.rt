@@ -10,6 +10,7 @@ ghost use Rattle.iloc_outline.specs.declared.spans.Spans.{Spans};
 ghost use Rattle.iloc_pieces.specs.declared.cursor.Left.{Left};
 
 use crate::group::Group;
+use crate::growth::Growth;
 use crate::reading::Found;
 use crate::sorting::{Inserted, put_from};
 use crate::span::{Role, Span};
@@ -46,12 +47,11 @@ fn span_of(role: Role, left: Left<'_>) -> Span
 /// Reads the words of this role that come first, attributes or variants, and puts their spans in order. A variant that comes
 /// twice is refused; of equal attributes the first stays.
 #[inline(always)]
-pub fn read_words(
+pub fn read_words<G: Growth>(
     role: Role,
     left: &mut Left<'_>,
     spans: &mut Spans,
     in_order: &mut bool,
-    grows: bool,
 ) -> Found
     requires role { IsOfWord role }
     requires later { IsLater left.old }
@@ -62,19 +62,14 @@ pub fn read_words(
     let mut last = 0;
     'words: while fits(role, *left) {
         let span = span_of(role, *left);
-        match put_from(spans, from, &mut last, span, in_order, grows) {
+        match put_from::<G>(spans, from, &mut last, span, in_order) {
             Inserted::Put => (),
             Inserted::There => {
                 if role == Role::Variant {
                     return Found::Repeated;
                 }
             }
-            Inserted::Full => {
-                if grows {
-                    return read_more_words(role, left, spans, from, in_order);
-                }
-                return Found::Full;
-            }
+            Inserted::Full => return G::read_words(role, left, spans, from, in_order),
         }
         if is_last(*left) {
             return Found::End;
@@ -84,10 +79,10 @@ pub fn read_words(
     Found::Next
 }
 
-// Reads the rest of them where there is no room in place: all of the group, which began at `from` and of which so many
-// were read, is put in order by a tree.
+/// Reads the rest of them where there is no room in place: all of the group, which began at `from` and of which so many
+/// were read, is put in order by a tree.
 #[inline(never)]
-fn read_more_words(
+pub fn read_more_words(
     role: Role,
     left: &mut Left<'_>,
     spans: &mut Spans,

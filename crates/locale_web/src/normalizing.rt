@@ -16,6 +16,7 @@ use iloc_normalize::copying::copy_all;
 use iloc_outline::printing::copy_outline;
 use iloc_outline::spans::Spans;
 use iloc_subtags::ParseError;
+use std::mem::forget;
 
 // How much larger than a text its room is.
 const MORE: usize = 16;
@@ -51,16 +52,27 @@ fn has_room(len: usize, to: &[u8]) -> bool
     to.len() >= MORE && to.len() - MORE >= len
 }
 
-// Puts the normal text of what the first bytes mean into the front of a room that is large enough.
+// Puts the normal text of what the first bytes mean into the front of a room that is large enough. The spans own no memory.
 fn put_first(mode: Mode, window: &[u8], len: usize, to: &mut [u8]) -> Placed
     requires inside { len ≤ length window.now }
     requires room { len + 16 ≤ length to.old }
     ensures { IsPut mode (take len window.now) (length to.old) to.new result }
 {
     let mut spans = Spans::new();
-    match read(mode, window, len, &mut spans) {
+    let placed = put_with(mode, window, len, &mut spans, to);
+    forget(spans);
+    placed
+}
+
+// Puts it so, with room for its spans.
+fn put_with(mode: Mode, window: &[u8], len: usize, spans: &mut Spans, to: &mut [u8]) -> Placed
+    requires inside { len ≤ length window.now }
+    requires room { len + 16 ≤ length to.old }
+    ensures { IsPut mode (take len window.now) (length to.old) to.new result }
+{
+    match read(mode, window, len, spans) {
         Found::Outlined(outline) => {
-            Placed::Normal(copy_outline(window, len, &outline, &spans, to))
+            Placed::Normal(copy_outline(window, len, &outline, spans, to))
         }
         Found::Parts(parts) => Placed::Normal(put_parts(parts, to)),
         Found::Refused(error) => Placed::Refused(error),

@@ -15,6 +15,7 @@ use iloc_outline::outline::{
 };
 use iloc_outline::spans::Spans;
 use iloc_subtags::ParseError;
+use std::mem::forget;
 
 // The longest text that is outlined.
 const MOST: usize = 65535;
@@ -112,13 +113,25 @@ pub(crate) fn read(mode: Mode, window: &[u8], len: usize, spans: &mut Spans) -> 
     }
 }
 
-/// The status of the text: it means something, or its refusal. `None` if it is past the limits.
+/// The status of the text: it means something, or its refusal. `None` if it is past the limits. Spans in place own no
+/// memory, so they are forgotten: the module has no allocator to give any back to.
 pub(crate) fn judge(mode: Mode, window: &[u8], len: usize) -> Option<Status>
     ensures { MatchOption result (IsPastLimits mode (take len window.now))
         (IsJudged mode (take len window.now)) }
 {
     let mut spans = Spans::new();
-    match read(mode, window, text_end(window, len), &mut spans) {
+    let status = judge_with(mode, window, text_end(window, len), &mut spans);
+    forget(spans);
+    status
+}
+
+// The status of the first bytes, with room for their spans.
+fn judge_with(mode: Mode, window: &[u8], len: usize, spans: &mut Spans) -> Option<Status>
+    requires { len ≤ length window.now }
+    ensures { MatchOption result (IsPastLimits mode (take len window.now))
+        (IsJudged mode (take len window.now)) }
+{
+    match read(mode, window, len, spans) {
         Found::Outlined(_) | Found::Parts(_) => Some(Status::Done),
         Found::Refused(error) => Some(Status::from(error)),
         Found::Beyond => None,

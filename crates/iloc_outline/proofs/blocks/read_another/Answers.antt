@@ -6,9 +6,9 @@ use Rattle.iloc_outline.proofs.BlocksLemmas.{read_next}
 use Rattle.iloc_outline.proofs.blocks.read_another.Goals as goal
 
 pub invariant_of-left : goal.invariant_of-left
-invariant_of-left c =
+invariant_of-left g c =
     let (b, e, s) = c.requires.singleton in
-    let r = c.read_beside-found in
+    let r = c.read_apart-found in
     let m = r.new.left in
     let same = (read_next b c.args.left.now m c.args.spans.now r.new.spans c.args.in_order.now r.new.in_order
     (subst (IsBlockRead b c.args.left.now m c.args.spans.now r.new.spans c.args.in_order.now r.new.in_order)

@@ -10,22 +10,23 @@ use Rattle.iloc_outline.specs.declared.spans.Spans.{Spans}
 use Rattle.iloc_outline.proofs.BlocksLemmas.{IsDone, IsRead, all_done}
 use Rattle.iloc_pieces.proofs.LeftLemmas.{last_piece, single_short}
 use Rattle.iloc_outline.proofs.SingletonSteps as at
+use Rattle.iloc_outline.proofs.blocks.read_blocks.Given.{Over}
 use Rattle.iloc_outline.proofs.blocks.read_blocks.Goals as goal
 use Rattle.iloc_outline.proofs.blocks.read_blocks.Goals.{After-read_body-found, Joined-rank-last-2}
 use Rattle.iloc_outline.proofs.blocks.read_blocks.Goals.{else-rank-last, else-rank-last-2}
 use Rattle.iloc_outline.proofs.blocks.read_blocks.Goals.{then-rank-last+else-has_block, then-rank-last-2}
 
 pub singletons-init : goal.singletons-init
-singletons-init c =
+singletons-init g c =
     at.starts_at c.args.left.now c.args.spans.now c.args.in_order.now
     c.requires.later c.requires.single
 
 pub returns-then-not-is_alphanumeric : goal.returns-then-not-is_alphanumeric
-returns-then-not-is_alphanumeric c =
+returns-then-not-is_alphanumeric g c =
     at.refuses_letter c.singletons.invariant (sym c.is_alphanumeric.ensures ∙ c.if-not-is_alphanumeric.true)
 
 pub returns-then-has_block : goal.returns-then-has_block
-returns-then-has_block c =
+returns-then-has_block g c =
     let h = c.singletons.invariant in
     let letter : is_ascii_alphanumeric (at.byte_at h) ≡ true = sym c.is_alphanumeric.ensures
     ∙ c.if-not-is_alphanumeric.false in
@@ -35,7 +36,7 @@ returns-then-has_block c =
     c.has_block.result c.has_block.ensures ∙ c.if-has_block.true)
 
 pub returns-then-is_last : goal.returns-then-is_last
-returns-then-is_last c =
+returns-then-is_last g c =
     let h = c.singletons.invariant in
     let letter : is_ascii_alphanumeric (at.byte_at h) ≡ true = sym c.is_alphanumeric.ensures
     ∙ c.if-not-is_alphanumeric.false in
@@ -53,117 +54,117 @@ returns-then-is_last c =
     (single_short (piece_left c.singletons.left) h.single))
 
 pub read_body-found-requires-clause-singleton : goal.read_body-found-requires-clause-singleton
-read_body-found-requires-clause-singleton c =
+read_body-found-requires-clause-singleton g c =
     let h = c.singletons.invariant in
     (at.byte_at h, sym c.singleton-byte.ensures, at.spanned_at h c.advance.ensures)
 
 -- what was read behind the singleton, if it is r
-abbrev IsReadAs : After-read_body-found → Found → Type 0
-IsReadAs c r = IsBlockRead (at.byte_at c.singletons.invariant) c.advance.new.left
+abbrev IsReadAs : (g : Over) → After-read_body-found g → Found → Type 0
+IsReadAs g c r = IsBlockRead (at.byte_at c.singletons.invariant) c.advance.new.left
     c.read_body-found.new.left c.singletons.spans
     c.read_body-found.new.spans c.if-rank-last.in_order c.read_body-found.new.in_order r
 
-read_as : (c : After-read_body-found) (r : Found) → c.read_body-found.result ≡ r → IsReadAs c r
-read_as c r e = subst (IsReadAs c) e
+read_as : (g : Over) (c : After-read_body-found g) (r : Found) → c.read_body-found.result ≡ r → IsReadAs g c r
+read_as g c r e = subst (IsReadAs g c) e
     (c.read_body-found.ensures (at.byte_at c.singletons.invariant) (sym c.singleton-byte.ensures)
     (at.spanned_at c.singletons.invariant c.advance.ensures))
 
-rank_is : (c : After-read_body-found) → c.rank_of-rank.result ≡ at.rank_at c.singletons.invariant
-rank_is c = c.rank_of-rank.ensures ∙ ap rank c.singleton-byte.ensures
+rank_is : (g : Over) (c : After-read_body-found g) → c.rank_of-rank.result ≡ at.rank_at c.singletons.invariant
+rank_is g c = c.rank_of-rank.ensures ∙ ap rank c.singleton-byte.ensures
 
 -- the singleton is passed
-passed : (c : After-read_body-found)
+passed : (g : Over) (c : After-read_body-found g)
     → at.Passed c.singletons.invariant c.advance.new.left c.read_body-found.new.spans
     c.if-rank-last.in_order c.read_body-found.new.in_order
-passed c =
+passed g c =
     let h = c.singletons.invariant in
     let letter : is_ascii_alphanumeric (at.byte_at h) ≡ true = sym c.is_alphanumeric.ensures
     ∙ c.if-not-is_alphanumeric.false in
     let fresh : at.IsFresh h letter c.if-rank-last.in_order = elim c.if-rank-last.branch [
       | then-rank-last+else-has_block w ↦ at.fresh_told h letter c.requires.begun c.rank_of-rank.result
-          (rank_is c)
+          (rank_is g c)
           w.has_block.result w.if-has_block.false w.has_block.ensures c.if-rank-last.in_order w.in_order-is
-      | else-rank-last w ↦ at.fresh_above h letter c.rank_of-rank.result (rank_is c) w.if-rank-last.false
+      | else-rank-last w ↦ at.fresh_above h letter c.rank_of-rank.result (rank_is g c) w.if-rank-last.false
           c.if-rank-last.in_order w.in_order-is
     ] in
     record { letter = letter; fresh = fresh; next = c.advance.ensures }
 
 pub returns-in-Bad : goal.returns-in-Bad
-returns-in-Bad c =
-    let p = (goal.at.returns-in-Bad c).After-read_body-found in
-    at.refuses_bad c.singletons.invariant (passed p) c.read_body-found.new.left (read_as p Bad c.in-Bad.is)
+returns-in-Bad g c =
+    let p = (goal.at.returns-in-Bad g c).After-read_body-found in
+    at.refuses_bad c.singletons.invariant (passed g p) c.read_body-found.new.left (read_as g p Bad c.in-Bad.is)
 
 pub returns-in-Repeated : goal.returns-in-Repeated
-returns-in-Repeated c =
-    let p = (goal.at.returns-in-Repeated c).After-read_body-found in
-    at.refuses_repeated c.singletons.invariant (passed p) c.read_body-found.new.left
-    (read_as p Repeated c.in-Repeated.is)
+returns-in-Repeated g c =
+    let p = (goal.at.returns-in-Repeated g c).After-read_body-found in
+    at.refuses_repeated c.singletons.invariant (passed g p) c.read_body-found.new.left
+    (read_as g p Repeated c.in-Repeated.is)
 
 pub returns-in-Full : goal.returns-in-Full
-returns-in-Full c =
-    let p = (goal.at.returns-in-Full c).After-read_body-found in
-    at.too_many c.singletons.invariant (passed p) c.read_body-found.new.left (read_as p Full c.in-Full.is)
+returns-in-Full g c =
+    let p = (goal.at.returns-in-Full g c).After-read_body-found in
+    at.too_many c.singletons.invariant (passed g p) c.read_body-found.new.left (read_as g p Full c.in-Full.is)
 
 pub place_block-requires : goal.place_block-requires
-place_block-requires c =
-    let p = (goal.at.place_block-requires c).After-read_body-found in
+place_block-requires g c =
+    let p = (goal.at.place_block-requires g c).After-read_body-found in
     let h = c.singletons.invariant in
     let next = c.read_body-found.new.left in
     elim c.in-End.is [
-      | inl e ↦ at.grows h (passed p) c.requires.begun [] (at.ends_here h (passed p) next (read_as p End e))
-      | inr e ↦ at.grows h (passed p) c.requires.begun (pieces_left next)
-          (at.goes_on h (passed p) next (read_as p Next e))
+      | inl e ↦ at.grows h (passed g p) c.requires.begun [] (at.ends_here h (passed g p) next (read_as g p End e))
+      | inr e ↦ at.grows h (passed g p) c.requires.begun (pieces_left next)
+          (at.goes_on h (passed g p) next (read_as g p Next e))
     ]
 
 -- the block was put, and rest follows
-abbrev IsPut : Joined-rank-last-2 → List Text → ℕ → Spans → Type 0
-IsPut c rest last spans =
+abbrev IsPut : (g : Over) → Joined-rank-last-2 g → List Text → ℕ → Spans → Type 0
+IsPut g c rest last spans =
     IsDone c.args.left.now c.args.spans.now c.args.in_order.now rest last spans c.read_body-found.new.in_order
 
-put : (c : Joined-rank-last-2) →
+put : (g : Over) (c : Joined-rank-last-2 g) →
     at.Passed c.singletons.invariant c.advance.new.left c.read_body-found.new.spans
     c.if-rank-last.in_order c.read_body-found.new.in_order
     → c.rank_of-rank.result ≡ at.rank_at c.singletons.invariant → (rest : List Text)
     → IsRead (at.byte_at c.singletons.invariant) (whole_text c.args.left.now)
     (at.behind c.singletons.invariant) rest
     c.singletons.spans c.read_body-found.new.spans c.if-rank-last.in_order c.read_body-found.new.in_order
-    → IsPut c rest c.if-rank-last-2.last c.if-rank-last-2.spans
-put c x e rest r = elim c.if-rank-last-2.branch [
+    → IsPut g c rest c.if-rank-last-2.last c.if-rank-last-2.spans
+put g c x e rest r = elim c.if-rank-last-2.branch [
   | then-rank-last-2 w ↦
-      subst (λ top. IsPut c rest top c.if-rank-last-2.spans) (sym w.last-is)
-      (subst (IsPut c rest c.singletons.last) (sym w.spans-is)
+      subst (λ top. IsPut g c rest top c.if-rank-last-2.spans) (sym w.last-is)
+      (subst (IsPut g c rest c.singletons.last) (sym w.spans-is)
       (at.comes_before c.singletons.invariant x rest r c.rank_of-rank.result e w.if-rank-last-2.true
       w.place_block.new.spans w.place_block.ensures.same w.place_block.ensures.placed))
   | else-rank-last-2 w ↦
-      subst (λ top. IsPut c rest top c.if-rank-last-2.spans) (sym w.last-is)
-      (subst (IsPut c rest c.rank_of-rank.result) (sym w.spans-is)
+      subst (λ top. IsPut g c rest top c.if-rank-last-2.spans) (sym w.last-is)
+      (subst (IsPut g c rest c.rank_of-rank.result) (sym w.spans-is)
       (at.stays_last c.singletons.invariant x rest r c.rank_of-rank.result e w.if-rank-last-2.false))
 ]
 
 pub singletons-smaller : goal.singletons-smaller
-singletons-smaller c =
-    let p = (goal.at.singletons-smaller c).After-read_body-found in
+singletons-smaller g c =
+    let p = (goal.at.singletons-smaller g c).After-read_body-found in
     let goes_on : c.read_body-found.result ≡ Next =
     elim c.in-End.is [ inl e ↦ absurd (c.in_default.not-End e) | inr e ↦ e ] in
-    at.less_at c.singletons.invariant (passed p) c.read_body-found.new.left (read_as p Next goes_on)
+    at.less_at c.singletons.invariant (passed g p) c.read_body-found.new.left (read_as g p Next goes_on)
 
 pub singletons-preserved : goal.singletons-preserved
-singletons-preserved c =
-    let p = (goal.at.singletons-preserved c).After-read_body-found in
+singletons-preserved g c =
+    let p = (goal.at.singletons-preserved g c).After-read_body-found in
     let h = c.singletons.invariant in
     let next = c.read_body-found.new.left in
     let goes_on : c.read_body-found.result ≡ Next =
     elim c.in-End.is [ inl e ↦ absurd (c.in_default.not-End e) | inr e ↦ e ] in
-    let r = read_as p Next goes_on in
-    at.next_at h (passed p) next r c.if-rank-last-2.last c.if-rank-last-2.spans
-    (put (goal.at.singletons-preserved c).Joined-rank-last-2 (passed p) (rank_is p) (pieces_left next)
-    (at.goes_on h (passed p) next r))
+    let r = read_as g p Next goes_on in
+    at.next_at h (passed g p) next r c.if-rank-last-2.last c.if-rank-last-2.spans
+    (put g (goal.at.singletons-preserved g c).Joined-rank-last-2 (passed g p) (rank_is g p) (pieces_left next)
+    (at.goes_on h (passed g p) next r))
 
 pub returns-in-End-found : goal.returns-in-End-found
-returns-in-End-found c =
-    let p = (goal.at.returns-in-End-found c).After-read_body-found in
+returns-in-End-found g c =
+    let p = (goal.at.returns-in-End-found g c).After-read_body-found in
     all_done c.args.left.now c.args.spans.now c.args.in_order.now c.if-rank-last-2.last c.if-rank-last-2.spans
     c.read_body-found.new.in_order
-    (put (goal.at.returns-in-End-found c).Joined-rank-last-2 (passed p) (rank_is p) []
-    (at.ends_here c.singletons.invariant (passed p) c.read_body-found.new.left
-    (read_as p End c.in-End-found.is)))
+    (put g (goal.at.returns-in-End-found g c).Joined-rank-last-2 (passed g p) (rank_is g p) []
+    (at.ends_here c.singletons.invariant (passed g p) c.read_body-found.new.left
+    (read_as g p End c.in-End-found.is)))

@@ -26,19 +26,19 @@ ends : (m : Left) (v : Value) → v.is_end ≡ true → unless_end v.is_end m �
 ends m v = ap (behind m)
 
 pub keys-init : goal.keys-init
-keys-init c =
+keys-init g c =
     takes_none c.args.role c.args.left.now c.requires.later (held_spans c.args.spans.now)
     c.args.in_order.now
 
 pub read_value-value-requires-clause-later : goal.read_value-value-requires-clause-later
-read_value-value-requires-clause-later c = c.keys.invariant.past.later
+read_value-value-requires-clause-later g c = c.keys.invariant.past.later
 
 pub read_value-value-requires-clause-short : goal.read_value-value-requires-clause-short
-read_value-value-requires-clause-short c =
+read_value-value-requires-clause-short g c =
     short_key_kind c.args.role _ (sym c.is_key_of.ensures ∙ c.keys-test.true)
 
 pub returns-then-value-eq0 : goal.returns-then-value-eq0
-returns-then-value-eq0 c =
+returns-then-value-eq0 g c =
     let v = c.read_value-value in
     let field = same_true the_type (search rules) _ _ (sym c.if-eq.ensures) in (
       field,
@@ -49,11 +49,11 @@ returns-then-value-eq0 c =
     )
 
 pub word_number-word-requires : goal.word_number-word-requires
-word_number-word-requires c =
+word_number-word-requires g c =
     key_kind_fits c.args.role _ (sym c.is_key_of.ensures ∙ c.keys-test.true)
 
 pub put_from-requires : goal.put_from-requires
-put_from-requires c =
+put_from-requires g c =
     omega (
       arith,
       gathers_from _ _ _ _ _ _ _ c.keys.invariant.gathers,
@@ -62,12 +62,12 @@ put_from-requires c =
     )
 
 pub returns-in-Full : goal.returns-in-Full
-returns-in-Full c =
+returns-in-Full g c =
     takes_full _ c.args.left.now c.keys.left c.args.spans.now _ _ _ _ c.keys.invariant
     (c.put_from.ensures.full c.in-Full.is)
 
 pub keys-preserved : goal.keys-preserved
-keys-preserved c =
+keys-preserved g c =
     let v = c.read_value-value in
     let key = sym c.is_key_of.ensures ∙ c.keys-test.true in
     let some : c.args.role ≡ Field → c.read_value-value.result.count ≢ 0 = λ t. elim c.else-eq.branch [
@@ -80,7 +80,7 @@ keys-preserved c =
     c.put_from.ensures.put c.in_default.not-Full v.new.left (goes_on v.new.left v.result c.if-value.false)
 
 pub returns-then-value : goal.returns-then-value
-returns-then-value c =
+returns-then-value g c =
     let v = c.read_value-value in
     let key = sym c.is_key_of.ensures ∙ c.keys-test.true in
     let some : c.args.role ≡ Field → c.read_value-value.result.count ≢ 0 = λ t. elim c.else-eq.branch [
@@ -94,7 +94,7 @@ returns-then-value c =
     (ends v.new.left v.result c.if-value.true)
 
 pub keys-smaller : goal.keys-smaller
-keys-smaller c =
+keys-smaller g c =
     let v = c.read_value-value in
     field_less c.args.role c.args.left.now c.keys.left c.args.spans.now _ _ _ _ c.keys.invariant v.new.left
     v.result
@@ -102,7 +102,7 @@ keys-smaller c =
     v.new.left (goes_on v.new.left v.result c.if-value.false)
 
 pub returns : goal.returns
-returns c =
+returns g c =
     let w = c.keys.invariant in (
       w.fields,
       w.past,

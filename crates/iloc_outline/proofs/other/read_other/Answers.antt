@@ -6,6 +6,7 @@ use Rattle.iloc_outline.specs.declared.reading.Found.TheVariants.{End, Next}
 use Rattle.iloc_pieces.proofs.LeftLemmas.{between_short, last_piece, past_none}
 use Rattle.iloc_outline.proofs.OtherLemmas.{IsBetween, PassesOneMore, end_bad, end_put, more_odd, more_subtag}
 use Rattle.iloc_outline.proofs.OtherLemmas.{next_bad, next_odd, next_put, other_next, put_at}
+use Rattle.iloc_outline.proofs.other.read_other.Given.{Over}
 use Rattle.iloc_outline.proofs.other.read_other.Goals as goal
 use Rattle.iloc_outline.proofs.other.read_other.Goals.{
   then-is_subtag,
@@ -15,26 +16,26 @@ use Rattle.iloc_outline.proofs.other.read_other.Goals.{
   After-is_last,
 }
 
-between : (c : After-is_last) → IsBetween (piece_left c.pieces.left)
-between c = sym c.is_between.ensures ∙ c.pieces-test.true
+between : (g : Over) (c : After-is_last g) → IsBetween (piece_left c.pieces.left)
+between g c = sym c.is_between.ensures ∙ c.pieces-test.true
 
 -- the piece is one more
-one_more : (c : After-is_last)
+one_more : (g : Over) (c : After-is_last g)
     → PassesOneMore c.args.left.now c.pieces.left c.if-is_subtag.is_good c.if-is_subtag.edited
-one_more c = elim c.if-is_subtag.branch [
+one_more g c = elim c.if-is_subtag.branch [
   | then-is_subtag w ↦
       rw (w.is_good-is, w.edited-is)
       (more_subtag c.args.left.now c.pieces.left c.pieces.is_good c.pieces.edited c.pieces.invariant.passed
-      (between c) (sym c.is_subtag.ensures ∙ w.if-is_subtag.true))
+      (between g c) (sym c.is_subtag.ensures ∙ w.if-is_subtag.true))
   | else-is_subtag w ↦
       rw (w.is_good-is, w.edited-is)
       (more_odd c.args.left.now c.pieces.left c.pieces.is_good c.pieces.edited c.pieces.invariant.passed
-      (between c)
+      (between g c)
       (sym c.is_subtag.ensures ∙ w.if-is_subtag.false))
 ]
 
 pub pieces-init : goal.pieces-init
-pieces-init c = record {
+pieces-init g c = record {
   passed = record {
     words =
         [];
@@ -47,39 +48,39 @@ pieces-init c = record {
 }
 
 pub advance-requires-clause-short : goal.advance-requires-clause-short
-advance-requires-clause-short c =
+advance-requires-clause-short g c =
     between_short (piece_left c.pieces.left) (sym c.is_between.ensures ∙ c.pieces-test.true)
 
 pub pieces-preserved : goal.pieces-preserved
-pieces-preserved c = record {
+pieces-preserved g c = record {
   passed =
       other_next c.args.left.now c.pieces.left c.advance.new.left c.if-is_subtag.is_good c.if-is_subtag.edited
-      (one_more (goal.at.pieces-preserved c).After-is_last)
-      (between (goal.at.pieces-preserved c).After-is_last) c.advance.ensures;
+      (one_more g (goal.at.pieces-preserved g c).After-is_last)
+      (between g (goal.at.pieces-preserved g c).After-is_last) c.advance.ensures;
   spans = c.pieces.invariant.spans;
   in_order = c.pieces.invariant.in_order;
 }
 
-ended : (c : After-is_last) → c.is_last.result ≡ true → IsEnd c.pieces.left
-ended c last = last_piece c.pieces.left (c.is_last.ensures.0 last)
-    (between_short (piece_left c.pieces.left) (between c))
+ended : (g : Over) (c : After-is_last g) → c.is_last.result ≡ true → IsEnd c.pieces.left
+ended g c last = last_piece c.pieces.left (c.is_last.ensures.0 last)
+    (between_short (piece_left c.pieces.left) (between g c))
 
 pub returns-then-not-is_good : goal.returns-then-not-is_good
-returns-then-not-is_good c = λ c' e spanned.
-    let after = (goal.at.returns-then-not-is_good c).After-is_last in
+returns-then-not-is_good g c = λ c' e spanned.
+    let after = (goal.at.returns-then-not-is_good g c).After-is_last in
     end_bad c' c.args.left.now (ap is_other_singleton e ∙ c.requires.other) c.pieces.left
     c.if-is_subtag.is_good
-    c.if-is_subtag.edited (one_more after)
-    (ended after c.if-is_last.true) c.args.spans.now c.args.spans.now c.args.in_order.now c.args.in_order.now
+    c.if-is_subtag.edited (one_more g after)
+    (ended g after c.if-is_last.true) c.args.spans.now c.args.spans.now c.args.in_order.now c.args.in_order.now
     c.if-not-is_good.true
 
 pub returns-then-is_last : goal.returns-then-is_last
-returns-then-is_last c = λ c' e spanned.
-    let after = (goal.at.returns-then-is_last c).After-is_last in
+returns-then-is_last g c = λ c' e spanned.
+    let after = (goal.at.returns-then-is_last g c).After-is_last in
     end_put c' c.args.left.now (ap is_other_singleton e ∙ c.requires.other) c.pieces.left
     c.if-is_subtag.is_good
-    c.if-is_subtag.edited (one_more after)
-    (ended after c.if-is_last.true) c.args.start c.args.spans.now c.put_other.new.spans c.args.in_order.now
+    c.if-is_subtag.edited (one_more g after)
+    (ended g after c.if-is_last.true) c.args.start c.args.spans.now c.put_other.new.spans c.args.in_order.now
     c.put_other.new.in_order c.put_other.result
     c.if-not-is_good.false c.requires.follows.later spanned
     (put_at c' c.args.byte c.args.start (c.pieces.left.at + c.pieces.left.n) c.if-is_subtag.edited
@@ -88,7 +89,7 @@ returns-then-is_last c = λ c' e spanned.
     c.pieces.invariant.spans c.pieces.invariant.in_order c.put_other.ensures)
 
 pub returns-then-not-is_good-2 : goal.returns-then-not-is_good-2
-returns-then-not-is_good-2 c = λ c' e spanned.
+returns-then-not-is_good-2 g c = λ c' e spanned.
     let other = ap is_other_singleton e ∙ c.requires.other in
     let odd = sym c.is_between.ensures ∙ c.pieces-test.false in
     let spans = c.args.spans.now in
@@ -106,7 +107,7 @@ returns-then-not-is_good-2 c = λ c' e spanned.
     ]
 
 pub returns : goal.returns
-returns c = λ c' e spanned.
+returns g c = λ c' e spanned.
     next_put c' c.args.left.now (ap is_other_singleton e ∙ c.requires.other) c.pieces.left c.pieces.is_good
     c.pieces.edited c.pieces.invariant.passed c.args.start
     c.args.spans.now c.put_other-2.new.spans c.args.in_order.now c.put_other-2.new.in_order

@@ -10,14 +10,14 @@ use Rattle.iloc_outline.proofs.OtherLemmas.{private_end, private_next, private_o
 use Rattle.iloc_outline.proofs.other.read_private.Goals as goal
 
 pub words-init : goal.words-init
-words-init c = record {
+words-init g c = record {
   passed = record { words = []; past = past_none c.args.left.now c.requires.follows.later; each = tt };
   spans =
       refl;
 }
 
 pub returns-then-is_last : goal.returns-then-is_last
-returns-then-is_last c = λ c' e spanned o.
+returns-then-is_last g c = λ c' e spanned o.
     let word : IsWord PrivateSubtag (piece_left c.words.left) =
     sym c.is_private.ensures ∙ c.words-test.true in
     let end : IsEnd c.words.left =
@@ -30,17 +30,17 @@ returns-then-is_last c = λ c' e spanned o.
     (c.put.ensures.put c.if-not-put.false ∙ ap (λ s. held_spans s ++ span ∷ []) c.words.invariant.spans)
 
 pub advance-requires-clause-short : goal.advance-requires-clause-short
-advance-requires-clause-short c =
+advance-requires-clause-short g c =
     short_private (piece_left c.words.left) (sym c.is_private.ensures ∙ c.words-test.true)
 
 pub words-preserved : goal.words-preserved
-words-preserved c = record {
+words-preserved g c = record {
   passed = private_next c.args.left.now c.words.left c.advance.new.left c.words.invariant.passed
       (sym c.is_private.ensures ∙ c.words-test.true) c.advance.ensures;
   spans = c.words.invariant.spans;
 }
 
 pub returns : goal.returns
-returns c = λ c' e spanned o.
+returns g c = λ c' e spanned o.
     private_odd c' c.args.left.now c.words.left c.args.spans.now c.args.spans.now o e c.words.invariant.passed
     (sym c.is_private.ensures ∙ c.words-test.false)

@@ -14,7 +14,7 @@ goes_on : (l m : Left) (f : Front) → IsFrontRead l m f → f.is_all ≡ false 
 goes_on l m f h e = subst (λ (b : Bool). IsAfterFront l (unless_end b m)) e h.next
 
 pub returns-then-front : goal.returns-then-front
-returns-then-front c =
+returns-then-front g c =
     let l = c.args.left.now in
     let front = c.read_front-front in
     head_front l front.result c.requires.first c.requires.begins front.new.left front.ensures
@@ -22,7 +22,7 @@ returns-then-front c =
     (subst (λ (b : Bool). IsAfterFront l (unless_end b front.new.left)) c.if-front.true front.ensures.next)
 
 pub returns-in-End : goal.returns-in-End
-returns-in-End c =
+returns-in-End g c =
     let l = c.args.left.now in
     let front = c.read_front-front in
     let words = c.read_words in
@@ -33,7 +33,7 @@ returns-in-End c =
     words.new.in_order) c.in-End.is words.ensures)
 
 pub returns-else-not-is_single : goal.returns-else-not-is_single
-returns-else-not-is_single c =
+returns-else-not-is_single g c =
     let l = c.args.left.now in
     let front = c.read_front-front in
     let words = c.read_words in
@@ -45,7 +45,7 @@ returns-else-not-is_single c =
     (sym c.is_single.ensures ∙ c.if-not-is_single.false)
 
 pub returns-then-not-is_single : goal.returns-then-not-is_single
-returns-then-not-is_single c =
+returns-then-not-is_single g c =
     let l = c.args.left.now in
     let front = c.read_front-front in
     let words = c.read_words in
@@ -57,7 +57,7 @@ returns-then-not-is_single c =
     (sym c.is_single.ensures ∙ c.if-not-is_single.true)
 
 pub returns-in-Bad : goal.returns-in-Bad
-returns-in-Bad c =
+returns-in-Bad g c =
     let l = c.args.left.now in
     let front = c.read_front-front in
     let words = c.read_words in

@@ -7,11 +7,11 @@ use Rattle.iloc_outline.proofs.sorting.insert_from.Goals.{else-at-count-via-then
 use Rattle.iloc_outline.proofs.sorting.insert_from.Goals.{else-at-count-via-else-at-count}
 
 pub returns-then-spans-ge-MOST-clause-full : goal.returns-then-spans-ge-MOST-clause-full
-returns-then-spans-ge-MOST-clause-full c =
+returns-then-spans-ge-MOST-clause-full g c =
     λ _. omega (arith, length-held c.args.spans.now, c.if-spans-ge-MOST.true)
 
 pub returns-then-list-at-clause-inserted : goal.returns-then-list-at-clause-inserted
-returns-then-list-at-clause-inserted c = λ before ss n s.
+returns-then-list-at-clause-inserted g c = λ before ss n s.
     let old = c.args.spans.now in
     let few : old.count < 64 = omega (arith, c.if-spans-ge-MOST.false) in
     let place = held_in_place old (room_in_place old few) in
@@ -27,19 +27,19 @@ returns-then-list-at-clause-inserted c = λ before ss n s.
     )
 
 pub invariant_of-spans-2-clause-within : goal.invariant_of-spans-2-clause-within
-invariant_of-spans-2-clause-within c =
+invariant_of-spans-2-clause-within g c =
     let old = c.args.spans.now in
     λ some. ((old.within some).0, omega (arith, c.if-spans-ge-MOST.false))
 
 pub invariant_of-spans-2-clause-long : goal.invariant_of-spans-2-clause-long
-invariant_of-spans-2-clause-long c =
+invariant_of-spans-2-clause-long g c =
     let old = c.args.spans.now in
     same_long old.list c.insert_at.new.list old.count c.place_of-at.result c.args.span
     c.place_of-at.ensures.within (omega (arith, old.long, c.if-spans-ge-MOST.false)) c.insert_at.ensures.front
     c.insert_at.ensures.back ∙ old.long
 
 pub returns-clause-inserted : goal.returns-clause-inserted
-returns-clause-inserted c = λ before ss n s.
+returns-clause-inserted g c = λ before ss n s.
     let old = c.args.spans.now in
     let few : old.count < 64 = omega (arith, c.if-spans-ge-MOST.false) in
     let some = room_in_place old few in

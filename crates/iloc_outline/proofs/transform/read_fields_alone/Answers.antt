@@ -7,14 +7,14 @@ use Rattle.iloc_outline.proofs.TransformReading.{alone_read, transform_single}
 use Rattle.iloc_outline.proofs.transform.read_fields_alone.Goals as goal
 
 pub returns-then-is_single : goal.returns-then-is_single
-returns-then-is_single c = λ c' e spanned.
+returns-then-is_single g c = λ c' e spanned.
     transform_single c' c.args.start c.args.left.now e c.requires.alone c.args.left.now c.args.spans.now
     c.args.spans.now
     c.args.in_order.now c.args.in_order.now
     (sym c.is_single.ensures ∙ c.if-is_single.true)
 
 pub returns : goal.returns
-returns c = λ c' e spanned.
+returns g c = λ c' e spanned.
     let long : is_one_byte (piece_left c.args.left.now) ≡ false =
     sym c.is_single.ensures ∙ c.if-is_single.false in
     let put =

@@ -8,7 +8,7 @@ use Rattle.iloc_outline.proofs.TransformReading.{front_alone, variants_alone, va
 use Rattle.iloc_outline.proofs.transform.read_transform.Goals as goal
 
 pub returns-then-front : goal.returns-then-front
-returns-then-front c = λ c' e spanned.
+returns-then-front g c = λ c' e spanned.
     let l = c.args.left.now in
     let front = c.read_front-front in
     front_alone c' c.args.start front.result.end l e
@@ -20,7 +20,7 @@ returns-then-front c = λ c' e spanned.
     (subst (λ (b : Bool). IsAfterFront l (unless_end b front.new.left)) c.if-front.true front.ensures.next)
 
 pub returns-in-Next : goal.returns-in-Next
-returns-in-Next c = λ c' e spanned.
+returns-in-Next g c = λ c' e spanned.
     let l = c.args.left.now in
     let front = c.read_front-front in
     let words = c.read_words in
@@ -40,7 +40,7 @@ returns-in-Next c = λ c' e spanned.
     c.read_fields.ensures c.at_block.ensures
 
 pub returns-in_default : goal.returns-in_default
-returns-in_default c = λ c' e spanned.
+returns-in_default g c = λ c' e spanned.
     let l = c.args.left.now in
     let front = c.read_front-front in
     let words = c.read_words in

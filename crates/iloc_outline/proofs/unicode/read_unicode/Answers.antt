@@ -9,13 +9,13 @@ use Rattle.iloc_outline.proofs.unicode.read_unicode.Goals as goal
 use Rattle.iloc_outline.proofs.unicode.read_unicode.Goals.{in-Next, in_default}
 
 pub returns-then-is_single : goal.returns-then-is_single
-returns-then-is_single c = λ c' e spanned.
+returns-then-is_single g c = λ c' e spanned.
     unicode_single c' c.args.left.now c.args.left.now c.args.spans.now c.args.spans.now c.args.in_order.now
     c.args.in_order.now e
     (sym c.is_single.ensures ∙ c.if-is_single.true)
 
 pub returns : goal.returns
-returns c = λ c' e spanned.
+returns g c = λ c' e spanned.
     let long : is_one_byte (piece_left c.args.left.now) ≡ false =
     sym c.is_single.ensures ∙ c.if-is_single.false in
     let put = c.put.ensures.put c.if-not-put.false in

@@ -14,27 +14,23 @@ use Rattle.iloc_outline.proofs.words.read_words.Goals as goal
 use Rattle.iloc_outline.proofs.words.read_words.Goals.{in-Put, in-There+else-eq}
 
 pub words-init : goal.words-init
-words-init c =
+words-init g c =
     walks_none c.args.role c.args.left.now c.requires.later (held_spans c.args.spans.now)
     c.args.in_order.now
 
 pub span_of-span-requires-clause-later : goal.span_of-span-requires-clause-later
-span_of-span-requires-clause-later c = c.words.invariant.past.later
+span_of-span-requires-clause-later g c = c.words.invariant.past.later
 
 pub returns-in-Full : goal.returns-in-Full
-returns-in-Full c =
-    walks_full _ _ _ c.args.spans.now _ _ _ _ c.words.invariant (c.put_from.ensures.full c.in-Full.is)
-
-pub returns-then-grows : goal.returns-then-grows
-returns-then-grows c =
-    c.read_more_words.ensures c.args.left.now c.args.spans.now c.words.last c.args.in_order.now
+returns-in-Full g c =
+    c.read_words.ensures c.args.left.now c.args.spans.now c.words.last c.args.in_order.now
     c.words.in_order refl
     (subst (λ ss. Walks c.args.role c.args.left.now c.words.left (held_spans c.args.spans.now) ss c.words.last
     c.args.in_order.now c.words.in_order)
     (sym (put_full _ _ _ _ _ _ _ _ c.put_from.result c.in-Full.is c.put_from.ensures.put)) c.words.invariant)
 
 pub put_from-requires : goal.put_from-requires
-put_from-requires c =
+put_from-requires g c =
     omega (
       arith,
       gathers_from _ _ _ _ _ _ _ c.words.invariant.gathers,
@@ -43,7 +39,7 @@ put_from-requires c =
     )
 
 pub returns-then-eq : goal.returns-then-eq
-returns-then-eq c =
+returns-then-eq g c =
     let word = sym c.fits.ensures ∙ c.words-test.true in
     let put = subst (λ (s : Span). IsPutFrom c.args.spans.now.count s (held_spans c.words.spans)
     (held_spans c.put_from.new.spans) c.words.last c.put_from.new.last c.words.in_order
@@ -55,7 +51,7 @@ returns-then-eq c =
     )
 
 pub returns-then-is_last : goal.returns-then-is_last
-returns-then-is_last c =
+returns-then-is_last g c =
     let word = sym c.fits.ensures ∙ c.words-test.true in
     let put = subst (λ (s : Span). IsPutFrom c.args.spans.now.count s (held_spans c.words.spans)
     (held_spans c.put_from.new.spans) c.words.last c.put_from.new.last c.words.in_order
@@ -69,10 +65,10 @@ returns-then-is_last c =
     refl c.put_from.result put may c.put_from.new.spans refl (c.is_last.ensures.0 c.if-is_last.true)
 
 pub advance-requires-clause-short : goal.advance-requires-clause-short
-advance-requires-clause-short c = short_kind c.args.role _ (sym c.fits.ensures ∙ c.words-test.true)
+advance-requires-clause-short g c = short_kind c.args.role _ (sym c.fits.ensures ∙ c.words-test.true)
 
 pub words-preserved : goal.words-preserved
-words-preserved c =
+words-preserved g c =
     let word = sym c.fits.ensures ∙ c.words-test.true in
     let put = subst (λ (s : Span). IsPutFrom c.args.spans.now.count s (held_spans c.words.spans)
     (held_spans c.put_from.new.spans) c.words.last c.put_from.new.last c.words.in_order
@@ -86,7 +82,7 @@ words-preserved c =
     refl c.put_from.result put may c.advance.new.left c.advance.ensures
 
 pub returns : goal.returns
-returns c =
+returns g c =
     let w = c.words.invariant in
     let none = sym c.fits.ensures ∙ c.words-test.false in
     (w.words, w.past, none, walks_past _ _ _ c.args.spans.now _ _ _ _ w c.words.spans refl none)

@@ -2,7 +2,7 @@
 use Rattle.std.proofs.Common.{take, sym, subst, arith}
 use Rattle.iloc_spec_grammar.specs.Syntax.{languages}
 use Rattle.iloc_normalize.specs.Modes.{IsNormalText}
-use Rattle.locale_web.proofs.normalizing.put_first.Goals as goal
+use Rattle.locale_web.proofs.normalizing.put_with.Goals as goal
 
 pub returns-in-Outlined : goal.returns-in-Outlined
 returns-in-Outlined c =

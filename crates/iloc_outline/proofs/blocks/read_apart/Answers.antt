@@ -1,7 +1,7 @@
 -- What follows `x`.
 use Rattle.std.proofs.Common.{◌==◌, sym, ap, subst, ◌∙◌}
 use Rattle.iloc_outline.proofs.BlocksLemmas.{IsReadAt}
-use Rattle.iloc_outline.proofs.blocks.read_by_singleton.Goals as goal
+use Rattle.iloc_outline.proofs.blocks.read_apart.Goals as goal
 use Rattle.iloc_spec_grammar.specs.Syntax.{code_x}
 
 pub returns-in-120 : goal.returns-in-120
