@@ -113,11 +113,7 @@ fn read_apart<G: Growth>(
 
 /// Reads the blocks from a singleton on, and puts them in the order of their singletons.
 #[inline(always)]
-pub fn read_blocks<G: Growth>(
-    left: &mut Left<'_>,
-    spans: &mut Spans,
-    in_order: &mut bool,
-) -> Blocks
+pub fn read_blocks<G: Growth>(left: &mut Left<'_>, spans: &mut Spans, in_order: &mut bool) -> Blocks
     requires later { IsLater left.old }
     requires single { is_one_byte (piece_left left.old) ≡ true }
     requires begun { AreBegun (whole_text left.old) spans.old }
