@@ -92,7 +92,8 @@ passed g c =
 pub returns-in-Bad : goal.returns-in-Bad
 returns-in-Bad g c =
     let p = (goal.at.returns-in-Bad g c).After-read_body-found in
-    at.refuses_bad c.singletons.invariant (passed g p) c.read_body-found.new.left (read_as g p Bad c.in-Bad.is)
+    at.refuses_bad c.singletons.invariant (passed g p) c.read_body-found.new.left
+    (read_as g p Bad c.in-Bad.is)
 
 pub returns-in-Repeated : goal.returns-in-Repeated
 returns-in-Repeated g c =
@@ -111,7 +112,8 @@ place_block-requires g c =
     let h = c.singletons.invariant in
     let next = c.read_body-found.new.left in
     elim c.in-End.is [
-      | inl e ↦ at.grows h (passed g p) c.requires.begun [] (at.ends_here h (passed g p) next (read_as g p End e))
+      | inl e ↦
+          at.grows h (passed g p) c.requires.begun [] (at.ends_here h (passed g p) next (read_as g p End e))
       | inr e ↦ at.grows h (passed g p) c.requires.begun (pieces_left next)
           (at.goes_on h (passed g p) next (read_as g p Next e))
     ]

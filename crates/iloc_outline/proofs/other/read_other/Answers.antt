@@ -71,7 +71,8 @@ returns-then-not-is_good g c = λ c' e spanned.
     end_bad c' c.args.left.now (ap is_other_singleton e ∙ c.requires.other) c.pieces.left
     c.if-is_subtag.is_good
     c.if-is_subtag.edited (one_more g after)
-    (ended g after c.if-is_last.true) c.args.spans.now c.args.spans.now c.args.in_order.now c.args.in_order.now
+    (ended g after c.if-is_last.true) c.args.spans.now c.args.spans.now c.args.in_order.now
+    c.args.in_order.now
     c.if-not-is_good.true
 
 pub returns-then-is_last : goal.returns-then-is_last
