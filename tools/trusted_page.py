@@ -8,11 +8,13 @@ A part stands between `<!-- trusted: WHAT -->` and `<!-- /trusted -->`, where WH
 - `files PATH ..`: the definitions of these files on which the headline rests, word for word; after
   a path may stand the names of the first and of the last one;
 - `definition PATH NAME`: one that only laws cite, word for word;
+- `signatures`: its calls as they are declared;
 - `types`: the types and views through which its contracts see values, word for word;
 - `names`: which names come from std, and which stand for others;
-- `memory`: the clauses on memory, word for word, and what only they cite;
+- `memory`: the clauses on memory, word for word, and what only they cite, by names and checksums;
 - `outside`: how much of specs/ the headline does not rest on."""
 import difflib
+import hashlib
 import os
 import re
 import textwrap
@@ -27,6 +29,7 @@ ON_MEMORY = "ensures memory"  # the one kind of clause that stands apart: it say
 # list with others, the words of an error, how a value of a map is lent
 ALIKE = ("value_of", "place", "items_of", "with_list", "words_of", "lends_value", "lends_slice", "lends_item")
 PAGES = ("docs/REVIEW.md", "docs/CLAUSES.md")
+NEEDED = ("times", "counts", "signatures", "types", "names", "memory", "outside")  # the parts that some page has to have
 # how much is read in a minute
 WORDS, LINES = 220, 6
 CODE = re.compile(r"```text\n(.*?)```", re.S)
@@ -69,10 +72,11 @@ def unknown(sources):
 
 
 def reading(text):
-    """Returns how many words a page has, and how many lines of definitions and clauses."""
-    code = "\n".join(CODE.findall(text)).split("\n")
-    lines = [it for it in code if it.strip() and not it.strip().startswith("--")]
-    return len(re.sub(r"<!--.*?-->", "", CODE.sub("", text)).split()), len(lines)
+    """Returns how many words a page has, how many lines of definitions and clauses, and how many words their comments have."""
+    code = [it.strip() for it in "\n".join(CODE.findall(text)).split("\n") if it.strip()]
+    comments = [it[2:] for it in code if it.startswith("--")]
+    words = len(re.sub(r"<!--.*?-->", "", CODE.sub("", text)).split())
+    return words, len(code) - len(comments), len(" ".join(comments).split())
 
 
 class Pages:
@@ -93,11 +97,13 @@ class Pages:
 
     def part_times(self):
         """Says how long each page takes. Its own words are left out, so that they do not change what they say."""
-        rows = [f"| Page | Words | Lines of definitions and clauses | Minutes, at {WORDS} words and {LINES} of these lines each |", "|---|---|---|---|"]
+        titles = ["Page", "Words", "Lines of definitions and clauses", f"Minutes, at {WORDS} words and {LINES} of these lines each"]
+        rows = [f"| {' | '.join(titles)} | Words of comments in definitions | Minutes with these |", "|---|---|---|---|---|---|"]
         for path, text in self.texts.items():
             own = lambda found: "" if found[1] == "times" else found[0]
-            words, lines = reading(PART.sub(own, text))
-            rows.append(f"| {path} | {words:,} | {lines:,} | {round(words / WORDS + lines / LINES)} |")
+            words, lines, comments = reading(PART.sub(own, text))
+            minutes = words / WORDS + lines / LINES
+            rows.append(f"| {path} | {words:,} | {lines:,} | {round(minutes)} | {comments:,} | {round(minutes + comments / WORDS)} |")
         return "\n".join(rows)
 
     def part_counts(self):
@@ -152,11 +158,15 @@ class Pages:
             raise Wrong(f"{path} has {len(found)} definitions {name}: name one that it has")
         return f"`{path}`:\n\n```text\n{quoted(found[0])}\n```"
 
+    def part_signatures(self):
+        return types.signatures_part([it for it, _ in headline(self.sources)])
+
     def part_types(self):
         """Shows the types on the way: what they hold, how contracts see them, and what they always keep."""
-        made = types.types_part(self.sources, self.plain, self.place)
-        if self.plain.behind:
-            made += "\n\n```text\n" + "\n\n".join(quoted(it) for it in self.plain.behind) + "\n```"
+        made = types.types_part(self.sources, self.whole, self.place)
+        behind = dict.fromkeys([*self.plain.behind, *self.whole.behind])
+        if behind:
+            made += "\n\n```text\n" + "\n\n".join(map(quoted, behind)) + "\n```"
         return made
 
     def part_names(self):
@@ -172,9 +182,10 @@ class Pages:
         for call, kind, text in self.clauses():
             if kind == ON_MEMORY:
                 lines.append(f"{call}: {kind} {{ {' '.join(text.split())} }}")
-        lines += ["```", "", f"They cite {len(only)} definitions of {lines_of(only)} lines that no other clause cites:", ""]
+        said = f"They cite {len(only)} definitions of {lines_of(only)} lines that no other clause cites. These are their names, and in brackets"
+        lines += ["```", "", f"{said} the first digits of the SHA-256 of their text without comments:", ""]
         for path, found in self.whole.ordered(only):
-            lines.append(f"- `{path}`: {', '.join(f'`{it.name}`' for it in found)}")
+            lines.append(f"- `{path}` ({checksum(found)}): {', '.join(f'`{it.name}`' for it in found)}")
         return "\n".join(lines)
 
     def part_outside(self):
@@ -205,6 +216,8 @@ class Pages:
         # (the last, since it counts all others)
         made = {path: self.made_of(path, text, lambda what: what == "times", wrong) for path, text in self.texts.items()}
         names = " and ".join(PAGES)
+        there = {it[1] for text in texts.values() for it in PART.finditer(text)}
+        wrong += [f"{names}: the part {it!r} is on neither page: add it" for it in NEEDED if it not in there]
         for it in self.plain.definitions:
             if it not in self.placed:
                 wrong.append(f"{names}: {it.where}: {it.name} is at no stop: name it in a part 'files'")
@@ -240,6 +253,13 @@ def quoted(definition):
     return "\n".join(lines).rstrip()
 
 
+def checksum(definitions):
+    """Returns a checksum of the text of definitions, without comments and blank lines."""
+    lines = graph.antt.without_comments("\n".join(map(quoted, definitions))).split("\n")
+    text = "\n".join(it.rstrip() for it in lines if it.strip())
+    return hashlib.sha256(text.encode()).hexdigest()[:16]
+
+
 def dedented(text):
     first, _, rest = text.partition("\n")
     return first + ("\n" + textwrap.indent(textwrap.dedent(rest), "    ") if rest else "")
@@ -258,10 +278,22 @@ def write(sources):
     return 1 if wrong else 0
 
 
-def check(sources):
-    """Says which parts of the pages are not what the sources give, and which definitions have no sentence."""
+def stale(sources):
+    """Returns what is wrong with the pages, which their parts are that are not what the sources give, and how many parts they have."""
     texts = texts_of(sources)
     made, wrong = Pages(sources).made(texts)
+    parts = [(path, *it) for path, text in texts.items() for it in zip(PART.finditer(text), PART.finditer(made[path]))]
+    told = []
+    for path, old, new in parts:
+        if old[2] != new[2]:
+            changes = difflib.unified_diff(old[2].split("\n"), new[2].split("\n"), lineterm="", n=0)
+            told.append(f"{path}: the part '{old[1]}' is not current: run tools/trusted --write\n" + "\n".join(list(changes)[2:12]))
+    return wrong, told, len(parts)
+
+
+def check(sources):
+    """Says which parts of the pages are not what the sources give, and which definitions have no sentence."""
+    wrong, told, count = stale(sources)
     wrong += unknown(sources)
     library, every = graph.closure_of(sources, graph.library(sources)), sources.definitions()
     wrong += [f"{it.where}: {it.name} has no sentence" for it in library.definitions if not it.sentence()]
@@ -270,13 +302,7 @@ def check(sources):
     wrong += [f"the same text: {it}" for it in alike(with_text, lambda it: shape_of(sources, it))]
     with_name = [it for it in every if it.kind != "abstract" and it.is_public() and it.name not in ALIKE]
     wrong += [f"one name for two things: {it}" for it in alike(with_name, lambda it: it.name)]
-    count = 0
-    for path, text in texts.items():
-        for old, new in zip(PART.finditer(text), PART.finditer(made[path])):
-            count += 1
-            if old[2] != new[2]:
-                changes = difflib.unified_diff(old[2].split("\n"), new[2].split("\n"), lineterm="", n=0)
-                wrong.append(f"{path}: the part '{old[1]}' is not current: run tools/trusted --write\n" + "\n".join(list(changes)[2:12]))
+    wrong += told
     print("\n".join(wrong) if wrong else f"trusted: {' and '.join(PAGES)} are current")
     failed = min(len(wrong), count) or len(wrong)
     return common.counted(max(count - failed, 0), failed)

@@ -1,6 +1,6 @@
-"""How contracts see types, and where names stand: the parts of docs/REVIEW.md on types and on imports.
+"""How contracts see types, and where names stand: the parts of docs/CLAUSES.md on signatures, types and imports.
 
-All of it is printed from the sources, so that no field, view, invariant or import can change unseen."""
+All of it is printed from the sources, so that no signature, field, view, invariant or import can change unseen."""
 import re
 
 import trusted_graph as graph
@@ -54,6 +54,20 @@ def types_part(sources, closure, place):
             kind = next((one.body for one in closure.members if one.owner is it.owner and one.name == "Value"), "")
             lines.append(f"    {own(it)}: {member(sources, it)}" + (f" : {' '.join(kind.split())}" if it.name == "view" else ""))
     said = [f"// {path}\n" + "\n".join(lines) for path, lines in blocks.items()]
+    return "```text\n" + "\n\n".join(said) + "\n```"
+
+
+def signatures_part(contracts):
+    """Returns the calls as they are declared, by the files in which they stand, after the `use` lines of their types."""
+    blocks = {}
+    for it in contracts:
+        calls = blocks.setdefault(it.item.module, [])
+        calls.append(f"impl {it.item.owner.name} {{ {bare(it.item.before + it.item.head).rstrip(',')} }}")
+    said = []
+    for source, calls in blocks.items():
+        named = {*re.findall(r"[A-Z]\w*", " ".join(calls))} & {*source.names}
+        uses = [f"use {'::'.join(source.names[it])}{'' if source.names[it][-1] == it else f' as {it}'};" for it in named]
+        said.append("\n".join([f"// {source.path}", " ".join(sorted(uses)), *calls]))
     return "```text\n" + "\n\n".join(said) + "\n```"
 
 
