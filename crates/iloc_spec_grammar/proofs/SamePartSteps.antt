@@ -1,10 +1,10 @@
 -- The steps of identifiers, of fields and of what blocks spell are those of the tree.
-use Rattle.std.proofs.Common.{◌≡◌, ℕ, ◌≤◌, Bool, ◌||◌, not, List, [], ◌∷◌, length, map, refl, sym, ap, ◌∙◌}
+use Rattle.std.proofs.Common.{◌≡◌, ℕ, ◌≤◌, Bool, length, refl, sym, ap, ◌∙◌}
 use Rattle.std.proofs.Common.{subst, arith, Option, Some, None, option_to_list}
-use Rattle.std.specs.List.{list_any, AllZip}
+use Rattle.std.specs.List.{AllZip}
 use Rattle.std.specs.Char.{to_ascii_lowercase}
-use Rattle.iloc_spec_grammar.specs.Syntax.{LanguageLengths, Field, Text, Subtag, is_word, lower, is_same}
-use Rattle.iloc_spec_grammar.specs.Syntax.{is_true, SpelledIdentifier}
+use Rattle.iloc_spec_grammar.specs.Syntax.{LanguageLengths, Field}
+use Rattle.iloc_spec_grammar.specs.Syntax.{SpelledIdentifier}
 use Rattle.iloc_spec_grammar.specs.Syntax.{SpelledUnicode, SpelledTransform, Fields, IsUnicode, IsTransform}
 use Rattle.iloc_spec_grammar.specs.Tree.{Extension, unicode, transform, extension_pieces, IsUnicodeBlock}
 use Rattle.iloc_spec_grammar.specs.Tree.{IsTransformBlock, IsExtension}

@@ -1,10 +1,10 @@
 -- Steps of the tree: the eight ways to change an accepted text, as changes of the tree that it
 -- spells. No contract of a type rests on them: SameSteps shows that they agree with those of
 -- Values.
-use Rattle.std.specs.Prelude.{◌≡◌, ℕ, ◌<◌, true, List, [], ◌∷◌, length, map, Option, Some, Bool, not}
-use Rattle.std.specs.List.{list_any, AllZip}
+use Rattle.std.specs.Prelude.{◌≡◌, ℕ, ◌<◌, List, [], length, map, Option, Some, not}
+use Rattle.std.specs.List.{AllZip}
 use Rattle.iloc_spec_grammar.specs.Syntax.{Text, LanguageLengths, Block, Field, join, pieces, Subtag, lower}
-use Rattle.iloc_spec_grammar.specs.Syntax.{word_cmp, is_true, is_word, is_same, SpelledIdentifier, Fields}
+use Rattle.iloc_spec_grammar.specs.Syntax.{word_cmp, is_true, is_word, SpelledIdentifier, Fields}
 use Rattle.iloc_spec_grammar.specs.Syntax.{identifier_pieces, AllDifferent, IsIdentifier}
 use Rattle.iloc_spec_grammar.specs.Values.{Reordered, Without, WithoutRepeats}
 use Rattle.iloc_spec_grammar.specs.Tree.{Extension, unicode, transform, other, Written, spelling, IsWritten}
