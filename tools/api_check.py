@@ -76,11 +76,11 @@ def not_found(found):
 
 
 def wrong_examples():
-    """Yields each example that is a part of a statement; and each call that no test, program of rows or user's program
-    makes, as far as its type or its name tells."""
+    """Yields each example that is an arm, on a bare `self`, or a part of a statement; and each call that no test, program
+    of rows or user's program makes, as far as its type or its name tells."""
     for (_, *names), (path, number, line) in api_examples.examples().items():
-        if not api_examples.is_whole(line):
-            yield f"the example of {'::'.join(names)} is part of a statement: {line} ({path}:{number})"
+        if api_examples.telling(line, names[-1]) != line:
+            yield f"the example of {'::'.join(names)} says too little: {line} ({path}:{number})"
     made, every = api_examples.tried_keys(), [it for entry in shown() if not entry.is_law for it in entry.calls]
     yield from (f"{it.title}: no test makes this call: add a row" for it in every if it.key not in made)
 
