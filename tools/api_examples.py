@@ -192,8 +192,10 @@ def written_by(line, macros):
 
 def is_whole(text):
     """Returns whether each bracket in a text is closed there, and it is not the rest of a statement."""
-    bare = re.sub(r"\"[^\"]*\"|'.'", "", text)
-    return not text.startswith((".", "?", ")", "}")) and all(bare.count(it[0]) == bare.count(it[1]) for it in ("()", "[]", "{}"))
+    bare = re.sub(r"\"[^\"]*\"|'.'|[^()\[\]{}]", "", text)
+    for _ in bare:
+        bare = re.sub(r"\(\)|\[\]|\{\}", "", bare)
+    return not text.startswith((".", "?")) and not bare
 
 
 def telling(line, name):
