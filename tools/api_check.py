@@ -1,4 +1,4 @@
-"""Checks the HTML pages of public items: links, ids, names that are bound, what search finds, and examples."""
+"""Checks the HTML pages of public items: links, names in prose, ids, names that are bound, what search finds, and examples."""
 import collections
 import html
 import os
@@ -6,12 +6,18 @@ import re
 
 import api_examples
 import api_search
-from api_model import shown
+from api_markup import NAME
+from api_model import OF_STD, model, shown
+from api_names import law, module_file, public
 from common import read
 
 # Words of the language, which declare and are no names.
 NO_NAMES = {"abbrev", "let", "in", "pub", "record", "data", "module", "use", "where", "unfoldable"}
 LAMBDA = re.compile(r'<i class="s">λ</i> ((?:(?!\. ).)*)\. ')
+# What is a link, or no prose: headings, what declares, examples, and what stands in the Rust crate.
+NO_PROSE = re.compile(
+    r"<(a|h\d)\b.*?</\1>|<span id=.*?</span>|<dt>(?:Example|In Rust)</dt><dd>.*?</dd>|In Rust: <code>.*?</code>", re.S
+)
 
 
 def broken_links(texts, folder, places, found):
@@ -25,8 +31,22 @@ def broken_links(texts, folder, places, found):
             yield f"{name}: {target} leads to the network"
         elif not os.path.isfile(f"{folder}/{page or name}"):
             yield f"{name}: no page {page}"
+        elif anchor.startswith("q=") and api_search.found_by(anchor[2:], found):
+            continue
         elif anchor and anchor not in places.get(page or name, ()):
             yield f"{name}: no place {anchor} in {page or name}"
+
+
+def no_links(texts):
+    """Yields each name of a public item in prose that is no link, though it can mean but one; and each such law."""
+    homes = {module_file(it.path): f"{it.path}::" for it in model()}
+    for page, text in texts.items():
+        prose = NO_PROSE.sub("", text)
+        names = re.findall(r"<code>((?:\w|::)+(?:\(\)|&lt;[\w, ]*&gt;)?)</code>", prose)
+        named = [it for it in map(html.unescape, names) if NAME.search(it) and it not in OF_STD]
+        lost = [it for it in named if public(it, homes.get(page, ""))]
+        lost += [it for it in re.findall(r"\blaws?(?: named)?[, ]+<code>(\w+)</code>", prose) if law(it, "")]
+        yield from (f"{page}: the name {it} is no link" for it in lost)
 
 
 def wrong_ids(places):
@@ -56,11 +76,11 @@ def not_found(found):
 
 
 def wrong_examples():
-    """Yields each example that is a part of a statement; and each call that no test, program of rows or user's program
-    makes, as far as its type or its name tells."""
+    """Yields each example that is an arm, on a bare `self`, or a part of a statement; and each call that no test, program
+    of rows or user's program makes, as far as its type or its name tells."""
     for (_, *names), (path, number, line) in api_examples.examples().items():
-        if not api_examples.is_whole(line):
-            yield f"the example of {'::'.join(names)} is part of a statement: {line} ({path}:{number})"
+        if api_examples.telling(line, names[-1]) != line:
+            yield f"the example of {'::'.join(names)} says too little: {line} ({path}:{number})"
     made, every = api_examples.tried_keys(), [it for entry in shown() if not entry.is_law for it in entry.calls]
     yield from (f"{it.title}: no test makes this call: add a row" for it in every if it.key not in made)
 
@@ -70,5 +90,5 @@ def faults(folder):
     texts = {it: read(f"{folder}/{it}") for it in sorted(os.listdir(folder)) if it.endswith(".html")}
     found = api_search.items()
     places = {name: collections.Counter(re.findall(r'\bid="([^"]*)"', text)) for name, text in texts.items()}
-    told = [*broken_links(texts, folder, places, found), *wrong_ids(places), *bound_links(texts), *not_found(found)]
-    return [*told, *wrong_examples()], len(texts) + len(api_search.WANTED)
+    told = [*broken_links(texts, folder, places, found), *no_links(texts), *wrong_ids(places), *bound_links(texts)]
+    return [*told, *not_found(found), *wrong_examples()], len(texts) + len(api_search.WANTED)

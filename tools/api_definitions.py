@@ -103,9 +103,11 @@ def told():
     return found
 
 
-@functools.lru_cache(maxsize=None)
-def by_name():
-    """Returns the address of each name that only one file defines."""
-    named = {(block.name, f"{it.page()}#{block.name}") for it in files().values() for block in it.blocks if block.name}
-    count = collections.Counter(name for name, _ in named)
-    return {name: place for name, place in named if count[name] == 1}
+def of_name(name, near):
+    """Returns the address of what is defined by this name: in the module `near`, as `iloc_json.Answers`, or in one module of
+    its crate, or in one of all."""
+    crate, _, module = near.partition(".")
+    every = [it for it in files().values() if name in it.own]
+    there = [it for it in every if it.crate == crate]
+    found = next((few for few in ([it for it in there if it.module == module], there, every) if len(few) == 1), [])
+    return found[0].page() + f"#{found[0].own[name]}" if found else ""

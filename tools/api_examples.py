@@ -192,8 +192,19 @@ def written_by(line, macros):
 
 def is_whole(text):
     """Returns whether each bracket in a text is closed there, and it is not the rest of a statement."""
-    bare = re.sub(r"\"[^\"]*\"|'.'", "", text)
-    return not text.startswith((".", "?", ")", "}")) and all(bare.count(it[0]) == bare.count(it[1]) for it in ("()", "[]", "{}"))
+    bare = re.sub(r"\"[^\"]*\"|'.'|[^()\[\]{}]", "", text)
+    for _ in bare:
+        bare = re.sub(r"\(\)|\[\]|\{\}", "", bare)
+    return not text.startswith((".", "?")) and not bare
+
+
+def telling(line, name):
+    """Returns what of a line is an example of the call of this name: of an arm or a field what stands right of it. Nothing
+    of a part of a statement, and of a call on a bare `self`."""
+    left, arrow, right = line.partition(" => ")
+    text = without_suffix(re.sub(r"^\w+: ", "", right if arrow and is_whole(left) else line), ",")
+    is_one = is_whole(text) and "$" not in text and not re.match(r"\W*self\.", text)
+    return text if is_one and re.search(rf"\b{name}\b", text) else ""
 
 
 def whole(path, number, line):
@@ -208,13 +219,14 @@ def whole(path, number, line):
         first -= 1
     depth = len(lines[first]) - len(lines[first].lstrip())
     while last + 1 < len(lines) and last - first < 8 and (said := lines[last + 1].strip()):
-        if len(lines[last + 1]) - len(lines[last + 1].lstrip()) <= depth and not said.startswith((")", "}", "]")):
+        below = len(lines[last + 1]) - len(lines[last + 1].lstrip()) - depth
+        if below < 0 or not below and not said.startswith((")", "}", "]")):
             break
         last += 1
         if said.endswith(";") and is_whole(joined(" ".join(lines[first : last + 1]))):
             break
     text = re.sub(r" (?=[.?])", "", joined(" ".join(lines[first : last + 1])))
-    return text if is_whole(text) and len(text) <= LONGEST else line
+    return text if first < last and is_whole(text) and len(text) <= LONGEST else line
 
 
 def calls_in(path):
@@ -236,20 +248,22 @@ def tried_keys():
 
 @functools.lru_cache(maxsize=None)
 def examples():
-    """Returns for each call's key the path, the number and the text of a statement that makes it. A whole statement
-    comes before a part of one. What is told by the name alone counts only if no line is told by the type."""
+    """Returns for each call's key the path, the number and the text of a statement that makes it, if one says something.
+    What is told by the name alone counts only if no line is told by the type."""
     found, guessed = {}, {}
     for path, (is_typed, key, number, line) in [(path, it) for path in files() for it in calls_in(path)]:
         (found if is_typed else guessed).setdefault(key, []).append((path, number, line))
-    return {key: best(lines) for key, lines in {**guessed, **found}.items()}
+    told = {key: best(lines, key[-1]) for key, lines in {**guessed, **found}.items()}
+    return {key: it for key, it in told.items() if it}
 
 
-def best(lines):
-    """Returns the first of the lines that say most, as a whole statement where it is short. Least says one within the
-    library, then a part of a statement, a call on `self`, and an arm of a `match`."""
-    told = [(path, number, whole(path, number, re.sub(r" // .*| \} else \{$", "", line))) for path, number, line in lines[:40]]
-    is_part = lambda line: not is_whole(without_suffix(line, "{ .. }"))
-    return min(told, key=lambda it: (it[0].startswith("crates/iloc_"), is_part(it[2]), "self." in it[2], "=>" in it[2]))
+def best(lines, name):
+    """Returns the first of the lines that say most of the call, as a whole statement where it is short; or nothing. Least
+    says one within the library, then a call on `self`, and an arm of a `match`."""
+    every = [(path, number, whole(path, number, re.sub(r" // .*", "", line))) for path, number, line in lines]
+    rank = lambda it: (it[0].startswith("crates/iloc_"), "self." in it[2], " => " in it[2])
+    told = [(path, number, telling(line, name)) for path, number, line in sorted(every, key=rank)]
+    return next((it for it in told if it[2]), None)
 
 
 @functools.lru_cache(maxsize=None)

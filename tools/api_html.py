@@ -1,6 +1,7 @@
 """The public items as HTML: a page for each module and for each file of definitions, with search.
 
 The pages need no network. What a clause cites is linked to its definition."""
+import functools
 import json
 import os
 import re
@@ -14,7 +15,7 @@ from api_definitions import files, slug, told, within
 from api_examples import examples, remark, tried
 from api_markdown import LAWS, json_types, trait_homes
 from api_markup import code, dim, esc, items, leads, marked, source, tag
-from api_model import base_of, model, short, shown
+from api_model import base_of, error_of, model, short, shown
 from api_names import Sources, call_at, entry_at, field_id, module_file
 from api_source import CORE, sources
 from common import ROOT, read, without_prefix, write as put
@@ -87,24 +88,19 @@ def tried_html(path):
     return items(rows) + marked(remark(short(path))) if rows else ""
 
 
-def facts_html(call, module):
+def facts_html(call, module, said):
     """Returns what a call needs, refuses and takes, with examples and its name in Rust."""
-    near = f"{module}::{call.owner}"
-    refusals = [f"{marked(f'`{name}`', near)} if {marked(when, near)}." for name, when in call.refuses]
+    refusals = [f"{said(f'`{name}`')} if {said(when)}." for name, when in call.refuses]
     path, number, line = examples().get(call.key, ("", 0, ""))
-    rows = [("Needs", marked(it, near)) for it in call.needs]
+    rows = [("Needs", said(it)) for it in call.needs]
     rows += [
         ("Refuses", items(refusals)),
-        ("Memory", marked(call.memory, near)),
+        ("Memory", said(call.memory)),
         ("Tried", tried_html(f"{module}::{call.title}")),
         ("Example", f"{code(line)} {tag('span', source(path, number), kind='rust')}" if path else ""),
         ("In Rust", code(call.rust) if call.rust else ""),
     ]
     return tag("dl", "".join(tag("dt", head) + tag("dd", said) for head, said in rows if said))
-
-
-def paragraphs(sentence, details, near):
-    return "".join(tag("p", marked(it, near)) for it in [sentence, *details] if it)
 
 
 def heading(level, anchor, inner):
@@ -127,11 +123,12 @@ def signature_html(signature, module):
 
 def call_html(call, module, level="h3"):
     anchor = call.name if level == "h2" else call.title.replace("::", ".")
+    said = functools.partial(marked, near=f"{module}::{call.owner}", error=error_of(call.item))
     rows = [
         heading(level, anchor, code(call.title)),
         tag("pre", signature_html(call.signature, module)),
-        paragraphs(call.sentence, call.details, f"{module}::{call.owner}"),
-        facts_html(call, module),
+        *[tag("p", said(it)) for it in [call.sentence, *call.details] if it],
+        facts_html(call, module, said),
         contract_html(call.item),
     ]
     return "\n".join(rows)
@@ -144,8 +141,8 @@ def folded(head, rows):
 
 def given_html(entry):
     """Returns the traits of a type, each with what is special for the type."""
-    homes = trait_homes()
-    link = lambda trait: leads(entry_at(homes[trait]) if trait in homes else "", code(trait))
+    homes = {it: entry_at(path) for it, path in trait_homes().items()}
+    link = lambda trait: leads(homes.get(trait.partition("<")[0]), code(trait))
     rows = [link(it.trait) + (f": {marked(it.said, entry.path)}" if it.said else "") for it in entry.given]
     return folded(f"Traits ({len(rows)})", rows)
 
@@ -186,7 +183,7 @@ def about_type(entry):
         tag("p", marked(entry.sentence, entry.path)),
         calls_html(entry),
         items([tag("span", it, id=at) + (f" {marked(said, entry.path)}" if said else "") for it, at, said in fields]),
-        paragraphs("", entry.details, entry.path),
+        *[tag("p", marked(it, entry.path)) for it in entry.details],
         tag("p", "Tried:") + tries if tries else "",
         tag("p", f"Its refusal is {refusal}.") if entry.refusal else "",
         tag("p", f"It is a {leads(entry_at(home.path), code(home.name))}, and has its traits.") if home else "",
@@ -214,7 +211,8 @@ def block_html(block, definitions):
     for line in block.text.split("\n"):
         text, dash, said = line.partition("--")
         linked = coloured(text, lambda word: within(definitions, word), definitions.bound, start)
-        lines.append(linked + (tag("span", f"--{marked(said)}", kind="c") if dash else ""))
+        near = f"{definitions.crate}.{definitions.module}"
+        lines.append(linked + (tag("span", f"--{marked(said, near)}", kind="c") if dash else ""))
         start += len(line) + 1
     anchors = "".join(tag("span", "", id=name) for name in block.anchors())
     title = told().get(block.name)

@@ -22,7 +22,7 @@ Every public item that `{CORE}` passes on, one page for each module. Each call h
 - what it needs, if it has a condition;
 - each refusal by name, and when it comes;
 - whether it may run out of memory;
-- an example: a line of a program or a test that the gate runs. A call that only the library needs is shown by the library's own line. *Tried* is a table test: what is given, and what is returned.
+- an example: a line of a program or a test that the gate runs, or what stands there right of `=>`. A call that only the library needs is shown by the library's own line; one that is made only on a bare `self` has none. *Tried* is a table test: what is given, and what is returned.
 
 `tools/list_api` makes these pages of the sources, and `tools/list_api --check` says whether they are current. `tools/list_api --html DIR` writes them as web pages with search. There each contract is shown, and each name in it leads to its definition. docs/FROM_RUST.md has the name of each item in the Rust crate.
 

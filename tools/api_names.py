@@ -38,33 +38,46 @@ def field_id(entry, text):
 
 @functools.lru_cache(maxsize=None)
 def addresses():
-    """Returns the places that each name means: types, calls and variants, by the modules that have them."""
+    """Returns the places that each name means: types, calls and variants by the modules that have them, laws by their
+    crates. What two items of a module mean has no place there."""
     found = {}
 
-    def put(name, module, address):
-        found.setdefault(name, {}).setdefault(module, address)
+    def put(home, address, *names):
+        for places in [found.setdefault(it, {}) for it in names]:
+            places[home] = address if places.get(home, address) == address else ""
 
     for entry in shown():
-        put(entry.name, entry.module, entry_at(entry.path))
-        put(f"{short(entry.module)}::{entry.name}", entry.module, entry_at(entry.path))
+        at, module, name = entry_at(entry.path), entry.module, entry.name
+        put(module, at, name, f"{short(module)}::{name}", f"{module.rpartition('::')[2]}::{name}")
+        if entry.is_law:
+            put(entry.crate, at, f"law {name}")
         for call in entry.calls if entry.kind != "fn" else []:
-            put(call.title, entry.module, call_at(call, entry.module))
+            put(module, call_at(call, module), call.title, call.name)
         for text, _ in entry.fields if entry.kind == "enum" else []:
-            at = f"{module_file(entry.module)}#{field_id(entry, text)}"
-            put(f"{entry.name}::{field_name(text)}", entry.module, at)
-            put(field_name(text), entry.module, at)
+            at = f"{module_file(module)}#{field_id(entry, text)}"
+            put(module, at, f"{name}::{field_name(text)}", field_name(text))
     return found
 
 
-def public(name, near):
-    """Returns where the public item of this name is shown: of the type at the path `near`, of its module, or of the
-    only module that has it."""
-    module, _, owner = near.rpartition("::")
-    name = without_prefix(name, f"{CORE}::").split("(")[0]
-    if at := addresses().get(f"{owner}::{name}", {}).get(module):
-        return at
+def place(name, home):
+    """Returns the place that a name means: at this home, or the only one."""
     places = addresses().get(name, {})
-    return places.get(module) or (next(iter(places.values())) if len(places) == 1 else "")
+    return places.get(home) or (next(iter(places.values())) if len(places) == 1 else "")
+
+
+def public(name, near, error=""):
+    """Returns where the public item of this name is shown: of the type at the path `near`, a variant of the error, of the
+    module or of the only one that has it, or a variant of the error of parsers."""
+    module, _, owner = near.rpartition("::")
+    name = re.split("[(<]", without_prefix(name, f"{CORE}::"))[0]
+    ways = (f"{owner}::{name}", f"{error}::{name}", name, f"ParseError::{name}")
+    return next(filter(None, (place(it, module) for it in ways)), "")
+
+
+def law(name, crate):
+    """Returns where the law of this name is shown: that of the crate, or the only one; or what finds all of them."""
+    every = f"index.html#q={name}" if f"law {name}" in addresses() else ""
+    return place(f"law {name}", crate) or every
 
 
 class Sources:

@@ -157,7 +157,7 @@ SENTENCES = {
 EXPLAINED = {
     "ShortPiece": "`ShortPiece` is a text of at most eight bytes in one machine word. It is no public item: a program gets one from `to_piece` and hands it on.",
     "KeywordKind": "`KeywordKind` says which keyword it is. It is no public item: use the aliases, as `NumberingSystem`.",
-    "SubtagContent": "`SubtagContent` is what one subtag can stand for: a `Subtag` or a `SubdivisionId`. It is no public item.",
+    "SubtagContent": "`SubtagContent` is what one subtag can stand for: a `subtags::Subtag` or a `SubdivisionId`. It is no public item.",
 }
 
 # What an `impl` says whose comment refers to the one before it.

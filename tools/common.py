@@ -8,9 +8,12 @@ import os
 import pathlib
 import re
 import shutil
+import subprocess
 import sys
 
 ROOT = os.path.dirname(os.path.dirname(os.path.realpath(__file__)))
+# The status after Ctrl-C.
+STOPPED = 130
 
 
 class Parser(argparse.ArgumentParser):
@@ -63,7 +66,21 @@ def start(main):
         sys.exit(main())
     except KeyboardInterrupt:
         say("stopped: what is proved is kept, and the same command goes on from there")
-        sys.exit(130)
+        sys.exit(STOPPED)
+
+
+def ends_well(script, *words):
+    """Runs a script of ours that may prove, and returns whether it ends well. Ctrl-C stops both, and the script says so."""
+    child = subprocess.Popen([os.path.join(ROOT, script), *words])
+    while True:
+        try:
+            status = child.wait()
+            break
+        except KeyboardInterrupt:
+            continue
+    if status == STOPPED:
+        sys.exit(STOPPED)
+    return status == 0
 
 
 def toolchain(name):

@@ -10,6 +10,18 @@ mkdir -p crates/locale_normal/out
 cp {program} crates/locale_normal/out/locale_normal
 exit {status}
 """
+# A script that proves until Ctrl-C, and says that it was stopped.
+SLEEPER = """#!/usr/bin/env python3
+import sys, time
+
+try:
+    with open("{seen}", "w") as it:
+        it.write("seen")
+    time.sleep(40)
+except KeyboardInterrupt:
+    print("build: stopped", file=sys.stderr, flush=True)
+    sys.exit(130)
+"""
 # One that keeps what it proves, as tools/kept_by_ci.py asks for it. What it proves it adds to the file `seen`, and
 # it waits before each.
 KEEPER = """#!/usr/bin/env python3

@@ -59,16 +59,22 @@ fn fill_rest(to: &mut Extensions, from: &Extensions) -> Result<(), AllocError>
     copy_others(&mut to.other, &from.other)
 }
 
+// A part that is there is cloned over an empty one. For one that is empty nothing is done.
+macro_rules! copied {
+    ($to:ident, $from:ident) => {{
+        if !$from.is_empty() {
+            *$to = $from.clone()?;
+        }
+        Ok(())
+    }};
+}
+
 #[inline(always)]
 fn copy_keywords(to: &mut Keywords, from: &Keywords) -> Result<(), AllocError>
     requires { to.old ≡ [] }
     ensures { OnOk result (to.new ≡ from.now) }
 {
-    if from.is_empty() {
-        return Ok(());
-    }
-    *to = from.clone()?;
-    Ok(())
+    copied!(to, from)
 }
 
 #[inline(always)]
@@ -76,11 +82,7 @@ fn copy_attributes(to: &mut Attributes, from: &Attributes) -> Result<(), AllocEr
     requires { to.old ≡ [] }
     ensures { OnOk result (to.new ≡ from.now) }
 {
-    if from.is_empty() {
-        return Ok(());
-    }
-    *to = from.clone()?;
-    Ok(())
+    copied!(to, from)
 }
 
 #[inline(always)]
@@ -88,11 +90,7 @@ fn copy_transform(to: &mut Transform, from: &Transform) -> Result<(), AllocError
     requires { transforms.value_of to.old ≡ no_transform }
     ensures { OnOk result (transforms.value_of to.new ≡ transforms.value_of from.now) }
 {
-    if from.is_empty() {
-        return Ok(());
-    }
-    *to = from.clone()?;
-    Ok(())
+    copied!(to, from)
 }
 
 #[inline(always)]
@@ -100,11 +98,7 @@ fn copy_private(to: &mut Private, from: &Private) -> Result<(), AllocError>
     requires { to.old ≡ [] }
     ensures { OnOk result (to.new ≡ from.now) }
 {
-    if from.is_empty() {
-        return Ok(());
-    }
-    *to = from.clone()?;
-    Ok(())
+    copied!(to, from)
 }
 
 #[inline(always)]
@@ -112,9 +106,5 @@ fn copy_others(to: &mut Vec<Other>, from: &Vec<Other>) -> Result<(), AllocError>
     requires { to.old.items ≡ [] }
     ensures { OnOk result (to.new.items ≡ from.now.items) }
 {
-    if from.is_empty() {
-        return Ok(());
-    }
-    *to = from.clone()?;
-    Ok(())
+    copied!(to, from)
 }

@@ -1,19 +1,14 @@
 //! Writes the normal text of a text, in each mode.
-ghost use Rattle.std.specs.Prelude.{◌≡◌, ◌+◌, ◌≤◌, length, take};
-ghost use Rattle.iloc_spec_grammar.specs.Syntax.{Identifier, languages, pieces};
-ghost use Rattle.iloc_spec_grammar.specs.Meaning.{IdentifierMeans, Locale, Means};
-ghost use Rattle.iloc_spec_grammar.specs.Values.{identifier_text, text};
-ghost use Rattle.iloc_outline.specs.Outlines.{BeginsWithLanguage, Gives};
+ghost use Rattle.std.specs.Prelude.{◌+◌, ◌≤◌, length, take};
+ghost use Rattle.iloc_outline.specs.Outlines.{BeginsWithLanguage};
 ghost use Rattle.iloc_normalize.specs.Answered.{IsLead, IsNormalWritten};
 ghost use Rattle.iloc_normalize.specs.declared.Mode.TheVariants as Mode;
 
 use crate::Mode;
 use crate::data_writing::write_data;
 use crate::leads::Lead;
-use iloc_outline::outline::{
-    Outline, Outlined, outline_identifier, outline_locale, outline_long_identifier,
-    outline_long_locale,
-};
+use iloc_outline::growth::{Growing, Growth, InPlace};
+use iloc_outline::outline::{Outlined, outline_identifier, outline_locale};
 use iloc_outline::printing::copy_outline;
 use iloc_outline::spans::Spans;
 use iloc_subtags::ParseError;
@@ -82,10 +77,9 @@ fn write_identifier(window: &[u8], len: usize, spans: &mut Spans, to: &mut [u8])
     requires room { len + 16 ≤ length to.old }
     ensures { IsNormalWritten Mode.Langid (take len window.now) to.new result }
 {
-    match outline_identifier(window, len, spans) {
-        Outlined::Normal(outline) => copy_identifier(window, len, &outline, spans, to),
-        Outlined::Refused(error) => Written::Refused(error),
-        Outlined::Full => write_long_identifier(window, len, spans, to),
+    match identifier_in::<InPlace>(window, len, spans, to) {
+        Written::Nothing => write_long_identifier(window, len, spans, to),
+        written => written,
     }
 }
 
@@ -97,8 +91,21 @@ fn write_long_identifier(window: &[u8], len: usize, spans: &mut Spans, to: &mut 
     requires room { len + 16 ≤ length to.old }
     ensures { IsNormalWritten Mode.Langid (take len window.now) to.new result }
 {
-    match outline_long_identifier(window, len, spans) {
-        Outlined::Normal(outline) => copy_identifier(window, len, &outline, spans, to),
+    identifier_in::<Growing>(window, len, spans, to)
+}
+
+// Writes it with spans in this room.
+#[inline(always)]
+fn identifier_in<G: Growth>(window: &[u8], len: usize, spans: &mut Spans, to: &mut [u8]) -> Written
+    requires inside { len ≤ length window.now }
+    requires begins { BeginsWithLanguage (take len window.now) }
+    requires room { len + 16 ≤ length to.old }
+    ensures { IsNormalWritten Mode.Langid (take len window.now) to.new result }
+{
+    match outline_identifier::<G>(window, len, spans) {
+        Outlined::Normal(outline) => {
+            Written::Normal(copy_outline(window, len, &outline, spans, to))
+        }
         Outlined::Refused(error) => Written::Refused(error),
         Outlined::Full => Written::Nothing,
     }
@@ -112,10 +119,9 @@ fn write_locale(window: &[u8], len: usize, spans: &mut Spans, to: &mut [u8]) -> 
     requires room { len + 16 ≤ length to.old }
     ensures { IsNormalWritten Mode.Locale (take len window.now) to.new result }
 {
-    match outline_locale(window, len, spans) {
-        Outlined::Normal(outline) => copy_locale(window, len, &outline, spans, to),
-        Outlined::Refused(error) => Written::Refused(error),
-        Outlined::Full => write_long_locale(window, len, spans, to),
+    match locale_in::<InPlace>(window, len, spans, to) {
+        Written::Nothing => write_long_locale(window, len, spans, to),
+        written => written,
     }
 }
 
@@ -127,47 +133,22 @@ fn write_long_locale(window: &[u8], len: usize, spans: &mut Spans, to: &mut [u8]
     requires room { len + 16 ≤ length to.old }
     ensures { IsNormalWritten Mode.Locale (take len window.now) to.new result }
 {
-    match outline_long_locale(window, len, spans) {
-        Outlined::Normal(outline) => copy_locale(window, len, &outline, spans, to),
+    locale_in::<Growing>(window, len, spans, to)
+}
+
+// Writes it with spans in this room.
+#[inline(always)]
+fn locale_in<G: Growth>(window: &[u8], len: usize, spans: &mut Spans, to: &mut [u8]) -> Written
+    requires inside { len ≤ length window.now }
+    requires begins { BeginsWithLanguage (take len window.now) }
+    requires room { len + 16 ≤ length to.old }
+    ensures { IsNormalWritten Mode.Locale (take len window.now) to.new result }
+{
+    match outline_locale::<G>(window, len, spans) {
+        Outlined::Normal(outline) => {
+            Written::Normal(copy_outline(window, len, &outline, spans, to))
+        }
         Outlined::Refused(error) => Written::Refused(error),
         Outlined::Full => Written::Nothing,
     }
-}
-
-// Writes what the outline of an identifier gives.
-#[inline(always)]
-fn copy_identifier(
-    window: &[u8],
-    len: usize,
-    outline: &Outline,
-    spans: &Spans,
-    to: &mut [u8],
-) -> Written
-    requires inside { len ≤ length window.now }
-    requires room { len + 16 ≤ length to.old }
-    requires gives { (i : Identifier) × IdentifierMeans languages (pieces (take len window.now)) i
-        × Gives (take len window.now) outline.now spans.now (identifier_text i) }
-    ensures { IsNormalWritten Mode.Langid (take len window.now) to.new result }
-{
-    let end = copy_outline(window, len, outline, spans, to);
-    Written::Normal(end)
-}
-
-// Writes what the outline of a locale gives.
-#[inline(always)]
-fn copy_locale(
-    window: &[u8],
-    len: usize,
-    outline: &Outline,
-    spans: &Spans,
-    to: &mut [u8],
-) -> Written
-    requires inside { len ≤ length window.now }
-    requires room { len + 16 ≤ length to.old }
-    requires gives { (M : Locale) × Means languages (take len window.now) M
-        × Gives (take len window.now) outline.now spans.now (text M) }
-    ensures { IsNormalWritten Mode.Locale (take len window.now) to.new result }
-{
-    let end = copy_outline(window, len, outline, spans, to);
-    Written::Normal(end)
 }

@@ -5,11 +5,12 @@
 //! late is put in its place (`sorting`), and so are blocks.
 //!
 //! `outline_identifier` and `outline_locale` promise that a text has the fault that they name, or that the outline's
-//! text is the normal text (`IsIdentifierOutlined`, `IsLocaleOutlined`). `Full` says that the text has more than 64
-//! pieces, for so many spans have room in place. `outline_long_identifier` and `outline_long_locale` read such a text where
-//! the room grows (`more`), and then `Full` comes only if memory is refused. Many words are put in order by a tree
-//! (`group`). Each reader takes which of both it is as a type (`growth`), so a program without an allocator can call
-//! those that stay in place. All of them take texts that begin with a language. `copy_outline` writes the normal text.
+//! text is the normal text (`IsIdentifierOutlined`, `IsLocaleOutlined`). They take texts that begin with a language.
+//! `copy_outline` writes the normal text.
+//!
+//! Readers take as a type what happens where 64 spans in place are not enough (`growth`). With `InPlace` the text is `Full`.
+//! With `Growing` the room grows (`more`), and `Full` comes only if memory is refused. Many words are put in order by a tree
+//! (`group`). A program that reads in place needs no allocator.
 //!
 //! `iloc_normalize` asks it of each identifier and each locale that is not plain, and whose beginning does not refuse it.
 //! docs/DECISIONS.md says what that costs.

@@ -4,7 +4,7 @@ ghost use Rattle.iloc_pieces.specs.Left.{bytes_left};
 ghost use Rattle.iloc_outline.specs.Outlines.{AreHeadRead, BeginsWithLanguage, IsFinished, IsIdentifierOutlined, IsLocaleOutlined};
 
 use crate::blocks::{Blocks, read_blocks};
-use crate::growth::{Growing, Growth, InPlace};
+use crate::growth::Growth;
 use crate::identifier::read_front;
 use crate::reading::Found;
 use crate::span::Role;
@@ -118,30 +118,10 @@ pub fn finished(outline: Outline, end: usize, spans: &mut Spans, in_order: bool)
     }
 }
 
-/// The outline of the first `len` bytes as an identifier. `Full` comes only if there are more than 64 pieces.
+/// The outline of the first `len` bytes as an identifier. `Full` comes only if there are more than 64 pieces, and the room for
+/// their spans does not grow, or memory was refused.
 #[inline(always)]
-pub fn outline_identifier(window: &[u8], len: usize, spans: &mut Spans) -> Outlined
-    requires inside { len ≤ length window.now }
-    requires begins { BeginsWithLanguage (take len window.now) }
-    ensures { IsIdentifierOutlined (take len window.now) spans.new result }
-{
-    read_identifier::<InPlace>(window, len, spans)
-}
-
-/// It again, where the room in place was too small: `Full` says that the spans may not grow, or that memory was refused.
-#[inline(never)]
-pub fn outline_long_identifier(window: &[u8], len: usize, spans: &mut Spans) -> Outlined
-    requires inside { len ≤ length window.now }
-    requires begins { BeginsWithLanguage (take len window.now) }
-    ensures { IsIdentifierOutlined (take len window.now) spans.new result }
-{
-    read_identifier::<Growing>(window, len, spans)
-}
-
-// Reads the first `len` bytes as an identifier, with room that grows or not. Each is a function of its own with one caller,
-// so that it is inlined.
-#[inline(always)]
-fn read_identifier<G: Growth>(window: &[u8], len: usize, spans: &mut Spans) -> Outlined
+pub fn outline_identifier<G: Growth>(window: &[u8], len: usize, spans: &mut Spans) -> Outlined
     requires inside { len ≤ length window.now }
     requires begins { BeginsWithLanguage (take len window.now) }
     ensures { IsIdentifierOutlined (take len window.now) spans.new result }
@@ -156,29 +136,9 @@ fn read_identifier<G: Growth>(window: &[u8], len: usize, spans: &mut Spans) -> O
     }
 }
 
-/// The outline of the first `len` bytes as a locale. `Full` comes only if there are more than 64 pieces.
+/// The outline of the first `len` bytes as a locale. `Full` comes as for an identifier.
 #[inline(always)]
-pub fn outline_locale(window: &[u8], len: usize, spans: &mut Spans) -> Outlined
-    requires inside { len ≤ length window.now }
-    requires begins { BeginsWithLanguage (take len window.now) }
-    ensures { IsLocaleOutlined (take len window.now) spans.new result }
-{
-    read_locale::<InPlace>(window, len, spans)
-}
-
-/// It again, where the room in place was too small: `Full` says that the spans may not grow, or that memory was refused.
-#[inline(never)]
-pub fn outline_long_locale(window: &[u8], len: usize, spans: &mut Spans) -> Outlined
-    requires inside { len ≤ length window.now }
-    requires begins { BeginsWithLanguage (take len window.now) }
-    ensures { IsLocaleOutlined (take len window.now) spans.new result }
-{
-    read_locale::<Growing>(window, len, spans)
-}
-
-// Reads the first `len` bytes as a locale, in two functions likewise.
-#[inline(always)]
-fn read_locale<G: Growth>(window: &[u8], len: usize, spans: &mut Spans) -> Outlined
+pub fn outline_locale<G: Growth>(window: &[u8], len: usize, spans: &mut Spans) -> Outlined
     requires inside { len ≤ length window.now }
     requires begins { BeginsWithLanguage (take len window.now) }
     ensures { IsLocaleOutlined (take len window.now) spans.new result }

@@ -9,7 +9,7 @@ use Rattle.iloc_pieces.specs.declared.tail.Tail.{Tail}
 
 abbrev tail : List Place → Bool → ℕ → Tail
 tail ps s r = record {
-  kept = map (λ p. p.kept) (row ps);
+  mask = map (λ p. p.mask) (row ps);
   least = map (λ p. p.least) (row ps);
   span = map (λ p. p.span) (row ps);
   normal = map (λ p. p.normal) (row ps);
@@ -19,7 +19,7 @@ tail ps s r = record {
 
 abbrev no_tail : Tail
 no_tail = record {
-  kept = replicate 24 0;
+  mask = replicate 24 0;
   least = replicate 24 1;
   span = replicate 24 0;
   normal = replicate 24 0;
@@ -39,7 +39,7 @@ shaped m ps s r long shape = inr (record {
   places = ps;
   long = long;
   shape = shape;
-  kept = refl;
+  mask = refl;
   least = refl;
   span = refl;
   normal = refl;

@@ -403,15 +403,15 @@ region_few _ _ ShapeOf.script_code = (omega arith, omega arith)
 placed : (m : ℕ) (t : Tail) (s : IsShape m t) (i : ℕ) → place_at t i ≡ get_or (row s.places) i any_byte
 placed m t s i =
     let ps = row s.places in
-    let kept : get_or t.kept i 0 ≡ (get_or ps i any_byte).kept =
-    ap (λ l. get_or l i 0) s.kept ∙ get_or-map (λ p. p.kept) ps i any_byte in
+    let mask : get_or t.mask i 0 ≡ (get_or ps i any_byte).mask =
+    ap (λ l. get_or l i 0) s.mask ∙ get_or-map (λ p. p.mask) ps i any_byte in
     let least : get_or t.least i 0 ≡ (get_or ps i any_byte).least =
     ap (λ l. get_or l i 0) s.least ∙ get_or-map (λ p. p.least) ps i any_byte in
     let span : get_or t.span i 0 ≡ (get_or ps i any_byte).span =
     ap (λ l. get_or l i 0) s.span ∙ get_or-map (λ p. p.span) ps i any_byte in
     let normal : get_or t.normal i 0 ≡ (get_or ps i any_byte).normal =
     ap (λ l. get_or l i 0) s.normal ∙ get_or-map (λ p. p.normal) ps i any_byte in
-    λ k. record { kept = kept k; least = least k; span = span k; normal = normal k }
+    λ k. record { mask = mask k; least = least k; span = span k; normal = normal k }
 
 -- past its end any byte may stand
 past : (ps : List Place) (k j : ℕ) → get_or (ps ++ replicate k any_byte) j any_byte ≡ get_or ps j any_byte

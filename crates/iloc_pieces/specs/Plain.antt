@@ -48,7 +48,7 @@ pub record IsShape (m : ℕ) (t : Tail) : Type 0 where
   pub places : List Place
   pub long : script_len t.has_script + region_len t.region ≡ m
   pub shape : ShapeOf t.has_script t.region places
-  pub kept : t.kept ≡ map (λ p. p.kept) (row places)
+  pub mask : t.mask ≡ map (λ p. p.mask) (row places)
   pub least : t.least ≡ map (λ p. p.least) (row places)
   pub span : t.span ≡ map (λ p. p.span) (row places)
   pub normal : t.normal ≡ map (λ p. p.normal) (row places)
@@ -56,7 +56,7 @@ pub record IsShape (m : ℕ) (t : Tail) : Type 0 where
 -- what may stand at place i of a row
 abbrev pub place_at : Tail → ℕ → Place
 place_at t i = record {
-  kept = get_or t.kept i 0;
+  mask = get_or t.mask i 0;
   least = get_or t.least i 0;
   span = get_or t.span i 0;
   normal = get_or t.normal i 0;

@@ -42,24 +42,24 @@ plain_identifier f s r t = record {
 
 -- a letter, whose case does not count; it is lower in the normal text
 abbrev pub lower_letter : Place
-lower_letter = record { kept = 223; least = 65; span = 25; normal = 97 }
+lower_letter = record { mask = 223; least = 65; span = 25; normal = 97 }
 
 -- the same; it is upper in the normal text
 abbrev pub upper_letter : Place
-upper_letter = record { kept = 223; least = 65; span = 25; normal = 65 }
+upper_letter = record { mask = 223; least = 65; span = 25; normal = 65 }
 
 abbrev pub hyphen : Place
-hyphen = record { kept = 255; least = 45; span = 0; normal = 45 }
+hyphen = record { mask = 255; least = 45; span = 0; normal = 45 }
 
 abbrev pub digit : Place
-digit = record { kept = 255; least = 48; span = 9; normal = 48 }
+digit = record { mask = 255; least = 48; span = 9; normal = 48 }
 
 abbrev pub any_byte : Place
-any_byte = record { kept = 0; least = 0; span = 0; normal = 0 }
+any_byte = record { mask = 0; least = 0; span = 0; normal = 0 }
 
 -- no byte
 abbrev pub no_byte : Place
-no_byte = record { kept = 0; least = 1; span = 0; normal = 0 }
+no_byte = record { mask = 0; least = 1; span = 0; normal = 0 }
 
 -- those of a region of two letters and of the hyphen before it
 abbrev pub region_places : List Place
@@ -75,7 +75,7 @@ script_places ps = hyphen ∷ upper_letter ∷ lower_letter ∷ lower_letter ∷
 
 -- how far the bits of a byte that count are above the least
 abbrev pub above : Place → ℕ → ℕ
-above p b = (bit_and b p.kept + (256 - p.least)) % 256
+above p b = (bit_and b p.mask + (256 - p.least)) % 256
 
 -- eight places for the language, those after it, and places of any byte up to 24
 abbrev pub row : List Place → List Place

@@ -9,42 +9,42 @@ use std::simd::prelude::*;
 // `normal` is the byte of the normal text.
 #[derive(Clone, Copy, Drop)]
 struct Place {
-    kept: u8,
+    mask: u8,
     least: u8,
     span: u8,
     normal: u8,
 }
 
 const LOWER: Place = Place {
-    kept: !0x20,
+    mask: !0x20,
     least: b'A',
     span: 25,
     normal: b'a',
 };
 
 const UPPER: Place = Place {
-    kept: !0x20,
+    mask: !0x20,
     least: b'A',
     span: 25,
     normal: b'A',
 };
 
 const HYPHEN: Place = Place {
-    kept: !0,
+    mask: !0,
     least: b'-',
     span: 0,
     normal: b'-',
 };
 
 const DIGIT: Place = Place {
-    kept: !0,
+    mask: !0,
     least: b'0',
     span: 9,
     normal: b'0',
 };
 
 const ANY: Place = Place {
-    kept: 0,
+    mask: 0,
     least: 0,
     span: 0,
     normal: 0,
@@ -54,7 +54,7 @@ const ANY: Place = Place {
 // place: eight for the language, the last of which is its last byte, and then sixteen for what follows.
 #[derive(Clone, Copy, Drop)]
 pub(crate) struct Tail {
-    kept: [u8; 24],
+    mask: [u8; 24],
     least: [u8; 24],
     span: [u8; 24],
     normal: [u8; 24],
@@ -78,7 +78,7 @@ macro_rules! list {
 macro_rules! tail {
     ($has_script:literal $region:literal $($place:ident)*) => {
         Tail {
-            kept: list!(kept $($place)*),
+            mask: list!(mask $($place)*),
             least: list!(least $($place)*),
             span: list!(span $($place)*),
             normal: list!(normal $($place)*),
@@ -90,7 +90,7 @@ macro_rules! tail {
 
 // The row of lengths that no shape has: no byte may stand there.
 const NO_TAIL: Tail = Tail {
-    kept: [0; 24],
+    mask: [0; 24],
     least: [1; 24],
     span: [0; 24],
     normal: [0; 24],
@@ -147,7 +147,7 @@ impl Tail {
         requires { language ≤ 8 }
         ensures { AreAboveLeast self.now language v result }
     {
-        (v & part_of(&self.kept, language)) - part_of(&self.least, language)
+        (v & part_of(&self.mask, language)) - part_of(&self.least, language)
     }
 
     // Whether none is further above it than may be.

@@ -13,7 +13,8 @@ use Rattle.iloc_spec_grammar.specs.Tree.{spelled_unicode}
 use Rattle.iloc_spec_grammar.specs.Meaning.{set_of, normal_identifier, normal_values, normal_fields}
 use Rattle.iloc_spec_grammar.specs.Meaning.{normal_unicode, normal_transform}
 use Rattle.iloc_spec_grammar.specs.Values.{lower_identifier, spelled_value, spelled_fields}
-use Rattle.iloc_spec_grammar.specs.TreeSteps.{TreeWithout, TreeLessTrue, keys_differ, Repeats, Trues}
+use Rattle.iloc_spec_grammar.specs.Values.{Without}
+use Rattle.iloc_spec_grammar.specs.TreeSteps.{TreeLessTrue, keys_differ, Repeats, Trues}
 use Rattle.iloc_spec_grammar.specs.TreeSteps.{DroppedPieces, VariantOrder, AttributeOrder, FieldOrder}
 use Rattle.iloc_spec_grammar.specs.TreeSteps.{TreeIdentifierStep, ExtensionStep}
 use Rattle.iloc_spec_grammar.proofs.WordsLaws.{lower-lower, lower-title, lower-upper}
@@ -96,7 +97,7 @@ repeats_step (other ps) = ExtensionStep.same
 
 -- the values of a field where one stays
 record Kept (ps qs : List Text) : Type 0 where
-  less : TreeWithout (λ p. is_true (lower p)) ps qs
+  less : Without (λ p. is_true (lower p)) ps qs
   positive : 0 < length qs
   value : spelled_value (normal_values qs) ≡ low qs
 
@@ -120,7 +121,7 @@ kept_one p ps = at_rest (no_trues (p ∷ ps)) refl (none_true (p ∷ ps))
     at_rest : (qs : List Text) → no_trues (p ∷ ps) ≡ qs →
         AllByRecursion (λ q. is_true (lower q) ≡ false) qs → Kept (p ∷ ps) (or_first qs (p ∷ ps))
     at_rest (q ∷ qs) e n = record {
-      less = subst (TreeWithout (λ p. is_true (lower p)) (p ∷ ps)) e
+      less = subst (Without (λ p. is_true (lower p)) (p ∷ ps)) e
           (without-filter (λ p. is_true (lower p)) (p ∷ ps));
       positive = omega arith;
       value = ap spelled_value (no_true_means (q ∷ qs) n);
@@ -128,8 +129,8 @@ kept_one p ps = at_rest (no_trues (p ∷ ps)) refl (none_true (p ∷ ps))
     at_rest [] e n = (elim (is_true (lower p)) as (λ b.
         is_true (lower p) ≡ b → cond (not b) (p ∷ no_trues ps) (no_trues ps) ≡ [] → Kept (p ∷ ps) (p ∷ [])) [
           | true ↦ λ t e. record {
-            less = TreeWithout.stays
-                (subst (TreeWithout (λ p. is_true (lower p)) ps) e
+            less = Without.stays
+                (subst (Without (λ p. is_true (lower p)) ps) e
                 (without-filter (λ p. is_true (lower p)) ps));
             positive = omega arith;
             value = ap (λ b. spelled_value (cond (not b) (lower p ∷ []) [])) t
@@ -158,11 +159,11 @@ trues_step T c (transform m) h = ExtensionStep.transform_trues (trues_transform 
 trues_step T c (other ps) h = ExtensionStep.same
 
 without_others : (keep : Text → Bool) (ps : List Text) →
-    TreeWithout (λ p. not (keep p)) ps (filter keep ps)
-without_others keep [] = TreeWithout.none
-without_others keep (p ∷ ps) = cond_both (keep p) _ _ (TreeWithout (λ p. not (keep p)) (p ∷ ps))
-    (λ _. TreeWithout.stays (without_others keep ps))
-    (λ e. TreeWithout.left_out (ap not e) (without_others keep ps))
+    Without (λ p. not (keep p)) ps (filter keep ps)
+without_others keep [] = Without.none
+without_others keep (p ∷ ps) = cond_both (keep p) _ _ (Without (λ p. not (keep p)) (p ∷ ps))
+    (λ _. Without.stays (without_others keep ps))
+    (λ e. Without.left_out (ap not e) (without_others keep ps))
 
 pub dropped_step : (e : Extension) → ExtensionStep DroppedPieces e (without_dropped e)
 dropped_step (other ps) = ExtensionStep.dropped_pieces (without_others (is_word Subtag) ps)

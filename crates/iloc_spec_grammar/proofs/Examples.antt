@@ -7,7 +7,8 @@ use Rattle.iloc_spec_grammar.specs.Syntax.{SpelledIdentifier, Identifier}
 use Rattle.iloc_spec_grammar.specs.Tree.{transform}
 use Rattle.iloc_spec_grammar.specs.Meaning.{Locale, Fault}
 use Rattle.iloc_spec_grammar.specs.Values.{TextStep, extensions_spelling, identifier_text}
-use Rattle.iloc_spec_grammar.specs.TreeSteps.{TreeWithout, keys_differ, Trues, TreeIdentifierStep}
+use Rattle.iloc_spec_grammar.specs.Values.{Without}
+use Rattle.iloc_spec_grammar.specs.TreeSteps.{keys_differ, Trues, TreeIdentifierStep}
 use Rattle.iloc_spec_grammar.specs.TreeSteps.{ExtensionStep, Step, TreeTextStep}
 use Rattle.iloc_spec_grammar.specs.Reading.{identifier_of, front_of, unicode_of, transform_of, written_of}
 use Rattle.iloc_spec_grammar.specs.Computing.{locale_result, computed_text, identifier_result}
@@ -120,7 +121,7 @@ one_true_of_tree = TreeTextStep.rewritten
       (
         refl,
         ExtensionStep.transform_trues
-            (((refl, TreeWithout.stays (TreeWithout.left_out refl TreeWithout.none)), omega arith), tt),
+            (((refl, Without.stays (Without.left_out refl Without.none)), omega arith), tt),
       ),
       tt,
     ))

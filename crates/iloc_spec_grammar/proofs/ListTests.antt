@@ -5,7 +5,7 @@ use Rattle.std.specs.List.{list_any, AllZip}
 use Rattle.std.proofs.lemmas.Bool.{and_parts, and_from}
 use Rattle.iloc_spec_grammar.specs.Syntax.{Text, lower}
 use Rattle.iloc_spec_grammar.specs.Values.{Reordered}
-use Rattle.iloc_spec_grammar.specs.TreeSteps.{TreeWithout, WithoutRepeats}
+use Rattle.iloc_spec_grammar.specs.Values.{Without, WithoutRepeats}
 use Rattle.iloc_spec_grammar.proofs.Orders.{total, total_reordered}
 use Rattle.iloc_spec_grammar.proofs.Sorting.{itself}
 use Rattle.iloc_spec_grammar.proofs.RuleTests.{Tests, tests_and, tests_either, tests_like}
@@ -81,26 +81,26 @@ module _ {X : Type 0} (same : X → X → Bool) (q : Equality same) where
 
   module _ (test : X → Bool) where
     without_next : {x y : X} {xs ys : List X} →
-        (x ≡ y) × TreeWithout test xs ys ⊎ (test x ≡ true) × TreeWithout test xs (y ∷ ys) →
-        TreeWithout test (x ∷ xs) (y ∷ ys)
+        (x ≡ y) × Without test xs ys ⊎ (test x ≡ true) × Without test xs (y ∷ ys) →
+        Without test (x ∷ xs) (y ∷ ys)
     without_next {x = x} {xs = xs} {ys = ys} (inl p) =
-        subst (λ z. TreeWithout test (x ∷ xs) (z ∷ ys)) p.0 (TreeWithout.stays p.1)
-    without_next (inr p) = TreeWithout.left_out p.0 p.1
+        subst (λ z. Without test (x ∷ xs) (z ∷ ys)) p.0 (Without.stays p.1)
+    without_next (inr p) = Without.left_out p.0 p.1
 
-    next_without : {x y : X} {xs ys : List X} → TreeWithout test (x ∷ xs) (y ∷ ys) →
-        (x ≡ y) × TreeWithout test xs ys ⊎ (test x ≡ true) × TreeWithout test xs (y ∷ ys)
-    next_without (TreeWithout.stays w) = inl (refl, w)
-    next_without (TreeWithout.left_out e w) = inr (e, w)
+    next_without : {x y : X} {xs ys : List X} → Without test (x ∷ xs) (y ∷ ys) →
+        (x ≡ y) × Without test xs ys ⊎ (test x ≡ true) × Without test xs (y ∷ ys)
+    next_without (Without.stays w) = inl (refl, w)
+    next_without (Without.left_out e w) = inr (e, w)
 
-    last_without : {x : X} {xs : List X} → TreeWithout test (x ∷ xs) [] →
-        (test x ≡ true) × TreeWithout test xs []
-    last_without (TreeWithout.left_out e w) = (e, w)
+    last_without : {x : X} {xs : List X} → Without test (x ∷ xs) [] →
+        (test x ≡ true) × Without test xs []
+    last_without (Without.left_out e w) = (e, w)
 
-    pub tests_without : (xs ys : List X) → Tests (is_without same test xs ys) (TreeWithout test xs ys)
-    tests_without [] [] = record { holds = λ e. TreeWithout.none; passes = λ w. refl }
+    pub tests_without : (xs ys : List X) → Tests (is_without same test xs ys) (Without test xs ys)
+    tests_without [] [] = record { holds = λ e. Without.none; passes = λ w. refl }
     tests_without [] (y ∷ ys) = never (λ w. elim w [ ])
     tests_without (x ∷ xs) [] =
-        tests_like (λ (p : (test x ≡ true) × TreeWithout test xs []). TreeWithout.left_out p.0 p.1)
+        tests_like (λ (p : (test x ≡ true) × Without test xs []). Without.left_out p.0 p.1)
         last_without (tests_and (tests_itself (test x)) (tests_without xs []))
     tests_without (x ∷ xs) (y ∷ ys) =
         tests_like without_next next_without (tests_either (tests_and (q x y) (tests_without xs ys))

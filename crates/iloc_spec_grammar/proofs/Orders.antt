@@ -10,7 +10,7 @@ use Rattle.std.proofs.lemmas.Bool.{or_parts, or_from, false_from_ne_true, both_w
 use Rattle.iloc_spec_grammar.specs.Syntax.{Text, word_cmp, is_same, lower, AllDifferent}
 use Rattle.iloc_spec_grammar.specs.Meaning.{map_of, set_of}
 use Rattle.iloc_spec_grammar.specs.Values.{Reordered}
-use Rattle.iloc_spec_grammar.specs.TreeSteps.{TreeWithout, WithoutRepeats}
+use Rattle.iloc_spec_grammar.specs.Values.{Without, WithoutRepeats}
 use Rattle.iloc_spec_grammar.proofs.MapLaws.{map_of_same, word_cmp_total, same_words}
 use Rattle.iloc_spec_grammar.proofs.SetLaws.{same_set}
 use Rattle.std.proofs.lemmas.Map.Steps.{list_any_congr}
@@ -180,19 +180,19 @@ all_repeats P key WithoutRepeats.none h = tt
 all_repeats P key (WithoutRepeats.stays r) h = (h.0, all_repeats P key r h.1)
 all_repeats P key (WithoutRepeats.left_out e r) h = all_repeats P key r h.1
 
-pub all_without : {X : Type 0} (P : X → Type 0) (test : X → Bool) {xs ys : List X} → TreeWithout test xs ys →
+pub all_without : {X : Type 0} (P : X → Type 0) (test : X → Bool) {xs ys : List X} → Without test xs ys →
     AllByRecursion P xs → AllByRecursion P ys
-all_without P test TreeWithout.none h = tt
-all_without P test (TreeWithout.stays r) h = (h.0, all_without P test r h.1)
-all_without P test (TreeWithout.left_out e r) h = all_without P test r h.1
+all_without P test Without.none h = tt
+all_without P test (Without.stays r) h = (h.0, all_without P test r h.1)
+all_without P test (Without.left_out e r) h = all_without P test r h.1
 
 -- a filter that drops what passes the test doesn't see what was left out
 pub filter_without : {X : Type 0} (test keep : X → Bool) → ((x : X) → test x ≡ true → keep x ≡ false) →
-    {xs ys : List X} → TreeWithout test xs ys → filter keep xs ≡ filter keep ys
-filter_without test keep f TreeWithout.none = refl
-filter_without test keep f (TreeWithout.stays {x = x} r) =
+    {xs ys : List X} → Without test xs ys → filter keep xs ≡ filter keep ys
+filter_without test keep f Without.none = refl
+filter_without test keep f (Without.stays {x = x} r) =
     ap (λ l. cond (keep x) (x ∷ l) l) (filter_without test keep f r)
-filter_without test keep f (TreeWithout.left_out {x = x} {xs = xs} e r) =
+filter_without test keep f (Without.left_out {x = x} {xs = xs} e r) =
     ap (λ b. cond b (x ∷ filter keep xs) (filter keep xs)) (f x e) ∙ filter_without test keep f r
 
 -- sums over the items
@@ -211,11 +211,11 @@ total_reordered f (Reordered.front_kept {x = x} r) = ap (λ n. f x + n) (total_r
 total_reordered f Reordered.first_two = omega arith
 total_reordered f (Reordered.in_turn r s) = total_reordered f s ∙ total_reordered f r
 
-pub total_without : {X : Type 0} (f : X → ℕ) (test : X → Bool) {xs ys : List X} → TreeWithout test xs ys →
+pub total_without : {X : Type 0} (f : X → ℕ) (test : X → Bool) {xs ys : List X} → Without test xs ys →
     total f ys ≤ total f xs
-total_without f test TreeWithout.none = le_refl 0
-total_without f test (TreeWithout.stays r) = let l = total_without f test r in omega arith
-total_without f test (TreeWithout.left_out e r) = let l = total_without f test r in omega arith
+total_without f test Without.none = le_refl 0
+total_without f test (Without.stays r) = let l = total_without f test r in omega arith
+total_without f test (Without.left_out e r) = let l = total_without f test r in omega arith
 
 pub total_repeats : {X : Type 0} (f : X → ℕ) (key : X → Text) {seen : List Text} {xs ys : List X} →
     WithoutRepeats key seen xs ys → total f ys ≤ total f xs

@@ -8,7 +8,8 @@ use Rattle.iloc_spec_grammar.specs.Syntax.{Field, Text, Subtag, is_word, lower, 
 use Rattle.iloc_spec_grammar.specs.Syntax.{SpelledIdentifier, SpelledUnicode, SpelledTransform, Fields}
 use Rattle.iloc_spec_grammar.specs.Tree.{Extension, unicode, transform, other, Written}
 use Rattle.iloc_spec_grammar.specs.Values.{Reordered}
-use Rattle.iloc_spec_grammar.specs.TreeSteps.{WithoutRepeats, TreeLessTrue, keys_differ, TreeRule}
+use Rattle.iloc_spec_grammar.specs.Values.{WithoutRepeats}
+use Rattle.iloc_spec_grammar.specs.TreeSteps.{TreeLessTrue, keys_differ, TreeRule}
 use Rattle.iloc_spec_grammar.specs.TreeSteps.{VariantOrder, AttributeOrder, FieldOrder, Repeats, Trues}
 use Rattle.iloc_spec_grammar.specs.TreeSteps.{DroppedPieces, TreeIdentifierStep, ExtensionStep, Step}
 use Rattle.iloc_spec_grammar.proofs.RuleTests.{Tests, tests_and, tests_like, tests_different, tests_positive}

@@ -1,67 +1,20 @@
 -- The steps of identifiers, of fields and of what blocks spell are those of the tree.
-use Rattle.std.proofs.Common.{◌≡◌, ℕ, ◌≤◌, Bool, ◌||◌, not, List, [], ◌∷◌, length, map, refl, sym, ap, ◌∙◌}
+use Rattle.std.proofs.Common.{◌≡◌, ℕ, ◌≤◌, Bool, length, refl, sym, ap, ◌∙◌}
 use Rattle.std.proofs.Common.{subst, arith, Option, Some, None, option_to_list}
-use Rattle.std.specs.List.{list_any, AllZip}
+use Rattle.std.specs.List.{AllZip}
 use Rattle.std.specs.Char.{to_ascii_lowercase}
-use Rattle.iloc_spec_grammar.specs.Syntax.{LanguageLengths, Field, Text, Subtag, is_word, lower, is_same}
-use Rattle.iloc_spec_grammar.specs.Syntax.{is_true, SpelledIdentifier}
+use Rattle.iloc_spec_grammar.specs.Syntax.{LanguageLengths, Field}
+use Rattle.iloc_spec_grammar.specs.Syntax.{SpelledIdentifier}
 use Rattle.iloc_spec_grammar.specs.Syntax.{SpelledUnicode, SpelledTransform, Fields, IsUnicode, IsTransform}
 use Rattle.iloc_spec_grammar.specs.Tree.{Extension, unicode, transform, extension_pieces, IsUnicodeBlock}
 use Rattle.iloc_spec_grammar.specs.Tree.{IsTransformBlock, IsExtension}
-use Rattle.iloc_spec_grammar.specs.Values.{Without, Rule, LessRepeats, LessTrue, AttributesStep, FieldsStep}
+use Rattle.iloc_spec_grammar.specs.Values.{Rule, LessTrue, AttributesStep, FieldsStep}
 use Rattle.iloc_spec_grammar.specs.Values.{IdentifierStep, BlockStep}
-use Rattle.iloc_spec_grammar.specs.TreeSteps.{TreeRule, TreeWithout, WithoutRepeats, TreeLessTrue}
+use Rattle.iloc_spec_grammar.specs.TreeSteps.{TreeRule, TreeLessTrue}
 use Rattle.iloc_spec_grammar.specs.TreeSteps.{TreeIdentifierStep, ExtensionStep, unicode_extension}
 use Rattle.iloc_spec_grammar.specs.TreeSteps.{transform_extension}
 use Rattle.iloc_spec_grammar.proofs.Orders.{itself}
 use Rattle.iloc_spec_grammar.proofs.General.{zip_weaker}
-
--- lists without some items
-
-pub tree_without : {X : Type 0} (test : X → Bool) {before xs ys : List X} →
-    Without (λ before x. test x) before xs ys → TreeWithout test xs ys
-tree_without test Without.none = TreeWithout.none
-tree_without test (Without.stays w) = TreeWithout.stays (tree_without test w)
-tree_without test (Without.left_out e w) = TreeWithout.left_out e (tree_without test w)
-
-pub without_by_tree : {X : Type 0} (test : X → Bool) {before xs ys : List X} → TreeWithout test xs ys →
-    Without (λ before x. test x) before xs ys
-without_by_tree test TreeWithout.none = Without.none
-without_by_tree test (TreeWithout.stays w) = Without.stays (without_by_tree test w)
-without_by_tree test (TreeWithout.left_out e w) = Without.left_out e (without_by_tree test w)
-
-module _ {X : Type 0} (key : X → Text) where
-  abbrev is_repeat : List X → X → Bool
-  is_repeat before x = list_any (λ y. is_same (lower (key x)) (lower (key y))) before
-
-  abbrev seen_in : List X → List Text
-  seen_in before = map (λ y. lower (key y)) before
-
-  repeat_seen : (x : X) (before : List X) →
-      is_repeat before x ≡ list_any (is_same (lower (key x))) (seen_in before)
-  repeat_seen x [] = refl
-  repeat_seen x (y ∷ before) = ap (λ b. is_same (lower (key x)) (lower (key y)) || b) (repeat_seen x before)
-
-  repeats_from : {before xs ys : List X} → Without is_repeat before xs ys →
-      WithoutRepeats key (seen_in before) xs ys
-  repeats_from Without.none = WithoutRepeats.none
-  repeats_from (Without.stays w) = WithoutRepeats.stays (repeats_from w)
-  repeats_from (Without.left_out {before = before} {x = x} e w) =
-      WithoutRepeats.left_out (sym (repeat_seen x before) ∙ e) (repeats_from w)
-
-  repeats_to : (before : List X) {seen : List Text} {xs ys : List X} → seen_in before ≡ seen →
-      WithoutRepeats key seen xs ys → Without is_repeat before xs ys
-  repeats_to before p WithoutRepeats.none = Without.none
-  repeats_to before p (WithoutRepeats.stays {x = x} w) =
-      Without.stays (repeats_to (x ∷ before) (ap (λ l. lower (key x) ∷ l) p) w)
-  repeats_to before p (WithoutRepeats.left_out {x = x} e w) = Without.left_out
-      (repeat_seen x before ∙ ap (list_any (is_same (lower (key x)))) p ∙ e) (repeats_to before p w)
-
-  pub tree_repeats : {xs ys : List X} → LessRepeats key xs ys → WithoutRepeats key [] xs ys
-  tree_repeats w = repeats_from w
-
-  pub repeats_by_tree : {xs ys : List X} → WithoutRepeats key [] xs ys → LessRepeats key xs ys
-  repeats_by_tree w = repeats_to [] refl w
 
 -- the same rules; a step in the order of blocks changes nothing inside them, so any rule is its own there
 
@@ -98,7 +51,7 @@ new_attributes {r = r} u v a s =
 less_true : (n : ℕ) (fs gs : Fields) → AllZip (LessTrue n) fs gs →
     AllZip (λ f g. TreeLessTrue f g × (n ≤ length g.1)) fs gs
 less_true n fs gs z = zip_weaker (LessTrue n) (λ f g. TreeLessTrue f g × (n ≤ length g.1))
-    (λ f g l. ((l.0, tree_without (λ w. is_true (lower w)) l.1), l.2)) fs gs z
+    (λ f g l. ((l.0, l.1), l.2)) fs gs z
 
 pub unicode_step : (r : Rule) (u v : SpelledUnicode) → AttributesStep r u.attributes v.attributes →
     FieldsStep r 0 u.keywords v.keywords → ExtensionStep (tree_rule r) (unicode u) (unicode v)
@@ -107,7 +60,7 @@ unicode_step Rule.AttributeOrder u v a k =
     (ExtensionStep.attribute_order a)
 unicode_step Rule.FieldOrder u v a k = new_attributes u v a (ExtensionStep.keyword_order k.0 k.1)
 unicode_step Rule.Repeats u v a k =
-    ExtensionStep.unicode_repeats (tree_repeats (λ a. a) a) (tree_repeats (λ f. f.0) k)
+    ExtensionStep.unicode_repeats a k
 unicode_step Rule.Trues u v a k = new_attributes u v a (ExtensionStep.unicode_trues
     (zip_weaker _ TreeLessTrue (λ f g l. l.0) u.keywords v.keywords (less_true 0 u.keywords v.keywords k)))
 unicode_step r u v a k = same_unicode u v a k
@@ -161,7 +114,7 @@ transform_step Rule.VariantOrder m n i k =
 transform_step Rule.FieldOrder m n i k =
     new_id m n (same_option m.id n.id i) (ExtensionStep.field_order k.0 k.1)
 transform_step Rule.Repeats m n i k =
-    new_id m n (same_option m.id n.id i) (ExtensionStep.transform_repeats (tree_repeats (λ f. f.0) k))
+    new_id m n (same_option m.id n.id i) (ExtensionStep.transform_repeats k)
 transform_step Rule.Trues m n i k =
     new_id m n (same_option m.id n.id i) (ExtensionStep.transform_trues (less_true 1 m.fields n.fields k))
 transform_step r m n i k = same_transform m n (same_option m.id n.id i) k
@@ -189,7 +142,7 @@ plain_transform : {T : ℕ → Bool} {m : SpelledTransform} → IsTransformBlock
 plain_transform h = record { id = h.id; fields = h.fields }
 
 less_by_tree : (n : ℕ) (f g : Field) → TreeLessTrue f g → n ≤ length g.1 → LessTrue n f g
-less_by_tree n f g l h = (l.0, without_by_tree (λ w. is_true (lower w)) l.1, h)
+less_by_tree n f g l h = (l.0, l.1, h)
 
 pub block_by_tree : (T : LanguageLengths) {r : TreeRule} {e f : Extension} (c : ℕ) →
     IsExtension T (to_ascii_lowercase c) e → ExtensionStep r e f →
@@ -206,9 +159,9 @@ block_by_tree T c h (ExtensionStep.keyword_order d p) =
 block_by_tree T c h (ExtensionStep.field_order {i = i} d p) =
     BlockStep.in_transform _ _ h.0 (plain_transform h.1) (same_id Rule.FieldOrder i) (d, p)
 block_by_tree T c h (ExtensionStep.unicode_repeats v w) = BlockStep.in_unicode _ _ h.0 (plain_unicode h.1)
-    (repeats_by_tree (λ a. a) v) (repeats_by_tree (λ f. f.0) w)
+    v w
 block_by_tree T c h (ExtensionStep.transform_repeats {i = i} w) = BlockStep.in_transform _ _ h.0
-    (plain_transform h.1) (same_id Rule.Repeats i) (repeats_by_tree (λ f. f.0) w)
+    (plain_transform h.1) (same_id Rule.Repeats i) w
 block_by_tree T c h (ExtensionStep.unicode_trues {fs = fs} {gs = gs} z) =
     BlockStep.in_unicode _ _ h.0 (plain_unicode h.1) refl
     (zip_weaker TreeLessTrue (LessTrue 0) (λ f g l. less_by_tree 0 f g l (omega arith)) fs gs z)
@@ -216,4 +169,4 @@ block_by_tree T c h (ExtensionStep.transform_trues {i = i} {fs = fs} {gs = gs} z
     BlockStep.in_transform _ _ h.0 (plain_transform h.1) (same_id Rule.Trues i)
     (zip_weaker _ (LessTrue 1) (λ f g l. less_by_tree 1 f g l.0 l.1) fs gs z)
 block_by_tree T c h (ExtensionStep.dropped_pieces w) =
-    BlockStep.in_other h.0 refl (without_by_tree (λ p. not (is_word Subtag p)) w)
+    BlockStep.in_other h.0 refl w

@@ -28,7 +28,7 @@ use Rattle.iloc_spec_grammar.proofs.Singletons.{no_t, no_u, no_x}
 use Rattle.iloc_spec_grammar.proofs.StepLaws.{identifier_step, extension_step, written_step}
 use Rattle.iloc_spec_grammar.proofs.StepSizes.{step_pieces}
 use Rattle.iloc_spec_grammar.proofs.IdentifierTexts.{pieces-identifier_text}
-use Rattle.iloc_spec_grammar.proofs.SamePartSteps.{tree_rule, rule_of, tree_without, unicode_step}
+use Rattle.iloc_spec_grammar.proofs.SamePartSteps.{tree_rule, rule_of, unicode_step}
 use Rattle.iloc_spec_grammar.proofs.SamePartSteps.{transform_step, same_identifier, tree_identifier_rule}
 use Rattle.iloc_spec_grammar.proofs.SamePartSteps.{same_rule, identifier_rule_by_tree, block_by_tree}
 use Rattle.iloc_spec_grammar.proofs.SameMeaning.{good_blocks, blocks_spelled}
@@ -138,7 +138,7 @@ read_step T r (BlockStep.in_other {c = c} {ps = ps} {qs = qs} o p w) = inr (reco
   singletons = refl;
   step = λ g. rw (ne_eqb _ _ (λ x. no_t _ x o), ne_eqb _ _ (λ x. no_u _ x o))
       (subst (λ r. ExtensionStep (tree_rule r) (other ps) (other qs)) (sym p)
-      (ExtensionStep.dropped_pieces (tree_without _ w)));
+      (ExtensionStep.dropped_pieces w));
 })
 
 -- blocks place by place

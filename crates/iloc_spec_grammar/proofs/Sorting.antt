@@ -12,7 +12,7 @@ use Rattle.std.proofs.lemmas.Bool.{and_parts, and_from, or_parts, or_from, or_le
 use Rattle.std.proofs.lemmas.Bool.{false_from_ne_true, both_ways, cond_both, not-false}
 use Rattle.iloc_spec_grammar.specs.Syntax.{Text, lower, word_cmp, is_same, AllDifferent}
 use Rattle.iloc_spec_grammar.specs.Values.{Reordered}
-use Rattle.iloc_spec_grammar.specs.TreeSteps.{TreeWithout, WithoutRepeats}
+use Rattle.iloc_spec_grammar.specs.Values.{Without, WithoutRepeats}
 use Rattle.iloc_spec_grammar.proofs.MapLaws.{word_cmp_total, less}
 pub use Rattle.iloc_spec_grammar.proofs.Orders.{itself}
 use Rattle.iloc_spec_grammar.proofs.Orders.{or_swap}
@@ -134,11 +134,11 @@ module _ {X : Type 0} (key : X → Text) where
 -- what doesn't pass
 
 pub without-filter : {X : Type 0} (test : X → Bool) (xs : List X) →
-    TreeWithout test xs (filter (λ x. not (test x)) xs)
-without-filter test [] = TreeWithout.none
+    Without test xs (filter (λ x. not (test x)) xs)
+without-filter test [] = Without.none
 without-filter test (x ∷ xs) =
-    cond_both (not (test x)) _ _ (TreeWithout test (x ∷ xs)) (λ _. TreeWithout.stays (without-filter test xs))
-    (λ e. TreeWithout.left_out (not-false _ e) (without-filter test xs))
+    cond_both (not (test x)) _ _ (Without test (x ∷ xs)) (λ _. Without.stays (without-filter test xs))
+    (λ e. Without.left_out (not-false _ e) (without-filter test xs))
 
 pub filter-passes : {X : Type 0} (test : X → Bool) (xs : List X) →
     AllByRecursion (λ x. test x ≡ true) (filter test xs)

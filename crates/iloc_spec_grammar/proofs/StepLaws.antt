@@ -18,7 +18,8 @@ use Rattle.iloc_spec_grammar.specs.Tree.{Extension, other, Written, IsExtension,
 use Rattle.iloc_spec_grammar.specs.Tree.{transform_part, private_part, other_part, by_singleton, meaning}
 use Rattle.iloc_spec_grammar.specs.Meaning.{map_of, set_of, normal_identifier, normal_values, normal_fields}
 use Rattle.iloc_spec_grammar.specs.Values.{Reordered}
-use Rattle.iloc_spec_grammar.specs.TreeSteps.{TreeWithout, WithoutRepeats, TreeLessTrue, keys_differ}
+use Rattle.iloc_spec_grammar.specs.Values.{Without, WithoutRepeats}
+use Rattle.iloc_spec_grammar.specs.TreeSteps.{TreeLessTrue, keys_differ}
 use Rattle.iloc_spec_grammar.specs.TreeSteps.{TreeRule, TreeIdentifierStep, ExtensionStep, Step}
 use Rattle.iloc_spec_grammar.specs.TreeSteps.{unicode_extension, transform_extension}
 use Rattle.iloc_spec_grammar.proofs.MapLaws.{map_of_same, word_cmp_total, same_words}
@@ -63,12 +64,12 @@ fields_reordered {fs = fs} {gs = gs} d r = sym (map_of_same word_cmp word_cmp_to
     (subst (AllDifferent word_cmp) (sym (map-map (λ (e : Field). e.0) entry fs)) d)))
 
 -- what is `true` is dropped
-values_without : {ps qs : List Text} → TreeWithout (λ p. is_true (lower p)) ps qs →
+values_without : {ps qs : List Text} → Without (λ p. is_true (lower p)) ps qs →
     normal_values ps ≡ normal_values qs
-values_without TreeWithout.none = refl
-values_without (TreeWithout.stays {x = x} r) =
+values_without Without.none = refl
+values_without (Without.stays {x = x} r) =
     ap (λ l. cond (not (is_true (lower x))) (lower x ∷ l) l) (values_without r)
-values_without (TreeWithout.left_out {x = x} {xs = xs} e r) =
+values_without (Without.left_out {x = x} {xs = xs} e r) =
     ap (λ b. cond (not b) (lower x ∷ normal_values xs) (normal_values xs)) e ∙ values_without r
 
 entries_less : (fs gs : Fields) → AllZip TreeLessTrue fs gs → map entry fs ≡ map entry gs

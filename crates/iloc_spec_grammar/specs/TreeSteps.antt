@@ -1,34 +1,17 @@
 -- Steps of the tree: the eight ways to change an accepted text, as changes of the tree that it
 -- spells. No contract of a type rests on them: SameSteps shows that they agree with those of
 -- Values.
-use Rattle.std.specs.Prelude.{◌≡◌, ℕ, ◌<◌, true, List, [], ◌∷◌, length, map, Option, Some, Bool, not}
-use Rattle.std.specs.List.{list_any, AllZip}
+use Rattle.std.specs.Prelude.{◌≡◌, ℕ, ◌<◌, List, [], length, map, Option, Some, not}
+use Rattle.std.specs.List.{AllZip}
 use Rattle.iloc_spec_grammar.specs.Syntax.{Text, LanguageLengths, Block, Field, join, pieces, Subtag, lower}
-use Rattle.iloc_spec_grammar.specs.Syntax.{word_cmp, is_true, is_word, is_same, SpelledIdentifier, Fields}
+use Rattle.iloc_spec_grammar.specs.Syntax.{word_cmp, is_true, is_word, SpelledIdentifier, Fields}
 use Rattle.iloc_spec_grammar.specs.Syntax.{identifier_pieces, AllDifferent, IsIdentifier}
-use Rattle.iloc_spec_grammar.specs.Values.{Reordered}
+use Rattle.iloc_spec_grammar.specs.Values.{Reordered, Without, WithoutRepeats}
 use Rattle.iloc_spec_grammar.specs.Tree.{Extension, unicode, transform, other, Written, spelling, IsWritten}
-
--- ys is xs without some of the items that pass the test
-pub data TreeWithout {X : Type 0} (test : X → Bool) : List X → List X → Type 0 where
-  none : TreeWithout test [] []
-  stays : {x : X} {xs ys : List X} → TreeWithout test xs ys → TreeWithout test (x ∷ xs) (x ∷ ys)
-  left_out : {x : X} {xs ys : List X} → test x ≡ true → TreeWithout test xs ys
-      → TreeWithout test (x ∷ xs) ys
-
--- ys is xs without some items whose key, in lower case, an earlier kept item has, or the list seen
--- has
-pub data WithoutRepeats {X : Type 0} (key : X → Text) : List Text → List X → List X → Type 0 where
-  none : {seen : List Text} → WithoutRepeats key seen [] []
-  stays : {seen : List Text} {x : X} {xs ys : List X}
-      → WithoutRepeats key (lower (key x) ∷ seen) xs ys → WithoutRepeats key seen (x ∷ xs) (x ∷ ys)
-  left_out : {seen : List Text} {x : X} {xs ys : List X}
-      → list_any (is_same (lower (key x))) seen ≡ true → WithoutRepeats key seen xs ys
-      → WithoutRepeats key seen (x ∷ xs) ys
 
 -- some values that are `true` are left out
 abbrev pub TreeLessTrue : Field → Field → Type 0
-TreeLessTrue (k, vs) (l, ws) = (k ≡ l) × TreeWithout (λ p. is_true (lower p)) vs ws
+TreeLessTrue (k, vs) (l, ws) = (k ≡ l) × Without (λ p. is_true (lower p)) vs ws
 
 -- no two keys are equal without case
 abbrev pub keys_differ : Fields → Type 0
@@ -89,7 +72,7 @@ pub data ExtensionStep : TreeRule → Extension → Extension → Type 0 where
       → AllZip (λ f g. TreeLessTrue f g × (0 < length g.1)) fs gs
       → ExtensionStep Trues (transform_extension i fs) (transform_extension i gs)
   -- `a-foo-!!-bar` to `a-foo-bar`
-  dropped_pieces : {ps qs : List Text} → TreeWithout (λ p. not (is_word Subtag p)) ps qs
+  dropped_pieces : {ps qs : List Text} → Without (λ p. not (is_word Subtag p)) ps qs
       → ExtensionStep DroppedPieces (other ps) (other qs)
 
 -- a written locale of these parts

@@ -204,14 +204,22 @@ pub data Reordered {X : Type 0} : List X → List X → Type 0 where
   first_two : {x y : X} {xs : List X} → Reordered (x ∷ y ∷ xs) (y ∷ x ∷ xs)
   in_turn : {xs ys zs : List X} → Reordered xs ys → Reordered ys zs → Reordered xs zs
 
--- ys is xs with some items left out; the test says of the items that are kept so far, the last one
--- first, and of an item, whether it may go
-pub data Without {X : Type 0} (may_go : List X → X → Bool) : List X → List X → List X → Type 0 where
-  none : {before : List X} → Without may_go before [] []
-  stays : {before : List X} {x : X} {xs ys : List X} → Without may_go (x ∷ before) xs ys
-      → Without may_go before (x ∷ xs) (x ∷ ys)
-  left_out : {before : List X} {x : X} {xs ys : List X} → may_go before x ≡ true
-      → Without may_go before xs ys → Without may_go before (x ∷ xs) ys
+-- ys is xs with some items left out that pass the test
+pub data Without {X : Type 0} (may_go : X → Bool) : List X → List X → Type 0 where
+  none : Without may_go [] []
+  stays : {x : X} {xs ys : List X} → Without may_go xs ys → Without may_go (x ∷ xs) (x ∷ ys)
+  left_out : {x : X} {xs ys : List X} → may_go x ≡ true → Without may_go xs ys
+      → Without may_go (x ∷ xs) ys
+
+-- ys is xs with some items left out whose key, in lower case, an earlier one that stays has, or the
+-- list seen
+pub data WithoutRepeats {X : Type 0} (key : X → Text) : List Text → List X → List X → Type 0 where
+  none : {seen : List Text} → WithoutRepeats key seen [] []
+  stays : {seen : List Text} {x : X} {xs ys : List X}
+      → WithoutRepeats key (lower (key x) ∷ seen) xs ys → WithoutRepeats key seen (x ∷ xs) (x ∷ ys)
+  left_out : {seen : List Text} {x : X} {xs ys : List X}
+      → list_any (is_same (lower (key x))) seen ≡ true → WithoutRepeats key seen xs ys
+      → WithoutRepeats key seen (x ∷ xs) ys
 
 -- The steps.
 
@@ -220,13 +228,9 @@ pub data Without {X : Type 0} (may_go : List X → X → Bool) : List X → List
 pub data Rule : Type 0 where
   BlockOrder VariantOrder AttributeOrder FieldOrder Repeats Trues DroppedPieces : Rule
 
--- some items are left out whose key, given by k, one that is kept before has, in whatever case
-abbrev pub LessRepeats : {X : Type 0} → (X → Text) → List X → List X → Type 0
-LessRepeats k = Without (λ before x. list_any (λ y. is_same (lower (k x)) (lower (k y))) before) []
-
 -- some values that are `true` are left out, and n stay at least
 abbrev pub LessTrue : ℕ → Field → Field → Type 0
-LessTrue n (k, vs) (l, ws) = (k ≡ l) × Without (λ _ w. is_true (lower w)) [] vs ws × (n ≤ length ws)
+LessTrue n (k, vs) (l, ws) = (k ≡ l) × Without (λ w. is_true (lower w)) vs ws × (n ≤ length ws)
 
 -- the variants of an identifier: `posix-macos` to `macos-posix`
 abbrev pub VariantsStep : Rule → List Text → List Text → Type 0
@@ -236,14 +240,14 @@ VariantsStep r vs ws = vs ≡ ws
 -- the attributes of a block of `u`: `foo-bar` to `bar-foo`, or `foo-FOO` to `foo`
 abbrev pub AttributesStep : Rule → List Text → List Text → Type 0
 AttributesStep AttributeOrder vs ws = Reordered vs ws
-AttributesStep Repeats vs ws = LessRepeats (λ w. w) vs ws
+AttributesStep Repeats vs ws = WithoutRepeats (λ w. w) [] vs ws
 AttributesStep r vs ws = vs ≡ ws
 
 -- the fields of a block, each with n values at least: `hc-h12-ca-foo` to `ca-foo-hc-h12` if all
 -- keys differ, `ca-foo-ca-bar` to `ca-foo`, or `ca-foo-true` to `ca-foo`
 abbrev pub FieldsStep : Rule → ℕ → Fields → Fields → Type 0
 FieldsStep FieldOrder n fs gs = AllDifferent word_cmp (map (λ (k, _). lower k) fs) × Reordered fs gs
-FieldsStep Repeats n fs gs = LessRepeats (λ (key, _). key) fs gs
+FieldsStep Repeats n fs gs = WithoutRepeats (λ (key, _). key) [] fs gs
 FieldsStep Trues n fs gs = AllZip (LessTrue n) fs gs
 FieldsStep r n fs gs = fs ≡ gs
 
@@ -267,7 +271,7 @@ pub data BlockStep (T : LanguageLengths) (r : Rule) : Block → Block → Type 0
       → BlockStep T r (c, transform_pieces m) (c, transform_pieces n)
   -- `a-foo-!!-bar` to `a-foo-bar`
   in_other : {c : ℕ} {ps qs : List Text} → is_other_singleton (to_ascii_lowercase c) ≡ true
-      → r ≡ DroppedPieces → Without (λ before p. not (is_word Subtag p)) [] ps qs
+      → r ≡ DroppedPieces → Without (λ p. not (is_word Subtag p)) ps qs
       → BlockStep T r (c, ps) (c, qs)
 
 -- the blocks in another order, as `u-ca-foo-a-bar` to `a-bar-u-ca-foo`, or a step inside some of

@@ -9,7 +9,8 @@ ghost use Rattle.iloc_spec_grammar.specs.Syntax.{Text, LanguageLengths, Field, p
 ghost use Rattle.iloc_spec_grammar.specs.Tree.{Extension, Written};
 ghost use Rattle.iloc_spec_grammar.specs.Meaning.{Locale, Means, IdentifierMeans};
 ghost use Rattle.iloc_spec_grammar.specs.Values.{TextStep, IdentifierTextStep, Leads, LeadToOne, Reordered};
-ghost use Rattle.iloc_spec_grammar.specs.TreeSteps.{TreeWithout, WithoutRepeats, TreeLessTrue, TreeRule, TreeIdentifierStep, ExtensionStep, Step, TreeTextStep, TreeIdentifierTextStep};
+ghost use Rattle.iloc_spec_grammar.specs.Values.{Without, WithoutRepeats};
+ghost use Rattle.iloc_spec_grammar.specs.TreeSteps.{TreeLessTrue, TreeRule, TreeIdentifierStep, ExtensionStep, Step, TreeTextStep, TreeIdentifierTextStep};
 ghost use Rattle.iloc_spec_grammar.specs.StepTests.{DecidesEquality, is_reordered, is_without, is_without_repeats, has_less_true, is_identifier_step, is_extension_step, is_step, is_text_step, is_identifier_text_step};
 
 /// Any number of steps keeps the meaning and does not lengthen the text; two accepted texts mean the same exactly if some number of steps leads both to one text.
@@ -68,7 +69,7 @@ pub fn tests_of_lists<X>()
         → IsTrue (is_reordered same xs ys) ↔ Reordered xs ys }
     ensures without { (same : X → X → Bool) → DecidesEquality same
         → (test : X → Bool) (xs ys : List X)
-        → IsTrue (is_without same test xs ys) ↔ TreeWithout test xs ys }
+        → IsTrue (is_without same test xs ys) ↔ Without test xs ys }
     ensures without_repeats { (same : X → X → Bool) → DecidesEquality same
         → (key : X → Text) (seen : List Text) (xs ys : List X)
         → IsTrue (is_without_repeats same key seen xs ys) ↔ WithoutRepeats key seen xs ys }

@@ -10,6 +10,7 @@ ghost use Rattle.locale_web.specs.Reading.{IsPastLimits, IsReadInto};
 use iloc_calls::Status;
 use iloc_data_parts::DataParts;
 use iloc_normalize::Mode;
+use iloc_outline::growth::InPlace;
 use iloc_outline::outline::{
     Outline, Outlined, begins_with_language, outline_identifier, outline_locale,
 };
@@ -65,7 +66,7 @@ fn read_identifier(window: &[u8], len: usize, spans: &mut Spans) -> Found
     if !begins_with_language(window, len) {
         return Found::Refused(ParseError::InvalidLanguage);
     }
-    match outline_identifier(window, len, spans) {
+    match outline_identifier::<InPlace>(window, len, spans) {
         Outlined::Normal(outline) => Found::Outlined(outline),
         Outlined::Refused(error) => Found::Refused(error),
         Outlined::Full => Found::Beyond,
@@ -83,7 +84,7 @@ fn read_locale(window: &[u8], len: usize, spans: &mut Spans) -> Found
     if !begins_with_language(window, len) {
         return Found::Refused(ParseError::InvalidLanguage);
     }
-    match outline_locale(window, len, spans) {
+    match outline_locale::<InPlace>(window, len, spans) {
         Outlined::Normal(outline) => Found::Outlined(outline),
         Outlined::Refused(error) => Found::Refused(error),
         Outlined::Full => Found::Beyond,

@@ -8,6 +8,7 @@ ghost use Rattle.std.specs.Prelude.{◌+◌, ◌<◌, ◌≤◌, ◌^◌, length
 ghost use Rattle.iloc_outline.specs.Outlines.{BeginsWithLanguage};
 ghost use Rattle.iloc_outline.specs.Printing.{GivesShort};
 
+use iloc_outline::growth::InPlace;
 use iloc_outline::outline::{
     Outline, Outlined, begins_with_language, outline_identifier, outline_locale,
 };
@@ -45,7 +46,7 @@ fn langid(window: &[u8], len: usize, out: &mut String)
     requires begins { BeginsWithLanguage (take len window.now) }
 {
     let mut spans = Spans::new();
-    match outline_identifier(window, len, &mut spans) {
+    match outline_identifier::<InPlace>(window, len, &mut spans) {
         Outlined::Normal(outline) => normal(window, len, &outline, &spans, out),
         Outlined::Refused(error) => refuse(out, error),
         Outlined::Full => say(out, "full"),
@@ -59,7 +60,7 @@ fn locale(window: &[u8], len: usize, out: &mut String)
     requires begins { BeginsWithLanguage (take len window.now) }
 {
     let mut spans = Spans::new();
-    match outline_locale(window, len, &mut spans) {
+    match outline_locale::<InPlace>(window, len, &mut spans) {
         Outlined::Normal(outline) => normal(window, len, &outline, &spans, out),
         Outlined::Refused(error) => refuse(out, error),
         Outlined::Full => say(out, "full"),

@@ -6,7 +6,7 @@ use Rattle.iloc_outline.specs.declared.outline.Head.TheVariants.{All, Block, Ref
 use Rattle.iloc_outline.proofs.FinishLemmas.{finished_alone, finished_locale}
 use Rattle.iloc_outline.proofs.Meanings.{refused_head}
 use Rattle.iloc_outline.proofs.OutlineLemmas.{locale_full, locale_refused}
-use Rattle.iloc_outline.proofs.outline.read_locale.Goals as goal
+use Rattle.iloc_outline.proofs.outline.outline_locale.Goals as goal
 
 pub returns-in-All : goal.returns-in-All
 returns-in-All g c =

@@ -5,7 +5,7 @@ use Rattle.iloc_spec_grammar.specs.Syntax.{pieces}
 use Rattle.iloc_outline.specs.Outlines.{AreHeadRead}
 use Rattle.iloc_outline.specs.declared.outline.Head.TheVariants.{All, Block, Refused}
 use Rattle.iloc_outline.proofs.FinishLemmas.{finished_identifier, refused_all, refuses_block}
-use Rattle.iloc_outline.proofs.outline.read_identifier.Goals as goal
+use Rattle.iloc_outline.proofs.outline.outline_identifier.Goals as goal
 
 pub returns-in-All : goal.returns-in-All
 returns-in-All g c =
