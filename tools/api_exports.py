@@ -1,16 +1,16 @@
-"""Checks that users of icu_locale_core need no other crate: it passes on each law of the crates of definitions
-and of the program, and each module of definitions that a contract cites which it passes on."""
+"""Checks that users of icu_locale_core need no other crate: it passes on each law of the crates that it stands on, those
+of the program among them, and each module of definitions that a contract cites which it passes on."""
 import trusted_graph as graph
+from api_model import is_law
 from api_source import CORE, sources as all_sources
-
-PROGRAM = "iloc_lines"
+from common import below
 
 
 def laws(sources):
-    """Returns the laws of the crates of definitions and of the program: public functions with no body."""
-    every = [it for it in sources.items if it.crate.startswith("iloc_spec_") or it.crate == PROGRAM]
-    public = [it for it in every if it.kind == "fn" and it.is_public and it.module.path_names[-1:] != ("tests",)]
-    return [it for it in public if "".join(it.text.split()).endswith("}{}")]
+    """Returns the public laws of the crates that icu_locale_core stands on."""
+    crates = [it for it in below(CORE, sources.lines) if it != CORE]
+    public = [it for it in sources.items if it.crate in crates and it.kind == "fn" and it.is_public]
+    return [it for it in public if is_law(it) and it.module.path_names[-1:] != ("tests",)]
 
 
 def cited(sources):

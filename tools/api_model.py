@@ -267,8 +267,13 @@ def call_of(item, owner, home, rust, made):
     givers = [words for it, words in GIVERS.items() if re.search(rf"[:+] (?:\w+::)?{it}\b", item.signature)]
     told = memory(item, wants) + (f" What {' and '.join(givers)} takes is its own." if givers else "")
     own = api_words.OWN_CALLS_OF.get(f"{owner}::{name}", api_words.OWN_CALLS.get(name, f"{rust}::{name}")) if rust else ""
-    details = item.details() + explained(signature)
+    details = without_errors(item.details()) + explained(signature)
     return Call(owner, name, item, home, signature, sentence, details, needs(item), given, told, own, (home, made, name))
+
+
+def without_errors(paragraphs):
+    """Returns the paragraphs without those below `# Errors`, which the page's own list of refusals says."""
+    return paragraphs[: paragraphs.index("# Errors")] if "# Errors" in paragraphs else paragraphs
 
 
 @functools.lru_cache(maxsize=None)

@@ -120,9 +120,16 @@ READERS = {
         [("NotText", "the JSON value is no string"), ("Parse", "the parser of the type refuses the string; its refusal is inside")],
         "`OutOfMemory` only if the parser of the type runs out of memory. That of a subtag never does.",
     ),
-    "iloc_program.WritesBeginning": (
+    "iloc_lines.WritesBeginning": (
         [
             ("Read", "the reader returns an error, or no end after `u64::MAX` reads"),
+            ("Write", "the writer returns an error, or takes no byte"),
+        ],
+        "May allocate: `OutOfMemory` if that fails.",
+    ),
+    "iloc_program.ListsBeginning": (
+        [
+            ("Read", "the reader returns an error, or no end after `u64::MAX` reads; or a line has no number of 64 bits"),
             ("Write", "the writer returns an error, or takes no byte"),
         ],
         "May allocate: `OutOfMemory` if that fails.",

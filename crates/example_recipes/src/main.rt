@@ -12,20 +12,25 @@
 //! - `clear LOCALE PART`: the locale without its identifier (`id`), its extensions, or all.
 //! - `asks LOCALE`: the keywords of the hour cycle and of the scripts that a dictionary leaves out.
 //! - `load LOCALE`: the payloads of what the locale prefers, by its language and by its region.
+//! - `merge LOCALE TEXT`: the locale of what it and that of the text prefer.
 //!
 //! Other calls take a text in place of a locale:
 //!
 //! - `extension TEXT`, `attributes TEXT`, `fields TEXT`: the part that the text begins with, and what is left.
 //! - `kinds TEXT`: a subtag as a language, a script and a region.
 //! - `payload TEXT PAYLOAD`: the data locale of the text has this payload from now on.
+//! - `shorten TEXT`: the normal text, and how many bytes fewer it has.
+//! - `judge TEXT`: whether the text has one meaning or one fault.
+//! - `line TEXT`: what the program `locale_normal` writes for the line.
 //!
-//! At the end come two more answers: what the program `locale_normal` gives for some lines, and what `carry_v1` makes
-//! of languages that version 1 stored.
+//! At the end come three more answers: what the program `locale_normal` gives for some lines, which of them it refuses,
+//! and what `carry_v1` makes of languages that version 1 stored.
 #![tactic(auto)]
 
 mod comparing;
 mod keywords;
 mod kinds;
+mod laws;
 mod others;
 mod parts;
 mod providing;
@@ -60,6 +65,7 @@ fn called(
         ("clear", [part]) => texts::clear(locale, part, out),
         ("asks", []) => keywords::asks(alloc, locale, out),
         ("load", []) => providing::say(locale, payloads, out),
+        ("merge", [text]) => laws::prefer(alloc, locale, text, out),
         _ => Ok(out.push_str("no such call")?),
     }
 }
@@ -76,6 +82,9 @@ fn answer_words<'a>(
         ["attributes", text] => parts::attributes(alloc, text, out),
         ["fields", text] => parts::fields(alloc, text, out),
         ["kinds", text] => kinds::say(text, out),
+        ["shorten", text] => laws::shorten(alloc, text, out),
+        ["judge", text] => laws::judge(text, out),
+        ["line", text] => laws::write_line(alloc, text, out),
         ["payload", text, payload] => providing::put(payloads, text, payload, out),
         [call, text, others @ ..] => {
             let mut locale = Locale::try_from_str(alloc, text)?;
@@ -114,9 +123,11 @@ fn answer_all<'a>(
     Ok(())
 }
 
-/// Says what the program `locale_normal` answers, and what rows of old raw forms are carried to.
+/// Says what the program `locale_normal` answers and refuses, and what rows of old raw forms are carried to.
 fn end(rt: HostRuntime, out: &mut String) -> anyhow::Result<()> {
     others::normalize(rt.alloc(), "EN-us\nen-\n", out)?;
+    print!(rt; "{out}")?;
+    others::refusals(rt.alloc(), "EN-us\nen-foo\n", out)?;
     print!(rt; "{out}")?;
     for row in ["en\0und", "en\0EN\0", "en"] {
         others::carry(rt.alloc(), row, out)?;

@@ -1,7 +1,7 @@
 //! JSON strings of locales, the library of the program, and old raw forms of languages.
 use icu_locale_core::bench::{CarryError, carry_v1};
 use icu_locale_core::json::{JsonError, JsonText};
-use icu_locale_core::program::{Mode, RunError, run};
+use icu_locale_core::program::{Listing, Mode, RunError, run, run_listed};
 use icu_locale_core::{Locale, ParseError};
 use std::alloc::{AllocError, Global};
 use std::fmt::Write;
@@ -27,6 +27,27 @@ fn round_trip(alloc: Global, locale: &Locale, out: &mut String) -> Result<(), Js
 pub fn normalize(alloc: Global, lines: &str, out: &mut String) -> Result<(), RunError> {
     let mut written = Vec::new(alloc);
     run(alloc, Mode::Locale, &mut lines.as_bytes(), &mut written)?;
+    out.clear();
+    out.push_str(std::str::from_utf8(written.as_slice()).unwrap_or("no text"))?;
+    Ok(())
+}
+
+/// Which of these lines the program `locale_normal` refuses, why and where.
+pub fn refusals(alloc: Global, lines: &str, out: &mut String) -> Result<(), RunError> {
+    let refused = Listing {
+        places: true,
+        numbers: true,
+        only_refused: true,
+    };
+    let mut written = Vec::new(alloc);
+    run_listed(
+        alloc,
+        Mode::Locale,
+        refused,
+        1,
+        &mut lines.as_bytes(),
+        &mut written,
+    )?;
     out.clear();
     out.push_str(std::str::from_utf8(written.as_slice()).unwrap_or("no text"))?;
     Ok(())

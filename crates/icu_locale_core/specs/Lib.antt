@@ -107,4 +107,9 @@ pub use Rattle.iloc_transform.specs.LangReading
 pub use Rattle.iloc_unicode.specs.Equality as UnicodePartEquality
 pub use Rattle.iloc_word_list.specs.Equality as UnicodeValueEquality
 pub use Rattle.iloc_writeable.specs.Pieces as PiecePrinting
+pub use Rattle.iloc_locale.specs.Blocks as ExtensionBlocks
+pub use Rattle.iloc_program.specs.Numbered as ProgramListings
+pub use Rattle.iloc_program.specs.Listing as ProgramEntries
+pub use Rattle.iloc_program.specs.declared.numbered.Listing as ListingOptions
+pub use Rattle.iloc_normalize.specs.declared.Mode as ProgramModes
 pub mod Together

@@ -20,8 +20,9 @@
 //! - Preferences of a locale are parsed, extended by others and turned into data locales and a locale as the definitions
 //!   say; the data locale of a locale is that of its preferences.
 //! - `to_json` writes the JSON string of the printed text. It parses back to the same value, if that is well-formed.
-//! - `program::run` writes the answer to all that it read, or a beginning of it and then returns an error. This holds
-//!   if the contracts of reader and writer tell their bytes.
+//! - `program::run` writes the answer to all that it read, or a beginning of it and then returns an error. So does
+//!   `program::run_listed` the entry of each line, which may say its number and where its fault stands. This holds if the
+//!   contracts of reader and writer tell their bytes.
 //! - `faults::fault_of` says of every refused text where its fault stands: what comes before can be completed to an
 //!   accepted text, and nothing that includes it can. It allocates nothing.
 //! - Subtags allocate nothing, and short texts fit in place.
@@ -39,7 +40,7 @@
 //!
 //! | Calls | Allocator |
 //! |---|---|
-//! | `try_from_utf8`, `try_from_str`, `try_from_locale_bytes`, `try_from_iter`, `normalize`, `normalize_utf8`, `try_from_value`, `try_from_key_value`, `from_json`, `to_json`, `read_text`, `run` | taken; running out of memory is one of the refusals |
+//! | `try_from_utf8`, `try_from_str`, `try_from_locale_bytes`, `try_from_iter`, `normalize`, `normalize_utf8`, `try_from_value`, `try_from_key_value`, `from_json`, `to_json`, `read_text`, `run`, `run_listed` | taken; running out of memory is one of the refusals |
 //! | `write_to_string`, `to_string_or_borrow`, `Locale::normalizing_eq`, `push`, `push_subtag`, `insert`, `try_insert`, `set`, `extend` and its kin, `union`, `new_double`, `from_iter`, `from_pairs`, `from_subtags`, `from_two_subtags`, `to_value`, `unicode_extension_value`, `to_locale`, `write_text`, `carry_v1` | taken; running out of memory is `AllocError`, or the refusal `OutOfMemory` |
 //! | `Locale::unknown`, `new` of `LiteMap`, `Fields`, `Transform` and `Extensions`, `from_langid`, `from_language`, `from_script`, `from_region`, `from_parts`, `from_unicode`, `into_locale`, `Fields::clear` | taken and kept: these allocate nothing |
 //! | `clone` of what may own memory | not taken: the value's own; running out of memory is `AllocError` |
@@ -140,7 +141,7 @@ pub mod extensions {
         pub use iloc_transform::field_laws::{
             equality as fields_equality, hashes as fields_hashes, orders,
         };
-        pub use iloc_transform::{Fields, Key, Transform, Value, equality, hashes};
+        pub use iloc_transform::{Fields, Key, Transform, Value, equality, few_words, hashes};
     }
 
     /// Extensions that are neither unicode, transform nor private.
@@ -232,6 +233,7 @@ pub mod laws {
 
     /// Other ways to say the same: by trees, block by block, and by plain programs.
     pub mod models {
+        pub use iloc_locale::turning::in_turn;
         pub use iloc_spec_grammar::models::{
             by_blocks, computed, same_faults, same_meaning, same_text, whole_readings,
         };
@@ -291,13 +293,14 @@ pub mod laws {
     /// What the program writes.
     pub mod program {
         pub use iloc_lines::laws::{by_example, line_answers, lines, outputs};
+        pub use iloc_program::laws::{one_listing, plain_listing};
     }
 }
 
 /// The library of the program `locale_normal`.
 pub mod program {
     pub use iloc_lines::{Mode, RunError, ending};
-    pub use iloc_program::run;
+    pub use iloc_program::{Listing, run, run_listed};
 }
 
 pub use iloc_data::DataLocale;

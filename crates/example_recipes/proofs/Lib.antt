@@ -1,0 +1,2 @@
+pub mod JudgedLemmas
+pub mod WrittenLemmas
