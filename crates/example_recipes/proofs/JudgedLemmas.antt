@@ -30,7 +30,8 @@ judged laws t = elim (laws.either t) [
 -- what means something is of the first kind
 pub accepted : ((t : Text) → HasOneMeaning t ⊎ HasOneFault t) → (t : Text)
     → ((M : Locale) × Means languages t M) → HasOneMeaning t
-accepted each t means = elim (each t) [ inl one ↦ one | inr fault ↦ absurd (fault.no_meaning means.0 means.1) ]
+accepted each t means =
+    elim (each t) [ inl one ↦ one | inr fault ↦ absurd (fault.no_meaning means.0 means.1) ]
 
 -- and what means nothing of the second
 pub refused : ((t : Text) → HasOneMeaning t ⊎ HasOneFault t) → (t : Text)

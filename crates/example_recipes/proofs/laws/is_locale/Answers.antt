@@ -9,4 +9,5 @@ returns-in-None-clause-yes c = λ _. subst HasOneMeaning c.as_bytes.ensures.valu
 
 pub returns-in-Some-clause-no : goal.returns-in-Some-clause-no
 returns-in-Some-clause-no c = λ _. subst HasOneFault c.as_bytes.ensures.value
-    (refused c.one_meaning_or_fault.ensures _ (λ means. let is_none = c.in-Some.ensures.accepted.1 means in cc))
+    (refused c.one_meaning_or_fault.ensures _
+    (λ means. let is_none = c.in-Some.ensures.accepted.1 means in cc))
