@@ -76,11 +76,12 @@ inline std::string words(status told)
 
 namespace detail {
 
-/* A text as a message shows it: in quotes, at most 64 bytes of it, and what is no printable ASCII as \xNN. */
-inline std::string shown(std::string_view text)
+/* What an error says: the words of the status; the text in quotes, at most 64 bytes of it, and what is no printable
+ * ASCII as \xNN; and where its fault stands, unless all of it is at fault. */
+inline std::string message(status told, std::string_view text, std::size_t start, std::size_t end)
 {
     const char digits[] = "0123456789abcdef";
-    std::string said = "'";
+    std::string said = words(told) + ": '";
     for (const char it : text.substr(0, 64)) {
         const auto byte = static_cast<unsigned char>(it);
         if (byte >= 32 && byte < 127 && it != '\'' && it != '\\')
@@ -88,7 +89,10 @@ inline std::string shown(std::string_view text)
         else
             said.append("\\x").append(1, digits[byte >> 4]).append(1, digits[byte & 15]);
     }
-    return said + (text.size() > 64 ? "'..." : "'");
+    said += text.size() > 64 ? "'..." : "'";
+    if (end - start != text.size())
+        said += " at " + std::to_string(start) + ".." + std::to_string(end);
+    return said;
 }
 
 } // namespace detail
@@ -98,14 +102,15 @@ inline std::string shown(std::string_view text)
 #pragma clang diagnostic ignored "-Wweak-vtables" // a header has no other file for its table
 #endif
 
-/* A refused text, or a refused number. what() has the words of the status, and the text: Invalid subtag: 'en-'. The
- * fault stands in the text from start() to before end(), as find_fault says; a part that is refused is all at fault. */
+/* A refused text, or a refused number. what() has the words of the status, the text and, unless all of it is at fault,
+ * the place of the fault: Invalid subtag: 'en-' at 3..3. It goes from byte start() to before byte end(), as find_fault
+ * says; a part that is refused is all at fault. */
 class error : public std::invalid_argument {
 public:
     explicit error(icu_locale::status told) : std::invalid_argument(words(told)), told_(told), start_(0), end_(0) {}
     error(icu_locale::status told, std::string_view text) : error(told, text, 0, text.size()) {}
     error(icu_locale::status told, std::string_view text, std::size_t start, std::size_t end)
-        : std::invalid_argument(words(told) + ": " + detail::shown(text)), told_(told), start_(start), end_(end)
+        : std::invalid_argument(detail::message(told, text, start, end)), told_(told), start_(start), end_(end)
     {
     }
     icu_locale::status status() const noexcept { return told_; }

@@ -42,7 +42,12 @@ static std::string fault_of(const std::string &line, mode as)
     } catch (const icu_locale::error &refused) {
         if (!found || found->status != refused.status() || found->start != refused.start() || found->end != refused.end())
             std::abort();
-        return std::to_string(found->start) + " " + std::to_string(found->end);
+        const std::string start = std::to_string(found->start), end = std::to_string(found->end), what = refused.what();
+        const std::string place = " at " + start + ".." + end;
+        const bool is_said = what.size() > place.size() && what.substr(what.size() - place.size()) == place;
+        if (is_said != (found->end - found->start != line.size()))
+            std::abort();
+        return start + " " + end;
     }
     return found ? "a fault of no refused text" : "-";
 }
@@ -298,7 +303,8 @@ template <class Call> static std::string said(Call call)
     std::abort();
 }
 
-/* An error says why and of which text, of which it shows 64 bytes. An empty view may be of a null pointer. */
+/* An error says why, of which text, of which it shows 64 bytes, and where, unless all is at fault. An empty view may be
+ * of a null pointer. */
 static void try_errors()
 {
     locale held("en");
@@ -310,7 +316,12 @@ static void try_errors()
         {said([] { icu_locale::compare("e", "x"); }), ": 'e'"},
         {said([] { icu_locale::compare("en", "x"); }), ": 'x'"},
         {said([&] { locale made(long_text); }), ": '" + long_text.substr(1) + "'..."},
-        {said([&] { held.assign("en-"); }), ": 'en-'"},
+        {said([&] { locale made("en-" + long_text); }), ": 'en-" + long_text.substr(4) + "'... at 3..68"},
+        {said([] { icu_locale::normalize("e-US"); }), ": 'e-US' at 0..1"},
+        {said([] { icu_locale::normalize("en-toolonggg-US"); }), ": 'en-toolonggg-US' at 3..12"},
+        {said([] { icu_locale::compare("en", "en-\xff"); }), ": 'en-\\xff' at 3..4"},
+        {said([&] { held.assign("en-"); }), ": 'en-' at 3..3"},
+        {said([&] { held.set_transform_language("de-a"); }), ": 'de-a' at 3..4"},
         {said([&] { held.set_region("USA"); }), ": 'USA'"},
         {said([&] { held.add_variant("pos"); }), ": 'pos'"},
         {said([&] { held.set_keyword("ca", "r"); }), ": 'ca-r'"},

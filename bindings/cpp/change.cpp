@@ -2,7 +2,7 @@
  *
  *     $ change en-us en-
  *     en-GB-u-ca-buddhist
- *     Invalid subtag: 'en-'
+ *     Invalid subtag: 'en-' at 3..3
  */
 #include "icu_locale.hpp"
 

@@ -42,6 +42,7 @@ def placed(line, mode):
         text = refusal.text
         before, after = text[: refusal.start], text[refusal.end :]
         assert text == before + refusal.piece + after and (refusal.end, text) == (len(text) - len(after), text)
+        assert str(refusal).endswith(f" at {refusal.start}..{refusal.end}") == (refusal.piece != text)
         piece, before = (it if isinstance(it, bytes) else it.encode("utf-8", "surrogatepass") for it in (refusal.piece, before))
         return f"{len(before)} {len(before) + len(piece)}"
     return "-"

@@ -12,7 +12,7 @@ en-GB-u-ca-buddhist
 'en-US-u-ca-buddhist'
 >>> normalize("en-", Mode.IDENTIFIER)
 Traceback (most recent call last):
-icu_locale_c.InvalidSubtag: Invalid subtag: 'en-'
+icu_locale_c.InvalidSubtag: Invalid subtag: 'en-' at 3..3
 
 A text is a str, or bytes (or any bytes-like object) of any encoding. Anything else is a TypeError. A lone surrogate in
 a str is refused like any other character that no identifier has.
@@ -92,7 +92,8 @@ class Priority(enum.IntEnum):
 
 
 class LocaleError(ValueError):
-    """A refused text: `words` says why, and `text` is the text, as bytes if it is no UTF-8. It prints both.
+    """A refused text: `words` says why, and `text` is the text, as bytes if it is no UTF-8. It prints both, and where the
+    fault stands, unless all of the text is at fault.
 
     The fault stands at `piece`, which is text[start:end]: in characters of a str, and in bytes of bytes. It is the first
     piece with which no text begins that has a meaning. So what is before it can be completed, and what includes it cannot.
@@ -102,7 +103,9 @@ class LocaleError(ValueError):
     >>> try:
     ...     normalize("en-toolonggg-US")
     ... except LocaleError as refusal:
+    ...     print(refusal)
     ...     print(refusal.start, refusal.end, refusal.piece)
+    Invalid subtag: 'en-toolonggg-US' at 3..12
     3 12 toolonggg
     """
 
@@ -121,7 +124,10 @@ class LocaleError(ValueError):
     def __str__(self) -> str:
         if self.text is None:
             return self.words
-        return f"{self.words}: {self.text[:64]!r}" + ("..." if len(self.text) > 64 else "")
+        said = f"{self.words}: {self.text[:64]!r}" + ("..." if len(self.text) > 64 else "")
+        if self.end - self.start != len(self.text):
+            said += f" at {self.start}..{self.end}"
+        return said
 
 
 class InvalidLanguage(LocaleError):
@@ -433,7 +439,7 @@ def check(text: Text, mode: Mode = Mode.LOCALE) -> None:
     >>> check("en-US-u-ca-buddhist")
     >>> check("en-US-u-ca-buddhist", Mode.IDENTIFIER)
     Traceback (most recent call last):
-    icu_locale_c.InvalidSubtag: Invalid subtag: 'en-US-u-ca-buddhist'
+    icu_locale_c.InvalidSubtag: Invalid subtag: 'en-US-u-ca-buddhist' at 6..7
     """
     given, mode = _bytes(text), _number(Mode, mode)
     _raise(_call(_library.icu_locale_check, mode, given, len(given)), given, mode)
@@ -629,7 +635,7 @@ class Locale:
     (True, True)
     >>> Locale("en-")
     Traceback (most recent call last):
-    icu_locale_c.InvalidSubtag: Invalid subtag: 'en-'
+    icu_locale_c.InvalidSubtag: Invalid subtag: 'en-' at 3..3
     """
 
     __slots__ = ("_source", "_handles", "_parts", "__weakref__")

@@ -27,7 +27,12 @@ fn answer(mode: Mode, line: &[u8]) -> String {
 }
 
 fn fault(mode: Mode, line: &[u8]) -> String {
-    let at = |error: ParseError| format!("{} {}", error.range().start, error.range().end);
+    let at = |error: ParseError| {
+        let range = error.range();
+        let is_said = error.to_string().ends_with(&format!(" at {range:?}"));
+        assert_eq!(is_said, range.len() != line.len());
+        format!("{} {}", range.start, range.end)
+    };
     normalize(mode, line).map_or_else(at, |_| "-".to_owned())
 }
 

@@ -50,7 +50,8 @@ impl fmt::Display for Refusal {
     }
 }
 
-/// A refused text. It prints why and of which text, as `Invalid subtag: 'en-'`.
+/// A refused text. It prints why, of which text and, unless all of it is at fault, where, as
+/// `Invalid subtag: 'en-' at 3..3`.
 ///
 /// It holds a copy of the first 64 bytes of the text, and prints these. So making and cloning one allocates nothing.
 /// Two are equal if they have the same kind and range, and texts of one length that begin alike. It is compared with a
@@ -61,7 +62,7 @@ impl fmt::Display for Refusal {
 ///
 /// let text = "en-toolonggg-US";
 /// let error = text.parse::<Locale>().unwrap_err();
-/// assert_eq!(error.to_string(), "Invalid subtag: 'en-toolonggg-US'");
+/// assert_eq!(error.to_string(), "Invalid subtag: 'en-toolonggg-US' at 3..12");
 /// assert_eq!(error.kind(), Refusal::InvalidSubtag);
 /// assert_eq!(error, Refusal::InvalidSubtag);
 /// assert_eq!(&text[error.range()], "toolonggg");
@@ -121,11 +122,14 @@ impl ParseError {
 /// It honors the width and the alignment that are asked for.
 impl fmt::Display for ParseError {
     fn fmt(&self, f: &mut fmt::Formatter<'_>) -> fmt::Result {
-        if self.kind.is_of_text() {
-            f.pad(&format!("{}: {}", self.kind, self.text))
-        } else {
-            f.pad(self.kind.words())
+        if !self.kind.is_of_text() {
+            return f.pad(self.kind.words());
         }
+        let mut said = format!("{}: {}", self.kind, self.text);
+        if self.range.len() != self.text.length {
+            said += &format!(" at {:?}", self.range);
+        }
+        f.pad(&said)
     }
 }
 
@@ -211,20 +215,26 @@ mod tests {
         assert_eq!(format!("{:-<16}|", Refusal::OutOfMemory), "Out of memory---|");
         let error = normalize(Mode::Locale, "e").unwrap_err();
         assert_eq!(format!("{error:>43}|"), "  The given language subtag is invalid: 'e'|");
+        let error = normalize(Mode::Locale, "en-").unwrap_err();
+        assert_eq!(format!("{error:>31}|"), "  Invalid subtag: 'en-' at 3..3|");
     }
 
     #[test]
     fn a_refused_text_is_named() {
         let said = |text: &[u8]| normalize(Mode::Locale, text).unwrap_err().to_string();
-        assert_eq!(said(b"en-"), "Invalid subtag: 'en-'");
+        assert_eq!(said(b"en-"), "Invalid subtag: 'en-' at 3..3");
+        assert_eq!(said(b"e-US"), "The given language subtag is invalid: 'e-US' at 0..1");
+        assert_eq!(said(b"en-\xc3\xa9-US"), "Invalid subtag: 'en-\\xc3\\xa9-US' at 3..5");
         assert_eq!(said(b""), "The given language subtag is invalid: ''");
         assert_eq!(said(b"e\n'\0\xff"), "The given language subtag is invalid: 'e\\n\\'\\x00\\xff'");
         let long = [b'a'; 65];
         assert_eq!(said(&long[..64]), format!("The given language subtag is invalid: '{}'", "a".repeat(64)));
         assert_eq!(said(&long), format!("The given language subtag is invalid: '{}'...", "a".repeat(64)));
+        let cut = format!("Invalid subtag: 'en-{}'... at 3..68", "a".repeat(61));
+        assert_eq!(said(&[b"en-", &long[..]].concat()), cut);
         let both = |one, other| compare(Mode::Locale, one, other).unwrap_err().to_string();
-        assert_eq!(both("en-", "fr-"), "Invalid subtag: 'en-'");
-        assert_eq!(both("en", "fr-"), "Invalid subtag: 'fr-'");
+        assert_eq!(both("en-", "fr-"), "Invalid subtag: 'en-' at 3..3");
+        assert_eq!(both("en", "fr-"), "Invalid subtag: 'fr-' at 3..3");
     }
 
     #[test]
@@ -233,8 +243,8 @@ mod tests {
         use crate::subtags::{Language, Region, Script, Variant};
         let mut it = Locale::default();
         let said = |error: ParseError| error.to_string();
-        assert_eq!(said("en-".parse::<Locale>().unwrap_err()), "Invalid subtag: 'en-'");
-        assert_eq!(said(Locale::normalize("en-").unwrap_err()), "Invalid subtag: 'en-'");
+        assert_eq!(said("en-".parse::<Locale>().unwrap_err()), "Invalid subtag: 'en-' at 3..3");
+        assert_eq!(said(Locale::normalize("en-").unwrap_err()), "Invalid subtag: 'en-' at 3..3");
         assert_eq!(said("e".parse::<Language>().unwrap_err()), "The given language subtag is invalid: 'e'");
         assert_eq!(said("".parse::<Script>().unwrap_err()), "Invalid subtag: ''");
         assert_eq!(said("USA".parse::<Region>().unwrap_err()), "Invalid subtag: 'USA'");
@@ -246,7 +256,7 @@ mod tests {
         assert_eq!(said(it.set_field("mm", "").unwrap_err()), "Invalid extension: 'mm'");
         assert_eq!(said(it.set_other("u-foo").unwrap_err()), "Invalid extension: 'u-foo'");
         assert_eq!(said(it.set_private_extension("y").unwrap_err()), "Invalid extension: 'y'");
-        assert_eq!(said(it.set_transform_language("de-a").unwrap_err()), "Invalid subtag: 'de-a'");
+        assert_eq!(said(it.set_transform_language("de-a").unwrap_err()), "Invalid subtag: 'de-a' at 3..4");
     }
 
     #[test]

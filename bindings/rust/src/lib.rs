@@ -22,7 +22,7 @@
 //! assert_eq!(normalize(Mode::Locale, "EN-us-u-ca-Buddhist").unwrap(), "en-US-u-ca-buddhist");
 //!
 //! let error = normalize(Mode::Identifier, "en-").unwrap_err();
-//! assert_eq!((error.kind(), error.to_string()), (Refusal::InvalidSubtag, "Invalid subtag: 'en-'".to_owned()));
+//! assert_eq!((error.kind(), error.to_string()), (Refusal::InvalidSubtag, "Invalid subtag: 'en-' at 3..3".to_owned()));
 //! ```
 //!
 //! The work is done by the library of `include/icu_locale.h`, whose every function is proved. This wrapper is not
