@@ -249,7 +249,7 @@ def tried_keys():
 @functools.lru_cache(maxsize=None)
 def examples():
     """Returns for each call's key the path, the number and the text of a statement that makes it, if one says something.
-    What is told by the name alone counts only if no line is told by the type."""
+    A line that only names the call counts only if no line names its type too."""
     found, guessed = {}, {}
     for path, (is_typed, key, number, line) in [(path, it) for path in files() for it in calls_in(path)]:
         (found if is_typed else guessed).setdefault(key, []).append((path, number, line))
