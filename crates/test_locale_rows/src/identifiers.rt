@@ -11,8 +11,8 @@ use std::alloc::Global;
 use std::cmp::Ordering;
 use std::{fmt, str};
 use test_page::steps::{Step, fills, replaces};
-use test_page::told::{told, whole};
-use test_page::{Answering, order, put, put_some, say, truth};
+use test_page::told::{beside, told, whole};
+use test_page::{Answering, order, put, put_some, refused, say, truth};
 
 /// Says what the value shows where it is looked into.
 pub fn debug<W: fmt::Debug>(out: &mut String, value: &W) {
@@ -95,6 +95,18 @@ fn locale_of(alloc: Global, data: &DataLocale, out: &mut String) {
     say(out, " ")
 }
 
+// Says how the data locale compares with what its text is parsed as.
+fn read_back(alloc: Global, data: &DataLocale, out: &mut String) {
+    match data.write_to_string(alloc) {
+        Ok(text) => beside::<Rows, DataLocale>(
+            data,
+            DataLocale::try_from_utf8(text.as_str().as_bytes()),
+            out,
+        ),
+        Err(_) => refused(out),
+    }
+}
+
 impl Answering<Rows> for DataLocale {
     fn read(_alloc: Global, text: &[u8]) -> Result<Self, ParseError> {
         DataLocale::try_from_utf8(text)
@@ -115,6 +127,7 @@ impl Answering<Rows> for DataLocale {
             }
             "locale" => put_last(out, self.into_locale(alloc)),
             "unknown" => truth(out, self.is_unknown()),
+            "same" => read_back(alloc, self, out),
             _ => say(out, "no call"),
         }
     }
