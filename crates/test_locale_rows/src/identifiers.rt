@@ -11,7 +11,7 @@ use std::alloc::Global;
 use std::cmp::Ordering;
 use std::{fmt, str};
 use test_page::steps::{Step, fills, replaces};
-use test_page::told::{beside, told, whole};
+use test_page::told::{told, whole};
 use test_page::{Answering, order, put, put_some, refused, say, truth};
 
 /// Says what the value shows where it is looked into.
@@ -98,11 +98,7 @@ fn locale_of(alloc: Global, data: &DataLocale, out: &mut String) {
 // Says how the data locale compares with what its text is parsed as.
 fn read_back(alloc: Global, data: &DataLocale, out: &mut String) {
     match data.write_to_string(alloc) {
-        Ok(text) => beside::<Rows, DataLocale>(
-            data,
-            DataLocale::try_from_utf8(text.as_str().as_bytes()),
-            out,
-        ),
+        Ok(text) => says_same(data, DataLocale::try_from_str(text.as_str()), out),
         Err(_) => refused(out),
     }
 }
