@@ -12,7 +12,7 @@ use std::cmp::Ordering;
 use std::{fmt, str};
 use test_page::steps::{Step, fills, replaces};
 use test_page::told::{told, whole};
-use test_page::{Answering, order, put, put_some, refused, say, truth};
+use test_page::{Answering, order, put, put_some, say, truth};
 
 /// Says what the value shows where it is looked into.
 pub fn debug<W: fmt::Debug>(out: &mut String, value: &W) {
@@ -62,6 +62,11 @@ impl Answering<Rows> for LanguageIdentifier {
                 let _ = Lowercase(self).write_joined(out);
             }
             "data" => put(out, &DataLocale::from(self)),
+            "same" => says_same(
+                &DataLocale::from(self),
+                DataLocale::try_from_utf8(text),
+                out,
+            ),
             "unknown" => truth(out, self.is_unknown()),
             _ => say(out, "no call"),
         }
@@ -95,14 +100,6 @@ fn locale_of(alloc: Global, data: &DataLocale, out: &mut String) {
     say(out, " ")
 }
 
-// Says how the data locale compares with what its text is parsed as.
-fn read_back(alloc: Global, data: &DataLocale, out: &mut String) {
-    match data.write_to_string(alloc) {
-        Ok(text) => says_same(data, DataLocale::try_from_str(text.as_str()), out),
-        Err(_) => refused(out),
-    }
-}
-
 impl Answering<Rows> for DataLocale {
     fn read(_alloc: Global, text: &[u8]) -> Result<Self, ParseError> {
         DataLocale::try_from_utf8(text)
@@ -123,7 +120,6 @@ impl Answering<Rows> for DataLocale {
             }
             "locale" => put_last(out, self.into_locale(alloc)),
             "unknown" => truth(out, self.is_unknown()),
-            "same" => read_back(alloc, self, out),
             _ => say(out, "no call"),
         }
     }
