@@ -53,7 +53,7 @@ def parts_of(folder, path):
 def put_in(room, crate, mutants):
     """Puts the mutants of a crate, by their numbers, into its sources in the room. Returns what is wrong, or nothing."""
     folder, edited = f"{room}/crates/{crate}", f"{room}/edited"
-    plain, bodies = {}, {}
+    plain, changed = {}, {}
     for number, name in mutants.items():
         texts, why = rt.read_edit(f"{ROOT}/crates/{crate}/edits/{name}.edit", folder)
         if why:
@@ -65,15 +65,18 @@ def put_in(room, crate, mutants):
             parts, others = plain.setdefault(path, parts_of(folder, path)), parts_of(f"{edited}/{number}", path)
             if len(parts) != len(others):
                 return f"{name}: {path} has other functions than before"
-            for at, (own, other) in enumerate(zip(parts, others)):
-                if own != other and at % 2:
-                    bodies.setdefault((path, at), []).append((number, other))
-                elif own != other:
-                    parts[at] = other
+            for at, other in enumerate(others):
+                if other != parts[at]:
+                    changed.setdefault((path, at), []).append((number, other))
     shutil.rmtree(edited, ignore_errors=True)
-    for (path, at), found in bodies.items():
-        tests = b"".join(b"if crate::chosen_mutant::number() == %d %s else " % it for it in found)
-        plain[path][at] = b"{ %s%s }" % (tests, plain[path][at])
+    for (path, at), found in changed.items():
+        if at % 2:
+            tests = b"".join(b"if crate::chosen_mutant::number() == %d %s else " % it for it in found)
+            plain[path][at] = b"{ %s%s }" % (tests, plain[path][at])
+        elif len(found) == 1:
+            plain[path][at] = found[0][1]
+        else:
+            return f"{path}: several mutants change it outside of the bodies of its functions"
     for path, parts in plain.items():
         pathlib.Path(folder, path).write_bytes(b"".join(parts))
     with open(f"{folder}/src/lib.rt", "a") as file:
