@@ -12,7 +12,7 @@ use std::cmp::Ordering;
 use std::{fmt, str};
 use test_page::steps::{Step, fills, replaces};
 use test_page::told::{told, whole};
-use test_page::{Answering, order, put, put_some, say, truth};
+use test_page::{Answering, order, put, put_some, refuse, say, truth};
 
 /// Says what the value shows where it is looked into.
 pub fn debug<W: fmt::Debug>(out: &mut String, value: &W) {
@@ -34,6 +34,18 @@ fn says_truth(out: &mut String, is_so: bool) -> bool {
     truth(out, is_so);
     say(out, " ");
     true
+}
+
+// Says how the data locale compares with the one of the text.
+fn beside_text(data: &DataLocale, text: &[u8], out: &mut String) {
+    match DataLocale::try_from_utf8(text) {
+        Ok(other) => {
+            order(out, data.total_cmp(&other));
+            say(out, " ");
+            truth(out, *data == other)
+        }
+        Err(error) => refuse(out, error),
+    }
 }
 
 impl Answering<Rows> for LanguageIdentifier {
@@ -62,11 +74,7 @@ impl Answering<Rows> for LanguageIdentifier {
                 let _ = Lowercase(self).write_joined(out);
             }
             "data" => put(out, &DataLocale::from(self)),
-            "same" => says_same(
-                &DataLocale::from(self),
-                DataLocale::try_from_utf8(text),
-                out,
-            ),
+            "same" => beside_text(&DataLocale::from(self), text, out),
             "unknown" => truth(out, self.is_unknown()),
             _ => say(out, "no call"),
         }
