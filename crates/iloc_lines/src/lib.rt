@@ -21,7 +21,7 @@ mod replies;
 pub mod reply_block;
 
 pub use iloc_normalize::Mode;
-use iloc_outline::spans::Spans;
+use iloc_spans::spans::Spans;
 pub use lines::reply_line;
 pub use modes::{DataLocales, Identifiers, InMode, Locales};
 pub use reply_block::ReplyBlock;

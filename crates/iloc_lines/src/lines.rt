@@ -36,7 +36,7 @@ use crate::modes::InMode;
 use crate::replies::write_refusal;
 use crate::reply_block::ReplyBlock;
 use iloc_normalize::{Lead, Mode, Written, read_found, read_lead};
-use iloc_outline::spans::Spans;
+use iloc_spans::spans::Spans;
 use iloc_pieces::{Plain, may_begin, read_plain};
 use iloc_subtags::ParseError;
 use memchr::memchr_iter;

@@ -2,7 +2,7 @@
 ghost use Rattle.std.specs.Prelude.{◌≡◌, ◌+◌, ◌≤◌, [], ◌∷◌, ◌++◌, length, take, vec_len, IfOk, OnOk, OnErr};
 
 use iloc_normalize::{Lead, Mode, Written, write_normal};
-use iloc_outline::spans::Spans;
+use iloc_spans::spans::Spans;
 use iloc_pieces::Plain;
 use std::alloc::{AllocError, Global};
 use std::cmp::max;

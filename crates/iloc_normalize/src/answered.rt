@@ -6,7 +6,7 @@ ghost use Rattle.iloc_normalize.specs.declared.Mode.TheVariants as Modes;
 use crate::Mode;
 use crate::leads::{Lead, lead_of_outlined, read_found, read_lead};
 use crate::writing::{Written, write_normal};
-use iloc_outline::spans::Spans;
+use iloc_spans::spans::Spans;
 use iloc_subtags::ParseError;
 
 /// The room of a call for a normal text, and for sixteen bytes behind it.

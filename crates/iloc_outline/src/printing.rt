@@ -12,10 +12,10 @@ ghost use Rattle.iloc_spec_grammar.specs.Reading.{rest_of};
 ghost use Rattle.iloc_outline.specs.Spans.{Spell};
 
 use crate::outline::Outline;
-use crate::span::{Role, Span};
-use crate::spans::Spans;
 use iloc_pieces::first_in_lower_case;
 use iloc_pieces::left::{Left, is_last, is_subtag, is_true, left_in, next};
+use iloc_spans::span::{Role, Span};
+use iloc_spans::spans::Spans;
 
 // Copies `count` bytes from `at` on in lower case. Up to sixteen bytes more are stored behind them.
 #[inline(always)]

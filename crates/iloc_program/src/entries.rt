@@ -7,7 +7,7 @@ use crate::numbered::{Listing, Lists};
 use crate::quoting::{write_decimal, write_shown};
 use iloc_faults::{Fault, fault_of};
 use iloc_lines::{InMode, ReplyBlock, reply_line};
-use iloc_outline::spans::Spans;
+use iloc_spans::spans::Spans;
 use std::alloc::{AllocError, Global};
 
 /// Answers lines in the mode of these answers, and lists what becomes of them. It keeps its room from line to line.

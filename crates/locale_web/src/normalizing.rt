@@ -14,7 +14,7 @@ use iloc_data_parts::DataParts;
 use iloc_normalize::Mode;
 use iloc_normalize::copying::copy_all;
 use iloc_outline::printing::copy_outline;
-use iloc_outline::spans::Spans;
+use iloc_spans::spans::Spans;
 use iloc_subtags::ParseError;
 use std::mem::forget;
 
