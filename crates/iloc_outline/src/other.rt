@@ -1,5 +1,5 @@
 //! Reads what follows the singleton `x`, or another one than `t` and `u`.
-ghost use Rattle.std.specs.Prelude.{◌≡◌, ◌-◌, ◌<◌, ◌^◌, ℕ, Bool, [], ◌∷◌, true};
+ghost use Rattle.std.specs.Prelude.{◌≡◌, ◌-◌, ◌<◌, ℕ, Bool, [], ◌∷◌, true};
 ghost use Rattle.std.specs.Char.{to_ascii_lowercase};
 ghost use Rattle.iloc_spec_grammar.specs.Syntax.{code_x, is_other_singleton};
 ghost use Rattle.iloc_pieces.specs.Left.{IsSpanned, whole_text};

@@ -1,5 +1,5 @@
 //! Reads what follows the singleton `t`.
-ghost use Rattle.std.specs.Prelude.{◌≡◌, ◌<◌, ◌^◌, false};
+ghost use Rattle.std.specs.Prelude.{◌≡◌, ◌<◌, false};
 ghost use Rattle.iloc_spec_grammar.specs.Syntax.{Language, code_t, is_word, languages};
 ghost use Rattle.iloc_pieces.specs.Left.{piece_left};
 ghost use Rattle.iloc_outline.specs.Reading.{FollowsSingleton, IsBodyAt, block_span};

@@ -1,12 +1,12 @@
 //! What is written for one line.
 ghost use Rattle.std.specs.Prelude.{◌≡◌, ◌≤◌, ◌++◌, length, OnOk, if◌then◌else◌, []};
-ghost use Rattle.iloc_lines.specs.ReplyBlock.{held};
+ghost use Rattle.iloc_program.specs.ReplyBlock.{held};
 ghost use Rattle.iloc_program.specs.Listing.{number_column, place_columns, refused_entry};
 
 use crate::numbered::{Listing, Lists};
 use crate::quoting::{write_decimal, write_shown};
+use crate::{InMode, ReplyBlock, reply_line};
 use iloc_faults::{Fault, fault_of};
-use iloc_lines::{InMode, ReplyBlock, reply_line};
 use iloc_spans::spans::Spans;
 use std::alloc::{AllocError, Global};
 

@@ -4,11 +4,10 @@
 //! that lines are numbered from the given number on (`specs/Numbered.antt`). What is written for one line, `entries` says.
 //! Memory is as long as the longest line and what is written for 64 KiB.
 ghost use Rattle.std.specs.Prelude.{ℕ, IfOk, OnOk, OnErr};
-ghost use Rattle.iloc_lines.specs.ReplyBlock.{held};
+ghost use Rattle.iloc_program.specs.ReplyBlock.{held};
 ghost use Rattle.iloc_program.specs.Numbered.{AddsText, ListsAll, ListsBeginning};
 
-use crate::lines;
-use iloc_lines::{ReplyBlock, RunError};
+use crate::{ReplyBlock, RunError, lines, listed_lines};
 use std::alloc::{AllocError, Global};
 use std::io::{Read, Write};
 
@@ -70,12 +69,12 @@ pub fn run_numbered<L: Lists, R: Read, W: Write>(
             return Err(RunError::Read);
         };
         if count == 0 {
-            let next = lines::finish(lists, listing, number, &mut pending, &mut replies)?;
+            let next = listed_lines::finish(lists, listing, number, &mut pending, &mut replies)?;
             lines::write_whole(writer, replies.as_slice())?;
             return Ok(next);
         }
         let (piece, _) = block.split_at(count);
-        number = lines::feed(lists, listing, number, &mut pending, piece, &mut replies)?;
+        number = listed_lines::feed(lists, listing, number, &mut pending, piece, &mut replies)?;
         lines::write_whole(writer, replies.as_slice())?;
     }
     Err(RunError::Read)

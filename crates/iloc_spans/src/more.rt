@@ -1,5 +1,5 @@
 //! Room for spans that grows, if there is any.
-ghost use Rattle.std.specs.Prelude.{◌≡◌, ◌-◌, ◌≤◌, [], ◌∷◌, ◌++◌, drop, length, take, true, false, vec_len};
+ghost use Rattle.std.specs.Prelude.{◌≡◌, ◌-◌, ◌≤◌, ◌∷◌, ◌++◌, drop, length, take, true, false, vec_len};
 
 use crate::span::Span;
 use std::alloc::Global;

@@ -1,5 +1,5 @@
 //! The spans of a text, as they are read.
-ghost use Rattle.std.specs.Prelude.{◌≡◌, ◌≢◌, ◌+◌, ◌-◌, ◌<◌, ◌≤◌, ◌↔◌, [], ◌∷◌, ◌++◌, IfSome, drop, length, take, true, false};
+ghost use Rattle.std.specs.Prelude.{◌≡◌, ◌≢◌, ◌+◌, ◌-◌, ◌<◌, ◌≤◌, [], ◌∷◌, ◌++◌, IfSome, drop, length, take, true, false};
 ghost use Rattle.iloc_spans.specs.More.{more_spans};
 
 use crate::group::Group;
