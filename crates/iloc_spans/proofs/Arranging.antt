@@ -85,7 +85,8 @@ module _ {X : Type 0} where
       ap (λ r. cond (is_eq r) (Some e.1) (find nat_cmp k es)) (less _ (and_parts _ _ b).0)
       ∙ find_between k [] es tt (and_parts _ _ b).1
   find_between k (f ∷ front) back a b =
-      ap (λ r. cond (is_eq r) (Some f.1) (find nat_cmp k (front ++ back))) (sym (nat_cmp_is k f.0 Greater a.0))
+      ap (λ r. cond (is_eq r) (Some f.1) (find nat_cmp k (front ++ back)))
+      (sym (nat_cmp_is k f.0 Greater a.0))
       ∙ find_between k front back a.1 b
 
   below_less : (k l : ℕ) (es : List (ℕ × X)) → k < l → below_all nat_cmp l es ≡ true →
@@ -170,7 +171,8 @@ module _ {X : Type 0} (word : X → ℕ) where
       let first : word x < nth xs i = below_at (word x) xs i (and_parts _ _ h).0 (omega arith) in
       let rest = found_at xs i (and_parts _ _ h).1 (omega arith) in (
         rest.0,
-        ap (λ r. cond (is_eq r) (Some x) (find nat_cmp (nth xs i) (numbered xs))) (sym (nat_cmp_is _ _ Greater first))
+        ap (λ r. cond (is_eq r) (Some x) (find nat_cmp (nth xs i) (numbered xs)))
+            (sym (nat_cmp_is _ _ Greater first))
             ∙ rest.1,
       )
 

@@ -20,7 +20,8 @@ returns g c = λ c' e spanned.
     let put =
     subst (λ s. held_spans c.put.new.spans ≡ held_spans c.args.spans.now ++ s ∷ []) c.singleton.ensures
     (c.put.ensures.put c.if-not-put.false) in
-    alone_read c' c.args.start c.args.left.now e c.requires.alone spanned long c.args.spans.now c.put.new.spans
+    alone_read c' c.args.start c.args.left.now e c.requires.alone spanned long c.args.spans.now
+    c.put.new.spans
     c.args.in_order.now put c.read_fields.new.left
     c.read_fields.new.spans c.read_fields.new.in_order c.read_fields.result c.at_block.result
     c.read_fields.ensures c.at_block.ensures
