@@ -1,5 +1,5 @@
 //! Data locales from identifiers and parts, and locales from data locales.
-ghost use Rattle.std.specs.Prelude.{◌≡◌, ℕ, List};
+ghost use Rattle.std.specs.Prelude.{◌≡◌};
 ghost use Rattle.iloc_spec_grammar.specs.Syntax.{languages};
 ghost use Rattle.iloc_spec_grammar.specs.Values.{IsValue, IsWellFormed, text};
 ghost use Rattle.iloc_locale.specs.LocaleReading.{value_of as locale_value};

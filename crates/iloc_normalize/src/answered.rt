@@ -1,5 +1,5 @@
 //! The normal text of a text, or why it is refused, in each mode, without a value.
-ghost use Rattle.std.specs.Prelude.{◌≡◌, ◌⊎◌, ◌+◌, ◌≤◌, length, take};
+ghost use Rattle.std.specs.Prelude.{◌+◌, ◌≤◌, length, take};
 ghost use Rattle.iloc_normalize.specs.Answered.{IsBeyond, IsLead, IsNothingOnlyIf, IsAnswered};
 ghost use Rattle.iloc_normalize.specs.declared.Mode.TheVariants as Modes;
 

@@ -1,7 +1,7 @@
 //! What is written for one line.
 ghost use Rattle.std.specs.Prelude.{◌≡◌, ◌≤◌, ◌++◌, length, OnOk, if◌then◌else◌, []};
 ghost use Rattle.iloc_program.specs.ReplyBlock.{held};
-ghost use Rattle.iloc_program.specs.Listing.{number_column, place_columns, refused_entry};
+ghost use Rattle.iloc_program.specs.Listing.{number_column, place_columns, refused_entry, IsEntry};
 
 use crate::numbered::{Listing, Lists};
 use crate::quoting::{write_decimal, write_shown};
@@ -31,8 +31,6 @@ impl<A> Listed<A> {
 }
 
 impl<A: InMode> Lists for Listed<A> {
-    ghost use Rattle.iloc_program.specs.Listing.{IsEntry};
-
     ghost is_entry = { IsEntry A.mode };
 
     fn list(

@@ -1,13 +1,13 @@
 //! Modes as types.
 ghost use Rattle.std.specs.Prelude.{◌≡◌};
+ghost use Rattle.iloc_normalize.specs.declared.Mode.{Mode};
+ghost use Rattle.iloc_normalize.specs.declared.Mode.TheVariants.{Langid, Locale, Data};
 
 use iloc_normalize::Mode;
 
 /// What says in which mode lines are answered. Each mode is a type of its own, so that each has its own loop over lines,
 /// and only what that mode asks is left of it.
 pub trait InMode {
-    ghost use Rattle.iloc_normalize.specs.declared.Mode.{Mode};
-
     ghost mode: { Mode };
 
     /// The mode.
@@ -20,8 +20,6 @@ pub trait InMode {
 pub struct Identifiers;
 
 impl InMode for Identifiers {
-    ghost use Rattle.iloc_normalize.specs.declared.Mode.TheVariants.{Langid};
-
     ghost mode = { Langid };
 
     #[inline(always)]
@@ -35,8 +33,6 @@ impl InMode for Identifiers {
 pub struct Locales;
 
 impl InMode for Locales {
-    ghost use Rattle.iloc_normalize.specs.declared.Mode.TheVariants.{Locale};
-
     ghost mode = { Locale };
 
     #[inline(always)]
@@ -50,8 +46,6 @@ impl InMode for Locales {
 pub struct DataLocales;
 
 impl InMode for DataLocales {
-    ghost use Rattle.iloc_normalize.specs.declared.Mode.TheVariants.{Data};
-
     ghost mode = { Data };
 
     #[inline(always)]

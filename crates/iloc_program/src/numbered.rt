@@ -6,6 +6,8 @@
 ghost use Rattle.std.specs.Prelude.{ℕ, IfOk, OnOk, OnErr};
 ghost use Rattle.iloc_program.specs.ReplyBlock.{held};
 ghost use Rattle.iloc_program.specs.Numbered.{AddsText, ListsAll, ListsBeginning};
+ghost use Rattle.iloc_spec_grammar.specs.Syntax.{Text};
+ghost use Rattle.iloc_program.specs.declared.numbered.Listing.{Listing};
 
 use crate::{ReplyBlock, RunError, lines, listed_lines};
 use std::alloc::{AllocError, Global};
@@ -24,9 +26,6 @@ pub struct Listing {
 
 /// What is written for lines.
 pub trait Lists {
-    ghost use Rattle.iloc_spec_grammar.specs.Syntax.{Text};
-    ghost use Rattle.iloc_program.specs.declared.numbered.Listing.{Listing};
-
     ghost is_entry: { Listing → ℕ → Text → Text → Type 0 };
 
     /// Adds what is written for the line of that number.

@@ -1,6 +1,5 @@
 //! Puts and hands out normal texts.
 ghost use Rattle.std.specs.Prelude.{◌≡◌, ◌↔◌, ◌+◌, ◌≤◌, IsTrue, MatchOption, length, take};
-ghost use Rattle.iloc_spec_grammar.specs.Syntax.{languages};
 ghost use Rattle.iloc_calls.specs.Answers.{HandsOut};
 ghost use Rattle.iloc_data_parts.specs.PartsReading.{value_of};
 ghost use Rattle.iloc_spec_parts.specs.DataLocales.{data_text};
