@@ -3,7 +3,6 @@ ghost use Rattle.iloc_locale.specs.declared.locale.Locale.{Locale};
 ghost use Rattle.iloc_locale.specs.LocaleReading.{unknown_locale, value_of};
 ghost use Rattle.std.specs.Prelude.{◌≡◌, ◌↔◌, IsTrue, Option, Some, None, IfSome, IfNone};
 ghost use Rattle.iloc_handles.specs.Held.{IsTight, held_locale};
-ghost use Rattle.iloc_handles.specs.Owned.{owned};
 
 use crate::open_box::OpenBox;
 use iloc_locale::Locale;
@@ -20,6 +19,8 @@ pub struct Handle {
 }
 
 impl Model for Handle {
+    ghost use Rattle.iloc_handles.specs.Owned.{owned};
+
     ghost also_owns = { λ h. owned h.at h.value };
 }
 

@@ -1,10 +1,5 @@
 //! The replies to a block of lines, as they are collected.
 ghost use Rattle.std.specs.Prelude.{◌≡◌, ◌+◌, ◌≤◌, [], ◌∷◌, ◌++◌, length, take, vec_len, IfOk, OnOk, OnErr};
-ghost use Rattle.iloc_program.specs.ReplyBlock.{held};
-ghost use Rattle.iloc_program.specs.Replies.{IsReplied};
-ghost use Rattle.iloc_normalize.specs.Answered.{IsLead};
-ghost use Rattle.iloc_spec_grammar.specs.Values.{identifier_text};
-ghost use Rattle.iloc_pieces.specs.Plain.{AreWords, value_of};
 
 use iloc_normalize::{Lead, Mode, Written, write_normal};
 use iloc_pieces::Plain;
@@ -25,6 +20,12 @@ pub struct ReplyBlock {
 }
 
 impl ReplyBlock {
+    ghost use Rattle.iloc_program.specs.ReplyBlock.{held};
+    ghost use Rattle.iloc_program.specs.Replies.{IsReplied};
+    ghost use Rattle.iloc_normalize.specs.Answered.{IsLead};
+    ghost use Rattle.iloc_spec_grammar.specs.Values.{identifier_text};
+    ghost use Rattle.iloc_pieces.specs.Plain.{AreWords, value_of};
+
     /// No bytes. It allocates nothing.
     pub fn new(alloc: Global) -> Self
         ensures { held result ≡ [] }

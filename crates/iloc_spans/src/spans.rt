@@ -1,9 +1,6 @@
 //! The spans of a text, as they are read.
 ghost use Rattle.std.specs.Prelude.{◌≡◌, ◌≢◌, ◌+◌, ◌-◌, ◌<◌, ◌≤◌, [], ◌∷◌, ◌++◌, IfSome, drop, length, take, true, false};
 ghost use Rattle.iloc_spans.specs.More.{more_spans};
-ghost use Rattle.iloc_spans.specs.Spans.{held_spans};
-ghost use Rattle.iloc_spans.specs.Group.{group_spans};
-ghost use Rattle.iloc_spans.specs.Inserting.{spans_in_order};
 
 use crate::group::Group;
 use crate::inserting::{Inserted, turn_in_place};
@@ -31,6 +28,10 @@ pub struct Spans {
 }
 
 impl Spans {
+    ghost use Rattle.iloc_spans.specs.Spans.{held_spans};
+    ghost use Rattle.iloc_spans.specs.Group.{group_spans};
+    ghost use Rattle.iloc_spans.specs.Inserting.{spans_in_order};
+
     /// None, and room for 64. It allocates nothing. The room is copied as a whole: made span by span it would be copied twice.
     #[inline(always)]
     pub fn new() -> Spans
