@@ -2,8 +2,6 @@
 //! steps.
 ghost use Rattle.std.specs.Prelude.{◌≡◌, ℕ, [], ◌++◌, map, true};
 ghost use Rattle.iloc_spans.specs.declared.span.Span.{Span};
-ghost use Rattle.iloc_spans.specs.Group.{IsGrouped, group_spans};
-ghost use Rattle.iloc_spans.specs.Spans.{held_spans};
 
 use crate::inserting::Inserted;
 use crate::span::Span;
@@ -20,6 +18,9 @@ pub struct Group {
 }
 
 impl Group {
+    ghost use Rattle.iloc_spans.specs.Group.{IsGrouped, group_spans};
+    ghost use Rattle.iloc_spans.specs.Spans.{held_spans};
+
     /// None. It allocates nothing.
     pub fn new(alloc: Global) -> Group
         ensures { group_spans result ≡ [] }
