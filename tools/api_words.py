@@ -120,7 +120,7 @@ READERS = {
         [("NotText", "the JSON value is no string"), ("Parse", "the parser of the type refuses the string; its refusal is inside")],
         "`OutOfMemory` only if the parser of the type runs out of memory. That of a subtag never does.",
     ),
-    "iloc_lines.WritesBeginning": (
+    "iloc_program.WritesBeginning": (
         [
             ("Read", "the reader returns an error, or no end after `u64::MAX` reads"),
             ("Write", "the writer returns an error, or takes no byte"),

@@ -42,7 +42,7 @@ def files(pattern):
 
 def listed():
     """Yields what a figure is of, its number in the sources or none, how it is said, and where it has to stand."""
-    yield ("pieces of an outline in place", constant("crates/iloc_outline/src/spans.rt", "MOST"),
+    yield ("pieces of an outline in place", constant("crates/iloc_spans/src/spans.rt", "MOST"),
            r"more than # pieces|[Uu]p to # pieces|past # spans|room for #, and room|\(# < length \(pieces t\)\)", OUTLINE + LIMITS)
     yield ("bytes of a text for WebAssembly", constant("crates/locale_web/src/reading.rt", "MOST"),
            r"pieces,? (?:or|and)(?: of more than)? # bytes|text of more than # bytes|locales\) or # bytes|\(# < length t\)",

@@ -45,8 +45,8 @@ pub use Rattle.iloc_data.specs.DataEquality
 pub use Rattle.iloc_json.specs.Json
 pub use Rattle.iloc_json.specs.Answers as JsonAnswers
 pub use Rattle.iloc_json.specs.Carrying
-pub use Rattle.iloc_lines.specs.Answers as ProgramAnswers
-pub use Rattle.iloc_lines.specs.Output as ProgramOutput
+pub use Rattle.iloc_program.specs.Answers as ProgramAnswers
+pub use Rattle.iloc_program.specs.Output as ProgramOutput
 pub use Rattle.iloc_data.specs.FormatterValues as FormatterValues
 pub use Rattle.iloc_enum_keywords.specs.declared.hour_cycle.HourCycle as HourCycles
 pub use Rattle.iloc_tinystr.specs.TinyText
@@ -78,9 +78,9 @@ pub use Rattle.iloc_keyword_types.specs.Calendars
 pub use Rattle.iloc_keyword_types.specs.WordTables
 pub use Rattle.iloc_json.specs.Errors as JsonErrors
 pub use Rattle.iloc_json.specs.CarryError as CarryErrors
-pub use Rattle.iloc_lines.specs.Ending as ProgramEnding
+pub use Rattle.iloc_program.specs.Ending as ProgramEnding
 pub use Rattle.iloc_keyword_types.specs.Hijri
-pub use Rattle.iloc_lines.specs.Lines as ProgramLines
+pub use Rattle.iloc_program.specs.Lines as ProgramLines
 pub use Rattle.iloc_shortvec.specs.Items as ShortItems
 pub use Rattle.iloc_shortvec.specs.Kept as ShortKept
 pub use Rattle.iloc_shortvec.specs.Left as ShortLeft

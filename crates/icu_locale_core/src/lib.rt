@@ -292,14 +292,14 @@ pub mod laws {
 
     /// What the program writes.
     pub mod program {
-        pub use iloc_lines::laws::{by_example, line_answers, lines, outputs};
+        pub use iloc_program::laws::{by_example, line_answers, lines, outputs};
         pub use iloc_program::laws::{one_listing, plain_listing};
     }
 }
 
 /// The library of the program `locale_normal`.
 pub mod program {
-    pub use iloc_lines::{Mode, RunError, ending};
+    pub use iloc_program::{Mode, RunError, ending};
     pub use iloc_program::{Listing, run, run_listed};
 }
 

@@ -1,7 +1,7 @@
 //! What is answered of a text.
-ghost use Rattle.std.specs.Prelude.{◌≡◌, ◌↔◌, ◌+◌, ◌<◌, ◌≤◌, length, Some, IfNone, IfOk, IfSome, MatchResult};
+ghost use Rattle.std.specs.Prelude.{◌≡◌, ◌↔◌, ◌+◌, ◌<◌, ◌≤◌, length, Some, IfNone, IfSome, MatchResult};
 ghost use Rattle.iloc_calls.specs.declared.status.Status.{Status};
-ghost use Rattle.iloc_calls.specs.Answers.{HandsOut, JudgedAs, Normalizes, NormalizesTo};
+ghost use Rattle.iloc_calls.specs.Answers.{JudgedAs, Normalizes, NormalizesTo};
 ghost use Rattle.iloc_calls.specs.Numbers.{EndsAs, mode_number, number_of, status_of};
 ghost use Rattle.iloc_normalize.specs.declared.Mode.{Mode};
 ghost use Rattle.iloc_normalize.specs.declared.Mode.TheVariants as modes;

@@ -5,6 +5,7 @@ ghost use Rattle.iloc_spec_grammar.specs.Values.{identifier_text};
 ghost use Rattle.iloc_pieces.specs.Plain.{AreWords, value_of};
 ghost use Rattle.iloc_calls.specs.declared.status.Status.{Status};
 ghost use Rattle.iloc_calls.specs.Answers.{HandsOut, Tells};
+ghost use Rattle.iloc_calls.specs.Filling.{Filled, Overflowed, filled_nothing, filled_both, overflowed_after, overflowed_more};
 
 use crate::status::Status;
 use iloc_normalize::copying::{copy_all, copy_ends};
@@ -20,9 +21,6 @@ struct Filling<'a> {
 }
 
 impl<'a> Sink for Filling<'a> {
-    ghost use Rattle.std.specs.Prelude.{length};
-    ghost use Rattle.iloc_calls.specs.Filling.{Filled, Overflowed};
-
     ghost took = { λ a t b. Filled a.buffer a.count t b.buffer b.count };
 
     ghost failed = { λ a t u _. Overflowed (length a.buffer.now) a.count t u };
@@ -39,13 +37,6 @@ impl<'a> Sink for Filling<'a> {
             _ => Err(fmt::Error),
         }
     }
-
-    ghost use Rattle.iloc_calls.specs.Filling.{
-      filled_nothing,
-      filled_both,
-      overflowed_after,
-      overflowed_more,
-    };
 
     ghost took_nothing = { λ s. filled_nothing s.buffer s.count };
 

@@ -1,6 +1,6 @@
 //! The hash of what is printed.
-ghost use Rattle.std.specs.Prelude.{◌≡◌, fold};
-ghost use Rattle.iloc_calls.specs.Hashing.{hash_of, hash_step};
+ghost use Rattle.std.specs.Prelude.{◌≡◌, fold, refl};
+ghost use Rattle.iloc_calls.specs.Hashing.{hash_of, hash_step, hashed_both};
 
 use iloc_writeable::{Sink, Writeable};
 use std::fmt;
@@ -31,9 +31,6 @@ fn after(state: u64, bytes: &[u8]) -> u64
 }
 
 impl Sink for Hashing {
-    ghost use Rattle.std.specs.Prelude.{fold, refl};
-    ghost use Rattle.iloc_calls.specs.Hashing.{hash_step, hashed_both};
-
     ghost took = { λ a t b. b.state ≡ fold hash_step a.state t };
 
     ghost failed = { λ _ _ _ _. ⊥ };

@@ -4,6 +4,11 @@ ghost use Rattle.std.specs.Ordering.{nat_cmp};
 ghost use Rattle.std.specs.Cmp.Lexicographic.{slice_cmp};
 ghost use Rattle.iloc_spec_parts.specs.DataLocales.{data_key, data_text};
 ghost use Rattle.iloc_spec_parts.specs.DataOrders.{data_locale_cmp};
+ghost use Rattle.iloc_data.specs.DataValue.{value_of};
+ghost use Rattle.std.specs.Cmp.{partial_equiv_from_equiv};
+ghost use Rattle.iloc_data.specs.DataEquality.{same_key};
+ghost use Rattle.iloc_data.specs.DataEqualityLaws.{same_key_equiv, fed_alike};
+ghost use Rattle.iloc_spec_parts.specs.DataHashes.{data_locale_fed};
 
 use crate::data_locale::DataLocale;
 use iloc_keyword_types::subdivisions_compare;
@@ -12,8 +17,6 @@ use std::cmp::Ordering;
 use std::hash::{Hash, Hasher};
 
 impl DataLocale {
-    ghost use Rattle.iloc_data.specs.DataValue.{value_of};
-
     /// The byte order of the printed text against the bytes. It makes no text.
     pub fn strict_cmp(&self, other: &[u8]) -> Ordering
         ensures { result ≡ slice_cmp nat_cmp (data_text (value_of self.now)) other.now }
@@ -36,11 +39,6 @@ impl DataLocale {
 
 /// Equal are data locales that stand for the same: of the same language, script, region part and variant.
 impl PartialEq for DataLocale {
-    ghost use Rattle.std.specs.Cmp.{partial_equiv_from_equiv};
-    ghost use Rattle.iloc_data.specs.DataValue.{value_of};
-    ghost use Rattle.iloc_data.specs.DataEquality.{same_key};
-    ghost use Rattle.iloc_data.specs.DataEqualityLaws.{same_key_equiv};
-
     ghost eq = { same_key };
 
     ghost laws = { partial_equiv_from_equiv same_key_equiv };
@@ -56,17 +54,11 @@ impl PartialEq for DataLocale {
 }
 
 impl Eq for DataLocale {
-    ghost use Rattle.iloc_data.specs.DataEqualityLaws.{same_key_equiv};
-
     ghost laws = { same_key_equiv };
 }
 
 /// What is equal feeds a hasher alike.
 impl Hash for DataLocale {
-    ghost use Rattle.iloc_spec_parts.specs.DataHashes.{data_locale_fed};
-    ghost use Rattle.iloc_data.specs.DataValue.{value_of};
-    ghost use Rattle.iloc_data.specs.DataEqualityLaws.{fed_alike};
-
     ghost hash_input = { λ d. data_locale_fed (value_of d) };
 
     ghost respects_eq = { fed_alike };

@@ -1,10 +1,13 @@
 //! Data locales from identifiers and parts, and locales from data locales.
-ghost use Rattle.std.specs.Prelude.{◌≡◌, ℕ, List};
+ghost use Rattle.std.specs.Prelude.{◌≡◌};
 ghost use Rattle.iloc_spec_grammar.specs.Syntax.{languages};
-ghost use Rattle.iloc_spec_grammar.specs.Meaning as meaning;
 ghost use Rattle.iloc_spec_grammar.specs.Values.{IsValue, IsWellFormed, text};
 ghost use Rattle.iloc_locale.specs.LocaleReading.{value_of as locale_value};
-ghost use Rattle.iloc_spec_parts.specs.DataLocales.{data_text, locale_of_data};
+ghost use Rattle.iloc_spec_parts.specs.DataLocales.{data_text, locale_of_data, locale_with_keywords, data_of_identifier, data_of_parts};
+ghost use Rattle.iloc_data.specs.DataValue.{value_of};
+ghost use Rattle.iloc_spec_parts.specs.Preferences.{language_priority, preferences};
+ghost use Rattle.iloc_langid.specs.Reads.{value_of as identifier_of};
+ghost use Rattle.iloc_spec_grammar.specs.Meaning as meaning;
 
 use crate::data_locale::DataLocale;
 use crate::locale_preferences::LocalePreferences;
@@ -20,9 +23,6 @@ use iloc_word_list::Variants;
 use std::alloc::Global;
 
 impl DataLocale {
-    ghost use Rattle.iloc_data.specs.DataValue.{value_of};
-    ghost use Rattle.iloc_spec_parts.specs.DataLocales.{locale_with_keywords};
-
     /// The locale of the same parts: the one well-formed locale that prints the same text. It allocates nothing.
     pub fn into_locale(self, alloc: Global) -> Locale
         ensures parts { locale_value result ≡ locale_of_data (value_of self) }
@@ -73,11 +73,6 @@ impl DataLocale {
 /// That of its preferences, language first: its parts with the first variant, and of its region the subdivision
 /// that `sd` names, if that is readable and of this region. Without a region, `sd` names both.
 impl From<&Locale> for DataLocale {
-    ghost use Rattle.std.specs.Prelude.{◌≡◌};
-    ghost use Rattle.iloc_locale.specs.LocaleReading.{value_of as locale_value};
-    ghost use Rattle.iloc_spec_parts.specs.Preferences.{language_priority, preferences};
-    ghost use Rattle.iloc_data.specs.DataValue.{value_of};
-
     ghost from_gives = { λ locale d. value_of d
         ≡ language_priority (preferences (locale_value locale.now)) };
 
@@ -88,11 +83,6 @@ impl From<&Locale> for DataLocale {
 
 /// As from a reference to the locale.
 impl From<Locale> for DataLocale {
-    ghost use Rattle.std.specs.Prelude.{◌≡◌};
-    ghost use Rattle.iloc_locale.specs.LocaleReading.{value_of as locale_value};
-    ghost use Rattle.iloc_spec_parts.specs.Preferences.{language_priority, preferences};
-    ghost use Rattle.iloc_data.specs.DataValue.{value_of};
-
     ghost from_gives = { λ locale d. value_of d
         ≡ language_priority (preferences (locale_value locale)) };
 
@@ -103,11 +93,6 @@ impl From<Locale> for DataLocale {
 
 /// Its parts with the first variant, and no subdivision.
 impl From<&LanguageIdentifier> for DataLocale {
-    ghost use Rattle.std.specs.Prelude.{◌≡◌};
-    ghost use Rattle.iloc_langid.specs.Reads.{value_of as identifier_of};
-    ghost use Rattle.iloc_spec_parts.specs.DataLocales.{data_of_identifier};
-    ghost use Rattle.iloc_data.specs.DataValue.{value_of};
-
     ghost from_gives = { λ langid d. value_of d ≡ data_of_identifier (identifier_of langid.now) };
 
     fn from(langid: &LanguageIdentifier) -> Self {
@@ -123,11 +108,6 @@ impl From<&LanguageIdentifier> for DataLocale {
 
 /// As from a reference to the identifier.
 impl From<LanguageIdentifier> for DataLocale {
-    ghost use Rattle.std.specs.Prelude.{◌≡◌};
-    ghost use Rattle.iloc_langid.specs.Reads.{value_of as identifier_of};
-    ghost use Rattle.iloc_spec_parts.specs.DataLocales.{data_of_identifier};
-    ghost use Rattle.iloc_data.specs.DataValue.{value_of};
-
     ghost from_gives = { λ langid d. value_of d ≡ data_of_identifier (identifier_of langid) };
 
     fn from(langid: LanguageIdentifier) -> Self {
@@ -137,10 +117,6 @@ impl From<LanguageIdentifier> for DataLocale {
 
 /// Made of the whole of the region.
 impl From<(Language, Option<Script>, Option<Region>)> for DataLocale {
-    ghost use Rattle.std.specs.Prelude.{◌≡◌};
-    ghost use Rattle.iloc_spec_parts.specs.DataLocales.{data_of_parts};
-    ghost use Rattle.iloc_data.specs.DataValue.{value_of};
-
     ghost from_gives = { λ lsr d. value_of d ≡ data_of_parts lsr.0 lsr.1 lsr.2 };
 
     fn from(lsr: (Language, Option<Script>, Option<Region>)) -> Self {

@@ -2,11 +2,13 @@
 ghost use Rattle.std.specs.Prelude.{◌≡◌, ◌↔◌, ⊤, IsTrue, IfOk};
 ghost use Rattle.iloc_spec_parts.specs.Preferences.{language_priority, preferences};
 ghost use Rattle.iloc_spec_grammar.specs.Syntax.{languages, two_or_three};
-ghost use Rattle.iloc_spec_grammar.specs.Meaning as meaning;
 ghost use Rattle.iloc_spec_grammar.specs.Meaning.{Means, Fault};
-ghost use Rattle.iloc_spec_parts.specs.DataLocales as parts;
 ghost use Rattle.iloc_spec_parts.specs.DataLocales.{DataMeans, HasDataFault, data_text};
 ghost use Rattle.iloc_subtags.specs.Judging.{Accepts, Refuses, RunsOutOnlyIf};
+ghost use Rattle.iloc_data.specs.DataValue.{value_of, unknown_data};
+ghost use Rattle.iloc_data.specs.Reads.{DataTextReads, IsDataAnswer};
+ghost use Rattle.iloc_spec_grammar.specs.Meaning as meaning;
+ghost use Rattle.iloc_spec_parts.specs.DataLocales as parts;
 
 use iloc_data_parts::region::part_of;
 use iloc_keyword_types::SubdivisionId;
@@ -39,9 +41,6 @@ pub struct DataLocale {
 }
 
 impl DataLocale {
-    ghost use Rattle.iloc_data.specs.DataValue.{value_of, unknown_data};
-    ghost use Rattle.iloc_data.specs.Reads.{DataTextReads};
-
     /// The unknown data locale, `und`.
     pub fn default() -> Self
         ensures { value_of result ≡ unknown_data }
@@ -142,8 +141,6 @@ impl DataLocale {
 
 /// The unknown data locale, `und`.
 impl Default for DataLocale {
-    ghost use Rattle.iloc_data.specs.DataValue.{value_of, unknown_data};
-
     ghost is_default = { λ d. value_of d ≡ unknown_data };
 
     fn default() -> Self {
@@ -154,8 +151,6 @@ impl Default for DataLocale {
 /// Parses as `try_from_str` does, with the same promises.
 impl FromStr for DataLocale {
     type Err = ParseError;
-
-    ghost use Rattle.iloc_data.specs.Reads.{IsDataAnswer};
 
     ghost from_str_gives = { IsDataAnswer };
 

@@ -1,13 +1,10 @@
 //! Preferences of a formatter of dates and times.
 ghost use Rattle.std.specs.Prelude.{◌≡◌, true, false, MatchResult};
 ghost use Rattle.iloc_locale.specs.LocaleReading.{value_of as locale_value};
-ghost use Rattle.iloc_spec_parts.specs.Formatters.{
-  format_preferences,
-  is_strict_format,
-  merge_format,
-  plain_format,
-};
+ghost use Rattle.iloc_spec_parts.specs.Formatters.{format_preferences, is_strict_format, merge_format, plain_format, plain_time};
 ghost use Rattle.iloc_data.specs.FormatterValues.{format_value, time_value};
+ghost use Rattle.iloc_spec_parts.specs.Preferences.{default_preferences, identifier_preferences};
+ghost use Rattle.iloc_langid.specs.Reads.{value_of as identifier_of};
 
 use crate::LocalePreferences;
 use crate::keywords::keyword;
@@ -82,11 +79,6 @@ impl FormatPreferences {
 
 /// `und`, and nothing else.
 impl Default for FormatPreferences {
-    ghost use Rattle.std.specs.Prelude.{◌≡◌};
-    ghost use Rattle.iloc_spec_parts.specs.Formatters.{plain_format, plain_time};
-    ghost use Rattle.iloc_spec_parts.specs.Preferences.{default_preferences};
-    ghost use Rattle.iloc_data.specs.FormatterValues.{format_value};
-
     ghost is_default = { λ p. format_value p ≡ plain_format (plain_time default_preferences) };
 
     fn default() -> Self {
@@ -96,11 +88,6 @@ impl Default for FormatPreferences {
 
 /// The preferences of a locale, strict or not.
 impl From<&Locale> for FormatPreferences {
-    ghost use Rattle.std.specs.Prelude.{◌≡◌};
-    ghost use Rattle.iloc_locale.specs.LocaleReading.{value_of as locale_value};
-    ghost use Rattle.iloc_spec_parts.specs.Formatters.{format_preferences};
-    ghost use Rattle.iloc_data.specs.FormatterValues.{format_value};
-
     ghost from_gives = { λ locale p. format_value p
         ≡ format_preferences (locale_value locale.now) };
 
@@ -116,11 +103,6 @@ impl From<&Locale> for FormatPreferences {
 
 /// As from a reference to the locale.
 impl From<Locale> for FormatPreferences {
-    ghost use Rattle.std.specs.Prelude.{◌≡◌};
-    ghost use Rattle.iloc_locale.specs.LocaleReading.{value_of as locale_value};
-    ghost use Rattle.iloc_spec_parts.specs.Formatters.{format_preferences};
-    ghost use Rattle.iloc_data.specs.FormatterValues.{format_value};
-
     ghost from_gives = { λ locale p. format_value p ≡ format_preferences (locale_value locale) };
 
     fn from(loc: Locale) -> Self {
@@ -130,12 +112,6 @@ impl From<Locale> for FormatPreferences {
 
 /// Those of the identifier, and no keyword.
 impl From<&LanguageIdentifier> for FormatPreferences {
-    ghost use Rattle.std.specs.Prelude.{◌≡◌};
-    ghost use Rattle.iloc_langid.specs.Reads.{value_of as identifier_of};
-    ghost use Rattle.iloc_spec_parts.specs.Preferences.{identifier_preferences};
-    ghost use Rattle.iloc_spec_parts.specs.Formatters.{plain_format, plain_time};
-    ghost use Rattle.iloc_data.specs.FormatterValues.{format_value};
-
     ghost from_gives = { λ langid p. format_value p
         ≡ plain_format (plain_time (identifier_preferences (identifier_of langid.now))) };
 
@@ -146,12 +122,6 @@ impl From<&LanguageIdentifier> for FormatPreferences {
 
 /// As from a reference to the identifier.
 impl From<LanguageIdentifier> for FormatPreferences {
-    ghost use Rattle.std.specs.Prelude.{◌≡◌};
-    ghost use Rattle.iloc_langid.specs.Reads.{value_of as identifier_of};
-    ghost use Rattle.iloc_spec_parts.specs.Preferences.{identifier_preferences};
-    ghost use Rattle.iloc_spec_parts.specs.Formatters.{plain_format, plain_time};
-    ghost use Rattle.iloc_data.specs.FormatterValues.{format_value};
-
     ghost from_gives = { λ langid p. format_value p
         ≡ plain_format (plain_time (identifier_preferences (identifier_of langid))) };
 

@@ -1,13 +1,7 @@
 //! The keywords of formatters: each as it reads, and whether it is absent or readable.
 ghost use Rattle.std.specs.Prelude.{◌≡◌, ℕ, List, Option, None, option_map, codes};
 ghost use Rattle.iloc_locale.specs.LocaleReading.{value_of as locale_value};
-ghost use Rattle.iloc_spec_parts.specs.Keywords.{
-  CalendarAlgorithm as the_calendars,
-  HourCycle as the_hours,
-  key as key_of_keyword,
-  enum_reads,
-  single,
-};
+ghost use Rattle.iloc_spec_parts.specs.Keywords.{CalendarAlgorithm as the_calendars, HourCycle as the_hours, key as key_of_keyword, enum_reads, single, EnumValue};
 ghost use Rattle.iloc_spec_parts.specs.Preferences.{is_readable, read_keyword};
 ghost use Rattle.iloc_keyword_types.specs.Calendars.{value_of as calendar_value};
 ghost use Rattle.iloc_data.specs.FormatterValues.{hours_value};
@@ -78,8 +72,6 @@ impl FormatterKeyword for NumberingSystem {
 }
 
 impl FormatterKeyword for HourCycle {
-    ghost use Rattle.iloc_spec_parts.specs.Keywords.{EnumValue};
-
     ghost Meaning = { EnumValue };
 
     ghost meaning = { hours_value };
@@ -100,8 +92,6 @@ impl FormatterKeyword for HourCycle {
 }
 
 impl FormatterKeyword for CalendarAlgorithm {
-    ghost use Rattle.iloc_spec_parts.specs.Keywords.{EnumValue};
-
     ghost Meaning = { EnumValue };
 
     ghost meaning = { calendar_value };

@@ -1,18 +1,9 @@
 //! What locales say of language, script, region and variant: how it is parsed, extended, and made a data locale.
 ghost use Rattle.std.specs.Prelude.{◌≡◌, true, false, MatchResult};
 ghost use Rattle.iloc_locale.specs.LocaleReading.{value_of as locale_value};
-ghost use Rattle.iloc_spec_parts.specs.Preferences.{
-  Preferences,
-  preferences,
-  default_preferences,
-  is_strict,
-  merge,
-  merge_language,
-  merge_region,
-  language_priority,
-  region_priority,
-};
+ghost use Rattle.iloc_spec_parts.specs.Preferences.{Preferences, preferences, default_preferences, is_strict, merge, merge_language, merge_region, language_priority, region_priority, identifier_preferences};
 ghost use Rattle.iloc_data.specs.DataValue.{value_of as data_of};
+ghost use Rattle.iloc_langid.specs.Reads.{value_of as identifier_of};
 
 use crate::data_locale::DataLocale;
 use crate::region_keywords::{id_of, keyword};
@@ -42,8 +33,6 @@ pub struct LocalePreferences {
 }
 
 impl Model for LocalePreferences {
-    ghost use Rattle.iloc_spec_parts.specs.Preferences.{Preferences};
-
     ghost Value = { Preferences };
 
     ghost view = { λ p. record {
@@ -187,10 +176,6 @@ fn merged_region(
 
 /// The preferences of a locale, strict or not.
 impl From<&Locale> for LocalePreferences {
-    ghost use Rattle.std.specs.Prelude.{◌≡◌};
-    ghost use Rattle.iloc_locale.specs.LocaleReading.{value_of as locale_value};
-    ghost use Rattle.iloc_spec_parts.specs.Preferences.{preferences};
-
     ghost from_gives = { λ locale p. p ≡ preferences (locale_value locale.now) };
 
     fn from(loc: &Locale) -> Self {
@@ -203,10 +188,6 @@ impl From<&Locale> for LocalePreferences {
 
 /// Its parts with the first variant, the whole of its region, and no override.
 impl From<&LanguageIdentifier> for LocalePreferences {
-    ghost use Rattle.std.specs.Prelude.{◌≡◌};
-    ghost use Rattle.iloc_langid.specs.Reads.{value_of as identifier_of};
-    ghost use Rattle.iloc_spec_parts.specs.Preferences.{identifier_preferences};
-
     ghost from_gives = { λ langid p. p ≡ identifier_preferences (identifier_of langid.now) };
 
     fn from(lid: &LanguageIdentifier) -> Self {
@@ -222,9 +203,6 @@ impl From<&LanguageIdentifier> for LocalePreferences {
 
 /// `und`, and nothing else.
 impl Default for LocalePreferences {
-    ghost use Rattle.std.specs.Prelude.{◌≡◌};
-    ghost use Rattle.iloc_spec_parts.specs.Preferences.{default_preferences};
-
     ghost is_default = { λ p. p ≡ default_preferences };
 
     fn default() -> Self {

@@ -1,13 +1,14 @@
 //! Prints data locales.
+ghost use Rattle.iloc_spec_parts.specs.DataLocales.{data_pieces, data_text};
+ghost use Rattle.iloc_data.specs.DataValue.{value_of};
+ghost use Rattle.std.specs.Prelude.{◌≡◌, None, Some, ◌++◌, codes};
+
 use crate::data_locale::DataLocale;
 use iloc_writeable::{Pieces, Sink, Writeable};
 use std::fmt;
 
 /// The pieces are language, script, region, variant, and `u`, `sd` and the value of a subdivision that is printed.
 impl Pieces for DataLocale {
-    ghost use Rattle.iloc_spec_parts.specs.DataLocales.{data_pieces};
-    ghost use Rattle.iloc_data.specs.DataValue.{value_of};
-
     ghost pieces = { λ d. data_pieces (value_of d) };
 
     fn has_pieces(&self) -> bool {
@@ -34,10 +35,6 @@ impl Pieces for DataLocale {
 /// Prints language, script, region and variant, and after them `u-sd-` and the subdivision if it is readable
 /// and not a whole region, joined by hyphens. It is borrowed if there is a language and nothing else.
 impl Writeable for DataLocale {
-    ghost use Rattle.std.specs.Prelude.{◌≡◌, None};
-    ghost use Rattle.iloc_spec_parts.specs.DataLocales.{data_text};
-    ghost use Rattle.iloc_data.specs.DataValue.{value_of};
-
     ghost text = { λ d. data_text (value_of d) };
 
     ghost lends = { λ d. (d.script ≡ None) × (d.region ≡ None) × (d.variant ≡ None)
@@ -63,10 +60,6 @@ impl Writeable for DataLocale {
 
 /// Prints the text between `DataLocale{` and `}`.
 impl fmt::Debug for DataLocale {
-    ghost use Rattle.std.specs.Prelude.{Some, ◌++◌, codes};
-    ghost use Rattle.iloc_spec_parts.specs.DataLocales.{data_text};
-    ghost use Rattle.iloc_data.specs.DataValue.{value_of};
-
     ghost debug_output = { λ d. Some (codes "DataLocale{" ++ data_text (value_of d) ++ codes "}") };
 
     fn fmt<W: fmt::Write>(&self, f: &mut fmt::Formatter<W>) -> fmt::Result {
@@ -75,10 +68,6 @@ impl fmt::Debug for DataLocale {
 }
 
 impl fmt::Display for DataLocale {
-    ghost use Rattle.std.specs.Prelude.{Some};
-    ghost use Rattle.iloc_spec_parts.specs.DataLocales.{data_text};
-    ghost use Rattle.iloc_data.specs.DataValue.{value_of};
-
     ghost output = { λ d. Some (data_text (value_of d)) };
 
     fn fmt<W: fmt::Write>(&self, f: &mut fmt::Formatter<W>) -> fmt::Result {

@@ -1,12 +1,10 @@
 //! Preferences of a time formatter.
 ghost use Rattle.std.specs.Prelude.{◌≡◌, true, false, MatchResult};
 ghost use Rattle.iloc_locale.specs.LocaleReading.{value_of as locale_value};
-ghost use Rattle.iloc_spec_parts.specs.Formatters.{
-  is_strict_time,
-  merge_time,
-  time_preferences,
-};
-ghost use Rattle.iloc_data.specs.FormatterValues.{time_value};
+ghost use Rattle.iloc_spec_parts.specs.Formatters.{is_strict_time, merge_time, time_preferences, plain_time};
+ghost use Rattle.iloc_data.specs.FormatterValues.{time_value, format_value};
+ghost use Rattle.iloc_spec_parts.specs.Preferences.{default_preferences, identifier_preferences};
+ghost use Rattle.iloc_langid.specs.Reads.{value_of as identifier_of};
 
 use crate::LocalePreferences;
 use crate::format_preferences::FormatPreferences;
@@ -67,11 +65,6 @@ impl TimePreferences {
 
 /// `und`, and nothing else.
 impl Default for TimePreferences {
-    ghost use Rattle.std.specs.Prelude.{◌≡◌};
-    ghost use Rattle.iloc_spec_parts.specs.Formatters.{plain_time};
-    ghost use Rattle.iloc_spec_parts.specs.Preferences.{default_preferences};
-    ghost use Rattle.iloc_data.specs.FormatterValues.{time_value};
-
     ghost is_default = { λ p. time_value p ≡ plain_time default_preferences };
 
     fn default() -> Self {
@@ -85,11 +78,6 @@ impl Default for TimePreferences {
 
 /// The preferences of a locale, strict or not.
 impl From<&Locale> for TimePreferences {
-    ghost use Rattle.std.specs.Prelude.{◌≡◌};
-    ghost use Rattle.iloc_locale.specs.LocaleReading.{value_of as locale_value};
-    ghost use Rattle.iloc_spec_parts.specs.Formatters.{time_preferences};
-    ghost use Rattle.iloc_data.specs.FormatterValues.{time_value};
-
     ghost from_gives = { λ locale p. time_value p ≡ time_preferences (locale_value locale.now) };
 
     fn from(loc: &Locale) -> Self {
@@ -103,11 +91,6 @@ impl From<&Locale> for TimePreferences {
 
 /// As from a reference to the locale.
 impl From<Locale> for TimePreferences {
-    ghost use Rattle.std.specs.Prelude.{◌≡◌};
-    ghost use Rattle.iloc_locale.specs.LocaleReading.{value_of as locale_value};
-    ghost use Rattle.iloc_spec_parts.specs.Formatters.{time_preferences};
-    ghost use Rattle.iloc_data.specs.FormatterValues.{time_value};
-
     ghost from_gives = { λ locale p. time_value p ≡ time_preferences (locale_value locale) };
 
     fn from(loc: Locale) -> Self {
@@ -117,12 +100,6 @@ impl From<Locale> for TimePreferences {
 
 /// Those of the identifier, and no keyword.
 impl From<&LanguageIdentifier> for TimePreferences {
-    ghost use Rattle.std.specs.Prelude.{◌≡◌};
-    ghost use Rattle.iloc_langid.specs.Reads.{value_of as identifier_of};
-    ghost use Rattle.iloc_spec_parts.specs.Preferences.{identifier_preferences};
-    ghost use Rattle.iloc_spec_parts.specs.Formatters.{plain_time};
-    ghost use Rattle.iloc_data.specs.FormatterValues.{time_value};
-
     ghost from_gives = { λ langid p. time_value p
         ≡ plain_time (identifier_preferences (identifier_of langid.now)) };
 
@@ -137,12 +114,6 @@ impl From<&LanguageIdentifier> for TimePreferences {
 
 /// As from a reference to the identifier.
 impl From<LanguageIdentifier> for TimePreferences {
-    ghost use Rattle.std.specs.Prelude.{◌≡◌};
-    ghost use Rattle.iloc_langid.specs.Reads.{value_of as identifier_of};
-    ghost use Rattle.iloc_spec_parts.specs.Preferences.{identifier_preferences};
-    ghost use Rattle.iloc_spec_parts.specs.Formatters.{plain_time};
-    ghost use Rattle.iloc_data.specs.FormatterValues.{time_value};
-
     ghost from_gives = { λ langid p. time_value p
         ≡ plain_time (identifier_preferences (identifier_of langid)) };
 
@@ -153,9 +124,6 @@ impl From<LanguageIdentifier> for TimePreferences {
 
 /// What the two have in common.
 impl From<&FormatPreferences> for TimePreferences {
-    ghost use Rattle.std.specs.Prelude.{◌≡◌};
-    ghost use Rattle.iloc_data.specs.FormatterValues.{format_value, time_value};
-
     ghost from_gives = { λ other p. time_value p ≡ (format_value other.now).time };
 
     fn from(other: &FormatPreferences) -> Self {

@@ -1,6 +1,7 @@
 //! The parts that a text names, their parser and their text.
 ghost use Rattle.std.specs.Prelude.{◌≡◌, option_map};
-ghost use Rattle.iloc_spec_parts.specs.DataLocales.{subdivision_keyword, subdivision_value};
+ghost use Rattle.iloc_spec_parts.specs.DataLocales.{subdivision_keyword, subdivision_value, data_pieces, data_text};
+ghost use Rattle.iloc_data_parts.specs.PartsReading.{value_of, PartsTextReads};
 
 use crate::region::{is_whole, part_of};
 use iloc_keyword_types::SubdivisionId;
@@ -24,8 +25,6 @@ pub struct DataParts {
 }
 
 impl DataParts {
-    ghost use Rattle.iloc_data_parts.specs.PartsReading.{value_of, PartsTextReads};
-
     /// Parses all of the text, which need not be UTF-8, in whatever case. It allocates nothing.
     pub fn try_from_utf8(code_units: &[u8]) -> Result<Self, ParseError>
         ensures { PartsTextReads code_units.now result }
@@ -64,9 +63,6 @@ impl DataParts {
 
 /// The pieces are language, script, region, variant, and `u`, `sd` and the value of a subdivision that is printed.
 impl Pieces for DataParts {
-    ghost use Rattle.iloc_spec_parts.specs.DataLocales.{data_pieces};
-    ghost use Rattle.iloc_data_parts.specs.PartsReading.{value_of};
-
     ghost pieces = { λ p. data_pieces (value_of p) };
 
     fn has_pieces(&self) -> bool {
@@ -91,9 +87,6 @@ impl Pieces for DataParts {
 
 /// Prints the text of the data locale that is made of the parts.
 impl Writeable for DataParts {
-    ghost use Rattle.iloc_spec_parts.specs.DataLocales.{data_text};
-    ghost use Rattle.iloc_data_parts.specs.PartsReading.{value_of};
-
     ghost text = { λ p. data_text (value_of p) };
 
     #[tactic(auto, unfolding(iloc_spec_grammar::specs::Syntax::join))]

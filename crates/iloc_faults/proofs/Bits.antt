@@ -14,7 +14,7 @@ use Rattle.std.proofs.lemmas.Bool.{or_left, or_right, cases_eq, and_parts}
 use Rattle.std.proofs.lemmas.Bool.Decides.{nat_tests}
 use Rattle.std.proofs.lemmas.Nat.Bits.{and_pow, bit_at_or, bit_at-pow_same, bit_at-pow_other, bit_at-zero}
 use Rattle.iloc_spec_grammar.specs.Syntax.{Text, languages, Language, TransformKey}
-use Rattle.iloc_spec_grammar.specs.Syntax.{Attribute, Subtag, is_word, lower, is_same}
+use Rattle.iloc_spec_grammar.specs.Syntax.{Attribute, is_word, lower, is_same}
 use Rattle.iloc_spec_grammar.specs.Syntax as kinds
 use Rattle.iloc_spec_parts.specs.DataLocales.{named_subdivision}
 use Rattle.iloc_spec_grammar.proofs.MapLaws.{same_is}

@@ -1,5 +1,5 @@
 //! What may come next, and why another piece is refused.
-ghost use Rattle.std.specs.Prelude.{◌≡◌, ◌≢◌, ℕ, ◌^◌, List, Some, true, codes, option_map, slice_index};
+ghost use Rattle.std.specs.Prelude.{◌≡◌, ℕ, ◌^◌, List, Some, true, codes, option_map, slice_index};
 ghost use Rattle.std.specs.Char.{is_ascii_alphanumeric, to_ascii_lowercase};
 ghost use Rattle.iloc_spec_grammar.specs.Syntax.{Text, is_one_byte, is_same, lower};
 ghost use Rattle.iloc_subtags.specs.Judging.{error_of};

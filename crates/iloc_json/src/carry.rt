@@ -4,7 +4,7 @@
 //! other row is refused: by its length first, and then by its first bad word. It runs out of memory only after a word of
 //! the row was parsed, so at most in place of a bad word that comes later.
 
-ghost use Rattle.std.specs.Prelude.{◌≡◌, ℕ, List, IfOk, IfErr};
+ghost use Rattle.std.specs.Prelude.{◌≡◌, List, IfOk, IfErr};
 ghost use Rattle.iloc_spec_grammar.specs.Syntax.{Text};
 ghost use Rattle.iloc_json.specs.Carrying.{IsOldRow, new_row, CannotCarry};
 

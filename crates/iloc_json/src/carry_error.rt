@@ -1,6 +1,7 @@
 //! Why a row is refused.
-
 ghost use Rattle.std.specs.Prelude.{◌≡◌, Some};
+ghost use Rattle.iloc_json.specs.CarryError.{words_of};
+ghost use Rattle.iloc_json.specs.declared.carry_error.CarryError.TheVariants.{OutOfMemory};
 
 use std::alloc::{AllocError, AllocFailed};
 use std::error::Error;
@@ -18,8 +19,6 @@ pub enum CarryError {
 }
 
 impl CarryError {
-    ghost use Rattle.iloc_json.specs.CarryError.{words_of};
-
     /// The words of this refusal.
     pub fn words(&self) -> &'static str
         ensures { result.now ≡ words_of self.now }
@@ -34,8 +33,6 @@ impl CarryError {
 
 /// Prints the words.
 impl fmt::Display for CarryError {
-    ghost use Rattle.iloc_json.specs.CarryError.{words_of};
-
     ghost output = { λ error. Some (words_of error) };
 
     fn fmt<W: fmt::Write>(&self, f: &mut fmt::Formatter<W>) -> fmt::Result {
@@ -47,8 +44,6 @@ impl Error for CarryError {}
 
 /// A failed allocation is `OutOfMemory`.
 impl From<AllocError> for CarryError {
-    ghost use Rattle.iloc_json.specs.declared.carry_error.CarryError.TheVariants.{OutOfMemory};
-
     ghost from_gives = { λ _ error. error ≡ OutOfMemory };
 
     fn from(_error: AllocError) -> CarryError {
@@ -58,8 +53,6 @@ impl From<AllocError> for CarryError {
 
 /// So is that of a collection, as of `Vec::push`; what could not be stored is dropped.
 impl<T: Drop> From<AllocFailed<T>> for CarryError {
-    ghost use Rattle.iloc_json.specs.declared.carry_error.CarryError.TheVariants.{OutOfMemory};
-
     ghost from_gives = { λ _ error. error ≡ OutOfMemory };
 
     fn from(_failed: AllocFailed<T>) -> CarryError {

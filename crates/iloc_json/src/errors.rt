@@ -1,5 +1,7 @@
 //! Why a JSON value is refused.
 ghost use Rattle.std.specs.Prelude.{◌≡◌, Some};
+ghost use Rattle.iloc_json.specs.Errors.{words_of, json_error};
+ghost use Rattle.iloc_json.specs.declared.errors.JsonError.TheVariants.{OutOfMemory};
 
 use iloc_subtags::ParseError;
 use std::alloc::{AllocError, AllocFailed};
@@ -18,8 +20,6 @@ pub enum JsonError {
 }
 
 impl JsonError {
-    ghost use Rattle.iloc_json.specs.Errors.{words_of};
-
     /// The words of this refusal.
     pub fn words(&self) -> &'static str
         ensures { result.now ≡ words_of self.now }
@@ -34,8 +34,6 @@ impl JsonError {
 
 /// Prints the words.
 impl fmt::Display for JsonError {
-    ghost use Rattle.iloc_json.specs.Errors.{words_of};
-
     ghost output = { λ error. Some (words_of error) };
 
     fn fmt<W: fmt::Write>(&self, f: &mut fmt::Formatter<W>) -> fmt::Result {
@@ -47,8 +45,6 @@ impl Error for JsonError {}
 
 /// The refusal of a parser. Its `OutOfMemory` is `OutOfMemory` here.
 impl From<ParseError> for JsonError {
-    ghost use Rattle.iloc_json.specs.Errors.{json_error};
-
     ghost from_gives = { λ refusal error. error ≡ json_error refusal };
 
     fn from(refusal: ParseError) -> JsonError {
@@ -61,8 +57,6 @@ impl From<ParseError> for JsonError {
 
 /// A failed allocation is `OutOfMemory`.
 impl From<AllocError> for JsonError {
-    ghost use Rattle.iloc_json.specs.declared.errors.JsonError.TheVariants.{OutOfMemory};
-
     ghost from_gives = { λ _ error. error ≡ OutOfMemory };
 
     fn from(_error: AllocError) -> JsonError {
@@ -72,8 +66,6 @@ impl From<AllocError> for JsonError {
 
 /// So is that of a collection, as of `Vec::push`; what could not be stored is dropped.
 impl<T: Drop> From<AllocFailed<T>> for JsonError {
-    ghost use Rattle.iloc_json.specs.declared.errors.JsonError.TheVariants.{OutOfMemory};
-
     ghost from_gives = { λ _ error. error ≡ OutOfMemory };
 
     fn from(_failed: AllocFailed<T>) -> JsonError {

@@ -1,12 +1,12 @@
 //! The normal text of a text, or why it is refused, in each mode, without a value.
-ghost use Rattle.std.specs.Prelude.{◌≡◌, ◌⊎◌, ◌+◌, ◌≤◌, length, take};
+ghost use Rattle.std.specs.Prelude.{◌+◌, ◌≤◌, length, take};
 ghost use Rattle.iloc_normalize.specs.Answered.{IsBeyond, IsLead, IsNothingOnlyIf, IsAnswered};
 ghost use Rattle.iloc_normalize.specs.declared.Mode.TheVariants as Modes;
 
 use crate::Mode;
 use crate::leads::{Lead, lead_of_outlined, read_found, read_lead};
 use crate::writing::{Written, write_normal};
-use iloc_outline::spans::Spans;
+use iloc_spans::spans::Spans;
 use iloc_subtags::ParseError;
 
 /// The room of a call for a normal text, and for sixteen bytes behind it.

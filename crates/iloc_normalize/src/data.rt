@@ -2,7 +2,6 @@
 ghost use Rattle.std.specs.Prelude.{◌≡◌, ◌↔◌, ◌≤◌, ◌+◌, None, IfSome, length, take};
 ghost use Rattle.iloc_spec_grammar.specs.Syntax.{languages};
 ghost use Rattle.iloc_spec_parts.specs.DataLocales.{DataLocale, DataMeans};
-ghost use Rattle.iloc_pieces.specs.Left.{piece_left};
 ghost use Rattle.iloc_outline.specs.Outlines.{BeginsWithLanguage};
 ghost use Rattle.iloc_normalize.specs.Answered.{HasRefusal};
 ghost use Rattle.iloc_normalize.specs.Data.{IsDataBehind, IsDataRead};

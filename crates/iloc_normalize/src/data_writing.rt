@@ -1,6 +1,6 @@
 //! Writes the normal texts of data locales.
-ghost use Rattle.std.specs.Prelude.{◌≡◌, ◌+◌, ◌-◌, ◌≤◌, ◌∷◌, ◌++◌, codes, drop, length, take};
-ghost use Rattle.iloc_spec_grammar.specs.Syntax.{HasWords, SpelledIdentifier, Text, is_same, join, languages, lower, upper};
+ghost use Rattle.std.specs.Prelude.{◌≡◌, ◌+◌, ◌-◌, ◌≤◌, ◌∷◌, ◌++◌, codes, length, take};
+ghost use Rattle.iloc_spec_grammar.specs.Syntax.{HasWords, SpelledIdentifier, is_same, join, languages, lower, upper};
 ghost use Rattle.iloc_spec_parts.specs.DataLocales.{DataLocale, data_text, whole};
 ghost use Rattle.iloc_outline.specs.Identifier.{front_text};
 ghost use Rattle.iloc_outline.specs.Outlines.{BeginsWithLanguage};

@@ -1,5 +1,5 @@
 //! A text with room behind it, so that it can be answered without a value.
-ghost use Rattle.std.specs.Prelude.{◌≡◌, ◌⊎◌, ◌≤◌, ◌<◌, length, take};
+ghost use Rattle.std.specs.Prelude.{◌≡◌, ◌≤◌, ◌<◌, length, take};
 ghost use Rattle.iloc_normalize.specs.Answered.{IsNothingOnlyIf, IsAnswered};
 ghost use Rattle.iloc_normalize.specs.declared.Mode.TheVariants as Mode;
 

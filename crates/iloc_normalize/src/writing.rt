@@ -10,7 +10,7 @@ use crate::leads::Lead;
 use iloc_outline::growth::{Growing, Growth, InPlace};
 use iloc_outline::outline::{Outlined, outline_identifier, outline_locale};
 use iloc_outline::printing::copy_outline;
-use iloc_outline::spans::Spans;
+use iloc_spans::spans::Spans;
 use iloc_subtags::ParseError;
 
 /// What was written of a text.

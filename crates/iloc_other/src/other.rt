@@ -39,9 +39,6 @@ impl Drop for Other {
 }
 
 impl Model for Other {
-    ghost use Rattle.std.specs.Prelude.{◌≡◌, List, ℕ, true};
-    ghost use Rattle.std.specs.Char.{is_ascii_alphanumeric};
-
     ghost Value = { ℕ × List (List ℕ) };
 
     ghost view = { λ o. (o.ext, o.keys) };

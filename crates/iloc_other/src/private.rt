@@ -10,13 +10,7 @@ ghost use Rattle.iloc_subtags.specs.Left.{left};
 ghost use Rattle.iloc_spec_grammar.specs.Meaning.{Fault};
 ghost use Rattle.iloc_spec_parts.specs.Parts.{PrivateText, PrivateTextFault};
 ghost use Rattle.iloc_subtags.specs.Judging.{Accepts, Refuses, RunsOutOnlyIf};
-ghost use Rattle.iloc_other.specs.Reading.{
-  PrivateReads,
-  PrivateFills,
-  PrivateWantsMemory,
-  PrivateTextReads,
-  PrivateTextWants,
-};
+ghost use Rattle.iloc_other.specs.Reading.{PrivateReads, PrivateFills, PrivateWantsMemory, PrivateTextReads, PrivateTextWants};
 
 use crate::singleton::take_singleton;
 use iloc_subtags::{ParseError, PrivateSubtag, PrivateSubtagKind, SubtagIterator};
@@ -36,8 +30,6 @@ pub struct Private {
 }
 
 impl Model for Private {
-    ghost use Rattle.std.specs.Prelude.{List, ℕ};
-
     ghost Value = { List (List ℕ) };
 
     ghost view = { λ p. p.words };

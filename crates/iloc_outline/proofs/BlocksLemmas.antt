@@ -47,16 +47,18 @@ use Rattle.iloc_outline.specs.Parts.{Part, block_parts, blocks_parts, field_part
 use Rattle.iloc_outline.specs.Parts.{optional_variants, printed_part, rank, ranked, singleton_part}
 use Rattle.iloc_outline.specs.Parts.{transform_parts, unicode_parts, variant_parts, word_part}
 use Rattle.iloc_outline.specs.Reading.{IsBody, IsPrivateBody, IsTooMuch, Puts}
-use Rattle.iloc_outline.specs.Spans.{Spell, held_spans}
+use Rattle.iloc_outline.specs.Spans.{Spell}
+use Rattle.iloc_spans.specs.Spans.{held_spans}
 use Rattle.iloc_pieces.specs.declared.cursor.Left.{Left}
 use Rattle.iloc_outline.specs.declared.reading.Found.{Found}
 use Rattle.iloc_outline.specs.declared.reading.Found.TheVariants.{End, Next, Bad, Repeated, Full}
-use Rattle.iloc_outline.specs.declared.span.Role.{Role}
-use Rattle.iloc_outline.specs.declared.span.Role.TheVariants as roles
-use Rattle.iloc_outline.specs.declared.span.Role.TheVariants.{Singleton}
-use Rattle.iloc_outline.specs.declared.spans.Spans.{Spans}
+use Rattle.iloc_spans.specs.declared.span.Role.{Role}
+use Rattle.iloc_spans.specs.declared.span.Role.TheVariants as roles
+use Rattle.iloc_spans.specs.declared.span.Role.TheVariants.{Singleton}
+use Rattle.iloc_spans.specs.declared.spans.Spans.{Spans}
 use Rattle.iloc_outline.proofs.Maps.{flat-append, put_between}
-use Rattle.iloc_outline.proofs.SpansLemmas.{length-held, spell_length}
+use Rattle.iloc_outline.proofs.SpansLemmas.{spell_length}
+use Rattle.iloc_spans.proofs.HeldLemmas.{length-held}
 use Rattle.iloc_outline.proofs.PartsInOrder.{all_in_order}
 use Rattle.iloc_outline.proofs.PrintedBlocks.{rule_of, t_rule}
 use Rattle.iloc_outline.proofs.TransformLemmas.{no_language}

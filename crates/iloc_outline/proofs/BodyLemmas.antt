@@ -14,11 +14,12 @@ use Rattle.iloc_spec_grammar.proofs.PiecesLaws.{at_pieces}
 use Rattle.iloc_spec_grammar.proofs.Readings.{IsLong}
 use Rattle.iloc_outline.specs.Parts.{Part, printed_part, rank, singleton_part}
 use Rattle.iloc_pieces.specs.Left.{IsSpanned, piece_left, pieces_left, bytes_left}
-use Rattle.iloc_outline.specs.Spans.{AreShort, IsSpan, Spell, held_spans}
+use Rattle.iloc_outline.specs.Spans.{AreShort, IsSpan, Spell}
+use Rattle.iloc_spans.specs.Spans.{held_spans}
 use Rattle.iloc_outline.specs.Reading.{Puts, block_span}
 use Rattle.iloc_pieces.specs.declared.cursor.Left.{Left}
-use Rattle.iloc_outline.specs.declared.span.Span.{Span}
-use Rattle.iloc_outline.specs.declared.spans.Spans.{Spans}
+use Rattle.iloc_spans.specs.declared.span.Span.{Span}
+use Rattle.iloc_spans.specs.declared.spans.Spans.{Spans}
 use Rattle.iloc_outline.proofs.SpansLemmas.{adds_then, not_edited, spell_put}
 
 -- the body goes on over longer pieces

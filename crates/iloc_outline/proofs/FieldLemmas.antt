@@ -10,25 +10,27 @@ use Rattle.iloc_spec_grammar.specs.Syntax.{fields_pieces, first_piece}
 use Rattle.iloc_spec_grammar.proofs.ReadBack.{all_append}
 use Rattle.iloc_outline.specs.Fields.{IsAfterValues, PrintsAsItIs, IsValueRead}
 use Rattle.iloc_outline.specs.Gathering.{Gathers, Takes, pieces_in}
-use Rattle.iloc_outline.specs.Inserting.{IsPutFrom}
+use Rattle.iloc_spans.specs.Inserting.{IsPutFrom}
 use Rattle.iloc_pieces.specs.Left.{IsLater, IsPast, IsSpanned, piece_left, pieces_left}
 use Rattle.iloc_pieces.specs.Left.{bytes_left, whole_text}
 use Rattle.iloc_pieces.specs.Words.{IsUpToEight, word_number}
 use Rattle.iloc_outline.specs.Parts.{Part, field_part}
 use Rattle.iloc_outline.specs.Reading.{EndsInKey, IsFieldOfRole, IsTooMuch, ReadsFields, role_key, unless_end}
-use Rattle.iloc_outline.specs.Spans.{IsSpan, held_spans}
+use Rattle.iloc_outline.specs.Spans.{IsSpan}
+use Rattle.iloc_spans.specs.Spans.{held_spans}
 use Rattle.iloc_outline.specs.declared.fields.Value.{Value}
 use Rattle.iloc_pieces.specs.declared.cursor.Left.{Left}
-use Rattle.iloc_outline.specs.declared.sorting.Inserted.{Inserted}
-use Rattle.iloc_outline.specs.declared.sorting.Inserted.TheVariants.{Put, There, Full}
-use Rattle.iloc_outline.specs.declared.span.Role.{Role}
-use Rattle.iloc_outline.specs.declared.span.Role.TheVariants as roles
-use Rattle.iloc_outline.specs.declared.span.Span.{Span}
-use Rattle.iloc_outline.specs.declared.spans.Spans.{Spans}
+use Rattle.iloc_spans.specs.declared.inserting.Inserted.{Inserted}
+use Rattle.iloc_spans.specs.declared.inserting.Inserted.TheVariants.{Put, There, Full}
+use Rattle.iloc_spans.specs.declared.span.Role.{Role}
+use Rattle.iloc_spans.specs.declared.span.Role.TheVariants as roles
+use Rattle.iloc_spans.specs.declared.span.Span.{Span}
+use Rattle.iloc_spans.specs.declared.spans.Spans.{Spans}
 use Rattle.iloc_outline.proofs.GatherLemmas.{gathers_few, gathers_none, gathers_put, gathers_puts}
 use Rattle.iloc_outline.proofs.GatherLemmas.{gathers_there}
 use Rattle.iloc_pieces.proofs.LeftLemmas.{length_rest, past_none, past_past, spanned_none}
-use Rattle.iloc_outline.proofs.SpansLemmas.{field_short, length-held}
+use Rattle.iloc_outline.proofs.SpansLemmas.{field_short}
+use Rattle.iloc_spans.proofs.HeldLemmas.{length-held}
 use Rattle.iloc_outline.proofs.WordLemmas.{length-pieces_of}
 use Rattle.iloc_pieces.proofs.WordNumbers.{field_key_fits, key_fits}
 

@@ -11,15 +11,16 @@ use Rattle.iloc_spec_grammar.specs.Syntax.{Text, IsAmong, lower}
 use Rattle.iloc_spec_grammar.proofs.ReadBack.{all_append}
 use Rattle.iloc_spec_grammar.proofs.ValuesLaws.{all_weaker}
 use Rattle.iloc_outline.specs.Gathering.{Gathers, pieces_in}
-use Rattle.iloc_outline.specs.Inserting.{IsPutFrom, spans_in_order}
+use Rattle.iloc_spans.specs.Inserting.{IsPutFrom, spans_in_order}
 use Rattle.iloc_outline.specs.Parts.{Part, in_order, printed_part}
 use Rattle.iloc_outline.specs.Reading.{Puts}
-use Rattle.iloc_outline.specs.Spans.{IsSpan, held_spans}
-use Rattle.iloc_outline.specs.declared.sorting.Inserted.{Inserted}
-use Rattle.iloc_outline.specs.declared.sorting.Inserted.TheVariants.{Put, There, Full}
-use Rattle.iloc_outline.specs.declared.span.Span.{Span}
-use Rattle.iloc_outline.specs.declared.spans.Spans.{Spans}
-use Rattle.iloc_outline.proofs.Arranging.{among_less, arranged_behind, length-arranged}
+use Rattle.iloc_outline.specs.Spans.{IsSpan}
+use Rattle.iloc_spans.specs.Spans.{held_spans}
+use Rattle.iloc_spans.specs.declared.inserting.Inserted.{Inserted}
+use Rattle.iloc_spans.specs.declared.inserting.Inserted.TheVariants.{Put, There, Full}
+use Rattle.iloc_spans.specs.declared.span.Span.{Span}
+use Rattle.iloc_spans.specs.declared.spans.Spans.{Spans}
+use Rattle.iloc_spans.proofs.Arranging.{among_less, arranged_behind, length-arranged}
 use Rattle.iloc_outline.proofs.SpansLemmas.{zip_append, zip_arranged}
 
 -- none

@@ -3,14 +3,14 @@ use Rattle.std.proofs.Common.{◌≡◌, ◌≢◌, ℕ, ◌+◌, Bool, false, L
 use Rattle.std.proofs.Common.{refl, sym, ap, ◌∙◌, arith, inr, true≢false}
 use Rattle.std.proofs.Math.Seq.{drop-append_seam, take-append_seam}
 use Rattle.iloc_outline.specs.Gathering.{Walks}
-use Rattle.iloc_outline.specs.Group.{IsGrouped}
-use Rattle.iloc_outline.specs.Inserting.{IsInserted, IsPutFrom, spans_in_order}
-use Rattle.iloc_outline.specs.declared.sorting.Inserted.{Inserted}
-use Rattle.iloc_outline.specs.declared.sorting.Inserted.TheVariants.{Put, There, Full}
-use Rattle.iloc_outline.specs.declared.span.Role.{Role}
-use Rattle.iloc_outline.specs.declared.span.Span.{Span}
+use Rattle.iloc_spans.specs.Group.{IsGrouped}
+use Rattle.iloc_spans.specs.Inserting.{IsInserted, IsPutFrom, spans_in_order}
+use Rattle.iloc_spans.specs.declared.inserting.Inserted.{Inserted}
+use Rattle.iloc_spans.specs.declared.inserting.Inserted.TheVariants.{Put, There, Full}
+use Rattle.iloc_spans.specs.declared.span.Role.{Role}
+use Rattle.iloc_spans.specs.declared.span.Span.{Span}
 use Rattle.iloc_pieces.specs.declared.cursor.Left.{Left}
-use Rattle.iloc_outline.proofs.Arranging.{arranged_twice}
+use Rattle.iloc_spans.proofs.Arranging.{arranged_twice}
 
 -- spans behind as many others
 module _ (from : ℕ) (F old before ss : List Span) (l : length F ≡ from) (n : length before ≡ from)

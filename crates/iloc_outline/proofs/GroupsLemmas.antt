@@ -17,10 +17,10 @@ use Rattle.iloc_spec_grammar.specs.Syntax.{Text, IsAmong}
 use Rattle.iloc_outline.specs.Groups.{AreGroups, IsGroup, is_greater, is_singleton, parts_in}
 use Rattle.iloc_outline.specs.Parts.{Part}
 use Rattle.iloc_outline.specs.Spans.{IsSpan}
-use Rattle.iloc_outline.specs.declared.span.Role.{Role}
-use Rattle.iloc_outline.specs.declared.span.Role.TheVariants.{Variant, Singleton, Attribute, Keyword, Field}
-use Rattle.iloc_outline.specs.declared.span.Span.{Span}
-use Rattle.iloc_outline.specs.contracts.span.Role.{the_type}
+use Rattle.iloc_spans.specs.declared.span.Role.{Role}
+use Rattle.iloc_spans.specs.declared.span.Role.TheVariants.{Variant, Singleton, Attribute, Keyword, Field}
+use Rattle.iloc_spans.specs.declared.span.Span.{Span}
+use Rattle.iloc_spans.specs.contracts.span.Role.{the_type}
 use Rattle.iloc_outline.proofs.SpansLemmas.{zip_append, zip_take, zip_drop}
 use denote.Enum.Bare.{sameb}
 use Rattle.iloc_spec_grammar.proofs.SameMeaning.{same_test as tied_number}

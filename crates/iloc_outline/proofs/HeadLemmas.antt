@@ -20,15 +20,16 @@ use Rattle.iloc_pieces.specs.Left.{IsPast, piece_left, pieces_left, bytes_left, 
 use Rattle.iloc_outline.specs.Outlines.{AreHeadRead, ReadsHead, parts_text}
 use Rattle.iloc_outline.specs.Parts.{front_pieces, printed_part, variant_parts}
 use Rattle.iloc_outline.specs.Reading.{AreWordsRead, ReadsWords}
-use Rattle.iloc_outline.specs.Spans.{IsSpan, Spell, held_spans}
+use Rattle.iloc_outline.specs.Spans.{IsSpan, Spell}
+use Rattle.iloc_spans.specs.Spans.{held_spans}
 use Rattle.iloc_outline.specs.declared.identifier.Front.{Front}
 use Rattle.iloc_pieces.specs.declared.cursor.Left.{Left}
 use Rattle.iloc_outline.specs.declared.outline.Head.TheVariants as heads
 use Rattle.iloc_outline.specs.declared.outline.Outline.{Outline}
 use Rattle.iloc_outline.specs.declared.reading.Found.{Found}
 use Rattle.iloc_outline.specs.declared.reading.Found.TheVariants.{End, Next, Bad, Repeated}
-use Rattle.iloc_outline.specs.declared.span.Role.TheVariants as roles
-use Rattle.iloc_outline.specs.declared.spans.Spans.{Spans}
+use Rattle.iloc_spans.specs.declared.span.Role.TheVariants as roles
+use Rattle.iloc_spans.specs.declared.spans.Spans.{Spans}
 use Rattle.iloc_subtags.specs.declared.parse_error.ParseError.TheVariants.{InvalidSubtag}
 use Rattle.iloc_outline.proofs.BlocksLemmas.{plain_variants}
 use Rattle.iloc_outline.proofs.BodyLemmas.{front_all}

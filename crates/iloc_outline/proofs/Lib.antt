@@ -3,10 +3,6 @@ pub mod Maps
 pub mod PartsInOrder
 pub mod PrintedBlocks
 pub mod PrintedParts
-pub mod Shifting
-pub mod Arranging
-pub mod GroupPuts
-pub mod SortingSteps
 pub mod SpansLemmas
 pub mod GroupsLemmas
 pub mod GatherLemmas

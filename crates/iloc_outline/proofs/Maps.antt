@@ -14,6 +14,7 @@ use Rattle.iloc_spec_grammar.specs.Meaning.{map_of}
 use Rattle.iloc_spec_grammar.proofs.MapLaws.{find-map_of, all-map_of, map_of_same}
 use Rattle.iloc_spec_grammar.proofs.SetLaws.{find-append}
 use Rattle.iloc_spec_grammar.proofs.Singletons.{tied}
+use Rattle.iloc_spans.proofs.Arranging.{or_none}
 use Rattle.iloc_pieces.proofs.WordOrder.{is_less, is_greater}
 
 -- ---- entries under other keys, which are ordered alike
@@ -83,10 +84,6 @@ flat-put k (e ∷ es) h =
       | Equal ↦ λ h. cc
       | Greater ↦ λ h. ap (λ l. e.1 ++ l) (flat-put k es h)
     ] h
-
-pub or_none : {X : Type 0} (o : Option X) → option_or o None ≡ o
-or_none None = refl
-or_none (Some v) = refl
 
 -- a last entry that prints nothing changes nothing
 pub flat-last : {X : Type 0} (k : ℕ) (es : List (ℕ × List X))

@@ -22,12 +22,13 @@ use Rattle.iloc_pieces.specs.Left.{pieces_left, whole_text}
 use Rattle.iloc_outline.specs.Outlines.{Gives, IsIdentifierOutlined, IsLimit, IsLocaleOutlined, ReadsHead}
 use Rattle.iloc_outline.specs.Outlines.{parts_text}
 use Rattle.iloc_outline.specs.Parts.{Part, blocks_parts, front_pieces, variant_parts}
-use Rattle.iloc_outline.specs.Spans.{IsSpan, Spell, held_spans}
+use Rattle.iloc_outline.specs.Spans.{IsSpan, Spell}
+use Rattle.iloc_spans.specs.Spans.{held_spans}
 use Rattle.iloc_outline.specs.declared.blocks.Blocks.TheVariants.{Refused, Full}
 use Rattle.iloc_pieces.specs.declared.cursor.Left.{Left}
 use Rattle.iloc_outline.specs.declared.outline.Outline.{Outline}
 use Rattle.iloc_outline.specs.declared.outline.Outlined.TheVariants as outlined
-use Rattle.iloc_outline.specs.declared.spans.Spans.{Spans}
+use Rattle.iloc_spans.specs.declared.spans.Spans.{Spans}
 use Rattle.iloc_outline.proofs.BlocksLemmas.{blocks_behind, blocks_skip, plain_variants}
 use Rattle.iloc_outline.proofs.BodyLemmas.{front_whole}
 use Rattle.iloc_outline.proofs.Meanings.{has_fault, identifier_text_is, means_read, parts_dashes}

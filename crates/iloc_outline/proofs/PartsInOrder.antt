@@ -15,8 +15,8 @@ use Rattle.iloc_spec_grammar.proofs.MapLaws.{same_words, all-map_of}
 use Rattle.iloc_spec_grammar.proofs.ValuesLaws.{all_weaker}
 use Rattle.iloc_pieces.specs.Words.{IsUpToEight, word_number}
 use Rattle.iloc_outline.specs.Parts.{Part, word_part, field_part, in_order, variant_parts, printed_part}
-use Rattle.iloc_outline.specs.declared.span.Role.{Role}
-use Rattle.iloc_outline.specs.declared.span.Role.TheVariants as roles
+use Rattle.iloc_spans.specs.declared.span.Role.{Role}
+use Rattle.iloc_spans.specs.declared.span.Role.TheVariants as roles
 use Rattle.iloc_outline.proofs.Maps.{map_of_carried}
 use Rattle.iloc_pieces.proofs.WordOrder.{word_order, attribute_fits, variant_fits}
 use Rattle.iloc_pieces.proofs.WordNumbers.{key_fits, field_key_fits}

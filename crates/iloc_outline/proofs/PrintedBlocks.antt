@@ -33,7 +33,7 @@ use Rattle.iloc_spec_grammar.proofs.Singletons.{no_x}
 use Rattle.iloc_outline.specs.Parts.{Part, singleton_part, front_pieces, variant_parts, optional_front}
 use Rattle.iloc_outline.specs.Parts.{optional_variants, unicode_parts, transform_parts, in_order, field_part}
 use Rattle.iloc_outline.specs.Parts.{block_parts, printed_part}
-use Rattle.iloc_outline.specs.declared.span.Role.TheVariants as roles
+use Rattle.iloc_spans.specs.declared.span.Role.TheVariants as roles
 use Rattle.iloc_outline.proofs.PartsInOrder.{variants_printed, attributes_printed, keywords_printed}
 use Rattle.iloc_outline.proofs.PartsInOrder.{values_printed}
 

@@ -26,12 +26,12 @@ use Rattle.iloc_outline.specs.Outlines.{Gives, parts_text}
 use Rattle.iloc_outline.specs.Spans.{AreShort, IsSpan}
 use Rattle.iloc_outline.specs.Identifier.{front_text, raised}
 use Rattle.iloc_outline.specs.declared.outline.Outline.{Outline}
-use Rattle.iloc_outline.specs.declared.spans.Spans.{Spans}
-use Rattle.iloc_outline.specs.declared.span.Span.{Span}
+use Rattle.iloc_spans.specs.declared.spans.Spans.{Spans}
+use Rattle.iloc_spans.specs.declared.span.Span.{Span}
 use Rattle.iloc_outline.specs.Parts.{Part, printed_part, printed_by}
-use Rattle.iloc_outline.specs.declared.span.Role.{Role}
-use Rattle.iloc_outline.specs.declared.span.Role.TheVariants as roles
-use Rattle.iloc_outline.specs.contracts.span.Role.{the_type}
+use Rattle.iloc_spans.specs.declared.span.Role.{Role}
+use Rattle.iloc_spans.specs.declared.span.Role.TheVariants as roles
+use Rattle.iloc_spans.specs.contracts.span.Role.{the_type}
 use denote.Enum.Bare.{sameb}
 use Rattle.iloc_pieces.specs.declared.cursor.Left.{Left}
 use Rattle.iloc_pieces.proofs.LeftLemmas.{begins, first_within, length_piece, length_rest}

@@ -3,8 +3,8 @@ use Rattle.iloc_spec_grammar.specs.Syntax.{Text, IsWord}
 use Rattle.iloc_pieces.specs.Left.{IsShortPiece}
 use Rattle.iloc_pieces.proofs.LeftLemmas.{short_attribute, short_field_key, short_key, short_variant}
 use Rattle.iloc_outline.specs.Reading.{role_kind, role_key}
-use Rattle.iloc_outline.specs.declared.span.Role.{Role}
-use Rattle.iloc_outline.specs.declared.span.Role.TheVariants as roles
+use Rattle.iloc_spans.specs.declared.span.Role.{Role}
+use Rattle.iloc_spans.specs.declared.span.Role.TheVariants as roles
 
 -- a word of a role, and a key of one
 pub short_kind : (r : Role) (p : Text) → IsWord (role_kind r) p → IsShortPiece p

@@ -30,11 +30,12 @@ use Rattle.iloc_outline.specs.Reading.{IsTooMuch}
 use Rattle.iloc_outline.specs.Spans.{Spell}
 use Rattle.iloc_pieces.specs.declared.cursor.Left.{Left}
 use Rattle.iloc_outline.specs.declared.reading.Found.TheVariants.{End, Next, Bad, Repeated, Full}
-use Rattle.iloc_outline.specs.declared.spans.Spans.{Spans}
+use Rattle.iloc_spans.specs.declared.spans.Spans.{Spans}
 use Rattle.iloc_outline.proofs.BlocksLemmas.{IsAt, IsDone, IsRead, at_start, groups_of, is_bad, is_placed}
 use Rattle.iloc_outline.proofs.BlocksLemmas.{is_second, no_letter, ranks, read_bad, read_end, read_full}
 use Rattle.iloc_outline.proofs.BlocksLemmas.{read_next, read_repeated, repeats, stays, told}
-use Rattle.iloc_outline.proofs.SpansLemmas.{length-held, spell_length}
+use Rattle.iloc_outline.proofs.SpansLemmas.{spell_length}
+use Rattle.iloc_spans.proofs.HeldLemmas.{length-held}
 use Rattle.iloc_pieces.proofs.LeftLemmas.{past_first, single_short, spanned_next, spanned_none}
 use Rattle.iloc_pieces.proofs.RunWords.{and-false}
 use Rattle.iloc_outline.proofs.TransformLemmas.{no_language}

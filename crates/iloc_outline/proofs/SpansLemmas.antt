@@ -1,5 +1,5 @@
 -- Spans and the parts that they spell.
-use Rattle.std.proofs.Common.{Option, ◌≡◌, ◌≢◌, ◌<◌, ◌≤◌, ℕ, Bool, if◌then◌else◌, ◌==◌, ◌||◌, true, false}
+use Rattle.std.proofs.Common.{◌≡◌, ◌≢◌, ℕ, ◌==◌, ◌||◌, true, false}
 use Rattle.std.proofs.Common.{true≢false, List, [], ◌∷◌, ◌++◌, length, map}
 use Rattle.std.proofs.Common.{take, drop, refl, sym, ap, subst, append_assoc, arith}
 use Rattle.std.specs.Char.{is_ascii_alphanumeric, to_ascii_lowercase}
@@ -10,7 +10,6 @@ use Rattle.std.specs.declared.cmp.Ordering.{Ordering}
 use Rattle.std.specs.declared.cmp.Ordering.TheVariants.{Less, Equal, Greater}
 use Rattle.std.specs.FinMap.{put}
 use Rattle.std.specs.FinMap.Entries.{by_order}
-use Rattle.std.proofs.lemmas.List.{length-take-le}
 use Rattle.std.proofs.lemmas.Slice.Zip.{AllZip-long}
 use Rattle.iloc_spec_grammar.specs.Syntax.{Text, Field, Kind, Attribute, UnicodeKey, TransformKey, IsWord}
 use Rattle.iloc_spec_grammar.specs.Syntax.{Bounds, IsHyphenFree}
@@ -19,16 +18,15 @@ use Rattle.iloc_spec_grammar.proofs.ReadBack.{word_hyphen_free}
 use Rattle.std.proofs.lemmas.Bool.Decides.{nat_tests}
 use Rattle.iloc_pieces.specs.Left.{IsShortPiece}
 use Rattle.iloc_outline.specs.Reading.{IsFieldOfRole}
-use Rattle.iloc_outline.specs.declared.span.Role.{Role}
-use Rattle.iloc_outline.specs.declared.span.Role.TheVariants as roles
+use Rattle.iloc_spans.specs.declared.span.Role.{Role}
+use Rattle.iloc_spans.specs.declared.span.Role.TheVariants as roles
 use Rattle.iloc_pieces.proofs.LeftLemmas.{between_short, short_word}
 use Rattle.iloc_outline.specs.Parts.{Part}
-use Rattle.iloc_outline.specs.More.{more_spans}
-use Rattle.iloc_outline.specs.declared.more.More.{More}
-use Rattle.iloc_outline.specs.Spans.{AddsParts, AreShort, IsSpan, Spell, held_spans}
-use Rattle.iloc_outline.proofs.Arranging.{arranged, numbered}
-use Rattle.iloc_outline.specs.declared.span.Span.{Span}
-use Rattle.iloc_outline.specs.declared.spans.Spans.{Spans}
+use Rattle.iloc_outline.specs.Spans.{AddsParts, AreShort, IsSpan, Spell}
+use Rattle.iloc_spans.specs.Spans.{held_spans}
+use Rattle.iloc_spans.proofs.Arranging.{arranged, numbered}
+use Rattle.iloc_spans.specs.declared.span.Span.{Span}
+use Rattle.iloc_spans.specs.declared.spans.Spans.{Spans}
 
 -- ---- the pieces of a span
 
@@ -90,31 +88,6 @@ zip_append R [] xs' [] ys' h k = k
 zip_append R [] xs' (y ∷ ys) ys' h k = absurd h
 zip_append R (x ∷ xs) xs' [] ys' h k = absurd h
 zip_append R (x ∷ xs) xs' (y ∷ ys) ys' h k = (h.0, zip_append R xs xs' ys ys' h.1 k)
-
--- there are as many as the count says
-pub length-held : (spans : Spans) → length (held_spans spans) ≡ spans.count
-length-held spans = at (spans.room == 0) refl
-  where
-    at : (b : Bool) → (spans.room == 0) ≡ b
-        → length (if b then more_spans spans.more else take spans.count spans.list) ≡ spans.count
-    at true e = sym (spans.many (grind (arith, nat_tests, e))).0
-    at false e =
-        let some : spans.room ≢ 0 = grind (arith, nat_tests, e) in
-        let few : spans.count ≤ 64 = (spans.within some).1 in
-        length-take-le spans.count spans.list (omega (arith, few, spans.long))
-
--- they stand in place where fewer than the room are there
-pub in_place : (list : List Span) (count room : ℕ) (more : Option More) → room ≢ 0
-    → (if room == 0 then more_spans more else take count list) ≡ take count list
-in_place list count room more some =
-    let told : (room == 0) ≡ false = grind (arith, nat_tests, some) in
-    ap (λ b. if b then more_spans more else take count list) told
-
-pub held_in_place : (s : Spans) → s.room ≢ 0 → held_spans s ≡ take s.count s.list
-held_in_place s some = in_place s.list s.count s.room s.more some
-
-pub room_in_place : (s : Spans) → s.count < 64 → s.room ≢ 0
-room_in_place s few none = absurd (omega (arith, few, (s.many none).1))
 
 -- as many parts as spans
 pub spell_length : (t : Text) (spans : Spans) (ps : List Part) → Spell t spans ps →

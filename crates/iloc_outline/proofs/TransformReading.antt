@@ -21,12 +21,12 @@ use Rattle.iloc_outline.specs.Parts.{block_parts, field_part, front_pieces, in_o
 use Rattle.iloc_outline.specs.Parts.{optional_variants, rank, singleton_part, transform_parts, variant_parts}
 use Rattle.iloc_outline.specs.Reading.{AreFieldsRead, AreWordsRead, EndsAtBlock, EndsInKey, IsBody}
 use Rattle.iloc_outline.specs.Reading.{Puts, ReadsBlock, ReadsFields, ReadsWords, block_span}
-use Rattle.iloc_outline.specs.Spans.{held_spans}
+use Rattle.iloc_spans.specs.Spans.{held_spans}
 use Rattle.iloc_pieces.specs.declared.cursor.Left.{Left}
 use Rattle.iloc_outline.specs.declared.reading.Found.{Found}
 use Rattle.iloc_outline.specs.declared.reading.Found.TheVariants.{End, Next, Bad, Repeated, Full}
-use Rattle.iloc_outline.specs.declared.span.Role.TheVariants as roles
-use Rattle.iloc_outline.specs.declared.spans.Spans.{Spans}
+use Rattle.iloc_spans.specs.declared.span.Role.TheVariants as roles
+use Rattle.iloc_spans.specs.declared.spans.Spans.{Spans}
 use Rattle.iloc_pieces.proofs.LeftLemmas.{past_past}
 use Rattle.iloc_outline.proofs.BodyLemmas.{front_ends, front_first, front_goes_on, front_past, front_single}
 use Rattle.iloc_outline.proofs.BodyLemmas.{front_whole, puts_none, puts_singleton, puts_then, some_passed}

@@ -24,12 +24,12 @@ use Rattle.iloc_outline.specs.Parts.{block_parts, field_part, in_order, rank, si
 use Rattle.iloc_outline.specs.Parts.{word_part}
 use Rattle.iloc_outline.specs.Reading.{AreFieldsRead, AreWordsRead, EndsAtBlock, IsBody, Puts, ReadsBlock}
 use Rattle.iloc_outline.specs.Reading.{ReadsFields, ReadsWords, block_span}
-use Rattle.iloc_outline.specs.Spans.{held_spans}
+use Rattle.iloc_spans.specs.Spans.{held_spans}
 use Rattle.iloc_pieces.specs.declared.cursor.Left.{Left}
 use Rattle.iloc_outline.specs.declared.reading.Found.{Found}
 use Rattle.iloc_outline.specs.declared.reading.Found.TheVariants.{End, Next, Bad, Repeated, Full}
-use Rattle.iloc_outline.specs.declared.span.Role.TheVariants as roles
-use Rattle.iloc_outline.specs.declared.spans.Spans.{Spans}
+use Rattle.iloc_spans.specs.declared.span.Role.TheVariants as roles
+use Rattle.iloc_spans.specs.declared.spans.Spans.{Spans}
 use Rattle.iloc_pieces.proofs.LeftLemmas.{past_past}
 use Rattle.iloc_outline.proofs.BodyLemmas.{front_ends, front_goes_on, front_single, front_whole}
 use Rattle.iloc_outline.proofs.BodyLemmas.{puts_singleton, puts_then, some_passed}

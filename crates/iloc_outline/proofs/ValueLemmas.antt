@@ -14,8 +14,8 @@ use Rattle.iloc_pieces.specs.Left.{IsLater, IsNextPiece, IsPast, IsShortPiece, I
 use Rattle.iloc_pieces.specs.Left.{piece_left, whole_text}
 use Rattle.iloc_outline.specs.Reading.{IsOfField}
 use Rattle.iloc_pieces.specs.declared.cursor.Left.{Left}
-use Rattle.iloc_outline.specs.declared.span.Role.{Role}
-use Rattle.iloc_outline.specs.declared.span.Role.TheVariants as roles
+use Rattle.iloc_spans.specs.declared.span.Role.{Role}
+use Rattle.iloc_spans.specs.declared.span.Role.TheVariants as roles
 use Rattle.iloc_pieces.proofs.LeftLemmas.{last_piece, past_next, past_none, pieces_end, short_attribute}
 use Rattle.iloc_pieces.proofs.LeftLemmas.{spanned_end}
 

@@ -12,9 +12,9 @@ use Rattle.iloc_outline.specs.Parts.{word_part, printed_part}
 use Rattle.iloc_outline.specs.Reading.{IsOfWord, role_kind}
 use Rattle.iloc_outline.specs.Spans.{IsSpan}
 use Rattle.iloc_pieces.specs.declared.cursor.Left.{Left}
-use Rattle.iloc_outline.specs.declared.span.Role.{Role}
-use Rattle.iloc_outline.specs.declared.span.Role.TheVariants as roles
-use Rattle.iloc_outline.specs.declared.span.Span.{Span}
+use Rattle.iloc_spans.specs.declared.span.Role.{Role}
+use Rattle.iloc_spans.specs.declared.span.Role.TheVariants as roles
+use Rattle.iloc_spans.specs.declared.span.Span.{Span}
 use Rattle.iloc_pieces.proofs.LeftLemmas.{length_piece, length_text, spanned_piece}
 use Rattle.iloc_outline.proofs.RoleLemmas.{short_kind}
 use Rattle.iloc_pieces.proofs.WordOrder.{attribute_fits, variant_fits}

@@ -16,25 +16,26 @@ use Rattle.iloc_spec_grammar.proofs.ReadBack.{all_append}
 use Rattle.iloc_spec_grammar.proofs.ReadingLaws.{keep_all, keep_while_passes}
 use Rattle.iloc_spec_grammar.proofs.ValuesLaws.{all_weaker}
 use Rattle.iloc_outline.specs.Gathering.{Gathers, Walks, pieces_in}
-use Rattle.iloc_outline.specs.Inserting.{IsPutFrom}
+use Rattle.iloc_spans.specs.Inserting.{IsPutFrom}
 use Rattle.iloc_pieces.specs.Left.{IsLater, IsNextPiece, piece_left, pieces_left}
 use Rattle.iloc_pieces.specs.Left.{whole_text}
 use Rattle.iloc_pieces.specs.Words.{IsUpToEight, word_number}
 use Rattle.iloc_outline.specs.Parts.{Part, word_part}
 use Rattle.iloc_outline.specs.Reading.{IsOfWord, IsTooMuch, MayBe, ReadsWords, role_kind, words_of}
-use Rattle.iloc_outline.specs.Spans.{IsSpan, held_spans}
+use Rattle.iloc_outline.specs.Spans.{IsSpan}
+use Rattle.iloc_spans.specs.Spans.{held_spans}
 use Rattle.iloc_pieces.specs.declared.cursor.Left.{Left}
-use Rattle.iloc_outline.specs.declared.sorting.Inserted.{Inserted}
-use Rattle.iloc_outline.specs.declared.sorting.Inserted.TheVariants.{Put, There}
-use Rattle.iloc_outline.specs.declared.span.Role.{Role}
-use Rattle.iloc_outline.specs.declared.span.Role.TheVariants as roles
-use Rattle.iloc_outline.specs.declared.span.Span.{Span}
-use Rattle.iloc_outline.specs.declared.spans.Spans.{Spans}
+use Rattle.iloc_spans.specs.declared.inserting.Inserted.{Inserted}
+use Rattle.iloc_spans.specs.declared.inserting.Inserted.TheVariants.{Put, There}
+use Rattle.iloc_spans.specs.declared.span.Role.{Role}
+use Rattle.iloc_spans.specs.declared.span.Role.TheVariants as roles
+use Rattle.iloc_spans.specs.declared.span.Span.{Span}
+use Rattle.iloc_spans.specs.declared.spans.Spans.{Spans}
 use Rattle.iloc_outline.proofs.GatherLemmas.{gathers_few, gathers_none, gathers_put, gathers_puts}
 use Rattle.iloc_outline.proofs.GatherLemmas.{gathers_there}
 use Rattle.iloc_pieces.proofs.LeftLemmas.{last_piece, past_next, past_none, pieces_end}
 use Rattle.iloc_outline.proofs.RoleLemmas.{short_kind}
-use Rattle.iloc_outline.proofs.SpansLemmas.{length-held}
+use Rattle.iloc_spans.proofs.HeldLemmas.{length-held}
 use Rattle.iloc_outline.proofs.WordLemmas.{ends_before, length-pieces_of, passing_cut, passing_more, span_of}
 use Rattle.iloc_outline.proofs.WordLemmas.{word_fits, word_next, word_span}
 use Rattle.iloc_pieces.proofs.WordOrder.{word_order}

@@ -16,8 +16,8 @@ use Rattle.iloc_outline.specs.declared.blocks.Blocks.{Blocks}
 use Rattle.iloc_outline.specs.declared.blocks.Blocks.TheVariants.{Good, Refused, Full}
 use Rattle.iloc_pieces.specs.declared.cursor.Left.{Left}
 use Rattle.iloc_outline.specs.declared.reading.Found.{Found}
-use Rattle.iloc_outline.specs.declared.span.Role.TheVariants.{Singleton}
-use Rattle.iloc_outline.specs.declared.spans.Spans.{Spans}
+use Rattle.iloc_spans.specs.declared.span.Role.TheVariants.{Singleton}
+use Rattle.iloc_spans.specs.declared.spans.Spans.{Spans}
 
 -- what belongs to the singleton c, of the pieces behind it: `x` takes all
 abbrev pub body_of : ℕ → List Text → List Text

@@ -7,7 +7,7 @@ use Rattle.iloc_outline.specs.Parts.{printed_part, field_part}
 use Rattle.iloc_outline.specs.Reading.{IsFieldOfRole, unless_end}
 use Rattle.iloc_outline.specs.declared.fields.Value.{Value}
 use Rattle.iloc_pieces.specs.declared.cursor.Left.{Left}
-use Rattle.iloc_outline.specs.declared.span.Role.{Role}
+use Rattle.iloc_spans.specs.declared.span.Role.{Role}
 
 -- after a key its values were passed, and a piece that is none is left, or nothing
 abbrev pub IsAfterValues : Left → List Text → Option Left → Type 0

@@ -7,13 +7,13 @@ use Rattle.iloc_spec_grammar.specs.Syntax.{fields_pieces}
 use Rattle.iloc_pieces.specs.Left.{IsPast, piece_left, whole_text}
 use Rattle.iloc_pieces.specs.Words.{word_number}
 use Rattle.iloc_pieces.specs.declared.cursor.Left.{Left}
-use Rattle.iloc_outline.specs.Inserting.{spans_in_order}
+use Rattle.iloc_spans.specs.Inserting.{spans_in_order}
 use Rattle.iloc_outline.specs.Parts.{Part, field_part, in_order, printed_part, word_part}
 use Rattle.iloc_outline.specs.Reading.{IsFieldOfRole, role_kind}
 use Rattle.iloc_outline.specs.Spans.{IsSpan}
-use Rattle.iloc_outline.specs.declared.span.Role.{Role}
-use Rattle.iloc_outline.specs.declared.span.Role.TheVariants as roles
-use Rattle.iloc_outline.specs.declared.span.Span.{Span}
+use Rattle.iloc_spans.specs.declared.span.Role.{Role}
+use Rattle.iloc_spans.specs.declared.span.Role.TheVariants as roles
+use Rattle.iloc_spans.specs.declared.span.Span.{Span}
 
 -- the pieces of parts
 abbrev pub pieces_in : List Part → List Text

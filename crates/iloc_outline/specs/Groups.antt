@@ -2,8 +2,8 @@
 use Rattle.std.specs.Prelude.{◌≡◌, ◌≢◌, ◌&&◌, ℕ, nat_lt, Bool, true, false, List, [], ◌∷◌, flat_map}
 use Rattle.std.specs.List.{AllByRecursion}
 use Rattle.iloc_outline.specs.Parts.{Part}
-use Rattle.iloc_outline.specs.declared.span.Role.{Role}
-use Rattle.iloc_outline.specs.declared.span.Role.TheVariants.{Singleton}
+use Rattle.iloc_spans.specs.declared.span.Role.{Role}
+use Rattle.iloc_spans.specs.declared.span.Role.TheVariants.{Singleton}
 
 -- the parts of all groups
 abbrev pub parts_in : List (ℕ × List Part) → List Part

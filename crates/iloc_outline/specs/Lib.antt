@@ -1,8 +1,5 @@
 pub mod Parts
-pub mod More
 pub mod Spans
-pub mod Inserting
-pub mod Group
 pub mod Groups
 pub mod Reading
 pub mod Gathering

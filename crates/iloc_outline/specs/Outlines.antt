@@ -11,14 +11,15 @@ use Rattle.iloc_outline.specs.Blocks.{AreBegun}
 use Rattle.iloc_outline.specs.Identifier.{front_text}
 use Rattle.iloc_pieces.specs.Left.{IsLater, piece_left, pieces_left, whole_text}
 use Rattle.iloc_outline.specs.Parts.{Part, printed_part, front_pieces, variant_parts}
-use Rattle.iloc_outline.specs.Spans.{Spell, held_spans}
+use Rattle.iloc_outline.specs.Spans.{Spell}
+use Rattle.iloc_spans.specs.Spans.{held_spans}
 use Rattle.iloc_pieces.specs.declared.cursor.Left.{Left}
 use Rattle.iloc_outline.specs.declared.outline.Head.{Head}
 use Rattle.iloc_outline.specs.declared.outline.Head.TheVariants as heads
 use Rattle.iloc_outline.specs.declared.outline.Outline.{Outline}
 use Rattle.iloc_outline.specs.declared.outline.Outlined.{Outlined}
 use Rattle.iloc_outline.specs.declared.outline.Outlined.TheVariants as outlined
-use Rattle.iloc_outline.specs.declared.spans.Spans.{Spans}
+use Rattle.iloc_spans.specs.declared.spans.Spans.{Spans}
 
 -- what is printed for parts: each piece after a hyphen
 abbrev pub parts_text : List Part → Text

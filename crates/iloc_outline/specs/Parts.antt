@@ -10,9 +10,10 @@ use Rattle.iloc_spec_grammar.specs.Meaning.{map_of, normal_values}
 use Rattle.iloc_spec_grammar.specs.Values.{spelled_value}
 use Rattle.iloc_spec_grammar.specs.Reading.{unicode_of, transform_of}
 use Rattle.iloc_pieces.specs.Words.{word_number}
-use Rattle.iloc_outline.specs.declared.span.Role.{Role}
-use Rattle.iloc_outline.specs.declared.span.Role.TheVariants.{Variant, Singleton, Attribute, Keyword}
-use Rattle.iloc_outline.specs.declared.span.Role.TheVariants.{Field as FieldRole}
+use Rattle.iloc_spans.specs.Inserting.{ordered_by}
+use Rattle.iloc_spans.specs.declared.span.Role.{Role}
+use Rattle.iloc_spans.specs.declared.span.Role.TheVariants.{Variant, Singleton, Attribute, Keyword}
+use Rattle.iloc_spans.specs.declared.span.Role.TheVariants.{Field as FieldRole}
 
 -- a part: what it is, the number by which it is ordered, and its pieces
 pub record Part : Type 0 where
@@ -37,11 +38,7 @@ abbrev pub singleton_part : ℕ → List Text → Part
 singleton_part c ps =
     record { role = Singleton; word = rank (to_ascii_lowercase c); pieces = (c ∷ []) ∷ ps }
 
--- what has a number, in the order of the numbers; of equal numbers the first stays
-abbrev pub ordered_by : {X : Type 0} → (X → ℕ) → List X → List X
-ordered_by number xs = map (λ (_, x). x) (map_of nat_cmp (map (λ x. (number x, x)) xs))
-
--- parts so
+-- parts in the order of their numbers
 abbrev pub in_order : List Part → List Part
 in_order ps = ordered_by (λ (p : Part). p.word) ps
 

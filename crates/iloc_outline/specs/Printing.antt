@@ -8,10 +8,10 @@ use Rattle.iloc_outline.specs.Outlines.{Gives, parts_text}
 use Rattle.iloc_outline.specs.Parts.{Part, printed_by}
 use Rattle.iloc_outline.specs.Spans.{Spell}
 use Rattle.iloc_outline.specs.declared.outline.Outline.{Outline}
-use Rattle.iloc_outline.specs.declared.span.Role.{Role}
-use Rattle.iloc_outline.specs.declared.span.Role.TheVariants.{Keyword, Field, Singleton, Variant}
-use Rattle.iloc_outline.specs.declared.span.Span.{Span}
-use Rattle.iloc_outline.specs.declared.spans.Spans.{Spans}
+use Rattle.iloc_spans.specs.declared.span.Role.{Role}
+use Rattle.iloc_spans.specs.declared.span.Role.TheVariants.{Keyword, Field, Singleton, Variant}
+use Rattle.iloc_spans.specs.declared.span.Span.{Span}
+use Rattle.iloc_spans.specs.declared.spans.Spans.{Spans}
 
 -- the bytes from one place to another
 abbrev pub bytes_from : Text → ℕ → ℕ → Text

@@ -13,14 +13,15 @@ use Rattle.iloc_spec_grammar.specs.Computing.{is_block, repeats_variant}
 use Rattle.iloc_pieces.specs.Left.{IsLater, IsPast, IsSpanned, piece_left, pieces_left, whole_text}
 use Rattle.iloc_pieces.specs.Words.{word_number}
 use Rattle.iloc_outline.specs.Parts.{Part, printed_part, word_part, field_part, in_order, block_parts}
-use Rattle.iloc_outline.specs.Spans.{AddsParts, held_spans}
+use Rattle.iloc_outline.specs.Spans.{AddsParts}
+use Rattle.iloc_spans.specs.Spans.{held_spans}
 use Rattle.iloc_pieces.specs.declared.cursor.Left.{Left}
 use Rattle.iloc_outline.specs.declared.reading.Found.{Found}
 use Rattle.iloc_outline.specs.declared.reading.Found.TheVariants.{End, Next, Bad, Repeated, Full}
-use Rattle.iloc_outline.specs.declared.span.Role.{Role}
-use Rattle.iloc_outline.specs.declared.span.Role.TheVariants as roles
-use Rattle.iloc_outline.specs.declared.span.Span.{Span}
-use Rattle.iloc_outline.specs.declared.spans.Spans.{Spans}
+use Rattle.iloc_spans.specs.declared.span.Role.{Role}
+use Rattle.iloc_spans.specs.declared.span.Role.TheVariants as roles
+use Rattle.iloc_spans.specs.declared.span.Span.{Span}
+use Rattle.iloc_spans.specs.declared.spans.Spans.{Spans}
 
 -- a hyphen comes before l, and before that a singleton, whose hyphen stands at start
 pub record FollowsSingleton (start : ℕ) (l : Left) : Type 0 where

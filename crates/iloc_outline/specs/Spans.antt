@@ -1,12 +1,12 @@
 -- Spans of a text, and the parts that they are.
-use Rattle.std.specs.Prelude.{◌≡◌, ◌≢◌, ◌==◌, if◌then◌else◌, List, [], ◌++◌, false, true, map, take}
+use Rattle.std.specs.Prelude.{◌≡◌, ◌≢◌, List, [], ◌++◌, false, true, map}
 use Rattle.std.specs.List.{AllByRecursion, AllZip}
 use Rattle.iloc_spec_grammar.specs.Syntax.{Text, IsHyphenFree, lower}
 use Rattle.iloc_pieces.specs.Left.{IsShortPiece, IsSpanned}
-use Rattle.iloc_outline.specs.More.{more_spans}
+use Rattle.iloc_spans.specs.Spans.{held_spans}
 use Rattle.iloc_outline.specs.Parts.{Part, printed_part}
-use Rattle.iloc_outline.specs.declared.span.Span.{Span}
-use Rattle.iloc_outline.specs.declared.spans.Spans.{Spans}
+use Rattle.iloc_spans.specs.declared.span.Span.{Span}
+use Rattle.iloc_spans.specs.declared.spans.Spans.{Spans}
 
 -- pieces of a text that are printed one by one: one at least, each of at most eight bytes
 pub record AreShort (ps : List Text) : Type 0 where
@@ -21,10 +21,6 @@ pub record IsSpan (t : Text) (s : Span) (p : Part) : Type 0 where
   pub spanned : IsSpanned t s.start s.end p.pieces
   pub same : s.edited ≡ false → printed_part p ≡ map lower p.pieces
   pub short : s.edited ≡ true → AreShort p.pieces
-
--- the spans that there are: those in place, or those in the room that grows
-abbrev pub held_spans : Spans → List Span
-held_spans s = if s.room == 0 then more_spans s.more else take s.count s.list
 
 -- they are these parts of the text
 abbrev pub Spell : Text → Spans → List Part → Type 0

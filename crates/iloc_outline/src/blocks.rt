@@ -11,10 +11,10 @@ use crate::growth::Growth;
 use crate::other::{read_other, read_private};
 use crate::reading::Found;
 use crate::sorting::{has_block, place_block};
-use crate::spans::Spans;
 use crate::transform::read_transform;
 use crate::unicode::read_unicode;
 use iloc_pieces::left::{Left, advance, is_alphanumeric, is_last, singleton};
+use iloc_spans::spans::Spans;
 use iloc_subtags::ParseError;
 
 /// What the blocks of a text are.

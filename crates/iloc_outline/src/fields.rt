@@ -7,12 +7,13 @@ ghost use Rattle.iloc_outline.specs.Fields.{PrintsAsItIs, IsValueRead};
 
 use crate::growth::Growth;
 use crate::reading::Found;
-use crate::sorting::{Inserted, put_from};
-use crate::span::{Role, Span};
-use crate::spans::Spans;
+use crate::sorting::put_from;
 use iloc_pieces::left::{
     Left, advance, is_attribute, is_field_key, is_key, is_last, is_true, word_number,
 };
+use iloc_spans::inserting::Inserted;
+use iloc_spans::span::{Role, Span};
+use iloc_spans::spans::Spans;
 
 // The subtags of a value, and what follows them.
 #[derive(Clone, Copy)]

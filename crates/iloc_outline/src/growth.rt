@@ -3,17 +3,17 @@ ghost use Rattle.std.specs.Prelude.{◌≡◌, ◌≤◌, ◌∷◌, ◌++◌, �
 ghost use Rattle.iloc_pieces.specs.Left.{IsLater};
 ghost use Rattle.iloc_pieces.specs.declared.cursor.Left.{Left};
 ghost use Rattle.iloc_outline.specs.Gathering.{Walks};
-ghost use Rattle.iloc_outline.specs.Inserting.{IsInserted};
+ghost use Rattle.iloc_spans.specs.Inserting.{IsInserted};
 ghost use Rattle.iloc_outline.specs.Reading.{AreWordsRead, IsOfWord};
-ghost use Rattle.iloc_outline.specs.Spans.{held_spans};
-ghost use Rattle.iloc_outline.specs.declared.spans.Spans.{Spans};
+ghost use Rattle.iloc_spans.specs.Spans.{held_spans};
+ghost use Rattle.iloc_spans.specs.declared.spans.Spans.{Spans};
 
 use crate::reading::Found;
-use crate::sorting::{Inserted, insert_more};
-use crate::span::{Role, Span};
-use crate::spans::Spans;
 use crate::words::read_more_words;
 use iloc_pieces::left::Left;
+use iloc_spans::inserting::{Inserted, insert_more};
+use iloc_spans::span::{Role, Span};
+use iloc_spans::spans::{MOST, Spans};
 
 /// What is done where the room in place is full.
 pub trait Growth {
@@ -44,6 +44,21 @@ pub trait Growth {
         ensures { (first : Left) (old : Spans) (last : ℕ) (o n : Bool) → old.count ≡ from
             → Walks role first left.old (held_spans old) (held_spans spans.old) last o n
             → AreWordsRead role first left.new old spans.new o in_order.new result };
+}
+
+/// Puts a span behind the others. `false` if there is no room for it: in place there is room for 64, and room that grows
+/// ends where memory is refused.
+#[inline(always)]
+pub fn put<G: Growth>(spans: &mut Spans, span: Span) -> bool
+    ensures put { result ≡ true → held_spans spans.new ≡ held_spans spans.old ++ span ∷ [] }
+    ensures full { result ≡ false → (64 ≤ length (held_spans spans.old))
+        × (held_spans spans.new ≡ held_spans spans.old) }
+{
+    if spans.count >= MOST {
+        return G::put(spans, span.apart());
+    }
+    spans.put_in_place(span);
+    true
 }
 
 /// There is room in place alone, so nothing reaches an allocator.

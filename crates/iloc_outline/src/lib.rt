@@ -20,17 +20,13 @@
 
 pub mod blocks;
 pub mod fields;
-pub mod group;
 pub mod growth;
 pub mod identifier;
-pub mod more;
 pub mod other;
 pub mod outline;
 pub mod printing;
 pub mod reading;
 pub mod sorting;
-pub mod span;
-pub mod spans;
 pub mod transform;
 pub mod unicode;
 pub mod words;

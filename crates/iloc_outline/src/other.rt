@@ -1,15 +1,15 @@
 //! Reads what follows the singleton `x`, or another one than `t` and `u`.
-ghost use Rattle.std.specs.Prelude.{◌≡◌, ◌-◌, ◌<◌, ◌^◌, ℕ, Bool, [], ◌∷◌, true};
+ghost use Rattle.std.specs.Prelude.{◌≡◌, ◌-◌, ◌<◌, ℕ, Bool, [], ◌∷◌, true};
 ghost use Rattle.std.specs.Char.{to_ascii_lowercase};
 ghost use Rattle.iloc_spec_grammar.specs.Syntax.{code_x, is_other_singleton};
 ghost use Rattle.iloc_pieces.specs.Left.{IsSpanned, whole_text};
 ghost use Rattle.iloc_outline.specs.Reading.{FollowsSingleton, IsBodyAt, IsPrivateBody, IsPutOther, block_span};
 
-use crate::growth::Growth;
+use crate::growth::{Growth, put};
 use crate::reading::Found;
-use crate::span::{Role, Span};
-use crate::spans::Spans;
 use iloc_pieces::left::{Left, advance, is_between, is_last, is_private, is_single, is_subtag};
+use iloc_spans::span::{Role, Span};
+use iloc_spans::spans::Spans;
 
 // The rank of `x`.
 const LAST: u64 = 255;
@@ -31,7 +31,7 @@ pub fn read_private<G: Growth>(start: usize, left: &mut Left<'_>, spans: &mut Sp
                 role: Role::Singleton,
                 edited: false,
             };
-            if !spans.put::<G>(span) {
+            if !put::<G>(spans, span) {
                 return Found::Full;
             }
             return Found::End;
@@ -104,7 +104,7 @@ fn put_other<G: Growth>(
         role: Role::Singleton,
         edited,
     };
-    if !spans.put::<G>(span) {
+    if !put::<G>(spans, span) {
         return Found::Full;
     }
     found

@@ -1,5 +1,5 @@
 //! The outline of a text, as an identifier or as a locale.
-ghost use Rattle.std.specs.Prelude.{◌≡◌, ◌↔◌, ◌≤◌, ◌<◌, ◌+◌, [], IsTrue, length, take};
+ghost use Rattle.std.specs.Prelude.{◌≡◌, ◌↔◌, ◌≤◌, ◌<◌, IsTrue, length, take};
 ghost use Rattle.iloc_pieces.specs.Left.{bytes_left};
 ghost use Rattle.iloc_outline.specs.Outlines.{AreHeadRead, BeginsWithLanguage, IsFinished, IsIdentifierOutlined, IsLocaleOutlined};
 
@@ -7,12 +7,12 @@ use crate::blocks::{Blocks, read_blocks};
 use crate::growth::Growth;
 use crate::identifier::read_front;
 use crate::reading::Found;
-use crate::span::Role;
-use crate::spans::Spans;
 use crate::words::read_words;
 use iloc_pieces::front::first_len;
 use iloc_pieces::left::{self, Left, is_single, left_in};
 use iloc_pieces::words::is_language;
+use iloc_spans::span::Role;
+use iloc_spans::spans::Spans;
 use iloc_subtags::ParseError;
 
 /// The first bytes of a text in lower case, but for the first letter of a script and a region of two letters. Spans follow.

@@ -1,5 +1,5 @@
 //! Writes the normal text that an outline and spans give.
-ghost use Rattle.std.specs.Prelude.{List, ◌≡◌, ◌+◌, ◌-◌, ◌<◌, ◌≤◌, [], ◌∷◌, ◌++◌, codes, length, take, drop, slice_index, true};
+ghost use Rattle.std.specs.Prelude.{List, ◌≡◌, ◌+◌, ◌-◌, ◌<◌, ◌≤◌, ◌∷◌, ◌++◌, codes, length, take, drop, slice_index, true};
 ghost use Rattle.std.specs.Char.{to_ascii_lowercase};
 ghost use Rattle.std.specs.List.{AllByRecursion};
 ghost use Rattle.iloc_spec_grammar.specs.Syntax.{Text, dashes, lower, is_other_singleton, pieces};
@@ -12,10 +12,10 @@ ghost use Rattle.iloc_spec_grammar.specs.Reading.{rest_of};
 ghost use Rattle.iloc_outline.specs.Spans.{Spell};
 
 use crate::outline::Outline;
-use crate::span::{Role, Span};
-use crate::spans::Spans;
 use iloc_pieces::first_in_lower_case;
 use iloc_pieces::left::{Left, is_last, is_subtag, is_true, left_in, next};
+use iloc_spans::span::{Role, Span};
+use iloc_spans::spans::Spans;
 
 // Copies `count` bytes from `at` on in lower case. Up to sixteen bytes more are stored behind them.
 #[inline(always)]

@@ -1,17 +1,17 @@
 //! Reads what follows the singleton `t`.
-ghost use Rattle.std.specs.Prelude.{◌≡◌, ◌<◌, ◌^◌, false};
+ghost use Rattle.std.specs.Prelude.{◌≡◌, ◌<◌, false};
 ghost use Rattle.iloc_spec_grammar.specs.Syntax.{Language, code_t, is_word, languages};
 ghost use Rattle.iloc_pieces.specs.Left.{piece_left};
 ghost use Rattle.iloc_outline.specs.Reading.{FollowsSingleton, IsBodyAt, block_span};
 
 use crate::fields::read_fields;
-use crate::growth::Growth;
+use crate::growth::{Growth, put};
 use crate::identifier::read_front;
 use crate::reading::Found;
-use crate::span::{Role, Span};
-use crate::spans::Spans;
 use crate::words::read_words;
 use iloc_pieces::left::{Left, is_language, is_single};
+use iloc_spans::span::{Role, Span};
+use iloc_spans::spans::Spans;
 
 // The span of the singleton from one hyphen up to another.
 #[inline(always)]
@@ -44,7 +44,7 @@ pub fn read_transform<G: Growth>(
         return read_fields_alone::<G>(start, left, spans, in_order);
     }
     let front = read_front(left);
-    if !spans.put::<G>(singleton(start, front.end)) {
+    if !put::<G>(spans, singleton(start, front.end)) {
         return Found::Full;
     }
     if front.is_all {
@@ -72,7 +72,7 @@ fn read_fields_alone<G: Growth>(
     if is_single(*left) {
         return Found::Bad;
     }
-    if !spans.put::<G>(singleton(start, left.at - 1)) {
+    if !put::<G>(spans, singleton(start, left.at - 1)) {
         return Found::Full;
     }
     read_fields::<G>(Role::Field, left, spans, in_order).at_block(left)

@@ -3,12 +3,12 @@ ghost use Rattle.iloc_spec_grammar.specs.Syntax.{code_u};
 ghost use Rattle.iloc_outline.specs.Reading.{FollowsSingleton, IsBodyAt};
 
 use crate::fields::read_fields;
-use crate::growth::Growth;
+use crate::growth::{Growth, put};
 use crate::reading::Found;
-use crate::span::{Role, Span};
-use crate::spans::Spans;
 use crate::words::read_words;
 use iloc_pieces::left::{Left, is_single};
+use iloc_spans::span::{Role, Span};
+use iloc_spans::spans::Spans;
 
 /// Reads attributes and keywords, one at least, up to the next block. The singleton begins at the hyphen at `start`.
 #[inline(always)]
@@ -32,7 +32,7 @@ pub fn read_unicode<G: Growth>(
         role: Role::Singleton,
         edited: false,
     };
-    if !spans.put::<G>(singleton) {
+    if !put::<G>(spans, singleton) {
         return Found::Full;
     }
     let found = match read_words::<G>(Role::Attribute, left, spans, in_order) {

@@ -3,19 +3,20 @@ ghost use Rattle.std.specs.Prelude.{◌≡◌, ◌⊎◌, ◌≤◌, ◌++◌, �
 ghost use Rattle.iloc_spec_grammar.specs.Syntax.{IsWord, is_word};
 ghost use Rattle.iloc_pieces.specs.Left.{IsLater, piece_left};
 ghost use Rattle.iloc_outline.specs.Gathering.{Walks};
-ghost use Rattle.iloc_outline.specs.Group.{group_spans};
+ghost use Rattle.iloc_spans.specs.Group.{group_spans};
 ghost use Rattle.iloc_outline.specs.Reading.{AreWordsRead, IsOfWord, role_kind, word_span};
-ghost use Rattle.iloc_outline.specs.Spans.{held_spans};
-ghost use Rattle.iloc_outline.specs.declared.spans.Spans.{Spans};
+ghost use Rattle.iloc_spans.specs.Spans.{held_spans};
+ghost use Rattle.iloc_spans.specs.declared.spans.Spans.{Spans};
 ghost use Rattle.iloc_pieces.specs.declared.cursor.Left.{Left};
 
-use crate::group::Group;
 use crate::growth::Growth;
 use crate::reading::Found;
-use crate::sorting::{Inserted, put_from};
-use crate::span::{Role, Span};
-use crate::spans::Spans;
+use crate::sorting::put_from;
 use iloc_pieces::left::{Left, advance, is_attribute, is_last, is_variant, word_number};
+use iloc_spans::group::Group;
+use iloc_spans::inserting::Inserted;
+use iloc_spans::span::{Role, Span};
+use iloc_spans::spans::Spans;
 
 // Whether the piece is a word of this role.
 #[inline(always)]

@@ -1,25 +1,9 @@
 //! What is left of a text, from a piece on.
-ghost use Rattle.std.specs.Prelude.{◌≡◌, ◌≢◌, ◌↔◌, ◌+◌, ◌≤◌, ◌<◌, [], ◌∷◌, ◌++◌, IsTrue, true, length, take, drop, slice_index};
+ghost use Rattle.std.specs.Prelude.{◌≡◌, ◌≢◌, ◌↔◌, ◌+◌, ◌≤◌, ◌<◌, true, length, take, drop, slice_index};
 ghost use Rattle.std.specs.Char.{is_ascii_alphanumeric, to_ascii_lowercase};
 ghost use Rattle.std.specs.Int.{is_in_range};
-ghost use Rattle.iloc_spec_grammar.specs.Syntax.{
-  Attribute,
-  IsWord,
-  Language,
-  PrivateSubtag,
-  Region,
-  Script,
-  Subtag,
-  TransformKey,
-  UnicodeKey,
-  Variant,
-  is_one_byte,
-  is_true,
-  is_word,
-  languages,
-  lower,
-};
-ghost use Rattle.iloc_pieces.specs.Left.{IsNextPiece, IsShortPiece, piece_left, pieces_left, bytes_left};
+ghost use Rattle.iloc_spec_grammar.specs.Syntax.{Attribute, Language, PrivateSubtag, Region, Script, Subtag, TransformKey, UnicodeKey, Variant, is_one_byte, is_true, is_word, languages, lower};
+ghost use Rattle.iloc_pieces.specs.Left.{IsNextPiece, IsShortPiece, piece_left, bytes_left};
 ghost use Rattle.iloc_pieces.specs.Marks.{AreMarksSeen};
 ghost use Rattle.iloc_pieces.specs.Words.{IsUpToEight, word_number};
 

@@ -1,5 +1,5 @@
 //! What up to sixteen bytes of a text are, as bit masks.
-ghost use Rattle.std.specs.Prelude.{◌≡◌, ◌≢◌, ◌+◌, ◌<◌, ◌≤◌, ◌-◌, ℕ, length, take, drop};
+ghost use Rattle.std.specs.Prelude.{◌≡◌, ◌+◌, ◌<◌, ◌≤◌, ◌-◌, ℕ, length, take, drop};
 ghost use Rattle.iloc_spec_grammar.specs.Syntax.{Text};
 ghost use Rattle.iloc_pieces.specs.Marks.{AreKnown, AreMarks, closed};
 

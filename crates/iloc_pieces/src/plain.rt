@@ -2,6 +2,7 @@
 ghost use Rattle.std.specs.Prelude.{◌≡◌, ◌≤◌, length, take, drop};
 ghost use Rattle.iloc_spec_grammar.specs.Syntax.{languages};
 ghost use Rattle.iloc_spec_grammar.specs.Values.{IsIdentifierValue, identifier_text};
+ghost use Rattle.iloc_pieces.specs.Plain.{AreWords, value_of};
 
 use iloc_tinystr::ShortPiece;
 use std::simd::prelude::*;
@@ -22,8 +23,6 @@ pub struct Plain {
 }
 
 impl Plain {
-    ghost use Rattle.iloc_pieces.specs.Plain.{AreWords, value_of};
-
     /// Stores sixteen bytes at the beginning of the room: the normal text, and something after it.
     #[inline(always)]
     pub fn store(&self, room: &mut [u8])

@@ -9,8 +9,8 @@ use Rattle.iloc_normalize.specs.declared.Mode.{Mode}
 use Rattle.iloc_normalize.specs.declared.Mode.TheVariants.{Langid, Locale, Data}
 use Rattle.iloc_faults.specs.Places.{IsAccepted, IsFault}
 use Rattle.iloc_faults.specs.declared.Fault.{Fault}
-use Rattle.iloc_lines.specs.Answers.{reply}
-use Rattle.iloc_lines.proofs.PlainLemmas.{normal_reply}
+use Rattle.iloc_program.specs.Answers.{reply}
+use Rattle.iloc_program.proofs.PlainLemmas.{normal_reply}
 use Rattle.iloc_program.specs.declared.numbered.Listing.{Listing}
 use Rattle.iloc_program.specs.Numbered.{AddsText}
 use Rattle.iloc_program.specs.Listing.{IsEntry, accepted_entry, refused_entry}

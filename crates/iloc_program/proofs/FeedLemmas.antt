@@ -3,8 +3,8 @@ use Rattle.std.proofs.Common.{◌≡◌, ◌≢◌, ℕ, ◌+◌, ◌<◌, List,
 use Rattle.std.proofs.Common.{arith, append_assoc, append-nil, length-append}
 use Rattle.std.specs.Prelude.{Result, Ok, Err, OnOk, IfOk}
 use Rattle.std.proofs.lemmas.List.Elements.{All-nil, All-append}
-use Rattle.iloc_lines.specs.Lines.{lines_of, ended, IsOneLine}
-use Rattle.iloc_lines.proofs.LineCuts.{lines_of-last}
+use Rattle.iloc_program.specs.Lines.{lines_of, ended, IsOneLine}
+use Rattle.iloc_program.proofs.LineCuts.{lines_of-last}
 use Rattle.iloc_program.specs.Numbered.{AddsText, AreEntries}
 use Rattle.iloc_program.specs.Feeding.{Feeds, Ends}
 use Rattle.iloc_program.proofs.LineEntries.{AreEntries-append, AreEntries-one, ended-append}

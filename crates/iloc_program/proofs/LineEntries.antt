@@ -2,8 +2,8 @@
 use Rattle.std.proofs.Common.{◌≡◌, ℕ, suc, ◌+◌, List, [], ◌∷◌, ◌++◌, length, refl, sym, ap, ◌∙◌, subst, arith}
 use Rattle.std.proofs.Common.{append_assoc, append-nil, add-zero}
 use Rattle.std.specs.List.{AllByRecursion}
-use Rattle.iloc_lines.specs.Lines.{lines_of, ended, IsOneLine}
-use Rattle.iloc_lines.proofs.LineCuts.{lines_of-cut}
+use Rattle.iloc_program.specs.Lines.{lines_of, ended, IsOneLine}
+use Rattle.iloc_program.proofs.LineCuts.{lines_of-cut}
 use Rattle.iloc_program.specs.Numbered.{AreEntries}
 use Rattle.iloc_spec_grammar.specs.Syntax.{Text}
 

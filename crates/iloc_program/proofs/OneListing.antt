@@ -19,10 +19,10 @@ use Rattle.iloc_normalize.specs.declared.Mode.TheVariants.{Langid, Locale, Data}
 use Rattle.iloc_faults.specs.Places.{IsFault}
 use Rattle.iloc_faults.specs.declared.Fault.{Fault}
 use Rattle.iloc_faults.proofs.OnePlace.{one_place}
-use Rattle.iloc_lines.specs.Lines.{lines_of}
-use Rattle.iloc_lines.specs.Answers.{IsOutput, reply}
-use Rattle.iloc_lines.proofs.OutputLaws.{is_output, only_answer}
-use Rattle.iloc_lines.proofs.PlainLemmas.{normal_reply, refused_reply}
+use Rattle.iloc_program.specs.Lines.{lines_of}
+use Rattle.iloc_program.specs.Answers.{IsOutput, reply}
+use Rattle.iloc_program.proofs.OutputLaws.{is_output, only_answer}
+use Rattle.iloc_program.proofs.PlainLemmas.{normal_reply, refused_reply}
 use Rattle.iloc_program.specs.declared.numbered.Listing.{Listing}
 use Rattle.iloc_program.specs.Numbered.{AreEntries, IsListing}
 use Rattle.iloc_program.specs.Listing.{IsEntry, accepted_entry, refused_entry, nothing_asked}

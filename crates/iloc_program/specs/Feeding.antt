@@ -3,7 +3,7 @@
 use Rattle.std.specs.Prelude.{◌≡◌, ℕ, ◌+◌, List, ◌++◌, length}
 use Rattle.std.specs.List.{AllByRecursion}
 use Rattle.iloc_spec_grammar.specs.Syntax.{Text}
-use Rattle.iloc_lines.specs.Lines.{lines_of, ended, IsOneLine}
+use Rattle.iloc_program.specs.Lines.{lines_of, ended, IsOneLine}
 use Rattle.iloc_program.specs.Numbered.{AreEntries, IsListing}
 
 -- The pending bytes and the piece are lines that end, whose entries were added, and what is pending

@@ -9,7 +9,7 @@ use Rattle.iloc_normalize.specs.Modes.{IsNormalText}
 use Rattle.iloc_normalize.specs.declared.Mode.{Mode}
 use Rattle.iloc_faults.specs.Places.{IsFault}
 use Rattle.iloc_faults.specs.declared.Fault.{Fault}
-use Rattle.iloc_lines.specs.Answers.{refusal_text}
+use Rattle.iloc_program.specs.Answers.{refusal_text}
 use Rattle.iloc_program.specs.declared.numbered.Listing.{Listing}
 
 -- A byte by its two digits: `\x`, and the digits in base 16.

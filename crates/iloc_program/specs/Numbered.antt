@@ -4,7 +4,7 @@ use Rattle.std.specs.Prelude.{◌≡◌, ℕ, ◌+◌, List, [], ◌∷◌, ◌+
 use Rattle.std.specs.Io.{StartsWith}
 use Rattle.std.specs.Io.KnownBytes.{Appends, Consumes, IsAtEnd}
 use Rattle.iloc_spec_grammar.specs.Syntax.{Text}
-use Rattle.iloc_lines.specs.Lines.{lines_of}
+use Rattle.iloc_program.specs.Lines.{lines_of}
 
 -- A text that meets this was added.
 abbrev pub AddsText : (Text → Type 0) → Text → Text → Type 0

@@ -1,13 +1,13 @@
 //! What is written for one line.
 ghost use Rattle.std.specs.Prelude.{◌≡◌, ◌≤◌, ◌++◌, length, OnOk, if◌then◌else◌, []};
-ghost use Rattle.iloc_lines.specs.ReplyBlock.{held};
-ghost use Rattle.iloc_program.specs.Listing.{number_column, place_columns, refused_entry};
+ghost use Rattle.iloc_program.specs.ReplyBlock.{held};
+ghost use Rattle.iloc_program.specs.Listing.{number_column, place_columns, refused_entry, IsEntry};
 
 use crate::numbered::{Listing, Lists};
 use crate::quoting::{write_decimal, write_shown};
+use crate::{InMode, ReplyBlock, reply_line};
 use iloc_faults::{Fault, fault_of};
-use iloc_lines::{InMode, ReplyBlock, reply_line};
-use iloc_outline::spans::Spans;
+use iloc_spans::spans::Spans;
 use std::alloc::{AllocError, Global};
 
 /// Answers lines in the mode of these answers, and lists what becomes of them. It keeps its room from line to line.
@@ -31,8 +31,6 @@ impl<A> Listed<A> {
 }
 
 impl<A: InMode> Lists for Listed<A> {
-    ghost use Rattle.iloc_program.specs.Listing.{IsEntry};
-
     ghost is_entry = { IsEntry A.mode };
 
     fn list(

@@ -1,11 +1,70 @@
-//! Laws of the definitions: what is written for an input is one text, and without options the output.
+//! Laws of the definitions: the answers to lines and the output for an input are those that the grammar allows; what is
+//! written for an input is one text, and without options the output.
+ghost use Rattle.std.specs.Prelude.{◌≡◌, ◌<◌, [], ◌∷◌, ◌++◌, length, codes};
+ghost use Rattle.iloc_spec_grammar.specs.Syntax.{Text, LanguageLengths, AreLengths, languages};
+ghost use Rattle.iloc_program.specs.Lines.{IsOneLine, ReadsEnded, ReadsOpen, IsEndedOrOpen};
+ghost use Rattle.iloc_program.specs.Answers.{IsAnswer, IsOutput, line_answer, reply, output};
+ghost use Rattle.iloc_normalize.specs.declared.Mode.{Mode};
+ghost use Rattle.iloc_normalize.specs.declared.Mode.TheVariants.{Langid, Locale, Data};
 ghost use Rattle.std.specs.Prelude.{◌≡◌, ℕ};
 ghost use Rattle.iloc_spec_grammar.specs.Syntax.{Text, languages};
-ghost use Rattle.iloc_lines.specs.Answers.{IsOutput};
+ghost use Rattle.iloc_program.specs.Answers.{IsOutput};
 ghost use Rattle.iloc_program.specs.Numbered.{IsListing};
 ghost use Rattle.iloc_program.specs.declared.numbered.Listing.{Listing};
 ghost use Rattle.iloc_program.specs.Listing.{IsEntry, nothing_asked};
-ghost use Rattle.iloc_normalize.specs.declared.Mode.{Mode};
+
+/// What is computed of a line is its one answer in the words of the grammar.
+pub fn line_answers()
+    ensures is { (T : LanguageLengths) → AreLengths T → (mode : Mode) (line : Text)
+        → IsAnswer T mode line (line_answer T mode line) }
+    ensures only { (T : LanguageLengths) → AreLengths T → (mode : Mode) (line answer : Text)
+        → IsAnswer T mode line answer → answer ≡ line_answer T mode line }
+{}
+
+/// What is computed of an input is its one output.
+pub fn outputs()
+    ensures is { (T : LanguageLengths) → AreLengths T → (mode : Mode) (input : Text)
+        → IsOutput T mode input (output T mode input) }
+    ensures only { (T : LanguageLengths) → AreLengths T → (mode : Mode) (input written : Text)
+        → IsOutput T mode input written → written ≡ output T mode input }
+{}
+
+/// Lines are cut at each newline, and a last one without a newline counts if it isn't empty; so the output goes on line by line.
+pub fn lines()
+    ensures ended { ReadsEnded }
+    ensures open { ReadsOpen }
+    ensures all { IsEndedOrOpen }
+    ensures line { (T : LanguageLengths) (mode : Mode) (line rest : Text) → IsOneLine line
+        → output T mode (line ++ 10 ∷ rest) ≡ reply T mode line ++ output T mode rest }
+    ensures last { (T : LanguageLengths) (mode : Mode) (line : Text) → IsOneLine line
+        → 0 < length line
+        → output T mode line ≡ reply T mode line }
+    ensures cut { (T : LanguageLengths) (mode : Mode) (pending piece line later next : Text)
+        → IsOneLine pending → IsOneLine line → piece ≡ line ++ 10 ∷ later
+        → output T mode (pending ++ (piece ++ next))
+        ≡ reply T mode (pending ++ line) ++ output T mode (later ++ next) }
+{}
+
+/// Worked inputs.
+pub fn by_example()
+    ensures locales { output languages Locale (codes "en-us" ++ (10 ∷ (10 ∷ codes "EN")))
+        ≡ (codes "en-US"
+        ++ 10 ∷ (codes "! The given language subtag is invalid" ++ 10 ∷ (codes "en" ++ 10 ∷ []))) }
+    ensures nothing { output languages Locale [] ≡ [] }
+    ensures carriage_return { output languages Langid (codes "en" ++ (13 ∷ (10 ∷ [])))
+        ≡ (codes "! The given language subtag is invalid" ++ 10 ∷ []) }
+    ensures identifiers { output languages Langid
+        (codes "EN-latn-us-POSIX-macos" ++ 10 ∷ (codes "en-u-ca" ++ 10 ∷ []))
+        ≡ (codes "en-Latn-US-macos-posix" ++ 10 ∷ (codes "! Invalid subtag" ++ 10 ∷ [])) }
+    ensures extensions { output languages Locale
+        (codes "en-u-ca-foo-a-bar"
+        ++ 10 ∷ (codes "en-a-foo-a-bar" ++ 10 ∷ (codes "en-u" ++ 10 ∷ [])))
+        ≡ (codes "en-a-bar-u-ca-foo"
+        ++ 10 ∷ (codes "! Duplicated extension" ++ 10 ∷ (codes "! Invalid extension" ++ 10 ∷ []))) }
+    ensures data_locales { output languages Data
+        (codes "und-u-sd-sdd" ++ 10 ∷ (codes "en-u" ++ 10 ∷ []))
+        ≡ (codes "und-SD-u-sd-sdd" ++ 10 ∷ (codes "! Invalid extension" ++ 10 ∷ [])) }
+{}
 
 /// Two listings of one input are equal.
 pub fn one_listing()

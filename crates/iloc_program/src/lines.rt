@@ -1,18 +1,28 @@
-//! Lines that come in pieces, and what is written for each.
-ghost use Rattle.std.specs.Prelude.{◌≡◌, ◌+◌, ◌<◌, [], ◌∷◌, ◌++◌, IfOk, OnOk, OnErr, IsOkUnless, MatchOption, vec_len};
+//! Lines that come in pieces, and their replies.
+ghost use Rattle.std.specs.Prelude.{◌≡◌, ◌+◌, ◌≤◌, [], ◌∷◌, ◌++◌, take, length, map, IfSome, MatchOption, IfOk, OnOk, OnErr, IsOkUnless, ◌<◌, vec_len};
 ghost use Rattle.std.specs.Io.KnownBytes.{Appends};
 ghost use Rattle.iloc_writeable.specs.Growth.{AddsBeginning};
-ghost use Rattle.iloc_lines.specs.Lines.{IsLineEnd, IsOneLine};
-ghost use Rattle.iloc_lines.specs.ReplyBlock.{held};
-ghost use Rattle.iloc_lines.specs.declared.RunError.TheVariants as RunError;
-ghost use Rattle.iloc_program.specs.Numbered.{AddsText};
-ghost use Rattle.iloc_program.specs.Feeding.{Feeds, Ends};
+ghost use Rattle.iloc_program.specs.ReplyBlock.{held};
+ghost use Rattle.iloc_normalize.specs.Answered.{IsLead};
+ghost use Rattle.iloc_program.specs.Lines.{IsLineEnd, IsOneLine};
+ghost use Rattle.iloc_pieces.specs.Plain.{IsPlain};
+ghost use Rattle.std.specs.Simd.Lanes.{mask_l};
+ghost use Rattle.iloc_spec_grammar.specs.Syntax.{Text, languages};
+ghost use Rattle.iloc_program.specs.Answers.{reply, output};
+ghost use Rattle.memchr.specs.Find.{Nowhere, Passes, is_byte};
 
-use crate::numbered::{Listing, Lists};
-use iloc_lines::{ReplyBlock, RunError};
+use crate::RunError;
+use crate::modes::InMode;
+use crate::replies::write_refusal;
+use crate::reply_block::ReplyBlock;
+use iloc_normalize::{Lead, Mode, Written, read_found, read_lead};
+use iloc_pieces::{Plain, may_begin, read_plain};
+use iloc_spans::spans::Spans;
+use iloc_subtags::ParseError;
 use memchr::memchr_iter;
 use std::alloc::{AllocError, Global};
 use std::io::Write;
+use std::simd::prelude::*;
 
 // The bytes that are asked of the reader at once.
 const BLOCK: usize = 65536;
@@ -24,8 +34,70 @@ pub(crate) fn new_block(alloc: Global) -> Result<Vec<u8>, AllocError>
     vec![in alloc; 0u8; BLOCK]
 }
 
+// A bit for each newline among sixteen bytes.
+#[inline(always)]
+fn line_ends(lanes: u8x16) -> u64
+    ensures { result ≡ mask_l (map (is_byte 10) lanes) }
+{
+    lanes.simd_eq(u8x16::splat(10)).to_bitmask()
+}
+
+// A bit for each newline among 32 bytes.
+#[inline(always)]
+fn wide_line_ends(lanes: u8x32) -> u64
+    ensures { result ≡ mask_l (map (is_byte 10) lanes) }
+{
+    lanes.simd_eq(u8x32::splat(10)).to_bitmask()
+}
+
+// Where the first newline stands, or how many bytes there are if none does. Most lines end within sixteen bytes, and
+// most others within 32.
+#[inline(always)]
+fn line_end(bytes: &[u8]) -> usize
+    ensures { IsLineEnd bytes.now result }
+{
+    if bytes.len() >= 32 {
+        let ends = line_ends(u8x16::from_slice(bytes));
+        if ends > 0 {
+            return ends.trailing_zeros() as usize;
+        }
+        let later = line_ends(u8x16::from_slice(&bytes[16..]));
+        if later > 0 {
+            return 16 + later.trailing_zeros() as usize;
+        }
+    }
+    line_end_later(bytes)
+}
+
+// Where the first newline stands if none is among the first 32. It is a call of its own, so that shorter lines pay
+// nothing.
+#[inline(never)]
+fn line_end_later(bytes: &[u8]) -> usize
+    requires { 32 ≤ length bytes.now → Nowhere (Passes (is_byte 10) bytes.now) 0 32 }
+    ensures { IsLineEnd bytes.now result }
+{
+    if bytes.len() >= 64 {
+        let ends = wide_line_ends(u8x32::from_slice(&bytes[32..]));
+        if ends > 0 {
+            return 32 + ends.trailing_zeros() as usize;
+        }
+    }
+    line_end_beyond(bytes)
+}
+
+// Where the first newline stands among any bytes.
+#[inline(never)]
+fn line_end_beyond(bytes: &[u8]) -> usize
+    ensures { IsLineEnd bytes.now result }
+{
+    match memchr_iter(b'\n', bytes).next() {
+        Some(end) => end,
+        None => bytes.len(),
+    }
+}
+
 // The first line and what follows its newline, if the newline is there.
-fn split_line(bytes: &[u8]) -> Option<(&[u8], &[u8])>
+pub(crate) fn split_line(bytes: &[u8]) -> Option<(&[u8], &[u8])>
     ensures { MatchOption result (IsOneLine bytes.now)
         (λ parts. IsOneLine parts.0.now × (bytes.now ≡ parts.0.now ++ 10 ∷ parts.1.now)) }
 {
@@ -36,85 +108,215 @@ fn split_line(bytes: &[u8]) -> Option<(&[u8], &[u8])>
     Some((&bytes[..end], &bytes[end + 1..]))
 }
 
-// Where the first newline stands, or how many bytes there are if none does.
-fn line_end(bytes: &[u8]) -> usize
-    ensures { IsLineEnd bytes.now result }
+// What the line is that this window begins with, if it is plain. Sixteen bytes behind it may be loaded.
+#[inline(always)]
+fn plain_line(window: &[u8], len: usize) -> Option<Plain>
+    requires { len + 16 ≤ length window.now }
+    ensures { IfSome result (IsPlain (take len window.now)) }
 {
-    match memchr_iter(b'\n', bytes).next() {
-        Some(end) => end,
-        None => bytes.len(),
+    if len > 16 {
+        return None;
+    }
+    read_plain(window, len)
+}
+
+// What the beginning of the line tells that this window begins with. It is generic, so that each mode has its own and only
+// what that asks is left of it. Sixteen bytes behind the line may be loaded.
+#[inline(always)]
+fn lead_of<A: InMode>(answers: &A, window: &[u8], len: usize) -> Lead
+    requires { len + 16 ≤ length window.now }
+    ensures { IsLead A.mode (take len window.now) result }
+{
+    let mode = answers.mode();
+    match read_found(mode, window, len) {
+        Some(lead) => lead,
+        None => read_lead(mode, window, len),
     }
 }
 
-// Adds what is written for the line that is pending and ends so, and returns the number of the next one. It gives up at
-// a number that has no next.
-fn end_line<L: Lists>(
-    lists: &mut L,
-    listing: Listing,
-    number: u64,
-    pending: &mut Vec<u8>,
-    end: &[u8],
+// Adds the reply to the line that this window begins with, of which the beginning tells this. Sixteen bytes behind the line
+// may be loaded. The spans are room for the outline of a line. Nothing is written only if memory is refused.
+#[inline(always)]
+fn reply_as(
+    mode: Mode,
+    lead: Lead,
+    window: &[u8],
+    len: usize,
+    spans: &mut Spans,
     replies: &mut ReplyBlock,
-) -> Result<u64, RunError>
-    ensures next { IfOk result (λ next. next ≡ number + 1) }
-    ensures pending { OnOk result (pending.new.items ≡ []) }
-    ensures replies { OnOk result (AddsText
-        (L.is_entry listing number (pending.old.items ++ end.now))
-        (held replies.old) (held replies.new)) }
+) -> Result<(), AllocError>
+    requires wide { len + 16 ≤ length window.now }
+    requires lead { IsLead mode (take len window.now) lead }
+    ensures { OnOk result (held replies.new
+        ≡ held replies.old ++ reply languages mode (take len window.now)) }
 {
-    let Some(next) = number.checked_add(1) else {
-        return Err(RunError::Read);
-    };
-    if pending.is_empty() {
-        lists.list(listing, number, end, replies)?;
-        return Ok(next);
+    if let Lead::Refused(error) = lead {
+        return write_refusal(error, replies);
     }
-    pending.extend_from_slice(end)?;
-    lists.list(listing, number, pending.as_slice(), replies)?;
-    pending.clear();
-    Ok(next)
+    match replies.push_answered(mode, lead, window, len, spans)? {
+        Written::Normal(_) => Ok(()),
+        Written::Refused(error) => write_refusal(error, replies),
+        Written::Nothing => Err(AllocError),
+    }
 }
 
-// Adds what is written for the lines that this piece of the input ends, keeps the start of the next line, and returns
-// its number.
-pub(crate) fn feed<L: Lists>(
-    lists: &mut L,
-    listing: Listing,
-    number: u64,
+// Adds the reply to the line that this window begins with. Sixteen bytes behind the line may be loaded. It is called from one
+// place only, since `lead_of` is too large to be inlined in two.
+#[inline(always)]
+fn reply_to<A: InMode>(
+    answers: &A,
+    window: &[u8],
+    len: usize,
+    spans: &mut Spans,
+    replies: &mut ReplyBlock,
+) -> Result<(), AllocError>
+    requires { len + 16 ≤ length window.now }
+    ensures { OnOk result (held replies.new
+        ≡ held replies.old ++ reply languages A.mode (take len window.now)) }
+{
+    let lead = lead_of(answers, window, len);
+    reply_as(answers.mode(), lead, window, len, spans, replies)
+}
+
+// Adds the reply to the line that this window begins with, in a mode that is only known when it runs. So the call is one for
+// all modes. Sixteen bytes behind the line may be loaded.
+#[inline(always)]
+fn reply_in(
+    mode: Mode,
+    window: &[u8],
+    len: usize,
+    spans: &mut Spans,
+    replies: &mut ReplyBlock,
+) -> Result<(), AllocError>
+    requires { len + 16 ≤ length window.now }
+    ensures { OnOk result (held replies.new
+        ≡ held replies.old ++ reply languages mode (take len window.now)) }
+{
+    match plain_line(window, len) {
+        Some(plain) => replies.push_plain(&plain),
+        None => {
+            let lead = read_lead(mode, window, len);
+            reply_as(mode, lead, window, len, spans, replies)
+        }
+    }
+}
+
+// Adds the reply to the line that is pending, and forgets the line. Sixteen bytes are put behind it, which may be loaded.
+#[inline(never)]
+fn end_pending(
+    mode: Mode,
+    pending: &mut Vec<u8>,
+    spans: &mut Spans,
+    replies: &mut ReplyBlock,
+) -> Result<(), AllocError>
+    ensures replies { OnOk result
+        (held replies.new ≡ held replies.old ++ reply languages mode pending.old.items) }
+    ensures pending { OnOk result (pending.new.items ≡ []) }
+{
+    let len = pending.len();
+    pending.extend_from_slice(&[0; 16])?;
+    reply_in(mode, pending.as_slice(), len, spans, replies)?;
+    pending.clear();
+    Ok(())
+}
+
+/// Adds the reply to one line, wherever it stands. It is copied to the room, which is empty afterwards. The spans are room for
+/// the outline of the line.
+#[inline(never)]
+pub fn reply_line(
+    mode: Mode,
+    line: &[u8],
+    room: &mut Vec<u8>,
+    spans: &mut Spans,
+    replies: &mut ReplyBlock,
+) -> Result<(), AllocError>
+    ensures replies { OnOk result
+        (held replies.new ≡ held replies.old ++ reply languages mode line.now) }
+    ensures room { OnOk result (room.new.items ≡ []) }
+{
+    room.clear();
+    room.extend_from_slice(line)?;
+    end_pending(mode, room, spans, replies)
+}
+
+// Adds the replies to the lines that these bytes end, if nothing is pending, and keeps the start of
+// the next line. A line near the end of the bytes is answered in the room of what is pending.
+fn feed_lines<A: InMode>(
+    answers: &A,
+    pending: &mut Vec<u8>,
+    bytes: &[u8],
+    spans: &mut Spans,
+    replies: &mut ReplyBlock,
+) -> Result<(), AllocError>
+    requires { pending.old.items ≡ [] }
+    ensures one_line { OnOk result (IsOneLine pending.new.items) }
+    ensures ahead { OnOk result ((next : Text) →
+        held replies.old ++ output languages A.mode (bytes.now ++ next)
+        ≡ held replies.new ++ output languages A.mode (pending.new.items ++ next)) }
+{
+    let mut rest = bytes;
+    'lines: loop {
+        let end = line_end(rest);
+        let (line, later) = rest.split_at(end);
+        if later.len() < 16 {
+            if later.is_empty() {
+                break 'lines;
+            }
+            reply_line(answers.mode(), line, pending, spans, replies)?;
+        } else if !may_begin(rest, end) {
+            write_refusal(ParseError::InvalidLanguage, replies)?;
+        } else if let Some(plain) = plain_line(rest, end) {
+            replies.push_plain(&plain)?;
+        } else {
+            reply_to(answers, rest, end, spans, replies)?;
+        }
+        rest = &later[1..];
+    }
+    pending.extend_from_slice(rest)
+}
+
+// Adds the replies to the lines that this piece of the input ends, and keeps the start of the next line.
+// What is pending is answered first, so that no other line asks for it.
+pub(crate) fn feed<A: InMode>(
+    answers: &A,
     pending: &mut Vec<u8>,
     piece: &[u8],
+    spans: &mut Spans,
     replies: &mut ReplyBlock,
-) -> Result<u64, RunError>
+) -> Result<(), AllocError>
     requires { IsOneLine pending.old.items }
-    ensures { IfOk result (Feeds (L.is_entry listing) number pending.old.items piece.now
-        (held replies.old) (held replies.new) pending.new.items) }
-{
-    let mut rest = piece;
-    let mut next = number;
-    'lines: while let Some((line, later)) = split_line(rest) {
-        next = end_line(lists, listing, next, pending, line, replies)?;
-        rest = later;
-    }
-    pending.extend_from_slice(rest)?;
-    Ok(next)
-}
-
-// Adds what is written for a last line without a newline, if there is one, and returns the number of the next one.
-pub(crate) fn finish<L: Lists>(
-    lists: &mut L,
-    listing: Listing,
-    number: u64,
-    pending: &mut Vec<u8>,
-    replies: &mut ReplyBlock,
-) -> Result<u64, RunError>
-    requires { IsOneLine pending.old.items }
-    ensures { IfOk result (Ends (L.is_entry listing) number pending.old.items
-        (held replies.old) (held replies.new)) }
+    ensures one_line { OnOk result (IsOneLine pending.new.items) }
+    // Whatever comes next, the replies to it all are these and what is still to come.
+    ensures ahead { OnOk result ((next : Text) →
+        held replies.old ++ output languages A.mode (pending.old.items ++ (piece.now ++ next))
+        ≡ held replies.new ++ output languages A.mode (pending.new.items ++ next)) }
 {
     if pending.is_empty() {
-        return Ok(number);
+        return feed_lines(answers, pending, piece, spans, replies);
     }
-    end_line(lists, listing, number, pending, &[], replies)
+    let Some((line, later)) = split_line(piece) else {
+        return pending.extend_from_slice(piece);
+    };
+    pending.extend_from_slice(line)?;
+    end_pending(answers.mode(), pending, spans, replies)?;
+    feed_lines(answers, pending, later, spans, replies)
+}
+
+// Adds the reply to a last line without a newline, if there is one.
+pub(crate) fn finish<A: InMode>(
+    answers: &A,
+    pending: &mut Vec<u8>,
+    spans: &mut Spans,
+    replies: &mut ReplyBlock,
+) -> Result<(), AllocError>
+    requires { IsOneLine pending.old.items }
+    ensures { OnOk result (held replies.new
+        ≡ held replies.old ++ output languages A.mode pending.old.items) }
+{
+    if pending.is_empty() {
+        return Ok(());
+    }
+    end_pending(answers.mode(), pending, spans, replies)
 }
 
 // Writes all of it, by as many calls as the writer takes. A write of no bytes is an error, and no error is tried again.
@@ -122,6 +324,7 @@ pub(crate) fn write_whole<W: Write>(writer: &mut W, bytes: &[u8]) -> Result<(), 
     ensures ok { OnOk result (Appends (W.contents writer.old) (W.contents writer.new) bytes.now) }
     ensures err { OnErr result
         (AddsBeginning (W.contents writer.old) (W.contents writer.new) bytes.now) }
+    ensures error { IsOkUnless result RunError.Write }
 {
     match iloc_writeable::write_whole(writer, bytes) {
         Ok(()) => Ok(()),

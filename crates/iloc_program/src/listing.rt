@@ -6,7 +6,7 @@ ghost use Rattle.iloc_program.specs.Listing.{IsEntry};
 
 use crate::entries::Listed;
 use crate::numbered::{Listing, run_numbered};
-use iloc_lines::{DataLocales, Identifiers, Locales, Mode, RunError};
+use crate::{DataLocales, Identifiers, Locales, Mode, RunError};
 use std::alloc::Global;
 use std::io::{Read, Write};
 

@@ -4,11 +4,12 @@
 //! that lines are numbered from the given number on (`specs/Numbered.antt`). What is written for one line, `entries` says.
 //! Memory is as long as the longest line and what is written for 64 KiB.
 ghost use Rattle.std.specs.Prelude.{ℕ, IfOk, OnOk, OnErr};
-ghost use Rattle.iloc_lines.specs.ReplyBlock.{held};
+ghost use Rattle.iloc_program.specs.ReplyBlock.{held};
 ghost use Rattle.iloc_program.specs.Numbered.{AddsText, ListsAll, ListsBeginning};
+ghost use Rattle.iloc_spec_grammar.specs.Syntax.{Text};
+ghost use Rattle.iloc_program.specs.declared.numbered.Listing.{Listing};
 
-use crate::lines;
-use iloc_lines::{ReplyBlock, RunError};
+use crate::{ReplyBlock, RunError, lines, listed_lines};
 use std::alloc::{AllocError, Global};
 use std::io::{Read, Write};
 
@@ -25,9 +26,6 @@ pub struct Listing {
 
 /// What is written for lines.
 pub trait Lists {
-    ghost use Rattle.iloc_spec_grammar.specs.Syntax.{Text};
-    ghost use Rattle.iloc_program.specs.declared.numbered.Listing.{Listing};
-
     ghost is_entry: { Listing → ℕ → Text → Text → Type 0 };
 
     /// Adds what is written for the line of that number.
@@ -70,12 +68,12 @@ pub fn run_numbered<L: Lists, R: Read, W: Write>(
             return Err(RunError::Read);
         };
         if count == 0 {
-            let next = lines::finish(lists, listing, number, &mut pending, &mut replies)?;
+            let next = listed_lines::finish(lists, listing, number, &mut pending, &mut replies)?;
             lines::write_whole(writer, replies.as_slice())?;
             return Ok(next);
         }
         let (piece, _) = block.split_at(count);
-        number = lines::feed(lists, listing, number, &mut pending, piece, &mut replies)?;
+        number = listed_lines::feed(lists, listing, number, &mut pending, piece, &mut replies)?;
         lines::write_whole(writer, replies.as_slice())?;
     }
     Err(RunError::Read)

@@ -1,10 +1,10 @@
 //! Numbers, and texts as they are shown.
 ghost use Rattle.std.specs.Prelude.{◌≡◌, ◌<◌, ◌++◌, false, OnOk};
 ghost use Rattle.std.specs.Fmt.{decimal, digit_glyph};
-ghost use Rattle.iloc_lines.specs.ReplyBlock.{held};
+ghost use Rattle.iloc_program.specs.ReplyBlock.{held};
 ghost use Rattle.iloc_program.specs.Listing.{shown, shown_byte};
 
-use iloc_lines::ReplyBlock;
+use crate::ReplyBlock;
 use std::alloc::{AllocError, Global};
 
 // Adds a number in decimal digits.

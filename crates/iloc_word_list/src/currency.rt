@@ -1,6 +1,6 @@
 //! Currencies as values of their keyword (`cu`). They stand here, because such conversions can stand only in
 //! the crate of one of the two types.
-ghost use Rattle.std.specs.Prelude.{◌≡◌, option_and_then};
+ghost use Rattle.std.specs.Prelude.{◌≡◌};
 ghost use Rattle.iloc_spec_parts.specs.SingleValues.{currency_reads, currency_gives};
 ghost use Rattle.iloc_word_list.specs.Refusals.{Reads};
 

@@ -1,5 +1,7 @@
 //! Why the value of a keyword is refused by the type of the keyword.
 ghost use Rattle.std.specs.Prelude.{◌≡◌, Some};
+ghost use Rattle.iloc_word_list.specs.Refusals.{words_of};
+ghost use Rattle.iloc_word_list.specs.declared.errors.PreferencesParseError.TheVariants.{OutOfMemory};
 
 use std::alloc::{AllocError, AllocFailed};
 use std::error::Error;
@@ -15,8 +17,6 @@ pub enum PreferencesParseError {
 }
 
 impl PreferencesParseError {
-    ghost use Rattle.iloc_word_list.specs.Refusals.{words_of};
-
     /// The words of this refusal.
     pub fn words(&self) -> &'static str
         ensures { result.now ≡ words_of self.now }
@@ -32,8 +32,6 @@ impl PreferencesParseError {
 
 /// Prints the words.
 impl fmt::Display for PreferencesParseError {
-    ghost use Rattle.iloc_word_list.specs.Refusals.{words_of};
-
     ghost output = { λ error. Some (words_of error) };
 
     fn fmt<W: fmt::Write>(&self, f: &mut fmt::Formatter<W>) -> fmt::Result {
@@ -45,8 +43,6 @@ impl Error for PreferencesParseError {}
 
 /// A failed allocation is `OutOfMemory`.
 impl From<AllocError> for PreferencesParseError {
-    ghost use Rattle.iloc_word_list.specs.declared.errors.PreferencesParseError.TheVariants.{OutOfMemory};
-
     ghost from_gives = { λ _ error. error ≡ OutOfMemory };
 
     fn from(_error: AllocError) -> PreferencesParseError {
@@ -56,8 +52,6 @@ impl From<AllocError> for PreferencesParseError {
 
 /// So is that of a collection, as of `Vec::push`; what could not be stored is dropped.
 impl<T: Drop> From<AllocFailed<T>> for PreferencesParseError {
-    ghost use Rattle.iloc_word_list.specs.declared.errors.PreferencesParseError.TheVariants.{OutOfMemory};
-
     ghost from_gives = { λ _ error. error ≡ OutOfMemory };
 
     fn from(_failed: AllocFailed<T>) -> PreferencesParseError {

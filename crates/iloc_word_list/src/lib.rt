@@ -17,7 +17,7 @@
 //! (lists that keep four items in place) and `iloc_writeable` (printing).
 #![tactic(auto)]
 
-ghost use Rattle.std.specs.Prelude.{◌≡◌, ◌↔◌, ℕ, List, IsTrue};
+ghost use Rattle.std.specs.Prelude.{◌≡◌, ◌↔◌, List, IsTrue};
 ghost use Rattle.iloc_spec_grammar.specs.Syntax.{Text};
 ghost use Rattle.iloc_spec_parts.specs.Orders.{words_cmp};
 ghost use Rattle.iloc_spec_parts.specs.Hashes.{word_fed, words_fed};

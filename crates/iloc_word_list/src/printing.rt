@@ -1,5 +1,5 @@
 //! Prints values.
-ghost use Rattle.std.specs.Prelude.{◌≡◌, ◌↔◌, ℕ, length, IsTrue, Some};
+ghost use Rattle.std.specs.Prelude.{◌≡◌, ◌↔◌, length, IsTrue, Some};
 ghost use Rattle.iloc_spec_grammar.specs.Syntax.{join};
 
 use crate::value::Value;

@@ -1,6 +1,6 @@
 //! Parses values from pieces.
-ghost use Rattle.std.specs.Prelude.{◌≡◌, ◌≤◌, ⊤, ℕ, List, [], length, map, Ok, Err, IfOk, OnOk, IsOk};
-ghost use Rattle.iloc_spec_grammar.specs.Syntax.{Text, pieces, Attribute, Subtag, is_word, normal};
+ghost use Rattle.std.specs.Prelude.{◌≡◌, ◌≤◌, ⊤, List, length, map, Ok, Err, IfOk, OnOk, IsOk};
+ghost use Rattle.iloc_spec_grammar.specs.Syntax.{Text, Attribute, Subtag, is_word, normal};
 ghost use Rattle.iloc_spec_grammar.specs.Values.{IsNormal};
 ghost use Rattle.iloc_spec_grammar.specs.Meaning.{normal_values, Fault};
 ghost use Rattle.iloc_spec_grammar.specs.Reading.{passing, past};

@@ -1,6 +1,7 @@
 //! The traits of sets of subtags.
 ghost use Rattle.std.specs.Prelude.{◌≡◌, [], Some, length};
 ghost use Rattle.iloc_spec_grammar.specs.Syntax.{join};
+ghost use Rattle.std.specs.Fmt.{debug_list, debug_str};
 
 use crate::word_set::WordSet;
 use iloc_subtags::WordKind;
@@ -29,8 +30,6 @@ impl<K: WordKind<N>, const N: usize> Clone for WordSet<K, N> {
 
 /// Prints the list of the subtags, each in quotes.
 impl<K: WordKind<N>, const N: usize> fmt::Debug for WordSet<K, N> {
-    ghost use Rattle.std.specs.Fmt.{debug_list, debug_str};
-
     ghost debug_output = { debug_list debug_str };
 
     fn fmt<W: fmt::Write>(&self, f: &mut fmt::Formatter<W>) -> fmt::Result {

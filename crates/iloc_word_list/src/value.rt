@@ -25,8 +25,6 @@ pub struct Value {
 }
 
 impl Model for Value {
-    ghost use Rattle.std.specs.Prelude.{List, ℕ};
-
     ghost Value = { List (List ℕ) };
 
     ghost view = { λ v. v.subtags };

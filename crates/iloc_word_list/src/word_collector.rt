@@ -1,10 +1,11 @@
 //! Subtags that come in any order, to be a set in the end.
-ghost use Rattle.std.specs.Prelude.{◌≡◌, ◌≤◌, ◌∷◌, true, false, length, is_none, IfSome, IfOk, OnErr, IsOk};
+ghost use Rattle.std.specs.Prelude.{◌≡◌, ◌≤◌, ◌∷◌, true, false, length, is_none, IfSome, IfOk, OnErr, IsOk, List, ℕ};
 ghost use Rattle.std.specs.List.{list_any};
 ghost use Rattle.iloc_spec_grammar.specs.Syntax.{is_same, word_cmp};
 ghost use Rattle.iloc_spec_grammar.specs.Meaning.{set_of};
 ghost use Rattle.iloc_spec_grammar.specs.Values.{StrictlyAscends};
 ghost use Rattle.iloc_word_list.specs.TakingIn.{TakesIn};
+ghost use Rattle.iloc_word_list.specs.Collected.{collected_words, IsCollected};
 
 use crate::word_set::WordSet;
 use iloc_subtags::{WordKind, WordOf};
@@ -30,11 +31,7 @@ pub struct WordCollector<K: WordKind<N>, const N: usize> {
 }
 
 impl<K: WordKind<N>, const N: usize> Model for WordCollector<K, N> {
-    ghost use Rattle.std.specs.Prelude.{List, ℕ};
-
     ghost Value = { List (List ℕ) };
-
-    ghost use Rattle.iloc_word_list.specs.Collected.{collected_words, IsCollected};
 
     ghost view = { λ c. collected_words c.words };
 

@@ -1,9 +1,10 @@
 //! The list of subtags of a kind.
-ghost use Rattle.std.specs.Prelude.{◌≡◌, ◌<◌, ◌≤◌, [], ◌∷◌, ◌++◌, length, insert, remove, slice_get, Some, IfOk, OnOk, OnErr, IsOk};
+ghost use Rattle.std.specs.Prelude.{◌≡◌, ◌<◌, ◌≤◌, [], ◌∷◌, ◌++◌, length, insert, remove, slice_get, Some, IfOk, OnOk, OnErr, IsOk, List, ℕ};
 ghost use Rattle.std.specs.List.{AllByRecursion};
 ghost use Rattle.std.specs.Option.{option_copied};
 ghost use Rattle.iloc_spec_grammar.specs.Values.{IsNormal};
 ghost use Rattle.iloc_shortvec.specs.ShortList.{only_of};
+ghost use Rattle.std.specs.Fmt.{debug_list, debug_str};
 
 use iloc_shortvec::{ShortWords, ShortWordsIntoIter};
 use iloc_subtags::{WordKind, WordOf, are_normal, is_normal};
@@ -22,10 +23,6 @@ pub struct WordList<K: WordKind<N>, const N: usize> {
 }
 
 impl<K: WordKind<N>, const N: usize> Model for WordList<K, N> {
-    ghost use Rattle.std.specs.Prelude.{List, ℕ};
-    ghost use Rattle.std.specs.List.{AllByRecursion};
-    ghost use Rattle.iloc_spec_grammar.specs.Values.{IsNormal};
-
     ghost Value = { List (List ℕ) };
 
     ghost view = { λ l. l.words };
@@ -135,8 +132,6 @@ impl<K: WordKind<N>, const N: usize> WordList<K, N> {
 
 /// Prints the list of the subtags, each in quotes.
 impl<K: WordKind<N>, const N: usize> fmt::Debug for WordList<K, N> {
-    ghost use Rattle.std.specs.Fmt.{debug_list, debug_str};
-
     ghost debug_output = { debug_list debug_str };
 
     fn fmt<W: fmt::Write>(&self, f: &mut fmt::Formatter<W>) -> fmt::Result {

@@ -1,5 +1,5 @@
 //! The ascending set of subtags of a kind.
-ghost use Rattle.std.specs.Prelude.{◌≡◌, ◌<◌, ◌≤◌, ◌+◌, ◌==◌, [], ◌∷◌, ◌++◌, true, not, length, filter, IfOk, OnOk, OnErr, IsOk};
+ghost use Rattle.std.specs.Prelude.{◌≡◌, ◌<◌, ◌≤◌, ◌+◌, ◌==◌, [], ◌∷◌, ◌++◌, true, not, length, filter, IfOk, OnOk, OnErr, IsOk, List, ℕ};
 ghost use Rattle.std.specs.List.{list_any, AllByRecursion};
 ghost use Rattle.std.specs.Slice.{IsItemAt};
 ghost use Rattle.std.specs.Slice.Iter.{iter_rest};
@@ -26,10 +26,6 @@ pub struct WordSet<K: WordKind<N>, const N: usize> {
 }
 
 impl<K: WordKind<N>, const N: usize> Model for WordSet<K, N> {
-    ghost use Rattle.std.specs.Prelude.{List, ℕ};
-    ghost use Rattle.iloc_spec_grammar.specs.Syntax.{word_cmp};
-    ghost use Rattle.iloc_spec_grammar.specs.Values.{StrictlyAscends};
-
     ghost Value = { List (List ℕ) };
 
     ghost view = { λ s. s.words };

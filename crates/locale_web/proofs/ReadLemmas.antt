@@ -15,7 +15,7 @@ use Rattle.iloc_data_parts.specs.PartsReading as parts
 use Rattle.iloc_data_parts.specs.declared.parts.DataParts.{DataParts}
 use Rattle.iloc_outline.specs.Outlines.{Gives}
 use Rattle.iloc_outline.specs.declared.outline.Outline.{Outline}
-use Rattle.iloc_outline.specs.declared.spans.Spans.{Spans}
+use Rattle.iloc_spans.specs.declared.spans.Spans.{Spans}
 use Rattle.iloc_normalize.specs.declared.Mode.TheVariants.{Langid, Locale, Data}
 use Rattle.locale_web.specs.Reading.{IsReadInto, IsNormalWithin}
 use Rattle.locale_web.specs.declared.reading.Found.TheVariants as founds

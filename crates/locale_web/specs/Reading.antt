@@ -8,7 +8,7 @@ use Rattle.iloc_normalize.specs.declared.Mode.{Mode}
 use Rattle.iloc_normalize.specs.declared.Mode.TheVariants.{Data}
 use Rattle.iloc_data_parts.specs.PartsReading as parts
 use Rattle.iloc_outline.specs.Outlines.{Gives}
-use Rattle.iloc_outline.specs.declared.spans.Spans.{Spans}
+use Rattle.iloc_spans.specs.declared.spans.Spans.{Spans}
 use Rattle.locale_web.specs.declared.reading.Found.{Found}
 use Rattle.locale_web.specs.declared.reading.Found.TheVariants as founds
 use Rattle.locale_web.specs.declared.normalizing.Placed.{Placed}

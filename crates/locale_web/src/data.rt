@@ -1,9 +1,9 @@
 //! Prints data locales by their parts. iloc_data_parts prints them too, but by a value that may stand on the heap, which the module
 //! has none of.
 ghost use Rattle.std.specs.Prelude.{◌≡◌, option_map, option_to_list};
-ghost use Rattle.iloc_spec_grammar.specs.Syntax as words;
-ghost use Rattle.iloc_spec_parts.specs.DataLocales.{subdivision_keyword, subdivision_value};
+ghost use Rattle.iloc_spec_parts.specs.DataLocales.{subdivision_keyword, subdivision_value, data_pieces, data_text};
 ghost use Rattle.iloc_data_parts.specs.PartsReading.{value_of};
+ghost use Rattle.iloc_spec_grammar.specs.Syntax as words;
 
 use iloc_data_parts::DataParts;
 use iloc_data_parts::region::is_whole;
@@ -53,9 +53,6 @@ fn subdivision_of(parts: &DataParts) -> Option<Option<Subtag>>
 
 /// The pieces are language, script, region, variant, and `u`, `sd` and the value of a subdivision that is printed.
 impl Pieces for DataText {
-    ghost use Rattle.iloc_spec_parts.specs.DataLocales.{data_pieces};
-    ghost use Rattle.iloc_data_parts.specs.PartsReading.{value_of};
-
     ghost pieces = { λ d. data_pieces (value_of d.parts) };
 
     fn has_pieces(&self) -> bool {
@@ -83,9 +80,6 @@ impl Pieces for DataText {
 
 /// Prints the text of the data locale that is made of the parts.
 impl Writeable for DataText {
-    ghost use Rattle.iloc_spec_parts.specs.DataLocales.{data_text};
-    ghost use Rattle.iloc_data_parts.specs.PartsReading.{value_of};
-
     ghost text = { λ d. data_text (value_of d.parts) };
 
     #[tactic(auto, unfolding(iloc_spec_grammar::specs::Syntax::join))]

@@ -1,6 +1,5 @@
 //! Puts and hands out normal texts.
 ghost use Rattle.std.specs.Prelude.{◌≡◌, ◌↔◌, ◌+◌, ◌≤◌, IsTrue, MatchOption, length, take};
-ghost use Rattle.iloc_spec_grammar.specs.Syntax.{languages};
 ghost use Rattle.iloc_calls.specs.Answers.{HandsOut};
 ghost use Rattle.iloc_data_parts.specs.PartsReading.{value_of};
 ghost use Rattle.iloc_spec_parts.specs.DataLocales.{data_text};
@@ -14,7 +13,7 @@ use iloc_data_parts::DataParts;
 use iloc_normalize::Mode;
 use iloc_normalize::copying::copy_all;
 use iloc_outline::printing::copy_outline;
-use iloc_outline::spans::Spans;
+use iloc_spans::spans::Spans;
 use iloc_subtags::ParseError;
 use std::mem::forget;
 

@@ -1,5 +1,5 @@
 //! Hands out the parts of normal texts.
-ghost use Rattle.std.specs.Prelude.{◌≡◌, MatchOption, length, take};
+ghost use Rattle.std.specs.Prelude.{MatchOption, length, take};
 ghost use Rattle.iloc_spec_grammar.specs.Meaning.{Locale};
 ghost use Rattle.locale_web.specs.Kinds.{IsNormalTextOf, parts_of, rows_of};
 ghost use Rattle.iloc_calls.specs.Answers.{HandsOut};

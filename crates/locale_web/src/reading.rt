@@ -3,7 +3,7 @@ ghost use Rattle.std.specs.Prelude.{◌≡◌, ◌↔◌, ◌≤◌, Some, Match
 ghost use Rattle.iloc_calls.specs.Numbers.{mode_number};
 ghost use Rattle.iloc_normalize.specs.declared.Mode.{Mode};
 ghost use Rattle.iloc_normalize.specs.declared.Mode.TheVariants as modes;
-ghost use Rattle.iloc_outline.specs.declared.spans.Spans.{Spans};
+ghost use Rattle.iloc_spans.specs.declared.spans.Spans.{Spans};
 ghost use Rattle.locale_web.specs.Answers.{IsJudged};
 ghost use Rattle.locale_web.specs.Reading.{IsPastLimits, IsReadInto};
 
@@ -14,7 +14,7 @@ use iloc_outline::growth::InPlace;
 use iloc_outline::outline::{
     Outline, Outlined, begins_with_language, outline_identifier, outline_locale,
 };
-use iloc_outline::spans::Spans;
+use iloc_spans::spans::Spans;
 use iloc_subtags::ParseError;
 use std::mem::forget;
 

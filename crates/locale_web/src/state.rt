@@ -1,7 +1,5 @@
 //! What a piece is after those before it.
-ghost use Rattle.std.specs.Prelude.{◌≡◌, slice_index, true};
-ghost use Rattle.std.specs.Char.{to_ascii_lowercase};
-ghost use Rattle.iloc_spec_grammar.specs.Syntax.{is_one_byte};
+ghost use Rattle.std.specs.Prelude.{◌≡◌};
 ghost use Rattle.iloc_pieces.specs.Left.{piece_left};
 ghost use Rattle.locale_web.specs.Steps.{is_singleton_piece, begun, inside, step, word_kind};
 

@@ -6,7 +6,7 @@ use Rattle.iloc_pieces.specs.Left.{piece_left, pieces_left, whole_text}
 use Rattle.iloc_outline.specs.Parts.{rank}
 use Rattle.iloc_outline.specs.declared.reading.Found.{Found}
 use Rattle.iloc_outline.specs.declared.reading.Found.TheVariants.{Bad, End, Full, Next, Repeated}
-use Rattle.iloc_outline.specs.declared.spans.Spans.{Spans}
+use Rattle.iloc_spans.specs.declared.spans.Spans.{Spans}
 use Rattle.iloc_outline.proofs.BlocksLemmas.{IsDone, IsRead, all_done}
 use Rattle.iloc_pieces.proofs.LeftLemmas.{last_piece, single_short}
 use Rattle.iloc_outline.proofs.SingletonSteps as at

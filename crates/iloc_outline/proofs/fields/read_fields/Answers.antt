@@ -1,11 +1,11 @@
 use Rattle.std.proofs.Common.{◌≡◌, ◌≢◌, ◌∙◌, Bool, None, Option, Some, ap, arith, false, refl, rules, sym}
 use Rattle.std.proofs.Common.{true}
 use denote.Enum.Bare.{same_false, same_true}
-use Rattle.iloc_outline.specs.contracts.span.Role.{the_type}
-use Rattle.iloc_outline.specs.declared.span.Role.TheVariants.{Field}
+use Rattle.iloc_spans.specs.contracts.span.Role.{the_type}
+use Rattle.iloc_spans.specs.declared.span.Role.TheVariants.{Field}
 use Rattle.iloc_outline.specs.Reading.{unless_end}
-use Rattle.iloc_outline.specs.Spans.{held_spans}
-use Rattle.iloc_outline.proofs.SpansLemmas.{length-held}
+use Rattle.iloc_spans.specs.Spans.{held_spans}
+use Rattle.iloc_spans.proofs.HeldLemmas.{length-held}
 use Rattle.iloc_outline.specs.declared.fields.Value.{Value}
 use Rattle.iloc_pieces.specs.declared.cursor.Left.{Left}
 use Rattle.iloc_outline.proofs.FieldLemmas.{ends_in_key, field_less, key_kind_fits, takes_end}

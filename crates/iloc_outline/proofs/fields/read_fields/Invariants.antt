@@ -1,5 +1,5 @@
 use Rattle.iloc_outline.specs.Gathering.{Takes}
-use Rattle.iloc_outline.specs.Spans.{held_spans}
+use Rattle.iloc_spans.specs.Spans.{held_spans}
 use Rattle.iloc_outline.proofs.fields.read_fields.Given as goal
 
 -- the fields up to here were passed and put in order

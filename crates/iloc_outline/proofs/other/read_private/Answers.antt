@@ -3,8 +3,8 @@ use Rattle.std.proofs.Common.{◌+◌, false, [], ◌∷◌, ◌++◌, refl, sym
 use Rattle.iloc_spec_grammar.specs.Syntax.{PrivateSubtag, IsWord}
 use Rattle.iloc_pieces.specs.Left.{IsEnd, piece_left}
 use Rattle.iloc_outline.specs.Reading.{block_span}
-use Rattle.iloc_outline.specs.Spans.{held_spans}
-use Rattle.iloc_outline.specs.declared.span.Span.{Span}
+use Rattle.iloc_spans.specs.Spans.{held_spans}
+use Rattle.iloc_spans.specs.declared.span.Span.{Span}
 use Rattle.iloc_pieces.proofs.LeftLemmas.{last_piece, past_none, short_private}
 use Rattle.iloc_outline.proofs.OtherLemmas.{private_end, private_next, private_odd}
 use Rattle.iloc_outline.proofs.other.read_private.Goals as goal
@@ -24,7 +24,7 @@ returns-then-is_last g c = λ c' e spanned o.
     last_piece c.words.left (c.is_last.ensures.0 c.if-is_last.true)
     (short_private (piece_left c.words.left) word) in
     let span : Span = block_span 255 c.args.start (c.words.left.at + c.words.left.n) false in
-    private_end c' c.args.start c.args.left.now c.words.left c.args.spans.now c.put.new.self o e
+    private_end c' c.args.start c.args.left.now c.words.left c.args.spans.now c.put.new.spans o e
     c.requires.follows.later
     spanned c.words.invariant.passed word end
     (c.put.ensures.put c.if-not-put.false ∙ ap (λ s. held_spans s ++ span ∷ []) c.words.invariant.spans)

@@ -4,7 +4,7 @@ use Rattle.iloc_pieces.specs.declared.cursor.Left.{Left}
 use Rattle.iloc_outline.specs.Identifier.{IsAfterFront, IsFrontRead}
 use Rattle.iloc_outline.specs.Reading.{AreWordsRead, unless_end}
 use Rattle.iloc_outline.specs.declared.identifier.Front.{Front}
-use Rattle.iloc_outline.specs.declared.span.Role.TheVariants.{Variant}
+use Rattle.iloc_spans.specs.declared.span.Role.TheVariants.{Variant}
 use Rattle.iloc_outline.proofs.HeadLemmas.{head_block, head_front, head_other, head_stranger, head_variants}
 use Rattle.iloc_outline.proofs.outline.read_head.Goals as goal
 

@@ -1,7 +1,7 @@
 use Rattle.std.proofs.Common.{◌++◌, length, sym, ap, ◌∙◌, arith}
 use Rattle.std.proofs.lemmas.List.{length-take-le}
 use Rattle.iloc_outline.specs.Outlines.{parts_text}
-use Rattle.iloc_outline.specs.Spans.{held_spans}
+use Rattle.iloc_spans.specs.Spans.{held_spans}
 use Rattle.iloc_outline.proofs.PrintingLemmas.{gives_length, gives_text, spell_wider}
 use Rattle.iloc_outline.proofs.printing.copy_outline.Goals as goal
 

@@ -4,10 +4,11 @@ use Rattle.std.proofs.lemmas.List.{length-take-le, take_all}
 use Rattle.iloc_outline.specs.Printing.{span_text}
 use Rattle.iloc_spec_grammar.specs.Syntax.{Text}
 use Rattle.iloc_outline.specs.Parts.{Part}
-use Rattle.iloc_outline.specs.Spans.{IsSpan, Spell, held_spans}
-use Rattle.iloc_outline.specs.declared.span.Span.{Span}
-use Rattle.iloc_outline.specs.declared.spans.Spans.{Spans}
-use Rattle.iloc_outline.specs.declared.span.TheConstants.{NO_SPAN}
+use Rattle.iloc_outline.specs.Spans.{IsSpan, Spell}
+use Rattle.iloc_spans.specs.Spans.{held_spans}
+use Rattle.iloc_spans.specs.declared.span.Span.{Span}
+use Rattle.iloc_spans.specs.declared.spans.Spans.{Spans}
+use Rattle.iloc_spans.specs.declared.span.TheConstants.{NO_SPAN}
 use Rattle.iloc_outline.proofs.PrintingLemmas.{span_room, span_short, span_some, spans_are, span_at}
 use Rattle.iloc_outline.proofs.printing.copy_spans.Goals as goal
 

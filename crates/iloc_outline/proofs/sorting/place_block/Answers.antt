@@ -1,10 +1,10 @@
-use Rattle.std.proofs.Common.{◌≡◌, ◌++◌, List, take, ap, ◌∙◌, arith, sym}
+use Rattle.std.proofs.Common.{take, ap, ◌∙◌, arith, sym}
 use Rattle.std.specs.List.{list_any}
 use Rattle.iloc_outline.specs.Groups.{is_greater}
-use Rattle.iloc_outline.specs.Spans.{held_spans}
-use Rattle.iloc_outline.specs.declared.span.TheConstants.{NO_SPAN}
+use Rattle.iloc_spans.specs.Spans.{held_spans}
+use Rattle.iloc_spans.specs.declared.span.TheConstants.{NO_SPAN}
 use Rattle.iloc_outline.proofs.GroupsLemmas.{spell_placed}
-use Rattle.iloc_outline.proofs.SpansLemmas.{length-held}
+use Rattle.iloc_spans.proofs.HeldLemmas.{length-held}
 use Rattle.iloc_outline.proofs.sorting.place_block.Goals as goal
 
 pub returns-clause-placed : goal.returns-clause-placed

@@ -2,8 +2,8 @@
 use Rattle.std.proofs.Common.{◌≡◌, Bool, [], ◌∷◌, ◌++◌, sym, ◌∙◌, subst}
 use Rattle.iloc_outline.specs.Identifier.{IsAfterFront}
 use Rattle.iloc_outline.specs.Reading.{AreWordsRead, unless_end}
-use Rattle.iloc_outline.specs.Spans.{held_spans}
-use Rattle.iloc_outline.specs.declared.span.Role.TheVariants.{Variant}
+use Rattle.iloc_spans.specs.Spans.{held_spans}
+use Rattle.iloc_spans.specs.declared.span.Role.TheVariants.{Variant}
 use Rattle.iloc_outline.proofs.TransformReading.{front_alone, variants_alone, variants_read}
 use Rattle.iloc_outline.proofs.transform.read_transform.Goals as goal
 
@@ -14,8 +14,8 @@ returns-then-front g c = λ c' e spanned.
     front_alone c' c.args.start front.result.end l e
     (sym c.is_language.ensures ∙ c.if-not-is_language.false)
     (front.ensures.end c.args.start ((c' ∷ []) ∷ []) c.requires.follows.later spanned) c.args.spans.now
-    c.put.new.self c.args.in_order.now
-    (subst (λ s. held_spans c.put.new.self ≡ held_spans c.args.spans.now ++ s ∷ []) c.singleton.ensures
+    c.put.new.spans c.args.in_order.now
+    (subst (λ s. held_spans c.put.new.spans ≡ held_spans c.args.spans.now ++ s ∷ []) c.singleton.ensures
     (c.put.ensures.put c.if-not-put.false)) front.new.left
     (subst (λ (b : Bool). IsAfterFront l (unless_end b front.new.left)) c.if-front.true front.ensures.next)
 
@@ -29,13 +29,13 @@ returns-in-Next g c = λ c' e spanned.
     variants_read c' c.args.start front.result.end l e
     (sym c.is_language.ensures ∙ c.if-not-is_language.false)
     (front.ensures.end c.args.start ((c' ∷ []) ∷ []) c.requires.follows.later spanned) c.args.spans.now
-    c.put.new.self c.args.in_order.now
-    (subst (λ s. held_spans c.put.new.self ≡ held_spans c.args.spans.now ++ s ∷ []) c.singleton.ensures
+    c.put.new.spans c.args.in_order.now
+    (subst (λ s. held_spans c.put.new.spans ≡ held_spans c.args.spans.now ++ s ∷ []) c.singleton.ensures
     (c.put.ensures.put c.if-not-put.false))
     front.new.left next.0 next.1 words.new.left c.read_fields.new.left words.new.spans
     c.read_fields.new.spans words.new.in_order c.read_fields.new.in_order
     c.read_fields.result c.at_block.result
-    (subst (AreWordsRead Variant front.new.left words.new.left c.put.new.self words.new.spans
+    (subst (AreWordsRead Variant front.new.left words.new.left c.put.new.spans words.new.spans
     c.args.in_order.now words.new.in_order) c.in-Next.is words.ensures)
     c.read_fields.ensures c.at_block.ensures
 
@@ -49,8 +49,8 @@ returns-in_default g c = λ c' e spanned.
     variants_alone c' c.args.start front.result.end l e
     (sym c.is_language.ensures ∙ c.if-not-is_language.false)
     (front.ensures.end c.args.start ((c' ∷ []) ∷ []) c.requires.follows.later spanned) c.args.spans.now
-    c.put.new.self c.args.in_order.now
-    (subst (λ s. held_spans c.put.new.self ≡ held_spans c.args.spans.now ++ s ∷ []) c.singleton.ensures
+    c.put.new.spans c.args.in_order.now
+    (subst (λ s. held_spans c.put.new.spans ≡ held_spans c.args.spans.now ++ s ∷ []) c.singleton.ensures
     (c.put.ensures.put c.if-not-put.false))
     front.new.left next.0 next.1 words.new.left words.new.spans words.new.in_order words.result
     words.ensures c.in_default.not-Next

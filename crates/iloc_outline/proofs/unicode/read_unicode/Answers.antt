@@ -3,7 +3,7 @@ use Rattle.std.proofs.Common.{◌≡◌, false, sym, ◌∙◌, subst}
 use Rattle.iloc_spec_grammar.specs.Syntax.{is_one_byte}
 use Rattle.iloc_pieces.specs.Left.{piece_left}
 use Rattle.iloc_outline.specs.Reading.{AreWordsRead}
-use Rattle.iloc_outline.specs.declared.span.Role.TheVariants.{Attribute}
+use Rattle.iloc_spans.specs.declared.span.Role.TheVariants.{Attribute}
 use Rattle.iloc_outline.proofs.UnicodeLemmas.{unicode_single, words_alone, words_read}
 use Rattle.iloc_outline.proofs.unicode.read_unicode.Goals as goal
 use Rattle.iloc_outline.proofs.unicode.read_unicode.Goals.{in-Next, in_default}
@@ -22,17 +22,17 @@ returns g c = λ c' e spanned.
     elim c.match-read_words.branch [
       | in-Next w ↦
           rw (w.spans-is, w.in_order-is, w.left-is)
-          (words_read c' c.args.start c.args.left.now e spanned long c.args.spans.now c.put.new.self
+          (words_read c' c.args.start c.args.left.now e spanned long c.args.spans.now c.put.new.spans
           c.args.in_order.now put c.read_words.new.left w.read_fields-found.new.left
           c.read_words.new.spans w.read_fields-found.new.spans c.read_words.new.in_order
           w.read_fields-found.new.in_order w.read_fields-found.result c.at_block.result
-          (subst (AreWordsRead Attribute c.args.left.now c.read_words.new.left c.put.new.self
+          (subst (AreWordsRead Attribute c.args.left.now c.read_words.new.left c.put.new.spans
           c.read_words.new.spans c.args.in_order.now c.read_words.new.in_order) w.in-Next.is
           c.read_words.ensures)
           w.read_fields-found.ensures (rw (sym w.left-is, sym w.found-is) c.at_block.ensures))
       | in_default w ↦
           rw (w.spans-is, w.in_order-is, w.left-is)
-          (words_alone c' c.args.start c.args.left.now e spanned long c.args.spans.now c.put.new.self
+          (words_alone c' c.args.start c.args.left.now e spanned long c.args.spans.now c.put.new.spans
           c.args.in_order.now put c.read_words.new.left
           c.read_words.new.spans c.read_words.new.in_order c.read_words.result c.at_block.result
           c.read_words.ensures w.in_default.not-Next (rw (sym w.left-is, sym w.found-is) c.at_block.ensures))

@@ -2,18 +2,18 @@ use Rattle.std.specs.Prelude.{⊤}
 use Rattle.std.proofs.Common.{rules, ◌≡◌, ◌≢◌, ◌+◌, ◌++◌, false, length, take, drop, ap, ◌∙◌, sym, subst, inl}
 use Rattle.std.proofs.Common.{inr, refl}
 use denote.Enum.Bare.{same_false, same_true}
-use Rattle.iloc_outline.specs.contracts.span.Role.{the_type}
-use Rattle.iloc_outline.specs.Group.{group_spans}
-use Rattle.iloc_outline.specs.Inserting.{IsPutFrom, spans_in_order}
+use Rattle.iloc_spans.specs.contracts.span.Role.{the_type}
+use Rattle.iloc_spans.specs.Group.{group_spans}
+use Rattle.iloc_spans.specs.Inserting.{IsPutFrom, spans_in_order}
 use Rattle.iloc_outline.specs.Reading.{AreWordsRead}
-use Rattle.iloc_outline.specs.Spans.{held_spans}
-use Rattle.iloc_outline.specs.declared.span.Role.{Role}
-use Rattle.iloc_outline.specs.declared.span.Span.{Span}
-use Rattle.iloc_outline.specs.declared.sorting.Inserted.{Inserted}
-use Rattle.iloc_outline.specs.declared.sorting.Inserted.TheVariants.{Put, There, Full}
+use Rattle.iloc_spans.specs.Spans.{held_spans}
+use Rattle.iloc_spans.specs.declared.span.Role.{Role}
+use Rattle.iloc_spans.specs.declared.span.Span.{Span}
+use Rattle.iloc_spans.specs.declared.inserting.Inserted.{Inserted}
+use Rattle.iloc_spans.specs.declared.inserting.Inserted.TheVariants.{Put, There, Full}
 use Rattle.iloc_outline.proofs.GroupSteps.{grouped_put_from, walks_out}
 use Rattle.iloc_outline.proofs.RoleLemmas.{short_kind}
-use Rattle.iloc_outline.proofs.SpansLemmas.{length-held}
+use Rattle.iloc_spans.proofs.HeldLemmas.{length-held}
 use Rattle.iloc_outline.proofs.WordsInOrder.{IsKept, walks_end, walks_full, walks_more, walks_past}
 use Rattle.iloc_outline.proofs.WordsInOrder.{walks_repeat}
 use Rattle.iloc_outline.proofs.words.read_more_words.Goals as goal

@@ -2,9 +2,9 @@ use Rattle.std.proofs.Common.{◌≡◌, ℕ, Bool, false, ◌++◌}
 use Rattle.iloc_pieces.specs.Left.{IsLater}
 use Rattle.iloc_pieces.specs.declared.cursor.Left.{Left}
 use Rattle.iloc_outline.specs.Gathering.{Walks}
-use Rattle.iloc_outline.specs.Group.{group_spans}
-use Rattle.iloc_outline.specs.Spans.{held_spans}
-use Rattle.iloc_outline.specs.declared.spans.Spans.{Spans}
+use Rattle.iloc_spans.specs.Group.{group_spans}
+use Rattle.iloc_spans.specs.Spans.{held_spans}
+use Rattle.iloc_spans.specs.declared.spans.Spans.{Spans}
 use Rattle.iloc_outline.proofs.words.read_more_words.Given as goal
 
 -- the words up to here were passed, and put in order in the group

@@ -1,14 +1,14 @@
 use Rattle.std.proofs.Common.{rules, ◌∙◌, sym, subst, arith, inl, inr, refl}
 use denote.Enum.Bare.{same_false, same_true}
-use Rattle.iloc_outline.specs.contracts.span.Role.{the_type}
+use Rattle.iloc_spans.specs.contracts.span.Role.{the_type}
 use Rattle.iloc_outline.specs.Gathering.{Walks}
-use Rattle.iloc_outline.specs.Inserting.{IsPutFrom}
-use Rattle.iloc_outline.specs.Spans.{held_spans}
-use Rattle.iloc_outline.specs.declared.span.Span.{Span}
+use Rattle.iloc_spans.specs.Inserting.{IsPutFrom}
+use Rattle.iloc_spans.specs.Spans.{held_spans}
+use Rattle.iloc_spans.specs.declared.span.Span.{Span}
 use Rattle.iloc_outline.proofs.GatherLemmas.{gathers_from, put_full}
 use Rattle.iloc_outline.proofs.RoleLemmas.{short_kind}
-use Rattle.iloc_outline.proofs.SpansLemmas.{length-held}
-use Rattle.iloc_outline.proofs.WordsInOrder.{IsKept, walks_end, walks_full, walks_more, walks_none}
+use Rattle.iloc_spans.proofs.HeldLemmas.{length-held}
+use Rattle.iloc_outline.proofs.WordsInOrder.{IsKept, walks_end, walks_more, walks_none}
 use Rattle.iloc_outline.proofs.WordsInOrder.{walks_past, walks_repeat}
 use Rattle.iloc_outline.proofs.words.read_words.Goals as goal
 use Rattle.iloc_outline.proofs.words.read_words.Goals.{in-Put, in-There+else-eq}

@@ -1,5 +1,5 @@
 use Rattle.iloc_outline.specs.Gathering.{Walks}
-use Rattle.iloc_outline.specs.Spans.{held_spans}
+use Rattle.iloc_spans.specs.Spans.{held_spans}
 use Rattle.iloc_outline.proofs.words.read_words.Given as goal
 
 -- the words up to here were passed and put in order

@@ -1,6 +1,6 @@
 use Rattle.std.proofs.Common.{◌<◌, length}
-use Rattle.iloc_lines.specs.Lines.{IsOneLine}
-use Rattle.iloc_program.proofs.RunLemmas.{Stands}
+use Rattle.iloc_program.specs.Lines.{IsOneLine}
+use Rattle.iloc_program.proofs.ListedLemmas.{Stands}
 use Rattle.iloc_program.proofs.numbered.run_numbered.Given as goal
 
 abbrev pub invariant-reads : goal.invariant-reads

@@ -1,5 +1,5 @@
 use Rattle.std.proofs.Common.{◌≡◌, ◌++◌, take}
-use Rattle.iloc_lines.specs.ReplyBlock.{held}
+use Rattle.iloc_program.specs.ReplyBlock.{held}
 use Rattle.iloc_program.specs.Listing.{shown}
 use Rattle.iloc_program.proofs.quoting.write_shown.Given as goal
 

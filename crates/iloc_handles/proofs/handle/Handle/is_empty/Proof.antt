@@ -6,7 +6,6 @@ use mir.Val.{Val, vptr, vnull, vbool}
 use base.Fraction.{full_share}
 use base.Logic.{SProp, emp}
 use base.Fml.{ftrue, flft}
-use prog.Wp.{WpFn}
 use types.Kit.{‵, raw, ◌⊛◌, ◌$◌, ◌∵◌, !, qed, by, move, keep, drop, split, join, fsplit, fsplit3, fjoin}
 use types.Kit.{fjoin3, feq_i, rewrite, use0}
 use types.Run.{stop, fld, load, lit, of_opd, bin, returns, enter}
@@ -14,7 +13,6 @@ use types.Part.{sub, whole, look_in}
 use types.ByLocal.{alloc_all, pass_all, free_all, look_at, get, through, sets}
 use contract.Monad.{fact, fact_i}
 use contract.Running.{tables}
-use denote.Exit.{yes}
 use denote.RattleType.{owns}
 use denote.Memory.{cell_at}
 use denote.RawPtr.{block_ptr, null_ptr, ptr_val, tests_null}

@@ -3,8 +3,8 @@ use Rattle.std.proofs.Common.{◌++◌, refl, subst, ap, ◌∙◌}
 use Rattle.std.proofs.lemmas.Result.{on_ok_weaker}
 use Rattle.iloc_normalize.specs.declared.Mode.{Mode}
 use Rattle.iloc_faults.specs.Places.{IsAccepted, IsFault}
-use Rattle.iloc_lines.specs.Answers.{reply}
-use Rattle.iloc_lines.specs.ReplyBlock.{held}
+use Rattle.iloc_program.specs.Answers.{reply}
+use Rattle.iloc_program.specs.ReplyBlock.{held}
 use Rattle.iloc_program.proofs.EntryLemmas.{left_out, refused, replied}
 use Rattle.iloc_spec_grammar.specs.Syntax.{languages}
 use Rattle.iloc_program.proofs.entries.ListedLists.list.Goals as goal

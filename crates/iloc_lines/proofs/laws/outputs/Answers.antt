@@ -1,6 +1,0 @@
--- Line by line.
-use Rattle.iloc_lines.proofs.OutputLaws.{is_output, only_output}
-use Rattle.iloc_lines.proofs.laws.outputs.Goals as goal
-
-pub returns : goal.returns
-returns c = record { is = λ T table. is_output table; only = λ T table. only_output table }

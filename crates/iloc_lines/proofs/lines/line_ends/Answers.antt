@@ -1,6 +1,0 @@
-use Rattle.std.proofs.Common.{w8, eqb, arith}
-use Rattle.std.proofs.lemmas.Simd.{bitmask_splat}
-use Rattle.iloc_lines.proofs.lines.line_ends.Goals as goal
-
-pub returns : goal.returns
-returns c = bitmask_splat w8 eqb c.args.lanes 16 10 c.fits-lanes.0 (omega arith)

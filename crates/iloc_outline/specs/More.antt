@@ -1,9 +1,0 @@
--- Spans in memory of the allocator.
-use Rattle.std.specs.Prelude.{List, [], Option, Some, None}
-use Rattle.iloc_outline.specs.declared.more.More.{More}
-use Rattle.iloc_outline.specs.declared.span.Span.{Span}
-
--- the spans in the room that grows; none if there is no such room
-abbrev pub more_spans : Option More → List Span
-more_spans None = []
-more_spans (Some m) = m.list.items

@@ -1,0 +1,34 @@
+-- The answers to texts that are told at once.
+use Rattle.std.proofs.Common.{◌≡◌, inl, inr, [], ◌∷◌, ◌++◌, refl, ap}
+use Rattle.iloc_spec_grammar.specs.Syntax.{Text, languages}
+use Rattle.iloc_spec_grammar.specs.Meaning as faults
+use Rattle.iloc_spec_grammar.proofs.RawLaws.{languages_table}
+use Rattle.iloc_subtags.specs.declared.parse_error.ParseError.{ParseError}
+use Rattle.iloc_subtags.specs.declared.parse_error.ParseError.TheVariants.{InvalidLanguage, InvalidSubtag}
+use Rattle.iloc_subtags.specs.declared.parse_error.ParseError.TheVariants.{InvalidExtension}
+use Rattle.iloc_subtags.specs.declared.parse_error.ParseError.TheVariants.{DuplicatedExtension, OutOfMemory}
+use Rattle.iloc_program.specs.Answers.{line_answer, reply, refusal_text}
+use Rattle.iloc_normalize.specs.Modes.{IsNormalText}
+use Rattle.iloc_normalize.specs.Answered.{HasRefusal}
+use Rattle.iloc_normalize.specs.declared.Mode.{Mode}
+use Rattle.iloc_program.proofs.OutputLaws.{only_answer}
+
+pub normal_reply : (mode : Mode) (t normal : Text) → IsNormalText languages mode t normal →
+    normal ++ 10 ∷ [] ≡ reply languages mode t
+normal_reply mode t normal h = ap (λ l. l ++ 10 ∷ []) (only_answer languages_table mode t normal (inl h))
+
+refused_answer : (mode : Mode) (t : Text) (e : ParseError) → HasRefusal mode t e →
+    refusal_text e ≡ line_answer languages mode t
+refused_answer mode t InvalidLanguage h =
+    only_answer languages_table mode t (refusal_text InvalidLanguage) (inr (faults.InvalidLanguage, h, refl))
+refused_answer mode t InvalidSubtag h =
+    only_answer languages_table mode t (refusal_text InvalidSubtag) (inr (faults.InvalidSubtag, h, refl))
+refused_answer mode t InvalidExtension h = only_answer languages_table mode t (refusal_text InvalidExtension)
+    (inr (faults.InvalidExtension, h, refl))
+refused_answer mode t DuplicatedExtension h = only_answer languages_table mode t
+    (refusal_text DuplicatedExtension) (inr (faults.DuplicatedExtension, h, refl))
+refused_answer mode t OutOfMemory h = absurd h
+
+pub refused_reply : (mode : Mode) (t : Text) (e : ParseError) → HasRefusal mode t e →
+    refusal_text e ++ 10 ∷ [] ≡ reply languages mode t
+refused_reply mode t e h = ap (λ l. l ++ 10 ∷ []) (refused_answer mode t e h)

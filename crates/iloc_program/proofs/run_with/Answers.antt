@@ -1,0 +1,86 @@
+use Rattle.std.proofs.Common.{◌≡◌, ◌++◌, take, length, ◌<◌, ap, ◌∙◌, sym, subst, arith}
+use Rattle.std.specs.Io.{StartsWith}
+use Rattle.std.specs.Io.KnownBytes.{Appends, Consumes}
+use Rattle.iloc_program.specs.ReplyBlock.{held}
+use Rattle.iloc_program.proofs.RunLemmas.{Replies-fed, Stands-end, Stands-end_part, Stands-first}
+use Rattle.iloc_program.proofs.RunLemmas.{Stands-front}
+use Rattle.iloc_program.proofs.RunLemmas.{Stands-kept, Stands-part, Stands-read, Stands-read_none}
+use Rattle.iloc_program.proofs.RunLemmas.{Stands-written, on_err, on_err_then, on_ok_then}
+use Rattle.iloc_program.specs.Answers.{output}
+use Rattle.iloc_spec_grammar.specs.Syntax.{Text, languages}
+use Rattle.iloc_program.proofs.run_with.Goals as goal
+
+pub returns-in_err-room-clause-err : goal.returns-in_err-room-clause-err
+returns-in_err-room-clause-err g c = on_err _ _ (Stands-front _ _ _ _ _ _ (Stands-first g.A.InMode.mode _ _))
+
+pub returns-clause-err : goal.returns-clause-err
+returns-clause-err g c = Stands-front _ _ _ _ _ _ c.reads.invariant.stands
+
+pub returns-in_default-clause-err : goal.returns-in_default-clause-err
+returns-in_default-clause-err g c =
+    Stands-front _ _ _ _ _ _ (Stands-kept _ _ _ _ _ _ _ c.reads.invariant.stands c.in_default.ensures.bytes)
+
+pub returns-in_err-finish-clause-err : goal.returns-in_err-finish-clause-err
+returns-in_err-finish-clause-err g c =
+    on_err _ _ (Stands-front _ _ _ _ _ _
+    (Stands-read_none _ _ _ _ _ _ _ _ _ c.reads.invariant.stands c.in-Ok.ensures.bytes.0 c.if-count-eq0.true))
+
+pub returns-then-count-eq0-clause-ok : goal.returns-then-count-eq0-clause-ok
+returns-then-count-eq0-clause-ok g c =
+    let room : 0 < length c.read.new.buf = omega arith in
+    let end = c.in-Ok.ensures.bytes.1 c.if-count-eq0.true room in
+    let written : c.as_slice.result.now ≡ output languages g.A.InMode.mode c.reads.pending.items =
+    c.as_slice.ensures ∙ c.in_ok-finish.ensures
+    ∙ ap (λ (t : Text). t ++ output languages g.A.InMode.mode c.reads.pending.items) c.clear.ensures in
+    on_ok_then _ _ _ c.write_whole.ensures.ok (λ took. Stands-end _ _ _ _ _ _ _ c.as_slice.result.now
+    (Stands-read_none _ _ _ _ _ _ _ _ _ c.reads.invariant.stands c.in-Ok.ensures.bytes.0 c.if-count-eq0.true)
+    end written took)
+
+pub returns-then-count-eq0-clause-err : goal.returns-then-count-eq0-clause-err
+returns-then-count-eq0-clause-err g c =
+    let room : 0 < length c.read.new.buf = omega arith in
+    let end = c.in-Ok.ensures.bytes.1 c.if-count-eq0.true room in
+    let written : c.as_slice.result.now ≡ output languages g.A.InMode.mode c.reads.pending.items =
+    c.as_slice.ensures ∙ c.in_ok-finish.ensures
+    ∙ ap (λ (t : Text). t ++ output languages g.A.InMode.mode c.reads.pending.items) c.clear.ensures in
+    on_err_then _ _ _ c.write_whole.ensures.err
+    (λ took. Stands-end_part _ _ _ _ _ _ _ c.as_slice.result.now took.written
+    (Stands-read_none _ _ _ _ _ _ _ _ _ c.reads.invariant.stands c.in-Ok.ensures.bytes.0 c.if-count-eq0.true)
+    end written took.bytes took.begins)
+
+pub returns-in_err-feed-clause-err : goal.returns-in_err-feed-clause-err
+returns-in_err-feed-clause-err g c =
+    on_err _ _
+    (Stands-front _ _ _ _ _ _ (Stands-read _ _ _ _ _ _ _ _ c.reads.invariant.stands c.in-Ok.ensures.bytes.0))
+
+pub returns-in_err-write_whole-clause-err : goal.returns-in_err-write_whole-clause-err
+returns-in_err-write_whole-clause-err g c =
+    let count = c.in-Ok.count in
+    let piece = c.split_at.result.0.now in
+    let given : piece ≡ take count c.read.new.buf = c.split_at.ensures.front in
+    let fed = Replies-fed g.A.InMode.mode (held c.clear.new.self) c.reads.pending.items piece
+    c.feed.new.pending.items (held c.feed.new.replies) c.clear.ensures c.in_ok-feed.ensures.ahead in
+    let took = c.in_err-write_whole.ensures.err in
+    on_err _ _ (Stands-part _ _ _ _ _ _ _ _ _ took.written
+    (Stands-read _ _ _ _ _ _ _ piece c.reads.invariant.stands
+    (subst (Consumes _ _) (sym given) c.in-Ok.ensures.bytes.0))
+    fed took.bytes
+    (subst (λ (t : Text). StartsWith t took.written) c.as_slice-in-reads.ensures took.begins))
+
+pub reads-preserved : goal.reads-preserved
+reads-preserved g c =
+    let count = c.in-Ok.count in
+    let piece = c.split_at.result.0.now in
+    let replies = held c.feed.new.replies in
+    let given : piece ≡ take count c.read.new.buf = c.split_at.ensures.front in
+    let fed = Replies-fed g.A.InMode.mode (held c.clear.new.self) c.reads.pending.items piece
+    c.feed.new.pending.items replies c.clear.ensures c.in_ok-feed.ensures.ahead in
+    let written : replies ≡ c.as_slice-in-reads.result.now = sym c.as_slice-in-reads.ensures in
+    record {
+      one_line = c.in_ok-feed.ensures.one_line;
+      room = omega arith;
+      stands = Stands-written _ _ _ _ _ _ _ _ _
+          (Stands-read _ _ _ _ _ _ _ piece c.reads.invariant.stands
+          (subst (Consumes _ _) (sym given) c.in-Ok.ensures.bytes.0))
+          fed (subst (Appends _ _) (sym written) c.in_ok-write_whole.ensures.ok);
+    }

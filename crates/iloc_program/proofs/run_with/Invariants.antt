@@ -1,0 +1,12 @@
+use Rattle.std.proofs.Common.{◌<◌, length}
+use Rattle.iloc_program.specs.Lines.{IsOneLine}
+use Rattle.iloc_program.proofs.RunLemmas.{Stands}
+use Rattle.iloc_program.proofs.run_with.Given as goal
+
+abbrev pub invariant-reads : goal.invariant-reads
+invariant-reads g l = record {
+  one_line : IsOneLine l.pending.items;
+  room : 0 < length l.block;
+  stands : Stands g.A.InMode.mode (g.R.Read.remaining l.fn.reader) (g.R.Read.remaining l.reader)
+      (g.W.Write.contents l.fn.writer) (g.W.Write.contents l.writer) l.pending.items;
+}

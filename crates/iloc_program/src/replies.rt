@@ -1,0 +1,33 @@
+//! What is replied to a line that is refused.
+ghost use Rattle.std.specs.Prelude.{◌≡◌, ◌≢◌, [], ◌∷◌, ◌++◌, OnOk};
+ghost use Rattle.iloc_program.specs.ReplyBlock.{held};
+ghost use Rattle.iloc_program.specs.Answers.{refusal_text};
+
+use crate::reply_block::ReplyBlock;
+use iloc_subtags::ParseError;
+use std::alloc::AllocError;
+
+// Adds why a line has no answer, and a newline. That an allocation fails is no answer to a line.
+#[inline(always)]
+pub(crate) fn write_refusal(error: ParseError, replies: &mut ReplyBlock) -> Result<(), AllocError>
+    ensures text { OnOk result (held replies.new
+        ≡ held replies.old ++ (refusal_text error ++ 10 ∷ [])) }
+    ensures known { OnOk result (error ≢ ParseError.OutOfMemory) }
+{
+    match error {
+        ParseError::InvalidLanguage => replies.push_first(*INVALID_LANGUAGE, 39),
+        ParseError::InvalidSubtag => replies.push_first(*INVALID_SUBTAG, 17),
+        ParseError::InvalidExtension => replies.push_first(*INVALID_EXTENSION, 20),
+        ParseError::DuplicatedExtension => replies.push_first(*DUPLICATED_EXTENSION, 23),
+        ParseError::OutOfMemory => Err(AllocError),
+    }
+}
+
+// The words of each refusal and a newline, in 48 bytes, so that they are stored at once.
+const INVALID_LANGUAGE: &[u8; 48] = b"! The given language subtag is invalid\n         ";
+
+const INVALID_SUBTAG: &[u8; 48] = b"! Invalid subtag\n                               ";
+
+const INVALID_EXTENSION: &[u8; 48] = b"! Invalid extension\n                            ";
+
+const DUPLICATED_EXTENSION: &[u8; 48] = b"! Duplicated extension\n                         ";

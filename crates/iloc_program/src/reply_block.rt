@@ -1,0 +1,163 @@
+//! The replies to a block of lines, as they are collected.
+ghost use Rattle.std.specs.Prelude.{◌≡◌, ◌+◌, ◌≤◌, [], ◌∷◌, ◌++◌, length, take, vec_len, IfOk, OnOk, OnErr};
+
+use iloc_normalize::{Lead, Mode, Written, write_normal};
+use iloc_pieces::Plain;
+use iloc_spans::spans::Spans;
+use std::alloc::{AllocError, Global};
+use std::cmp::max;
+
+// The room that is made first, so that the replies to most blocks need no more.
+const FIRST_ROOM: usize = 131_072;
+
+/// Bytes that count, and room behind them. What stands in the room says nothing, so that a plain text is
+/// stored as sixteen bytes at once, whatever its length.
+#[derive(Drop)]
+pub struct ReplyBlock {
+    room: Vec<u8>,
+    len: usize,
+    ghost within: { len ≤ vec_len room },
+}
+
+impl ReplyBlock {
+    ghost use Rattle.iloc_program.specs.ReplyBlock.{held};
+    ghost use Rattle.iloc_program.specs.Replies.{IsReplied};
+    ghost use Rattle.iloc_normalize.specs.Answered.{IsLead};
+    ghost use Rattle.iloc_spec_grammar.specs.Values.{identifier_text};
+    ghost use Rattle.iloc_pieces.specs.Plain.{AreWords, value_of};
+
+    /// No bytes. It allocates nothing.
+    pub fn new(alloc: Global) -> Self
+        ensures { held result ≡ [] }
+    {
+        ReplyBlock {
+            room: Vec::new(alloc),
+            len: 0,
+        }
+    }
+
+    /// Forgets the bytes, and keeps their room.
+    pub fn clear(&mut self)
+        ensures { held self.new ≡ [] }
+    {
+        self.len = 0;
+    }
+
+    /// The bytes that count.
+    pub fn as_slice(&self) -> &[u8]
+        ensures { result.now ≡ held self.now }
+    {
+        &self.room.as_slice()[..self.len]
+    }
+
+    /// Adds a byte.
+    #[inline(always)]
+    pub fn push(&mut self, byte: u8) -> Result<(), AllocError>
+        ensures { OnOk result (held self.new ≡ held self.old ++ byte ∷ []) }
+    {
+        self.make_room(1)?;
+        self.put(&[byte], 1);
+        Ok(())
+    }
+
+    /// Adds the first of these bytes, and stores all of them.
+    #[inline(always)]
+    pub(crate) fn push_first(&mut self, bytes: [u8; 48], count: usize) -> Result<(), AllocError>
+        requires { count ≤ 48 }
+        ensures { OnOk result (held self.new ≡ held self.old ++ take count bytes) }
+    {
+        self.make_room(48)?;
+        self.put(&bytes, count);
+        Ok(())
+    }
+
+    /// Adds the normal text of a plain identifier, and a newline.
+    #[inline(always)]
+    pub(crate) fn push_plain(&mut self, plain: &Plain) -> Result<(), AllocError>
+        requires { AreWords plain.now }
+        ensures { OnOk result (held self.new
+            ≡ held self.old ++ (identifier_text (value_of plain.now) ++ 10 ∷ [])) }
+    {
+        self.make_room(17)?;
+        self.put(plain.bytes.as_array(), plain.len);
+        self.put(b"\n", 1);
+        Ok(())
+    }
+
+    /// Adds the normal text of the first `len` bytes, of which their beginning tells this, and a newline; or nothing.
+    #[inline(always)]
+    pub(crate) fn push_answered(
+        &mut self,
+        mode: Mode,
+        lead: Lead,
+        window: &[u8],
+        len: usize,
+        spans: &mut Spans,
+    ) -> Result<Written, AllocError>
+        requires wide { len + 16 ≤ length window.now }
+        requires lead { IsLead mode (take len window.now) lead }
+        ensures { IfOk result
+            (IsReplied mode (take len window.now) (held self.old) (held self.new)) }
+    {
+        self.make_room(len + 17)?;
+        let start = self.len;
+        let to = &mut self.room.as_mut_slice()[start..];
+        let written = write_normal(mode, lead, window, len, spans, to);
+        if let Written::Normal(count) = written {
+            self.len = start + count;
+            self.put(b"\n", 1);
+        }
+        Ok(written)
+    }
+
+    /// Adds these bytes.
+    pub fn extend_from_slice(&mut self, bytes: &[u8]) -> Result<(), AllocError>
+        ensures ok { OnOk result (held self.new ≡ held self.old ++ bytes.now) }
+        ensures err { OnErr result (held self.new ≡ held self.old) }
+    {
+        self.make_room(bytes.len())?;
+        self.put(bytes, bytes.len());
+        Ok(())
+    }
+
+    // Sees that there is room for so many more.
+    #[inline(always)]
+    fn make_room(&mut self, more: usize) -> Result<(), AllocError>
+        ensures held { held self.new ≡ held self.old }
+        ensures room { OnOk result (self.new.len + more ≤ vec_len self.new.room) }
+    {
+        if self.room.len() - self.len < more {
+            return self.grow(more);
+        }
+        Ok(())
+    }
+
+    // Makes room for so many more, and for twice as many as there was room for.
+    #[inline(never)]
+    fn grow(&mut self, more: usize) -> Result<(), AllocError>
+        ensures held { held self.new ≡ held self.old }
+        ensures room { OnOk result (self.new.len + more ≤ vec_len self.new.room) }
+    {
+        let Some(least) = self.len.checked_add(more) else {
+            return Err(AllocError);
+        };
+        let doubled = max(self.room.len().saturating_mul(2), FIRST_ROOM);
+        let size = max(least, doubled);
+        self.room.resize(size, 0)
+    }
+
+    // Stores these bytes behind those that count, and counts the first of them.
+    #[inline(always)]
+    fn put(&mut self, bytes: &[u8], count: usize)
+        requires room { self.old.len + length bytes.now ≤ vec_len self.old.room }
+        requires within { count ≤ length bytes.now }
+        ensures held { held self.new ≡ held self.old ++ take count bytes.now }
+        ensures len { self.new.len ≡ self.old.len + count }
+        ensures room { vec_len self.new.room ≡ vec_len self.old.room }
+    {
+        let start = self.len;
+        let end = start + bytes.len();
+        self.room.as_mut_slice()[start..end].copy_from_slice(bytes);
+        self.len = start + count;
+    }
+}

@@ -1,0 +1,4 @@
+pub mod More
+pub mod Spans
+pub mod Inserting
+pub mod Group

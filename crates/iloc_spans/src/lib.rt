@@ -1,0 +1,14 @@
+//! Room for the parts of a text: 64 spans in place, and more in memory of the allocator.
+//!
+//! It promises that spans stand in the order in which they were put (`held_spans`), and that one that comes too late is put
+//! where its number belongs (`IsInserted`). Nothing is lost where the room in place is full: the spans move to memory that
+//! grows (`more`), and many of them are put in order by a tree (`group`). What stays in place needs no allocator.
+//!
+//! It stands on one definition of the grammar, of what is among a list's items, and knows no text.
+#![tactic(auto)]
+
+pub mod group;
+pub mod inserting;
+pub mod more;
+pub mod span;
+pub mod spans;
