@@ -1,9 +1,9 @@
-use Rattle.std.proofs.Common.{◌≡◌, ◌∙◌, ℕ, refl, sym, arith, ◌<◌, true, false, get_or, length, Result, Ok, Err, None}
+use Rattle.std.proofs.Common.{◌≡◌, ◌∙◌, ℕ, refl, sym, arith, ◌<◌, false, get_or, length, Result, Ok, Err, None}
 use Rattle.std.proofs.Common.{List}
 use Rattle.std.specs.Ordering.{is_eq}
 use Rattle.std.specs.declared.cmp.Ordering.{Ordering}
 use Rattle.std.specs.declared.cmp.Ordering.TheVariants.{Less, Equal, Greater}
-use Rattle.iloc_litemap.specs.Pairs.{IsNear, place_of}
+use Rattle.iloc_litemap.specs.Pairs.{IsNear}
 use Rattle.iloc_litemap.proofs.Edits.{edited, found_value, value_at}
 use Rattle.iloc_litemap.proofs.Places.{Tells, rank, tells_as_read, ok_of_rank, equal}
 use Rattle.iloc_litemap.proofs.search.value_of.Goals as goal
