@@ -1,4 +1,4 @@
-use Rattle.std.proofs.Common.{◌≡◌, ◌∙◌, ℕ, refl, sym, arith, ◌<◌, false, get_or, length, Result, Ok, Err, None}
+use Rattle.std.proofs.Common.{ap, Some, ◌≡◌, ◌∙◌, ℕ, refl, sym, arith, ◌<◌, false, length, Result, Ok, Err, None}
 use Rattle.std.proofs.Common.{List}
 use Rattle.std.specs.Ordering.{is_eq}
 use Rattle.std.specs.declared.cmp.Ordering.{Ordering}
@@ -11,14 +11,14 @@ use Rattle.iloc_litemap.proofs.search.value_of.Goals as goal
 pub returns-then-eq-2 : goal.returns-then-eq-2
 returns-then-eq-2 g c =
     let pairs = c.args.pairs.now in
-    let at = c.nearest-at.result in
-    let inside : at < length pairs = omega arith in
-    let eq = rw (g.met.K.Ord.matches_eq (get_or pairs at c.index-pairs-at.result).0 c.args.key.now)
+    let inside : c.nearest-at.result < length pairs = omega arith in
+    let eq = rw (g.met.K.Ord.matches_eq c.index-pairs-at.result.0 c.args.key.now)
     at c.eq-then-pairs-ge8.ensures in
-    let t = tells_as_read g.met.K.Ord.total c.args.key.now pairs at c.index-pairs-at.result _ c.requires inside
-    (equal _ (sym eq ∙ c.if-eq-2.true)) in
+    let t = tells_as_read g.met.K.Ord.total c.args.key.now pairs c.nearest-at.result c.index-pairs-at.result _
+    c.requires inside (equal _ (sym eq ∙ c.if-eq-2.true)
+    ∙ ap (λ e. g.K.Ord.cmp e.0 c.args.key.now) c.index-pairs-at.is) in
     let there = edited g.met.K.Ord.total c.args.key.now pairs c.requires (sym (ok_of_rank _ _ (sym t))) in
-    found_value _ _ _ _ _ _ there refl inside
+    ap (λ e. Some e.1) c.index-pairs-at.is ∙ found_value _ _ _ _ _ _ there refl inside
 
 nothing_there : {K V : Type 0} (es : List (K × V)) (r : Result ℕ ℕ) (i : ℕ) (o : Ordering) → IsNear r i
     → Tells (rank r) i o → is_eq o ≡ false → value_at es r ≡ None
@@ -30,10 +30,10 @@ nothing_there es (Ok j) i Greater near t h = absurd (omega (arith, near, t))
 pub returns-else-eq-2 : goal.returns-else-eq-2
 returns-else-eq-2 g c =
     let pairs = c.args.pairs.now in
-    let at = c.nearest-at.result in
-    let eq = rw (g.met.K.Ord.matches_eq (get_or pairs at c.index-pairs-at.result).0 c.args.key.now)
+    let eq = rw (g.met.K.Ord.matches_eq c.index-pairs-at.result.0 c.args.key.now)
     at c.eq-then-pairs-ge8.ensures in
-    let t = tells_as_read g.met.K.Ord.total c.args.key.now pairs at c.index-pairs-at.result _ c.requires
-    (omega arith) refl in
+    let t = tells_as_read g.met.K.Ord.total c.args.key.now pairs c.nearest-at.result c.index-pairs-at.result _
+    c.requires (omega arith) (ap (λ e. g.K.Ord.cmp e.0 c.args.key.now) c.index-pairs-at.is) in
     let found = edited g.met.K.Ord.total c.args.key.now pairs c.requires refl in
-    sym (found.value ∙ nothing_there pairs _ at _ c.nearest-at.ensures.near t (sym eq ∙ c.if-eq-2.false))
+    sym (found.value
+    ∙ nothing_there pairs _ _ _ c.nearest-at.ensures.near t (sym eq ∙ c.if-eq-2.false))
