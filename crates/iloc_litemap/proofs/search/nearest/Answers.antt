@@ -35,10 +35,10 @@ loop-size-preserved g c =
     elim c.if-is_le.branch [
       | then-is_le w ↦
           let from = from_there c.cmp.result n middle t (sym c.is_le.ensures ∙ w.if-is_le.true) in
-          record { some = λ some. omega arith; end = omega arith; from = λ later. omega arith; upto = omega arith }
+          record { some = λ s. omega arith; end = omega arith; from = λ l. omega arith; upto = omega arith }
       | else-is_le w ↦
           let upto = up_to_there c.cmp.result n middle t (sym c.is_le.ensures ∙ w.if-is_le.false) in
-          record { some = λ some. omega arith; end = omega arith; from = λ later. omega arith; upto = omega arith }
+          record { some = λ s. omega arith; end = omega arith; from = λ l. omega arith; upto = omega arith }
     ]
 
 at_least : (low n : ℕ) → (0 < low → 2 * low < n) → 2 * low ≤ n
