@@ -37,6 +37,7 @@ impl<K: Drop, V: Drop> Store<K, V> for Vec<(K, V)> {
         &mut pair.1
     }
 
+    // The tail is rotated, since LLVM turns that into `memmove`.
     fn lm_insert(
         &mut self,
         _alloc: Global,
