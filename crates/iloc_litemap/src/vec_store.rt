@@ -37,8 +37,7 @@ impl<K: Drop, V: Drop> Store<K, V> for Vec<(K, V)> {
         &mut pair.1
     }
 
-    // It stands apart, so that a key that is there pays nothing for it. Behind the last pair no pair moves.
-    #[inline(never)]
+    // The tail is rotated, since LLVM turns that into `memmove`.
     fn lm_insert(
         &mut self,
         _alloc: Global,
@@ -46,10 +45,9 @@ impl<K: Drop, V: Drop> Store<K, V> for Vec<(K, V)> {
         key: K,
         value: V,
     ) -> Result<(), AllocError> {
-        if index == self.len() {
-            return Ok(self.push((key, value))?);
-        }
-        Ok(self.insert(index, (key, value))?)
+        self.push((key, value))?;
+        self.slice_mut(index..).rotate_right(1);
+        Ok(())
     }
 
     fn lm_remove(&mut self, index: usize) -> (K, V) {

@@ -17,8 +17,8 @@ loop-pair-init g c =
       room = c.in_ok-all.ensures.capacity;
     }
 
-pub push_within-requires : goal.push_within-requires
-push_within-requires g c =
+pub push_reserved-requires : goal.push_reserved-requires
+push_reserved-requires g c =
     let it = c.loop-pair.pair-iterator in
     let first = ap length (g.met.S.Store.takes_first it (Some c.in-Some.pair) c.next.new.self
     c.in-Some.ensures.steps) in
@@ -33,9 +33,9 @@ loop-pair-preserved g c =
     record {
       can = search rules;
       finite = search rules;
-      pairs = push_next _ _ _ _ _ _ c.push_within.ensures.items first c.loop-pair.invariant.pairs;
+      pairs = push_next _ _ _ _ _ _ c.push_reserved.ensures.items first c.loop-pair.invariant.pairs;
       enough = c.loop-pair.invariant.enough;
-      room = omega (arith, c.push_within.ensures.capacity, c.loop-pair.invariant.room);
+      room = omega (arith, c.push_reserved.ensures.capacity, c.loop-pair.invariant.room);
     }
 
 pub invariant_of-self : goal.invariant_of-self

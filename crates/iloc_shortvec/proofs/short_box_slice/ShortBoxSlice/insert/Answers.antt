@@ -27,8 +27,3 @@ pub returns-in-One-clause-err : goal.returns-in-One-clause-err
 returns-in-One-clause-err g c =
     subst (λ xs. OnErr c.insert_beside.result (items_of c.insert_beside.new.self ≡ xs)) c.self.view_is
     c.insert_beside.ensures.err
-
-pub returns-in_ok-insert-in-Many-clause-ok : goal.returns-in_ok-insert-in-Many-clause-ok
-returns-in_ok-insert-in-Many-clause-ok g c =
-    c.in_ok-insert-in-Many.ensures.items ∙ ap (λ xs. insert xs c.args.index c.args.item)
-    (ap items_of (sym c.in-Many.is) ∙ c.self.view_is)
