@@ -7,20 +7,22 @@ ghost use Rattle.iloc_locale.specs.ExtensionsValue.{value_of};
 use crate::extensions::Extensions;
 use iloc_other::{Other, Private};
 use iloc_transform::Transform;
-use iloc_unicode::{Attributes, Keywords};
+use iloc_unicode::{Attributes, Unicode};
 use std::alloc::AllocError;
 
-/// Copies each part that is there into extensions that have none. Most have keywords alone.
+/// A copy, in which empty parts are not copied. Most have keywords alone.
 #[inline(always)]
-pub(crate) fn fill_from(to: &mut Extensions, from: &Extensions) -> Result<(), AllocError>
-    requires { value_of to.old ≡ no_extensions }
-    ensures { OnOk result (value_of to.new ≡ value_of from.now) }
+pub(crate) fn copied(from: &Extensions) -> Result<Extensions, AllocError>
+    ensures { IfOk result (λ copy. value_of copy ≡ value_of from.now) }
 {
-    copy_keywords(&mut to.unicode.keywords, &from.unicode.keywords)?;
-    if has_keywords_alone(from) {
-        return Ok(());
+    let mut copy = Extensions::new(*from.other.allocator());
+    if !from.unicode.keywords.is_empty() {
+        copy.unicode.keywords = from.unicode.keywords.clone()?;
     }
-    fill_rest(to, from)
+    if !has_keywords_alone(from) {
+        fill_rest(&mut copy, from)?;
+    }
+    Ok(copy)
 }
 
 // Whether there is nothing but keywords.
@@ -70,14 +72,6 @@ macro_rules! copied {
 }
 
 #[inline(always)]
-fn copy_keywords(to: &mut Keywords, from: &Keywords) -> Result<(), AllocError>
-    requires { to.old ≡ [] }
-    ensures { OnOk result (to.new ≡ from.now) }
-{
-    copied!(to, from)
-}
-
-#[inline(always)]
 fn copy_attributes(to: &mut Attributes, from: &Attributes) -> Result<(), AllocError>
     requires { to.old ≡ [] }
     ensures { OnOk result (to.new ≡ from.now) }
@@ -90,7 +84,13 @@ fn copy_transform(to: &mut Transform, from: &Transform) -> Result<(), AllocError
     requires { transforms.value_of to.old ≡ no_transform }
     ensures { OnOk result (transforms.value_of to.new ≡ transforms.value_of from.now) }
 {
-    copied!(to, from)
+    if let Some(lang) = &from.lang {
+        to.lang = Some(lang.clone()?);
+    }
+    if !from.fields.is_empty() {
+        to.fields = from.fields.clone()?;
+    }
+    Ok(())
 }
 
 #[inline(always)]

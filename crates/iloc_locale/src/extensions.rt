@@ -4,7 +4,7 @@ ghost use Rattle.iloc_spec_parts.specs.Orders.{extensions_cmp};
 ghost use Rattle.iloc_unicode.specs.UnicodeValue as unicode_value;
 ghost use Rattle.iloc_locale.specs.Retaining.{RetainsByType};
 
-use crate::copying::fill_from;
+use crate::copying::copied;
 use crate::extension_type::ExtensionType;
 use iloc_other::{Other, Private};
 use iloc_transform::Transform;
@@ -31,10 +31,9 @@ impl Clone for Extensions {
 
     ghost is_clone = { λ d e. value_of e ≡ value_of d };
 
+    #[inline(always)]
     fn clone(&self) -> Result<Self, AllocError> {
-        let mut copy = Extensions::new(*self.other.allocator());
-        fill_from(&mut copy, self)?;
-        Ok(copy)
+        copied(self)
     }
 }
 
@@ -43,11 +42,15 @@ impl Extensions {
     ghost use Rattle.iloc_locale.specs.ExtensionsValue.{value_of};
 
     /// No extension.
-    #[inline(always)]
     pub fn new(alloc: Global) -> Self
         ensures { value_of result ≡ no_extensions }
     {
-        Extensions::from_unicode(alloc, Unicode::new())
+        Extensions {
+            unicode: Unicode::new(),
+            transform: Transform::new(alloc),
+            private: Private::new(),
+            other: Vec::new(alloc),
+        }
     }
 
     /// This unicode extension, and all else empty.
