@@ -31,7 +31,6 @@ impl Clone for Extensions {
 
     ghost is_clone = { λ d e. value_of e ≡ value_of d };
 
-    #[inline(always)]
     fn clone(&self) -> Result<Self, AllocError> {
         copied(self)
     }
@@ -42,15 +41,11 @@ impl Extensions {
     ghost use Rattle.iloc_locale.specs.ExtensionsValue.{value_of};
 
     /// No extension.
+    #[inline(always)]
     pub fn new(alloc: Global) -> Self
         ensures { value_of result ≡ no_extensions }
     {
-        Extensions {
-            unicode: Unicode::new(),
-            transform: Transform::new(alloc),
-            private: Private::new(),
-            other: Vec::new(alloc),
-        }
+        Extensions::from_unicode(alloc, Unicode::new())
     }
 
     /// This unicode extension, and all else empty.

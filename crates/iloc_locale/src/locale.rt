@@ -7,6 +7,7 @@ ghost use Rattle.iloc_spec_grammar.specs.Meaning.{Means, Fault, HasFault};
 ghost use Rattle.iloc_spec_grammar.specs.Values.{TextStep, Leads, IsWellFormed};
 ghost use Rattle.iloc_locale.specs.LocaleReading.{value_of, unknown_locale, LocaleTextAnswers};
 
+use crate::copying::copied;
 use crate::{Extensions, read_blocks};
 use iloc_langid::LanguageIdentifier;
 use iloc_langid::reader::{fill_head, fill_short};
@@ -41,7 +42,7 @@ impl Clone for Locale {
     fn clone(&self) -> Result<Self, AllocError> {
         Ok(Locale {
             id: self.id.clone()?,
-            extensions: self.extensions.clone()?,
+            extensions: copied(&self.extensions)?,
         })
     }
 }
