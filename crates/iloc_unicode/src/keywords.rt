@@ -192,10 +192,17 @@ impl Keywords {
     {
         // A first pair needs no place.
         if self.is_empty() {
-            *self = Keywords::new_single(key, value);
+            self.put_first(key, value);
             return Ok(None);
         }
         self.map.insert(alloc, key, value)
+    }
+
+    // Leaves this one pair. As a call apart it takes fewer instructions, also where LLVM inlines it.
+    fn put_first(&mut self, key: Key, value: Value)
+        ensures { self.new ≡ (key, value) ∷ [] }
+    {
+        *self = Keywords::new_single(key, value);
     }
 
     // A copy. It stands apart, so that a key with one subtag pays nothing for it.
