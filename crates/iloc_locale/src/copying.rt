@@ -1,5 +1,5 @@
 //! Copies extensions, without their empty parts.
-ghost use Rattle.std.specs.Prelude.{◌≡◌, [], IsTrue, OnOk};
+ghost use Rattle.std.specs.Prelude.{◌≡◌, [], IsTrue, OnOk, IfOk};
 ghost use Rattle.iloc_spec_grammar.specs.Meaning.{no_extensions, no_transform};
 ghost use Rattle.iloc_transform.specs.TransformReading as transforms;
 ghost use Rattle.iloc_locale.specs.ExtensionsValue.{value_of};
@@ -7,20 +7,30 @@ ghost use Rattle.iloc_locale.specs.ExtensionsValue.{value_of};
 use crate::extensions::Extensions;
 use iloc_other::{Other, Private};
 use iloc_transform::Transform;
-use iloc_unicode::{Attributes, Keywords};
-use std::alloc::AllocError;
+use iloc_unicode::Attributes;
+use std::alloc::{AllocError, Global};
 
-/// Copies each part that is there into extensions that have none. Most have keywords alone.
+/// A copy, in which empty parts are not copied. Most have keywords alone.
 #[inline(always)]
-pub(crate) fn fill_from(to: &mut Extensions, from: &Extensions) -> Result<(), AllocError>
-    requires { value_of to.old ≡ no_extensions }
-    ensures { OnOk result (value_of to.new ≡ value_of from.now) }
+pub(crate) fn copied(from: &Extensions) -> Result<Extensions, AllocError>
+    ensures { IfOk result (λ copy. value_of copy ≡ value_of from.now) }
 {
-    copy_keywords(&mut to.unicode.keywords, &from.unicode.keywords)?;
-    if has_keywords_alone(from) {
-        return Ok(());
+    let mut copy = none(*from.other.allocator());
+    if !from.unicode.keywords.is_empty() {
+        copy.unicode.keywords = from.unicode.keywords.clone()?;
     }
-    fill_rest(to, from)
+    if !has_keywords_alone(from) {
+        fill_rest(&mut copy, from)?;
+    }
+    Ok(copy)
+}
+
+// No extension. LLVM shortens this call, and then puts it where it is called: in this order it takes
+// fewer instructions.
+fn none(alloc: Global) -> Extensions
+    ensures { value_of result ≡ no_extensions }
+{
+    Extensions::new(alloc)
 }
 
 // Whether there is nothing but keywords.
@@ -70,14 +80,6 @@ macro_rules! copied {
 }
 
 #[inline(always)]
-fn copy_keywords(to: &mut Keywords, from: &Keywords) -> Result<(), AllocError>
-    requires { to.old ≡ [] }
-    ensures { OnOk result (to.new ≡ from.now) }
-{
-    copied!(to, from)
-}
-
-#[inline(always)]
 fn copy_attributes(to: &mut Attributes, from: &Attributes) -> Result<(), AllocError>
     requires { to.old ≡ [] }
     ensures { OnOk result (to.new ≡ from.now) }
@@ -90,7 +92,13 @@ fn copy_transform(to: &mut Transform, from: &Transform) -> Result<(), AllocError
     requires { transforms.value_of to.old ≡ no_transform }
     ensures { OnOk result (transforms.value_of to.new ≡ transforms.value_of from.now) }
 {
-    copied!(to, from)
+    if let Some(lang) = &from.lang {
+        to.lang = Some(lang.clone()?);
+    }
+    if !from.fields.is_empty() {
+        to.fields = from.fields.clone()?;
+    }
+    Ok(())
 }
 
 #[inline(always)]

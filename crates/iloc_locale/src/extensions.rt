@@ -4,7 +4,7 @@ ghost use Rattle.iloc_spec_parts.specs.Orders.{extensions_cmp};
 ghost use Rattle.iloc_unicode.specs.UnicodeValue as unicode_value;
 ghost use Rattle.iloc_locale.specs.Retaining.{RetainsByType};
 
-use crate::copying::fill_from;
+use crate::copying::copied;
 use crate::extension_type::ExtensionType;
 use iloc_other::{Other, Private};
 use iloc_transform::Transform;
@@ -32,9 +32,7 @@ impl Clone for Extensions {
     ghost is_clone = { λ d e. value_of e ≡ value_of d };
 
     fn clone(&self) -> Result<Self, AllocError> {
-        let mut copy = Extensions::new(*self.other.allocator());
-        fill_from(&mut copy, self)?;
-        Ok(copy)
+        copied(self)
     }
 }
 

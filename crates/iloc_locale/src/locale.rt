@@ -7,7 +7,7 @@ ghost use Rattle.iloc_spec_grammar.specs.Meaning.{Means, Fault, HasFault};
 ghost use Rattle.iloc_spec_grammar.specs.Values.{TextStep, Leads, IsWellFormed};
 ghost use Rattle.iloc_locale.specs.LocaleReading.{value_of, unknown_locale, LocaleTextAnswers};
 
-use crate::copying::fill_from;
+use crate::copying::copied;
 use crate::{Extensions, read_blocks};
 use iloc_langid::LanguageIdentifier;
 use iloc_langid::reader::{fill_head, fill_short};
@@ -40,12 +40,10 @@ impl Clone for Locale {
 
     #[inline(always)]
     fn clone(&self) -> Result<Self, AllocError> {
-        let mut copy = Locale {
+        Ok(Locale {
             id: self.id.clone()?,
-            extensions: Extensions::new(*self.extensions.other.allocator()),
-        };
-        fill_from(&mut copy.extensions, &self.extensions)?;
-        Ok(copy)
+            extensions: copied(&self.extensions)?,
+        })
     }
 }
 

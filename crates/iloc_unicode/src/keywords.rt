@@ -49,7 +49,7 @@ ghost use Rattle.iloc_litemap.specs.Pairs.{HasAscendingKeys};
 use iloc_litemap::LiteMap;
 use iloc_shortvec::ShortBoxSlice;
 use iloc_subtags::{ParseError, SubtagIterator, UnicodeKey as Key};
-use iloc_word_list::Value;
+use iloc_word_list::{Value, copy_of_single};
 use std::alloc::{AllocError, Global};
 use std::cmp::Ordering;
 use std::marker::Model;
@@ -192,10 +192,27 @@ impl Keywords {
     {
         // A first pair needs no place.
         if self.is_empty() {
-            *self = Keywords::new_single(key, value);
+            self.put_first(key, value);
             return Ok(None);
         }
         self.map.insert(alloc, key, value)
+    }
+
+    // Leaves this one pair. As a call apart it takes fewer instructions, also where LLVM inlines it.
+    fn put_first(&mut self, key: Key, value: Value)
+        ensures { self.new ≡ (key, value) ∷ [] }
+    {
+        *self = Keywords::new_single(key, value);
+    }
+
+    // A copy. It stands apart, so that a key with one subtag pays nothing for it.
+    #[inline(never)]
+    fn copied(&self) -> Result<Self, AllocError>
+        ensures { IfOk result (λ copy. copy ≡ self.now) }
+    {
+        Ok(Keywords {
+            map: self.map.clone()?,
+        })
     }
 
     // Sets the value of a key that isn't there; else nothing changes.
@@ -382,11 +399,11 @@ impl Clone for Keywords {
 
     fn clone(&self) -> Result<Self, AllocError> {
         if let [(key, value)] = self.as_slice() {
-            return Ok(Keywords::new_single(*key, value.clone()?));
+            if let Some(value) = copy_of_single(value) {
+                return Ok(Keywords::new_single(*key, value));
+            }
         }
-        Ok(Keywords {
-            map: self.map.clone()?,
-        })
+        self.copied()
     }
 }
 

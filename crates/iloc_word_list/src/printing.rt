@@ -55,6 +55,9 @@ impl Value {
     pub fn eq_str(&self, other: &str) -> bool
         ensures { IsTrue result ↔ (join self.now ≡ other.now) }
     {
-        cmp_utf8(self, other.as_bytes()).is_eq()
+        match self.as_subtags_slice() {
+            [subtag] => subtag.as_str() == other,
+            _ => cmp_utf8(self, other.as_bytes()).is_eq(),
+        }
     }
 }

@@ -1,5 +1,5 @@
 //! A list of subtags.
-ghost use Rattle.std.specs.Prelude.{◌≡◌, ◌<◌, ◌≤◌, ◌↔◌, ℕ, List, [], ◌∷◌, ◌++◌, length, remove, take, slice_get, OnOk, OnErr, IfOk, IsOk, IsTrue, true, Ok, option_to_list};
+ghost use Rattle.std.specs.Prelude.{◌≡◌, ◌<◌, ◌≤◌, ◌↔◌, ℕ, List, [], ◌∷◌, ◌++◌, length, remove, take, slice_get, OnOk, OnErr, IfOk, IsOk, IsTrue, IsSome, IfSome, true, Ok, option_to_list};
 ghost use Rattle.std.specs.List.{AllByRecursion};
 ghost use Rattle.std.specs.Iterator.{IsFiniteIterable, Drains};
 ghost use Rattle.std.specs.Option.{option_copied};
@@ -232,6 +232,18 @@ impl Clone for Value {
             subtags: self.subtags.clone()?,
         })
     }
+}
+
+/// A copy of a value of exactly one subtag.
+#[inline(always)]
+pub fn copy_of_single(value: &Value) -> Option<Value>
+    ensures copy { IfSome result (λ copy. copy ≡ value.now) }
+    ensures single { IsSome result ↔ (length value.now ≡ 1) }
+{
+    let subtag = value.as_single_subtag()?;
+    Some(Value {
+        subtags: WordList::from_word(*subtag),
+    })
 }
 
 impl IntoIterator for Value {
