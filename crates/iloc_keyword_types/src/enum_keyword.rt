@@ -55,11 +55,13 @@ fn only_word(value: &Value) -> Option<ShortPiece>
     ensures value { result ≡ single (spelled_value value.now) }
     ensures normal { IfSome result (IsNormal subtag) }
 {
-    match value.as_subtags_slice() {
-        [] => Some(ShortPiece::of_number(0x6575_7274)),
-        [word] => Some(word.to_piece()),
-        _ => None,
+    if let Some(word) = value.as_single_subtag() {
+        return Some(word.to_piece());
     }
+    if value.is_empty() {
+        return Some(ShortPiece::of_number(0x6575_7274));
+    }
+    None
 }
 
 // The first of the variants whose word has this number.
@@ -74,6 +76,7 @@ fn first_with_number<E: EnumKeyword>(variants: &[E], packed: u64) -> Option<E>
 }
 
 /// The value of the variant's word; of `true` it is empty. Reading it gives the variant back.
+#[inline(always)]
 pub fn give_keyword<E: EnumKeyword>(keyword: E) -> Value
     ensures { GivesVariant E.keyword (E.place keyword) result }
 {

@@ -58,7 +58,7 @@ impl DictionaryBreakScriptExclusions {
         let scripts = self.as_inner();
         let mut subtags = Vec::with_capacity(alloc, scripts.len())?;
         for script in scripts {
-            subtags.push(Subtag::from(*script))?;
+            subtags.push_reserved(Subtag::from(*script));
         }
         Ok(Value::from_vec_unchecked(subtags))
     }

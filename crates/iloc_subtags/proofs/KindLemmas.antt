@@ -4,7 +4,7 @@ use Rattle.std.proofs.Common.{refl, sym, ◌∙◌, ap, arith}
 use Rattle.std.proofs.lemmas.Bool.Decides.{nat_tests}
 use Rattle.std.proofs.lemmas.Nat.{or_block}
 use Rattle.std.specs.Int.Bits.{or_zero_r}
-use Rattle.std.specs.Char.{is_ascii_alphanumeric, to_ascii_lowercase}
+use Rattle.std.specs.Char.{is_ascii_alphanumeric, to_ascii_lowercase, to_ascii_uppercase}
 use Rattle.std.specs.Int.RustNames.{bit_or}
 use Rattle.iloc_tinystr.specs.Number.{number}
 use Rattle.iloc_tinystr.specs.TinyText.{is_tiny_text}
@@ -50,14 +50,15 @@ first_lower b r s h =
     ∙ omega (arith, lower_byte b small h)
 
 -- a script in lower case, by its first byte
-pub script_lower : (w : Text) → IsNormal Script w → bit_or (number w) 32 ≡ number (lower w)
+pub script_lower : (w : Text) → IsNormal Script w → number w + 32 ≡ number (lower w)
 unfolding is_word lower upper title
 script_lower [] h = let word = h.0 in cc
 script_lower (a ∷ w) h =
     let word = h.0 in
-    let letter : is_ascii_alphanumeric a ≡ true = grind (arith, nat_tests) in
+    let capital : to_ascii_uppercase a ≡ a = cc in
+    let first : to_ascii_lowercase a ≡ a + 32 = grind (arith, nat_tests) in
     let same : map to_ascii_lowercase w ≡ w = cc in
-    first_lower a (number w) 0 letter ∙ omega (arith, or_zero_r (number w), ap number same)
+    omega (arith, first, ap number same)
 
 two_lower : (a b r : ℕ) → is_ascii_alphanumeric a ≡ true → is_ascii_alphanumeric b ≡ true
     → bit_or (a + 256 * (b + 256 * r)) 8224 ≡ to_ascii_lowercase a + 256 * (to_ascii_lowercase b + 256 * r)

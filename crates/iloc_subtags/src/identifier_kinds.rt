@@ -318,6 +318,6 @@ impl From<Script> for Subtag {
 
     fn from(script: Script) -> Subtag {
         // The first letter alone is in upper case.
-        subtag_of_normal(ShortPiece::of_number(script.to_piece().number() | 0x20))
+        subtag_of_normal(ShortPiece::of_number(script.to_piece().number() + 0x20))
     }
 }

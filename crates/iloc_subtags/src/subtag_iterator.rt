@@ -62,7 +62,10 @@ impl<'a> SubtagIterator<'a> {
     pub fn peek(&self) -> Option<&'a [u8]>
         ensures { option_copied result ≡ first_item (left self.now) }
     {
-        self.text.get(..self.len)
+        if self.len > self.text.len() {
+            return None;
+        }
+        Some(&self.text[..self.len])
     }
 
     // Whether the next piece is as long as subtags of the kind may be; not if none is left.

@@ -144,7 +144,12 @@ impl<K: WordKind<N>, const N: usize> WordOf<K, N> {
     pub fn strict_cmp(self, other: &[u8]) -> Ordering
         ensures { result ≡ slice_cmp nat_cmp self other.now }
     {
-        self.as_str().as_bytes().cmp(other)
+        let text = self.as_str().as_bytes();
+        // Most texts differ in their first byte.
+        match (text, other) {
+            ([first, ..], [byte, ..]) if first != byte => first.cmp(byte),
+            _ => text.cmp(other),
+        }
     }
 
     /// Whether the text equals the subtag's without case, that is, whether the text parses to this subtag.

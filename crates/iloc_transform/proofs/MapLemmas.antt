@@ -9,7 +9,7 @@ use Rattle.iloc_transform.specs.FieldsReading.{IsFieldPair}
 use Rattle.iloc_transform.specs.ValueReading.{IsValueWord}
 use Rattle.iloc_spec_grammar.specs.Values.{IsNormal}
 
-put_pairs : (k : Text) (v : List Text) → IsNormal TransformKey k → AllByRecursion IsValueWord v →
+pub put_pairs : (k : Text) (v : List Text) → IsNormal TransformKey k → AllByRecursion IsValueWord v →
     (es : Fields) → AllByRecursion IsFieldPair es → AllByRecursion IsFieldPair (put word_cmp k v es)
 put_pairs k v n w es h = all-put word_cmp same_words IsFieldPair k v es (n, w) h
 

@@ -132,6 +132,7 @@ impl Fields {
     /// Sets the value of the key, and returns the old one. A key that is there allocates nothing.
     ///
     /// If an allocation fails, nothing changes.
+    #[inline(always)]
     pub fn set(
         &mut self,
         alloc: Global,
@@ -145,7 +146,30 @@ impl Fields {
     {
         let _ = key.as_str();
         let _ = value.as_slice();
-        self.map.insert(alloc, key, value)
+        if let Some(old) = self.map.get_mut(&key) {
+            return Ok(Some(mem::replace(old, value)));
+        }
+        self.insert(alloc, key, value)?;
+        Ok(None)
+    }
+
+    // Sets the value of a key: a first one gets room for four. It stands apart, so that `set` pays nothing for it where
+    // the key is there.
+    #[inline(never)]
+    fn insert(&mut self, alloc: Global, key: Key, value: Value) -> Result<(), AllocError>
+        ensures ok { OnOk result (self.new ≡ put word_cmp key value self.old) }
+        ensures err { OnErr result (self.new ≡ self.old) }
+    {
+        let _ = key.as_str();
+        let _ = value.as_slice();
+        if self.map.is_empty() {
+            let mut first = Vec::with_capacity(alloc, 4)?;
+            first.push_reserved((key, value));
+            self.map = LiteMap::from_sorted_store_unchecked(first);
+            return Ok(());
+        }
+        self.map.insert(alloc, key, value)?;
+        Ok(())
     }
 
     // Sets the value of a key that isn't there; else nothing changes.

@@ -72,7 +72,7 @@ impl Transform {
     pub fn is_empty(&self) -> bool
         ensures { result ≡ (not (is_some self.now.lang) && (length self.now.fields == 0)) }
     {
-        self.lang.is_none() && self.fields.is_empty()
+        self.fields.is_empty() && self.lang.is_none()
     }
 
     /// Takes out identifier and fields.

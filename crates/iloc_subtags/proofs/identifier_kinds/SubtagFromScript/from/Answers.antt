@@ -1,6 +1,5 @@
-use Rattle.std.proofs.Common.{◌≡◌, ap, sym, ◌∙◌, subst, lit<}
+use Rattle.std.proofs.Common.{◌≡◌, ◌+◌, ap, sym, ◌∙◌, subst, lit<}
 use Rattle.std.specs.Cmp.{second_so}
-use Rattle.std.specs.Int.RustNames.{bit_or}
 use Rattle.iloc_tinystr.specs.Number.{number}
 use Rattle.iloc_spec_grammar.specs.Syntax.{Subtag, lower}
 use Rattle.iloc_spec_grammar.specs.Values.{IsNormal}
@@ -16,7 +15,7 @@ module _ (c : goal.After-of_number) where
   read : c.of_number.result ≡ lower c.args.script
   read =
       c.of_number.ensures (lower c.args.script) (second_so _ _ (subtag_fits (lower c.args.script) lowered.0))
-      (ap (λ y. bit_or y 32) (c.number.ensures ∙ ap number c.to_piece.ensures.value)
+      (ap (λ y. y + 32) (c.number.ensures ∙ ap number c.to_piece.ensures.value)
       ∙ script_lower c.args.script c.to_piece.ensures.normal)
 
 pub subtag_of_normal-requires : goal.subtag_of_normal-requires
