@@ -1,5 +1,5 @@
 //! Calendars as values of their keyword.
-ghost use Rattle.std.specs.Prelude.{◌≡◌, ℕ, List, [], ◌∷◌, Some, IfOk, option_map};
+ghost use Rattle.std.specs.Prelude.{◌≡◌, [], ◌∷◌, Some, IfOk, option_map};
 ghost use Rattle.iloc_spec_parts.specs.Keywords.{
   CalendarAlgorithm as the_keyword,
   key as key_of_keyword,

@@ -1,5 +1,5 @@
 //! Keywords with a fixed set of values, but calendars: how they are read and written.
-ghost use Rattle.std.specs.Prelude.{◌≡◌, ℕ, List, [], Some, None, IfSome, find, nat_eq, codes, option_and_then};
+ghost use Rattle.std.specs.Prelude.{◌≡◌, [], Some, None, IfSome, find, nat_eq};
 ghost use Rattle.iloc_spec_parts.specs.Keywords.{EnumKeyword as Keyword, key as key_of_keyword, variants, further_readings, enum_gives};
 ghost use Rattle.iloc_spec_parts.specs.SingleValues.{single};
 ghost use Rattle.iloc_keyword_types.specs.Reads.{

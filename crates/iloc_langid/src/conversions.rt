@@ -1,5 +1,6 @@
 //! Identifiers from their parts, and back.
-ghost use Rattle.std.specs.Prelude.{◌≡◌};
+ghost use Rattle.std.specs.Prelude.{◌≡◌, None, [], codes};
+ghost use Rattle.iloc_langid.specs.Reads.{value_of};
 
 use crate::identifier::LanguageIdentifier;
 use iloc_subtags::{Language, Region, Script};
@@ -7,9 +8,6 @@ use iloc_word_list::Variants;
 
 /// The language alone.
 impl From<Language> for LanguageIdentifier {
-    ghost use Rattle.std.specs.Prelude.{◌≡◌, None, []};
-    ghost use Rattle.iloc_langid.specs.Reads.{value_of};
-
     ghost from_gives = { λ language i. value_of i
         ≡ record { language = language; script = None; region = None; variants = [] } };
 
@@ -25,9 +23,6 @@ impl From<Language> for LanguageIdentifier {
 
 /// `und` with that script.
 impl From<Option<Script>> for LanguageIdentifier {
-    ghost use Rattle.std.specs.Prelude.{◌≡◌, None, [], codes};
-    ghost use Rattle.iloc_langid.specs.Reads.{value_of};
-
     ghost from_gives = { λ script i. value_of i
         ≡ record { language = codes "und"; script = script; region = None; variants = [] } };
 
@@ -43,9 +38,6 @@ impl From<Option<Script>> for LanguageIdentifier {
 
 /// `und` with that region.
 impl From<Option<Region>> for LanguageIdentifier {
-    ghost use Rattle.std.specs.Prelude.{◌≡◌, None, [], codes};
-    ghost use Rattle.iloc_langid.specs.Reads.{value_of};
-
     ghost from_gives = { λ region i. value_of i
         ≡ record { language = codes "und"; script = None; region = region; variants = [] } };
 
@@ -61,9 +53,6 @@ impl From<Option<Region>> for LanguageIdentifier {
 
 /// These three parts, and no variants.
 impl From<(Language, Option<Script>, Option<Region>)> for LanguageIdentifier {
-    ghost use Rattle.std.specs.Prelude.{◌≡◌, []};
-    ghost use Rattle.iloc_langid.specs.Reads.{value_of};
-
     ghost from_gives = { λ lsr i. value_of i
         ≡ record { language = lsr.0; script = lsr.1; region = lsr.2; variants = [] } };
 
@@ -79,8 +68,6 @@ impl From<(Language, Option<Script>, Option<Region>)> for LanguageIdentifier {
 
 /// Language, script and region of the identifier; its variants are left behind.
 impl From<&LanguageIdentifier> for (Language, Option<Script>, Option<Region>) {
-    ghost use Rattle.std.specs.Prelude.{◌≡◌};
-
     ghost from_gives = { λ langid parts. parts
         ≡ (langid.now.language, langid.now.script, langid.now.region) };
 

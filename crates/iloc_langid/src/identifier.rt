@@ -1,14 +1,16 @@
 //! Language identifiers.
-ghost use Rattle.std.specs.Prelude.{◌≡◌, ◌↔◌, ⊤, IsTrue, IfSome, Ok, OnErr};
-ghost use Rattle.std.specs.Result.{result_and};
+ghost use Rattle.std.specs.Prelude.{◌≡◌, ◌↔◌, ⊤, IsTrue, IfSome, Ok, OnErr, IsSome, IfOk, IsOkAnd, Some};
 ghost use Rattle.std.specs.Ordering.{nat_cmp};
 ghost use Rattle.std.specs.Cmp.Lexicographic.{slice_cmp};
-ghost use Rattle.iloc_spec_grammar.specs.Syntax.{languages, two_or_three, pieces, head, Identifier};
+ghost use Rattle.iloc_spec_grammar.specs.Syntax.{languages, two_or_three, pieces, head, Identifier, identifier_pieces, Language as the_kind};
 ghost use Rattle.iloc_spec_grammar.specs.Meaning.{IdentifierMeans, Fault, HasIdentifierFault};
 ghost use Rattle.iloc_spec_grammar.specs.Values.{IsIdentifierValue, IsNormal, identifier_text};
 ghost use Rattle.iloc_spec_parts.specs.Orders.{identifier_cmp};
 ghost use Rattle.iloc_subtags.specs.Judging.{Accepts, Refuses, RunsOutOnlyIf};
 ghost use Rattle.iloc_langid.specs.Unknown.{unknown_identifier};
+ghost use Rattle.iloc_langid.specs.Reads.{value_of, IdentifierReads, IdentifierWantsMemory, KeepsThroughSteps, IsIdentifierLanguageAlone, IdentifierMeansOnly};
+ghost use Rattle.std.specs.Cow.{cow_str_bytes};
+ghost use Rattle.iloc_writeable.specs.Writing.{IsLent};
 
 use crate::reader::{fill_short, fill_text, read_head};
 use iloc_subtags::{Language, ParseError, Region, Script, SubtagIterator, WordKind, WordOf};
@@ -57,8 +59,6 @@ impl Clone for LanguageIdentifier {
 }
 
 impl LanguageIdentifier {
-    ghost use Rattle.iloc_langid.specs.Reads.{value_of, IdentifierReads, IdentifierWantsMemory, KeepsThroughSteps};
-
     /// The unknown identifier, `und`.
     pub fn unknown() -> Self
         ensures { value_of result ≡ unknown_identifier }
@@ -187,9 +187,6 @@ fn look_at<K: WordKind<N>, const N: usize>(word: &Option<WordOf<K, N>>)
 }
 
 impl Pieces for LanguageIdentifier {
-    ghost use Rattle.iloc_spec_grammar.specs.Syntax.{identifier_pieces};
-    ghost use Rattle.iloc_langid.specs.Reads.{value_of};
-
     ghost pieces = { λ i. identifier_pieces (value_of i) };
 
     fn has_pieces(&self) -> bool {
@@ -206,11 +203,6 @@ impl Pieces for LanguageIdentifier {
 /// Prints the normal text: language, script, region, variants ascending, joined by hyphens. It is borrowed
 /// if there is a language and nothing else.
 impl Writeable for LanguageIdentifier {
-    ghost use Rattle.std.specs.Prelude.{IsSome};
-    ghost use Rattle.iloc_langid.specs.Reads.{value_of, IsIdentifierLanguageAlone};
-    ghost use Rattle.iloc_spec_grammar.specs.Syntax.{Language as the_kind};
-    ghost use Rattle.iloc_spec_grammar.specs.Values.{identifier_text};
-
     ghost text = { λ i. identifier_text (value_of i) };
 
     ghost lends = { IsIdentifierLanguageAlone };
@@ -234,11 +226,6 @@ impl Writeable for LanguageIdentifier {
 }
 
 impl LanguageIdentifier {
-    ghost use Rattle.std.specs.Prelude.{IfOk, IsOkAnd};
-    ghost use Rattle.std.specs.Cow.{cow_str_bytes};
-    ghost use Rattle.iloc_writeable.specs.Writing.{IsLent};
-    ghost use Rattle.iloc_langid.specs.Reads.{value_of, IsIdentifierLanguageAlone, IdentifierMeansOnly};
-
     /// Returns the printed text, borrowed exactly if the identifier is a language alone.
     ///
     /// The text parses as this identifier and as no other. Allocates once, unless the text is borrowed;
@@ -259,10 +246,6 @@ impl LanguageIdentifier {
 
 /// Prints the text itself.
 impl fmt::Debug for LanguageIdentifier {
-    ghost use Rattle.iloc_spec_grammar.specs.Values.{identifier_text};
-    ghost use Rattle.iloc_langid.specs.Reads.{value_of};
-    ghost use Rattle.std.specs.Prelude.{Some};
-
     ghost debug_output = { λ i. Some (identifier_text (value_of i)) };
 
     fn fmt<W: fmt::Write>(&self, f: &mut fmt::Formatter<W>) -> fmt::Result {
@@ -271,10 +254,6 @@ impl fmt::Debug for LanguageIdentifier {
 }
 
 impl fmt::Display for LanguageIdentifier {
-    ghost use Rattle.iloc_spec_grammar.specs.Values.{identifier_text};
-    ghost use Rattle.iloc_langid.specs.Reads.{value_of};
-    ghost use Rattle.std.specs.Prelude.{Some};
-
     ghost output = { λ i. Some (identifier_text (value_of i)) };
 
     fn fmt<W: fmt::Write>(&self, f: &mut fmt::Formatter<W>) -> fmt::Result {

@@ -1,7 +1,9 @@
 //! An identifier in lower case, as a transform prints it.
 ghost use Rattle.std.specs.Prelude.{◌≡◌, [], ◌∷◌, option_map, option_to_list};
 ghost use Rattle.std.specs.List.{flat_map};
-ghost use Rattle.iloc_spec_grammar.specs.Syntax.{lower};
+ghost use Rattle.iloc_spec_grammar.specs.Syntax.{lower, identifier_pieces};
+ghost use Rattle.iloc_spec_grammar.specs.Values.{lower_identifier};
+ghost use Rattle.iloc_langid.specs.Reads.{value_of};
 
 use crate::identifier::LanguageIdentifier;
 use iloc_subtags::{WordKind, WordOf};
@@ -42,10 +44,6 @@ fn lower_word<K: WordKind<N>, const N: usize>(word: &Option<WordOf<K, N>>) -> Op
 }
 
 impl<'a> Pieces for Lowercase<'a> {
-    ghost use Rattle.iloc_spec_grammar.specs.Syntax.{identifier_pieces};
-    ghost use Rattle.iloc_spec_grammar.specs.Values.{lower_identifier};
-    ghost use Rattle.iloc_langid.specs.Reads.{value_of};
-
     ghost pieces = { λ i. identifier_pieces (lower_identifier (value_of i.0.now)) };
 
     fn has_pieces(&self) -> bool {

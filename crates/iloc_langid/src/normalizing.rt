@@ -6,6 +6,8 @@ ghost use Rattle.iloc_spec_grammar.specs.Meaning.{IdentifierMeans, Fault, HasIde
 ghost use Rattle.iloc_spec_grammar.specs.Values.{identifier_text};
 ghost use Rattle.iloc_subtags.specs.Judging.{Refusal, Accepts, Refuses, RunsOutOnlyIf};
 ghost use Rattle.iloc_writeable.specs.Writing.{IsLent};
+ghost use Rattle.iloc_langid.specs.Reads.{value_of};
+ghost use Rattle.iloc_langid.specs.Normalizing.{IsNormalizedIdentifier, NormalizingIdentifierWantsMemory};
 
 use crate::agreeing::has_variants;
 use crate::identifier::LanguageIdentifier;
@@ -18,9 +20,6 @@ use std::alloc::Global;
 use std::borrow::CowStr;
 
 impl LanguageIdentifier {
-    ghost use Rattle.iloc_langid.specs.Reads.{value_of};
-    ghost use Rattle.iloc_langid.specs.Normalizing.{IsNormalizedIdentifier, NormalizingIdentifierWantsMemory};
-
     /// The normal text of what the text means, borrowed exactly if the text is that already.
     ///
     /// Refuses as the parser does. It allocates nothing on a normal text with at most four variants.

@@ -1,5 +1,5 @@
 //! Identifiers with at most one variant, which are parsed without allocating.
-ghost use Rattle.std.specs.Prelude.{◌≡◌, IfOk};
+ghost use Rattle.std.specs.Prelude.{IfOk};
 ghost use Rattle.iloc_spec_grammar.specs.Syntax.{pieces, languages};
 ghost use Rattle.iloc_spec_grammar.specs.Meaning.{IdentifierMeans, Fault};
 ghost use Rattle.iloc_spec_parts.specs.Small.{

@@ -1,5 +1,5 @@
 //! Parses the blocks after the head of a locale.
-ghost use Rattle.std.specs.Prelude.{◌≡◌, ◌∷◌, ℕ, List, [], true, ◌≤◌, length, OnOk};
+ghost use Rattle.std.specs.Prelude.{◌≡◌, ◌∷◌, List, [], true, ◌≤◌, length, OnOk};
 ghost use Rattle.iloc_spec_grammar.specs.Syntax.{Text, languages};
 ghost use Rattle.iloc_spec_grammar.specs.Reading.{starts_block};
 ghost use Rattle.iloc_spec_grammar.specs.Meaning.{no_extensions};

@@ -6,6 +6,7 @@ ghost use Rattle.iloc_spec_grammar.specs.Syntax.{languages};
 ghost use Rattle.iloc_spec_grammar.specs.Meaning.{Means};
 ghost use Rattle.iloc_spec_grammar.specs.Values.{text};
 ghost use Rattle.iloc_spec_parts.specs.Orders.{locale_cmp};
+ghost use Rattle.iloc_locale.specs.LocaleReading.{value_of};
 
 use crate::locale::Locale;
 use iloc_langid::beginning::begins_with;
@@ -20,8 +21,6 @@ use std::cmp::Ordering;
 const MOST: usize = 112;
 
 impl Locale {
-    ghost use Rattle.iloc_locale.specs.LocaleReading.{value_of};
-
     /// The byte order of the printed text against the bytes, for every locale. It makes no text.
     pub fn strict_cmp(&self, other: &[u8]) -> Ordering
         ensures { result ≡ slice_cmp nat_cmp (text (value_of self.now)) other.now }

@@ -2,6 +2,7 @@
 ghost use Rattle.std.specs.Prelude.{◌≡◌, None, [], codes};
 ghost use Rattle.iloc_spec_grammar.specs.Meaning.{without_extensions};
 ghost use Rattle.iloc_langid.specs.Reads.{value_of as identifier_of};
+ghost use Rattle.iloc_locale.specs.LocaleReading.{value_of};
 
 use crate::Extensions;
 use crate::locale::Locale;
@@ -10,8 +11,6 @@ use iloc_subtags::{Language, Region, Script};
 use std::alloc::Global;
 
 impl Locale {
-    ghost use Rattle.iloc_locale.specs.LocaleReading.{value_of};
-
     /// The identifier.
     pub fn as_langid(&self) -> &LanguageIdentifier
         ensures { result.now ≡ self.now.id }
@@ -84,8 +83,6 @@ impl Locale {
 
 /// The identifier; the extensions are left behind.
 impl From<Locale> for LanguageIdentifier {
-    ghost use Rattle.std.specs.Prelude.{◌≡◌};
-
     ghost from_gives = { λ locale id. id ≡ locale.id };
 
     fn from(locale: Locale) -> Self {

@@ -1,8 +1,10 @@
 //! All extensions of a locale.
 ghost use Rattle.std.specs.Prelude.{◌≡◌, ◌↔◌, IsTrue};
 ghost use Rattle.iloc_spec_parts.specs.Orders.{extensions_cmp};
-ghost use Rattle.iloc_unicode.specs.UnicodeValue as unicode_value;
 ghost use Rattle.iloc_locale.specs.Retaining.{RetainsByType};
+ghost use Rattle.iloc_locale.specs.ExtensionsValue.{value_of};
+ghost use Rattle.iloc_spec_grammar.specs.Meaning.{just_unicode, no_extensions};
+ghost use Rattle.iloc_unicode.specs.UnicodeValue as unicode_value;
 
 use crate::copying::copied;
 use crate::extension_type::ExtensionType;
@@ -27,8 +29,6 @@ pub struct Extensions {
 
 // Written rather than derived: empty parts are not copied.
 impl Clone for Extensions {
-    ghost use Rattle.iloc_locale.specs.ExtensionsValue.{value_of};
-
     ghost is_clone = { λ d e. value_of e ≡ value_of d };
 
     fn clone(&self) -> Result<Self, AllocError> {
@@ -37,9 +37,6 @@ impl Clone for Extensions {
 }
 
 impl Extensions {
-    ghost use Rattle.iloc_spec_grammar.specs.Meaning.{just_unicode, no_extensions};
-    ghost use Rattle.iloc_locale.specs.ExtensionsValue.{value_of};
-
     /// No extension.
     #[inline(always)]
     pub fn new(alloc: Global) -> Self

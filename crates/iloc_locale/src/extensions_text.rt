@@ -1,8 +1,8 @@
 //! Prints extensions.
 ghost use Rattle.std.specs.Prelude.{◌≡◌, ◌++◌, List, Some, flat_map, option_to_list};
 ghost use Rattle.iloc_spec_grammar.specs.Syntax.{Block};
-ghost use Rattle.iloc_spec_grammar.specs.Values.{before_above, extensions_spelling, extensions_text};
-ghost use Rattle.iloc_spec_grammar.specs.Values.{private_spelling, transform_spelling, unicode_spelling};
+ghost use Rattle.iloc_spec_grammar.specs.Values.{before_above, extensions_spelling, extensions_text, private_spelling, transform_spelling, unicode_spelling};
+ghost use Rattle.iloc_locale.specs.ExtensionsValue.{value_of};
 ghost use Rattle.iloc_transform.specs.TransformReading as transforms;
 ghost use Rattle.iloc_unicode.specs.UnicodeValue as unicodes;
 
@@ -48,8 +48,6 @@ impl Extensions {
 /// The pieces are those of the others up to the first singleton above `t`, of the transform, of the
 /// unicode extension, of the remaining others, and of the private extension.
 impl Pieces for Extensions {
-    ghost use Rattle.iloc_locale.specs.ExtensionsValue.{value_of};
-
     ghost pieces = { λ e. extensions_spelling (value_of e) };
 
     fn has_pieces(&self) -> bool {
@@ -66,8 +64,6 @@ impl Pieces for Extensions {
 
 /// Prints the pieces with a hyphen between each two.
 impl Writeable for Extensions {
-    ghost use Rattle.iloc_locale.specs.ExtensionsValue.{value_of};
-
     ghost text = { λ e. extensions_text (value_of e) };
 
     #[tactic(auto, unfolding(iloc_spec_grammar::specs::Values::extensions_text, iloc_spec_grammar::specs::Syntax::join))]
@@ -81,8 +77,6 @@ impl Writeable for Extensions {
 }
 
 impl fmt::Display for Extensions {
-    ghost use Rattle.iloc_locale.specs.ExtensionsValue.{value_of};
-
     ghost output = { λ e. Some (extensions_text (value_of e)) };
 
     fn fmt<W: fmt::Write>(&self, f: &mut fmt::Formatter<W>) -> fmt::Result {

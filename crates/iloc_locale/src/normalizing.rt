@@ -2,13 +2,14 @@
 ghost use Rattle.std.specs.Prelude.{◌≡◌, ◌↔◌, ⊤, IsTrue, IfOk, IfErr};
 ghost use Rattle.std.specs.Cow.{cow_str_bytes};
 ghost use Rattle.iloc_spec_grammar.specs.Syntax.{languages};
-ghost use Rattle.iloc_spec_grammar.specs.Meaning as meaning;
 ghost use Rattle.iloc_spec_grammar.specs.Meaning.{Means, Fault, HasFault};
 ghost use Rattle.iloc_spec_grammar.specs.Values.{IsWellFormed, AreWellFormed, text};
 ghost use Rattle.iloc_writeable.specs.Writing.{IsLent};
 ghost use Rattle.iloc_spec_parts.specs.Small.{SmallLocale, IsSmall, HasSmallFault, locale_of_small};
 ghost use Rattle.iloc_subtags.specs.Judging.{Refusal, Accepts, Refuses, RunsOutOnlyIf};
 ghost use Rattle.iloc_langid.specs.SmallLocaleReads.{SmallLocaleTextReads, small_locale_of};
+ghost use Rattle.iloc_locale.specs.LocaleReading.{value_of, IsNormalizedLocale, NormalizingWantsMemory};
+ghost use Rattle.iloc_spec_grammar.specs.Meaning as meaning;
 
 use crate::is_well_formed;
 use crate::locale::Locale;
@@ -22,8 +23,6 @@ use std::alloc::Global;
 use std::borrow::CowStr;
 
 impl Locale {
-    ghost use Rattle.iloc_locale.specs.LocaleReading.{value_of, IsNormalizedLocale, NormalizingWantsMemory};
-
     /// The normal text of what the text means, borrowed exactly if the text is that already.
     ///
     /// Refuses as the parser does. It allocates nothing on a normal text that is inline. Normalizing twice is

@@ -1,8 +1,10 @@
 //! Prints locales.
-ghost use Rattle.std.specs.Prelude.{◌≡◌, IfOk, IsOkAnd, OnErr};
+ghost use Rattle.std.specs.Prelude.{◌≡◌, IfOk, IsOkAnd, OnErr, ◌++◌, Some};
 ghost use Rattle.std.specs.Cow.{cow_str_bytes};
-ghost use Rattle.iloc_spec_grammar.specs.Values.{IsWellFormed, text};
+ghost use Rattle.iloc_spec_grammar.specs.Values.{IsWellFormed, text, extensions_spelling};
 ghost use Rattle.iloc_writeable.specs.Writing.{IsLent};
+ghost use Rattle.iloc_locale.specs.LocaleReading.{value_of, IsLanguageAlone, MeansOnly};
+ghost use Rattle.iloc_spec_grammar.specs.Syntax.{identifier_pieces};
 
 use crate::locale::Locale;
 use iloc_writeable::{Pieces, Sink, Writeable};
@@ -11,8 +13,6 @@ use std::borrow::CowStr;
 use std::fmt;
 
 impl Locale {
-    ghost use Rattle.iloc_locale.specs.LocaleReading.{value_of, IsLanguageAlone, MeansOnly};
-
     /// Returns the printed text, borrowed exactly if the locale is a language alone.
     ///
     /// The text of a well-formed locale parses as that locale and as no other. Allocates once, unless the text is
@@ -33,11 +33,6 @@ impl Locale {
 
 /// The pieces are those of the identifier, and then those of the extensions.
 impl Pieces for Locale {
-    ghost use Rattle.std.specs.Prelude.{◌++◌};
-    ghost use Rattle.iloc_spec_grammar.specs.Syntax.{identifier_pieces};
-    ghost use Rattle.iloc_spec_grammar.specs.Values.{extensions_spelling};
-    ghost use Rattle.iloc_locale.specs.LocaleReading.{value_of};
-
     ghost pieces = { λ l. identifier_pieces (value_of l).id
         ++ extensions_spelling (value_of l).extensions };
 
@@ -53,9 +48,6 @@ impl Pieces for Locale {
 /// Prints the normal text: the identifier, and then the extensions, joined by hyphens. It is defined for every
 /// locale, well-formed or not, and borrowed if there is a language and nothing else.
 impl Writeable for Locale {
-    ghost use Rattle.iloc_spec_grammar.specs.Values.{text};
-    ghost use Rattle.iloc_locale.specs.LocaleReading.{value_of, IsLanguageAlone};
-
     ghost text = { λ l. text (value_of l) };
 
     ghost lends = { IsLanguageAlone };
@@ -76,10 +68,6 @@ impl Writeable for Locale {
 
 /// Prints the text itself.
 impl fmt::Debug for Locale {
-    ghost use Rattle.std.specs.Prelude.{Some};
-    ghost use Rattle.iloc_spec_grammar.specs.Values.{text};
-    ghost use Rattle.iloc_locale.specs.LocaleReading.{value_of};
-
     ghost debug_output = { λ l. Some (text (value_of l)) };
 
     fn fmt<W: fmt::Write>(&self, f: &mut fmt::Formatter<W>) -> fmt::Result {
@@ -88,10 +76,6 @@ impl fmt::Debug for Locale {
 }
 
 impl fmt::Display for Locale {
-    ghost use Rattle.std.specs.Prelude.{Some};
-    ghost use Rattle.iloc_spec_grammar.specs.Values.{text};
-    ghost use Rattle.iloc_locale.specs.LocaleReading.{value_of};
-
     ghost output = { λ l. Some (text (value_of l)) };
 
     fn fmt<W: fmt::Write>(&self, f: &mut fmt::Formatter<W>) -> fmt::Result {

@@ -1,7 +1,8 @@
 //! One to four items in place.
-ghost use Rattle.std.specs.Prelude.{◌≡◌, ◌<◌, ◌≤◌, ◌+◌, ◌-◌, [], ◌∷◌, ◌++◌, length, insert, remove, take, drop};
+ghost use Rattle.std.specs.Prelude.{◌≡◌, ◌<◌, ◌≤◌, ◌+◌, ◌-◌, [], ◌∷◌, ◌++◌, length, insert, remove, take, drop, ℕ, List};
 ghost use Rattle.std.specs.Borrow.{sem};
 ghost use Rattle.std.specs.Iterator.{YieldsFirst};
+ghost use Rattle.iloc_shortvec.specs.FewLends.{few_lends_slice};
 
 use crate::front::front_mut;
 use std::marker::Model;
@@ -13,8 +14,6 @@ pub struct Count {
 }
 
 impl Model for Count {
-    ghost use Rattle.std.specs.Prelude.{ℕ, ◌≤◌};
-
     ghost Value = { ℕ };
 
     ghost view = { λ c. c.used };
@@ -52,8 +51,6 @@ pub struct Few<T: Copy> {
 }
 
 impl<T: Copy> Model for Few<T> {
-    ghost use Rattle.std.specs.Prelude.{◌≡◌, List, length};
-
     ghost Value = { List T };
 
     ghost view = { λ f. f.cells };
@@ -62,8 +59,6 @@ impl<T: Copy> Model for Few<T> {
 }
 
 impl<T: Copy> Few<T> {
-    ghost use Rattle.iloc_shortvec.specs.FewLends.{few_lends_slice};
-
     // These cells.
     fn of(cells: [T; 4]) -> Self
         ensures { result ≡ cells }

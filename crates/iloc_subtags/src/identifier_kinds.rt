@@ -1,6 +1,5 @@
 //! The subtags of identifiers: languages, scripts, regions, variants, and `Subtag`, of 2 to 8 letters or digits.
 ghost use Rattle.std.specs.Prelude.{codes, IsTrue, ◌≡◌, ◌↔◌, ◌==◌, ◌≤◌, length};
-ghost use Rattle.iloc_tinystr.specs.TinyText.{is_tiny_text};
 ghost use Rattle.iloc_spec_grammar.specs.Syntax.{lower, letters, read, two_or_three};
 ghost use Rattle.iloc_spec_grammar.specs.Syntax as words;
 ghost use Rattle.iloc_spec_grammar.specs.Values.{IsNormal};

@@ -1,5 +1,5 @@
 //! What makes a kind of subtag.
-ghost use Rattle.std.specs.Prelude.{◌≡◌, ◌≤◌, ℕ, List, IsTrue, true};
+ghost use Rattle.std.specs.Prelude.{◌≡◌, ◌≤◌, IsTrue, true};
 ghost use Rattle.iloc_spec_grammar.specs.Syntax.{Text, Kind, is_word, IsWord, normal, greatest};
 ghost use Rattle.iloc_tinystr.specs.TinyText.{is_tiny_text};
 ghost use Rattle.iloc_subtags.specs.Lengths.{has_length};

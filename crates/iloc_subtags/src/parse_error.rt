@@ -1,6 +1,7 @@
 //! Why a text is refused.
-
 ghost use Rattle.std.specs.Prelude.{◌≡◌, Some};
+ghost use Rattle.iloc_subtags.specs.ParseError.{words_of};
+ghost use Rattle.iloc_subtags.specs.declared.parse_error.ParseError.TheVariants.{OutOfMemory};
 
 use std::alloc::{AllocError, AllocFailed};
 use std::error::Error;
@@ -22,8 +23,6 @@ pub enum ParseError {
 }
 
 impl ParseError {
-    ghost use Rattle.iloc_subtags.specs.ParseError.{words_of};
-
     /// The words of this refusal.
     pub fn words(&self) -> &'static str
         ensures { result.now ≡ words_of self.now }
@@ -40,8 +39,6 @@ impl ParseError {
 
 /// Prints the words.
 impl fmt::Display for ParseError {
-    ghost use Rattle.iloc_subtags.specs.ParseError.{words_of};
-
     ghost output = { λ error. Some (words_of error) };
 
     fn fmt<W: fmt::Write>(&self, f: &mut fmt::Formatter<W>) -> fmt::Result {
@@ -53,8 +50,6 @@ impl Error for ParseError {}
 
 /// A failed allocation is `OutOfMemory`.
 impl From<AllocError> for ParseError {
-    ghost use Rattle.iloc_subtags.specs.declared.parse_error.ParseError.TheVariants.{OutOfMemory};
-
     ghost from_gives = { λ _ error. error ≡ OutOfMemory };
 
     fn from(_error: AllocError) -> ParseError {
@@ -64,8 +59,6 @@ impl From<AllocError> for ParseError {
 
 /// So is that of a collection, as of `Vec::push`; what could not be stored is dropped.
 impl<T: Drop> From<AllocFailed<T>> for ParseError {
-    ghost use Rattle.iloc_subtags.specs.declared.parse_error.ParseError.TheVariants.{OutOfMemory};
-
     ghost from_gives = { λ _ error. error ≡ OutOfMemory };
 
     fn from(_failed: AllocFailed<T>) -> ParseError {

@@ -6,6 +6,7 @@ ghost use Rattle.std.specs.Ordering.{nat_cmp};
 ghost use Rattle.iloc_spec_grammar.specs.Syntax.{Text, Subtag as the_kind, lower, word, read, raw};
 ghost use Rattle.iloc_spec_grammar.specs.Values.{IsNormal};
 ghost use Rattle.iloc_subtags.specs.RawForms.{ReadsRaw};
+ghost use Rattle.std.specs.Fmt.{debug_str};
 
 use crate::identifier_kinds::Subtag;
 use crate::kind::WordKind;
@@ -30,9 +31,6 @@ pub struct WordOf<K: WordKind<N>, const N: usize> {
 }
 
 impl<K: WordKind<N>, const N: usize> Model for WordOf<K, N> {
-    ghost use Rattle.std.specs.Prelude.{List, ℕ};
-    ghost use Rattle.iloc_spec_grammar.specs.Values.{IsNormal};
-
     ghost Value = { List ℕ };
 
     ghost view = { λ w. w.text };
@@ -217,8 +215,6 @@ impl<K: WordKind<N>, const N: usize> From<WordOf<K, N>> for TinyAsciiStr<N> {
 
 /// Prints as the text does, in quotes.
 impl<K: WordKind<N>, const N: usize> fmt::Debug for WordOf<K, N> {
-    ghost use Rattle.std.specs.Fmt.{debug_str};
-
     ghost debug_output = { debug_str };
 
     fn fmt<W: fmt::Write>(&self, f: &mut fmt::Formatter<W>) -> fmt::Result {

@@ -1,6 +1,6 @@
 //! The number of some bytes, the first lowest.
 ghost use Rattle.std.specs.Prelude.{◌≡◌, ◌≤◌, length};
-ghost use Rattle.iloc_tinystr.specs.Number.{number, bytes};
+ghost use Rattle.iloc_tinystr.specs.Number.{number};
 
 /// The number of a piece of at most eight bytes.
 #[tactic(auto, using(crate::proofs::Loading::wide, crate::proofs::Loading::narrow))]

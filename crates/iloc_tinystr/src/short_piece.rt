@@ -1,6 +1,5 @@
 //! A piece that is held as its number.
-ghost use Rattle.std.specs.Prelude.{◌≡◌, ℕ, ◌+◌, ◌-◌, ◌≤◌, ◌<◌, ◌++◌, List, length, replicate, true, slice_index, map, take, drop, IfSome, IfNone};
-ghost use Rattle.std.specs.Prelude.{nat_eq};
+ghost use Rattle.std.specs.Prelude.{◌≡◌, ℕ, ◌+◌, ◌-◌, ◌≤◌, ◌<◌, ◌++◌, List, length, replicate, true, slice_index, map, take, drop, IfSome, IfNone, nat_eq};
 ghost use Rattle.std.specs.Cmp.Lexicographic.{pointwise};
 ghost use Rattle.std.specs.Cmp.Rules.{comparing};
 ghost use Rattle.std.proofs.Common.{rules};
@@ -21,9 +20,6 @@ pub struct ShortPiece {
 }
 
 impl Model for ShortPiece {
-    ghost use Rattle.std.specs.Prelude.{ℕ, List, length};
-    ghost use Rattle.iloc_tinystr.specs.Number.{number, bytes, IsPacked};
-
     ghost Value = { List ℕ };
 
     ghost view = { λ s. bytes s.len s.packed };

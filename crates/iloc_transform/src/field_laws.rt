@@ -1,6 +1,6 @@
 //! Laws of fields and their values: order, equality, hashes.
 
-ghost use Rattle.std.specs.Prelude.{◌≡◌, ◌↔◌, IsTrue, ℕ, List};
+ghost use Rattle.std.specs.Prelude.{◌≡◌, ◌↔◌, IsTrue, List};
 ghost use Rattle.iloc_spec_grammar.specs.Syntax.{Text};
 ghost use Rattle.iloc_spec_grammar.specs.Syntax as written;
 ghost use Rattle.iloc_spec_parts.specs.Orders.{words_cmp, fields_cmp};

@@ -8,7 +8,7 @@
 //! of `iloc_subtags`.
 #![tactic(auto)]
 
-ghost use Rattle.std.specs.Prelude.{◌≡◌, ◌≤◌, ◌↔◌, IsTrue, ℕ, List, [], length, IfSome};
+ghost use Rattle.std.specs.Prelude.{◌≡◌, ◌≤◌, ◌↔◌, IsTrue, List, [], length, IfSome};
 ghost use Rattle.iloc_spec_grammar.specs.Syntax.{Text, languages};
 ghost use Rattle.iloc_spec_grammar.specs.Syntax as written;
 ghost use Rattle.iloc_spec_grammar.specs.Meaning.{front};

@@ -1,34 +1,15 @@
 //! The transform extension.
-ghost use Rattle.std.specs.Prelude.{
-  ◌≡◌,
-  ⊤,
-  ◌==◌,
-  ◌&&◌,
-  ◌∷◌,
-  ℕ,
-  List,
-  [],
-  None,
-  Some,
-  Ok,
-  not,
-  length,
-  option_map,
-  is_some,
-};
+ghost use Rattle.std.specs.Prelude.{◌≡◌, ⊤, ◌==◌, ◌&&◌, [], None, Some, Ok, not, length, is_some};
 ghost use Rattle.std.specs.Result.{result_and};
 ghost use Rattle.iloc_spec_grammar.specs.Syntax.{languages};
-ghost use Rattle.iloc_spec_grammar.specs.Syntax as written;
 ghost use Rattle.iloc_spec_grammar.specs.Meaning.{Fault};
 ghost use Rattle.iloc_spec_parts.specs.Parts.{TransformText, TransformTextFault};
 ghost use Rattle.iloc_spec_parts.specs.Orders.{transform_cmp};
 ghost use Rattle.iloc_subtags.specs.Judging.{Accepts, Refuses, RunsOutOnlyIf};
 ghost use Rattle.iloc_subtags.specs.Left.{left};
-ghost use Rattle.iloc_transform.specs.TransformReading.{
-  TransformReads,
-  TransformFills,
-  TransformWantsMemory,
-};
+ghost use Rattle.iloc_transform.specs.TransformReading.{TransformReads, TransformFills, TransformWantsMemory, value_of, TransformTextReads, TransformTextWants};
+ghost use Rattle.iloc_spec_grammar.specs.Values.{transform_spelling, transform_text};
+ghost use Rattle.iloc_spec_grammar.specs.Syntax as written;
 
 use crate::Fields;
 use crate::fields::fill_fields;
@@ -51,12 +32,6 @@ pub struct Transform {
 }
 
 impl Transform {
-    ghost use Rattle.iloc_transform.specs.TransformReading.{
-      value_of,
-      TransformTextReads,
-      TransformTextWants,
-    };
-
     /// The empty extension.
     pub fn new(alloc: Global) -> Self
         ensures lang { result.lang ≡ None }
@@ -174,9 +149,6 @@ pub fn fill_transform(
 /// The pieces are `t`, those of the identifier in lower case and those of the fields; an empty one has
 /// none.
 impl Pieces for Transform {
-    ghost use Rattle.iloc_spec_grammar.specs.Values.{transform_spelling};
-    ghost use Rattle.iloc_transform.specs.TransformReading.{value_of};
-
     ghost pieces = { λ m. transform_spelling (value_of m) };
 
     fn has_pieces(&self) -> bool {
@@ -194,9 +166,6 @@ impl Pieces for Transform {
 
 /// Prints `t`, the identifier in lower case and the fields; an empty one prints nothing.
 impl Writeable for Transform {
-    ghost use Rattle.iloc_spec_grammar.specs.Values.{transform_text};
-    ghost use Rattle.iloc_transform.specs.TransformReading.{value_of};
-
     ghost text = { λ m. transform_text (value_of m) };
 
     #[tactic(auto, unfolding(iloc_spec_grammar::specs::Values::transform_text, iloc_spec_grammar::specs::Syntax::join))]
@@ -210,10 +179,6 @@ impl Writeable for Transform {
 }
 
 impl fmt::Display for Transform {
-    ghost use Rattle.iloc_spec_grammar.specs.Values.{transform_text};
-    ghost use Rattle.iloc_transform.specs.TransformReading.{value_of};
-    ghost use Rattle.std.specs.Prelude.{Some};
-
     ghost output = { λ m. Some (transform_text (value_of m)) };
 
     fn fmt<W: fmt::Write>(&self, f: &mut fmt::Formatter<W>) -> fmt::Result {

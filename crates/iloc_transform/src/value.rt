@@ -1,23 +1,5 @@
 //! The value of a transform field.
-ghost use Rattle.std.specs.Prelude.{
-  ◌≡◌,
-  ⊤,
-  ◌<◌,
-  ◌++◌,
-  ◌∷◌,
-  [],
-  length,
-  false,
-  ℕ,
-  List,
-  Ok,
-  Err,
-  OnOk,
-  IfErr,
-  IsOk,
-  Some,
-  if◌then◌else◌,
-};
+ghost use Rattle.std.specs.Prelude.{◌≡◌, ⊤, ◌<◌, ◌++◌, ◌∷◌, [], length, false, ℕ, List, Ok, Err, OnOk, IfErr, IsOk, Some, if◌then◌else◌};
 ghost use Rattle.std.specs.List.{AllByRecursion};
 ghost use Rattle.iloc_spec_grammar.specs.Syntax.{Text, pieces, Attribute as the_kind, is_true};
 ghost use Rattle.iloc_spec_grammar.specs.Values.{field_value_text, spelled_value};
@@ -44,10 +26,6 @@ pub struct Value {
 }
 
 impl Model for Value {
-    ghost use Rattle.std.specs.Prelude.{List, ℕ};
-    ghost use Rattle.std.specs.List.{AllByRecursion};
-    ghost use Rattle.iloc_transform.specs.ValueReading.{IsValueWord};
-
     ghost Value = { List (List ℕ) };
 
     ghost view = { λ v. v.subtags };

@@ -1,32 +1,12 @@
 //! The attributes of a unicode extension.
-ghost use Rattle.std.specs.Prelude.{
-  ◌≡◌,
-  ◌↔◌,
-  ℕ,
-  List,
-  ⊤,
-  ◌≤◌,
-  ◌+◌,
-  ◌==◌,
-  ◌++◌,
-  [],
-  ◌∷◌,
-  true,
-  length,
-  OnOk,
-  OnErr,
-  IfOk,
-  IsOk,
-  IsTrue,
-  Some,
-};
-ghost use Rattle.std.specs.List.{AllByRecursion, list_any};
+ghost use Rattle.std.specs.Prelude.{◌≡◌, ◌↔◌, ℕ, List, ⊤, ◌≤◌, ◌+◌, ◌==◌, ◌++◌, [], true, length, OnOk, OnErr, IfOk, IsOk, IsTrue, Some};
+ghost use Rattle.std.specs.List.{AllByRecursion};
 ghost use Rattle.std.specs.Cmp.Rules.{comparing};
 ghost use Rattle.std.specs.Hash.{same_Alike};
 ghost use Rattle.std.proofs.Common.{rules};
 ghost use Rattle.std.specs.Slice.{IsItemAt};
 ghost use Rattle.std.specs.Slice.Iter.{iter_rest};
-ghost use Rattle.iloc_spec_grammar.specs.Syntax.{Text, pieces, join, Attribute, is_same, word_cmp};
+ghost use Rattle.iloc_spec_grammar.specs.Syntax.{Text, pieces, join, Attribute, word_cmp};
 ghost use Rattle.iloc_spec_grammar.specs.Meaning.{set_of};
 ghost use Rattle.iloc_spec_grammar.specs.Values.{IsNormal, StrictlyAscends};
 ghost use Rattle.iloc_spec_parts.specs.Parts.{AttributesText};
@@ -52,8 +32,6 @@ pub struct Attributes {
 }
 
 impl Model for Attributes {
-    ghost use Rattle.std.specs.Prelude.{List, ℕ};
-
     ghost Value = { List (List ℕ) };
 
     ghost view = { λ a. a.words };

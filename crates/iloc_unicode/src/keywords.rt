@@ -1,26 +1,5 @@
 //! The keywords of a unicode extension.
-ghost use Rattle.std.specs.Prelude.{
-  ◌≡◌,
-  ⊤,
-  ◌<◌,
-  ◌==◌,
-  ◌↔◌,
-  ℕ,
-  List,
-  [],
-  ◌∷◌,
-  ◌++◌,
-  true,
-  length,
-  reverse,
-  IsSome,
-  IsTrue,
-  OnOk,
-  OnErr,
-  IfOk,
-  IsOk,
-  if◌then◌else◌,
-};
+ghost use Rattle.std.specs.Prelude.{◌≡◌, ⊤, ◌<◌, ◌==◌, ◌↔◌, ℕ, List, [], ◌∷◌, ◌++◌, true, length, reverse, IsTrue, OnOk, OnErr, IfOk, IsOk, if◌then◌else◌};
 ghost use Rattle.std.specs.Borrow.{sem};
 ghost use Rattle.std.specs.Fn.{CalledAt};
 ghost use Rattle.std.specs.FinMap.{find, put};
@@ -30,11 +9,7 @@ ghost use Rattle.std.specs.Map.{remove_entry};
 ghost use Rattle.std.specs.BTreeMap.{is_at};
 ghost use Rattle.std.specs.Option.{option_copied, option_copied_mut, is_some};
 ghost use Rattle.std.specs.Ordering.{as_partial_cmp};
-ghost use Rattle.std.specs.Cmp.{
-  decided,
-  partial_equiv_from_equiv,
-  partial_order_from_agreeing_total,
-};
+ghost use Rattle.std.specs.Cmp.{decided, partial_equiv_from_equiv, partial_order_from_agreeing_total};
 ghost use Rattle.std.specs.Hash.{same_Alike};
 ghost use Rattle.std.proofs.Common.{refl};
 ghost use Rattle.iloc_spec_grammar.specs.Syntax.{word_cmp, pieces, Fields};
@@ -45,6 +20,9 @@ ghost use Rattle.iloc_spec_parts.specs.Parts.{KeywordsText, KeywordsTextFault};
 ghost use Rattle.iloc_subtags.specs.Judging.{Accepts, Refuses, RunsOutOnlyIf};
 ghost use Rattle.iloc_unicode.specs.Reads.{KeywordsTextReads, KeywordsWantMemory};
 ghost use Rattle.iloc_litemap.specs.Pairs.{HasAscendingKeys};
+ghost use Rattle.iloc_unicode.specs.Lends.{lends_value};
+ghost use Rattle.iloc_spec_parts.specs.Orders.{keywords_cmp};
+ghost use Rattle.iloc_unicode.specs.KeywordsOrder.{keywords_total, keywords_ties};
 
 use iloc_litemap::LiteMap;
 use iloc_shortvec::ShortBoxSlice;
@@ -75,8 +53,6 @@ impl Drop for Keywords {
 }
 
 impl Model for Keywords {
-    ghost use Rattle.iloc_spec_grammar.specs.Syntax.{Fields};
-
     ghost Value = { Fields };
 
     ghost view = { λ k. k.map };
@@ -85,8 +61,6 @@ impl Model for Keywords {
 }
 
 impl Keywords {
-    ghost use Rattle.iloc_unicode.specs.Lends.{lends_value};
-
     /// The empty map.
     pub fn new() -> Self
         ensures { result ≡ [] }
@@ -351,9 +325,6 @@ impl Hash for Keywords {
 
 /// The pairs in order, as a short list, the key first.
 impl Ord for Keywords {
-    ghost use Rattle.iloc_spec_parts.specs.Orders.{keywords_cmp};
-    ghost use Rattle.iloc_unicode.specs.KeywordsOrder.{keywords_total, keywords_ties};
-
     ghost cmp = { keywords_cmp };
 
     ghost total = { keywords_total };
@@ -373,9 +344,6 @@ impl Ord for Keywords {
 }
 
 impl PartialOrd for Keywords {
-    ghost use Rattle.iloc_spec_parts.specs.Orders.{keywords_cmp};
-    ghost use Rattle.iloc_unicode.specs.KeywordsOrder.{keywords_total, keywords_ties};
-
     ghost partial_cmp = { as_partial_cmp keywords_cmp };
 
     ghost laws = { partial_order_from_agreeing_total keywords_cmp keywords_total
@@ -414,8 +382,6 @@ pub struct KeywordsIter<'a> {
 }
 
 impl<'a> Model for KeywordsIter<'a> {
-    ghost use Rattle.iloc_spec_grammar.specs.Syntax.{Fields};
-
     ghost Value = { Fields };
 
     ghost view = { λ it. it.rest.now };

@@ -7,7 +7,7 @@
 //! subtags, the map over short lists and its laws, values, pieces and printing.
 #![tactic(auto)]
 
-ghost use Rattle.std.specs.Prelude.{◌≡◌, ◌↔◌, ℕ, List, IsTrue};
+ghost use Rattle.std.specs.Prelude.{◌≡◌, ◌↔◌, List, IsTrue};
 ghost use Rattle.iloc_spec_grammar.specs.Syntax.{Text, Fields};
 ghost use Rattle.iloc_spec_parts.specs.Orders.{words_cmp, keywords_cmp};
 ghost use Rattle.iloc_spec_parts.specs.Hashes.{words_fed, fields_fed, unicode_fed};

@@ -1,7 +1,7 @@
 //! Parses attributes, keywords and the whole extension from pieces.
 ghost use Rattle.std.specs.Prelude.{◌≡◌, ◌≤◌, ◌++◌, [], length, Ok, IfOk, OnOk, OnErr, IsOk};
 ghost use Rattle.std.specs.Result.{result_and};
-ghost use Rattle.iloc_spec_grammar.specs.Syntax.{code_u, Attribute, is_word};
+ghost use Rattle.iloc_spec_grammar.specs.Syntax.{code_u};
 ghost use Rattle.iloc_spec_grammar.specs.Reading.{rest_of};
 ghost use Rattle.iloc_spec_parts.specs.Fronts.{attributes_read, after_attributes};
 ghost use Rattle.iloc_subtags.specs.Judging.{RunsOutOnlyIf};

@@ -1,5 +1,7 @@
 //! The length of a printed text, without the text.
 ghost use Rattle.std.specs.Prelude.{◌≡◌, ℕ};
+ghost use Rattle.iloc_writeable.specs.Hints.{fitting, hint_of};
+ghost use Rattle.iloc_writeable.specs.Counting.{Counted, counted_nothing, counted_both};
 
 use crate::hint::LengthHint;
 use crate::sink::Sink;
@@ -13,8 +15,6 @@ pub(crate) struct Counting {
 }
 
 impl Counting {
-    ghost use Rattle.iloc_writeable.specs.Hints.{fitting, hint_of};
-
     /// Nothing is counted yet.
     pub(crate) fn new() -> Self
         ensures { result.sum ≡ fitting 0 }
@@ -31,8 +31,6 @@ impl Counting {
 }
 
 impl Sink for Counting {
-    ghost use Rattle.iloc_writeable.specs.Counting.{Counted};
-
     ghost took = { λ a t b. Counted a.sum t b.sum };
 
     ghost failed = { λ _ _ _ _. ⊥ };
@@ -44,8 +42,6 @@ impl Sink for Counting {
         };
         Ok(())
     }
-
-    ghost use Rattle.iloc_writeable.specs.Counting.{counted_nothing, counted_both};
 
     ghost took_nothing = { λ s. counted_nothing s.sum };
 

@@ -1,5 +1,5 @@
 //! What is written to a sink that holds its text.
-ghost use Rattle.std.specs.Prelude.{◌≡◌, ◌<◌, ◌+◌, ℕ, List, ◌++◌, Result, String, Vec, length, vec_len, vec_capacity};
+ghost use Rattle.std.specs.Prelude.{◌<◌, ◌+◌, ℕ, List, ◌++◌, Result, String, Vec, length, vec_len, vec_capacity};
 ghost use Rattle.std.specs.declared.alloc.Global.{Global};
 ghost use Rattle.std.specs.declared.fmt.Error.{Error};
 ghost use Rattle.std.specs.String.{string_bytes, string_len, string_capacity};

@@ -1,5 +1,7 @@
 //! A writer as a sink.
 ghost use Rattle.std.specs.Prelude.{◌≡◌, None};
+ghost use Rattle.iloc_writeable.specs.Growth.{Added, Broken};
+ghost use Rattle.iloc_writeable.specs.GrowthLaws.{added_nothing, added_both, broken_after, broken_more};
 
 use crate::Sink;
 use crate::whole::write_whole;
@@ -42,8 +44,6 @@ impl<W> IoSink<W> {
 
 /// It tells what its writer holds, and that it keeps why a write failed.
 impl<W: io::Write> Sink for IoSink<W> {
-    ghost use Rattle.iloc_writeable.specs.Growth.{Added, Broken};
-
     ghost took = { λ a t b. Added (W.contents a.writer) a.error t (W.contents b.writer) b.error };
 
     ghost failed = { λ a t u b. Broken (W.contents a.writer) t u (W.contents b.writer) b.error };
@@ -58,13 +58,9 @@ impl<W: io::Write> Sink for IoSink<W> {
         }
     }
 
-    ghost use Rattle.iloc_writeable.specs.GrowthLaws.{added_nothing, added_both};
-
     ghost took_nothing = { λ s. added_nothing _ _ };
 
     ghost took_then_took = { λ a b c s t p q. added_both _ _ _ _ _ _ s t p q };
-
-    ghost use Rattle.iloc_writeable.specs.GrowthLaws.{broken_after, broken_more};
 
     ghost took_then_failed = { λ a b c s t u p q. broken_after _ _ _ _ _ _ s t u p q };
 

@@ -1,7 +1,9 @@
 //! Printing a value to a writer.
-ghost use Rattle.std.specs.Prelude.{OnOk, OnErr};
+ghost use Rattle.std.specs.Prelude.{OnOk, OnErr, ◌≡◌};
 ghost use Rattle.std.specs.Io.KnownBytes.{Appends};
-ghost use Rattle.iloc_writeable.specs.Growth.{AddsBeginning};
+ghost use Rattle.iloc_writeable.specs.Growth.{AddsBeginning, Added, Broken};
+ghost use Rattle.std.proofs.Common.{refl, ◌∙◌};
+ghost use Rattle.iloc_writeable.specs.GrowthLaws.{added_nothing, added_both, broken_after, broken_more};
 
 use crate::whole::write_whole;
 use crate::{Sink, Writeable};
@@ -16,9 +18,6 @@ struct Lent<'a, W> {
 }
 
 impl<'a, W: Write> Sink for Lent<'a, W> {
-    ghost use Rattle.std.specs.Prelude.{◌≡◌};
-    ghost use Rattle.iloc_writeable.specs.Growth.{Added, Broken};
-
     ghost took = { λ a t b. (b.writer.ghost_name ≡ a.writer.ghost_name)
         × Added (W.contents a.writer.now) a.error t (W.contents b.writer.now) b.error };
 
@@ -35,15 +34,10 @@ impl<'a, W: Write> Sink for Lent<'a, W> {
         }
     }
 
-    ghost use Rattle.std.proofs.Common.{refl, ◌∙◌};
-    ghost use Rattle.iloc_writeable.specs.GrowthLaws.{added_nothing, added_both};
-
     ghost took_nothing = { λ s. (refl, added_nothing _ _) };
 
     ghost took_then_took = { λ a b c s t p q.
         (q.0 ∙ p.0, added_both _ _ _ _ _ _ s t p.1 q.1) };
-
-    ghost use Rattle.iloc_writeable.specs.GrowthLaws.{broken_after, broken_more};
 
     ghost took_then_failed = { λ a b c s t u p q.
         (q.0 ∙ p.0, broken_after _ _ _ _ _ _ s t u p.1 q.1) };

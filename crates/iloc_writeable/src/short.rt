@@ -1,5 +1,5 @@
 //! Short pieces, written at once.
-ghost use Rattle.std.specs.Prelude.{◌≡◌, ℕ, ◌+◌, ◌-◌, ◌<◌, ◌≤◌, ◌%◌, [], ◌∷◌, ◌++◌, length, map, take, vec_len, vec_capacity, All};
+ghost use Rattle.std.specs.Prelude.{◌≡◌, ◌+◌, ◌-◌, ◌<◌, ◌≤◌, ◌%◌, [], ◌∷◌, map, take, vec_len, vec_capacity, All};
 ghost use Rattle.std.specs.String.{string_len, string_capacity};
 ghost use Rattle.iloc_writeable.specs.Pieces.{hyphened};
 ghost use Rattle.iloc_writeable.specs.StringSink.{Appended};

@@ -1,5 +1,5 @@
 //! A text that is kept in place while it is written.
-ghost use Rattle.std.specs.Prelude.{◌≡◌, [], ◌≤◌, take, replicate};
+ghost use Rattle.std.specs.Prelude.{◌≡◌, [], ◌≤◌, take};
 ghost use Rattle.std.specs.Str.{IsUtf8};
 
 use crate::short::after_hyphen;

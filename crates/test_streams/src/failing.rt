@@ -1,6 +1,7 @@
 //! Sinks for tests.
 ghost use Rattle.std.specs.Prelude.{◌≡◌, []};
 ghost use Rattle.std.specs.String.{string_bytes};
+ghost use Rattle.test_streams.specs.FailingSink.{Held, Failed, Held-nothing, Held-both, Failed-after};
 
 use iloc_writeable::Sink;
 use std::alloc::Global;
@@ -29,8 +30,6 @@ impl FailingSink {
 }
 
 impl Sink for FailingSink {
-    ghost use Rattle.test_streams.specs.FailingSink.{Held, Failed};
-
     ghost took = { Held };
 
     ghost failed = { λ a t _ b. Failed a t b };
@@ -49,8 +48,6 @@ impl Sink for FailingSink {
             }
         }
     }
-
-    ghost use Rattle.test_streams.specs.FailingSink.{Held-nothing, Held-both, Failed-after};
 
     ghost took_nothing = { Held-nothing };
 
