@@ -1,5 +1,5 @@
 //! A keyword whose value is a list of scripts.
-ghost use Rattle.std.specs.Prelude.{◌≡◌, Some, IfOk, codes, List, ℕ};
+ghost use Rattle.std.specs.Prelude.{◌≡◌, Some, IfOk, codes};
 ghost use Rattle.iloc_spec_grammar.specs.Syntax.{word, Script as the_kind};
 ghost use Rattle.iloc_spec_parts.specs.Keywords.{scripts_give};
 ghost use Rattle.iloc_keyword_types.specs.Reads.{ReadsUnder};
@@ -18,6 +18,8 @@ pub struct DictionaryBreakScriptExclusions {
 }
 
 impl Model for DictionaryBreakScriptExclusions {
+    ghost use Rattle.std.specs.Prelude.{List, ℕ};
+
     ghost Value = { List (List ℕ) };
 
     ghost view = { λ d. d.scripts };

@@ -3,8 +3,6 @@ ghost use Rattle.std.specs.Prelude.{◌≡◌, Ok, Err, Some};
 ghost use Rattle.iloc_spec_grammar.specs.Meaning.{Fault};
 ghost use Rattle.iloc_subtags.specs.Judging.{Accepts, Refuses};
 ghost use Rattle.iloc_keyword_types.specs.Cut.{cut_of};
-ghost use Rattle.iloc_spec_parts.specs.Subdivisions.{Subdivision, subdivision, subdivision_text};
-ghost use Rattle.iloc_keyword_types.specs.Subdivisions.{SubdivisionTextReads};
 
 use iloc_subtags::{ParseError, Region, SubdivisionSuffix, Subtag, subtag_of_normal};
 use iloc_tinystr::ShortPiece;
@@ -22,6 +20,8 @@ pub struct SubdivisionId {
 }
 
 impl Model for SubdivisionId {
+    ghost use Rattle.iloc_spec_parts.specs.Subdivisions.{Subdivision};
+
     ghost Value = { Subdivision };
 
     ghost view = { λ s. record { region = s.region; suffix = s.suffix } };
@@ -30,6 +30,9 @@ impl Model for SubdivisionId {
 }
 
 impl SubdivisionId {
+    ghost use Rattle.iloc_spec_parts.specs.Subdivisions.{Subdivision, subdivision, subdivision_text};
+    ghost use Rattle.iloc_keyword_types.specs.Subdivisions.{SubdivisionTextReads};
+
     /// The subdivision of that region with that suffix.
     pub fn new(region: Region, suffix: SubdivisionSuffix) -> Self
         ensures region { result.region ≡ region }
@@ -97,6 +100,8 @@ fn region_length(code_units: &[u8]) -> usize
 impl FromStr for SubdivisionId {
     type Err = ParseError;
 
+    ghost use Rattle.iloc_keyword_types.specs.Subdivisions.{SubdivisionTextReads};
+
     ghost from_str_gives = { SubdivisionTextReads };
 
     fn from_str(s: &str) -> Result<Self, ParseError> {
@@ -106,6 +111,8 @@ impl FromStr for SubdivisionId {
 
 /// Prints region and suffix in lower case, without a hyphen.
 impl Writeable for SubdivisionId {
+    ghost use Rattle.iloc_spec_parts.specs.Subdivisions.{subdivision_text};
+
     ghost text = { subdivision_text };
 
     fn write_to<S: Sink>(&self, sink: &mut S) -> fmt::Result {
@@ -118,6 +125,8 @@ impl Writeable for SubdivisionId {
 }
 
 impl fmt::Display for SubdivisionId {
+    ghost use Rattle.iloc_spec_parts.specs.Subdivisions.{subdivision_text};
+
     ghost output = { λ s. Some (subdivision_text s) };
 
     fn fmt<W: fmt::Write>(&self, f: &mut fmt::Formatter<W>) -> fmt::Result {

@@ -1,15 +1,15 @@
 //! Maps compare and hash as the lists of their pairs.
-ghost use Rattle.std.specs.Prelude.{◌≡◌, ◌&&◌, ◌++◌};
-ghost use Rattle.std.specs.Cmp.Lexicographic.{pointwise, lists_per, lists_equiv};
-ghost use Rattle.std.specs.Cmp.{and_per, on_per, and_equiv, on_equiv};
-ghost use Rattle.std.specs.Hash.{items_Alike, and-Alike, on_Alike};
+ghost use Rattle.std.specs.Prelude.{◌≡◌, ◌&&◌};
 ghost use Rattle.std.specs.Hash as fed;
+ghost use Rattle.std.specs.Cmp.Lexicographic.{pointwise, lists_per, lists_equiv};
 
 use crate::map::LiteMap;
 use crate::store::Store;
 use std::hash::{Hash, Hasher};
 
 impl<K: Ord + Drop, V: PartialEq + Drop, S: Store<K, V>> PartialEq for LiteMap<K, V, S> {
+    ghost use Rattle.std.specs.Cmp.{and_per, on_per};
+
     ghost eq = { pointwise (λ x y. K.eq x.0 y.0 && V.eq x.1 y.1) };
 
     ghost laws = { lists_per (and_per (on_per (λ x. x.0) K.PartialEq.laws)
@@ -36,11 +36,16 @@ fn are_equal<K: PartialEq, V: PartialEq>(pairs: &[(K, V)], others: &[(K, V)]) ->
 }
 
 impl<K: Ord + Drop, V: Eq + Drop, S: Store<K, V>> Eq for LiteMap<K, V, S> {
+    ghost use Rattle.std.specs.Cmp.{and_equiv, on_equiv};
+
     ghost laws = { lists_equiv (and_equiv (on_equiv (λ x. x.0) K.Eq.laws)
         (on_equiv (λ x. x.1) V.Eq.laws)) };
 }
 
 impl<K: Ord + Hash + Drop, V: Hash + Drop, S: Store<K, V>> Hash for LiteMap<K, V, S> {
+    ghost use Rattle.std.specs.Prelude.{◌++◌};
+    ghost use Rattle.std.specs.Hash.{items_Alike, and-Alike, on_Alike};
+
     ghost hash_input = { fed.slice (λ x. K.hash_input x.0 ++ V.hash_input x.1) };
 
     ghost respects_eq = { (items_Alike (and-Alike

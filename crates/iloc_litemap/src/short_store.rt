@@ -2,7 +2,6 @@
 ghost use Rattle.std.specs.Prelude.{◌≡◌};
 ghost use Rattle.iloc_litemap.specs.Calls.{CalledAtKeyValue};
 ghost use Rattle.iloc_litemap.specs.Pairs.{set_value_at};
-ghost use Rattle.std.proofs.Common.{refl};
 
 use crate::store::Store;
 use iloc_shortvec::{ShortBoxSlice, ShortBoxSliceIntoIter};
@@ -10,6 +9,8 @@ use std::alloc::{AllocError, Global};
 
 impl<K: Drop, V: Drop> Store<K, V> for ShortBoxSlice<(K, V)> {
     type KeyValueIntoIter = ShortBoxSliceIntoIter<(K, V)>;
+
+    ghost use Rattle.std.proofs.Common.{refl};
 
     ghost pairs = { λ s. s };
 

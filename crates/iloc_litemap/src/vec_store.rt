@@ -2,7 +2,6 @@
 ghost use Rattle.std.specs.Prelude.{◌≡◌};
 ghost use Rattle.std.specs.Vec.Iter.{into_iter_items};
 ghost use Rattle.iloc_litemap.specs.Calls.{CalledAtKeyValue};
-ghost use Rattle.iloc_litemap.specs.VecStore.{vec_with_value, vec_pairs_with_value, vec_takes_first};
 
 use crate::store::Store;
 use std::alloc::{AllocError, Global};
@@ -10,6 +9,8 @@ use std::vec;
 
 impl<K: Drop, V: Drop> Store<K, V> for Vec<(K, V)> {
     type KeyValueIntoIter = vec::IntoIter<(K, V), Global>;
+
+    ghost use Rattle.iloc_litemap.specs.VecStore.{vec_with_value, vec_pairs_with_value, vec_takes_first};
 
     ghost pairs = { λ v. v.items };
 

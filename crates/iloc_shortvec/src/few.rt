@@ -1,8 +1,7 @@
 //! One to four items in place.
-ghost use Rattle.std.specs.Prelude.{◌≡◌, ◌<◌, ◌≤◌, ◌+◌, ◌-◌, [], ◌∷◌, ◌++◌, length, insert, remove, take, drop, ℕ, List};
+ghost use Rattle.std.specs.Prelude.{◌≡◌, ◌<◌, ◌≤◌, ◌+◌, ◌-◌, [], ◌∷◌, ◌++◌, length, insert, remove, take, drop};
 ghost use Rattle.std.specs.Borrow.{sem};
 ghost use Rattle.std.specs.Iterator.{YieldsFirst};
-ghost use Rattle.iloc_shortvec.specs.FewLends.{few_lends_slice};
 
 use crate::front::front_mut;
 use std::marker::Model;
@@ -14,6 +13,8 @@ pub struct Count {
 }
 
 impl Model for Count {
+    ghost use Rattle.std.specs.Prelude.{ℕ, ◌≤◌};
+
     ghost Value = { ℕ };
 
     ghost view = { λ c. c.used };
@@ -51,6 +52,8 @@ pub struct Few<T: Copy> {
 }
 
 impl<T: Copy> Model for Few<T> {
+    ghost use Rattle.std.specs.Prelude.{◌≡◌, List, length};
+
     ghost Value = { List T };
 
     ghost view = { λ f. f.cells };
@@ -59,6 +62,8 @@ impl<T: Copy> Model for Few<T> {
 }
 
 impl<T: Copy> Few<T> {
+    ghost use Rattle.iloc_shortvec.specs.FewLends.{few_lends_slice};
+
     // These cells.
     fn of(cells: [T; 4]) -> Self
         ensures { result ≡ cells }

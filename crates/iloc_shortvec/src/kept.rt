@@ -7,7 +7,6 @@ ghost use Rattle.std.specs.Fn.{CalledAt};
 ghost use Rattle.iloc_shortvec.specs.Kept.{items_of, count_of, IsKept};
 ghost use Rattle.iloc_shortvec.specs.Left.{words_left};
 ghost use Rattle.iloc_shortvec.specs.ShortList.{only_of};
-ghost use Rattle.iloc_shortvec.specs.KeptLends.{kept_lends_slice};
 
 use crate::few::{Count, Few};
 use crate::items::Nothing;
@@ -51,6 +50,8 @@ impl<T: Copy> Drop for Kept<T> {
 }
 
 impl<T: Copy> Kept<T> {
+    ghost use Rattle.iloc_shortvec.specs.KeptLends.{kept_lends_slice};
+
     pub(crate) fn as_slice(&self) -> &[T]
         ensures { result.now ≡ items_of self.now }
     {

@@ -4,6 +4,7 @@ ghost use Rattle.std.specs.Borrow.{sem};
 ghost use Rattle.std.specs.Option.{option_copied};
 ghost use Rattle.std.specs.List.Retain.{IsFiltered};
 ghost use Rattle.std.specs.Fn.{CalledAt};
+ghost use Rattle.std.specs.Hash as fed;
 ghost use Rattle.std.specs.Hash.{items_Alike};
 ghost use Rattle.std.specs.Fmt.{debug_list};
 ghost use Rattle.std.specs.Iterator.{IsFinite, Drains, YieldsFirst, item_count};
@@ -16,10 +17,6 @@ ghost use Rattle.std.proofs.Common.{refl};
 ghost use Rattle.iloc_shortvec.specs.ShortList.{only_of};
 ghost use Rattle.iloc_spec_grammar.specs.ShortLists.{short_cmp};
 ghost use Rattle.iloc_shortvec.specs.ShortOrder.{short_total, short_ties};
-ghost use Rattle.iloc_shortvec.specs.Kept.{items_of, IsKept};
-ghost use Rattle.iloc_shortvec.specs.ShortWordsLends.{lends_slice};
-ghost use Rattle.iloc_shortvec.specs.Left.{words_left};
-ghost use Rattle.std.specs.Hash as fed;
 
 use crate::few::{Count, Few};
 use crate::items::Nothing;
@@ -41,7 +38,11 @@ pub struct ShortWords<T: Copy> {
 }
 
 impl<T: Copy> Model for ShortWords<T> {
+    ghost use Rattle.std.specs.Prelude.{List};
+
     ghost Value = { List T };
+
+    ghost use Rattle.iloc_shortvec.specs.Kept.{items_of, IsKept};
 
     ghost view = { λ s. items_of s.kept };
 
@@ -49,6 +50,8 @@ impl<T: Copy> Model for ShortWords<T> {
 }
 
 impl<T: Copy> ShortWords<T> {
+    ghost use Rattle.iloc_shortvec.specs.ShortWordsLends.{lends_slice};
+
     /// The empty list.
     pub fn new() -> Self
         ensures { result ≡ [] }
@@ -344,7 +347,11 @@ pub struct ShortWordsIntoIter<T: Copy> {
 }
 
 impl<T: Copy> Model for ShortWordsIntoIter<T> {
+    ghost use Rattle.std.specs.Prelude.{List};
+
     ghost Value = { List T };
+
+    ghost use Rattle.iloc_shortvec.specs.Left.{words_left};
 
     ghost view = { λ it. words_left it.left };
 }

@@ -32,6 +32,8 @@ pub struct Attributes {
 }
 
 impl Model for Attributes {
+    ghost use Rattle.std.specs.Prelude.{List, ℕ};
+
     ghost Value = { List (List ℕ) };
 
     ghost view = { λ a. a.words };

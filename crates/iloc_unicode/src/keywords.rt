@@ -9,7 +9,11 @@ ghost use Rattle.std.specs.Map.{remove_entry};
 ghost use Rattle.std.specs.BTreeMap.{is_at};
 ghost use Rattle.std.specs.Option.{option_copied, option_copied_mut, is_some};
 ghost use Rattle.std.specs.Ordering.{as_partial_cmp};
-ghost use Rattle.std.specs.Cmp.{decided, partial_equiv_from_equiv, partial_order_from_agreeing_total};
+ghost use Rattle.std.specs.Cmp.{
+  decided,
+  partial_equiv_from_equiv,
+  partial_order_from_agreeing_total,
+};
 ghost use Rattle.std.specs.Hash.{same_Alike};
 ghost use Rattle.std.proofs.Common.{refl};
 ghost use Rattle.iloc_spec_grammar.specs.Syntax.{word_cmp, pieces, Fields};
@@ -20,9 +24,6 @@ ghost use Rattle.iloc_spec_parts.specs.Parts.{KeywordsText, KeywordsTextFault};
 ghost use Rattle.iloc_subtags.specs.Judging.{Accepts, Refuses, RunsOutOnlyIf};
 ghost use Rattle.iloc_unicode.specs.Reads.{KeywordsTextReads, KeywordsWantMemory};
 ghost use Rattle.iloc_litemap.specs.Pairs.{HasAscendingKeys};
-ghost use Rattle.iloc_unicode.specs.Lends.{lends_value};
-ghost use Rattle.iloc_spec_parts.specs.Orders.{keywords_cmp};
-ghost use Rattle.iloc_unicode.specs.KeywordsOrder.{keywords_total, keywords_ties};
 
 use iloc_litemap::LiteMap;
 use iloc_shortvec::ShortBoxSlice;
@@ -53,6 +54,8 @@ impl Drop for Keywords {
 }
 
 impl Model for Keywords {
+    ghost use Rattle.iloc_spec_grammar.specs.Syntax.{Fields};
+
     ghost Value = { Fields };
 
     ghost view = { λ k. k.map };
@@ -61,6 +64,8 @@ impl Model for Keywords {
 }
 
 impl Keywords {
+    ghost use Rattle.iloc_unicode.specs.Lends.{lends_value};
+
     /// The empty map.
     pub fn new() -> Self
         ensures { result ≡ [] }
@@ -325,6 +330,9 @@ impl Hash for Keywords {
 
 /// The pairs in order, as a short list, the key first.
 impl Ord for Keywords {
+    ghost use Rattle.iloc_spec_parts.specs.Orders.{keywords_cmp};
+    ghost use Rattle.iloc_unicode.specs.KeywordsOrder.{keywords_total, keywords_ties};
+
     ghost cmp = { keywords_cmp };
 
     ghost total = { keywords_total };
@@ -344,6 +352,9 @@ impl Ord for Keywords {
 }
 
 impl PartialOrd for Keywords {
+    ghost use Rattle.iloc_spec_parts.specs.Orders.{keywords_cmp};
+    ghost use Rattle.iloc_unicode.specs.KeywordsOrder.{keywords_total, keywords_ties};
+
     ghost partial_cmp = { as_partial_cmp keywords_cmp };
 
     ghost laws = { partial_order_from_agreeing_total keywords_cmp keywords_total
@@ -382,6 +393,8 @@ pub struct KeywordsIter<'a> {
 }
 
 impl<'a> Model for KeywordsIter<'a> {
+    ghost use Rattle.iloc_spec_grammar.specs.Syntax.{Fields};
+
     ghost Value = { Fields };
 
     ghost view = { λ it. it.rest.now };

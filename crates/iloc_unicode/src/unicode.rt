@@ -9,9 +9,6 @@ ghost use Rattle.iloc_subtags.specs.Judging.{Accepts, Refuses, RunsOutOnlyIf};
 ghost use Rattle.iloc_spec_grammar.specs.Values.{unicode_spelling, unicode_text};
 ghost use Rattle.iloc_spec_grammar.specs.Syntax.{Unicode as UnicodeParts};
 ghost use Rattle.iloc_spec_parts.specs.Orders.{unicode_cmp};
-ghost use Rattle.iloc_unicode.specs.UnicodeReads.{UnicodeTextReads, UnicodeTextWants};
-ghost use Rattle.iloc_unicode.specs.UnicodeValue.{value_of, shown_eq};
-ghost use Rattle.iloc_unicode.specs.UnicodeValueLaws.{shown_exact};
 
 use crate::attributes::Attributes;
 use crate::keywords::Keywords;
@@ -31,6 +28,9 @@ pub struct Unicode {
 }
 
 impl Unicode {
+    ghost use Rattle.iloc_unicode.specs.UnicodeReads.{UnicodeTextReads, UnicodeTextWants};
+    ghost use Rattle.iloc_unicode.specs.UnicodeValue.{value_of};
+
     /// The empty extension.
     pub fn new() -> Self
         ensures keywords { result.keywords ≡ [] }
@@ -128,6 +128,9 @@ impl Unicode {
 
 /// Equal are extensions of the same attributes and the same keywords.
 impl PartialEq for Unicode {
+    ghost use Rattle.iloc_unicode.specs.UnicodeValue.{value_of, shown_eq};
+    ghost use Rattle.iloc_unicode.specs.UnicodeValueLaws.{shown_exact};
+
     ghost eq = { shown_eq };
 
     ghost laws = { partial_equiv_from_equiv (decided shown_eq shown_exact) };
@@ -142,16 +145,23 @@ impl PartialEq for Unicode {
 
 #[derived]
 impl Eq for Unicode {
+    ghost use Rattle.iloc_unicode.specs.UnicodeValue.{shown_eq};
+    ghost use Rattle.iloc_unicode.specs.UnicodeValueLaws.{shown_exact};
+
     ghost laws = { decided shown_eq shown_exact };
 }
 
 #[derived]
 impl Hash for Unicode {
+    ghost use Rattle.iloc_unicode.specs.UnicodeValueLaws.{shown_exact};
+
     ghost respects_eq = { (same_Alike _ shown_exact).fed };
 }
 
 /// The pieces are `u`, the attributes and the keywords; an empty extension has none.
 impl Pieces for Unicode {
+    ghost use Rattle.iloc_unicode.specs.UnicodeValue.{value_of};
+
     ghost pieces = { λ u. unicode_spelling (value_of u) };
 
     fn has_pieces(&self) -> bool {
@@ -169,6 +179,8 @@ impl Pieces for Unicode {
 /// Prints `u`, the attributes and the keywords, with a hyphen between each two; of an empty extension
 /// nothing.
 impl Writeable for Unicode {
+    ghost use Rattle.iloc_unicode.specs.UnicodeValue.{value_of};
+
     ghost text = { λ u. unicode_text (value_of u) };
 
     #[tactic(auto, unfolding(iloc_spec_grammar::specs::Syntax::join, iloc_spec_grammar::specs::Values::unicode_text))]
@@ -182,6 +194,8 @@ impl Writeable for Unicode {
 }
 
 impl fmt::Display for Unicode {
+    ghost use Rattle.iloc_unicode.specs.UnicodeValue.{value_of};
+
     ghost output = { λ u. Some (unicode_text (value_of u)) };
 
     fn fmt<W: fmt::Write>(&self, f: &mut fmt::Formatter<W>) -> fmt::Result {
