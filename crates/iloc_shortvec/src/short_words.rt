@@ -39,10 +39,9 @@ pub struct ShortWords<T: Copy> {
 
 impl<T: Copy> Model for ShortWords<T> {
     ghost use Rattle.std.specs.Prelude.{List};
+    ghost use Rattle.iloc_shortvec.specs.Kept.{items_of, IsKept};
 
     ghost Value = { List T };
-
-    ghost use Rattle.iloc_shortvec.specs.Kept.{items_of, IsKept};
 
     ghost view = { λ s. items_of s.kept };
 
@@ -348,10 +347,9 @@ pub struct ShortWordsIntoIter<T: Copy> {
 
 impl<T: Copy> Model for ShortWordsIntoIter<T> {
     ghost use Rattle.std.specs.Prelude.{List};
+    ghost use Rattle.iloc_shortvec.specs.Left.{words_left};
 
     ghost Value = { List T };
-
-    ghost use Rattle.iloc_shortvec.specs.Left.{words_left};
 
     ghost view = { λ it. words_left it.left };
 }
