@@ -135,8 +135,7 @@ impl Fields {
         Ok(None)
     }
 
-    // Sets the value of a key: a first one gets room for four. It stands apart, so that `set` pays nothing for it where
-    // the key is there.
+    // Sets the value of a key. It stands apart, so that `set` pays nothing for it where the key is there.
     #[inline(never)]
     fn insert(&mut self, alloc: Global, key: Key, value: Value) -> Result<(), AllocError>
         ensures ok { OnOk result (self.new ≡ put word_cmp key value self.old) }
@@ -144,12 +143,6 @@ impl Fields {
     {
         let _ = key.as_str();
         let _ = value.as_slice();
-        if self.map.is_empty() {
-            let mut first = Vec::with_capacity(alloc, 4)?;
-            first.push_reserved((key, value));
-            self.map = LiteMap::from_sorted_store_unchecked(first);
-            return Ok(());
-        }
         self.map.insert(alloc, key, value)?;
         Ok(())
     }
