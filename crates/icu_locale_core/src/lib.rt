@@ -292,15 +292,15 @@ pub mod laws {
 
     /// What the program writes.
     pub mod program {
-        pub use iloc_program::laws::{by_example, line_answers, lines, outputs};
-        pub use iloc_program::laws::{one_listing, plain_listing};
+        pub use iloc_program::laws::{
+            by_example, line_answers, lines, one_listing, outputs, plain_listing,
+        };
     }
 }
 
 /// The library of the program `locale_normal`.
 pub mod program {
-    pub use iloc_program::{Mode, RunError, ending};
-    pub use iloc_program::{Listing, run, run_listed};
+    pub use iloc_program::{Listing, Mode, RunError, ending, run, run_listed};
 }
 
 pub use iloc_data::DataLocale;

@@ -13,11 +13,11 @@ use iloc_outline::outline::{
     Outline, Outlined, begins_with_language, outline_identifier, outline_locale,
 };
 use iloc_outline::printing::copy_outline;
-use iloc_spans::spans::Spans;
 use iloc_pieces::left::{
     is_attribute, is_field_key, is_key, is_language, is_private, is_region, is_script, is_subtag,
     is_variant, left_in,
 };
+use iloc_spans::spans::Spans;
 use iloc_subtags::ParseError;
 use test_page::argument::number_of;
 use test_page::{bytes, field, refuse, say};
