@@ -2,11 +2,10 @@
 ghost use Rattle.std.specs.Prelude.{◌≡◌, ⊤, ℕ, IfOk, Ok};
 ghost use Rattle.std.specs.Result.{result_and};
 ghost use Rattle.iloc_spec_grammar.specs.Syntax.{Text, languages, two_or_three};
-ghost use Rattle.iloc_spec_grammar.specs.Meaning.{Means, Fault, HasFault, no_extensions};
-ghost use Rattle.iloc_spec_grammar.specs.Values.{TextStep, Leads, IsWellFormed};
-ghost use Rattle.iloc_locale.specs.LocaleReading.{value_of, unknown_locale, LocaleTextAnswers, LocaleTextReads, LocaleWantsMemory};
-ghost use Rattle.iloc_subtags.specs.Judging.{Accepts, Refuses, RunsOutOnlyIf};
 ghost use Rattle.iloc_spec_grammar.specs.Meaning as meaning;
+ghost use Rattle.iloc_spec_grammar.specs.Meaning.{Means, Fault, HasFault};
+ghost use Rattle.iloc_spec_grammar.specs.Values.{TextStep, Leads, IsWellFormed};
+ghost use Rattle.iloc_locale.specs.LocaleReading.{value_of, unknown_locale, LocaleTextAnswers};
 
 use crate::copying::copied;
 use crate::{Extensions, read_blocks};
@@ -35,6 +34,8 @@ pub struct Locale {
 
 // Written rather than derived: empty parts are not copied.
 impl Clone for Locale {
+    ghost use Rattle.iloc_locale.specs.LocaleReading.{value_of};
+
     ghost is_clone = { λ l m. value_of m ≡ value_of l };
 
     #[inline(always)]
@@ -48,6 +49,9 @@ impl Clone for Locale {
 
 impl Locale {
     ghost use Rattle.iloc_locale.specs.ExtensionsValue as extensions;
+    ghost use Rattle.iloc_spec_grammar.specs.Meaning.{no_extensions};
+    ghost use Rattle.iloc_locale.specs.LocaleReading.{LocaleTextReads, LocaleWantsMemory};
+    ghost use Rattle.iloc_subtags.specs.Judging.{Accepts, Refuses, RunsOutOnlyIf};
 
     /// The unknown locale, `und`.
     pub fn unknown(alloc: Global) -> Self

@@ -1,5 +1,21 @@
 //! The fields of a transform.
-ghost use Rattle.std.specs.Prelude.{◌≡◌, ◌==◌, ℕ, List, [], true, length, reverse, OnOk, OnErr, IfOk, IsOk, Ok, Some, if◌then◌else◌};
+ghost use Rattle.std.specs.Prelude.{
+  ◌≡◌,
+  ◌==◌,
+  ℕ,
+  List,
+  [],
+  true,
+  length,
+  reverse,
+  OnOk,
+  OnErr,
+  IfOk,
+  IsOk,
+  Ok,
+  Some,
+  if◌then◌else◌,
+};
 ghost use Rattle.std.specs.Fn.{CalledAt};
 ghost use Rattle.std.specs.FinMap.{find, put};
 ghost use Rattle.std.specs.Iterator.{IsFiniteIterable, Drains};
@@ -45,7 +61,9 @@ impl Drop for Fields {
 }
 
 impl Model for Fields {
+    ghost use Rattle.std.specs.List.{AllByRecursion};
     ghost use Rattle.iloc_spec_grammar.specs.Syntax as written;
+    ghost use Rattle.iloc_transform.specs.FieldsReading.{IsFieldPair};
 
     ghost Value = { written.Fields };
 
