@@ -261,7 +261,7 @@ def parts_of(nodes, separators):
 
 
 class Names:
-    """Finds the names that a text cites: found(path) tells what a path means, or None where it means nothing here."""
+    """Finds the names that a text cites: found(path) returns what a path means, or None where it means nothing here."""
 
     def __init__(self, found, is_constructor, unknown):
         self.found, self.is_constructor, self.unknown = found, is_constructor, unknown

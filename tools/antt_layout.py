@@ -11,10 +11,13 @@ import textwrap
 
 from antt import indent as column
 from common import without_suffix
+from written import fill
 
 WIDTH, STEP, PART = 110, 4, 2
 USE = re.compile(r"((?:pub )?use \S*\{)(.*)\}$")
 MODULE = re.compile(r"(?:pub )?use [^{]*$")
+# The names of an import in braces, which may stand on several lines.
+IMPORT = re.compile(rb"^\s*((?:ghost )?(?:pub )?use [^\s{]*\{)([^}]*)\};?\s*$", re.M)
 # What a line ends with below which declarations, parts of a list or cases begin.
 OPENS = re.compile(r"(?:\bwhere|[({\[])$")
 STRING = re.compile(r'"(?:[^"\\]|\\.)*"|«[^»]*»')
@@ -22,6 +25,14 @@ CLOSERS = {"(": ")", "{": "}", "[": "]"}
 # Operators, those that bind least first. A line is broken before them.
 OPERATORS = [{*it.split()} for it in "$, ∵, ↔ ⊎, ×, ∙, ≡ ≢ ≤ < ≥ > ⊑ ∣, ||, &&, ==, ++ ∷ ⊛, + -, * / %, ^".split(",")]
 BEFORE = {"|"}.union(*OPERATORS)
+
+
+def without_layout(text):
+    """Returns the bytes of a text without what `rt fmt` and tools/break_lines add: blanks, the last comma of a list, the first
+    `|` of cases, and how many names a `use` line has."""
+    apart = lambda found: b"".join(found[1] + it.strip() for it in sorted(found[2].split(b",")) if it.strip())
+    text = IMPORT.sub(apart, text)
+    return b"".join(re.sub(rb"\[\s*\|", b"[", re.sub(rb"[,;]?\s*([)}\]])", rb"\1", text)).split())
 
 
 class Glue:
@@ -254,7 +265,7 @@ def comment(lines):
 
 
 def goes_on(lines, at):
-    """Returns whether a line goes on from one above it, as far as their columns tell."""
+    """Returns whether a line goes on from one above it, as far as their columns show."""
     place, first = column(lines[at]), lines[at]
     for line in [it for it in reversed(lines[:at]) if it.strip() and not it.strip().startswith("--")]:
         if column(first) == place and OPENS.search(line):
@@ -283,13 +294,7 @@ def names(line, found):
     """Returns several `use` lines of one module for one with these names, or a line for each where one is too long for that."""
     if any(len(line) + len(it) + 1 > WIDTH for it in found):
         return [line, *(f"{' ' * (column(line) + PART)}{it}," for it in found), " " * column(line) + "}"]
-    lines = []
-    for it in found:
-        if lines and len(lines[-1]) + len(it) + 3 <= WIDTH:
-            lines[-1] += f", {it}"
-        else:
-            lines.append(line + it)
-    return [f"{it}}}" for it in lines]
+    return [f"{it[:-1]}}}" for it in fill([f"{it}," for it in found], WIDTH, line, line).split("\n")]
 
 
 def broken(text):

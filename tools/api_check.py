@@ -77,9 +77,9 @@ def not_found(found):
 
 def wrong_examples():
     """Yields each example that is an arm, on a bare `self`, or a part of a statement; and each call that no test, program
-    of rows or user's program makes, as far as its type or its name tells."""
+    of rows or user's program makes, as far as its type or its name shows."""
     for (_, *names), (path, number, line) in api_examples.examples().items():
-        if api_examples.telling(line, names[-1]) != line:
+        if api_examples.said_by(line, names[-1]) != line:
             yield f"the example of {'::'.join(names)} says too little: {line} ({path}:{number})"
     made, every = api_examples.tried_keys(), [it for entry in shown() if not entry.is_law for it in entry.calls]
     yield from (f"{it.title}: no test makes this call: add a row" for it in every if it.key not in made)
@@ -90,5 +90,5 @@ def faults(folder):
     texts = {it: read(f"{folder}/{it}") for it in sorted(os.listdir(folder)) if it.endswith(".html")}
     found = api_search.items()
     places = {name: collections.Counter(re.findall(r'\bid="([^"]*)"', text)) for name, text in texts.items()}
-    told = [*broken_links(texts, folder, places, found), *no_links(texts), *wrong_ids(places), *bound_links(texts)]
-    return [*told, *not_found(found), *wrong_examples()], len(texts) + len(api_search.WANTED)
+    wrong = [*broken_links(texts, folder, places, found), *no_links(texts), *wrong_ids(places), *bound_links(texts)]
+    return [*wrong, *not_found(found), *wrong_examples()], len(texts) + len(api_search.WANTED)

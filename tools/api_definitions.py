@@ -1,4 +1,4 @@
-"""Reads the definitions that contracts cite (`specs/*.antt`), and the page that tells them in words."""
+"""Reads the definitions that contracts cite (`specs/*.antt`), and the page that says them in words."""
 import collections
 import functools
 import re
@@ -91,7 +91,7 @@ def slug(heading):
 
 
 @functools.lru_cache(maxsize=None)
-def told():
+def headings():
     """Returns the headings of docs/DEFINITIONS.md under which each name stands in code."""
     found, heading = {}, ""
     for line in read(WORDS).split("\n"):

@@ -1,7 +1,7 @@
 """Finds for each call a line of a program or of a test that makes it, and that the gate runs.
 
 The programs that use the public crate come first, then the programs of rows and the tests. What a call
-is made on is told by the parameters and the `let`s of the function, and by the fields of structs."""
+is made on is read from the parameters and the `let`s of the function, and by the fields of structs."""
 import collections
 import functools
 import glob
@@ -10,9 +10,9 @@ import re
 
 import api_words
 from api_model import shown
-from api_source import CORE, HEAD, libraries, sources
+from api_source import CORE, libraries, sources
 from common import ROOT, read, without_prefix, without_suffix
-from rattle import blanked, closing, joined
+from rattle import blanked, closing, joined, listed
 
 # The longest statement that is shown.
 LONGEST = 120
@@ -42,7 +42,7 @@ def files():
 @functools.lru_cache(maxsize=None)
 def by_home():
     """Returns the items that are shown, by their crates and their names there."""
-    return {(it.crate, HEAD.match(it.item.signature)[2]): it for it in shown()}
+    return {(it.crate, it.item.name): it for it in shown()}
 
 
 @functools.lru_cache(maxsize=None)
@@ -114,7 +114,7 @@ def types_in(header, body, known, own):
     found = {re.sub(r"(?<=.)([A-Z])", r"_\1", name).lower(): home for name, home in known.items()}
     if own:
         found["self"] = own
-    for part in re.split(r",(?![^<(]*[>)])", header):
+    for part in listed(header):
         name, _, kind = part.partition(":")
         name = without_prefix(name.strip(), "mut ")
         inner = re.match(r"\s*(?:Option|Result)<(.*)", kind)
@@ -123,8 +123,8 @@ def types_in(header, body, known, own):
         elif inner and bare(inner.group(1)) in known:
             for taken in re.findall(rf"match {name} \{{\s*(?:Some|Ok)\((?:mut )?(\w+)\)", body):
                 found[taken] = known[bare(inner.group(1))]
-    told = [*ANNOTATED.findall(body), *LET.findall(body), *((name, kind) for kind, name in MATCHED.findall(body))]
-    found.update((name, known[kind]) for name, kind in told if kind in known)
+    typed = [*ANNOTATED.findall(body), *LET.findall(body), *((name, kind) for kind, name in MATCHED.findall(body))]
+    found.update((name, known[kind]) for name, kind in typed if kind in known)
     for name, start, fields in BORROWED.findall(body):
         if start in found and along(found[start], fields):
             found[name] = along(found[start], fields)
@@ -198,7 +198,7 @@ def is_whole(text):
     return not text.startswith((".", "?")) and not bare
 
 
-def telling(line, name):
+def said_by(line, name):
     """Returns what of a line is an example of the call of this name: of an arm or a field what stands right of it. Nothing
     of a part of a statement, and of a call on a bare `self`."""
     left, arrow, right = line.partition(" => ")
@@ -253,8 +253,8 @@ def examples():
     found, guessed = {}, {}
     for path, (is_typed, key, number, line) in [(path, it) for path in files() for it in calls_in(path)]:
         (found if is_typed else guessed).setdefault(key, []).append((path, number, line))
-    told = {key: best(lines, key[-1]) for key, lines in {**guessed, **found}.items()}
-    return {key: it for key, it in told.items() if it}
+    chosen = {key: best(lines, key[-1]) for key, lines in {**guessed, **found}.items()}
+    return {key: it for key, it in chosen.items() if it}
 
 
 def best(lines, name):
@@ -262,8 +262,8 @@ def best(lines, name):
     says one within the library, then a call on `self`, and an arm of a `match`."""
     every = [(path, number, whole(path, number, re.sub(r" // .*", "", line))) for path, number, line in lines]
     rank = lambda it: (it[0].startswith("crates/iloc_"), "self." in it[2], " => " in it[2])
-    told = [(path, number, telling(line, name)) for path, number, line in sorted(every, key=rank)]
-    return next((it for it in told if it[2]), None)
+    shortened = [(path, number, said_by(line, name)) for path, number, line in sorted(every, key=rank)]
+    return next((it for it in shortened if it[2]), None)
 
 
 @functools.lru_cache(maxsize=None)

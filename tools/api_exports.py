@@ -31,7 +31,7 @@ def faults():
     lib = sources.modules[("Rattle", CORE, "specs")]
     there = {path for name, path in lib.modules.items() if name in lib.passed}
     modules = dict.fromkeys(it.module.name for it in cited(sources))
-    told = [f"{it.where}: the law {it.name} is not passed on by {CORE}: name it in a module of `laws`" for it in wanted if it not in passed]
+    wrong = [f"{it.where}: the law {it.name} is not passed on by {CORE}: name it in a module of `laws`" for it in wanted if it not in passed]
     lost = [".".join(it) for it in modules if it not in there and it[1] != CORE]
-    told += [f"{lib.path}: no `pub use {it}`, on whose definitions a contract rests" for it in lost]
-    return told, len(wanted) + len(modules)
+    wrong += [f"{lib.path}: no `pub use {it}`, on whose definitions a contract rests" for it in lost]
+    return wrong, len(wanted) + len(modules)

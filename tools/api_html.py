@@ -11,7 +11,7 @@ import api_definitions
 import api_markup
 import api_search
 from antt import bound_in
-from api_definitions import files, slug, told, within
+from api_definitions import files, headings, slug, within
 from api_examples import examples, remark, tried
 from api_markdown import LAWS, json_types, trait_homes
 from api_markup import code, dim, esc, items, leads, marked, source, tag
@@ -199,14 +199,14 @@ def module_html(module):
     items = [it for it in module.entries if not it.is_law]
     names = ", ".join(leads(f"#{it.name}", code(it.name)) for it in items)
     names = "; ".join(filter(None, [names, leads("#laws", "laws") if laws else ""]))
-    told = tag("p", marked(module.comment, f"{module.path}::"))
-    head = tag("h1", code(module.path)) + told + tag("p", names, kind="names")
-    told = [tag("h1", "Laws", id="laws") + tag("p", LAWS)] if laws else []
-    return head + "\n".join([entry_html(it) for it in items] + told + [entry_html(it) for it in laws])
+    comment = tag("p", marked(module.comment, f"{module.path}::"))
+    head = tag("h1", code(module.path)) + comment + tag("p", names, kind="names")
+    below = [tag("h1", "Laws", id="laws") + tag("p", LAWS)] if laws else []
+    return head + "\n".join([entry_html(it) for it in items] + below + [entry_html(it) for it in laws])
 
 
 def block_html(block, definitions):
-    """Returns a definition, its names linked, with the part of the page that tells it in words."""
+    """Returns a definition, its names linked, with the part of the page that says it in words."""
     lines, start = [], block.at
     for line in block.text.split("\n"):
         text, dash, said = line.partition("--")
@@ -215,7 +215,7 @@ def block_html(block, definitions):
         lines.append(linked + (tag("span", f"--{marked(said, near)}", kind="c") if dash else ""))
         start += len(line) + 1
     anchors = "".join(tag("span", "", id=name) for name in block.anchors())
-    title = told().get(block.name)
+    title = headings().get(block.name)
     words = dim(f"In words: {leads(f'definitions.html#{slug(title)}', esc(title))}") if title else ""
     return anchors + tag("pre", "\n".join(lines)) + words
 

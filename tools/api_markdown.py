@@ -52,8 +52,8 @@ def link(entry_path, within):
 def tried_row(path):
     """Returns rows that the gate runs of a reader: what is given, and what is answered."""
     rows = [f"[`{given}`](../../{file}#L{number}) is answered `{answer}`" for file, number, given, answer in tried(short(path))]
-    told = remark(short(path))
-    return [f"- Tried: {'; '.join(rows)}" + (f" ({told})" if told else "") + "."] if rows else []
+    said = remark(short(path))
+    return [f"- Tried: {'; '.join(rows)}" + (f" ({said})" if said else "") + "."] if rows else []
 
 
 def call_rows(call, module):
@@ -73,7 +73,7 @@ def call_rows(call, module):
     return rows + facts + [""]
 
 
-def told(said):
+def after_colon(said):
     """Returns what is said of a name before it, if anything is."""
     return f": {said}" if said else ""
 
@@ -83,8 +83,8 @@ def trait_rows(entry, homes):
     ours = [it for it in entry.given if it.trait in homes]
     others = [it for it in entry.given if it.trait not in homes]
     plain = [f"`{it.trait}`" for it in others if not it.said]
-    rows = [f"- {link(homes[it.trait], entry.module)}{told(it.said)}" for it in ours]
-    rows += [f"- `{it.trait}`{told(it.said)}" for it in others if it.said]
+    rows = [f"- {link(homes[it.trait], entry.module)}{after_colon(it.said)}" for it in ours]
+    rows += [f"- `{it.trait}`{after_colon(it.said)}" for it in others if it.said]
     line = [f"Traits: {', '.join(plain)}.", ""] if plain else []
     return line + rows + ([""] if rows else [])
 
@@ -101,7 +101,7 @@ def entry_rows(entry, homes):
         rows += [f"Its refusal is `{entry.refusal}`.", ""]
     if base_of(entry):
         rows += [f"It is a {link(base_of(entry).path, entry.module)}, and has its calls and traits.", ""]
-    rows += [f"- `{text}`{told(said)}" for text, said in entry.fields] + [""]
+    rows += [f"- `{text}`{after_colon(said)}" for text, said in entry.fields] + [""]
     rows += trait_rows(entry, homes)
     if entry.name == "JsonText":
         rows += ["Types that have it: " + ", ".join(link(it, entry.module) for it in json_types()) + ".", ""]

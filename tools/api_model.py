@@ -6,7 +6,7 @@ import re
 from typing import NamedTuple
 
 import api_words
-from api_source import ALIAS, CORE, HEAD, crate, libraries, modules, sources
+from api_source import ALIAS, CORE, crate, libraries, modules, sources
 from common import without_prefix
 
 OURS = ("Writeable", "Sink", "Word", "WordKind", "Store", "PreferenceKey", "JsonText", "TextValue")
@@ -18,7 +18,7 @@ OF_STD = (
 RESULT = re.compile(r"-> (?:[\w:]+::)?Result<.*?(?:, (\w+))?>(?: where .*)?$")
 UNCHANGED = re.compile(r"OnErr result \((?:pairs )?self\.new ≡ (?:pairs )?self\.old\)")
 # What stands for the refusals of a parser whose relation has no words.
-UNTOLD = "`UNTOLD`"
+WORDLESS = "`WORDLESS`"
 # The module of keys by name, all of which stand only here.
 KEYS_BY_NAME = "extensions::unicode::key"
 OF_PREFERENCES = "Its key, what its value reads as, and the value that it is turned into."
@@ -125,7 +125,7 @@ def unworded():
     pairs = [(it, need) for entry in entries() for it in entry.calls for need in it.needs]
     found = [f"{it.title} needs {need}" for it, need in pairs if re.match(r"`[^`]*[ ≡][^`]*`\.$", need)]
     calls = [it for entry in entries() for it in entry.calls]
-    return found + [f"the refusals of {it.title}" for it in calls if it.memory.startswith(UNTOLD)]
+    return found + [f"the refusals of {it.title}" for it in calls if it.memory.startswith(WORDLESS)]
 
 
 def unplaced():
@@ -197,8 +197,8 @@ def refuses(item, owner, name):
         if owner == "Language":
             return [("InvalidLanguage", "the bytes are no raw form of a language of 2 or 3 letters")], None
         return [(name, f"the bytes are no {what} of the kind ({among})") for name, among in by_refusal()], None
-    is_untold = re.search(r"\b_?alloc: Global", item.signature) and error_of(item) == "ParseError"
-    return [], UNTOLD if is_untold else None
+    is_wordless = re.search(r"\b_?alloc: Global", item.signature) and error_of(item) == "ParseError"
+    return [], WORDLESS if is_wordless else None
 
 
 def facts(item):
@@ -260,15 +260,15 @@ def rust_of(module, name):
 
 def call_of(item, owner, home, rust, made):
     """Returns a call, with what is said of memory where it runs code of its caller, and what stands in the Rust crate."""
-    name = re.search(r"fn (\w+)", item.signature)[1]
+    name = item.name
     given, wants = refuses(item, owner, name)
     sentence = api_words.SENTENCES.get(f"{owner}::{name}") or item.sentence()
     signature = expanded(without_prefix(item.signature, "pub "), home)
     givers = [words for it, words in GIVERS.items() if re.search(rf"[:+] (?:\w+::)?{it}\b", item.signature)]
-    told = memory(item, wants) + (f" What {' and '.join(givers)} takes is its own." if givers else "")
+    on_memory = memory(item, wants) + (f" What {' and '.join(givers)} takes is its own." if givers else "")
     own = api_words.OWN_CALLS_OF.get(f"{owner}::{name}", api_words.OWN_CALLS.get(name, f"{rust}::{name}")) if rust else ""
     details = without_errors(item.details()) + explained(signature)
-    return Call(owner, name, item, home, signature, sentence, details, needs(item), given, told, own, (home, made, name))
+    return Call(owner, name, item, home, signature, sentence, details, needs(item), given, on_memory, own, (home, made, name))
 
 
 def without_errors(paragraphs):
@@ -341,7 +341,7 @@ def entry_of(module, home, made, shown, seen):
     if made not in it.items:
         raise SystemExit(f"list_api: no public item {made} in the crate {home}: see crates/{CORE}/src/lib.rt")
     item = it.items[made]
-    kind, rust = HEAD.match(item.signature).group(1), rust_of(module, shown)
+    kind, rust = item.kind, rust_of(module, shown)
     alias = ALIAS.match(item.signature)
     base = alias.group(3) if alias and alias.group(3) in it.items else ""
     is_alias, said = kind == "type", api_words.SENTENCES.get(shown) or item.sentence()

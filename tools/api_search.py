@@ -39,8 +39,8 @@ def of_words():
     """Yields the parts of docs/DEFINITIONS.md, with their text."""
     for part in re.split(r"(?m)^#+ ", read(WORDS))[1:]:
         title, _, text = part.partition("\n")
-        told = re.sub(r"[|*\s]+", " ", text).strip()
-        yield f"{title} (in words)", f"definitions.html#{slug(title)}", told[:160], PROSE, told
+        plain = re.sub(r"[|*\s]+", " ", text).strip()
+        yield f"{title} (in words)", f"definitions.html#{slug(title)}", plain[:160], PROSE, plain
 
 
 def items():

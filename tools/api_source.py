@@ -6,7 +6,6 @@ import trusted_graph
 from common import ROOT
 
 CORE = "icu_locale_core"
-HEAD = re.compile(r"pub (?:unsafe )?(struct|enum|trait|type|fn|const) (\w+)")
 IMPL = re.compile(r"impl(?:<.*?>)? (?:(.+?) for )?((\w+)(?:<.*>)?)$")
 ALIAS = re.compile(r"pub type (\w+).* = ((\w+)(?:<.*>)?)$")
 
@@ -29,11 +28,11 @@ class Crate:
                     self.read(item)
 
     def read(self, item):
-        head, impl = HEAD.match(item.signature), IMPL.match(item.signature)
-        if head:
+        impl = IMPL.match(item.signature)
+        if item.is_public:
             module = item.path.rpartition("/")[2].partition(".")[0]
-            self.items[f"{module}::{head.group(2)}"] = item
-            self.items.setdefault(head.group(2), item)
+            self.items[f"{module}::{item.name}"] = item
+            self.items.setdefault(item.name, item)
         if alias := ALIAS.match(item.signature):
             self.aliases[alias.group(2)] = alias.group(1)
         if impl and impl.group(1):

@@ -272,7 +272,7 @@ OWN_CALLS_OF = {
     "PreferenceKey::unicode_extension_value": "PreferenceKey::unicode_extension_value",
 }
 
-# What changes at a call, where the signature alone does not tell it.
+# What changes at a call, where the signature alone does not show it.
 CHANGES = {
     **{f"TinyAsciiStr::try_from_{it}": "an `Option` in place of a `Result`" for it in ("str", "utf8", "raw")},
     "LiteMap::iter": "references to pairs in place of pairs of references",

@@ -12,6 +12,9 @@ import subprocess
 import sys
 
 ROOT = os.path.dirname(os.path.dirname(os.path.realpath(__file__)))
+TOP = pathlib.Path(ROOT)
+# The words of the program for what a line is read as.
+MODES = ("langid", "locale", "data")
 # The status after Ctrl-C.
 STOPPED = 130
 
@@ -28,10 +31,10 @@ class Parser(argparse.ArgumentParser):
         """Adds an option that is given or not."""
         self.add_argument(name, action="store_true", help=text)
 
-    def only(self, given, known, told):
+    def only(self, given, known, message):
         """Returns what is given, or all that is known where nothing is; ends the script where one is not known."""
         for it in [it for it in given if it not in known]:
-            self.error(told.format(it))
+            self.error(message.format(it))
         return given or [*known]
 
 
@@ -56,16 +59,16 @@ def stop(name, what, then, status=1):
 
 
 def say(text):
-    """Tells how far the script is."""
+    """Says how far the script is."""
     print(f"{os.path.basename(sys.argv[0])}: {text}", file=sys.stderr, flush=True)
 
 
-def start(main):
-    """Runs a script that may prove, and ends with its status."""
+def start(main, stopped="stopped: what is proved is kept, and the same command goes on from there"):
+    """Runs a script, and ends with its status; or after Ctrl-C with these words, which are those of one that may prove."""
     try:
         sys.exit(main())
     except KeyboardInterrupt:
-        say("stopped: what is proved is kept, and the same command goes on from there")
+        say(stopped)
         sys.exit(STOPPED)
 
 
@@ -83,6 +86,12 @@ def ends_well(script, *words):
     return status == 0
 
 
+def make_library(name):
+    """Has bindings/build make the C library, or ends the script of this name."""
+    if not ends_well("bindings/build"):
+        stop(name, "the library was not made", "The lines above say why.")
+
+
 def toolchain(name):
     """Ends the script with what to install, unless the toolchain's command rt can be found."""
     if not shutil.which("rt"):
@@ -93,6 +102,13 @@ def toolchain(name):
 def read(path, errors="strict"):
     """Returns the text of a file, by its path in the repository or its whole path."""
     return pathlib.Path(ROOT, path).read_text(encoding="utf-8", errors=errors)
+
+
+def read_edit(path):
+    """Returns the file that an edit of bindings/ changes, and the text that goes and the one that comes."""
+    lines = path.read_text(encoding="utf-8").split("\n")[:-1]
+    named, old, new = ([it[len(word) + 2 :] for it in lines if it.startswith(f"{word}:")] for word in ("file", "old", "new"))
+    return named[0], "\n".join(old), "\n".join(new)
 
 
 def rows_of(path):
@@ -110,16 +126,23 @@ def differing(texts):
     return [it for it, text in texts.items() if not os.path.isfile(os.path.join(ROOT, it)) or read(it) != text]
 
 
+def files_below(folder, left_out=()):
+    """Yields the paths of all files below a folder, but for those in folders of these names; none where it is not there."""
+    for at, folders, names in os.walk(folder):
+        folders[:] = [it for it in folders if it not in left_out]
+        yield from (f"{at}/{it}" for it in names)
+
+
 class Counts:
     """The cases so far."""
 
     passed = failed = 0
 
-    def see(self, name, is_right, told=""):
+    def see(self, name, is_right, why=""):
         """Counts a case, and says what is wrong with it."""
         self.add(bool(is_right), not is_right)
         if not is_right:
-            print(f"{name}: {told}" if told else name, flush=True)
+            print(f"{name}: {why}" if why else name, flush=True)
 
     def see_all(self, faults):
         """Counts each of these faults and says it, or one case that is right if there is none."""

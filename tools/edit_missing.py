@@ -12,7 +12,8 @@ import pathlib
 import re
 
 from common import ROOT, below, counted, crates_of, rows_of
-from edit_places import closing, functions, parameters
+from edit_places import closing, functions
+from rattle import generics
 from sources import files_of
 
 LIST = "tools/no_mutants.txt"
@@ -54,7 +55,7 @@ def in_one_line(head):
 
 def is_for_public(head, types):
     """Returns whether the head is that of a trait for a public type or for a parameter."""
-    given, rest = parameters(head.partition("impl")[2].strip())
+    given, rest = generics(head.partition("impl")[2])
     trait, _, own = rest.rpartition(" for ")
     names = re.findall(r"[A-Z]\w*", own)
     return bool(trait) and (not names or names[0] in given or names[0].encode() in types)

@@ -34,10 +34,10 @@ def names_proved(crate):
 def state_of(said, function):
     """Returns by what the prover refused the function, or None, and what to say of it."""
     mine = lambda kind, name: edits_at([types.SimpleNamespace(function=function)], kind, name)
-    told = [(name, status) for kind, name, status in STATUS.findall("\n".join(said)) if mine(kind, name)]
+    statuses = [(name, status) for kind, name, status in STATUS.findall("\n".join(said)) if mine(kind, name)]
     # (a function may have an open goal of its own and call another that is not proved)
     is_own = lambda name, status: not RESTS.search(status) or SEARCHED in status or goals_of(said, name)
-    own = [it for it in told if is_own(*it)]
+    own = [it for it in statuses if is_own(*it)]
     for name, status in own:
         reason = own_reason(said, name, status) if status.startswith("no") else None
         if reason:
@@ -46,7 +46,7 @@ def state_of(said, function):
         return NAME, f"{function}: a proof file names what the mutant took away"
     if own:
         return LIMIT, f"{own[0][0]}: {own[0][1]}"[:300]
-    return None, f"{function}: " + (told[0][1][:300] if told else "still proved")
+    return None, f"{function}: " + (statuses[0][1][:300] if statuses else "still proved")
 
 
 class OnlyTrial(Trial):

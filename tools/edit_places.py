@@ -2,6 +2,8 @@
 import os
 import re
 
+from rattle import generics
+
 # A const fn, whose body others may read, and a function in a cycle of calls, whose proof is that
 # of others too.
 ALONE = re.compile(
@@ -63,23 +65,13 @@ def functions(text, at=0, end=None, owner=""):
         found = ITEM.search(text, at, end)
 
 
-def parameters(rest):
-    """Returns the names of an impl's parameters, and what stands behind them."""
-    depth = 0
-    for at, it in enumerate(rest if rest[:1] == "<" else ""):
-        depth += (it == "<") - (it == ">" and rest[at - 1] != "-")
-        if not depth:
-            return re.findall(r"[<,]\s*(?:const\s+)?(\w+)", rest[:at]), rest[at + 1 :].strip()
-    return [], rest
-
-
 def owners(head):
     """Returns patterns of the names that a check may give to the impl or trait of this head, the
     likeliest first: the type, the trait and the trait's arguments in one word, where & is Ref,
     (A, B) is Tuple2AB, [T] is Slice or Array, and a parameter of the impl is nothing."""
     if head[:4] != "impl":
         return [head.split()[1].partition("<")[0].rstrip(":")]
-    params, rest = parameters(re.sub(r"\bwhere\b.*", "", head[4:], flags=re.S).strip())
+    params, rest = generics(re.sub(r"\bwhere\b.*", "", head[4:], flags=re.S))
     tuple_of = lambda it: f" Tuple{len(it[1].split(','))} {it[1]}"
     while "(" in rest:
         rest = re.sub(r"\(([^()]*)\)", tuple_of, rest)

@@ -1,9 +1,10 @@
-"""Sums that tell whether a verdict on a crate's edits still holds, and the record of verdicts."""
+"""Sums that show whether a verdict on a crate's edits still holds, and the record of verdicts."""
 import fcntl
 import hashlib
 import os
 import re
 
+from antt_layout import without_layout  # (no verdict rests on layout)
 from common import rows_of, write
 from edit_places import functions
 from kit import LOGIC, ROOT, read, rtlib
@@ -17,8 +18,6 @@ ABOUT = """\
 # A character or a string, or a comment to the end of its line. (A name of antt may hold --, but no blank before and after it.)
 RUST = re.compile(rb"""'(?:\\.|[^'\\\n])'|"(?:\\.|[^"\\])*"|//[^\n]*""", re.S)
 ANTT = re.compile(rb'"[^"\n]*"|(?<!\S)--(?!\S)[^\n]*')
-# The names of an import in braces.
-USE = re.compile(rb"^\s*((?:ghost )?(?:pub )?use [^\s{]*\{)([^}]*)\};?\s*$", re.M)
 EDIT_NAME = re.compile(r"[A-Za-z0-9_-][A-Za-z0-9_.-]*\.edit")
 
 
@@ -35,14 +34,6 @@ def without_comments(name, text):
         return text
     kept = form.sub(lambda found: found[0] if found[0][:1] in (b"'", b'"') else b"", text)
     return b"\n".join(it.rstrip() for it in kept.split(b"\n") if it.strip())
-
-
-def without_layout(text):
-    """Returns the text without what `rt fmt` and tools/break_lines add: blanks, the last comma of a list, the first `|`
-    of cases, and how many names a `use` line has. No verdict rests on these either."""
-    apart = lambda found: b"".join(found[1] + it.strip() for it in sorted(found[2].split(b",")) if it.strip())
-    text = USE.sub(apart, text)
-    return b"".join(re.sub(rb"\[\s*\|", b"[", re.sub(rb"[,;]?\s*([)}\]])", rb"\1", text)).split())
 
 
 def is_open(text, start, body):

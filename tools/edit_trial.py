@@ -1,4 +1,4 @@
-"""How the edits of one crate are tried: many in one check where that tells them apart, else alone.
+"""How the edits of one crate are tried: many in one check where it can say which of them fail, else alone.
 
 An edit that stands in the body of one function is tried in a batch, which has one edit of each
 function: no other function's proof may use a body. After the check of a batch an edit is refused
@@ -25,7 +25,7 @@ from kit import AT_LIMIT, REFUSALS, read, rt, rtlib
 REFUSED, WAITS, ALONE = "refused", "waits", "alone"
 MOST = 24  # edits in a batch
 # By what an edit is refused. Only the first says that a contract rules its body out. A batch refuses
-# for that reason alone: what it cannot tell apart is tried alone, and judged by rt's words.
+# for that reason alone: what cannot be kept apart is tried alone, and judged by rt's words.
 GOAL, LIMIT, NAME = "goal", "limit", "name"
 ONLY_NAMES = "only because a proof file names"
 # Errors of a proof file that names what is gone, or cites what is not proved: not yet a reason of
@@ -119,9 +119,9 @@ def own_reason(said, name, status):
     place = f"proofs/{name.partition('::')[2].replace('::', '/')}/"
     # (an error goes on in the lines below it that begin with a blank)
     errors = re.findall(r"^\S+:\d+:\d+: error.*(?:\n .*)*", "\n".join(said), re.M)
-    told = [" ".join(it.split()) for it in errors if place in it.split(" ")[0]]
-    own = goals_of(said, name) + [it for it in told if not WEAK.search(it)]
-    return (own or [f"{name}: {status}"])[0][:300] if own or not told else None
+    here = [" ".join(it.split()) for it in errors if place in it.split(" ")[0]]
+    own = goals_of(said, name) + [it for it in here if not WEAK.search(it)]
+    return (own or [f"{name}: {status}"])[0][:300] if own or not here else None
 
 
 class Trial:

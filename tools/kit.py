@@ -5,7 +5,7 @@ rt.processors, rt.KIT, rt.Crate, rt.handles_of, rt.ci, rt.share_work and rt.Kept
 blanked, crates_below, kit_sources, guarded, lock, STALE. A new toolchain may change them;
 tools/test_scripts says which of them are gone.
 
-A crate's stamp, by which rt tells whether its library is that of the present text, is asked for once
+A crate's stamp, by which rt sees whether its library is that of the present text, is asked for once
 in each run of a tool."""
 import functools
 import os

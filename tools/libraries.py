@@ -22,8 +22,8 @@ def texts_of(crate):
 
 def is_fresh(crate):
     """Returns whether the crate's library came here after its text and that of the libraries below,
-    as is what the gate left; or else is of that text, which takes long to tell. A gate links what its
-    toolchain kept, if it keeps anything, so the folder's time tells when it came, and not a file's."""
+    as is what the gate left; or else is of that text, which takes long to find out. A gate links what its
+    toolchain kept, if it keeps anything, so the folder's time shows when it came, and not a file's."""
     came = os.path.getmtime(crate.rlib) if os.path.isfile(f"{crate.rlib}/format") else 0
     return fits(crate) and (came > max(map(os.path.getmtime, texts_of(crate))) or crate.is_built())
 

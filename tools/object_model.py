@@ -3,13 +3,11 @@
 A locale is known by the normal form that the vectors have for its text. The model takes the normal form apart, and
 changes and orders the parts by docs/DEFINITIONS.md. It calls no library."""
 import copy
-import pathlib
 import random
 import re
 
-from common import ROOT
+from common import TOP
 
-TOP = pathlib.Path(ROOT)
 CALENDARS = {*"buddhist chinese coptic dangi ethioaa ethiopic gregory hebrew indian islamic iso8601 japanese persian roc".split()}
 CALENDARS |= {*"islamic-umalqura islamic-tbla islamic-civil islamic-rgsa".split()}
 OLD_CALENDARS = {"islamicc": "islamic-civil", "ethiopic-amete-alem": "ethioaa"}
@@ -241,7 +239,7 @@ def settings_wanted():
     """The words of crates/test_word_rows, each set in an empty locale and taken out of it."""
     steps, wanted = [], []
     for call, words, answer in rows_of("test_word_rows"):
-        # The answers to long rows tell a length, and no text.
+        # The answers to long rows give a length, and no text.
         if call not in SETTINGS or not words or not words[0] or {*b"\t\n"} & {*words[0]} or answer.startswith("as wanted"):
             continue
         start, front, end = SETTINGS[call]

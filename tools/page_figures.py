@@ -106,5 +106,5 @@ def faults(texts):
         right = (wanted,) if wanted is not None else every[0] if every else ()
         wrong = [f"{path}: {shown!r}: {what}: not {right[0]}, as {'the sources have' if wanted else 'another page says'}"
                  for path in sorted(said) for it, shown in said[path] if it != right]
-        told = "{}: no text as {!r}: correct the page, or the list in tools/page_figures.py".format
-        yield wrong + [told(path, pattern) for path in where if not said[path]]
+        missing = "{}: no text as {!r}: correct the page, or the list in tools/page_figures.py".format
+        yield wrong + [missing(path, pattern) for path in where if not said[path]]

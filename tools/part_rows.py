@@ -26,7 +26,7 @@ FRONTS = {
 }
 # How the text of a part is set, where a call does that: all before the text.
 SETS = {"uvalue": b"set-keyword\t0\tca\t", "tvalue": b"set-field\t0\tm0\t", "other": b"set-other\t0\t", "private": b"private\t0\t"}
-# What is done to a part that is parsed, so that what the row tells is left.
+# What is done to a part that is parsed, so that what the row shows is left.
 LEAVES = {
     "unicode-keywords": b"clear-attributes\t0", "unicode-attributes": b"clear-keywords\t0",
     "transform-fields": b"transform-language\t0\t", "transform-lang": b"clear-fields\t0",
@@ -145,8 +145,8 @@ def set_steps(kind, text, answer):
     return [(parsed(kind, text), *outcome(answer, written(kind, answer)))]
 
 
-def told(kind, what, answer):
-    """Returns the text of the part which the answer tells, and the steps that follow: a copy is equal and hashed alike."""
+def text_in(kind, what, answer):
+    """Returns the text of the part that the answer shows, and the steps that follow: a copy is equal and hashed alike."""
     if what in ("", "shown"):
         return answer, []
     if what in ("list", "each"):
@@ -167,9 +167,9 @@ def told(kind, what, answer):
 
 
 def part(call, first, _, answer):
-    """Returns the steps of a row that sets one part, and tells it."""
+    """Returns the steps of a row that sets one part, and shows it."""
     kind, _, what = call.replace("text-str-", "").partition("-")
-    text, more = told(kind, what, answer)
+    text, more = text_in(kind, what, answer)
     return set_steps(kind, first, text) + more
 
 
@@ -204,7 +204,7 @@ def made(call, first, second, answer):
     """Returns the steps that make a part of its subtags or pairs."""
     kind = call.split("-")[1]
     if call in ("made-keywords", "made-keywords-one", "made-fields"):
-        text, more = told(kind, second.decode(), answer)
+        text, more = text_in(kind, second.decode(), answer)
         step = b"set-field\t0\t" if kind == "fields" else b"set-keyword\t0\t"
         steps = [(step + pair.replace(b".", b"\t"), "ok", None) for pair in first.split()]
         return [*steps[:-1], (steps[-1][0], "ok", written(kind, text)), *more]
@@ -213,7 +213,7 @@ def made(call, first, second, answer):
     is_plain = call in ("made-attributes", "made-private", "made-private-one", "made-other-o") or call.startswith("made-value")
     if not is_plain or b"true" in first or not first:
         raise Unsaid(MADE)
-    text, more = told(kind, second.decode(), answer)
+    text, more = text_in(kind, second.decode(), answer)
     return set_steps(kind, fronts[kind] + first, text) + more
 
 

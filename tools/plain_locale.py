@@ -167,7 +167,7 @@ def place(text, mode):
 
 
 def placed(text, mode):
-    """The same as callers print it, and `-` of a text that means something."""
+    """The place of the fault as callers print it, and `-` of a text that means something."""
     return "-" if is_accepted(text, mode) else "%d %d" % place(text, mode)
 
 

@@ -101,8 +101,8 @@ class Proof:
     def why(self):
         """Returns what the run said of what failed: the text of each such crate, or its end."""
         texts = "".join(self.said).split("\n== ")
-        told = [it for it in texts if it.split("\n")[0].split(":")[0].strip("= ") in self.failed]
-        return "\n".join(it[-4000:] for it in told) or texts[-1][-4000:]
+        failed = [it for it in texts if it.split("\n")[0].split(":")[0].strip("= ") in self.failed]
+        return "\n".join(it[-4000:] for it in failed) or texts[-1][-4000:]
 
     def end(self):
         """Ends the run, if it goes on, with all that it started, and removes the room."""

@@ -1,6 +1,7 @@
 """The items of a crate's src/ that contracts go through: types, traits, `impl`s with their ghost members,
 and functions with their clauses. It reads them by their brackets, and knows no more of Rattle than that."""
 import functools
+import itertools
 import os
 import re
 from dataclasses import dataclass, field
@@ -32,6 +33,41 @@ def joined(text):
     return text.replace("( ", "(").replace(", )", ")").replace("< ", "<").replace(", >", ">")
 
 
+def depths(text):
+    """Returns how many brackets are open behind each sign of a text; an arrow has none."""
+    brackets = {**dict.fromkeys("<({[", 1), **dict.fromkeys(">)}]", -1)}
+    return [*itertools.accumulate(brackets.get(it, 0) for it in re.sub("[-=]>", "  ", text))]
+
+
+def listed(text):
+    """Returns the parts of a text between its commas, but for those in brackets."""
+    ends = [at for at, (it, depth) in enumerate(zip(text, depths(text))) if it == "," and not depth]
+    return [text[start:end] for start, end in zip([0, *(it + 1 for it in ends)], [*ends, len(text)])]
+
+
+def without_generics(text):
+    """Returns the text without what stands in angle brackets."""
+    after = depths(re.sub(r"[(){}\[\]]", " ", text))
+    return "".join(it for it, *depth in zip(text, [0, *after], after) if not any(depth))
+
+
+def generics(head):
+    """Returns the bounds of the type parameters of a head, and what follows them."""
+    text = head.strip()
+    end = depths(text).index(0) if text.startswith("<") else -1
+    return bounds_in(text[1 : max(end, 1)]), text[end + 1 :].strip()
+
+
+def bounds_in(text):
+    """Returns the bounds of parameters that are written as `K: Ord + Drop, const N: usize`."""
+    found = {}
+    for name, _, bound in (it.partition(":") for it in listed(text)):
+        name = name.replace("const ", "").strip()
+        if name and not name.startswith("'"):
+            found[name] = found.get(name, "") + " " + bound
+    return found
+
+
 @dataclass(eq=False)
 class Clause:
     """A clause of a contract: requires or ensures, its label, and its fact."""
@@ -61,7 +97,7 @@ class Item:
     derives: tuple = ()
     owner: "Item" = None  # the trait or `impl` in which it stands
     uses: list = field(default_factory=list)  # its ghost use lines
-    body: str = ""  # of a ghost member
+    body: str = ""  # of a ghost member, or with its braces of a function
 
     where = property(lambda self: f"{self.module.path}:{self.line}")
     crate = property(lambda self: self.module.crate)
@@ -154,13 +190,7 @@ def expanded(text):
             names.pop()
         yield tuple(names), (bound.strip() or "".join(names[-1:]))
         return
-    depth, start, parts = 0, 0, []
-    for place, it in enumerate(found[2] + ","):
-        depth += {"{": 1, "}": -1}.get(it, 0)
-        if it == "," and depth == 0:
-            parts.append(found[2][start:place])
-            start = place + 1
-    for part in filter(str.strip, parts):
+    for part in filter(str.strip, listed(found[2])):
         for path, bound in expanded(part):
             before = tuple(it.strip() for it in found[1].split("::") if it.strip())
             yield before + path, bound or before[-1]
@@ -293,7 +323,13 @@ class Reader:
         if made.kind in ("trait", "impl"):
             made.name = made.name if made.kind == "trait" else " ".join(made.head.split())
             self.items(source, opened + 1, end - 1, made)
+        made.body = self.text[opened:end] if made.kind == "fn" else ""
         return end
+
+
+def functions(sources):
+    """Returns the functions of these modules, those of traits and `impl`s too."""
+    return [it for source in sources for item in source.items for it in (item, *item.inner) if it.kind == "fn"]
 
 
 def read_crate(root, name):

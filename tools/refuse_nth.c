@@ -61,7 +61,7 @@ __attribute__((constructor)) static void look_up(void)
     next_malloc = dlsym(RTLD_NEXT, "malloc");
 }
 
-/* Counts a request, and tells whether it is refused. */
+/* Counts a request, and returns whether it is refused. */
 static int is_refused(void)
 {
     unsigned long now = __atomic_add_fetch(&requests, 1, __ATOMIC_SEQ_CST);
@@ -136,7 +136,7 @@ void free(void *place)
     next_free(place);
 }
 
-__attribute__((destructor)) static void tell(void)
+__attribute__((destructor)) static void print_requests(void)
 {
     char line[32];
     if (!getenv("COUNT_REQUESTS"))

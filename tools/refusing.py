@@ -4,12 +4,10 @@ that it is of another header.
 
 The code of the library is the same: of libicu_locale.a only names are changed."""
 import os
-import pathlib
 import subprocess
 
-from common import ROOT
+from common import TOP
 
-TOP = pathlib.Path(ROOT)
 MADE = TOP / "out" / "bindings"
 
 
@@ -22,7 +20,7 @@ def call(*words):
 
 def make_shim(folder):
     """Makes what is preloaded into a program, to refuse one of its requests for memory and to count them."""
-    shim = folder / "refuse_nth.so"
+    shim = f"{folder}/refuse_nth.so"
     call(os.environ.get("CC") or "cc", "-O1", "-shared", "-fPIC", "-o", shim, TOP / "tools" / "refuse_nth.c", "-ldl")
     return shim
 

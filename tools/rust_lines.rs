@@ -2,7 +2,7 @@
 //!
 //! It is the quickest loop over the crate in stable Rust that we know, so that this library is
 //! compared with the best that a caller of the crate can write:
-//! - The input comes in blocks of 64 KiB. Masks of 64 bytes tell where its lines end.
+//! - The input comes in blocks of 64 KiB. Masks of 64 bytes show where its lines end.
 //! - A line that began in the block before is answered first, so no other line asks for it.
 //! - A value is printed where it was parsed, by the crate's own `write_to`, and then dropped.
 //! - The answers to a block are written at once, from room that is made before the first.

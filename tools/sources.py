@@ -1,10 +1,10 @@
-"""Sums of sources, which tell whether a program that was built of them is still of the present text."""
+"""Sums of sources, which show whether a program that was built of them is still of the present text."""
 import hashlib
 import os
 import pathlib
 import shutil
 
-from common import ROOT, below, crates_of
+from common import ROOT, below, crates_of, files_below
 
 # What a program's proof rests on, and what its code is made of.
 PROVED_PARTS, CODE_PARTS = ("src", "specs", "proofs"), ("src",)
@@ -12,9 +12,7 @@ PROVED_PARTS, CODE_PARTS = ("src", "specs", "proofs"), ("src",)
 
 def files_of(name, parts):
     """Returns the paths of the sources of a crate, or of one in a folder elsewhere, in order."""
-    folders = [os.path.join(ROOT, "crates", name, part) for part in parts]
-    walked = [(at, it) for folder in folders for at, _, names in os.walk(folder) for it in names]
-    return sorted(os.path.join(at, it) for at, it in walked)
+    return sorted(it for part in parts for it in files_below(os.path.join(ROOT, "crates", name, part)))
 
 
 def sum_of(path):

@@ -3,7 +3,6 @@
 A definition is an item of a file of specs/. Types stand in src/, and so do their members: the ghost
 members of traits and `impl`s, as the `view` by which contracts see a type. The closure ends at std."""
 import functools
-import itertools
 import os
 import pathlib
 import re
@@ -11,6 +10,7 @@ import re
 import antt
 import rattle as rt
 from common import below, crates_of, read, without_prefix
+from rattle import bounds_in, generics, without_generics
 
 SEEN = ("Value", "view", "invariant")  # the members of `Model` by which contracts see a type, and what it always keeps
 PRIMITIVE = set("u8 u16 u32 u64 u128 usize i8 i16 i32 i64 i128 isize bool char str f32 f64".split())
@@ -19,40 +19,6 @@ QUOTE = re.compile(r"⟦<(.+?) as (\w+)(?:<[^⟧]*?>)?>⟧(?:\.(\w+))?")
 
 class Unknown(Exception):
     """A name that nothing in scope explains."""
-
-
-def depths(text):
-    """Returns how many angle brackets are open behind each sign of a text; an arrow has none."""
-    return [*itertools.accumulate({"<": 1, ">": -1}.get(it, 0) for it in re.sub("[-=]>", "  ", text))]
-
-
-def without_generics(text):
-    """Returns the text without what stands in angle brackets."""
-    after = depths(text)
-    return "".join(it for it, *depth in zip(text, [0, *after], after) if not any(depth))
-
-
-def generics(head):
-    """Returns the bounds of the type parameters of a head, and what follows them."""
-    text = head.strip()
-    if not text.startswith("<"):
-        return {}, text
-    end = depths(text).index(0)
-    return bounds_in(text[1:end]), text[end + 1 :].strip()
-
-
-def bounds_in(text):
-    """Returns the bounds of parameters that are written as `K: Ord + Drop, const N: usize`."""
-    found, depth, start = {}, 0, 0
-    for place, it in enumerate(text + ","):
-        depth += {"<": 1, "(": 1, ">": -1, ")": -1}.get(it, 0)
-        if it == "," and depth <= 0:
-            name, _, bound = text[start:place].partition(":")
-            name = name.replace("const ", "").strip()
-            if name and not name.startswith("'"):
-                found[name] = found.get(name, "") + " " + bound
-            start = place + 1
-    return found
 
 
 class Impl:
@@ -611,8 +577,7 @@ def library(sources):
 
 def functions(sources):
     """Returns every function of the crates' sources with its `impl`."""
-    every = [it for item in sources.items for it in (item, *item.inner) if it.kind == "fn"]
-    return [Contract(sources, it, sources.impl_of.get(it.owner)) for it in every]
+    return [Contract(sources, it, sources.impl_of.get(it.owner)) for it in rt.functions(sources.files)]
 
 
 def named(sources, name):

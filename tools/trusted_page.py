@@ -67,8 +67,8 @@ def counted(closure):
 
 def unknown(sources):
     """Returns which names in what was read nothing in scope explains."""
-    told = "{}: {} cites {}, which nothing in scope explains".format
-    return [told(it.where, it.name, ", ".join(sorted(names))) for it, names in sources.unknown.items()]
+    line = "{}: {} cites {}, which nothing in scope explains".format
+    return [line(it.where, it.name, ", ".join(sorted(names))) for it, names in sources.unknown.items()]
 
 
 def reading(text):
@@ -228,8 +228,8 @@ class Pages:
             elif kind != ON_MEMORY and (call, name) not in self.shown:
                 wrong.append(f"{names}: the clause {name!r} of {call} is not shown: add a part 'clause {call} {name}'")
         named = [(it.where, name) for it in self.sources.definitions() for name in (it.name, *it.members)]
-        told = "{}: {} is a word of antt or of its prelude: name it otherwise".format
-        wrong += [told(*it) for it in named if it[1] in graph.antt.WORDS]
+        taken = "{}: {} is a word of antt or of its prelude: name it otherwise".format
+        wrong += [taken(*it) for it in named if it[1] in graph.antt.WORDS]
         return made, wrong
 
     def clauses(self):
@@ -283,17 +283,17 @@ def stale(sources):
     texts = texts_of(sources)
     made, wrong = Pages(sources).made(texts)
     parts = [(path, *it) for path, text in texts.items() for it in zip(PART.finditer(text), PART.finditer(made[path]))]
-    told = []
+    outdated = []
     for path, old, new in parts:
         if old[2] != new[2]:
             changes = difflib.unified_diff(old[2].split("\n"), new[2].split("\n"), lineterm="", n=0)
-            told.append(f"{path}: the part '{old[1]}' is not current: run tools/trusted --write\n" + "\n".join(list(changes)[2:12]))
-    return wrong, told, len(parts)
+            outdated.append(f"{path}: the part '{old[1]}' is not current: run tools/trusted --write\n" + "\n".join(list(changes)[2:12]))
+    return wrong, outdated, len(parts)
 
 
 def check(sources):
     """Says which parts of the pages are not what the sources give, and which definitions have no sentence."""
-    wrong, told, count = stale(sources)
+    wrong, outdated, count = stale(sources)
     wrong += unknown(sources)
     library, every = graph.closure_of(sources, graph.library(sources)), sources.definitions()
     wrong += [f"{it.where}: {it.name} has no sentence" for it in library.definitions if not it.sentence()]
@@ -302,7 +302,7 @@ def check(sources):
     wrong += [f"the same text: {it}" for it in alike(with_text, lambda it: shape_of(sources, it))]
     with_name = [it for it in every if it.kind != "abstract" and it.is_public() and it.name not in ALIKE]
     wrong += [f"one name for two things: {it}" for it in alike(with_name, lambda it: it.name)]
-    wrong += told
+    wrong += outdated
     print("\n".join(wrong) if wrong else f"trusted: {' and '.join(PAGES)} are current")
     failed = min(len(wrong), count) or len(wrong)
     return common.counted(max(count - failed, 0), failed)

@@ -3,6 +3,7 @@ files that are written, or with --check only compared."""
 import os
 import re
 import sys
+import textwrap
 
 from common import counted, differing, parser, read, write
 
@@ -11,14 +12,8 @@ WIDTH = 100
 
 def fill(units, width=WIDTH, first="", indent=""):
     """Returns the units with blanks between them, as many a line as fit."""
-    lines, line = [], first + units[0]
-    for unit in units[1:]:
-        if len(line) + 1 + len(unit) > width:
-            lines.append(line)
-            line = indent + unit
-        else:
-            line += f" {unit}"
-    return "\n".join([*lines, line])
+    how = {"break_long_words": False, "break_on_hyphens": False, "initial_indent": first, "subsequent_indent": indent}
+    return textwrap.fill(" ".join(it.replace(" ", "\0") for it in units), width, **how).replace("\0", " ")
 
 
 def svg(width, height, parts):
@@ -74,16 +69,20 @@ def write_by_table(doc, path, table_of, all_files):
     instead what is wrong with the rows, if anything is. Returns its status."""
     script = os.path.basename(sys.argv[0])
     words = parser(f"tools/{script}", doc)
-    words.add_argument("--check", action="store_true", help="write nothing; say which files differ from the table")
+    words.flag("--check", "write nothing; say which files differ from the table")
     is_check = words.parse_args().check
     table, wrong = table_of(read(path))
     if wrong:
         print(*wrong, sep="\n", file=sys.stderr)
         return counted(0, len(wrong)) if is_check else 1
-    files = all_files(table)
-    differ = differing(files)
+    return put_files(all_files(table), is_check, "the table")
+
+
+def put_files(files, is_check, source):
+    """Writes each of these files that has another text, or only names it, as not what its source says. Returns the status."""
+    script, differ = os.path.basename(sys.argv[0]), differing(files)
     for it in differ:
         if not is_check:
             write(it, files[it])
-        print(f"{script}: {it} {f'is not what the table says: run tools/{script}' if is_check else 'written'}")
+        print(f"{script}: {it} {f'is not what {source} says: run tools/{script}' if is_check else 'written'}")
     return counted(not differ, bool(differ)) if is_check else 0

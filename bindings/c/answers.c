@@ -33,7 +33,7 @@ static void stop(const char *why)
     exit(1);
 }
 
-/* Reads a line without its newline, and tells whether there was one. */
+/* Reads a line without its newline, and returns whether there was one. */
 static int read_line(struct line *line)
 {
     int byte;
@@ -97,12 +97,12 @@ static icu_locale_status compare(icu_locale_mode mode, int8_t *order, uint8_t *s
     *same = UNTOUCHED;
     icu_locale_status compared =
         icu_locale_strict_cmp(mode, first.bytes, first.length, second.bytes, second.length, order);
-    icu_locale_status told =
+    icu_locale_status means =
         icu_locale_normalizing_eq(mode, first.bytes, first.length, second.bytes, second.length, same);
-    if ((compared == ICU_LOCALE_DONE) == (*order == UNTOUCHED) || (told == ICU_LOCALE_DONE) == (*same == UNTOUCHED))
+    if ((compared == ICU_LOCALE_DONE) == (*order == UNTOUCHED) || (means == ICU_LOCALE_DONE) == (*same == UNTOUCHED))
         stop("a refused comparison has written, or another has not");
-    if (compared == told || told == ICU_LOCALE_OUT_OF_MEMORY)
-        return told;
+    if (compared == means || means == ICU_LOCALE_OUT_OF_MEMORY)
+        return means;
     if (compared != ICU_LOCALE_OUT_OF_MEMORY)
         stop("the two comparisons end otherwise");
     return compared;
@@ -204,7 +204,7 @@ static void try_nothing(void)
         stop("an empty text at a null pointer, compared");
     if (icu_locale_normalizing_eq(ICU_LOCALE_DATA_LOCALE, (const uint8_t *)"EN", 2, NULL, 0, &same) != ICU_LOCALE_DONE ||
         same != 0)
-        stop("an empty text at a null pointer, told apart");
+        stop("an empty text at a null pointer, by its meaning");
     if (icu_locale_compare(ICU_LOCALE_IDENTIFIER, (const uint8_t *)"EN", 2, NULL, 0, &order) != ICU_LOCALE_INVALID_LANGUAGE)
         stop("an empty text at a null pointer, ordered");
 }

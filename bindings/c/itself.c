@@ -22,7 +22,7 @@ static const char *const TEXTS[] = {"und", "en", "en-Latn-US-posix", "de-u-foo-c
     "en-aaaaa-bbbbb-ccccc-ddddd-eeeee-a-foo-t-de-m0-abc-abcdefgh-u-aaa-bbb-ca-roc-rg-gbzzzz-x-a-b-c-d-e"};
 enum { COUNT = sizeof TEXTS / sizeof *TEXTS };
 
-/* The same functions, which a compiler cannot put in the place of their calls. */
+/* Pointers to the functions, so that a compiler cannot put the functions in the place of their calls. */
 static struct {
     bool (*volatile eq)(const icu_locale_t *, const icu_locale_t *);
     int8_t (*volatile cmp)(const icu_locale_t *, const icu_locale_t *);

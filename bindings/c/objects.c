@@ -32,7 +32,7 @@ static void stop(const char *why)
     exit(1);
 }
 
-/* Reads a line without its newline, and tells whether there was one. */
+/* Reads a line without its newline, and returns whether there was one. */
 static int read_line(struct line *line)
 {
     int byte;

@@ -21,9 +21,9 @@
 
 using icu_locale::mode;
 
-static std::string refusal(icu_locale::status told)
+static std::string refusal(icu_locale::status why)
 {
-    return "! " + icu_locale::words(told);
+    return "! " + icu_locale::words(why);
 }
 
 static std::string answer(const std::string &line, mode as)

@@ -75,11 +75,11 @@ def refuse_each(start, number, call):
         it = Locale(start)
         held = HOOKS.refusing_live()
         HOOKS.refusing_after(granted)
-        told = is_out_of_memory(call, it)
+        failed = is_out_of_memory(call, it)
         is_refused = HOOKS.refusing_refused() > 0
         HOOKS.refusing_after(-1)
-        if (told, str(it), HOOKS.refusing_live()) != (is_refused, start, held):
-            return granted, [f"call {number} of {start}, request {granted}: out of memory {told}, {it}"]
+        if (failed, str(it), HOOKS.refusing_live()) != (is_refused, start, held):
+            return granted, [f"call {number} of {start}, request {granted}: out of memory {failed}, {it}"]
         del it
         if HOOKS.refusing_live() != before:
             return granted, [f"call {number} of {start}, request {granted}: a block is left"]
@@ -134,12 +134,12 @@ def refuse_python(start, number, call):
         str(it), str(OTHER)  # each has a handle then: a refusal may have lost it
         held = HOOKS.refusing_live()
         kind, is_refused = refusing(at, call, it)
-        told = f"call {number} of {start}, request {at} of Python refused"
+        which = f"call {number} of {start}, request {at} of Python refused"
         if kind not in MAY_RAISE or str(it) != start:
-            return at, [f"{told}: {kind}, {it}"]
+            return at, [f"{which}: {kind}, {it}"]
         # What a failed __del__ could not free is freed before the next handle is made.
         if Locale("en") == Locale("fr") or (str(OTHER), gc.collect(), HOOKS.refusing_live())[2] != held:
-            return at, [f"{told}: {HOOKS.refusing_live() - held} blocks more"]
+            return at, [f"{which}: {HOOKS.refusing_live() - held} blocks more"]
     return at - 1, []
 
 
@@ -149,7 +149,7 @@ def main():
     gc.freeze()
     if sys.version_info >= (3, 9):  # an earlier interpreter breaks its own heap
         tried += [refuse_python(start, at, call) for start in STARTS[::3] for at, call in enumerate(FOR_PYTHON)]
-    wrong = [it for _, told in tried for it in told]
+    wrong = [it for _, faults in tried for it in faults]
     print("\n".join(wrong) or f"{sum(number for number, _ in tried)} cases as wanted")
     return bool(wrong)
 

@@ -25,7 +25,7 @@ export class LocaleError extends RangeError {
 /** The normal text of what the text means. Throws a LocaleError if there is none. */
 export function normalize(text: Text, mode?: Mode): string;
 
-/** The same, or why not. */
+/** The normal text of what the text means, or why there is none. */
 export function tryNormalize(
   text: Text,
   mode?: Mode,

@@ -39,7 +39,7 @@ export function normalize(text, mode = 'locale') {
   return written();
 }
 
-/** The same, or why not. */
+/** The normal text of what the text means, or why there is none. */
 export function tryNormalize(text, mode = 'locale') {
   const status = normalizeInto(text, modeOf(mode));
   return status === DONE ? { normal: written() } : { code: CODES[status], message: WORDS[status] };

@@ -268,7 +268,7 @@ def _path() -> str:
 
 
 def _load(path: str) -> ctypes.CDLL:
-    """Loads the library, and tells of one that is of another header before any other call."""
+    """Loads the library, and refuses one that is of another header before any other call."""
     try:
         library = ctypes.CDLL(path)
     except OSError as error:
@@ -310,7 +310,7 @@ def _number(kind: Any, given: Any) -> Any:
 
 
 def _call(function: Any, *given: Any) -> Any:
-    """What the library answers. Each argument is of its type: one that cannot be passed tells that Python has no memory."""
+    """What the library answers. Each argument is of its type: one that cannot be passed shows that Python has no memory."""
     try:
         return function(*given)
     except ctypes.ArgumentError:

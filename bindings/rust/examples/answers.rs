@@ -329,8 +329,8 @@ fn answer_texts(word: &str, lines: &[Vec<u8>], out: &mut impl Write) -> io::Resu
         }
         Some(word) => {
             for pair in lines.chunks_exact(2) {
-                let told = compare_pair(mode_of(word), &pair[0], &pair[1]);
-                writeln!(out, "{}", told.unwrap_or_else(refused))?;
+                let compared = compare_pair(mode_of(word), &pair[0], &pair[1]);
+                writeln!(out, "{}", compared.unwrap_or_else(refused))?;
             }
         }
     }

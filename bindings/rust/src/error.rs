@@ -99,7 +99,7 @@ impl ParseError {
         ParseError { kind, text, range }
     }
 
-    /// The same, of a text that was refused in the mode: the library is asked where its fault stands.
+    /// The error of a text that was refused in the mode: the library is asked where its fault stands.
     fn found(mut self, mode: Mode, text: &[u8]) -> Self {
         if self.kind.is_of_text() {
             let range = &mut self.range;

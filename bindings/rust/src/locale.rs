@@ -765,8 +765,8 @@ mod tests {
     #[test]
     fn a_locale_goes_to_a_thread() {
         let it = locale("EN-x-a-b-c-d-e-f-g-h");
-        let told = std::thread::spawn(move || it.to_string()).join().unwrap();
-        assert_eq!(told, "en-x-a-b-c-d-e-f-g-h");
+        let printed = std::thread::spawn(move || it.to_string()).join().unwrap();
+        assert_eq!(printed, "en-x-a-b-c-d-e-f-g-h");
     }
 
     #[test]

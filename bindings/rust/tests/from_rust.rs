@@ -282,7 +282,7 @@ fn preferences() {
         ("islamic", Some("islamic")),
         ("abc", None),
     ] {
-        let told = locale(&format!("fr-u-ca-{text}")).calendar_algorithm();
-        assert_eq!(told.as_ref().map(Value::as_str), calendar);
+        let found = locale(&format!("fr-u-ca-{text}")).calendar_algorithm();
+        assert_eq!(found.as_ref().map(Value::as_str), calendar);
     }
 }

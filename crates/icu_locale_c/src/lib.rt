@@ -14,7 +14,7 @@ ghost use Rattle.iloc_calls.specs.Answers.{
   JudgedAs,
   NormalizesTo,
   OrdersTo,
-  TellsSame,
+  SaysSame,
   growth,
 };
 ghost use Rattle.iloc_calls.specs.Faults.{FindsFault};
@@ -109,7 +109,7 @@ pub extern "C" fn icu_locale_normalizing_eq(
     same: &mut u8,
 ) -> u32
     ensures known { (m : Mode) → mode ≡ mode_number m
-        → EndsAs (TellsSame m text.now other.now same.old same.new) result }
+        → EndsAs (SaysSame m text.now other.now same.old same.new) result }
     ensures unknown { 2 < mode
         → (result ≡ number_of Status.UnknownNumber) × (same.new ≡ same.old) }
 {
@@ -136,8 +136,8 @@ pub extern "C" fn icu_locale_compare(
 /// Writes the words of a status into the buffer, and their length to `needed`.
 #[unsafe(no_mangle)]
 pub extern "C" fn icu_locale_words(status: u32, buffer: &mut [u8], needed: &mut usize) -> u32
-    ensures known { (told : Status) → status ≡ number_of told
-        → EndsAs (HandsOut (words_of told) buffer.old buffer.new needed.new) result }
+    ensures known { (named : Status) → status ≡ number_of named
+        → EndsAs (HandsOut (words_of named) buffer.old buffer.new needed.new) result }
     ensures unknown { 8 < status → (result ≡ number_of Status.UnknownNumber)
         × (needed.new ≡ 0) × (buffer.new ≡ buffer.old) }
 {

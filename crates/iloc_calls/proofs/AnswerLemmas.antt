@@ -37,7 +37,7 @@ use Rattle.iloc_data.specs.declared.data_locale.DataLocale as data_types
 use Rattle.iloc_normalize.specs.declared.Mode.{Mode}
 use Rattle.iloc_normalize.specs.declared.Mode.TheVariants.{Langid, Locale, Data}
 use Rattle.iloc_calls.specs.Answers.{CallWantsMemory, JudgedAs, ComparesTo, WritesOrder, OrdersTo, MeanSame}
-use Rattle.iloc_calls.specs.Answers.{RefusedTells, TellsSame, order_number}
+use Rattle.iloc_calls.specs.Answers.{RefusedAnswers, SaysSame, order_number}
 use Rattle.iloc_calls.specs.Numbers.{mode_number, number_of, status_of}
 use Rattle.iloc_calls.specs.declared.status.Status.{Status}
 use Rattle.iloc_calls.specs.declared.status.Status.TheVariants.{Done, InvalidLanguage, InvalidSubtag}
@@ -206,7 +206,7 @@ equal_order o same e = (λ s. (Equal-is o).0 (sym e ∙ s), λ h. e ∙ (Equal-i
 
 pub same_identifiers_read : (t other : Text) (before after : ℕ) (i j : Identifier) (same : Bool)
     → IdentifierMeans languages (pieces t) i → IdentifierMeans languages (pieces other) j
-    → same ≡ is_eq (identifier_cmp i j) → after ≡ from_bool same → TellsSame Langid t other before after Done
+    → same ≡ is_eq (identifier_cmp i j) → after ≡ from_bool same → SaysSame Langid t other before after Done
 same_identifiers_read t other before after i j same m n e a =
     let q = equal_order (identifier_cmp i j) same e in (
       (identifier_text i, (i, m, refl)),
@@ -223,7 +223,7 @@ same_identifiers_read t other before after i j same m n e a =
 
 pub same_locales_read : (t other : Text) (before after : ℕ) (M N : meaning.Locale) (same : Bool)
     → Means languages t M → Means languages other N
-    → same ≡ is_eq (locale_cmp M N) → after ≡ from_bool same → TellsSame Locale t other before after Done
+    → same ≡ is_eq (locale_cmp M N) → after ≡ from_bool same → SaysSame Locale t other before after Done
 same_locales_read t other before after M N same m n e a =
     let q = equal_order (locale_cmp M N) same e in (
       (text M, (M, m, refl)),
@@ -237,7 +237,7 @@ same_locales_read t other before after M N same m n e a =
 pub same_data_read : (t other : Text) (before after : ℕ) (d e : DataLocale) (o : Ordering) (same : Bool)
     → DataMeans languages t d → DataMeans languages other e →
     o ≡ slice_cmp nat_cmp (data_text d) (data_text e)
-    → same ≡ is_eq o → after ≡ from_bool same → TellsSame Data t other before after Done
+    → same ≡ is_eq o → after ≡ from_bool same → SaysSame Data t other before after Done
 same_data_read t other before after d e o same m n is f a =
     let q = equal_order o same f in (
       (data_text d, (d, m, refl)),
@@ -272,16 +272,16 @@ pub other_identifier : (t other : Text) (before after : ℕ) (i : Identifier) (e
     IdentifierMeans languages (pieces t) i
     → langid.IdentifierReads (pieces other) (Err e) →
     RunsOutOnlyIf {X = LanguageIdentifier} (langid.IdentifierWantsMemory (pieces other)) (Err e)
-    → RefusedTells e before after s → TellsSame Langid t other before after s
+    → RefusedAnswers e before after s → SaysSame Langid t other before after s
 other_identifier t other before after i e s m h w (inl r) =
-    subst (TellsSame Langid t other before after) (sym r.1) (
+    subst (SaysSame Langid t other before after) (sym r.1) (
       inr (subst
           (λ f. RunsOutOnlyIf {X = LanguageIdentifier} (langid.IdentifierWantsMemory (pieces other)) (Err f))
           r.0 w),
       r.2,
     )
 other_identifier t other before after i e s m h w (inr r) =
-    subst (TellsSame Langid t other before after) (sym r.1)
+    subst (SaysSame Langid t other before after) (sym r.1)
     ((identifier_text i, (i, m, refl)), inr (r.2, λ k. no_identifier (pieces other) e h r.0 k.0 k.2))
 
 no_locale : (t : Text) (e : ParseError) → LocaleTextReads t (Err e) → (e ≡ refusals.OutOfMemory → ⊥) →
@@ -295,12 +295,12 @@ no_locale t refusals.OutOfMemory h n M m = absurd (n refl)
 pub other_locale : (t other : Text) (before after : ℕ) (M : meaning.Locale) (e : ParseError) (s : Status) →
     Means languages t M
     → LocaleTextReads other (Err e) → RunsOutOnlyIf {X = types.Locale} (LocaleWantsMemory other) (Err e)
-    → RefusedTells e before after s → TellsSame Locale t other before after s
+    → RefusedAnswers e before after s → SaysSame Locale t other before after s
 other_locale t other before after M e s m h w (inl r) =
-    subst (TellsSame Locale t other before after) (sym r.1)
+    subst (SaysSame Locale t other before after) (sym r.1)
     (inr (subst (λ f. RunsOutOnlyIf {X = types.Locale} (LocaleWantsMemory other) (Err f)) r.0 w), r.2)
 other_locale t other before after M e s m h w (inr r) =
-    subst (TellsSame Locale t other before after) (sym r.1)
+    subst (SaysSame Locale t other before after) (sym r.1)
     ((text M, (M, m, refl)), inr (r.2, λ k. no_locale other e h r.0 k.0 k.2))
 
 no_data_locale : (t : Text) (e : ParseError) → DataTextReads t (Err e) →
@@ -314,12 +314,12 @@ no_data_locale t refusals.OutOfMemory h w d m = absurd w
 pub other_data_locale : (t other : Text) (before after : ℕ) (d : DataLocale) (e : ParseError) →
     DataMeans languages t d
     → DataTextReads other (Err e) → RunsOutOnlyIf {X = data_types.DataLocale} ⊥ (Err e) → after ≡ 0 →
-    TellsSame Data t other before after Done
+    SaysSame Data t other before after Done
 other_data_locale t other before after d e m h w a =
     ((data_text d, (d, m, refl)), inr (a, λ s. no_data_locale other e h w s.0 s.2))
 
 pub unprinted_data_locale : (t other : Text) (before : ℕ) (e : DataLocale) (s : Status) →
     DataMeans languages other e → s ≡ OutOfMemory
-    → (other ≡ data_text e → ⊥) → TellsSame Data t other before before s
+    → (other ≡ data_text e → ⊥) → SaysSame Data t other before before s
 unprinted_data_locale t other before e s m q n =
-    subst (TellsSame Data t other before before) (sym q) ((data_text e, (e, m, refl), n), refl)
+    subst (SaysSame Data t other before before) (sym q) ((data_text e, (e, m, refl), n), refl)

@@ -1,4 +1,4 @@
--- What is handed out and what is refused, of a text that is told at once.
+-- What is handed out and what is refused, of a text that is answered without a value.
 use Rattle.std.proofs.Common.{◌≡◌, ◌<◌, ℕ, length, length-take-le, refl, sym, ap, ◌∙◌, arith}
 use Rattle.std.proofs.lemmas.Bool.Decides.{nat_tests}
 use Rattle.iloc_spec_grammar.specs.Values.{identifier_text}

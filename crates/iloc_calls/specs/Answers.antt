@@ -131,15 +131,15 @@ TellingWantsMemory Langid t u = CallWantsMemory Langid t ⊎ CallWantsMemory Lan
 TellingWantsMemory Locale t u = CallWantsMemory Locale t ⊎ CallWantsMemory Locale u
 TellingWantsMemory Data t u = IsNotNormal Data u
 
--- what is told of a refused text: that it means something else, unless memory ran out to parse it
-abbrev pub RefusedTells : ParseError → ℕ → ℕ → Status → Type 0
-RefusedTells refusal before after status =
+-- what a refusal answers: that it means something else, unless memory ran out to parse it
+abbrev pub RefusedAnswers : ParseError → ℕ → ℕ → Status → Type 0
+RefusedAnswers refusal before after status =
     ((refusal ≡ refusals.OutOfMemory) × (status ≡ OutOfMemory) × (after ≡ before))
     ⊎ (¬ (refusal ≡ refusals.OutOfMemory) × (status ≡ Done) × (after ≡ 0))
 
 -- 1 is written if the other bytes mean what the text means, and else 0
-abbrev pub TellsSame : Mode → Text → Text → ℕ → ℕ → Status → Type 0
-TellsSame mode t other before after Done = ((normal : Text) × IsNormalText languages mode t normal)
+abbrev pub SaysSame : Mode → Text → Text → ℕ → ℕ → Status → Type 0
+SaysSame mode t other before after Done = ((normal : Text) × IsNormalText languages mode t normal)
     × (((after ≡ 1) × MeanSame mode t other) ⊎ ((after ≡ 0) × ¬ (MeanSame mode t other)))
-TellsSame mode t other before after OutOfMemory = TellingWantsMemory mode t other × (after ≡ before)
-TellsSame mode t other before after status = JudgedAs mode t status × (after ≡ before)
+SaysSame mode t other before after OutOfMemory = TellingWantsMemory mode t other × (after ≡ before)
+SaysSame mode t other before after status = JudgedAs mode t status × (after ≡ before)

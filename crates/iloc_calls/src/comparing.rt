@@ -26,7 +26,7 @@ pub fn number(order: Ordering) -> i8
     }
 }
 
-// Compares the text of what was parsed, or tells why there is none.
+// Compares the text of what was parsed, or says why there is none.
 fn compare<T: Writeable + Drop>(read: Result<T, ParseError>, other: &[u8], order: &mut i8) -> Status
     ensures { MatchResult read
         (λ value. (result ≡ Status.Done)
@@ -76,7 +76,7 @@ pub(crate) fn order_of<T: Writeable>(
     }
 }
 
-// Compares the texts of what was parsed, or tells why there is none.
+// Compares the texts of what was parsed, or says why there is none.
 fn order_read<T: Writeable + Drop>(
     alloc: Global,
     first: Result<T, ParseError>,
@@ -99,8 +99,8 @@ fn order_read<T: Writeable + Drop>(
         Err(refusal) => return Status::from(refusal),
     };
     match order_of(alloc, &first, &second, bytes) {
-        Ok(told) => {
-            *order = number(told);
+        Ok(found) => {
+            *order = number(found);
             Status::Done
         }
         Err(status) => status,

@@ -15,7 +15,7 @@ ghost use Rattle.iloc_calls.specs.Answers.{
   JudgedAs,
   NormalizesTo,
   OrdersTo,
-  TellsSame,
+  SaysSame,
   growth,
 };
 ghost use Rattle.iloc_calls.specs.Numbers.{EndsAs, mode_number, number_of, words_of};
@@ -85,7 +85,7 @@ pub fn strict_cmp(alloc: Global, mode: u32, text: &[u8], other: &[u8], order: &m
 /// Writes 1 if both texts have the same meaning, and else 0.
 pub fn normalizing_eq(alloc: Global, mode: u32, text: &[u8], other: &[u8], same: &mut u8) -> u32
     ensures known { (m : Mode) → mode ≡ mode_number m
-        → EndsAs (TellsSame m text.now other.now same.old same.new) result }
+        → EndsAs (SaysSame m text.now other.now same.old same.new) result }
     ensures unknown { 2 < mode
         → (result ≡ number_of Status.UnknownNumber) × (same.new ≡ same.old) }
 {
@@ -110,8 +110,8 @@ pub fn compare(alloc: Global, mode: u32, text: &[u8], other: &[u8], order: &mut 
 
 /// Writes the words of a status into the buffer, and their length to `needed`.
 pub fn words(status: u32, buffer: &mut [u8], needed: &mut usize) -> u32
-    ensures known { (told : Status) → status ≡ number_of told
-        → EndsAs (HandsOut (words_of told) buffer.old buffer.new needed.new) result }
+    ensures known { (named : Status) → status ≡ number_of named
+        → EndsAs (HandsOut (words_of named) buffer.old buffer.new needed.new) result }
     ensures unknown { 8 < status → (result ≡ number_of Status.UnknownNumber)
         × (needed.new ≡ 0) × (buffer.new ≡ buffer.old) }
 {

@@ -1,5 +1,5 @@
-//! Tells whether two texts have the same meaning.
-ghost use Rattle.iloc_calls.specs.Answers.{RefusedTells, TellsSame};
+//! Says whether two texts have the same meaning.
+ghost use Rattle.iloc_calls.specs.Answers.{RefusedAnswers, SaysSame};
 ghost use Rattle.iloc_normalize.specs.declared.Mode.TheVariants.{Langid, Locale as OfLocale, Data};
 
 use crate::comparing::order_of;
@@ -13,7 +13,7 @@ use std::alloc::Global;
 
 /// A refused text means something else, unless memory ran out when it was parsed.
 pub fn tell_refused(refusal: ParseError, same: &mut u8) -> Status
-    ensures { RefusedTells refusal same.old same.new result }
+    ensures { RefusedAnswers refusal same.old same.new result }
 {
     match refusal {
         ParseError::OutOfMemory => Status::OutOfMemory,
@@ -26,7 +26,7 @@ pub fn tell_refused(refusal: ParseError, same: &mut u8) -> Status
 
 /// Writes 1 if the other bytes are an identifier that means the same as the text, and else 0.
 fn same_identifiers(alloc: Global, text: &[u8], other: &[u8], same: &mut u8) -> Status
-    ensures { TellsSame Langid text.now other.now same.old same.new result }
+    ensures { SaysSame Langid text.now other.now same.old same.new result }
 {
     let identifier = match LanguageIdentifier::try_from_utf8(alloc, text) {
         Ok(identifier) => identifier,
@@ -43,7 +43,7 @@ fn same_identifiers(alloc: Global, text: &[u8], other: &[u8], same: &mut u8) -> 
 
 /// Writes 1 if the other bytes are a locale that means the same as the text, and else 0.
 fn same_locales(alloc: Global, text: &[u8], other: &[u8], same: &mut u8) -> Status
-    ensures { TellsSame OfLocale text.now other.now same.old same.new result }
+    ensures { SaysSame OfLocale text.now other.now same.old same.new result }
 {
     let locale = match Locale::try_from_utf8(alloc, text) {
         Ok(locale) => locale,
@@ -60,7 +60,7 @@ fn same_locales(alloc: Global, text: &[u8], other: &[u8], same: &mut u8) -> Stat
 
 /// Writes 1 if the other bytes are a data locale that means the same as the text, and else 0.
 fn same_data_locales(alloc: Global, text: &[u8], other: &[u8], same: &mut u8) -> Status
-    ensures { TellsSame Data text.now other.now same.old same.new result }
+    ensures { SaysSame Data text.now other.now same.old same.new result }
 {
     let data = match read_data(text) {
         Ok(data) => data,
@@ -90,7 +90,7 @@ pub(crate) fn tell_same(
     other: &[u8],
     same: &mut u8,
 ) -> Status
-    ensures { TellsSame mode text.now other.now same.old same.new result }
+    ensures { SaysSame mode text.now other.now same.old same.new result }
 {
     match mode {
         Mode::Langid => same_identifiers(alloc, text, other, same),

@@ -43,10 +43,17 @@ impl DataLocale {
     pub(crate) fn region_part(&self) -> Option<SubdivisionId>
         ensures { result ≡ parts.region_part (value_of self.now) }
     {
-        match self.subdivision.as_ref().and_then(named) {
-            Some(id) => Some(id),
-            None => self.region.map(whole_region),
+        let whole = self.region.map(whole_region);
+        let Some(word) = self.subdivision else {
+            return whole;
+        };
+        // (most words name the whole of the region, and need not be read)
+        if let Some(id) = whole {
+            if id.into_subtag() == word {
+                return whole;
+            }
         }
+        named(&word).or(whole)
     }
 
     /// The value of `sd` as it is printed: the subdivision if it is readable and not a whole region, and

@@ -47,9 +47,9 @@ pub refuses_memory : (input : Text) (i : Identifier) → IdentifierMeans languag
     (input ≡ identifier_text i → false ≡ true) → NormalizingIdentifierWantsMemory input
 refuses_memory input i m other = inr (i, m, λ e. absurd (true≢false (sym (other e))))
 
--- what is told at once is normalized so
-pub told_text : (t u : Text) → IsNormalText languages Langid t u → IsNormalizedIdentifier t u
-told_text t u (i, m, e) = is_normalized t i u m e
+-- what is answered without a value is normalized so
+pub answered_text : (t u : Text) → IsNormalText languages Langid t u → IsNormalizedIdentifier t u
+answered_text t u (i, m, e) = is_normalized t i u m e
 
-pub told_other : (t : Text) → IsNotNormal Langid t → NormalizingIdentifierWantsMemory t
-told_other t (u, (i, m, e), other) = inr (i, m, λ s. other (s ∙ sym e))
+pub answered_other : (t : Text) → IsNotNormal Langid t → NormalizingIdentifierWantsMemory t
+answered_other t (u, (i, m, e), other) = inr (i, m, λ s. other (s ∙ sym e))

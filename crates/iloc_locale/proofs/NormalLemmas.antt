@@ -78,12 +78,12 @@ refusal_differs t M f (Err e) h d = tt
 pub text_means_only : (M : meaning.Locale) → IsWellFormed M → MeansOnly (text M) M
 text_means_only M w = (w, λ N n. one_meaning languages_table (text M) N M n w)
 
--- what is told at once is normalized so
-pub told_text : (t u : Text) → IsNormalText languages Locale t u → IsNormalizedLocale t u
-told_text t u (M, m, e) = is_normalized t u M m e
+-- what is answered without a value is normalized so
+pub answered_text : (t u : Text) → IsNormalText languages Locale t u → IsNormalizedLocale t u
+answered_text t u (M, m, e) = is_normalized t u M m e
 
-pub told_other : (t : Text) → IsNotNormal Locale t → NormalizingWantsMemory t
-told_other t (u, (M, m, e), other) = inr (M, m, λ s. other (s ∙ sym e))
+pub answered_other : (t : Text) → IsNotNormal Locale t → NormalizingWantsMemory t
+answered_other t (u, (M, m, e), other) = inr (M, m, λ s. other (s ∙ sym e))
 
 -- A text against a value.
 module _ (t : Text) (M : meaning.Locale) where

@@ -116,7 +116,7 @@ pub none_after_unknown : (l : Locale) → value_of l ≡ unknown_locale →
     extensions.value_of l.extensions ≡ meaning.no_extensions
 none_after_unknown l e = ap (λ (M : meaning.Locale). M.extensions) e
 
--- what is told of a plain text at once: it is an identifier alone
+-- a plain text: it is an identifier alone
 pub plain_means : (t : Text) (l : Locale) → IdentifierMeans languages (pieces t) (langid.value_of l.id) →
     extensions.value_of l.extensions ≡ meaning.no_extensions → Means languages t (value_of l)
 plain_means t l m none = subst

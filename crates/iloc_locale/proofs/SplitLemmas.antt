@@ -2,6 +2,8 @@
 use Rattle.std.proofs.Common.{◌≡◌, ℕ, suc, ◌+◌, ◌<◌, ◌≤◌, true, false, cond, List, [], ◌∷◌, ◌++◌, take, drop}
 use Rattle.std.proofs.Common.{flat_map, nat_le, refl, sym, ap, ◌∙◌, arith, append-nil}
 use Rattle.std.proofs.lemmas.Bool.Decides.{nat_tests}
+use Rattle.std.proofs.lemmas.List.{take-append-drop}
+use Rattle.std.proofs.lemmas.List.Concat.{flat_map-append}
 use Rattle.iloc_spec_grammar.specs.Meaning.{Extensions}
 use Rattle.iloc_spec_grammar.specs.Values.{before_above, other_spelling, transform_spelling, unicode_spelling}
 use Rattle.iloc_spec_grammar.specs.Values.{private_spelling, extensions_spelling}
@@ -51,6 +53,18 @@ pub parts_pieces : (e : Extensions) (before after : Others) (t u x : List Text) 
 parts_pieces e before after t u x others a b c =
     (λ k. flat_map other_spelling before ++ (a k ++ (b k ++ (flat_map other_spelling after ++ c k))))
     ∙ sym (spelling_around e before after others)
+
+-- those of the others alone, where no other part has one
+pub others_alone : (e : Extensions) → [] ≡ unicode_spelling e.unicode → [] ≡ transform_spelling e.transform →
+    [] ≡ private_spelling e.private → flat_map other_spelling e.others ≡ extensions_spelling e
+others_alone e u t x =
+    let n = count e.others in
+    let before = take n e.others in
+    let after = drop n e.others in
+    ap (flat_map other_spelling) (sym (take-append-drop n e.others))
+    ∙ flat_map-append other_spelling before after
+    ∙ ap (λ ps. flat_map other_spelling before ++ ps) (sym (append-nil (flat_map other_spelling after)))
+    ∙ parts_pieces e before after [] [] [] (λ bs. split_there bs e.others) t u x
 
 -- a part without pieces
 pub none_there : (ps : List Text) → is_there ps ≡ false → [] ≡ ps

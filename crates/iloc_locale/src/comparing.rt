@@ -12,6 +12,7 @@ use crate::locale::Locale;
 use iloc_langid::beginning::begins_with;
 use iloc_normalize::answered::ROOM;
 use iloc_normalize::{Answered, Mode, answer};
+use iloc_pieces::Window;
 use iloc_subtags::ParseError;
 use iloc_writeable::cmp_utf8;
 use std::alloc::{AllocError, Global};
@@ -71,7 +72,10 @@ impl Locale {
             return None;
         }
         let mut room = [0u8; ROOM];
-        match answer(Mode::Locale, &in_window(text), text.len(), &mut room) {
+        let window = Window {
+            bytes: &in_window(text)[..text.len() + 16],
+        };
+        match answer(Mode::Locale, window, &mut room) {
             Answered::Normal(normal) if normal == text => Some(false),
             Answered::Normal(normal) => {
                 if self.strict_cmp(normal).is_ne() {

@@ -1,7 +1,7 @@
 //! Prints extensions.
-ghost use Rattle.std.specs.Prelude.{◌≡◌, ◌++◌, List, Some, flat_map, option_to_list};
+ghost use Rattle.std.specs.Prelude.{◌≡◌, ◌++◌, List, Some, IsTrue, flat_map, option_to_list};
 ghost use Rattle.iloc_spec_grammar.specs.Syntax.{Block};
-ghost use Rattle.iloc_spec_grammar.specs.Values.{before_above, extensions_spelling, extensions_text, private_spelling, transform_spelling, unicode_spelling};
+ghost use Rattle.iloc_spec_grammar.specs.Values.{before_above, extensions_spelling, extensions_text, other_spelling, private_spelling, transform_spelling, unicode_spelling};
 ghost use Rattle.iloc_locale.specs.ExtensionsValue.{value_of};
 ghost use Rattle.iloc_transform.specs.TransformReading as transforms;
 ghost use Rattle.iloc_unicode.specs.UnicodeValue as unicodes;
@@ -14,6 +14,15 @@ use iloc_writeable::{Pieces, Sink, Writeable};
 use std::fmt;
 
 impl Extensions {
+    // Whether no part but the others has a piece.
+    #[inline(always)]
+    fn has_others_alone(&self) -> bool
+        ensures { IsTrue result
+            → flat_map other_spelling self.now.other.items ≡ extensions_spelling (value_of self.now) }
+    {
+        !(self.unicode.has_pieces() || self.transform.has_pieces() || self.private.has_pieces())
+    }
+
     // The parts in the order in which they are printed, `None` for one that is empty.
     #[inline(always)]
     fn parts(
@@ -54,9 +63,10 @@ impl Pieces for Extensions {
         self.parts().has_pieces()
     }
 
+    // (others alone are printed without the parts)
     fn write_pieces<S: Sink>(&self, sink: &mut S, first: bool) -> fmt::Result {
-        if self.is_empty() {
-            return Ok(());
+        if self.has_others_alone() {
+            return self.other.as_slice().write_pieces(sink, first);
         }
         self.parts().write_pieces(sink, first)
     }

@@ -14,9 +14,10 @@ use Rattle.iloc_spec_grammar.proofs.ReadingLaws.{front_of-append, front_of-piece
 use Rattle.iloc_spec_parts.specs.SmallComputing.{is_u}
 use Rattle.iloc_pieces.specs.Plain.{IsPlain}
 use Rattle.iloc_pieces.specs.declared.plain.Plain.{Plain}
-use Rattle.iloc_pieces.specs.Front.{IsFound, HasBlock, rest_of_block}
+use Rattle.iloc_pieces.specs.Front.{IsFound, HasBlock}
+use Rattle.iloc_pieces.specs.Window.{text_in}
 use Rattle.iloc_pieces.specs.Keyword.{IsKeywordOf, after_singleton}
-use Rattle.iloc_pieces.specs.declared.front.Block.{Block}
+use Rattle.iloc_pieces.specs.declared.window.Window.{Window}
 use Rattle.iloc_pieces.specs.declared.keyword.Keyword.TheVariants as keyword
 use Rattle.iloc_subtags.specs.declared.parse_error.ParseError.TheVariants.{InvalidExtension, InvalidSubtag}
 use Rattle.iloc_normalize.specs.Answered.{HasRefusal}
@@ -27,29 +28,29 @@ use Rattle.iloc_normalize.proofs.KeywordAnswers.{attribute_refused, letter_u, ma
 use Rattle.iloc_normalize.proofs.KeywordAnswers.{misfit_refused as keyword_misfit_refused}
 
 -- if it follows the words of an identifier, it is the first block
-pub is_first : (t : Text) (b : Block) → IsFound t b → starts_block (after_front (pieces t)) ≡ true →
+pub is_first : (t : Text) (b : Window) → IsFound t b → starts_block (after_front (pieces t)) ≡ true →
     HasBlock t b
 unfolding after_front
 is_first t b f is = (f.begins, record { rest = f.next is; singleton = f.singleton })
 
 -- a text that is refused for its first block is refused for this one: another piece that fits nowhere is
 -- refused too
-pub found_refused : (t : Text) (b : Block) → IsFound t b →
+pub found_refused : (t : Text) (b : Window) → IsFound t b →
     (HasBlock t b → HasRefusal Data t InvalidSubtag) → HasRefusal Data t InvalidSubtag
 found_refused t b f refused = elim (cases_Bool (starts_block (after_front (pieces t)))) [
   | inl is ↦ refused (is_first t b f is)
   | inr other ↦ misfit_refused Data t f.begins other
 ]
 
-pub other_found_refused : (t : Text) (b : Block) → IsFound t b →
-    is_ascii_alphanumeric (get_or b.window.now 0 0) ≡ true → is_u (get_or b.window.now 0 0) ≡ false →
+pub other_found_refused : (t : Text) (b : Window) → IsFound t b →
+    is_ascii_alphanumeric (get_or b.bytes.now 0 0) ≡ true → is_u (get_or b.bytes.now 0 0) ≡ false →
     HasRefusal Data t InvalidSubtag
 other_found_refused t b f letter other =
     found_refused t b f (λ h. other_block_refused t b h.0 h.1 letter other)
 
-module _ (t : Text) (b : Block) (f : IsFound t b) (u : is_u (get_or b.window.now 0 0) ≡ true) where
-  letter : is_ascii_alphanumeric (get_or b.window.now 0 0) ≡ true
-  letter = letter_u (get_or b.window.now 0 0) u
+module _ (t : Text) (b : Window) (f : IsFound t b) (u : is_u (get_or b.bytes.now 0 0) ≡ true) where
+  letter : is_ascii_alphanumeric (get_or b.bytes.now 0 0) ≡ true
+  letter = letter_u (get_or b.bytes.now 0 0) u
 
   pub found_attribute_refused : IsKeywordOf (after_singleton b) keyword.Attribute →
       HasRefusal Data t InvalidSubtag
@@ -82,20 +83,20 @@ after_plain i rest none same nothing s =
     )
 
 -- the block follows a plain identifier at once, so a keyword of one word at most is none of a data locale
-module _ (t : Text) (b : Block) (p : Plain) (f : IsFound t b)
-    (plain : IsPlain (take (length t - (b.len + 1)) t) p) where
+module _ (t : Text) (b : Window) (p : Plain) (f : IsFound t b)
+    (plain : IsPlain (take (length t - (length (text_in b) + 1)) t) p) where
   abbrev i : SpelledIdentifier
   i = plain.means.written
 
   abbrev rest : List Text
-  rest = pieces (rest_of_block b)
+  rest = pieces (text_in b)
 
   starts : starts_block rest ≡ true
-  starts = at_pieces (λ ps. first_piece ps ≡ get_or b.window.now 0 0 ∷ [] → starts_block ps ≡ true)
-      (λ q qs e. ap is_one_byte e) (rest_of_block b) f.singleton
+  starts = at_pieces (λ ps. first_piece ps ≡ get_or b.bytes.now 0 0 ∷ [] → starts_block ps ≡ true)
+      (λ q qs e. ap is_one_byte e) (text_in b) f.singleton
 
   parts : pieces t ≡ identifier_pieces i ++ rest
-  parts = ap pieces f.cut ∙ pieces_both (take (length t - (b.len + 1)) t) (rest_of_block b)
+  parts = ap pieces f.cut ∙ pieces_both (take (length t - (length (text_in b) + 1)) t) (text_in b)
       ∙ ap (λ ps. ps ++ rest) plain.means.spelled
 
   left : (after_front (pieces t) ≡ rest) × (after_region (pieces t) ≡ rest)
@@ -105,9 +106,9 @@ module _ (t : Text) (b : Block) (p : Plain) (f : IsFound t b)
       after_plain i rest plain.no_variant (front_of-pieces i words) (after_front-pieces i words) starts in
       (ap after_front parts ∙ both.0, ap after_region parts ∙ both.1)
 
-  pub found_single_refused : is_u (get_or b.window.now 0 0) ≡ true →
+  pub found_single_refused : is_u (get_or b.bytes.now 0 0) ≡ true →
       IsKeywordOf (after_singleton b) keyword.Single → HasRefusal Data t InvalidExtension
   found_single_refused u k =
       single_refused t b (is_first t b f (ap starts_block left.0 ∙ starts))
-      (letter_u (get_or b.window.now 0 0) u) u
+      (letter_u (get_or b.bytes.now 0 0) u) u
       (omega (arith, ap length left.1)) k

@@ -29,8 +29,9 @@ use Rattle.iloc_spec_parts.specs.DataLocales.{DataLocale, DataMeans, HasDataFaul
 use Rattle.iloc_spec_parts.proofs.DataLaws.{data_answer}
 use Rattle.iloc_spec_parts.specs.DataComputing.{data_result, data_of_result}
 use Rattle.iloc_subtags.specs.declared.parse_error.ParseError.TheVariants.{InvalidLanguage, InvalidSubtag}
-use Rattle.iloc_pieces.specs.Front.{GoesOn, IsFound, HasNoLanguage, rest_of_block}
-use Rattle.iloc_pieces.specs.declared.front.Block.{Block}
+use Rattle.iloc_pieces.specs.Front.{GoesOn, IsFound, HasNoLanguage}
+use Rattle.iloc_pieces.specs.Window.{text_in}
+use Rattle.iloc_pieces.specs.declared.window.Window.{Window}
 use Rattle.iloc_outline.specs.Outlines.{BeginsWithLanguage}
 use Rattle.iloc_normalize.specs.Answered.{HasRefusal}
 use Rattle.iloc_normalize.specs.declared.Mode.{Mode}
@@ -96,9 +97,9 @@ misfit_refused Data t l none =
 
 -- ---- a block
 
-pub block_is_no_identifier : (t : Text) (b : Block) → BeginsWell t →
-    after_front (pieces t) ≡ pieces (rest_of_block b) → HasRefusal Langid t InvalidSubtag
-block_is_no_identifier t b l rest = langid_refused t l (λ e. pieces_nonempty (rest_of_block b) (sym rest ∙ e))
+pub block_is_no_identifier : (t : Text) (b : Window) → BeginsWell t →
+    after_front (pieces t) ≡ pieces (text_in b) → HasRefusal Langid t InvalidSubtag
+block_is_no_identifier t b l rest = langid_refused t l (λ e. pieces_nonempty (text_in b) (sym rest ∙ e))
 
 -- the blocks are those of what is left after the words that fit
 pub blocks_left : (t : Text) → BeginsWell t → tail_blocks (pieces t) ≡ blocks (after_front (pieces t))
@@ -188,39 +189,39 @@ pub other_fault : (b : ℕ × List Text) → is_ascii_alphanumeric b.0 ≡ true 
 unfolding block_fault
 other_fault b letter e = rw (letter, e) refl
 
--- the blocks of the text begin with the one that was told
-pub block_told : (t : Text) (b : Block) → BeginsWell t → GoesOn (after_region (pieces t)) b
+-- the blocks of the text begin with the one that was found
+pub block_found : (t : Text) (b : Window) → BeginsWell t → GoesOn (after_region (pieces t)) b
     → (qs : List Text) × (bs : List (ℕ × List Text))
-    × (tail_blocks (pieces t) ≡ (get_or b.window.now 0 0, qs) ∷ bs)
+    × (tail_blocks (pieces t) ≡ (get_or b.bytes.now 0 0, qs) ∷ bs)
 unfolding after_front
-block_told t b l g = at_rest g.singleton
+block_found t b l g = at_rest g.singleton
   where
     Answered : List Text → Type 0
     Answered rs = (qs : List Text) × (bs : List (ℕ × List Text))
-        × (blocks rs ≡ (get_or b.window.now 0 0, qs) ∷ bs)
+        × (blocks rs ≡ (get_or b.bytes.now 0 0, qs) ∷ bs)
 
-    found : Answered (pieces (rest_of_block b))
-    found = at_pieces (λ rs. first_piece rs ≡ get_or b.window.now 0 0 ∷ [] → Answered rs)
+    found : Answered (pieces (text_in b))
+    found = at_pieces (λ rs. first_piece rs ≡ get_or b.bytes.now 0 0 ∷ [] → Answered rs)
         (λ p rs e.
-        let f = first_block (get_or b.window.now 0 0) rs in (f.0, f.1, ap (λ q. blocks (q ∷ rs)) e ∙ f.2))
-        (rest_of_block b) g.singleton
+        let f = first_block (get_or b.bytes.now 0 0) rs in (f.0, f.1, ap (λ q. blocks (q ∷ rs)) e ∙ f.2))
+        (text_in b) g.singleton
 
-    at_rest : first_piece (pieces (rest_of_block b)) ≡ get_or b.window.now 0 0 ∷ []
+    at_rest : first_piece (pieces (text_in b)) ≡ get_or b.bytes.now 0 0 ∷ []
         → (qs : List Text) × (bs : List (ℕ × List Text))
-        × (tail_blocks (pieces t) ≡ (get_or b.window.now 0 0, qs) ∷ bs)
+        × (tail_blocks (pieces t) ≡ (get_or b.bytes.now 0 0, qs) ∷ bs)
     at_rest e = (found.0, found.1, blocks_left t l ∙ ap blocks g.rest ∙ found.2)
 
 -- no other block than that of `u` is a data locale's
-pub other_block_refused : (t : Text) (b : Block) → BeginsWell t → GoesOn (after_region (pieces t)) b
-    → is_ascii_alphanumeric (get_or b.window.now 0 0) ≡ true → is_u (get_or b.window.now 0 0) ≡ false →
+pub other_block_refused : (t : Text) (b : Window) → BeginsWell t → GoesOn (after_region (pieces t)) b
+    → is_ascii_alphanumeric (get_or b.bytes.now 0 0) ≡ true → is_u (get_or b.bytes.now 0 0) ≡ false →
     HasRefusal Data t InvalidSubtag
 other_block_refused t b l g letter other =
-    let told = block_told t b l g in
-    let first : ℕ × List Text = (get_or b.window.now 0 0, told.0) in
-    data_refused t first told.1 l told.2 (no_u first told.1 other) (other_fault first letter other)
+    let found = block_found t b l g in
+    let first : ℕ × List Text = (get_or b.bytes.now 0 0, found.0) in
+    data_refused t first found.1 l found.2 (no_u first found.1 other) (other_fault first letter other)
 
 -- a piece of one byte after a language: it is that of a block, or comes after a piece that fits nowhere
-pub found_is_refused : (t : Text) (b : Block) → IsFound t b → HasRefusal Langid t InvalidSubtag
+pub found_is_refused : (t : Text) (b : Window) → IsFound t b → HasRefusal Langid t InvalidSubtag
 unfolding after_front
 found_is_refused t b f = elim (cases_Bool (starts_block (after_front (pieces t)))) [
   | inl is ↦ block_is_no_identifier t b f.begins (f.next is)

@@ -36,9 +36,10 @@ use Rattle.iloc_spec_parts.specs.DataLocales.{data_of_small}
 use Rattle.iloc_spec_parts.specs.Subdivisions.{Subdivision}
 use Rattle.iloc_spec_parts.specs.DataComputing.{data_result, data_of_result}
 use Rattle.iloc_subtags.specs.declared.parse_error.ParseError.TheVariants.{InvalidSubtag, InvalidExtension}
-use Rattle.iloc_pieces.specs.Front.{GoesOn, HasBlock, rest_of_block}
+use Rattle.iloc_pieces.specs.Front.{GoesOn, HasBlock}
+use Rattle.iloc_pieces.specs.Window.{text_in}
 use Rattle.iloc_pieces.specs.Keyword.{IsKeywordOf, IsSingle, after_singleton}
-use Rattle.iloc_pieces.specs.declared.front.Block.{Block}
+use Rattle.iloc_pieces.specs.declared.window.Window.{Window}
 use Rattle.iloc_pieces.specs.declared.keyword.Keyword.TheVariants as keyword
 use Rattle.iloc_normalize.specs.Answered.{HasRefusal}
 use Rattle.iloc_normalize.specs.declared.Mode.TheVariants.{Data}
@@ -49,10 +50,10 @@ use Rattle.iloc_outline.proofs.BodyLemmas.{front_past, front_first as front_long
 
 -- ---- the block of `u`
 
-module _ (t : Text) (b : Block) (l : BeginsWell t) (g : GoesOn (after_region (pieces t)) b)
-    (u : is_u (get_or b.window.now 0 0) ≡ true) where
+module _ (t : Text) (b : Window) (l : BeginsWell t) (g : GoesOn (after_region (pieces t)) b)
+    (u : is_u (get_or b.bytes.now 0 0) ≡ true) where
   abbrev c : ℕ
-  c = get_or b.window.now 0 0
+  c = get_or b.bytes.now 0 0
 
   abbrev ps : List Text
   ps = after_singleton b
@@ -61,14 +62,14 @@ module _ (t : Text) (b : Block) (l : BeginsWell t) (g : GoesOn (after_region (pi
   abbrev first : ℕ × List Text
   first = (c, front ps)
 
-  pieces_of_block : pieces (rest_of_block b) ≡ (c ∷ []) ∷ ps
+  pieces_of_block : pieces (text_in b) ≡ (c ∷ []) ∷ ps
   pieces_of_block = at_pieces (λ qs. first_piece qs ≡ c ∷ [] → qs ≡ (c ∷ []) ∷ rest_of qs)
-      (λ q qs e. ap (λ r. r ∷ qs) e) (rest_of_block b) g.singleton
+      (λ q qs e. ap (λ r. r ∷ qs) e) (text_in b) g.singleton
 
   no_x : (to_ascii_lowercase c == code_x) ≡ false
   no_x = let same : to_ascii_lowercase c ≡ code_u = grind (arith, nat_tests, u) in grind (arith, nat_tests)
 
-  after_is : after_front (pieces t) ≡ pieces (rest_of_block b)
+  after_is : after_front (pieces t) ≡ pieces (text_in b)
   unfolding after_front
   after_is = g.rest
 
@@ -78,7 +79,7 @@ module _ (t : Text) (b : Block) (l : BeginsWell t) (g : GoesOn (after_region (pi
 
 -- ---- the variants before the block
 
-module _ (t : Text) (b : Block) (g : GoesOn (after_region (pieces t)) b) where
+module _ (t : Text) (b : Window) (g : GoesOn (after_region (pieces t)) b) where
   abbrev after : List Text
   after = after_region (pieces t)
 
@@ -88,30 +89,30 @@ module _ (t : Text) (b : Block) (g : GoesOn (after_region (pieces t)) b) where
   variants_pass : AllByRecursion (λ p. is_word Variant p ≡ true) before
   variants_pass = keep_while_passes (is_word Variant) after
 
-  block_pieces_are : pieces (rest_of_block b) ≡ (get_or b.window.now 0 0 ∷ []) ∷ after_singleton b
+  block_pieces_are : pieces (text_in b) ≡ (get_or b.bytes.now 0 0 ∷ []) ∷ after_singleton b
   block_pieces_are = at_pieces
-      (λ qs. first_piece qs ≡ get_or b.window.now 0 0 ∷ [] → qs ≡ (get_or b.window.now 0 0 ∷ []) ∷ rest_of qs)
-      (λ q qs e. ap (λ r. r ∷ qs) e) (rest_of_block b) g.singleton
+      (λ qs. first_piece qs ≡ get_or b.bytes.now 0 0 ∷ [] → qs ≡ (get_or b.bytes.now 0 0 ∷ []) ∷ rest_of qs)
+      (λ q qs e. ap (λ r. r ∷ qs) e) (text_in b) g.singleton
 
-  parts_are : before ++ pieces (rest_of_block b) ≡ after
+  parts_are : before ++ pieces (text_in b) ≡ after
   parts_are = ap (λ l. before ++ l) (sym g.rest) ∙ all_while (is_word Variant) after
 
   before_is : front after ≡ before
   before_is =
       ap front (sym parts_are ∙ ap (λ l. before ++ l) block_pieces_are)
-      ∙ front_past before ((get_or b.window.now 0 0 ∷ []) ∷ after_singleton b)
+      ∙ front_past before ((get_or b.bytes.now 0 0 ∷ []) ∷ after_singleton b)
       (all_weaker (λ p. is_word Variant p ≡ true) IsLong long_variant before variants_pass)
       ∙ append-nil before
 
-  total : length before + length (pieces (rest_of_block b)) ≡ length after
-  total = sym (length-append before (pieces (rest_of_block b))) ∙ ap length parts_are
+  total : length before + length (pieces (text_in b)) ≡ length after
+  total = sym (length-append before (pieces (text_in b))) ∙ ap length parts_are
 
   all_true : (vs : List Text) → AllByRecursion (λ p. is_word Variant p ≡ true) vs →
       list_all (is_word Variant) vs ≡ true
   all_true [] h = refl
   all_true (v ∷ vs) h = rw h.0 (all_true vs h.1)
 
-  pub few_before : length after ≤ 1 + length (pieces (rest_of_block b)) →
+  pub few_before : length after ≤ 1 + length (pieces (text_in b)) →
       has_small_variants (front after) ≡ true
   few_before few =
       let le : nat_le (length before) 1 ≡ true =
@@ -302,9 +303,9 @@ large_head p qs l h =
 pub letter_u : (c : ℕ) → is_u c ≡ true → is_ascii_alphanumeric c ≡ true
 letter_u c u = grind (arith, nat_tests)
 
-module _ (t : Text) (b : Block) (h : HasBlock t b)
-    (letter : is_ascii_alphanumeric (get_or b.window.now 0 0) ≡ true)
-    (u : is_u (get_or b.window.now 0 0) ≡ true) where
+module _ (t : Text) (b : Window) (h : HasBlock t b)
+    (letter : is_ascii_alphanumeric (get_or b.bytes.now 0 0) ≡ true)
+    (u : is_u (get_or b.bytes.now 0 0) ≡ true) where
   abbrev block : ℕ × List Text
   block = first t b h.0 h.1 u
 
@@ -355,7 +356,7 @@ module _ (t : Text) (b : Block) (h : HasBlock t b)
       (fault_is block false true letter u attribute key)
 
   -- what is read of a whole text with such a keyword
-  single_result : length (after_region (pieces t)) ≤ 1 + length (pieces (rest_of_block b)) → Reads rest →
+  single_result : length (after_region (pieces t)) ≤ 1 + length (pieces (text_in b)) → Reads rest →
       (r : SmallLocale) × (small_result languages t ≡ Ok r) × (data_of_small r ≡ None)
   unfolding small_result after_identifier blocks_result
   single_result few read = at_pieces Found by t h.0 there (few_before t b h.1 few)
@@ -380,7 +381,7 @@ module _ (t : Text) (b : Block) (h : HasBlock t b)
             ap (option_map (λ part. made_of id.language id.script part id.variant)) (read.unread id.region),
           )
 
-  pub single_refused : length (after_region (pieces t)) ≤ 1 + length (pieces (rest_of_block b)) →
+  pub single_refused : length (after_region (pieces t)) ≤ 1 + length (pieces (text_in b)) →
       IsKeywordOf rest keyword.Single → HasRefusal Data t InvalidExtension
   unfolding data_result
   single_refused few s =

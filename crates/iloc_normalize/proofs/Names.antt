@@ -25,7 +25,7 @@ use Rattle.iloc_pieces.specs.Left.{IsShortPiece, piece_left}
 use Rattle.iloc_pieces.specs.Shape.{bits, shape_of}
 use Rattle.iloc_pieces.specs.declared.cursor.Left.{Left}
 use Rattle.iloc_pieces.proofs.LeftLemmas.{length_piece, piece_byte, short_attribute, short_bytes}
-use Rattle.iloc_pieces.proofs.Tells.{shape_left}
+use Rattle.iloc_pieces.proofs.ByShape.{shape_left}
 use Rattle.iloc_normalize.specs.Subdivisions.{EndsRegion, IsNamed, bytes_at}
 use Rattle.iloc_pieces.proofs.RunWords.{and-false}
 use Rattle.iloc_pieces.proofs.Shapes.{shape_of_one}

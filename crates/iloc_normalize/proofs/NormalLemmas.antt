@@ -43,7 +43,7 @@ module _ {Z : Type 0} (mode : Mode) (t : Text) where
   runs_out wants (Err DuplicatedExtension) h = tt
   runs_out wants (Err OutOfMemory) h = wants h
 
--- what is told of a refused text may be answered
+-- a refusal that is named may be answered
 pub refusal : (Z : Type 0) (mode : Mode) (t : Text) (e : ParseError) → HasRefusal mode t e
     → IsNormalizedAs {Z = Z} mode t (Err e)
 refusal Z mode t InvalidLanguage h = h

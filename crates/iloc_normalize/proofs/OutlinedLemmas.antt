@@ -1,4 +1,4 @@
--- When an outline tells nothing.
+-- When an outline says nothing.
 use Rattle.std.proofs.Common.{◌≡◌, inl, inr, ℕ, ◌+◌, ◌≤◌, List, [], ◌∷◌, ◌++◌, length, length-append, sym, ap}
 use Rattle.std.proofs.Common.{◌∙◌, arith}
 use Rattle.iloc_spec_grammar.specs.Syntax.{Text, pieces, join, dashes}
@@ -32,9 +32,9 @@ not_beyond t room short wide (inl many) =
     let few : length (pieces t) ≤ length t + 1 = few_pieces t in omega (arith, few, many, short)
 not_beyond t room short wide (inr narrow) = omega (arith, narrow, short, wide)
 
--- so something is told of it
-pub few_answered : (t : Text) (room : ℕ) (Reason : Type 0) (told : Answered) → length t ≤ 48 → 64 ≤ room
-    → IsNothingOnlyIf (IsBeyond room t) told → IsNothingOnlyIf Reason told
+-- so something is answered of it
+pub few_answered : (t : Text) (room : ℕ) (Reason : Type 0) (answer : Answered) → length t ≤ 48 → 64 ≤ room
+    → IsNothingOnlyIf (IsBeyond room t) answer → IsNothingOnlyIf Reason answer
 few_answered t room Reason (answered.Normal n) short wide h = tt
 few_answered t room Reason (answered.Refused e) short wide h = tt
 few_answered t room Reason answered.Nothing short wide b = absurd (not_beyond t room short wide b)

@@ -1,4 +1,4 @@
--- The normal text of a text that is told at once.
+-- The normal text of a plain text.
 use Rattle.std.proofs.Common.{suc, ◌≡◌, ◌≢◌, ◌≤◌, List, [], ◌∷◌, ◌++◌, length, map, Option, Some, None}
 use Rattle.std.proofs.Common.{Result, IfSome, option_map, refl, sym, ap, ◌∙◌, arith, append-nil}
 use Rattle.std.specs.Prelude.{if◌then◌else◌, option_to_list, option_and_then}

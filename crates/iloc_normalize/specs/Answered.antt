@@ -1,7 +1,8 @@
--- What is told of a text at once.
-use Rattle.std.specs.Prelude.{◌⊎◌, ℕ, ◌+◌, ◌<◌, ◌≤◌, length, take, ⊤}
+-- What is answered of a text without a value.
+use Rattle.std.specs.Prelude.{◌⊎◌, ℕ, ◌+◌, ◌<◌, ◌≤◌, length, take, ⊤, Option, Some, None, IfSome}
 use Rattle.iloc_spec_grammar.specs.Syntax.{Text, languages}
 use Rattle.iloc_subtags.specs.declared.parse_error.ParseError.{ParseError}
+use Rattle.iloc_subtags.specs.declared.parse_error.ParseError.TheVariants as error
 use Rattle.iloc_subtags.specs.Judging.{Refusal}
 use Rattle.iloc_pieces.specs.Plain.{IsPlain}
 use Rattle.iloc_pieces.specs.declared.plain.Plain.{Plain}
@@ -23,12 +24,12 @@ HasRefusal mode t e = Refusal (IsFaulty languages mode t) ⊥ e
 abbrev pub ArePlain : Text → Type 0
 ArePlain t = (p : Plain) × IsPlain t p
 
--- what the beginning tells is so
+-- what the beginning shows is so
 abbrev pub IsLead : Mode → Text → Lead → Type 0
 IsLead mode t (lead.Refused e) = HasRefusal mode t e
 IsLead mode t lead.Outline = BeginsWithLanguage t
 
--- what is told is so
+-- what is answered is so
 abbrev pub IsAnswered : Mode → Text → Answered → Type 0
 IsAnswered mode t (answered.Normal n) = IsNormalText languages mode t n.now
 IsAnswered mode t (answered.Refused e) = HasRefusal mode t e
@@ -39,15 +40,24 @@ IsAnswered mode t answered.Nothing = ⊤
 abbrev pub IsBeyond : ℕ → Text → Type 0
 IsBeyond room t = IsLimit t ⊎ (room < length t + 16)
 
--- nothing is told for this reason only
+-- nothing is answered for this reason only
 abbrev pub IsNothingOnlyIf : Type 0 → Answered → Type 0
 IsNothingOnlyIf reason answered.Nothing = reason
 IsNothingOnlyIf reason _ = ⊤
+
+-- why a text is refused of which this was written
+abbrev pub refusal_of : Written → Option ParseError
+refusal_of (written.Normal n) = None
+refusal_of written.InvalidLanguage = Some error.InvalidLanguage
+refusal_of written.InvalidSubtag = Some error.InvalidSubtag
+refusal_of written.InvalidExtension = Some error.InvalidExtension
+refusal_of written.DuplicatedExtension = Some error.DuplicatedExtension
+refusal_of written.Nothing = None
 
 -- what is written in a room is so: the normal text comes first, by a region longer than the text at
 -- most; nothing is written of a text that is not outlined there
 abbrev pub IsNormalWritten : Mode → Text → Text → Written → Type 0
 IsNormalWritten mode t room (written.Normal n) = (n ≤ length t + 4) × (length t + 16 ≤ length room)
     × IsNormalText languages mode t (take n room)
-IsNormalWritten mode t room (written.Refused e) = HasRefusal mode t e
 IsNormalWritten mode t room written.Nothing = IsBeyond (length room) t
+IsNormalWritten mode t room refused = IfSome (refusal_of refused) (HasRefusal mode t)

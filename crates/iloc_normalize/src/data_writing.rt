@@ -5,6 +5,7 @@ ghost use Rattle.iloc_spec_parts.specs.DataLocales.{DataLocale, data_text, whole
 ghost use Rattle.iloc_outline.specs.Identifier.{front_text};
 ghost use Rattle.iloc_outline.specs.Outlines.{BeginsWithLanguage};
 ghost use Rattle.iloc_outline.specs.Parts.{front_pieces};
+ghost use Rattle.iloc_pieces.specs.Window.{text_in};
 ghost use Rattle.iloc_normalize.specs.Data.{HasValue, IsRegionStart};
 ghost use Rattle.iloc_normalize.specs.Subdivisions.{bytes_at};
 ghost use Rattle.iloc_normalize.specs.Answered.{IsNormalWritten};
@@ -17,6 +18,7 @@ use crate::writing::Written;
 use iloc_outline::identifier::Front;
 use iloc_outline::outline::Outline;
 use iloc_outline::printing::copy_front;
+use iloc_pieces::Window;
 use iloc_tinystr::ShortPiece;
 
 // Where the region begins that ends at `end`; `end` if there is none there.
@@ -130,14 +132,16 @@ fn put_keyword(window: &[u8], value: &Value, to: &mut [u8], start: usize) -> usi
 
 // Writes a head and a subdivision. Where they end.
 #[inline(always)]
-fn write_named(window: &[u8], len: usize, head: &Head, value: &Value, to: &mut [u8]) -> usize
-    requires wide { len + 16 ≤ length window.now }
-    requires room { len + 16 ≤ length to.old }
-    requires value { (d : DataLocale) × HasValue window.now len head.now value.now d }
-    ensures few { result ≤ len + 4 }
-    ensures put { (d : DataLocale) → HasValue window.now len head.now value.now d
+fn write_named(text: Window<'_>, head: &Head, value: &Value, to: &mut [u8]) -> usize
+    requires room { length text.bytes.now ≤ length to.old }
+    requires value { (d : DataLocale)
+        × HasValue text.bytes.now (length text.bytes.now - 16) head.now value.now d }
+    ensures few { result + 12 ≤ length text.entry.bytes.now }
+    ensures put { (d : DataLocale)
+        → HasValue text.entry.bytes.now (length text.entry.bytes.now - 16) head.now value.now d
         → take result to.new ≡ data_text d }
 {
+    let window = text.bytes;
     let front = head.front.end;
     let start = region_start(window, front);
     if start == front {
@@ -158,21 +162,20 @@ fn write_named(window: &[u8], len: usize, head: &Head, value: &Value, to: &mut [
     put_keyword(window, value, to, head.end)
 }
 
-/// Writes the normal text of the first `len` bytes as a data locale. Up to sixteen bytes more are stored behind it.
+/// Writes the normal text of a text as a data locale. Up to sixteen bytes more are stored behind it.
 #[inline(never)]
-pub(crate) fn write_data(window: &[u8], len: usize, to: &mut [u8]) -> Written
-    requires wide { len + 16 ≤ length window.now }
-    requires begins { BeginsWithLanguage (take len window.now) }
-    requires room { len + 16 ≤ length to.old }
-    ensures { IsNormalWritten Mode.Data (take len window.now) to.new result }
+pub(crate) fn write_data(text: Window<'_>, to: &mut [u8]) -> Written
+    requires begins { BeginsWithLanguage (text_in text) }
+    requires room { length text.bytes.now ≤ length to.old }
+    ensures { IsNormalWritten Mode.Data (text_in text.entry) to.new result }
 {
-    match read_data(window, len) {
+    match read_data(text.bytes, text.len()) {
         Data::Head(head) => {
             let end = head.end;
-            put_front(window, &head.front, end, to);
+            put_front(text.bytes, &head.front, end, to);
             Written::Normal(end)
         }
-        Data::Named(head, value) => { Written::Normal(write_named(window, len, &head, &value, to)) }
-        Data::Refused(error) => Written::Refused(error),
+        Data::Named(head, value) => { Written::Normal(write_named(text, &head, &value, to)) }
+        Data::Refused(error) => Written::refused(error),
     }
 }

@@ -29,13 +29,13 @@ pub fn normalize_short(
         return None;
     }
     let lanes = load(input);
-    let Some(told) = normal_plain(lanes, input.len()) else {
+    let Some(text) = normal_plain(lanes, input.len()) else {
         return refuse_short(lanes, input.len());
     };
-    if told.is_normal {
+    if text.is_normal {
         return Some(Ok(CowStr::Borrowed(unsafe { str::from_utf8_unchecked(input) })));
     }
-    match own_front(alloc, told.plain.bytes, told.plain.len) {
+    match own_front(alloc, text.plain.bytes, text.plain.len) {
         Ok(text) => Some(Ok(CowStr::Owned(text))),
         Err(AllocError) => Some(Err(ParseError::OutOfMemory)),
     }

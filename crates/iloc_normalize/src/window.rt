@@ -6,6 +6,7 @@ ghost use Rattle.iloc_normalize.specs.declared.Mode.TheVariants as Mode;
 use crate::Mode;
 use crate::answered::{Answered, ROOM, answer};
 use crate::copying::{copy_all, copy_ends, copy_sixteens};
+use iloc_pieces::Window;
 
 /// How long a text may be that is looked at here.
 pub const MOST: usize = 48;
@@ -43,5 +44,8 @@ pub fn answer_text<'a>(
         return Answered::Nothing;
     }
     put_in_front(text, window);
-    answer(mode, window, text.len(), room)
+    let window = Window {
+        bytes: &window[..text.len() + 16],
+    };
+    answer(mode, window, room)
 }

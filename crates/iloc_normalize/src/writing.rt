@@ -1,8 +1,11 @@
 //! Writes the normal text of a text, in each mode.
-ghost use Rattle.std.specs.Prelude.{◌+◌, ◌≤◌, length, take};
+ghost use Rattle.std.specs.Prelude.{◌≡◌, ◌≤◌, length};
+ghost use Rattle.iloc_spec_grammar.specs.Syntax.{Text};
+ghost use Rattle.iloc_pieces.specs.Window.{text_in};
 ghost use Rattle.iloc_outline.specs.Outlines.{BeginsWithLanguage};
-ghost use Rattle.iloc_normalize.specs.Answered.{IsLead, IsNormalWritten};
-ghost use Rattle.iloc_normalize.specs.declared.Mode.TheVariants as Mode;
+ghost use Rattle.iloc_normalize.specs.Answered.{HasRefusal, IsLead, IsNormalWritten, refusal_of};
+ghost use Rattle.iloc_normalize.specs.declared.Mode.{Mode};
+ghost use Rattle.iloc_normalize.specs.declared.Mode.TheVariants as modes;
 
 use crate::Mode;
 use crate::data_writing::write_data;
@@ -10,145 +13,168 @@ use crate::leads::Lead;
 use iloc_outline::growth::{Growing, Growth, InPlace};
 use iloc_outline::outline::{Outlined, outline_identifier, outline_locale};
 use iloc_outline::printing::copy_outline;
+use iloc_pieces::Window;
 use iloc_spans::spans::Spans;
 use iloc_subtags::ParseError;
 
-/// What was written of a text.
+/// What was written of a text. Each refusal is a variant, so that two registers hold it.
 #[derive(Drop)]
 pub enum Written {
     /// Its normal text, of so many bytes.
     Normal(usize),
-    /// Nothing, since it is refused.
-    Refused(ParseError),
+    /// Nothing, since it begins with no language.
+    InvalidLanguage,
+    /// Nothing, since a subtag is invalid.
+    InvalidSubtag,
+    /// Nothing, since an extension is invalid.
+    InvalidExtension,
+    /// Nothing, since an extension comes twice.
+    DuplicatedExtension,
     /// Nothing that counts.
     Nothing,
 }
 
-/// Writes the normal text in the mode of the first `len` bytes, of which the beginning shows this (`leads`). Sixteen
-/// bytes after them are loaded too, and change nothing. Up to sixteen bytes more are stored behind what is written.
+impl Written {
+    // Nothing, for this reason.
+    #[inline(always)]
+    pub(crate) fn refused(error: ParseError) -> Self
+        ensures { (mode : Mode) (text room : Text) → HasRefusal mode text error
+            → IsNormalWritten mode text room result }
+    {
+        match error {
+            ParseError::InvalidLanguage => Written::InvalidLanguage,
+            ParseError::InvalidSubtag => Written::InvalidSubtag,
+            ParseError::InvalidExtension => Written::InvalidExtension,
+            ParseError::DuplicatedExtension => Written::DuplicatedExtension,
+            ParseError::OutOfMemory => Written::Nothing,
+        }
+    }
+
+    /// Why the text is refused, if it is.
+    #[inline(always)]
+    pub fn refusal(&self) -> Option<ParseError>
+        ensures { result ≡ refusal_of self.now }
+    {
+        match self {
+            Written::InvalidLanguage => Some(ParseError::InvalidLanguage),
+            Written::InvalidSubtag => Some(ParseError::InvalidSubtag),
+            Written::InvalidExtension => Some(ParseError::InvalidExtension),
+            Written::DuplicatedExtension => Some(ParseError::DuplicatedExtension),
+            Written::Normal(_) | Written::Nothing => None,
+        }
+    }
+}
+
+/// Writes the normal text in the mode of a text, of which the beginning shows this (`leads`). Up to sixteen bytes more are
+/// stored behind what is written.
 #[inline(always)]
 pub fn write_normal(
     mode: Mode,
     lead: Lead,
-    window: &[u8],
-    len: usize,
+    text: Window<'_>,
     spans: &mut Spans,
     to: &mut [u8],
 ) -> Written
-    requires wide { len + 16 ≤ length window.now }
-    requires lead { IsLead mode (take len window.now) lead }
-    ensures { IsNormalWritten mode (take len window.now) to.new result }
+    requires lead { IsLead mode (text_in text) lead }
+    requires room { length text.bytes.now ≤ length to.old }
+    ensures { IsNormalWritten mode (text_in text.entry) to.new result }
 {
-    if to.len() < len + 16 {
-        return Written::Nothing;
-    }
     match lead {
-        Lead::Refused(error) => Written::Refused(error),
-        Lead::Outline => write_outlined(mode, window, len, spans, to),
+        Lead::Refused(error) => Written::refused(error),
+        Lead::Outline => write_outlined(mode, text, spans, to),
     }
 }
 
 // Writes it of a text that begins with a language.
 #[inline(always)]
-fn write_outlined(
-    mode: Mode,
-    window: &[u8],
-    len: usize,
-    spans: &mut Spans,
-    to: &mut [u8],
-) -> Written
-    requires wide { len + 16 ≤ length window.now }
-    requires begins { BeginsWithLanguage (take len window.now) }
-    requires room { len + 16 ≤ length to.old }
-    ensures { IsNormalWritten mode (take len window.now) to.new result }
+fn write_outlined(mode: Mode, text: Window<'_>, spans: &mut Spans, to: &mut [u8]) -> Written
+    requires begins { BeginsWithLanguage (text_in text) }
+    requires room { length text.bytes.now ≤ length to.old }
+    ensures { IsNormalWritten mode (text_in text.entry) to.new result }
 {
     match mode {
-        Mode::Langid => write_identifier(window, len, spans, to),
-        Mode::Locale => write_locale(window, len, spans, to),
-        Mode::Data => write_data(window, len, to),
+        Mode::Langid => write_identifier(text, spans, to),
+        Mode::Locale => write_locale(text, spans, to),
+        Mode::Data => write_data(text, to),
     }
 }
 
 // Writes the normal text of an identifier.
 #[inline(never)]
-fn write_identifier(window: &[u8], len: usize, spans: &mut Spans, to: &mut [u8]) -> Written
-    requires inside { len ≤ length window.now }
-    requires begins { BeginsWithLanguage (take len window.now) }
-    requires room { len + 16 ≤ length to.old }
-    ensures { IsNormalWritten Mode.Langid (take len window.now) to.new result }
+fn write_identifier(text: Window<'_>, spans: &mut Spans, to: &mut [u8]) -> Written
+    requires begins { BeginsWithLanguage (text_in text) }
+    requires room { length text.bytes.now ≤ length to.old }
+    ensures { IsNormalWritten modes.Langid (text_in text.entry) to.new result }
 {
-    match identifier_in::<InPlace>(window, len, spans, to) {
-        Written::Nothing => write_long_identifier(window, len, spans, to),
+    match identifier_in::<InPlace>(text, spans, to) {
+        Written::Nothing => write_long_identifier(text, spans, to),
         written => written,
     }
 }
 
 // Writes it where the room in place is too small.
 #[inline(never)]
-fn write_long_identifier(window: &[u8], len: usize, spans: &mut Spans, to: &mut [u8]) -> Written
-    requires inside { len ≤ length window.now }
-    requires begins { BeginsWithLanguage (take len window.now) }
-    requires room { len + 16 ≤ length to.old }
-    ensures { IsNormalWritten Mode.Langid (take len window.now) to.new result }
+fn write_long_identifier(text: Window<'_>, spans: &mut Spans, to: &mut [u8]) -> Written
+    requires begins { BeginsWithLanguage (text_in text) }
+    requires room { length text.bytes.now ≤ length to.old }
+    ensures { IsNormalWritten modes.Langid (text_in text.entry) to.new result }
 {
-    identifier_in::<Growing>(window, len, spans, to)
+    identifier_in::<Growing>(text, spans, to)
 }
 
 // Writes it with spans in this room.
 #[inline(always)]
-fn identifier_in<G: Growth>(window: &[u8], len: usize, spans: &mut Spans, to: &mut [u8]) -> Written
-    requires inside { len ≤ length window.now }
-    requires begins { BeginsWithLanguage (take len window.now) }
-    requires room { len + 16 ≤ length to.old }
-    ensures { IsNormalWritten Mode.Langid (take len window.now) to.new result }
+fn identifier_in<G: Growth>(text: Window<'_>, spans: &mut Spans, to: &mut [u8]) -> Written
+    requires begins { BeginsWithLanguage (text_in text) }
+    requires room { length text.bytes.now ≤ length to.old }
+    ensures { IsNormalWritten modes.Langid (text_in text.entry) to.new result }
 {
-    match outline_identifier::<G>(window, len, spans) {
+    let len = text.len();
+    match outline_identifier::<G>(text.bytes, len, spans) {
         Outlined::Normal(outline) => {
-            Written::Normal(copy_outline(window, len, &outline, spans, to))
+            Written::Normal(copy_outline(text.bytes, len, &outline, spans, to))
         }
-        Outlined::Refused(error) => Written::Refused(error),
+        Outlined::Refused(error) => Written::refused(error),
         Outlined::Full => Written::Nothing,
     }
 }
 
 // Writes the normal text of a locale.
 #[inline(never)]
-fn write_locale(window: &[u8], len: usize, spans: &mut Spans, to: &mut [u8]) -> Written
-    requires inside { len ≤ length window.now }
-    requires begins { BeginsWithLanguage (take len window.now) }
-    requires room { len + 16 ≤ length to.old }
-    ensures { IsNormalWritten Mode.Locale (take len window.now) to.new result }
+fn write_locale(text: Window<'_>, spans: &mut Spans, to: &mut [u8]) -> Written
+    requires begins { BeginsWithLanguage (text_in text) }
+    requires room { length text.bytes.now ≤ length to.old }
+    ensures { IsNormalWritten modes.Locale (text_in text.entry) to.new result }
 {
-    match locale_in::<InPlace>(window, len, spans, to) {
-        Written::Nothing => write_long_locale(window, len, spans, to),
+    match locale_in::<InPlace>(text, spans, to) {
+        Written::Nothing => write_long_locale(text, spans, to),
         written => written,
     }
 }
 
 // Writes it where the room in place is too small.
 #[inline(never)]
-fn write_long_locale(window: &[u8], len: usize, spans: &mut Spans, to: &mut [u8]) -> Written
-    requires inside { len ≤ length window.now }
-    requires begins { BeginsWithLanguage (take len window.now) }
-    requires room { len + 16 ≤ length to.old }
-    ensures { IsNormalWritten Mode.Locale (take len window.now) to.new result }
+fn write_long_locale(text: Window<'_>, spans: &mut Spans, to: &mut [u8]) -> Written
+    requires begins { BeginsWithLanguage (text_in text) }
+    requires room { length text.bytes.now ≤ length to.old }
+    ensures { IsNormalWritten modes.Locale (text_in text.entry) to.new result }
 {
-    locale_in::<Growing>(window, len, spans, to)
+    locale_in::<Growing>(text, spans, to)
 }
 
 // Writes it with spans in this room.
 #[inline(always)]
-fn locale_in<G: Growth>(window: &[u8], len: usize, spans: &mut Spans, to: &mut [u8]) -> Written
-    requires inside { len ≤ length window.now }
-    requires begins { BeginsWithLanguage (take len window.now) }
-    requires room { len + 16 ≤ length to.old }
-    ensures { IsNormalWritten Mode.Locale (take len window.now) to.new result }
+fn locale_in<G: Growth>(text: Window<'_>, spans: &mut Spans, to: &mut [u8]) -> Written
+    requires begins { BeginsWithLanguage (text_in text) }
+    requires room { length text.bytes.now ≤ length to.old }
+    ensures { IsNormalWritten modes.Locale (text_in text.entry) to.new result }
 {
-    match outline_locale::<G>(window, len, spans) {
+    let len = text.len();
+    match outline_locale::<G>(text.bytes, len, spans) {
         Outlined::Normal(outline) => {
-            Written::Normal(copy_outline(window, len, &outline, spans, to))
+            Written::Normal(copy_outline(text.bytes, len, &outline, spans, to))
         }
-        Outlined::Refused(error) => Written::Refused(error),
+        Outlined::Refused(error) => Written::refused(error),
         Outlined::Full => Written::Nothing,
     }
 }

@@ -105,7 +105,7 @@ skipped_none : (k : Kind) (t : Text) → is_word k (first_piece (pieces t)) ≡ 
 skipped_none k t = at_pieces (λ ps. is_word k (first_piece ps) ≡ false → skip_first (is_word k) ps ≡ ps)
     (λ p ps e. ap (λ (b : Bool). cond b ps (p ∷ ps)) e) t
 
--- it is passed, and what is left is told
+-- it is passed, and what is left is said
 pub record Steps (k : Kind) (l m : Left) (o : Option Left) (ps : List Text) : Type 0 where
   pub passed : IsAfter l o (ps ++ option_to_list (take_first (is_word k) (pieces_left m)))
   pub rest : skip_first (is_word k) (pieces_left m) ≡ pieces_of_next o

@@ -152,6 +152,13 @@ later_bytes w len n inside less =
     ∙ ap (λ (m : ℕ). take (len - n - 1) (drop m w)) one_more
     ∙ sym (take-take (len - n - 1) (length w - (n + 1)) (drop (n + 1) w) enough)
 
+-- behind its first bytes a window has the rest of the text
+pub behind : (w : Text) (k : ℕ) → k + 16 ≤ length w →
+    length (take (length w - k) (drop k w)) - 16 ≡ length w - 16 - k
+behind w k inside =
+    let dropped : length (drop k w) ≡ length w - k = length-drop k w in
+    omega (arith, dropped, length-take-le (length w - k) (drop k w) (omega (arith, dropped)))
+
 module _ (w : Text) (len n : ℕ) (room : len + 16 ≤ length w) (first : IsFirst (take len w) n) where
   abbrev text : Text
   text = take len w
@@ -218,10 +225,3 @@ module _ (w : Text) (len n : ℕ) (room : len + 16 ≤ length w) (first : IsFirs
   pub whole_word : (k : Kind) → IsShort k → is_word k (take n w) ≡ true → n ≡ len →
       pieces text ≡ take n w ∷ []
   whole_word k short fits end = whole_short (word_is_short k short fits) end
-
-  -- sixteen bytes stay behind what is left of the line
-  pub room_left : n ≢ len → len - n - 1 + 16 ≤ length (take (length w - (n + 1)) (drop (n + 1) w))
-  room_left more =
-      let dropped : length (drop (n + 1) w) ≡ length w - (n + 1) = length-drop (n + 1) w in
-      let enough : length w - (n + 1) ≤ length (drop (n + 1) w) = omega arith in
-      omega (arith, length-take-le (length w - (n + 1)) (drop (n + 1) w) enough, inside)

@@ -1,6 +1,7 @@
 pub mod RunLemmas
 pub mod RunWords
 pub mod FrontLemmas
+pub mod WindowLemmas
 pub mod SingleLemmas
 pub mod AttributeLemmas
 pub mod KeyLemmas
@@ -20,4 +21,4 @@ pub mod WordNumbers
 pub mod Masks
 pub mod Ends
 pub mod Looks
-pub mod Tells
+pub mod ByShape

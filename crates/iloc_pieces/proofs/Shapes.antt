@@ -168,10 +168,10 @@ spell_of k p few all =
     ∙ sym (ap (λ (a : Bool). is_word k (cond a (45 ∷ []) (spell_bits 8 (bits p)))) some)
 
 -- a test of shapes that agrees with what they spell, and which no greater number passes, tells the words
-pub told : (k : Kind) (t : ℕ → Bool) → Bounds 8 k → agree_below t (λ s. is_word k (spell s)) 512 ≡ true →
+pub by_shape : (k : Kind) (t : ℕ → Bool) → Bounds 8 k → agree_below t (λ s. is_word k (spell s)) 512 ≡ true →
     ((s : ℕ) → 512 ≤ s → t s ≡ false)
     → (p : Text) → is_word k p ≡ t (shape_of p)
-told k t ends e many p = elim (cases_Bool (letters_or_digits p)) [
+by_shape k t ends e many p = elim (cases_Bool (letters_or_digits p)) [
   | inl all ↦ elim (cases_lt (length p) 9) [
     | inl few ↦
         let l : length p ≤ 8 = omega arith in

@@ -1,7 +1,7 @@
 -- From the first piece of one byte to the first block.
 use Rattle.std.proofs.Common.{◌≡◌, ◌≢◌, ℕ, zero, suc, ◌+◌, ◌-◌, ◌/◌, ◌^◌, ◌<◌, ◌≤◌, Bool, true, false}
 use Rattle.std.proofs.Common.{cond, min, List, [], ◌∷◌, ◌++◌, length, map, get_or, take, drop, bit_and, w64}
-use Rattle.std.proofs.Common.{refl, sym, ap, ◌∙◌, arith, inl, inr}
+use Rattle.std.proofs.Common.{refl, sym, ap, ◌∙◌, subst, arith, inl, inr}
 use Rattle.std.specs.Int.{bit_at}
 use Rattle.std.specs.List.{AllByRecursion, onto_first}
 use Rattle.std.proofs.lemmas.Bool.{cases_Bool, eqb-true, true≢false}
@@ -14,12 +14,15 @@ use Rattle.std.proofs.lemmas.Simd.{bit_mask_l, mask_l-lt}
 use lib.Count.{count_trailing_zeros}
 use lib.Lanes.{mask_l}
 use Rattle.iloc_spec_grammar.specs.Syntax.{Text, pieces, first_piece, is_one_byte, is_word, Script, Region}
-use Rattle.iloc_spec_grammar.specs.Syntax.{Variant}
+use Rattle.iloc_spec_grammar.specs.Syntax.{IsWord, Language, Variant, languages}
 use Rattle.iloc_spec_grammar.specs.Reading.{past, skip_first, starts_block, after_region}
 use Rattle.iloc_spec_grammar.proofs.PiecesLaws.{at_pieces}
 use Rattle.iloc_spec_grammar.proofs.Readings.{IsLong, long_script, long_region, long_variant}
 use Rattle.iloc_pieces.specs.Run.{IsFirstSingle, is_hyphen}
-use Rattle.iloc_pieces.proofs.FrontLemmas.{later_bytes}
+use Rattle.iloc_pieces.specs.Front.{IsFound}
+use Rattle.iloc_pieces.specs.Window.{text_in}
+use Rattle.iloc_pieces.specs.declared.window.Window.{Window}
+use Rattle.iloc_pieces.proofs.FrontLemmas.{behind as behind_first, later_bytes}
 use Rattle.iloc_spec_grammar.proofs.Singletons.{two_more}
 
 -- ---- in a mask of hyphens
@@ -294,7 +297,7 @@ module _ (w : Text) (len at : ℕ) (room : len + 16 ≤ length w) (s : IsFirstSi
       (behind 1 (suc (suc at)) (omega arith) (omega arith) ∙ s.after)
       (omega (arith, length-drop (suc at) text, length-take-le len w (omega arith)))
 
-  pub singleton_there : first_piece (pieces (take (len - at - 1) window)) ≡ get_or window 0 0 ∷ []
+  singleton_there : first_piece (pieces (take (len - at - 1) window)) ≡ get_or window 0 0 ∷ []
   singleton_there =
       ap (λ t. first_piece (pieces t)) (sym rest) ∙ one ∙ ap (λ t. get_or t 0 0 ∷ []) rest
       ∙ ap (λ b. b ∷ []) (get_or-take (len - at - 1) window 0 0 (omega arith))
@@ -302,16 +305,13 @@ module _ (w : Text) (len at : ℕ) (room : len + 16 ≤ length w) (s : IsFirstSi
   whole : length text ≡ len
   whole = length-take-le len w (omega arith)
 
-  pub cut_there : text ≡ take (length text - (len - at - 1 + 1)) text ++ 45 ∷ take (len - at - 1) window
+  cut_there : text ≡ take (length text - (len - at - 1 + 1)) text ++ 45 ∷ take (len - at - 1) window
   cut_there =
       let before : at ≡ length text - (len - at - 1 + 1) = omega (arith, whole) in
       cut_text text at (omega (arith, whole)) (hyphen_at at (omega arith) ∙ s.there)
       ∙ (λ j. take (before j) text ++ 45 ∷ rest j)
 
-  pub less_there : len - at - 1 < length text
-  less_there = omega (arith, whole)
-
-  pub next_there : starts_block (past (is_word Variant) (after_region (pieces text))) ≡ true
+  next_there : starts_block (past (is_word Variant) (after_region (pieces text))) ≡ true
       → past (is_word Variant) (after_region (pieces text)) ≡ pieces (take (len - at - 1) window)
   next_there e =
       next_is text at (omega (arith, whole)) (hyphen_at at (omega arith) ∙ s.there)
@@ -320,8 +320,21 @@ module _ (w : Text) (len at : ℕ) (room : len + 16 ≤ length w) (s : IsFirstSi
       (get_or (drop (suc at) text) 0 0) one e
       ∙ ap pieces rest
 
-  pub room_there : len - at - 1 + 16 ≤ length window
-  room_there =
-      let dropped : length (drop (at + 1) w) ≡ length w - (at + 1) = length-drop (at + 1) w in
-      let enough : length w - (at + 1) ≤ length (drop (at + 1) w) = omega arith in
-      omega (arith, length-take-le (length w - (at + 1)) (drop (at + 1) w) enough)
+  -- so this block is found
+  pub found_there : (b : Window) → b.bytes.now ≡ window → length w ≡ len + 16 →
+      IsWord (Language languages) (first_piece (pieces text)) → (k : ℕ) → len ≡ k → IsFound (take k w) b
+  found_there b e narrow begins k whole_len =
+      let size : length window - 16 ≡ len - at - 1 = omega (arith, behind_first w (at + 1) (omega arith)) in
+      let same : text_in b ≡ take (len - at - 1) window =
+      ap (λ t. take (length t - 16) t) e ∙ ap (λ m. take m window) size in
+      let few : length (text_in b) ≡ len - at - 1 =
+      ap length same ∙ length-take-le (len - at - 1) window (omega (arith, size)) in
+      subst (λ (n : ℕ). IsFound (take n w) b) whole_len (record {
+        begins = begins;
+        less = omega (arith, few, whole);
+        cut = cut_there ∙ (λ j. take (length text - (sym few j + 1)) text ++ 45 ∷ sym same j);
+        next = λ h. next_there h ∙ ap pieces (sym same);
+        singleton = ap (λ t. first_piece (pieces t)) same ∙ singleton_there
+            ∙ ap (λ t. get_or t 0 0 ∷ []) (sym e);
+        some = omega (arith, few);
+      })

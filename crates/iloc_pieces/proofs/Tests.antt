@@ -8,7 +8,7 @@ use Rattle.iloc_spec_grammar.specs.Syntax.{Text, Language, Script, Region, Varia
 use Rattle.iloc_spec_grammar.specs.Syntax.{TransformKey, Attribute, PrivateSubtag, SubdivisionSuffix}
 use Rattle.iloc_spec_grammar.specs.Syntax.{CurrencyType, is_word, languages}
 use Rattle.iloc_pieces.specs.Shape.{shape_of}
-use Rattle.iloc_pieces.proofs.Shapes.{told, spell}
+use Rattle.iloc_pieces.proofs.Shapes.{by_shape, spell}
 
 language_many : (s : ℕ) → 512 ≤ s →
     (nat_eq s 4 || (nat_eq s 8 || (nat_eq s 32 || (nat_eq s 64 || (nat_eq s 128 || nat_eq s 256))))) ≡ false
@@ -21,7 +21,7 @@ pub language_is : (p : Text) →
     || (nat_eq (shape_of p) 32
     || (nat_eq (shape_of p) 64 || (nat_eq (shape_of p) 128 || nat_eq (shape_of p) 256)))))
 unfolding is_word spell languages
-language_is p = told (Language languages)
+language_is p = by_shape (Language languages)
     (λ s. nat_eq s 4 || (nat_eq s 8 || (nat_eq s 32 || (nat_eq s 64 || (nat_eq s 128 || nat_eq s 256)))))
     (λ n h. grind (arith, nat_tests)) refl language_many p
 
@@ -30,14 +30,14 @@ script_many s more = grind (arith, nat_tests)
 
 pub script_is : (p : Text) → is_word Script p ≡ (nat_eq (shape_of p) 16)
 unfolding is_word spell
-script_is p = told Script (λ s. nat_eq s 16) tt refl script_many p
+script_is p = by_shape Script (λ s. nat_eq s 16) tt refl script_many p
 
 region_many : (s : ℕ) → 512 ≤ s → (nat_eq s 4 || nat_eq s 15) ≡ false
 region_many s more = grind (arith, nat_tests)
 
 pub region_is : (p : Text) → is_word Region p ≡ (nat_eq (shape_of p) 4 || nat_eq (shape_of p) 15)
 unfolding is_word spell
-region_is p = told Region (λ s. nat_eq s 4 || nat_eq s 15) tt refl region_many p
+region_is p = by_shape Region (λ s. nat_eq s 4 || nat_eq s 15) tt refl region_many p
 
 variant_many : (s : ℕ) → 512 ≤ s →
     (cond (nat_lt s 32) (nat_lt 16 s && nat_eq (bit_and s 1) 1) (nat_lt s 512)) ≡ false
@@ -48,7 +48,8 @@ pub variant_is : (p : Text) →
     ≡ (cond (nat_lt (shape_of p) 32) (nat_lt 16 (shape_of p) && nat_eq (bit_and (shape_of p) 1) 1)
     (nat_lt (shape_of p) 512))
 unfolding is_word spell
-variant_is p = told Variant (λ s. cond (nat_lt s 32) (nat_lt 16 s && nat_eq (bit_and s 1) 1) (nat_lt s 512))
+variant_is p = by_shape Variant
+    (λ s. cond (nat_lt s 32) (nat_lt 16 s && nat_eq (bit_and s 1) 1) (nat_lt s 512))
     tt refl variant_many p
 
 key_many : (s : ℕ) → 512 ≤ s → (nat_eq (bit_or s 1) 5) ≡ false
@@ -56,46 +57,46 @@ key_many s more = let l = le_or_l s 1 in grind (arith, nat_tests)
 
 pub key_is : (p : Text) → is_word UnicodeKey p ≡ (nat_eq (bit_or (shape_of p) 1) 5)
 unfolding is_word spell
-key_is p = told UnicodeKey (λ s. nat_eq (bit_or s 1) 5) tt refl key_many p
+key_is p = by_shape UnicodeKey (λ s. nat_eq (bit_or s 1) 5) tt refl key_many p
 
 field_key_many : (s : ℕ) → 512 ≤ s → (nat_eq s 6) ≡ false
 field_key_many s more = grind (arith, nat_tests)
 
 pub field_key_is : (p : Text) → is_word TransformKey p ≡ (nat_eq (shape_of p) 6)
 unfolding is_word spell
-field_key_is p = told TransformKey (λ s. nat_eq s 6) tt refl field_key_many p
+field_key_is p = by_shape TransformKey (λ s. nat_eq s 6) tt refl field_key_many p
 
 attribute_many : (s : ℕ) → 512 ≤ s → (nat_le 8 s && nat_lt s 512) ≡ false
 attribute_many s more = grind (arith, nat_tests)
 
 pub attribute_is : (p : Text) → is_word Attribute p ≡ (nat_le 8 (shape_of p) && nat_lt (shape_of p) 512)
 unfolding is_word spell
-attribute_is p = told Attribute (λ s. nat_le 8 s && nat_lt s 512) tt refl attribute_many p
+attribute_is p = by_shape Attribute (λ s. nat_le 8 s && nat_lt s 512) tt refl attribute_many p
 
 subtag_many : (s : ℕ) → 512 ≤ s → (nat_le 4 s && nat_lt s 512) ≡ false
 subtag_many s more = grind (arith, nat_tests)
 
 pub subtag_is : (p : Text) → is_word Subtag p ≡ (nat_le 4 (shape_of p) && nat_lt (shape_of p) 512)
 unfolding is_word spell
-subtag_is p = told Subtag (λ s. nat_le 4 s && nat_lt s 512) tt refl subtag_many p
+subtag_is p = by_shape Subtag (λ s. nat_le 4 s && nat_lt s 512) tt refl subtag_many p
 
 private_many : (s : ℕ) → 512 ≤ s → (nat_le 2 s && nat_lt s 512) ≡ false
 private_many s more = grind (arith, nat_tests)
 
 pub private_is : (p : Text) → is_word PrivateSubtag p ≡ (nat_le 2 (shape_of p) && nat_lt (shape_of p) 512)
 unfolding is_word spell
-private_is p = told PrivateSubtag (λ s. nat_le 2 s && nat_lt s 512) tt refl private_many p
+private_is p = by_shape PrivateSubtag (λ s. nat_le 2 s && nat_lt s 512) tt refl private_many p
 
 suffix_many : (s : ℕ) → 512 ≤ s → (nat_le 2 s && nat_lt s 32) ≡ false
 suffix_many s more = grind (arith, nat_tests)
 
 pub suffix_is : (p : Text) → is_word SubdivisionSuffix p ≡ (nat_le 2 (shape_of p) && nat_lt (shape_of p) 32)
 unfolding is_word spell
-suffix_is p = told SubdivisionSuffix (λ s. nat_le 2 s && nat_lt s 32) tt refl suffix_many p
+suffix_is p = by_shape SubdivisionSuffix (λ s. nat_le 2 s && nat_lt s 32) tt refl suffix_many p
 
 currency_many : (s : ℕ) → 512 ≤ s → (nat_eq s 8) ≡ false
 currency_many s more = grind (arith, nat_tests)
 
 pub currency_is : (p : Text) → is_word CurrencyType p ≡ (nat_eq (shape_of p) 8)
 unfolding is_word spell
-currency_is p = told CurrencyType (λ s. nat_eq s 8) tt refl currency_many p
+currency_is p = by_shape CurrencyType (λ s. nat_eq s 8) tt refl currency_many p

@@ -5,14 +5,15 @@ use Rattle.iloc_spec_grammar.specs.Syntax.{Text, pieces, first_piece, Attribute,
 use Rattle.iloc_spec_grammar.specs.Syntax.{lower}
 use Rattle.iloc_spec_grammar.specs.Meaning.{normal_values}
 use Rattle.iloc_spec_grammar.specs.Reading.{rest_of}
-use Rattle.iloc_pieces.specs.Front.{IsFirst, rest_of_block}
-use Rattle.iloc_pieces.specs.declared.front.Block.{Block}
+use Rattle.iloc_pieces.specs.Front.{IsFirst}
+use Rattle.iloc_pieces.specs.Window.{text_in}
+use Rattle.iloc_pieces.specs.declared.window.Window.{Window}
 use Rattle.iloc_pieces.specs.declared.keyword.Keyword.{Keyword}
 use Rattle.iloc_pieces.specs.declared.keyword.Keyword.TheVariants as keyword
 
 -- the pieces that follow the singleton
-abbrev pub after_singleton : Block → List Text
-after_singleton b = rest_of (pieces (rest_of_block b))
+abbrev pub after_singleton : Window → List Text
+after_singleton b = rest_of (pieces (text_in b))
 
 -- the first piece has n bytes, and is an attribute or a piece of a value
 pub record IsFirstAttribute (w : Text) (len n : ℕ) : Type 0 where

@@ -1,5 +1,6 @@
 pub mod Words
 pub mod Run
+pub mod Window
 pub mod Front
 pub mod Keyword
 pub mod Walk

@@ -1,4 +1,4 @@
--- The numbers of words, by which their order is told.
+-- The numbers of words, that give their order.
 use Rattle.std.specs.Prelude.{◌≡◌, ℕ, zero, suc, ◌+◌, ◌*◌, ◌^◌, ◌<◌, ◌≤◌, true, [], ◌∷◌, get_or, length}
 use Rattle.iloc_spec_grammar.specs.Syntax.{Text, letters_or_digits, lower}
 

@@ -1,7 +1,7 @@
 //! Tells what keyword follows the singleton of a block.
 ghost use Rattle.std.specs.Prelude.{
   ◌≡◌,
-  ◌+◌,
+  ◌-◌,
   ◌≤◌,
   [],
   ◌∷◌,
@@ -21,12 +21,13 @@ ghost use Rattle.iloc_spec_grammar.specs.Syntax.{
   pieces,
 };
 ghost use Rattle.iloc_spec_grammar.specs.Meaning.{normal_values};
-ghost use Rattle.iloc_pieces.specs.Front.{rest_of_block};
+ghost use Rattle.iloc_pieces.specs.Window.{text_in};
 ghost use Rattle.iloc_pieces.specs.Keyword.{IsFirstAttribute, IsKeywordOf, after_singleton};
 ghost use Rattle.iloc_pieces.specs.Run.{IsRunOf};
 
-use crate::front::{Block, first_len};
+use crate::front::first_len;
 use crate::run::{alphanumerics_after_key, first_alphanumerics};
+use crate::window::Window;
 use crate::words::{is_attribute, is_true, number_of_two};
 
 /// What follows a singleton.
@@ -51,69 +52,70 @@ const SUBDIVISION: usize = 29_540;
 
 /// What follows the singleton of the block.
 #[inline(always)]
-pub fn read_keyword(block: Block<'_>) -> Keyword
-    requires room { block.len + 16 ≤ length block.window.now }
-    requires singleton { first_piece (pieces (rest_of_block block))
-        ≡ get_or block.window.now 0 0 ∷ [] }
+pub fn read_keyword(block: Window<'_>) -> Keyword
+    requires { first_piece (pieces (text_in block)) ≡ get_or block.bytes.now 0 0 ∷ [] }
     ensures { IsKeywordOf (after_singleton block.entry) result }
 {
-    if block.len < 2 {
+    if block.len() < 2 {
         return Keyword::Other;
     }
-    keyword_of(&block.window[2..], block.len - 2)
+    keyword_of(Window {
+        bytes: &block.bytes[2..],
+    })
 }
 
-// What the first `len` bytes are.
+// What the text is.
 #[inline(always)]
-fn keyword_of(window: &[u8], len: usize) -> Keyword
-    requires { len + 16 ≤ length window.now }
-    ensures { IsKeywordOf (pieces (take len window.now)) result }
+fn keyword_of(text: Window<'_>) -> Keyword
+    ensures { IsKeywordOf (pieces (text_in text.entry)) result }
 {
-    let run = first_alphanumerics(window);
-    if run == 2 && len > 2 && window[2] == b'-' {
-        return keyword_with_values(window, len);
+    let len = text.len();
+    let run = first_alphanumerics(text.bytes);
+    if run == 2 && len > 2 && text.bytes[2] == b'-' {
+        return keyword_with_values(text);
     }
-    if first_attribute(window, len, run).is_some() {
+    if first_attribute(text, run).is_some() {
         return Keyword::Attribute;
     }
-    if len == 2 && run >= 2 && window[1] > b'9' {
+    if len == 2 && run >= 2 && text.bytes[1] > b'9' {
         return Keyword::Single;
     }
     Keyword::Other
 }
 
-// What the first `len` bytes are if two letters or digits come first, and then a hyphen. They are a key if the second is
-// no digit.
+// What the text is if two letters or digits come first, and then a hyphen. They are a key if the second is no digit.
 #[inline(always)]
-fn keyword_with_values(window: &[u8], len: usize) -> Keyword
-    requires room { len + 16 ≤ length window.now }
-    requires more { 3 ≤ len }
-    requires first { is_ascii_alphanumeric (get_or window.now 0 0) ≡ true }
-    requires second { is_ascii_alphanumeric (get_or window.now 1 0) ≡ true }
-    requires hyphen { get_or window.now 2 0 ≡ 45 }
-    ensures { IsKeywordOf (pieces (take len window.now)) result }
+fn keyword_with_values(text: Window<'_>) -> Keyword
+    requires more { 19 ≤ length text.bytes.now }
+    requires first { is_ascii_alphanumeric (get_or text.bytes.now 0 0) ≡ true }
+    requires second { is_ascii_alphanumeric (get_or text.bytes.now 1 0) ≡ true }
+    requires hyphen { get_or text.bytes.now 2 0 ≡ 45 }
+    ensures { IsKeywordOf (pieces (text_in text.entry)) result }
 {
-    if window[1] <= b'9' {
+    if text.bytes[1] <= b'9' {
         return Keyword::Other;
     }
-    let value = &window[3..];
-    let left = len - 3;
-    let Some(n) = first_attribute(value, left, alphanumerics_after_key(window)) else {
+    let value = Window {
+        bytes: &text.bytes[3..],
+    };
+    let Some(n) = first_attribute(value, alphanumerics_after_key(text.bytes)) else {
         return Keyword::Misfit;
     };
-    if n == left {
-        if number_of_two(window) == SUBDIVISION {
+    if n == value.len() {
+        if number_of_two(text.bytes) == SUBDIVISION {
             return Keyword::Subdivision;
         }
         return Keyword::Single;
     }
-    let Some(words) = count_words(&value[n + 1..], left - n - 1) else {
+    let Some(words) = count_words(Window {
+        bytes: &value.bytes[n + 1..],
+    }) else {
         return Keyword::Misfit;
     };
-    if words > 1 || words == 1 && !is_true(value, n) {
+    if words > 1 || words == 1 && !is_true(value.bytes, n) {
         return Keyword::Many;
     }
-    if number_of_two(window) == SUBDIVISION {
+    if number_of_two(text.bytes) == SUBDIVISION {
         return Keyword::Other;
     }
     Keyword::Single
@@ -122,15 +124,15 @@ fn keyword_with_values(window: &[u8], len: usize) -> Keyword
 // The length of the first piece, if it is an attribute or a piece of a value. Of thirteen bytes, so many letters and
 // digits come first.
 #[inline(always)]
-fn first_attribute(window: &[u8], len: usize, run: usize) -> Option<usize>
-    requires room { len + 16 ≤ length window.now }
-    requires run { IsRunOf 13 is_ascii_alphanumeric window.now run }
+fn first_attribute(text: Window<'_>, run: usize) -> Option<usize>
+    requires { IsRunOf 13 is_ascii_alphanumeric text.bytes.now run }
     ensures { MatchOption result
-        (is_word Attribute (first_piece (pieces (take len window.now))) ≡ false)
-        (IsFirstAttribute window.now len) }
+        (is_word Attribute (first_piece (pieces (text_in text.entry))) ≡ false)
+        (IsFirstAttribute text.entry.bytes.now (length text.entry.bytes.now - 16)) }
 {
+    let len = text.len();
     if run < len {
-        if run < 3 || run > 8 || window[run] != b'-' {
+        if run < 3 || run > 8 || text.bytes[run] != b'-' {
             return None;
         }
         return Some(run);
@@ -143,27 +145,26 @@ fn first_attribute(window: &[u8], len: usize, run: usize) -> Option<usize>
 
 // How many of the pieces are not `true`, if all are of a value.
 #[inline(always)]
-fn count_words(window: &[u8], len: usize) -> Option<usize>
-    requires { len + 16 ≤ length window.now }
+fn count_words(text: Window<'_>) -> Option<usize>
     ensures { MatchOption result
-        (list_all (is_word Attribute) (pieces (take len window.now)) ≡ false)
-        (λ words. (list_all (is_word Attribute) (pieces (take len window.now)) ≡ true)
-        × (words ≡ length (normal_values (pieces (take len window.now))))) }
+        (list_all (is_word Attribute) (pieces (text_in text.entry)) ≡ false)
+        (λ words. (list_all (is_word Attribute) (pieces (text_in text.entry)) ≡ true)
+        × (words ≡ length (normal_values (pieces (text_in text.entry))))) }
 {
-    let mut rest = window;
-    let mut left = len;
+    let mut rest = text;
     let mut words: usize = 0;
-    let mut n = first_len(rest, left);
-    'values: while is_attribute(rest, n) {
-        if !is_true(rest, n) {
+    let mut n = first_len(rest.bytes, rest.len());
+    'values: while is_attribute(rest.bytes, n) {
+        if !is_true(rest.bytes, n) {
             words += 1;
         }
-        if n == left {
+        if n == rest.len() {
             return Some(words);
         }
-        rest = &rest[n + 1..];
-        left = left - n - 1;
-        n = first_len(rest, left);
+        rest = Window {
+            bytes: &rest.bytes[n + 1..],
+        };
+        n = first_len(rest.bytes, rest.len());
     }
     None
 }

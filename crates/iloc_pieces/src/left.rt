@@ -24,7 +24,7 @@ pub fn left_in(window: &[u8], len: usize) -> Left<'_>
     look(window, 0, len, marks_at(window, 0, len))
 }
 
-// The piece at `at`, whose end the marks tell, if any end is marked.
+// The piece at `at`, whose end the marks show, if any end is marked.
 #[inline(always)]
 fn look(window: &[u8], at: usize, len: usize, marks: Marks) -> Left<'_>
     requires inside { at + len ≤ length window.now }

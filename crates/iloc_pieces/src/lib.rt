@@ -41,12 +41,14 @@ mod read;
 mod run;
 pub mod shape;
 mod tail;
+pub mod window;
 pub mod words;
 
-pub use front::{Block, begins_with_language, find_block, may_begin};
+pub use front::{begins_with_language, find_block, may_begin};
 pub use keyword::{Keyword, read_keyword};
 pub use load::first_in_lower_case;
 pub use marked::{before_marked, is_language_length};
 pub use normal::{PlainText, are_same, normal_plain};
 pub use plain::Plain;
 pub use read::{read_lanes, read_plain, read_plain_text};
+pub use window::Window;

@@ -1,4 +1,4 @@
--- The first LF, told by masks of some bytes.
+-- The first LF, by masks of some bytes.
 use Rattle.std.proofs.Common.{◌≡◌, ◌≢◌, suc, ◌++◌, ◌∷◌, None, ℕ, ◌^◌, ◌<◌, ◌≤◌, Bool, true, false, not}
 use Rattle.std.proofs.Common.{length, map, get_or, take, drop, ◌+◌, ◌-◌, sym, ap, ◌∙◌, subst, arith}
 use Rattle.std.proofs.Common.{inl, inr, Some}
@@ -100,7 +100,7 @@ later_passes p hay part at k none long same f = (
   ap p (sym (same k f.0.high)) ∙ f.1,
 )
 
--- the first LF, told by a mask of the n bytes that follow, where none comes before
+-- the first LF, by a mask of the n bytes that follow, where none comes before
 pub later_end : (at n : ℕ) (hay : Text) → at + n ≤ length hay → n ≤ 64 → 2 ^ n ≤ 2 ^ 64 →
     Nowhere (Passes (is_byte 10) hay) 0 at
     → (m : ℕ) → m ≡ mask_l (map (is_byte 10) (take n (drop at hay))) → 0 < m →

@@ -1,7 +1,6 @@
 -- How a run stands after each of its steps.
-use Rattle.std.proofs.Common.{◌≡◌, ℕ, ◌+◌, List, [], ◌++◌, take, drop, length, Option, Some, None, refl, sym}
+use Rattle.std.proofs.Common.{◌≡◌, ℕ, ◌+◌, List, [], ◌++◌, take, drop, length, Option, refl, sym}
 use Rattle.std.proofs.Common.{ap, ◌∙◌, subst, arith, append_assoc, append-nil, length-append}
-use Rattle.std.specs.Prelude.{IfSome}
 use Rattle.std.specs.List.{AllByRecursion}
 use Rattle.std.proofs.lemmas.List.{take-append-drop}
 use Rattle.std.proofs.Math.Seq.{take-append_seam}
@@ -9,7 +8,8 @@ use Rattle.std.specs.Io.{StartsWith}
 use Rattle.std.specs.Io.KnownBytes.{Appends, Consumes, IsAtEnd, Keeps}
 use Rattle.iloc_writeable.specs.GrowthLaws.{appends_nothing, appends_both}
 use Rattle.iloc_program.specs.Lines.{lines_of, ended, IsOneLine}
-use Rattle.iloc_program.proofs.KnownLemmas.{Consumes-kept, Consumes-nothing, Consumes-then}
+use Rattle.iloc_program.proofs.KnownLemmas.{Consumes-kept, Consumes-nothing, Consumes-then, IfSome-all}
+use Rattle.iloc_program.proofs.KnownLemmas.{at_end}
 use Rattle.iloc_program.specs.Numbered.{AreEntries, IsListing, BeginsListing, ListsAll, ListsBeginning}
 use Rattle.iloc_program.specs.Feeding.{Feeds, Ends}
 use Rattle.iloc_program.proofs.LineEntries.{AreEntries-append, lines_of-ended, ended-append}
@@ -46,14 +46,6 @@ StartsWith-behind before whole part h =
     let joined : before ++ whole ≡ (before ++ part) ++ drop (length part) whole =
     ap (λ (t : Text). before ++ t) split ∙ sym (append_assoc before part (drop (length part) whole)) in
     rw joined (take-append_seam (before ++ part) (drop (length part) whole))
-
-IfSome-all : (u : Option Text) (P : Text → Type 0) → ((left : Text) → P left) → IfSome u P
-IfSome-all None P f = tt
-IfSome-all (Some left) P f = f left
-
-at_end : (u : Option Text) (P : Text → Type 0) → IsAtEnd u → P [] → IfSome u P
-at_end None P e p = tt
-at_end (Some left) P e p = subst P (sym e) p
 
 module _ (IsEntry : ℕ → Text → Text → Type 0) (n : ℕ) where
   Done-read : (read entries pending piece : Text) (next : ℕ) → Done IsEntry n read entries pending next →

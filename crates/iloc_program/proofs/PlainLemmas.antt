@@ -1,5 +1,6 @@
--- The answers to texts that are told at once.
-use Rattle.std.proofs.Common.{◌≡◌, inl, inr, [], ◌∷◌, ◌++◌, refl, ap}
+-- The answers to texts that are plain, normal or refused.
+use Rattle.std.proofs.Common.{◌≡◌, inl, inr, [], ◌∷◌, ◌++◌, Some, refl, ap, subst}
+use Rattle.std.specs.Prelude.{IfSome}
 use Rattle.iloc_spec_grammar.specs.Syntax.{Text, languages}
 use Rattle.iloc_spec_grammar.specs.Meaning as faults
 use Rattle.iloc_spec_grammar.proofs.RawLaws.{languages_table}
@@ -9,8 +10,11 @@ use Rattle.iloc_subtags.specs.declared.parse_error.ParseError.TheVariants.{Inval
 use Rattle.iloc_subtags.specs.declared.parse_error.ParseError.TheVariants.{DuplicatedExtension, OutOfMemory}
 use Rattle.iloc_program.specs.Answers.{line_answer, reply, refusal_text}
 use Rattle.iloc_normalize.specs.Modes.{IsNormalText}
-use Rattle.iloc_normalize.specs.Answered.{HasRefusal}
+use Rattle.iloc_normalize.specs.Answered.{HasRefusal, refusal_of}
 use Rattle.iloc_normalize.specs.declared.Mode.{Mode}
+use Rattle.iloc_normalize.specs.declared.writing.Written.{Written}
+use Rattle.iloc_normalize.specs.declared.writing.Written.TheVariants as written
+use Rattle.iloc_program.specs.Replies.{IsReplied}
 use Rattle.iloc_program.proofs.OutputLaws.{only_answer}
 
 pub normal_reply : (mode : Mode) (t normal : Text) → IsNormalText languages mode t normal →
@@ -32,3 +36,17 @@ refused_answer mode t OutOfMemory h = absurd h
 pub refused_reply : (mode : Mode) (t : Text) (e : ParseError) → HasRefusal mode t e →
     refusal_text e ++ 10 ∷ [] ≡ reply languages mode t
 refused_reply mode t e h = ap (λ l. l ++ 10 ∷ []) (refused_answer mode t e h)
+
+-- what was written of a refused line names its refusal, and no reply is there yet
+pub replied_refusal : (mode : Mode) (t old new : Text) (w : Written) (e : ParseError) →
+    IsReplied mode t old new w → refusal_of w ≡ Some e → HasRefusal mode t e × (new ≡ old)
+replied_refusal mode t old new (written.Normal n) e is none = absurd (cc)
+replied_refusal mode t old new written.Nothing e is none = absurd (cc)
+replied_refusal mode t old new written.InvalidLanguage e is same =
+    (subst (λ o. IfSome o (HasRefusal mode t)) same is.0, is.1)
+replied_refusal mode t old new written.InvalidSubtag e is same =
+    (subst (λ o. IfSome o (HasRefusal mode t)) same is.0, is.1)
+replied_refusal mode t old new written.InvalidExtension e is same =
+    (subst (λ o. IfSome o (HasRefusal mode t)) same is.0, is.1)
+replied_refusal mode t old new written.DuplicatedExtension e is same =
+    (subst (λ o. IfSome o (HasRefusal mode t)) same is.0, is.1)

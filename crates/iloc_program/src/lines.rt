@@ -6,6 +6,7 @@ ghost use Rattle.iloc_program.specs.ReplyBlock.{held};
 ghost use Rattle.iloc_normalize.specs.Answered.{IsLead};
 ghost use Rattle.iloc_program.specs.Lines.{IsLineEnd, IsOneLine};
 ghost use Rattle.iloc_pieces.specs.Plain.{IsPlain};
+ghost use Rattle.iloc_pieces.specs.Window.{text_in};
 ghost use Rattle.std.specs.Simd.Lanes.{mask_l};
 ghost use Rattle.iloc_spec_grammar.specs.Syntax.{Text, languages};
 ghost use Rattle.iloc_program.specs.Answers.{reply, output};
@@ -16,7 +17,7 @@ use crate::modes::InMode;
 use crate::replies::write_refusal;
 use crate::reply_block::ReplyBlock;
 use iloc_normalize::{Lead, Mode, Written, read_found, read_lead};
-use iloc_pieces::{Plain, may_begin, read_plain};
+use iloc_pieces::{Plain, Window, may_begin, read_plain};
 use iloc_spans::spans::Spans;
 use iloc_subtags::ParseError;
 use memchr::memchr_iter;
@@ -108,95 +109,86 @@ pub(crate) fn split_line(bytes: &[u8]) -> Option<(&[u8], &[u8])>
     Some((&bytes[..end], &bytes[end + 1..]))
 }
 
-// What the line is that this window begins with, if it is plain. Sixteen bytes behind it may be loaded.
+// What the line is, if it is plain.
 #[inline(always)]
-fn plain_line(window: &[u8], len: usize) -> Option<Plain>
-    requires { len + 16 ≤ length window.now }
-    ensures { IfSome result (IsPlain (take len window.now)) }
+fn plain_line(line: Window<'_>) -> Option<Plain>
+    ensures { IfSome result (IsPlain (text_in line.entry)) }
 {
-    if len > 16 {
+    if line.len() > 16 {
         return None;
     }
-    read_plain(window, len)
+    read_plain(line.bytes, line.len())
 }
 
-// What the beginning of the line tells that this window begins with. It is generic, so that each mode has its own and only
-// what that asks is left of it. Sixteen bytes behind the line may be loaded.
+// What the beginning of the line shows. It is generic, so that each mode has its own and only what that asks is left of it.
 #[inline(always)]
-fn lead_of<A: InMode>(answers: &A, window: &[u8], len: usize) -> Lead
-    requires { len + 16 ≤ length window.now }
-    ensures { IsLead A.mode (take len window.now) result }
+fn lead_of<A: InMode>(answers: &A, line: Window<'_>) -> Lead
+    ensures { IsLead A.mode (text_in line.entry) result }
 {
     let mode = answers.mode();
-    match read_found(mode, window, len) {
+    match read_found(mode, line) {
         Some(lead) => lead,
-        None => read_lead(mode, window, len),
+        None => read_lead(mode, line),
     }
 }
 
-// Adds the reply to the line that this window begins with, of which the beginning tells this. Sixteen bytes behind the line
-// may be loaded. The spans are room for the outline of a line. Nothing is written only if memory is refused.
+// Adds the reply to the line, of which the beginning shows this. The spans are room for the outline of a line. Nothing is
+// written only if memory is refused.
 #[inline(always)]
 fn reply_as(
     mode: Mode,
     lead: Lead,
-    window: &[u8],
-    len: usize,
+    line: Window<'_>,
     spans: &mut Spans,
     replies: &mut ReplyBlock,
 ) -> Result<(), AllocError>
-    requires wide { len + 16 ≤ length window.now }
-    requires lead { IsLead mode (take len window.now) lead }
+    requires { IsLead mode (text_in line) lead }
     ensures { OnOk result (held replies.new
-        ≡ held replies.old ++ reply languages mode (take len window.now)) }
+        ≡ held replies.old ++ reply languages mode (text_in line.entry)) }
 {
     if let Lead::Refused(error) = lead {
         return write_refusal(error, replies);
     }
-    match replies.push_answered(mode, lead, window, len, spans)? {
+    match replies.push_answered(mode, lead, line, spans)? {
         Written::Normal(_) => Ok(()),
-        Written::Refused(error) => write_refusal(error, replies),
-        Written::Nothing => Err(AllocError),
+        written => match written.refusal() {
+            Some(error) => write_refusal(error, replies),
+            None => Err(AllocError),
+        }
     }
 }
 
-// Adds the reply to the line that this window begins with. Sixteen bytes behind the line may be loaded. It is called from one
-// place only, since `lead_of` is too large to be inlined in two.
+// Adds the reply to the line. It is called from one place only, since `lead_of` is too large to be inlined in two.
 #[inline(always)]
 fn reply_to<A: InMode>(
     answers: &A,
-    window: &[u8],
-    len: usize,
+    line: Window<'_>,
     spans: &mut Spans,
     replies: &mut ReplyBlock,
 ) -> Result<(), AllocError>
-    requires { len + 16 ≤ length window.now }
     ensures { OnOk result (held replies.new
-        ≡ held replies.old ++ reply languages A.mode (take len window.now)) }
+        ≡ held replies.old ++ reply languages A.mode (text_in line.entry)) }
 {
-    let lead = lead_of(answers, window, len);
-    reply_as(answers.mode(), lead, window, len, spans, replies)
+    let lead = lead_of(answers, line);
+    reply_as(answers.mode(), lead, line, spans, replies)
 }
 
-// Adds the reply to the line that this window begins with, in a mode that is only known when it runs. So the call is one for
-// all modes. Sixteen bytes behind the line may be loaded.
+// Adds the reply to the line, in a mode that is only known when it runs. So the call is one for all modes.
 #[inline(always)]
 fn reply_in(
     mode: Mode,
-    window: &[u8],
-    len: usize,
+    line: Window<'_>,
     spans: &mut Spans,
     replies: &mut ReplyBlock,
 ) -> Result<(), AllocError>
-    requires { len + 16 ≤ length window.now }
     ensures { OnOk result (held replies.new
-        ≡ held replies.old ++ reply languages mode (take len window.now)) }
+        ≡ held replies.old ++ reply languages mode (text_in line.entry)) }
 {
-    match plain_line(window, len) {
+    match plain_line(line) {
         Some(plain) => replies.push_plain(&plain),
         None => {
-            let lead = read_lead(mode, window, len);
-            reply_as(mode, lead, window, len, spans, replies)
+            let lead = read_lead(mode, line);
+            reply_as(mode, lead, line, spans, replies)
         }
     }
 }
@@ -213,9 +205,11 @@ fn end_pending(
         (held replies.new ≡ held replies.old ++ reply languages mode pending.old.items) }
     ensures pending { OnOk result (pending.new.items ≡ []) }
 {
-    let len = pending.len();
     pending.extend_from_slice(&[0; 16])?;
-    reply_in(mode, pending.as_slice(), len, spans, replies)?;
+    let line = Window {
+        bytes: pending.as_slice(),
+    };
+    reply_in(mode, line, spans, replies)?;
     pending.clear();
     Ok(())
 }
@@ -237,6 +231,26 @@ pub fn reply_line(
     room.clear();
     room.extend_from_slice(line)?;
     end_pending(mode, room, spans, replies)
+}
+
+// Adds the reply to a line behind which sixteen bytes stand.
+#[inline(always)]
+fn reply_whole<A: InMode>(
+    answers: &A,
+    line: Window<'_>,
+    spans: &mut Spans,
+    replies: &mut ReplyBlock,
+) -> Result<(), AllocError>
+    ensures { OnOk result (held replies.new
+        ≡ held replies.old ++ reply languages A.mode (text_in line.entry)) }
+{
+    if !may_begin(line) {
+        return write_refusal(ParseError::InvalidLanguage, replies);
+    }
+    if let Some(plain) = plain_line(line) {
+        return replies.push_plain(&plain);
+    }
+    reply_to(answers, line, spans, replies)
 }
 
 // Adds the replies to the lines that these bytes end, if nothing is pending, and keeps the start of
@@ -263,12 +277,11 @@ fn feed_lines<A: InMode>(
                 break 'lines;
             }
             reply_line(answers.mode(), line, pending, spans, replies)?;
-        } else if !may_begin(rest, end) {
-            write_refusal(ParseError::InvalidLanguage, replies)?;
-        } else if let Some(plain) = plain_line(rest, end) {
-            replies.push_plain(&plain)?;
         } else {
-            reply_to(answers, rest, end, spans, replies)?;
+            let line = Window {
+                bytes: &rest[..end + 16],
+            };
+            reply_whole(answers, line, spans, replies)?;
         }
         rest = &later[1..];
     }

@@ -2,7 +2,7 @@
 ghost use Rattle.std.specs.Prelude.{◌≡◌, ◌+◌, ◌≤◌, [], ◌∷◌, ◌++◌, length, take, vec_len, IfOk, OnOk, OnErr};
 
 use iloc_normalize::{Lead, Mode, Written, write_normal};
-use iloc_pieces::Plain;
+use iloc_pieces::{Plain, Window};
 use iloc_spans::spans::Spans;
 use std::alloc::{AllocError, Global};
 use std::cmp::max;
@@ -25,6 +25,7 @@ impl ReplyBlock {
     ghost use Rattle.iloc_normalize.specs.Answered.{IsLead};
     ghost use Rattle.iloc_spec_grammar.specs.Values.{identifier_text};
     ghost use Rattle.iloc_pieces.specs.Plain.{AreWords, value_of};
+    ghost use Rattle.iloc_pieces.specs.Window.{text_in};
 
     /// No bytes. It allocates nothing.
     pub fn new(alloc: Global) -> Self
@@ -84,25 +85,23 @@ impl ReplyBlock {
         Ok(())
     }
 
-    /// Adds the normal text of the first `len` bytes, of which their beginning tells this, and a newline; or nothing.
+    /// Adds the normal text of a text, of which the beginning shows this, and a newline; or nothing.
     #[inline(always)]
     pub(crate) fn push_answered(
         &mut self,
         mode: Mode,
         lead: Lead,
-        window: &[u8],
-        len: usize,
+        text: Window<'_>,
         spans: &mut Spans,
     ) -> Result<Written, AllocError>
-        requires wide { len + 16 ≤ length window.now }
-        requires lead { IsLead mode (take len window.now) lead }
+        requires { IsLead mode (text_in text) lead }
         ensures { IfOk result
-            (IsReplied mode (take len window.now) (held self.old) (held self.new)) }
+            (IsReplied mode (text_in text.entry) (held self.old) (held self.new)) }
     {
-        self.make_room(len + 17)?;
+        self.make_room(text.bytes.len() + 1)?;
         let start = self.len;
         let to = &mut self.room.as_mut_slice()[start..];
-        let written = write_normal(mode, lead, window, len, spans, to);
+        let written = write_normal(mode, lead, text, spans, to);
         if let Written::Normal(count) = written {
             self.len = start + count;
             self.put(b"\n", 1);

@@ -9,8 +9,7 @@ ghost use Rattle.iloc_shortvec.specs.Left.{words_left};
 ghost use Rattle.iloc_shortvec.specs.ShortList.{only_of};
 
 use crate::few::{Count, Few};
-use crate::items::Nothing;
-use crate::slices;
+use crate::items::{Nothing, only};
 use std::alloc::{AllocError, Global};
 use std::vec;
 
@@ -25,9 +24,9 @@ fn copies<T: Copy>(alloc: Global, items: &[T], capacity: usize) -> Result<Vec<T>
 
 /// No items, one to four in place, or a `Vec`.
 pub(crate) enum Kept<T: Copy> {
-    Empty(Nothing<T>),
     Inline(Count, Few<T>),
     Heap(Vec<T>),
+    Empty(Nothing<T>),
 }
 
 /// What an iterator over the items has left.
@@ -68,7 +67,7 @@ impl<T: Copy> Kept<T> {
         ensures { option_copied result ≡ only_of (items_of self.now) }
     {
         match self {
-            Kept::Inline(count, items) => slices::only(items.as_slice(*count)),
+            Kept::Inline(count, items) => only(items.as_slice(*count)),
             Kept::Empty(_) | Kept::Heap(_) => None,
         }
     }

@@ -17,7 +17,6 @@ mod items;
 mod kept;
 pub mod short_box_slice;
 pub mod short_words;
-mod slices;
 
 pub use into_iter::ShortBoxSliceIntoIter;
 pub use short_box_slice::ShortBoxSlice;

@@ -1,11 +1,10 @@
 //! A list that keeps up to four items in place.
-ghost use Rattle.std.specs.Prelude.{◌≡◌, ◌==◌, ◌<◌, ◌≤◌, ◌+◌, ◌^◌, List, [], ◌∷◌, ◌++◌, length, IsOk, IfOk, OnOk, OnErr, insert, remove, slice_get, Some};
+ghost use Rattle.std.specs.Prelude.{◌≡◌, ◌==◌, ◌<◌, ◌≤◌, ◌+◌, ◌^◌, List, [], ◌∷◌, ◌++◌, length, IsOk, IfOk, OnOk, OnErr, insert, remove, slice_get, Some, refl};
 ghost use Rattle.std.specs.Borrow.{sem};
 ghost use Rattle.std.specs.Option.{option_copied};
 ghost use Rattle.std.specs.List.Retain.{IsFiltered};
 ghost use Rattle.std.specs.Fn.{CalledAt};
 ghost use Rattle.std.specs.Hash as fed;
-ghost use Rattle.std.specs.Hash.{items_Alike};
 ghost use Rattle.std.specs.Fmt.{debug_list};
 ghost use Rattle.std.specs.Iterator.{IsFinite, Drains, YieldsFirst, item_count};
 ghost use Rattle.std.specs.Iterator.Adapters.{IterYieldsInOrder};
@@ -13,15 +12,13 @@ ghost use Rattle.std.specs.Slice.Iter.{iter_rest};
 ghost use Rattle.std.specs.Ordering.{as_partial_cmp};
 ghost use Rattle.std.specs.Cmp.{partial_order_from_agreeing_total};
 ghost use Rattle.std.specs.Cmp.Lexicographic.{pointwise, lists_per, lists_equiv};
-ghost use Rattle.std.proofs.Common.{refl};
 ghost use Rattle.iloc_shortvec.specs.ShortList.{only_of};
 ghost use Rattle.iloc_spec_grammar.specs.ShortLists.{short_cmp};
 ghost use Rattle.iloc_shortvec.specs.ShortOrder.{short_total, short_ties};
 
 use crate::few::{Count, Few};
-use crate::items::Nothing;
+use crate::items::{Nothing, compare};
 use crate::kept::{Kept, Left, kept_of};
-use crate::slices;
 use std::alloc::{AllocError, Global};
 use std::cmp::Ordering;
 use std::hash::{Hash, Hasher};
@@ -306,7 +303,7 @@ impl<T: Copy + Eq> Eq for ShortWords<T> {
 impl<T: Copy + Hash> Hash for ShortWords<T> {
     ghost hash_input = { fed.slice T.hash_input };
 
-    ghost respects_eq = { (items_Alike (record { fed = T.respects_eq })).fed };
+    ghost respects_eq = { (fed.items_Alike (record { fed = T.respects_eq })).fed };
 
     fn hash<H: Hasher>(&self, state: &mut H) {
         self.as_slice().hash(state);
@@ -324,7 +321,7 @@ impl<T: Copy + Ord> Ord for ShortWords<T> {
     ghost matches_eq = { λ xs ys. short_ties T.cmp T.matches_eq xs ys };
 
     fn cmp(&self, other: &Self) -> Ordering {
-        slices::compare(self.as_slice(), other.as_slice())
+        compare(self.as_slice(), other.as_slice())
     }
 }
 

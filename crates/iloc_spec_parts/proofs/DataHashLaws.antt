@@ -3,7 +3,8 @@ use Rattle.std.proofs.Common.{◌≡◌, ◌↔◌, ℕ, ◌^◌, ◌<◌, ◌�
 use Rattle.std.proofs.Common.{refl, ap, arith, length-append}
 use Rattle.std.specs.Hash.{HashWrites, option}
 use Rattle.iloc_spec_parts.specs.Hashes.{HashesByOrder, word_fed}
-use Rattle.iloc_spec_parts.proofs.HashLaws.{Tells, word_tells, both_tell, option_tells, through, hashes_by}
+use Rattle.iloc_spec_parts.proofs.HashLaws.{Tells, word_few, word_tells, both_tell, option_tells, through}
+use Rattle.iloc_spec_parts.proofs.HashLaws.{hashes_by}
 use Rattle.iloc_spec_parts.specs.Subdivisions.{Subdivision}
 use Rattle.iloc_spec_parts.specs.DataLocales.{DataLocale, DataKey, data_key}
 use Rattle.iloc_spec_parts.specs.DataOrders.{subdivision_cmp}
@@ -33,11 +34,18 @@ optional_few : {X : Type 0} (f : X → HashWrites) (n : ℕ) → ((x : X) → le
 optional_few f n h None = omega arith
 optional_few f n h (Some x) = let l = h x in omega arith
 
+subdivision_few : (s : Subdivision) → length (subdivision_fed s) ≤ 4
+subdivision_few s =
+    let r = word_few s.region in
+    let w = word_few s.suffix in
+    let l = length-append (word_fed s.region) (word_fed s.suffix) in omega arith
+
 key_few : (k : DataKey) → length (data_key_fed k) < 2 ^ 64
 key_few k =
-    let s = optional_few word_fed 2 (λ w. omega arith) k.script in
-    let r = optional_few subdivision_fed 4 (λ t. omega arith) k.region in
-    let v = optional_few word_fed 2 (λ w. omega arith) k.variant in
+    let s = optional_few word_fed 2 word_few k.script in
+    let r = optional_few subdivision_fed 4 subdivision_few k.region in
+    let l = word_few k.language in
+    let v = optional_few word_fed 2 word_few k.variant in
     let a = length-append (word_fed k.language ++ option word_fed k.script ++ option subdivision_fed k.region)
     (option word_fed k.variant) in
     let b =

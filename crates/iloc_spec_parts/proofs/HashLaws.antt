@@ -1,17 +1,24 @@
 -- Values that tie feed a hasher alike, and what is fed tells them apart: each part tells its value, and where
 -- it ends.
-use Rattle.std.proofs.Common.{◌≡◌, ℕ, ◌^◌, ◌<◌, ◌≤◌, List, [], ◌∷◌, ◌++◌, length, refl, sym, ap, ◌∙◌, subst}
-use Rattle.std.proofs.Common.{Option, Some, None, append_assoc, length-append, arith}
+use Rattle.std.proofs.Common.{◌≡◌, ℕ, zero, suc, ◌^◌, ◌<◌, ◌≤◌, ◌-◌, ◌==◌, List, [], ◌∷◌, ◌++◌, length}
+use Rattle.std.proofs.Common.{refl, sym, ap, ◌∙◌, subst, Bool, true, false, replicate}
+use Rattle.std.proofs.Common.{Option, Some, None, append_assoc, length-append, arith, if◌then◌else◌}
+use Rattle.std.specs.Prelude.{nat_le, nat_lt}
+use Rattle.std.specs.List.{list_all}
+use Rattle.std.proofs.lemmas.List.{length-replicate}
+use Rattle.std.proofs.lemmas.Bool.Decides.{nat_tests}
 use Rattle.std.proofs.lemmas.Nat.{from_le_bytes-to_le_bytes_8}
 use mir.Syntax.{w64}
 use Rattle.std.specs.Int.{from_le_bytes}
 use Rattle.std.specs.List.{flat_map}
 use Rattle.std.specs.Hash.{HashWrites, u8, slice, option, le_bytes}
 use Rattle.std.specs.declared.cmp.Ordering.{Ordering}
-use Rattle.iloc_spec_grammar.specs.Syntax.{Block, Text, Identifier, Fields, Unicode, Transform}
+use Rattle.std.proofs.lemmas.Bool.{and_parts}
+use Rattle.iloc_spec_grammar.specs.Syntax.{Block, Text, Identifier, Fields, Unicode, Transform, before_zero}
 use Rattle.iloc_spec_grammar.specs.Meaning.{Extensions}
 use Rattle.iloc_spec_parts.specs.Orders.{IsExactOrder}
-use Rattle.iloc_spec_parts.specs.Hashes.{HashesByOrder, word_fed, words_fed, identifier_fed, fields_fed}
+use Rattle.iloc_spec_parts.specs.Hashes.{HashesByOrder, is_short_text, word_fed, words_fed, identifier_fed}
+use Rattle.iloc_spec_parts.specs.Hashes.{fields_fed}
 use Rattle.iloc_spec_parts.specs.Hashes.{unicode_fed, transform_fed, other_fed, extensions_fed, locale_fed}
 
 -- A value that makes fewer writes than 2 ^ 64 is told by them, whatever follows, and so is what follows
@@ -20,10 +27,61 @@ pub record Tells {X : Type 0} (fed : X → HashWrites) : Type 0 where
   pub told : (x y : X) (us vs : HashWrites) → length (fed x) < 2 ^ 64 → length (fed y) < 2 ^ 64 →
       fed x ++ us ≡ fed y ++ vs → (x ≡ y) × (us ≡ vs)
 
+-- a word
+
+abbrev padded : Text → Text
+padded w = w ++ replicate (8 - length w) 0
+
+abbrev fed_as : Bool → Text → HashWrites
+fed_as b w = if b then padded w ∷ [] else u8 255 ++ (w ∷ [])
+
+padded_long : (w : Text) → is_short_text w ≡ true → length (padded w) ≡ 8
+padded_long w h =
+    let few : length w ≤ 8 = grind (arith, nat_tests) in
+    simp (length-append, length-replicate) (omega arith)
+
+before_zeros : (n : ℕ) → before_zero (replicate n 0) ≡ []
+before_zeros zero = refl
+before_zeros (suc n) = refl
+
+before_padding : (w : Text) (n : ℕ) → list_all (λ b. nat_lt 0 b) w ≡ true →
+    before_zero (w ++ replicate n 0) ≡ w
+before_padding [] n h = before_zeros n
+before_padding (c ∷ w) n h =
+    let parts = and_parts (nat_lt 0 c) (list_all (λ b. nat_lt 0 b) w) h in
+    let other : (c == 0) ≡ false = grind (arith, nat_tests) in
+    rw other (ap (λ l. c ∷ l) (before_padding w n parts.1))
+
+padded_back : (w : Text) → is_short_text w ≡ true → before_zero (padded w) ≡ w
+padded_back w h =
+    before_padding w (8 - length w) (and_parts (nat_le (length w) 8) (list_all (λ b. nat_lt 0 b) w) h).1
+
+fed_told : (a b : Bool) (v w : Text) (us vs : HashWrites) → is_short_text v ≡ a → is_short_text w ≡ b →
+    fed_as a v ++ us ≡ fed_as b w ++ vs → (v ≡ w) × (us ≡ vs)
+fed_told true true v w us vs h k e =
+    let p : padded v ≡ padded w = cc in
+    let r : us ≡ vs = cc in (sym (padded_back v h) ∙ ap before_zero p ∙ padded_back w k, r)
+fed_told true false v w us vs h k e =
+    let p : padded v ≡ 255 ∷ [] = cc in absurd (omega (arith, padded_long v h, ap length p))
+fed_told false true v w us vs h k e =
+    let p : padded w ≡ 255 ∷ [] = cc in absurd (omega (arith, padded_long w k, ap length p))
+fed_told false false v w us vs h k e = (cc, cc)
+
+fed_some : (b : Bool) (w : Text) → 0 < length (fed_as b w)
+fed_some true w = omega arith
+fed_some false w = omega arith
+
+fed_few : (b : Bool) (w : Text) → length (fed_as b w) ≤ 2
+fed_few true w = omega arith
+fed_few false w = omega arith
+
+pub word_few : (w : Text) → length (word_fed w) ≤ 2
+word_few w = fed_few (is_short_text w) w
+
 pub word_tells : Tells word_fed
 word_tells = record {
-  some = λ w. omega arith;
-  told = λ v w us vs h k e. (cc, cc);
+  some = λ w. fed_some (is_short_text w) w;
+  told = λ v w us vs h k e. fed_told (is_short_text v) (is_short_text w) v w us vs refl refl e;
 }
 
 byte_tells : Tells u8

@@ -1,9 +1,11 @@
--- Hashes: what a value feeds a hasher, as std's own `Hash` feeds it: a list of writes, each of some
--- bytes. A text is its bytes and 0xFF, a list its length and its items, an optional part a mark and
--- the part if it is there. Parts follow one another in the order in which the types keep them.
--- This project's rule, as in the Rust crate.
-use Rattle.std.specs.Prelude.{◌≡◌, ◌^◌, ◌<◌, List, ◌++◌, length}
-use Rattle.std.specs.Hash.{HashWrites, u8, str, slice, option}
+-- Hashes: what a value feeds a hasher: a list of writes, each of some bytes. A word is eight bytes, a
+-- list its length and its items, an optional part a mark and the part if it is there, these as std's
+-- own `Hash` feeds them. Parts follow one another in the order in which the types keep them.
+-- This project's rule.
+use Rattle.std.specs.Prelude.{◌≡◌, ◌^◌, ◌<◌, ◌-◌, ◌&&◌, List, [], ◌∷◌, ◌++◌, length, replicate, Bool}
+use Rattle.std.specs.Prelude.{nat_le, nat_lt, if◌then◌else◌}
+use Rattle.std.specs.List.{list_all}
+use Rattle.std.specs.Hash.{HashWrites, u8, slice, option}
 use Rattle.std.specs.declared.cmp.Ordering.{Ordering}
 use Rattle.std.specs.declared.cmp.Ordering.TheVariants.{Equal}
 use Rattle.iloc_spec_grammar.specs.Syntax.{Text, Block, Identifier, Fields, Unicode, Transform}
@@ -16,9 +18,14 @@ pub record HashesByOrder {X : Type 0} (R : X → X → Ordering) (fed : X → Ha
   pub alike : (x y : X) → R x y ≡ Equal → fed x ≡ fed y
   pub told_apart : (x y : X) → length (fed x) < 2 ^ 64 → fed x ≡ fed y → R x y ≡ Equal
 
--- A word feeds its text.
+-- The text has at most eight bytes, and no zero among them, as each word has.
+abbrev pub is_short_text : Text → Bool
+is_short_text w = nat_le (length w) 8 && list_all (λ b. nat_lt 0 b) w
+
+-- A word feeds eight bytes: its text, followed by zeros. So a hasher takes them as one number. (A text
+-- that is no word feeds 0xFF and itself, so that any two texts are told apart.)
 abbrev pub word_fed : Text → HashWrites
-word_fed w = str w
+word_fed w = if is_short_text w then (w ++ replicate (8 - length w) 0) ∷ [] else u8 255 ++ (w ∷ [])
 
 -- A list of words feeds its length and its words.
 abbrev pub words_fed : List Text → HashWrites

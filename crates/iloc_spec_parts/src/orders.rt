@@ -4,7 +4,7 @@
 //! fewer than 2^64 writes).
 ghost use Rattle.iloc_spec_parts.specs.Orders.{IsExactOrder, words_cmp, identifier_cmp, keywords_cmp, fields_cmp, unicode_cmp, transform_cmp, other_cmp, extensions_cmp, locale_cmp, kind_cmp};
 ghost use Rattle.iloc_spec_parts.specs.Hashes.{HashesByOrder, word_fed, words_fed, identifier_fed, fields_fed, unicode_fed, transform_fed, other_fed, extensions_fed, locale_fed};
-ghost use Rattle.std.specs.Prelude.{◌≡◌, [], ◌∷◌, codes, replicate};
+ghost use Rattle.std.specs.Prelude.{◌≡◌, [], ◌∷◌, ◌++◌, codes, replicate};
 ghost use Rattle.std.specs.declared.cmp.Ordering.TheVariants.{Less, Equal, Greater};
 ghost use Rattle.iloc_spec_grammar.specs.Syntax.{word_cmp};
 ghost use Rattle.iloc_spec_parts.specs.Examples.{meaning_of};
@@ -57,8 +57,8 @@ pub fn by_example()
     ensures itself { locale_cmp (meaning_of (codes "und-t-fr-u-ca"))
         (meaning_of (codes "und-u-ca-true-t-FR")) ≡ Equal }
     ensures fed { identifier_fed (meaning_of (codes "EN-us")).id
-        ≡ codes "en" ∷ (255 ∷ []) ∷ (0 ∷ replicate 7 0) ∷ (1 ∷ replicate 7 0) ∷ codes "US"
-        ∷ (255 ∷ []) ∷ (0 ∷ replicate 7 0) ∷ [] }
+        ≡ (codes "en" ++ replicate 6 0) ∷ (0 ∷ replicate 7 0) ∷ (1 ∷ replicate 7 0)
+        ∷ (codes "US" ++ replicate 6 0) ∷ (0 ∷ replicate 7 0) ∷ [] }
     ensures fed_alike { locale_fed (meaning_of (codes "und-t-fr-u-ca"))
         ≡ locale_fed (meaning_of (codes "und-u-ca-true-t-FR")) }
 {}

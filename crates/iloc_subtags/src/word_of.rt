@@ -7,6 +7,9 @@ ghost use Rattle.iloc_spec_grammar.specs.Syntax.{Text, Subtag as the_kind, lower
 ghost use Rattle.iloc_spec_grammar.specs.Values.{IsNormal};
 ghost use Rattle.iloc_subtags.specs.RawForms.{ReadsRaw};
 ghost use Rattle.std.specs.Fmt.{debug_str};
+ghost use Rattle.std.specs.Cmp.Rules.{hashing};
+ghost use borrow.Author.Rules.{rules};
+ghost use Rattle.iloc_spec_parts.specs.Hashes.{word_fed};
 
 use crate::identifier_kinds::Subtag;
 use crate::kind::WordKind;
@@ -16,6 +19,7 @@ use iloc_writeable::pieces::Pieces;
 use iloc_writeable::{LengthHint, Sink, Writeable};
 use std::cmp::Ordering;
 use std::fmt;
+use std::hash::{Hash, Hasher};
 use std::marker::{Model, PhantomData};
 use std::str::FromStr;
 
@@ -23,7 +27,7 @@ use std::str::FromStr;
 ///
 /// Contracts see it as its text. Subtags are equal if their texts are, and stand in the byte order of
 /// their texts.
-#[derive_where(Clone, Copy, PartialEq, Eq, PartialOrd, Ord, Hash)]
+#[derive_where(Clone, Copy, PartialEq, Eq, PartialOrd, Ord)]
 pub struct WordOf<K: WordKind<N>, const N: usize> {
     text: TinyAsciiStr<N>,
     #[derive_where(skip)]
@@ -192,6 +196,17 @@ pub fn are_normal<K: WordKind<N>, const N: usize>(words: &[WordOf<K, N>])
 {
     for word in words {
         is_normal(word);
+    }
+}
+
+/// A hasher is fed the text, followed by zeros, in eight bytes: that is one number.
+impl<K: WordKind<N>, const N: usize> Hash for WordOf<K, N> {
+    ghost hash_input = { word_fed };
+
+    ghost respects_eq = { Prim.search (hashing, rules) };
+
+    fn hash<H: Hasher>(&self, state: &mut H) {
+        state.write(&self.to_piece().to_bytes());
     }
 }
 

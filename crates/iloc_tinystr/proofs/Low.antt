@@ -20,11 +20,11 @@ use Rattle.iloc_tinystr.proofs.Packed.{fit-map}
 abbrev pub Below : ℕ → ℕ → ℕ → Type 0
 Below c n x = (k : ℕ) → get_or (bytes n x) k 0 < c
 
-first-below : (c n x : ℕ) → Below c (suc n) x → x % 256 < c
+pub first-below : (c n x : ℕ) → Below c (suc n) x → x % 256 < c
 unfolding bytes
 first-below c n x low = low 0
 
-rest-below : (c n x : ℕ) → Below c (suc n) x → Below c n (x / 256)
+pub rest-below : (c n x : ℕ) → Below c (suc n) x → Below c n (x / 256)
 unfolding bytes
 rest-below c n x low k = low (suc k)
 

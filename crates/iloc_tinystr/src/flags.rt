@@ -1,5 +1,5 @@
 //! The high bit of each byte of a number that has a property.
-ghost use Rattle.std.specs.Prelude.{◌≡◌, ◌<◌, ◌≤◌, nat_le};
+ghost use Rattle.std.specs.Prelude.{◌≡◌, ◌==◌, ◌<◌, ◌≤◌, nat_le};
 ghost use Rattle.std.specs.Char.{is_ascii_alphabetic, is_ascii_digit};
 ghost use Rattle.std.specs.Int.{is_in_range};
 ghost use Rattle.iloc_tinystr.specs.Number.{flags, spread, IsLow};
@@ -52,6 +52,18 @@ pub(crate) fn text_marks(x: u64) -> u64
     ensures { result ≡ flags is_text_byte x }
 {
     marks_from(x, 1)
+}
+
+// Whether all of these bytes are 0 or letters. They are below 128, so no sum carries. The highest three bits of what is
+// computed of such a byte are 0, and one of those of every other byte is 1.
+#[tactic(auto, using(crate::proofs::Low::low_le, crate::proofs::Letters::letters_are))]
+#[inline(always)]
+pub(crate) fn are_letters(x: u64) -> bool
+    requires { IsLow x }
+    ensures { result ≡ (flags is_ascii_alphabetic x == flags is_text_byte x) }
+{
+    let apart = (x + 0x3f3f_3f3f_3f3f_3f3f) ^ (x | 0xa0a0_a0a0_a0a0_a0a0);
+    apart & (x + 0x4545_4545_4545_4545) & 0xe0e0_e0e0_e0e0_e0e0 == 0
 }
 
 // The letters.

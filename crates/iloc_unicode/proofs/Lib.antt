@@ -4,3 +4,5 @@ mod PrintLemmas
 mod UnicodeLemmas
 mod OwedLemmas
 mod LengthLemmas
+mod Lookups
+mod Halves

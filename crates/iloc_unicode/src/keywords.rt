@@ -135,13 +135,31 @@ impl Keywords {
     }
 
     /// The value of the key.
+    #[inline(always)]
     pub fn get(&self, key: &Key) -> Option<&Value>
         ensures { option_copied result ≡ find word_cmp key.now self.now }
     {
-        self.map.get(key)
+        match self.as_slice() {
+            [(only, value)] => if *key == *only { Some(value) } else { None },
+            pairs if pairs.len() <= 8 => value_among(pairs, key),
+            _ => self.value_of_many(key),
+        }
+    }
+
+    // The value of the key among more pairs. It stands apart, so that few pairs pay nothing for it.
+    #[inline(never)]
+    fn value_of_many(&self, key: &Key) -> Option<&Value>
+        requires { 0 < length self.now }
+        ensures { option_copied result ≡ find word_cmp key.now self.now }
+    {
+        match self.as_slice() {
+            pairs if pairs.len() <= 16 => value_in_half(pairs, key),
+            _ => self.map.get(key),
+        }
     }
 
     /// The value of the key, for writing.
+    #[inline(never)]
     pub fn get_mut(&mut self, key: &Key) -> Option<&mut Value>
         ensures* writes_back { sem 𝓛 (lends_value self.entry key.now result) }
         ensures value { option_copied_mut result ≡ find word_cmp key.now self.old }
@@ -153,10 +171,11 @@ impl Keywords {
     pub fn contains_key(&self, key: &Key) -> bool
         ensures { result ≡ is_some (find word_cmp key.now self.now) }
     {
-        self.map.contains_key(key)
+        self.get(key).is_some()
     }
 
     /// Sets the value of the key, and returns the old one. If an allocation fails, nothing changes.
+    #[inline(always)]
     pub fn set(
         &mut self,
         alloc: Global,
@@ -174,7 +193,27 @@ impl Keywords {
             self.put_first(key, value);
             return Ok(None);
         }
-        self.map.insert(alloc, key, value)
+        if let [(only, _)] = self.as_slice() {
+            if key != *only {
+                self.put_new(alloc, key, value)?;
+                return Ok(None);
+            }
+        }
+        if let Some(old) = self.get_mut(&key) {
+            return Ok(Some(mem::replace(old, value)));
+        }
+        self.put_new(alloc, key, value)?;
+        Ok(None)
+    }
+
+    // Sets the value of a key. It stands apart, so that a key that is there pays nothing for a new one.
+    #[inline(never)]
+    fn put_new(&mut self, alloc: Global, key: Key, value: Value) -> Result<(), AllocError>
+        ensures ok { OnOk result (self.new ≡ put word_cmp key value self.old) }
+        ensures err { OnErr result (self.new ≡ self.old) }
+    {
+        self.map.insert(alloc, key, value)?;
+        Ok(())
     }
 
     // Leaves this one pair. As a call apart it takes fewer instructions, also where LLVM inlines it.
@@ -411,5 +450,32 @@ impl<'a> Iterator for KeywordsIter<'a> {
         let (first, rest) = self.rest.split_first()?;
         self.rest = rest;
         Some((&first.0, &first.1))
+    }
+}
+
+// The value of the key among pairs, each of which is compared for equality alone.
+#[inline(always)]
+fn value_among<'a>(pairs: &'a [(Key, Value)], key: &Key) -> Option<&'a Value>
+    ensures { option_copied result ≡ find word_cmp key.now pairs.now }
+{
+    for pair in pairs {
+        if *key == pair.0 {
+            return Some(&pair.1);
+        }
+    }
+    None
+}
+
+// The value of the key among more ascending pairs, of which one half is left out.
+fn value_in_half<'a>(pairs: &'a [(Key, Value)], key: &Key) -> Option<&'a Value>
+    requires ascending { HasAscendingKeys word_cmp pairs.now }
+    requires some { 0 < length pairs.now }
+    ensures { option_copied result ≡ find word_cmp key.now pairs.now }
+{
+    let middle = pairs.len() / 2;
+    if key.cmp(&pairs[middle].0).is_lt() {
+        value_among(&pairs[..middle], key)
+    } else {
+        value_among(&pairs[middle..], key)
     }
 }

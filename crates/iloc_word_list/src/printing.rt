@@ -1,11 +1,16 @@
 //! Prints values.
-ghost use Rattle.std.specs.Prelude.{◌≡◌, ◌↔◌, length, IsTrue, Some};
-ghost use Rattle.iloc_spec_grammar.specs.Syntax.{join};
+ghost use Rattle.std.specs.Prelude.{◌≡◌, ◌≢◌, ◌↔◌, ◌++◌, length, IsTrue, IfOk, IfSome, IsNone, Some};
+ghost use Rattle.std.specs.Cow.{cow_str_bytes};
+ghost use Rattle.iloc_writeable.specs.Writing.{IsLent};
+ghost use Rattle.iloc_spec_grammar.specs.Syntax.{Text, join, dashes};
 
 use crate::value::Value;
-use iloc_writeable::compare::cmp_utf8;
+use iloc_subtags::Subtag;
+use iloc_tinystr::ShortPiece;
 use iloc_writeable::pieces::Pieces;
 use iloc_writeable::{Sink, Writeable};
+use std::alloc::{AllocError, Global};
+use std::borrow::CowStr;
 use std::fmt;
 
 /// The subtags are the pieces.
@@ -39,6 +44,41 @@ impl Writeable for Value {
             _ => None,
         }
     }
+
+    fn write_to_string(&self, alloc: Global) -> Result<CowStr<'_, Global>, AllocError> {
+        match self.writeable_borrow() {
+            Some(text) => Ok(CowStr::Borrowed(text)),
+            None => text_of(self, alloc),
+        }
+    }
+}
+
+// A value that lends no text, not even that of one subtag.
+#[derive(Drop)]
+struct Owning<'a>(&'a Value);
+
+impl<'a> Writeable for Owning<'a> {
+    ghost text = { λ owning. join owning.0.now };
+
+    fn write_to<S: Sink>(&self, sink: &mut S) -> fmt::Result {
+        self.0.write_to(sink)
+    }
+
+    fn writeable_borrow(&self) -> Option<&str> {
+        None
+    }
+}
+
+// The text in a string of its own. It stands apart, so that the text of one subtag does not wait for it.
+#[inline(never)]
+fn text_of(value: &Value, alloc: Global) -> Result<CowStr<'_, Global>, AllocError>
+    ensures text { IfOk result (λ t. cow_str_bytes t ≡ join value.now) }
+    ensures owned { IfOk result (λ t. IsLent t → ⊥) }
+{
+    match Owning(value).write_to_string(alloc)? {
+        CowStr::Owned(text) => Ok(CowStr::Owned(text)),
+        CowStr::Borrowed(_) => unreachable!(),
+    }
 }
 
 /// Prints the subtags with a hyphen between each two.
@@ -57,7 +97,50 @@ impl Value {
     {
         match self.as_subtags_slice() {
             [subtag] => subtag.as_str() == other,
-            _ => cmp_utf8(self, other.as_bytes()).is_eq(),
+            subtags => are_joined(subtags, other.as_bytes()),
         }
+    }
+}
+
+// Whether the bytes are these subtags, with a hyphen between each two.
+fn are_joined(subtags: &[Subtag], bytes: &[u8]) -> bool
+    ensures { IsTrue result ↔ (join subtags.now ≡ bytes.now) }
+{
+    let Some((subtag, others)) = subtags.split_first() else {
+        return bytes.is_empty();
+    };
+    match after_subtag(bytes, subtag) {
+        Some(rest) => are_dashed(others, rest),
+        None => false,
+    }
+}
+
+// What follows the subtag in bytes that begin with it.
+fn after_subtag<'a>(bytes: &'a [u8], subtag: &Subtag) -> Option<&'a [u8]>
+    ensures some { IfSome result (λ rest. bytes.now ≡ subtag.now ++ rest.now) }
+    ensures none { IsNone result → (rest : Text) → bytes.now ≢ subtag.now ++ rest }
+{
+    let piece = subtag.to_piece();
+    let (front, rest) = bytes.split_at_checked(piece.len())?;
+    if ShortPiece::of(front)? == piece {
+        Some(rest)
+    } else {
+        None
+    }
+}
+
+// Whether the bytes are these subtags, each after a hyphen.
+fn are_dashed(subtags: &[Subtag], bytes: &[u8]) -> bool
+    ensures { IsTrue result ↔ (dashes subtags.now ≡ bytes.now) }
+{
+    let Some((subtag, others)) = subtags.split_first() else {
+        return bytes.is_empty();
+    };
+    let Some((b'-', after)) = bytes.split_first() else {
+        return false;
+    };
+    match after_subtag(after, subtag) {
+        Some(rest) => are_dashed(others, rest),
+        None => false,
     }
 }

@@ -15,7 +15,7 @@ pub struct Options {
     /// Whether lines are cleaned before they are answered.
     pub cleans: bool,
     /// Whether the status says that a line was refused.
-    pub tells: bool,
+    pub exit_status: bool,
     /// How lines are listed, if they are.
     pub listing: Option<Listing>,
     /// The place of the first file among the arguments.
@@ -46,7 +46,7 @@ enum Flag {
 #[derive(Clone, Copy)]
 struct Flags {
     cleans: bool,
-    tells: bool,
+    exit_status: bool,
     listing: Listing,
 }
 
@@ -54,7 +54,7 @@ impl Flags {
     fn new() -> Flags {
         Flags {
             cleans: false,
-            tells: false,
+            exit_status: false,
             listing: Listing {
                 places: false,
                 numbers: false,
@@ -66,7 +66,7 @@ impl Flags {
     fn meet(&mut self, flag: Flag) {
         match flag {
             Flag::Clean => self.cleans = true,
-            Flag::ExitStatus => self.tells = true,
+            Flag::ExitStatus => self.exit_status = true,
             Flag::Where => self.listing.places = true,
             Flag::LineNumber => self.listing.numbers = true,
             Flag::OnlyRefused => self.listing.only_refused = true,
@@ -151,7 +151,7 @@ pub fn read_arguments(rt: &impl Env) -> Asked {
             Some(mode) => Asked::Lines(Options {
                 mode,
                 cleans: flags.cleans,
-                tells: flags.tells,
+                exit_status: flags.exit_status,
                 listing: flags.listing(),
                 first,
             }),

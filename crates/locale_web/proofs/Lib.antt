@@ -1,5 +1,5 @@
 pub mod Placing
-pub mod Telling
+pub mod Kinded
 pub mod Walking
 pub mod LocaleLemmas
 pub mod PartLemmas

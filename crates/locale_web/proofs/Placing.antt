@@ -10,20 +10,20 @@ use Rattle.iloc_spec_grammar.proofs.PiecesLaws.{join-pieces}
 use Rattle.locale_web.specs.Kinds.{ArePlaced, IsOfKind, IsNormalTextOf, KindedPiece, parts_of, rows_from}
 use Rattle.locale_web.specs.Kinds.{rows_of}
 use Rattle.locale_web.specs.declared.state.State.TheVariants.{Start}
-use Rattle.locale_web.proofs.Telling.{text_told, told_pieces}
+use Rattle.locale_web.proofs.Kinded.{text_kinded, kinded_pieces}
 
 abbrev words_of : List KindedPiece → List Text
 words_of ps = map (λ (w : KindedPiece). w.1) ps
 
 are_pieces : (M : Locale) (t : Text) → IsNormalTextOf M t → words_of (parts_of M) ≡ pieces t
-are_pieces M t h = ap words_of (sym (text_told M t h).told) ∙ told_pieces Start (pieces t)
+are_pieces M t h = ap words_of (sym (text_kinded M t h).kinded) ∙ kinded_pieces Start (pieces t)
 
 pub joined : (M : Locale) (t : Text) → IsNormalTextOf M t →
     join (map (λ (w : KindedPiece). w.1) (parts_of M)) ≡ t
 joined M t h = ap join (are_pieces M t h) ∙ join-pieces t
 
 pub words : (M : Locale) (t : Text) → IsNormalTextOf M t → AllByRecursion IsOfKind (parts_of M)
-words M t h = (text_told M t h).words
+words M t h = (text_kinded M t h).words
 
 -- a piece behind what comes before it
 stands : (t front p rest : Text) (at : ℕ) → at ≡ length front → t ≡ front ++ (p ++ rest)

@@ -11,10 +11,10 @@ use Rattle.iloc_pieces.specs.Left.{pieces_left}
 use Rattle.iloc_pieces.specs.declared.cursor.Left.{Left}
 use Rattle.iloc_pieces.proofs.LeftLemmas.{first_within, last_piece, length_piece, length_rest, next_at}
 use Rattle.locale_web.specs.Kinds.{KindedPiece, IsNormalTextOf, kind_number, parts_of, rows_from, rows_of}
-use Rattle.locale_web.specs.Steps.{AreShortPieces, step, told}
+use Rattle.locale_web.specs.Steps.{AreShortPieces, step, kinded}
 use Rattle.locale_web.specs.declared.state.State.{State}
 use Rattle.locale_web.specs.declared.state.State.TheVariants.{Start}
-use Rattle.locale_web.proofs.Telling.{text_told}
+use Rattle.locale_web.proofs.Kinded.{text_kinded}
 
 -- ---- a piece that is left
 
@@ -53,13 +53,13 @@ count_ends {t} {at} {count} c e =
     let one = last_piece at e (first_short at c.short) in
     omega (arith, c.sum, ap length one.one)
 
-length_told : (s : State) (ps : List Text) → length (told s ps) ≡ length ps
-length_told s [] = refl
-length_told s (p ∷ ps) = ap suc (length_told (step s p).1 ps)
+length_kinded : (s : State) (ps : List Text) → length (kinded s ps) ≡ length ps
+length_kinded s [] = refl
+length_kinded s (p ∷ ps) = ap suc (length_kinded (step s p).1 ps)
 
 -- a normal text has as many pieces as its locale has parts
 pub as_many : (M : Locale) (t : Text) → IsNormalTextOf M t → length (pieces t) ≡ length (parts_of M)
-as_many M t h = sym (length_told Start (pieces t)) ∙ ap length (text_told M t h).told
+as_many M t h = sym (length_kinded Start (pieces t)) ∙ ap length (text_kinded M t h).kinded
 
 -- ---- writing
 
@@ -77,7 +77,7 @@ pub record IsWritten (t : Text) (at : Left) (s : State) (from : ℕ) (before tab
   pub short : AreShortPieces (pieces_left at)
   pub done : Text
   pub long : length done ≡ from
-  pub rows : rows_from 0 (told Start (pieces t)) ≡ done ++ rows_from at.at (told s (pieces_left at))
+  pub rows : rows_from 0 (kinded Start (pieces t)) ≡ done ++ rows_from at.at (kinded s (pieces_left at))
   pub stands : table ≡ done ++ drop from before
   pub fits : from + 3 * length (pieces_left at) ≤ length before
   pub end : at.at + at.len ≡ length t
@@ -90,10 +90,10 @@ unfolding rows_of
 write_begins M t at before h room a n e =
     let w = whole t at e in
     record {
-      short = subst AreShortPieces (sym w) (text_told M t h).short;
+      short = subst AreShortPieces (sym w) (text_kinded M t h).short;
       done = [];
       long = refl;
-      rows = λ j. rows_from (sym a j) (told Start (sym w j));
+      rows = λ j. rows_from (sym a j) (kinded Start (sym w j));
       stands = refl;
       fits = omega (arith, room, length_rows 0 (parts_of M), as_many M t h, ap length w);
       end = omega arith;
@@ -120,13 +120,13 @@ module _ {t : Text} {at : Left} {s : State} {from : ℕ} {before table : Text}
       sym (drop-drop 3 from table) ∙ ap (drop 3) back ∙ drop-drop 3 from before in
       e ∙ (λ j. front j ++ row (far j)) ∙ sym (append_assoc h.done (row []) (drop (from + 3) before))
 
-  rows_more : (ps : List Text) → pieces_left at ≡ piece_left at ∷ ps → rows_from 0 (told Start (pieces t))
+  rows_more : (ps : List Text) → pieces_left at ≡ piece_left at ∷ ps → rows_from 0 (kinded Start (pieces t))
       ≡ (h.done ++ row []) ++ rows_from (at.at + length (piece_left at) + 1)
-      (told (step s (piece_left at)).1 ps)
+      (kinded (step s (piece_left at)).1 ps)
   rows_more ps e =
-      h.rows ∙ ap (λ l. h.done ++ rows_from at.at (told s l)) e
+      h.rows ∙ ap (λ l. h.done ++ rows_from at.at (kinded s l)) e
       ∙ ap (λ n. h.done ++ (at.at ∷ (at.at + n) ∷ kind_number (step s (piece_left at)).0 ∷ rows_from
-      (at.at + length (piece_left at) + 1) (told (step s (piece_left at)).1 ps))) (sym long_is)
+      (at.at + length (piece_left at) + 1) (kinded (step s (piece_left at)).1 ps))) (sym long_is)
       ∙ sym (append_assoc h.done (row []) _)
 
   pub row_fits : from + 3 ≤ length table
@@ -154,7 +154,7 @@ module _ {t : Text} {at : Left} {s : State} {from : ℕ} {before table : Text}
         done = h.done ++ row [];
         long = omega (arith, h.long, length-append h.done (row []));
         rows = rows_more (pieces_left m) n.pieces
-            ∙ ap (λ k. (h.done ++ row []) ++ rows_from k (told (step s (piece_left at)).1 (pieces_left m)))
+            ∙ ap (λ k. (h.done ++ row []) ++ rows_from k (kinded (step s (piece_left at)).1 (pieces_left m)))
             (sym (next_at at m n));
         stands = stands_more after e;
         fits = omega (arith, h.fits, ap length n.pieces);
@@ -169,7 +169,8 @@ module _ {t : Text} {at : Left} {s : State} {from : ℕ} {before table : Text}
   write_ends after e last M is =
       let one = last_piece at last (first_short at h.short) in
       let all : rows_from 0 (parts_of M) ≡ h.done ++ row [] =
-      ap (rows_from 0) (sym (text_told M t is).told) ∙ rows_more [] one.one ∙ append-nil (h.done ++ row []) in
+      ap (rows_from 0) (sym (text_kinded M t is).kinded) ∙ rows_more [] one.one
+      ∙ append-nil (h.done ++ row []) in
       let long : length (rows_from 0 (parts_of M)) ≡ from + 3 =
       omega (arith, ap length all, h.long, length-append h.done (row [])) in
       stands_more after e ∙ (λ j. sym all j ++ drop (sym long j) before)

@@ -50,9 +50,9 @@ step s p = if is_singleton_piece s p
     then (kinds.Singleton, begun (to_ascii_lowercase (slice_index p 0))) else inside s p
 
 -- what each piece is
-abbrev pub told : State → List Text → List KindedPiece
-told s [] = []
-told s (p ∷ ps) = ((step s p).0, p) ∷ told (step s p).1 ps
+abbrev pub kinded : State → List Text → List KindedPiece
+kinded s [] = []
+kinded s (p ∷ ps) = ((step s p).0, p) ∷ kinded (step s p).1 ps
 
 -- no piece is longer than a word
 abbrev pub AreShortPieces : List Text → Type 0

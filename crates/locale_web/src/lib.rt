@@ -10,7 +10,7 @@
 //! What each piece of a normal text is, a page can show: language, script, region, variant, singleton, attribute, key,
 //! value, field, or a piece of another extension or of the private part. `parts_of` (`specs/Kinds.antt`) says it of a
 //! locale, part by part, as its text has them. `write_rows` finds it in the text, piece by piece from the left: it keeps
-//! which part it is in, a `State`, and tells each piece by its shape. The rows that it writes are those of the parts, in
+//! which part it is in, a `State`, and names each piece by its shape. The rows that it writes are those of the parts, in
 //! order, each with its place.
 //!
 //! No call takes memory, so the module asks its page for nothing.
@@ -218,8 +218,8 @@ pub extern "C" fn web_find_fault(
 /// Writes the words of a status into the buffer, and their length to `needed`.
 #[unsafe(no_mangle)]
 pub extern "C" fn web_words(status: u32, buffer: &mut [u8], needed: &mut usize) -> u32
-    ensures known { (told : Status) → status ≡ number_of told
-        → EndsAs (HandsOut (words_of told) buffer.old buffer.new needed.new) result }
+    ensures known { (named : Status) → status ≡ number_of named
+        → EndsAs (HandsOut (words_of named) buffer.old buffer.new needed.new) result }
     ensures unknown { 8 < status → (result ≡ number_of Status.UnknownNumber)
         × (needed.new ≡ 0) × (buffer.new ≡ buffer.old) }
 {

@@ -193,7 +193,7 @@ pub fn pushed<L: List>(alloc: Global, items: &[u16]) -> Result<L, AllocError> {
 }
 
 /// Says what the list lends: whether it is empty, its only letter, the first, each of seven places, and all in turn.
-fn tell<L: List>(list: &L, out: &mut String) {
+fn describe<L: List>(list: &L, out: &mut String) {
     let lent = list.lend(0);
     if lent.is_empty {
         say(out, "empty ");
@@ -285,7 +285,7 @@ impl<L: List> Stepping for Listed<L> {
                 compared(list, fresh, out)
             }
             b"tell" => {
-                tell(list, out);
+                describe(list, out);
                 true
             }
             _ => {

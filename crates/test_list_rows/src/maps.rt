@@ -79,7 +79,7 @@ fn say_pair(key: u16, value: u16, out: &mut String) {
 }
 
 /// Says whether the map is empty, and its pairs in turn.
-fn tell<S: Store<u16, u16>>(map: &LiteMap<u16, u16, S>, out: &mut String) {
+fn describe<S: Store<u16, u16>>(map: &LiteMap<u16, u16, S>, out: &mut String) {
     if map.is_empty() {
         say(out, "empty ");
     }
@@ -138,7 +138,7 @@ fn shrink<S: Store<u16, u16>>(
         },
         b"remove" => say_letter(map.remove(&step.key), out),
         b"clear" => map.clear(),
-        b"tell" => tell(map, out),
+        b"tell" => describe(map, out),
         b"retain" => map.retain(|key: &u16, value: &u16| {
             say_pair(*key, *value, out);
             *key > step.key

@@ -87,7 +87,7 @@ fn grown<W: Writeable>(alloc: Global, value: &W, out: &mut String) {
 }
 
 /// Says what a call answers of a value.
-fn tell<W: Writeable>(alloc: Global, what: &str, value: &W, bytes: &[u8], out: &mut String) {
+fn answer_of<W: Writeable>(alloc: Global, what: &str, value: &W, bytes: &[u8], out: &mut String) {
     match what {
         "string" => text(value.write_to_string(alloc), out),
         "borrow" => text(to_string_or_borrow(alloc, value, bytes), out),
@@ -108,7 +108,7 @@ fn made<W: Writeable + Drop>(
     out: &mut String,
 ) {
     match value {
-        Ok(value) => tell(alloc, what, &value, bytes, out),
+        Ok(value) => answer_of(alloc, what, &value, bytes, out),
         Err(_) => refused(out),
     }
 }
@@ -124,7 +124,7 @@ fn shows(alloc: Global, letters: &[u16], text: &[u8]) -> Result<bool, AllocError
 pub fn answer(what: &str, call: &Call<'_>, room: &mut Vec<u16>, out: &mut String) {
     let (alloc, a, b) = (call.alloc, call.first, call.second);
     match what.split_once('_') {
-        Some(("text", what)) => tell(alloc, what, &str::from_utf8(a).unwrap_or(""), b, out),
+        Some(("text", what)) => answer_of(alloc, what, &str::from_utf8(a).unwrap_or(""), b, out),
         Some((_, what)) => made(alloc, what, set_of(alloc, a), b, out),
         _ if what == "sums" => sums(a, b, out),
         _ => {

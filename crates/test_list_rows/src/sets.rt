@@ -63,7 +63,7 @@ fn made(alloc: Global, set: &Variants, call: &[u8], text: &[u8]) -> Result<Varia
 }
 
 /// Says what the set lends: whether it is empty, its first word, each of seven places, all in turn, and its text.
-fn tell(set: &Variants, out: &mut String) {
+fn describe(set: &Variants, out: &mut String) {
     if set.is_empty() {
         say(out, "empty ");
     }
@@ -146,7 +146,7 @@ impl Stepping for Variants {
                 true
             }
             _ => {
-                tell(self, out);
+                describe(self, out);
                 true
             }
         }

@@ -7,7 +7,7 @@ use iloc_locale::{Extensions, Locale};
 use iloc_subtags::{Language, ParseError, Region, Script, SubdivisionSuffix};
 use iloc_unicode::Unicode;
 use std::alloc::Global;
-use test_page::told::made;
+use test_page::answering::made;
 use test_page::{Answering, Call, refuse, say};
 
 // A language, a script and a region.

@@ -10,8 +10,8 @@ use iloc_writeable::{Pieces, Writeable};
 use std::alloc::Global;
 use std::cmp::Ordering;
 use std::{fmt, str};
+use test_page::answering::{answer_parsed, whole};
 use test_page::steps::{Step, fills, replaces};
-use test_page::told::{told, whole};
 use test_page::{Answering, order, put, put_some, refuse, say, truth};
 
 /// Says what the value shows where it is looked into.
@@ -57,7 +57,7 @@ impl Answering<Rows> for LanguageIdentifier {
         self.total_cmp(other)
     }
 
-    fn tell(&self, alloc: Global, call: &str, text: &[u8], out: &mut String) {
+    fn answer_own(&self, alloc: Global, call: &str, text: &[u8], out: &mut String) {
         match call {
             "written" => whole(out, self.write_to_string(alloc)),
             "cmp" => order(out, self.strict_cmp(text)),
@@ -102,9 +102,9 @@ fn put_last<W: Writeable + Drop>(out: &mut String, value: W) {
 
 // Says the locale of the data locale, and whether it is well-formed.
 fn locale_of(alloc: Global, data: &DataLocale, out: &mut String) {
-    told::<Rows, Locale>(alloc, Ok(data.into_locale(alloc)), "", b"", out);
+    answer_parsed::<Rows, Locale>(alloc, Ok(data.into_locale(alloc)), "", b"", out);
     say(out, " ");
-    told::<Rows, Locale>(alloc, Ok(data.into_locale(alloc)), "well", b"", out);
+    answer_parsed::<Rows, Locale>(alloc, Ok(data.into_locale(alloc)), "well", b"", out);
     say(out, " ")
 }
 
@@ -117,7 +117,7 @@ impl Answering<Rows> for DataLocale {
         self.total_cmp(other)
     }
 
-    fn tell(&self, alloc: Global, call: &str, text: &[u8], out: &mut String) {
+    fn answer_own(&self, alloc: Global, call: &str, text: &[u8], out: &mut String) {
         match call {
             "cmp" => order(out, self.strict_cmp(text)),
             "debug" => debug(out, self),
@@ -162,7 +162,7 @@ impl Answering<Rows> for SubdivisionId {
         self.cmp(other)
     }
 
-    fn tell(&self, _alloc: Global, call: &str, _text: &[u8], out: &mut String) {
+    fn answer_own(&self, _alloc: Global, call: &str, _text: &[u8], out: &mut String) {
         match call {
             "parts" => {
                 put(out, &self.region);

@@ -41,7 +41,7 @@ fn answered(what: &str, call: &Call<'_>, out: &mut String) -> bool {
     let kind = str::from_utf8(call.first).unwrap_or("");
     match (what, str::from_utf8(call.second)) {
         ("carry", _) => refusals::carried(call.alloc, call.first, out),
-        ("error", Ok(case)) => refusals::told(kind, case, out),
+        ("error", Ok(case)) => refusals::refusal_of(kind, case, out),
         (_, Ok(text)) => of_kind(call.alloc, what, kind, text, out),
         (_, Err(_)) => {
             say(out, "no text");
@@ -50,27 +50,27 @@ fn answered(what: &str, call: &Call<'_>, out: &mut String) -> bool {
     }
 }
 
-// Says what is told of a value of the kind.
+// Says what a call answers of a value of the kind.
 fn of_kind(alloc: Global, call: &str, kind: &str, text: &str, out: &mut String) -> bool {
     match kind {
-        "language" => told::<Language>(alloc, call, text, out),
-        "script" => told::<Script>(alloc, call, text, out),
-        "region" => told::<Region>(alloc, call, text, out),
-        "variant" => told::<Variant>(alloc, call, text, out),
-        "subtag" => told::<Subtag>(alloc, call, text, out),
-        "attribute" => told::<Attribute>(alloc, call, text, out),
-        "unicode-key" => told::<UnicodeKey>(alloc, call, text, out),
-        "transform-key" => told::<TransformKey>(alloc, call, text, out),
-        "subdivision-suffix" => told::<SubdivisionSuffix>(alloc, call, text, out),
-        "currency" => told::<CurrencyType>(alloc, call, text, out),
-        "private" => told::<PrivateSubtag>(alloc, call, text, out),
-        "langid" => told::<LanguageIdentifier>(alloc, call, text, out),
-        _ => told::<Locale>(alloc, call, text, out),
+        "language" => of_type::<Language>(alloc, call, text, out),
+        "script" => of_type::<Script>(alloc, call, text, out),
+        "region" => of_type::<Region>(alloc, call, text, out),
+        "variant" => of_type::<Variant>(alloc, call, text, out),
+        "subtag" => of_type::<Subtag>(alloc, call, text, out),
+        "attribute" => of_type::<Attribute>(alloc, call, text, out),
+        "unicode-key" => of_type::<UnicodeKey>(alloc, call, text, out),
+        "transform-key" => of_type::<TransformKey>(alloc, call, text, out),
+        "subdivision-suffix" => of_type::<SubdivisionSuffix>(alloc, call, text, out),
+        "currency" => of_type::<CurrencyType>(alloc, call, text, out),
+        "private" => of_type::<PrivateSubtag>(alloc, call, text, out),
+        "langid" => of_type::<LanguageIdentifier>(alloc, call, text, out),
+        _ => of_type::<Locale>(alloc, call, text, out),
     }
 }
 
-// Says what is told of a value of the type.
-fn told<T: JsonText + PartialEq + Drop>(
+// Says what a call answers of a value of the type.
+fn of_type<T: JsonText + PartialEq + Drop>(
     alloc: Global,
     call: &str,
     text: &str,

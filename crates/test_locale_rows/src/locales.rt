@@ -9,8 +9,8 @@ use iloc_writeable::Writeable;
 use std::alloc::Global;
 use std::cmp::Ordering;
 use std::str;
+use test_page::answering::whole;
 use test_page::steps::Step;
-use test_page::told::whole;
 use test_page::{Answering, Ask, Call, order, put, refuse, refused, say, truth};
 
 // Says whether the text means the locale, or that an allocation failed.
@@ -47,7 +47,7 @@ impl Answering<Rows> for Locale {
         self.total_cmp(other)
     }
 
-    fn tell(&self, alloc: Global, call: &str, text: &[u8], out: &mut String) {
+    fn answer_own(&self, alloc: Global, call: &str, text: &[u8], out: &mut String) {
         match call {
             "cmp" => order(out, self.strict_cmp(text)),
             "means" => means(alloc, self, text, out),
@@ -101,7 +101,7 @@ impl Answering<Rows> for Extensions {
         self.total_cmp(other)
     }
 
-    fn tell(&self, _alloc: Global, call: &str, _text: &[u8], out: &mut String) {
+    fn answer_own(&self, _alloc: Global, call: &str, _text: &[u8], out: &mut String) {
         match call {
             "empty" => truth(out, self.is_empty()),
             "well" => truth(out, is_well_formed(self)),

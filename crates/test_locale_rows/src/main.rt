@@ -32,7 +32,7 @@ use iloc_keyword_types::SubdivisionId;
 use iloc_langid::LanguageIdentifier;
 use iloc_locale::{Extensions, Locale};
 use std::io;
-use test_page::told::{answer, told};
+use test_page::answering::{answer, answer_parsed};
 use test_page::{Ask, Asking, Call, Judged, page, say};
 
 /// The program: what it asks of a type stands at the type's `impl` of `Answering`.
@@ -45,7 +45,7 @@ impl Asking for Rows {
             "langid" => answer::<Rows, LanguageIdentifier>(ask, call, out),
             "head" => {
                 let read = LanguageIdentifier::try_from_locale_bytes(call.alloc, call.first);
-                told::<Rows, LanguageIdentifier>(call.alloc, read, "", call.second, out)
+                answer_parsed::<Rows, LanguageIdentifier>(call.alloc, read, "", call.second, out)
             }
             "locale" => answer::<Rows, Locale>(ask, call, out),
             "ordered" => locales::keys(ask, call, out),

@@ -80,7 +80,7 @@ fn ended(out: &mut String, outcome: &Result<(), RunError>) {
 }
 
 /// Says what the refusal of the type prints, and its words. There is memory.
-pub fn told(kind: &str, case: &str, out: &mut String) -> bool {
+pub fn refusal_of(kind: &str, case: &str, out: &mut String) -> bool {
     match kind {
         "parse" => {
             let error = parse_error(case);

@@ -10,7 +10,7 @@ use iloc_subtags::{Language, ParseError, Region, Script, Variant};
 use std::alloc::Global;
 use std::borrow::CowStr;
 use std::str;
-use test_page::told::lent;
+use test_page::answering::lent;
 use test_page::{Call, bytes, printed, put, put_some, refuse, say};
 
 // Says a normal text, or why it was refused.
@@ -21,17 +21,17 @@ fn normal(out: &mut String, text: Result<CowStr<'_, Global>, ParseError>) {
     }
 }
 
-// Says the same of a text that is told at once. No contract says that a plain text is: a shape that silently went the old
-// way would show nowhere else.
-fn at_once(out: &mut String, told: Option<Result<CowStr<'_, Global>, ParseError>>) {
-    match told {
+// Says a normal text that is answered without building a value. No contract says that a plain text is: a shape that
+// silently went the old way would show nowhere else.
+fn without_value(out: &mut String, answered: Option<Result<CowStr<'_, Global>, ParseError>>) {
+    match answered {
         Some(text) => normal(out, text),
         None => say(out, "not told"),
     }
 }
 
 // Says the normal text in the mode as it is written from the bytes of the text.
-fn told(out: &mut String, mode: Mode, text: &[u8]) {
+fn from_bytes(out: &mut String, mode: Mode, text: &[u8]) {
     let (mut window, mut room) = ([0u8; WINDOW], [0u8; ROOM]);
     match answer_text(mode, text, &mut window, &mut room) {
         Answered::Normal(normal) => bytes(out, normal),
@@ -106,10 +106,10 @@ pub fn answer(what: &str, call: &Call<'_>, out: &mut String) {
     match what {
         "normal" => normal(out, Locale::normalize_utf8(alloc, text)),
         "normalid" => normal(out, LanguageIdentifier::normalize_utf8(alloc, text)),
-        "toldshort" => at_once(out, normalize_short(alloc, text)),
-        "toldid" => told(out, Mode::Langid, text),
-        "told" => told(out, Mode::Locale, text),
-        "tolddata" => told(out, Mode::Data, text),
+        "toldshort" => without_value(out, normalize_short(alloc, text)),
+        "toldid" => from_bytes(out, Mode::Langid, text),
+        "told" => from_bytes(out, Mode::Locale, text),
+        "tolddata" => from_bytes(out, Mode::Data, text),
         "small" => small(
             out,
             Locale::try_from_utf8_with_single_variant_single_keyword_unicode_extension(text),

@@ -1,24 +1,24 @@
 //! What the programs of table tests share. A test is a row: `CALL TAB argument TAB argument` in, and one line out.
 //!
 //! Here stand how rows are read and their page of answers is made (`rows`, `argument`), what is asked of any type
-//! that is parsed (`told`, `steps`), and how answers are said. In an argument `\xFF` stands for the byte, and a short
+//! that is parsed (`answering`, `steps`), and how answers are said. In an argument `\xFF` stands for the byte, and a short
 //! form between braces for what repeats (`argument`); all else is as it looks. No call that says something fails. The
 //! page has its room before the first row, and what finds no room is left out, so that the row is wrong. Only generic
 //! functions own what was parsed, so that dropping it is proved only once. It stands on the refusals of subtags and
 //! on printing.
 #![tactic(auto)]
 
+pub mod answering;
 pub mod argument;
 pub mod rows;
 pub mod steps;
-pub mod told;
 
+pub use answering::{Answering, Ask};
 use iloc_subtags::ParseError;
 use iloc_writeable::Writeable;
 pub use rows::{Asking, Call, Judged, Program, page};
 use std::cmp::Ordering;
 use std::hash::{DefaultHasher, Hash, Hasher};
-pub use told::{Answering, Ask};
 
 /// Says the text.
 pub fn say(out: &mut String, text: &str) {

@@ -1,5 +1,5 @@
 //! The rows of a program: each is parsed, answered, and put on a page.
-use crate::told::Ask;
+use crate::answering::Ask;
 use crate::{argument, number, say, unescape};
 use std::alloc::{AllocError, Global};
 

@@ -1,6 +1,6 @@
 //! Steps on a value: what it is before, the answer and `ok`, and what it is after each step. A step `call.first.second`
 //! stands between blanks. After one that is refused, the row ends with what the value is then.
-use crate::told::Answering;
+use crate::answering::Answering;
 use crate::{put, refuse, refused, say};
 use iloc_subtags::{ParseError, WordKind, WordOf};
 use iloc_writeable::Writeable;

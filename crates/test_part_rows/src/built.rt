@@ -10,8 +10,8 @@ use iloc_transform::{Fields, Transform, Value as FieldValue};
 use iloc_unicode::{Attributes, Keywords, Unicode};
 use iloc_word_list::{Value, is_strictly_ascending};
 use std::alloc::{AllocError, Global};
+use test_page::answering::made;
 use test_page::steps::words;
-use test_page::told::made;
 use test_page::{Answering, Call, put, put_or_none, refuse, say};
 
 // A key and a value.

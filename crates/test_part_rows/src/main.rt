@@ -26,7 +26,7 @@ use iloc_transform::{Fields, Transform, Value as FieldValue};
 use iloc_unicode::{Attributes, Keywords, Unicode};
 use iloc_word_list::Value;
 use std::io;
-use test_page::told::answer;
+use test_page::answering::answer;
 use test_page::{Ask, Asking, Call, Judged, page, say};
 
 /// The program: what it asks of a type stands at the type's `impl` of `Answering`.

@@ -93,7 +93,7 @@ impl Answering<Rows> for Keywords {
         self.cmp(other)
     }
 
-    fn tell(&self, _alloc: Global, call: &str, text: &[u8], out: &mut String) {
+    fn answer_own(&self, _alloc: Global, call: &str, text: &[u8], out: &mut String) {
         match call {
             "cmp" => order(out, self.strict_cmp(text)),
             "get" => keywords_get(self, text, out),
@@ -147,7 +147,7 @@ impl Answering<Rows> for Unicode {
         self.total_cmp(other)
     }
 
-    fn tell(&self, _alloc: Global, call: &str, _text: &[u8], out: &mut String) {
+    fn answer_own(&self, _alloc: Global, call: &str, _text: &[u8], out: &mut String) {
         match call {
             "empty" => truth(out, self.is_empty()),
             "keywords" => put(out, &self.keywords),
@@ -212,7 +212,7 @@ impl Answering<Rows> for Fields {
         self.cmp(other)
     }
 
-    fn tell(&self, _alloc: Global, call: &str, text: &[u8], out: &mut String) {
+    fn answer_own(&self, _alloc: Global, call: &str, text: &[u8], out: &mut String) {
         match call {
             "get" => fields_get(self, text, out),
             "empty" => truth(out, self.is_empty()),
@@ -235,12 +235,12 @@ impl Answering<Rows> for Transform {
         self.total_cmp(other)
     }
 
-    fn tell(&self, alloc: Global, call: &str, text: &[u8], out: &mut String) {
+    fn answer_own(&self, alloc: Global, call: &str, text: &[u8], out: &mut String) {
         match call {
             "none" => truth(out, self.is_empty()),
             "lang" => put_some(out, &self.lang),
             "fields" => put(out, &self.fields),
-            _ => self.fields.tell(alloc, call, text, out),
+            _ => self.fields.answer_own(alloc, call, text, out),
         }
     }
 

@@ -37,7 +37,7 @@ fn counted<K: WordKind<N>, const N: usize>(
 }
 
 // What attributes and private words are asked: these have no trait in common.
-macro_rules! tell_words {
+macro_rules! answer_words {
     ($list:expr, $call:expr, $text:expr, $out:expr) => {
         match $call {
             "list" => {
@@ -66,8 +66,8 @@ impl Answering<Rows> for Attributes {
         self.cmp(other)
     }
 
-    fn tell(&self, _alloc: Global, call: &str, text: &[u8], out: &mut String) {
-        tell_words!(self, call, text, out)
+    fn answer_own(&self, _alloc: Global, call: &str, text: &[u8], out: &mut String) {
+        answer_words!(self, call, text, out)
     }
 
     fn step(&mut self, step: &Step<'_>, out: &mut String) -> bool {
@@ -90,8 +90,8 @@ impl Answering<Rows> for Private {
         self.cmp(other)
     }
 
-    fn tell(&self, _alloc: Global, call: &str, text: &[u8], out: &mut String) {
-        tell_words!(self, call, text, out)
+    fn answer_own(&self, _alloc: Global, call: &str, text: &[u8], out: &mut String) {
+        answer_words!(self, call, text, out)
     }
 
     fn step(&mut self, _step: &Step<'_>, _out: &mut String) -> bool {
@@ -131,7 +131,7 @@ impl Answering<Rows> for Value {
         self.cmp(other)
     }
 
-    fn tell(&self, _alloc: Global, call: &str, text: &[u8], out: &mut String) {
+    fn answer_own(&self, _alloc: Global, call: &str, text: &[u8], out: &mut String) {
         match call {
             "list" => {
                 let only = self.as_single_subtag();
@@ -165,7 +165,7 @@ impl Answering<Rows> for FieldValue {
         self.cmp(other)
     }
 
-    fn tell(&self, _alloc: Global, call: &str, _text: &[u8], out: &mut String) {
+    fn answer_own(&self, _alloc: Global, call: &str, _text: &[u8], out: &mut String) {
         match call {
             "list" => words(out, self.as_slice()),
             _ => say(out, "no call"),
@@ -182,7 +182,7 @@ impl Answering<Rows> for Other {
         self.cmp(other)
     }
 
-    fn tell(&self, _alloc: Global, call: &str, _text: &[u8], out: &mut String) {
+    fn answer_own(&self, _alloc: Global, call: &str, _text: &[u8], out: &mut String) {
         match call {
             "list" => {
                 say(out, self.get_ext_str());

@@ -1,5 +1,5 @@
 //! Preferences of formatters.
-use crate::told::Making;
+use crate::answering::Making;
 use iloc_data::{FormatPreferences, TimePreferences};
 use iloc_langid::LanguageIdentifier;
 use iloc_locale::Locale;

@@ -1,4 +1,4 @@
-//! What is told of a keyword. Only the generic functions here own one.
+//! What calls answer of a keyword. Only the generic functions here own one.
 use iloc_keyword_types::{
     CalendarAlgorithm, DictionaryBreakScriptExclusions, KeywordKind, PreferenceKey,
     PreferencesParseError, SingleKeyword, SubtagContent,
@@ -67,7 +67,7 @@ pub fn default_of<T: Shown + Default + Drop>(out: &mut String) {
 }
 
 /// Says what is asked of the keyword, or why it was refused.
-pub fn told<T: Shown + Drop>(
+pub fn answer_parsed<T: Shown + Drop>(
     read: Result<T, PreferencesParseError>,
     asked: &Asked<'_>,
     out: &mut String,

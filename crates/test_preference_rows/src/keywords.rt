@@ -6,7 +6,7 @@
 //! `keyword-copy-KEY` a copy, and whether it is the same, `keyword-given-KEY` the value by the type's own call. A refusal is `! `, its words, and what it prints.
 //! `keyword-default TAB KEY` answers the text of the default, `keyword-key TAB KEY` the key that the function of its
 //! name makes, `keyword-memory` the refusal `OutOfMemory`.
-use crate::keyword::{Asked, default_of, refuse_keyword, told};
+use crate::keyword::{Asked, answer_parsed, default_of, refuse_keyword};
 use crate::variants;
 use iloc_enum_keywords::{
     CollationCaseFirst, CollationNumericOrdering, CollationType, CommonVariantType,
@@ -27,26 +27,26 @@ use test_page::{Call, put, refuse, say};
 fn keyword(word: &str, asked: &Asked<'_>, out: &mut String) {
     let value = asked.value;
     match word {
-        "ca" => told(CalendarAlgorithm::try_from(value), asked, out),
-        "co" => told(CollationType::try_from(value), asked, out),
-        "kf" => told(CollationCaseFirst::try_from(value), asked, out),
-        "kn" => told(CollationNumericOrdering::try_from(value), asked, out),
-        "cf" => told(CurrencyFormatStyle::try_from(value), asked, out),
-        "em" => told(EmojiPresentationStyle::try_from(value), asked, out),
-        "fw" => told(FirstDay::try_from(value), asked, out),
-        "hc" => told(HourCycle::try_from(value), asked, out),
-        "lb" => told(LineBreakStyle::try_from(value), asked, out),
-        "lw" => told(LineBreakWordHandling::try_from(value), asked, out),
-        "ms" => told(MeasurementSystem::try_from(value), asked, out),
-        "mu" => told(MeasurementUnitOverride::try_from(value), asked, out),
-        "ss" => told(SentenceBreakSupressions::try_from(value), asked, out),
-        "va" => told(CommonVariantType::try_from(value), asked, out),
-        "cu" => told(CurrencyType::try_from(value), asked, out),
-        "nu" => told(NumberingSystem::try_from(value), asked, out),
-        "tz" => told(TimeZoneShortId::try_from(value), asked, out),
-        "rg" => told(RegionOverride::try_from(value), asked, out),
-        "sd" => told(RegionalSubdivision::try_from(value), asked, out),
-        "dx" => told(
+        "ca" => answer_parsed(CalendarAlgorithm::try_from(value), asked, out),
+        "co" => answer_parsed(CollationType::try_from(value), asked, out),
+        "kf" => answer_parsed(CollationCaseFirst::try_from(value), asked, out),
+        "kn" => answer_parsed(CollationNumericOrdering::try_from(value), asked, out),
+        "cf" => answer_parsed(CurrencyFormatStyle::try_from(value), asked, out),
+        "em" => answer_parsed(EmojiPresentationStyle::try_from(value), asked, out),
+        "fw" => answer_parsed(FirstDay::try_from(value), asked, out),
+        "hc" => answer_parsed(HourCycle::try_from(value), asked, out),
+        "lb" => answer_parsed(LineBreakStyle::try_from(value), asked, out),
+        "lw" => answer_parsed(LineBreakWordHandling::try_from(value), asked, out),
+        "ms" => answer_parsed(MeasurementSystem::try_from(value), asked, out),
+        "mu" => answer_parsed(MeasurementUnitOverride::try_from(value), asked, out),
+        "ss" => answer_parsed(SentenceBreakSupressions::try_from(value), asked, out),
+        "va" => answer_parsed(CommonVariantType::try_from(value), asked, out),
+        "cu" => answer_parsed(CurrencyType::try_from(value), asked, out),
+        "nu" => answer_parsed(NumberingSystem::try_from(value), asked, out),
+        "tz" => answer_parsed(TimeZoneShortId::try_from(value), asked, out),
+        "rg" => answer_parsed(RegionOverride::try_from(value), asked, out),
+        "sd" => answer_parsed(RegionalSubdivision::try_from(value), asked, out),
+        "dx" => answer_parsed(
             DictionaryBreakScriptExclusions::try_from_value(asked.alloc, value),
             asked,
             out,

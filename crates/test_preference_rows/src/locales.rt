@@ -1,6 +1,6 @@
 //! Preferences of locales.
+use crate::answering::{Answering, Making, made};
 use crate::formatters;
-use crate::told::{Answering, Making, made};
 use iloc_data::{DataLocale, LocalePreferences};
 use iloc_langid::LanguageIdentifier;
 use iloc_locale::Locale;
@@ -9,7 +9,7 @@ use std::alloc::Global;
 use test_page::{order, put, put_some, refused, say, truth};
 
 impl Answering for Locale {
-    fn tell(&mut self, alloc: Global, call: &str, out: &mut String) {
+    fn answer(&mut self, alloc: Global, call: &str, out: &mut String) {
         match call {
             "prefs" => strict(alloc, self, out),
             "lenient" => preferences(alloc, LocalePreferences::from(&*self), out),
@@ -21,7 +21,7 @@ impl Answering for Locale {
         }
     }
 
-    fn tell_extended(&self, alloc: Global, by: &Self, then: &Self, call: &str, out: &mut String) {
+    fn answer_extended(&self, alloc: Global, by: &Self, then: &Self, call: &str, out: &mut String) {
         if call != "extend" {
             return formatters::extended(self, by, then, call, out);
         }
@@ -39,7 +39,7 @@ impl Making for DataLocale {
 }
 
 impl Answering for LanguageIdentifier {
-    fn tell(&mut self, alloc: Global, call: &str, out: &mut String) {
+    fn answer(&mut self, alloc: Global, call: &str, out: &mut String) {
         match call {
             "langid-prefs" => preferences(alloc, LocalePreferences::from(&*self), out),
             "langid-data" => put(out, &DataLocale::from(&*self)),
@@ -48,7 +48,7 @@ impl Answering for LanguageIdentifier {
         }
     }
 
-    fn tell_extended(&self, alloc: Global, by: &Self, then: &Self, call: &str, out: &mut String) {
+    fn answer_extended(&self, alloc: Global, by: &Self, then: &Self, call: &str, out: &mut String) {
         say(out, "no call")
     }
 }

@@ -14,26 +14,26 @@
 //! once.
 #![tactic(auto)]
 
+mod answering;
 mod enums;
 mod formatters;
 mod keyword;
 mod keywords;
 mod locales;
-mod told;
 mod variants;
 
+use answering::{answer_parsed, extended, handed_over};
 use iloc_data::{DataLocale, FormatPreferences, TimePreferences};
 use iloc_langid::LanguageIdentifier;
 use iloc_locale::Locale;
 use std::alloc::Global;
 use std::io;
 use test_page::{Call, Program, page};
-use told::{extended, handed_over, told};
 
 #[derive(Drop)]
 struct Rows;
 
-// What is told of the first argument, extended by the second and the third; that is `und` if it is not there.
+// What a call answers of the first argument, extended by the second and the third; that is `und` if it is not there.
 fn merged(call: &Call<'_>, out: &mut String) {
     let alloc = call.alloc;
     let third = if call.third.is_empty() {
@@ -51,25 +51,25 @@ fn merged(call: &Call<'_>, out: &mut String) {
     )
 }
 
-// What is told of an identifier, or made of one that is handed over.
+// What a call answers of an identifier, or made of one that is handed over.
 fn identifier(alloc: Global, name: &str, text: &[u8], out: &mut String) {
     let read = LanguageIdentifier::try_from_utf8(alloc, text);
     match name {
         "langid-data-owned" => handed_over::<LanguageIdentifier, DataLocale>(out, read),
         "langid-format-owned" => handed_over::<LanguageIdentifier, FormatPreferences>(out, read),
         "langid-time-owned" => handed_over::<LanguageIdentifier, TimePreferences>(out, read),
-        _ => told(alloc, read, name, out),
+        _ => answer_parsed(alloc, read, name, out),
     }
 }
 
-// What is told of a locale, or made of one that is handed over.
+// What a call answers of a locale, or made of one that is handed over.
 fn locale(alloc: Global, name: &str, text: &[u8], out: &mut String) {
     let read = Locale::try_from_utf8(alloc, text);
     match name {
         "data-owned" => handed_over::<Locale, DataLocale>(out, read),
         "format-owned" => handed_over::<Locale, FormatPreferences>(out, read),
         "time-owned" => handed_over::<Locale, TimePreferences>(out, read),
-        _ => told(alloc, read, name, out),
+        _ => answer_parsed(alloc, read, name, out),
     }
 }
 

@@ -1,7 +1,7 @@
 //! Keywords by `==` with a value that is written out here, one of each type, and struct keywords of a value that is
 //! handed over.
+use crate::answering::made;
 use crate::keyword::{Shown, refuse_keyword};
-use crate::told::made;
 use iloc_enum_keywords::{
     CollationCaseFirst, CollationNumericOrdering, CollationType, CommonVariantType,
     CurrencyFormatStyle, EmojiPresentationStyle, FirstDay, HourCycle, LineBreakStyle,

@@ -2,7 +2,7 @@
 //! call; parts of many types that print as one text; lists and maps whose items own memory; the room that a text takes;
 //! values that are read in place of others; the places of faults.
 //!
-//! `FailingSink` tells its text and counts its failures. The crate stands on the crates whose calls it makes, up to
+//! `FailingSink` gives its text and counts its failures. The crate stands on the crates whose calls it makes, up to
 //! `iloc_program`.
 #![tactic(auto)]
 

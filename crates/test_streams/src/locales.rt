@@ -120,7 +120,7 @@ fn an_identifier_is_read_in_place_of_another(rt: HostRuntime) {
 
 // Whether the error of a sink that refuses a write is answered, if it refused one, with a beginning of the text before it
 // and no write after it; else the sink holds the whole text.
-fn tells_failure<W: Writeable>(alloc: Global, value: &W, whole: &str, writes: u64) -> bool {
+fn reports_failure<W: Writeable>(alloc: Global, value: &W, whole: &str, writes: u64) -> bool {
     let mut sink = FailingSink::new(alloc, writes);
     let is_written = value.write_to(&mut sink).is_ok();
     let (text, failures) = (sink.text.as_str(), sink.failures);
@@ -133,26 +133,26 @@ fn tells_failure<W: Writeable>(alloc: Global, value: &W, whole: &str, writes: u6
 
 // Whether each sink does that has room for fewer writes than the text has bytes, and whether the first refuses a write
 // and the last none.
-fn tells_each_failure<W: Writeable>(alloc: Global, value: &W, whole: &str) -> bool {
+fn reports_each_failure<W: Writeable>(alloc: Global, value: &W, whole: &str) -> bool {
     let most = whole.len() as u64;
-    let is_told = (0..most).all(|writes: u64| tells_failure(alloc, value, whole, writes));
+    let is_reported = (0..most).all(|writes: u64| reports_failure(alloc, value, whole, writes));
     let mut none = FailingSink::new(alloc, 0);
     let mut all = FailingSink::new(alloc, most);
-    is_told && value.write_to(&mut none).is_err() && value.write_to(&mut all).is_ok()
+    is_reported && value.write_to(&mut none).is_err() && value.write_to(&mut all).is_ok()
 }
 
 // Whether the locale, its extensions and its unicode extension do, which print these texts.
-fn tells_failures(alloc: Global, locale: &Locale) -> bool {
+fn reports_failures(alloc: Global, locale: &Locale) -> bool {
     let extensions = &locale.extensions;
-    tells_each_failure(alloc, locale, "en-US-a-foo-t-fr-m0-true-u-abc-ca-roc-x-y")
-        && tells_each_failure(alloc, extensions, "a-foo-t-fr-m0-true-u-abc-ca-roc-x-y")
-        && tells_each_failure(alloc, &extensions.unicode, "u-abc-ca-roc")
+    reports_each_failure(alloc, locale, "en-US-a-foo-t-fr-m0-true-u-abc-ca-roc-x-y")
+        && reports_each_failure(alloc, extensions, "a-foo-t-fr-m0-true-u-abc-ca-roc-x-y")
+        && reports_each_failure(alloc, &extensions.unicode, "u-abc-ca-roc")
 }
 
 #[test]
 fn a_sink_fails_at_each_write(rt: HostRuntime) -> Result<(), Fail> {
     let alloc = rt.alloc();
     let locale = Locale::try_from_str(alloc, "EN-us-u-ABC-ca-roc-t-fr-m0-true-a-foo-x-y")?;
-    assert!(rt; tells_failures(alloc, &locale));
+    assert!(rt; reports_failures(alloc, &locale));
     Ok(())
 }

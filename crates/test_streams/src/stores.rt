@@ -53,7 +53,7 @@ fn sum<S: Store<u16, u16>>(store: &S) -> Result<u16, AllocError> {
 }
 
 /// The pair that `change` takes out, how many pairs a probe has then, their sum, and how many there are in the end.
-fn told<S: Store<u16, u16>>(
+fn taken_and_left<S: Store<u16, u16>>(
     store: &mut S,
 ) -> Result<(Option<(u16, u16)>, usize, u16, usize), AllocError> {
     let taken = change(store);
@@ -67,13 +67,13 @@ fn told<S: Store<u16, u16>>(
 #[test]
 fn a_store_of_one_pair_in_place(rt: HostRuntime) -> Result<(), Fail> {
     let mut store: ShortBoxSlice<(u16, u16)> = three(rt.alloc())?;
-    assert_eq!(rt; told(&mut store), Ok((Some((2, 9)), 1, 3, 0)));
+    assert_eq!(rt; taken_and_left(&mut store), Ok((Some((2, 9)), 1, 3, 0)));
     Ok(())
 }
 
 #[test]
 fn a_store_that_is_a_vec(rt: HostRuntime) -> Result<(), Fail> {
     let mut store: Vec<(u16, u16)> = three(rt.alloc())?;
-    assert_eq!(rt; told(&mut store), Ok((Some((2, 9)), 1, 3, 0)));
+    assert_eq!(rt; taken_and_left(&mut store), Ok((Some((2, 9)), 1, 3, 0)));
     Ok(())
 }

@@ -1,4 +1,4 @@
-//! Lines told at once. The contracts of `iloc_pieces` and `iloc_pieces` let a parser say nothing, so a shape that
+//! Lines answered without building a value. The contracts of `iloc_pieces` let a parser say nothing, so a shape that
 //! silently went the old way would show nowhere else.
 //!
 //! `line-plain TEXT` says the normal text. In the other calls the second argument says how many bytes of the first are the
@@ -6,7 +6,7 @@
 //! `line-keyword` what follows the singleton of that block. A line of which nothing is said is `not told`.
 ghost use Rattle.iloc_pieces.specs.Plain.{AreWords};
 
-use iloc_pieces::{Block, Keyword, Plain, find_block, read_keyword, read_plain, read_plain_text};
+use iloc_pieces::{Keyword, Plain, Window, find_block, read_keyword, read_plain, read_plain_text};
 use test_page::argument::number_of;
 use test_page::{bytes, number, say};
 
@@ -39,11 +39,11 @@ fn window(text: &[u8], len: usize, out: &mut String) {
 }
 
 // Says the block's first byte, and how many bytes the line has from there on.
-fn block(block: &Block<'_>, out: &mut String) {
+fn block(block: Window<'_>, out: &mut String) {
     say(out, "block ");
-    bytes(out, block.window.get(..1).unwrap_or(b""));
+    bytes(out, block.bytes.get(..1).unwrap_or(b""));
     say(out, " ");
-    number(out, block.len);
+    number(out, block.len());
 }
 
 // Says the first block by the first piece of one byte, if sixteen bytes follow the line at least.
@@ -51,8 +51,10 @@ fn first_block(window: &[u8], len: usize, out: &mut String) {
     if window.len() < 16 || len > window.len() - 16 {
         return say(out, "not told");
     }
-    match find_block(window, len) {
-        Some(found) => block(&found, out),
+    match find_block(Window {
+        bytes: &window[..len + 16],
+    }) {
+        Some(found) => block(found, out),
         None => say(out, "not told"),
     }
 }
@@ -62,7 +64,9 @@ fn keyword_of(window: &[u8], len: usize) -> Keyword {
     if window.len() < 16 || len > window.len() - 16 {
         return Keyword::Other;
     }
-    match find_block(window, len) {
+    match find_block(Window {
+        bytes: &window[..len + 16],
+    }) {
         Some(block) => read_keyword(block),
         None => Keyword::Other,
     }

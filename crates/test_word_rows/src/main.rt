@@ -1,11 +1,11 @@
-//! Table tests of short texts, subtags and lines told at once. A test is a line `CALL TAB argument TAB argument` of
+//! Table tests of short texts, subtags and lines that are answered without building a value. A test is a line `CALL TAB argument TAB argument` of
 //! `stdin` and the same line of `stdout`. For example, `word-language TAB German` gives `german german\x00\x00`. The
-//! tests make every public call of short texts, of subtags of each kind, of refusals, and of `iloc_pieces` and
-//! `iloc_pieces`, and outline texts.
+//! tests make every public call of short texts, of subtags of each kind, of refusals, of `iloc_pieces`, and of outline
+//! texts.
 //!
 //! A call that parses answers what it parsed, or `! ` and the words of the refusal. `tiny-N`, `text-N` and
 //! `tinyraw-N` parse a short text of a size. `CALL-KIND` makes a call of a subtag of the kind, and `two-tiny`
-//! compares two short texts. A call of one word stands in `single`. `line-CALL` tells what a line is (`lines`), and
+//! compares two short texts. A call of one word stands in `single`. `line-CALL` says what a line is (`lines`), and
 //! `outline-MODE` gives the normal text of a text by its outline (`outlines`).
 //!
 //! No test allocates: the program asks for all the memory that it needs before the first one. It stands on

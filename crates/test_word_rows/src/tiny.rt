@@ -45,7 +45,7 @@ fn cases<const N: usize>(text: &TinyAsciiStr<N>, out: &mut String) {
 
 /// Says the text, its length, its raw form, and the text in other cases and quoted, then its classes; or that there is
 /// none.
-fn tell<const N: usize>(read: Option<TinyAsciiStr<N>>, out: &mut String) {
+fn describe<const N: usize>(read: Option<TinyAsciiStr<N>>, out: &mut String) {
     match read {
         Some(text) => {
             say(out, text.as_str());
@@ -84,9 +84,9 @@ fn read<const N: usize>(call: &str, given: &[u8], out: &mut String)
     requires { N ≤ 8 }
 {
     match call {
-        "tinyraw" => tell::<N>(TinyAsciiStr::try_from_raw(padded(given)), out),
-        "tiny" => tell::<N>(TinyAsciiStr::try_from_utf8(given), out),
-        _ => tell::<N>(of_text(given), out),
+        "tinyraw" => describe::<N>(TinyAsciiStr::try_from_raw(padded(given)), out),
+        "tiny" => describe::<N>(TinyAsciiStr::try_from_utf8(given), out),
+        _ => describe::<N>(of_text(given), out),
     }
 }
 

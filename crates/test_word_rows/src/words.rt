@@ -40,7 +40,7 @@ fn lent<K: WordKind<N>, const N: usize>(word: &WordOf<K, N>, out: &mut String) {
 }
 
 /// Says the word in each way of printing, lending and converting it.
-fn tell<K: WordKind<N>, const N: usize>(word: WordOf<K, N>, out: &mut String) {
+fn describe<K: WordKind<N>, const N: usize>(word: WordOf<K, N>, out: &mut String) {
     let _ = word.as_str();
     let _ = write!(out, " {word} {word:?}");
     lent(&word, out);
@@ -52,7 +52,7 @@ fn tell<K: WordKind<N>, const N: usize>(word: WordOf<K, N>, out: &mut String) {
 fn calls<K: WordKind<N>, const N: usize>(text: &str, out: &mut String) {
     printed(out, text.parse::<WordOf<K, N>>());
     match WordOf::<K, N>::try_from_str(text) {
-        Ok(word) => tell(word, out),
+        Ok(word) => describe(word, out),
         Err(error) => {
             say(out, " ");
             refuse(out, error)

@@ -120,10 +120,10 @@ fn try_each(start: &str, call: Trying) -> usize {
         let mut it = locale(start);
         let (held, text) = (live(), it.to_string());
         grant(granted);
-        let told = call(&mut it);
+        let answer = call(&mut it);
         let was_refused = is_refused();
         grant(-1);
-        let kind = told.map_err(|it| it.kind());
+        let kind = answer.map_err(|it| it.kind());
         assert_eq!(kind, if was_refused { Err(Refusal::OutOfMemory) } else { Ok(()) });
         if !was_refused {
             return granted as usize + 1;

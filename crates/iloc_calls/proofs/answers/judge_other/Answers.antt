@@ -1,4 +1,4 @@
--- A text of which the normal text is told means something.
+-- A text that has a normal text means something.
 use Rattle.iloc_calls.proofs.answers.judge_other.Goals as goal
 
 pub returns-in-Normal : goal.returns-in-Normal

@@ -1,4 +1,4 @@
--- What is handed out of a text that is told is its normal text.
+-- What is handed out of a text that is answered is its normal text.
 use Rattle.iloc_calls.proofs.HandedLemmas.{handed_out}
 use Rattle.iloc_calls.proofs.answers.normalize_outlined.Goals as goal
 

@@ -1,4 +1,4 @@
-use Rattle.std.proofs.Common.{◌≡◌, ◌-◌, Option, IfSome, inl, inr, refl, subst, take, drop, ap, ◌∙◌}
+use Rattle.std.proofs.Common.{◌≡◌, ◌-◌, length, Option, IfSome, inl, inr, refl, subst, take, drop, ap, ◌∙◌}
 use Rattle.std.specs.Cmp.Lexicographic.{texts_ties}
 use Rattle.iloc_spec_grammar.specs.Syntax.{Text, is_same, upper}
 use Rattle.iloc_normalize.proofs.Named.{put_all, put_head, put_part, put_whole}
@@ -10,7 +10,8 @@ use Rattle.iloc_normalize.proofs.data_writing.write_named.Goals.{
 
 pub returns-then-is_whole-clause-put : goal.returns-then-is_whole-clause-put
 returns-then-is_whole-clause-put c =
-    λ d x. put_whole c.args.window.now c.args.len c.args.head.now c.args.value.now d x
+    λ d x.
+    put_whole c.args.text.bytes.now (length c.args.text.bytes.now - 16) c.args.head.now c.args.value.now d x
     c.region_start-start.result
     (c.region_start-start.ensures.start x.written x.head.words x.head.front) c.if-start-front.true _
     c.put_with_region-end.ensures.put
@@ -18,7 +19,8 @@ returns-then-is_whole-clause-put c =
 
 pub returns-then-start-front-clause-put : goal.returns-then-start-front-clause-put
 returns-then-start-front-clause-put c =
-    λ d x. put_part c.args.window.now c.args.len c.args.head.now c.args.value.now d x
+    λ d x.
+    put_part c.args.text.bytes.now (length c.args.text.bytes.now - 16) c.args.head.now c.args.value.now d x
     c.region_start-start.result
     (c.region_start-start.ensures.start x.written x.head.words x.head.front) c.if-start-front.true _
     c.put_with_region-end.ensures.put
@@ -28,7 +30,7 @@ pub returns-then-not-is_same-clause-put : goal.returns-then-not-is_same-clause-p
 unfolding upper
 returns-then-not-is_same-clause-put c =
     λ d x.
-    let w = c.args.window.now in
+    let w = c.args.text.bytes.now in
     let start = c.region_start-start.result in
     let front = c.args.head.now.front.end in
     let v = c.args.value.now in
@@ -40,11 +42,13 @@ returns-then-not-is_same-clause-put c =
     let found = c.region_start-start.ensures.start x.written x.head.words x.head.front in
     let bytes = c.to_ascii_uppercase-region.ensures ∙ ap upper piece in
     elim c.then-not-is_same.branch [
-      | then-not-is_same-via-then-not-is_same b ↦ put_head w c.args.len c.args.head.now v d x start found
+      | then-not-is_same-via-then-not-is_same b ↦
+          put_head w (length c.args.text.bytes.now - 16) c.args.head.now v d x start found
           c.if-start-front.false
           c.to_ascii_uppercase-region.result bytes c.eq-is_same.result _ agrees refl
           (inl b.if-not-is_same.true) _ c.put_front.ensures
-      | then-not-is_same-via-else-not-is_same+then-is_whole-2 b ↦ put_head w c.args.len c.args.head.now v d
+      | then-not-is_same-via-else-not-is_same+then-is_whole-2 b ↦
+          put_head w (length c.args.text.bytes.now - 16) c.args.head.now v d
           x start found
           c.if-start-front.false c.to_ascii_uppercase-region.result bytes c.eq-is_same.result
           b.is_whole-else-not-is_same.result agrees
@@ -55,7 +59,7 @@ pub returns-clause-put : goal.returns-clause-put
 unfolding upper
 returns-clause-put c =
     λ d x.
-    let w = c.args.window.now in
+    let w = c.args.text.bytes.now in
     let start = c.region_start-start.result in
     let front = c.args.head.now.front.end in
     let v = c.args.value.now in
@@ -64,7 +68,7 @@ returns-clause-put c =
     (drop start w))) c.unwrap.ensures c.of.ensures.short in
     let agrees = c.eq-is_same.ensures ∙ texts_ties c.to_ascii_uppercase-region.result c.region_of.result
     ∙ ap (is_same c.to_ascii_uppercase-region.result) c.region_of.ensures in
-    put_all w c.args.len c.args.head.now v d x start
+    put_all w (length c.args.text.bytes.now - 16) c.args.head.now v d x start
     (c.region_start-start.ensures.start x.written x.head.words x.head.front) c.if-start-front.false
     c.to_ascii_uppercase-region.result (c.to_ascii_uppercase-region.ensures
     ∙ ap upper piece) c.eq-is_same.result

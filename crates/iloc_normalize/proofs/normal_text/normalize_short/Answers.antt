@@ -11,42 +11,42 @@ use Rattle.iloc_normalize.proofs.normal_text.normalize_short.Goals as goal
 
 pub from_utf8_unchecked-requires : goal.from_utf8_unchecked-requires
 from_utf8_unchecked-requires c =
-    let h = subst (λ (t : Text). IsPlainText t c.in-Some.told) c.load-lanes.ensures c.in-Some.ensures in
-    subst IsUtf8 (sym (h.exactly.0 c.if-told.true))
-    (identifier_utf8 (value_of c.in-Some.told.plain) h.plain.value)
+    let h = subst (λ (t : Text). IsPlainText t c.in-Some.text) c.load-lanes.ensures c.in-Some.ensures in
+    subst IsUtf8 (sym (h.exactly.0 c.if-text.true))
+    (identifier_utf8 (value_of c.in-Some.text.plain) h.plain.value)
 
 pub own_front-requires-clause-utf8 : goal.own_front-requires-clause-utf8
 own_front-requires-clause-utf8 c =
     let h = c.in-Some.ensures in
-    subst IsUtf8 (sym h.plain.words.normal) (identifier_utf8 (value_of c.in-Some.told.plain) h.plain.value)
+    subst IsUtf8 (sym h.plain.words.normal) (identifier_utf8 (value_of c.in-Some.text.plain) h.plain.value)
 
-pub returns-then-told : goal.returns-then-told
-returns-then-told c =
-    let h = subst (λ (t : Text). IsPlainText t c.in-Some.told) c.load-lanes.ensures c.in-Some.ensures in
-    let same = c.from_utf8_unchecked.ensures ∙ h.exactly.0 c.if-told.true in
+pub returns-then-text : goal.returns-then-text
+returns-then-text c =
+    let h = subst (λ (t : Text). IsPlainText t c.in-Some.text) c.load-lanes.ensures c.in-Some.ensures in
+    let same = c.from_utf8_unchecked.ensures ∙ h.exactly.0 c.if-text.true in
     λ mode. (
       subst (IsNormalText languages mode c.args.input.now) (sym same)
-          (plain_normal mode c.args.input.now c.in-Some.told.plain h.plain),
+          (plain_normal mode c.args.input.now c.in-Some.text.plain h.plain),
       (λ _. sym c.from_utf8_unchecked.ensures, λ _. tt),
     )
 
 pub returns-in-Ok : goal.returns-in-Ok
 returns-in-Ok c =
-    let h = subst (λ (t : Text). IsPlainText t c.in-Some.told) c.load-lanes.ensures c.in-Some.ensures in
+    let h = subst (λ (t : Text). IsPlainText t c.in-Some.text) c.load-lanes.ensures c.in-Some.ensures in
     let owned = c.in-Ok.ensures ∙ h.plain.words.normal in
     λ mode. (
       subst (IsNormalText languages mode c.args.input.now) (sym owned)
-          (plain_normal mode c.args.input.now c.in-Some.told.plain h.plain),
-      (λ l. absurd l, λ e. absurd (true≢false (sym (h.exactly.1 (e ∙ owned)) ∙ c.if-told.false))),
+          (plain_normal mode c.args.input.now c.in-Some.text.plain h.plain),
+      (λ l. absurd l, λ e. absurd (true≢false (sym (h.exactly.1 (e ∙ owned)) ∙ c.if-text.false))),
     )
 
 pub returns-in-Err : goal.returns-in-Err
 returns-in-Err c =
-    let h = subst (λ (t : Text). IsPlainText t c.in-Some.told) c.load-lanes.ensures c.in-Some.ensures in
+    let h = subst (λ (t : Text). IsPlainText t c.in-Some.text) c.load-lanes.ensures c.in-Some.ensures in
     λ mode. (
       _,
-      plain_normal mode c.args.input.now c.in-Some.told.plain h.plain,
-      λ e. absurd (true≢false (sym (h.exactly.1 e) ∙ c.if-told.false)),
+      plain_normal mode c.args.input.now c.in-Some.text.plain h.plain,
+      λ e. absurd (true≢false (sym (h.exactly.1 e) ∙ c.if-text.false)),
     )
 
 pub returns-in_default : goal.returns-in_default

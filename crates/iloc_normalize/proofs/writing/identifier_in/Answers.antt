@@ -1,22 +1,39 @@
-use Rattle.std.proofs.Common.{◌≡◌, length, length-take-le, take, arith}
-use Rattle.iloc_spec_grammar.specs.Syntax.{languages}
+use Rattle.std.proofs.Common.{◌≡◌, ℕ, length, length-take-le, sym, subst, take, arith}
+use Rattle.iloc_spec_grammar.specs.Syntax.{Text, languages}
 use Rattle.iloc_spec_grammar.specs.Values.{identifier_text}
 use Rattle.iloc_spec_grammar.proofs.AnySteps.{length-identifier_means}
+use Rattle.iloc_outline.specs.Outlines.{BeginsWithLanguage}
+use Rattle.iloc_normalize.specs.Answered.{HasRefusal, IsNormalWritten}
+use Rattle.iloc_normalize.specs.declared.Mode.TheVariants.{Langid}
+use Rattle.iloc_normalize.specs.declared.writing.Written.TheVariants.{Normal}
 use Rattle.iloc_normalize.proofs.writing.identifier_in.Goals as goal
+
+pub outline_identifier-requires-clause-begins : goal.outline_identifier-requires-clause-begins
+outline_identifier-requires-clause-begins g c =
+    subst (λ (m : ℕ). BeginsWithLanguage (take m c.args.text.bytes.now)) (sym c.len-len.ensures)
+    c.requires.begins
 
 pub copy_outline-requires-clause-gives : goal.copy_outline-requires-clause-gives
 copy_outline-requires-clause-gives g c =
-    let t = take c.args.len c.args.window.now in
+    let t = take c.len-len.result c.args.text.bytes.now in
     let (i, m, s) = c.in-Normal.ensures in
     let long : length (identifier_text i) ≡ length t = length-identifier_means languages t i m in
     record { normal = identifier_text i; gives = s; few = omega arith }
 
 pub returns-in-Normal : goal.returns-in-Normal
 returns-in-Normal g c =
+    let w = c.args.text.bytes.now in
+    let len = c.len-len.result in
     let (i, m, s) = c.in-Normal.ensures in
-    let whole : length (take c.args.len c.args.window.now) ≡ c.args.len =
-    length-take-le c.args.len c.args.window.now c.requires.inside in (
+    let whole : length (take len w) ≡ len = length-take-le len w (omega (arith, c.len-len.ensures)) in
+    subst (λ (k : ℕ). IsNormalWritten Langid (take k w) c.copy_outline.new.to (Normal c.copy_outline.result))
+    c.len-len.ensures (
       omega (arith, whole, c.copy_outline.ensures.within),
-      omega (arith, whole, c.requires.room),
+      omega (arith, whole, c.len-len.ensures, c.args.text.room, c.requires.room),
       (i, m, c.copy_outline.ensures.text (identifier_text i) s),
     )
+
+pub returns-in-Refused : goal.returns-in-Refused
+returns-in-Refused g c = c.refused.ensures Langid _ _
+    (subst (λ (k : ℕ). HasRefusal Langid (take k c.args.text.bytes.now) c.in-Refused.error) c.len-len.ensures
+    c.in-Refused.ensures)

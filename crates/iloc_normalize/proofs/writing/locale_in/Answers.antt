@@ -1,24 +1,41 @@
-use Rattle.std.proofs.Common.{◌≡◌, length, length-take-le, take, arith}
-use Rattle.iloc_spec_grammar.specs.Syntax.{languages}
+use Rattle.std.proofs.Common.{◌≡◌, ℕ, length, length-take-le, sym, subst, take, arith}
+use Rattle.iloc_spec_grammar.specs.Syntax.{Text, languages}
 use Rattle.iloc_spec_grammar.specs.Values.{text}
 use Rattle.iloc_spec_grammar.proofs.AnySteps.{shortest}
+use Rattle.iloc_outline.specs.Outlines.{BeginsWithLanguage}
+use Rattle.iloc_normalize.specs.Answered.{HasRefusal, IsNormalWritten}
+use Rattle.iloc_normalize.specs.declared.Mode.TheVariants.{Locale}
+use Rattle.iloc_normalize.specs.declared.writing.Written.TheVariants.{Normal}
 use Rattle.iloc_normalize.proofs.writing.locale_in.Goals as goal
+
+pub outline_locale-requires-clause-begins : goal.outline_locale-requires-clause-begins
+outline_locale-requires-clause-begins g c =
+    subst (λ (m : ℕ). BeginsWithLanguage (take m c.args.text.bytes.now)) (sym c.len-len.ensures)
+    c.requires.begins
 
 pub copy_outline-requires-clause-gives : goal.copy_outline-requires-clause-gives
 copy_outline-requires-clause-gives g c =
-    let h = c.in-Normal.ensures in
+    let (M, m, s) = c.in-Normal.ensures in
     record {
-      normal = text h.0;
-      gives = h.2;
-      few = shortest languages (take c.args.len c.args.window.now) h.0 h.1;
+      normal = text M;
+      gives = s;
+      few = shortest languages (take c.len-len.result c.args.text.bytes.now) M m;
     }
 
 pub returns-in-Normal : goal.returns-in-Normal
 returns-in-Normal g c =
-    let h = c.in-Normal.ensures in
-    let whole : length (take c.args.len c.args.window.now) ≡ c.args.len =
-    length-take-le c.args.len c.args.window.now c.requires.inside in (
+    let w = c.args.text.bytes.now in
+    let len = c.len-len.result in
+    let (M, m, s) = c.in-Normal.ensures in
+    let whole : length (take len w) ≡ len = length-take-le len w (omega (arith, c.len-len.ensures)) in
+    subst (λ (k : ℕ). IsNormalWritten Locale (take k w) c.copy_outline.new.to (Normal c.copy_outline.result))
+    c.len-len.ensures (
       omega (arith, whole, c.copy_outline.ensures.within),
-      omega (arith, whole, c.requires.room),
-      (h.0, h.1, c.copy_outline.ensures.text (text h.0) h.2),
+      omega (arith, whole, c.len-len.ensures, c.args.text.room, c.requires.room),
+      (M, m, c.copy_outline.ensures.text (text M) s),
     )
+
+pub returns-in-Refused : goal.returns-in-Refused
+returns-in-Refused g c = c.refused.ensures Locale _ _
+    (subst (λ (k : ℕ). HasRefusal Locale (take k c.args.text.bytes.now) c.in-Refused.error) c.len-len.ensures
+    c.in-Refused.ensures)

@@ -1,7 +1,7 @@
 use Rattle.std.proofs.Common.{◌==◌, not, ap, ◌∙◌}
 use Rattle.iloc_pieces.specs.Left.{piece_left}
 use Rattle.iloc_pieces.proofs.LeftLemmas.{single_short}
-use Rattle.iloc_pieces.proofs.Tells.{shape_left, single_shape}
+use Rattle.iloc_pieces.proofs.ByShape.{shape_left, single_shape}
 use Rattle.iloc_pieces.proofs.left.is_alphanumeric.Goals as goal
 
 pub returns : goal.returns

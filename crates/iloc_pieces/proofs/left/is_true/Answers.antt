@@ -4,7 +4,7 @@ use Rattle.iloc_spec_grammar.specs.Syntax.{Script, IsWord}
 use Rattle.iloc_spec_grammar.proofs.WordsLaws.{length-script}
 use Rattle.iloc_pieces.specs.Left.{piece_left}
 use Rattle.iloc_pieces.proofs.LeftLemmas.{piece_inside, piece_bytes}
-use Rattle.iloc_pieces.proofs.Tells.{shape_left, true_number, true_script}
+use Rattle.iloc_pieces.proofs.ByShape.{shape_left, true_number, true_script}
 use Rattle.iloc_pieces.proofs.Tests.{script_is}
 use Rattle.iloc_pieces.proofs.left.is_true.Goals as goal
 

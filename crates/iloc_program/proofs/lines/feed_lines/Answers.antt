@@ -8,21 +8,14 @@ use Rattle.std.proofs.lemmas.Bool.Decides.{nat_tests}
 use Rattle.std.proofs.lemmas.List.{drop-drop, length-drop, take_all}
 use Rattle.std.proofs.lemmas.List.Elements.{All-nil}
 use Rattle.iloc_spec_grammar.specs.Syntax.{Text, languages}
-use Rattle.iloc_spec_grammar.specs.Values.{identifier_text}
-use Rattle.iloc_pieces.specs.Plain.{value_of}
+use Rattle.iloc_pieces.proofs.WindowLemmas.{text_of_cut}
 use Rattle.iloc_program.proofs.LineCuts.{output-cut}
-use Rattle.iloc_normalize.proofs.PlainAnswers.{plain_normal}
-use Rattle.iloc_program.proofs.PlainLemmas.{normal_reply, refused_reply}
-use Rattle.iloc_normalize.proofs.FrontAnswers.{no_language_refused}
 use Rattle.iloc_normalize.specs.declared.Mode.{Mode}
-use Rattle.iloc_subtags.specs.declared.parse_error.ParseError.TheVariants.{InvalidLanguage}
 use Rattle.iloc_program.specs.ReplyBlock.{held}
 use Rattle.iloc_program.proofs.lines.feed_lines.Goals as goal
 use Rattle.iloc_program.proofs.lines.feed_lines.Goals.{
   then-later-lt16+else-is_empty+in_ok-reply_line,
-  else-later-lt16+then-not-may_begin+in_ok-write_refusal,
-  else-later-lt16+else-not-may_begin+in-Some+in_ok-push_plain,
-  else-later-lt16+else-not-may_begin+in_default+in_ok-reply_to,
+  else-later-lt16+in_ok-reply_whole,
 }
 use Rattle.iloc_program.specs.Answers.{reply, output}
 
@@ -39,9 +32,7 @@ lines-preserved g c =
     let less : end < length rest = elim c.if-later-lt16.branch [
       | then-later-lt16+else-is_empty+in_ok-reply_line w ↦
           grind (arith, nat_tests, back_len, w.is_empty.ensures, w.if-is_empty.false)
-      | else-later-lt16+then-not-may_begin+in_ok-write_refusal w ↦ omega (arith, back_len)
-      | else-later-lt16+else-not-may_begin+in-Some+in_ok-push_plain w ↦ omega (arith, back_len)
-      | else-later-lt16+else-not-may_begin+in_default+in_ok-reply_to w ↦ omega (arith, back_len)
+      | else-later-lt16+in_ok-reply_whole w ↦ omega (arith, back_len)
     ] in
     let replied : held c.if-later-lt16.replies ≡ held c.lines.replies ++ reply languages mode line =
     elim c.if-later-lt16.branch [
@@ -50,17 +41,10 @@ lines-preserved g c =
           ∙ ap (λ (m : Mode). held c.lines.replies ++ reply languages m c.split_at.result.0.now)
           w.mode.ensures
           ∙ ap (λ (t : Text). held c.lines.replies ++ reply languages mode t) c.split_at.ensures.front
-      | else-later-lt16+then-not-may_begin+in_ok-write_refusal w ↦
-          ap held w.replies-is ∙ w.in_ok-write_refusal.ensures.text
-          ∙ ap (λ (t : Text). held c.lines.replies ++ t) (refused_reply mode line InvalidLanguage
-          (no_language_refused mode line (w.may_begin.ensures w.if-not-may_begin.true)))
-      | else-later-lt16+else-not-may_begin+in-Some+in_ok-push_plain w ↦
-          ap held w.replies-is ∙ w.in_ok-push_plain.ensures
-          ∙ ap (λ (t : Text). held c.lines.replies ++ t)
-          (normal_reply mode line (identifier_text (value_of w.in-Some.plain))
-          (plain_normal mode line w.in-Some.plain w.in-Some.ensures))
-      | else-later-lt16+else-not-may_begin+in_default+in_ok-reply_to w ↦
-          ap held w.replies-is ∙ w.in_ok-reply_to.ensures
+      | else-later-lt16+in_ok-reply_whole w ↦
+          ap held w.replies-is ∙ w.in_ok-reply_whole.ensures
+          ∙ ap (λ (t : Text). held c.lines.replies ++ reply languages mode t)
+          (text_of_cut rest end (omega (arith, back_len)))
     ] in
     let back : c.split_at.result.1.now ≡ drop end rest = c.split_at.ensures.back in
     let next_is : take (length c.split_at.result.1.now - 1) (drop 1 c.split_at.result.1.now) ≡ later =
@@ -70,11 +54,7 @@ lines-preserved g c =
       empty = elim c.if-later-lt16.branch [
         | then-later-lt16+else-is_empty+in_ok-reply_line w ↦
             ap (λ (v : Vec ℕ Global). v.items) w.pending-is ∙ w.in_ok-reply_line.ensures.room
-        | else-later-lt16+then-not-may_begin+in_ok-write_refusal w ↦
-            ap (λ (v : Vec ℕ Global). v.items) w.pending-is ∙ c.lines.invariant.empty
-        | else-later-lt16+else-not-may_begin+in-Some+in_ok-push_plain w ↦
-            ap (λ (v : Vec ℕ Global). v.items) w.pending-is ∙ c.lines.invariant.empty
-        | else-later-lt16+else-not-may_begin+in_default+in_ok-reply_to w ↦
+        | else-later-lt16+in_ok-reply_whole w ↦
             ap (λ (v : Vec ℕ Global). v.items) w.pending-is ∙ c.lines.invariant.empty
       ];
       ahead = λ next. c.lines.invariant.ahead next

@@ -1,6 +1,6 @@
 -- Each piece is counted once.
 use Rattle.std.proofs.Common.{◌∙◌}
-use Rattle.locale_web.proofs.Telling.{text_told}
+use Rattle.locale_web.proofs.Kinded.{text_kinded}
 use Rattle.locale_web.proofs.Walking.{count_begins, count_ends, as_many}
 use Rattle.locale_web.proofs.rows.count_pieces.Goals as goal
 
@@ -8,7 +8,7 @@ pub pieces-init : goal.pieces-init
 pieces-init c =
     let h = c.requires in
     let l = c.left_in-at.ensures in
-    count_begins c.args.normal.now c.left_in-at.result (text_told h.0 c.args.normal.now h.1).short l.at
+    count_begins c.args.normal.now c.left_in-at.result (text_kinded h.0 c.args.normal.now h.1).short l.at
     l.len l.rest
 
 pub returns : goal.returns

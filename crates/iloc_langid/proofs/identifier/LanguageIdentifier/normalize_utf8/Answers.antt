@@ -4,7 +4,7 @@ use Rattle.iloc_spec_grammar.specs.Values.{identifier_text}
 use Rattle.iloc_langid.specs.Normalizing.{IsNormalizedIdentifier}
 use Rattle.iloc_langid.proofs.NormalAnswers.{prints_accepts, prints_refuses}
 use Rattle.iloc_langid.proofs.ReadLemmas.{identifiers_judge}
-use Rattle.iloc_langid.proofs.NormalizingLemmas.{told_text, told_other}
+use Rattle.iloc_langid.proofs.NormalizingLemmas.{answered_text, answered_other}
 use Rattle.iloc_normalize.proofs.NormalLemmas.{normal_text, refused, runs_out}
 use Rattle.iloc_normalize.specs.declared.Mode.TheVariants.{Langid}
 use Rattle.iloc_langid.proofs.identifier.LanguageIdentifier.normalize_utf8.Goals as goal
@@ -12,14 +12,16 @@ use Rattle.iloc_langid.proofs.identifier.LanguageIdentifier.normalize_utf8.Goals
 pub returns-in-Some-clause-ok : goal.returns-in-Some-clause-ok
 returns-in-Some-clause-ok c =
     let t = c.args.input.now in
-    normal_text Langid t (IsNormalizedIdentifier t) (told_text t) c.in-Some.normal (c.in-Some.ensures Langid)
+    normal_text Langid t (IsNormalizedIdentifier t) (answered_text t) c.in-Some.normal
+    (c.in-Some.ensures Langid)
 
 pub returns-in-Some-clause-err : goal.returns-in-Some-clause-err
 returns-in-Some-clause-err c = refused Langid c.args.input.now c.in-Some.normal (c.in-Some.ensures Langid)
 
 pub returns-in-Some-clause-memory : goal.returns-in-Some-clause-memory
 returns-in-Some-clause-memory c =
-    runs_out Langid c.args.input.now (told_other c.args.input.now) c.in-Some.normal (c.in-Some.ensures Langid)
+    runs_out Langid c.args.input.now (answered_other c.args.input.now) c.in-Some.normal
+    (c.in-Some.ensures Langid)
 
 pub returns-in-Some-clause-accepted : goal.returns-in-Some-clause-accepted
 returns-in-Some-clause-accepted c =

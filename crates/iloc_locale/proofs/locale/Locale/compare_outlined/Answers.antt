@@ -1,9 +1,10 @@
-use Rattle.std.proofs.Common.{◌≡◌, ◌∙◌, sym, ap, subst, refl, true, false, true≢false}
+use Rattle.std.proofs.Common.{◌≡◌, length, arith, ◌∙◌, sym, ap, subst, refl, true, false, true≢false}
 use Rattle.std.specs.Ordering.{is_eq, is_ne}
 use Rattle.std.specs.declared.cmp.Ordering.{Ordering}
 use Rattle.std.specs.declared.cmp.Ordering.TheVariants.{Less, Equal, Greater}
 use Rattle.std.specs.Cmp.Lexicographic.{same_text}
 use Rattle.iloc_spec_grammar.specs.Syntax.{Text, languages}
+use Rattle.iloc_pieces.proofs.WindowLemmas.{text_of_cut}
 use Rattle.iloc_normalize.specs.Modes.{IsNormalText}
 use Rattle.iloc_normalize.specs.Answered.{HasRefusal}
 use Rattle.iloc_normalize.specs.declared.Mode.TheVariants as modes
@@ -41,7 +42,8 @@ returns-in-Normal c =
     let untied = c.if-is_eq.ensures ∙ ap is_eq c.strict_cmp.ensures in
     let normal = c.in-Normal.normal.now in
     let told = subst (λ (u : Text). IsNormalText languages modes.Locale u normal)
-    c.in_window.ensures c.in-Normal.ensures.answered in
+    (text_of_cut c.in_window.result (length t) (omega arith) ∙ c.in_window.ensures)
+    c.in-Normal.ensures.answered in
     let own = subst (λ (u : Text). IsNormalText languages modes.Locale t u)
     (same_text _ _ c.if-eq.ensures) told in
     (λ s. absurd (true≢false (sym s)), λ m. absurd (other_text_differs t M t untied own m))
@@ -52,7 +54,8 @@ returns-then-is_ne c =
     let M = value_of c.args.self.now in
     let normal = c.in-Normal.normal.now in
     let told = subst (λ (u : Text). IsNormalText languages modes.Locale u normal)
-    c.in_window.ensures c.in-Normal.ensures.answered in
+    (text_of_cut c.in_window.result (length t) (omega arith) ∙ c.in_window.ensures)
+    c.in-Normal.ensures.answered in
     let untied = apart c.strict_cmp-in-Normal-2.result (sym c.if-is_ne.ensures)
     ∙ ap is_eq c.strict_cmp-in-Normal-2.ensures in
     (λ s. absurd (true≢false (sym s)), λ m. absurd (other_text_differs t M normal untied told m))
@@ -64,7 +67,8 @@ returns-then-is_well_formed-2 c =
     let well = c.is_well_formed-in-Normal-2.ensures.back c.if-is_well_formed-2.true in
     let normal = c.in-Normal.normal.now in
     let told = subst (λ (u : Text). IsNormalText languages modes.Locale u normal)
-    c.in_window.ensures c.in-Normal.ensures.answered in
+    (text_of_cut c.in_window.result (length t) (omega arith) ∙ c.in_window.ensures)
+    c.in-Normal.ensures.answered in
     let tied = alike c.strict_cmp-in-Normal-2.result (sym c.if-is_ne.ensures)
     ∙ ap is_eq c.strict_cmp-in-Normal-2.ensures in
     (λ s. normal_text_means t M well normal tied told, λ m. refl)
@@ -75,5 +79,6 @@ returns-in-Refused c =
     let M = value_of c.args.self.now in
     let e = c.in-Refused.field-0 in
     let faulty = subst (λ (u : Text). HasRefusal modes.Locale u e)
-    c.in_window.ensures c.in-Refused.ensures.answered in
+    (text_of_cut c.in_window.result (length t) (omega arith) ∙ c.in_window.ensures)
+    c.in-Refused.ensures.answered in
     (λ s. absurd (true≢false (sym s)), λ m. absurd (faulty_differs t M e faulty m))

@@ -1,7 +1,7 @@
 use Rattle.std.specs.Prelude.{◌≢◌, ⊤}
 use Rattle.std.proofs.Common.{Err}
 use Rattle.iloc_locale.specs.LocaleReading.{IsNormalizedLocale}
-use Rattle.iloc_locale.proofs.NormalLemmas.{told_text, told_other}
+use Rattle.iloc_locale.proofs.NormalLemmas.{answered_text, answered_other}
 use Rattle.iloc_normalize.proofs.AsciiLemmas.{normal_utf8}
 use Rattle.iloc_normalize.proofs.NormalLemmas.{normal_text, refusal, refused, runs_out}
 use Rattle.iloc_normalize.specs.declared.Mode.TheVariants.{Locale, Data}
@@ -17,7 +17,7 @@ text_of-requires c =
 pub returns-in-Normal-clause-ok : goal.returns-in-Normal-clause-ok
 returns-in-Normal-clause-ok c =
     let t = c.args.input.now in
-    normal_text Locale t (IsNormalizedLocale t) (told_text t) c.text_of.result
+    normal_text Locale t (IsNormalizedLocale t) (answered_text t) c.text_of.result
     (c.text_of.ensures Locale c.in-Normal.ensures.answered)
 
 pub returns-in-Normal-clause-err : goal.returns-in-Normal-clause-err
@@ -26,7 +26,7 @@ returns-in-Normal-clause-err c =
 
 pub returns-in-Normal-clause-memory : goal.returns-in-Normal-clause-memory
 returns-in-Normal-clause-memory c =
-    runs_out Locale c.args.input.now (told_other c.args.input.now) c.text_of.result
+    runs_out Locale c.args.input.now (answered_other c.args.input.now) c.text_of.result
     (c.text_of.ensures Locale c.in-Normal.ensures.answered)
 
 pub returns-in-Refused-clause-err : goal.returns-in-Refused-clause-err
@@ -36,5 +36,5 @@ returns-in-Refused-clause-err c =
 
 pub returns-in-Refused-clause-memory : goal.returns-in-Refused-clause-memory
 returns-in-Refused-clause-memory c =
-    runs_out {Z = ⊤} Locale c.args.input.now (told_other c.args.input.now) (Err c.in-Refused.refusal)
+    runs_out {Z = ⊤} Locale c.args.input.now (answered_other c.args.input.now) (Err c.in-Refused.refusal)
     (refusal ⊤ Locale c.args.input.now c.in-Refused.refusal c.in-Refused.ensures.answered)

@@ -3,7 +3,7 @@ use Rattle.iloc_spec_grammar.specs.Values.{text}
 use Rattle.iloc_langid.proofs.NormalAnswers.{prints_accepts, prints_refuses}
 use Rattle.iloc_locale.proofs.ReadLemmas.{locales_judge}
 use Rattle.iloc_locale.specs.LocaleReading.{IsNormalizedLocale}
-use Rattle.iloc_locale.proofs.NormalLemmas.{told_text, told_other}
+use Rattle.iloc_locale.proofs.NormalLemmas.{answered_text, answered_other}
 use Rattle.iloc_normalize.proofs.NormalLemmas.{normal_text, refused, runs_out}
 use Rattle.iloc_normalize.specs.declared.Mode.TheVariants.{Locale}
 use Rattle.iloc_locale.proofs.locale.Locale.normalize_utf8.Goals as goal
@@ -11,14 +11,15 @@ use Rattle.iloc_locale.proofs.locale.Locale.normalize_utf8.Goals as goal
 pub returns-in-Some-clause-ok : goal.returns-in-Some-clause-ok
 returns-in-Some-clause-ok c =
     let t = c.args.input.now in
-    normal_text Locale t (IsNormalizedLocale t) (told_text t) c.in-Some.normal (c.in-Some.ensures Locale)
+    normal_text Locale t (IsNormalizedLocale t) (answered_text t) c.in-Some.normal (c.in-Some.ensures Locale)
 
 pub returns-in-Some-clause-err : goal.returns-in-Some-clause-err
 returns-in-Some-clause-err c = refused Locale c.args.input.now c.in-Some.normal (c.in-Some.ensures Locale)
 
 pub returns-in-Some-clause-memory : goal.returns-in-Some-clause-memory
 returns-in-Some-clause-memory c =
-    runs_out Locale c.args.input.now (told_other c.args.input.now) c.in-Some.normal (c.in-Some.ensures Locale)
+    runs_out Locale c.args.input.now (answered_other c.args.input.now) c.in-Some.normal
+    (c.in-Some.ensures Locale)
 
 pub returns-in-Some-clause-accepted : goal.returns-in-Some-clause-accepted
 returns-in-Some-clause-accepted c = prints_accepts cow_str_bytes text (locales_judge c.args.input.now)

@@ -1,8 +1,14 @@
-use Rattle.std.proofs.Common.{◌∙◌, ap, is_some}
-use Rattle.std.specs.FinMap.{find}
-use Rattle.iloc_spec_grammar.specs.Syntax.{word_cmp}
+use Rattle.std.proofs.Common.{◌∙◌, ap, sym, is_some, true≢false, arith}
+use Rattle.iloc_unicode.proofs.Lookups.{of_other}
 use Rattle.iloc_unicode.proofs.keywords.Keywords.set.Goals as goal
 
-pub returns-clause-known : goal.returns-clause-known
-returns-clause-known c h =
-    c.insert.ensures.keeps (ap (λ es. is_some (find word_cmp c.args.key es)) c.self.view_is ∙ h)
+pub returns-in_err-put_new-clause-known : goal.returns-in_err-put_new-clause-known
+returns-in_err-put_new-clause-known c h =
+    let missing = of_other c.args.key c.as_slice.result.now c.args.self.now c.index-only-0.result c.ne.result
+    c.as_slice.ensures.pairs (omega arith) c.in-len1.len_below c.ne.ensures c.if-ne.true in
+    absurd (true≢false (sym (ap is_some missing ∙ h)))
+
+pub returns-then-ne-clause-before : goal.returns-then-ne-clause-before
+returns-then-ne-clause-before c =
+    of_other c.args.key c.as_slice.result.now c.args.self.now c.index-only-0.result c.ne.result
+    c.as_slice.ensures.pairs (omega arith) c.in-len1.len_below c.ne.ensures c.if-ne.true

@@ -1,5 +1,5 @@
-//! What is asked of a type: how its values are parsed, what they tell, how two compare, and how steps change one. What
-//! each type answers by the same calls stands here once, for any type.
+//! What is asked of a type: how its values are parsed, what their calls answer, how two compare, and how steps change
+//! one. What each type answers by the same calls stands here once, for any type.
 use crate::rows::Call;
 use crate::steps::{Step, stepped};
 use crate::{hash_of, number, order, put, refuse, refused, say, truth};
@@ -11,7 +11,7 @@ use std::cmp::Ordering;
 use std::hash::Hash;
 use std::{fmt, str};
 
-/// A type of which the rows of the program `P` tell.
+/// A type to which the rows of the program `P` make calls.
 pub trait Answering<P>: Clone + PartialEq + Hash + Writeable + fmt::Display + Drop + Sized {
     /// Parses the text.
     fn read(alloc: Global, text: &[u8]) -> Result<Self, ParseError>;
@@ -20,7 +20,7 @@ pub trait Answering<P>: Clone + PartialEq + Hash + Writeable + fmt::Display + Dr
     fn compare(&self, other: &Self) -> Ordering;
 
     /// Says what the type's own call answers, for the text.
-    fn tell(&self, alloc: Global, call: &str, text: &[u8], out: &mut String);
+    fn answer_own(&self, alloc: Global, call: &str, text: &[u8], out: &mut String);
 
     /// Takes the step and says its answer, with a blank after it; false if an allocation failed.
     fn step(&mut self, step: &Step<'_>, out: &mut String) -> bool {
@@ -91,7 +91,7 @@ fn copied<W: Clone + PartialEq + Writeable + Drop>(out: &mut String, value: &W) 
     }
 }
 
-// Says what is told of the value, for the text.
+// Says what the call answers of the value, for the text.
 fn asked<P, W: Answering<P>>(alloc: Global, value: &W, call: &str, text: &[u8], out: &mut String) {
     match call {
         "hint" => hint(out, value),
@@ -99,7 +99,7 @@ fn asked<P, W: Answering<P>>(alloc: Global, value: &W, call: &str, text: &[u8], 
         "string" => whole(out, value.write_to_string(alloc)),
         "borrow" => whole(out, to_string_or_borrow(alloc, value, text)),
         "copy" => copied(out, value),
-        _ => value.tell(alloc, call, text, out),
+        _ => value.answer_own(alloc, call, text, out),
     }
 }
 
@@ -108,8 +108,8 @@ fn may_want(call: &str) -> bool {
     matches!(call, "string" | "borrow" | "copy" | "means")
 }
 
-// Says the text of the value, or what is told of it. If that may allocate, its text stands on both sides.
-fn told_of<P, W: Answering<P>>(
+// Says the text of the value, or what the call answers of it. If that may allocate, its text stands on both sides.
+fn answer_of<P, W: Answering<P>>(
     alloc: Global,
     value: &W,
     call: &str,
@@ -129,8 +129,8 @@ fn told_of<P, W: Answering<P>>(
     }
 }
 
-/// Tells of what was parsed, or why it was refused.
-pub fn told<P, W: Answering<P>>(
+/// Says what the call answers of what was parsed, or why it was refused.
+pub fn answer_parsed<P, W: Answering<P>>(
     alloc: Global,
     read: Result<W, ParseError>,
     call: &str,
@@ -138,15 +138,15 @@ pub fn told<P, W: Answering<P>>(
     out: &mut String,
 ) {
     match read {
-        Ok(value) => told_of::<P, W>(alloc, &value, call, text, out),
+        Ok(value) => answer_of::<P, W>(alloc, &value, call, text, out),
         Err(error) => refuse(out, error),
     }
 }
 
-/// Tells of what was made of the first argument what the second asks.
+/// Says what the second argument asks of what was made of the first.
 pub fn made<P, W: Answering<P>>(call: &Call<'_>, made: Result<W, ParseError>, out: &mut String) {
     let asked = str::from_utf8(call.second).unwrap_or("");
-    told::<P, W>(call.alloc, made, asked, b"", out)
+    answer_parsed::<P, W>(call.alloc, made, asked, b"", out)
 }
 
 // Says how the two compare: their order, whether they are equal, and if they are whether their hashes are.
@@ -191,7 +191,7 @@ pub fn answer<P, W: Answering<P>>(asked: Ask<'_>, call: &Call<'_>, out: &mut Str
         }
         Ask::Steps => stepped::<P, W>(alloc, W::read(alloc, call.first), call.second, out),
         Ask::One(name) => {
-            told::<P, W>(alloc, W::read(alloc, call.first), name, call.second, out)
+            answer_parsed::<P, W>(alloc, W::read(alloc, call.first), name, call.second, out)
         }
     }
 }

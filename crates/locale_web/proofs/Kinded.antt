@@ -1,4 +1,4 @@
--- The pieces of a normal text, told from the left, are the parts of its locale.
+-- The pieces of a normal text, read from the left, are the parts of its locale.
 use Rattle.std.proofs.Common.{◌≡◌, ◌≢◌, ℕ, ◌≤◌, ◌==◌, Bool, true, false, cond, List, [], ◌∷◌, ◌++◌, length}
 use Rattle.std.proofs.Common.{map, flat_map, Option, Some, None, IfSome, option_map, option_to_list, nat_le}
 use Rattle.std.proofs.Common.{codes, refl, sym, ap, ◌∙◌, subst, arith, append_assoc, append-nil, true≢false}
@@ -38,7 +38,7 @@ use Rattle.locale_web.specs.Kinds.{KindedPiece, of_kind, parts_of_identifier, pa
 use Rattle.locale_web.specs.Kinds.{parts_of_fields, parts_of_block, parts_of_transform, parts_of_unicode}
 use Rattle.locale_web.specs.Kinds.{parts_of_others, parts_of_private, parts_of_extensions, parts_of, IsOfKind}
 use Rattle.locale_web.specs.Kinds.{IsNormalTextOf}
-use Rattle.locale_web.specs.Steps.{AreShortPieces, begun, inside, step, told, word_kind}
+use Rattle.locale_web.specs.Steps.{AreShortPieces, begun, inside, step, kinded, word_kind}
 use Rattle.locale_web.specs.declared.kind.Kind.{Kind}
 use Rattle.locale_web.specs.declared.kind.Kind.TheVariants as kinds
 use Rattle.locale_web.specs.declared.state.State.{State}
@@ -199,7 +199,7 @@ language_in_transform p h =
 other_in : (p : Text) → IsWord Subtag p → step states.Other p ≡ (kinds.Other, states.Other)
 other_in p h = in_part states.Other p (long_subtag p h)
 
--- ---- what is told of the pieces of a part, whatever part follows
+-- ---- what is said of the pieces of a part, whatever part follows
 
 abbrev pub is_open : State → Bool
 is_open states.Private = false
@@ -207,74 +207,75 @@ is_open s = true
 
 -- the pieces begin a part, or are none: the state before them does not matter
 abbrev pub Begins : List Text → Type 0
-Begins qs = (s : State) → is_open s ≡ true → told s qs ≡ told states.Other qs
+Begins qs = (s : State) → is_open s ≡ true → kinded s qs ≡ kinded states.Other qs
 
-pub record AreTold (s : State) (ps : List Text) (parts : List KindedPiece) : Type 0 where
-  pub each : (qs : List Text) → Begins qs → told s (ps ++ qs) ≡ parts ++ told states.Other qs
+pub record AreKinded (s : State) (ps : List Text) (parts : List KindedPiece) : Type 0 where
+  pub each : (qs : List Text) → Begins qs → kinded s (ps ++ qs) ≡ parts ++ kinded states.Other qs
   pub words : AllByRecursion IsOfKind parts
 
-nothing_told : (s : State) → is_open s ≡ true → AreTold s [] []
-nothing_told s o = record { each = λ qs begins. begins s o; words = tt }
+nothing_kinded : (s : State) → is_open s ≡ true → AreKinded s [] []
+nothing_kinded s o = record { each = λ qs begins. begins s o; words = tt }
 
-one_told : {s next : State} {k : Kind} {ps : List Text} {parts : List KindedPiece} (p : Text) →
+one_kinded : {s next : State} {k : Kind} {ps : List Text} {parts : List KindedPiece} (p : Text) →
     step s p ≡ (k, next)
     → IsOfKind (k, p)
-    → AreTold next ps parts → AreTold s (p ∷ ps) ((k, p) ∷ parts)
-one_told {k = k} {ps = ps} p is word h = record {
-  each = λ qs begins. ap (λ w. (w.0, p) ∷ told w.1 (ps ++ qs)) is ∙ ap (λ ws. (k, p) ∷ ws) (h.each qs begins);
+    → AreKinded next ps parts → AreKinded s (p ∷ ps) ((k, p) ∷ parts)
+one_kinded {k = k} {ps = ps} p is word h = record {
+  each = λ qs begins. ap (λ w. (w.0, p) ∷ kinded w.1 (ps ++ qs)) is
+      ∙ ap (λ ws. (k, p) ∷ ws) (h.each qs begins);
   words = (word, h.words);
 }
 
 -- words of one kind, which leave the state as it is
-each_told : (s : State) (k : Kind) (K : words.Kind) → ((p : Text) → IsWord K p → IsOfKind (k, p))
+each_kinded : (s : State) (k : Kind) (K : words.Kind) → ((p : Text) → IsWord K p → IsOfKind (k, p))
     → ((p : Text) → IsWord K p → step s p ≡ (k, s))
     → (ws : List Text) → AllByRecursion (IsWord K) ws
-    → {ps : List Text} {parts : List KindedPiece} → AreTold s ps parts →
-    AreTold s (ws ++ ps) (of_kind k ws ++ parts)
-each_told s k K b is [] h rest = rest
-each_told s k K b is (w ∷ ws) h rest =
-    one_told w (is w h.0) (b w h.0) (each_told s k K b is ws h.1 rest)
+    → {ps : List Text} {parts : List KindedPiece} → AreKinded s ps parts →
+    AreKinded s (ws ++ ps) (of_kind k ws ++ parts)
+each_kinded s k K b is [] h rest = rest
+each_kinded s k K b is (w ∷ ws) h rest =
+    one_kinded w (is w h.0) (b w h.0) (each_kinded s k K b is ws h.1 rest)
 
-optional_told : (s : State) (k : Kind) (K : words.Kind) → ((p : Text) → IsWord K p → IsOfKind (k, p))
+optional_kinded : (s : State) (k : Kind) (K : words.Kind) → ((p : Text) → IsWord K p → IsOfKind (k, p))
     → ((p : Text) → IsWord K p → step s p ≡ (k, s))
     → (o : Option Text) → IfSome o (IsWord K)
-    → {ps : List Text} {parts : List KindedPiece} → AreTold s ps parts
-    → AreTold s (option_to_list o ++ ps) (of_kind k (option_to_list o) ++ parts)
-optional_told s k K b is None h rest = rest
-optional_told s k K b is (Some w) h rest = one_told w (is w h) (b w h) rest
+    → {ps : List Text} {parts : List KindedPiece} → AreKinded s ps parts
+    → AreKinded s (option_to_list o ++ ps) (of_kind k (option_to_list o) ++ parts)
+optional_kinded s k K b is None h rest = rest
+optional_kinded s k K b is (Some w) h rest = one_kinded w (is w h) (b w h) rest
 
 -- the same of equal lists
-told_as : {s : State} {ps qs : List Text} {xs ys : List KindedPiece} → ps ≡ qs → xs ≡ ys → AreTold s ps xs
-    → AreTold s qs ys
-told_as {s} {ps} {qs} {xs} {ys} e f h = subst (λ (l : List Text). AreTold s l ys) e
-    (subst (λ (l : List KindedPiece). AreTold s ps l) f h)
+kinded_as : {s : State} {ps qs : List Text} {xs ys : List KindedPiece} → ps ≡ qs → xs ≡ ys → AreKinded s ps xs
+    → AreKinded s qs ys
+kinded_as {s} {ps} {qs} {xs} {ys} e f h = subst (λ (l : List Text). AreKinded s l ys) e
+    (subst (λ (l : List KindedPiece). AreKinded s ps l) f h)
 
 three : {X : Type 0} (a b c d : List X) → a ++ (b ++ (c ++ d)) ≡ (a ++ (b ++ c)) ++ d
 three a b c d = sym (append_assoc a (b ++ c) d ∙ ap (λ l. a ++ l) (append_assoc b c d))
 
 -- words after a language
-after_language_told : {s : State} → TakesWords s → (i : SpelledIdentifier) → HasWords languages i
-    → {ps : List Text} {parts : List KindedPiece} → AreTold s ps parts
-    → AreTold s ((option_to_list i.script ++ (option_to_list i.region ++ i.variants)) ++ ps)
+after_language_kinded : {s : State} → TakesWords s → (i : SpelledIdentifier) → HasWords languages i
+    → {ps : List Text} {parts : List KindedPiece} → AreKinded s ps parts
+    → AreKinded s ((option_to_list i.script ++ (option_to_list i.region ++ i.variants)) ++ ps)
     ((of_kind kinds.Script (option_to_list i.script)
     ++ (of_kind kinds.Region (option_to_list i.region) ++ of_kind kinds.Variant i.variants)) ++ parts)
-after_language_told {s} takes i h {ps} {parts} rest =
-    told_as (three (option_to_list i.script) (option_to_list i.region) i.variants ps)
+after_language_kinded {s} takes i h {ps} {parts} rest =
+    kinded_as (three (option_to_list i.script) (option_to_list i.region) i.variants ps)
     (three (of_kind kinds.Script (option_to_list i.script)) (of_kind kinds.Region (option_to_list i.region))
     (of_kind kinds.Variant i.variants) parts)
-    (optional_told s kinds.Script Script (λ p h. h) takes.script i.script h.script
-    (optional_told s kinds.Region Region (λ p h. h) takes.region i.region h.region
-    (each_told s kinds.Variant Variant (λ p h. h) takes.variant i.variants h.variants rest)))
+    (optional_kinded s kinds.Script Script (λ p h. h) takes.script i.script h.script
+    (optional_kinded s kinds.Region Region (λ p h. h) takes.region i.region h.region
+    (each_kinded s kinds.Variant Variant (λ p h. h) takes.variant i.variants h.variants rest)))
 
 -- an identifier, in front or after `t`
-identifier_told : {first s : State}
+identifier_kinded : {first s : State}
     → ((p : Text) → IsWord (Language languages) p → step first p ≡ (kinds.Language, s)) → TakesWords s
     → (i : SpelledIdentifier) → HasWords languages i
-    → {ps : List Text} {parts : List KindedPiece} → AreTold s ps parts
-    → AreTold first (identifier_pieces i ++ ps) (parts_of_identifier i ++ parts)
-identifier_told is takes i h rest =
-    one_told i.language (is i.language h.language) h.language
-    (after_language_told takes i h rest)
+    → {ps : List Text} {parts : List KindedPiece} → AreKinded s ps parts
+    → AreKinded first (identifier_pieces i ++ ps) (parts_of_identifier i ++ parts)
+identifier_kinded is takes i h rest =
+    one_kinded i.language (is i.language h.language) h.language
+    (after_language_kinded takes i h rest)
 
 -- each key is a word of the kind, and each value one of three bytes or more
 abbrev AreFields : words.Kind → Fields → Type 0
@@ -284,45 +285,47 @@ AreFields K fs = AllByRecursion (λ f. IsWord K f.0 × AllByRecursion (IsWord At
 module _ (s : State) (k : Kind) (K : words.Kind) (b : (p : Text) → IsWord K p → IsOfKind (k, p))
     (o : is_open s ≡ true) (key : (p : Text) → IsWord K p → step s p ≡ (k, s))
     (value : (p : Text) → IsWord Attribute p → step s p ≡ (kinds.Value, s)) where
-  fields_told : (first : State) → is_open first ≡ true → ((p : Text) → IsWord K p → step first p ≡ (k, s))
-      → (fs : Fields) → AreFields K fs → AreTold first (fields_pieces fs) (parts_of_fields k fs)
-  fields_told first i is [] h = nothing_told first i
-  fields_told first i is (f ∷ fs) h =
-      one_told f.0 (is f.0 h.0.0) (b f.0 h.0.0)
-      (each_told s kinds.Value Attribute (λ p h. h) value f.1 h.0.1 (fields_told s o key fs h.1))
+  fields_kinded : (first : State) → is_open first ≡ true → ((p : Text) → IsWord K p → step first p ≡ (k, s))
+      → (fs : Fields) → AreFields K fs → AreKinded first (fields_pieces fs) (parts_of_fields k fs)
+  fields_kinded first i is [] h = nothing_kinded first i
+  fields_kinded first i is (f ∷ fs) h =
+      one_kinded f.0 (is f.0 h.0.0) (b f.0 h.0.0)
+      (each_kinded s kinds.Value Attribute (λ p h. h) value f.1 h.0.1 (fields_kinded s o key fs h.1))
 
 -- what follows `u`
-unicode_told : (u : Unicode) → AllByRecursion (IsWord Attribute) u.attributes
+unicode_kinded : (u : Unicode) → AllByRecursion (IsWord Attribute) u.attributes
     → AreFields UnicodeKey u.keywords
-    → AreTold states.Attributes (unicode_pieces u) (of_kind kinds.Attribute u.attributes
+    → AreKinded states.Attributes (unicode_pieces u) (of_kind kinds.Attribute u.attributes
     ++ parts_of_fields kinds.Key u.keywords)
-unicode_told u h f =
-    each_told states.Attributes kinds.Attribute Attribute (λ p h. h) attribute_in u.attributes h
-    (fields_told states.Keywords kinds.Key UnicodeKey (λ p h. h) refl key_in_keywords value_in_keywords
+unicode_kinded u h f =
+    each_kinded states.Attributes kinds.Attribute Attribute (λ p h. h) attribute_in u.attributes h
+    (fields_kinded states.Keywords kinds.Key UnicodeKey (λ p h. h) refl key_in_keywords value_in_keywords
     states.Attributes refl key_in_attributes u.keywords f)
 
 -- what follows `t`
-transform_told : (o : Option SpelledIdentifier) (fs : Fields) → IfSome o (HasWords languages)
+transform_kinded : (o : Option SpelledIdentifier) (fs : Fields) → IfSome o (HasWords languages)
     → AreFields TransformKey fs
-    → AreTold states.Transform (optional_pieces o ++ fields_pieces fs)
+    → AreKinded states.Transform (optional_pieces o ++ fields_pieces fs)
     (parts_of_optional o ++ parts_of_fields kinds.Field fs)
-transform_told None fs h f =
-    fields_told states.Fields kinds.Field TransformKey (λ p h. h) refl field_in_fields value_in_fields
+transform_kinded None fs h f =
+    fields_kinded states.Fields kinds.Field TransformKey (λ p h. h) refl field_in_fields value_in_fields
     states.Transform refl field_in_transform fs f
-transform_told (Some i) fs h f =
-    identifier_told language_in_transform source_takes i h
-    (fields_told states.Fields kinds.Field TransformKey (λ p h. h) refl field_in_fields value_in_fields
+transform_kinded (Some i) fs h f =
+    identifier_kinded language_in_transform source_takes i h
+    (fields_kinded states.Fields kinds.Field TransformKey (λ p h. h) refl field_in_fields value_in_fields
     states.Source refl field_in_source fs f)
 
 -- ---- the parts that follow the identifier
 
 pub record AreRest (es : List Text) (parts : List KindedPiece) : Type 0 where
-  pub are : told states.Other es ≡ parts
+  pub are : kinded states.Other es ≡ parts
   pub begins : Begins es
   pub words : AllByRecursion IsOfKind parts
 
-told_alone : {s : State} {ps : List Text} {parts : List KindedPiece} → AreTold s ps parts → told s ps ≡ parts
-told_alone {s} {ps} {parts} h = ap (told s) (sym (append-nil ps)) ∙ h.each [] (λ s o. refl) ∙ append-nil parts
+kinded_alone : {s : State} {ps : List Text} {parts : List KindedPiece} → AreKinded s ps parts →
+    kinded s ps ≡ parts
+kinded_alone {s} {ps} {parts} h =
+    ap (kinded s) (sym (append-nil ps)) ∙ h.each [] (λ s o. refl) ∙ append-nil parts
 
 -- a piece of one byte begins a part in each state but the last
 one_begins : (c : ℕ) (rest : List Text) → Begins ((c ∷ []) ∷ rest)
@@ -336,22 +339,23 @@ byte_word c h = rw h refl
 -- a part with its singleton, and what follows it
 module _ (c : ℕ) (s : State) (is : begun (to_ascii_lowercase c) ≡ s)
     (byte : is_ascii_alphanumeric c ≡ true) {es : List Text} {q : List KindedPiece} (r : AreRest es q) where
-  some_told : (ps : List Text) → AreTold s ps (told s ps) → AreRest (printed_pieces (c, ps) ++ es)
-      (parts_of_block c (told s ps) ++ q)
-  some_told [] h = r
-  some_told (p ∷ ps) h = record {
-    are = ap (λ n. (kinds.Singleton, c ∷ []) ∷ told n ((p ∷ ps) ++ es)) is
-        ∙ ap (λ l. (kinds.Singleton, c ∷ []) ∷ l) (h.each es r.begins ∙ ap (λ l. told s (p ∷ ps) ++ l) r.are);
+  some_kinded : (ps : List Text) → AreKinded s ps (kinded s ps) → AreRest (printed_pieces (c, ps) ++ es)
+      (parts_of_block c (kinded s ps) ++ q)
+  some_kinded [] h = r
+  some_kinded (p ∷ ps) h = record {
+    are = ap (λ n. (kinds.Singleton, c ∷ []) ∷ kinded n ((p ∷ ps) ++ es)) is
+        ∙ ap (λ l. (kinds.Singleton, c ∷ []) ∷ l)
+        (h.each es r.begins ∙ ap (λ l. kinded s (p ∷ ps) ++ l) r.are);
     begins = one_begins c ((p ∷ ps) ++ es);
-    words = ((byte_word c byte, refl), all_append IsOfKind (told s (p ∷ ps)) q h.words r.words);
+    words = ((byte_word c byte, refl), all_append IsOfKind (kinded s (p ∷ ps)) q h.words r.words);
   }
 
-  block_told : {ps : List Text} {parts : List KindedPiece} → AreTold s ps parts
+  block_kinded : {ps : List Text} {parts : List KindedPiece} → AreKinded s ps parts
       → AreRest (printed_pieces (c, ps) ++ es) (parts_of_block c parts ++ q)
-  block_told {ps} {parts} h =
-      let e = told_alone h in
+  block_kinded {ps} {parts} h =
+      let e = kinded_alone h in
       subst (λ (xs : List KindedPiece). AreRest (printed_pieces (c, ps) ++ es) (parts_of_block c xs ++ q)) e
-      (some_told ps (told_as refl (sym e) h))
+      (some_kinded ps (kinded_as refl (sym e) h))
 
 -- `u` and what follows it
 unicode_rest : (u : Unicode) → AllByRecursion (IsWord Attribute) u.attributes
@@ -359,7 +363,7 @@ unicode_rest : (u : Unicode) → AllByRecursion (IsWord Attribute) u.attributes
     → {es : List Text} {q : List KindedPiece} → AreRest es q → AreRest (unicode_spelling u ++ es)
     (parts_of_unicode u ++ q)
 unfolding unicode_spelling
-unicode_rest u h f r = block_told code_u states.Attributes refl refl r (unicode_told u h f)
+unicode_rest u h f r = block_kinded code_u states.Attributes refl refl r (unicode_kinded u h f)
 
 -- `t` and what follows it
 transform_rest : (m : Transform) → IfSome (option_map lower_identifier m.id) (HasWords languages)
@@ -368,21 +372,21 @@ transform_rest : (m : Transform) → IfSome (option_map lower_identifier m.id) (
     (parts_of_transform m ++ q)
 unfolding transform_spelling
 transform_rest m h f r =
-    block_told code_t states.Transform refl refl r
-    (told_as (ap (λ l. l ++ fields_pieces (spelled_fields m.fields)) (id_pieces-low m.id)) refl
-    (transform_told (option_map lower_identifier m.id) (spelled_fields m.fields) h f))
+    block_kinded code_t states.Transform refl refl r
+    (kinded_as (ap (λ l. l ++ fields_pieces (spelled_fields m.fields)) (id_pieces-low m.id)) refl
+    (transform_kinded (option_map lower_identifier m.id) (spelled_fields m.fields) h f))
 
 -- `x` and what follows it
-private_told : (ws : List Text) → told states.Private ws ≡ of_kind kinds.Private ws
-private_told [] = refl
-private_told (w ∷ ws) = ap (λ l. (kinds.Private, w) ∷ l) (private_told ws)
+private_kinded : (ws : List Text) → kinded states.Private ws ≡ of_kind kinds.Private ws
+private_kinded [] = refl
+private_kinded (w ∷ ws) = ap (λ l. (kinds.Private, w) ∷ l) (private_kinded ws)
 
 private_rest : (ws : List Text) → AllByRecursion (IsWord PrivateSubtag) ws
     → AreRest (private_spelling ws) (parts_of_private ws)
 unfolding private_spelling
 private_rest [] h = record { are = refl; begins = λ s o. refl; words = tt }
 private_rest (w ∷ ws) h = record {
-  are = ap (λ l. (kinds.Singleton, code_x ∷ []) ∷ l) (private_told (w ∷ ws));
+  are = ap (λ l. (kinds.Singleton, code_x ∷ []) ∷ l) (private_kinded (w ∷ ws));
   begins = one_begins code_x (w ∷ ws);
   words = (
     (byte_word code_x refl, refl),
@@ -409,12 +413,12 @@ others_rest : (os : List Block) → AllByRecursion IsOtherPart os
 unfolding other_spelling
 others_rest [] h r = r
 others_rest (o ∷ os) h {es} {q} r =
-    let told = told_as (append-nil o.1) (append-nil (of_kind kinds.Other o.1))
-    (each_told states.Other kinds.Other Subtag (λ p h. h) other_in o.1 h.0.1
-    (nothing_told states.Other refl)) in
-    let n = block_told o.0 states.Other (ap begun h.0.0.1 ∙ others_begun o.0 h.0.0.0)
+    let kinded = kinded_as (append-nil o.1) (append-nil (of_kind kinds.Other o.1))
+    (each_kinded states.Other kinds.Other Subtag (λ p h. h) other_in o.1 h.0.1
+    (nothing_kinded states.Other refl)) in
+    let n = block_kinded o.0 states.Other (ap begun h.0.0.1 ∙ others_begun o.0 h.0.0.0)
     (and_parts _ _ h.0.0.0).0
-    (others_rest os h.1 r) told in
+    (others_rest os h.1 r) kinded in
     subst (λ (l : List Text). AreRest l (parts_of_others (o ∷ os) ++ q))
     (sym (append_assoc (printed_pieces o) (flat_map other_spelling os) es))
     (subst (λ (l : List KindedPiece). AreRest (printed_pieces o ++ (flat_map other_spelling os ++ es)) l)
@@ -484,39 +488,39 @@ module _ (e : Extensions) (v : IsExtensionsValue languages e) (w : AreWellFormed
       (others_rest (after_t e.others) (after_all IsOtherPart e.others others_are)
       (private_rest e.private private_are)))))
 
--- the pieces of parts are those that are told
-pub told_pieces : (s : State) (ps : List Text) → map (λ (w : KindedPiece). w.1) (told s ps) ≡ ps
-told_pieces s [] = refl
-told_pieces s (p ∷ ps) = ap (λ l. p ∷ l) (told_pieces (step s p).1 ps)
+-- the pieces of parts are those that are kinded
+pub kinded_pieces : (s : State) (ps : List Text) → map (λ (w : KindedPiece). w.1) (kinded s ps) ≡ ps
+kinded_pieces s [] = refl
+kinded_pieces s (p ∷ ps) = ap (λ l. p ∷ l) (kinded_pieces (step s p).1 ps)
 
 -- what the pieces of a normal text are
 pub record AreParts (M : Locale) (t : Text) : Type 0 where
-  pub told : told states.Start (pieces t) ≡ parts_of M
+  pub kinded : kinded states.Start (pieces t) ≡ parts_of M
   pub short : AreShortPieces (pieces t)
   pub words : AllByRecursion IsOfKind (parts_of M)
 
-pub text_told : (M : Locale) (t : Text) → IsNormalTextOf M t → AreParts M t
+pub text_kinded : (M : Locale) (t : Text) → IsNormalTextOf M t → AreParts M t
 unfolding parts_of
-text_told M t h =
+text_kinded M t h =
     let e = M.extensions in
     let rest = extensions_rest e h.value.extensions h.tests in
-    let id = identifier_told {first = states.Start} {s = states.Head} language_in_start head_takes
+    let id = identifier_kinded {first = states.Start} {s = states.Head} language_in_start head_takes
     (spelled_identifier M.id)
-    (value_words h.value.id) (nothing_told states.Head refl) in
-    let front = told_as (append-nil (identifier_pieces M.id)) (append-nil (parts_of_identifier M.id)) id in
+    (value_words h.value.id) (nothing_kinded states.Head refl) in
+    let front = kinded_as (append-nil (identifier_pieces M.id)) (append-nil (parts_of_identifier M.id)) id in
     let all = identifier_pieces M.id ++ extensions_spelling e in
-    let are : told states.Start all ≡ parts_of M =
+    let are : kinded states.Start all ≡ parts_of M =
     front.each (extensions_spelling e) rest.begins ∙ ap (λ l. parts_of_identifier M.id ++ l) rest.are in
     let words : AllByRecursion IsOfKind (parts_of M) =
     all_append IsOfKind (parts_of_identifier M.id) (parts_of_extensions e) front.words rest.words in
     let plain : AllByRecursion IsPlain all =
     subst (AllByRecursion IsPlain)
-    (ap (map (λ (w : KindedPiece). w.1)) (sym are) ∙ told_pieces states.Start all)
+    (ap (map (λ (w : KindedPiece). w.1)) (sym are) ∙ kinded_pieces states.Start all)
     (all_mapped IsOfKind IsPlain (λ w. w.1) plain_of (parts_of M) words) in
     let cut : pieces t ≡ all = ap pieces h.text ∙ pieces-join M.id.language _
     (all_weaker IsPlain IsHyphenFree (λ p h. h.1) all plain) in
     record {
-      told = ap (told states.Start) cut ∙ are;
+      kinded = ap (kinded states.Start) cut ∙ are;
       short = subst AreShortPieces (sym cut) (all_weaker IsPlain IsShortPiece (λ p h. h.0) all plain);
       words = words;
     }

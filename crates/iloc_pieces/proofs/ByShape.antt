@@ -1,4 +1,4 @@
--- What the shape of a piece tells.
+-- What the shape of a piece says.
 use Rattle.std.proofs.Common.{◌≡◌, ℕ, ◌+◌, ◌*◌, ◌<◌, ◌==◌, Bool, true, false, not, ◌&&◌, cond, [], ◌∷◌}
 use Rattle.std.proofs.Common.{get_or, bit_or, ◌^◌, codes, refl, sym, ap, ◌∙◌, arith, inl, inr, ⊎_elim}
 use Rattle.std.specs.Char.{is_ascii_alphabetic, is_ascii_alphanumeric, to_ascii_lowercase}
@@ -28,10 +28,10 @@ hyphen_no_word : (k : Kind) → is_word k (45 ∷ []) ≡ false
 hyphen_no_word k = false_from_ne_true _ (λ h. let all = word_letters_or_digits k (45 ∷ []) h in absurd (cc))
 
 -- a test of shapes that tells words tells whether the piece is one
-pub told_left : (k : Kind) → Bounds 8 k → (l : Left) (r : Bool)
+pub left_by_shape : (k : Kind) → Bounds 8 k → (l : Left) (r : Bool)
     → ((p : Text) → shape_of p ≡ l.shape → r ≡ is_word k p)
     → r ≡ is_word k (piece_left l)
-told_left k ends l r tells = ∥∥₁_elim l.piece (Coded-set coded_bool _ _) (⊎_elim
+left_by_shape k ends l r tells = ∥∥₁_elim l.piece (Coded-set coded_bool _ _) (⊎_elim
     (λ s. tells (piece_left l) (sym s.shape))
     (λ long.
     let none : is_word k (piece_left l) ≡ false =

@@ -1,32 +1,32 @@
-//! What is told of values that were read. Only the generic functions here own such a value.
+//! What calls answer of values that were parsed. Only the generic functions here own such a value.
 use iloc_subtags::ParseError;
 use iloc_writeable::Writeable;
 use std::alloc::{AllocError, Global};
 use test_page::{put, refuse, refused};
 
-/// A type of which calls are told.
+/// A type that answers calls.
 pub trait Answering: Sized {
     /// What the call answers.
-    fn tell(&mut self, alloc: Global, call: &str, out: &mut String);
+    fn answer(&mut self, alloc: Global, call: &str, out: &mut String);
 
     /// What the call answers of this, extended by the two others in turn.
-    fn tell_extended(&self, alloc: Global, by: &Self, then: &Self, call: &str, out: &mut String);
+    fn answer_extended(&self, alloc: Global, by: &Self, then: &Self, call: &str, out: &mut String);
 }
 
-/// Tells of what was parsed, or why it was refused.
-pub fn told<W: Answering + Drop>(
+/// Says what the call answers of what was parsed, or why it was refused.
+pub fn answer_parsed<W: Answering + Drop>(
     alloc: Global,
     read: Result<W, ParseError>,
     call: &str,
     out: &mut String,
 ) {
     match read {
-        Ok(mut value) => value.tell(alloc, call, out),
+        Ok(mut value) => value.answer(alloc, call, out),
         Err(error) => refuse(out, error),
     }
 }
 
-/// Tells of three, or why one was refused.
+/// Says what the call answers of three, or why one was refused.
 pub fn extended<W: Answering + Drop>(
     alloc: Global,
     one: Result<W, ParseError>,
@@ -36,7 +36,7 @@ pub fn extended<W: Answering + Drop>(
     out: &mut String,
 ) {
     match (one, by, then) {
-        (Ok(one), Ok(by), Ok(then)) => one.tell_extended(alloc, &by, &then, call, out),
+        (Ok(one), Ok(by), Ok(then)) => one.answer_extended(alloc, &by, &then, call, out),
         (Err(error), _, _) => refuse(out, error),
         (_, Err(error), _) => refuse(out, error),
         (_, _, Err(error)) => refuse(out, error),

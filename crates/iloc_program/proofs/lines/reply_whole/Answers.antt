@@ -1,0 +1,31 @@
+use Rattle.std.proofs.Common.{◌++◌, ap, ◌∙◌}
+use Rattle.std.proofs.lemmas.Result.{on_ok_weaker}
+use Rattle.iloc_spec_grammar.specs.Syntax.{Text}
+use Rattle.iloc_spec_grammar.specs.Values.{identifier_text}
+use Rattle.iloc_subtags.specs.declared.parse_error.ParseError.TheVariants.{InvalidLanguage}
+use Rattle.iloc_pieces.specs.Plain.{value_of}
+use Rattle.iloc_pieces.specs.Window.{text_in}
+use Rattle.iloc_normalize.proofs.FrontAnswers.{no_language_refused}
+use Rattle.iloc_normalize.proofs.PlainAnswers.{plain_normal}
+use Rattle.iloc_program.proofs.PlainLemmas.{normal_reply, refused_reply}
+use Rattle.iloc_program.specs.ReplyBlock.{held}
+use Rattle.iloc_program.proofs.lines.reply_whole.Goals as goal
+
+pub returns-then-not-may_begin : goal.returns-then-not-may_begin
+returns-then-not-may_begin g c =
+    let mode = g.A.InMode.mode in
+    let line = text_in c.args.line in
+    on_ok_weaker c.write_refusal.result
+    (λ e. e ∙ ap (λ (t : Text). held c.args.replies.now ++ t) (refused_reply mode line InvalidLanguage
+    (no_language_refused mode line (c.may_begin.ensures c.if-not-may_begin.true))))
+    c.write_refusal.ensures.text
+
+pub returns-in-Some : goal.returns-in-Some
+returns-in-Some g c =
+    let mode = g.A.InMode.mode in
+    let line = text_in c.args.line in
+    on_ok_weaker c.push_plain.result
+    (λ e. e ∙ ap (λ (t : Text). held c.args.replies.now ++ t)
+    (normal_reply mode line (identifier_text (value_of c.in-Some.plain))
+    (plain_normal mode line c.in-Some.plain c.in-Some.ensures)))
+    c.push_plain.ensures
