@@ -24,6 +24,9 @@
 //! ordered. The tests are those of the grammar (`is_word`), and what is left after a piece is what its hyphen leaves
 //! (`IsNextPiece`).
 //!
+//! **Room** (`window`). A `Window` is a text with sixteen bytes behind it, which may be loaded with it and change nothing. So
+//! sixteen bytes can be loaded from any place of the text. That they are there is an invariant of its type.
+//!
 //! It allocates nothing. It stands on the grammar (`iloc_spec_grammar`) and on pieces as numbers (`iloc_tinystr`).
 #![tactic(auto)]
 

@@ -158,21 +158,6 @@ fn reply_as(
     }
 }
 
-// Adds the reply to the line. It is called from one place only, since `lead_of` is too large to be inlined in two.
-#[inline(always)]
-fn reply_to<A: InMode>(
-    answers: &A,
-    line: Window<'_>,
-    spans: &mut Spans,
-    replies: &mut ReplyBlock,
-) -> Result<(), AllocError>
-    ensures { OnOk result (held replies.new
-        ≡ held replies.old ++ reply languages A.mode (text_in line.entry)) }
-{
-    let lead = lead_of(answers, line);
-    reply_as(answers.mode(), lead, line, spans, replies)
-}
-
 // Adds the reply to the line, in a mode that is only known when it runs. So the call is one for all modes.
 #[inline(always)]
 fn reply_in(
@@ -233,9 +218,9 @@ pub fn reply_line(
     end_pending(mode, room, spans, replies)
 }
 
-// Adds the reply to a line behind which sixteen bytes stand.
+// Adds the reply to the line. It is called from one place only, since `lead_of` is too large to be inlined in two.
 #[inline(always)]
-fn reply_whole<A: InMode>(
+fn reply_to<A: InMode>(
     answers: &A,
     line: Window<'_>,
     spans: &mut Spans,
@@ -250,7 +235,8 @@ fn reply_whole<A: InMode>(
     if let Some(plain) = plain_line(line) {
         return replies.push_plain(&plain);
     }
-    reply_to(answers, line, spans, replies)
+    let lead = lead_of(answers, line);
+    reply_as(answers.mode(), lead, line, spans, replies)
 }
 
 // Adds the replies to the lines that these bytes end, if nothing is pending, and keeps the start of
@@ -281,7 +267,7 @@ fn feed_lines<A: InMode>(
             let line = Window {
                 bytes: &rest[..end + 16],
             };
-            reply_whole(answers, line, spans, replies)?;
+            reply_to(answers, line, spans, replies)?;
         }
         rest = &later[1..];
     }

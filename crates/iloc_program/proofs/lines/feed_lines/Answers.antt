@@ -15,7 +15,7 @@ use Rattle.iloc_program.specs.ReplyBlock.{held}
 use Rattle.iloc_program.proofs.lines.feed_lines.Goals as goal
 use Rattle.iloc_program.proofs.lines.feed_lines.Goals.{
   then-later-lt16+else-is_empty+in_ok-reply_line,
-  else-later-lt16+in_ok-reply_whole,
+  else-later-lt16+in_ok-reply_to,
 }
 use Rattle.iloc_program.specs.Answers.{reply, output}
 
@@ -32,7 +32,7 @@ lines-preserved g c =
     let less : end < length rest = elim c.if-later-lt16.branch [
       | then-later-lt16+else-is_empty+in_ok-reply_line w ↦
           grind (arith, nat_tests, back_len, w.is_empty.ensures, w.if-is_empty.false)
-      | else-later-lt16+in_ok-reply_whole w ↦ omega (arith, back_len)
+      | else-later-lt16+in_ok-reply_to w ↦ omega (arith, back_len)
     ] in
     let replied : held c.if-later-lt16.replies ≡ held c.lines.replies ++ reply languages mode line =
     elim c.if-later-lt16.branch [
@@ -41,8 +41,8 @@ lines-preserved g c =
           ∙ ap (λ (m : Mode). held c.lines.replies ++ reply languages m c.split_at.result.0.now)
           w.mode.ensures
           ∙ ap (λ (t : Text). held c.lines.replies ++ reply languages mode t) c.split_at.ensures.front
-      | else-later-lt16+in_ok-reply_whole w ↦
-          ap held w.replies-is ∙ w.in_ok-reply_whole.ensures
+      | else-later-lt16+in_ok-reply_to w ↦
+          ap held w.replies-is ∙ w.in_ok-reply_to.ensures
           ∙ ap (λ (t : Text). held c.lines.replies ++ reply languages mode t)
           (text_of_cut rest end (omega (arith, back_len)))
     ] in
@@ -54,7 +54,7 @@ lines-preserved g c =
       empty = elim c.if-later-lt16.branch [
         | then-later-lt16+else-is_empty+in_ok-reply_line w ↦
             ap (λ (v : Vec ℕ Global). v.items) w.pending-is ∙ w.in_ok-reply_line.ensures.room
-        | else-later-lt16+in_ok-reply_whole w ↦
+        | else-later-lt16+in_ok-reply_to w ↦
             ap (λ (v : Vec ℕ Global). v.items) w.pending-is ∙ c.lines.invariant.empty
       ];
       ahead = λ next. c.lines.invariant.ahead next

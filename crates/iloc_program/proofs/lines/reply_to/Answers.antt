@@ -9,7 +9,7 @@ use Rattle.iloc_normalize.proofs.FrontAnswers.{no_language_refused}
 use Rattle.iloc_normalize.proofs.PlainAnswers.{plain_normal}
 use Rattle.iloc_program.proofs.PlainLemmas.{normal_reply, refused_reply}
 use Rattle.iloc_program.specs.ReplyBlock.{held}
-use Rattle.iloc_program.proofs.lines.reply_whole.Goals as goal
+use Rattle.iloc_program.proofs.lines.reply_to.Goals as goal
 
 pub returns-then-not-may_begin : goal.returns-then-not-may_begin
 returns-then-not-may_begin g c =
