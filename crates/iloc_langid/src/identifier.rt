@@ -12,7 +12,7 @@ ghost use Rattle.iloc_langid.specs.Reads.{value_of, IdentifierReads, IdentifierW
 ghost use Rattle.std.specs.Cow.{cow_str_bytes};
 ghost use Rattle.iloc_writeable.specs.Writing.{IsLent};
 
-use crate::reader::{fill_short, fill_text, read_head};
+use crate::reader::{fill_text, read_head, short_parts};
 use iloc_subtags::{Language, ParseError, Region, Script, SubtagIterator, WordKind, WordOf};
 use iloc_word_list::Variants;
 use iloc_writeable::{Pieces, Sink, Writeable, cmp_utf8};
@@ -92,6 +92,7 @@ impl LanguageIdentifier {
     /// pieces are no identifier for any other reason, and with `OutOfMemory` only if more than four
     /// variants stand in the text. Steps of rewriting keep what is parsed, and so does the wider table of
     /// languages: what is accepted with languages of two or three letters is read with the same value.
+    #[inline(always)]
     pub fn try_from_utf8(alloc: Global, code_units: &[u8]) -> Result<Self, ParseError>
         ensures reads { IdentifierReads (pieces code_units.now) result }
         ensures accepted { (i : Identifier) → IdentifierMeans languages (pieces code_units.now) i
@@ -103,10 +104,17 @@ impl LanguageIdentifier {
         ensures narrow { (i : Identifier) → IdentifierMeans two_or_three (pieces code_units.now) i
             → Accepts value_of ⊤ i result }
     {
-        let mut identifier = LanguageIdentifier::unknown();
-        if !fill_short(code_units, &mut identifier)? {
-            fill_text(alloc, code_units, &mut identifier)?;
+        // (a refusal comes before an identifier is made)
+        if let Some(plain) = short_parts(code_units)? {
+            return Ok(LanguageIdentifier {
+                language: plain.language,
+                script: plain.script,
+                region: plain.region,
+                variants: Variants::new(),
+            });
         }
+        let mut identifier = LanguageIdentifier::unknown();
+        fill_text(alloc, code_units, &mut identifier)?;
         Ok(identifier)
     }
 
@@ -121,6 +129,7 @@ impl LanguageIdentifier {
     }
 
     /// Parses all of a `str`, as `try_from_utf8` parses bytes.
+    #[inline(always)]
     pub fn try_from_str(alloc: Global, s: &str) -> Result<Self, ParseError>
         ensures reads { IdentifierReads (pieces s.now) result }
         ensures accepted { (i : Identifier) → IdentifierMeans languages (pieces s.now) i

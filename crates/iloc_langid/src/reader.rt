@@ -1,5 +1,5 @@
 //! Parses identifiers from pieces.
-ghost use Rattle.std.specs.Prelude.{◌≡◌, ◌<◌, ◌++◌, [], true, false, length, Ok, IfOk, IfErr, OnOk, OnErr};
+ghost use Rattle.std.specs.Prelude.{◌≡◌, ◌<◌, ◌++◌, [], true, false, length, Ok, IfOk, IfErr, IfSome, OnOk, OnErr};
 ghost use Rattle.std.specs.Result.{result_and};
 ghost use Rattle.iloc_spec_grammar.specs.Syntax.{pieces, head, languages};
 ghost use Rattle.iloc_spec_grammar.specs.Meaning.{IdentifierMeans};
@@ -9,9 +9,10 @@ ghost use Rattle.iloc_pieces.specs.Front.{HasNoLanguage};
 ghost use Rattle.iloc_subtags.specs.Judging.{RunsOutOnlyIf};
 ghost use Rattle.iloc_langid.specs.Reads.{value_of, VariantsReads, FrontComputed, FrontReads, IdentifierReads, IdentifierWantsMemory};
 ghost use Rattle.iloc_langid.specs.Unknown.{unknown_identifier};
+ghost use Rattle.iloc_langid.specs.PlainReads.{IsPlainFront};
 
 use crate::identifier::LanguageIdentifier;
-use crate::plain::{plain_parts, take_plain};
+use crate::plain::{PlainParts, plain_parts, take_plain};
 use iloc_pieces::begins_with_language;
 use iloc_pieces::load::load;
 use iloc_subtags::{
@@ -182,20 +183,35 @@ pub fn fill_short(text: &[u8], identifier: &mut LanguageIdentifier) -> Result<bo
     ensures refused { IfErr result (λ e. (e ≡ ParseError.InvalidLanguage)
         × HasNoLanguage text.now) }
 {
-    if text.len() > 16 {
+    let Some(told) = short_parts(text)? else {
         return Ok(false);
+    };
+    identifier.language = told.language;
+    identifier.script = told.script;
+    identifier.region = told.region;
+    Ok(true)
+}
+
+/// The subtags of a plain text. `None` says nothing of the text.
+///
+/// Refuses with `InvalidLanguage` a text of at most sixteen bytes that begins with no language.
+#[inline(always)]
+pub(crate) fn short_parts(text: &[u8]) -> Result<Option<PlainParts>, ParseError>
+    ensures told { IfOk result (λ told. IfSome told (IsPlainFront (pieces text.now) [])) }
+    ensures refused { IfErr result (λ e. (e ≡ ParseError.InvalidLanguage)
+        × HasNoLanguage text.now) }
+{
+    if text.len() > 16 {
+        return Ok(None);
     }
     let lanes = load(text);
     if let Some(told) = plain_parts(lanes, text.len()) {
-        identifier.language = told.language;
-        identifier.script = told.script;
-        identifier.region = told.region;
-        return Ok(true);
+        return Ok(Some(told));
     }
     if !begins_with_language(lanes, text.len()) {
         return Err(ParseError::InvalidLanguage);
     }
-    Ok(false)
+    Ok(None)
 }
 
 /// Parses all of the text in place of what the identifier was, for programs that keep one identifier for many

@@ -23,6 +23,7 @@ pub type SmallParts = (Language, Option<Script>, Option<Region>, Option<Variant>
 
 /// Takes the subtags at the front, each if it fits, and one variant at most. `InvalidLanguage` if the
 /// first piece is no language.
+#[inline(always)]
 pub fn read_small_front(iter: &mut SubtagIterator<'_>) -> Result<SmallParts, ParseError>
     ensures { SmallFrontReads (left iter.old) (left iter.new) result }
 {

@@ -11,10 +11,8 @@ ghost use Rattle.iloc_langid.specs.BlockReads.{
   value_result,
 };
 
-use crate::plain::plain_parts;
+use crate::reader::short_parts;
 use crate::small::read_small_front;
-use iloc_pieces::begins_with_language;
-use iloc_pieces::load::load;
 use iloc_subtags::{
     Attribute, AttributeKind, Language, ParseError, Region, Script, Subtag, SubtagIterator,
     UnicodeKey, UnicodeKeyKind, Variant, is_at_block, subtag_of, take_byte, take_word,
@@ -43,14 +41,8 @@ pub type SmallLocaleParts = (
 pub fn read_small_locale(code_units: &[u8]) -> Result<SmallLocaleParts, ParseError>
     ensures { SmallLocaleTextReads code_units.now result }
 {
-    if code_units.len() <= 16 {
-        let lanes = load(code_units);
-        if let Some(plain) = plain_parts(lanes, code_units.len()) {
-            return Ok((plain.language, plain.script, plain.region, None, None));
-        }
-        if !begins_with_language(lanes, code_units.len()) {
-            return Err(ParseError::InvalidLanguage);
-        }
+    if let Some(plain) = short_parts(code_units)? {
+        return Ok((plain.language, plain.script, plain.region, None, None));
     }
     read_small_pieces(code_units)
 }

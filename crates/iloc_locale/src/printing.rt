@@ -25,8 +25,6 @@ impl Locale {
         ensures owned { IfOk result (λ t. IsLent t → IsLanguageAlone self.now) }
         ensures memory { OnErr result (¬ (IsLanguageAlone self.now)) }
     {
-        // (it states that every locale is a value, without which `back` would not be known)
-        let _ = self.is_well_formed();
         Writeable::write_to_string(self, alloc)
     }
 }

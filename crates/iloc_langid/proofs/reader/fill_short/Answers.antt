@@ -1,11 +1,10 @@
-use Rattle.std.proofs.Common.{[], subst}
-use Rattle.iloc_spec_grammar.specs.Syntax.{Text, pieces}
+use Rattle.std.proofs.Common.{[], rules}
+use Rattle.iloc_spec_grammar.specs.Syntax.{pieces}
 use Rattle.iloc_langid.specs.PlainReads.{IsPlainFront}
 use Rattle.iloc_langid.proofs.PlainLemmas.{plain_means}
 use Rattle.iloc_langid.proofs.reader.fill_short.Goals as goal
 
-pub returns-in-Some-clause-answered : goal.returns-in-Some-clause-answered
-returns-in-Some-clause-answered c =
-    λ _. plain_means (pieces c.args.text.now) _
-    (subst (λ (t : Text). IsPlainFront (pieces t) [] c.in-Some.told) c.load-lanes.ensures c.in-Some.ensures)
-    c.requires
+pub returns-clause-answered : goal.returns-clause-answered
+returns-clause-answered c =
+    let f : IsPlainFront (pieces c.args.text.now) [] c.in-Some.told = search rules in
+    λ _. plain_means (pieces c.args.text.now) _ f c.requires
