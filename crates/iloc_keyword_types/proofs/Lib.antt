@@ -5,3 +5,4 @@ pub mod GivenLemmas
 mod ScriptLemmas
 mod TextLemmas
 mod OwedLemmas
+mod SubdivisionOrder

@@ -8,3 +8,4 @@ pub mod CalendarReading
 pub mod Scripts
 pub mod Cut
 pub mod Subdivisions
+pub mod Beginnings

@@ -2,18 +2,24 @@
 ghost use Rattle.std.specs.Prelude.{◌≡◌, Ok, Err, Some};
 ghost use Rattle.iloc_spec_grammar.specs.Meaning.{Fault};
 ghost use Rattle.iloc_subtags.specs.Judging.{Accepts, Refuses};
+ghost use Rattle.iloc_keyword_types.specs.Beginnings.{IsBeginning};
 ghost use Rattle.iloc_keyword_types.specs.Cut.{cut_of};
+ghost use Rattle.std.proofs.Common.{rules};
+ghost use Rattle.std.specs.Cmp.{partial_order_from_own_ties};
+ghost use Rattle.std.specs.Cmp.Rules.{comparing};
+ghost use Rattle.std.specs.Ordering.{on, then_cmp, as_partial_cmp};
+ghost use Rattle.iloc_spec_grammar.specs.Syntax.{word_cmp};
 
-use iloc_subtags::{ParseError, Region, SubdivisionSuffix, Subtag, subtag_of_normal};
-use iloc_tinystr::ShortPiece;
+use iloc_subtags::{ParseError, Region, SubdivisionSuffix, Subtag, raw_of_word, subtag_of_normal};
+use iloc_tinystr::{ShortPiece, cmp_raw};
 use iloc_writeable::{Sink, Writeable};
-use std::cmp::min;
+use std::cmp::{Ordering, min};
 use std::fmt;
 use std::marker::Model;
 use std::str::FromStr;
 
 /// A subdivision of a region, as `ustx`. Contracts see it as the definitions' subdivision.
-#[derive(Clone, Copy, Debug, PartialEq, Eq, PartialOrd, Ord, Hash)]
+#[derive(Clone, Copy, Debug, PartialEq, Eq, Hash)]
 pub struct SubdivisionId {
     pub region: Region,
     pub suffix: SubdivisionSuffix,
@@ -84,6 +90,46 @@ impl SubdivisionId {
         // Letters of a region are among its first two bytes.
         let region = ShortPiece::of_number(self.region.to_piece().number() | 0x2020);
         subtag_of_normal(region.concat(self.suffix.to_piece()))
+    }
+
+    // The first four bytes: those of the region, and the first one of the suffix.
+    #[inline(always)]
+    fn beginning(&self) -> [u8; 4]
+        ensures { IsBeginning self.now.region self.now.suffix result }
+    {
+        let region = raw_of_word(&self.region);
+        let suffix = raw_of_word(&self.suffix);
+        [region[0], region[1], region[2], suffix[0]]
+    }
+}
+
+/// By region, and then by suffix. Most differ in the first four bytes, compared as one number.
+impl Ord for SubdivisionId {
+    ghost cmp = { then_cmp (on (λ s. s.region) word_cmp) (on (λ s. s.suffix) word_cmp) };
+
+    ghost total = { Prim.search (comparing, rules) };
+
+    ghost matches_partial_cmp = { Prim.search (comparing, rules) };
+
+    ghost matches_eq = { Prim.search (comparing, rules) };
+
+    fn cmp(&self, other: &Self) -> Ordering {
+        match cmp_raw::<4>(&self.beginning(), &other.beginning()) {
+            Ordering::Equal => self.suffix.cmp(&other.suffix),
+            different => different,
+        }
+    }
+}
+
+impl PartialOrd for SubdivisionId {
+    ghost partial_cmp = { as_partial_cmp
+        (then_cmp (on (λ s. s.region) word_cmp) (on (λ s. s.suffix) word_cmp)) };
+
+    ghost laws = { partial_order_from_own_ties (Prim.search (comparing, rules))
+        (Prim.search (comparing, rules)) };
+
+    fn partial_cmp(&self, other: &Self) -> Option<Ordering> {
+        Some(self.cmp(other))
     }
 }
 

@@ -38,4 +38,4 @@ pub use kind::WordKind;
 pub use parse_error::ParseError;
 pub use reading::{is_at_block, next_has_length, take_byte, take_word};
 pub use subtag_iterator::SubtagIterator;
-pub use word_of::{WordOf, are_normal, is_normal, subtag_of, subtag_of_normal};
+pub use word_of::{WordOf, are_normal, is_normal, raw_of_word, subtag_of, subtag_of_normal};

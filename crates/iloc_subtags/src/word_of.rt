@@ -1,10 +1,11 @@
 //! The subtag of a kind.
-ghost use Rattle.std.specs.Prelude.{IsTrue, ◌≡◌, ◌↔◌, ℕ, List, [], ◌∷◌, Some, MatchResult};
+ghost use Rattle.std.specs.Prelude.{IsTrue, ◌≡◌, ◌↔◌, ℕ, List, [], ◌∷◌, Some, MatchResult, true};
 ghost use Rattle.std.specs.List.{AllByRecursion};
 ghost use Rattle.std.specs.Cmp.Lexicographic.{slice_cmp};
 ghost use Rattle.std.specs.Ordering.{nat_cmp};
 ghost use Rattle.iloc_spec_grammar.specs.Syntax.{Text, Subtag as the_kind, lower, word, read, raw};
 ghost use Rattle.iloc_spec_grammar.specs.Values.{IsNormal};
+ghost use Rattle.iloc_tinystr.specs.TinyText.{raw_of, is_tiny_text};
 ghost use Rattle.iloc_subtags.specs.RawForms.{ReadsRaw};
 ghost use Rattle.std.specs.Fmt.{debug_str};
 ghost use Rattle.std.specs.Cmp.Rules.{hashing};
@@ -173,6 +174,16 @@ pub fn subtag_of_normal<K: WordKind<N>, const N: usize>(piece: ShortPiece) -> Wo
         text: TinyAsciiStr::from_piece(piece),
         kind: PhantomData,
     }
+}
+
+/// The raw form of a subtag, lent: its text, followed by zeros up to `N` bytes.
+#[inline(always)]
+pub fn raw_of_word<K: WordKind<N>, const N: usize>(word: &WordOf<K, N>) -> &[u8; N]
+    ensures value { result.now ≡ raw_of N word.now }
+    ensures tiny { is_tiny_text N word.now ≡ true }
+{
+    let _ = word.text.as_str();
+    word.text.all_bytes()
 }
 
 /// The subtag as one of any sort, for kinds whose subtags all are.

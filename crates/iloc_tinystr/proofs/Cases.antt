@@ -116,20 +116,6 @@ module _ (n x : ℕ) (h : IsPacked n x) (f : ℕ) (e : f ≡ flags is_ascii_alph
 -- ---- by those of the letters that change
 
 module _ (n x : ℕ) (h : IsPacked n x) (f : ℕ) where
-  pub number-lower : f ≡ flags (is_in_range 65 90) x
-      → bit_or x (f / 4) ≡ number (map to_ascii_lowercase (bytes n x))
-  number-lower e =
-      (alike_made (of_both ors (itself x (word-lt n x h)) (case_bits (is_in_range 65 90) x f e) refl)
-      to_ascii_lowercase refl).made
-      ∙ wider to_ascii_lowercase refl n 8 x h.few (below n x h)
-
-  pub number-upper : f ≡ flags (is_in_range 97 122) x
-      → bit_xor x (f / 4) ≡ number (map to_ascii_uppercase (bytes n x))
-  number-upper e =
-      (alike_made (of_both xors (itself x (word-lt n x h)) (case_bits (is_in_range 97 122) x f e) refl)
-      to_ascii_uppercase refl).made
-      ∙ wider to_ascii_uppercase refl n 8 x h.few (below n x h)
-
   -- of all bytes but the first, by the number of them
   rest-lower : (r : ℕ) → r < 256 ^ 7
       → bit_xor r (number (map (case_bit (is_in_range 65 90)) (bytes 7 r)))

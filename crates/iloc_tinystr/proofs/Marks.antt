@@ -5,19 +5,19 @@ use borrow.Author.Tests.{eqb-true}
 use Rattle.std.proofs.lemmas.Bool.Decides.{nat_tests}
 use Rattle.std.proofs.lemmas.Nat.{ones_cat}
 use Rattle.std.specs.List.{list_all}
-use Rattle.std.specs.Char.{is_ascii_alphabetic, is_ascii_alphanumeric, is_ascii_digit, is_ascii_lowercase}
-use Rattle.std.specs.Char.{is_ascii_uppercase, to_ascii_lowercase, to_ascii_uppercase}
+use Rattle.std.specs.Char.{is_ascii_alphabetic, is_ascii_digit, is_ascii_lowercase}
+use Rattle.std.specs.Char.{is_ascii_uppercase}
 use Rattle.std.specs.Int.{is_in_range}
-use Rattle.std.specs.Int.RustNames.{bit_or, bit_xor, count_ones}
+use Rattle.std.specs.Int.RustNames.{bit_xor, count_ones}
 use Rattle.iloc_tinystr.specs.Number.{number, bytes, flag, flags, spread, IsPacked}
 use Rattle.iloc_tinystr.specs.TinyText.{is_text_byte, is_tiny_text, is_title_letters}
 use Rattle.iloc_tinystr.proofs.Low.{turned_flags}
 use Rattle.iloc_tinystr.proofs.Packed.{below, wider}
-use Rattle.iloc_tinystr.proofs.Classes.{all_are, marks, marks_step, either_are}
+use Rattle.iloc_tinystr.proofs.Classes.{all_are, marks, marks_step}
 use Rattle.iloc_tinystr.proofs.Loading.{fit-text, piece_word, piece_shows}
 use Rattle.iloc_tinystr.proofs.Titles.{title}
-use Rattle.iloc_tinystr.proofs.Cases.{number-lower, number-upper, number-title}
-use Rattle.iloc_tinystr.proofs.TinyTextLemmas.{bytes-tiny, length-le-tiny, tiny_lower, tiny_upper, tiny_title}
+use Rattle.iloc_tinystr.proofs.Cases.{number-title}
+use Rattle.iloc_tinystr.proofs.TinyTextLemmas.{bytes-tiny, length-le-tiny, tiny_title}
 
 -- the number of no marks
 none_step : (t all : Bool) (a : ℕ) → eqb a 0 ≡ all → eqb (cond t 128 0 + 256 * a) 0 ≡ (not t && all)
@@ -78,11 +78,6 @@ module _ (n : ℕ) (text : List ℕ) (x : ℕ) (few : n ≤ 8) (tiny : is_tiny_t
   pub digits_marked : eqb (flags (is_in_range 48 57) x) (flags is_text_byte x) ≡ list_all is_ascii_digit text
   digits_marked = with_all is_ascii_digit refl
 
-  pub alphanumerics_marked : eqb (bit_or (flags is_ascii_alphabetic x) (flags (is_in_range 48 57) x))
-      (flags is_text_byte x) ≡ list_all is_ascii_alphanumeric text
-  alphanumerics_marked = ap (λ y. eqb y (flags is_text_byte x)) (either_are x)
-      ∙ with_all is_ascii_alphanumeric refl
-
   pub lower_marked : eqb (flags (is_in_range 97 122) x) (flags is_text_byte x)
       ≡ list_all is_ascii_lowercase text
   lower_marked = with_all is_ascii_lowercase refl
@@ -114,20 +109,6 @@ module _ (n : ℕ) (text : List ℕ) (x : ℕ) (few : n ≤ 8) (tiny : is_tiny_t
 
   -- a piece that is read from the number of the text in another case is that text
   module _ (f : ℕ) (piece : List ℕ) where
-    pub lowered : f ≡ flags (is_in_range 65 90) x
-        → ((t : List ℕ) → list_all is_text_byte t ≡ true → bit_or x (f / 4) ≡ number t → piece ≡ t)
-        → piece ≡ map to_ascii_lowercase text
-    lowered e read =
-        read _ (bytes-tiny n _ (tiny_lower n text tiny)) (number-lower (length text) x packed f e
-        ∙ ap (λ t. number (map to_ascii_lowercase t)) shows)
-
-    pub raised : f ≡ flags (is_in_range 97 122) x
-        → ((t : List ℕ) → list_all is_text_byte t ≡ true → bit_xor x (f / 4) ≡ number t → piece ≡ t)
-        → piece ≡ map to_ascii_uppercase text
-    raised e read =
-        read _ (bytes-tiny n _ (tiny_upper n text tiny)) (number-upper (length text) x packed f e
-        ∙ ap (λ t. number (map to_ascii_uppercase t)) shows)
-
     pub titled : f ≡ flags (is_in_range 65 90) (bit_xor x 32)
         → ((t : List ℕ) → list_all is_text_byte t ≡ true → bit_xor x (f / 4) ≡ number t → piece ≡ t)
         → piece ≡ title text

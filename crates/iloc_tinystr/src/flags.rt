@@ -37,7 +37,7 @@ pub(crate) fn marks_between(x: u64, first: u64, last: u64) -> u64
 // Of bytes below 128, the letters.
 #[tactic(auto, using(crate::proofs::Low::cased_low, crate::proofs::Low::letters_are))]
 #[inline(always)]
-pub(crate) fn letter_marks(x: u64) -> u64
+fn letter_marks(x: u64) -> u64
     requires { IsLow x }
     ensures { result ≡ flags is_ascii_alphabetic x }
 {

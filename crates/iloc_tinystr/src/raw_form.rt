@@ -1,5 +1,5 @@
 //! Raw forms of at most eight bytes: their number, and back; whether two are equal, and their order.
-ghost use Rattle.std.specs.Prelude.{◌≡◌, ◌-◌, ◌≤◌, ◌++◌, length, nat_eq, replicate};
+ghost use Rattle.std.specs.Prelude.{◌≡◌, ◌-◌, ◌≤◌, ◌++◌, length, nat_eq, replicate, take};
 ghost use Rattle.std.specs.Cmp.Lexicographic.{slice_cmp, pointwise};
 ghost use Rattle.std.specs.Ordering.{nat_cmp};
 ghost use Rattle.iloc_tinystr.specs.Number.{number, bytes};
@@ -9,7 +9,7 @@ use std::cmp::Ordering;
 // The raw form, and zeros after it.
 #[tactic(auto, using(crate::proofs::RawForms::widened_is))]
 #[inline(always)]
-fn widened<const N: usize>(raw: &[u8]) -> [u8; 8]
+pub(crate) fn widened<const N: usize>(raw: &[u8]) -> [u8; 8]
     requires few { N ≤ 8 }
     requires size { length raw.now ≡ N }
     ensures { result ≡ raw.now ++ replicate (8 - N) 0 }
@@ -29,6 +29,17 @@ pub fn number_of_raw<const N: usize>(raw: &[u8; N]) -> u64
     u64::from_le_bytes(widened::<N>(raw))
 }
 
+// As many of eight bytes as a raw form has.
+#[inline(always)]
+pub(crate) fn narrowed<const N: usize>(all: [u8; 8]) -> [u8; N]
+    requires { N ≤ 8 }
+    ensures { result ≡ take N all }
+{
+    let mut raw = [0; N];
+    raw.copy_from_slice(&all[..N]);
+    raw
+}
+
 /// The lowest bytes of a number, as many as the raw form has.
 #[tactic(auto, using(crate::proofs::RawForms::lowest_bytes))]
 #[inline(always)]
@@ -36,10 +47,7 @@ pub fn raw_of_number<const N: usize>(packed: u64) -> [u8; N]
     requires { N ≤ 8 }
     ensures { result ≡ bytes N packed }
 {
-    let all = packed.to_le_bytes();
-    let mut raw = [0; N];
-    raw.copy_from_slice(&all[..N]);
-    raw
+    narrowed::<N>(packed.to_le_bytes())
 }
 
 /// Whether two raw forms of `N` bytes have the same bytes.
