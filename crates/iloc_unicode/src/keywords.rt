@@ -223,14 +223,30 @@ impl Keywords {
         *self = Keywords::new_single(key, value);
     }
 
-    // A copy. It stands apart, so that a key with one subtag pays nothing for it.
+    // A copy of at most one pair. It stands apart, so that a key with one subtag pays nothing for it.
     #[inline(never)]
-    fn copied(&self) -> Result<Self, AllocError>
+    fn few_copied(&self) -> Result<Self, AllocError>
+        requires { length self.now < 2 }
         ensures { IfOk result (λ copy. copy ≡ self.now) }
     {
-        Ok(Keywords {
-            map: self.map.clone()?,
-        })
+        let [(key, value)] = self.as_slice() else {
+            return Ok(Keywords::new());
+        };
+        Ok(Keywords::new_single(*key, value.clone()?))
+    }
+
+    // A copy of two pairs or more.
+    #[inline(never)]
+    fn many_copied(&self) -> Result<Self, AllocError>
+        requires { 1 < length self.now }
+        ensures { IfOk result (λ copy. copy ≡ self.now) }
+    {
+        match self.as_slice() {
+            [] | [_] => unreachable!(),
+            _ => Ok(Keywords {
+                map: self.map.clone()?,
+            }),
+        }
     }
 
     // Sets the value of a key that isn't there; else nothing changes.
@@ -295,6 +311,16 @@ impl Keywords {
         if let [_] = other.as_slice() {
             return self.set_only(alloc, other);
         }
+        self.set_all(alloc, other)
+    }
+
+    // Sets each pair of the other.
+    #[inline(never)]
+    fn set_all(&mut self, alloc: Global, other: Keywords) -> Result<(), AllocError>
+        ensures ok { OnOk result (self.new ≡ map_of word_cmp (other ++ self.old)) }
+        ensures err { OnErr result (self.new ≡ self.old) }
+        ensures succeeds { length other ≡ 0 → IsOk result }
+    {
         let _ = other.as_slice();
         let Keywords { map } = other;
         self.map.extend_from_map(alloc, map)
@@ -310,10 +336,7 @@ impl Keywords {
         let _ = self.as_slice();
         let Keywords { map } = only;
         match map.into_iter().next() {
-            Some((key, value)) => {
-                self.set(alloc, key, value)?;
-                Ok(())
-            }
+            Some((key, value)) => self.put_new(alloc, key, value),
             None => unreachable!(),
         }
     }
@@ -416,12 +439,16 @@ impl Clone for Keywords {
     ghost is_clone = { λ a b. b ≡ a };
 
     fn clone(&self) -> Result<Self, AllocError> {
-        if let [(key, value)] = self.as_slice() {
+        let pairs = self.as_slice();
+        if pairs.len() > 1 {
+            return self.many_copied();
+        }
+        if let [(key, value)] = pairs {
             if let Some(value) = copy_of_single(value) {
                 return Ok(Keywords::new_single(*key, value));
             }
         }
-        self.copied()
+        self.few_copied()
     }
 }
 

@@ -1,13 +1,13 @@
 //! The unicode extension.
-ghost use Rattle.std.specs.Prelude.{◌≡◌, ⊤, ◌↔◌, ◌&&◌, ◌==◌, [], length, IsTrue, OnOk, OnErr, Some};
+ghost use Rattle.std.specs.Prelude.{◌≡◌, ⊤, ◌↔◌, ◌&&◌, ◌==◌, ◌++◌, [], length, IsTrue, OnOk, OnErr, Some};
 ghost use Rattle.std.specs.Cmp.{decided, partial_equiv_from_equiv};
 ghost use Rattle.std.specs.Hash.{same_Alike};
 ghost use Rattle.iloc_spec_parts.specs.Extending.{extend};
 ghost use Rattle.iloc_spec_parts.specs.Parts.{UnicodeText, UnicodeTextFault};
-ghost use Rattle.iloc_spec_grammar.specs.Meaning.{Fault};
+ghost use Rattle.iloc_spec_grammar.specs.Meaning.{Fault, map_of, set_of};
 ghost use Rattle.iloc_subtags.specs.Judging.{Accepts, Refuses, RunsOutOnlyIf};
 ghost use Rattle.iloc_spec_grammar.specs.Values.{unicode_spelling, unicode_text};
-ghost use Rattle.iloc_spec_grammar.specs.Syntax.{Unicode as UnicodeParts};
+ghost use Rattle.iloc_spec_grammar.specs.Syntax.{Unicode as UnicodeParts, word_cmp};
 ghost use Rattle.iloc_spec_parts.specs.Orders.{unicode_cmp};
 
 use crate::attributes::Attributes;
@@ -116,12 +116,33 @@ impl Unicode {
             → extend (extend u v) w ≡ extend u (extend v w) }
     {
         let _ = self.attributes.as_slice();
-        if other.attributes.is_empty() {
-            return self.keywords.extend_from_keywords(alloc, other.keywords);
+        let Unicode {
+            keywords,
+            attributes,
+        } = other;
+        if attributes.is_empty() {
+            return self.keywords.extend_from_keywords(alloc, keywords);
         }
-        let attributes = self.attributes.union(alloc, &other.attributes)?;
-        self.keywords.extend_from_keywords(alloc, other.keywords)?;
-        self.attributes = attributes;
+        self.extend_both(alloc, &attributes, keywords)
+    }
+
+    // Extends both parts. It stands apart, so that an extension without attributes pays nothing for it.
+    #[inline(never)]
+    fn extend_both(
+        &mut self,
+        alloc: Global,
+        attributes: &Attributes,
+        keywords: Keywords,
+    ) -> Result<(), AllocError>
+        ensures attributes { OnOk result (self.new.attributes
+            ≡ set_of (self.old.attributes ++ attributes.now)) }
+        ensures keywords { OnOk result (self.new.keywords
+            ≡ map_of word_cmp (keywords ++ self.old.keywords)) }
+        ensures err { OnErr result (self.new ≡ self.old) }
+    {
+        let union = self.attributes.union(alloc, attributes)?;
+        self.keywords.extend_from_keywords(alloc, keywords)?;
+        self.attributes = union;
         Ok(())
     }
 }

@@ -4,7 +4,7 @@ use Rattle.iloc_spec_grammar.specs.Syntax.{word_cmp}
 use Rattle.iloc_spec_grammar.specs.Meaning.{map_of}
 use Rattle.iloc_spec_grammar.proofs.MapLaws.{word_cmp_total, same_words}
 use Rattle.iloc_litemap.proofs.Maps.{reversed_over}
-use Rattle.iloc_unicode.proofs.keywords.Keywords.extend_from_keywords.Goals as goal
+use Rattle.iloc_unicode.proofs.keywords.Keywords.set_all.Goals as goal
 
 pub returns-clause-ok : goal.returns-clause-ok
 returns-clause-ok c = on_ok_weaker c.extend_from_map.result (λ is. is
