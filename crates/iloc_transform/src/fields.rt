@@ -161,12 +161,6 @@ impl Fields {
     {
         let _ = key.as_str();
         let _ = value.as_slice();
-        if self.is_empty() {
-            let mut pairs = Vec::with_capacity(alloc, 4)?;
-            pairs.push_reserved((key, value));
-            self.map = LiteMap::from_sorted_store_unchecked(pairs);
-            return Ok(());
-        }
         self.map.insert(alloc, key, value)?;
         Ok(())
     }

@@ -1,12 +1,12 @@
 use Rattle.iloc_transform.proofs.MapLemmas.{set_pairs}
 use Rattle.iloc_transform.proofs.fields.Fields.insert.Goals as goal
 
-pub invariant_of-self-2 : goal.invariant_of-self-2
-invariant_of-self-2 c =
+pub invariant_of-self : goal.invariant_of-self
+invariant_of-self c =
     set_pairs c.args.key c.args.value c.as_str.ensures.normal c.as_slice.ensures.normal c.self.inside.map
     c.self.invariant c.insert.new.self c.insert.result c.insert.ensures.ok c.insert.ensures.err
 
-pub invariant_of-self-in_err-insert : goal.invariant_of-self-in_err-insert
-invariant_of-self-in_err-insert c =
+pub invariant_of-self-2 : goal.invariant_of-self-2
+invariant_of-self-2 c =
     set_pairs c.args.key c.args.value c.as_str.ensures.normal c.as_slice.ensures.normal c.self.inside.map
     c.self.invariant c.insert.new.self c.insert.result c.insert.ensures.ok c.insert.ensures.err
