@@ -81,7 +81,7 @@ impl<K: WordKind<N>, const N: usize> WordList<K, N> {
     pub fn get(&self, index: usize) -> Option<&WordOf<K, N>>
         ensures { option_copied result ≡ slice_get self.now index }
     {
-        self.words.as_slice().get(index)
+        self.words.get(index)
     }
 
     /// Puts a subtag at a place. Up to four subtags allocate nothing; if an allocation fails, nothing changes.
