@@ -2,6 +2,7 @@
 use Rattle.std.proofs.Common.{◌≡◌, ℕ, suc, ◌<◌, ◌≤◌, Bool, true, false, not, cond, ◌&&◌, ◌||◌, List, [], ◌∷◌}
 use Rattle.std.proofs.Common.{◌++◌, length, map, refl, sym, ap, ap₂, ◌∙◌, arith, true≢false, subst}
 use Rattle.std.proofs.Common.{append-nil, append_assoc, Option, Some, None, option_map, is_some, nat_lt}
+use Rattle.std.proofs.Common.{get_or}
 use Rattle.std.specs.List.{AllByRecursion, list_any}
 use Rattle.std.specs.Ordering.{eq_by_cmp}
 use Rattle.std.specs.Cmp.{eq_by_cmp_equiv}
@@ -17,7 +18,7 @@ use Rattle.iloc_spec_grammar.specs.Meaning.{first_piece}
 use Rattle.iloc_spec_grammar.specs.Reading.{take_first, skip_first, passing, past, is_two, before_key}
 use Rattle.iloc_spec_grammar.specs.Reading.{fields_from}
 use Rattle.iloc_spec_grammar.proofs.MapLaws.{word_cmp_total, same_words, map_of_sorted}
-use Rattle.iloc_spec_grammar.proofs.MapLaws.{find-map_of}
+use Rattle.iloc_spec_grammar.proofs.MapLaws.{find-map_of, map_of_same}
 use Rattle.iloc_spec_grammar.proofs.SetLaws.{find-append}
 use Rattle.iloc_spec_parts.specs.Fronts.{is_keyword_piece, keywords_front, after_keywords, is_bad_key}
 use Rattle.iloc_spec_parts.specs.Fronts.{KeywordsRead, KeywordsFault, bad_key, before_bad_key, keywords_kept}
@@ -382,6 +383,38 @@ filled_bad before now rest m t stays h none =
         || list_any is_bad_key
         (passing (is_word Attribute) qs ++ keywords_front (past (is_word Attribute) qs)))
         (ap₂ (λ a b. a && not b) h (not_key q (is_word UnicodeKey q) none)))
+
+-- A map over another that holds its keys.
+
+-- over no pair
+pub over_nothing : (m es : Fields) → is_sorted word_cmp m ≡ true → length es < 1 →
+    map_of word_cmp (m ++ es) ≡ m
+over_nothing m [] s none = ap (map_of word_cmp) (append-nil m) ∙ map_of_sorted word_cmp m s
+over_nothing m (e ∷ es) s none = absurd (omega arith)
+
+-- over a pair whose key it has
+pub over_known : (m : Fields) (k : Text) (v : List Text) → is_sorted word_cmp m ≡ true →
+    is_some (find word_cmp k m) ≡ true → map_of word_cmp (m ++ (k, v) ∷ []) ≡ m
+over_known m k v s h =
+    map_of_same word_cmp word_cmp_total same_words (m ++ (k, v) ∷ []) m
+    (λ q. find-append word_cmp q m ((k, v) ∷ [])
+    ∙ by q (eq_by_cmp word_cmp q k) refl (find word_cmp q m) refl)
+    ∙ map_of_sorted word_cmp m s
+  where
+    by : (q : Text) (b : Bool) → eq_by_cmp word_cmp q k ≡ b → (o : Option (List Text)) →
+        find word_cmp q m ≡ o → option_or o (cond b (Some v) None) ≡ o
+    by q true e (Some x) f = refl
+    by q false e (Some x) f = refl
+    by q false e None f = refl
+    by q true e None f = absurd (true≢false (sym h
+        ∙ ap (λ w. is_some (find word_cmp w m)) (sym (tied word_cmp same_words q k e)) ∙ ap is_some f))
+
+-- over the only pair of some, whose key it has
+pub over_one : (m es : Fields) (d : Text × List Text) → is_sorted word_cmp m ≡ true → 1 ≤ length es →
+    length es < 2 → is_some (find word_cmp (get_or es 0 d).0 m) ≡ true → map_of word_cmp (m ++ es) ≡ m
+over_one m [] d s some few h = absurd (omega arith)
+over_one m (e ∷ []) d s some few h = over_known m e.0 e.1 s h
+over_one m (e ∷ x ∷ es) d s some few h = absurd (omega arith)
 
 -- A map of one pair over another map.
 

@@ -30,6 +30,18 @@ pub of_other : (k : Text) (es ms : Fields) (d : Text × List Text) (r : Bool) �
 of_other k es ms d r same some few h is =
     of_only k es ms d d _ false same some few refl (not_so (pointwise nat_eq k (get_or es 0 d).0) r h is)
 
+-- neither of two pairs has the key
+pub of_others : (k : Text) (es ms : Fields) (d f : Text × List Text) (r t : Bool) → es ≡ ms →
+    2 ≤ length es → length es < 3 → r ≡ not (pointwise nat_eq k (get_or es 0 d).0) → r ≡ true →
+    t ≡ not (pointwise nat_eq k (get_or es 1 f).0) → t ≡ true → find word_cmp k ms ≡ None
+of_others k [] ms d f r t same some few h is g it = absurd (omega arith)
+of_others k (e ∷ []) ms d f r t same some few h is g it = absurd (omega arith)
+of_others k (e ∷ x ∷ []) ms d f r t same some few h is g it =
+    ap (find word_cmp k) (sym same)
+    ∙ (by_first k e (x ∷ []) _ false refl (not_so (pointwise nat_eq k e.0) r h is)
+    ∙ by_first k x [] _ false refl (not_so (pointwise nat_eq k x.0) t g it))
+of_others k (e ∷ x ∷ y ∷ es) ms d f r t same some few h is g it = absurd (omega arith)
+
 -- the pair at a place has the key, or those behind it are asked
 pub from_place : (k : Text) (es : Fields) (i : ℕ) (e : Text × List Text) (b t : Bool) → i < length es →
     e ≡ get_or es i e → b ≡ pointwise nat_eq k e.0 → b ≡ t →

@@ -193,17 +193,27 @@ impl Keywords {
             self.put_first(key, value);
             return Ok(None);
         }
-        if let [(only, _)] = self.as_slice() {
-            if key != *only {
-                self.put_new(alloc, key, value)?;
-                return Ok(None);
-            }
+        if self.is_new(&key) {
+            self.put_new(alloc, key, value)?;
+            return Ok(None);
         }
         if let Some(old) = self.get_mut(&key) {
             return Ok(Some(mem::replace(old, value)));
         }
         self.put_new(alloc, key, value)?;
         Ok(None)
+    }
+
+    // Whether there are one or two keys, and the key is another.
+    #[inline(always)]
+    fn is_new(&self, key: &Key) -> bool
+        ensures { IsTrue result → find word_cmp key.now self.now ≡ None }
+    {
+        match self.as_slice() {
+            [(only, _)] => *key != *only,
+            [(first, _), (second, _)] => *key != *first && *key != *second,
+            _ => false,
+        }
     }
 
     // Sets the value of a key. It stands apart, so that a key that is there pays nothing for a new one.
@@ -322,8 +332,25 @@ impl Keywords {
         ensures succeeds { length other ≡ 0 → IsOk result }
     {
         let _ = other.as_slice();
+        if self.is_among(&other) {
+            *self = other;
+            return Ok(());
+        }
         let Keywords { map } = other;
         self.map.extend_from_map(alloc, map)
+    }
+
+    // Whether there is at most one key, and the other has it.
+    #[inline(always)]
+    fn is_among(&self, other: &Keywords) -> bool
+        ensures { IsTrue result → map_of word_cmp (other.now ++ self.now) ≡ other.now }
+    {
+        let _ = other.as_slice();
+        match self.as_slice() {
+            [] => true,
+            [(only, _)] => other.contains_key(only),
+            _ => false,
+        }
     }
 
     // Sets the pair of a map that has no other.
