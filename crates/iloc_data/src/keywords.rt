@@ -36,13 +36,17 @@ pub(crate) trait FormatterKeyword: Copy {
 }
 
 /// The keyword of a locale, if it is there and readable, and whether it is absent or readable.
-#[tactic(auto, using(crate::proofs::KeywordLemmas::absent, crate::proofs::KeywordLemmas::there))]
+#[tactic(auto, using(crate::proofs::KeywordLemmas::absent, crate::proofs::KeywordLemmas::nothing, crate::proofs::KeywordLemmas::there))]
 pub(crate) fn keyword<K: FormatterKeyword>(locale: &Locale) -> (Option<K>, bool)
     ensures value { option_map K.meaning result.0
         ≡ read_keyword K.reads K.key_text (locale_value locale.now) }
     ensures readable { result.1 ≡ is_readable K.reads K.key_text (locale_value locale.now) }
 {
-    let Some(value) = locale.extensions.unicode.keywords.get(&K::key()) else {
+    let keywords = &locale.extensions.unicode.keywords;
+    if keywords.is_empty() {
+        return (None, true);
+    }
+    let Some(value) = keywords.get(&K::key()) else {
         return (None, true);
     };
     match K::read(value) {
