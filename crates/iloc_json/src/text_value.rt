@@ -13,7 +13,7 @@ ghost use Rattle.iloc_json.specs.Json.{SucceedsOr};
 use iloc_langid::LanguageIdentifier;
 use iloc_locale::Locale;
 use iloc_subtags::{ParseError, WordKind, WordOf};
-use iloc_writeable::Writeable;
+use iloc_writeable::{Pieces, Writeable};
 use std::alloc::{AllocError, Global};
 
 /// What prints a text and is parsed from one.
@@ -58,7 +58,12 @@ impl<K: WordKind<N>, const N: usize> TextValue for WordOf<K, N> {
 
     #[tactic(auto, using(crate::proofs::ReadBack::word_back))]
     fn write_text(&self, alloc: Global) -> Result<String, AllocError> {
-        String::from_str(alloc, self.as_str())
+        let _ = self.as_str();
+        let mut text = String::with_capacity(alloc, 9)?;
+        match self.write_joined(&mut text) {
+            Ok(()) => Ok(text),
+            Err(_) => Err(AllocError),
+        }
     }
 }
 
