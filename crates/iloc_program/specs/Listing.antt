@@ -1,7 +1,7 @@
 -- What is written for one line of a listing: its normal text, or why it is refused, with the number
 -- of the line before and the place of the fault behind, if that is asked. This library's rule.
-use Rattle.std.specs.Prelude.{◌≡◌, ◌⊎◌, ℕ, ◌-◌, ◌/◌, ◌%◌, ◌==◌, nat_lt, false, [], ◌∷◌, ◌++◌, take}
-use Rattle.std.specs.Prelude.{drop, if◌then◌else◌}
+use Rattle.std.specs.Prelude.{◌≡◌, ◌⊎◌, ℕ, ◌-◌, ◌/◌, ◌%◌, ◌≤◌, ◌==◌, nat_lt, false, [], ◌∷◌, ◌++◌, length}
+use Rattle.std.specs.Prelude.{take, drop, if◌then◌else◌}
 use Rattle.std.specs.List.{flat_map}
 use Rattle.std.specs.Fmt.{decimal, digit_glyph}
 use Rattle.iloc_spec_grammar.specs.Syntax.{Text, languages}
@@ -26,6 +26,10 @@ shown_byte b = if b == 9 then 92 ∷ 116 ∷ [] else
 -- A text as it is shown, which stays one line without tabs.
 abbrev pub shown : Text → Text
 shown t = flat_map shown_byte t
+
+-- The fault stands within the line.
+abbrev pub StandsWithin : Text → Fault → Type 0
+StandsWithin line f = (f.start ≤ f.end) × (f.end ≤ length line)
 
 -- The piece at which the fault stands.
 abbrev pub faulty_piece : Text → Fault → Text

@@ -1,7 +1,9 @@
 -- What was written of a line behind the replies before it.
-use Rattle.std.specs.Prelude.{◌≡◌, [], ◌∷◌, ◌++◌, IfSome}
+use Rattle.std.specs.Prelude.{◌≡◌, [], ◌∷◌, ◌++◌, IfSome, Result, OnOk}
 use Rattle.iloc_spec_grammar.specs.Syntax.{Text, languages}
 use Rattle.iloc_normalize.specs.Modes.{IsNormalText}
+use Rattle.iloc_program.specs.Answers.{reply, output}
+use Rattle.iloc_program.specs.Lines.{IsOneLine}
 use Rattle.iloc_normalize.specs.Answered.{HasRefusal, refusal_of}
 use Rattle.iloc_normalize.specs.declared.Mode.{Mode}
 use Rattle.iloc_normalize.specs.declared.writing.Written.{Written}
@@ -13,3 +15,17 @@ abbrev pub IsReplied : Mode → Text → Text → Text → Written → Type 0
 IsReplied mode t old new (Normal n) = (normal : Text) × IsNormalText languages mode t normal
     × (new ≡ old ++ (normal ++ 10 ∷ []))
 IsReplied mode t old new other = IfSome (refusal_of other) (HasRefusal mode t) × (new ≡ old)
+
+-- unless memory was refused, the reply to the line stands behind what was held, and what kept the
+-- line is empty
+abbrev pub RepliesTo : {T E : Type 0} → Mode → Text → Text → Text → Text → Result T E → Type 0
+RepliesTo mode line old new kept result =
+    OnOk result (new ≡ old ++ reply languages mode line) × OnOk result (kept ≡ [])
+
+-- unless memory was refused, what is pending now is a line's beginning, and whatever comes next, the
+-- replies to it all are these and what is still to come
+abbrev pub FeedsReplies : {T E : Type 0} → Mode → Text → Text → Text → Text → Text → Result T E → Type 0
+FeedsReplies mode pending piece old new pending' result =
+    OnOk result (IsOneLine pending')
+    × OnOk result ((next : Text) → old ++ output languages mode (pending ++ (piece ++ next))
+    ≡ new ++ output languages mode (pending' ++ next))

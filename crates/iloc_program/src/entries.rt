@@ -1,7 +1,7 @@
 //! What is written for one line.
-ghost use Rattle.std.specs.Prelude.{◌≡◌, ◌≤◌, ◌++◌, length, OnOk, if◌then◌else◌, []};
+ghost use Rattle.std.specs.Prelude.{◌≡◌, ◌++◌, OnOk, if◌then◌else◌, []};
 ghost use Rattle.iloc_program.specs.ReplyBlock.{held};
-ghost use Rattle.iloc_program.specs.Listing.{number_column, place_columns, refused_entry, IsEntry};
+ghost use Rattle.iloc_program.specs.Listing.{number_column, place_columns, refused_entry, IsEntry, StandsWithin};
 
 use crate::numbered::{Listing, Lists};
 use crate::quoting::{write_decimal, write_shown};
@@ -58,8 +58,7 @@ fn write_refused(
     fault: Fault,
     replies: &mut ReplyBlock,
 ) -> Result<(), AllocError>
-    requires start { fault.start ≤ fault.end }
-    requires end { fault.end ≤ length line.now }
+    requires { StandsWithin line.now fault }
     ensures { OnOk result (held replies.new
         ≡ held replies.old ++ refused_entry listing number line.now fault) }
 {
@@ -95,8 +94,7 @@ fn write_place(
     fault: Fault,
     replies: &mut ReplyBlock,
 ) -> Result<(), AllocError>
-    requires start { fault.start ≤ fault.end }
-    requires end { fault.end ≤ length line.now }
+    requires { StandsWithin line.now fault }
     ensures { OnOk result (held replies.new
         ≡ held replies.old ++ (if listing.places then place_columns line.now fault else [])) }
 {

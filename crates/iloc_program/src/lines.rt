@@ -2,6 +2,7 @@
 ghost use Rattle.std.specs.Prelude.{◌≡◌, ◌+◌, ◌≤◌, [], ◌∷◌, ◌++◌, take, length, map, IfSome, MatchOption, IfOk, OnOk, OnErr, IsOkUnless, ◌<◌, vec_len};
 ghost use Rattle.std.specs.Io.KnownBytes.{Appends};
 ghost use Rattle.iloc_writeable.specs.Growth.{AddsBeginning};
+ghost use Rattle.iloc_program.specs.Replies.{FeedsReplies, RepliesTo};
 ghost use Rattle.iloc_program.specs.ReplyBlock.{held};
 ghost use Rattle.iloc_normalize.specs.Answered.{IsLead};
 ghost use Rattle.iloc_program.specs.Lines.{IsLineEnd, IsOneLine};
@@ -186,9 +187,8 @@ fn end_pending(
     spans: &mut Spans,
     replies: &mut ReplyBlock,
 ) -> Result<(), AllocError>
-    ensures replies { OnOk result
-        (held replies.new ≡ held replies.old ++ reply languages mode pending.old.items) }
-    ensures pending { OnOk result (pending.new.items ≡ []) }
+    ensures { RepliesTo mode pending.old.items (held replies.old) (held replies.new)
+        pending.new.items result }
 {
     pending.extend_from_slice(&[0; 16])?;
     let line = Window {
@@ -209,9 +209,8 @@ pub fn reply_line(
     spans: &mut Spans,
     replies: &mut ReplyBlock,
 ) -> Result<(), AllocError>
-    ensures replies { OnOk result
-        (held replies.new ≡ held replies.old ++ reply languages mode line.now) }
-    ensures room { OnOk result (room.new.items ≡ []) }
+    ensures { RepliesTo mode line.now (held replies.old) (held replies.new) room.new.items
+        result }
 {
     room.clear();
     room.extend_from_slice(line)?;
@@ -249,10 +248,8 @@ fn feed_lines<A: InMode>(
     replies: &mut ReplyBlock,
 ) -> Result<(), AllocError>
     requires { pending.old.items ≡ [] }
-    ensures one_line { OnOk result (IsOneLine pending.new.items) }
-    ensures ahead { OnOk result ((next : Text) →
-        held replies.old ++ output languages A.mode (bytes.now ++ next)
-        ≡ held replies.new ++ output languages A.mode (pending.new.items ++ next)) }
+    ensures { FeedsReplies A.mode [] bytes.now (held replies.old) (held replies.new)
+        pending.new.items result }
 {
     let mut rest = bytes;
     'lines: loop {
@@ -284,11 +281,8 @@ pub(crate) fn feed<A: InMode>(
     replies: &mut ReplyBlock,
 ) -> Result<(), AllocError>
     requires { IsOneLine pending.old.items }
-    ensures one_line { OnOk result (IsOneLine pending.new.items) }
-    // Whatever comes next, the replies to it all are these and what is still to come.
-    ensures ahead { OnOk result ((next : Text) →
-        held replies.old ++ output languages A.mode (pending.old.items ++ (piece.now ++ next))
-        ≡ held replies.new ++ output languages A.mode (pending.new.items ++ next)) }
+    ensures { FeedsReplies A.mode pending.old.items piece.now (held replies.old)
+        (held replies.new) pending.new.items result }
 {
     if pending.is_empty() {
         return feed_lines(answers, pending, piece, spans, replies);

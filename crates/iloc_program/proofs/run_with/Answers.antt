@@ -59,7 +59,7 @@ returns-in_err-write_whole-clause-err g c =
     let piece = c.split_at.result.0.now in
     let given : piece ≡ take count c.read.new.buf = c.split_at.ensures.front in
     let fed = Replies-fed g.A.InMode.mode (held c.clear.new.self) c.reads.pending.items piece
-    c.feed.new.pending.items (held c.feed.new.replies) c.clear.ensures c.in_ok-feed.ensures.ahead in
+    c.feed.new.pending.items (held c.feed.new.replies) c.clear.ensures c.in_ok-feed.ensures.1 in
     let took = c.in_err-write_whole.ensures.err in
     on_err _ _ (Stands-part _ _ _ _ _ _ _ _ _ took.written
     (Stands-read _ _ _ _ _ _ _ piece c.reads.invariant.stands
@@ -74,10 +74,10 @@ reads-preserved g c =
     let replies = held c.feed.new.replies in
     let given : piece ≡ take count c.read.new.buf = c.split_at.ensures.front in
     let fed = Replies-fed g.A.InMode.mode (held c.clear.new.self) c.reads.pending.items piece
-    c.feed.new.pending.items replies c.clear.ensures c.in_ok-feed.ensures.ahead in
+    c.feed.new.pending.items replies c.clear.ensures c.in_ok-feed.ensures.1 in
     let written : replies ≡ c.as_slice-in-reads.result.now = sym c.as_slice-in-reads.ensures in
     record {
-      one_line = c.in_ok-feed.ensures.one_line;
+      one_line = c.in_ok-feed.ensures.0;
       room = omega arith;
       stands = Stands-written _ _ _ _ _ _ _ _ _
           (Stands-read _ _ _ _ _ _ _ piece c.reads.invariant.stands

@@ -1,5 +1,5 @@
 use Rattle.std.proofs.Common.{◌≡◌, ◌≢◌, ℕ, ◌+◌, ◌-◌, ◌<◌, ◌≤◌, [], ◌++◌, length, take, drop, ap, subst}
-use Rattle.std.proofs.Common.{◌∙◌, sym, arith, append_assoc}
+use Rattle.std.proofs.Common.{◌∙◌, sym, arith, append_assoc, rules}
 use Rattle.std.specs.Prelude.{if◌then◌else◌, Result, Ok, Err, OnOk, Vec}
 use Rattle.std.specs.declared.alloc.Global.{Global}
 use Rattle.std.specs.Result.{is_ok}
@@ -37,7 +37,7 @@ lines-preserved g c =
     let replied : held c.if-later-lt16.replies ≡ held c.lines.replies ++ reply languages mode line =
     elim c.if-later-lt16.branch [
       | then-later-lt16+else-is_empty+in_ok-reply_line w ↦
-          ap held w.replies-is ∙ w.in_ok-reply_line.ensures.replies
+          ap held w.replies-is ∙ w.in_ok-reply_line.ensures.0
           ∙ ap (λ (m : Mode). held c.lines.replies ++ reply languages m c.split_at.result.0.now)
           w.mode.ensures
           ∙ ap (λ (t : Text). held c.lines.replies ++ reply languages mode t) c.split_at.ensures.front
@@ -53,7 +53,7 @@ lines-preserved g c =
     record {
       empty = elim c.if-later-lt16.branch [
         | then-later-lt16+else-is_empty+in_ok-reply_line w ↦
-            ap (λ (v : Vec ℕ Global). v.items) w.pending-is ∙ w.in_ok-reply_line.ensures.room
+            ap (λ (v : Vec ℕ Global). v.items) w.pending-is ∙ w.in_ok-reply_line.ensures.1
         | else-later-lt16+in_ok-reply_to w ↦
             ap (λ (v : Vec ℕ Global). v.items) w.pending-is ∙ c.lines.invariant.empty
       ];
@@ -66,16 +66,18 @@ lines-preserved g c =
           ∙ (λ j. sym replied j ++ output languages mode (sym next_is j ++ next));
     }
 
-pub returns-clause-one_line : goal.returns-clause-one_line
-returns-clause-one_line g c =
+pub returns : goal.returns
+returns g c =
     let rest = c.lines.rest.now in
     let none : length c.split_at.result.1.now ≡ 0 =
     grind (arith, nat_tests, c.is_empty.ensures, c.if-is_empty.true) in
     let all : length rest ≤ c.line_end-end.result = omega (arith, c.split_at.ensures.back_len, none) in
     let whole : IsOneLine rest =
-    subst IsOneLine (take_all c.line_end-end.result rest all) c.line_end-end.ensures.before in
-    grown c.extend_from_slice.result c.extend_from_slice.new.self.items c.lines.pending.items rest
-    c.extend_from_slice.ensures.items c.lines.invariant.empty whole
+    subst IsOneLine (take_all c.line_end-end.result rest all) c.line_end-end.ensures.before in (
+      grown c.extend_from_slice.result c.extend_from_slice.new.self.items c.lines.pending.items rest
+          c.extend_from_slice.ensures.items c.lines.invariant.empty whole,
+      search rules,
+    )
   where
     grown : {T E : Type 0} (r : Result T E) (new old more : Text) →
         new ≡ (if is_ok r then old ++ more else old) → old ≡ [] → IsOneLine more → OnOk r (IsOneLine new)

@@ -35,4 +35,4 @@ returns-in-None-2 g c =
     on_ok_weaker c.reply_line.result
     (λ e. replied g.A.InMode.mode c.args.listing c.args.number line before (held c.reply_line.new.replies) is
     c.if-listing.false (e ∙ ap (λ (m : Mode). before ++ reply languages m line) c.mode-mode.ensures))
-    c.reply_line.ensures.replies
+    c.reply_line.ensures.0

@@ -19,10 +19,10 @@ returns-in-Normal c =
     length-take-le (length r - start) (drop start r) (omega (arith, length-drop start r)) in
     let long : length to ≡ length r - start = omega (arith, c.write_normal-written.auto.to, whole) in
     let stored = counted room to start n (length room.items - start) (omega (arith, long, same))
-    (omega (arith, long, same, c.in_ok-make_room.ensures.room)) (omega (arith, w.0, w.1)) in (
+    (omega (arith, long, same, c.in_ok-make_room.ensures.1)) (omega (arith, w.0, w.1)) in (
       take n to,
       w.2,
       after ∙ ap (λ (t : Text). t ++ 10 ∷ []) stored
           ∙ append_assoc (take start room.items) (take n to) (10 ∷ [])
-          ∙ ap (λ (t : Text). t ++ (take n to ++ 10 ∷ [])) c.make_room.ensures.held,
+          ∙ ap (λ (t : Text). t ++ (take n to ++ 10 ∷ [])) c.make_room.ensures.0,
     )
