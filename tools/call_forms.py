@@ -56,9 +56,9 @@ def clauses(row):
     elif row.kind == "change":
         yield f"ensures {{ IsChanged ({gives}) handle.old.value handle.new.value result }}"
     else:
-        gives = re.sub(r"\bfrom\b", "(held_locale from.old.value)", gives)
-        yield "ensures same { from.new.value ≡ from.old.value }"
-        yield f"ensures changed {{ IsChanged ({gives}) handle.old.value handle.new.value result }}"
+        gives = re.sub(r"\bfrom\b", "that", gives)
+        changed = f"IsChanged ({gives}) handle.old.value handle.new.value result"
+        yield f"ensures {{ IsAsked from.old.value from.new.value (λ that. {changed}) }}"
 
 
 def kept_together(clause):

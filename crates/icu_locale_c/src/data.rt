@@ -1,5 +1,5 @@
 //! Calls on the data locale of a locale, written by hand: the table `tools/calls.txt` has only their parameters.
-ghost use Rattle.std.specs.Prelude.{◌≡◌, ◌<◌};
+ghost use Rattle.std.specs.Prelude.{◌≡◌};
 ghost use Rattle.std.specs.Ordering.{nat_cmp};
 ghost use Rattle.std.specs.Cmp.Lexicographic.{slice_cmp};
 ghost use Rattle.iloc_spec_parts.specs.DataLocales.{data_text};
@@ -7,9 +7,8 @@ ghost use Rattle.iloc_spec_parts.specs.DataOrders.{data_locale_cmp};
 ghost use Rattle.iloc_calls.specs.Answers.{HandsOut, order_number};
 ghost use Rattle.iloc_calls.specs.Numbers.{EndsAs, number_of};
 ghost use Rattle.iloc_calls.specs.declared.status.Status.{Status};
-ghost use Rattle.iloc_handles.specs.declared.data.Priority.{Priority};
-ghost use Rattle.iloc_handles.specs.Data.{data_of, priority_number};
-ghost use Rattle.iloc_handles.specs.Held.{held_locale};
+ghost use Rattle.iloc_handles.specs.Data.{ByPriority, data_of};
+ghost use Rattle.iloc_handles.specs.Finding.{IsAsked};
 
 use iloc_calls::{Status, hand_out, number};
 use iloc_handles::{Handle, Priority, ask};
@@ -26,12 +25,9 @@ pub extern "C" fn icu_locale_get_data_locale(
     buffer: &mut [u8],
     needed: &mut usize,
 ) -> u32
-    ensures same { handle.new.value ≡ handle.old.value }
-    ensures known { (p : Priority) → priority ≡ priority_number p
-        → EndsAs (HandsOut (data_text (data_of p (held_locale handle.old.value))) buffer.old
-        buffer.new needed.new) result }
-    ensures unknown { 1 < priority → (result ≡ number_of Status.UnknownNumber)
-        × (needed.new ≡ 0) × (buffer.new ≡ buffer.old) }
+    ensures { IsAsked handle.old.value handle.new.value (λ it. ByPriority priority
+        (λ p. EndsAs (HandsOut (data_text (data_of p it)) buffer.old buffer.new needed.new))
+        ((needed.new ≡ 0) × (buffer.new ≡ buffer.old)) result) }
 {
     match Priority::from_number(priority) {
         Some(priority) => hand_out(&ask(alloc, handle, &priority), buffer, needed).number(),
@@ -51,12 +47,10 @@ pub extern "C" fn icu_locale_data_cmp_bytes(
     other: &[u8],
     order: &mut i8,
 ) -> u32
-    ensures same { handle.new.value ≡ handle.old.value }
-    ensures known { (p : Priority) → priority ≡ priority_number p
-        → (result ≡ number_of Status.Done) × (order.new ≡ order_number (slice_cmp nat_cmp
-        (data_text (data_of p (held_locale handle.old.value))) other.now)) }
-    ensures unknown { 1 < priority
-        → (result ≡ number_of Status.UnknownNumber) × (order.new ≡ order.old) }
+    ensures { IsAsked handle.old.value handle.new.value (λ it. ByPriority priority
+        (λ p number. (number ≡ number_of Status.Done)
+        × (order.new ≡ order_number (slice_cmp nat_cmp (data_text (data_of p it)) other.now)))
+        (order.new ≡ order.old) result) }
 {
     match Priority::from_number(priority) {
         Some(priority) => {
@@ -76,13 +70,11 @@ pub extern "C" fn icu_locale_data_cmp(
     priority: u32,
     order: &mut i8,
 ) -> u32
-    ensures same { handle.new.value ≡ handle.old.value }
-    ensures same_other { other.new.value ≡ other.old.value }
-    ensures known { (p : Priority) → priority ≡ priority_number p
-        → (result ≡ number_of Status.Done) × (order.new ≡ order_number (data_locale_cmp
-        (data_of p (held_locale handle.old.value)) (data_of p (held_locale other.old.value)))) }
-    ensures unknown { 1 < priority
-        → (result ≡ number_of Status.UnknownNumber) × (order.new ≡ order.old) }
+    ensures { IsAsked handle.old.value handle.new.value (λ it. IsAsked other.old.value
+        other.new.value (λ that. ByPriority priority
+        (λ p number. (number ≡ number_of Status.Done)
+        × (order.new ≡ order_number (data_locale_cmp (data_of p it) (data_of p that))))
+        (order.new ≡ order.old) result)) }
 {
     match Priority::from_number(priority) {
         Some(priority) => {

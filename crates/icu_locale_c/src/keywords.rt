@@ -6,7 +6,6 @@ ghost use Rattle.iloc_calls.specs.Answers.{Tells};
 ghost use Rattle.iloc_calls.specs.Numbers.{EndsAs};
 ghost use Rattle.iloc_handles.specs.Clearing.{Clears};
 ghost use Rattle.iloc_handles.specs.declared.clearing.Clear.{Clear};
-ghost use Rattle.iloc_handles.specs.Held.{held_locale};
 ghost use Rattle.iloc_handles.specs.Finding.{IsAsked, IsChanged};
 ghost use Rattle.iloc_handles.specs.Keywords.{keywords, keywords_of};
 ghost use Rattle.iloc_handles.specs.Pairs.{RemovesPair, SetsPair, key_at, value_at, value_of_key};
@@ -111,9 +110,8 @@ pub extern "C" fn icu_locale_extend_unicode(
     handle: &mut Handle,
     from: &mut Handle,
 ) -> u32
-    ensures same { from.new.value ≡ from.old.value }
-    ensures changed { IsChanged (ExtendsUnicode (held_locale from.old.value)) handle.old.value
-        handle.new.value result }
+    ensures { IsAsked from.old.value from.new.value (λ that. IsChanged (ExtendsUnicode that)
+        handle.old.value handle.new.value result) }
 {
     change_by(alloc, handle, from, Merge::ExtendUnicode)
 }

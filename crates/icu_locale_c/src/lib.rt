@@ -5,20 +5,19 @@
 //! are written by `tools/write_calls` from the table `tools/calls.txt`.
 #![tactic(auto)]
 
-ghost use Rattle.std.specs.Prelude.{◌≡◌, ◌+◌, ◌<◌, ◌≤◌, length};
+ghost use Rattle.std.specs.Prelude.{◌≡◌, ◌+◌, ◌≤◌, ⊤, length};
 ghost use Rattle.iloc_normalize.specs.declared.Mode.{Mode};
-ghost use Rattle.iloc_calls.specs.declared.status.Status.{Status};
 ghost use Rattle.iloc_calls.specs.Answers.{
   ComparesTo,
   HandsOut,
   JudgedAs,
-  NormalizesTo,
+  Normalizes,
   OrdersTo,
   SaysSame,
   growth,
 };
 ghost use Rattle.iloc_calls.specs.Faults.{FindsFault};
-ghost use Rattle.iloc_calls.specs.Numbers.{EndsAs, mode_number, number_of, words_of};
+ghost use Rattle.iloc_calls.specs.Numbers.{ByMode, ByStatus, EndsAs, mode_number, words_of};
 
 mod attributes;
 mod by_hand;
@@ -47,12 +46,9 @@ pub extern "C" fn icu_locale_normalize(
     buffer: &mut [u8],
     needed: &mut usize,
 ) -> u32
-    ensures known { (m : Mode) → mode ≡ mode_number m
-        → EndsAs (NormalizesTo m text.now buffer.old buffer.new needed.new) result }
+    ensures answered { Normalizes mode text.now buffer.old buffer.new needed.new result }
     ensures bounded { (m : Mode) → mode ≡ mode_number m
         → needed.new ≤ length text.now + growth m }
-    ensures unknown { 2 < mode → (result ≡ number_of Status.UnknownNumber)
-        × (needed.new ≡ 0) × (buffer.new ≡ buffer.old) }
 {
     iloc_calls::normalize(alloc, mode, text, buffer, needed)
 }
@@ -60,8 +56,7 @@ pub extern "C" fn icu_locale_normalize(
 /// Whether the text means something in the mode, or why not.
 #[unsafe(no_mangle)]
 pub extern "C" fn icu_locale_check(alloc: Global, mode: u32, text: &[u8]) -> u32
-    ensures known { (m : Mode) → mode ≡ mode_number m → EndsAs (JudgedAs m text.now) result }
-    ensures unknown { 2 < mode → result ≡ number_of Status.UnknownNumber }
+    ensures { ByMode mode (λ m. EndsAs (JudgedAs m text.now)) ⊤ result }
 {
     iloc_calls::check(alloc, mode, text)
 }
@@ -74,10 +69,9 @@ pub extern "C" fn icu_locale_find_fault(
     start: &mut usize,
     end: &mut usize,
 ) -> u32
-    ensures known { (m : Mode) → mode ≡ mode_number m
-        → EndsAs (FindsFault m text.now (start.old, end.old) (start.new, end.new)) result }
-    ensures unknown { 2 < mode → (result ≡ number_of Status.UnknownNumber)
-        × (start.new ≡ start.old) × (end.new ≡ end.old) }
+    ensures { ByMode mode
+        (λ m. EndsAs (FindsFault m text.now (start.old, end.old) (start.new, end.new)))
+        ((start.new ≡ start.old) × (end.new ≡ end.old)) result }
 {
     iloc_calls::find_fault(mode, text, start, end)
 }
@@ -91,10 +85,9 @@ pub extern "C" fn icu_locale_strict_cmp(
     other: &[u8],
     order: &mut i8,
 ) -> u32
-    ensures known { (m : Mode) → mode ≡ mode_number m
-        → EndsAs (ComparesTo m text.now other.now order.old order.new) result }
-    ensures unknown { 2 < mode
-        → (result ≡ number_of Status.UnknownNumber) × (order.new ≡ order.old) }
+    ensures { ByMode mode
+        (λ m. EndsAs (ComparesTo m text.now other.now order.old order.new))
+        (order.new ≡ order.old) result }
 {
     iloc_calls::strict_cmp(alloc, mode, text, other, order)
 }
@@ -108,10 +101,9 @@ pub extern "C" fn icu_locale_normalizing_eq(
     other: &[u8],
     same: &mut u8,
 ) -> u32
-    ensures known { (m : Mode) → mode ≡ mode_number m
-        → EndsAs (SaysSame m text.now other.now same.old same.new) result }
-    ensures unknown { 2 < mode
-        → (result ≡ number_of Status.UnknownNumber) × (same.new ≡ same.old) }
+    ensures { ByMode mode
+        (λ m. EndsAs (SaysSame m text.now other.now same.old same.new))
+        (same.new ≡ same.old) result }
 {
     iloc_calls::normalizing_eq(alloc, mode, text, other, same)
 }
@@ -125,10 +117,9 @@ pub extern "C" fn icu_locale_compare(
     other: &[u8],
     order: &mut i8,
 ) -> u32
-    ensures known { (m : Mode) → mode ≡ mode_number m
-        → EndsAs (OrdersTo m text.now other.now order.old order.new) result }
-    ensures unknown { 2 < mode
-        → (result ≡ number_of Status.UnknownNumber) × (order.new ≡ order.old) }
+    ensures { ByMode mode
+        (λ m. EndsAs (OrdersTo m text.now other.now order.old order.new))
+        (order.new ≡ order.old) result }
 {
     iloc_calls::compare(alloc, mode, text, other, order)
 }
@@ -136,10 +127,9 @@ pub extern "C" fn icu_locale_compare(
 /// Writes the words of a status into the buffer, and their length to `needed`.
 #[unsafe(no_mangle)]
 pub extern "C" fn icu_locale_words(status: u32, buffer: &mut [u8], needed: &mut usize) -> u32
-    ensures known { (named : Status) → status ≡ number_of named
-        → EndsAs (HandsOut (words_of named) buffer.old buffer.new needed.new) result }
-    ensures unknown { 8 < status → (result ≡ number_of Status.UnknownNumber)
-        × (needed.new ≡ 0) × (buffer.new ≡ buffer.old) }
+    ensures { ByStatus status
+        (λ named. EndsAs (HandsOut (words_of named) buffer.old buffer.new needed.new))
+        ((needed.new ≡ 0) × (buffer.new ≡ buffer.old)) result }
 {
     iloc_calls::words(status, buffer, needed)
 }

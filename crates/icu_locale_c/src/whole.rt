@@ -8,7 +8,6 @@ ghost use Rattle.iloc_locale.specs.LocaleReading.{unknown_locale};
 ghost use Rattle.iloc_calls.specs.Answers.{Tells, order_number};
 ghost use Rattle.iloc_calls.specs.Numbers.{EndsAs};
 ghost use Rattle.iloc_calls.specs.Hashing.{hash_of};
-ghost use Rattle.iloc_handles.specs.Held.{held_locale};
 ghost use Rattle.iloc_handles.specs.Finding.{IsAsked, IsChanged};
 ghost use Rattle.iloc_handles.specs.Whole.{Copies, ParsesTo};
 
@@ -28,9 +27,8 @@ pub extern "C" fn icu_locale_parse(alloc: Global, handle: &mut Handle, text: &[u
 /// Stands for the locale of the other handle, from then on.
 #[unsafe(no_mangle)]
 pub extern "C" fn icu_locale_copy(alloc: Global, handle: &mut Handle, from: &mut Handle) -> u32
-    ensures same { from.new.value ≡ from.old.value }
-    ensures changed { IsChanged (Copies (held_locale from.old.value)) handle.old.value
-        handle.new.value result }
+    ensures { IsAsked from.old.value from.new.value (λ that. IsChanged (Copies that)
+        handle.old.value handle.new.value result) }
 {
     change_by(alloc, handle, from, Merge::Copy)
 }

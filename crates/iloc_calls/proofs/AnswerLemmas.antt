@@ -1,7 +1,7 @@
 -- From what the readers answer to what a caller finds.
 use Rattle.std.specs.Prelude.{ℤ}
-use Rattle.std.proofs.Common.{◌≡◌, ℕ, ◌<◌, Bool, true, false, IsTrue, ◌↔◌, ◌⊎◌, List, Result, Ok, Err, inl}
-use Rattle.std.proofs.Common.{inr, refl, sym, ap, ◌∙◌, subst, true≢false, arith}
+use Rattle.std.proofs.Common.{◌≡◌, ℕ, Bool, true, false, IsTrue, ◌↔◌, ◌⊎◌, List, Result, Ok, Err, inl}
+use Rattle.std.proofs.Common.{inr, refl, sym, ap, ◌∙◌, subst, true≢false}
 use Rattle.std.specs.Prelude.{MatchResult, ⊤}
 use Rattle.std.specs.Int.{from_bool}
 use Rattle.std.specs.Ordering.{is_eq, nat_cmp}
@@ -38,7 +38,7 @@ use Rattle.iloc_normalize.specs.declared.Mode.{Mode}
 use Rattle.iloc_normalize.specs.declared.Mode.TheVariants.{Langid, Locale, Data}
 use Rattle.iloc_calls.specs.Answers.{CallWantsMemory, JudgedAs, ComparesTo, WritesOrder, OrdersTo, MeanSame}
 use Rattle.iloc_calls.specs.Answers.{RefusedAnswers, SaysSame, order_number}
-use Rattle.iloc_calls.specs.Numbers.{mode_number, number_of, status_of}
+use Rattle.iloc_calls.specs.Numbers.{status_of}
 use Rattle.iloc_calls.specs.declared.status.Status.{Status}
 use Rattle.iloc_calls.specs.declared.status.Status.TheVariants.{Done, InvalidLanguage, InvalidSubtag}
 use Rattle.iloc_calls.specs.declared.status.Status.TheVariants.{InvalidExtension, DuplicatedExtension}
@@ -46,24 +46,6 @@ use Rattle.iloc_calls.specs.declared.status.Status.TheVariants.{OutOfMemory, Buf
 use Rattle.iloc_calls.specs.declared.status.Status.TheVariants.{NotFound}
 use Rattle.iloc_normalize.specs.Modes.{IsNormalText, IsFaulty}
 use Rattle.std.specs.Cmp.{Equal-is}
-
--- no mode has a number above 2
-pub no_mode : (m : Mode) (k : ℕ) → k ≡ mode_number m → 2 < k → ⊥
-no_mode Langid k e h = omega (arith, e, h)
-no_mode Locale k e h = omega (arith, e, h)
-no_mode Data k e h = omega (arith, e, h)
-
--- and no status one above 8
-pub no_status : (s : Status) (k : ℕ) → k ≡ number_of s → 8 < k → ⊥
-no_status Done k e h = omega (arith, e, h)
-no_status InvalidLanguage k e h = omega (arith, e, h)
-no_status InvalidSubtag k e h = omega (arith, e, h)
-no_status InvalidExtension k e h = omega (arith, e, h)
-no_status DuplicatedExtension k e h = omega (arith, e, h)
-no_status OutOfMemory k e h = omega (arith, e, h)
-no_status BufferTooSmall k e h = omega (arith, e, h)
-no_status UnknownNumber k e h = omega (arith, e, h)
-no_status NotFound k e h = omega (arith, e, h)
 
 -- what was read has a normal text, which is that of the text; a refusal is the status of the text
 abbrev pub Reads : {X : Type 0} → Mode → Text → (X → Text) → Result X ParseError → Type 0

@@ -3,3 +3,4 @@ pub mod Lengths
 pub mod Bounds
 pub mod HandedLemmas
 pub mod FaultLemmas
+pub mod ByNumbers

@@ -17,7 +17,7 @@ use Rattle.iloc_normalize.specs.NormalTexts.{IsNotNormal}
 use Rattle.iloc_normalize.specs.Modes.{IsNormalText, IsFaulty}
 use Rattle.iloc_normalize.specs.declared.Mode.{Mode}
 use Rattle.iloc_normalize.specs.declared.Mode.TheVariants.{Langid, Locale, Data}
-use Rattle.iloc_calls.specs.Numbers.{EndsAs, mode_number, number_of}
+use Rattle.iloc_calls.specs.Numbers.{ByMode, EndsAs}
 use Rattle.iloc_calls.specs.declared.status.Status.{Status}
 use Rattle.iloc_calls.specs.declared.status.Status.TheVariants.{Done, InvalidLanguage, InvalidSubtag}
 use Rattle.iloc_calls.specs.declared.status.Status.TheVariants.{InvalidExtension, DuplicatedExtension}
@@ -74,10 +74,10 @@ NormalizesTo mode t before after needed status =
 
 -- the same by the number of a mode, which says the number of the status; of any other number,
 -- nothing is handed out
-pub record Normalizes (mode : ℕ) (t before after : Text) (needed result : ℕ) : Type 0 where
-  pub known : (m : Mode) → mode ≡ mode_number m
-      → EndsAs (NormalizesTo m t before after needed) result
-  pub unknown : 2 < mode → (result ≡ number_of UnknownNumber) × (needed ≡ 0) × (after ≡ before)
+abbrev pub Normalizes : ℕ → Text → Text → Text → ℕ → ℕ → Type 0
+Normalizes mode t before after needed result =
+    ByMode mode (λ m. EndsAs (NormalizesTo m t before after needed))
+    ((needed ≡ 0) × (after ≡ before)) result
 
 -- how much longer than a text its normal text may be: a data locale is printed with its
 -- subdivision's region

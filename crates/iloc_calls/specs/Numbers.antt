@@ -1,5 +1,5 @@
 -- The numbers of modes and of statuses, and the words of statuses.
-use Rattle.std.specs.Prelude.{◌≡◌, ℕ, codes}
+use Rattle.std.specs.Prelude.{◌≡◌, ◌<◌, ℕ, codes}
 use Rattle.iloc_spec_grammar.specs.Syntax.{Text}
 use Rattle.iloc_subtags.specs.declared.parse_error.ParseError.{ParseError}
 use Rattle.iloc_subtags.specs.declared.parse_error.ParseError.TheVariants as refusals
@@ -31,6 +31,22 @@ number_of NotFound = 8
 -- the number is that of a status of which this holds
 abbrev pub EndsAs : (Status → Type 0) → ℕ → Type 0
 EndsAs P number = (status : Status) × (number ≡ number_of status) × P status
+
+-- what a call answers to a number that stands for a value: of each value this holds, with the number
+-- of the result; of a number above the last, the result is the number of `UnknownNumber`, and that
+-- holds of what is written
+pub record ByNumber {X : Type 0} (number_of_value : X → ℕ) (last number : ℕ)
+    (IsKnown : X → ℕ → Type 0) (IsKept : Type 0) (result : ℕ) : Type 0 where
+  pub known : (x : X) → number ≡ number_of_value x → IsKnown x result
+  pub unknown : last < number → (result ≡ number_of UnknownNumber) × IsKept
+
+-- the same to the number of a mode
+abbrev pub ByMode : ℕ → (Mode → ℕ → Type 0) → Type 0 → ℕ → Type 0
+ByMode = ByNumber mode_number 2
+
+-- the same to the number of a status
+abbrev pub ByStatus : ℕ → (Status → ℕ → Type 0) → Type 0 → ℕ → Type 0
+ByStatus = ByNumber number_of 8
 
 -- the status of a refusal
 abbrev pub status_of : ParseError → Status

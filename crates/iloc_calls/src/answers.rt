@@ -1,5 +1,5 @@
 //! What is answered of a text.
-ghost use Rattle.std.specs.Prelude.{◌≡◌, ◌↔◌, ◌+◌, ◌<◌, ◌≤◌, length, Some, IfNone, IfSome, MatchResult};
+ghost use Rattle.std.specs.Prelude.{◌≡◌, ◌↔◌, ◌+◌, ◌<◌, ◌≤◌, length, Some, MatchOption, MatchResult};
 ghost use Rattle.iloc_calls.specs.declared.status.Status.{Status};
 ghost use Rattle.iloc_calls.specs.Answers.{JudgedAs, Normalizes, NormalizesTo};
 ghost use Rattle.iloc_calls.specs.Numbers.{EndsAs, mode_number, number_of, status_of};
@@ -20,7 +20,7 @@ use iloc_subtags::ParseError;
 use std::alloc::Global;
 
 /// The mode of that number.
-pub(crate) fn mode_of(number: u32) -> Option<Mode>
+pub fn mode_of(number: u32) -> Option<Mode>
     ensures { (mode : Mode) → (result ≡ Some mode) ↔ (number ≡ mode_number mode) }
 {
     match number {
@@ -126,9 +126,8 @@ fn normalize_plain<const W: usize>(
 ) -> Option<u32>
     requires wide { W ≤ length text.now }
     requires few { length text.now ≤ W + W }
-    ensures some { IfSome result
+    ensures { MatchOption result (buffer.new ≡ buffer.old)
         (Normalizes mode text.now buffer.old buffer.new needed.new) }
-    ensures none { IfNone result (buffer.new ≡ buffer.old) }
 {
     let plain = read_plain_text(text)?;
     if mode > 2 || plain.len > buffer.len() {
@@ -141,9 +140,8 @@ fn normalize_plain<const W: usize>(
 #[inline(always)]
 fn normalize_tiny(mode: u32, text: &[u8], buffer: &mut [u8], needed: &mut usize) -> Option<u32>
     requires { length text.now < 4 }
-    ensures some { IfSome result
+    ensures { MatchOption result (buffer.new ≡ buffer.old)
         (Normalizes mode text.now buffer.old buffer.new needed.new) }
-    ensures none { IfNone result (buffer.new ≡ buffer.old) }
 {
     if text.len() < 2 {
         return None;
@@ -154,9 +152,8 @@ fn normalize_tiny(mode: u32, text: &[u8], buffer: &mut [u8], needed: &mut usize)
 // Hands out the normal text of a plain text of any length.
 #[inline(always)]
 fn normalize_at_once(mode: u32, text: &[u8], buffer: &mut [u8], needed: &mut usize) -> Option<u32>
-    ensures some { IfSome result
+    ensures { MatchOption result (buffer.new ≡ buffer.old)
         (Normalizes mode text.now buffer.old buffer.new needed.new) }
-    ensures none { IfNone result (buffer.new ≡ buffer.old) }
 {
     let len = text.len();
     if len > 16 {

@@ -1,9 +1,7 @@
 //! Finds the fault of a refused text.
-ghost use Rattle.std.specs.Prelude.{◌≡◌, ◌<◌};
-ghost use Rattle.iloc_normalize.specs.declared.Mode.{Mode};
-ghost use Rattle.iloc_calls.specs.declared.status.Status.{Status};
+ghost use Rattle.std.specs.Prelude.{◌≡◌};
 ghost use Rattle.iloc_calls.specs.Faults.{FindsFault};
-ghost use Rattle.iloc_calls.specs.Numbers.{EndsAs, mode_number, number_of};
+ghost use Rattle.iloc_calls.specs.Numbers.{ByMode, EndsAs};
 
 use crate::answers::mode_of;
 use crate::status::Status;
@@ -14,10 +12,9 @@ use iloc_normalize::Mode;
 ///
 /// The mode is 0 for identifiers, 1 for locales and 2 for data locales. It allocates nothing.
 pub fn find_fault(mode: u32, text: &[u8], start: &mut usize, end: &mut usize) -> u32
-    ensures known { (m : Mode) → mode ≡ mode_number m
-        → EndsAs (FindsFault m text.now (start.old, end.old) (start.new, end.new)) result }
-    ensures unknown { 2 < mode → (result ≡ number_of Status.UnknownNumber)
-        × (start.new ≡ start.old) × (end.new ≡ end.old) }
+    ensures { ByMode mode
+        (λ m. EndsAs (FindsFault m text.now (start.old, end.old) (start.new, end.new)))
+        ((start.new ≡ start.old) × (end.new ≡ end.old)) result }
 {
     match mode_of(mode) {
         Some(mode) => find(mode, text, start, end).number(),

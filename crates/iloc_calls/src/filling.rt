@@ -120,7 +120,7 @@ pub(crate) fn hand_out_fitting_plain<const W: usize>(
 
 /// Writes these bytes if they fit.
 #[inline(always)]
-pub(crate) fn hand_out_bytes(bytes: &[u8], buffer: &mut [u8], needed: &mut usize) -> Status
+pub fn hand_out_bytes(bytes: &[u8], buffer: &mut [u8], needed: &mut usize) -> Status
     ensures { HandsOut bytes.now buffer.old buffer.new needed.new result }
 {
     let end = bytes.len();

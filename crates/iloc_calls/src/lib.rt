@@ -6,19 +6,18 @@
 //! the room that is needed; what is not written stays as it was. Only parsing allocates, and `compare`.
 #![tactic(auto)]
 
-ghost use Rattle.std.specs.Prelude.{◌≡◌, ◌+◌, ◌<◌, ◌≤◌, length};
+ghost use Rattle.std.specs.Prelude.{◌≡◌, ◌+◌, ◌≤◌, ⊤, length};
 ghost use Rattle.iloc_normalize.specs.declared.Mode.{Mode};
-ghost use Rattle.iloc_calls.specs.declared.status.Status.{Status};
 ghost use Rattle.iloc_calls.specs.Answers.{
   ComparesTo,
   HandsOut,
   JudgedAs,
-  NormalizesTo,
+  Normalizes,
   OrdersTo,
   SaysSame,
   growth,
 };
-ghost use Rattle.iloc_calls.specs.Numbers.{EndsAs, mode_number, number_of, words_of};
+ghost use Rattle.iloc_calls.specs.Numbers.{ByMode, ByStatus, EndsAs, mode_number, words_of};
 
 mod answers;
 mod comparing;
@@ -29,10 +28,11 @@ mod hashing;
 mod same;
 mod status;
 
-use answers::{judge, mode_of};
+use answers::judge;
+pub use answers::mode_of;
 pub use comparing::number;
 pub use faults::find_fault;
-pub use filling::{hand_out, hand_out_found, hand_out_none};
+pub use filling::{hand_out, hand_out_bytes, hand_out_found, hand_out_none};
 pub use hashing::hash_of_text;
 pub use same::tell_refused;
 pub use status::Status;
@@ -48,20 +48,16 @@ pub fn normalize(
     buffer: &mut [u8],
     needed: &mut usize,
 ) -> u32
-    ensures known { (m : Mode) → mode ≡ mode_number m
-        → EndsAs (NormalizesTo m text.now buffer.old buffer.new needed.new) result }
+    ensures answered { Normalizes mode text.now buffer.old buffer.new needed.new result }
     ensures bounded { (m : Mode) → mode ≡ mode_number m
         → needed.new ≤ length text.now + growth m }
-    ensures unknown { 2 < mode → (result ≡ number_of Status.UnknownNumber)
-        × (needed.new ≡ 0) × (buffer.new ≡ buffer.old) }
 {
     answers::normalize(alloc, mode, text, buffer, needed)
 }
 
 /// Whether the text means something in the mode, or why not.
 pub fn check(alloc: Global, mode: u32, text: &[u8]) -> u32
-    ensures known { (m : Mode) → mode ≡ mode_number m → EndsAs (JudgedAs m text.now) result }
-    ensures unknown { 2 < mode → result ≡ number_of Status.UnknownNumber }
+    ensures { ByMode mode (λ m. EndsAs (JudgedAs m text.now)) ⊤ result }
 {
     match mode_of(mode) {
         Some(mode) => judge(alloc, mode, text).number(),
@@ -71,10 +67,9 @@ pub fn check(alloc: Global, mode: u32, text: &[u8]) -> u32
 
 /// Writes the byte order of the normal text against other bytes, as -1, 0 or 1.
 pub fn strict_cmp(alloc: Global, mode: u32, text: &[u8], other: &[u8], order: &mut i8) -> u32
-    ensures known { (m : Mode) → mode ≡ mode_number m
-        → EndsAs (ComparesTo m text.now other.now order.old order.new) result }
-    ensures unknown { 2 < mode
-        → (result ≡ number_of Status.UnknownNumber) × (order.new ≡ order.old) }
+    ensures { ByMode mode
+        (λ m. EndsAs (ComparesTo m text.now other.now order.old order.new))
+        (order.new ≡ order.old) result }
 {
     match mode_of(mode) {
         Some(mode) => comparing::strict_cmp(alloc, mode, text, other, order).number(),
@@ -84,10 +79,9 @@ pub fn strict_cmp(alloc: Global, mode: u32, text: &[u8], other: &[u8], order: &m
 
 /// Writes 1 if both texts have the same meaning, and else 0.
 pub fn normalizing_eq(alloc: Global, mode: u32, text: &[u8], other: &[u8], same: &mut u8) -> u32
-    ensures known { (m : Mode) → mode ≡ mode_number m
-        → EndsAs (SaysSame m text.now other.now same.old same.new) result }
-    ensures unknown { 2 < mode
-        → (result ≡ number_of Status.UnknownNumber) × (same.new ≡ same.old) }
+    ensures { ByMode mode
+        (λ m. EndsAs (SaysSame m text.now other.now same.old same.new))
+        (same.new ≡ same.old) result }
 {
     match mode_of(mode) {
         Some(mode) => same::tell_same(alloc, mode, text, other, same).number(),
@@ -97,10 +91,9 @@ pub fn normalizing_eq(alloc: Global, mode: u32, text: &[u8], other: &[u8], same:
 
 /// Writes the byte order of the normal texts of both, as -1, 0 or 1.
 pub fn compare(alloc: Global, mode: u32, text: &[u8], other: &[u8], order: &mut i8) -> u32
-    ensures known { (m : Mode) → mode ≡ mode_number m
-        → EndsAs (OrdersTo m text.now other.now order.old order.new) result }
-    ensures unknown { 2 < mode
-        → (result ≡ number_of Status.UnknownNumber) × (order.new ≡ order.old) }
+    ensures { ByMode mode
+        (λ m. EndsAs (OrdersTo m text.now other.now order.old order.new))
+        (order.new ≡ order.old) result }
 {
     match mode_of(mode) {
         Some(mode) => comparing::compare_both(alloc, mode, text, other, order).number(),
@@ -110,10 +103,9 @@ pub fn compare(alloc: Global, mode: u32, text: &[u8], other: &[u8], order: &mut 
 
 /// Writes the words of a status into the buffer, and their length to `needed`.
 pub fn words(status: u32, buffer: &mut [u8], needed: &mut usize) -> u32
-    ensures known { (named : Status) → status ≡ number_of named
-        → EndsAs (HandsOut (words_of named) buffer.old buffer.new needed.new) result }
-    ensures unknown { 8 < status → (result ≡ number_of Status.UnknownNumber)
-        × (needed.new ≡ 0) × (buffer.new ≡ buffer.old) }
+    ensures { ByStatus status
+        (λ named. EndsAs (HandsOut (words_of named) buffer.old buffer.new needed.new))
+        ((needed.new ≡ 0) × (buffer.new ≡ buffer.old)) result }
 {
     match Status::from_number(status) {
         Some(status) => hand_out(&status.words(), buffer, needed).number(),

@@ -7,12 +7,17 @@ use Rattle.iloc_spec_parts.specs.Preferences.{language_priority, preferences, re
 use Rattle.iloc_spec_parts.specs.Preferences.{region_priority}
 use Rattle.iloc_spec_parts.specs.Keywords.{CalendarAlgorithm, HourCycle, enum_reads, enum_words, key}
 use Rattle.iloc_spec_parts.specs.Keywords.{single, variants}
+use Rattle.iloc_calls.specs.Numbers.{ByNumber}
 use Rattle.iloc_handles.specs.declared.data.Priority.{Priority}
 use Rattle.iloc_handles.specs.declared.data.Priority.TheVariants.{Language, Region}
 
 abbrev pub priority_number : Priority → ℕ
 priority_number Language = 0
 priority_number Region = 1
+
+-- what a call answers to the number of a priority
+abbrev pub ByPriority : ℕ → (Priority → ℕ → Type 0) → Type 0 → ℕ → Type 0
+ByPriority = ByNumber priority_number 1
 
 -- the data locale of a locale
 abbrev pub data_of : Priority → Locale → DataLocale

@@ -1,7 +1,7 @@
 //! What C holds of a locale.
 ghost use Rattle.iloc_locale.specs.declared.locale.Locale.{Locale};
 ghost use Rattle.iloc_locale.specs.LocaleReading.{unknown_locale, value_of};
-ghost use Rattle.std.specs.Prelude.{◌≡◌, ◌↔◌, IsTrue, Option, Some, None, IfSome, IfNone};
+ghost use Rattle.std.specs.Prelude.{◌≡◌, ◌↔◌, IsTrue, Option, Some, None, IfSome, IfNone, MatchOption};
 ghost use Rattle.iloc_handles.specs.Held.{IsTight, held_locale};
 
 use crate::open_box::OpenBox;
@@ -61,8 +61,8 @@ impl Handle {
 
     // The box that it holds.
     fn into_box(self, alloc: Global) -> Option<Box<Locale, Global>>
-        ensures none { IfNone result (self.value ≡ None) }
-        ensures some { IfSome result (λ boxed. self.value ≡ Some boxed.value) }
+        ensures { MatchOption result (self.value ≡ None)
+            (λ boxed. self.value ≡ Some boxed.value) }
     {
         match self.into_open(alloc) {
             Some(parts) => Some(parts.close()),
@@ -82,8 +82,8 @@ impl Handle {
     /// be.
     pub fn take(&mut self, alloc: Global) -> Option<Box<Locale, Global>>
         ensures left { self.new.value ≡ None }
-        ensures none { IfNone result (self.old.value ≡ None) }
-        ensures some { IfSome result (λ boxed. self.old.value ≡ Some boxed.value) }
+        ensures taken { MatchOption result (self.old.value ≡ None)
+            (λ boxed. self.old.value ≡ Some boxed.value) }
     {
         if self.is_empty() {
             return None;

@@ -1,8 +1,6 @@
 //! Changes of a locale by that of another handle.
-ghost use Rattle.std.specs.Prelude.{◌≡◌};
 ghost use Rattle.iloc_locale.specs.LocaleReading.{value_of};
-ghost use Rattle.iloc_handles.specs.Held.{held_locale};
-ghost use Rattle.iloc_handles.specs.Finding.{IsChanged};
+ghost use Rattle.iloc_handles.specs.Finding.{IsAsked, IsChanged};
 ghost use Rattle.iloc_handles.specs.Merging.{Merges};
 ghost use Rattle.iloc_handles.specs.Whole.{Copies, ExtendsUnicode};
 
@@ -59,9 +57,8 @@ fn extend_unicode(alloc: Global, from: &Locale, locale: &mut Locale) -> Status
 
 /// Changes the locale by that of the other handle, which stays.
 pub fn change_by(alloc: Global, handle: &mut Handle, from: &mut Handle, merge: Merge) -> u32
-    ensures same { from.new.value ≡ from.old.value }
-    ensures changed { IsChanged (Merges merge (held_locale from.old.value)) handle.old.value
-        handle.new.value result }
+    ensures { IsAsked from.old.value from.new.value (λ that. IsChanged (Merges merge that)
+        handle.old.value handle.new.value result) }
 {
     match from.take(alloc) {
         Some(boxed) => {

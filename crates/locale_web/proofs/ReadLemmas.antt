@@ -1,7 +1,5 @@
 -- From outlines and parts to what a text is read as.
-use Rattle.std.proofs.Common.{◌≡◌, ℕ, ◌≤◌, ◌<◌, ◌^◌, length, refl}
-use Rattle.std.proofs.Common.{arith}
-use Rattle.std.proofs.lemmas.Bool.Decides.{nat_tests}
+use Rattle.std.proofs.Common.{◌≡◌, ◌≤◌, length, refl, arith}
 use Rattle.iloc_spec_grammar.specs.Syntax.{Text, pieces, languages}
 use Rattle.iloc_spec_grammar.specs.Meaning as grammar
 use Rattle.iloc_spec_grammar.specs.Meaning.{Means, IdentifierMeans}
@@ -9,7 +7,6 @@ use Rattle.iloc_spec_grammar.specs.Syntax.{Identifier}
 use Rattle.iloc_spec_grammar.specs.Values.{identifier_text, text}
 use Rattle.iloc_spec_grammar.proofs.AnySteps.{shortest, length-identifier_means}
 use Rattle.iloc_spec_parts.specs.DataLocales.{DataMeans, data_text}
-use Rattle.iloc_writeable.specs.Hints.{saturated}
 use Rattle.iloc_calls.proofs.Bounds.{parts_fit}
 use Rattle.iloc_data_parts.specs.PartsReading as parts
 use Rattle.iloc_data_parts.specs.declared.parts.DataParts.{DataParts}
@@ -39,7 +36,3 @@ locale_outlined t spans o M m g =
 pub parts_within : (t : Text) (p : DataParts) → DataMeans languages t (parts.value_of p) →
     IsNormalWithin Data t 4 (data_text (parts.value_of p))
 parts_within t p m = record { meant = (parts.value_of p, m, refl); few = parts_fit t p m }
-
--- a length is not cut where it is a number of the machine
-pub saturated_fits : (n : ℕ) → n < 2 ^ 64 → n ≡ saturated n
-saturated_fits n fits = grind (arith, nat_tests)

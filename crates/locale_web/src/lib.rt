@@ -16,12 +16,10 @@
 //! No call takes memory, so the module asks its page for nothing.
 #![tactic(auto)]
 
-ghost use Rattle.std.specs.Prelude.{◌≡◌, ◌<◌, length, take};
-ghost use Rattle.iloc_normalize.specs.declared.Mode.{Mode};
-ghost use Rattle.iloc_calls.specs.declared.status.Status.{Status};
+ghost use Rattle.std.specs.Prelude.{◌≡◌, ⊤, length, take};
 ghost use Rattle.iloc_calls.specs.Answers.{HandsOut};
 ghost use Rattle.iloc_calls.specs.Faults.{FindsFault};
-ghost use Rattle.iloc_calls.specs.Numbers.{EndsAs, mode_number, number_of, words_of};
+ghost use Rattle.iloc_calls.specs.Numbers.{ByMode, ByStatus, EndsAs, words_of};
 ghost use Rattle.locale_web.specs.Answers.{
   EndsWithin,
   IsJudged,
@@ -46,10 +44,10 @@ pub mod rows;
 mod state;
 
 use comparing::{compare, tell_same};
-use iloc_calls::{Status, find_fault};
-use normalizing::{hand_out_bytes, normalize};
+use iloc_calls::{Status, find_fault, hand_out_bytes, mode_of};
+use normalizing::normalize;
 use parts::find_parts;
-use reading::{judge, mode_of, text_end};
+use reading::{judge, text_end};
 
 /// The version of these calls.
 pub const VERSION: u32 = 1;
@@ -80,13 +78,11 @@ pub extern "C" fn web_normalize(
     buffer: &mut [u8],
     needed: &mut usize,
 ) -> u32
-    ensures known { (m : Mode) → mode ≡ mode_number m
-        → EndsWithin (NormalIsWritten m (take len window.now) buffer.old buffer.new needed.new)
+    ensures { ByMode mode
+        (λ m. EndsWithin (NormalIsWritten m (take len window.now) buffer.old buffer.new needed.new)
         (NothingIsWritten m (take len window.now) (length room.old) buffer.old buffer.new
-        needed.new)
-        result }
-    ensures unknown { 2 < mode → (result ≡ number_of Status.UnknownNumber)
-        × (needed.new ≡ 0) × (buffer.new ≡ buffer.old) }
+        needed.new))
+        ((needed.new ≡ 0) × (buffer.new ≡ buffer.old)) result }
 {
     match mode_of(mode) {
         Some(mode) => number(normalize(mode, window, len, room, buffer, needed)),
@@ -100,10 +96,9 @@ pub extern "C" fn web_normalize(
 /// Whether the text means something in the mode, or why not.
 #[unsafe(no_mangle)]
 pub extern "C" fn web_check(mode: u32, window: &[u8], len: usize) -> u32
-    ensures known { (m : Mode) → mode ≡ mode_number m
-        → EndsWithin (IsJudged m (take len window.now))
-        (IsPastLimits m (take len window.now)) result }
-    ensures unknown { 2 < mode → result ≡ number_of Status.UnknownNumber }
+    ensures { ByMode mode
+        (λ m. EndsWithin (IsJudged m (take len window.now)) (IsPastLimits m (take len window.now)))
+        ⊤ result }
 {
     match mode_of(mode) {
         Some(mode) => number(judge(mode, window, len)),
@@ -123,13 +118,12 @@ pub extern "C" fn web_compare(
     two: &mut [u8],
     order: &mut i8,
 ) -> u32
-    ensures known { (m : Mode) → mode ≡ mode_number m
-        → EndsWithin (OrderIsWritten m (take len window.now) (take other_len other.now)
+    ensures { ByMode mode
+        (λ m. EndsWithin (OrderIsWritten m (take len window.now) (take other_len other.now)
         order.old order.new)
         (IsOneBeyond m (take len window.now) (length one.old) (take other_len other.now)
-        (length two.old) × (order.new ≡ order.old)) result }
-    ensures unknown { 2 < mode
-        → (result ≡ number_of Status.UnknownNumber) × (order.new ≡ order.old) }
+        (length two.old) × (order.new ≡ order.old)))
+        (order.new ≡ order.old) result }
 {
     match mode_of(mode) {
         Some(mode) => number(compare(mode, window, len, other, other_len, one, two, order)),
@@ -149,13 +143,12 @@ pub extern "C" fn web_normalizing_eq(
     two: &mut [u8],
     same: &mut u8,
 ) -> u32
-    ensures known { (m : Mode) → mode ≡ mode_number m
-        → EndsWithin (SameIsWritten m (take len window.now) (take other_len other.now)
+    ensures { ByMode mode
+        (λ m. EndsWithin (SameIsWritten m (take len window.now) (take other_len other.now)
         same.old same.new)
         (IsOneBeyond m (take len window.now) (length one.old) (take other_len other.now)
-        (length two.old) × (same.new ≡ same.old)) result }
-    ensures unknown { 2 < mode
-        → (result ≡ number_of Status.UnknownNumber) × (same.new ≡ same.old) }
+        (length two.old) × (same.new ≡ same.old)))
+        (same.new ≡ same.old) result }
 {
     match mode_of(mode) {
         Some(mode) => number(tell_same(mode, window, len, other, other_len, one, two, same)),
@@ -178,14 +171,12 @@ pub extern "C" fn web_parts(
     table: &mut [usize],
     needed: &mut usize,
 ) -> u32
-    ensures known { (m : Mode) → mode ≡ mode_number m
-        → EndsWithin (PartsAreWritten m (take len window.now) room.new end.new table.old table.new
-        needed.new)
+    ensures { ByMode mode
+        (λ m. EndsWithin (PartsAreWritten m (take len window.now) room.new end.new table.old
+        table.new needed.new)
         (NoPartIsWritten m (take len window.now) (length room.old) end.new table.old table.new
-        needed.new)
-        result }
-    ensures unknown { 2 < mode → (result ≡ number_of Status.UnknownNumber)
-        × (end.new ≡ 0) × (needed.new ≡ 0) × (table.new ≡ table.old) }
+        needed.new))
+        ((end.new ≡ 0) × (needed.new ≡ 0) × (table.new ≡ table.old)) result }
 {
     match mode_of(mode) {
         Some(mode) => number(find_parts(mode, window, len, room, end, table, needed)),
@@ -207,10 +198,10 @@ pub extern "C" fn web_find_fault(
     start: &mut usize,
     end: &mut usize,
 ) -> u32
-    ensures known { (m : Mode) → mode ≡ mode_number m
-        → EndsAs (FindsFault m (take len window.now) (start.old, end.old) (start.new, end.new)) result }
-    ensures unknown { 2 < mode → (result ≡ number_of Status.UnknownNumber)
-        × (start.new ≡ start.old) × (end.new ≡ end.old) }
+    ensures { ByMode mode
+        (λ m. EndsAs
+        (FindsFault m (take len window.now) (start.old, end.old) (start.new, end.new)))
+        ((start.new ≡ start.old) × (end.new ≡ end.old)) result }
 {
     find_fault(mode, &window[..text_end(window, len)], start, end)
 }
@@ -218,10 +209,9 @@ pub extern "C" fn web_find_fault(
 /// Writes the words of a status into the buffer, and their length to `needed`.
 #[unsafe(no_mangle)]
 pub extern "C" fn web_words(status: u32, buffer: &mut [u8], needed: &mut usize) -> u32
-    ensures known { (named : Status) → status ≡ number_of named
-        → EndsAs (HandsOut (words_of named) buffer.old buffer.new needed.new) result }
-    ensures unknown { 8 < status → (result ≡ number_of Status.UnknownNumber)
-        × (needed.new ≡ 0) × (buffer.new ≡ buffer.old) }
+    ensures { ByStatus status
+        (λ named. EndsAs (HandsOut (words_of named) buffer.old buffer.new needed.new))
+        ((needed.new ≡ 0) × (buffer.new ≡ buffer.old)) result }
 {
     match Status::from_number(status) {
         Some(status) => hand_out_bytes(status.words().as_bytes(), buffer, needed).number(),

@@ -1,6 +1,5 @@
 //! Puts and hands out normal texts.
 ghost use Rattle.std.specs.Prelude.{◌≡◌, ◌↔◌, ◌+◌, ◌≤◌, IsTrue, MatchOption, length, take};
-ghost use Rattle.iloc_calls.specs.Answers.{HandsOut};
 ghost use Rattle.iloc_data_parts.specs.PartsReading.{value_of};
 ghost use Rattle.iloc_spec_parts.specs.DataLocales.{data_text};
 ghost use Rattle.locale_web.specs.Answers.{NormalIsWritten, NothingIsWritten};
@@ -8,10 +7,9 @@ ghost use Rattle.locale_web.specs.Reading.{IsPut};
 
 use crate::data::DataText;
 use crate::reading::{Found, read, text_end};
-use iloc_calls::{Status, hand_out};
+use iloc_calls::{Status, hand_out, hand_out_bytes};
 use iloc_data_parts::DataParts;
 use iloc_normalize::Mode;
-use iloc_normalize::copying::copy_all;
 use iloc_outline::printing::copy_outline;
 use iloc_spans::spans::Spans;
 use iloc_subtags::ParseError;
@@ -89,20 +87,6 @@ pub(crate) fn put(mode: Mode, window: &[u8], len: usize, to: &mut [u8]) -> Place
     } else {
         Placed::Beyond
     }
-}
-
-/// Writes the bytes into the buffer if they fit, and their number to `needed`.
-#[tactic(auto, using(crate::proofs::ReadLemmas::saturated_fits))]
-pub(crate) fn hand_out_bytes(bytes: &[u8], buffer: &mut [u8], needed: &mut usize) -> Status
-    ensures { HandsOut bytes.now buffer.old buffer.new needed.new result }
-{
-    let end = bytes.len();
-    *needed = end;
-    if end > buffer.len() {
-        return Status::BufferTooSmall;
-    }
-    copy_all(bytes, &mut buffer[..end]);
-    Status::Done
 }
 
 /// Hands out the normal text of what the text means, which the room is for. `None` if the text is beyond that.

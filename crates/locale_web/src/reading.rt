@@ -1,7 +1,5 @@
 //! Reads a text.
-ghost use Rattle.std.specs.Prelude.{◌≡◌, ◌↔◌, ◌≤◌, Some, MatchOption, length, take};
-ghost use Rattle.iloc_calls.specs.Numbers.{mode_number};
-ghost use Rattle.iloc_normalize.specs.declared.Mode.{Mode};
+ghost use Rattle.std.specs.Prelude.{◌≡◌, ◌≤◌, MatchOption, length, take};
 ghost use Rattle.iloc_normalize.specs.declared.Mode.TheVariants as modes;
 ghost use Rattle.iloc_spans.specs.declared.spans.Spans.{Spans};
 ghost use Rattle.locale_web.specs.Answers.{IsJudged};
@@ -32,18 +30,6 @@ pub(crate) enum Found {
     Refused(ParseError),
     /// It is past the limits.
     Beyond,
-}
-
-/// The mode of that number.
-pub(crate) fn mode_of(number: u32) -> Option<Mode>
-    ensures { (mode : Mode) → (result ≡ Some mode) ↔ (number ≡ mode_number mode) }
-{
-    match number {
-        0 => Some(Mode::Langid),
-        1 => Some(Mode::Locale),
-        2 => Some(Mode::Data),
-        _ => None,
-    }
 }
 
 /// The number of bytes of the window that are the text.

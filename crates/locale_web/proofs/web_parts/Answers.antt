@@ -1,8 +1,8 @@
--- What is a mode is not unknown.
-use Rattle.std.proofs.Common.{refl}
-use Rattle.iloc_calls.proofs.AnswerLemmas.{no_mode}
+-- The mode that is found is the one of the number.
+use Rattle.iloc_calls.proofs.ByNumbers.{by_mode}
 use Rattle.locale_web.proofs.web_parts.Goals as goal
 
-pub returns-in-Some-clause-unknown : goal.returns-in-Some-clause-unknown
-returns-in-Some-clause-unknown c far =
-    absurd (no_mode c.in-Some.mode c.args.mode ((c.in-Some.ensures c.in-Some.mode).0 refl) far)
+pub returns-in-Some : goal.returns-in-Some
+returns-in-Some c =
+    by_mode c.args.mode c.mode_of.result c.in-Some.mode _ _ c.number.result c.mode_of.ensures c.in-Some.is
+    (c.find_parts.result, c.number.ensures, c.find_parts.ensures)

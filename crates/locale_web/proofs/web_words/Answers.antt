@@ -1,8 +1,15 @@
--- What is a status is not unknown.
-use Rattle.std.proofs.Common.{refl}
-use Rattle.iloc_calls.proofs.AnswerLemmas.{no_status}
+-- The status that is found is the one of the number.
+use Rattle.std.proofs.Common.{subst, ◌∙◌}
+use Rattle.iloc_calls.specs.Answers.{HandsOut}
+use Rattle.iloc_calls.proofs.ByNumbers.{by_status}
 use Rattle.locale_web.proofs.web_words.Goals as goal
 
-pub returns-in-Some-clause-unknown : goal.returns-in-Some-clause-unknown
-returns-in-Some-clause-unknown c far =
-    absurd (no_status c.in-Some.status c.args.status ((c.in-Some.ensures c.in-Some.status).0 refl) far)
+pub returns-in-Some : goal.returns-in-Some
+returns-in-Some c =
+    by_status c.args.status c.from_number.result c.in-Some.status _ _ c.number.result c.from_number.ensures
+    c.in-Some.is (
+      c.hand_out_bytes.result,
+      c.number.ensures,
+      subst (λ t. HandsOut t c.args.buffer.now c.hand_out_bytes.new.buffer c.hand_out_bytes.new.needed
+          c.hand_out_bytes.result) (c.as_bytes.ensures.value ∙ c.words.ensures) c.hand_out_bytes.ensures,
+    )

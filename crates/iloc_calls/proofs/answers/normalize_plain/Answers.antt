@@ -5,18 +5,18 @@ use Rattle.iloc_spec_grammar.specs.Values.{identifier_text}
 use Rattle.iloc_pieces.specs.Plain.{value_of}
 use Rattle.iloc_normalize.proofs.PlainAnswers.{plain_normal}
 use Rattle.iloc_calls.specs.declared.status.Status.TheVariants.{BufferTooSmall}
-use Rattle.iloc_calls.proofs.AnswerLemmas.{no_mode}
+use Rattle.iloc_calls.proofs.ByNumbers.{few_modes}
 use Rattle.iloc_calls.proofs.HandedLemmas.{handed_out, withheld}
 use Rattle.iloc_calls.proofs.answers.normalize_plain.Goals as goal
 use Rattle.iloc_calls.proofs.answers.normalize_plain.Goals.{then-mode-gt2-via-then-mode-gt2}
 use Rattle.iloc_calls.proofs.answers.normalize_plain.Goals.{then-mode-gt2-via-else-mode-gt2+then-plain-buffer}
 
-pub returns-then-mode-gt2-clause-some : goal.returns-then-mode-gt2-clause-some
-returns-then-mode-gt2-clause-some g c =
+pub returns-then-mode-gt2 : goal.returns-then-mode-gt2
+returns-then-mode-gt2 g c =
     elim c.then-mode-gt2.branch [
       | then-mode-gt2-via-then-mode-gt2 w ↦ record {
-        known = λ m e. absurd (no_mode m c.args.mode e w.if-mode-gt2.true);
-        unknown = λ far. let told = c.withhold.ensures.unknown far in (told.0, told.1, refl);
+        known = λ m e. let few = few_modes m in absurd (omega (arith, few, e, w.if-mode-gt2.true));
+        unknown = λ far. let told = c.withhold.ensures.unknown far in (told.0, (told.1, refl));
       }
       | then-mode-gt2-via-else-mode-gt2+then-plain-buffer w ↦ record {
         known = λ m e.
@@ -30,8 +30,8 @@ returns-then-mode-gt2-clause-some g c =
       }
     ]
 
-pub returns-clause-some : goal.returns-clause-some
-returns-clause-some g c = record {
+pub returns : goal.returns
+returns g c = record {
   known = λ m e. (
     c.hand_out_fitting_plain.result,
     c.number.ensures,
