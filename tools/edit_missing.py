@@ -12,18 +12,13 @@ import pathlib
 import re
 
 from common import ROOT, below, counted, crates_of, rows_of
-from edit_places import closing, functions
-from rattle import generics
+from rattle import blanked, functions, generics, read_text
 from sources import files_of
 
 LIST = "tools/no_mutants.txt"
 TOPS = ("icu_locale_core", "icu_locale_c", "locale_web", "locale_normal")
-# A character, a string, or a comment, in whose place blanks are read.
-UNREAD = re.compile(rb"""'(?:\\[^\n]|[^'\\\n])'|"(?:\\.|[^"\\])*"|//[^\n]*""", re.S)
 TYPE = re.compile(rb"^pub (?:struct|enum|type) (\w+)", re.M)
-IMPL = re.compile(rb"^(?:unsafe )?impl\b[^{;]*\{", re.M)
-PUBLIC = re.compile(rb"\bpub (?:const |unsafe |final )*\Z")
-LAW = re.compile(rb"fn \w+(?:<[^>]*>)?\(\)\s*(?:ensures|\{)")
+LAW = re.compile(r"(?:\w+ )*fn \w+(?:<[^>]*>)?\(\)\s*(?:ensures|\{)")
 
 
 def texts_of(crate, part, end):
@@ -48,14 +43,14 @@ def places(text, texts):
             texts[file] = texts[file].replace(old, b"\0" * len(old), 1)
 
 
-def in_one_line(head):
+def in_one_line(item):
     """Returns the head of an impl or a trait without what stands behind `where`."""
-    return " ".join(re.sub(r"\bwhere\b.*", "", head, flags=re.S).split()).rstrip(" {")
+    return " ".join(re.sub(r"\bwhere\b.*", "", item.kind + item.head, flags=re.S).split())
 
 
 def is_for_public(head, types):
     """Returns whether the head is that of a trait for a public type or for a parameter."""
-    given, rest = generics(head.partition("impl")[2])
+    given, rest = generics(head)
     trait, _, own = rest.rpartition(" for ")
     names = re.findall(r"[A-Z]\w*", own)
     return bool(trait) and (not names or names[0] in given or names[0].encode() in types)
@@ -63,16 +58,15 @@ def is_for_public(head, types):
 
 def wanted(source, types):
     """Yields the name of each thing that needs a mutant, with the ranges of its bodies."""
-    bare = UNREAD.sub(lambda found: re.sub(rb"[^\n]", b" ", found[0]), source)
-    every = [it for it in functions(bare) if bare[it[1] : it[2]].strip(b"{} \n") and not LAW.match(bare, it[0])]
-    for start, body, end, name, owner in every:
-        if owner[:5] == "trait" or PUBLIC.search(bare, 0, start):
-            yield f"{in_one_line(owner)}::{name}" if owner else name, [(body, end)]
-    for found in IMPL.finditer(bare):
-        last, head = closing(bare, found.end() - 1), in_one_line(found[0].decode())
-        inner = [(body, end) for start, body, end, _, _ in every if found.start() < start < last]
-        if inner and is_for_public(head, types):
-            yield head, inner
+    module = read_text(source.decode("latin-1"))  # (in which each byte is a sign)
+    every = [it for it in functions([module]) if blanked(it.body).strip("{} \n") and not LAW.match(it.text)]
+    for it in every:
+        if it.is_public or it.owner and it.owner.kind == "trait":
+            yield f"{in_one_line(it.owner)}::{it.name}" if it.owner else it.name, [it.inside]
+    for impl in [it for it in module.items if it.kind == "impl"]:
+        inner = [it.inside for it in every if it.owner is impl]
+        if inner and is_for_public(impl.head, types):
+            yield in_one_line(impl), inner
 
 
 def missing():

@@ -1,8 +1,9 @@
 """Where the functions of a crate stand in its text, and what a check calls them."""
+import functools
 import os
 import re
 
-from rattle import generics
+import rattle
 
 # A const fn, whose body others may read, and a function in a cycle of calls, whose proof is that
 # of others too.
@@ -10,59 +11,15 @@ ALONE = re.compile(
     rb"\bconst\s+(unsafe\s+)?\Z"
     rb"|#\[cycle\b[^\n]*\s*(#\[[^\n]*\s*)*(pub\b(\([^)]*\))?\s*)?(unsafe\s+)?\Z"
 )
-CLAUSE = re.compile(rb"\b((requires|ensures)\*?(\s+\w+)?|ghost\s+\w+\s*:)\s*\Z")
-ITEM = re.compile(rb"\b(?:mod|trait|impl|fn)\b|{")
 
 
-def closing(text, at):
-    """Returns the place behind the brace that closes the one at 'at'.
-
-    All texts here are bytes without comments and strings."""
-    depth = 0
-    for it in re.compile(rb"[{}]").finditer(text, at):
-        depth += 1 if it[0] == b"{" else -1
-        if not depth:
-            return it.end()
-    return len(text)
-
-
-def body_of(text, at, end):
-    """Returns where the body of the fn whose name stands at 'at' begins and ends; with no body
-    it begins nowhere, at None."""
-    start, depth = at, 0
-    for it in re.compile(rb"[()\[\]{};]").finditer(text, at, end):
-        depth += (it[0] in b"([") - (it[0] in b")]")
-        if it.start() < at or depth or it[0] not in b"{;":
-            continue
-        if it[0] == b";":
-            return None, it.end()
-        at = closing(text, it.start())
-        if not CLAUSE.search(text, start, it.start()):
-            return it.start(), at
-    return None, at
-
-
-def functions(text, at=0, end=None, owner=""):
-    """Yields (start, body, end, name, owner) of each fn with a body; 'owner' is the head of its
+@functools.lru_cache(maxsize=None)
+def functions(text):
+    """Returns (start, body, end, name, owner) of each fn with a body, by the bytes of a text; 'owner' is the head of its
     impl or trait. Inline modules are passed over."""
-    end = end or len(text)
-    found = ITEM.search(text, at, end)
-    while found:
-        if found[0] == b"{":
-            at = closing(text, found.start())
-        elif found[0] == b"fn":
-            body, at = body_of(text, found.end(), end)
-            if body is not None:
-                name = re.match(rb"\s*(\w*)", text[found.end() :])[1].decode()
-                yield found.start(), body, at, name, owner
-        else:
-            head = re.compile(rb"[^{;]*").match(text, found.start())
-            at = head.end()
-            if text[at : at + 1] == b"{":
-                if found[0] != b"mod":
-                    yield from functions(text, at + 1, closing(text, at) - 1, head[0].decode())
-                at = closing(text, at)
-        found = ITEM.search(text, at, end)
+    every = rattle.functions([rattle.read_text(text.decode("latin-1"))])  # (in which each byte is a sign)
+    head = lambda it: (it.kind + it.head).encode("latin-1").decode() if it else ""
+    return [(it.at, *it.inside, it.name, head(it.owner)) for it in every if it.inside]
 
 
 def owners(head):
@@ -71,7 +28,7 @@ def owners(head):
     (A, B) is Tuple2AB, [T] is Slice or Array, and a parameter of the impl is nothing."""
     if head[:4] != "impl":
         return [head.split()[1].partition("<")[0].rstrip(":")]
-    params, rest = generics(re.sub(r"\bwhere\b.*", "", head[4:], flags=re.S))
+    params, rest = rattle.generics(re.sub(r"\bwhere\b.*", "", head[4:], flags=re.S))
     tuple_of = lambda it: f" Tuple{len(it[1].split(','))} {it[1]}"
     while "(" in rest:
         rest = re.sub(r"\(([^()]*)\)", tuple_of, rest)

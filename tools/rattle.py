@@ -98,6 +98,8 @@ class Item:
     owner: "Item" = None  # the trait or `impl` in which it stands
     uses: list = field(default_factory=list)  # its ghost use lines
     body: str = ""  # of a ghost member, or with its braces of a function
+    at: int = 0  # where its keyword stands
+    inside: tuple = ()  # where the body of a function begins and ends
 
     where = property(lambda self: f"{self.module.path}:{self.line}")
     crate = property(lambda self: self.module.crate)
@@ -197,15 +199,13 @@ def expanded(text):
 
 
 class Reader:
-    """Reads a file's items, and those of the files that its `mod` lines name."""
+    """Reads the items of a text into its module, and those of the files below the crate's src/ that its `mod` lines name."""
 
-    def __init__(self, crate, folder, path, names, made, root):
-        self.text = read(os.path.join(root, path))
-        self.blank, self.lines = blanked(self.text), self.text.split("\n")
-        self.crate, self.folder, self.made, self.root = crate, folder, made, root
-        self.source = Source(crate, names, path)
-        made[names] = self.source
-        self.items(self.source, 0, len(self.text), None)
+    def __init__(self, source, text, made, top):
+        self.text, self.blank, self.lines = text, blanked(text), text.split("\n")
+        self.made, self.top = made, top
+        made[source.path_names] = source
+        self.items(source, 0, len(text), None)
 
     def line(self, at):
         return self.text.count("\n", 0, at)
@@ -234,6 +234,7 @@ class Reader:
         comment, doc, derives = comment_above(self.lines, line)
         named = re.compile(rf"\s*({NAME})").match(self.blank, at)
         made = Item(source, kind[0], named[1] if named else "", line + 1, "", comment, is_public=is_public)
+        made.at = at - len(kind[0])
         made.derives, made.owner, made.doc, made.before = derives, owner, doc, self.text[start:at]
         end = self.rest(source, made, at)
         made.text = self.text[start:end]
@@ -249,14 +250,13 @@ class Reader:
             if name[2] == "{":
                 opened = self.blank.index("{", at)
                 doc = comment_above(self.lines, self.line(at))[1]
-                block = Source(self.crate, inner, source.path, is_block=True, doc=doc)
+                block = Source(source.crate, inner, source.path, is_block=True, doc=doc)
                 block.ghost_uses, self.made[inner] = list(source.ghost_uses), block
                 end = closing(self.blank, opened)
                 self.items(block, opened + 1, end - 1, None)
                 return end
             for path in (f"{'/'.join(inner)}.rt", f"{'/'.join(inner)}/mod.rt"):
-                if os.path.isfile(os.path.join(self.root, self.folder, path)):
-                    Reader(self.crate, self.folder, f"{self.folder}/{path}", inner, self.made, self.root)
+                read_file(self.made, source.crate, inner, self.top, path)
             return stop + 1
         text = self.text[at:stop]
         if kind == ["use"]:
@@ -323,7 +323,8 @@ class Reader:
         if made.kind in ("trait", "impl"):
             made.name = made.name if made.kind == "trait" else " ".join(made.head.split())
             self.items(source, opened + 1, end - 1, made)
-        made.body = self.text[opened:end] if made.kind == "fn" else ""
+        elif made.kind == "fn":
+            made.body, made.inside = self.text[opened:end], (opened, end)
         return end
 
 
@@ -332,11 +333,23 @@ def functions(sources):
     return [it for source in sources for item in source.items for it in (item, *item.inner) if it.kind == "fn"]
 
 
+def read_file(made, crate, names, top, path):
+    """Reads a file of a crate, if it is there, and adds its modules to those that were made."""
+    if os.path.isfile(f"{top}/{path}"):
+        Reader(Source(crate, names, f"crates/{crate}/src/{path}"), read(f"{top}/{path}"), made, top)
+
+
+def read_text(text):
+    """Returns the module that a text is, without those of other files."""
+    source = Source("", (), "")
+    Reader(source, text, {}, os.devnull)
+    return source
+
+
 def read_crate(root, name):
     """Returns the modules of a crate by their paths."""
-    made, folder = {}, f"crates/{name}/src"
-    for file in ("lib.rt", "main.rt"):
-        if os.path.isfile(os.path.join(root, folder, file)):
-            Reader(name, folder, f"{folder}/{file}", (), made, root)
-            return made
+    made, top = {}, os.path.abspath(f"{root}/crates/{name}/src")
+    read_file(made, name, (), top, "lib.rt")
+    if not made:
+        read_file(made, name, (), top, "main.rt")
     return made
