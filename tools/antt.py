@@ -11,6 +11,9 @@ from dataclasses import dataclass, field
 from common import first_sentence, without_suffix
 
 TOKEN = re.compile(r'"(?:[^"\\]|\\.)*"|[(){};,@]|«[^»]*»|[^\s(){}.;,@"«»]+|\.')
+PART = r'(?:«[^»]*»|[^\s(){}.;,@"«»]+)'
+# A bracket or a sign, a path `a.b`, and what is left out: a text in quotes, and `.f` after a bracket.
+NODE = re.compile(rf'"(?:[^"\\]|\\.)*"|[(){{}};,@]|{PART}(?:\.{PART})*|\.{PART}?')
 WORDS = {  # what antt itself and its prelude `Prim` provide, and no file declares
     "Type", "Unit", "tt", "absurd", "λ", "let", "in", "elim", "as", "record", "→", "×", "=", "↦", "|",
     ":", "[", "]", "_", "⊥", "¬", "IsProp", "IsSet", "refl", "where", "do", "∥", "∥₁", "unfold", "rw",
@@ -141,14 +144,11 @@ class Reader:
             return
         depth = indent(self.lines[code[0]])
         heads = [n for n in code if indent(self.lines[n]) <= depth and self.lines[n].strip()[0] not in CLOSING]
-        for number, head in enumerate(heads):
-            stop = heads[number + 1] if number + 1 < len(heads) else end
+        for head, stop in zip(heads, [*heads[1:], end]):
             last = max(n for n in code if head <= n < stop)
-            comment, above = [], head - 1
-            while above >= start and self.lines[above].strip().startswith("--"):
-                comment.insert(0, self.lines[above].strip()[2:].strip())
-                above -= 1
-            yield head, last + 1, comment
+            above = (it.strip() for it in reversed(self.lines[start:head]))
+            comment = [it[2:].strip() for it in itertools.takewhile(lambda it: it.startswith("--"), above)]
+            yield head, last + 1, comment[::-1]
 
     def block(self, start, end, params):
         current = None
@@ -221,31 +221,17 @@ class Reader:
 
 def tree(text):
     """Returns the tokens as nested lists; a path `a.b` is one token, and `.f` after a bracket is left out."""
-    stack, flat, start = [[]], [], getattr(text, "at", 0)
-    for found in TOKEN.finditer(text):
+    stack, start = [[]], getattr(text, "at", 0)
+    for found in NODE.finditer(text):
         token = At(found[0], start + found.start())
-        if token == "." and text[found.end() : found.end() + 1].strip():
-            flat.append("·")  # a dot that joins
-        else:
-            flat.append(token)
-    number = 0
-    while number < len(flat):
-        token = flat[number]
-        if token == "·":
-            before = flat[number - 1] if number else ""
-            joins = number and before not in CLOSING and before not in OPENING and before not in ",;"
-            if joins and isinstance(stack[-1][-1], str) and stack[-1][-1] not in WORDS:
-                stack[-1][-1] = At(f"{stack[-1][-1]}.{flat[number + 1].strip('«»')}", stack[-1][-1].at)
-            number += 2
-            continue
         if token in OPENING:
             stack.append([token])
         elif token in CLOSING:
             closed = stack.pop()
             stack[-1].append(closed)
-        elif not token.startswith('"'):
-            stack[-1].append(At(token.strip("«»"), token.at) if token.startswith("«") else token)
-        number += 1
+        elif token == "." or token[0] not in '".':
+            names = split_path(token) or [token]
+            stack[-1].append(At(names[0] if names[0] in WORDS else ".".join(names), token.at))
     return stack[0]
 
 
@@ -322,12 +308,9 @@ class Names:
 
     def let(self, nodes, at, bound):
         """Reads a let up to its `in`, and returns the place after that."""
-        depth, end = 1, at
-        while end < len(nodes):
-            depth += {"let": 1, "in": -1}.get(nodes[end], 0) if isinstance(nodes[end], str) else 0
-            if depth == 0:
-                break
-            end += 1
+        steps = ({"let": 1, "in": -1}.get(it, 0) if isinstance(it, str) else 0 for it in nodes[at:])
+        depths = itertools.accumulate(steps, initial=1)
+        end = next((n for n, depth in enumerate(depths, at - 1) if not depth), len(nodes))
         inner = nodes[at:end]
         equal = inner.index("=") if "=" in inner else len(inner)
         kind = inner.index(":") if ":" in inner[:equal] else equal

@@ -226,8 +226,6 @@ class Reader:
         """Reads the item that begins there, and returns the place after it."""
         if kind == ["ghost", "use"] or kind == ["use"] or kind == ["mod"]:
             return self.line_item(source, kind, at, owner, is_public)
-        if kind == ["ghost"]:
-            return self.ghost(source, start, at, owner)
         if kind == ["macro_rules!"]:
             return closing(self.blank, self.blank.index("{", at))
         line = self.line(start)
@@ -235,10 +233,14 @@ class Reader:
         named = re.compile(rf"\s*({NAME})").match(self.blank, at)
         made = Item(source, kind[0], named[1] if named else "", line + 1, "", comment, is_public=is_public)
         made.at = at - len(kind[0])
-        made.derives, made.owner, made.doc, made.before = derives, owner, doc, self.text[start:at]
-        end = self.rest(source, made, at)
+        made.derives, made.owner, made.doc = derives, owner, doc
+        if made.kind == "ghost":
+            end = self.ghost(made, at)
+        else:
+            made.before, end = self.text[start:at], self.rest(source, made, at)
         made.text = self.text[start:end]
-        (owner.inner if owner else source.items).append(made)
+        if owner or made.kind != "ghost":
+            (owner.inner if owner else source.items).append(made)
         return end
 
     def line_item(self, source, kind, at, owner, is_public):
@@ -269,22 +271,16 @@ class Reader:
             source.ghost_uses.append((text, self.line(at) + 1))
         return stop + 1
 
-    def ghost(self, source, start, at, owner):
-        """Reads a ghost member: `ghost name: { type };`, `ghost name: { type } = { term };` or `ghost name = { term };`."""
-        named = re.compile(rf"\s*({NAME})\s*([:=])\s*\{{").match(self.blank, at)
-        end = closing(self.blank, named.end() - 1)
-        line = self.line(start)
-        comment, doc, _ = comment_above(self.lines, line)
-        made = Item(source, "ghost", named[1], line + 1, "", comment, owner=owner, doc=doc)
-        made.body = self.text[named.end() : end - 1]
+    def ghost(self, made, at):
+        """Reads a ghost member, and returns the place after it: `ghost name: { type };`, `ghost name: { type } = { term };` or
+        `ghost name = { term };`."""
+        opened = re.compile(rf"\s*{NAME}\s*[:=]\s*\{{").match(self.blank, at).end()
+        end = closing(self.blank, opened - 1)
+        made.body = self.text[opened : end - 1]
         default = re.compile(r"\s*=\s*\{").match(self.blank, end)
         end = closing(self.blank, default.end() - 1) if default else end
         stop = re.compile(r"\s*[;,]").match(self.blank, end)
-        end = stop.end() if stop else end
-        made.text = self.text[start:end]
-        if owner:
-            owner.inner.append(made)
-        return end
+        return stop.end() if stop else end
 
     def rest(self, source, made, at):
         """Reads what follows the item's name, and returns the place after its end."""
