@@ -133,6 +133,16 @@ def files_below(folder, left_out=()):
         yield from (f"{at}/{it}" for it in names)
 
 
+class Ending:
+    """What is to be ended where a `with` ends."""
+
+    def __enter__(self):
+        return self
+
+    def __exit__(self, *_):
+        self.end()
+
+
 class Counts:
     """The cases so far."""
 
@@ -172,6 +182,17 @@ def counted(passed, failed):
     """Prints the last line of a test, and returns its status."""
     print(f"{int(passed)} passed, {int(failed)} failed")
     return 1 if failed or not passed else 0
+
+
+def reached(first, leads_to):
+    """Returns these and all that they lead to, if by way of more."""
+    seen, waiting = {}, [*first]
+    while waiting:
+        it = waiting.pop()
+        if it not in seen:
+            seen[it] = True
+            waiting += leads_to(it)
+    return [*seen]
 
 
 def first_sentence(text):

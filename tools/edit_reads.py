@@ -11,6 +11,7 @@ import functools
 import os
 import re
 
+from common import reached
 from edit_missing import places
 from edit_places import functions
 from edit_sums import digest, is_open, sum_of, without_comments, without_layout
@@ -140,12 +141,7 @@ class Reads:
 
     def closure(self, first):
         """Returns the sums of these items, and of all that they name, if by way of more."""
-        seen, left = {*first}, [*first]
-        while left:
-            new = {*self.all_named(left.pop())} - seen
-            seen.update(new)
-            left += new
-        return sorted(it.sum for it in seen)
+        return sorted(it.sum for it in reached(first, self.all_named))
 
     def place(self, text):
         """Returns the file, the start, the end and the name of the one function that a mutant changes, and its impl."""

@@ -19,6 +19,7 @@ import shutil
 import tempfile
 import time
 
+from common import reached
 from edit_places import placed
 from kit import AT_LIMIT, REFUSALS, read, rt, rtlib
 
@@ -225,11 +226,7 @@ class Trial:
     def rests_on(self, function, others):
         """Returns whether the function calls one of the others, if only by way of more, as far as
         is known."""
-        seen, ways = set(), [function]
-        while ways:
-            new = self.calls.get(ways.pop(), set()) - seen
-            seen, ways = seen.union(new), [*ways, *new]
-        return bool(seen & (others - {function}))
+        return bool({*reached([function], lambda it: self.calls.get(it, ()))} & (others - {function}))
 
     def next_batch(self, left):
         """Returns one edit of each function that calls no other function with an edit left."""

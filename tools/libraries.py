@@ -87,8 +87,7 @@ def prove_by_ci(crates, say, until=None):
     minutes = f"about {max(estimate(crates), 1):.0f} minutes on {lanes()} processors, once"
     say(f"proving {len(crates)} libraries by rt ci, which keeps them for all checkouts: {minutes}")
     names = [it.name for it in crates]
-    proof = Proof(names, say)
-    try:
+    with Proof(names, say) as proof:
         while proof.is_running():
             if until and time.time() > until:
                 return True, []
@@ -97,5 +96,3 @@ def prove_by_ci(crates, say, until=None):
             return False, []
         say(f"NOT PROVED: {' '.join(proof.failed) or 'rt ci failed'}\n{proof.why()}")
         return False, proof.failed or names
-    finally:
-        proof.end()

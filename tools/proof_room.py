@@ -12,7 +12,7 @@ import tempfile
 import threading
 import time
 
-from common import ROOT, below, crates_of, write
+from common import ROOT, Ending, below, crates_of, write
 
 PREFIX = "icu-locale-proof-"
 LEFT_OUT = shutil.ignore_patterns("out", "edits", "*.in")
@@ -44,7 +44,7 @@ def furnish(room, names, lines):
     os.mkdir(f"{room}/.git")
 
 
-class Proof:
+class Proof(Ending):
     """A run of `rt ci` in a room. It says how far it is."""
 
     def __init__(self, tops, say):
@@ -119,8 +119,7 @@ class Proof:
 
 def build_program(name, to, say):
     """Has a proved program be there, as rt ci kept it or else makes it. Returns why it is not, or nothing."""
-    proof = Proof([name], say)
-    try:
+    with Proof([name], say) as proof:
         made = proof.program(name)
         if not made:
             return proof.why()
@@ -129,5 +128,3 @@ def build_program(name, to, say):
             os.remove(to)
         shutil.copy(made, to)
         return ""
-    finally:
-        proof.end()

@@ -9,7 +9,7 @@ import re
 
 import antt
 import rattle as rt
-from common import below, crates_of, read, without_prefix
+from common import below, crates_of, reached, read, without_prefix
 from rattle import bounds_in, generics, without_generics
 
 SEEN = ("Value", "view", "invariant")  # the members of `Model` by which contracts see a type, and what it always keeps
@@ -140,16 +140,9 @@ class Sources:
 
     def rust_path(self, crate, path):
         """Returns the item at a path that begins in the root of a crate."""
-        made, inner = self.rust.get(crate, {}), ()
-        for number, name in enumerate(path):
-            source = made.get(inner)
-            if source is None:
-                return None
-            if inner + (name,) in made:
-                inner += (name,)
-                continue
-            return self.rust_name(source, path[number:])
-        return None
+        made = self.rust.get(crate, {})
+        count = next((at for at in range(len(path)) if path[: at + 1] not in made), len(path))
+        return self.rust_name(made[path[:count]], path[count:]) if path[:count] in made and path[count:] else None
 
     def rust_name(self, source, path):
         """Returns the item that a path of Rust means in a module, or None for one of std."""
@@ -454,13 +447,7 @@ def is_definition(item):
 
 def reach(sources, roots, leads_on):
     """Returns all that the roots lead to, by way of what leads on."""
-    seen, waiting = {}, list(roots)
-    while waiting:
-        it = waiting.pop()
-        if it not in seen:
-            seen[it] = True
-            waiting += sources.cites(it) if leads_on(it) else ()
-    return list(seen)
+    return reached(roots, lambda it: sources.cites(it) if leads_on(it) else ())
 
 
 class Closure:
