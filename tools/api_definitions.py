@@ -47,18 +47,12 @@ class Definitions:
 
 def blocks_of(module):
     """Yields the blocks of a file: each ends at an empty line before the next declaration or remark."""
-    lines, first, start, at = [], 1, 0, 0
-    for number, line in enumerate([*module.text.split("\n"), ""], 1):
-        if line.strip():
-            first, start = (first, start) if lines else (number, at)
-            lines.append(line)
-        elif lines:
-            whole = "\n".join(lines)
-            kept = USES.sub("", whole).rstrip("\n")
-            if re.sub(r"(?m)^(?:pub )?mod .*", "", kept).strip():
-                yield Block(kept, start + whole.index(kept), [it for it in module.definitions if first <= it.line < number])
-            lines = []
-        at += len(line) + 1
+    for found in re.finditer(r"(?m)(?:^.*\S.*\n?)+", module.text):
+        first = module.text.count("\n", 0, found.start()) + 1
+        lines = range(first, first + found[0].rstrip("\n").count("\n") + 1)
+        kept = USES.sub("", found[0]).rstrip("\n")
+        if re.sub(r"(?m)^(?:pub )?mod .*", "", kept).strip():
+            yield Block(kept, found.start() + found[0].index(kept), [it for it in module.definitions if it.line in lines])
 
 
 @functools.lru_cache(maxsize=None)

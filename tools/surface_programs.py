@@ -105,7 +105,7 @@ fn call_{at}({alloc}call: &str, rounds: u32, t: &Texts<'_>) -> Result<usize, Par
 
 def program(calls, is_rattle):
     """Returns the source of a program of these calls."""
-    text = read(f"tools/surface_{'rattle' if is_rattle else 'rust'}.txt")
+    text = in_language(read("tools/surface_frame.txt"), is_rattle)
     groups = [calls[at : at + GROUP] for at in range(0, len(calls), GROUP)]
     parts = parsers(calls, is_rattle) + [function(it, is_rattle) for it in calls]
     parts += [chosen(at, it, at + 1 == len(groups), is_rattle) for at, it in enumerate(groups)]
