@@ -8,11 +8,12 @@ from api_examples import examples, remark, tried
 from api_model import KEYS_BY_NAME, base_of, error_of, is_law, model, short, shown
 from api_source import CORE
 from common import ROOT, without_prefix
+from written import table
 
 HOME = "docs/api"
 KEYS = (
-    '| macro `key!("ca")` of `extensions::unicode` | `extensions::unicode::key` '
-    "| a function for each key of a keyword type, as `key::ca()` |"
+    'macro `key!("ca")` of `extensions::unicode`', "`extensions::unicode::key`",
+    "a function for each key of a keyword type, as `key::ca()`",
 )
 INDEX = f"""# Public items
 
@@ -130,14 +131,14 @@ def module_page(module):
 
 def index():
     """Returns the page that leads to the others."""
-    rows = [INDEX.rstrip(), "", "| Module | Items |", "|---|---|"]
+    rows = []
     for module in model():
         names = ", ".join(f"`{it.name}`" for it in module.entries if not it.is_law)
         if any(it.is_law for it in module.entries):
             names = f"{names}; laws" if names else "laws"
         file = without_prefix(page_of(module.path), "docs/")
-        rows.append(f"| [`{module.path}`]({file}): {module.comment} | {names} |")
-    return "\n".join(rows) + "\n"
+        rows.append((f"[`{module.path}`]({file}): {module.comment}", names))
+    return f"{INDEX.rstrip()}\n\n{table(('Module', 'Items'), rows)}\n"
 
 
 def pages():
@@ -170,17 +171,15 @@ def allocator_kind(call):
 
 def allocator_table():
     """Returns the table of calls that take the allocator, or that may run out of memory without it."""
-    heads = ["Type or module", "takes `alloc`, may fail", "takes `alloc` and keeps it, cannot fail"]
-    heads.append("may fail, uses the value's own allocator")
-    rows = [f"| {' | '.join(heads)} |", "|---|---|---|---|"]
+    rows, heads = [], ["Type or module", "takes `alloc`, may fail", "takes `alloc` and keeps it, cannot fail"]
     for module in model():
         for entry in module.entries:
             kinds = [[f"`{it.name}`" for it in entry.calls if allocator_kind(it) == kind] for kind in ("may", "keeps", "own")]
             if any(kinds) and not entry.see:
                 name = entry.name if entry.kind != "fn" else module.short
                 where = "" if "::" not in module.short or entry.kind == "fn" else f" of `{module.short}`"
-                rows.append(f"| `{name}`{where} | {' | '.join(map(', '.join, kinds))} |")
-    return "\n".join(rows) + "\n\n`clone` never takes the allocator: write `x.clone()?`."
+                rows.append((f"`{name}`{where}", *map(", ".join, kinds)))
+    return table([*heads, "may fail, uses the value's own allocator"], rows) + "\n\n`clone` never takes the allocator: write `x.clone()?`."
 
 
 def rust_row(entry):
@@ -195,12 +194,12 @@ def rust_row(entry):
             changed.setdefault(change, []).append(f"`{call.name}`")
     said = [f"{', '.join(names)}: {how}" for how, names in changed.items()]
     here, there = f"`{short(entry.path)}`", api_words.BASES.get(entry.name) or f"`{short(entry.rust)}`"
-    return f"| {there} | {here} | {'; '.join(named + said)} |" if said or named or there != here else None
+    return (there, here, "; ".join(named + said)) if said or named or there != here else None
 
 
 def from_rust_table():
     """Returns the table of the Rust crate's items that have another path, name or form here."""
-    rows = ["| Rust crate 2.4.0 | Here | Rust's call: ours |", "|---|---|---|"]
+    rows = []
     for module in model():
         if module.short == KEYS_BY_NAME:
             rows.append(KEYS)
@@ -210,4 +209,4 @@ def from_rust_table():
             is_law_of_ours = entry.kind == "fn" and entry.calls and is_law(entry.calls[0].item)
             if not entry.see and (entry.rust or is_base) and not is_law_of_ours:
                 rows.append(rust_row(entry))
-    return "\n".join(filter(None, rows))
+    return table(("Rust crate 2.4.0", "Here", "Rust's call: ours"), filter(None, rows))

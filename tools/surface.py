@@ -10,6 +10,7 @@ from typing import NamedTuple
 
 from surface_calls import CALLS, REMOVED
 from surface_programs import parts_of_calls, program, questions
+from written import table
 
 FEW, MORE = 256, 1280
 # Where fewer are left on one side, a compiler made the work away.
@@ -93,25 +94,19 @@ def measured(folder, rust, say):
     return rows
 
 
-def table(rows):
+def part(rows):
     """Returns the page's part: a summary, the calls with the worst first, and those that say nothing."""
     kept = sorted((it for it in rows if not it.is_removed()), key=lambda it: -it.ratio())
     removed = sorted(it.call.name for it in rows if it.is_removed())
     slower = lambda rows: sum(it.ratio() > 1 for it in rows)
     mean = lambda rows: statistics.geometric_mean(it.ratio() for it in rows)
-    lines = [
+    by_module = {name: [it for it in kept if it.call.module == name] for name in dict.fromkeys(it.call.module for it in rows)}
+    modules = [(name, len(own), slower(own), f"{mean(own):.2f}") for name, own in by_module.items() if own]
+    calls = [(it.call.name, it.call.module, f"{it.ours:.0f}", f"{it.crate:.0f}", f"{it.ratio():.2f}") for it in kept]
+    return "\n\n".join([
         f"{len(kept)} calls were compared. {slower(kept)} of them take more instructions than the Rust crate's. The"
         f" geometric mean of the ratios is {mean(kept):.2f}.",
-        "",
-        "| Module | Calls | Slower | Geometric mean |",
-        "|---|---|---|---|",
-    ]
-    for module in dict.fromkeys(it.call.module for it in rows):
-        own = [it for it in kept if it.call.module == module]
-        if own:
-            lines.append(f"| {module} | {len(own)} | {slower(own)} | {mean(own):.2f} |")
-    lines += ["", "| Call | Module | Instructions a call: this library | Rust crate | Ratio |", "|---|---|---|---|---|"]
-    for it in kept:
-        lines.append(f"| {it.call.name} | {it.call.module} | {it.ours:.0f} | {it.crate:.0f} | {it.ratio():.2f} |")
-    says = f"Of these calls a compiler removed the work, so they are not compared: {', '.join(removed)}."
-    return "\n".join([*lines, "", says])
+        table(("Module", "Calls", "Slower", "Geometric mean"), modules),
+        table(("Call", "Module", "Instructions a call: this library", "Rust crate", "Ratio"), calls),
+        f"Of these calls a compiler removed the work, so they are not compared: {', '.join(removed)}.",
+    ])

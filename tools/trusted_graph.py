@@ -126,8 +126,7 @@ class Sources:
             if len(names) == 1 or head not in module.modules or any(names[1] in it.members for it in own):
                 return found
         if len(names) > 1 and (head in module.modules or head in module.children or head in ("Rattle", "package")):
-            path = self.full(module, tuple(names[:1])) if head not in ("Rattle", "package") else ()
-            path = path + tuple(names[(0 if head == "Rattle" else 1) :])
+            path = self.full(module, tuple(names))
             for size in range(len(path) - 1, 1, -1):
                 try:
                     return self.item(path[:size], path[size])

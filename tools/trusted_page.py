@@ -22,6 +22,7 @@ import textwrap
 import common
 import trusted_graph as graph
 import trusted_types as types
+from written import table
 
 HEADLINE = ("Locale::try_from_utf8", "Locale::normalize_utf8", "Locale::is_well_formed", "Locale::write_to_string")
 ON_MEMORY = "ensures memory"  # the one kind of clause that stands apart: it says when memory may run out
@@ -97,14 +98,14 @@ class Pages:
 
     def part_times(self):
         """Says how long each page takes. Its own words are left out, so that they do not change what they say."""
-        titles = ["Page", "Words", "Lines of definitions and clauses", f"Minutes, at {WORDS} words and {LINES} of these lines each"]
-        rows = [f"| {' | '.join(titles)} | Words of comments in definitions | Minutes with these |", "|---|---|---|---|---|---|"]
+        head = ["Page", "Words", "Lines of definitions and clauses", f"Minutes, at {WORDS} words and {LINES} of these lines each"]
+        rows = []
         for path, text in self.texts.items():
             own = lambda found: "" if found[1] == "times" else found[0]
             words, lines, comments = reading(PART.sub(own, text))
             minutes = words / WORDS + lines / LINES
-            rows.append(f"| {path} | {words:,} | {lines:,} | {round(minutes)} | {comments:,} | {round(minutes + comments / WORDS)} |")
-        return "\n".join(rows)
+            rows.append((path, f"{words:,}", f"{lines:,}", round(minutes), f"{comments:,}", round(minutes + comments / WORDS)))
+        return table([*head, "Words of comments in definitions", "Minutes with these"], rows)
 
     def part_counts(self):
         meaning = graph.named(self.sources, HEADLINE[0])
@@ -116,13 +117,13 @@ class Pages:
             ("the whole headline", self.plain),
             ("with its clauses on memory", self.whole),
         ]
-        lines = ["| Contracts | Definitions | Lines | Files | Types, views and what these cite | Lines |", "|---|---|---|---|---|---|"]
+        lines = []
         for label, it in rows:
             files = {one.module.path for one in it.definitions}
             beside = [*it.types, *it.members, *it.behind]
             numbers = (len(it.definitions), lines_of(it.definitions), len(files), len(beside), lines_of(beside))
-            lines.append(f"| {label} | " + " | ".join(f"{one:,}" for one in numbers) + " |")
-        return "\n".join(lines)
+            lines.append((label, *(f"{one:,}" for one in numbers)))
+        return table(("Contracts", "Definitions", "Lines", "Files", "Types, views and what these cite", "Lines"), lines)
 
     def part_clause(self, call, name=""):
         found = graph.named(self.sources, call)

@@ -16,6 +16,12 @@ def fill(units, width=WIDTH, first="", indent=""):
     return textwrap.fill(" ".join(it.replace(" ", "\0") for it in units), width, **how).replace("\0", " ")
 
 
+def table(head, rows):
+    """Returns a table of a page."""
+    first, *lines = [f"| {' | '.join(map(str, it))} |" for it in (head, *rows)]
+    return "\n".join([first, "|---" * len(head) + "|", *lines])
+
+
 def svg(width, height, parts):
     """Returns a picture of this size: these parts on white."""
     head = f'<svg xmlns="http://www.w3.org/2000/svg" viewBox="0 0 {width} {height}" font-family="sans-serif" font-size="12">'
