@@ -13,10 +13,10 @@ import re
 
 from common import reached
 from edit_missing import places
-from edit_places import functions
+from edit_places import blank, functions
 from edit_sums import digest, is_open, sum_of, without_comments, without_layout
-from kit import LOGIC, read, rtlib
-from sources import files_of
+from kit import LOGIC, read
+from sources import PROVED_PARTS, files_of
 
 WORD = re.compile(r"[^\s(){}\[\];,.`\"'&<>?!|=+*/@#$◌:]+")
 METHOD = re.compile(r"(?:\.|::)\s*(\w+)")
@@ -40,7 +40,7 @@ class Item:
 class File:
     """A source or a file of definitions or proofs: what it imports, and what stands in it."""
 
-    def __init__(self, crate, path, blanked=None):
+    def __init__(self, crate, path):
         self.crate, self.items, self.imports, self.modules = crate, {}, {}, []
         text = without_comments(path, read(path)).decode()
         for origin, module, names, alias in IMPORT.findall(text):
@@ -54,7 +54,7 @@ class File:
         if path.endswith(".antt"):
             self.add_logic(text, "/proofs/" in path)
         else:
-            self.add_code(path, blanked)
+            self.add_code(path)
 
     def add(self, name, text, is_function=False):
         self.items.setdefault(name, []).append(Item(self, text, is_function))
@@ -76,12 +76,12 @@ class File:
                     name = self.add(name, "\n".join(kept)) if name else ""
             kept.append(line)
 
-    def add_code(self, path, blanked):
+    def add_code(self, path):
         """Adds what stands in a source: each function without its body, and all else by each type."""
-        text, at, rest, blanked = read(path), 0, b"", blanked.encode()
-        for start, body, end, name, _ in functions(blanked):
-            begin = beginning(blanked, start)
-            kept = text[begin : end if is_open(blanked, start, body) else body]
+        text, at, rest = read(path), 0, b""
+        for start, body, end, name, _ in functions(text):
+            begin = beginning(text, start)
+            kept = text[begin : end if is_open(blank(text), start, body) else body]
             self.add(name, without_comments(path, kept).decode(), True)
             rest, at = rest + text[at:begin], end
         rest = without_comments(path, rest + text[at:]).decode()
@@ -90,19 +90,17 @@ class File:
             self.add(name, rest)
 
 
-def beginning(blanked, start):
+def beginning(text, start):
     """Returns where a function begins with its attributes, of which the word `fn` stands at `start`."""
-    return max(blanked.rfind(it, 0, start) for it in (b"}", b";", b"{")) + 1
+    return max(blank(text).rfind(it, 0, start) for it in (b"}", b";", b"{")) + 1
 
 
 @functools.lru_cache(maxsize=None)
 def items_of(folder):
     """Returns what stands in a crate, by names."""
     crate, found = os.path.basename(folder), {}
-    sources = [File(crate, it, blanked) for it, blanked in rtlib.blanked(folder).items() if it.endswith(".rt")]
-    logic = [File(crate, it) for it in files_of(folder, ("specs", "proofs")) if it.endswith(".antt")]
-    for file in sources + logic:
-        for name, items in file.items.items():
+    for path in [it for it in files_of(folder, PROVED_PARTS) if it.endswith((".rt", ".antt"))]:
+        for name, items in File(crate, path).items.items():
             found.setdefault(name, []).extend(items)
     return found
 
@@ -113,7 +111,8 @@ class Reads:
     def __init__(self, crate):
         self.crate, self.folder = crate, crate.folder
         self.known = {it.name: items_of(it.folder) for it in [crate, *crate.below()]}
-        self.texts = {os.path.relpath(it, self.folder): text for it, text in rtlib.blanked(self.folder).items()}
+        paths = [it for it in files_of(self.folder, ("src",)) if it.endswith(".rt")]
+        self.texts = {os.path.relpath(it, self.folder): read(it) for it in paths}
         self.named = {}
 
     def of_word(self, file, word):
@@ -145,9 +144,8 @@ class Reads:
 
     def place(self, text):
         """Returns the file, the start, the end and the name of the one function that a mutant changes, and its impl."""
-        sources = {it: read(f"{self.folder}/{it}") for it in self.texts if it.endswith(".rt")}
-        inside = lambda file, at: [(file, *it) for it in functions(self.texts[file].encode()) if it[1] < at < it[2]]
-        found = [(inside(file, at) or [None])[0] for file, at in places(text, sources)]
+        inside = lambda file, at: [(file, *it) for it in functions(self.texts[file]) if it[1] < at < it[2]]
+        found = [(inside(file, at) or [None])[0] for file, at in places(text, self.texts)]
         return found[0] if len({*found}) == 1 else None
 
     def answers(self, file, name):
@@ -163,9 +161,8 @@ class Reads:
         if place is None:
             return digest(sum_of(self.crate), text)
         name, start, _, end, function, owner = place
-        begin = beginning(self.texts[name].encode(), start)
-        own = without_comments(name, read(f"{self.folder}/{name}")[begin:end]).decode()
-        source = File(self.crate.name, f"{self.folder}/{name}", self.texts[name])
+        own = without_comments(name, self.texts[name][beginning(self.texts[name], start) : end]).decode()
+        source = File(self.crate.name, f"{self.folder}/{name}")
         code = Item(source, "\n".join([own, owner, text.decode()]))
         first = [code, *self.of_code(code.text, function)]
         for path in self.answers(name, function):

@@ -6,8 +6,8 @@ import re
 
 from antt_layout import without_layout  # (no verdict rests on layout)
 from common import rows_of, write
-from edit_places import functions
-from kit import LOGIC, ROOT, read, rtlib
+from edit_places import blank, functions
+from kit import LOGIC, ROOT, read
 from sources import PROVED_PARTS, files_of
 
 RECORD = f"{ROOT}/tools/edits.record"
@@ -41,14 +41,11 @@ def is_open(text, start, body):
     return re.search(rb"\b(const|impl)\b", text[max(start - 20, 0) : body])
 
 
-def without_bodies(path, blanked):
+def without_bodies(text):
     """Returns the text of a source file without the bodies that no other crate may read."""
-    text, blanked = read(path), blanked.encode()
-    if len(text) != len(blanked):
-        return text
     kept, at = b"", 0
-    for start, body, end, _, _ in functions(blanked):
-        if not is_open(blanked, start, body):
+    for start, body, end, _, _ in functions(text):
+        if not is_open(blank(text), start, body):
             kept, at = kept + text[at:body], end
     return kept + text[at:]
 
@@ -57,8 +54,8 @@ def interface(crate):
     """Returns a sum of what a verdict on a crate above may rest on: the definitions, the lemmas
     and the code without bodies."""
     parts = []
-    for path, blanked in sorted(rtlib.blanked(crate.folder).items()):
-        text = without_bodies(path, blanked) if path.endswith(".rt") else read(path)
+    for path in sorted(it for it in files_of(crate.folder, ("src", "specs")) if it.endswith((".rt", ".antt"))):
+        text = without_bodies(read(path)) if path.endswith(".rt") else read(path)
         parts += [os.path.relpath(path, crate.folder), without_layout(without_comments(path, text))]
     proofs = f"{crate.folder}/proofs"
     for name in sorted(os.listdir(proofs)) if os.path.isdir(proofs) else ():

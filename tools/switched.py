@@ -11,7 +11,7 @@ import subprocess
 
 from common import ROOT, write
 from edit_places import functions
-from kit import rt, rtlib
+from kit import rt
 from unproved import Build, crates
 
 CHOSEN = """
@@ -45,8 +45,7 @@ unsigned icu_locale_chosen_mutant(void) {
 def parts_of(folder, path):
     """Returns the text of a file, cut where bodies of functions begin and end: each second part is a body."""
     text = pathlib.Path(folder, path).read_bytes()
-    blank = rtlib.blanked(folder)[f"{folder}/{path}"].encode()
-    cuts = [at for _, body, end, *_ in functions(blank) for at in (body, end)]
+    cuts = [at for _, body, end, *_ in functions(text) for at in (body, end)]
     return [text[start:end] for start, end in zip([0, *cuts], [*cuts, len(text)])]
 
 
