@@ -58,7 +58,7 @@ def is_for_public(head, types):
 
 def wanted(source, types):
     """Yields the name of each thing that needs a mutant, with the ranges of its bodies."""
-    module = read_text(source.decode("latin-1"))  # (in which each byte is a sign)
+    module = read_text(source.decode("latin-1"))[()]  # (in which each byte is a sign)
     every = [it for it in functions([module]) if blanked(it.body).strip("{} \n") and not LAW.match(it.text)]
     for it in every:
         if it.is_public or it.owner and it.owner.kind == "trait":

@@ -94,7 +94,7 @@ class Item:
     doc: list = field(default_factory=list)  # the lines after `///`
     before: str = ""  # what stands before its name, as `pub fn`
     is_public: bool = False
-    derives: tuple = ()
+    attributes: list = field(default_factory=list)  # the lines of them above it
     owner: "Item" = None  # the trait or `impl` in which it stands
     uses: list = field(default_factory=list)  # its ghost use lines
     body: str = ""  # of a ghost member, or with its braces of a function
@@ -106,6 +106,12 @@ class Item:
     path = property(lambda self: self.module.path)
     lines = property(lambda self: self.text.split("\n"))
     group = property(lambda self: "members" if self.kind == "ghost" else "types")
+
+    @property
+    def derives(self):
+        """The traits that it derives."""
+        given = [it.partition("derive")[2].partition(";")[0] for it in self.attributes]
+        return tuple(it for text in given for it in re.findall(NAME, text) if it[0].isupper())
 
     @functools.cached_property
     def signature(self):
@@ -164,8 +170,8 @@ def closing(text, at):
 
 
 def comment_above(lines, line):
-    """Returns the lines of the comment above a line, counted from 0, those that begin with `///`, and the derives."""
-    comment, doc, derives, above, is_doc = [], [], [], line - 1, True
+    """Returns the lines of the comment above a line, counted from 0, those that begin with `///`, and those of attributes."""
+    comment, doc, attributes, above, is_doc = [], [], [], line - 1, True
     while above >= 0:
         bare = lines[above].strip()
         if bare.startswith("//"):
@@ -173,12 +179,11 @@ def comment_above(lines, line):
             is_doc = is_doc and bare.startswith("///")
             doc[:0] = [bare[4:].rstrip() or " "] if is_doc else []
         elif bare.startswith("#[") or bare.endswith("]") and "#[" in "\n".join(lines[max(0, above - 6) : above + 1]):
-            if "derive" in bare:
-                derives[:0] = re.findall(NAME, bare.partition("derive")[2].partition(";")[0])
+            attributes.insert(0, bare)
         else:
             break
         above -= 1
-    return comment, doc, tuple(it for it in derives if it[0].isupper())
+    return comment, doc, attributes
 
 
 def expanded(text):
@@ -229,11 +234,11 @@ class Reader:
         if kind == ["macro_rules!"]:
             return closing(self.blank, self.blank.index("{", at))
         line = self.line(start)
-        comment, doc, derives = comment_above(self.lines, line)
+        comment, doc, attributes = comment_above(self.lines, line)
         named = re.compile(rf"\s*({NAME})").match(self.blank, at)
         made = Item(source, kind[0], named[1] if named else "", line + 1, "", comment, is_public=is_public)
         made.at = at - len(kind[0])
-        made.derives, made.owner, made.doc = derives, owner, doc
+        made.attributes, made.owner, made.doc = attributes, owner, doc
         if made.kind == "ghost":
             end = self.ghost(made, at)
         else:
@@ -336,10 +341,10 @@ def read_file(made, crate, names, top, path):
 
 
 def read_text(text):
-    """Returns the module that a text is, without those of other files."""
-    source = Source("", (), "")
-    Reader(source, text, {}, os.devnull)
-    return source
+    """Returns the modules in a text by their paths, without those of other files."""
+    made = {}
+    Reader(Source("", (), ""), text, made, os.devnull)
+    return made
 
 
 def read_crate(root, name):
