@@ -52,7 +52,8 @@ def blocks_of(module):
         lines = range(first, first + found[0].rstrip("\n").count("\n") + 1)
         kept = USES.sub("", found[0]).rstrip("\n")
         if re.sub(r"(?m)^(?:pub )?mod .*", "", kept).strip():
-            yield Block(kept, found.start() + found[0].index(kept), [it for it in module.definitions if it.line in lines])
+            here = [it for it in module.definitions if it.line in lines]
+            yield Block(kept, found.start() + found[0].index(kept), here)
 
 
 @functools.lru_cache(maxsize=None)

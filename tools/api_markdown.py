@@ -172,6 +172,7 @@ def allocator_kind(call):
 def allocator_table():
     """Returns the table of calls that take the allocator, or that may run out of memory without it."""
     rows, heads = [], ["Type or module", "takes `alloc`, may fail", "takes `alloc` and keeps it, cannot fail"]
+    heads.append("may fail, uses the value's own allocator")
     for module in model():
         for entry in module.entries:
             kinds = [[f"`{it.name}`" for it in entry.calls if allocator_kind(it) == kind] for kind in ("may", "keeps", "own")]
@@ -179,7 +180,7 @@ def allocator_table():
                 name = entry.name if entry.kind != "fn" else module.short
                 where = "" if "::" not in module.short or entry.kind == "fn" else f" of `{module.short}`"
                 rows.append((f"`{name}`{where}", *map(", ".join, kinds)))
-    return table([*heads, "may fail, uses the value's own allocator"], rows) + "\n\n`clone` never takes the allocator: write `x.clone()?`."
+    return table(heads, rows) + "\n\n`clone` never takes the allocator: write `x.clone()?`."
 
 
 def rust_row(entry):

@@ -21,8 +21,8 @@ def blank(text):
 
 @functools.lru_cache(maxsize=None)
 def functions(text):
-    """Returns (start, body, end, name, owner) of each fn with a body, by the bytes of a text; 'owner' is the head of its
-    impl or trait. Inline modules are passed over."""
+    """Returns (start, body, end, name, owner) of each fn with a body, by the bytes of a text; 'owner' is the head of
+    its impl or trait. Inline modules are passed over."""
     every = rattle.functions([rattle.read_text(text.decode("latin-1"))[()]])  # (in which each byte is a sign)
     head = lambda it: (it.kind + it.head).encode("latin-1").decode() if it else ""
     return [(it.at, *it.inside, it.name, head(it.owner)) for it in every if it.inside]

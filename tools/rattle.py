@@ -170,7 +170,7 @@ def closing(text, at):
 
 
 def comment_above(lines, line):
-    """Returns the lines of the comment above a line, counted from 0, those that begin with `///`, and those of attributes."""
+    """Returns the lines of the comment above a line, counted from 0, those after `///`, and the attributes."""
     comment, doc, attributes, above, is_doc = [], [], [], line - 1, True
     while above >= 0:
         bare = lines[above].strip()
@@ -204,7 +204,7 @@ def expanded(text):
 
 
 class Reader:
-    """Reads the items of a text into its module, and those of the files below the crate's src/ that its `mod` lines name."""
+    """Reads the items of a text into its module, and those of the files below src/ that its `mod` lines name."""
 
     def __init__(self, source, text, made, top):
         self.text, self.blank, self.lines = text, blanked(text), text.split("\n")
@@ -277,8 +277,8 @@ class Reader:
         return stop + 1
 
     def ghost(self, made, at):
-        """Reads a ghost member, and returns the place after it: `ghost name: { type };`, `ghost name: { type } = { term };` or
-        `ghost name = { term };`."""
+        """Reads a ghost member, and returns the place after it. It is `ghost name: { type };`, also with `= { term }` after
+        the type, or `ghost name = { term };`."""
         opened = re.compile(rf"\s*{NAME}\s*[:=]\s*\{{").match(self.blank, at).end()
         end = closing(self.blank, opened - 1)
         made.body = self.text[opened : end - 1]

@@ -100,7 +100,8 @@ def part(rows):
     removed = sorted(it.call.name for it in rows if it.is_removed())
     slower = lambda rows: sum(it.ratio() > 1 for it in rows)
     mean = lambda rows: statistics.geometric_mean(it.ratio() for it in rows)
-    by_module = {name: [it for it in kept if it.call.module == name] for name in dict.fromkeys(it.call.module for it in rows)}
+    names = dict.fromkeys(it.call.module for it in rows)
+    by_module = {name: [it for it in kept if it.call.module == name] for name in names}
     modules = [(name, len(own), slower(own), f"{mean(own):.2f}") for name, own in by_module.items() if own]
     calls = [(it.call.name, it.call.module, f"{it.ours:.0f}", f"{it.crate:.0f}", f"{it.ratio():.2f}") for it in kept]
     return "\n\n".join([

@@ -98,14 +98,16 @@ class Pages:
 
     def part_times(self):
         """Says how long each page takes. Its own words are left out, so that they do not change what they say."""
-        head = ["Page", "Words", "Lines of definitions and clauses", f"Minutes, at {WORDS} words and {LINES} of these lines each"]
-        rows = []
+        rows, head = [], ["Page", "Words", "Lines of definitions and clauses"]
+        head += [f"Minutes, at {WORDS} words and {LINES} of these lines each"]
+        head += ["Words of comments in definitions", "Minutes with these"]
         for path, text in self.texts.items():
             own = lambda found: "" if found[1] == "times" else found[0]
             words, lines, comments = reading(PART.sub(own, text))
             minutes = words / WORDS + lines / LINES
-            rows.append((path, f"{words:,}", f"{lines:,}", round(minutes), f"{comments:,}", round(minutes + comments / WORDS)))
-        return table([*head, "Words of comments in definitions", "Minutes with these"], rows)
+            more = round(minutes + comments / WORDS)
+            rows.append((path, f"{words:,}", f"{lines:,}", round(minutes), f"{comments:,}", more))
+        return table(head, rows)
 
     def part_counts(self):
         meaning = graph.named(self.sources, HEADLINE[0])
