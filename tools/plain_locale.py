@@ -3,6 +3,7 @@ nothing that the library has.
 
 It is written from that page alone, as one function for each rule there. The texts of vectors/ are no part of it, and are
 answered alike (tools/try_bindings sees to that)."""
+import itertools
 import random
 import re
 
@@ -47,16 +48,11 @@ def fields(pieces, key, needs_value):
     """The map of the pieces, which begin with a key: of equal keys the first stays, and `true` is no value."""
     found, at = {}, 0
     while at < len(pieces):
-        if not is_word(key, pieces[at]):
+        values = [it.lower() for it in itertools.takewhile(lambda it: is_word(WORD, it), pieces[at + 1 :])]
+        if not is_word(key, pieces[at]) or needs_value and not values:
             raise Refused(BAD_EXTENSION)
-        values = []
-        name, at = pieces[at].lower(), at + 1
-        while at < len(pieces) and is_word(WORD, pieces[at]):
-            values.append(pieces[at].lower())
-            at += 1
-        if needs_value and not values:
-            raise Refused(BAD_EXTENSION)
-        found.setdefault(name, [it for it in values if it != b"true"])
+        found.setdefault(pieces[at].lower(), [it for it in values if it != b"true"])
+        at += 1 + len(values)
     return found
 
 
