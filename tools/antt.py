@@ -296,15 +296,14 @@ class Names:
 
     def lambda_(self, nodes, at, bound):
         """Binds the variables of the λ at this place, and returns the place after its dot."""
-        while at < len(nodes) and nodes[at] != ".":
-            it = nodes[at]
-            if isinstance(it, list) and not self.binder(it, bound):
-                self.pattern([it], bound)
-            elif isinstance(it, str):
+        end = nodes.index(".", at) if "." in nodes[at:] else len(nodes)
+        for it in nodes[at:end]:
+            if isinstance(it, str):
                 bound.add(it)
                 self.places.add(it.at)
-            at += 1
-        return at + 1
+            elif not self.binder(it, bound):
+                self.pattern([it], bound)
+        return end + 1
 
     def let(self, nodes, at, bound):
         """Reads a let up to its `in`, and returns the place after that."""

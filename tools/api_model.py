@@ -2,6 +2,7 @@
 of its signature, its clauses and the table of words."""
 import dataclasses
 import functools
+import itertools
 import re
 from typing import NamedTuple
 
@@ -267,13 +268,9 @@ def call_of(item, owner, home, rust, made):
     givers = [words for it, words in GIVERS.items() if re.search(rf"[:+] (?:\w+::)?{it}\b", item.signature)]
     on_memory = memory(item, wants) + (f" What {' and '.join(givers)} takes is its own." if givers else "")
     own = api_words.OWN_CALLS_OF.get(f"{owner}::{name}", api_words.OWN_CALLS.get(name, f"{rust}::{name}")) if rust else ""
-    details = without_errors(item.details()) + explained(signature)
+    # (what stands below `# Errors` the page's own list of refusals says)
+    details = [*itertools.takewhile(lambda it: it != "# Errors", item.details()), *explained(signature)]
     return Call(owner, name, item, home, signature, sentence, details, needs(item), given, on_memory, own, (home, made, name))
-
-
-def without_errors(paragraphs):
-    """Returns the paragraphs without those below `# Errors`, which the page's own list of refusals says."""
-    return paragraphs[: paragraphs.index("# Errors")] if "# Errors" in paragraphs else paragraphs
 
 
 @functools.lru_cache(maxsize=None)

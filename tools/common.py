@@ -2,6 +2,7 @@
 
 It needs nothing but Python, so that --help answers on a machine without the toolchain."""
 import argparse
+import contextlib
 import importlib.machinery
 import importlib.util
 import os
@@ -75,15 +76,12 @@ def start(main, stopped="stopped: what is proved is kept, and the same command g
 def ends_well(script, *words):
     """Runs a script of ours that may prove, and returns whether it ends well. Ctrl-C stops both, and the script says so."""
     child = subprocess.Popen([os.path.join(ROOT, script), *words])
-    while True:
-        try:
-            status = child.wait()
-            break
-        except KeyboardInterrupt:
-            continue
-    if status == STOPPED:
+    while child.returncode is None:
+        with contextlib.suppress(KeyboardInterrupt):
+            child.wait()
+    if child.returncode == STOPPED:
         sys.exit(STOPPED)
-    return status == 0
+    return child.returncode == 0
 
 
 def make_library(name):

@@ -5,6 +5,7 @@ only this part says the same. What is wanted of a step is what the row's answer 
 Each row becomes steps of the word `script` (bindings/c/objects.c), or a reason why no locale says it. No answer comes from a
 locale: only from the row."""
 import functools
+import itertools
 import re
 
 from object_model import ORDERS, REFUSED_EXTENSION, REFUSED_SUBTAG, rows_of
@@ -112,13 +113,10 @@ def set_in_turn(text, answer):
     two bytes that is no key is refused, and so is the row."""
     pieces, steps, at = text.split(b"-"), [], 0
     while at < len(pieces) and re.fullmatch(rb"[A-Za-z0-9][A-Za-z]", pieces[at]):
-        end = at + 1
-        while end < len(pieces) and re.fullmatch(rb"[A-Za-z0-9]{3,8}", pieces[end]):
-            end += 1
-        is_new = all(step.split(b"\t")[2].lower() != pieces[at].lower() for step, _, _ in steps)
-        if is_new:
-            steps.append((b"set-keyword\t0\t" + pieces[at] + b"\t" + b"-".join(pieces[at + 1 : end]), "ok", None))
-        at = end
+        values = [*itertools.takewhile(re.compile(rb"[A-Za-z0-9]{3,8}").fullmatch, pieces[at + 1 :])]
+        if all(step.split(b"\t")[2].lower() != pieces[at].lower() for step, _, _ in steps):
+            steps.append((b"set-keyword\t0\t" + pieces[at] + b"\t" + b"-".join(values), "ok", None))
+        at += 1 + len(values)
     is_refused = answer.startswith("! ")
     if is_refused != (at < len(pieces) and len(pieces[at]) == 2):
         raise ValueError(f"a row that stops elsewhere: {text}")
