@@ -52,18 +52,16 @@ impl<T: Copy> ShortWords<T> {
     pub fn new() -> Self
         ensures { result ≡ [] }
     {
-        ShortWords {
-            kept: Kept::Empty(Nothing::new()),
-        }
+        let kept = Kept::Empty(Nothing::new());
+        ShortWords { kept }
     }
 
     /// The list of this one item.
     pub fn new_single(item: T) -> Self
         ensures { result ≡ item ∷ [] }
     {
-        ShortWords {
-            kept: Kept::Inline(Count::of(1), Few::one(item)),
-        }
+        let kept = Kept::Inline(Count::of(1), Few::one(item));
+        ShortWords { kept }
     }
 
     /// The list of these two items, which allocates nothing.
@@ -71,9 +69,8 @@ impl<T: Copy> ShortWords<T> {
         ensures value { IfOk result (λ list. list ≡ first ∷ second ∷ []) }
         ensures succeeds { IsOk result }
     {
-        Ok(ShortWords {
-            kept: Kept::Inline(Count::of(2), Few::two(first, second)),
-        })
+        let kept = Kept::Inline(Count::of(2), Few::two(first, second));
+        Ok(ShortWords { kept })
     }
 
     /// The items.
@@ -196,14 +193,12 @@ impl<T: Copy> ShortWords<T> {
     pub fn from_vec(items: Vec<T>) -> Self
         ensures { result ≡ items.items }
     {
-        if items.len() <= 4 {
-            return ShortWords {
-                kept: Kept::from_short(items.as_slice()),
-            };
-        }
-        ShortWords {
-            kept: Kept::Heap(items),
-        }
+        let kept = if items.len() <= 4 {
+            Kept::from_short(items.as_slice())
+        } else {
+            Kept::Heap(items)
+        };
+        ShortWords { kept }
     }
 
     /// Leaves the empty list.
