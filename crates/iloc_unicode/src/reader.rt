@@ -53,19 +53,26 @@ fn fill_attributes(
     ensures err { OnErr result (attributes.new ≡ []) }
 {
     if next_has_length::<AttributeKind, 8>(iter) {
-        *attributes = read_attributes(alloc, iter)?;
+        return read_attributes(alloc, iter, attributes);
     }
     Ok(())
 }
 
-// Parses the attributes by value. It stands apart, so that an extension of keywords alone pays nothing for it.
+// Parses the attributes in place of those before. It stands apart, so that an extension of keywords alone pays nothing
+// for it.
 #[inline(never)]
-fn read_attributes(alloc: Global, iter: &mut SubtagIterator<'_>) -> Result<Attributes, AllocError>
-    ensures value { IfOk result (λ a. a ≡ attributes_read (left iter.old)) }
+fn read_attributes(
+    alloc: Global,
+    iter: &mut SubtagIterator<'_>,
+    attributes: &mut Attributes,
+) -> Result<(), AllocError>
+    ensures value { OnOk result (attributes.new ≡ attributes_read (left iter.old)) }
     ensures rest { OnOk result (left iter.new ≡ after_attributes (left iter.old)) }
     ensures succeeds { length (attributes_read (left iter.old)) ≤ 4 → IsOk result }
+    ensures err { OnErr result (attributes.new ≡ attributes.old) }
 {
-    Attributes::try_from_iter(alloc, iter)
+    *attributes = Attributes::try_from_iter(alloc, iter)?;
+    Ok(())
 }
 
 // Takes the attributes that follow where these four stood before.
@@ -135,8 +142,8 @@ impl Unicode {
 }
 
 /// Parses what follows `u` into an empty extension, for parsers of whole locales. After a refusal it holds what was
-/// parsed
-/// before the fault.
+/// parsed before the fault.
+#[inline(always)]
 pub fn fill_unicode(
     alloc: Global,
     iter: &mut SubtagIterator<'_>,

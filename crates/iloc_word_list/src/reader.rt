@@ -84,7 +84,10 @@ fn read_words<K: WordKind<8>>(
     ensures succeeds { length (without_true
         (map (normal K.kind) (passing (is_word K.kind) (left iter.old)))) ≤ 4 → IsOk result }
 {
-    let mut value = Value::new_empty();
+    let Some(first) = take_word::<K, 8>(iter) else {
+        return Ok(Value::new_empty());
+    };
+    let mut value = Value::from_subtag(Some(subtag_of(&first)));
     'words: while let Some(word) = take_word::<K, 8>(iter) {
         value.push_subtag(alloc, subtag_of(&word))?;
     }

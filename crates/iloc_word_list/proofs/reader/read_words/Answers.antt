@@ -9,9 +9,10 @@ use Rattle.iloc_word_list.proofs.reader.read_words.Goals as goal
 pub words-preserved : goal.words-preserved
 words-preserved g c =
     valued_more g.K.WordKind.kind (left c.args.iter.now) (left c.words.iter) c.words.value c.words.invariant
-    c.in-Some.word (left c.take_word.new.iter) c.in-Some.ensures.word c.in-Some.ensures.rest
+    c.in-Some-take_word.word (left c.take_word-in-words.new.iter) c.in-Some-take_word.ensures.word
+    c.in-Some-take_word.ensures.rest
     c.push_subtag.new.self
-    (c.in_ok-push_subtag.ensures.ok ∙ ap (with_subtag c.words.value) c.subtag_of.ensures)
+    (c.in_ok-push_subtag.ensures.ok ∙ ap (with_subtag c.words.value) c.subtag_of-in-Some-take_word.ensures)
 
 refused_not : false ≡ true → ⊥
 refused_not h = true≢false (sym h)
@@ -22,9 +23,11 @@ not_less n h = omega (arith, h)
 pub returns-in_err-push_subtag-clause-succeeds : goal.returns-in_err-push_subtag-clause-succeeds
 returns-in_err-push_subtag-clause-succeeds g c few =
     let failed = c.in_err-push_subtag.ensures in
-    let other : is_true c.in-Some.word ≡ false =
-    false_from_ne_true _ (λ t. refused_not (failed.ignores (ap is_true c.subtag_of.ensures ∙ t))) in
+    let other : is_true c.in-Some-take_word.word ≡ false =
+    false_from_ne_true _
+    (λ t. refused_not (failed.ignores (ap is_true c.subtag_of-in-Some-take_word.ensures ∙ t))) in
     let many : 4 ≤ length c.words.value = not_less _ (λ l. refused_not (failed.succeeds l)) in
     absurd
     (valued_many g.K.WordKind.kind (left c.args.iter.now) (left c.words.iter) c.words.value c.words.invariant
-    c.in-Some.word (left c.take_word.new.iter) c.in-Some.ensures.word c.in-Some.ensures.rest other many few)
+    c.in-Some-take_word.word (left c.take_word-in-words.new.iter) c.in-Some-take_word.ensures.word
+    c.in-Some-take_word.ensures.rest other many few)
