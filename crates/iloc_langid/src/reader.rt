@@ -177,18 +177,18 @@ pub(crate) fn fill_text(
 #[inline(always)]
 pub fn fill_short(text: &[u8], identifier: &mut LanguageIdentifier) -> Result<bool, ParseError>
     requires { identifier.old.variants ≡ [] }
-    ensures answered { IfOk result (λ told. told ≡ true
+    ensures answered { IfOk result (λ plain. plain ≡ true
         → IdentifierMeans languages (pieces text.now) (value_of identifier.new)) }
-    ensures not_told { IfOk result (λ told. told ≡ false → identifier.new ≡ identifier.old) }
+    ensures left { IfOk result (λ plain. plain ≡ false → identifier.new ≡ identifier.old) }
     ensures refused { IfErr result (λ e. (e ≡ ParseError.InvalidLanguage)
         × HasNoLanguage text.now) }
 {
-    let Some(told) = short_parts(text)? else {
+    let Some(parts) = short_parts(text)? else {
         return Ok(false);
     };
-    identifier.language = told.language;
-    identifier.script = told.script;
-    identifier.region = told.region;
+    identifier.language = parts.language;
+    identifier.script = parts.script;
+    identifier.region = parts.region;
     Ok(true)
 }
 
@@ -197,7 +197,7 @@ pub fn fill_short(text: &[u8], identifier: &mut LanguageIdentifier) -> Result<bo
 /// Refuses with `InvalidLanguage` a text of at most sixteen bytes that begins with no language.
 #[inline(always)]
 pub(crate) fn short_parts(text: &[u8]) -> Result<Option<PlainParts>, ParseError>
-    ensures told { IfOk result (λ told. IfSome told (IsPlainFront (pieces text.now) [])) }
+    ensures parts { IfOk result (λ plain. IfSome plain (IsPlainFront (pieces text.now) [])) }
     ensures refused { IfErr result (λ e. (e ≡ ParseError.InvalidLanguage)
         × HasNoLanguage text.now) }
 {
@@ -205,8 +205,8 @@ pub(crate) fn short_parts(text: &[u8]) -> Result<Option<PlainParts>, ParseError>
         return Ok(None);
     }
     let lanes = load(text);
-    if let Some(told) = plain_parts(lanes, text.len()) {
-        return Ok(Some(told));
+    if let Some(plain) = plain_parts(lanes, text.len()) {
+        return Ok(Some(plain));
     }
     if !begins_with_language(lanes, text.len()) {
         return Err(ParseError::InvalidLanguage);

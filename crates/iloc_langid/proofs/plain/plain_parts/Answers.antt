@@ -9,6 +9,6 @@ returns c =
     let i = value_of c.in_ok-plain.plain in
     let script : c.map.result ≡ i.script = search rules in
     let region : c.map-2.result ≡ i.region = search rules in
-    let told = c.in_ok-plain.ensures in
-    front_of_meaning (pieces (take c.args.len c.args.v)) i told.means told.no_variant _
+    let meant = c.in_ok-plain.ensures in
+    front_of_meaning (pieces (take c.args.len c.args.v)) i meant.means meant.no_variant _
     (c.subtag_of_normal.ensures ∙ c.language.ensures) script region
