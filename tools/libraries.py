@@ -92,6 +92,7 @@ def prove_by_ci(crates, say, until=None):
             if until and time.time() > until:
                 return True, []
             time.sleep(0.1)
+        proof.reader.join(5)  # (it reads apart what the run said last)
         if not proof.process.returncode:
             return False, []
         say(f"NOT PROVED: {' '.join(proof.failed) or 'rt ci failed'}\n{proof.why()}")
