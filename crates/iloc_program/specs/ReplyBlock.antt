@@ -8,6 +8,6 @@ abbrev pub held : ReplyBlock → Text
 held b = take b.len b.room.items
 
 -- the same bytes count, and unless memory was refused there is room for so many more
-abbrev pub HasRoom : {T E : Type 0} → ReplyBlock → ReplyBlock → ℕ → Result T E → Type 0
-HasRoom old new more result =
+abbrev pub MakesRoom : {T E : Type 0} → ReplyBlock → ReplyBlock → ℕ → Result T E → Type 0
+MakesRoom old new more result =
     (held new ≡ held old) × OnOk result (new.len + more ≤ vec_len new.room)

@@ -20,7 +20,7 @@ pub struct ReplyBlock {
 }
 
 impl ReplyBlock {
-    ghost use Rattle.iloc_program.specs.ReplyBlock.{HasRoom, held};
+    ghost use Rattle.iloc_program.specs.ReplyBlock.{MakesRoom, held};
     ghost use Rattle.iloc_program.specs.Replies.{IsReplied};
     ghost use Rattle.iloc_normalize.specs.Answered.{IsLead};
     ghost use Rattle.iloc_spec_grammar.specs.Values.{identifier_text};
@@ -122,7 +122,7 @@ impl ReplyBlock {
     // Sees that there is room for so many more.
     #[inline(always)]
     fn make_room(&mut self, more: usize) -> Result<(), AllocError>
-        ensures { HasRoom self.old self.new more result }
+        ensures { MakesRoom self.old self.new more result }
     {
         if self.room.len() - self.len < more {
             return self.grow(more);
@@ -133,7 +133,7 @@ impl ReplyBlock {
     // Makes room for so many more, and for twice as many as there was room for.
     #[inline(never)]
     fn grow(&mut self, more: usize) -> Result<(), AllocError>
-        ensures { HasRoom self.old self.new more result }
+        ensures { MakesRoom self.old self.new more result }
     {
         let Some(least) = self.len.checked_add(more) else {
             return Err(AllocError);
