@@ -27,7 +27,7 @@ def in_language(code, is_rattle):
     for mark, new in marks:
         code = re.sub(mark, new, code)
     if is_rattle:
-        code = code.replace("c == &v[j]", "c == v[j]")
+        code = code.replace("c == v[j]", "c == *v[j]")
     either = lambda it: it[1] if is_rattle else it[2]
     code = re.sub(r"\[\[R: (.*?) ?\|C: (.*?)\]\](?!\])", either, code, flags=re.S)
     return code.replace("~", "alloc, " if is_rattle else "").replace("^", "?" if is_rattle else "")
@@ -69,19 +69,30 @@ def keywords(found):
     return f"let r = {VALUES}; let v = [{four(kind)}];"
 
 
+def lending(call):
+    """Returns the code before a call and its body, with the parsed values lent: what finds one in an array goes by its
+    size, and is no part of the call."""
+    before = call.before
+    for is_mut, name in re.findall(r"let (mut )?([vo]) = FOUR\(", before):
+        names = four(f"{name}{{}}")
+        before += f" let [{names}] = &{is_mut}{name}; let {is_mut}{name} = [{names}];"
+    return before, re.sub(r"&([vo]\[\w+\])(?!\.)", r"\1", call.body) if before != call.before else call.body
+
+
 def function(call, is_rattle):
     """Returns the function of a call. A number of its own keeps compilers from merging two functions."""
     own = 1000003 * (1 + CALLS.index(call))
+    before, body = lending(call)
     alloc = "alloc: Global, " if is_rattle else ""
     return f"""
 #[inline(never)]
 fn b_{call.name.lower()}({alloc}rounds: u32, t: &Texts<'_>) -> Result<usize, ParseError> {{
-    {in_language(call.before, is_rattle)}
+    {in_language(before, is_rattle)}
     let mut sum = {own}usize;
     for round in 0..rounds {{
         let i = (round % 4) as usize;
         let j = (round / 4 % 4) as usize;
-        sum = sum.wrapping_add({in_language(call.body, is_rattle)});
+        sum = sum.wrapping_add({in_language(body, is_rattle)});
     }}
     Ok(sum)
 }}
