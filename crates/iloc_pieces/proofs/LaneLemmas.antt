@@ -1,6 +1,6 @@
 -- From the bits of a mask to the bytes of a vector.
 use Rattle.std.proofs.Common.{◌≡◌, ℕ, zero, suc, ◌+◌, ◌-◌, ◌/◌, ◌%◌, ◌^◌, ◌<◌, ◌≤◌, Bool, true, false, not}
-use Rattle.std.proofs.Common.{◌||◌, ◌==◌, cond, [], ◌∷◌, length, map, get_or, drop, replicate, Fits, w8}
+use Rattle.std.proofs.Common.{◌||◌, ◌==◌, cond, [], ◌∷◌, length, map, get_or, drop, Fits, w8}
 use Rattle.std.proofs.Common.{refl, sym, ap, ◌∙◌, arith, IsTrue, leb}
 use Rattle.std.specs.Prelude.{nat_eq}
 use mir.Val.{bits}
@@ -8,7 +8,7 @@ use Rattle.std.proofs.lemmas.Bool.{agree_below, agree_below_at, leb-true}
 use Rattle.std.proofs.lemmas.Bool.Decides.{nat_tests}
 use Rattle.std.proofs.lemmas.List.{length-map, get_or-take, get_or-drop}
 use Rattle.std.proofs.lemmas.Nat.Bits.{bit_at_ones}
-use Rattle.std.proofs.lemmas.Simd.{zip2_of_maps, splat_is_map, map-map, bit_mask_l, mask_l-mod, tops_compared}
+use Rattle.std.proofs.lemmas.Simd.{map-map, bit_mask_l, mask_l-mod, tops_compared}
 use Rattle.std.proofs.lemmas.Simd.{Each1-get_or, get_or-zip2, length-zip2}
 use lib.Lanes.{zip2, mask_l, top, Each1, sel_l}
 use Rattle.std.specs.Char.{to_ascii_lowercase}
@@ -20,16 +20,6 @@ use Rattle.iloc_pieces.specs.PlainShape.{part}
 pub of_byte : (t q : ℕ → Bool) → agree_below (λ b. not (t b) || q b) (λ _. true) 256 ≡ true → (b : ℕ) →
     b < 256 → t b ≡ true → q b ≡ true
 of_byte t q e b l h = rw h at (agree_below_at (λ b. not (t b) || q b) (λ _. true) 256 b e l)
-
--- an operation with one byte in all lanes, on a vector that was computed lane by lane from v
-pub then_splat : (h : ℕ → ℕ → ℕ) (f : ℕ → ℕ) (v : Text) (n y : ℕ) {z : Text} → length v ≡ n →
-    z ≡ map f v → zip2 h z (replicate n y) ≡ map (λ b. h (f b) y) v
-then_splat h f v n y long e = zip2_of_maps h f (λ _. y) v e (splat_is_map v n y long)
-
--- the same with the byte on the left
-pub splat_then : (h : ℕ → ℕ → ℕ) (f : ℕ → ℕ) (v : Text) (n y : ℕ) {z : Text} → length v ≡ n →
-    z ≡ map f v → zip2 h (replicate n y) z ≡ map (λ b. h y (f b)) v
-splat_then h f v n y long e = zip2_of_maps h (λ _. y) f v (splat_is_map v n y long) e
 
 marked_lane : (q : ℕ → Bool) (v : Text) (i : ℕ) → get_or (map q v) i false ≡ true →
     (q (get_or v i 0) ≡ true) × (i < length v)

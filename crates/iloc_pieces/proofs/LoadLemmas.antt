@@ -1,6 +1,6 @@
 -- A text of at most sixteen bytes in two numbers.
-use Rattle.std.proofs.Common.{◌≡◌, ℕ, zero, suc, ◌+◌, ◌-◌, ◌*◌, ◌/◌, ◌%◌, ◌^◌, ◌<◌, ◌≤◌, [], ◌∷◌, ◌++◌}
-use Rattle.std.proofs.Common.{length, get_or, take, drop, replicate, refl, sym, ap, ◌∙◌, arith, pow-suc}
+use Rattle.std.proofs.Common.{◌≡◌, ℕ, zero, suc, ◌+◌, ◌-◌, ◌*◌, ◌/◌, ◌^◌, ◌<◌, ◌≤◌, [], ◌∷◌, ◌++◌}
+use Rattle.std.proofs.Common.{length, get_or, take, drop, replicate, refl, sym, ap, ◌∙◌, arith}
 use Rattle.std.proofs.Common.{append_assoc, append-nil}
 use Rattle.std.proofs.lemmas.List.{take-append-drop, length-take-le, length-drop, get_or-drop, drop-drop}
 use Rattle.std.proofs.Math.Nat.{div-div-eq-div-mul, zero-div}
@@ -8,30 +8,6 @@ use Rattle.std.proofs.lemmas.Nat.{pow-add}
 use Rattle.iloc_tinystr.specs.Number.{number, bytes}
 use Rattle.iloc_tinystr.proofs.RawForms.{bytes-text, Bytes}
 use Rattle.iloc_spec_grammar.specs.Syntax.{Text}
-
--- ---- the bytes of two numbers
-
-abbrev more : ℕ → ℕ → ℕ
-more zero m = m
-more (suc n) m = suc (more n m)
-
-abbrev scaled : ℕ → ℕ → ℕ
-scaled zero y = y
-scaled (suc n) y = 256 * scaled n y
-
-bytes_pair : (n m x y : ℕ) → x < 256 ^ n → bytes (more n m) (x + scaled n y) ≡ bytes n x ++ bytes m y
-unfolding bytes
-bytes_pair zero m x y l = let same : x + y ≡ y = omega arith in ap (bytes m) same
-bytes_pair (suc n) m x y l =
-    let first : (x + 256 * scaled n y) % 256 ≡ x % 256 = omega arith in
-    let rest : (x + 256 * scaled n y) / 256 ≡ x / 256 + scaled n y = omega arith in
-    (λ i. first i ∷ bytes (more n m) (rest i))
-    ∙ ap (λ r. x % 256 ∷ r) (bytes_pair n m (x / 256) y (omega (arith, pow-suc 256 n)))
-
-pub bytes_of_pair : (x y : ℕ) → x < 2 ^ 64 → bytes 16 (x + 2 ^ 64 * (y + 0)) ≡ bytes 8 x ++ bytes 8 y
-bytes_of_pair x y l =
-    let same : x + 2 ^ 64 * (y + 0) ≡ x + scaled 8 y = omega arith in
-    ap (bytes 16) same ∙ bytes_pair 8 8 x y (omega arith)
 
 -- ---- the number of the bytes after the first
 

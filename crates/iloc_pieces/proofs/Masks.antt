@@ -1,36 +1,18 @@
 -- Bytes as bits: of lanes, of the first and the later ones, and of one that is added.
 use Rattle.std.proofs.Common.{◌≡◌, ℕ, zero, suc, ◌+◌, ◌-◌, ◌*◌, ◌/◌, ◌%◌, ◌^◌, ◌<◌, ◌≤◌, Bool, true, false}
-use Rattle.std.proofs.Common.{cond, [], ◌∷◌, ◌++◌, length, map, take, drop, Fits, w8, bit_and}
+use Rattle.std.proofs.Common.{cond, [], ◌∷◌, ◌++◌, length, map, take, drop, bit_and}
 use Rattle.std.proofs.Common.{bit_or, refl, sym, ap, subst, ◌∙◌, arith, pow-suc}
 use Rattle.std.specs.Int.Bits.{or_zero_l, or_zero_r}
 use Rattle.std.proofs.Math.Nat.{mod-one, zero-mod, div-one, zero-div, div-div-eq-div-mul}
-use Rattle.std.proofs.lemmas.Bool.{agree_below, agree_below_at}
 use Rattle.std.proofs.lemmas.List.{length-map, length-take-le}
 use Rattle.std.proofs.lemmas.Nat.{and_mask, or_block, pow_pos}
-use Rattle.std.proofs.lemmas.Simd.{map-map, mask_l-mod, mask_l-lt}
-use lib.Lanes.{mask_l, top, Each1}
+use Rattle.std.proofs.lemmas.Simd.{mask_l-lt}
+use lib.Lanes.{mask_l}
 use Rattle.iloc_spec_grammar.specs.Syntax.{Text}
 use Rattle.iloc_pieces.specs.Marks.{AreMarks, closed, no_letter, is_odd}
 use Rattle.iloc_pieces.specs.Run.{is_hyphen}
 use Rattle.iloc_pieces.specs.declared.marks.Marks.{Marks}
 use Rattle.iloc_pieces.proofs.SameLemmas.{low_bit, bit as bit_lt}
-
--- ---- lanes
-
--- two tests that agree on the 256 bytes
-pub same_map : (q r : ℕ → Bool) (v : Text) → Each1 (Fits w8) v → agree_below q r 256 ≡ true →
-    map q v ≡ map r v
-same_map q r [] fits e = refl
-same_map q r (b ∷ v) fits e = λ j. agree_below_at q r 256 b e (fits.0).fits j ∷ same_map q r v fits.1 e j
-
--- a mask of lanes that were computed from v tells the test exactly
-pub mask_is : (f : ℕ → ℕ) (p : ℕ → Bool) (v z : Text) → (length v ≡ 16) × Each1 (Fits w8) v → z ≡ map f v
-    → agree_below (λ b. top 7 (f b)) p 256 ≡ true → mask_l (map (top 7) z) % 2 ^ 64 ≡ mask_l (map p v)
-mask_is f p v z fits e all =
-    let few : length (map p v) ≤ 64 = omega (arith, length-map v p, fits.0) in
-    ap (λ l. mask_l (map (top 7) l) % 2 ^ 64) e
-    ∙ ap (λ l. mask_l l % 2 ^ 64) (map-map (top 7) f v ∙ same_map (λ b. top 7 (f b)) p v fits.1 all)
-    ∙ mask_l-mod (map p v) 64 few
 
 -- ---- the first bits
 

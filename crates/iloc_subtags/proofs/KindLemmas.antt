@@ -1,19 +1,17 @@
 -- Words of two kinds, by their bytes.
-use Rattle.std.proofs.Common.{◌≡◌, ℕ, ◌+◌, ◌*◌, ◌^◌, ◌<◌, true, cond, eqb, get_or, [], ◌∷◌, length, map}
-use Rattle.std.proofs.Common.{refl, sym, ◌∙◌, ap, arith}
+use Rattle.std.proofs.Common.{◌≡◌, ℕ, ◌+◌, ◌*◌, ◌<◌, true, eqb, get_or, [], ◌∷◌, length, map}
+use Rattle.std.proofs.Common.{refl, sym, ◌∙◌, ap, ap₂, arith, ◌&&◌, ◌⊎◌, inl, inr}
 use Rattle.std.proofs.lemmas.Bool.Decides.{nat_tests}
-use Rattle.std.proofs.lemmas.Nat.{or_block}
 use Rattle.std.specs.Int.Bits.{or_zero_r}
-use Rattle.std.specs.Char.{is_ascii_alphanumeric, to_ascii_lowercase, to_ascii_uppercase}
+use Rattle.std.specs.Char.{is_ascii_alphabetic, is_ascii_alphanumeric, to_ascii_lowercase, to_ascii_uppercase}
 use Rattle.std.specs.Int.RustNames.{bit_or}
 use Rattle.iloc_tinystr.specs.Number.{number}
-use Rattle.iloc_tinystr.specs.TinyText.{is_tiny_text}
-use Rattle.iloc_tinystr.proofs.ByBytes.{alike}
+use Rattle.iloc_tinystr.specs.TinyText.{is_text_byte, is_tiny_text}
+use Rattle.iloc_tinystr.proofs.Cases.{first_lower}
 use Rattle.iloc_tinystr.proofs.TinyTextLemmas.{length-le-tiny}
-use Rattle.iloc_subtags.specs.KindLaws.{region_fits, unicode_key_fits, transform_key_fits}
-use Rattle.iloc_spec_grammar.specs.Syntax.{Text, Kind, Language, Script, Region, Variant, Subtag, UnicodeKey}
-use Rattle.iloc_spec_grammar.specs.Syntax.{TransformKey, Attribute, PrivateSubtag, SubdivisionSuffix}
-use Rattle.iloc_spec_grammar.specs.Syntax.{CurrencyType, is_word, IsWord, normal, lower, upper, title}
+use Rattle.iloc_subtags.specs.KindLaws.{region_fits}
+use Rattle.iloc_spec_grammar.specs.Syntax.{Text, Kind, Script, Region}
+use Rattle.iloc_spec_grammar.specs.Syntax.{CurrencyType, is_word, normal, lower, upper, title}
 use Rattle.iloc_spec_grammar.specs.Syntax.{greatest, raw}
 use Rattle.iloc_spec_grammar.specs.Values.{IsNormal}
 
@@ -29,25 +27,6 @@ third_byte (a ∷ b ∷ []) h = refl
 third_byte (a ∷ b ∷ d ∷ []) h = let word = h.0 in grind (arith, nat_tests)
 third_byte (a ∷ b ∷ d ∷ e ∷ w) h =
     absurd (no_longer (a ∷ b ∷ d ∷ e ∷ w) 3 (region_fits (a ∷ b ∷ d ∷ e ∷ w) h.0) (omega arith))
-
--- a letter or digit in lower case, by its bit 5
-lower_byte : (b : ℕ) → b < 256 → is_ascii_alphanumeric b ≡ true → bit_or b 32 ≡ to_ascii_lowercase b
-lower_byte b lt h =
-    let case : cond (is_ascii_alphanumeric b) (bit_or b 32) 0
-    ≡ cond (is_ascii_alphanumeric b) (to_ascii_lowercase b) 0 =
-    alike (λ b. cond (is_ascii_alphanumeric b) (bit_or b 32) 0)
-    (λ b. cond (is_ascii_alphanumeric b) (to_ascii_lowercase b) 0) refl b lt in
-    rw h at case
-
--- the first of some bytes, and the others by another number
-first_lower : (b r s : ℕ) → is_ascii_alphanumeric b ≡ true
-    → bit_or (b + 256 * r) (32 + 256 * s) ≡ to_ascii_lowercase b + 256 * bit_or r s
-first_lower b r s h =
-    let small : b < 256 = grind (arith, nat_tests) in
-    let left : b + 256 * r ≡ r * 2 ^ 8 + b = omega arith in
-    let right : 32 + 256 * s ≡ s * 2 ^ 8 + 32 = omega arith in
-    (λ i. bit_or (left i) (right i)) ∙ or_block 8 r s b 32 small (omega arith)
-    ∙ omega (arith, lower_byte b small h)
 
 -- a script in lower case, by its first byte
 pub script_lower : (w : Text) → IsNormal Script w → number w + 32 ≡ number (lower w)
@@ -82,28 +61,32 @@ region_lower (a ∷ b ∷ d ∷ []) h =
 region_lower (a ∷ b ∷ d ∷ e ∷ w) h =
     absurd (no_longer (a ∷ b ∷ d ∷ e ∷ w) 3 (region_fits (a ∷ b ∷ d ∷ e ∷ w) h.0) (omega arith))
 
--- a key in lower case, by its two bytes
-pub key_lower : (k : Kind) → greatest 8 k ≡ 2 → (w : Text) → IsWord k w
-    → bit_or (number w) 8224 ≡ number (normal k w)
-unfolding is_word lower
-key_lower UnicodeKey e [] word = cc
-key_lower UnicodeKey e (a ∷ []) word = cc
-key_lower UnicodeKey e (a ∷ b ∷ []) word =
-    two_lower a b 0 (grind (arith, nat_tests)) (grind (arith, nat_tests))
-key_lower UnicodeKey e (a ∷ b ∷ d ∷ w) word =
-    absurd (no_longer (a ∷ b ∷ d ∷ w) 2 (unicode_key_fits (a ∷ b ∷ d ∷ w) word) (omega arith))
-key_lower TransformKey e [] word = cc
-key_lower TransformKey e (a ∷ []) word = cc
-key_lower TransformKey e (a ∷ b ∷ []) word =
-    two_lower a b 0 (grind (arith, nat_tests)) (grind (arith, nat_tests))
-key_lower TransformKey e (a ∷ b ∷ d ∷ w) word =
-    absurd (no_longer (a ∷ b ∷ d ∷ w) 2 (transform_key_fits (a ∷ b ∷ d ∷ w) word) (omega arith))
-key_lower (Language T) e w word = absurd (omega arith)
-key_lower Script e w word = absurd (omega arith)
-key_lower Region e w word = absurd (omega arith)
-key_lower Variant e w word = absurd (omega arith)
-key_lower Subtag e w word = absurd (omega arith)
-key_lower Attribute e w word = absurd (omega arith)
-key_lower PrivateSubtag e w word = absurd (omega arith)
-key_lower SubdivisionSuffix e w word = absurd (omega arith)
-key_lower CurrencyType e w word = absurd (omega arith)
+-- a small letter is 32 above its capital, which is no zero
+small_letter : (b : ℕ) → is_ascii_alphabetic b ≡ true → to_ascii_lowercase b ≡ b →
+    (b ≡ to_ascii_uppercase b + 32) × (is_text_byte (to_ascii_uppercase b) ≡ true)
+small_letter b h e = (grind (arith, nat_tests), grind (arith, nat_tests))
+
+-- a currency in upper case, by its bytes
+pub currency_upper : (w : Text) → IsNormal CurrencyType w →
+    (number w ≡ number (upper w) + 2105376) × (is_tiny_text 3 (upper w) ≡ true)
+unfolding is_word lower upper
+currency_upper [] h = let word = h.0 in cc
+currency_upper (a ∷ []) h = let word = h.0 in cc
+currency_upper (a ∷ b ∷ []) h = let word = h.0 in cc
+currency_upper (a ∷ b ∷ d ∷ []) h =
+    let word = h.0 in
+    let first = small_letter a (grind (arith, nat_tests)) cc in
+    let second = small_letter b (grind (arith, nat_tests)) cc in
+    let third = small_letter d (grind (arith, nat_tests)) cc in
+    (omega (arith, first.0, second.0, third.0), ap₂ ◌&&◌ first.1 (ap₂ ◌&&◌ second.1 (ap₂ ◌&&◌ third.1 refl)))
+currency_upper (a ∷ b ∷ d ∷ e ∷ w) h = let word = h.0 in absurd (grind (arith, nat_tests))
+
+-- kinds of these sizes are in lower case
+pub in_lower_case : (k : Kind) (n : ℕ) → greatest 8 k ≡ n → (n ≡ 2) ⊎ (n ≡ 8) → (w : Text) →
+    map to_ascii_lowercase w ≡ normal k w
+unfolding lower
+in_lower_case Script n e (inl h) w = absurd (omega arith)
+in_lower_case Script n e (inr h) w = absurd (omega arith)
+in_lower_case Region n e (inl h) w = absurd (omega arith)
+in_lower_case Region n e (inr h) w = absurd (omega arith)
+in_lower_case _ n e h w = refl

@@ -263,10 +263,11 @@ pub type CurrencyType = WordOf<CurrencyTypeKind, 3>;
 
 impl WordOf<CurrencyTypeKind, 3> {
     /// The code of ISO 4217: the text in upper case, as `USD`.
-    #[tactic(auto, unfolding(iloc_spec_grammar::specs::Syntax::upper))]
+    #[inline(always)]
     pub fn iso_code(self) -> TinyAsciiStr<3>
         ensures { result ≡ upper self }
     {
-        self.to_tinystr().to_ascii_uppercase()
+        // Its letters are in lower case, and bit 5 alone makes them so.
+        TinyAsciiStr::from_piece(ShortPiece::of_number(self.to_piece().number() - 0x20_2020))
     }
 }

@@ -198,11 +198,9 @@ impl WordKind<8> for VariantKind {
 
     #[tactic(auto, unfolding(iloc_spec_grammar::specs::Syntax::is_word))]
     fn accepts(piece: ShortPiece) -> bool {
-        match piece.len() {
-            4 => piece.first().is_ascii_digit() && piece.is_ascii_alphanumeric(),
-            5..=8 => piece.is_ascii_alphanumeric(),
-            _ => false,
-        }
+        matches!(piece.len(), 4..=8)
+            && piece.is_ascii_alphanumeric()
+            && (piece.len() > 4 || piece.first().is_ascii_digit())
     }
 
     #[inline(always)]

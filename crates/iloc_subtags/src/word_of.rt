@@ -75,9 +75,9 @@ impl<K: WordKind<N>, const N: usize> WordOf<K, N> {
         if !K::accepts(piece) {
             return Err(K::refusal());
         }
-        if N == 2 {
-            // Bit 5 puts letters into lower case, and every digit has it.
-            return Ok(subtag_of_normal(ShortPiece::of_number(piece.number() | 0x2020)));
+        // Subtags of these lengths are in lower case.
+        if N == 2 || N == 8 {
+            return Ok(subtag_of_normal(piece.word_to_ascii_lowercase()));
         }
         Ok(subtag_of_normal(K::normal(piece)))
     }

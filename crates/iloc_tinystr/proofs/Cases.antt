@@ -3,10 +3,13 @@ use Rattle.std.proofs.Common.{◌≡◌, ℕ, zero, suc, ◌+◌, ◌*◌, ◌/�
 use Rattle.std.proofs.Common.{get_or, map, refl, sym, ◌∙◌, ap, arith, pow-suc}
 use Rattle.std.specs.Int.{is_in_range}
 use Rattle.std.specs.Int.RustNames.{bit_and, bit_or, bit_xor}
-use Rattle.std.proofs.lemmas.List.{map-id}
+use Rattle.std.proofs.lemmas.List.{length-map, map-id}
 use Rattle.std.proofs.lemmas.Nat.{and_le_r, xor_comm}
-use Rattle.std.specs.Char.{is_ascii_alphabetic, to_ascii_lowercase, to_ascii_uppercase}
-use Rattle.iloc_tinystr.specs.Number.{number, bytes, flag, flags, IsPacked}
+use Rattle.std.specs.Char.{is_ascii_alphabetic, is_ascii_alphanumeric, to_ascii_lowercase, to_ascii_uppercase}
+use Rattle.std.specs.List.{list_all}
+use Rattle.std.specs.Cmp.{first_so, second_so}
+use Rattle.std.proofs.lemmas.Bool.Decides.{nat_tests}
+use Rattle.iloc_tinystr.specs.Number.{number, bytes, flag, flags, spread, IsPacked}
 use Rattle.iloc_tinystr.proofs.Titles.{title, length-title}
 use Rattle.iloc_tinystr.proofs.ByBytes.{number-bytes, length_bytes, kept, alike, same_bytes, Keeps, Bytewise}
 use Rattle.iloc_tinystr.proofs.ByBytes.{itself, alike_made, ands, ors, xors, first_byte, by_byte, of_both}
@@ -112,6 +115,57 @@ module _ (n x : ℕ) (h : IsPacked n x) (f : ℕ) (e : f ≡ flags is_ascii_alph
 
   pub title_shows : bytes n (bit_xor (bit_or x (f / 4)) (bit_and (f / 4) 32)) ≡ title (bytes n x)
   title_shows = titled.shows
+
+-- ---- of letters and digits
+
+-- a letter or digit in lower case, by its bit 5
+lower_byte : (b : ℕ) → b < 256 → is_ascii_alphanumeric b ≡ true → bit_or b 32 ≡ to_ascii_lowercase b
+lower_byte b lt h =
+    let case : cond (is_ascii_alphanumeric b) (bit_or b 32) 0
+    ≡ cond (is_ascii_alphanumeric b) (to_ascii_lowercase b) 0 =
+    alike (λ b. cond (is_ascii_alphanumeric b) (bit_or b 32) 0)
+    (λ b. cond (is_ascii_alphanumeric b) (to_ascii_lowercase b) 0) refl b lt in
+    rw h at case
+
+-- the first of some bytes, and the others by another number
+pub first_lower : (b r s : ℕ) → is_ascii_alphanumeric b ≡ true
+    → bit_or (b + 256 * r) (32 + 256 * s) ≡ to_ascii_lowercase b + 256 * bit_or r s
+first_lower b r s h =
+    let small : b < 256 = grind (arith, nat_tests) in
+    first_byte ors b 32 r s small (omega arith) ∙ ap (λ y. y + 256 * bit_or r s) (lower_byte b small h)
+
+quarter_spread : (n : ℕ) → spread 128 n ≡ 4 * spread 32 n
+unfolding spread
+quarter_spread zero = refl
+quarter_spread (suc n) = omega (arith, quarter_spread n)
+
+word_number : (n x : ℕ) → x < 256 ^ n → list_all is_ascii_alphanumeric (bytes n x) ≡ true
+    → bit_or x (spread 32 n) ≡ number (map to_ascii_lowercase (bytes n x))
+unfolding bytes spread
+word_number zero x lt all = let none : x ≡ 0 = omega arith in ap (λ y. bit_or y 0) none
+word_number (suc n) x lt all =
+    let whole : x ≡ x % 256 + 256 * (x / 256) = omega arith in
+    ap (λ y. bit_or y (32 + 256 * spread 32 n)) whole
+    ∙ first_lower (x % 256) (x / 256) (spread 32 n) (first_so (is_ascii_alphanumeric (x % 256)) _ all)
+    ∙ ap (λ y. to_ascii_lowercase (x % 256) + 256 * y)
+    (word_number n (x / 256) (omega (arith, pow-suc 256 n))
+    (second_so (is_ascii_alphanumeric (x % 256)) _ all))
+
+module _ (n x : ℕ) (h : IsPacked n x) (f : ℕ) (e : f ≡ spread 128 n)
+    (all : list_all is_ascii_alphanumeric (bytes n x) ≡ true) where
+  worded : Makes n (bit_or x (f / 4)) (map to_ascii_lowercase (bytes n x))
+  worded =
+      let bits : f / 4 ≡ spread 32 n = omega (arith, e, quarter_spread n) in
+      makes n _ (map to_ascii_lowercase (bytes n x))
+      (length-map (bytes n x) to_ascii_lowercase ∙ length_bytes n x) h.few
+      (fit-map to_ascii_lowercase (kept to_ascii_lowercase refl) n x)
+      (ap (bit_or x) bits ∙ word_number n x (below n x h) all)
+
+  pub word_whole : number (bytes n (bit_or x (f / 4))) ≡ bit_or x (f / 4)
+  word_whole = worded.word.whole
+
+  pub word_shows : bytes n (bit_or x (f / 4)) ≡ map to_ascii_lowercase (bytes n x)
+  word_shows = worded.shows
 
 -- ---- by those of the letters that change
 

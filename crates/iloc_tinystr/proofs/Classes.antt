@@ -2,16 +2,16 @@
 use Rattle.std.proofs.Common.{◌≡◌, ℕ, zero, suc, ◌+◌, ◌-◌, ◌*◌, ◌/◌, ◌%◌, ◌^◌, ◌<◌, ◌≤◌, Bool, true, false}
 use Rattle.std.proofs.Common.{◌&&◌, cond, eqb, map, refl, ◌∙◌, ap, arith}
 use borrow.Author.Tests.{eqb-true}
-use Rattle.std.specs.Int.RustNames.{bit_and, bit_or, bit_xor}
+use Rattle.std.specs.Int.RustNames.{bit_and, bit_xor}
 use Rattle.std.proofs.lemmas.Bool.Decides.{nat_tests}
 use Rattle.std.specs.List.{list_all}
-use Rattle.std.specs.Char.{is_ascii_alphabetic, is_ascii_alphanumeric, is_ascii_digit}
+use Rattle.std.specs.Char.{is_ascii_alphabetic, is_ascii_digit}
 use Rattle.std.specs.Int.{is_in_range}
 use Rattle.iloc_tinystr.specs.TinyText.{is_text_byte}
 use Rattle.iloc_tinystr.specs.Number.{number, bytes, flag, flags, spread, IsPacked}
-use Rattle.iloc_tinystr.proofs.ByBytes.{each_below, tried, alike, same_bytes, itself, constant, ands, ors}
+use Rattle.iloc_tinystr.proofs.ByBytes.{each_below, tried, alike, same_bytes, itself, constant, ands}
 use Rattle.iloc_tinystr.proofs.ByBytes.{xors, by_byte, of_both}
-use Rattle.iloc_tinystr.proofs.Low.{masked, flags_of, flag-keeps}
+use Rattle.iloc_tinystr.proofs.Low.{masked, flags_of}
 use Rattle.iloc_tinystr.proofs.Packed.{below, wider}
 
 -- those of any bytes, by those of their lowest seven bits
@@ -62,11 +62,3 @@ unfolding flags
 all_are p none n x h =
     ap (λ y. eqb y (spread 128 n)) (wider (flag p) (ap (λ t. cond t 128 0) none) n 8 x h.few (below n x h))
     ∙ marks p n x
-
-pub either_are : (x : ℕ) →
-    bit_or (flags is_ascii_alphabetic x) (flags is_ascii_digit x) ≡ flags is_ascii_alphanumeric x
-unfolding flags
-either_are x =
-    by_byte ors (flag is_ascii_alphabetic) (flag is_ascii_digit) (λ b l. flag-keeps is_ascii_alphabetic b)
-    (λ b l. flag-keeps is_ascii_digit b) 8 x
-    ∙ ap number (same_bytes _ (flag is_ascii_alphanumeric) (alike _ (flag is_ascii_alphanumeric) refl) 8 x)

@@ -9,6 +9,7 @@ ghost use Rattle.iloc_tinystr.specs.Number.{number, bytes, IsPacked};
 ghost use Rattle.iloc_tinystr.specs.TinyText.{is_text_byte};
 
 use crate::flags::{digit_flags, high_bits, letter_flags, text_flags};
+use crate::lanes::{alphanumerics_in, bytes_of};
 use crate::number::number_of;
 use std::marker::Model;
 
@@ -115,12 +116,12 @@ impl ShortPiece {
     }
 
     /// Whether all bytes are letters or digits.
-    #[tactic(auto, using(crate::proofs::Classes::all_are, crate::proofs::Classes::either_are))]
+    #[tactic(auto, using(crate::proofs::Sixteen::all_marked))]
     #[inline(always)]
     pub fn is_ascii_alphanumeric(self) -> bool
         ensures { result ≡ list_all is_ascii_alphanumeric self }
     {
-        (letter_flags(self.packed) | digit_flags(self.packed)) == high_bits(self.len)
+        alphanumerics_in(bytes_of(self.packed, 0)) == (1u64 << self.len) - 1
     }
 
     /// Whether all bytes are ASCII, and none is zero.
@@ -140,6 +141,19 @@ impl ShortPiece {
     {
         ShortPiece {
             packed: self.packed | letter_flags(self.packed) >> 2,
+            len: self.len,
+        }
+    }
+
+    /// The piece of letters and digits with A to Z mapped onto a to z. Bit 5 does so, and every digit has it.
+    #[tactic(auto, using(crate::proofs::Cases::word_whole, crate::proofs::Cases::word_shows, crate::proofs::ByBytes::length_bytes))]
+    #[inline(always)]
+    pub fn word_to_ascii_lowercase(self) -> Self
+        requires { list_all is_ascii_alphanumeric self ≡ true }
+        ensures { result ≡ map to_ascii_lowercase self }
+    {
+        ShortPiece {
+            packed: self.packed | high_bits(self.len) >> 2,
             len: self.len,
         }
     }

@@ -1,6 +1,7 @@
 use Rattle.std.proofs.Common.{refl}
 use Rattle.std.proofs.lemmas.Simd.{zip2_splat}
-use Rattle.iloc_pieces.proofs.LaneLemmas.{lower_lanes, then_splat}
+use Rattle.iloc_pieces.proofs.LaneLemmas.{lower_lanes}
+use Rattle.iloc_tinystr.proofs.Sixteen.{then_splat}
 use Rattle.iloc_pieces.proofs.lanes.all_in_lower_case.Goals as goal
 
 pub returns : goal.returns

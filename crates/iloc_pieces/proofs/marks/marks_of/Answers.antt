@@ -4,9 +4,8 @@ use Rattle.std.proofs.lemmas.Simd.{zip2_splat, zip2_of_maps}
 use lib.Dec.{leb, eqb}
 use Rattle.iloc_pieces.specs.Marks.{no_letter, is_odd}
 use Rattle.iloc_pieces.specs.Run.{is_hyphen}
-use Rattle.iloc_pieces.proofs.Masks.{mask_is}
+use Rattle.iloc_tinystr.proofs.Sixteen.{mask_is, then_splat, splat_then}
 use Rattle.iloc_pieces.proofs.marks.marks_of.Goals as goal
-use Rattle.iloc_pieces.proofs.LaneLemmas.{then_splat, splat_then}
 
 -- the masks of comparisons
 abbrev at_most : ℕ → ℕ → ℕ

@@ -2,7 +2,7 @@ use Rattle.std.proofs.Common.{refl}
 use Rattle.std.proofs.lemmas.Simd.{zip2_splat}
 use Rattle.iloc_pieces.specs.Run.{is_hyphen}
 use Rattle.iloc_pieces.proofs.run.hyphens_of.Goals as goal
-use Rattle.iloc_pieces.proofs.Masks.{mask_is}
+use Rattle.iloc_tinystr.proofs.Sixteen.{mask_is}
 
 pub returns : goal.returns
 returns c =

@@ -3,9 +3,8 @@ use Rattle.std.specs.Char.{is_ascii_alphanumeric}
 use Rattle.std.proofs.lemmas.Simd.{zip2_splat, zip2_of_maps}
 use lib.Dec.{leb}
 use Rattle.iloc_pieces.specs.Run.{fails}
-use Rattle.iloc_pieces.proofs.LaneLemmas.{then_splat, splat_then}
+use Rattle.iloc_tinystr.proofs.Sixteen.{then_splat, splat_then, mask_is}
 use Rattle.iloc_pieces.proofs.run.no_alphanumerics_in.Goals as goal
-use Rattle.iloc_pieces.proofs.Masks.{mask_is}
 
 -- the mask of a comparison
 abbrev at_most : ℕ → ℕ → ℕ

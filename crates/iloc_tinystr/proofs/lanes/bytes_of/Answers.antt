@@ -1,6 +1,6 @@
 use Rattle.iloc_tinystr.specs.Number.{bytes}
-use Rattle.iloc_pieces.proofs.LoadLemmas.{bytes_of_pair}
-use Rattle.iloc_pieces.proofs.load.bytes_of.Goals as goal
+use Rattle.iloc_tinystr.proofs.Sixteen.{bytes_of_pair}
+use Rattle.iloc_tinystr.proofs.lanes.bytes_of.Goals as goal
 
 pub returns : goal.returns
 unfolding bytes
