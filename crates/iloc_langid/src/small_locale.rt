@@ -1,7 +1,6 @@
 //! Parses small locales from the left, in one walk.
 ghost use Rattle.std.specs.Prelude.{◌≡◌, []};
 ghost use Rattle.iloc_spec_grammar.specs.Syntax.{code_u};
-ghost use Rattle.iloc_spec_grammar.specs.Syntax as words;
 ghost use Rattle.iloc_subtags.specs.Left.{left};
 ghost use Rattle.iloc_langid.specs.SmallLocaleReads.{SmallLocaleTextReads};
 ghost use Rattle.iloc_langid.specs.BlockReads.{
@@ -17,6 +16,7 @@ use iloc_subtags::{
     Attribute, AttributeKind, Language, ParseError, Region, Script, Subtag, SubtagIterator,
     UnicodeKey, UnicodeKeyKind, Variant, is_at_block, subtag_of, take_byte, take_word,
 };
+use iloc_word_list::spells_true;
 
 /// A keyword: a key and its value, which is absent if it would be `true`.
 pub type SmallKeyword = (UnicodeKey, Option<Subtag>);
@@ -109,7 +109,7 @@ fn read_value(iter: &mut SubtagIterator<'_>) -> Result<Option<Subtag>, ParseErro
         let Ok(word) = Attribute::try_from_utf8(piece) else {
             return Err(ParseError::InvalidSubtag);
         };
-        if is_true(&word) {
+        if spells_true(&word) {
             continue;
         }
         if value.is_some() {
@@ -118,12 +118,4 @@ fn read_value(iter: &mut SubtagIterator<'_>) -> Result<Option<Subtag>, ParseErro
         value = Some(subtag_of(&word));
     }
     Ok(value)
-}
-
-// Whether the subtag is `true`.
-#[tactic(auto, unfolding(iloc_spec_grammar::specs::Syntax::is_true))]
-fn is_true(word: &Attribute) -> bool
-    ensures { result ≡ words.is_true word.now }
-{
-    word.as_str() == "true"
 }

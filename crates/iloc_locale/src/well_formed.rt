@@ -12,7 +12,7 @@ use crate::extensions::Extensions;
 use crate::kept::look_at;
 use iloc_other::Other;
 use iloc_unicode::Keywords;
-use iloc_word_list::Value;
+use iloc_word_list::{Value, spells_true};
 
 /// Whether the extensions are well-formed.
 ///
@@ -58,10 +58,11 @@ fn are_read_back(keywords: &Keywords) -> bool
 }
 
 // Whether no subtag of the value is `true`, or has two characters and so the form of a key.
-#[tactic(auto, unfolding(iloc_spec_grammar::specs::Syntax::is_true))]
 fn is_plain_value(value: &Value) -> bool
     ensures { result ≡ list_all is_plain value.now }
 {
-    value.as_subtags_slice().iter().all(|subtag| subtag.as_str() != "true"
-        && subtag.as_str().len() != 2)
+    let subtags = value.as_subtags_slice();
+    subtags
+        .iter()
+        .all(|it| !spells_true(it) && it.as_str().len() != 2)
 }

@@ -11,6 +11,7 @@ ghost use Rattle.iloc_transform.specs.ValueReading.{IsValueWord, FieldValueReads
 
 use iloc_shortvec::ShortWords;
 use iloc_subtags::{Attribute, AttributeKind, ParseError, SubtagIterator, take_word};
+use iloc_word_list::spells_true;
 use iloc_writeable::pieces::write_piece;
 use iloc_writeable::{Pieces, Sink, Writeable};
 use std::alloc::{AllocError, Global};
@@ -124,13 +125,6 @@ impl Value {
         }
         Ok(self.subtags.push(alloc, word)?)
     }
-}
-
-#[tactic(auto, unfolding(iloc_spec_grammar::specs::Syntax::is_true))]
-fn spells_true(word: &Attribute) -> bool
-    ensures { result ≡ is_true word.now }
-{
-    word.as_str() == "true"
 }
 
 impl Default for Value {

@@ -39,7 +39,7 @@ pub mod word_set;
 pub use ascending::is_strictly_ascending;
 pub use errors::PreferencesParseError;
 pub use reader::read_value;
-pub use value::{Value, copy_of_single};
+pub use value::{Value, copy_of_single, spells_true};
 pub use word_collector::WordCollector;
 pub use word_list::WordList;
 pub use word_set::{Variants, WordSet};

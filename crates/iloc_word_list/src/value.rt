@@ -14,7 +14,7 @@ ghost use Rattle.iloc_word_list.specs.Values.{without_true, with_subtag};
 
 use crate::word_list::WordList;
 use iloc_shortvec::ShortWordsIntoIter;
-use iloc_subtags::{Subtag, SubtagKind};
+use iloc_subtags::{Subtag, SubtagKind, WordKind, WordOf};
 use std::alloc::{AllocError, Global};
 use std::marker::Model;
 
@@ -197,12 +197,11 @@ impl Value {
 }
 
 /// Whether the subtag is `true`.
-#[tactic(auto, unfolding(iloc_spec_grammar::specs::Syntax::is_true))]
-fn spells_true(subtag: &Subtag) -> bool
-    ensures value { result ≡ is_true subtag.now }
-    ensures normal { IsNormal Subtag subtag.now }
+pub fn spells_true<K: WordKind<8>>(word: &WordOf<K, 8>) -> bool
+    ensures value { result ≡ is_true word.now }
+    ensures normal { IsNormal K.kind word.now }
 {
-    subtag.as_str() == "true"
+    word.to_piece().number() == 0x6575_7274
 }
 
 /// Equal are values of the same subtags in the same order.

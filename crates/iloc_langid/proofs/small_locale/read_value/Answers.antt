@@ -10,4 +10,4 @@ returns-in_default c = other_read (left c.args.iter.now) (left c.loop-piece.piec
 pub returns-then-is_some : goal.returns-then-is_some
 returns-then-is_some c = second_read (left c.args.iter.now) (left c.loop-piece.piece-iterator.now)
     (left c.next.new.self.now) c.loop-piece.value c.loop-piece.invariant c.in-Some.piece.now
-    c.in-Some.ensures.steps c.in-Ok.word c.in-Ok.ensures c.if-is_true.ensures c.if-is_some.ensures
+    c.in-Some.ensures.steps c.in-Ok.word c.in-Ok.ensures c.if-spells_true.ensures.value c.if-is_some.ensures
