@@ -237,16 +237,9 @@ impl Locale {
 
     /// The keywords of the extension `u`, by ascending key.
     pub fn keywords(&self) -> Vec<(Key, Value)> {
-        let keys = self.list(
-            sys::icu_locale_keyword_count,
-            sys::icu_locale_get_keyword_key,
-            Key::of_normal,
-        );
-        let values = self.list(
-            sys::icu_locale_keyword_count,
-            sys::icu_locale_get_keyword_value,
-            Value::of_normal,
-        );
+        let count = sys::icu_locale_keyword_count;
+        let keys = self.list(count, sys::icu_locale_get_keyword_key, Key::of_normal);
+        let values = self.list(count, sys::icu_locale_get_keyword_value, Value::of_normal);
         keys.into_iter().zip(values).collect()
     }
 
@@ -333,16 +326,8 @@ impl Locale {
 
     /// The fields of the extension `t`, by ascending key.
     pub fn fields(&self) -> Vec<(String, String)> {
-        let keys = self.list(
-            sys::icu_locale_field_count,
-            sys::icu_locale_get_field_key,
-            str::to_owned,
-        );
-        let values = self.list(
-            sys::icu_locale_field_count,
-            sys::icu_locale_get_field_value,
-            str::to_owned,
-        );
+        let keys = self.list(sys::icu_locale_field_count, sys::icu_locale_get_field_key, str::to_owned);
+        let values = self.list(sys::icu_locale_field_count, sys::icu_locale_get_field_value, str::to_owned);
         keys.into_iter().zip(values).collect()
     }
 
