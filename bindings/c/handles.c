@@ -8,6 +8,7 @@
  *
  * The last line is the number of cases. The first that is not as wanted ends the program. */
 #include "icu_locale.h"
+#include "wanted.h"
 
 #include <ctype.h>
 #include <stdio.h>
@@ -16,17 +17,6 @@
 
 #define ROOM 512
 #define MANY 40
-
-static unsigned long cases;
-
-#define WANT(it)                                                              \
-    do {                                                                      \
-        cases++;                                                              \
-        if (!(it)) {                                                          \
-            fprintf(stderr, "handles.c:%d: not so: %s\n", __LINE__, #it);     \
-            exit(1);                                                          \
-        }                                                                     \
-    } while (0)
 
 static const uint8_t *bytes(const char *text)
 {

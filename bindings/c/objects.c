@@ -7,21 +7,13 @@
  *
  * Fields stand between tabs. tools/object_model.py says what is wanted. */
 #include "icu_locale.h"
+#include "lines.h"
 
 #include <inttypes.h>
 #include <stdio.h>
 #include <stdlib.h>
 #include <string.h>
 
-#define LINE 262144
-
-struct line {
-    uint8_t bytes[LINE];
-    size_t length;
-};
-
-static struct line first, second;
-static uint8_t reply[LINE];
 
 typedef icu_locale_status (*reading)(const icu_locale_t *, uint8_t *, size_t, size_t *);
 typedef icu_locale_status (*reading_at)(const icu_locale_t *, size_t, uint8_t *, size_t, size_t *);
@@ -30,19 +22,6 @@ static void stop(const char *why)
 {
     fprintf(stderr, "objects: %s\n", why);
     exit(1);
-}
-
-/* Reads a line without its newline, and returns whether there was one. */
-static int read_line(struct line *line)
-{
-    int byte;
-    line->length = 0;
-    while ((byte = getchar()) != EOF && byte != '\n') {
-        if (line->length == LINE)
-            stop("a line is too long");
-        line->bytes[line->length++] = (uint8_t)byte;
-    }
-    return byte == '\n' || line->length > 0;
 }
 
 static void write_refusal(icu_locale_status status)
