@@ -12,7 +12,7 @@ from common import without_prefix
 
 OURS = ("Writeable", "Sink", "Word", "WordKind", "Store", "PreferenceKey", "JsonText", "TextValue")
 OF_STD = (
-    "Clone Copy Debug Default Drop Display Eq Error From FromStr Hash IntoIterator Iterator Ord PartialEq "
+    "Clone Copy Debug Default Display Eq Error From FromStr Hash IntoIterator Iterator Ord PartialEq "
     "PartialOrd TryFrom Add AddAssign"
 ).split()
 # A result that may be a refusal, with the name of its error type where that is written.
@@ -328,7 +328,6 @@ def given_of(home, name):
             meant = sources().rust_name(item.module, (name,))
             if item.crate == home.name or meant and meant.crate == home.name:
                 found.update(given_by(trait, whole, base, item, name))
-    found.pop("Drop", None)
     return [Given(trait, api_words.GIVEN.get(trait, said)) for trait, said in found.items()]
 
 

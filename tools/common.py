@@ -27,7 +27,6 @@ class Parser(argparse.ArgumentParser):
         more = f"{self.prog}: {message}. {self.prog} --help says what it takes.\n"
         self.exit(2, self.format_usage() + more)
 
-
     def flag(self, name, text):
         """Adds an option that is given or not."""
         self.add_argument(name, action="store_true", help=text)
@@ -214,8 +213,7 @@ def crates_of(path):
     there is no such file."""
     if not os.path.isfile(path):
         return {}
-    with open(path, encoding="utf-8") as it:
-        texts = [line.split("#")[0].strip() for line in it]
+    texts = [line.split("#")[0].strip() for line in read(os.path.abspath(path)).split("\n")]
     return {it.split(":")[0].split()[0]: it for it in texts if ":" in it}
 
 

@@ -9,6 +9,7 @@ A crate's stamp, by which rt sees whether its library is that of the present tex
 in each run of a tool."""
 import functools
 import os
+import pathlib
 import shutil
 import sys
 
@@ -23,10 +24,7 @@ rtlib.Crate.stamp = functools.lru_cache(maxsize=None)(rtlib.Crate.stamp)
 
 def read(path):
     """Returns the bytes of the file, or none where there is no file."""
-    if not os.path.isfile(path):
-        return b""
-    with open(path, "rb") as it:
-        return it.read()
+    return pathlib.Path(path).read_bytes() if os.path.isfile(path) else b""
 
 
 def lanes():

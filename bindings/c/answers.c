@@ -11,39 +11,18 @@
  *
  * It asks for no memory itself. The status is 0 if it could read, write and answer all. */
 #include "icu_locale.h"
+#include "lines.h"
 
 #include <stdio.h>
 #include <stdlib.h>
 #include <string.h>
 
-#define LINE 262144
 #define UNTOUCHED 99
-
-struct line {
-    uint8_t bytes[LINE];
-    size_t length;
-};
-
-static struct line first, second;
-static uint8_t reply[LINE];
 
 static void stop(const char *why)
 {
     fprintf(stderr, "answers: %s: %.*s\n", why, (int)first.length, (const char *)first.bytes);
     exit(1);
-}
-
-/* Reads a line without its newline, and returns whether there was one. */
-static int read_line(struct line *line)
-{
-    int byte;
-    line->length = 0;
-    while ((byte = getchar()) != EOF && byte != '\n') {
-        if (line->length == LINE)
-            stop("a line is too long");
-        line->bytes[line->length++] = (uint8_t)byte;
-    }
-    return byte == '\n' || line->length > 0;
 }
 
 static void write_line(const char *before, const uint8_t *bytes, size_t length)

@@ -235,7 +235,12 @@ typedef icu_locale_status (*reading)(const icu_locale_t *, uint8_t *, size_t, si
 typedef icu_locale_status (*reading_at)(const icu_locale_t *, size_t, uint8_t *, size_t, size_t *);
 typedef icu_locale_status (*reading_by)(const icu_locale_t *, const uint8_t *, size_t, uint8_t *, size_t, size_t *);
 
-static bool ended(struct text *to, icu_locale_status status, size_t needed)
+static size_t needed;
+
+/* What a call that reads is given to write to. */
+#define ROOM_IN(text) (needed = ROOM, (uint8_t *)(text)->at), ROOM - 1, &needed
+
+static bool ended(struct text *to, icu_locale_status status)
 {
     WANT(status == ICU_LOCALE_DONE || status == ICU_LOCALE_NOT_FOUND);
     WANT(needed < ROOM && (status == ICU_LOCALE_DONE || needed == 0));
@@ -246,23 +251,17 @@ static bool ended(struct text *to, icu_locale_status status, size_t needed)
 
 static bool read_part(struct text *to, icu_locale_t *locale, reading call)
 {
-    size_t needed = ROOM;
-    icu_locale_status status = call(locale, (uint8_t *)to->at, ROOM - 1, &needed);
-    return ended(to, status, needed);
+    return ended(to, call(locale, ROOM_IN(to)));
 }
 
 static bool read_at(struct text *to, icu_locale_t *locale, reading_at call, size_t at)
 {
-    size_t needed = ROOM;
-    icu_locale_status status = call(locale, at, (uint8_t *)to->at, ROOM - 1, &needed);
-    return ended(to, status, needed);
+    return ended(to, call(locale, at, ROOM_IN(to)));
 }
 
 static bool read_by(struct text *to, icu_locale_t *locale, reading_by call, const char *key)
 {
-    size_t needed = ROOM;
-    icu_locale_status status = call(locale, TEXT(key), (uint8_t *)to->at, ROOM - 1, &needed);
-    return ended(to, status, needed);
+    return ended(to, call(locale, TEXT(key), ROOM_IN(to)));
 }
 
 /* The whole once more, into a block of just that room, and into one that is a byte too small. */
@@ -352,9 +351,7 @@ static void see_others(icu_locale_t *locale, struct text *to, const char *left)
     static struct text item, joined;
     to->at[0] = joined.at[0] = 0;
     for (int byte = 0; byte < 256; byte++) {
-        size_t needed = ROOM;
-        icu_locale_status status = icu_locale_get_other(locale, (uint8_t)byte, (uint8_t *)item.at, ROOM - 1, &needed);
-        bool is_there = ended(&item, status, needed);
+        bool is_there = ended(&item, icu_locale_get_other(locale, (uint8_t)byte, ROOM_IN(&item)));
         WANT(icu_locale_has_other(locale, (uint8_t)byte) == is_there);
         WANT(!is_there || (lower((char)byte) == item.at[0] && item.at[1] == '-' && are_subtags(item.at + 2, 2, 8)));
         if (is_there && lower((char)byte) == (char)byte) {
@@ -440,10 +437,8 @@ static void see_data_locales(icu_locale_t *locale)
     static struct text data, normal;
     for (icu_locale_priority by = ICU_LOCALE_BY_LANGUAGE; by <= ICU_LOCALE_BY_REGION; by++) {
         icu_locale_t meant = ICU_LOCALE_UND;
-        size_t needed = ROOM;
         int8_t order = 9;
-        icu_locale_status status = icu_locale_get_data_locale(locale, by, (uint8_t *)data.at, ROOM - 1, &needed);
-        WANT(ended(&data, status, needed));
+        WANT(ended(&data, icu_locale_get_data_locale(locale, by, ROOM_IN(&data))));
         WANT(icu_locale_normalize(ICU_LOCALE_DATA_LOCALE, TEXT(data.at), (uint8_t *)normal.at, ROOM - 1, &needed) == ICU_LOCALE_DONE);
         WANT(needed == strlen(data.at) && memcmp(normal.at, data.at, needed) == 0);
         WANT(icu_locale_data_cmp_bytes(locale, by, TEXT(data.at), &order) == ICU_LOCALE_DONE && order == 0);

@@ -7,6 +7,7 @@
  * program. */
 #include "guarding.h"
 #include "icu_locale.h"
+#include "wanted.h"
 
 #include <stdio.h>
 #include <stdlib.h>
@@ -21,19 +22,9 @@ struct text {
 };
 
 static uint8_t line[LINE], large[LINE + 8];
-static unsigned long cases;
 static size_t *needed, *start, *end;
 static int8_t *order;
 static uint8_t *same;
-
-#define WANT(it)                                                              \
-    do {                                                                      \
-        cases++;                                                              \
-        if (!(it)) {                                                          \
-            fprintf(stderr, "guarded.c:%d: not so: %s\n", __LINE__, #it);     \
-            exit(1);                                                          \
-        }                                                                     \
-    } while (0)
 
 /* A text in a place of its own: of two lines one ends before what may not be touched, and one begins behind it. */
 static struct text placed(const uint8_t *bytes, size_t length)

@@ -8,6 +8,7 @@
  *
  * The last line is the number of cases. The first that is not as wanted ends the program. */
 #include "icu_locale.h"
+#include "wanted.h"
 
 #include <ctype.h>
 #include <stdio.h>
@@ -16,17 +17,6 @@
 
 #define ROOM 512
 #define MANY 40
-
-static unsigned long cases;
-
-#define WANT(it)                                                              \
-    do {                                                                      \
-        cases++;                                                              \
-        if (!(it)) {                                                          \
-            fprintf(stderr, "handles.c:%d: not so: %s\n", __LINE__, #it);     \
-            exit(1);                                                          \
-        }                                                                     \
-    } while (0)
 
 static const uint8_t *bytes(const char *text)
 {
@@ -37,11 +27,13 @@ static const uint8_t *bytes(const char *text)
 #define TEXT(it) bytes(it), strlen(it)
 
 static char last[ROOM];
+static size_t needed;
 
-/* What a call that reads wrote, as a C string; "?" if there is no such part. It tries a buffer that is too small too. */
-typedef icu_locale_status (*reading)(const icu_locale_t *, uint8_t *, size_t, size_t *);
+/* What a call that reads is given to write to. */
+#define ROOM_FOR_PART (needed = 77, (uint8_t *)last), ROOM - 1, &needed
 
-static const char *ended(icu_locale_status status, size_t needed)
+/* What a call that reads wrote, as a C string; "?" if there is no such part. */
+static const char *ended(icu_locale_status status)
 {
     WANT(needed < ROOM);
     last[needed] = 0;
@@ -53,12 +45,14 @@ static const char *ended(icu_locale_status status, size_t needed)
     return last;
 }
 
+typedef icu_locale_status (*reading)(const icu_locale_t *, uint8_t *, size_t, size_t *);
+
+/* It tries a buffer that is too small too. */
 static const char *read_part(icu_locale_t *locale, reading call)
 {
-    size_t needed = 77;
     uint8_t small[ROOM];
-    icu_locale_status status = call(locale, (uint8_t *)last, ROOM - 1, &needed);
-    const char *text = ended(status, needed);
+    icu_locale_status status = call(locale, ROOM_FOR_PART);
+    const char *text = ended(status);
     if (needed > 0) {
         size_t again = 77;
         memset(small, '#', sizeof small);
@@ -78,16 +72,12 @@ typedef icu_locale_status (*reading_at)(const icu_locale_t *, size_t, uint8_t *,
 
 static const char *read_at(icu_locale_t *locale, reading_at call, size_t index)
 {
-    size_t needed = 77;
-    icu_locale_status status = call(locale, index, (uint8_t *)last, ROOM - 1, &needed);
-    return ended(status, needed);
+    return ended(call(locale, index, ROOM_FOR_PART));
 }
 
 static const char *keyword(icu_locale_t *locale, const char *key)
 {
-    size_t needed = 77;
-    icu_locale_status status = icu_locale_get_keyword(locale, TEXT(key), (uint8_t *)last, ROOM - 1, &needed);
-    return ended(status, needed);
+    return ended(icu_locale_get_keyword(locale, TEXT(key), ROOM_FOR_PART));
 }
 
 static int is_now(icu_locale_t *locale, const char *text)
@@ -282,9 +272,7 @@ static void try_attributes(void)
 
 static const char *field(icu_locale_t *locale, const char *key)
 {
-    size_t needed = 77;
-    icu_locale_status status = icu_locale_get_field(locale, TEXT(key), (uint8_t *)last, ROOM - 1, &needed);
-    return ended(status, needed);
+    return ended(icu_locale_get_field(locale, TEXT(key), ROOM_FOR_PART));
 }
 
 static void try_transform(void)
@@ -335,9 +323,7 @@ static void try_private(void)
 
 static const char *other(icu_locale_t *locale, uint8_t singleton)
 {
-    size_t needed = 77;
-    icu_locale_status status = icu_locale_get_other(locale, singleton, (uint8_t *)last, ROOM - 1, &needed);
-    return ended(status, needed);
+    return ended(icu_locale_get_other(locale, singleton, ROOM_FOR_PART));
 }
 
 static void try_others(void)
@@ -398,9 +384,7 @@ static void try_extending(void)
 
 static const char *data(icu_locale_t *locale, icu_locale_priority priority)
 {
-    size_t needed = 77;
-    icu_locale_status status = icu_locale_get_data_locale(locale, priority, (uint8_t *)last, ROOM - 1, &needed);
-    return ended(status, needed);
+    return ended(icu_locale_get_data_locale(locale, priority, ROOM_FOR_PART));
 }
 
 /* The texts of both data locales of a locale. */
@@ -470,10 +454,16 @@ static void try_formats(void)
 
 /* Random calls, and a model of a locale. */
 
+/* Variants or attributes. */
+struct words {
+    char at[MANY][16];
+    int count;
+};
+
 struct model {
-    char language[16], script[16], region[16], variants[MANY][16];
-    char attributes[MANY][16], keys[MANY][4], values[MANY][64];
-    int variant_count, attribute_count, keyword_count;
+    char language[16], script[16], region[16], keys[MANY][4], values[MANY][64];
+    struct words variants, attributes;
+    int keyword_count;
 };
 
 static const char *const WORDS[] = {
@@ -561,12 +551,12 @@ static const char *written(const struct model *it)
         at += snprintf(whole + at, sizeof whole - (size_t)at, "-%s", it->script);
     if (*it->region)
         at += snprintf(whole + at, sizeof whole - (size_t)at, "-%s", it->region);
-    for (int i = 0; i < it->variant_count; i++)
-        at += snprintf(whole + at, sizeof whole - (size_t)at, "-%s", it->variants[i]);
-    if (it->attribute_count + it->keyword_count > 0)
+    for (int i = 0; i < it->variants.count; i++)
+        at += snprintf(whole + at, sizeof whole - (size_t)at, "-%s", it->variants.at[i]);
+    if (it->attributes.count + it->keyword_count > 0)
         at += snprintf(whole + at, sizeof whole - (size_t)at, "-u");
-    for (int i = 0; i < it->attribute_count; i++)
-        at += snprintf(whole + at, sizeof whole - (size_t)at, "-%s", it->attributes[i]);
+    for (int i = 0; i < it->attributes.count; i++)
+        at += snprintf(whole + at, sizeof whole - (size_t)at, "-%s", it->attributes.at[i]);
     for (int i = 0; i < it->keyword_count; i++) {
         at += snprintf(whole + at, sizeof whole - (size_t)at, "-%s", it->keys[i]);
         if (*it->values[i])
@@ -578,12 +568,17 @@ static const char *written(const struct model *it)
 }
 
 /* Where the word is among these, or -1. */
-static int place_of(char (*words)[16], int count, const char *word)
+static int place_of(const struct words *words, const char *word)
 {
-    int i = count - 1;
-    while (i >= 0 && strcmp(words[i], word) != 0)
+    int i = words->count - 1;
+    while (i >= 0 && strcmp(words->at[i], word) != 0)
         i--;
     return i;
+}
+
+static void add_word(struct words *words, const char *word)
+{
+    put(words->at[words->count++], 16, word);
 }
 
 static int keyword_of(struct model *it, const char *key)
@@ -611,7 +606,7 @@ static void model_of(struct model *it, const char *text)
         else if (!is_keywords && strlen(part) == 1)
             is_keywords = 1;
         else if (is_keywords && it->keyword_count == 0 && strlen(part) > 2)
-            put(it->attributes[it->attribute_count++], 16, part);
+            add_word(&it->attributes, part);
         else if (is_keywords && strlen(part) == 2)
             put(it->keys[at = it->keyword_count++], 4, part);
         else if (is_keywords)
@@ -621,7 +616,7 @@ static void model_of(struct model *it, const char *text)
         else if (is_region(part))
             put(it->region, sizeof it->region, part);
         else
-            put(it->variants[it->variant_count++], 16, part);
+            add_word(&it->variants, part);
     }
 }
 
@@ -647,53 +642,40 @@ static void step_parts(icu_locale_t *locale, struct model *it, const char *word)
     }
 }
 
-static void step_variants(icu_locale_t *locale, struct model *it, const char *word)
-{
-    char small[64];
-    lower(small, word);
-    int at = is_variant(word) ? place_of(it->variants, it->variant_count, small) : -1;
-    WANT(icu_locale_has_variant(locale, TEXT(word)) == (at >= 0));
-    switch (below(5)) {
-    case 0:
-        WANT(icu_locale_remove_variant(locale, TEXT(word)) == (at >= 0 ? ICU_LOCALE_DONE : ICU_LOCALE_NOT_FOUND));
-        if (at >= 0)
-            memmove(it->variants[at], it->variants[--it->variant_count], 16);
-        break;
-    case 1:
-        if (below(8) == 0) {
-            WANT(icu_locale_clear_variants(locale) == ICU_LOCALE_DONE);
-            it->variant_count = 0;
-        }
-        break;
-    default:
-        WANT(icu_locale_add_variant(locale, TEXT(word)) == (is_variant(word) ? ICU_LOCALE_DONE : ICU_LOCALE_INVALID_SUBTAG));
-        if (is_variant(word) && at < 0)
-            put(it->variants[it->variant_count++], 16, small);
-    }
-}
+/* The calls on variants or on attributes, what such a word is, how any other is refused, and how many of five steps remove. */
+static const struct kind {
+    icu_locale_status (*add)(icu_locale_t *, const uint8_t *, size_t);
+    icu_locale_status (*remove)(icu_locale_t *, const uint8_t *, size_t);
+    icu_locale_status (*clear)(icu_locale_t *);
+    bool (*has)(const icu_locale_t *, const uint8_t *, size_t);
+    size_t (*count)(const icu_locale_t *);
+    reading_at get;
+    int (*is_word)(const char *);
+    icu_locale_status refusal;
+    size_t removing;
+} VARIANTS = {icu_locale_add_variant, icu_locale_remove_variant, icu_locale_clear_variants, icu_locale_has_variant,
+    icu_locale_variant_count, icu_locale_get_variant, is_variant, ICU_LOCALE_INVALID_SUBTAG, 1},
+  ATTRIBUTES = {icu_locale_add_attribute, icu_locale_remove_attribute, icu_locale_clear_attributes, icu_locale_has_attribute,
+    icu_locale_attribute_count, icu_locale_get_attribute, is_attribute, ICU_LOCALE_INVALID_EXTENSION, 2};
 
-static void step_attributes(icu_locale_t *locale, struct model *it, const char *word)
+static void step_words(icu_locale_t *locale, const struct kind *calls, struct words *it, const char *word)
 {
     char small[64];
     lower(small, word);
-    int at = is_attribute(word) ? place_of(it->attributes, it->attribute_count, small) : -1;
-    WANT(icu_locale_has_attribute(locale, TEXT(word)) == (at >= 0));
-    switch (below(5)) {
-    case 0: case 1:
-        WANT(icu_locale_remove_attribute(locale, TEXT(word)) == (at >= 0 ? ICU_LOCALE_DONE : ICU_LOCALE_NOT_FOUND));
+    int is_word = calls->is_word(word), at = is_word ? place_of(it, small) : -1;
+    WANT(calls->has(locale, TEXT(word)) == (at >= 0));
+    size_t way = below(5);
+    if (way < calls->removing) {
+        WANT(calls->remove(locale, TEXT(word)) == (at >= 0 ? ICU_LOCALE_DONE : ICU_LOCALE_NOT_FOUND));
         if (at >= 0)
-            memmove(it->attributes[at], it->attributes[--it->attribute_count], 16);
-        break;
-    case 2:
-        if (below(8) == 0) {
-            WANT(icu_locale_clear_attributes(locale) == ICU_LOCALE_DONE);
-            it->attribute_count = 0;
-        }
-        break;
-    default:
-        WANT(icu_locale_add_attribute(locale, TEXT(word)) == (is_attribute(word) ? ICU_LOCALE_DONE : ICU_LOCALE_INVALID_EXTENSION));
-        if (is_attribute(word) && at < 0)
-            put(it->attributes[it->attribute_count++], 16, small);
+            memmove(it->at[at], it->at[--it->count], 16);
+    } else if (way > calls->removing) {
+        WANT(calls->add(locale, TEXT(word)) == (is_word ? ICU_LOCALE_DONE : calls->refusal));
+        if (is_word && at < 0)
+            add_word(it, small);
+    } else if (below(8) == 0) {
+        WANT(calls->clear(locale) == ICU_LOCALE_DONE);
+        it->count = 0;
     }
 }
 
@@ -729,6 +711,17 @@ static void step_keywords(icu_locale_t *locale, struct model *it, const char *ke
     }
 }
 
+/* The words of a kind, as the model has them. */
+static void see_words(icu_locale_t *locale, const struct kind *calls, const struct words *it)
+{
+    WANT(calls->count(locale) == (size_t)it->count);
+    for (size_t i = 0; i < (size_t)it->count; i++) {
+        WANT(place_of(it, read_at(locale, calls->get, i)) >= 0);
+        WANT(calls->has(locale, TEXT(it->at[i])));
+    }
+    WANT(strcmp(read_at(locale, calls->get, (size_t)it->count), "?") == 0);
+}
+
 /* Each part, as the model has it. */
 static void see(icu_locale_t *locale, struct model *it)
 {
@@ -744,18 +737,8 @@ static void see(icu_locale_t *locale, struct model *it)
     WANT(strcmp(read_part(locale, icu_locale_get_language), *it->language ? it->language : "und") == 0);
     WANT(strlen(read_part(locale, icu_locale_get_script)) == strlen(it->script));
     WANT(strlen(read_part(locale, icu_locale_get_region)) == strlen(it->region));
-    WANT(icu_locale_variant_count(locale) == (size_t)it->variant_count);
-    for (size_t i = 0; i < (size_t)it->variant_count; i++) {
-        WANT(place_of(it->variants, it->variant_count, read_at(locale, icu_locale_get_variant, i)) >= 0);
-        WANT(icu_locale_has_variant(locale, TEXT(it->variants[i])));
-    }
-    WANT(strcmp(read_at(locale, icu_locale_get_variant, (size_t)it->variant_count), "?") == 0);
-    WANT(icu_locale_attribute_count(locale) == (size_t)it->attribute_count);
-    for (size_t i = 0; i < (size_t)it->attribute_count; i++) {
-        WANT(place_of(it->attributes, it->attribute_count, read_at(locale, icu_locale_get_attribute, i)) >= 0);
-        WANT(icu_locale_has_attribute(locale, TEXT(it->attributes[i])));
-    }
-    WANT(strcmp(read_at(locale, icu_locale_get_attribute, (size_t)it->attribute_count), "?") == 0);
+    see_words(locale, &VARIANTS, &it->variants);
+    see_words(locale, &ATTRIBUTES, &it->attributes);
     WANT(icu_locale_keyword_count(locale) == (size_t)it->keyword_count);
     for (size_t i = 0; i < (size_t)it->keyword_count; i++) {
         char key[4], value[64];
@@ -814,10 +797,10 @@ static void try_script(uint64_t seed, long steps)
             step_parts(&locales[i], &models[i], ANY(WORDS));
             break;
         case 6: case 7: case 8:
-            step_variants(&locales[i], &models[i], ANY(WORDS));
+            step_words(&locales[i], &VARIANTS, &models[i].variants, ANY(WORDS));
             break;
         case 9: case 10:
-            step_attributes(&locales[i], &models[i], ANY(WORDS));
+            step_words(&locales[i], &ATTRIBUTES, &models[i].attributes, ANY(WORDS));
             break;
         default:
             step_keywords(&locales[i], &models[i], ANY(WORDS), ANY(VALUES));
@@ -867,39 +850,31 @@ void __wrap_free(void *place)
 
 static icu_locale_t source;
 
-static icu_locale_status call_parse(icu_locale_t *it)
+/* The calls that take a text, and in which of the four starting locales each may allocate. */
+static const struct setting {
+    icu_locale_status (*call)(icu_locale_t *, const uint8_t *, size_t);
+    const char *text, *may_allocate;
+} SETTINGS[] = {
+    {icu_locale_parse, "de-aaaaa-bbbbb-ccccc-ddddd-eeeee-t-und-m0-abc-u-aaa-ca-aaa-bbb-ccc-ddd-eee-co-phonebk-x-a-b-c-d-e", "1111"},
+    {icu_locale_set_language, "fr", "1000"},
+    {icu_locale_set_script, "Cyrl", "1000"},
+    {icu_locale_set_region, "FR", "1000"},
+    {icu_locale_add_variant, "posix", "1011"},
+    {icu_locale_add_attribute, "foo", "1111"},
+    {icu_locale_set_transform_language, "de-aaaaa-bbbbb-ccccc-ddddd-eeeee", "1111"},
+    {icu_locale_set_private, "x-a-b-c-d-e-f", "1111"},
+    {icu_locale_set_other, "a-aaa-bbb-ccc-ddd-eee", "1111"},
+};
+static const struct setting *setting_now;
+
+static icu_locale_status call_setting(icu_locale_t *it)
 {
-    return icu_locale_parse(it, TEXT("de-aaaaa-bbbbb-ccccc-ddddd-eeeee-t-und-m0-abc-u-aaa-ca-aaa-bbb-ccc-ddd-eee-co-phonebk-x-a-b-c-d-e"));
+    return setting_now->call(it, TEXT(setting_now->text));
 }
 
 static icu_locale_status call_copy(icu_locale_t *it)
 {
     return icu_locale_copy(it, &source);
-}
-
-static icu_locale_status call_language(icu_locale_t *it)
-{
-    return icu_locale_set_language(it, TEXT("fr"));
-}
-
-static icu_locale_status call_script(icu_locale_t *it)
-{
-    return icu_locale_set_script(it, TEXT("Cyrl"));
-}
-
-static icu_locale_status call_region(icu_locale_t *it)
-{
-    return icu_locale_set_region(it, TEXT("FR"));
-}
-
-static icu_locale_status call_add_variant(icu_locale_t *it)
-{
-    return icu_locale_add_variant(it, TEXT("posix"));
-}
-
-static icu_locale_status call_add_attribute(icu_locale_t *it)
-{
-    return icu_locale_add_attribute(it, TEXT("foo"));
 }
 
 static icu_locale_status call_remove_attribute(icu_locale_t *it)
@@ -908,29 +883,14 @@ static icu_locale_status call_remove_attribute(icu_locale_t *it)
     return status == ICU_LOCALE_NOT_FOUND ? ICU_LOCALE_DONE : status;
 }
 
-static icu_locale_status call_transform_language(icu_locale_t *it)
-{
-    return icu_locale_set_transform_language(it, TEXT("de-aaaaa-bbbbb-ccccc-ddddd-eeeee"));
-}
-
 static icu_locale_status call_field(icu_locale_t *it)
 {
     return icu_locale_set_field(it, TEXT("h0"), TEXT("aaa-bbb-ccc-ddd-eee"));
 }
 
-static icu_locale_status call_private(icu_locale_t *it)
-{
-    return icu_locale_set_private(it, TEXT("x-a-b-c-d-e-f"));
-}
-
 static icu_locale_status call_keyword(icu_locale_t *it)
 {
     return icu_locale_set_keyword(it, TEXT("nu"), TEXT("aaa-bbb-ccc-ddd-eee-fff"));
-}
-
-static icu_locale_status call_other(icu_locale_t *it)
-{
-    return icu_locale_set_other(it, TEXT("a-aaa-bbb-ccc-ddd-eee"));
 }
 
 static icu_locale_status call_extend(icu_locale_t *it)
@@ -984,20 +944,12 @@ static void try_refused(void)
     PARSES(&source, "de-aaaaa-bbbbb-ccccc-ddddd-eeeee-t-und-m0-abc-u-aaa-bbb-ccc-ddd-eee-ca-aaa-bbb-ccc-ddd-eee-co-phonebk-x-a-b-c-d-e");
     long held = live;
     for (size_t i = 0; i < sizeof starts / sizeof *starts; i++) {
-        int is_und = i == 0;
-        refuse_each(call_parse, starts[i], 1);
+        for (setting_now = SETTINGS; setting_now < SETTINGS + sizeof SETTINGS / sizeof *SETTINGS; setting_now++)
+            refuse_each(call_setting, starts[i], setting_now->may_allocate[i] == '1');
         refuse_each(call_copy, starts[i], 1);
-        refuse_each(call_language, starts[i], is_und);
-        refuse_each(call_script, starts[i], is_und);
-        refuse_each(call_region, starts[i], is_und);
-        refuse_each(call_add_variant, starts[i], is_und || i > 1);
-        refuse_each(call_add_attribute, starts[i], 1);
         refuse_each(call_remove_attribute, starts[i], i == 3);
         refuse_each(call_keyword, starts[i], 1);
-        refuse_each(call_transform_language, starts[i], 1);
         refuse_each(call_field, starts[i], 1);
-        refuse_each(call_private, starts[i], 1);
-        refuse_each(call_other, starts[i], 1);
         refuse_each(call_extend, starts[i], 1);
         refuse_each(call_eq_text, starts[i], 1);
         refuse_each(call_nothing, starts[i], 0);

@@ -2,21 +2,11 @@
  *
  * The last line is the number of cases; the first that is not as wanted ends the program. */
 #include "icu_locale.h"
+#include "wanted.h"
 
 #include <stdio.h>
 #include <stdlib.h>
 #include <string.h>
-
-static unsigned long cases;
-
-#define WANT(it)                                                              \
-    do {                                                                      \
-        cases++;                                                              \
-        if (!(it)) {                                                          \
-            fprintf(stderr, "itself.c:%d: not so: %s\n", __LINE__, #it);      \
-            exit(1);                                                          \
-        }                                                                     \
-    } while (0)
 
 static const char *const TEXTS[] = {"und", "en", "en-Latn-US-posix", "de-u-foo-ca-roc-hc-h12",
     "en-aaaaa-bbbbb-ccccc-ddddd-eeeee-a-foo-t-de-m0-abc-abcdefgh-u-aaa-bbb-ca-roc-rg-gbzzzz-x-a-b-c-d-e"};

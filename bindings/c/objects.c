@@ -7,21 +7,13 @@
  *
  * Fields stand between tabs. tools/object_model.py says what is wanted. */
 #include "icu_locale.h"
+#include "lines.h"
 
 #include <inttypes.h>
 #include <stdio.h>
 #include <stdlib.h>
 #include <string.h>
 
-#define LINE 262144
-
-struct line {
-    uint8_t bytes[LINE];
-    size_t length;
-};
-
-static struct line first, second;
-static uint8_t reply[LINE];
 
 typedef icu_locale_status (*reading)(const icu_locale_t *, uint8_t *, size_t, size_t *);
 typedef icu_locale_status (*reading_at)(const icu_locale_t *, size_t, uint8_t *, size_t, size_t *);
@@ -32,47 +24,28 @@ static void stop(const char *why)
     exit(1);
 }
 
-/* Reads a line without its newline, and returns whether there was one. */
-static int read_line(struct line *line)
+static size_t replied;
+
+/* What a call that writes a text is given: the reply, and how long it is. */
+#define REPLY reply, sizeof reply, &replied
+
+static void write_part(icu_locale_status status)
 {
-    int byte;
-    line->length = 0;
-    while ((byte = getchar()) != EOF && byte != '\n') {
-        if (line->length == LINE)
-            stop("a line is too long");
-        line->bytes[line->length++] = (uint8_t)byte;
-    }
-    return byte == '\n' || line->length > 0;
+    if (status != ICU_LOCALE_DONE)
+        stop("a part is not there");
+    printf("%.*s", (int)replied, (const char *)reply);
 }
 
 static void write_refusal(icu_locale_status status)
 {
-    size_t length;
-    if (icu_locale_words(status, reply, sizeof reply, &length) != ICU_LOCALE_DONE)
-        stop("a status has no words");
-    printf("! %.*s", (int)length, (const char *)reply);
-}
-
-static void write_part(icu_locale_status status, size_t length)
-{
-    if (status != ICU_LOCALE_DONE)
-        stop("a part is not there");
-    printf("%.*s", (int)length, (const char *)reply);
+    fputs("! ", stdout);
+    write_part(icu_locale_words(status, REPLY));
 }
 
 static void write_field(icu_locale_t *locale, reading call)
 {
-    size_t length;
-    icu_locale_status status = call(locale, reply, sizeof reply, &length);
-    write_part(status, length);
+    write_part(call(locale, REPLY));
     putchar('\t');
-}
-
-static void write_item(icu_locale_t *locale, reading_at call, size_t at)
-{
-    size_t length;
-    icu_locale_status status = call(locale, at, reply, sizeof reply, &length);
-    write_part(status, length);
 }
 
 static void write_list(icu_locale_t *locale, size_t count, reading_at call, reading_at value)
@@ -80,10 +53,10 @@ static void write_list(icu_locale_t *locale, size_t count, reading_at call, read
     for (size_t at = 0; at < count; at++) {
         if (at > 0)
             putchar(',');
-        write_item(locale, call, at);
+        write_part(call(locale, at, REPLY));
         if (value != NULL) {
             putchar('=');
-            write_item(locale, value, at);
+            write_part(value(locale, at, REPLY));
         }
     }
     putchar('\t');
@@ -91,9 +64,8 @@ static void write_list(icu_locale_t *locale, size_t count, reading_at call, read
 
 static void write_transform_language(icu_locale_t *locale)
 {
-    size_t length;
-    icu_locale_status status = icu_locale_get_transform_language(locale, reply, sizeof reply, &length);
-    write_part(status == ICU_LOCALE_NOT_FOUND && length == 0 ? ICU_LOCALE_DONE : status, length);
+    icu_locale_status status = icu_locale_get_transform_language(locale, REPLY);
+    write_part(status == ICU_LOCALE_NOT_FOUND && replied == 0 ? ICU_LOCALE_DONE : status);
     putchar('\t');
 }
 
@@ -101,8 +73,7 @@ static void write_others(icu_locale_t *locale)
 {
     int is_first = 1;
     for (const char *at = "0123456789abcdefghijklmnopqrstuvwxyz"; *at; at++) {
-        size_t length;
-        icu_locale_status status = icu_locale_get_other(locale, (uint8_t)*at, reply, sizeof reply, &length);
+        icu_locale_status status = icu_locale_get_other(locale, (uint8_t)*at, REPLY);
         if (icu_locale_has_other(locale, (uint8_t)*at) != (status == ICU_LOCALE_DONE))
             stop("another extension is there, and is not");
         if (status == ICU_LOCALE_NOT_FOUND)
@@ -110,27 +81,24 @@ static void write_others(icu_locale_t *locale)
         if (!is_first)
             putchar(',');
         is_first = 0;
-        write_part(status, length);
+        write_part(status);
     }
     putchar('\t');
 }
 
 static void write_data_locale(icu_locale_t *locale, icu_locale_priority priority)
 {
-    size_t length;
-    icu_locale_status status = icu_locale_get_data_locale(locale, priority, reply, sizeof reply, &length);
-    write_part(status, length);
+    write_part(icu_locale_get_data_locale(locale, priority, REPLY));
     putchar('\t');
 }
 
 static void write_preference(icu_locale_t *locale, reading call)
 {
-    size_t length;
-    icu_locale_status status = call(locale, reply, sizeof reply, &length);
+    icu_locale_status status = call(locale, REPLY);
     if (status == ICU_LOCALE_NOT_FOUND)
         putchar('-');
     else
-        write_part(status, length);
+        write_part(status);
     putchar('\t');
 }
 
@@ -288,12 +256,12 @@ static int write_status(icu_locale_status status)
 }
 
 /* The value of a key, or of a singleton, if it is there. */
-static int write_value(icu_locale_status status, size_t length)
+static int write_value(icu_locale_status status)
 {
     if (status != ICU_LOCALE_DONE)
         return write_status(status);
     putchar('=');
-    write_part(status, length);
+    write_part(status);
     return 1;
 }
 
@@ -322,19 +290,14 @@ static uint8_t singleton(const struct text *text)
 static int take_question(icu_locale_t *at, const struct text *words)
 {
     const struct text *call = &words[0], *text = &words[2];
-    size_t length = 0;
     for (size_t i = 0; i < COUNT(questions); i++)
         if (is_word(call, questions[i].name))
             return printf("%d", questions[i].call(at, text->bytes, text->length));
     for (size_t i = 0; i < COUNT(maps); i++)
-        if (is_word(call, maps[i].get)) {
-            icu_locale_status status = maps[i].getting(at, text->bytes, text->length, reply, sizeof reply, &length);
-            return write_value(status, length);
-        }
-    if (is_word(call, "get-other")) {
-        icu_locale_status status = icu_locale_get_other(at, singleton(text), reply, sizeof reply, &length);
-        return write_value(status, length);
-    }
+        if (is_word(call, maps[i].get))
+            return write_value(maps[i].getting(at, text->bytes, text->length, REPLY));
+    if (is_word(call, "get-other"))
+        return write_value(icu_locale_get_other(at, singleton(text), REPLY));
     if (is_word(call, "remove-other"))
         return write_status(icu_locale_remove_other(at, singleton(text)));
     if (is_word(call, "against"))
@@ -359,11 +322,10 @@ static void write_data_orders(icu_locale_t *one, icu_locale_t *other)
     static const icu_locale_priority priorities[] = {ICU_LOCALE_BY_LANGUAGE, ICU_LOCALE_BY_REGION};
     for (size_t i = 0; i < COUNT(priorities); i++) {
         int8_t order = 9, back = 9, against = 9;
-        size_t length;
-        icu_locale_status status = icu_locale_get_data_locale(other, priorities[i], reply, sizeof reply, &length);
+        icu_locale_status status = icu_locale_get_data_locale(other, priorities[i], REPLY);
         if (status != ICU_LOCALE_DONE || icu_locale_data_cmp(one, other, priorities[i], &order) != ICU_LOCALE_DONE
             || icu_locale_data_cmp(other, one, priorities[i], &back) != ICU_LOCALE_DONE || order != -back
-            || icu_locale_data_cmp_bytes(one, priorities[i], reply, length, &against) != ICU_LOCALE_DONE)
+            || icu_locale_data_cmp_bytes(one, priorities[i], reply, replied, &against) != ICU_LOCALE_DONE)
             stop("data locales were not compared");
         printf("%s%d %d", i == 0 ? "" : " ", order, against);
     }
@@ -433,9 +395,7 @@ static void answer_script(void)
         if (!take_change(at, words) && !take_question(at, words))
             take_two(at, words);
         putchar('\t');
-        size_t length;
-        icu_locale_status status = icu_locale_to_string(at, reply, sizeof reply, &length);
-        write_part(status, length);
+        write_part(icu_locale_to_string(at, REPLY));
         putchar('\n');
     }
     for (size_t i = 0; i < COUNT(slots); i++)

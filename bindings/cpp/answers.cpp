@@ -183,6 +183,7 @@ static std::string take_step(std::array<locale, 4> &slots, const std::vector<std
     locale &it = slots.at(std::stoul(words.at(1)));
     const auto other = [&]() -> locale & { return slots.at(std::stoul(argument)); };
     const auto found = [](bool is_found) { return std::string(is_found ? "ok" : "none"); };
+    const auto told = [](const std::optional<std::string> &value) { return value ? "=" + *value : "none"; };
     if (call == "parse")
         return given([&] { it.assign(argument); });
     if (call == "language")
@@ -213,10 +214,8 @@ static std::string take_step(std::array<locale, 4> &slots, const std::vector<std
         return given([&] { it.set_private_extension(argument); });
     if (call == "set-field")
         return given([&] { it.set_field(argument, words.at(3)); });
-    if (call == "get-field") {
-        const auto value = it.field(argument);
-        return value ? "=" + *value : "none";
-    }
+    if (call == "get-field")
+        return told(it.field(argument));
     if (call == "remove-field")
         return found(it.remove_field(argument));
     if (call == "set-other")
@@ -225,7 +224,7 @@ static std::string take_step(std::array<locale, 4> &slots, const std::vector<std
         const auto value = it.other(argument.at(0));
         if (value.has_value() != it.has_other(argument.at(0)))
             std::abort();
-        return value ? "=" + *value : "none";
+        return told(value);
     }
     if (call == "remove-other")
         return found(it.remove_other(argument.at(0)));
@@ -237,10 +236,8 @@ static std::string take_step(std::array<locale, 4> &slots, const std::vector<std
         return given([&] { it.clear_fields(); });
     if (call == "set-keyword")
         return given([&] { it.set_keyword(argument, words.at(3)); });
-    if (call == "get-keyword") {
-        const auto value = it.keyword(argument);
-        return value ? "=" + *value : "none";
-    }
+    if (call == "get-keyword")
+        return told(it.keyword(argument));
     if (call == "remove-keyword")
         return found(it.remove_keyword(argument));
     if (call == "clear-keywords")

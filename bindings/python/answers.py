@@ -98,59 +98,50 @@ def two_objects(first, second):
     return f"{both} {against(one, second)}"
 
 
+# The attribute of a locale that has the keys which a step is about.
+MAPS = {"keyword": "keywords", "field": "fields", "other": "others"}
+
+
+def in_map(slots, at, does, part, word, *texts):
+    """What a step gives that sets, reads or removes a key of a map, or removes all."""
+    held = getattr(slots[at], part)
+    if does in ("get", "remove") and word not in held:
+        return "none"
+    if does == "get":
+        return f"={word}-{held[word]}" if part == "others" else f"={held[word]}"
+    if does == "set":
+        key, value = texts[0].partition(b"-")[::2] if part == "others" else texts
+        left = {**held, key: value}
+    else:
+        left = {key: value for key, value in held.items() if does == "remove" and key != word}
+    slots[at] = slots[at].replace(**{part: left})
+    return "ok"
+
+
 def take_step(slots, call, at, *given):
     """What a step gives. As a Locale does not change, another takes its place."""
     locale, texts = slots[at], list(given)
     word = texts[0].decode(errors="replace").lower() if texts else ""
+    does, _, name = call.rstrip("s").partition("-")
     if call in ("language", "script", "region"):
         slots[at] = locale.replace(**{call: texts[0]})
     elif call == "parse":
         slots[at] = Locale(texts[0])
-    elif call.startswith(("add-", "remove-", "has-", "clear-")) and call.rpartition("-")[2].rstrip("s") in ("variant", "attribute"):
-        what, name = call.rstrip("s").split("-")
+    elif name in ("variant", "attribute"):
         words = getattr(locale, f"{name}s")
-        if what == "has":
+        if does == "has":
             return int(word in words)
-        left = {"add": [*words, *texts], "remove": [it for it in words if it != word], "clear": []}[what]
+        left = {"add": [*words, *texts], "remove": [it for it in words if it != word], "clear": []}[does]
         slots[at] = locale.replace(**{f"{name}s": left})
-        return "none" if what == "remove" and len(left) == len(words) else "ok"
+        return "none" if does == "remove" and len(left) == len(words) else "ok"
     elif call in ("transform-language", "private"):
         slots[at] = locale.replace(**{call.replace("-", "_"): texts[0]})
-    elif call == "set-field":
-        slots[at] = locale.replace(fields={**locale.fields, texts[0]: texts[1]})
-    elif call == "get-field":
-        return f"={locale.fields[word]}" if word in locale.fields else "none"
-    elif call == "remove-field":
-        if word not in locale.fields:
-            return "none"
-        slots[at] = locale.replace(fields={key: value for key, value in locale.fields.items() if key != word})
-    elif call == "set-other":
-        key, _, value = texts[0].partition(b"-")
-        slots[at] = locale.replace(others={**locale.others, key: value})
-    elif call == "get-other":
-        return f"={word}-{locale.others[word]}" if word in locale.others else "none"
-    elif call == "remove-other":
-        if word not in locale.others:
-            return "none"
-        slots[at] = locale.replace(others={key: value for key, value in locale.others.items() if key != word})
+    elif name in MAPS:
+        return in_map(slots, at, does, MAPS[name], word, *texts)
     elif call == "extend":
         slots[at] = locale.extend_unicode(slots[int(word)])
     elif call == "compare-data":
         return compared_data(locale, slots[int(word)])
-    elif call == "clear-fields":
-        slots[at] = locale.replace(fields={})
-    elif call == "set-keyword":
-        slots[at] = locale.replace(keywords={**locale.keywords, texts[0]: texts[1]})
-    elif call == "clear-keywords":
-        slots[at] = locale.replace(keywords={})
-    elif call in ("get-keyword", "remove-keyword"):
-        keywords = dict(locale.keywords)
-        value = keywords.pop(word, None)
-        if value is None:
-            return "none"
-        if call == "get-keyword":
-            return f"={value}"
-        slots[at] = locale.replace(keywords=keywords)
     elif call in ("copy", "move"):
         slots[at] = slots[int(word)]
         if call == "move" and int(word) != at:

@@ -81,6 +81,15 @@ def place(call, *words):
         return (read.start, read.end, read.piece) if read.piece == again.piece else (again.start, again.end, again.piece)
 
 
+def in_threads(call, every):
+    """Makes the call with each of these arguments, in a thread for each."""
+    threads = [threading.Thread(target=call, args=it) for it in every]
+    for it in threads:
+        it.start()
+    for it in threads:
+        it.join()
+
+
 def at_once():
     """What threads find that normalize texts of their own at the same time, of which each would be wrong if two shared room."""
     wrong = []
@@ -89,11 +98,7 @@ def at_once():
         text = f"EN-x-{number}" + "-abcdefgh" * number
         wrong.extend(it for it in (normalize(text) for _ in range(3000)) if it != text.replace("EN", "en"))
 
-    threads = [threading.Thread(target=look, args=(it,)) for it in range(8)]
-    for it in threads:
-        it.start()
-    for it in threads:
-        it.join()
+    in_threads(look, [(it,) for it in range(8)])
     return wrong
 
 
@@ -129,11 +134,7 @@ def shared():
             if locales[first].strict_cmp(texts[first]) or (locales[first] < locales[second]) != (first > second):
                 wrong.append(texts[first][:5])
 
-    threads = [threading.Thread(target=look, args=it) for it in ((0, 1), (1, 0)) * 4]
-    for it in threads:
-        it.start()
-    for it in threads:
-        it.join()
+    in_threads(look, ((0, 1), (1, 0)) * 4)
     return wrong
 
 

@@ -69,16 +69,8 @@ impl Hasher for Kept {
 
 fn parts(it: &Locale) -> String {
     let optional = |part: Option<String>| part.unwrap_or_default();
-    let keywords: Vec<String> = it
-        .keywords()
-        .iter()
-        .map(|(key, value)| format!("{key}={value}"))
-        .collect();
-    let fields: Vec<String> = it
-        .fields()
-        .iter()
-        .map(|(key, value)| format!("{key}={value}"))
-        .collect();
+    let keywords: Vec<String> = it.keywords().iter().map(|(key, value)| format!("{key}={value}")).collect();
+    let fields: Vec<String> = it.fields().iter().map(|(key, value)| format!("{key}={value}")).collect();
     let others: Vec<String> = ('0'..='z')
         .filter(|singleton| !singleton.is_ascii_uppercase())
         .filter_map(|singleton| it.other(singleton))
@@ -163,10 +155,6 @@ fn optional<T>(text: &[u8], parsed: fn(&[u8]) -> Result<T, ParseError>) -> Resul
     }
 }
 
-fn ok() -> String {
-    "ok".to_owned()
-}
-
 fn found(is_found: bool) -> String {
     if is_found { "ok" } else { "none" }.to_owned()
 }
@@ -179,109 +167,81 @@ fn lossy(text: &[u8]) -> String {
     String::from_utf8_lossy(text).into_owned()
 }
 
-fn take_step(slots: &mut [Locale; 4], words: &[&[u8]]) -> Result<String, ParseError> {
-    let number = |word: &[u8]| word.first().map_or(0, |digit| (digit - b'0') as usize);
-    let (at, text) = (number(words[1]), words.get(2).copied().unwrap_or(b""));
-    let other = if text.len() == 1 { number(text) % 4 } else { 0 };
-    let has_before = |it: &Locale, variant: &Variant| it.variants().contains(variant);
-    Ok(match words[0] {
-        b"parse" => {
-            slots[at] = Locale::try_from_utf8(text)?;
-            ok()
-        }
-        b"language" => {
-            slots[at].set_language(optional(text, Language::try_from_utf8)?.unwrap_or_default());
-            ok()
-        }
-        b"script" => {
-            slots[at].set_script(optional(text, Script::try_from_utf8)?);
-            ok()
-        }
-        b"region" => {
-            slots[at].set_region(optional(text, Region::try_from_utf8)?);
-            ok()
-        }
+fn number(word: &[u8]) -> usize {
+    word.first().map_or(0, |digit| (digit - b'0') as usize)
+}
+
+/// The text of a step, and the number of the other locale that it may name.
+fn given<'a>(words: &[&'a [u8]]) -> (&'a [u8], usize) {
+    let text = words.get(2).copied().unwrap_or(b"");
+    (text, if text.len() == 1 { number(text) % 4 } else { 0 })
+}
+
+/// Takes a step that changes a locale and tells nothing, and returns whether it is one.
+fn take_change(slots: &mut [Locale; 4], words: &[&[u8]]) -> Result<bool, ParseError> {
+    let (at, (text, other)) = (number(words[1]), given(words));
+    match words[0] {
+        b"parse" => slots[at] = Locale::try_from_utf8(text)?,
+        b"language" => slots[at].set_language(optional(text, Language::try_from_utf8)?.unwrap_or_default()),
+        b"script" => slots[at].set_script(optional(text, Script::try_from_utf8)?),
+        b"region" => slots[at].set_region(optional(text, Region::try_from_utf8)?),
         b"add-variant" => {
             let variant = Variant::try_from_utf8(text)?;
-            let was_there = has_before(&slots[at], &variant);
+            let was_there = slots[at].variants().contains(&variant);
             assert_ne!(slots[at].push_variant(variant), was_there);
-            ok()
         }
-        b"remove-variant" => found(Variant::try_from_utf8(text).is_ok_and(|it| slots[at].remove_variant(&it))),
-        b"has-variant" => bit(Variant::try_from_utf8(text).is_ok_and(|it| slots[at].has_variant(&it))),
-        b"clear-variants" => {
-            slots[at].clear_variants();
-            ok()
-        }
+        b"clear-variants" => slots[at].clear_variants(),
         b"add-attribute" => {
             slots[at].push_attribute(Attribute::try_from_utf8(text)?);
-            ok()
         }
-        b"remove-attribute" => found(Attribute::try_from_utf8(text).is_ok_and(|it| slots[at].remove_attribute(&it))),
-        b"has-attribute" => bit(Attribute::try_from_utf8(text).is_ok_and(|it| slots[at].has_attribute(&it))),
-        b"clear-attributes" => {
-            slots[at].clear_attributes();
-            ok()
-        }
-        b"transform-language" => {
-            slots[at].set_transform_language(&lossy(text))?;
-            ok()
-        }
-        b"private" => {
-            slots[at].set_private_extension(&lossy(text))?;
-            ok()
-        }
-        b"set-field" => {
-            slots[at].set_field(&lossy(text), &lossy(words[3]))?;
-            ok()
-        }
-        b"get-field" => slots[at]
-            .field(&lossy(text))
-            .map_or_else(|| found(false), |it| format!("={it}")),
-        b"remove-field" => found(slots[at].remove_field(&lossy(text)).is_some()),
-        b"set-other" => {
-            slots[at].set_other(&lossy(text))?;
-            ok()
-        }
-        b"get-other" => {
-            let (singleton, it) = (lossy(text).chars().next().unwrap_or('!'), &slots[at]);
-            assert_eq!(it.has_other(singleton), it.other(singleton).is_some());
-            it.other(singleton).map_or_else(|| found(false), |it| format!("={it}"))
-        }
-        b"remove-other" => found(slots[at].remove_other(lossy(text).chars().next().unwrap_or('!'))),
+        b"clear-attributes" => slots[at].clear_attributes(),
+        b"transform-language" => slots[at].set_transform_language(&lossy(text))?,
+        b"private" => slots[at].set_private_extension(&lossy(text))?,
+        b"set-field" => slots[at].set_field(&lossy(text), &lossy(words[3]))?,
+        b"clear-fields" => slots[at].clear_fields(),
+        b"set-other" => slots[at].set_other(&lossy(text))?,
         b"extend" => {
             let from = slots[other].clone();
             slots[at].extend_unicode(&from);
-            ok()
-        }
-        b"compare-data" => compare_data(&slots[at], &slots[other]),
-        b"clear-fields" => {
-            slots[at].clear_fields();
-            ok()
         }
         b"set-keyword" => {
             let (key, value) = (Key::try_from_utf8(text)?, Value::try_from_utf8(words[3])?);
             let before = slots[at].keyword(&key);
             assert_eq!(slots[at].set_keyword(key, value), before);
-            ok()
         }
+        b"clear-keywords" => slots[at].clear_keywords(),
+        b"copy" => slots[at] = slots[other].clone(),
+        b"move" => slots[at] = mem::take(&mut slots[other]),
+        _ => return Ok(false),
+    }
+    Ok(true)
+}
+
+fn take_step(slots: &mut [Locale; 4], words: &[&[u8]]) -> Result<String, ParseError> {
+    if take_change(slots, words)? {
+        return Ok(found(true));
+    }
+    let (at, (text, other)) = (number(words[1]), given(words));
+    let value = |read: Option<String>| read.map_or_else(|| found(false), |it| format!("={it}"));
+    Ok(match words[0] {
+        b"remove-variant" => found(Variant::try_from_utf8(text).is_ok_and(|it| slots[at].remove_variant(&it))),
+        b"has-variant" => bit(Variant::try_from_utf8(text).is_ok_and(|it| slots[at].has_variant(&it))),
+        b"remove-attribute" => found(Attribute::try_from_utf8(text).is_ok_and(|it| slots[at].remove_attribute(&it))),
+        b"has-attribute" => bit(Attribute::try_from_utf8(text).is_ok_and(|it| slots[at].has_attribute(&it))),
+        b"get-field" => value(slots[at].field(&lossy(text))),
+        b"remove-field" => found(slots[at].remove_field(&lossy(text)).is_some()),
+        b"get-other" => {
+            let (singleton, it) = (lossy(text).chars().next().unwrap_or('!'), &slots[at]);
+            assert_eq!(it.has_other(singleton), it.other(singleton).is_some());
+            value(it.other(singleton))
+        }
+        b"remove-other" => found(slots[at].remove_other(lossy(text).chars().next().unwrap_or('!'))),
+        b"compare-data" => compare_data(&slots[at], &slots[other]),
         b"get-keyword" => {
-            let value = Key::try_from_utf8(text).ok().and_then(|it| slots[at].keyword(&it));
-            value.map_or_else(|| found(false), |it| format!("={it}"))
+            let read = Key::try_from_utf8(text).ok().and_then(|it| slots[at].keyword(&it));
+            value(read.map(|it| it.to_string()))
         }
         b"remove-keyword" => found(Key::try_from_utf8(text).is_ok_and(|it| slots[at].remove_keyword(&it).is_some())),
-        b"clear-keywords" => {
-            slots[at].clear_keywords();
-            ok()
-        }
-        b"copy" => {
-            slots[at] = slots[other].clone();
-            ok()
-        }
-        b"move" => {
-            slots[at] = mem::take(&mut slots[other]);
-            ok()
-        }
         b"compare" => compare_objects(&slots[at], &slots[other]),
         b"against" => against(&slots[at], text),
         b"parts" => parts(&slots[at]),
@@ -293,14 +253,14 @@ fn refused(error: ParseError) -> String {
     format!("! {}", error.kind())
 }
 
-fn answer_script(lines: &[Vec<u8>], out: &mut impl Write) -> io::Result<()> {
+fn answer_script(lines: &[Vec<u8>]) -> Vec<String> {
     let mut slots: [Locale; 4] = Default::default();
-    for line in lines {
+    let mut answer = |line: &Vec<u8>| {
         let words: Vec<&[u8]> = line.split(|it| *it == b'\t').collect();
         let answer = take_step(&mut slots, &words).unwrap_or_else(refused);
-        writeln!(out, "{answer}\t{}", slots[(words[1][0] - b'0') as usize])?;
-    }
-    Ok(())
+        format!("{answer}\t{}", slots[number(words[1])])
+    };
+    lines.iter().map(&mut answer).collect()
 }
 
 fn mode_of(word: &str) -> Mode {
@@ -314,50 +274,34 @@ fn mode_of(word: &str) -> Mode {
     }
 }
 
-fn answer_texts(word: &str, lines: &[Vec<u8>], out: &mut impl Write) -> io::Result<()> {
+/// The answers to each two lines.
+fn of_pairs(lines: &[Vec<u8>], answer: impl Fn(&[u8], &[u8]) -> Result<String, ParseError>) -> Vec<String> {
+    lines.chunks_exact(2).map(|pair| answer(&pair[0], &pair[1]).unwrap_or_else(refused)).collect()
+}
+
+fn answer_texts(word: &str, lines: &[Vec<u8>]) -> Vec<String> {
     if let Some(word) = word.strip_prefix("faults-") {
-        for line in lines {
-            writeln!(out, "{}", fault(mode_of(word), line))?;
-        }
-        return Ok(());
+        lines.iter().map(|line| fault(mode_of(word), line)).collect()
+    } else if let Some(word) = word.strip_prefix("pairs-") {
+        of_pairs(lines, |first, second| compare_pair(mode_of(word), first, second))
+    } else {
+        lines.iter().map(|line| answer(mode_of(word), line)).collect()
     }
-    match word.strip_prefix("pairs-") {
-        None => {
-            for line in lines {
-                writeln!(out, "{}", answer(mode_of(word), line))?;
-            }
-        }
-        Some(word) => {
-            for pair in lines.chunks_exact(2) {
-                let compared = compare_pair(mode_of(word), &pair[0], &pair[1]);
-                writeln!(out, "{}", compared.unwrap_or_else(refused))?;
-            }
-        }
-    }
-    Ok(())
 }
 
 fn main() -> io::Result<()> {
     let word = std::env::args().nth(1).unwrap_or_default();
     let lines: Vec<Vec<u8>> = io::stdin().lock().split(b'\n').collect::<io::Result<_>>()?;
+    let object = |line: &Vec<u8>| Locale::try_from_utf8(line).map_or_else(refused, |it| parts(&it));
+    let answers: Vec<String> = match word.as_str() {
+        "objects" => lines.iter().map(object).collect(),
+        "two-objects" => of_pairs(&lines, two_objects),
+        "script" => answer_script(&lines),
+        word => answer_texts(word, &lines),
+    };
     let mut out = BufWriter::new(io::stdout().lock());
-    match word.as_str() {
-        "objects" => {
-            for line in &lines {
-                writeln!(
-                    out,
-                    "{}",
-                    Locale::try_from_utf8(line).map_or_else(refused, |it| parts(&it))
-                )?;
-            }
-        }
-        "two-objects" => {
-            for pair in lines.chunks_exact(2) {
-                writeln!(out, "{}", two_objects(&pair[0], &pair[1]).unwrap_or_else(refused))?;
-            }
-        }
-        "script" => answer_script(&lines, &mut out)?,
-        word => answer_texts(word, &lines, &mut out)?,
+    for it in answers {
+        writeln!(out, "{it}")?;
     }
     out.flush()
 }

@@ -138,62 +138,38 @@ pub fn check(mode: Mode, text: impl AsRef<[u8]>) -> Result<(), ParseError> {
     text_result(unsafe { sys::icu_locale_check(mode.number(), text.as_ptr(), text.len()) }, mode, text)
 }
 
+type Comparing<T> = unsafe extern "C" fn(u32, *const u8, usize, *const u8, usize, *mut T) -> u32;
+
+/// The status of a call on two texts, and what it writes.
+fn compared<T: Default>(call: Comparing<T>, mode: Mode, text: &[u8], other: &[u8]) -> Result<(u32, T), ParseError> {
+    look_at_version()?;
+    let mut answer = T::default();
+    // SAFETY: pointers and lengths are those of slices, and what is written to lives here.
+    let status =
+        unsafe { call(mode.number(), text.as_ptr(), text.len(), other.as_ptr(), other.len(), &mut answer) };
+    Ok((status, answer))
+}
+
 /// The byte order of the text's normal form against other bytes, as they stand.
 pub fn strict_cmp(mode: Mode, text: impl AsRef<[u8]>, other: impl AsRef<[u8]>) -> Result<Ordering, ParseError> {
-    look_at_version()?;
-    let (text, other) = (text.as_ref(), other.as_ref());
-    let mut order = 0;
-    // SAFETY: pointers and lengths are those of slices, and what is written to lives here.
-    let status = unsafe {
-        sys::icu_locale_strict_cmp(
-            mode.number(),
-            text.as_ptr(),
-            text.len(),
-            other.as_ptr(),
-            other.len(),
-            &mut order,
-        )
-    };
+    let text = text.as_ref();
+    let (status, order) = compared(sys::icu_locale_strict_cmp, mode, text, other.as_ref())?;
     text_result(status, mode, text)?;
     Ok(order.cmp(&0))
 }
 
 /// Whether both texts have the same meaning. Only the first is refused.
 pub fn normalizing_eq(mode: Mode, text: impl AsRef<[u8]>, other: impl AsRef<[u8]>) -> Result<bool, ParseError> {
-    look_at_version()?;
-    let (text, other) = (text.as_ref(), other.as_ref());
-    let mut same = 0;
-    // SAFETY: pointers and lengths are those of slices, and what is written to lives here.
-    let status = unsafe {
-        sys::icu_locale_normalizing_eq(
-            mode.number(),
-            text.as_ptr(),
-            text.len(),
-            other.as_ptr(),
-            other.len(),
-            &mut same,
-        )
-    };
+    let text = text.as_ref();
+    let (status, same) = compared(sys::icu_locale_normalizing_eq, mode, text, other.as_ref())?;
     text_result(status, mode, text)?;
     Ok(same == 1)
 }
 
 /// The byte order of the normal forms of both texts.
 pub fn compare(mode: Mode, text: impl AsRef<[u8]>, other: impl AsRef<[u8]>) -> Result<Ordering, ParseError> {
-    look_at_version()?;
     let (text, other) = (text.as_ref(), other.as_ref());
-    let mut order = 0;
-    // SAFETY: pointers and lengths are those of slices, and what is written to lives here.
-    let status = unsafe {
-        sys::icu_locale_compare(
-            mode.number(),
-            text.as_ptr(),
-            text.len(),
-            other.as_ptr(),
-            other.len(),
-            &mut order,
-        )
-    };
+    let (status, order) = compared(sys::icu_locale_compare, mode, text, other)?;
     if status != sys::DONE {
         // The first text is refused first.
         text_result(status, mode, if check(mode, text).is_err() { text } else { other })?;

@@ -237,16 +237,9 @@ impl Locale {
 
     /// The keywords of the extension `u`, by ascending key.
     pub fn keywords(&self) -> Vec<(Key, Value)> {
-        let keys = self.list(
-            sys::icu_locale_keyword_count,
-            sys::icu_locale_get_keyword_key,
-            Key::of_normal,
-        );
-        let values = self.list(
-            sys::icu_locale_keyword_count,
-            sys::icu_locale_get_keyword_value,
-            Value::of_normal,
-        );
+        let count = sys::icu_locale_keyword_count;
+        let keys = self.list(count, sys::icu_locale_get_keyword_key, Key::of_normal);
+        let values = self.list(count, sys::icu_locale_get_keyword_value, Value::of_normal);
         keys.into_iter().zip(values).collect()
     }
 
@@ -316,11 +309,7 @@ impl Locale {
 
     /// The identifier of the extension `t`, such as `de-Latn` in `en-t-de-latn`.
     pub fn transform_language(&self) -> Option<String> {
-        // SAFETY: `read` says so.
-        let call = |handle, buffer, room, needed| unsafe {
-            sys::icu_locale_get_transform_language(handle, buffer, room, needed)
-        };
-        self.read(call, str::to_owned)
+        self.optional(sys::icu_locale_get_transform_language, str::to_owned)
     }
 
     /// Sets the identifier of the extension `t`; an empty text removes it. Any other text than an identifier is refused
@@ -333,16 +322,8 @@ impl Locale {
 
     /// The fields of the extension `t`, by ascending key.
     pub fn fields(&self) -> Vec<(String, String)> {
-        let keys = self.list(
-            sys::icu_locale_field_count,
-            sys::icu_locale_get_field_key,
-            str::to_owned,
-        );
-        let values = self.list(
-            sys::icu_locale_field_count,
-            sys::icu_locale_get_field_value,
-            str::to_owned,
-        );
+        let keys = self.list(sys::icu_locale_field_count, sys::icu_locale_get_field_key, str::to_owned);
+        let values = self.list(sys::icu_locale_field_count, sys::icu_locale_get_field_value, str::to_owned);
         keys.into_iter().zip(values).collect()
     }
 
@@ -462,25 +443,17 @@ impl Locale {
 
     /// The calendar of the keyword `ca`, as formatters parse it: `islamic-civil` from `en-u-ca-islamicc`.
     pub fn calendar_algorithm(&self) -> Option<Value> {
-        self.preference(sys::icu_locale_get_calendar_algorithm)
+        self.optional(sys::icu_locale_get_calendar_algorithm, Value::of_normal)
     }
 
     /// The hour cycle of the keyword `hc`, such as `h12`.
     pub fn hour_cycle(&self) -> Option<Value> {
-        self.preference(sys::icu_locale_get_hour_cycle)
+        self.optional(sys::icu_locale_get_hour_cycle, Value::of_normal)
     }
 
     /// The numbering system of the keyword `nu`, such as `latn`.
     pub fn numbering_system(&self) -> Option<Value> {
-        self.preference(sys::icu_locale_get_numbering_system)
-    }
-
-    fn preference(&self, call: Reading) -> Option<Value> {
-        // SAFETY: `read` says so.
-        self.read(
-            |handle, buffer, room, needed| unsafe { call(handle, buffer, room, needed) },
-            Value::of_normal,
-        )
+        self.optional(sys::icu_locale_get_numbering_system, Value::of_normal)
     }
 
     fn try_set(&mut self, call: Setting, text: &str) -> Result<(), ParseError> {
@@ -503,14 +476,15 @@ impl Locale {
         unsafe { call(self.handle(), text.as_ptr(), text.len()) }
     }
 
+    /// A part, if it is there.
+    fn optional<R>(&self, call: Reading, then: impl FnOnce(&str) -> R) -> Option<R> {
+        // SAFETY: `read` says so.
+        self.read(|handle, buffer, room, needed| unsafe { call(handle, buffer, room, needed) }, then)
+    }
+
     /// A part that is always there.
     fn part<R>(&self, call: Reading, then: impl FnOnce(&str) -> R) -> R {
-        // SAFETY: `read` says so.
-        let read = self.read(
-            |handle, buffer, room, needed| unsafe { call(handle, buffer, room, needed) },
-            then,
-        );
-        read.expect("the part is there")
+        self.optional(call, then).expect("the part is there")
     }
 
     fn list<R>(&self, count: Counting, call: ReadingAt, then: impl Fn(&str) -> R) -> Vec<R> {

@@ -26,6 +26,32 @@ impl Short {
     }
 }
 
+/// What has `try_from_str` and `as_str` is parsed and printed by them.
+macro_rules! text {
+    ($name:ident) => {
+        impl FromStr for $name {
+            type Err = ParseError;
+
+            fn from_str(text: &str) -> Result<Self, ParseError> {
+                Self::try_from_str(text)
+            }
+        }
+
+        /// It honors the width and the alignment that are asked for.
+        impl fmt::Display for $name {
+            fn fmt(&self, f: &mut fmt::Formatter<'_>) -> fmt::Result {
+                f.pad(self.as_str())
+            }
+        }
+
+        impl fmt::Debug for $name {
+            fn fmt(&self, f: &mut fmt::Formatter<'_>) -> fmt::Result {
+                f.debug_tuple(stringify!($name)).field(&self.as_str()).finish()
+            }
+        }
+    };
+}
+
 macro_rules! subtag {
     ($(#[$about:meta])* $name:ident, $refusal:ident, $parsed:expr) => {
         $(#[$about])*
@@ -68,26 +94,7 @@ macro_rules! subtag {
             }
         }
 
-        impl FromStr for $name {
-            type Err = ParseError;
-
-            fn from_str(text: &str) -> Result<Self, ParseError> {
-                Self::try_from_str(text)
-            }
-        }
-
-        /// It honors the width and the alignment that are asked for.
-        impl fmt::Display for $name {
-            fn fmt(&self, f: &mut fmt::Formatter<'_>) -> fmt::Result {
-                f.pad(self.as_str())
-            }
-        }
-
-        impl fmt::Debug for $name {
-            fn fmt(&self, f: &mut fmt::Formatter<'_>) -> fmt::Result {
-                f.debug_tuple(stringify!($name)).field(&self.as_str()).finish()
-            }
-        }
+        text!($name);
     };
 }
 
@@ -218,23 +225,4 @@ impl PartialEq<&str> for Value {
     }
 }
 
-impl FromStr for Value {
-    type Err = ParseError;
-
-    fn from_str(text: &str) -> Result<Self, ParseError> {
-        Self::try_from_str(text)
-    }
-}
-
-/// It honors the width and the alignment that are asked for.
-impl fmt::Display for Value {
-    fn fmt(&self, f: &mut fmt::Formatter<'_>) -> fmt::Result {
-        f.pad(&self.0)
-    }
-}
-
-impl fmt::Debug for Value {
-    fn fmt(&self, f: &mut fmt::Formatter<'_>) -> fmt::Result {
-        f.debug_tuple("Value").field(&self.0).finish()
-    }
-}
+text!(Value);
