@@ -244,16 +244,16 @@ impl<T: Copy> ShortWords<T> {
         ensures succeeds { length self.now ≤ 4 → IsOk result }
     {
         match &self.kept {
-            Kept::Empty(_) => Ok(ShortWords::new()),
-            Kept::Inline(count, few) => Ok(ShortWords {
-                kept: Kept::Inline(*count, few.copied()),
-            }),
             Kept::Heap(items) => {
                 let all = Vec::from_slice(*items.allocator(), items.as_slice())?;
                 Ok(ShortWords {
                     kept: Kept::Heap(all),
                 })
             }
+            Kept::Inline(count, few) => Ok(ShortWords {
+                kept: Kept::Inline(*count, few.copied()),
+            }),
+            Kept::Empty(_) => Ok(ShortWords::new()),
         }
     }
 }
