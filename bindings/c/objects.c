@@ -14,7 +14,6 @@
 #include <stdlib.h>
 #include <string.h>
 
-
 typedef icu_locale_status (*reading)(const icu_locale_t *, uint8_t *, size_t, size_t *);
 typedef icu_locale_status (*reading_at)(const icu_locale_t *, size_t, uint8_t *, size_t, size_t *);
 

@@ -13,7 +13,8 @@ turned a b = grind (arith, nat_tests)
 pub returns-clause-value : goal.returns-clause-value
 unfolding is_true
 returns-clause-value g c =
-    let text = bytes-tiny 8 c.args.word.now (g.met.K.WordKind.fits c.args.word.now c.to_piece.ensures.normal.0) in
+    let text =
+    bytes-tiny 8 c.args.word.now (g.met.K.WordKind.fits c.args.word.now c.to_piece.ensures.normal.0) in
     let same = c.number.ensures ∙ ap number c.to_piece.ensures.value in
     turned c.number.result 1702195828 ∙ ap (eqb 1702195828) same
     ∙ number_same (codes "true") c.args.word.now refl text ∙ texts_ties (codes "true") c.args.word.now

@@ -16,7 +16,8 @@ module _ (c : goal.After-of_number) where
   raised : c.of_number.result ≡ upper c.args.self
   raised =
       let known = currency_upper c.args.self c.to_piece.ensures.normal in
-      let same : c.number.result ≡ number c.args.self = c.number.ensures ∙ ap number c.to_piece.ensures.value in
+      let same : c.number.result ≡ number c.args.self =
+      c.number.ensures ∙ ap number c.to_piece.ensures.value in
       c.of_number.ensures (upper c.args.self) (second_so _ _ known.1) (omega (arith, known.0, same))
 
   fits : is_tiny_text 3 c.of_number.result ≡ true
