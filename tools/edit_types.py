@@ -6,7 +6,7 @@ texts stand apart are put through together. If the front end refuses them, each 
 refused ones are known."""
 import concurrent.futures
 
-from edit_sums import edits_of
+from edit_kept import edits_of
 from edit_trial import Edit, name_of, say, together
 from kit import lanes, rt, rtlib
 

@@ -8,7 +8,7 @@ import pathlib
 import re
 
 import part_rows
-from antt_layout import WIDTH
+from written import SPECS_WIDTH as WIDTH
 from common import ROOT, below, crates_of, read, rows_of, stop
 
 SAID = "two three four five six seven eight nine ten eleven twelve thirteen fourteen fifteen sixteen".split()

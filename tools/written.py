@@ -7,7 +7,8 @@ import textwrap
 
 from common import counted, differing, parser, read, write
 
-WIDTH = 100
+# (of code, and of definitions and proofs)
+WIDTH, SPECS_WIDTH = 100, 110
 
 
 def fill(units, width=WIDTH, first="", indent=""):
@@ -35,6 +36,20 @@ def one_or_filled(head, names, tail, indent):
         return line
     inner = indent + "    "
     return f"{indent}{head}{{\n{fill([f'{it},' for it in names], WIDTH - 1, inner, inner)}\n{indent}}}{tail}"
+
+
+def shortened(text):
+    """Returns definitions whose long lines are broken: an import has a line for each name, all else is broken at a blank."""
+    lines = []
+    for line in text.split("\n"):
+        head, bracket, names = line.partition(".{")
+        if len(line) <= SPECS_WIDTH:
+            lines.append(line)
+        elif line.startswith("use "):
+            lines += [head + bracket, *(f"  {it}," for it in names[:-1].split(", ")), "}"]
+        else:
+            lines.append(fill(line.split(" "), SPECS_WIDTH, "", "    "))
+    return "\n".join(lines)
 
 
 def replaced(text, pattern, new, path):

@@ -17,13 +17,32 @@ use Rattle.iloc_spec_grammar.specs.Values.{IsNormal, spelled_value}
 use Rattle.iloc_spec_parts.specs.Orders.{pair_cmp}
 use Rattle.iloc_word_list.specs.Values as values
 use Rattle.iloc_spec_parts.specs.SingleValues.{single}
-use Rattle.iloc_spec_parts.specs.Keywords.{EnumKeyword, CalendarAlgorithm, CollationType, CollationCaseFirst}
-use Rattle.iloc_spec_parts.specs.Keywords.{CollationNumericOrdering, CurrencyFormatStyle}
-use Rattle.iloc_spec_parts.specs.Keywords.{EmojiPresentationStyle, FirstDay, HourCycle, LineBreakStyle}
-use Rattle.iloc_spec_parts.specs.Keywords.{LineBreakWordHandling, MeasurementSystem, MeasurementUnitOverride}
-use Rattle.iloc_spec_parts.specs.Keywords.{SentenceBreakSupressions, CommonVariantType, EnumValue, numbered}
-use Rattle.iloc_spec_parts.specs.Keywords.{variants, further_readings, readings, unspelled_value, enum_reads}
-use Rattle.iloc_spec_parts.specs.Keywords.{enum_words, enum_gives}
+use Rattle.iloc_spec_parts.specs.Keywords.{
+  EnumKeyword,
+  CalendarAlgorithm,
+  CollationType,
+  CollationCaseFirst,
+  CollationNumericOrdering,
+  CurrencyFormatStyle,
+  EmojiPresentationStyle,
+  FirstDay,
+  HourCycle,
+  LineBreakStyle,
+  LineBreakWordHandling,
+  MeasurementSystem,
+  MeasurementUnitOverride,
+  SentenceBreakSupressions,
+  CommonVariantType,
+  EnumValue,
+  numbered,
+  variants,
+  further_readings,
+  readings,
+  unspelled_value,
+  enum_reads,
+  enum_words,
+  enum_gives,
+}
 use Rattle.iloc_spec_parts.proofs.KeywordLaws.{reads_what_it_gives}
 use Rattle.iloc_word_list.specs.declared.errors.PreferencesParseError.TheVariants.{InvalidKeywordValue}
 use Rattle.iloc_keyword_types.specs.WordTables.{table_place, word_at}
