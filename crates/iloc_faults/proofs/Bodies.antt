@@ -18,7 +18,7 @@ use Rattle.iloc_faults.proofs.Words.{good, repeats}
 use Rattle.iloc_spec_grammar.proofs.Readings.{language_no_key, identifier_no_key}
 use Rattle.iloc_faults.specs.declared.state.Stage.{Stage}
 use Rattle.iloc_faults.specs.declared.state.Stage.TheVariants as stages
-use Rattle.iloc_pieces.proofs.AttributeLemmas.{and-true}
+use Rattle.iloc_pieces.proofs.RunWords.{and-true}
 use Rattle.iloc_spec_parts.proofs.BrokenBlocks.{two_no_attribute}
 
 pub or_false : (a : Bool) → (a || false) ≡ a

@@ -23,7 +23,7 @@ use Rattle.iloc_faults.proofs.Words.{good, repeats, good_end}
 use Rattle.iloc_faults.proofs.Bodies.{of_unicode, unicode_is, has_length, after_value, after_key}
 use Rattle.iloc_faults.proofs.Bodies.{or_false}
 use Rattle.iloc_faults.proofs.Bodies.{after_word, repeats_none}
-use Rattle.iloc_pieces.proofs.AttributeLemmas.{and-true}
+use Rattle.iloc_pieces.proofs.RunWords.{and-true}
 
 -- the fault of the blocks that follow, if the block is good
 abbrev pub block_answer : Bool → Text → List Text → Option Fault

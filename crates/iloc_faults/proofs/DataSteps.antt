@@ -29,7 +29,7 @@ use Rattle.iloc_faults.specs.Next.{plain, started, after_region_next, after_scri
 use Rattle.iloc_faults.proofs.Words.{tail}
 use Rattle.iloc_faults.proofs.Bodies.{and_assoc}
 use Rattle.iloc_faults.proofs.Claims.{in_words}
-use Rattle.iloc_pieces.proofs.AttributeLemmas.{and-true}
+use Rattle.iloc_pieces.proofs.RunWords.{and-true}
 
 -- whether there is no fault
 abbrev pub fine : Option Fault → Bool

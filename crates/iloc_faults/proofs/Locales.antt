@@ -26,7 +26,7 @@ use Rattle.iloc_faults.proofs.Bodies.{field_is, key_no_language, key_no_script, 
 use Rattle.iloc_faults.proofs.Bodies.{transform_is, repeats_is, identifier_is}
 use Rattle.iloc_faults.proofs.Claims.{Claims, block_answer, transform_answer, head_answer, in_words, Differ}
 use Rattle.iloc_faults.proofs.Claims.{at_end, begins}
-use Rattle.iloc_pieces.proofs.AttributeLemmas.{and-true}
+use Rattle.iloc_pieces.proofs.RunWords.{and-true}
 
 many : (vs : List Text) (v : Text) →
     Rattle.iloc_faults.specs.Next.is_new Locale vs v ≡ not (list_any (eq_by_cmp word_cmp v) vs)

@@ -38,86 +38,13 @@ use Rattle.iloc_spec_parts.specs.DataComputing.{data_result, data_of_result}
 use Rattle.iloc_subtags.specs.declared.parse_error.ParseError.TheVariants.{InvalidSubtag, InvalidExtension}
 use Rattle.iloc_pieces.specs.Front.{GoesOn, HasBlock}
 use Rattle.iloc_pieces.specs.Window.{text_in}
-use Rattle.iloc_pieces.specs.Keyword.{IsKeywordOf, IsSingle, after_singleton}
 use Rattle.iloc_pieces.specs.declared.window.Window.{Window}
-use Rattle.iloc_pieces.specs.declared.keyword.Keyword.TheVariants as keyword
 use Rattle.iloc_normalize.specs.Answered.{HasRefusal}
 use Rattle.iloc_normalize.specs.declared.Mode.TheVariants.{Data}
 use Rattle.iloc_normalize.proofs.FrontAnswers.{BeginsWell, blocks_left, data_fault, data_refused}
 use Rattle.iloc_pieces.proofs.RunWords.{and-false}
 use Rattle.iloc_spec_parts.proofs.SmallTrees.{long_key}
 use Rattle.iloc_outline.proofs.BodyLemmas.{front_past, front_first as front_long}
-
--- ---- the block of `u`
-
-module _ (t : Text) (b : Window) (l : BeginsWell t) (g : GoesOn (after_region (pieces t)) b)
-    (u : is_u (get_or b.bytes.now 0 0) ≡ true) where
-  abbrev c : ℕ
-  c = get_or b.bytes.now 0 0
-
-  abbrev ps : List Text
-  ps = after_singleton b
-
-  -- its singleton, and the pieces up to the next one
-  abbrev first : ℕ × List Text
-  first = (c, front ps)
-
-  pieces_of_block : pieces (text_in b) ≡ (c ∷ []) ∷ ps
-  pieces_of_block = at_pieces (λ qs. first_piece qs ≡ c ∷ [] → qs ≡ (c ∷ []) ∷ rest_of qs)
-      (λ q qs e. ap (λ r. r ∷ qs) e) (text_in b) g.singleton
-
-  no_x : (to_ascii_lowercase c == code_x) ≡ false
-  no_x = let same : to_ascii_lowercase c ≡ code_u = grind (arith, nat_tests, u) in grind (arith, nat_tests)
-
-  after_is : after_front (pieces t) ≡ pieces (text_in b)
-  unfolding after_front
-  after_is = g.rest
-
-  found : tail_blocks (pieces t) ≡ first ∷ blocks ps
-  found = blocks_left t l ∙ ap blocks (after_is ∙ pieces_of_block)
-      ∙ ap (λ (x : Bool). cond x ((c, ps) ∷ []) (first ∷ blocks ps)) no_x
-
--- ---- the variants before the block
-
-module _ (t : Text) (b : Window) (g : GoesOn (after_region (pieces t)) b) where
-  abbrev after : List Text
-  after = after_region (pieces t)
-
-  abbrev before : List Text
-  before = passing (is_word Variant) after
-
-  variants_pass : AllByRecursion (λ p. is_word Variant p ≡ true) before
-  variants_pass = keep_while_passes (is_word Variant) after
-
-  block_pieces_are : pieces (text_in b) ≡ (get_or b.bytes.now 0 0 ∷ []) ∷ after_singleton b
-  block_pieces_are = at_pieces
-      (λ qs. first_piece qs ≡ get_or b.bytes.now 0 0 ∷ [] → qs ≡ (get_or b.bytes.now 0 0 ∷ []) ∷ rest_of qs)
-      (λ q qs e. ap (λ r. r ∷ qs) e) (text_in b) g.singleton
-
-  parts_are : before ++ pieces (text_in b) ≡ after
-  parts_are = ap (λ l. before ++ l) (sym g.rest) ∙ all_while (is_word Variant) after
-
-  before_is : front after ≡ before
-  before_is =
-      ap front (sym parts_are ∙ ap (λ l. before ++ l) block_pieces_are)
-      ∙ front_past before ((get_or b.bytes.now 0 0 ∷ []) ∷ after_singleton b)
-      (all_weaker (λ p. is_word Variant p ≡ true) IsLong long_variant before variants_pass)
-      ∙ append-nil before
-
-  total : length before + length (pieces (text_in b)) ≡ length after
-  total = sym (length-append before (pieces (text_in b))) ∙ ap length parts_are
-
-  all_true : (vs : List Text) → AllByRecursion (λ p. is_word Variant p ≡ true) vs →
-      list_all (is_word Variant) vs ≡ true
-  all_true [] h = refl
-  all_true (v ∷ vs) h = rw h.0 (all_true vs h.1)
-
-  pub few_before : length after ≤ 1 + length (pieces (text_in b)) →
-      has_small_variants (front after) ≡ true
-  few_before few =
-      let le : nat_le (length before) 1 ≡ true =
-      (let short : length before ≤ 1 = omega (arith, few, total) in grind (arith, nat_tests)) in
-      ap has_small_variants before_is ∙ (λ j. all_true before variants_pass j && le j)
 
 and_both : (a b : Bool) → (a && b) ≡ true → (a ≡ true) × (b ≡ true)
 and_both true b e = (refl, e)
@@ -129,21 +56,6 @@ pub no_key : (qs : List Text) → is_word UnicodeKey (first_piece qs) ≡ false 
 no_key [] e = refl
 no_key (p ∷ qs) e =
     ap (λ (x : Bool). x && (list_all (is_word Attribute) qs && nat_le (length (normal_values qs)) 1)) e
-
-no_values : (qs : List Text) → list_all (is_word Attribute) (rest_of qs) ≡ false →
-    has_small_keyword qs ≡ false
-no_values [] e = refl
-no_values (p ∷ qs) e =
-    ap (λ (x : Bool). is_word UnicodeKey p && (x && nat_le (length (normal_values qs)) 1)) e
-    ∙ and-false (is_word UnicodeKey p)
-
-many_values : (qs : List Text) → 2 ≤ length (normal_values (rest_of qs)) → has_small_keyword qs ≡ false
-many_values [] l = refl
-many_values (p ∷ qs) l =
-    let more : nat_le (length (normal_values qs)) 1 ≡ false = grind (arith, nat_tests) in
-    ap (λ (x : Bool). is_word UnicodeKey p && (list_all (is_word Attribute) qs && x)) more
-    ∙ ap (λ (x : Bool). is_word UnicodeKey p && x) (and-false (list_all (is_word Attribute) qs))
-    ∙ and-false (is_word UnicodeKey p)
 
 pub front_first : (qs : List Text) → IsLong (first_piece qs) → first_piece (front qs) ≡ first_piece qs
 front_first [] e = refl
@@ -186,62 +98,9 @@ values_whole (q ∷ qs) h =
     let later = values_whole qs parts.1 in
     (front_long q qs long ∙ ap (λ rs. q ∷ rs) later.0, blocks_skip q qs long ∙ later.1)
 
--- a key and its values are before the next block
-pub whole_front : (qs : List Text) → IsWord UnicodeKey (first_piece qs) →
-    list_all (is_word Attribute) (rest_of qs) ≡ true → front qs ≡ qs
-whole_front [] k v = refl
-whole_front (q ∷ qs) k v = front_long q qs (long_key q k) ∙ ap (λ rs. q ∷ rs) (values_whole qs v).0
-
 pub no_word : IsWord UnicodeKey [] → ⊥
 unfolding is_word
 no_word e = true≢false (sym e)
-
-abbrev both_hold : Bool → Bool → Bool
-both_hold x y = x && y
-
--- what a keyword of one word at most is read as
-record Reads (qs : List Text) : Type 0 where
-  whole : front qs ≡ qs
-  alone : blocks qs ≡ []
-  small : has_small_keyword qs ≡ true
-  unread : (region : Option Text) → small_part region (Some (keyword_read qs)) ≡ None
-
-single_reads : (qs : List Text) → IsSingle qs → Reads qs
-single_reads [] s = absurd (no_word s.key)
-single_reads (q ∷ qs) s =
-    let long = long_key q s.key in
-    let values = values_whole qs s.values in
-    record {
-      whole = front_long q qs long ∙ ap (λ rs. q ∷ rs) values.0;
-      alone = blocks_skip q qs long ∙ values.1;
-      small = λ j. both (s.key j) (s.values j) (few j);
-      unread = λ region. unread s.other region;
-    }
-  where
-    few : nat_le (length (normal_values qs)) 1 ≡ true
-    few = grind (arith, nat_tests, s.few)
-
-    both : Bool → Bool → Bool → Bool
-    both x y z = x && (y && z)
-
-    part : Option Text → Bool → Option Subdivision → Option (Option Subdivision)
-    part region named o = if named then option_map (λ s. Some (agreed region s)) o else None
-
-    never : (region : Option Text) (named : Bool) → part region named None ≡ None
-    never region true = refl
-    never region false = refl
-
-    unread : (lower q ≢ codes "sd") ⊎ (qs ≡ []) → (region : Option Text) →
-        small_part region (Some (keyword_read (q ∷ qs))) ≡ None
-    unread (inl differs) region =
-        let other : is_same (lower q) sd ≡ false =
-        false_from_ne_true _ (λ e. differs (same_is (lower q) sd e)) in
-        ap (λ (x : Bool). part region x (option_and_then named_subdivision (first_item (normal_values qs))))
-        other
-    unread (inr none) region =
-        ap (λ (rs : List Text). part region (is_same (lower q) sd)
-        (option_and_then named_subdivision (first_item (normal_values rs)))) none
-        ∙ never region (is_same (lower q) sd)
 
 -- ---- the head of a text with no variants
 
@@ -302,92 +161,6 @@ large_head p qs l h =
 
 pub letter_u : (c : ℕ) → is_u c ≡ true → is_ascii_alphanumeric c ≡ true
 letter_u c u = grind (arith, nat_tests)
-
-module _ (t : Text) (b : Window) (h : HasBlock t b)
-    (letter : is_ascii_alphanumeric (get_or b.bytes.now 0 0) ≡ true)
-    (u : is_u (get_or b.bytes.now 0 0) ≡ true) where
-  abbrev block : ℕ × List Text
-  block = first t b h.0 h.1 u
-
-  abbrev rest : List Text
-  rest = after_singleton b
-
-  there : tail_blocks (pieces t) ≡ block ∷ blocks rest
-  there = found t b h.0 h.1 u
-
-  not_alone : (bs : List (ℕ × List Text)) → has_small_keyword (front rest) ≡ false →
-      is_small_block block bs ≡ false
-  not_alone [] e = ap (λ (x : Bool). is_u block.0 && x) e ∙ and-false (is_u block.0)
-  not_alone (d ∷ bs) e = refl
-
-  pub attribute_refused : IsKeywordOf rest keyword.Attribute → HasRefusal Data t InvalidSubtag
-  attribute_refused k =
-      let same = front_first rest (long_attribute (first_piece rest) k) in
-      let attribute : is_word Attribute (first_piece (front rest)) ≡ true = ap (is_word Attribute) same ∙ k in
-      let key : is_word UnicodeKey (first_piece (front rest)) ≡ false =
-      ap (is_word UnicodeKey) same ∙ attribute_no_key (first_piece rest) k in
-      data_refused t block (blocks rest) h.0 there (not_alone (blocks rest) (no_key (front rest) key))
-      (fault_is block true false letter u attribute key)
-
-  pub misfit_refused : IsKeywordOf rest keyword.Misfit → HasRefusal Data t InvalidSubtag
-  misfit_refused k =
-      let same = front_first rest (long_key (first_piece rest) k.0) in
-      let attribute : is_word Attribute (first_piece (front rest)) ≡ false =
-      ap (is_word Attribute) same ∙ key_no_attribute (first_piece rest) k.0 in
-      let key : is_word UnicodeKey (first_piece (front rest)) ≡ true = ap (is_word UnicodeKey) same ∙ k.0 in
-      data_refused t block (blocks rest) h.0 there (by (blocks rest) refl)
-      (fault_is block false true letter u attribute key)
-    where
-      by : (bs : List (ℕ × List Text)) → blocks rest ≡ bs → is_small_block block bs ≡ false
-      by [] none =
-          let whole : front rest ≡ rest = sym (append-nil (front rest))
-          ∙ ap (λ bs. front rest ++ flat_map block_pieces bs) (sym none) ∙ all_blocks rest in
-          not_alone [] (ap has_small_keyword whole ∙ no_values rest k.1)
-      by (d ∷ bs) e = refl
-
-  pub many_refused : IsKeywordOf rest keyword.Many → HasRefusal Data t InvalidSubtag
-  many_refused k =
-      let same = front_first rest (long_key (first_piece rest) k.0) in
-      let attribute : is_word Attribute (first_piece (front rest)) ≡ false =
-      ap (is_word Attribute) same ∙ key_no_attribute (first_piece rest) k.0 in
-      let key : is_word UnicodeKey (first_piece (front rest)) ≡ true = ap (is_word UnicodeKey) same ∙ k.0 in
-      data_refused t block (blocks rest) h.0 there
-      (not_alone (blocks rest) (ap has_small_keyword (whole_front rest k.0 k.1) ∙ many_values rest k.2))
-      (fault_is block false true letter u attribute key)
-
-  -- what is read of a whole text with such a keyword
-  single_result : length (after_region (pieces t)) ≤ 1 + length (pieces (text_in b)) → Reads rest →
-      (r : SmallLocale) × (small_result languages t ≡ Ok r) × (data_of_small r ≡ None)
-  unfolding small_result after_identifier blocks_result
-  single_result few read = at_pieces Found by t h.0 there (few_before t b h.1 few)
-    where
-      Found : List Text → Type 0
-      Found qs = IsWord (Language languages) (first_piece qs) → tail_blocks qs ≡ block ∷ blocks rest →
-          has_small_variants (front (after_region qs)) ≡ true
-          → (r : SmallLocale)
-          × (after_identifier (small_identifier_result languages (head qs)) (tail_blocks qs) ≡ Ok r)
-          × (data_of_small r ≡ None)
-
-      by : (p : Text) (qs : List Text) → Found (p ∷ qs)
-      by p qs l e none =
-          let id = small_identifier (identifier_of (p ∷ front qs)) in
-          let found : SmallLocale = record { id = id; keyword = Some (keyword_read rest) } in
-          let small : is_small_block (c t b h.0 h.1 u, rest) [] ≡ true =
-          λ j. both_hold (u j) (read.small j) in (
-            found,
-            (λ j. after_identifier (small_head p qs l none j) (e j))
-                ∙ (λ j. blocks_result id ((c t b h.0 h.1 u, read.whole j) ∷ read.alone j))
-                ∙ (λ j. if small j then Ok found else Err (block_fault (c t b h.0 h.1 u, rest))),
-            ap (option_map (λ part. made_of id.language id.script part id.variant)) (read.unread id.region),
-          )
-
-  pub single_refused : length (after_region (pieces t)) ≤ 1 + length (pieces (text_in b)) →
-      IsKeywordOf rest keyword.Single → HasRefusal Data t InvalidExtension
-  unfolding data_result
-  single_refused few s =
-      let found = single_result few (single_reads rest s) in
-      data_fault t faults.InvalidExtension
-      (ap data_of_result found.1 ∙ ap (λ o. ok_or o faults.InvalidExtension) found.2)
 
 -- ---- a singleton that is no letter and no digit
 

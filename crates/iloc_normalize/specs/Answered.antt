@@ -4,8 +4,6 @@ use Rattle.iloc_spec_grammar.specs.Syntax.{Text, languages}
 use Rattle.iloc_subtags.specs.declared.parse_error.ParseError.{ParseError}
 use Rattle.iloc_subtags.specs.declared.parse_error.ParseError.TheVariants as error
 use Rattle.iloc_subtags.specs.Judging.{Refusal}
-use Rattle.iloc_pieces.specs.Plain.{IsPlain}
-use Rattle.iloc_pieces.specs.declared.plain.Plain.{Plain}
 use Rattle.iloc_outline.specs.Outlines.{BeginsWithLanguage, IsLimit}
 use Rattle.iloc_normalize.specs.Modes.{IsNormalText, IsFaulty}
 use Rattle.iloc_normalize.specs.declared.Mode.{Mode}
@@ -19,10 +17,6 @@ use Rattle.iloc_normalize.specs.declared.writing.Written.TheVariants as written
 -- in the mode, the text has the fault of this refusal
 abbrev pub HasRefusal : Mode → Text → ParseError → Type 0
 HasRefusal mode t e = Refusal (IsFaulty languages mode t) ⊥ e
-
--- the bytes are a plain identifier
-abbrev pub ArePlain : Text → Type 0
-ArePlain t = (p : Plain) × IsPlain t p
 
 -- what the beginning shows is so
 abbrev pub IsLead : Mode → Text → Lead → Type 0

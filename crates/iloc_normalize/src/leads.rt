@@ -1,16 +1,15 @@
 //! What the beginning of a text shows: why it is refused, or that the rest has to be read.
-ghost use Rattle.std.specs.Prelude.{◌≡◌, ◌≤◌, IfSome, IsTrue, true, length, take, get_or};
-ghost use Rattle.iloc_spec_parts.specs.SmallComputing.{is_u};
+ghost use Rattle.std.specs.Prelude.{◌≡◌, IfSome};
 ghost use Rattle.iloc_pieces.specs.Front.{IsFound};
 ghost use Rattle.iloc_pieces.specs.Window.{text_in};
-ghost use Rattle.iloc_normalize.specs.Answered.{ArePlain, IsLead};
+ghost use Rattle.iloc_normalize.specs.Answered.{IsLead};
 ghost use Rattle.iloc_normalize.specs.declared.Mode.{Mode};
 ghost use Rattle.iloc_normalize.specs.declared.Mode.TheVariants as modes;
 
 use crate::Mode;
 use crate::data::{Data, read_data};
 use iloc_outline::outline::begins_with_language;
-use iloc_pieces::{Keyword, Window, find_block, read_keyword, read_plain};
+use iloc_pieces::{Window, find_block};
 use iloc_subtags::ParseError;
 
 /// What the beginning of a text shows.
@@ -74,7 +73,7 @@ fn lead_of_identifier(text: Window<'_>) -> Option<Lead>
     }
 }
 
-// What such a piece shows of a data locale. It has no block but that of `u`.
+// What such a piece shows of a data locale. It has no block but that of `u`, which `read_lead` reads.
 #[inline(always)]
 fn lead_of_found(text: Window<'_>, block: Window<'_>) -> Option<Lead>
     requires { IsFound (text_in text) block }
@@ -82,42 +81,12 @@ fn lead_of_found(text: Window<'_>, block: Window<'_>) -> Option<Lead>
 {
     let singleton = block.bytes[0];
     if singleton == b'U' || singleton == b'u' {
-        return lead_of_found_keyword(text, block);
+        return None;
     }
     if singleton.is_ascii_alphanumeric() {
         return Some(Lead::Refused(ParseError::InvalidSubtag));
     }
     None
-}
-
-// What a piece `u` shows of a data locale. Most keywords are refused whatever comes before.
-#[inline(always)]
-fn lead_of_found_keyword(text: Window<'_>, block: Window<'_>) -> Option<Lead>
-    requires found { IsFound (text_in text) block }
-    requires u { is_u (get_or block.bytes.now 0 0) ≡ true }
-    ensures { IfSome result (IsLead modes.Data (text_in text.entry)) }
-{
-    let at = text.len() - block.len() - 1;
-    let error = ParseError::InvalidSubtag;
-    match read_keyword(block) {
-        Keyword::Attribute => Some(Lead::Refused(error)),
-        Keyword::Misfit => Some(Lead::Refused(error)),
-        Keyword::Many => Some(Lead::Refused(error)),
-        Keyword::Single if is_plain(text.bytes, at) => Some(Lead::Refused(
-            ParseError::InvalidExtension,
-        )),
-        Keyword::Subdivision => Some(Lead::Outline),
-        Keyword::Single | Keyword::Other => None,
-    }
-}
-
-// Whether the first `at` bytes are a plain identifier.
-#[inline(always)]
-fn is_plain(window: &[u8], at: usize) -> bool
-    requires { 16 ≤ length window.now }
-    ensures { IsTrue result → ArePlain (take at window.now) }
-{
-    at <= 16 && read_plain(window, at).is_some()
 }
 
 // Whether it begins with a language.

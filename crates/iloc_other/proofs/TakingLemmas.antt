@@ -52,16 +52,6 @@ module _ (before now ws : List Text) (t : TakingWords before now ws) where
     some [] n = absurd (n refl)
     some (p ∷ ps) n = omega arith
 
-    pub takes_all : (ws ≡ [] → ⊥) → PrivateRead before ws now
-    takes_all n = record {
-      follows = record {
-        words = t.words.1 (subst AllWords (sym e) tt);
-        nonempty = some before (λ b. n (all_taken ∙ ap (map lower) b));
-      };
-      means = all_taken;
-      left = e;
-    }
-
     pub takes_none : ws ≡ [] → PrivateFault before faults.InvalidExtension
     takes_none n = not_private
         (λ i. let z : 0 ≡ length before = ap length (sym n ∙ all_taken) ∙ length-map before lower in

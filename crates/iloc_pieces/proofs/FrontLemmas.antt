@@ -1,15 +1,14 @@
 -- From the first piece of a line to what stands at its front.
 use Rattle.std.proofs.Common.{◌≡◌, ◌≢◌, ℕ, zero, suc, ◌+◌, ◌-◌, ◌<◌, ◌≤◌, Bool, true, false, cond, not}
-use Rattle.std.proofs.Common.{◌&&◌, List, [], ◌∷◌, length, get_or, take, drop, refl, sym, ap, ◌∙◌, subst}
+use Rattle.std.proofs.Common.{List, [], ◌∷◌, length, get_or, take, drop, refl, sym, ap, ◌∙◌, subst}
 use Rattle.std.proofs.Common.{arith, inl, inr}
-use Rattle.std.specs.List.{slice_split, onto_first, list_all}
+use Rattle.std.specs.List.{slice_split, onto_first}
 use Rattle.std.proofs.lemmas.Bool.{cases_lt, cases_Bool}
 use Rattle.std.proofs.lemmas.List.{get_or-take, length-drop, length-take-le, take-take, drop-take}
 use Rattle.std.proofs.lemmas.List.Splits.{slice_split-cons_yes, slice_split-cons_no}
 use Rattle.iloc_spec_grammar.specs.Syntax.{Text, pieces, first_piece, Kind, Attribute, Language}
 use Rattle.iloc_spec_grammar.specs.Syntax.{UnicodeKey, is_word, IsWord, is_true, lower, languages}
 use Rattle.iloc_spec_grammar.specs.Meaning.{normal_values}
-use Rattle.iloc_spec_grammar.proofs.PiecesLaws.{at_pieces}
 use Rattle.iloc_spec_grammar.proofs.WordsLaws.{length-language}
 use Rattle.iloc_spec_grammar.proofs.WordsLaws.{length-attribute, length-unicode_key}
 use Rattle.iloc_spec_grammar.proofs.RawLaws.{languages_table}
@@ -96,27 +95,6 @@ first_is w len k n wide inside r few less least =
     ap (λ i. fails is_hyphen (get_or w i 0)) same ∙ r.ends (omega arith))
 
 -- ---- words among the pieces
-
--- where the first piece is no word of the kind, not all are
-pub all_fail : (k : Kind) (t : Text) → is_word k (first_piece (pieces t)) ≡ false →
-    list_all (is_word k) (pieces t) ≡ false
-all_fail k t = at_pieces (λ ps. is_word k (first_piece ps) ≡ false → list_all (is_word k) ps ≡ false)
-    (λ p ps e. ap (λ (b : Bool). b && list_all (is_word k) ps) e) t
-
--- the pieces of a value that are not `true`
-pub values_later : (p : Text) (ps : List Text) →
-    length (normal_values ps) ≤ length (normal_values (p ∷ ps))
-values_later p ps = by (is_true (lower p))
-  where
-    by : (b : Bool) →
-        length (normal_values ps) ≤ length (cond (not b) (lower p ∷ normal_values ps) (normal_values ps))
-    by true = omega arith
-    by false = omega arith
-
-pub values_word : (p : Text) (ps : List Text) → is_true (lower p) ≡ false →
-    length (normal_values (p ∷ ps)) ≡ suc (length (normal_values ps))
-values_word p ps e =
-    ap (λ (b : Bool). length (cond (not b) (lower p ∷ normal_values ps) (normal_values ps))) e
 
 pub values_true : (p : Text) (ps : List Text) → is_true (lower p) ≡ true →
     normal_values (p ∷ ps) ≡ normal_values ps
@@ -210,13 +188,6 @@ module _ (w : Text) (len n : ℕ) (room : len + 16 ≤ length w) (first : IsFirs
   pub after_word : (k : Kind) → IsShort k → is_word k (take n w) ≡ true → n ≢ len →
       pieces text ≡ take n w ∷ pieces next
   after_word k short fits more = after_short (word_is_short k short fits) more
-
-  -- so all pieces are words of the kind where those after it are
-  pub all_later : (k : Kind) → IsShort k → is_word k (take n w) ≡ true → n ≢ len →
-      list_all (is_word k) (pieces text) ≡ list_all (is_word k) (pieces next)
-  all_later k short fits more =
-      ap (list_all (is_word k)) (after_word k short fits more)
-      ∙ ap (λ (b : Bool). b && list_all (is_word k) (pieces next)) fits
 
   -- a short piece, and a word, that ends the line
   pub whole_short : n < 16 → n ≡ len → pieces text ≡ take n w ∷ []

@@ -3,8 +3,6 @@ pub mod RunWords
 pub mod FrontLemmas
 pub mod WindowLemmas
 pub mod SingleLemmas
-pub mod AttributeLemmas
-pub mod KeyLemmas
 pub mod WordBytes
 pub mod WordOrder
 pub mod LaneLemmas

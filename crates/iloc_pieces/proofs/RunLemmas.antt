@@ -1,12 +1,12 @@
 -- From a mask of sixteen bytes to those that come first.
-use Rattle.std.proofs.Common.{◌≡◌, ℕ, ◌+◌, ◌*◌, ◌/◌, ◌^◌, ◌<◌, ◌≤◌, Bool, true, false, cond, not, List}
-use Rattle.std.proofs.Common.{[], ◌∷◌, ◌++◌, length, map, get_or, take, drop, refl, sym, ap, ◌∙◌}
+use Rattle.std.proofs.Common.{◌≡◌, ℕ, ◌+◌, ◌*◌, ◌<◌, ◌≤◌, Bool, true, false, cond, not, List}
+use Rattle.std.proofs.Common.{[], ◌∷◌, ◌++◌, length, get_or, take, refl, sym, ap, ◌∙◌}
 use Rattle.std.proofs.Common.{arith, length-append}
 use Rattle.std.specs.List.{prefix_len}
-use Rattle.std.proofs.lemmas.List.{length-take-le, get_or-take, get_or_append_left, map-append}
+use Rattle.std.proofs.lemmas.List.{length-take-le, get_or-take}
 use Rattle.std.proofs.lemmas.List.Sums.{prefix_len_passes, prefix_len_stops, prefix_len-le-length}
 use lib.Lanes.{mask_l}
-use Rattle.iloc_pieces.specs.Run.{IsRun, IsRunOf}
+use Rattle.iloc_pieces.specs.Run.{IsRun}
 use Rattle.iloc_spec_grammar.specs.Syntax.{Text}
 
 -- the bytes before the first that is marked are a run
@@ -40,16 +40,6 @@ unmarked : (ms : List Bool) → mask_l (ms ++ false ∷ false ∷ false ∷ []) 
 unmarked [] = refl
 unmarked (m ∷ ms) = ap (λ n. cond m 1 0 + 2 * n) (unmarked ms)
 
-eighth : (a b c : Bool) (n : ℕ) → (cond a 1 0 + 2 * (cond b 1 0 + 2 * (cond c 1 0 + 2 * n))) / 2 ^ 3 ≡ n
-eighth true true true n = omega arith
-eighth true true false n = omega arith
-eighth true false true n = omega arith
-eighth true false false n = omega arith
-eighth false true true n = omega arith
-eighth false true false n = omega arith
-eighth false false true n = omega arith
-eighth false false false n = omega arith
-
 -- thirteen bytes, and three that no test marks
 abbrev pub padded : Text → Text
 padded w = take 13 w ++ 97 ∷ 97 ∷ 97 ∷ []
@@ -57,25 +47,3 @@ padded w = take 13 w ++ 97 ∷ 97 ∷ 97 ∷ []
 pub length-padded : (w : Text) → 13 ≤ length w → length (padded w) ≡ 16
 length-padded w wide =
     length-append (take 13 w) (97 ∷ 97 ∷ 97 ∷ []) ∙ ap (λ n. n + 3) (length-take-le 13 w wide)
-
-pub later_mask : (p : ℕ → Bool) → p 97 ≡ false → (w : Text) → 16 ≤ length w →
-    mask_l (map p (take 16 w)) / 2 ^ 3 ≡ mask_l (map p (padded (drop 3 w)))
-later_mask p none [] l = absurd (omega arith)
-later_mask p none (a ∷ []) l = absurd (omega arith)
-later_mask p none (a ∷ b ∷ []) l = absurd (omega arith)
-later_mask p none (a ∷ b ∷ c ∷ w) l =
-    eighth (p a) (p b) (p c) (mask_l (map p (take 13 w))) ∙ sym (unmarked (map p (take 13 w)))
-    ∙ sym (ap mask_l (map-append p (take 13 w) (97 ∷ 97 ∷ 97 ∷ [])
-    ∙ ap (λ (m : Bool). map p (take 13 w) ++ m ∷ m ∷ m ∷ []) none))
-
--- a run of these is one of thirteen bytes
-pub later_run : (q : ℕ → Bool) (w : Text) (n : ℕ) → 13 ≤ length w → IsRun q (padded w) n → IsRunOf 13 q w n
-later_run q w n wide r = record {
-  pass = λ i less few. sym (ap q (same i few)) ∙ r.pass i less;
-  ends = λ few. sym (ap q (same n few)) ∙ r.ends (omega arith);
-}
-  where
-    same : (i : ℕ) → i < 13 → get_or (padded w) i 0 ≡ get_or w i 0
-    same i few =
-        get_or_append_left (take 13 w) (97 ∷ 97 ∷ 97 ∷ []) 0 i (omega (arith, length-take-le 13 w wide))
-        ∙ get_or-take 13 w i 0 few

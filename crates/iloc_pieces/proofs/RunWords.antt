@@ -18,6 +18,10 @@ all_pass p (suc n) [] l h = absurd (omega arith)
 all_pass p (suc n) (b ∷ w) l h = ap (λ a. a && list_all p (take n w)) (h 0 (omega arith))
     ∙ all_pass p n w (omega arith) (λ i less. h (suc i) (omega arith))
 
+pub and-true : (b : Bool) → (b && true) ≡ b
+and-true true = refl
+and-true false = refl
+
 pub and-false : (b : Bool) → (b && false) ≡ false
 and-false true = refl
 and-false false = refl

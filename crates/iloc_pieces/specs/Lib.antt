@@ -2,7 +2,6 @@ pub mod Words
 pub mod Run
 pub mod Window
 pub mod Front
-pub mod Keyword
 pub mod Walk
 pub mod Marked
 pub mod PlainShape

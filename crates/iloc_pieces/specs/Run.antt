@@ -16,12 +16,6 @@ pub record IsRun (p : ℕ → Bool) (w : Text) (n : ℕ) : Type 0 where
   pub pass : (i : ℕ) → i < n → p (get_or w i 0) ≡ true
   pub ends : n < 16 → p (get_or w n 0) ≡ false
 
--- n of the first m bytes pass the test one after the other, and then one fails; if all pass, n is m
--- or more
-pub record IsRunOf (m : ℕ) (p : ℕ → Bool) (w : Text) (n : ℕ) : Type 0 where
-  pub pass : (i : ℕ) → i < n → i < m → p (get_or w i 0) ≡ true
-  pub ends : n < m → p (get_or w n 0) ≡ false
-
 -- at n a hyphen stands that has another one two bytes later, and nowhere before
 pub record IsFirstSingle (w : Text) (n : ℕ) : Type 0 where
   pub few : n < 14

@@ -8,14 +8,13 @@
 //! six shapes, and its length says which (`tail`): a row of a table says where letters, hyphens and digits are wanted, and
 //! which letters are turned to upper case. docs/ARCHITECTURE.md says how to add a shape.
 //!
-//! **Beginnings** (`front`, `keyword`). `may_begin` says by the length of the first piece that a line begins with no
+//! **Beginnings** (`front`). `may_begin` says by the length of the first piece that a line begins with no
 //! language (`HasNoLanguage`), and `begins_with_language` says it of a short text with no room behind it. `find_block`
-//! finds the first piece of one byte, whatever comes before it (`IsFound`). `read_keyword` says what keyword follows the
-//! singleton of the first block (`IsKeywordOf`). Sixteen bytes from a piece on show its length and whether it is a word
-//! (`run`, `words`).
+//! finds the first piece of one byte, whatever comes before it (`IsFound`). Sixteen bytes from
+//! a piece on show its length and whether it is a word (`run`, `words`).
 //!
-//! Of both, `None` and `Keyword::Other` say nothing: the caller reads the text as it would without them. So each caller
-//! keeps its own contract, and a form that is not known here costs time and nothing else.
+//! Of both, `None` says nothing: the caller reads the text as it would without them. So each caller keeps its own contract,
+//! and a form that is not known here costs time and nothing else.
 //!
 //! **Pieces** (`marks`, `shape`, `left`). Masks of sixteen bytes say where a piece ends, which of its bytes are no letters,
 //! and which are in no word. They give a piece its *shape*: a bit for each byte, set for a digit, and a last one above. By
@@ -32,7 +31,6 @@
 
 mod cursor;
 pub mod front;
-pub mod keyword;
 mod lanes;
 pub mod left;
 pub mod load;
@@ -48,7 +46,6 @@ pub mod window;
 pub mod words;
 
 pub use front::{begins_with_language, find_block, may_begin};
-pub use keyword::{Keyword, read_keyword};
 pub use load::first_in_lower_case;
 pub use marked::{before_marked, is_language_length};
 pub use normal::{PlainText, are_same, normal_plain};

@@ -1,8 +1,8 @@
 //! How many bytes of a class come first among sixteen.
-ghost use Rattle.std.specs.Prelude.{◌≡◌, ◌≤◌, length, drop, map, take};
+ghost use Rattle.std.specs.Prelude.{◌≡◌, ◌≤◌, length, map, take};
 ghost use Rattle.std.specs.Simd.Lanes.{mask_l};
-ghost use Rattle.std.specs.Char.{is_ascii_alphabetic, is_ascii_alphanumeric};
-ghost use Rattle.iloc_pieces.specs.Run.{IsRun, IsRunOf, is_hyphen, fails};
+ghost use Rattle.std.specs.Char.{is_ascii_alphabetic};
+ghost use Rattle.iloc_pieces.specs.Run.{IsRun, is_hyphen, fails};
 ghost use Rattle.iloc_pieces.specs.Walk.{single_marks};
 
 use crate::before_marked;
@@ -16,16 +16,6 @@ fn no_letters_in(v: u8x16) -> u64
     ((v | u8x16::splat(32)) - u8x16::splat(97))
         .simd_ge(u8x16::splat(26))
         .to_bitmask()
-}
-
-// A bit for each byte that is neither a letter nor a digit.
-#[inline(always)]
-fn no_alphanumerics_in(v: u8x16) -> u64
-    ensures { result ≡ mask_l (map (fails is_ascii_alphanumeric) v) }
-{
-    let letters = ((v | u8x16::splat(32)) - u8x16::splat(97)).simd_ge(u8x16::splat(26));
-    let digits = (v - u8x16::splat(48)).simd_ge(u8x16::splat(10));
-    (letters & digits).to_bitmask()
 }
 
 // A bit for each hyphen.
@@ -43,24 +33,6 @@ pub(crate) fn first_letters(window: &[u8]) -> usize
     ensures { IsRun is_ascii_alphabetic window.now result }
 {
     before_marked(no_letters_in(u8x16::from_slice(window)))
-}
-
-// How many letters and digits come first.
-#[inline(always)]
-pub(crate) fn first_alphanumerics(window: &[u8]) -> usize
-    requires { 16 ≤ length window.now }
-    ensures { IsRun is_ascii_alphanumeric window.now result }
-{
-    before_marked(no_alphanumerics_in(u8x16::from_slice(window)))
-}
-
-// How many letters and digits come first after three bytes, of thirteen.
-#[inline(always)]
-pub(crate) fn alphanumerics_after_key(window: &[u8]) -> usize
-    requires { 16 ≤ length window.now }
-    ensures { IsRunOf 13 is_ascii_alphanumeric (drop 3 window.now) result }
-{
-    before_marked(no_alphanumerics_in(u8x16::from_slice(window)) >> 3)
 }
 
 // How many bytes come before the first hyphen.

@@ -254,10 +254,6 @@ module _ {T : ℕ → Bool} where
       later g.0.0 g.0.1 g.0.2
       (after_good b rest (lower_singleton d ∷ seen) ds g.1 l (λ i. parts.0 i || k i) (both_ways _ parts.1) x)
 
-  pub reached_is_met : {bs : List Block} → ReachesLongBlock T bs → MeetsLongBlock T [] bs
-  reached_is_met (good, rest, c, ps, e, blocks, l, n, x) =
-      subst (MeetsLongBlock T []) (sym e) (after_good (c, ps) rest [] good (good_blocks blocks.1) l refl n x)
-
   met : {seen : List ℕ} {bs : List Block} → MeetsLongBlock T seen bs → Met T seen bs
   met (here {b = b} {bs = bs} l n x) = record {
     good = [];

@@ -33,7 +33,3 @@ module _ (k : Kind) (n : ℕ) (size : greatest 8 k ≡ n)
       by : (b : Bool) → is_word k text ≡ b → is_word k text ≡ false
       by true e = absurd (omega (arith, length-le-tiny n text (fits text e), size-le k n size))
       by false e = e
-
-  -- the normal form of a word is a short text
-  pub normal_fits : (text : Text) → IsWord k text → is_tiny_text n (normal k text) ≡ true
-  normal_fits text h = fits (normal k text) (is_word-normal k text ∙ h)

@@ -14,13 +14,6 @@ use Rattle.iloc_spec_grammar.proofs.MapLaws.{same_words, word_cmp_total}
 use Rattle.iloc_spec_grammar.specs.Syntax.{Text, join, dashes}
 use Rattle.iloc_spec_grammar.proofs.PartTexts.{join-dashes}
 
--- texts tie in byte order exactly where they are equal
-pub equal_texts : (v w : Text) (b : Bool) → b ≡ is_eq (slice_cmp nat_cmp v w) → IsTrue b ↔ (v ≡ w)
-equal_texts v w b e = (
-  λ h. same_words v w ((Equal-is _).0 (sym e ∙ h)),
-  λ h. e ∙ ap (λ x. is_eq (slice_cmp nat_cmp v x)) (sym h) ∙ (eq_by_cmp_equiv word_cmp_total).refl v,
-)
-
 -- what follows a text is what the rest of the pieces make
 follows : (w rest text : Text) (ws : List Text) → text ≡ w ++ rest →
     (dashes ws ≡ rest) ↔ (w ++ dashes ws ≡ text)

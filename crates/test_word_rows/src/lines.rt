@@ -1,12 +1,12 @@
 //! Lines answered without building a value. The contracts of `iloc_pieces` let a parser say nothing, so a shape that
 //! silently went the old way would show nowhere else.
 //!
-//! `line-plain TEXT` says the normal text. In the other calls the second argument says how many bytes of the first are the
-//! line: `line-window` says the normal text, `line-block` the first block by the first piece of one byte, and
-//! `line-keyword` what follows the singleton of that block. A line of which nothing is said is `not told`.
+//! `line-plain TEXT` says the normal text. In the two others the second argument says how many bytes of the first are the
+//! line: `line-window` says the normal text, `line-block` the first block by the first piece of one byte. A line of which
+//! nothing is said is `not told`.
 ghost use Rattle.iloc_pieces.specs.Plain.{AreWords};
 
-use iloc_pieces::{Keyword, Plain, Window, find_block, read_keyword, read_plain, read_plain_text};
+use iloc_pieces::{Plain, Window, find_block, read_plain, read_plain_text};
 use test_page::argument::number_of;
 use test_page::{bytes, number, say};
 
@@ -59,41 +59,12 @@ fn first_block(window: &[u8], len: usize, out: &mut String) {
     }
 }
 
-// What follows the singleton of the first block, if sixteen bytes follow the line at least.
-fn keyword_of(window: &[u8], len: usize) -> Keyword {
-    if window.len() < 16 || len > window.len() - 16 {
-        return Keyword::Other;
-    }
-    match find_block(Window {
-        bytes: &window[..len + 16],
-    }) {
-        Some(block) => read_keyword(block),
-        None => Keyword::Other,
-    }
-}
-
-// Says what follows the singleton of the first block.
-fn keyword(window: &[u8], len: usize, out: &mut String) {
-    say(
-        out,
-        match keyword_of(window, len) {
-            Keyword::Attribute => "attribute",
-            Keyword::Misfit => "misfit",
-            Keyword::Single => "single",
-            Keyword::Many => "many",
-            Keyword::Subdivision => "subdivision",
-            Keyword::Other => "not told",
-        },
-    )
-}
-
 /// The answer to a call.
 pub fn answer(what: &str, text: &[u8], len: &[u8], out: &mut String) {
     match what {
         "plain" => plain(text, out),
         "window" => window(text, number_of(len), out),
         "block" => first_block(text, number_of(len), out),
-        "keyword" => keyword(text, number_of(len), out),
         _ => say(out, "no call"),
     }
 }
