@@ -24,7 +24,7 @@ use Rattle.iloc_langid.specs.BlockReads.{answer_of, block_result, refusal_withou
 use Rattle.iloc_subtags.proofs.TakingLemmas.{took}
 use Rattle.std.proofs.Math.Bool.{and-false}
 use Rattle.iloc_subtags.specs.Judging.{error_of}
-use Rattle.iloc_normalize.proofs.KeywordAnswers.{key_no_attribute}
+use Rattle.iloc_normalize.proofs.BlockFaults.{key_no_attribute}
 use Rattle.iloc_normalize.proofs.Behind.{no_attribute as no_empty_attribute, no_word_key}
 
 -- a word is longer than one byte

@@ -28,7 +28,7 @@ use Rattle.iloc_langid.specs.SmallLocaleReads.{Keyword, LocaleParts, small_local
 use Rattle.iloc_langid.specs.BlockReads.{answer_of, block_result}
 use Rattle.iloc_langid.proofs.BlockLemmas.{blocks_past, with_keyword, blocks_read}
 use Rattle.iloc_subtags.specs.Judging.{error_of}
-use Rattle.iloc_normalize.proofs.KeywordAnswers.{head_region}
+use Rattle.iloc_normalize.proofs.BlockFaults.{head_region}
 
 -- a word of an identifier is longer than one byte
 

@@ -22,9 +22,9 @@ use Rattle.iloc_spec_parts.specs.DataComputing.{data_of_result}
 use Rattle.iloc_spec_parts.specs.DataLocales.{DataLocale, agreed, made_of, named_subdivision}
 use Rattle.iloc_spec_parts.specs.Subdivisions.{Subdivision}
 use Rattle.iloc_normalize.specs.Subdivisions.{MeansWithU, data_behind, data_with, has_small_value}
-use Rattle.iloc_normalize.proofs.KeywordAnswers.{attribute_no_key, fault_is, front_first}
-use Rattle.iloc_normalize.proofs.KeywordAnswers.{key_no_attribute, letter_u, no_key, no_word}
-use Rattle.iloc_normalize.proofs.KeywordAnswers.{values_whole}
+use Rattle.iloc_normalize.proofs.BlockFaults.{attribute_no_key, fault_is, front_first}
+use Rattle.iloc_normalize.proofs.BlockFaults.{key_no_attribute, letter_u, no_key, no_word}
+use Rattle.iloc_normalize.proofs.BlockFaults.{values_whole}
 use Rattle.iloc_pieces.proofs.RunWords.{and-false}
 use Rattle.iloc_spec_parts.proofs.SmallTrees.{long_key}
 use Rattle.iloc_outline.proofs.BodyLemmas.{front_first as front_long}

@@ -22,7 +22,7 @@ use Rattle.iloc_normalize.specs.declared.subdivisions.Keyword.TheVariants as key
 use Rattle.iloc_normalize.specs.declared.subdivisions.Value.{Value}
 use Rattle.iloc_normalize.proofs.Behind.{no_key_behind, no_attribute, no_word_key}
 use Rattle.iloc_normalize.proofs.FrontAnswers.{first_block, no_u, other_fault}
-use Rattle.iloc_normalize.proofs.KeywordAnswers.{no_letter_no_u, unlettered_fault}
+use Rattle.iloc_normalize.proofs.BlockFaults.{no_letter_no_u, unlettered_fault}
 use Rattle.iloc_outline.proofs.SingletonSteps.{one_byte}
 
 single_first : (t : Text) → is_one_byte (first_piece (pieces t)) ≡ true

@@ -27,7 +27,7 @@ use Rattle.iloc_normalize.specs.Data.{IsHead}
 use Rattle.iloc_normalize.specs.Subdivisions.{bytes_at, data_behind}
 use Rattle.iloc_normalize.specs.declared.data.Head.{Head}
 use Rattle.iloc_normalize.proofs.FrontAnswers.{BeginsWell, blocks_left}
-use Rattle.iloc_normalize.proofs.KeywordAnswers.{head_region, large_head, small_head}
+use Rattle.iloc_normalize.proofs.BlockFaults.{head_region, large_head, small_head}
 use Rattle.iloc_outline.proofs.BodyLemmas.{front_none, front_past, front_first}
 
 -- ---- variants, and what comes behind them

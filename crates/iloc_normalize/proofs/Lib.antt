@@ -6,7 +6,7 @@ pub mod PlainAnswers
 pub mod FrontAnswers
 mod OutlinedLemmas
 mod FoundAnswers
-pub mod KeywordAnswers
+pub mod BlockFaults
 pub mod Subtags
 pub mod Names
 pub mod Behind

@@ -3,9 +3,9 @@
 //! The mode says what the text is: an identifier, a locale or a data locale. It takes two steps. `read_found` and
 //! `read_lead` (`leads`) say what its beginning shows: why it is refused, or that it has to be read. `write_normal` writes
 //! the normal text: of identifiers and locales as their outline gives it (`iloc_outline`), and of data locales as they are
-//! read piece by piece (`data`, `subdivisions`, `data_writing`). Four kinds of callers stand on it: the lines of the
-//! program (`iloc_lines`), the calls for C (`iloc_calls`), and `normalize` of identifiers and of locales
-//! (`normalize_short`, `answer_text`, `text_of`). A fifth, `iloc_faults`, asks of data locales alone why one is refused
+//! read piece by piece (`data`, `subdivisions`, `data_writing`). Three kinds of callers stand on it: the lines of the program
+//! (`iloc_program`), the calls for C and for the web (`iloc_calls`, `locale_web`), and `normalize` of identifiers and of
+//! locales (`normalize_short`, `answer_text`, `text_of`). `iloc_faults` asks of data locales alone why one is refused
 //! (`data_refusal`), and what names a subdivision (`names_subdivision`).
 //!
 //! It promises in the words of the grammar (`IsNormalWritten`, `IsAnswered`) that what is written is the normal text of what

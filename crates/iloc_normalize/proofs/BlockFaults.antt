@@ -1,4 +1,4 @@
--- Data locales that are refused for the keyword in their first block.
+-- The fault of a data locale by its first block, and the head before it.
 use Rattle.std.proofs.Common.{◌≡◌, ◌≢◌, ◌⊎◌, inl, inr, ℕ, ◌+◌, ◌≤◌, ◌==◌, Bool, true, false, cond, ◌&&◌}
 use Rattle.std.proofs.Common.{nat_le, List, [], ◌∷◌, ◌++◌, length, flat_map, get_or, codes, Option, None}
 use Rattle.std.proofs.Common.{Some, option_map, Ok, Err, refl, sym, ap, ◌∙◌, arith, append-nil, length-append}
