@@ -16,15 +16,6 @@ class Call(NamedTuple):
     body: str
 
 
-# Calls that only make a value, or go round a list that never changes: a compiler sees through them, on one side at
-# least, so what is counted says nothing of the call.
-REMOVED = set(
-    "variants_from_variant short_box_push_1 short_box_iterate_8 short_box_iterate_1 short_box_clone_1"
-    " language_into_raw langid_from_language langid_from_parts locale_from_langid locale_from_language"
-    " locale_from_parts extensions_new keywords_new_single other_get_ext_str private_clone value_from_subtag"
-    " CommonVariantType_into_value CurrencyType_into_value NumberingSystem_into_value"
-    " TimeZoneShortId_into_value".split()
-)
 # Texts that a keyword type refuses.
 UNKNOWN = {"foo", "bar"}
 

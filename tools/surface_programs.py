@@ -1,4 +1,4 @@
-"""The programs of tools/benchmark --surface, made of the table of calls: one in Rust, and several in Rattle.
+"""The programs of tools/benchmark --surface, made of the table of calls: each part of it in Rust and in Rattle.
 
 Both read calls from standard input, so no compiler knows what they are given: how many there are, and then of each
 its name, how many rounds it makes, and eight texts. For each they write its name and the sum of its answers."""
@@ -22,7 +22,7 @@ def in_language(code, is_rattle):
         (r"SINK", lambda it: "let mut out = String::with_capacity(~256)^;"),
         (r"PRINTED", lambda it: f"let w = [{four('v[{}].write_to_string([[R: alloc |C: ]])^')}];"),
         (PARSED, parsed),
-        (r"KEEP\((\w+)\)", lambda it: it[1] if is_rattle else f"black_box(&{it[1]})"),
+        (r"KEEP\((\w+)\)", lambda it: f"keep(&{it[1]})" if is_rattle else f"black_box(&{it[1]})"),
     )
     for mark, new in marks:
         code = re.sub(mark, new, code)
@@ -124,7 +124,7 @@ def program(calls, is_rattle):
 
 
 def parts_of_calls():
-    """Returns the calls of each Rattle program."""
+    """Returns the calls of each part: both programs are cut alike, since what stands beside a call changes its code."""
     size = -(-len(CALLS) // PROGRAMS)
     return [CALLS[at : at + size] for at in range(0, len(CALLS), size)]
 
