@@ -6,7 +6,7 @@ use Rattle.iloc_subtags.specs.declared.parse_error.ParseError.TheVariants.{Inval
 use Rattle.iloc_subtags.specs.declared.parse_error.ParseError.TheVariants.{InvalidExtension}
 use Rattle.iloc_subtags.specs.declared.parse_error.ParseError.TheVariants.{DuplicatedExtension, OutOfMemory}
 
--- the words of a refusal, as `Display` prints them
+-- the words of a refusal
 abbrev pub words_of : ParseError → Text
 words_of InvalidLanguage = codes "The given language subtag is invalid"
 words_of InvalidSubtag = codes "Invalid subtag"

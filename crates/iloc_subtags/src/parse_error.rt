@@ -1,14 +1,14 @@
 //! Why a text is refused.
-ghost use Rattle.std.specs.Prelude.{◌≡◌, Some};
+ghost use Rattle.std.specs.Prelude.{◌≡◌};
 ghost use Rattle.iloc_subtags.specs.ParseError.{words_of};
 ghost use Rattle.iloc_subtags.specs.declared.parse_error.ParseError.TheVariants.{OutOfMemory};
 
 use std::alloc::{AllocError, AllocFailed};
-use std::error::Error;
-use std::fmt;
+use thiserror::Error;
 
 /// Why a text is refused, or that memory has run out. It prints its words.
-#[derive(Clone, Debug, Drop, PartialEq, Eq)]
+#[derive(Clone, Debug, Drop, Error, PartialEq, Eq)]
+#[error("{}", self.words())]
 pub enum ParseError {
     /// The first piece is no language, or a text that is to be a language is none.
     InvalidLanguage,
@@ -36,17 +36,6 @@ impl ParseError {
         }
     }
 }
-
-/// Prints the words.
-impl fmt::Display for ParseError {
-    ghost output = { λ error. Some (words_of error) };
-
-    fn fmt<W: fmt::Write>(&self, f: &mut fmt::Formatter<W>) -> fmt::Result {
-        f.write_str(self.words())
-    }
-}
-
-impl Error for ParseError {}
 
 /// A failed allocation is `OutOfMemory`.
 impl From<AllocError> for ParseError {

@@ -1,14 +1,14 @@
 //! Why the value of a keyword is refused by the type of the keyword.
-ghost use Rattle.std.specs.Prelude.{◌≡◌, Some};
+ghost use Rattle.std.specs.Prelude.{◌≡◌};
 ghost use Rattle.iloc_word_list.specs.Refusals.{words_of};
 ghost use Rattle.iloc_word_list.specs.declared.errors.PreferencesParseError.TheVariants.{OutOfMemory};
 
 use std::alloc::{AllocError, AllocFailed};
-use std::error::Error;
-use std::fmt;
+use thiserror::Error;
 
 /// Why the value of a keyword is refused, or that memory has run out. It prints its words.
-#[derive(Clone, Debug, Drop, PartialEq, Eq)]
+#[derive(Clone, Debug, Drop, Error, PartialEq, Eq)]
+#[error("{}", self.words())]
 pub enum PreferencesParseError {
     /// The value is none of those of the type.
     InvalidKeywordValue,
@@ -29,17 +29,6 @@ impl PreferencesParseError {
         }
     }
 }
-
-/// Prints the words.
-impl fmt::Display for PreferencesParseError {
-    ghost output = { λ error. Some (words_of error) };
-
-    fn fmt<W: fmt::Write>(&self, f: &mut fmt::Formatter<W>) -> fmt::Result {
-        f.write_str(self.words())
-    }
-}
-
-impl Error for PreferencesParseError {}
 
 /// A failed allocation is `OutOfMemory`.
 impl From<AllocError> for PreferencesParseError {
