@@ -1,0 +1,75 @@
+//! Names of locales, and what is made of them.
+ghost use Rattle.std.specs.Prelude.{◌≡◌, ℕ, List, ◌∷◌, ◌++◌, OnOk, OnErr, take, Bool, vec_len};
+ghost use Rattle.std.specs.List.{position_or_len};
+ghost use Rattle.iloc_cleaning.specs.Cleaning.{is_at, ends_base, is_separator, hyphens, clean_name};
+
+use crate::modifier::{Modifier, read_modifier};
+use std::alloc::AllocError;
+
+// Adds what is made of a name.
+pub(crate) fn add_name(name: &[u8], cleaned: &mut Vec<u8>) -> Result<(), AllocError>
+    ensures ok { OnOk result (cleaned.new.items ≡ cleaned.old.items ++ clean_name name.now) }
+    ensures err { OnErr result (take (vec_len cleaned.old) cleaned.new.items ≡ cleaned.old.items) }
+{
+    let (base, _) = name.split_at(base_len(name));
+    let (_, modifier) = name.split_at(modifier_start(name));
+    match read_modifier(modifier) {
+        Modifier::Currency => add_hyphens(base, cleaned),
+        Modifier::Script(script) => {
+            let (language, rest) = base.split_at(language_len(base));
+            add_hyphens(language, cleaned)?;
+            cleaned.push(b'-')?;
+            cleaned.extend_from_slice(&script)?;
+            add_hyphens(rest, cleaned)
+        }
+        Modifier::Valencia => {
+            add_hyphens(base, cleaned)?;
+            cleaned.extend_from_slice(b"-valencia")
+        }
+        Modifier::Other => {
+            add_hyphens(base, cleaned)?;
+            cleaned.extend_from_slice(modifier)
+        }
+    }
+}
+
+// How long language and territory are.
+fn base_len(name: &[u8]) -> usize
+    ensures { result ≡ position_or_len ends_base name.now }
+{
+    match name.iter().position(|byte| *byte == b'.' || *byte == b'@') {
+        Some(len) => len,
+        None => name.len(),
+    }
+}
+
+// Where the modifier begins, or how long the name is if it has none.
+fn modifier_start(name: &[u8]) -> usize
+    ensures { result ≡ position_or_len is_at name.now }
+{
+    match name.iter().position(|byte| *byte == b'@') {
+        Some(start) => start,
+        None => name.len(),
+    }
+}
+
+// How long the language is.
+fn language_len(base: &[u8]) -> usize
+    ensures { result ≡ position_or_len is_separator base.now }
+{
+    match base.iter().position(|byte| *byte == b'_' || *byte == b'-') {
+        Some(len) => len,
+        None => base.len(),
+    }
+}
+
+// Adds the text with a hyphen for each underscore.
+fn add_hyphens(text: &[u8], cleaned: &mut Vec<u8>) -> Result<(), AllocError>
+    ensures ok { OnOk result (cleaned.new.items ≡ cleaned.old.items ++ hyphens text.now) }
+    ensures err { OnErr result (take (vec_len cleaned.old) cleaned.new.items ≡ cleaned.old.items) }
+{
+    for byte in text {
+        cleaned.push(if *byte == b'_' { b'-' } else { *byte })?;
+    }
+    Ok(())
+}
