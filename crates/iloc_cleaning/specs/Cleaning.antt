@@ -6,7 +6,7 @@ use Rattle.std.specs.List.{starts_with, ends_with, before_first, position_or_len
 use Rattle.std.specs.Str.{bytes_eq}
 use Rattle.iloc_spec_grammar.specs.Syntax.{Text}
 use Rattle.iloc_cleaning.specs.declared.modifier.Modifier.{Modifier}
-use Rattle.iloc_cleaning.specs.declared.modifier.Modifier.TheVariants.{Currency, Script, Valencia, Other}
+use Rattle.iloc_cleaning.specs.declared.modifier.Modifier.TheVariants.{Currency, Script, Variant, Other}
 
 -- The byte order mark, in UTF-8.
 abbrev pub byte_order_mark : Text
@@ -49,22 +49,24 @@ hyphens t = map (λ b. if b == 95 then 45 else b) t
 abbrev pub from_first : (ℕ → Bool) → Text → Text
 from_first p t = drop (position_or_len p t) t
 
--- The modifiers that are known, as glibc names its locales: `ca_ES@euro`, `sr_RS@latin`,
--- `uz_UZ@cyrillic`, `sd_IN@devanagari`, `ca_ES@valencia`.
+-- What a modifier says, of those in the names of glibc's locales: `de_DE@euro`, `sr_RS@latin`,
+-- `uz_UZ@cyrillic`, `sd_IN@devanagari`, `ca_ES@valencia`, `aa_ER@saaho`. The scripts are those of
+-- ISO 15924; `valencia` is a variant of the IANA registry, and `saaho` one of CLDR.
 abbrev pub modifier : Text → Modifier
 modifier m = if bytes_eq m (codes "@euro") then Currency else
     if bytes_eq m (codes "@latin") then Script (codes "Latn") else
     if bytes_eq m (codes "@cyrillic") then Script (codes "Cyrl") else
     if bytes_eq m (codes "@devanagari") then Script (codes "Deva") else
-    if bytes_eq m (codes "@valencia") then Valencia else Other
+    if bytes_eq m (codes "@valencia") then Variant else
+    if bytes_eq m (codes "@saaho") then Variant else Other
 
--- Language and territory with a modifier: a currency says nothing; a script stands behind the
+-- Language and territory with a modifier: a currency adds nothing; a script stands behind the
 -- language, and a variant at the end; what is not known stays as it is.
 abbrev pub with_modifier : Text → Text → Modifier → Text
 with_modifier base m Currency = hyphens base
 with_modifier base m (Script s) = hyphens (before_first is_separator base)
     ++ (45 ∷ s ++ hyphens (from_first is_separator base))
-with_modifier base m Valencia = hyphens base ++ codes "-valencia"
+with_modifier base m Variant = hyphens base ++ 45 ∷ drop 1 m
 with_modifier base m Other = hyphens base ++ m
 
 -- The name of a locale, `language[_territory][.codeset][@modifier]` in POSIX, without its codeset.

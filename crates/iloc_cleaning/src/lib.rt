@@ -10,12 +10,12 @@
 //! | a codeset: from the first `.` on, up to `@` or to the end | left out | `de_DE.UTF-8` is `de-DE` |
 //! | `@euro` at the end, which names a currency | left out | `de_DE@euro` is `de-DE` |
 //! | `@latin`, `@cyrillic`, `@devanagari` at the end | `Latn`, `Cyrl`, `Deva` behind the language | `sr_RS@latin` is `sr-Latn-RS` |
-//! | `@valencia` at the end | the variant, at the end | `ca_ES@valencia` is `ca-ES-valencia` |
+//! | `@valencia`, `@saaho` at the end | a variant, at the end | `ca_ES@valencia` is `ca-ES-valencia` |
 //! | any other modifier: from the first `@` on | stays, so the library refuses the line there | `de_DE@foo` is `de-DE@foo` |
 //! | any other byte | stays: blanks within the line, another CR, part of a byte order mark | `en US` stays |
 //!
-//! The modifiers are those of glibc's locales, in lower case. Of these `@abegede` (a sort order), `@iqtelif` (an alphabet)
-//! and `@saaho` (a dialect) stay, since no subtag says what they say. `C` and `POSIX` stay too.
+//! The modifiers are those of glibc's locales, in lower case. Of these `@abegede` (a sort order) and `@iqtelif` (an alphabet)
+//! stay, since no subtag says what they say. `C` and `POSIX` stay too.
 //!
 //! A fault in a cleaned line is found in the cleaned text: its place counts the bytes of that, not of the line.
 //!

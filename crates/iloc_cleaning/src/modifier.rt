@@ -9,8 +9,8 @@ pub(crate) enum Modifier {
     Currency,
     // A script, by its subtag.
     Script([u8; 4]),
-    // The variant `valencia`.
-    Valencia,
+    // A variant, by its subtag.
+    Variant,
     // What is not known, or nothing at all.
     Other,
 }
@@ -24,7 +24,7 @@ pub(crate) fn read_modifier(text: &[u8]) -> Modifier
         b"@latin" => Modifier::Script(*b"Latn"),
         b"@cyrillic" => Modifier::Script(*b"Cyrl"),
         b"@devanagari" => Modifier::Script(*b"Deva"),
-        b"@valencia" => Modifier::Valencia,
+        b"@valencia" | b"@saaho" => Modifier::Variant,
         _ => Modifier::Other,
     }
 }

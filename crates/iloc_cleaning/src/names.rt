@@ -22,9 +22,10 @@ pub(crate) fn add_name(name: &[u8], cleaned: &mut Vec<u8>) -> Result<(), AllocEr
             cleaned.extend_from_slice(&script)?;
             add_hyphens(rest, cleaned)
         }
-        Modifier::Valencia => {
+        Modifier::Variant => {
             add_hyphens(base, cleaned)?;
-            cleaned.extend_from_slice(b"-valencia")
+            cleaned.push(b'-')?;
+            cleaned.extend_from_slice(&modifier[1..])
         }
         Modifier::Other => {
             add_hyphens(base, cleaned)?;
@@ -37,30 +38,24 @@ pub(crate) fn add_name(name: &[u8], cleaned: &mut Vec<u8>) -> Result<(), AllocEr
 fn base_len(name: &[u8]) -> usize
     ensures { result ≡ position_or_len ends_base name.now }
 {
-    match name.iter().position(|byte| *byte == b'.' || *byte == b'@') {
-        Some(len) => len,
-        None => name.len(),
-    }
+    let found = name.iter().position(|byte| *byte == b'.' || *byte == b'@');
+    found.unwrap_or(name.len())
 }
 
 // Where the modifier begins, or how long the name is if it has none.
 fn modifier_start(name: &[u8]) -> usize
     ensures { result ≡ position_or_len is_at name.now }
 {
-    match name.iter().position(|byte| *byte == b'@') {
-        Some(start) => start,
-        None => name.len(),
-    }
+    let found = name.iter().position(|byte| *byte == b'@');
+    found.unwrap_or(name.len())
 }
 
 // How long the language is.
 fn language_len(base: &[u8]) -> usize
     ensures { result ≡ position_or_len is_separator base.now }
 {
-    match base.iter().position(|byte| *byte == b'_' || *byte == b'-') {
-        Some(len) => len,
-        None => base.len(),
-    }
+    let found = base.iter().position(|byte| *byte == b'_' || *byte == b'-');
+    found.unwrap_or(base.len())
 }
 
 // Adds the text with a hyphen for each underscore.
