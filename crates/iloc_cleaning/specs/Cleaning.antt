@@ -24,10 +24,17 @@ without_return t = if ends_with nat_eq t (13 ∷ []) then take (length t - 1) t 
 abbrev pub is_blank : ℕ → Bool
 is_blank b = b == 32 || b == 9
 
--- A text without blanks at its start, and at its end.
+-- A text without blanks at its start.
+abbrev pub without_first : Text → Text
+without_first t = drop (prefix_len is_blank t) t
+
+-- A text without blanks at its end.
+abbrev pub without_last : Text → Text
+without_last t = take (length t - suffix_len is_blank t) t
+
+-- A text without blanks at both ends.
 abbrev pub without_blanks : Text → Text
-without_blanks t = let rest = drop (prefix_len is_blank t) t in
-    take (length rest - suffix_len is_blank rest) rest
+without_blanks t = without_last (without_first t)
 
 -- What begins a modifier: `@`, as in `sr_RS.UTF-8@latin`.
 abbrev pub is_at : ℕ → Bool
@@ -54,9 +61,9 @@ from_first p t = drop (position_or_len p t) t
 -- ISO 15924; `valencia` is a variant of the IANA registry, and `saaho` one of CLDR.
 abbrev pub modifier : Text → Modifier
 modifier m = if bytes_eq m (codes "@euro") then Currency else
-    if bytes_eq m (codes "@latin") then Script (codes "Latn") else
-    if bytes_eq m (codes "@cyrillic") then Script (codes "Cyrl") else
-    if bytes_eq m (codes "@devanagari") then Script (codes "Deva") else
+    if bytes_eq m (codes "@latin") then Script (codes "-Latn") else
+    if bytes_eq m (codes "@cyrillic") then Script (codes "-Cyrl") else
+    if bytes_eq m (codes "@devanagari") then Script (codes "-Deva") else
     if bytes_eq m (codes "@valencia") then Variant else
     if bytes_eq m (codes "@saaho") then Variant else Other
 
@@ -65,7 +72,7 @@ modifier m = if bytes_eq m (codes "@euro") then Currency else
 abbrev pub with_modifier : Text → Text → Modifier → Text
 with_modifier base m Currency = hyphens base
 with_modifier base m (Script s) = hyphens (before_first is_separator base)
-    ++ (45 ∷ s ++ hyphens (from_first is_separator base))
+    ++ (s ++ hyphens (from_first is_separator base))
 with_modifier base m Variant = hyphens base ++ 45 ∷ drop 1 m
 with_modifier base m Other = hyphens base ++ m
 

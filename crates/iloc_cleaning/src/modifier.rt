@@ -7,9 +7,9 @@ ghost use Rattle.iloc_cleaning.specs.Cleaning.{modifier};
 pub(crate) enum Modifier {
     // Nothing of the language: it names a currency.
     Currency,
-    // A script, by its subtag.
-    Script([u8; 4]),
-    // A variant, by its subtag.
+    // A script, by a hyphen and its subtag.
+    Script([u8; 5]),
+    // A variant: what follows the `@`.
     Variant,
     // What is not known, or nothing at all.
     Other,
@@ -19,12 +19,20 @@ pub(crate) enum Modifier {
 pub(crate) fn read_modifier(text: &[u8]) -> Modifier
     ensures { result ≡ modifier text.now }
 {
-    match text {
-        b"@euro" => Modifier::Currency,
-        b"@latin" => Modifier::Script(*b"Latn"),
-        b"@cyrillic" => Modifier::Script(*b"Cyrl"),
-        b"@devanagari" => Modifier::Script(*b"Deva"),
-        b"@valencia" | b"@saaho" => Modifier::Variant,
-        _ => Modifier::Other,
+    if text == b"@euro".as_slice() {
+        return Modifier::Currency;
     }
+    if text == b"@latin".as_slice() {
+        return Modifier::Script(*b"-Latn");
+    }
+    if text == b"@cyrillic".as_slice() {
+        return Modifier::Script(*b"-Cyrl");
+    }
+    if text == b"@devanagari".as_slice() {
+        return Modifier::Script(*b"-Deva");
+    }
+    if text == b"@valencia".as_slice() || text == b"@saaho".as_slice() {
+        return Modifier::Variant;
+    }
+    Modifier::Other
 }
