@@ -12,7 +12,7 @@ use std::alloc::{AllocError, Global};
 
 /// Answers lines in the mode of these answers, and lists what becomes of them. It keeps its room from line to line.
 #[derive(Drop)]
-pub(crate) struct Listed<A> {
+pub struct Listed<A> {
     alloc: Global,
     answers: A,
     room: Vec<u8>,
@@ -20,7 +20,8 @@ pub(crate) struct Listed<A> {
 }
 
 impl<A> Listed<A> {
-    pub(crate) fn new(alloc: Global, answers: A) -> Self {
+    /// It allocates nothing.
+    pub fn new(alloc: Global, answers: A) -> Self {
         Listed {
             alloc,
             answers,

@@ -7,20 +7,16 @@ ghost use Rattle.iloc_program.specs.Listing.{shown, shown_byte};
 use crate::ReplyBlock;
 use std::alloc::{AllocError, Global};
 
-// Adds a number in decimal digits.
-pub(crate) fn write_decimal(
-    alloc: Global,
-    number: u64,
-    replies: &mut ReplyBlock,
-) -> Result<(), AllocError>
+/// Adds a number in decimal digits.
+pub fn write_decimal(alloc: Global, number: u64, replies: &mut ReplyBlock) -> Result<(), AllocError>
     ensures { OnOk result (held replies.new ≡ held replies.old ++ decimal number) }
 {
     let digits = number.to_string(alloc)?;
     replies.extend_from_slice(digits.as_str().as_bytes())
 }
 
-// Adds a text as it is shown.
-pub(crate) fn write_shown(text: &[u8], replies: &mut ReplyBlock) -> Result<(), AllocError>
+/// Adds a text as it is shown: printable ASCII as itself, a tab as `\t`, a backslash as `\\`, other bytes as `\x` and two digits.
+pub fn write_shown(text: &[u8], replies: &mut ReplyBlock) -> Result<(), AllocError>
     ensures { OnOk result (held replies.new ≡ held replies.old ++ shown text.now) }
 {
     for byte in text {

@@ -1,0 +1,4 @@
+pub mod Prepared
+pub mod Checked
+pub mod Named
+pub mod Parted

@@ -1,0 +1,204 @@
+//! The inputs, one after the other, and what becomes of their lines.
+
+use crate::checking::Report;
+use crate::lines::{check, list, part};
+use crate::messages::complain_of_stream;
+use crate::streams::{Origin, Source, Target};
+use crate::table::Command;
+use crate::words::{Settings, TROUBLE, WORD, Words};
+use iloc_program::RunError;
+use std::fs::Files;
+use std::io::{ErrorKind, Input, Read, Write};
+use std::rt::Env;
+use std::{fs, io, str};
+
+/// How many lines an input has, and how many of them are refused.
+#[derive(Clone, Copy)]
+pub struct Tally {
+    pub lines: u64,
+    pub refused: u64,
+}
+
+impl Tally {
+    pub fn new() -> Tally {
+        Tally {
+            lines: 0,
+            refused: 0,
+        }
+    }
+
+    fn add(&mut self, other: Tally) {
+        self.lines = self.lines.saturating_add(other.lines);
+        self.refused = self.refused.saturating_add(other.refused);
+    }
+}
+
+/// What is done, and what came of it so far.
+#[derive(Drop)]
+pub struct Inputs<W> {
+    command: Command,
+    settings: Settings,
+    // Whether there are several.
+    are_many: bool,
+    target: Target<W>,
+    tally: Tally,
+    // Whether an input could not be read.
+    is_missing: bool,
+}
+
+// The status that a shell gives a program that a closed pipe ended.
+const CLOSED_PIPE: u8 = 141;
+
+impl<W: Write + Drop> Inputs<W> {
+    pub fn new(command: Command, words: &Words, to: W) -> Self {
+        let settings = words.settings;
+        Inputs {
+            command,
+            settings,
+            are_many: words.files.len() > 1,
+            target: Target::new(to, settings.exit_status),
+            tally: Tally::new(),
+            is_missing: false,
+        }
+    }
+
+    /// Goes through all inputs. One that cannot be read is named, and the next one is read. Returns the status.
+    pub fn answer<R>(&mut self, rt: &R, words: &Words) -> u8
+    where
+        R: Input + Eprint + Files + Env + AllocGlobal,
+    {
+        if words.files.is_empty() {
+            if let Some(status) = self.answer_one(rt, "-") {
+                return status;
+            }
+        }
+        for at in words.files.as_slice() {
+            let mut room = [0u8; WORD];
+            let count = match rt.arg(*at, &mut room) {
+                Ok(count) => count,
+                Err(_) => 0,
+            };
+            let name = match str::from_utf8(&room[..count]) {
+                Ok(name) => name,
+                Err(_) => "",
+            };
+            if let Some(status) = self.answer_one(rt, name) {
+                return status;
+            }
+        }
+        self.end(rt)
+    }
+
+    // Answers the lines of a file, or of standard input. Returns the status if nothing more can be done.
+    fn answer_one<R>(&mut self, rt: &R, name: &str) -> Option<u8>
+    where
+        R: Input + Eprint + Files + AllocGlobal,
+    {
+        let from = if name == "-" {
+            Origin::Input(rt.reader())
+        } else {
+            match fs::open(rt, name) {
+                Ok(file) => Origin::File(file),
+                Err(error) => {
+                    complain_of_stream(rt, name, Some(error));
+                    self.is_missing = true;
+                    return None;
+                }
+            }
+        };
+        let mut source = Source::new(from);
+        match self.answer_lines(rt, name, &mut source) {
+            Ok(()) => None,
+            Err(RunError::Read) => {
+                complain_of_stream(rt, name, source.error);
+                self.is_missing = true;
+                None
+            }
+            Err(RunError::Write) => Some(self.complain_of_output(rt)),
+            Err(RunError::OutOfMemory) => {
+                let _ = eprintln!(rt; "locid: out of memory");
+                Some(TROUBLE)
+            }
+        }
+    }
+
+    fn answer_lines<R: Read + Drop>(
+        &mut self,
+        rt: &impl AllocGlobal,
+        name: &str,
+        source: &mut Source<R>,
+    ) -> Result<(), RunError> {
+        let alloc = rt.alloc();
+        let settings = self.settings;
+        let reading = settings.reading;
+        let mut tally = Tally::new();
+        let counts = settings.counts || settings.is_quiet;
+        let report = Report {
+            name,
+            writes: !counts,
+            shows: settings.shows,
+        };
+        let outcome = match self.command {
+            Command::Normalize if !counts => {
+                let is_named = self.are_many && settings.listing.numbers;
+                let named = if is_named { Some(name) } else { None };
+                list(
+                    alloc,
+                    reading,
+                    settings.listing(),
+                    named,
+                    source,
+                    &mut self.target,
+                )
+            }
+            Command::Parts => part(
+                alloc,
+                reading,
+                settings.format,
+                &mut tally,
+                source,
+                &mut self.target,
+            ),
+            _ => check(alloc, reading, report, &mut tally, source, &mut self.target),
+        };
+        self.tally.add(tally);
+        outcome?;
+        if settings.counts && !settings.is_quiet {
+            write_counts(&mut self.target, name, tally)?;
+        }
+        Ok(())
+    }
+
+    // Says what is to be said at the end, and returns the status.
+    fn end(&self, rt: &impl Eprint) -> u8 {
+        let Tally { lines, refused } = self.tally;
+        let is_check = matches!(self.command, Command::Check);
+        if is_check && !self.settings.is_quiet && !self.settings.counts {
+            let _ = eprintln!(rt; "locid: {refused} of {lines} lines are refused");
+        }
+        if self.is_missing {
+            return TROUBLE;
+        }
+        let says = is_check || self.settings.exit_status || self.settings.is_quiet;
+        u8::from(says && (refused > 0 || self.target.is_refused))
+    }
+
+    // Says why nothing more can be written, and returns the status. A closed pipe needs no word.
+    fn complain_of_output(&self, rt: &(impl Eprint + AllocGlobal)) -> u8 {
+        complain_of_output(rt, self.target.error)
+    }
+}
+
+/// Says why nothing more can be written, and returns the status. A closed pipe needs no word.
+pub fn complain_of_output(rt: &(impl Eprint + AllocGlobal), error: Option<io::Error>) -> u8 {
+    if matches!(&error, Some(it) if it.kind() == ErrorKind::BrokenPipe) {
+        return CLOSED_PIPE;
+    }
+    complain_of_stream(rt, "write error", error)
+}
+
+// Writes how many lines an input has.
+fn write_counts<W: Write>(to: &mut W, name: &str, tally: Tally) -> Result<(), RunError> {
+    let Tally { lines, refused } = tally;
+    writeln!(to, "{name}\t{lines}\t{refused}").map_err(|_| RunError::Write)
+}

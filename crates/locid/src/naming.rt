@@ -1,0 +1,45 @@
+//! Refused lines of several files, with the name of the file before the number of the line.
+
+ghost use Rattle.locid.specs.Named.{IsNamed};
+
+use iloc_faults::fault_of;
+use iloc_program::numbered::Lists;
+use iloc_program::{Listing, Mode, ReplyBlock};
+use std::alloc::AllocError;
+
+/// Writes for each line what `below` writes, and before it the name of the file, if the line is refused and has its number.
+#[derive(Drop)]
+pub struct Naming<'a, L> {
+    mode: Mode,
+    // The name of the file, if it is to be written.
+    name: Option<&'a str>,
+    below: L,
+}
+
+impl<'a, L> Naming<'a, L> {
+    pub fn new(mode: Mode, name: Option<&'a str>, below: L) -> Self {
+        Naming { mode, name, below }
+    }
+}
+
+impl<L: Lists> Lists for Naming<'_, L> {
+    ghost is_entry = { λ listing number line entry.
+        IsNamed (L.is_entry listing number line) entry };
+
+    fn list(
+        &mut self,
+        listing: Listing,
+        number: u64,
+        line: &[u8],
+        replies: &mut ReplyBlock,
+    ) -> Result<(), AllocError> {
+        match self.name {
+            Some(name) if listing.numbers && fault_of(self.mode, line).is_some() => {
+                replies.extend_from_slice(name.as_bytes())?;
+                replies.push(b':')?;
+            }
+            _ => {}
+        }
+        self.below.list(listing, number, line, replies)
+    }
+}

@@ -1,0 +1,243 @@
+//! The parts of each line, in columns or as a JSON object.
+
+ghost use Rattle.locid.specs.Parted.{IsParted};
+
+use crate::inputs::Tally;
+use crate::parts::{Parts, cut, cut_block, cut_keyword, cut_piece};
+use crate::words::Format;
+use iloc_faults::{Fault, fault_of};
+use iloc_program::numbered::Lists;
+use iloc_program::quoting::write_decimal;
+use iloc_program::{InMode, Listing, ReplyBlock, reply_line};
+use iloc_spans::spans::Spans;
+use std::alloc::{AllocError, Global};
+
+/// Writes the parts of lines in the mode of these answers.
+#[derive(Drop)]
+pub struct Parting<'a, A> {
+    alloc: Global,
+    answers: A,
+    format: Format,
+    room: Vec<u8>,
+    spans: Spans,
+    // The normal text of a line, and what is written of it.
+    normal: ReplyBlock,
+    written: ReplyBlock,
+    tally: &'a mut Tally,
+}
+
+impl<'a, A> Parting<'a, A> {
+    pub fn new(alloc: Global, answers: A, format: Format, tally: &'a mut Tally) -> Self {
+        Parting {
+            alloc,
+            answers,
+            format,
+            room: Vec::new(alloc),
+            spans: Spans::growing(alloc),
+            normal: ReplyBlock::new(alloc),
+            written: ReplyBlock::new(alloc),
+            tally,
+        }
+    }
+}
+
+impl<A: InMode> Lists for Parting<'_, A> {
+    ghost is_entry = { λ _ _ line entry. IsParted A.mode line entry };
+
+    fn list(
+        &mut self,
+        _listing: Listing,
+        _number: u64,
+        line: &[u8],
+        replies: &mut ReplyBlock,
+    ) -> Result<(), AllocError> {
+        let mode = self.answers.mode();
+        self.tally.lines = self.tally.lines.saturating_add(1);
+        self.written.clear();
+        match fault_of(mode, line) {
+            Some(fault) => {
+                self.tally.refused = self.tally.refused.saturating_add(1);
+                write_fault(self.alloc, self.format, &fault, &mut self.written)?;
+            }
+            None => {
+                self.normal.clear();
+                reply_line(
+                    mode,
+                    line,
+                    &mut self.room,
+                    &mut self.spans,
+                    &mut self.normal,
+                )?;
+                let normal = self.normal.as_slice();
+                let text = normal.strip_suffix(b"\n").unwrap_or(normal);
+                write_parts(self.format, &cut(text), &mut self.written)?;
+            }
+        }
+        replies.extend_from_slice(self.written.as_slice())
+    }
+}
+
+// Adds why a line has no parts. In columns the others are empty.
+fn write_fault(
+    alloc: Global,
+    format: Format,
+    fault: &Fault,
+    to: &mut ReplyBlock,
+) -> Result<(), AllocError> {
+    let words = fault.refusal.words().as_bytes();
+    match format {
+        Format::Tsv => {
+            to.extend_from_slice(b"! ")?;
+            to.extend_from_slice(words)?;
+            to.extend_from_slice(b"\t\t\t\t\t\n")
+        }
+        Format::Json => {
+            to.extend_from_slice(b"{\"refused\":\"")?;
+            to.extend_from_slice(words)?;
+            to.extend_from_slice(b"\",\"start\":")?;
+            write_decimal(alloc, fault.start as u64, to)?;
+            to.extend_from_slice(b",\"end\":")?;
+            write_decimal(alloc, fault.end as u64, to)?;
+            to.extend_from_slice(b"}\n")
+        }
+    }
+}
+
+fn write_parts(format: Format, parts: &Parts<'_>, to: &mut ReplyBlock) -> Result<(), AllocError> {
+    match format {
+        Format::Tsv => write_columns(parts, to),
+        Format::Json => write_object(parts, to),
+    }
+}
+
+fn write_columns(parts: &Parts<'_>, to: &mut ReplyBlock) -> Result<(), AllocError> {
+    for part in [parts.language, parts.script, parts.region, parts.variants] {
+        to.extend_from_slice(part)?;
+        to.push(b'\t')?;
+    }
+    write_keywords(parts.extensions, b"=", b";", b"", to)?;
+    to.push(b'\t')?;
+    to.extend_from_slice(parts.extensions)?;
+    to.push(b'\n')
+}
+
+// Adds the keywords of the unicode extension: each key and its value, with these texts between, around and behind.
+fn write_keywords(
+    extensions: &[u8],
+    equals: &[u8],
+    between: &[u8],
+    quote: &[u8],
+    to: &mut ReplyBlock,
+) -> Result<(), AllocError> {
+    let mut rest = unicode_keywords(extensions);
+    let mut is_first = true;
+    'keywords: while !rest.is_empty() {
+        let (key, value, later) = cut_keyword(rest);
+        if !is_first {
+            to.extend_from_slice(between)?;
+        }
+        is_first = false;
+        write_quoted(key, quote, to)?;
+        if !value.is_empty() || !quote.is_empty() {
+            to.extend_from_slice(equals)?;
+            write_quoted(value, quote, to)?;
+        }
+        if later.len() >= rest.len() {
+            break 'keywords;
+        }
+        rest = later;
+    }
+    Ok(())
+}
+
+// The keywords of the unicode extension, behind its attributes.
+fn unicode_keywords(extensions: &[u8]) -> &[u8] {
+    let mut rest = unicode_block(extensions);
+    'attributes: while !rest.is_empty() {
+        let (piece, later) = cut_piece(rest);
+        if piece.len() == 2 || later.len() >= rest.len() {
+            return rest;
+        }
+        rest = later;
+    }
+    rest
+}
+
+// What follows the singleton `u`.
+fn unicode_block(extensions: &[u8]) -> &[u8] {
+    let mut rest = extensions;
+    'blocks: while !rest.is_empty() {
+        let (singleton, block, later) = cut_block(rest);
+        if matches!(singleton, b"u") {
+            return block;
+        }
+        if later.len() >= rest.len() {
+            return later;
+        }
+        rest = later;
+    }
+    rest
+}
+
+fn write_quoted(text: &[u8], quote: &[u8], to: &mut ReplyBlock) -> Result<(), AllocError> {
+    to.extend_from_slice(quote)?;
+    to.extend_from_slice(text)?;
+    to.extend_from_slice(quote)
+}
+
+// Adds a JSON object. A normal text has letters, digits and hyphens alone, so nothing in it has to be escaped.
+fn write_object(parts: &Parts<'_>, to: &mut ReplyBlock) -> Result<(), AllocError> {
+    to.extend_from_slice(b"{\"language\":")?;
+    write_text(parts.language, to)?;
+    to.extend_from_slice(b",\"script\":")?;
+    write_text(parts.script, to)?;
+    to.extend_from_slice(b",\"region\":")?;
+    write_text(parts.region, to)?;
+    to.extend_from_slice(b",\"variants\":[")?;
+    write_list(parts.variants, to)?;
+    to.extend_from_slice(b"],\"keywords\":{")?;
+    write_keywords(parts.extensions, b":", b",", b"\"", to)?;
+    to.extend_from_slice(b"},\"extensions\":{")?;
+    write_blocks(parts.extensions, to)?;
+    to.extend_from_slice(b"}}\n")
+}
+
+// Adds a text, or `null` for one that is absent.
+fn write_text(text: &[u8], to: &mut ReplyBlock) -> Result<(), AllocError> {
+    if text.is_empty() {
+        return to.extend_from_slice(b"null");
+    }
+    write_quoted(text, b"\"", to)
+}
+
+// Adds each piece.
+fn write_list(text: &[u8], to: &mut ReplyBlock) -> Result<(), AllocError> {
+    let mut rest = text;
+    'pieces: while !rest.is_empty() {
+        let (piece, later) = cut_piece(rest);
+        write_quoted(piece, b"\"", to)?;
+        if later.is_empty() || later.len() >= rest.len() {
+            break 'pieces;
+        }
+        to.push(b',')?;
+        rest = later;
+    }
+    Ok(())
+}
+
+// Adds each extension: its singleton, and what follows.
+fn write_blocks(extensions: &[u8], to: &mut ReplyBlock) -> Result<(), AllocError> {
+    let mut rest = extensions;
+    'blocks: while !rest.is_empty() {
+        let (singleton, block, later) = cut_block(rest);
+        write_quoted(singleton, b"\"", to)?;
+        to.push(b':')?;
+        write_quoted(block, b"\"", to)?;
+        if later.is_empty() || later.len() >= rest.len() {
+            break 'blocks;
+        }
+        to.push(b',')?;
+        rest = later;
+    }
+    Ok(())
+}

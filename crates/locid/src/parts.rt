@@ -1,0 +1,88 @@
+//! The parts of a normal text, cut at its hyphens.
+
+ghost use Rattle.std.specs.Prelude.{◌≤◌, length};
+
+/// The parts of a locale, each as its normal text has it. What is absent is empty.
+#[derive(Clone, Copy)]
+pub struct Parts<'a> {
+    pub language: &'a [u8],
+    pub script: &'a [u8],
+    pub region: &'a [u8],
+    /// All variants, with hyphens between.
+    pub variants: &'a [u8],
+    /// All extensions, from the first singleton on.
+    pub extensions: &'a [u8],
+}
+
+/// The first piece, and what follows its hyphen.
+pub fn cut_piece(text: &[u8]) -> (&[u8], &[u8])
+    ensures { length result.0.now ≤ length text.now }
+{
+    match text.iter().position(|byte| *byte == b'-') {
+        Some(at) => (&text[..at], &text[at + 1..]),
+        None => (text, &[]),
+    }
+}
+
+/// The parts of a normal text. A script has four letters, a region two letters or three digits; up to the first
+/// singleton all else are variants (UTS #35, part 1, section 3.1).
+pub fn cut(text: &[u8]) -> Parts<'_> {
+    let (language, mut rest) = cut_piece(text);
+    let mut script = &text[..0];
+    let mut region = &text[..0];
+    let (piece, later) = cut_piece(rest);
+    if piece.len() == 4 && piece.iter().all(|byte| byte.is_ascii_alphabetic()) {
+        script = piece;
+        rest = later;
+    }
+    let (piece, later) = cut_piece(rest);
+    if piece.len() == 2 || piece.len() == 3 {
+        region = piece;
+        rest = later;
+    }
+    let (variants, extensions) = cut_blocks(rest);
+    Parts {
+        language,
+        script,
+        region,
+        variants,
+        extensions,
+    }
+}
+
+/// What stands before the first piece of one byte, and what begins with it.
+pub fn cut_blocks(text: &[u8]) -> (&[u8], &[u8]) {
+    let mut at = 0;
+    'pieces: while at < text.len() {
+        let (piece, _) = cut_piece(&text[at..]);
+        if piece.len() == 1 {
+            return (&text[..at.saturating_sub(1)], &text[at..]);
+        }
+        at += piece.len() + 1;
+    }
+    (text, &[])
+}
+
+/// The first block, its singleton and what follows it, and the blocks behind. A block `x` takes all the rest.
+pub fn cut_block(blocks: &[u8]) -> (&[u8], &[u8], &[u8]) {
+    let (singleton, rest) = cut_piece(blocks);
+    if matches!(singleton, b"x") {
+        return (singleton, rest, &[]);
+    }
+    let (block, later) = cut_blocks(rest);
+    (singleton, block, later)
+}
+
+/// The first keyword, its key and its value, and what follows. Attributes, which come before, are no keywords.
+pub fn cut_keyword(block: &[u8]) -> (&[u8], &[u8], &[u8]) {
+    let (key, rest) = cut_piece(block);
+    let mut at = 0;
+    'pieces: while at < rest.len() {
+        let (piece, _) = cut_piece(&rest[at..]);
+        if piece.len() == 2 {
+            return (key, &rest[..at.saturating_sub(1)], &rest[at..]);
+        }
+        at += piece.len() + 1;
+    }
+    (key, rest, &[])
+}

@@ -1,0 +1,205 @@
+//! What the program takes, and how it says so. tools/write_options writes this from tools/locid_options.txt.
+
+/// What becomes of each line.
+#[derive(Clone, Copy)]
+pub enum Command {
+    Normalize,
+    Check,
+    Parts,
+}
+
+/// An option.
+#[derive(Clone, Copy)]
+pub enum Flag {
+    Mode,
+    Clean,
+    Null,
+    Where,
+    LineNumber,
+    OnlyRefused,
+    Show,
+    Format,
+    ExitStatus,
+    Quiet,
+    Count,
+    Help,
+    Version,
+}
+
+/// The command of that name.
+pub fn command_of(word: &[u8]) -> Option<Command> {
+    match word {
+        b"normalize" => Some(Command::Normalize),
+        b"check" => Some(Command::Check),
+        b"parts" => Some(Command::Parts),
+        _ => None,
+    }
+}
+
+/// The option of that name, if the command has it.
+pub fn long_of(command: Command, name: &[u8]) -> Option<Flag> {
+    match (command, name) {
+        (_, b"mode") => Some(Flag::Mode),
+        (_, b"clean") => Some(Flag::Clean),
+        (_, b"null") => Some(Flag::Null),
+        (Command::Normalize, b"where") => Some(Flag::Where),
+        (Command::Normalize, b"line-number") => Some(Flag::LineNumber),
+        (Command::Normalize, b"only-refused") => Some(Flag::OnlyRefused),
+        (Command::Check, b"show") => Some(Flag::Show),
+        (Command::Parts, b"format") => Some(Flag::Format),
+        (Command::Normalize | Command::Parts, b"exit-status") => Some(Flag::ExitStatus),
+        (Command::Normalize | Command::Check, b"quiet") => Some(Flag::Quiet),
+        (Command::Normalize | Command::Check, b"count") => Some(Flag::Count),
+        (_, b"help") => Some(Flag::Help),
+        (_, b"version") => Some(Flag::Version),
+        _ => None,
+    }
+}
+
+/// The option of that letter, if the command has it.
+pub fn short_of(command: Command, letter: u8) -> Option<Flag> {
+    match (command, letter) {
+        (_, b'm') => Some(Flag::Mode),
+        (_, b'c') => Some(Flag::Clean),
+        (_, b'0') => Some(Flag::Null),
+        (Command::Normalize, b'w') => Some(Flag::Where),
+        (Command::Normalize, b'n') => Some(Flag::LineNumber),
+        (Command::Normalize, b'o') => Some(Flag::OnlyRefused),
+        (Command::Check, b's') => Some(Flag::Show),
+        (Command::Parts, b'f') => Some(Flag::Format),
+        (Command::Normalize | Command::Parts, b'e') => Some(Flag::ExitStatus),
+        (Command::Normalize | Command::Check, b'q') => Some(Flag::Quiet),
+        (_, b'h') => Some(Flag::Help),
+        (_, b'V') => Some(Flag::Version),
+        _ => None,
+    }
+}
+
+/// Whether a word stands behind the option.
+pub fn takes_value(flag: Flag) -> bool {
+    matches!(flag, Flag::Mode | Flag::Format)
+}
+
+/// What --help says of a command.
+pub fn help_of(command: Command) -> &'static str {
+    match command {
+        Command::Normalize => NORMALIZE,
+        Command::Check => CHECK,
+        Command::Parts => PARTS,
+    }
+}
+
+/// The version.
+pub const VERSION: &str = "locid 1.0.0\n";
+
+/// What --help says without a command.
+pub const HELP: &str = "\
+Usage: locid COMMAND [OPTION ..] [FILE ..]
+Unicode locale identifiers, line by line.
+
+  normalize  Writes the normal form of each line, or `! ` and why the line is refused.
+  check      Writes where and why lines are refused, as FILE:LINE:COLUMN: REASON: SUBTAG.
+  parts      Writes the parts of each line, in columns or as JSON.
+
+locid COMMAND --help says what a command takes, and locid --version which version this is.
+";
+
+const NORMALIZE: &str = "\
+Usage: locid normalize [OPTION ..] [FILE ..]
+Writes the normal form of each line, or `! ` and why the line is refused.
+
+With no FILE, or for a FILE -, it reads standard input.
+
+  -m, --mode MODE      what a line is: an identifier of a language (langid), a
+                       locale with its extensions (locale, if nothing is said) or a
+                       locale by which data is found (data)
+  -c, --clean          clean each line first: leave out a byte order mark at the
+                       start, blanks around the line, a CR at its end and what
+                       follows a dot; read _ as -; take @latin as a script and
+                       @valencia as a variant
+  -0, --null           lines end with a zero byte, in the input and in answers
+  -w, --where          write after a refusal a tab, the range of the bytes at which
+                       the fault stands, from 0 on, a tab, and these bytes
+  -n, --line-number    write the number of the line and a tab before a refusal, and
+                       the file if there are several
+  -o, --only-refused   write nothing for lines that are accepted
+  -e, --exit-status    end with status 1 if a line was refused
+  -q, --quiet          write nothing of lines: the status says whether one was
+                       refused
+      --count          write nothing of lines but for each input its name, how many
+                       lines it has and how many are refused, with tabs between
+  -h, --help           say this, and end
+  -V, --version        say the version, and end
+  --                   end the options: what follows are files
+
+Status: 0 if all is answered; 1 with --exit-status or --quiet if a line was refused;
+2 if an argument is wrong, an input cannot be read or the output cannot be written;
+141 if nobody reads the output any more.
+
+Example: printf 'EN-us\\nen-US-foo\\n' | locid normalize -now
+prints:  2\t! Invalid subtag\t6..9\tfoo
+";
+
+const CHECK: &str = "\
+Usage: locid check [OPTION ..] [FILE ..]
+Writes where and why lines are refused, as FILE:LINE:COLUMN: REASON: SUBTAG.
+
+With no FILE, or for a FILE -, it reads standard input.
+
+  -m, --mode MODE      what a line is: an identifier of a language (langid), a
+                       locale with its extensions (locale, if nothing is said) or a
+                       locale by which data is found (data)
+  -c, --clean          clean each line first: leave out a byte order mark at the
+                       start, blanks around the line, a CR at its end and what
+                       follows a dot; read _ as -; take @latin as a script and
+                       @valencia as a variant
+  -0, --null           lines end with a zero byte, in the input and in answers
+  -s, --show           write below each refusal the line, with a caret below each
+                       byte of the fault
+  -q, --quiet          write nothing of lines: the status says whether one was
+                       refused
+      --count          write nothing of lines but for each input its name, how many
+                       lines it has and how many are refused, with tabs between
+  -h, --help           say this, and end
+  -V, --version        say the version, and end
+  --                   end the options: what follows are files
+
+COLUMN is that of a byte, from 1 on. With --clean it is one of the cleaned line.
+
+Status: 0 if no line is refused, 1 if one is; 2 if an argument is wrong, an input cannot
+be read or the output cannot be written; 141 if nobody reads the output any more.
+
+Example: printf 'EN-us\\nen-US-foo\\n' | locid check
+prints:  -:2:7: Invalid subtag: foo
+";
+
+const PARTS: &str = "\
+Usage: locid parts [OPTION ..] [FILE ..]
+Writes the parts of each line, in columns or as JSON.
+
+With no FILE, or for a FILE -, it reads standard input.
+
+  -m, --mode MODE      what a line is: an identifier of a language (langid), a
+                       locale with its extensions (locale, if nothing is said) or a
+                       locale by which data is found (data)
+  -c, --clean          clean each line first: leave out a byte order mark at the
+                       start, blanks around the line, a CR at its end and what
+                       follows a dot; read _ as -; take @latin as a script and
+                       @valencia as a variant
+  -0, --null           lines end with a zero byte, in the input and in answers
+  -f, --format FORMAT  how parts are written: in columns (tsv, if nothing is said)
+                       or as a JSON object a line (json)
+  -e, --exit-status    end with status 1 if a line was refused
+  -h, --help           say this, and end
+  -V, --version        say the version, and end
+  --                   end the options: what follows are files
+
+Columns: language, script, region, variants, keywords and extensions.
+
+Status: 0 if all is answered; 1 with --exit-status if a line was refused; 2 if an argument
+is wrong, an input cannot be read or the output cannot be written; 141 if nobody reads the
+output any more.
+
+Example: printf 'EN-latn-us-u-ca-buddhist\\n' | locid parts
+prints:  en\tLatn\tUS\t\tca=buddhist\tu-ca-buddhist
+";
