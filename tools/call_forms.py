@@ -11,7 +11,7 @@ OPERATORS = {"◌≡◌": "≡", "◌↔◌": "↔"}
 # A parameter in each language: a handle, a text, a number, a place to write to, and the place for an answer.
 PARAMETERS = {
     "Rattle": (
-        "{own}: &mut Handle", "{text}: &[u8]", "{name}: {rust}", "{name}: &mut {rust}",
+        "{own}: &mut {held}", "{text}: &[u8]", "{name}: {rust}", "{name}: &mut {rust}",
         "buffer: &mut [u8], needed: &mut usize",
     ),
     "C": (
@@ -33,7 +33,7 @@ def parameters(row, language):
         rust, c, python = NUMBERS.get(name) or PLACES.get(name) or ("", "", "")
         own, const = "handle" if name in ("reads", "changes") else name, "" if name == "changes" else "const "
         length = row.length_of(name) if name in TEXTS else ""
-        given = {"handle": HANDLES.get(name), "text": TEXTS.get(name), "rust": rust, "c": c, "python": python}
+        given = {"handle": HANDLES.get(name), "held": "Handle" if name == "changes" else "Lent", "text": TEXTS.get(name), "rust": rust, "c": c, "python": python}
         yield from PARAMETERS[language][kind].format(name=name, own=own, const=const, length=length, **given).split(", ")
 
 
@@ -52,13 +52,13 @@ def clauses(row):
     if row.kind == "tell":
         answered, gives = "EndsAs", f"(Tells ({gives}) buffer.old buffer.new needed.new) result"
     if row.kind in ("tell", "ask"):
-        yield f"ensures {{ IsAsked handle.old.value handle.new.value (λ it. {answered} {gives}) }}"
+        yield f"ensures {{ IsAsked handle.old handle.new (λ it. {answered} {gives}) }}"
     elif row.kind == "change":
         yield f"ensures {{ IsChanged ({gives}) handle.old.value handle.new.value result }}"
     else:
         gives = re.sub(r"\bfrom\b", "that", gives)
         changed = f"IsChanged ({gives}) handle.old.value handle.new.value result"
-        yield f"ensures {{ IsAsked from.old.value from.new.value (λ that. {changed}) }}"
+        yield f"ensures {{ IsAsked from.old from.new (λ that. {changed}) }}"
 
 
 def kept_together(clause):
@@ -108,7 +108,8 @@ def ghost_uses(imports, texts):
 def module(says, rows, imports, made):
     """Returns the source of a module of exports."""
     uses = ghost_uses(imports, " ".join(it for row in rows for it in clauses(row)))
-    names = {"Handle", *(CALLS[it.kind][0] for it in rows)}
+    names = {"Lent" if at != "changes" else "Handle" for it in rows for at in it.takes if at in HANDLES}
+    names |= {CALLS[it.kind][0] for it in rows}
     names.update(it for row in rows for it in re.findall(r"(?<![\w:])[A-Z]\w*", row.thing))
     calls = one_or_filled("use iloc_handles::", sorted(names), ";", "")
     functions = "\n".join(map(export, rows))
