@@ -19,7 +19,7 @@ PARAMETERS = {
         "uint8_t *buffer, size_t room, size_t *needed",
     ),
     "Rust": (
-        "{handle}: *mut icu_locale_t", "{text}: *const u8, {length}: usize", "{name}: {rust}", "{name}: *mut {rust}",
+        "{handle}: *{access} icu_locale_t", "{text}: *const u8, {length}: usize", "{name}: {rust}", "{name}: *mut {rust}",
         "buffer: *mut u8, room: usize, needed: *mut usize",
     ),
     "Python": ("_LOCALE", "*_TEXT", "{python}", "{python}", "*_BUFFER"),
@@ -31,10 +31,12 @@ def parameters(row, language):
     for name in row.takes:
         kind = next((at for at, it in enumerate((HANDLES, TEXTS, NUMBERS, PLACES)) if name in it), -1)
         rust, c, python = NUMBERS.get(name) or PLACES.get(name) or ("", "", "")
-        own, const = "handle" if name in ("reads", "changes") else name, "" if name == "changes" else "const "
+        own = "handle" if name in ("reads", "changes") else name
+        held, access, const = ("Handle", "mut", "") if name == "changes" else ("Lent", "const", "const ")
         length = row.length_of(name) if name in TEXTS else ""
-        given = {"handle": HANDLES.get(name), "held": "Handle" if name == "changes" else "Lent", "text": TEXTS.get(name), "rust": rust, "c": c, "python": python}
-        yield from PARAMETERS[language][kind].format(name=name, own=own, const=const, length=length, **given).split(", ")
+        given = {"handle": HANDLES.get(name), "text": TEXTS.get(name), "rust": rust, "c": c, "python": python}
+        given.update(name=name, own=own, held=held, access=access, const=const, length=length)
+        yield from PARAMETERS[language][kind].format(**given).split(", ")
 
 
 def head_with(head, parameters, tail, width):
@@ -108,7 +110,7 @@ def ghost_uses(imports, texts):
 def module(says, rows, imports, made):
     """Returns the source of a module of exports."""
     uses = ghost_uses(imports, " ".join(it for row in rows for it in clauses(row)))
-    names = {"Lent" if at != "changes" else "Handle" for it in rows for at in it.takes if at in HANDLES}
+    names = {"Handle" if at == "changes" else "Lent" for it in rows for at in it.takes if at in HANDLES}
     names |= {CALLS[it.kind][0] for it in rows}
     names.update(it for row in rows for it in re.findall(r"(?<![\w:])[A-Z]\w*", row.thing))
     calls = one_or_filled("use iloc_handles::", sorted(names), ";", "")
