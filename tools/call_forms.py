@@ -130,13 +130,13 @@ def never_null(row):
 
 def attributes(row):
     """Returns the macros before a declaration in C."""
-    strict, handles = never_null(row), sum(it in HANDLES for it in row.takes)
+    strict, handles = never_null(row), [it for it in row.takes if it in HANDLES]
     if not strict:
         first = "extern"
     elif not handles and len(strict) == 1:
         first = f"ICU_LOCALE_WRITES({strict[0]})"
     else:
-        both = "_BOTH" if handles == 2 else ""
+        both = "_BOTH" if len(handles) == 2 and "changes" in handles else ""
         first = f"ICU_LOCALE_TAKES{both}(({', '.join(map(str, strict))}))"
     return first + ("" if row.gives in ("status?", "u32", "nothing") else " ICU_LOCALE_TELLS")
 

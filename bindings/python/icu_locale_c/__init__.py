@@ -58,7 +58,7 @@ __all__ = [
     "compare",
 ]
 
-HEADER = 5
+HEADER = 6
 HERE = pathlib.Path(__file__).resolve().parent
 TOP = HERE.parents[2]
 

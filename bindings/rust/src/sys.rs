@@ -1,7 +1,7 @@
 //! The header `include/icu_locale.h`, which says what each function does, and what a caller owes.
 // Written by tools/write_calls from tools/calls.txt and the numbers of that header: change those and not this file.
 
-pub const VERSION: u32 = 5;
+pub const VERSION: u32 = 6;
 
 pub const IDENTIFIER: u32 = 0;
 pub const LOCALE: u32 = 1;
