@@ -57,13 +57,17 @@
 #define ICU_LOCALE_TELLS
 #define ICU_LOCALE_TAKES(n) extern
 #endif
-/* Of a call that changes one handle by another: its definition is at the end of this header. */
+/* Of a call that changes one handle by another: its definition is at the end of this header. In C it has a name of its
+ * own in the object file, since the function of the library has the name that stands here. */
 #if defined(__GNUC__) && defined(__cplusplus)
 #define ICU_LOCALE_TAKES_BOTH(n) extern "C++" __attribute__((nonnull n, nothrow)) inline
+#define ICU_LOCALE_BOTH(name)
 #elif defined(__GNUC__)
 #define ICU_LOCALE_TAKES_BOTH(n) __attribute__((nonnull n, nothrow)) static __inline__
+#define ICU_LOCALE_BOTH(name) __asm__(name)
 #else
 #define ICU_LOCALE_TAKES_BOTH(n) extern
+#define ICU_LOCALE_BOTH(name)
 #endif
 #if defined(__cplusplus) && __cplusplus >= 201103L
 #define ICU_LOCALE_INLINE noexcept
@@ -194,22 +198,22 @@ icu_locale_status icu_locale_words(icu_locale_status status, uint8_t *buffer, si
  * handle stands for und after a call that may change it, it is {0} again and owns no memory. Any other handle owns
  * memory until icu_locale_free. These rules come on top of those above:
  *
- *  - A call that only reads takes const icu_locale_t *. Any number of such calls may use one handle at the same time, in
- *    any threads. They write neither to the handle nor to what it points to, so both may lie in memory that cannot be
- *    written: static const icu_locale_t und = ICU_LOCALE_UND;
+ *  - A call that only reads takes const icu_locale_t *. Any number of such calls may use one handle at the same time,
+ *    in any threads. They write neither to the handle nor to what it points to, so both may lie in memory that cannot
+ *    be written: static const icu_locale_t und = ICU_LOCALE_UND;
  *  - A call that changes a handle has it alone: no other call uses the handle meanwhile, in any thread. What one thread
  *    changed another may read if a lock, the start or end of a thread, or a sequentially consistent atomic orders that.
- *  - A handle may be given twice to a call that only reads: it is equal to itself. By this header, read by GCC or Clang,
- *    it may also be copied to itself or extended by itself, and is then as before. With another compiler or from another
- *    language the two handles of icu_locale_copy and icu_locale_extend_unicode are two.
+ *  - A handle may be given twice to a call that only reads: it is equal to itself. By this header, read by GCC or
+ *    Clang, it may also be copied to itself or extended by itself, and is then as before. With another compiler or from
+ *    another language icu_locale_copy and icu_locale_extend_unicode take two handles.
  *  - Only the calls of this header write a handle, and only they read or write what it points to. It is not copied by
  *    = or memcpy: use icu_locale_copy. It may be moved to another place if the old one is no longer used.
  *  - The pointer of a handle is not null. A handle is aligned as C aligns icu_locale_t, and overlaps no text, buffer or
  *    out-pointer of the call.
  *
- * It is proved that a handle is as before after each call that only reads. It is tested (bindings/c/readers.c), and not
- * proved, that such a call writes nothing to it meanwhile. No contract can say what the program does meanwhile: that it
- * neither changes nor frees a handle while calls read it, is for the program to keep.
+ * It is proved that a handle is as before after each call that only reads. That such a call writes nothing meanwhile is
+ * tested, by bindings/c/readers.c. No contract can say that nothing changes or frees a handle while calls read it: that
+ * is for the program to keep.
  *
  * A call that changes a handle ends in one of three ways. DONE: the locale has changed as the call says. A refusal:
  * the locale is as before, and the status names what is wrong with the text. OUT_OF_MEMORY: the locale is as before.
@@ -230,7 +234,8 @@ icu_locale_status icu_locale_parse(icu_locale_t *locale, const uint8_t *text, si
 
 /* The locale becomes that of the other handle. DONE or OUT_OF_MEMORY. */
 ICU_LOCALE_TAKES_BOTH((1, 2)) ICU_LOCALE_TELLS
-icu_locale_status icu_locale_copy(icu_locale_t *locale, const icu_locale_t *from) ICU_LOCALE_NOEXCEPT;
+icu_locale_status icu_locale_copy(icu_locale_t *locale, const icu_locale_t *from)
+    ICU_LOCALE_BOTH("icu_locale_copy_or_itself") ICU_LOCALE_NOEXCEPT;
 
 /* Frees what the handle owns. It is {0} then, and stands for und. */
 ICU_LOCALE_TAKES((1))
@@ -369,7 +374,8 @@ icu_locale_status icu_locale_clear_keywords(icu_locale_t *locale) ICU_LOCALE_NOE
 /* Extends the extension u by that of the other handle: it then has the attributes of both, and the keywords of both.
  * At a key of both, the other handle's value wins. The other handle stays as it is. DONE or OUT_OF_MEMORY. */
 ICU_LOCALE_TAKES_BOTH((1, 2)) ICU_LOCALE_TELLS
-icu_locale_status icu_locale_extend_unicode(icu_locale_t *locale, const icu_locale_t *from) ICU_LOCALE_NOEXCEPT;
+icu_locale_status icu_locale_extend_unicode(icu_locale_t *locale, const icu_locale_t *from)
+    ICU_LOCALE_BOTH("icu_locale_extend_unicode_or_itself") ICU_LOCALE_NOEXCEPT;
 
 /* Attributes of the extension u, such as foo in en-u-foo. They are read and changed as variants are. Each is 3 to 8
  * letters or digits. A text that is no attribute is refused with INVALID_EXTENSION. Adding or removing one allocates.
@@ -500,24 +506,20 @@ extern icu_locale_status icu_locale_two_copy(icu_locale_t *, const icu_locale_t 
 extern icu_locale_status icu_locale_two_extend(icu_locale_t *, const icu_locale_t *)
     ICU_LOCALE_NAMED("icu_locale_extend_unicode");
 
-#if !defined(__cplusplus)
-/* In C both would have one name in the object file. */
-static __inline__ icu_locale_status icu_locale_copy(icu_locale_t *, const icu_locale_t *)
-    __asm__("icu_locale_both_copy");
-static __inline__ icu_locale_status icu_locale_extend_unicode(icu_locale_t *, const icu_locale_t *)
-    __asm__("icu_locale_both_extend");
-#endif
-
 ICU_LOCALE_TAKES_BOTH((1, 2))
 icu_locale_status icu_locale_copy(icu_locale_t *locale, const icu_locale_t *from) ICU_LOCALE_INLINE
 {
-    return locale == from ? (icu_locale_status)ICU_LOCALE_DONE : icu_locale_two_copy(locale, from);
+    if (locale == from)
+        return ICU_LOCALE_DONE;
+    return icu_locale_two_copy(locale, from);
 }
 
 ICU_LOCALE_TAKES_BOTH((1, 2))
 icu_locale_status icu_locale_extend_unicode(icu_locale_t *locale, const icu_locale_t *from) ICU_LOCALE_INLINE
 {
-    return locale == from ? (icu_locale_status)ICU_LOCALE_DONE : icu_locale_two_extend(locale, from);
+    if (locale == from)
+        return ICU_LOCALE_DONE;
+    return icu_locale_two_extend(locale, from);
 }
 #endif
 

@@ -144,7 +144,8 @@ def attributes(row):
 def declaration(row):
     """Returns the declaration of a call in C."""
     given, head = [*parameters(row, "C")] or ["void"], attributes(row)
-    units = [*[f"{it}," for it in given[:-1]], f"{given[-1]})", "ICU_LOCALE_NOEXCEPT;"]
+    own = [f'ICU_LOCALE_BOTH("{row.symbol}_or_itself")'] if "_BOTH" in head else []
+    units = [*[f"{it}," for it in given[:-1]], f"{given[-1]})", *own, "ICU_LOCALE_NOEXCEPT;"]
     start = f"{head}{' ' if head == 'extern' else chr(10)}{RESULTS[row.gives][1]} {row.symbol}("
     first, last = start[: start.rfind("\n") + 1], start[start.rfind("\n") + 1 :]
     return first + fill(units, WIDE, last, "    ")
