@@ -32,8 +32,8 @@
  *  - malloc, realloc and free of the program are of one allocator, throw nothing, and align each block as C promises (a
  *    block of at least 16 bytes to 16).
  *  - No call comes from a signal handler, or from a forked child of a process with several threads.
- *  - A handle may be given twice to one call by this header, read by GCC or Clang: it is equal to itself, and stays as it
- *    is if it becomes itself or is extended by itself. With another compiler or from another language it may not. */
+ *
+ * More rules for handles stand at icu_locale_t. */
 #ifndef ICU_LOCALE_H
 #define ICU_LOCALE_H
 
@@ -57,13 +57,17 @@
 #define ICU_LOCALE_TELLS
 #define ICU_LOCALE_TAKES(n) extern
 #endif
-/* Of a call that takes two handles: its definition is at the end of this header. */
+/* Of a call that changes one handle by another: its definition is at the end of this header. In C it has a name of its
+ * own in the object file, since the function of the library has the name that stands here. */
 #if defined(__GNUC__) && defined(__cplusplus)
 #define ICU_LOCALE_TAKES_BOTH(n) extern "C++" __attribute__((nonnull n, nothrow)) inline
+#define ICU_LOCALE_BOTH(name)
 #elif defined(__GNUC__)
 #define ICU_LOCALE_TAKES_BOTH(n) __attribute__((nonnull n, nothrow)) static __inline__
+#define ICU_LOCALE_BOTH(name) __asm__(name)
 #else
 #define ICU_LOCALE_TAKES_BOTH(n) extern
+#define ICU_LOCALE_BOTH(name)
 #endif
 #if defined(__cplusplus) && __cplusplus >= 201103L
 #define ICU_LOCALE_INLINE noexcept
@@ -79,7 +83,7 @@ extern "C" {
 
 /* Changes whenever a function of the library changes its form. icu_locale_version() gives the number of the header that
  * the library was made for. */
-#define ICU_LOCALE_VERSION 5
+#define ICU_LOCALE_VERSION 6
 
 /* How a text is parsed. Any other number is refused with ICU_LOCALE_UNKNOWN_NUMBER. */
 typedef uint32_t icu_locale_mode;
@@ -194,14 +198,22 @@ icu_locale_status icu_locale_words(icu_locale_status status, uint8_t *buffer, si
  * handle stands for und after a call that may change it, it is {0} again and owns no memory. Any other handle owns
  * memory until icu_locale_free. These rules come on top of those above:
  *
+ *  - A call that only reads takes const icu_locale_t *. Any number of such calls may use one handle at the same time,
+ *    in any threads. They write neither to the handle nor to what it points to, so both may lie in memory that cannot
+ *    be written: static const icu_locale_t und = ICU_LOCALE_UND;
+ *  - A call that changes a handle has it alone: no other call uses the handle meanwhile, in any thread. What one thread
+ *    changed another may read if a lock, the start or end of a thread, or a sequentially consistent atomic orders that.
+ *  - A handle may be given twice to a call that only reads: it is equal to itself. By this header, read by GCC or
+ *    Clang, it may also be copied to itself or extended by itself, and is then as before. With another compiler or from
+ *    another language icu_locale_copy and icu_locale_extend_unicode take two handles.
  *  - Only the calls of this header write a handle, and only they read or write what it points to. It is not copied by
  *    = or memcpy: use icu_locale_copy. It may be moved to another place if the old one is no longer used.
- *  - A call that only reads takes const icu_locale_t *, and leaves the handle as it was. But it takes the locale out of
- *    the handle meanwhile, and puts it back. So no handle is itself defined const: it lies where it can be written. A
- *    handle that is {0} may be, since such a call does not write to it: static const icu_locale_t und = ICU_LOCALE_UND;
- *  - During a call, also one that only reads, no other call uses its handles, in any thread. A handle may go to another
- *    thread if a lock, the start or end of a thread, or a sequentially consistent atomic orders that.
- *  - The pointer of a handle is not null. A handle is aligned as C aligns icu_locale_t, and overlaps no other argument.
+ *  - The pointer of a handle is not null. A handle is aligned as C aligns icu_locale_t, and overlaps no text, buffer or
+ *    out-pointer of the call.
+ *
+ * It is proved that a handle is as before after each call that only reads. That such a call writes nothing meanwhile is
+ * tested, by bindings/c/readers.c. No contract can say that nothing changes or frees a handle while calls read it: that
+ * is for the program to keep.
  *
  * A call that changes a handle ends in one of three ways. DONE: the locale has changed as the call says. A refusal:
  * the locale is as before, and the status names what is wrong with the text. OUT_OF_MEMORY: the locale is as before.
@@ -222,7 +234,8 @@ icu_locale_status icu_locale_parse(icu_locale_t *locale, const uint8_t *text, si
 
 /* The locale becomes that of the other handle. DONE or OUT_OF_MEMORY. */
 ICU_LOCALE_TAKES_BOTH((1, 2)) ICU_LOCALE_TELLS
-icu_locale_status icu_locale_copy(icu_locale_t *locale, const icu_locale_t *from) ICU_LOCALE_NOEXCEPT;
+icu_locale_status icu_locale_copy(icu_locale_t *locale, const icu_locale_t *from)
+    ICU_LOCALE_BOTH("icu_locale_copy_or_itself") ICU_LOCALE_NOEXCEPT;
 
 /* Frees what the handle owns. It is {0} then, and stands for und. */
 ICU_LOCALE_TAKES((1))
@@ -238,11 +251,11 @@ ICU_LOCALE_TAKES((1)) ICU_LOCALE_TELLS
 bool icu_locale_is_well_formed(const icu_locale_t *locale) ICU_LOCALE_NOEXCEPT;
 
 /* The order of two locales by their parts: -1, 0 or 1. It is total: 0 exactly if both are equal. */
-ICU_LOCALE_TAKES_BOTH((1, 2)) ICU_LOCALE_TELLS
+ICU_LOCALE_TAKES((1, 2)) ICU_LOCALE_TELLS
 int8_t icu_locale_cmp(const icu_locale_t *locale, const icu_locale_t *other) ICU_LOCALE_NOEXCEPT;
 
 /* Whether two locales are equal. */
-ICU_LOCALE_TAKES_BOTH((1, 2)) ICU_LOCALE_TELLS
+ICU_LOCALE_TAKES((1, 2)) ICU_LOCALE_TELLS
 bool icu_locale_eq(const icu_locale_t *locale, const icu_locale_t *other) ICU_LOCALE_NOEXCEPT;
 
 /* The byte order of the normal form of the locale against other bytes, which are not normalized: -1, 0 or 1. */
@@ -361,7 +374,8 @@ icu_locale_status icu_locale_clear_keywords(icu_locale_t *locale) ICU_LOCALE_NOE
 /* Extends the extension u by that of the other handle: it then has the attributes of both, and the keywords of both.
  * At a key of both, the other handle's value wins. The other handle stays as it is. DONE or OUT_OF_MEMORY. */
 ICU_LOCALE_TAKES_BOTH((1, 2)) ICU_LOCALE_TELLS
-icu_locale_status icu_locale_extend_unicode(icu_locale_t *locale, const icu_locale_t *from) ICU_LOCALE_NOEXCEPT;
+icu_locale_status icu_locale_extend_unicode(icu_locale_t *locale, const icu_locale_t *from)
+    ICU_LOCALE_BOTH("icu_locale_extend_unicode_or_itself") ICU_LOCALE_NOEXCEPT;
 
 /* Attributes of the extension u, such as foo in en-u-foo. They are read and changed as variants are. Each is 3 to 8
  * letters or digits. A text that is no attribute is refused with INVALID_EXTENSION. Adding or removing one allocates.
@@ -461,7 +475,7 @@ icu_locale_status icu_locale_get_data_locale(const icu_locale_t *locale, icu_loc
 ICU_LOCALE_TAKES((1, 5)) ICU_LOCALE_TELLS
 icu_locale_status icu_locale_data_cmp_bytes(const icu_locale_t *locale, icu_locale_priority priority,
     const uint8_t *other, size_t length, int8_t *order) ICU_LOCALE_NOEXCEPT;
-ICU_LOCALE_TAKES_BOTH((1, 2, 4)) ICU_LOCALE_TELLS
+ICU_LOCALE_TAKES((1, 2, 4)) ICU_LOCALE_TELLS
 icu_locale_status icu_locale_data_cmp(const icu_locale_t *locale, const icu_locale_t *other,
     icu_locale_priority priority, int8_t *order) ICU_LOCALE_NOEXCEPT;
 
@@ -485,64 +499,27 @@ extern uint32_t icu_locale_version(void) ICU_LOCALE_NOEXCEPT;
 /* To here, tools/write_calls writes it. */
 
 #if defined(__GNUC__)
-/* The calls that take two handles, where both may be one. The library wants two. So these functions, which are not
- * proved, answer for one handle, and else ask the function of the library that has the name after __asm__. */
+/* The two calls that change one handle by another, where both may be one. The library has the first alone, so it wants
+ * two. These functions, which are not proved, answer for one handle, and else ask the function of the library that has
+ * the name after __asm__. */
 extern icu_locale_status icu_locale_two_copy(icu_locale_t *, const icu_locale_t *) ICU_LOCALE_NAMED("icu_locale_copy");
 extern icu_locale_status icu_locale_two_extend(icu_locale_t *, const icu_locale_t *)
     ICU_LOCALE_NAMED("icu_locale_extend_unicode");
-extern int8_t icu_locale_two_cmp(const icu_locale_t *, const icu_locale_t *) ICU_LOCALE_NAMED("icu_locale_cmp");
-extern bool icu_locale_two_eq(const icu_locale_t *, const icu_locale_t *) ICU_LOCALE_NAMED("icu_locale_eq");
-extern icu_locale_status icu_locale_two_data_cmp(const icu_locale_t *, const icu_locale_t *, icu_locale_priority,
-    int8_t *) ICU_LOCALE_NAMED("icu_locale_data_cmp");
-
-#if !defined(__cplusplus)
-/* In C both would have one name in the object file. */
-static __inline__ icu_locale_status icu_locale_copy(icu_locale_t *, const icu_locale_t *)
-    __asm__("icu_locale_both_copy");
-static __inline__ icu_locale_status icu_locale_extend_unicode(icu_locale_t *, const icu_locale_t *)
-    __asm__("icu_locale_both_extend");
-static __inline__ int8_t icu_locale_cmp(const icu_locale_t *, const icu_locale_t *) __asm__("icu_locale_both_cmp");
-static __inline__ bool icu_locale_eq(const icu_locale_t *, const icu_locale_t *) __asm__("icu_locale_both_eq");
-static __inline__ icu_locale_status icu_locale_data_cmp(const icu_locale_t *, const icu_locale_t *,
-    icu_locale_priority, int8_t *) __asm__("icu_locale_both_data_cmp");
-#endif
 
 ICU_LOCALE_TAKES_BOTH((1, 2))
 icu_locale_status icu_locale_copy(icu_locale_t *locale, const icu_locale_t *from) ICU_LOCALE_INLINE
 {
-    return locale == from ? (icu_locale_status)ICU_LOCALE_DONE : icu_locale_two_copy(locale, from);
+    if (locale == from)
+        return ICU_LOCALE_DONE;
+    return icu_locale_two_copy(locale, from);
 }
 
 ICU_LOCALE_TAKES_BOTH((1, 2))
 icu_locale_status icu_locale_extend_unicode(icu_locale_t *locale, const icu_locale_t *from) ICU_LOCALE_INLINE
 {
-    return locale == from ? (icu_locale_status)ICU_LOCALE_DONE : icu_locale_two_extend(locale, from);
-}
-
-ICU_LOCALE_TAKES_BOTH((1, 2))
-int8_t icu_locale_cmp(const icu_locale_t *locale, const icu_locale_t *other) ICU_LOCALE_INLINE
-{
-    return (int8_t)(locale == other ? 0 : icu_locale_two_cmp(locale, other));
-}
-
-ICU_LOCALE_TAKES_BOTH((1, 2))
-bool icu_locale_eq(const icu_locale_t *locale, const icu_locale_t *other) ICU_LOCALE_INLINE
-{
-    return locale == other || icu_locale_two_eq(locale, other);
-}
-
-/* (an unknown priority of one handle is refused by the library) */
-ICU_LOCALE_TAKES_BOTH((1, 2, 4))
-icu_locale_status icu_locale_data_cmp(const icu_locale_t *locale, const icu_locale_t *other,
-    icu_locale_priority priority, int8_t *order) ICU_LOCALE_INLINE
-{
-    icu_locale_status status;
-    if (locale != other)
-        return icu_locale_two_data_cmp(locale, other, priority, order);
-    status = icu_locale_data_cmp_bytes(locale, priority, NULL, 0, order);
-    if (status == ICU_LOCALE_DONE)
-        *order = 0;
-    return status;
+    if (locale == from)
+        return ICU_LOCALE_DONE;
+    return icu_locale_two_extend(locale, from);
 }
 #endif
 

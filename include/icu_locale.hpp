@@ -15,8 +15,10 @@
  *
  * No call here looks whether the library was made for this header: is_of_this_version() alone tells. Ask it once.
  *
- * Functions on texts may be called from any number of threads. A locale is used by one thread at a time, also by calls
- * that only read: guard one that threads share by a lock, or give each thread a copy.
+ * Functions on texts may be called from any number of threads. So may the const members of a locale, as of any class of
+ * the standard library: many threads may read one locale at the same time, while none changes it.
+ *
+ * A program without exceptions (-fno-exceptions) ends, by std::abort, where another one would see one thrown.
  *
  * Between two lines that say so this header is written by tools/write_calls from the table tools/calls.txt. */
 #ifndef ICU_LOCALE_HPP
@@ -28,7 +30,11 @@
 
 #include "icu_locale.h"
 
+#if __cplusplus >= 202002L
+#include <compare>
+#endif
 #include <cstdint>
+#include <cstdlib>
 #include <functional>
 #include <new>
 #include <optional>
@@ -75,6 +81,17 @@ inline std::string words(status told)
 }
 
 namespace detail {
+
+/* Throws it; ends a program that has no exceptions. */
+template <class Thrown> [[noreturn]] inline void raise(const Thrown &it)
+{
+#if defined(__cpp_exceptions)
+    throw it;
+#else
+    static_cast<void>(it);
+    std::abort();
+#endif
+}
 
 /* What an error says: the words of the status; the text in quotes, at most 64 bytes of it, and what is no printable
  * ASCII as \xNN; and where its fault stands, unless all of it is at fault. */
@@ -136,13 +153,13 @@ public:
     const T &value() const &
     {
         if (!*this)
-            throw error(told_);
+            detail::raise(error(told_));
         return value_;
     }
     T value() &&
     {
         if (!*this)
-            throw error(told_);
+            detail::raise(error(told_));
         return std::move(value_);
     }
     const T &operator*() const & { return value(); }
@@ -164,7 +181,7 @@ inline const std::uint8_t *bytes(std::string_view text) noexcept
 inline status told(icu_locale_status number)
 {
     if (number == ICU_LOCALE_OUT_OF_MEMORY)
-        throw std::bad_alloc();
+        raise(std::bad_alloc());
     return static_cast<status>(number);
 }
 
@@ -192,7 +209,7 @@ namespace detail {
 [[noreturn]] inline void refuse(status told, std::string_view text, mode as)
 {
     const auto found = find_fault(text, as);
-    throw error(told, text, found ? found->start : 0, found ? found->end : text.size());
+    raise(error(told, text, found ? found->start : 0, found ? found->end : text.size()));
 }
 
 /* The value, or the error with the text that was refused. */
@@ -440,7 +457,7 @@ public:
     /* The order by parts, which is that of <: -1, 0 or 1. */
     int compare(const locale &other) const noexcept
     {
-        return this == &other ? 0 : icu_locale_cmp(&held_, &other.held_);
+        return icu_locale_cmp(&held_, &other.held_);
     }
 
     /* The byte order of the normal form against other bytes, which are not normalized: -1, 0 or 1. */
@@ -466,7 +483,7 @@ public:
 
     std::optional<std::string> other(char singleton) const
     {
-        return read([singleton](icu_locale_t *held, std::uint8_t *buffer, std::size_t room, std::size_t *needed) {
+        return read([singleton](const icu_locale_t *held, std::uint8_t *buffer, std::size_t room, std::size_t *needed) {
             return icu_locale_get_other(held, static_cast<std::uint8_t>(singleton), buffer, room, needed);
         });
     }
@@ -488,7 +505,7 @@ public:
     /* The text of the data locale, by which data is looked up: en-US of en-GB-u-rg-uszzzz, by region. */
     std::string data_locale(priority by = priority::language) const
     {
-        return *read([by](icu_locale_t *held, std::uint8_t *buffer, std::size_t room, std::size_t *needed) {
+        return *read([by](const icu_locale_t *held, std::uint8_t *buffer, std::size_t room, std::size_t *needed) {
             return icu_locale_get_data_locale(held, static_cast<icu_locale_priority>(by), buffer, room, needed);
         });
     }
@@ -506,23 +523,35 @@ public:
     int data_compare(const locale &other, priority by = priority::language) const
     {
         std::int8_t order = 0;
-        if (this == &other) {
-            data_strict_cmp({}, by);  // an unknown priority is refused here too
-            return 0;
-        }
         accept(detail::told(icu_locale_data_cmp(&held_, &other.held_, static_cast<icu_locale_priority>(by), &order)));
         return order;
     }
 
     friend bool operator==(const locale &one, const locale &other) noexcept
     {
-        return &one == &other || icu_locale_eq(&one.held_, &other.held_);
+        return icu_locale_eq(&one.held_, &other.held_);
     }
     friend bool operator!=(const locale &one, const locale &other) noexcept { return !(one == other); }
+
+    /* Whether the normal form is this text as it stands: en-US is equal to "en-US", and not to "EN-us". normalizing_eq
+     * tells whether a text means the locale. */
+    friend bool operator==(const locale &one, std::string_view text) noexcept { return one.strict_cmp(text) == 0; }
+    friend bool operator==(std::string_view text, const locale &one) noexcept { return one == text; }
+    friend bool operator!=(const locale &one, std::string_view text) noexcept { return !(one == text); }
+    friend bool operator!=(std::string_view text, const locale &one) noexcept { return !(one == text); }
+
+    /* The order by parts. */
+#if defined(__cpp_impl_three_way_comparison) && defined(__cpp_lib_three_way_comparison)
+    friend std::strong_ordering operator<=>(const locale &one, const locale &other) noexcept
+    {
+        return one.compare(other) <=> 0;
+    }
+#else
     friend bool operator<(const locale &one, const locale &other) noexcept { return one.compare(other) < 0; }
     friend bool operator>(const locale &one, const locale &other) noexcept { return one.compare(other) > 0; }
     friend bool operator<=(const locale &one, const locale &other) noexcept { return one.compare(other) <= 0; }
     friend bool operator>=(const locale &one, const locale &other) noexcept { return one.compare(other) >= 0; }
+#endif
     friend void swap(locale &one, locale &other) noexcept { one.swap(other); }
     friend std::ostream &operator<<(std::ostream &out, const locale &it) { return out << it.to_string(); }
 
@@ -530,13 +559,13 @@ private:
     static void accept(icu_locale::status told)
     {
         if (told != icu_locale::status::done)
-            throw error(told);
+            detail::raise(error(told));
     }
 
     static void accept(icu_locale::status told, std::string_view text)
     {
         if (told != icu_locale::status::done)
-            throw error(told, text);
+            detail::raise(error(told, text));
     }
 
     static void accept(icu_locale::status told, std::string_view text, mode as)
@@ -548,7 +577,7 @@ private:
     static void accept(icu_locale::status told, std::string_view key, std::string_view value)
     {
         if (told != icu_locale::status::done)
-            throw error(told, std::string(key) + (value.empty() ? "" : "-") + std::string(value));
+            detail::raise(error(told, std::string(key) + (value.empty() ? "" : "-") + std::string(value)));
     }
 
     static bool is_done(icu_locale::status told) noexcept { return told == icu_locale::status::done; }
@@ -569,7 +598,7 @@ private:
         if (told == ICU_LOCALE_NOT_FOUND)
             return std::nullopt;
         if (told != ICU_LOCALE_BUFFER_TOO_SMALL)
-            throw error(static_cast<icu_locale::status>(told));
+            detail::raise(error(static_cast<icu_locale::status>(told)));
         std::string text(needed, '\0');
         accept(detail::told(call(&held_, reinterpret_cast<std::uint8_t *>(text.data()), text.size(), &needed)));
         return text;
@@ -577,14 +606,14 @@ private:
 
     template <class Call> std::optional<std::string> read_at(Call call, std::size_t at) const
     {
-        return read([call, at](icu_locale_t *held, std::uint8_t *buffer, std::size_t room, std::size_t *needed) {
+        return read([call, at](const icu_locale_t *held, std::uint8_t *buffer, std::size_t room, std::size_t *needed) {
             return call(held, at, buffer, room, needed);
         });
     }
 
     template <class Call> std::optional<std::string> read_by(Call call, std::string_view key) const
     {
-        return read([call, key](icu_locale_t *held, std::uint8_t *buffer, std::size_t room, std::size_t *needed) {
+        return read([call, key](const icu_locale_t *held, std::uint8_t *buffer, std::size_t room, std::size_t *needed) {
             return call(held, detail::bytes(key), key.size(), buffer, room, needed);
         });
     }
@@ -620,7 +649,7 @@ private:
         return detail::told(call(&held_, detail::bytes(key), key.size(), detail::bytes(value), value.size()));
     }
 
-    mutable icu_locale_t held_ = ICU_LOCALE_UND;  // calls that only read also write to the handle meanwhile
+    icu_locale_t held_ = ICU_LOCALE_UND;
 };
 
 /* Whether the library that is linked or loaded was made for this header. If it was not, no other call may be made. */

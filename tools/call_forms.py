@@ -11,7 +11,7 @@ OPERATORS = {"◌≡◌": "≡", "◌↔◌": "↔"}
 # A parameter in each language: a handle, a text, a number, a place to write to, and the place for an answer.
 PARAMETERS = {
     "Rattle": (
-        "{own}: &mut Handle", "{text}: &[u8]", "{name}: {rust}", "{name}: &mut {rust}",
+        "{own}: &mut {held}", "{text}: &[u8]", "{name}: {rust}", "{name}: &mut {rust}",
         "buffer: &mut [u8], needed: &mut usize",
     ),
     "C": (
@@ -19,7 +19,7 @@ PARAMETERS = {
         "uint8_t *buffer, size_t room, size_t *needed",
     ),
     "Rust": (
-        "{handle}: *mut icu_locale_t", "{text}: *const u8, {length}: usize", "{name}: {rust}", "{name}: *mut {rust}",
+        "{handle}: *{access} icu_locale_t", "{text}: *const u8, {length}: usize", "{name}: {rust}", "{name}: *mut {rust}",
         "buffer: *mut u8, room: usize, needed: *mut usize",
     ),
     "Python": ("_LOCALE", "*_TEXT", "{python}", "{python}", "*_BUFFER"),
@@ -31,10 +31,12 @@ def parameters(row, language):
     for name in row.takes:
         kind = next((at for at, it in enumerate((HANDLES, TEXTS, NUMBERS, PLACES)) if name in it), -1)
         rust, c, python = NUMBERS.get(name) or PLACES.get(name) or ("", "", "")
-        own, const = "handle" if name in ("reads", "changes") else name, "" if name == "changes" else "const "
+        own = "handle" if name in ("reads", "changes") else name
+        held, access, const = ("Handle", "mut", "") if name == "changes" else ("Lent", "const", "const ")
         length = row.length_of(name) if name in TEXTS else ""
         given = {"handle": HANDLES.get(name), "text": TEXTS.get(name), "rust": rust, "c": c, "python": python}
-        yield from PARAMETERS[language][kind].format(name=name, own=own, const=const, length=length, **given).split(", ")
+        given.update(name=name, own=own, held=held, access=access, const=const, length=length)
+        yield from PARAMETERS[language][kind].format(**given).split(", ")
 
 
 def head_with(head, parameters, tail, width):
@@ -52,13 +54,13 @@ def clauses(row):
     if row.kind == "tell":
         answered, gives = "EndsAs", f"(Tells ({gives}) buffer.old buffer.new needed.new) result"
     if row.kind in ("tell", "ask"):
-        yield f"ensures {{ IsAsked handle.old.value handle.new.value (λ it. {answered} {gives}) }}"
+        yield f"ensures {{ IsAsked handle.old handle.new (λ it. {answered} {gives}) }}"
     elif row.kind == "change":
         yield f"ensures {{ IsChanged ({gives}) handle.old.value handle.new.value result }}"
     else:
         gives = re.sub(r"\bfrom\b", "that", gives)
         changed = f"IsChanged ({gives}) handle.old.value handle.new.value result"
-        yield f"ensures {{ IsAsked from.old.value from.new.value (λ that. {changed}) }}"
+        yield f"ensures {{ IsAsked from.old from.new (λ that. {changed}) }}"
 
 
 def kept_together(clause):
@@ -108,7 +110,8 @@ def ghost_uses(imports, texts):
 def module(says, rows, imports, made):
     """Returns the source of a module of exports."""
     uses = ghost_uses(imports, " ".join(it for row in rows for it in clauses(row)))
-    names = {"Handle", *(CALLS[it.kind][0] for it in rows)}
+    names = {"Handle" if at == "changes" else "Lent" for it in rows for at in it.takes if at in HANDLES}
+    names |= {CALLS[it.kind][0] for it in rows}
     names.update(it for row in rows for it in re.findall(r"(?<![\w:])[A-Z]\w*", row.thing))
     calls = one_or_filled("use iloc_handles::", sorted(names), ";", "")
     functions = "\n".join(map(export, rows))
@@ -127,13 +130,13 @@ def never_null(row):
 
 def attributes(row):
     """Returns the macros before a declaration in C."""
-    strict, handles = never_null(row), sum(it in HANDLES for it in row.takes)
+    strict, handles = never_null(row), [it for it in row.takes if it in HANDLES]
     if not strict:
         first = "extern"
     elif not handles and len(strict) == 1:
         first = f"ICU_LOCALE_WRITES({strict[0]})"
     else:
-        both = "_BOTH" if handles == 2 else ""
+        both = "_BOTH" if len(handles) == 2 and "changes" in handles else ""
         first = f"ICU_LOCALE_TAKES{both}(({', '.join(map(str, strict))}))"
     return first + ("" if row.gives in ("status?", "u32", "nothing") else " ICU_LOCALE_TELLS")
 
@@ -141,7 +144,8 @@ def attributes(row):
 def declaration(row):
     """Returns the declaration of a call in C."""
     given, head = [*parameters(row, "C")] or ["void"], attributes(row)
-    units = [*[f"{it}," for it in given[:-1]], f"{given[-1]})", "ICU_LOCALE_NOEXCEPT;"]
+    own = [f'ICU_LOCALE_BOTH("{row.symbol}_or_itself")'] if "_BOTH" in head else []
+    units = [*[f"{it}," for it in given[:-1]], f"{given[-1]})", *own, "ICU_LOCALE_NOEXCEPT;"]
     start = f"{head}{' ' if head == 'extern' else chr(10)}{RESULTS[row.gives][1]} {row.symbol}("
     first, last = start[: start.rfind("\n") + 1], start[start.rfind("\n") + 1 :]
     return first + fill(units, WIDE, last, "    ")

@@ -30,9 +30,10 @@ def svg(width, height, parts):
 
 
 def one_or_filled(head, names, tail, indent):
-    """Returns head, the names in braces and tail: on one line if it fits, else as rt fmt lays out a list."""
+    """Returns head, the names in braces and tail: on one line if it fits, else as rt fmt lays out a list. (Of a line with
+    braces rt fmt leaves the last two columns free.)"""
     line = f"{indent}{head}{{{', '.join(names)}}}{tail}"
-    if len(line) <= WIDTH:
+    if len(line) <= WIDTH - 2:
         return line
     inner = indent + "    "
     return f"{indent}{head}{{\n{fill([f'{it},' for it in names], WIDTH - 1, inner, inner)}\n{indent}}}{tail}"

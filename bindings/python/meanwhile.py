@@ -1,5 +1,5 @@
 """Compares and reads the same locales in two threads, in the finalizers of what these drop, and in a signal handler, for
-misuses.py: where a call waited for another, this would not end.
+misuses.py: if a call waited for another, this would not end.
 
 It prints how many calls answered as wanted; the status is 0 if all did."""
 

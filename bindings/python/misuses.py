@@ -6,6 +6,7 @@ import array
 import collections.abc
 import copy
 import doctest
+import gc
 import inspect
 import os
 import pickle
@@ -24,6 +25,7 @@ from icu_locale_c import (
     Mode,
     check,
     compare,
+    is_valid,
     normalize,
     normalizing_eq,
     strict_cmp,
@@ -123,9 +125,58 @@ def meanwhile():
     return "" if ran.returncode == 0 and ran.stdout.endswith(" 0 wrong\n") else ran.stdout + ran.stderr
 
 
+class Last:
+    """What only the collector of cycles frees, with a Locale that it reads then."""
+
+    def __init__(self, found, locale=None):
+        self.itself, self.found = self, found
+        self.locale = locale or Locale("en-GB-x-a")
+
+    def __del__(self):
+        self.found.append((self.locale.region, str(self.locale)))
+
+
+def read_last():
+    """What is wrong of what finalizers read in the collector of cycles, which runs them in any order."""
+    found = []
+    for _ in range(100):
+        Last(found)
+        Last(found, Locale("en-GB-x-a"))
+    gc.collect()
+    return [it for it in found if it != ("GB", "en-GB-x-a")] + [len(found)] * (len(found) != 200)
+
+
+def held_then():
+    """How many handles are held that no Locale has any more."""
+    before = len(icu_locale_c._held)
+    made = [Locale("en").replace(region="GB").extend_unicode(Locale("en-u-ca-roc")) for _ in range(9)]
+    raised(made[0].replace, 5)
+    raised(lambda: made[0].replace(region="x"))
+    held = len(icu_locale_c._held) - before
+    del made
+    gc.collect()
+    return held, len(icu_locale_c._held) - before
+
+
+def read_by_all(text, wanted):
+    """What threads find that read each part of one Locale for the first time, all at once."""
+    wrong = []
+
+    def look(locale, barrier):
+        barrier.wait()
+        found = (locale.language, locale.script, locale.region, locale.variants, dict(locale.keywords), locale.attributes)
+        found += (locale.transform_language, dict(locale.fields), locale.private, dict(locale.others), str(locale))
+        wrong.extend([found] * (found != wanted))
+
+    for _ in range(100):
+        locale, barrier = Locale(text), threading.Barrier(8)
+        in_threads(look, [(locale, barrier)] * 8)
+    return wrong
+
+
 def shared():
-    """What threads find that read and compare the same locales, of which each would be wrong if two calls had it at once.
-    The locales are long, so that a call is likely to run while another does."""
+    """What threads find that read and compare the same locales. These are long, so that a call is likely to run while another
+    does."""
     texts = [f"{it}{'-abcdefgh' * 2000}" for it in ("en-GB-aaaaa-bbbbb-u-ca-roc-x", "de-u-co-phonebk-x")]
     locales, wrong = [Locale(it) for it in texts], []
 
@@ -158,6 +209,8 @@ def first_calls(locale):
 LONG = "de-aaaaa-bbbbb-ccccc-ddddd-eeeee-t-und-m0-abc-u-aaa-ca-islamic-civil-x-a-b-c-d-e"
 LONGER = "en-x" + "-abcdefgh" * 99
 HELD = Locale("en-US-posix-u-foo-ca-buddhist")
+ALL = "en-Latn-GB-posix-a-foo-t-de-m0-din-u-aaa-ca-roc-x-p-q"
+PARTS = ("en", "Latn", "GB", ("posix",), {"ca": "roc"}, ("aaa",), "de", {"m0": "din"}, "x-p-q", {"a": "foo"}, ALL)
 with_part = lambda **parts: raised(lambda: str(HELD.replace(**parts)))
 
 CASES = [
@@ -170,6 +223,10 @@ CASES = [
     (raised(strict_cmp, "en", 5), TypeError),
     (raised(normalizing_eq, 5, "en"), TypeError),
     (raised(compare, "en", None), TypeError),
+    (raised(is_valid, 5), TypeError),
+    (raised(is_valid, "en", 3), ValueError),
+    ([raised(is_valid, "en-u-sd-gbeng", it) for it in Mode], [False, True, True]),
+    ([raised(is_valid, it) for it in ("", "e", "en-\ud800", b"en-\xff", FalseText("EN"), "en-a-bb-a-cc", "en-u")], [False] * 4 + [True] + [False] * 2),
     (raised(normalize, "en", "locale"), TypeError),
     (raised(normalize, "en", None), TypeError),
     (raised(normalize, "en", 3), ValueError),
@@ -223,8 +280,8 @@ CASES = [
     (with_part(keywords={"ca": True}), TypeError),
     (with_part(regions="US"), TypeError),
     (raised(setattr, HELD, "region", "GB"), AttributeError),
-    (raised(setattr, HELD, "_handles", None), AttributeError),
-    (raised(delattr, HELD, "_handles"), AttributeError),
+    (raised(setattr, HELD, "_handle", None), AttributeError),
+    (raised(delattr, HELD, "_handle"), AttributeError),
     (raised(HELD.keywords.__class__.__getitem__, HELD.keywords, "nu"), KeyError),
     (isinstance(HELD.keywords, collections.abc.Mapping) and not hasattr(HELD.keywords, "__setitem__"), True),
     (raised(HELD.data_locale, None), TypeError),
@@ -239,6 +296,9 @@ CASES = [
     (len({Locale("en-US"), Locale("EN-us"), Locale("en")}), 2),
     ([str(it) for it in sorted(map(Locale, ["und", "en-macos-posix", "en-posix", "de"]))], ["de", "en-posix", "en-macos-posix", "und"]),
     (shared(), []),
+    (read_by_all(ALL, PARTS), []),
+    (read_last(), []),
+    (held_then(), (9, 0)),
     (meanwhile(), ""),
     (at_once(), []),
     (said_by(normalize, "en-"), "Invalid subtag: 'en-' at 3..3"),

@@ -11,7 +11,7 @@ import os
 import pickle
 import sys
 
-from icu_locale_c import Locale, LocaleError, Mode, Priority, check, compare, normalize, normalizing_eq, strict_cmp
+from icu_locale_c import Locale, LocaleError, Mode, Priority, check, compare, is_valid, normalize, normalizing_eq, strict_cmp
 
 PYTHON = ctypes.CDLL(None)
 PYTHON.refuse_request.argtypes = (ctypes.c_ulong,)
@@ -44,6 +44,7 @@ CALLS = [
     lambda it: it.extend_unicode(OTHER),
     lambda _: normalize(LONG),
     lambda _: check(LONG),
+    lambda _: is_valid(LONG),
     lambda _: strict_cmp(LONG, LONG),
     lambda _: normalizing_eq("en-x-a-b-c-d-e-f", LONG),
     lambda _: compare(LONG, LONG),
@@ -131,7 +132,6 @@ def refuse_python(start, number, call):
     it, at, is_refused = Locale(start), 0, True
     while is_refused:
         at += 1
-        str(it), str(OTHER)  # each has a handle then: a refusal may have lost it
         held = HOOKS.refusing_live()
         kind, is_refused = refusing(at, call, it)
         which = f"call {number} of {start}, request {at} of Python refused"

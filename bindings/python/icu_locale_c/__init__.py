@@ -17,10 +17,9 @@ icu_locale_c.InvalidSubtag: Invalid subtag: 'en-' at 3..3
 A text is a str, or bytes (or any bytes-like object) of any encoding. Anything else is a TypeError. A lone surrogate in
 a str is refused like any other character that no identifier has.
 
-Any number of threads may call at the same time, and share a Locale; so may a finalizer and a signal handler. No call
-waits for another: there is no lock. A call on texts works on copies of its own. The library wants a locale for itself
-while it reads it, so a call takes the Locale's handle out, and puts it back. A call that comes meanwhile parses the
-text of the Locale anew. No call needs the lock of the interpreter.
+Any number of threads may call at the same time, and read one Locale; so may a finalizer and a signal handler. No call
+waits for another: there is no lock. A call on texts works on copies of its own, and a Locale does not change. No call
+needs the lock of the interpreter.
 
 A call that is out of memory raises MemoryError, also where Python itself has none to pass an argument.
 
@@ -53,12 +52,13 @@ __all__ = [
     "Text",
     "normalize",
     "check",
+    "is_valid",
     "strict_cmp",
     "normalizing_eq",
     "compare",
 ]
 
-HEADER = 5
+HEADER = 6
 HERE = pathlib.Path(__file__).resolve().parent
 TOP = HERE.parents[2]
 
@@ -445,6 +445,19 @@ def check(text: Text, mode: Mode = Mode.LOCALE) -> None:
     _raise(_call(_library.icu_locale_check, mode, given, len(given)), given, mode)
 
 
+def is_valid(text: Text, mode: Mode = Mode.LOCALE) -> bool:
+    """Returns whether the text has a meaning: whether check raises nothing.
+
+    >>> is_valid("en-US-u-ca-buddhist"), is_valid("en-US-u-ca-buddhist", Mode.IDENTIFIER), is_valid("en-")
+    (True, False, False)
+    """
+    given, mode = _bytes(text), _number(Mode, mode)
+    status = _call(_library.icu_locale_check, mode, given, len(given))
+    if not issubclass(_REFUSALS.get(status, Exception), LocaleError):
+        _raise(status)
+    return bool(status == _DONE)
+
+
 def strict_cmp(text: Text, other: Text, mode: Mode = Mode.LOCALE) -> int:
     """Returns the byte order of the text's normal form against the other text as it stands: -1, 0 or 1.
 
@@ -523,7 +536,7 @@ def _free_waiting() -> None:
 
 
 class _Owned(_Handle):
-    """A handle that one call has, or that a Locale keeps for the next one.
+    """A handle that one call makes, and that a Locale has then.
 
     Its block is freed when Python lets it go. If Python has no memory for that call, the handle waits in a chain, which
     takes no memory, and is freed before the next one is made."""
@@ -599,13 +612,20 @@ class _Owned(_Handle):
             self.change("set_other", singleton + b"-" + text)
 
 
-def _parsed(text: bytes) -> _Owned:
-    """A handle of what the text means."""
-    made = _Owned()
-    status = _call(_parse, made, text, len(text))
-    if status:
-        _raise(status, text, Mode.LOCALE)
-    return made
+# The handles of all Locales, by their tickets.
+_held: Dict[int, _Owned] = {}
+
+
+class _Ticket(int):
+    """What a Locale has beside its handle, so that the handle goes last.
+
+    The collector of cycles runs the finalizers of all that it found, in any order. A handle that is held above is not
+    among that. So it is not freed before a finalizer that reads the Locale."""
+
+    __slots__ = ()
+
+    def __del__(self, _held: Dict[int, _Owned] = _held) -> None:
+        _held.pop(self, None)
 
 
 _T = TypeVar("_T")
@@ -638,24 +658,24 @@ class Locale:
     icu_locale_c.InvalidSubtag: Invalid subtag: 'en-' at 3..3
     """
 
-    __slots__ = ("_source", "_handles", "_parts", "__weakref__")
+    __slots__ = ("_handle", "_ticket", "_parts", "__weakref__")
 
-    _source: bytes
-    _handles: List["_Owned"]
+    _handle: _Owned
+    _ticket: _Ticket
     _parts: Dict[str, Any]
 
     def __new__(cls, text: Text) -> "Locale":
-        source = _bytes(text)
-        return cls._of(_parsed(source), source)
+        given, handle = _bytes(text), _Owned()
+        _raise(_call(_parse, handle, given, len(given)), given, Mode.LOCALE)
+        return cls._of(handle)
 
     @classmethod
-    def _of(cls, handle: "_Owned", source: Optional[bytes] = None) -> "Locale":
-        """The Locale of this handle, and of a text that means the same; without one it is asked for the normal form."""
-        made = object.__new__(cls)
-        if source is None:
-            source = (handle.read(_library.icu_locale_to_string) or "").encode()
-        object.__setattr__(made, "_source", source)
-        object.__setattr__(made, "_handles", [handle])
+    def _of(cls, handle: _Owned) -> "Locale":
+        """The Locale of this handle."""
+        made, ticket = object.__new__(cls), _Ticket(id(handle))
+        _held[int(ticket)] = handle
+        object.__setattr__(made, "_handle", handle)
+        object.__setattr__(made, "_ticket", ticket)
         object.__setattr__(made, "_parts", {})
         return made
 
@@ -665,84 +685,17 @@ class Locale:
     def __delattr__(self, name: str) -> None:
         raise AttributeError(f"a Locale does not change: {name} stays")
 
-    def _take(self) -> "_Owned":
-        """A handle that no other call has. What a call does not put back is freed, and made anew."""
-        try:
-            return self._handles.pop()
-        except IndexError:
-            return _parsed(self._source)
-
-    def _put(self, handle: "_Owned") -> None:
-        if not self._handles:
-            self._handles.append(handle)
-
     def _ask(self, function: Any, *given: Any) -> Any:
         """What a call answers of this locale."""
-        handle = self._take()
-        try:
-            return _call(function, handle, *given)
-        finally:
-            self._put(handle)
-
-    def _ask_second(self, function: Any, first: "_Owned", *given: Any) -> Any:
-        """What a call answers of this handle and this locale."""
-        handle = self._take()
-        try:
-            return _call(function, first, handle, *given)
-        finally:
-            self._put(handle)
-
-    def _ask_both(self, other: "Locale", function: Any, *given: Any) -> Any:
-        """What a call answers of both locales."""
-        handle = self._take()
-        try:
-            return other._ask_second(function, handle, *given)
-        finally:
-            self._put(handle)
+        return _call(function, self._handle, *given)
 
     def _read(self, function: Any, *given: Any) -> Optional[str]:
-        """The text that a call writes, or None if there is no such part. It is `read` of a handle that no other call has;
-        the steps stand here themselves, since a part that is read first would take half as long again by calls."""
+        """The text that a call writes, or None if there is no such part."""
         if function.quick is not None:
-            text = self._read_quickly(function.quick)
+            text = function.quick(ctypes.addressof(self._handle))
             if text is not None:
                 return text or None
-        handles = self._handles
-        try:
-            handle = handles.pop()
-        except IndexError:
-            handle = _parsed(self._source)
-        try:
-            buffer = _free_buffers.pop()
-        except IndexError:
-            buffer = _Buffer(_USUAL)
-        try:
-            status = function(handle, *given, buffer.at, buffer.room, buffer.needed_at)
-            if status == _BUFFER_TOO_SMALL:
-                return handle.read(function, *given)
-            text = buffer.bytes.raw[: buffer.needed.value].decode("ascii") if status == _DONE else None
-        except ctypes.ArgumentError:
-            raise MemoryError from None
-        finally:
-            if not handles:
-                handles.append(handle)
-            _free_buffers.append(buffer)
-        if text is None and status != _NOT_FOUND:
-            _raise(status)
-        return text
-
-    def _read_quickly(self, read: Callable[[int], Any]) -> Any:
-        """The part as the module _quick reads it; False if there is none, and None if it leaves that to ctypes."""
-        handles = self._handles
-        try:
-            handle = handles.pop()
-        except IndexError:
-            handle = _parsed(self._source)
-        try:
-            return read(ctypes.addressof(handle))
-        finally:
-            if not handles:
-                handles.append(handle)
+        return self._handle.read(function, *given)
 
     def _part(self, call: Any, *given: Any) -> str:
         """The text of a part that is there."""
@@ -981,7 +934,7 @@ class Locale:
 
     def _copied(self) -> "_Owned":
         made = _Owned()
-        _raise(self._ask_second(_library.icu_locale_copy, made))
+        _raise(_call(_library.icu_locale_copy, made, self._handle))
         return made
 
     def extend_unicode(self, other: Locale) -> Locale:
@@ -993,7 +946,7 @@ class Locale:
         if not isinstance(other, Locale):
             raise TypeError(f"a Locale is wanted, not {type(other).__name__}")
         made = self._copied()
-        _raise(other._ask_second(_library.icu_locale_extend_unicode, made))
+        _raise(_call(_library.icu_locale_extend_unicode, made, other._handle))
         return self._of(made)
 
     def data_strict_cmp(self, other: Text, priority: Priority = Priority.LANGUAGE) -> int:
@@ -1015,8 +968,7 @@ class Locale:
         if not isinstance(other, Locale):
             raise TypeError(f"a Locale is wanted, not {type(other).__name__}")
         order, number = ctypes.c_int8(), _number(Priority, priority)
-        if self is not other:
-            _raise(self._ask_both(other, _library.icu_locale_data_cmp, number, ctypes.byref(order)))
+        _raise(self._ask(_library.icu_locale_data_cmp, other._handle, number, ctypes.byref(order)))
         return order.value
 
     def strict_cmp(self, other: Text) -> int:
@@ -1041,10 +993,10 @@ class Locale:
     def __eq__(self, other: object) -> bool:
         if not isinstance(other, Locale):
             return NotImplemented
-        return self is other or bool(self._ask_both(other, _library.icu_locale_eq))
+        return bool(self._ask(_library.icu_locale_eq, other._handle))
 
     def _cmp(self, other: "Locale") -> int:
-        return 0 if self is other else int(self._ask_both(other, _library.icu_locale_cmp))
+        return int(self._ask(_library.icu_locale_cmp, other._handle))
 
     def __lt__(self, other: "Locale") -> bool:
         return self._cmp(other) < 0 if isinstance(other, Locale) else NotImplemented

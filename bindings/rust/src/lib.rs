@@ -36,6 +36,11 @@ mod locale;
 mod parts;
 pub mod sys;
 
+/// The programs of the page, which are tried as the examples here are.
+#[cfg(doctest)]
+#[doc = include_str!("../README.md")]
+struct Readme;
+
 use error::{result, text_result};
 pub use error::{ParseError, Refusal};
 pub use locale::Locale;

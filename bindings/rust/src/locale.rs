@@ -4,7 +4,6 @@ use crate::parts::{Attribute, Key, Language, Region, Script, Value, Variant};
 use crate::{is_of_this_version, look_at_version, normalize, result, sys, text_result, Mode, ParseError, Priority, Refusal};
 use std::alloc::{handle_alloc_error, Layout};
 use std::borrow::Cow;
-use std::cell::UnsafeCell;
 use std::cmp::Ordering;
 use std::hash::{Hash, Hasher};
 use std::str::{from_utf8, FromStr};
@@ -19,33 +18,44 @@ use std::{fmt, ptr};
 /// [`normalizing_eq`](Self::normalizing_eq), then ends as the collections of the standard library do, by
 /// `handle_alloc_error`.
 ///
-/// A locale can go to another thread. Two threads cannot use one at the same time, not even to read: the library has a
-/// locale for itself while it reads.
+/// Any number of threads may read one locale, by `&`, by an `Arc` or in a `static`:
 ///
 /// ```
-/// fn goes<T: Send>() {}
-/// goes::<icu_locale_c::Locale>();
-/// ```
+/// use icu_locale_c::Locale;
+/// use std::sync::{Arc, OnceLock};
 ///
-/// ```compile_fail
-/// fn is_shared<T: Sync>() {}
-/// is_shared::<icu_locale_c::Locale>();
+/// static UND: Locale = Locale::UNKNOWN;
+///
+/// fn fallback() -> &'static Locale {
+///     static PARSED: OnceLock<Locale> = OnceLock::new();
+///     PARSED.get_or_init(|| "en-GB".parse().expect("it is a locale"))
+/// }
+///
+/// let shared = Arc::new("en-US".parse::<Locale>().unwrap());
+/// let reader = {
+///     let shared = Arc::clone(&shared);
+///     std::thread::spawn(move || shared.region().map(|it| it.to_string()))
+/// };
+/// assert_eq!(reader.join().unwrap().as_deref(), Some("US"));
+/// assert!(UND.is_unknown() && fallback() < &UND && *shared > *fallback());
 /// ```
 pub struct Locale {
-    // Calls that read also take the handle by a pointer that writes. No call calls back, and the type is not Sync, so
-    // each has it for itself.
-    held: UnsafeCell<sys::icu_locale_t>,
+    held: sys::icu_locale_t,
 }
 
 // SAFETY: the memory of a handle is that of malloc, and no thread has a part in it.
 unsafe impl Send for Locale {}
 
+// SAFETY: what takes a `&Locale` passes its handle by `*const` alone, to calls that only read. Any number of these may
+// use one handle, as the header says.
+unsafe impl Sync for Locale {}
+
 type Setting = unsafe extern "C" fn(*mut sys::icu_locale_t, *const u8, usize) -> u32;
-type Reading = unsafe extern "C" fn(*mut sys::icu_locale_t, *mut u8, usize, *mut usize) -> u32;
-type ReadingAt = unsafe extern "C" fn(*mut sys::icu_locale_t, usize, *mut u8, usize, *mut usize) -> u32;
-type Counting = unsafe extern "C" fn(*mut sys::icu_locale_t) -> usize;
+type Reading = unsafe extern "C" fn(*const sys::icu_locale_t, *mut u8, usize, *mut usize) -> u32;
+type ReadingAt = unsafe extern "C" fn(*const sys::icu_locale_t, usize, *mut u8, usize, *mut usize) -> u32;
+type Counting = unsafe extern "C" fn(*const sys::icu_locale_t) -> usize;
 type Clearing = unsafe extern "C" fn(*mut sys::icu_locale_t) -> u32;
-type Having = unsafe extern "C" fn(*mut sys::icu_locale_t, *const u8, usize) -> bool;
+type Having = unsafe extern "C" fn(*const sys::icu_locale_t, *const u8, usize) -> bool;
 
 /// Whether a part that was to be changed was there. Parts that are passed were parsed, so none is refused.
 fn was_there(status: u32) -> bool {
@@ -58,16 +68,21 @@ fn was_there(status: u32) -> bool {
 }
 
 impl Locale {
-    /// The unknown locale, `und`.
-    #[allow(clippy::declare_interior_mutable_const)]
+    /// The unknown locale, `und`. It owns nothing, so it may also be a `static`.
     pub const UNKNOWN: Self = Locale {
-        held: UnsafeCell::new(sys::icu_locale_t { at: ptr::null_mut() }),
+        held: sys::icu_locale_t { at: ptr::null_mut() },
     };
 
-    /// The handle, for one call.
-    fn handle(&self) -> *mut sys::icu_locale_t {
+    /// The handle, for a call that reads.
+    fn handle(&self) -> *const sys::icu_locale_t {
         assert!(is_of_this_version(), "{}", Refusal::AnotherLibrary);
-        self.held.get()
+        &self.held
+    }
+
+    /// The handle, for a call that changes it.
+    fn handle_to_change(&mut self) -> *mut sys::icu_locale_t {
+        assert!(is_of_this_version(), "{}", Refusal::AnotherLibrary);
+        &mut self.held
     }
 
     /// The locale that the text means.
@@ -78,9 +93,9 @@ impl Locale {
     /// The locale that the text means.
     pub fn try_from_utf8(text: &[u8]) -> Result<Self, ParseError> {
         look_at_version()?;
-        let made = Self::UNKNOWN;
+        let mut made = Self::UNKNOWN;
         // SAFETY: the handle is used here alone, and pointer and length are those of a slice.
-        let status = unsafe { sys::icu_locale_parse(made.handle(), text.as_ptr(), text.len()) };
+        let status = unsafe { sys::icu_locale_parse(made.handle_to_change(), text.as_ptr(), text.len()) };
         text_result(status, Mode::Locale, text)?;
         Ok(made)
     }
@@ -88,19 +103,19 @@ impl Locale {
     /// An empty locale after one setting.
     pub(crate) fn with(set: Setting, text: &[u8]) -> Result<Self, ParseError> {
         look_at_version()?;
-        let made = Self::UNKNOWN;
+        let mut made = Self::UNKNOWN;
         // SAFETY: the handle is used here alone, and pointer and length are those of a slice.
-        result(unsafe { set(made.handle(), text.as_ptr(), text.len()) }, &[text])?;
+        result(unsafe { set(made.handle_to_change(), text.as_ptr(), text.len()) }, &[text])?;
         Ok(made)
     }
 
     /// An empty locale with one keyword. An error names this text.
     pub(crate) fn with_keyword(key: &[u8], value: &[u8], text: &[u8]) -> Result<Self, ParseError> {
         look_at_version()?;
-        let made = Self::UNKNOWN;
+        let mut made = Self::UNKNOWN;
         // SAFETY: as in `with`.
         let status = unsafe {
-            sys::icu_locale_set_keyword(made.handle(), key.as_ptr(), key.len(), value.as_ptr(), value.len())
+            sys::icu_locale_set_keyword(made.handle_to_change(), key.as_ptr(), key.len(), value.as_ptr(), value.len())
         };
         result(status, &[text])?;
         Ok(made)
@@ -127,28 +142,25 @@ impl Locale {
 
     /// Whether this is `und`, with no other part.
     pub fn is_unknown(&self) -> bool {
-        // SAFETY: the handle is used by this call alone.
+        // SAFETY: the handle is only read.
         unsafe { sys::icu_locale_is_und(self.handle()) }
     }
 
     /// Whether the text of the locale means this locale. A keyword with a value such as `ab` has no such text.
     pub fn is_well_formed(&self) -> bool {
-        // SAFETY: the handle is used by this call alone.
+        // SAFETY: the handle is only read.
         unsafe { sys::icu_locale_is_well_formed(self.handle()) }
     }
 
     /// The byte order of the normal form against other bytes, as they stand.
     pub fn strict_cmp(&self, other: &[u8]) -> Ordering {
-        // SAFETY: the handle is used by this call alone, and pointer and length are those of a slice.
+        // SAFETY: the handle is only read, and pointer and length are those of a slice.
         unsafe { sys::icu_locale_cmp_bytes(self.handle(), other.as_ptr(), other.len()) }.cmp(&0)
     }
 
     /// The order by parts, which is also that of `Ord`.
     pub fn total_cmp(&self, other: &Self) -> Ordering {
-        if ptr::eq(self, other) {
-            return Ordering::Equal;
-        }
-        // SAFETY: the handles are two, and used by this call alone.
+        // SAFETY: both handles are only read.
         unsafe { sys::icu_locale_cmp(self.handle(), other.handle()) }.cmp(&0)
     }
 
@@ -160,7 +172,7 @@ impl Locale {
     /// Whether the text means this locale.
     pub fn normalizing_eq_utf8(&self, other: &[u8]) -> bool {
         let mut same = 0;
-        // SAFETY: the handle is used by this call alone. Pointer and length are those of a slice, and `same` lives here.
+        // SAFETY: the handle is only read. Pointer and length are those of a slice, and `same` lives here.
         was_there(unsafe { sys::icu_locale_eq_text(self.handle(), other.as_ptr(), other.len(), &mut same) });
         same == 1
     }
@@ -259,7 +271,7 @@ impl Locale {
         let (key, value) = (key.as_str(), value.as_str());
         // SAFETY: the handle is used by this call alone, and pointers and lengths are those of slices.
         was_there(unsafe {
-            sys::icu_locale_set_keyword(self.handle(), key.as_ptr(), key.len(), value.as_ptr(), value.len())
+            sys::icu_locale_set_keyword(self.handle_to_change(), key.as_ptr(), key.len(), value.as_ptr(), value.len())
         });
         before
     }
@@ -316,7 +328,7 @@ impl Locale {
     /// as by [`check`](crate::check) for one.
     pub fn set_transform_language(&mut self, text: &str) -> Result<(), ParseError> {
         // SAFETY: the handle is used by this call alone, and pointer and length are those of a slice.
-        let status = unsafe { sys::icu_locale_set_transform_language(self.handle(), text.as_ptr(), text.len()) };
+        let status = unsafe { sys::icu_locale_set_transform_language(self.handle_to_change(), text.as_ptr(), text.len()) };
         text_result(status, Mode::Identifier, text.as_bytes())
     }
 
@@ -340,7 +352,7 @@ impl Locale {
     pub fn set_field(&mut self, key: &str, value: &str) -> Result<(), ParseError> {
         // SAFETY: the handle is used by this call alone, and pointers and lengths are those of slices.
         let status = unsafe {
-            sys::icu_locale_set_field(self.handle(), key.as_ptr(), key.len(), value.as_ptr(), value.len())
+            sys::icu_locale_set_field(self.handle_to_change(), key.as_ptr(), key.len(), value.as_ptr(), value.len())
         };
         let hyphen = if value.is_empty() { "" } else { "-" };
         result(status, &[key.as_bytes(), hyphen.as_bytes(), value.as_bytes()])
@@ -372,7 +384,7 @@ impl Locale {
     /// Whether there is another extension with this singleton, such as `a` in `en-a-foo`, in either case.
     pub fn has_other(&self, singleton: char) -> bool {
         let has = |byte| {
-            // SAFETY: the handle is used by this call alone.
+            // SAFETY: the handle is only read.
             unsafe { sys::icu_locale_has_other(self.handle(), byte) }
         };
         u8::try_from(singleton).is_ok_and(has)
@@ -397,15 +409,15 @@ impl Locale {
     pub fn remove_other(&mut self, singleton: char) -> bool {
         let remove = |byte| {
             // SAFETY: the handle is used by this call alone.
-            was_there(unsafe { sys::icu_locale_remove_other(self.handle(), byte) })
+            was_there(unsafe { sys::icu_locale_remove_other(self.handle_to_change(), byte) })
         };
         u8::try_from(singleton).is_ok_and(remove)
     }
 
     /// Adds the attributes and keywords of the other locale. At a key of both, its value wins.
     pub fn extend_unicode(&mut self, from: &Self) {
-        // SAFETY: the handles are two, as one is borrowed alone, and used by this call alone.
-        was_there(unsafe { sys::icu_locale_extend_unicode(self.handle(), from.handle()) });
+        // SAFETY: the first handle is used by this call alone, and the other one is only read.
+        was_there(unsafe { sys::icu_locale_extend_unicode(self.handle_to_change(), from.handle()) });
     }
 
     /// The text of the data locale, by which data is looked up: `en-US` of `en-GB-u-rg-uszzzz`, by region.
@@ -421,7 +433,7 @@ impl Locale {
     /// The byte order of the text of the data locale against other bytes, as they stand.
     pub fn data_strict_cmp(&self, priority: Priority, other: &[u8]) -> Ordering {
         let mut order = 0;
-        // SAFETY: the handle is used by this call alone. Pointer and length are those of a slice; `order` lives here.
+        // SAFETY: the handle is only read. Pointer and length are those of a slice; `order` lives here.
         was_there(unsafe {
             sys::icu_locale_data_cmp_bytes(self.handle(), priority.number(), other.as_ptr(), other.len(), &mut order)
         });
@@ -430,11 +442,8 @@ impl Locale {
 
     /// The order of the data locales of both by language, script, region part and variant.
     pub fn data_total_cmp(&self, priority: Priority, other: &Self) -> Ordering {
-        if ptr::eq(self, other) {
-            return Ordering::Equal;
-        }
         let mut order = 0;
-        // SAFETY: the handles are two, and used by this call alone; `order` lives here.
+        // SAFETY: both handles are only read, and `order` lives here.
         was_there(unsafe {
             sys::icu_locale_data_cmp(self.handle(), other.handle(), priority.number(), &mut order)
         });
@@ -458,21 +467,21 @@ impl Locale {
 
     fn try_set(&mut self, call: Setting, text: &str) -> Result<(), ParseError> {
         // SAFETY: the handle is used by this call alone, and pointer and length are those of a slice.
-        result(unsafe { call(self.handle(), text.as_ptr(), text.len()) }, &[text.as_bytes()])
+        result(unsafe { call(self.handle_to_change(), text.as_ptr(), text.len()) }, &[text.as_bytes()])
     }
 
     fn set(&mut self, call: Setting, text: &str) -> bool {
         // SAFETY: the handle is used by this call alone, and pointer and length are those of a slice.
-        was_there(unsafe { call(self.handle(), text.as_ptr(), text.len()) })
+        was_there(unsafe { call(self.handle_to_change(), text.as_ptr(), text.len()) })
     }
 
     fn clear(&mut self, call: Clearing) {
         // SAFETY: the handle is used by this call alone.
-        was_there(unsafe { call(self.handle()) });
+        was_there(unsafe { call(self.handle_to_change()) });
     }
 
     fn has(&self, call: Having, text: &str) -> bool {
-        // SAFETY: the handle is used by this call alone, and pointer and length are those of a slice.
+        // SAFETY: the handle is only read, and pointer and length are those of a slice.
         unsafe { call(self.handle(), text.as_ptr(), text.len()) }
     }
 
@@ -488,7 +497,7 @@ impl Locale {
     }
 
     fn list<R>(&self, count: Counting, call: ReadingAt, then: impl Fn(&str) -> R) -> Vec<R> {
-        // SAFETY: the handle is used by this call alone.
+        // SAFETY: the handle is only read.
         let count = unsafe { count(self.handle()) };
         let at = |index| {
             // SAFETY: `read` says so.
@@ -498,11 +507,11 @@ impl Locale {
         (0..count).map(at).collect()
     }
 
-    /// What a call writes to a buffer, if there is such a part. The handle is used by that call alone, the buffer has
-    /// that room, and `needed` lives here.
+    /// What a call writes to a buffer, if there is such a part. The call only reads the handle, the buffer has that room,
+    /// and `needed` lives here.
     fn read<R>(
         &self,
-        call: impl Fn(*mut sys::icu_locale_t, *mut u8, usize, *mut usize) -> u32,
+        call: impl Fn(*const sys::icu_locale_t, *mut u8, usize, *mut usize) -> u32,
         then: impl FnOnce(&str) -> R,
     ) -> Option<R> {
         let (mut small, mut large, mut needed) = ([0; 64], Vec::new(), 0);
@@ -519,7 +528,7 @@ impl Locale {
 impl Drop for Locale {
     fn drop(&mut self) {
         // SAFETY: the handle is used by this call alone, which is the last.
-        unsafe { sys::icu_locale_free(self.held.get()) }
+        unsafe { sys::icu_locale_free(&mut self.held) }
     }
 }
 
@@ -537,8 +546,8 @@ impl Clone for Locale {
     }
 
     fn clone_from(&mut self, from: &Self) {
-        // SAFETY: the handles are two, as one is borrowed alone, and used by this call alone.
-        was_there(unsafe { sys::icu_locale_copy(self.handle(), from.handle()) });
+        // SAFETY: the first handle is used by this call alone, and the other one is only read.
+        was_there(unsafe { sys::icu_locale_copy(self.handle_to_change(), from.handle()) });
     }
 }
 
@@ -567,6 +576,31 @@ impl FromStr for Locale {
     }
 }
 
+/// What the text means.
+impl TryFrom<&str> for Locale {
+    type Error = ParseError;
+
+    fn try_from(text: &str) -> Result<Self, ParseError> {
+        Self::try_from_str(text)
+    }
+}
+
+/// What the text means.
+impl TryFrom<String> for Locale {
+    type Error = ParseError;
+
+    fn try_from(text: String) -> Result<Self, ParseError> {
+        Self::try_from_str(&text)
+    }
+}
+
+/// The normal form.
+impl From<Locale> for String {
+    fn from(locale: Locale) -> Self {
+        locale.to_string()
+    }
+}
+
 /// It prints the normal form, and honors the width and the alignment that are asked for.
 impl fmt::Display for Locale {
     fn fmt(&self, f: &mut fmt::Formatter<'_>) -> fmt::Result {
@@ -584,12 +618,27 @@ impl fmt::Debug for Locale {
 
 impl PartialEq for Locale {
     fn eq(&self, other: &Self) -> bool {
-        // SAFETY: the handles are two, and used by this call alone.
-        ptr::eq(self, other) || unsafe { sys::icu_locale_eq(self.handle(), other.handle()) }
+        // SAFETY: both handles are only read.
+        unsafe { sys::icu_locale_eq(self.handle(), other.handle()) }
     }
 }
 
 impl Eq for Locale {}
+
+/// Whether the normal form is this text, as it stands: `en-US` is equal to `"en-US"`, and not to `"EN-us"`.
+/// [`normalizing_eq`](Locale::normalizing_eq) is whether a text means the locale.
+impl PartialEq<str> for Locale {
+    fn eq(&self, other: &str) -> bool {
+        self.strict_cmp(other.as_bytes()).is_eq()
+    }
+}
+
+/// Whether the normal form is this text, as it stands.
+impl PartialEq<&str> for Locale {
+    fn eq(&self, other: &&str) -> bool {
+        *self == **other
+    }
+}
 
 /// The order by parts.
 impl Ord for Locale {
@@ -606,7 +655,7 @@ impl PartialOrd for Locale {
 
 impl Hash for Locale {
     fn hash<H: Hasher>(&self, state: &mut H) {
-        // SAFETY: the handle is used by this call alone.
+        // SAFETY: the handle is only read.
         state.write_u64(unsafe { sys::icu_locale_hash(self.handle()) });
     }
 }
@@ -741,6 +790,40 @@ mod tests {
         let it = locale("EN-x-a-b-c-d-e-f-g-h");
         let printed = std::thread::spawn(move || it.to_string()).join().unwrap();
         assert_eq!(printed, "en-x-a-b-c-d-e-f-g-h");
+    }
+
+    #[test]
+    fn threads_read_one_locale() {
+        static UND: Locale = Locale::UNKNOWN;
+        let text = "en-Latn-GB-posix-a-foo-t-de-m0-din-u-aaa-ca-buddhist-rg-uszzzz-x-p-q";
+        let (one, other) = (locale(text), locale(text));
+        std::thread::scope(|scope| {
+            for _ in 0..8 {
+                scope.spawn(|| (0..1000).for_each(|_| read_each_part(&one, &other, text)));
+            }
+        });
+        assert!(UND.is_unknown() && one == *text);
+    }
+
+    fn read_each_part(one: &Locale, other: &Locale, text: &str) {
+        assert!(one == other && one == one && one.total_cmp(one).is_eq() && one.normalizing_eq(text));
+        assert_eq!(one.clone().to_string(), text);
+        assert_eq!((one.language().as_str(), one.region().unwrap().as_str()), ("en", "GB"));
+        assert_eq!(one.keywords().len() + one.fields().len() + one.variants().len(), 4);
+        assert_eq!(one.data_locale(Priority::Region), "en-Latn-US-posix");
+        assert!(one.data_total_cmp(Priority::Region, other).is_eq());
+        let mut extended = Locale::UNKNOWN;
+        extended.extend_unicode(one);
+        assert_eq!(extended, "und-u-aaa-ca-buddhist-rg-uszzzz");
+    }
+
+    #[test]
+    fn texts_become_locales_and_are_compared() {
+        let it = Locale::try_from("EN-us").unwrap();
+        assert_eq!(Ok(it.clone()), Locale::try_from("en-US".to_owned()));
+        assert!(it == "en-US" && it == *"en-US" && it != "EN-us" && it != "en" && it != *"en-USA");
+        assert_eq!(Locale::try_from("en-").unwrap_err(), Refusal::InvalidSubtag);
+        assert_eq!(String::from(locale("EN-u-ca-roc")), "en-u-ca-roc");
     }
 
     #[test]

@@ -1,7 +1,7 @@
 //! The header `include/icu_locale.h`, which says what each function does, and what a caller owes.
 // Written by tools/write_calls from tools/calls.txt and the numbers of that header: change those and not this file.
 
-pub const VERSION: u32 = 5;
+pub const VERSION: u32 = 6;
 
 pub const IDENTIFIER: u32 = 0;
 pub const LOCALE: u32 = 1;
@@ -64,52 +64,62 @@ extern "C" {
     ) -> u32;
     pub fn icu_locale_words(status: u32, buffer: *mut u8, room: usize, needed: *mut usize) -> u32;
     pub fn icu_locale_parse(locale: *mut icu_locale_t, text: *const u8, length: usize) -> u32;
-    pub fn icu_locale_copy(locale: *mut icu_locale_t, from: *mut icu_locale_t) -> u32;
+    pub fn icu_locale_copy(locale: *mut icu_locale_t, from: *const icu_locale_t) -> u32;
     pub fn icu_locale_free(locale: *mut icu_locale_t);
-    pub fn icu_locale_is_und(locale: *mut icu_locale_t) -> bool;
-    pub fn icu_locale_is_well_formed(locale: *mut icu_locale_t) -> bool;
-    pub fn icu_locale_cmp(locale: *mut icu_locale_t, other: *mut icu_locale_t) -> i8;
-    pub fn icu_locale_eq(locale: *mut icu_locale_t, other: *mut icu_locale_t) -> bool;
-    pub fn icu_locale_cmp_bytes(locale: *mut icu_locale_t, other: *const u8, length: usize) -> i8;
-    pub fn icu_locale_eq_text(locale: *mut icu_locale_t, text: *const u8, length: usize, same: *mut u8) -> u32;
-    pub fn icu_locale_hash(locale: *mut icu_locale_t) -> u64;
-    pub fn icu_locale_to_string(locale: *mut icu_locale_t, buffer: *mut u8, room: usize, needed: *mut usize) -> u32;
-    pub fn icu_locale_get_base_name(locale: *mut icu_locale_t, buffer: *mut u8, room: usize, needed: *mut usize) -> u32;
-    pub fn icu_locale_get_language(locale: *mut icu_locale_t, buffer: *mut u8, room: usize, needed: *mut usize) -> u32;
-    pub fn icu_locale_get_script(locale: *mut icu_locale_t, buffer: *mut u8, room: usize, needed: *mut usize) -> u32;
-    pub fn icu_locale_get_region(locale: *mut icu_locale_t, buffer: *mut u8, room: usize, needed: *mut usize) -> u32;
+    pub fn icu_locale_is_und(locale: *const icu_locale_t) -> bool;
+    pub fn icu_locale_is_well_formed(locale: *const icu_locale_t) -> bool;
+    pub fn icu_locale_cmp(locale: *const icu_locale_t, other: *const icu_locale_t) -> i8;
+    pub fn icu_locale_eq(locale: *const icu_locale_t, other: *const icu_locale_t) -> bool;
+    pub fn icu_locale_cmp_bytes(locale: *const icu_locale_t, other: *const u8, length: usize) -> i8;
+    pub fn icu_locale_eq_text(locale: *const icu_locale_t, text: *const u8, length: usize, same: *mut u8) -> u32;
+    pub fn icu_locale_hash(locale: *const icu_locale_t) -> u64;
+    pub fn icu_locale_to_string(locale: *const icu_locale_t, buffer: *mut u8, room: usize, needed: *mut usize) -> u32;
+    pub fn icu_locale_get_base_name(
+        locale: *const icu_locale_t,
+        buffer: *mut u8,
+        room: usize,
+        needed: *mut usize,
+    ) -> u32;
+    pub fn icu_locale_get_language(
+        locale: *const icu_locale_t,
+        buffer: *mut u8,
+        room: usize,
+        needed: *mut usize,
+    ) -> u32;
+    pub fn icu_locale_get_script(locale: *const icu_locale_t, buffer: *mut u8, room: usize, needed: *mut usize) -> u32;
+    pub fn icu_locale_get_region(locale: *const icu_locale_t, buffer: *mut u8, room: usize, needed: *mut usize) -> u32;
     pub fn icu_locale_set_language(locale: *mut icu_locale_t, text: *const u8, length: usize) -> u32;
     pub fn icu_locale_set_script(locale: *mut icu_locale_t, text: *const u8, length: usize) -> u32;
     pub fn icu_locale_set_region(locale: *mut icu_locale_t, text: *const u8, length: usize) -> u32;
-    pub fn icu_locale_variant_count(locale: *mut icu_locale_t) -> usize;
+    pub fn icu_locale_variant_count(locale: *const icu_locale_t) -> usize;
     pub fn icu_locale_get_variant(
-        locale: *mut icu_locale_t,
+        locale: *const icu_locale_t,
         index: usize,
         buffer: *mut u8,
         room: usize,
         needed: *mut usize,
     ) -> u32;
-    pub fn icu_locale_has_variant(locale: *mut icu_locale_t, text: *const u8, length: usize) -> bool;
+    pub fn icu_locale_has_variant(locale: *const icu_locale_t, text: *const u8, length: usize) -> bool;
     pub fn icu_locale_add_variant(locale: *mut icu_locale_t, text: *const u8, length: usize) -> u32;
     pub fn icu_locale_remove_variant(locale: *mut icu_locale_t, text: *const u8, length: usize) -> u32;
     pub fn icu_locale_clear_variants(locale: *mut icu_locale_t) -> u32;
-    pub fn icu_locale_keyword_count(locale: *mut icu_locale_t) -> usize;
+    pub fn icu_locale_keyword_count(locale: *const icu_locale_t) -> usize;
     pub fn icu_locale_get_keyword_key(
-        locale: *mut icu_locale_t,
+        locale: *const icu_locale_t,
         index: usize,
         buffer: *mut u8,
         room: usize,
         needed: *mut usize,
     ) -> u32;
     pub fn icu_locale_get_keyword_value(
-        locale: *mut icu_locale_t,
+        locale: *const icu_locale_t,
         index: usize,
         buffer: *mut u8,
         room: usize,
         needed: *mut usize,
     ) -> u32;
     pub fn icu_locale_get_keyword(
-        locale: *mut icu_locale_t,
+        locale: *const icu_locale_t,
         key: *const u8,
         key_length: usize,
         buffer: *mut u8,
@@ -125,43 +135,43 @@ extern "C" {
     ) -> u32;
     pub fn icu_locale_remove_keyword(locale: *mut icu_locale_t, key: *const u8, key_length: usize) -> u32;
     pub fn icu_locale_clear_keywords(locale: *mut icu_locale_t) -> u32;
-    pub fn icu_locale_extend_unicode(locale: *mut icu_locale_t, from: *mut icu_locale_t) -> u32;
-    pub fn icu_locale_attribute_count(locale: *mut icu_locale_t) -> usize;
+    pub fn icu_locale_extend_unicode(locale: *mut icu_locale_t, from: *const icu_locale_t) -> u32;
+    pub fn icu_locale_attribute_count(locale: *const icu_locale_t) -> usize;
     pub fn icu_locale_get_attribute(
-        locale: *mut icu_locale_t,
+        locale: *const icu_locale_t,
         index: usize,
         buffer: *mut u8,
         room: usize,
         needed: *mut usize,
     ) -> u32;
-    pub fn icu_locale_has_attribute(locale: *mut icu_locale_t, text: *const u8, length: usize) -> bool;
+    pub fn icu_locale_has_attribute(locale: *const icu_locale_t, text: *const u8, length: usize) -> bool;
     pub fn icu_locale_add_attribute(locale: *mut icu_locale_t, text: *const u8, length: usize) -> u32;
     pub fn icu_locale_remove_attribute(locale: *mut icu_locale_t, text: *const u8, length: usize) -> u32;
     pub fn icu_locale_clear_attributes(locale: *mut icu_locale_t) -> u32;
     pub fn icu_locale_get_transform_language(
-        locale: *mut icu_locale_t,
+        locale: *const icu_locale_t,
         buffer: *mut u8,
         room: usize,
         needed: *mut usize,
     ) -> u32;
     pub fn icu_locale_set_transform_language(locale: *mut icu_locale_t, text: *const u8, length: usize) -> u32;
-    pub fn icu_locale_field_count(locale: *mut icu_locale_t) -> usize;
+    pub fn icu_locale_field_count(locale: *const icu_locale_t) -> usize;
     pub fn icu_locale_get_field_key(
-        locale: *mut icu_locale_t,
+        locale: *const icu_locale_t,
         index: usize,
         buffer: *mut u8,
         room: usize,
         needed: *mut usize,
     ) -> u32;
     pub fn icu_locale_get_field_value(
-        locale: *mut icu_locale_t,
+        locale: *const icu_locale_t,
         index: usize,
         buffer: *mut u8,
         room: usize,
         needed: *mut usize,
     ) -> u32;
     pub fn icu_locale_get_field(
-        locale: *mut icu_locale_t,
+        locale: *const icu_locale_t,
         key: *const u8,
         key_length: usize,
         buffer: *mut u8,
@@ -177,11 +187,11 @@ extern "C" {
     ) -> u32;
     pub fn icu_locale_remove_field(locale: *mut icu_locale_t, key: *const u8, key_length: usize) -> u32;
     pub fn icu_locale_clear_fields(locale: *mut icu_locale_t) -> u32;
-    pub fn icu_locale_get_private(locale: *mut icu_locale_t, buffer: *mut u8, room: usize, needed: *mut usize) -> u32;
+    pub fn icu_locale_get_private(locale: *const icu_locale_t, buffer: *mut u8, room: usize, needed: *mut usize) -> u32;
     pub fn icu_locale_set_private(locale: *mut icu_locale_t, text: *const u8, length: usize) -> u32;
-    pub fn icu_locale_has_other(locale: *mut icu_locale_t, singleton: u8) -> bool;
+    pub fn icu_locale_has_other(locale: *const icu_locale_t, singleton: u8) -> bool;
     pub fn icu_locale_get_other(
-        locale: *mut icu_locale_t,
+        locale: *const icu_locale_t,
         singleton: u8,
         buffer: *mut u8,
         room: usize,
@@ -190,39 +200,39 @@ extern "C" {
     pub fn icu_locale_set_other(locale: *mut icu_locale_t, text: *const u8, length: usize) -> u32;
     pub fn icu_locale_remove_other(locale: *mut icu_locale_t, singleton: u8) -> u32;
     pub fn icu_locale_get_data_locale(
-        locale: *mut icu_locale_t,
+        locale: *const icu_locale_t,
         priority: u32,
         buffer: *mut u8,
         room: usize,
         needed: *mut usize,
     ) -> u32;
     pub fn icu_locale_data_cmp_bytes(
-        locale: *mut icu_locale_t,
+        locale: *const icu_locale_t,
         priority: u32,
         other: *const u8,
         length: usize,
         order: *mut i8,
     ) -> u32;
     pub fn icu_locale_data_cmp(
-        locale: *mut icu_locale_t,
-        other: *mut icu_locale_t,
+        locale: *const icu_locale_t,
+        other: *const icu_locale_t,
         priority: u32,
         order: *mut i8,
     ) -> u32;
     pub fn icu_locale_get_calendar_algorithm(
-        locale: *mut icu_locale_t,
+        locale: *const icu_locale_t,
         buffer: *mut u8,
         room: usize,
         needed: *mut usize,
     ) -> u32;
     pub fn icu_locale_get_hour_cycle(
-        locale: *mut icu_locale_t,
+        locale: *const icu_locale_t,
         buffer: *mut u8,
         room: usize,
         needed: *mut usize,
     ) -> u32;
     pub fn icu_locale_get_numbering_system(
-        locale: *mut icu_locale_t,
+        locale: *const icu_locale_t,
         buffer: *mut u8,
         room: usize,
         needed: *mut usize,

@@ -11,15 +11,15 @@ ghost use Rattle.iloc_handles.specs.Subtags.{HasWord};
 ghost use Rattle.iloc_handles.specs.Attributes.{AddsAttribute, RemovesAttribute, attribute_at, attributes_of};
 
 use iloc_handles::{
-    AddAttribute, Clear, Handle, HasText, OfAttributes, RemoveAttribute, WordAt, WordCount, ask,
-    make_change, tell,
+    AddAttribute, Clear, Handle, HasText, Lent, OfAttributes, RemoveAttribute, WordAt, WordCount,
+    ask, make_change, tell,
 };
 use std::alloc::Global;
 
 /// How many attributes there are.
 #[unsafe(no_mangle)]
-pub extern "C" fn icu_locale_attribute_count(alloc: Global, handle: &mut Handle) -> usize
-    ensures { IsAsked handle.old.value handle.new.value (λ it. result ≡ length (attributes_of it)) }
+pub extern "C" fn icu_locale_attribute_count(alloc: Global, handle: &mut Lent) -> usize
+    ensures { IsAsked handle.old handle.new (λ it. result ≡ length (attributes_of it)) }
 {
     ask(alloc, handle, &WordCount(OfAttributes))
 }
@@ -28,22 +28,22 @@ pub extern "C" fn icu_locale_attribute_count(alloc: Global, handle: &mut Handle)
 #[unsafe(no_mangle)]
 pub extern "C" fn icu_locale_get_attribute(
     alloc: Global,
-    handle: &mut Handle,
+    handle: &mut Lent,
     index: usize,
     buffer: &mut [u8],
     needed: &mut usize,
 ) -> u32
-    ensures { IsAsked handle.old.value handle.new.value (λ it. EndsAs (Tells (attribute_at index it)
-        buffer.old buffer.new needed.new) result) }
+    ensures { IsAsked handle.old handle.new (λ it. EndsAs (Tells (attribute_at index it) buffer.old
+        buffer.new needed.new) result) }
 {
     tell(alloc, handle, &WordAt(OfAttributes, index), buffer, needed)
 }
 
 /// Whether the text is one of the attributes.
 #[unsafe(no_mangle)]
-pub extern "C" fn icu_locale_has_attribute(alloc: Global, handle: &mut Handle, text: &[u8]) -> bool
-    ensures { IsAsked handle.old.value handle.new.value (λ it. IsTrue result ↔ HasWord Attribute
-        text.now (attributes_of it)) }
+pub extern "C" fn icu_locale_has_attribute(alloc: Global, handle: &mut Lent, text: &[u8]) -> bool
+    ensures { IsAsked handle.old handle.new (λ it. IsTrue result ↔ HasWord Attribute text.now
+        (attributes_of it)) }
 {
     ask(alloc, handle, &HasText(OfAttributes, text))
 }

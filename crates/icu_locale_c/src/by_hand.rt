@@ -7,7 +7,7 @@ ghost use Rattle.iloc_handles.specs.Finding.{IsAsked};
 ghost use Rattle.iloc_handles.specs.Whole.{TellsMeant};
 
 use iloc_calls::number;
-use iloc_handles::{Handle, order_of, tell_meant};
+use iloc_handles::{Handle, Lent, order_of, tell_meant};
 use std::alloc::Global;
 
 /// Stands for `und` from then on, and holds nothing.
@@ -20,18 +20,18 @@ pub extern "C" fn icu_locale_free(alloc: Global, handle: &mut Handle)
 
 /// The order of two locales by their parts, as -1, 0 or 1.
 #[unsafe(no_mangle)]
-pub extern "C" fn icu_locale_cmp(alloc: Global, handle: &mut Handle, other: &mut Handle) -> i8
-    ensures { IsAsked handle.old.value handle.new.value (λ it. IsAsked other.old.value
-        other.new.value (λ that. result ≡ order_number (locale_cmp it that))) }
+pub extern "C" fn icu_locale_cmp(alloc: Global, handle: &mut Lent, other: &mut Lent) -> i8
+    ensures { IsAsked handle.old handle.new (λ it. IsAsked other.old
+        other.new (λ that. result ≡ order_number (locale_cmp it that))) }
 {
     number(order_of(alloc, handle, other))
 }
 
 /// Whether two locales are equal.
 #[unsafe(no_mangle)]
-pub extern "C" fn icu_locale_eq(alloc: Global, handle: &mut Handle, other: &mut Handle) -> bool
-    ensures { IsAsked handle.old.value handle.new.value (λ it. IsAsked other.old.value
-        other.new.value (λ that. IsTrue result ↔ (it ≡ that))) }
+pub extern "C" fn icu_locale_eq(alloc: Global, handle: &mut Lent, other: &mut Lent) -> bool
+    ensures { IsAsked handle.old handle.new (λ it. IsAsked other.old
+        other.new (λ that. IsTrue result ↔ (it ≡ that))) }
 {
     iloc_handles::eq(alloc, handle, other)
 }
@@ -40,11 +40,11 @@ pub extern "C" fn icu_locale_eq(alloc: Global, handle: &mut Handle, other: &mut 
 #[unsafe(no_mangle)]
 pub extern "C" fn icu_locale_eq_text(
     alloc: Global,
-    handle: &mut Handle,
+    handle: &mut Lent,
     text: &[u8],
     same: &mut u8,
 ) -> u32
-    ensures { IsAsked handle.old.value handle.new.value
+    ensures { IsAsked handle.old handle.new
         (λ it. EndsAs (TellsMeant text.now it same.old same.new) result) }
 {
     tell_meant(alloc, handle, text, same).number()

@@ -11,7 +11,7 @@ ghost use Rattle.iloc_handles.specs.Data.{ByPriority, data_of};
 ghost use Rattle.iloc_handles.specs.Finding.{IsAsked};
 
 use iloc_calls::{Status, hand_out, number};
-use iloc_handles::{Handle, Priority, ask};
+use iloc_handles::{Lent, Priority, ask};
 use std::alloc::Global;
 
 /// Hands out the text of the data locale.
@@ -20,12 +20,12 @@ use std::alloc::Global;
 #[unsafe(no_mangle)]
 pub extern "C" fn icu_locale_get_data_locale(
     alloc: Global,
-    handle: &mut Handle,
+    handle: &mut Lent,
     priority: u32,
     buffer: &mut [u8],
     needed: &mut usize,
 ) -> u32
-    ensures { IsAsked handle.old.value handle.new.value (λ it. ByPriority priority
+    ensures { IsAsked handle.old handle.new (λ it. ByPriority priority
         (λ p. EndsAs (HandsOut (data_text (data_of p it)) buffer.old buffer.new needed.new))
         ((needed.new ≡ 0) × (buffer.new ≡ buffer.old)) result) }
 {
@@ -42,12 +42,12 @@ pub extern "C" fn icu_locale_get_data_locale(
 #[unsafe(no_mangle)]
 pub extern "C" fn icu_locale_data_cmp_bytes(
     alloc: Global,
-    handle: &mut Handle,
+    handle: &mut Lent,
     priority: u32,
     other: &[u8],
     order: &mut i8,
 ) -> u32
-    ensures { IsAsked handle.old.value handle.new.value (λ it. ByPriority priority
+    ensures { IsAsked handle.old handle.new (λ it. ByPriority priority
         (λ p number. (number ≡ number_of Status.Done)
         × (order.new ≡ order_number (slice_cmp nat_cmp (data_text (data_of p it)) other.now)))
         (order.new ≡ order.old) result) }
@@ -65,13 +65,13 @@ pub extern "C" fn icu_locale_data_cmp_bytes(
 #[unsafe(no_mangle)]
 pub extern "C" fn icu_locale_data_cmp(
     alloc: Global,
-    handle: &mut Handle,
-    other: &mut Handle,
+    handle: &mut Lent,
+    other: &mut Lent,
     priority: u32,
     order: &mut i8,
 ) -> u32
-    ensures { IsAsked handle.old.value handle.new.value (λ it. IsAsked other.old.value
-        other.new.value (λ that. ByPriority priority
+    ensures { IsAsked handle.old handle.new (λ it. IsAsked other.old
+        other.new (λ that. ByPriority priority
         (λ p number. (number ≡ number_of Status.Done)
         × (order.new ≡ order_number (data_locale_cmp (data_of p it) (data_of p that))))
         (order.new ≡ order.old) result)) }

@@ -7,19 +7,19 @@ ghost use Rattle.iloc_calls.specs.Numbers.{EndsAs};
 ghost use Rattle.iloc_handles.specs.Finding.{IsAsked, IsChanged};
 ghost use Rattle.iloc_handles.specs.Identifier.{SetsLanguage, SetsRegion, SetsScript, text_or_empty};
 
-use iloc_handles::{Handle, Named, SetLanguage, SetRegion, SetScript, make_change, tell};
+use iloc_handles::{Handle, Lent, Named, SetLanguage, SetRegion, SetScript, make_change, tell};
 use std::alloc::Global;
 
 /// Hands out the identifier, without extensions.
 #[unsafe(no_mangle)]
 pub extern "C" fn icu_locale_get_base_name(
     alloc: Global,
-    handle: &mut Handle,
+    handle: &mut Lent,
     buffer: &mut [u8],
     needed: &mut usize,
 ) -> u32
-    ensures { IsAsked handle.old.value handle.new.value (λ it. EndsAs (Tells
-        (Some (identifier_text it.id)) buffer.old buffer.new needed.new) result) }
+    ensures { IsAsked handle.old handle.new (λ it. EndsAs (Tells (Some (identifier_text it.id))
+        buffer.old buffer.new needed.new) result) }
 {
     tell(alloc, handle, &Named::BaseName, buffer, needed)
 }
@@ -28,12 +28,12 @@ pub extern "C" fn icu_locale_get_base_name(
 #[unsafe(no_mangle)]
 pub extern "C" fn icu_locale_get_language(
     alloc: Global,
-    handle: &mut Handle,
+    handle: &mut Lent,
     buffer: &mut [u8],
     needed: &mut usize,
 ) -> u32
-    ensures { IsAsked handle.old.value handle.new.value (λ it. EndsAs (Tells (Some it.id.language)
-        buffer.old buffer.new needed.new) result) }
+    ensures { IsAsked handle.old handle.new (λ it. EndsAs (Tells (Some it.id.language) buffer.old
+        buffer.new needed.new) result) }
 {
     tell(alloc, handle, &Named::Language, buffer, needed)
 }
@@ -42,12 +42,12 @@ pub extern "C" fn icu_locale_get_language(
 #[unsafe(no_mangle)]
 pub extern "C" fn icu_locale_get_script(
     alloc: Global,
-    handle: &mut Handle,
+    handle: &mut Lent,
     buffer: &mut [u8],
     needed: &mut usize,
 ) -> u32
-    ensures { IsAsked handle.old.value handle.new.value (λ it. EndsAs (Tells
-        (Some (text_or_empty it.id.script)) buffer.old buffer.new needed.new) result) }
+    ensures { IsAsked handle.old handle.new (λ it. EndsAs (Tells (Some (text_or_empty it.id.script))
+        buffer.old buffer.new needed.new) result) }
 {
     tell(alloc, handle, &Named::Script, buffer, needed)
 }
@@ -56,12 +56,12 @@ pub extern "C" fn icu_locale_get_script(
 #[unsafe(no_mangle)]
 pub extern "C" fn icu_locale_get_region(
     alloc: Global,
-    handle: &mut Handle,
+    handle: &mut Lent,
     buffer: &mut [u8],
     needed: &mut usize,
 ) -> u32
-    ensures { IsAsked handle.old.value handle.new.value (λ it. EndsAs (Tells
-        (Some (text_or_empty it.id.region)) buffer.old buffer.new needed.new) result) }
+    ensures { IsAsked handle.old handle.new (λ it. EndsAs (Tells (Some (text_or_empty it.id.region))
+        buffer.old buffer.new needed.new) result) }
 {
     tell(alloc, handle, &Named::Region, buffer, needed)
 }

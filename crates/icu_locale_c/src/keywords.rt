@@ -12,15 +12,15 @@ ghost use Rattle.iloc_handles.specs.Pairs.{RemovesPair, SetsPair, key_at, value_
 ghost use Rattle.iloc_handles.specs.Whole.{ExtendsUnicode};
 
 use iloc_handles::{
-    Clear, Handle, KeyAt, Merge, OfKeywords, PairCount, RemovePair, SetPair, ValueAt, ValueOf, ask,
-    change_by, make_change, tell,
+    Clear, Handle, KeyAt, Lent, Merge, OfKeywords, PairCount, RemovePair, SetPair, ValueAt,
+    ValueOf, ask, change_by, make_change, tell,
 };
 use std::alloc::Global;
 
 /// How many keywords there are.
 #[unsafe(no_mangle)]
-pub extern "C" fn icu_locale_keyword_count(alloc: Global, handle: &mut Handle) -> usize
-    ensures { IsAsked handle.old.value handle.new.value (λ it. result ≡ length (keywords_of it)) }
+pub extern "C" fn icu_locale_keyword_count(alloc: Global, handle: &mut Lent) -> usize
+    ensures { IsAsked handle.old handle.new (λ it. result ≡ length (keywords_of it)) }
 {
     ask(alloc, handle, &PairCount(OfKeywords))
 }
@@ -29,13 +29,13 @@ pub extern "C" fn icu_locale_keyword_count(alloc: Global, handle: &mut Handle) -
 #[unsafe(no_mangle)]
 pub extern "C" fn icu_locale_get_keyword_key(
     alloc: Global,
-    handle: &mut Handle,
+    handle: &mut Lent,
     index: usize,
     buffer: &mut [u8],
     needed: &mut usize,
 ) -> u32
-    ensures { IsAsked handle.old.value handle.new.value (λ it. EndsAs (Tells
-        (key_at index (keywords_of it)) buffer.old buffer.new needed.new) result) }
+    ensures { IsAsked handle.old handle.new (λ it. EndsAs (Tells (key_at index (keywords_of it))
+        buffer.old buffer.new needed.new) result) }
 {
     tell(alloc, handle, &KeyAt(OfKeywords, index), buffer, needed)
 }
@@ -44,12 +44,12 @@ pub extern "C" fn icu_locale_get_keyword_key(
 #[unsafe(no_mangle)]
 pub extern "C" fn icu_locale_get_keyword_value(
     alloc: Global,
-    handle: &mut Handle,
+    handle: &mut Lent,
     index: usize,
     buffer: &mut [u8],
     needed: &mut usize,
 ) -> u32
-    ensures { IsAsked handle.old.value handle.new.value (λ it. EndsAs (Tells
+    ensures { IsAsked handle.old handle.new (λ it. EndsAs (Tells
         (option_map join (value_at index (keywords_of it))) buffer.old buffer.new needed.new)
         result) }
 {
@@ -60,12 +60,12 @@ pub extern "C" fn icu_locale_get_keyword_value(
 #[unsafe(no_mangle)]
 pub extern "C" fn icu_locale_get_keyword(
     alloc: Global,
-    handle: &mut Handle,
+    handle: &mut Lent,
     key: &[u8],
     buffer: &mut [u8],
     needed: &mut usize,
 ) -> u32
-    ensures { IsAsked handle.old.value handle.new.value (λ it. EndsAs (Tells (option_map join
+    ensures { IsAsked handle.old handle.new (λ it. EndsAs (Tells (option_map join
         (value_of_key UnicodeKey key.now (keywords_of it))) buffer.old buffer.new needed.new)
         result) }
 {
@@ -108,10 +108,10 @@ pub extern "C" fn icu_locale_clear_keywords(alloc: Global, handle: &mut Handle) 
 pub extern "C" fn icu_locale_extend_unicode(
     alloc: Global,
     handle: &mut Handle,
-    from: &mut Handle,
+    from: &mut Lent,
 ) -> u32
-    ensures { IsAsked from.old.value from.new.value (λ that. IsChanged (ExtendsUnicode that)
-        handle.old.value handle.new.value result) }
+    ensures { IsAsked from.old from.new (λ that. IsChanged (ExtendsUnicode that) handle.old.value
+        handle.new.value result) }
 {
     change_by(alloc, handle, from, Merge::ExtendUnicode)
 }

@@ -33,7 +33,7 @@ mod whole;
 use std::alloc::Global;
 
 /// The version of the header that this library was made for.
-pub const VERSION: u32 = 5;
+pub const VERSION: u32 = 6;
 
 /// Writes the normal text of what the text means into the buffer, and its length to `needed`.
 ///

@@ -6,14 +6,15 @@ ghost use Rattle.iloc_calls.specs.Numbers.{EndsAs};
 ghost use Rattle.iloc_handles.specs.Finding.{IsAsked, IsChanged};
 ghost use Rattle.iloc_handles.specs.Others.{HasOther as IsThere, RemovesOther, SetsOther, other_text_at};
 
-use iloc_handles::{Handle, HasOther, OfOther, RemoveOther, SetOther, ask, make_change, tell};
+use iloc_handles::{
+    Handle, HasOther, Lent, OfOther, RemoveOther, SetOther, ask, make_change, tell,
+};
 use std::alloc::Global;
 
 /// Whether there is an extension of the singleton, in either case.
 #[unsafe(no_mangle)]
-pub extern "C" fn icu_locale_has_other(alloc: Global, handle: &mut Handle, singleton: u8) -> bool
-    ensures { IsAsked handle.old.value handle.new.value
-        (λ it. IsTrue result ↔ IsThere singleton it) }
+pub extern "C" fn icu_locale_has_other(alloc: Global, handle: &mut Lent, singleton: u8) -> bool
+    ensures { IsAsked handle.old handle.new (λ it. IsTrue result ↔ IsThere singleton it) }
 {
     ask(alloc, handle, &HasOther(singleton))
 }
@@ -22,13 +23,13 @@ pub extern "C" fn icu_locale_has_other(alloc: Global, handle: &mut Handle, singl
 #[unsafe(no_mangle)]
 pub extern "C" fn icu_locale_get_other(
     alloc: Global,
-    handle: &mut Handle,
+    handle: &mut Lent,
     singleton: u8,
     buffer: &mut [u8],
     needed: &mut usize,
 ) -> u32
-    ensures { IsAsked handle.old.value handle.new.value (λ it. EndsAs (Tells
-        (other_text_at singleton it) buffer.old buffer.new needed.new) result) }
+    ensures { IsAsked handle.old handle.new (λ it. EndsAs (Tells (other_text_at singleton it)
+        buffer.old buffer.new needed.new) result) }
 {
     tell(alloc, handle, &OfOther(singleton), buffer, needed)
 }

@@ -5,18 +5,18 @@ ghost use Rattle.iloc_calls.specs.Numbers.{EndsAs};
 ghost use Rattle.iloc_handles.specs.Finding.{IsAsked};
 ghost use Rattle.iloc_handles.specs.Data.{calendar_text, hours_text, numbering_text};
 
-use iloc_handles::{Handle, Named, tell};
+use iloc_handles::{Lent, Named, tell};
 use std::alloc::Global;
 
 /// Hands out the calendar of the keyword `ca`.
 #[unsafe(no_mangle)]
 pub extern "C" fn icu_locale_get_calendar_algorithm(
     alloc: Global,
-    handle: &mut Handle,
+    handle: &mut Lent,
     buffer: &mut [u8],
     needed: &mut usize,
 ) -> u32
-    ensures { IsAsked handle.old.value handle.new.value (λ it. EndsAs
+    ensures { IsAsked handle.old handle.new (λ it. EndsAs
         (Tells (calendar_text it) buffer.old buffer.new needed.new) result) }
 {
     tell(alloc, handle, &Named::Calendar, buffer, needed)
@@ -26,11 +26,11 @@ pub extern "C" fn icu_locale_get_calendar_algorithm(
 #[unsafe(no_mangle)]
 pub extern "C" fn icu_locale_get_hour_cycle(
     alloc: Global,
-    handle: &mut Handle,
+    handle: &mut Lent,
     buffer: &mut [u8],
     needed: &mut usize,
 ) -> u32
-    ensures { IsAsked handle.old.value handle.new.value (λ it. EndsAs
+    ensures { IsAsked handle.old handle.new (λ it. EndsAs
         (Tells (hours_text it) buffer.old buffer.new needed.new) result) }
 {
     tell(alloc, handle, &Named::HourCycle, buffer, needed)
@@ -40,11 +40,11 @@ pub extern "C" fn icu_locale_get_hour_cycle(
 #[unsafe(no_mangle)]
 pub extern "C" fn icu_locale_get_numbering_system(
     alloc: Global,
-    handle: &mut Handle,
+    handle: &mut Lent,
     buffer: &mut [u8],
     needed: &mut usize,
 ) -> u32
-    ensures { IsAsked handle.old.value handle.new.value (λ it. EndsAs
+    ensures { IsAsked handle.old handle.new (λ it. EndsAs
         (Tells (numbering_text it) buffer.old buffer.new needed.new) result) }
 {
     tell(alloc, handle, &Named::NumberingSystem, buffer, needed)

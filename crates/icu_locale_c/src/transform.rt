@@ -12,7 +12,7 @@ ghost use Rattle.iloc_handles.specs.Pairs.{RemovesPair, SetsPair, key_at, value_
 ghost use Rattle.iloc_handles.specs.Transform.{SetsPrivate, SetsTransformLanguage, fields, fields_of, transform_language};
 
 use iloc_handles::{
-    Clear, Handle, KeyAt, Named, OfFields, PairCount, RemovePair, SetPair, SetPrivate,
+    Clear, Handle, KeyAt, Lent, Named, OfFields, PairCount, RemovePair, SetPair, SetPrivate,
     SetTransformLanguage, ValueAt, ValueOf, ask, make_change, tell,
 };
 use std::alloc::Global;
@@ -21,12 +21,12 @@ use std::alloc::Global;
 #[unsafe(no_mangle)]
 pub extern "C" fn icu_locale_get_transform_language(
     alloc: Global,
-    handle: &mut Handle,
+    handle: &mut Lent,
     buffer: &mut [u8],
     needed: &mut usize,
 ) -> u32
-    ensures { IsAsked handle.old.value handle.new.value (λ it. EndsAs (Tells (transform_language it)
-        buffer.old buffer.new needed.new) result) }
+    ensures { IsAsked handle.old handle.new (λ it. EndsAs (Tells (transform_language it) buffer.old
+        buffer.new needed.new) result) }
 {
     tell(alloc, handle, &Named::TransformLanguage, buffer, needed)
 }
@@ -45,8 +45,8 @@ pub extern "C" fn icu_locale_set_transform_language(
 
 /// How many fields there are.
 #[unsafe(no_mangle)]
-pub extern "C" fn icu_locale_field_count(alloc: Global, handle: &mut Handle) -> usize
-    ensures { IsAsked handle.old.value handle.new.value (λ it. result ≡ length (fields_of it)) }
+pub extern "C" fn icu_locale_field_count(alloc: Global, handle: &mut Lent) -> usize
+    ensures { IsAsked handle.old handle.new (λ it. result ≡ length (fields_of it)) }
 {
     ask(alloc, handle, &PairCount(OfFields))
 }
@@ -55,13 +55,13 @@ pub extern "C" fn icu_locale_field_count(alloc: Global, handle: &mut Handle) -> 
 #[unsafe(no_mangle)]
 pub extern "C" fn icu_locale_get_field_key(
     alloc: Global,
-    handle: &mut Handle,
+    handle: &mut Lent,
     index: usize,
     buffer: &mut [u8],
     needed: &mut usize,
 ) -> u32
-    ensures { IsAsked handle.old.value handle.new.value (λ it. EndsAs (Tells
-        (key_at index (fields_of it)) buffer.old buffer.new needed.new) result) }
+    ensures { IsAsked handle.old handle.new (λ it. EndsAs (Tells (key_at index (fields_of it))
+        buffer.old buffer.new needed.new) result) }
 {
     tell(alloc, handle, &KeyAt(OfFields, index), buffer, needed)
 }
@@ -70,14 +70,13 @@ pub extern "C" fn icu_locale_get_field_key(
 #[unsafe(no_mangle)]
 pub extern "C" fn icu_locale_get_field_value(
     alloc: Global,
-    handle: &mut Handle,
+    handle: &mut Lent,
     index: usize,
     buffer: &mut [u8],
     needed: &mut usize,
 ) -> u32
-    ensures { IsAsked handle.old.value handle.new.value (λ it. EndsAs (Tells (option_map
-        field_value_text (value_at index (fields_of it))) buffer.old buffer.new needed.new)
-        result) }
+    ensures { IsAsked handle.old handle.new (λ it. EndsAs (Tells (option_map field_value_text
+        (value_at index (fields_of it))) buffer.old buffer.new needed.new) result) }
 {
     tell(alloc, handle, &ValueAt(OfFields, index), buffer, needed)
 }
@@ -86,14 +85,14 @@ pub extern "C" fn icu_locale_get_field_value(
 #[unsafe(no_mangle)]
 pub extern "C" fn icu_locale_get_field(
     alloc: Global,
-    handle: &mut Handle,
+    handle: &mut Lent,
     key: &[u8],
     buffer: &mut [u8],
     needed: &mut usize,
 ) -> u32
-    ensures { IsAsked handle.old.value handle.new.value (λ it. EndsAs (Tells (option_map
-        field_value_text (value_of_key TransformKey key.now (fields_of it))) buffer.old buffer.new
-        needed.new) result) }
+    ensures { IsAsked handle.old handle.new (λ it. EndsAs (Tells (option_map field_value_text
+        (value_of_key TransformKey key.now (fields_of it))) buffer.old buffer.new needed.new)
+        result) }
 {
     tell(alloc, handle, &ValueOf(OfFields, key), buffer, needed)
 }
@@ -133,11 +132,11 @@ pub extern "C" fn icu_locale_clear_fields(alloc: Global, handle: &mut Handle) ->
 #[unsafe(no_mangle)]
 pub extern "C" fn icu_locale_get_private(
     alloc: Global,
-    handle: &mut Handle,
+    handle: &mut Lent,
     buffer: &mut [u8],
     needed: &mut usize,
 ) -> u32
-    ensures { IsAsked handle.old.value handle.new.value (λ it. EndsAs (Tells
+    ensures { IsAsked handle.old handle.new (λ it. EndsAs (Tells
         (Some (private_text it.extensions.private)) buffer.old buffer.new needed.new) result) }
 {
     tell(alloc, handle, &Named::Private, buffer, needed)

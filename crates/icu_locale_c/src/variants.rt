@@ -11,15 +11,15 @@ ghost use Rattle.iloc_handles.specs.Subtags.{HasWord};
 ghost use Rattle.iloc_handles.specs.Identifier.{AddsVariant, RemovesVariant, variant_at};
 
 use iloc_handles::{
-    AddVariant, Clear, Handle, HasText, OfVariants, RemoveVariant, WordAt, WordCount, ask,
+    AddVariant, Clear, Handle, HasText, Lent, OfVariants, RemoveVariant, WordAt, WordCount, ask,
     make_change, tell,
 };
 use std::alloc::Global;
 
 /// How many variants there are.
 #[unsafe(no_mangle)]
-pub extern "C" fn icu_locale_variant_count(alloc: Global, handle: &mut Handle) -> usize
-    ensures { IsAsked handle.old.value handle.new.value (λ it. result ≡ length it.id.variants) }
+pub extern "C" fn icu_locale_variant_count(alloc: Global, handle: &mut Lent) -> usize
+    ensures { IsAsked handle.old handle.new (λ it. result ≡ length it.id.variants) }
 {
     ask(alloc, handle, &WordCount(OfVariants))
 }
@@ -28,22 +28,22 @@ pub extern "C" fn icu_locale_variant_count(alloc: Global, handle: &mut Handle) -
 #[unsafe(no_mangle)]
 pub extern "C" fn icu_locale_get_variant(
     alloc: Global,
-    handle: &mut Handle,
+    handle: &mut Lent,
     index: usize,
     buffer: &mut [u8],
     needed: &mut usize,
 ) -> u32
-    ensures { IsAsked handle.old.value handle.new.value (λ it. EndsAs (Tells (variant_at index it)
-        buffer.old buffer.new needed.new) result) }
+    ensures { IsAsked handle.old handle.new (λ it. EndsAs (Tells (variant_at index it) buffer.old
+        buffer.new needed.new) result) }
 {
     tell(alloc, handle, &WordAt(OfVariants, index), buffer, needed)
 }
 
 /// Whether the text is one of the variants.
 #[unsafe(no_mangle)]
-pub extern "C" fn icu_locale_has_variant(alloc: Global, handle: &mut Handle, text: &[u8]) -> bool
-    ensures { IsAsked handle.old.value handle.new.value (λ it. IsTrue result ↔ HasWord Variant
-        text.now it.id.variants) }
+pub extern "C" fn icu_locale_has_variant(alloc: Global, handle: &mut Lent, text: &[u8]) -> bool
+    ensures { IsAsked handle.old handle.new (λ it. IsTrue result ↔ HasWord Variant text.now
+        it.id.variants) }
 {
     ask(alloc, handle, &HasText(OfVariants, text))
 }

@@ -50,7 +50,7 @@ abbrev pub owns_box : Ptr → Locale → Fml
 owns_box p l = box_owns may_free locale.the_row p l
 
 -- whoever may free a block may compare its pointer with null
-may_test : {M : Type 1} {𝓤 : Ura M} (𝓛 : Logic 𝓤) (a : Global) (p : Ptr) (l : Locale)
+pub may_test : {M : Type 1} {𝓤 : Ura M} (𝓛 : Logic 𝓤) (a : Global) (p : Ptr) (l : Locale)
     → ent 𝓤 (sem 𝓛 (owns_box p l)) (guard 𝓤 (Testable p) (sem 𝓛 (owns_box p l)))
 may_test {𝓤 = 𝓤} 𝓛 a p l =
     let at : Fml = points_to locale.the_row p l in

@@ -1,6 +1,9 @@
 pub mod HandleWords
 pub mod ItemLemmas
+pub mod Lending
+pub mod LentWords
 pub mod OpenBoxWords
 pub mod OtherLemmas
+pub mod Owner
 pub mod Settings
 pub mod SubtagLemmas

@@ -11,6 +11,7 @@ use Rattle.iloc_calls.specs.declared.status.Status.TheVariants.{OutOfMemory, Buf
 use Rattle.iloc_calls.specs.declared.status.Status.TheVariants.{NotFound}
 use Rattle.iloc_calls.specs.Numbers.{EndsAs}
 use Rattle.iloc_handles.specs.Held.{IsTight, held_locale}
+use Rattle.iloc_handles.specs.declared.lent.Lent.{Lent}
 
 -- a relation of the locale before, the locale after, and the status
 abbrev pub Changing : Type 1
@@ -31,9 +32,9 @@ Changes P before after status =
 
 -- The two kinds of calls.
 
--- a call that reads: the handle is as before, and what is answered is so of its locale
-abbrev pub IsAsked : Option Locale → Option Locale → (meaning.Locale → Type 0) → Type 0
-IsAsked before after IsAnswered = (after ≡ before) × IsAnswered (held_locale before)
+-- a call that reads: the loan is as before, and what is answered is so of its locale
+abbrev pub IsAsked : Lent → Lent → (meaning.Locale → Type 0) → Type 0
+IsAsked before after IsAnswered = (after ≡ before) × IsAnswered (held_locale before.value)
 
 -- a call that changes: the locale is changed so, with the number of that status, and a handle that
 -- stands for `und` afterwards has no box

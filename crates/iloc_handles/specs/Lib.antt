@@ -11,6 +11,7 @@ pub mod Others
 pub mod Owned
 pub mod Pairs
 pub mod Parts
+pub mod Staying
 pub mod Subtags
 pub mod Transform
 pub mod Whole

@@ -10,6 +10,7 @@ ghost use Rattle.iloc_handles.specs.Held.{IsTight};
 ghost use Rattle.iloc_handles.specs.Finding.{Changes, IsAsked, IsChanged};
 
 use crate::handle::{Handle, is_und};
+use crate::lent::Lent;
 use iloc_calls::Status;
 use iloc_locale::Locale;
 use iloc_subtags::ParseError;
@@ -66,38 +67,30 @@ pub(crate) fn put_parsed<T: Drop>(parsed: Result<T, ParseError>, place: &mut T) 
 /// Hands the text of the part out.
 pub fn tell<P: Part>(
     alloc: Global,
-    handle: &mut Handle,
+    handle: &mut Lent,
     part: &P,
     buffer: &mut [u8],
     needed: &mut usize,
 ) -> u32
-    ensures { IsAsked handle.old.value handle.new.value
+    ensures { IsAsked handle.old handle.new
         (λ it. EndsAs (Tells (P.text part.now it) buffer.old buffer.new needed.new) result) }
 {
-    match handle.take(alloc) {
-        Some(boxed) => {
-            let status = part.hand_out(boxed.as_ref(), buffer, needed);
-            handle.put(alloc, boxed);
-            status.number()
-        }
-        None => part
-            .hand_out(&Locale::unknown(alloc), buffer, needed)
-            .number(),
-    }
+    let status = if handle.is_empty() {
+        part.hand_out(&Locale::unknown(alloc), buffer, needed)
+    } else {
+        part.hand_out(handle.locale(), buffer, needed)
+    };
+    status.number()
 }
 
 /// Answers the question.
-pub fn ask<Q: Question>(alloc: Global, handle: &mut Handle, question: &Q) -> Q::Answer
-    ensures { IsAsked handle.old.value handle.new.value
-        (λ it. Q.is_answer question.now it result) }
+pub fn ask<Q: Question>(alloc: Global, handle: &mut Lent, question: &Q) -> Q::Answer
+    ensures { IsAsked handle.old handle.new (λ it. Q.is_answer question.now it result) }
 {
-    match handle.take(alloc) {
-        Some(boxed) => {
-            let answer = question.ask(boxed.as_ref());
-            handle.put(alloc, boxed);
-            answer
-        }
-        None => question.ask(&Locale::unknown(alloc)),
+    if handle.is_empty() {
+        question.ask(&Locale::unknown(alloc))
+    } else {
+        question.ask(handle.locale())
     }
 }
 

@@ -6,6 +6,7 @@ ghost use Rattle.iloc_handles.specs.Whole.{Copies, ExtendsUnicode};
 
 use crate::asking::{Change, make_change};
 use crate::handle::Handle;
+use crate::lent::Lent;
 use iloc_calls::Status;
 use iloc_locale::Locale;
 use std::alloc::Global;
@@ -56,16 +57,13 @@ fn extend_unicode(alloc: Global, from: &Locale, locale: &mut Locale) -> Status
 }
 
 /// Changes the locale by that of the other handle, which stays.
-pub fn change_by(alloc: Global, handle: &mut Handle, from: &mut Handle, merge: Merge) -> u32
-    ensures { IsAsked from.old.value from.new.value (λ that. IsChanged (Merges merge that)
+pub fn change_by(alloc: Global, handle: &mut Handle, from: &mut Lent, merge: Merge) -> u32
+    ensures { IsAsked from.old from.new (λ that. IsChanged (Merges merge that)
         handle.old.value handle.new.value result) }
 {
-    match from.take(alloc) {
-        Some(boxed) => {
-            let status = make_change(alloc, handle, &Merging(merge, boxed.as_ref()));
-            from.put(alloc, boxed);
-            status
-        }
-        None => make_change(alloc, handle, &Merging(merge, &Locale::unknown(alloc))),
+    if from.is_empty() {
+        make_change(alloc, handle, &Merging(merge, &Locale::unknown(alloc)))
+    } else {
+        make_change(alloc, handle, &Merging(merge, from.locale()))
     }
 }

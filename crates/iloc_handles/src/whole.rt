@@ -11,7 +11,8 @@ ghost use Rattle.iloc_handles.specs.Finding.{IsAsked};
 ghost use Rattle.iloc_handles.specs.Whole.{ParsesTo, Passes, TellsMeant};
 
 use crate::asking::{Change, Question, ask, put_parsed};
-use crate::handle::{Handle, is_und};
+use crate::handle::is_und;
+use crate::lent::Lent;
 use iloc_calls::{Status, hash_of_text, number, tell_refused};
 use iloc_locale::Locale;
 use std::alloc::Global;
@@ -66,24 +67,21 @@ impl<'a> Question for Against<'a> {
 }
 
 /// The order of the locales of two handles.
-pub fn order_of(alloc: Global, handle: &mut Handle, other: &mut Handle) -> Ordering
-    ensures { IsAsked handle.old.value handle.new.value (λ it. IsAsked other.old.value
-        other.new.value (λ that. result ≡ locale_cmp it that)) }
+pub fn order_of(alloc: Global, handle: &mut Lent, other: &mut Lent) -> Ordering
+    ensures { IsAsked handle.old handle.new (λ it. IsAsked other.old
+        other.new (λ that. result ≡ locale_cmp it that)) }
 {
-    match other.take(alloc) {
-        Some(boxed) => {
-            let order = ask(alloc, handle, &Against(boxed.as_ref()));
-            other.put(alloc, boxed);
-            order
-        }
-        None => ask(alloc, handle, &Against(&Locale::unknown(alloc))),
+    if other.is_empty() {
+        ask(alloc, handle, &Against(&Locale::unknown(alloc)))
+    } else {
+        ask(alloc, handle, &Against(other.locale()))
     }
 }
 
 /// Whether two locales are equal.
-pub fn eq(alloc: Global, handle: &mut Handle, other: &mut Handle) -> bool
-    ensures { IsAsked handle.old.value handle.new.value (λ it. IsAsked other.old.value
-        other.new.value (λ that. IsTrue result ↔ (it ≡ that))) }
+pub fn eq(alloc: Global, handle: &mut Lent, other: &mut Lent) -> bool
+    ensures { IsAsked handle.old handle.new (λ it. IsAsked other.old
+        other.new (λ that. IsTrue result ↔ (it ≡ that))) }
 {
     order_of(alloc, handle, other).is_eq()
 }
@@ -104,8 +102,8 @@ impl<'a> Question for AgainstBytes<'a> {
 }
 
 /// Writes 1 if the text means the locale, and else 0.
-pub fn tell_meant(alloc: Global, handle: &mut Handle, text: &[u8], same: &mut u8) -> Status
-    ensures { IsAsked handle.old.value handle.new.value
+pub fn tell_meant(alloc: Global, handle: &mut Lent, text: &[u8], same: &mut u8) -> Status
+    ensures { IsAsked handle.old handle.new
         (λ it. TellsMeant text.now it same.old same.new result) }
 {
     match Locale::try_from_utf8(alloc, text) {
