@@ -3,10 +3,35 @@ import pathlib
 import sys
 
 sys.path.insert(0, str(pathlib.Path(__file__).resolve().parents[2] / "tools"))
-from common import TOP
+from common import TOP, Counts, counted
 
 # One expression for each line: its normal form, or "! " and why it has none.
 ASKED = "CASE WHEN {valid} THEN {normal} ELSE '! ' || {reason} END"
+
+
+class Tried(Counts):
+    """The cases so far, and the names of what was not tried."""
+
+    def __init__(self, is_brief):
+        self.is_brief = is_brief
+        self.not_tried = []
+
+    def add(self, passed, failed):
+        """Counts so many cases, and ends at the first that fails, if it was asked to be brief."""
+        super().add(passed, failed)
+        if failed and self.is_brief:
+            sys.exit(self.end())
+
+    def skip(self, name, why):
+        """Names what is not tried."""
+        self.not_tried.append(f"{name} ({why})")
+
+    def end(self):
+        """Prints what was not tried and the last line, and returns the status. Nothing tried is no failure."""
+        for it in self.not_tried:
+            print(f"not tried: {it}")
+        status = counted(self.passed, self.failed)
+        return status if self.passed or self.failed else 0
 
 
 def lines_of(name):
