@@ -1,4 +1,4 @@
-//! Calls of one kind of word, of short texts of two sizes, and of refusals.
+//! Calls of one kind of word, of short texts of two sizes, of refusals, and of ranges.
 use crate::tiny::{by_piece, joined, padded, resized};
 use iloc_subtags::{CurrencyType, Language, ParseError, Region, Script, Subtag};
 use iloc_tinystr::TinyAsciiStr;
@@ -104,6 +104,7 @@ pub fn answer(call: &str, a: &[u8], b: &[u8], out: &mut String) {
         "subtag" => subtag(a, b, out),
         "of_tiny" => of_tiny(a, out),
         "refusal" => refusals(a, out),
+        "matches" => truth(out, iloc_matching::matches(a, b)),
         _ => say(out, "no call"),
     }
 }

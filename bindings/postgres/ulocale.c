@@ -1,0 +1,353 @@
+/* The type ulocale of PostgreSQL: Unicode locale identifiers, over the proved C library.
+ *
+ * A value is a varlena of its normal text. So equal meaning is equal bytes, and the order is that of bytes, which is the
+ * order of icu_locale_compare. Operators, hashes and sorting are those of bytea: there is no code for them here. Only
+ * ulocale_in, ulocale_recv and ulocale(text) make a value of a text that comes from outside; they call icu_locale_normalize.
+ *
+ * Memory: ereport leaves a function by longjmp, and would lose what the library has from malloc. So no function of PostgreSQL
+ * is called between icu_locale_parse and icu_locale_free, which stand in sql_read_part alone. Room is taken before it, and
+ * answers are made after it. */
+#include "postgres.h"
+
+#include "access/stratnum.h"
+#include "catalog/pg_type.h"
+#include "fmgr.h"
+#include "funcapi.h"
+#include "lib/stringinfo.h"
+#include "libpq/pqformat.h"
+#include "mb/pg_wchar.h"
+#include "nodes/makefuncs.h"
+#include "nodes/nodeFuncs.h"
+#include "nodes/supportnodes.h"
+#include "utils/array.h"
+#include "utils/builtins.h"
+#include "utils/lsyscache.h"
+
+#include "icu_locale_sql.h"
+
+/* From version 16 on, an input function can report a refused text without a jump, for pg_input_is_valid and COPY. */
+#if PG_VERSION_NUM >= 160000
+#include "nodes/miscnodes.h"
+#define REPORT(context, ...) errsave(context, (__VA_ARGS__))
+#else
+#define REPORT(context, ...) \
+    do { \
+        (void)(context); \
+        ereport(ERROR, (__VA_ARGS__)); \
+    } while (0)
+#endif
+
+PG_MODULE_MAGIC;
+
+static const sql_text no_key;
+
+static sql_text text_in(struct varlena *value)
+{
+    return (sql_text){(const uint8_t *)VARDATA_ANY(value), VARSIZE_ANY_EXHDR(value)};
+}
+
+static text *make_text(sql_text it)
+{
+    return cstring_to_text_with_len((const char *)it.at, (int)it.length);
+}
+
+static void stop_out_of_memory(void)
+{
+    ereport(ERROR, (errcode(ERRCODE_OUT_OF_MEMORY), errmsg("out of memory")));
+}
+
+static const char *chars(sql_text given)
+{
+    return (const char *)given.at;
+}
+
+/* The bytes of the text that a message shows: whole characters. */
+static int shown_of(sql_text given)
+{
+    return pg_mbcliplen(chars(given), (int)given.length, SQL_SHOWN);
+}
+
+/* The character at this byte, counted from 1, as substring counts. */
+static int character_at(sql_text given, size_t start)
+{
+    return pg_mbstrlen_with_len(chars(given), (int)start) + 1;
+}
+
+/* The detail of a refusal: why, and where. */
+static int detail(sql_text given, icu_locale_status status)
+{
+    const sql_words words = sql_words_of(status);
+    size_t start = 0, end = 0;
+    if (icu_locale_find_fault(ICU_LOCALE_LOCALE, given.at, given.length, &start, &end) != status)
+        return errdetail("%s.", words.text);
+    if (start == given.length)
+        return errdetail("%s: the text ends too early, at character %d.", words.text, character_at(given, start));
+    const sql_text piece = {given.at + start, end - start};
+    return errdetail("%s: \"%.*s\" at character %d.", words.text, shown_of(piece), chars(piece), character_at(given, start));
+}
+
+/* Reports why and where the text is refused. It returns only if the context takes the report. */
+static void refuse(Node *context, sql_text given, icu_locale_status status, int sqlstate)
+{
+    int shown = shown_of(given);
+    if (status == ICU_LOCALE_OUT_OF_MEMORY)
+        stop_out_of_memory();
+    REPORT(context, errcode(sqlstate),
+        errmsg("invalid input syntax for type %s: \"%.*s%s\"", "ulocale", shown, chars(given),
+            shown < (int)given.length ? "..." : ""),
+        detail(given, status),
+        memchr(given.at, '_', given.length) ? errhint("Subtags are joined by hyphens: en-US, not en_US.") : 0);
+}
+
+/* Returns the value of the text. If it is refused, and the context takes the report, returns NULL. */
+static Datum make_value(Node *context, sql_text given, int sqlstate)
+{
+    struct varlena *made = palloc(VARHDRSZ + given.length); /* the normal form is never longer than its text */
+    size_t needed;
+    icu_locale_status status = icu_locale_normalize(
+        ICU_LOCALE_LOCALE, given.at, given.length, (uint8_t *)VARDATA(made), given.length, &needed);
+    if (status != ICU_LOCALE_DONE) {
+        refuse(context, given, status, sqlstate);
+        return (Datum)0;
+    }
+    SET_VARSIZE(made, VARHDRSZ + needed);
+    return PointerGetDatum(made);
+}
+
+PG_FUNCTION_INFO_V1(ulocale_in);
+Datum ulocale_in(PG_FUNCTION_ARGS)
+{
+    const char *given = PG_GETARG_CSTRING(0);
+    return make_value(
+        fcinfo->context, (sql_text){(const uint8_t *)given, strlen(given)}, ERRCODE_INVALID_TEXT_REPRESENTATION);
+}
+
+PG_FUNCTION_INFO_V1(ulocale_recv);
+Datum ulocale_recv(PG_FUNCTION_ARGS)
+{
+    StringInfo message = (StringInfo)PG_GETARG_POINTER(0);
+    int length;
+    const char *given = pq_getmsgtext(message, message->len - message->cursor, &length);
+    return make_value(
+        NULL, (sql_text){(const uint8_t *)given, (size_t)length}, ERRCODE_INVALID_BINARY_REPRESENTATION);
+}
+
+/* ulocale(text), the cast */
+PG_FUNCTION_INFO_V1(ulocale_of_text);
+Datum ulocale_of_text(PG_FUNCTION_ARGS)
+{
+    return make_value(NULL, text_in(PG_GETARG_VARLENA_PP(0)), ERRCODE_INVALID_TEXT_REPRESENTATION);
+}
+
+/* ulocale_is_valid(text) */
+PG_FUNCTION_INFO_V1(ulocale_is_valid);
+Datum ulocale_is_valid(PG_FUNCTION_ARGS)
+{
+    sql_text given = text_in(PG_GETARG_VARLENA_PP(0));
+    icu_locale_status status = icu_locale_check(ICU_LOCALE_LOCALE, given.at, given.length);
+    if (status == ICU_LOCALE_OUT_OF_MEMORY)
+        stop_out_of_memory();
+    PG_RETURN_BOOL(status == ICU_LOCALE_DONE);
+}
+
+/* ulocale_fault(text): the reason, and the piece at fault by its first character, from 1, and its length; NULL if the text is
+ * a locale */
+PG_FUNCTION_INFO_V1(ulocale_fault);
+Datum ulocale_fault(PG_FUNCTION_ARGS)
+{
+    sql_text given = text_in(PG_GETARG_VARLENA_PP(0));
+    size_t start, end;
+    icu_locale_status status = icu_locale_find_fault(ICU_LOCALE_LOCALE, given.at, given.length, &start, &end);
+    TupleDesc row;
+    bool nulls[3] = {false, false, false};
+    Datum values[3];
+    if (status == ICU_LOCALE_DONE)
+        PG_RETURN_NULL();
+    if (get_call_result_type(fcinfo, NULL, &row) != TYPEFUNC_COMPOSITE)
+        elog(ERROR, "ulocale_fault returns a row");
+    values[0] = CStringGetTextDatum(sql_words_of(status).text);
+    values[1] = Int32GetDatum(character_at(given, start));
+    values[2] = Int32GetDatum(pg_mbstrlen_with_len(chars(given) + start, (int)(end - start)));
+    PG_RETURN_DATUM(HeapTupleGetDatum(heap_form_tuple(BlessTupleDesc(row), values, nulls)));
+}
+
+/* Returns a part of the value, with a header, as a text or a ulocale; NULL if it has none. */
+static struct varlena *read_part(struct varlena *value, sql_reader *read, sql_text key)
+{
+    sql_text given = text_in(value);
+    struct varlena *made = palloc(VARHDRSZ + sql_room(given));
+    size_t needed;
+    icu_locale_status status = sql_read_part(given, read, key, (uint8_t *)VARDATA(made), &needed);
+    if (status == ICU_LOCALE_NOT_FOUND)
+        return NULL;
+    if (status != ICU_LOCALE_DONE)
+        refuse(NULL, given, status, ERRCODE_DATA_CORRUPTED);
+    SET_VARSIZE(made, VARHDRSZ + needed);
+    return made;
+}
+
+static Datum give_part(FunctionCallInfo fcinfo, sql_reader *read, sql_text key)
+{
+    struct varlena *made = read_part(PG_GETARG_VARLENA_PP(0), read, key);
+    if (made == NULL)
+        PG_RETURN_NULL();
+    PG_RETURN_POINTER(made);
+}
+
+#define PART(name) \
+    PG_FUNCTION_INFO_V1(ulocale_##name); \
+    Datum ulocale_##name(PG_FUNCTION_ARGS) \
+    { \
+        return give_part(fcinfo, sql_read_##name, no_key); \
+    }
+
+PART(language)
+PART(script)
+PART(region)
+PART(base_name)
+PART(parent)
+
+/* keyword(ulocale, text): '' for a key that stands alone, NULL if it is absent */
+PG_FUNCTION_INFO_V1(ulocale_keyword);
+Datum ulocale_keyword(PG_FUNCTION_ARGS)
+{
+    return give_part(fcinfo, sql_read_keyword, text_in(PG_GETARG_VARLENA_PP(1)));
+}
+
+/* The pieces of a part that is read, one after the other. */
+typedef struct {
+    sql_text text;
+    size_t next;
+} pieces;
+
+static pieces pieces_of(struct varlena *value, sql_reader *read)
+{
+    struct varlena *made = read_part(value, read, no_key);
+    return (pieces){made ? text_in(made) : no_key, 0};
+}
+
+static bool is_piece_left(const pieces *it)
+{
+    return it->next < it->text.length;
+}
+
+static sql_text next_piece(pieces *it)
+{
+    sql_text piece = sql_piece_at(it->text, it->next);
+    it->next += piece.length + 1;
+    return piece;
+}
+
+/* variants(ulocale): text[] */
+PG_FUNCTION_INFO_V1(ulocale_variants);
+Datum ulocale_variants(PG_FUNCTION_ARGS)
+{
+    pieces it = pieces_of(PG_GETARG_VARLENA_PP(0), sql_read_variants);
+    Datum *values = palloc((it.text.length / 2 + 1) * sizeof *values);
+    int number = 0;
+    while (is_piece_left(&it))
+        values[number++] = PointerGetDatum(make_text(next_piece(&it)));
+    PG_RETURN_ARRAYTYPE_P(construct_array(values, number, TEXTOID, -1, false, TYPALIGN_INT));
+}
+
+/* Takes the value of a keyword: the pieces up to the next key. Only a key has two characters. */
+static sql_text next_value(pieces *it)
+{
+    size_t start = it->next, end = start;
+    while (is_piece_left(it) && sql_piece_at(it->text, it->next).length != 2) {
+        next_piece(it);
+        end = it->next - 1;
+    }
+    return (sql_text){it->text.at + start, end - start};
+}
+
+/* keywords(ulocale): a table of key and value */
+PG_FUNCTION_INFO_V1(ulocale_keywords);
+Datum ulocale_keywords(PG_FUNCTION_ARGS)
+{
+    ReturnSetInfo *result = (ReturnSetInfo *)fcinfo->resultinfo;
+    pieces it = pieces_of(PG_GETARG_VARLENA_PP(0), sql_read_keywords);
+#if PG_VERSION_NUM >= 160000
+    InitMaterializedSRF(fcinfo, 0);
+#else
+    SetSingleFuncCall(fcinfo, 0);
+#endif
+    while (is_piece_left(&it)) {
+        bool nulls[2] = {false, false};
+        Datum values[2];
+        values[0] = PointerGetDatum(make_text(next_piece(&it)));
+        values[1] = PointerGetDatum(make_text(next_value(&it)));
+        tuplestore_putvalues(result->setResult, result->setDesc, values, nulls);
+    }
+    return (Datum)0;
+}
+
+/* What max and min keep. */
+PG_FUNCTION_INFO_V1(ulocale_larger);
+Datum ulocale_larger(PG_FUNCTION_ARGS)
+{
+    struct varlena *one = PG_GETARG_VARLENA_PP(0), *other = PG_GETARG_VARLENA_PP(1);
+    PG_RETURN_POINTER(sql_order(text_in(one), text_in(other)) >= 0 ? one : other);
+}
+
+PG_FUNCTION_INFO_V1(ulocale_smaller);
+Datum ulocale_smaller(PG_FUNCTION_ARGS)
+{
+    struct varlena *one = PG_GETARG_VARLENA_PP(0), *other = PG_GETARG_VARLENA_PP(1);
+    PG_RETURN_POINTER(sql_order(text_in(one), text_in(other)) <= 0 ? one : other);
+}
+
+/* matches(ulocale, ulocale), <@. Both are ulocale, so postgres_fdw sends it to another server; it never sends a comparison of
+ * region(..), which is a text. */
+PG_FUNCTION_INFO_V1(ulocale_matches);
+Datum ulocale_matches(PG_FUNCTION_ARGS)
+{
+    PG_RETURN_BOOL(sql_matches(text_in(PG_GETARG_VARLENA_PP(0)), text_in(PG_GETARG_VARLENA_PP(1))));
+}
+
+/* The condition that the argument stands in this order to these bytes, which may be the bytes of no locale. */
+static Expr *bound(Oid operator, Oid type, Node *argument, sql_text bytes)
+{
+    Const *limit = makeConst(type, -1, InvalidOid, -1, PointerGetDatum(make_text(bytes)), false, false);
+    return make_opclause(operator, BOOLOID, false, (Expr *)argument, (Expr *)limit, InvalidOid, InvalidOid);
+}
+
+/* The two arguments of matches or <@, if the second is a range that is known now; else none. */
+static List *arguments_of(Node *call)
+{
+    List *arguments = is_opclause(call) ? ((OpExpr *)call)->args
+                      : is_funcclause(call) ? ((FuncExpr *)call)->args
+                                            : NIL;
+    if (list_length(arguments) != 2 || !IsA(lsecond(arguments), Const))
+        return NIL;
+    return lsecond_node(Const, arguments)->constisnull ? NIL : arguments;
+}
+
+/* Lets a btree find x <@ 'en-US' among x >= 'en' AND x < 'en.': the dot is the byte after the hyphen, and stands in no normal
+ * text. A range that begins with und has no such bounds. */
+PG_FUNCTION_INFO_V1(ulocale_matches_support);
+Datum ulocale_matches_support(PG_FUNCTION_ARGS)
+{
+    SupportRequestIndexCondition *asked = (SupportRequestIndexCondition *)PG_GETARG_POINTER(0);
+    List *arguments = IsA(asked, SupportRequestIndexCondition) ? arguments_of(asked->node) : NIL;
+    if (arguments == NIL || asked->indexarg != 0)
+        PG_RETURN_POINTER(NULL);
+    Const *range = lsecond_node(Const, arguments);
+    Oid type = range->consttype;
+    Oid from = get_opfamily_member(asked->opfamily, type, type, BTGreaterEqualStrategyNumber);
+    Oid to = get_opfamily_member(asked->opfamily, type, type, BTLessStrategyNumber);
+    sql_text whole = text_in(PG_DETOAST_DATUM_PACKED(range->constvalue)), language = sql_piece_at(whole, 0);
+    if (!OidIsValid(from) || !OidIsValid(to) || sql_is_und(language))
+        PG_RETURN_POINTER(NULL);
+    char *high = psprintf("%.*s.", (int)language.length, (const char *)language.at);
+    asked->lossy = language.length < whole.length;
+    PG_RETURN_POINTER(list_make2(bound(from, type, linitial(arguments), language),
+        bound(to, type, linitial(arguments), (sql_text){(const uint8_t *)high, language.length + 1})));
+}
+
+void _PG_init(void);
+void _PG_init(void)
+{
+    if (icu_locale_version() != ICU_LOCALE_VERSION)
+        ereport(ERROR, (errmsg("libicu_locale is of another header than this extension: build both anew")));
+}
