@@ -152,8 +152,8 @@ icu_locale_status icu_locale_check(icu_locale_mode mode, const uint8_t *text, si
  *     UNKNOWN_NUMBER     the mode is none; *start and *end are as before
  *     any other status   that of icu_locale_check; the piece at fault goes from byte *start to before byte *end
  *
- * The piece at fault is the first with which no text begins that has a meaning. So what is before it can be completed to
- * such a text, and what includes it cannot. If all pieces can be completed, the text ends too early: *start and *end are
+ * The piece at fault is the first that no text with a meaning has right after the pieces before it. Pieces count whole:
+ * en-foo gives 3 and 6, though en-foobar has a meaning. If there is none, the text ends too early: *start and *end are
  * then its length. en-US-toolonggg gives 6 and 15, en--US gives 3 and 3, and en-u gives 4 and 4. Never allocates. */
 ICU_LOCALE_TAKES((4, 5)) ICU_LOCALE_TELLS
 icu_locale_status icu_locale_find_fault(icu_locale_mode mode, const uint8_t *text, size_t length, size_t *start,

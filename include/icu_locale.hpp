@@ -193,8 +193,8 @@ struct fault {
     std::size_t start, end;
 };
 
-/* The fault of the text, or nothing if the text has a meaning. It stands at the first piece with which no text begins
- * that has one, or at the end of a text that ends too early: icu_locale.h says more. */
+/* The fault of the text, or nothing if the text has a meaning. It stands at the first piece that no text with a meaning
+ * has right after the pieces before it, or at the end of a text that ends too early: icu_locale.h says more. */
 [[nodiscard]] inline std::optional<fault> find_fault(std::string_view text, mode as = mode::locale) noexcept
 {
     fault found = {status::done, 0, text.size()};

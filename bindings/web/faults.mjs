@@ -13,8 +13,9 @@ function unitsOf(text, bytes) {
 }
 
 /**
- * The fault of a text: its code and words, and the place of the first piece with which no accepted text goes on, in units of
- * the string, or in bytes. The end of the text if more is wanted there. `null` if the text is accepted, or beyond the limits.
+ * The fault of a text: its code and words, and the place of the first piece that no accepted text has right after those before
+ * it, in units of the string, or in bytes. Pieces count whole: that of `en-foo` is `foo`, though `en-foobar` is accepted. The
+ * end of the text if more is wanted there. `null` if the text is accepted, or beyond the limits.
  */
 export function findFault(text, mode = 'locale') {
   const { status, start, end } = faultOf(text, modeOf(mode));

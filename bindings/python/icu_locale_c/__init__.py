@@ -96,9 +96,9 @@ class LocaleError(ValueError):
     fault stands, unless all of the text is at fault.
 
     The fault stands at `piece`, which is text[start:end]: in characters of a str, and in bytes of bytes. It is the first
-    piece with which no text begins that has a meaning. So what is before it can be completed, and what includes it cannot.
-    If all pieces can be completed, the text ends too early, and `piece` is empty at its end. A part that is refused, such
-    as a region, is all at fault.
+    piece that no text with a meaning has right after the pieces before it. Pieces count whole: that of `en-foo` is `foo`,
+    though `en-foobar` has a meaning. If there is no such piece, the text ends too early, and `piece` is empty at its end.
+    A part that is refused, such as a region, is all at fault.
 
     >>> try:
     ...     normalize("en-toolonggg-US")

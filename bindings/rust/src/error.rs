@@ -84,10 +84,10 @@ impl ParseError {
 
     /// Where the fault stands, in bytes of the text that was refused.
     ///
-    /// It is the first piece with which no text begins that has a meaning. So what is before it can be completed, and
-    /// what includes it cannot. If all pieces can be completed, the text ends too early, and the range is empty at its
-    /// end. A part that is refused, such as a [`Region`](crate::subtags::Region), is all at fault. The range is empty
-    /// at 0 if the error says nothing of the text.
+    /// It is the first piece that no text with a meaning has right after the pieces before it. Pieces count whole: that of
+    /// `en-foo` is `foo`, though `en-foobar` has a meaning. If there is no such piece, the text ends too early, and the
+    /// range is empty at its end. A part that is refused, such as a [`Region`](crate::subtags::Region), is all at fault.
+    /// The range is empty at 0 if the error says nothing of the text.
     pub fn range(&self) -> Range<usize> {
         self.range.clone()
     }

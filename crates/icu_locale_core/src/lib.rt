@@ -20,11 +20,11 @@
 //! - Preferences of a locale are parsed, extended by others and turned into data locales and a locale as the definitions
 //!   say; the data locale of a locale is that of its preferences.
 //! - `to_json` writes the JSON string of the printed text. It parses back to the same value, if that is well-formed.
-//! - `program::run` writes the answer to all that it read, or a beginning of it and then returns an error. So does
+//! - `program::run` writes the answer to all that it read; if it fails, what was written is a beginning of that. So does
 //!   `program::run_listed` the entry of each line, which may say its number and where its fault stands. This holds if the
-//!   contracts of reader and writer tell their bytes.
-//! - `faults::fault_of` says of every refused text where its fault stands: what comes before can be completed to an
-//!   accepted text, and nothing that includes it can. It allocates nothing.
+//!   contracts of reader and writer describe their bytes.
+//! - `faults::fault_of` says of every refused text where its fault stands: at the first piece that no accepted text has
+//!   right after the pieces before it, or at the end. It allocates nothing.
 //! - Subtags allocate nothing, and short texts fit in place.
 //!
 //! A first example:

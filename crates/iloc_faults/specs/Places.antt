@@ -1,5 +1,6 @@
--- Where the fault of a text stands: everything before it can be completed to a text that means
--- something, and nothing that includes it can. This library's rule.
+-- Where the fault of a text stands: at the first piece that no accepted text has right after the
+-- pieces before it, or at the end. Pieces count whole: the fault of `en-foo` stands at `foo`, though
+-- `en-foobar` is accepted. This library's rule.
 use Rattle.std.specs.Prelude.{◌≡◌, ◌⊎◌, ℕ, ◌+◌, List, [], ◌∷◌, ◌++◌, length}
 use Rattle.iloc_spec_grammar.specs.Syntax.{Text, pieces, dashes, languages, Identifier}
 use Rattle.iloc_spec_grammar.specs.Meaning.{Means, IdentifierMeans}

@@ -1,8 +1,9 @@
 //! Where the fault of a refused text stands.
 //!
 //! The first pieces of a text *go on* if some accepted text begins with them. The fault stands at the first piece with
-//! which the pieces no longer go on. If all of them go on, the text ends too early, and the fault stands at its end. So
-//! everything before the place can be completed, and nothing that includes it can (`specs/Places.antt`).
+//! which the pieces no longer go on. If all of them go on, the text ends too early, and the fault stands at its end
+//! (`specs/Places.antt`). Pieces count whole: the fault of `en-foo` stands at `foo`, though `en-foobar` is accepted,
+//! because no accepted text has the piece `foo` right after `en`.
 //!
 //! `fault_of` reads the text piece by piece (`iloc_pieces`), and keeps what the next piece may be: a `State`. It
 //! promises that it returns `None` exactly for accepted texts, and else the refusal of the parser and the place. It
@@ -37,13 +38,16 @@ pub struct Fault {
 
 /// Why a text is refused in the mode, and where its fault stands; `None` if the text is accepted.
 ///
-/// The fault stands at the first piece with which no accepted text begins, or at the end of a text that ends too early.
-/// So what is before it can be completed, and what includes it cannot. This library's rule.
+/// The fault stands at the first piece that no accepted text has right after the pieces before it, or at the end of a text
+/// that ends too early. Pieces count whole: `en-foo` has its fault at `foo`, though `en-foobar` is accepted. The refusal can
+/// speak of another piece than the place: of `en-u-ca-foo-bar` as a data locale it speaks of `bar`, and the place is `ca`.
+/// This library's rule.
 ///
 /// It allocates nothing. It takes time in proportion to the text, but for variants: each is compared with those before it.
 ///
 /// ```text
 /// fault_of(Mode::Locale, b"en--US") // Some(Fault { refusal: InvalidSubtag, start: 3, end: 3 })
+/// fault_of(Mode::Locale, b"en-foo") // Some(Fault { refusal: InvalidSubtag, start: 3, end: 6 })
 /// fault_of(Mode::Locale, b"en-u")   // Some(Fault { refusal: InvalidExtension, start: 4, end: 4 })
 /// fault_of(Mode::Locale, b"en-US")  // None
 /// ```
