@@ -21,8 +21,8 @@ pub extern "C" fn icu_locale_free(alloc: Global, handle: &mut Handle)
 /// The order of two locales by their parts, as -1, 0 or 1.
 #[unsafe(no_mangle)]
 pub extern "C" fn icu_locale_cmp(alloc: Global, handle: &mut Lent, other: &mut Lent) -> i8
-    ensures { IsAsked handle.old handle.new (λ it. IsAsked other.old
-        other.new (λ that. result ≡ order_number (locale_cmp it that))) }
+    ensures { IsAsked handle.old handle.new
+        (λ it. IsAsked other.old other.new (λ that. result ≡ order_number (locale_cmp it that))) }
 {
     number(order_of(alloc, handle, other))
 }
@@ -30,8 +30,8 @@ pub extern "C" fn icu_locale_cmp(alloc: Global, handle: &mut Lent, other: &mut L
 /// Whether two locales are equal.
 #[unsafe(no_mangle)]
 pub extern "C" fn icu_locale_eq(alloc: Global, handle: &mut Lent, other: &mut Lent) -> bool
-    ensures { IsAsked handle.old handle.new (λ it. IsAsked other.old
-        other.new (λ that. IsTrue result ↔ (it ≡ that))) }
+    ensures { IsAsked handle.old handle.new
+        (λ it. IsAsked other.old other.new (λ that. IsTrue result ↔ (it ≡ that))) }
 {
     iloc_handles::eq(alloc, handle, other)
 }

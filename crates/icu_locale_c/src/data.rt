@@ -70,9 +70,8 @@ pub extern "C" fn icu_locale_data_cmp(
     priority: u32,
     order: &mut i8,
 ) -> u32
-    ensures { IsAsked handle.old handle.new (λ it. IsAsked other.old
-        other.new (λ that. ByPriority priority
-        (λ p number. (number ≡ number_of Status.Done)
+    ensures { IsAsked handle.old handle.new (λ it. IsAsked other.old other.new
+        (λ that. ByPriority priority (λ p number. (number ≡ number_of Status.Done)
         × (order.new ≡ order_number (data_locale_cmp (data_of p it) (data_of p that))))
         (order.new ≡ order.old) result)) }
 {

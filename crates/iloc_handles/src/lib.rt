@@ -2,11 +2,13 @@
 //!
 //! The crate `icu_locale_c` exports the calls of `include/icu_locale.h`. Most of them are one of three functions
 //! here: `tell` reads a part, `ask` answers a question, `make_change` makes a change. Their contracts speak of the
-//! locale that the handle stands for (`meaning_of`). A call that reads leaves the handle as it was (`same`). After a
-//! call that changes, the status says how the locale has changed (`Changes`), and a handle that stands for `und` owns
-//! nothing (`tight`).
+//! locale that the handle stands for (`held_locale`).
 //!
-//! Raw pointers stand in `open_box` and `handle` alone, whose five functions with pointers are proved by hand.
+//! A call that reads is given a loan (`Lent`), which is as before afterwards (`IsAsked`). Any number of calls may have
+//! a loan of one locale at the same time. A call that changes is given the handle itself. Its status says how the
+//! locale has changed (`Changes`), and a handle that stands for `und` owns nothing then (`IsTight`).
+//!
+//! Raw pointers stand in `open_box`, `handle` and `lent` alone, whose eight functions with pointers are proved by hand.
 #![tactic(auto)]
 
 mod asking;

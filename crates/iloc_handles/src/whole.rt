@@ -68,8 +68,8 @@ impl<'a> Question for Against<'a> {
 
 /// The order of the locales of two handles.
 pub fn order_of(alloc: Global, handle: &mut Lent, other: &mut Lent) -> Ordering
-    ensures { IsAsked handle.old handle.new (λ it. IsAsked other.old
-        other.new (λ that. result ≡ locale_cmp it that)) }
+    ensures { IsAsked handle.old handle.new
+        (λ it. IsAsked other.old other.new (λ that. result ≡ locale_cmp it that)) }
 {
     if other.is_empty() {
         ask(alloc, handle, &Against(&Locale::unknown(alloc)))
@@ -80,8 +80,8 @@ pub fn order_of(alloc: Global, handle: &mut Lent, other: &mut Lent) -> Ordering
 
 /// Whether two locales are equal.
 pub fn eq(alloc: Global, handle: &mut Lent, other: &mut Lent) -> bool
-    ensures { IsAsked handle.old handle.new (λ it. IsAsked other.old
-        other.new (λ that. IsTrue result ↔ (it ≡ that))) }
+    ensures { IsAsked handle.old handle.new
+        (λ it. IsAsked other.old other.new (λ that. IsTrue result ↔ (it ≡ that))) }
 {
     order_of(alloc, handle, other).is_eq()
 }
