@@ -28,10 +28,6 @@ impl<K: Drop, V: Drop> Store<K, V> for Vec<(K, V)> {
         self.as_slice()
     }
 
-    fn lm_is_empty(&self) -> bool {
-        self.is_empty()
-    }
-
     fn lm_value_mut(&mut self, index: usize) -> &mut V {
         let pair = &mut self[index];
         &mut pair.1

@@ -17,10 +17,16 @@ count_of (Empty none) = 0
 count_of (Inline count cells) = count
 count_of (Heap items) = 0
 
--- at least five items are on the heap
+-- a list in place has at least one item; it has at most four, since a `Count` is at most four
+abbrev pub HasItems : {T : Type 0} → Kept T → Type 0
+HasItems (Empty none) = Unit {0}
+HasItems (Inline count cells) = 1 ≤ count
+HasItems (Heap items) = Unit {0}
+
+-- the same, and a list on the heap has at least five
 abbrev pub IsKept : {T : Type 0} → Kept T → Type 0
 IsKept (Empty none) = Unit {0}
-IsKept (Inline count cells) = Unit {0}
+IsKept (Inline count cells) = 1 ≤ count
 IsKept (Heap items) = 5 ≤ length items.items
 
 -- the same place, after a write of its items as a slice

@@ -4,7 +4,7 @@ ghost use Rattle.std.specs.Borrow.{sem};
 ghost use Rattle.std.specs.Option.{option_copied};
 ghost use Rattle.std.specs.List.Retain.{IsFiltered};
 ghost use Rattle.std.specs.Fn.{CalledAt};
-ghost use Rattle.iloc_shortvec.specs.Kept.{items_of, count_of, IsKept};
+ghost use Rattle.iloc_shortvec.specs.Kept.{items_of, count_of, HasItems, IsKept};
 ghost use Rattle.iloc_shortvec.specs.Left.{words_left};
 ghost use Rattle.iloc_shortvec.specs.ShortList.{only_of};
 
@@ -181,7 +181,8 @@ impl<T: Copy> Kept<T> {
     /// Takes an item out. A `Vec` keeps the others, however few.
     pub(crate) fn take_out(&mut self, index: usize)
         requires { index < length (items_of self.old) }
-        ensures { items_of self.new ≡ remove (items_of self.old) index }
+        ensures items { items_of self.new ≡ remove (items_of self.old) index }
+        ensures some { HasItems self.new }
     {
         match self {
             Kept::Empty(_) => {}
@@ -212,12 +213,16 @@ impl<T: Copy> Kept<T> {
 
     /// Keeps the items of a `Vec` in place, if they are four or fewer.
     pub(crate) fn settle(&mut self)
+        requires { HasItems self.old }
         ensures items { items_of self.new ≡ items_of self.old }
         ensures kept { IsKept self.new }
     {
-        if let Kept::Heap(items) = self {
-            if items.len() <= 4 {
-                *self = Kept::from_short(items.as_slice());
+        match self {
+            Kept::Empty(_) | Kept::Inline(_, _) => {}
+            Kept::Heap(items) => {
+                if items.len() <= 4 {
+                    *self = Kept::from_short(items.as_slice());
+                }
             }
         }
     }

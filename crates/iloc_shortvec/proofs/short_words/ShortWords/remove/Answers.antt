@@ -23,4 +23,4 @@ returns-clause-value g c =
 
 pub returns-clause-rest : goal.returns-clause-rest
 returns-clause-rest g c = c.settle.ensures.items
-    ∙ (c.take_out.ensures ∙ ap (λ xs. remove xs c.args.index) c.self.view_is)
+    ∙ (c.take_out.ensures.items ∙ ap (λ xs. remove xs c.args.index) c.self.view_is)
