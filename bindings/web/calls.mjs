@@ -16,7 +16,7 @@ export const DONE = 0;
 export const BEYOND = 9;
 const MODES = { langid: 0, locale: 1, data: 2 };
 
-const module = await WebAssembly.compile(bytes);
+const compiled = new WebAssembly.Module(bytes);
 const encoder = new TextEncoder();
 const decoder = new TextDecoder();
 
@@ -27,7 +27,7 @@ function begin(instance) {
   all = new Uint8Array(calls.memory.buffer);
   numbers = new DataView(calls.memory.buffer);
 }
-begin(await WebAssembly.instantiate(module, {}));
+begin(new WebAssembly.Instance(compiled));
 
 /** All of the memory. */
 export const memoryOf = () => all;
@@ -40,28 +40,52 @@ export function ask(name, ...words) {
   try {
     return calls[name](...words);
   } catch (error) {
-    begin(new WebAssembly.Instance(module, {}));
+    begin(new WebAssembly.Instance(compiled));
     throw new Error(`the module stopped in ${name}`, { cause: error });
   }
 }
 
-// The places of two texts, of the room for a normal text, of two answers, and of a number.
-const [TEXT, OTHER, PLACE, ONE, TWO, NUMBER] = Array.from({ length: 6 }, (_, at) => Number(calls.__heap_base.value) + at * ROOM);
-if (NUMBER + 16 > all.length) throw new Error('the memory of the module is too small');
+// The places of two texts, of the room for a normal text, of numbers, and of two answers. A table of parts takes the place of
+// these. It has room for each text: pieces have a byte and a hyphen at least.
+const [TEXT, OTHER, PLACE, NUMBER, ONE, TWO] = Array.from({ length: 6 }, (_, at) => Number(calls.__heap_base.value) + at * ROOM);
+const MOST_NUMBERS = 3 * Math.ceil((MOST + 1) / 2);
+if (ONE + 8 * MOST_NUMBERS > all.length) throw new Error('the memory of the module is too small');
 const place = { text: BigInt(TEXT), other: BigInt(OTHER), room: BigInt(PLACE), one: BigInt(ONE), two: BigInt(TWO), number: BigInt(NUMBER),
   more: BigInt(NUMBER + 8) };
-const room = BigInt(ROOM), rows = BigInt(ROOM / 8);
+const room = BigInt(ROOM), mostNumbers = BigInt(MOST_NUMBERS);
 
 // Numbers of the module are BigInts. Small ones are made once: to make one at each call takes longer.
 const few = Array.from({ length: 512 }, (_, at) => BigInt(at));
 const big = number => few[number] ?? BigInt(number);
 
+// What no object can misstate: which typed array it is, of any window, and its bytes.
+const ofTypedArrays = name => Object.getOwnPropertyDescriptor(Object.getPrototypeOf(Uint8Array.prototype), name).get;
+const kindOf = ofTypedArrays(Symbol.toStringTag), lengthOf = ofTypedArrays('length');
+const localeText = globalThis.Intl?.Locale?.prototype.toString;
+
+// The text of an `Intl.Locale`, or nothing.
+function ofIntl(it) {
+  try { return localeText.call(it); } catch { return undefined; }
+}
+
+/** The string or the bytes: those given, or the text of a `Locale`, of its copy without a class, or of an `Intl.Locale`. */
+export function textOf(it) {
+  if (typeof it === 'string') return it;
+  if (kindOf.call(it) === 'Uint8Array') {
+    if (it.length !== lengthOf.call(it)) throw new TypeError('a Uint8Array of another length than it says');
+    return it;
+  }
+  const found = typeof it === 'object' && it !== null ? typeof it.normal === 'string' ? it.normal : ofIntl(it) : undefined;
+  if (found === undefined) throw new TypeError('a text is a string, a Uint8Array or a locale');
+  return found;
+}
+
 // Puts a text there as UTF-8, and returns how many bytes it has; more than MOST if it is too long.
 function put(text, at) {
   if (typeof text === 'string') return putString(text, at);
-  if (!(text instanceof Uint8Array)) throw new TypeError('a text is a string or a Uint8Array');
-  if (text.length <= MOST) all.set(text, at);
-  return text.length;
+  const length = lengthOf.call(text);
+  if (length <= MOST) all.set(text, at);
+  return length;
 }
 
 function putString(text, at) {
@@ -88,8 +112,9 @@ function take(at, length) {
   return text;
 }
 
-/** The number of a mode. */
+/** The number of a mode. What `map` passes behind a text, a number, is no mode. */
 export function modeOf(mode) {
+  if (typeof mode === 'number') return MODES.locale;
   const number = Object.hasOwn(MODES, mode) ? MODES[mode] : undefined;
   if (number === undefined) throw new TypeError(`no mode ${String(mode)}: a mode is 'langid', 'locale' or 'data'`);
   return number;
@@ -118,7 +143,7 @@ export function checked(text, mode) {
 export function partsOf(text, mode) {
   const length = put(text, TEXT);
   if (length > MOST) return { status: BEYOND, normal: '', pieces: [] };
-  const status = ask('web_parts', mode, place.text, big(length + SPARE), big(length), place.room, room, place.number, place.one, rows, place.more);
+  const status = ask('web_parts', mode, place.text, big(length + SPARE), big(length), place.room, room, place.number, place.one, mostNumbers, place.more);
   const normal = take(PLACE, numbers.getUint32(NUMBER, true)), pieces = [];
   const end = status === DONE ? ONE + 8 * numbers.getUint32(NUMBER + 8, true) : ONE;
   for (let at = ONE; at < end; at += ROW) pieces.push(pieceAt(at, normal));

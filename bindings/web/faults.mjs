@@ -1,5 +1,5 @@
 // Finds where the fault of a refused text stands: the module's proved call, and from its bytes to the units of a string.
-import { BEYOND, CODES, DONE, WORDS, faultOf, modeOf } from './calls.mjs';
+import { BEYOND, CODES, DONE, WORDS, faultOf, modeOf, textOf } from './calls.mjs';
 
 // How many units of the string its first bytes are. A place is the end of a piece, so it is no place within a character.
 function unitsOf(text, bytes) {
@@ -17,7 +17,8 @@ function unitsOf(text, bytes) {
  * it, in units of the string, or in bytes. Pieces count whole: that of `en-foo` is `foo`, though `en-foobar` is accepted. The
  * end of the text if more is wanted there. `null` if the text is accepted, or beyond the limits.
  */
-export function findFault(text, mode = 'locale') {
+export function findFault(given, mode = 'locale') {
+  const text = textOf(given);
   const { status, start, end } = faultOf(text, modeOf(mode));
   if (status === DONE || status === BEYOND) return null;
   const place = typeof text === 'string' ? { start: unitsOf(text, start), end: unitsOf(text, end) } : { start, end };

@@ -8,37 +8,65 @@ export type ErrorCode = 'InvalidLanguage' | 'InvalidSubtag' | 'InvalidExtension'
 export type Code = 'Done' | ErrorCode;
 
 /** A string, which is read as UTF-8, or bytes of any encoding. */
-export type Text = string | Uint8Array;
+export type Bytes = string | Uint8Array;
 
-/** A text that has no normal text, or is beyond the limits. */
+/** A structured clone of a Locale, as another window or worker gets it. */
+export interface LocaleClone {
+  readonly normal: string;
+  readonly mode?: Mode;
+}
+
+/** A text, or a locale in the place of its text. */
+export type Text = Bytes | LocaleClone | Intl.Locale;
+
+/** A mode. A number, as `map` passes it behind a text, stands for 'locale'. */
+export type ModeOrIndex = Mode | number;
+
+/** A text that has no normal text, or is beyond the limits; or a part that is none. */
 export class LocaleError extends RangeError {
+  constructor(code: ErrorCode, text: Bytes, mode: Mode, part?: string);
+  /** How many frames of the stack each error keeps, in V8: 0 unless you set it. With frames it takes five times as long. */
+  static stackTraceLimit: number;
   readonly name: 'LocaleError';
   readonly code: ErrorCode;
-  readonly text: Text;
+  readonly text: Bytes;
   readonly mode: Mode;
+  /** The name of the part that is refused, as `region` or `keywords.ca`, where one was given. */
+  readonly part?: string;
   /** Where the fault begins, in units of the string or in bytes; undefined beyond the limits. */
   readonly start: number | undefined;
   /** Where it ends. At the end of the text, and equal to start, if more is wanted there. */
   readonly end: number | undefined;
+  /** Its name, message, code, text, mode, part and place. A structured clone keeps only the message, so send this. */
+  toJSON(): {
+    name: 'LocaleError';
+    message: string;
+    code: ErrorCode;
+    text: string | number[];
+    mode: Mode;
+    part?: string;
+    start: number | undefined;
+    end: number | undefined;
+  };
 }
 
 /** The normal text of what the text means. Throws a LocaleError if there is none. */
-export function normalize(text: Text, mode?: Mode): string;
+export function normalize(text: Text, mode?: ModeOrIndex): string;
 
 /** The normal text of what the text means, or why there is none. */
 export function tryNormalize(
   text: Text,
-  mode?: Mode,
+  mode?: ModeOrIndex,
 ): { normal: string; code?: undefined; message?: undefined } | { normal?: undefined; code: ErrorCode; message: string };
 
 /** `Done` if the text means something, or why not. */
-export function check(text: Text, mode?: Mode): Code;
+export function check(text: Text, mode?: ModeOrIndex): Code;
 
 /** The byte order of the normal texts of both: -1, 0 or 1. Throws a LocaleError if one has none. */
-export function compare(text: Text, other: Text, mode?: Mode): -1 | 0 | 1;
+export function compare(text: Text, other: Text, mode?: ModeOrIndex): -1 | 0 | 1;
 
 /** Whether both texts mean the same; false if the other means nothing. Throws a LocaleError if the text means nothing. */
-export function normalizingEq(text: Text, other: Text, mode?: Mode): boolean;
+export function normalizingEq(text: Text, other: Text, mode?: ModeOrIndex): boolean;
 
 /** What a piece of a normal text is. A `field` is a key of `t`, a `key` one of `u`. */
 export type Kind =
@@ -82,7 +110,7 @@ export interface Parts extends Identifier {
 }
 
 /** The parts of what the text means. Throws as normalize does. */
-export function parts(text: Text, mode?: Mode): Parts;
+export function parts(text: Text, mode?: ModeOrIndex): Parts;
 
 /** The parts of a normal text of any mode. Throws as normalize does. */
 export function partsOfNormal(normal: string): Parts;
@@ -96,12 +124,49 @@ export interface Fault {
 }
 
 /** The fault of a refused text; null if it is accepted, or beyond the limits. */
-export function findFault(text: Text, mode?: Mode): Fault | null;
+export function findFault(text: Text, mode?: ModeOrIndex): Fault | null;
+
+/** Parts that are to be others. One that is undefined or null goes; one that is left out stays. */
+export interface Changes {
+  language?: string | null;
+  script?: string | null;
+  region?: string | null;
+  /** All variants, as a list or with hyphens between them. */
+  variants?: string | Iterable<string> | null;
+  /** All attributes of `u`. */
+  attributes?: string | Iterable<string> | null;
+  /** All keywords of `u`; an empty value or `true` is none, `false` is `false`. */
+  keywords?: Readonly<Record<string, string | boolean | null | undefined>> | null;
+  /** The value of `ca` alone; likewise those below. */
+  calendar?: string | boolean | null;
+  caseFirst?: string | boolean | null;
+  collation?: string | boolean | null;
+  firstDayOfWeek?: string | boolean | null;
+  hourCycle?: string | boolean | null;
+  numberingSystem?: string | boolean | null;
+  numeric?: string | boolean | null;
+  /** What follows `t`: its text, its parts, or a locale. */
+  transform?: string | Partial<Transform> | LocaleClone | null;
+  /** All other extensions, each by its singleton. */
+  others?: Readonly<Record<string, string | null | undefined>> | null;
+  private?: string | Iterable<string> | null;
+}
 
 /** A locale, a language identifier or a data locale. It does not change. */
-export class Locale {
-  /** Throws a LocaleError if the text means nothing in the mode. */
-  constructor(text: Text | Locale, mode?: Mode);
+export class Locale implements LocaleClone {
+  /**
+   * Throws a LocaleError if the text means nothing in the mode, or if one of the parts is none. Without a mode, that of a Locale that
+   * is given, else 'locale'.
+   */
+  constructor(text: Text, options?: Mode | (Changes & { mode?: Mode }));
+  /** The locale of the text, or null if there is none. */
+  static tryParse(text: Text, mode?: ModeOrIndex): Locale | null;
+  /** The byte order of the normal texts, for `sort`: -1, 0 or 1. */
+  static compare(one: Text, other: Text): -1 | 0 | 1;
+  /** Whether the text means something. */
+  static isWellFormed(text: Text, mode?: ModeOrIndex): boolean;
+  /** The normal text. */
+  readonly normal: string;
   readonly mode: Mode;
   readonly parts: Parts;
   readonly language: string;
@@ -130,8 +195,19 @@ export class Locale {
   readonly numberingSystem: string | undefined;
   /** Whether `kn` is there, and is `true`. */
   readonly numeric: boolean;
-  /** Whether it is of the same mode and means the same as another one, or means what a text means. */
-  equals(other: Locale | Text): boolean;
+  /** Another locale, of the same mode, with these parts in place of its own. Throws a LocaleError that names a part that is none. */
+  with(changes: Changes): Locale;
+  /** A locale that also has the attributes and keywords of the other one, whose values win. */
+  extendUnicode(other: Text): Locale;
+  /** The locale without its extensions; without those, without its last variant, region, script or language. null of `und`. */
+  parent(): Locale | null;
+  /** The data locale by which data is looked up: of its own region, with the keyword `sd`, or of that which `rg` names. */
+  dataLocale(priority?: 'language' | 'region'): Locale;
+  /** Whether it is of the same mode and means the same as another one, or means what a text means. What is neither is not equal. */
+  equals(other: unknown): boolean;
+  /** It is a list of its text, as `Intl` takes one. */
+  readonly length: 1;
+  readonly 0: string;
   toString(): string;
   toJSON(): string;
 }

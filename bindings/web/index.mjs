@@ -1,60 +1,41 @@
-// Unicode locale identifiers by a proved WebAssembly module. What is not proved: this file, calls.mjs, parts.mjs and
-// faults.mjs, and the way from the proof to the engine that runs the module. Tests compare all of it with the vectors.
-import { CODES, DONE, WORDS, checked, modeOf, normalizeInto, ordered, partsOf, sameness, version, written } from './calls.mjs';
+// Unicode locale identifiers by a proved WebAssembly module. What is not proved: the scripts beside the module, and the way
+// from the proof to the engine that runs the module. Tests compare all of it with the vectors.
+import { CODES, DONE, WORDS, checked, modeOf, normalizeInto, ordered, partsOf, sameness, textOf, version, written } from './calls.mjs';
+import { changedText, changesAny } from './changes.mjs';
+import { LocaleError } from './errors.mjs';
 import { findFault } from './faults.mjs';
 import { partsBy } from './parts.mjs';
 import { isNarrow, size } from './module.mjs';
 
-export { findFault, isNarrow, size, version };
+export { LocaleError, findFault, isNarrow, size, version };
 
-/** A text that has no normal text, or is beyond the limits. */
-export class LocaleError extends RangeError {
-  #fault;
-  constructor(status, text, mode) {
-    super(WORDS[status]);
-    this.code = CODES[status];
-    this.text = text;
-    this.mode = mode;
-  }
-
-  // The place is looked for only if it is asked for.
-  get #place() {
-    return this.#fault ??= findFault(this.text, this.mode) ?? {};
-  }
-
-  get start() {
-    return this.#place.start;
-  }
-
-  get end() {
-    return this.#place.end;
-  }
-}
-Object.defineProperty(LocaleError.prototype, 'name', { value: 'LocaleError', configurable: true, writable: true });
+// The name of a mode as errors have it: what is no name stands for `locale` (see modeOf).
+const named = mode => typeof mode === 'number' ? 'locale' : mode;
+const refusal = (status, text, mode) => new LocaleError(CODES[status], text, named(mode));
 
 /** The normal text of what the text means. */
-export function normalize(text, mode = 'locale') {
-  const status = normalizeInto(text, modeOf(mode));
-  if (status !== DONE) throw new LocaleError(status, text, mode);
+export function normalize(given, mode = 'locale') {
+  const text = textOf(given), status = normalizeInto(text, modeOf(mode));
+  if (status !== DONE) throw refusal(status, text, mode);
   return written();
 }
 
 /** The normal text of what the text means, or why there is none. */
 export function tryNormalize(text, mode = 'locale') {
-  const status = normalizeInto(text, modeOf(mode));
+  const status = normalizeInto(textOf(text), modeOf(mode));
   return status === DONE ? { normal: written() } : { code: CODES[status], message: WORDS[status] };
 }
 
 /** `Done` if the text means something, or why not. */
 export function check(text, mode = 'locale') {
-  return CODES[checked(text, modeOf(mode))];
+  return CODES[checked(textOf(text), modeOf(mode))];
 }
 
 // Asks about two texts. An error is about the first text that has one.
-function both(ask, text, other, mode) {
-  const number = modeOf(mode);
+function both(ask, one, two, mode) {
+  const number = modeOf(mode), text = textOf(one), other = textOf(two);
   const [status, answer] = ask(text, other, number);
-  if (status !== DONE) throw new LocaleError(status, checked(text, number) === status ? text : other, mode);
+  if (status !== DONE) throw refusal(status, checked(text, number) === status ? text : other, mode);
   return answer;
 }
 
@@ -69,9 +50,9 @@ export function normalizingEq(text, other, mode = 'locale') {
 }
 
 /** The parts of what the text means. */
-export function parts(text, mode = 'locale') {
-  const { status, normal, pieces } = partsOf(text, modeOf(mode));
-  if (status !== DONE) throw new LocaleError(status, text, mode);
+export function parts(given, mode = 'locale') {
+  const text = textOf(given), { status, normal, pieces } = partsOf(text, modeOf(mode));
+  if (status !== DONE) throw refusal(status, text, mode);
   return partsBy(normal, pieces);
 }
 
@@ -90,28 +71,53 @@ function frozen(it) {
   return it;
 }
 
-/** A locale, a language identifier or a data locale that does not change. */
+// What a constructor is given behind the text: a mode, or parts that are to be others, with a mode or not.
+function optionsOf(given) {
+  if (typeof given !== 'object' || given === null) return { mode: given, changes: {} };
+  const { mode, ...changes } = given;
+  return { mode, changes };
+}
+
+// What two regions and subdivisions say of data: see dataLocale.
+const isData = text => tryNormalize(text, 'data').normal !== undefined;
+
+/**
+ * A locale, a language identifier or a data locale that does not change. Its own properties are its normal text and its mode, so a
+ * structured clone keeps these, and the constructor takes such a clone.
+ */
 export class Locale {
-  #normal;
-  #mode;
   #found; // its parts, once they were asked for
-  constructor(text, mode = 'locale') {
-    this.#normal = text instanceof Locale && text.#mode === mode ? text.#normal : normalize(text instanceof Locale ? text.#normal : text, mode);
-    this.#mode = mode;
+  constructor(given, options) {
+    const { mode = given?.mode ?? 'locale', changes } = optionsOf(options);
+    const normal = normalize(given, mode);
+    this.normal = changesAny(changes) ? normalize(changedText(partsOfNormal(normal), changes), mode) : normal;
+    this.mode = named(mode);
     Object.freeze(this);
   }
 
+  /** The locale of the text, or null if there is none. */
+  static tryParse(text, mode = 'locale') {
+    const { normal } = tryNormalize(text, mode);
+    return normal === undefined ? null : new Locale(normal, mode);
+  }
+
+  /** The byte order of the normal texts of two locales, for `sort`. */
+  static compare(one, other) {
+    return compare(one, other, one?.mode ?? 'locale');
+  }
+
+  /** Whether the text means something. */
+  static isWellFormed(text, mode = 'locale') {
+    return check(text, mode) === 'Done';
+  }
+
   get #parts() {
-    return this.#found ??= partsOfNormal(this.#normal);
+    return this.#found ??= partsOfNormal(this.normal);
   }
 
   /** All parts, which do not change either. */
   get parts() {
     return frozen(this.#parts);
-  }
-
-  get mode() {
-    return this.#mode;
   }
 
   get language() {
@@ -183,18 +189,61 @@ export class Locale {
     return this.#parts.keywords.kn === '';
   }
 
-  /** Whether it is of the same mode and means the same as another one, or as a text. */
+  /** Another locale, of the same mode, of which some parts are others. A part that is given as undefined goes. */
+  with(changes) {
+    return new Locale(this, { ...changes, mode: this.mode });
+  }
+
+  /** A locale that also has the attributes and keywords of the other one, whose values win. */
+  extendUnicode(other) {
+    const { attributes, keywords } = new Locale(other).parts;
+    return this.with({ attributes: [...new Set([...this.attributes, ...attributes])], keywords: { ...this.keywords, ...keywords } });
+  }
+
+  /** The locale without its extensions; without those, without its last variant, region, script or language. `und` has none: null. */
+  parent() {
+    const { normal, language, script, region, variants } = this.#parts;
+    if (this.baseName !== normal) return new Locale(this.baseName, this.mode);
+    if (variants.length > 0) return this.with({ variants: variants.slice(0, -1) });
+    const last = region ? 'region' : script ? 'script' : language !== 'und' ? 'language' : undefined;
+    return last === undefined ? null : this.with({ [last]: undefined });
+  }
+
+  /** The data locale by which data is looked up: of the locale's own region, with `sd`, or of that which `rg` names. */
+  dataLocale(priority = 'language') {
+    if (priority !== 'language' && priority !== 'region') throw new TypeError(`no priority ${String(priority)}: it is 'language' or 'region'`);
+    const { language, script, region, variants, keywords: { sd, rg } } = this.#parts;
+    const text = (of, part) => [language, script, of, variants[0], part && `u-sd-${part}`].filter(Boolean).join('-');
+    if (priority === 'region' && rg && isData(`und-u-sd-${rg}`)) return new Locale(text('', rg), 'data');
+    const own = sd && isData(text(region, sd)) ? text(region, sd) : text(region);
+    return new Locale(own, 'data');
+  }
+
+  /** Whether it is of the same mode and means the same as another one, or as a text. What is neither is not equal. */
   equals(other) {
-    if (other instanceof Locale) return this.#mode === other.#mode && this.#normal === other.#normal;
-    return normalizingEq(this.#normal, other, this.#mode);
+    if (other instanceof Locale) return this.mode === other.mode && this.normal === other.normal;
+    try { return normalizingEq(this.normal, other, this.mode); } catch (error) {
+      if (error instanceof TypeError) return false;
+      throw error;
+    }
+  }
+
+  // For `Intl`, which takes a list of texts where it does not know the class: it is a list of its text.
+
+  get length() {
+    return 1;
+  }
+
+  get 0() {
+    return this.normal;
   }
 
   toString() {
-    return this.#normal;
+    return this.normal;
   }
 
   toJSON() {
-    return this.#normal;
+    return this.normal;
   }
 
   get [Symbol.toStringTag]() {
@@ -202,6 +251,6 @@ export class Locale {
   }
 
   [Symbol.for('nodejs.util.inspect.custom')]() {
-    return `Locale '${this.#normal}'`;
+    return `Locale '${this.normal}'`;
   }
 }

@@ -6,7 +6,8 @@ export const PACKAGE = process.env.PACKAGE;
 if (!PACKAGE) throw new Error('PACKAGE is to name the folder of the package, as bindings/web/try does');
 const TOP = process.env.TOP ?? new URL('../../..', import.meta.url).pathname;
 
-export const web = await import(pathToFileURL(`${PACKAGE}/index.mjs`));
+// (ENTRY is the script that is tried, as node.mjs)
+export const web = await import(pathToFileURL(`${PACKAGE}/${process.env.ENTRY ?? 'index.mjs'}`));
 export const module = await import(pathToFileURL(`${PACKAGE}/module.mjs`));
 export const MODES = ['langid', 'locale', 'data'];
 

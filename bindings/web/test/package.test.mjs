@@ -110,7 +110,7 @@ test('refusals', () => {
   assert.throws(() => normalize('en_US'), error => error instanceof LocaleError && error instanceof RangeError && error.name === 'LocaleError'
     && error.code === 'InvalidLanguage' && error.message === 'The given language subtag is invalid' && error.start === 0 && error.end === 5);
   assert.throws(() => normalize('en-US-foo'), error => error.code === 'InvalidSubtag' && error.start === 6 && error.end === 9);
-  for (const mode of ['other', 'toString', '', null, 0]) assert.throws(() => normalize('en', mode), TypeError);
+  for (const mode of ['other', 'toString', '', null, {}, true]) assert.throws(() => normalize('en', mode), TypeError);
   for (const text of [7, undefined, null, ['en'], new Uint16Array(2)]) assert.throws(() => normalize(text), TypeError);
   assert.throws(() => compare('en', 'x'), error => error.text === 'x' && error.code === 'InvalidLanguage');
   assert.throws(() => compare('x', 'en'), error => error.text === 'x');

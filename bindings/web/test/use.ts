@@ -1,6 +1,6 @@
 // What a caller in TypeScript writes. tsc --strict is to accept it, and to find an error in each line that says so.
 import { Locale, LocaleError, check, compare, findFault, normalize, normalizingEq, parts, tryNormalize } from 'icu-locale-web';
-import type { Code, Fault, Kind, Mode, Parts } from 'icu-locale-web';
+import type { Changes, Code, Fault, Kind, Mode, Parts } from 'icu-locale-web';
 
 const mode: Mode = 'langid';
 const normal: string = normalize('EN', mode);
@@ -19,6 +19,13 @@ try {
 } catch (error) {
   if (error instanceof LocaleError) console.log(error.code, error.start ?? 0, error.end);
 }
+const changes: Changes = { region: 'GB', calendar: 'buddhist', script: undefined, variants: ['posix'], keywords: { nu: 'latn' } };
+const other: Locale = new Locale('en', { mode: 'locale', numeric: true }).with({ ...changes, transform: { language: 'de' } });
+const texts: string[] = ['EN', 'de-at'].map(normalize);
+const sorted: Locale[] = [locale, other].sort(Locale.compare);
+const shown: string = new Intl.DateTimeFormat(String(locale)).format();
+const above: Locale | null = other.parent(), tried: Locale | null = Locale.tryParse(new Intl.Locale('de'));
+console.log(texts, sorted, shown, above, tried, locale.equals(undefined), normalize(other), other.dataLocale('region'));
 console.log(code, order, same, kinds, fault?.start, region, locale.equals('en'), locale.keywords.ca);
 // @ts-expect-error
 normalize(7);
@@ -30,3 +37,7 @@ locale.region = 'GB';
 found.variants.push('posix');
 // @ts-expect-error
 const none: string = locale.script;
+// @ts-expect-error
+locale.with({ regoin: 'GB' });
+// @ts-expect-error
+locale.with({ region: 5 });
