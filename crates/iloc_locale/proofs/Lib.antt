@@ -17,3 +17,4 @@ pub mod ReadLemmas
 pub mod AloneLemmas
 pub mod NormalLemmas
 pub mod SmallLemmas
+pub mod ParentLemmas

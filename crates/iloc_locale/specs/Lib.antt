@@ -8,3 +8,4 @@ pub mod Whole
 pub mod LocaleReading
 pub mod Order
 pub mod OrderLaws
+pub mod LocaleParents

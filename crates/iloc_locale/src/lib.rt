@@ -47,6 +47,7 @@ mod kept;
 pub mod locale;
 pub mod normalizing;
 pub mod ordered;
+pub mod parent;
 mod others;
 pub mod printing;
 mod taking;
