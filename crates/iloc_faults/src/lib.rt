@@ -17,6 +17,7 @@ ghost use Rattle.iloc_faults.specs.Places.{IsAccepted, IsFault};
 
 mod identifier;
 pub mod laws;
+mod repeats;
 mod state;
 mod step;
 mod walk;
@@ -40,7 +41,8 @@ pub struct Fault {
 /// The fault stands at the first piece with which no accepted text begins, or at the end of a text that ends too early.
 /// So what is before it can be completed, and what includes it cannot. This library's rule.
 ///
-/// It allocates nothing. It takes time in proportion to the text, but for variants: each is compared with those before it.
+/// It allocates nothing. It takes time in proportion to the text. A run of more than 16,384 variants is gone through again
+/// for each further 16,384 of them.
 ///
 /// ```text
 /// fault_of(Mode::Locale, b"en--US") // Some(Fault { refusal: InvalidSubtag, start: 3, end: 3 })
