@@ -8,7 +8,9 @@ pub mod Identifiers
 pub mod DataSteps
 pub mod Answers
 pub mod Going
-pub mod Earlier
+pub mod NewNumbers
+pub mod Chunks
+pub mod VariantsLeft
 pub mod Bits
 pub mod StepReadings
 pub mod Walks

@@ -1,16 +1,16 @@
 -- What the functions of the reader say of one piece more.
-use Rattle.std.proofs.Common.{◌≡◌, ◌≢◌, ℕ, Bool, true, false, ◌&&◌, List, [], ◌∷◌, ◌++◌, map}
-use Rattle.std.proofs.Common.{slice_index, true≢false, Option, Some, None, IfSome, option_map, refl, sym, ap}
-use Rattle.std.proofs.Common.{◌∙◌, subst, append_assoc}
+use Rattle.std.proofs.Common.{◌≡◌, ◌≢◌, ◌==◌, ◌≤◌, ◌-◌, ℕ, zero, suc, Bool, true, false, not, ◌&&◌, List, [], ◌∷◌}
+use Rattle.std.proofs.Common.{◌++◌, map, slice_index, true≢false, Option, Some, None, IfSome, option_map, refl, sym}
+use Rattle.std.proofs.Common.{ap, ◌∙◌, subst, arith}
+use Rattle.std.specs.List.{list_any}
+use Rattle.std.proofs.lemmas.Bool.{ne_eqb, not-true}
 use Rattle.std.specs.Char.{to_ascii_lowercase}
-use Rattle.std.proofs.lemmas.List.{map-append}
 use Rattle.iloc_spec_grammar.specs.Syntax.{code_u, Text, Variant, languages, is_word, IsWord, lower}
 use Rattle.iloc_spec_grammar.specs.Syntax.{is_one_byte}
 use Rattle.iloc_spec_grammar.specs.Syntax as kinds
-use Rattle.iloc_spec_grammar.proofs.ReadBack.{all_append}
 use Rattle.iloc_normalize.specs.declared.Mode.{Mode}
-use Rattle.iloc_normalize.specs.declared.Mode.TheVariants.{Locale, Data}
-use Rattle.iloc_pieces.specs.Left.{IsShortPiece, piece_left, pieces_left}
+use Rattle.iloc_normalize.specs.declared.Mode.TheVariants.{Langid, Locale, Data}
+use Rattle.iloc_pieces.specs.Left.{IsNextPiece, IsShortPiece, piece_left, pieces_left}
 use Rattle.iloc_pieces.specs.declared.cursor.Left.{Left}
 use Rattle.iloc_pieces.proofs.LeftLemmas.{short_variant, short_region, short_script, short_field_key}
 use Rattle.iloc_pieces.proofs.LeftLemmas.{single_short}
@@ -26,15 +26,65 @@ use Rattle.iloc_faults.specs.Next.{Reached, plain, is_new, is_seen, when, may_be
 use Rattle.iloc_faults.specs.Next.{after_region_next, after_script_next, word_next, piece_next, block_next}
 use Rattle.iloc_faults.specs.Next.{inside_next, next}
 use Rattle.iloc_faults.specs.States.{AreSingletonsSeen, AreVariantsRead, IsEarly, HasNone, IsPieceRead}
-use Rattle.iloc_faults.specs.States.{IsWordRead, bare, reached}
+use Rattle.iloc_faults.specs.States.{IsWordRead, AreNew, are_same, bare, first_variants, reached, variants_left}
+use Rattle.iloc_faults.proofs.VariantsLeft.{one_and_more, some_left}
 use Rattle.iloc_faults.proofs.Bits.{language_short, piece_short}
 
 -- ---- whether a variant is new
 
-pub new_data : (vs : List Text) (ps : List Text) (v : Text) → vs ≡ map lower ps → ps ≢ [] →
-    false ≡ is_new Data vs v
-new_data vs [] v e some = absurd (some refl)
-new_data vs (p ∷ ps) v e some = rw e refl
+pub new_data : (vs : List Text) (v : Text) → vs ≢ [] → false ≡ is_new Data vs v
+new_data [] v some = absurd (some refl)
+new_data (w ∷ ws) v some = refl
+
+new_many : (mode : Mode) (vs : List Text) (v : Text) → mode ≢ Data →
+    is_new mode vs v ≡ not (list_any (are_same v) vs)
+new_many Langid vs v h = refl
+new_many Locale vs v h = refl
+new_many Data vs v h = absurd (h refl)
+
+-- a new one is none of them
+new_differs : (mode : Mode) (vs : List Text) (v : Text) → is_new mode vs v ≡ true →
+    list_any (are_same v) vs ≡ false
+new_differs Langid vs v h = not-true _ h
+new_differs Locale vs v h = not-true _ h
+new_differs Data [] v h = refl
+new_differs Data (w ∷ ws) v h = absurd (true≢false (sym h))
+
+-- of the words that follow, the first is new
+one_less : (vs ws : List Text) (v : Text) (n : ℕ) → AreNew are_same vs (v ∷ ws) n →
+    list_any (are_same v) vs ≡ false → (k : ℕ) × (n ≡ suc k) × AreNew are_same (vs ++ (v ∷ [])) ws k
+one_less vs ws v zero h f = absurd (true≢false (sym h ∙ f))
+one_less vs ws v (suc k) h f = (k, refl, h.1)
+
+-- so many are new: none, or the first
+none_new : (vs ws : List Text) (v : Text) (n : ℕ) → AreNew are_same vs (v ∷ ws) n →
+    list_any (are_same v) vs ≡ (n == 0)
+none_new vs ws v zero h = h
+none_new vs ws v (suc k) h =
+    let some : suc k ≢ 0 = λ e. omega (arith, e) in h.0 ∙ sym (ne_eqb (suc k) 0 some)
+
+-- the words that are left begin with the piece, a variant
+words_left : (at : Left) → is_word Variant (piece_left at) ≡ true →
+    map lower (variants_left at)
+    ≡ lower (piece_left at) ∷ map lower (first_variants (some_left at).0)
+words_left at e = ap (map lower) (one_and_more at (some_left at).0 (some_left at).1 e)
+
+pub new_some : (mode : Mode) (vs : List Text) (at : Left) (n : ℕ) → mode ≢ Data →
+    is_word Variant (piece_left at) ≡ true → AreNew are_same vs (map lower (variants_left at)) n →
+    not (n == 0) ≡ is_new mode vs (lower (piece_left at))
+new_some mode vs at n other e h =
+    let known = subst (λ (ws : List Text). AreNew are_same vs ws n) (words_left at e) h in
+    sym (new_many mode vs (lower (piece_left at)) other
+    ∙ ap not (none_new vs _ (lower (piece_left at)) n known))
+
+-- there is one at least
+pub new_at_least : (mode : Mode) (vs : List Text) (at : Left) (n : ℕ) →
+    is_word Variant (piece_left at) ≡ true → is_new mode vs (lower (piece_left at)) ≡ true →
+    AreNew are_same vs (map lower (variants_left at)) n → 1 ≤ n
+new_at_least mode vs at n e new h =
+    let known = subst (λ (ws : List Text). AreNew are_same vs ws n) (words_left at e) h in
+    let less = one_less vs _ (lower (piece_left at)) n known (new_differs mode vs _ new) in
+    omega (arith, less.1)
 
 -- ---- words of an identifier
 
@@ -51,53 +101,37 @@ module _ (mode : Mode) (vs : List Text) (at : Left) where
       after_region_next mode vs (piece_left at) ≡ Some (Region, vs ++ (lower (piece_left at) ∷ []))
   both e n = rw (e, n) refl
 
-  pub variant_first : is_word Variant (piece_left at) ≡ true →
-      is_new mode vs (lower (piece_left at)) ≡ true → vs ≡ [] →
-      IsWordRead at (after_region_next mode vs (piece_left at)) (Some (Region, Some at))
-  variant_first e n z = (
+  pub variant_read : (n : ℕ) → is_word Variant (piece_left at) ≡ true →
+      is_new mode vs (lower (piece_left at)) ≡ true → AreNew are_same vs (map lower (variants_left at)) n →
+      IsWordRead at (after_region_next mode vs (piece_left at)) (Some (Region, Some (n - 1)))
+  variant_read n e new h = (
     vs ++ (lower (piece_left at) ∷ []),
-    both e n,
+    both e new,
     short_variant (piece_left at) e,
     tt,
-    λ m next. (
-      piece_left at ∷ [],
-      record { end = next.end; cut = next.pieces; words = (e, tt) },
-      ap (λ ws. ws ++ (lower (piece_left at) ∷ [])) z,
-      λ w. cc,
-    ),
-  )
-
-  pub variant_more : (first : Left) → is_word Variant (piece_left at) ≡ true →
-      is_new mode vs (lower (piece_left at)) ≡ true → AreVariantsRead (Some first) at vs →
-      IsWordRead at (after_region_next mode vs (piece_left at)) (Some (Region, Some first))
-  variant_more first e n h = (
-    vs ++ (lower (piece_left at) ∷ []),
-    both e n,
-    short_variant (piece_left at) e,
-    tt,
-    λ m next. (
-      h.0 ++ (piece_left at ∷ []),
-      record {
-        end = next.end ∙ h.1.end;
-        cut = h.1.cut ∙ ap (λ qs. h.0 ++ qs) next.pieces
-            ∙ sym (append_assoc h.0 (piece_left at ∷ []) (pieces_left m));
-        words = all_append (IsWord Variant) h.0 (piece_left at ∷ []) h.1.words (e, tt);
-      },
-      ap (λ ws. ws ++ (lower (piece_left at) ∷ [])) h.2 ∙ sym (map-append lower h.0 (piece_left at ∷ [])),
-      λ w. some h.0 w,
-    ),
+    λ m next. (λ w. some vs w, more m next),
   )
     where
-      some : (xs : List Text) → xs ++ (piece_left at ∷ []) ≢ []
+      some : (xs : List Text) → xs ++ (lower (piece_left at) ∷ []) ≢ []
       some [] e = cc
       some (x ∷ xs) e = cc
+
+      more : (m : Left) → IsNextPiece at m →
+          AreNew are_same (vs ++ (lower (piece_left at) ∷ [])) (map lower (variants_left m)) (n - 1)
+      more m next =
+          let words = ap (map lower) (one_and_more at (pieces_left m) next.pieces e) in
+          let known = subst (λ (ws : List Text). AreNew are_same vs ws n) words h in
+          let less = one_less vs _ (lower (piece_left at)) n known (new_differs mode vs _ new) in
+          let rest : less.0 ≡ n - 1 = omega (arith, less.1) in
+          subst (λ (k : ℕ). AreNew are_same (vs ++ (lower (piece_left at) ∷ [])) (map lower (variants_left m)) k)
+          rest less.2
 
 pub region_read : (mode : Mode) (at : Left) → is_word kinds.Region (piece_left at) ≡ true →
     IsWordRead at (after_script_next mode [] (piece_left at)) (Some (Region, None))
 region_read mode at e = ([], rw e refl, short_region (piece_left at) e, tt, λ m next. refl)
 
 -- no variant comes before a script or a region
-pub none_yet : (at : Left) (first : Option Left) (vs : List Text) → first ≡ None →
+pub none_yet : (at : Left) (first : Option ℕ) (vs : List Text) → first ≡ None →
     AreVariantsRead first at vs → vs ≡ []
 none_yet at None vs e h = h
 none_yet at (Some first) vs e h = cc
@@ -136,9 +170,9 @@ plain_is at bits seen h o short s e r f = subst (λ x. IsPieceRead at x s) (sym 
 
 -- a word of the head, and one after `t`
 pub word_read : (of : Stage → Part) →
-    ((stage : Stage) (first : Option Left) → IsEarly stage first → HasNone (of stage) first) →
+    ((stage : Stage) (first : Option ℕ) → IsEarly stage first → HasNone (of stage) first) →
     (at : Left) (bits : ℕ) (seen : List ℕ) → AreSingletonsSeen bits seen → (o : Option (Stage × List Text))
-    → (w : Stage × Option Left) → IsWordRead at o (Some w)
+    → (w : Stage × Option ℕ) → IsWordRead at o (Some w)
     → IsPieceRead at (option_map (λ (x : Stage × List Text). reached (of x.0) x.1 seen) o)
     (Some (record { part = of w.0; variants = w.1; seen = bits }))
 word_read of none at bits seen h o w (ws, e, short, early, more) = (
@@ -227,7 +261,7 @@ module _ (mode : Mode) (at : Left) (part : Part) (vs : List Text) (seen : List �
   language_read e k s f =
       rw (e, k) (plain_is at bits seen h _ (language_short (piece_left at) (Source Language)) s f _ refl)
 
-  pub head_read : (stage : Stage) → part ≡ Head stage → (w : Stage × Option Left) →
+  pub head_read : (stage : Stage) → part ≡ Head stage → (w : Stage × Option ℕ) →
       IsWordRead at (word_next mode stage vs (piece_left at)) (Some w) →
       IsPieceRead at (inside_next mode part vs seen (piece_left at))
       (Some (record { part = Head w.0; variants = w.1; seen = bits }))
@@ -240,7 +274,7 @@ module _ (mode : Mode) (at : Left) (part : Part) (vs : List Text) (seen : List �
   head_not stage e r = rw e (no_word_read Head at seen (word_next mode stage vs (piece_left at)) r)
 
   pub source_read : (stage : Stage) → part ≡ Source stage →
-      is_word kinds.TransformKey (piece_left at) ≡ false → (w : Stage × Option Left) →
+      is_word kinds.TransformKey (piece_left at) ≡ false → (w : Stage × Option ℕ) →
       IsWordRead at (word_next mode stage vs (piece_left at)) (Some w) →
       IsPieceRead at (inside_next mode part vs seen (piece_left at))
       (Some (record { part = Source w.0; variants = w.1; seen = bits }))

@@ -8,7 +8,6 @@ use Rattle.std.proofs.lemmas.List.{get_or-take, get_or-drop}
 use Rattle.std.proofs.lemmas.List.Concat.{flat_map-append}
 use Rattle.iloc_spec_grammar.specs.Syntax.{Text, pieces, dashes, first_piece}
 use Rattle.iloc_spec_grammar.specs.Meaning.{InvalidExtension}
-use Rattle.iloc_spec_grammar.proofs.PiecesLaws.{at_pieces}
 use Rattle.iloc_subtags.specs.Judging.{error_of}
 use Rattle.iloc_pieces.specs.Left.{IsNextPiece, piece_left, pieces_left, bytes_left}
 use Rattle.iloc_pieces.specs.declared.cursor.Left.{Left}
@@ -21,6 +20,7 @@ use Rattle.iloc_faults.specs.Next.{Reached, started, may_end, next, piece_fault,
 use Rattle.iloc_faults.specs.States.{IsRead, IsPieceRead, IsFaultFound, reached}
 use Rattle.iloc_faults.proofs.Going.{run, run_append, verdict_run, goes_on, goes_no_longer}
 use Rattle.iloc_faults.proofs.Bits.{none_seen}
+use Rattle.iloc_faults.proofs.VariantsLeft.{some_left}
 use Rattle.iloc_pieces.proofs.FrontLemmas.{first_onto}
 
 -- ---- where a piece ends
@@ -113,11 +113,6 @@ pub none_else : (at : Left) (o : Option Reached) (r : Option State) → ((s : St
     IsPieceRead at o r → o ≡ None
 none_else at o None n h = h
 none_else at o (Some s) n h = absurd (n s refl)
-
--- the pieces that are left begin with the first
-some_left : (l : Left) → (rest : List Text) × (pieces_left l ≡ piece_left l ∷ rest)
-some_left l =
-    at_pieces (λ ps. (rest : List Text) × (ps ≡ first_piece ps ∷ rest)) (λ p ps. (ps, refl)) (bytes_left l)
 
 module _ {mode : Mode} {t : Text} {at : Left} {s : State} (w : IsWalked mode t at s) where
   -- what was read

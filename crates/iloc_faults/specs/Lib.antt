@@ -1,3 +1,4 @@
 pub mod Places
 pub mod Next
 pub mod States
+pub mod Numbers

@@ -1,10 +1,11 @@
 -- What the states of the reader stand for: devices of its proof.
-use Rattle.std.specs.Prelude.{◌≡◌, ◌≢◌, ◌↔◌, ℕ, ◌+◌, ◌-◌, true, List, [], ◌++◌, map, nat_lt, Option, Some}
-use Rattle.std.specs.Prelude.{None, ⊤, if◌then◌else◌}
-use Rattle.std.specs.List.{AllByRecursion}
+use Rattle.std.specs.Prelude.{◌≡◌, ◌≢◌, ◌↔◌, ℕ, zero, suc, ◌-◌, Bool, true, false, List, [], ◌∷◌, ◌++◌, map}
+use Rattle.std.specs.Prelude.{nat_lt, Option, Some, None, ⊤, if◌then◌else◌}
+use Rattle.std.specs.List.{list_any}
+use Rattle.std.specs.Ordering.{eq_by_cmp}
 use Rattle.std.specs.Char.{is_ascii_alphanumeric, to_ascii_lowercase}
 use Rattle.std.specs.Int.{bit_at}
-use Rattle.iloc_spec_grammar.specs.Syntax.{Text, pieces, Variant, IsWord, lower}
+use Rattle.iloc_spec_grammar.specs.Syntax.{Text, pieces, Variant, is_word, lower, word_cmp}
 use Rattle.iloc_spec_grammar.specs.Meaning as grammar
 use Rattle.iloc_subtags.specs.Judging.{error_of}
 use Rattle.iloc_pieces.specs.Left.{IsNextPiece, IsShortPiece, piece_left, pieces_left}
@@ -28,25 +29,37 @@ abbrev pub AreSingletonsSeen : ℕ → List ℕ → Type 0
 AreSingletonsSeen bits seen = (c : ℕ) → is_ascii_alphanumeric c ≡ true
     → (bit_at bits (bit_place (to_ascii_lowercase c)) ≡ 1) ↔ (is_seen seen c ≡ true)
 
--- from the first piece up to the other there are these variants
-pub record AreVariantsBetween (first at : Left) (ps : List Text) : Type 0 where
-  pub end : at.at + at.len ≡ first.at + first.len
-  pub cut : pieces_left first ≡ ps ++ pieces_left at
-  pub words : AllByRecursion (IsWord Variant) ps
+-- whether two words are the same
+abbrev pub are_same : Text → Text → Bool
+are_same = eq_by_cmp word_cmp
 
--- the variants before the piece, in lower case; the first of them is given, if there is one
-abbrev pub AreVariantsRead : Option Left → Left → List Text → Type 0
+-- the variants with which the pieces begin
+abbrev pub first_variants : List Text → List Text
+first_variants [] = []
+first_variants (p ∷ ps) = if is_word Variant p then p ∷ first_variants ps else []
+
+-- the variants from the piece on
+abbrev pub variants_left : Left → List Text
+variants_left l = first_variants (pieces_left l)
+
+-- after xs, so many of ys are new, each none of those before it; the next of ys, if there is one, is not
+abbrev pub AreNew : {X : Type 0} → (X → X → Bool) → List X → List X → ℕ → Type 0
+AreNew same xs [] n = ⊤
+AreNew same xs (y ∷ ys) zero = list_any (same y) xs ≡ true
+AreNew same xs (y ∷ ys) (suc n) = (list_any (same y) xs ≡ false) × AreNew same (xs ++ (y ∷ [])) ys n
+
+-- the variants before the piece, in lower case; if there are some, so many of those that follow are new
+abbrev pub AreVariantsRead : Option ℕ → Left → List Text → Type 0
 AreVariantsRead None at vs = vs ≡ []
-AreVariantsRead (Some first) at vs = (ps : List Text) × AreVariantsBetween first at ps
-    × (vs ≡ map lower ps) × (ps ≢ [])
+AreVariantsRead (Some n) at vs = (vs ≢ []) × AreNew are_same vs (map lower (variants_left at)) n
 
 -- no variant comes before a region
-abbrev pub IsEarly : Stage → Option Left → Type 0
+abbrev pub IsEarly : Stage → Option ℕ → Type 0
 IsEarly Language first = first ≡ None
 IsEarly Script first = first ≡ None
 IsEarly Region first = ⊤
 
-abbrev pub HasNone : Part → Option Left → Type 0
+abbrev pub HasNone : Part → Option ℕ → Type 0
 HasNone (Head stage) first = IsEarly stage first
 HasNone (Source stage) first = IsEarly stage first
 HasNone part first = ⊤
@@ -68,7 +81,7 @@ IsPieceRead at o (Some s) = (vs : List Text) × (seen : List ℕ) × (o ≡ Some
     × IsShortPiece (piece_left at) × ((m : Left) → IsNextPiece at m → IsRead s m vs seen)
 
 -- the same of a word of an identifier
-abbrev pub IsWordRead : Left → Option (Stage × List Text) → Option (Stage × Option Left) → Type 0
+abbrev pub IsWordRead : Left → Option (Stage × List Text) → Option (Stage × Option ℕ) → Type 0
 IsWordRead at o None = o ≡ None
 IsWordRead at o (Some w) = (ws : List Text) × (o ≡ Some (w.0, ws)) × IsShortPiece (piece_left at)
     × IsEarly w.0 w.1 × ((m : Left) → IsNextPiece at m → AreVariantsRead w.1 m ws)

@@ -1,58 +1,46 @@
 //! The words of an identifier: which may come next.
 ghost use Rattle.std.specs.Prelude.{◌≡◌, List, [], map};
-ghost use Rattle.std.specs.List.{list_any};
-ghost use Rattle.std.specs.Ordering.{eq_by_cmp};
-ghost use Rattle.iloc_spec_grammar.specs.Syntax.{Text, IsWord, Variant, lower, word_cmp};
+ghost use Rattle.iloc_spec_grammar.specs.Syntax.{Text, IsWord, Variant, lower};
 ghost use Rattle.iloc_pieces.specs.Left.{piece_left};
 ghost use Rattle.iloc_faults.specs.Next.{after_region_next, after_script_next, is_new, word_next};
-ghost use Rattle.iloc_faults.specs.States.{AreVariantsRead, AreVariantsBetween, IsEarly, IsWordRead};
+ghost use Rattle.iloc_faults.specs.States.{AreNew, AreVariantsRead, IsEarly, IsWordRead, are_same, variants_left};
 
+use crate::repeats::count_new;
 use crate::state::Stage;
 use iloc_normalize::Mode;
-use iloc_pieces::left::{Left, is_region, is_script, is_variant, next, word_number};
-
-// Whether a piece from the first variant on, before the piece, is the same word.
-fn is_repeated(first: Left<'_>, at: Left<'_>) -> bool
-    requires word { IsWord Variant (piece_left at) }
-    requires before { (ps : List Text) × AreVariantsBetween first at ps }
-    ensures { (ps : List Text) → AreVariantsBetween first.entry at.entry ps
-        → result ≡ list_any (eq_by_cmp word_cmp (lower (piece_left at.entry))) (map lower ps) }
-{
-    let word = word_number(at);
-    let mut earlier = first;
-    'variants: while earlier.at < at.at {
-        if word_number(earlier) == word {
-            return true;
-        }
-        earlier = next(earlier);
-    }
-    false
-}
+use iloc_pieces::left::{Left, is_region, is_script, is_variant};
 
 // Whether the piece, a variant, may follow the variants before it: it is none of them, and a data locale has one at most.
-fn is_new(mode: Mode, variants: Option<Left<'_>>, at: Left<'_>) -> bool
+fn is_new(mode: Mode, variants: Option<usize>, at: Left<'_>) -> bool
     requires word { IsWord Variant (piece_left at) }
     requires before { (vs : List Text) × AreVariantsRead variants at vs }
-    ensures { (vs : List Text) → AreVariantsRead variants.entry at.entry vs
+    ensures { (vs : List Text) → AreVariantsRead variants at.entry vs
         → result ≡ is_new mode vs (lower (piece_left at.entry)) }
 {
     match variants {
         None => true,
-        Some(first) => match mode {
+        Some(fresh) => match mode {
             Mode::Data => false,
-            _ => !is_repeated(first, at),
+            _ => fresh != 0,
         },
     }
 }
 
+// How many variants from the piece on are new.
+fn count_left(variants: Option<usize>, at: Left<'_>) -> usize
+    ensures { (vs : List Text) → AreVariantsRead variants at.entry vs
+        → AreNew are_same vs (map lower (variants_left at.entry)) result }
+{
+    match variants {
+        None => count_new(at),
+        Some(fresh) => fresh,
+    }
+}
+
 // What was read once the piece is read too, after a region.
-fn read_variant<'a>(
-    mode: Mode,
-    variants: Option<Left<'a>>,
-    at: Left<'a>,
-) -> Option<(Stage, Option<Left<'a>>)>
+fn read_variant(mode: Mode, variants: Option<usize>, at: Left<'_>) -> Option<(Stage, Option<usize>)>
     requires { (vs : List Text) × AreVariantsRead variants at vs }
-    ensures { (vs : List Text) → AreVariantsRead variants.entry at.entry vs
+    ensures { (vs : List Text) → AreVariantsRead variants at.entry vs
         → IsWordRead at.entry (after_region_next mode vs (piece_left at.entry)) result }
 {
     if !is_variant(at) {
@@ -61,14 +49,11 @@ fn read_variant<'a>(
     if !is_new(mode, variants, at) {
         return None;
     }
-    match variants {
-        None => Some((Stage::Region, Some(at))),
-        Some(first) => Some((Stage::Region, Some(first))),
-    }
+    Some((Stage::Region, Some(count_left(variants, at) - 1)))
 }
 
 // What was read once the piece is read too, after a script.
-fn read_region<'a>(mode: Mode, at: Left<'a>) -> Option<(Stage, Option<Left<'a>>)>
+fn read_region(mode: Mode, at: Left<'_>) -> Option<(Stage, Option<usize>)>
     ensures { IsWordRead at.entry (after_script_next mode [] (piece_left at.entry)) result }
 {
     if is_region(at) {
@@ -79,15 +64,15 @@ fn read_region<'a>(mode: Mode, at: Left<'a>) -> Option<(Stage, Option<Left<'a>>)
 
 /// What was read of an identifier once the piece is read too, and its first variant; `None` if the piece may not come
 /// next.
-pub fn read_word<'a>(
+pub fn read_word(
     mode: Mode,
     stage: Stage,
-    variants: Option<Left<'a>>,
-    at: Left<'a>,
-) -> Option<(Stage, Option<Left<'a>>)>
+    variants: Option<usize>,
+    at: Left<'_>,
+) -> Option<(Stage, Option<usize>)>
     requires before { (vs : List Text) × AreVariantsRead variants at vs }
     requires early { IsEarly stage variants }
-    ensures { (vs : List Text) → AreVariantsRead variants.entry at.entry vs
+    ensures { (vs : List Text) → AreVariantsRead variants at.entry vs
         → IsWordRead at.entry (word_next mode stage vs (piece_left at.entry)) result }
 {
     match stage {

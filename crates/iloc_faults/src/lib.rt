@@ -18,6 +18,7 @@ ghost use Rattle.iloc_faults.specs.Places.{IsAccepted, IsFault};
 
 mod identifier;
 pub mod laws;
+mod repeats;
 mod state;
 mod step;
 mod walk;
@@ -43,7 +44,8 @@ pub struct Fault {
 /// speak of another piece than the place: of `en-u-ca-foo-bar` as a data locale it speaks of `bar`, and the place is `ca`.
 /// This library's rule.
 ///
-/// It allocates nothing. It takes time in proportion to the text, but for variants: each is compared with those before it.
+/// It allocates nothing. It takes time in proportion to the text. A run of more than 16,384 variants is gone through again
+/// for each further 16,384 of them.
 ///
 /// ```text
 /// fault_of(Mode::Locale, b"en--US") // Some(Fault { refusal: InvalidSubtag, start: 3, end: 3 })

@@ -2,8 +2,6 @@
 ghost use Rattle.std.specs.Prelude.{◌≡◌};
 ghost use Rattle.iloc_faults.specs.Next.{may_end, takes_any};
 
-use iloc_pieces::left::Left;
-
 /// What was read of an identifier.
 #[derive(Clone, Copy, PartialEq, Eq)]
 pub enum Stage {
@@ -52,11 +50,11 @@ pub enum Part {
 
 /// What was read of a text.
 #[derive(Clone, Copy)]
-pub struct State<'a> {
+pub struct State {
     /// What was read last.
     pub part: Part,
-    /// The first variant of the identifier that is read, if it has one.
-    pub variants: Option<Left<'a>>,
+    /// Once the identifier that is read has a variant: how many that follow come before one that repeats a variant.
+    pub variants: Option<usize>,
     /// A bit for each singleton that was read.
     pub seen: u64,
 }

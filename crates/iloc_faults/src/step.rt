@@ -85,7 +85,7 @@ fn read_piece(part: Part, at: Left<'_>) -> Option<Part>
 
 // The state with this part, and no variants.
 #[inline]
-fn plain<'a>(seen: u64, part: Option<Part>) -> Option<State<'a>>
+fn plain(seen: u64, part: Option<Part>) -> Option<State>
     ensures { result ≡ option_map (bare seen) part }
 {
     match part {
@@ -99,11 +99,11 @@ fn plain<'a>(seen: u64, part: Option<Part>) -> Option<State<'a>>
 }
 
 // What was read once a piece is read that begins no block.
-fn read_inside<'a>(mode: Mode, state: State<'a>, at: Left<'a>) -> Option<State<'a>>
+fn read_inside(mode: Mode, state: State, at: Left<'_>) -> Option<State>
     requires { (vs : List Text) × (seen : List ℕ) × IsRead state at vs seen }
-    ensures { (vs : List Text) (seen : List ℕ) → IsRead state.entry at.entry vs seen
+    ensures { (vs : List Text) (seen : List ℕ) → IsRead state at.entry vs seen
         → IsPieceRead at.entry
-        (inside_next mode state.entry.part vs seen (piece_left at.entry)) result }
+        (inside_next mode state.part vs seen (piece_left at.entry)) result }
 {
     let seen = state.seen;
     match state.part {
@@ -176,10 +176,10 @@ fn may_begin(part: Part, at: Left<'_>) -> bool
 }
 
 // What was read with the singleton of a locale too, if a block may begin with it.
-fn read_block<'a>(state: State<'a>, at: Left<'a>) -> Option<State<'a>>
+fn read_block(state: State, at: Left<'_>) -> Option<State>
     requires { is_one_byte (piece_left at) ≡ true }
-    ensures { (vs : List Text) (seen : List ℕ) → IsRead state.entry at.entry vs seen
-        → IsPieceRead at.entry (block_next modes.Locale state.entry.part seen
+    ensures { (vs : List Text) (seen : List ℕ) → IsRead state at.entry vs seen
+        → IsPieceRead at.entry (block_next modes.Locale state.part seen
         (slice_index (piece_left at.entry) 0)) result }
 {
     if !may_begin(state.part, at) {
@@ -198,10 +198,10 @@ fn read_block<'a>(state: State<'a>, at: Left<'a>) -> Option<State<'a>>
 }
 
 // What was read with the singleton of a data locale too: `u` alone, after the identifier.
-fn read_data_block<'a>(state: State<'a>, at: Left<'a>) -> Option<State<'a>>
+fn read_data_block(state: State, at: Left<'_>) -> Option<State>
     requires { is_one_byte (piece_left at) ≡ true }
-    ensures { (vs : List Text) (seen : List ℕ) → IsRead state.entry at.entry vs seen
-        → IsPieceRead at.entry (block_next modes.Data state.entry.part seen
+    ensures { (vs : List Text) (seen : List ℕ) → IsRead state at.entry vs seen
+        → IsPieceRead at.entry (block_next modes.Data state.part seen
         (slice_index (piece_left at.entry) 0)) result }
 {
     match state.part {
@@ -211,10 +211,10 @@ fn read_data_block<'a>(state: State<'a>, at: Left<'a>) -> Option<State<'a>>
 }
 
 // What was read with the singleton too, in the mode.
-fn read_singleton<'a>(mode: Mode, state: State<'a>, at: Left<'a>) -> Option<State<'a>>
+fn read_singleton(mode: Mode, state: State, at: Left<'_>) -> Option<State>
     requires { is_one_byte (piece_left at) ≡ true }
-    ensures { (vs : List Text) (seen : List ℕ) → IsRead state.entry at.entry vs seen
-        → IsPieceRead at.entry (block_next mode state.entry.part seen
+    ensures { (vs : List Text) (seen : List ℕ) → IsRead state at.entry vs seen
+        → IsPieceRead at.entry (block_next mode state.part seen
         (slice_index (piece_left at.entry) 0)) result }
 {
     match mode {
@@ -233,11 +233,11 @@ fn begins_block(part: Part, at: Left<'_>) -> bool
 }
 
 /// What was read with the piece too; `None` if the piece may not come next.
-pub fn step<'a>(mode: Mode, state: State<'a>, at: Left<'a>) -> Option<State<'a>>
+pub fn step(mode: Mode, state: State, at: Left<'_>) -> Option<State>
     requires { (vs : List Text) × (seen : List ℕ) × IsRead state at vs seen }
-    ensures { (vs : List Text) (seen : List ℕ) → IsRead state.entry at.entry vs seen
+    ensures { (vs : List Text) (seen : List ℕ) → IsRead state at.entry vs seen
         → IsPieceRead at.entry
-        (steps.next mode (reached state.entry.part vs seen) (piece_left at.entry)) result }
+        (steps.next mode (reached state.part vs seen) (piece_left at.entry)) result }
 {
     if begins_block(state.part, at) {
         return read_singleton(mode, state, at);

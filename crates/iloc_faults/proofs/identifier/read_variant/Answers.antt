@@ -1,19 +1,16 @@
-use Rattle.std.proofs.Common.{Option, sym, ◌∙◌, subst}
-use Rattle.iloc_pieces.specs.declared.cursor.Left.{Left}
-use Rattle.iloc_faults.specs.States.{AreVariantsRead}
-use Rattle.iloc_faults.proofs.StepReadings.{variant_first, variant_more}
+use Rattle.std.proofs.Common.{sym, ◌∙◌}
+use Rattle.iloc_faults.proofs.StepReadings.{new_at_least, variant_read}
 use Rattle.iloc_faults.proofs.identifier.read_variant.Goals as goal
 
-pub returns-in-None : goal.returns-in-None
-returns-in-None c vs h =
-    variant_first c.args.mode vs c.args.at
+pub overflow_sub-result : goal.overflow_sub-result
+overflow_sub-result c =
+    let q = c.requires in
+    new_at_least c.args.mode q.0 c.args.at c.count_left.result
     (sym c.is_variant.ensures ∙ c.if-not-is_variant.false)
-    (sym (c.is_new.ensures vs h) ∙ c.if-not-is_new.false)
-    (subst (λ (o : Option Left). AreVariantsRead o c.args.at vs) c.in-None.is h)
+    (sym (c.is_new.ensures q.0 q.1) ∙ c.if-not-is_new.false) (c.count_left.ensures q.0 q.1)
 
-pub returns-in-Some : goal.returns-in-Some
-returns-in-Some c vs h =
-    variant_more c.args.mode vs c.args.at c.in-Some.first
+pub returns : goal.returns
+returns c vs h =
+    variant_read c.args.mode vs c.args.at c.count_left.result
     (sym c.is_variant.ensures ∙ c.if-not-is_variant.false)
-    (sym (c.is_new.ensures vs h) ∙ c.if-not-is_new.false)
-    (subst (λ (o : Option Left). AreVariantsRead o c.args.at vs) c.in-Some.is h)
+    (sym (c.is_new.ensures vs h) ∙ c.if-not-is_new.false) (c.count_left.ensures vs h)
