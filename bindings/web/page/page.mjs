@@ -1,6 +1,8 @@
 // The page. `library` is the package.
 const library = /*LIBRARY*/;
+/*HELPERS*/
 const { compare, findFault, isNarrow, partsOfNormal, size, tryNormalize } = library;
+const expected = expecting(library);
 
 const find = id => document.getElementById(id);
 const make = (name, attributes = {}, ...children) => {
@@ -12,31 +14,79 @@ const make = (name, attributes = {}, ...children) => {
 const text = find('text'), answer = find('answer'), other = find('other'), compared = find('compared');
 const mode = () => find('form').elements.mode.value;
 const MODES = { langid: 'a language identifier', locale: 'a locale', data: 'a data locale' };
-const EXAMPLES = ['zh-HANT-tw', 'sr-latn-rs-ekavsk', 'de-DE-u-co-phonebk-ca-islamic-civil', 'en-t-de-latn-m0-true-x-Priv',
+const SAMPLES = ['zh-HANT-tw', 'sr-latn-rs-ekavsk', 'de-DE-u-co-phonebk-ca-islamic-civil', 'en-t-de-latn-m0-true-x-Priv',
   'en_US.UTF-8', 'en-US-foo', 'de-u-ca-buddhist-u-hc-h12', 'en-GB-u-sd-gbeng'];
-const NAMES = { language: 'language', script: 'script', region: 'region', variant: 'variant', singleton: 'extension',
-  attribute: 'attribute', key: 'key', field: 'field', value: 'value', other: 'subtag', private: 'private' };
 const BEYOND = 'BeyondLimits';
 
-// One text.
+// What is said once, to those who hear the page.
+const say = words => { find('said').textContent = words; };
+
+// Copies a text, also where the page has no secure context: says whether it could.
+async function copy(it) {
+  try {
+    await navigator.clipboard.writeText(it);
+    return true;
+  } catch {
+    const area = make('textarea', { class: 'hidden', readonly: '', 'aria-hidden': 'true' });
+    const focused = document.activeElement;
+    area.value = it;
+    document.body.append(area);
+    area.select();
+    const isDone = document.execCommand('copy');
+    area.remove();
+    focused?.focus();
+    return isDone;
+  }
+}
+
+// An accepted text.
+
+// What a piece is, in words: of a key or a value by its name, else by its kind.
+function meaningOf(pieces, at) {
+  const { text, kind, of } = pieces[at], [name, , words] = KINDS[kind];
+  if (kind === 'key' || kind === 'field') return `${text}: ${KEYS[text] ?? words}`;
+  if (kind === 'singleton') return `${text}: ${{ u: 'Settings of the locale: what follows has keys and values.', t: 'The text was transformed, from what follows.', x: 'Private use: what follows has no meaning here.' }[text] ?? words}`;
+  const key = kind === 'value' ? pieces.slice(0, at).findLast(it => it.kind === 'key' || it.kind === 'field')?.text : undefined;
+  if (key === undefined) return `${text}: ${name}. ${words}`;
+  return `${text}: ${VALUES[`${key} ${text}`] ?? `value of ${key}. ${KEYS[key] ?? words}`}${of === 't' ? ' (of the transformation)' : ''}`;
+}
 
 function shownPieces(pieces) {
-  const list = make('ul', { class: 'pieces', dir: 'ltr', 'aria-label': 'Its pieces' });
-  for (const { text, kind } of pieces)
-    list.append(make('li', { class: `piece ${kind}` }, make('b', {}, text), make('small', {}, NAMES[kind])));
-  return list;
+  const list = make('ul', { class: 'pieces', dir: 'ltr', 'aria-label': 'Its pieces: press one for what it is' });
+  const note = make('p', { class: 'note faint', role: 'status', 'aria-live': 'polite' }, 'Press a piece for what it is.');
+  pieces.forEach(({ text, kind }, at) => {
+    const button = make('button', { type: 'button', class: `piece ${kind}`, 'aria-pressed': 'false' }, make('b', {}, text), make('small', {}, KINDS[kind][0]));
+    button.addEventListener('click', () => {
+      for (const it of list.querySelectorAll('button')) it.setAttribute('aria-pressed', String(it === button));
+      note.textContent = meaningOf(pieces, at);
+    });
+    list.append(make('li', {}, button));
+  });
+  return [list, note];
 }
 
 function shownNormal(normal) {
-  const copy = make('button', { type: 'button', 'aria-label': 'Copy the normal text' }, 'Copy');
-  copy.addEventListener('click', async () => {
-    await navigator.clipboard.writeText(normal);
-    copy.textContent = 'Copied';
+  const button = make('button', { type: 'button', 'aria-label': 'Copy the normal text' }, 'Copy');
+  button.addEventListener('click', async () => {
+    const isDone = await copy(normal);
+    button.textContent = isDone ? 'Copied' : 'Not copied';
+    say(isDone ? 'The normal text is copied.' : 'The browser did not copy it: select the text and copy it by hand.');
   });
-  return make('div', { class: 'normal-row' }, make('output', { class: 'normal mono', dir: 'ltr', for: 'text' }, normal), copy);
+  return make('div', { class: 'normal-row' }, make('output', { class: 'normal mono', dir: 'ltr', for: 'text' }, normal), button);
 }
 
-function rowsOf(it) {
+// What `Intl` of this browser makes of the text: its own normal text, and a name of it.
+function ofIntl(written) {
+  try {
+    const [it] = Intl.getCanonicalLocales(written);
+    const name = new Intl.DisplayNames('en', { type: 'language' }).of(new Intl.Locale(it).baseName);
+    return `${it} (${name})`;
+  } catch (error) {
+    return error instanceof RangeError ? 'refuses it' : 'is not here';
+  }
+}
+
+function rowsOf(it, written) {
   const rows = [['Language', it.language], ['Script', it.script], ['Region', it.region], ['Variants', it.variants.join(', ')],
     ['Attributes', it.attributes.join(', ')],
     ...Object.entries(it.keywords).map(([key, value]) => [`Keyword ${key}`, value || '(true)'])];
@@ -46,35 +96,85 @@ function rowsOf(it) {
     rows.push(['Transformed from', from], ...Object.entries(fields).map(([key, value]) => [`Field ${key}`, value]));
   }
   rows.push(...Object.entries(it.others).map(([key, value]) => [`Extension ${key}`, value]), ['Private', it.private.join('-')]);
-  return rows.filter(([, value]) => value);
+  return [...rows, ['Intl of this browser', ofIntl(written)]].filter(([, value]) => value);
 }
 
-function shownParts(it) {
+function shownParts(it, written) {
   const body = make('tbody');
-  for (const [name, value] of rowsOf(it))
+  for (const [name, value] of rowsOf(it, written))
     body.append(make('tr', {}, make('th', { scope: 'row' }, name), make('td', { class: 'mono' }, value)));
   return make('table', {}, make('caption', { class: 'hidden' }, 'Its parts'), body);
 }
 
-function shownFault(written) {
-  const { start, end } = findFault(written, mode());
+// A refused text.
+
+const oneOf = words => words.length < 2 ? words.join('') : `${words.slice(0, -1).join(', ')}, or ${words.at(-1)}`;
+
+// What may stand at the place of the fault.
+function mayStand(written, start) {
+  const begins = written.slice(0, start), at = begins === '' || begins.endsWith('-') ? begins : `${begins}-`;
+  const kinds = expected(at, mode()), words = Object.keys(KINDS).filter(it => kinds.includes(it)).map(it => KINDS[it][1]);
+  if (start > 0 && tryNormalize(begins.replace(/-$/, ''), mode()).normal !== undefined) words.push('the end of the text');
+  return words.length === 0 ? '' : `Here may stand ${oneOf(words)}.`;
+}
+
+// What is wrong with the piece at the place.
+function wrongPiece(written, { start, end, code }) {
   const pieces = written.split('-'), piece = written.slice(start, end), number = written.slice(0, start).split('-').length;
-  const echo = make('div', { class: 'echo mono', dir: 'ltr' }, written.slice(0, start), make('mark', {}, piece || '␣'), written.slice(end));
-  const isEarly = start === written.length && pieces[pieces.length - 1] !== '';
-  const where = isEarly ? 'It ends too early: more is wanted after the last piece.'
-    : piece === '' ? `Piece ${number} of ${pieces.length} is empty.`
-    : `Piece ${number} of ${pieces.length}, “${piece}”, is the first with which no accepted text goes on.`;
-  return [echo, make('p', {}, where)];
+  const before = written.slice(0, start).toLowerCase().split('-');
+  if (start === written.length && pieces.at(-1) !== '') return 'The text ends too early.';
+  if (piece === '') return `Piece ${number} of ${pieces.length} is empty.`;
+  const which = `“${piece}”, piece ${number} of ${pieces.length},`;
+  if (code === 'DuplicatedExtension') return `${which} begins an extension that the text has already.`;
+  if (before.includes(piece.toLowerCase())) return `${which} may not stand here: it stands there already.`;
+  return `${which} may not stand here.`;
+}
+
+// What to write instead of a name that is none here, with words of why.
+function hints(written) {
+  const bare = written.trim(), found = [];
+  if (/^(C|POSIX)([._@].*)?$/i.test(bare)) found.push(['und', 'That is a name of POSIX systems for no language. Write'], ['en-US-u-va-posix', 'or, if English as a computer writes it is meant,']);
+  if (/^root$/i.test(bare)) found.push(['und', 'CLDR’s root has another name here. Write']);
+  for (const it of [cleaned(withoutMark(written)), cleaned(bare).replace(/\s+/g, '-')])
+    if (it !== written && !found.some(([text]) => text === it)) found.push([it, found.length ? 'or' : 'Write']);
+  return found.filter(([it]) => tryNormalize(it, mode()).normal !== undefined);
+}
+
+function shownHints(written) {
+  const found = hints(written), line = make('p', {});
+  for (const [it, words] of found) {
+    const button = make('button', { type: 'button', class: 'mono' }, it);
+    button.addEventListener('click', () => { take(it); text.focus(); });
+    line.append(`${words} `, button, ' ');
+  }
+  return found.length ? [line] : [];
+}
+
+function shownFault(written, message) {
+  const fault = findFault(written, mode()), { start, end } = fault;
+  const echo = make('div', { class: 'echo mono', dir: 'ltr' }, written.slice(0, start), make('mark', {}, written.slice(start, end) || '␣'), written.slice(end));
+  const wrong = wrongPiece(written, fault), may = mayStand(written, start);
+  say(`Refused: ${message}. ${wrong}`);
+  return [make('p', { class: 'refused' }, `${message}.`), echo, make('p', {}, `${wrong} ${may}`), ...shownHints(written),
+    make('p', { class: 'faint' }, `Intl of this browser: ${ofIntl(written)}.`)];
 }
 
 function shownAnswer(written) {
   const it = tryNormalize(written, mode());
-  if (it.code === BEYOND)
+  text.setAttribute('aria-invalid', String(written !== '' && it.code !== undefined && it.code !== BEYOND));
+  if (it.code === BEYOND) {
+    say('This text is beyond the limits.');
     return [make('p', {}, 'This text is beyond the limits: it has more than 64 pieces or 65,535 bytes. It may be good or not.')];
-  if (it.code !== undefined) return [make('p', { class: 'refused' }, `${it.message}.`), ...shownFault(written)];
-  const found = partsOfNormal(it.normal);
-  const say = it.normal === written ? `It is ${MODES[mode()]}, and its own normal text.` : `It is ${MODES[mode()]}. This is its normal text.`;
-  return [shownNormal(it.normal), make('div', { class: 'faint' }, say), shownPieces(found.pieces), shownParts(found)];
+  }
+  if (written === '') {
+    say('');
+    return [make('p', { class: 'faint' }, 'Type a text, or take an example.')];
+  }
+  if (it.code !== undefined) return shownFault(written, it.message);
+  const found = partsOfNormal(it.normal), is = `It is ${MODES[mode()]}`;
+  say(`${is}: ${it.normal}`);
+  const words = it.normal === written ? `${is}, and its own normal text.` : `${is}. This is its normal text.`;
+  return [shownNormal(it.normal), make('div', { class: 'faint' }, words), ...shownPieces(found.pieces), shownParts(found, written)];
 }
 
 function comparedText(written, second) {
@@ -88,20 +188,58 @@ function comparedText(written, second) {
   }
 }
 
-function show() {
-  answer.replaceChildren(...shownAnswer(text.value));
-  compared.textContent = comparedText(text.value, other.value);
-  const words = new URLSearchParams({ text: text.value, mode: mode() });
-  if (other.value !== '') words.set('other', other.value);
-  find('link').href = `#${words}`;
+// A call that fails is shown, and no answer to another text stays.
+function shown(part, call) {
+  try {
+    return call();
+  } catch (error) {
+    say('An error in the page.');
+    return [make('p', { class: 'refused' }, `The page failed at this ${part}: ${error.message}`)];
+  }
 }
 
-// Takes text, other text and mode from the address.
+// The address, which follows what is shown, and is followed where it changes.
+
+const MOST_IN_ADDRESS = 8000;
+const addressOf = (written, second = '') => {
+  const words = new URLSearchParams({ text: written, mode: mode() });
+  if (second !== '') words.set('other', second);
+  return `#${words}`;
+};
+
+function show() {
+  answer.replaceChildren(...shown('text', () => shownAnswer(text.value)));
+  compared.textContent = comparedText(text.value, other.value);
+  find('link').href = addressOf(text.value, other.value);
+}
+
+// Shows, and has the address follow: by a new entry of the history, or in the place of the present one.
+let waits = 0;
+function showAndFollow(isNew) {
+  show();
+  clearTimeout(waits);
+  const address = find('link').getAttribute('href');
+  if (address.length > MOST_IN_ADDRESS) return;
+  // (an engine takes so many changes of the address alone)
+  const put = () => { try { history[isNew ? 'pushState' : 'replaceState'](null, '', address); } catch { /* (it has had enough) */ } };
+  if (isNew) put(); else waits = setTimeout(put, 300);
+}
+
+function take(it) {
+  text.value = it;
+  showAndFollow(true);
+}
+
+// A field of one line leaves newlines out, so that what stands around them would melt together.
+const oneLine = it => it.replace(/\r\n|[\r\n]/g, ' ');
+
+// Takes text, other text and mode from the address. Without a hash these stay.
 function follow() {
-  const words = new URLSearchParams(location.hash.slice(1));
-  if (!words.has('text')) return;
-  text.value = words.get('text');
-  other.value = words.get('other') ?? '';
+  const hash = location.hash.slice(1), words = new URLSearchParams(hash);
+  if (hash === '') return;
+  clearTimeout(waits);
+  text.value = oneLine(words.get('text') ?? '');
+  other.value = oneLine(words.get('other') ?? '');
   const wanted = Object.hasOwn(MODES, words.get('mode') ?? '') ? words.get('mode') : 'locale';
   for (const it of find('form').elements.mode) it.checked = it.value === wanted;
 }
@@ -116,8 +254,16 @@ function* partsOfString(it) {
   for (let at = 0; at < it.length; at += 1 << 16) yield it.slice(at, at + (1 << 16));
 }
 
-async function* partsOfFile(file) {
-  const decoder = new TextDecoder('utf-8', { ignoreBOM: true });
+// How a file that begins with these bytes is written: by its mark, or by where zeros stand.
+function encodingOf([a, b, c, d]) {
+  if (a === 0xff && b === 0xfe) return 'utf-16le';
+  if (a === 0xfe && b === 0xff) return 'utf-16be';
+  if (a && b === 0 && (d === 0 || d === undefined)) return 'utf-16le';
+  return a === 0 && b && (c === 0 || c === undefined) ? 'utf-16be' : 'utf-8';
+}
+
+async function* partsOfFile(file, encoding) {
+  const decoder = new TextDecoder(encoding, { ignoreBOM: encoding === 'utf-8' });
   for (let at = 0; at < file.size; at += 1 << 18)
     yield decoder.decode(await file.slice(at, at + (1 << 18)).arrayBuffer(), { stream: true });
   yield decoder.decode();
@@ -135,25 +281,37 @@ async function* linesOf(parts) {
   if (rest !== '') yield { lines: [rest], read };
 }
 
-const cleaned = (line, isFirst) => (isFirst ? line.replace(/^\uFEFF/, '') : line).replace(/^[ \t\r]+|[ \t\r]+$/g, '');
-
 const pause = () => new Promise(done => setTimeout(done));
+const ESCAPES = { '\t': '\\t', '\r': '\\r', '\n': '\\n', '\\': '\\\\' };
+const escaped = it => /[\t\r\n\\]/.test(it) ? it.replace(/[\t\r\n\\]/g, found => ESCAPES[found]) : it;
+const HEAD = 'line\ttext\tnormal\trefusal\tstart\tend\n';
 
 class Answers {
-  constructor(mode, isCleaned) {
-    Object.assign(this, { mode, isCleaned, count: 0, good: 0, refused: 0, beyond: 0, shown: [], texts: [] });
+  constructor(mode, isCleaned, isRefusedOnly) {
+    Object.assign(this, { mode, isCleaned, isRefusedOnly, count: 0, good: 0, refused: 0, beyond: 0, blank: 0, rows: 0, shown: [], texts: [HEAD] });
   }
 
   // Answers a line, and returns what is saved of it.
   take(line) {
-    const written = this.isCleaned ? cleaned(line, this.count === 0) : line;
-    const it = tryNormalize(written, this.mode), said = it.normal ?? `! ${it.message}`;
-    if (it.normal !== undefined) this.good++;
-    else if (it.code === BEYOND) this.beyond++;
-    else this.refused++;
-    if (this.count < FEW) this.shown.push([written, said]);
+    const first = this.count === 0 ? withoutMark(line) : line, written = this.isCleaned ? cleaned(first) : line;
     this.count++;
-    return `${written}\t${said}\n`;
+    if (written.trim() === '') {
+      this.blank++;
+      return this.isRefusedOnly ? '' : this.row('');
+    }
+    const { normal, code, message } = tryNormalize(written, this.mode);
+    if (normal !== undefined) this.good++;
+    else if (code === BEYOND) this.beyond++;
+    else this.refused++;
+    if (normal !== undefined) return this.isRefusedOnly ? '' : this.row(written, normal);
+    const place = findFault(written, this.mode);
+    return this.row(written, '', message, place?.start, place?.end);
+  }
+
+  row(written, normal = '', message = '', start = '', end = '') {
+    this.rows++;
+    if (this.shown.length < FEW) this.shown.push({ number: this.count, written, normal, message, start, end });
+    return `${this.count}\t${escaped(written)}\t${normal}\t${message}\t${start}\t${end}\n`;
   }
 
   // Answers lines for at most some milliseconds at a time, then lets the page draw.
@@ -169,19 +327,24 @@ class Answers {
   }
 
   words() {
-    const beyond = this.beyond === 0 ? '' : `, ${this.beyond} beyond the limits`;
+    const some = (count, what) => count === 0 ? '' : `, ${count.toLocaleString('en')} ${what}`;
     return `${this.count.toLocaleString('en')} lines as ${MODES[this.mode]}: ${this.good.toLocaleString('en')} good, `
-      + `${this.refused.toLocaleString('en')} refused${beyond}`;
+      + `${this.refused.toLocaleString('en')} refused${some(this.beyond, 'beyond the limits')}${some(this.blank, 'blank')}`;
   }
 }
 
-function shownLines({ shown, count }) {
-  const body = make('tbody');
-  for (const [written, said] of shown)
-    body.append(make('tr', {}, make('td', { class: 'mono' }, written), make('td', { class: said.startsWith('! ') ? 'refused' : 'mono' }, said)));
-  const head = make('tr', {}, make('th', { scope: 'col' }, 'Text'), make('th', { scope: 'col' }, 'Answer'));
-  const caption = count > FEW ? `The first ${FEW} lines; the download has all.` : 'All lines';
-  return make('table', {}, make('caption', { class: 'faint' }, caption), make('thead', {}, head), body);
+function shownRow({ number, written, normal, message, start, end }) {
+  const place = start === '' ? '' : `${start}..${end}`;
+  const link = written === '' ? '' : make('a', { href: addressOf(written), class: 'mono' }, written);
+  return make('tr', {}, make('td', { class: 'number' }, String(number)), make('td', {}, link),
+    make('td', { class: message === '' ? 'mono' : 'refused' }, message || normal), make('td', { class: 'mono' }, place));
+}
+
+function shownLines({ shown, rows, isRefusedOnly }) {
+  const head = make('tr', {}, ...['Line', 'Text', 'Answer', 'Place'].map(it => make('th', { scope: 'col' }, it)));
+  const what = isRefusedOnly ? 'refused lines' : 'lines';
+  const caption = rows > FEW ? `The first ${FEW} ${what}; the saved table has all.` : `All ${what}`;
+  return make('table', {}, make('caption', { class: 'faint' }, caption), make('thead', {}, head), make('tbody', {}, ...shown.map(shownRow)));
 }
 
 function begin(all) {
@@ -191,9 +354,8 @@ function begin(all) {
   Object.assign(find('progress'), { max: Math.max(all, 1), value: 0, hidden: false });
 }
 
-async function answerParts(parts, all) {
-  begin(all);
-  const answers = new Answers(mode(), find('clean').checked), start = performance.now();
+async function answerParts(parts, note = '') {
+  const answers = new Answers(mode(), find('clean').checked, find('refused-only').checked), start = performance.now();
   for await (const { lines, read } of linesOf(parts)) {
     await answers.takeAll(lines);
     if (isStopped) break;
@@ -201,12 +363,25 @@ async function answerParts(parts, all) {
     find('counts').textContent = `${answers.words()}; going on`;
   }
   const time = `${((performance.now() - start) / 1000).toFixed(1)} seconds`;
-  find('counts').textContent = `${answers.words()}; ${isStopped ? 'stopped after' : 'in'} ${time}.`;
+  find('counts').textContent = `${answers.words()}; ${isStopped ? 'stopped after' : 'in'} ${time}${note}.`;
   find('answers').replaceChildren(shownLines(answers));
   find('answers').hidden = false;
   saved = new Blob(answers.texts, { type: 'text/tab-separated-values' });
   find('run').disabled = find('file').disabled = find('save').disabled = false;
   find('stop').disabled = true;
+}
+
+async function answerFile(file) {
+  begin(file.size);
+  const encoding = encodingOf(new Uint8Array(await file.slice(0, 4).arrayBuffer()));
+  if (encoding !== 'utf-8') find('progress').max = Math.max(file.size / 2, 1);
+  await answerParts(partsOfFile(file, encoding), encoding === 'utf-8' ? '' : '; the file is UTF-16');
+}
+
+function answerLines() {
+  const { value } = find('lines');
+  begin(value.length);
+  return answerParts(partsOfString(value));
 }
 
 function save() {
@@ -217,22 +392,35 @@ function save() {
 
 // What happens when.
 
-for (const it of EXAMPLES) {
+for (const it of SAMPLES) {
   const button = make('button', { type: 'button', class: 'mono' }, it);
-  button.addEventListener('click', () => { text.value = it; show(); });
+  button.addEventListener('click', () => take(it));
   find('examples').append(make('li', {}, button));
 }
 find('form').addEventListener('submit', event => event.preventDefault());
-text.addEventListener('input', show);
-other.addEventListener('input', show);
-find('modes').addEventListener('change', show);
-window.addEventListener('hashchange', () => { follow(); show(); });
-find('run').addEventListener('click', () => answerParts(partsOfString(find('lines').value), find('lines').value.length));
-find('file').addEventListener('change', ({ target }) => target.files[0] && answerParts(partsOfFile(target.files[0]), target.files[0].size));
+text.addEventListener('input', () => showAndFollow(false));
+other.addEventListener('input', () => showAndFollow(false));
+find('modes').addEventListener('change', () => showAndFollow(true));
+// (an entry of the history without a hash is the page as it was opened)
+const opened = text.value;
+window.addEventListener('popstate', () => {
+  if (location.hash === '') text.value = opened;
+  follow();
+  show();
+});
+find('run').addEventListener('click', answerLines);
+find('file').addEventListener('change', ({ target }) => target.files[0] && answerFile(target.files[0]));
+for (const name of ['dragenter', 'dragover', 'dragleave', 'drop']) {
+  find('list').addEventListener(name, event => {
+    if (!event.dataTransfer?.types.includes('Files')) return;
+    event.preventDefault();
+    find('list').classList.toggle('over', name === 'dragenter' || name === 'dragover');
+    if (name === 'drop' && find('stop').disabled && event.dataTransfer.files[0]) answerFile(event.dataTransfer.files[0]);
+  });
+}
 find('stop').addEventListener('click', () => { isStopped = true; });
 find('save').addEventListener('click', save);
 find('size').textContent = size.toLocaleString('en');
-find('not-proved').textContent = 'The place of a fault and what each piece is are proved too.';
 find('form-of-module').textContent = isNarrow
   ? 'This browser has no 64-bit memory for WebAssembly, so a form of the module for 32 bits is used, made by a tool that nothing proves.' : '';
 follow();

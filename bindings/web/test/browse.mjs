@@ -2,7 +2,7 @@
 // prints what was not as wanted, and figures.
 import { writeFileSync } from 'node:fs';
 import { start, wait } from './browsers.mjs';
-import { CONTRAST, USE } from './use_page.mjs';
+import { BORDERS, CONTRAST, USE } from './use_page.mjs';
 
 const [browser, page, pictures] = process.argv.slice(2);
 const url = `file://${page}`;
@@ -23,10 +23,14 @@ try {
   await it.size?.(1000, 1250);
   await opened();
   const narrow = await it.run('document.querySelector("#form-of-module").innerText !== ""');
-  // by keys alone: from the text past the modes, Copy and the link to the first example
+  // by keys alone: from the text past the modes, their explanation, Copy, the pieces and the link to the first example
   await it.run('document.querySelector("#text").focus()');
-  for (let i = 0; i < 4; i++) await it.press('Tab');
-  see('the keys lead to the first example', (await it.run('document.activeElement.textContent')) === 'zh-HANT-tw', await it.run('document.activeElement.textContent'));
+  const focused = () => it.run('document.activeElement.textContent'), passed = [];
+  for (let i = 0; i < 20 && passed.at(-1) !== 'zh-HANT-tw'; i++) {
+    await it.press('Tab');
+    passed.push(await focused());
+  }
+  see('the keys lead to the first example', passed.join(' ').includes('Copy enlanguage Latnscript') && passed.at(-1) === 'zh-HANT-tw', passed);
   if (it.scheme) { // (Firefox's protocol moves the focus, but presses no button)
     await it.press('Enter');
     see('Enter takes it', (await it.run('document.querySelector(".normal").innerText')) === 'zh-Hant-TW', await it.run('document.querySelector("#answer").innerText'));
@@ -37,6 +41,8 @@ try {
       await it.run(`void (document.querySelector('#text').value = '${text}', document.querySelector('#text').dispatchEvent(new Event('input')))`);
       const contrast = await it.run(CONTRAST);
       see(`contrast, ${scheme}, ${text}`, contrast >= 4.5, contrast);
+      const borders = await it.run(BORDERS);
+      see(`borders, ${scheme}, ${text}`, borders >= 3, borders);
       if (pictures) writeFileSync(`${pictures}/${browser}_${scheme}_${text.length > 20 ? 'normal' : 'refused'}.png`, await it.picture(), 'base64');
     }
   }
