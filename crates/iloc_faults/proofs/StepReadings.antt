@@ -89,14 +89,6 @@ new_at_least mode vs at n e new h =
 -- ---- words of an identifier
 
 module _ (mode : Mode) (vs : List Text) (at : Left) where
-  pub variant_none : is_word Variant (piece_left at) ≡ false →
-      IsWordRead at (after_region_next mode vs (piece_left at)) None
-  variant_none e = rw e refl
-
-  pub variant_old : is_word Variant (piece_left at) ≡ true → is_new mode vs (lower (piece_left at)) ≡ false →
-      IsWordRead at (after_region_next mode vs (piece_left at)) None
-  variant_old e n = rw (e, n) refl
-
   both : is_word Variant (piece_left at) ≡ true → is_new mode vs (lower (piece_left at)) ≡ true →
       after_region_next mode vs (piece_left at) ≡ Some (Region, vs ++ (lower (piece_left at) ∷ []))
   both e n = rw (e, n) refl
@@ -183,11 +175,6 @@ word_read of none at bits seen h o w (ws, e, short, early, more) = (
   λ m next. record { seen_are = h; variants_are = more m next; early = none w.0 w.1 early },
 )
 
-pub no_word_read : (of : Stage → Part) (at : Left) (seen : List ℕ) (o : Option (Stage × List Text)) →
-    IsWordRead at o None →
-    IsPieceRead at (option_map (λ (x : Stage × List Text). reached (of x.0) x.1 seen) o) None
-no_word_read of at seen o e = ap (option_map (λ (x : Stage × List Text). reached (of x.0) x.1 seen)) e
-
 -- ---- singletons
 
 -- its singleton was seen
@@ -268,11 +255,6 @@ module _ (mode : Mode) (at : Left) (part : Part) (vs : List Text) (seen : List �
   head_read stage e w r =
       rw e (word_read Head (λ s f x. x) at bits seen h (word_next mode stage vs (piece_left at)) w r)
 
-  pub head_not : (stage : Stage) → part ≡ Head stage →
-      IsWordRead at (word_next mode stage vs (piece_left at)) None →
-      IsPieceRead at (inside_next mode part vs seen (piece_left at)) None
-  head_not stage e r = rw e (no_word_read Head at seen (word_next mode stage vs (piece_left at)) r)
-
   pub source_read : (stage : Stage) → part ≡ Source stage →
       is_word kinds.TransformKey (piece_left at) ≡ false → (w : Stage × Option ℕ) →
       IsWordRead at (word_next mode stage vs (piece_left at)) (Some w) →
@@ -280,12 +262,6 @@ module _ (mode : Mode) (at : Left) (part : Part) (vs : List Text) (seen : List �
       (Some (record { part = Source w.0; variants = w.1; seen = bits }))
   source_read stage e k w r =
       rw (e, k) (word_read Source (λ s f x. x) at bits seen h (word_next mode stage vs (piece_left at)) w r)
-
-  pub source_not : (stage : Stage) → part ≡ Source stage →
-      is_word kinds.TransformKey (piece_left at) ≡ false →
-      IsWordRead at (word_next mode stage vs (piece_left at)) None →
-      IsPieceRead at (inside_next mode part vs seen (piece_left at)) None
-  source_not stage e k r = rw (e, k) (no_word_read Source at seen (word_next mode stage vs (piece_left at)) r)
 
 -- the part is inside another block
 abbrev is_inside : Part → Bool

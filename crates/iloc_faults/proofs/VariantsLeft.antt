@@ -136,10 +136,6 @@ pub one_and_more : (l : Left) (ps : List Text) → pieces_left l ≡ piece_left 
     is_word Variant (piece_left l) ≡ true → variants_left l ≡ piece_left l ∷ first_variants ps
 one_and_more l ps e h = ap first_variants e ∙ rw h refl
 
-pub not_one : (l : Left) (ps : List Text) → pieces_left l ≡ piece_left l ∷ ps →
-    is_word Variant (piece_left l) ≡ false → variants_left l ≡ []
-not_one l ps e h = ap first_variants e ∙ rw h refl
-
 pub one_alone : (l : Left) → l.n ≡ l.len → is_word Variant (piece_left l) ≡ true →
     length (variants_left l) ≡ 1
 one_alone l e h =

@@ -46,25 +46,6 @@ module _ (l : Left) where
   byte_is : (k : ℕ) → k < l.len → get_or (bytes_left l) k 0 ≡ get_or l.window.now (l.at + k) 0
   byte_is k less = get_or-take l.len (drop l.at l.window.now) k 0 less ∙ get_or-drop l.at l.window.now k 0
 
-  pub scan_starts : IsScanned l l.at
-  scan_starts = record { from = omega arith; to = omega arith; none = λ k less. absurd (omega arith) }
-
-  pub scan_more : (end : ℕ) → IsScanned l end → end < l.at + l.len → get_or l.window.now end 0 ≢ 45 →
-      IsScanned l (end + 1)
-  scan_more end s less other = record {
-    from = let f = s.from in omega arith;
-    to = omega arith;
-    none = λ k m e. by k m e;
-  }
-    where
-      by : (k : ℕ) → k < end + 1 - l.at → get_or l.window.now (l.at + k) 0 ≡ 45 → ⊥
-      by k m e = elim (cases_lt k (end - l.at)) [
-        | inl b ↦ s.none k b e
-        | inr b ↦ let f = s.from in
-            let same : l.at + k ≡ end = omega arith in
-            other (ap (λ i. get_or l.window.now i 0) (sym same) ∙ e)
-      ]
-
   pub scan_ends : (end : ℕ) → IsScanned l end → (end < l.at + l.len → get_or l.window.now end 0 ≡ 45) →
       end ≡ l.at + length (piece_left l)
   scan_ends end s ends =
