@@ -1,14 +1,14 @@
 //! Why a row is refused.
-ghost use Rattle.std.specs.Prelude.{◌≡◌, Some};
+ghost use Rattle.std.specs.Prelude.{◌≡◌};
 ghost use Rattle.iloc_json.specs.CarryError.{words_of};
 ghost use Rattle.iloc_json.specs.declared.carry_error.CarryError.TheVariants.{OutOfMemory};
 
 use std::alloc::{AllocError, AllocFailed};
-use std::error::Error;
-use std::fmt;
+use thiserror::Error;
 
 /// Why a row of old raw forms is refused, or that memory has run out. It prints its words.
-#[derive(Clone, Debug, Drop, PartialEq, Eq)]
+#[derive(Clone, Debug, Drop, Error, PartialEq, Eq)]
+#[error("{}", self.words())]
 pub enum CarryError {
     /// The length is no multiple of three.
     Length,
@@ -30,17 +30,6 @@ impl CarryError {
         }
     }
 }
-
-/// Prints the words.
-impl fmt::Display for CarryError {
-    ghost output = { λ error. Some (words_of error) };
-
-    fn fmt<W: fmt::Write>(&self, f: &mut fmt::Formatter<W>) -> fmt::Result {
-        f.write_str(self.words())
-    }
-}
-
-impl Error for CarryError {}
 
 /// A failed allocation is `OutOfMemory`.
 impl From<AllocError> for CarryError {

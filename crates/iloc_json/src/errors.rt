@@ -1,15 +1,15 @@
 //! Why a JSON value is refused.
-ghost use Rattle.std.specs.Prelude.{◌≡◌, Some};
+ghost use Rattle.std.specs.Prelude.{◌≡◌};
 ghost use Rattle.iloc_json.specs.Errors.{words_of, json_error};
 ghost use Rattle.iloc_json.specs.declared.errors.JsonError.TheVariants.{OutOfMemory};
 
 use iloc_subtags::ParseError;
 use std::alloc::{AllocError, AllocFailed};
-use std::error::Error;
-use std::fmt;
+use thiserror::Error;
 
 /// Why a JSON value is refused, or that memory has run out. It prints its words.
-#[derive(Clone, Debug, Drop, PartialEq, Eq)]
+#[derive(Clone, Debug, Drop, Error, PartialEq, Eq)]
+#[error("{}", self.words())]
 pub enum JsonError {
     /// The value is no string.
     NotText,
@@ -31,17 +31,6 @@ impl JsonError {
         }
     }
 }
-
-/// Prints the words.
-impl fmt::Display for JsonError {
-    ghost output = { λ error. Some (words_of error) };
-
-    fn fmt<W: fmt::Write>(&self, f: &mut fmt::Formatter<W>) -> fmt::Result {
-        f.write_str(self.words())
-    }
-}
-
-impl Error for JsonError {}
 
 /// The refusal of a parser. Its `OutOfMemory` is `OutOfMemory` here.
 impl From<ParseError> for JsonError {

@@ -1,12 +1,12 @@
 //! Compares locales with texts and with one another.
-ghost use Rattle.std.specs.Prelude.{◌≡◌, ◌↔◌, ◌≤◌, false, length, take, IsTrue, IfOk, IfSome};
+ghost use Rattle.std.specs.Prelude.{◌≡◌, ◌≢◌, ◌↔◌, ◌≤◌, false, length, take, IsTrue, IfOk, OnErr, IfSome};
 ghost use Rattle.std.specs.Ordering.{nat_cmp};
 ghost use Rattle.std.specs.Cmp.Lexicographic.{slice_cmp};
 ghost use Rattle.iloc_spec_grammar.specs.Syntax.{languages};
-ghost use Rattle.iloc_spec_grammar.specs.Meaning.{Means};
+ghost use Rattle.iloc_spec_grammar.specs.Meaning.{Means, no_extensions};
 ghost use Rattle.iloc_spec_grammar.specs.Values.{text};
 ghost use Rattle.iloc_spec_parts.specs.Orders.{locale_cmp};
-ghost use Rattle.iloc_locale.specs.LocaleReading.{value_of};
+ghost use Rattle.iloc_locale.specs.LocaleReading.{value_of, LocaleWantsMemory};
 
 use crate::locale::Locale;
 use iloc_langid::beginning::begins_with;
@@ -38,10 +38,14 @@ impl Locale {
             .then_with(|| self.extensions.total_cmp(&other.extensions))
     }
 
-    /// Whether the text is a locale that means this one. It may parse the text, and so may allocate.
+    /// Whether the text is a locale that means this one, in whatever case and order.
+    ///
+    /// `AllocError` comes only if parsing the text may run out of memory, and this locale has extensions.
     pub fn normalizing_eq(&self, alloc: Global, other: &str) -> Result<bool, AllocError>
-        ensures { IfOk result
+        ensures same { IfOk result
             (λ same. IsTrue same ↔ Means languages other.now (value_of self.now)) }
+        ensures memory { OnErr result (LocaleWantsMemory other.now
+            × ((value_of self.now).extensions ≢ no_extensions)) }
     {
         if self.extensions.is_empty() {
             return Ok(self.id.normalizing_eq(other));
@@ -95,8 +99,9 @@ impl Locale {
     // Whether the text means this locale, by parsing it.
     #[inline(never)]
     fn compare_parsed(&self, alloc: Global, other: &str) -> Result<bool, AllocError>
-        ensures { IfOk result
+        ensures same { IfOk result
             (λ same. IsTrue same ↔ Means languages other.now (value_of self.now)) }
+        ensures memory { OnErr result (LocaleWantsMemory other.now) }
     {
         match Locale::try_from_str(alloc, other) {
             Ok(locale) => Ok(self.total_cmp(&locale).is_eq()),
@@ -118,7 +123,8 @@ fn in_window(text: &[u8]) -> [u8; ROOM]
 
 // What a refusal tells: the text means something else, unless memory ran out.
 fn differs(refusal: ParseError) -> Result<bool, AllocError>
-    ensures { IfOk result (λ same. (same ≡ false) × ¬ (refusal ≡ ParseError.OutOfMemory)) }
+    ensures same { IfOk result (λ same. (same ≡ false) × ¬ (refusal ≡ ParseError.OutOfMemory)) }
+    ensures memory { OnErr result (refusal ≡ ParseError.OutOfMemory) }
 {
     match refusal {
         ParseError::OutOfMemory => Err(AllocError),

@@ -4,10 +4,11 @@ use Rattle.iloc_locale.specs.LocaleReading.{value_of}
 use Rattle.iloc_locale.proofs.NormalLemmas.{same_meaning_ties, refusal_differs}
 use Rattle.iloc_locale.proofs.locale.Locale.compare_parsed.Goals as goal
 
-pub returns-in-Ok : goal.returns-in-Ok
-returns-in-Ok c = same_meaning_ties c.args.other.now (value_of c.in-Ok.locale) (value_of c.args.self.now) _
+pub returns-in-Ok-clause-same : goal.returns-in-Ok-clause-same
+returns-in-Ok-clause-same c =
+    same_meaning_ties c.args.other.now (value_of c.in-Ok.locale) (value_of c.args.self.now) _
     c.in-Ok.ensures.reads (c.is_eq.ensures ∙ ap is_eq c.total_cmp.ensures)
 
-pub returns-in-Err : goal.returns-in-Err
-returns-in-Err c = refusal_differs c.args.other.now (value_of c.args.self.now) c.in-Err.refusal
-    c.differs.result c.in-Err.ensures.reads c.differs.ensures
+pub returns-in-Err-clause-same : goal.returns-in-Err-clause-same
+returns-in-Err-clause-same c = refusal_differs c.args.other.now (value_of c.args.self.now) c.in-Err.refusal
+    c.differs.result c.in-Err.ensures.reads c.differs.ensures.same
