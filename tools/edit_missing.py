@@ -16,7 +16,7 @@ from rattle import blanked, functions, generics, read_text
 from sources import files_of
 
 LIST = "tools/no_mutants.txt"
-TOPS = ("icu_locale_core", "icu_locale_c", "locale_web", "locale_normal")
+TOPS = ("icu_locale_core", "icu_locale_c", "locale_web", "locale_normal", "locid")
 TYPE = re.compile(rb"^pub (?:struct|enum|type) (\w+)", re.M)
 LAW = re.compile(r"(?:\w+ )*fn \w+(?:<[^>]*>)?\(\)\s*(?:ensures|\{)")
 
