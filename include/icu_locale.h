@@ -149,7 +149,7 @@ icu_locale_status icu_locale_check(icu_locale_mode mode, const uint8_t *text, si
 /* Where the fault of a refused text stands. A piece is what stands before, between or behind hyphens.
  *
  *     DONE               the text has a meaning; *start and *end are as before
- *     UNKNOWN_NUMBER     the mode is none; *start and *end are as before
+ *     UNKNOWN_NUMBER     there is no such mode; *start and *end are as before
  *     any other status   that of icu_locale_check; the piece at fault goes from byte *start to before byte *end
  *
  * The piece at fault is the first that no text with a meaning has right after the pieces before it. Pieces count whole:
