@@ -1,8 +1,8 @@
 -- What cleaning makes of a line: the name of a locale as files and systems write it, in the form of
 -- UTS #35. This library's rule.
-use Rattle.std.specs.Prelude.{ℕ, ◌-◌, ◌==◌, Bool, ◌||◌, List, [], ◌∷◌, ◌++◌, length, take, drop, map, codes}
+use Rattle.std.specs.Prelude.{◌≡◌, ℕ, ◌-◌, ◌==◌, Bool, false, ◌||◌, List, [], ◌∷◌, ◌++◌, length, take, drop, map, codes}
 use Rattle.std.specs.Prelude.{nat_eq, if◌then◌else◌}
-use Rattle.std.specs.List.{starts_with, ends_with, before_first, position_or_len, prefix_len, suffix_len}
+use Rattle.std.specs.List.{AllByRecursion, starts_with, ends_with, before_first, position_or_len, prefix_len, suffix_len}
 use Rattle.std.specs.Str.{bytes_eq}
 use Rattle.iloc_spec_grammar.specs.Syntax.{Text}
 use Rattle.iloc_cleaning.specs.declared.modifier.Modifier.{Modifier}
@@ -84,3 +84,10 @@ clean_name name = let m = from_first is_at name in
 -- What is left of a line.
 abbrev pub clean : Text → Text
 clean line = clean_name (without_blanks (without_return line))
+
+-- A clean line: no `_`, `.` or `@`, no blank at either end, and no CR at the end.
+pub record IsClean (line : Text) : Type 0 where
+  pub bytes : AllByRecursion (λ b. (b == 95 || ends_base b) ≡ false) line
+  pub start : prefix_len is_blank line ≡ 0
+  pub end : suffix_len is_blank line ≡ 0
+  pub no_return : ends_with nat_eq line (13 ∷ []) ≡ false

@@ -25,6 +25,7 @@
 ghost use Rattle.std.specs.Prelude.{◌≡◌, ◌++◌, OnOk, OnErr};
 ghost use Rattle.iloc_cleaning.specs.Cleaning.{without_mark, clean};
 
+pub mod laws;
 mod margins;
 mod modifier;
 mod names;

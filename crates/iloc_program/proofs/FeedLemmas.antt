@@ -70,6 +70,16 @@ module _ (IsEntry : ℕ → Text → Text → Type 0) (n : ℕ) (pending : Text)
     counts = f.counts;
   }
 
+-- a line and its newline were taken too
+pub taken_with : (piece taken rest line later next : Text) → piece ≡ taken ++ rest →
+    rest ≡ line ++ 10 ∷ later → next ≡ later → piece ≡ (taken ++ (line ++ 10 ∷ [])) ++ next
+taken_with piece taken rest line later next a b c =
+    a ∙ ap (λ (t : Text). taken ++ t) b ∙ regrouped taken line later
+    ∙ ap (λ (t : Text). (taken ++ (line ++ 10 ∷ [])) ++ t) (sym c)
+  where
+    regrouped : (x y z : Text) → x ++ (y ++ 10 ∷ z) ≡ (x ++ (y ++ 10 ∷ [])) ++ z
+    regrouped x y z = simp append_assoc
+
 -- the last line, if it is empty or not
 
 pub Ends-line : (IsEntry : ℕ → Text → Text → Type 0) (n : ℕ) (pending old new : Text) (next : ℕ) →

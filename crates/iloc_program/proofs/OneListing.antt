@@ -49,7 +49,7 @@ plain_listing mode n input t is =
 -- one entry
 
 -- a refusal names a fault of the text
-fault_of_refusal : (mode : Mode) (t : Text) (e : ParseError) → HasRefusal mode t e →
+pub fault_of_refusal : (mode : Mode) (t : Text) (e : ParseError) → HasRefusal mode t e →
     (f : faults.Fault) × IsFaulty languages mode t f × (e ≡ error_of f)
 fault_of_refusal mode t InvalidLanguage h = (faults.InvalidLanguage, h, refl)
 fault_of_refusal mode t InvalidSubtag h = (faults.InvalidSubtag, h, refl)
@@ -63,7 +63,7 @@ same_fault Langid t f g x y = one_identifier_fault _ x y
 same_fault Locale t f g x y = one_fault t x y
 same_fault Data t f g x y = one_data_fault t x y
 
-apart : (mode : Mode) (t normal : Text) (f : faults.Fault) → IsNormalText languages mode t normal →
+pub apart : (mode : Mode) (t normal : Text) (f : faults.Fault) → IsNormalText languages mode t normal →
     IsFaulty languages mode t f → ⊥
 apart Langid t normal f x y = identifier_apart _ _ _ x.1 y
 apart Locale t normal f x y = accepted_no_fault languages_table t _ _ x.1 y

@@ -1,5 +1,5 @@
 -- The answers to texts that are plain, normal or refused.
-use Rattle.std.proofs.Common.{◌≡◌, inl, inr, [], ◌∷◌, ◌++◌, Some, refl, ap, subst}
+use Rattle.std.proofs.Common.{◌≡◌, inl, inr, [], ◌∷◌, ◌++◌, Some, None, refl, ap, subst, ◌∙◌}
 use Rattle.std.specs.Prelude.{IfSome}
 use Rattle.iloc_spec_grammar.specs.Syntax.{Text, languages}
 use Rattle.iloc_spec_grammar.specs.Meaning as faults
@@ -14,7 +14,7 @@ use Rattle.iloc_normalize.specs.Answered.{HasRefusal, refusal_of}
 use Rattle.iloc_normalize.specs.declared.Mode.{Mode}
 use Rattle.iloc_normalize.specs.declared.writing.Written.{Written}
 use Rattle.iloc_normalize.specs.declared.writing.Written.TheVariants as written
-use Rattle.iloc_program.specs.Replies.{IsReplied}
+use Rattle.iloc_program.specs.Replies.{AnswersLine, IsReplied}
 use Rattle.iloc_program.proofs.OutputLaws.{only_answer}
 
 pub normal_reply : (mode : Mode) (t normal : Text) → IsNormalText languages mode t normal →
@@ -50,3 +50,16 @@ replied_refusal mode t old new written.InvalidExtension e is same =
     (subst (λ o. IfSome o (HasRefusal mode t)) same is.0, is.1)
 replied_refusal mode t old new written.DuplicatedExtension e is same =
     (subst (λ o. IfSome o (HasRefusal mode t)) same is.0, is.1)
+
+-- so after the answer to the line, and what is written of a refusal
+pub answered_reply : (mode : Mode) (t old new : Text) → AnswersLine mode t old new None →
+    new ≡ old ++ reply languages mode t
+answered_reply mode t old new (normal, is, e) =
+    e ∙ ap (λ l. old ++ l) (normal_reply mode t normal is)
+
+pub refused_then : (mode : Mode) (t old mid new : Text) (e : ParseError) →
+    AnswersLine mode t old mid (Some e) → new ≡ mid ++ (refusal_text e ++ 10 ∷ []) →
+    new ≡ old ++ reply languages mode t
+refused_then mode t old mid new e (h, same) k =
+    k ∙ ap (λ l. l ++ (refusal_text e ++ 10 ∷ [])) same
+    ∙ ap (λ l. old ++ l) (refused_reply mode t e h)

@@ -1,6 +1,7 @@
 -- What was written of a line behind the replies before it.
-use Rattle.std.specs.Prelude.{◌≡◌, [], ◌∷◌, ◌++◌, IfSome, Result, OnOk}
+use Rattle.std.specs.Prelude.{◌≡◌, [], ◌∷◌, ◌++◌, Option, Some, None, IfSome, Result, OnOk}
 use Rattle.iloc_spec_grammar.specs.Syntax.{Text, languages}
+use Rattle.iloc_subtags.specs.declared.parse_error.ParseError.{ParseError}
 use Rattle.iloc_normalize.specs.Modes.{IsNormalText}
 use Rattle.iloc_program.specs.Answers.{reply, output}
 use Rattle.iloc_program.specs.Lines.{IsOneLine}
@@ -15,6 +16,13 @@ abbrev pub IsReplied : Mode → Text → Text → Text → Written → Type 0
 IsReplied mode t old new (Normal n) = (normal : Text) × IsNormalText languages mode t normal
     × (new ≡ old ++ (normal ++ 10 ∷ []))
 IsReplied mode t old new other = IfSome (refusal_of other) (HasRefusal mode t) × (new ≡ old)
+
+-- the normal text of the line and a newline stand behind what was held; or the line is refused so,
+-- and nothing more is held
+abbrev pub AnswersLine : Mode → Text → Text → Text → Option ParseError → Type 0
+AnswersLine mode line old new None = (normal : Text) × IsNormalText languages mode line normal
+    × (new ≡ old ++ (normal ++ 10 ∷ []))
+AnswersLine mode line old new (Some e) = HasRefusal mode line e × (new ≡ old)
 
 -- unless memory was refused, the reply to the line stands behind what was held, and what kept the
 -- line is empty

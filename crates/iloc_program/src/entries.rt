@@ -1,21 +1,27 @@
 //! What is written for one line.
-ghost use Rattle.std.specs.Prelude.{◌≡◌, ◌++◌, OnOk, if◌then◌else◌, []};
+ghost use Rattle.std.specs.Prelude.{◌≡◌, ◌++◌, OnOk, if◌then◌else◌, [], ◌∷◌};
+ghost use Rattle.iloc_normalize.specs.Answered.{HasRefusal};
+ghost use Rattle.iloc_program.specs.Answers.{refusal_text};
+ghost use Rattle.iloc_program.specs.Numbered.{AddsText};
 ghost use Rattle.iloc_program.specs.ReplyBlock.{held};
-ghost use Rattle.iloc_program.specs.Listing.{number_column, place_columns, refused_entry, IsEntry, StandsWithin};
+ghost use Rattle.iloc_program.specs.Listing.{number_column, place_columns, IsEntry, StandsWithin};
 
+use crate::lines::answer_in;
 use crate::numbered::{Listing, Lists};
 use crate::quoting::{write_decimal, write_shown};
-use crate::{InMode, ReplyBlock, reply_line};
+use crate::replies::write_refusal;
+use crate::{InMode, ReplyBlock};
 use iloc_faults::{Fault, fault_of};
+use iloc_normalize::Mode;
+use iloc_pieces::Window;
 use iloc_spans::spans::Spans;
+use iloc_subtags::ParseError;
 use std::alloc::{AllocError, Global};
 
 /// Answers lines in the mode of these answers, and lists what becomes of them. It keeps its room from line to line.
 #[derive(Drop)]
 pub struct Listed<A> {
-    alloc: Global,
     answers: A,
-    room: Vec<u8>,
     spans: Spans,
 }
 
@@ -23,9 +29,7 @@ impl<A> Listed<A> {
     /// It allocates nothing.
     pub fn new(alloc: Global, answers: A) -> Self {
         Listed {
-            alloc,
             answers,
-            room: Vec::new(alloc),
             spans: Spans::growing(alloc),
         }
     }
@@ -34,78 +38,89 @@ impl<A> Listed<A> {
 impl<A: InMode> Lists for Listed<A> {
     ghost is_entry = { IsEntry A.mode };
 
+    #[inline(always)]
     fn list(
         &mut self,
         listing: Listing,
         number: u64,
-        line: &[u8],
+        line: Window<'_>,
         replies: &mut ReplyBlock,
     ) -> Result<(), AllocError> {
         let mode = self.answers.mode();
-        match fault_of(mode, line) {
-            Some(fault) => write_refused(self.alloc, listing, number, line, fault, replies),
-            None if listing.only_refused => Ok(()),
-            None => reply_line(mode, line, &mut self.room, &mut self.spans, replies),
+        let before = replies.len();
+        match answer_in(mode, line, &mut self.spans, replies)? {
+            Some(refusal) => {
+                let (text, _) = line.bytes.split_at(line.len());
+                write_refused(mode, listing, number, text, refusal, replies)
+            }
+            None if listing.only_refused => {
+                replies.truncate(before);
+                Ok(())
+            }
+            None => Ok(()),
         }
     }
 }
 
-// Adds what is written for a refused line.
+// Adds what is written for a line that is refused so.
+#[inline(never)]
 fn write_refused(
-    alloc: Global,
+    mode: Mode,
     listing: Listing,
     number: u64,
     line: &[u8],
-    fault: Fault,
+    refusal: ParseError,
     replies: &mut ReplyBlock,
 ) -> Result<(), AllocError>
-    requires { StandsWithin line.now fault }
-    ensures { OnOk result (held replies.new
-        ≡ held replies.old ++ refused_entry listing number line.now fault) }
+    requires { HasRefusal mode line.now refusal }
+    ensures { OnOk result (AddsText (IsEntry mode listing number line.now)
+        (held replies.old) (held replies.new)) }
 {
-    write_number(alloc, listing, number, replies)?;
-    replies.extend_from_slice(b"! ")?;
-    replies.extend_from_slice(fault.refusal.words().as_bytes())?;
-    write_place(alloc, listing, line, fault, replies)?;
-    replies.push(b'\n')
+    write_number(listing, number, replies)?;
+    if !listing.places {
+        return write_refusal(refusal, replies);
+    }
+    match fault_of(mode, line) {
+        Some(fault) => write_placed(line, fault, replies),
+        None => unreachable!(),
+    }
 }
 
 // Adds the number of the line and a tab, if numbers are asked for.
-fn write_number(
-    alloc: Global,
-    listing: Listing,
-    number: u64,
-    replies: &mut ReplyBlock,
-) -> Result<(), AllocError>
+#[inline(always)]
+fn write_number(listing: Listing, number: u64, replies: &mut ReplyBlock) -> Result<(), AllocError>
     ensures { OnOk result (held replies.new
         ≡ held replies.old ++ (if listing.numbers then number_column number else [])) }
 {
     if !listing.numbers {
         return Ok(());
     }
-    write_decimal(alloc, number, replies)?;
+    write_decimal(number, replies)?;
     replies.push(b'\t')
 }
 
-// Adds the columns of the place, if places are asked for.
-fn write_place(
-    alloc: Global,
-    listing: Listing,
-    line: &[u8],
-    fault: Fault,
-    replies: &mut ReplyBlock,
-) -> Result<(), AllocError>
+// Adds the refusal and the place of a fault, and a newline.
+fn write_placed(line: &[u8], fault: Fault, replies: &mut ReplyBlock) -> Result<(), AllocError>
     requires { StandsWithin line.now fault }
     ensures { OnOk result (held replies.new
-        ≡ held replies.old ++ (if listing.places then place_columns line.now fault else [])) }
+        ≡ held replies.old ++ (refusal_text fault.refusal
+        ++ (place_columns line.now fault ++ 10 ∷ []))) }
 {
-    if !listing.places {
-        return Ok(());
-    }
+    replies.extend_from_slice(b"! ")?;
+    replies.extend_from_slice(fault.refusal.words().as_bytes())?;
+    write_place(line, fault, replies)?;
+    replies.push(b'\n')
+}
+
+// Adds the columns of the place.
+fn write_place(line: &[u8], fault: Fault, replies: &mut ReplyBlock) -> Result<(), AllocError>
+    requires { StandsWithin line.now fault }
+    ensures { OnOk result (held replies.new ≡ held replies.old ++ place_columns line.now fault) }
+{
     replies.push(b'\t')?;
-    write_decimal(alloc, fault.start as u64, replies)?;
+    write_decimal(fault.start as u64, replies)?;
     replies.extend_from_slice(b"..")?;
-    write_decimal(alloc, fault.end as u64, replies)?;
+    write_decimal(fault.end as u64, replies)?;
     replies.push(b'\t')?;
     write_shown(&line[fault.start..fault.end], replies)
 }

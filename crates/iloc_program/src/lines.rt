@@ -2,7 +2,7 @@
 ghost use Rattle.std.specs.Prelude.{◌≡◌, ◌+◌, ◌≤◌, [], ◌∷◌, ◌++◌, take, length, map, IfSome, MatchOption, IfOk, OnOk, OnErr, IsOkUnless, ◌<◌, vec_len};
 ghost use Rattle.std.specs.Io.KnownBytes.{Appends};
 ghost use Rattle.iloc_writeable.specs.Growth.{AddsBeginning};
-ghost use Rattle.iloc_program.specs.Replies.{FeedsReplies, RepliesTo};
+ghost use Rattle.iloc_program.specs.Replies.{AnswersLine, FeedsReplies, RepliesTo};
 ghost use Rattle.iloc_program.specs.ReplyBlock.{held};
 ghost use Rattle.iloc_normalize.specs.Answered.{IsLead};
 ghost use Rattle.iloc_program.specs.Lines.{IsLineEnd, IsOneLine};
@@ -55,7 +55,7 @@ fn wide_line_ends(lanes: u8x32) -> u64
 // Where the first newline stands, or how many bytes there are if none does. Most lines end within sixteen bytes, and
 // most others within 32.
 #[inline(always)]
-fn line_end(bytes: &[u8]) -> usize
+pub(crate) fn line_end(bytes: &[u8]) -> usize
     ensures { IsLineEnd bytes.now result }
 {
     if bytes.len() >= 32 {
@@ -133,8 +133,33 @@ fn lead_of<A: InMode>(answers: &A, line: Window<'_>) -> Lead
     }
 }
 
-// Adds the reply to the line, of which the beginning shows this. The spans are room for the outline of a line. Nothing is
-// written only if memory is refused.
+// Adds the normal text of the line, of which the beginning shows this, and a newline; or returns why it is refused.
+// The spans are room for the outline of a line. It fails only if an allocation does.
+#[inline(always)]
+fn answer_as(
+    mode: Mode,
+    lead: Lead,
+    line: Window<'_>,
+    spans: &mut Spans,
+    replies: &mut ReplyBlock,
+) -> Result<Option<ParseError>, AllocError>
+    requires { IsLead mode (text_in line) lead }
+    ensures { IfOk result
+        (AnswersLine mode (text_in line.entry) (held replies.old) (held replies.new)) }
+{
+    if let Lead::Refused(error) = lead {
+        return Ok(Some(error));
+    }
+    match replies.push_answered(mode, lead, line, spans)? {
+        Written::Normal(_) => Ok(None),
+        written => match written.refusal() {
+            Some(error) => Ok(Some(error)),
+            None => Err(AllocError),
+        },
+    }
+}
+
+// Adds the reply to the line, of which the beginning shows this.
 #[inline(always)]
 fn reply_as(
     mode: Mode,
@@ -147,19 +172,36 @@ fn reply_as(
     ensures { OnOk result (held replies.new
         ≡ held replies.old ++ reply languages mode (text_in line.entry)) }
 {
-    if let Lead::Refused(error) = lead {
-        return write_refusal(error, replies);
-    }
-    match replies.push_answered(mode, lead, line, spans)? {
-        Written::Normal(_) => Ok(()),
-        written => match written.refusal() {
-            Some(error) => write_refusal(error, replies),
-            None => Err(AllocError),
-        }
+    match answer_as(mode, lead, line, spans, replies)? {
+        Some(error) => write_refusal(error, replies),
+        None => Ok(()),
     }
 }
 
-// Adds the reply to the line, in a mode that is only known when it runs. So the call is one for all modes.
+// Adds the normal text of the line and a newline, or returns why it is refused. The mode is only known when it runs. So
+// the call is one for all modes, and for all who do not answer line by line in place.
+#[inline(never)]
+pub(crate) fn answer_in(
+    mode: Mode,
+    line: Window<'_>,
+    spans: &mut Spans,
+    replies: &mut ReplyBlock,
+) -> Result<Option<ParseError>, AllocError>
+    ensures { IfOk result
+        (AnswersLine mode (text_in line.entry) (held replies.old) (held replies.new)) }
+{
+    if !may_begin(line) {
+        return Ok(Some(ParseError::InvalidLanguage));
+    }
+    if let Some(plain) = plain_line(line) {
+        replies.push_plain(&plain)?;
+        return Ok(None);
+    }
+    let lead = read_lead(mode, line);
+    answer_as(mode, lead, line, spans, replies)
+}
+
+// Adds the reply to the line, in a mode that is only known when it runs.
 #[inline(always)]
 fn reply_in(
     mode: Mode,
@@ -170,12 +212,9 @@ fn reply_in(
     ensures { OnOk result (held replies.new
         ≡ held replies.old ++ reply languages mode (text_in line.entry)) }
 {
-    match plain_line(line) {
-        Some(plain) => replies.push_plain(&plain),
-        None => {
-            let lead = read_lead(mode, line);
-            reply_as(mode, lead, line, spans, replies)
-        }
+    match answer_in(mode, line, spans, replies)? {
+        Some(error) => write_refusal(error, replies),
+        None => Ok(()),
     }
 }
 

@@ -1,16 +1,39 @@
 //! Lines that come in pieces, and the entries that are written for each.
-ghost use Rattle.std.specs.Prelude.{◌≡◌, ◌+◌, ◌<◌, [], ◌++◌, IfOk, OnOk};
+ghost use Rattle.std.specs.Prelude.{◌≡◌, ◌+◌, ◌≤◌, [], ◌++◌, length, take, IfOk, OnOk};
+ghost use Rattle.iloc_pieces.specs.Window.{text_in};
 ghost use Rattle.iloc_program.specs.Lines.{IsOneLine};
 ghost use Rattle.iloc_program.specs.ReplyBlock.{held};
 ghost use Rattle.iloc_program.specs.Numbered.{AddsText};
 ghost use Rattle.iloc_program.specs.Feeding.{Feeds, Ends};
 
-use crate::lines::split_line;
+use crate::lines::line_end;
 use crate::numbered::{Listing, Lists};
 use crate::{ReplyBlock, RunError};
+use iloc_pieces::Window;
 
-// Adds what is written for the line that is pending and ends so, and returns the number of the next one. It gives up at
-// a number that has no next.
+// Adds what is written for the line, and returns the number of the next one. It gives up at a number that has no next.
+#[inline(always)]
+fn list_line<L: Lists>(
+    lists: &mut L,
+    listing: Listing,
+    number: u64,
+    line: Window<'_>,
+    replies: &mut ReplyBlock,
+) -> Result<u64, RunError>
+    ensures next { IfOk result (λ next. next ≡ number + 1) }
+    ensures replies { OnOk result (AddsText (L.is_entry listing number (text_in line.entry))
+        (held replies.old) (held replies.new)) }
+{
+    let Some(next) = number.checked_add(1) else {
+        return Err(RunError::Read);
+    };
+    lists.list(listing, number, line, replies)?;
+    Ok(next)
+}
+
+// Adds what is written for the line that is pending and ends so, and returns the number of the next one. Sixteen bytes
+// are put behind it, which may be loaded.
+#[inline(never)]
 fn end_line<L: Lists>(
     lists: &mut L,
     listing: Listing,
@@ -25,17 +48,43 @@ fn end_line<L: Lists>(
         (L.is_entry listing number (pending.old.items ++ end.now))
         (held replies.old) (held replies.new)) }
 {
-    let Some(next) = number.checked_add(1) else {
-        return Err(RunError::Read);
-    };
-    if pending.is_empty() {
-        lists.list(listing, number, end, replies)?;
-        return Ok(next);
-    }
     pending.extend_from_slice(end)?;
-    lists.list(listing, number, pending.as_slice(), replies)?;
+    pending.extend_from_slice(&[0; 16])?;
+    let line = Window {
+        bytes: pending.as_slice(),
+    };
+    let next = list_line(lists, listing, number, line, replies)?;
     pending.clear();
     Ok(next)
+}
+
+// Adds what is written for the line that is pending and ends with this one, which begins these bytes. Returns the number
+// of the next one. Only a line that began before these bytes, or one near their end, is copied.
+#[inline(always)]
+fn list_next<L: Lists>(
+    lists: &mut L,
+    listing: Listing,
+    number: u64,
+    pending: &mut Vec<u8>,
+    line: &[u8],
+    bytes: &[u8],
+    replies: &mut ReplyBlock,
+) -> Result<u64, RunError>
+    requires within { length line.now ≤ length bytes.now }
+    requires front { line.now ≡ take (length line.now) bytes.now }
+    ensures next { IfOk result (λ next. next ≡ number + 1) }
+    ensures pending { OnOk result (pending.new.items ≡ []) }
+    ensures replies { OnOk result (AddsText
+        (L.is_entry listing number (pending.old.items ++ line.now))
+        (held replies.old) (held replies.new)) }
+{
+    if !pending.is_empty() || bytes.len() - line.len() < 16 {
+        return end_line(lists, listing, number, pending, line, replies);
+    }
+    let window = Window {
+        bytes: &bytes[..line.len() + 16],
+    };
+    list_line(lists, listing, number, window, replies)
 }
 
 // Adds what is written for the lines that this piece of the input ends, keeps the start of the next line, and returns
@@ -54,9 +103,14 @@ pub(crate) fn feed<L: Lists>(
 {
     let mut rest = piece;
     let mut next = number;
-    'lines: while let Some((line, later)) = split_line(rest) {
-        next = end_line(lists, listing, next, pending, line, replies)?;
-        rest = later;
+    'lines: loop {
+        let end = line_end(rest);
+        let (line, later) = rest.split_at(end);
+        if later.is_empty() {
+            break 'lines;
+        }
+        next = list_next(lists, listing, next, pending, line, rest, replies)?;
+        rest = &later[1..];
     }
     pending.extend_from_slice(rest)?;
     Ok(next)

@@ -4,12 +4,14 @@
 //! that lines are numbered from the given number on (`specs/Numbered.antt`). What is written for one line, `entries` says.
 //! Memory is as long as the longest line and what is written for 64 KiB.
 ghost use Rattle.std.specs.Prelude.{ℕ, IfOk, OnOk, OnErr};
+ghost use Rattle.iloc_pieces.specs.Window.{text_in};
 ghost use Rattle.iloc_program.specs.ReplyBlock.{held};
 ghost use Rattle.iloc_program.specs.Numbered.{AddsText, ListsAll, ListsBeginning};
 ghost use Rattle.iloc_spec_grammar.specs.Syntax.{Text};
 ghost use Rattle.iloc_program.specs.declared.numbered.Listing.{Listing};
 
 use crate::{ReplyBlock, RunError, lines, listed_lines};
+use iloc_pieces::Window;
 use std::alloc::{AllocError, Global};
 use std::io::{Read, Write};
 
@@ -33,10 +35,10 @@ pub trait Lists {
         &mut self,
         listing: Listing,
         number: u64,
-        line: &[u8],
+        line: Window<'_>,
         replies: &mut ReplyBlock,
     ) -> Result<(), AllocError>
-        ensures { OnOk result (AddsText (is_entry listing number line.now)
+        ensures { OnOk result (AddsText (is_entry listing number (text_in line.entry))
             (held replies.old) (held replies.new)) };
 }
 

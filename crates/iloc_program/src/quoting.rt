@@ -5,14 +5,15 @@ ghost use Rattle.iloc_program.specs.ReplyBlock.{held};
 ghost use Rattle.iloc_program.specs.Listing.{shown, shown_byte};
 
 use crate::ReplyBlock;
-use std::alloc::{AllocError, Global};
+use itoa::Buffer;
+use std::alloc::AllocError;
 
 /// Adds a number in decimal digits.
-pub fn write_decimal(alloc: Global, number: u64, replies: &mut ReplyBlock) -> Result<(), AllocError>
+pub fn write_decimal(number: u64, replies: &mut ReplyBlock) -> Result<(), AllocError>
     ensures { OnOk result (held replies.new ≡ held replies.old ++ decimal number) }
 {
-    let digits = number.to_string(alloc)?;
-    replies.extend_from_slice(digits.as_str().as_bytes())
+    let mut digits = Buffer::new();
+    replies.extend_from_slice(digits.format(number).as_bytes())
 }
 
 /// Adds a text as it is shown: printable ASCII as itself, a tab as `\t`, a backslash as `\\`, other bytes as `\x` and two digits.

@@ -44,6 +44,23 @@ impl ReplyBlock {
         self.len = 0;
     }
 
+    /// How many bytes count.
+    #[inline(always)]
+    pub(crate) fn len(&self) -> usize
+        ensures { result ≡ length (held self.now) }
+    {
+        self.len
+    }
+
+    /// Forgets all but so many bytes.
+    #[inline(always)]
+    pub(crate) fn truncate(&mut self, len: usize)
+        requires { len ≤ length (held self.old) }
+        ensures { held self.new ≡ take len (held self.old) }
+    {
+        self.len = len;
+    }
+
     /// The bytes that count.
     pub fn as_slice(&self) -> &[u8]
         ensures { result.now ≡ held self.now }

@@ -1,19 +1,28 @@
-use Rattle.std.proofs.Common.{◌++◌, ap, ◌∙◌}
+use Rattle.std.proofs.Common.{subst, Option}
 use Rattle.std.proofs.lemmas.Result.{on_ok_weaker}
-use Rattle.iloc_spec_grammar.specs.Syntax.{Text}
-use Rattle.iloc_spec_grammar.specs.Values.{identifier_text}
-use Rattle.iloc_pieces.specs.Plain.{value_of}
+use Rattle.iloc_subtags.specs.declared.parse_error.ParseError.{ParseError}
 use Rattle.iloc_pieces.specs.Window.{text_in}
-use Rattle.iloc_normalize.proofs.PlainAnswers.{plain_normal}
-use Rattle.iloc_program.proofs.PlainLemmas.{normal_reply}
+use Rattle.iloc_program.specs.Replies.{AnswersLine}
 use Rattle.iloc_program.specs.ReplyBlock.{held}
+use Rattle.iloc_program.proofs.PlainLemmas.{answered_reply, refused_then}
 use Rattle.iloc_program.proofs.lines.reply_in.Goals as goal
 
 pub returns-in-Some : goal.returns-in-Some
 returns-in-Some c =
     let line = text_in c.args.line in
-    on_ok_weaker c.push_plain.result
-    (λ e. e ∙ ap (λ (t : Text). held c.args.replies.now ++ t)
-    (normal_reply c.args.mode line (identifier_text (value_of c.in-Some.plain))
-    (plain_normal c.args.mode line c.in-Some.plain c.in-Some.ensures)))
-    c.push_plain.ensures
+    let before = held c.args.replies.now in
+    let after = held c.answer_in.new.replies in
+    let is = subst (λ (o : Option ParseError). AnswersLine c.args.mode line before after o)
+    c.in-Some.is c.in_ok-error.ensures in
+    on_ok_weaker c.write_refusal.result
+    (λ e. refused_then c.args.mode line before after _ c.in-Some.error is e)
+    c.write_refusal.ensures.text
+
+pub returns-in-None : goal.returns-in-None
+returns-in-None c =
+    let line = text_in c.args.line in
+    let before = held c.args.replies.now in
+    let after = held c.answer_in.new.replies in
+    answered_reply c.args.mode line before after
+    (subst (λ (o : Option ParseError). AnswersLine c.args.mode line before after o)
+    c.in-None.is c.in_ok-error.ensures)

@@ -1,38 +1,40 @@
--- From what `fault_of` says of the line.
-use Rattle.std.proofs.Common.{◌++◌, refl, subst, ap, ◌∙◌}
-use Rattle.std.proofs.lemmas.Result.{on_ok_weaker}
+use Rattle.std.proofs.Common.{◌≡◌, ℕ, take, length, ap, ◌∙◌, subst, Option, Some, None}
+use Rattle.iloc_spec_grammar.specs.Syntax.{Text}
+use Rattle.iloc_subtags.specs.declared.parse_error.ParseError.{ParseError}
 use Rattle.iloc_normalize.specs.declared.Mode.{Mode}
-use Rattle.iloc_faults.specs.Places.{IsAccepted, IsFault}
-use Rattle.iloc_program.specs.Answers.{reply}
+use Rattle.iloc_pieces.specs.Window.{text_in}
+use Rattle.iloc_program.specs.Listing.{IsEntry}
+use Rattle.iloc_program.specs.Numbered.{AddsText}
+use Rattle.iloc_program.specs.Replies.{AnswersLine}
 use Rattle.iloc_program.specs.ReplyBlock.{held}
-use Rattle.iloc_program.proofs.EntryLemmas.{left_out, refused, replied}
-use Rattle.iloc_spec_grammar.specs.Syntax.{languages}
+use Rattle.iloc_program.proofs.EntryLemmas.{entry_of, left_out}
 use Rattle.iloc_program.proofs.entries.ListedLists.list.Goals as goal
 
 pub returns-in-Some : goal.returns-in-Some
 returns-in-Some g c =
-    let line = c.args.line.now in
-    let is : IsFault g.A.InMode.mode line c.in-Some.fault =
-    subst (λ (m : Mode). IsFault m line c.in-Some.fault) c.mode-mode.ensures c.in-Some.ensures.refused in
-    on_ok_weaker c.write_refused.result
-    (λ e. refused g.A.InMode.mode c.args.listing c.args.number line (held c.args.replies.now) c.in-Some.fault
-    (held c.write_refused.new.replies) is e)
+    let line = text_in c.args.line in
+    let before = held c.args.replies.now in
+    let after = held c.answer_in.new.replies in
+    let is : AnswersLine c.mode-mode.result line before after (Some c.in-Some.refusal) =
+    subst (λ (o : Option ParseError). AnswersLine c.mode-mode.result line before after o) c.in-Some.is
+    c.in_ok-refusal.ensures in
+    let text : c.split_at.result.0.now ≡ line =
+    c.split_at.ensures.front ∙ ap (λ (k : ℕ). take k c.args.line.bytes.now) c.len.ensures in
+    entry_of c.write_refused.result c.mode-mode.result g.A.InMode.mode c.args.listing c.args.number
+    c.split_at.result.0.now line after before (held c.write_refused.new.replies) c.mode-mode.ensures text is.1
     c.write_refused.ensures
 
 pub returns-in-None : goal.returns-in-None
 returns-in-None g c =
-    let line = c.args.line.now in
-    let is : IsAccepted g.A.InMode.mode line =
-    subst (λ (m : Mode). IsAccepted m line) c.mode-mode.ensures (c.in-None.ensures.accepted.0 refl) in
-    left_out g.A.InMode.mode c.args.listing c.args.number line (held c.args.replies.now) is c.if-listing.true
-
-pub returns-in-None-2 : goal.returns-in-None-2
-returns-in-None-2 g c =
-    let line = c.args.line.now in
+    let line = text_in c.args.line in
     let before = held c.args.replies.now in
-    let is : IsAccepted g.A.InMode.mode line =
-    subst (λ (m : Mode). IsAccepted m line) c.mode-mode.ensures (c.in-None-2.ensures.accepted.0 refl) in
-    on_ok_weaker c.reply_line.result
-    (λ e. replied g.A.InMode.mode c.args.listing c.args.number line before (held c.reply_line.new.replies) is
-    c.if-listing.false (e ∙ ap (λ (m : Mode). before ++ reply languages m line) c.mode-mode.ensures))
-    c.reply_line.ensures.0
+    let after = held c.answer_in.new.replies in
+    let is : AnswersLine c.mode-mode.result line before after None =
+    subst (λ (o : Option ParseError). AnswersLine c.mode-mode.result line before after o) c.in-None.is
+    c.in_ok-refusal.ensures in
+    let cut : held c.truncate.new.self ≡ take (length before) after =
+    c.truncate.ensures ∙ ap (λ (k : ℕ). take k after) c.len-before.ensures in
+    subst (λ (m : Mode). AddsText (IsEntry m c.args.listing c.args.number line) before
+    (held c.truncate.new.self)) c.mode-mode.ensures
+    (left_out c.mode-mode.result c.args.listing c.args.number line before (held c.truncate.new.self) after is
+    c.if-listing.true cut)

@@ -1,0 +1,26 @@
+use Rattle.std.proofs.Common.{◌≡◌, true, false, refl}
+use Rattle.std.proofs.lemmas.Result.{on_ok_weaker}
+use Rattle.iloc_program.specs.ReplyBlock.{held}
+use Rattle.iloc_program.proofs.EntryLemmas.{not_accepted, not_false, not_true, placed, refused}
+use Rattle.iloc_program.proofs.entries.write_refused.Goals as goal
+
+pub returns-then-not-listing : goal.returns-then-not-listing
+returns-then-not-listing c =
+    on_ok_weaker c.write_refusal.result
+    (λ e. refused c.args.mode c.args.listing c.args.number c.args.line.now (held c.args.replies.now)
+    c.args.refusal (held c.write_number.new.replies) (held c.write_refusal.new.replies) c.requires
+    (not_true c.args.listing.places c.if-not-listing.true) c.in_ok-write_number.ensures e)
+    c.write_refusal.ensures.text
+
+pub unreachable-requires : goal.unreachable-requires
+unreachable-requires c =
+    not_accepted c.args.mode c.args.line.now c.args.refusal c.requires (c.in-None.ensures.accepted.0 refl)
+
+pub returns : goal.returns
+returns c =
+    on_ok_weaker c.write_placed.result
+    (λ e. placed c.args.mode c.args.listing c.args.number c.args.line.now (held c.args.replies.now)
+    c.in-Some.fault (held c.write_number.new.replies) (held c.write_placed.new.replies)
+    c.in-Some.ensures.refused (not_false c.args.listing.places c.if-not-listing.false)
+    c.in_ok-write_number.ensures e)
+    c.write_placed.ensures
