@@ -12,18 +12,6 @@ use Rattle.iloc_program.proofs.LineEntries.{AllByRecursion-append}
 use Rattle.iloc_spec_grammar.specs.Syntax.{Text}
 
 module _ (IsEntry : ℕ → Text → Text → Type 0) (n : ℕ) (pending : Text) (old : Text) where
-  pub Feeds-nothing : IsOneLine pending → Feeds IsEntry n pending [] old old pending n
-  Feeds-nothing one = record {
-    lines = [];
-    added = [];
-    are_lines = tt;
-    one_line = one;
-    cut = append-nil pending;
-    are_entries = refl;
-    adds = sym (append-nil old);
-    counts = omega arith;
-  }
-
   -- a line that ends
   pub Feeds-line : (taken line mid new pending' pending2 : Text) (next next2 : ℕ) →
       Feeds IsEntry n pending taken old mid pending' next
@@ -52,23 +40,6 @@ module _ (IsEntry : ℕ → Text → Text → Type 0) (n : ℕ) (pending : Text)
     where
       regrouped : (a b c : Text) → (a ++ b) ++ (c ++ 10 ∷ []) ≡ a ++ (((b ++ c) ++ 10 ∷ []) ++ [])
       regrouped a b c = rw (append-nil ((b ++ c) ++ 10 ∷ [])) (simp append_assoc)
-
-  -- what follows the last line that ends
-  pub Feeds-rest : (taken rest new pending' pending2 : Text) (next : ℕ) →
-      Feeds IsEntry n pending taken old new pending' next
-      → IsOneLine rest → pending2 ≡ pending' ++ rest →
-      Feeds IsEntry n pending (taken ++ rest) old new pending2 next
-  Feeds-rest taken rest new pending' pending2 next f one e = record {
-    lines = f.lines;
-    added = f.added;
-    are_lines = f.are_lines;
-    one_line = subst IsOneLine (sym e) (All-append (λ c. c ≢ 10) pending' rest f.one_line one);
-    cut = sym (append_assoc pending taken rest) ∙ ap (λ (t : Text). t ++ rest) f.cut
-        ∙ append_assoc (ended f.lines) pending' rest ∙ ap (λ (t : Text). ended f.lines ++ t) (sym e);
-    are_entries = f.are_entries;
-    adds = f.adds;
-    counts = f.counts;
-  }
 
 -- a line and its newline were taken too
 pub taken_with : (piece taken rest line later next : Text) → piece ≡ taken ++ rest →

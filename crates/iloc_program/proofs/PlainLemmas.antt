@@ -37,20 +37,6 @@ pub refused_reply : (mode : Mode) (t : Text) (e : ParseError) → HasRefusal mod
     refusal_text e ++ 10 ∷ [] ≡ reply languages mode t
 refused_reply mode t e h = ap (λ l. l ++ 10 ∷ []) (refused_answer mode t e h)
 
--- what was written of a refused line names its refusal, and no reply is there yet
-pub replied_refusal : (mode : Mode) (t old new : Text) (w : Written) (e : ParseError) →
-    IsReplied mode t old new w → refusal_of w ≡ Some e → HasRefusal mode t e × (new ≡ old)
-replied_refusal mode t old new (written.Normal n) e is none = absurd (cc)
-replied_refusal mode t old new written.Nothing e is none = absurd (cc)
-replied_refusal mode t old new written.InvalidLanguage e is same =
-    (subst (λ o. IfSome o (HasRefusal mode t)) same is.0, is.1)
-replied_refusal mode t old new written.InvalidSubtag e is same =
-    (subst (λ o. IfSome o (HasRefusal mode t)) same is.0, is.1)
-replied_refusal mode t old new written.InvalidExtension e is same =
-    (subst (λ o. IfSome o (HasRefusal mode t)) same is.0, is.1)
-replied_refusal mode t old new written.DuplicatedExtension e is same =
-    (subst (λ o. IfSome o (HasRefusal mode t)) same is.0, is.1)
-
 -- so after the answer to the line, and what is written of a refusal
 pub answered_reply : (mode : Mode) (t old new : Text) → AnswersLine mode t old new None →
     new ≡ old ++ reply languages mode t
