@@ -24,8 +24,11 @@ chain (suc n) i u e = by (parent_of i) refl
   where
     by : (o : Option Identifier) → parent_of i ≡ o → Leads (suc n) (without_extensions i) (without_extensions u)
     by None h = absurd (none_is_not_some (later n i u None h e))
-    by (Some p) h = (without_extensions p, inr (refl, sym (ap (option_map without_extensions) h)),
-        chain n p u (later n i u (Some p) h e))
+    by (Some p) h = (
+      without_extensions p,
+      inr (refl, sym (ap (option_map without_extensions) h)),
+      chain n p u (later n i u (Some p) h e),
+    )
 
 ends : (i : Identifier) → Leads (part_count i) (without_extensions i) unknown_locale
 ends i = chain (part_count i) i unknown_identifier (chain_ends (part_count i) i refl)
@@ -57,7 +60,8 @@ has_none M p =
     elim p [
       | inl a ↦ absurd (none_is_not_some a.1)
       | inr b ↦ is_plain M b.0 ∙ ap without_extensions (last_step (part_count M.id) M.id
-            (chain_ends (part_count M.id) M.id refl) (no_more M.id (parent_of M.id) refl b.1)) ]
+          (chain_ends (part_count M.id) M.id refl) (no_more M.id (parent_of M.id) refl b.1))
+    ]
 
 pub only_und : (M : Locale) → IsParent M None ↔ (M ≡ unknown_locale)
 only_und M = (has_none M, λ e. let P : Locale → Type 0 = λ L. IsParent L None in subst P (sym e) (inr (refl, refl)))
