@@ -1,9 +1,9 @@
 -- What is written for a line, from what is written for what is read in its place.
-use Rattle.std.proofs.Common.{◌≡◌, ◌⊎◌, ℕ, Bool, true, false, List, [], ◌∷◌, ◌++◌, refl, sym, ap, ◌∙◌, subst, inl, inr, append_assoc, append-nil}
+use Rattle.std.proofs.Common.{◌≡◌, ℕ, Bool, [], ◌∷◌, ◌++◌, refl, ap, ◌∙◌, inl, inr, append_assoc}
 use Rattle.iloc_spec_grammar.specs.Syntax.{Text}
 use Rattle.iloc_program.specs.Numbered.{AddsText}
 use Rattle.iloc_program.specs.declared.numbered.Listing.{Listing}
-use Rattle.locid.specs.Prepared.{IsCleaned, IsCleanedEntry, IsPrepared, whole, with_newlines}
+use Rattle.locid.specs.Prepared.{IsCleaned, IsCleanedEntry}
 use Rattle.locid.specs.Named.{IsNamed}
 
 -- the entry of what cleaning leaves
