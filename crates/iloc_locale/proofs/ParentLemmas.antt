@@ -20,14 +20,16 @@ later n i u o h e = sym (ap (option_and_then (after_steps parent_of n)) h) ∙ e
 chain : (n : ℕ) (i u : Identifier) → after_steps parent_of n i ≡ Some u →
     Leads n (without_extensions i) (without_extensions u)
 chain zero i u e = ap without_extensions (of_some e)
-chain (suc n) i u e = by (parent_of i) refl
+chain (suc n) i u e = by (parent_of i) refl (λ p h. chain n p u (later n i u (Some p) h e))
   where
-    by : (o : Option Identifier) → parent_of i ≡ o → Leads (suc n) (without_extensions i) (without_extensions u)
-    by None h = absurd (none_is_not_some (later n i u None h e))
-    by (Some p) h = (
+    by : (o : Option Identifier) → parent_of i ≡ o →
+        ((p : Identifier) → parent_of i ≡ Some p → Leads n (without_extensions p) (without_extensions u)) →
+        Leads (suc n) (without_extensions i) (without_extensions u)
+    by None h onward = absurd (none_is_not_some (later n i u None h e))
+    by (Some p) h onward = (
       without_extensions p,
       inr (refl, sym (ap (option_map without_extensions) h)),
-      chain n p u (later n i u (Some p) h e),
+      onward p h,
     )
 
 ends : (i : Identifier) → Leads (part_count i) (without_extensions i) unknown_locale
