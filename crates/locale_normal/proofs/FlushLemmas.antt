@@ -1,5 +1,5 @@
 -- A run whose last flush failed wrote a beginning of the output: all of it.
-use Rattle.std.proofs.Common.{◌≡◌, ◌++◌, [], subst, sym, append-nil}
+use Rattle.std.proofs.Common.{◌++◌, [], subst, sym, append-nil}
 use Rattle.std.proofs.Math.Seq.{take-append_seam}
 use Rattle.std.specs.Prelude.{Option}
 use Rattle.std.specs.Io.{StartsWith}

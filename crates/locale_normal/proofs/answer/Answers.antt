@@ -1,4 +1,3 @@
-use Rattle.std.specs.Prelude.{OnErr}
 use Rattle.iloc_program.specs.Output.{WritesBeginning}
 use Rattle.iloc_program.proofs.RunLemmas.{on_err}
 use Rattle.locale_normal.proofs.FlushLemmas.{writes_beginning}
