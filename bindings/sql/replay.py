@@ -1,5 +1,7 @@
 """Asks a database about the lines of the vectors, for bindings/sqlite/try and bindings/postgres/try."""
+import os
 import pathlib
+import re
 import sys
 
 sys.path.insert(0, str(pathlib.Path(__file__).resolve().parents[2] / "tools"))
@@ -15,6 +17,12 @@ class Tried(Counts):
     def __init__(self, is_brief):
         self.is_brief = is_brief
         self.not_tried = []
+
+    def see(self, name, is_right, why=""):
+        """Counts a case, and says before what is wrong with it."""
+        if not is_right:
+            print(f"{name}: {why}" if why else name, flush=True)
+        self.add(bool(is_right), not is_right)
 
     def add(self, passed, failed):
         """Counts so many cases, and ends at the first that fails, if it was asked to be brief."""
@@ -48,11 +56,38 @@ def vectors(mode):
 def see_answers(counts, name, texts, given, wanted):
     """Counts each answer, and says the first that is wrong."""
     wrong = [it for it in zip(texts, given, wanted) if it[1] != it[2]]
-    missing = abs(len(given) - len(wanted))
-    counts.add(len(wanted) - len(wrong) - missing, len(wrong) + missing)
-    print(f"{name}: {len(wanted) - len(wrong) - missing} as wanted" + (f"; {wrong[0][0]} gives {wrong[0][1]}, not {wrong[0][2]}" if wrong else ""))
+    failed = len(wrong) + abs(len(given) - len(wanted))
+    first = f"; {wrong[0][0]} gives {wrong[0][1]}, and not {wrong[0][2]}" if wrong else ""
+    print(f"{name}: {max(0, len(wanted) - failed)} as wanted{first}", flush=True)
+    counts.add(max(0, len(wanted) - failed), failed)
 
 
 def see_script(counts, name, given, wanted):
     """Counts each line of what a script of SQL wrote, and says the first that is wrong."""
     see_answers(counts, name, [f"line {at}".encode() for at in range(1, len(wanted) + 1)], given, wanted)
+
+
+def words_or_help(text):
+    """Returns whether --write is given; other words end the script, with its help."""
+    if sys.argv[1:] not in ([], ["--write"]):
+        print(text)
+        sys.exit(sys.argv[1:] != ["--help"])
+    return bool(sys.argv[1:])
+
+
+def table_of(name, columns, rows):
+    """Returns a table in Markdown, with what it was measured on above it."""
+    model = re.search(r"(?m)^model name\s*: (.*)$", pathlib.Path("/proc/cpuinfo").read_text(encoding="utf-8"))[1]
+    lines = [f"{model}, load {os.getloadavg()[0]:.0f} on {os.cpu_count()} processors.", ""]
+    lines += [f"| {name} | {' | '.join(columns)} |", "|---" * (len(columns) + 1) + "|"]
+    return "\n".join([*lines, *(f"| {' | '.join(it)} |" for it in rows)]) + "\n"
+
+
+def write_table(name, text, is_written):
+    """Prints the table, or puts it between the marks of that name in docs/SPEED.md."""
+    if not is_written:
+        return print(text, end="")
+    begins, ends = f"<!-- written by bindings/{name}/speed --write -->\n", f"<!-- end of what bindings/{name}/speed writes -->\n"
+    page = TOP / "docs" / "SPEED.md"
+    before, rest = page.read_text(encoding="utf-8").split(begins)
+    page.write_text(before + begins + text + ends + rest.split(ends)[1], encoding="utf-8")

@@ -10,7 +10,9 @@
 #include <string.h>
 
 #define ROOM 4096
-#define LONG "'EN-aaaaa-bbbbb-ccccc-ddddd-eeeee-fffff-u-kn-ca-buddhist-hc-h12-t-de-m0-din-a-foo-b-bar-x-a-b-c-d-e-f-abcdefgh-abcdefgh'"
+#define LONG \
+    "'EN-aaaaa-bbbbb-ccccc-ddddd-eeeee-fffff-u-kn-ca-buddhist-hc-h12-t-de-m0-din-a-foo-b-bar-x-a-b-c-d-e-f-abcdefgh-abcdefgh-abcdefgh" \
+    "-abcdefgh'" /* (more than the room that an answer has without a block) */
 
 int sqlite3_iculocalesqlite_init(sqlite3 *, char **, const void *);
 
@@ -146,6 +148,9 @@ int main(void)
     for (; of_sqlite < 2; of_sqlite++)
         for (size_t i = 0; i < sizeof statements / sizeof *statements; i++)
             number += refuse_each(statements[i]);
+    sqlite3_shutdown();
+    if (sqlite3_memory_used() != 0)
+        stop("SQLite holds memory", "at the end");
     printf("%ld cases as wanted\n", number);
     return 0;
 }
