@@ -64,6 +64,15 @@ def quick():
         return {f"{PACKAGE}/{made.name}": made.read_bytes()}
 
 
+def sqlite():
+    """The module icu_locale_c.sqlite, and the extension of SQLite that it loads, if bindings/sqlite made it."""
+    made = TOP / "out" / "bindings" / "sqlite" / "icu_locale_sqlite.so"
+    files = {f"{PACKAGE}/sqlite.py": (HERE / PACKAGE / "sqlite.py").read_bytes()}
+    if made.is_file():
+        files[f"{PACKAGE}/{made.name}"] = made.read_bytes()
+    return files
+
+
 def described():
     """The files of the wheel's description, by their paths in it."""
     info = f"{PACKAGE}-{version()}.dist-info"
@@ -83,6 +92,7 @@ def packed():
         f"{PACKAGE}/VERSION": f"{version()}\n".encode(),
         f"{PACKAGE}/libicu_locale.so": library(),
         **quick(),
+        **sqlite(),
     }
 
 
