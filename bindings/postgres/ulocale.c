@@ -1,11 +1,13 @@
 /* The type ulocale of PostgreSQL: Unicode locale identifiers, over the proved C library.
  *
- * A value is a varlena of its normal text. So equal meaning is equal bytes, and the order is that of bytes, which is the
- * order of icu_locale_compare. Operators, hashes and sorting are those of bytea: there is no code for them here. Only
- * ulocale_in, ulocale_recv and ulocale(text) make a value of a text that comes from outside; they call icu_locale_normalize.
+ * A value is a varlena of its normal text. So equal meaning is equal bytes, and the order is that of bytes, which is
+ * the order of icu_locale_compare. Operators, hashes and sorting are those of bytea: there is no code for them here.
+ * Only ulocale_in, ulocale_recv and ulocale(text) make a value of a text that comes from outside; they call
+ * icu_locale_normalize.
  *
- * Memory: ereport leaves a function by longjmp, and would lose what the library has from malloc. But the calls of the library
- * here go from text to text: none keeps a block when it returns. Parts and ranges are read in the value's own bytes. */
+ * Memory: ereport leaves a function by longjmp, and would lose what the library has from malloc. But the calls of the
+ * library here go from text to text: none keeps a block when it returns. Parts and ranges are read in the value's own
+ * bytes. */
 #include "postgres.h"
 
 #include "access/stratnum.h"
@@ -80,7 +82,8 @@ static int detail(sql_text given, icu_locale_status status)
     if (start == given.length)
         return errdetail("%s: the text ends too early, at character %d.", words.text, character_at(given, start));
     const sql_text piece = {given.at + start, end - start};
-    return errdetail("%s: \"%.*s\" at character %d.", words.text, shown_of(piece), chars(piece), character_at(given, start));
+    return errdetail(
+        "%s: \"%.*s\" at character %d.", words.text, shown_of(piece), chars(piece), character_at(given, start));
 }
 
 /* Reports why and where the text is refused. It returns only if the context takes the report. */
@@ -147,8 +150,8 @@ Datum ulocale_is_valid(PG_FUNCTION_ARGS)
     PG_RETURN_BOOL(status == ICU_LOCALE_DONE);
 }
 
-/* ulocale_fault(text): the reason, and the piece at fault by its first character, from 1, and its length; NULL if the text is
- * a locale */
+/* ulocale_fault(text): the reason, and the piece at fault by its first character, from 1, and its length; NULL if the
+ * text is a locale */
 PG_FUNCTION_INFO_V1(ulocale_fault);
 Datum ulocale_fault(PG_FUNCTION_ARGS)
 {
@@ -245,8 +248,8 @@ Datum ulocale_smaller(PG_FUNCTION_ARGS)
     PG_RETURN_POINTER(sql_order(text_in(one), text_in(other)) <= 0 ? one : other);
 }
 
-/* matches(ulocale, ulocale), <@. Both are ulocale, so postgres_fdw sends it to another server; it never sends a comparison of
- * region(..), which is a text. */
+/* matches(ulocale, ulocale), <@. Both are ulocale, so postgres_fdw sends it to another server; it never sends a
+ * comparison of region(..), which is a text. */
 PG_FUNCTION_INFO_V1(ulocale_matches);
 Datum ulocale_matches(PG_FUNCTION_ARGS)
 {
@@ -271,8 +274,8 @@ static List *arguments_of(Node *call)
     return lsecond_node(Const, arguments)->constisnull ? NIL : arguments;
 }
 
-/* Lets a btree find x <@ 'en-US' among x >= 'en' AND x < 'en.': the dot is the byte after the hyphen, and stands in no normal
- * text. A range that begins with und has no such bounds. */
+/* Lets a btree find x <@ 'en-US' among x >= 'en' AND x < 'en.': the dot is the byte after the hyphen, and stands in
+ * no normal text. A range that begins with und has no such bounds. */
 PG_FUNCTION_INFO_V1(ulocale_matches_support);
 Datum ulocale_matches_support(PG_FUNCTION_ARGS)
 {

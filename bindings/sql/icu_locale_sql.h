@@ -1,7 +1,7 @@
 /* What the extensions of SQLite and PostgreSQL share: parts, parents and ranges of normal texts.
  *
- * In a normal text (that icu_locale_normalize wrote) the parts of a locale stand in one order, in one case, each once. So a
- * part is a part of the bytes, and no function here allocates, or can fail. */
+ * In a normal text (that icu_locale_normalize wrote) the parts of a locale stand in one order, in one case, each
+ * once. So a part is a part of the bytes, and no function here allocates, or can fail. */
 #ifndef ICU_LOCALE_SQL_H
 #define ICU_LOCALE_SQL_H
 
@@ -67,8 +67,8 @@ typedef struct {
     size_t script, region, variants, end; /* the language begins at 0; end is behind the hyphen before the extensions */
 } sql_outline;
 
-/* Only a script has four letters, and only a region has two or three letters or digits behind the language: a variant has five
- * or more, or four and begins with a digit. An extension begins with one. */
+/* Only a script has four letters, and only a region has two or three letters or digits behind the language: a variant
+ * has five or more, or four and begins with a digit. An extension begins with one. */
 static inline sql_outline sql_outline_of(sql_text normal)
 {
     size_t at = sql_piece_at(normal, 0).length + 1;
@@ -87,8 +87,8 @@ static inline sql_outline sql_outline_of(sql_text normal)
     return it;
 }
 
-/* A part of a normal text, which is a part of its bytes. The key is that of a keyword; other parts do without. The text is
- * nowhere (a null pointer) if there is no such part. */
+/* A part of a normal text, which is a part of its bytes. The key is that of a keyword; other parts do without. The
+ * text is nowhere (a null pointer) if there is no such part. */
 typedef sql_text sql_part(sql_text normal, sql_text key);
 
 static const sql_text sql_nothing = {NULL, 0};
@@ -147,8 +147,8 @@ static inline sql_text sql_parent(sql_text normal, sql_text key)
     return sql_is_und(normal) ? sql_nothing : (sql_text){(const uint8_t *)"und", 3};
 }
 
-/* The keywords as they stand in the text: ca-islamic-civil-kn. Only a key has two characters, so they can be told apart. They
- * follow the singleton u and attributes, which have three characters or more. */
+/* The keywords as they stand in the text: ca-islamic-civil-kn. Only a key has two characters, so they can be told
+ * apart. They follow the singleton u and attributes, which have three characters or more. */
 static inline sql_text sql_keywords(sql_text normal, sql_text key)
 {
     size_t at = sql_outline_of(normal).end, start = normal.length + 1;

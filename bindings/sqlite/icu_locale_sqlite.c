@@ -3,11 +3,13 @@
  *     .load ./icu_locale_sqlite
  *     SELECT locale_normalize('EN-us-u-ca-Buddhist');     -- en-US-u-ca-buddhist
  *
- * docs/DATABASES.md lists the functions. All are deterministic and innocuous, so indices, CHECK constraints, generated columns
- * and views may use them. NULL in gives NULL out. A refused text is an SQL error that names the reason and the place;
- * locale_is_valid and locale_fault answer instead. A mode is 'locale' (also if none is given), 'identifier' or 'data'.
+ * docs/DATABASES.md lists the functions. All are deterministic and innocuous, so indices, CHECK constraints,
+ * generated columns and views may use them. NULL in gives NULL out. A refused text is an SQL error that names the
+ * reason and the place; locale_is_valid and locale_fault answer instead. A mode is 'locale' (also if none is given),
+ * 'identifier' or 'data'.
  *
- * Memory: what a call of the library allocates is freed before a function here returns, and SQLite leaves none by a jump. */
+ * Memory: what a call of the library allocates is freed before a function here returns, and SQLite leaves none by a
+ * jump. */
 #include "icu_locale_sqlite.h"
 
 SQLITE_EXTENSION_INIT1
@@ -152,7 +154,8 @@ static void call_is_valid(sqlite3_context *context, int count, sqlite3_value **v
         sqlite3_result_int(context, status == ICU_LOCALE_DONE);
 }
 
-/* locale_fault(text [, mode]): NULL, or {"reason":"Invalid subtag","start":3,"end":3} for -> and ->>. Places are in characters. */
+/* locale_fault(text [, mode]): NULL, or {"reason":"Invalid subtag","start":3,"end":3} for -> and ->>. Places are in
+ * characters. */
 static void call_fault(sqlite3_context *context, int count, sqlite3_value **values)
 {
     icu_locale_mode mode;
@@ -232,9 +235,9 @@ static void call_matches(sqlite3_context *context, int count, sqlite3_value **va
     drop_room(&normal[1]);
 }
 
-/* COLLATE LOCALE: locales by the bytes of their normal forms; then texts that are no locale, by their bytes. It is total.
- * SQLite gives a collation no way to fail. If memory is out, this one interrupts its statement, which SQLite may see too late.
- * So make an index of locale_normalize(text), which can fail. */
+/* COLLATE LOCALE: locales by the bytes of their normal forms; then texts that are no locale, by their bytes. It is
+ * total. SQLite gives a collation no way to fail. If memory is out, this one interrupts its statement, which SQLite
+ * may see too late. So make an index of locale_normalize(text), which can fail. */
 static int collate(void *db, int length, const void *one, int other_length, const void *other)
 {
     const sql_text texts[2] = {{one, (size_t)length}, {other, (size_t)other_length}};
@@ -282,7 +285,8 @@ static int add_parts(sqlite3 *db)
         {"locale_parent", sql_parent}};
     int status = SQLITE_OK;
     for (size_t i = 0; status == SQLITE_OK && i < sizeof parts / sizeof *parts; i++)
-        status = sqlite3_create_function_v2(db, parts[i].name, 1, FLAGS, (void *)&parts[i], call_part, NULL, NULL, NULL);
+        status = sqlite3_create_function_v2(
+            db, parts[i].name, 1, FLAGS, (void *)&parts[i], call_part, NULL, NULL, NULL);
     return status;
 }
 
