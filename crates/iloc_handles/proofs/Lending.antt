@@ -41,7 +41,8 @@ lent_laws (block_ptr b o) (Some m) =
     beside_shr_laws (said (flt o (2 ^ 63))) (lent_at R p m) (said_shr_laws (flt o (2 ^ 63)) tt)
     (lent_at_shr_laws R locale_laws.the_row_laws.shr_laws p m)
 
--- a share of a lifetime's token, with what is lent for that lifetime, is lent for as long as the share is borrowed
+-- a share of a lifetime's token, with what is lent for that lifetime, is lent for as long as the share is
+-- borrowed
 module _ {M : Type 1} {𝓤 : Ura M} (𝓛 : Logic 𝓤) (t : Lft → Fml)
     (L : ShrLaws t) (a : ℕ) (e : Share) where
   open 𝓛 use {H, A}
