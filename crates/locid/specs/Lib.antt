@@ -1,4 +1,3 @@
 pub mod Prepared
 pub mod Checked
 pub mod Named
-pub mod Parted

@@ -5,6 +5,7 @@ ghost use Rattle.iloc_program.specs.Listing.{StandsWithin};
 
 use crate::inputs::Tally;
 use iloc_faults::{Fault, fault_of};
+use iloc_pieces::Window;
 use iloc_program::numbered::Lists;
 use iloc_program::quoting::{write_decimal, write_shown};
 use iloc_program::{InMode, Listing, ReplyBlock};
@@ -24,7 +25,6 @@ pub struct Report<'a> {
 /// Checks lines in the mode of these answers, and counts them.
 #[derive(Drop)]
 pub struct Checking<'a, A> {
-    alloc: Global,
     answers: A,
     report: Report<'a>,
     // Room for what is written.
@@ -35,7 +35,6 @@ pub struct Checking<'a, A> {
 impl<'a, A> Checking<'a, A> {
     pub fn new(alloc: Global, answers: A, report: Report<'a>, tally: &'a mut Tally) -> Self {
         Checking {
-            alloc,
             answers,
             report,
             room: ReplyBlock::new(alloc),
@@ -51,35 +50,46 @@ impl<A: InMode> Lists for Checking<'_, A> {
         &mut self,
         _listing: Listing,
         number: u64,
-        line: &[u8],
+        line: Window<'_>,
         replies: &mut ReplyBlock,
     ) -> Result<(), AllocError> {
+        let (text, _) = line.bytes.split_at(line.len());
         self.tally.lines = self.tally.lines.saturating_add(1);
-        let Some(fault) = fault_of(self.answers.mode(), line) else {
-            return Ok(());
-        };
-        self.tally.refused = self.tally.refused.saturating_add(1);
-        self.room.clear();
-        if self.report.writes {
-            write_refusal(
-                self.alloc,
-                self.report.name,
-                number,
-                line,
-                &fault,
-                &mut self.room,
-            )?;
-            if self.report.shows {
-                write_line(line, &fault, &mut self.room)?;
+        let mode = self.answers.mode();
+        match fault_of(mode, text) {
+            None => Ok(()),
+            Some(fault) => {
+                self.tally.refused = self.tally.refused.saturating_add(1);
+                self.room.clear();
+                write_report(self.report, number, text, &fault, &mut self.room)?;
+                replies.extend_from_slice(self.room.as_slice())
             }
         }
-        replies.extend_from_slice(self.room.as_slice())
     }
+}
+
+// Adds what is written of a refused line, if anything is.
+fn write_report(
+    report: Report<'_>,
+    number: u64,
+    line: &[u8],
+    fault: &Fault,
+    replies: &mut ReplyBlock,
+) -> Result<(), AllocError>
+    requires { StandsWithin line.now fault.now }
+{
+    if !report.writes {
+        return Ok(());
+    }
+    write_refusal(report.name, number, line, fault, replies)?;
+    if report.shows {
+        write_line(line, fault, replies)?;
+    }
+    Ok(())
 }
 
 // Adds where and why a line is refused, and the piece at which the fault stands.
 fn write_refusal(
-    alloc: Global,
     name: &str,
     number: u64,
     line: &[u8],
@@ -90,9 +100,9 @@ fn write_refusal(
 {
     replies.extend_from_slice(name.as_bytes())?;
     replies.push(b':')?;
-    write_decimal(alloc, number, replies)?;
+    write_decimal(number, replies)?;
     replies.push(b':')?;
-    write_decimal(alloc, (fault.start as u64).saturating_add(1), replies)?;
+    write_decimal((fault.start as u64).saturating_add(1), replies)?;
     replies.extend_from_slice(b": ")?;
     replies.extend_from_slice(fault.refusal.words().as_bytes())?;
     replies.extend_from_slice(b": ")?;

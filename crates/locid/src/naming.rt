@@ -3,6 +3,7 @@
 ghost use Rattle.locid.specs.Named.{IsNamed};
 
 use iloc_faults::fault_of;
+use iloc_pieces::Window;
 use iloc_program::numbered::Lists;
 use iloc_program::{Listing, Mode, ReplyBlock};
 use std::alloc::AllocError;
@@ -30,11 +31,12 @@ impl<L: Lists> Lists for Naming<'_, L> {
         &mut self,
         listing: Listing,
         number: u64,
-        line: &[u8],
+        line: Window<'_>,
         replies: &mut ReplyBlock,
     ) -> Result<(), AllocError> {
+        let (text, _) = line.bytes.split_at(line.len());
         match self.name {
-            Some(name) if listing.numbers && fault_of(self.mode, line).is_some() => {
+            Some(name) if listing.numbers && fault_of(self.mode, text).is_some() => {
                 replies.extend_from_slice(name.as_bytes())?;
                 replies.push(b':')?;
             }

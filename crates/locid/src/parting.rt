@@ -1,11 +1,12 @@
 //! The parts of each line, in columns or as a JSON object.
 
-ghost use Rattle.locid.specs.Parted.{IsParted};
+ghost use Rattle.std.specs.Prelude.{Unit};
 
 use crate::inputs::Tally;
 use crate::parts::{Parts, cut, cut_block, cut_keyword, cut_piece};
 use crate::words::Format;
 use iloc_faults::{Fault, fault_of};
+use iloc_pieces::Window;
 use iloc_program::numbered::Lists;
 use iloc_program::quoting::write_decimal;
 use iloc_program::{InMode, Listing, ReplyBlock, reply_line};
@@ -15,7 +16,6 @@ use std::alloc::{AllocError, Global};
 /// Writes the parts of lines in the mode of these answers.
 #[derive(Drop)]
 pub struct Parting<'a, A> {
-    alloc: Global,
     answers: A,
     format: Format,
     room: Vec<u8>,
@@ -29,7 +29,6 @@ pub struct Parting<'a, A> {
 impl<'a, A> Parting<'a, A> {
     pub fn new(alloc: Global, answers: A, format: Format, tally: &'a mut Tally) -> Self {
         Parting {
-            alloc,
             answers,
             format,
             room: Vec::new(alloc),
@@ -42,22 +41,24 @@ impl<'a, A> Parting<'a, A> {
 }
 
 impl<A: InMode> Lists for Parting<'_, A> {
-    ghost is_entry = { λ _ _ line entry. IsParted A.mode line entry };
+    // What is written of a line is not said here.
+    ghost is_entry = { λ _ _ _ _. Unit {0} };
 
     fn list(
         &mut self,
         _listing: Listing,
         _number: u64,
-        line: &[u8],
+        line: Window<'_>,
         replies: &mut ReplyBlock,
     ) -> Result<(), AllocError> {
+        let (line, _) = line.bytes.split_at(line.len());
         let mode = self.answers.mode();
         self.tally.lines = self.tally.lines.saturating_add(1);
         self.written.clear();
         match fault_of(mode, line) {
             Some(fault) => {
                 self.tally.refused = self.tally.refused.saturating_add(1);
-                write_fault(self.alloc, self.format, &fault, &mut self.written)?;
+                write_fault(self.format, &fault, &mut self.written)?;
             }
             None => {
                 self.normal.clear();
@@ -78,12 +79,7 @@ impl<A: InMode> Lists for Parting<'_, A> {
 }
 
 // Adds why a line has no parts. In columns the others are empty.
-fn write_fault(
-    alloc: Global,
-    format: Format,
-    fault: &Fault,
-    to: &mut ReplyBlock,
-) -> Result<(), AllocError> {
+fn write_fault(format: Format, fault: &Fault, to: &mut ReplyBlock) -> Result<(), AllocError> {
     let words = fault.refusal.words().as_bytes();
     match format {
         Format::Tsv => {
@@ -95,9 +91,9 @@ fn write_fault(
             to.extend_from_slice(b"{\"refused\":\"")?;
             to.extend_from_slice(words)?;
             to.extend_from_slice(b"\",\"start\":")?;
-            write_decimal(alloc, fault.start as u64, to)?;
+            write_decimal(fault.start as u64, to)?;
             to.extend_from_slice(b",\"end\":")?;
-            write_decimal(alloc, fault.end as u64, to)?;
+            write_decimal(fault.end as u64, to)?;
             to.extend_from_slice(b"}\n")
         }
     }

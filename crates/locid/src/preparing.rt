@@ -6,6 +6,7 @@ ghost use Rattle.iloc_program.specs.Numbered.{AddsText};
 ghost use Rattle.iloc_program.specs.ReplyBlock.{held};
 
 use iloc_cleaning::{clean_line, without_mark};
+use iloc_pieces::Window;
 use iloc_program::numbered::Lists;
 use iloc_program::{Listing, ReplyBlock};
 use std::alloc::{AllocError, Global};
@@ -36,21 +37,39 @@ impl<L: Lists, const BY_ZERO: bool, const CLEANS: bool> Lists for Prepared<L, BY
         &mut self,
         listing: Listing,
         number: u64,
-        line: &[u8],
+        line: Window<'_>,
         replies: &mut ReplyBlock,
     ) -> Result<(), AllocError> {
-        if BY_ZERO {
-            add_with_newlines(line, &mut self.whole)?;
-            let line = self.whole.as_slice();
-            let room = &mut self.cleaned;
-            return list_cleaned::<L, CLEANS>(&mut self.below, room, listing, number, line, replies);
-        }
-        let room = &mut self.cleaned;
-        list_cleaned::<L, CLEANS>(&mut self.below, room, listing, number, line, replies)
+        let (text, _) = line.bytes.split_at(line.len());
+        let whole = &mut self.whole;
+        let cleaned = &mut self.cleaned;
+        let below = &mut self.below;
+        list_prepared::<L, BY_ZERO, CLEANS>(below, whole, cleaned, listing, number, text, replies)
     }
 }
 
-// Adds what `below` writes for the line, which is cleaned before if that is asked for. The room holds what is cleaned.
+// Adds what `below` writes for what is read in place of the line, for which there are two rooms.
+fn list_prepared<L: Lists, const BY_ZERO: bool, const CLEANS: bool>(
+    below: &mut L,
+    whole: &mut Vec<u8>,
+    cleaned: &mut Vec<u8>,
+    listing: Listing,
+    number: u64,
+    line: &[u8],
+    replies: &mut ReplyBlock,
+) -> Result<(), AllocError>
+    ensures { OnOk result (AddsText (IsPrepared L.is_entry BY_ZERO CLEANS listing number line.now)
+        (held replies.old) (held replies.new)) }
+{
+    if BY_ZERO {
+        add_with_newlines(line, whole)?;
+        let line = whole.as_slice();
+        return list_cleaned::<L, CLEANS>(below, cleaned, listing, number, line, replies);
+    }
+    list_cleaned::<L, CLEANS>(below, cleaned, listing, number, line, replies)
+}
+
+// Adds what `below` writes for the line, which is cleaned before if that is asked for. The room holds what is read.
 fn list_cleaned<L: Lists, const CLEANS: bool>(
     below: &mut L,
     room: &mut Vec<u8>,
@@ -64,8 +83,28 @@ fn list_cleaned<L: Lists, const CLEANS: bool>(
 {
     if CLEANS {
         clean_into(number, line, room)?;
-        return below.list(listing, number, room.as_slice(), replies);
+        return list_kept::<L>(below, room, listing, number, replies);
     }
+    room.clear();
+    room.extend_from_slice(line)?;
+    list_kept::<L>(below, room, listing, number, replies)
+}
+
+// Adds what `below` writes for the text in the room. Sixteen bytes are put behind it, which may be loaded.
+fn list_kept<L: Lists>(
+    below: &mut L,
+    room: &mut Vec<u8>,
+    listing: Listing,
+    number: u64,
+    replies: &mut ReplyBlock,
+) -> Result<(), AllocError>
+    ensures { OnOk result (AddsText (L.is_entry listing number room.old.items)
+        (held replies.old) (held replies.new)) }
+{
+    room.extend_from_slice(&[0; 16])?;
+    let line = Window {
+        bytes: room.as_slice(),
+    };
     below.list(listing, number, line, replies)
 }
 
