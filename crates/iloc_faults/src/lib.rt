@@ -41,8 +41,8 @@ pub struct Fault {
 /// The fault stands at the first piece with which no accepted text begins, or at the end of a text that ends too early.
 /// So what is before it can be completed, and what includes it cannot. This library's rule.
 ///
-/// It allocates nothing. It takes time in proportion to the text. A run of more than 16,384 variants is gone through again
-/// for each further 16,384 of them.
+/// It allocates nothing. It takes time in proportion to the text, but for variants: a run of at most 16,384 is gone
+/// through up to four times, and a longer one once for each 16,384 of them. A longer run takes 128 KB of the stack.
 ///
 /// ```text
 /// fault_of(Mode::Locale, b"en--US") // Some(Fault { refusal: InvalidSubtag, start: 3, end: 3 })
