@@ -44,8 +44,8 @@ pub struct Fault {
 /// speak of another piece than the place: of `en-u-ca-foo-bar` as a data locale it speaks of `bar`, and the place is `ca`.
 /// This library's rule.
 ///
-/// It allocates nothing. It takes time in proportion to the text. A run of more than 16,384 variants is gone through again
-/// for each further 16,384 of them.
+/// It allocates nothing. It takes time in proportion to the text, but for variants: a run of at most 16,384 is gone
+/// through up to four times, and a longer one once for each 16,384 of them. A longer run takes 128 KB of the stack.
 ///
 /// ```text
 /// fault_of(Mode::Locale, b"en--US") // Some(Fault { refusal: InvalidSubtag, start: 3, end: 3 })

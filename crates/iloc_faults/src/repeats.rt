@@ -16,6 +16,10 @@ use std::cmp::min;
 // Variants of a run that is compared in one chunk.
 const FEW: usize = 64;
 
+// Variants of a chunk of a run of at most `MANY`. Its numbers have room on the stack of the web module, of 64 KB, whose
+// texts have no more variants.
+const SOME: usize = 4_096;
+
 // Variants of a chunk of a longer run.
 const MANY: usize = 16_384;
 
@@ -122,13 +126,15 @@ fn count_by<const N: usize>(first: Left<'_>, all: usize) -> usize
 
 /// How many of the variants from the piece on come before one that repeats an earlier one, or before the end of them.
 ///
-/// It takes time in proportion to their number up to 16,384 of them, and that again for each further 16,384.
+/// It goes through at most 16,384 of them up to four times, and through more once for each 16,384.
 pub fn count_new(first: Left<'_>) -> usize
     ensures { AreNew are_same [] (map lower (variants_left first.entry)) result }
 {
     let all = count_variants(first);
     if all <= FEW {
         count_by::<FEW>(first, all)
+    } else if all <= MANY {
+        count_by::<SOME>(first, all)
     } else {
         count_by::<MANY>(first, all)
     }
