@@ -237,6 +237,7 @@ test('what an error keeps', () => {
 test('a refusal that is thrown costs little, and keeps frames if they are wanted', () => {
   const thrown = text => { try { return normalize(text); } catch (error) { return error; } };
   const limit = Error.stackTraceLimit;
+  assert.equal(limit, 10); // (node's own: errors that were thrown before left it)
   assert.equal(thrown('x').stack.includes('\n    at '), false);
   assert.equal(Error.stackTraceLimit, limit);
   const time = () => {
