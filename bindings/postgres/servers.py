@@ -17,7 +17,7 @@ SETTINGS = "listen_addresses = ''\nfsync = off\nunix_socket_directories = '{room
 
 
 def run(*words, **how):
-    how = {"stdout": subprocess.PIPE, "stderr": subprocess.STDOUT, "timeout": 100, **how}
+    how = {"stdout": subprocess.PIPE, "stderr": subprocess.STDOUT, "timeout": 300, **how}
     return subprocess.run([*map(str, words)], **how)
 
 
