@@ -454,8 +454,7 @@ icu_locale_status icu_locale_get_other(const icu_locale_t *locale, uint8_t singl
 /* Sets the extension of a singleton to the text, which is the singleton and its subtags, in any case: A-Foo-bar sets
  * a-foo-bar. The text is parsed as within a locale: pieces of 2 to 8 bytes follow the singleton. Pieces with other
  * bytes than letters and digits are left out, and at least one piece must stay. Any other text is refused with
- * INVALID_EXTENSION, also one that is empty or has two extensions. Allocates only if there is no extension of the
- * singleton, or if there are more than four subtags. */
+ * INVALID_EXTENSION, also one that is empty or has two extensions. Allocates. */
 ICU_LOCALE_TAKES((1)) ICU_LOCALE_TELLS
 icu_locale_status icu_locale_set_other(icu_locale_t *locale, const uint8_t *text, size_t length) ICU_LOCALE_NOEXCEPT;
 

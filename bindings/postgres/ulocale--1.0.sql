@@ -9,7 +9,7 @@ CREATE FUNCTION ulocale_send(ulocale) RETURNS bytea AS 'textsend' LANGUAGE inter
 CREATE TYPE ulocale (INPUT = ulocale_in, OUTPUT = ulocale_out, RECEIVE = ulocale_recv, SEND = ulocale_send,
     INTERNALLENGTH = VARIABLE, STORAGE = extended);
 
--- A value is its normal text, so it is a text as it stands. No cast is implicit: a ulocale against a text is an error, and
+-- A value is its normal text, so it is a text as it stands. No cast is implicit. So a ulocale against a text is an error, and
 -- never a comparison of bytes with a text that was not normalized.
 CREATE FUNCTION ulocale(text) RETURNS ulocale AS 'MODULE_PATHNAME', 'ulocale_of_text'
     LANGUAGE C IMMUTABLE STRICT PARALLEL SAFE;
@@ -73,21 +73,21 @@ CREATE FUNCTION ulocale_is_valid(text) RETURNS bool AS 'MODULE_PATHNAME' LANGUAG
 CREATE FUNCTION ulocale_fault(text, OUT reason text, OUT place int, OUT length int)
     AS 'MODULE_PATHNAME' LANGUAGE C IMMUTABLE STRICT PARALLEL SAFE;
 
--- Parts.
+-- Parts. None fails on any value.
 CREATE FUNCTION language(ulocale) RETURNS text
-    AS 'MODULE_PATHNAME', 'ulocale_language' LANGUAGE C IMMUTABLE STRICT PARALLEL SAFE;
+    AS 'MODULE_PATHNAME', 'ulocale_language' LANGUAGE C IMMUTABLE STRICT PARALLEL SAFE LEAKPROOF;
 CREATE FUNCTION script(ulocale) RETURNS text
-    AS 'MODULE_PATHNAME', 'ulocale_script' LANGUAGE C IMMUTABLE STRICT PARALLEL SAFE;
+    AS 'MODULE_PATHNAME', 'ulocale_script' LANGUAGE C IMMUTABLE STRICT PARALLEL SAFE LEAKPROOF;
 CREATE FUNCTION region(ulocale) RETURNS text
-    AS 'MODULE_PATHNAME', 'ulocale_region' LANGUAGE C IMMUTABLE STRICT PARALLEL SAFE;
+    AS 'MODULE_PATHNAME', 'ulocale_region' LANGUAGE C IMMUTABLE STRICT PARALLEL SAFE LEAKPROOF;
 CREATE FUNCTION variants(ulocale) RETURNS text[]
-    AS 'MODULE_PATHNAME', 'ulocale_variants' LANGUAGE C IMMUTABLE STRICT PARALLEL SAFE;
+    AS 'MODULE_PATHNAME', 'ulocale_variants' LANGUAGE C IMMUTABLE STRICT PARALLEL SAFE LEAKPROOF;
 CREATE FUNCTION base_name(ulocale) RETURNS ulocale
-    AS 'MODULE_PATHNAME', 'ulocale_base_name' LANGUAGE C IMMUTABLE STRICT PARALLEL SAFE;
+    AS 'MODULE_PATHNAME', 'ulocale_base_name' LANGUAGE C IMMUTABLE STRICT PARALLEL SAFE LEAKPROOF;
 CREATE FUNCTION parent(ulocale) RETURNS ulocale
-    AS 'MODULE_PATHNAME', 'ulocale_parent' LANGUAGE C IMMUTABLE STRICT PARALLEL SAFE;
+    AS 'MODULE_PATHNAME', 'ulocale_parent' LANGUAGE C IMMUTABLE STRICT PARALLEL SAFE LEAKPROOF;
 CREATE FUNCTION keyword(ulocale, key text) RETURNS text
-    AS 'MODULE_PATHNAME', 'ulocale_keyword' LANGUAGE C IMMUTABLE STRICT PARALLEL SAFE;
+    AS 'MODULE_PATHNAME', 'ulocale_keyword' LANGUAGE C IMMUTABLE STRICT PARALLEL SAFE LEAKPROOF;
 CREATE FUNCTION keywords(ulocale, OUT key text, OUT value text) RETURNS SETOF record
     AS 'MODULE_PATHNAME', 'ulocale_keywords' LANGUAGE C IMMUTABLE STRICT PARALLEL SAFE ROWS 2;
 

@@ -1,12 +1,13 @@
 /* The type ulocale of PostgreSQL: Unicode locale identifiers, over the proved C library.
  *
- * A value is a varlena of its normal text. So equal meaning is equal bytes, and the order is that of bytes, which is the
- * order of icu_locale_compare. Operators, hashes and sorting are those of bytea: there is no code for them here. Only
- * ulocale_in, ulocale_recv and ulocale(text) make a value of a text that comes from outside; they call icu_locale_normalize.
+ * A value is a varlena of its normal text. So equal meaning is equal bytes, and the order is that of bytes, which is
+ * the order of icu_locale_compare. Operators, hashes and sorting are those of bytea: there is no code for them here.
+ * Only ulocale_in, ulocale_recv and ulocale(text) make a value of a text that comes from outside; they call
+ * icu_locale_normalize.
  *
- * Memory: ereport leaves a function by longjmp, and would lose what the library has from malloc. So no function of PostgreSQL
- * is called between icu_locale_parse and icu_locale_free, which stand in sql_read_part alone. Room is taken before it, and
- * answers are made after it. */
+ * Memory: ereport leaves a function by longjmp, and would lose what the library has from malloc. But the calls of the
+ * library here go from text to text: none keeps a block when it returns. Parts and ranges are read in the value's own
+ * bytes. */
 #include "postgres.h"
 
 #include "access/stratnum.h"
@@ -38,8 +39,6 @@
 #endif
 
 PG_MODULE_MAGIC;
-
-static const sql_text no_key;
 
 static sql_text text_in(struct varlena *value)
 {
@@ -83,7 +82,8 @@ static int detail(sql_text given, icu_locale_status status)
     if (start == given.length)
         return errdetail("%s: the text ends too early, at character %d.", words.text, character_at(given, start));
     const sql_text piece = {given.at + start, end - start};
-    return errdetail("%s: \"%.*s\" at character %d.", words.text, shown_of(piece), chars(piece), character_at(given, start));
+    return errdetail(
+        "%s: \"%.*s\" at character %d.", words.text, shown_of(piece), chars(piece), character_at(given, start));
 }
 
 /* Reports why and where the text is refused. It returns only if the context takes the report. */
@@ -150,8 +150,8 @@ Datum ulocale_is_valid(PG_FUNCTION_ARGS)
     PG_RETURN_BOOL(status == ICU_LOCALE_DONE);
 }
 
-/* ulocale_fault(text): the reason, and the piece at fault by its first character, from 1, and its length; NULL if the text is
- * a locale */
+/* ulocale_fault(text): the reason, and the piece at fault by its first character, from 1, and its length; NULL if the
+ * text is a locale */
 PG_FUNCTION_INFO_V1(ulocale_fault);
 Datum ulocale_fault(PG_FUNCTION_ARGS)
 {
@@ -171,34 +171,20 @@ Datum ulocale_fault(PG_FUNCTION_ARGS)
     PG_RETURN_DATUM(HeapTupleGetDatum(heap_form_tuple(BlessTupleDesc(row), values, nulls)));
 }
 
-/* Returns a part of the value, with a header, as a text or a ulocale; NULL if it has none. */
-static struct varlena *read_part(struct varlena *value, sql_reader *read, sql_text key)
+static Datum give_part(FunctionCallInfo fcinfo, sql_part *part, sql_text key)
 {
-    sql_text given = text_in(value);
-    struct varlena *made = palloc(VARHDRSZ + sql_room(given));
-    size_t needed;
-    icu_locale_status status = sql_read_part(given, read, key, (uint8_t *)VARDATA(made), &needed);
-    if (status == ICU_LOCALE_NOT_FOUND)
-        return NULL;
-    if (status != ICU_LOCALE_DONE)
-        refuse(NULL, given, status, ERRCODE_DATA_CORRUPTED);
-    SET_VARSIZE(made, VARHDRSZ + needed);
-    return made;
-}
-
-static Datum give_part(FunctionCallInfo fcinfo, sql_reader *read, sql_text key)
-{
-    struct varlena *made = read_part(PG_GETARG_VARLENA_PP(0), read, key);
-    if (made == NULL)
+    sql_text it = part(text_in(PG_GETARG_VARLENA_PP(0)), key);
+    if (it.at == NULL)
         PG_RETURN_NULL();
-    PG_RETURN_POINTER(made);
+    PG_RETURN_TEXT_P(make_text(it));
 }
 
+/* language(ulocale) and others: a part, as a text or a ulocale; NULL if it is absent */
 #define PART(name) \
     PG_FUNCTION_INFO_V1(ulocale_##name); \
     Datum ulocale_##name(PG_FUNCTION_ARGS) \
     { \
-        return give_part(fcinfo, sql_read_##name, no_key); \
+        return give_part(fcinfo, sql_##name, sql_nothing); \
     }
 
 PART(language)
@@ -211,54 +197,19 @@ PART(parent)
 PG_FUNCTION_INFO_V1(ulocale_keyword);
 Datum ulocale_keyword(PG_FUNCTION_ARGS)
 {
-    return give_part(fcinfo, sql_read_keyword, text_in(PG_GETARG_VARLENA_PP(1)));
-}
-
-/* The pieces of a part that is read, one after the other. */
-typedef struct {
-    sql_text text;
-    size_t next;
-} pieces;
-
-static pieces pieces_of(struct varlena *value, sql_reader *read)
-{
-    struct varlena *made = read_part(value, read, no_key);
-    return (pieces){made ? text_in(made) : no_key, 0};
-}
-
-static bool is_piece_left(const pieces *it)
-{
-    return it->next < it->text.length;
-}
-
-static sql_text next_piece(pieces *it)
-{
-    sql_text piece = sql_piece_at(it->text, it->next);
-    it->next += piece.length + 1;
-    return piece;
+    return give_part(fcinfo, sql_value, text_in(PG_GETARG_VARLENA_PP(1)));
 }
 
 /* variants(ulocale): text[] */
 PG_FUNCTION_INFO_V1(ulocale_variants);
 Datum ulocale_variants(PG_FUNCTION_ARGS)
 {
-    pieces it = pieces_of(PG_GETARG_VARLENA_PP(0), sql_read_variants);
-    Datum *values = palloc((it.text.length / 2 + 1) * sizeof *values);
+    sql_text it = sql_variants(text_in(PG_GETARG_VARLENA_PP(0)), sql_nothing);
+    Datum *values = palloc((it.length / 2 + 1) * sizeof *values);
     int number = 0;
-    while (is_piece_left(&it))
-        values[number++] = PointerGetDatum(make_text(next_piece(&it)));
+    for (size_t at = 0; at < it.length; at += sql_piece_at(it, at).length + 1)
+        values[number++] = PointerGetDatum(make_text(sql_piece_at(it, at)));
     PG_RETURN_ARRAYTYPE_P(construct_array(values, number, TEXTOID, -1, false, TYPALIGN_INT));
-}
-
-/* Takes the value of a keyword: the pieces up to the next key. Only a key has two characters. */
-static sql_text next_value(pieces *it)
-{
-    size_t start = it->next, end = start;
-    while (is_piece_left(it) && sql_piece_at(it->text, it->next).length != 2) {
-        next_piece(it);
-        end = it->next - 1;
-    }
-    return (sql_text){it->text.at + start, end - start};
 }
 
 /* keywords(ulocale): a table of key and value */
@@ -266,18 +217,18 @@ PG_FUNCTION_INFO_V1(ulocale_keywords);
 Datum ulocale_keywords(PG_FUNCTION_ARGS)
 {
     ReturnSetInfo *result = (ReturnSetInfo *)fcinfo->resultinfo;
-    pieces it = pieces_of(PG_GETARG_VARLENA_PP(0), sql_read_keywords);
+    sql_text keywords = sql_keywords(text_in(PG_GETARG_VARLENA_PP(0)), sql_nothing);
 #if PG_VERSION_NUM >= 160000
     InitMaterializedSRF(fcinfo, 0);
 #else
     SetSingleFuncCall(fcinfo, 0);
 #endif
-    while (is_piece_left(&it)) {
+    for (size_t at = 0; at < keywords.length;) {
+        sql_keyword it = sql_keyword_at(keywords, at);
         bool nulls[2] = {false, false};
-        Datum values[2];
-        values[0] = PointerGetDatum(make_text(next_piece(&it)));
-        values[1] = PointerGetDatum(make_text(next_value(&it)));
+        Datum values[2] = {PointerGetDatum(make_text(it.key)), PointerGetDatum(make_text(it.value))};
         tuplestore_putvalues(result->setResult, result->setDesc, values, nulls);
+        at = it.next;
     }
     return (Datum)0;
 }
@@ -297,8 +248,8 @@ Datum ulocale_smaller(PG_FUNCTION_ARGS)
     PG_RETURN_POINTER(sql_order(text_in(one), text_in(other)) <= 0 ? one : other);
 }
 
-/* matches(ulocale, ulocale), <@. Both are ulocale, so postgres_fdw sends it to another server; it never sends a comparison of
- * region(..), which is a text. */
+/* matches(ulocale, ulocale), <@. Both are ulocale, so postgres_fdw sends it to another server; it never sends a
+ * comparison of region(..), which is a text. */
 PG_FUNCTION_INFO_V1(ulocale_matches);
 Datum ulocale_matches(PG_FUNCTION_ARGS)
 {
@@ -323,8 +274,8 @@ static List *arguments_of(Node *call)
     return lsecond_node(Const, arguments)->constisnull ? NIL : arguments;
 }
 
-/* Lets a btree find x <@ 'en-US' among x >= 'en' AND x < 'en.': the dot is the byte after the hyphen, and stands in no normal
- * text. A range that begins with und has no such bounds. */
+/* Lets a btree find x <@ 'en-US' among x >= 'en' AND x < 'en.': the dot is the byte after the hyphen, and stands in
+ * no normal text. A range that begins with und has no such bounds. */
 PG_FUNCTION_INFO_V1(ulocale_matches_support);
 Datum ulocale_matches_support(PG_FUNCTION_ARGS)
 {

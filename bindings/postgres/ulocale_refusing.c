@@ -1,5 +1,5 @@
-/* Only in the build of `make TRY=1`, for sql/refused.sql: what it asks of bindings/c/refusing.c, through which the library of
- * that build asks for memory. */
+/* Only in the build of `make TRY=1`, for sql/refused.sql: what it asks of bindings/c/refusing.c, through which the
+ * library of that build asks for memory. */
 #include "postgres.h"
 
 #include "fmgr.h"

@@ -1,7 +1,7 @@
-/* What the extensions of SQLite and PostgreSQL share: parts, parents and ranges of a locale that stands in a text.
+/* What the extensions of SQLite and PostgreSQL share: parts, parents and ranges of normal texts.
  *
- * No function here calls a database. A database can leave a function by a jump, which would lose what the library has
- * from malloc. So whatever icu_locale_parse allocates is freed before these functions return. */
+ * In a normal text (that icu_locale_normalize wrote) the parts of a locale stand in one order, in one case, each
+ * once. So a part is a part of the bytes, and no function here allocates, or can fail. */
 #ifndef ICU_LOCALE_SQL_H
 #define ICU_LOCALE_SQL_H
 
@@ -12,18 +12,10 @@
 /* The most bytes of a refused text that a message shows. */
 #define SQL_SHOWN 64
 
-/* The least room for a part: the language of an empty text is und. */
-#define SQL_LEAST_ROOM 8
-
 typedef struct {
     const uint8_t *at;
     size_t length;
 } sql_text;
-
-static inline size_t sql_room(sql_text text)
-{
-    return text.length < SQL_LEAST_ROOM ? SQL_LEAST_ROOM : text.length;
-}
 
 static inline bool sql_is_same(sql_text one, sql_text other)
 {
@@ -51,170 +43,6 @@ static inline sql_words sql_words_of(icu_locale_status status)
     return words;
 }
 
-/* Writes a part of the locale to the front of the buffer, which has sql_room of the locale's text. NOT_FOUND if there
- * is no such part. The key is that of a keyword; the other readers do without. */
-typedef icu_locale_status sql_reader(
-    icu_locale_t *locale, sql_text key, uint8_t *buffer, size_t room, size_t *needed);
-
-/* A part that is absent is an empty text for the library, and NULL in a database. */
-static inline icu_locale_status sql_if_any(icu_locale_status status, size_t needed)
-{
-    return status == ICU_LOCALE_DONE && needed == 0 ? (icu_locale_status)ICU_LOCALE_NOT_FOUND : status;
-}
-
-static inline icu_locale_status sql_read_language(
-    icu_locale_t *locale, sql_text key, uint8_t *buffer, size_t room, size_t *needed)
-{
-    (void)key;
-    return icu_locale_get_language(locale, buffer, room, needed);
-}
-
-static inline icu_locale_status sql_read_script(
-    icu_locale_t *locale, sql_text key, uint8_t *buffer, size_t room, size_t *needed)
-{
-    (void)key;
-    icu_locale_status status = icu_locale_get_script(locale, buffer, room, needed);
-    return sql_if_any(status, *needed);
-}
-
-static inline icu_locale_status sql_read_region(
-    icu_locale_t *locale, sql_text key, uint8_t *buffer, size_t room, size_t *needed)
-{
-    (void)key;
-    icu_locale_status status = icu_locale_get_region(locale, buffer, room, needed);
-    return sql_if_any(status, *needed);
-}
-
-static inline icu_locale_status sql_read_base_name(
-    icu_locale_t *locale, sql_text key, uint8_t *buffer, size_t room, size_t *needed)
-{
-    (void)key;
-    return icu_locale_get_base_name(locale, buffer, room, needed);
-}
-
-/* The value of the keyword with this key: empty if the key stands alone. */
-static inline icu_locale_status sql_read_keyword(
-    icu_locale_t *locale, sql_text key, uint8_t *buffer, size_t room, size_t *needed)
-{
-    return icu_locale_get_keyword(locale, key.at, key.length, buffer, room, needed);
-}
-
-/* A text that grows in a buffer, with a hyphen between two pieces. Empty pieces add nothing. */
-typedef struct {
-    uint8_t *buffer;
-    size_t room, length;
-} sql_list;
-
-static inline uint8_t *sql_next_at(const sql_list *list)
-{
-    return list->buffer + list->length + (list->length > 0);
-}
-
-static inline size_t sql_next_room(const sql_list *list)
-{
-    return list->room - list->length - (list->length > 0);
-}
-
-static inline void sql_append(sql_list *list, size_t length)
-{
-    if (length == 0)
-        return;
-    if (list->length > 0)
-        list->buffer[list->length++] = '-';
-    list->length += length;
-}
-
-/* The variants as they stand in the text: macos-posix. */
-static inline icu_locale_status sql_read_variants(
-    icu_locale_t *locale, sql_text key, uint8_t *buffer, size_t room, size_t *needed)
-{
-    sql_list list = {buffer, room, 0};
-    size_t count = icu_locale_variant_count(locale), length;
-    (void)key;
-    for (size_t i = 0; i < count; i++) {
-        icu_locale_status status =
-            icu_locale_get_variant(locale, i, sql_next_at(&list), sql_next_room(&list), &length);
-        if (status != ICU_LOCALE_DONE)
-            return status;
-        sql_append(&list, length);
-    }
-    *needed = list.length;
-    return sql_if_any(ICU_LOCALE_DONE, list.length);
-}
-
-/* The keywords as they stand in the text: ca-islamic-civil-kn. Only a key has two characters, so they can be told apart. */
-static inline icu_locale_status sql_read_keywords(
-    icu_locale_t *locale, sql_text key, uint8_t *buffer, size_t room, size_t *needed)
-{
-    sql_list list = {buffer, room, 0};
-    size_t count = icu_locale_keyword_count(locale), length;
-    (void)key;
-    for (size_t i = 0; i < count; i++) {
-        icu_locale_status status =
-            icu_locale_get_keyword_key(locale, i, sql_next_at(&list), sql_next_room(&list), &length);
-        if (status != ICU_LOCALE_DONE)
-            return status;
-        sql_append(&list, length);
-        status = icu_locale_get_keyword_value(locale, i, sql_next_at(&list), sql_next_room(&list), &length);
-        if (status != ICU_LOCALE_DONE)
-            return status;
-        sql_append(&list, length);
-    }
-    *needed = list.length;
-    return sql_if_any(ICU_LOCALE_DONE, list.length);
-}
-
-/* Removes the last subtag of an identifier: of its variants, else its region, script or language. */
-static inline icu_locale_status sql_remove_last(icu_locale_t *locale)
-{
-    size_t variants = icu_locale_variant_count(locale), length;
-    uint8_t subtag[8];
-    if (variants > 0) {
-        icu_locale_status status = icu_locale_get_variant(locale, variants - 1, subtag, sizeof subtag, &length);
-        return status == ICU_LOCALE_DONE ? icu_locale_remove_variant(locale, subtag, length) : status;
-    }
-    if (icu_locale_get_region(locale, subtag, sizeof subtag, &length) == ICU_LOCALE_DONE && length > 0)
-        return icu_locale_set_region(locale, NULL, 0);
-    if (icu_locale_get_script(locale, subtag, sizeof subtag, &length) == ICU_LOCALE_DONE && length > 0)
-        return icu_locale_set_script(locale, NULL, 0);
-    return icu_locale_set_language(locale, NULL, 0);
-}
-
-/* The parent: without extensions; of an identifier, without its last subtag. NOT_FOUND of und. */
-static inline icu_locale_status sql_read_parent(
-    icu_locale_t *locale, sql_text key, uint8_t *buffer, size_t room, size_t *needed)
-{
-    size_t base;
-    icu_locale_status status = icu_locale_to_string(locale, buffer, room, needed);
-    (void)key;
-    if (status == ICU_LOCALE_DONE)
-        status = icu_locale_get_base_name(locale, buffer, room, &base);
-    if (status != ICU_LOCALE_DONE)
-        return status;
-    if (base != *needed) {
-        *needed = base;
-        return status;
-    }
-    if (icu_locale_is_und(locale))
-        return ICU_LOCALE_NOT_FOUND;
-    status = sql_remove_last(locale);
-    return status == ICU_LOCALE_DONE ? icu_locale_to_string(locale, buffer, room, needed) : status;
-}
-
-/* Writes a part of the text's locale to the buffer, which has sql_room of the text. Ends as icu_locale_parse if the
- * text is refused, and with NOT_FOUND if there is no such part. */
-static inline icu_locale_status sql_read_part(
-    sql_text text, sql_reader *read, sql_text key, uint8_t *buffer, size_t *needed)
-{
-    icu_locale_t locale = ICU_LOCALE_UND;
-    icu_locale_status status = icu_locale_parse(&locale, text.at, text.length);
-    *needed = 0;
-    if (status == ICU_LOCALE_DONE)
-        status = read(&locale, key, buffer, sql_room(text), needed);
-    icu_locale_free(&locale);
-    return status;
-}
-
 /* The piece that begins at this place: up to the next hyphen, or the end. */
 static inline sql_text sql_piece_at(sql_text text, size_t start)
 {
@@ -223,9 +51,155 @@ static inline sql_text sql_piece_at(sql_text text, size_t start)
     return (sql_text){from, hyphen ? (size_t)(hyphen - from) : text.length - start};
 }
 
+/* The text from this place to before that one. */
+static inline sql_text sql_between(sql_text text, size_t start, size_t end)
+{
+    return (sql_text){text.at + start, end - start};
+}
+
 static inline bool sql_is_und(sql_text piece)
 {
     return sql_is_same(piece, (sql_text){(const uint8_t *)"und", 3});
+}
+
+/* Where the parts of an identifier begin: each at a piece, or where the next one begins if it is absent. */
+typedef struct {
+    size_t script, region, variants, end; /* the language begins at 0; end is behind the hyphen before the extensions */
+} sql_outline;
+
+/* Only a script has four letters, and only a region has two or three letters or digits behind the language: a variant
+ * has five or more, or four and begins with a digit. An extension begins with one. */
+static inline sql_outline sql_outline_of(sql_text normal)
+{
+    size_t at = sql_piece_at(normal, 0).length + 1;
+    sql_outline it = {at, at, at, at};
+    while (it.end < normal.length) {
+        sql_text piece = sql_piece_at(normal, it.end);
+        size_t next = it.end + piece.length + 1;
+        if (piece.length == 1)
+            break;
+        if (piece.length == 4 && piece.at[0] > '9')
+            it.region = it.variants = next;
+        else if (piece.length < 4)
+            it.variants = next;
+        it.end = next;
+    }
+    return it;
+}
+
+/* A part of a normal text, which is a part of its bytes. The key is that of a keyword; other parts do without. The
+ * text is nowhere (a null pointer) if there is no such part. */
+typedef sql_text sql_part(sql_text normal, sql_text key);
+
+static const sql_text sql_nothing = {NULL, 0};
+
+/* The pieces from this place to before that one, without the hyphen behind them. */
+static inline sql_text sql_pieces(sql_text normal, size_t start, size_t end)
+{
+    return start < end ? sql_between(normal, start, end - 1) : sql_nothing;
+}
+
+static inline sql_text sql_language(sql_text normal, sql_text key)
+{
+    (void)key;
+    return sql_piece_at(normal, 0);
+}
+
+static inline sql_text sql_script(sql_text normal, sql_text key)
+{
+    sql_outline it = sql_outline_of(normal);
+    (void)key;
+    return sql_pieces(normal, it.script, it.region);
+}
+
+static inline sql_text sql_region(sql_text normal, sql_text key)
+{
+    sql_outline it = sql_outline_of(normal);
+    (void)key;
+    return sql_pieces(normal, it.region, it.variants);
+}
+
+/* The variants as they stand in the text: macos-posix. */
+static inline sql_text sql_variants(sql_text normal, sql_text key)
+{
+    sql_outline it = sql_outline_of(normal);
+    (void)key;
+    return sql_pieces(normal, it.variants, it.end);
+}
+
+static inline sql_text sql_base_name(sql_text normal, sql_text key)
+{
+    (void)key;
+    return sql_between(normal, 0, sql_outline_of(normal).end - 1);
+}
+
+/* The parent: without extensions; of an identifier, without its last subtag; of a language, und; nothing of und. */
+static inline sql_text sql_parent(sql_text normal, sql_text key)
+{
+    size_t end = sql_outline_of(normal).end - 1;
+    (void)key;
+    if (end < normal.length)
+        return sql_between(normal, 0, end);
+    while (end > 0 && normal.at[end - 1] != '-')
+        end--;
+    if (end > 0)
+        return sql_between(normal, 0, end - 1);
+    return sql_is_und(normal) ? sql_nothing : (sql_text){(const uint8_t *)"und", 3};
+}
+
+/* The keywords as they stand in the text: ca-islamic-civil-kn. Only a key has two characters, so they can be told
+ * apart. They follow the singleton u and attributes, which have three characters or more. */
+static inline sql_text sql_keywords(sql_text normal, sql_text key)
+{
+    size_t at = sql_outline_of(normal).end, start = normal.length + 1;
+    bool is_within = false;
+    (void)key;
+    for (; at < normal.length; at += sql_piece_at(normal, at).length + 1) {
+        sql_text piece = sql_piece_at(normal, at);
+        if (piece.length == 1 && (is_within || piece.at[0] == 'x'))
+            break;
+        is_within = is_within || (piece.length == 1 && piece.at[0] == 'u');
+        if (is_within && piece.length == 2 && start > normal.length)
+            start = at;
+    }
+    return sql_pieces(normal, start, at);
+}
+
+/* A keyword, and where the next one begins. */
+typedef struct {
+    sql_text key, value;
+    size_t next;
+} sql_keyword;
+
+/* The keyword that begins at this place of the keywords. The value of a key that stands alone is empty. */
+static inline sql_keyword sql_keyword_at(sql_text keywords, size_t start)
+{
+    sql_keyword it = {sql_piece_at(keywords, start), {keywords.at, 0}, start};
+    size_t from = start + it.key.length + 1;
+    for (it.next = from; it.next < keywords.length; it.next += sql_piece_at(keywords, it.next).length + 1)
+        if (sql_piece_at(keywords, it.next).length == 2)
+            break;
+    if (it.next > from)
+        it.value = sql_between(keywords, from, it.next - 1);
+    return it;
+}
+
+static inline uint8_t sql_lower(uint8_t byte)
+{
+    return byte >= 'A' && byte <= 'Z' ? byte + ('a' - 'A') : byte;
+}
+
+/* The value of the keyword with this key, which may be in any case. */
+static inline sql_text sql_value(sql_text normal, sql_text key)
+{
+    sql_text keywords = sql_keywords(normal, key);
+    for (size_t at = 0; at < keywords.length;) {
+        sql_keyword it = sql_keyword_at(keywords, at);
+        if (key.length == 2 && it.key.at[0] == sql_lower(key.at[0]) && it.key.at[1] == sql_lower(key.at[1]))
+            return it.value;
+        at = it.next;
+    }
+    return sql_nothing;
 }
 
 /* Whether a normal text matches a range, which is another: the extended filtering of RFC 4647, section 3.3.2, with und

@@ -3,19 +3,19 @@
  *     .load ./icu_locale_sqlite
  *     SELECT locale_normalize('EN-us-u-ca-Buddhist');     -- en-US-u-ca-buddhist
  *
- * docs/DATABASES.md lists the functions. All are deterministic and innocuous, so indices, CHECK constraints, generated columns
- * and views may use them. NULL in gives NULL out. A refused text is an SQL error that names the reason and the place;
- * locale_is_valid and locale_fault answer instead. A mode is 'locale' (also if none is given), 'identifier' or 'data'.
+ * docs/DATABASES.md lists the functions. All are deterministic and innocuous, so indices, CHECK constraints,
+ * generated columns and views may use them. NULL in gives NULL out. A refused text is an SQL error that names the
+ * reason and the place; locale_is_valid and locale_fault answer instead. A mode is 'locale' (also if none is given),
+ * 'identifier' or 'data'.
  *
- * Memory: what a call of the library allocates is freed before a function here returns, and SQLite leaves none by a jump. */
+ * Memory: what a call of the library allocates is freed before a function here returns, and SQLite leaves none by a
+ * jump. */
 #include "icu_locale_sqlite.h"
 
 SQLITE_EXTENSION_INIT1
 
 #define FLAGS (SQLITE_UTF8 | SQLITE_DETERMINISTIC | SQLITE_INNOCUOUS)
 #define SMALL 128 /* most locales are shorter: they need no block */
-
-static const sql_text no_key;
 
 /* Takes the text of a value. False after an answer was given: NULL for NULL, or out of memory. */
 static bool take(sqlite3_context *context, sqlite3_value *value, sql_text *text)
@@ -105,9 +105,14 @@ static void drop_room(answer *made)
         sqlite3_free(made->at);
 }
 
-static void give(sqlite3_context *context, const answer *made)
+static void give(sqlite3_context *context, sql_text it)
 {
-    sqlite3_result_text(context, (const char *)made->at, (int)made->length, SQLITE_TRANSIENT);
+    sqlite3_result_text(context, (const char *)it.at, (int)it.length, SQLITE_TRANSIENT);
+}
+
+static sql_text text_of(const answer *made)
+{
+    return (sql_text){made->at, made->length};
 }
 
 /* Makes the normal form of the text. The answer is to be dropped, however this ends. */
@@ -129,7 +134,7 @@ static void call_normalize(sqlite3_context *context, int count, sqlite3_value **
         return;
     icu_locale_status status = normalize(&normal, mode, text);
     if (status == ICU_LOCALE_DONE)
-        give(context, &normal);
+        give(context, text_of(&normal));
     else
         refuse(context, mode, text, status);
     drop_room(&normal);
@@ -149,7 +154,8 @@ static void call_is_valid(sqlite3_context *context, int count, sqlite3_value **v
         sqlite3_result_int(context, status == ICU_LOCALE_DONE);
 }
 
-/* locale_fault(text [, mode]): NULL, or {"reason":"Invalid subtag","start":3,"end":3} for -> and ->>. Places are in characters. */
+/* locale_fault(text [, mode]): NULL, or {"reason":"Invalid subtag","start":3,"end":3} for -> and ->>. Places are in
+ * characters. */
 static void call_fault(sqlite3_context *context, int count, sqlite3_value **values)
 {
     icu_locale_mode mode;
@@ -171,35 +177,31 @@ static void call_fault(sqlite3_context *context, int count, sqlite3_value **valu
 }
 
 /* Answers with a part of the text's locale, or NULL if it has none. */
-static void give_part(sqlite3_context *context, sqlite3_value *value, sql_reader *read, sql_text key)
+static void give_part(sqlite3_context *context, sqlite3_value *value, sql_part *part, sql_text key)
 {
-    sql_text text;
-    answer part;
+    sql_text text, it;
+    answer normal;
     if (!take(context, value, &text))
         return;
-    if (!make_room(&part, sql_room(text))) {
-        sqlite3_result_error_nomem(context);
-        return;
-    }
-    icu_locale_status status = sql_read_part(text, read, key, part.at, &part.length);
-    if (status == ICU_LOCALE_DONE)
-        give(context, &part);
-    else if (status != ICU_LOCALE_NOT_FOUND)
+    icu_locale_status status = normalize(&normal, ICU_LOCALE_LOCALE, text);
+    if (status != ICU_LOCALE_DONE)
         refuse(context, ICU_LOCALE_LOCALE, text, status);
-    drop_room(&part);
+    else if ((it = part(text_of(&normal), key)).at != NULL)
+        give(context, it);
+    drop_room(&normal);
 }
 
 /* A function of one text that gives a part. */
 typedef struct {
     const char *name;
-    sql_reader *read;
+    sql_part *part;
 } part_function;
 
 static void call_part(sqlite3_context *context, int count, sqlite3_value **values)
 {
     const part_function *it = sqlite3_user_data(context);
     (void)count;
-    give_part(context, values[0], it->read, no_key);
+    give_part(context, values[0], it->part, sql_nothing);
 }
 
 /* locale_keyword(text, key): '' for a key that stands alone */
@@ -208,7 +210,7 @@ static void call_keyword(sqlite3_context *context, int count, sqlite3_value **va
     sql_text key;
     (void)count;
     if (take(context, values[1], &key))
-        give_part(context, values[0], sql_read_keyword, key);
+        give_part(context, values[0], sql_value, key);
 }
 
 /* locale_matches(text, range): extended filtering of RFC 4647, with und for * */
@@ -228,15 +230,14 @@ static void call_matches(sqlite3_context *context, int count, sqlite3_value **va
             return;
         }
     }
-    sqlite3_result_int(
-        context, sql_matches((sql_text){normal[0].at, normal[0].length}, (sql_text){normal[1].at, normal[1].length}));
+    sqlite3_result_int(context, sql_matches(text_of(&normal[0]), text_of(&normal[1])));
     drop_room(&normal[0]);
     drop_room(&normal[1]);
 }
 
-/* COLLATE LOCALE: locales by the bytes of their normal forms; then texts that are no locale, by their bytes. It is total.
- * SQLite gives a collation no way to fail. If memory is out, this one interrupts its statement, which SQLite may see too late.
- * So make an index of locale_normalize(text), which can fail. */
+/* COLLATE LOCALE: locales by the bytes of their normal forms; then texts that are no locale, by their bytes. It is
+ * total. SQLite gives a collation no way to fail. If memory is out, this one interrupts its statement, which SQLite
+ * may see too late. So make an index of locale_normalize(text), which can fail. */
 static int collate(void *db, int length, const void *one, int other_length, const void *other)
 {
     const sql_text texts[2] = {{one, (size_t)length}, {other, (size_t)other_length}};
@@ -251,7 +252,7 @@ static int collate(void *db, int length, const void *one, int other_length, cons
             sqlite3_interrupt(db);
     }
     if (status[0] == ICU_LOCALE_DONE && status[1] == ICU_LOCALE_DONE)
-        order = sql_order((sql_text){normal[0].at, normal[0].length}, (sql_text){normal[1].at, normal[1].length});
+        order = sql_order(text_of(&normal[0]), text_of(&normal[1]));
     else if (status[0] == ICU_LOCALE_DONE || status[1] == ICU_LOCALE_DONE)
         order = status[0] == ICU_LOCALE_DONE ? -1 : 1;
     else
@@ -279,12 +280,13 @@ static int add_functions(sqlite3 *db)
 
 static int add_parts(sqlite3 *db)
 {
-    static const part_function parts[] = {{"locale_language", sql_read_language}, {"locale_script", sql_read_script},
-        {"locale_region", sql_read_region}, {"locale_variants", sql_read_variants},
-        {"locale_base_name", sql_read_base_name}, {"locale_parent", sql_read_parent}};
+    static const part_function parts[] = {{"locale_language", sql_language}, {"locale_script", sql_script},
+        {"locale_region", sql_region}, {"locale_variants", sql_variants}, {"locale_base_name", sql_base_name},
+        {"locale_parent", sql_parent}};
     int status = SQLITE_OK;
     for (size_t i = 0; status == SQLITE_OK && i < sizeof parts / sizeof *parts; i++)
-        status = sqlite3_create_function_v2(db, parts[i].name, 1, FLAGS, (void *)&parts[i], call_part, NULL, NULL, NULL);
+        status = sqlite3_create_function_v2(
+            db, parts[i].name, 1, FLAGS, (void *)&parts[i], call_part, NULL, NULL, NULL);
     return status;
 }
 

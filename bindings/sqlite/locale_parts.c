@@ -2,15 +2,15 @@
  *
  *     SELECT part, key, value FROM locale_parts('en-US-u-ca-buddhist');
  *
- * A part is language, script, region, variant, attribute, keyword, transform, field, other or private. Only a keyword, a field
- * and another extension have a key. */
+ * A part is language, script, region, variant, attribute, keyword, transform, field, other or private. Only a
+ * keyword, a field and another extension have a key. */
 #include "icu_locale_sqlite.h"
 
 SQLITE_EXTENSION_INIT3
 
 enum { LANGUAGE, SCRIPT, REGION, VARIANT, ATTRIBUTE, KEYWORD, TRANSFORM, FIELD, OTHER, PRIVATE, END };
-static const char *const names[] = {"language", "script", "region", "variant", "attribute", "keyword", "transform", "field",
-    "other", "private"};
+static const char *const names[] = {
+    "language", "script", "region", "variant", "attribute", "keyword", "transform", "field", "other", "private"};
 
 /* A place in the table: the kind of part, and its index among those of its kind. */
 typedef struct {

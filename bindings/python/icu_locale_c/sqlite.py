@@ -23,7 +23,7 @@ _HERE = pathlib.Path(__file__).resolve().parent
 def _extension() -> pathlib.Path:
     """The extension: the one that ICU_LOCALE_SQLITE names, or beside this file (in a wheel), or in the repository."""
     named = os.environ.get("ICU_LOCALE_SQLITE")
-    places = [pathlib.Path(named)] if named else [_HERE / _NAME, _HERE.parents[2] / "out" / "bindings" / "sqlite" / _NAME]
+    places = [pathlib.Path(named)] if named else [_HERE / _NAME, _HERE.parent.parent.parent / "out" / "bindings" / "sqlite" / _NAME]
     for it in places:
         if it.is_file():
             return it

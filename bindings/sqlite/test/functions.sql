@@ -45,7 +45,7 @@ INSERT INTO strict_page VALUES ('en-us');
 PRAGMA integrity_check;
 .print # ranges: the examples of RFC 4647, section 3.3.2, then und, case and NULL
 SELECT group_concat(column1 || '=' || locale_matches(column1, 'de-DE'), ' ') FROM (VALUES ('de-DE'), ('de-de'), ('de-Latn-DE'), ('de-Latf-DE'), ('de-DE-x-goethe'), ('de-Latn-DE-1996'), ('de-Deva-DE'), ('de'), ('de-x-DE'), ('de-Deva'));
-SELECT locale_matches('de-us', 'UND-us'), locale_matches('de-x-us', 'und'), locale_matches('en-US-u-ca-buddhist', 'en-u-ca'), locale_matches('eng', 'en'), locale_matches(NULL, 'en'), locale_matches('en', NULL);
+SELECT locale_matches('de-us', 'UND-us'), locale_matches('de-x-us', 'und'), locale_matches('en-US-u-ca-buddhist', 'en-u-ca'), locale_matches('eng', 'en'), locale_matches('en-x-posix', 'en-posix'), locale_matches(NULL, 'en'), locale_matches('en', NULL);
 SELECT locale_matches('en', 'en-');
 SELECT locale_parent('und'), locale_parent('en-u-ca'), locale_parent('und-US');
 .print # dumped, restored, and opened without the extension

@@ -1,6 +1,7 @@
 """Loads the extension by the package icu_locale_c, asks about the vectors in three modes, and sorts by the collation.
 
 bindings/sqlite/try runs it. The last line is: N passed, M failed."""
+import contextlib
 import os
 import pathlib
 import sqlite3
@@ -10,6 +11,7 @@ sys.dont_write_bytecode = True
 TOP = pathlib.Path(os.path.realpath(__file__)).parents[3]
 sys.path[:0] = [f"{TOP}/tools", f"{TOP}/bindings/sql", f"{TOP}/bindings/python"]
 import icu_locale_c.sqlite
+from icu_locale_c import Locale, LocaleError
 from common import Counts, start
 from replay import ASKED, lines_of, see_answers, vectors
 
@@ -25,6 +27,40 @@ def see_vectors(counts, database):
         for name, texts, wanted in vectors(mode):
             given = [database.execute(statement, (text, word)).fetchone()[0] for text in texts]
             see_answers(counts, f"{name}, mode {word}", texts, given, wanted)
+
+
+def parent_of(locale):
+    """The parent: without extensions; of an identifier, without its last subtag; of a language, und; none of und."""
+    if locale.base_name != str(locale):
+        return locale.base_name
+    return None if locale.is_und else str(locale).rpartition("-")[0] or "und"
+
+
+# Each function, and the part as the package has it from the library.
+PARTS = (
+    ("locale_language(it)", lambda it: it.language),
+    ("locale_script(it)", lambda it: it.script),
+    ("locale_region(it)", lambda it: it.region),
+    ("locale_variants(it)", lambda it: "-".join(it.variants) or None),
+    ("locale_base_name(it)", lambda it: it.base_name),
+    ("locale_parent(it)", parent_of),
+    ("locale_keyword(it, 'CA')", lambda it: it.keywords.get("ca")),
+    ("(SELECT group_concat(key || '=' || value, ' ') FROM locale_parts(it) WHERE part = 'keyword')",
+     lambda it: " ".join(f"{key}={value}" for key, value in it.keywords.items()) or None),
+)
+
+
+def see_parts(counts, database):
+    """Parts, which the extension finds in the normal text, are those that the package has from the library."""
+    for name in ("texts.in", "long.in"):
+        locales = []
+        for text in lines_of(name):
+            with contextlib.suppress(LocaleError):
+                locales.append((text, Locale(text)))
+        for asked, part in PARTS:
+            statement = f"SELECT {asked} FROM (SELECT CAST(?1 AS TEXT) AS it)"
+            given = [database.execute(statement, (text,)).fetchone()[0] for text, _ in locales]
+            see_answers(counts, f"{name}, {asked}", [it for it, _ in locales], given, [part(it) for _, it in locales])
 
 
 def see_collation(counts, database):
@@ -75,6 +111,7 @@ def main():
     icu_locale_c.sqlite.load(database)
     see_loading(counts, database)
     see_refusal(counts, database)
+    see_parts(counts, database)
     see_vectors(counts, database)
     see_collation(counts, database)
     return counts.end()

@@ -1,5 +1,5 @@
-/* Refuses each request for memory of a statement in turn: those of the library, then those of SQLite as well. The statement
- * must answer as it does with memory, or end as out of memory. Afterwards the library holds nothing.
+/* Refuses each request for memory of a statement in turn: those of the library, then those of SQLite as well. The
+ * statement must answer as it does with memory, or end as out of memory. Afterwards the library holds nothing.
  *
  * The last line is: N cases as wanted. */
 #include "../../c/refusing.h"
@@ -10,9 +10,10 @@
 #include <string.h>
 
 #define ROOM 4096
+/* A long locale, for which an answer takes a block. */
 #define LONG \
-    "'EN-aaaaa-bbbbb-ccccc-ddddd-eeeee-fffff-u-kn-ca-buddhist-hc-h12-t-de-m0-din-a-foo-b-bar-x-a-b-c-d-e-f-abcdefgh-abcdefgh-abcdefgh" \
-    "-abcdefgh'" /* (more than the room that an answer has without a block) */
+    "'EN-aaaaa-bbbbb-ccccc-ddddd-eeeee-fffff-u-kn-ca-buddhist-hc-h12-t-de-m0-din-a-foo-b-bar-x-a-b-c-d-e-f" \
+    "-abcdefgh-abcdefgh-abcdefgh-abcdefgh'"
 
 int sqlite3_iculocalesqlite_init(sqlite3 *, char **, const void *);
 

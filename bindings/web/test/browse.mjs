@@ -50,7 +50,7 @@ try {
   await it.size?.(1000, 1250);
   await opened();
   const used = await it.run(USE);
-  failed.push(...used.failed);
+  failed.push(...used.failed ?? [`the page's script failed: ${used}`]);
   console.log(`${it.name}, ${narrow ? 'narrow' : 'wide'}: ${JSON.stringify(used.figures)}`);
 } finally {
   await it.end();

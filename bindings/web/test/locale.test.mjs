@@ -29,7 +29,8 @@ test('parts that change as those of Intl.Locale do', () => {
   const options = [{ region: 'GB' }, { script: 'Cyrl' }, { language: 'nl' }, { calendar: 'buddhist' }, { calendar: 'islamic-civil', numberingSystem: 'arab' },
     { numeric: false }, { hourCycle: 'h23', collation: 'phonebk', caseFirst: 'upper' }, { language: 'SR', script: 'LATN', region: 'rs' }];
   const canonical = text => { try { return String(new Intl.Locale(text)); } catch { return null; } };
-  const same = lines.filter(it => { const { normal } = tryNormalize(it); return normal !== undefined && normal === canonical(it); });
+  const some = lines.filter((_, at) => at % 4 === 0); // (Intl takes long)
+  const same = some.filter(it => { const { normal } = tryNormalize(it); return normal !== undefined && normal === canonical(it); });
   let count = 0;
   for (const text of same) {
     for (const it of options) {
@@ -40,7 +41,7 @@ test('parts that change as those of Intl.Locale do', () => {
       assert.equal(String(new Locale(text, it)), theirs);
     }
   }
-  assert.ok(count > 5000, `${count} are the same`);
+  assert.ok(count > 1500, `${count} are the same`);
 });
 
 test('each part changes alone', () => {
@@ -58,6 +59,7 @@ test('each part changes alone', () => {
     [{ keywords: {} }, 'en-Latn-US-posix-a-foo-t-de-m0-din-u-attr-x-a'],
     [{ keywords: {}, attributes: undefined }, 'en-Latn-US-posix-a-foo-t-de-m0-din-x-a'],
     [{ keywords: { nu: 'latn' }, calendar: 'iso8601' }, 'en-Latn-US-posix-a-foo-t-de-m0-din-u-attr-ca-iso8601-nu-latn-x-a'],
+    [{ keywords: { CA: 'iso8601' }, calendar: 'gregory' }, 'en-Latn-US-posix-a-foo-t-de-m0-din-u-attr-ca-gregory-x-a'],
     [{ calendar: undefined, numeric: undefined }, 'en-Latn-US-posix-a-foo-t-de-m0-din-u-attr-x-a'],
     [{ numeric: false, collation: 'phonebk' }, 'en-Latn-US-posix-a-foo-t-de-m0-din-u-attr-ca-roc-co-phonebk-kn-false-x-a'],
     [{ transform: null }, 'en-Latn-US-posix-a-foo-u-attr-ca-roc-kn-x-a'],
@@ -214,8 +216,9 @@ test('it travels', async () => {
   const { port1, port2 } = new MessageChannel();
   const came = new Promise(done => port2.once('message', done));
   port1.postMessage({ it });
-  assert.deepEqual(new Locale((await came).it), it);
+  const message = await came;
   port1.close();
+  assert.deepEqual(new Locale(message.it), it);
   assert.equal(inspect(it), "Locale 'en-US-u-kn'");
   assert.equal(inspect({ it }), "{ it: Locale 'en-US-u-kn' }");
   assert.equal(String(Object.prototype.toString.call(it)), '[object Locale]');
@@ -238,10 +241,10 @@ test('a refusal that is thrown costs little, and keeps frames if they are wanted
   assert.equal(Error.stackTraceLimit, limit);
   const time = () => {
     let least = Infinity;
-    for (let round = 0; round < 300; round++) {
+    for (let round = 0; round < 100; round++) {
       const start = process.hrtime.bigint();
-      for (let i = 0; i < 300; i++) thrown('en-US-foo');
-      least = Math.min(least, Number(process.hrtime.bigint() - start) / 300);
+      for (let i = 0; i < 100; i++) thrown('en-US-foo');
+      least = Math.min(least, Number(process.hrtime.bigint() - start) / 100);
     }
     return least;
   };

@@ -1,11 +1,14 @@
 // What the page says of lines and of faults beside the answers of the module: cleaning, and what may stand at a place.
 import test from 'node:test';
 import assert from 'node:assert/strict';
+import { pathToFileURL } from 'node:url';
 import { asString, real, texts, web } from './answers.mjs';
-import { cleaned, withoutMark } from '../page/cleaning.mjs';
-import { expecting } from '../page/expected.mjs';
-import { KEYS, KINDS } from '../page/words.mjs';
 
+// (PAGE is the folder of the page's scripts, as with a wrong edit in them)
+const ofPage = name => import(process.env.PAGE ? pathToFileURL(`${process.env.PAGE}/${name}`) : `../page/${name}`);
+const { cleaned, withoutMark } = await ofPage('cleaning.mjs');
+const { expecting } = await ofPage('expected.mjs');
+const { KEYS, KINDS } = await ofPage('words.mjs');
 const { findFault, partsOfNormal, tryNormalize } = web;
 const expected = expecting(web);
 

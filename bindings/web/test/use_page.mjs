@@ -9,7 +9,7 @@ async function usePage() {
   const said = selector => find(selector)?.innerText.trim() ?? null;
   const rest = () => new Promise(done => setTimeout(done));
   const until = async isSo => {
-    for (const end = performance.now() + 60000; !isSo() && performance.now() < end;) await new Promise(done => setTimeout(done, 20));
+    for (const end = performance.now() + 200000; !isSo() && performance.now() < end;) await new Promise(done => setTimeout(done, 20));
   };
   const type = (selector, text) => {
     find(selector).value = text;

@@ -112,4 +112,7 @@ pub use Rattle.iloc_program.specs.Numbered as ProgramListings
 pub use Rattle.iloc_program.specs.Listing as ProgramEntries
 pub use Rattle.iloc_program.specs.declared.numbered.Listing as ListingOptions
 pub use Rattle.iloc_normalize.specs.declared.Mode as ProgramModes
+pub use Rattle.iloc_locale.specs.LocaleParents
+pub use Rattle.iloc_matching.specs.Range as LocaleRanges
+pub use Rattle.iloc_cleaning.specs.Cleaning as CleanedLines
 pub mod Together

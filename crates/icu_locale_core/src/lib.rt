@@ -160,9 +160,20 @@ pub mod extensions {
 pub mod locale {
     pub use crate::together::locales as together;
     pub use iloc_locale::ordered::equality as ordered_equality;
+    pub use iloc_locale::parent::fallback_chain;
     pub use iloc_locale::{
         Locale, OrderedLocale, equality, every_locale_is_a_value, hashes, memory,
     };
+}
+
+/// Ranges of locales, by the extended filtering of RFC 4647: `zh-Hant-TW` matches `zh-TW`.
+pub mod matching {
+    pub use iloc_matching::matches;
+}
+
+/// Lines of other writers: `sr_RS.UTF-8@latin` is cleaned to `sr-Latn-RS`.
+pub mod cleaning {
+    pub use iloc_cleaning::{clean_line, without_mark};
 }
 
 /// Data locales: the parts of a locale by which data is looked up.
@@ -288,6 +299,16 @@ pub mod laws {
     /// Where the fault of a text stands.
     pub mod faults {
         pub use iloc_faults::laws::one_place;
+    }
+
+    /// What a range matches.
+    pub mod ranges {
+        pub use iloc_matching::matching;
+    }
+
+    /// What cleaning leaves.
+    pub mod cleaned {
+        pub use iloc_cleaning::laws::{by_example, unchanged};
     }
 
     /// What the program writes.

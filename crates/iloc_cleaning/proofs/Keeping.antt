@@ -1,5 +1,6 @@
 -- What a list began with before it grew, it begins with.
-use Rattle.std.proofs.Common.{◌≡◌, ℕ, ◌≤◌, List, ◌++◌, length, take, drop, arith, ap, sym, ◌∙◌, Result, Ok, Err, OnErr}
+use Rattle.std.proofs.Common.{◌≡◌, ℕ, ◌≤◌, List, ◌++◌, length, take, drop, arith, ap, sym, ◌∙◌, Result, Ok}
+use Rattle.std.proofs.Common.{Err, OnErr}
 use Rattle.std.proofs.Math.Seq.{take-append_seam}
 use Rattle.std.proofs.lemmas.List.{take-append-le, take-append-drop, length-append}
 
@@ -7,9 +8,11 @@ use Rattle.std.proofs.lemmas.List.{take-append-le, take-append-drop, length-appe
 pub take_further : (k n : ℕ) (old more new : List ℕ) → take k new ≡ old ++ more → n ≡ length old
     → take n new ≡ old
 take_further k n old more new e m =
-    let whole : new ≡ (old ++ more) ++ drop k new = sym (take-append-drop k new) ∙ ap (λ t. t ++ drop k new) e in
+    let whole : new ≡ (old ++ more) ++ drop k new =
+    sym (take-append-drop k new) ∙ ap (λ t. t ++ drop k new) e in
     let within : length old ≤ length (old ++ more) = omega (arith, length-append old more) in
-    rw m (ap (take (length old)) whole ∙ take-append-le (length old) (old ++ more) (drop k new) within ∙ take-append_seam old more)
+    rw m (ap (take (length old)) whole ∙ take-append-le (length old) (old ++ more) (drop k new) within
+    ∙ take-append_seam old more)
 
 -- so after a failure
 pub err_further : {T E : Type 0} (r : Result T E) (k n : ℕ) (old more mid new : List ℕ)

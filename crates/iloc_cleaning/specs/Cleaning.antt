@@ -1,8 +1,10 @@
 -- What cleaning makes of a line: the name of a locale as files and systems write it, in the form of
 -- UTS #35. This library's rule.
-use Rattle.std.specs.Prelude.{◌≡◌, ℕ, ◌-◌, ◌==◌, Bool, false, ◌||◌, List, [], ◌∷◌, ◌++◌, length, take, drop, map, codes}
+use Rattle.std.specs.Prelude.{◌≡◌, ℕ, ◌-◌, ◌==◌, Bool, false, ◌||◌, [], ◌∷◌, ◌++◌, length, take, drop, map}
+use Rattle.std.specs.Prelude.{codes}
 use Rattle.std.specs.Prelude.{nat_eq, if◌then◌else◌}
-use Rattle.std.specs.List.{AllByRecursion, starts_with, ends_with, before_first, position_or_len, prefix_len, suffix_len}
+use Rattle.std.specs.List.{AllByRecursion, starts_with, ends_with, before_first, position_or_len}
+use Rattle.std.specs.List.{prefix_len, suffix_len}
 use Rattle.std.specs.Str.{bytes_eq}
 use Rattle.iloc_spec_grammar.specs.Syntax.{Text}
 use Rattle.iloc_cleaning.specs.declared.modifier.Modifier.{Modifier}

@@ -18,7 +18,8 @@ use Rattle.iloc_faults.proofs.NewNumbers.{Cut, cut_at, longer, rest_distinct, bo
 use Rattle.iloc_faults.proofs.NewNumbers.{others_first, others_rest, others_moved, Repeats, new_numbers}
 use Rattle.iloc_faults.proofs.NewNumbers.{laws, repeats_part, begins_moved}
 
--- those before the place differ, and so many after it are none of them; the next repeats one, if there is a next
+-- those before the place differ, and so many after it are none of them; the next repeats one, if there is a
+-- next
 pub record IsCompared (all : List ℕ) (at : Left) (done fresh : ℕ) : Type 0 where
   pub before : List ℕ
   pub new : List ℕ
@@ -225,7 +226,8 @@ module _ {all : List ℕ} {at : Left} {done fresh : ℕ} (w : IsCompared all at 
   pub with_twice : ¬ (AreDistinct sorted) →
       IsCompared all at done (done + count - 1) × (1 ≤ count / 2) × (count / 2 ≤ count)
   with_twice h =
-      let here : ¬ (AreDistinct words) = λ d. h (IsDistinct-IsPermutation same laws.symm words sorted moves d) in
+      let here : ¬ (AreDistinct words) =
+      λ d. h (IsDistinct-IsPermutation same laws.symm words sorted moves d) in
       let two : 2 ≤ count = omega (arith, long, few_distinct words here) in (
         compare_less w count few (omega (arith, two)) (λ d. here (subst AreDistinct (sym both.0) d)),
         le-div 1 count 2 (omega arith) (omega (arith, two)),

@@ -1,7 +1,8 @@
 -- Numbers of which none comes twice, and how many come before one that does.
 use Rattle.std.proofs.Common.{◌≡◌, inl, inr, ℕ, zero, suc, ◌+◌, ◌<◌, ◌≤◌, Bool, true, false, List, []}
 use Rattle.std.proofs.Common.{◌∷◌, ◌++◌, length, refl, sym, ap, ◌∙◌, subst, arith, append_assoc, append-nil}
-use Rattle.std.proofs.Common.{true≢false, get_or, take, drop, set, take_all, Result, Ok, Err, is_ok, MatchResult}
+use Rattle.std.proofs.Common.{true≢false, get_or, take, drop, set, take_all, Result, Ok, Err, is_ok}
+use Rattle.std.proofs.Common.{MatchResult}
 use Rattle.std.specs.Prelude.{⊤}
 use Rattle.std.specs.List.{AllByRecursion, list_any}
 use Rattle.std.specs.List.Sorted.{IsPermutation, IsNonDecreasing, IsStrictlyIncreasing, IsBinarySearchResult}
@@ -230,4 +231,5 @@ rising_differ xs h = IsDistinct-from_sorted nat_cmp xs (sorted_from_strictly_inc
 pub twice : (xs : List ℕ) (i j : ℕ) → i < j → j < length xs → get_or xs i 0 ≡ get_or xs j 0 →
     ¬ (AreDistinct xs)
 twice xs i j less far e d = true≢false
-    (sym (laws.refl (get_or xs i 0)) ∙ ap (same (get_or xs i 0)) e ∙ apart_from_distinct same xs i j 0 d less far)
+    (sym (laws.refl (get_or xs i 0)) ∙ ap (same (get_or xs i 0)) e
+    ∙ apart_from_distinct same xs i j 0 d less far)

@@ -1,6 +1,7 @@
 -- What the functions of the reader say of one piece more.
-use Rattle.std.proofs.Common.{◌≡◌, ◌≢◌, ◌==◌, ◌≤◌, ◌-◌, ℕ, zero, suc, Bool, true, false, not, ◌&&◌, List, [], ◌∷◌}
-use Rattle.std.proofs.Common.{◌++◌, map, slice_index, true≢false, Option, Some, None, IfSome, option_map, refl, sym}
+use Rattle.std.proofs.Common.{◌≡◌, ◌≢◌, ◌==◌, ◌≤◌, ◌-◌, ℕ, zero, suc, Bool, true, false, not, ◌&&◌, List}
+use Rattle.std.proofs.Common.{[], ◌∷◌, ◌++◌, map, slice_index, true≢false, Option, Some, None, IfSome}
+use Rattle.std.proofs.Common.{option_map, refl, sym}
 use Rattle.std.proofs.Common.{ap, ◌∙◌, subst, arith}
 use Rattle.std.specs.List.{list_any}
 use Rattle.std.proofs.lemmas.Bool.{ne_eqb, not-true}
@@ -26,7 +27,8 @@ use Rattle.iloc_faults.specs.Next.{Reached, plain, is_new, is_seen, when, may_be
 use Rattle.iloc_faults.specs.Next.{after_region_next, after_script_next, word_next, piece_next, block_next}
 use Rattle.iloc_faults.specs.Next.{inside_next, next}
 use Rattle.iloc_faults.specs.States.{AreSingletonsSeen, AreVariantsRead, IsEarly, HasNone, IsPieceRead}
-use Rattle.iloc_faults.specs.States.{IsWordRead, AreNew, are_same, bare, first_variants, reached, variants_left}
+use Rattle.iloc_faults.specs.States.{IsWordRead, AreNew, are_same, bare, first_variants, reached}
+use Rattle.iloc_faults.specs.States.{variants_left}
 use Rattle.iloc_faults.proofs.VariantsLeft.{one_and_more, some_left}
 use Rattle.iloc_faults.proofs.Bits.{language_short, piece_short}
 
@@ -115,7 +117,8 @@ module _ (mode : Mode) (vs : List Text) (at : Left) where
           let known = subst (λ (ws : List Text). AreNew are_same vs ws n) words h in
           let less = one_less vs _ (lower (piece_left at)) n known (new_differs mode vs _ new) in
           let rest : less.0 ≡ n - 1 = omega (arith, less.1) in
-          subst (λ (k : ℕ). AreNew are_same (vs ++ (lower (piece_left at) ∷ [])) (map lower (variants_left m)) k)
+          subst (λ (k : ℕ).
+          AreNew are_same (vs ++ (lower (piece_left at) ∷ [])) (map lower (variants_left m)) k)
           rest less.2
 
 pub region_read : (mode : Mode) (at : Left) → is_word kinds.Region (piece_left at) ≡ true →

@@ -41,8 +41,10 @@ lent_laws (block_ptr b o) (Some m) =
     beside_shr_laws (said (flt o (2 ^ 63))) (lent_at R p m) (said_shr_laws (flt o (2 ^ 63)) tt)
     (lent_at_shr_laws R locale_laws.the_row_laws.shr_laws p m)
 
--- a share of a lifetime's token, with what is lent for that lifetime, is lent for as long as the share is borrowed
-module _ {M : Type 1} {𝓤 : Ura M} (𝓛 : Logic 𝓤) (t : Lft → Fml) (L : ShrLaws t) (a : ℕ) (e : Share) where
+-- a share of a lifetime's token, with what is lent for that lifetime, is lent for as long as the share is
+-- borrowed
+module _ {M : Type 1} {𝓤 : Ura M} (𝓛 : Logic 𝓤) (t : Lft → Fml)
+    (L : ShrLaws t) (a : ℕ) (e : Share) where
   open 𝓛 use {H, A}
 
   abbrev Owns : Fml
@@ -76,7 +78,8 @@ module _ {M : Type 1} {𝓤 : Ura M} (𝓛 : Logic 𝓤) (t : Lft → Fml) (L : 
       use1 𝓛 (‵ (flft κ (thinned κ q)) ⊛ raw (wand 𝓤 (A.lft κ (thinned κ q)) (A.lft (span ts) q)))
       (𝓛.lfts.lft-incl (span ts) κ q sp) $ split ! $ move ! (3 ∷ 0 ∷ []) $
       use2 𝓛 (later (‵ (t κ) ⊛ ‵ (flft κ (thinned κ q)))) (by_token κ (thinned κ q)) $ await ! tt $ split ! $
-      move ! (1 ∷ 2 ∷ []) $ use2 𝓛 (‵ (flft (span ts) q)) (apply∗ 𝓤 (A.lft κ (thinned κ q)) (A.lft (span ts) q)) $
+      move ! (1 ∷ 2 ∷ []) $
+      use2 𝓛 (‵ (flft (span ts) q)) (apply∗ 𝓤 (A.lft κ (thinned κ q)) (A.lft (span ts) q)) $
       move ! (0 ∷ 2 ∷ []) $ use2 𝓛 (raw (lfts 𝓛 ts)) (apply∗ 𝓤 (A.lft (span ts) q) (lfts 𝓛 ts)) $
       now ! $ move ! (1 ∷ 0 ∷ []) $ done !)
 
@@ -91,7 +94,8 @@ Shown = row (lending C.struct C.the_codes C.the_heap shown)
 pub shown_law : Law Shown
 shown_law = of_Lends C.struct C.the_codes C.the_heap shown (λ d p. lent_laws d.at d.value)
     (copy_shared RawPtr-field RawPtr-copy, tt)
-    (λ M 𝓤 𝓛 d p. Lends-loan 𝓛 (lent d.at d.value) (lent_laws d.at d.value) d.life (part_of d.part) Shown.lives)
+    (λ M 𝓤 𝓛 d p. Lends-loan 𝓛 (lent d.at d.value) (lent_laws d.at d.value)
+    d.life (part_of d.part) Shown.lives)
 
 module _ {M : Type 1} {𝓤 : Ura M} (𝓛 : Logic 𝓤) where
   open 𝓛 use {H, A}

@@ -1,5 +1,5 @@
 -- How the owner of a handle makes loans, and has the locale back. Assumes `Logic`.
---     lends_out     what a handle owns is lent for a new lifetime, whose token the owner has, until that lifetime ends
+--     lends_out     what a handle owns is lent for a new lifetime, until it ends; its token the owner has
 --     cuts          of the token that is left, the next reader has a part
 --     loans         so a reader has what a loan owns, and the owner lends on
 use Rattle.std.proofs.Common.{ℕ, ◌^◌, ◌<◌, [], ◌∷◌}
@@ -35,7 +35,8 @@ module _ {M : Type 1} {𝓤 : Ura M} (𝓛 : Logic 𝓤) where
   Lends-knowing P X t l shows then κ ts inc sp =
       let Back = H.⇛ (sep 𝓤 (A.bor κ P) (lfts 𝓛 ts)) in
       qed 𝓛 (‵ (fbor κ P) ∷ raw (lfts 𝓛 ts) ∷ []) ∵ updating ! $
-      use2 𝓛 (later (‵ P ⊛ raw (wand 𝓤 (sem 𝓛 P) Back))) (𝓛.more.bor_acc_by κ ts P sp) $ await ! tt $ split ! $
+      use2 𝓛 (later (‵ P ⊛ raw (wand 𝓤 (sem 𝓛 P) Back))) (𝓛.more.bor_acc_by κ ts P sp) $
+      await ! tt $ split ! $
       use1 𝓛 (given X (‵ P)) shows $ learn ! (λ x.
       use2 𝓛 (later (‵ (fbor κ P) ⊛ raw (lfts 𝓛 ts))) (apply∗ 𝓤 (sem 𝓛 P) Back) $ await ! tt $ split ! $
       use2 𝓛 (later (‵ (t κ) ⊛ raw (lfts 𝓛 ts))) (then x κ ts inc sp) $ await ! tt $ split ! $ now ! $ done !)
@@ -86,5 +87,6 @@ module _ {M : Type 1} {𝓤 : Ura M} (𝓛 : Logic 𝓤) where
       → ent 𝓤 (sep 𝓤 (A.lft (a ∷ []) (part_of n)) (sem 𝓛 (lent p v (a ∷ []))))
       (sep 𝓤 (sem 𝓛 (loan_owns a n p v)) (sem 𝓛 (lent p v (a ∷ []))))
   loans a n p v = qed 𝓛 (‵ (flft (a ∷ []) (part_of n)) ∷ ‵ (lent p v (a ∷ [])) ∷ []) ∵ move ! (1 ∷ []) $
-      use1 𝓛 (‵ (lent p v (a ∷ [])) ⊛ ‵ (lent p v (a ∷ []))) (contraction 𝓛 (lent p v) (lent_laws p v) (a ∷ [])) $
+      use1 𝓛 (‵ (lent p v (a ∷ [])) ⊛ ‵ (lent p v (a ∷ [])))
+      (contraction 𝓛 (lent p v) (lent_laws p v) (a ∷ [])) $
       split ! $ move ! (2 ∷ 0 ∷ []) $ fjoin ! $ done !

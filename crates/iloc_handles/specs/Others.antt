@@ -1,6 +1,5 @@
 -- The other extensions of a locale, by their singletons: what each is, and what setting one does.
-use Rattle.std.specs.Prelude.{◌≡◌, ◌⊎◌, ◌<◌, ℕ, true, ◌==◌, not, List, [], filter, length, Option}
-use Rattle.std.specs.Prelude.{option_map, is_some}
+use Rattle.std.specs.Prelude.{◌≡◌, ℕ, true, ◌==◌, not, List, [], filter, Option, option_map, is_some}
 use Rattle.std.specs.Char.{to_ascii_lowercase}
 use Rattle.std.specs.FinMap.{find, put}
 use Rattle.std.specs.Ordering.{nat_cmp}
@@ -11,7 +10,6 @@ use Rattle.iloc_spec_grammar.specs.Values.{other_text}
 use Rattle.iloc_spec_parts.specs.Fronts.{OtherRead}
 use Rattle.iloc_spec_parts.specs.Parts.{PartRead}
 use Rattle.iloc_subtags.specs.Judging.{Only}
-use Rattle.iloc_other.specs.Reading.{OtherTextWants}
 use Rattle.iloc_handles.specs.Finding.{Changing, Sets, Removes}
 
 -- the other extensions are others, and all else is the same
@@ -35,18 +33,12 @@ HasOther c M = is_some (other_at c M) ≡ true
 abbrev pub IsOtherText : Text → Block → Type 0
 IsOtherText t o = PartRead is_other_singleton OtherRead (pieces t) o []
 
--- for what memory may be wanted: more than four subtags, or an extension more
-abbrev pub OtherWants : Text → List Block → Type 0
-OtherWants t os = OtherTextWants t
-    ⊎ ((o : Block) × IsOtherText t o × (length os < length (put nat_cmp o.0 o.1 os)))
-
--- the extension of its singleton becomes that of the text
+-- the extension of its singleton becomes that of the text; memory may be wanted
 abbrev pub SetsOther : Text → Changing
-SetsOther t before after status = Sets
+SetsOther t = Sets
     (λ before after. (o : Block) × IsOtherText t o
     × (after ≡ with_others (put nat_cmp o.0 o.1 before.extensions.others) before))
-    (Only faults.InvalidExtension ((o : Block) → ¬ (IsOtherText t o)))
-    (OtherWants t before.extensions.others) before after status
+    (Only faults.InvalidExtension ((o : Block) → ¬ (IsOtherText t o))) (Unit {0})
 
 -- no extension has the singleton any more
 abbrev pub RemovesOther : ℕ → Changing

@@ -28,8 +28,8 @@ owned null_ptr (Some l) = ffalse
 owned (block_ptr b o) None = ffalse
 owned (block_ptr b o) (Some l) = box_owns may_free the_row (block_ptr b o) l
 
--- what is lent for a lifetime: nothing at null, and at any other pointer the locale there, to be read; and that
--- the pointer can be compared with null
+-- what is lent for a lifetime: nothing at null, and at any other pointer the locale there, to be read;
+-- and that the pointer can be compared with null
 abbrev pub lent : Ptr → Option Locale → Lft → Fml
 lent null_ptr None = nothing
 lent null_ptr (Some l) = said ffalse

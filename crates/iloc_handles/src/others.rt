@@ -1,11 +1,9 @@
 //! The other extensions of a locale, by their singletons.
-ghost use Rattle.std.specs.Prelude.{◌≡◌, ◌==◌, ◌<◌, ◌↔◌, ◌⊎◌, not, length, IsTrue, MatchResult, OnErr, OnOk};
+ghost use Rattle.std.specs.Prelude.{◌≡◌, ◌==◌, ◌↔◌, ◌⊎◌, not, IsTrue, MatchResult, OnErr, OnOk};
 ghost use Rattle.std.specs.FinMap.{put};
 ghost use Rattle.std.specs.Option.{option_copied};
 ghost use Rattle.std.specs.Ordering.{nat_cmp};
 ghost use Rattle.iloc_spec_grammar.specs.Syntax.{Block, is_other_singleton};
-ghost use Rattle.iloc_subtags.specs.Judging.{RunsOutOnlyIf};
-ghost use Rattle.iloc_other.specs.Reading.{OtherTextWants};
 ghost use Rattle.iloc_locale.specs.LocaleReading.{value_of};
 ghost use Rattle.iloc_handles.specs.Others.{
   HasOther as IsThere,
@@ -76,10 +74,9 @@ fn is_other(ext: u8) -> bool
 
 // The extension that is the text, as it may stand in a locale.
 fn read_other(alloc: Global, text: &[u8]) -> Result<Other, ParseError>
-    ensures read { MatchResult result (λ o. IsOtherText text.now o)
+    ensures { MatchResult result (λ o. IsOtherText text.now o)
         (λ e. (e ≡ ParseError.OutOfMemory)
         ⊎ ((e ≡ ParseError.InvalidExtension) × ((o : Block) → ¬ (IsOtherText text.now o)))) }
-    ensures memory { RunsOutOnlyIf (OtherTextWants text.now) result }
 {
     let mut iter = SubtagIterator::new(text);
     let Some(ext) = take_singleton(&mut iter) else {
@@ -107,8 +104,6 @@ fn place_to_put(others: &[Other], ext: u8) -> usize
 fn put_other(others: &mut Vec<Other>, other: Other) -> Result<(), AllocError>
     ensures ok { OnOk result (others.new.items ≡ put nat_cmp other.0 other.1 others.old.items) }
     ensures err { OnErr result (others.new.items ≡ others.old.items) }
-    ensures memory { OnErr result (length others.old.items
-        < length (put nat_cmp other.0 other.1 others.old.items)) }
 {
     let place = place_to_put(others, other.get_ext_byte());
     if place < others.len() && others[place].get_ext_byte() == other.get_ext_byte() {

@@ -1,5 +1,6 @@
 -- The fallback chain of locales, from that of identifiers.
-use Rattle.std.proofs.Common.{◌≡◌, ◌≢◌, ◌↔◌, inl, inr, ℕ, zero, suc, Option, Some, None, refl, sym, ap, ◌∙◌, subst}
+use Rattle.std.proofs.Common.{◌≡◌, ◌≢◌, ◌↔◌, inl, inr, ℕ, zero, suc, Option, Some, None}
+use Rattle.std.proofs.Common.{refl, sym, ap, ◌∙◌, subst}
 use Rattle.std.specs.Prelude.{option_map, option_and_then}
 use Rattle.iloc_spec_grammar.specs.Syntax.{Identifier}
 use Rattle.iloc_spec_grammar.specs.Meaning.{Locale, no_extensions, without_extensions}
@@ -17,15 +18,22 @@ later : (n : ℕ) (i u : Identifier) (o : Option Identifier) → parent_of i ≡
     after_steps parent_of (suc n) i ≡ Some u → option_and_then (after_steps parent_of n) o ≡ Some u
 later n i u o h e = sym (ap (option_and_then (after_steps parent_of n)) h) ∙ e
 
+-- the first step leads to the parent, if what comes after it leads on
+goes_on : (n : ℕ) (i u : Identifier) → after_steps parent_of (suc n) i ≡ Some u →
+    ((p : Identifier) → after_steps parent_of n p ≡ Some u
+    → Leads n (without_extensions p) (without_extensions u)) →
+    (o : Option Identifier) → parent_of i ≡ o → Leads (suc n) (without_extensions i) (without_extensions u)
+goes_on n i u e next None h = absurd (none_is_not_some (later n i u None h e))
+goes_on n i u e next (Some p) h = (
+  without_extensions p,
+  inr (refl, sym (ap (option_map without_extensions) h)),
+  next p (later n i u (Some p) h e),
+)
+
 chain : (n : ℕ) (i u : Identifier) → after_steps parent_of n i ≡ Some u →
     Leads n (without_extensions i) (without_extensions u)
 chain zero i u e = ap without_extensions (of_some e)
-chain (suc n) i u e = by (parent_of i) refl
-  where
-    by : (o : Option Identifier) → parent_of i ≡ o → Leads (suc n) (without_extensions i) (without_extensions u)
-    by None h = absurd (none_is_not_some (later n i u None h e))
-    by (Some p) h = (without_extensions p, inr (refl, sym (ap (option_map without_extensions) h)),
-        chain n p u (later n i u (Some p) h e))
+chain (suc n) i u e = goes_on n i u e (λ p. chain n p u) (parent_of i) refl
 
 ends : (i : Identifier) → Leads (part_count i) (without_extensions i) unknown_locale
 ends i = chain (part_count i) i unknown_identifier (chain_ends (part_count i) i refl)
@@ -57,7 +65,10 @@ has_none M p =
     elim p [
       | inl a ↦ absurd (none_is_not_some a.1)
       | inr b ↦ is_plain M b.0 ∙ ap without_extensions (last_step (part_count M.id) M.id
-            (chain_ends (part_count M.id) M.id refl) (no_more M.id (parent_of M.id) refl b.1)) ]
+          (chain_ends (part_count M.id) M.id refl) (no_more M.id (parent_of M.id) refl b.1))
+    ]
 
 pub only_und : (M : Locale) → IsParent M None ↔ (M ≡ unknown_locale)
-only_und M = (has_none M, λ e. let P : Locale → Type 0 = λ L. IsParent L None in subst P (sym e) (inr (refl, refl)))
+only_und M =
+    let P : Locale → Type 0 = λ L. IsParent L None in
+    (has_none M, λ e. subst P (sym e) (inr (refl, refl)))

@@ -1,6 +1,7 @@
 -- The entry of a line, from what is said of the line.
 use Rattle.std.proofs.Common.{◌≡◌, ℕ, true, false, ◌++◌, inl, inr, refl, sym, ap, ◌∙◌}
-use Rattle.std.proofs.Common.{append-nil, append_assoc, [], ◌∷◌, None, length, take, if◌then◌else◌, Bool, not, subst}
+use Rattle.std.proofs.Common.{append-nil, append_assoc, [], ◌∷◌, None, length, take, if◌then◌else◌, Bool}
+use Rattle.std.proofs.Common.{not, subst}
 use Rattle.std.specs.Prelude.{Result, OnOk}
 use Rattle.std.proofs.Math.Seq.{take-append_seam}
 use Rattle.iloc_subtags.specs.declared.parse_error.ParseError.{ParseError}
@@ -40,7 +41,8 @@ module _ (mode : Mode) (l : Listing) (n : ℕ) (line old : Text) where
   left_out new mid (normal, is, e) only cut = (
     accepted_entry l normal,
     inl (normal, is, refl),
-    rw only (cut ∙ ap (take (length old)) e ∙ take-append_seam old (normal ++ 10 ∷ []) ∙ sym (append-nil old)),
+    rw only (cut ∙ ap (take (length old)) e ∙ take-append_seam old (normal ++ 10 ∷ [])
+        ∙ sym (append-nil old)),
   )
 
   pub replied : (new : Text) → AnswersLine mode line old new None → l.only_refused ≡ false →

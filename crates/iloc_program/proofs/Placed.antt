@@ -1,5 +1,6 @@
 -- Each text has a place at which a fault would stand.
-use Rattle.std.proofs.Common.{◌≡◌, ℕ, List, [], ◌∷◌, ◌++◌, Option, Some, None, inl, inr, refl, sym, ap, ◌∙◌, subst, ◌+◌}
+use Rattle.std.proofs.Common.{◌≡◌, ℕ, List, [], ◌∷◌, ◌++◌, Option, Some, None, inl, inr, refl, sym, ap, ◌∙◌}
+use Rattle.std.proofs.Common.{subst, ◌+◌}
 use Rattle.std.proofs.Common.{append_assoc, append-nil, length}
 use Rattle.iloc_spec_grammar.specs.Syntax.{Text, pieces, dashes}
 use Rattle.iloc_normalize.specs.declared.Mode.{Mode}
@@ -7,7 +8,6 @@ use Rattle.iloc_normalize.specs.Answered.{HasRefusal}
 use Rattle.iloc_subtags.specs.declared.parse_error.ParseError.{ParseError}
 use Rattle.iloc_faults.specs.Next.{Reached, started, next}
 use Rattle.iloc_faults.specs.Places.{GoOn, IsFault, IsFaultPlace}
-use Rattle.iloc_faults.specs.declared.Fault.{Fault}
 use Rattle.iloc_faults.proofs.Going.{run, run_append, goes_on, goes_no_longer}
 
 abbrev SomePlace : Mode → Text → Type 0

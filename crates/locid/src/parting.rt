@@ -131,7 +131,10 @@ fn write_keywords(
 ) -> Result<(), AllocError> {
     let mut rest = unicode_keywords(extensions);
     let mut is_first = true;
-    'keywords: while !rest.is_empty() {
+    for _ in 0..extensions.len() {
+        if rest.is_empty() {
+            break;
+        }
         let (key, value, later) = cut_keyword(rest);
         if !is_first {
             to.extend_from_slice(between)?;
@@ -142,9 +145,6 @@ fn write_keywords(
             to.extend_from_slice(equals)?;
             write_quoted(value, quote, to)?;
         }
-        if later.len() >= rest.len() {
-            break 'keywords;
-        }
         rest = later;
     }
     Ok(())
@@ -153,10 +153,10 @@ fn write_keywords(
 // The keywords of the unicode extension, behind its attributes.
 fn unicode_keywords(extensions: &[u8]) -> &[u8] {
     let mut rest = unicode_block(extensions);
-    'attributes: while !rest.is_empty() {
+    for _ in 0..extensions.len() {
         let (piece, later) = cut_piece(rest);
-        if piece.len() == 2 || later.len() >= rest.len() {
-            return rest;
+        if piece.len() == 2 {
+            break;
         }
         rest = later;
     }
@@ -166,17 +166,14 @@ fn unicode_keywords(extensions: &[u8]) -> &[u8] {
 // What follows the singleton `u`.
 fn unicode_block(extensions: &[u8]) -> &[u8] {
     let mut rest = extensions;
-    'blocks: while !rest.is_empty() {
+    for _ in 0..extensions.len() {
         let (singleton, block, later) = cut_block(rest);
         if matches!(singleton, b"u") {
             return block;
         }
-        if later.len() >= rest.len() {
-            return later;
-        }
         rest = later;
     }
-    rest
+    &[]
 }
 
 fn write_quoted(text: &[u8], quote: &[u8], to: &mut ReplyBlock) -> Result<(), AllocError> {
@@ -213,11 +210,11 @@ fn write_text(text: &[u8], to: &mut ReplyBlock) -> Result<(), AllocError> {
 // Adds each piece.
 fn write_list(text: &[u8], to: &mut ReplyBlock) -> Result<(), AllocError> {
     let mut rest = text;
-    'pieces: while !rest.is_empty() {
+    for _ in 0..text.len() {
         let (piece, later) = cut_piece(rest);
         write_quoted(piece, b"\"", to)?;
-        if later.is_empty() || later.len() >= rest.len() {
-            break 'pieces;
+        if later.is_empty() {
+            break;
         }
         to.push(b',')?;
         rest = later;
@@ -228,13 +225,13 @@ fn write_list(text: &[u8], to: &mut ReplyBlock) -> Result<(), AllocError> {
 // Adds each extension: its singleton, and what follows.
 fn write_blocks(extensions: &[u8], to: &mut ReplyBlock) -> Result<(), AllocError> {
     let mut rest = extensions;
-    'blocks: while !rest.is_empty() {
+    for _ in 0..extensions.len() {
         let (singleton, block, later) = cut_block(rest);
         write_quoted(singleton, b"\"", to)?;
         to.push(b':')?;
         write_quoted(block, b"\"", to)?;
-        if later.is_empty() || later.len() >= rest.len() {
-            break 'blocks;
+        if later.is_empty() {
+            break;
         }
         to.push(b',')?;
         rest = later;

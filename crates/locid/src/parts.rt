@@ -50,15 +50,21 @@ pub fn cut(text: &[u8]) -> Parts<'_> {
     }
 }
 
+// Whether a piece of so many bytes begins at that place.
+fn is_piece(text: &[u8], at: usize, count: usize) -> bool
+    requires { at ≤ length text.now }
+{
+    let (before, rest) = text.split_at(at);
+    let (piece, _) = cut_piece(rest);
+    piece.len() == count && matches!(before, [] | [.., b'-'])
+}
+
 /// What stands before the first piece of one byte, and what begins with it.
 pub fn cut_blocks(text: &[u8]) -> (&[u8], &[u8]) {
-    let mut at = 0;
-    'pieces: while at < text.len() {
-        let (piece, _) = cut_piece(&text[at..]);
-        if piece.len() == 1 {
+    for at in 0..text.len() {
+        if is_piece(text, at, 1) {
             return (&text[..at.saturating_sub(1)], &text[at..]);
         }
-        at += piece.len() + 1;
     }
     (text, &[])
 }
@@ -76,13 +82,10 @@ pub fn cut_block(blocks: &[u8]) -> (&[u8], &[u8], &[u8]) {
 /// The first keyword, its key and its value, and what follows. Attributes, which come before, are no keywords.
 pub fn cut_keyword(block: &[u8]) -> (&[u8], &[u8], &[u8]) {
     let (key, rest) = cut_piece(block);
-    let mut at = 0;
-    'pieces: while at < rest.len() {
-        let (piece, _) = cut_piece(&rest[at..]);
-        if piece.len() == 2 {
+    for at in 0..rest.len() {
+        if is_piece(rest, at, 2) {
             return (key, &rest[..at.saturating_sub(1)], &rest[at..]);
         }
-        at += piece.len() + 1;
     }
     (key, rest, &[])
 }

@@ -1,7 +1,9 @@
 //! What is read in place of a line: its cleaned text, or the line with its newlines where lines end with zero bytes.
 
-ghost use Rattle.std.specs.Prelude.{◌≡◌, ◌++◌, OnOk, [], vec_items};
-ghost use Rattle.locid.specs.Prepared.{IsPrepared, with_newlines};
+ghost use Rattle.std.specs.Prelude.{◌≡◌, OnOk, true};
+ghost use Rattle.locid.specs.Prepared.{IsCleaned, IsCleanedEntry, IsPrepared, with_newlines};
+ghost use Rattle.iloc_program.specs.Numbered.{AddsText};
+ghost use Rattle.iloc_program.specs.ReplyBlock.{held};
 
 use iloc_cleaning::{clean_line, without_mark};
 use iloc_program::numbered::Lists;
@@ -37,23 +39,45 @@ impl<L: Lists, const BY_ZERO: bool, const CLEANS: bool> Lists for Prepared<L, BY
         line: &[u8],
         replies: &mut ReplyBlock,
     ) -> Result<(), AllocError> {
-        let mut text = line;
         if BY_ZERO {
             add_with_newlines(line, &mut self.whole)?;
-            text = self.whole.as_slice();
+            let line = self.whole.as_slice();
+            let room = &mut self.cleaned;
+            return list_cleaned::<L, CLEANS>(&mut self.below, room, listing, number, line, replies);
         }
-        if CLEANS {
-            self.cleaned.clear();
-            let whole = if number == 1 {
-                without_mark(text)
-            } else {
-                text
-            };
-            clean_line(whole, &mut self.cleaned)?;
-            text = self.cleaned.as_slice();
-        }
-        self.below.list(listing, number, text, replies)
+        let room = &mut self.cleaned;
+        list_cleaned::<L, CLEANS>(&mut self.below, room, listing, number, line, replies)
     }
+}
+
+// Adds what `below` writes for the line, which is cleaned before if that is asked for. The room holds what is cleaned.
+fn list_cleaned<L: Lists, const CLEANS: bool>(
+    below: &mut L,
+    room: &mut Vec<u8>,
+    listing: Listing,
+    number: u64,
+    line: &[u8],
+    replies: &mut ReplyBlock,
+) -> Result<(), AllocError>
+    ensures { OnOk result (AddsText (IsCleanedEntry L.is_entry CLEANS listing number line.now)
+        (held replies.old) (held replies.new)) }
+{
+    if CLEANS {
+        clean_into(number, line, room)?;
+        return below.list(listing, number, room.as_slice(), replies);
+    }
+    below.list(listing, number, line, replies)
+}
+
+// Has the room hold what cleaning leaves of a line. The first one may begin with a byte order mark.
+fn clean_into(number: u64, line: &[u8], room: &mut Vec<u8>) -> Result<(), AllocError>
+    ensures { OnOk result (IsCleaned true line.now room.new.items) }
+{
+    room.clear();
+    if number == 1 {
+        return clean_line(without_mark(line), room);
+    }
+    clean_line(line, room)
 }
 
 // Has the room hold the line with its newlines, which came as zero bytes.

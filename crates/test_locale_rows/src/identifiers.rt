@@ -30,7 +30,7 @@ fn front(out: &mut String, parts: &(Language, Option<Script>, Option<Region>)) {
 }
 
 // Says whether it is so, which ends here.
-fn says_truth(out: &mut String, is_so: bool) -> bool {
+pub fn says_truth(out: &mut String, is_so: bool) -> bool {
     truth(out, is_so);
     say(out, " ");
     true

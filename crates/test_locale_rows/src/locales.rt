@@ -1,7 +1,7 @@
 //! What locales and their extensions are asked, and their steps.
 use crate::Rows;
 use crate::changes::{keyword, others, retains, says_same};
-use crate::identifiers::debug;
+use crate::identifiers::{debug, says_truth};
 use iloc_data::DataLocale;
 use iloc_locale::{Extensions, Locale, OrderedLocale, every_locale_is_a_value, is_well_formed};
 use iloc_subtags::ParseError;
@@ -71,6 +71,7 @@ impl Answering<Rows> for Locale {
             b"other" => others(&mut self.extensions, step),
             b"keyword" => keyword(&mut self.extensions.unicode.keywords, step, out),
             b"retain" => retains(&mut self.extensions, step.first, out),
+            b"parent" => says_truth(out, self.truncate_to_parent()),
             b"noprivate" => {
                 self.extensions.private.clear();
                 true

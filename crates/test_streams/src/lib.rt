@@ -11,6 +11,8 @@ pub mod failing;
 pub use failing::FailingSink;
 
 #[cfg(test)]
+mod cleaning;
+#[cfg(test)]
 mod faults;
 #[cfg(test)]
 mod listings;

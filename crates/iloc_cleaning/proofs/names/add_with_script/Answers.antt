@@ -9,5 +9,6 @@ returns-clause-err c =
     (hyphens c.split_at.result.0.now ++ c.args.script) _ c.add_hyphens-2.new.cleaned.items
     c.add_hyphens-2.ensures.err
     (c.in_ok-extend_from_slice.ensures.items
-    ∙ ap (λ t. t ++ c.args.script) c.in_ok-add_hyphens.ensures.ok ∙ append_assoc c.args.cleaned.now.items (hyphens c.split_at.result.0.now) c.args.script)
+    ∙ ap (λ t. t ++ c.args.script) c.in_ok-add_hyphens.ensures.ok
+    ∙ append_assoc c.args.cleaned.now.items (hyphens c.split_at.result.0.now) c.args.script)
     (search rules)

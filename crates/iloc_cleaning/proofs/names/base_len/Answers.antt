@@ -6,6 +6,7 @@ use Rattle.iloc_cleaning.proofs.Finding.{unwrap_or-position}
 use Rattle.iloc_cleaning.proofs.names.base_len.Goals as goal
 
 pub returns-clause-first : goal.returns-clause-first
-returns-clause-first c = c.unwrap_or.ensures ∙ unwrap_or-position ends_base c.args.name.now c.position-found.result
+returns-clause-first c =
+    c.unwrap_or.ensures ∙ unwrap_or-position ends_base c.args.name.now c.position-found.result
     (sym (position_from_yields_List ends_base _ _ c.position-found.result c.position-found.ensures.ran
     (YieldsList-from_slice c.args.name.now c.iter.ensures.rest) (λ x b q k. search (rules, tests))))

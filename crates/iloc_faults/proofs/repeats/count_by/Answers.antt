@@ -11,7 +11,8 @@ use Rattle.iloc_faults.proofs.repeats.count_by.Goals as goal
 pub chunks-init : goal.chunks-init
 chunks-init g c =
     let words = map word_number (variants_left c.args.first) in
-    let e : length words ≡ c.args.all = length-map (variants_left c.args.first) word_number ∙ sym c.requires.all in (
+    let e : length words ≡ c.args.all =
+    length-map (variants_left c.args.first) word_number ∙ sym c.requires.all in (
       subst (λ (n : ℕ). IsCompared words c.args.first 0 n) e
           (compare_starts words c.args.first (variant_numbers c.args.first)),
       c.requires.some,
@@ -30,8 +31,9 @@ chunks-preserved-then-has_twice g c =
     let m = least c.min-count.result c.chunks.size (c.chunks.fresh - c.chunks.done) c.min-count.ensures in
     let long : length c.fill-later.new.words ≡ c.min-count.result =
     omega (arith, c.fill-later.auto.words, m.first) in
-    let t = with_twice c.chunks.invariant.0 c.min-count.result m.second c.fill-later.new.words c.sort_unstable.new.self
-    c.fill-later.result long c.fill-later.ensures c.sort_unstable.ensures.permutation (c.has_twice.ensures.yes c.if-has_twice.true) in
+    let t = with_twice c.chunks.invariant.0 c.min-count.result m.second c.fill-later.new.words
+    c.sort_unstable.new.self c.fill-later.result long c.fill-later.ensures
+    c.sort_unstable.ensures.permutation (c.has_twice.ensures.yes c.if-has_twice.true) in
     (t.0, t.1, omega (arith, t.2, m.first, c.chunks.invariant.2))
 
 pub count_others-requires-clause-words : goal.count_others-requires-clause-words
@@ -47,8 +49,9 @@ overflow_add-fresh-else-has_twice-2 g c =
     let m = least c.min-count.result c.chunks.size (c.chunks.fresh - c.chunks.done) c.min-count.ensures in
     let long : length c.fill-later.new.words ≡ c.min-count.result =
     search (rules, c.fill-later.auto.words, m.first, c.chunks.invariant.2) in
-    let f = found_within c.chunks.invariant.0 c.min-count.result m.second c.fill-later.new.words c.sort_unstable.new.self
-    c.fill-later.result long c.fill-later.ensures c.sort_unstable.ensures.permutation c.count_others.result c.count_others.ensures in
+    let f = found_within c.chunks.invariant.0 c.min-count.result m.second c.fill-later.new.words
+    c.sort_unstable.new.self c.fill-later.result long c.fill-later.ensures
+    c.sort_unstable.ensures.permutation c.count_others.result c.count_others.ensures in
     omega (arith, f, m.second, c.chunks-test.true, c.chunks.auto.fresh-fits)
 
 pub chunks-smaller : goal.chunks-smaller
@@ -56,11 +59,13 @@ chunks-smaller g c =
     let m = least c.min-count.result c.chunks.size (c.chunks.fresh - c.chunks.done) c.min-count.ensures in
     let long : length c.fill-later.new.words ≡ c.min-count.result =
     search (rules, c.fill-later.auto.words, m.first, c.chunks.invariant.2) in
-    let f = found_within c.chunks.invariant.0 c.min-count.result m.second c.fill-later.new.words c.sort_unstable.new.self
-    c.fill-later.result long c.fill-later.ensures c.sort_unstable.ensures.permutation c.count_others.result c.count_others.ensures in
+    let f = found_within c.chunks.invariant.0 c.min-count.result m.second c.fill-later.new.words
+    c.sort_unstable.new.self c.fill-later.result long c.fill-later.ensures
+    c.sort_unstable.ensures.permutation c.count_others.result c.count_others.ensures in
     let some = m.some c.chunks.invariant.1 (omega (arith, c.chunks-test.true)) in
-    let less : c.chunks.done + c.min-count.result + c.count_others.result - (c.chunks.done + c.min-count.result)
-    < c.chunks.fresh - c.chunks.done = omega (arith, f, some, m.second, c.chunks-test.true) in
+    let end = c.chunks.done + c.min-count.result in
+    let less : end + c.count_others.result - end < c.chunks.fresh - c.chunks.done =
+    omega (arith, f, some, m.second, c.chunks-test.true) in
     less
 
 pub chunks-preserved : goal.chunks-preserved
@@ -68,8 +73,9 @@ chunks-preserved g c =
     let m = least c.min-count.result c.chunks.size (c.chunks.fresh - c.chunks.done) c.min-count.ensures in
     let long : length c.fill-later.new.words ≡ c.min-count.result =
     search (rules, c.fill-later.auto.words, m.first, c.chunks.invariant.2) in (
-      with_once c.chunks.invariant.0 c.min-count.result m.second c.fill-later.new.words c.sort_unstable.new.self
-          c.fill-later.result long c.fill-later.ensures c.sort_unstable.ensures.permutation (c.has_twice.ensures.no c.if-has_twice.false)
+      with_once c.chunks.invariant.0 c.min-count.result m.second c.fill-later.new.words
+          c.sort_unstable.new.self c.fill-later.result long c.fill-later.ensures
+          c.sort_unstable.ensures.permutation (c.has_twice.ensures.no c.if-has_twice.false)
           c.count_others.result c.count_others.ensures,
       c.chunks.invariant.1,
       c.chunks.invariant.2,

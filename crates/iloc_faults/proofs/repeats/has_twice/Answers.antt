@@ -9,4 +9,5 @@ returns-then-sorted-i-clause-yes c _ =
 
 pub returns-clause-no : goal.returns-clause-no
 returns-clause-no c _ =
-    rising_differ c.args.sorted.now (λ k less. c.loop-i.invariant k (omega (arith, less, c.loop-i-test.false)))
+    rising_differ c.args.sorted.now
+    (λ k less. c.loop-i.invariant k (omega (arith, less, c.loop-i-test.false)))

@@ -1,4 +1,4 @@
-use Rattle.std.proofs.Common.{◌≡◌, true, false, refl}
+use Rattle.std.proofs.Common.{refl}
 use Rattle.std.proofs.lemmas.Result.{on_ok_weaker}
 use Rattle.iloc_program.specs.ReplyBlock.{held}
 use Rattle.iloc_program.proofs.EntryLemmas.{not_accepted, not_false, not_true, placed, refused}

@@ -1,4 +1,5 @@
-use Rattle.std.proofs.Common.{◌≡◌, ◌+◌, ◌-◌, ◌<◌, [], ◌∷◌, ◌++◌, length, take, drop, ap, ◌∙◌, sym, subst, arith}
+use Rattle.std.proofs.Common.{◌≡◌, ◌+◌, ◌-◌, ◌<◌, [], ◌∷◌, ◌++◌, length, take, drop, ap, ◌∙◌, sym, subst}
+use Rattle.std.proofs.Common.{arith}
 use Rattle.std.proofs.lemmas.Bool.Decides.{nat_tests}
 use Rattle.std.proofs.lemmas.List.{drop-drop, length-drop, take_all}
 use Rattle.iloc_spec_grammar.specs.Syntax.{Text}
@@ -16,7 +17,8 @@ lines-preserved g c =
     let later = c.split_at.result.1.now in
     let ends = c.line_end-end.ensures in
     let front : line ≡ take end rest = c.split_at.ensures.front in
-    let back_len : length rest ≡ end + length later = omega (arith, c.split_at.ensures.back_len, ends.within) in
+    let back_len : length rest ≡ end + length later =
+    omega (arith, c.split_at.ensures.back_len, ends.within) in
     let less : end < length rest =
     grind (arith, nat_tests, back_len, c.is_empty.ensures, c.if-is_empty.false) in
     let newline : rest ≡ line ++ 10 ∷ drop (end + 1) rest =

@@ -18,7 +18,8 @@ returns-clause-replies g c =
     let empty : c.args.pending.now.items ≡ [] = nil_from_length c.args.pending.now.items none in
     let same : take (length (take (n + 16) bytes) - 16) (take (n + 16) bytes)
     ≡ c.args.pending.now.items ++ line =
-    text_of_cut bytes n (omega (arith, c.requires.within)) ∙ sym c.requires.front ∙ ap (λ (t : Text). t ++ line) (sym empty) in
+    text_of_cut bytes n (omega (arith, c.requires.within)) ∙ sym c.requires.front
+    ∙ ap (λ (t : Text). t ++ line) (sym empty) in
     subst (λ (t : Text). OnOk c.list_line.result
     (AddsText (g.L.Lists.is_entry c.args.listing c.args.number t) (held c.args.replies.now)
     (held c.list_line.new.replies))) same c.list_line.ensures.replies

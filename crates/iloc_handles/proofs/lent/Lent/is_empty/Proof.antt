@@ -76,7 +76,8 @@ is_empty_spec 𝓤 𝓛 𝓜 𝓡 wired =
     use0 𝓛 (raw (fact 𝓤 (d ≡ d))) (fact_i 𝓤 (d ≡ d) (emp 𝓤) refl) $ join ! $
     keep ! (2 ∷ 3 ∷ 1 ∷ 0 ∷ []) $ by ! (leaves 𝓛 ended hs c z (vbool true) true (d, tt) (tt, tt)))
     -- a block: the answer is false
-    (λ n k m is_block is_some tested. drop ! $ move ! (1 ∷ 0 ∷ []) $ fjoin ! $ move ! (1 ∷ 0 ∷ []) $ fjoin ! $ move ! (1 ∷ []) $
+    (λ n k m is_block is_some tested. drop ! $
+    move ! (1 ∷ 0 ∷ []) $ fjoin ! $ move ! (1 ∷ 0 ∷ []) $ fjoin ! $ move ! (1 ∷ []) $
     let word : us ≡ alone (vptr n k) ∷ [] = is_at ∙ ap (λ (p : Ptr). alone (ptr_val p) ∷ []) is_block in
     rewrite ! 0 Cell word refl $
     sets ! (of_opd ! (load ! (through ! refl (fld ! refl (stop !))) (look_in ! 0 (sub ! 0 refl (whole !)))))

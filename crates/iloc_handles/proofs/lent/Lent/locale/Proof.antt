@@ -55,10 +55,12 @@ locale_spec 𝓤 𝓛 𝓜 𝓡 wired =
     qed 𝓛 (given ∷ raw ((c κs a).requires g) ∷ []) ∵
     move ! (1 ∷ []) $ heard ! (d.value ≢ None) (λ there.
     split ! $ split ! $ move ! (2 ∷ []) $ fsplit ! $ fsplit3 ! $ keep ! (1 ∷ 2 ∷ 4 ∷ []) $
-    enter ! 𝓣.C 𝓣.Λ fn at Post $ alloc_all ! (λ l. pass_all ! refl ((tt, tt), tt) $ let Ev = env fn.locals l in
+    enter ! 𝓣.C 𝓣.Λ fn at Post $ alloc_all ! (λ l. pass_all ! refl ((tt, tt), tt) $
+    let Ev = env fn.locals l in
     -- the borrow is given up for a `&`, and ends as it was
     move ! (0 ∷ 1 ∷ []) $ fjoin ! $
-    use2 𝓛 (later (‵ (hidden_shr Shown κ d b o) ⊛ (‵ (fres a.0.ghost_name (R.coded.code d)) ⊛ ‵ (flft κ qs.0))))
+    use2 𝓛 (later (‵ (hidden_shr Shown κ d b o)
+    ⊛ (‵ (fres a.0.ghost_name (R.coded.code d)) ⊛ ‵ (flft κ qs.0))))
     (ref_Share 𝓛 Shown b o a.0.ghost_name d shown_law.shr_laws κ qs.0 (shares_shown 𝓛 κ)) $ await ! tt $
     split ! $ move ! (1 ∷ []) $ split ! $ move ! (2 ∷ []) $
     use1 𝓛 (‵ (hidden_shr Data κ (d.at, tt) b o) ⊛ ‵ (fhide (lent d.at d.value κ)))

@@ -1,5 +1,4 @@
 use Rattle.std.proofs.Common.{◌≡◌, ℕ, take, length, ap, ◌∙◌, subst, Option, Some, None}
-use Rattle.iloc_spec_grammar.specs.Syntax.{Text}
 use Rattle.iloc_subtags.specs.declared.parse_error.ParseError.{ParseError}
 use Rattle.iloc_normalize.specs.declared.Mode.{Mode}
 use Rattle.iloc_pieces.specs.Window.{text_in}

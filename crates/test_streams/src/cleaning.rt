@@ -1,0 +1,25 @@
+//! Lines that are cleaned. What is expected follows the table at the head of `iloc_cleaning`.
+use iloc_cleaning::{clean_line, without_mark};
+use std::test::Fail;
+
+#[test]
+fn cleaning(rt: HostRuntime) -> Result<(), Fail> {
+    let mut lines = Vec::new(rt.alloc());
+    for line in [
+        "en_US.UTF-8",
+        "  de_DE@euro \r",
+        "sr_RS@latin",
+        "ca_ES.UTF-8@valencia",
+        "de_DE@phonebook",
+        "C.UTF-8",
+        "en US",
+    ] {
+        clean_line(line.as_bytes(), &mut lines)?;
+        lines.push(b'\n')?;
+    }
+    let wanted = b"en-US\nde-DE\nsr-Latn-RS\nca-ES-valencia\nde-DE@phonebook\nC\nen US\n";
+    assert_eq!(rt; lines.as_slice(), wanted.as_slice());
+    assert_eq!(rt; without_mark(b"\xEF\xBB\xBFen"), b"en".as_slice());
+    assert_eq!(rt; without_mark(b"\xEF\xBB\x9B"), b"\xEF\xBB\x9B".as_slice());
+    Ok(())
+}
