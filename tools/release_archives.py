@@ -36,10 +36,14 @@ def packed(files, time=NO_TIME):
 
 
 def sources(commit, prefix):
-    """Returns the sources of a commit, compressed by xz: what git knows, each file with the time of the commit."""
-    made = subprocess.run(["git", "-c", "tar.umask=0022", "archive", "--format=tar", f"--prefix={prefix}/", commit], cwd=TOP, check=True, stdout=subprocess.PIPE)
-    xz = ["xz", "--threads=1", "-6", "--stdout"]
-    return subprocess.run(xz, input=made.stdout, check=True, stdout=subprocess.PIPE).stdout
+    """Returns the sources of a commit as a tar: what git knows, each file with the time of the commit."""
+    words = ["git", "-c", "tar.umask=0022", "archive", "--format=tar", f"--prefix={prefix}/", commit]
+    return subprocess.run(words, cwd=TOP, check=True, stdout=subprocess.PIPE).stdout
+
+
+def by_xz(text):
+    """Returns a text, compressed by xz in one thread: with several the bytes would depend on their number."""
+    return subprocess.run(["xz", "--threads=1", "-6", "--stdout"], input=text, check=True, stdout=subprocess.PIPE).stdout
 
 
 def files_of(folder, prefix):
