@@ -28,7 +28,7 @@ use Rattle.iloc_locale.specs.declared.locale.Locale.{Locale}
 use Rattle.iloc_handles.specs.contracts.lent.Lent as C
 use Rattle.iloc_locale.specs.contracts.locale.Locale as locale
 use Rattle.iloc_locale.proofs.locale.Locale.TheLaws as locale_laws
-use Rattle.iloc_handles.specs.Owned.{lent, part_of}
+use Rattle.iloc_handles.specs.Owned.{lent, share_of}
 use Rattle.iloc_handles.specs.Staying.{stays}
 
 -- what is lent can be had twice, and for a shorter time
@@ -95,7 +95,7 @@ pub shown_law : Law Shown
 shown_law = of_Lends C.struct C.the_codes C.the_heap shown (λ d p. lent_laws d.at d.value)
     (copy_shared RawPtr-field RawPtr-copy, tt)
     (λ M 𝓤 𝓛 d p. Lends-loan 𝓛 (lent d.at d.value) (lent_laws d.at d.value)
-    d.life (part_of d.part) Shown.lives)
+    d.life (share_of d.part) Shown.lives)
 
 module _ {M : Type 1} {𝓤 : Ura M} (𝓛 : Logic 𝓤) where
   open 𝓛 use {H, A}

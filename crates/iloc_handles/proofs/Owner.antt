@@ -22,7 +22,7 @@ use Rattle.std.specs.Prelude.{Option, None, Some, suc}
 use Rattle.iloc_locale.specs.declared.locale.Locale.{Locale}
 use Rattle.iloc_locale.specs.contracts.locale.Locale as locale
 use Rattle.iloc_locale.proofs.locale.Locale.TheLaws as locale_laws
-use Rattle.iloc_handles.specs.Owned.{heap, left_after, lent, loan_owns, may_free, owned, part_of}
+use Rattle.iloc_handles.specs.Owned.{heap, left_after, lent, loan_owns, may_free, owned, share_of}
 use Rattle.iloc_handles.proofs.HandleWords.{owns_box, may_test}
 use Rattle.iloc_handles.proofs.Lending.{lent_laws}
 
@@ -75,18 +75,18 @@ module _ {M : Type 1} {𝓤 : Ura M} (𝓛 : Logic 𝓤) where
 
   -- of the token that is left each next reader has a part, and gives it back
   pub cuts : (a n : ℕ) → ent 𝓤 (A.lft (a ∷ []) (left_after n))
-      (sep 𝓤 (A.lft (a ∷ []) (part_of n)) (A.lft (a ∷ []) (left_after (suc n))))
+      (sep 𝓤 (A.lft (a ∷ []) (share_of n)) (A.lft (a ∷ []) (left_after (suc n))))
   cuts a n = 𝓛.lfts.lft_split (a ∷ []) (left_after n)
 
-  pub joins : (a n : ℕ) → ent 𝓤 (sep 𝓤 (A.lft (a ∷ []) (part_of n)) (A.lft (a ∷ []) (left_after (suc n))))
+  pub joins : (a n : ℕ) → ent 𝓤 (sep 𝓤 (A.lft (a ∷ []) (share_of n)) (A.lft (a ∷ []) (left_after (suc n))))
       (A.lft (a ∷ []) (left_after n))
   joins a n = 𝓛.lfts.lft_join (a ∷ []) (left_after n)
 
   -- so the next reader has what a loan owns, and what is lent stays for others
   pub loans : (a n : ℕ) (p : Ptr) (v : Option Locale)
-      → ent 𝓤 (sep 𝓤 (A.lft (a ∷ []) (part_of n)) (sem 𝓛 (lent p v (a ∷ []))))
+      → ent 𝓤 (sep 𝓤 (A.lft (a ∷ []) (share_of n)) (sem 𝓛 (lent p v (a ∷ []))))
       (sep 𝓤 (sem 𝓛 (loan_owns a n p v)) (sem 𝓛 (lent p v (a ∷ []))))
-  loans a n p v = qed 𝓛 (‵ (flft (a ∷ []) (part_of n)) ∷ ‵ (lent p v (a ∷ [])) ∷ []) ∵ move ! (1 ∷ []) $
+  loans a n p v = qed 𝓛 (‵ (flft (a ∷ []) (share_of n)) ∷ ‵ (lent p v (a ∷ [])) ∷ []) ∵ move ! (1 ∷ []) $
       use1 𝓛 (‵ (lent p v (a ∷ [])) ⊛ ‵ (lent p v (a ∷ [])))
       (contraction 𝓛 (lent p v) (lent_laws p v) (a ∷ [])) $
       split ! $ move ! (2 ∷ 0 ∷ []) $ fjoin ! $ done !

@@ -41,9 +41,9 @@ abbrev pub left_after : ℕ → Share
 left_after zero = full_share
 left_after (suc n) = Share.right (left_after n)
 
-abbrev pub part_of : ℕ → Share
-part_of n = Share.left (left_after n)
+abbrev pub share_of : ℕ → Share
+share_of n = Share.left (left_after n)
 
 -- a loan: a share of a lifetime's token, so that it lasts, and what is lent for that lifetime
 abbrev pub loan_owns : ℕ → ℕ → Ptr → Option Locale → Fml
-loan_owns life part p l = fsep (flft (life ∷ []) (part_of part)) (lent p l (life ∷ []))
+loan_owns life part p l = fsep (flft (life ∷ []) (share_of part)) (lent p l (life ∷ []))

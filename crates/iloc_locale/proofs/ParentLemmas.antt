@@ -8,7 +8,7 @@ use Rattle.iloc_langid.specs.Unknown.{unknown_identifier}
 use Rattle.iloc_langid.specs.Parents.{parent_of, part_count, after_steps}
 use Rattle.iloc_langid.proofs.ParentLemmas.{chain_ends, of_some}
 use Rattle.iloc_locale.specs.LocaleReading.{unknown_locale}
-use Rattle.iloc_locale.specs.LocaleParents.{IsParent, Leads}
+use Rattle.iloc_locale.specs.LocaleParents.{IsParent, StepsTo}
 
 none_is_not_some : {X : Type 0} {x : X} → None ≡ Some x → ⊥
 none_is_not_some e = cc
@@ -21,8 +21,8 @@ later n i u o h e = sym (ap (option_and_then (after_steps parent_of n)) h) ∙ e
 -- the first step leads to the parent, if what comes after it leads on
 goes_on : (n : ℕ) (i u : Identifier) → after_steps parent_of (suc n) i ≡ Some u →
     ((p : Identifier) → after_steps parent_of n p ≡ Some u
-    → Leads n (without_extensions p) (without_extensions u)) →
-    (o : Option Identifier) → parent_of i ≡ o → Leads (suc n) (without_extensions i) (without_extensions u)
+    → StepsTo n (without_extensions p) (without_extensions u)) →
+    (o : Option Identifier) → parent_of i ≡ o → StepsTo (suc n) (without_extensions i) (without_extensions u)
 goes_on n i u e next None h = absurd (none_is_not_some (later n i u None h e))
 goes_on n i u e next (Some p) h = (
   without_extensions p,
@@ -31,23 +31,23 @@ goes_on n i u e next (Some p) h = (
 )
 
 chain : (n : ℕ) (i u : Identifier) → after_steps parent_of n i ≡ Some u →
-    Leads n (without_extensions i) (without_extensions u)
+    StepsTo n (without_extensions i) (without_extensions u)
 chain zero i u e = ap without_extensions (of_some e)
 chain (suc n) i u e = goes_on n i u e (λ p. chain n p u) (parent_of i) refl
 
-ends : (i : Identifier) → Leads (part_count i) (without_extensions i) unknown_locale
+ends : (i : Identifier) → StepsTo (part_count i) (without_extensions i) unknown_locale
 ends i = chain (part_count i) i unknown_identifier (chain_ends (part_count i) i refl)
 
 is_plain : (M : Locale) → M.extensions ≡ no_extensions → M ≡ without_extensions M.id
 is_plain M h = ap (λ e. record { id = M.id; extensions = e }) h
 
-pub plain_ends : (M : Locale) → M.extensions ≡ no_extensions → Leads (part_count M.id) M unknown_locale
+pub plain_ends : (M : Locale) → M.extensions ≡ no_extensions → StepsTo (part_count M.id) M unknown_locale
 plain_ends M h =
-    let P : Locale → Type 0 = λ L. Leads (part_count M.id) L unknown_locale in
+    let P : Locale → Type 0 = λ L. StepsTo (part_count M.id) L unknown_locale in
     subst P (sym (is_plain M h)) (ends M.id)
 
 pub extended_ends : (M : Locale) → M.extensions ≢ no_extensions →
-    Leads (suc (part_count M.id)) M unknown_locale
+    StepsTo (suc (part_count M.id)) M unknown_locale
 extended_ends M h = (without_extensions M.id, inl (h, refl), ends M.id)
 
 last_step : (n : ℕ) (i : Identifier) → after_steps parent_of n i ≡ Some unknown_identifier →

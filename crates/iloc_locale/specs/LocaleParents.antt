@@ -9,6 +9,6 @@ IsParent M parent = ((M.extensions ≢ no_extensions) × (parent ≡ Some (witho
     ⊎ ((M.extensions ≡ no_extensions) × (parent ≡ option_map without_extensions (parent_of M.id)))
 
 -- n steps lead from a locale to another, each to the parent
-abbrev pub Leads : ℕ → Locale → Locale → Type 0
-Leads zero M N = M ≡ N
-Leads (suc n) M N = (P : Locale) × IsParent M (Some P) × Leads n P N
+abbrev pub StepsTo : ℕ → Locale → Locale → Type 0
+StepsTo zero M N = M ≡ N
+StepsTo (suc n) M N = (P : Locale) × IsParent M (Some P) × StepsTo n P N

@@ -3,7 +3,7 @@ ghost use Rattle.std.specs.Prelude.{◌≡◌, ◌≢◌, ◌↔◌, false, suc,
 ghost use Rattle.iloc_spec_grammar.specs.Meaning as meaning;
 ghost use Rattle.iloc_spec_grammar.specs.Meaning.{no_extensions};
 ghost use Rattle.iloc_langid.specs.Parents.{part_count};
-ghost use Rattle.iloc_locale.specs.LocaleParents.{IsParent, Leads};
+ghost use Rattle.iloc_locale.specs.LocaleParents.{IsParent, StepsTo};
 ghost use Rattle.iloc_locale.specs.LocaleReading.{unknown_locale, value_of};
 
 use crate::locale::Locale;
@@ -41,7 +41,7 @@ impl Locale {
 pub fn fallback_chain()
     ensures last { (M : meaning.Locale) → IsParent M None ↔ (M ≡ unknown_locale) }
     ensures plain { (M : meaning.Locale) → M.extensions ≡ no_extensions
-        → Leads (part_count M.id) M unknown_locale }
+        → StepsTo (part_count M.id) M unknown_locale }
     ensures extended { (M : meaning.Locale) → M.extensions ≢ no_extensions
-        → Leads (suc (part_count M.id)) M unknown_locale }
+        → StepsTo (suc (part_count M.id)) M unknown_locale }
 {}

@@ -3,6 +3,6 @@ use Rattle.std.specs.Prelude.{◌≡◌, ◌⊎◌, ◌∷◌, ◌++◌}
 use Rattle.iloc_spec_grammar.specs.Syntax.{Text}
 
 -- The text is an entry, or a name, a colon and an entry.
-abbrev pub IsNamed : (Text → Type 0) → Text → Type 0
-IsNamed IsEntry t = IsEntry t
+abbrev pub IsNamedEntry : (Text → Type 0) → Text → Type 0
+IsNamedEntry IsEntry t = IsEntry t
     ⊎ ((name : Text) × (entry : Text) × IsEntry entry × (t ≡ name ++ 58 ∷ entry))

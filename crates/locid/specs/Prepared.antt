@@ -9,9 +9,9 @@ abbrev pub with_newlines : Text → Text
 with_newlines t = map (λ b. if b == 0 then 10 else b) t
 
 -- The line, with its newlines if lines end with zero bytes.
-abbrev pub whole : Bool → Text → Text
-whole false line = line
-whole true line = with_newlines line
+abbrev pub line_read : Bool → Text → Text
+line_read false line = line
+line_read true line = with_newlines line
 
 -- What cleaning leaves of it, if that is asked for. The first line of an input may lose a byte order
 -- mark before.
@@ -29,4 +29,4 @@ IsCleanedEntry IsEntry cleans listing n line entry =
 abbrev pub IsPrepared : (Listing → ℕ → Text → Text → Type 0) → Bool → Bool
     → Listing → ℕ → Text → Text → Type 0
 IsPrepared IsEntry by_zero cleans listing n line entry =
-    IsCleanedEntry IsEntry cleans listing n (whole by_zero line) entry
+    IsCleanedEntry IsEntry cleans listing n (line_read by_zero line) entry

@@ -1,6 +1,6 @@
 //! Refused lines of several files, with the name of the file before the number of the line.
 
-ghost use Rattle.locid.specs.Named.{IsNamed};
+ghost use Rattle.locid.specs.Named.{IsNamedEntry};
 
 use iloc_faults::fault_of;
 use iloc_pieces::Window;
@@ -25,7 +25,7 @@ impl<'a, L> Naming<'a, L> {
 
 impl<L: Lists> Lists for Naming<'_, L> {
     ghost is_entry = { λ listing number line entry.
-        IsNamed (L.is_entry listing number line) entry };
+        IsNamedEntry (L.is_entry listing number line) entry };
 
     fn list(
         &mut self,
