@@ -239,10 +239,11 @@ fn run_cleaned<L: Lists + Drop, const BY_ZERO: bool, R: Read + Drop, W: Write + 
         (R.remaining reader.old) (R.remaining reader.new)
         (W.contents writer.old) (W.contents writer.new)) }
 {
+    let mut lists = lists;
     if cleans {
-        let mut prepared = Prepared::<L, BY_ZERO, true>::new(alloc, lists);
+        let mut prepared = Prepared::<L, BY_ZERO, true>::new(alloc, &mut lists);
         return run_numbered(alloc, &mut prepared, listing, 1, reader, writer);
     }
-    let mut prepared = Prepared::<L, BY_ZERO, false>::new(alloc, lists);
+    let mut prepared = Prepared::<L, BY_ZERO, false>::new(alloc, &mut lists);
     run_numbered(alloc, &mut prepared, listing, 1, reader, writer)
 }

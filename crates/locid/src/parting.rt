@@ -1,7 +1,5 @@
 //! The parts of each line, in columns or as a JSON object.
 
-ghost use Rattle.std.specs.Prelude.{Unit};
-
 use crate::inputs::Tally;
 use crate::parts::{Parts, cut, cut_block, cut_keyword, cut_piece};
 use crate::words::Format;

@@ -13,15 +13,15 @@ use std::alloc::{AllocError, Global};
 
 /// Writes for each line what `below` writes for what is read in its place.
 #[derive(Drop)]
-pub struct Prepared<L, const BY_ZERO: bool, const CLEANS: bool> {
-    below: L,
+pub struct Prepared<'a, L, const BY_ZERO: bool, const CLEANS: bool> {
+    below: &'a mut L,
     // Two rooms for what is read.
     whole: Vec<u8>,
     cleaned: Vec<u8>,
 }
 
-impl<L, const BY_ZERO: bool, const CLEANS: bool> Prepared<L, BY_ZERO, CLEANS> {
-    pub fn new(alloc: Global, below: L) -> Self {
+impl<'a, L, const BY_ZERO: bool, const CLEANS: bool> Prepared<'a, L, BY_ZERO, CLEANS> {
+    pub fn new(alloc: Global, below: &'a mut L) -> Self {
         Prepared {
             below,
             whole: Vec::new(alloc),
@@ -30,7 +30,7 @@ impl<L, const BY_ZERO: bool, const CLEANS: bool> Prepared<L, BY_ZERO, CLEANS> {
     }
 }
 
-impl<L: Lists, const BY_ZERO: bool, const CLEANS: bool> Lists for Prepared<L, BY_ZERO, CLEANS> {
+impl<L: Lists, const BY_ZERO: bool, const CLEANS: bool> Lists for Prepared<'_, L, BY_ZERO, CLEANS> {
     ghost is_entry = { IsPrepared L.is_entry BY_ZERO CLEANS };
 
     fn list(
@@ -43,7 +43,7 @@ impl<L: Lists, const BY_ZERO: bool, const CLEANS: bool> Lists for Prepared<L, BY
         let (text, _) = line.bytes.split_at(line.len());
         let whole = &mut self.whole;
         let cleaned = &mut self.cleaned;
-        let below = &mut self.below;
+        let below = &mut *self.below;
         list_prepared::<L, BY_ZERO, CLEANS>(below, whole, cleaned, listing, number, text, replies)
     }
 }

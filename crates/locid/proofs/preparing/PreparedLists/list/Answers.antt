@@ -12,5 +12,5 @@ returns g c =
     let text : c.split_at.result.0.now ≡ text_in c.args.line =
     c.split_at.ensures.front ∙ ap (λ (k : ℕ). take k c.args.line.bytes.now) c.len.ensures in
     subst (λ (t : Text). OnOk c.list_prepared.result (AddsText
-    (IsPrepared _ _ _ c.args.listing c.args.number t)
+    (IsPrepared g.L.Lists.is_entry _ _ c.args.listing c.args.number t)
     (held c.args.replies.now) (held c.list_prepared.new.replies))) text c.list_prepared.ensures
