@@ -1,5 +1,6 @@
 //! Calls of one kind of word, of short texts of two sizes, of refusals, and of ranges.
 use crate::tiny::{by_piece, joined, padded, resized};
+use iloc_matching::matches;
 use iloc_subtags::{CurrencyType, Language, ParseError, Region, Script, Subtag};
 use iloc_tinystr::TinyAsciiStr;
 use std::alloc::AllocError;
@@ -104,7 +105,7 @@ pub fn answer(call: &str, a: &[u8], b: &[u8], out: &mut String) {
         "subtag" => subtag(a, b, out),
         "of_tiny" => of_tiny(a, out),
         "refusal" => refusals(a, out),
-        "matches" => truth(out, iloc_matching::matches(a, b)),
+        "matches" => truth(out, matches(a, b)),
         _ => say(out, "no call"),
     }
 }
