@@ -18,16 +18,17 @@ __all__ = ["load"]
 
 _NAME = "icu_locale_sqlite.so"
 _HERE = pathlib.Path(__file__).resolve().parent
+_DEBIAN = pathlib.Path("/usr/lib/x86_64-linux-gnu")  # (where the package icu-locale-sqlite3 puts it)
 
 
 def _extension() -> pathlib.Path:
-    """The extension: the one that ICU_LOCALE_SQLITE names, or beside this file (in a wheel), or in the repository."""
+    """The extension: the one that ICU_LOCALE_SQLITE names, or beside this file (in a wheel), or in the repository, or of Debian."""
     named = os.environ.get("ICU_LOCALE_SQLITE")
-    places = [pathlib.Path(named)] if named else [_HERE / _NAME, _HERE.parent.parent.parent / "out" / "bindings" / "sqlite" / _NAME]
-    for it in places:
+    built = pathlib.Path(named) if named else _HERE.parent.parent.parent / "out" / "bindings" / "sqlite" / _NAME
+    for it in [built] if named else [_HERE / _NAME, built, _DEBIAN / _NAME]:
         if it.is_file():
             return it
-    raise ImportError(f"there is no {places[-1]}: run make in bindings/sqlite, or name the file by ICU_LOCALE_SQLITE")
+    raise ImportError(f"there is no {built}: install icu-locale-sqlite3, run make in bindings/sqlite, or name it by ICU_LOCALE_SQLITE")
 
 
 def load(connection: sqlite3.Connection) -> None:
