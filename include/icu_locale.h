@@ -83,7 +83,7 @@ extern "C" {
 
 /* Changes whenever a function of the library changes its form. icu_locale_version() gives the number of the header that
  * the library was made for. */
-#define ICU_LOCALE_VERSION 6
+#define ICU_LOCALE_VERSION 7
 
 /* How a text is parsed. Any other number is refused with ICU_LOCALE_UNKNOWN_NUMBER. */
 typedef uint32_t icu_locale_mode;
@@ -154,7 +154,8 @@ icu_locale_status icu_locale_check(icu_locale_mode mode, const uint8_t *text, si
  *
  * The piece at fault is the first that no text with a meaning has right after the pieces before it. Pieces count whole:
  * en-foo gives 3 and 6, though en-foobar has a meaning. If there is none, the text ends too early: *start and *end are
- * then its length. en-US-toolonggg gives 6 and 15, en--US gives 3 and 3, and en-u gives 4 and 4. Never allocates. */
+ * then its length. en-US-toolonggg gives 6 and 15, en--US gives 3 and 3, and en-u gives 4 and 4.
+ * It never fails, and allocates only for more than 16,384 variants in a row. */
 ICU_LOCALE_TAKES((4, 5)) ICU_LOCALE_TELLS
 icu_locale_status icu_locale_find_fault(icu_locale_mode mode, const uint8_t *text, size_t length, size_t *start,
     size_t *end) ICU_LOCALE_NOEXCEPT;
@@ -178,6 +179,68 @@ icu_locale_status icu_locale_normalizing_eq(icu_locale_mode mode, const uint8_t 
 ICU_LOCALE_WRITES(6) ICU_LOCALE_TELLS
 icu_locale_status icu_locale_compare(icu_locale_mode mode, const uint8_t *text, size_t length, const uint8_t *other,
     size_t other_length, int8_t *order) ICU_LOCALE_NOEXCEPT;
+
+/* Parts of what a text means, without a handle. Each call writes a text to the front of the buffer, and its length to
+ * *needed.
+ *
+ *     DONE               the buffer begins with the part; the bytes behind it are as before
+ *     BUFFER_TOO_SMALL   the buffer is as before, and *needed is the room that the part needs
+ *     NOT_FOUND          there is no such keyword, or und has no parent; the buffer is as before, and *needed is 0
+ *     any other status   that of icu_locale_check, for the text; the buffer is as before, and *needed is 0
+ *
+ * The part is in its normal form. A script, a region or variants that are absent are an empty text, with DONE. Allocates
+ * only for a text of more than 48 bytes, of which each of these calls can end with OUT_OF_MEMORY. */
+
+/* The identifier alone, without extensions: en-Latn-US of en-latn-us-u-ca-buddhist. */
+ICU_LOCALE_WRITES(6) ICU_LOCALE_TELLS
+icu_locale_status icu_locale_base_name_of(icu_locale_mode mode, const uint8_t *text, size_t length, uint8_t *buffer,
+    size_t room, size_t *needed) ICU_LOCALE_NOEXCEPT;
+
+/* Language, script and region: en, Latn, US. The language is und if it is unknown. */
+ICU_LOCALE_WRITES(6) ICU_LOCALE_TELLS
+icu_locale_status icu_locale_language_of(icu_locale_mode mode, const uint8_t *text, size_t length, uint8_t *buffer,
+    size_t room, size_t *needed) ICU_LOCALE_NOEXCEPT;
+ICU_LOCALE_WRITES(6) ICU_LOCALE_TELLS
+icu_locale_status icu_locale_script_of(icu_locale_mode mode, const uint8_t *text, size_t length, uint8_t *buffer,
+    size_t room, size_t *needed) ICU_LOCALE_NOEXCEPT;
+ICU_LOCALE_WRITES(6) ICU_LOCALE_TELLS
+icu_locale_status icu_locale_region_of(icu_locale_mode mode, const uint8_t *text, size_t length, uint8_t *buffer,
+    size_t room, size_t *needed) ICU_LOCALE_NOEXCEPT;
+
+/* The variants, ascending, with hyphens between them: macos-posix. */
+ICU_LOCALE_WRITES(6) ICU_LOCALE_TELLS
+icu_locale_status icu_locale_variants_of(icu_locale_mode mode, const uint8_t *text, size_t length, uint8_t *buffer,
+    size_t room, size_t *needed) ICU_LOCALE_NOEXCEPT;
+
+/* The value of a keyword by its key, in any case: islamic-civil of ca in en-u-ca-islamic-civil. A key that stands alone
+ * has an empty value. A text that is no key is NOT_FOUND. */
+ICU_LOCALE_WRITES(8) ICU_LOCALE_TELLS
+icu_locale_status icu_locale_keyword_of(icu_locale_mode mode, const uint8_t *text, size_t length, const uint8_t *key,
+    size_t key_length, uint8_t *buffer, size_t room, size_t *needed) ICU_LOCALE_NOEXCEPT;
+
+/* The parent: the locale without its extensions; or else without its last variant, its region, its script, in this order;
+ * or und, if it is a language alone. und itself has none: NOT_FOUND. So en-Latn-US-u-ca-buddhist leads to en-Latn-US,
+ * en-Latn, en and und. */
+ICU_LOCALE_WRITES(6) ICU_LOCALE_TELLS
+icu_locale_status icu_locale_parent(icu_locale_mode mode, const uint8_t *text, size_t length, uint8_t *buffer,
+    size_t room, size_t *needed) ICU_LOCALE_NOEXCEPT;
+
+/* Writes 1 to *same if the range stands for the locale, and else 0: the extended filtering of RFC 4647, section 3.3.2, with
+ * und for its wildcard. zh-Hant-TW matches zh-TW, zh and und-TW; en-x-us does not match en-US. Both are texts of locales,
+ * in any spelling. A refusal is that of the text, or if the text has a meaning, that of the range. *same is then as before.
+ * It may allocate for any of them, and then end with OUT_OF_MEMORY. */
+ICU_LOCALE_WRITES(5) ICU_LOCALE_TELLS
+icu_locale_status icu_locale_matches(const uint8_t *text, size_t length, const uint8_t *range, size_t range_length,
+    uint8_t *same) ICU_LOCALE_NOEXCEPT;
+
+/* What the name of a locale, as files and systems write it, is in the form of UTS #35: sr-Latn-RS of sr_RS.UTF-8@latin.
+ * Blanks at both ends, a CR at the end and a codeset are left out; an underscore becomes a hyphen; @euro is left out, and a
+ * modifier of glibc that names a script or a variant becomes one. All else stays, and nothing is normalized or refused:
+ * pass what is written to another call. At most 9 bytes longer than the text. Ends with DONE, BUFFER_TOO_SMALL, or
+ * OUT_OF_MEMORY, since it allocates. */
+ICU_LOCALE_WRITES(5) ICU_LOCALE_TELLS
+icu_locale_status icu_locale_clean(const uint8_t *text, size_t length, uint8_t *buffer, size_t room, size_t *needed)
+    ICU_LOCALE_NOEXCEPT;
 
 /* Writes the words of a status, such as "Invalid subtag", to the front of the buffer, and their length to *needed. It
  * ends with the statuses of icu_locale_normalize. A buffer of 64 bytes is always enough, so its status may be ignored.

@@ -13,7 +13,8 @@
  * refused text, and for a number that is no mode and no priority. Out of memory is std::bad_alloc in both. What threw
  * has changed nothing.
  *
- * No call here looks whether the library was made for this header: is_of_this_version() alone tells. Ask it once.
+ * Before main, or as it is loaded, a program asks once whether the library was made for this header. If it was not, the
+ * program says so and ends, by std::abort: no other call is made.
  *
  * Functions on texts may be called from any number of threads. So may the const members of a locale, as of any class of
  * the standard library: many threads may read one locale at the same time, while none changes it.
@@ -34,7 +35,11 @@
 #include <compare>
 #endif
 #include <cstdint>
+#include <cstdio>
 #include <cstdlib>
+#if __cplusplus >= 202002L && __has_include(<format>)
+#include <format>
+#endif
 #include <functional>
 #include <new>
 #include <optional>
@@ -46,6 +51,33 @@
 #include <vector>
 
 namespace icu_locale {
+
+/* Whether the library that is linked or loaded was made for this header. */
+inline bool is_of_this_version() noexcept
+{
+    return icu_locale_version() == ICU_LOCALE_VERSION;
+}
+
+#if defined(__clang__)
+#pragma clang diagnostic push
+#pragma clang diagnostic ignored "-Wglobal-constructors" // it is to be asked before main
+#endif
+
+namespace detail {
+
+inline const bool is_asked = [] {
+    if (!is_of_this_version()) {
+        std::fputs("icu_locale.hpp: libicu_locale was made for another header\n", stderr);
+        std::abort();
+    }
+    return true;
+}();
+
+} // namespace detail
+
+#if defined(__clang__)
+#pragma clang diagnostic pop
+#endif
 
 /* How a text is parsed. */
 enum class mode : icu_locale_mode {
@@ -143,7 +175,8 @@ private:
 #pragma clang diagnostic pop
 #endif
 
-/* A value, or why there is none. value() throws icu_locale::error if there is none. */
+/* A value, or why there is none. value() and * throw icu_locale::error if there is none. Of a temporary result they give
+ * the value itself, which outlives it. */
 template <class T> class [[nodiscard]] result {
 public:
     result(T value) : value_(std::move(value)), told_(icu_locale::status::done) {}
@@ -163,6 +196,7 @@ public:
         return std::move(value_);
     }
     const T &operator*() const & { return value(); }
+    T operator*() && { return std::move(*this).value(); }
     const T *operator->() const { return &value(); }
 
 private:
@@ -287,6 +321,110 @@ inline int compare(std::string_view text, std::string_view other, mode as = mode
 {
     const auto order = try_compare(text, other, as);
     return order ? *order : detail::value_of(order, check(text, as) == status::done ? other : text, as);
+}
+
+namespace detail {
+
+/* What a call writes into a room of so many bytes, or its status. */
+template <class Call> result<std::string> written(std::size_t room, const Call &call)
+{
+    std::string text(room, '\0');
+    std::size_t needed = 0;
+    const status ended = told(call(reinterpret_cast<std::uint8_t *>(text.data()), room, &needed));
+    if (ended != status::done)
+        return ended;
+    text.resize(needed);
+    return text;
+}
+
+/* The part that a call gives of a text. It is at most four bytes longer than the text. */
+template <class Call> result<std::string> part_of(Call call, std::string_view text, mode as)
+{
+    return written(text.size() + 4, [&](std::uint8_t *at, std::size_t room, std::size_t *needed) {
+        return call(static_cast<icu_locale_mode>(as), bytes(text), text.size(), at, room, needed);
+    });
+}
+
+/* The part, if there is one; it throws the error of a text that is refused. */
+inline std::optional<std::string> found(result<std::string> made, std::string_view text, mode as)
+{
+    if (made.status() == status::not_found)
+        return std::nullopt;
+    return value_of(std::move(made), text, as);
+}
+
+inline std::optional<std::string> unless_empty(std::string part)
+{
+    return part.empty() ? std::nullopt : std::optional<std::string>(std::move(part));
+}
+
+} // namespace detail
+
+/* Parts of what a text means, without a locale in memory. The language is und if it is unknown; variants are joined by
+ * hyphens. */
+inline std::string base_name_of(std::string_view text, mode as = mode::locale)
+{
+    return detail::value_of(detail::part_of(icu_locale_base_name_of, text, as), text, as);
+}
+
+inline std::string language_of(std::string_view text, mode as = mode::locale)
+{
+    return detail::value_of(detail::part_of(icu_locale_language_of, text, as), text, as);
+}
+
+inline std::optional<std::string> script_of(std::string_view text, mode as = mode::locale)
+{
+    return detail::unless_empty(detail::value_of(detail::part_of(icu_locale_script_of, text, as), text, as));
+}
+
+inline std::optional<std::string> region_of(std::string_view text, mode as = mode::locale)
+{
+    return detail::unless_empty(detail::value_of(detail::part_of(icu_locale_region_of, text, as), text, as));
+}
+
+inline std::string variants_of(std::string_view text, mode as = mode::locale)
+{
+    return detail::value_of(detail::part_of(icu_locale_variants_of, text, as), text, as);
+}
+
+/* The value of the keyword with this key, in any case, if there is one. */
+inline std::optional<std::string> keyword_of(std::string_view text, std::string_view key, mode as = mode::locale)
+{
+    auto call = [&](std::uint8_t *at, std::size_t room, std::size_t *needed) {
+        return icu_locale_keyword_of(static_cast<icu_locale_mode>(as), detail::bytes(text), text.size(),
+            detail::bytes(key), key.size(), at, room, needed);
+    };
+    return detail::found(detail::written(text.size() + 4, call), text, as);
+}
+
+/* The parent: without extensions; or else without the last variant, the region, the script; or und, which has none. */
+inline std::optional<std::string> parent(std::string_view text, mode as = mode::locale)
+{
+    return detail::found(detail::part_of(icu_locale_parent, text, as), text, as);
+}
+
+/* Whether the range stands for the locale, both in any spelling: RFC 4647, section 3.3.2, with und for its wildcard. */
+inline result<bool> try_matches(std::string_view text, std::string_view range)
+{
+    std::uint8_t same = 0;
+    const status told = detail::told(
+        icu_locale_matches(detail::bytes(text), text.size(), detail::bytes(range), range.size(), &same));
+    return told == status::done ? result<bool>(same == 1) : result<bool>(told);
+}
+
+inline bool matches(std::string_view text, std::string_view range)
+{
+    const auto same = try_matches(text, range);
+    return same ? *same : detail::value_of(same, check(text) == status::done ? range : text, mode::locale);
+}
+
+/* What the name of a locale, as files and systems write it, is in the form of UTS #35: sr-Latn-RS of sr_RS@latin. */
+inline std::string clean(std::string_view name)
+{
+    auto call = [&](std::uint8_t *at, std::size_t room, std::size_t *needed) {
+        return icu_locale_clean(detail::bytes(name), name.size(), at, room, needed);
+    };
+    return detail::written(name.size() + 9, call).value();
 }
 
 /* A locale, with parts to read and to change. It starts as und, the unknown locale, and is und once it was moved from.
@@ -502,6 +640,18 @@ public:
             accept(detail::told(icu_locale_extend_unicode(&held_, &from.held_)));
     }
 
+    /* The locale without its extensions; if it has none, without its last variant, region, script or language. Nothing if
+     * it is und. So the parents of en-US-u-ca-roc are en-US, en and und. */
+    std::optional<locale> parent() const
+    {
+        if (is_und())
+            return std::nullopt;
+        const std::string base = base_name();
+        const bool is_base = strict_cmp(base) == 0;
+        const std::size_t end = is_base ? base.rfind('-') : base.size();
+        return end == std::string::npos ? locale() : locale(std::string_view(base).substr(0, end));
+    }
+
     /* The text of the data locale, by which data is looked up: en-US of en-GB-u-rg-uszzzz, by region. */
     std::string data_locale(priority by = priority::language) const
     {
@@ -652,16 +802,20 @@ private:
     icu_locale_t held_ = ICU_LOCALE_UND;
 };
 
-/* Whether the library that is linked or loaded was made for this header. If it was not, no other call may be made. */
-inline bool is_of_this_version() noexcept
-{
-    return icu_locale_version() == ICU_LOCALE_VERSION;
-}
-
 } // namespace icu_locale
 
 template <> struct std::hash<icu_locale::locale> {
     std::size_t operator()(const icu_locale::locale &it) const noexcept { return static_cast<std::size_t>(it.hash()); }
 };
+
+#if defined(__cpp_lib_format)
+/* std::format("{:>8}", locale): the normal form, in the forms that a text has. */
+template <> struct std::formatter<icu_locale::locale> : std::formatter<std::string_view> {
+    template <class Context> auto format(const icu_locale::locale &it, Context &context) const
+    {
+        return std::formatter<std::string_view>::format(it.to_string(), context);
+    }
+};
+#endif
 
 #endif

@@ -1,4 +1,4 @@
-"""Checks the HTML pages of public items: links, names in prose, ids, names that are bound, what search finds, and examples."""
+"""Checks the HTML pages of public items: links, names in prose, ids, names that are bound, and examples."""
 import collections
 import html
 import os
@@ -31,7 +31,7 @@ def broken_links(texts, folder, places, found):
             yield f"{name}: {target} leads to the network"
         elif not os.path.isfile(f"{folder}/{page or name}"):
             yield f"{name}: no page {page}"
-        elif anchor.startswith("q=") and api_search.found_by(anchor[2:], found):
+        elif anchor.startswith("q=") and any(anchor[2:] in it[0] for it in found):
             continue
         elif anchor and anchor not in places.get(page or name, ()):
             yield f"{name}: no place {anchor} in {page or name}"
@@ -67,14 +67,6 @@ def bound_links(texts):
             yield from (f"{name}: the bound {it} is a link" for it in re.findall(r"<a [^>]*>([^<]*)</a>", names))
 
 
-def not_found(found):
-    """Yields each query whose first result is not the one that a reader wants."""
-    for query, wanted in api_search.WANTED.items():
-        first = api_search.found_by(query, found)[:3]
-        if first[:1] != [wanted]:
-            yield f"search for '{query}' does not find {wanted} first: {', '.join(first) or 'nothing'}"
-
-
 def wrong_examples():
     """Yields each example that is an arm, on a bare `self`, or a part of a statement; and each call that no test, program
     of rows or user's program makes, as far as its type or its name shows."""
@@ -91,4 +83,4 @@ def faults(folder):
     found = api_search.items()
     places = {name: collections.Counter(re.findall(r'\bid="([^"]*)"', text)) for name, text in texts.items()}
     wrong = [*broken_links(texts, folder, places, found), *no_links(texts), *wrong_ids(places), *bound_links(texts)]
-    return [*wrong, *not_found(found), *wrong_examples()], len(texts) + len(api_search.WANTED)
+    return [*wrong, *wrong_examples()], len(texts)

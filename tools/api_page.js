@@ -1,5 +1,4 @@
-// Search over ITEMS, a list of [title, page, what it says, kind, what else is sought in], which stands before this
-// script. tools/api_search.py ranks as this does.
+// Search over ITEMS, a list of [title, page, what it says, kind, what else is sought in], which stands before this script.
 (function () {
   "use strict";
   var box = document.getElementById("q"), list = document.getElementById("found"), on = -1;

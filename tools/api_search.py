@@ -8,7 +8,6 @@ from common import read
 
 # What is found is in this order, where the words of a query fit alike.
 TYPE, MODULE, CALL, VARIANT, PROSE, LAW, DEFINITION = 0, 20, 30, 40, 120, 150, 200
-SUFFIX = re.compile(r" \((definition|in words|module)\)$")
 # Modules that few programs use come after the others.
 RARE = {"bench": 20, "json": 20, "program": 20}
 
@@ -50,29 +49,6 @@ def items():
     named = [(it, block.name) for it in files().values() for block in it.blocks if block.name]
     found += [(f"{name} (definition)", f"{it.page()}#{name}", f"{it.crate}: {it.module}", DEFINITION, "") for it, name in named]
     return [[title, at, said.replace("`", ""), kind, more.replace("`", "")] for title, at, said, kind, more in found]
-
-
-def rank(item, words):
-    """Returns how well an item fits, as tools/api_page.js does."""
-    title = SUFFIX.sub("", item[0].lower())
-    last, total = title.split("::")[-1], 0
-    for word in words:
-        if word in title:
-            total += 0 if last == word else 1 if last.startswith(word) else 2
-        elif word in item[2].lower():
-            total += 6
-        elif word in item[4].lower():
-            total += 9
-        else:
-            return -1
-    return total * 100 + item[3] + len(title)
-
-
-def found_by(query, among):
-    """Returns the titles that a query finds, the best first."""
-    words = query.lower().split()
-    ranked = [(rank(it, words), it[0]) for it in among]
-    return [title for at, title in sorted((it for it in ranked if it[0] >= 0), key=lambda it: it[0])]
 
 
 # Words that readers type, and what they are to find first.

@@ -18,7 +18,7 @@ RESULTS = {
 }
 # What kind of handle, text, number or place to write to a parameter is.
 HANDLES = {"reads": "locale", "changes": "locale", "from": "from", "other": "other"}
-TEXTS = {"text": "text", "bytes": "other", "key": "key", "value": "value"}
+TEXTS = {"text": "text", "bytes": "other", "range": "range", "key": "key", "value": "value"}
 NUMBERS = {
     "mode": ("u32", "icu_locale_mode", "_NUMBER"),
     "status": ("u32", "icu_locale_status", "_NUMBER"),

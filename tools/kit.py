@@ -2,8 +2,7 @@
 
 What the tools use of them: rt.read_edit, rt.checked, rt.unread, rt.must_fail, rt.in_lanes, rt.need,
 rt.processors, rt.KIT, rt.Crate, rt.handles_of, rt.ci, rt.share_work and rt.Kept if they are there, and rtlib's Crate,
-blanked, crates_below, kit_sources, guarded, lock, STALE. A new toolchain may change them;
-tools/test_scripts says which of them are gone.
+blanked, crates_below, kit_sources, guarded, lock, STALE. A new toolchain may change them.
 
 A crate's stamp, by which rt sees whether its library is that of the present text, is asked for once
 in each run of a tool."""

@@ -67,5 +67,5 @@ def crate(version):
     files = {f"{prefix}/{it.relative_to(rust)}": (it.read_bytes(), False) for it in paths}
     files.update({f"{prefix}/{it}": ((TOP / it).read_bytes(), False) for it in ("LICENSE", "NOTICE")})
     told = re.sub(r'(?m)^version = ".*"$', f'version = "{version}"', read("bindings/rust/Cargo.toml"), count=1)
-    files[f"{prefix}/Cargo.toml"] = (told.encode(), False)
+    files[f"{prefix}/Cargo.toml"] = (told.partition("\n[patch.")[0].encode(), False)
     return packed(files)

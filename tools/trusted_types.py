@@ -39,12 +39,20 @@ def own(item):
     return found[1].split("::")[-1] if found else ""
 
 
+def other_names(it):
+    """Returns the `use` lines of names in a type that stand for others, as `Key` for `UnicodeKey`."""
+    named = sorted({*re.findall(r"[A-Z]\w*", shape(it))} & {*it.module.names})
+    paths = {name: it.module.names[name] for name in named}
+    return [f"use {'::'.join(path)} as {name}" for name, path in paths.items() if path[-1] != name]
+
+
 def types_part(sources, closure, place):
     """Returns the lines of the types and their members, by the files in which they stand."""
     blocks = {}
     for it in sorted([*closure.types, *closure.members], key=place):
         lines = blocks.setdefault(it.module.path, [])
         if it.kind != "ghost":
+            lines += [line for line in other_names(it) if line not in lines]
             lines.append(shape(it))
         elif not own(it):
             owner = " ".join(it.owner.name.split())

@@ -119,7 +119,146 @@ static const char *normal_of(icu_locale_mode mode, const char *text)
     return normal;
 }
 
+typedef icu_locale_status (*part_of)(icu_locale_mode, const uint8_t *, size_t, uint8_t *, size_t, size_t *);
+
+/* What a call that takes a text gives, as a C string; "?" if there is no such part. It tries a buffer that is too small
+ * too. */
+static const char *of_text(part_of call, icu_locale_mode mode, const char *text)
+{
+    uint8_t small[ROOM];
+    icu_locale_status status = call(mode, TEXT(text), ROOM_FOR_PART);
+    const char *part = ended(status);
+    size_t again = 77, length = needed;
+    if (length == 0) {
+        WANT(call(mode, TEXT(text), NULL, 0, &again) == status && again == 0);
+        return part;
+    }
+    memset(small, '#', sizeof small);
+    WANT(call(mode, TEXT(text), small, length - 1, &again) == ICU_LOCALE_BUFFER_TOO_SMALL && again == length);
+    for (size_t i = 0; i < sizeof small; i++)
+        WANT(small[i] == '#');
+    WANT(call(mode, TEXT(text), small, length, &again) == ICU_LOCALE_DONE && again == length);
+    WANT(memcmp(small, last, length) == 0 && small[length] == '#');
+    return part;
+}
+
+static const char *keyword_of_text(icu_locale_mode mode, const char *text, const char *key)
+{
+    return ended(icu_locale_keyword_of(mode, TEXT(text), TEXT(key), ROOM_FOR_PART));
+}
+
 /* Known cases. */
+
+#define IS(call, text, part) WANT(strcmp(of_text(call, ICU_LOCALE_LOCALE, text), part) == 0)
+#define IS_IN(mode, call, text, part) WANT(strcmp(of_text(call, mode, text), part) == 0)
+
+/* Each call that takes a text and gives a part refuses the text so, in the mode. */
+static void is_refused_in(icu_locale_mode mode, const char *text, icu_locale_status status)
+{
+    static const part_of calls[] = {icu_locale_base_name_of, icu_locale_language_of, icu_locale_script_of,
+        icu_locale_region_of, icu_locale_variants_of, icu_locale_parent};
+    for (size_t i = 0; i < sizeof calls / sizeof *calls; i++)
+        WANT(calls[i](mode, TEXT(text), ROOM_FOR_PART) == status && needed == 0);
+    WANT(icu_locale_keyword_of(mode, TEXT(text), TEXT("ca"), ROOM_FOR_PART) == status && needed == 0);
+}
+
+/* The order of variants and keywords is that of UTS #35, section 3.2.1. */
+static void try_parts_of_texts(void)
+{
+    const char *all = "SR-latn-RS-posix-1994-T-de-m0-din-U-attr-nu-LATN-ca-islamic-Civil-kn-a-foo-x-u-ca-roc";
+    IS(icu_locale_base_name_of, all, "sr-Latn-RS-1994-posix");
+    IS(icu_locale_language_of, all, "sr");
+    IS(icu_locale_script_of, all, "Latn");
+    IS(icu_locale_region_of, all, "RS");
+    IS(icu_locale_variants_of, all, "1994-posix");
+    IS(icu_locale_parent, all, "sr-Latn-RS-1994-posix");
+    WANT(strcmp(keyword_of_text(ICU_LOCALE_LOCALE, all, "CA"), "islamic-civil") == 0);
+    WANT(strcmp(keyword_of_text(ICU_LOCALE_LOCALE, all, "nu"), "latn") == 0);
+    WANT(strcmp(keyword_of_text(ICU_LOCALE_LOCALE, all, "kn"), "") == 0);
+    WANT(strcmp(keyword_of_text(ICU_LOCALE_LOCALE, all, "m0"), "?") == 0);
+    WANT(strcmp(keyword_of_text(ICU_LOCALE_LOCALE, all, "attr"), "?") == 0);
+    WANT(strcmp(keyword_of_text(ICU_LOCALE_LOCALE, "en-x-u-ca-roc", "ca"), "?") == 0);
+    WANT(strcmp(keyword_of_text(ICU_LOCALE_LOCALE, "en-a-ca-roc", "ca"), "?") == 0);
+    WANT(strcmp(keyword_of_text(ICU_LOCALE_LOCALE, "en-u-ca-roc-ca-iso8601", "ca"), "roc") == 0);
+    IS(icu_locale_parent, "sr-Latn-RS-1994-posix", "sr-Latn-RS-1994");
+    IS(icu_locale_parent, "sr-latn-RS-1994", "sr-Latn-RS");
+    IS(icu_locale_parent, "sr-latn-rs", "sr-Latn");
+    IS(icu_locale_parent, "SR-latn", "sr");
+    IS(icu_locale_parent, "SR", "und");
+    IS(icu_locale_parent, "UND", "?");
+    IS(icu_locale_parent, "und-u-ca-roc", "und");
+    IS(icu_locale_parent, "und-x-a", "und");
+    IS(icu_locale_script_of, "es-419", "");
+    IS(icu_locale_region_of, "es-419", "419");
+    IS(icu_locale_variants_of, "de-1996", "1996");
+    IS(icu_locale_region_of, "de-1996", "");
+    IS(icu_locale_script_of, "de-1996", "");
+    IS(icu_locale_variants_of, "es-419", "");
+}
+
+static void try_modes_of_texts(void)
+{
+    IS_IN(ICU_LOCALE_IDENTIFIER, icu_locale_region_of, "ZH-hant-tw", "TW");
+    IS_IN(ICU_LOCALE_DATA_LOCALE, icu_locale_region_of, "und-u-sd-gbeng", "GB");
+    IS_IN(ICU_LOCALE_DATA_LOCALE, icu_locale_parent, "und-u-sd-gbeng", "und-GB");
+    WANT(strcmp(keyword_of_text(ICU_LOCALE_DATA_LOCALE, "und-GB-u-sd-gbeng", "SD"), "gbeng") == 0);
+    is_refused_in(ICU_LOCALE_IDENTIFIER, "en-u-ca-roc", ICU_LOCALE_INVALID_SUBTAG);
+    is_refused_in(ICU_LOCALE_LOCALE, "e", ICU_LOCALE_INVALID_LANGUAGE);
+    is_refused_in(ICU_LOCALE_LOCALE, "en-u", ICU_LOCALE_INVALID_EXTENSION);
+    is_refused_in(ICU_LOCALE_LOCALE, "en-a-bb-a-cc", ICU_LOCALE_DUPLICATED_EXTENSION);
+    is_refused_in(ICU_LOCALE_DATA_LOCALE, "en-u-ca-roc", ICU_LOCALE_INVALID_EXTENSION);
+    is_refused_in(3, "en", ICU_LOCALE_UNKNOWN_NUMBER);
+    is_refused_in(257, "en", ICU_LOCALE_UNKNOWN_NUMBER);
+}
+
+/* A text with more pieces, and more bytes, than are looked at without memory. */
+static void try_long_texts(void)
+{
+    char text[ROOM] = "EN-us-u-nu-LATN-ca-roc";
+    for (int i = 0; i < 70; i++)
+        strcat(text, "-a1b");
+    IS(icu_locale_language_of, text, "en");
+    IS(icu_locale_region_of, text, "US");
+    IS(icu_locale_base_name_of, text, "en-US");
+    IS(icu_locale_parent, text, "en-US");
+    WANT(strcmp(keyword_of_text(ICU_LOCALE_LOCALE, text, "nu"), "latn") == 0);
+    strcat(text, "-");
+    is_refused_in(ICU_LOCALE_LOCALE, text, ICU_LOCALE_INVALID_EXTENSION);
+    IS_IN(ICU_LOCALE_DATA_LOCALE, icu_locale_language_of, "EN-u-sd-gbeng-true-true-true-true-true-true-true-true-true", "en");
+    IS_IN(ICU_LOCALE_DATA_LOCALE, icu_locale_region_of, "EN-u-sd-gbeng-true-true-true-true-true-true-true-true-true", "GB");
+}
+
+static int does_match(const char *text, const char *range)
+{
+    uint8_t same = 9;
+    WANT(icu_locale_matches(TEXT(text), TEXT(range), &same) == ICU_LOCALE_DONE && same <= 1);
+    return same;
+}
+
+static int is_cleaned(const char *name, const char *cleaned)
+{
+    return strcmp(ended(icu_locale_clean(TEXT(name), ROOM_FOR_PART)), cleaned) == 0;
+}
+
+/* The first range is that of RFC 4647, section 3.3.2, with its tags. */
+static void try_ranges(void)
+{
+    static const char *const yes[] = {"de-DE", "de-de", "de-Latn-DE", "de-Latf-DE", "de-DE-x-goethe", "de-Latn-DE-1996",
+        "de-Deva-DE"};
+    static const char *const no[] = {"de", "de-x-DE", "de-Deva"};
+    uint8_t same = 9;
+    for (size_t i = 0; i < sizeof yes / sizeof *yes; i++)
+        WANT(does_match(yes[i], "DE-de"));
+    for (size_t i = 0; i < sizeof no / sizeof *no; i++)
+        WANT(!does_match(no[i], "de-DE"));
+    WANT(does_match("zh-hant-TW", "und-tw") && does_match("en", "und") && !does_match("en-x-us", "en-US"));
+    WANT(icu_locale_matches(TEXT("en-"), TEXT("e"), &same) == ICU_LOCALE_INVALID_SUBTAG && same == 9);
+    WANT(icu_locale_matches(TEXT("en"), TEXT("en-u"), &same) == ICU_LOCALE_INVALID_EXTENSION && same == 9);
+    WANT(is_cleaned(" en_US.UTF-8\r", "en-US") && is_cleaned("sr_RS.UTF-8@latin", "sr-Latn-RS"));
+    WANT(is_cleaned("ca_ES@valencia", "ca-ES-valencia") && is_cleaned("de_DE@euro", "de-DE"));
+    WANT(is_cleaned("de_DE@phonebook", "de-DE@phonebook") && is_cleaned("C.UTF-8", "C") && is_cleaned("", ""));
+    WANT(icu_locale_clean(TEXT("en_US"), (uint8_t *)last, 4, &needed) == ICU_LOCALE_BUFFER_TOO_SMALL && needed == 5);
+}
 
 static void try_und(void)
 {
@@ -722,6 +861,27 @@ static void see_words(icu_locale_t *locale, const struct kind *calls, const stru
     WANT(strcmp(read_at(locale, calls->get, (size_t)it->count), "?") == 0);
 }
 
+/* A call on the normal text gives what the call on the handle gives. */
+static void see_texts(icu_locale_t *locale, const char *normal)
+{
+    static const struct {
+        reading of_handle;
+        part_of of_text;
+    } calls[] = {{icu_locale_get_base_name, icu_locale_base_name_of}, {icu_locale_get_language, icu_locale_language_of},
+        {icu_locale_get_script, icu_locale_script_of}, {icu_locale_get_region, icu_locale_region_of}};
+    char part[ROOM];
+    for (size_t i = 0; i < sizeof calls / sizeof *calls; i++) {
+        put(part, sizeof part, read_part(locale, calls[i].of_handle));
+        IS(calls[i].of_text, normal, part);
+    }
+    for (size_t i = 0; i < icu_locale_keyword_count(locale); i++) {
+        char key[4];
+        put(key, sizeof key, read_at(locale, icu_locale_get_keyword_key, i));
+        put(part, sizeof part, keyword(locale, key));
+        WANT(strcmp(keyword_of_text(ICU_LOCALE_LOCALE, normal, key), part) == 0);
+    }
+}
+
 /* Each part, as the model has it. */
 static void see(icu_locale_t *locale, struct model *it)
 {
@@ -737,6 +897,7 @@ static void see(icu_locale_t *locale, struct model *it)
     WANT(strcmp(read_part(locale, icu_locale_get_language), *it->language ? it->language : "und") == 0);
     WANT(strlen(read_part(locale, icu_locale_get_script)) == strlen(it->script));
     WANT(strlen(read_part(locale, icu_locale_get_region)) == strlen(it->region));
+    see_texts(locale, normal);
     see_words(locale, &VARIANTS, &it->variants);
     see_words(locale, &ATTRIBUTES, &it->attributes);
     WANT(icu_locale_keyword_count(locale) == (size_t)it->keyword_count);
@@ -906,6 +1067,27 @@ static icu_locale_status call_eq_text(icu_locale_t *it)
     return status;
 }
 
+static icu_locale_status call_long_text(icu_locale_t *it)
+{
+    (void)it;
+    return icu_locale_region_of(ICU_LOCALE_LOCALE, TEXT("en-us-aaaaa-bbbbb-ccccc-ddddd-eeeee-fffff-ggggg-hhhhh"), ROOM_FOR_PART);
+}
+
+static icu_locale_status call_matches(icu_locale_t *it)
+{
+    uint8_t same = 9;
+    icu_locale_status status = icu_locale_matches(TEXT("EN-us-u-ca-roc"), TEXT("EN-us"), &same);
+    (void)it;
+    WANT((same == 9) == (status == ICU_LOCALE_OUT_OF_MEMORY));
+    return status;
+}
+
+static icu_locale_status call_clean(icu_locale_t *it)
+{
+    (void)it;
+    return icu_locale_clean(TEXT("sr_RS.UTF-8@latin"), ROOM_FOR_PART);
+}
+
 static icu_locale_status call_nothing(icu_locale_t *it)
 {
     WANT(icu_locale_set_region(it, TEXT("fra")) == ICU_LOCALE_INVALID_SUBTAG);
@@ -952,6 +1134,9 @@ static void try_refused(void)
         refuse_each(call_field, starts[i], 1);
         refuse_each(call_extend, starts[i], 1);
         refuse_each(call_eq_text, starts[i], 1);
+        refuse_each(call_long_text, starts[i], 1);
+        refuse_each(call_matches, starts[i], 1);
+        refuse_each(call_clean, starts[i], 1);
         refuse_each(call_nothing, starts[i], 0);
         WANT(live == held);
     }
@@ -974,6 +1159,10 @@ int main(int count, char **words)
         try_extending();
         try_data();
         try_formats();
+        try_parts_of_texts();
+        try_modes_of_texts();
+        try_long_texts();
+        try_ranges();
     } else if (count == 4 && !strcmp(words[1], "script")) {
         try_script(strtoull(words[2], NULL, 10), strtol(words[3], NULL, 10));
     } else if (count == 2 && !strcmp(words[1], "refused")) {

@@ -71,6 +71,27 @@ static void try_texts(void)
     }
 }
 
+static void try_parts_of_texts(void)
+{
+    const uint8_t *en = (const uint8_t *)"EN";
+    uint8_t same = UNTOUCHED;
+    for (icu_locale_mode mode = ICU_LOCALE_IDENTIFIER; mode <= ICU_LOCALE_DATA_LOCALE; mode++) {
+        WANT(icu_locale_language_of(mode, NONE, NONE, &needed) == ICU_LOCALE_INVALID_LANGUAGE && needed == 0);
+        WANT(icu_locale_keyword_of(mode, NONE, NONE, NONE, &needed) == ICU_LOCALE_INVALID_LANGUAGE && needed == 0);
+        WANT(wants(icu_locale_base_name_of(mode, en, 2, NONE, &needed), 2));
+        WANT(wants(icu_locale_language_of(mode, en, 2, NONE, &needed), 2));
+        WANT(is_empty(icu_locale_script_of(mode, en, 2, NONE, &needed)));
+        WANT(is_empty(icu_locale_region_of(mode, en, 2, NONE, &needed)));
+        WANT(is_empty(icu_locale_variants_of(mode, en, 2, NONE, &needed)));
+        WANT(wants(icu_locale_keyword_of(mode, en, 2, NONE, NONE, &needed), 0));
+        WANT(wants(icu_locale_parent(mode, en, 2, NONE, &needed), 3));
+    }
+    WANT(icu_locale_matches(NONE, NONE, &same) == ICU_LOCALE_INVALID_LANGUAGE && same == UNTOUCHED);
+    WANT(icu_locale_matches(en, 2, NONE, &same) == ICU_LOCALE_INVALID_LANGUAGE && same == UNTOUCHED);
+    WANT(is_empty(icu_locale_clean(NONE, NONE, &needed)));
+    WANT(wants(icu_locale_clean(en, 2, NONE, &needed), 2));
+}
+
 static void try_whole(void)
 {
     uint8_t same = UNTOUCHED;
@@ -160,6 +181,7 @@ static void try_each(const icu_locale_t *given)
 {
     still = given;
     try_texts();
+    try_parts_of_texts();
     try_whole();
     try_identifier();
     try_extensions();

@@ -11,6 +11,7 @@
 
 #include <algorithm>
 #include <array>
+#include <cctype>
 #include <cstdio>
 #include <cstdlib>
 #include <iostream>
@@ -84,8 +85,29 @@ static std::string joined(const std::vector<std::string> &words)
     return text;
 }
 
+/* The functions on texts give the parts that the locale has, which the text means. */
+static void see_texts(const locale &it)
+{
+    std::string text = it.to_string(), variants;
+    for (char &byte : text)
+        byte = static_cast<char>(std::toupper(static_cast<unsigned char>(byte)));
+    for (const auto &variant : it.variants())
+        variants += (variants.empty() ? "" : "-") + variant;
+    bool agree = icu_locale::base_name_of(text) == it.base_name() && icu_locale::language_of(text) == it.language()
+        && icu_locale::script_of(text) == it.script() && icu_locale::region_of(text) == it.region()
+        && icu_locale::variants_of(text) == variants && icu_locale::keyword_of(text, "zz") == it.keyword("zz");
+    for (const auto &[key, value] : it.keywords())
+        agree = agree && icu_locale::keyword_of(text, key) == value;
+    const auto above = icu_locale::parent(text);
+    agree = agree && (above ? icu_locale::matches(text, *above) && *above != it.to_string() : it.is_und());
+    if (!agree)
+        std::abort();
+}
+
 static std::string parts(const locale &it)
 {
+    if (it.is_well_formed())
+        see_texts(it);
     const auto joined_pairs = [](const std::vector<std::pair<std::string, std::string>> &pairs) {
         std::vector<std::string> words;
         for (const auto &[key, value] : pairs)

@@ -74,9 +74,27 @@ static void itself()
     WANT(icu_locale::is_of_this_version());
 }
 
+/* The error of a text of ten million bytes keeps the first 64 of them. */
+static void long_texts()
+{
+    const std::string text = "en-" + std::string(10000000, 'x');
+    try {
+        (void)icu_locale::normalize(text);
+    } catch (const icu_locale::error &refused) {
+        WANT(std::string(refused.what()) == "Invalid subtag: '" + text.substr(0, 64) + "'... at 3..10000003");
+        WANT(refused.start() == 3 && refused.end() == text.size());
+    }
+    try {
+        locale().set_keyword(text, text);
+    } catch (const icu_locale::error &refused) {
+        WANT(std::string(refused.what()) == "Invalid extension: '" + text.substr(0, 64) + "'...");
+    }
+}
+
 int main()
 {
     unknown_numbers();
     itself();
+    long_texts();
     std::cout << cases << '\n';
 }

@@ -55,10 +55,48 @@ static void order()
     WANT(all.front() == "de" && all[1] == "en" && all.back() == "und");
 }
 
+/* The value of a temporary result outlives it, whether it is bound or copied. */
+static void temporaries()
+{
+    WANT((std::is_same<decltype(*icu_locale::try_normalize("en")), std::string>::value));
+    WANT((std::is_same<decltype(icu_locale::try_normalize("en").value()), std::string>::value));
+    const std::string &bound = *icu_locale::try_normalize("EN-x-aaaaaaaa-bbbbbbbb-cccccccc");
+    WANT(bound == "en-x-aaaaaaaa-bbbbbbbb-cccccccc" && *locale::try_parse("EN-us") == "en-US");
+    const icu_locale::result<std::string> kept = icu_locale::try_normalize("EN");
+    WANT(&*kept == &kept.value() && *kept == "en" && kept->size() == 2);
+}
+
+/* Each parent lacks one part: all extensions, a variant, the region, the script, the language. */
+static void parents()
+{
+    WANT(!locale().parent());
+    std::string all;
+    for (auto it = locale::try_parse("sr-latn-RS-macos-posix-a-foo-u-ca-roc-x-y")->parent(); it; it = it->parent())
+        all += it->to_string() + ' ';
+    WANT(all == "sr-Latn-RS-macos-posix sr-Latn-RS-macos sr-Latn-RS sr-Latn sr und ");
+    WANT(locale("und-x-y").parent() == locale() && locale("und-US").parent() == locale());
+    WANT(locale("en-t-de").parent() == locale("en") && locale("und-posix").parent() == locale("und"));
+}
+
+#if defined(__cpp_lib_format)
+/* The forms that std::format has for texts. */
+static void formats()
+{
+    const locale it("EN-us");
+    WANT(std::format("{}|{:>7}|{:*^7.3}|", it, it, it) == "en-US|  en-US|**en-**|");
+    WANT(std::format("{:{}}|", locale(), 5) == "und  |");
+}
+#endif
+
 int main()
 {
     texts();
     order();
+    temporaries();
+    parents();
+#if defined(__cpp_lib_format)
+    formats();
+#endif
     WANT(!icu_locale::try_normalize("en-") && !locale::try_parse("e"));
     std::cout << cases << '\n';
 }

@@ -46,6 +46,19 @@ static void read_whole(unsigned long &cases)
     own = und;
     own.extend_unicode(one);
     WANT(own.to_string() == "und-u-aaa-ca-buddhist-hc-h12-nu-thai-rg-uszzzz");
+    WANT(one.parent() == locale("en-Latn-GB-posix"));
+}
+
+static void read_texts(unsigned long &cases)
+{
+    WANT(icu_locale::normalize("EN-us") == "en-US" && icu_locale::check(text) == icu_locale::status::done);
+    WANT(icu_locale::compare(text, "en") == 1 && icu_locale::normalizing_eq("EN-us", "en-US"));
+    WANT(icu_locale::find_fault("en-")->start == 3 && icu_locale::strict_cmp("EN", "en") == 0);
+    try {
+        (void)icu_locale::normalize("en-");
+    } catch (const icu_locale::error &refused) {
+        WANT(std::string("Invalid subtag: 'en-' at 3..3") == refused.what());
+    }
 }
 
 int main(int count, char **words)
@@ -59,6 +72,7 @@ int main(int count, char **words)
             for (int round = 0; round < rounds; round++) {
                 read_parts(cases);
                 read_whole(cases);
+                read_texts(cases);
             }
             it = cases;
         });

@@ -6,8 +6,7 @@
  * icu_locale_normalize.
  *
  * Memory: ereport leaves a function by longjmp, and would lose what the library has from malloc. But the calls of the
- * library here go from text to text: none keeps a block when it returns. Parts and ranges are read in the value's own
- * bytes. */
+ * library here go from text to text: none keeps a block when it returns. */
 #include "postgres.h"
 
 #include "access/stratnum.h"
@@ -171,40 +170,55 @@ Datum ulocale_fault(PG_FUNCTION_ARGS)
     PG_RETURN_DATUM(HeapTupleGetDatum(heap_form_tuple(BlessTupleDesc(row), values, nulls)));
 }
 
-static Datum give_part(FunctionCallInfo fcinfo, sql_part *part, sql_text key)
+/* The part that a call writes of a value; nowhere (a null pointer) if there is none. A value is a normal text, so no part
+ * of it is refused. */
+static sql_text part_in(sql_text given, sql_part *part)
 {
-    sql_text it = part(text_in(PG_GETARG_VARLENA_PP(0)), key);
-    if (it.at == NULL)
-        PG_RETURN_NULL();
-    PG_RETURN_TEXT_P(make_text(it));
+    sql_text made = {palloc(sql_room_of(given)), 0};
+    icu_locale_status status =
+        part(ICU_LOCALE_LOCALE, given.at, given.length, (uint8_t *)made.at, sql_room_of(given), &made.length);
+    if (status == ICU_LOCALE_OUT_OF_MEMORY)
+        stop_out_of_memory();
+    return status == ICU_LOCALE_DONE ? made : (sql_text){NULL, 0};
 }
 
 /* language(ulocale) and others: a part, as a text or a ulocale; NULL if it is absent */
-#define PART(name) \
+#define PART(name, part) \
     PG_FUNCTION_INFO_V1(ulocale_##name); \
     Datum ulocale_##name(PG_FUNCTION_ARGS) \
     { \
-        return give_part(fcinfo, sql_##name, sql_nothing); \
+        sql_text it = part_in(text_in(PG_GETARG_VARLENA_PP(0)), part); \
+        if (it.length == 0) \
+            PG_RETURN_NULL(); \
+        PG_RETURN_TEXT_P(make_text(it)); \
     }
 
-PART(language)
-PART(script)
-PART(region)
-PART(base_name)
-PART(parent)
+PART(language, icu_locale_language_of)
+PART(script, icu_locale_script_of)
+PART(region, icu_locale_region_of)
+PART(base_name, icu_locale_base_name_of)
+PART(parent, icu_locale_parent)
 
 /* keyword(ulocale, text): '' for a key that stands alone, NULL if it is absent */
 PG_FUNCTION_INFO_V1(ulocale_keyword);
 Datum ulocale_keyword(PG_FUNCTION_ARGS)
 {
-    return give_part(fcinfo, sql_value, text_in(PG_GETARG_VARLENA_PP(1)));
+    sql_text given = text_in(PG_GETARG_VARLENA_PP(0)), key = text_in(PG_GETARG_VARLENA_PP(1));
+    sql_text made = {palloc(sql_room_of(given)), 0};
+    icu_locale_status status = icu_locale_keyword_of(ICU_LOCALE_LOCALE, given.at, given.length, key.at, key.length,
+        (uint8_t *)made.at, sql_room_of(given), &made.length);
+    if (status == ICU_LOCALE_OUT_OF_MEMORY)
+        stop_out_of_memory();
+    if (status != ICU_LOCALE_DONE)
+        PG_RETURN_NULL();
+    PG_RETURN_TEXT_P(make_text(made));
 }
 
 /* variants(ulocale): text[] */
 PG_FUNCTION_INFO_V1(ulocale_variants);
 Datum ulocale_variants(PG_FUNCTION_ARGS)
 {
-    sql_text it = sql_variants(text_in(PG_GETARG_VARLENA_PP(0)), sql_nothing);
+    sql_text it = part_in(text_in(PG_GETARG_VARLENA_PP(0)), icu_locale_variants_of);
     Datum *values = palloc((it.length / 2 + 1) * sizeof *values);
     int number = 0;
     for (size_t at = 0; at < it.length; at += sql_piece_at(it, at).length + 1)
@@ -217,7 +231,7 @@ PG_FUNCTION_INFO_V1(ulocale_keywords);
 Datum ulocale_keywords(PG_FUNCTION_ARGS)
 {
     ReturnSetInfo *result = (ReturnSetInfo *)fcinfo->resultinfo;
-    sql_text keywords = sql_keywords(text_in(PG_GETARG_VARLENA_PP(0)), sql_nothing);
+    sql_text keywords = sql_keywords(text_in(PG_GETARG_VARLENA_PP(0)));
 #if PG_VERSION_NUM >= 160000
     InitMaterializedSRF(fcinfo, 0);
 #else
@@ -253,7 +267,11 @@ Datum ulocale_smaller(PG_FUNCTION_ARGS)
 PG_FUNCTION_INFO_V1(ulocale_matches);
 Datum ulocale_matches(PG_FUNCTION_ARGS)
 {
-    PG_RETURN_BOOL(sql_matches(text_in(PG_GETARG_VARLENA_PP(0)), text_in(PG_GETARG_VARLENA_PP(1))));
+    sql_text given = text_in(PG_GETARG_VARLENA_PP(0)), range = text_in(PG_GETARG_VARLENA_PP(1));
+    uint8_t is_match = 0;
+    if (icu_locale_matches(given.at, given.length, range.at, range.length, &is_match) != ICU_LOCALE_DONE)
+        stop_out_of_memory();
+    PG_RETURN_BOOL(is_match == 1);
 }
 
 /* The condition that the argument stands in this order to these bytes, which may be the bytes of no locale. */

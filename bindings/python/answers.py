@@ -15,6 +15,7 @@ after it. Fields stand between tabs. tools/object_model.py says what is wanted."
 import sys
 
 from icu_locale_c import Locale, LocaleError, Mode, Priority, check, compare, normalize, normalizing_eq, strict_cmp
+from icu_locale_c import base_name_of, keyword_of, language_of, matches, parent, region_of, script_of, variants_of
 
 MODES = {"langid": Mode.IDENTIFIER, "locale": Mode.LOCALE, "data": Mode.DATA_LOCALE}
 
@@ -30,20 +31,29 @@ def checked(line, mode):
     """The normal text, after a check of the line, which refuses it in the same way."""
     refusal = answered(check, line, mode)
     normal = answered(normalize, line, mode)
-    assert refusal is None or refusal == normal
+    assert refusal is True or refusal == normal
     return normal
 
 
 def placed(line, mode):
     """Where the fault stands, in bytes. A str has it at the same piece, by its characters."""
+    at = place(line, mode)
+    try:
+        assert at == place(line.decode(), mode)
+    except UnicodeDecodeError:
+        pass
+    return at
+
+
+def place(line, mode):
+    """Where the fault of bytes or of a str stands, in bytes."""
     try:
         normalize(line, mode)
     except LocaleError as refusal:
-        text = refusal.text
-        before, after = text[: refusal.start], text[refusal.end :]
-        assert text == before + refusal.piece + after and (refusal.end, text) == (len(text) - len(after), text)
-        assert str(refusal).endswith(f" at {refusal.start}..{refusal.end}") == (refusal.piece != text)
-        piece, before = (it if isinstance(it, bytes) else it.encode("utf-8", "surrogatepass") for it in (refusal.piece, before))
+        before, piece = line[: refusal.start], line[refusal.start : refusal.end]
+        assert (refusal.text, refusal.piece, refusal.end) == (line[:1000], piece[:1000], refusal.start + len(piece))
+        assert str(refusal).endswith(f" at {refusal.start}..{refusal.end}") == (piece != line)
+        piece, before = (it if isinstance(it, bytes) else it.encode("utf-8", "surrogatepass") for it in (piece, before))
         return f"{len(before)} {len(before) + len(piece)}"
     return "-"
 
@@ -64,7 +74,17 @@ def parts(locale):
     fields += [it or "-" for it in (locale.calendar_algorithm, locale.hour_cycle, locale.numbering_system)]
     # Each Locale is well-formed. A hash may be cut by the interpreter.
     assert Locale(str(locale)) == locale
+    see_texts(locale, str(locale).upper())
     return "\t".join([*fields, f"{int(locale.is_und)}1", f"{locale.__hash__():016x}"])
+
+
+def see_texts(locale, text):
+    """The functions on texts give the parts that the locale has, which the text means."""
+    names = (base_name_of(text), language_of(text), script_of(text), region_of(text), variants_of(text))
+    assert names == (locale.base_name, locale.language, locale.script, locale.region, locale.variants)
+    assert all(keyword_of(text, it) == locale.keywords.get(it) for it in [*locale.keywords, "zz"])
+    above = parent(text)
+    assert above is None if locale.is_und else matches(text, above) and above != str(locale)
 
 
 def compared_objects(one, other):

@@ -5,14 +5,20 @@ It prints how many cases were as wanted; the status is 0 if all were."""
 import array
 import collections.abc
 import copy
+import ctypes
 import doctest
+import functools
 import gc
+import importlib.util
 import inspect
+import operator
 import os
 import pickle
+import signal
 import subprocess
 import sys
 import threading
+from typing import Dict
 
 import icu_locale_c
 from icu_locale_c import (
@@ -26,6 +32,7 @@ from icu_locale_c import (
     check,
     compare,
     is_valid,
+    matches,
     normalize,
     normalizing_eq,
     strict_cmp,
@@ -55,6 +62,26 @@ class FalseBytes(bytes):
 class Lengthy:
     def __len__(self):
         return 1 << 40
+
+
+class Number:
+    """What stands for a number the first time, or raises."""
+
+    def __init__(self, number):
+        self.numbers = [number]
+
+    def __index__(self):
+        number = self.numbers.pop()
+        return number if number is not None else 1 // 0
+
+
+class Named(Locale):
+    """A Locale with a name."""
+
+    def __new__(cls, text, name):
+        made = super().__new__(cls, text)
+        made.__dict__["name"] = name
+        return made
 
 
 def raised(call, *words):
@@ -189,6 +216,61 @@ def shared():
     return wrong
 
 
+def kept_by(*words):
+    """How many bytes or characters the longest text of a refusal has that a pickle and its frames keep, and what it says."""
+    try:
+        normalize(*words)
+    except LocaleError as refusal:
+        again, frames = pickle.loads(pickle.dumps(refusal)), []
+        at = refusal.__traceback__.tb_next
+        while at:
+            frames += (it for it in at.tb_frame.f_locals.values() if it is not words[0] and isinstance(it, (str, bytes)))
+            at = at.tb_next
+        lengths = [len(it) for it in (refusal.text, refusal.piece, again.text, again.piece, refusal.args[1], *frames)]
+        return max(lengths), len(pickle.dumps(refusal)) < 5000, str(again), again.piece[:9], again.start, again.end
+
+
+def interrupted(drop):
+    """Whether Ctrl-C is raised that comes right before Locales go, and what Python lost. Only C runs between the two."""
+    lost, sys.unraisablehook = [], lambda it: lost.append(it.exc_type)
+    interrupt = functools.partial(ctypes.CDLL(None)["raise"], signal.SIGINT)
+    # (a shell has what it runs beside itself ignore Ctrl-C)
+    before = signal.signal(signal.SIGINT, signal.default_int_handler)
+    try:
+        any(map(operator.methodcaller("__call__"), (interrupt, drop)))
+    except KeyboardInterrupt:
+        return True, lost
+    finally:
+        signal.signal(signal.SIGINT, before)
+        sys.unraisablehook = sys.__unraisablehook__
+    return False, lost
+
+
+def named():
+    """A Locale of another class is one after each call, with what the class added."""
+    it = Named("EN-us", "mine")
+    found = [it.replace(region="GB"), it.extend_unicode(HELD), copy.copy(it), copy.deepcopy(it)]
+    found += [pickle.loads(pickle.dumps(it, number)) for number in range(pickle.HIGHEST_PROTOCOL + 1)]
+    return {(type(it), it.name) for it in found}, {str(it) for it in found[4:]}
+
+
+def by_pydantic():
+    """What pydantic makes of a Locale, if it is there."""
+    if importlib.util.find_spec("pydantic") is None:
+        print("pydantic is not here, so its validator is not tried", file=sys.stderr)
+        return []
+    import pydantic
+
+    adapter = pydantic.TypeAdapter(Dict[str, Locale])
+    it, python = adapter.validate_json('{"a": "EN-us"}'), adapter.validate_python({"a": HELD, "b": "DE"})
+    refused = [raised(adapter.validate_json, text) for text in ('{"a": "en-"}', '{"a": 5}', '{"a": null}')]
+    refused += [raised(adapter.validate_python, {"a": given}) for given in ("e", 5, None)]
+    assert set(refused) == {pydantic.ValidationError}, refused
+    assert pydantic.TypeAdapter(Locale).json_schema() == {"type": "string"}
+    assert adapter.dump_python(it) == it and python["a"] is HELD
+    return [str(it["a"]), str(python["b"]), adapter.dump_json(it)]
+
+
 def calls_in(call):
     """How many calls of Python and of C are made within this one: what it costs, on any machine."""
     seen = []
@@ -210,6 +292,7 @@ LONG = "de-aaaaa-bbbbb-ccccc-ddddd-eeeee-t-und-m0-abc-u-aaa-ca-islamic-civil-x-a
 LONGER = "en-x" + "-abcdefgh" * 99
 HELD = Locale("en-US-posix-u-foo-ca-buddhist")
 ALL = "en-Latn-GB-posix-a-foo-t-de-m0-din-u-aaa-ca-roc-x-p-q"
+NAMES = ("language", "script", "region", "variants", "keywords", "attributes", "transform_language", "fields", "private", "others")
 PARTS = ("en", "Latn", "GB", ("posix",), {"ca": "roc"}, ("aaa",), "de", {"m0": "din"}, "x-p-q", {"a": "foo"}, ALL)
 with_part = lambda **parts: raised(lambda: str(HELD.replace(**parts)))
 
@@ -231,6 +314,12 @@ CASES = [
     (raised(normalize, "en", None), TypeError),
     (raised(normalize, "en", 3), ValueError),
     (raised(normalize, "en", 256), ValueError),
+    # numbers of any type, with the module _quick and without it
+    ([raised(normalize, it, Number(2)) for it in ("en-u-sd-gbeng", b"en-u-sd-gbeng")], ["en-GB-u-sd-gbeng"] * 2),
+    ([raised(call, "en-x-a", Number(it)) for call in (normalize, check) for it in (0, 3, -1, None)], [InvalidSubtag, ValueError, ValueError, ZeroDivisionError] * 2),
+    ([raised(normalize, "en", it) for it in (True, 1 << 32, (1 << 32) + 1, -1, 1 << 64, 1.0)], ["en"] + [ValueError] * 4 + [TypeError]),
+    (HELD.data_locale(Number(1)), HELD.data_locale()),
+    (check("en"), True),
     (raised(normalize, FalseText("EN-us")), "en-US"),
     (raised(normalize, FalseBytes(b"EN-us")), "en-US"),
     (raised(normalize, bytearray(b"EN-us")), "en-US"),
@@ -293,6 +382,13 @@ CASES = [
     (f"{Locale('de'):>4}|{Locale('de'):<4}|", "  de|de  |"),
     (pickle.loads(pickle.dumps(Locale(LONG))), Locale(LONG)),
     (copy.deepcopy(HELD) is HELD and copy.copy(HELD) is HELD, True),
+    (named(), ({(Named, "mine")}, {"en-US"})),
+    (str(Locale.from_parts()), "und"),
+    (Locale.from_parts(**{it: getattr(Locale(ALL), it) for it in NAMES}), Locale(ALL)),
+    ([raised(lambda: Locale.from_parts(**it)) for it in ({"regions": "US"}, {"variants": "posix"}, {"keywords": {"ca": "ab"}})], [TypeError, TypeError, InvalidSubtag]),
+    (by_pydantic(), ["en-US", "de", b'{"a":"en-US"}'] if importlib.util.find_spec("pydantic") else []),
+    (interrupted([Locale(ALL)].clear), (True, [])),
+    (interrupted([HELD.replace(region=None), HELD._copied()].clear), (True, [])),
     (len({Locale("en-US"), Locale("EN-us"), Locale("en")}), 2),
     ([str(it) for it in sorted(map(Locale, ["und", "en-macos-posix", "en-posix", "de"]))], ["de", "en-posix", "en-macos-posix", "und"]),
     (shared(), []),
@@ -303,7 +399,7 @@ CASES = [
     (at_once(), []),
     (said_by(normalize, "en-"), "Invalid subtag: 'en-' at 3..3"),
     (said_by(check, b"en-\xff"), "Invalid extension: b'en-\\xff' at 3..4"),
-    (said_by(normalize, memoryview(b"en-")), "Invalid subtag: 'en-' at 3..3"),
+    (said_by(normalize, memoryview(b"en-")), "Invalid subtag: b'en-' at 3..3"),
     (said_by(normalize, "en-" + "x" * 99), f"Invalid subtag: 'en-{'x' * 61}'... at 3..102"),
     (said_by(normalize, FalseText("en-")), "Invalid subtag: 'en-' at 3..3"),
     (said_by(normalize, "e-US"), "The given language subtag is invalid: 'e-US' at 0..1"),
@@ -313,6 +409,7 @@ CASES = [
     (said_by(normalizing_eq, "e", "en"), "The given language subtag is invalid: 'e'"),
     (said_by(compare, "e", "x"), "The given language subtag is invalid: 'e'"),
     (said_by(compare, "en", "x"), "The given language subtag is invalid: 'x'"),
+    ([said_by(matches, *it) for it in (("e", "x"), ("en", "x"))], [f"The given language subtag is invalid: '{it}'" for it in "ex"]),
     (said_by(Locale, "en-"), "Invalid subtag: 'en-' at 3..3"),
     (said_by(lambda: HELD.replace(region="USA")), "Invalid subtag: 'USA'"),
     (said_by(lambda: HELD.replace(variants=["posix", "pos"])), "Invalid subtag: 'pos'"),
@@ -332,11 +429,19 @@ CASES = [
     *((place(normalizing_eq, "en-US-\0\0-posix", "en", it), (6, 8, "\0\0")) for it in Mode),
     *((place(compare, "en-!", "e", it), (3, 4, "!")) for it in Mode),
     *((place(compare, "en", "en-US-!", it), (6, 7, "!")) for it in Mode),
-    # characters of a str, also of one that cannot be encoded; bytes of bytes, unless they are UTF-8, which is shown as a str
+    (kept_by("en-" + "x" * 10_000_000), (1000, True, f"Invalid subtag: 'en-{'x' * 61}'... at 3..10000003", "x" * 9, 3, 10_000_003)),
+    (kept_by(b"x" * 10_000_000), (1000, True, f"The given language subtag is invalid: b'{'x' * 64}'...", b"x" * 9, 0, 10_000_000)),
+    (kept_by("en" + "-abcdefgh" * 1000 + "-!"), (1000, True, f"Invalid subtag: 'en{'-abcdefgh' * 6}-abcdefg'... at 12..20", "abcdefgh", 12, 20)),
+    (kept_by("en-x" + "-abcdefgh" * 1000 + "-!"), (1000, True, f"Invalid extension: 'en-x{'-abcdefgh' * 6}-abcde'... at 9005..9006", "!", 9005, 9006)),
+    (str(LocaleError("x", "a" * 1001, 0, 1000)), f"x: '{'a' * 64}'... at 0..1000"),
+    # characters of a str, also of one that cannot be encoded; bytes of bytes
     *((place(normalize, "en-\u00e9\U0001f600-US", it), (3, 5, "\u00e9\U0001f600")) for it in Mode),
     *((place(normalize, "en-\ud800-US", it), (3, 4, "\ud800")) for it in Mode),
     *((place(normalize, b"en-US-\0\xff\xff-posix", it), (6, 9, b"\0\xff\xff")) for it in Mode),
-    *((place(normalize, "en-\u00e9".encode(), it), (3, 4, "\u00e9")) for it in Mode),
+    *((place(normalize, "en-\u00e9".encode(), it), (3, 5, b"\xc3\xa9")) for it in Mode),
+    (place(Locale, b"en-a-foo-\xc3\xa9-u-!"), (14, 15, b"!")),
+    (place(lambda: HELD.replace(transform_language=b"de-\xc3\xa9-!")), (3, 5, b"\xc3\xa9")),
+    (place(lambda: HELD.replace(keywords={"ca": b"r"})), (0, 4, b"ca-r")),
     (place(Locale, "en-a-\u00e9\u00e9-!!-b-cc"), (11, 12, "b")),
     ([place(normalize, "en-u", it) for it in Mode], [(3, 4, "u"), (4, 4, ""), (4, 4, "")]),
     ([place(normalize, "en-u-a8", it) for it in Mode], [(3, 4, "u"), (5, 7, "a8"), (5, 7, "a8")]),

@@ -137,8 +137,8 @@ def refuse_python(start, number, call):
         which = f"call {number} of {start}, request {at} of Python refused"
         if kind not in MAY_RAISE or str(it) != start:
             return at, [f"{which}: {kind}, {it}"]
-        # What a failed __del__ could not free is freed before the next handle is made.
-        if Locale("en") == Locale("fr") or (str(OTHER), gc.collect(), HOOKS.refusing_live())[2] != held:
+        # A handle is freed without memory, so also what the refusal left is.
+        if (str(OTHER), gc.collect(), HOOKS.refusing_live())[2] != held:
             return at, [f"{which}: {HOOKS.refusing_live() - held} blocks more"]
     return at - 1, []
 

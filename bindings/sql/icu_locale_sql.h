@@ -1,7 +1,8 @@
-/* What the extensions of SQLite and PostgreSQL share: parts, parents and ranges of normal texts.
+/* What the extensions of SQLite and PostgreSQL share: words, pieces of texts, and the keywords of normal texts.
  *
- * In a normal text (that icu_locale_normalize wrote) the parts of a locale stand in one order, in one case, each
- * once. So a part is a part of the bytes, and no function here allocates, or can fail. */
+ * Parts, parents and ranges are those of the library: its calls of a text are proved. What is cut here are the pieces of
+ * variants, and keywords one after the other. In a normal text (that icu_locale_normalize wrote) they stand in one order,
+ * in one case, each once. So each is a part of the bytes, and no function here allocates, or can fail. */
 #ifndef ICU_LOCALE_SQL_H
 #define ICU_LOCALE_SQL_H
 
@@ -62,98 +63,22 @@ static inline bool sql_is_und(sql_text piece)
     return sql_is_same(piece, (sql_text){(const uint8_t *)"und", 3});
 }
 
-/* Where the parts of an identifier begin: each at a piece, or where the next one begins if it is absent. */
-typedef struct {
-    size_t script, region, variants, end; /* the language begins at 0; end is behind the hyphen before the extensions */
-} sql_outline;
+/* A call of the library that writes a part of a text: icu_locale_language_of and its like. */
+typedef icu_locale_status sql_part(
+    icu_locale_mode mode, const uint8_t *text, size_t length, uint8_t *buffer, size_t room, size_t *needed);
 
-/* Only a script has four letters, and only a region has two or three letters or digits behind the language: a variant
- * has five or more, or four and begins with a digit. An extension begins with one. */
-static inline sql_outline sql_outline_of(sql_text normal)
+/* The room that a part of a text needs at most: und, the parent of en, is longer than en. */
+static inline size_t sql_room_of(sql_text text)
 {
-    size_t at = sql_piece_at(normal, 0).length + 1;
-    sql_outline it = {at, at, at, at};
-    while (it.end < normal.length) {
-        sql_text piece = sql_piece_at(normal, it.end);
-        size_t next = it.end + piece.length + 1;
-        if (piece.length == 1)
-            break;
-        if (piece.length == 4 && piece.at[0] > '9')
-            it.region = it.variants = next;
-        else if (piece.length < 4)
-            it.variants = next;
-        it.end = next;
-    }
-    return it;
-}
-
-/* A part of a normal text, which is a part of its bytes. The key is that of a keyword; other parts do without. The
- * text is nowhere (a null pointer) if there is no such part. */
-typedef sql_text sql_part(sql_text normal, sql_text key);
-
-static const sql_text sql_nothing = {NULL, 0};
-
-/* The pieces from this place to before that one, without the hyphen behind them. */
-static inline sql_text sql_pieces(sql_text normal, size_t start, size_t end)
-{
-    return start < end ? sql_between(normal, start, end - 1) : sql_nothing;
-}
-
-static inline sql_text sql_language(sql_text normal, sql_text key)
-{
-    (void)key;
-    return sql_piece_at(normal, 0);
-}
-
-static inline sql_text sql_script(sql_text normal, sql_text key)
-{
-    sql_outline it = sql_outline_of(normal);
-    (void)key;
-    return sql_pieces(normal, it.script, it.region);
-}
-
-static inline sql_text sql_region(sql_text normal, sql_text key)
-{
-    sql_outline it = sql_outline_of(normal);
-    (void)key;
-    return sql_pieces(normal, it.region, it.variants);
-}
-
-/* The variants as they stand in the text: macos-posix. */
-static inline sql_text sql_variants(sql_text normal, sql_text key)
-{
-    sql_outline it = sql_outline_of(normal);
-    (void)key;
-    return sql_pieces(normal, it.variants, it.end);
-}
-
-static inline sql_text sql_base_name(sql_text normal, sql_text key)
-{
-    (void)key;
-    return sql_between(normal, 0, sql_outline_of(normal).end - 1);
-}
-
-/* The parent: without extensions; of an identifier, without its last subtag; of a language, und; nothing of und. */
-static inline sql_text sql_parent(sql_text normal, sql_text key)
-{
-    size_t end = sql_outline_of(normal).end - 1;
-    (void)key;
-    if (end < normal.length)
-        return sql_between(normal, 0, end);
-    while (end > 0 && normal.at[end - 1] != '-')
-        end--;
-    if (end > 0)
-        return sql_between(normal, 0, end - 1);
-    return sql_is_und(normal) ? sql_nothing : (sql_text){(const uint8_t *)"und", 3};
+    return text.length + 4;
 }
 
 /* The keywords as they stand in the text: ca-islamic-civil-kn. Only a key has two characters, so they can be told
  * apart. They follow the singleton u and attributes, which have three characters or more. */
-static inline sql_text sql_keywords(sql_text normal, sql_text key)
+static inline sql_text sql_keywords(sql_text normal)
 {
-    size_t at = sql_outline_of(normal).end, start = normal.length + 1;
+    size_t at = 0, start = normal.length + 1;
     bool is_within = false;
-    (void)key;
     for (; at < normal.length; at += sql_piece_at(normal, at).length + 1) {
         sql_text piece = sql_piece_at(normal, at);
         if (piece.length == 1 && (is_within || piece.at[0] == 'x'))
@@ -162,7 +87,7 @@ static inline sql_text sql_keywords(sql_text normal, sql_text key)
         if (is_within && piece.length == 2 && start > normal.length)
             start = at;
     }
-    return sql_pieces(normal, start, at);
+    return start < at ? sql_between(normal, start, at - 1) : (sql_text){normal.at, 0};
 }
 
 /* A keyword, and where the next one begins. */
@@ -182,46 +107,6 @@ static inline sql_keyword sql_keyword_at(sql_text keywords, size_t start)
     if (it.next > from)
         it.value = sql_between(keywords, from, it.next - 1);
     return it;
-}
-
-static inline uint8_t sql_lower(uint8_t byte)
-{
-    return byte >= 'A' && byte <= 'Z' ? byte + ('a' - 'A') : byte;
-}
-
-/* The value of the keyword with this key, which may be in any case. */
-static inline sql_text sql_value(sql_text normal, sql_text key)
-{
-    sql_text keywords = sql_keywords(normal, key);
-    for (size_t at = 0; at < keywords.length;) {
-        sql_keyword it = sql_keyword_at(keywords, at);
-        if (key.length == 2 && it.key.at[0] == sql_lower(key.at[0]) && it.key.at[1] == sql_lower(key.at[1]))
-            return it.value;
-        at = it.next;
-    }
-    return sql_nothing;
-}
-
-/* Whether a normal text matches a range, which is another: the extended filtering of RFC 4647, section 3.3.2, with und
- * for *. zh-Hant-TW matches zh-TW, zh and und-TW. */
-static inline bool sql_matches(sql_text text, sql_text range)
-{
-    sql_text wanted = sql_piece_at(range, 0), given = sql_piece_at(text, 0);
-    size_t of_range = wanted.length + 1, of_text = given.length + 1;
-    if (!sql_is_und(wanted) && !sql_is_same(wanted, given))
-        return false;
-    while (of_range < range.length) {
-        if (of_text >= text.length)
-            return false;
-        wanted = sql_piece_at(range, of_range);
-        given = sql_piece_at(text, of_text);
-        of_text += given.length + 1;
-        if (sql_is_same(wanted, given))
-            of_range += wanted.length + 1;
-        else if (given.length == 1)
-            return false;
-    }
-    return true;
 }
 
 #endif

@@ -176,22 +176,16 @@ static void call_fault(sqlite3_context *context, int count, sqlite3_value **valu
     sqlite3_result_subtype(context, 'J');
 }
 
-/* Answers with a part of the text's locale, or NULL if it has none. */
-static void give_part(sqlite3_context *context, sqlite3_value *value, sql_part *part, sql_text key)
+/* Answers with the part that a call wrote, or NULL if the locale has none. */
+static void give_part(sqlite3_context *context, sql_text text, icu_locale_status status, const answer *part)
 {
-    sql_text text, it;
-    answer normal;
-    if (!take(context, value, &text))
-        return;
-    icu_locale_status status = normalize(&normal, ICU_LOCALE_LOCALE, text);
-    if (status != ICU_LOCALE_DONE)
+    if (status == ICU_LOCALE_DONE)
+        give(context, text_of(part));
+    else if (status != ICU_LOCALE_NOT_FOUND)
         refuse(context, ICU_LOCALE_LOCALE, text, status);
-    else if ((it = part(text_of(&normal), key)).at != NULL)
-        give(context, it);
-    drop_room(&normal);
 }
 
-/* A function of one text that gives a part. */
+/* A function of one text that gives a part; if that is empty, NULL. */
 typedef struct {
     const char *name;
     sql_part *part;
@@ -200,39 +194,49 @@ typedef struct {
 static void call_part(sqlite3_context *context, int count, sqlite3_value **values)
 {
     const part_function *it = sqlite3_user_data(context);
+    sql_text text;
+    answer part;
     (void)count;
-    give_part(context, values[0], it->part, sql_nothing);
+    if (!take(context, values[0], &text))
+        return;
+    icu_locale_status status = ICU_LOCALE_OUT_OF_MEMORY;
+    if (make_room(&part, sql_room_of(text)))
+        status = it->part(ICU_LOCALE_LOCALE, text.at, text.length, part.at, sql_room_of(text), &part.length);
+    if (status != ICU_LOCALE_DONE || part.length > 0)
+        give_part(context, text, status, &part);
+    drop_room(&part);
 }
 
 /* locale_keyword(text, key): '' for a key that stands alone */
 static void call_keyword(sqlite3_context *context, int count, sqlite3_value **values)
 {
-    sql_text key;
+    sql_text text, key;
+    answer value;
     (void)count;
-    if (take(context, values[1], &key))
-        give_part(context, values[0], sql_value, key);
+    if (!take(context, values[0], &text) || !take(context, values[1], &key))
+        return;
+    icu_locale_status status = ICU_LOCALE_OUT_OF_MEMORY;
+    if (make_room(&value, sql_room_of(text)))
+        status = icu_locale_keyword_of(ICU_LOCALE_LOCALE, text.at, text.length, key.at, key.length, value.at,
+            sql_room_of(text), &value.length);
+    give_part(context, text, status, &value);
+    drop_room(&value);
 }
 
 /* locale_matches(text, range): extended filtering of RFC 4647, with und for * */
 static void call_matches(sqlite3_context *context, int count, sqlite3_value **values)
 {
-    sql_text texts[2];
-    answer normal[2];
+    sql_text text, range;
+    uint8_t is_match;
     (void)count;
-    if (!take(context, values[0], &texts[0]) || !take(context, values[1], &texts[1]))
+    if (!take(context, values[0], &text) || !take(context, values[1], &range))
         return;
-    for (int i = 0; i < 2; i++) {
-        icu_locale_status status = normalize(&normal[i], ICU_LOCALE_LOCALE, texts[i]);
-        if (status != ICU_LOCALE_DONE) {
-            refuse(context, ICU_LOCALE_LOCALE, texts[i], status);
-            for (; i >= 0; i--)
-                drop_room(&normal[i]);
-            return;
-        }
-    }
-    sqlite3_result_int(context, sql_matches(text_of(&normal[0]), text_of(&normal[1])));
-    drop_room(&normal[0]);
-    drop_room(&normal[1]);
+    icu_locale_status status = icu_locale_matches(text.at, text.length, range.at, range.length, &is_match);
+    if (status == ICU_LOCALE_DONE)
+        sqlite3_result_int(context, is_match);
+    else /* the text is refused first */
+        refuse(context, ICU_LOCALE_LOCALE,
+            icu_locale_check(ICU_LOCALE_LOCALE, text.at, text.length) == status ? text : range, status);
 }
 
 /* COLLATE LOCALE: locales by the bytes of their normal forms; then texts that are no locale, by their bytes. It is
@@ -280,9 +284,10 @@ static int add_functions(sqlite3 *db)
 
 static int add_parts(sqlite3 *db)
 {
-    static const part_function parts[] = {{"locale_language", sql_language}, {"locale_script", sql_script},
-        {"locale_region", sql_region}, {"locale_variants", sql_variants}, {"locale_base_name", sql_base_name},
-        {"locale_parent", sql_parent}};
+    static const part_function parts[] = {{"locale_language", icu_locale_language_of},
+        {"locale_script", icu_locale_script_of}, {"locale_region", icu_locale_region_of},
+        {"locale_variants", icu_locale_variants_of}, {"locale_base_name", icu_locale_base_name_of},
+        {"locale_parent", icu_locale_parent}};
     int status = SQLITE_OK;
     for (size_t i = 0; status == SQLITE_OK && i < sizeof parts / sizeof *parts; i++)
         status = sqlite3_create_function_v2(

@@ -6,6 +6,8 @@ import { LocaleError } from './errors.mjs';
 const LOCALE = modeOf('locale');
 // The keywords that have names of their own, as `Intl.Locale` has them.
 const NAMED = { calendar: 'ca', caseFirst: 'kf', collation: 'co', firstDayOfWeek: 'fw', hourCycle: 'hc', numberingSystem: 'nu', numeric: 'kn' };
+// The days that numbers stand for, as `Intl.Locale` has them: 0 and 7 are Sunday.
+const DAYS = ['sun', 'mon', 'tue', 'wed', 'thu', 'fri', 'sat', 'sun'];
 // What stands before each part where it is read alone, and the kinds of all pieces then.
 const ALONE = {
   language: ['', /^language$/, 'InvalidLanguage'],
@@ -22,6 +24,7 @@ const ALONE = {
 };
 
 const isNone = it => it === undefined || it === null || it === '';
+const dayOf = given => /^[0-7]$/.test(given) ? DAYS[given] : given;
 const join = (...texts) => texts.flat().filter(it => it !== '').join('-');
 
 // A part as it was given, if it is one. `name` is what its refusal calls it, and `shown` the text that it is said of.
@@ -52,7 +55,7 @@ function keywordsOf(found, given) {
   for (const [name, key] of Object.entries(NAMED)) {
     if (!(name in given)) continue;
     if (given[name] === undefined || given[name] === null) values.delete(key);
-    else values.set(key, [given[name], name]);
+    else values.set(key, [key === 'fw' ? dayOf(given[name]) : given[name], name]);
   }
   return [...values].map(([key, [value, name]]) => keyword(key, value, name));
 }

@@ -4,12 +4,9 @@ import { findFault } from './faults.mjs';
 
 const wordsFor = (code, part) => `${part === undefined ? '' : `${part}: `}${WORDS[CODES.indexOf(code)]}`;
 
-// Has errors keep so many frames, and returns how many they kept before. (Engines other than V8 have no such number, and where
-// `Error` is frozen it stays.)
+// Has errors keep so many frames. (Engines other than V8 and WebKit's have no such number, and where `Error` is frozen it stays.)
 function keepFrames(count) {
-  const before = Error.stackTraceLimit;
-  try { if (before !== undefined) Error.stackTraceLimit = count; } catch { /* (it is frozen) */ }
-  return before;
+  try { Error.stackTraceLimit = count; } catch { /* (it is frozen) */ }
 }
 
 /**
@@ -22,9 +19,17 @@ export class LocaleError extends RangeError {
 
   #fault;
   constructor(code, text, mode, part) {
-    const before = keepFrames(LocaleError.stackTraceLimit);
-    super(wordsFor(code, part));
-    keepFrames(before);
+    const message = wordsFor(code, part), before = Error.stackTraceLimit, frames = LocaleError.stackTraceLimit;
+    const isPlain = before === undefined || frames > 0;
+    // (where the limit is no number, V8 does not walk the stack; it does to keep no frame, and leaves no `stack` then)
+    if (before !== undefined) keepFrames(isPlain ? frames : undefined);
+    if (isPlain) super(message);
+    else super(); // (V8 takes longer for a message that it is given)
+    if (before !== undefined) keepFrames(before);
+    if (!isPlain) {
+      this.message = message;
+      this.stack = `LocaleError: ${message}`;
+    }
     this.code = code;
     this.text = text;
     this.mode = mode;

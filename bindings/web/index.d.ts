@@ -141,7 +141,8 @@ export interface Changes {
   calendar?: string | boolean | null;
   caseFirst?: string | boolean | null;
   collation?: string | boolean | null;
-  firstDayOfWeek?: string | boolean | null;
+  /** Of `fw`: a day such as `mon`, or its number from 0 to 7, where 0 and 7 are Sunday. */
+  firstDayOfWeek?: string | number | boolean | null;
   hourCycle?: string | boolean | null;
   numberingSystem?: string | boolean | null;
   numeric?: string | boolean | null;

@@ -34,9 +34,9 @@ import ctypes.util
 import enum
 import functools
 import importlib
+import operator
 import os
 import pathlib
-import threading
 import types
 from typing import Any, Callable, Deque, Dict, Iterable, List, Mapping, Optional, Tuple, Type, TypeVar, Union
 
@@ -56,9 +56,18 @@ __all__ = [
     "strict_cmp",
     "normalizing_eq",
     "compare",
+    "base_name_of",
+    "language_of",
+    "script_of",
+    "region_of",
+    "variants_of",
+    "keyword_of",
+    "parent",
+    "matches",
+    "clean",
 ]
 
-HEADER = 6
+HEADER = 7
 HERE = pathlib.Path(__file__).resolve().parent
 TOP = HERE.parents[2]
 
@@ -91,14 +100,21 @@ class Priority(enum.IntEnum):
     REGION = 1
 
 
+# How many characters or bytes of a refused text an error keeps.
+_LONGEST = 1000
+
+
 class LocaleError(ValueError):
-    """A refused text: `words` says why, and `text` is the text, as bytes if it is no UTF-8. It prints both, and where the
-    fault stands, unless all of the text is at fault.
+    """A refused text: `words` says why, and `text` is the text, a str or bytes as it was given. It prints both, and where
+    the fault stands, unless all of the text is at fault.
 
     The fault stands at `piece`, which is text[start:end]: in characters of a str, and in bytes of bytes. It is the first
     piece that no text with a meaning has right after the pieces before it. Pieces count whole: that of `en-foo` is `foo`,
     though `en-foobar` has a meaning. If there is no such piece, the text ends too early, and `piece` is empty at its end.
     A part that is refused, such as a region, is all at fault.
+
+    Of a long text `text` is the beginning alone, of 1,000 characters or bytes. So is `piece` of a long piece. `start` and
+    `end` are the places in the whole text.
 
     >>> try:
     ...     normalize("en-toolonggg-US")
@@ -112,20 +128,18 @@ class LocaleError(ValueError):
     def __init__(
         self, words: str = "", text: Union[str, bytes, None] = None, start: int = 0, end: Optional[int] = None
     ) -> None:
-        end = len(text or "") if end is None else end
-        super().__init__(words, text, start, end)
-        self.words, self.text, self.start, self.end = words, text, start, end
-
-    @property
-    def piece(self) -> Union[str, bytes, None]:
-        """Where the fault stands; empty if the text ends too early."""
-        return None if self.text is None else self.text[self.start : self.end]
+        length = len(text or "")
+        self.words, self.start, self.end = words, start, length if end is None else end
+        self.text = None if text is None else text[:_LONGEST]
+        self.piece = None if text is None else text[start : min(self.end, start + _LONGEST)]
+        self._is_all = self.end - start == length
+        super().__init__(words, self.text, start, self.end)
 
     def __str__(self) -> str:
         if self.text is None:
             return self.words
         said = f"{self.words}: {self.text[:64]!r}" + ("..." if len(self.text) > 64 else "")
-        if self.end - self.start != len(self.text):
+        if not self._is_all:
             said += f" at {self.start}..{self.end}"
         return said
 
@@ -171,6 +185,15 @@ _FORMS = {
     "strict_cmp": (_NUMBER, *_TEXT, *_TEXT, _ORDER),
     "normalizing_eq": (_NUMBER, *_TEXT, *_TEXT, _SAME),
     "compare": (_NUMBER, *_TEXT, *_TEXT, _ORDER),
+    "base_name_of": (_NUMBER, *_TEXT, *_BUFFER),
+    "language_of": (_NUMBER, *_TEXT, *_BUFFER),
+    "script_of": (_NUMBER, *_TEXT, *_BUFFER),
+    "region_of": (_NUMBER, *_TEXT, *_BUFFER),
+    "variants_of": (_NUMBER, *_TEXT, *_BUFFER),
+    "keyword_of": (_NUMBER, *_TEXT, *_TEXT, *_BUFFER),
+    "parent": (_NUMBER, *_TEXT, *_BUFFER),
+    "matches": (*_TEXT, *_TEXT, _SAME),
+    "clean": (*_TEXT, *_BUFFER),
     "words": (_NUMBER, *_BUFFER),
     "parse": (_LOCALE, *_TEXT),
     "copy": (_LOCALE, _LOCALE),
@@ -300,13 +323,15 @@ def _bytes(text: Any) -> bytes:
         raise TypeError(f"a text is str or bytes-like, not {type(text).__name__}") from None
 
 
+def _sized(text: Any) -> Tuple[bytes, int]:
+    """These bytes, and how many there are. No function that raises a refusal keeps them: its frame lasts as long."""
+    given = _bytes(text)
+    return given, len(given)
+
+
 def _number(kind: Any, given: Any) -> Any:
-    """The mode or priority of this number. Another number is a ValueError, and another type a TypeError."""
-    if type(given) is kind:
-        return given
-    if not isinstance(given, int):
-        raise TypeError(f"a {kind.__name__} is wanted, not {type(given).__name__}")
-    return kind(given)
+    """The mode or priority of this number. Another number is a ValueError, and what is no number a TypeError."""
+    return given if type(given) is kind else kind(operator.index(given))
 
 
 def _call(function: Any, *given: Any) -> Any:
@@ -317,7 +342,7 @@ def _call(function: Any, *given: Any) -> Any:
         raise MemoryError from None
 
 
-def _raise(status: int, text: Optional[bytes] = None, mode: Optional[Mode] = None) -> None:
+def _raise(status: int, text: Optional[Text] = None, mode: Optional[Mode] = None) -> None:
     """Raises what the status stands for, unless it is done, with the text that was refused. Of a text that was read in a
     mode the library is asked where its fault stands; another text is all at fault."""
     if status == _DONE:
@@ -333,24 +358,20 @@ def _raise(status: int, text: Optional[bytes] = None, mode: Optional[Mode] = Non
     raise refusal(said, *_shown(text, mode))
 
 
-def _shown(text: bytes, mode: Optional[Mode]) -> Tuple[Union[str, bytes], int, int]:
-    """The bytes as a str, if they are the UTF-8 of one; and where the fault stands in that."""
-    start, end = ctypes.c_size_t(), ctypes.c_size_t(len(text))
+def _shown(text: Text, mode: Optional[Mode]) -> Tuple[Union[str, bytes], int, int]:
+    """The text, as a str if it was one and else as bytes; and where the fault stands in that."""
+    given, length = _sized(text)
+    start, end = ctypes.c_size_t(), ctypes.c_size_t(length)
     if mode is not None:
-        _call(_library.icu_locale_find_fault, mode, text, len(text), ctypes.byref(start), ctypes.byref(end))
-    shown = _decoded(text)
-    if isinstance(shown, bytes):
-        return shown, start.value, end.value
+        _call(_library.icu_locale_find_fault, mode, given, length, ctypes.byref(start), ctypes.byref(end))
+    if not isinstance(text, str):
+        return given, start.value, end.value
     # A piece begins and ends beside a hyphen, or where the text does.
-    return shown, len(_decoded(text[: start.value])), len(_decoded(text[: end.value]))
+    return _decoded(given), len(_decoded(given[: start.value])), len(_decoded(given[: end.value]))
 
 
-def _decoded(text: bytes) -> Union[str, bytes]:
-    """The bytes as a str, if they are the UTF-8 of one."""
-    try:
-        return text.decode("utf-8", "surrogatepass")
-    except UnicodeDecodeError:
-        return text
+def _decoded(given: bytes) -> str:
+    return given.decode("utf-8", "surrogatepass")
 
 
 class _Buffer:
@@ -368,6 +389,9 @@ _USUAL = 256
 # Buffers that no call has now. A call has one for itself, also while another begins within it or in another thread.
 _free_buffers: Deque[_Buffer] = collections.deque(maxlen=8)
 _normalize, _parse = _library.icu_locale_normalize, _library.icu_locale_parse
+# (What frees a handle has no types of arguments, so that calling it takes no memory.)
+_free = _library["icu_locale_free"]
+_free.restype = None
 
 
 def _address(function: Any) -> Any:
@@ -424,35 +448,41 @@ def normalize(text: Text, mode: Mode = Mode.LOCALE) -> str:
         quickly = _quick_normalize(text, mode)
         if quickly is not None:
             return quickly
-    given, mode = _bytes(text), _number(Mode, mode)
-    room = len(given) + 4
-    buffer = _taken(room)
-    status = _call(_normalize, mode, given, room - 4, buffer.at, room, buffer.needed_at)
-    if status:
-        _raise(status, given, mode)
-    return _given_back(buffer)
+    mode = _number(Mode, mode)
+    status, normal = _written(_normalize, text, mode)
+    _raise(status, text, mode)
+    return normal
 
 
-def check(text: Text, mode: Mode = Mode.LOCALE) -> None:
-    """Raises why the text has no meaning, if it has none.
+def _written(call: Any, text: Text, mode: Mode, *more: Any) -> Tuple[int, str]:
+    """The status of a call on the text, and what it writes if it is done."""
+    given, length = _sized(text)
+    buffer = _taken(length + 4)
+    status = _call(call, mode, given, length, *more, buffer.at, length + 4, buffer.needed_at)
+    return status, "" if status else _given_back(buffer)
+
+
+def check(text: Text, mode: Mode = Mode.LOCALE) -> bool:
+    """Returns True if the text has a meaning, and raises why it has none: is_valid returns False then.
 
     >>> check("en-US-u-ca-buddhist")
+    True
     >>> check("en-US-u-ca-buddhist", Mode.IDENTIFIER)
     Traceback (most recent call last):
     icu_locale_c.InvalidSubtag: Invalid subtag: 'en-US-u-ca-buddhist' at 6..7
     """
-    given, mode = _bytes(text), _number(Mode, mode)
-    _raise(_call(_library.icu_locale_check, mode, given, len(given)), given, mode)
+    mode = _number(Mode, mode)
+    _raise(_call(_library.icu_locale_check, mode, *_sized(text)), text, mode)
+    return True
 
 
 def is_valid(text: Text, mode: Mode = Mode.LOCALE) -> bool:
-    """Returns whether the text has a meaning: whether check raises nothing.
+    """Returns whether the text has a meaning.
 
     >>> is_valid("en-US-u-ca-buddhist"), is_valid("en-US-u-ca-buddhist", Mode.IDENTIFIER), is_valid("en-")
     (True, False, False)
     """
-    given, mode = _bytes(text), _number(Mode, mode)
-    status = _call(_library.icu_locale_check, mode, given, len(given))
+    status = _call(_library.icu_locale_check, _number(Mode, mode), *_sized(text))
     if not issubclass(_REFUSALS.get(status, Exception), LocaleError):
         _raise(status)
     return bool(status == _DONE)
@@ -464,9 +494,9 @@ def strict_cmp(text: Text, other: Text, mode: Mode = Mode.LOCALE) -> int:
     >>> strict_cmp("EN-us", "en-US"), strict_cmp("en-US", "EN-us")
     (0, 1)
     """
-    given, against, order, mode = _bytes(text), _bytes(other), ctypes.c_int8(), _number(Mode, mode)
-    status = _call(_library.icu_locale_strict_cmp, mode, given, len(given), against, len(against), ctypes.byref(order))
-    _raise(status, given, mode)
+    order, mode = ctypes.c_int8(), _number(Mode, mode)
+    status = _call(_library.icu_locale_strict_cmp, mode, *_sized(text), *_sized(other), ctypes.byref(order))
+    _raise(status, text, mode)
     return order.value
 
 
@@ -476,9 +506,9 @@ def normalizing_eq(text: Text, other: Text, mode: Mode = Mode.LOCALE) -> bool:
     >>> normalizing_eq("en-US", "EN-us"), normalizing_eq("en-US", "en-")
     (True, False)
     """
-    given, against, same, mode = _bytes(text), _bytes(other), ctypes.c_uint8(), _number(Mode, mode)
-    status = _call(_library.icu_locale_normalizing_eq, mode, given, len(given), against, len(against), ctypes.byref(same))
-    _raise(status, given, mode)
+    same, mode = ctypes.c_uint8(), _number(Mode, mode)
+    status = _call(_library.icu_locale_normalizing_eq, mode, *_sized(text), *_sized(other), ctypes.byref(same))
+    _raise(status, text, mode)
     return same.value == 1
 
 
@@ -488,12 +518,116 @@ def compare(text: Text, other: Text, mode: Mode = Mode.LOCALE) -> int:
     >>> compare("EN-us", "en-US"), compare("de", "EN")
     (0, -1)
     """
-    given, against, order, mode = _bytes(text), _bytes(other), ctypes.c_int8(), _number(Mode, mode)
-    status = _call(_library.icu_locale_compare, mode, given, len(given), against, len(against), ctypes.byref(order))
+    order, mode = ctypes.c_int8(), _number(Mode, mode)
+    status = _call(_library.icu_locale_compare, mode, *_sized(text), *_sized(other), ctypes.byref(order))
     if status:
         # The first text is refused first.
-        _raise(status, given if _call(_library.icu_locale_check, mode, given, len(given)) else against, mode)
+        _raise(status, text if _call(_library.icu_locale_check, mode, *_sized(text)) else other, mode)
     return order.value
+
+
+def _told(call: Any, text: Text, mode: Mode, *more: Any) -> Optional[str]:
+    """The part that a call gives of a text, or None if there is none."""
+    mode = _number(Mode, mode)
+    status, part = _written(call, text, mode, *more)
+    if status == _NOT_FOUND:
+        return None
+    _raise(status, text, mode)
+    return part
+
+
+def base_name_of(text: Text, mode: Mode = Mode.LOCALE) -> str:
+    """Returns the identifier of what the text means, without extensions.
+
+    >>> base_name_of("EN-latn-us-u-ca-buddhist")
+    'en-Latn-US'
+    """
+    return _told(_library.icu_locale_base_name_of, text, mode) or ""
+
+
+def language_of(text: Text, mode: Mode = Mode.LOCALE) -> str:
+    """Returns the language of what the text means; und if it is unknown.
+
+    >>> language_of("EN-us"), language_of("und-US")
+    ('en', 'und')
+    """
+    return _told(_library.icu_locale_language_of, text, mode) or ""
+
+
+def script_of(text: Text, mode: Mode = Mode.LOCALE) -> Optional[str]:
+    """Returns the script of what the text means, or None.
+
+    >>> script_of("zh-hant-tw"), script_of("zh-TW")
+    ('Hant', None)
+    """
+    return _told(_library.icu_locale_script_of, text, mode) or None
+
+
+def region_of(text: Text, mode: Mode = Mode.LOCALE) -> Optional[str]:
+    """Returns the region of what the text means, or None.
+
+    >>> region_of("zh-hant-tw"), region_of("zh-Hant")
+    ('TW', None)
+    """
+    return _told(_library.icu_locale_region_of, text, mode) or None
+
+
+def variants_of(text: Text, mode: Mode = Mode.LOCALE) -> Tuple[str, ...]:
+    """Returns the variants of what the text means, ascending.
+
+    >>> variants_of("en-posix-macos"), variants_of("en")
+    (('macos', 'posix'), ())
+    """
+    told = _told(_library.icu_locale_variants_of, text, mode)
+    return tuple(told.split("-")) if told else ()
+
+
+def keyword_of(text: Text, key: Text, mode: Mode = Mode.LOCALE) -> Optional[str]:
+    """Returns the value of the keyword with this key, in any case, or None. A key that stands alone has an empty value.
+
+    >>> keyword_of("en-u-ca-islamic-civil-kn", "CA"), keyword_of("en-u-kn", "kn"), keyword_of("en", "ca")
+    ('islamic-civil', '', None)
+    """
+    return _told(_library.icu_locale_keyword_of, text, mode, *_sized(key))
+
+
+def parent(text: Text, mode: Mode = Mode.LOCALE) -> Optional[str]:
+    """Returns the parent: without extensions; or else without the last variant, the region, the script; or und, which has
+    none.
+
+    >>> parent("EN-latn-us-u-ca-buddhist"), parent("en-Latn"), parent("en"), parent("und")
+    ('en-Latn-US', 'en', 'und', None)
+    """
+    return _told(_library.icu_locale_parent, text, mode)
+
+
+def matches(text: Text, range: Text) -> bool:
+    """Returns whether the range stands for the locale, both in any spelling: the extended filtering of RFC 4647, section
+    3.3.2, with und for its wildcard.
+
+    >>> matches("zh-hant-TW", "zh-TW"), matches("de-US", "und-US"), matches("en-x-us", "en-US")
+    (True, True, False)
+    """
+    same = ctypes.c_uint8()
+    status = _call(_library.icu_locale_matches, *_sized(text), *_sized(range), ctypes.byref(same))
+    if status:
+        # The text is refused first.
+        is_text = _call(_library.icu_locale_check, Mode.LOCALE, *_sized(text))
+        _raise(status, text if is_text else range, Mode.LOCALE)
+    return same.value == 1
+
+
+def clean(name: str) -> str:
+    """Returns what the name of a locale, as files and systems write it, is in the form of UTS #35. Nothing is refused.
+
+    >>> clean("sr_RS.UTF-8@latin"), clean("de_DE@phonebook")
+    ('sr-Latn-RS', 'de-DE@phonebook')
+    """
+    given = _bytes(name)
+    room = len(given) + 9
+    buffer = _Buffer(room)
+    _raise(_call(_library.icu_locale_clean, given, len(given), buffer.at, room, buffer.needed_at))
+    return buffer.bytes.raw[: buffer.needed.value].decode("utf-8", "surrogatepass")
 
 
 class _Unchanged:
@@ -504,6 +638,7 @@ class _Unchanged:
 
 
 _KEPT: Any = _Unchanged()
+_NONE: Mapping[Any, Text] = types.MappingProxyType({})
 _SINGLETONS = "0123456789abcdefghijklmnopqrsvwyz"
 
 
@@ -514,49 +649,24 @@ def _texts(given: Iterable[Text]) -> Tuple[Text, ...]:
     return tuple(given)
 
 
-class _Waiting:
-    """The first of the handles that could not be freed when Python let them go."""
-
-    first: Optional["_Owned"] = None
-    lock = threading.Lock()
-
-
-def _free_waiting() -> None:
-    """Frees the handles that wait. It leaves that to another thread that is about it."""
-    if not _Waiting.lock.acquire(False):
-        return
-    try:
-        while _Waiting.first is not None:
-            freed = _Waiting.first
-            _call(_library.icu_locale_free, freed)
-            if _Waiting.first is freed:  # else another one came meanwhile, and is next
-                _Waiting.first = freed.later
-    finally:
-        _Waiting.lock.release()
+def _joined(texts: Tuple[Text, ...]) -> Union[str, bytes]:
+    """The texts with hyphens between them: a str if all are."""
+    strs = [it for it in texts if isinstance(it, str)]
+    return "-".join(strs) if len(strs) == len(texts) else b"-".join(map(_bytes, texts))
 
 
 class _Owned(_Handle):
     """A handle that one call makes, and that a Locale has then.
 
-    Its block is freed when Python lets it go. If Python has no memory for that call, the handle waits in a chain, which
-    takes no memory, and is freed before the next one is made."""
+    Its __del__ is a call of C, which needs no memory. In a line of Python a signal handler could run, and what that raises,
+    such as KeyboardInterrupt, would be lost: Python drops what a finalizer raises."""
 
-    __slots__ = ("later",)
+    __slots__ = ("__del__",)
 
-    later: Optional["_Owned"]
+    __del__: Callable[[], None]
 
     def __init__(self) -> None:
-        if _Waiting.first is not None:
-            _free_waiting()
-
-    def __del__(
-        self, _free: Callable[[_Handle], None] = _library.icu_locale_free, _waiting: Type[_Waiting] = _Waiting
-    ) -> None:
-        try:
-            _free(self)
-        except (MemoryError, ctypes.ArgumentError):
-            self.later = _waiting.first
-            _waiting.first = self
+        self.__del__ = functools.partial(_free, ctypes.c_void_p.from_param(ctypes.addressof(self)))
 
     def read(self, function: Any, *given: Any) -> Optional[str]:
         """The text that a call writes, or None if there is no such part."""
@@ -575,21 +685,22 @@ class _Owned(_Handle):
         _free_buffers.append(buffer)
         return None
 
-    def change(self, name: str, *texts: bytes) -> None:
+    def change(self, name: str, *texts: Text) -> None:
         """Has the call of this name change the locale by the texts."""
         given: List[Any] = []
         for text in texts:
-            given += text, len(text)
-        mode = Mode.IDENTIFIER if name == "set_transform_language" else None
-        _raise(_call(getattr(_library, f"icu_locale_{name}"), self, *given), b"-".join(texts), mode)
+            given += _sized(text)
+        status = _call(getattr(_library, f"icu_locale_{name}"), self, *given)
+        if status:
+            _raise(status, _joined(texts), Mode.IDENTIFIER if name == "set_transform_language" else None)
 
     def set(self, part: str, text: Optional[Text]) -> None:
         if text is not _KEPT:
-            self.change(f"set_{part}", b"" if text is None else _bytes(text))
+            self.change(f"set_{part}", b"" if text is None else text)
 
     def fill(self, clear: str, add: str, texts: Iterable[Text]) -> None:
         self.change(clear)
-        for given in map(_bytes, _texts(texts)):
+        for given in _texts(texts):
             self.change(add, given)
 
     def fill_pairs(self, clear: str, put: str, pairs: Mapping[Any, Text]) -> None:
@@ -597,7 +708,7 @@ class _Owned(_Handle):
             raise TypeError(f"a mapping of keys to values is wanted, not {type(pairs).__name__}")
         self.change(clear)
         for key, value in pairs.items():
-            self.change(put, _bytes(key), _bytes(value))
+            self.change(put, key, value)
 
     def fill_others(self, others: Mapping[Any, Text]) -> None:
         if not isinstance(others, Mapping):
@@ -606,26 +717,27 @@ class _Owned(_Handle):
             status = _call(_library.icu_locale_remove_other, self, ord(it))
             _raise(_DONE if status == _NOT_FOUND else status)
         for key, subtags in others.items():
-            singleton, text = _bytes(key), _bytes(subtags)
-            if len(singleton) != 1:
-                _raise(_INVALID_EXTENSION, singleton + b"-" + text)
-            self.change("set_other", singleton + b"-" + text)
+            text = _joined((key, subtags))
+            if len(_bytes(key)) != 1:
+                _raise(_INVALID_EXTENSION, text)
+            self.change("set_other", text)
 
 
-# The handles of all Locales, by their tickets.
-_held: Dict[int, _Owned] = {}
+# The handles of all Locales, by their tickets, each in a call that does nothing.
+_held: Dict[int, Callable[[], bool]] = {}
 
 
 class _Ticket(int):
     """What a Locale has beside its handle, so that the handle goes last.
 
     The collector of cycles runs the finalizers of all that it found, in any order. A handle that is held above is not
-    among that. So it is not freed before a finalizer that reads the Locale."""
+    among that. So it is not freed before a finalizer that reads the Locale.
+
+    When a ticket is dropped, Python asks for its __del__, which pops the call above, and makes that call. So here too no line
+    of Python runs."""
 
     __slots__ = ()
-
-    def __del__(self, _held: Dict[int, _Owned] = _held) -> None:
-        _held.pop(self, None)
+    __del__ = property(_held.pop)
 
 
 _T = TypeVar("_T")
@@ -665,18 +777,25 @@ class Locale:
     _parts: Dict[str, Any]
 
     def __new__(cls, text: Text) -> "Locale":
-        given, handle = _bytes(text), _Owned()
-        _raise(_call(_parse, handle, given, len(given)), given, Mode.LOCALE)
+        handle = _Owned()
+        _raise(_call(_parse, handle, *_sized(text)), text, Mode.LOCALE)
         return cls._of(handle)
 
     @classmethod
     def _of(cls, handle: _Owned) -> "Locale":
         """The Locale of this handle."""
         made, ticket = object.__new__(cls), _Ticket(id(handle))
-        _held[int(ticket)] = handle
+        _held[int(ticket)] = functools.partial(bool, handle)
         object.__setattr__(made, "_handle", handle)
         object.__setattr__(made, "_ticket", ticket)
         object.__setattr__(made, "_parts", {})
+        return made
+
+    def _like(self, handle: _Owned) -> "Locale":
+        """The Locale of this handle, of the class of this one, and with what that class added."""
+        made = self._of(handle)
+        if hasattr(self, "__dict__"):
+            made.__dict__.update(self.__dict__)
         return made
 
     def __setattr__(self, name: str, value: Any) -> None:
@@ -876,6 +995,34 @@ class Locale:
         """
         return bool(self._ask(_library.icu_locale_is_und))
 
+    @classmethod
+    def from_parts(
+        cls,
+        *,
+        language: Optional[Text] = None,
+        script: Optional[Text] = None,
+        region: Optional[Text] = None,
+        variants: Iterable[Text] = (),
+        keywords: Mapping[Any, Text] = _NONE,
+        attributes: Iterable[Text] = (),
+        transform_language: Optional[Text] = None,
+        fields: Mapping[Any, Text] = _NONE,
+        others: Mapping[Any, Text] = _NONE,
+        private: Optional[Text] = None,
+    ) -> Locale:
+        """Returns the locale that has these parts, and no others.
+
+        >>> Locale.from_parts(language="en", region="gb", keywords={"ca": "buddhist"})
+        Locale('en-GB-u-ca-buddhist')
+        >>> Locale.from_parts(language="en", region="GBR")
+        Traceback (most recent call last):
+        icu_locale_c.InvalidSubtag: Invalid subtag: 'GBR'
+        """
+        return _again(cls, "und").replace(
+            language=language, script=script, region=region, variants=variants, keywords=keywords, attributes=attributes,
+            transform_language=transform_language, fields=fields, others=others, private=private,
+        )
+
     def replace(
         self,
         *,
@@ -929,10 +1076,10 @@ class Locale:
         if others is not _KEPT:
             made.fill_others(others)
         if not _call(_library.icu_locale_is_well_formed, made):
-            _raise(_INVALID_SUBTAG, (made.read(_library.icu_locale_to_string) or "").encode())
-        return self._of(made)
+            _raise(_INVALID_SUBTAG, made.read(_library.icu_locale_to_string) or "")
+        return self._like(made)
 
-    def _copied(self) -> "_Owned":
+    def _copied(self) -> _Owned:
         made = _Owned()
         _raise(_call(_library.icu_locale_copy, made, self._handle))
         return made
@@ -947,7 +1094,7 @@ class Locale:
             raise TypeError(f"a Locale is wanted, not {type(other).__name__}")
         made = self._copied()
         _raise(_call(_library.icu_locale_extend_unicode, made, other._handle))
-        return self._of(made)
+        return self._like(made)
 
     def data_strict_cmp(self, other: Text, priority: Priority = Priority.LANGUAGE) -> int:
         """Returns the byte order of the text of the data locale against the other text as it stands: -1, 0 or 1.
@@ -955,8 +1102,8 @@ class Locale:
         >>> Locale("en-GB-x-a").data_strict_cmp("en-GB"), Locale("en-GB").data_strict_cmp("EN-GB")
         (0, 1)
         """
-        given, order, number = _bytes(other), ctypes.c_int8(), _number(Priority, priority)
-        _raise(self._ask(_library.icu_locale_data_cmp_bytes, number, given, len(given), ctypes.byref(order)))
+        order, number = ctypes.c_int8(), _number(Priority, priority)
+        _raise(self._ask(_library.icu_locale_data_cmp_bytes, number, *_sized(other), ctypes.byref(order)))
         return order.value
 
     def data_compare(self, other: "Locale", priority: Priority = Priority.LANGUAGE) -> int:
@@ -977,8 +1124,7 @@ class Locale:
         >>> Locale("EN-us").strict_cmp("en-US"), Locale("EN-us").strict_cmp("EN-us")
         (0, 1)
         """
-        given = _bytes(other)
-        return int(self._ask(_library.icu_locale_cmp_bytes, given, len(given)))
+        return int(self._ask(_library.icu_locale_cmp_bytes, *_sized(other)))
 
     def normalizing_eq(self, other: Text) -> bool:
         """Returns whether the text means this locale.
@@ -986,8 +1132,8 @@ class Locale:
         >>> Locale("en-US").normalizing_eq("EN-us"), Locale("en-US").normalizing_eq("en-")
         (True, False)
         """
-        given, same = _bytes(other), ctypes.c_uint8()
-        _raise(self._ask(_library.icu_locale_eq_text, given, len(given), ctypes.byref(same)))
+        same = ctypes.c_uint8()
+        _raise(self._ask(_library.icu_locale_eq_text, *_sized(other), ctypes.byref(same)))
         return same.value == 1
 
     def __eq__(self, other: object) -> bool:
@@ -1031,4 +1177,18 @@ class Locale:
         return self
 
     def __reduce__(self) -> Tuple[Any, ...]:
-        return type(self), (str(self),)
+        return _again, (type(self), str(self)), getattr(self, "__dict__", None)
+
+    @classmethod
+    def __get_pydantic_core_schema__(cls, _source: Any, _handler: Any) -> Any:
+        """Has pydantic 2 take a Locale, or a str that means one, and write its normal form to JSON."""
+        core = importlib.import_module("pydantic_core.core_schema")
+        parsed = core.no_info_after_validator_function(cls, core.str_schema())
+        either = core.union_schema([core.is_instance_schema(cls), parsed])
+        printed = core.to_string_ser_schema(when_used="json")
+        return core.json_or_python_schema(json_schema=parsed, python_schema=either, serialization=printed)
+
+
+def _again(kind: Type[Locale], text: str) -> Locale:
+    """What was pickled as this text, of this class."""
+    return Locale.__new__(kind, text)

@@ -28,11 +28,15 @@ static PyObject *quick_normalize(PyObject *self, PyObject *given)
 {
     const char *text;
     Py_ssize_t length;
-    int mode;
+    PyObject *number;
     uint8_t room[LONGEST + MORE];
     size_t needed = 0;
     (void)self;
-    if (!PyArg_ParseTuple(given, "s#i", &text, &length, &mode) || length > LONGEST || normalize_at == NULL)
+    if (!PyArg_ParseTuple(given, "s#O", &text, &length, &number) || length > LONGEST || normalize_at == NULL)
+        return nothing();
+    /* (only of an int: any other object is asked for its number once, by __init__.py, which passes on what that raises) */
+    const long mode = PyLong_Check(number) ? PyLong_AsLong(number) : -1;
+    if (mode < 0 || mode > UINT32_MAX)
         return nothing();
     if (normalize_at((uint32_t)mode, (const uint8_t *)text, (size_t)length, room, (size_t)length + MORE, &needed) != 0)
         return nothing();

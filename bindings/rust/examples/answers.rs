@@ -14,6 +14,7 @@
 
 use icu_locale_c::extensions::unicode::{Attribute, Key, Value};
 use icu_locale_c::subtags::{Language, Region, Script, Variant};
+use icu_locale_c::{base_name_of, keyword_of, language_of, matches, parent, region_of, script_of, variants_of};
 use icu_locale_c::{check, compare, normalize, normalizing_eq, strict_cmp, Locale, Mode, ParseError, Priority};
 use std::collections::hash_map::DefaultHasher;
 use std::hash::{Hash, Hasher};
@@ -78,6 +79,9 @@ fn parts(it: &Locale) -> String {
     let preference = |value: Option<Value>| value.map_or_else(|| "-".to_owned(), |it| it.to_string());
     let mut hash = Kept(0);
     it.hash(&mut hash);
+    if it.is_well_formed() {
+        see_texts(it);
+    }
     let fields = [
         it.to_string(),
         it.base_name(),
@@ -100,6 +104,24 @@ fn parts(it: &Locale) -> String {
         format!("{:016x}", hash.finish()),
     ];
     fields.join("\t")
+}
+
+/// The functions on texts give the parts that the locale has, which the text means.
+fn see_texts(it: &Locale) {
+    let text = it.to_string().to_ascii_uppercase();
+    let optional = |part: Result<Option<String>, ParseError>| part.unwrap().unwrap_or_default();
+    assert_eq!(base_name_of(Mode::Locale, &text).unwrap(), it.base_name());
+    assert_eq!(language_of(Mode::Locale, &text).unwrap(), it.language().to_string());
+    assert_eq!(optional(script_of(Mode::Locale, &text)), it.script().map_or(String::new(), |it| it.to_string()));
+    assert_eq!(optional(region_of(Mode::Locale, &text)), it.region().map_or(String::new(), |it| it.to_string()));
+    assert_eq!(variants_of(Mode::Locale, &text).unwrap().replace('-', ","), joined(&it.variants()));
+    for (key, value) in it.keywords() {
+        assert_eq!(keyword_of(Mode::Locale, &text, key.as_str()).unwrap(), Some(value.to_string()));
+    }
+    match parent(Mode::Locale, &text).unwrap() {
+        Some(above) => assert!(matches(&text, &above).unwrap() && above != it.to_string()),
+        None => assert!(it.is_unknown()),
+    }
 }
 
 /// The comparison of two locales, of which all forms are to agree.

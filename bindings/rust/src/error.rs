@@ -260,6 +260,14 @@ mod tests {
     }
 
     #[test]
+    fn an_error_keeps_a_part_of_a_long_text() {
+        let text = format!("en-{}", "x".repeat(10_000_000));
+        let error = text.parse::<Locale>().unwrap_err();
+        assert_eq!((error.range(), error.to_string().len() < 120), (3..text.len(), true));
+        assert!(std::mem::size_of::<ParseError>() <= 112);
+    }
+
+    #[test]
     fn a_fault_has_a_place() {
         for mode in [Mode::Identifier, Mode::Locale, Mode::DataLocale] {
             let at = |text: &[u8]| normalize(mode, text).unwrap_err().range();

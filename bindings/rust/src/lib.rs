@@ -25,16 +25,21 @@
 //! assert_eq!((error.kind(), error.to_string()), (Refusal::InvalidSubtag, "Invalid subtag: 'en-' at 3..3".to_owned()));
 //! ```
 //!
+//! With the feature `serde` a [`Locale`], and each of its parts, is written as its normal form, and read as by parsing.
+//!
 //! The work is done by the library of `include/icu_locale.h`, whose every function is proved. This wrapper is not
 //! proved.
 
 use std::cmp::Ordering;
 use std::sync::OnceLock;
 
+#[cfg(feature = "serde")]
+mod by_serde;
 mod error;
 mod locale;
 mod parts;
 pub mod sys;
+mod texts;
 
 /// The programs of the page, which are tried as the examples here are.
 #[cfg(doctest)]
@@ -44,6 +49,9 @@ struct Readme;
 use error::{result, text_result};
 pub use error::{ParseError, Refusal};
 pub use locale::Locale;
+pub use texts::{
+    base_name_of, clean, keyword_of, language_of, matches, parent, region_of, script_of, variants_of,
+};
 
 /// Parts of an identifier.
 pub mod subtags {

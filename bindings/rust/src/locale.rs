@@ -18,6 +18,9 @@ use std::{fmt, ptr};
 /// [`normalizing_eq`](Self::normalizing_eq), then ends as the collections of the standard library do, by
 /// `handle_alloc_error`.
 ///
+/// A `str` cannot be borrowed from a locale (`Borrow<str>`): it holds no text, and its order and its hash, by parts, are not
+/// those of its text. So a table by locales is asked with a locale.
+///
 /// Any number of threads may read one locale, by `&`, by an `Arc` or in a `static`:
 ///
 /// ```
@@ -568,6 +571,42 @@ impl From<(Language, Option<Script>, Option<Region>)> for Locale {
     }
 }
 
+/// Sets each of the keywords: of two with one key the later one counts.
+impl Extend<(Key, Value)> for Locale {
+    fn extend<I: IntoIterator<Item = (Key, Value)>>(&mut self, keywords: I) {
+        for (key, value) in keywords {
+            self.set_keyword(key, value);
+        }
+    }
+}
+
+/// Adds the variants.
+impl Extend<Variant> for Locale {
+    fn extend<I: IntoIterator<Item = Variant>>(&mut self, variants: I) {
+        for variant in variants {
+            self.push_variant(variant);
+        }
+    }
+}
+
+/// Adds the attributes.
+impl Extend<Attribute> for Locale {
+    fn extend<I: IntoIterator<Item = Attribute>>(&mut self, attributes: I) {
+        for attribute in attributes {
+            self.push_attribute(attribute);
+        }
+    }
+}
+
+/// The unknown locale with these keywords, such as `und-u-ca-buddhist`.
+impl FromIterator<(Key, Value)> for Locale {
+    fn from_iter<I: IntoIterator<Item = (Key, Value)>>(keywords: I) -> Self {
+        let mut made = Self::UNKNOWN;
+        made.extend(keywords);
+        made
+    }
+}
+
 impl FromStr for Locale {
     type Err = ParseError;
 
@@ -824,6 +863,18 @@ mod tests {
         assert!(it == "en-US" && it == *"en-US" && it != "EN-us" && it != "en" && it != *"en-USA");
         assert_eq!(Locale::try_from("en-").unwrap_err(), Refusal::InvalidSubtag);
         assert_eq!(String::from(locale("EN-u-ca-roc")), "en-u-ca-roc");
+    }
+
+    #[test]
+    fn parts_are_collected() {
+        let mut it: Locale = locale("en-u-ca-roc-kn").keywords().into_iter().collect();
+        assert_eq!(it, "und-u-ca-roc-kn");
+        it.extend(locale("de-u-hc-h12-ca-buddhist").keywords());
+        it.extend(locale("de-posix-macos").variants());
+        it.extend(locale("de-u-foo-bar").attributes().into_iter().rev());
+        assert_eq!(it, "und-macos-posix-u-bar-foo-ca-buddhist-hc-h12-kn");
+        let pairs = [("ca", "roc"), ("ca", "japanese")].map(|(key, value)| (key.parse().unwrap(), value.parse().unwrap()));
+        assert_eq!(Locale::from_iter(pairs), "und-u-ca-japanese");
     }
 
     #[test]

@@ -1,7 +1,7 @@
 //! The header `include/icu_locale.h`, which says what each function does, and what a caller owes.
 // Written by tools/write_calls from tools/calls.txt and the numbers of that header: change those and not this file.
 
-pub const VERSION: u32 = 6;
+pub const VERSION: u32 = 7;
 
 pub const IDENTIFIER: u32 = 0;
 pub const LOCALE: u32 = 1;
@@ -62,6 +62,72 @@ extern "C" {
         other_length: usize,
         order: *mut i8,
     ) -> u32;
+    pub fn icu_locale_base_name_of(
+        mode: u32,
+        text: *const u8,
+        length: usize,
+        buffer: *mut u8,
+        room: usize,
+        needed: *mut usize,
+    ) -> u32;
+    pub fn icu_locale_language_of(
+        mode: u32,
+        text: *const u8,
+        length: usize,
+        buffer: *mut u8,
+        room: usize,
+        needed: *mut usize,
+    ) -> u32;
+    pub fn icu_locale_script_of(
+        mode: u32,
+        text: *const u8,
+        length: usize,
+        buffer: *mut u8,
+        room: usize,
+        needed: *mut usize,
+    ) -> u32;
+    pub fn icu_locale_region_of(
+        mode: u32,
+        text: *const u8,
+        length: usize,
+        buffer: *mut u8,
+        room: usize,
+        needed: *mut usize,
+    ) -> u32;
+    pub fn icu_locale_variants_of(
+        mode: u32,
+        text: *const u8,
+        length: usize,
+        buffer: *mut u8,
+        room: usize,
+        needed: *mut usize,
+    ) -> u32;
+    pub fn icu_locale_keyword_of(
+        mode: u32,
+        text: *const u8,
+        length: usize,
+        key: *const u8,
+        key_length: usize,
+        buffer: *mut u8,
+        room: usize,
+        needed: *mut usize,
+    ) -> u32;
+    pub fn icu_locale_parent(
+        mode: u32,
+        text: *const u8,
+        length: usize,
+        buffer: *mut u8,
+        room: usize,
+        needed: *mut usize,
+    ) -> u32;
+    pub fn icu_locale_matches(
+        text: *const u8,
+        length: usize,
+        range: *const u8,
+        range_length: usize,
+        same: *mut u8,
+    ) -> u32;
+    pub fn icu_locale_clean(text: *const u8, length: usize, buffer: *mut u8, room: usize, needed: *mut usize) -> u32;
     pub fn icu_locale_words(status: u32, buffer: *mut u8, room: usize, needed: *mut usize) -> u32;
     pub fn icu_locale_parse(locale: *mut icu_locale_t, text: *const u8, length: usize) -> u32;
     pub fn icu_locale_copy(locale: *mut icu_locale_t, from: *const icu_locale_t) -> u32;

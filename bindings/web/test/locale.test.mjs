@@ -62,6 +62,9 @@ test('each part changes alone', () => {
     [{ keywords: { CA: 'iso8601' }, calendar: 'gregory' }, 'en-Latn-US-posix-a-foo-t-de-m0-din-u-attr-ca-gregory-x-a'],
     [{ calendar: undefined, numeric: undefined }, 'en-Latn-US-posix-a-foo-t-de-m0-din-u-attr-x-a'],
     [{ numeric: false, collation: 'phonebk' }, 'en-Latn-US-posix-a-foo-t-de-m0-din-u-attr-ca-roc-co-phonebk-kn-false-x-a'],
+    // (the numbers of days as ECMA-402 has them: WeekdayToUValue)
+    ...[[0, 'sun'], [1, 'mon'], ['2', 'tue'], [3, 'wed'], [4, 'thu'], [5, 'fri'], [6, 'sat'], [7, 'sun'], ['mon', 'mon'], ['map', 'map']].map(([firstDayOfWeek, day]) =>
+      [{ keywords: {}, attributes: [], firstDayOfWeek }, `en-Latn-US-posix-a-foo-t-de-m0-din-u-fw-${day}-x-a`]),
     [{ transform: null }, 'en-Latn-US-posix-a-foo-u-attr-ca-roc-kn-x-a'],
     [{ transform: 'FR-latn-h0-hybrid' }, 'en-Latn-US-posix-a-foo-t-fr-latn-h0-hybrid-u-attr-ca-roc-kn-x-a'],
     [{ transform: new Locale('fr-FR') }, 'en-Latn-US-posix-a-foo-t-fr-fr-u-attr-ca-roc-kn-x-a'],
@@ -93,6 +96,8 @@ test('a part that is none is refused by its name', () => {
     [{ attributes: ['foo-ca'] }, 'InvalidExtension', 'attributes', 'foo-ca'],
     [{ calendar: 'buddhist-hc-h12' }, 'InvalidExtension', 'calendar', 'buddhist-hc-h12'],
     [{ calendar: 'buddhist-x-a' }, 'InvalidExtension', 'calendar', 'buddhist-x-a'],
+    [{ firstDayOfWeek: 8 }, 'InvalidExtension', 'firstDayOfWeek', '8'],
+    [{ keywords: { fw: '1' } }, 'InvalidExtension', 'keywords.fw', '1'],
     [{ keywords: { ca: 'ab' } }, 'InvalidExtension', 'keywords.ca', 'ab'],
     [{ keywords: { 'ca-foo': 'bar' } }, 'InvalidExtension', 'keywords.ca-foo', 'ca-foo'],
     [{ keywords: { foo: 'bar' } }, 'InvalidExtension', 'keywords.foo', 'foo'],
@@ -238,7 +243,8 @@ test('a refusal that is thrown costs little, and keeps frames if they are wanted
   const thrown = text => { try { return normalize(text); } catch (error) { return error; } };
   const limit = Error.stackTraceLimit;
   assert.equal(limit, 10); // (node's own: errors that were thrown before left it)
-  assert.equal(thrown('x').stack.includes('\n    at '), false);
+  assert.equal(thrown('x').stack, 'LocaleError: The given language subtag is invalid');
+  assert.equal(inspect(thrown('x')), "[LocaleError: The given language subtag is invalid] {\n  code: 'InvalidLanguage',\n  text: 'x',\n  mode: 'locale'\n}");
   assert.equal(Error.stackTraceLimit, limit);
   const time = () => {
     let least = Infinity;

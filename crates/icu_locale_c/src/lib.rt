@@ -26,14 +26,16 @@ mod identifier;
 mod keywords;
 mod others;
 mod preferences;
+mod texts;
 mod transform;
 mod variants;
 mod whole;
 
+use iloc_calls::InMemory;
 use std::alloc::Global;
 
 /// The version of the header that this library was made for.
-pub const VERSION: u32 = 6;
+pub const VERSION: u32 = 7;
 
 /// Writes the normal text of what the text means into the buffer, and its length to `needed`.
 ///
@@ -64,6 +66,7 @@ pub extern "C" fn icu_locale_check(alloc: Global, mode: u32, text: &[u8]) -> u32
 /// Why the text is refused, and the place of its fault; of another text nothing is written.
 #[unsafe(no_mangle)]
 pub extern "C" fn icu_locale_find_fault(
+    alloc: Global,
     mode: u32,
     text: &[u8],
     start: &mut usize,
@@ -73,7 +76,7 @@ pub extern "C" fn icu_locale_find_fault(
         (λ m. EndsAs (FindsFault m text.now (start.old, end.old) (start.new, end.new)))
         ((start.new ≡ start.old) × (end.new ≡ end.old)) result }
 {
-    iloc_calls::find_fault(mode, text, start, end)
+    iloc_calls::find_fault(InMemory(alloc), mode, text, start, end)
 }
 
 /// Writes the byte order of the normal text against other bytes, as -1, 0 or 1.

@@ -115,4 +115,8 @@ pub use Rattle.iloc_normalize.specs.declared.Mode as ProgramModes
 pub use Rattle.iloc_locale.specs.LocaleParents
 pub use Rattle.iloc_matching.specs.Range as LocaleRanges
 pub use Rattle.iloc_cleaning.specs.Cleaning as CleanedLines
+pub use Rattle.iloc_expected.specs.Kinds as PieceKinds
+pub use Rattle.iloc_expected.specs.Standing as ExpectedKinds
+pub use Rattle.iloc_expected.specs.Words as ExpectedWords
+pub use Rattle.iloc_hints.specs.Hints as TextHints
 pub mod Together

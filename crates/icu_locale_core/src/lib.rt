@@ -44,7 +44,7 @@
 //! | `write_to_string`, `to_string_or_borrow`, `Locale::normalizing_eq`, `push`, `push_subtag`, `insert`, `try_insert`, `set`, `extend` and its kin, `union`, `new_double`, `from_iter`, `from_pairs`, `from_subtags`, `from_two_subtags`, `to_value`, `unicode_extension_value`, `to_locale`, `write_text`, `carry_v1` | taken; running out of memory is `AllocError`, or the refusal `OutOfMemory` |
 //! | `Locale::unknown`, `new` of `LiteMap`, `Fields`, `Transform` and `Extensions`, `from_langid`, `from_language`, `from_script`, `from_region`, `from_parts`, `from_unicode`, `into_locale`, `Fields::clear` | taken and kept: these allocate nothing |
 //! | `clone` of what may own memory | not taken: the value's own; running out of memory is `AllocError` |
-//! | subtags, data locales, `try_from_utf8_with_single_variant` and its kin, `fault_of`, look-ups, removals, `truncate_to_parent`, `retain`, iterators, comparisons, orders, hashes, `write_to` | none: these allocate nothing |
+//! | subtags, data locales, `try_from_utf8_with_single_variant` and its kin, `fault_of`, `expected`, `hint`, look-ups, removals, `truncate_to_parent`, `retain`, iterators, comparisons, orders, hashes, `write_to` | none: these allocate nothing |
 //!
 //! In the Rust crate some of these modules are private, and `tinystr`, `writeable` and `litemap` are crates.
 #![tactic(auto)]
@@ -98,8 +98,14 @@ pub mod parser {
 /// Why a text is refused, and where: `fault_of(Mode::Locale, b"en--US")` is `InvalidSubtag` from byte 3 to byte 3, the
 /// empty piece, since no accepted text begins with `en-` and a hyphen. It allocates nothing (docs/DEFINITIONS.md, "Where a
 /// fault stands").
+///
+/// What may stand at the place `expected` says: `expected(Mode::Locale, b"en-foo", 3)` prints as `a script, a region, a
+/// variant or an extension`. What is usually meant by a refused text `hint` says: `hint(Mode::Locale, b"en_US")` has the
+/// words `use hyphens in place of underscores`. Neither allocates (docs/DEFINITIONS.md, "What may stand at a place").
 pub mod faults {
+    pub use iloc_expected::{Expected, PieceKind, expected};
     pub use iloc_faults::{Fault, fault_of};
+    pub use iloc_hints::{Hint, hint};
     pub use iloc_normalize::Mode;
 }
 
@@ -298,6 +304,7 @@ pub mod laws {
 
     /// Where the fault of a text stands.
     pub mod faults {
+        pub use iloc_expected::laws::at_a_fault;
         pub use iloc_faults::laws::one_place;
     }
 

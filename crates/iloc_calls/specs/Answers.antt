@@ -6,8 +6,8 @@ use Rattle.std.specs.declared.cmp.Ordering.{Ordering}
 use Rattle.std.specs.declared.cmp.Ordering.TheVariants.{Less, Equal, Greater}
 use Rattle.iloc_spec_grammar.specs.Syntax.{Text, pieces, languages, Identifier}
 use Rattle.iloc_spec_grammar.specs.Meaning as meaning
-use Rattle.iloc_spec_grammar.specs.Meaning.{IdentifierMeans, Means}
-use Rattle.iloc_spec_parts.specs.DataLocales.{DataLocale, DataMeans}
+use Rattle.iloc_spec_grammar.specs.Meaning.{IdentifierMeans, Means, without_extensions}
+use Rattle.iloc_spec_parts.specs.DataLocales.{DataLocale, DataMeans, locale_of_data}
 use Rattle.iloc_writeable.specs.Hints.{saturated}
 use Rattle.iloc_langid.specs.Reads as langid_reads
 use Rattle.iloc_locale.specs.LocaleReading as locale
@@ -31,6 +31,14 @@ abbrev pub CallWantsMemory : Mode → Text → Type 0
 CallWantsMemory Langid t = langid_reads.IdentifierWantsMemory (pieces t)
 CallWantsMemory Locale t = locale.LocaleWantsMemory t
 CallWantsMemory Data t = ⊥
+
+-- the locale of what the text means: an identifier alone, a locale, or what prints a data locale's
+-- parts
+abbrev pub MeansLocale : Mode → Text → meaning.Locale → Type 0
+MeansLocale Langid t M = (i : Identifier) × IdentifierMeans languages (pieces t) i
+    × (M ≡ without_extensions i)
+MeansLocale Locale t M = Means languages t M
+MeansLocale Data t M = (d : DataLocale) × DataMeans languages t d × (M ≡ locale_of_data d)
 
 -- the status of a text: it means something, or has the fault, or memory ran out
 abbrev pub JudgedAs : Mode → Text → Status → Type 0

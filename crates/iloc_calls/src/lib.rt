@@ -3,7 +3,8 @@
 //!
 //! A text is bytes of any encoding. Each function gives the number of a status, and its contract says, status by
 //! status, what the caller finds (`NormalizesTo` and its like): the normal text, the fault that the grammar names, or
-//! the room that is needed; what is not written stays as it was. Only parsing allocates, and `compare`.
+//! the room that is needed; what is not written stays as it was. Only parsing allocates,
+//! and `compare`, and `find_fault` in memory.
 #![tactic(auto)]
 
 ghost use Rattle.std.specs.Prelude.{◌≡◌, ◌+◌, ◌≤◌, ⊤, length};
@@ -34,6 +35,7 @@ pub use comparing::number;
 pub use faults::find_fault;
 pub use filling::{hand_out, hand_out_bytes, hand_out_found, hand_out_none};
 pub use hashing::hash_of_text;
+pub use iloc_faults::{InMemory, OnStack};
 pub use same::tell_refused;
 pub use status::Status;
 use std::alloc::Global;

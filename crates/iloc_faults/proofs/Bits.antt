@@ -149,10 +149,14 @@ piece_short (Source stage) p = tt
 
 -- ---- the key `sd`
 
-pub two_long : (l : Left) → l.n ≡ 2 → length (piece_left l) ≡ 2
-two_long l e = ∥∥₁_elim l.piece (Coded-set coded_ℕ _ _) (⊎_elim
-    (λ s. sym s.long ∙ e)
+-- a piece of fewer than sixteen bytes is as long as it says
+pub few_long : (l : Left) → l.n < 16 → l.n ≡ length (piece_left l)
+few_long l few = ∥∥₁_elim l.piece (Coded-set coded_ℕ _ _) (⊎_elim
+    (λ s. s.long)
     (λ k. absurd (let m = k.most in omega arith)))
+
+pub two_long : (l : Left) → l.n ≡ 2 → length (piece_left l) ≡ 2
+two_long l e = sym (few_long l (omega arith)) ∙ e
 
 pub not_two : (l : Left) → l.n ≢ 2 → is_same (lower (piece_left l)) (codes "sd") ≡ false
 not_two l n = false_from_ne_true _ (λ e.

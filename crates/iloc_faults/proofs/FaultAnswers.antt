@@ -70,3 +70,10 @@ pub inside_is : (mode : Mode) (t : Text) (o : Option Fault) → IfSome o (IsFaul
     IfSome o (λ f. (f.start ≤ f.end) × (f.end ≤ length t))
 inside_is mode t None h = tt
 inside_is mode t (Some f) h = place_inside mode t f.start f.end h.place
+
+-- a text with a fault means nothing, and its fault stands within it
+pub place_is : (mode : Mode) (t : Text) (f : Fault) → IsFaultFound mode t f →
+    ¬ (IsAccepted mode t) × IsFaultPlace mode t f.start f.end × (f.start ≤ f.end) × (f.end ≤ length t)
+place_is mode t f h =
+    let p = place_inside mode t f.start f.end h.place in
+    (found_not mode t f h, h.place, p.0, p.1)

@@ -1,9 +1,9 @@
 -- What the walk over the pieces of a text says.
 use Rattle.std.proofs.Common.{◌≡◌, ◌≢◌, inl, inr, ℕ, zero, suc, ◌+◌, ◌-◌, ◌<◌, ◌≤◌, true, false, ◌==◌, List}
-use Rattle.std.proofs.Common.{[], ◌∷◌, ◌++◌, length, get_or, take, drop, Option, Some, None, refl, sym, ap}
-use Rattle.std.proofs.Common.{◌∙◌, arith, append_assoc, append-nil, length-append, take_all}
+use Rattle.std.proofs.Common.{[], ◌∷◌, ◌++◌, length, get_or, drop, Option, Some, None, refl, sym, ap}
+use Rattle.std.proofs.Common.{◌∙◌, arith, append_assoc, append-nil, length-append}
 use Rattle.std.specs.List.{slice_split}
-use Rattle.std.proofs.lemmas.Bool.{eq-eqb, ne_eqb, cases_lt}
+use Rattle.std.proofs.lemmas.Bool.{eq-eqb, ne_eqb}
 use Rattle.std.proofs.lemmas.List.{get_or-take, get_or-drop}
 use Rattle.std.proofs.lemmas.List.Concat.{flat_map-append}
 use Rattle.iloc_spec_grammar.specs.Syntax.{Text, pieces, dashes, first_piece}
@@ -76,15 +76,14 @@ pub record IsAll (mode : Mode) (t : Text) (s : State) : Type 0 where
   pub seen : Text
   pub ran : run mode (Some started) (pieces t) ≡ Some (reached s.part variants seen)
 
-pub walk_starts : (mode : Mode) (t : Text) (at : Left) → at.at ≡ 0 →
-    bytes_left at ≡ take (length t) t →
+pub walk_starts : (mode : Mode) (t : Text) (at : Left) → at.at ≡ 0 → bytes_left at ≡ t →
     IsWalked mode t at (record { part = Start; variants = None; seen = 0 })
 walk_starts mode t at e b = record {
   done = [];
   variants = [];
   seen = [];
   start = e;
-  cut = ap pieces (sym (b ∙ take_all (length t) t (omega arith)));
+  cut = ap pieces (sym b);
   ran = refl;
   read = record { seen_are = none_seen; variants_are = refl; early = tt };
 }

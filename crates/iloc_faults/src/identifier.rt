@@ -5,7 +5,7 @@ ghost use Rattle.iloc_pieces.specs.Left.{piece_left};
 ghost use Rattle.iloc_faults.specs.Next.{after_region_next, after_script_next, is_new, word_next};
 ghost use Rattle.iloc_faults.specs.States.{AreNew, AreVariantsRead, IsEarly, IsWordRead, are_same, variants_left};
 
-use crate::repeats::count_new;
+use crate::repeats::{Room, count_new};
 use crate::state::Stage;
 use iloc_normalize::Mode;
 use iloc_pieces::left::{Left, is_region, is_script, is_variant};
@@ -27,18 +27,23 @@ fn is_new(mode: Mode, variants: Option<usize>, at: Left<'_>) -> bool
 }
 
 // How many variants from the piece on are new.
-fn count_left(variants: Option<usize>, at: Left<'_>) -> usize
+fn count_left<R: Room>(room: R, variants: Option<usize>, at: Left<'_>) -> usize
     ensures { (vs : List Text) → AreVariantsRead variants at.entry vs
         → AreNew are_same vs (map lower (variants_left at.entry)) result }
 {
     match variants {
-        None => count_new(at),
+        None => count_new(room, at),
         Some(fresh) => fresh,
     }
 }
 
 // What was read once the piece is read too, after a region.
-fn read_variant(mode: Mode, variants: Option<usize>, at: Left<'_>) -> Option<(Stage, Option<usize>)>
+fn read_variant<R: Room>(
+    room: R,
+    mode: Mode,
+    variants: Option<usize>,
+    at: Left<'_>,
+) -> Option<(Stage, Option<usize>)>
     requires { (vs : List Text) × AreVariantsRead variants at vs }
     ensures { (vs : List Text) → AreVariantsRead variants at.entry vs
         → IsWordRead at.entry (after_region_next mode vs (piece_left at.entry)) result }
@@ -49,22 +54,23 @@ fn read_variant(mode: Mode, variants: Option<usize>, at: Left<'_>) -> Option<(St
     if !is_new(mode, variants, at) {
         return None;
     }
-    Some((Stage::Region, Some(count_left(variants, at) - 1)))
+    Some((Stage::Region, Some(count_left(room, variants, at) - 1)))
 }
 
 // What was read once the piece is read too, after a script.
-fn read_region(mode: Mode, at: Left<'_>) -> Option<(Stage, Option<usize>)>
+fn read_region<R: Room>(room: R, mode: Mode, at: Left<'_>) -> Option<(Stage, Option<usize>)>
     ensures { IsWordRead at.entry (after_script_next mode [] (piece_left at.entry)) result }
 {
     if is_region(at) {
         return Some((Stage::Region, None));
     }
-    read_variant(mode, None, at)
+    read_variant(room, mode, None, at)
 }
 
 /// What was read of an identifier once the piece is read too, and its first variant; `None` if the piece may not come
 /// next.
-pub fn read_word(
+pub fn read_word<R: Room>(
+    room: R,
     mode: Mode,
     stage: Stage,
     variants: Option<usize>,
@@ -80,9 +86,9 @@ pub fn read_word(
             if is_script(at) {
                 return Some((Stage::Script, None));
             }
-            read_region(mode, at)
+            read_region(room, mode, at)
         }
-        Stage::Script => read_region(mode, at),
-        Stage::Region => read_variant(mode, variants, at),
+        Stage::Script => read_region(room, mode, at),
+        Stage::Region => read_variant(room, mode, variants, at),
     }
 }

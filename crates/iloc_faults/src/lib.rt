@@ -7,23 +7,27 @@
 //!
 //! `fault_of` reads the text piece by piece (`iloc_pieces`), and keeps what the next piece may be: a `State`. It
 //! promises that it returns `None` exactly for accepted texts, and else the refusal of the parser and the place. It
-//! allocates nothing. The law `one_place` says that a text has one place.
+//! allocates nothing. `fault_in` promises the same with any room for long runs of variants, in memory too. `place_in`
+//! returns the place alone. The law `one_place` says that a text has one place.
 //!
 //! It stands on the definitions, on pieces (`iloc_pieces`), and on `iloc_normalize`: on its modes, and on what it says of a data
 //! locale without building a value (`data_refusal`, `names_subdivision`).
 #![tactic(auto)]
 
 ghost use Rattle.std.specs.Prelude.{◌≡◌, ◌↔◌, ◌≤◌, None, IfSome, length};
-ghost use Rattle.iloc_faults.specs.Places.{IsAccepted, IsFault};
+ghost use Rattle.iloc_pieces.specs.Window.{text_in};
+ghost use Rattle.iloc_faults.specs.Places.{IsAccepted, IsFault, IsFaultPlace};
 
 mod identifier;
 pub mod laws;
 mod repeats;
-mod state;
-mod step;
+pub mod state;
+pub mod step;
 mod walk;
 
+pub use crate::repeats::{InMemory, OnStack, Room};
 use iloc_normalize::Mode;
+use iloc_pieces::Window;
 use iloc_subtags::ParseError;
 
 /// Why a text is refused, and where.
@@ -44,8 +48,8 @@ pub struct Fault {
 /// speak of another piece than the place: of `en-u-ca-foo-bar` as a data locale it speaks of `bar`, and the place is `ca`.
 /// This library's rule.
 ///
-/// It allocates nothing. It takes time in proportion to the text, but for variants: a run of at most 16,384 is gone
-/// through up to four times, and a longer one once for each 16,384 of them. A longer run takes 128 KB of the stack.
+/// It allocates nothing. It takes time in proportion to the text, but for variants: it sorts a run of at most 16,384, and
+/// goes through a longer one once for each 16,384 of them, with 128 KB of the stack. `fault_in` can take memory for these.
 ///
 /// ```text
 /// fault_of(Mode::Locale, b"en--US") // Some(Fault { refusal: InvalidSubtag, start: 3, end: 3 })
@@ -58,8 +62,42 @@ pub fn fault_of(mode: Mode, text: &[u8]) -> Option<Fault>
     ensures refused { IfSome result (IsFault mode text.now) }
     ensures inside { IfSome result (λ f. (f.start ≤ f.end) × (f.end ≤ length text.now)) }
 {
+    fault_in(OnStack, mode, text)
+}
+
+/// The same as `fault_of`, with this room for long runs of variants. Whatever the room is, it returns the same.
+///
+/// In memory it takes time in proportion to the text, and to the sorting of its variants. It allocates only for more than
+/// 16,384 variants in a row, eight bytes for each of them. If that is refused, it takes as long as on the stack.
+///
+/// ```text
+/// fault_in(InMemory(alloc), Mode::Locale, b"en-foo") // Some(Fault { refusal: InvalidSubtag, start: 3, end: 6 })
+/// ```
+pub fn fault_in<R: Room>(room: R, mode: Mode, text: &[u8]) -> Option<Fault>
+    ensures accepted { (result ≡ None) ↔ IsAccepted mode text.now }
+    ensures refused { IfSome result (IsFault mode text.now) }
+    ensures inside { IfSome result (λ f. (f.start ≤ f.end) × (f.end ≤ length text.now)) }
+{
     match mode {
-        Mode::Data => walk::data_fault(text),
-        _ => walk::walk(mode, text),
+        Mode::Data => walk::data_fault(room, text),
+        _ => walk::walk_text(room, mode, text),
+    }
+}
+
+/// Where the fault of a text stands, of which sixteen bytes more can be loaded; `None` if the text is accepted. It takes
+/// time and memory as `fault_in`.
+///
+/// ```text
+/// place_in(InMemory(alloc), Mode::Locale, window) // Some((3, 6)), if its text is `en-foo`
+/// ```
+pub fn place_in<R: Room>(room: R, mode: Mode, text: Window<'_>) -> Option<(usize, usize)>
+    ensures accepted { (result ≡ None) ↔ IsAccepted mode (text_in text.entry) }
+    ensures refused { IfSome result (λ p. IsFaultPlace mode (text_in text.entry) p.0 p.1) }
+    ensures inside { IfSome result
+        (λ p. (p.0 ≤ p.1) × (p.1 ≤ length (text_in text.entry))) }
+{
+    match walk::walk(room, mode, text.bytes, text.len()) {
+        Some(found) => Some((found.start, found.end)),
+        None => None,
     }
 }

@@ -1,7 +1,7 @@
 //! How many variants in a row come before one that repeats an earlier one.
 //!
 //! The numbers of a chunk of variants are sorted, and each later variant is looked for among them. So a run of variants
-//! is gone through once for each chunk of it.
+//! is gone through once for each chunk of it. A long run is one chunk if there is memory for its numbers.
 ghost use Rattle.std.specs.Prelude.{◌≡◌, ℕ, ◌≤◌, ◌<◌, true, false, List, [], ◌∷◌, ◌++◌, length, map};
 ghost use Rattle.std.specs.List.Sorted.{IsNonDecreasing};
 ghost use Rattle.iloc_spec_grammar.specs.Syntax.{IsWord, Variant, lower};
@@ -11,6 +11,7 @@ ghost use Rattle.iloc_faults.specs.States.{AreNew, are_same, variants_left};
 ghost use Rattle.iloc_faults.specs.Numbers.{AreNumbersAt, AreDistinct, ComeBefore, same};
 
 use iloc_pieces::left::{Left, is_last, is_variant, next, word_number};
+use std::alloc::Global;
 use std::cmp::min;
 
 // Variants of a run that is compared in one chunk.
@@ -20,8 +21,40 @@ const FEW: usize = 64;
 // texts have no more variants.
 const SOME: usize = 4_096;
 
-// Variants of a chunk of a longer run.
+// Variants of a chunk of a longer run, if there is no memory for all of it.
 const MANY: usize = 16_384;
+
+/// Where the numbers of a long run of variants are kept.
+pub trait Room: Copy {
+    /// The same as `count_new`, of so many variants.
+    fn count_many(self, first: Left<'_>, all: usize) -> usize
+        requires some { 1 ≤ all }
+        requires all { all ≡ length (variants_left first) }
+        ensures { AreNew are_same [] (map lower (variants_left first.entry)) result };
+}
+
+/// On the stack, as many as there is room for.
+#[derive(Clone, Copy)]
+pub struct OnStack;
+
+impl Room for OnStack {
+    fn count_many(self, first: Left<'_>, all: usize) -> usize {
+        count_by::<MANY>(first, all)
+    }
+}
+
+/// In memory. If it is refused, they are kept on the stack.
+#[derive(Clone, Copy)]
+pub struct InMemory(pub Global);
+
+impl Room for InMemory {
+    fn count_many(self, first: Left<'_>, all: usize) -> usize {
+        match vec![in self.0; 0u64; all] {
+            Ok(mut words) => count_in(words.as_mut_slice(), first, all),
+            Err(_) => count_by::<MANY>(first, all),
+        }
+    }
+}
 
 // The piece after a variant; the variant itself, if it is the last piece.
 #[inline(always)]
@@ -93,20 +126,16 @@ fn count_others(sorted: &[u64], first: Left<'_>, most: usize) -> usize
     most
 }
 
-// The same as `count_new`, by chunks of N variants. It stands for itself, so that what calls it has no room for N
-// numbers among its own locals.
-#[inline(never)]
-fn count_by<const N: usize>(first: Left<'_>, all: usize) -> usize
-    requires some { 1 ≤ N }
-    requires few { N ≤ 65536 }
+// The same as `count_new`, by chunks of as many variants as there is room for.
+fn count_in(words: &mut [u64], first: Left<'_>, all: usize) -> usize
+    requires some { 1 ≤ length words.old }
     requires all { all ≡ length (variants_left first) }
     ensures { AreNew are_same [] (map lower (variants_left first.entry)) result }
 {
-    let mut words = [0u64; N];
     let mut at = first;
     let mut done = 0;
     let mut fresh = all;
-    let mut size = N;
+    let mut size = words.len();
     'chunks: while done < fresh {
         let count = min(size, fresh - done);
         let chunk = &mut words[..count];
@@ -124,10 +153,23 @@ fn count_by<const N: usize>(first: Left<'_>, all: usize) -> usize
     fresh
 }
 
+// The same by chunks of N variants, on the stack. It stands for itself, so that what calls it has no room for N numbers
+// among its own locals.
+#[inline(never)]
+fn count_by<const N: usize>(first: Left<'_>, all: usize) -> usize
+    requires some { 1 ≤ N }
+    requires few { N ≤ 65536 }
+    requires all { all ≡ length (variants_left first) }
+    ensures { AreNew are_same [] (map lower (variants_left first.entry)) result }
+{
+    let mut words = [0u64; N];
+    count_in(&mut words, first, all)
+}
+
 /// How many of the variants from the piece on come before one that repeats an earlier one, or before the end of them.
 ///
-/// It goes through at most 16,384 of them up to four times, and through more once for each 16,384.
-pub fn count_new(first: Left<'_>) -> usize
+/// It takes time in proportion to their number and its logarithm. More than 16,384 of them are kept in the room.
+pub fn count_new<R: Room>(room: R, first: Left<'_>) -> usize
     ensures { AreNew are_same [] (map lower (variants_left first.entry)) result }
 {
     let all = count_variants(first);
@@ -136,6 +178,6 @@ pub fn count_new(first: Left<'_>) -> usize
     } else if all <= MANY {
         count_by::<SOME>(first, all)
     } else {
-        count_by::<MANY>(first, all)
+        room.count_many(first, all)
     }
 }

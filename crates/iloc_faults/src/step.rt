@@ -10,6 +10,7 @@ ghost use Rattle.iloc_faults.specs.Next.{begins_block, block_next, inside_next, 
 ghost use Rattle.iloc_faults.specs.States.{IsRead, IsPieceRead, bare, bit_place, reached};
 
 use crate::identifier::read_word;
+use crate::repeats::Room;
 use crate::state::{Part, Stage, State, may_end, takes_any};
 use iloc_normalize::{Mode, names_subdivision};
 use iloc_pieces::left::{
@@ -99,7 +100,7 @@ fn plain(seen: u64, part: Option<Part>) -> Option<State>
 }
 
 // What was read once a piece is read that begins no block.
-fn read_inside(mode: Mode, state: State, at: Left<'_>) -> Option<State>
+fn read_inside<R: Room>(room: R, mode: Mode, state: State, at: Left<'_>) -> Option<State>
     requires { (vs : List Text) × (seen : List ℕ) × IsRead state at vs seen }
     ensures { (vs : List Text) (seen : List ℕ) → IsRead state at.entry vs seen
         → IsPieceRead at.entry
@@ -108,7 +109,7 @@ fn read_inside(mode: Mode, state: State, at: Left<'_>) -> Option<State>
     let seen = state.seen;
     match state.part {
         Part::Start => plain(seen, when(is_language(at), Part::Head(Stage::Language))),
-        Part::Head(stage) => match read_word(mode, stage, state.variants, at) {
+        Part::Head(stage) => match read_word(room, mode, stage, state.variants, at) {
             Some((stage, variants)) => Some(State {
                 part: Part::Head(stage),
                 variants,
@@ -126,7 +127,7 @@ fn read_inside(mode: Mode, state: State, at: Left<'_>) -> Option<State>
             if is_field_key(at) {
                 return plain(seen, Some(Part::FieldKey));
             }
-            match read_word(mode, stage, state.variants, at) {
+            match read_word(room, mode, stage, state.variants, at) {
                 Some((stage, variants)) => Some(State {
                     part: Part::Source(stage),
                     variants,
@@ -233,7 +234,7 @@ fn begins_block(part: Part, at: Left<'_>) -> bool
 }
 
 /// What was read with the piece too; `None` if the piece may not come next.
-pub fn step(mode: Mode, state: State, at: Left<'_>) -> Option<State>
+pub fn step<R: Room>(room: R, mode: Mode, state: State, at: Left<'_>) -> Option<State>
     requires { (vs : List Text) × (seen : List ℕ) × IsRead state at vs seen }
     ensures { (vs : List Text) (seen : List ℕ) → IsRead state at.entry vs seen
         → IsPieceRead at.entry
@@ -242,7 +243,7 @@ pub fn step(mode: Mode, state: State, at: Left<'_>) -> Option<State>
     if begins_block(state.part, at) {
         return read_singleton(mode, state, at);
     }
-    read_inside(mode, state, at)
+    read_inside(room, mode, state, at)
 }
 
 /// Why the piece, which may not come next, is refused.

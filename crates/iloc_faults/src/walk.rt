@@ -1,5 +1,5 @@
 //! Walks over the pieces of a text until one may not come next.
-ghost use Rattle.std.specs.Prelude.{◌≡◌, ◌↔◌, ◌+◌, None, IfSome, length};
+ghost use Rattle.std.specs.Prelude.{◌≡◌, ◌↔◌, ◌+◌, ◌≤◌, None, IfSome, length, take};
 ghost use Rattle.iloc_spec_grammar.specs.Syntax.{pieces};
 ghost use Rattle.iloc_pieces.specs.Left.{piece_left};
 ghost use Rattle.iloc_normalize.specs.declared.Mode.TheVariants as modes;
@@ -8,6 +8,7 @@ ghost use Rattle.iloc_faults.specs.Places.{IsAccepted, IsFault};
 ghost use Rattle.iloc_faults.specs.States.{IsFaultFound};
 
 use crate::Fault;
+use crate::repeats::Room;
 use crate::state::{Part, State, may_end};
 use crate::step::{refusal, step};
 use iloc_normalize::{Mode, data_refusal};
@@ -18,6 +19,9 @@ use iloc_subtags::ParseError;
 fn end_of(at: Left<'_>) -> usize
     ensures { result ≡ at.entry.at + length (piece_left at.entry) }
 {
+    if at.n < 16 {
+        return at.at + at.n;
+    }
     let mut end = at.at;
     let stop = at.at + at.len;
     while end < stop && at.window[end] != b'-' {
@@ -26,20 +30,22 @@ fn end_of(at: Left<'_>) -> usize
     end
 }
 
-/// Why a text is refused as an identifier or a locale, and the place of its fault; `None` if it is accepted. Of a data
-/// locale the place alone counts.
-pub fn walk(mode: Mode, text: &[u8]) -> Option<Fault>
-    ensures good { result ≡ None → outcome mode started (pieces text.now) ≡ None }
-    ensures bad { IfSome result (IsFaultFound mode text.now) }
+/// Why the first bytes of the window are refused as an identifier or a locale, and the place of their fault; `None` if they
+/// are accepted. Of a data locale the place alone counts.
+pub fn walk<R: Room>(room: R, mode: Mode, window: &[u8], len: usize) -> Option<Fault>
+    requires { len ≤ length window.now }
+    ensures good { result ≡ None
+        → outcome mode started (pieces (take len window.now)) ≡ None }
+    ensures bad { IfSome result (IsFaultFound mode (take len window.now)) }
 {
-    let mut at = left_in(text, text.len());
+    let mut at = left_in(window, len);
     let mut state = State {
         part: Part::Start,
         variants: None,
         seen: 0,
     };
     'pieces: loop {
-        let Some(then) = step(mode, state, at) else {
+        let Some(then) = step(room, mode, state, at) else {
             return Some(Fault {
                 refusal: refusal(mode, state.part, at),
                 start: at.at,
@@ -57,18 +63,26 @@ pub fn walk(mode: Mode, text: &[u8]) -> Option<Fault>
     }
     Some(Fault {
         refusal: ParseError::InvalidExtension,
-        start: text.len(),
-        end: text.len(),
+        start: len,
+        end: len,
     })
 }
 
+/// The same of a whole text.
+pub fn walk_text<R: Room>(room: R, mode: Mode, text: &[u8]) -> Option<Fault>
+    ensures good { result ≡ None → outcome mode started (pieces text.now) ≡ None }
+    ensures bad { IfSome result (IsFaultFound mode text.now) }
+{
+    walk(room, mode, text, text.len())
+}
+
 /// Why a text is no data locale, and the place of its fault; `None` if it is one.
-pub fn data_fault(text: &[u8]) -> Option<Fault>
+pub fn data_fault<R: Room>(room: R, text: &[u8]) -> Option<Fault>
     ensures accepted { (result ≡ None) ↔ IsAccepted modes.Data text.now }
     ensures refused { IfSome result (IsFault modes.Data text.now) }
 {
     let refusal = data_refusal(text)?;
-    match walk(Mode::Data, text) {
+    match walk_text(room, Mode::Data, text) {
         Some(found) => Some(Fault {
             refusal,
             start: found.start,

@@ -1,6 +1,5 @@
 -- The answers to texts that are plain, normal or refused.
-use Rattle.std.proofs.Common.{◌≡◌, inl, inr, [], ◌∷◌, ◌++◌, Some, None, refl, ap, subst, ◌∙◌}
-use Rattle.std.specs.Prelude.{IfSome}
+use Rattle.std.proofs.Common.{◌≡◌, inl, inr, [], ◌∷◌, ◌++◌, Some, None, refl, ap, ◌∙◌}
 use Rattle.iloc_spec_grammar.specs.Syntax.{Text, languages}
 use Rattle.iloc_spec_grammar.specs.Meaning as faults
 use Rattle.iloc_spec_grammar.proofs.RawLaws.{languages_table}
@@ -10,11 +9,9 @@ use Rattle.iloc_subtags.specs.declared.parse_error.ParseError.TheVariants.{Inval
 use Rattle.iloc_subtags.specs.declared.parse_error.ParseError.TheVariants.{DuplicatedExtension, OutOfMemory}
 use Rattle.iloc_program.specs.Answers.{line_answer, reply, refusal_text}
 use Rattle.iloc_normalize.specs.Modes.{IsNormalText}
-use Rattle.iloc_normalize.specs.Answered.{HasRefusal, refusal_of}
+use Rattle.iloc_normalize.specs.Answered.{HasRefusal}
 use Rattle.iloc_normalize.specs.declared.Mode.{Mode}
-use Rattle.iloc_normalize.specs.declared.writing.Written.{Written}
-use Rattle.iloc_normalize.specs.declared.writing.Written.TheVariants as written
-use Rattle.iloc_program.specs.Replies.{AnswersLine, IsReplied}
+use Rattle.iloc_program.specs.Replies.{AnswersLine}
 use Rattle.iloc_program.proofs.OutputLaws.{only_answer}
 
 pub normal_reply : (mode : Mode) (t normal : Text) → IsNormalText languages mode t normal →

@@ -1,6 +1,7 @@
 //! What is written for one line.
 ghost use Rattle.std.specs.Prelude.{◌≡◌, ◌++◌, OnOk, if◌then◌else◌, [], ◌∷◌};
 ghost use Rattle.iloc_normalize.specs.Answered.{HasRefusal};
+ghost use Rattle.iloc_pieces.specs.Window.{text_in};
 ghost use Rattle.iloc_program.specs.Answers.{refusal_text};
 ghost use Rattle.iloc_program.specs.Numbered.{AddsText};
 ghost use Rattle.iloc_program.specs.ReplyBlock.{held};
@@ -9,9 +10,9 @@ ghost use Rattle.iloc_program.specs.Listing.{number_column, place_columns, IsEnt
 use crate::lines::answer_in;
 use crate::numbered::{Listing, Lists};
 use crate::quoting::{write_decimal, write_shown};
-use crate::replies::write_refusal;
+use crate::replies::{write_reason, write_refusal};
 use crate::{InMode, ReplyBlock};
-use iloc_faults::{Fault, fault_of};
+use iloc_faults::{Fault, InMemory, place_in};
 use iloc_normalize::Mode;
 use iloc_pieces::Window;
 use iloc_spans::spans::Spans;
@@ -21,6 +22,7 @@ use std::alloc::{AllocError, Global};
 /// Answers lines in the mode of these answers, and lists what becomes of them. It keeps its room from line to line.
 #[derive(Drop)]
 pub struct Listed<A> {
+    alloc: Global,
     answers: A,
     spans: Spans,
 }
@@ -29,6 +31,7 @@ impl<A> Listed<A> {
     /// It allocates nothing.
     pub fn new(alloc: Global, answers: A) -> Self {
         Listed {
+            alloc,
             answers,
             spans: Spans::growing(alloc),
         }
@@ -50,8 +53,7 @@ impl<A: InMode> Lists for Listed<A> {
         let before = replies.len();
         match answer_in(mode, line, &mut self.spans, replies)? {
             Some(refusal) => {
-                let (text, _) = line.bytes.split_at(line.len());
-                write_refused(mode, listing, number, text, refusal, replies)
+                write_refused(self.alloc, mode, listing, number, line, refusal, replies)
             }
             None if listing.only_refused => {
                 replies.truncate(before);
@@ -65,23 +67,32 @@ impl<A: InMode> Lists for Listed<A> {
 // Adds what is written for a line that is refused so.
 #[inline(never)]
 fn write_refused(
+    alloc: Global,
     mode: Mode,
     listing: Listing,
     number: u64,
-    line: &[u8],
+    line: Window<'_>,
     refusal: ParseError,
     replies: &mut ReplyBlock,
 ) -> Result<(), AllocError>
-    requires { HasRefusal mode line.now refusal }
-    ensures { OnOk result (AddsText (IsEntry mode listing number line.now)
+    requires { HasRefusal mode (text_in line) refusal }
+    ensures { OnOk result (AddsText (IsEntry mode listing number (text_in line.entry))
         (held replies.old) (held replies.new)) }
 {
     write_number(listing, number, replies)?;
     if !listing.places {
         return write_refusal(refusal, replies);
     }
-    match fault_of(mode, line) {
-        Some(fault) => write_placed(line, fault, replies),
+    let (text, _) = line.bytes.split_at(line.len());
+    match place_in(InMemory(alloc), mode, line) {
+        Some((start, end)) => {
+            let fault = Fault {
+                refusal,
+                start,
+                end,
+            };
+            write_placed(text, fault, replies)
+        }
         None => unreachable!(),
     }
 }
@@ -106,8 +117,7 @@ fn write_placed(line: &[u8], fault: Fault, replies: &mut ReplyBlock) -> Result<(
         ≡ held replies.old ++ (refusal_text fault.refusal
         ++ (place_columns line.now fault ++ 10 ∷ []))) }
 {
-    replies.extend_from_slice(b"! ")?;
-    replies.extend_from_slice(fault.refusal.words().as_bytes())?;
+    write_reason(&fault.refusal, replies)?;
     write_place(line, fault, replies)?;
     replies.push(b'\n')
 }

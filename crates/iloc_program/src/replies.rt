@@ -23,6 +23,20 @@ pub(crate) fn write_refusal(error: ParseError, replies: &mut ReplyBlock) -> Resu
     }
 }
 
+// Adds why a line has no answer.
+#[inline(always)]
+pub(crate) fn write_reason(error: &ParseError, replies: &mut ReplyBlock) -> Result<(), AllocError>
+    ensures { OnOk result (held replies.new ≡ held replies.old ++ refusal_text error.now) }
+{
+    match error {
+        ParseError::InvalidLanguage => replies.push_first(*INVALID_LANGUAGE, 38),
+        ParseError::InvalidSubtag => replies.push_first(*INVALID_SUBTAG, 16),
+        ParseError::InvalidExtension => replies.push_first(*INVALID_EXTENSION, 19),
+        ParseError::DuplicatedExtension => replies.push_first(*DUPLICATED_EXTENSION, 22),
+        _ => Err(AllocError),
+    }
+}
+
 // The words of each refusal and a newline, in 48 bytes, so that they are stored at once.
 const INVALID_LANGUAGE: &[u8; 48] = b"! The given language subtag is invalid\n         ";
 

@@ -17,10 +17,10 @@ use Rattle.iloc_normalize.specs.Modes.{IsNormalText}
 use Rattle.iloc_normalize.specs.declared.Mode.{Mode}
 use Rattle.iloc_normalize.specs.declared.Mode.TheVariants.{Langid, Locale, Data}
 use Rattle.iloc_writeable.specs.Hints.{saturated}
-use Rattle.iloc_calls.specs.Answers.{HandsOut}
+use Rattle.iloc_calls.specs.Answers.{HandsOut, MeansLocale}
 use Rattle.iloc_calls.specs.declared.status.Status.{Status}
 use Rattle.iloc_calls.specs.declared.status.Status.TheVariants.{Done, BufferTooSmall}
-use Rattle.locale_web.specs.Parts.{MeansLocale, PartsAreWritten}
+use Rattle.locale_web.specs.Parts.{PartsAreWritten}
 use Rattle.iloc_normalize.proofs.PlainAnswers.{text_alone}
 
 -- the locale that a text means in the mode, and whose text the normal text is

@@ -1,27 +1,16 @@
 -- What a caller of the module finds after `web_parts`, by its number.
 use Rattle.std.specs.Prelude.{◌≡◌, ℕ, ◌≤◌, List, length, take}
-use Rattle.iloc_spec_grammar.specs.Syntax.{Text, Identifier, pieces, languages}
+use Rattle.iloc_spec_grammar.specs.Syntax.{Text, languages}
 use Rattle.iloc_spec_grammar.specs.Meaning as meaning
-use Rattle.iloc_spec_grammar.specs.Meaning.{Means, IdentifierMeans, without_extensions}
 use Rattle.iloc_spec_grammar.specs.Values.{text}
-use Rattle.iloc_spec_parts.specs.DataLocales.{DataLocale, DataMeans, locale_of_data}
 use Rattle.locale_web.specs.Kinds.{parts_of, rows_of}
 use Rattle.iloc_normalize.specs.Modes.{IsNormalText}
 use Rattle.iloc_normalize.specs.declared.Mode.{Mode}
-use Rattle.iloc_normalize.specs.declared.Mode.TheVariants.{Langid, Locale, Data}
-use Rattle.iloc_calls.specs.Answers.{HandsOut}
+use Rattle.iloc_calls.specs.Answers.{HandsOut, MeansLocale}
 use Rattle.iloc_calls.specs.declared.status.Status.{Status}
 use Rattle.iloc_calls.specs.declared.status.Status.TheVariants.{Done, BufferTooSmall}
 use Rattle.locale_web.specs.Answers.{IsJudged}
 use Rattle.locale_web.specs.Reading.{IsBeyondRoom}
-
--- the locale of what the text means: an identifier alone, a locale, or what prints a data locale's
--- parts
-abbrev pub MeansLocale : Mode → Text → meaning.Locale → Type 0
-MeansLocale Langid t M = (i : Identifier) × IdentifierMeans languages (pieces t) i
-    × (M ≡ without_extensions i)
-MeansLocale Locale t M = Means languages t M
-MeansLocale Data t M = (d : DataLocale) × DataMeans languages t d × (M ≡ locale_of_data d)
 
 -- the normal text of what the text means stands at the front of the room
 pub record IsInRoom (mode : Mode) (t room : Text) (end : ℕ) (M : meaning.Locale) : Type 0 where

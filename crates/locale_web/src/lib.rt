@@ -44,7 +44,7 @@ pub mod rows;
 mod state;
 
 use comparing::{compare, tell_same};
-use iloc_calls::{Status, find_fault, hand_out_bytes, mode_of};
+use iloc_calls::{OnStack, Status, find_fault, hand_out_bytes, mode_of};
 use normalizing::normalize;
 use parts::find_parts;
 use reading::{judge, text_end};
@@ -203,7 +203,7 @@ pub extern "C" fn web_find_fault(
         (FindsFault m (take len window.now) (start.old, end.old) (start.new, end.new)))
         ((start.new ≡ start.old) × (end.new ≡ end.old)) result }
 {
-    find_fault(mode, &window[..text_end(window, len)], start, end)
+    find_fault(OnStack, mode, &window[..text_end(window, len)], start, end)
 }
 
 /// Writes the words of a status into the buffer, and their length to `needed`.

@@ -4,7 +4,7 @@ ghost use Rattle.locid.specs.Checked.{IsChecked};
 ghost use Rattle.iloc_program.specs.Listing.{StandsWithin};
 
 use crate::inputs::Tally;
-use iloc_faults::{Fault, fault_of};
+use iloc_faults::{Fault, InMemory, fault_in};
 use iloc_pieces::Window;
 use iloc_program::numbered::Lists;
 use iloc_program::quoting::{write_decimal, write_shown};
@@ -25,6 +25,7 @@ pub struct Report<'a> {
 /// Checks lines in the mode of these answers, and counts them.
 #[derive(Drop)]
 pub struct Checking<'a, A> {
+    alloc: Global,
     answers: A,
     report: Report<'a>,
     // Room for what is written.
@@ -35,6 +36,7 @@ pub struct Checking<'a, A> {
 impl<'a, A> Checking<'a, A> {
     pub fn new(alloc: Global, answers: A, report: Report<'a>, tally: &'a mut Tally) -> Self {
         Checking {
+            alloc,
             answers,
             report,
             room: ReplyBlock::new(alloc),
@@ -56,7 +58,7 @@ impl<A: InMode> Lists for Checking<'_, A> {
         let (text, _) = line.bytes.split_at(line.len());
         self.tally.lines = self.tally.lines.saturating_add(1);
         let mode = self.answers.mode();
-        match fault_of(mode, text) {
+        match fault_in(InMemory(self.alloc), mode, text) {
             None => Ok(()),
             Some(fault) => {
                 self.tally.refused = self.tally.refused.saturating_add(1);

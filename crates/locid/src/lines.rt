@@ -76,17 +76,17 @@ fn list_prepared<R: Read + Drop, W: Write + Drop>(
     match reading.mode {
         Mode::Langid => {
             let listed = Listed::new(alloc, Identifiers);
-            let lists = Naming::new(Mode::Langid, name, listed);
+            let lists = Naming::new(alloc, Mode::Langid, name, listed);
             run_answers(alloc, reading, listing, lists, reader, writer)
         }
         Mode::Locale => {
             let listed = Listed::new(alloc, Locales);
-            let lists = Naming::new(Mode::Locale, name, listed);
+            let lists = Naming::new(alloc, Mode::Locale, name, listed);
             run_answers(alloc, reading, listing, lists, reader, writer)
         }
         Mode::Data => {
             let listed = Listed::new(alloc, DataLocales);
-            let lists = Naming::new(Mode::Data, name, listed);
+            let lists = Naming::new(alloc, Mode::Data, name, listed);
             run_answers(alloc, reading, listing, lists, reader, writer)
         }
     }
@@ -165,20 +165,8 @@ pub fn part<R: Read + Drop, W: Write + Drop>(
     reader: &mut R,
     writer: &mut W,
 ) -> Result<u64, RunError> {
-    match reading.mode {
-        Mode::Langid => {
-            let lists = Parting::new(alloc, Identifiers, format, tally);
-            run_answers(alloc, reading, PLAIN, lists, reader, writer)
-        }
-        Mode::Locale => {
-            let lists = Parting::new(alloc, Locales, format, tally);
-            run_answers(alloc, reading, PLAIN, lists, reader, writer)
-        }
-        Mode::Data => {
-            let lists = Parting::new(alloc, DataLocales, format, tally);
-            run_answers(alloc, reading, PLAIN, lists, reader, writer)
-        }
-    }
+    let lists = Parting::new(alloc, reading.mode, format, tally);
+    run_answers(alloc, reading, PLAIN, lists, reader, writer)
 }
 
 // Runs these lists over lines, and ends what is written of each with a zero byte if lines do.

@@ -2,15 +2,16 @@
 
 ghost use Rattle.locid.specs.Named.{IsNamedEntry};
 
-use iloc_faults::fault_of;
+use iloc_faults::{InMemory, place_in};
 use iloc_pieces::Window;
 use iloc_program::numbered::Lists;
 use iloc_program::{Listing, Mode, ReplyBlock};
-use std::alloc::AllocError;
+use std::alloc::{AllocError, Global};
 
 /// Writes for each line what `below` writes, and before it the name of the file, if the line is refused and has its number.
 #[derive(Drop)]
 pub struct Naming<'a, L> {
+    alloc: Global,
     mode: Mode,
     // The name of the file, if it is to be written.
     name: Option<&'a str>,
@@ -18,8 +19,13 @@ pub struct Naming<'a, L> {
 }
 
 impl<'a, L> Naming<'a, L> {
-    pub fn new(mode: Mode, name: Option<&'a str>, below: L) -> Self {
-        Naming { mode, name, below }
+    pub fn new(alloc: Global, mode: Mode, name: Option<&'a str>, below: L) -> Self {
+        Naming {
+            alloc,
+            mode,
+            name,
+            below,
+        }
     }
 }
 
@@ -34,9 +40,9 @@ impl<L: Lists> Lists for Naming<'_, L> {
         line: Window<'_>,
         replies: &mut ReplyBlock,
     ) -> Result<(), AllocError> {
-        let (text, _) = line.bytes.split_at(line.len());
         match self.name {
-            Some(name) if listing.numbers && fault_of(self.mode, text).is_some() => {
+            Some(name)
+                if listing.numbers && place_in(InMemory(self.alloc), self.mode, line).is_some() => {
                 replies.extend_from_slice(name.as_bytes())?;
                 replies.push(b':')?;
             }

@@ -3,18 +3,19 @@
 use crate::inputs::Tally;
 use crate::parts::{Parts, cut, cut_block, cut_keyword, cut_piece};
 use crate::words::Format;
-use iloc_faults::{Fault, fault_of};
+use iloc_faults::{Fault, InMemory, fault_in};
 use iloc_pieces::Window;
 use iloc_program::numbered::Lists;
 use iloc_program::quoting::write_decimal;
-use iloc_program::{InMode, Listing, ReplyBlock, reply_line};
+use iloc_program::{Listing, Mode, ReplyBlock, reply_line};
 use iloc_spans::spans::Spans;
 use std::alloc::{AllocError, Global};
 
-/// Writes the parts of lines in the mode of these answers.
+/// Writes the parts of lines in the mode.
 #[derive(Drop)]
-pub struct Parting<'a, A> {
-    answers: A,
+pub struct Parting<'a> {
+    alloc: Global,
+    mode: Mode,
     format: Format,
     room: Vec<u8>,
     spans: Spans,
@@ -24,10 +25,11 @@ pub struct Parting<'a, A> {
     tally: &'a mut Tally,
 }
 
-impl<'a, A> Parting<'a, A> {
-    pub fn new(alloc: Global, answers: A, format: Format, tally: &'a mut Tally) -> Self {
+impl<'a> Parting<'a> {
+    pub fn new(alloc: Global, mode: Mode, format: Format, tally: &'a mut Tally) -> Self {
         Parting {
-            answers,
+            alloc,
+            mode,
             format,
             room: Vec::new(alloc),
             spans: Spans::growing(alloc),
@@ -38,7 +40,7 @@ impl<'a, A> Parting<'a, A> {
     }
 }
 
-impl<A: InMode> Lists for Parting<'_, A> {
+impl Lists for Parting<'_> {
     // What is written of a line is not said here.
     ghost is_entry = { λ _ _ _ _. Unit {0} };
 
@@ -50,10 +52,10 @@ impl<A: InMode> Lists for Parting<'_, A> {
         replies: &mut ReplyBlock,
     ) -> Result<(), AllocError> {
         let (line, _) = line.bytes.split_at(line.len());
-        let mode = self.answers.mode();
+        let mode = self.mode;
         self.tally.lines = self.tally.lines.saturating_add(1);
         self.written.clear();
-        match fault_of(mode, line) {
+        match fault_in(InMemory(self.alloc), mode, line) {
             Some(fault) => {
                 self.tally.refused = self.tally.refused.saturating_add(1);
                 write_fault(self.format, &fault, &mut self.written)?;

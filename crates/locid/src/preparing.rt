@@ -110,7 +110,7 @@ fn list_kept<L: Lists>(
 
 // Has the room hold what cleaning leaves of a line. The first one may begin with a byte order mark.
 fn clean_into(number: u64, line: &[u8], room: &mut Vec<u8>) -> Result<(), AllocError>
-    ensures { OnOk result (IsCleaned true line.now room.new.items) }
+    ensures { OnOk result (IsCleaned true number line.now room.new.items) }
 {
     room.clear();
     if number == 1 {

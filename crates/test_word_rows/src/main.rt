@@ -6,7 +6,8 @@
 //! A call that parses answers what it parsed, or `! ` and the words of the refusal. `tiny-N`, `text-N` and
 //! `tinyraw-N` parse a short text of a size. `CALL-KIND` makes a call of a subtag of the kind, and `two-tiny`
 //! compares two short texts. A call of one word stands in `single`. `line-CALL` says what a line is (`lines`), and
-//! `outline-MODE` gives the normal text of a text by its outline (`outlines`).
+//! `outline-MODE` gives the normal text of a text by its outline (`outlines`). `expected-MODE` says what may stand at a
+//! place, `kind-number` what a kind of piece is called, and `hint-MODE` what is usually meant by a refused text (`places`).
 //!
 //! No test allocates: the program asks for all the memory that it needs before the first one. It stands on
 //! `test_page` and the crates whose calls it makes.
@@ -14,6 +15,7 @@
 
 mod lines;
 mod outlines;
+mod places;
 mod single;
 mod tiny;
 mod words;
@@ -33,6 +35,9 @@ impl Program for Rows {
             }
             Some(("two", _)) => tiny::compared(a, b, out),
             Some(("line", what)) => lines::answer(what, a, b, out),
+            Some(("expected", mode)) => places::answer_expected(mode, a, b, out),
+            Some(("kind", _)) => places::answer_kind(a, out),
+            Some(("hint", mode)) => places::answer_hint(mode, a, out),
             Some(("outline", what)) => outlines::answer(what, a, b, out),
             Some((what, kind)) => words::answer(what, kind, a, b, out),
             None => single::answer(call.name, a, b, out),

@@ -3,6 +3,6 @@ use Rattle.iloc_calls.proofs.ByNumbers.{by_mode}
 use Rattle.iloc_calls.proofs.faults.find_fault.Goals as goal
 
 pub returns-in-Some : goal.returns-in-Some
-returns-in-Some c =
+returns-in-Some g c =
     by_mode c.args.mode c.mode_of.result c.in-Some.mode _ _ c.number.result c.mode_of.ensures c.in-Some.is
     (c.find.result, c.number.ensures, c.find.ensures)

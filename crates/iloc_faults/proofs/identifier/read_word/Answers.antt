@@ -8,7 +8,7 @@ use Rattle.iloc_faults.proofs.StepReadings.{none_yet, script_read}
 use Rattle.iloc_faults.proofs.identifier.read_word.Goals as goal
 
 pub returns-then-is_script : goal.returns-then-is_script
-returns-then-is_script c vs h =
+returns-then-is_script g c vs h =
     let none = subst (λ (s : Stage). IsEarly s c.args.variants) c.in-Language.is c.requires.early in
     subst (λ (s : Stage).
     IsWordRead c.args.at (word_next c.args.mode s vs (piece_left c.args.at)) (Some (Script, None)))
@@ -17,7 +17,7 @@ returns-then-is_script c vs h =
     (sym c.is_script.ensures ∙ c.if-is_script.true))
 
 pub returns-in-Region : goal.returns-in-Region
-returns-in-Region c vs h =
+returns-in-Region g c vs h =
     subst (λ (s : Stage).
     IsWordRead c.args.at (word_next c.args.mode s vs (piece_left c.args.at)) c.read_variant.result)
     (sym c.in-Region.is)

@@ -1,6 +1,10 @@
-use Rattle.std.proofs.Common.{arith}
+use Rattle.std.proofs.Common.{◌+◌, ℕ, ap, arith}
+use Rattle.iloc_faults.proofs.Bits.{few_long}
 use Rattle.iloc_faults.proofs.Walks.{scan_ends}
 use Rattle.iloc_faults.proofs.walk.end_of.Goals as goal
+
+pub returns-then-at-lt16 : goal.returns-then-at-lt16
+returns-then-at-lt16 c = ap (λ (n : ℕ). c.args.at.at + n) (few_long c.args.at c.if-at-lt16.true)
 
 pub returns-else-at-end-ne45 : goal.returns-else-at-end-ne45
 returns-else-at-end-ne45 c =

@@ -1,37 +1,42 @@
-use Rattle.std.proofs.Common.{refl, sym, ◌∙◌}
+use Rattle.std.proofs.Common.{refl, sym, ◌∙◌, take}
+use Rattle.std.proofs.lemmas.List.{length-take-le}
 use Rattle.iloc_faults.proofs.Walks.{walk_starts, walk_stops, walk_on, walk_all, all_good, all_short}
 use Rattle.iloc_faults.proofs.Walks.{none_else}
 use Rattle.iloc_faults.proofs.walk.walk.Goals as goal
 
 pub pieces-init : goal.pieces-init
-pieces-init c = walk_starts c.args.mode c.args.text.now c.left_in-at.result
+pieces-init g c = walk_starts c.args.mode (take c.args.len c.args.window.now) c.left_in-at.result
     c.left_in-at.ensures.at c.left_in-at.ensures.rest
 
 pub returns-in_default-clause-bad : goal.returns-in_default-clause-bad
-returns-in_default-clause-bad c =
+returns-in_default-clause-bad g c =
     let w = c.pieces.invariant in
     walk_stops w
     (none_else c.pieces.at _ c.step.result (λ s. c.in_default.not-Some s)
     (c.step.ensures w.variants w.seen w.read)) _ c.refusal.ensures refl c.end_of.ensures
 
 pub next-at-requires-clause-short : goal.next-at-requires-clause-short
-next-at-requires-clause-short c = let w = c.pieces.invariant in (c.in-Some.ensures w.variants w.seen w.read).3
+next-at-requires-clause-short g c =
+    let w = c.pieces.invariant in
+    (c.in-Some.ensures w.variants w.seen w.read).3
 
 pub pieces-preserved : goal.pieces-preserved
-pieces-preserved c = let w = c.pieces.invariant in
+pieces-preserved g c = let w = c.pieces.invariant in
     walk_on w c.in-Some.then (c.in-Some.ensures w.variants w.seen w.read) c.next-at.ensures
 
 pub returns-then-may_end-clause-good : goal.returns-then-may_end-clause-good
-returns-then-may_end-clause-good c _ =
+returns-then-may_end-clause-good g c _ =
     let w = c.pieces.invariant in
     all_good
     (walk_all w c.in-Some.then (c.in-Some.ensures w.variants w.seen w.read)
     (c.is_last.ensures.0 c.if-is_last.true)) (sym c.may_end.ensures ∙ c.if-may_end.true)
 
 pub returns-clause-bad : goal.returns-clause-bad
-returns-clause-bad c =
+returns-clause-bad g c =
     let w = c.pieces.invariant in
     all_short
     (walk_all w c.in-Some.then (c.in-Some.ensures w.variants w.seen w.read)
     (c.is_last.ensures.0 c.if-is_last.true))
-    (sym c.may_end.ensures ∙ c.if-may_end.false) _ refl refl refl
+    (sym c.may_end.ensures ∙ c.if-may_end.false) _ refl
+    (sym (length-take-le c.args.len c.args.window.now c.requires))
+    (sym (length-take-le c.args.len c.args.window.now c.requires))

@@ -1,4 +1,4 @@
-use Rattle.std.proofs.Common.{◌≡◌, ℕ, take, length, ap, ◌∙◌, subst, Option, Some, None}
+use Rattle.std.proofs.Common.{◌≡◌, ℕ, take, length, refl, ap, ◌∙◌, subst, Option, Some, None}
 use Rattle.iloc_subtags.specs.declared.parse_error.ParseError.{ParseError}
 use Rattle.iloc_normalize.specs.declared.Mode.{Mode}
 use Rattle.iloc_pieces.specs.Window.{text_in}
@@ -17,10 +17,8 @@ returns-in-Some g c =
     let is : AnswersLine c.mode-mode.result line before after (Some c.in-Some.refusal) =
     subst (λ (o : Option ParseError). AnswersLine c.mode-mode.result line before after o) c.in-Some.is
     c.in_ok-refusal.ensures in
-    let text : c.split_at.result.0.now ≡ line =
-    c.split_at.ensures.front ∙ ap (λ (k : ℕ). take k c.args.line.bytes.now) c.len.ensures in
     entry_of c.write_refused.result c.mode-mode.result g.A.InMode.mode c.args.listing c.args.number
-    c.split_at.result.0.now line after before (held c.write_refused.new.replies) c.mode-mode.ensures text is.1
+    line line after before (held c.write_refused.new.replies) c.mode-mode.ensures refl is.1
     c.write_refused.ensures
 
 pub returns-in-None : goal.returns-in-None

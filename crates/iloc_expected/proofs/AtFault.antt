@@ -1,0 +1,155 @@
+-- What may stand at the place of a fault.
+use Rattle.std.proofs.Common.{◌≡◌, ◌≢◌, inl, inr, ℕ, suc, ◌+◌, List, [], ◌∷◌, ◌++◌, length, take}
+use Rattle.std.proofs.Common.{refl, sym, ap, ◌∙◌, subst, append_assoc, append-nil, arith, take_all, ◌==◌}
+use Rattle.std.specs.List.{AllByRecursion, list_any}
+use Rattle.std.proofs.lemmas.Bool.{cases_Bool}
+use Rattle.std.proofs.lemmas.List.Concat.{flat_map-append}
+use Rattle.std.proofs.Math.Seq.{take-append-add}
+use Rattle.iloc_spec_grammar.specs.Syntax.{Text, pieces, join, dashes, IsHyphenFree, is_word, is_one_byte}
+use Rattle.iloc_spec_grammar.specs.Syntax.{TransformKey, UnicodeKey, code_t, code_u, code_x}
+use Rattle.iloc_spec_grammar.specs.Syntax as grammar
+use Rattle.iloc_spec_grammar.proofs.PartTexts.{join-dashes}
+use Rattle.iloc_spec_grammar.proofs.PiecesLaws.{pieces-join, pieces_hyphen_free}
+use Rattle.iloc_spec_grammar.proofs.ReadBack.{all_append}
+use Rattle.iloc_pieces.proofs.LeftLemmas.{dashed}
+use Rattle.iloc_normalize.specs.declared.Mode.{Mode}
+use Rattle.iloc_faults.specs.Places.{GoOn, StandsAtPiece, IsFaultPlace}
+use Rattle.iloc_faults.proofs.OnePlace.{fewer}
+use Rattle.iloc_expected.specs.declared.kinds.PieceKind.{PieceKind}
+use Rattle.iloc_expected.specs.declared.kinds.PieceKind.TheVariants as kinds
+use Rattle.iloc_expected.specs.Kinds.{Place, AtBeginning, InIdentifier, InExtension, place_after, kind_at}
+use Rattle.iloc_expected.specs.Kinds.{identifier_kind, transform_kind, unicode_kind}
+use Rattle.iloc_expected.specs.Standing.{without_empty, pieces_before, MayStand}
+use Rattle.iloc_expected.proofs.Walk.{front_free, without_end}
+
+-- ---- the pieces before a piece
+
+-- the text of the pieces before it, and a hyphen
+cut_text : (t p : Text) (before after : List Text) → pieces t ≡ before ++ (p ∷ after) →
+    take (length (dashes before)) t ≡ join (before ++ ([] ∷ []))
+unfolding join
+cut_text t p [] after e = refl
+cut_text t p (b ∷ bs) after e =
+    let all : 45 ∷ t ≡ dashes (b ∷ bs) ++ dashes (p ∷ after) =
+    sym (dashed t) ∙ ap dashes e ∙ flat_map-append (λ (q : Text). 45 ∷ q) (b ∷ bs) (p ∷ after) in
+    let ends : dashes ((b ∷ bs) ++ ([] ∷ [])) ≡ dashes (b ∷ bs) ++ (45 ∷ []) =
+    flat_map-append (λ (q : Text). 45 ∷ q) (b ∷ bs) ([] ∷ []) in
+    let both : take (length (dashes (b ∷ bs)) + 1) (45 ∷ t) ≡ dashes ((b ∷ bs) ++ ([] ∷ [])) =
+    ap (take (length (dashes (b ∷ bs)) + 1)) all
+    ∙ take-append-add (dashes (b ∷ bs)) (dashes (p ∷ after)) 1 ∙ sym ends in
+    let one_more : suc (length (dashes (b ∷ bs))) ≡ length (dashes (b ∷ bs)) + 1 = omega arith in
+    let more : 45 ∷ take (length (dashes (b ∷ bs))) t ≡ 45 ∷ join ((b ∷ bs) ++ ([] ∷ [])) =
+    ap (λ (n : ℕ). take n (45 ∷ t)) one_more ∙ both
+    ∙ ap (λ q. 45 ∷ q) (sym (join-dashes b (bs ++ ([] ∷ [])))) in
+    cc
+
+pub before_piece : (t p : Text) (before after : List Text) (start : ℕ) → pieces t ≡ before ++ (p ∷ after) →
+    start ≡ length (dashes before) → pieces_before t start ≡ before
+before_piece t p before after start e s =
+    ap (λ n. without_empty (pieces (take n t))) s
+    ∙ ap (λ q. without_empty (pieces q)) (cut_text t p before after e)
+    ∙ ap without_empty (whole before free) ∙ without_end before
+  where
+    free : AllByRecursion IsHyphenFree (before ++ ([] ∷ []))
+    free = all_append IsHyphenFree before ([] ∷ [])
+        (front_free before (p ∷ after) (subst (AllByRecursion IsHyphenFree) e (pieces_hyphen_free t)))
+        (refl, tt)
+
+    whole : (ps : List Text) → AllByRecursion IsHyphenFree (ps ++ ([] ∷ [])) →
+        pieces (join (ps ++ ([] ∷ []))) ≡ ps ++ ([] ∷ [])
+    whole [] f = pieces-join [] [] f
+    whole (q ∷ ps) f = pieces-join q (ps ++ ([] ∷ [])) f
+
+-- ---- the end
+
+-- only an empty piece is left out
+left_out : (ps : List Text) → (rest : List Text) × (ps ≡ without_empty ps ++ rest)
+left_out [] = ([], refl)
+left_out ([] ∷ []) = ([] ∷ [], refl)
+left_out ((c ∷ p) ∷ []) = ([], refl)
+left_out ([] ∷ q ∷ ps) = let r = left_out (q ∷ ps) in (r.0, ap (λ l. [] ∷ l) r.1)
+left_out ((c ∷ p) ∷ q ∷ ps) = let r = left_out (q ∷ ps) in (r.0, ap (λ l. (c ∷ p) ∷ l) r.1)
+
+pub before_end : (mode : Mode) (t : Text) (start : ℕ) → start ≡ length t → GoOn mode (pieces t) →
+    GoOn mode (pieces_before t start)
+before_end mode t start s g =
+    let r = left_out (pieces t) in
+    let same : take start t ≡ t = take_all start t (omega arith) in
+    subst (λ (q : Text). GoOn mode (without_empty (pieces q))) (sym same)
+    (fewer (without_empty (pieces t)) r.0 (subst (GoOn mode) r.1 g))
+
+-- ---- something may stand there
+
+-- a piece is not the end
+word_no_end : (p : Text) → identifier_kind p ≢ kinds.End
+word_no_end p e = elim (cases_Bool (is_word grammar.Script p)) [
+  | inl a ↦ let f = rw a at e in cc
+  | inr a ↦ elim (cases_Bool (is_word grammar.Region p))
+      [ inl b ↦ let f = rw (a, b) at e in cc | inr b ↦ let f = rw (a, b) at e in cc ]
+]
+
+transform_no_end : (qs : List Text) (p : Text) → transform_kind qs p ≢ kinds.End
+transform_no_end [] p e = elim (cases_Bool (is_word TransformKey p))
+    [ inl a ↦ let f = rw a at e in cc | inr a ↦ let f = rw a at e in cc ]
+transform_no_end (q ∷ qs) p e = elim (cases_Bool (is_word TransformKey p)) [
+  | inl a ↦ let f = rw a at e in cc
+  | inr a ↦ elim (cases_Bool (list_any (is_word TransformKey) (q ∷ qs)))
+      [ inl b ↦ let f = rw (a, b) at e in cc | inr b ↦ word_no_end p (rw (a, b) at e) ]
+]
+
+unicode_no_end : (qs : List Text) (p : Text) → unicode_kind qs p ≢ kinds.End
+unicode_no_end qs p e = elim (cases_Bool (is_word UnicodeKey p)) [
+  | inl a ↦ let f = rw a at e in cc
+  | inr a ↦ elim (cases_Bool (list_any (is_word UnicodeKey) qs))
+      [ inl b ↦ let f = rw (a, b) at e in cc | inr b ↦ let f = rw (a, b) at e in cc ]
+]
+
+no_end : (w : Place) (p : Text) → kind_at w p ≢ kinds.End
+no_end AtBeginning p e = cc
+no_end InIdentifier p e = elim (cases_Bool (is_one_byte p))
+    [ inl a ↦ let f = rw a at e in cc | inr a ↦ word_no_end p (rw a at e) ]
+no_end (InExtension c qs) p e = elim (cases_Bool (c == code_x)) [
+  | inl x ↦ let f = rw x at e in cc
+  | inr x ↦ elim (cases_Bool (is_one_byte p)) [
+    | inl a ↦ let f = rw (x, a) at e in cc
+    | inr a ↦ elim (cases_Bool (c == code_t)) [
+      | inl t ↦ transform_no_end qs p (rw (x, a, t) at e)
+      | inr t ↦ elim (cases_Bool (c == code_u))
+          [ inl u ↦ unicode_no_end qs p (rw (x, a, t, u) at e) | inr u ↦ let f = rw (x, a, t, u) at e in cc ]
+    ]
+  ]
+]
+
+pub some_kind : (mode : Mode) (ps : List Text) → GoOn mode ps → (kind : PieceKind) × MayStand mode ps kind
+some_kind mode ps g = by g.rest g.begins
+  where
+    stand : (p : Text) (rest : List Text) → pieces g.text ≡ ps ++ (p ∷ rest) → (kind : PieceKind) →
+        kind_at (place_after ps) p ≡ kind → MayStand mode ps kind
+    stand p rest e kinds.End k = absurd (no_end (place_after ps) p k)
+    stand p rest e kind k = record {
+      piece = p;
+      go_on = record {
+        text = g.text;
+        accepted = g.accepted;
+        rest = rest;
+        begins = e ∙ sym (append_assoc ps (p ∷ []) rest);
+      };
+      is_kind = k;
+    }
+
+    by : (rest : List Text) → pieces g.text ≡ ps ++ rest → (kind : PieceKind) × MayStand mode ps kind
+    by [] e = (kinds.End, (g.text, g.accepted, e ∙ append-nil ps))
+    by (p ∷ rest) e = (kind_at (place_after ps) p, stand p rest e (kind_at (place_after ps) p) refl)
+
+pub at_piece : (mode : Mode) (t : Text) (start end : ℕ) → (p : StandsAtPiece mode t start end) →
+    (pieces_before t start ≡ p.before) × ¬ (GoOn mode (pieces_before t start ++ (p.piece ∷ [])))
+at_piece mode t start end p =
+    let e = before_piece t p.piece p.before p.after start p.cut p.from in
+    (e, λ g. p.no_longer (subst (λ (qs : List Text). GoOn mode (qs ++ (p.piece ∷ []))) e g))
+
+pub at_place : (mode : Mode) (t : Text) (start end : ℕ) → IsFaultPlace mode t start end →
+    (kind : PieceKind) × MayStand mode (pieces_before t start) kind
+at_place mode t start end (inl p) =
+    some_kind mode (pieces_before t start) (subst (GoOn mode) (sym (at_piece mode t start end p).0) p.go_on)
+at_place mode t start end (inr p) =
+    some_kind mode (pieces_before t start) (before_end mode t start p.from p.go_on)

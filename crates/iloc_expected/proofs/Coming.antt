@@ -1,0 +1,234 @@
+-- A piece that comes next is of a kind that may come.
+use Rattle.std.proofs.Common.{◌≡◌, ◌≢◌, ℕ, Bool, true, false, ◌&&◌, List, [], ◌∷◌, length}
+use Rattle.std.proofs.Common.{slice_index, Some, None, refl, sym, ◌∙◌}
+use Rattle.std.proofs.Common.{true≢false, inl, inr, arith}
+use Rattle.std.specs.Char.{is_ascii_alphanumeric}
+use Rattle.std.proofs.lemmas.Bool.{cases_Bool, and_parts, not-true, false_from_ne_true}
+use Rattle.std.proofs.lemmas.Bool.Decides.{nat_tests}
+use Rattle.iloc_spec_grammar.specs.Syntax.{Text, code_t, code_u, code_x, languages, is_word, IsWord}
+use Rattle.iloc_spec_grammar.specs.Syntax.{is_one_byte}
+use Rattle.iloc_spec_grammar.specs.Syntax.{is_other_singleton, lower, is_true, UnicodeKey, TransformKey}
+use Rattle.iloc_spec_grammar.specs.Syntax.{Attribute, Variant}
+use Rattle.iloc_spec_grammar.specs.Syntax as grammar
+use Rattle.iloc_spec_grammar.proofs.WordsLaws.{region_no_script, variant_no_script, variant_no_region}
+use Rattle.iloc_spec_grammar.proofs.WordsLaws.{length-unicode_key, length-transform_key}
+use Rattle.iloc_normalize.specs.declared.Mode.{Mode}
+use Rattle.iloc_normalize.specs.declared.Mode.TheVariants.{Langid, Locale, Data}
+use Rattle.iloc_faults.specs.declared.state.Part.{Part}
+use Rattle.iloc_faults.specs.declared.state.Part.TheVariants.{Start, Head, Transform, Source, FieldKey}
+use Rattle.iloc_faults.specs.declared.state.Part.TheVariants.{FieldValue, Unicode, Keyword, Other}
+use Rattle.iloc_faults.specs.declared.state.Part.TheVariants.{OtherWord}
+use Rattle.iloc_faults.specs.declared.state.Part.TheVariants.{Private, PrivateWord, Subdivision}
+use Rattle.iloc_faults.specs.declared.state.Part.TheVariants.{SubdivisionKey, SubdivisionValue}
+use Rattle.iloc_faults.specs.declared.state.Stage.{Stage}
+use Rattle.iloc_faults.specs.declared.state.Stage.TheVariants.{Language, Script, Region}
+use Rattle.iloc_faults.specs.Next.{Reached, is_seen, is_new, may_end, takes_any, begins_block, block_next}
+use Rattle.iloc_faults.specs.Next.{after_script_next, after_region_next, word_next, inside_next, piece_next}
+use Rattle.iloc_faults.specs.Next.{next}
+use Rattle.iloc_faults.specs.States.{reached}
+use Rattle.iloc_expected.specs.declared.kinds.PieceKind.TheVariants as kinds
+use Rattle.iloc_expected.specs.Kinds.{Place, kind_at, identifier_kind}
+use Rattle.iloc_expected.specs.Readings.{IsReadAt, may_begin_block, has_variant, may_come}
+use Rattle.iloc_expected.proofs.Following.{other_apart, no_true, of_when, of_plain, of_words, of_if, sd_key}
+
+-- ---- a singleton
+
+pub singleton_is : (part : Part) (keyed : Bool) (w : Place) (p : Text) → IsReadAt part keyed w →
+    is_one_byte p ≡ true → takes_any part ≡ false → kind_at w p ≡ kinds.Singleton
+singleton_is Start keyed w p at one t = absurd (true≢false t)
+singleton_is (Head stage) keyed w p at one t = rw (at.0, one) refl
+singleton_is Transform keyed w p at one t = rw (at.0, one) refl
+singleton_is (Source stage) keyed w p at one t = rw (at.2, one) refl
+singleton_is FieldKey keyed w p at one t = rw (at.2, one) refl
+singleton_is FieldValue keyed w p at one t = rw (at.2, one) refl
+singleton_is Unicode keyed w p at one t = rw (at.0, one) refl
+singleton_is Keyword keyed w p at one t = rw (at.1, one) refl
+singleton_is Other keyed w p at one t = rw (at.2, (other_apart at.0 at.3).2, one) refl
+singleton_is OtherWord keyed w p at one t = rw (at.2, (other_apart at.0 at.3).2, one) refl
+singleton_is Private keyed w p at one t = absurd (true≢false t)
+singleton_is PrivateWord keyed w p at one t = absurd (true≢false t)
+singleton_is Subdivision keyed w p at one t = rw (at.0, one) refl
+singleton_is SubdivisionKey keyed w p at one t = rw (at.1, one) refl
+singleton_is SubdivisionValue keyed w p at one t = rw (at.1, one) refl
+
+-- no singleton is left only if all were seen
+abbrev pub IsLeft : List ℕ → Bool → Type 0
+IsLeft seen left = left ≡ false → (c : ℕ) → is_ascii_alphanumeric c ≡ true → is_seen seen c ≡ true
+
+block_may : (mode : Mode) (part : Part) (seen : List ℕ) (c : ℕ) (left : Bool) (r : Reached) →
+    takes_any part ≡ false → IsLeft seen left → block_next mode part seen c ≡ Some r →
+    may_begin_block mode part left ≡ true
+block_may Langid part seen c left r t l e = cc
+block_may Locale part seen c left r t l e =
+    let m = of_if _ _ r e in
+    let b = and_parts _ _ m.0 in
+    let a = and_parts _ _ b.0 in
+    by left l a.0 a.1 (not-true _ b.1)
+  where
+    by : (left : Bool) → IsLeft seen left → may_end part ≡ true → is_ascii_alphanumeric c ≡ true →
+        is_seen seen c ≡ false → may_begin_block Locale part left ≡ true
+    by true l end letter new = rw (end, t) refl
+    by false l end letter new = absurd (true≢false (sym (l refl c letter) ∙ new))
+block_may Data (Head stage) seen c left r t l e = refl
+block_may Data _ seen c left r t l e = cc
+
+-- ---- words
+
+-- none were read if it is said so
+abbrev pub AreNone : List Text → Bool → Type 0
+AreNone vs none = none ≡ false → vs ≢ []
+
+new_may : (mode : Mode) (vs : List Text) (v : Text) (none : Bool) → AreNone vs none →
+    is_new mode vs v ≡ true → has_variant mode none ≡ true
+new_may Langid vs v none n e = refl
+new_may Locale vs v none n e = refl
+new_may Data vs v true n e = refl
+new_may Data [] v false n e = absurd (n refl refl)
+new_may Data (x ∷ vs) v false n e = absurd (true≢false (sym e))
+
+-- a word of an identifier: what it is, and that it fits
+pub data IsOneOf (mode : Mode) (vs : List Text) (stage : Stage) (p : Text) : Type 0 where
+  a_script : stage ≡ Language → identifier_kind p ≡ kinds.Script → IsOneOf mode vs stage p
+  a_region : stage ≢ Region → identifier_kind p ≡ kinds.Region → IsOneOf mode vs stage p
+  a_variant : is_new mode vs (lower p) ≡ true → identifier_kind p ≡ kinds.Variant → IsOneOf mode vs stage p
+
+module _ (mode : Mode) (vs : List Text) (p : Text) where
+  variant_one : (stage : Stage) (x : Stage × List Text) → after_region_next mode vs p ≡ Some x →
+      IsOneOf mode vs stage p
+  variant_one stage x e = elim (cases_Bool (is_word Variant p && is_new mode vs (lower p))) [
+    | inl b ↦ let h = and_parts _ _ b in
+        a_variant h.1 (rw (variant_no_script p h.0, variant_no_region p h.0) refl)
+    | inr b ↦ let f : None ≡ Some x = rw b at e in cc
+  ]
+
+  region_one : (stage : Stage) (x : Stage × List Text) → stage ≢ Region →
+      after_script_next mode vs p ≡ Some x → IsOneOf mode vs stage p
+  region_one stage x n e = elim (cases_Bool (is_word grammar.Region p)) [
+    | inl b ↦ a_region n (rw (region_no_script p b, b) refl)
+    | inr b ↦ variant_one stage x (rw b at e)
+  ]
+
+  word_one : (stage : Stage) (x : Stage × List Text) → word_next mode stage vs p ≡ Some x →
+      IsOneOf mode vs stage p
+  word_one Language x e = elim (cases_Bool (is_word grammar.Script p)) [
+    | inl b ↦ a_script refl (rw b refl)
+    | inr b ↦ region_one Language x (λ f. cc) (rw b at e)
+  ]
+  word_one Script x e = region_one Script x (λ f. cc) e
+  word_one Region x e = variant_one Region x e
+
+abbrev MayWord : Mode → (Stage → Part) → Stage → (keyed none left : Bool) → Text → Type 0
+MayWord mode of stage keyed none left p = may_come mode (of stage) keyed none left (identifier_kind p) ≡ true
+
+head_word : (mode : Mode) (vs : List Text) (stage : Stage) (p : Text) (keyed none left : Bool) →
+    AreNone vs none → IsOneOf mode vs stage p → MayWord mode Head stage keyed none left p
+head_word mode vs stage p keyed none left n (a_script s k) = rw (k, s) refl
+head_word mode vs Language p keyed none left n (a_region s k) = rw k refl
+head_word mode vs Script p keyed none left n (a_region s k) = rw k refl
+head_word mode vs Region p keyed none left n (a_region s k) = absurd (s refl)
+head_word mode vs stage p keyed none left n (a_variant s k) = rw k (new_may mode vs (lower p) none n s)
+
+source_word : (mode : Mode) (vs : List Text) (stage : Stage) (p : Text) (keyed none left : Bool) →
+    AreNone vs none → IsOneOf mode vs stage p → MayWord mode Source stage keyed none left p
+source_word mode vs stage p keyed none left n (a_script s k) = rw (k, s) refl
+source_word mode vs Language p keyed none left n (a_region s k) = rw k refl
+source_word mode vs Script p keyed none left n (a_region s k) = rw k refl
+source_word mode vs Region p keyed none left n (a_region s k) = absurd (s refl)
+source_word mode vs stage p keyed none left n (a_variant s k) = rw k (new_may mode vs (lower p) none n s)
+
+-- ---- pieces of blocks
+
+long_attribute : (p : Text) → IsWord Attribute p → length p ≢ 2
+unfolding is_word
+long_attribute p h e = grind (arith, nat_tests)
+
+no_unicode_key : (p : Text) → IsWord Attribute p → is_word UnicodeKey p ≡ false
+no_unicode_key p h = false_from_ne_true _ (λ e. long_attribute p h (length-unicode_key p e))
+
+no_transform_key : (p : Text) → IsWord Attribute p → is_word TransformKey p ≡ false
+no_transform_key p h = false_from_ne_true _ (λ e. long_attribute p h (length-transform_key p e))
+
+module _ (mode : Mode) (keyed none left : Bool) (w : Place) (p : Text) where
+  abbrev May : Part → Type 0
+  May part = may_come mode part keyed none left (kind_at w p) ≡ true
+
+  piece_may : (part q : Part) → IsReadAt part keyed w → begins_block part p ≡ false →
+      piece_next part p ≡ Some q → May part
+  piece_may Start q at b e = cc
+  piece_may (Head stage) q at b e = cc
+  piece_may Transform q at b e = cc
+  piece_may (Source stage) q at b e = cc
+  piece_may FieldKey q at b e =
+      let m = of_when _ FieldValue q e in rw (at.2, no_true _ b, no_transform_key p m.0, at.3) refl
+  piece_may FieldValue q at b e = elim (cases_Bool (is_word TransformKey p)) [
+    | inl k ↦ rw (at.2, no_true _ b, k) refl
+    | inr k ↦ rw (at.2, no_true _ b, k, at.3) refl
+  ]
+  piece_may Unicode q at b e = elim (cases_Bool (is_word UnicodeKey p))
+      [ inl k ↦ rw (at.0, no_true _ b, k) refl | inr k ↦ rw (at.0, no_true _ b, k) refl ]
+  piece_may Keyword q at b e = by keyed at
+    where
+      by : (keyed : Bool) → IsReadAt Keyword keyed w →
+          may_come mode Keyword keyed none left (kind_at w p) ≡ true
+      by true at = elim (cases_Bool (is_word UnicodeKey p))
+          [ inl k ↦ rw (at.1, no_true _ b, k) refl | inr k ↦ rw (at.1, no_true _ b, k, at.2) refl ]
+      by false at = elim (cases_Bool (is_word UnicodeKey p))
+          [ inl k ↦ rw (at.1, no_true _ b, k) refl | inr k ↦ rw (at.1, no_true _ b, k, at.2) refl ]
+  piece_may Other q at b e =
+      let n = other_apart at.0 at.3 in rw (at.2, n.2, no_true _ b, n.0, n.1) refl
+  piece_may OtherWord q at b e =
+      let n = other_apart at.0 at.3 in rw (at.2, n.2, no_true _ b, n.0, n.1) refl
+  piece_may Private q at b e = rw at.1 refl
+  piece_may PrivateWord q at b e = rw at.1 refl
+  piece_may Subdivision q at b e =
+      let m = of_when _ SubdivisionKey q e in rw (at.0, no_true _ b, sd_key p m.0) refl
+  piece_may SubdivisionKey q at b e = elim (cases_Bool (is_word Attribute p)) [
+    | inl a ↦ rw (at.1, no_true _ b, no_unicode_key p a, at.2) refl
+    | inr a ↦ let f : None ≡ Some q = rw a at e in cc
+  ]
+  piece_may SubdivisionValue q at b e =
+      let m = of_when _ SubdivisionValue q e in
+      rw (at.1, no_true _ b, no_unicode_key p (and_parts _ _ m.0).0, at.2) refl
+
+  inside_may : (part : Part) (vs : List Text) (seen : List ℕ) (r : Reached) → IsReadAt part keyed w →
+      AreNone vs none → begins_block part p ≡ false → inside_next mode part vs seen p ≡ Some r → May part
+  inside_may Start vs seen r at n b e = rw at.0 refl
+  inside_may (Head stage) vs seen r at n b e =
+      let m = of_words Head (word_next mode stage vs p) seen r e in
+      rw (at.0, no_true _ b)
+      (head_word mode vs stage p keyed none left n (word_one mode vs p stage m.0 m.1))
+  inside_may Transform vs seen r at n b e = elim (cases_Bool (is_word TransformKey p))
+      [ inl k ↦ rw (at.0, no_true _ b, k) refl | inr k ↦ rw (at.0, no_true _ b, k) refl ]
+  inside_may (Source stage) vs seen r at n b e = elim (cases_Bool (is_word TransformKey p)) [
+    | inl k ↦ rw (at.2, no_true _ b, k) (field_may stage)
+    | inr k ↦ let m = of_words Source (word_next mode stage vs p) seen r (rw k at e) in
+        rw (at.2, no_true _ b, k, at.3)
+        (source_word mode vs stage p keyed none left n (word_one mode vs p stage m.0 m.1))
+  ]
+    where
+      field_may : (stage : Stage) → may_come mode (Source stage) keyed none left kinds.Field ≡ true
+      field_may Language = refl
+      field_may Script = refl
+      field_may Region = refl
+  inside_may FieldKey vs seen r at n b e = piece_may FieldKey r.part at b (of_plain _ seen r e)
+  inside_may FieldValue vs seen r at n b e = piece_may FieldValue r.part at b (of_plain _ seen r e)
+  inside_may Unicode vs seen r at n b e = piece_may Unicode r.part at b (of_plain _ seen r e)
+  inside_may Keyword vs seen r at n b e = piece_may Keyword r.part at b (of_plain _ seen r e)
+  inside_may Other vs seen r at n b e = piece_may Other r.part at b (of_plain _ seen r e)
+  inside_may OtherWord vs seen r at n b e = piece_may OtherWord r.part at b (of_plain _ seen r e)
+  inside_may Private vs seen r at n b e = piece_may Private r.part at b (of_plain _ seen r e)
+  inside_may PrivateWord vs seen r at n b e = piece_may PrivateWord r.part at b (of_plain _ seen r e)
+  inside_may Subdivision vs seen r at n b e = piece_may Subdivision r.part at b (of_plain _ seen r e)
+  inside_may SubdivisionKey vs seen r at n b e = piece_may SubdivisionKey r.part at b (of_plain _ seen r e)
+  inside_may SubdivisionValue vs seen r at n b e =
+      piece_may SubdivisionValue r.part at b (of_plain _ seen r e)
+
+  pub next_may : (part : Part) (vs : List Text) (seen : List ℕ) (r : Reached) → IsReadAt part keyed w →
+      AreNone vs none → IsLeft seen left → next mode (reached part vs seen) p ≡ Some r → May part
+  next_may part vs seen r at n l e = elim (cases_Bool (begins_block part p)) [
+    | inl b ↦
+        let h = and_parts _ _ b in
+        rw (singleton_is part keyed w p at h.0 (not-true _ h.1))
+        (block_may mode part seen (slice_index p 0) left r (not-true _ h.1) l (rw b at e))
+    | inr b ↦ inside_may part vs seen r at n b (rw b at e)
+  ]

@@ -1,0 +1,11 @@
+pub mod NewVariants
+pub mod Places
+pub mod Following
+pub mod Coming
+pub mod Samples
+pub mod Singles
+pub mod Sets
+pub mod Walk
+pub mod SetBits
+pub mod AtFault
+pub mod Ending

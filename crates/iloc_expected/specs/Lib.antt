@@ -1,0 +1,4 @@
+pub mod Kinds
+pub mod Standing
+pub mod Words
+pub mod Readings

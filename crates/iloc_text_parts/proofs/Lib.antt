@@ -1,0 +1,4 @@
+pub mod CutLemmas
+pub mod KeywordLemmas
+pub mod ParentLemmas
+pub mod TailLemmas
