@@ -18,7 +18,8 @@ use Rattle.iloc_spec_grammar.specs.Syntax.{kept, lower_singleton, is_other_singl
 use Rattle.iloc_spec_grammar.specs.Tree.{by_singleton}
 use Rattle.iloc_spec_grammar.specs.Meaning.{Extensions, map_of, set_of, normal_fields, normal_identifier}
 use Rattle.iloc_spec_grammar.specs.Meaning.{no_unicode, no_transform}
-use Rattle.iloc_spec_grammar.specs.ByBlocks.{UnicodeMeans, TransformMeans, PrivateMeans, other_blocks}
+use Rattle.iloc_spec_grammar.specs.ByBlocks.{UnicodeMeans, TransformMeans, PrivateMeans}
+use Rattle.iloc_spec_grammar.specs.Meaning.{other_blocks}
 use Rattle.iloc_spec_grammar.specs.ByBlocks.{grammar_rules, PartIs, BlocksGive}
 use Rattle.iloc_spec_grammar.proofs.MapLaws.{find-map_of}
 use Rattle.iloc_locale.specs.Blocks.{is_read}
@@ -102,25 +103,25 @@ any_key q (o ∷ os) = ap₂ ◌||◌ (same_test o.0 q) (any_key q os)
     [ true ↦ refl | false ↦ refl ]
 
 others_known : (q : ℕ) (bs : List (ℕ × List Text)) → is_other_singleton q ≡ true →
-    is_some (find nat_cmp q (map (λ b. (b.0, kept b.1)) (other_blocks (by_singleton bs))))
+    is_some (find nat_cmp q (map (λ b. (b.0, kept b.1)) (other_blocks bs)))
     ≡ is_some (find nat_cmp q (by_singleton bs))
 others_known q [] h = refl
 others_known q (b ∷ bs) h = at (eq_by_cmp nat_cmp q (lower_singleton b))
     (is_other_singleton (lower_singleton b)) (others_known q bs h) refl refl
   where
     at : (t k : Bool) →
-        is_some (find nat_cmp q (map (λ b. (b.0, kept b.1)) (other_blocks (by_singleton bs))))
+        is_some (find nat_cmp q (map (λ b. (b.0, kept b.1)) (other_blocks bs)))
         ≡ is_some (find nat_cmp q (by_singleton bs)) →
         eq_by_cmp nat_cmp q (lower_singleton b) ≡ t → is_other_singleton (lower_singleton b) ≡ k
         → is_some (find nat_cmp q (map (λ b. (b.0, kept b.1)) (cond k
-        ((lower_singleton b, b.1) ∷ other_blocks (by_singleton bs)) (other_blocks (by_singleton bs)))))
+        ((lower_singleton b, b.1) ∷ other_blocks bs) (other_blocks bs))))
         ≡ is_some (cond t (Some b.1) (find nat_cmp q (by_singleton bs)))
     at true true more e k = ap (λ t. is_some (cond t (Some (kept b.1))
-        (find nat_cmp q (map (λ b. (b.0, kept b.1)) (other_blocks (by_singleton bs)))))) e
+        (find nat_cmp q (map (λ b. (b.0, kept b.1)) (other_blocks bs))))) e
     at true false more e k =
         absurd (true≢false (sym h ∙ ap is_other_singleton (sym (tied q (lower_singleton b) e)) ∙ k))
     at false true more e k = ap (λ t. is_some (cond t (Some (kept b.1))
-        (find nat_cmp q (map (λ b. (b.0, kept b.1)) (other_blocks (by_singleton bs)))))) e
+        (find nat_cmp q (map (λ b. (b.0, kept b.1)) (other_blocks bs))))) e
         ∙ more
     at false false more e k = more
 
@@ -161,5 +162,5 @@ read_is_known T ds M c m h = at (kind_of c h) ∙ known T c ds
     at (another o) =
         is_read-other M c o ∙ any_key c M.others ∙ ap (λ os. is_some (find nat_cmp c os)) m.others
         ∙ ap is_some
-        (find-map_of nat_cmp nat_cmp_total c (map (λ b. (b.0, kept b.1)) (other_blocks (by_singleton ds))))
+        (find-map_of nat_cmp nat_cmp_total c (map (λ b. (b.0, kept b.1)) (other_blocks ds)))
         ∙ others_known c ds o

@@ -11,7 +11,8 @@ use Rattle.iloc_spec_grammar.specs.Syntax.{code_x, code_u, code_t, Text, kept, A
 use Rattle.iloc_spec_grammar.specs.Syntax.{is_other_singleton}
 use Rattle.iloc_spec_grammar.specs.Meaning.{Extensions, BlocksMean, no_unicode, no_transform}
 use Rattle.iloc_spec_grammar.specs.Tree.{by_singleton}
-use Rattle.iloc_spec_grammar.specs.ByBlocks.{Rules, other_blocks, PartIs, BlocksGive}
+use Rattle.iloc_spec_grammar.specs.ByBlocks.{Rules, PartIs, BlocksGive}
+use Rattle.iloc_spec_grammar.specs.Meaning.{other_blocks}
 use Rattle.iloc_spec_grammar.specs.Values.{Reordered, in_turn}
 use Rattle.iloc_spec_grammar.proofs.Orders.{itself, moved, all_reordered, map_reordered, different_reordered}
 use Rattle.iloc_spec_grammar.proofs.Orders.{find_reordered, filter_reordered}
@@ -74,8 +75,8 @@ reordered {R = R} {bs = bs} {cs = cs} e r m =
     let found : (q : ℕ) → find nat_cmp q (by_singleton bs) ≡ find nat_cmp q (by_singleton cs) =
     λ q. find_reordered nat_cmp nat_cmp_total q letters keys in
     let others = filter_reordered (λ b. is_other_singleton b.0) letters in
-    let kinds : AllDifferent nat_cmp (map (λ e. e.0) (map kept_of (other_blocks (by_singleton bs)))) =
-    subst (AllDifferent nat_cmp) (sym (kept_keys (other_blocks (by_singleton bs))))
+    let kinds : AllDifferent nat_cmp (map (λ e. e.0) (map kept_of (other_blocks bs))) =
+    subst (AllDifferent nat_cmp) (sym (kept_keys (other_blocks bs)))
     (still_different (λ b. is_other_singleton b.0) (by_singleton bs) keys) in
     record {
       letters = all_reordered (λ b. is_ascii_alphanumeric b.0 ≡ true) r m.letters;
@@ -87,7 +88,7 @@ reordered {R = R} {bs = bs} {cs = cs} e r m =
       each_other = all_reordered (λ b. R.other b.1 (kept b.1)) others m.each_other;
       others = m.others
           ∙ map_of_same nat_cmp nat_cmp_total nat_cmp-IsAntisymmetric
-          (map kept_of (other_blocks (by_singleton bs))) (map kept_of (other_blocks (by_singleton cs)))
+          (map kept_of (other_blocks bs)) (map kept_of (other_blocks cs))
           (λ q. find_reordered nat_cmp nat_cmp_total q (map_reordered kept_of others) kinds);
     }
 

@@ -11,7 +11,8 @@ use Rattle.iloc_spec_grammar.specs.Syntax.{code_x, code_u, code_t, Text, Unicode
 use Rattle.iloc_spec_grammar.specs.Syntax.{lower_singleton, is_other_singleton}
 use Rattle.iloc_spec_grammar.specs.Meaning.{Extensions, map_of, no_unicode, no_transform}
 use Rattle.iloc_spec_grammar.specs.Tree.{by_singleton}
-use Rattle.iloc_spec_grammar.specs.ByBlocks.{Rules, other_blocks, PartIs, BlocksGive}
+use Rattle.iloc_spec_grammar.specs.ByBlocks.{Rules, PartIs, BlocksGive}
+use Rattle.iloc_spec_grammar.specs.Meaning.{other_blocks}
 
 -- numbers of singletons
 
@@ -73,14 +74,14 @@ module _ {R : Rules} {ds : List (ℕ × List Text)} {M : Extensions} (b : ℕ ×
   absent q e = ap (λ t. cond t (Some b.1) (find nat_cmp q (by_singleton ds))) e
 
   same_others : is_other_singleton (lower_singleton b) ≡ false →
-      other_blocks (by_singleton (b ∷ ds)) ≡ other_blocks (by_singleton ds)
+      other_blocks (b ∷ ds) ≡ other_blocks ds
   same_others e = ap (λ t.
-      cond t ((lower_singleton b, b.1) ∷ other_blocks (by_singleton ds)) (other_blocks (by_singleton ds))) e
+      cond t ((lower_singleton b, b.1) ∷ other_blocks ds) (other_blocks ds)) e
 
   more_others : is_other_singleton (lower_singleton b) ≡ true →
-      other_blocks (by_singleton (b ∷ ds)) ≡ (lower_singleton b, b.1) ∷ other_blocks (by_singleton ds)
+      other_blocks (b ∷ ds) ≡ (lower_singleton b, b.1) ∷ other_blocks ds
   more_others e = ap (λ t.
-      cond t ((lower_singleton b, b.1) ∷ other_blocks (by_singleton ds)) (other_blocks (by_singleton ds))) e
+      cond t ((lower_singleton b, b.1) ∷ other_blocks ds) (other_blocks ds)) e
 
   -- the part of another singleton stays; that of this one is given
   part_kept : {X : Type 0} (Rule : List Text → X → Type 0) (empty v : X) (k q : ℕ) →
@@ -101,11 +102,11 @@ module _ {R : Rules} {ds : List (ℕ × List Text)} {M : Extensions} (b : ℕ ×
       subst (λ o. PartIs Rule empty o v) (sym (absent k (no_other (lower_singleton b) k o h)))
 
   rules_kept : is_other_singleton (lower_singleton b) ≡ false →
-      AllByRecursion (λ b. R.other b.1 (kept b.1)) (other_blocks (by_singleton (b ∷ ds)))
+      AllByRecursion (λ b. R.other b.1 (kept b.1)) (other_blocks (b ∷ ds))
   rules_kept e = subst (AllByRecursion (λ b. R.other b.1 (kept b.1))) (sym (same_others e)) m.each_other
 
   others_kept : is_other_singleton (lower_singleton b) ≡ false →
-      M.others ≡ map_of nat_cmp (map (λ b. (b.0, kept b.1)) (other_blocks (by_singleton (b ∷ ds))))
+      M.others ≡ map_of nat_cmp (map (λ b. (b.0, kept b.1)) (other_blocks (b ∷ ds)))
   others_kept e = m.others ∙ ap (λ bs. map_of nat_cmp (map (λ b. (b.0, kept b.1)) bs)) (sym (same_others e))
 
   pub unicode_added : lower_singleton b ≡ code_u → (v : Unicode) → R.unicode b.1 v →

@@ -17,7 +17,8 @@ use Rattle.iloc_spec_grammar.specs.Tree.{private_part, other_part, by_singleton,
 use Rattle.iloc_spec_grammar.specs.Meaning.{Locale, Extensions, SpellsIdentifier, map_of, no_unicode}
 use Rattle.iloc_spec_grammar.specs.Meaning.{no_transform, normal_unicode, normal_transform}
 use Rattle.iloc_spec_grammar.specs.ByBlocks.{UnicodeMeans, TransformMeans, PrivateMeans, OtherMeans}
-use Rattle.iloc_spec_grammar.specs.ByBlocks.{other_blocks, grammar_rules, PartIs, BlocksGive, MeansByBlocks}
+use Rattle.iloc_spec_grammar.specs.ByBlocks.{grammar_rules, PartIs, BlocksGive, MeansByBlocks}
+use Rattle.iloc_spec_grammar.specs.Meaning.{other_blocks}
 use Rattle.iloc_spec_grammar.proofs.Readings.{head-spelling, blocks-spelling, unicode_of-pieces}
 use Rattle.iloc_spec_grammar.proofs.Readings.{transform_of-pieces}
 use Rattle.iloc_spec_grammar.specs.Reading.{unicode_of, transform_of, written_of}
@@ -103,7 +104,7 @@ KeepsWords b = OtherMeans b.1 (kept b.1)
 
 no_others_private : (x : Option Block) →
     IfSome x (λ e. (lower_singleton e ≡ code_x) × IsPrivate e.1) →
-    other_blocks (by_singleton (option_to_list x)) ≡ []
+    other_blocks (option_to_list x) ≡ []
 no_others_private None h = refl
 no_others_private (Some b) h = ap (λ c. cond (is_other_singleton c) ((lower_singleton b, b.1) ∷ []) []) h.0
 
@@ -111,8 +112,8 @@ others_by : (T : LanguageLengths) (es : List (ℕ × Extension)) (x : Option Blo
     AllByRecursion (λ e. IsExtension T (lower_singleton e) e.1) es →
     IfSome x (λ e. (lower_singleton e ≡ code_x) × IsPrivate e.1) →
     (filter_map other_part (by_singleton es)
-    ≡ map kept_of (other_blocks (by_singleton (map extension_block es ++ option_to_list x))))
-    × AllByRecursion KeepsWords (other_blocks (by_singleton (map extension_block es ++ option_to_list x)))
+    ≡ map kept_of (other_blocks (map extension_block es ++ option_to_list x)))
+    × AllByRecursion KeepsWords (other_blocks (map extension_block es ++ option_to_list x))
 others_by T [] x h k = (
   ap (map kept_of) (sym (no_others_private x k)),
   subst (AllByRecursion KeepsWords) (sym (no_others_private x k)) tt,
@@ -121,16 +122,16 @@ others_by T (e ∷ es) x h k = at_kind e.1 h.0 (others_by T es x h.1 k)
   where
     Goal : Extension → Type 0
     Goal f = (filter_map other_part ((lower_singleton e, f) ∷ by_singleton es)
-        ≡ map kept_of (other_blocks ((lower_singleton e, extension_pieces f)
-        ∷ by_singleton (map extension_block es ++ option_to_list x))))
+        ≡ map kept_of (other_blocks
+        ((e.0, extension_pieces f) ∷ map extension_block es ++ option_to_list x)))
         × AllByRecursion KeepsWords (other_blocks
-        ((lower_singleton e, extension_pieces f) ∷ by_singleton (map extension_block es ++ option_to_list x)))
+        ((e.0, extension_pieces f) ∷ map extension_block es ++ option_to_list x))
 
     at_kind : (f : Extension) → IsExtension T (lower_singleton e) f →
         (filter_map other_part (by_singleton es)
-        ≡ map kept_of (other_blocks (by_singleton (map extension_block es ++ option_to_list x))))
+        ≡ map kept_of (other_blocks (map extension_block es ++ option_to_list x)))
         × AllByRecursion KeepsWords
-        (other_blocks (by_singleton (map extension_block es ++ option_to_list x))) →
+        (other_blocks (map extension_block es ++ option_to_list x)) →
         Goal f
     at_kind (unicode u) r rest = rw r.0 rest
     at_kind (transform m) r rest = rw r.0 rest
@@ -237,13 +238,13 @@ known T q f u t x = both (f q) (at q code_u u) (at q code_t t) (at q code_x x)
     both None a b c = tt
     both (Some ps) a b c = (a, b, c)
 
-others_each : (bs : List Block) → AllByRecursion KeepsWords (other_blocks (by_singleton bs)) →
+others_each : (bs : List Block) → AllByRecursion KeepsWords (other_blocks bs) →
     AllByRecursion (λ b. is_other_singleton (lower_singleton b) ≡ true → IsOther b.1) bs
 others_each [] h = tt
 others_each (b ∷ bs) h =
     (elim (is_other_singleton (lower_singleton b)) as (λ t. is_other_singleton (lower_singleton b) ≡ t →
     AllByRecursion KeepsWords
-    (cond t ((lower_singleton b, b.1) ∷ other_blocks (by_singleton bs)) (other_blocks (by_singleton bs))) →
+    (cond t ((lower_singleton b, b.1) ∷ other_blocks bs) (other_blocks bs)) →
     AllByRecursion (λ b. is_other_singleton (lower_singleton b) ≡ true → IsOther b.1) (b ∷ bs)) [
       | true ↦ λ t h. ((λ _. h.0.0), others_each bs h.1)
       | false ↦ λ t h. ((λ e. absurd (true≢false (sym e ∙ t))), others_each bs h)

@@ -20,7 +20,8 @@ use Rattle.iloc_spec_grammar.specs.Meaning.{Locale, SpelledExtensions, Extension
 use Rattle.iloc_spec_grammar.specs.Meaning.{SpellsExtensions, AreBlocks, SpellsIdentifier, after, map_of}
 use Rattle.iloc_spec_grammar.specs.Meaning.{no_unicode, no_transform, normal_unicode, normal_transform}
 use Rattle.iloc_spec_grammar.specs.Meaning.{normal_extensions}
-use Rattle.iloc_spec_grammar.specs.ByBlocks.{UnicodeMeans, TransformMeans, PrivateMeans, other_blocks}
+use Rattle.iloc_spec_grammar.specs.ByBlocks.{UnicodeMeans, TransformMeans, PrivateMeans}
+use Rattle.iloc_spec_grammar.specs.Meaning.{other_blocks}
 use Rattle.iloc_spec_grammar.specs.ByBlocks.{grammar_rules, PartIs, BlocksGive, MeansByBlocks}
 use Rattle.iloc_spec_grammar.specs.Reading.{unicode_of, transform_of, written_of}
 use Rattle.iloc_spec_grammar.proofs.Readings.{unicode_of-pieces, pieces-unicode_of, transform_of-pieces}
@@ -192,7 +193,7 @@ read_of bs = record {
   unicode = unicode_of (after code_u bs);
   transform = transform_of (after code_t bs);
   private = after code_x bs;
-  others = other_blocks (by_singleton bs);
+  others = other_blocks bs;
 }
 
 record GoodParts (T : LanguageLengths) (seen : List ℕ) (bs : List Block) : Type 0 where
@@ -263,7 +264,7 @@ other_rule T q ps (inr (transform m, h, e)) k = absurd (no_t q h.0 k)
 
 others_rule : (T : LanguageLengths) (bs : List Block) →
     AllByRecursion (λ b. RuleAt T (lower_singleton b) b.1) bs →
-    AllByRecursion (λ o. IsOther o.1) (other_blocks (by_singleton bs))
+    AllByRecursion (λ o. IsOther o.1) (other_blocks bs)
 others_rule T [] h = tt
 others_rule T (b ∷ bs) h =
     cond_both (is_other_singleton (lower_singleton b)) _ _ (AllByRecursion (λ o. IsOther o.1))

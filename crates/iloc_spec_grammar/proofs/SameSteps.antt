@@ -193,16 +193,20 @@ written_of_step T r ps qs i j p q s z h =
 -- a step between texts is one of what they spell
 pub tree_step : {T : ℕ → Bool} (t u : Text) → TextStep T t u → TreeTextStep T t u
 tree_step t u (TextStep.letter_case e) = TreeTextStep.letter_case e
-tree_step {T = T} t u (TextStep.rewritten r {i = i} {j = j} m h p q s z) =
-    let good : AreGood T [] (tail_blocks (pieces t)) = good_blocks m.extensions.1 in
-    let first : IsIdentifier T i = subst (IsIdentifier T)
-    (one_identifier m.id.written i m.id.grammatical.words h (sym m.id.spelled ∙ p)) m.id.grammatical in
-    let second = (identifier_step (tree_identifier_rule r i j s) first).0 in
+tree_step {T = T} t u (TextStep.rewritten r w) =
+    let id = w.accepted.1.id in
+    let good : AreGood T [] (tail_blocks (pieces t)) = good_blocks w.accepted.1.extensions.1 in
+    let first : IsIdentifier T w.old = subst (IsIdentifier T)
+    (one_identifier id.written w.old id.grammatical.words w.words (sym id.spelled ∙ w.old_spelled))
+    id.grammatical in
+    let second = (identifier_step (tree_identifier_rule r w.old w.new w.id) first).0 in
     subst (TreeTextStep T t) (ap join (sym (pieces-written_of u)) ∙ join-pieces u) (TreeTextStep.rewritten
-    (good_written T t (m.id.written, m.id.grammatical, m.id.spelled) good)
+    (good_written T t (id.written, id.grammatical, id.spelled) good)
     (pieces-written_of t)
-    (written_of_step T r (pieces t) (pieces u) i j (ap identifier_of p ∙ identifier_of-pieces i h)
-    (ap identifier_of q ∙ identifier_of-pieces j second.words) s z (good_rules T [] _ good)))
+    (written_of_step T r (pieces t) (pieces u) w.old w.new
+    (ap identifier_of w.old_spelled ∙ identifier_of-pieces w.old w.words)
+    (ap identifier_of w.new_spelled ∙ identifier_of-pieces w.new second.words) w.id w.blocks
+    (good_rules T [] _ good)))
 
 -- a step of what a text spells is one of its blocks
 
@@ -263,9 +267,17 @@ spelled_step {T = T} t {v = v} {w = w} h e bs cs s =
       id = record { written = v.id; grammatical = h.id; spelled = front; means = refl };
       extensions = (parts.0, parts.1, refl);
     } in
-    TextStep.rewritten k.rule means h.id.words front (ap head p ∙ head-spelling w after) k.id
-    (subst (λ bs. BlocksStep T k.rule bs (tail_blocks (pieces (join (spelling w))))) (sym first)
-    (subst (BlocksStep T k.rule (blocks_of v)) (sym second) k.blocks))
+    TextStep.rewritten k.rule (record {
+      accepted = (M, means);
+      old = v.id;
+      new = w.id;
+      words = h.id.words;
+      old_spelled = front;
+      new_spelled = ap head p ∙ head-spelling w after;
+      id = k.id;
+      blocks = subst (λ bs. BlocksStep T k.rule bs (tail_blocks (pieces (join (spelling w))))) (sym first)
+          (subst (BlocksStep T k.rule (blocks_of v)) (sym second) k.blocks);
+    })
 
 pub step_by_tree : {T : ℕ → Bool} → AreLengths T → (t u : Text) → TreeTextStep T t u → TextStep T t u
 step_by_tree table t u (TreeTextStep.letter_case e) = TextStep.letter_case e

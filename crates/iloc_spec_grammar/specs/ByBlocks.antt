@@ -1,7 +1,7 @@
 -- Meaning block by block: the same relation as `Means`, as a reader of the text would check
 -- it, by a rule for each part. The law `by_blocks` says that the two agree if the rules are
 -- those of the grammar. Restates UTS #35, section 3, unicode_locale_id.
-use Rattle.std.specs.Prelude.{◌≡◌, true, List, [], map, filter, Option, MatchOption}
+use Rattle.std.specs.Prelude.{◌≡◌, true, List, [], map, Option, MatchOption}
 use Rattle.std.specs.Char.{is_ascii_alphanumeric}
 use Rattle.std.specs.List.{AllByRecursion}
 use Rattle.std.specs.Ordering.{nat_cmp}
@@ -9,11 +9,11 @@ use Rattle.std.specs.FinMap.{find}
 use Rattle.iloc_spec_grammar.specs.Syntax.{Text, LanguageLengths, Block, code_t, code_u, code_x, pieces}
 use Rattle.iloc_spec_grammar.specs.Syntax.{lower, SpelledUnicode, SpelledTransform, Unicode, Transform}
 use Rattle.iloc_spec_grammar.specs.Syntax.{unicode_pieces, transform_pieces, IsOther, kept}
-use Rattle.iloc_spec_grammar.specs.Syntax.{is_other_singleton, AllDifferent, lower_singleton, head}
+use Rattle.iloc_spec_grammar.specs.Syntax.{AllDifferent, lower_singleton, head}
 use Rattle.iloc_spec_grammar.specs.Syntax.{tail_blocks, IsPrivate}
 use Rattle.iloc_spec_grammar.specs.Tree.{IsUnicodeBlock, IsTransformBlock, by_singleton}
 use Rattle.iloc_spec_grammar.specs.Meaning.{Locale, Extensions, IdentifierMeans, map_of, normal_unicode}
-use Rattle.iloc_spec_grammar.specs.Meaning.{normal_transform, no_unicode, no_transform}
+use Rattle.iloc_spec_grammar.specs.Meaning.{normal_transform, no_unicode, no_transform, other_blocks}
 
 -- The rules of the grammar: what the pieces after a singleton mean.
 
@@ -57,10 +57,6 @@ grammar_rules T = record {
 
 -- Blocks and what they give by such rules.
 
--- the blocks of other extensions
-abbrev pub other_blocks : List Block → List Block
-other_blocks bs = filter (λ (c, _). is_other_singleton c) bs
-
 -- the block gives the part by its rule; an absent block gives the empty part
 abbrev pub PartIs : {X : Type 0} → (List Text → X → Type 0) → X → Option (List Text) → X → Type 0
 PartIs Rule empty block v = MatchOption block (v ≡ empty) (λ ps. Rule ps v)
@@ -74,9 +70,9 @@ pub record BlocksGive (R : Rules) (bs : List Block) (e : Extensions) : Type 0 wh
   pub transform : PartIs R.transform no_transform
       (find nat_cmp code_t (by_singleton bs)) e.transform
   pub private : PartIs R.private [] (find nat_cmp code_x (by_singleton bs)) e.private
-  pub each_other : AllByRecursion (λ (_, ps). R.other ps (kept ps)) (other_blocks (by_singleton bs))
+  pub each_other : AllByRecursion (λ (_, ps). R.other ps (kept ps)) (other_blocks bs)
   pub others : e.others
-      ≡ map_of nat_cmp (map (λ (c, ps). (c, kept ps)) (other_blocks (by_singleton bs)))
+      ≡ map_of nat_cmp (map (λ (c, ps). (c, kept ps)) (other_blocks bs))
 
 -- The head is an identifier, and the blocks after it give the extensions.
 pub record MeansBy (R : Rules) (T : LanguageLengths) (t : Text) (M : Locale) : Type 0 where

@@ -14,7 +14,7 @@ use Rattle.iloc_spec_grammar.specs.Syntax.{SpelledIdentifier, SpelledUnicode, Sp
 use Rattle.iloc_spec_grammar.specs.Syntax.{Fields, Unicode, Transform, identifier_pieces, kept, IsIdentifier}
 use Rattle.iloc_spec_grammar.specs.Syntax.{lower_singleton, HasWords, AllDifferent, IsUnicode, IsTransform}
 use Rattle.iloc_spec_grammar.specs.Syntax.{IsOther, unicode_pieces, transform_pieces, is_other_singleton}
-use Rattle.iloc_spec_grammar.specs.Syntax.{IsAmong}
+use Rattle.iloc_spec_grammar.specs.Syntax.{IsAmong, IsNonempty}
 use Rattle.std.specs.Char.{is_ascii_alphanumeric, to_ascii_lowercase}
 use Rattle.std.specs.List.{AllByRecursion}
 pub use Rattle.iloc_spec_grammar.specs.Syntax.{is_one_byte, front, blocks, head, tail_blocks, first_piece}
@@ -124,20 +124,23 @@ pub record IdentifierMeans (T : LanguageLengths) (ps : List Text) (i : Identifie
 abbrev pub after : ℕ → List Block → List Text
 after s bs = flat_map (λ (c, ps). if to_ascii_lowercase c == s then ps else []) bs
 
+-- the blocks of the other extensions, with their singletons in lower case
+abbrev pub other_blocks : List Block → List Block
+other_blocks bs =
+    filter (λ (c, _). is_other_singleton c) (map (λ (c, ps). (to_ascii_lowercase c, ps)) bs)
+
 -- What blocks spell: each has a letter or digit for its singleton, and pieces; no singleton stands
 -- twice; and the pieces after `u`, `t`, `x` and the others are those of parts that follow their
 -- rules. No block is left out: a letter or digit other than `u`, `t` and `x` is another singleton
 -- (UTS #35 3.2, `extensions` and `pu_extensions`).
 pub record SpellsExtensions (T : LanguageLengths) (bs : List Block)
     (w : SpelledExtensions) : Type 0 where
-  pub each_block : AllByRecursion (λ (c, ps). (is_ascii_alphanumeric c ≡ true) × (0 < length ps)) bs
+  pub each_block : AllByRecursion (λ (c, ps). (is_ascii_alphanumeric c ≡ true) × IsNonempty ps) bs
   pub different : AllDifferent nat_cmp (map (λ b. lower_singleton b) bs)
   pub unicode : IsUnicode w.unicode × (after code_u bs ≡ unicode_pieces w.unicode)
   pub transform : IsTransform T w.transform × (after code_t bs ≡ transform_pieces w.transform)
   pub private : AllByRecursion (IsWord PrivateSubtag) w.private × (after code_x bs ≡ w.private)
-  pub others : AllByRecursion (λ (_, ps). IsOther ps) w.others
-      × (filter (λ (c, _). is_other_singleton c) (map (λ (c, ps). (to_ascii_lowercase c, ps)) bs)
-      ≡ w.others)
+  pub others : AllByRecursion (λ (_, ps). IsOther ps) w.others × (other_blocks bs ≡ w.others)
 
 -- the blocks mean e: they spell extensions whose normal form it is
 abbrev pub BlocksMean : LanguageLengths → List Block → Extensions → Type 0
@@ -188,7 +191,7 @@ IsSecond earlier b = IsAmong nat_cmp (lower_singleton b) (map (λ c. lower_singl
 
 -- it is a block of `t`, with a variant that stands twice
 abbrev pub RepeatsAfterT : LanguageLengths → Block → Type 0
-RepeatsAfterT T b = (lower_singleton b ≡ code_t) × RepeatsVariant T b.1
+RepeatsAfterT T (c, ps) = (to_ascii_lowercase c ≡ code_t) × RepeatsVariant T ps
 
 -- What is wrong with a block: an earlier one has its singleton; or else a variant is repeated after
 -- `t`; or else the block alone breaks the rule of its singleton, or that is no letter or digit.

@@ -366,9 +366,13 @@ pub record IsIdentifier (T : LanguageLengths) (i : SpelledIdentifier) : Type 0 w
 abbrev pub IsKeyword : Field → Type 0
 IsKeyword (key, values) = IsWord UnicodeKey key × AllByRecursion (IsWord Attribute) values
 
+-- one item at least
+abbrev pub IsNonempty : {X : Type 0} → List X → Type 0
+IsNonempty xs = 0 < length xs
+
 -- a key of `t` with one value or more (UTS #35 3.2, `tfield`)
 abbrev pub IsField : Field → Type 0
-IsField (key, ws) = IsWord TransformKey key × AllByRecursion (IsWord Attribute) ws × (0 < length ws)
+IsField (key, ws) = IsWord TransformKey key × AllByRecursion (IsWord Attribute) ws × IsNonempty ws
 
 -- attributes and keywords (UTS #35 3.2, `unicode_locale_extensions`)
 pub record IsUnicode (u : SpelledUnicode) : Type 0 where
@@ -389,12 +393,12 @@ kept ps = map lower (filter (is_word Subtag) ps)
 -- that each is)
 pub record IsOther (ps : List Text) : Type 0 where
   pub lengths : AllByRecursion (λ p. is_in_range 2 8 (length p) ≡ true) ps
-  pub nonempty : 0 < length (kept ps)
+  pub nonempty : IsNonempty (kept ps)
 
 -- what follows `x`: private words, one at least (UTS #35 3.2, `pu_extensions`)
 pub record IsPrivate (ps : List Text) : Type 0 where
   pub words : AllByRecursion (IsWord PrivateSubtag) ps
-  pub nonempty : 0 < length ps
+  pub nonempty : IsNonempty ps
 
 -- of a singleton in lower case: a letter or digit other than `t`, `u` and `x`, which have rules of
 -- their own (UTS #35 3.2)

@@ -19,7 +19,7 @@ use Rattle.iloc_spec_grammar.specs.Syntax.{Stage, IdentifierOf, SpelledIdentifie
 use Rattle.iloc_spec_grammar.specs.Syntax.{SpelledTransform, Identifier, Unicode, Transform, Fields}
 use Rattle.iloc_spec_grammar.specs.Syntax.{optional_pieces, unicode_pieces, transform_pieces}
 use Rattle.iloc_spec_grammar.specs.Syntax.{is_other_singleton, identifier_pieces, fields_pieces, AllDifferent}
-use Rattle.iloc_spec_grammar.specs.Syntax.{HasWords, IsIdentifier, IsUnicode, IsTransform}
+use Rattle.iloc_spec_grammar.specs.Syntax.{HasWords, IsIdentifier, IsUnicode, IsTransform, IsNonempty}
 use Rattle.iloc_spec_grammar.specs.Meaning.{Locale, Extensions, Means}
 
 -- What the types keep.
@@ -148,7 +148,7 @@ pub record AreWellFormed (e : Extensions) : Type 0 where
   pub ascending : is_sorted nat_cmp e.others ≡ true
   pub singletons : AllByRecursion
       (λ (c, _). (is_other_singleton c ≡ true) × (to_ascii_lowercase c ≡ c)) e.others
-  pub nonempty : AllByRecursion (λ (_, ws). 0 < length ws) e.others
+  pub nonempty : AllByRecursion (λ (_, ws). IsNonempty ws) e.others
   pub values : AllByRecursion
       (λ (_, ws). AllByRecursion (λ w. (is_true w ≡ false) × (length w ≢ 2)) ws) e.unicode.keywords
 
@@ -249,7 +249,10 @@ abbrev pub FieldsStep : Rule → ℕ → Fields → Fields → Type 0
 FieldsStep FieldOrder n fs gs = AllDifferent word_cmp (map (λ (k, _). lower k) fs) × Reordered fs gs
 FieldsStep Repeats n fs gs = WithoutRepeats (λ (key, _). key) [] fs gs
 FieldsStep Trues n fs gs = AllZip (LessTrue n) fs gs
-FieldsStep r n fs gs = fs ≡ gs
+FieldsStep VariantOrder n fs gs = fs ≡ gs
+FieldsStep AttributeOrder n fs gs = fs ≡ gs
+FieldsStep DroppedPieces n fs gs = fs ≡ gs
+FieldsStep BlockOrder n fs gs = fs ≡ gs
 
 -- j is i with other variants: `en-posix-macos` to `en-macos-posix`
 abbrev pub IdentifierStep : Rule → SpelledIdentifier → SpelledIdentifier → Type 0
@@ -280,14 +283,21 @@ abbrev pub BlocksStep : LanguageLengths → Rule → List Block → List Block �
 BlocksStep T BlockOrder bs cs = Reordered bs cs
 BlocksStep T r bs cs = AllZip (BlockStep T r) bs cs
 
+-- the rule leads from an accepted text t to u, in the identifier and in the blocks
+pub record Rewrites (T : LanguageLengths) (r : Rule) (t u : Text) : Type 0 where
+  pub accepted : (M : Locale) × Means T t M
+  pub old : SpelledIdentifier
+  pub new : SpelledIdentifier
+  pub words : HasWords T old
+  pub old_spelled : head (pieces t) ≡ identifier_pieces old
+  pub new_spelled : head (pieces u) ≡ identifier_pieces new
+  pub id : IdentifierStep r old new
+  pub blocks : BlocksStep T r (tail_blocks (pieces t)) (tail_blocks (pieces u))
+
 -- one step leads from the text t to u: in the case of letters, as `EN-us` to `en-US`, or by a rule
--- in the identifier and the blocks of an accepted text
 pub data TextStep (T : LanguageLengths) (t u : Text) : Type 0 where
   letter_case : lower t ≡ lower u → TextStep T t u
-  rewritten : (r : Rule) {M : Locale} {i j : SpelledIdentifier} → Means T t M → HasWords T i
-      → head (pieces t) ≡ identifier_pieces i → head (pieces u) ≡ identifier_pieces j
-      → IdentifierStep r i j → BlocksStep T r (tail_blocks (pieces t)) (tail_blocks (pieces u))
-      → TextStep T t u
+  rewritten : (r : Rule) → Rewrites T r t u → TextStep T t u
 
 -- the same for the texts of identifiers: in the case of letters, or in the order of variants
 pub data IdentifierTextStep (T : LanguageLengths) (t u : Text) : Type 0 where

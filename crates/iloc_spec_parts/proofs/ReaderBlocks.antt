@@ -12,7 +12,8 @@ use Rattle.iloc_spec_grammar.specs.Syntax.{lower_singleton, is_one_byte, front, 
 use Rattle.iloc_spec_grammar.specs.Meaning.{Locale, Extensions, Means, no_unicode, no_transform, Fault}
 use Rattle.iloc_spec_grammar.specs.Tree.{by_singleton}
 use Rattle.iloc_spec_grammar.specs.ByBlocks.{UnicodeMeans, TransformMeans, OtherMeans, Rules, grammar_rules}
-use Rattle.iloc_spec_grammar.specs.ByBlocks.{other_blocks, PartIs, BlocksGive, MeansBy}
+use Rattle.iloc_spec_grammar.specs.ByBlocks.{PartIs, BlocksGive, MeansBy}
+use Rattle.iloc_spec_grammar.specs.Meaning.{other_blocks}
 use Rattle.iloc_spec_grammar.specs.Reading.{from_block}
 use Rattle.iloc_spec_grammar.proofs.ValuesLaws.{all_weaker, all_both}
 use Rattle.iloc_spec_grammar.proofs.SameMeaning.{means_by_blocks, blocks_mean}
@@ -63,7 +64,7 @@ found_closed q n (b ∷ bs) h = cond_both (eq_by_cmp nat_cmp q (lower_singleton 
     (λ e. found_closed q n bs h.1)
 
 others_closed : (bs : List Block) → AllByRecursion IsXOrClosed bs →
-    AllByRecursion (λ b. IsClosed b.1) (other_blocks (by_singleton bs))
+    AllByRecursion (λ b. IsClosed b.1) (other_blocks bs)
 others_closed [] h = tt
 others_closed (b ∷ bs) h =
     cond_both (is_other_singleton (lower_singleton b)) _ _ (AllByRecursion (λ b. IsClosed b.1))
