@@ -76,12 +76,22 @@ abbrev pub numbered : {X : Type 0} → ℕ → List X → List (X × ℕ)
 numbered n [] = []
 numbered n (x ∷ xs) = (x, n) ∷ numbered (n + 1) xs
 
+-- The numbers of `ethioaa` and `islamic` among the calendars, and of `civil` among the kinds.
+abbrev pub ethioaa : ℕ
+ethioaa = 4
+
+abbrev pub islamic : ℕ
+islamic = 9
+
+abbrev pub civil : ℕ
+civil = 2
+
 -- What is read beyond the variants, and as what: the kinds after `islamic`, and two old forms.
 abbrev pub further_readings : EnumKeyword → List (List Text × EnumValue)
-further_readings CalendarAlgorithm = map (λ (w, n). (codes "islamic" ∷ w ∷ [], (9, Some n)))
+further_readings CalendarAlgorithm = map (λ (w, n). (codes "islamic" ∷ w ∷ [], (islamic, Some n)))
     (numbered 0 hijri_kinds)
-    ++ (codes "islamicc" ∷ [], (9, Some 2))
-    ∷ (codes "ethiopic" ∷ codes "amete" ∷ codes "alem" ∷ [], (4, None)) ∷ []
+    ++ (codes "islamicc" ∷ [], (islamic, Some civil))
+    ∷ (codes "ethiopic" ∷ codes "amete" ∷ codes "alem" ∷ [], (ethioaa, None)) ∷ []
 further_readings _ = []
 
 -- All that is read, and as what.
