@@ -76,13 +76,15 @@ abbrev pub numbered : {X : Type 0} → ℕ → List X → List (X × ℕ)
 numbered n [] = []
 numbered n (x ∷ xs) = (x, n) ∷ numbered (n + 1) xs
 
--- The numbers of `ethioaa` and `islamic` among the calendars, and of `civil` among the kinds.
+-- The number of `ethioaa` among the calendars.
 abbrev pub ethioaa : ℕ
 ethioaa = 4
 
+-- The number of `islamic` among the calendars.
 abbrev pub islamic : ℕ
 islamic = 9
 
+-- The number of `civil` among the kinds.
 abbrev pub civil : ℕ
 civil = 2
 
