@@ -226,22 +226,18 @@ peeked_some (q ∷ ps) p e = λ h. cc
 -- the reading from the left is that of the longest front
 pub front_reads : (ps rest : List Text) (r : Result LanguageIdentifier ParseError) →
     FrontComputed ps rest r → FrontReads ps rest r
-front_reads (p ∷ ps) rest (Ok i) g = (
-  front_of (p ∷ ps),
-  subst (IdentifierFront languages (p ∷ ps) (front_of (p ∷ ps))) (sym g.3) (front_is_front p ps g.0),
-  g.1,
-  g.2,
-)
+front_reads (p ∷ ps) rest (Ok i) g = FrontReads.front_given (front_of (p ∷ ps))
+    (subst (IdentifierFront languages (p ∷ ps) (front_of (p ∷ ps))) (sym g.3) (front_is_front p ps g.0)) g.1 g.2
 front_reads (p ∷ ps) rest (Err InvalidSubtag) (inl g) = let other = g.0 in cc
 front_reads (p ∷ ps) rest (Err InvalidSubtag) (inr g) =
-    inr (refl, (front_of (p ∷ ps), after_front (p ∷ ps), front_is_front p ps g.1.0, g.1.1))
+    FrontReads.front_repeats (front_of (p ∷ ps)) (front_is_front p ps g.1.0) g.1.1
 front_reads (p ∷ ps) rest (Err OutOfMemory) g =
-    (front_of (p ∷ ps), after_front (p ∷ ps), front_is_front p ps g.0, g.1)
+    FrontReads.front_wants_memory (front_of (p ∷ ps)) (front_is_front p ps g.0) g.1
 front_reads [] rest (Ok i) g = no_language g.0
 front_reads [] rest (Err InvalidSubtag) (inl g) = let other = g.0 in cc
 front_reads [] rest (Err InvalidSubtag) (inr g) = no_language g.1.0
 front_reads [] rest (Err OutOfMemory) g = no_language g.0
-front_reads ps rest (Err InvalidLanguage) (inl g) = inl g
+front_reads ps rest (Err InvalidLanguage) (inl g) = FrontReads.front_lacks_language g.1
 front_reads ps rest (Err InvalidLanguage) (inr g) = let other = g.0 in cc
 front_reads ps rest (Err InvalidExtension) (inl g) = let other = g.0 in cc
 front_reads ps rest (Err InvalidExtension) (inr g) = let other = g.0 in cc

@@ -1,5 +1,5 @@
 -- What the readers of identifiers answer.
-use Rattle.std.specs.Prelude.{◌≡◌, ⊤, ℕ, ◌<◌, ◌⊎◌, false, List, [], length, map, None, Result, IfOk}
+use Rattle.std.specs.Prelude.{◌≡◌, ⊤, ℕ, ◌<◌, ◌⊎◌, false, List, [], length, map, None, Result, Ok, Err, IfOk}
 use Rattle.iloc_spec_grammar.specs.Syntax.{Text, Language, Variant, is_word, IsWord, lower, word_cmp}
 use Rattle.iloc_spec_grammar.specs.Syntax.{languages, SpelledIdentifier, Identifier, AllDifferent}
 use Rattle.iloc_spec_grammar.specs.Syntax.{first_piece, pieces}
@@ -9,6 +9,8 @@ use Rattle.iloc_spec_grammar.specs.Reading.{IdentifierFront}
 use Rattle.iloc_spec_grammar.specs.Values.{IdentifierTextStep, Leads}
 use Rattle.iloc_spec_grammar.specs.Reading.{passing, past, front_of, after_front}
 use Rattle.iloc_subtags.specs.declared.parse_error.ParseError.{ParseError}
+use Rattle.iloc_subtags.specs.declared.parse_error.ParseError.TheVariants.{InvalidLanguage, InvalidSubtag}
+use Rattle.iloc_subtags.specs.declared.parse_error.ParseError.TheVariants.{OutOfMemory}
 use Rattle.iloc_subtags.specs.Judging.{Answers, Only}
 use Rattle.iloc_langid.specs.declared.identifier.LanguageIdentifier.{LanguageIdentifier}
 
@@ -44,16 +46,18 @@ KeepsThroughSteps t r = IfOk r
     → IdentifierMeans languages (pieces u) (value_of i))
 
 -- what a longest front is read as, and the pieces that are left after it
-abbrev pub FrontReads : List Text → List Text → Result LanguageIdentifier ParseError → Type 0
-FrontReads ps rest = Answers
-    (λ i. (w : SpelledIdentifier) × IdentifierFront languages ps w rest
-    × AllDifferent word_cmp (map lower w.variants) × (value_of i ≡ normal_identifier w))
-    (λ f. Only faults.InvalidLanguage (is_word (Language languages) (first_piece ps) ≡ false) f
-    ⊎ Only faults.InvalidSubtag
-    ((w : SpelledIdentifier) × (more : List Text) × IdentifierFront languages ps w more
-    × ¬ (AllDifferent word_cmp (map lower w.variants))) f)
-    ((w : SpelledIdentifier) × (more : List Text) × IdentifierFront languages ps w more
-    × (4 < length w.variants))
+pub data FrontReads (ps rest : List Text) : Result LanguageIdentifier ParseError → Type 0 where
+  front_given : {i : LanguageIdentifier} (w : SpelledIdentifier) → IdentifierFront languages ps w rest
+      → AllDifferent word_cmp (map lower w.variants) → value_of i ≡ normal_identifier w
+      → FrontReads ps rest (Ok i)
+  front_lacks_language : is_word (Language languages) (first_piece ps) ≡ false
+      → FrontReads ps rest (Err InvalidLanguage)
+  front_repeats : (w : SpelledIdentifier) {more : List Text}
+      → IdentifierFront languages ps w more → ¬ (AllDifferent word_cmp (map lower w.variants))
+      → FrontReads ps rest (Err InvalidSubtag)
+  front_wants_memory : (w : SpelledIdentifier) {more : List Text}
+      → IdentifierFront languages ps w more → 4 < length w.variants
+      → FrontReads ps rest (Err OutOfMemory)
 
 -- the same by the reading from the left
 abbrev pub FrontComputed : List Text → List Text → Result LanguageIdentifier ParseError → Type 0

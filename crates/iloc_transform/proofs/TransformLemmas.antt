@@ -59,10 +59,10 @@ other_lang e f (q ∷ ps) p i h = let same : p ≡ q = cc in record {
 
 pub some_lang : (ps rest : List Text) (i : LanguageIdentifier) → FrontReads ps rest (Ok i) →
     LangRead ps (Some i) rest
-some_lang ps rest i r = record {
-  written = Some r.0;
-  front = present (record { words = r.1.words; different = r.2 }) r.1;
-  means = ap (λ j. Some j) r.3;
+some_lang ps rest i (FrontReads.front_given w front different means) = record {
+  written = Some w;
+  front = present (record { words = front.words; different = different }) front;
+  means = ap (λ j. Some j) means;
 }
 
 -- after a language, what is wrong with the front of an identifier is a repeated variant
@@ -70,20 +70,15 @@ pub front_refused : {E : Type 0} (e : E) (w p : Text) (ps rest left : List Text)
     Some p ≡ first_item ps → Ok w ≡ read (Language languages) e p → FrontReads ps rest (Err f) →
     LangFills ps left (Err f)
 front_refused e w p [] rest left f i h g = cc
-front_refused e w p (q ∷ ps) rest left InvalidLanguage i h (inl g) =
+front_refused e w p (q ∷ ps) rest left InvalidLanguage i h (FrontReads.front_lacks_language g) =
     let same : p ≡ q = cc in
     absurd (true≢false
-    (sym (accepted_from_read (Language languages) e p w h).0 ∙ ap (is_word (Language languages)) same ∙ g.1))
-front_refused e w p (q ∷ ps) rest left InvalidLanguage i h (inr g) = let other = g.0 in cc
-front_refused e w p (q ∷ ps) rest left InvalidSubtag i h (inl g) = let other = g.0 in cc
-front_refused e w p (q ∷ ps) rest left InvalidSubtag i h (inr g) =
-    let (v, more, front, twice) = g.1 in (refl, (v, more, front.words, front.spelled, twice))
-front_refused e w p (q ∷ ps) rest left InvalidExtension i h (inl g) = let other = g.0 in cc
-front_refused e w p (q ∷ ps) rest left InvalidExtension i h (inr g) = let other = g.0 in cc
-front_refused e w p (q ∷ ps) rest left DuplicatedExtension i h (inl g) = let other = g.0 in cc
-front_refused e w p (q ∷ ps) rest left DuplicatedExtension i h (inr g) = let other = g.0 in cc
-front_refused e w p (q ∷ ps) rest left OutOfMemory i h g =
-    let (v, more, front, five) = g in record { written = v; rest = more; front = front; many = five }
+    (sym (accepted_from_read (Language languages) e p w h).0 ∙ ap (is_word (Language languages)) same ∙ g))
+front_refused e w p (q ∷ ps) rest left InvalidSubtag i h
+    (FrontReads.front_repeats v {more = more} front twice) =
+    (refl, (v, more, front.words, front.spelled, twice))
+front_refused e w p (q ∷ ps) rest left OutOfMemory i h (FrontReads.front_wants_memory v {more = more} front five) =
+    record { written = v; rest = more; front = front; many = five }
 
 -- fields that mean none are none
 
