@@ -89,3 +89,29 @@ pub fn cut_keyword(block: &[u8]) -> (&[u8], &[u8], &[u8]) {
     }
     (key, rest, &[])
 }
+
+/// The keywords of the unicode extension, behind its attributes.
+pub fn unicode_keywords(extensions: &[u8]) -> &[u8] {
+    let mut rest = unicode_block(extensions);
+    for _ in 0..extensions.len() {
+        let (piece, later) = cut_piece(rest);
+        if piece.len() == 2 {
+            break;
+        }
+        rest = later;
+    }
+    rest
+}
+
+// What follows the singleton `u`.
+fn unicode_block(extensions: &[u8]) -> &[u8] {
+    let mut rest = extensions;
+    for _ in 0..extensions.len() {
+        let (singleton, block, later) = cut_block(rest);
+        if matches!(singleton, b"u") {
+            return block;
+        }
+        rest = later;
+    }
+    &[]
+}
