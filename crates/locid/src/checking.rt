@@ -32,9 +32,9 @@ pub struct Checking<'a, A> {
     alloc: Global,
     answers: A,
     report: Report<'a>,
-    // Room for what is written, and for words in it.
+    // Room for what is written of a line, and for the advice in it.
     room: ReplyBlock,
-    words: Vec<u8>,
+    advice: Vec<u8>,
     tally: &'a mut Tally,
 }
 
@@ -45,7 +45,7 @@ impl<'a, A> Checking<'a, A> {
             answers,
             report,
             room: ReplyBlock::new(alloc),
-            words: Vec::new(alloc),
+            advice: Vec::new(alloc),
             tally,
         }
     }
@@ -70,17 +70,40 @@ impl<A: InMode> Lists for Checking<'_, A> {
                 self.tally.refused = self.tally.refused.saturating_add(1);
                 self.room.clear();
                 if self.report.writes {
-                    write_place(self.report.name, number, &fault, &mut self.room)?;
-                    write_subtag(text, &fault, &mut self.room)?;
-                    write_advice(mode, text, fault.start, &mut self.words, &mut self.room)?;
-                }
-                if self.report.shows {
-                    write_line(text, &fault, &mut self.room)?;
+                    write_advice(mode, text, fault.start, &mut self.advice)?;
+                    write_report(
+                        self.report,
+                        number,
+                        text,
+                        &fault,
+                        &self.advice,
+                        &mut self.room,
+                    )?;
                 }
                 replies.extend_from_slice(self.room.as_slice())
             }
         }
     }
+}
+
+// Adds what is written of a refused line.
+fn write_report(
+    report: Report<'_>,
+    number: u64,
+    line: &[u8],
+    fault: &Fault,
+    advice: &[u8],
+    to: &mut ReplyBlock,
+) -> Result<(), AllocError>
+    requires { StandsWithin line.now fault.now }
+{
+    write_place(report.name, number, fault, to)?;
+    write_subtag(line, fault, to)?;
+    to.extend_from_slice(advice)?;
+    if report.shows {
+        return write_line(line, fault, to);
+    }
+    Ok(())
 }
 
 // Adds where and why a line is refused.
@@ -113,26 +136,24 @@ fn write_subtag(line: &[u8], fault: &Fault, to: &mut ReplyBlock) -> Result<(), A
     to.extend_from_slice(b"(empty)")
 }
 
-// Adds what may stand at the place, and what is usually meant by the line. The words are gathered in a room.
+// Has the room hold what may stand at the place, and what is usually meant by the line.
 fn write_advice(
     mode: Mode,
     line: &[u8],
     place: usize,
-    words: &mut Vec<u8>,
-    to: &mut ReplyBlock,
+    room: &mut Vec<u8>,
 ) -> Result<(), AllocError> {
-    words.clear();
-    words.extend_from_slice(b": ")?;
-    if expected(mode, line, place).write_to(words).is_err() {
+    room.clear();
+    room.extend_from_slice(b": ")?;
+    if expected(mode, line, place).write_to(room).is_err() {
         return Err(AllocError);
     }
-    words.extend_from_slice(b" may stand here")?;
+    room.extend_from_slice(b" may stand here")?;
     if let Some(hint) = hint(mode, line) {
-        words.extend_from_slice(b"; ")?;
-        words.extend_from_slice(hint.words().as_bytes())?;
+        room.extend_from_slice(b"; ")?;
+        room.extend_from_slice(hint.words().as_bytes())?;
     }
-    words.push(b'\n')?;
-    to.extend_from_slice(words.as_slice())
+    room.extend_from_slice(b"\n")
 }
 
 // Adds the line, and below it a caret for each sign of the piece at which the fault stands.

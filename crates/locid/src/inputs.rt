@@ -3,7 +3,7 @@
 use crate::checking::Report;
 use crate::lines::{check, list, part};
 use crate::messages::{complain_of_stream, say};
-use crate::streams::{Origin, Source, Target};
+use crate::streams::{Source, Target};
 use crate::table::Command;
 use crate::words::{Settings, TROUBLE, WORD, Words};
 use iloc_program::RunError;
@@ -55,7 +55,7 @@ impl<W: Write + Drop> Inputs<W> {
         let settings = words.settings;
         let answers = !settings.only_counts() && !matches!(command, Command::Check);
         // (what is said of lines, other than their answers, are lines of their own)
-        let by_zero = settings.reading.by_zero && answers;
+        let by_zero = settings.reading().by_zero && answers;
         Inputs {
             command,
             settings,
@@ -92,27 +92,27 @@ impl<W: Write + Drop> Inputs<W> {
     where
         R: Input + Eprint + Files + AllocGlobal,
     {
-        let from = if name == "-" {
-            Origin::Input(rt.reader())
-        } else {
-            match fs::open(rt, name) {
-                Ok(file) => Origin::File(file),
-                Err(error) => {
-                    complain_of_stream(rt, name, Some(error));
-                    self.is_missing = true;
-                    return None;
-                }
-            }
-        };
-        let mut source = Source::new(from, self.settings.reading.by_zero);
+        if name == "-" {
+            return self.answer_stream(rt, name, rt.reader());
+        }
+        match fs::open(rt, name) {
+            Ok(file) => self.answer_stream(rt, name, file),
+            Err(error) => self.miss(rt, name, Some(error)),
+        }
+    }
+
+    // Answers the lines of a stream.
+    fn answer_stream<R: Read + Drop>(
+        &mut self,
+        rt: &(impl Eprint + AllocGlobal),
+        name: &str,
+        from: R,
+    ) -> Option<u8> {
+        let mut source = Source::new(from, self.settings.reading().by_zero);
         match self.answer_lines(rt.alloc(), name, &mut source) {
             Ok(()) => None,
-            Err(RunError::Read) => {
-                complain_of_stream(rt, name, source.error);
-                self.is_missing = true;
-                None
-            }
-            Err(RunError::Write) => Some(self.complain_of_output(rt)),
+            Err(RunError::Read) => self.miss(rt, name, source.error),
+            Err(RunError::Write) => Some(complain_of_output(rt, self.target.error)),
             Err(RunError::OutOfMemory) => {
                 say(rt, "out of memory");
                 Some(TROUBLE)
@@ -120,6 +120,19 @@ impl<W: Write + Drop> Inputs<W> {
         }
     }
 
+    // Names an input that could not be read. The next one is read.
+    fn miss(
+        &mut self,
+        rt: &(impl Eprint + AllocGlobal),
+        name: &str,
+        error: Option<io::Error>,
+    ) -> Option<u8> {
+        complain_of_stream(rt, name, error);
+        self.is_missing = true;
+        None
+    }
+
+    // Does with lines what is asked for, and counts them.
     fn answer_lines<R: Read + Drop>(
         &mut self,
         alloc: Global,
@@ -127,22 +140,21 @@ impl<W: Write + Drop> Inputs<W> {
         source: &mut Source<R>,
     ) -> Result<(), RunError> {
         let settings = self.settings;
-        let reading = settings.reading;
+        let reading = settings.reading();
         let to = &mut self.target;
         let mut tally = Tally::new();
         let outcome = match self.command {
             Command::Normalize if !settings.only_counts() => {
-                let is_named = self.are_many && settings.listing.numbers;
+                let is_named = self.are_many && settings.numbers;
                 let named = if is_named { Some(name) } else { None };
                 list(alloc, reading, settings.listing(), named, source, to)
             }
             Command::Parts => part(alloc, reading, settings.format, &mut tally, source, to),
             _ => {
-                let writes = !settings.only_counts();
                 let report = Report {
                     name,
-                    writes,
-                    shows: writes && settings.shows,
+                    writes: !settings.only_counts(),
+                    shows: settings.shows,
                 };
                 check(alloc, reading, report, &mut tally, source, to)
             }
@@ -167,11 +179,6 @@ impl<W: Write + Drop> Inputs<W> {
         }
         let says = is_check || self.settings.exit_status || self.settings.is_quiet;
         u8::from(says && (refused > 0 || self.target.is_refused))
-    }
-
-    // Says why nothing more can be written, and returns the status. A closed pipe needs no word.
-    fn complain_of_output(&self, rt: &(impl Eprint + AllocGlobal)) -> u8 {
-        complain_of_output(rt, self.target.error)
     }
 }
 

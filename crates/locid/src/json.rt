@@ -1,6 +1,6 @@
 //! The JSON objects of lines. `serde_json` writes them.
 
-use crate::parts::{Parts, cut_block, cut_keyword, cut_piece, unicode_keywords};
+use crate::parts::{Parts, cut_member, cut_piece, keywords_in};
 use iloc_faults::Fault;
 use serde::{Described, Serialize, Serializer};
 use std::alloc::{AllocError, Global};
@@ -13,8 +13,8 @@ struct Accepted<'a> {
     script: Option<&'a str>,
     region: Option<&'a str>,
     variants: Variants<'a>,
-    keywords: Keywords<'a>,
-    extensions: Extensions<'a>,
+    keywords: Members<'a>,
+    extensions: Members<'a>,
 }
 
 // Of a line that is refused.
@@ -29,13 +29,9 @@ struct Refused<'a> {
 #[derive(Clone, Copy)]
 struct Variants<'a>(&'a [u8]);
 
-// All keywords, from the first key on. Written, they are an object of keys and values.
+// Keywords or extensions, and how many bytes their keys have. Written, they are an object.
 #[derive(Clone, Copy)]
-struct Keywords<'a>(&'a [u8]);
-
-// All extensions. Written, they are an object of singletons and what follows each.
-#[derive(Clone, Copy)]
-struct Extensions<'a>(&'a [u8]);
+struct Members<'a>(&'a [u8], usize);
 
 /// The object of a line with these parts.
 pub fn parts_object(alloc: Global, parts: &Parts<'_>) -> Result<Vec<u8>, AllocError> {
@@ -46,8 +42,8 @@ pub fn parts_object(alloc: Global, parts: &Parts<'_>) -> Result<Vec<u8>, AllocEr
             script: present(parts.script),
             region: present(parts.region),
             variants: Variants(parts.variants),
-            keywords: Keywords(unicode_keywords(parts.extensions)),
-            extensions: Extensions(parts.extensions),
+            keywords: Members(keywords_in(parts.extensions), 2),
+            extensions: Members(parts.extensions, 1),
         },
     )
 }
@@ -103,35 +99,16 @@ impl Serialize for Variants<'_> {
     }
 }
 
-impl Described for Keywords<'_> {}
+impl Described for Members<'_> {}
 
-impl Serialize for Keywords<'_> {
+impl Serialize for Members<'_> {
     fn serialize<S: Serializer>(&self, out: &mut S) -> Result<(), S::Error> {
         out.begin_map(None)?;
         let mut rest = self.0;
         for _ in 0..self.0.len() {
-            let (key, value, later) = cut_keyword(rest);
+            let (key, value, later) = cut_member(rest, self.1);
             out.key(text_of(key))?;
             out.str(text_of(value))?;
-            if later.is_empty() {
-                break;
-            }
-            rest = later;
-        }
-        out.end_map()
-    }
-}
-
-impl Described for Extensions<'_> {}
-
-impl Serialize for Extensions<'_> {
-    fn serialize<S: Serializer>(&self, out: &mut S) -> Result<(), S::Error> {
-        out.begin_map(None)?;
-        let mut rest = self.0;
-        for _ in 0..self.0.len() {
-            let (singleton, block, later) = cut_block(rest);
-            out.key(text_of(singleton))?;
-            out.str(text_of(block))?;
             if later.is_empty() {
                 break;
             }

@@ -2,7 +2,7 @@
 
 use crate::inputs::Tally;
 use crate::json::{fault_object, parts_object};
-use crate::parts::{Parts, cut, cut_keyword, unicode_keywords};
+use crate::parts::{Parts, cut, cut_member, keywords_in};
 use crate::words::Format;
 use iloc_faults::{Fault, InMemory, fault_in};
 use iloc_pieces::Window;
@@ -114,7 +114,7 @@ fn write_columns(parts: &Parts<'_>, to: &mut ReplyBlock) -> Result<(), AllocErro
         to.extend_from_slice(part)?;
         to.push(b'\t')?;
     }
-    write_keywords(unicode_keywords(parts.extensions), to)?;
+    write_keywords(keywords_in(parts.extensions), to)?;
     to.push(b'\t')?;
     to.extend_from_slice(parts.extensions)
 }
@@ -123,7 +123,7 @@ fn write_columns(parts: &Parts<'_>, to: &mut ReplyBlock) -> Result<(), AllocErro
 fn write_keywords(keywords: &[u8], to: &mut ReplyBlock) -> Result<(), AllocError> {
     let mut rest = keywords;
     for _ in 0..keywords.len() {
-        let (key, value, later) = cut_keyword(rest);
+        let (key, value, later) = cut_member(rest, 2);
         to.extend_from_slice(key)?;
         if !value.is_empty() {
             to.push(b'=')?;

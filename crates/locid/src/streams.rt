@@ -5,22 +5,6 @@ ghost use Rattle.std.specs.Prelude.{◌≡◌, length, None, if◌then◌else◌
 use std::io;
 use std::io::{Read, Write};
 
-/// Where lines come from.
-#[derive(Drop)]
-pub enum Origin<R, F> {
-    Input(R),
-    File(F),
-}
-
-impl<R: Read + Drop, F: Read + Drop> Read for Origin<R, F> {
-    fn read(&mut self, buf: &mut [u8]) -> io::Result<usize> {
-        match self {
-            Origin::Input(input) => input.read(buf),
-            Origin::File(file) => file.read(buf),
-        }
-    }
-}
-
 /// Lines as they come. What it gives is what the reader below gives, unless the ends of lines are changed.
 #[derive(Drop)]
 pub struct Source<R> {

@@ -77,26 +77,22 @@ pub fn flag_lettered(letter: u8) -> Option<Flag> {
 
 /// Whether the command has the option. Before a command there are --help and --version.
 pub fn has(command: Option<Command>, flag: Flag) -> bool {
-    let Some(command) = command else {
-        return matches!(flag, Flag::Help | Flag::Version);
-    };
-    match flag {
-        Flag::Where | Flag::LineNumber | Flag::OnlyRefused => {
-            matches!(command, Command::Normalize)
-        }
-        Flag::Show => {
-            matches!(command, Command::Check)
-        }
-        Flag::Format => {
-            matches!(command, Command::Parts)
-        }
-        Flag::ExitStatus => {
-            matches!(command, Command::Normalize | Command::Parts)
-        }
-        Flag::Quiet | Flag::Count => {
-            matches!(command, Command::Normalize | Command::Check)
-        }
-        _ => true,
+    match command {
+        None => matches!(flag, Flag::Help | Flag::Version),
+        Some(Command::Normalize) => !matches!(flag, Flag::Show | Flag::Format),
+        Some(Command::Check) => !matches!(
+            flag,
+            Flag::Where | Flag::LineNumber | Flag::OnlyRefused | Flag::Format | Flag::ExitStatus
+        ),
+        Some(Command::Parts) => !matches!(
+            flag,
+            Flag::Where
+                | Flag::LineNumber
+                | Flag::OnlyRefused
+                | Flag::Show
+                | Flag::Quiet
+                | Flag::Count
+        ),
     }
 }
 

@@ -18,56 +18,49 @@ pub const WORD: usize = 4096;
 pub const TROUBLE: u8 = 2;
 
 /// How parts are written.
-#[derive(Clone, Copy)]
+#[derive(Clone, Copy, Default)]
 pub enum Format {
+    #[default]
     Tsv,
     Json,
 }
 
-/// What is done with lines.
-#[derive(Clone, Copy)]
+/// What is done with lines: which options were met, and the words behind two of them.
+#[derive(Clone, Copy, Default)]
 pub struct Settings {
-    pub reading: Reading,
-    pub listing: Listing,
-    /// Whether the status says that a line was refused.
-    pub exit_status: bool,
-    /// Whether nothing is written of lines.
-    pub is_quiet: bool,
-    /// Whether lines are counted in place of what is else written of them.
-    pub counts: bool,
-    /// Whether refused lines are shown.
-    pub shows: bool,
+    mode: Option<Mode>,
     pub format: Format,
+    cleans: bool,
+    by_zero: bool,
+    places: bool,
+    pub numbers: bool,
+    only_refused: bool,
+    pub exit_status: bool,
+    pub is_quiet: bool,
+    pub counts: bool,
+    pub shows: bool,
 }
 
 impl Settings {
-    fn new() -> Settings {
-        Settings {
-            reading: Reading {
-                mode: Mode::Locale,
-                cleans: false,
-                by_zero: false,
-            },
-            listing: Listing {
-                places: false,
-                numbers: false,
-                only_refused: false,
-            },
-            exit_status: false,
-            is_quiet: false,
-            counts: false,
-            shows: false,
-            format: Format::Tsv,
+    /// How lines are read.
+    pub fn reading(&self) -> Reading {
+        Reading {
+            mode: self.mode.unwrap_or(Mode::Locale),
+            cleans: self.cleans,
+            by_zero: self.by_zero,
         }
     }
 
     /// How lines are listed, if any of it is asked for.
     pub fn listing(&self) -> Option<Listing> {
-        let asked = self.listing;
-        if asked.places || asked.numbers || asked.only_refused {
-            return Some(asked);
+        if !self.places && !self.numbers && !self.only_refused {
+            return None;
         }
-        None
+        Some(Listing {
+            places: self.places,
+            numbers: self.numbers,
+            only_refused: self.only_refused,
+        })
     }
 
     /// Whether nothing is written of lines but how many there are, or nothing at all.
@@ -78,11 +71,11 @@ impl Settings {
     // Notes an option without a word behind it.
     fn meet(&mut self, flag: Flag) {
         match flag {
-            Flag::Clean => self.reading.cleans = true,
-            Flag::Null => self.reading.by_zero = true,
-            Flag::Where => self.listing.places = true,
-            Flag::LineNumber => self.listing.numbers = true,
-            Flag::OnlyRefused => self.listing.only_refused = true,
+            Flag::Clean => self.cleans = true,
+            Flag::Null => self.by_zero = true,
+            Flag::Where => self.places = true,
+            Flag::LineNumber => self.numbers = true,
+            Flag::OnlyRefused => self.only_refused = true,
             Flag::Show => self.shows = true,
             Flag::ExitStatus => self.exit_status = true,
             Flag::Quiet => self.is_quiet = true,
@@ -128,7 +121,7 @@ impl Words {
     pub fn new(alloc: Global) -> Words {
         Words {
             command: None,
-            settings: Settings::new(),
+            settings: Settings::default(),
             files: Vec::new(alloc),
             is_ended: false,
         }
@@ -264,7 +257,7 @@ impl Words {
         match flag {
             Flag::Help => Err(Stop::Asked(Asked::Help(self.command))),
             Flag::Version => Err(Stop::Asked(Asked::Version)),
-            Flag::Mode | Flag::Format => Ok(Some(flag)),
+            _ if takes_value(flag) => Ok(Some(flag)),
             _ => {
                 self.settings.meet(flag);
                 Ok(None)
@@ -278,7 +271,7 @@ impl Words {
             let Some(mode) = Mode::from_word(value) else {
                 return Err(Stop::Wrong("--mode is langid, locale or data, and not ", value));
             };
-            self.settings.reading.mode = mode;
+            self.settings.mode = Some(mode);
             return Ok(None);
         }
         self.settings.format = match value {
