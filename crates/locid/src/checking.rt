@@ -1,14 +1,18 @@
-//! Lines as a linter checks them: for each refused line its file, number and column, why it is refused, and the subtag.
+//! Lines as a linter checks them: for each refused line its file, number and column, why it is refused, the subtag, what
+//! may stand in its place, and what is usually meant by the line.
 
 ghost use Rattle.locid.specs.Checked.{IsChecked};
 ghost use Rattle.iloc_program.specs.Listing.{StandsWithin};
 
 use crate::inputs::Tally;
+use iloc_expected::expected;
 use iloc_faults::{Fault, InMemory, fault_in};
+use iloc_hints::hint;
 use iloc_pieces::Window;
 use iloc_program::numbered::Lists;
 use iloc_program::quoting::{write_decimal, write_shown};
-use iloc_program::{InMode, Listing, ReplyBlock};
+use iloc_program::{InMode, Listing, Mode, ReplyBlock};
+use iloc_writeable::Writeable;
 use std::alloc::{AllocError, Global};
 
 /// What is written of refused lines.
@@ -28,8 +32,9 @@ pub struct Checking<'a, A> {
     alloc: Global,
     answers: A,
     report: Report<'a>,
-    // Room for what is written.
+    // Room for what is written of a line, and for the advice in it.
     room: ReplyBlock,
+    advice: Vec<u8>,
     tally: &'a mut Tally,
 }
 
@@ -40,6 +45,7 @@ impl<'a, A> Checking<'a, A> {
             answers,
             report,
             room: ReplyBlock::new(alloc),
+            advice: Vec::new(alloc),
             tally,
         }
     }
@@ -63,78 +69,110 @@ impl<A: InMode> Lists for Checking<'_, A> {
             Some(fault) => {
                 self.tally.refused = self.tally.refused.saturating_add(1);
                 self.room.clear();
-                write_report(self.report, number, text, &fault, &mut self.room)?;
+                if self.report.writes {
+                    write_advice(mode, text, fault.start, &mut self.advice)?;
+                    write_report(
+                        self.report,
+                        number,
+                        text,
+                        &fault,
+                        &self.advice,
+                        &mut self.room,
+                    )?;
+                }
                 replies.extend_from_slice(self.room.as_slice())
             }
         }
     }
 }
 
-// Adds what is written of a refused line, if anything is.
+// Adds what is written of a refused line.
 fn write_report(
     report: Report<'_>,
     number: u64,
     line: &[u8],
     fault: &Fault,
-    replies: &mut ReplyBlock,
+    advice: &[u8],
+    to: &mut ReplyBlock,
 ) -> Result<(), AllocError>
     requires { StandsWithin line.now fault.now }
 {
-    if !report.writes {
-        return Ok(());
-    }
-    write_refusal(report.name, number, line, fault, replies)?;
+    write_place(report.name, number, fault, to)?;
+    write_subtag(line, fault, to)?;
+    to.extend_from_slice(advice)?;
     if report.shows {
-        write_line(line, fault, replies)?;
+        return write_line(line, fault, to);
     }
     Ok(())
 }
 
-// Adds where and why a line is refused, and the piece at which the fault stands.
-fn write_refusal(
+// Adds where and why a line is refused.
+fn write_place(
     name: &str,
     number: u64,
-    line: &[u8],
     fault: &Fault,
-    replies: &mut ReplyBlock,
-) -> Result<(), AllocError>
+    to: &mut ReplyBlock,
+) -> Result<(), AllocError> {
+    to.extend_from_slice(name.as_bytes())?;
+    to.push(b':')?;
+    write_decimal(number, to)?;
+    to.push(b':')?;
+    write_decimal((fault.start as u64).saturating_add(1), to)?;
+    to.extend_from_slice(b": ")?;
+    to.extend_from_slice(fault.refusal.words().as_bytes())?;
+    to.extend_from_slice(b": ")
+}
+
+// Adds the piece at which the fault stands.
+fn write_subtag(line: &[u8], fault: &Fault, to: &mut ReplyBlock) -> Result<(), AllocError>
     requires { StandsWithin line.now fault.now }
 {
-    replies.extend_from_slice(name.as_bytes())?;
-    replies.push(b':')?;
-    write_decimal(number, replies)?;
-    replies.push(b':')?;
-    write_decimal((fault.start as u64).saturating_add(1), replies)?;
-    replies.extend_from_slice(b": ")?;
-    replies.extend_from_slice(fault.refusal.words().as_bytes())?;
-    replies.extend_from_slice(b": ")?;
     if fault.start < fault.end {
-        write_shown(&line[fault.start..fault.end], replies)?;
-    } else if fault.end == line.len() {
-        replies.extend_from_slice(b"(end of line)")?;
-    } else {
-        replies.extend_from_slice(b"(empty)")?;
+        return write_shown(&line[fault.start..fault.end], to);
     }
-    replies.push(b'\n')
+    if fault.end == line.len() {
+        return to.extend_from_slice(b"(end of line)");
+    }
+    to.extend_from_slice(b"(empty)")
+}
+
+// Has the room hold what may stand at the place, and what is usually meant by the line.
+fn write_advice(
+    mode: Mode,
+    line: &[u8],
+    place: usize,
+    room: &mut Vec<u8>,
+) -> Result<(), AllocError> {
+    room.clear();
+    room.extend_from_slice(b": ")?;
+    if expected(mode, line, place).write_to(room).is_err() {
+        return Err(AllocError);
+    }
+    room.extend_from_slice(b" may stand here")?;
+    if let Some(hint) = hint(mode, line) {
+        room.extend_from_slice(b"; ")?;
+        room.extend_from_slice(hint.words().as_bytes())?;
+    }
+    room.extend_from_slice(b"\n")
 }
 
 // Adds the line, and below it a caret for each sign of the piece at which the fault stands.
-fn write_line(line: &[u8], fault: &Fault, replies: &mut ReplyBlock) -> Result<(), AllocError>
+fn write_line(line: &[u8], fault: &Fault, to: &mut ReplyBlock) -> Result<(), AllocError>
     requires { StandsWithin line.now fault.now }
 {
-    replies.extend_from_slice(b"    ")?;
-    let start = replies.as_slice().len();
-    write_shown(&line[..fault.start], replies)?;
-    let blanks = replies.as_slice().len().saturating_sub(start);
-    write_shown(&line[fault.start..fault.end], replies)?;
-    let both = replies.as_slice().len().saturating_sub(start);
-    write_shown(&line[fault.end..], replies)?;
-    replies.extend_from_slice(b"\n    ")?;
+    to.extend_from_slice(b"    ")?;
+    let start = to.as_slice().len();
+    write_shown(&line[..fault.start], to)?;
+    let blanks = to.as_slice().len().saturating_sub(start);
+    write_shown(&line[fault.start..fault.end], to)?;
+    let both = to.as_slice().len().saturating_sub(start);
+    write_shown(&line[fault.end..], to)?;
+    to.extend_from_slice(b"\n    ")?;
     for _ in 0..blanks {
-        replies.push(b' ')?;
+        to.push(b' ')?;
     }
     for _ in blanks..both.max(blanks.saturating_add(1)) {
-        replies.push(b'^')?;
+        to.push(b'^')?;
     }
-    replies.push(b'\n')
+    to.push(b'\n')
 }

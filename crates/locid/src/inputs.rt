@@ -2,11 +2,12 @@
 
 use crate::checking::Report;
 use crate::lines::{check, list, part};
-use crate::messages::complain_of_stream;
-use crate::streams::{Origin, Source, Target};
+use crate::messages::{complain_of_stream, say};
+use crate::streams::{Source, Target};
 use crate::table::Command;
 use crate::words::{Settings, TROUBLE, WORD, Words};
 use iloc_program::RunError;
+use std::alloc::Global;
 use std::fs::Files;
 use std::io::{ErrorKind, Input, Read, Write};
 use std::rt::Env;
@@ -52,11 +53,14 @@ const CLOSED_PIPE: u8 = 141;
 impl<W: Write + Drop> Inputs<W> {
     pub fn new(command: Command, words: &Words, to: W) -> Self {
         let settings = words.settings;
+        let answers = !settings.only_counts() && !matches!(command, Command::Check);
+        // (what is said of lines, other than their answers, are lines of their own)
+        let by_zero = settings.reading().by_zero && answers;
         Inputs {
             command,
             settings,
             are_many: words.files.len() > 1,
-            target: Target::new(to, settings.exit_status),
+            target: Target::new(to, by_zero, settings.exit_status),
             tally: Tally::new(),
             is_missing: false,
         }
@@ -74,14 +78,8 @@ impl<W: Write + Drop> Inputs<W> {
         }
         for at in words.files.as_slice() {
             let mut room = [0u8; WORD];
-            let count = match rt.arg(*at, &mut room) {
-                Ok(count) => count,
-                Err(_) => 0,
-            };
-            let name = match str::from_utf8(&room[..count]) {
-                Ok(name) => name,
-                Err(_) => "",
-            };
+            let count = rt.arg(*at, &mut room).unwrap_or(0);
+            let name = str::from_utf8(&room[..count]).unwrap_or("");
             if let Some(status) = self.answer_one(rt, name) {
                 return status;
             }
@@ -94,72 +92,72 @@ impl<W: Write + Drop> Inputs<W> {
     where
         R: Input + Eprint + Files + AllocGlobal,
     {
-        let from = if name == "-" {
-            Origin::Input(rt.reader())
-        } else {
-            match fs::open(rt, name) {
-                Ok(file) => Origin::File(file),
-                Err(error) => {
-                    complain_of_stream(rt, name, Some(error));
-                    self.is_missing = true;
-                    return None;
-                }
-            }
-        };
-        let mut source = Source::new(from);
-        match self.answer_lines(rt, name, &mut source) {
+        if name == "-" {
+            return self.answer_stream(rt, name, rt.reader());
+        }
+        match fs::open(rt, name) {
+            Ok(file) => self.answer_stream(rt, name, file),
+            Err(error) => self.miss(rt, name, Some(error)),
+        }
+    }
+
+    // Answers the lines of a stream.
+    fn answer_stream<R: Read + Drop>(
+        &mut self,
+        rt: &(impl Eprint + AllocGlobal),
+        name: &str,
+        from: R,
+    ) -> Option<u8> {
+        let mut source = Source::new(from, self.settings.reading().by_zero);
+        match self.answer_lines(rt.alloc(), name, &mut source) {
             Ok(()) => None,
-            Err(RunError::Read) => {
-                complain_of_stream(rt, name, source.error);
-                self.is_missing = true;
-                None
-            }
-            Err(RunError::Write) => Some(self.complain_of_output(rt)),
+            Err(RunError::Read) => self.miss(rt, name, source.error),
+            Err(RunError::Write) => Some(complain_of_output(rt, self.target.error)),
             Err(RunError::OutOfMemory) => {
-                let _ = eprintln!(rt; "locid: out of memory");
+                say(rt, "out of memory");
                 Some(TROUBLE)
             }
         }
     }
 
+    // Names an input that could not be read. The next one is read.
+    fn miss(
+        &mut self,
+        rt: &(impl Eprint + AllocGlobal),
+        name: &str,
+        error: Option<io::Error>,
+    ) -> Option<u8> {
+        complain_of_stream(rt, name, error);
+        self.is_missing = true;
+        None
+    }
+
+    // Does with lines what is asked for, and counts them.
     fn answer_lines<R: Read + Drop>(
         &mut self,
-        rt: &impl AllocGlobal,
+        alloc: Global,
         name: &str,
         source: &mut Source<R>,
     ) -> Result<(), RunError> {
-        let alloc = rt.alloc();
         let settings = self.settings;
-        let reading = settings.reading;
+        let reading = settings.reading();
+        let to = &mut self.target;
         let mut tally = Tally::new();
-        let counts = settings.counts || settings.is_quiet;
-        let report = Report {
-            name,
-            writes: !counts,
-            shows: settings.shows,
-        };
         let outcome = match self.command {
-            Command::Normalize if !counts => {
-                let is_named = self.are_many && settings.listing.numbers;
+            Command::Normalize if !settings.only_counts() => {
+                let is_named = self.are_many && settings.numbers;
                 let named = if is_named { Some(name) } else { None };
-                list(
-                    alloc,
-                    reading,
-                    settings.listing(),
-                    named,
-                    source,
-                    &mut self.target,
-                )
+                list(alloc, reading, settings.listing(), named, source, to)
             }
-            Command::Parts => part(
-                alloc,
-                reading,
-                settings.format,
-                &mut tally,
-                source,
-                &mut self.target,
-            ),
-            _ => check(alloc, reading, report, &mut tally, source, &mut self.target),
+            Command::Parts => part(alloc, reading, settings.format, &mut tally, source, to),
+            _ => {
+                let report = Report {
+                    name,
+                    writes: !settings.only_counts(),
+                    shows: settings.shows,
+                };
+                check(alloc, reading, report, &mut tally, source, to)
+            }
         };
         self.tally.add(tally);
         outcome?;
@@ -181,11 +179,6 @@ impl<W: Write + Drop> Inputs<W> {
         }
         let says = is_check || self.settings.exit_status || self.settings.is_quiet;
         u8::from(says && (refused > 0 || self.target.is_refused))
-    }
-
-    // Says why nothing more can be written, and returns the status. A closed pipe needs no word.
-    fn complain_of_output(&self, rt: &(impl Eprint + AllocGlobal)) -> u8 {
-        complain_of_output(rt, self.target.error)
     }
 }
 

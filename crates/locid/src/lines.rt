@@ -11,11 +11,12 @@ use crate::inputs::Tally;
 use crate::naming::Naming;
 use crate::parting::Parting;
 use crate::preparing::Prepared;
-use crate::streams::{ZeroSource, ZeroTarget};
 use crate::words::Format;
 use iloc_program::entries::Listed;
 use iloc_program::numbered::{Lists, run_numbered};
-use iloc_program::{DataLocales, Identifiers, Listing, Locales, Mode, RunError, run, run_listed};
+use iloc_program::{
+    DataLocales, Identifiers, InMode, Listing, Locales, Mode, RunError, run, run_listed,
+};
 use std::alloc::Global;
 use std::io::{Read, Write};
 
@@ -33,7 +34,7 @@ pub struct Reading {
 /// listing counts. A name is written before each number.
 ///
 /// Of lines that are read as they are, and without a name, it promises what `run` and `run_listed` promise.
-pub fn list<R: Read + Drop, W: Write + Drop>(
+pub fn list<R: Read, W: Write>(
     alloc: Global,
     reading: Reading,
     listing: Option<Listing>,
@@ -64,7 +65,7 @@ pub fn list<R: Read + Drop, W: Write + Drop>(
 }
 
 // The same of lines that are prepared, or named.
-fn list_prepared<R: Read + Drop, W: Write + Drop>(
+fn list_prepared<R: Read, W: Write>(
     alloc: Global,
     reading: Reading,
     listing: Option<Listing>,
@@ -74,22 +75,25 @@ fn list_prepared<R: Read + Drop, W: Write + Drop>(
 ) -> Result<u64, RunError> {
     let listing = listing.unwrap_or(PLAIN);
     match reading.mode {
-        Mode::Langid => {
-            let listed = Listed::new(alloc, Identifiers);
-            let lists = Naming::new(alloc, Mode::Langid, name, listed);
-            run_answers(alloc, reading, listing, lists, reader, writer)
-        }
-        Mode::Locale => {
-            let listed = Listed::new(alloc, Locales);
-            let lists = Naming::new(alloc, Mode::Locale, name, listed);
-            run_answers(alloc, reading, listing, lists, reader, writer)
-        }
-        Mode::Data => {
-            let listed = Listed::new(alloc, DataLocales);
-            let lists = Naming::new(alloc, Mode::Data, name, listed);
-            run_answers(alloc, reading, listing, lists, reader, writer)
-        }
+        Mode::Langid => list_in(Identifiers, alloc, reading, listing, name, reader, writer),
+        Mode::Locale => list_in(Locales, alloc, reading, listing, name, reader, writer),
+        Mode::Data => list_in(DataLocales, alloc, reading, listing, name, reader, writer),
     }
+}
+
+// The same in the mode of these answers.
+fn list_in<A: InMode + Drop, R: Read, W: Write>(
+    answers: A,
+    alloc: Global,
+    reading: Reading,
+    listing: Listing,
+    name: Option<&str>,
+    reader: &mut R,
+    writer: &mut W,
+) -> Result<u64, RunError> {
+    let mode = answers.mode();
+    let mut lists = Naming::new(alloc, mode, name, Listed::new(alloc, answers));
+    run_prepared(alloc, reading, listing, &mut lists, reader, writer)
 }
 
 // The listing for which nothing is asked.
@@ -131,8 +135,8 @@ fn run_plain<R: Read, W: Write>(
     }
 }
 
-/// Checks each line, and writes where and why it is refused.
-pub fn check<R: Read + Drop, W: Write + Drop>(
+/// Checks each line, and writes where and why it is refused, and what may stand there.
+pub fn check<R: Read, W: Write>(
     alloc: Global,
     reading: Reading,
     report: Report<'_>,
@@ -141,23 +145,28 @@ pub fn check<R: Read + Drop, W: Write + Drop>(
     writer: &mut W,
 ) -> Result<u64, RunError> {
     match reading.mode {
-        Mode::Langid => {
-            let lists = Checking::new(alloc, Identifiers, report, tally);
-            run_prepared(alloc, reading, PLAIN, lists, reader, writer)
-        }
-        Mode::Locale => {
-            let lists = Checking::new(alloc, Locales, report, tally);
-            run_prepared(alloc, reading, PLAIN, lists, reader, writer)
-        }
-        Mode::Data => {
-            let lists = Checking::new(alloc, DataLocales, report, tally);
-            run_prepared(alloc, reading, PLAIN, lists, reader, writer)
-        }
+        Mode::Langid => check_in(Identifiers, alloc, reading, report, tally, reader, writer),
+        Mode::Locale => check_in(Locales, alloc, reading, report, tally, reader, writer),
+        Mode::Data => check_in(DataLocales, alloc, reading, report, tally, reader, writer),
     }
 }
 
+// The same in the mode of these answers.
+fn check_in<A: InMode + Drop, R: Read, W: Write>(
+    answers: A,
+    alloc: Global,
+    reading: Reading,
+    report: Report<'_>,
+    tally: &mut Tally,
+    reader: &mut R,
+    writer: &mut W,
+) -> Result<u64, RunError> {
+    let mut lists = Checking::new(alloc, answers, report, tally);
+    run_prepared(alloc, reading, PLAIN, &mut lists, reader, writer)
+}
+
 /// Writes the parts of each line.
-pub fn part<R: Read + Drop, W: Write + Drop>(
+pub fn part<R: Read, W: Write>(
     alloc: Global,
     reading: Reading,
     format: Format,
@@ -165,73 +174,44 @@ pub fn part<R: Read + Drop, W: Write + Drop>(
     reader: &mut R,
     writer: &mut W,
 ) -> Result<u64, RunError> {
-    let lists = Parting::new(alloc, reading.mode, format, tally);
-    run_answers(alloc, reading, PLAIN, lists, reader, writer)
-}
-
-// Runs these lists over lines, and ends what is written of each with a zero byte if lines do.
-fn run_answers<L: Lists + Drop, R: Read + Drop, W: Write + Drop>(
-    alloc: Global,
-    reading: Reading,
-    listing: Listing,
-    lists: L,
-    reader: &mut R,
-    writer: &mut W,
-) -> Result<u64, RunError>
-    ensures ok { reading.by_zero ≡ false → IfOk result
-        (ListsAll (IsPrepared L.is_entry false reading.cleans listing) 1
-        (R.remaining reader.old) (R.remaining reader.new)
-        (W.contents writer.old) (W.contents writer.new)) }
-{
-    if reading.by_zero {
-        let mut to = ZeroTarget::new(writer);
-        return run_prepared(alloc, reading, listing, lists, reader, &mut to);
-    }
-    run_prepared(alloc, reading, listing, lists, reader, writer)
+    let mut lists = Parting::new(alloc, reading.mode, format, tally);
+    run_prepared(alloc, reading, PLAIN, &mut lists, reader, writer)
 }
 
 // Runs these lists over lines that are prepared as the reading says.
-fn run_prepared<L: Lists + Drop, R: Read + Drop, W: Write + Drop>(
+fn run_prepared<L: Lists, R: Read, W: Write>(
     alloc: Global,
     reading: Reading,
     listing: Listing,
-    lists: L,
+    lists: &mut L,
     reader: &mut R,
     writer: &mut W,
 ) -> Result<u64, RunError>
-    ensures ok { reading.by_zero ≡ false → IfOk result
-        (ListsAll (IsPrepared L.is_entry false reading.cleans listing) 1
+    ensures ok { IfOk result
+        (ListsAll (IsPrepared L.is_entry reading.by_zero reading.cleans listing) 1
         (R.remaining reader.old) (R.remaining reader.new)
         (W.contents writer.old) (W.contents writer.new)) }
 {
-    if reading.by_zero {
-        let mut from = ZeroSource::new(reader);
-        let cleans = reading.cleans;
-        return run_cleaned::<L, true, ZeroSource<&mut R>, W>(
-            alloc, cleans, listing, lists, &mut from, writer,
-        );
+    match (reading.by_zero, reading.cleans) {
+        (false, false) => run_as::<L, false, false, R, W>(alloc, listing, lists, reader, writer),
+        (false, true) => run_as::<L, false, true, R, W>(alloc, listing, lists, reader, writer),
+        (true, false) => run_as::<L, true, false, R, W>(alloc, listing, lists, reader, writer),
+        (true, true) => run_as::<L, true, true, R, W>(alloc, listing, lists, reader, writer),
     }
-    run_cleaned::<L, false, R, W>(alloc, reading.cleans, listing, lists, reader, writer)
 }
 
-// Runs these lists over lines that are cleaned if that is asked for.
-fn run_cleaned<L: Lists + Drop, const BY_ZERO: bool, R: Read + Drop, W: Write + Drop>(
+// The same of lines that end with zero bytes or are cleaned, as the types say.
+fn run_as<L: Lists, const BY_ZERO: bool, const CLEANS: bool, R: Read, W: Write>(
     alloc: Global,
-    cleans: bool,
     listing: Listing,
-    lists: L,
+    lists: &mut L,
     reader: &mut R,
     writer: &mut W,
 ) -> Result<u64, RunError>
-    ensures ok { IfOk result (ListsAll (IsPrepared L.is_entry BY_ZERO cleans listing) 1
+    ensures ok { IfOk result (ListsAll (IsPrepared L.is_entry BY_ZERO CLEANS listing) 1
         (R.remaining reader.old) (R.remaining reader.new)
         (W.contents writer.old) (W.contents writer.new)) }
 {
-    let mut lists = lists;
-    if cleans {
-        let mut prepared = Prepared::<L, BY_ZERO, true>::new(alloc, &mut lists);
-        return run_numbered(alloc, &mut prepared, listing, 1, reader, writer);
-    }
-    let mut prepared = Prepared::<L, BY_ZERO, false>::new(alloc, &mut lists);
+    let mut prepared = Prepared::<L, BY_ZERO, CLEANS>::new(alloc, lists);
     run_numbered(alloc, &mut prepared, listing, 1, reader, writer)
 }

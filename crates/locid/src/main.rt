@@ -3,6 +3,7 @@
 
 mod checking;
 mod inputs;
+mod json;
 mod lines;
 mod messages;
 mod naming;

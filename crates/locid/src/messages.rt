@@ -1,10 +1,11 @@
 //! What is said on standard error.
 
-use crate::words::{Asked, TROUBLE};
+use crate::words::TROUBLE;
 use std::alloc::{AllocError, Global};
 use std::{fmt, io};
 
-// A text as it is said: printable ASCII and UTF-8 as it is, any other byte as `\x` and two digits.
+// A text as it is said: UTF-8 without control characters as it is, else each byte that is not printable ASCII as `\x` and
+// two digits.
 #[derive(Drop)]
 struct Shown<'a>(&'a [u8]);
 
@@ -20,53 +21,53 @@ impl fmt::Display for Shown<'_> {
 impl Shown<'_> {
     fn write_bytes<W: fmt::Write>(&self, f: &mut fmt::Formatter<W>) -> fmt::Result {
         for byte in self.0 {
-            match byte {
+            match *byte {
                 b' '..=b'~' => f.write_char(*byte as char)?,
-                _ => write!(f, "\\x{byte:02x}")?,
+                other => write_escaped(other, f)?,
             }
         }
         Ok(())
     }
 }
 
-/// Says what is wrong with the arguments.
-pub fn complain(rt: &impl Eprint, what: &str) -> Asked {
+fn write_escaped<W: fmt::Write>(byte: u8, f: &mut fmt::Formatter<W>) -> fmt::Result {
+    f.write_str("\\x")?;
+    for digit in [byte / 16, byte % 16] {
+        f.write_char(char::from_digit(u32::from(digit), 16).unwrap_or('?'))?;
+    }
+    Ok(())
+}
+
+/// Says what happened.
+pub fn say(rt: &impl Eprint, what: &str) {
     let _ = eprintln!(rt; "locid: {what}");
-    more(rt)
 }
 
-/// Says what is wrong with a word of the arguments.
-pub fn complain_of_word(rt: &impl Eprint, what: &str, word: &[u8]) -> Asked {
-    let shown = Shown(word);
-    let _ = eprintln!(rt; "locid: {what} {shown}");
-    more(rt)
-}
-
-fn more(rt: &impl Eprint) -> Asked {
-    let _ = eprintln!(rt; "locid --help says more");
-    Asked::Nothing
-}
-
-/// Says that memory is out.
-pub fn out_of_memory(rt: &impl Eprint) -> Asked {
-    let _ = eprintln!(rt; "locid: out of memory");
-    Asked::Nothing
+/// Says what is wrong with the arguments, and what is shown of them.
+pub fn complain(rt: &impl Eprint, what: &str, shown: &[u8]) {
+    let shown = Shown(shown);
+    let _ = eprintln!(rt; "locid: {what}{shown}\nlocid --help says more");
 }
 
 /// Says why a stream failed, and returns the status.
 pub fn complain_of_stream(
     rt: &(impl Eprint + AllocGlobal),
     what: &str,
-    reason: Option<io::Error>,
+    error: Option<io::Error>,
 ) -> u8 {
-    let reason = reason.and_then(|it| reason_of(rt.alloc(), it).ok());
-    let _ = match &reason {
-        Some(reason) => eprintln!(rt; "locid: {what}: {}", without_code(reason.as_str())),
-        None => eprintln!(rt; "locid: {what}: failed"),
+    let said = match error {
+        Some(error) => reason_of(rt.alloc(), error),
+        None => Err(AllocError),
     };
+    let reason = match &said {
+        Ok(text) => without_code(text.as_str()),
+        Err(AllocError) => "failed",
+    };
+    let _ = eprintln!(rt; "locid: {what}: {reason}");
     TROUBLE
 }
 
+// The system's words for an error, with its number.
 fn reason_of(alloc: Global, error: io::Error) -> Result<String, AllocError> {
     format!(in alloc; "{error}")
 }

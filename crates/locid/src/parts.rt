@@ -40,7 +40,7 @@ pub fn cut(text: &[u8]) -> Parts<'_> {
         region = piece;
         rest = later;
     }
-    let (variants, extensions) = cut_blocks(rest);
+    let (variants, extensions) = cut_before(rest, 1);
     Parts {
         language,
         script,
@@ -59,33 +59,36 @@ fn is_piece(text: &[u8], at: usize, count: usize) -> bool
     piece.len() == count && matches!(before, [] | [.., b'-'])
 }
 
-/// What stands before the first piece of one byte, and what begins with it.
-pub fn cut_blocks(text: &[u8]) -> (&[u8], &[u8]) {
+// What stands before the first piece of so many bytes, and what begins with it.
+fn cut_before(text: &[u8], count: usize) -> (&[u8], &[u8]) {
     for at in 0..text.len() {
-        if is_piece(text, at, 1) {
+        if is_piece(text, at, count) {
             return (&text[..at.saturating_sub(1)], &text[at..]);
         }
     }
     (text, &[])
 }
 
-/// The first block, its singleton and what follows it, and the blocks behind. A block `x` takes all the rest.
-pub fn cut_block(blocks: &[u8]) -> (&[u8], &[u8], &[u8]) {
-    let (singleton, rest) = cut_piece(blocks);
-    if matches!(singleton, b"x") {
-        return (singleton, rest, &[]);
+/// The first member, its key and its value, and the members behind. The keys of extensions are singletons, of one byte,
+/// where `x` takes all the rest; those of keywords have two.
+pub fn cut_member(members: &[u8], count: usize) -> (&[u8], &[u8], &[u8]) {
+    let (key, rest) = cut_piece(members);
+    if matches!(key, b"x") {
+        return (key, rest, &[]);
     }
-    let (block, later) = cut_blocks(rest);
-    (singleton, block, later)
+    let (value, later) = cut_before(rest, count);
+    (key, value, later)
 }
 
-/// The first keyword, its key and its value, and what follows. Attributes, which come before, are no keywords.
-pub fn cut_keyword(block: &[u8]) -> (&[u8], &[u8], &[u8]) {
-    let (key, rest) = cut_piece(block);
-    for at in 0..rest.len() {
-        if is_piece(rest, at, 2) {
-            return (key, &rest[..at.saturating_sub(1)], &rest[at..]);
+/// The keywords of the unicode extension, behind its attributes.
+pub fn keywords_in(extensions: &[u8]) -> &[u8] {
+    let mut rest = extensions;
+    for _ in 0..extensions.len() {
+        let (singleton, block, later) = cut_member(rest, 1);
+        if matches!(singleton, b"u") {
+            return cut_before(block, 2).1;
         }
+        rest = later;
     }
-    (key, rest, &[])
+    &[]
 }

@@ -1,7 +1,7 @@
 //! What is read in place of a line: its cleaned text, or the line with its newlines where lines end with zero bytes.
 
-ghost use Rattle.std.specs.Prelude.{◌≡◌, OnOk, true};
-ghost use Rattle.locid.specs.Prepared.{IsCleaned, IsCleanedEntry, IsPrepared, with_newlines};
+ghost use Rattle.std.specs.Prelude.{◌≡◌, OnOk};
+ghost use Rattle.locid.specs.Prepared.{IsCleaned, IsPrepared, line_read, with_newlines};
 ghost use Rattle.iloc_program.specs.Numbered.{AddsText};
 ghost use Rattle.iloc_program.specs.ReplyBlock.{held};
 
@@ -61,33 +61,8 @@ fn list_prepared<L: Lists, const BY_ZERO: bool, const CLEANS: bool>(
     ensures { OnOk result (AddsText (IsPrepared L.is_entry BY_ZERO CLEANS listing number line.now)
         (held replies.old) (held replies.new)) }
 {
-    if BY_ZERO {
-        add_with_newlines(line, whole)?;
-        let line = whole.as_slice();
-        return list_cleaned::<L, CLEANS>(below, cleaned, listing, number, line, replies);
-    }
-    list_cleaned::<L, CLEANS>(below, cleaned, listing, number, line, replies)
-}
-
-// Adds what `below` writes for the line, which is cleaned before if that is asked for. The room holds what is read.
-fn list_cleaned<L: Lists, const CLEANS: bool>(
-    below: &mut L,
-    room: &mut Vec<u8>,
-    listing: Listing,
-    number: u64,
-    line: &[u8],
-    replies: &mut ReplyBlock,
-) -> Result<(), AllocError>
-    ensures { OnOk result (AddsText (IsCleanedEntry L.is_entry CLEANS listing number line.now)
-        (held replies.old) (held replies.new)) }
-{
-    if CLEANS {
-        clean_into(number, line, room)?;
-        return list_kept::<L>(below, room, listing, number, replies);
-    }
-    room.clear();
-    room.extend_from_slice(line)?;
-    list_kept::<L>(below, room, listing, number, replies)
+    prepare::<BY_ZERO, CLEANS>(number, line, whole, cleaned)?;
+    list_kept::<L>(below, cleaned, listing, number, replies)
 }
 
 // Adds what `below` writes for the text in the room. Sixteen bytes are put behind it, which may be loaded.
@@ -108,11 +83,35 @@ fn list_kept<L: Lists>(
     below.list(listing, number, line, replies)
 }
 
-// Has the room hold what cleaning leaves of a line. The first one may begin with a byte order mark.
-fn clean_into(number: u64, line: &[u8], room: &mut Vec<u8>) -> Result<(), AllocError>
-    ensures { OnOk result (IsCleaned true number line.now room.new.items) }
+// Has the second room hold what is read in place of the line.
+fn prepare<const BY_ZERO: bool, const CLEANS: bool>(
+    number: u64,
+    line: &[u8],
+    whole: &mut Vec<u8>,
+    cleaned: &mut Vec<u8>,
+) -> Result<(), AllocError>
+    ensures { OnOk result
+        (IsCleaned CLEANS number (line_read BY_ZERO line.now) cleaned.new.items) }
+{
+    if BY_ZERO {
+        add_with_newlines(line, whole)?;
+        return clean_into::<CLEANS>(number, whole.as_slice(), cleaned);
+    }
+    clean_into::<CLEANS>(number, line, cleaned)
+}
+
+// Has the room hold what cleaning leaves of a line, if it is asked for. The first one may begin with a byte order mark.
+fn clean_into<const CLEANS: bool>(
+    number: u64,
+    line: &[u8],
+    room: &mut Vec<u8>,
+) -> Result<(), AllocError>
+    ensures { OnOk result (IsCleaned CLEANS number line.now room.new.items) }
 {
     room.clear();
+    if !CLEANS {
+        return room.extend_from_slice(line);
+    }
     if number == 1 {
         return clean_line(without_mark(line), room);
     }

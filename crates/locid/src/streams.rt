@@ -1,56 +1,50 @@
 //! The streams of a run: they note the system's error, see whether a line was refused, and change the ends of lines.
 
-ghost use Rattle.std.specs.Prelude.{◌≡◌, length};
+ghost use Rattle.std.specs.Prelude.{◌≡◌, length, None, if◌then◌else◌};
 
 use std::io;
 use std::io::{Read, Write};
 
-/// Where lines come from.
-#[derive(Drop)]
-pub enum Origin<R, F> {
-    Input(R),
-    File(F),
-}
-
-impl<R: Read + Drop, F: Read + Drop> Read for Origin<R, F> {
-    fn read(&mut self, buf: &mut [u8]) -> io::Result<usize> {
-        match self {
-            Origin::Input(input) => input.read(buf),
-            Origin::File(file) => file.read(buf),
-        }
-    }
-}
-
-/// Lines as they come. What it gives is what the reader below gives.
+/// Lines as they come. What it gives is what the reader below gives, unless the ends of lines are changed.
 #[derive(Drop)]
 pub struct Source<R> {
     pub from: R,
+    /// Whether lines end with zero bytes: then each of the two bytes comes as the other.
+    pub by_zero: bool,
     /// Why a read failed.
     pub error: Option<io::Error>,
 }
 
 impl<R: Read + Drop> Source<R> {
-    pub fn new(from: R) -> Source<R> {
-        Source { from, error: None }
+    pub fn new(from: R, by_zero: bool) -> Source<R> {
+        Source {
+            from,
+            by_zero,
+            error: None,
+        }
     }
 }
 
 impl<R: Read + Drop> Read for Source<R> {
-    ghost remaining = { λ source. R.remaining source.from };
+    ghost remaining = { λ source. if source.by_zero then None else R.remaining source.from };
 
     fn read(&mut self, buf: &mut [u8]) -> io::Result<usize> {
         let given = self.from.read(buf);
-        if let Err(error) = &given {
-            self.error = Some(*error);
+        match &given {
+            Ok(count) if self.by_zero => exchange(&mut buf[..*count]),
+            Ok(_) => {}
+            Err(error) => self.error = Some(*error),
         }
         given
     }
 }
 
-/// Takes answers. What it holds is what the writer below holds.
+/// Takes answers. What it holds is what the writer below holds, unless the ends of lines are changed.
 #[derive(Drop)]
 pub struct Target<W> {
     pub to: W,
+    // Whether lines end with zero bytes: then each of the two bytes is written as the other.
+    by_zero: bool,
     // Whether refused lines are looked for.
     looks: bool,
     /// Whether one was seen. Only what is written of a refused line has an exclamation mark.
@@ -60,9 +54,10 @@ pub struct Target<W> {
 }
 
 impl<W: Write + Drop> Target<W> {
-    pub fn new(to: W, looks: bool) -> Target<W> {
+    pub fn new(to: W, by_zero: bool, looks: bool) -> Target<W> {
         Target {
             to,
+            by_zero,
             looks,
             is_refused: false,
             error: None,
@@ -71,13 +66,17 @@ impl<W: Write + Drop> Target<W> {
 }
 
 impl<W: Write + Drop> Write for Target<W> {
-    ghost contents = { λ target. W.contents target.to };
+    ghost contents = { λ target. if target.by_zero then None else W.contents target.to };
 
     fn write(&mut self, buf: &[u8]) -> io::Result<usize> {
         if self.looks && buf.contains(&b'!') {
             self.is_refused = true;
         }
-        let taken = self.to.write(buf);
+        let taken = if self.by_zero {
+            write_exchanged(&mut self.to, buf)
+        } else {
+            self.to.write(buf)
+        };
         if let Err(error) = &taken {
             self.error = Some(*error);
         }
@@ -89,63 +88,28 @@ impl<W: Write + Drop> Write for Target<W> {
     }
 }
 
-/// Lines that end with zero bytes, as lines that end with newlines: each of the two bytes comes as the other.
-#[derive(Drop)]
-pub struct ZeroSource<R> {
-    from: R,
-}
-
-impl<R: Read> ZeroSource<R> {
-    pub fn new(from: R) -> Self {
-        ZeroSource { from }
-    }
-}
-
-impl<R: Read + Drop> Read for ZeroSource<R> {
-    fn read(&mut self, buf: &mut [u8]) -> io::Result<usize> {
-        let count = self.from.read(buf)?;
-        for byte in &mut buf[..count] {
-            *byte = exchanged(*byte);
-        }
-        Ok(count)
-    }
-}
-
-/// Answers that end with zero bytes in place of newlines.
-#[derive(Drop)]
-pub struct ZeroTarget<W> {
-    to: W,
-}
-
-impl<W: Write> ZeroTarget<W> {
-    pub fn new(to: W) -> Self {
-        ZeroTarget { to }
-    }
-}
-
-impl<W: Write + Drop> Write for ZeroTarget<W> {
-    fn write(&mut self, buf: &[u8]) -> io::Result<usize> {
-        let mut room = [0u8; BLOCK];
-        let count = buf.len().min(BLOCK);
-        for at in 0..count {
-            room[at] = exchanged(buf[at]);
-        }
-        self.to.write(&room[..count])
-    }
-
-    fn flush(&mut self) -> io::Result<()> {
-        self.to.flush()
-    }
-}
-
 // How many bytes are changed at once.
 const BLOCK: usize = 4096;
 
-// A newline for a zero byte, and the other way round.
-fn exchanged(byte: u8) -> u8 {
-    match byte {
-        0 => b'\n',
-        b'\n' => 0,
-        _ => byte,
+// Writes the first bytes, with a newline for each zero byte and the other way round.
+fn write_exchanged<W: Write>(to: &mut W, buf: &[u8]) -> io::Result<usize> {
+    let mut room = [0u8; BLOCK];
+    let count = buf.len().min(BLOCK);
+    let block = &mut room[..count];
+    block.copy_from_slice(&buf[..count]);
+    exchange(block);
+    to.write(block)
+}
+
+// Has a newline for each zero byte, and the other way round.
+fn exchange(bytes: &mut [u8])
+    ensures { length bytes.new ≡ length bytes.old }
+{
+    for byte in bytes {
+        *byte = match *byte {
+            0 => b'\n',
+            b'\n' => 0,
+            other => other,
+        };
     }
 }

@@ -27,51 +27,72 @@ pub enum Flag {
 }
 
 /// The command of that name.
-pub fn command_of(word: &[u8]) -> Option<Command> {
+pub fn command_of(word: &str) -> Option<Command> {
     match word {
-        b"normalize" => Some(Command::Normalize),
-        b"check" => Some(Command::Check),
-        b"parts" => Some(Command::Parts),
+        "normalize" => Some(Command::Normalize),
+        "check" => Some(Command::Check),
+        "parts" => Some(Command::Parts),
         _ => None,
     }
 }
 
-/// The option of that name, if the command has it.
-pub fn long_of(command: Command, name: &[u8]) -> Option<Flag> {
-    match (command, name) {
-        (_, b"mode") => Some(Flag::Mode),
-        (_, b"clean") => Some(Flag::Clean),
-        (_, b"null") => Some(Flag::Null),
-        (Command::Normalize, b"where") => Some(Flag::Where),
-        (Command::Normalize, b"line-number") => Some(Flag::LineNumber),
-        (Command::Normalize, b"only-refused") => Some(Flag::OnlyRefused),
-        (Command::Check, b"show") => Some(Flag::Show),
-        (Command::Parts, b"format") => Some(Flag::Format),
-        (Command::Normalize | Command::Parts, b"exit-status") => Some(Flag::ExitStatus),
-        (Command::Normalize | Command::Check, b"quiet") => Some(Flag::Quiet),
-        (Command::Normalize | Command::Check, b"count") => Some(Flag::Count),
-        (_, b"help") => Some(Flag::Help),
-        (_, b"version") => Some(Flag::Version),
+/// The option of that name.
+pub fn flag_named(name: &str) -> Option<Flag> {
+    match name {
+        "mode" => Some(Flag::Mode),
+        "clean" => Some(Flag::Clean),
+        "null" => Some(Flag::Null),
+        "where" => Some(Flag::Where),
+        "line-number" => Some(Flag::LineNumber),
+        "only-refused" => Some(Flag::OnlyRefused),
+        "show" => Some(Flag::Show),
+        "format" => Some(Flag::Format),
+        "exit-status" => Some(Flag::ExitStatus),
+        "quiet" => Some(Flag::Quiet),
+        "count" => Some(Flag::Count),
+        "help" => Some(Flag::Help),
+        "version" => Some(Flag::Version),
         _ => None,
     }
 }
 
-/// The option of that letter, if the command has it.
-pub fn short_of(command: Command, letter: u8) -> Option<Flag> {
-    match (command, letter) {
-        (_, b'm') => Some(Flag::Mode),
-        (_, b'c') => Some(Flag::Clean),
-        (_, b'0') => Some(Flag::Null),
-        (Command::Normalize, b'w') => Some(Flag::Where),
-        (Command::Normalize, b'n') => Some(Flag::LineNumber),
-        (Command::Normalize, b'o') => Some(Flag::OnlyRefused),
-        (Command::Check, b's') => Some(Flag::Show),
-        (Command::Parts, b'f') => Some(Flag::Format),
-        (Command::Normalize | Command::Parts, b'e') => Some(Flag::ExitStatus),
-        (Command::Normalize | Command::Check, b'q') => Some(Flag::Quiet),
-        (_, b'h') => Some(Flag::Help),
-        (_, b'V') => Some(Flag::Version),
+/// The option of that letter.
+pub fn flag_lettered(letter: u8) -> Option<Flag> {
+    match letter {
+        b'm' => Some(Flag::Mode),
+        b'c' => Some(Flag::Clean),
+        b'0' => Some(Flag::Null),
+        b'w' => Some(Flag::Where),
+        b'n' => Some(Flag::LineNumber),
+        b'o' => Some(Flag::OnlyRefused),
+        b's' => Some(Flag::Show),
+        b'f' => Some(Flag::Format),
+        b'e' => Some(Flag::ExitStatus),
+        b'q' => Some(Flag::Quiet),
+        b'h' => Some(Flag::Help),
+        b'V' => Some(Flag::Version),
         _ => None,
+    }
+}
+
+/// Whether the command has the option. Before a command there are --help and --version.
+pub fn has(command: Option<Command>, flag: Flag) -> bool {
+    match command {
+        None => matches!(flag, Flag::Help | Flag::Version),
+        Some(Command::Normalize) => !matches!(flag, Flag::Show | Flag::Format),
+        Some(Command::Check) => !matches!(
+            flag,
+            Flag::Where | Flag::LineNumber | Flag::OnlyRefused | Flag::Format | Flag::ExitStatus
+        ),
+        Some(Command::Parts) => !matches!(
+            flag,
+            Flag::Where
+                | Flag::LineNumber
+                | Flag::OnlyRefused
+                | Flag::Show
+                | Flag::Quiet
+                | Flag::Count
+        ),
     }
 }
 
@@ -98,7 +119,7 @@ Usage: locid COMMAND [OPTION ..] [FILE ..]
 Unicode locale identifiers, line by line.
 
   normalize  Writes the normal form of each line, or `! ` and why the line is refused.
-  check      Writes where and why lines are refused, as FILE:LINE:COLUMN: REASON: SUBTAG.
+  check      Writes where and why lines are refused, as FILE:LINE:COLUMN: REASON: SUBTAG: ADVICE.
   parts      Writes the parts of each line, in columns or as JSON.
 
 locid COMMAND --help says what a command takes, and locid --version which version this is.
@@ -142,7 +163,7 @@ prints:  2\t! Invalid subtag\t6..9\tfoo
 
 const CHECK: &str = "\
 Usage: locid check [OPTION ..] [FILE ..]
-Writes where and why lines are refused, as FILE:LINE:COLUMN: REASON: SUBTAG.
+Writes where and why lines are refused, as FILE:LINE:COLUMN: REASON: SUBTAG: ADVICE.
 
 With no FILE, or for a FILE -, it reads standard input.
 
@@ -165,12 +186,13 @@ With no FILE, or for a FILE -, it reads standard input.
   --                   end the options: what follows are files
 
 COLUMN is that of a byte, from 1 on. With --clean it is one of the cleaned line.
+ADVICE says what may stand there, and what is usually meant by a line such as en_US.
 
 Status: 0 if no line is refused, 1 if one is; 2 if an argument is wrong, an input cannot
 be read or the output cannot be written; 141 if nobody reads the output any more.
 
 Example: printf 'EN-us\\nen-US-foo\\n' | locid check
-prints:  -:2:7: Invalid subtag: foo
+prints:  -:2:7: Invalid subtag: foo: a variant or an extension may stand here
 ";
 
 const PARTS: &str = "\

@@ -3,8 +3,8 @@
 ghost use Rattle.std.specs.Prelude.{◌<◌, length};
 
 use crate::lines::Reading;
-use crate::messages::{complain, complain_of_word, out_of_memory};
-use crate::table::{Command, Flag, command_of, long_of, short_of, takes_value};
+use crate::messages::{complain, say};
+use crate::table::{Command, Flag, command_of, flag_lettered, flag_named, has, takes_value};
 use iloc_program::{Listing, Mode};
 use std::alloc::Global;
 use std::env::FillError;
@@ -18,85 +18,70 @@ pub const WORD: usize = 4096;
 pub const TROUBLE: u8 = 2;
 
 /// How parts are written.
-#[derive(Clone, Copy)]
+#[derive(Clone, Copy, Default)]
 pub enum Format {
+    #[default]
     Tsv,
     Json,
 }
 
-/// What is done with lines.
-#[derive(Clone, Copy)]
+/// What is done with lines: which options were met, and the words behind two of them.
+#[derive(Clone, Copy, Default)]
 pub struct Settings {
-    pub reading: Reading,
-    pub listing: Listing,
-    /// Whether the status says that a line was refused.
-    pub exit_status: bool,
-    /// Whether nothing is written of lines.
-    pub is_quiet: bool,
-    /// Whether lines are counted in place of what is else written of them.
-    pub counts: bool,
-    /// Whether refused lines are shown.
-    pub shows: bool,
+    mode: Option<Mode>,
     pub format: Format,
+    cleans: bool,
+    by_zero: bool,
+    places: bool,
+    pub numbers: bool,
+    only_refused: bool,
+    pub exit_status: bool,
+    pub is_quiet: bool,
+    pub counts: bool,
+    pub shows: bool,
 }
 
 impl Settings {
-    pub fn new() -> Settings {
-        Settings {
-            reading: Reading {
-                mode: Mode::Locale,
-                cleans: false,
-                by_zero: false,
-            },
-            listing: Listing {
-                places: false,
-                numbers: false,
-                only_refused: false,
-            },
-            exit_status: false,
-            is_quiet: false,
-            counts: false,
-            shows: false,
-            format: Format::Tsv,
+    /// How lines are read.
+    pub fn reading(&self) -> Reading {
+        Reading {
+            mode: self.mode.unwrap_or(Mode::Locale),
+            cleans: self.cleans,
+            by_zero: self.by_zero,
         }
     }
 
     /// How lines are listed, if any of it is asked for.
     pub fn listing(&self) -> Option<Listing> {
-        let asked = self.listing;
-        if asked.places || asked.numbers || asked.only_refused {
-            return Some(asked);
+        if !self.places && !self.numbers && !self.only_refused {
+            return None;
         }
-        None
+        Some(Listing {
+            places: self.places,
+            numbers: self.numbers,
+            only_refused: self.only_refused,
+        })
+    }
+
+    /// Whether nothing is written of lines but how many there are, or nothing at all.
+    pub fn only_counts(&self) -> bool {
+        self.counts || self.is_quiet
     }
 
     // Notes an option without a word behind it.
     fn meet(&mut self, flag: Flag) {
         match flag {
-            Flag::Clean => self.reading.cleans = true,
-            Flag::Null => self.reading.by_zero = true,
-            Flag::Where => self.listing.places = true,
-            Flag::LineNumber => self.listing.numbers = true,
-            Flag::OnlyRefused => self.listing.only_refused = true,
+            Flag::Clean => self.cleans = true,
+            Flag::Null => self.by_zero = true,
+            Flag::Where => self.places = true,
+            Flag::LineNumber => self.numbers = true,
+            Flag::OnlyRefused => self.only_refused = true,
             Flag::Show => self.shows = true,
             Flag::ExitStatus => self.exit_status = true,
             Flag::Quiet => self.is_quiet = true,
             Flag::Count => self.counts = true,
             Flag::Mode | Flag::Format | Flag::Help | Flag::Version => {}
         }
-    }
-
-    // Notes the word behind an option, and says whether it is a right one.
-    fn take(&mut self, flag: Flag, value: &[u8]) -> bool {
-        match (flag, value) {
-            (Flag::Mode, b"langid") => self.reading.mode = Mode::Langid,
-            (Flag::Mode, b"locale") => self.reading.mode = Mode::Locale,
-            (Flag::Mode, b"data") => self.reading.mode = Mode::Data,
-            (Flag::Format, b"tsv") => self.format = Format::Tsv,
-            (Flag::Format, b"json") => self.format = Format::Json,
-            _ => return false,
-        }
-        true
     }
 }
 
@@ -111,15 +96,14 @@ pub enum Asked {
     Nothing,
 }
 
-// What becomes of the words after one of them.
+// Why no more words are read.
 #[derive(Clone, Copy)]
-enum Then {
-    // The next word is looked at.
-    Next,
-    // The next word belongs to this option.
-    Value(Flag),
-    // Nothing more is looked at.
-    Done(Asked),
+enum Stop<'a> {
+    // All is said.
+    Asked(Asked),
+    // A word is wrong: why, and what is shown of it.
+    Wrong(&'static str, &'a str),
+    OutOfMemory,
 }
 
 /// The words so far.
@@ -137,7 +121,7 @@ impl Words {
     pub fn new(alloc: Global) -> Words {
         Words {
             command: None,
-            settings: Settings::new(),
+            settings: Settings::default(),
             files: Vec::new(alloc),
             is_ended: false,
         }
@@ -151,157 +135,156 @@ impl Words {
             let count = match rt.arg(at, &mut room) {
                 Ok(count) => count,
                 Err(FillError::TooLong) => {
-                    return complain(rt, "an argument is longer than the name of a file can be");
+                    return wrong(
+                        rt,
+                        "an argument is longer than the name of a file can be",
+                        "",
+                    );
                 }
                 Err(FillError::NotPresent) => return self.end(rt, waiting),
             };
-            let word = &room[..count];
-            let then = match waiting {
-                Some(flag) => self.read_value(rt, flag, word),
-                None => self.read_word(rt, at, word),
+            let Ok(word) = str::from_utf8(&room[..count]) else {
+                complain(rt, "an argument is no UTF-8: ", &room[..count]);
+                return Asked::Nothing;
             };
-            waiting = match then {
-                Then::Next => None,
-                Then::Value(flag) => Some(flag),
-                Then::Done(asked) => return asked,
+            waiting = match self.read_word(waiting, at, word) {
+                Ok(next) => next,
+                Err(Stop::Asked(asked)) => return asked,
+                Err(Stop::Wrong(what, shown)) => return wrong(rt, what, shown),
+                Err(Stop::OutOfMemory) => {
+                    say(rt, "out of memory");
+                    return Asked::Nothing;
+                }
             };
         }
         Asked::Nothing
     }
 
-    // What is asked for once all words are read.
+    // What is asked for once all words are read. The option still waits for a word.
     fn end(&self, rt: &impl Eprint, waiting: Option<Flag>) -> Asked {
-        match (waiting, self.command) {
-            (Some(Flag::Mode), _) => complain(rt, "--mode wants a word: langid, locale or data"),
-            (Some(_), _) => complain(rt, "--format wants a word: tsv or json"),
-            (None, Some(command)) => Asked::Lines(command),
-            (None, None) => complain(rt, "no command: normalize, check or parts"),
+        let lacking = match (waiting, self.command) {
+            (None, Some(command)) => return Asked::Lines(command),
+            (None, None) => "no command: normalize, check or parts",
+            (Some(Flag::Mode), _) => "--mode wants a word: langid, locale or data",
+            (Some(_), _) => "--format wants a word: tsv or json",
+        };
+        wrong(rt, lacking, "")
+    }
+
+    // Reads the word at that place, for which an option may wait. Returns the option that waits for the next one.
+    fn read_word<'a>(
+        &mut self,
+        waiting: Option<Flag>,
+        at: usize,
+        word: &'a str,
+    ) -> Result<Option<Flag>, Stop<'a>> {
+        if let Some(flag) = waiting {
+            return self.read_value(flag, word);
+        }
+        if self.is_ended {
+            return self.add_file(at);
+        }
+        if word == "--" {
+            self.is_ended = true;
+            return Ok(None);
+        }
+        if let Some(rest) = word.strip_prefix("--") {
+            return self.read_long(word, rest);
+        }
+        match word.strip_prefix('-') {
+            Some(letters) if !letters.is_empty() => return self.read_short(letters),
+            _ => {}
+        }
+        if self.command.is_some() {
+            return self.add_file(at);
+        }
+        self.command = command_of(word);
+        match self.command {
+            Some(_) => Ok(None),
+            None => Err(Stop::Wrong("unknown command ", word)),
         }
     }
 
-    fn read_word(&mut self, rt: &impl Eprint, at: usize, word: &[u8]) -> Then {
-        match (self.command, word) {
-            _ if self.is_ended => self.add_file(rt, at, word),
-            (_, b"--") => {
-                self.is_ended = true;
-                Then::Next
-            }
-            (_, [b'-', b'-', name @ ..]) => self.read_long(rt, word, name),
-            (_, [b'-', _, ..]) => self.read_short(rt, word),
-            (Some(_), _) => self.add_file(rt, at, word),
-            (None, _) => {
-                self.command = command_of(word);
-                match self.command {
-                    Some(_) => Then::Next,
-                    None => Then::Done(complain_of_word(rt, "unknown command", word)),
-                }
-            }
-        }
-    }
-
-    // Adds a file. Before a command, a word behind `--` is none.
-    fn add_file(&mut self, rt: &impl Eprint, at: usize, word: &[u8]) -> Then {
-        if str::from_utf8(word).is_err() {
-            return Then::Done(complain_of_word(rt, "the name of a file is no UTF-8:", word));
-        }
+    fn add_file(&mut self, at: usize) -> Result<Option<Flag>, Stop<'static>> {
         match self.files.push(at) {
-            Ok(()) => Then::Next,
-            Err(_) => Then::Done(out_of_memory(rt)),
+            Ok(()) => Ok(None),
+            Err(_) => Err(Stop::OutOfMemory),
         }
     }
 
     // Reads an option by its name, with what stands behind a `=`.
-    fn read_long(&mut self, rt: &impl Eprint, word: &[u8], rest: &[u8]) -> Then {
-        let end = rest.iter().position(|byte| *byte == b'=');
-        let (name, value) = match end {
-            Some(end) => (&rest[..end], Some(&rest[end + 1..])),
+    fn read_long<'a>(&mut self, word: &'a str, rest: &'a str) -> Result<Option<Flag>, Stop<'a>> {
+        let (name, value) = match rest.split_once('=') {
+            Some((name, value)) => (name, Some(value)),
             None => (rest, None),
         };
-        let found = match self.command {
-            Some(command) => long_of(command, name),
-            None => first_long(name),
-        };
-        match (found, value) {
-            (None, _) => Then::Done(complain_of_word(rt, "unknown option", word)),
-            (Some(flag), Some(value)) if takes_value(flag) => self.read_value(rt, flag, value),
-            (Some(_), Some(_)) => Then::Done(complain_of_word(
-                rt,
-                "no word may follow this option",
-                word,
-            )),
+        match (self.found(flag_named(name)), value) {
+            (None, _) => Err(Stop::Wrong("unknown option ", word)),
             (Some(flag), None) => self.meet(flag),
+            (Some(flag), Some(value)) if takes_value(flag) => self.read_value(flag, value),
+            (Some(_), Some(_)) => Err(Stop::Wrong("no word may follow this option ", word)),
         }
     }
 
     // Reads options by their letters. What follows one that takes a word is that word.
-    fn read_short(&mut self, rt: &impl Eprint, word: &[u8]) -> Then {
-        for at in 1..word.len() {
-            let letter = word[at];
-            let found = match self.command {
-                Some(command) => short_of(command, letter),
-                None => first_short(letter),
+    fn read_short<'a>(&mut self, letters: &'a str) -> Result<Option<Flag>, Stop<'a>> {
+        for (at, letter) in letters.bytes().enumerate() {
+            let Some(flag) = self.found(flag_lettered(letter)) else {
+                let shown = letters.get(at..at + 1).unwrap_or(letters);
+                return Err(Stop::Wrong("unknown option -", shown));
             };
-            let Some(flag) = found else {
-                return Then::Done(complain_of_letter(rt, word, at));
-            };
-            if takes_value(flag) && at + 1 < word.len() {
-                return self.read_value(rt, flag, &word[at + 1..]);
+            let value = letters.get(at + 1..).unwrap_or("");
+            if takes_value(flag) && !value.is_empty() {
+                return self.read_value(flag, value);
             }
-            match self.meet(flag) {
-                Then::Next => {}
-                then => return then,
+            if let Some(waiting) = self.meet(flag)? {
+                return Ok(Some(waiting));
             }
         }
-        Then::Next
+        Ok(None)
     }
 
-    fn meet(&mut self, flag: Flag) -> Then {
+    // The option, if the command has it.
+    fn found(&self, flag: Option<Flag>) -> Option<Flag> {
         match flag {
-            Flag::Help => Then::Done(Asked::Help(self.command)),
-            Flag::Version => Then::Done(Asked::Version),
-            _ if takes_value(flag) => Then::Value(flag),
+            Some(flag) if has(self.command, flag) => Some(flag),
+            _ => None,
+        }
+    }
+
+    // Meets an option, and returns it if it waits for a word.
+    fn meet(&mut self, flag: Flag) -> Result<Option<Flag>, Stop<'static>> {
+        match flag {
+            Flag::Help => Err(Stop::Asked(Asked::Help(self.command))),
+            Flag::Version => Err(Stop::Asked(Asked::Version)),
+            _ if takes_value(flag) => Ok(Some(flag)),
             _ => {
                 self.settings.meet(flag);
-                Then::Next
+                Ok(None)
             }
         }
     }
 
-    fn read_value(&mut self, rt: &impl Eprint, flag: Flag, value: &[u8]) -> Then {
-        if self.settings.take(flag, value) {
-            return Then::Next;
+    // Notes the word behind an option.
+    fn read_value<'a>(&mut self, flag: Flag, value: &'a str) -> Result<Option<Flag>, Stop<'a>> {
+        if let Flag::Mode = flag {
+            let Some(mode) = Mode::from_word(value) else {
+                return Err(Stop::Wrong("--mode is langid, locale or data, and not ", value));
+            };
+            self.settings.mode = Some(mode);
+            return Ok(None);
         }
-        Then::Done(match flag {
-            Flag::Mode => complain_of_word(rt, "--mode is langid, locale or data, and not", value),
-            _ => complain_of_word(rt, "--format is tsv or json, and not", value),
-        })
+        self.settings.format = match value {
+            "tsv" => Format::Tsv,
+            "json" => Format::Json,
+            _ => return Err(Stop::Wrong("--format is tsv or json, and not ", value)),
+        };
+        Ok(None)
     }
 }
 
-// What may stand before a command.
-fn first_long(name: &[u8]) -> Option<Flag> {
-    match name {
-        b"help" => Some(Flag::Help),
-        b"version" => Some(Flag::Version),
-        _ => None,
-    }
-}
-
-fn first_short(letter: u8) -> Option<Flag> {
-    match letter {
-        b'h' => Some(Flag::Help),
-        b'V' => Some(Flag::Version),
-        _ => None,
-    }
-}
-
-// Names the letter that is no option, or all of a word that goes on in other signs.
-fn complain_of_letter(rt: &impl Eprint, word: &[u8], at: usize) -> Asked
-    requires { at < length word.now }
-{
-    let letter = word[at];
-    if letter.is_ascii_graphic() {
-        return complain_of_word(rt, "unknown option", &[b'-', letter]);
-    }
-    complain_of_word(rt, "unknown option", word)
+// Says what is wrong with the arguments, and what is shown of them.
+fn wrong(rt: &impl Eprint, what: &str, shown: &str) -> Asked {
+    complain(rt, what, shown.as_bytes());
+    Asked::Nothing
 }
