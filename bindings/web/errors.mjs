@@ -19,13 +19,14 @@ function whyOf(code, text, mode, part) {
  * where it stands, and what may stand there. Message, place, `expected` and `hint` are looked for when they are first asked for.
  */
 export class LocaleError extends RangeError {
-  /** How many frames of the stack an error keeps where the engine asks this, as V8 does: to find them takes five times as long as all else. */
+  /** How many frames of the stack an error keeps where the engine asks this, as V8 does: to find them takes five times as long as all else. With none it has no `stack` there. */
   static stackTraceLimit = 0;
 
   #refusal;
   constructor(code, text, mode, part) {
     const before = Error.stackTraceLimit, frames = LocaleError.stackTraceLimit;
-    if (before !== undefined) keepFrames(frames);
+    // (where the limit is no number, V8 does not walk the stack, and the error has no `stack`; to keep no frame it does)
+    if (before !== undefined) keepFrames(frames > 0 ? frames : undefined);
     super(frames > 0 ? whyOf(code, text, mode, part).message : undefined); // (frames stand behind the message)
     if (before !== undefined) keepFrames(before);
     this.code = code;

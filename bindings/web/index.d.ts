@@ -25,7 +25,7 @@ export type ModeOrIndex = Mode | number;
 /** A text that has no normal text, or is beyond the limits; or a part that is none. */
 export class LocaleError extends RangeError {
   constructor(code: ErrorCode, text: Bytes, mode: Mode, part?: string);
-  /** How many frames of the stack each error keeps, in V8: 0 unless you set it. With frames it takes five times as long. */
+  /** How many frames of the stack each error keeps, in V8: 0 unless you set it, and no `stack`. With frames it takes five times as long. */
   static stackTraceLimit: number;
   readonly name: 'LocaleError';
   readonly code: ErrorCode;

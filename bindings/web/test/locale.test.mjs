@@ -254,7 +254,8 @@ test('a refusal that is thrown costs little, and keeps frames if they are wanted
   const limit = Error.stackTraceLimit;
   assert.equal(limit, 10); // (node's own: errors that were thrown before left it)
   const said = "LocaleError: The given language subtag is invalid: 'x' at 0..1: a language may stand here";
-  assert.equal(thrown('x').stack, said);
+  assert.equal(String(thrown('x')), said);
+  assert.equal(thrown('x').stack, undefined);
   assert.equal(inspect(thrown('x')), `[${said}] {\n  code: 'InvalidLanguage',\n  text: 'x',\n  mode: 'locale'\n}`);
   assert.equal(Error.stackTraceLimit, limit);
   const time = () => {

@@ -137,6 +137,8 @@ test('limits', () => {
   assert.throws(() => compare('en', many), it => it.code === 'BeyondLimits' && it.text === many);
   const fault = findFault(`${many}-!!`);
   assert.deepEqual([fault.code, fault.start, fault.end], ['InvalidSubtag', many.length + 1, many.length + 3]);
+  const beyond = tryNormalize(`${many}-!!`);
+  assert.deepEqual([beyond.code, beyond.start, beyond.expected, beyond.message], ['BeyondLimits', undefined, [], 'Beyond the limits']);
   assert.equal(check('x'.repeat(65535)), 'InvalidLanguage');
   assert.equal(check('x'.repeat(65536)), 'BeyondLimits');
   assert.equal(check('ä'.repeat(32767)), 'InvalidLanguage');
