@@ -13,12 +13,15 @@ export const CODES = ['Done', 'InvalidLanguage', 'InvalidSubtag', 'InvalidExtens
 const KINDS = ['language', 'script', 'region', 'variant', 'singleton', 'attribute', 'key', 'value', 'field', 'other', 'private'];
 const ROW = 3 * 8; // bytes of a row of its table: three numbers
 export const DONE = 0;
+const NOT_FOUND = 8;
 export const BEYOND = 9;
 const MODES = { langid: 0, locale: 1, data: 2 };
+/** The mode as which a normal text of any mode means the same. */
+export const LOCALE = MODES.locale;
 
 const compiled = new WebAssembly.Module(bytes);
 const encoder = new TextEncoder();
-const decoder = new TextDecoder();
+const decoder = new TextDecoder('utf-8', { ignoreBOM: true });
 
 // The module and its memory, which never grows, so that the views stay good.
 let calls, all, numbers;
@@ -104,6 +107,9 @@ function putEncoded(text, at) {
   return read < text.length ? MOST + 1 : written;
 }
 
+/** The text that bytes are. */
+export const decoded = bytes => decoder.decode(bytes);
+
 // The text that stands there, which is ASCII.
 function take(at, length) {
   if (length > 64) return decoder.decode(all.subarray(at, at + length));
@@ -114,7 +120,7 @@ function take(at, length) {
 
 /** The number of a mode. What `map` passes behind a text, a number, is no mode. */
 export function modeOf(mode) {
-  if (typeof mode === 'number') return MODES.locale;
+  if (typeof mode === 'number') return LOCALE;
   const number = Object.hasOwn(MODES, mode) ? MODES[mode] : undefined;
   if (number === undefined) throw new TypeError(`no mode ${String(mode)}: a mode is 'langid', 'locale' or 'data'`);
   return number;
@@ -164,11 +170,55 @@ export function faultOf(text, mode) {
   return { status, start: numbers.getUint32(NUMBER, true), end: numbers.getUint32(NUMBER + 8, true) };
 }
 
+/** The kinds of pieces that may stand at a place of a text, which counts bytes: a bit of each. */
+export function kindsAt(text, mode, start) {
+  const length = put(text, TEXT);
+  if (length > MOST) return 0;
+  ask('web_expected', mode, place.text, big(length + SPARE), big(length), big(start), place.number);
+  return numbers.getUint16(NUMBER, true);
+}
+
+/** The words of a set of kinds: `a script or a region`. */
+export function wordsOfKinds(kinds) {
+  ask('web_kinds', kinds, place.one, room, place.number);
+  return written();
+}
+
+/** What to do about a refused text such as `en_US`, in words; nothing if it looks like no other. */
+export function hintOf(text, mode) {
+  const length = put(text, TEXT);
+  if (length > MOST) return undefined;
+  const status = ask('web_hint', mode, place.text, big(length + SPARE), big(length), place.one, room, place.number);
+  return status === DONE ? written() : undefined;
+}
+
+/** Asks a call for a part of what a text means: the call's end, and the part; nothing where it is not there. */
+export function partBy(call, text, mode, key) {
+  const length = put(text, TEXT), keyed = key === undefined ? [] : keyWords(key);
+  if (length > MOST) return [BEYOND, undefined];
+  const status = ask(call, mode, place.text, big(length + SPARE), big(length), ...keyed, place.room, room, place.one, room, place.number);
+  if (status === NOT_FOUND) return [DONE, undefined];
+  return [status, status === DONE ? written() : undefined];
+}
+
+/** What cleaning leaves of a line, as bytes that the next call writes over; nothing if it is too long. */
+export function cleanedBytes(text) {
+  const length = put(text, TEXT);
+  if (length > MOST) return undefined;
+  ask('web_clean', place.text, big(length + SPARE), big(length), place.room, room, place.one, room, place.number);
+  return all.subarray(ONE, ONE + numbers.getUint32(NUMBER, true));
+}
+
+// Puts a key where another text stands: what a call is told of it. (Of a long one, which is none, all that there is room for.)
+function keyWords(key) {
+  return [place.other, big(Math.min(put(key, OTHER), MOST))];
+}
+
 // Asks a call about two texts: its end, and the number that it wrote.
-function askBoth(name, text, other, mode) {
+function askBoth(name, text, other, ...mode) {
   const length = put(text, TEXT), second = put(other, OTHER);
   if (length > MOST || second > MOST) return [BEYOND, 0];
-  const status = ask(name, mode, place.text, big(length + SPARE), big(length), place.other, big(second + SPARE), big(second),
+  const status = ask(name, ...mode, place.text, big(length + SPARE), big(length), place.other, big(second + SPARE), big(second),
     place.one, room, place.two, room, place.number);
   return [status, numbers.getInt8(NUMBER)];
 }
@@ -183,6 +233,11 @@ export function sameness(text, other, mode) {
   return askBoth('web_normalizing_eq', text, other, mode);
 }
 
+/** Whether a range stands for a locale: the call's end, and 1 or 0. */
+export function matched(text, range) {
+  return askBoth('web_matches', text, range);
+}
+
 function wordsOfNumber(number) {
   if (number === BEYOND) return 'Beyond the limits';
   ask('web_words', number, place.one, room, place.number);
@@ -191,6 +246,9 @@ function wordsOfNumber(number) {
 
 /** The words of each number. */
 export const WORDS = CODES.map((_, number) => wordsOfNumber(number));
+
+/** The words of each kind of piece, at the place of its bit. The last one is the end of the text. */
+export const KIND_WORDS = Array.from({ length: 13 }, (_, at) => wordsOfKinds(1 << at));
 
 /** The version of the module's calls. */
 export const version = ask('web_version');

@@ -1,9 +1,8 @@
 // The text of a locale of which some parts are others. The proved module reads each part that is given, alone: all of its
 // pieces must be what the part consists of. So no part can bring in another one.
-import { DONE, modeOf, partsOf } from './calls.mjs';
+import { DONE, LOCALE, partsOf } from './calls.mjs';
 import { LocaleError } from './errors.mjs';
 
-const LOCALE = modeOf('locale');
 // The keywords that have names of their own, as `Intl.Locale` has them.
 const NAMED = { calendar: 'ca', caseFirst: 'kf', collation: 'co', firstDayOfWeek: 'fw', hourCycle: 'hc', numberingSystem: 'nu', numeric: 'kn' };
 // The days that numbers stand for, as `Intl.Locale` has them: 0 and 7 are Sunday.

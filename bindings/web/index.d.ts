@@ -25,7 +25,7 @@ export type ModeOrIndex = Mode | number;
 /** A text that has no normal text, or is beyond the limits; or a part that is none. */
 export class LocaleError extends RangeError {
   constructor(code: ErrorCode, text: Bytes, mode: Mode, part?: string);
-  /** How many frames of the stack each error keeps, in V8: 0 unless you set it. With frames it takes five times as long. */
+  /** How many frames of the stack each error keeps, in V8: 0 unless you set it, and no `stack`. With frames it takes five times as long. */
   static stackTraceLimit: number;
   readonly name: 'LocaleError';
   readonly code: ErrorCode;
@@ -33,11 +33,17 @@ export class LocaleError extends RangeError {
   readonly mode: Mode;
   /** The name of the part that is refused, as `region` or `keywords.ca`, where one was given. */
   readonly part?: string;
+  /** Why, where, and what may stand there: `Invalid subtag: 'foo' at 3..6: a script, a region, a variant or an extension may stand here`. */
+  message: string;
   /** Where the fault begins, in units of the string or in bytes; undefined beyond the limits. */
   readonly start: number | undefined;
   /** Where it ends. At the end of the text, and equal to start, if more is wanted there. */
   readonly end: number | undefined;
-  /** Its name, message, code, text, mode, part and place. A structured clone keeps only the message, so send this. */
+  /** What may stand there, in words: `a script`, `a region`, `the end`; none of a part, or beyond the limits. */
+  readonly expected: readonly string[];
+  /** What to do about a text such as `en_US`, in words: `use hyphens in place of underscores`. */
+  readonly hint: string | undefined;
+  /** All that it says. A structured clone keeps at most the message, so send this. */
   toJSON(): {
     name: 'LocaleError';
     message: string;
@@ -47,7 +53,24 @@ export class LocaleError extends RangeError {
     part?: string;
     start: number | undefined;
     end: number | undefined;
+    expected: readonly string[];
+    hint: string | undefined;
   };
+}
+
+/** Why a text is refused. All but its code is looked for when it is first asked for. */
+export interface Refusal {
+  readonly code: ErrorCode;
+  /** That of the LocaleError. */
+  readonly message: string;
+  /** Where the first piece begins with which no accepted text goes on; the end of the text if more is wanted; undefined beyond the limits. */
+  readonly start: number | undefined;
+  readonly end: number | undefined;
+  /** What may stand there, in words. */
+  readonly expected: readonly string[];
+  /** What to do about a text such as `en_US`, in words. */
+  readonly hint: string | undefined;
+  toJSON(): Omit<Refusal, 'toJSON'>;
 }
 
 /** The normal text of what the text means. Throws a LocaleError if there is none. */
@@ -57,7 +80,7 @@ export function normalize(text: Text, mode?: ModeOrIndex): string;
 export function tryNormalize(
   text: Text,
   mode?: ModeOrIndex,
-): { normal: string; code?: undefined; message?: undefined } | { normal?: undefined; code: ErrorCode; message: string };
+): { normal: string; code?: undefined; message?: undefined } | (Refusal & { readonly normal?: undefined });
 
 /** `Done` if the text means something, or why not. */
 export function check(text: Text, mode?: ModeOrIndex): Code;
@@ -67,6 +90,32 @@ export function compare(text: Text, other: Text, mode?: ModeOrIndex): -1 | 0 | 1
 
 /** Whether both texts mean the same; false if the other means nothing. Throws a LocaleError if the text means nothing. */
 export function normalizingEq(text: Text, other: Text, mode?: ModeOrIndex): boolean;
+
+/**
+ * Whether a range stands for the locale that the text means: the extended filtering of RFC 4647, section 3.3.2, with `und` for its
+ * wildcard. `zh-Hant-TW` matches `zh-TW`. Throws a LocaleError if one of both means nothing.
+ */
+export function matches(text: Text, range: Text): boolean;
+
+/**
+ * What the name of a locale, as files and systems write it, is in the form of UTS #35: `sr-Latn-RS` of `sr_RS.UTF-8@latin`. Nothing is
+ * normalized or refused, but for a text of more than 65,535 bytes. Bytes are given for bytes.
+ */
+export function clean(name: string): string;
+export function clean(name: Uint8Array): Uint8Array;
+
+/** Language, script, region and variants of what the text means. This and those below throw as normalize does. */
+export function baseNameOf(text: Text, mode?: ModeOrIndex): string;
+/** The language; `und` if it is unknown. */
+export function languageOf(text: Text, mode?: ModeOrIndex): string;
+export function scriptOf(text: Text, mode?: ModeOrIndex): string | undefined;
+export function regionOf(text: Text, mode?: ModeOrIndex): string | undefined;
+/** The variants with hyphens between them. */
+export function variantsOf(text: Text, mode?: ModeOrIndex): string | undefined;
+/** The value of a keyword by its key, in any case; empty where the key stands alone, undefined where it is not there. */
+export function keywordOf(text: Text, key: Bytes, mode?: ModeOrIndex): string | undefined;
+/** The text without its extensions; without those, without its last variant, region, script or language. null of `und`. */
+export function parent(text: Text, mode?: ModeOrIndex): string | null;
 
 /** What a piece of a normal text is. A `field` is a key of `t`, a `key` one of `u`. */
 export type Kind =
@@ -115,10 +164,9 @@ export function parts(text: Text, mode?: ModeOrIndex): Parts;
 /** The parts of a normal text of any mode. Throws as normalize does. */
 export function partsOfNormal(normal: string): Parts;
 
-export interface Fault {
+/** Why a text is refused, and where. */
+export interface Fault extends Refusal {
   readonly code: Exclude<ErrorCode, 'BeyondLimits'>;
-  readonly message: string;
-  /** Where the first piece begins with which no accepted text goes on; the end of the text if more is wanted. */
   readonly start: number;
   readonly end: number;
 }

@@ -1,9 +1,9 @@
 // Unicode locale identifiers by a proved WebAssembly module. What is not proved: the scripts beside the module, and the way
 // from the proof to the engine that runs the module. Tests compare all of it with the vectors.
-import { CODES, DONE, WORDS, checked, modeOf, normalizeInto, ordered, partsOf, sameness, textOf, version, written } from './calls.mjs';
+import { BEYOND, CODES, DONE, LOCALE, WORDS, checked, cleanedBytes, decoded, matched, modeOf, normalizeInto, ordered, partBy, partsOf, sameness, textOf, version, written } from './calls.mjs';
 import { changedText, changesAny } from './changes.mjs';
 import { LocaleError } from './errors.mjs';
-import { findFault } from './faults.mjs';
+import { Refusal, findFault } from './faults.mjs';
 import { partsBy } from './parts.mjs';
 import { isNarrow, size } from './module.mjs';
 
@@ -21,9 +21,9 @@ export function normalize(given, mode = 'locale') {
 }
 
 /** The normal text of what the text means, or why there is none. */
-export function tryNormalize(text, mode = 'locale') {
-  const status = normalizeInto(textOf(text), modeOf(mode));
-  return status === DONE ? { normal: written() } : { code: CODES[status], message: WORDS[status] };
+export function tryNormalize(given, mode = 'locale') {
+  const text = textOf(given), number = modeOf(mode), status = normalizeInto(text, number);
+  return status === DONE ? { normal: written() } : new Refusal(CODES[status], text, number);
 }
 
 /** `Done` if the text means something, or why not. */
@@ -32,7 +32,7 @@ export function check(text, mode = 'locale') {
 }
 
 // Asks about two texts. An error is about the first text that has one.
-function both(ask, one, two, mode) {
+function both(ask, one, two, mode = 'locale') {
   const number = modeOf(mode), text = textOf(one), other = textOf(two);
   const [status, answer] = ask(text, other, number);
   if (status !== DONE) throw refusal(status, checked(text, number) === status ? text : other, mode);
@@ -47,6 +47,60 @@ export function compare(text, other, mode = 'locale') {
 /** Whether both texts mean the same. */
 export function normalizingEq(text, other, mode = 'locale') {
   return both(sameness, text, other, mode) === 1;
+}
+
+/** Whether a range stands for the locale that the text means: the extended filtering of RFC 4647, with `und` for its wildcard. */
+export function matches(text, range) {
+  return both(matched, text, range) === 1;
+}
+
+/** What the name of a locale, as files and systems write it, is in the form of UTS #35. Nothing is normalized or refused. */
+export function clean(given) {
+  const text = textOf(given), left = cleanedBytes(text);
+  if (left === undefined) throw refusal(BEYOND, text, 'locale');
+  return typeof text === 'string' ? decoded(left) : left.slice();
+}
+
+// A part of what a text means, which the module tells by that call.
+function told(call, given, mode, key) {
+  const text = textOf(given), [status, part] = partBy(call, text, modeOf(mode), key);
+  if (status !== DONE) throw refusal(status, text, mode);
+  return part;
+}
+
+/** Language, script, region and variants of what the text means. */
+export function baseNameOf(text, mode = 'locale') {
+  return told('web_base_name_of', text, mode);
+}
+
+/** The language of what the text means. */
+export function languageOf(text, mode = 'locale') {
+  return told('web_language_of', text, mode);
+}
+
+/** The script of what the text means, if there is one. */
+export function scriptOf(text, mode = 'locale') {
+  return told('web_script_of', text, mode) || undefined;
+}
+
+/** The region of what the text means, if there is one. */
+export function regionOf(text, mode = 'locale') {
+  return told('web_region_of', text, mode) || undefined;
+}
+
+/** The variants of what the text means, with hyphens between them, if there are some. */
+export function variantsOf(text, mode = 'locale') {
+  return told('web_variants_of', text, mode) || undefined;
+}
+
+/** The value of a keyword by its key, in any case; empty where the key stands alone, undefined where it is not there. */
+export function keywordOf(text, key, mode = 'locale') {
+  return told('web_keyword_of', text, mode, textOf(key));
+}
+
+/** The text without its extensions; without those, without its last variant, region, script or language. `und` has none: null. */
+export function parent(text, mode = 'locale') {
+  return told('web_parent', text, mode) ?? null;
 }
 
 /** The parts of what the text means. */
@@ -87,6 +141,7 @@ const isData = text => tryNormalize(text, 'data').normal !== undefined;
  */
 export class Locale {
   #found; // its parts, once they were asked for
+  #told; // those that the module told, by their calls or keys
   constructor(given, options) {
     const { mode = given?.mode ?? 'locale', changes } = optionsOf(options);
     const normal = normalize(given, mode);
@@ -115,30 +170,40 @@ export class Locale {
     return this.#found ??= partsOfNormal(this.normal);
   }
 
+  // A part that the module tells, by that call; asked once.
+  #tell(call, key) {
+    const told = this.#told ??= new Map(), name = key ?? call;
+    if (!told.has(name)) told.set(name, partBy(call, this.normal, LOCALE, key)[1]);
+    return told.get(name);
+  }
+
+  #keyword(key) {
+    return this.#tell('web_keyword_of', key);
+  }
+
   /** All parts, which do not change either. */
   get parts() {
     return frozen(this.#parts);
   }
 
   get language() {
-    return this.#parts.language;
+    return this.#tell('web_language_of');
   }
 
   get script() {
-    return this.#parts.script || undefined;
+    return this.#tell('web_script_of') || undefined;
   }
 
   get region() {
-    return this.#parts.region || undefined;
+    return this.#tell('web_region_of') || undefined;
   }
 
   get variants() {
-    return this.#parts.variants.join('-') || undefined;
+    return this.#tell('web_variants_of') || undefined;
   }
 
   get baseName() {
-    const { language, script, region, variants } = this.#parts;
-    return [language, script, region, ...variants].filter(Boolean).join('-');
+    return this.#tell('web_base_name_of');
   }
 
   get attributes() {
@@ -162,31 +227,31 @@ export class Locale {
   }
 
   get calendar() {
-    return this.#parts.keywords.ca;
+    return this.#keyword('ca');
   }
 
   get caseFirst() {
-    return this.#parts.keywords.kf;
+    return this.#keyword('kf');
   }
 
   get collation() {
-    return this.#parts.keywords.co;
+    return this.#keyword('co');
   }
 
   get firstDayOfWeek() {
-    return this.#parts.keywords.fw;
+    return this.#keyword('fw');
   }
 
   get hourCycle() {
-    return this.#parts.keywords.hc;
+    return this.#keyword('hc');
   }
 
   get numberingSystem() {
-    return this.#parts.keywords.nu;
+    return this.#keyword('nu');
   }
 
   get numeric() {
-    return this.#parts.keywords.kn === '';
+    return this.#keyword('kn') === '';
   }
 
   /** Another locale, of the same mode, of which some parts are others. A part that is given as undefined goes. */
@@ -202,11 +267,8 @@ export class Locale {
 
   /** The locale without its extensions; without those, without its last variant, region, script or language. `und` has none: null. */
   parent() {
-    const { normal, language, script, region, variants } = this.#parts;
-    if (this.baseName !== normal) return new Locale(this.baseName, this.mode);
-    if (variants.length > 0) return this.with({ variants: variants.slice(0, -1) });
-    const last = region ? 'region' : script ? 'script' : language !== 'und' ? 'language' : undefined;
-    return last === undefined ? null : this.with({ [last]: undefined });
+    const above = this.#tell('web_parent');
+    return above === undefined ? null : new Locale(above, this.mode);
   }
 
   /** The data locale by which data is looked up: of the locale's own region, with `sd`, or of that which `rg` names. */

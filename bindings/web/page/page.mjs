@@ -1,8 +1,7 @@
 // The page. `library` is the package.
 const library = /*LIBRARY*/;
 /*HELPERS*/
-const { compare, findFault, isNarrow, partsOfNormal, size, tryNormalize } = library;
-const expected = expecting(library);
+const { clean, compare, findFault, isNarrow, partsOfNormal, size, tryNormalize, wordsOf } = library;
 
 const find = id => document.getElementById(id);
 const make = (name, attributes = {}, ...children) => {
@@ -43,7 +42,7 @@ async function copy(it) {
 
 // What a piece is, in words: of a key or a value by its name, else by its kind.
 function meaningOf(pieces, at) {
-  const { text, kind, of } = pieces[at], [name, , words] = KINDS[kind];
+  const { text, kind, of } = pieces[at], [name, words] = KINDS[kind];
   if (kind === 'key' || kind === 'field') return `${text}: ${KEYS[text] ?? words}`;
   if (kind === 'singleton') return `${text}: ${{ u: 'Settings of the locale: what follows has keys and values.', t: 'The text was transformed, from what follows.', x: 'Private use: what follows has no meaning here.' }[text] ?? words}`;
   const key = kind === 'value' ? pieces.slice(0, at).findLast(it => it.kind === 'key' || it.kind === 'field')?.text : undefined;
@@ -108,14 +107,10 @@ function shownParts(it, written) {
 
 // A refused text.
 
-const oneOf = words => words.length < 2 ? words.join('') : `${words.slice(0, -1).join(', ')}, or ${words.at(-1)}`;
-
-// What may stand at the place of the fault.
-function mayStand(written, start) {
-  const begins = written.slice(0, start), at = begins === '' || begins.endsWith('-') ? begins : `${begins}-`;
-  const kinds = expected(at, mode()), words = Object.keys(KINDS).filter(it => kinds.includes(it)).map(it => KINDS[it][1]);
-  if (start > 0 && tryNormalize(begins.replace(/-$/, ''), mode()).normal !== undefined) words.push('the end of the text');
-  return words.length === 0 ? '' : `Here may stand ${oneOf(words)}.`;
+// What may stand at the place of the fault: the words of the module, and the end of the text.
+function mayStand({ expected }) {
+  const words = expected.length < 2 ? expected.join('') : `${expected.slice(0, -1).join(', ')} or ${expected.at(-1)}`;
+  return `Here may stand ${words}.`;
 }
 
 // What is wrong with the piece at the place.
@@ -130,32 +125,34 @@ function wrongPiece(written, { start, end, code }) {
   return `${which} may not stand here.`;
 }
 
-// What to write instead of a name that is none here, with words of why.
-function hints(written) {
-  const bare = written.trim(), found = [];
-  if (/^(C|POSIX)([._@].*)?$/i.test(bare)) found.push(['und', 'That is a name of POSIX systems for no language. Write'], ['en-US-u-va-posix', 'or, if English as a computer writes it is meant,']);
-  if (/^root$/i.test(bare)) found.push(['und', 'CLDR’s root has another name here. Write']);
-  for (const it of [cleaned(withoutMark(written)), cleaned(bare).replace(/\s+/g, '-')])
-    if (it !== written && !found.some(([text]) => text === it)) found.push([it, found.length ? 'or' : 'Write']);
-  return found.filter(([it]) => tryNormalize(it, mode()).normal !== undefined);
+// What cleaning leaves of a line. (Of one beyond the limits, all of it.)
+function cleaned(line) {
+  try { return clean(line); } catch { return line; }
 }
 
-function shownHints(written) {
-  const found = hints(written), line = make('p', {});
-  for (const [it, words] of found) {
-    const button = make('button', { type: 'button', class: 'mono' }, it);
-    button.addEventListener('click', () => { take(it); text.focus(); });
-    line.append(`${words} `, button, ' ');
-  }
-  return found.length ? [line] : [];
+// Texts to write instead of one that has a hint: what cleaning leaves, perhaps with hyphens for its blanks, or what the hint names.
+function insteadOf(written, hint) {
+  const bare = cleaned(written.trim()); // (a mark counts as a blank)
+  const found = [bare, bare.replace(/\s+/g, '-'), ...hint.match(/\bund\b/) ?? []];
+  return found.find(it => tryNormalize(it, mode()).normal !== undefined);
 }
 
-function shownFault(written, message) {
-  const fault = findFault(written, mode()), { start, end } = fault;
+function shownHint(written, { hint }) {
+  if (hint === undefined) return [];
+  const line = make('p', {}, `Hint: ${hint}.`), instead = insteadOf(written, hint);
+  if (instead === undefined) return [line];
+  const button = make('button', { type: 'button', class: 'mono' }, instead);
+  button.addEventListener('click', () => { take(instead); text.focus(); });
+  line.append(' Write ', button);
+  return [line];
+}
+
+function shownFault(written, code) {
+  const fault = findFault(written, mode()), { start, end } = fault, words = wordsOf(code);
   const echo = make('div', { class: 'echo mono', dir: 'ltr' }, written.slice(0, start), make('mark', {}, written.slice(start, end) || '␣'), written.slice(end));
-  const wrong = wrongPiece(written, fault), may = mayStand(written, start);
-  say(`Refused: ${message}. ${wrong}`);
-  return [make('p', { class: 'refused' }, `${message}.`), echo, make('p', {}, `${wrong} ${may}`), ...shownHints(written),
+  const wrong = wrongPiece(written, fault);
+  say(`Refused: ${words}. ${wrong}`);
+  return [make('p', { class: 'refused' }, `${words}.`), echo, make('p', {}, `${wrong} ${mayStand(fault)}`), ...shownHint(written, fault),
     make('p', { class: 'faint' }, `Intl of this browser: ${ofIntl(written)}.`)];
 }
 
@@ -170,7 +167,7 @@ function shownAnswer(written) {
     say('');
     return [make('p', { class: 'faint' }, 'Type a text, or take an example.')];
   }
-  if (it.code !== undefined) return shownFault(written, it.message);
+  if (it.code !== undefined) return shownFault(written, it.code);
   const found = partsOfNormal(it.normal), is = `It is ${MODES[mode()]}`;
   say(`${is}: ${it.normal}`);
   const words = it.normal === written ? `${is}, and its own normal text.` : `${is}. This is its normal text.`;
@@ -184,7 +181,7 @@ function comparedText(written, second) {
     return order === 0 ? 'Both mean the same.'
       : `They mean different things; in the order of normal texts the first comes ${order < 0 ? 'before' : 'after'} the other.`;
   } catch (error) {
-    return `“${error.text}”: ${error.message}.`;
+    return `“${error.text}”: ${wordsOf(error.code)}.`;
   }
 }
 
@@ -244,6 +241,9 @@ function follow() {
   for (const it of find('form').elements.mode) it.checked = it.value === wanted;
 }
 
+// An input without a byte order mark at its start.
+const withoutMark = it => it.startsWith('\uFEFF') ? it.slice(1) : it;
+
 // A list.
 
 const FEW = 200; // lines that the page shows
@@ -299,13 +299,13 @@ class Answers {
       this.blank++;
       return this.isRefusedOnly ? '' : this.row('');
     }
-    const { normal, code, message } = tryNormalize(written, this.mode);
+    const { normal, code } = tryNormalize(written, this.mode);
     if (normal !== undefined) this.good++;
     else if (code === BEYOND) this.beyond++;
     else this.refused++;
     if (normal !== undefined) return this.isRefusedOnly ? '' : this.row(written, normal);
     const place = findFault(written, this.mode);
-    return this.row(written, '', message, place?.start, place?.end);
+    return this.row(written, '', wordsOf(code), place?.start, place?.end);
   }
 
   row(written, normal = '', message = '', start = '', end = '') {

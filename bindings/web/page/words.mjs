@@ -1,18 +1,18 @@
 // What the page says of kinds of pieces, of keys and of values. The keys and values are those of UTS #35.
 
-/** Each kind: its name, one of it, and what it is. */
+/** Each kind: its name, and what it is. */
 export const KINDS = {
-  language: ['language', 'a language (en)', 'The language, by its code: two or three letters, or five to eight. und is any language.'],
-  script: ['script', 'a script (Latn)', 'The script that it is written in, by its code of four letters.'],
-  region: ['region', 'a region (US, 419)', 'The region whose customs are meant: two letters for a country, three digits for a part of the world.'],
-  variant: ['variant', 'a variant (posix, 1996)', 'A variant of the language, as a dialect or a spelling: five to eight letters or digits, or four that begin with a digit.'],
-  attribute: ['attribute', 'an attribute of three to eight letters or digits', 'A setting without a value. None is in use today.'],
-  key: ['key', 'a key (ca)', 'The name of a setting.'],
-  field: ['field', 'a field (m0)', 'What is said of the transformation: a letter and a digit.'],
-  value: ['value', 'a value of three to eight letters or digits', 'What is chosen for the key before it.'],
-  other: ['subtag', 'two to eight letters or digits', 'A subtag of an extension that has no meaning here.'],
-  private: ['private', 'one to eight letters or digits', 'What the writer alone knows the meaning of.'],
-  singleton: ['extension', 'an extension (u)', 'One letter or digit that begins an extension: u for settings, t for transformed text, x for private use.'],
+  language: ['language', 'The language, by its code: two or three letters, or five to eight. und is any language.'],
+  script: ['script', 'The script that it is written in, by its code of four letters.'],
+  region: ['region', 'The region whose customs are meant: two letters for a country, three digits for a part of the world.'],
+  variant: ['variant', 'A variant of the language, as a dialect or a spelling: five to eight letters or digits, or four that begin with a digit.'],
+  attribute: ['attribute', 'A setting without a value. None is in use today.'],
+  key: ['key', 'The name of a setting.'],
+  field: ['field', 'What is said of the transformation: a letter and a digit.'],
+  value: ['value', 'What is chosen for the key before it.'],
+  other: ['subtag', 'A subtag of an extension that has no meaning here.'],
+  private: ['private', 'What the writer alone knows the meaning of.'],
+  singleton: ['extension', 'One letter or digit that begins an extension: u for settings, t for transformed text, x for private use.'],
 };
 
 /** Each key of `u` and field of `t`. */

@@ -37,7 +37,14 @@ export function asString(bytes) {
 /** What the package answers of a text, as the vectors write it. */
 export function answer(text, mode) {
   const it = web.tryNormalize(text, mode);
-  return it.normal ?? `! ${it.message}`;
+  return it.normal ?? `! ${web.wordsOf(it.code)}`;
+}
+
+/** The rows of a call in the library's own table of tests (crates/test_word_rows): what is asked, and what is wanted. */
+export function rowsOf(call) {
+  const [asked, answers] = ['stdin', 'stdout'].map(it => linesOf(`crates/test_word_rows/${it}`).map(line => line.toString()));
+  const plain = it => it.replaceAll('\\xEF\\xBB\\xBF', '\uFEFF');
+  return asked.flatMap((line, at) => line.startsWith(`${call}\t`) ? [[...plain(line).split('\t').slice(1), answers[at]]] : []);
 }
 
 /** A number from 0 up to, and without, a bound: the same each time. */

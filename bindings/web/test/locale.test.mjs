@@ -231,11 +231,21 @@ test('it travels', async () => {
 
 test('what an error keeps', () => {
   const error = new Locale('en').equals && (() => { try { normalize(Buffer.from('en-ä')); } catch (it) { return it; } })();
-  assert.deepEqual(error.toJSON(), { name: 'LocaleError', message: 'Invalid subtag', code: 'InvalidSubtag', text: [101, 110, 45, 195, 164], mode: 'locale',
-    part: undefined, start: 3, end: 5 });
-  assert.equal(structuredClone(error).message, 'Invalid subtag');
+  const message = "Invalid subtag: 'ä' at 3..5: a script, a region, a variant or an extension may stand here";
+  assert.equal(String(error), `LocaleError: ${message}`);
+  assert.deepEqual(error.toJSON(), { name: 'LocaleError', message, code: 'InvalidSubtag', text: [101, 110, 45, 195, 164], mode: 'locale',
+    part: undefined, start: 3, end: 5, expected: ['a script', 'a region', 'a variant', 'an extension', 'the end'], hint: undefined });
+  assert.equal(structuredClone(error).message, message); // (it was asked for)
   assert.deepEqual(structuredClone(error.toJSON()).code, 'InvalidSubtag');
-  assert.match(inspect(error), /LocaleError: Invalid subtag.*code: 'InvalidSubtag'/s);
+  assert.match(inspect(error), /LocaleError: Invalid subtag: 'ä' at 3\.\.5: .*code: 'InvalidSubtag'/s);
+  error.message = 'another';
+  assert.deepEqual([error.message, Object.keys(error)], ['another', ['code', 'text', 'mode']]);
+  assert.equal(LocaleError.prototype.message, '');
+  const frozen = Object.freeze(new LocaleError('InvalidSubtag', 'en-foo', 'locale'));
+  assert.equal(frozen.message, frozen.message);
+  assert.match(frozen.message, /'foo' at 3\.\.6/);
+  const ofPart = (() => { try { return new Locale('en').with({ region: 'GB-posix' }); } catch (it) { return it; } })();
+  assert.deepEqual([ofPart.message, ofPart.start, ofPart.end, ofPart.expected, ofPart.hint], ["region: Invalid subtag: 'GB-posix'", 0, 8, [], undefined]);
 });
 
 // (a frame costs: so none is kept unless one asks)
@@ -243,8 +253,10 @@ test('a refusal that is thrown costs little, and keeps frames if they are wanted
   const thrown = text => { try { return normalize(text); } catch (error) { return error; } };
   const limit = Error.stackTraceLimit;
   assert.equal(limit, 10); // (node's own: errors that were thrown before left it)
-  assert.equal(thrown('x').stack, 'LocaleError: The given language subtag is invalid');
-  assert.equal(inspect(thrown('x')), "[LocaleError: The given language subtag is invalid] {\n  code: 'InvalidLanguage',\n  text: 'x',\n  mode: 'locale'\n}");
+  const said = "LocaleError: The given language subtag is invalid: 'x' at 0..1: a language may stand here";
+  assert.equal(String(thrown('x')), said);
+  assert.equal(thrown('x').stack, undefined);
+  assert.equal(inspect(thrown('x')), `[${said}] {\n  code: 'InvalidLanguage',\n  text: 'x',\n  mode: 'locale'\n}`);
   assert.equal(Error.stackTraceLimit, limit);
   const time = () => {
     let least = Infinity;
@@ -259,7 +271,7 @@ test('a refusal that is thrown costs little, and keeps frames if they are wanted
   const without = time();
   LocaleError.stackTraceLimit = 10;
   try {
-    assert.match(thrown('x').stack, /\n    at .*locale\.test\.mjs/);
+    assert.match(thrown('x').stack, /^LocaleError: The given language subtag is invalid: 'x' at 0\.\.1: a language may stand here\n    at .*locale\.test\.mjs/s);
     const with10 = time();
     assert.ok(without * 2 < with10, `${without} ns without frames, ${with10} with ten`);
   } finally {

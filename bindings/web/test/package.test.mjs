@@ -1,9 +1,10 @@
 // The package beside the vectors: normal texts, refusals, order, sameness, parts and places of faults.
 import test from 'node:test';
 import assert from 'node:assert/strict';
-import { MODES, answer, asString, real, texts, wanted, web } from './answers.mjs';
+import { MODES, answer, asString, real, rowsOf, texts, wanted, web } from './answers.mjs';
 
-const { Locale, LocaleError, check, compare, findFault, normalize, normalizingEq, parts, partsOfNormal, tryNormalize, version, wordsOf } = web;
+const { Locale, LocaleError, baseNameOf, check, clean, compare, findFault, keywordOf, languageOf, matches, normalize, normalizingEq, parent, parts, partsOfNormal,
+  regionOf, scriptOf, tryNormalize, variantsOf, version, wordsOf } = web;
 const shown = it => it.toString('latin1');
 const isRefused = it => it.startsWith('! ');
 
@@ -36,10 +37,10 @@ for (const mode of MODES) {
     for (let at = 0; at + 1 < texts.length; at++) {
       const [a, b] = [texts[at], texts[at + 1]], [x, y] = [answers[at], answers[at + 1]];
       if (isRefused(x)) {
-        assert.throws(() => compare(a, b, mode), it => it instanceof LocaleError && `! ${it.message}` === x && it.text === a);
-        assert.throws(() => normalizingEq(a, b, mode), it => `! ${it.message}` === x);
+        assert.throws(() => compare(a, b, mode), it => it instanceof LocaleError && `! ${wordsOf(it.code)}` === x && it.text === a);
+        assert.throws(() => normalizingEq(a, b, mode), it => `! ${wordsOf(it.code)}` === x);
       } else {
-        if (isRefused(y)) assert.throws(() => compare(a, b, mode), it => `! ${it.message}` === y && it.text === b);
+        if (isRefused(y)) assert.throws(() => compare(a, b, mode), it => `! ${wordsOf(it.code)}` === y && it.text === b);
         else assert.equal(compare(a, b, mode), x < y ? -1 : x > y ? 1 : 0);
         assert.equal(normalizingEq(a, b, mode), x === y);
         assert.equal(compare(a, x, mode), 0);
@@ -72,10 +73,11 @@ for (const mode of MODES) {
       const text = asString(it), fault = findFault(text ?? it, mode);
       if (!isRefused(answers[at])) assert.equal(fault, null);
       else {
-        assert.equal(`! ${fault.message}`, answers[at]);
-        const whole = text ?? shown(it), starts = [...whole.matchAll(/-|$/g)].map(it => it.index);
-        assert.ok(fault.start === 0 || whole[fault.start - 1] === '-' || fault.start === whole.length, whole);
-        assert.ok(starts.includes(fault.end), whole);
+        assert.equal(`! ${wordsOf(fault.code)}`, answers[at]);
+        assert.ok(fault.message.startsWith(`${wordsOf(fault.code)}: '`) && fault.expected.length > 0, text ?? shown(it));
+        const all = text ?? shown(it), starts = [...all.matchAll(/-|$/g)].map(it => it.index);
+        assert.ok(fault.start === 0 || all[fault.start - 1] === '-' || fault.start === all.length, all);
+        assert.ok(starts.includes(fault.end), all);
       }
     }
   });
@@ -108,7 +110,7 @@ test('places of pieces', () => {
 
 test('refusals', () => {
   assert.throws(() => normalize('en_US'), error => error instanceof LocaleError && error instanceof RangeError && error.name === 'LocaleError'
-    && error.code === 'InvalidLanguage' && error.message === 'The given language subtag is invalid' && error.start === 0 && error.end === 5);
+    && error.code === 'InvalidLanguage' && error.start === 0 && error.end === 5);
   assert.throws(() => normalize('en-US-foo'), error => error.code === 'InvalidSubtag' && error.start === 6 && error.end === 9);
   for (const mode of ['other', 'toString', '', null, {}, true]) assert.throws(() => normalize('en', mode), TypeError);
   for (const text of [7, undefined, null, ['en'], new Uint16Array(2)]) assert.throws(() => normalize(text), TypeError);
@@ -128,11 +130,15 @@ test('limits', () => {
   assert.equal(normalize(most), most);
   assert.equal(check(many), 'BeyondLimits');
   assert.equal(check(many, 'langid'), 'BeyondLimits');
-  assert.deepEqual(tryNormalize(many), { code: 'BeyondLimits', message: 'Beyond the limits' });
+  const { code, message, start, expected, hint } = tryNormalize(many);
+  assert.deepEqual([code, message, start, expected, hint], ['BeyondLimits', 'Beyond the limits', undefined, [], undefined]);
   assert.equal(check(many, 'data'), 'InvalidSubtag');
   assert.throws(() => normalize(many), it => it.code === 'BeyondLimits' && it.start === undefined && it.end === undefined);
   assert.throws(() => compare('en', many), it => it.code === 'BeyondLimits' && it.text === many);
-  assert.deepEqual(findFault(`${many}-!!`), { code: 'InvalidSubtag', message: 'Invalid subtag', start: many.length + 1, end: many.length + 3 });
+  const fault = findFault(`${many}-!!`);
+  assert.deepEqual([fault.code, fault.start, fault.end], ['InvalidSubtag', many.length + 1, many.length + 3]);
+  const beyond = tryNormalize(`${many}-!!`);
+  assert.deepEqual([beyond.code, beyond.start, beyond.expected, beyond.message], ['BeyondLimits', undefined, [], 'Beyond the limits']);
   assert.equal(check('x'.repeat(65535)), 'InvalidLanguage');
   assert.equal(check('x'.repeat(65536)), 'BeyondLimits');
   assert.equal(check('ä'.repeat(32767)), 'InvalidLanguage');
@@ -165,6 +171,167 @@ test('places of faults', () => {
   assert.deepEqual(at('en-\u{1F600}€-US'), [3, 6, 'InvalidSubtag']);
   assert.deepEqual(at('en-\uD800-US'), [3, 4, 'InvalidSubtag']); // (half of a pair is read as U+FFFD)
   assert.equal(findFault('en-US'), null);
+});
+
+// (the rows of the library's own tests, and what each of the three tells of them)
+for (const mode of MODES) {
+  test(`hints, ${mode}`, () => {
+    const rows = rowsOf(`hint-${mode}`);
+    assert.ok(rows.length > 0);
+    for (const [text, words] of rows) {
+      const hint = words === 'none' ? undefined : words, refused = tryNormalize(text, mode);
+      if (refused.normal === undefined) {
+        assert.equal(refused.hint, hint, text);
+        assert.equal(findFault(text, mode).hint, hint, text);
+        assert.throws(() => normalize(text, mode), it => it.hint === hint && it.message.endsWith(hint ?? ' may stand here'));
+      } else assert.equal(hint, undefined, text);
+    }
+  });
+
+  test(`what may stand at the place of a fault, ${mode}`, () => {
+    let count = 0;
+    for (const [text, place, answer] of rowsOf(`expected-${mode}`)) {
+      const fault = findFault(text, mode);
+      if (fault === null || fault.start !== Number(place)) continue;
+      count++;
+      const [bits, ...words] = answer.split(' '), list = fault.expected.filter(it => it !== 'the end');
+      const joined = list.length < 2 ? list.join('') : `${list.slice(0, -1).join(', ')} or ${list.at(-1)}`;
+      assert.equal(joined, words.join(' '), text);
+      assert.equal(fault.expected.includes('the end'), (bits >> 12 & 1) === 1, text);
+      assert.ok(fault.message.includes(`: ${words.join(' ')} may stand here`), fault.message);
+      assert.throws(() => normalize(text, mode), it => it.message === fault.message && it.message === tryNormalize(text, mode).message
+        && JSON.stringify(it.expected) === JSON.stringify(fault.expected));
+    }
+    assert.ok(count > 1, `${count} rows`);
+  });
+
+  // Each piece of an accepted text may stand after those before it, so its kind is expected there.
+  test(`what stands in accepted texts is expected, ${mode}`, () => {
+    const named = { language: 'a language', script: 'a script', region: 'a region', variant: 'a variant', singleton: 'an extension', attribute: 'an attribute',
+      key: 'a key', value: 'a value', field: 'a key of a field', other: 'a subtag of the extension', private: 'a private subtag' };
+    const seen = new Set();
+    for (const text of [...texts, ...real].map(asString)) {
+      const { normal } = text === null ? {} : tryNormalize(text, mode);
+      if (normal === undefined) continue;
+      for (const { start, kind, of } of partsOfNormal(normal).pieces) {
+        const begins = normal.slice(0, start);
+        if (seen.has(begins)) continue;
+        seen.add(begins);
+        const fault = findFault(`${begins}!`, mode), words = kind === 'value' && of === 't' ? 'a value of a field' : named[kind];
+        assert.equal(fault.start, start, begins);
+        assert.ok(fault.expected.includes(words), `${words} after ${begins}`);
+      }
+    }
+    assert.ok(seen.size > 200, `${seen.size} places`);
+  });
+}
+
+test('messages', () => {
+  const said = (text, mode) => tryNormalize(text, mode).message;
+  assert.equal(said('en-Latn-foo'), "Invalid subtag: 'foo' at 8..11: a region, a variant or an extension may stand here");
+  assert.equal(said('en-foo'), "Invalid subtag: 'foo' at 3..6: a script, a region, a variant or an extension may stand here");
+  assert.equal(said('en_US'), "The given language subtag is invalid: 'en_US' at 0..5: a language may stand here; use hyphens in place of underscores");
+  assert.equal(said('en-u'), "Invalid extension: '' at 4..4: an attribute or a key may stand here");
+  assert.equal(said('en-US-u', 'langid'), "Invalid subtag: 'u' at 6..7: a variant may stand here");
+  assert.equal(said('en-u-ca-roc-u'), "Duplicated extension: 'u' at 12..13: an extension, a key or a value may stand here");
+  assert.equal(said('en-ä-US'), "Invalid subtag: 'ä' at 3..4: a script, a region, a variant or an extension may stand here");
+  assert.equal(said(Buffer.from('en-ä-US')), "Invalid subtag: 'ä' at 3..5: a script, a region, a variant or an extension may stand here");
+  assert.equal(said(`en-${'x'.repeat(100)}`).slice(0, 100), `Invalid subtag: '${'x'.repeat(64)}'... at 3..103: a s`);
+  assert.equal(said(`en-${'x'.repeat(64)}`).slice(0, 90), `Invalid subtag: '${'x'.repeat(64)}' at 3..6`);
+  assert.ok(said('en-a\n\u0007b').includes(": 'a\\n\\u0007b' at 3..7: "));
+  const { normal, code, message, start, end, expected, hint } = tryNormalize('en_US');
+  assert.deepEqual(JSON.parse(JSON.stringify(tryNormalize('en_US'))), { code, message, start, end, expected, hint });
+  assert.deepEqual([normal, code, start, end, expected, hint], [undefined, 'InvalidLanguage', 0, 5, ['a language'], 'use hyphens in place of underscores']);
+});
+
+// (the rows of the library's own tests: RFC 4647, section 3.3.2, and what it says of `und`; texts that are their own normal text)
+test('ranges', () => {
+  const isNormal = it => tryNormalize(it).normal === it;
+  const rows = rowsOf('matches').filter(([text, range]) => isNormal(text) && isNormal(range));
+  assert.ok(rows.length > 15, `${rows.length} rows`);
+  for (const [text, range, wanted] of rows) assert.equal(matches(text, range), wanted === 'true', `${text} ${range}`);
+  assert.equal(matches('ZH-hant-tw', 'zh-TW'), true);
+  assert.equal(matches(new Locale('de-US'), Buffer.from('UND-us')), true);
+  assert.equal(matches('en-x-us', 'en-US'), false);
+  assert.throws(() => matches('e', 'x'), it => it.text === 'e' && it.code === 'InvalidLanguage');
+  assert.throws(() => matches('en', 'x'), it => it.text === 'x' && it.mode === 'locale');
+  assert.throws(() => matches('en', 'en-u'), it => it.text === 'en-u' && it.code === 'InvalidExtension');
+  assert.throws(() => matches('en', 'x'.repeat(65536)), it => it.code === 'BeyondLimits');
+  assert.throws(() => matches('en', 7), TypeError);
+  for (const text of real.filter(it => check(it) === 'Done').slice(0, 300)) {
+    assert.equal(matches(text, 'und'), true);
+    assert.equal(matches(text, text), true);
+    const above = parent(text);
+    if (above !== null) assert.equal(matches(text, above), true, String(text));
+  }
+});
+
+// (what include/icu_locale.h says of these calls)
+test('parts of texts', () => {
+  const text = 'EN-latn-us-POSIX-macos-u-KN-ca-Islamic-civil';
+  assert.deepEqual([languageOf(text), scriptOf(text), regionOf(text), variantsOf(text), baseNameOf(text)],
+    ['en', 'Latn', 'US', 'macos-posix', 'en-Latn-US-macos-posix']);
+  assert.deepEqual(['ca', 'CA', 'kn', 'nu', 'foo', ''].map(it => keywordOf(text, it)), ['islamic-civil', 'islamic-civil', '', undefined, undefined, undefined]);
+  assert.deepEqual([languageOf('und'), scriptOf('und'), regionOf('und'), variantsOf('und'), baseNameOf('und')], ['und', undefined, undefined, undefined, 'und']);
+  assert.deepEqual([regionOf('en-u-sd-gbeng', 'data'), keywordOf('en-u-sd-gbeng', 'sd', 'data')], ['GB', 'gbeng']);
+  assert.equal(keywordOf('en-u-ca-roc', Buffer.from('ca')), 'roc');
+  assert.equal(keywordOf('en-u-ca-roc', 'c'.repeat(70000)), undefined);
+  assert.deepEqual(['EN-us', 'de'].map(regionOf), ['US', undefined]);
+  for (const call of [baseNameOf, languageOf, scriptOf, regionOf, variantsOf, parent]) {
+    assert.throws(() => call('en-'), it => it instanceof LocaleError && it.code === 'InvalidSubtag' && it.text === 'en-');
+    assert.throws(() => call('en-u-ca', 'langid'), it => it.mode === 'langid');
+    assert.throws(() => call('x'.repeat(65536)), it => it.code === 'BeyondLimits');
+    assert.throws(() => call('en', 'other'), TypeError);
+  }
+  assert.throws(() => keywordOf('en-', 'ca'), LocaleError);
+  assert.throws(() => keywordOf('en', 7), TypeError);
+  const chain = text => text === null ? [] : [text, ...chain(parent(text))];
+  assert.deepEqual(chain('en-Latn-US-u-ca-buddhist'), ['en-Latn-US-u-ca-buddhist', 'en-Latn-US', 'en-Latn', 'en', 'und']);
+  assert.deepEqual([parent('EN-macos-POSIX'), parent('und-US'), parent('und-x-a'), parent('und'), parent('en-u-sd-gbeng', 'data')],
+    ['en-macos', 'und', 'und', null, 'en-GB']);
+});
+
+// What the calls for parts tell is what the pieces are.
+for (const mode of MODES) {
+  test(`parts of all accepted texts, ${mode}`, () => {
+    let count = 0;
+    for (const text of [...texts, ...real]) {
+      if (check(text, mode) !== 'Done') continue;
+      count++;
+      const { language, script, region, variants, keywords } = parts(text, mode);
+      assert.equal(baseNameOf(text, mode), [language, script, region, ...variants].filter(Boolean).join('-'), shown(text));
+      assert.deepEqual([languageOf(text, mode), scriptOf(text, mode) ?? '', regionOf(text, mode) ?? '', variantsOf(text, mode) ?? ''],
+        [language, script, region, variants.join('-')]);
+      for (const [key, value] of Object.entries(keywords)) assert.equal(keywordOf(text, key, mode), value);
+      assert.equal(keywordOf(text, 'zz', mode), keywords.zz);
+    }
+    assert.ok(count > 500, `${count} are accepted`);
+  });
+}
+
+// (the cases that the page of the crate iloc_cleaning says)
+test('cleaning', () => {
+  const cases = [
+    [' en-US ', 'en-US'], ['\t en\t', 'en'], ['en_US', 'en-US'], ['en_US\r', 'en-US'], ['en_US \r', 'en-US'], ['en_US\r ', 'en-US\r'], ['en\r\r', 'en\r'],
+    ['en_US.UTF-8', 'en-US'], ['de_DE.UTF-8', 'de-DE'], ['de_DE@euro', 'de-DE'], ['de_DE.ISO-8859-15@euro', 'de-DE'], ['sr_RS@latin', 'sr-Latn-RS'],
+    ['sr_RS.UTF-8@latin', 'sr-Latn-RS'], ['sr@latin', 'sr-Latn'], ['uz_UZ@cyrillic', 'uz-Cyrl-UZ'], ['sd_IN@devanagari', 'sd-Deva-IN'],
+    ['ca_ES@valencia', 'ca-ES-valencia'], ['ca_ES.UTF-8@valencia', 'ca-ES-valencia'], ['aa_ER@saaho', 'aa-ER-saaho'], ['de_DE@foo', 'de-DE@foo'],
+    ['de_DE@phonebook', 'de-DE@phonebook'], ['de_DE.UTF-8@foo_bar', 'de-DE@foo_bar'], ['tt_RU@iqtelif', 'tt-RU@iqtelif'], ['de_DE@LATIN', 'de-DE@LATIN'],
+    ['de@a.b', 'de@a.b'], ['de@latin.UTF-8', 'de@latin.UTF-8'], ['en US', 'en US'], ['C', 'C'], ['POSIX', 'POSIX'], ['C.UTF-8', 'C'], ['', ''], ['\r', ''],
+    ['.', ''], ['@', '@'], ['_', '-'], ['@latin', '-Latn'], ['en-x_y', 'en-x-y'], ['\uFEFFen', '\uFEFFen'], ['a\u00A0', 'a\u00A0'], ['de@toString', 'de@toString'],
+  ];
+  for (const [line, wanted] of cases) {
+    assert.equal(clean(line), wanted, JSON.stringify(line));
+    assert.deepEqual(Buffer.from(clean(Buffer.from(line))), Buffer.from(wanted));
+  }
+  assert.deepEqual([...clean(Uint8Array.of(32, 101, 255, 95))], [101, 255, 45]);
+  const kept = clean(Buffer.from('de_DE'));
+  assert.equal(clean('sr_RS@latin'), 'sr-Latn-RS');
+  assert.equal(String.fromCharCode(...kept), 'de-DE');
+  assert.equal(clean(`${'_'.repeat(65535)}`), '-'.repeat(65535));
+  assert.throws(() => clean('_'.repeat(65536)), it => it.code === 'BeyondLimits');
+  assert.throws(() => clean(7), TypeError);
+  assert.equal(normalize(clean('sr_RS.UTF-8@latin')), 'sr-Latn-RS');
 });
 
 test('a locale that does not change', () => {

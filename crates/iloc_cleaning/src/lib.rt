@@ -22,9 +22,10 @@
 //! It promises nothing of what the library then answers, and stands on the grammar's word for a text.
 #![tactic(auto)]
 
-ghost use Rattle.std.specs.Prelude.{◌≡◌, ◌++◌, OnOk, OnErr};
+ghost use Rattle.std.specs.Prelude.{◌≡◌, ◌<◌, ◌≤◌, ◌++◌, MatchOption, OnOk, OnErr, length, take};
 ghost use Rattle.iloc_cleaning.specs.Cleaning.{without_mark, clean};
 
+mod copying;
 pub mod laws;
 mod margins;
 mod modifier;
@@ -69,4 +70,19 @@ pub fn clean_line(line: &[u8], cleaned: &mut Vec<u8>) -> Result<(), AllocError>
         cleaned.truncate(before);
     }
     added
+}
+
+/// Writes what cleaning leaves of a line, without its newline, to the front of a room, and gives how many bytes that is; `None`
+/// if it does not fit. Behind them the room may have changed.
+///
+/// It allocates nothing, and is otherwise `clean_line`.
+///
+/// ```text
+/// clean_into(b"en_US.UTF-8", &mut room): Some(5), and en-US at the front of the room
+/// ```
+pub fn clean_into(line: &[u8], room: &mut [u8]) -> Option<usize>
+    ensures { MatchOption result (length room.old < length (clean line.now))
+        (λ end. (end ≤ length room.new) × (take end room.new ≡ clean line.now)) }
+{
+    copying::copy_name(margins::without_blanks(margins::without_return(line)), room)
 }

@@ -41,7 +41,7 @@ fn add_with_script(base: &[u8], script: [u8; 5], cleaned: &mut Vec<u8>) -> Resul
 }
 
 // How long language and territory are.
-fn base_len(name: &[u8]) -> usize
+pub(crate) fn base_len(name: &[u8]) -> usize
     ensures within { result ≤ length name.now }
     ensures first { result ≡ position_or_len ends_base name.now }
 {
@@ -50,7 +50,7 @@ fn base_len(name: &[u8]) -> usize
 }
 
 // Where the modifier begins, or how long the name is if it has none.
-fn modifier_start(name: &[u8]) -> usize
+pub(crate) fn modifier_start(name: &[u8]) -> usize
     ensures within { result ≤ length name.now }
     ensures first { result ≡ position_or_len is_at name.now }
 {
@@ -59,7 +59,7 @@ fn modifier_start(name: &[u8]) -> usize
 }
 
 // How long the language is.
-fn language_len(base: &[u8]) -> usize
+pub(crate) fn language_len(base: &[u8]) -> usize
     ensures within { result ≤ length base.now }
     ensures first { result ≡ position_or_len is_separator base.now }
 {

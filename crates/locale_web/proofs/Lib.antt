@@ -5,3 +5,4 @@ pub mod LocaleLemmas
 pub mod PartLemmas
 pub mod ReadLemmas
 pub mod SameLemmas
+pub mod TextLemmas

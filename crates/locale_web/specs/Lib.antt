@@ -3,3 +3,5 @@ pub mod Steps
 pub mod Answers
 pub mod Parts
 pub mod Reading
+pub mod Refused
+pub mod Texts
