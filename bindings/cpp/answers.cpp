@@ -44,11 +44,16 @@ static std::string fault_of(const std::string &line, mode as)
         if (!found || found->status != refused.status() || found->start != refused.start() || found->end != refused.end())
             std::abort();
         const std::string start = std::to_string(found->start), end = std::to_string(found->end), what = refused.what();
-        const std::string place = " at " + start + ".." + end;
-        const bool is_said = what.size() > place.size() && what.substr(what.size() - place.size()) == place;
-        if (is_said != (found->end - found->start != line.size()))
+        const icu_locale::kinds kinds = icu_locale::expected(line, found->start, as);
+        const icu_locale::hint hint = icu_locale::find_hint(line, as);
+        const bool is_part = found->end - found->start != line.size();
+        const std::string told = (is_part ? "' at " + start + ".." + end : "'") + ": " + words(kinds) + " may stand here"
+            + (hint == icu_locale::hint::none ? "" : "; " + words(hint));
+        const bool is_said = what.size() > told.size() && what.substr(what.size() - told.size()) == told;
+        if (kinds != refused.expected() || hint != refused.hint() || (line.size() <= 64 && !is_said))
             std::abort();
-        return start + " " + end;
+        return start + " " + end + " " + std::to_string(kinds.bits()) + " "
+            + std::to_string(static_cast<icu_locale_hint_number>(hint));
     }
     return found ? "a fault of no refused text" : "-";
 }
@@ -328,19 +333,26 @@ static void try_errors()
 {
     locale held("en");
     const std::string long_text(65, 'a');
+    /* What may stand at the beginning, after a language, and after one in t: UTS #35, sections 3.1 and 3.2. */
+    const std::string first = ": a language may stand here", in_transform = ": a script, a region or a variant may stand here",
+                      next = ": a script, a region, a variant or an extension may stand here";
     const std::pair<std::string, std::string> cases[] = {
-        {said([] { icu_locale::normalize(std::string_view()); }), ": ''"},
-        {said([] { icu_locale::strict_cmp("e", "en"); }), ": 'e'"},
-        {said([] { icu_locale::normalizing_eq("e\n'", "en"); }), ": 'e\\x0a\\x27'"},
-        {said([] { icu_locale::compare("e", "x"); }), ": 'e'"},
-        {said([] { icu_locale::compare("en", "x"); }), ": 'x'"},
-        {said([&] { locale made(long_text); }), ": '" + long_text.substr(1) + "'..."},
-        {said([&] { locale made("en-" + long_text); }), ": 'en-" + long_text.substr(4) + "'... at 3..68"},
-        {said([] { icu_locale::normalize("e-US"); }), ": 'e-US' at 0..1"},
-        {said([] { icu_locale::normalize("en-toolonggg-US"); }), ": 'en-toolonggg-US' at 3..12"},
-        {said([] { icu_locale::compare("en", "en-\xff"); }), ": 'en-\\xff' at 3..4"},
-        {said([&] { held.assign("en-"); }), ": 'en-' at 3..3"},
-        {said([&] { held.set_transform_language("de-a"); }), ": 'de-a' at 3..4"},
+        {said([] { icu_locale::normalize(std::string_view()); }), ": ''" + first},
+        {said([] { icu_locale::strict_cmp("e", "en"); }), ": 'e'" + first},
+        {said([] { icu_locale::normalizing_eq("e\n'", "en"); }), ": 'e\\x0a\\x27'" + first + "; leave out the blanks"},
+        {said([] { icu_locale::compare("e", "x"); }), ": 'e'" + first},
+        {said([] { icu_locale::compare("en", "x"); }), ": 'x'" + first},
+        {said([&] { locale made(long_text); }), ": '" + long_text.substr(1) + "'..." + first},
+        {said([&] { locale made("en-" + long_text); }), ": 'en-" + long_text.substr(4) + "'... at 3..68" + next},
+        {said([] { icu_locale::normalize("e-US"); }), ": 'e-US' at 0..1" + first},
+        {said([] { icu_locale::normalize("en-toolonggg-US"); }), ": 'en-toolonggg-US' at 3..12" + next},
+        {said([] { icu_locale::normalize("en-US-foo"); }), ": 'en-US-foo' at 6..9: a variant or an extension may stand here"},
+        {said([] { icu_locale::normalize("en-u"); }), ": 'en-u' at 4..4: an attribute or a key may stand here"},
+        {said([] { icu_locale::normalize("en_US"); }), ": 'en_US'" + first + "; use hyphens in place of underscores"},
+        {said([] { icu_locale::normalize("en_!"); }), ": 'en_!'" + first},
+        {said([] { icu_locale::compare("en", "en-\xff"); }), ": 'en-\\xff' at 3..4" + next},
+        {said([&] { held.assign("en-"); }), ": 'en-' at 3..3" + next},
+        {said([&] { held.set_transform_language("de-a"); }), ": 'de-a' at 3..4" + in_transform},
         {said([&] { held.set_region("USA"); }), ": 'USA'"},
         {said([&] { held.add_variant("pos"); }), ": 'pos'"},
         {said([&] { held.set_keyword("ca", "r"); }), ": 'ca-r'"},
@@ -409,6 +421,77 @@ static void try_places()
         std::abort();
 }
 
+/* The error of a call, which is to throw one. */
+template <class Call> static icu_locale::error refused(Call call)
+{
+    try {
+        call();
+    } catch (const icu_locale::error &it) {
+        return it;
+    }
+    std::abort();
+}
+
+/* What may stand at a place, by UTS #35, sections 3.1 and 3.2: what an identifier, u, t, x and another extension have. */
+static void try_expected()
+{
+    using icu_locale::kind;
+    struct row {
+        const char *text;
+        std::vector<kind> wanted;
+        mode as = mode::locale;
+    };
+    const row rows[] = {
+        {"", {kind::language}},
+        {"en-foo", {kind::script, kind::region, kind::variant, kind::singleton, kind::end}},
+        {"en-Latn-!", {kind::region, kind::variant, kind::singleton, kind::end}},
+        {"en-US-foo", {kind::variant, kind::singleton, kind::end}},
+        {"en-u", {kind::attribute, kind::key}},
+        {"en-u-ca-!", {kind::singleton, kind::key, kind::value, kind::end}},
+        {"en-t-!", {kind::language, kind::field}},
+        {"en-t-m0-!", {kind::field_value}},
+        {"en-t-m0-din-!", {kind::singleton, kind::field, kind::field_value, kind::end}},
+        {"en-a", {kind::other}},
+        {"en-x-!", {kind::private_subtag}},
+        {"en-US-u-ca", {kind::variant, kind::end}, mode::identifier},
+    };
+    for (const row &it : rows) {
+        const icu_locale::error error = refused([&] { icu_locale::normalize(it.text, it.as); });
+        icu_locale_kinds bits = 0;
+        for (const kind one : it.wanted) {
+            bits |= static_cast<icu_locale_kinds>(one);
+            if (!error.expected().contains(one))
+                std::abort();
+        }
+        if (error.expected().bits() != bits || icu_locale::expected(it.text, error.start(), it.as) != error.expected())
+            std::abort();
+    }
+    const icu_locale::error part = refused([] { locale().set_region("U_S"); });
+    if (!part.expected().empty() || part.hint() != icu_locale::hint::none)
+        std::abort();
+    if (!icu_locale::expected("en", 2, static_cast<mode>(3)).empty() || !icu_locale::expected("en", 2).contains(kind::end))
+        std::abort();
+    if (words(icu_locale::kinds(8192)) != "Unknown kinds" || words(icu_locale::kinds()) != "nothing")
+        std::abort();
+}
+
+/* What is usually meant by a refused text, and by no other. */
+static void try_hints()
+{
+    using icu_locale::hint;
+    const std::pair<const char *, hint> rows[] = {{"en_US", hint::underscores}, {"en_US.UTF-8", hint::codeset},
+        {"C", hint::system}, {"en-US ", hint::blanks}, {"\xef\xbb\xbf""en", hint::mark}, {"en_!", hint::none}, {"en-!", hint::none}};
+    for (const auto &[text, wanted] : rows)
+        if (refused([&given = text] { icu_locale::normalize(given); }).hint() != wanted || icu_locale::find_hint(text) != wanted)
+            std::abort();
+    if (icu_locale::find_hint("en-US") != hint::none || icu_locale::find_hint("en_US_u_ca", mode::identifier) != hint::none)
+        std::abort();
+    if (icu_locale::find_hint("en_US", static_cast<mode>(3)) != hint::none || !words(hint::none).empty())
+        std::abort();
+    if (words(hint::system) != "use und, since this name has no language")
+        std::abort();
+}
+
 int main(int count, char **words)
 {
     std::ios::sync_with_stdio(false);
@@ -418,6 +501,8 @@ int main(int count, char **words)
     std::string first, second;
     try_errors();
     try_places();
+    try_expected();
+    try_hints();
     try_objects();
     if (word == "script")
         return answer_script();
