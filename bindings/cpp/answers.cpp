@@ -458,11 +458,11 @@ static void try_expected()
     for (const row &it : rows) {
         const icu_locale::error error = refused([&] { icu_locale::normalize(it.text, it.as); });
         icu_locale_kinds bits = 0;
-        for (const kind one : it.wanted) {
+        for (const kind one : it.wanted)
             bits |= static_cast<icu_locale_kinds>(one);
-            if (!error.expected().contains(one))
+        for (icu_locale_kinds bit = 1; bit <= ICU_LOCALE_KIND_END; bit *= 2)
+            if (error.expected().contains(static_cast<kind>(bit)) != ((bits & bit) != 0))
                 std::abort();
-        }
         if (error.expected().bits() != bits || icu_locale::expected(it.text, error.start(), it.as) != error.expected())
             std::abort();
     }
@@ -485,6 +485,8 @@ static void try_hints()
         if (refused([&given = text] { icu_locale::normalize(given); }).hint() != wanted || icu_locale::find_hint(text) != wanted)
             std::abort();
     if (icu_locale::find_hint("en-US") != hint::none || icu_locale::find_hint("en_US_u_ca", mode::identifier) != hint::none)
+        std::abort();
+    if (refused([] { icu_locale::normalize("en_US_u_ca", mode::identifier); }).hint() != hint::none)
         std::abort();
     if (icu_locale::find_hint("en_US", static_cast<mode>(3)) != hint::none || !words(hint::none).empty())
         std::abort();

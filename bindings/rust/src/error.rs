@@ -254,7 +254,7 @@ mod tests {
         assert_eq!(format!("{:-<16}|", Refusal::OutOfMemory), "Out of memory---|");
         let error = normalize(Mode::Locale, "e").unwrap_err();
         let said = format!("The given language subtag is invalid: 'e'{LANGUAGE}");
-        assert_eq!(format!("{error:>66}|"), format!("  {said}|"));
+        assert_eq!(format!("{error:>70}|"), format!("  {said}|"));
         let error = "USA".parse::<crate::subtags::Region>().unwrap_err();
         assert_eq!(format!("{error:>23}|"), "  Invalid subtag: 'USA'|");
     }
