@@ -171,7 +171,10 @@ mod tests {
     use crate::{check, normalize};
 
     fn kinds(mode: Mode, text: &str) -> Vec<PieceKind> {
-        check(mode, text).unwrap_err().expected().iter().collect()
+        let expected = check(mode, text).unwrap_err().expected();
+        let contained = KINDS.map(|(it, _)| it).into_iter().filter(|&it| expected.contains(it));
+        assert!(contained.eq(expected.iter()));
+        expected.iter().collect()
     }
 
     fn hint(text: &str) -> Option<Hint> {

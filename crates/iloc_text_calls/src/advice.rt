@@ -13,7 +13,6 @@ use iloc_normalize::Mode;
 const NO_KINDS: u32 = 1 << 13;
 
 /// Writes the number of the set of kinds that may stand at the place of the text.
-#[tactic(auto, using(crate::proofs::AdviceLemmas::kinds_told))]
 pub(crate) fn tell_kinds(mode: Mode, text: &[u8], place: usize, kinds: &mut u32) -> Status
     ensures { TellsKinds mode text.now place kinds.new result }
 {
