@@ -293,7 +293,8 @@ icu_locale_status icu_locale_parent(icu_locale_mode mode, const uint8_t *text, s
 /* Writes 1 to *same if the range stands for the locale, and else 0: the extended filtering of RFC 4647, section 3.3.2, with
  * und for its wildcard. zh-Hant-TW matches zh-TW, zh and und-TW; en-x-us does not match en-US. Both are texts of locales,
  * in any spelling. A refusal is that of the text, or if the text has a meaning, that of the range. *same is then as before.
- * It may allocate for any of them, and then end with OUT_OF_MEMORY. */
+ * Allocates for either only if icu_locale_check may, or if it is not in its normal form: no other text or range ends with
+ * OUT_OF_MEMORY. */
 ICU_LOCALE_WRITES(5) ICU_LOCALE_TELLS
 icu_locale_status icu_locale_matches(const uint8_t *text, size_t length, const uint8_t *range, size_t range_length,
     uint8_t *same) ICU_LOCALE_NOEXCEPT;

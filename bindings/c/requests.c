@@ -88,6 +88,12 @@ static icu_locale_status look_at_check(const char *text, int may_ask)
     begin();
     WANT(icu_locale_normalize(ICU_LOCALE_LOCALE, text_bytes(text), strlen(text), buffer, sizeof buffer, &needed) == status);
     WANT(may_ask || refusing_requests() == 0);
+    /* A match asks nothing for a text in its normal form. */
+    int is_normal = status == ICU_LOCALE_DONE && needed == strlen(text) && memcmp(buffer, text, needed) == 0;
+    uint8_t same;
+    begin();
+    WANT(icu_locale_matches(text_bytes(text), strlen(text), text_bytes("und"), 3, &same) == status);
+    WANT(may_ask || (status == ICU_LOCALE_DONE && !is_normal) || refusing_requests() == 0);
     begin();
     (void)!icu_locale_check(ICU_LOCALE_DATA_LOCALE, text_bytes(text), strlen(text));
     WANT(refusing_requests() == 0);

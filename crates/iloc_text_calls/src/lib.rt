@@ -7,8 +7,9 @@
 //! `IsPart`).
 //!
 //! The normal text is written first, and the part is cut out of it (`iloc_text_parts`). So a call for a part allocates only for
-//! a text of more than 48 bytes. `matches` and `clean` may allocate for any text: no clause bounds it. What may stand at a
-//! place, and a hint, are told without an allocation.
+//! a text of more than 48 bytes. `matches` allocates for a text or a range only if the parser may allocate for it, or if it is
+//! not its normal text (`NormalizingWantsMemory`). `clean` may allocate for any line: no clause bounds it. What may stand at
+//! a place, and a hint, are told without an allocation.
 //!
 //! It stands on `iloc_calls`, whose statuses and buffers it shares, and on `iloc_text_parts`, `iloc_matching`,
 //! `iloc_cleaning`, `iloc_expected` and `iloc_hints`.

@@ -9,13 +9,12 @@ use Rattle.iloc_text_calls.proofs.hint_words.Goals as goal
 pub returns-in-Some : goal.returns-in-Some
 returns-in-Some c = record {
   known = λ hint is.
-      let same = ap (λ o. unwrap_or o hint) (sym c.in-Some.is ∙ (c.hint_of.ensures hint).1 is) in
-      (
+      let same = ap (λ o. unwrap_or o hint) (sym c.in-Some.is ∙ (c.hint_of.ensures hint).1 is) in (
         c.hand_out.result,
         c.number.ensures,
         subst (λ (it : Hint). HandsOut (hint_words it) c.args.buffer.now c.hand_out.new.buffer
             c.hand_out.new.needed c.hand_out.result) same
-        (subst (λ t. HandsOut t c.args.buffer.now c.hand_out.new.buffer c.hand_out.new.needed
+            (subst (λ t. HandsOut t c.args.buffer.now c.hand_out.new.buffer c.hand_out.new.needed
             c.hand_out.result) c.words.ensures c.hand_out.ensures),
       );
   unknown = λ no. absurd (no c.in-Some.hint ((c.hint_of.ensures c.in-Some.hint).0 c.in-Some.is));
