@@ -197,8 +197,8 @@ icu_locale_status icu_locale_find_fault(icu_locale_mode mode, const uint8_t *tex
  *     DONE               *kinds has the kinds; for the place of a fault at least one
  *     UNKNOWN_NUMBER     there is no such mode; *kinds is as before
  *
- * It allocates nothing. A text of a terabyte or more can have all variants that there are; only there it may name a
- * variant where none is left. */
+ * It never fails, and allocates only for more than 16,384 variants in a row. A text of a terabyte or more can have all
+ * variants that there are; only there it may name a variant where none is left. */
 ICU_LOCALE_WRITES(5) ICU_LOCALE_TELLS
 icu_locale_status icu_locale_expected(icu_locale_mode mode, const uint8_t *text, size_t length, size_t place,
     icu_locale_kinds *kinds) ICU_LOCALE_NOEXCEPT;
@@ -213,7 +213,8 @@ icu_locale_status icu_locale_expected_words(icu_locale_kinds set, uint8_t *buffe
 
 /* What is usually meant by a refused text that comes of a file or a system: ICU_LOCALE_HINT_UNDERSCORES of en_US, since
  * with hyphens it has a meaning. ICU_LOCALE_NO_HINT if nothing is known, and of a text that has a meaning. DONE, or
- * UNKNOWN_NUMBER if there is no such mode: *hint is then as before. It allocates nothing. */
+ * UNKNOWN_NUMBER if there is no such mode: *hint is then as before. It never fails, and allocates as
+ * icu_locale_find_fault does. */
 ICU_LOCALE_WRITES(4) ICU_LOCALE_TELLS
 icu_locale_status icu_locale_hint(icu_locale_mode mode, const uint8_t *text, size_t length,
     icu_locale_hint_number *hint) ICU_LOCALE_NOEXCEPT;

@@ -421,79 +421,6 @@ static void try_places()
         std::abort();
 }
 
-/* The error of a call, which is to throw one. */
-template <class Call> static icu_locale::error refused(Call call)
-{
-    try {
-        call();
-    } catch (const icu_locale::error &it) {
-        return it;
-    }
-    std::abort();
-}
-
-/* What may stand at a place, by UTS #35, sections 3.1 and 3.2: what an identifier, u, t, x and another extension have. */
-static void try_expected()
-{
-    using icu_locale::kind;
-    struct row {
-        const char *text;
-        std::vector<kind> wanted;
-        mode as = mode::locale;
-    };
-    const row rows[] = {
-        {"", {kind::language}},
-        {"en-foo", {kind::script, kind::region, kind::variant, kind::singleton, kind::end}},
-        {"en-Latn-!", {kind::region, kind::variant, kind::singleton, kind::end}},
-        {"en-US-foo", {kind::variant, kind::singleton, kind::end}},
-        {"en-u", {kind::attribute, kind::key}},
-        {"en-u-ca-!", {kind::singleton, kind::key, kind::value, kind::end}},
-        {"en-t-!", {kind::language, kind::field}},
-        {"en-t-m0-!", {kind::field_value}},
-        {"en-t-m0-din-!", {kind::singleton, kind::field, kind::field_value, kind::end}},
-        {"en-a", {kind::other}},
-        {"en-x-!", {kind::private_subtag}},
-        {"en-US-u-ca", {kind::variant, kind::end}, mode::identifier},
-    };
-    for (const row &it : rows) {
-        const icu_locale::error error = refused([&] { icu_locale::normalize(it.text, it.as); });
-        icu_locale_kinds bits = 0;
-        for (const kind one : it.wanted)
-            bits |= static_cast<icu_locale_kinds>(one);
-        for (icu_locale_kinds bit = 1; bit <= ICU_LOCALE_KIND_END; bit *= 2)
-            if (error.expected().contains(static_cast<kind>(bit)) != ((bits & bit) != 0))
-                std::abort();
-        if (error.expected().bits() != bits || icu_locale::expected(it.text, error.start(), it.as) != error.expected())
-            std::abort();
-    }
-    const icu_locale::error part = refused([] { locale().set_region("U_S"); });
-    if (!part.expected().empty() || part.hint() != icu_locale::hint::none)
-        std::abort();
-    if (!icu_locale::expected("en", 2, static_cast<mode>(3)).empty() || !icu_locale::expected("en", 2).contains(kind::end))
-        std::abort();
-    if (words(icu_locale::kinds(8192)) != "Unknown kinds" || words(icu_locale::kinds()) != "nothing")
-        std::abort();
-}
-
-/* What is usually meant by a refused text, and by no other. */
-static void try_hints()
-{
-    using icu_locale::hint;
-    const std::pair<const char *, hint> rows[] = {{"en_US", hint::underscores}, {"en_US.UTF-8", hint::codeset},
-        {"C", hint::system}, {"en-US ", hint::blanks}, {"\xef\xbb\xbf""en", hint::mark}, {"en_!", hint::none}, {"en-!", hint::none}};
-    for (const auto &[text, wanted] : rows)
-        if (refused([&given = text] { icu_locale::normalize(given); }).hint() != wanted || icu_locale::find_hint(text) != wanted)
-            std::abort();
-    if (icu_locale::find_hint("en-US") != hint::none || icu_locale::find_hint("en_US_u_ca", mode::identifier) != hint::none)
-        std::abort();
-    if (refused([] { icu_locale::normalize("en_US_u_ca", mode::identifier); }).hint() != hint::none)
-        std::abort();
-    if (icu_locale::find_hint("en_US", static_cast<mode>(3)) != hint::none || !words(hint::none).empty())
-        std::abort();
-    if (words(hint::system) != "use und, since this name has no language")
-        std::abort();
-}
-
 int main(int count, char **words)
 {
     std::ios::sync_with_stdio(false);
@@ -503,8 +430,6 @@ int main(int count, char **words)
     std::string first, second;
     try_errors();
     try_places();
-    try_expected();
-    try_hints();
     try_objects();
     if (word == "script")
         return answer_script();

@@ -4,13 +4,21 @@ ghost use Rattle.std.specs.Prelude.{◌≡◌};
 ghost use Rattle.iloc_calls.specs.Numbers.{ByMode, EndsAs};
 ghost use Rattle.iloc_text_calls.specs.Advice.{TellsHint, TellsHintWords, TellsKindWords, TellsKinds};
 
+use std::alloc::Global;
+
 /// Writes which kinds of pieces may stand at the place of the text, each as the bit at its number.
 #[unsafe(no_mangle)]
-pub extern "C" fn icu_locale_expected(mode: u32, text: &[u8], place: usize, kinds: &mut u32) -> u32
+pub extern "C" fn icu_locale_expected(
+    alloc: Global,
+    mode: u32,
+    text: &[u8],
+    place: usize,
+    kinds: &mut u32,
+) -> u32
     ensures { ByMode mode (λ m. EndsAs (TellsKinds m text.now place kinds.new))
         (kinds.new ≡ kinds.old) result }
 {
-    iloc_text_calls::expected(mode, text, place, kinds)
+    iloc_text_calls::expected(alloc, mode, text, place, kinds)
 }
 
 /// Writes the words of a set of kinds into the buffer, and their length to `needed`.
@@ -27,11 +35,11 @@ pub extern "C" fn icu_locale_expected_words(
 
 /// Writes the number of the hint that the text has, or 0 if it has none.
 #[unsafe(no_mangle)]
-pub extern "C" fn icu_locale_hint(mode: u32, text: &[u8], hint: &mut u32) -> u32
+pub extern "C" fn icu_locale_hint(alloc: Global, mode: u32, text: &[u8], hint: &mut u32) -> u32
     ensures { ByMode mode (λ m. EndsAs (TellsHint m text.now hint.new))
         (hint.new ≡ hint.old) result }
 {
-    iloc_text_calls::hint(mode, text, hint)
+    iloc_text_calls::hint(alloc, mode, text, hint)
 }
 
 /// Writes the words of the hint of this number into the buffer, and their length to `needed`.

@@ -5,18 +5,25 @@ ghost use Rattle.iloc_hints.specs.declared.hints.Hint.{Hint};
 ghost use Rattle.iloc_text_calls.specs.Advice.{TellsHint, TellsKinds, hint_number, kinds_of};
 
 use iloc_calls::Status;
-use iloc_expected::{Expected, expected};
-use iloc_hints::Hint;
+use iloc_expected::{Expected, expected_in};
+use iloc_faults::Room;
+use iloc_hints::{Hint, hint_in};
 use iloc_normalize::Mode;
 
 // The first number in which another bit than that of a kind is set.
 const NO_KINDS: u32 = 1 << 13;
 
 /// Writes the number of the set of kinds that may stand at the place of the text.
-pub(crate) fn tell_kinds(mode: Mode, text: &[u8], place: usize, kinds: &mut u32) -> Status
+pub(crate) fn tell_kinds<R: Room>(
+    room: R,
+    mode: Mode,
+    text: &[u8],
+    place: usize,
+    kinds: &mut u32,
+) -> Status
     ensures { TellsKinds mode text.now place kinds.new result }
 {
-    *kinds = u32::from(expected(mode, text, place).bits);
+    *kinds = u32::from(expected_in(room, mode, text, place).bits);
     Status::Done
 }
 
@@ -47,10 +54,10 @@ fn number_of(hint: Hint) -> u32
 }
 
 /// Writes the number of the hint that the text has, or 0.
-pub(crate) fn tell_hint(mode: Mode, text: &[u8], number: &mut u32) -> Status
+pub(crate) fn tell_hint<R: Room>(room: R, mode: Mode, text: &[u8], number: &mut u32) -> Status
     ensures { TellsHint mode text.now number.new result }
 {
-    *number = match iloc_hints::hint(mode, text) {
+    *number = match hint_in(room, mode, text) {
         Some(hint) => number_of(hint),
         None => 0,
     };

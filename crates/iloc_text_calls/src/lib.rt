@@ -9,7 +9,7 @@
 //! The normal text is written first, and the part is cut out of it (`iloc_text_parts`). So a call for a part allocates only for
 //! a text of more than 48 bytes. `matches` allocates for a text or a range only if the parser may allocate for it, or if it is
 //! not its normal text (`NormalizingWantsMemory`). `clean` may allocate for any line: no clause bounds it. What may stand at
-//! a place, and a hint, are told without an allocation.
+//! a place, and a hint, are told with memory for long runs of variants alone, and without it.
 //!
 //! It stands on `iloc_calls`, whose statuses and buffers it shares, and on `iloc_text_parts`, `iloc_matching`,
 //! `iloc_cleaning`, `iloc_expected` and `iloc_hints`.
@@ -26,7 +26,7 @@ mod normal;
 mod parts;
 mod ranges;
 
-use iloc_calls::{Status, hand_out, mode_of};
+use iloc_calls::{InMemory, Status, hand_out, mode_of};
 pub use iloc_text_parts::Part;
 use std::alloc::Global;
 
@@ -71,13 +71,14 @@ pub fn clean(alloc: Global, text: &[u8], buffer: &mut [u8], needed: &mut usize) 
 
 /// Writes which kinds of pieces may stand at the place of the text, each as the bit at its number (`PieceKind::number`).
 ///
-/// The mode is 0 for identifiers, 1 for locales and 2 for data locales. It allocates nothing.
-pub fn expected(mode: u32, text: &[u8], place: usize, kinds: &mut u32) -> u32
+/// The mode is 0 for identifiers, 1 for locales and 2 for data locales. It allocates only for more than 16,384 variants in a
+/// row, and never fails.
+pub fn expected(alloc: Global, mode: u32, text: &[u8], place: usize, kinds: &mut u32) -> u32
     ensures { ByMode mode (λ m. EndsAs (TellsKinds m text.now place kinds.new))
         (kinds.new ≡ kinds.old) result }
 {
     match mode_of(mode) {
-        Some(mode) => advice::tell_kinds(mode, text, place, kinds).number(),
+        Some(mode) => advice::tell_kinds(InMemory(alloc), mode, text, place, kinds).number(),
         None => Status::UnknownNumber.number(),
     }
 }
@@ -97,13 +98,14 @@ pub fn expected_words(kinds: u32, buffer: &mut [u8], needed: &mut usize) -> u32
 
 /// Writes the number of the hint that the text has, or 0 if it has none.
 ///
-/// The mode is 0 for identifiers, 1 for locales and 2 for data locales. It allocates nothing.
-pub fn hint(mode: u32, text: &[u8], number: &mut u32) -> u32
+/// The mode is 0 for identifiers, 1 for locales and 2 for data locales. It allocates only for more than 16,384 variants in a
+/// row, and never fails.
+pub fn hint(alloc: Global, mode: u32, text: &[u8], number: &mut u32) -> u32
     ensures { ByMode mode (λ m. EndsAs (TellsHint m text.now number.new))
         (number.new ≡ number.old) result }
 {
     match mode_of(mode) {
-        Some(mode) => advice::tell_hint(mode, text, number).number(),
+        Some(mode) => advice::tell_hint(InMemory(alloc), mode, text, number).number(),
         None => Status::UnknownNumber.number(),
     }
 }
