@@ -23,8 +23,8 @@
  * Each function returns, ends no program and keeps nothing from one call to the next. Any number of threads may call
  * at the same time. The library promises no answer if the program breaks one of these rules:
  *
- *  - A pointer is valid for the bytes that the number beside it gives. Out-pointers (needed, order, same, start, end)
- *    are not null, and are aligned as C aligns their type.
+ *  - A pointer is valid for the bytes that the number beside it gives. Out-pointers (needed, order, same, start, end,
+ *    kinds, hint) are not null, and are aligned as C aligns their type.
  *  - A call writes to its buffer and out-pointers. None of them overlaps another argument: a text cannot be normalized
  *    in place. Two texts that are only read may overlap, or be the same.
  *  - While a call runs, no other thread changes the bytes that it reads, or reads or changes what it writes.
@@ -103,8 +103,37 @@ enum {
     ICU_LOCALE_DUPLICATED_EXTENSION = 4, /* an extension begins a second time */
     ICU_LOCALE_OUT_OF_MEMORY = 5,        /* an allocation failed */
     ICU_LOCALE_BUFFER_TOO_SMALL = 6,     /* the answer does not fit into the buffer */
-    ICU_LOCALE_UNKNOWN_NUMBER = 7,       /* the number is no mode, no priority or no status */
+    ICU_LOCALE_UNKNOWN_NUMBER = 7,       /* the number is no mode, priority, status, set of kinds or hint */
     ICU_LOCALE_NOT_FOUND = 8             /* the locale has no such part */
+};
+
+/* Kinds of pieces, each with its bit, as icu_locale_expected gives them. */
+typedef uint32_t icu_locale_kinds;
+enum {
+    ICU_LOCALE_KIND_LANGUAGE = 1,       /* a language, at the beginning or after t */
+    ICU_LOCALE_KIND_SCRIPT = 2,         /* a script */
+    ICU_LOCALE_KIND_REGION = 4,         /* a region */
+    ICU_LOCALE_KIND_VARIANT = 8,        /* a variant */
+    ICU_LOCALE_KIND_SINGLETON = 16,     /* the byte that begins an extension */
+    ICU_LOCALE_KIND_ATTRIBUTE = 32,     /* an attribute of u */
+    ICU_LOCALE_KIND_KEY = 64,           /* a key of u */
+    ICU_LOCALE_KIND_VALUE = 128,        /* a subtag of the value of a key */
+    ICU_LOCALE_KIND_FIELD = 256,        /* the key of a field of t */
+    ICU_LOCALE_KIND_OTHER = 512,        /* a piece of another extension */
+    ICU_LOCALE_KIND_PRIVATE = 1024,     /* a subtag after x */
+    ICU_LOCALE_KIND_FIELD_VALUE = 2048, /* a subtag of the value of a field */
+    ICU_LOCALE_KIND_END = 4096          /* the end of the text */
+};
+
+/* What is usually meant by a refused text, as icu_locale_hint gives it. */
+typedef uint32_t icu_locale_hint_number;
+enum {
+    ICU_LOCALE_NO_HINT = 0,
+    ICU_LOCALE_HINT_MARK = 1,       /* a byte order mark begins it */
+    ICU_LOCALE_HINT_BLANKS = 2,     /* it has a space, a tab, a CR or a newline */
+    ICU_LOCALE_HINT_SYSTEM = 3,     /* it is C, POSIX or root, perhaps with a codeset: it names no language */
+    ICU_LOCALE_HINT_CODESET = 4,    /* without its codeset and modifier, and with hyphens, it has a meaning: en_US.UTF-8 */
+    ICU_LOCALE_HINT_UNDERSCORES = 5 /* with hyphens for its underscores it has a meaning: en_US */
 };
 
 /* Which region a data locale has. Any other number is refused with ICU_LOCALE_UNKNOWN_NUMBER. */
@@ -159,6 +188,43 @@ icu_locale_status icu_locale_check(icu_locale_mode mode, const uint8_t *text, si
 ICU_LOCALE_TAKES((4, 5)) ICU_LOCALE_TELLS
 icu_locale_status icu_locale_find_fault(icu_locale_mode mode, const uint8_t *text, size_t length, size_t *start,
     size_t *end) ICU_LOCALE_NOEXCEPT;
+
+/* Which kinds of pieces may stand at a place of the text, such as *start of icu_locale_find_fault: a kind may if some text
+ * with a meaning has the pieces before the place, and then a piece of that kind. Each is a bit of *kinds, as
+ * ICU_LOCALE_KIND_REGION. What follows the place does not count. A place behind the end counts as the end, and the text
+ * may have a meaning. For en-foo and 3 these are a script, a region, a variant, an extension, and the end.
+ *
+ *     DONE               *kinds has the kinds; for the place of a fault at least one
+ *     UNKNOWN_NUMBER     there is no such mode; *kinds is as before
+ *
+ * It never fails, and allocates only for more than 16,384 variants in a row. A text of a terabyte or more can have all
+ * variants that there are; only there it may name a variant where none is left. */
+ICU_LOCALE_WRITES(5) ICU_LOCALE_TELLS
+icu_locale_status icu_locale_expected(icu_locale_mode mode, const uint8_t *text, size_t length, size_t place,
+    icu_locale_kinds *kinds) ICU_LOCALE_NOEXCEPT;
+
+/* Writes the words of a set of kinds, such as "a script, a region, a variant or an extension", to the front of the buffer,
+ * and their length to *needed. The end is named only if there is no other kind; the words of no kind are "nothing". It ends
+ * with the statuses of icu_locale_normalize. A buffer of 192 bytes is always enough, so its status may be ignored. Only a
+ * set with another bit than those of the kinds has no words: UNKNOWN_NUMBER, and *needed is 0. */
+ICU_LOCALE_WRITES(4)
+icu_locale_status icu_locale_expected_words(icu_locale_kinds set, uint8_t *buffer, size_t room, size_t *needed)
+    ICU_LOCALE_NOEXCEPT;
+
+/* What is usually meant by a refused text that comes of a file or a system: ICU_LOCALE_HINT_UNDERSCORES of en_US, since
+ * with hyphens it has a meaning. ICU_LOCALE_NO_HINT if nothing is known, and of a text that has a meaning. DONE, or
+ * UNKNOWN_NUMBER if there is no such mode: *hint is then as before. It never fails, and allocates as
+ * icu_locale_find_fault does. */
+ICU_LOCALE_WRITES(4) ICU_LOCALE_TELLS
+icu_locale_status icu_locale_hint(icu_locale_mode mode, const uint8_t *text, size_t length,
+    icu_locale_hint_number *hint) ICU_LOCALE_NOEXCEPT;
+
+/* Writes the words of a hint, such as "use hyphens in place of underscores", to the front of the buffer, and their length to
+ * *needed. It ends with the statuses of icu_locale_normalize. A buffer of 128 bytes is always enough, so its status may be
+ * ignored. Only a number that is no hint, and ICU_LOCALE_NO_HINT, has no words: UNKNOWN_NUMBER, and *needed is 0. */
+ICU_LOCALE_WRITES(4)
+icu_locale_status icu_locale_hint_words(icu_locale_hint_number number, uint8_t *buffer, size_t room, size_t *needed)
+    ICU_LOCALE_NOEXCEPT;
 
 /* Writes -1, 0 or 1 to *order: the byte order of the text's normal form against other bytes. The other bytes are not
  * normalized. If the text is refused, *order is as before. */
@@ -228,7 +294,8 @@ icu_locale_status icu_locale_parent(icu_locale_mode mode, const uint8_t *text, s
 /* Writes 1 to *same if the range stands for the locale, and else 0: the extended filtering of RFC 4647, section 3.3.2, with
  * und for its wildcard. zh-Hant-TW matches zh-TW, zh and und-TW; en-x-us does not match en-US. Both are texts of locales,
  * in any spelling. A refusal is that of the text, or if the text has a meaning, that of the range. *same is then as before.
- * It may allocate for any of them, and then end with OUT_OF_MEMORY. */
+ * Allocates for either only if icu_locale_check may, or if it is not in its normal form: no other text or range ends with
+ * OUT_OF_MEMORY. */
 ICU_LOCALE_WRITES(5) ICU_LOCALE_TELLS
 icu_locale_status icu_locale_matches(const uint8_t *text, size_t length, const uint8_t *range, size_t range_length,
     uint8_t *same) ICU_LOCALE_NOEXCEPT;

@@ -102,14 +102,78 @@ enum class status : icu_locale_status {
     not_found = ICU_LOCALE_NOT_FOUND
 };
 
+/* What a piece of a text is, or the end of the text: the bits of icu_locale.h. */
+enum class kind : icu_locale_kinds {
+    language = ICU_LOCALE_KIND_LANGUAGE,
+    script = ICU_LOCALE_KIND_SCRIPT,
+    region = ICU_LOCALE_KIND_REGION,
+    variant = ICU_LOCALE_KIND_VARIANT,
+    singleton = ICU_LOCALE_KIND_SINGLETON,
+    attribute = ICU_LOCALE_KIND_ATTRIBUTE,
+    key = ICU_LOCALE_KIND_KEY,
+    value = ICU_LOCALE_KIND_VALUE,
+    field = ICU_LOCALE_KIND_FIELD,
+    other = ICU_LOCALE_KIND_OTHER,
+    private_subtag = ICU_LOCALE_KIND_PRIVATE,
+    field_value = ICU_LOCALE_KIND_FIELD_VALUE,
+    end = ICU_LOCALE_KIND_END
+};
+
+/* A set of kinds. */
+class kinds {
+public:
+    constexpr kinds() noexcept = default;
+    constexpr explicit kinds(icu_locale_kinds bits) noexcept : bits_(bits) {}
+    constexpr icu_locale_kinds bits() const noexcept { return bits_; }
+    constexpr bool empty() const noexcept { return bits_ == 0; }
+    constexpr bool contains(kind it) const noexcept { return (bits_ & static_cast<icu_locale_kinds>(it)) != 0; }
+    friend constexpr bool operator==(kinds one, kinds other) noexcept { return one.bits_ == other.bits_; }
+    friend constexpr bool operator!=(kinds one, kinds other) noexcept { return one.bits_ != other.bits_; }
+
+private:
+    icu_locale_kinds bits_ = 0;
+};
+
+/* What is usually meant by a refused text: the numbers of icu_locale.h, which says more. */
+enum class hint : icu_locale_hint_number {
+    none = ICU_LOCALE_NO_HINT,
+    mark = ICU_LOCALE_HINT_MARK,
+    blanks = ICU_LOCALE_HINT_BLANKS,
+    system = ICU_LOCALE_HINT_SYSTEM,
+    codeset = ICU_LOCALE_HINT_CODESET,
+    underscores = ICU_LOCALE_HINT_UNDERSCORES
+};
+
+namespace detail {
+
+/* The words that a call has of a number; these others if it has none. */
+template <class Call> std::string words_by(Call call, std::uint32_t number, const char *others)
+{
+    std::uint8_t bytes[192];
+    std::size_t length = 0;
+    if (call(number, bytes, sizeof bytes, &length) != ICU_LOCALE_DONE)
+        return others;
+    return std::string(reinterpret_cast<const char *>(bytes), length);
+}
+
+} // namespace detail
+
 /* The words of a status, such as "Invalid subtag". */
 inline std::string words(status told)
 {
-    std::uint8_t bytes[64];
-    std::size_t length = 0;
-    if (icu_locale_words(static_cast<icu_locale_status>(told), bytes, sizeof bytes, &length) != ICU_LOCALE_DONE)
-        return "Unknown status";
-    return std::string(reinterpret_cast<const char *>(bytes), length);
+    return detail::words_by(icu_locale_words, static_cast<icu_locale_status>(told), "Unknown status");
+}
+
+/* The words of a set of kinds, such as "a script, a region, a variant or an extension". */
+inline std::string words(kinds set)
+{
+    return detail::words_by(icu_locale_expected_words, set.bits(), "Unknown kinds");
+}
+
+/* The words of a hint, such as "use hyphens in place of underscores". Those of hint::none are empty. */
+inline std::string words(hint meant)
+{
+    return detail::words_by(icu_locale_hint_words, static_cast<icu_locale_hint_number>(meant), "");
 }
 
 namespace detail {
@@ -126,8 +190,9 @@ template <class Thrown> [[noreturn]] inline void raise(const Thrown &it)
 }
 
 /* What an error says: the words of the status; the text in quotes, at most 64 bytes of it, and what is no printable
- * ASCII as \xNN; and where its fault stands, unless all of it is at fault. */
-inline std::string message(status told, std::string_view text, std::size_t start, std::size_t end)
+ * ASCII as \xNN; where its fault stands, unless all of it is at fault; what may stand there; and what to do. */
+inline std::string message(
+    status told, std::string_view text, std::size_t start, std::size_t end, kinds may_stand, hint meant)
 {
     const char digits[] = "0123456789abcdef";
     std::string said = words(told) + ": '";
@@ -141,6 +206,10 @@ inline std::string message(status told, std::string_view text, std::size_t start
     said += text.size() > 64 ? "'..." : "'";
     if (end - start != text.size())
         said += " at " + std::to_string(start) + ".." + std::to_string(end);
+    if (!may_stand.empty())
+        said += ": " + words(may_stand) + " may stand here";
+    if (meant != hint::none)
+        said += "; " + words(meant);
     return said;
 }
 
@@ -151,23 +220,36 @@ inline std::string message(status told, std::string_view text, std::size_t start
 #pragma clang diagnostic ignored "-Wweak-vtables" // a header has no other file for its table
 #endif
 
-/* A refused text, or a refused number. what() has the words of the status, the text and, unless all of it is at fault,
- * the place of the fault: Invalid subtag: 'en-' at 3..3. It goes from byte start() to before byte end(), as find_fault
- * says; a part that is refused is all at fault. */
+/* A refused text, or a refused number. what() has the words of the status, the text, the place of the fault unless all of
+ * it is at fault, what may stand there, and what is usually meant, if that is known. Of en-US-foo it is
+ *
+ *     Invalid subtag: 'en-US-foo' at 6..9: a variant or an extension may stand here
+ *
+ * The fault goes from byte start() to before byte end(), as find_fault says. expected() is the set of kinds that may stand
+ * at start(), and hint() what is usually meant. A part that is refused is all at fault, and has neither. */
 class error : public std::invalid_argument {
 public:
-    explicit error(icu_locale::status told) : std::invalid_argument(words(told)), told_(told), start_(0), end_(0) {}
+    explicit error(icu_locale::status told)
+        : std::invalid_argument(words(told)), told_(told), hint_(icu_locale::hint::none), start_(0), end_(0)
+    {
+    }
     error(icu_locale::status told, std::string_view text) : error(told, text, 0, text.size()) {}
-    error(icu_locale::status told, std::string_view text, std::size_t start, std::size_t end)
-        : std::invalid_argument(detail::message(told, text, start, end)), told_(told), start_(start), end_(end)
+    error(icu_locale::status told, std::string_view text, std::size_t start, std::size_t end, kinds may_stand = {},
+        icu_locale::hint meant = icu_locale::hint::none)
+        : std::invalid_argument(detail::message(told, text, start, end, may_stand, meant)), told_(told),
+          expected_(may_stand), hint_(meant), start_(start), end_(end)
     {
     }
     icu_locale::status status() const noexcept { return told_; }
     std::size_t start() const noexcept { return start_; }
     std::size_t end() const noexcept { return end_; }
+    kinds expected() const noexcept { return expected_; }
+    icu_locale::hint hint() const noexcept { return hint_; }
 
 private:
     icu_locale::status told_;
+    kinds expected_;
+    icu_locale::hint hint_;
     std::size_t start_, end_;
 };
 
@@ -237,13 +319,35 @@ struct fault {
     return found.status == status::done ? std::nullopt : std::optional<fault>(found);
 }
 
+/* Which kinds of pieces may stand at this byte of the text, such as the start of its fault. None if there is no such
+ * mode. */
+[[nodiscard]] inline kinds expected(std::string_view text, std::size_t place, mode as = mode::locale) noexcept
+{
+    icu_locale_kinds found = 0;
+    const icu_locale_status told =
+        icu_locale_expected(static_cast<icu_locale_mode>(as), detail::bytes(text), text.size(), place, &found);
+    return told == ICU_LOCALE_DONE ? kinds(found) : kinds();
+}
+
+/* What is usually meant by a refused text, such as en_US; hint::none of a text that has a meaning. */
+[[nodiscard]] inline hint find_hint(std::string_view text, mode as = mode::locale) noexcept
+{
+    icu_locale_hint_number found = ICU_LOCALE_NO_HINT;
+    const icu_locale_status told =
+        icu_locale_hint(static_cast<icu_locale_mode>(as), detail::bytes(text), text.size(), &found);
+    return told == ICU_LOCALE_DONE ? static_cast<hint>(found) : hint::none;
+}
+
 namespace detail {
 
 /* Throws the error of a text that was refused in the mode. */
 [[noreturn]] inline void refuse(status told, std::string_view text, mode as)
 {
     const auto found = find_fault(text, as);
-    raise(error(told, text, found ? found->start : 0, found ? found->end : text.size()));
+    if (!found)
+        raise(error(told, text));
+    const kinds may_stand = expected(text, found->start, as);
+    raise(error(told, text, found->start, found->end, may_stand, find_hint(text, as)));
 }
 
 /* The value, or the error with the text that was refused. */

@@ -25,12 +25,17 @@ NUMBERS = {
     "priority": ("u32", "icu_locale_priority", "_NUMBER"),
     "index": ("usize", "size_t", "_SIZE"),
     "singleton": ("u8", "uint8_t", "_BYTE"),
+    "place": ("usize", "size_t", "_SIZE"),
+    "set": ("u32", "icu_locale_kinds", "_NUMBER"),
+    "number": ("u32", "icu_locale_hint_number", "_NUMBER"),
 }
 PLACES = {
     "order": ("i8", "int8_t", "_ORDER"),
     "same": ("u8", "uint8_t", "_SAME"),
     "start": ("usize", "size_t", "_PLACE"),
     "end": ("usize", "size_t", "_PLACE"),
+    "kinds": ("u32", "icu_locale_kinds", "_NUMBER_AT"),
+    "hint": ("u32", "icu_locale_hint_number", "_NUMBER_AT"),
 }
 PARAMETERS = {*HANDLES, *TEXTS, *NUMBERS, *PLACES, "out"}
 

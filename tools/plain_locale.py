@@ -162,9 +162,86 @@ def place(text, mode):
     return (ends[first - 1] + 1 if first else 0), ends[first]
 
 
+# The kinds of pieces, in the order of the bits by which callers know them.
+KINDS = (
+    "language", "script", "region", "variant", "singleton", "attribute", "key", "value", "field", "other", "private",
+    "field value", "end",
+)
+
+
+def word_of_identifier(piece):
+    return "script" if is_word(SCRIPT, piece) else "region" if is_word(REGION, piece) else "variant"
+
+
+def kind_in_block(singleton, held, piece):
+    """What a piece is in the last block that begins before it, behind what that holds."""
+    if singleton == b"x":
+        return "private"
+    if len(piece) == 1:
+        return "singleton"
+    if singleton == b"u":
+        return "key" if is_word(KEY, piece) else "value" if any(is_word(KEY, it) for it in held) else "attribute"
+    if singleton != b"t":
+        return "other"
+    if is_word(FIELD, piece):
+        return "field"
+    if any(is_word(FIELD, it) for it in held):
+        return "field value"
+    return word_of_identifier(piece) if held else "language"
+
+
+def kind_of(before, piece):
+    """What a piece of a text that means something is, by the pieces before it."""
+    head = next((at for at, it in enumerate(before) if at and len(it) == 1), len(before))
+    if not before:
+        return "language"
+    if head < len(before):
+        return kind_in_block(*[*blocks(before[head:])][-1], piece)
+    return "singleton" if len(piece) == 1 else word_of_identifier(piece)
+
+
+def examples(text):
+    """Pieces of each kind. A variant and a singleton are such that the text has not."""
+    pieces = {*text.lower().split(b"-")}
+    variant = next(it for it in (bytes([at]) * 5 for at in b"qzjwvkyhgfbdlmncprsoeai") if it not in pieces)
+    single = [it for it in (bytes([at]) for at in b"abcdefghijklmnopqrsvwyz0123456789") if it not in pieces][:1]
+    return [b"qq", b"qqq", b"qqqq", variant, b"q9", b"sd", b"usca", b"true", b"u", b"t", b"x", *single]
+
+
+def expected(text, start, mode):
+    """The kinds that may stand at the start of the fault, as the sum of their bits: what goes on behind the pieces before it,
+    if one of the tails ends it."""
+    front = text[:start].removesuffix(b"-")
+    before = front.split(b"-") if front else []
+    found = {"end"} if before and is_accepted(front, mode) else set()
+    for piece in examples(text):
+        kind, goes_on = kind_of(before, piece), b"-".join([*before, piece])
+        if kind not in found and any(is_accepted(goes_on + tail, mode) for tail in TAILS):
+            found.add(kind)
+    return sum(1 << KINDS.index(it) for it in found)
+
+
+def hint(text, mode):
+    """The number of the hint that a refused text has, or 0."""
+    base = re.split(rb"[.@]", text, maxsplit=1)[0]
+    if text.startswith(b"\xef\xbb\xbf"):
+        return 1
+    if re.search(rb"[ \t\r\n]", text):
+        return 2
+    if base in (b"C", b"POSIX", b"root"):
+        return 3
+    is_meant = len(base) <= 64 and is_accepted(base.replace(b"_", b"-"), mode)
+    number = 4 if base != text else 5 if b"_" in text else 0
+    return number if is_meant else 0
+
+
 def placed(text, mode):
-    """The place of the fault as callers print it, and `-` of a text that means something."""
-    return "-" if is_accepted(text, mode) else "%d %d" % place(text, mode)
+    """Of a refused text the place of the fault, what may stand there, and its hint, as callers print them; and `-` of a text
+    that means something."""
+    if is_accepted(text, mode):
+        return "-"
+    start, end = place(text, mode)
+    return f"{start} {end} {expected(text, start, mode)} {hint(text, mode)}"
 
 
 # What random texts are made of: words of each kind, some of each length, some in upper case.

@@ -19,7 +19,7 @@ EXPORT = re.compile(r'pub extern "C" fn (\w+)\((.*?)\)(?: -> \w+)?\n', re.S)
 GIVEN = {
     "Global": ["alloc"] * 2, "u32": ["number"] * 2, "usize": ["count"] * 2, "u8": ["byte"] * 2, "&[u8]": ["&text[..]"] * 3,
     "&mut [u8]": ["&mut buffer[..]"], "&mut usize": ["&mut needed", "&mut more"], "&mut u8": ["&mut same"],
-    "&mut i8": ["&mut order"], "&mut Handle": ["handle", "handle_2"], "&mut Lent": ["lent", "lent_2"],
+    "&mut i8": ["&mut order"], "&mut u32": ["&mut kinds"], "&mut Handle": ["handle", "handle_2"], "&mut Lent": ["lent", "lent_2"],
 }
 MAIN = """
 use iloc_handles::{{Handle, Lent}};
@@ -31,6 +31,7 @@ fn main(rt: HostRuntime) {{
     let count = match rt.var("CALL", &mut text) {{ Ok(count) => count, Err(_) => 0 }};
     let (number, byte) = (text[0] as u32, text[1]);
     let (mut buffer, mut needed, mut more, mut same, mut order) = ([0u8; 64], 0usize, 0usize, 0u8, 0i8);
+    let mut kinds = 0u32;
     let mut held = [0u64; 4];
     let place = held.as_mut_ptr();
     let (handle, handle_2) = unsafe {{ (&mut *(place as *mut Handle), &mut *(place.add(1) as *mut Handle)) }};

@@ -6,7 +6,8 @@
  *                              they mean the same, and the order of both normal forms, as "-1 0 -1"; a refusal stands
  *                              in the place of the last, or of all three if the first is refused
  * answers faults-langid|faults-locale|faults-data
- *                              where the fault of the line stands, as "3 5"; "-" if it has none
+ *                              where the fault of the line stands, the kinds that may stand there, and the hint, as
+ *                              "3 5 4126 0"; "-" if it has none
  * answers buffers              nothing, if each line is answered alike in buffers of every size, in every mode
  *
  * It asks for no memory itself. The status is 0 if it could read, write and answer all. */
@@ -57,15 +58,22 @@ static void answer_faults(icu_locale_mode mode)
 {
     while (read_line(&first)) {
         size_t start = UNTOUCHED, end = UNTOUCHED;
+        icu_locale_kinds kinds = UNTOUCHED;
+        icu_locale_hint_number hint = UNTOUCHED;
         icu_locale_status status = icu_locale_find_fault(mode, first.bytes, first.length, &start, &end);
         if (status != icu_locale_check(mode, first.bytes, first.length))
             stop("checking says otherwise");
         if (status == ICU_LOCALE_DONE && (start != UNTOUCHED || end != UNTOUCHED))
             stop("the place of no fault is written");
-        if (status == ICU_LOCALE_DONE)
-            puts("-");
+        if (icu_locale_expected(mode, first.bytes, first.length, start, &kinds) != ICU_LOCALE_DONE
+            || icu_locale_hint(mode, first.bytes, first.length, &hint) != ICU_LOCALE_DONE)
+            stop("nothing is said of the place");
+        if (status != ICU_LOCALE_DONE)
+            printf("%lu %lu %lu %lu\n", (unsigned long)start, (unsigned long)end, (unsigned long)kinds, (unsigned long)hint);
+        else if (hint != ICU_LOCALE_NO_HINT)
+            stop("what has a meaning has a hint");
         else
-            printf("%lu %lu\n", (unsigned long)start, (unsigned long)end);
+            puts("-");
     }
 }
 

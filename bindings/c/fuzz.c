@@ -68,6 +68,20 @@ static void look_at_normal(icu_locale_mode mode, struct text text, struct text n
         stop("the normal form means something else");
 }
 
+/* Something may stand at the place of a fault, and a text with a meaning may end. It has no hint. */
+static void look_at_advice(icu_locale_mode mode, struct text text, size_t place, icu_locale_status status)
+{
+    icu_locale_kinds kinds = 0;
+    icu_locale_hint_number hint = 0;
+    int is_done = status == ICU_LOCALE_DONE;
+    if (icu_locale_expected(mode, text.bytes, text.length, place, &kinds) != ICU_LOCALE_DONE || kinds == 0)
+        stop("nothing may stand where something may");
+    if (is_done && !(kinds & ICU_LOCALE_KIND_END))
+        stop("a text may not end at its end");
+    if (icu_locale_hint(mode, text.bytes, text.length, &hint) != ICU_LOCALE_DONE || (is_done && hint != ICU_LOCALE_NO_HINT))
+        stop("a text with a meaning has a hint");
+}
+
 /* The place of the fault is a piece of the text, or its end. What is before it is refused for no other reason. */
 static void look_at_fault(icu_locale_mode mode, struct text text, icu_locale_status status)
 {
@@ -76,6 +90,7 @@ static void look_at_fault(icu_locale_mode mode, struct text text, icu_locale_sta
         stop("the fault that is found says otherwise");
     if (status == ICU_LOCALE_DONE ? start != text.length + 1 || end != 0 : start > end || end > text.length)
         stop("a fault stands beside its text");
+    look_at_advice(mode, text, status == ICU_LOCALE_DONE ? text.length : start, status);
     if (status == ICU_LOCALE_DONE || end == text.length)
         return;
     if (icu_locale_find_fault(mode, text.bytes, end, &again, &last) == ICU_LOCALE_DONE || again != start || last != end)

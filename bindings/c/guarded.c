@@ -25,6 +25,8 @@ static uint8_t line[LINE], large[LINE + 8];
 static size_t *needed, *start, *end;
 static int8_t *order;
 static uint8_t *same;
+static icu_locale_kinds *kinds;
+static icu_locale_hint_number *hint;
 
 /* A text in a place of its own: of two lines one ends before what may not be touched, and one begins behind it. */
 static struct text placed(const uint8_t *bytes, size_t length)
@@ -66,6 +68,28 @@ static void look_at_normal(icu_locale_mode mode, struct text text)
     guarding_end(buffer);
 }
 
+/* Words in a buffer that just fits. */
+static void look_at_words(icu_locale_status (*call)(uint32_t, uint8_t *, size_t, size_t *), uint32_t number)
+{
+    (void)call(number, large, 0, needed);
+    size_t length = *needed;
+    uint8_t *buffer = guarding_before(length);
+    WANT(length > 0 && call(number, buffer, length, needed) == ICU_LOCALE_DONE && *needed == length);
+    guarding_end(buffer);
+}
+
+/* Something may stand where a text is refused, and a text that has a meaning may end at its end; it has no hint. */
+static void look_at_advice(icu_locale_mode mode, struct text text, size_t place, int is_refused)
+{
+    WANT(icu_locale_expected(mode, text.at, text.length, place, kinds) == ICU_LOCALE_DONE);
+    WANT(is_refused ? *kinds > 0 && *kinds < 2 * ICU_LOCALE_KIND_END : *kinds & ICU_LOCALE_KIND_END);
+    WANT(icu_locale_hint(mode, text.at, text.length, hint) == ICU_LOCALE_DONE);
+    WANT(is_refused ? *hint <= ICU_LOCALE_HINT_UNDERSCORES : *hint == ICU_LOCALE_NO_HINT);
+    look_at_words(icu_locale_expected_words, *kinds);
+    if (*hint != ICU_LOCALE_NO_HINT)
+        look_at_words(icu_locale_hint_words, *hint);
+}
+
 /* The place of the fault is a piece of the text, or its end. */
 static void look_at_fault(icu_locale_mode mode, struct text text)
 {
@@ -74,8 +98,10 @@ static void look_at_fault(icu_locale_mode mode, struct text text)
     WANT(status == icu_locale_check(mode, text.at, text.length));
     if (status == ICU_LOCALE_DONE) {
         WANT(*start == UNTOUCHED && *end == UNTOUCHED);
+        look_at_advice(mode, text, text.length, 0);
         return;
     }
+    look_at_advice(mode, text, *start, 1);
     WANT(*start <= *end && *end <= text.length);
     WANT(*start == 0 || text.at[*start - 1] == '-' || *start == text.length);
     WANT(*end == text.length || text.at[*end] == '-');
@@ -250,6 +276,7 @@ int main(void)
     struct text before = placed(line, 0);
     start = guarding_before(sizeof *start), end = guarding_before(sizeof *end);
     needed = guarding_before(sizeof *needed), order = guarding_before(1), same = guarding_before(1);
+    kinds = guarding_before(sizeof *kinds), hint = guarding_before(sizeof *hint);
     while (read_line(&length)) {
         struct text text = placed(line, length);
         for (icu_locale_mode mode = ICU_LOCALE_IDENTIFIER; mode <= ICU_LOCALE_DATA_LOCALE; mode++) {

@@ -8,6 +8,7 @@
 
 #include <stdio.h>
 #include <stdlib.h>
+#include <string.h>
 #include <sys/mman.h>
 
 #define NONE NULL, 0
@@ -50,12 +51,16 @@ static void try_texts(void)
     int8_t order = UNTOUCHED;
     uint8_t same = UNTOUCHED;
     size_t start = UNTOUCHED, end = UNTOUCHED;
+    icu_locale_kinds kinds = UNTOUCHED;
+    icu_locale_hint_number hint = UNTOUCHED;
     for (icu_locale_mode mode = ICU_LOCALE_IDENTIFIER; mode <= ICU_LOCALE_DATA_LOCALE; mode++) {
         WANT(icu_locale_check(mode, NONE) == ICU_LOCALE_INVALID_LANGUAGE);
         WANT(icu_locale_find_fault(mode, en, 2, &start, &end) == ICU_LOCALE_DONE);
         WANT(start == UNTOUCHED && end == UNTOUCHED);
         WANT(icu_locale_find_fault(mode, NONE, &start, &end) == ICU_LOCALE_INVALID_LANGUAGE);
         WANT(start == 0 && end == 0);
+        WANT(icu_locale_expected(mode, NONE, 0, &kinds) == ICU_LOCALE_DONE && kinds == ICU_LOCALE_KIND_LANGUAGE);
+        WANT(icu_locale_hint(mode, NONE, &hint) == ICU_LOCALE_DONE && hint == ICU_LOCALE_NO_HINT);
         WANT(icu_locale_normalize(mode, NONE, NONE, &needed) == ICU_LOCALE_INVALID_LANGUAGE && needed == 0);
         WANT(wants(icu_locale_normalize(mode, en, 2, NONE, &needed), 2));
         WANT(icu_locale_strict_cmp(mode, NONE, NONE, &order) == ICU_LOCALE_INVALID_LANGUAGE && order == UNTOUCHED);
@@ -64,11 +69,15 @@ static void try_texts(void)
         WANT(icu_locale_compare(mode, en, 2, NONE, &order) == ICU_LOCALE_INVALID_LANGUAGE && order == UNTOUCHED);
         WANT(icu_locale_strict_cmp(mode, en, 2, NONE, &order) == ICU_LOCALE_DONE && order == 1);
         WANT(icu_locale_normalizing_eq(mode, en, 2, NONE, &same) == ICU_LOCALE_DONE && same == 0);
-        order = UNTOUCHED, same = UNTOUCHED, start = UNTOUCHED, end = UNTOUCHED;
+        order = UNTOUCHED, same = UNTOUCHED, start = UNTOUCHED, end = UNTOUCHED, kinds = UNTOUCHED, hint = UNTOUCHED;
     }
     for (icu_locale_status status = ICU_LOCALE_DONE; status <= ICU_LOCALE_NOT_FOUND; status++) {
         WANT(icu_locale_words(status, NONE, &needed) == ICU_LOCALE_BUFFER_TOO_SMALL && needed > 0 && needed <= 64);
     }
+    needed = UNTOUCHED;
+    WANT(wants(icu_locale_expected_words(0, NONE, &needed), strlen("nothing")));
+    WANT(icu_locale_hint_words(ICU_LOCALE_NO_HINT, NONE, &needed) == ICU_LOCALE_UNKNOWN_NUMBER && needed == 0);
+    WANT(wants(icu_locale_hint_words(ICU_LOCALE_HINT_BLANKS, NONE, &needed), strlen("leave out the blanks")));
 }
 
 static void try_parts_of_texts(void)

@@ -78,9 +78,22 @@ static icu_locale_status look_at_check(const char *text, int may_ask)
     begin();
     WANT(icu_locale_find_fault(ICU_LOCALE_LOCALE, text_bytes(text), strlen(text), &start, &end) == status);
     WANT(refusing_requests() == 0);
+    icu_locale_kinds kinds;
+    icu_locale_hint_number hint;
+    WANT(icu_locale_expected(ICU_LOCALE_LOCALE, text_bytes(text), strlen(text), strlen(text), &kinds) == ICU_LOCALE_DONE);
+    WANT(icu_locale_hint(ICU_LOCALE_LOCALE, text_bytes(text), strlen(text), &hint) == ICU_LOCALE_DONE);
+    (void)icu_locale_expected_words(kinds, buffer, sizeof buffer, &needed);
+    (void)icu_locale_hint_words(hint, buffer, sizeof buffer, &needed);
+    WANT(refusing_requests() == 0);
     begin();
     WANT(icu_locale_normalize(ICU_LOCALE_LOCALE, text_bytes(text), strlen(text), buffer, sizeof buffer, &needed) == status);
     WANT(may_ask || refusing_requests() == 0);
+    /* A match asks nothing for a text in its normal form. */
+    int is_normal = status == ICU_LOCALE_DONE && needed == strlen(text) && memcmp(buffer, text, needed) == 0;
+    uint8_t same;
+    begin();
+    WANT(icu_locale_matches(text_bytes(text), strlen(text), text_bytes("und"), 3, &same) == status);
+    WANT(may_ask || (status == ICU_LOCALE_DONE && !is_normal) || refusing_requests() == 0);
     begin();
     (void)!icu_locale_check(ICU_LOCALE_DATA_LOCALE, text_bytes(text), strlen(text));
     WANT(refusing_requests() == 0);

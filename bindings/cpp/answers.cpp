@@ -44,11 +44,16 @@ static std::string fault_of(const std::string &line, mode as)
         if (!found || found->status != refused.status() || found->start != refused.start() || found->end != refused.end())
             std::abort();
         const std::string start = std::to_string(found->start), end = std::to_string(found->end), what = refused.what();
-        const std::string place = " at " + start + ".." + end;
-        const bool is_said = what.size() > place.size() && what.substr(what.size() - place.size()) == place;
-        if (is_said != (found->end - found->start != line.size()))
+        const icu_locale::kinds kinds = icu_locale::expected(line, found->start, as);
+        const icu_locale::hint hint = icu_locale::find_hint(line, as);
+        const bool is_part = found->end - found->start != line.size();
+        const std::string told = (is_part ? "' at " + start + ".." + end : "'") + ": " + words(kinds) + " may stand here"
+            + (hint == icu_locale::hint::none ? "" : "; " + words(hint));
+        const bool is_said = what.size() > told.size() && what.substr(what.size() - told.size()) == told;
+        if (kinds != refused.expected() || hint != refused.hint() || (line.size() <= 64 && !is_said))
             std::abort();
-        return start + " " + end;
+        return start + " " + end + " " + std::to_string(kinds.bits()) + " "
+            + std::to_string(static_cast<icu_locale_hint_number>(hint));
     }
     return found ? "a fault of no refused text" : "-";
 }
@@ -328,19 +333,26 @@ static void try_errors()
 {
     locale held("en");
     const std::string long_text(65, 'a');
+    /* What may stand at the beginning, after a language, and after one in t: UTS #35, sections 3.1 and 3.2. */
+    const std::string first = ": a language may stand here", in_transform = ": a script, a region or a variant may stand here",
+                      next = ": a script, a region, a variant or an extension may stand here";
     const std::pair<std::string, std::string> cases[] = {
-        {said([] { icu_locale::normalize(std::string_view()); }), ": ''"},
-        {said([] { icu_locale::strict_cmp("e", "en"); }), ": 'e'"},
-        {said([] { icu_locale::normalizing_eq("e\n'", "en"); }), ": 'e\\x0a\\x27'"},
-        {said([] { icu_locale::compare("e", "x"); }), ": 'e'"},
-        {said([] { icu_locale::compare("en", "x"); }), ": 'x'"},
-        {said([&] { locale made(long_text); }), ": '" + long_text.substr(1) + "'..."},
-        {said([&] { locale made("en-" + long_text); }), ": 'en-" + long_text.substr(4) + "'... at 3..68"},
-        {said([] { icu_locale::normalize("e-US"); }), ": 'e-US' at 0..1"},
-        {said([] { icu_locale::normalize("en-toolonggg-US"); }), ": 'en-toolonggg-US' at 3..12"},
-        {said([] { icu_locale::compare("en", "en-\xff"); }), ": 'en-\\xff' at 3..4"},
-        {said([&] { held.assign("en-"); }), ": 'en-' at 3..3"},
-        {said([&] { held.set_transform_language("de-a"); }), ": 'de-a' at 3..4"},
+        {said([] { icu_locale::normalize(std::string_view()); }), ": ''" + first},
+        {said([] { icu_locale::strict_cmp("e", "en"); }), ": 'e'" + first},
+        {said([] { icu_locale::normalizing_eq("e\n'", "en"); }), ": 'e\\x0a\\x27'" + first + "; leave out the blanks"},
+        {said([] { icu_locale::compare("e", "x"); }), ": 'e'" + first},
+        {said([] { icu_locale::compare("en", "x"); }), ": 'x'" + first},
+        {said([&] { locale made(long_text); }), ": '" + long_text.substr(1) + "'..." + first},
+        {said([&] { locale made("en-" + long_text); }), ": 'en-" + long_text.substr(4) + "'... at 3..68" + next},
+        {said([] { icu_locale::normalize("e-US"); }), ": 'e-US' at 0..1" + first},
+        {said([] { icu_locale::normalize("en-toolonggg-US"); }), ": 'en-toolonggg-US' at 3..12" + next},
+        {said([] { icu_locale::normalize("en-US-foo"); }), ": 'en-US-foo' at 6..9: a variant or an extension may stand here"},
+        {said([] { icu_locale::normalize("en-u"); }), ": 'en-u' at 4..4: an attribute or a key may stand here"},
+        {said([] { icu_locale::normalize("en_US"); }), ": 'en_US'" + first + "; use hyphens in place of underscores"},
+        {said([] { icu_locale::normalize("en_!"); }), ": 'en_!'" + first},
+        {said([] { icu_locale::compare("en", "en-\xff"); }), ": 'en-\\xff' at 3..4" + next},
+        {said([&] { held.assign("en-"); }), ": 'en-' at 3..3" + next},
+        {said([&] { held.set_transform_language("de-a"); }), ": 'de-a' at 3..4" + in_transform},
         {said([&] { held.set_region("USA"); }), ": 'USA'"},
         {said([&] { held.add_variant("pos"); }), ": 'pos'"},
         {said([&] { held.set_keyword("ca", "r"); }), ": 'ca-r'"},

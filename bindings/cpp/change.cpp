@@ -2,7 +2,7 @@
  *
  *     $ change en-us en-
  *     en-GB-u-ca-buddhist
- *     Invalid subtag: 'en-' at 3..3
+ *     Invalid subtag: 'en-' at 3..3: a script, a region, a variant or an extension may stand here
  */
 #include "icu_locale.hpp"
 

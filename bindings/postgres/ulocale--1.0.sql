@@ -70,7 +70,7 @@ CREATE AGGREGATE min(ulocale) (SFUNC = ulocale_smaller, STYPE = ulocale,
 
 -- Texts that may be no locale.
 CREATE FUNCTION ulocale_is_valid(text) RETURNS bool AS 'MODULE_PATHNAME' LANGUAGE C IMMUTABLE STRICT PARALLEL SAFE;
-CREATE FUNCTION ulocale_fault(text, OUT reason text, OUT place int, OUT length int)
+CREATE FUNCTION ulocale_fault(text, OUT reason text, OUT place int, OUT length int, OUT expected text, OUT hint text)
     AS 'MODULE_PATHNAME' LANGUAGE C IMMUTABLE STRICT PARALLEL SAFE;
 
 -- Parts. None fails on any value.

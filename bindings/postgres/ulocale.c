@@ -71,18 +71,28 @@ static int character_at(sql_text given, size_t start)
     return pg_mbstrlen_with_len(chars(given), (int)start) + 1;
 }
 
-/* The detail of a refusal: why, and where. */
+/* The detail of a refusal: why, where, and what may stand there. */
 static int detail(sql_text given, icu_locale_status status)
 {
     const sql_words words = sql_words_of(status);
     size_t start = 0, end = 0;
     if (icu_locale_find_fault(ICU_LOCALE_LOCALE, given.at, given.length, &start, &end) != status)
         return errdetail("%s.", words.text);
+    const sql_words expected = sql_expected_at(ICU_LOCALE_LOCALE, given, start);
+    const int place = character_at(given, start);
     if (start == given.length)
-        return errdetail("%s: the text ends too early, at character %d.", words.text, character_at(given, start));
+        return errdetail(
+            "%s: the text ends too early, at character %d: %s may stand here.", words.text, place, expected.text);
     const sql_text piece = {given.at + start, end - start};
-    return errdetail(
-        "%s: \"%.*s\" at character %d.", words.text, shown_of(piece), chars(piece), character_at(given, start));
+    return errdetail("%s: \"%.*s\" at character %d: %s may stand here.", words.text, shown_of(piece), chars(piece), place,
+        expected.text);
+}
+
+/* The hint of a refused text, as a sentence, if it has one. */
+static int hint(sql_text given)
+{
+    const sql_words words = sql_hint_of(ICU_LOCALE_LOCALE, given);
+    return words.text[0] ? errhint("%c%s.", pg_toupper((unsigned char)words.text[0]), words.text + 1) : 0;
 }
 
 /* Reports why and where the text is refused. It returns only if the context takes the report. */
@@ -94,8 +104,7 @@ static void refuse(Node *context, sql_text given, icu_locale_status status, int 
     REPORT(context, errcode(sqlstate),
         errmsg("invalid input syntax for type %s: \"%.*s%s\"", "ulocale", shown, chars(given),
             shown < (int)given.length ? "..." : ""),
-        detail(given, status),
-        memchr(given.at, '_', given.length) ? errhint("Subtags are joined by hyphens: en-US, not en_US.") : 0);
+        detail(given, status), hint(given));
 }
 
 /* Returns the value of the text. If it is refused, and the context takes the report, returns NULL. */
@@ -149,8 +158,8 @@ Datum ulocale_is_valid(PG_FUNCTION_ARGS)
     PG_RETURN_BOOL(status == ICU_LOCALE_DONE);
 }
 
-/* ulocale_fault(text): the reason, and the piece at fault by its first character, from 1, and its length; NULL if the
- * text is a locale */
+/* ulocale_fault(text): the reason; the piece at fault by its first character, from 1, and its length; what may stand there;
+ * and what is to be done, if that is known. NULL if the text is a locale */
 PG_FUNCTION_INFO_V1(ulocale_fault);
 Datum ulocale_fault(PG_FUNCTION_ARGS)
 {
@@ -158,8 +167,8 @@ Datum ulocale_fault(PG_FUNCTION_ARGS)
     size_t start, end;
     icu_locale_status status = icu_locale_find_fault(ICU_LOCALE_LOCALE, given.at, given.length, &start, &end);
     TupleDesc row;
-    bool nulls[3] = {false, false, false};
-    Datum values[3];
+    bool nulls[5] = {false, false, false, false, false};
+    Datum values[5];
     if (status == ICU_LOCALE_DONE)
         PG_RETURN_NULL();
     if (get_call_result_type(fcinfo, NULL, &row) != TYPEFUNC_COMPOSITE)
@@ -167,6 +176,10 @@ Datum ulocale_fault(PG_FUNCTION_ARGS)
     values[0] = CStringGetTextDatum(sql_words_of(status).text);
     values[1] = Int32GetDatum(character_at(given, start));
     values[2] = Int32GetDatum(pg_mbstrlen_with_len(chars(given) + start, (int)(end - start)));
+    values[3] = CStringGetTextDatum(sql_expected_at(ICU_LOCALE_LOCALE, given, start).text);
+    const sql_words words = sql_hint_of(ICU_LOCALE_LOCALE, given);
+    nulls[4] = words.text[0] == 0;
+    values[4] = CStringGetTextDatum(words.text);
     PG_RETURN_DATUM(HeapTupleGetDatum(heap_form_tuple(BlessTupleDesc(row), values, nulls)));
 }
 

@@ -5,7 +5,8 @@ word after 'pairs-' asks of each two lines for the byte order of the first, norm
 mean the same, and the order of both normal forms, as '-1 0 -1'. A refusal stands in the place of the last, or of all
 three if the first is refused.
 
-Such a word after 'faults-' asks where the fault of each line stands, as '3 5', or '-' if it has none.
+Such a word after 'faults-' asks where the fault of each line stands, which kinds may stand there and for the hint, as
+'3 5 4126 0', or '-' if it has none.
 
 The word 'objects' asks for all parts of the locale that the line means. 'two-objects' asks of each two lines for the
 order of both locales, whether they are equal and are hashed alike, the byte order of the first against the second line,
@@ -52,9 +53,12 @@ def place(line, mode):
     except LocaleError as refusal:
         before, piece = line[: refusal.start], line[refusal.start : refusal.end]
         assert (refusal.text, refusal.piece, refusal.end) == (line[:1000], piece[:1000], refusal.start + len(piece))
-        assert str(refusal).endswith(f" at {refusal.start}..{refusal.end}") == (piece != line)
+        at = "" if piece == line else f" at {refusal.start}..{refusal.end}"
+        meant = "" if refusal.hint is None else f"; {refusal.hint}"
+        assert str(refusal).endswith(f"{at}: {refusal.expected} may stand here{meant}")
         piece, before = (it if isinstance(it, bytes) else it.encode("utf-8", "surrogatepass") for it in (piece, before))
-        return f"{len(before)} {len(before) + len(piece)}"
+        hint = 0 if refusal.hint is None else refusal.hint.value
+        return f"{len(before)} {len(before) + len(piece)} {refusal.expected.value} {hint}"
     return "-"
 
 

@@ -23,9 +23,11 @@ from typing import Dict
 import icu_locale_c
 from icu_locale_c import (
     DuplicatedExtension,
+    Hint,
     InvalidExtension,
     InvalidLanguage,
     InvalidSubtag,
+    Kinds,
     Locale,
     LocaleError,
     Mode,
@@ -108,6 +110,19 @@ def place(call, *words):
         read, again = pickle.loads(pickle.dumps(refusal)), type(refusal)(*refusal.args)
         assert (read.text, read.args, str(again)) == (refusal.text, refusal.args, str(refusal))
         return (read.start, read.end, read.piece) if read.piece == again.piece else (again.start, again.end, again.piece)
+
+
+def advice_of(call, *words):
+    """What the refusal of a call says may stand there, and what it takes for meant, after it was pickled."""
+    try:
+        return call(*words)
+    except LocaleError as refusal:
+        read = pickle.loads(pickle.dumps(refusal))
+        return read.expected, read.hint
+
+
+def advice(text, mode=Mode.LOCALE):
+    return advice_of(normalize, text, mode)
 
 
 def in_threads(call, every):
@@ -296,6 +311,9 @@ NAMES = ("language", "script", "region", "variants", "keywords", "attributes", "
 PARTS = ("en", "Latn", "GB", ("posix",), {"ca": "roc"}, ("aaa",), "de", {"m0": "din"}, "x-p-q", {"a": "foo"}, ALL)
 with_part = lambda **parts: raised(lambda: str(HELD.replace(**parts)))
 
+# What may stand at the beginning, and right after a language, by UTS #35, section 3.1.
+FIRST, NEXT = ": a language may stand here", ": a script, a region, a variant or an extension may stand here"
+
 CASES = [
     (raised(normalize, 5), TypeError),
     (raised(normalize, None), TypeError),
@@ -397,23 +415,28 @@ CASES = [
     (held_then(), (9, 0)),
     (meanwhile(), ""),
     (at_once(), []),
-    (said_by(normalize, "en-"), "Invalid subtag: 'en-' at 3..3"),
-    (said_by(check, b"en-\xff"), "Invalid extension: b'en-\\xff' at 3..4"),
-    (said_by(normalize, memoryview(b"en-")), "Invalid subtag: b'en-' at 3..3"),
-    (said_by(normalize, "en-" + "x" * 99), f"Invalid subtag: 'en-{'x' * 61}'... at 3..102"),
-    (said_by(normalize, FalseText("en-")), "Invalid subtag: 'en-' at 3..3"),
-    (said_by(normalize, "e-US"), "The given language subtag is invalid: 'e-US' at 0..1"),
-    (said_by(normalize, "en-\u00e9\U0001f600-US"), "Invalid subtag: 'en-\u00e9\U0001f600-US' at 3..5"),
-    (said_by(normalize, "\ud800"), "The given language subtag is invalid: '\\ud800'"),
-    (said_by(strict_cmp, "e", "en"), "The given language subtag is invalid: 'e'"),
-    (said_by(normalizing_eq, "e", "en"), "The given language subtag is invalid: 'e'"),
-    (said_by(compare, "e", "x"), "The given language subtag is invalid: 'e'"),
-    (said_by(compare, "en", "x"), "The given language subtag is invalid: 'x'"),
-    ([said_by(matches, *it) for it in (("e", "x"), ("en", "x"))], [f"The given language subtag is invalid: '{it}'" for it in "ex"]),
-    (said_by(Locale, "en-"), "Invalid subtag: 'en-' at 3..3"),
+    (said_by(normalize, "en-"), f"Invalid subtag: 'en-' at 3..3{NEXT}"),
+    (said_by(check, b"en-\xff"), f"Invalid extension: b'en-\\xff' at 3..4{NEXT}"),
+    (said_by(normalize, memoryview(b"en-")), f"Invalid subtag: b'en-' at 3..3{NEXT}"),
+    (said_by(normalize, "en-" + "x" * 99), f"Invalid subtag: 'en-{'x' * 61}'... at 3..102{NEXT}"),
+    (said_by(normalize, FalseText("en-")), f"Invalid subtag: 'en-' at 3..3{NEXT}"),
+    (said_by(normalize, "e-US"), f"The given language subtag is invalid: 'e-US' at 0..1{FIRST}"),
+    (said_by(normalize, "en-\u00e9\U0001f600-US"), f"Invalid subtag: 'en-\u00e9\U0001f600-US' at 3..5{NEXT}"),
+    (said_by(normalize, "\ud800"), f"The given language subtag is invalid: '\\ud800'{FIRST}"),
+    (said_by(strict_cmp, "e", "en"), f"The given language subtag is invalid: 'e'{FIRST}"),
+    (said_by(normalizing_eq, "e", "en"), f"The given language subtag is invalid: 'e'{FIRST}"),
+    (said_by(compare, "e", "x"), f"The given language subtag is invalid: 'e'{FIRST}"),
+    (said_by(compare, "en", "x"), f"The given language subtag is invalid: 'x'{FIRST}"),
+    ([said_by(matches, *it) for it in (("e", "x"), ("en", "x"))], [f"The given language subtag is invalid: '{it}'{FIRST}" for it in "ex"]),
+    (said_by(Locale, "en-"), f"Invalid subtag: 'en-' at 3..3{NEXT}"),
+    (said_by(Locale, "en-US-toolonggg"), "Invalid subtag: 'en-US-toolonggg' at 6..15: a variant or an extension may stand here"),
+    (said_by(Locale, "en-u"), "Invalid extension: 'en-u' at 4..4: an attribute or a key may stand here"),
+    (said_by(Locale, "en_US"), f"The given language subtag is invalid: 'en_US'{FIRST}; use hyphens in place of underscores"),
+    (said_by(Locale, b"C"), f"The given language subtag is invalid: b'C'{FIRST}; use und, since this name has no language"),
+    (said_by(Locale, "en_!"), f"The given language subtag is invalid: 'en_!'{FIRST}"),
     (said_by(lambda: HELD.replace(region="USA")), "Invalid subtag: 'USA'"),
     (said_by(lambda: HELD.replace(variants=["posix", "pos"])), "Invalid subtag: 'pos'"),
-    (said_by(lambda: HELD.replace(transform_language="de-a")), "Invalid subtag: 'de-a' at 3..4"),
+    (said_by(lambda: HELD.replace(transform_language="de-a")), "Invalid subtag: 'de-a' at 3..4: a script, a region or a variant may stand here"),
     (said_by(lambda: HELD.replace(keywords={"ca": "r"})), "Invalid subtag: 'ca-r'"),
     (said_by(lambda: HELD.replace(keywords={b"ca": b"ab"})), "Invalid subtag: 'en-US-posix-u-foo-ca-ab'"),
     (said_by(lambda: HELD.replace(fields={"m": "din"})), "Invalid extension: 'm-din'"),
@@ -421,6 +444,23 @@ CASES = [
     (said_by(lambda: HELD.replace(others={"ab": "cd"})), "Invalid extension: 'ab-cd'"),
     (LocaleError().words, ""),
     ((LocaleError().piece, LocaleError("x", "en-").piece, LocaleError("x", "en-", 3).end), (None, "en-", 3)),
+    # what may stand there, by UTS #35, sections 3.1 and 3.2; and what is meant
+    (advice("en-foo"), (Kinds.SCRIPT | Kinds.REGION | Kinds.VARIANT | Kinds.SINGLETON | Kinds.END, None)),
+    (advice("en-Latn-!"), (Kinds.REGION | Kinds.VARIANT | Kinds.SINGLETON | Kinds.END, None)),
+    (advice("en-u-\u00e9"), (Kinds.ATTRIBUTE | Kinds.KEY, None)),
+    (advice("en-u-ca-!"), (Kinds.KEY | Kinds.VALUE | Kinds.SINGLETON | Kinds.END, None)),
+    (advice("en-t-!"), (Kinds.LANGUAGE | Kinds.FIELD, None)),
+    (advice("en-t-m0-!"), (Kinds.FIELD_VALUE, None)),
+    (advice("en-a"), (Kinds.OTHER, None)),
+    (advice("en-x-!"), (Kinds.PRIVATE, None)),
+    (advice("en-US-u-ca", Mode.IDENTIFIER), (Kinds.VARIANT | Kinds.END, None)),
+    *((advice(text), (Kinds.LANGUAGE, hint)) for text, hint in (("en_US", Hint.UNDERSCORES), ("en_US.UTF-8", Hint.CODESET), ("C", Hint.SYSTEM), ("", None))),
+    (advice("en-US ")[1], Hint.BLANKS),
+    (advice("\ufeffen")[1], Hint.MARK),
+    (advice("en_US_u_ca", Mode.IDENTIFIER)[1], None),
+    (advice_of(lambda: HELD.replace(region="U_S")), (Kinds(0), None)),
+    (Kinds.VARIANT in advice("en-US-!")[0], True),
+    ([str(it) for it in (Kinds.LANGUAGE | Kinds.FIELD, Kinds.END, Kinds(0), Hint.MARK)], ["a language or a key of a field", "the end", "nothing", "leave out the byte order mark"]),
     *((place(normalize, "", it), (0, 0, "")) for it in Mode),
     *((place(normalize, "e-US", it), (0, 1, "e")) for it in Mode),
     *((place(check, "en-", it), (3, 3, "")) for it in Mode),
@@ -429,10 +469,10 @@ CASES = [
     *((place(normalizing_eq, "en-US-\0\0-posix", "en", it), (6, 8, "\0\0")) for it in Mode),
     *((place(compare, "en-!", "e", it), (3, 4, "!")) for it in Mode),
     *((place(compare, "en", "en-US-!", it), (6, 7, "!")) for it in Mode),
-    (kept_by("en-" + "x" * 10_000_000), (1000, True, f"Invalid subtag: 'en-{'x' * 61}'... at 3..10000003", "x" * 9, 3, 10_000_003)),
-    (kept_by(b"x" * 10_000_000), (1000, True, f"The given language subtag is invalid: b'{'x' * 64}'...", b"x" * 9, 0, 10_000_000)),
-    (kept_by("en" + "-abcdefgh" * 1000 + "-!"), (1000, True, f"Invalid subtag: 'en{'-abcdefgh' * 6}-abcdefg'... at 12..20", "abcdefgh", 12, 20)),
-    (kept_by("en-x" + "-abcdefgh" * 1000 + "-!"), (1000, True, f"Invalid extension: 'en-x{'-abcdefgh' * 6}-abcde'... at 9005..9006", "!", 9005, 9006)),
+    (kept_by("en-" + "x" * 10_000_000), (1000, True, f"Invalid subtag: 'en-{'x' * 61}'... at 3..10000003{NEXT}", "x" * 9, 3, 10_000_003)),
+    (kept_by(b"x" * 10_000_000), (1000, True, f"The given language subtag is invalid: b'{'x' * 64}'...{FIRST}", b"x" * 9, 0, 10_000_000)),
+    (kept_by("en" + "-abcdefgh" * 1000 + "-!"), (1000, True, f"Invalid subtag: 'en{'-abcdefgh' * 6}-abcdefg'... at 12..20: a variant or an extension may stand here", "abcdefgh", 12, 20)),
+    (kept_by("en-x" + "-abcdefgh" * 1000 + "-!"), (1000, True, f"Invalid extension: 'en-x{'-abcdefgh' * 6}-abcde'... at 9005..9006: a private subtag may stand here", "!", 9005, 9006)),
     (str(LocaleError("x", "a" * 1001, 0, 1000)), f"x: '{'a' * 64}'... at 0..1000"),
     # characters of a str, also of one that cannot be encoded; bytes of bytes
     *((place(normalize, "en-\u00e9\U0001f600-US", it), (3, 5, "\u00e9\U0001f600")) for it in Mode),

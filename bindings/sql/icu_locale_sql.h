@@ -30,18 +30,41 @@ static inline int sql_order(sql_text one, sql_text other)
     return order ? order : (one.length > other.length) - (one.length < other.length);
 }
 
-/* The words of a status, such as Invalid subtag, with a zero at the end. */
+/* Words of the library, such as Invalid subtag, with a zero at the end. */
 typedef struct {
-    char text[65];
+    char text[193];
 } sql_words;
 
-static inline sql_words sql_words_of(icu_locale_status status)
+/* The words that a call has of a number; none if it has none. */
+static inline sql_words sql_said(icu_locale_status (*call)(uint32_t, uint8_t *, size_t, size_t *), uint32_t number)
 {
     sql_words words;
     size_t needed;
-    icu_locale_words(status, (uint8_t *)words.text, sizeof words.text - 1, &needed);
+    (void)call(number, (uint8_t *)words.text, sizeof words.text - 1, &needed);
     words.text[needed] = 0;
     return words;
+}
+
+/* The words of a status. */
+static inline sql_words sql_words_of(icu_locale_status status)
+{
+    return sql_said(icu_locale_words, status);
+}
+
+/* What may stand at this byte of a text: a script, a region, a variant or an extension. */
+static inline sql_words sql_expected_at(icu_locale_mode mode, sql_text text, size_t place)
+{
+    icu_locale_kinds kinds = 0;
+    (void)!icu_locale_expected(mode, text.at, text.length, place, &kinds);
+    return sql_said(icu_locale_expected_words, kinds);
+}
+
+/* What is to be done with a refused text such as en_US: use hyphens in place of underscores. No words if it has no hint. */
+static inline sql_words sql_hint_of(icu_locale_mode mode, sql_text text)
+{
+    icu_locale_hint_number hint = ICU_LOCALE_NO_HINT;
+    (void)!icu_locale_hint(mode, text.at, text.length, &hint);
+    return sql_said(icu_locale_hint_words, hint);
 }
 
 /* The piece that begins at this place: up to the next hyphen, or the end. */

@@ -56,8 +56,10 @@ char *locale_message(icu_locale_mode mode, sql_text text, icu_locale_status stat
     size_t start = 0, end = 0, shown = shown_of(text);
     if (status == ICU_LOCALE_OUT_OF_MEMORY || icu_locale_find_fault(mode, text.at, text.length, &start, &end) != status)
         return NULL;
-    return sqlite3_mprintf("%s: '%.*s%s' at %lld..%lld", sql_words_of(status).text, (int)shown, text.at,
-        shown < text.length ? "..." : "", characters(text.at, start), characters(text.at, end));
+    const sql_words expected = sql_expected_at(mode, text, start), hint = sql_hint_of(mode, text);
+    return sqlite3_mprintf("%s: '%.*s%s' at %lld..%lld: %s may stand here%s%s", sql_words_of(status).text, (int)shown,
+        text.at, shown < text.length ? "..." : "", characters(text.at, start), characters(text.at, end), expected.text,
+        hint.text[0] ? "; " : "", hint.text);
 }
 
 static void refuse(sqlite3_context *context, icu_locale_mode mode, sql_text text, icu_locale_status status)
@@ -154,8 +156,8 @@ static void call_is_valid(sqlite3_context *context, int count, sqlite3_value **v
         sqlite3_result_int(context, status == ICU_LOCALE_DONE);
 }
 
-/* locale_fault(text [, mode]): NULL, or {"reason":"Invalid subtag","start":3,"end":3} for -> and ->>. Places are in
- * characters. */
+/* locale_fault(text [, mode]): NULL, or for -> and ->> the reason, the place in characters, what may stand there, and what
+ * is to be done: {"reason":"Invalid subtag","start":6,"end":9,"expected":"a variant or an extension","hint":null}. */
 static void call_fault(sqlite3_context *context, int count, sqlite3_value **values)
 {
     icu_locale_mode mode;
@@ -166,8 +168,11 @@ static void call_fault(sqlite3_context *context, int count, sqlite3_value **valu
     icu_locale_status status = icu_locale_find_fault(mode, text.at, text.length, &start, &end);
     if (status == ICU_LOCALE_DONE)
         return;
-    char *json = sqlite3_mprintf("{\"reason\":\"%s\",\"start\":%lld,\"end\":%lld}", sql_words_of(status).text,
-        characters(text.at, start), characters(text.at, end));
+    const sql_words expected = sql_expected_at(mode, text, start), hint = sql_hint_of(mode, text);
+    const char *quote = hint.text[0] ? "\"" : "";
+    char *json = sqlite3_mprintf("{\"reason\":\"%s\",\"start\":%lld,\"end\":%lld,\"expected\":\"%s\",\"hint\":%s%s%s}",
+        sql_words_of(status).text, characters(text.at, start), characters(text.at, end), expected.text, quote,
+        hint.text[0] ? hint.text : "null", quote);
     if (json == NULL) {
         sqlite3_result_error_nomem(context);
         return;

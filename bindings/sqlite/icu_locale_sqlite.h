@@ -5,8 +5,11 @@
 #include "../sql/icu_locale_sql.h"
 #include "sqlite3ext.h"
 
-/* Why and where the text is refused, such as Invalid subtag: 'en-' at 3..3. The caller frees it with sqlite3_free.
- * NULL if memory is out. */
+/* Why and where the text is refused, what may stand there, and what is usually meant, such as
+ *
+ *     Invalid subtag: 'en-US-foo' at 6..9: a variant or an extension may stand here
+ *
+ * The caller frees it with sqlite3_free. NULL if memory is out. */
 char *locale_message(icu_locale_mode mode, sql_text text, icu_locale_status status);
 
 /* The table locale_parts. */

@@ -10,9 +10,9 @@ The work is done by the library of include/icu_locale.h, whose every function is
 en-GB-u-ca-buddhist
 >>> normalize("EN-us-u-ca-Buddhist")
 'en-US-u-ca-buddhist'
->>> normalize("en-", Mode.IDENTIFIER)
+>>> normalize("en-US-foo")
 Traceback (most recent call last):
-icu_locale_c.InvalidSubtag: Invalid subtag: 'en-' at 3..3
+icu_locale_c.InvalidSubtag: Invalid subtag: 'en-US-foo' at 6..9: a variant or an extension may stand here
 
 A text is a str, or bytes (or any bytes-like object) of any encoding. Anything else is a TypeError. A lone surrogate in
 a str is refused like any other character that no identifier has.
@@ -44,6 +44,8 @@ __all__ = [
     "Locale",
     "Mode",
     "Priority",
+    "Kinds",
+    "Hint",
     "LocaleError",
     "InvalidLanguage",
     "InvalidSubtag",
@@ -100,40 +102,90 @@ class Priority(enum.IntEnum):
     REGION = 1
 
 
+class Kinds(enum.Flag):
+    """Kinds of pieces of a text, as a set: `Kinds.REGION in error.expected`. Its str is the words of the library."""
+
+    LANGUAGE = 1
+    SCRIPT = 2
+    REGION = 4
+    VARIANT = 8
+    SINGLETON = 16
+    ATTRIBUTE = 32
+    KEY = 64
+    VALUE = 128
+    FIELD = 256
+    OTHER = 512
+    PRIVATE = 1024
+    FIELD_VALUE = 2048
+    END = 4096
+
+    def __str__(self) -> str:
+        return _words(_library.icu_locale_expected_words, self.value)
+
+
+class Hint(enum.Enum):
+    """What is usually meant by a refused text. Its str says what to do, in the words of the library.
+
+    MARK: a byte order mark begins it. BLANKS: it has a space, a tab, a CR or a newline. SYSTEM: it is C, POSIX or root,
+    perhaps with a codeset, and names no language. CODESET: without its codeset and modifier, and with hyphens for its
+    underscores, it has a meaning. UNDERSCORES: with hyphens for them it has one."""
+
+    MARK = 1
+    BLANKS = 2
+    SYSTEM = 3
+    CODESET = 4
+    UNDERSCORES = 5
+
+    def __str__(self) -> str:
+        return _words(_library.icu_locale_hint_words, self.value)
+
+
 # How many characters or bytes of a refused text an error keeps.
 _LONGEST = 1000
 
 
 class LocaleError(ValueError):
-    """A refused text: `words` says why, and `text` is the text, a str or bytes as it was given. It prints both, and where
-    the fault stands, unless all of the text is at fault.
+    """A refused text: `words` says why, and `text` is the text, a str or bytes as it was given. It prints both, where the
+    fault stands, unless all of the text is at fault, and what may stand there.
 
     The fault stands at `piece`, which is text[start:end]: in characters of a str, and in bytes of bytes. It is the first
     piece that no text with a meaning has right after the pieces before it. Pieces count whole: that of `en-foo` is `foo`,
     though `en-foobar` has a meaning. If there is no such piece, the text ends too early, and `piece` is empty at its end.
     A part that is refused, such as a region, is all at fault.
 
+    `expected` has the kinds of pieces that may stand at `start`; none if a part was refused. `hint` is what is usually meant
+    by a text such as `en_US`, or None.
+
     Of a long text `text` is the beginning alone, of 1,000 characters or bytes. So is `piece` of a long piece. `start` and
     `end` are the places in the whole text.
 
     >>> try:
-    ...     normalize("en-toolonggg-US")
+    ...     normalize("en-US-toolonggg")
     ... except LocaleError as refusal:
     ...     print(refusal)
     ...     print(refusal.start, refusal.end, refusal.piece)
-    Invalid subtag: 'en-toolonggg-US' at 3..12
-    3 12 toolonggg
+    ...     print(Kinds.VARIANT in refusal.expected, Kinds.REGION in refusal.expected)
+    Invalid subtag: 'en-US-toolonggg' at 6..15: a variant or an extension may stand here
+    6 15 toolonggg
+    True False
     """
 
     def __init__(
-        self, words: str = "", text: Union[str, bytes, None] = None, start: int = 0, end: Optional[int] = None
+        self,
+        words: str = "",
+        text: Union[str, bytes, None] = None,
+        start: int = 0,
+        end: Optional[int] = None,
+        expected: Kinds = Kinds(0),
+        hint: Optional[Hint] = None,
     ) -> None:
         length = len(text or "")
         self.words, self.start, self.end = words, start, length if end is None else end
         self.text = None if text is None else text[:_LONGEST]
         self.piece = None if text is None else text[start : min(self.end, start + _LONGEST)]
+        self.expected, self.hint = expected, hint
         self._is_all = self.end - start == length
-        super().__init__(words, self.text, start, self.end)
+        super().__init__(words, self.text, start, self.end, expected, hint)
 
     def __str__(self) -> str:
         if self.text is None:
@@ -141,7 +193,9 @@ class LocaleError(ValueError):
         said = f"{self.words}: {self.text[:64]!r}" + ("..." if len(self.text) > 64 else "")
         if not self._is_all:
             said += f" at {self.start}..{self.end}"
-        return said
+        if self.expected:
+            said += f": {self.expected!s} may stand here"
+        return said if self.hint is None else f"{said}; {self.hint!s}"
 
 
 class InvalidLanguage(LocaleError):
@@ -170,7 +224,7 @@ class _Handle(ctypes.Structure):
 _DONE, _INVALID_SUBTAG, _INVALID_EXTENSION, _BUFFER_TOO_SMALL, _NOT_FOUND = 0, 2, 3, 6, 8
 _REFUSALS = {1: InvalidLanguage, 2: InvalidSubtag, 3: InvalidExtension, 4: DuplicatedExtension, 5: MemoryError}
 _NUMBER, _BYTES, _SIZE, _BYTE = ctypes.c_uint32, ctypes.c_char_p, ctypes.c_size_t, ctypes.c_uint8
-_PLACE = ctypes.POINTER(_SIZE)
+_PLACE, _NUMBER_AT = ctypes.POINTER(_SIZE), ctypes.POINTER(_NUMBER)
 _ORDER, _SAME = ctypes.POINTER(ctypes.c_int8), ctypes.POINTER(ctypes.c_uint8)
 _LOCALE, _TRUTH = ctypes.POINTER(_Handle), ctypes.c_bool
 # (a place to write to is given by its address, which takes half the time)
@@ -182,6 +236,10 @@ _FORMS = {
     "normalize": (_NUMBER, *_TEXT, *_BUFFER),
     "check": (_NUMBER, *_TEXT),
     "find_fault": (_NUMBER, *_TEXT, _PLACE, _PLACE),
+    "expected": (_NUMBER, *_TEXT, _SIZE, _NUMBER_AT),
+    "expected_words": (_NUMBER, *_BUFFER),
+    "hint": (_NUMBER, *_TEXT, _NUMBER_AT),
+    "hint_words": (_NUMBER, *_BUFFER),
     "strict_cmp": (_NUMBER, *_TEXT, *_TEXT, _ORDER),
     "normalizing_eq": (_NUMBER, *_TEXT, *_TEXT, _SAME),
     "compare": (_NUMBER, *_TEXT, *_TEXT, _ORDER),
@@ -350,24 +408,33 @@ def _raise(status: int, text: Optional[Text] = None, mode: Optional[Mode] = None
     refusal = _REFUSALS.get(status)
     if refusal is None:
         raise RuntimeError(f"the library gave status {status}, which this wrapper does not know: {_REMEDY}")
-    words, needed = ctypes.create_string_buffer(64), ctypes.c_size_t()
-    _call(_library.icu_locale_words, status, words, 64, ctypes.byref(needed))
-    said = words.raw[: needed.value].decode()
+    said = _words(_library.icu_locale_words, status)
     if text is None or refusal is MemoryError:
         raise refusal(said)
     raise refusal(said, *_shown(text, mode))
 
 
-def _shown(text: Text, mode: Optional[Mode]) -> Tuple[Union[str, bytes], int, int]:
-    """The text, as a str if it was one and else as bytes; and where the fault stands in that."""
+def _words(call: Any, number: int) -> str:
+    """The words that the library has of a number. The header says that 192 bytes are enough."""
+    words, needed = ctypes.create_string_buffer(192), ctypes.c_size_t()
+    _call(call, number, words, 192, ctypes.addressof(needed))
+    return words.raw[: needed.value].decode()
+
+
+def _shown(text: Text, mode: Optional[Mode]) -> Tuple[Any, ...]:
+    """The text, as a str if it was one and else as bytes; where the fault stands in that; what may stand there; and what is
+    usually meant."""
     given, length = _sized(text)
-    start, end = ctypes.c_size_t(), ctypes.c_size_t(length)
+    start, end, kinds, hint = ctypes.c_size_t(), ctypes.c_size_t(length), ctypes.c_uint32(), ctypes.c_uint32()
     if mode is not None:
         _call(_library.icu_locale_find_fault, mode, given, length, ctypes.byref(start), ctypes.byref(end))
+        _call(_library.icu_locale_expected, mode, given, length, start, ctypes.byref(kinds))
+        _call(_library.icu_locale_hint, mode, given, length, ctypes.byref(hint))
+    more = Kinds(kinds.value), Hint(hint.value) if hint.value else None
     if not isinstance(text, str):
-        return given, start.value, end.value
+        return (given, start.value, end.value, *more)
     # A piece begins and ends beside a hyphen, or where the text does.
-    return _decoded(given), len(_decoded(given[: start.value])), len(_decoded(given[: end.value]))
+    return (_decoded(given), len(_decoded(given[: start.value])), len(_decoded(given[: end.value])), *more)
 
 
 def _decoded(given: bytes) -> str:
@@ -469,7 +536,7 @@ def check(text: Text, mode: Mode = Mode.LOCALE) -> bool:
     True
     >>> check("en-US-u-ca-buddhist", Mode.IDENTIFIER)
     Traceback (most recent call last):
-    icu_locale_c.InvalidSubtag: Invalid subtag: 'en-US-u-ca-buddhist' at 6..7
+    icu_locale_c.InvalidSubtag: Invalid subtag: 'en-US-u-ca-buddhist' at 6..7: a variant may stand here
     """
     mode = _number(Mode, mode)
     _raise(_call(_library.icu_locale_check, mode, *_sized(text)), text, mode)
@@ -767,7 +834,7 @@ class Locale:
     (True, True)
     >>> Locale("en-")
     Traceback (most recent call last):
-    icu_locale_c.InvalidSubtag: Invalid subtag: 'en-' at 3..3
+    icu_locale_c.InvalidSubtag: Invalid subtag: 'en-' at 3..3: a script, a region, a variant or an extension may stand here
     """
 
     __slots__ = ("_handle", "_ticket", "_parts", "__weakref__")

@@ -1,7 +1,8 @@
 //! Answers each line of standard input, for tools/try_bindings.
 //!
 //! `answers langid|locale|data`: the normal form of each line, or `! ` and the words of the refusal.
-//! `answers faults-langid|faults-locale|faults-data`: where the fault of each line stands, as `3 5`; `-` if it has none.
+//! `answers faults-langid|faults-locale|faults-data`: where the fault of each line stands, the bits of the kinds that may
+//! stand there, and the number of the hint, as `3 5 4126 0`; `-` if it has none.
 //! `answers pairs-langid|pairs-locale|pairs-data`: of each two lines the byte order of the first, normalized, against
 //! the second, whether they mean the same, and the order of both normal forms, as `-1 0 -1`. A refusal stands in the
 //! place of the last, or of all three if the first is refused.
@@ -29,10 +30,12 @@ fn answer(mode: Mode, line: &[u8]) -> String {
 
 fn fault(mode: Mode, line: &[u8]) -> String {
     let at = |error: ParseError| {
-        let range = error.range();
-        let is_said = error.to_string().ends_with(&format!(" at {range:?}"));
-        assert_eq!(is_said, range.len() != line.len());
-        format!("{} {}", range.start, range.end)
+        let (range, expected, hint) = (error.range(), error.expected(), error.hint());
+        let meant = hint.map_or(String::new(), |it| format!("; {it}"));
+        let place = if range.len() == line.len() { String::new() } else { format!(" at {range:?}") };
+        assert!(error.to_string().ends_with(&format!("{place}: {expected} may stand here{meant}")));
+        let bits: u32 = expected.iter().map(|it| 1 << it as u32).sum();
+        format!("{} {} {bits} {}", range.start, range.end, hint.map_or(0, |it| it as u32 + 1))
     };
     normalize(mode, line).map_or_else(at, |_| "-".to_owned())
 }

@@ -1,6 +1,6 @@
 //! Why a text is refused, and the error that names the text.
 
-use crate::{sys, Mode};
+use crate::{sys, Expected, Hint, Mode};
 use std::fmt;
 use std::ops::Range;
 
@@ -50,22 +50,27 @@ impl fmt::Display for Refusal {
     }
 }
 
-/// A refused text. It prints why, of which text and, unless all of it is at fault, where, as
-/// `Invalid subtag: 'en-' at 3..3`.
+/// A refused text. It prints why, of which text, where unless all of it is at fault, and what may stand there:
+/// `Invalid subtag: 'en-US-foo' at 6..9: a variant or an extension may stand here`. If it is known what is usually meant,
+/// as of `en_US`, it prints that too.
 ///
 /// It holds a copy of the first 64 bytes of the text, and prints these. So making and cloning one allocates nothing.
-/// Two are equal if they have the same kind and range, and texts of one length that begin alike. It is compared with a
-/// [`Refusal`] too:
+/// Two are equal if they have the same kind, range, [`expected`](Self::expected) and [`hint`](Self::hint), and texts of one
+/// length that begin alike. It is compared with a [`Refusal`] too:
 ///
 /// ```
-/// use icu_locale_c::{Locale, Refusal};
+/// use icu_locale_c::{Locale, PieceKind, Refusal};
 ///
-/// let text = "en-toolonggg-US";
+/// let text = "en-US-toolonggg";
 /// let error = text.parse::<Locale>().unwrap_err();
-/// assert_eq!(error.to_string(), "Invalid subtag: 'en-toolonggg-US' at 3..12");
+/// assert_eq!(
+///     error.to_string(),
+///     "Invalid subtag: 'en-US-toolonggg' at 6..15: a variant or an extension may stand here"
+/// );
 /// assert_eq!(error.kind(), Refusal::InvalidSubtag);
 /// assert_eq!(error, Refusal::InvalidSubtag);
 /// assert_eq!(&text[error.range()], "toolonggg");
+/// assert!(error.expected().contains(PieceKind::Variant));
 /// ```
 ///
 /// An error that says nothing of the text, such as [`Refusal::OutOfMemory`], prints its words alone.
@@ -74,6 +79,8 @@ pub struct ParseError {
     kind: Refusal,
     text: Beginning,
     range: Range<usize>,
+    expected: Expected,
+    hint: Option<Hint>,
 }
 
 impl ParseError {
@@ -92,14 +99,26 @@ impl ParseError {
         self.range.clone()
     }
 
+    /// What may stand at the beginning of that range. It is empty if a part was refused, or if the error says nothing of the
+    /// text.
+    pub fn expected(&self) -> Expected {
+        self.expected
+    }
+
+    /// What is usually meant by the text, if that is known: `en-US` by `en_US`.
+    pub fn hint(&self) -> Option<Hint> {
+        self.hint
+    }
+
     /// The error of this kind. Its text is that of the parts, one after the other, and is all at fault.
     pub(crate) fn of(kind: Refusal, parts: &[&[u8]]) -> Self {
         let text = Beginning::of(if kind.is_of_text() { parts } else { &[] });
         let range = 0..text.length;
-        ParseError { kind, text, range }
+        ParseError { kind, text, range, expected: Expected::default(), hint: None }
     }
 
-    /// The error of a text that was refused in the mode: the library is asked where its fault stands.
+    /// The error of a text that was refused in the mode: the library is asked where its fault stands, what may stand there,
+    /// and what is usually meant.
     fn found(mut self, mode: Mode, text: &[u8]) -> Self {
         if self.kind.is_of_text() {
             let range = &mut self.range;
@@ -114,6 +133,8 @@ impl ParseError {
                     &mut range.end,
                 )
             };
+            self.expected = Expected::at(mode, text, self.range.start);
+            self.hint = Hint::of(mode, text);
         }
         self
     }
@@ -129,6 +150,12 @@ impl fmt::Display for ParseError {
         if self.range.len() != self.text.length {
             said += &format!(" at {:?}", self.range);
         }
+        if !self.expected.is_empty() {
+            said += &format!(": {} may stand here", self.expected);
+        }
+        if let Some(hint) = self.hint {
+            said += &format!("; {hint}");
+        }
         f.pad(&said)
     }
 }
@@ -139,6 +166,12 @@ impl fmt::Debug for ParseError {
         shown.field("kind", &self.kind);
         if self.kind.is_of_text() {
             shown.field("text", &format_args!("{}", self.text)).field("range", &self.range);
+        }
+        if !self.expected.is_empty() {
+            shown.field("expected", &self.expected);
+        }
+        if let Some(hint) = self.hint {
+            shown.field("hint", &hint);
         }
         shown.finish()
     }
@@ -209,32 +242,42 @@ mod tests {
     use super::*;
     use crate::{check, compare, normalize, normalizing_eq, strict_cmp, Locale};
 
+    /// What may stand at the beginning, and after a language, by UTS #35, section 3.1.
+    const LANGUAGE: &str = ": a language may stand here";
+    const ALL: &str = ": a script, a region, a variant or an extension may stand here";
+    /// The identifier of `t` is one without extensions.
+    const IN_TRANSFORM: &str = "Invalid subtag: 'de-a' at 3..4: a script, a region or a variant may stand here";
+
     #[test]
     fn a_refusal_honors_the_width() {
         assert_eq!(format!("{:>16}|", Refusal::InvalidSubtag), "  Invalid subtag|");
         assert_eq!(format!("{:-<16}|", Refusal::OutOfMemory), "Out of memory---|");
         let error = normalize(Mode::Locale, "e").unwrap_err();
-        assert_eq!(format!("{error:>43}|"), "  The given language subtag is invalid: 'e'|");
-        let error = normalize(Mode::Locale, "en-").unwrap_err();
-        assert_eq!(format!("{error:>31}|"), "  Invalid subtag: 'en-' at 3..3|");
+        let said = format!("The given language subtag is invalid: 'e'{LANGUAGE}");
+        assert_eq!(format!("{error:>70}|"), format!("  {said}|"));
+        let error = "USA".parse::<crate::subtags::Region>().unwrap_err();
+        assert_eq!(format!("{error:>23}|"), "  Invalid subtag: 'USA'|");
     }
 
     #[test]
     fn a_refused_text_is_named() {
         let said = |text: &[u8]| normalize(Mode::Locale, text).unwrap_err().to_string();
-        assert_eq!(said(b"en-"), "Invalid subtag: 'en-' at 3..3");
-        assert_eq!(said(b"e-US"), "The given language subtag is invalid: 'e-US' at 0..1");
-        assert_eq!(said(b"en-\xc3\xa9-US"), "Invalid subtag: 'en-\\xc3\\xa9-US' at 3..5");
-        assert_eq!(said(b""), "The given language subtag is invalid: ''");
-        assert_eq!(said(b"e\n'\0\xff"), "The given language subtag is invalid: 'e\\n\\'\\x00\\xff'");
+        assert_eq!(said(b"en-"), format!("Invalid subtag: 'en-' at 3..3{ALL}"));
+        assert_eq!(said(b"e-US"), format!("The given language subtag is invalid: 'e-US' at 0..1{LANGUAGE}"));
+        assert_eq!(said(b"en-\xc3\xa9-US"), format!("Invalid subtag: 'en-\\xc3\\xa9-US' at 3..5{ALL}"));
+        assert_eq!(said(b""), format!("The given language subtag is invalid: ''{LANGUAGE}"));
+        let odd = format!("The given language subtag is invalid: 'e\\'\\x00\\xff'{LANGUAGE}");
+        assert_eq!(said(b"e'\0\xff"), odd);
+        let blank = format!("The given language subtag is invalid: 'e\\n'{LANGUAGE}; leave out the blanks");
+        assert_eq!(said(b"e\n"), blank);
         let long = [b'a'; 65];
-        assert_eq!(said(&long[..64]), format!("The given language subtag is invalid: '{}'", "a".repeat(64)));
-        assert_eq!(said(&long), format!("The given language subtag is invalid: '{}'...", "a".repeat(64)));
-        let cut = format!("Invalid subtag: 'en-{}'... at 3..68", "a".repeat(61));
+        assert_eq!(said(&long[..64]), format!("The given language subtag is invalid: '{}'{LANGUAGE}", "a".repeat(64)));
+        assert_eq!(said(&long), format!("The given language subtag is invalid: '{}'...{LANGUAGE}", "a".repeat(64)));
+        let cut = format!("Invalid subtag: 'en-{}'... at 3..68{ALL}", "a".repeat(61));
         assert_eq!(said(&[b"en-", &long[..]].concat()), cut);
         let both = |one, other| compare(Mode::Locale, one, other).unwrap_err().to_string();
-        assert_eq!(both("en-", "fr-"), "Invalid subtag: 'en-' at 3..3");
-        assert_eq!(both("en", "fr-"), "Invalid subtag: 'fr-' at 3..3");
+        assert_eq!(both("en-", "fr-"), format!("Invalid subtag: 'en-' at 3..3{ALL}"));
+        assert_eq!(both("en", "fr-"), format!("Invalid subtag: 'fr-' at 3..3{ALL}"));
     }
 
     #[test]
@@ -243,8 +286,9 @@ mod tests {
         use crate::subtags::{Language, Region, Script, Variant};
         let mut it = Locale::default();
         let said = |error: ParseError| error.to_string();
-        assert_eq!(said("en-".parse::<Locale>().unwrap_err()), "Invalid subtag: 'en-' at 3..3");
-        assert_eq!(said(Locale::normalize("en-").unwrap_err()), "Invalid subtag: 'en-' at 3..3");
+        let en = format!("Invalid subtag: 'en-' at 3..3{ALL}");
+        assert_eq!(said("en-".parse::<Locale>().unwrap_err()), en);
+        assert_eq!(said(Locale::normalize("en-").unwrap_err()), en);
         assert_eq!(said("e".parse::<Language>().unwrap_err()), "The given language subtag is invalid: 'e'");
         assert_eq!(said("".parse::<Script>().unwrap_err()), "Invalid subtag: ''");
         assert_eq!(said("USA".parse::<Region>().unwrap_err()), "Invalid subtag: 'USA'");
@@ -256,14 +300,14 @@ mod tests {
         assert_eq!(said(it.set_field("mm", "").unwrap_err()), "Invalid extension: 'mm'");
         assert_eq!(said(it.set_other("u-foo").unwrap_err()), "Invalid extension: 'u-foo'");
         assert_eq!(said(it.set_private_extension("y").unwrap_err()), "Invalid extension: 'y'");
-        assert_eq!(said(it.set_transform_language("de-a").unwrap_err()), "Invalid subtag: 'de-a' at 3..4");
+        assert_eq!(said(it.set_transform_language("de-a").unwrap_err()), IN_TRANSFORM);
     }
 
     #[test]
     fn an_error_keeps_a_part_of_a_long_text() {
         let text = format!("en-{}", "x".repeat(10_000_000));
         let error = text.parse::<Locale>().unwrap_err();
-        assert_eq!((error.range(), error.to_string().len() < 120), (3..text.len(), true));
+        assert_eq!((error.range(), error.to_string().len() < 180), (3..text.len(), true));
         assert!(std::mem::size_of::<ParseError>() <= 112);
     }
 
@@ -306,7 +350,9 @@ mod tests {
         let one = error("en-");
         assert_eq!((one.clone(), one.kind()), (error("en-"), Refusal::InvalidSubtag));
         assert!(one != error("fr-") && one == Refusal::InvalidSubtag && one != Refusal::OutOfMemory);
-        assert_eq!(format!("{one:?}"), "ParseError { kind: InvalidSubtag, text: 'en-', range: 3..3 }");
+        let shown = "ParseError { kind: InvalidSubtag, text: 'en-', range: 3..3, expected: {Script, Region, Variant, Singleton, End} }";
+        assert_eq!(format!("{one:?}"), shown);
+        assert!(format!("{:?}", error("en_US")).ends_with("expected: {Language}, hint: Underscores }"));
         let boxed: Box<dyn std::error::Error + Send + Sync> = Box::new(one);
         assert!(boxed.source().is_none() && boxed.downcast_ref::<ParseError>().is_some());
     }

@@ -21,8 +21,12 @@
 //!
 //! assert_eq!(normalize(Mode::Locale, "EN-us-u-ca-Buddhist").unwrap(), "en-US-u-ca-buddhist");
 //!
-//! let error = normalize(Mode::Identifier, "en-").unwrap_err();
-//! assert_eq!((error.kind(), error.to_string()), (Refusal::InvalidSubtag, "Invalid subtag: 'en-' at 3..3".to_owned()));
+//! let error = normalize(Mode::Locale, "en-US-foo").unwrap_err();
+//! assert_eq!(error.kind(), Refusal::InvalidSubtag);
+//! assert_eq!(
+//!     error.to_string(),
+//!     "Invalid subtag: 'en-US-foo' at 6..9: a variant or an extension may stand here"
+//! );
 //! ```
 //!
 //! With the feature `serde` a [`Locale`], and each of its parts, is written as its normal form, and read as by parsing.
@@ -33,6 +37,7 @@
 use std::cmp::Ordering;
 use std::sync::OnceLock;
 
+mod advice;
 #[cfg(feature = "serde")]
 mod by_serde;
 mod error;
@@ -46,6 +51,7 @@ mod texts;
 #[doc = include_str!("../README.md")]
 struct Readme;
 
+pub use advice::{Expected, Hint, PieceKind};
 use error::{result, text_result};
 pub use error::{ParseError, Refusal};
 pub use locale::Locale;

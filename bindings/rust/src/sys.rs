@@ -17,6 +17,27 @@ pub const BUFFER_TOO_SMALL: u32 = 6;
 pub const UNKNOWN_NUMBER: u32 = 7;
 pub const NOT_FOUND: u32 = 8;
 
+pub const KIND_LANGUAGE: u32 = 1;
+pub const KIND_SCRIPT: u32 = 2;
+pub const KIND_REGION: u32 = 4;
+pub const KIND_VARIANT: u32 = 8;
+pub const KIND_SINGLETON: u32 = 16;
+pub const KIND_ATTRIBUTE: u32 = 32;
+pub const KIND_KEY: u32 = 64;
+pub const KIND_VALUE: u32 = 128;
+pub const KIND_FIELD: u32 = 256;
+pub const KIND_OTHER: u32 = 512;
+pub const KIND_PRIVATE: u32 = 1024;
+pub const KIND_FIELD_VALUE: u32 = 2048;
+pub const KIND_END: u32 = 4096;
+
+pub const NO_HINT: u32 = 0;
+pub const HINT_MARK: u32 = 1;
+pub const HINT_BLANKS: u32 = 2;
+pub const HINT_SYSTEM: u32 = 3;
+pub const HINT_CODESET: u32 = 4;
+pub const HINT_UNDERSCORES: u32 = 5;
+
 pub const BY_LANGUAGE: u32 = 0;
 pub const BY_REGION: u32 = 1;
 
@@ -38,6 +59,10 @@ extern "C" {
     ) -> u32;
     pub fn icu_locale_check(mode: u32, text: *const u8, length: usize) -> u32;
     pub fn icu_locale_find_fault(mode: u32, text: *const u8, length: usize, start: *mut usize, end: *mut usize) -> u32;
+    pub fn icu_locale_expected(mode: u32, text: *const u8, length: usize, place: usize, kinds: *mut u32) -> u32;
+    pub fn icu_locale_expected_words(set: u32, buffer: *mut u8, room: usize, needed: *mut usize) -> u32;
+    pub fn icu_locale_hint(mode: u32, text: *const u8, length: usize, hint: *mut u32) -> u32;
+    pub fn icu_locale_hint_words(number: u32, buffer: *mut u8, room: usize, needed: *mut usize) -> u32;
     pub fn icu_locale_strict_cmp(
         mode: u32,
         text: *const u8,

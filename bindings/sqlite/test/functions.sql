@@ -7,6 +7,8 @@ PRAGMA trusted_schema=OFF;
 SELECT locale_normalize('EN-us-u-ca-Buddhist'), locale_normalize('und-u-sd-419a', 'data'), locale_normalize(NULL);
 SELECT locale_is_valid('en-US'), locale_is_valid('en_US_POSIX'), locale_is_valid('en-'), locale_is_valid(''), locale_is_valid('en-u-ca', 'identifier'), locale_is_valid(5), locale_is_valid(NULL);
 SELECT locale_fault('en-US'), locale_fault('en-'), locale_fault('en-US-toolonggg') ->> 'start', locale_fault('en-a-é-foo-toolonggg') ->> 'start';
+SELECT locale_fault('en-US-foo') ->> 'expected', locale_fault('en-US-u-ca', 'identifier') ->> 'expected', locale_fault('en-t-m0') ->> 'expected', locale_fault('en_US') ->> 'hint', locale_fault('de_DE.UTF-8') ->> 'hint', locale_fault('C') ->> 'hint', locale_fault('en_US_u_ca', 'identifier') ->> 'hint';
+SELECT locale_normalize('en_US');
 SELECT locale_normalize(char(101, 110, 0, 45));
 SELECT locale_normalize('en-');
 SELECT locale_normalize('en-ÄÄÄÄÄÄÄÄÄÄÄÄÄÄÄÄÄÄÄÄÄÄÄÄÄÄÄÄÄÄÄÄÄÄÄÄÄÄÄÄÄÄÄÄÄÄÄÄÄÄÄÄÄÄÄÄÄ');

@@ -101,7 +101,7 @@ def see_refusal(counts, database):
             database.execute(statement)
             counts.see(statement, False, "it was not refused")
         except sqlite3.Error as error:
-            counts.see(statement, "Invalid subtag: 'en-' at 3..3" in str(error), str(error))
+            counts.see(statement, "Invalid subtag: 'en-' at 3..3: a script, a region, a variant or an extension may stand here" in str(error), str(error))
         rows = database.execute("SELECT tag, normal FROM page").fetchall()
         counts.see(statement, rows == [("EN-us", "en-US")], str(rows))
 

@@ -19,6 +19,7 @@ ghost use Rattle.iloc_calls.specs.Answers.{
 ghost use Rattle.iloc_calls.specs.Faults.{FindsFault};
 ghost use Rattle.iloc_calls.specs.Numbers.{ByMode, ByStatus, EndsAs, mode_number, words_of};
 
+mod advice;
 mod attributes;
 mod by_hand;
 mod data;

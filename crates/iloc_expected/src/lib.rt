@@ -22,6 +22,7 @@ pub mod laws;
 mod reading;
 mod words;
 
+use iloc_faults::{OnStack, Room};
 use iloc_normalize::Mode;
 pub use kinds::{Expected, PieceKind};
 
@@ -32,7 +33,7 @@ pub use kinds::{Expected, PieceKind};
 ///
 /// It is exact for texts of less than a terabyte. Longer ones can have all variants that there are: there it may name a
 /// variant where none is left. It allocates nothing, and takes time in proportion to the pieces before the place, as
-/// `fault_of` does.
+/// `fault_of` does. `expected_in` can take memory for many variants.
 ///
 /// ```text
 /// expected(Mode::Locale, b"en-foo", 3)  // a script, a region, a variant or an extension
@@ -45,8 +46,23 @@ pub fn expected(mode: Mode, text: &[u8], place: usize) -> Expected
     ensures exact { length text.now < 2 ^ 40
         → AreExpected mode (pieces_before text.now place) result }
 {
+    expected_in(OnStack, mode, text, place)
+}
+
+/// The same as `expected`, with this room for long runs of variants, as `fault_in` has it. Whatever the room is, it returns
+/// the same.
+///
+/// ```text
+/// expected_in(InMemory(alloc), Mode::Locale, b"en-foo", 3) // a script, a region, a variant or an extension
+/// ```
+pub fn expected_in<R: Room>(room: R, mode: Mode, text: &[u8], place: usize) -> Expected
+    ensures all { (kind : PieceKind) → MayStand mode (pieces_before text.now place) kind
+        → has result kind ≡ true }
+    ensures exact { length text.now < 2 ^ 40
+        → AreExpected mode (pieces_before text.now place) result }
+{
     let before = &text[..text.len().min(place)];
-    match reading::read(mode, before) {
+    match reading::read(room, mode, before) {
         Some(reading) => after::kinds_after(mode, reading),
         None => Expected::NONE,
     }

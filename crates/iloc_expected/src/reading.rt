@@ -6,7 +6,7 @@ ghost use Rattle.iloc_faults.specs.States.{IsRead as IsStateRead};
 ghost use Rattle.iloc_expected.specs.Standing.{without_empty};
 ghost use Rattle.iloc_expected.specs.Readings.{IsAllRead, IsPieceTaken, AreRead, IsReadUpTo, keyed_after};
 
-use iloc_faults::OnStack;
+use iloc_faults::Room;
 use iloc_faults::state::{Part, State};
 use iloc_faults::step::step;
 use iloc_normalize::Mode;
@@ -32,12 +32,12 @@ fn is_keyed(keyed: bool, part: Part, at: Left<'_>) -> bool
 }
 
 // What was read with the piece too; `None` if it may not come next.
-fn read_piece(mode: Mode, reading: Reading, at: Left<'_>) -> Option<Reading>
+fn read_piece<R: Room>(room: R, mode: Mode, reading: Reading, at: Left<'_>) -> Option<Reading>
     requires { (vs : List Text) × (seen : List ℕ) × IsStateRead reading.state at vs seen }
     ensures { (vs : List Text) (seen : List ℕ) → IsStateRead reading.state at.entry vs seen
         → IsPieceTaken mode reading.keyed reading.state.part vs seen at.entry result }
 {
-    let Some(state) = step(OnStack, mode, reading.state, at) else {
+    let Some(state) = step(room, mode, reading.state, at) else {
         return None;
     };
     let keyed = is_keyed(reading.keyed, state.part, at);
@@ -45,7 +45,12 @@ fn read_piece(mode: Mode, reading: Reading, at: Left<'_>) -> Option<Reading>
 }
 
 // What was read with all pieces but the last, and the last; `None` if one of them may not come next.
-fn read_pieces<'a>(mode: Mode, first: Reading, from: Left<'a>) -> Option<(Reading, Left<'a>)>
+fn read_pieces<'a, R: Room>(
+    room: R,
+    mode: Mode,
+    first: Reading,
+    from: Left<'a>,
+) -> Option<(Reading, Left<'a>)>
     requires { (ps : List Text) × IsReadUpTo mode ps from first }
     ensures { (ps : List Text) → IsReadUpTo mode ps from.entry first
         → IsAllRead mode ps from.entry result }
@@ -53,7 +58,7 @@ fn read_pieces<'a>(mode: Mode, first: Reading, from: Left<'a>) -> Option<(Readin
     let mut at = from;
     let mut reading = first;
     'pieces: while !is_last(at) {
-        let Some(then) = read_piece(mode, reading, at) else {
+        let Some(then) = read_piece(room, mode, reading, at) else {
             return None;
         };
         reading = then;
@@ -73,7 +78,7 @@ fn with_hyphen(piece: &[u8]) -> [u8; 9]
 }
 
 // What was read with the last piece too. It is read again with a hyphen behind it: the state tells what comes behind one.
-fn read_last(mode: Mode, reading: Reading, at: Left<'_>) -> Option<Reading>
+fn read_last<R: Room>(room: R, mode: Mode, reading: Reading, at: Left<'_>) -> Option<Reading>
     requires short { length (piece_left at) ≤ 8 }
     requires last { at.n ≡ at.len }
     requires read { (ps : List Text) × IsReadUpTo mode ps at reading }
@@ -81,14 +86,14 @@ fn read_last(mode: Mode, reading: Reading, at: Left<'_>) -> Option<Reading>
         → AreRead mode (ps ++ (piece_left at.entry ∷ [])) result }
 {
     let bytes = with_hyphen(&at.window[at.at..at.at + at.n]);
-    match read_pieces(mode, reading, left_in(&bytes, at.n + 1)) {
+    match read_pieces(room, mode, reading, left_in(&bytes, at.n + 1)) {
         Some((all, _)) => Some(all),
         None => None,
     }
 }
 
 /// The reader's state after the pieces of the text; `None` if no accepted text begins with them.
-pub fn read(mode: Mode, text: &[u8]) -> Option<Reading>
+pub fn read<R: Room>(room: R, mode: Mode, text: &[u8]) -> Option<Reading>
     ensures { AreRead mode (without_empty (pieces text.now)) result }
 {
     let first = Reading {
@@ -99,14 +104,14 @@ pub fn read(mode: Mode, text: &[u8]) -> Option<Reading>
         },
         keyed: false,
     };
-    let Some((reading, last)) = read_pieces(mode, first, left_in(text, text.len())) else {
+    let Some((reading, last)) = read_pieces(room, mode, first, left_in(text, text.len())) else {
         return None;
     };
     if last.len == 0 {
         return Some(reading);
     }
-    if read_piece(mode, reading, last).is_none() {
+    if read_piece(room, mode, reading, last).is_none() {
         return None;
     }
-    read_last(mode, reading, last)
+    read_last(room, mode, reading, last)
 }

@@ -16,13 +16,13 @@ mod rewriting;
 mod signs;
 
 pub use hints::Hint;
-use iloc_faults::fault_of;
+use iloc_faults::{OnStack, Room, fault_in};
 use iloc_normalize::Mode;
 
 /// What is usually meant by the text, if it is refused in the mode and looks like one of these.
 ///
 /// A hint is the first that fits. Rewritings are tried for texts that have at most 64 bytes before a `.` or an `@`. It
-/// allocates nothing.
+/// allocates nothing, and takes time as `fault_of` does. `hint_in` can take memory for many variants.
 ///
 /// ```text
 /// hint(Mode::Locale, b"en_US")       // Some(Hint::Underscores): use hyphens in place of underscores
@@ -34,8 +34,20 @@ use iloc_normalize::Mode;
 pub fn hint(mode: Mode, text: &[u8]) -> Option<Hint>
     ensures { (hint : Hint) → (result ≡ Some hint) ↔ HasHint mode text.now hint }
 {
+    hint_in(OnStack, mode, text)
+}
+
+/// The same as `hint`, with this room for long runs of variants, as `fault_in` has it. Whatever the room is, it returns the
+/// same.
+///
+/// ```text
+/// hint_in(InMemory(alloc), Mode::Locale, b"en_US") // Some(Hint::Underscores)
+/// ```
+pub fn hint_in<R: Room>(room: R, mode: Mode, text: &[u8]) -> Option<Hint>
+    ensures { (hint : Hint) → (result ≡ Some hint) ↔ HasHint mode text.now hint }
+{
     let hint = signs::sign(text)?;
-    if fault_of(mode, text).is_none() {
+    if fault_in(room, mode, text).is_none() {
         return None;
     }
     if rewriting::has_what_it_needs(mode, text, hint) {

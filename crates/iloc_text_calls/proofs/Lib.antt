@@ -1,1 +1,2 @@
+pub mod AdviceLemmas
 pub mod TellLemmas

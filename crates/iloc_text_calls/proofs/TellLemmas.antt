@@ -23,9 +23,10 @@ use Rattle.iloc_calls.specs.declared.status.Status.TheVariants.{InvalidExtension
 use Rattle.iloc_calls.specs.declared.status.Status.TheVariants.{UnknownNumber}
 use Rattle.iloc_text_parts.specs.declared.Part.{Part}
 use Rattle.iloc_text_parts.specs.Parts.{IsPart}
-use Rattle.std.specs.Prelude.{⊤}
+use Rattle.std.specs.Prelude.{⊤, Err}
 use Rattle.std.proofs.Common.{take, subst}
-use Rattle.iloc_subtags.specs.Judging.{Refusal}
+use Rattle.iloc_subtags.specs.Judging.{Refusal, RunsOutOnlyIf}
+use Rattle.iloc_locale.specs.LocaleReading.{NormalizingWantsMemory}
 use Rattle.iloc_subtags.specs.declared.parse_error.ParseError.{ParseError}
 use Rattle.iloc_subtags.specs.declared.parse_error.ParseError.TheVariants as refusals
 use Rattle.iloc_normalize.specs.Modes.{IsFaulty}
@@ -110,17 +111,36 @@ pub plain_front : (mode : Mode) (t : Text) (p : Plain) → IsPlain t p
 plain_front mode t p h =
     subst (IsNormalText languages mode t) (sym h.words.normal) (plain_normal mode t p h)
 
+-- a refusal of one of two texts, as matching them answers it: memory may run out for that text
+RunsOut : Text → ParseError → Type 0
+RunsOut t e = RunsOutOnlyIf {X = Text} (NormalizingWantsMemory t) (Err e)
+
+-- a text that is refused
+pub text_refused : (t range : Text) (before : ℕ) (e : ParseError) (s : Status)
+    → Refusal (IsFaulty languages Locale t) ⊤ e → RunsOut t e → s ≡ status_of e
+    → MatchesTo t range before before s
+text_refused t range before e s r m is =
+    subst (MatchesTo t range before before) (sym is) (by e r m)
+  where
+    by : (e : ParseError) → Refusal (IsFaulty languages Locale t) ⊤ e → RunsOut t e
+        → MatchesTo t range before before (status_of e)
+    by refusals.InvalidLanguage h m = (inl h, refl)
+    by refusals.InvalidSubtag h m = (inl h, refl)
+    by refusals.InvalidExtension h m = (inl h, refl)
+    by refusals.DuplicatedExtension h m = (inl h, refl)
+    by refusals.OutOfMemory h m = (inl m, refl)
+
 -- a range that is refused, after a text that is not
 pub range_refused : (t range a : Text) (before : ℕ) (e : ParseError) (s : Status)
-    → IsNormalText languages Locale t a → Refusal (IsFaulty languages Locale range) ⊤ e → s ≡ status_of e
-    → MatchesTo t range before before s
-range_refused t range a before e s n r is =
-    subst (MatchesTo t range before before) (sym is) (by e r)
+    → IsNormalText languages Locale t a → Refusal (IsFaulty languages Locale range) ⊤ e → RunsOut range e
+    → s ≡ status_of e → MatchesTo t range before before s
+range_refused t range a before e s n r m is =
+    subst (MatchesTo t range before before) (sym is) (by e r m)
   where
-    by : (e : ParseError) → Refusal (IsFaulty languages Locale range) ⊤ e
+    by : (e : ParseError) → Refusal (IsFaulty languages Locale range) ⊤ e → RunsOut range e
         → MatchesTo t range before before (status_of e)
-    by refusals.InvalidLanguage h = (inr (a, n, h), refl)
-    by refusals.InvalidSubtag h = (inr (a, n, h), refl)
-    by refusals.InvalidExtension h = (inr (a, n, h), refl)
-    by refusals.DuplicatedExtension h = (inr (a, n, h), refl)
-    by refusals.OutOfMemory h = refl
+    by refusals.InvalidLanguage h m = (inr (a, n, h), refl)
+    by refusals.InvalidSubtag h m = (inr (a, n, h), refl)
+    by refusals.InvalidExtension h m = (inr (a, n, h), refl)
+    by refusals.DuplicatedExtension h m = (inr (a, n, h), refl)
+    by refusals.OutOfMemory h m = (inr m, refl)

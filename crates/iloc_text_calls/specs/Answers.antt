@@ -2,6 +2,7 @@
 use Rattle.std.specs.Prelude.{◌≡◌, ◌⊎◌, ℕ, ◌<◌, length, Option}
 use Rattle.iloc_spec_grammar.specs.Syntax.{Text, pieces, languages}
 use Rattle.iloc_spec_grammar.specs.Meaning as meaning
+use Rattle.iloc_locale.specs.LocaleReading.{NormalizingWantsMemory}
 use Rattle.iloc_matching.specs.Range.{Matches}
 use Rattle.iloc_cleaning.specs.Cleaning.{clean}
 use Rattle.iloc_normalize.specs.Modes.{IsNormalText}
@@ -32,12 +33,13 @@ TellsPart mode t part before after needed status = JudgedAs mode t status × (ne
     × (after ≡ before)
 
 -- 1 is written if the normal text matches the normal range, and else 0; a refusal is of the text, or
--- else of the range
+-- else of the range; memory may run out for one whose parser may allocate, or that is not normal
 abbrev pub MatchesTo : Text → Text → ℕ → ℕ → Status → Type 0
 MatchesTo t range before after Done = (a b : Text) × IsNormalText languages Locale t a
     × IsNormalText languages Locale range b
     × (((after ≡ 1) × Matches (pieces a) (pieces b)) ⊎ ((after ≡ 0) × ¬ (Matches (pieces a) (pieces b))))
-MatchesTo t range before after OutOfMemory = after ≡ before
+MatchesTo t range before after OutOfMemory =
+    (NormalizingWantsMemory t ⊎ NormalizingWantsMemory range) × (after ≡ before)
 MatchesTo t range before after status = (JudgedAs Locale t status
     ⊎ ((normal : Text) × IsNormalText languages Locale t normal × JudgedAs Locale range status))
     × (after ≡ before)

@@ -1,26 +1,32 @@
 //! What the calls of the C library do that take texts and give parts: a part, the parent, whether a range stands for a
-//! locale, and the name that is made of a line. The crate `icu_locale_c` exports them.
+//! locale, and the name that is made of a line; and those that say what may stand at the place of a fault, and what is
+//! usually meant by a refused text. The crate `icu_locale_c` exports them.
 //!
 //! Each function gives the number of a status, and its contract says, status by status, what the caller finds (`TellsPart`,
-//! `MatchesTo`, `CleansTo`). A part is that of the locale which the text means (`MeansLocale`, `IsPart`).
+//! `MatchesTo`, `CleansTo`, `TellsKinds`, `TellsHint`). A part is that of the locale which the text means (`MeansLocale`,
+//! `IsPart`).
 //!
 //! The normal text is written first, and the part is cut out of it (`iloc_text_parts`). So a call for a part allocates only for
-//! a text of more than 48 bytes. `matches` and `clean` may allocate for any text: no clause bounds it.
+//! a text of more than 48 bytes. `matches` allocates for a text or a range only if the parser may allocate for it, or if it is
+//! not its normal text (`NormalizingWantsMemory`). `clean` may allocate for any line: no clause bounds it. What may stand at
+//! a place, and a hint, are told with memory for long runs of variants alone, and without it.
 //!
-//! It stands on `iloc_calls`, whose statuses and buffers it shares, and on `iloc_text_parts`, `iloc_matching` and
-//! `iloc_cleaning`.
+//! It stands on `iloc_calls`, whose statuses and buffers it shares, and on `iloc_text_parts`, `iloc_matching`,
+//! `iloc_cleaning`, `iloc_expected` and `iloc_hints`.
 #![tactic(auto)]
 
 ghost use Rattle.std.specs.Prelude.{◌≡◌, ℕ};
 ghost use Rattle.iloc_calls.specs.Numbers.{ByMode, EndsAs};
+ghost use Rattle.iloc_text_calls.specs.Advice.{TellsHint, TellsHintWords, TellsKindWords, TellsKinds};
 ghost use Rattle.iloc_text_calls.specs.Answers.{CleansTo, MatchesTo, TellsPart};
 
+mod advice;
 mod cleaning;
 mod normal;
 mod parts;
 mod ranges;
 
-use iloc_calls::{Status, mode_of};
+use iloc_calls::{InMemory, Status, hand_out, mode_of};
 pub use iloc_text_parts::Part;
 use std::alloc::Global;
 
@@ -61,4 +67,58 @@ pub fn clean(alloc: Global, text: &[u8], buffer: &mut [u8], needed: &mut usize) 
     ensures { EndsAs (CleansTo text.now buffer.old buffer.new needed.new) result }
 {
     cleaning::clean(alloc, text, buffer, needed).number()
+}
+
+/// Writes which kinds of pieces may stand at the place of the text, each as the bit at its number (`PieceKind::number`).
+///
+/// The mode is 0 for identifiers, 1 for locales and 2 for data locales. It allocates only for more than 16,384 variants in a
+/// row, and never fails.
+pub fn expected(alloc: Global, mode: u32, text: &[u8], place: usize, kinds: &mut u32) -> u32
+    ensures { ByMode mode (λ m. EndsAs (TellsKinds m text.now place kinds.new))
+        (kinds.new ≡ kinds.old) result }
+{
+    match mode_of(mode) {
+        Some(mode) => advice::tell_kinds(InMemory(alloc), mode, text, place, kinds).number(),
+        None => Status::UnknownNumber.number(),
+    }
+}
+
+/// Writes the words of a set of kinds into the buffer, and their length to `needed`.
+pub fn expected_words(kinds: u32, buffer: &mut [u8], needed: &mut usize) -> u32
+    ensures { TellsKindWords kinds buffer.old buffer.new needed.new result }
+{
+    match advice::kinds_of(kinds) {
+        Some(set) => hand_out(&set, buffer, needed).number(),
+        None => {
+            *needed = 0;
+            Status::UnknownNumber.number()
+        }
+    }
+}
+
+/// Writes the number of the hint that the text has, or 0 if it has none.
+///
+/// The mode is 0 for identifiers, 1 for locales and 2 for data locales. It allocates only for more than 16,384 variants in a
+/// row, and never fails.
+pub fn hint(alloc: Global, mode: u32, text: &[u8], number: &mut u32) -> u32
+    ensures { ByMode mode (λ m. EndsAs (TellsHint m text.now number.new))
+        (number.new ≡ number.old) result }
+{
+    match mode_of(mode) {
+        Some(mode) => advice::tell_hint(InMemory(alloc), mode, text, number).number(),
+        None => Status::UnknownNumber.number(),
+    }
+}
+
+/// Writes the words of the hint of this number into the buffer, and their length to `needed`.
+pub fn hint_words(number: u32, buffer: &mut [u8], needed: &mut usize) -> u32
+    ensures { TellsHintWords number buffer.old buffer.new needed.new result }
+{
+    match advice::hint_of(number) {
+        Some(hint) => hand_out(&hint.words(), buffer, needed).number(),
+        None => {
+            *needed = 0;
+            Status::UnknownNumber.number()
+        }
+    }
 }

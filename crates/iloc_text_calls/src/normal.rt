@@ -4,7 +4,8 @@ ghost use Rattle.iloc_spec_parts.specs.DataLocales.{data_text};
 ghost use Rattle.iloc_data.specs.DataValue.{value_of};
 ghost use Rattle.std.specs.Cow.{cow_str_bytes};
 ghost use Rattle.iloc_spec_grammar.specs.Syntax.{languages};
-ghost use Rattle.iloc_subtags.specs.Judging.{Answers};
+ghost use Rattle.iloc_subtags.specs.Judging.{Answers, RunsOutOnlyIf};
+ghost use Rattle.iloc_locale.specs.LocaleReading.{NormalizingWantsMemory};
 ghost use Rattle.iloc_normalize.specs.Modes.{IsFaulty, IsNormalText};
 ghost use Rattle.iloc_normalize.specs.declared.Mode.TheVariants as modes;
 
@@ -42,8 +43,9 @@ fn normal_identifier(alloc: Global, text: &[u8]) -> Result<CowStr<'_, Global>, P
 
 /// The normal text of a locale.
 pub(crate) fn normal_locale(alloc: Global, text: &[u8]) -> Result<CowStr<'_, Global>, ParseError>
-    ensures { Answers (λ n. IsNormalText languages modes.Locale text.now (cow_str_bytes n))
+    ensures reads { Answers (λ n. IsNormalText languages modes.Locale text.now (cow_str_bytes n))
         (IsFaulty languages modes.Locale text.now) ⊤ result }
+    ensures memory { RunsOutOnlyIf (NormalizingWantsMemory text.now) result }
 {
     Locale::normalize_utf8(alloc, text)
 }

@@ -40,7 +40,8 @@ fn main() {
     cases += there_and_back(&parsed::<Value>("Islamic-civil"), "islamic-civil") + there_and_back(&Value::default(), "");
     let names: BTreeMap<Locale, Option<Region>> = serde_json::from_str(r#"{"EN\u002dus": "us", "de": null}"#).unwrap();
     assert_eq!(serde_json::to_string(&names).unwrap(), r#"{"de":null,"en-US":"US"}"#);
-    assert_eq!(refused(r#""en-""#), "Invalid subtag: 'en-' at 3..3 at line 1 column 5");
+    let said = "Invalid subtag: 'en-US-foo' at 6..9: a variant or an extension may stand here at line 1 column 11";
+    assert_eq!(refused(r#""en-US-foo""#), said);
     assert!(refused("5").starts_with("invalid type: integer `5`, expected the text of a locale"));
     assert!(bincode::deserialize::<Locale>(&bincode::serialize("en-").unwrap()).is_err());
     println!("{}", cases + 4);

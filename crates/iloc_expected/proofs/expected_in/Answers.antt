@@ -4,10 +4,10 @@ use Rattle.iloc_expected.specs.Standing.{AreExpected, MayStand, without_empty}
 use Rattle.iloc_expected.proofs.Sets.{none_stand}
 use Rattle.iloc_expected.proofs.SetBits.{none_has}
 use Rattle.iloc_expected.proofs.Walk.{few_pieces, same_cut}
-use Rattle.iloc_expected.proofs.expected.Goals as goal
+use Rattle.iloc_expected.proofs.expected_in.Goals as goal
 
 pub returns-in-Some-clause-exact : goal.returns-in-Some-clause-exact
-returns-in-Some-clause-exact c few =
+returns-in-Some-clause-exact g c few =
     let t = c.args.text.now in
     let n = c.min.result in
     let short = few_pieces (take n t) in
@@ -17,7 +17,7 @@ returns-in-Some-clause-exact c few =
     (c.kinds_after.ensures.exact (without_empty (pieces (take n t))) c.in-Some.ensures (omega arith))
 
 pub returns-in-None-clause-all : goal.returns-in-None-clause-all
-returns-in-None-clause-all c kind m =
+returns-in-None-clause-all g c kind m =
     let t = c.args.text.now in
     let n = c.min.result in
     absurd (none_stand c.args.mode (without_empty (pieces (take n t))) c.in-None.ensures kind
@@ -25,7 +25,7 @@ returns-in-None-clause-all c kind m =
     (sym (same_cut t c.args.place n c.min.ensures)) m))
 
 pub returns-in-None-clause-exact : goal.returns-in-None-clause-exact
-returns-in-None-clause-exact c few kind =
+returns-in-None-clause-exact g c few kind =
     let t = c.args.text.now in
     let n = c.min.result in (
       λ e. absurd (true≢false (sym e ∙ none_has kind)),
