@@ -1,6 +1,6 @@
 use Rattle.std.proofs.Common.{◌≡◌, insert, OnOk, OnErr, ap, ◌∙◌, subst, arith}
 use Rattle.iloc_shortvec.specs.Kept.{items_of}
-use Rattle.iloc_shortvec.proofs.short_words.ShortWords.insert.Goals as goal
+use Rattle.iloc_shortvec.proofs.short_words.ShortWords.insert_in.Goals as goal
 
 pub invariant_of-self : goal.invariant_of-self
 invariant_of-self g c = c.insert_short.ensures.kept
