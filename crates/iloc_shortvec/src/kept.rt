@@ -7,18 +7,21 @@ ghost use Rattle.std.specs.Fn.{CalledAt};
 ghost use Rattle.iloc_shortvec.specs.Kept.{items_of, count_of, HasItems, IsKept};
 ghost use Rattle.iloc_shortvec.specs.Left.{words_left};
 ghost use Rattle.iloc_shortvec.specs.ShortList.{only_of};
+ghost use Rattle.iloc_memory.specs.Refusals.{RefusedWithin};
 
 use crate::few::{Count, Few};
 use crate::items::{Nothing, only};
+use iloc_memory::{Memory, extend_from_slice, insert_at};
 use std::alloc::{AllocError, Global};
 use std::vec;
 
-/// Copies of the items, in a `Vec` of this capacity or more. Refusal: `AllocError`.
-fn copies<T: Copy>(alloc: Global, items: &[T], capacity: usize) -> Result<Vec<T>, AllocError>
-    ensures { IfOk result (λ copies. copies.items ≡ items.now) }
+/// Copies of the items, in a `Vec` with room for so many more. Refusal: `AllocError`.
+fn copies<M: Memory, T: Copy>(memory: M, items: &[T], more: usize) -> Result<Vec<T>, AllocError>
+    ensures copies { IfOk result (λ copies. copies.items ≡ items.now) }
+    ensures out_of_memory { OnErr result (RefusedWithin M.refused (length items.now + more)) }
 {
-    let mut copies = Vec::with_capacity(alloc, capacity)?;
-    copies.extend_from_slice(items)?;
+    let mut copies = memory.with_capacity(items.len().saturating_add(more))?;
+    extend_from_slice(memory, &mut copies, items)?;
     Ok(copies)
 }
 
@@ -123,9 +126,9 @@ impl<T: Copy> Kept<T> {
     }
 
     /// Puts an item at a place of four items or more.
-    pub(crate) fn insert_long(
+    pub(crate) fn insert_long<M: Memory>(
         &mut self,
-        alloc: Global,
+        memory: M,
         index: usize,
         item: T,
     ) -> Result<(), AllocError>
@@ -135,12 +138,14 @@ impl<T: Copy> Kept<T> {
         ensures ok { OnOk result (items_of self.new ≡ insert (items_of self.old) index item) }
         ensures err { OnErr result (items_of self.new ≡ items_of self.old) }
         ensures kept { IsKept self.new }
+        ensures out_of_memory { OnErr result
+            (RefusedWithin M.refused (length (items_of self.old) + 1)) }
     {
         if let Kept::Heap(items) = self {
-            return Ok(items.insert(index, item)?);
+            return insert_at(memory, items, index, item);
         }
-        let mut more = copies(alloc, self.as_slice(), 5)?;
-        more.insert(index, item)?;
+        let mut more = copies(memory, self.as_slice(), 1)?;
+        insert_at(memory, &mut more, index, item)?;
         *self = Kept::Heap(more);
         Ok(())
     }
@@ -170,10 +175,10 @@ impl<T: Copy> Kept<T> {
         ensures kept { IsKept self.new }
     {
         if let Kept::Heap(all) = self {
-            return all.extend_from_slice(items);
+            return extend_from_slice(alloc, all, items);
         }
-        let mut all = copies(alloc, self.as_slice(), items.len().saturating_add(4))?;
-        all.extend_from_slice(items)?;
+        let mut all = copies(alloc, self.as_slice(), items.len())?;
+        extend_from_slice(alloc, &mut all, items)?;
         *self = Kept::Heap(all);
         Ok(())
     }

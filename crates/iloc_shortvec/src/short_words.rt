@@ -15,10 +15,12 @@ ghost use Rattle.std.specs.Cmp.Lexicographic.{pointwise, lists_per, lists_equiv}
 ghost use Rattle.iloc_shortvec.specs.ShortList.{only_of};
 ghost use Rattle.iloc_spec_grammar.specs.ShortLists.{short_cmp};
 ghost use Rattle.iloc_shortvec.specs.ShortOrder.{short_total, short_ties};
+ghost use Rattle.iloc_memory.specs.Refusals.{RefusedWithin};
 
 use crate::few::{Count, Few};
 use crate::items::{Nothing, compare};
 use crate::kept::{Kept, Left, kept_of};
+use iloc_memory::Memory;
 use std::alloc::{AllocError, Global};
 use std::cmp::Ordering;
 use std::hash::{Hash, Hasher};
@@ -146,11 +148,27 @@ impl<T: Copy> ShortWords<T> {
         ensures err { OnErr result (self.new ≡ self.old) }
         ensures succeeds { length self.old < 4 → IsOk result }
     {
+        self.insert_in(alloc, index, item)
+    }
+
+    /// As `insert`, from any memory. Refusal: `AllocError`, only if room for at most all the items was refused.
+    pub fn insert_in<M: Memory>(
+        &mut self,
+        memory: M,
+        index: usize,
+        item: T,
+    ) -> Result<(), AllocError>
+        requires { index ≤ length self.old }
+        ensures ok { OnOk result (self.new ≡ insert self.old index item) }
+        ensures err { OnErr result (self.new ≡ self.old) }
+        ensures succeeds { length self.old < 4 → IsOk result }
+        ensures out_of_memory { OnErr result (RefusedWithin M.refused (length self.old + 1)) }
+    {
         if self.len() < 4 {
             self.kept.insert_short(index, item);
             return Ok(());
         }
-        self.kept.insert_long(alloc, index, item)
+        self.kept.insert_long(memory, index, item)
     }
 
     /// Adds an item at the end. Up to four items allocate nothing. Refusal: `AllocError`, and the list is as before.
@@ -159,7 +177,17 @@ impl<T: Copy> ShortWords<T> {
         ensures err { OnErr result (self.new ≡ self.old) }
         ensures succeeds { length self.old < 4 → IsOk result }
     {
-        self.insert(alloc, self.len(), item)
+        self.push_in(alloc, item)
+    }
+
+    /// As `push`, from any memory. Refusal: `AllocError`, only if room for at most all the items was refused.
+    pub fn push_in<M: Memory>(&mut self, memory: M, item: T) -> Result<(), AllocError>
+        ensures ok { OnOk result (self.new ≡ self.old ++ item ∷ []) }
+        ensures err { OnErr result (self.new ≡ self.old) }
+        ensures succeeds { length self.old < 4 → IsOk result }
+        ensures out_of_memory { OnErr result (RefusedWithin M.refused (length self.old + 1)) }
+    {
+        self.insert_in(memory, self.len(), item)
     }
 
     /// Adds copies of the items at the end, all of them or none. Up to four in all allocate nothing. Refusal: `AllocError`,

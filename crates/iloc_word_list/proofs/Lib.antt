@@ -7,3 +7,4 @@ mod PrintLemmas
 mod ReadingLemmas
 mod WholeLemmas
 mod OwedLemmas
+pub mod RefusedLemmas

@@ -11,8 +11,8 @@ words-preserved g c =
     valued_more g.K.WordKind.kind (left c.args.iter.now) (left c.words.iter) c.words.value c.words.invariant
     c.in-Some-take_word.word (left c.take_word-in-words.new.iter) c.in-Some-take_word.ensures.word
     c.in-Some-take_word.ensures.rest
-    c.push_subtag.new.self
-    (c.in_ok-push_subtag.ensures.ok ∙ ap (with_subtag c.words.value) c.subtag_of-in-Some-take_word.ensures)
+    c.push_subtag_in.new.self
+    (c.in_ok-push_subtag_in.ensures.ok ∙ ap (with_subtag c.words.value) c.subtag_of-in-Some-take_word.ensures)
 
 refused_not : false ≡ true → ⊥
 refused_not h = true≢false (sym h)
@@ -20,9 +20,9 @@ refused_not h = true≢false (sym h)
 not_less : (n : ℕ) → (n < 4 → ⊥) → 4 ≤ n
 not_less n h = omega (arith, h)
 
-pub returns-in_err-push_subtag-clause-succeeds : goal.returns-in_err-push_subtag-clause-succeeds
-returns-in_err-push_subtag-clause-succeeds g c few =
-    let failed = c.in_err-push_subtag.ensures in
+pub returns-in_err-push_subtag_in-clause-succeeds : goal.returns-in_err-push_subtag_in-clause-succeeds
+returns-in_err-push_subtag_in-clause-succeeds g c few =
+    let failed = c.in_err-push_subtag_in.ensures in
     let other : is_true c.in-Some-take_word.word ≡ false =
     false_from_ne_true _
     (λ t. refused_not (failed.ignores (ap is_true c.subtag_of-in-Some-take_word.ensures ∙ t))) in

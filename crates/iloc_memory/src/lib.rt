@@ -1,0 +1,115 @@
+//! What the library asks for memory, and what it knows if a request is refused.
+//!
+//! Code that needs room for items asks a `Memory` for it, and nothing else. `Global`, the heap, is one. A `Memory` has a
+//! ghost member `refused`: any statement about a number of items that is true once room for so many was refused. A
+//! function that is generic over its memory is proved once, for every `Memory` and every such statement. So its proof can
+//! have `refused n` only from a request for room for `n` items that was refused while the function ran. A contract that
+//! says so of each `OutOfMemory` (`RefusedWithin`) rules out a body that gives up unasked.
+//!
+//! It promises: a request that is granted does what the same call of `std` does, and one that is refused leaves the list
+//! as it was and makes `refused` true. At an `Ample` memory nothing is refused.
+//!
+//! It stands on `std` alone, and on reading three lines: that the two requests of `impl Memory for Global` pass on the
+//! answer of `std`, since `std` states nothing of a refusal. Whether `std` asked the heap is the word of `std`: a `Vec`
+//! also refuses without asking if its block would be larger than `isize::MAX` bytes. Everything else is proved.
+#![tactic(auto)]
+
+ghost use Rattle.std.specs.Prelude.{◌≡◌, ◌+◌, ◌≤◌, ◌++◌, ◌∷◌, [], ℕ, ⊤, length, insert, OnOk, OnErr, IfOk};
+ghost use Rattle.std.specs.Vec.{vec_len, vec_capacity};
+ghost use Rattle.iloc_memory.specs.Refusals.{RefusedWithin};
+
+use std::alloc::{AllocError, Global};
+
+/// What gives room for items, or refuses it. It is passed by value, as an allocator is.
+pub trait Memory: Copy {
+    /// Any statement of a number that is true once room for so many items was refused.
+    ghost refused: { ℕ → Type 0 };
+
+    /// An empty list with room for so many items. Refusal: `AllocError`.
+    fn with_capacity<T>(self, capacity: usize) -> Result<Vec<T>, AllocError>
+        ensures items { IfOk result (λ list. list.items ≡ []) }
+        ensures len { IfOk result (λ list. vec_len list ≡ 0) }
+        ensures room { IfOk result (λ list. capacity ≤ vec_capacity list) }
+        ensures refusal { OnErr result (refused capacity) };
+
+    /// Makes room for so many more items. Refusal: `AllocError`, and the list is as before.
+    fn reserve<T>(self, list: &mut Vec<T>, additional: usize) -> Result<(), AllocError>
+        ensures items { list.new.items ≡ list.old.items }
+        ensures len { vec_len list.new ≡ vec_len list.old }
+        ensures room { OnOk result (vec_len list.new + additional ≤ vec_capacity list.new) }
+        ensures refusal { OnErr result (refused (vec_len list.old + additional)) };
+}
+
+/// Memory that refuses nothing. Code that is proved for every memory is so for such a one, where it never runs out.
+pub trait Ample: Memory {
+    /// No request is refused.
+    ghost never: { (n : ℕ) → ¬ (Self.refused n) };
+}
+
+/// The heap. Of its refusals `std` says nothing, so its statement is true of every number.
+impl Memory for Global {
+    ghost refused = { λ _. ⊤ };
+
+    #[inline(always)]
+    fn with_capacity<T>(self, capacity: usize) -> Result<Vec<T>, AllocError> {
+        Vec::with_capacity(self, capacity)
+    }
+
+    #[inline(always)]
+    fn reserve<T>(self, list: &mut Vec<T>, additional: usize) -> Result<(), AllocError> {
+        list.reserve(additional)
+    }
+}
+
+/// Adds an item at the end. Refusal: `AllocError`, and the list is as before.
+#[inline(always)]
+pub fn push<M: Memory, T: Drop>(memory: M, list: &mut Vec<T>, item: T) -> Result<(), AllocError>
+    ensures ok { OnOk result (list.new.items ≡ list.old.items ++ item ∷ []) }
+    ensures err { OnErr result (list.new.items ≡ list.old.items) }
+    ensures out_of_memory { OnErr result
+        (RefusedWithin M.refused (length list.old.items + 1)) }
+{
+    memory.reserve(list, 1)?;
+    list.push_reserved(item);
+    Ok(())
+}
+
+/// Puts an item at a place. Refusal: `AllocError`, and the list is as before.
+#[inline(always)]
+pub fn insert_at<M: Memory, T: Drop>(
+    memory: M,
+    list: &mut Vec<T>,
+    index: usize,
+    item: T,
+) -> Result<(), AllocError>
+    requires { index ≤ length list.old.items }
+    ensures ok { OnOk result (list.new.items ≡ insert list.old.items index item) }
+    ensures err { OnErr result (list.new.items ≡ list.old.items) }
+    ensures out_of_memory { OnErr result
+        (RefusedWithin M.refused (length list.old.items + 1)) }
+{
+    memory.reserve(list, 1)?;
+    let Ok(()) = list.insert(index, item) else {
+        unreachable!();
+    };
+    Ok(())
+}
+
+/// Adds copies of the items at the end, all of them or none. Refusal: `AllocError`, and the list is as before.
+#[inline(always)]
+pub fn extend_from_slice<M: Memory, T: Copy>(
+    memory: M,
+    list: &mut Vec<T>,
+    items: &[T],
+) -> Result<(), AllocError>
+    ensures ok { OnOk result (list.new.items ≡ list.old.items ++ items.now) }
+    ensures err { OnErr result (list.new.items ≡ list.old.items) }
+    ensures out_of_memory { OnErr result
+        (RefusedWithin M.refused (length list.old.items + length items.now)) }
+{
+    memory.reserve(list, items.len())?;
+    let Ok(()) = list.extend_from_slice(items) else {
+        unreachable!();
+    };
+    Ok(())
+}
