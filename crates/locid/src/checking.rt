@@ -5,9 +5,9 @@ ghost use Rattle.locid.specs.Checked.{IsChecked};
 ghost use Rattle.iloc_program.specs.Listing.{StandsWithin};
 
 use crate::inputs::Tally;
-use iloc_expected::expected;
+use iloc_expected::expected_in;
 use iloc_faults::{Fault, InMemory, fault_in};
-use iloc_hints::hint;
+use iloc_hints::hint_in;
 use iloc_pieces::Window;
 use iloc_program::numbered::Lists;
 use iloc_program::quoting::{write_decimal, write_shown};
@@ -70,7 +70,7 @@ impl<A: InMode> Lists for Checking<'_, A> {
                 self.tally.refused = self.tally.refused.saturating_add(1);
                 self.room.clear();
                 if self.report.writes {
-                    write_advice(mode, text, fault.start, &mut self.advice)?;
+                    write_advice(self.alloc, mode, text, fault.start, &mut self.advice)?;
                     write_report(
                         self.report,
                         number,
@@ -138,6 +138,7 @@ fn write_subtag(line: &[u8], fault: &Fault, to: &mut ReplyBlock) -> Result<(), A
 
 // Has the room hold what may stand at the place, and what is usually meant by the line.
 fn write_advice(
+    alloc: Global,
     mode: Mode,
     line: &[u8],
     place: usize,
@@ -145,11 +146,14 @@ fn write_advice(
 ) -> Result<(), AllocError> {
     room.clear();
     room.extend_from_slice(b": ")?;
-    if expected(mode, line, place).write_to(room).is_err() {
+    if expected_in(InMemory(alloc), mode, line, place)
+        .write_to(room)
+        .is_err()
+    {
         return Err(AllocError);
     }
     room.extend_from_slice(b" may stand here")?;
-    if let Some(hint) = hint(mode, line) {
+    if let Some(hint) = hint_in(InMemory(alloc), mode, line) {
         room.extend_from_slice(b"; ")?;
         room.extend_from_slice(hint.words().as_bytes())?;
     }
