@@ -27,7 +27,8 @@ pub variants_within : (t : Text) → length (front_of (pieces t)).variants ≤ l
 unfolding front_of
 variants_within t =
     let ps = pieces t in
-    omega (arith, passing_short (is_word Variant) (after_region ps), skip_short (is_word Region) (after_script ps),
+    omega (arith, passing_short (is_word Variant) (after_region ps),
+    skip_short (is_word Region) (after_script ps),
     skip_short (is_word Script) (rest_of ps), rest_short ps (length t) (few_pieces t))
 
 -- so room for its variants is room for as many as it has bytes

@@ -69,37 +69,43 @@ impl<A: InMode> Lists for Checking<'_, A> {
             Some(fault) => {
                 self.tally.refused = self.tally.refused.saturating_add(1);
                 self.room.clear();
-                if self.report.writes {
-                    write_advice(self.alloc, mode, text, fault.start, &mut self.advice)?;
-                    write_report(
-                        self.report,
-                        number,
-                        text,
-                        &fault,
-                        &self.advice,
-                        &mut self.room,
-                    )?;
-                }
+                let advice = &mut self.advice;
+                write_report(
+                    self.alloc,
+                    self.report,
+                    mode,
+                    number,
+                    text,
+                    &fault,
+                    advice,
+                    &mut self.room,
+                )?;
                 replies.extend_from_slice(self.room.as_slice())
             }
         }
     }
 }
 
-// Adds what is written of a refused line.
+// Adds what is written of a refused line, if anything is. There is a room for advice.
 fn write_report(
+    alloc: Global,
     report: Report<'_>,
+    mode: Mode,
     number: u64,
     line: &[u8],
     fault: &Fault,
-    advice: &[u8],
+    advice: &mut Vec<u8>,
     to: &mut ReplyBlock,
 ) -> Result<(), AllocError>
     requires { StandsWithin line.now fault.now }
 {
+    if !report.writes {
+        return Ok(());
+    }
     write_place(report.name, number, fault, to)?;
     write_subtag(line, fault, to)?;
-    to.extend_from_slice(advice)?;
+    write_advice(alloc, mode, line, fault.start, advice)?;
+    to.extend_from_slice(advice.as_slice())?;
     if report.shows {
         return write_line(line, fault, to);
     }

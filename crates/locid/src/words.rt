@@ -1,7 +1,5 @@
 //! What the arguments ask for, word by word.
 
-ghost use Rattle.std.specs.Prelude.{◌<◌, length};
-
 use crate::lines::Reading;
 use crate::messages::{complain, say};
 use crate::table::{Command, Flag, command_of, flag_lettered, flag_named, has, takes_value};

@@ -32,7 +32,8 @@ returns-then-count-eq0-clause-ok g c =
     let written : c.as_slice.result.now ≡ output languages g.A.InMode.mode c.reads.pending.items =
     c.as_slice.ensures ∙ c.in_ok-finish.ensures
     ∙ ap (λ (t : Text). t ++ output languages g.A.InMode.mode c.reads.pending.items) c.clear.ensures in
-    on_ok_then c.write_whole.result _ _ c.write_whole.ensures.ok (λ took. Stands-end _ _ _ _ _ _ _ c.as_slice.result.now
+    on_ok_then c.write_whole.result _ _ c.write_whole.ensures.ok
+    (λ took. Stands-end _ _ _ _ _ _ _ c.as_slice.result.now
     (Stands-read_none _ _ _ _ _ _ _ _ _ c.reads.invariant.stands c.in-Ok.ensures.bytes.0 c.if-count-eq0.true)
     end written took)
 

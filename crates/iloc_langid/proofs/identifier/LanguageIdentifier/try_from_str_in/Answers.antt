@@ -16,7 +16,8 @@ returns-clause-accepted g c =
     reads_accepts (pieces c.args.s.now) c.try_from_utf8_in.result (returns-clause-reads g c)
 
 pub returns-clause-refused : goal.returns-clause-refused
-returns-clause-refused g c = reads_refuses (pieces c.args.s.now) c.try_from_utf8_in.result (returns-clause-reads g c)
+returns-clause-refused g c =
+    reads_refuses (pieces c.args.s.now) c.try_from_utf8_in.result (returns-clause-reads g c)
 
 pub returns-clause-narrow : goal.returns-clause-narrow
 returns-clause-narrow g c = reads_narrow c.args.s.now c.try_from_utf8_in.result (returns-clause-reads g c)
@@ -28,5 +29,6 @@ returns-clause-memory g c =
 
 pub returns-clause-out_of_memory : goal.returns-clause-out_of_memory
 returns-clause-out_of_memory g c =
-    subst (λ (t : Text). RunsOutOnlyIf (RefusedWithin g.M.Memory.refused (length t)) c.try_from_utf8_in.result)
+    subst
+    (λ (t : Text). RunsOutOnlyIf (RefusedWithin g.M.Memory.refused (length t)) c.try_from_utf8_in.result)
     c.as_bytes.ensures.value c.try_from_utf8_in.ensures.out_of_memory
