@@ -193,10 +193,22 @@ export function hintOf(text, mode) {
 }
 
 /** Asks a call for a part of what a text means: the call's end, and the part; nothing where it is not there. */
-export function partBy(call, text, mode, key) {
-  const length = put(text, TEXT), keyed = key === undefined ? [] : keyWords(key);
+export function partBy(call, text, mode) {
+  const length = put(text, TEXT);
   if (length > MOST) return [BEYOND, undefined];
-  const status = ask(call, mode, place.text, big(length + SPARE), big(length), ...keyed, place.room, room, place.one, room, place.number);
+  return told(ask(call, mode, place.text, big(length + SPARE), big(length), place.room, room, place.one, room, place.number));
+}
+
+/** The same for the value of a keyword. (Of a long key, which is none, all that there is room for.) */
+export function keywordBy(text, mode, key) {
+  const length = put(text, TEXT), end = Math.min(put(key, OTHER), MOST);
+  if (length > MOST) return [BEYOND, undefined];
+  return told(ask('web_keyword_of', mode, place.text, big(length + SPARE), big(length), place.other, big(end), place.room, room, place.one, room,
+    place.number));
+}
+
+// How a call for a part ended, and the part that it told.
+function told(status) {
   if (status === NOT_FOUND) return [DONE, undefined];
   return [status, status === DONE ? written() : undefined];
 }
@@ -207,11 +219,6 @@ export function cleanedBytes(text) {
   if (length > MOST) return undefined;
   ask('web_clean', place.text, big(length + SPARE), big(length), place.room, room, place.one, room, place.number);
   return all.subarray(ONE, ONE + numbers.getUint32(NUMBER, true));
-}
-
-// Puts a key where another text stands: what a call is told of it. (Of a long one, which is none, all that there is room for.)
-function keyWords(key) {
-  return [place.other, big(Math.min(put(key, OTHER), MOST))];
 }
 
 // Asks a call about two texts: its end, and the number that it wrote.

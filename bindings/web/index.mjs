@@ -1,6 +1,6 @@
 // Unicode locale identifiers by a proved WebAssembly module. What is not proved: the scripts beside the module, and the way
 // from the proof to the engine that runs the module. Tests compare all of it with the vectors.
-import { BEYOND, CODES, DONE, LOCALE, WORDS, checked, cleanedBytes, decoded, matched, modeOf, normalizeInto, ordered, partBy, partsOf, sameness, textOf, version, written } from './calls.mjs';
+import { BEYOND, CODES, DONE, LOCALE, WORDS, checked, cleanedBytes, decoded, keywordBy, matched, modeOf, normalizeInto, ordered, partBy, partsOf, sameness, textOf, version, written } from './calls.mjs';
 import { changedText, changesAny } from './changes.mjs';
 import { LocaleError } from './errors.mjs';
 import { Refusal, findFault } from './faults.mjs';
@@ -62,45 +62,47 @@ export function clean(given) {
 }
 
 // A part of what a text means, which the module tells by that call.
-function told(call, given, mode, key) {
-  const text = textOf(given), [status, part] = partBy(call, text, modeOf(mode), key);
+function partOf(call, given, mode) {
+  const text = textOf(given), [status, part] = partBy(call, text, modeOf(mode));
   if (status !== DONE) throw refusal(status, text, mode);
   return part;
 }
 
 /** Language, script, region and variants of what the text means. */
 export function baseNameOf(text, mode = 'locale') {
-  return told('web_base_name_of', text, mode);
+  return partOf('web_base_name_of', text, mode);
 }
 
 /** The language of what the text means. */
 export function languageOf(text, mode = 'locale') {
-  return told('web_language_of', text, mode);
+  return partOf('web_language_of', text, mode);
 }
 
 /** The script of what the text means, if there is one. */
 export function scriptOf(text, mode = 'locale') {
-  return told('web_script_of', text, mode) || undefined;
+  return partOf('web_script_of', text, mode) || undefined;
 }
 
 /** The region of what the text means, if there is one. */
 export function regionOf(text, mode = 'locale') {
-  return told('web_region_of', text, mode) || undefined;
+  return partOf('web_region_of', text, mode) || undefined;
 }
 
 /** The variants of what the text means, with hyphens between them, if there are some. */
 export function variantsOf(text, mode = 'locale') {
-  return told('web_variants_of', text, mode) || undefined;
+  return partOf('web_variants_of', text, mode) || undefined;
 }
 
 /** The value of a keyword by its key, in any case; empty where the key stands alone, undefined where it is not there. */
 export function keywordOf(text, key, mode = 'locale') {
-  return told('web_keyword_of', text, mode, textOf(key));
+  const given = textOf(text), [status, value] = keywordBy(given, modeOf(mode), textOf(key));
+  if (status !== DONE) throw refusal(status, given, mode);
+  return value;
 }
 
 /** The text without its extensions; without those, without its last variant, region, script or language. `und` has none: null. */
 export function parent(text, mode = 'locale') {
-  return told('web_parent', text, mode) ?? null;
+  return partOf('web_parent', text, mode) ?? null;
 }
 
 /** The parts of what the text means. */
@@ -171,14 +173,17 @@ export class Locale {
   }
 
   // A part that the module tells, by that call; asked once.
-  #tell(call, key) {
-    const told = this.#told ??= new Map(), name = key ?? call;
-    if (!told.has(name)) told.set(name, partBy(call, this.normal, LOCALE, key)[1]);
-    return told.get(name);
+  #tell(call) {
+    const told = this.#told ??= {};
+    if (!(call in told)) [, told[call]] = partBy(call, this.normal, LOCALE);
+    return told[call];
   }
 
+  // The value of a keyword, likewise.
   #keyword(key) {
-    return this.#tell('web_keyword_of', key);
+    const told = this.#told ??= {};
+    if (!(key in told)) [, told[key]] = keywordBy(this.normal, LOCALE, key);
+    return told[key];
   }
 
   /** All parts, which do not change either. */

@@ -3,7 +3,7 @@
 // on the machine. It prints JSON.
 import { asString, module, real, texts, web } from './answers.mjs';
 
-const { Locale, check, compare, normalize, parts, tryNormalize } = web;
+const { Locale, check, compare, findFault, matches, normalize, parent, parts, regionOf, tryNormalize } = web;
 const canonical = text => { try { return Intl.getCanonicalLocales(text)[0]; } catch { return null; } };
 const identifierOf = ({ language, script, region, variants }) => [language, script, region, ...variants].join('-');
 const none = { language: '', script: '', region: '', variants: [] };
@@ -56,14 +56,21 @@ const isExtended = text => text.split('-').some(it => it.length === 1);
 const plain = same.filter(it => !isExtended(it)), extended = same.filter(isExtended);
 const pairs = same.map((it, at) => [it, same[(at + 1) % same.length]]);
 const parted = ({ language, script, region }) => [language, script, region];
+const caught = text => { try { return normalize(text); } catch { return 1; } };
 const canonicals = lines => time(it => Intl.getCanonicalLocales(it), lines);
 const rows = [
   ['`normalize`', 'plain', time(normalize, plain), '`Intl.getCanonicalLocales`', canonicals(plain)],
   ['`normalize`', 'extended', time(normalize, extended), '`Intl.getCanonicalLocales`', canonicals(extended)],
+  ['`normalize`, caught', 'refused', time(caught, refused), '`Intl.getCanonicalLocales`, caught', time(it => !canonical(it), refused)],
   ['`tryNormalize`', 'refused', time(tryNormalize, refused), '`Intl.getCanonicalLocales`, caught', time(it => !canonical(it), refused)],
+  ['`tryNormalize` and `message`', 'refused', time(it => tryNormalize(it).message, refused), '', null],
+  ['`findFault`', 'refused', time(it => findFault(it).start + 1, refused), '', null],
   ['`check`', 'plain', time(check, plain), '', null],
   ['`check`', 'extended', time(check, extended), '', null],
   ['`check`', 'refused', time(check, refused), '', null],
+  ['`matches`', 'accepted', time(([a, b]) => matches(a, b) || 1, pairs), '', null],
+  ['`regionOf`', 'accepted', time(it => regionOf(it) ?? 1, same), '', null],
+  ['`parent`', 'accepted', time(parent, same), '', null],
   ['`compare`', 'accepted', time(([a, b]) => compare(a, b) + 2, pairs), '', null],
   ['`parts`', 'accepted', time(it => parts(it), same), '', null],
   ['`new Locale`, three parts', 'accepted', time(it => parted(new Locale(it)), same), '`new Intl.Locale`, three parts', time(it => parted(new Intl.Locale(it)), same)],
