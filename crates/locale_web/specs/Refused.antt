@@ -13,7 +13,7 @@ use Rattle.iloc_calls.specs.declared.status.Status.TheVariants.{NotFound}
 
 -- the bits are those of the kinds that may stand at the place: of all of them, and, of a text of
 -- less than a terabyte, of no other
-pub record AreKindsAt (mode : Mode) (t : Text) (place bits : ℕ) : Type 0 where
+pub record AreBitsOfKinds (mode : Mode) (t : Text) (place bits : ℕ) : Type 0 where
   pub all : (kind : PieceKind) → MayStand mode (pieces_before t place) kind
       → has (record { bits = bits }) kind ≡ true
   pub exact : length t < 2 ^ 40 → AreExpected mode (pieces_before t place) (record { bits = bits })

@@ -40,7 +40,7 @@ ghost use Rattle.locale_web.specs.Answers.{
 };
 ghost use Rattle.locale_web.specs.Parts.{NoPartIsWritten, PartsAreWritten};
 ghost use Rattle.locale_web.specs.Reading.{IsPastLimits};
-ghost use Rattle.locale_web.specs.Refused.{AreKindsAt, HintIsTold};
+ghost use Rattle.locale_web.specs.Refused.{AreBitsOfKinds, HintIsTold};
 ghost use Rattle.locale_web.specs.Texts.{MatchIsWritten};
 
 mod cleaning;
@@ -237,7 +237,7 @@ pub extern "C" fn web_expected(
 ) -> u32
     ensures { ByMode mode
         (λ m number. (number ≡ number_of statuses.Done)
-        × AreKindsAt m (take len window.now) place kinds.new)
+        × AreBitsOfKinds m (take len window.now) place kinds.new)
         (kinds.new ≡ kinds.old) result }
 {
     match mode_of(mode) {

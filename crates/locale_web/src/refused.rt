@@ -1,5 +1,5 @@
 //! What may stand at a place of a text, and what is usually meant by a refused one.
-ghost use Rattle.locale_web.specs.Refused.{AreKindsAt, HintIsTold};
+ghost use Rattle.locale_web.specs.Refused.{AreBitsOfKinds, HintIsTold};
 
 use iloc_calls::{Status, hand_out_bytes, hand_out_none};
 use iloc_expected::expected;
@@ -8,7 +8,7 @@ use iloc_normalize::Mode;
 
 /// The kinds of pieces that may stand at a place of the text, by their bits.
 pub(crate) fn kinds_at(mode: Mode, text: &[u8], place: usize) -> u16
-    ensures { AreKindsAt mode text.now place result }
+    ensures { AreBitsOfKinds mode text.now place result }
 {
     expected(mode, text, place).bits
 }
