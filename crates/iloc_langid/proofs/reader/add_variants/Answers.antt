@@ -73,7 +73,8 @@ returns-in_err-variants-clause-out_of_memory g c =
     let p =
     err_from_is_err_and c.from_residual-in_err-variants.result c.from_residual-in_err-variants.ensures.1 in
     rw (p.1, p.2) (subst
-    (λ n. RunsOutOnlyIf (RefusedWithin g.M.Memory.refused n) (Err {A = List Text} c.in_err-variants.field-0.0))
+    (λ n.
+    RunsOutOnlyIf (RefusedWithin g.M.Memory.refused n) (Err {A = List Text} c.in_err-variants.field-0.0))
     (ap (λ vs. length (passing (is_word Variant) (vs ++ left c.take_word.new.iter))) c.clear-four.ensures.old
     ∙ few_many all (left c.few.iter) c.few.variants c.few.invariant c.in-Some.variant
     (left c.take_word.new.iter) c.in-Some.ensures.word c.in-Some.ensures.rest c.push_in.new.self

@@ -16,5 +16,6 @@ pub returns-clause-out_of_memory : goal.returns-clause-out_of_memory
 unfolding front_of
 returns-clause-out_of_memory g c =
     subst
-    (λ (ps : List Text). RunsOutOnlyIf (RefusedWithin g.M.Memory.refused (length (passing (is_word Variant) ps)))
+    (λ (ps : List Text).
+    RunsOutOnlyIf (RefusedWithin g.M.Memory.refused (length (passing (is_word Variant) ps)))
     c.fill_variants.result) c.in-Some.ensures.after c.fill_variants.ensures.out_of_memory
