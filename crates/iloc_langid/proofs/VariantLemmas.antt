@@ -28,8 +28,8 @@ unfolding front_of
 variants_within t =
     let ps = pieces t in
     omega (arith, passing_short (is_word Variant) (after_region ps),
-    skip_short (is_word Region) (after_script ps),
-    skip_short (is_word Script) (rest_of ps), rest_short ps (length t) (few_pieces t))
+    skip_short (is_word Region) (after_script ps), skip_short (is_word Script) (rest_of ps),
+    rest_short ps (length t) (few_pieces t))
 
 -- so room for its variants is room for as many as it has bytes
 pub refused_in_text : {X : Type 0} (Refused : ℕ → Type 0) (t : Text) (ps : List Text) → ps ≡ pieces t →

@@ -66,3 +66,7 @@ module _ (k : Kind) (before now value : List Text) (t : Valued k before now valu
   -- where memory was refused, more than four words besides `true` stand there
   pub valued_many : is_true w ≡ false → 4 ≤ length value → length (without_true (words_read k before)) ≤ 4 → ⊥
   valued_many other many few = let all = valued_length other in omega arith
+
+  -- the value and this word are at most as many as stand there
+  pub valued_within : is_true w ≡ false → length value + 1 ≤ length (without_true (words_read k before))
+  valued_within other = let all = valued_length other in omega arith

@@ -61,8 +61,9 @@ returns-clause-reads g c =
 pub returns-in_err-push_in-clause-out_of_memory : goal.returns-in_err-push_in-clause-out_of_memory
 returns-in_err-push_in-clause-out_of_memory g c =
     let all = c.args.variants.now ++ left c.args.iter.now in
-    allows (RefusedWithin g.M.Memory.refused (length (passing (is_word Variant) all))) c.from_residual.result
-    (within_more g.M.Memory.refused (length c.few.variants + 1) (length (passing (is_word Variant) all))
+    allows (RefusedWithin g.M.Memory.refused (length (passing (is_word Variant) all)))
+    c.from_residual.result (within_more g.M.Memory.refused (length c.few.variants + 1)
+    (length (passing (is_word Variant) all))
     (takes_within all (left c.few.iter) c.few.variants c.few.invariant.taking c.in-Some.variant
     (left c.take_word.new.iter) c.in-Some.ensures.word c.in-Some.ensures.rest)
     c.in_err-push_in.ensures.out_of_memory)
@@ -72,9 +73,9 @@ returns-in_err-variants-clause-out_of_memory g c =
     let all = c.args.variants.now ++ left c.args.iter.now in
     let p =
     err_from_is_err_and c.from_residual-in_err-variants.result c.from_residual-in_err-variants.ensures.1 in
-    rw (p.1, p.2) (subst
-    (λ n.
-    RunsOutOnlyIf (RefusedWithin g.M.Memory.refused n) (Err {A = List Text} c.in_err-variants.field-0.0))
+    rw (p.1, p.2)
+    (subst (λ n. RunsOutOnlyIf {X = List Text} (RefusedWithin g.M.Memory.refused n)
+    (Err c.in_err-variants.field-0.0))
     (ap (λ vs. length (passing (is_word Variant) (vs ++ left c.take_word.new.iter))) c.clear-four.ensures.old
     ∙ few_many all (left c.few.iter) c.few.variants c.few.invariant c.in-Some.variant
     (left c.take_word.new.iter) c.in-Some.ensures.word c.in-Some.ensures.rest c.push_in.new.self

@@ -15,7 +15,6 @@ returns-clause-reads g c =
 pub returns-clause-out_of_memory : goal.returns-clause-out_of_memory
 unfolding front_of
 returns-clause-out_of_memory g c =
-    subst
-    (λ (ps : List Text).
-    RunsOutOnlyIf (RefusedWithin g.M.Memory.refused (length (passing (is_word Variant) ps)))
-    c.fill_variants.result) c.in-Some.ensures.after c.fill_variants.ensures.out_of_memory
+    subst (λ (ps : List Text). RunsOutOnlyIf
+    (RefusedWithin g.M.Memory.refused (length (passing (is_word Variant) ps))) c.fill_variants.result)
+    c.in-Some.ensures.after c.fill_variants.ensures.out_of_memory

@@ -68,8 +68,9 @@ returns-clause-reads g c =
 pub returns-in_err-push_in-clause-out_of_memory : goal.returns-in_err-push_in-clause-out_of_memory
 returns-in_err-push_in-clause-out_of_memory g c =
     let all = c.args.four ++ left c.args.iter.now in
-    allows (RefusedWithin g.M.Memory.refused (length (passing (is_word Variant) all))) c.from_residual.result
-    (within_more g.M.Memory.refused (length c.words.words + 1) (length (passing (is_word Variant) all))
+    allows (RefusedWithin g.M.Memory.refused (length (passing (is_word Variant) all)))
+    c.from_residual.result (within_more g.M.Memory.refused (length c.words.words + 1)
+    (length (passing (is_word Variant) all))
     (takes_within all (left c.words.iter) c.words.words c.words.invariant c.in-Some.variant
     (left c.take_word.new.iter) c.in-Some.ensures.word c.in-Some.ensures.rest)
     c.in_err-push_in.ensures.out_of_memory)

@@ -27,5 +27,5 @@ returns-clause-memory g c =
 
 pub returns-clause-out_of_memory : goal.returns-clause-out_of_memory
 returns-clause-out_of_memory g c =
-    refused_in_text g.M.Memory.refused c.args.v.now (left c.new.result) c.new.ensures
-    c.read_head_in.result c.read_head_in.ensures.out_of_memory
+    refused_in_text g.M.Memory.refused c.args.v.now (left c.new.result) c.new.ensures c.read_head_in.result
+    c.read_head_in.ensures.out_of_memory

@@ -29,6 +29,6 @@ returns-clause-memory g c =
 
 pub returns-clause-out_of_memory : goal.returns-clause-out_of_memory
 returns-clause-out_of_memory g c =
-    subst
-    (λ (t : Text). RunsOutOnlyIf (RefusedWithin g.M.Memory.refused (length t)) c.try_from_utf8_in.result)
+    subst (λ (t : Text).
+    RunsOutOnlyIf (RefusedWithin g.M.Memory.refused (length t)) c.try_from_utf8_in.result)
     c.as_bytes.ensures.value c.try_from_utf8_in.ensures.out_of_memory
