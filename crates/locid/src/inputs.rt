@@ -78,7 +78,10 @@ impl<W: Write + Drop> Inputs<W> {
         }
         for at in words.files.as_slice() {
             let mut room = [0u8; WORD];
-            let count = rt.arg(*at, &mut room).unwrap_or(0);
+            let count = match rt.arg(*at, &mut room) {
+                Ok(count) => count,
+                Err(_) => 0,
+            };
             let name = str::from_utf8(&room[..count]).unwrap_or("");
             if let Some(status) = self.answer_one(rt, name) {
                 return status;

@@ -1,6 +1,6 @@
 //! The streams of a run: they note the system's error, see whether a line was refused, and change the ends of lines.
 
-ghost use Rattle.std.specs.Prelude.{◌≡◌, length, None, if◌then◌else◌};
+ghost use Rattle.std.specs.Prelude.{◌≡◌, ◌≤◌, length, IfOk, None, if◌then◌else◌};
 
 use std::io;
 use std::io::{Read, Write};
@@ -92,7 +92,9 @@ impl<W: Write + Drop> Write for Target<W> {
 const BLOCK: usize = 4096;
 
 // Writes the first bytes, with a newline for each zero byte and the other way round.
-fn write_exchanged<W: Write>(to: &mut W, buf: &[u8]) -> io::Result<usize> {
+fn write_exchanged<W: Write>(to: &mut W, buf: &[u8]) -> io::Result<usize>
+    ensures { IfOk result (λ n. n ≤ length buf.now) }
+{
     let mut room = [0u8; BLOCK];
     let count = buf.len().min(BLOCK);
     let block = &mut room[..count];

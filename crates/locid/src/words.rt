@@ -226,8 +226,8 @@ impl Words {
 
     // Reads options by their letters. What follows one that takes a word is that word.
     fn read_short<'a>(&mut self, letters: &'a str) -> Result<Option<Flag>, Stop<'a>> {
-        for (at, letter) in letters.bytes().enumerate() {
-            let Some(flag) = self.found(flag_lettered(letter)) else {
+        for at in 0..letters.len() {
+            let Some(flag) = self.found(flag_lettered(letters.as_bytes()[at])) else {
                 let shown = letters.get(at..at + 1).unwrap_or(letters);
                 return Err(Stop::Wrong("unknown option -", shown));
             };
