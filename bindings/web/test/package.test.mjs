@@ -147,6 +147,13 @@ test('limits', () => {
   assert.equal(normalize('EN'), 'en');
 });
 
+// (the module has 64 KB of stack, in which the numbers of so many variants have to find room)
+test('what may stand behind as many variants as there is room for', () => {
+  const variants = Array.from({ length: 7000 }, (_, at) => `wor${(at * 7919 % 1048576).toString(16).padStart(5, '0')}`);
+  const fault = findFault(`en-${variants.join('-')}-!`, 'langid');
+  assert.deepEqual([fault.start, fault.expected, fault.hint], [63003, ['a variant', 'the end'], undefined]);
+});
+
 test('places of faults', () => {
   const at = (text, mode) => {
     const { start, end, code } = findFault(text, mode);
