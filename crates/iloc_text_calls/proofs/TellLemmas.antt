@@ -112,7 +112,7 @@ plain_front mode t p h =
     subst (IsNormalText languages mode t) (sym h.words.normal) (plain_normal mode t p h)
 
 -- a refusal of one of two texts, as matching them answers it: memory may run out for that text
-RunsOut : Text → ParseError → Type 0
+abbrev pub RunsOut : Text → ParseError → Type 0
 RunsOut t e = RunsOutOnlyIf {X = Text} (NormalizingWantsMemory t) (Err e)
 
 -- a text that is refused
