@@ -1,7 +1,7 @@
 -- What is written for one line of a listing: its normal text, or why it is refused, with the number
 -- of the line before and the place of the fault behind, if that is asked. This library's rule.
-use Rattle.std.specs.Prelude.{◌≡◌, ◌⊎◌, ℕ, ◌-◌, ◌/◌, ◌%◌, ◌≤◌, ◌==◌, nat_lt, false, [], ◌∷◌, ◌++◌, length}
-use Rattle.std.specs.Prelude.{take, drop, if◌then◌else◌}
+use Rattle.std.specs.Prelude.{◌≡◌, ◌⊎◌, ℕ, ◌-◌, ◌/◌, ◌%◌, ◌≤◌, ◌==◌, ◌||◌, nat_lt, Bool, false, [], ◌∷◌}
+use Rattle.std.specs.Prelude.{◌++◌, length, take, drop, if◌then◌else◌}
 use Rattle.std.specs.List.{flat_map}
 use Rattle.std.specs.Fmt.{decimal, digit_glyph}
 use Rattle.iloc_spec_grammar.specs.Syntax.{Text, languages}
@@ -23,6 +23,10 @@ shown_byte b = if b == 9 then 92 ∷ 116 ∷ [] else
     if nat_lt b 32 then byte_escape b else
     if nat_lt 126 b then byte_escape b else b ∷ []
 
+-- Whether a byte is shown otherwise than as itself.
+abbrev pub is_escaped : ℕ → Bool
+is_escaped b = nat_lt b 32 || nat_lt 126 b || b == 92
+
 -- A text as it is shown, which stays one line without tabs.
 abbrev pub shown : Text → Text
 shown t = flat_map shown_byte t
@@ -35,10 +39,13 @@ StandsWithin line f = (f.start ≤ f.end) × (f.end ≤ length line)
 abbrev pub faulty_piece : Text → Fault → Text
 faulty_piece line f = take (f.end - f.start) (drop f.start line)
 
--- A tab, the range of the bytes at which the fault stands, a tab, and the piece.
+-- A tab, a range of bytes, and a tab.
+abbrev pub range_column : ℕ → ℕ → Text
+range_column start end = 9 ∷ decimal start ++ (46 ∷ 46 ∷ decimal end ++ 9 ∷ [])
+
+-- The range of the bytes at which the fault stands, and the piece.
 abbrev pub place_columns : Text → Fault → Text
-place_columns line f = 9 ∷ decimal f.start ++ (46 ∷ 46 ∷ decimal f.end
-    ++ 9 ∷ shown (faulty_piece line f))
+place_columns line f = range_column f.start f.end ++ shown (faulty_piece line f)
 
 -- The number of the line, and a tab.
 abbrev pub number_column : ℕ → Text

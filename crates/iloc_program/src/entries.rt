@@ -9,7 +9,7 @@ ghost use Rattle.iloc_program.specs.Listing.{number_column, place_columns, IsEnt
 
 use crate::lines::answer_in;
 use crate::numbered::{Listing, Lists};
-use crate::quoting::{write_decimal, write_shown};
+use crate::quoting::{write_decimal, write_piece, write_range};
 use crate::replies::{write_reason, write_refusal};
 use crate::{InMode, ReplyBlock};
 use iloc_faults::{Fault, InMemory, place_in};
@@ -83,7 +83,6 @@ fn write_refused(
     if !listing.places {
         return write_refusal(refusal, replies);
     }
-    let (text, _) = line.bytes.split_at(line.len());
     match place_in(InMemory(alloc), mode, line) {
         Some((start, end)) => {
             let fault = Fault {
@@ -91,7 +90,7 @@ fn write_refused(
                 start,
                 end,
             };
-            write_placed(text, fault, replies)
+            write_placed(line, &fault, replies)
         }
         None => unreachable!(),
     }
@@ -111,26 +110,14 @@ fn write_number(listing: Listing, number: u64, replies: &mut ReplyBlock) -> Resu
 }
 
 // Adds the refusal and the place of a fault, and a newline.
-fn write_placed(line: &[u8], fault: Fault, replies: &mut ReplyBlock) -> Result<(), AllocError>
-    requires { StandsWithin line.now fault }
+#[inline(always)]
+fn write_placed(line: Window<'_>, fault: &Fault, replies: &mut ReplyBlock) -> Result<(), AllocError>
+    requires { StandsWithin (text_in line) fault.now }
     ensures { OnOk result (held replies.new
-        ≡ held replies.old ++ (refusal_text fault.refusal
-        ++ (place_columns line.now fault ++ 10 ∷ []))) }
+        ≡ held replies.old ++ (refusal_text fault.now.refusal
+        ++ (place_columns (text_in line.entry) fault.now ++ 10 ∷ []))) }
 {
     write_reason(&fault.refusal, replies)?;
-    write_place(line, fault, replies)?;
-    replies.push(b'\n')
-}
-
-// Adds the columns of the place.
-fn write_place(line: &[u8], fault: Fault, replies: &mut ReplyBlock) -> Result<(), AllocError>
-    requires { StandsWithin line.now fault }
-    ensures { OnOk result (held replies.new ≡ held replies.old ++ place_columns line.now fault) }
-{
-    replies.push(b'\t')?;
-    write_decimal(fault.start as u64, replies)?;
-    replies.extend_from_slice(b"..")?;
-    write_decimal(fault.end as u64, replies)?;
-    replies.push(b'\t')?;
-    write_shown(&line[fault.start..fault.end], replies)
+    write_range(fault.start, fault.end, replies)?;
+    write_piece(line, fault.start, fault.end, replies)
 }

@@ -178,6 +178,17 @@ fn reply_as(
     }
 }
 
+// The same as `lead_of`, in a mode that is only known when it runs.
+#[inline(always)]
+fn lead_in(mode: Mode, line: Window<'_>) -> Lead
+    ensures { IsLead mode (text_in line.entry) result }
+{
+    match read_found(mode, line) {
+        Some(found) => found,
+        None => read_lead(mode, line),
+    }
+}
+
 // Adds the normal text of the line and a newline, or returns why it is refused. The mode is only known when it runs. So
 // the call is one for all modes, and for all who do not answer line by line in place.
 #[inline(never)]
@@ -197,7 +208,7 @@ pub(crate) fn answer_in(
         replies.push_plain(&plain)?;
         return Ok(None);
     }
-    let lead = read_lead(mode, line);
+    let lead = lead_in(mode, line);
     answer_as(mode, lead, line, spans, replies)
 }
 

@@ -80,12 +80,28 @@ impl ReplyBlock {
 
     /// Adds the first of these bytes, and stores all of them.
     #[inline(always)]
-    pub(crate) fn push_first(&mut self, bytes: [u8; 48], count: usize) -> Result<(), AllocError>
-        requires { count ≤ 48 }
-        ensures { OnOk result (held self.new ≡ held self.old ++ take count bytes) }
+    pub(crate) fn push_first<const N: usize>(
+        &mut self,
+        bytes: [u8; N],
+        count: usize,
+    ) -> Result<(), AllocError>
+        requires { count ≤ N }
+        ensures { OnOk result (held self.new ≡ held self.old ++ take count bytes.entry) }
     {
-        self.make_room(48)?;
+        self.make_room(N)?;
         self.put(&bytes, count);
+        Ok(())
+    }
+
+    /// Adds the first of these bytes and a newline, and stores all of them.
+    #[inline(always)]
+    pub(crate) fn push_line(&mut self, text: [u8; 16], len: usize) -> Result<(), AllocError>
+        requires { len ≤ 16 }
+        ensures { OnOk result (held self.new ≡ held self.old ++ (take len text ++ 10 ∷ [])) }
+    {
+        self.make_room(17)?;
+        self.put(&text, len);
+        self.put(b"\n", 1);
         Ok(())
     }
 
@@ -96,10 +112,7 @@ impl ReplyBlock {
         ensures { OnOk result (held self.new
             ≡ held self.old ++ (identifier_text (value_of plain.now) ++ 10 ∷ [])) }
     {
-        self.make_room(17)?;
-        self.put(plain.bytes.as_array(), plain.len);
-        self.put(b"\n", 1);
-        Ok(())
+        self.push_line(*plain.bytes.as_array(), plain.len)
     }
 
     /// Adds the normal text of a text, of which the beginning shows this, and a newline; or nothing.

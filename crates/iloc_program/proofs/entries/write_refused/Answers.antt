@@ -1,10 +1,7 @@
-use Rattle.std.proofs.Common.{◌≡◌, ℕ, [], ◌∷◌, ◌++◌, refl, sym, ap, ◌∙◌, subst, take}
+use Rattle.std.proofs.Common.{refl}
 use Rattle.std.proofs.lemmas.Result.{on_ok_weaker}
-use Rattle.iloc_spec_grammar.specs.Syntax.{Text}
 use Rattle.iloc_pieces.specs.Window.{text_in}
 use Rattle.iloc_faults.specs.declared.Fault.{Fault}
-use Rattle.iloc_program.specs.Answers.{refusal_text}
-use Rattle.iloc_program.specs.Listing.{StandsWithin, place_columns}
 use Rattle.iloc_program.specs.ReplyBlock.{held}
 use Rattle.iloc_program.proofs.EntryLemmas.{not_accepted, not_false, not_true, placed, refused}
 use Rattle.iloc_program.proofs.entries.write_refused.Goals as goal
@@ -23,22 +20,14 @@ unreachable-requires c =
     (c.in-None.ensures.accepted.0 refl)
 
 pub write_placed-requires : goal.write_placed-requires
-write_placed-requires c =
-    let f : Fault = record { refusal = c.args.refusal; start = c.in-Some.start; end = c.in-Some.end } in
-    let text : c.split_at.result.0.now ≡ text_in c.args.line =
-    c.split_at.ensures.front ∙ ap (λ (k : ℕ). take k c.args.line.bytes.now) c.len.ensures in
-    subst (λ (t : Text). StandsWithin t f) (sym text) c.in-Some.ensures.inside
+write_placed-requires c = c.in-Some.ensures.inside
 
 pub returns : goal.returns
 returns c =
     let f : Fault = record { refusal = c.args.refusal; start = c.in-Some.start; end = c.in-Some.end } in
-    let text : c.split_at.result.0.now ≡ text_in c.args.line =
-    c.split_at.ensures.front ∙ ap (λ (k : ℕ). take k c.args.line.bytes.now) c.len.ensures in
     on_ok_weaker c.write_placed.result
     (λ e. placed c.args.mode c.args.listing c.args.number (text_in c.args.line) (held c.args.replies.now) f
     (held c.write_number.new.replies) (held c.write_placed.new.replies)
     (record { refusal = c.requires; place = c.in-Some.ensures.refused })
-    (not_false c.args.listing.places c.if-not-listing.false) c.in_ok-write_number.ensures
-    (subst (λ (t : Text). held c.write_placed.new.replies ≡ held c.write_number.new.replies
-    ++ (refusal_text f.refusal ++ (place_columns t f ++ 10 ∷ []))) text e))
+    (not_false c.args.listing.places c.if-not-listing.false) c.in_ok-write_number.ensures e)
     c.write_placed.ensures
