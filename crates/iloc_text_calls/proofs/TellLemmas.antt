@@ -1,21 +1,21 @@
 -- What is handed out of a normal text is a part of what the text means.
-use Rattle.std.proofs.Common.{◌≡◌, ◌⊎◌, ℕ, refl, sym, ap, ◌∙◌, Option, Some, None, inl, inr}
+use Rattle.std.proofs.Common.{◌≡◌, ℕ, refl, sym, ◌∙◌, Option, Some, None, inl, inr}
 use Rattle.iloc_spec_grammar.specs.Syntax.{Text, Identifier, languages, pieces}
 use Rattle.iloc_spec_grammar.specs.Meaning as meaning
 use Rattle.iloc_spec_grammar.specs.Meaning.{IdentifierMeans, Means, without_extensions}
-use Rattle.iloc_spec_grammar.specs.Values.{IsValue, IsWellFormed, identifier_text, text}
+use Rattle.iloc_spec_grammar.specs.Values.{IsValue, IsWellFormed, text}
 use Rattle.iloc_spec_grammar.proofs.Corollaries.{read_well_formed}
 use Rattle.iloc_spec_grammar.proofs.IdentifierTexts.{identifier_means_value}
 use Rattle.iloc_spec_grammar.proofs.RawLaws.{languages_table}
 use Rattle.iloc_spec_grammar.proofs.SameText.{well_formed_is}
-use Rattle.iloc_spec_parts.specs.DataLocales.{DataLocale, DataMeans, data_text, locale_of_data}
+use Rattle.iloc_spec_parts.specs.DataLocales.{locale_of_data}
 use Rattle.iloc_spec_parts.proofs.DataLaws.{locale_of_data_is_value, locale_of_data_is_well_formed}
 use Rattle.iloc_spec_parts.proofs.DataLaws.{read_is_data_locale, text_of_data}
 use Rattle.iloc_normalize.specs.Modes.{IsNormalText}
 use Rattle.iloc_normalize.specs.declared.Mode.{Mode}
 use Rattle.iloc_normalize.specs.declared.Mode.TheVariants.{Langid, Locale, Data}
 use Rattle.iloc_normalize.proofs.PlainAnswers.{text_alone}
-use Rattle.iloc_calls.specs.Answers.{HandsOut, MeansLocale, Tells}
+use Rattle.iloc_calls.specs.Answers.{MeansLocale, Tells}
 use Rattle.iloc_calls.specs.declared.status.Status.{Status}
 use Rattle.iloc_calls.specs.declared.status.Status.TheVariants.{Done, BufferTooSmall, NotFound, OutOfMemory}
 use Rattle.iloc_calls.specs.declared.status.Status.TheVariants.{InvalidLanguage, InvalidSubtag}

@@ -1,5 +1,5 @@
 -- The bytes of a plain text begin with its normal text.
-use Rattle.std.proofs.Common.{ap, subst, sym, take, ◌∙◌}
+use Rattle.std.proofs.Common.{subst, sym, take}
 use Rattle.iloc_spec_grammar.specs.Syntax.{Text, languages}
 use Rattle.iloc_normalize.specs.Modes.{IsNormalText}
 use Rattle.iloc_text_calls.proofs.TellLemmas.{plain_front}
