@@ -328,7 +328,8 @@ pub mod laws {
     /// What the program writes.
     pub mod program {
         pub use iloc_program::laws::{
-            by_example, line_answers, lines, one_listing, outputs, plain_listing,
+            answers_are_lines, by_example, line_answers, lines, one_listing, outputs,
+            plain_listing,
         };
     }
 }

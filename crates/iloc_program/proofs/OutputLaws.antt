@@ -82,7 +82,7 @@ module _ {T : ℕ → Bool} (table : AreLengths T) where
   only_answers mode (line ∷ lines) (a ∷ xs) h =
       λ i. only_answer mode line a h.0 i ∷ only_answers mode lines xs h.1 i
 
-  replies : (mode : Mode) (lines : List Text) →
+  pub replies : (mode : Mode) (lines : List Text) →
       flat_map (reply T mode) lines ≡ ended (map (line_answer T mode) lines)
   replies mode [] = refl
   replies mode (line ∷ lines) = ap (λ (l : Text). reply T mode line ++ l) (replies mode lines)

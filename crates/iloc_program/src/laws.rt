@@ -1,9 +1,10 @@
 //! Laws of the definitions: the answers to lines and the output for an input are those that the grammar allows; what is
 //! written for an input is one text, and without options the output.
-ghost use Rattle.std.specs.Prelude.{◌≡◌, ◌<◌, [], ◌∷◌, ◌++◌, length, codes};
+ghost use Rattle.std.specs.Prelude.{◌≡◌, ◌≢◌, ◌<◌, All, [], ◌∷◌, ◌++◌, length, codes, map};
 ghost use Rattle.iloc_spec_grammar.specs.Syntax.{Text, LanguageLengths, AreLengths, languages};
-ghost use Rattle.iloc_program.specs.Lines.{IsOneLine, ReadsEnded, ReadsOpen, IsEndedOrOpen};
+ghost use Rattle.iloc_program.specs.Lines.{IsOneLine, ReadsEnded, ReadsOpen, IsEndedOrOpen, lines_of};
 ghost use Rattle.iloc_program.specs.Answers.{IsAnswer, IsOutput, line_answer, reply, output};
+ghost use Rattle.iloc_normalize.specs.Modes.{IsNormalText};
 ghost use Rattle.iloc_normalize.specs.declared.Mode.{Mode};
 ghost use Rattle.iloc_normalize.specs.declared.Mode.TheVariants.{Langid, Locale, Data};
 ghost use Rattle.std.specs.Prelude.{◌≡◌, ℕ};
@@ -27,6 +28,15 @@ pub fn outputs()
         → IsOutput T mode input (output T mode input) }
     ensures only { (T : LanguageLengths) → AreLengths T → (mode : Mode) (input written : Text)
         → IsOutput T mode input written → written ≡ output T mode input }
+{}
+
+/// An answer is one line, so the output has a line for each line of the input. No normal text has a `!`, with which a
+/// refusal begins.
+pub fn answers_are_lines()
+    ensures lines { (mode : Mode) (input : Text) → lines_of (output languages mode input)
+        ≡ map (line_answer languages mode) (lines_of input) }
+    ensures normal { (mode : Mode) (line normal : Text) → IsNormalText languages mode line normal
+        → All (λ c. c ≢ 33) normal }
 {}
 
 /// Lines are cut at each newline, and a last one without a newline counts if it isn't empty; so the output goes on line by line.

@@ -37,6 +37,15 @@ impl ReplyBlock {
         }
     }
 
+    /// No bytes, and room for so many.
+    pub(crate) fn with_room(alloc: Global, room: usize) -> Result<Self, AllocError>
+        ensures { IfOk result (λ block. held block ≡ []) }
+    {
+        let mut block = ReplyBlock::new(alloc);
+        block.room.resize(room, 0)?;
+        Ok(block)
+    }
+
     /// Forgets the bytes, and keeps their room.
     pub fn clear(&mut self)
         ensures { held self.new ≡ [] }
@@ -160,7 +169,7 @@ impl ReplyBlock {
         Ok(())
     }
 
-    // Makes room for so many more, and for twice as many as there was room for.
+    // Makes room for so many more, and for twice as many as there was room for, or at first for many replies.
     #[inline(never)]
     fn grow(&mut self, more: usize) -> Result<(), AllocError>
         ensures { MakesRoom self.old self.new more result }
@@ -168,9 +177,12 @@ impl ReplyBlock {
         let Some(least) = self.len.checked_add(more) else {
             return Err(AllocError);
         };
-        let doubled = max(self.room.len().saturating_mul(2), FIRST_ROOM);
-        let size = max(least, doubled);
-        self.room.resize(size, 0)
+        let usual = if self.room.is_empty() {
+            FIRST_ROOM
+        } else {
+            self.room.len().saturating_mul(2)
+        };
+        self.room.resize(max(least, usual), 0)
     }
 
     // Stores these bytes behind those that count, and counts the first of them.

@@ -1,0 +1,40 @@
+//! The replies to the lines of a text that is all in memory, by the steps of `run`.
+ghost use Rattle.std.specs.Prelude.{◌≡◌, IfOk};
+ghost use Rattle.iloc_spec_grammar.specs.Syntax.{languages};
+ghost use Rattle.iloc_program.specs.Answers.{output};
+ghost use Rattle.iloc_program.specs.ReplyBlock.{held};
+
+use crate::{DataLocales, Identifiers, InMode, Locales, Mode, ReplyBlock, lines};
+use iloc_spans::spans::Spans;
+use std::alloc::{AllocError, Global};
+
+// Room beyond that for a reply as long as its line: the most that is made for one reply at once.
+const MORE: usize = 64;
+
+/// The replies to all lines of a text, one after the other: what `run` writes for it. They are refused only if an
+/// allocation fails. What is asked for is as long as the text, and more only if replies are longer than their lines.
+///
+/// ```text
+/// mode locale, `EN-us` and `en-foo` and `de`:  en-US / ! Invalid subtag / de
+/// ```
+pub fn reply_lines(alloc: Global, mode: Mode, text: &[u8]) -> Result<ReplyBlock, AllocError>
+    ensures { IfOk result (λ replies. held replies ≡ output languages mode text.now) }
+{
+    match mode {
+        Mode::Langid => reply_each(alloc, &Identifiers, text),
+        Mode::Locale => reply_each(alloc, &Locales, text),
+        Mode::Data => reply_each(alloc, &DataLocales, text),
+    }
+}
+
+// The replies to all lines of a text, in the mode of these answers.
+fn reply_each<A: InMode>(alloc: Global, answers: &A, text: &[u8]) -> Result<ReplyBlock, AllocError>
+    ensures { IfOk result (λ replies. held replies ≡ output languages A.mode text.now) }
+{
+    let mut pending = Vec::new(alloc);
+    let mut spans = Spans::growing(alloc);
+    let mut replies = ReplyBlock::with_room(alloc, text.len().saturating_add(MORE))?;
+    lines::feed(answers, &mut pending, text, &mut spans, &mut replies)?;
+    lines::finish(answers, &mut pending, &mut spans, &mut replies)?;
+    Ok(replies)
+}
