@@ -53,11 +53,6 @@
 mod tests;
 mod together;
 
-/// What parsers ask for room, and what is known if it is refused. Programs pass `alloc`, the heap.
-pub mod memory {
-    pub use iloc_memory::{Ample, Memory};
-}
-
 /// Short ASCII texts.
 pub mod tinystr {
     pub use iloc_tinystr::TinyAsciiStr;
@@ -117,9 +112,7 @@ pub mod faults {
 /// Language identifiers.
 pub mod langid {
     pub use crate::together::identifiers as together;
-    pub use iloc_langid::{
-        LanguageIdentifier, equality, fallback_chain, hashes, orders, read_with_ample_memory,
-    };
+    pub use iloc_langid::{LanguageIdentifier, equality, fallback_chain, hashes, orders};
 }
 
 /// All extensions of a locale.

@@ -1,5 +1,5 @@
 //! Language identifiers.
-ghost use Rattle.std.specs.Prelude.{◌≡◌, ◌↔◌, ⊤, length, IsTrue, IfSome, Ok, OnErr, IsSome, IfOk, IsOkAnd, Some};
+ghost use Rattle.std.specs.Prelude.{◌≡◌, ◌↔◌, ⊤, IsTrue, IfSome, Ok, OnErr, IsSome, IfOk, IsOkAnd, Some};
 ghost use Rattle.std.specs.Ordering.{nat_cmp};
 ghost use Rattle.std.specs.Cmp.Lexicographic.{slice_cmp};
 ghost use Rattle.iloc_spec_grammar.specs.Syntax.{languages, two_or_three, pieces, head, Identifier, identifier_pieces, Language as the_kind};
@@ -11,10 +11,8 @@ ghost use Rattle.iloc_langid.specs.Unknown.{unknown_identifier};
 ghost use Rattle.iloc_langid.specs.Reads.{value_of, IdentifierReads, IdentifierWantsMemory, KeepsThroughSteps, IsIdentifierLanguageAlone, IdentifierMeansOnly};
 ghost use Rattle.std.specs.Cow.{cow_str_bytes};
 ghost use Rattle.iloc_writeable.specs.Writing.{IsLent};
-ghost use Rattle.iloc_memory.specs.Refusals.{RefusedWithin};
 
-use crate::reader::{fill_text, read_head_in, short_parts};
-use iloc_memory::Memory;
+use crate::reader::{fill_text, read_head, short_parts};
 use iloc_subtags::{Language, ParseError, Region, Script, SubtagIterator, WordKind, WordOf};
 use iloc_word_list::Variants;
 use iloc_writeable::{Pieces, Sink, Writeable, cmp_utf8};
@@ -106,27 +104,6 @@ impl LanguageIdentifier {
         ensures narrow { (i : Identifier) → IdentifierMeans two_or_three (pieces code_units.now) i
             → Accepts value_of ⊤ i result }
     {
-        Self::try_from_utf8_in(alloc, code_units)
-    }
-
-    /// Parses as `try_from_utf8`, with room from any memory.
-    ///
-    /// `OutOfMemory` comes only if room was refused, and for at most as many variants as the text has bytes. The room
-    /// of the heap is asked for by `try_from_utf8`.
-    #[inline(always)]
-    pub fn try_from_utf8_in<M: Memory>(memory: M, code_units: &[u8]) -> Result<Self, ParseError>
-        ensures reads { IdentifierReads (pieces code_units.now) result }
-        ensures accepted { (i : Identifier) → IdentifierMeans languages (pieces code_units.now) i
-            → Accepts value_of ⊤ i result }
-        ensures refused { (f : Fault) → HasIdentifierFault languages (pieces code_units.now) f
-            → Refuses ⊤ f result }
-        ensures memory { RunsOutOnlyIf (IdentifierWantsMemory (pieces code_units.now)) result }
-        ensures steps { KeepsThroughSteps code_units.now result }
-        ensures narrow { (i : Identifier) → IdentifierMeans two_or_three (pieces code_units.now) i
-            → Accepts value_of ⊤ i result }
-        ensures out_of_memory { RunsOutOnlyIf
-            (RefusedWithin M.refused (length code_units.now)) result }
-    {
         // (a refusal comes before an identifier is made)
         if let Some(plain) = short_parts(code_units)? {
             return Ok(LanguageIdentifier {
@@ -137,7 +114,7 @@ impl LanguageIdentifier {
             });
         }
         let mut identifier = LanguageIdentifier::unknown();
-        fill_text(memory, code_units, &mut identifier)?;
+        fill_text(alloc, code_units, &mut identifier)?;
         Ok(identifier)
     }
 
@@ -167,23 +144,6 @@ impl LanguageIdentifier {
         Self::try_from_utf8(alloc, s.as_bytes())
     }
 
-    /// Parses all of a `str`, as `try_from_utf8_in` parses bytes.
-    #[inline(always)]
-    pub fn try_from_str_in<M: Memory>(memory: M, s: &str) -> Result<Self, ParseError>
-        ensures reads { IdentifierReads (pieces s.now) result }
-        ensures accepted { (i : Identifier) → IdentifierMeans languages (pieces s.now) i
-            → Accepts value_of ⊤ i result }
-        ensures refused { (f : Fault) → HasIdentifierFault languages (pieces s.now) f
-            → Refuses ⊤ f result }
-        ensures memory { RunsOutOnlyIf (IdentifierWantsMemory (pieces s.now)) result }
-        ensures steps { KeepsThroughSteps s.now result }
-        ensures narrow { (i : Identifier) → IdentifierMeans two_or_three (pieces s.now) i
-            → Accepts value_of ⊤ i result }
-        ensures out_of_memory { RunsOutOnlyIf (RefusedWithin M.refused (length s.now)) result }
-    {
-        Self::try_from_utf8_in(memory, s.as_bytes())
-    }
-
     /// Parses the identifier of a locale: up to the first piece of one byte that isn't the first piece. What
     /// follows is ignored.
     pub fn try_from_locale_bytes(alloc: Global, v: &[u8]) -> Result<Self, ParseError>
@@ -194,21 +154,7 @@ impl LanguageIdentifier {
             → Refuses ⊤ f result }
         ensures memory { RunsOutOnlyIf (IdentifierWantsMemory (head (pieces v.now))) result }
     {
-        Self::try_from_locale_bytes_in(alloc, v)
-    }
-
-    /// Parses as `try_from_locale_bytes`, with room from any memory. `OutOfMemory` comes only if room was refused, and
-    /// for at most as many variants as the text has bytes.
-    pub fn try_from_locale_bytes_in<M: Memory>(memory: M, v: &[u8]) -> Result<Self, ParseError>
-        ensures reads { IdentifierReads (head (pieces v.now)) result }
-        ensures accepted { (i : Identifier) → IdentifierMeans languages (head (pieces v.now)) i
-            → Accepts value_of ⊤ i result }
-        ensures refused { (f : Fault) → HasIdentifierFault languages (head (pieces v.now)) f
-            → Refuses ⊤ f result }
-        ensures memory { RunsOutOnlyIf (IdentifierWantsMemory (head (pieces v.now))) result }
-        ensures out_of_memory { RunsOutOnlyIf (RefusedWithin M.refused (length v.now)) result }
-    {
-        read_head_in(memory, &mut SubtagIterator::new(v))
+        read_head(alloc, &mut SubtagIterator::new(v))
     }
 
     /// The byte order of the printed text against the bytes. It makes no text.

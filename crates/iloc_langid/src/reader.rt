@@ -1,20 +1,18 @@
 //! Parses identifiers from pieces.
 ghost use Rattle.std.specs.Prelude.{◌≡◌, ◌<◌, ◌++◌, [], true, false, length, Ok, IfOk, IfErr, IfSome, OnOk, OnErr};
 ghost use Rattle.std.specs.Result.{result_and};
-ghost use Rattle.iloc_spec_grammar.specs.Syntax.{pieces, head, languages, Variant, is_word};
+ghost use Rattle.iloc_spec_grammar.specs.Syntax.{pieces, head, languages};
 ghost use Rattle.iloc_spec_grammar.specs.Meaning.{IdentifierMeans};
-ghost use Rattle.iloc_spec_grammar.specs.Reading.{after_head, front_of, passing};
+ghost use Rattle.iloc_spec_grammar.specs.Reading.{after_head};
 ghost use Rattle.iloc_subtags.specs.Left.{left};
 ghost use Rattle.iloc_pieces.specs.Front.{HasNoLanguage};
 ghost use Rattle.iloc_subtags.specs.Judging.{RunsOutOnlyIf};
 ghost use Rattle.iloc_langid.specs.Reads.{value_of, VariantsReads, FrontComputed, FrontReads, IdentifierReads, IdentifierWantsMemory};
 ghost use Rattle.iloc_langid.specs.Unknown.{unknown_identifier};
 ghost use Rattle.iloc_langid.specs.PlainReads.{IsPlainFront};
-ghost use Rattle.iloc_memory.specs.Refusals.{RefusedWithin};
 
 use crate::identifier::LanguageIdentifier;
 use crate::plain::{PlainParts, plain_parts, take_plain};
-use iloc_memory::Memory;
 use iloc_pieces::begins_with_language;
 use iloc_pieces::load::load;
 use iloc_subtags::{
@@ -27,15 +25,12 @@ use std::alloc::Global;
 // Takes the variants that stand at the front, in place of those before. A set of n variants costs
 // n log n, in whatever order they stand.
 #[inline(always)]
-fn fill_variants<M: Memory>(
-    memory: M,
+fn fill_variants(
+    alloc: Global,
     iter: &mut SubtagIterator<'_>,
     variants: &mut Variants,
 ) -> Result<(), ParseError>
-    ensures reads { VariantsReads (left iter.old) (left iter.new)
-        (result_and result (Ok variants.new)) }
-    ensures out_of_memory { RunsOutOnlyIf (RefusedWithin M.refused
-        (length (passing (is_word Variant) (left iter.old)))) result }
+    ensures { VariantsReads (left iter.old) (left iter.new) (result_and result (Ok variants.new)) }
 {
     let Some(first) = take_word::<VariantKind, 8>(iter) else {
         if !variants.is_empty() {
@@ -45,32 +40,30 @@ fn fill_variants<M: Memory>(
     };
     *variants = Variants::from_variant(first);
     if next_has_length::<VariantKind, 8>(iter) {
-        return add_variants(memory, iter, variants);
+        return add_variants(alloc, iter, variants);
     }
     Ok(())
 }
 
 // Takes the variants that follow those of the set, fewer than four.
 #[inline(never)]
-fn add_variants<M: Memory>(
-    memory: M,
+fn add_variants(
+    alloc: Global,
     iter: &mut SubtagIterator<'_>,
     variants: &mut Variants,
 ) -> Result<(), ParseError>
     requires { length variants.old < 4 }
-    ensures reads { VariantsReads (variants.old ++ left iter.old) (left iter.new)
+    ensures { VariantsReads (variants.old ++ left iter.old) (left iter.new)
         (result_and result (Ok variants.new)) }
-    ensures out_of_memory { RunsOutOnlyIf (RefusedWithin M.refused
-        (length (passing (is_word Variant) (variants.old ++ left iter.old)))) result }
 {
     variants.as_slice();
     'few: while let Some(variant) = take_word::<VariantKind, 8>(iter) {
-        if !variants.push_in(memory, variant)? {
+        if !variants.push(alloc, variant)? {
             return Err(ParseError::InvalidSubtag);
         }
         if variants.len() == 4 {
             let four = variants.clear();
-            *variants = read_more_variants(memory, iter, four)?;
+            *variants = read_more_variants(alloc, iter, four)?;
             return Ok(());
         }
     }
@@ -79,20 +72,18 @@ fn add_variants<M: Memory>(
 
 // Takes the variants that follow where these four stood before.
 #[inline(never)]
-fn read_more_variants<M: Memory>(
-    memory: M,
+fn read_more_variants(
+    alloc: Global,
     iter: &mut SubtagIterator<'_>,
     four: Variants,
 ) -> Result<Variants, ParseError>
     requires { length four ≡ 4 }
-    ensures reads { VariantsReads (four ++ left iter.old) (left iter.new) result }
-    ensures out_of_memory { RunsOutOnlyIf (RefusedWithin M.refused
-        (length (passing (is_word Variant) (four ++ left iter.old)))) result }
+    ensures { VariantsReads (four ++ left iter.old) (left iter.new) result }
 {
     four.as_slice();
     let mut words = WordCollector::from_set(four);
     'words: while let Some(variant) = take_word::<VariantKind, 8>(iter) {
-        if !words.push_in(memory, variant)? {
+        if !words.push(alloc, variant)? {
             return Err(ParseError::InvalidSubtag);
         }
     }
@@ -106,15 +97,13 @@ fn read_more_variants<M: Memory>(
 
 // Parses the subtags at the front, each if it fits.
 #[inline(always)]
-fn fill<M: Memory>(
-    memory: M,
+fn fill(
+    alloc: Global,
     iter: &mut SubtagIterator<'_>,
     identifier: &mut LanguageIdentifier,
 ) -> Result<(), ParseError>
-    ensures reads { FrontComputed (left iter.old) (left iter.new)
+    ensures { FrontComputed (left iter.old) (left iter.new)
         (result_and result (Ok identifier.new)) }
-    ensures out_of_memory { RunsOutOnlyIf (RefusedWithin M.refused
-        (length (front_of (left iter.old)).variants)) result }
 {
     let Some(plain) = take_plain(iter) else {
         return Err(ParseError::InvalidLanguage);
@@ -122,7 +111,7 @@ fn fill<M: Memory>(
     identifier.language = plain.language;
     identifier.script = plain.script;
     identifier.region = plain.region;
-    fill_variants(memory, iter, &mut identifier.variants)
+    fill_variants(alloc, iter, &mut identifier.variants)
 }
 
 /// Parses the longest front of an identifier's subtags.
@@ -145,21 +134,7 @@ pub fn fill_front(
 ) -> Result<(), ParseError>
     ensures { FrontReads (left iter.old) (left iter.new) (result_and result (Ok identifier.new)) }
 {
-    fill_front_in(alloc, iter, identifier)
-}
-
-/// As `fill_front`, from any memory. `OutOfMemory` comes only if room for at most the variants was refused.
-pub fn fill_front_in<M: Memory>(
-    memory: M,
-    iter: &mut SubtagIterator<'_>,
-    identifier: &mut LanguageIdentifier,
-) -> Result<(), ParseError>
-    ensures reads { FrontReads (left iter.old) (left iter.new)
-        (result_and result (Ok identifier.new)) }
-    ensures out_of_memory { RunsOutOnlyIf (RefusedWithin M.refused
-        (length (front_of (left iter.old)).variants)) result }
-{
-    fill(memory, iter, identifier)
+    fill(alloc, iter, identifier)
 }
 
 /// Parses all the pieces in place of what the identifier was. After a refusal it holds some of its
@@ -174,23 +149,7 @@ pub fn fill_whole(
     ensures memory { RunsOutOnlyIf (IdentifierWantsMemory (left iter.old)) result }
     ensures rest { OnOk result (left iter.new ≡ []) }
 {
-    fill_whole_in(alloc, iter, identifier)
-}
-
-/// As `fill_whole`, from any memory. `OutOfMemory` comes only if room for at most the variants was refused.
-#[inline(always)]
-pub fn fill_whole_in<M: Memory>(
-    memory: M,
-    iter: &mut SubtagIterator<'_>,
-    identifier: &mut LanguageIdentifier,
-) -> Result<(), ParseError>
-    ensures reads { IdentifierReads (left iter.old) (result_and result (Ok identifier.new)) }
-    ensures memory { RunsOutOnlyIf (IdentifierWantsMemory (left iter.old)) result }
-    ensures rest { OnOk result (left iter.new ≡ []) }
-    ensures out_of_memory { RunsOutOnlyIf (RefusedWithin M.refused
-        (length (front_of (left iter.old)).variants)) result }
-{
-    fill(memory, iter, identifier)?;
+    fill(alloc, iter, identifier)?;
     match iter.peek() {
         Some(_) => Err(ParseError::InvalidSubtag),
         None => Ok(()),
@@ -199,18 +158,16 @@ pub fn fill_whole_in<M: Memory>(
 
 /// Parses a text in place of what the identifier was.
 #[inline(never)]
-pub(crate) fn fill_text<M: Memory>(
-    memory: M,
+pub(crate) fn fill_text(
+    alloc: Global,
     code_units: &[u8],
     identifier: &mut LanguageIdentifier,
 ) -> Result<(), ParseError>
     ensures reads { IdentifierReads (pieces code_units.now)
         (result_and result (Ok identifier.new)) }
     ensures memory { RunsOutOnlyIf (IdentifierWantsMemory (pieces code_units.now)) result }
-    ensures out_of_memory { RunsOutOnlyIf
-        (RefusedWithin M.refused (length code_units.now)) result }
 {
-    fill_whole_in(memory, &mut SubtagIterator::new(code_units), identifier)
+    fill_whole(alloc, &mut SubtagIterator::new(code_units), identifier)
 }
 
 /// Turns an identifier without variants into that of a plain text, if it is one: then it returns `true`. `false` says
@@ -270,25 +227,7 @@ pub fn read_into(
     ensures memory { RunsOutOnlyIf (IdentifierWantsMemory (pieces code_units.now)) result }
     ensures refused { OnErr result (value_of identifier.new ≡ unknown_identifier) }
 {
-    read_into_in(alloc, code_units, identifier)
-}
-
-/// As `read_into`, from any memory. `OutOfMemory` comes only if room was refused, and for at most as many variants
-/// as the text has bytes.
-#[inline(always)]
-pub fn read_into_in<M: Memory>(
-    memory: M,
-    code_units: &[u8],
-    identifier: &mut LanguageIdentifier,
-) -> Result<(), ParseError>
-    ensures reads { IdentifierReads (pieces code_units.now)
-        (result_and result (Ok identifier.new)) }
-    ensures memory { RunsOutOnlyIf (IdentifierWantsMemory (pieces code_units.now)) result }
-    ensures refused { OnErr result (value_of identifier.new ≡ unknown_identifier) }
-    ensures out_of_memory { RunsOutOnlyIf
-        (RefusedWithin M.refused (length code_units.now)) result }
-{
-    let answer = fill_whole_in(memory, &mut SubtagIterator::new(code_units), identifier);
+    let answer = fill_whole(alloc, &mut SubtagIterator::new(code_units), identifier);
     if answer.is_err() {
         identifier.clear();
     }
@@ -304,22 +243,8 @@ pub fn read_head(
     ensures memory { RunsOutOnlyIf (IdentifierWantsMemory (head (left iter.old))) result }
     ensures rest { OnOk result (left iter.new ≡ after_head (left iter.old)) }
 {
-    read_head_in(alloc, iter)
-}
-
-/// As `read_head`, from any memory. `OutOfMemory` comes only if room for at most the variants was refused.
-pub fn read_head_in<M: Memory>(
-    memory: M,
-    iter: &mut SubtagIterator<'_>,
-) -> Result<LanguageIdentifier, ParseError>
-    ensures reads { IdentifierReads (head (left iter.old)) result }
-    ensures memory { RunsOutOnlyIf (IdentifierWantsMemory (head (left iter.old))) result }
-    ensures rest { OnOk result (left iter.new ≡ after_head (left iter.old)) }
-    ensures out_of_memory { RunsOutOnlyIf (RefusedWithin M.refused
-        (length (front_of (left iter.old)).variants)) result }
-{
     let mut identifier = LanguageIdentifier::unknown();
-    fill_head_in(memory, iter, &mut identifier)?;
+    fill_head(alloc, iter, &mut identifier)?;
     Ok(identifier)
 }
 
@@ -334,22 +259,7 @@ pub fn fill_head(
     ensures memory { RunsOutOnlyIf (IdentifierWantsMemory (head (left iter.old))) result }
     ensures rest { OnOk result (left iter.new ≡ after_head (left iter.old)) }
 {
-    fill_head_in(alloc, iter, identifier)
-}
-
-/// As `fill_head`, from any memory. `OutOfMemory` comes only if room for at most the variants was refused.
-pub fn fill_head_in<M: Memory>(
-    memory: M,
-    iter: &mut SubtagIterator<'_>,
-    identifier: &mut LanguageIdentifier,
-) -> Result<(), ParseError>
-    ensures reads { IdentifierReads (head (left iter.old)) (result_and result (Ok identifier.new)) }
-    ensures memory { RunsOutOnlyIf (IdentifierWantsMemory (head (left iter.old))) result }
-    ensures rest { OnOk result (left iter.new ≡ after_head (left iter.old)) }
-    ensures out_of_memory { RunsOutOnlyIf (RefusedWithin M.refused
-        (length (front_of (left iter.old)).variants)) result }
-{
-    fill(memory, iter, identifier)?;
+    fill(alloc, iter, identifier)?;
     if !is_at_block(iter) {
         return Err(ParseError::InvalidSubtag);
     }

@@ -7,4 +7,3 @@ mod PrintLemmas
 mod ReadingLemmas
 mod WholeLemmas
 mod OwedLemmas
-pub mod RefusedLemmas

@@ -46,11 +46,9 @@ module _ (k : Kind) (before now value : List Text) (t : Valued k before now valu
         sym (ap (past (is_word k)) cut ∙ ap (λ b. cond b (past (is_word k) later) (p ∷ later)) h) ∙ t.skips;
   }
 
-  -- the words besides `true` that stand there are those of the value, this one and those that are left
-  valued_length : is_true w ≡ false →
-      length value + suc (length (without_true (words_read k later)))
-      ≡ length (without_true (words_read k before))
-  valued_length other =
+  -- where memory was refused, more than four words besides `true` stand there
+  pub valued_many : is_true w ≡ false → 4 ≤ length value → length (without_true (words_read k before)) ≤ 4 → ⊥
+  valued_many other many few =
       let front : without_true (words_read k now) ≡ w ∷ without_true (words_read k later) =
       ap without_true words_now
       ∙ ap (λ b. cond (not b) (w ∷ without_true (words_read k later)) (without_true (words_read k later)))
@@ -61,12 +59,4 @@ module _ (k : Kind) (before now value : List Text) (t : Valued k before now valu
       let m : length (value ++ (w ∷ without_true (words_read k later)))
       ≡ length value + suc (length (without_true (words_read k later))) =
       length-append value (w ∷ without_true (words_read k later)) in
-      sym m ∙ n
-
-  -- where memory was refused, more than four words besides `true` stand there
-  pub valued_many : is_true w ≡ false → 4 ≤ length value → length (without_true (words_read k before)) ≤ 4 → ⊥
-  valued_many other many few = let all = valued_length other in omega arith
-
-  -- the value and this word are at most as many as stand there
-  pub valued_within : is_true w ≡ false → length value + 1 ≤ length (without_true (words_read k before))
-  valued_within other = let all = valued_length other in omega arith
+      omega arith

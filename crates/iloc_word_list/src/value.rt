@@ -1,5 +1,5 @@
 //! A list of subtags.
-ghost use Rattle.std.specs.Prelude.{◌≡◌, ◌<◌, ◌≤◌, ◌+◌, ◌↔◌, ℕ, List, [], ◌∷◌, ◌++◌, length, remove, take, slice_get, OnOk, OnErr, IfOk, IsOk, IsTrue, IsSome, IfSome, true, Ok, option_to_list};
+ghost use Rattle.std.specs.Prelude.{◌≡◌, ◌<◌, ◌≤◌, ◌↔◌, ℕ, List, [], ◌∷◌, ◌++◌, length, remove, take, slice_get, OnOk, OnErr, IfOk, IsOk, IsTrue, IsSome, IfSome, true, Ok, option_to_list};
 ghost use Rattle.std.specs.List.{AllByRecursion};
 ghost use Rattle.std.specs.Iterator.{IsFiniteIterable, Drains};
 ghost use Rattle.std.specs.Option.{option_copied};
@@ -11,10 +11,8 @@ ghost use Rattle.iloc_shortvec.specs.ShortList.{only_of};
 ghost use Rattle.iloc_word_list.specs.Equality.{words_eq};
 ghost use Rattle.iloc_word_list.specs.EqualityLaws.{words_exact, alike};
 ghost use Rattle.iloc_word_list.specs.Values.{without_true, with_subtag};
-ghost use Rattle.iloc_memory.specs.Refusals.{RefusedWithin};
 
 use crate::word_list::WordList;
-use iloc_memory::Memory;
 use iloc_shortvec::ShortWordsIntoIter;
 use iloc_subtags::{Subtag, SubtagKind, WordKind, WordOf};
 use std::alloc::{AllocError, Global};
@@ -106,21 +104,10 @@ impl Value {
         ensures succeeds { length self.old < 4 → IsOk result }
         ensures ignores { is_true subtag ≡ true → IsOk result }
     {
-        self.push_subtag_in(alloc, subtag)
-    }
-
-    /// As `push_subtag`, from any memory. It runs out only if room for at most all the subtags was refused.
-    pub fn push_subtag_in<M: Memory>(&mut self, memory: M, subtag: Subtag) -> Result<(), AllocError>
-        ensures ok { OnOk result (self.new ≡ with_subtag self.old subtag) }
-        ensures err { OnErr result (self.new ≡ self.old) }
-        ensures succeeds { length self.old < 4 → IsOk result }
-        ensures ignores { is_true subtag ≡ true → IsOk result }
-        ensures out_of_memory { OnErr result (RefusedWithin M.refused (length self.old + 1)) }
-    {
         if spells_true(&subtag) {
             return Ok(());
         }
-        self.subtags.push_in(memory, subtag)
+        self.subtags.push(alloc, subtag)
     }
 
     /// The value of at most one subtag; `true` gives the empty value.

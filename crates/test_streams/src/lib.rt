@@ -21,8 +21,6 @@ mod lists;
 #[cfg(test)]
 mod locales;
 #[cfg(test)]
-mod memory;
-#[cfg(test)]
 mod printing;
 #[cfg(test)]
 mod runs;

@@ -22,21 +22,21 @@ returns-in_err-extend_from_slice-in-Err-clause-err g c =
     (search_new c.as_slice.result.now c.args.set.now c.args.word c.in-Err.at c.as_slice.ensures.value
     c.as_slice.ensures.ascending c.in-Err.ensures.bound c.in-Err.ensures.position).absent
 
-pub returns-in_err-insert_at-in-Err-clause-err : goal.returns-in_err-insert_at-in-Err-clause-err
-returns-in_err-insert_at-in-Err-clause-err g c =
-    on_err c.from_residual-in_err-insert_at-in-Err.result _
+pub returns-in_err-insert-in-Err-clause-err : goal.returns-in_err-insert-in-Err-clause-err
+returns-in_err-insert-in-Err-clause-err g c =
+    on_err c.from_residual-in_err-insert-in-Err.result _
     (search_new c.as_slice.result.now c.args.set.now c.args.word c.in-Err.at c.as_slice.ensures.value
     c.as_slice.ensures.ascending c.in-Err.ensures.bound c.in-Err.ensures.position).absent
 
-pub returns-in_ok-insert_at-in-Err-clause-known : goal.returns-in_ok-insert_at-in-Err-clause-known
-returns-in_ok-insert_at-in-Err-clause-known g c =
+pub returns-in_ok-insert-in-Err-clause-known : goal.returns-in_ok-insert-in-Err-clause-known
+returns-in_ok-insert-in-Err-clause-known g c =
     sym (search_new c.as_slice.result.now c.args.set.now c.args.word c.in-Err.at c.as_slice.ensures.value
     c.as_slice.ensures.ascending c.in-Err.ensures.bound c.in-Err.ensures.position).absent
 
-pub returns-in_ok-insert_at-in-Err-clause-more : goal.returns-in_ok-insert_at-in-Err-clause-more
-returns-in_ok-insert_at-in-Err-clause-more g c =
-    c.in_ok-insert_at-in-Err.ensures.ok
-    ∙ ap (λ ws. insert ws c.in-Err.at c.args.word) (c.in_ok-extend_from_slice-in-Err.ensures.ok
+pub returns-in_ok-insert-in-Err-clause-more : goal.returns-in_ok-insert-in-Err-clause-more
+returns-in_ok-insert-in-Err-clause-more g c =
+    c.in_ok-insert-in-Err.ensures.items
+    ∙ ap (λ ws. insert ws c.in-Err.at c.args.word) (c.in_ok-extend_from_slice-in-Err.ensures.items
     ∙ ap (λ ws. ws ++ c.as_slice-in-Err.result.now) c.in_ok-words-in-Err.ensures.items
     ∙ c.as_slice-in-Err.ensures.value)
     ∙ (search_new c.as_slice.result.now c.args.set.now c.args.word c.in-Err.at c.as_slice.ensures.value

@@ -2,7 +2,7 @@ use Rattle.std.proofs.Common.{◌∷◌, length, ap, sym, ◌∙◌, subst, arit
 use Rattle.iloc_spec_grammar.specs.Meaning.{set_of}
 use Rattle.iloc_word_list.specs.Collected.{collected_words, IsCollected}
 use Rattle.iloc_word_list.proofs.CollectorLaws.{many_after, set_grows}
-use Rattle.iloc_word_list.proofs.word_collector.WordCollector.push_in.Goals as goal
+use Rattle.iloc_word_list.proofs.word_collector.WordCollector.push.Goals as goal
 
 pub invariant_of-self : goal.invariant_of-self
 invariant_of-self g c =
