@@ -227,7 +227,8 @@ peeked_some (q ∷ ps) p e = λ h. cc
 pub front_reads : (ps rest : List Text) (r : Result LanguageIdentifier ParseError) →
     FrontComputed ps rest r → FrontReads ps rest r
 front_reads (p ∷ ps) rest (Ok i) g = FrontReads.front_given (front_of (p ∷ ps))
-    (subst (IdentifierFront languages (p ∷ ps) (front_of (p ∷ ps))) (sym g.3) (front_is_front p ps g.0)) g.1 g.2
+    (subst (IdentifierFront languages (p ∷ ps) (front_of (p ∷ ps))) (sym g.3) (front_is_front p ps g.0))
+    g.1 g.2
 front_reads (p ∷ ps) rest (Err InvalidSubtag) (inl g) = let other = g.0 in cc
 front_reads (p ∷ ps) rest (Err InvalidSubtag) (inr g) =
     FrontReads.front_repeats (front_of (p ∷ ps)) (front_is_front p ps g.1.0) g.1.1
