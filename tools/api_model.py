@@ -223,7 +223,9 @@ def memory(item, wants):
         return ""
     error, may_fail = error_of(item), "-> " in item.signature and "Result<" in item.signature
     name = "AllocError" if error == "AllocError" else "OutOfMemory"
-    takes = re.search(r"\b_?alloc: Global", item.signature)
+    if "M: Ample" in item.signature:
+        return "Its memory refuses nothing, so it never runs out of it."
+    takes = re.search(r"\b_?alloc: Global|\bmemory: M\b", item.signature) or item.crate == "iloc_memory"
     whens = enough(item)
     if takes and not may_fail:
         return "Keeps the allocator, and allocates nothing."

@@ -207,6 +207,7 @@ OWN = {
         "writeable::IoSink writeable::write_to_io shortvec::ShortWords shortvec::ShortWordsIntoIter litemap::Probe "
         "litemap::place subtags::Word subtags::WordKind subtags::WordOf subtags::is_strictly_ascending faults::Fault "
         "faults::fault_of faults::Mode faults::expected faults::Expected faults::PieceKind faults::hint faults::Hint matching::matches cleaning::clean_line cleaning::without_mark langid::equality locale::equality locale::OrderedLocale "
+        "memory::Memory memory::Ample "
         "locale::every_locale_is_a_value json::JsonError json::TextValue"
     ).split(), ""),
     **dict.fromkeys((
@@ -233,7 +234,8 @@ BASES = {
 OWN_CALLS = {
     **dict.fromkeys((
         "extend_from_map item_mut try_from_raw_v1 from_piece to_piece from_word is_well_formed "
-        "union write_short_piece lm_empty lm_pairs lm_value_mut lm_from_vec"
+        "union write_short_piece lm_empty lm_pairs lm_value_mut lm_from_vec "
+        "push_in insert_in with_capacity reserve"
     ).split(), ""),
     "unknown": "the constant UNKNOWN",
     "from_vec": "From<Vec<T>>",

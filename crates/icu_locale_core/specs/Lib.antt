@@ -18,6 +18,7 @@ pub use Rattle.iloc_spec_parts.specs.DataHashes
 pub use Rattle.iloc_spec_parts.specs.Keywords
 pub use Rattle.iloc_spec_parts.specs.Preferences
 pub use Rattle.iloc_spec_parts.specs.Formatters
+pub use Rattle.iloc_memory.specs.Refusals
 pub use Rattle.iloc_subtags.specs.Judging
 pub use Rattle.iloc_writeable.specs.Writing
 pub use Rattle.iloc_writeable.specs.Hints

@@ -53,6 +53,11 @@
 mod tests;
 mod together;
 
+/// What lists ask for room, and what is known if it is refused. Programs pass `alloc`, the heap.
+pub mod memory {
+    pub use iloc_memory::{Ample, Memory};
+}
+
 /// Short ASCII texts.
 pub mod tinystr {
     pub use iloc_tinystr::TinyAsciiStr;

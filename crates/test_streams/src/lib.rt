@@ -21,6 +21,8 @@ mod lists;
 #[cfg(test)]
 mod locales;
 #[cfg(test)]
+mod memory;
+#[cfg(test)]
 mod printing;
 #[cfg(test)]
 mod runs;
