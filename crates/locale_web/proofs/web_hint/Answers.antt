@@ -1,8 +1,14 @@
 -- The mode that is found is the one of the number.
+use Rattle.std.proofs.Common.{subst}
 use Rattle.iloc_calls.proofs.ByNumbers.{by_mode}
+use Rattle.locale_web.specs.Refused.{HintIsTold}
 use Rattle.locale_web.proofs.web_hint.Goals as goal
 
 pub returns-in-Some : goal.returns-in-Some
 returns-in-Some c =
-    by_mode c.args.mode c.mode_of.result c.in-Some.mode _ _ c.number.result c.mode_of.ensures c.in-Some.is
-    (c.tell_hint.result, c.number.ensures, c.tell_hint.ensures)
+    by_mode c.args.mode c.mode_of.result c.in-Some.mode _ _ c.number.result c.mode_of.ensures c.in-Some.is (
+      c.tell_hint.result,
+      c.number.ensures,
+      subst (λ t. HintIsTold c.in-Some.mode t c.args.buffer.now c.tell_hint.new.buffer
+          c.tell_hint.new.needed c.tell_hint.result) c.text_end.ensures.same c.tell_hint.ensures,
+    )
