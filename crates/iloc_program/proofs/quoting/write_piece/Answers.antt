@@ -1,4 +1,4 @@
-use Rattle.std.proofs.Common.{◌++◌, [], ◌∷◌, sym, ap, ◌∙◌, append_assoc}
+use Rattle.std.proofs.Common.{◌-◌, ◌++◌, [], ◌∷◌, take, sym, ap, ◌∙◌, append_assoc}
 use Rattle.std.proofs.lemmas.Result.{on_ok_weaker}
 use Rattle.iloc_spec_grammar.specs.Syntax.{Text}
 use Rattle.iloc_program.specs.Listing.{shown}
@@ -18,7 +18,11 @@ returns-then-count-before_marked c =
     c.requires.within c.before_marked.result c.escaped_in.result c.before_marked.ensures c.escaped_in.ensures
     c.if-count-before_marked.true in
     on_ok_weaker c.push_line.result
-    (λ e. e ∙ ap (λ (t : Text). held c.args.replies.now ++ (t ++ 10 ∷ [])) text) c.push_line.ensures
+    (λ e. e
+    ∙ ap (λ (t : Text). held c.args.replies.now ++ (take (c.args.end - c.args.start) t ++ 10 ∷ []))
+    c.as_array.ensures
+    ∙ ap (λ (t : Text). held c.args.replies.now ++ (t ++ 10 ∷ [])) text)
+    c.push_line.ensures
 
 pub returns : goal.returns
 returns c =
