@@ -121,7 +121,10 @@ impl ReplyBlock {
         ensures { OnOk result (held self.new
             ≡ held self.old ++ (identifier_text (value_of plain.now) ++ 10 ∷ [])) }
     {
-        self.push_line(*plain.bytes.as_array(), plain.len)
+        self.make_room(17)?;
+        self.put(plain.bytes.as_array(), plain.len);
+        self.put(b"\n", 1);
+        Ok(())
     }
 
     /// Adds the normal text of a text, of which the beginning shows this, and a newline; or nothing.
