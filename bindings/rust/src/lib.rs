@@ -37,6 +37,7 @@ use std::sync::OnceLock;
 mod by_serde;
 mod error;
 mod locale;
+mod many;
 mod parts;
 pub mod sys;
 mod texts;
@@ -49,6 +50,7 @@ struct Readme;
 use error::{result, text_result};
 pub use error::{ParseError, Refusal};
 pub use locale::Locale;
+pub use many::{normalize_many, NormalTexts};
 pub use texts::{
     base_name_of, clean, keyword_of, language_of, matches, parent, region_of, script_of, variants_of,
 };

@@ -36,6 +36,14 @@ extern "C" {
         room: usize,
         needed: *mut usize,
     ) -> u32;
+    pub fn icu_locale_normalize_lines(
+        mode: u32,
+        text: *const u8,
+        length: usize,
+        buffer: *mut u8,
+        room: usize,
+        needed: *mut usize,
+    ) -> u32;
     pub fn icu_locale_check(mode: u32, text: *const u8, length: usize) -> u32;
     pub fn icu_locale_find_fault(mode: u32, text: *const u8, length: usize, start: *mut usize, end: *mut usize) -> u32;
     pub fn icu_locale_strict_cmp(

@@ -21,6 +21,7 @@ ghost use Rattle.iloc_calls.specs.Numbers.{ByMode, ByStatus, EndsAs, mode_number
 
 mod attributes;
 mod by_hand;
+mod column;
 mod data;
 mod identifier;
 mod keywords;

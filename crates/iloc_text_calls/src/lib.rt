@@ -1,14 +1,14 @@
 //! What the calls of the C library do that take texts and give parts: a part, the parent, whether a range stands for a
-//! locale, and the name that is made of a line. The crate `icu_locale_c` exports them.
+//! locale, the name that is made of a line, and the answers to many lines. The crate `icu_locale_c` exports them.
 //!
 //! Each function gives the number of a status, and its contract says, status by status, what the caller finds (`TellsPart`,
-//! `MatchesTo`, `CleansTo`). A part is that of the locale which the text means (`MeansLocale`, `IsPart`).
+//! `MatchesTo`, `CleansTo`, `AnswersLines`). A part is that of the locale which the text means (`MeansLocale`, `IsPart`).
 //!
 //! The normal text is written first, and the part is cut out of it (`iloc_text_parts`). So a call for a part allocates only for
-//! a text of more than 48 bytes. `matches` and `clean` may allocate for any text: no clause bounds it.
+//! a text of more than 48 bytes. `matches`, `clean` and `normalize_lines` may allocate for any text: no clause bounds it.
 //!
-//! It stands on `iloc_calls`, whose statuses and buffers it shares, and on `iloc_text_parts`, `iloc_matching` and
-//! `iloc_cleaning`.
+//! It stands on `iloc_calls`, whose statuses and buffers it shares, and on `iloc_text_parts`, `iloc_matching`,
+//! `iloc_cleaning` and `iloc_program`, which answers lines.
 #![tactic(auto)]
 
 ghost use Rattle.std.specs.Prelude.{◌≡◌, ℕ};
@@ -16,12 +16,14 @@ ghost use Rattle.iloc_calls.specs.Numbers.{ByMode, EndsAs};
 ghost use Rattle.iloc_text_calls.specs.Answers.{CleansTo, MatchesTo, TellsPart};
 
 mod cleaning;
+mod lines;
 mod normal;
 mod parts;
 mod ranges;
 
 use iloc_calls::{Status, mode_of};
 pub use iloc_text_parts::Part;
+pub use lines::normalize_lines;
 use std::alloc::Global;
 
 /// Writes a part of what the text means into the buffer, and its length to `needed`.
