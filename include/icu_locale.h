@@ -154,7 +154,8 @@ enum {
  *  - a field after t, or an extension other than t, u and x.
  *
  * For some of these a call needs no memory all the same. icu_locale_normalizing_eq and icu_locale_compare can also
- * allocate for the other text: they say when. Only a call that allocates can end with OUT_OF_MEMORY. */
+ * allocate for the other text: they say when. icu_locale_normalize_lines, icu_locale_matches and icu_locale_clean can
+ * for any text. Only a call that allocates can end with OUT_OF_MEMORY. */
 
 /* From here on, tools/write_calls writes what tools/calls.txt says. */
 
@@ -169,6 +170,28 @@ enum {
  * und-u-sd-419a gives und-419-u-sd-419a. */
 ICU_LOCALE_WRITES(6) ICU_LOCALE_TELLS
 icu_locale_status icu_locale_normalize(icu_locale_mode mode, const uint8_t *text, size_t length, uint8_t *buffer,
+    size_t room, size_t *needed) ICU_LOCALE_NOEXCEPT;
+
+/* The normal forms of many texts, which are the lines of one text: the answer to a line is its normal form, or, if it is
+ * refused, "! " and the words of why. Each answer ends with a newline. The answers to EN-us, en-foo and de are
+ *
+ *     en-US
+ *     ! Invalid subtag
+ *     de
+ *
+ * Writes the answers to the front of the buffer, and their length to *needed.
+ *
+ *     DONE               the buffer begins with the answers; the bytes behind them are as before
+ *     BUFFER_TOO_SMALL   the buffer is as before, and *needed is the room that the answers need
+ *     any other status   OUT_OF_MEMORY or UNKNOWN_NUMBER; the buffer is as before, and *needed is 0
+ *
+ * A refused line is no failure of the call. No normal form has a !, so an answer that begins with one is a refusal, and
+ * icu_locale_find_fault says where the fault of its line stands. A line ends with a newline, and a last one without it
+ * counts if it is not empty. So a text that holds a newline cannot be a line: pass it to icu_locale_normalize. A CR is a
+ * byte of its line like any other. A room of the text's length and 39 bytes for each line is enough.
+ * Allocates as much as the answers are long. */
+ICU_LOCALE_WRITES(6) ICU_LOCALE_TELLS
+icu_locale_status icu_locale_normalize_lines(icu_locale_mode mode, const uint8_t *text, size_t length, uint8_t *buffer,
     size_t room, size_t *needed) ICU_LOCALE_NOEXCEPT;
 
 /* DONE if the text has a meaning in the mode; otherwise why it has none, or OUT_OF_MEMORY. */

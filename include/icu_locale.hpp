@@ -3,6 +3,8 @@
  *     std::string normal = icu_locale::normalize("EN-us-u-ca-Buddhist");  // "en-US-u-ca-buddhist"
  *     if (auto made = icu_locale::try_normalize("en-"); !made)
  *         std::cerr << icu_locale::words(made.status());                  // "Invalid subtag"
+ *     for (const std::string &it : icu_locale::normalize_many(std::vector{"EN-us", "DE"}))
+ *         std::cout << it;                                                // "en-US", then "de"
  *
  *     icu_locale::locale locale("en-US");
  *     locale.set_region("GB");
@@ -41,6 +43,7 @@
 #include <format>
 #endif
 #include <functional>
+#include <memory>
 #include <new>
 #include <optional>
 #include <ostream>
@@ -382,6 +385,89 @@ inline std::string normalize(std::string_view text, mode as = mode::locale)
 [[nodiscard]] inline status check(std::string_view text, mode as = mode::locale)
 {
     return detail::told(icu_locale_check(static_cast<icu_locale_mode>(as), detail::bytes(text), text.size()));
+}
+
+namespace detail {
+
+/* The first line, without the newline that it ends with; what is left begins behind that. */
+inline std::string_view next_line(std::string_view &left)
+{
+    const std::size_t end = left.find('\n');
+    const std::string_view line = left.substr(0, end);
+    left.remove_prefix(end + 1);
+    return line;
+}
+
+/* Many texts, which are given to the library as lines of one text, some thousands at once. */
+class column {
+public:
+    explicit column(mode as) : as_(as) {}
+    void add(std::string_view text)
+    {
+        if (text.find('\n') != std::string_view::npos) { // it cannot be a line
+            answer();
+            made_.push_back(try_normalize(text, as_));
+            return;
+        }
+        if (lines_.size() >= 65536)
+            answer();
+        lines_.append(text).append(1, '\n');
+        count_++;
+    }
+    std::vector<result<std::string>> made()
+    {
+        answer();
+        return std::move(made_);
+    }
+
+private:
+    /* Adds the normal form of each line, or why it has none, and forgets the lines. An answer has at most 39 bytes more
+     * than its line. */
+    void answer()
+    {
+        const std::size_t room = lines_.size() + 39 * count_;
+        const std::unique_ptr<char[]> answers(new char[room]);
+        std::size_t needed = 0;
+        const status ended = told(icu_locale_normalize_lines(static_cast<icu_locale_mode>(as_), bytes(lines_),
+            lines_.size(), reinterpret_cast<std::uint8_t *>(answers.get()), room, &needed));
+        std::string_view lines = lines_, normals(answers.get(), needed);
+        for (; count_ > 0; count_--) {
+            const std::string_view line = next_line(lines), normal = next_line(normals);
+            if (normal.empty() || normal.front() == '!')
+                made_.push_back(ended == status::done ? check(line, as_) : ended);
+            else
+                made_.push_back(std::string(normal));
+        }
+        lines_.clear();
+    }
+
+    mode as_;
+    std::string lines_;
+    std::size_t count_ = 0;
+    std::vector<result<std::string>> made_;
+};
+
+} // namespace detail
+
+/* The normal form of each text, or why it has none: what try_normalize gives of each, in a part of its time. The texts are a
+ * container, or another range that can be gone through twice, of what a string_view can be made of. */
+template <class Texts> std::vector<result<std::string>> try_normalize_many(const Texts &texts, mode as = mode::locale)
+{
+    detail::column made(as);
+    for (const auto &text : texts)
+        made.add(text);
+    return made.made();
+}
+
+/* The same; it throws the error of the first text that is refused. */
+template <class Texts> std::vector<std::string> normalize_many(const Texts &texts, mode as = mode::locale)
+{
+    std::vector<result<std::string>> made = try_normalize_many(texts, as);
+    std::vector<std::string> normals;
+    normals.reserve(made.size());
+    for (const auto &text : texts)
+        normals.push_back(detail::value_of(std::move(made[normals.size()]), text, as));
+    return normals;
 }
 
 /* The byte order of the text's normal form against other bytes, which are not normalized: -1, 0 or 1. */

@@ -5,10 +5,13 @@
  *                              of each two lines the byte order of the first, normalized, against the second, whether
  *                              they mean the same, and the order of both normal forms, as "-1 0 -1"; a refusal stands
  *                              in the place of the last, or of all three if the first is refused
+ * answers lines-langid|lines-locale|lines-data
+ *                              the same as langid, locale or data, by one call for all lines
  * answers faults-langid|faults-locale|faults-data
  *                              where the fault of the line stands, the kinds that may stand there, and the hint, as
  *                              "3 5 4126 0"; "-" if it has none
- * answers buffers              nothing, if each line is answered alike in buffers of every size, in every mode
+ * answers buffers              nothing, if each line is answered alike in buffers of every size, in every mode; and all
+ *                              of them by one call as by a call each
  *
  * It asks for no memory itself. The status is 0 if it could read, write and answer all. */
 #include "icu_locale.h"
@@ -19,6 +22,10 @@
 #include <string.h>
 
 #define UNTOUCHED 99
+#define ALL 1048576
+
+/* All lines, the answers to them by one call, and by a call each. */
+static uint8_t every[ALL], at_once[ALL + 64], each[ALL];
 
 static void stop(const char *why)
 {
@@ -52,6 +59,23 @@ static void answer_lines(icu_locale_mode mode)
         else
             write_refusal(status);
     }
+}
+
+/* Reads what is left of standard input, and returns its length. */
+static size_t read_all(void)
+{
+    size_t length = fread(every, 1, sizeof every, stdin);
+    if (length == sizeof every)
+        stop("too many lines");
+    return length;
+}
+
+static void answer_all_lines(icu_locale_mode mode)
+{
+    size_t length = read_all(), needed = 0;
+    if (icu_locale_normalize_lines(mode, every, length, at_once, sizeof at_once, &needed) != ICU_LOCALE_DONE)
+        stop("not all lines are answered");
+    fwrite(at_once, 1, needed, stdout);
 }
 
 static void answer_faults(icu_locale_mode mode)
@@ -152,13 +176,80 @@ static void try_mode(icu_locale_mode mode)
         try_room(mode, room, status, reply, length);
 }
 
+/* Writes to `each` what calls for each line of `every` give, and returns its length. */
+static size_t answer_each(icu_locale_mode mode, size_t length)
+{
+    size_t start = 0, written = 0;
+    while (start < length) {
+        const uint8_t *line = every + start, *newline = memchr(line, '\n', length - start);
+        size_t end = newline ? (size_t)(newline - every) : length, needed;
+        icu_locale_status status =
+            icu_locale_normalize(mode, line, end - start, each + written, sizeof each - written, &needed);
+        if (status != ICU_LOCALE_DONE) {
+            each[written++] = '!';
+            each[written++] = ' ';
+            if (icu_locale_words(status, each + written, sizeof each - written, &needed) != ICU_LOCALE_DONE)
+                stop("a status has no words");
+        }
+        written += needed;
+        each[written++] = '\n';
+        start = end + 1;
+    }
+    return written;
+}
+
+/* In a buffer of this room the answers to the first bytes of all lines are those by a call each, and no byte but theirs
+ * is written. */
+static void try_all_in(icu_locale_mode mode, size_t length, size_t room, size_t wanted)
+{
+    size_t needed = UNTOUCHED, written = wanted <= room ? wanted : 0;
+    memset(at_once, '#', wanted + 2);
+    icu_locale_status status = icu_locale_normalize_lines(mode, every, length, at_once, room, &needed);
+    if (status != (wanted <= room ? ICU_LOCALE_DONE : ICU_LOCALE_BUFFER_TOO_SMALL) || needed != wanted)
+        stop("the status or the length of all answers changes with the buffer");
+    if (memcmp(at_once, each, written) != 0)
+        stop("a line is answered otherwise among others");
+    for (size_t i = written; i < wanted + 2; i++)
+        if (at_once[i] != '#')
+            stop("a byte behind all answers is written");
+}
+
+/* The lines as a whole, and cut off at each of their first and last bytes. */
+static void try_all_lines(size_t length)
+{
+    for (icu_locale_mode mode = ICU_LOCALE_IDENTIFIER; mode <= ICU_LOCALE_DATA_LOCALE; mode++)
+        for (size_t cut = 0; cut <= length; cut += cut == 200 && length > 400 ? length - 400 : 1) {
+            size_t wanted = answer_each(mode, cut);
+            try_all_in(mode, cut, wanted, wanted);
+            try_all_in(mode, cut, wanted + 1, wanted);
+            if (wanted > 0)
+                try_all_in(mode, cut, wanted - 1, wanted);
+            try_all_in(mode, cut, 0, wanted);
+        }
+    for (icu_locale_mode mode = 3; mode != 0; mode *= 2) {
+        size_t needed = UNTOUCHED;
+        memset(at_once, '#', 4);
+        if (icu_locale_normalize_lines(mode, every, length, at_once, sizeof at_once, &needed) != ICU_LOCALE_UNKNOWN_NUMBER ||
+            needed != 0 || memcmp(at_once, "####", 4) != 0)
+            stop("an unknown mode answers lines");
+    }
+}
+
 static void try_buffers(void)
 {
     static const icu_locale_mode modes[] = {
         ICU_LOCALE_IDENTIFIER, ICU_LOCALE_LOCALE, ICU_LOCALE_DATA_LOCALE, 3, 255, 256, 257, (icu_locale_mode)-1};
-    while (read_line(&first))
+    size_t length = 0;
+    while (read_line(&first)) {
         for (size_t i = 0; i < sizeof modes / sizeof *modes; i++)
             try_mode(modes[i]);
+        if (first.length + 1 > sizeof every - length)
+            stop("too many lines");
+        memcpy(every + length, first.bytes, first.length);
+        length += first.length;
+        every[length++] = '\n';
+    }
+    try_all_lines(length);
 }
 
 /* Each status has words, and no other number. */
@@ -187,6 +278,8 @@ static void try_nothing(void)
     if (icu_locale_normalize(ICU_LOCALE_LOCALE, (const uint8_t *)"EN", 2, NULL, 0, &needed) != ICU_LOCALE_BUFFER_TOO_SMALL ||
         needed != 2)
         stop("no room at a null pointer");
+    if (icu_locale_normalize_lines(ICU_LOCALE_LOCALE, NULL, 0, NULL, 0, &needed) != ICU_LOCALE_DONE || needed != 0)
+        stop("no lines at a null pointer");
     if (icu_locale_strict_cmp(ICU_LOCALE_LOCALE, (const uint8_t *)"EN", 2, NULL, 0, &order) != ICU_LOCALE_DONE || order != 1)
         stop("an empty text at a null pointer, compared");
     if (icu_locale_normalizing_eq(ICU_LOCALE_DATA_LOCALE, (const uint8_t *)"EN", 2, NULL, 0, &same) != ICU_LOCALE_DONE ||
@@ -210,6 +303,12 @@ int main(int count, char **words)
         answer_lines(ICU_LOCALE_LOCALE);
     else if (strcmp(word, "data") == 0)
         answer_lines(ICU_LOCALE_DATA_LOCALE);
+    else if (strcmp(word, "lines-langid") == 0)
+        answer_all_lines(ICU_LOCALE_IDENTIFIER);
+    else if (strcmp(word, "lines-locale") == 0)
+        answer_all_lines(ICU_LOCALE_LOCALE);
+    else if (strcmp(word, "lines-data") == 0)
+        answer_all_lines(ICU_LOCALE_DATA_LOCALE);
     else if (strcmp(word, "pairs-langid") == 0)
         answer_pairs(ICU_LOCALE_IDENTIFIER);
     else if (strcmp(word, "pairs-locale") == 0)
@@ -225,6 +324,6 @@ int main(int count, char **words)
     else if (strcmp(word, "buffers") == 0)
         try_buffers(), try_words(), try_nothing();
     else
-        stop("usage: answers [pairs-|faults-]langid|locale|data, or answers buffers");
+        stop("usage: answers [lines-|pairs-|faults-]langid|locale|data, or answers buffers");
     return ferror(stdin) || fflush(stdout) != 0;
 }

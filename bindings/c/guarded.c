@@ -90,6 +90,27 @@ static void look_at_advice(icu_locale_mode mode, struct text text, size_t place,
         look_at_words(icu_locale_hint_words, *hint);
 }
 
+/* The same of a text that is one line, as the only one. */
+static void look_at_lines(icu_locale_mode mode, struct text text)
+{
+    size_t alone = UNTOUCHED, length = UNTOUCHED;
+    WANT(icu_locale_normalize_lines(mode, text.at, text.length, large, sizeof large, &length) == ICU_LOCALE_DONE);
+    uint8_t *buffer = guarding_before(length);
+    WANT(icu_locale_normalize_lines(mode, text.at, text.length, buffer, length, needed) == ICU_LOCALE_DONE);
+    WANT(*needed == length && memcmp(buffer, large, length) == 0);
+    if (length > 0)
+        WANT(icu_locale_normalize_lines(mode, text.at, text.length, buffer + 1, length - 1, needed)
+            == ICU_LOCALE_BUFFER_TOO_SMALL && *needed == length);
+    icu_locale_status status = icu_locale_normalize(mode, text.at, text.length, large, sizeof large, &alone);
+    if (text.length == 0)
+        WANT(length == 0);
+    else if (status != ICU_LOCALE_DONE)
+        WANT(length > 2 && buffer[0] == '!' && buffer[1] == ' ' && buffer[length - 1] == '\n');
+    else
+        WANT(length == alone + 1 && memcmp(buffer, large, alone) == 0 && buffer[alone] == '\n');
+    guarding_end(buffer);
+}
+
 /* The place of the fault is a piece of the text, or its end. */
 static void look_at_fault(icu_locale_mode mode, struct text text)
 {
@@ -281,6 +302,7 @@ int main(void)
         struct text text = placed(line, length);
         for (icu_locale_mode mode = ICU_LOCALE_IDENTIFIER; mode <= ICU_LOCALE_DATA_LOCALE; mode++) {
             look_at_normal(mode, text);
+            look_at_lines(mode, text);
             look_at_fault(mode, text);
             look_at_two(mode, text, before);
             look_at_two(mode, before, text);

@@ -63,6 +63,8 @@ static void try_texts(void)
         WANT(icu_locale_hint(mode, NONE, &hint) == ICU_LOCALE_DONE && hint == ICU_LOCALE_NO_HINT);
         WANT(icu_locale_normalize(mode, NONE, NONE, &needed) == ICU_LOCALE_INVALID_LANGUAGE && needed == 0);
         WANT(wants(icu_locale_normalize(mode, en, 2, NONE, &needed), 2));
+        WANT(is_empty(icu_locale_normalize_lines(mode, NONE, NONE, &needed)));
+        WANT(wants(icu_locale_normalize_lines(mode, en, 2, NONE, &needed), 3));
         WANT(icu_locale_strict_cmp(mode, NONE, NONE, &order) == ICU_LOCALE_INVALID_LANGUAGE && order == UNTOUCHED);
         WANT(icu_locale_normalizing_eq(mode, NONE, NONE, &same) == ICU_LOCALE_INVALID_LANGUAGE && same == UNTOUCHED);
         WANT(icu_locale_compare(mode, NONE, NONE, &order) == ICU_LOCALE_INVALID_LANGUAGE && order == UNTOUCHED);

@@ -1,5 +1,5 @@
-/* Counts what calls on a text ask of malloc, for tools/try_bindings: nothing where the header says so. It is linked with
- * the library of tools/refusing.py.
+/* Counts what calls on a text ask of malloc, for tools/try_bindings: nothing where the header says so. Each request of the
+ * call for many texts is refused in turn. It is linked with the library of tools/refusing.py.
  *
  * The last line is the number of cases; the first that is not as wanted ends the program. */
 #include "icu_locale.h"
@@ -117,8 +117,32 @@ static void look_at_parse(const char *text, int may_ask, icu_locale_status statu
     WANT(refusing_live() == 0);
 }
 
+/* With each of its requests refused in turn, the call for many texts is out of memory, writes nothing and holds nothing. */
+static void refuse_lines(const char *text, size_t wanted)
+{
+    static uint8_t buffer[4096];
+    size_t needed = 99;
+    icu_locale_status status = ICU_LOCALE_DONE;
+    long granted = -1;
+    do {
+        memset(buffer, '#', sizeof buffer);
+        refusing_after(++granted);
+        status = icu_locale_normalize_lines(ICU_LOCALE_LOCALE, text_bytes(text), strlen(text), buffer, sizeof buffer, &needed);
+        WANT(refusing_live() == 0);
+        WANT(refusing_refused() == (status == ICU_LOCALE_OUT_OF_MEMORY));
+        WANT(status == ICU_LOCALE_DONE || (needed == 0 && buffer[0] == '#'));
+    } while (status == ICU_LOCALE_OUT_OF_MEMORY);
+    WANT(granted > 0 && status == ICU_LOCALE_DONE && needed == wanted && buffer[needed] == '#');
+}
+
 int main(void)
 {
+    static char many[1024] = "EN-us\nen-x";
+    for (int at = 0; at < 99; at++)
+        strcat(many, "-a");
+    refuse_lines("EN-us", 6);
+    refuse_lines("e\n\n\ne", 4 * 39);
+    refuse_lines(many, strlen(many) + 1);
     for (size_t at = 0; at < sizeof TEXTS / sizeof *TEXTS; at++) {
         icu_locale_status status = look_at_check(TEXTS[at].text, TEXTS[at].may_ask);
         look_at_parse(TEXTS[at].text, TEXTS[at].may_ask, status);

@@ -1,6 +1,7 @@
 /* Answers each line of standard input, for tools/try_bindings, as bindings/c/answers.c does, without its buffers. Where
  * a fault stands is asked of the error that is thrown, too.
  *
+ * answers lines-MODE    the same as MODE, by one call for all lines
  * answers objects       all parts of the locale that the line means, or "! " and the words of the refusal
  * answers two-objects   of each two lines the order of both locales, whether they are equal and are hashed alike, the byte
  *                       order of the first against the second line, and whether that line means it
@@ -76,7 +77,7 @@ static mode mode_of(const std::string &word)
         return mode::locale;
     if (word == "data")
         return mode::data_locale;
-    std::cerr << "usage: answers [pairs-|faults-]langid|locale|data, or answers objects|two-objects|script\n";
+    std::cerr << "usage: answers [lines-|pairs-|faults-]langid|locale|data, or answers objects|two-objects|script\n";
     std::exit(2);
 }
 
@@ -421,6 +422,28 @@ static void try_places()
         std::abort();
 }
 
+/* Answers all lines by the calls for many texts. The one that throws does so of the first that is refused. */
+static int answer_all(mode as)
+{
+    std::vector<std::string> lines;
+    for (std::string line; std::getline(std::cin, line);)
+        lines.push_back(line);
+    const auto made = icu_locale::try_normalize_many(lines, as);
+    std::vector<std::string> normals;
+    std::string first;
+    for (std::size_t at = 0; at < lines.size(); at++) {
+        std::cout << (made.at(at) ? *made[at] : refusal(made[at].status())) << '\n';
+        if (made[at])
+            normals.push_back(lines[at]);
+        else if (first.empty())
+            first = said([&] { icu_locale::normalize(lines[at], as); });
+    }
+    const bool is_first = first.empty() || said([&] { icu_locale::normalize_many(lines, as); }) == first;
+    if (!is_first || made.size() != lines.size() || icu_locale::normalize_many(normals, as).size() != normals.size())
+        std::abort();
+    return std::cout.flush() ? 0 : 1;
+}
+
 int main(int count, char **words)
 {
     std::ios::sync_with_stdio(false);
@@ -433,6 +456,8 @@ int main(int count, char **words)
     try_objects();
     if (word == "script")
         return answer_script();
+    if (word.rfind("lines-", 0) == 0)
+        return answer_all(mode_of(word.substr(6)));
     const mode as = is_object || are_objects ? mode::locale : mode_of(word.substr(pairs ? 6 : faults ? 7 : 0));
     while (std::getline(std::cin, first)) {
         if ((pairs || are_objects) && !std::getline(std::cin, second))

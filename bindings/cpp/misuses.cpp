@@ -4,6 +4,8 @@
 
 #include <cstdlib>
 #include <iostream>
+#include <string>
+#include <vector>
 
 static unsigned long cases;
 
@@ -92,9 +94,40 @@ static void long_texts()
     }
 }
 
+/* Texts that cannot be lines, or look like answers, and none: each is answered among others as alone. */
+static void many_texts()
+{
+    const std::string cut = "en\n", zero("en-\0-US", 7), huge = "en-x" + std::string(200000, '-'), plain = "EN-us";
+    std::string variants = "en";
+    for (int at = 0; at < 5000; at++)
+        variants += "-v" + std::to_string(10000 + at);
+    const std::vector<std::string> hostile = {"", cut, "\n", "\n\n", "en\nfr", "en-a-\n\n-foo", "en-a-foo-\n", "en\r", "\r\n",
+        "! Invalid subtag", "!", "en-a-!!-foo", zero, "\xff\xfe", "en-\xc3\xa9", "\xed\xa0\x80", variants, huge, plain};
+    for (const mode as : {mode::identifier, mode::locale, mode::data_locale, static_cast<mode>(7)}) {
+        std::vector<std::string> texts = hostile;
+        for (int round = 0; round < 2; round++) {
+            const auto made = icu_locale::try_normalize_many(texts, as);
+            WANT(made.size() == texts.size());
+            for (std::size_t at = 0; at < texts.size(); at++) {
+                const auto alone = icu_locale::try_normalize(texts[at], as);
+                WANT(made[at].status() == alone.status() && (!alone || *made[at] == *alone));
+            }
+            texts.insert(texts.end(), 20000, plain);
+            texts.insert(texts.end(), hostile.rbegin(), hostile.rend());
+        }
+        WANT(icu_locale::try_normalize_many(std::vector<std::string>(), as).empty());
+        WANT(refusal([&] { (void)icu_locale::normalize_many(hostile, as); }) != status::done);
+    }
+    WANT(icu_locale::try_normalize_many(hostile)[5]->compare("en-a-foo") == 0);
+    const char *const words[] = {"EN-us", "zh-hant-TW"};
+    WANT((icu_locale::normalize_many(words) == std::vector<std::string>{"en-US", "zh-Hant-TW"}));
+    WANT((icu_locale::normalize_many(std::vector<std::string_view>{"und-u-sd-gbeng"}, mode::data_locale).at(0) == "und-GB-u-sd-gbeng"));
+}
+
 int main()
 {
     unknown_numbers();
+    many_texts();
     itself();
     long_texts();
     std::cout << cases << '\n';

@@ -168,6 +168,8 @@ static void texts()
             refuse_each("und", [=](locale &) { icu_locale::strict_cmp(text, LONG, as); });
             refuse_each("und", [=](locale &) { icu_locale::normalizing_eq(text, LONG, as); });
             refuse_each("und", [=](locale &) { icu_locale::compare(text, LONG, as); });
+            refuse_each("und", [=](locale &) { icu_locale::normalize_many(std::vector{SHORT, text, LONG}, as); });
+            refuse_each("und", [=](locale &) { icu_locale::try_normalize_many(std::vector{text, "a\nb", LONG}, as); });
         }
 }
 

@@ -1,7 +1,7 @@
 """Answers each line of standard input, for tools/try_bindings.
 
 The word 'langid', 'locale' or 'data' asks for the normal form of each line, or '! ' and the words of the refusal. Such a
-word after 'pairs-' asks of each two lines for the byte order of the first, normalized, against the second, whether they
+word after 'lines-' asks the same of one call for all lines. Such a word after 'pairs-' asks of each two lines for the byte order of the first, normalized, against the second, whether they
 mean the same, and the order of both normal forms, as '-1 0 -1'. A refusal stands in the place of the last, or of all
 three if the first is refused.
 
@@ -15,7 +15,8 @@ after it. Fields stand between tabs. tools/object_model.py says what is wanted."
 
 import sys
 
-from icu_locale_c import Locale, LocaleError, Mode, Priority, check, compare, normalize, normalizing_eq, strict_cmp
+from icu_locale_c import Locale, LocaleError, Mode, Priority, check, compare, normalize, normalize_many, normalizing_eq
+from icu_locale_c import strict_cmp
 from icu_locale_c import base_name_of, keyword_of, language_of, matches, parent, region_of, script_of, variants_of
 
 MODES = {"langid": Mode.IDENTIFIER, "locale": Mode.LOCALE, "data": Mode.DATA_LOCALE}
@@ -34,6 +35,35 @@ def checked(line, mode):
     normal = answered(normalize, line, mode)
     assert refusal is True or refusal == normal
     return normal
+
+
+def text_of(line):
+    """The line as a str, if it is UTF-8."""
+    try:
+        return line.decode()
+    except UnicodeDecodeError:
+        return line
+
+
+def raised_at(lines, mode):
+    """The index of the first line that one call for all refuses, and what its error says; or None."""
+    try:
+        normalize_many(lines, mode)
+    except LocaleError as refusal:
+        return refusal.index, refusal.args
+    return None
+
+
+def answered_at_once(lines, mode):
+    """The answers to all lines by one call. Those that are refused raise as in a call each."""
+    normals = normalize_many(lines, mode, "coerce")
+    assert normals == normalize_many(map(text_of, lines), mode, errors="coerce")
+    each = [answered(normalize, line, mode) for line in lines]
+    accepted = [line for line, normal in zip(lines, normals) if normal is not None]
+    assert normalize_many(accepted, mode) == [it for it in normals if it is not None]
+    refused = [(at, raised_at([line], mode)[1]) for at, line in enumerate(lines) if normals[at] is None]
+    assert raised_at(lines, mode) == (refused[0] if refused else None)
+    return [it if normal is None else normal for it, normal in zip(each, normals)]
 
 
 def placed(line, mode):
@@ -196,6 +226,8 @@ def main(word):
         answers = script(lines)
     elif word.startswith("faults-"):
         answers = [placed(line, MODES[word[7:]]) for line in lines]
+    elif word.startswith("lines-"):
+        answers = answered_at_once(lines, MODES[word[6:]])
     elif word.startswith("pairs-"):
         mode = MODES[word[6:]]
         answers = [answered(compared, *pair, mode) for pair in zip(lines[::2], lines[1::2])]

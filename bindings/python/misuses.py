@@ -36,6 +36,7 @@ from icu_locale_c import (
     is_valid,
     matches,
     normalize,
+    normalize_many,
     normalizing_eq,
     strict_cmp,
 )
@@ -144,6 +145,48 @@ def at_once():
 
     in_threads(look, [(it,) for it in range(8)])
     return wrong
+
+
+class Raising:
+    """An iterable of texts that raises after them."""
+
+    def __init__(self, *texts):
+        self.texts = texts
+
+    def __iter__(self):
+        yield from self.texts
+        raise OSError
+
+
+# Texts that cannot be lines, or look like answers; of any type.
+HOSTILE = ["", "en\n", "\n", "\n\n", "en\nfr", "en-a-\n\n-foo", "en-a-foo-\n", "en\r", "\r\n", "en\u2028fr", "en\x85", "en\x0cfr"]
+HOSTILE += ["! Invalid subtag", "!", "en-a-!!-foo", "en-\0-US", "en-\u00e9", "\ud800", "en-\udcff", b"\xff\xfe", b"en\nfr", b"en-\xed\xa0\x80"]
+HOSTILE += [bytearray(b"EN"), memoryview(b"EN-us"), array.array("b", b"DE"), FalseText("EN-us"), FalseBytes(b"FR"), "EN-us"]
+HOSTILE += ["en-x" + "-a" * 100_000, "en" + "".join(f"-v{it}" for it in range(10_000, 15_000)), "x" * 200_000, "en-" + "\n" * 9_000]
+
+
+def alone(text, mode):
+    """The normal form of a text, or what its error says."""
+    try:
+        return normalize(text, mode)
+    except LocaleError as refusal:
+        return refusal.args
+
+
+def among_others(mode):
+    """Of hostile texts, whether each is answered among others as alone, and raises with its index."""
+    texts = [*HOSTILE, *["DE-at"] * 9000, *reversed(HOSTILE)]
+    each = [alone(it, mode) for it in texts]
+    is_same = normalize_many(texts, mode, "coerce") == [it if isinstance(it, str) else None for it in each]
+    for start in range(len(HOSTILE)):
+        first = next((at for at, it in enumerate(each[start:]) if isinstance(it, tuple)), None)
+        try:
+            normalize_many(texts[start:], mode)
+        except LocaleError as refusal:
+            read = pickle.loads(pickle.dumps(refusal))
+            is_same = is_same and (refusal.index, refusal.args) == (first, each[start + first])
+            is_same = is_same and read.index == first and str(read) == str(refusal) and str(read).endswith(f", text {first}")
+    return is_same
 
 
 def loading(path):
@@ -414,6 +457,21 @@ CASES = [
     (read_last(), []),
     (held_then(), (9, 0)),
     (meanwhile(), ""),
+    ([among_others(it) for it in Mode], [True, True, True]),
+    ((normalize_many([]), normalize_many(()), normalize_many(iter({"DE": 1}))), ([], [], ["de"])),
+    (normalize_many(["und-u-sd-gbeng"], 2), ["und-GB-u-sd-gbeng"]),
+    (normalize_many(["en-u-ca"], Mode.IDENTIFIER, "coerce"), [None]),
+    (normalize_many(["en-a-\n\n-foo"]), ["en-a-foo"]),
+    (said_by(normalize_many, ["de"] * 5000 + ["en-"]), "Invalid subtag: 'en-' at 3..3, text 5000"),
+    (said_by(normalize_many, [b"", "en"]), "The given language subtag is invalid: b'', text 0"),
+    (said_by(normalize_many, ["en\n", "e"]), "The given language subtag is invalid: 'en\\n', text 0"),
+    ([raised(normalize_many, it) for it in ("en", b"en", bytearray(b"en"), memoryview(b"en"), 5, None)], [TypeError] * 6),
+    ([raised(normalize_many, ["en", it]) for it in (5, None, 1.5, Lengthy())], [TypeError] * 4),
+    ([raised(normalize_many, ["en", it], Mode.LOCALE, "coerce") for it in (5, None, float("nan"))], [TypeError] * 3),
+    ([raised(normalize_many, ["en"], it) for it in (3, -1, None, "1")], [ValueError, ValueError, TypeError, TypeError]),
+    ([raised(normalize_many, ["en"], 1, it) for it in ("ignore", None, "")], [ValueError] * 3),
+    (raised(normalize_many, Raising("en", "e")), OSError),
+    (LocaleError("x").index, None),
     (at_once(), []),
     (said_by(normalize, "en-"), f"Invalid subtag: 'en-' at 3..3{NEXT}"),
     (said_by(check, b"en-\xff"), f"Invalid extension: b'en-\\xff' at 3..4{NEXT}"),

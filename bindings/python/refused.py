@@ -11,7 +11,8 @@ import os
 import pickle
 import sys
 
-from icu_locale_c import Locale, LocaleError, Mode, Priority, check, compare, is_valid, normalize, normalizing_eq, strict_cmp
+from icu_locale_c import Locale, LocaleError, Mode, Priority, check, compare, is_valid, normalize, normalize_many
+from icu_locale_c import normalizing_eq, strict_cmp
 
 PYTHON = ctypes.CDLL(None)
 PYTHON.refuse_request.argtypes = (ctypes.c_ulong,)
@@ -43,6 +44,7 @@ CALLS = [
     lambda it: it.replace(others={"a": "foo-bar", "z": "foo"}),
     lambda it: it.extend_unicode(OTHER),
     lambda _: normalize(LONG),
+    lambda _: normalize_many(["EN-us", LONG, LONG + "\n"], errors="coerce"),
     lambda _: check(LONG),
     lambda _: is_valid(LONG),
     lambda _: strict_cmp(LONG, LONG),
@@ -101,7 +103,7 @@ def ask_nothing(start, number, call):
 # MemoryError of its own: it does so also in programs that load no library.
 FOR_PYTHON = [it for it in CALLS if it is not PICKLED]  # pickle makes another exception of each
 FOR_PYTHON += [lambda it, call=call: call(it, OTHER) for call in QUIET]
-FOR_PYTHON += [lambda _: Locale("en-a"), lambda _: normalize("en-"), lambda it: sorted([OTHER, it])]
+FOR_PYTHON += [lambda _: Locale("en-a"), lambda _: normalize("en-"), lambda _: normalize_many([b"EN-us", "en-"]), lambda it: sorted([OTHER, it])]
 MAY_RAISE = {None, MemoryError, SystemError}
 
 

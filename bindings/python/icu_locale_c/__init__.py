@@ -38,7 +38,23 @@ import operator
 import os
 import pathlib
 import types
-from typing import Any, Callable, Deque, Dict, Iterable, List, Mapping, Optional, Tuple, Type, TypeVar, Union
+from typing import (
+    Any,
+    Callable,
+    Deque,
+    Dict,
+    Iterable,
+    List,
+    Literal,
+    Mapping,
+    Optional,
+    Set,
+    Tuple,
+    Type,
+    TypeVar,
+    Union,
+    overload,
+)
 
 __all__ = [
     "Locale",
@@ -53,6 +69,7 @@ __all__ = [
     "DuplicatedExtension",
     "Text",
     "normalize",
+    "normalize_many",
     "check",
     "is_valid",
     "strict_cmp",
@@ -157,7 +174,7 @@ class LocaleError(ValueError):
     by a text such as `en_US`, or None.
 
     Of a long text `text` is the beginning alone, of 1,000 characters or bytes. So is `piece` of a long piece. `start` and
-    `end` are the places in the whole text.
+    `end` are the places in the whole text. `index` says which of many texts it was, and is None if there was one alone.
 
     >>> try:
     ...     normalize("en-US-toolonggg")
@@ -169,6 +186,8 @@ class LocaleError(ValueError):
     6 15 toolonggg
     True False
     """
+
+    index: Optional[int] = None
 
     def __init__(
         self,
@@ -193,6 +212,8 @@ class LocaleError(ValueError):
         said = f"{self.words}: {self.text[:64]!r}" + ("..." if len(self.text) > 64 else "")
         if not self._is_all:
             said += f" at {self.start}..{self.end}"
+        if self.index is not None:
+            said += f", text {self.index}"
         if self.expected:
             said += f": {self.expected!s} may stand here"
         return said if self.hint is None else f"{said}; {self.hint!s}"
@@ -234,6 +255,7 @@ _TEXT, _BUFFER = (_BYTES, _SIZE), (ctypes.c_void_p, _SIZE, ctypes.c_void_p)
 
 _FORMS = {
     "normalize": (_NUMBER, *_TEXT, *_BUFFER),
+    "normalize_lines": (_NUMBER, *_TEXT, *_BUFFER),
     "check": (_NUMBER, *_TEXT),
     "find_fault": (_NUMBER, *_TEXT, _PLACE, _PLACE),
     "expected": (_NUMBER, *_TEXT, _SIZE, _NUMBER_AT),
@@ -456,6 +478,7 @@ _USUAL = 256
 # Buffers that no call has now. A call has one for itself, also while another begins within it or in another thread.
 _free_buffers: Deque[_Buffer] = collections.deque(maxlen=8)
 _normalize, _parse = _library.icu_locale_normalize, _library.icu_locale_parse
+_normalize_lines = _library.icu_locale_normalize_lines
 # (What frees a handle has no types of arguments, so that calling it takes no memory.)
 _free = _library["icu_locale_free"]
 _free.restype = None
@@ -466,23 +489,22 @@ def _address(function: Any) -> Any:
     return ctypes.cast(function, ctypes.c_void_p).value
 
 
-def _quicker() -> Optional[Callable[[Any, Any], Optional[str]]]:
-    """How the module _quick of this library normalizes, if the wheel has it. It also reads each part that one call gives. It
-    answers what it can, and else None."""
+def _quicker() -> Tuple[Optional[Callable[[Any, Any], Optional[str]]], Optional[Callable[..., List[Optional[str]]]]]:
+    """How the module _quick of this library normalizes one text, and many, if the wheel has it. It also reads each part that
+    one call gives. It answers what it can, and else None."""
     try:
         quick: Any = importlib.import_module(f"{__name__}._quick")
     except ImportError:
-        return None
+        return None, None
     quick.use(_address(_normalize))
     for name, types in _FORMS.items():
         if types == (_LOCALE, *_BUFFER):
             function = getattr(_library, f"icu_locale_{name}")
             function.quick = functools.partial(quick.part, _address(function))
-    found: Callable[[Any, Any], Optional[str]] = quick.normalize
-    return found
+    return quick.normalize, quick.many
 
 
-_quick_normalize = _quicker()
+_quick_normalize, _quick_many = _quicker()
 
 
 def _taken(room: int) -> _Buffer:
@@ -527,6 +549,95 @@ def _written(call: Any, text: Text, mode: Mode, *more: Any) -> Tuple[int, str]:
     buffer = _taken(length + 4)
     status = _call(call, mode, given, length, *more, buffer.at, length + 4, buffer.needed_at)
     return status, "" if status else _given_back(buffer)
+
+
+@overload
+def normalize_many(texts: Iterable[Text], mode: Mode = ..., errors: Literal["raise"] = ...) -> List[str]: ...
+
+
+@overload
+def normalize_many(texts: Iterable[Text], mode: Mode = ..., *, errors: Literal["coerce"]) -> List[Optional[str]]: ...
+
+
+@overload
+def normalize_many(texts: Iterable[Text], mode: Mode, errors: Literal["coerce"]) -> List[Optional[str]]: ...
+
+
+def normalize_many(texts: Iterable[Text], mode: Mode = Mode.LOCALE, errors: str = "raise") -> Any:
+    """Returns the normal form of each text, as normalize gives it: a list, in a fraction of the time.
+
+    If texts are refused, the first raises its LocaleError, whose `index` says which text it is. With errors="coerce"
+    each of them is None instead.
+
+    >>> normalize_many(["EN-us", "zh-hant-TW"])
+    ['en-US', 'zh-Hant-TW']
+    >>> normalize_many(["EN-us", "en-", b"DE"], errors="coerce")
+    ['en-US', None, 'de']
+    >>> normalize_many(["EN-us", "en-"])
+    Traceback (most recent call last):
+    icu_locale_c.InvalidSubtag: Invalid subtag: 'en-' at 3..3, text 1
+    """
+    if errors not in ("raise", "coerce"):
+        raise ValueError(f"errors is 'raise' or 'coerce', not {errors!r}")
+    if isinstance(texts, (str, bytes, bytearray, memoryview)):
+        raise TypeError(f"texts are an iterable of texts, and not one text, of {type(texts).__name__}")
+    mode, given, is_coerced = _number(Mode, mode), list(texts), errors == "coerce"
+    other = functools.partial(_normal_at, given, mode, is_coerced)
+    if _quick_many is not None:
+        return _quick_many(given, mode, is_coerced, other)
+    normals: List[Optional[str]] = []
+    for start in range(0, len(given), _AT_ONCE):
+        normals += _by_lines(given[start : start + _AT_ONCE], mode, is_coerced, lambda at: other(start + at))
+    return normals
+
+
+# How many texts are given to the library at once.
+_AT_ONCE = 4096
+
+
+def _normal_at(texts: List[Text], mode: Mode, is_coerced: bool, at: int) -> Optional[str]:
+    """The normal form of one of many texts, by a call of its own. If it is refused, None or its error, with its index."""
+    try:
+        return normalize(texts[at], mode)
+    except LocaleError as refusal:
+        if is_coerced:
+            return None
+        refusal.index = at
+        raise
+
+
+def _by_lines(texts: List[Text], mode: Mode, is_coerced: bool, other: Callable[[int], Optional[str]]) -> List[Optional[str]]:
+    """The normal form of each text, by one call for all of them; what that does not answer is asked of `other`."""
+    lines, no_lines = _as_lines(texts)
+    answers = _answers(lines, len(texts), mode)
+    normals: List[Any] = answers.split("\n")[:-1]
+    if "!" in answers:
+        for at, it in enumerate(normals):
+            if it[0] == "!":
+                normals[at] = None if is_coerced and at not in no_lines else other(at)
+    return normals
+
+
+def _as_lines(texts: List[Any]) -> Tuple[bytes, Set[int]]:
+    """The texts as lines; and which of them cannot be lines, since they hold a newline: in their place a line is empty."""
+    try:
+        lines = str.encode("\n".join([*texts, ""]), "utf-8", "surrogatepass")
+    except TypeError:
+        lines = b"\n".join([*map(_bytes, texts), b""])
+    if lines.count(b"\n") == len(texts):
+        return lines, set()
+    every = [*map(_bytes, texts)]
+    no_lines = {at for at, it in enumerate(every) if b"\n" in it}
+    return b"\n".join([*(b"" if at in no_lines else it for at, it in enumerate(every)), b""]), no_lines
+
+
+def _answers(lines: bytes, count: int, mode: Mode) -> str:
+    """What the library answers to so many lines: each answer has at most 39 bytes more than its line."""
+    room, length = len(lines) + 39 * count, len(lines)
+    answers, needed = bytearray(room), ctypes.c_size_t()
+    at = ctypes.addressof(_BYTE.from_buffer(answers))
+    _raise(_call(_normalize_lines, mode, lines, length, at, room, ctypes.addressof(needed)))
+    return str(memoryview(answers)[: needed.value], "ascii")
 
 
 def check(text: Text, mode: Mode = Mode.LOCALE) -> bool:

@@ -1,6 +1,7 @@
 //! Answers each line of standard input, for tools/try_bindings.
 //!
 //! `answers langid|locale|data`: the normal form of each line, or `! ` and the words of the refusal.
+//! `answers lines-langid|lines-locale|lines-data`: the same as `langid`, `locale` or `data`, by one call for all lines.
 //! `answers faults-langid|faults-locale|faults-data`: where the fault of each line stands, the bits of the kinds that may
 //! stand there, and the number of the hint, as `3 5 4126 0`; `-` if it has none.
 //! `answers pairs-langid|pairs-locale|pairs-data`: of each two lines the byte order of the first, normalized, against
@@ -16,7 +17,8 @@
 use icu_locale_c::extensions::unicode::{Attribute, Key, Value};
 use icu_locale_c::subtags::{Language, Region, Script, Variant};
 use icu_locale_c::{base_name_of, keyword_of, language_of, matches, parent, region_of, script_of, variants_of};
-use icu_locale_c::{check, compare, normalize, normalizing_eq, strict_cmp, Locale, Mode, ParseError, Priority};
+use icu_locale_c::{check, compare, normalize, normalize_many, normalizing_eq, strict_cmp};
+use icu_locale_c::{Locale, Mode, ParseError, Priority};
 use std::collections::hash_map::DefaultHasher;
 use std::hash::{Hash, Hasher};
 use std::io::{self, BufRead, BufWriter, Write};
@@ -26,6 +28,14 @@ fn answer(mode: Mode, line: &[u8]) -> String {
     let normal = normalize(mode, line);
     assert_eq!(check(mode, line).err(), normal.as_ref().err().cloned());
     normal.unwrap_or_else(refused)
+}
+
+/// The answers to all lines by one call, with the errors of a call each.
+fn answer_all(mode: Mode, lines: &[Vec<u8>]) -> Vec<String> {
+    let normal = normalize_many(mode, lines).expect("there is memory");
+    let answers: Vec<_> = normal.iter().map(|it| it.map(str::to_owned)).collect();
+    assert!(answers.iter().zip(lines).all(|(it, line)| it.as_ref().err() == normalize(mode, line).as_ref().err()));
+    answers.into_iter().map(|it| it.unwrap_or_else(refused)).collect()
 }
 
 fn fault(mode: Mode, line: &[u8]) -> String {
@@ -294,7 +304,7 @@ fn mode_of(word: &str) -> Mode {
         "locale" => Mode::Locale,
         "data" => Mode::DataLocale,
         _ => {
-            panic!("usage: answers [pairs-|faults-]langid|locale|data, or answers objects|two-objects|script")
+            panic!("usage: answers [lines-|pairs-|faults-]langid|locale|data, or answers objects|two-objects|script")
         }
     }
 }
@@ -307,6 +317,8 @@ fn of_pairs(lines: &[Vec<u8>], answer: impl Fn(&[u8], &[u8]) -> Result<String, P
 fn answer_texts(word: &str, lines: &[Vec<u8>]) -> Vec<String> {
     if let Some(word) = word.strip_prefix("faults-") {
         lines.iter().map(|line| fault(mode_of(word), line)).collect()
+    } else if let Some(word) = word.strip_prefix("lines-") {
+        answer_all(mode_of(word), lines)
     } else if let Some(word) = word.strip_prefix("pairs-") {
         of_pairs(lines, |first, second| compare_pair(mode_of(word), first, second))
     } else {

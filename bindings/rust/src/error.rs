@@ -110,6 +110,11 @@ impl ParseError {
         self.hint
     }
 
+    /// Whether it says something of the text.
+    pub(crate) fn is_of_text(&self) -> bool {
+        self.kind.is_of_text()
+    }
+
     /// The error of this kind. Its text is that of the parts, one after the other, and is all at fault.
     pub(crate) fn of(kind: Refusal, parts: &[&[u8]]) -> Self {
         let text = Beginning::of(if kind.is_of_text() { parts } else { &[] });

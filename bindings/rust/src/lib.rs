@@ -42,6 +42,7 @@ mod advice;
 mod by_serde;
 mod error;
 mod locale;
+mod many;
 mod parts;
 pub mod sys;
 mod texts;
@@ -55,6 +56,7 @@ pub use advice::{Expected, Hint, PieceKind};
 use error::{result, text_result};
 pub use error::{ParseError, Refusal};
 pub use locale::Locale;
+pub use many::{normalize_many, NormalTexts};
 pub use texts::{
     base_name_of, clean, keyword_of, language_of, matches, parent, region_of, script_of, variants_of,
 };

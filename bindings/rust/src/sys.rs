@@ -57,6 +57,14 @@ extern "C" {
         room: usize,
         needed: *mut usize,
     ) -> u32;
+    pub fn icu_locale_normalize_lines(
+        mode: u32,
+        text: *const u8,
+        length: usize,
+        buffer: *mut u8,
+        room: usize,
+        needed: *mut usize,
+    ) -> u32;
     pub fn icu_locale_check(mode: u32, text: *const u8, length: usize) -> u32;
     pub fn icu_locale_find_fault(mode: u32, text: *const u8, length: usize, start: *mut usize, end: *mut usize) -> u32;
     pub fn icu_locale_expected(mode: u32, text: *const u8, length: usize, place: usize, kinds: *mut u32) -> u32;

@@ -22,6 +22,7 @@ ghost use Rattle.iloc_calls.specs.Numbers.{ByMode, ByStatus, EndsAs, mode_number
 mod advice;
 mod attributes;
 mod by_hand;
+mod column;
 mod data;
 mod identifier;
 mod keywords;

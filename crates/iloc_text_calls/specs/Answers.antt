@@ -5,6 +5,7 @@ use Rattle.iloc_spec_grammar.specs.Meaning as meaning
 use Rattle.iloc_locale.specs.LocaleReading.{NormalizingWantsMemory}
 use Rattle.iloc_matching.specs.Range.{Matches}
 use Rattle.iloc_cleaning.specs.Cleaning.{clean}
+use Rattle.iloc_program.specs.Answers.{output}
 use Rattle.iloc_normalize.specs.Modes.{IsNormalText}
 use Rattle.iloc_normalize.specs.declared.Mode.{Mode}
 use Rattle.iloc_normalize.specs.declared.Mode.TheVariants.{Locale}
@@ -48,3 +49,10 @@ MatchesTo t range before after status = (JudgedAs Locale t status
 abbrev pub CleansTo : Text → Text → Text → ℕ → Status → Type 0
 CleansTo t before after needed OutOfMemory = (needed ≡ 0) × (after ≡ before)
 CleansTo t before after needed status = HandsOut (clean t) before after needed status
+
+-- the answers to the lines of the text are handed out, each line's normal text or `! ` and why it
+-- has none, each with a newline; unless memory ran out
+abbrev pub AnswersLines : Mode → Text → Text → Text → ℕ → Status → Type 0
+AnswersLines mode t before after needed OutOfMemory = (needed ≡ 0) × (after ≡ before)
+AnswersLines mode t before after needed status =
+    HandsOut (output languages mode t) before after needed status

@@ -1,18 +1,18 @@
 //! What the calls of the C library do that take texts and give parts: a part, the parent, whether a range stands for a
-//! locale, and the name that is made of a line; and those that say what may stand at the place of a fault, and what is
-//! usually meant by a refused text. The crate `icu_locale_c` exports them.
+//! locale, the name that is made of a line, and the answers to many lines; and those that say what may stand at the place of
+//! a fault, and what is usually meant by a refused text. The crate `icu_locale_c` exports them.
 //!
 //! Each function gives the number of a status, and its contract says, status by status, what the caller finds (`TellsPart`,
-//! `MatchesTo`, `CleansTo`, `TellsKinds`, `TellsHint`). A part is that of the locale which the text means (`MeansLocale`,
-//! `IsPart`).
+//! `MatchesTo`, `CleansTo`, `AnswersLines`, `TellsKinds`, `TellsHint`). A part is that of the locale which the text means
+//! (`MeansLocale`, `IsPart`).
 //!
 //! The normal text is written first, and the part is cut out of it (`iloc_text_parts`). So a call for a part allocates only for
 //! a text of more than 48 bytes. `matches` allocates for a text or a range only if the parser may allocate for it, or if it is
-//! not its normal text (`NormalizingWantsMemory`). `clean` may allocate for any line: no clause bounds it. What may stand at
-//! a place, and a hint, are told with memory for long runs of variants alone, and without it.
+//! not its normal text (`NormalizingWantsMemory`). `clean` and `normalize_lines` may allocate for any text: no clause bounds
+//! it. What may stand at a place, and a hint, are told with memory for long runs of variants alone, and without it.
 //!
 //! It stands on `iloc_calls`, whose statuses and buffers it shares, and on `iloc_text_parts`, `iloc_matching`,
-//! `iloc_cleaning`, `iloc_expected` and `iloc_hints`.
+//! `iloc_cleaning`, `iloc_expected`, `iloc_hints` and `iloc_program`, which answers lines.
 #![tactic(auto)]
 
 ghost use Rattle.std.specs.Prelude.{◌≡◌, ℕ};
@@ -22,12 +22,14 @@ ghost use Rattle.iloc_text_calls.specs.Answers.{CleansTo, MatchesTo, TellsPart};
 
 mod advice;
 mod cleaning;
+mod lines;
 mod normal;
 mod parts;
 mod ranges;
 
 use iloc_calls::{InMemory, Status, hand_out, mode_of};
 pub use iloc_text_parts::Part;
+pub use lines::normalize_lines;
 use std::alloc::Global;
 
 /// Writes a part of what the text means into the buffer, and its length to `needed`.

@@ -6,7 +6,8 @@
 
 use icu_locale_c::extensions::unicode::{Attribute, Key, Value};
 use icu_locale_c::subtags::{Language, Region, Script, Variant};
-use icu_locale_c::{check, compare, normalize, normalizing_eq, strict_cmp, Locale, Mode, ParseError, Refusal};
+use icu_locale_c::{check, compare, normalize, normalize_many, normalizing_eq, strict_cmp};
+use icu_locale_c::{Locale, Mode, ParseError, Refusal};
 use std::env;
 use std::os::raw::c_long;
 use std::os::unix::process::ExitStatusExt;
@@ -73,6 +74,8 @@ const TRYING: &[Trying] = &[
     |_| strict_cmp(Mode::Locale, LONG, LONG).map(drop),
     |_| normalizing_eq(Mode::Locale, "en-x-a-b-c-d-e-f", LONG).map(drop),
     |_| compare(Mode::Locale, LONG, LONG).map(drop),
+    |_| normalize_many(Mode::Locale, &["EN-us", LONG]).map(drop),
+    |_| normalize_many(Mode::Locale, &["EN-us", "en\n", LONG]).map(drop),
 ];
 
 /// Parts, parsed before requests are refused.
