@@ -573,9 +573,9 @@ def normalize_many(texts: Iterable[Text], mode: Mode = Mode.LOCALE, errors: str 
     ['en-US', 'zh-Hant-TW']
     >>> normalize_many(["EN-us", "en-", b"DE"], errors="coerce")
     ['en-US', None, 'de']
-    >>> normalize_many(["EN-us", "en-"])
+    >>> normalize_many(["EN-us", "en-US-foo"])
     Traceback (most recent call last):
-    icu_locale_c.InvalidSubtag: Invalid subtag: 'en-' at 3..3, text 1
+    icu_locale_c.InvalidSubtag: Invalid subtag: 'en-US-foo' at 6..9, text 1: a variant or an extension may stand here
     """
     if errors not in ("raise", "coerce"):
         raise ValueError(f"errors is 'raise' or 'coerce', not {errors!r}")
