@@ -1,5 +1,5 @@
 -- What is handed out of a normal text, and of a hint, is told of the text.
-use Rattle.std.proofs.Common.{◌≡◌, ◌≢◌, ◌↔◌, ◌⊎◌, ℕ, Bool, IsTrue, refl, sym, subst, Option, Some, None, inl, inr}
+use Rattle.std.proofs.Common.{◌≡◌, ◌≢◌, ◌↔◌, ◌⊎◌, ℕ, Bool, IsTrue, refl, sym, subst, Option, Some, None, inr}
 use Rattle.std.specs.Int.{from_bool}
 use Rattle.iloc_spec_grammar.specs.Syntax.{Text, languages, pieces}
 use Rattle.iloc_spec_grammar.specs.Meaning as meaning
@@ -88,18 +88,6 @@ match_told t range a b before after same h k is e = (
   ),
   λ d. cc,
 )
-
--- a text that is refused
-pub text_refused : (t range : Text) (before : ℕ) (e : ParseError) (s : Status) → HasRefusal Locale t e
-    → s ≡ status_of e → MatchIsWritten t range before before s
-text_refused t range before e s r is = subst (MatchIsWritten t range before before) (sym is) (by e r)
-  where
-    by : (e : ParseError) → HasRefusal Locale t e → MatchIsWritten t range before before (status_of e)
-    by refusals.InvalidLanguage h = ((inl h, refl), λ d. cc)
-    by refusals.InvalidSubtag h = ((inl h, refl), λ d. cc)
-    by refusals.InvalidExtension h = ((inl h, refl), λ d. cc)
-    by refusals.DuplicatedExtension h = ((inl h, refl), λ d. cc)
-    by refusals.OutOfMemory h = absurd h
 
 -- a range that is refused, after a text that is not
 pub range_refused : (t range a : Text) (before : ℕ) (e : ParseError) (s : Status)
