@@ -1,5 +1,6 @@
 // What tools/measure_growth asks of the package that PACKAGE names: from standard input, as JSON, calls with their modes and two texts
-// each. It prints the milliseconds of each, the least of some rounds.
+// each. It prints the milliseconds of CPU time of each, the least of some rounds: on a machine with other work a call of more
+// than a few is interrupted each time.
 import { readFileSync } from 'node:fs';
 import { pathToFileURL } from 'node:url';
 
@@ -19,9 +20,10 @@ const calls = { parse: web.check, normalize: web.tryNormalize, compare: same, pl
 function least(call, text, mode) {
   let found = Infinity;
   for (let round = 0; round < 9; round++) {
-    const start = process.hrtime.bigint();
+    const start = process.cpuUsage();
     call(text, mode);
-    found = Math.min(found, Number(process.hrtime.bigint() - start) / 1e6);
+    const { user, system } = process.cpuUsage(start);
+    found = Math.min(found, (user + system) / 1e3);
   }
   return found;
 }
