@@ -211,7 +211,9 @@ def examples(text):
 def expected(text, start, mode):
     """The kinds that may stand at the start of the fault, as the sum of their bits: what goes on behind the pieces before it,
     if one of the tails ends it."""
-    front = text[:start].removesuffix(b"-")
+    front = text[:start]
+    if front.endswith(b"-"):
+        front = front[:-1]
     before = front.split(b"-") if front else []
     found = {"end"} if before and is_accepted(front, mode) else set()
     for piece in examples(text):

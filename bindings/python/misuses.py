@@ -122,6 +122,11 @@ def advice_of(call, *words):
         return read.expected, read.hint
 
 
+def kinds(*names):
+    """The set of these kinds."""
+    return Kinds(sum(Kinds[it].value for it in names))
+
+
 def advice(text, mode=Mode.LOCALE):
     return advice_of(normalize, text, mode)
 
@@ -503,22 +508,22 @@ CASES = [
     (LocaleError().words, ""),
     ((LocaleError().piece, LocaleError("x", "en-").piece, LocaleError("x", "en-", 3).end), (None, "en-", 3)),
     # what may stand there, by UTS #35, sections 3.1 and 3.2; and what is meant
-    (advice("en-foo"), (Kinds.SCRIPT | Kinds.REGION | Kinds.VARIANT | Kinds.SINGLETON | Kinds.END, None)),
-    (advice("en-Latn-!"), (Kinds.REGION | Kinds.VARIANT | Kinds.SINGLETON | Kinds.END, None)),
-    (advice("en-u-\u00e9"), (Kinds.ATTRIBUTE | Kinds.KEY, None)),
-    (advice("en-u-ca-!"), (Kinds.KEY | Kinds.VALUE | Kinds.SINGLETON | Kinds.END, None)),
-    (advice("en-t-!"), (Kinds.LANGUAGE | Kinds.FIELD, None)),
+    (advice("en-foo"), (kinds("SCRIPT", "REGION", "VARIANT", "SINGLETON", "END"), None)),
+    (advice("en-Latn-!"), (kinds("REGION", "VARIANT", "SINGLETON", "END"), None)),
+    (advice("en-u-\u00e9"), (kinds("ATTRIBUTE", "KEY"), None)),
+    (advice("en-u-ca-!"), (kinds("KEY", "VALUE", "SINGLETON", "END"), None)),
+    (advice("en-t-!"), (kinds("LANGUAGE", "FIELD"), None)),
     (advice("en-t-m0-!"), (Kinds.FIELD_VALUE, None)),
     (advice("en-a"), (Kinds.OTHER, None)),
     (advice("en-x-!"), (Kinds.PRIVATE, None)),
-    (advice("en-US-u-ca", Mode.IDENTIFIER), (Kinds.VARIANT | Kinds.END, None)),
+    (advice("en-US-u-ca", Mode.IDENTIFIER), (kinds("VARIANT", "END"), None)),
     *((advice(text), (Kinds.LANGUAGE, hint)) for text, hint in (("en_US", Hint.UNDERSCORES), ("en_US.UTF-8", Hint.CODESET), ("C", Hint.SYSTEM), ("", None))),
     (advice("en-US ")[1], Hint.BLANKS),
     (advice("\ufeffen")[1], Hint.MARK),
     (advice("en_US_u_ca", Mode.IDENTIFIER)[1], None),
     (advice_of(lambda: HELD.replace(region="U_S")), (Kinds(0), None)),
     (Kinds.VARIANT in advice("en-US-!")[0], True),
-    ([str(it) for it in (Kinds.LANGUAGE | Kinds.FIELD, Kinds.END, Kinds(0), Hint.MARK)], ["a language or a key of a field", "the end", "nothing", "leave out the byte order mark"]),
+    ([str(it) for it in (kinds("LANGUAGE", "FIELD"), Kinds.END, Kinds(0), Hint.MARK)], ["a language or a key of a field", "the end", "nothing", "leave out the byte order mark"]),
     *((place(normalize, "", it), (0, 0, "")) for it in Mode),
     *((place(normalize, "e-US", it), (0, 1, "e")) for it in Mode),
     *((place(check, "en-", it), (3, 3, "")) for it in Mode),
