@@ -77,6 +77,8 @@ front_refused e w p (q ∷ ps) rest left InvalidLanguage i h (FrontReads.front_l
 front_refused e w p (q ∷ ps) rest left InvalidSubtag i h
     (FrontReads.front_repeats v {more = more} front twice) =
     (refl, (v, more, front.words, front.spelled, twice))
+front_refused e w p (q ∷ ps) rest left InvalidExtension i h g = elim g [ ]
+front_refused e w p (q ∷ ps) rest left DuplicatedExtension i h g = elim g [ ]
 front_refused e w p (q ∷ ps) rest left OutOfMemory i h
     (FrontReads.front_wants_memory v {more = more} front five) =
     record { written = v; rest = more; front = front; many = five }
