@@ -43,12 +43,13 @@ impl<T: AsRef<[u8]>> NormalTexts<'_, T> {
 /// use icu_locale_c::{normalize_many, Mode};
 ///
 /// # fn main() -> Result<(), icu_locale_c::ParseError> {
-/// let texts = ["EN-us", "zh-hant-TW", "en-"];
+/// let texts = ["EN-us", "zh-hant-TW", "en-US-foo"];
 /// let normal = normalize_many(Mode::Locale, &texts)?;
 /// assert_eq!(normal.iter().flatten().collect::<Vec<_>>(), ["en-US", "zh-Hant-TW"]);
 ///
 /// let (at, error) = normal.iter().enumerate().find_map(|(at, it)| Some((at, it.err()?))).unwrap();
-/// assert_eq!((at, error.to_string()), (2, "Invalid subtag: 'en-' at 3..3".to_owned()));
+/// let said = "Invalid subtag: 'en-US-foo' at 6..9: a variant or an extension may stand here";
+/// assert_eq!((at, error.to_string().as_str()), (2, said));
 /// assert!(normal.iter().collect::<Result<Vec<_>, _>>().is_err());
 /// # Ok(())
 /// # }
