@@ -326,8 +326,7 @@ pub mod laws {
     /// What the program writes.
     pub mod program {
         pub use iloc_program::laws::{
-            answers_are_lines, by_example, line_answers, lines, one_listing, outputs,
-            plain_listing,
+            answers_are_lines, by_example, line_answers, lines, one_listing, outputs, plain_listing,
         };
     }
 }
