@@ -190,7 +190,7 @@ def among_others(mode):
         except LocaleError as refusal:
             read = pickle.loads(pickle.dumps(refusal))
             is_same = is_same and (refusal.index, refusal.args) == (first, each[start + first])
-            is_same = is_same and read.index == first and str(read) == str(refusal) and str(read).endswith(f", text {first}")
+            is_same = is_same and read.index == first and str(read) == str(refusal) and f", text {first}: " in str(read)
     return is_same
 
 
