@@ -1,4 +1,6 @@
 //! Lists that ask other memory than the heap for room.
+ghost use Rattle.std.specs.Prelude.{⊤};
+
 use iloc_memory::Memory;
 use iloc_shortvec::{ShortBoxSlice, ShortWords};
 use std::alloc::{AllocError, Global};
