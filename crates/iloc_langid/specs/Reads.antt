@@ -2,7 +2,7 @@
 use Rattle.std.specs.Prelude.{◌≡◌, ⊤, ℕ, ◌<◌, ◌⊎◌, false, List, [], length, map, None, Result, Ok, Err, IfOk}
 use Rattle.iloc_spec_grammar.specs.Syntax.{Text, Language, Variant, is_word, IsWord, lower, word_cmp}
 use Rattle.iloc_spec_grammar.specs.Syntax.{languages, SpelledIdentifier, Identifier, AllDifferent}
-use Rattle.iloc_spec_grammar.specs.Syntax.{first_piece, pieces}
+use Rattle.iloc_spec_grammar.specs.Syntax.{first_piece, pieces, IdentifierOf, Meant}
 use Rattle.iloc_spec_grammar.specs.Meaning.{IdentifierMeans, normal_identifier, set_of, HasIdentifierFault}
 use Rattle.iloc_spec_grammar.specs.Meaning as faults
 use Rattle.iloc_spec_grammar.specs.Reading.{IdentifierFront}
@@ -15,7 +15,7 @@ use Rattle.iloc_subtags.specs.Judging.{Answers, Only}
 use Rattle.iloc_langid.specs.declared.identifier.LanguageIdentifier.{LanguageIdentifier}
 
 -- the value of an identifier
-abbrev pub value_of : LanguageIdentifier → Identifier
+abbrev pub value_of : LanguageIdentifier → IdentifierOf Meant
 value_of i =
     record { language = i.language; script = i.script; region = i.region; variants = i.variants }
 

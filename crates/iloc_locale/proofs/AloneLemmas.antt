@@ -31,6 +31,7 @@ use Rattle.iloc_spec_grammar.specs.Values.{text, identifier_text}
 use Rattle.iloc_spec_grammar.proofs.MapLaws.{word_cmp_total}
 use Rattle.iloc_spec_grammar.proofs.Singletons.{IsKind, of_u, of_t, of_x, another, kind_of, lower_letter}
 use Rattle.iloc_spec_parts.proofs.SmallShapes.{none_there, none_mapped, no_normal_fields, nothing_here}
+use Rattle.iloc_spec_parts.proofs.SmallShapes.{none_of_both}
 use Rattle.iloc_normalize.proofs.PlainAnswers as alone
 use Rattle.iloc_spec_grammar.specs.Syntax.{Block, code_x, code_u, code_t, Text}
 use Rattle.iloc_langid.proofs.BlockLemmas.{front_all}
@@ -42,10 +43,6 @@ text_alone i e n =
     ap (λ (x : Extensions). text (record { id = i; extensions = x })) n ∙ alone.text_alone i
 
 -- A block has a piece, which some part of the extensions takes.
-
-first_none : {X : Type 0} (xs ys : List X) → xs ++ ys ≡ [] → xs ≡ []
-first_none [] ys e = refl
-first_none (x ∷ xs) ys e = absurd (cc)
 
 abbrev HasPieces : Block → Type 0
 HasPieces b = (is_ascii_alphanumeric b.0 ≡ true) × (0 < length b.1)
@@ -64,7 +61,7 @@ no_block (b ∷ bs) h u t x o = absurd (at (kind_of (lower_singleton b) (lower_l
     none_after : (s : ℕ) → lower_singleton b ≡ s → after s (b ∷ bs) ≡ [] → ⊥
     none_after s e n =
         let here = ap (λ t. cond t b.1 []) (sym (eq-eqb (lower_singleton b) s e)) in
-        nothing_here b.1 h.0.1 (here ∙ first_none _ (after s bs) n)
+        nothing_here b.1 h.0.1 (here ∙ (none_of_both _ (after s bs) n).0)
 
     at : IsKind (lower_singleton b) → ⊥
     at (of_u e) = none_after code_u e u

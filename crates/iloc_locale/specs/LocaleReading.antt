@@ -1,5 +1,5 @@
 -- What a `Locale` stands for, what a text is read as, and what it is normalized to.
-use Rattle.std.specs.Prelude.{◌≡◌, ◌⊎◌, ⊤, Result}
+use Rattle.std.specs.Prelude.{◌≡◌, ◌⊎◌, ⊤, Result, []}
 use Rattle.iloc_spec_grammar.specs.Meaning as meaning
 use Rattle.iloc_langid.specs.Reads as langid
 use Rattle.iloc_langid.specs.Unknown.{unknown_identifier}
@@ -20,10 +20,9 @@ value_of l = record { id = langid.value_of l.id; extensions = extensions.value_o
 abbrev pub unknown_locale : meaning.Locale
 unknown_locale = meaning.without_extensions unknown_identifier
 
--- nothing but a language: the text is then lent
+-- the text is the language, and no other extension is there: the text is then lent
 abbrev pub IsLanguageAlone : Locale → Type 0
-IsLanguageAlone l = langid.IsIdentifierLanguageAlone l.id
-    × ((value_of l).extensions ≡ meaning.no_extensions)
+IsLanguageAlone l = (text (value_of l) ≡ l.id.language) × (l.extensions.other.items ≡ [])
 
 -- What the readers of locales answer, by cases on the whole answer. The cases exclude one another,
 -- so each says both directions.

@@ -9,9 +9,8 @@ use Rattle.std.specs.declared.cmp.Ordering.{Ordering}
 use Rattle.std.specs.FinMap.{put}
 use Rattle.iloc_spec_grammar.specs.Syntax.{Text, LanguageLengths, Block, code_t, code_u, code_x, pieces}
 use Rattle.iloc_spec_grammar.specs.Syntax.{lower, upper, title, word_cmp, is_true, Language, PrivateSubtag}
-use Rattle.iloc_spec_grammar.specs.Syntax.{is_word, IsWord, Stage, Spelled, Meant, UnicodeOf, TransformOf}
-use Rattle.iloc_spec_grammar.specs.Syntax.{SpelledIdentifier, SpelledUnicode, SpelledTransform, Identifier}
-use Rattle.iloc_spec_grammar.specs.Syntax.{Fields, Unicode, Transform, identifier_pieces, kept, IsIdentifier}
+use Rattle.iloc_spec_grammar.specs.Syntax.{is_word, IsWord, Stage, Spelled, Meant, IdentifierOf, UnicodeOf}
+use Rattle.iloc_spec_grammar.specs.Syntax.{TransformOf, Fields, identifier_pieces, kept, IsIdentifier}
 use Rattle.iloc_spec_grammar.specs.Syntax.{lower_singleton, HasWords, AllDifferent, IsUnicode, IsTransform}
 use Rattle.iloc_spec_grammar.specs.Syntax.{IsOther, unicode_pieces, transform_pieces, is_other_singleton}
 use Rattle.iloc_spec_grammar.specs.Syntax.{IsAmong, IsNonempty}
@@ -32,7 +31,7 @@ set_of ws = map (λ (w, _). w) (map_of word_cmp (map (λ w. (w, w)) ws))
 -- Normal forms.
 
 -- words in their normal case, variants as a set (UTS #35 3.2.1)
-abbrev pub normal_identifier : SpelledIdentifier → Identifier
+abbrev pub normal_identifier : IdentifierOf Spelled → IdentifierOf Meant
 normal_identifier i = record {
   language = lower i.language;
   script = option_map title i.script;
@@ -50,12 +49,12 @@ abbrev pub normal_fields : Fields → Fields
 normal_fields fs = map_of word_cmp (map (λ (key, values). (lower key, normal_values values)) fs)
 
 -- what is written after `u`, with attributes as a set and keywords as a map (UTS #35 3.2.1)
-abbrev pub normal_unicode : SpelledUnicode → Unicode
+abbrev pub normal_unicode : UnicodeOf Spelled → UnicodeOf Meant
 normal_unicode u =
     record { attributes = set_of (map lower u.attributes); keywords = normal_fields u.keywords }
 
 -- what is written after `t`, with the identifier normal and fields as a map (UTS #35 3.2.1)
-abbrev pub normal_transform : SpelledTransform → Transform
+abbrev pub normal_transform : TransformOf Spelled → TransformOf Meant
 normal_transform m =
     record { id = option_map normal_identifier m.id; fields = normal_fields m.fields }
 
@@ -76,12 +75,12 @@ Extensions = ExtensionsOf Meant
 
 -- an identifier and extensions: what a text means (UTS #35 3.2, `unicode_locale_id`)
 pub record Locale : Type 0 where
-  pub id : Identifier
-  pub extensions : Extensions
+  pub id : IdentifierOf Meant
+  pub extensions : ExtensionsOf Meant
 
 -- words in lower case, of other extensions those that are kept, by ascending singletons (UTS #35
 -- 3.2.1)
-abbrev pub normal_extensions : SpelledExtensions → Extensions
+abbrev pub normal_extensions : ExtensionsOf Spelled → ExtensionsOf Meant
 normal_extensions e = record {
   unicode = normal_unicode e.unicode;
   transform = normal_transform e.transform;
@@ -92,30 +91,31 @@ normal_extensions e = record {
 -- Empty parts, and no extensions.
 
 -- a text without `u` means the empty part
-abbrev pub no_unicode : Unicode
+abbrev pub no_unicode : UnicodeOf Meant
 no_unicode = record { attributes = []; keywords = [] }
 
 -- a text without `t` means the empty part
-abbrev pub no_transform : Transform
+abbrev pub no_transform : TransformOf Meant
 no_transform = record { id = None; fields = [] }
 
 -- a unicode part, and all else empty
-abbrev pub just_unicode : Unicode → Extensions
+abbrev pub just_unicode : UnicodeOf Meant → ExtensionsOf Meant
 just_unicode u = record { unicode = u; transform = no_transform; private = []; others = [] }
 
 -- all parts empty: what a text without blocks means
-abbrev pub no_extensions : Extensions
+abbrev pub no_extensions : ExtensionsOf Meant
 no_extensions = just_unicode no_unicode
 
 -- an identifier alone
-abbrev pub without_extensions : Identifier → Locale
+abbrev pub without_extensions : IdentifierOf Meant → Locale
 without_extensions i = record { id = i; extensions = no_extensions }
 
 -- Which pieces and texts have a meaning, and which.
 
 -- the pieces are an identifier that means i
-pub record IdentifierMeans (T : LanguageLengths) (ps : List Text) (i : Identifier) : Type 0 where
-  pub written : SpelledIdentifier
+pub record IdentifierMeans (T : LanguageLengths) (ps : List Text)
+    (i : IdentifierOf Meant) : Type 0 where
+  pub written : IdentifierOf Spelled
   pub grammatical : IsIdentifier T written
   pub spelled : ps ≡ identifier_pieces written
   pub means : i ≡ normal_identifier written
@@ -134,7 +134,7 @@ other_blocks bs =
 -- rules. No block is left out: a letter or digit other than `u`, `t` and `x` is another singleton
 -- (UTS #35 3.2, `extensions` and `pu_extensions`).
 pub record SpellsExtensions (T : LanguageLengths) (bs : List Block)
-    (w : SpelledExtensions) : Type 0 where
+    (w : ExtensionsOf Spelled) : Type 0 where
   pub each_block : AllByRecursion (λ (c, ps). (is_ascii_alphanumeric c ≡ true) × IsNonempty ps) bs
   pub different : AllDifferent nat_cmp (map (λ b. lower_singleton b) bs)
   pub unicode : IsUnicode w.unicode × (after code_u bs ≡ unicode_pieces w.unicode)
@@ -143,8 +143,8 @@ pub record SpellsExtensions (T : LanguageLengths) (bs : List Block)
   pub others : AllByRecursion (λ (_, ps). IsOther ps) w.others × (other_blocks bs ≡ w.others)
 
 -- the blocks mean e: they spell extensions whose normal form it is
-abbrev pub BlocksMean : LanguageLengths → List Block → Extensions → Type 0
-BlocksMean T bs e = (w : SpelledExtensions) × SpellsExtensions T bs w × (e ≡ normal_extensions w)
+abbrev pub BlocksMean : LanguageLengths → List Block → ExtensionsOf Meant → Type 0
+BlocksMean T bs e = (w : ExtensionsOf Spelled) × SpellsExtensions T bs w × (e ≡ normal_extensions w)
 
 -- the text means M: its head an identifier, and its blocks extensions (UTS #35 3.2,
 -- `unicode_locale_id`)
@@ -164,7 +164,7 @@ pub data Fault : Type 0 where
 
 -- the pieces spell an identifier
 abbrev pub SpellsIdentifier : LanguageLengths → List Text → Type 0
-SpellsIdentifier T ps = (i : SpelledIdentifier) × IsIdentifier T i × (ps ≡ identifier_pieces i)
+SpellsIdentifier T ps = (i : IdentifierOf Spelled) × IsIdentifier T i × (ps ≡ identifier_pieces i)
 
 -- why the pieces are no identifier: no language stands first, or else something after it is wrong
 pub data HasIdentifierFault (T : LanguageLengths) (ps : List Text) : Fault → Type 0 where
@@ -178,12 +178,12 @@ pub data HasIdentifierFault (T : LanguageLengths) (ps : List Text) : Fault → T
 -- the pieces begin with a language, perhaps a script and a region, and variants, of which one
 -- stands twice
 abbrev pub RepeatsVariant : LanguageLengths → List Text → Type 0
-RepeatsVariant T ps = (i : SpelledIdentifier) × (rest : List Text) × HasWords T i
+RepeatsVariant T ps = (i : IdentifierOf Spelled) × (rest : List Text) × HasWords T i
     × (ps ≡ identifier_pieces i ++ rest) × ¬ (AllDifferent word_cmp (map lower i.variants))
 
 -- each block follows the rule of its singleton, and no two singletons are equal
 abbrev pub AreBlocks : LanguageLengths → List Block → Type 0
-AreBlocks T bs = (w : SpelledExtensions) × SpellsExtensions T bs w
+AreBlocks T bs = (w : ExtensionsOf Spelled) × SpellsExtensions T bs w
 
 -- an earlier block has this singleton
 abbrev pub IsSecond : List Block → Block → Type 0

@@ -6,8 +6,8 @@
 use Rattle.std.specs.Prelude.{◌≡◌, ℕ, ◌≤◌, Bool, true, false, cond, ◌==◌, List, [], ◌∷◌, ◌++◌, length, Option}
 use Rattle.std.specs.Prelude.{Some, None}
 use Rattle.iloc_spec_grammar.specs.Syntax.{Text, LanguageLengths, Block, code_t, code_u, code_x, Script}
-use Rattle.iloc_spec_grammar.specs.Syntax.{Region, Variant, TransformKey, is_word, SpelledIdentifier}
-use Rattle.iloc_spec_grammar.specs.Syntax.{SpelledUnicode, SpelledTransform, Fields, HasWords}
+use Rattle.iloc_spec_grammar.specs.Syntax.{Region, Variant, TransformKey, is_word, Spelled, IdentifierOf}
+use Rattle.iloc_spec_grammar.specs.Syntax.{UnicodeOf, TransformOf, Fields, HasWords}
 use Rattle.iloc_spec_grammar.specs.Syntax.{identifier_pieces, lower_singleton, is_one_byte, first_piece, head}
 use Rattle.iloc_spec_grammar.specs.Syntax.{tail_blocks}
 use Rattle.iloc_spec_grammar.specs.Tree.{Extension, unicode, transform, other, Written}
@@ -60,7 +60,7 @@ abbrev pub after_region : List Text → List Text
 after_region ps = skip_first (is_word Region) (after_script ps)
 
 -- the identifier that all the pieces are, if they are one
-unfoldable pub identifier_of : List Text → SpelledIdentifier
+unfoldable pub identifier_of : List Text → IdentifierOf Spelled
 identifier_of ps = record {
   language = first_piece ps;
   script = take_first (is_word Script) (rest_of ps);
@@ -69,7 +69,7 @@ identifier_of ps = record {
 }
 
 -- the words at the front
-unfoldable pub front_of : List Text → SpelledIdentifier
+unfoldable pub front_of : List Text → IdentifierOf Spelled
 front_of ps = record {
   language = first_piece ps;
   script = take_first (is_word Script) (rest_of ps);
@@ -82,11 +82,11 @@ unfoldable pub after_front : List Text → List Text
 after_front ps = past (is_word Variant) (after_region ps)
 
 -- the longest front of a language and the words after it
-pub record IdentifierFront (T : LanguageLengths) (ps : List Text) (i : SpelledIdentifier)
+pub record IdentifierFront (T : LanguageLengths) (ps : List Text) (i : IdentifierOf Spelled)
     (rest : List Text) : Type 0 where
   pub words : HasWords T i
   pub spelled : ps ≡ identifier_pieces i ++ rest
-  pub longest : (j : SpelledIdentifier) (more : List Text) → HasWords T j
+  pub longest : (j : IdentifierOf Spelled) (more : List Text) → HasWords T j
       → ps ≡ identifier_pieces j ++ more
       → length (identifier_pieces j) ≤ length (identifier_pieces i)
 
@@ -109,16 +109,16 @@ abbrev pub is_two : Text → Bool
 is_two p = length p == 2
 
 -- after `u`, a piece of two bytes is a key
-unfoldable pub unicode_of : List Text → SpelledUnicode
+unfoldable pub unicode_of : List Text → UnicodeOf Spelled
 unicode_of ps = record { attributes = before_key is_two ps; keywords = fields_from is_two ps }
 
 -- the identifier after `t`, if any piece stands there (UTS #35 3.2, `tlang`)
-abbrev pub optional_of : List Text → Option SpelledIdentifier
+abbrev pub optional_of : List Text → Option (IdentifierOf Spelled)
 optional_of [] = None
 optional_of (p ∷ ps) = Some (identifier_of (p ∷ ps))
 
 -- after `t`, no word of an identifier is a key
-unfoldable pub transform_of : List Text → SpelledTransform
+unfoldable pub transform_of : List Text → TransformOf Spelled
 transform_of ps = record {
   id = optional_of (before_key (is_word TransformKey) ps);
   fields = fields_from (is_word TransformKey) ps;

@@ -192,7 +192,7 @@ is_same v w = eq_by_cmp word_cmp v w
 
 -- whether the word is `true`, which a value does not need (UTS #35 3.2.1)
 unfoldable pub is_true : Text → Bool
-is_true w = is_same (codes "true") w
+is_true w = eq_by_cmp word_cmp (codes "true") w
 
 -- Words in their normal case.
 
@@ -291,6 +291,8 @@ pub record TransformOf (s : Stage) : Type 0 where
   pub id : Option (IdentifierOf s)
   pub fields : Fields
 
+-- Short names, for files that speak of one of the two alone.
+
 -- an identifier as it is spelled
 abbrev pub SpelledIdentifier : Type 0
 SpelledIdentifier = IdentifierOf Spelled
@@ -351,14 +353,14 @@ AllDifferent cmp [] = ⊤
 AllDifferent cmp (x ∷ xs) = ¬ (IsAmong cmp x xs) × AllDifferent cmp xs
 
 -- each piece is a word of its kind (UTS #35 3.1)
-pub record HasWords (T : LanguageLengths) (i : SpelledIdentifier) : Type 0 where
+pub record HasWords (T : LanguageLengths) (i : IdentifierOf Spelled) : Type 0 where
   pub language : IsWord (Language T) i.language
   pub script : IfSome i.script (IsWord Script)
   pub region : IfSome i.region (IsWord Region)
   pub variants : AllByRecursion (IsWord Variant) i.variants
 
 -- such words, no variant twice in whatever case (UTS #35 3.1, `unicode_language_id`)
-pub record IsIdentifier (T : LanguageLengths) (i : SpelledIdentifier) : Type 0 where
+pub record IsIdentifier (T : LanguageLengths) (i : IdentifierOf Spelled) : Type 0 where
   pub words : HasWords T i
   pub different : AllDifferent word_cmp (map lower i.variants)
 
@@ -375,12 +377,12 @@ abbrev pub IsField : Field → Type 0
 IsField (key, ws) = IsWord TransformKey key × AllByRecursion (IsWord Attribute) ws × IsNonempty ws
 
 -- attributes and keywords (UTS #35 3.2, `unicode_locale_extensions`)
-pub record IsUnicode (u : SpelledUnicode) : Type 0 where
+pub record IsUnicode (u : UnicodeOf Spelled) : Type 0 where
   pub attributes : AllByRecursion (IsWord Attribute) u.attributes
   pub keywords : AllByRecursion IsKeyword u.keywords
 
 -- perhaps an identifier, and fields (UTS #35 3.2, `transformed_extensions`)
-pub record IsTransform (T : LanguageLengths) (m : SpelledTransform) : Type 0 where
+pub record IsTransform (T : LanguageLengths) (m : TransformOf Spelled) : Type 0 where
   pub id : IfSome m.id (IsIdentifier T)
   pub fields : AllByRecursion IsField m.fields
 

@@ -14,13 +14,12 @@ use Rattle.std.specs.declared.cmp.Ordering.TheVariants.{Less}
 use Rattle.iloc_spec_grammar.specs.Syntax.{Text, LanguageLengths, Block, code_t, code_u, code_x, Field, join}
 use Rattle.iloc_spec_grammar.specs.Syntax.{pieces, head, tail_blocks, Kind, Language, Script, Region, Variant}
 use Rattle.iloc_spec_grammar.specs.Syntax.{Subtag, UnicodeKey, TransformKey, Attribute, PrivateSubtag, IsWord}
-use Rattle.iloc_spec_grammar.specs.Syntax.{normal, lower, word_cmp, is_true, is_word, is_same, languages}
-use Rattle.iloc_spec_grammar.specs.Syntax.{Stage, IdentifierOf, SpelledIdentifier, SpelledUnicode}
-use Rattle.iloc_spec_grammar.specs.Syntax.{SpelledTransform, Identifier, Unicode, Transform, Fields}
+use Rattle.iloc_spec_grammar.specs.Syntax.{normal, lower, word_cmp, is_true, is_word, languages, IsAmong}
+use Rattle.iloc_spec_grammar.specs.Syntax.{Stage, Spelled, Meant, IdentifierOf, UnicodeOf, TransformOf, Fields}
 use Rattle.iloc_spec_grammar.specs.Syntax.{optional_pieces, unicode_pieces, transform_pieces}
 use Rattle.iloc_spec_grammar.specs.Syntax.{is_other_singleton, identifier_pieces, fields_pieces, AllDifferent}
 use Rattle.iloc_spec_grammar.specs.Syntax.{HasWords, IsIdentifier, IsUnicode, IsTransform, IsNonempty}
-use Rattle.iloc_spec_grammar.specs.Meaning.{Locale, Extensions, Means}
+use Rattle.iloc_spec_grammar.specs.Meaning.{Locale, ExtensionsOf, Means}
 
 -- What the types keep.
 
@@ -34,7 +33,7 @@ StrictlyAscends cmp [] = ⊤
 StrictlyAscends cmp (x ∷ xs) = AllByRecursion (λ y. cmp x y ≡ Less) xs × StrictlyAscends cmp xs
 
 -- normal words, the variants a set (UTS #35 3.1, `unicode_language_id`)
-pub record IsIdentifierValue (T : LanguageLengths) (i : Identifier) : Type 0 where
+pub record IsIdentifierValue (T : LanguageLengths) (i : IdentifierOf Meant) : Type 0 where
   pub language : IsNormal (Language T) i.language
   pub script : IfSome i.script (IsNormal Script)
   pub region : IfSome i.region (IsNormal Region)
@@ -43,7 +42,7 @@ pub record IsIdentifierValue (T : LanguageLengths) (i : Identifier) : Type 0 whe
 
 -- a set of attributes, and a map from keys to lists of subtags (UTS #35 3.2,
 -- `unicode_locale_extensions`)
-pub record IsUnicodeValue (u : Unicode) : Type 0 where
+pub record IsUnicodeValue (u : UnicodeOf Meant) : Type 0 where
   pub attributes : AllByRecursion (IsNormal Attribute) u.attributes
   pub ascending : StrictlyAscends word_cmp u.attributes
   pub keywords : AllByRecursion
@@ -52,7 +51,7 @@ pub record IsUnicodeValue (u : Unicode) : Type 0 where
 
 -- perhaps an identifier, and a map from keys to lists of subtags of three bytes or more other than
 -- `true`
-pub record IsTransformValue (T : LanguageLengths) (m : Transform) : Type 0 where
+pub record IsTransformValue (T : LanguageLengths) (m : TransformOf Meant) : Type 0 where
   pub id : IfSome m.id (IsIdentifierValue T)
   pub fields : AllByRecursion
       (λ (key, values). IsNormal TransformKey key
@@ -61,7 +60,7 @@ pub record IsTransformValue (T : LanguageLengths) (m : Transform) : Type 0 where
 
 -- The others are a list in any order, with any bytes for singletons: callers may build what no text
 -- means, as an other extension of `t`.
-pub record IsExtensionsValue (T : LanguageLengths) (e : Extensions) : Type 0 where
+pub record IsExtensionsValue (T : LanguageLengths) (e : ExtensionsOf Meant) : Type 0 where
   pub unicode : IsUnicodeValue e.unicode
   pub transform : IsTransformValue T e.transform
   pub private : AllByRecursion (IsNormal PrivateSubtag) e.private
@@ -73,7 +72,7 @@ pub record IsValue (T : LanguageLengths) (M : Locale) : Type 0 where
   pub extensions : IsExtensionsValue T M.extensions
 
 -- an identifier with all words in lower case, as after `t` (UTS #35 3.2.1)
-abbrev pub lower_identifier : {s : Stage} → IdentifierOf s → SpelledIdentifier
+abbrev pub lower_identifier : {s : Stage} → IdentifierOf s → IdentifierOf Spelled
 lower_identifier i = record {
   language = lower i.language;
   script = option_map lower i.script;
@@ -93,7 +92,7 @@ spelled_fields fs = map (λ (key, values). (key, spelled_value values)) fs
 -- The text.
 
 -- the block of `t` as it is printed: after a singleton all is in lower case (RFC 5646, 2.1.1)
-abbrev pub transform_block : Transform → Block
+abbrev pub transform_block : TransformOf Meant → Block
 transform_block m =
     (code_t, map lower (optional_pieces m.id) ++ fields_pieces (spelled_fields m.fields))
 
@@ -111,7 +110,7 @@ printed_pieces (c, p ∷ ps) = (c ∷ []) ∷ p ∷ ps
 
 -- all that follows the identifier: others up to `t`, `t`, `u`, other others, and `x` (UTS #35
 -- 3.2.1)
-unfoldable pub extensions_spelling : Extensions → List Text
+unfoldable pub extensions_spelling : ExtensionsOf Meant → List Text
 extensions_spelling e = flat_map printed_pieces
     (before_above (transform_block e.transform ∷ (code_u, unicode_pieces e.unicode) ∷ []) e.others
     ++ ((code_x, e.private) ∷ []))
@@ -127,11 +126,11 @@ IsWellFormed M = Means languages (text M) M
 -- The pieces that each part gives, its singleton among them; an empty part gives none.
 
 -- the pieces that a unicode part prints, with its singleton (UTS #35 3.2.1)
-unfoldable pub unicode_spelling : Unicode → List Text
+unfoldable pub unicode_spelling : UnicodeOf Meant → List Text
 unicode_spelling u = printed_pieces (code_u, unicode_pieces u)
 
 -- the pieces that a transform part prints, with its singleton (UTS #35 3.2.1)
-unfoldable pub transform_spelling : Transform → List Text
+unfoldable pub transform_spelling : TransformOf Meant → List Text
 transform_spelling m = printed_pieces (transform_block m)
 
 -- the pieces that another extension prints, with its singleton (UTS #35 3.2.1)
@@ -144,7 +143,7 @@ private_spelling ws = printed_pieces (code_x, ws)
 
 -- What `is_well_formed` tests: the others ascend, with singletons of their own and a subtag each;
 -- no keyword holds `true` or a subtag of two bytes, which is no value.
-pub record AreWellFormed (e : Extensions) : Type 0 where
+pub record AreWellFormed (e : ExtensionsOf Meant) : Type 0 where
   pub ascending : is_sorted nat_cmp e.others ≡ true
   pub singletons : AllByRecursion
       (λ (c, _). (is_other_singleton c ≡ true) × (to_ascii_lowercase c ≡ c)) e.others
@@ -155,15 +154,15 @@ pub record AreWellFormed (e : Extensions) : Type 0 where
 -- The text of each part alone is the join of its share; of an empty part it is empty.
 
 -- the text of an identifier (UTS #35 3.2.1)
-unfoldable pub identifier_text : Identifier → Text
+unfoldable pub identifier_text : IdentifierOf Meant → Text
 identifier_text i = join (identifier_pieces i)
 
 -- the text of a unicode part (UTS #35 3.2.1)
-unfoldable pub unicode_text : Unicode → Text
+unfoldable pub unicode_text : UnicodeOf Meant → Text
 unicode_text u = join (unicode_spelling u)
 
 -- the text of a transform part (UTS #35 3.2.1)
-unfoldable pub transform_text : Transform → Text
+unfoldable pub transform_text : TransformOf Meant → Text
 transform_text m = join (transform_spelling m)
 
 -- the text of another extension (UTS #35 3.2.1)
@@ -175,7 +174,7 @@ unfoldable pub private_text : List Text → Text
 private_text ws = join (private_spelling ws)
 
 -- the text of all extensions (UTS #35 3.2.1)
-unfoldable pub extensions_text : Extensions → Text
+unfoldable pub extensions_text : ExtensionsOf Meant → Text
 extensions_text e = join (extensions_spelling e)
 
 -- Sets of variants or attributes, and values of keywords, are the join of their words; an empty
@@ -218,7 +217,7 @@ pub data WithoutRepeats {X : Type 0} (key : X → Text) : List Text → List X �
   stays : {seen : List Text} {x : X} {xs ys : List X}
       → WithoutRepeats key (lower (key x) ∷ seen) xs ys → WithoutRepeats key seen (x ∷ xs) (x ∷ ys)
   left_out : {seen : List Text} {x : X} {xs ys : List X}
-      → list_any (is_same (lower (key x))) seen ≡ true → WithoutRepeats key seen xs ys
+      → IsAmong word_cmp (lower (key x)) seen → WithoutRepeats key seen xs ys
       → WithoutRepeats key seen (x ∷ xs) ys
 
 -- The steps.
@@ -255,7 +254,7 @@ FieldsStep DroppedPieces n fs gs = fs ≡ gs
 FieldsStep BlockOrder n fs gs = fs ≡ gs
 
 -- j is i with other variants: `en-posix-macos` to `en-macos-posix`
-abbrev pub IdentifierStep : Rule → SpelledIdentifier → SpelledIdentifier → Type 0
+abbrev pub IdentifierStep : Rule → IdentifierOf Spelled → IdentifierOf Spelled → Type 0
 IdentifierStep r i j = (j ≡ record i { variants = j.variants })
     × VariantsStep r i.variants j.variants
 
@@ -264,12 +263,12 @@ IdentifierStep r i j = (j ≡ record i { variants = j.variants })
 pub data BlockStep (T : LanguageLengths) (r : Rule) : Block → Block → Type 0 where
   same : {b : Block} → BlockStep T r b b
   -- `u-foo-bar` to `u-bar-foo`
-  in_unicode : {c : ℕ} (u v : SpelledUnicode) → to_ascii_lowercase c ≡ code_u → IsUnicode u
+  in_unicode : {c : ℕ} (u v : UnicodeOf Spelled) → to_ascii_lowercase c ≡ code_u → IsUnicode u
       → AttributesStep r u.attributes v.attributes → FieldsStep r 0 u.keywords v.keywords
       → BlockStep T r (c, unicode_pieces u) (c, unicode_pieces v)
   -- `t-m0-foo-true` to `t-m0-foo`
-  in_transform : {c : ℕ} (m n : SpelledTransform) → to_ascii_lowercase c ≡ code_t → IsTransform T m
-      → AllZip (IdentifierStep r) (option_to_list m.id) (option_to_list n.id)
+  in_transform : {c : ℕ} (m n : TransformOf Spelled) → to_ascii_lowercase c ≡ code_t
+      → IsTransform T m → AllZip (IdentifierStep r) (option_to_list m.id) (option_to_list n.id)
       → FieldsStep r 1 m.fields n.fields
       → BlockStep T r (c, transform_pieces m) (c, transform_pieces n)
   -- `a-foo-!!-bar` to `a-foo-bar`
@@ -286,8 +285,8 @@ BlocksStep T r bs cs = AllZip (BlockStep T r) bs cs
 -- the rule leads from an accepted text t to u, in the identifier and in the blocks
 pub record Rewrites (T : LanguageLengths) (r : Rule) (t u : Text) : Type 0 where
   pub accepted : (M : Locale) × Means T t M
-  pub old : SpelledIdentifier
-  pub new : SpelledIdentifier
+  pub old : IdentifierOf Spelled
+  pub new : IdentifierOf Spelled
   pub words : HasWords T old
   pub old_spelled : head (pieces t) ≡ identifier_pieces old
   pub new_spelled : head (pieces u) ≡ identifier_pieces new
@@ -302,7 +301,7 @@ pub data TextStep (T : LanguageLengths) (t u : Text) : Type 0 where
 -- the same for the texts of identifiers: in the case of letters, or in the order of variants
 pub data IdentifierTextStep (T : LanguageLengths) (t u : Text) : Type 0 where
   letter_case : lower t ≡ lower u → IdentifierTextStep T t u
-  variant_order : {i j : SpelledIdentifier} → IsIdentifier T i → pieces t ≡ identifier_pieces i
+  variant_order : {i j : IdentifierOf Spelled} → IsIdentifier T i → pieces t ≡ identifier_pieces i
       → pieces u ≡ identifier_pieces j → IdentifierStep VariantOrder i j → IdentifierTextStep T t u
 
 -- Chains.

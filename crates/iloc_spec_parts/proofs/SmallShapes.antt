@@ -80,7 +80,7 @@ pub no_normal_fields : (fs : Fields) → normal_fields fs ≡ [] → fs ≡ []
 no_normal_fields fs e = none_mapped (λ (f : Field). (lower f.0, normal_values f.1)) fs
     (none_there word_cmp word_cmp_total _ e)
 
-none_of_both : {X : Type 0} (xs ys : List X) → xs ++ ys ≡ [] → (xs ≡ []) × (ys ≡ [])
+pub none_of_both : {X : Type 0} (xs ys : List X) → xs ++ ys ≡ [] → (xs ≡ []) × (ys ≡ [])
 none_of_both [] ys e = (refl, e)
 none_of_both (x ∷ xs) ys e = absurd (cc)
 

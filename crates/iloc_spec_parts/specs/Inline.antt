@@ -5,9 +5,9 @@ use Rattle.std.specs.List.{AllByRecursion}
 use Rattle.std.specs.Char.{is_ascii_alphanumeric, to_ascii_lowercase}
 use Rattle.iloc_spec_grammar.specs.Syntax.{Text, LanguageLengths, Block, code_t, code_u, code_x, pieces}
 use Rattle.iloc_spec_grammar.specs.Syntax.{Language, IsWord, is_word, PrivateSubtag, first_piece}
-use Rattle.iloc_spec_grammar.specs.Syntax.{SpelledIdentifier, Identifier, identifier_pieces, IsIdentifier}
+use Rattle.iloc_spec_grammar.specs.Syntax.{Spelled, Meant, IdentifierOf, identifier_pieces, IsIdentifier}
 use Rattle.iloc_spec_grammar.specs.Syntax.{IsOther, kept, is_other_singleton}
-use Rattle.iloc_spec_grammar.specs.Meaning.{SpelledExtensions, IdentifierMeans, SpellsExtensions}
+use Rattle.iloc_spec_grammar.specs.Meaning.{ExtensionsOf, IdentifierMeans, SpellsExtensions}
 use Rattle.iloc_spec_grammar.specs.Meaning.{normal_identifier, normal_unicode, normal_values, normal_fields}
 use Rattle.iloc_spec_grammar.specs.Meaning.{head, tail_blocks, AreBlocks, IsSecond, RepeatsVariant}
 use Rattle.iloc_spec_grammar.specs.Reading.{passing, front_of, after_front}
@@ -17,8 +17,8 @@ use Rattle.iloc_spec_parts.specs.Fronts.{keywords_kept}
 -- The text is a locale with few words: no transform fields, no other extensions, one keyword at
 -- most, and at most four values besides `true` at each key as it is written.
 pub record IsInline (T : LanguageLengths) (t : Text) : Type 0 where
-  pub id : Identifier
-  pub extensions : SpelledExtensions
+  pub id : IdentifierOf Meant
+  pub extensions : ExtensionsOf Spelled
   pub means : IdentifierMeans T (head (pieces t)) id
   pub spelled : SpellsExtensions T (tail_blocks (pieces t)) extensions
   pub variants : length id.variants ≤ 4
@@ -73,6 +73,6 @@ ReachesLongBlock T bs = (good rest : List Block) × (c : ℕ) × (ps : List Text
 
 -- the head has four variants at most, and each block after it is short
 pub record IsInlineByBlocks (T : LanguageLengths) (t : Text) : Type 0 where
-  pub variants : (i : SpelledIdentifier) → IsIdentifier T i → head (pieces t) ≡ identifier_pieces i
-      → length i.variants ≤ 4
+  pub variants : (i : IdentifierOf Spelled) → IsIdentifier T i
+      → head (pieces t) ≡ identifier_pieces i → length i.variants ≤ 4
   pub short_blocks : AllByRecursion (IsShortBlock T) (tail_blocks (pieces t))

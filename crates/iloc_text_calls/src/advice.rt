@@ -29,7 +29,8 @@ pub(crate) fn tell_kinds<R: Room>(
 
 /// The set of kinds of this number; `None` if another bit is set.
 pub(crate) fn kinds_of(number: u32) -> Option<Expected>
-    ensures { (set : Expected) → (result ≡ Some set) ↔ ((number < 2 ^ 13) × (set ≡ kinds_of number)) }
+    ensures { (set : Expected)
+        → (result ≡ Some set) ↔ ((number < 2 ^ 13) × (set ≡ kinds_of number)) }
 {
     if number < NO_KINDS {
         Some(Expected {

@@ -12,7 +12,7 @@ use Rattle.iloc_transform.specs.LangReading.{HasFiveVariants}
 use Rattle.iloc_transform.specs.declared.transform.Transform.{Transform}
 
 -- the value of a transform
-abbrev pub value_of : Transform → written.Transform
+abbrev pub value_of : Transform → written.TransformOf written.Meant
 value_of m = record { id = option_map langid.value_of m.lang; fields = m.fields }
 
 -- memory may run out for a fifth variant, and for a field
