@@ -1,11 +1,16 @@
 //! Laws of the definition: what cleaning leaves as it is, and worked lines.
-ghost use Rattle.std.specs.Prelude.{◌≡◌, [], ◌∷◌, ◌++◌, codes};
+ghost use Rattle.std.specs.Prelude.{◌≡◌, ◌≤◌, [], ◌∷◌, ◌++◌, codes, length};
 ghost use Rattle.iloc_spec_grammar.specs.Syntax.{Text};
 ghost use Rattle.iloc_cleaning.specs.Cleaning.{IsClean, clean, without_mark};
 
 /// Cleaning changes nothing of a line that is clean. So a line in the form of UTS #35 stays.
 pub fn unchanged()
     ensures { (line : Text) → IsClean line → clean line ≡ line }
+{}
+
+/// Cleaning makes no line longer. So a room as long as the line is enough for what is left of it.
+pub fn never_longer()
+    ensures { (line : Text) → length (clean line) ≤ length line }
 {}
 
 /// Worked lines. Only one CR is left out, so what is cleaned is not always clean.

@@ -19,7 +19,8 @@
 //!
 //! A fault in a cleaned line is found in the cleaned text: its place counts the bytes of that, not of the line.
 //!
-//! It promises nothing of what the library then answers, and stands on the grammar's word for a text.
+//! No line becomes longer (law `never_longer`). It promises nothing of what the library then answers, and stands on the grammar's word
+//! for a text.
 #![tactic(auto)]
 
 ghost use Rattle.std.specs.Prelude.{◌≡◌, ◌<◌, ◌≤◌, ◌++◌, MatchOption, OnOk, OnErr, length, take};
@@ -48,7 +49,7 @@ pub fn without_mark(text: &[u8]) -> &[u8]
     }
 }
 
-/// Adds what cleaning leaves of a line, without its newline: at most nine bytes more than the line has.
+/// Adds what cleaning leaves of a line, without its newline: no more bytes than the line has.
 ///
 /// ```text
 /// en_US.UTF-8: en-US
@@ -75,7 +76,7 @@ pub fn clean_line(line: &[u8], cleaned: &mut Vec<u8>) -> Result<(), AllocError>
 /// Writes what cleaning leaves of a line, without its newline, to the front of a room, and gives how many bytes that is; `None`
 /// if it does not fit. Behind them the room may have changed.
 ///
-/// It allocates nothing, and is otherwise `clean_line`.
+/// It allocates nothing, and is otherwise `clean_line`. A room as long as the line is enough (law `never_longer`).
 ///
 /// ```text
 /// clean_into(b"en_US.UTF-8", &mut room): Some(5), and en-US at the front of the room
