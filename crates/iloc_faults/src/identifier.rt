@@ -11,6 +11,7 @@ use iloc_normalize::Mode;
 use iloc_pieces::left::{Left, is_region, is_script, is_variant};
 
 // Whether the piece, a variant, may follow the variants before it: it is none of them, and a data locale has one at most.
+#[inline(always)]
 fn is_new(mode: Mode, variants: Option<usize>, at: Left<'_>) -> bool
     requires word { IsWord Variant (piece_left at) }
     requires before { (vs : List Text) × AreVariantsRead variants at vs }
@@ -27,6 +28,7 @@ fn is_new(mode: Mode, variants: Option<usize>, at: Left<'_>) -> bool
 }
 
 // How many variants from the piece on are new.
+#[inline(always)]
 fn count_left<R: Room>(room: R, variants: Option<usize>, at: Left<'_>) -> usize
     ensures { (vs : List Text) → AreVariantsRead variants at.entry vs
         → AreNew are_same vs (map lower (variants_left at.entry)) result }
@@ -38,6 +40,7 @@ fn count_left<R: Room>(room: R, variants: Option<usize>, at: Left<'_>) -> usize
 }
 
 // What was read once the piece is read too, after a region.
+#[inline(always)]
 fn read_variant<R: Room>(
     room: R,
     mode: Mode,
@@ -58,6 +61,7 @@ fn read_variant<R: Room>(
 }
 
 // What was read once the piece is read too, after a script.
+#[inline(always)]
 fn read_region<R: Room>(room: R, mode: Mode, at: Left<'_>) -> Option<(Stage, Option<usize>)>
     ensures { IsWordRead at.entry (after_script_next mode [] (piece_left at.entry)) result }
 {
@@ -69,6 +73,7 @@ fn read_region<R: Room>(room: R, mode: Mode, at: Left<'_>) -> Option<(Stage, Opt
 
 /// What was read of an identifier once the piece is read too, and its first variant; `None` if the piece may not come
 /// next.
+#[inline(always)]
 pub fn read_word<R: Room>(
     room: R,
     mode: Mode,

@@ -90,6 +90,7 @@ pub fn fault_in<R: Room>(room: R, mode: Mode, text: &[u8]) -> Option<Fault>
 /// ```text
 /// place_in(InMemory(alloc), Mode::Locale, window) // Some((3, 6)), if its text is `en-foo`
 /// ```
+#[inline(always)]
 pub fn place_in<R: Room>(room: R, mode: Mode, text: Window<'_>) -> Option<(usize, usize)>
     ensures accepted { (result ≡ None) ↔ IsAccepted mode (text_in text.entry) }
     ensures refused { IfSome result (λ p. IsFaultPlace mode (text_in text.entry) p.0 p.1) }

@@ -169,6 +169,7 @@ fn count_by<const N: usize>(first: Left<'_>, all: usize) -> usize
 /// How many of the variants from the piece on come before one that repeats an earlier one, or before the end of them.
 ///
 /// It takes time in proportion to their number and its logarithm. More than 16,384 of them are kept in the room.
+#[inline(never)]
 pub fn count_new<R: Room>(room: R, first: Left<'_>) -> usize
     ensures { AreNew are_same [] (map lower (variants_left first.entry)) result }
 {

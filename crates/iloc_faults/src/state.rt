@@ -60,7 +60,7 @@ pub struct State {
 }
 
 /// Whether a text may end after the part.
-#[inline]
+#[inline(always)]
 pub fn may_end(part: Part) -> bool
     ensures { result ≡ may_end part }
 {
@@ -78,7 +78,7 @@ pub fn may_end(part: Part) -> bool
 }
 
 /// Whether a piece of one byte is no singleton after the part: at the beginning, and after `x`.
-#[inline]
+#[inline(always)]
 pub fn takes_any(part: Part) -> bool
     ensures { result ≡ takes_any part }
 {

@@ -35,6 +35,7 @@ fn read_subdivision(at: Left<'_>) -> Option<Part>
 }
 
 // Whether the piece is `sd`, in whatever case.
+#[inline(always)]
 fn is_sd(at: Left<'_>) -> bool
     ensures { result ≡ is_same (lower (piece_left at.entry)) (codes "sd") }
 {
@@ -48,7 +49,7 @@ fn is_sd(at: Left<'_>) -> bool
 }
 
 // The part, if this holds.
-#[inline]
+#[inline(always)]
 fn when(holds: bool, part: Part) -> Option<Part>
     ensures { result ≡ when holds part }
 {
@@ -56,6 +57,7 @@ fn when(holds: bool, part: Part) -> Option<Part>
 }
 
 // What was read once a piece of a block is read too.
+#[inline(always)]
 fn read_piece(part: Part, at: Left<'_>) -> Option<Part>
     ensures { result ≡ piece_next part (piece_left at.entry) }
 {
@@ -85,7 +87,7 @@ fn read_piece(part: Part, at: Left<'_>) -> Option<Part>
 }
 
 // The state with this part, and no variants.
-#[inline]
+#[inline(always)]
 fn plain(seen: u64, part: Option<Part>) -> Option<State>
     ensures { result ≡ option_map (bare seen) part }
 {
@@ -100,6 +102,7 @@ fn plain(seen: u64, part: Option<Part>) -> Option<State>
 }
 
 // What was read once a piece is read that begins no block.
+#[inline(always)]
 fn read_inside<R: Room>(room: R, mode: Mode, state: State, at: Left<'_>) -> Option<State>
     requires { (vs : List Text) × (seen : List ℕ) × IsRead state at vs seen }
     ensures { (vs : List Text) (seen : List ℕ) → IsRead state at.entry vs seen
@@ -141,7 +144,7 @@ fn read_inside<R: Room>(room: R, mode: Mode, state: State, at: Left<'_>) -> Opti
 }
 
 // The bit of a singleton, in lower case.
-#[inline]
+#[inline(always)]
 fn bit_of(byte: u8) -> u64
     requires letter { is_ascii_alphanumeric byte ≡ true }
     requires low { to_ascii_lowercase byte ≡ byte }
@@ -155,7 +158,7 @@ fn bit_of(byte: u8) -> u64
 }
 
 // What was read with the singleton, in lower case.
-#[inline]
+#[inline(always)]
 fn part_of(byte: u8) -> Part
     ensures { result ≡ part_of byte }
 {
@@ -168,7 +171,7 @@ fn part_of(byte: u8) -> Part
 }
 
 // Whether a block may begin with the piece after the part: it is a letter or digit.
-#[inline]
+#[inline(always)]
 fn may_begin(part: Part, at: Left<'_>) -> bool
     requires { is_one_byte (piece_left at) ≡ true }
     ensures { result ≡ may_begin part (slice_index (piece_left at.entry) 0) }
@@ -177,6 +180,7 @@ fn may_begin(part: Part, at: Left<'_>) -> bool
 }
 
 // What was read with the singleton of a locale too, if a block may begin with it.
+#[inline(always)]
 fn read_block(state: State, at: Left<'_>) -> Option<State>
     requires { is_one_byte (piece_left at) ≡ true }
     ensures { (vs : List Text) (seen : List ℕ) → IsRead state at.entry vs seen
@@ -199,6 +203,7 @@ fn read_block(state: State, at: Left<'_>) -> Option<State>
 }
 
 // What was read with the singleton of a data locale too: `u` alone, after the identifier.
+#[inline(always)]
 fn read_data_block(state: State, at: Left<'_>) -> Option<State>
     requires { is_one_byte (piece_left at) ≡ true }
     ensures { (vs : List Text) (seen : List ℕ) → IsRead state at.entry vs seen
@@ -212,6 +217,7 @@ fn read_data_block(state: State, at: Left<'_>) -> Option<State>
 }
 
 // What was read with the singleton too, in the mode.
+#[inline(always)]
 fn read_singleton(mode: Mode, state: State, at: Left<'_>) -> Option<State>
     requires { is_one_byte (piece_left at) ≡ true }
     ensures { (vs : List Text) (seen : List ℕ) → IsRead state at.entry vs seen
@@ -226,7 +232,7 @@ fn read_singleton(mode: Mode, state: State, at: Left<'_>) -> Option<State>
 }
 
 // Whether the piece begins a block after the part.
-#[inline]
+#[inline(always)]
 fn begins_block(part: Part, at: Left<'_>) -> bool
     ensures { result ≡ begins_block part (piece_left at.entry) }
 {
@@ -234,6 +240,7 @@ fn begins_block(part: Part, at: Left<'_>) -> bool
 }
 
 /// What was read with the piece too; `None` if the piece may not come next.
+#[inline(always)]
 pub fn step<R: Room>(room: R, mode: Mode, state: State, at: Left<'_>) -> Option<State>
     requires { (vs : List Text) × (seen : List ℕ) × IsRead state at vs seen }
     ensures { (vs : List Text) (seen : List ℕ) → IsRead state at.entry vs seen
@@ -247,6 +254,7 @@ pub fn step<R: Room>(room: R, mode: Mode, state: State, at: Left<'_>) -> Option<
 }
 
 /// Why the piece, which may not come next, is refused.
+#[inline(always)]
 pub fn refusal(mode: Mode, part: Part, at: Left<'_>) -> ParseError
     ensures { result ≡ error_of (steps.piece_fault mode part (piece_left at.entry)) }
 {

@@ -16,6 +16,7 @@ use iloc_pieces::left::{Left, is_last, left_in, next};
 use iloc_subtags::ParseError;
 
 // Where the piece ends.
+#[inline(always)]
 fn end_of(at: Left<'_>) -> usize
     ensures { result ≡ at.entry.at + length (piece_left at.entry) }
 {
@@ -32,6 +33,7 @@ fn end_of(at: Left<'_>) -> usize
 
 /// Why the first bytes of the window are refused as an identifier or a locale, and the place of their fault; `None` if they
 /// are accepted. Of a data locale the place alone counts.
+#[inline(always)]
 pub fn walk<R: Room>(room: R, mode: Mode, window: &[u8], len: usize) -> Option<Fault>
     requires { len ≤ length window.now }
     ensures good { result ≡ None

@@ -92,3 +92,13 @@ not_true false e = refl
 pub not_false : (b : Bool) → not b ≡ false → b ≡ true
 not_false true e = refl
 not_false false e = cc
+
+-- an entry from its columns
+pub columns : (a a' b b' c c' : Text) → a ≡ a' → b ≡ b' → c ≡ c' →
+    a ++ (b ++ (c ++ 10 ∷ [])) ≡ a' ++ ((b' ++ c') ++ 10 ∷ [])
+columns a a' b b' c c' e f g = (λ j. e j ++ (f j ++ (g j ++ 10 ∷ [])))
+    ∙ ap (λ (t : Text). a' ++ t) (sym (append_assoc b' c' (10 ∷ [])))
+
+-- and if they are added one after the other
+pub one_by_one : (h a b c : Text) → (((h ++ a) ++ b) ++ c) ++ 10 ∷ [] ≡ h ++ (a ++ ((b ++ c) ++ 10 ∷ []))
+one_by_one h a b c = simp append_assoc

@@ -9,15 +9,16 @@ ghost use Rattle.iloc_program.specs.Listing.{number_column, place_columns, IsEnt
 
 use crate::lines::answer_in;
 use crate::numbered::{Listing, Lists};
-use crate::quoting::{write_decimal, write_piece, write_range};
-use crate::replies::{write_reason, write_refusal};
+use crate::quoting::{escaped_in, short_range, write_decimal, write_range, write_shown};
+use crate::replies::{reason_of, write_refusal};
 use crate::{InMode, ReplyBlock};
 use iloc_faults::{Fault, InMemory, place_in};
 use iloc_normalize::Mode;
-use iloc_pieces::Window;
+use iloc_pieces::{Window, before_marked};
 use iloc_spans::spans::Spans;
 use iloc_subtags::ParseError;
 use std::alloc::{AllocError, Global};
+use std::simd::prelude::*;
 
 /// Answers lines in the mode of these answers, and lists what becomes of them. It keeps its room from line to line.
 #[derive(Drop)]
@@ -109,7 +110,7 @@ fn write_number(listing: Listing, number: u64, replies: &mut ReplyBlock) -> Resu
     replies.push(b'\t')
 }
 
-// Adds the refusal and the place of a fault, and a newline.
+// Adds the refusal and the place of a fault, and a newline. Most are few plain bytes, and are stored at once.
 #[inline(always)]
 fn write_placed(line: Window<'_>, fault: &Fault, replies: &mut ReplyBlock) -> Result<(), AllocError>
     requires { StandsWithin (text_in line) fault.now }
@@ -117,7 +118,32 @@ fn write_placed(line: Window<'_>, fault: &Fault, replies: &mut ReplyBlock) -> Re
         ≡ held replies.old ++ (refusal_text fault.now.refusal
         ++ (place_columns (text_in line.entry) fault.now ++ 10 ∷ []))) }
 {
-    write_reason(&fault.refusal, replies)?;
-    write_range(fault.start, fault.end, replies)?;
-    write_piece(line, fault.start, fault.end, replies)
+    let Some((words, count)) = reason_of(&fault.refusal) else {
+        return Err(AllocError);
+    };
+    let lanes = u8x16::from_slice(&line.bytes[fault.start..]);
+    let len = fault.end - fault.start;
+    if fault.end >= 100 || len > before_marked(escaped_in(lanes)) {
+        return write_long(&words[..count], line, fault, replies);
+    }
+    let (range, width) = short_range(fault.start as u64, fault.end as u64);
+    replies.push_columns(words, count, range, width, *lanes.as_array(), len)
+}
+
+// The same behind these words, one after the other.
+#[inline(never)]
+fn write_long(
+    words: &[u8],
+    line: Window<'_>,
+    fault: &Fault,
+    replies: &mut ReplyBlock,
+) -> Result<(), AllocError>
+    requires { StandsWithin (text_in line) fault.now }
+    ensures { OnOk result (held replies.new
+        ≡ held replies.old ++ (words.now ++ (place_columns (text_in line.entry) fault.now ++ 10 ∷ []))) }
+{
+    replies.extend_from_slice(words)?;
+    write_range(fault.start as u64, fault.end as u64, replies)?;
+    write_shown(&line.bytes[fault.start..fault.end], replies)?;
+    replies.push(b'\n')
 }

@@ -1,15 +1,12 @@
 //! Laws of the definitions: the answers to lines and the output for an input are those that the grammar allows; what is
 //! written for an input is one text, and without options the output.
-ghost use Rattle.std.specs.Prelude.{◌≡◌, ◌≢◌, ◌<◌, All, [], ◌∷◌, ◌++◌, length, codes, map};
+ghost use Rattle.std.specs.Prelude.{◌≡◌, ◌≢◌, ◌<◌, ℕ, All, [], ◌∷◌, ◌++◌, length, codes, map};
 ghost use Rattle.iloc_spec_grammar.specs.Syntax.{Text, LanguageLengths, AreLengths, languages};
 ghost use Rattle.iloc_program.specs.Lines.{IsOneLine, ReadsEnded, ReadsOpen, IsEndedOrOpen, lines_of};
 ghost use Rattle.iloc_program.specs.Answers.{IsAnswer, IsOutput, line_answer, reply, output};
 ghost use Rattle.iloc_normalize.specs.Modes.{IsNormalText};
 ghost use Rattle.iloc_normalize.specs.declared.Mode.{Mode};
 ghost use Rattle.iloc_normalize.specs.declared.Mode.TheVariants.{Langid, Locale, Data};
-ghost use Rattle.std.specs.Prelude.{◌≡◌, ℕ};
-ghost use Rattle.iloc_spec_grammar.specs.Syntax.{Text, languages};
-ghost use Rattle.iloc_program.specs.Answers.{IsOutput};
 ghost use Rattle.iloc_program.specs.Numbered.{IsListing};
 ghost use Rattle.iloc_program.specs.declared.numbered.Listing.{Listing};
 ghost use Rattle.iloc_program.specs.Listing.{IsEntry, nothing_asked};

@@ -178,20 +178,23 @@ fn reply_as(
     }
 }
 
-// The same as `lead_of`, in a mode that is only known when it runs.
-#[inline(always)]
-fn lead_in(mode: Mode, line: Window<'_>) -> Lead
-    ensures { IsLead mode (text_in line.entry) result }
+// Adds the normal text of the line and a newline, or returns why it is refused. The call is one for all modes.
+#[inline(never)]
+fn answer_read(
+    mode: Mode,
+    line: Window<'_>,
+    spans: &mut Spans,
+    replies: &mut ReplyBlock,
+) -> Result<Option<ParseError>, AllocError>
+    ensures { IfOk result
+        (AnswersLine mode (text_in line.entry) (held replies.old) (held replies.new)) }
 {
-    match read_found(mode, line) {
-        Some(found) => found,
-        None => read_lead(mode, line),
-    }
+    let lead = read_lead(mode, line);
+    answer_as(mode, lead, line, spans, replies)
 }
 
-// Adds the normal text of the line and a newline, or returns why it is refused. The mode is only known when it runs. So
-// the call is one for all modes, and for all who do not answer line by line in place.
-#[inline(never)]
+// The same, without that call where the line is plain, or where what is asked first refuses it.
+#[inline(always)]
 pub(crate) fn answer_in(
     mode: Mode,
     line: Window<'_>,
@@ -208,8 +211,10 @@ pub(crate) fn answer_in(
         replies.push_plain(&plain)?;
         return Ok(None);
     }
-    let lead = lead_in(mode, line);
-    answer_as(mode, lead, line, spans, replies)
+    if let Some(Lead::Refused(refusal)) = read_found(mode, line) {
+        return Ok(Some(refusal));
+    }
+    answer_read(mode, line, spans, replies)
 }
 
 // Adds the reply to the line, in a mode that is only known when it runs.

@@ -2,12 +2,10 @@
 ghost use Rattle.std.specs.Prelude.{◌≡◌, ◌+◌, ◌-◌, ◌<◌, ◌≤◌, [], ◌∷◌, ◌++◌, true, false, length, take, drop, map, OnOk};
 ghost use Rattle.std.specs.Fmt.{decimal, digit_glyph};
 ghost use Rattle.std.specs.Simd.Lanes.{mask_l};
-ghost use Rattle.iloc_pieces.specs.Window.{text_in};
 ghost use Rattle.iloc_program.specs.ReplyBlock.{held};
 ghost use Rattle.iloc_program.specs.Listing.{is_escaped, range_column, shown, shown_byte};
 
 use crate::ReplyBlock;
-use iloc_pieces::{Window, before_marked};
 use itoa::Buffer;
 use std::alloc::AllocError;
 use std::simd::prelude::*;
@@ -47,34 +45,27 @@ fn unit(number: u64) -> u8
     b'0' + number as u8
 }
 
-/// Adds a tab, a range of bytes as `3..6`, and a tab. Most ranges lie within the first hundred bytes, and are stored at once.
+/// A tab, a range within the first hundred bytes as `3..6`, and a tab; and how many bytes these are.
 #[inline(always)]
-pub(crate) fn write_range(
-    start: usize,
-    end: usize,
-    replies: &mut ReplyBlock,
-) -> Result<(), AllocError>
-    requires { start ≤ end }
-    ensures { OnOk result (held replies.new ≡ held replies.old ++ range_column start end) }
+pub(crate) fn short_range(from: u64, to: u64) -> ([u8; 8], usize)
+    requires ordered { from ≤ to }
+    requires short { to < 100 }
+    ensures within { result.1 ≤ 8 }
+    ensures text { take result.1 result.0 ≡ range_column from to }
 {
-    let (from, to) = (start as u64, end as u64);
     if to < 10 {
-        return replies.push_first([b'\t', unit(from), b'.', b'.', unit(to), b'\t'], 6);
-    }
-    if to >= 100 {
-        return write_long_range(from, to, replies);
+        return ([b'\t', unit(from), b'.', b'.', unit(to), b'\t', 0, 0], 6);
     }
     let (tens, units) = (unit(to / 10), unit(to % 10));
     if from < 10 {
-        return replies.push_first([b'\t', unit(from), b'.', b'.', tens, units, b'\t', 0], 7);
+        return ([b'\t', unit(from), b'.', b'.', tens, units, b'\t', 0], 7);
     }
     let (first, second) = (unit(from / 10), unit(from % 10));
-    replies.push_first([b'\t', first, second, b'.', b'.', tens, units, b'\t'], 8)
+    ([b'\t', first, second, b'.', b'.', tens, units, b'\t'], 8)
 }
 
-// The same of a range that ends later.
-#[inline(never)]
-fn write_long_range(from: u64, to: u64, replies: &mut ReplyBlock) -> Result<(), AllocError>
+/// Adds a tab, any range, and a tab.
+pub(crate) fn write_range(from: u64, to: u64, replies: &mut ReplyBlock) -> Result<(), AllocError>
     ensures { OnOk result (held replies.new ≡ held replies.old ++ range_column from to) }
 {
     replies.push(b'\t')?;
@@ -84,31 +75,9 @@ fn write_long_range(from: u64, to: u64, replies: &mut ReplyBlock) -> Result<(), 
     replies.push(b'\t')
 }
 
-/// Adds some bytes of a line as they are shown, and a newline. Most are few and plain, and are stored at once.
+/// A bit for each of sixteen bytes that is not shown as itself.
 #[inline(always)]
-pub(crate) fn write_piece(
-    line: Window<'_>,
-    start: usize,
-    end: usize,
-    replies: &mut ReplyBlock,
-) -> Result<(), AllocError>
-    requires ordered { start ≤ end }
-    requires within { end ≤ length (text_in line) }
-    ensures { OnOk result (held replies.new ≡ held replies.old
-        ++ (shown (take (end - start) (drop start (text_in line.entry))) ++ 10 ∷ [])) }
-{
-    let lanes = u8x16::from_slice(&line.bytes[start..]);
-    let count = end - start;
-    if count <= before_marked(escaped_in(lanes)) {
-        return replies.push_line(*lanes.as_array(), count);
-    }
-    write_shown(&line.bytes[start..end], replies)?;
-    replies.push(b'\n')
-}
-
-// A bit for each of sixteen bytes that is not shown as itself.
-#[inline(always)]
-fn escaped_in(lanes: u8x16) -> u64
+pub(crate) fn escaped_in(lanes: u8x16) -> u64
     ensures { result ≡ mask_l (map is_escaped lanes) }
 {
     let unprinted = (lanes - u8x16::splat(32)).simd_ge(u8x16::splat(95));

@@ -1,5 +1,5 @@
 //! What is replied to a line that is refused.
-ghost use Rattle.std.specs.Prelude.{◌≡◌, ◌≢◌, [], ◌∷◌, ◌++◌, OnOk};
+ghost use Rattle.std.specs.Prelude.{◌≡◌, ◌≢◌, ◌≤◌, [], ◌∷◌, ◌++◌, take, IfSome, OnOk};
 ghost use Rattle.iloc_program.specs.ReplyBlock.{held};
 ghost use Rattle.iloc_program.specs.Answers.{refusal_text};
 
@@ -23,17 +23,18 @@ pub(crate) fn write_refusal(error: ParseError, replies: &mut ReplyBlock) -> Resu
     }
 }
 
-// Adds why a line has no answer.
+// The words that say why a line has no answer, and how many of their bytes count. That an allocation fails is no answer.
 #[inline(always)]
-pub(crate) fn write_reason(error: &ParseError, replies: &mut ReplyBlock) -> Result<(), AllocError>
-    ensures { OnOk result (held replies.new ≡ held replies.old ++ refusal_text error.now) }
+pub(crate) fn reason_of(error: &ParseError) -> Option<(&'static [u8; 48], usize)>
+    ensures within { IfSome result (λ r. r.1 ≤ 48) }
+    ensures text { IfSome result (λ r. take r.1 r.0.now ≡ refusal_text error.now) }
 {
     match error {
-        ParseError::InvalidLanguage => replies.push_first(*INVALID_LANGUAGE, 38),
-        ParseError::InvalidSubtag => replies.push_first(*INVALID_SUBTAG, 16),
-        ParseError::InvalidExtension => replies.push_first(*INVALID_EXTENSION, 19),
-        ParseError::DuplicatedExtension => replies.push_first(*DUPLICATED_EXTENSION, 22),
-        _ => Err(AllocError),
+        ParseError::InvalidLanguage => Some((INVALID_LANGUAGE, 38)),
+        ParseError::InvalidSubtag => Some((INVALID_SUBTAG, 16)),
+        ParseError::InvalidExtension => Some((INVALID_EXTENSION, 19)),
+        ParseError::DuplicatedExtension => Some((DUPLICATED_EXTENSION, 22)),
+        ParseError::OutOfMemory => None,
     }
 }
 

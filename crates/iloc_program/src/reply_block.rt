@@ -102,14 +102,27 @@ impl ReplyBlock {
         Ok(())
     }
 
-    /// Adds the first of these bytes and a newline, and stores all of them.
+    /// Adds the first bytes of three columns and a newline, and stores all of them.
     #[inline(always)]
-    pub(crate) fn push_line(&mut self, text: [u8; 16], len: usize) -> Result<(), AllocError>
-        requires { len ≤ 16 }
-        ensures { OnOk result (held self.new ≡ held self.old ++ (take len text ++ 10 ∷ [])) }
+    pub(crate) fn push_columns(
+        &mut self,
+        words: &[u8; 48],
+        words_len: usize,
+        range: [u8; 8],
+        range_len: usize,
+        piece: [u8; 16],
+        piece_len: usize,
+    ) -> Result<(), AllocError>
+        requires words { words_len ≤ 48 }
+        requires range { range_len ≤ 8 }
+        requires piece { piece_len ≤ 16 }
+        ensures { OnOk result (held self.new ≡ held self.old ++ (take words_len words.now
+            ++ (take range_len range ++ (take piece_len piece ++ 10 ∷ [])))) }
     {
-        self.make_room(17)?;
-        self.put(&text, len);
+        self.make_room(73)?;
+        self.put(words, words_len);
+        self.put(&range, range_len);
+        self.put(&piece, piece_len);
         self.put(b"\n", 1);
         Ok(())
     }

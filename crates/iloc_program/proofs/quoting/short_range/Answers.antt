@@ -1,0 +1,29 @@
+use Rattle.std.proofs.Common.{sym, arith}
+use Rattle.iloc_program.proofs.DigitLemmas.{one_digit, two_digits, range_of}
+use Rattle.iloc_program.proofs.quoting.short_range.Goals as goal
+
+pub returns-then-to-lt10-clause-text : goal.returns-then-to-lt10-clause-text
+returns-then-to-lt10-clause-text c =
+    let m = c.args.from in
+    let n = c.args.to in
+    sym (range_of m n (one_digit m c.unit.result (omega arith) c.unit.ensures)
+    (one_digit n c.unit-then-to-lt10.result (omega arith) c.unit-then-to-lt10.ensures))
+
+pub returns-then-from-lt10-clause-text : goal.returns-then-from-lt10-clause-text
+returns-then-from-lt10-clause-text c =
+    let m = c.args.from in
+    let n = c.args.to in
+    let from = one_digit m c.unit-then-from-lt10.result (omega arith) c.unit-then-from-lt10.ensures in
+    let to = two_digits n c.unit-tens.result c.unit-units.result (omega arith) (omega arith)
+    c.unit-tens.ensures c.unit-units.ensures in
+    sym (range_of m n from to)
+
+pub returns-clause-text : goal.returns-clause-text
+returns-clause-text c =
+    let m = c.args.from in
+    let n = c.args.to in
+    let from = two_digits m c.unit-first.result c.unit-second.result (omega arith) (omega arith)
+    c.unit-first.ensures c.unit-second.ensures in
+    let to = two_digits n c.unit-tens.result c.unit-units.result (omega arith) (omega arith)
+    c.unit-tens.ensures c.unit-units.ensures in
+    sym (range_of m n from to)
