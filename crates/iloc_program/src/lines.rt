@@ -159,25 +159,6 @@ fn answer_as(
     }
 }
 
-// Adds the reply to the line, of which the beginning shows this.
-#[inline(always)]
-fn reply_as(
-    mode: Mode,
-    lead: Lead,
-    line: Window<'_>,
-    spans: &mut Spans,
-    replies: &mut ReplyBlock,
-) -> Result<(), AllocError>
-    requires { IsLead mode (text_in line) lead }
-    ensures { OnOk result (held replies.new
-        ≡ held replies.old ++ reply languages mode (text_in line.entry)) }
-{
-    match answer_as(mode, lead, line, spans, replies)? {
-        Some(error) => write_refusal(error, replies),
-        None => Ok(()),
-    }
-}
-
 // Adds the normal text of the line and a newline, or returns why it is refused. The call is one for all modes.
 #[inline(never)]
 fn answer_read(
@@ -290,7 +271,10 @@ fn reply_to<A: InMode>(
         return replies.push_plain(&plain);
     }
     let lead = lead_of(answers, line);
-    reply_as(answers.mode(), lead, line, spans, replies)
+    match answer_as(answers.mode(), lead, line, spans, replies)? {
+        Some(error) => write_refusal(error, replies),
+        None => Ok(()),
+    }
 }
 
 // Adds the replies to the lines that these bytes end, if nothing is pending, and keeps the start of
