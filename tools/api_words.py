@@ -235,7 +235,8 @@ OWN_CALLS = {
     **dict.fromkeys((
         "extend_from_map item_mut try_from_raw_v1 from_piece to_piece from_word is_well_formed "
         "union write_short_piece lm_empty lm_pairs lm_value_mut lm_from_vec "
-        "push_in insert_in with_capacity reserve"
+        "push_in insert_in push_subtag_in extend_in from_subtags_in try_from_utf8_in try_from_str_in "
+        "with_capacity reserve"
     ).split(), ""),
     "unknown": "the constant UNKNOWN",
     "from_vec": "From<Vec<T>>",

@@ -31,6 +31,7 @@ pub use Rattle.iloc_langid.specs.Normalizing as IdentifierNormalizing
 pub use Rattle.iloc_langid.specs.SmallLocaleReads
 pub use Rattle.iloc_word_list.specs.Values as UnicodeValues
 pub use Rattle.iloc_word_list.specs.Reads as UnicodeValueReads
+pub use Rattle.iloc_word_list.specs.Room as UnicodeValueRoom
 pub use Rattle.iloc_unicode.specs.Reads as UnicodePartReads
 pub use Rattle.iloc_other.specs.Reading as OtherReading
 pub use Rattle.iloc_keyword_types.specs.Reads as KeywordReads

@@ -5,5 +5,6 @@ pub mod CurrencyLemmas
 mod CutLemmas
 mod PrintLemmas
 mod ReadingLemmas
+mod RoomLemmas
 mod WholeLemmas
 mod OwedLemmas

@@ -46,9 +46,9 @@ module _ (k : Kind) (before now value : List Text) (t : Valued k before now valu
         sym (ap (past (is_word k)) cut ∙ ap (λ b. cond b (past (is_word k) later) (p ∷ later)) h) ∙ t.skips;
   }
 
-  -- where memory was refused, more than four words besides `true` stand there
-  pub valued_many : is_true w ≡ false → 4 ≤ length value → length (without_true (words_read k before)) ≤ 4 → ⊥
-  valued_many other many few =
+  -- the value and this word are among all words besides `true`
+  pub valued_room : is_true w ≡ false → length value + 1 ≤ length (without_true (words_read k before))
+  valued_room other =
       let front : without_true (words_read k now) ≡ w ∷ without_true (words_read k later) =
       ap without_true words_now
       ∙ ap (λ b. cond (not b) (w ∷ without_true (words_read k later)) (without_true (words_read k later)))

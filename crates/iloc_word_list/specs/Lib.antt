@@ -5,4 +5,5 @@ pub mod Equality
 pub mod EqualityLaws
 pub mod Reads
 pub mod Refusals
+pub mod Room
 pub mod Values

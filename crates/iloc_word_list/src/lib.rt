@@ -10,11 +10,14 @@
 //! `Value` is the value of a keyword. Readers and printers are those of UTS #35, section 3.2 (`ufield`): the
 //! pieces in lower case, without `true`, which is what an empty value stands for.
 //!
+//! What may grow has a form for any memory, such as `push_in` of `push`. It runs out of memory only if that memory refused
+//! room for at most all the subtags.
+//!
 //! Why the type of a keyword refuses a value (`PreferencesParseError`), and currencies as values, stand here
 //! too: the conversions of types of other crates into values and back can stand nowhere else.
 //!
 //! It stands on `iloc_spec_grammar` and `iloc_spec_parts` (definitions), `iloc_subtags` (subtags and pieces), `iloc_shortvec`
-//! (lists that keep four items in place) and `iloc_writeable` (printing).
+//! (lists that keep four items in place), `iloc_memory` (what is asked for room) and `iloc_writeable` (printing).
 #![tactic(auto)]
 
 ghost use Rattle.std.specs.Prelude.{◌≡◌, ◌↔◌, List, IsTrue};

@@ -1,5 +1,5 @@
 //! A list of subtags.
-ghost use Rattle.std.specs.Prelude.{◌≡◌, ◌<◌, ◌≤◌, ◌↔◌, ℕ, List, [], ◌∷◌, ◌++◌, length, remove, take, slice_get, OnOk, OnErr, IfOk, IsOk, IsTrue, IsSome, IfSome, true, Ok, option_to_list};
+ghost use Rattle.std.specs.Prelude.{◌≡◌, ◌<◌, ◌≤◌, ◌↔◌, ◌+◌, ℕ, List, [], ◌∷◌, ◌++◌, length, remove, take, slice_get, OnOk, OnErr, IfOk, IsOk, IsTrue, IsSome, IfSome, true, Ok, option_to_list};
 ghost use Rattle.std.specs.List.{AllByRecursion};
 ghost use Rattle.std.specs.Iterator.{IsFiniteIterable, Drains};
 ghost use Rattle.std.specs.Option.{option_copied};
@@ -7,12 +7,15 @@ ghost use Rattle.std.specs.Cmp.Rules.{comparing};
 ghost use Rattle.std.proofs.Common.{rules};
 ghost use Rattle.iloc_spec_grammar.specs.Syntax.{Text, Subtag, is_true};
 ghost use Rattle.iloc_spec_grammar.specs.Values.{IsNormal};
+ghost use Rattle.iloc_memory.specs.Refusals.{RefusedWithin};
 ghost use Rattle.iloc_shortvec.specs.ShortList.{only_of};
 ghost use Rattle.iloc_word_list.specs.Equality.{words_eq};
 ghost use Rattle.iloc_word_list.specs.EqualityLaws.{words_exact, alike};
+ghost use Rattle.iloc_word_list.specs.Room.{RefusedAmong};
 ghost use Rattle.iloc_word_list.specs.Values.{without_true, with_subtag};
 
 use crate::word_list::WordList;
+use iloc_memory::Memory;
 use iloc_shortvec::ShortWordsIntoIter;
 use iloc_subtags::{Subtag, SubtagKind, WordKind, WordOf};
 use std::alloc::{AllocError, Global};
@@ -104,10 +107,21 @@ impl Value {
         ensures succeeds { length self.old < 4 → IsOk result }
         ensures ignores { is_true subtag ≡ true → IsOk result }
     {
+        self.push_subtag_in(alloc, subtag)
+    }
+
+    /// As `push_subtag`, from any memory. Refusal: `AllocError`, only if room for at most all the subtags was refused.
+    pub fn push_subtag_in<M: Memory>(&mut self, memory: M, subtag: Subtag) -> Result<(), AllocError>
+        ensures ok { OnOk result (self.new ≡ with_subtag self.old subtag) }
+        ensures err { OnErr result (self.new ≡ self.old) }
+        ensures succeeds { length self.old < 4 → IsOk result }
+        ensures ignores { is_true subtag ≡ true → IsOk result }
+        ensures out_of_memory { OnErr result (RefusedWithin M.refused (length self.old + 1)) }
+    {
         if spells_true(&subtag) {
             return Ok(());
         }
-        self.subtags.push(alloc, subtag)
+        self.subtags.push_in(memory, subtag)
     }
 
     /// The value of at most one subtag; `true` gives the empty value.
@@ -154,8 +168,26 @@ impl Value {
             (λ v. (it : I.IntoIter) × I.into_iter_gives iter it
             × Drains I.IntoIter.next_gives it v) }
     {
+        Self::from_subtags_in(alloc, iter)
+    }
+
+    /// As `from_subtags`, from any memory. Refusal: `AllocError`, only if room for at most the items was refused.
+    pub fn from_subtags_in<M: Memory, I: IntoIterator<Item = Subtag>>(
+        memory: M,
+        iter: I,
+    ) -> Result<Self, AllocError>
+    where
+        I::IntoIter: Drop,
+        requires { IsFiniteIterable I.into_iter_gives I.IntoIter.can_next
+            I.IntoIter.remaining iter }
+        ensures value { IfOk result
+            (λ v. (it : I.IntoIter) × I.into_iter_gives iter it
+            × Drains I.IntoIter.next_gives it v) }
+        ensures out_of_memory { OnErr result
+            (RefusedAmong I.into_iter_gives I.IntoIter.next_gives M.refused iter 0) }
+    {
         let mut value = Value::new_empty();
-        value.extend(alloc, iter)?;
+        value.extend_in(memory, iter)?;
         Ok(value)
     }
 
@@ -174,9 +206,29 @@ impl Value {
             × (self.new ≡ self.old ++ xs)) }
         ensures err { OnErr result (self.new ≡ self.old) }
     {
+        self.extend_in(alloc, iter)
+    }
+
+    /// As `extend`, from any memory. Refusal: `AllocError`, only if room for at most all the subtags was refused.
+    pub fn extend_in<M: Memory, I: IntoIterator<Item = Subtag>>(
+        &mut self,
+        memory: M,
+        iter: I,
+    ) -> Result<(), AllocError>
+    where
+        I::IntoIter: Drop,
+        requires { IsFiniteIterable I.into_iter_gives I.IntoIter.can_next
+            I.IntoIter.remaining iter }
+        ensures ok { OnOk result ((it : I.IntoIter) × (xs : List Text)
+            × I.into_iter_gives iter it × Drains I.IntoIter.next_gives it xs
+            × (self.new ≡ self.old ++ xs)) }
+        ensures err { OnErr result (self.new ≡ self.old) }
+        ensures out_of_memory { OnErr result (RefusedAmong I.into_iter_gives I.IntoIter.next_gives
+            M.refused iter (length self.old)) }
+    {
         let before = self.subtag_count();
         for subtag in iter {
-            if self.subtags.push(alloc, subtag).is_err() {
+            if self.subtags.push_in(memory, subtag).is_err() {
                 self.cut(before);
                 return Err(AllocError);
             }

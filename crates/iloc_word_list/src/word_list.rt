@@ -1,11 +1,13 @@
 //! The list of subtags of a kind.
-ghost use Rattle.std.specs.Prelude.{◌≡◌, ◌<◌, ◌≤◌, [], ◌∷◌, ◌++◌, length, insert, remove, slice_get, Some, IfOk, OnOk, OnErr, IsOk, List, ℕ};
+ghost use Rattle.std.specs.Prelude.{◌≡◌, ◌<◌, ◌≤◌, ◌+◌, [], ◌∷◌, ◌++◌, length, insert, remove, slice_get, Some, IfOk, OnOk, OnErr, IsOk, List, ℕ};
 ghost use Rattle.std.specs.List.{AllByRecursion};
 ghost use Rattle.std.specs.Option.{option_copied};
 ghost use Rattle.iloc_spec_grammar.specs.Values.{IsNormal};
+ghost use Rattle.iloc_memory.specs.Refusals.{RefusedWithin};
 ghost use Rattle.iloc_shortvec.specs.ShortList.{only_of};
 ghost use Rattle.std.specs.Fmt.{debug_list, debug_str};
 
+use iloc_memory::Memory;
 use iloc_shortvec::{ShortWords, ShortWordsIntoIter};
 use iloc_subtags::{WordKind, WordOf, are_normal, is_normal};
 use std::alloc::{AllocError, Global};
@@ -96,8 +98,24 @@ impl<K: WordKind<N>, const N: usize> WordList<K, N> {
         ensures err { OnErr result (self.new ≡ self.old) }
         ensures succeeds { length self.old < 4 → IsOk result }
     {
+        self.insert_in(alloc, index, word)
+    }
+
+    /// As `insert`, from any memory. Refusal: `AllocError`, only if room for at most all the subtags was refused.
+    pub fn insert_in<M: Memory>(
+        &mut self,
+        memory: M,
+        index: usize,
+        word: WordOf<K, N>,
+    ) -> Result<(), AllocError>
+        requires { index ≤ length self.old }
+        ensures ok { OnOk result (self.new ≡ insert self.old index word) }
+        ensures err { OnErr result (self.new ≡ self.old) }
+        ensures succeeds { length self.old < 4 → IsOk result }
+        ensures out_of_memory { OnErr result (RefusedWithin M.refused (length self.old + 1)) }
+    {
         is_normal(&word);
-        self.words.insert(alloc, index, word)
+        self.words.insert_in(memory, index, word)
     }
 
     /// Adds a subtag at the end. Up to four subtags allocate nothing; if an allocation fails, nothing changes.
@@ -106,8 +124,18 @@ impl<K: WordKind<N>, const N: usize> WordList<K, N> {
         ensures err { OnErr result (self.new ≡ self.old) }
         ensures succeeds { length self.old < 4 → IsOk result }
     {
+        self.push_in(alloc, word)
+    }
+
+    /// As `push`, from any memory. Refusal: `AllocError`, only if room for at most all the subtags was refused.
+    pub fn push_in<M: Memory>(&mut self, memory: M, word: WordOf<K, N>) -> Result<(), AllocError>
+        ensures ok { OnOk result (self.new ≡ self.old ++ word ∷ []) }
+        ensures err { OnErr result (self.new ≡ self.old) }
+        ensures succeeds { length self.old < 4 → IsOk result }
+        ensures out_of_memory { OnErr result (RefusedWithin M.refused (length self.old + 1)) }
+    {
         is_normal(&word);
-        self.words.push(alloc, word)
+        self.words.push_in(memory, word)
     }
 
     /// Takes the subtag at a place out.

@@ -4,11 +4,13 @@ ghost use Rattle.std.specs.List.{list_any, AllByRecursion};
 ghost use Rattle.std.specs.Slice.{IsItemAt};
 ghost use Rattle.std.specs.Slice.Iter.{iter_rest};
 ghost use Rattle.iloc_spec_grammar.specs.Syntax.{is_same, word_cmp};
+ghost use Rattle.iloc_memory.specs.Refusals.{RefusedWithin};
 ghost use Rattle.iloc_word_list.specs.Ascending.{ascends};
 ghost use Rattle.iloc_spec_grammar.specs.Meaning.{set_of};
 ghost use Rattle.iloc_spec_grammar.specs.Values.{IsNormal, StrictlyAscends};
 
 use crate::WordList;
+use iloc_memory::Memory;
 use iloc_subtags::{Variant, VariantKind, WordKind, WordOf};
 use std::alloc::{AllocError, Global};
 use std::marker::Model;
@@ -137,10 +139,22 @@ impl<K: WordKind<N>, const N: usize> WordSet<K, N> {
         ensures succeeds { length self.old < 4 → IsOk result }
         ensures known { list_any (is_same word) self.old ≡ true → IsOk result }
     {
+        self.push_in(alloc, word)
+    }
+
+    /// As `push`, from any memory. Refusal: `AllocError`, only if room for at most all the subtags was refused.
+    pub fn push_in<M: Memory>(&mut self, memory: M, word: WordOf<K, N>) -> Result<bool, AllocError>
+        ensures added { IfOk result (λ added. added ≡ not (list_any (is_same word) self.old)) }
+        ensures ok { OnOk result (self.new ≡ set_of (word ∷ self.old)) }
+        ensures err { OnErr result (self.new ≡ self.old) }
+        ensures succeeds { length self.old < 4 → IsOk result }
+        ensures known { list_any (is_same word) self.old ≡ true → IsOk result }
+        ensures out_of_memory { OnErr result (RefusedWithin M.refused (length self.old + 1)) }
+    {
         match self.as_slice().binary_search(&word) {
             Ok(_) => Ok(false),
             Err(at) => {
-                self.words.insert(alloc, at, word)?;
+                self.words.insert_in(memory, at, word)?;
                 Ok(true)
             }
         }

@@ -3,6 +3,8 @@ ghost use Rattle.std.specs.Prelude.{⊤};
 
 use iloc_memory::Memory;
 use iloc_shortvec::{ShortBoxSlice, ShortWords};
+use iloc_subtags::{ParseError, Subtag, Variant};
+use iloc_word_list::{Value, Variants};
 use std::alloc::{AllocError, Global};
 use std::test::Fail;
 
@@ -49,6 +51,35 @@ fn words(memory: UpTo) -> Result<usize, AllocError> {
     Ok(list.len())
 }
 
+// How many variants a set of these five has.
+fn variants(memory: UpTo) -> Result<usize, AllocError> {
+    let mut set = Variants::new();
+    for text in ["ccccc", "aaaaa", "eeeee", "bbbbb", "ddddd"] {
+        if let Ok(variant) = Variant::try_from_str(text) {
+            set.push_in(memory, variant)?;
+        }
+    }
+    Ok(set.len())
+}
+
+// How many subtags a value has, of five that are added in three ways.
+fn subtags(memory: UpTo) -> Result<usize, AllocError> {
+    let Ok(subtag) = Subtag::try_from_str("foo") else {
+        return Ok(0);
+    };
+    let mut value = Value::from_subtags_in(memory, [subtag, subtag])?;
+    value.extend_in(memory, [subtag, subtag])?;
+    value.push_subtag_in(memory, subtag)?;
+    Ok(value.subtag_count())
+}
+
+// How many subtags are read, as bytes and as a `str`.
+fn read(memory: UpTo, text: &str) -> Result<usize, ParseError> {
+    let bytes = Value::try_from_utf8_in(memory, text.as_bytes())?;
+    let string = Value::try_from_str_in(memory, text)?;
+    Ok(bytes.subtag_count() + string.subtag_count())
+}
+
 #[test]
 fn lists_ask_for_room_for_their_items(rt: HostRuntime) -> Result<(), Fail> {
     let heap = rt.alloc();
@@ -57,5 +88,28 @@ fn lists_ask_for_room_for_their_items(rt: HostRuntime) -> Result<(), Fail> {
     assert_eq!(rt; boxes(UpTo { most: 3, heap }), Ok(3));
     assert_eq!(rt; words(UpTo { most: 4, heap }), Err(AllocError));
     assert_eq!(rt; words(UpTo { most: 5, heap }), Ok(5));
+    Ok(())
+}
+
+#[test]
+fn sets_and_values_ask_for_room_for_their_subtags(rt: HostRuntime) -> Result<(), Fail> {
+    let four = UpTo {
+        most: 4,
+        heap: rt.alloc(),
+    };
+    let five = UpTo {
+        most: 5,
+        heap: rt.alloc(),
+    };
+    assert_eq!(rt; variants(four), Err(AllocError));
+    assert_eq!(rt; variants(five), Ok(5));
+    assert_eq!(rt; subtags(four), Err(AllocError));
+    assert_eq!(rt; subtags(five), Ok(5));
+    assert_eq!(rt; read(four, "aaa-bbb-ccc-ddd-true"), Ok(8));
+    assert_eq!(rt;
+        read(four, "aaa-bbb-ccc-ddd-eee"),
+        Err(ParseError::OutOfMemory)
+    );
+    assert_eq!(rt; read(five, "aaa-bbb-ccc-ddd-eee"), Ok(10));
     Ok(())
 }

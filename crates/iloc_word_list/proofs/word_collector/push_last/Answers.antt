@@ -19,10 +19,10 @@ returns-clause-ascend g c h = elim c.if-ascend.branch [
       (c.requires w.if-ascend.true) w.in-Err.ensures.bound w.in-Err.ensures.position in
       let last : w.in-Err.at ≡ length c.args.words.now.items = eqb-true _ _ (sym w.ascend-is ∙ h)
       ∙ w.len.ensures ∙ sym w.as_slice.ensures.len ∙ ap length w.as_slice.ensures.value in
-      last_ascends c.args.word c.args.words.now.items c.push.new.self.items w.in-Err.at new.set last
-      c.in_ok-push.ensures.items
+      last_ascends c.args.word c.args.words.now.items c.push.new.list.items w.in-Err.at new.set last
+      c.in_ok-push.ensures.ok
   | else-ascend w ↦ absurd (true≢false (sym (sym w.ascend-is ∙ h) ∙ w.if-ascend.false))
 ]
 
 pub returns-clause-taken : goal.returns-clause-taken
-returns-clause-taken g c = rw c.in_ok-push.ensures.items (put_last c.args.word c.args.words.now.items)
+returns-clause-taken g c = rw c.in_ok-push.ensures.ok (put_last c.args.word c.args.words.now.items)

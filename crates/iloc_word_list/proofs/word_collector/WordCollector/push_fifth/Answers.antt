@@ -1,10 +1,11 @@
-use Rattle.std.proofs.Common.{◌≡◌, ◌∷◌, length, ap, sym, ◌∙◌, subst, arith}
+use Rattle.std.proofs.Common.{◌≡◌, ◌∷◌, ◌+◌, length, ap, sym, ◌∙◌, subst, arith}
 use Rattle.std.specs.Prelude.{is_none}
 use Rattle.std.specs.List.Sorted.{IsPermutation}
 use Rattle.iloc_spec_grammar.specs.Meaning.{set_of}
 use Rattle.iloc_spec_grammar.proofs.SetLaws.{length-set_of}
+use Rattle.iloc_memory.specs.Refusals.{RefusedWithin}
 use Rattle.iloc_word_list.specs.Collected.{collected_words, IsCollected}
-use Rattle.iloc_word_list.proofs.CollectorLaws.{one_longer, five, put_in}
+use Rattle.iloc_word_list.proofs.CollectorLaws.{on_err, one_longer, five, put_in}
 use Rattle.iloc_word_list.proofs.word_collector.WordCollector.push_fifth.Goals as goal
 
 pub unreachable-requires : goal.unreachable-requires
@@ -38,3 +39,8 @@ returns-clause-taken g c =
     subst (λ ws. IsPermutation (c.args.word ∷ ws) c.in-Some.words.items) same
     (subst (IsPermutation (c.args.word ∷ c.in-Four.set)) (sym more) (put_in c.args.word c.in-Four.set was.0
     (sym c.in_ok-more-in-Four.ensures.known ∙ ap is_none c.in-Some.is)))
+
+pub returns-in_err-more-in-Four-clause-out_of_memory : goal.returns-in_err-more-in-Four-clause-out_of_memory
+returns-in_err-more-in-Four-clause-out_of_memory g c =
+    on_err c.from_residual.result _ (subst (λ ws. RefusedWithin g.M.Memory.refused (length ws + 1))
+    (sym (ap collected_words c.in-Four.is) ∙ c.self.view_is) c.in_err-more-in-Four.ensures.out_of_memory)

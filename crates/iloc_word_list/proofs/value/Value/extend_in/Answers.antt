@@ -1,9 +1,11 @@
-use Rattle.std.proofs.Common.{◌≡◌, ◌≤◌, ℕ, List, [], ◌∷◌, ◌++◌, length, take, true, false, Result}
+use Rattle.std.proofs.Common.{◌≡◌, ◌≤◌, ◌+◌, ℕ, List, [], ◌∷◌, ◌++◌, length, take, true, false, Result}
 use Rattle.std.proofs.Common.{Ok, Err, OnOk, OnErr, rules, sym, ap, ap₂, ◌∙◌, arith}
 use Rattle.std.proofs.Common.{append_assoc, append-nil, length-append}
 use Rattle.std.specs.Result.{is_err}
 use Rattle.std.proofs.Math.Seq.{take-append_seam}
-use Rattle.iloc_word_list.proofs.value.Value.extend.Goals as goal
+use Rattle.iloc_memory.proofs.Within.{within_more}
+use Rattle.iloc_word_list.proofs.RoomLemmas.{one_more_yielded}
+use Rattle.iloc_word_list.proofs.value.Value.extend_in.Goals as goal
 
 -- what is said of each result, of one that is known
 at_ok : {A E P : Type 0} (r : Result A E) → is_err r ≡ false → OnOk r P → P
@@ -27,6 +29,12 @@ module _ {X : Type 0} (first later inside now new : List X) (view : inside ≡ n
   cut_back : (count : ℕ) → count ≡ length first → new ≡ inside → take count new ≡ first
   cut_back count c n = ap₂ (λ k l. take k l) c (n ∙ (view ∙ h)) ∙ take-append_seam first later
 
+room : {X : Type 0} (first later inside now : List X) → inside ≡ now → now ≡ first ++ later → (x : X) →
+    length inside + 1 ≤ length first + length (later ++ x ∷ [])
+room first later inside now view h x =
+    let l : length inside ≡ length (first ++ later) = ap length (view ∙ h) in
+    omega (arith, l, length-append first later, length-append later (x ∷ []))
+
 pub loop-subtag-init : goal.loop-subtag-init
 loop-subtag-init g c =
     let ready = c.requires _ c.into_iter-subtag-iterator.ensures.into_iter_gives in
@@ -34,7 +42,8 @@ loop-subtag-init g c =
 
 pub loop-subtag-preserved : goal.loop-subtag-preserved
 loop-subtag-preserved g c =
-    let pushed = at_ok c.push.result (sym c.is_err.ensures.value ∙ c.if-is_err.false) c.push.ensures.ok in (
+    let pushed = at_ok c.push_in.result (sym c.is_err.ensures.value ∙ c.if-is_err.false)
+    c.push_in.ensures.ok in (
       search rules,
       search rules,
       one_more c.args.self.now c.loop-subtag.yielded _ c.loop-subtag.self _
@@ -44,7 +53,8 @@ loop-subtag-preserved g c =
 
 pub cut-requires : goal.cut-requires
 cut-requires g c =
-    let same = at_err c.push.result (sym c.is_err.ensures.value ∙ c.if-is_err.true) c.push.ensures.err in
+    let same = at_err c.push_in.result (sym c.is_err.ensures.value ∙ c.if-is_err.true)
+    c.push_in.ensures.err in
     let fits = at_least c.args.self.now c.loop-subtag.yielded _ c.loop-subtag.self _
     c.self-in-loop-subtag.view_is c.loop-subtag.invariant.2 same in
     omega (arith, fits, c.loop-subtag.invariant.3)
@@ -67,6 +77,22 @@ returns-clause-ok g c = (
 
 pub returns-then-is_err-clause-err : goal.returns-then-is_err-clause-err
 returns-then-is_err-clause-err g c =
-    let same = at_err c.push.result (sym c.is_err.ensures.value ∙ c.if-is_err.true) c.push.ensures.err in
+    let same = at_err c.push_in.result (sym c.is_err.ensures.value ∙ c.if-is_err.true)
+    c.push_in.ensures.err in
     c.cut.ensures ∙ cut_back c.args.self.now c.loop-subtag.yielded _ c.loop-subtag.self _
     c.self-in-loop-subtag.view_is c.loop-subtag.invariant.2 _ c.loop-subtag.invariant.3 same
+
+pub returns-then-is_err-clause-out_of_memory : goal.returns-then-is_err-clause-out_of_memory
+returns-then-is_err-clause-out_of_memory g c =
+    let refused = at_err c.push_in.result (sym c.is_err.ensures.value ∙ c.if-is_err.true)
+    c.push_in.ensures.out_of_memory in
+    let fits = room c.args.self.now c.loop-subtag.yielded _ c.loop-subtag.self c.self-in-loop-subtag.view_is
+    c.loop-subtag.invariant.2 c.in-Some.subtag in (
+      c.into_iter-subtag-iterator.result,
+      c.loop-subtag.yielded ++ c.in-Some.subtag ∷ [],
+      c.next.new.self,
+      c.into_iter-subtag-iterator.ensures.into_iter_gives,
+      one_more_yielded g.I.IntoIter.Iterator.next_gives _ _ c.loop-subtag.subtag-iterator c.in-Some.subtag _
+          c.loop-subtag.yielded_by c.in-Some.ensures.steps,
+      within_more g.M.Memory.refused _ _ fits refused,
+    )

@@ -1,6 +1,6 @@
 -- The items so far are at the end.
 use Rattle.std.proofs.Common.{◌≡◌, ◌++◌, length}
-use Rattle.iloc_word_list.proofs.value.Value.extend.Given as goal
+use Rattle.iloc_word_list.proofs.value.Value.extend_in.Given as goal
 
 abbrev pub invariant-loop-subtag : goal.invariant-loop-subtag
 invariant-loop-subtag g l =
