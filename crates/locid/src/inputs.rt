@@ -1,7 +1,7 @@
 //! The inputs, one after the other, and what becomes of their lines.
 
 use crate::checking::Report;
-use crate::lines::{Task, answer, list};
+use crate::lines::{Task, answer};
 use crate::messages::{complain_of_stream, say};
 use crate::streams::{Source, Target};
 use crate::table::{COUNT, Command, EXIT_STATUS, LINE_NUMBER, QUIET, SHOW};
@@ -82,20 +82,27 @@ impl<W: Write + Drop> Inputs<W> {
             }
         }
         for at in words.files.as_slice() {
-            let mut room = [0u8; WORD];
-            let count = match rt.arg(*at, &mut room) {
-                Ok(count) => count,
-                Err(_) => 0,
-            };
-            let name = str::from_utf8(&room[..count]).unwrap_or("");
-            if let Some(status) = self.answer_one(rt, name) {
+            if let Some(status) = self.answer_named(rt, *at) {
                 return status;
             }
         }
         self.end(rt)
     }
 
-    // Answers the lines of a file, or of standard input. Returns the status if nothing more can be done.
+    // Answers the lines of the file that the argument at that place names. Returns the status if nothing more can be done.
+    fn answer_named<R>(&mut self, rt: &R, at: usize) -> Option<u8>
+    where
+        R: Input + Eprint + Files + Env + AllocGlobal,
+    {
+        let mut room = [0u8; WORD];
+        let count = match rt.arg(at, &mut room) {
+            Ok(count) => count,
+            Err(_) => 0,
+        };
+        self.answer_one(rt, str::from_utf8(&room[..count]).unwrap_or(""))
+    }
+
+    // The same of the file of that name, or of standard input.
     fn answer_one<R>(&mut self, rt: &R, name: &str) -> Option<u8>
     where
         R: Input + Eprint + Files + AllocGlobal,
@@ -151,35 +158,39 @@ impl<W: Write + Drop> Inputs<W> {
         name: &str,
         source: &mut Source<R>,
     ) -> Result<(), RunError> {
-        let settings = self.settings;
-        let reading = settings.reading();
-        let writes = !settings.has(COUNT | QUIET);
         let before = self.tally;
-        let tally = &mut self.tally;
-        let to = &mut self.target;
+        let task = self.task(name);
+        let reading = self.settings.reading();
+        answer(
+            alloc,
+            reading,
+            task,
+            &mut self.tally,
+            source,
+            &mut self.target,
+        )?;
+        if self.settings.has(COUNT) && !self.settings.has(QUIET) {
+            return write_counts(&mut self.target, name, before, self.tally);
+        }
+        Ok(())
+    }
+
+    // What is asked for, of an input of that name.
+    fn task<'a>(&self, name: &'a str) -> Task<'a> {
+        let settings = self.settings;
+        let writes = !settings.has(COUNT | QUIET);
         match self.command {
             Command::Normalize if writes => {
                 let is_named = self.are_many && settings.has(LINE_NUMBER);
-                let named = if is_named { Some(name) } else { None };
-                list(alloc, reading, settings.listing(), named, source, to)?;
+                Task::List(settings.listing(), if is_named { Some(name) } else { None })
             }
-            Command::Parts => {
-                let task = Task::Part(settings.is_json);
-                answer(alloc, reading, task, tally, source, to)?;
-            }
-            _ => {
-                let task = Task::Check(Report {
-                    name,
-                    writes,
-                    shows: settings.has(SHOW),
-                });
-                answer(alloc, reading, task, tally, source, to)?;
-            }
+            Command::Parts => Task::Part(settings.is_json),
+            _ => Task::Check(Report {
+                name,
+                writes,
+                shows: settings.has(SHOW),
+            }),
         }
-        if settings.has(COUNT) && !settings.has(QUIET) {
-            write_counts(&mut self.target, name, before, self.tally)?;
-        }
-        Ok(())
     }
 
     // Says what is to be said at the end, and returns the status.

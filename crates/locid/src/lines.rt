@@ -33,19 +33,19 @@ pub struct Reading {
 /// What is done with lines.
 #[derive(Clone, Copy)]
 pub enum Task<'a> {
-    /// Each is listed, with the name before each number, if there is one.
-    List(Listing, Option<&'a str>),
+    /// Each is answered, and listed if that is asked for. The name, if there is one, stands before each number.
+    List(Option<Listing>, Option<&'a str>),
     /// Each is checked, and of a refused one is written where and why.
     Check(Report<'a>),
     /// The parts of each are written, as JSON or in columns.
     Part(bool),
 }
 
-/// Writes the normal form of each line, or why it is refused, and returns the number of the next line, which only a
-/// listing counts. A name is written before each number.
-///
-/// Of lines that are read as they are, and without a name, it promises what `run` and `run_listed` promise.
-pub fn list<R: Read, W: Write>(
+// Writes the normal form of each line, or why it is refused, and returns the number of the next line, which only a
+// listing counts. A name is written before each number.
+//
+// Of lines that are read as they are, and without a name, it promises what `run` and `run_listed` promise.
+fn list<R: Read, W: Write>(
     alloc: Global,
     reading: Reading,
     listing: Option<Listing>,
@@ -72,9 +72,9 @@ pub fn list<R: Read, W: Write>(
     match (reading.cleans, reading.by_zero, name) {
         (false, false, None) => run_plain(alloc, reading.mode, listing, reader, writer),
         _ => {
-            let task = Task::List(listing.unwrap_or(PLAIN), name);
+            let task = Task::List(listing, name);
             let mut tally = NO_LINES;
-            answer(alloc, reading, task, &mut tally, reader, writer)
+            answer_prepared(alloc, reading, task, &mut tally, reader, writer)
         }
     }
 }
@@ -127,6 +127,21 @@ pub fn answer<R: Read, W: Write>(
     reader: &mut R,
     writer: &mut W,
 ) -> Result<u64, RunError> {
+    match task {
+        Task::List(listing, name) => list(alloc, reading, listing, name, reader, writer),
+        _ => answer_prepared(alloc, reading, task, tally, reader, writer),
+    }
+}
+
+// The same of lines that are prepared.
+fn answer_prepared<R: Read, W: Write>(
+    alloc: Global,
+    reading: Reading,
+    task: Task<'_>,
+    tally: &mut Tally,
+    reader: &mut R,
+    writer: &mut W,
+) -> Result<u64, RunError> {
     match reading.mode {
         Mode::Langid => answer_in(Identifiers, alloc, reading, task, tally, reader, writer),
         Mode::Locale => answer_in(Locales, alloc, reading, task, tally, reader, writer),
@@ -152,6 +167,7 @@ fn answer_in<A: InMode + Drop, R: Read, W: Write>(
                 name,
                 below: Listed::new(alloc, answers),
             };
+            let listing = listing.unwrap_or(PLAIN);
             run_prepared(alloc, reading, listing, &mut lists, reader, writer)
         }
         Task::Check(report) => {

@@ -35,33 +35,43 @@ impl Lists for Parting<'_> {
         replies: &mut ReplyBlock,
     ) -> Result<(), AllocError> {
         let (line, _) = line.bytes.split_at(line.len());
-        let normal = &mut self.normal;
-        normal.clear();
-        reply_line(self.mode, line, &mut self.room, &mut self.spans, normal)?;
-        let text = match normal.as_slice() {
-            [text @ .., b'\n'] => text,
-            text => text,
-        };
-        self.tally.add(matches!(text, [b'!', ..]));
-        let parts = cut(text);
+        self.answer(line)?;
         self.written.clear();
-        if self.is_json {
-            let object = object_of(self.alloc, self.mode, line, &parts)?;
-            self.written.extend_from_slice(object.as_slice())?;
-        } else {
-            write_columns(&parts, &mut self.written)?;
-        }
+        self.write(line)?;
         self.written.push(b'\n')?;
         replies.extend_from_slice(self.written.as_slice())
     }
 }
 
+impl Parting<'_> {
+    // Has the room hold the answer to a line.
+    fn answer(&mut self, line: &[u8]) -> Result<(), AllocError> {
+        let normal = &mut self.normal;
+        normal.clear();
+        reply_line(self.mode, line, &mut self.room, &mut self.spans, normal)
+    }
+
+    // Adds what is written of the line that was answered, and counts it.
+    fn write(&mut self, line: &[u8]) -> Result<(), AllocError> {
+        let text = match self.normal.as_slice() {
+            [text @ .., b'\n'] => text,
+            text => text,
+        };
+        self.tally.add(matches!(text, [b'!', ..]));
+        let parts = cut(text);
+        if !self.is_json {
+            return write_columns(&parts, &mut self.written);
+        }
+        let object = object_of(self.alloc, self.mode, line, &parts)?;
+        self.written.extend_from_slice(object.as_slice())
+    }
+}
+
 // Adds the columns. A refusal has no hyphens, so it stands in the first one.
 fn write_columns(parts: &Parts<'_>, to: &mut ReplyBlock) -> Result<(), AllocError> {
-    for part in [parts.language, parts.script, parts.region] {
-        to.extend_from_slice(part.unwrap_or("").as_bytes())?;
-        to.push(b'\t')?;
-    }
+    write_column(parts.language, to)?;
+    write_column(parts.script, to)?;
+    write_column(parts.region, to)?;
     to.extend_from_slice(parts.variants.0)?;
     to.push(b'\t')?;
     write_keywords(parts.keywords.0, to)?;
@@ -69,15 +79,24 @@ fn write_columns(parts: &Parts<'_>, to: &mut ReplyBlock) -> Result<(), AllocErro
     to.extend_from_slice(parts.extensions.0)
 }
 
+// Adds a part, and a tab.
+fn write_column(part: Option<&str>, to: &mut ReplyBlock) -> Result<(), AllocError> {
+    to.extend_from_slice(part.unwrap_or("").as_bytes())?;
+    to.push(b'\t')
+}
+
 // Adds the keywords, as `ca=buddhist;kn`.
 fn write_keywords(keywords: &[u8], to: &mut ReplyBlock) -> Result<(), AllocError> {
     let mut rest = keywords;
     for _ in 0..keywords.len() {
         let (key, value, later) = cut_member(rest, 2);
-        let equals: &[u8] = if value.is_empty() { b"" } else { b"=" };
-        let end: &[u8] = if later.is_empty() { b"" } else { b";" };
-        for text in [key, equals, value, end] {
-            to.extend_from_slice(text)?;
+        to.extend_from_slice(key)?;
+        if !value.is_empty() {
+            to.push(b'=')?;
+            to.extend_from_slice(value)?;
+        }
+        if !later.is_empty() {
+            to.push(b';')?;
         }
         rest = later;
     }
