@@ -161,18 +161,14 @@ fn write_line(line: &[u8], fault: &Fault, to: &mut ReplyBlock) -> Result<(), All
     requires { StandsWithin line.now fault.now }
 {
     to.extend_from_slice(b"    ")?;
-    let blanks = count_shown(&line[..fault.start], to)?;
-    let marked = count_shown(&line[fault.start..fault.end], to)?;
+    let start = to.as_slice().len();
+    write_shown(&line[..fault.start], to)?;
+    let blanks = to.as_slice().len().saturating_sub(start);
+    write_shown(&line[fault.start..fault.end], to)?;
+    let both = to.as_slice().len().saturating_sub(start);
     write_shown(&line[fault.end..], to)?;
     to.extend_from_slice(b"\n    ")?;
-    write_carets(blanks, blanks.saturating_add(marked.max(1)), to)
-}
-
-// Adds a text as it is shown, and returns how many signs these are.
-fn count_shown(text: &[u8], to: &mut ReplyBlock) -> Result<usize, AllocError> {
-    let before = to.as_slice().len();
-    write_shown(text, to)?;
-    Ok(to.as_slice().len().saturating_sub(before))
+    write_carets(blanks, both.max(blanks.saturating_add(1)), to)
 }
 
 // Adds so many signs: blanks, and then carets.

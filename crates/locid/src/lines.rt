@@ -181,20 +181,30 @@ fn answer_in<A: InMode + Drop, R: Read, W: Write>(
             };
             run_prepared(alloc, reading, PLAIN, &mut lists, reader, writer)
         }
-        Task::Part(is_json) => {
-            let mut lists = Parting {
-                alloc,
-                mode: reading.mode,
-                is_json,
-                room: Vec::new(alloc),
-                spans: Spans::growing(alloc),
-                normal: ReplyBlock::new(alloc),
-                written: ReplyBlock::new(alloc),
-                tally,
-            };
-            run_prepared(alloc, reading, PLAIN, &mut lists, reader, writer)
-        }
+        Task::Part(is_json) => part(alloc, reading, is_json, tally, reader, writer),
     }
+}
+
+// Writes the parts of lines.
+fn part<R: Read, W: Write>(
+    alloc: Global,
+    reading: Reading,
+    is_json: bool,
+    tally: &mut Tally,
+    reader: &mut R,
+    writer: &mut W,
+) -> Result<u64, RunError> {
+    let mut lists = Parting {
+        alloc,
+        mode: reading.mode,
+        is_json,
+        room: Vec::new(alloc),
+        spans: Spans::growing(alloc),
+        normal: ReplyBlock::new(alloc),
+        written: ReplyBlock::new(alloc),
+        tally,
+    };
+    run_prepared(alloc, reading, PLAIN, &mut lists, reader, writer)
 }
 
 // Runs these lists over lines that are prepared as the reading says.
