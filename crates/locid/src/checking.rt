@@ -29,26 +29,13 @@ pub struct Report<'a> {
 /// Checks lines in the mode of these answers, and counts them.
 #[derive(Drop)]
 pub struct Checking<'a, A> {
-    alloc: Global,
-    answers: A,
-    report: Report<'a>,
-    // Room for what is written of a line, and for the advice in it.
-    room: ReplyBlock,
-    advice: Vec<u8>,
-    tally: &'a mut Tally,
-}
-
-impl<'a, A> Checking<'a, A> {
-    pub fn new(alloc: Global, answers: A, report: Report<'a>, tally: &'a mut Tally) -> Self {
-        Checking {
-            alloc,
-            answers,
-            report,
-            room: ReplyBlock::new(alloc),
-            advice: Vec::new(alloc),
-            tally,
-        }
-    }
+    pub alloc: Global,
+    pub answers: A,
+    pub report: Report<'a>,
+    /// Room for what is written of a line, and for the advice in it.
+    pub room: ReplyBlock,
+    pub advice: Vec<u8>,
+    pub tally: &'a mut Tally,
 }
 
 impl<A: InMode> Lists for Checking<'_, A> {
@@ -62,12 +49,14 @@ impl<A: InMode> Lists for Checking<'_, A> {
         replies: &mut ReplyBlock,
     ) -> Result<(), AllocError> {
         let (text, _) = line.bytes.split_at(line.len());
-        self.tally.lines = self.tally.lines.saturating_add(1);
         let mode = self.answers.mode();
         match fault_in(InMemory(self.alloc), mode, text) {
-            None => Ok(()),
+            None => {
+                self.tally.add(false);
+                Ok(())
+            }
             Some(fault) => {
-                self.tally.refused = self.tally.refused.saturating_add(1);
+                self.tally.add(true);
                 self.room.clear();
                 let advice = &mut self.advice;
                 write_report(
@@ -120,13 +109,14 @@ fn write_place(
     to: &mut ReplyBlock,
 ) -> Result<(), AllocError> {
     to.extend_from_slice(name.as_bytes())?;
-    to.push(b':')?;
-    write_decimal(number, to)?;
-    to.push(b':')?;
-    write_decimal((fault.start as u64).saturating_add(1), to)?;
-    to.extend_from_slice(b": ")?;
-    to.extend_from_slice(fault.refusal.words().as_bytes())?;
-    to.extend_from_slice(b": ")
+    for count in [number, (fault.start as u64).saturating_add(1)] {
+        to.push(b':')?;
+        write_decimal(count, to)?;
+    }
+    for text in [": ", fault.refusal.words(), ": "] {
+        to.extend_from_slice(text.as_bytes())?;
+    }
+    Ok(())
 }
 
 // Adds the piece at which the fault stands.
@@ -151,19 +141,19 @@ fn write_advice(
     room: &mut Vec<u8>,
 ) -> Result<(), AllocError> {
     room.clear();
+    let expected = expected_in(InMemory(alloc), mode, line, place);
+    let (before, hint) = match hint_in(InMemory(alloc), mode, line) {
+        Some(hint) => ("; ", hint.words()),
+        None => ("", ""),
+    };
     room.extend_from_slice(b": ")?;
-    if expected_in(InMemory(alloc), mode, line, place)
-        .write_to(room)
-        .is_err()
-    {
+    if expected.write_to(room).is_err() {
         return Err(AllocError);
     }
-    room.extend_from_slice(b" may stand here")?;
-    if let Some(hint) = hint_in(InMemory(alloc), mode, line) {
-        room.extend_from_slice(b"; ")?;
-        room.extend_from_slice(hint.words().as_bytes())?;
+    for text in [" may stand here", before, hint, "\n"] {
+        room.extend_from_slice(text.as_bytes())?;
     }
-    room.extend_from_slice(b"\n")
+    Ok(())
 }
 
 // Adds the line, and below it a caret for each sign of the piece at which the fault stands.
@@ -178,11 +168,13 @@ fn write_line(line: &[u8], fault: &Fault, to: &mut ReplyBlock) -> Result<(), All
     let both = to.as_slice().len().saturating_sub(start);
     write_shown(&line[fault.end..], to)?;
     to.extend_from_slice(b"\n    ")?;
-    for _ in 0..blanks {
-        to.push(b' ')?;
-    }
-    for _ in blanks..both.max(blanks.saturating_add(1)) {
-        to.push(b'^')?;
+    write_carets(blanks, both.max(blanks.saturating_add(1)), to)
+}
+
+// Adds so many signs: blanks, and then carets.
+fn write_carets(blanks: usize, all: usize, to: &mut ReplyBlock) -> Result<(), AllocError> {
+    for at in 0..all {
+        to.push(if at < blanks { b' ' } else { b'^' })?;
     }
     to.push(b'\n')
 }

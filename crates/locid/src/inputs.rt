@@ -1,10 +1,10 @@
 //! The inputs, one after the other, and what becomes of their lines.
 
 use crate::checking::Report;
-use crate::lines::{check, list, part};
+use crate::lines::{Task, answer};
 use crate::messages::{complain_of_stream, say};
 use crate::streams::{Source, Target};
-use crate::table::Command;
+use crate::table::{COUNT, Command, EXIT_STATUS, LINE_NUMBER, QUIET, SHOW};
 use crate::words::{Settings, TROUBLE, WORD, Words};
 use iloc_program::RunError;
 use std::alloc::Global;
@@ -13,7 +13,7 @@ use std::io::{ErrorKind, Input, Read, Write};
 use std::rt::Env;
 use std::{fs, io, str};
 
-/// How many lines an input has, and how many of them are refused.
+/// How many lines there are, and how many of them are refused.
 #[derive(Clone, Copy)]
 pub struct Tally {
     pub lines: u64,
@@ -21,18 +21,18 @@ pub struct Tally {
 }
 
 impl Tally {
-    pub fn new() -> Tally {
-        Tally {
-            lines: 0,
-            refused: 0,
-        }
-    }
-
-    fn add(&mut self, other: Tally) {
-        self.lines = self.lines.saturating_add(other.lines);
-        self.refused = self.refused.saturating_add(other.refused);
+    /// Counts a line.
+    pub fn add(&mut self, is_refused: bool) {
+        self.lines = self.lines.saturating_add(1);
+        self.refused = self.refused.saturating_add(u64::from(is_refused));
     }
 }
+
+/// That of no input.
+pub const NO_LINES: Tally = Tally {
+    lines: 0,
+    refused: 0,
+};
 
 /// What is done, and what came of it so far.
 #[derive(Drop)]
@@ -53,15 +53,20 @@ const CLOSED_PIPE: u8 = 141;
 impl<W: Write + Drop> Inputs<W> {
     pub fn new(command: Command, words: &Words, to: W) -> Self {
         let settings = words.settings;
-        let answers = !settings.only_counts() && !matches!(command, Command::Check);
         // (what is said of lines, other than their answers, are lines of their own)
-        let by_zero = settings.reading().by_zero && answers;
+        let answers = !settings.has(COUNT | QUIET) && !matches!(command, Command::Check);
         Inputs {
             command,
             settings,
             are_many: words.files.len() > 1,
-            target: Target::new(to, by_zero, settings.exit_status),
-            tally: Tally::new(),
+            target: Target {
+                to,
+                by_zero: settings.reading().by_zero && answers,
+                looks: settings.has(EXIT_STATUS),
+                is_refused: false,
+                error: None,
+            },
+            tally: NO_LINES,
             is_missing: false,
         }
     }
@@ -77,20 +82,27 @@ impl<W: Write + Drop> Inputs<W> {
             }
         }
         for at in words.files.as_slice() {
-            let mut room = [0u8; WORD];
-            let count = match rt.arg(*at, &mut room) {
-                Ok(count) => count,
-                Err(_) => 0,
-            };
-            let name = str::from_utf8(&room[..count]).unwrap_or("");
-            if let Some(status) = self.answer_one(rt, name) {
+            if let Some(status) = self.answer_named(rt, *at) {
                 return status;
             }
         }
         self.end(rt)
     }
 
-    // Answers the lines of a file, or of standard input. Returns the status if nothing more can be done.
+    // Answers the lines of the file that the argument at that place names. Returns the status if nothing more can be done.
+    fn answer_named<R>(&mut self, rt: &R, at: usize) -> Option<u8>
+    where
+        R: Input + Eprint + Files + Env + AllocGlobal,
+    {
+        let mut room = [0u8; WORD];
+        let count = match rt.arg(at, &mut room) {
+            Ok(count) => count,
+            Err(_) => 0,
+        };
+        self.answer_one(rt, str::from_utf8(&room[..count]).unwrap_or(""))
+    }
+
+    // The same of the file of that name, or of standard input.
     fn answer_one<R>(&mut self, rt: &R, name: &str) -> Option<u8>
     where
         R: Input + Eprint + Files + AllocGlobal,
@@ -111,7 +123,11 @@ impl<W: Write + Drop> Inputs<W> {
         name: &str,
         from: R,
     ) -> Option<u8> {
-        let mut source = Source::new(from, self.settings.reading().by_zero);
+        let mut source = Source {
+            from,
+            by_zero: self.settings.reading().by_zero,
+            error: None,
+        };
         match self.answer_lines(rt.alloc(), name, &mut source) {
             Ok(()) => None,
             Err(RunError::Read) => self.miss(rt, name, source.error),
@@ -142,45 +158,52 @@ impl<W: Write + Drop> Inputs<W> {
         name: &str,
         source: &mut Source<R>,
     ) -> Result<(), RunError> {
-        let settings = self.settings;
-        let reading = settings.reading();
-        let to = &mut self.target;
-        let mut tally = Tally::new();
-        let outcome = match self.command {
-            Command::Normalize if !settings.only_counts() => {
-                let is_named = self.are_many && settings.numbers;
-                let named = if is_named { Some(name) } else { None };
-                list(alloc, reading, settings.listing(), named, source, to)
-            }
-            Command::Parts => part(alloc, reading, settings.format, &mut tally, source, to),
-            _ => {
-                let report = Report {
-                    name,
-                    writes: !settings.only_counts(),
-                    shows: settings.shows,
-                };
-                check(alloc, reading, report, &mut tally, source, to)
-            }
-        };
-        self.tally.add(tally);
-        outcome?;
-        if settings.counts && !settings.is_quiet {
-            write_counts(&mut self.target, name, tally)?;
+        let before = self.tally;
+        let task = self.task(name);
+        let reading = self.settings.reading();
+        answer(
+            alloc,
+            reading,
+            task,
+            &mut self.tally,
+            source,
+            &mut self.target,
+        )?;
+        if self.settings.has(COUNT) && !self.settings.has(QUIET) {
+            return write_counts(&mut self.target, name, before, self.tally);
         }
         Ok(())
+    }
+
+    // What is asked for, of an input of that name.
+    fn task<'a>(&self, name: &'a str) -> Task<'a> {
+        let settings = self.settings;
+        let writes = !settings.has(COUNT | QUIET);
+        match self.command {
+            Command::Normalize if writes => {
+                let is_named = self.are_many && settings.has(LINE_NUMBER);
+                Task::List(settings.listing(), if is_named { Some(name) } else { None })
+            }
+            Command::Parts => Task::Part(settings.is_json),
+            _ => Task::Check(Report {
+                name,
+                writes,
+                shows: settings.has(SHOW),
+            }),
+        }
     }
 
     // Says what is to be said at the end, and returns the status.
     fn end(&self, rt: &impl Eprint) -> u8 {
         let Tally { lines, refused } = self.tally;
         let is_check = matches!(self.command, Command::Check);
-        if is_check && !self.settings.is_quiet && !self.settings.counts {
+        if is_check && !self.settings.has(COUNT | QUIET) {
             let _ = eprintln!(rt; "locid: {refused} of {lines} lines are refused");
         }
         if self.is_missing {
             return TROUBLE;
         }
-        let says = is_check || self.settings.exit_status || self.settings.is_quiet;
+        let says = is_check || self.settings.has(EXIT_STATUS | QUIET);
         u8::from(says && (refused > 0 || self.target.is_refused))
     }
 }
@@ -193,8 +216,17 @@ pub fn complain_of_output(rt: &(impl Eprint + AllocGlobal), error: Option<io::Er
     complain_of_stream(rt, "write error", error)
 }
 
-// Writes how many lines an input has.
-fn write_counts<W: Write>(to: &mut W, name: &str, tally: Tally) -> Result<(), RunError> {
-    let Tally { lines, refused } = tally;
-    writeln!(to, "{name}\t{lines}\t{refused}").map_err(|_| RunError::Write)
+// Writes how many lines were counted since.
+fn write_counts<W: Write>(
+    to: &mut W,
+    name: &str,
+    before: Tally,
+    now: Tally,
+) -> Result<(), RunError> {
+    let lines = now.lines.saturating_sub(before.lines);
+    let refused = now.refused.saturating_sub(before.refused);
+    match writeln!(to, "{name}\t{lines}\t{refused}") {
+        Ok(()) => Ok(()),
+        Err(_) => Err(RunError::Write),
+    }
 }

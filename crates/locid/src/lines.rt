@@ -7,16 +7,16 @@ ghost use Rattle.iloc_program.specs.Numbered.{ListsAll, ListsBeginning};
 ghost use Rattle.locid.specs.Prepared.{IsPrepared};
 
 use crate::checking::{Checking, Report};
-use crate::inputs::Tally;
+use crate::inputs::{NO_LINES, Tally};
 use crate::naming::Naming;
 use crate::parting::Parting;
 use crate::preparing::Prepared;
-use crate::words::Format;
 use iloc_program::entries::Listed;
 use iloc_program::numbered::{Lists, run_numbered};
 use iloc_program::{
-    DataLocales, Identifiers, InMode, Listing, Locales, Mode, RunError, run, run_listed,
+    DataLocales, Identifiers, InMode, Listing, Locales, Mode, ReplyBlock, RunError, run, run_listed,
 };
+use iloc_spans::spans::Spans;
 use std::alloc::Global;
 use std::io::{Read, Write};
 
@@ -30,11 +30,22 @@ pub struct Reading {
     pub by_zero: bool,
 }
 
-/// Writes the normal form of each line, or why it is refused, and returns the number of the next line, which only a
-/// listing counts. A name is written before each number.
-///
-/// Of lines that are read as they are, and without a name, it promises what `run` and `run_listed` promise.
-pub fn list<R: Read, W: Write>(
+/// What is done with lines.
+#[derive(Clone, Copy)]
+pub enum Task<'a> {
+    /// Each is answered, and listed if that is asked for. The name, if there is one, stands before each number.
+    List(Option<Listing>, Option<&'a str>),
+    /// Each is checked, and of a refused one is written where and why.
+    Check(Report<'a>),
+    /// The parts of each are written, as JSON or in columns.
+    Part(bool),
+}
+
+// Writes the normal form of each line, or why it is refused, and returns the number of the next line, which only a
+// listing counts. A name is written before each number.
+//
+// Of lines that are read as they are, and without a name, it promises what `run` and `run_listed` promise.
+fn list<R: Read, W: Write>(
     alloc: Global,
     reading: Reading,
     listing: Option<Listing>,
@@ -60,40 +71,12 @@ pub fn list<R: Read, W: Write>(
 {
     match (reading.cleans, reading.by_zero, name) {
         (false, false, None) => run_plain(alloc, reading.mode, listing, reader, writer),
-        _ => list_prepared(alloc, reading, listing, name, reader, writer),
+        _ => {
+            let task = Task::List(listing, name);
+            let mut tally = NO_LINES;
+            answer_prepared(alloc, reading, task, &mut tally, reader, writer)
+        }
     }
-}
-
-// The same of lines that are prepared, or named.
-fn list_prepared<R: Read, W: Write>(
-    alloc: Global,
-    reading: Reading,
-    listing: Option<Listing>,
-    name: Option<&str>,
-    reader: &mut R,
-    writer: &mut W,
-) -> Result<u64, RunError> {
-    let listing = listing.unwrap_or(PLAIN);
-    match reading.mode {
-        Mode::Langid => list_in(Identifiers, alloc, reading, listing, name, reader, writer),
-        Mode::Locale => list_in(Locales, alloc, reading, listing, name, reader, writer),
-        Mode::Data => list_in(DataLocales, alloc, reading, listing, name, reader, writer),
-    }
-}
-
-// The same in the mode of these answers.
-fn list_in<A: InMode + Drop, R: Read, W: Write>(
-    answers: A,
-    alloc: Global,
-    reading: Reading,
-    listing: Listing,
-    name: Option<&str>,
-    reader: &mut R,
-    writer: &mut W,
-) -> Result<u64, RunError> {
-    let mode = answers.mode();
-    let mut lists = Naming::new(alloc, mode, name, Listed::new(alloc, answers));
-    run_prepared(alloc, reading, listing, &mut lists, reader, writer)
 }
 
 // The listing for which nothing is asked.
@@ -135,46 +118,92 @@ fn run_plain<R: Read, W: Write>(
     }
 }
 
-/// Checks each line, and writes where and why it is refused, and what may stand there.
-pub fn check<R: Read, W: Write>(
+/// Does with each line what is to be done, and returns the number of the next line.
+pub fn answer<R: Read, W: Write>(
     alloc: Global,
     reading: Reading,
-    report: Report<'_>,
+    task: Task<'_>,
+    tally: &mut Tally,
+    reader: &mut R,
+    writer: &mut W,
+) -> Result<u64, RunError> {
+    match task {
+        Task::List(listing, name) => list(alloc, reading, listing, name, reader, writer),
+        _ => answer_prepared(alloc, reading, task, tally, reader, writer),
+    }
+}
+
+// The same of lines that are prepared.
+fn answer_prepared<R: Read, W: Write>(
+    alloc: Global,
+    reading: Reading,
+    task: Task<'_>,
     tally: &mut Tally,
     reader: &mut R,
     writer: &mut W,
 ) -> Result<u64, RunError> {
     match reading.mode {
-        Mode::Langid => check_in(Identifiers, alloc, reading, report, tally, reader, writer),
-        Mode::Locale => check_in(Locales, alloc, reading, report, tally, reader, writer),
-        Mode::Data => check_in(DataLocales, alloc, reading, report, tally, reader, writer),
+        Mode::Langid => answer_in(Identifiers, alloc, reading, task, tally, reader, writer),
+        Mode::Locale => answer_in(Locales, alloc, reading, task, tally, reader, writer),
+        Mode::Data => answer_in(DataLocales, alloc, reading, task, tally, reader, writer),
     }
 }
 
 // The same in the mode of these answers.
-fn check_in<A: InMode + Drop, R: Read, W: Write>(
+fn answer_in<A: InMode + Drop, R: Read, W: Write>(
     answers: A,
     alloc: Global,
     reading: Reading,
-    report: Report<'_>,
+    task: Task<'_>,
     tally: &mut Tally,
     reader: &mut R,
     writer: &mut W,
 ) -> Result<u64, RunError> {
-    let mut lists = Checking::new(alloc, answers, report, tally);
-    run_prepared(alloc, reading, PLAIN, &mut lists, reader, writer)
+    match task {
+        Task::List(listing, name) => {
+            let mut lists = Naming {
+                alloc,
+                mode: reading.mode,
+                name,
+                below: Listed::new(alloc, answers),
+            };
+            let listing = listing.unwrap_or(PLAIN);
+            run_prepared(alloc, reading, listing, &mut lists, reader, writer)
+        }
+        Task::Check(report) => {
+            let mut lists = Checking {
+                alloc,
+                answers,
+                report,
+                room: ReplyBlock::new(alloc),
+                advice: Vec::new(alloc),
+                tally,
+            };
+            run_prepared(alloc, reading, PLAIN, &mut lists, reader, writer)
+        }
+        Task::Part(is_json) => part(alloc, reading, is_json, tally, reader, writer),
+    }
 }
 
-/// Writes the parts of each line.
-pub fn part<R: Read, W: Write>(
+// Writes the parts of lines.
+fn part<R: Read, W: Write>(
     alloc: Global,
     reading: Reading,
-    format: Format,
+    is_json: bool,
     tally: &mut Tally,
     reader: &mut R,
     writer: &mut W,
 ) -> Result<u64, RunError> {
-    let mut lists = Parting::new(alloc, reading.mode, format, tally);
+    let mut lists = Parting {
+        alloc,
+        mode: reading.mode,
+        is_json,
+        room: Vec::new(alloc),
+        spans: Spans::growing(alloc),
+        normal: ReplyBlock::new(alloc),
+        written: ReplyBlock::new(alloc),
+        tally,
+    };
     run_prepared(alloc, reading, PLAIN, &mut lists, reader, writer)
 }
 
@@ -212,6 +241,10 @@ fn run_as<L: Lists, const BY_ZERO: bool, const CLEANS: bool, R: Read, W: Write>(
         (R.remaining reader.old) (R.remaining reader.new)
         (W.contents writer.old) (W.contents writer.new)) }
 {
-    let mut prepared = Prepared::<L, BY_ZERO, CLEANS>::new(alloc, lists);
+    let mut prepared = Prepared::<L, BY_ZERO, CLEANS> {
+        below: lists,
+        whole: Vec::new(alloc),
+        cleaned: Vec::new(alloc),
+    };
     run_numbered(alloc, &mut prepared, listing, 1, reader, writer)
 }

@@ -23,9 +23,7 @@ use std::process::ExitCode;
 fn main(rt: HostRuntime) -> ExitCode {
     let mut words = Words::new(rt.alloc());
     ExitCode::from(match words.read(&rt) {
-        Asked::Help(None) => show(&rt, table::HELP),
-        Asked::Help(Some(command)) => show(&rt, table::help_of(command)),
-        Asked::Version => show(&rt, table::VERSION),
+        Asked::Text(text) => show(&rt, text),
         Asked::Lines(command) => {
             let mut inputs = Inputs::new(command, &words, io::writer(&rt));
             inputs.answer(&rt, &words)

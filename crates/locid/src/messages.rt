@@ -23,19 +23,11 @@ impl Shown<'_> {
         for byte in self.0 {
             match *byte {
                 b' '..=b'~' => f.write_char(*byte as char)?,
-                other => write_escaped(other, f)?,
+                other => write!(f, "\\x{other:02x}")?,
             }
         }
         Ok(())
     }
-}
-
-fn write_escaped<W: fmt::Write>(byte: u8, f: &mut fmt::Formatter<W>) -> fmt::Result {
-    f.write_str("\\x")?;
-    for digit in [byte / 16, byte % 16] {
-        f.write_char(char::from_digit(u32::from(digit), 16).unwrap_or('?'))?;
-    }
-    Ok(())
 }
 
 /// Says what happened.

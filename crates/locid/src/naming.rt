@@ -11,22 +11,11 @@ use std::alloc::{AllocError, Global};
 /// Writes for each line what `below` writes, and before it the name of the file, if the line is refused and has its number.
 #[derive(Drop)]
 pub struct Naming<'a, L> {
-    alloc: Global,
-    mode: Mode,
-    // The name of the file, if it is to be written.
-    name: Option<&'a str>,
-    below: L,
-}
-
-impl<'a, L> Naming<'a, L> {
-    pub fn new(alloc: Global, mode: Mode, name: Option<&'a str>, below: L) -> Self {
-        Naming {
-            alloc,
-            mode,
-            name,
-            below,
-        }
-    }
+    pub alloc: Global,
+    pub mode: Mode,
+    /// The name of the file, if it is to be written.
+    pub name: Option<&'a str>,
+    pub below: L,
 }
 
 impl<L: Lists> Lists for Naming<'_, L> {

@@ -1,10 +1,8 @@
 //! The parts of each line, in columns or as a JSON object.
 
 use crate::inputs::Tally;
-use crate::json::{fault_object, parts_object};
-use crate::parts::{Parts, cut, cut_member, keywords_in};
-use crate::words::Format;
-use iloc_faults::{Fault, InMemory, fault_in};
+use crate::json::object_of;
+use crate::parts::{Parts, cut, cut_member};
 use iloc_pieces::Window;
 use iloc_program::numbered::Lists;
 use iloc_program::{Listing, Mode, ReplyBlock, reply_line};
@@ -14,30 +12,15 @@ use std::alloc::{AllocError, Global};
 /// Writes the parts of lines in the mode.
 #[derive(Drop)]
 pub struct Parting<'a> {
-    alloc: Global,
-    mode: Mode,
-    format: Format,
-    room: Vec<u8>,
-    spans: Spans,
-    // The normal text of a line, and what is written of it.
-    normal: ReplyBlock,
-    written: ReplyBlock,
-    tally: &'a mut Tally,
-}
-
-impl<'a> Parting<'a> {
-    pub fn new(alloc: Global, mode: Mode, format: Format, tally: &'a mut Tally) -> Self {
-        Parting {
-            alloc,
-            mode,
-            format,
-            room: Vec::new(alloc),
-            spans: Spans::growing(alloc),
-            normal: ReplyBlock::new(alloc),
-            written: ReplyBlock::new(alloc),
-            tally,
-        }
-    }
+    pub alloc: Global,
+    pub mode: Mode,
+    pub is_json: bool,
+    pub room: Vec<u8>,
+    pub spans: Spans,
+    /// The answer to a line, and what is written of it.
+    pub normal: ReplyBlock,
+    pub written: ReplyBlock,
+    pub tally: &'a mut Tally,
 }
 
 impl Lists for Parting<'_> {
@@ -52,71 +35,54 @@ impl Lists for Parting<'_> {
         replies: &mut ReplyBlock,
     ) -> Result<(), AllocError> {
         let (line, _) = line.bytes.split_at(line.len());
-        let mode = self.mode;
-        self.tally.lines = self.tally.lines.saturating_add(1);
+        self.answer(line)?;
         self.written.clear();
-        match fault_in(InMemory(self.alloc), mode, line) {
-            Some(fault) => {
-                self.tally.refused = self.tally.refused.saturating_add(1);
-                write_fault(self.alloc, self.format, &fault, &mut self.written)?;
-            }
-            None => {
-                self.normal.clear();
-                reply_line(
-                    mode,
-                    line,
-                    &mut self.room,
-                    &mut self.spans,
-                    &mut self.normal,
-                )?;
-                let normal = self.normal.as_slice();
-                let text = normal.strip_suffix(b"\n").unwrap_or(normal);
-                write_parts(self.alloc, self.format, &cut(text), &mut self.written)?;
-            }
-        }
+        self.write(line)?;
+        self.written.push(b'\n')?;
         replies.extend_from_slice(self.written.as_slice())
     }
 }
 
-// Adds why a line has no parts. In columns the others are empty.
-fn write_fault(
-    alloc: Global,
-    format: Format,
-    fault: &Fault,
-    to: &mut ReplyBlock,
-) -> Result<(), AllocError> {
-    match format {
-        Format::Tsv => {
-            to.extend_from_slice(b"! ")?;
-            to.extend_from_slice(fault.refusal.words().as_bytes())?;
-            to.extend_from_slice(b"\t\t\t\t\t")?;
+impl Parting<'_> {
+    // Has the room hold the answer to a line.
+    fn answer(&mut self, line: &[u8]) -> Result<(), AllocError> {
+        let normal = &mut self.normal;
+        normal.clear();
+        reply_line(self.mode, line, &mut self.room, &mut self.spans, normal)
+    }
+
+    // Adds what is written of the line that was answered, and counts it.
+    fn write(&mut self, line: &[u8]) -> Result<(), AllocError> {
+        let text = match self.normal.as_slice() {
+            [text @ .., b'\n'] => text,
+            text => text,
+        };
+        self.tally.add(matches!(text, [b'!', ..]));
+        let parts = cut(text);
+        if !self.is_json {
+            return write_columns(&parts, &mut self.written);
         }
-        Format::Json => to.extend_from_slice(fault_object(alloc, fault)?.as_slice())?,
+        let object = object_of(self.alloc, self.mode, line, &parts)?;
+        self.written.extend_from_slice(object.as_slice())
     }
-    to.push(b'\n')
 }
 
-fn write_parts(
-    alloc: Global,
-    format: Format,
-    parts: &Parts<'_>,
-    to: &mut ReplyBlock,
-) -> Result<(), AllocError> {
-    match format {
-        Format::Tsv => write_columns(parts, to)?,
-        Format::Json => to.extend_from_slice(parts_object(alloc, parts)?.as_slice())?,
-    }
-    to.push(b'\n')
-}
-
+// Adds the columns. A refusal has no hyphens, so it stands in the first one.
 fn write_columns(parts: &Parts<'_>, to: &mut ReplyBlock) -> Result<(), AllocError> {
-    for part in [parts.language, parts.script, parts.region, parts.variants] {
-        to.extend_from_slice(part)?;
-        to.push(b'\t')?;
-    }
-    write_keywords(keywords_in(parts.extensions), to)?;
+    write_column(parts.language, to)?;
+    write_column(parts.script, to)?;
+    write_column(parts.region, to)?;
+    to.extend_from_slice(parts.variants.0)?;
     to.push(b'\t')?;
-    to.extend_from_slice(parts.extensions)
+    write_keywords(parts.keywords.0, to)?;
+    to.push(b'\t')?;
+    to.extend_from_slice(parts.extensions.0)
+}
+
+// Adds a part, and a tab.
+fn write_column(part: Option<&str>, to: &mut ReplyBlock) -> Result<(), AllocError> {
+    to.extend_from_slice(part.unwrap_or("").as_bytes())?;
+    to.push(b'\t')
 }
 
 // Adds the keywords, as `ca=buddhist;kn`.
@@ -129,10 +95,9 @@ fn write_keywords(keywords: &[u8], to: &mut ReplyBlock) -> Result<(), AllocError
             to.push(b'=')?;
             to.extend_from_slice(value)?;
         }
-        if later.is_empty() {
-            break;
+        if !later.is_empty() {
+            to.push(b';')?;
         }
-        to.push(b';')?;
         rest = later;
     }
     Ok(())

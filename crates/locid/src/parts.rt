@@ -2,16 +2,32 @@
 
 ghost use Rattle.std.specs.Prelude.{◌≤◌, length};
 
-/// The parts of a locale, each as its normal text has it. What is absent is empty.
-#[derive(Clone, Copy)]
+use serde::Serialize;
+use std::str;
+
+/// The parts of a locale, each as its normal text has it.
+#[derive(Clone, Copy, Serialize)]
 pub struct Parts<'a> {
-    pub language: &'a [u8],
-    pub script: &'a [u8],
-    pub region: &'a [u8],
-    /// All variants, with hyphens between.
-    pub variants: &'a [u8],
+    pub language: Option<&'a str>,
+    pub script: Option<&'a str>,
+    pub region: Option<&'a str>,
+    pub variants: Variants<'a>,
+    pub keywords: Members<'a>,
     /// All extensions, from the first singleton on.
-    pub extensions: &'a [u8],
+    pub extensions: Members<'a>,
+}
+
+/// Variants, with hyphens between them.
+#[derive(Clone, Copy)]
+pub struct Variants<'a>(pub &'a [u8]);
+
+/// Keywords or extensions, and how many bytes their keys have.
+#[derive(Clone, Copy)]
+pub struct Members<'a>(pub &'a [u8], pub usize);
+
+/// A part as text: it is ASCII.
+pub fn text_of(part: &[u8]) -> &str {
+    str::from_utf8(part).unwrap_or("")
 }
 
 /// The first piece, and what follows its hyphen.
@@ -24,29 +40,30 @@ pub fn cut_piece(text: &[u8]) -> (&[u8], &[u8])
     }
 }
 
-/// The parts of a normal text. A script has four letters, a region two letters or three digits; up to the first
-/// singleton all else are variants (UTS #35, part 1, section 3.1).
+/// The parts of a normal text. A script has four bytes and begins with a capital, a region has two letters or three digits;
+/// up to the first singleton all else are variants (UTS #35, part 1, section 3.1).
 pub fn cut(text: &[u8]) -> Parts<'_> {
     let (language, mut rest) = cut_piece(text);
-    let mut script = &text[..0];
-    let mut region = &text[..0];
+    let mut script = None;
+    let mut region = None;
     let (piece, later) = cut_piece(rest);
-    if piece.len() == 4 && piece.iter().all(|byte| byte.is_ascii_alphabetic()) {
-        script = piece;
+    if matches!(piece, [b'A'..=b'Z', _, _, _]) {
+        script = Some(text_of(piece));
         rest = later;
     }
     let (piece, later) = cut_piece(rest);
-    if piece.len() == 2 || piece.len() == 3 {
-        region = piece;
+    if matches!(piece.len(), 2 | 3) {
+        region = Some(text_of(piece));
         rest = later;
     }
     let (variants, extensions) = cut_before(rest, 1);
     Parts {
-        language,
+        language: Some(text_of(language)),
         script,
         region,
-        variants,
-        extensions,
+        variants: Variants(variants),
+        keywords: Members(keywords_in(extensions), 2),
+        extensions: Members(extensions, 1),
     }
 }
 
@@ -73,19 +90,19 @@ fn cut_before(text: &[u8], count: usize) -> (&[u8], &[u8]) {
 /// where `x` takes all the rest; those of keywords have two.
 pub fn cut_member(members: &[u8], count: usize) -> (&[u8], &[u8], &[u8]) {
     let (key, rest) = cut_piece(members);
-    if matches!(key, b"x") {
+    if matches!(key, [b'x']) {
         return (key, rest, &[]);
     }
     let (value, later) = cut_before(rest, count);
     (key, value, later)
 }
 
-/// The keywords of the unicode extension, behind its attributes.
-pub fn keywords_in(extensions: &[u8]) -> &[u8] {
+// The keywords of the unicode extension, behind its attributes.
+fn keywords_in(extensions: &[u8]) -> &[u8] {
     let mut rest = extensions;
     for _ in 0..extensions.len() {
         let (singleton, block, later) = cut_member(rest, 1);
-        if matches!(singleton, b"u") {
+        if matches!(singleton, [b'u']) {
             return cut_before(block, 2).1;
         }
         rest = later;

@@ -9,25 +9,15 @@ use iloc_cleaning::{clean_line, without_mark};
 use iloc_pieces::Window;
 use iloc_program::numbered::Lists;
 use iloc_program::{Listing, ReplyBlock};
-use std::alloc::{AllocError, Global};
+use std::alloc::AllocError;
 
 /// Writes for each line what `below` writes for what is read in its place.
 #[derive(Drop)]
 pub struct Prepared<'a, L, const BY_ZERO: bool, const CLEANS: bool> {
-    below: &'a mut L,
-    // Two rooms for what is read.
-    whole: Vec<u8>,
-    cleaned: Vec<u8>,
-}
-
-impl<'a, L, const BY_ZERO: bool, const CLEANS: bool> Prepared<'a, L, BY_ZERO, CLEANS> {
-    pub fn new(alloc: Global, below: &'a mut L) -> Self {
-        Prepared {
-            below,
-            whole: Vec::new(alloc),
-            cleaned: Vec::new(alloc),
-        }
-    }
+    pub below: &'a mut L,
+    /// Two rooms for what is read.
+    pub whole: Vec<u8>,
+    pub cleaned: Vec<u8>,
 }
 
 impl<L: Lists, const BY_ZERO: bool, const CLEANS: bool> Lists for Prepared<'_, L, BY_ZERO, CLEANS> {

@@ -15,16 +15,6 @@ pub struct Source<R> {
     pub error: Option<io::Error>,
 }
 
-impl<R: Read + Drop> Source<R> {
-    pub fn new(from: R, by_zero: bool) -> Source<R> {
-        Source {
-            from,
-            by_zero,
-            error: None,
-        }
-    }
-}
-
 impl<R: Read + Drop> Read for Source<R> {
     ghost remaining = { λ source. if source.by_zero then None else R.remaining source.from };
 
@@ -43,26 +33,14 @@ impl<R: Read + Drop> Read for Source<R> {
 #[derive(Drop)]
 pub struct Target<W> {
     pub to: W,
-    // Whether lines end with zero bytes: then each of the two bytes is written as the other.
-    by_zero: bool,
-    // Whether refused lines are looked for.
-    looks: bool,
+    /// Whether lines end with zero bytes: then each of the two bytes is written as the other.
+    pub by_zero: bool,
+    /// Whether refused lines are looked for.
+    pub looks: bool,
     /// Whether one was seen. Only what is written of a refused line has an exclamation mark.
     pub is_refused: bool,
     /// Why a write failed.
     pub error: Option<io::Error>,
-}
-
-impl<W: Write + Drop> Target<W> {
-    pub fn new(to: W, by_zero: bool, looks: bool) -> Target<W> {
-        Target {
-            to,
-            by_zero,
-            looks,
-            is_refused: false,
-            error: None,
-        }
-    }
 }
 
 impl<W: Write + Drop> Write for Target<W> {

@@ -8,23 +8,37 @@ pub enum Command {
     Parts,
 }
 
-/// An option.
-#[derive(Clone, Copy)]
-pub enum Flag {
-    Mode,
-    Clean,
-    Null,
-    Where,
-    LineNumber,
-    OnlyRefused,
-    Show,
-    Format,
-    ExitStatus,
-    Quiet,
-    Count,
-    Help,
-    Version,
-}
+/// Options, a bit for each.
+pub type Flag = u16;
+
+pub const MODE: Flag = 1 << 0;
+
+pub const CLEAN: Flag = 1 << 1;
+
+pub const NULL: Flag = 1 << 2;
+
+pub const WHERE: Flag = 1 << 3;
+
+pub const LINE_NUMBER: Flag = 1 << 4;
+
+pub const ONLY_REFUSED: Flag = 1 << 5;
+
+pub const SHOW: Flag = 1 << 6;
+
+pub const FORMAT: Flag = 1 << 7;
+
+pub const EXIT_STATUS: Flag = 1 << 8;
+
+pub const QUIET: Flag = 1 << 9;
+
+pub const COUNT: Flag = 1 << 10;
+
+pub const HELP: Flag = 1 << 11;
+
+pub const VERSION: Flag = 1 << 12;
+
+/// The options behind which a word stands.
+pub const WITH_WORD: Flag = MODE | FORMAT;
 
 /// The command of that name.
 pub fn command_of(word: &str) -> Option<Command> {
@@ -36,85 +50,75 @@ pub fn command_of(word: &str) -> Option<Command> {
     }
 }
 
-/// The option of that name.
-pub fn flag_named(name: &str) -> Option<Flag> {
+/// The option of that name, if there is one.
+pub fn flag_named(name: &str) -> Flag {
     match name {
-        "mode" => Some(Flag::Mode),
-        "clean" => Some(Flag::Clean),
-        "null" => Some(Flag::Null),
-        "where" => Some(Flag::Where),
-        "line-number" => Some(Flag::LineNumber),
-        "only-refused" => Some(Flag::OnlyRefused),
-        "show" => Some(Flag::Show),
-        "format" => Some(Flag::Format),
-        "exit-status" => Some(Flag::ExitStatus),
-        "quiet" => Some(Flag::Quiet),
-        "count" => Some(Flag::Count),
-        "help" => Some(Flag::Help),
-        "version" => Some(Flag::Version),
-        _ => None,
+        "mode" => MODE,
+        "clean" => CLEAN,
+        "null" => NULL,
+        "where" => WHERE,
+        "line-number" => LINE_NUMBER,
+        "only-refused" => ONLY_REFUSED,
+        "show" => SHOW,
+        "format" => FORMAT,
+        "exit-status" => EXIT_STATUS,
+        "quiet" => QUIET,
+        "count" => COUNT,
+        "help" => HELP,
+        "version" => VERSION,
+        _ => 0,
     }
 }
 
-/// The option of that letter.
-pub fn flag_lettered(letter: u8) -> Option<Flag> {
+/// The option of that letter, if there is one.
+pub fn flag_lettered(letter: u8) -> Flag {
     match letter {
-        b'm' => Some(Flag::Mode),
-        b'c' => Some(Flag::Clean),
-        b'0' => Some(Flag::Null),
-        b'w' => Some(Flag::Where),
-        b'n' => Some(Flag::LineNumber),
-        b'o' => Some(Flag::OnlyRefused),
-        b's' => Some(Flag::Show),
-        b'f' => Some(Flag::Format),
-        b'e' => Some(Flag::ExitStatus),
-        b'q' => Some(Flag::Quiet),
-        b'h' => Some(Flag::Help),
-        b'V' => Some(Flag::Version),
-        _ => None,
+        b'm' => MODE,
+        b'c' => CLEAN,
+        b'0' => NULL,
+        b'w' => WHERE,
+        b'n' => LINE_NUMBER,
+        b'o' => ONLY_REFUSED,
+        b's' => SHOW,
+        b'f' => FORMAT,
+        b'e' => EXIT_STATUS,
+        b'q' => QUIET,
+        b'h' => HELP,
+        b'V' => VERSION,
+        _ => 0,
     }
 }
 
-/// Whether the command has the option. Before a command there are --help and --version.
-pub fn has(command: Option<Command>, flag: Flag) -> bool {
+/// The options of the command. Before a command there are --help and --version.
+pub fn flags_of(command: Option<Command>) -> Flag {
     match command {
-        None => matches!(flag, Flag::Help | Flag::Version),
-        Some(Command::Normalize) => !matches!(flag, Flag::Show | Flag::Format),
-        Some(Command::Check) => !matches!(
-            flag,
-            Flag::Where | Flag::LineNumber | Flag::OnlyRefused | Flag::Format | Flag::ExitStatus
-        ),
-        Some(Command::Parts) => !matches!(
-            flag,
-            Flag::Where
-                | Flag::LineNumber
-                | Flag::OnlyRefused
-                | Flag::Show
-                | Flag::Quiet
-                | Flag::Count
-        ),
+        None => HELP | VERSION,
+        Some(Command::Normalize) => NORMALIZE_FLAGS,
+        Some(Command::Check) => CHECK_FLAGS,
+        Some(Command::Parts) => PARTS_FLAGS,
     }
 }
 
-/// Whether a word stands behind the option.
-pub fn takes_value(flag: Flag) -> bool {
-    matches!(flag, Flag::Mode | Flag::Format)
-}
+const NORMALIZE_FLAGS: Flag = !(SHOW | FORMAT);
+
+const CHECK_FLAGS: Flag = !(WHERE | LINE_NUMBER | ONLY_REFUSED | FORMAT | EXIT_STATUS);
+
+const PARTS_FLAGS: Flag = !(WHERE | LINE_NUMBER | ONLY_REFUSED | SHOW | QUIET | COUNT);
 
 /// What --help says of a command.
 pub fn help_of(command: Command) -> &'static str {
     match command {
-        Command::Normalize => NORMALIZE,
-        Command::Check => CHECK,
-        Command::Parts => PARTS,
+        Command::Normalize => NORMALIZE_HELP,
+        Command::Check => CHECK_HELP,
+        Command::Parts => PARTS_HELP,
     }
 }
 
 /// The version.
-pub const VERSION: &str = "locid 1.0.0\n";
+pub const VERSION_TEXT: &str = "locid 1.0.0\n";
 
 /// What --help says without a command.
-pub const HELP: &str = "\
+pub const HELP_TEXT: &str = "\
 Usage: locid COMMAND [OPTION ..] [FILE ..]
 Unicode locale identifiers, line by line.
 
@@ -125,7 +129,7 @@ Unicode locale identifiers, line by line.
 locid COMMAND --help says what a command takes, and locid --version which version this is.
 ";
 
-const NORMALIZE: &str = "\
+const NORMALIZE_HELP: &str = "\
 Usage: locid normalize [OPTION ..] [FILE ..]
 Writes the normal form of each line, or `! ` and why the line is refused.
 
@@ -161,7 +165,7 @@ Example: printf 'EN-us\\nen-US-foo\\n' | locid normalize -now
 prints:  2\t! Invalid subtag\t6..9\tfoo
 ";
 
-const CHECK: &str = "\
+const CHECK_HELP: &str = "\
 Usage: locid check [OPTION ..] [FILE ..]
 Writes where and why lines are refused, as FILE:LINE:COLUMN: REASON: SUBTAG: ADVICE.
 
@@ -195,7 +199,7 @@ Example: printf 'EN-us\\nen-US-foo\\n' | locid check
 prints:  -:2:7: Invalid subtag: foo: a variant or an extension may stand here
 ";
 
-const PARTS: &str = "\
+const PARTS_HELP: &str = "\
 Usage: locid parts [OPTION ..] [FILE ..]
 Writes the parts of each line, in columns or as JSON.
 

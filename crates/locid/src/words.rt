@@ -2,7 +2,8 @@
 
 use crate::lines::Reading;
 use crate::messages::{complain, say};
-use crate::table::{Command, Flag, command_of, flag_lettered, flag_named, has, takes_value};
+use crate::table;
+use crate::table::{Command, Flag};
 use iloc_program::{Listing, Mode};
 use std::alloc::Global;
 use std::env::FillError;
@@ -15,80 +16,49 @@ pub const WORD: usize = 4096;
 /// The status after wrong arguments, and after an input or the output failed.
 pub const TROUBLE: u8 = 2;
 
-/// How parts are written.
-#[derive(Clone, Copy, Default)]
-pub enum Format {
-    #[default]
-    Tsv,
-    Json,
-}
-
 /// What is done with lines: which options were met, and the words behind two of them.
-#[derive(Clone, Copy, Default)]
+#[derive(Clone, Copy)]
 pub struct Settings {
-    mode: Option<Mode>,
-    pub format: Format,
-    cleans: bool,
-    by_zero: bool,
-    places: bool,
-    pub numbers: bool,
-    only_refused: bool,
-    pub exit_status: bool,
-    pub is_quiet: bool,
-    pub counts: bool,
-    pub shows: bool,
+    met: Flag,
+    mode: Mode,
+    /// Whether parts are written as JSON.
+    pub is_json: bool,
 }
 
 impl Settings {
+    /// Whether one of these options was met.
+    pub fn has(&self, flags: Flag) -> bool {
+        self.met & flags != 0
+    }
+
     /// How lines are read.
     pub fn reading(&self) -> Reading {
         Reading {
-            mode: self.mode.unwrap_or(Mode::Locale),
-            cleans: self.cleans,
-            by_zero: self.by_zero,
+            mode: self.mode,
+            cleans: self.has(table::CLEAN),
+            by_zero: self.has(table::NULL),
         }
     }
 
     /// How lines are listed, if any of it is asked for.
     pub fn listing(&self) -> Option<Listing> {
-        if !self.places && !self.numbers && !self.only_refused {
+        if !self.has(table::WHERE | table::LINE_NUMBER | table::ONLY_REFUSED) {
             return None;
         }
         Some(Listing {
-            places: self.places,
-            numbers: self.numbers,
-            only_refused: self.only_refused,
+            places: self.has(table::WHERE),
+            numbers: self.has(table::LINE_NUMBER),
+            only_refused: self.has(table::ONLY_REFUSED),
         })
-    }
-
-    /// Whether nothing is written of lines but how many there are, or nothing at all.
-    pub fn only_counts(&self) -> bool {
-        self.counts || self.is_quiet
-    }
-
-    // Notes an option without a word behind it.
-    fn meet(&mut self, flag: Flag) {
-        match flag {
-            Flag::Clean => self.cleans = true,
-            Flag::Null => self.by_zero = true,
-            Flag::Where => self.places = true,
-            Flag::LineNumber => self.numbers = true,
-            Flag::OnlyRefused => self.only_refused = true,
-            Flag::Show => self.shows = true,
-            Flag::ExitStatus => self.exit_status = true,
-            Flag::Quiet => self.is_quiet = true,
-            Flag::Count => self.counts = true,
-            Flag::Mode | Flag::Format | Flag::Help | Flag::Version => {}
-        }
     }
 }
 
 /// What the program is to do.
 #[derive(Clone, Copy)]
 pub enum Asked {
-    /// Help of a command, or of the program.
-    Help(Option<Command>),
-    Version,
+    /// A text is shown.
+    Text(&'static str),
+    /// Lines are answered.
     Lines(Command),
     /// The arguments are wrong, which was said.
     Nothing,
@@ -100,7 +70,7 @@ enum Stop<'a> {
     // All is said.
     Asked(Asked),
     // A word is wrong: why, and what is shown of it.
-    Wrong(&'static str, &'a str),
+    Wrong(&'static str, &'a [u8]),
     OutOfMemory,
 }
 
@@ -111,6 +81,8 @@ pub struct Words {
     pub settings: Settings,
     /// Where the files stand among the arguments.
     pub files: Vec<usize>,
+    // The option that waits for a word, if one does.
+    waiting: Flag,
     // Whether all words are files from here on.
     is_ended: bool,
 }
@@ -119,170 +91,172 @@ impl Words {
     pub fn new(alloc: Global) -> Words {
         Words {
             command: None,
-            settings: Settings::default(),
+            settings: Settings {
+                met: 0,
+                mode: Mode::Locale,
+                is_json: false,
+            },
             files: Vec::new(alloc),
+            waiting: 0,
             is_ended: false,
         }
     }
 
     /// Reads all words, and says what is wrong with the first that is.
     pub fn read(&mut self, rt: &(impl Env + Eprint)) -> Asked {
-        let mut waiting = None;
         for at in 1..usize::MAX {
             let mut room = [0u8; WORD];
             let count = match rt.arg(at, &mut room) {
                 Ok(count) => count,
                 Err(FillError::TooLong) => {
-                    return wrong(
-                        rt,
-                        "an argument is longer than the name of a file can be",
-                        "",
-                    );
+                    let what = "an argument is longer than the name of a file can be";
+                    return wrong(rt, what, b"");
                 }
-                Err(FillError::NotPresent) => return self.end(rt, waiting),
+                Err(FillError::NotPresent) => return self.end(rt),
             };
-            let Ok(word) = str::from_utf8(&room[..count]) else {
-                complain(rt, "an argument is no UTF-8: ", &room[..count]);
-                return Asked::Nothing;
-            };
-            waiting = match self.read_word(waiting, at, word) {
-                Ok(next) => next,
+            match self.read_bytes(at, &room[..count]) {
+                Ok(()) => {}
                 Err(Stop::Asked(asked)) => return asked,
                 Err(Stop::Wrong(what, shown)) => return wrong(rt, what, shown),
                 Err(Stop::OutOfMemory) => {
                     say(rt, "out of memory");
                     return Asked::Nothing;
                 }
-            };
+            }
         }
         Asked::Nothing
     }
 
-    // What is asked for once all words are read. The option still waits for a word.
-    fn end(&self, rt: &impl Eprint, waiting: Option<Flag>) -> Asked {
-        let lacking = match (waiting, self.command) {
-            (None, Some(command)) => return Asked::Lines(command),
-            (None, None) => "no command: normalize, check or parts",
-            (Some(Flag::Mode), _) => "--mode wants a word: langid, locale or data",
-            (Some(_), _) => "--format wants a word: tsv or json",
+    // What is asked for once all words are read.
+    fn end(&self, rt: &impl Eprint) -> Asked {
+        let lacking = match (self.waiting, self.command) {
+            (table::MODE, _) => "--mode wants a word: langid, locale or data",
+            (table::FORMAT, _) => "--format wants a word: tsv or json",
+            (_, Some(command)) => return Asked::Lines(command),
+            (_, None) => "no command: normalize, check or parts",
         };
-        wrong(rt, lacking, "")
+        wrong(rt, lacking, b"")
     }
 
-    // Reads the word at that place, for which an option may wait. Returns the option that waits for the next one.
-    fn read_word<'a>(
-        &mut self,
-        waiting: Option<Flag>,
-        at: usize,
-        word: &'a str,
-    ) -> Result<Option<Flag>, Stop<'a>> {
-        if let Some(flag) = waiting {
-            return self.read_value(flag, word);
+    // Reads the bytes of a word.
+    fn read_bytes<'a>(&mut self, at: usize, word: &'a [u8]) -> Result<(), Stop<'a>> {
+        match str::from_utf8(word) {
+            Ok(text) => self.read_word(at, text),
+            Err(_) => Err(Stop::Wrong("an argument is no UTF-8: ", word)),
+        }
+    }
+
+    // Reads the word at that place.
+    fn read_word<'a>(&mut self, at: usize, word: &'a str) -> Result<(), Stop<'a>> {
+        if self.waiting != 0 {
+            return self.read_value(self.waiting, word);
         }
         if self.is_ended {
             return self.add_file(at);
         }
-        if word == "--" {
-            self.is_ended = true;
-            return Ok(None);
-        }
-        if let Some(rest) = word.strip_prefix("--") {
-            return self.read_long(word, rest);
-        }
-        match word.strip_prefix('-') {
-            Some(letters) if !letters.is_empty() => return self.read_short(letters),
+        match word.as_bytes() {
+            [b'-', b'-'] => {
+                self.is_ended = true;
+                return Ok(());
+            }
+            [b'-', b'-', ..] => return self.read_long(word),
+            [b'-', _, ..] => return self.read_short(word),
             _ => {}
         }
         if self.command.is_some() {
             return self.add_file(at);
         }
-        self.command = command_of(word);
+        self.command = table::command_of(word);
         match self.command {
-            Some(_) => Ok(None),
-            None => Err(Stop::Wrong("unknown command ", word)),
+            Some(_) => Ok(()),
+            None => Err(Stop::Wrong("unknown command ", word.as_bytes())),
         }
     }
 
-    fn add_file(&mut self, at: usize) -> Result<Option<Flag>, Stop<'static>> {
+    fn add_file(&mut self, at: usize) -> Result<(), Stop<'static>> {
         match self.files.push(at) {
-            Ok(()) => Ok(None),
+            Ok(()) => Ok(()),
             Err(_) => Err(Stop::OutOfMemory),
         }
     }
 
     // Reads an option by its name, with what stands behind a `=`.
-    fn read_long<'a>(&mut self, word: &'a str, rest: &'a str) -> Result<Option<Flag>, Stop<'a>> {
-        let (name, value) = match rest.split_once('=') {
-            Some((name, value)) => (name, Some(value)),
-            None => (rest, None),
-        };
-        match (self.found(flag_named(name)), value) {
-            (None, _) => Err(Stop::Wrong("unknown option ", word)),
-            (Some(flag), None) => self.meet(flag),
-            (Some(flag), Some(value)) if takes_value(flag) => self.read_value(flag, value),
-            (Some(_), Some(_)) => Err(Stop::Wrong("no word may follow this option ", word)),
+    fn read_long<'a>(&mut self, word: &'a str) -> Result<(), Stop<'a>> {
+        let end = word.as_bytes().iter().position(|byte| *byte == b'=');
+        let name = word.get(2..end.unwrap_or(word.len())).unwrap_or("");
+        let flag = table::flag_named(name) & table::flags_of(self.command);
+        if flag == 0 {
+            return Err(Stop::Wrong("unknown option ", word.as_bytes()));
+        }
+        match end {
+            None => self.meet(flag),
+            Some(end) if flag & table::WITH_WORD != 0 => {
+                self.read_value(flag, word.get(end.saturating_add(1)..).unwrap_or(""))
+            }
+            Some(_) => Err(Stop::Wrong("no word may follow this option ", word.as_bytes())),
         }
     }
 
     // Reads options by their letters. What follows one that takes a word is that word.
-    fn read_short<'a>(&mut self, letters: &'a str) -> Result<Option<Flag>, Stop<'a>> {
-        for at in 0..letters.len() {
-            let Some(flag) = self.found(flag_lettered(letters.as_bytes()[at])) else {
-                let shown = letters.get(at..at + 1).unwrap_or(letters);
-                return Err(Stop::Wrong("unknown option -", shown));
-            };
-            let value = letters.get(at + 1..).unwrap_or("");
-            if takes_value(flag) && !value.is_empty() {
+    fn read_short<'a>(&mut self, word: &'a str) -> Result<(), Stop<'a>> {
+        for at in 1..word.len() {
+            let next = at.saturating_add(1);
+            let flag = table::flag_lettered(word.as_bytes()[at]) & table::flags_of(self.command);
+            if flag == 0 {
+                let shown = word.get(at..next).or(word.get(1..)).unwrap_or("");
+                return Err(Stop::Wrong("unknown option -", shown.as_bytes()));
+            }
+            let value = word.get(next..).unwrap_or("");
+            if flag & table::WITH_WORD != 0 && !value.is_empty() {
                 return self.read_value(flag, value);
             }
-            if let Some(waiting) = self.meet(flag)? {
-                return Ok(Some(waiting));
+            self.meet(flag)?;
+        }
+        Ok(())
+    }
+
+    // Meets an option. One that takes a word waits for it.
+    fn meet(&mut self, flag: Flag) -> Result<(), Stop<'static>> {
+        match (flag, self.command) {
+            (table::HELP, Some(command)) => Err(Stop::Asked(Asked::Text(table::help_of(command)))),
+            (table::HELP, None) => Err(Stop::Asked(Asked::Text(table::HELP_TEXT))),
+            (table::VERSION, _) => Err(Stop::Asked(Asked::Text(table::VERSION_TEXT))),
+            (table::MODE | table::FORMAT, _) => {
+                self.waiting = flag;
+                Ok(())
             }
-        }
-        Ok(None)
-    }
-
-    // The option, if the command has it.
-    fn found(&self, flag: Option<Flag>) -> Option<Flag> {
-        match flag {
-            Some(flag) if has(self.command, flag) => Some(flag),
-            _ => None,
-        }
-    }
-
-    // Meets an option, and returns it if it waits for a word.
-    fn meet(&mut self, flag: Flag) -> Result<Option<Flag>, Stop<'static>> {
-        match flag {
-            Flag::Help => Err(Stop::Asked(Asked::Help(self.command))),
-            Flag::Version => Err(Stop::Asked(Asked::Version)),
-            _ if takes_value(flag) => Ok(Some(flag)),
             _ => {
-                self.settings.meet(flag);
-                Ok(None)
+                self.settings.met |= flag;
+                Ok(())
             }
         }
     }
 
     // Notes the word behind an option.
-    fn read_value<'a>(&mut self, flag: Flag, value: &'a str) -> Result<Option<Flag>, Stop<'a>> {
-        if let Flag::Mode = flag {
+    fn read_value<'a>(&mut self, flag: Flag, value: &'a str) -> Result<(), Stop<'a>> {
+        self.waiting = 0;
+        if flag == table::MODE {
             let Some(mode) = Mode::from_word(value) else {
-                return Err(Stop::Wrong("--mode is langid, locale or data, and not ", value));
+                let what = "--mode is langid, locale or data, and not ";
+                return Err(Stop::Wrong(what, value.as_bytes()));
             };
-            self.settings.mode = Some(mode);
-            return Ok(None);
+            self.settings.mode = mode;
+            return Ok(());
         }
-        self.settings.format = match value {
-            "tsv" => Format::Tsv,
-            "json" => Format::Json,
-            _ => return Err(Stop::Wrong("--format is tsv or json, and not ", value)),
+        self.settings.is_json = match value {
+            "tsv" => false,
+            "json" => true,
+            _ => {
+                let what = "--format is tsv or json, and not ";
+                return Err(Stop::Wrong(what, value.as_bytes()));
+            }
         };
-        Ok(None)
+        Ok(())
     }
 }
 
 // Says what is wrong with the arguments, and what is shown of them.
-fn wrong(rt: &impl Eprint, what: &str, shown: &str) -> Asked {
-    complain(rt, what, shown.as_bytes());
+fn wrong(rt: &impl Eprint, what: &str, shown: &[u8]) -> Asked {
+    complain(rt, what, shown);
     Asked::Nothing
 }
