@@ -1,5 +1,5 @@
 -- An identifier without extensions.
-use Rattle.std.proofs.Common.{◌≡◌, ◌↔◌, ℕ, ◌<◌, true, cond, List, [], ◌∷◌, ◌++◌, length, map, filter, Option}
+use Rattle.std.proofs.Common.{◌≡◌, ◌↔◌, ℕ, ◌<◌, true, cond, List, [], ◌∷◌, length, map, filter, Option}
 use Rattle.std.proofs.Common.{Some, None, option_map, refl, sym, ap, ◌∙◌, subst}
 use Rattle.std.specs.List.{AllByRecursion}
 use Rattle.std.specs.Char.{is_ascii_alphanumeric}
@@ -33,7 +33,7 @@ use Rattle.iloc_spec_grammar.proofs.Singletons.{IsKind, of_u, of_t, of_x, anothe
 use Rattle.iloc_spec_parts.proofs.SmallShapes.{none_there, none_mapped, no_normal_fields, nothing_here}
 use Rattle.iloc_spec_parts.proofs.SmallShapes.{none_of_both}
 use Rattle.iloc_normalize.proofs.PlainAnswers as alone
-use Rattle.iloc_spec_grammar.specs.Syntax.{Block, code_x, code_u, code_t, Text}
+use Rattle.iloc_spec_grammar.specs.Syntax.{code_x, code_u, code_t, Text}
 use Rattle.iloc_langid.proofs.BlockLemmas.{front_all}
 
 -- the text of an identifier alone

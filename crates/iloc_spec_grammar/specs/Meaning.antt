@@ -2,7 +2,7 @@
 -- sets, keywords and fields maps, both as ascending lists; `true` in a value means nothing.
 -- Restates the canonical syntax of UTS #35, section 3.2.1. That the first of equal keys stays is
 -- what RFC 6067, section 2.1, says after `u`, and the rule of this library after `t`.
-use Rattle.std.specs.Prelude.{◌≡◌, ℕ, ◌<◌, ◌==◌, length, flat_map, if◌then◌else◌, not, List, [], ◌∷◌, map}
+use Rattle.std.specs.Prelude.{◌≡◌, ℕ, ◌==◌, flat_map, if◌then◌else◌, not, List, [], ◌∷◌, map}
 use Rattle.std.specs.Prelude.{filter, None, option_map, true, false, ◌++◌}
 use Rattle.std.specs.Ordering.{nat_cmp}
 use Rattle.std.specs.declared.cmp.Ordering.{Ordering}

@@ -2,11 +2,11 @@
 -- that of the canonical syntax of UTS #35, section 3.2.1: one case for each kind of word, variants,
 -- attributes, keys and singletons in ascending order, and no value `true` (but in a field of `t`,
 -- which has no other empty value). It is defined for values that are not well-formed too.
-use Rattle.std.specs.Prelude.{◌≡◌, ⊤, ◌↔◌, ◌≢◌, ℕ, ◌<◌, ◌≤◌, true, false, List, [], ◌∷◌, ◌++◌, length, map}
+use Rattle.std.specs.Prelude.{◌≡◌, ⊤, ◌↔◌, ◌≢◌, ℕ, ◌≤◌, true, false, List, [], ◌∷◌, ◌++◌, length, map}
 use Rattle.std.specs.Prelude.{flat_map, IfSome, option_map, option_to_list, nat_le, codes, if◌then◌else◌, ◌⊎◌}
 use Rattle.std.specs.Prelude.{zero, suc, Bool, not}
 use Rattle.std.specs.Char.{to_ascii_lowercase}
-use Rattle.std.specs.List.{AllByRecursion, list_any, AllZip}
+use Rattle.std.specs.List.{AllByRecursion, AllZip}
 use Rattle.std.specs.FinMap.{is_sorted}
 use Rattle.std.specs.Ordering.{nat_cmp}
 use Rattle.std.specs.declared.cmp.Ordering.{Ordering}

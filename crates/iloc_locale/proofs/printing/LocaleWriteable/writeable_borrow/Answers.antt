@@ -8,16 +8,14 @@ use Rattle.iloc_spec_grammar.specs.Syntax.{Text}
 
 pub returns-then-not-is_empty-clause-lends : goal.returns-then-not-is_empty-clause-lends
 returns-then-not-is_empty-clause-lends c =
-    let parts = language_alone c.args.self.now in
-    (
+    let parts = language_alone c.args.self.now in (
       λ s. absurd (true≢false (sym s)),
       λ l. absurd (true≢false (sym (c.is_empty.ensures.1 (parts.0 l).1) ∙ c.if-not-is_empty.true)),
     )
 
 pub returns-clause-lends : goal.returns-clause-lends
 returns-clause-lends c =
-    let parts = language_alone c.args.self.now in
-    (
+    let parts = language_alone c.args.self.now in (
       λ s. parts.1
           (c.writeable_borrow.ensures.lends.0 s, c.is_empty.ensures.0 c.if-not-is_empty.false),
       λ l. c.writeable_borrow.ensures.lends.1 (parts.0 l).0,
