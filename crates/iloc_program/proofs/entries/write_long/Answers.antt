@@ -19,7 +19,8 @@ returns c =
     ∙ ap (λ (t : Text). t ++ 10 ∷ [])
     (c.in_ok-write_shown.ensures
     ∙ ap (λ (t : Text). t ++ shown (take (f.end - f.start) (drop f.start c.args.line.bytes.now)))
-    (c.in_ok-write_range.ensures ∙ ap (λ (t : Text). t ++ range_column f.start f.end) c.in_ok-extend_from_slice.ensures.ok)
+    (c.in_ok-write_range.ensures
+    ∙ ap (λ (t : Text). t ++ range_column f.start f.end) c.in_ok-extend_from_slice.ensures.ok)
     ∙ ap (λ (t : Text). ((old ++ words) ++ range_column f.start f.end) ++ shown t) (sym piece))
     ∙ one_by_one old words (range_column f.start f.end) (shown (faulty_piece (text_in c.args.line) f)))
     c.push.ensures
