@@ -320,7 +320,7 @@ pub mod laws {
 
     /// What cleaning leaves.
     pub mod cleaned {
-        pub use iloc_cleaning::laws::{by_example, unchanged};
+        pub use iloc_cleaning::laws::{by_example, never_longer, unchanged};
     }
 
     /// What the program writes.
