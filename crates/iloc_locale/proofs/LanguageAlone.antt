@@ -4,7 +4,7 @@ use Rattle.std.proofs.Common.{option_to_list, refl, sym, ap, ◌∙◌, subst, a
 use Rattle.iloc_spec_grammar.specs.Syntax.{Block, Fields, Identifier, Transform, Unicode, Text, code_x, join}
 use Rattle.iloc_spec_grammar.specs.Syntax.{dashes, lower, unicode_pieces, optional_pieces, fields_pieces}
 use Rattle.iloc_spec_grammar.specs.Meaning.{Extensions, no_extensions}
-use Rattle.iloc_spec_grammar.specs.Values.{extensions_spelling, printed_pieces, transform_block}
+use Rattle.iloc_spec_grammar.specs.Values.{text, extensions_spelling, printed_pieces, transform_block}
 use Rattle.iloc_spec_grammar.specs.Values.{spelled_fields, identifier_text}
 use Rattle.iloc_spec_grammar.proofs.PartTexts.{join-dashes}
 use Rattle.iloc_spec_parts.proofs.SmallShapes.{none_mapped, none_of_both}
@@ -46,8 +46,7 @@ no_identifier (Some i) e = absurd (cc)
 
 no_transform_there : (m : Transform) → (transform_block m).1 ≡ [] → (m.id ≡ None) × (m.fields ≡ [])
 no_transform_there m e =
-    let both = none_of_both (map lower (optional_pieces m.id)) _ e in
-    (
+    let both = none_of_both (map lower (optional_pieces m.id)) _ e in (
       no_identifier m.id (none_mapped lower _ both.0),
       none_mapped _ m.fields (no_fields (spelled_fields m.fields) both.1),
     )
@@ -78,29 +77,40 @@ nothing_spelled e s o =
     let same : ◌≡◌ {A = Extensions} e (record e { others = [] }) = ap (λ os. record e { others = os }) o in
     same ∙ none_spelled e.unicode e.transform e.private (subst (λ x. extensions_spelling x ≡ []) same s)
 
+-- the text of a language and nothing else
+alone_text : (i : Identifier) → i.script ≡ None → i.region ≡ None → i.variants ≡ []
+    → identifier_text i ≡ i.language
+unfolding identifier_text
+alone_text i s r v =
+    let none : words_after i ≡ [] = rw (s, r, v) refl in
+    ap (λ (ps : List Text). join (i.language ∷ ps)) none ∙ join-dashes i.language []
+    ∙ append-nil i.language
+
+-- an identifier and extensions of which nothing but the language is printed, and no other extension is there
+module _ (i : Identifier) (e : Extensions) where
+  abbrev Prints : Type 0
+  Prints = (text (record { id = i; extensions = e }) ≡ i.language) × (e.others ≡ [])
+
+  abbrev IsAlone : Type 0
+  IsAlone = ((i.script ≡ None) × (i.region ≡ None) × (i.variants ≡ [])) × (e ≡ no_extensions)
+
+  alone_from_text : Prints → IsAlone
+  alone_from_text (t, o) =
+      let both = none_of_both (words_after i) (extensions_spelling e) (no_more i.language _ t) in
+      let script = none_of_both (option_to_list i.script) _ both.0 in
+      let region = none_of_both (option_to_list i.region) i.variants script.1 in (
+        (absent i.script script.0, absent i.region region.0, region.1),
+        nothing_spelled e both.1 o,
+      )
+
+  text_from_alone : IsAlone → Prints
+  text_from_alone ((s, r, v), n) =
+      (text_alone i e n ∙ alone_text i s r v, ap (λ (x : Extensions). x.others) n)
+
 -- a locale is a language alone exactly if all else of it is empty
 pub language_alone : (l : Locale) → IsLanguageAlone l
     ↔ langid.IsIdentifierLanguageAlone l.id × (extensions.value_of l.extensions ≡ no_extensions)
-language_alone l = (split, together)
-  where
-    i = langid.value_of l.id
-    e = extensions.value_of l.extensions
-
-    split : IsLanguageAlone l → langid.IsIdentifierLanguageAlone l.id × (e ≡ no_extensions)
-    split (t, o) =
-        let both = none_of_both (words_after i) _ (no_more i.language _ t) in
-        let script = none_of_both (option_to_list i.script) _ both.0 in
-        let region = none_of_both (option_to_list i.region) i.variants script.1 in
-        ((absent i.script script.0, absent i.region region.0, region.1), nothing_spelled e both.1 o)
-
-    together : langid.IsIdentifierLanguageAlone l.id × (e ≡ no_extensions) → IsLanguageAlone l
-    together ((s, r, v), n) = (
-      text_alone i e n ∙ alone s r v,
-      ap (λ (x : Extensions). x.others) n,
-    )
-      where
-        alone : i.script ≡ None → i.region ≡ None → i.variants ≡ [] → identifier_text i ≡ i.language
-        unfolding identifier_text
-        alone s r v =
-            let none : words_after i ≡ [] = rw (s, r, v) refl in
-            ap (λ ps. join (i.language ∷ ps)) none ∙ join-dashes i.language [] ∙ append-nil i.language
+language_alone l = (
+  alone_from_text (langid.value_of l.id) (extensions.value_of l.extensions),
+  text_from_alone (langid.value_of l.id) (extensions.value_of l.extensions),
+)
