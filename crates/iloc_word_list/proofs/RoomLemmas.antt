@@ -27,6 +27,21 @@ length-pieces t =
     at_pieces (λ ps. total piece_length ps ≡ length (join ps) + 1) (λ p ps. sym (length-join p ps)) t
     ∙ ap (λ s. length s + 1) (join-pieces t)
 
+-- a text has at most one piece more than bytes
+counted : (ps : List Text) → length ps ≤ total piece_length ps
+counted [] = omega arith
+counted (p ∷ ps) = let later = counted ps in omega (arith, later)
+
+pub pieces_fit : (t : Text) → length (pieces t) ≤ length t + 1
+pieces_fit t = let all = length-pieces t in let each = counted (pieces t) in omega (arith, all, each)
+
+-- the pieces at the front that pass are at most as many as the text has bytes
+pub words_fit : (test : Text → Bool) → test [] ≡ false → (t : Text) →
+    length (passing test (pieces t)) ≤ length t
+words_fit test none t =
+    let words = passing_total test none (pieces t) in
+    let all = length-pieces t in omega (arith, words, all)
+
 values_shorter : (ps : List Text) → length (normal_values ps) ≤ length ps
 values_shorter [] = omega arith
 values_shorter (p ∷ ps) =
@@ -44,9 +59,8 @@ no_empty_word = refl
 -- the subtags of a value are at most as many as the text has bytes
 pub values_fit : (t : Text) → length (normal_values (passing (is_word Subtag) (pieces t))) ≤ length t
 values_fit t =
-    let words = passing_total (is_word Subtag) no_empty_word (pieces t) in
-    let all = length-pieces t in
-    let few = values_shorter (passing (is_word Subtag) (pieces t)) in omega (arith, words, all, few)
+    let words = words_fit (is_word Subtag) no_empty_word t in
+    let few = values_shorter (passing (is_word Subtag) (pieces t)) in omega (arith, words, few)
 
 -- the items so far and one more
 pub one_more_yielded : {S A : Type 0} (steps : S → Option A → S → Type 0) (s : S) (xs : List A) (t : S)
