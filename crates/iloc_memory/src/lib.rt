@@ -25,6 +25,11 @@ pub trait Memory: Copy {
     /// Any statement of a number that is true once room for so many items was refused.
     ghost refused: { ℕ → Type 0 };
 
+    /// An empty list. It asks for no room.
+    fn empty<T>(self) -> Vec<T>
+        ensures items { result.items ≡ [] }
+        ensures len { vec_len result ≡ 0 };
+
     /// An empty list with room for so many items. Refusal: `AllocError`.
     fn with_capacity<T>(self, capacity: usize) -> Result<Vec<T>, AllocError>
         ensures items { IfOk result (λ list. list.items ≡ []) }
@@ -49,6 +54,11 @@ pub trait Ample: Memory {
 /// The heap. Of its refusals `std` says nothing, so its statement is true of every number.
 impl Memory for Global {
     ghost refused = { λ _. ⊤ };
+
+    #[inline(always)]
+    fn empty<T>(self) -> Vec<T> {
+        Vec::new(self)
+    }
 
     #[inline(always)]
     fn with_capacity<T>(self, capacity: usize) -> Result<Vec<T>, AllocError> {

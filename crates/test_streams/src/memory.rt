@@ -18,6 +18,10 @@ struct UpTo {
 impl Memory for UpTo {
     ghost refused = { λ _. ⊤ };
 
+    fn empty<T>(self) -> Vec<T> {
+        Vec::new(self.heap)
+    }
+
     fn with_capacity<T>(self, capacity: usize) -> Result<Vec<T>, AllocError> {
         if capacity > self.most {
             return Err(AllocError);
