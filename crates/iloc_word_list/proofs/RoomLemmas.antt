@@ -1,13 +1,45 @@
--- How much room a value takes at most.
+-- How much room is asked for at most, and what a refused request for it makes of an answer.
 use Rattle.std.proofs.Common.{◌≡◌, suc, ◌+◌, ◌*◌, ◌≤◌, Bool, true, false, cond, not, List, [], ◌∷◌, ◌++◌}
-use Rattle.std.proofs.Common.{length, refl, sym, ap, ◌∙◌, arith, Option, Some}
+use Rattle.std.proofs.Common.{length, refl, sym, ap, ◌∙◌, arith, Option, Some, ℕ, Result, Ok, Err}
 use Rattle.std.specs.Iterator.{Yields}
 use Rattle.iloc_spec_grammar.specs.Syntax.{Text, pieces, join, lower, Subtag, is_word, is_true}
 use Rattle.iloc_spec_grammar.specs.Meaning.{normal_values}
-use Rattle.iloc_spec_grammar.specs.Reading.{passing}
+use Rattle.iloc_spec_grammar.specs.Reading.{passing, rest_of}
 use Rattle.iloc_spec_grammar.proofs.Orders.{total}
 use Rattle.iloc_spec_grammar.proofs.PiecesLaws.{at_pieces, join-pieces}
 use Rattle.iloc_spec_grammar.proofs.StepSizes.{piece_length, length-join}
+use Rattle.iloc_memory.specs.Refusals.{RefusedWithin}
+use Rattle.iloc_memory.proofs.Within.{within_more}
+use Rattle.iloc_subtags.specs.declared.parse_error.ParseError.{ParseError}
+use Rattle.iloc_subtags.specs.declared.parse_error.ParseError.TheVariants.{InvalidLanguage, InvalidSubtag}
+use Rattle.iloc_subtags.specs.declared.parse_error.ParseError.TheVariants.{InvalidExtension}
+use Rattle.iloc_subtags.specs.declared.parse_error.ParseError.TheVariants.{DuplicatedExtension, OutOfMemory}
+use Rattle.iloc_subtags.specs.Judging.{RunsOutOnlyIf}
+
+-- what follows from the reason of an answer is a reason too
+pub runs_out_too : {X : Type 0} (P Q : Type 0) → (P → Q) → (r : Result X ParseError) → RunsOutOnlyIf P r →
+    RunsOutOnlyIf Q r
+runs_out_too P Q follows (Ok x) h = tt
+runs_out_too P Q follows (Err InvalidLanguage) h = tt
+runs_out_too P Q follows (Err InvalidSubtag) h = tt
+runs_out_too P Q follows (Err InvalidExtension) h = tt
+runs_out_too P Q follows (Err DuplicatedExtension) h = tt
+runs_out_too P Q follows (Err OutOfMemory) h = follows h
+
+-- a reason allows every answer
+pub allows : {X : Type 0} (P : Type 0) (r : Result X ParseError) → P → RunsOutOnlyIf P r
+allows P (Ok x) given = tt
+allows P (Err InvalidLanguage) given = tt
+allows P (Err InvalidSubtag) given = tt
+allows P (Err InvalidExtension) given = tt
+allows P (Err DuplicatedExtension) given = tt
+allows P (Err OutOfMemory) given = given
+
+-- a wider bound holds too
+pub runs_out_more : {X : Type 0} (Refused : ℕ → Type 0) (m n : ℕ) → m ≤ n → (r : Result X ParseError) →
+    RunsOutOnlyIf (RefusedWithin Refused m) r → RunsOutOnlyIf (RefusedWithin Refused n) r
+runs_out_more Refused m n wider r h =
+    runs_out_too (RefusedWithin Refused m) (RefusedWithin Refused n) (within_more Refused m n wider) r h
 
 -- each piece that passes has a byte at least
 passing_total : (test : Text → Bool) → test [] ≡ false → (ps : List Text) →
@@ -34,6 +66,14 @@ counted (p ∷ ps) = let later = counted ps in omega (arith, later)
 
 pub pieces_fit : (t : Text) → length (pieces t) ≤ length t + 1
 pieces_fit t = let all = length-pieces t in let each = counted (pieces t) in omega (arith, all, each)
+
+-- the pieces after the first are at most as many as the text has bytes
+pub rest_fits : (t : Text) → length (rest_of (pieces t)) ≤ length t
+rest_fits t = shorter (pieces t) (pieces_fit t)
+  where
+    shorter : (ps : List Text) → length ps ≤ length t + 1 → length (rest_of ps) ≤ length t
+    shorter [] h = omega arith
+    shorter (p ∷ ps) h = omega (arith, h)
 
 -- the pieces at the front that pass are at most as many as the text has bytes
 pub words_fit : (test : Text → Bool) → test [] ≡ false → (t : Text) →
