@@ -5,6 +5,6 @@ pub mod CurrencyLemmas
 mod CutLemmas
 mod PrintLemmas
 mod ReadingLemmas
-mod RoomLemmas
+pub mod RoomLemmas
 mod WholeLemmas
 mod OwedLemmas
