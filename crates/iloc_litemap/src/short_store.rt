@@ -3,7 +3,8 @@ ghost use Rattle.std.specs.Prelude.{◌≡◌};
 ghost use Rattle.iloc_litemap.specs.Calls.{CalledAtKeyValue};
 ghost use Rattle.iloc_litemap.specs.Pairs.{set_value_at};
 
-use crate::store::Store;
+use crate::store::{GrowingStore, Store};
+use iloc_memory::Memory;
 use iloc_shortvec::{ShortBoxSlice, ShortBoxSliceIntoIter};
 use std::alloc::{AllocError, Global};
 
@@ -44,7 +45,7 @@ impl<K: Drop, V: Drop> Store<K, V> for ShortBoxSlice<(K, V)> {
         key: K,
         value: V,
     ) -> Result<(), AllocError> {
-        self.insert(alloc, index, (key, value))
+        self.lm_insert_in(alloc, index, key, value)
     }
 
     fn lm_remove(&mut self, index: usize) -> (K, V) {
@@ -87,4 +88,17 @@ impl<K: Drop, V: Drop> Store<K, V> for ShortBoxSlice<(K, V)> {
     ghost takes_first = { λ s r t h. h };
 
     ghost pairs_with_value = { λ s i w. refl };
+}
+
+impl<K: Drop, V: Drop> GrowingStore<K, V> for ShortBoxSlice<(K, V)> {
+    #[inline]
+    fn lm_insert_in<M: Memory>(
+        &mut self,
+        memory: M,
+        index: usize,
+        key: K,
+        value: V,
+    ) -> Result<(), AllocError> {
+        self.insert_in(memory, index, (key, value))
+    }
 }

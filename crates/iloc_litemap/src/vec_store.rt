@@ -3,7 +3,8 @@ ghost use Rattle.std.specs.Prelude.{◌≡◌};
 ghost use Rattle.std.specs.Vec.Iter.{into_iter_items};
 ghost use Rattle.iloc_litemap.specs.Calls.{CalledAtKeyValue};
 
-use crate::store::Store;
+use crate::store::{GrowingStore, Store};
+use iloc_memory::{Memory, push};
 use std::alloc::{AllocError, Global};
 use std::vec;
 
@@ -33,17 +34,14 @@ impl<K: Drop, V: Drop> Store<K, V> for Vec<(K, V)> {
         &mut pair.1
     }
 
-    // The tail is rotated, since LLVM turns that into `memmove`.
     fn lm_insert(
         &mut self,
-        _alloc: Global,
+        alloc: Global,
         index: usize,
         key: K,
         value: V,
     ) -> Result<(), AllocError> {
-        self.push((key, value))?;
-        self.slice_mut(index..).rotate_right(1);
-        Ok(())
+        self.lm_insert_in(alloc, index, key, value)
     }
 
     fn lm_remove(&mut self, index: usize) -> (K, V) {
@@ -89,4 +87,20 @@ impl<K: Drop, V: Drop> Store<K, V> for Vec<(K, V)> {
     ghost takes_first = { λ s r t h. vec_takes_first s r t h };
 
     ghost pairs_with_value = { λ s i w. vec_pairs_with_value s i w };
+}
+
+impl<K: Drop, V: Drop> GrowingStore<K, V> for Vec<(K, V)> {
+    // The tail is rotated, since LLVM turns that into `memmove`.
+    #[inline]
+    fn lm_insert_in<M: Memory>(
+        &mut self,
+        memory: M,
+        index: usize,
+        key: K,
+        value: V,
+    ) -> Result<(), AllocError> {
+        push(memory, self, (key, value))?;
+        self.slice_mut(index..).rotate_right(1);
+        Ok(())
+    }
 }
