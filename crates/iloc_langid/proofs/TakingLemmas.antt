@@ -1,6 +1,6 @@
 -- Variants that are taken one at a time.
 use Rattle.iloc_spec_grammar.proofs.FaultLaws.{some_repeat}
-use Rattle.std.proofs.Common.{◌≡◌, ℕ, ◌<◌, ◌≤◌, Bool, true, false, not, List, [], ◌∷◌, ◌++◌, length, map}
+use Rattle.std.proofs.Common.{◌≡◌, ℕ, ◌+◌, ◌<◌, ◌≤◌, Bool, true, false, not, List, [], ◌∷◌, ◌++◌, length, map}
 use Rattle.std.proofs.Common.{refl, sym, ap, ◌∙◌, subst, arith, append_assoc, append-nil, length-append, Some}
 use Rattle.std.proofs.Common.{None, option_map}
 use Rattle.std.specs.Prelude.{Result, Ok, Err}
@@ -91,6 +91,15 @@ taking_few ws ps n = record {
   skips = (few_pass ws ps n).1;
   permutes = subst (λ vs. IsPermutation vs ws) (sym (lower-variants ws n)) (IsPermutation-refl ws);
 }
+
+-- as many stand there as before
+pub taken_many : (before now ws : List Text) → Taking before now ws → AllByRecursion (IsNormal Variant) ws →
+    length (passing (is_word Variant) (ws ++ now)) ≡ length (passing (is_word Variant) before)
+taken_many before now ws t n =
+    let kept = ap length (few_pass ws now n).0 ∙ length-append ws (passing (is_word Variant) now) in
+    let all = ap length t.keeps ∙ length-append t.taken (passing (is_word Variant) now) in
+    let same = length_permutation _ _ t.permutes ∙ length-map t.taken lower in
+    omega (arith, kept, all, same)
 
 different_permutation : (vs ws : List Text) → IsPermutation vs ws → AllDifferent word_cmp vs →
     AllDifferent word_cmp ws
@@ -195,14 +204,29 @@ module _ (before now words : List Text) (t : Taking before now words) (w : Text)
       repeats before now words t p h later (cut ∙ ap (λ ps. p ∷ ps) (sym l))
       (subst (λ x. list_any (is_same x) words ≡ true) same old)
 
-  -- a fifth
-  pub takes_much : 4 < length (set_of (w ∷ words)) → 4 < length (passing (is_word Variant) before)
-  takes_much h =
+  -- with this one there are at most as many as stand there
+  pub takes_within : length words + 1 ≤ length (passing (is_word Variant) before)
+  takes_within =
       let (p, q, same, cut) = took Variant now w e in
       let more = ap length (keeps_more before now words t p q later (cut ∙ ap (λ ps. p ∷ ps) (sym l)))
       ∙ length-append t.taken (p ∷ passing (is_word Variant) later) in
       let n = length_permutation _ _ t.permutes ∙ length-map t.taken lower in
-      omega (arith, h, length-set_of (w ∷ words), n, more)
+      omega (arith, n, more)
+
+  -- a fifth
+  pub takes_much : 4 < length (set_of (w ∷ words)) → 4 < length (passing (is_word Variant) before)
+  takes_much h = omega (arith, h, length-set_of (w ∷ words), takes_within)
+
+-- a variant that was taken and what follows it are as many as stood there
+pub one_before : (ps rest : List Text) (v : Text) →
+    Some v ≡ option_map lower (take_first (is_word Variant) ps) → rest ≡ skip_first (is_word Variant) ps →
+    length (passing (is_word Variant) (v ∷ rest)) ≡ length (passing (is_word Variant) ps)
+one_before ps rest v e r =
+    let (p, h, same, cut) = took Variant ps v e in
+    let taking =
+    takes_new ps ps [] (taking_none ps) v rest e r (v ∷ []) (IsPermutation-refl (v ∷ [])) in
+    taken_many ps rest (v ∷ []) taking
+    (subst (IsNormal Variant) (sym same) (IsNormal-normal Variant p h), tt)
 
 -- fewer than four variants, as a set
 
@@ -253,6 +277,10 @@ module _ (before now set : List Text) (t : TakingFew before now set) (w : Text) 
   pub few_more : added ≡ true → (rest : List Text) (r : Result (List Text) ParseError) →
       VariantsReads (more ++ later) rest r → VariantsReads before rest r
   few_more new rest r = taken_after before later more rest (few_taken new) few_normal r
+
+  pub few_many : added ≡ true →
+      length (passing (is_word Variant) (more ++ later)) ≡ length (passing (is_word Variant) before)
+  few_many new = taken_many before later more (few_taken new) few_normal
 
   pub few_old : added ≡ false → ¬ (AllDifferent word_cmp (map lower (passing (is_word Variant) before)))
   few_old old = takes_old before now set t.taking w later e l

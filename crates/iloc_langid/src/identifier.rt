@@ -1,11 +1,12 @@
 //! Language identifiers.
-ghost use Rattle.std.specs.Prelude.{◌≡◌, ◌↔◌, ⊤, IsTrue, IfSome, Ok, OnErr, IsSome, IfOk, IsOkAnd, Some};
+ghost use Rattle.std.specs.Prelude.{◌≡◌, ◌↔◌, ⊤, IsTrue, IfSome, Ok, OnErr, IsSome, IfOk, IsOkAnd, Some, length};
 ghost use Rattle.std.specs.Ordering.{nat_cmp};
 ghost use Rattle.std.specs.Cmp.Lexicographic.{slice_cmp};
 ghost use Rattle.iloc_spec_grammar.specs.Syntax.{languages, two_or_three, pieces, head, Identifier, identifier_pieces, Language as the_kind};
 ghost use Rattle.iloc_spec_grammar.specs.Meaning.{IdentifierMeans, Fault, HasIdentifierFault};
 ghost use Rattle.iloc_spec_grammar.specs.Values.{IsIdentifierValue, IsNormal, identifier_text};
 ghost use Rattle.iloc_spec_parts.specs.Orders.{identifier_cmp};
+ghost use Rattle.iloc_memory.specs.Refusals.{RefusedWithin};
 ghost use Rattle.iloc_subtags.specs.Judging.{Accepts, Refuses, RunsOutOnlyIf};
 ghost use Rattle.iloc_langid.specs.Unknown.{unknown_identifier};
 ghost use Rattle.iloc_langid.specs.Reads.{value_of, IdentifierReads, IdentifierWantsMemory, KeepsThroughSteps, IsIdentifierLanguageAlone, IdentifierMeansOnly};
@@ -13,6 +14,7 @@ ghost use Rattle.std.specs.Cow.{cow_str_bytes};
 ghost use Rattle.iloc_writeable.specs.Writing.{IsLent};
 
 use crate::reader::{fill_text, read_head, short_parts};
+use iloc_memory::Memory;
 use iloc_subtags::{Language, ParseError, Region, Script, SubtagIterator, WordKind, WordOf};
 use iloc_word_list::Variants;
 use iloc_writeable::{Pieces, Sink, Writeable, cmp_utf8};
@@ -104,6 +106,25 @@ impl LanguageIdentifier {
         ensures narrow { (i : Identifier) → IdentifierMeans two_or_three (pieces code_units.now) i
             → Accepts value_of ⊤ i result }
     {
+        Self::try_from_utf8_in(alloc, code_units)
+    }
+
+    /// As `try_from_utf8`, from any memory. `OutOfMemory` comes only if room for at most as many variants as the text
+    /// has bytes was refused.
+    #[inline(always)]
+    pub fn try_from_utf8_in<M: Memory>(memory: M, code_units: &[u8]) -> Result<Self, ParseError>
+        ensures reads { IdentifierReads (pieces code_units.now) result }
+        ensures accepted { (i : Identifier) → IdentifierMeans languages (pieces code_units.now) i
+            → Accepts value_of ⊤ i result }
+        ensures refused { (f : Fault) → HasIdentifierFault languages (pieces code_units.now) f
+            → Refuses ⊤ f result }
+        ensures memory { RunsOutOnlyIf (IdentifierWantsMemory (pieces code_units.now)) result }
+        ensures steps { KeepsThroughSteps code_units.now result }
+        ensures narrow { (i : Identifier) → IdentifierMeans two_or_three (pieces code_units.now) i
+            → Accepts value_of ⊤ i result }
+        ensures out_of_memory { RunsOutOnlyIf
+            (RefusedWithin M.refused (length code_units.now)) result }
+    {
         // (a refusal comes before an identifier is made)
         if let Some(plain) = short_parts(code_units)? {
             return Ok(LanguageIdentifier {
@@ -114,7 +135,7 @@ impl LanguageIdentifier {
             });
         }
         let mut identifier = LanguageIdentifier::unknown();
-        fill_text(alloc, code_units, &mut identifier)?;
+        fill_text(memory, code_units, &mut identifier)?;
         Ok(identifier)
     }
 
@@ -141,7 +162,24 @@ impl LanguageIdentifier {
         ensures narrow { (i : Identifier) → IdentifierMeans two_or_three (pieces s.now) i
             → Accepts value_of ⊤ i result }
     {
-        Self::try_from_utf8(alloc, s.as_bytes())
+        Self::try_from_str_in(alloc, s)
+    }
+
+    /// Parses all of a `str`, as `try_from_utf8_in` parses bytes.
+    #[inline(always)]
+    pub fn try_from_str_in<M: Memory>(memory: M, s: &str) -> Result<Self, ParseError>
+        ensures reads { IdentifierReads (pieces s.now) result }
+        ensures accepted { (i : Identifier) → IdentifierMeans languages (pieces s.now) i
+            → Accepts value_of ⊤ i result }
+        ensures refused { (f : Fault) → HasIdentifierFault languages (pieces s.now) f
+            → Refuses ⊤ f result }
+        ensures memory { RunsOutOnlyIf (IdentifierWantsMemory (pieces s.now)) result }
+        ensures steps { KeepsThroughSteps s.now result }
+        ensures narrow { (i : Identifier) → IdentifierMeans two_or_three (pieces s.now) i
+            → Accepts value_of ⊤ i result }
+        ensures out_of_memory { RunsOutOnlyIf (RefusedWithin M.refused (length s.now)) result }
+    {
+        Self::try_from_utf8_in(memory, s.as_bytes())
     }
 
     /// Parses the identifier of a locale: up to the first piece of one byte that isn't the first piece. What
@@ -154,7 +192,21 @@ impl LanguageIdentifier {
             → Refuses ⊤ f result }
         ensures memory { RunsOutOnlyIf (IdentifierWantsMemory (head (pieces v.now))) result }
     {
-        read_head(alloc, &mut SubtagIterator::new(v))
+        Self::try_from_locale_bytes_in(alloc, v)
+    }
+
+    /// As `try_from_locale_bytes`, from any memory. `OutOfMemory` comes only if room for at most as many variants as the
+    /// text has bytes was refused.
+    pub fn try_from_locale_bytes_in<M: Memory>(memory: M, v: &[u8]) -> Result<Self, ParseError>
+        ensures reads { IdentifierReads (head (pieces v.now)) result }
+        ensures accepted { (i : Identifier) → IdentifierMeans languages (head (pieces v.now)) i
+            → Accepts value_of ⊤ i result }
+        ensures refused { (f : Fault) → HasIdentifierFault languages (head (pieces v.now)) f
+            → Refuses ⊤ f result }
+        ensures memory { RunsOutOnlyIf (IdentifierWantsMemory (head (pieces v.now))) result }
+        ensures out_of_memory { RunsOutOnlyIf (RefusedWithin M.refused (length v.now)) result }
+    {
+        read_head(memory, &mut SubtagIterator::new(v))
     }
 
     /// The byte order of the printed text against the bytes. It makes no text.

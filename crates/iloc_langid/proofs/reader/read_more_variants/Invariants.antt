@@ -4,7 +4,7 @@ use Rattle.iloc_langid.proofs.TakingLemmas.{Taking}
 use Rattle.iloc_langid.proofs.reader.read_more_variants.Given as goal
 
 abbrev pub invariant-words : goal.invariant-words
-invariant-words l = Taking (l.fn.four ++ left l.fn.iter) (left l.iter) l.words
+invariant-words g l = Taking (l.fn.four ++ left l.fn.iter) (left l.iter) l.words
 
 abbrev pub decreases-words : goal.decreases-words
-decreases-words l = length (left l.iter)
+decreases-words g l = length (left l.iter)
