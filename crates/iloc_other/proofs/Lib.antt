@@ -1,5 +1,6 @@
 pub mod TakingLemmas
 pub mod OtherLemmas
+pub mod RoomLemmas
 pub mod SingletonLemmas
 pub mod TextLemmas
 pub mod PrintLemmas

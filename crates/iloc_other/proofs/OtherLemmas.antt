@@ -68,7 +68,7 @@ kept-last xs p = kept-append xs (p ∷ [])
     as (λ b. kept xs ++ map lower (cond b (p ∷ []) []) ≡ cond b (kept xs ++ lower p ∷ []) (kept xs))
     [ true ↦ refl | false ↦ append-nil (kept xs) ]
 
-front_first : (p : Text) (ps : List Text) → has_other_length p ≡ true →
+pub front_first : (p : Text) (ps : List Text) → has_other_length p ≡ true →
     (other_front (p ∷ ps) ≡ p ∷ other_front ps) × (past has_other_length (p ∷ ps) ≡ past has_other_length ps)
 front_first p ps h = (rw h refl, rw h refl)
 

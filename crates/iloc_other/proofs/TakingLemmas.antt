@@ -1,11 +1,12 @@
 -- Private words that are taken one at a time.
 use Rattle.iloc_spec_grammar.specs.Reading.{passing}
-use Rattle.std.proofs.Common.{◌≡◌, ◌↔◌, suc, ◌+◌, ◌<◌, false, cond, List, [], ◌∷◌, ◌++◌, length, map, refl}
+use Rattle.std.proofs.Common.{◌≡◌, ◌↔◌, suc, ◌+◌, ◌<◌, ◌≤◌, false, cond, List, [], ◌∷◌, ◌++◌, length, map, refl}
 use Rattle.std.proofs.Common.{sym, ap, ◌∙◌, subst, arith, append_assoc, append-nil, true≢false}
 use Rattle.std.specs.List.{AllByRecursion}
 use Rattle.std.proofs.lemmas.List.{length-map, length_push}
 use Rattle.iloc_spec_grammar.specs.Syntax.{Text, PrivateSubtag, is_word, IsWord, lower}
 use Rattle.iloc_spec_grammar.specs.Meaning as faults
+use Rattle.iloc_spec_parts.proofs.KeptLaws.{passing_short}
 use Rattle.iloc_spec_parts.specs.Fronts.{PrivateRead, PrivateFault, not_private}
 
 abbrev AllWords : List Text → Type 0
@@ -37,6 +38,10 @@ module _ (before now ws : List Text) (t : TakingWords before now ws) where
     -- a piece that is no word
     pub refuses_piece : is_word PrivateSubtag p ≡ false → PrivateFault before faults.InvalidExtension
     refuses_piece w = not_private (λ i. true≢false (sym (subst AllWords e (t.words.0 i.words)).0 ∙ w))
+
+    -- one word more is at most as many as there are pieces
+    pub word_room : IsWord PrivateSubtag p → length ws + 1 ≤ length before
+    word_room w = omega (arith, word_first w, t.front, passing_short (is_word PrivateSubtag) before)
 
     -- a fifth word
     pub wants_memory : IsWord PrivateSubtag p → (length ws < 4 → ⊥) →

@@ -4,7 +4,12 @@
 //! subtags. Readers take exactly what the grammar of UTS #35, section 3, allows after a singleton,
 //! by the relations of `iloc_spec_parts`, which also say what that means for a locale. Both print as the
 //! normal text does.
-//! It stands on subtags and pieces (`iloc_subtags`), and on lists of subtags (`iloc_word_list`).
+//!
+//! What may grow has a form for any memory, such as `try_from_utf8_in` of `try_from_utf8`. It runs out of memory only if
+//! that memory refused room for at most as many subtags as the text has bytes.
+//!
+//! It stands on subtags and pieces (`iloc_subtags`), on lists of subtags (`iloc_word_list`) and on what is asked for room
+//! (`iloc_memory`).
 #![tactic(auto)]
 
 ghost use Rattle.std.specs.Prelude.{◌≡◌, ◌↔◌, IsTrue, ℕ, List};

@@ -1,5 +1,5 @@
 //! The extensions that are neither unicode, transform nor private.
-ghost use Rattle.std.specs.Prelude.{◌≡◌, ⊤, ℕ, List, ◌<◌, ◌++◌, ◌∷◌, [], length, true, OnOk, IfErr, IsOk, Some, if◌then◌else◌};
+ghost use Rattle.std.specs.Prelude.{◌≡◌, ⊤, ℕ, List, ◌<◌, ◌+◌, ◌++◌, ◌∷◌, [], length, true, OnOk, OnErr, IfErr, IsOk, Some, if◌then◌else◌};
 ghost use Rattle.std.specs.Char.{is_ascii_alphanumeric};
 ghost use Rattle.std.specs.List.{AllByRecursion};
 ghost use Rattle.std.specs.Option.{option_copied};
@@ -11,9 +11,11 @@ ghost use Rattle.iloc_spec_parts.specs.Fronts.{has_other_length};
 ghost use Rattle.iloc_spec_parts.specs.Parts.{OtherText, OtherTextFault};
 ghost use Rattle.iloc_subtags.specs.Judging.{Accepts, Refuses, RunsOutOnlyIf};
 ghost use Rattle.iloc_subtags.specs.Left.{left};
+ghost use Rattle.iloc_memory.specs.Refusals.{RefusedWithin};
 ghost use Rattle.iloc_other.specs.Reading.{OtherReads, OtherWantsMemory, OtherTextReads, OtherTextWants};
 
 use crate::singleton::take_singleton;
+use iloc_memory::Memory;
 use iloc_subtags::{ParseError, Subtag, SubtagIterator, SubtagKind, next_has_length};
 use iloc_word_list::WordList;
 use iloc_writeable::{Pieces, Sink, Writeable};
@@ -106,13 +108,30 @@ impl Other {
             → Refuses ⊤ f result }
         ensures memory { RunsOutOnlyIf (OtherTextWants code_units.now) result }
     {
-        Self::read_text(alloc, code_units)
+        Self::try_from_utf8_in(alloc, code_units)
+    }
+
+    /// As `try_from_utf8`, from any memory. `OutOfMemory` comes only if room for at most as many subtags as the text
+    /// has bytes was refused.
+    pub fn try_from_utf8_in<M: Memory>(memory: M, code_units: &[u8]) -> Result<Self, ParseError>
+        ensures reads { OtherTextReads code_units.now result }
+        ensures accepted { (o : ℕ × List (List ℕ)) → OtherText code_units.now o
+            → Accepts (λ o. o) ⊤ o result }
+        ensures refused { (f : Fault) → OtherTextFault code_units.now f
+            → Refuses ⊤ f result }
+        ensures memory { RunsOutOnlyIf (OtherTextWants code_units.now) result }
+        ensures out_of_memory { RunsOutOnlyIf
+            (RefusedWithin M.refused (length code_units.now)) result }
+    {
+        Self::read_text(memory, code_units)
     }
 
     // Parses the extension. Its clauses say what is read and when memory runs out; the others follow from them.
-    fn read_text(alloc: Global, code_units: &[u8]) -> Result<Self, ParseError>
+    fn read_text<M: Memory>(memory: M, code_units: &[u8]) -> Result<Self, ParseError>
         ensures reads { OtherTextReads code_units.now result }
         ensures memory { RunsOutOnlyIf (OtherTextWants code_units.now) result }
+        ensures out_of_memory { RunsOutOnlyIf
+            (RefusedWithin M.refused (length code_units.now)) result }
     {
         let mut iter = SubtagIterator::new(code_units);
         let Some(ext) = take_singleton(&mut iter) else {
@@ -121,7 +140,7 @@ impl Other {
         if !is_other_ext(ext) {
             return Err(ParseError::InvalidExtension);
         }
-        Other::try_from_iter(alloc, ext, &mut iter)
+        Other::try_from_iter(memory, ext, &mut iter)
     }
 
     /// Parses a `str`, as `try_from_utf8` parses bytes.
@@ -133,25 +152,41 @@ impl Other {
             → Refuses ⊤ f result }
         ensures memory { RunsOutOnlyIf (OtherTextWants s.now) result }
     {
-        Self::try_from_utf8(alloc, s.as_bytes())
+        Self::try_from_str_in(alloc, s)
     }
 
-    /// Parses what follows the singleton, and leaves what no such extension takes.
-    pub fn try_from_iter(
-        alloc: Global,
+    /// Parses a `str`, as `try_from_utf8_in` parses bytes.
+    pub fn try_from_str_in<M: Memory>(memory: M, s: &str) -> Result<Self, ParseError>
+        ensures reads { OtherTextReads s.now result }
+        ensures accepted { (o : ℕ × List (List ℕ)) → OtherText s.now o
+            → Accepts (λ o. o) ⊤ o result }
+        ensures refused { (f : Fault) → OtherTextFault s.now f
+            → Refuses ⊤ f result }
+        ensures memory { RunsOutOnlyIf (OtherTextWants s.now) result }
+        ensures out_of_memory { RunsOutOnlyIf (RefusedWithin M.refused (length s.now)) result }
+    {
+        Self::try_from_utf8_in(memory, s.as_bytes())
+    }
+
+    /// Parses what follows the singleton, and leaves what no such extension takes. `OutOfMemory` comes only if room for
+    /// at most as many subtags as there are pieces was refused.
+    pub fn try_from_iter<M: Memory>(
+        memory: M,
         ext: u8,
         iter: &mut SubtagIterator<'_>,
     ) -> Result<Self, ParseError>
         requires { is_ascii_alphanumeric ext ≡ true }
         ensures reads { OtherReads ext (left iter.old) (left iter.new) result }
         ensures memory { RunsOutOnlyIf (OtherWantsMemory (left iter.old)) result }
+        ensures out_of_memory { RunsOutOnlyIf
+            (RefusedWithin M.refused (length (left iter.old))) result }
     {
         let mut other = Other {
             ext,
             keys: WordList::new(),
         };
         'pieces: while let Some(piece) = take_piece(iter) {
-            other.push_word(alloc, piece)?;
+            other.push_word(memory, piece)?;
         }
         if other.as_slice().is_empty() {
             return Err(ParseError::InvalidExtension);
@@ -160,7 +195,7 @@ impl Other {
     }
 
     // Adds the piece at the end if it is a subtag. Up to four allocate nothing.
-    fn push_word(&mut self, alloc: Global, piece: &[u8]) -> Result<(), ParseError>
+    fn push_word<M: Memory>(&mut self, memory: M, piece: &[u8]) -> Result<(), ParseError>
         ensures singleton { self.new.0 ≡ self.old.0 }
         ensures ok { OnOk result (self.new.1
             ≡ (if is_word the_kind piece.now then self.old.1 ++ lower piece.now ∷ []
@@ -168,9 +203,10 @@ impl Other {
         ensures err { IfErr result
             (λ e. (e ≡ ParseError.OutOfMemory) × (is_word the_kind piece.now ≡ true)) }
         ensures succeeds { length self.old.1 < 4 → IsOk result }
+        ensures out_of_memory { OnErr result (RefusedWithin M.refused (length self.old.1 + 1)) }
     {
         match Subtag::try_from_utf8(piece) {
-            Ok(key) => Ok(self.keys.push(alloc, key)?),
+            Ok(key) => Ok(self.keys.push_in(memory, key)?),
             Err(_) => Ok(()),
         }
     }

@@ -10,9 +10,11 @@ ghost use Rattle.iloc_subtags.specs.Left.{left};
 ghost use Rattle.iloc_spec_grammar.specs.Meaning.{Fault};
 ghost use Rattle.iloc_spec_parts.specs.Parts.{PrivateText, PrivateTextFault};
 ghost use Rattle.iloc_subtags.specs.Judging.{Accepts, Refuses, RunsOutOnlyIf};
+ghost use Rattle.iloc_memory.specs.Refusals.{RefusedWithin};
 ghost use Rattle.iloc_other.specs.Reading.{PrivateReads, PrivateFills, PrivateWantsMemory, PrivateTextReads, PrivateTextWants};
 
 use crate::singleton::take_singleton;
+use iloc_memory::Memory;
 use iloc_subtags::{ParseError, PrivateSubtag, PrivateSubtagKind, SubtagIterator};
 use iloc_word_list::WordList;
 use iloc_writeable::{Pieces, Sink, Writeable};
@@ -120,13 +122,30 @@ impl Private {
             → Refuses ⊤ f result }
         ensures memory { RunsOutOnlyIf (PrivateTextWants code_units.now) result }
     {
-        Self::read_text(alloc, code_units)
+        Self::try_from_utf8_in(alloc, code_units)
+    }
+
+    /// As `try_from_utf8`, from any memory. `OutOfMemory` comes only if room for at most as many subtags as the text
+    /// has bytes was refused.
+    pub fn try_from_utf8_in<M: Memory>(memory: M, code_units: &[u8]) -> Result<Self, ParseError>
+        ensures reads { PrivateTextReads code_units.now result }
+        ensures accepted { (ws : List Text) → PrivateText code_units.now ws
+            → Accepts (λ p. p) ⊤ ws result }
+        ensures refused { (f : Fault) → PrivateTextFault code_units.now f
+            → Refuses ⊤ f result }
+        ensures memory { RunsOutOnlyIf (PrivateTextWants code_units.now) result }
+        ensures out_of_memory { RunsOutOnlyIf
+            (RefusedWithin M.refused (length code_units.now)) result }
+    {
+        Self::read_text(memory, code_units)
     }
 
     // Parses the extension. Its clauses say what is read and when memory runs out; the others follow from them.
-    fn read_text(alloc: Global, code_units: &[u8]) -> Result<Self, ParseError>
+    fn read_text<M: Memory>(memory: M, code_units: &[u8]) -> Result<Self, ParseError>
         ensures reads { PrivateTextReads code_units.now result }
         ensures memory { RunsOutOnlyIf (PrivateTextWants code_units.now) result }
+        ensures out_of_memory { RunsOutOnlyIf
+            (RefusedWithin M.refused (length code_units.now)) result }
     {
         let mut iter = SubtagIterator::new(code_units);
         let Some(ext) = take_singleton(&mut iter) else {
@@ -135,7 +154,7 @@ impl Private {
         if ext != b'x' {
             return Err(ParseError::InvalidExtension);
         }
-        Private::try_from_iter(alloc, &mut iter)
+        Private::try_from_iter(memory, &mut iter)
     }
 
     /// Parses a `str`, as `try_from_utf8` parses bytes.
@@ -147,16 +166,35 @@ impl Private {
             → Refuses ⊤ f result }
         ensures memory { RunsOutOnlyIf (PrivateTextWants s.now) result }
     {
-        Self::try_from_utf8(alloc, s.as_bytes())
+        Self::try_from_str_in(alloc, s)
     }
 
-    /// Parses what follows `x`: all the pieces that are left.
-    pub fn try_from_iter(alloc: Global, iter: &mut SubtagIterator<'_>) -> Result<Self, ParseError>
+    /// Parses a `str`, as `try_from_utf8_in` parses bytes.
+    pub fn try_from_str_in<M: Memory>(memory: M, s: &str) -> Result<Self, ParseError>
+        ensures reads { PrivateTextReads s.now result }
+        ensures accepted { (ws : List Text) → PrivateText s.now ws
+            → Accepts (λ p. p) ⊤ ws result }
+        ensures refused { (f : Fault) → PrivateTextFault s.now f
+            → Refuses ⊤ f result }
+        ensures memory { RunsOutOnlyIf (PrivateTextWants s.now) result }
+        ensures out_of_memory { RunsOutOnlyIf (RefusedWithin M.refused (length s.now)) result }
+    {
+        Self::try_from_utf8_in(memory, s.as_bytes())
+    }
+
+    /// Parses what follows `x`: all the pieces that are left. `OutOfMemory` comes only if room for at most as many
+    /// subtags was refused.
+    pub fn try_from_iter<M: Memory>(
+        memory: M,
+        iter: &mut SubtagIterator<'_>,
+    ) -> Result<Self, ParseError>
         ensures reads { PrivateReads (left iter.old) (left iter.new) result }
         ensures memory { RunsOutOnlyIf (PrivateWantsMemory (left iter.old)) result }
+        ensures out_of_memory { RunsOutOnlyIf
+            (RefusedWithin M.refused (length (left iter.old))) result }
     {
         let mut words = Private::new();
-        fill_private(alloc, iter, &mut words)?;
+        fill_private(memory, iter, &mut words)?;
         Ok(words)
     }
 
@@ -170,17 +208,20 @@ impl Private {
 
 /// What `Private::try_from_iter` reads, into an empty list, for parsers of whole locales. After a refusal it
 /// holds the subtags before the fault.
-pub fn fill_private(
-    alloc: Global,
+pub fn fill_private<M: Memory>(
+    memory: M,
     iter: &mut SubtagIterator<'_>,
     private: &mut Private,
 ) -> Result<(), ParseError>
     requires { private.old ≡ [] }
-    ensures { PrivateFills (left iter.old) (left iter.new) (result_and result (Ok private.new)) }
+    ensures reads { PrivateFills (left iter.old) (left iter.new)
+        (result_and result (Ok private.new)) }
+    ensures out_of_memory { RunsOutOnlyIf
+        (RefusedWithin M.refused (length (left iter.old))) result }
 {
     'words: while let Some(piece) = iter.next() {
         let word = Subtag::try_from_utf8(piece)?;
-        private.words.push(alloc, word)?;
+        private.words.push_in(memory, word)?;
     }
     if private.is_empty() {
         return Err(ParseError::InvalidExtension);

@@ -4,4 +4,4 @@ use Rattle.iloc_other.proofs.TakingLemmas.{TakingWords}
 use Rattle.iloc_other.proofs.private.fill_private.Given as goal
 
 abbrev pub invariant-words : goal.invariant-words
-invariant-words l = TakingWords (left l.initial.iter) (left l.iter) l.private-inside.words
+invariant-words g l = TakingWords (left l.initial.iter) (left l.iter) l.private-inside.words
