@@ -1,17 +1,19 @@
 -- Keywords that are taken one at a time.
 use Rattle.std.proofs.Common.{◌≡◌, ℕ, suc, ◌<◌, ◌≤◌, Bool, true, false, not, cond, ◌&&◌, ◌||◌, List, [], ◌∷◌}
 use Rattle.std.proofs.Common.{◌++◌, length, map, refl, sym, ap, ap₂, ◌∙◌, arith, true≢false, subst}
-use Rattle.std.proofs.Common.{append-nil, append_assoc, Option, Some, None, option_map, is_some, nat_lt}
+use Rattle.std.proofs.Common.{◌+◌, append-nil, append_assoc, length-append, Option, Some, None, option_map, is_some, nat_lt}
 use Rattle.std.proofs.Common.{get_or}
 use Rattle.std.specs.List.{AllByRecursion, list_any}
 use Rattle.std.specs.Ordering.{eq_by_cmp}
 use Rattle.std.specs.Cmp.{eq_by_cmp_equiv}
 use Rattle.std.specs.Option.{option_or}
 use Rattle.std.specs.FinMap.{put, find, is_sorted}
+use Rattle.std.specs.FinMap.Entries.{by_order}
+use Rattle.std.specs.declared.cmp.Ordering.TheVariants.{Less, Equal, Greater}
 use Rattle.std.proofs.lemmas.Bool.Decides.{nat_tests}
 use Rattle.std.proofs.lemmas.List.{map-append}
 use Rattle.iloc_spec_grammar.specs.Syntax.{Text, UnicodeKey, Attribute, is_word, IsWord, lower}
-use Rattle.iloc_spec_grammar.specs.Syntax.{word_cmp}
+use Rattle.iloc_spec_grammar.specs.Syntax.{word_cmp, is_true}
 use Rattle.iloc_spec_grammar.specs.Syntax.{Fields}
 use Rattle.iloc_spec_grammar.specs.Meaning.{map_of, normal_values, normal_fields, InvalidExtension}
 use Rattle.iloc_spec_grammar.specs.Meaning.{first_piece}
@@ -184,7 +186,36 @@ bad_at p qs h = ap (list_any is_bad_key) (front_at p qs (two_bytes_of p h))
     (good_key p h)
     ∙ bad_values qs (keywords_front (past (is_word Attribute) qs))
 
--- of the pieces before, the fields up to now are in the map
+-- how much room a map takes at most
+
+values_shorter : (ps : List Text) → length (normal_values ps) ≤ length ps
+values_shorter [] = omega arith
+values_shorter (p ∷ ps) =
+    let later = values_shorter ps in
+    elim (is_true (lower p)) as (λ b. length (cond (not b) (lower p ∷ normal_values ps) (normal_values ps))
+    ≤ suc (length ps)) [
+      | true ↦ omega (arith, later)
+      | false ↦ omega (arith, later)
+    ]
+
+put_length : {X : Type 0} (k : Text) (v : X) (es : List (Text × X)) →
+    length (put word_cmp k v es) ≤ suc (length es)
+put_length k v [] = omega arith
+put_length k v (e ∷ es) =
+    let later = put_length k v es in
+    elim (word_cmp k e.0) as (λ r.
+    length (by_order r ((k, v) ∷ e ∷ es) ((e.0, v) ∷ es) (e ∷ put word_cmp k v es)) ≤ suc (suc (length es))) [
+      | Less ↦ omega arith
+      | Equal ↦ omega arith
+      | Greater ↦ omega (arith, later)
+    ]
+
+one_longer : (b : Bool) (k : Text) (v : List Text) (m : Fields) →
+    length (cond b m (put word_cmp k v m)) ≤ suc (length m)
+one_longer true k v m = omega arith
+one_longer false k v m = put_length k v m
+
+-- of the pieces before, the fields up to now are in the map, with at most as many pairs as pieces
 pub record Filled (before now : List Text) (m : Fields) : Type 0 where
   pub fields : Fields
   pub keys : AllByRecursion HasKey fields
@@ -192,6 +223,7 @@ pub record Filled (before now : List Text) (m : Fields) : Type 0 where
   pub bad : list_any is_bad_key (keywords_front before) ≡ list_any is_bad_key (keywords_front now)
   pub rest : after_keywords before ≡ after_keywords now
   pub means : m ≡ normal_fields fields
+  pub room : length m + length (keywords_front now) ≤ length (keywords_front before)
 
 -- one field more
 
@@ -241,6 +273,24 @@ module _ (before now : List Text) (m : Fields) (t : Filled before now m) (w : Te
       ap before_bad_key (all_is p h cut) ∙ kept_append t.fields (f ∷ more) t.keys
       ∙ ap (λ b. t.fields ++ cond b (f ∷ before_bad_key more) []) h
 
+  -- the key, its values and what is left after them
+  front_now : length (keywords_front now) ≡ suc (length (passing (is_word Attribute) later)
+      + length (keywords_front (past (is_word Attribute) later)))
+  front_now =
+      let (p, h, same, cut) = now_is in
+      ap (λ ps. length (keywords_front ps)) cut ∙ ap length (front_at p later (two_bytes_of p h))
+      ∙ ap suc (length-append (passing (is_word Attribute) later)
+      (keywords_front (past (is_word Attribute) later)))
+
+  -- there is room for the values, and for a pair more
+  pub values_room :
+      length (normal_values (passing (is_word Attribute) later)) ≤ length (keywords_front before)
+  values_room =
+      let few = values_shorter (passing (is_word Attribute) later) in omega (arith, few, front_now, t.room)
+
+  pub pair_room : length m + 1 ≤ length (keywords_front before)
+  pair_room = omega (arith, front_now, t.room)
+
   -- less is left
   pub filled_less : (after : List Text) → after ≡ past (is_word Attribute) later →
       length after < length now
@@ -269,6 +319,11 @@ module _ (before now : List Text) (m : Fields) (t : Filled before now m) (w : Te
             ∙ ap (λ ps. list_any is_bad_key (keywords_front ps)) (sym a);
         rest =
             t.rest ∙ ap after_keywords cut ∙ rest_at p later (two_bytes_of p h) ∙ ap after_keywords (sym a);
+        room =
+            let longer = one_longer (is_some (find word_cmp w m)) w value m in
+            let pairs = ap length is in
+            let left_over = ap (λ ps. length (keywords_front ps)) a in
+            omega (arith, t.room, front_now, longer, pairs, left_over);
         means = is
             ∙ (λ i. cond (is_some (find word_cmp (same i) (t.means i))) (t.means i)
             (put word_cmp (same i) (v i) (t.means i)))

@@ -5,4 +5,5 @@ mod UnicodeLemmas
 mod OwedLemmas
 mod LengthLemmas
 mod Lookups
+mod RoomLemmas
 mod Halves

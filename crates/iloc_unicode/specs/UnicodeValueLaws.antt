@@ -3,7 +3,6 @@ use Rattle.std.proofs.Common.{ap}
 use Rattle.iloc_spec_grammar.specs.Syntax as written
 use Rattle.iloc_word_list.specs.Equality.{IsExactTest}
 use Rattle.iloc_unicode.specs.EqualityLaws.{unicode_exact}
-use Rattle.iloc_unicode.specs.declared.unicode.Unicode.{Unicode}
 use Rattle.iloc_unicode.specs.UnicodeValue.{value_of, shown_eq}
 
 pub shown_exact : IsExactTest shown_eq

@@ -6,6 +6,7 @@ ghost use Rattle.std.specs.Hash.{same_Alike};
 ghost use Rattle.std.proofs.Common.{rules};
 ghost use Rattle.std.specs.Slice.{IsItemAt};
 ghost use Rattle.std.specs.Slice.Iter.{iter_rest};
+ghost use Rattle.iloc_memory.specs.Refusals.{RefusedWithin};
 ghost use Rattle.iloc_spec_grammar.specs.Syntax.{Text, pieces, join, Attribute, word_cmp};
 ghost use Rattle.iloc_spec_grammar.specs.Meaning.{set_of};
 ghost use Rattle.iloc_spec_grammar.specs.Values.{IsNormal, StrictlyAscends};
@@ -16,6 +17,7 @@ ghost use Rattle.iloc_word_list.specs.Equality.{words_eq};
 ghost use Rattle.iloc_word_list.specs.EqualityLaws.{words_exact};
 ghost use Rattle.iloc_word_list.specs.Ascending.{ascends};
 
+use iloc_memory::Memory;
 use iloc_subtags::{Attribute, AttributeKind, ParseError, SubtagIterator};
 use iloc_word_list::WordSet;
 use iloc_writeable::pieces::Pieces;
@@ -60,16 +62,31 @@ impl Attributes {
             → Accepts (λ a. a) ⊤ ws result }
         ensures memory { RunsOutOnlyIf (AttributesWantMemory (pieces code_units.now)) result }
     {
-        Self::read_text(alloc, code_units)
+        Self::try_from_utf8_in(alloc, code_units)
+    }
+
+    /// As `try_from_utf8`, from any memory. `OutOfMemory` comes only if room for at most as many attributes as the text
+    /// has bytes was refused.
+    pub fn try_from_utf8_in<M: Memory>(memory: M, code_units: &[u8]) -> Result<Self, ParseError>
+        ensures reads { AttributesTextReads code_units.now result }
+        ensures accepted { (ws : List Text) → AttributesText code_units.now ws
+            → Accepts (λ a. a) ⊤ ws result }
+        ensures memory { RunsOutOnlyIf (AttributesWantMemory (pieces code_units.now)) result }
+        ensures out_of_memory { RunsOutOnlyIf
+            (RefusedWithin M.refused (length code_units.now)) result }
+    {
+        Self::read_text(memory, code_units)
     }
 
     // Parses the set. Its clauses say what is read and when memory runs out; the others follow from them.
-    fn read_text(alloc: Global, code_units: &[u8]) -> Result<Self, ParseError>
+    fn read_text<M: Memory>(memory: M, code_units: &[u8]) -> Result<Self, ParseError>
         ensures reads { AttributesTextReads code_units.now result }
         ensures memory { RunsOutOnlyIf (AttributesWantMemory (pieces code_units.now)) result }
+        ensures out_of_memory { RunsOutOnlyIf
+            (RefusedWithin M.refused (length code_units.now)) result }
     {
         let mut iter = SubtagIterator::new(code_units);
-        Ok(Self::try_from_iter(alloc, &mut iter)?)
+        Ok(Self::try_from_iter(memory, &mut iter)?)
     }
 
     /// Parses a `str`, as `try_from_utf8` parses bytes.
@@ -79,7 +96,18 @@ impl Attributes {
             → Accepts (λ a. a) ⊤ ws result }
         ensures memory { RunsOutOnlyIf (AttributesWantMemory (pieces s.now)) result }
     {
-        Attributes::try_from_utf8(alloc, s.as_bytes())
+        Attributes::try_from_str_in(alloc, s)
+    }
+
+    /// Parses a `str`, as `try_from_utf8_in` parses bytes.
+    pub fn try_from_str_in<M: Memory>(memory: M, s: &str) -> Result<Self, ParseError>
+        ensures reads { AttributesTextReads s.now result }
+        ensures accepted { (ws : List Text) → AttributesText s.now ws
+            → Accepts (λ a. a) ⊤ ws result }
+        ensures memory { RunsOutOnlyIf (AttributesWantMemory (pieces s.now)) result }
+        ensures out_of_memory { RunsOutOnlyIf (RefusedWithin M.refused (length s.now)) result }
+    {
+        Attributes::try_from_utf8_in(memory, s.as_bytes())
     }
 
     /// The set of these attributes, which have to ascend strictly:

@@ -1,5 +1,5 @@
 //! The keywords of a unicode extension.
-ghost use Rattle.std.specs.Prelude.{◌≡◌, ⊤, ◌<◌, ◌==◌, ◌↔◌, ℕ, List, [], ◌∷◌, ◌++◌, true, length, reverse, IsTrue, OnOk, OnErr, IfOk, IsOk, if◌then◌else◌};
+ghost use Rattle.std.specs.Prelude.{◌≡◌, ⊤, ◌<◌, ◌+◌, ◌==◌, ◌↔◌, ℕ, List, [], ◌∷◌, ◌++◌, true, length, reverse, IsTrue, OnOk, OnErr, IfOk, IsOk, if◌then◌else◌};
 ghost use Rattle.std.specs.Borrow.{sem};
 ghost use Rattle.std.specs.Fn.{CalledAt};
 ghost use Rattle.std.specs.FinMap.{find, put};
@@ -16,6 +16,7 @@ ghost use Rattle.std.specs.Cmp.{
 };
 ghost use Rattle.std.specs.Hash.{same_Alike};
 ghost use Rattle.std.proofs.Common.{refl};
+ghost use Rattle.iloc_memory.specs.Refusals.{RefusedWithin};
 ghost use Rattle.iloc_spec_grammar.specs.Syntax.{word_cmp, pieces, Fields};
 ghost use Rattle.iloc_spec_grammar.specs.Meaning.{map_of, Fault};
 ghost use Rattle.iloc_unicode.specs.Equality.{fields_eq};
@@ -26,6 +27,7 @@ ghost use Rattle.iloc_unicode.specs.Reads.{KeywordsTextReads, KeywordsWantMemory
 ghost use Rattle.iloc_litemap.specs.Pairs.{HasAscendingKeys};
 
 use iloc_litemap::LiteMap;
+use iloc_memory::Memory;
 use iloc_shortvec::ShortBoxSlice;
 use iloc_subtags::{ParseError, SubtagIterator, UnicodeKey as Key};
 use iloc_word_list::{Value, copy_of_single};
@@ -96,15 +98,32 @@ impl Keywords {
             → Refuses ⊤ f result }
         ensures memory { RunsOutOnlyIf (KeywordsWantMemory (pieces code_units.now)) result }
     {
-        Self::read_text(alloc, code_units)
+        Self::try_from_utf8_in(alloc, code_units)
+    }
+
+    /// As `try_from_utf8`, from any memory. `OutOfMemory` comes only if room for at most as many items as the text has
+    /// bytes was refused.
+    pub fn try_from_utf8_in<M: Memory>(memory: M, code_units: &[u8]) -> Result<Self, ParseError>
+        ensures reads { KeywordsTextReads code_units.now result }
+        ensures accepted { (m : Fields) → KeywordsText code_units.now m
+            → Accepts (λ k. k) ⊤ m result }
+        ensures refused { (f : Fault) → KeywordsTextFault code_units.now f
+            → Refuses ⊤ f result }
+        ensures memory { RunsOutOnlyIf (KeywordsWantMemory (pieces code_units.now)) result }
+        ensures out_of_memory { RunsOutOnlyIf
+            (RefusedWithin M.refused (length code_units.now)) result }
+    {
+        Self::read_text(memory, code_units)
     }
 
     // Parses the map. Its clauses say what is read and when memory runs out; the others follow from them.
-    fn read_text(alloc: Global, code_units: &[u8]) -> Result<Self, ParseError>
+    fn read_text<M: Memory>(memory: M, code_units: &[u8]) -> Result<Self, ParseError>
         ensures reads { KeywordsTextReads code_units.now result }
         ensures memory { RunsOutOnlyIf (KeywordsWantMemory (pieces code_units.now)) result }
+        ensures out_of_memory { RunsOutOnlyIf
+            (RefusedWithin M.refused (length code_units.now)) result }
     {
-        Self::try_from_iter(alloc, &mut SubtagIterator::new(code_units))
+        Self::try_from_iter(memory, &mut SubtagIterator::new(code_units))
     }
 
     /// Parses a `str`, as `try_from_utf8` parses bytes.
@@ -116,7 +135,20 @@ impl Keywords {
             → Refuses ⊤ f result }
         ensures memory { RunsOutOnlyIf (KeywordsWantMemory (pieces s.now)) result }
     {
-        Keywords::try_from_utf8(alloc, s.as_bytes())
+        Keywords::try_from_str_in(alloc, s)
+    }
+
+    /// Parses a `str`, as `try_from_utf8_in` parses bytes.
+    pub fn try_from_str_in<M: Memory>(memory: M, s: &str) -> Result<Self, ParseError>
+        ensures reads { KeywordsTextReads s.now result }
+        ensures accepted { (m : Fields) → KeywordsText s.now m
+            → Accepts (λ k. k) ⊤ m result }
+        ensures refused { (f : Fault) → KeywordsTextFault s.now f
+            → Refuses ⊤ f result }
+        ensures memory { RunsOutOnlyIf (KeywordsWantMemory (pieces s.now)) result }
+        ensures out_of_memory { RunsOutOnlyIf (RefusedWithin M.refused (length s.now)) result }
+    {
+        Keywords::try_from_utf8_in(memory, s.as_bytes())
     }
 
     /// Whether there is no key.
@@ -260,15 +292,21 @@ impl Keywords {
     }
 
     // Sets the value of a key that isn't there; else nothing changes.
-    pub(crate) fn add(&mut self, alloc: Global, key: Key, value: Value) -> Result<(), AllocError>
+    pub(crate) fn add<M: Memory>(
+        &mut self,
+        memory: M,
+        key: Key,
+        value: Value,
+    ) -> Result<(), AllocError>
         ensures ok { OnOk result (self.new
             ≡ (if is_some (find word_cmp key self.old) then self.old
             else put word_cmp key value self.old)) }
         ensures err { OnErr result (self.new ≡ self.old) }
         ensures succeeds { length self.old < 1 → IsOk result }
         ensures known { is_some (find word_cmp key self.old) ≡ true → IsOk result }
+        ensures out_of_memory { OnErr result (RefusedWithin M.refused (length self.old + 1)) }
     {
-        self.map.try_insert(alloc, key, value)?;
+        self.map.try_insert_in(memory, key, value)?;
         Ok(())
     }
 

@@ -3,8 +3,10 @@
 //!
 //! Readers take exactly the front of the pieces that `iloc_spec_parts` defines and leave the rest; of equal
 //! keys the first stays, and repeated attributes are dropped. Printing is the normal text of the part.
-//! Up to four attributes, and one key with up to four subtags, allocate nothing. It stands on the set of
-//! subtags, the map over short lists and its laws, values, pieces and printing.
+//! Up to four attributes, and one key with up to four subtags, allocate nothing. What parses a text has a form for any
+//! memory, such as `try_from_utf8_in` of `try_from_utf8`. It runs out of memory only if that memory refused room for at
+//! most as many items as the text has bytes. It stands on the set of subtags, the map over short lists and its laws,
+//! values, pieces, printing, and `iloc_memory` (what is asked for room).
 #![tactic(auto)]
 
 ghost use Rattle.std.specs.Prelude.{◌≡◌, ◌↔◌, List, IsTrue};

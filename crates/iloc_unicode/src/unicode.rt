@@ -2,6 +2,7 @@
 ghost use Rattle.std.specs.Prelude.{◌≡◌, ⊤, ◌↔◌, ◌&&◌, ◌==◌, ◌++◌, [], length, IsTrue, OnOk, OnErr, Some};
 ghost use Rattle.std.specs.Cmp.{decided, partial_equiv_from_equiv};
 ghost use Rattle.std.specs.Hash.{same_Alike};
+ghost use Rattle.iloc_memory.specs.Refusals.{RefusedWithin};
 ghost use Rattle.iloc_spec_parts.specs.Extending.{extend};
 ghost use Rattle.iloc_spec_parts.specs.Parts.{UnicodeText, UnicodeTextFault};
 ghost use Rattle.iloc_spec_grammar.specs.Meaning.{Fault, map_of, set_of};
@@ -13,6 +14,7 @@ ghost use Rattle.iloc_spec_parts.specs.Orders.{unicode_cmp};
 use crate::attributes::Attributes;
 use crate::keywords::Keywords;
 use crate::reader::takes_u;
+use iloc_memory::Memory;
 use iloc_subtags::{ParseError, SubtagIterator};
 use iloc_writeable::pieces::Pieces;
 use iloc_writeable::{Sink, Writeable};
@@ -53,19 +55,36 @@ impl Unicode {
             → Refuses ⊤ f result }
         ensures memory { RunsOutOnlyIf (UnicodeTextWants code_units.now) result }
     {
-        Self::read_text(alloc, code_units)
+        Self::try_from_utf8_in(alloc, code_units)
+    }
+
+    /// As `try_from_utf8`, from any memory. `OutOfMemory` comes only if room for at most as many items as the text has
+    /// bytes was refused.
+    pub fn try_from_utf8_in<M: Memory>(memory: M, code_units: &[u8]) -> Result<Self, ParseError>
+        ensures reads { UnicodeTextReads code_units.now result }
+        ensures accepted { (u : UnicodeParts) → UnicodeText code_units.now u
+            → Accepts value_of ⊤ u result }
+        ensures refused { (f : Fault) → UnicodeTextFault code_units.now f
+            → Refuses ⊤ f result }
+        ensures memory { RunsOutOnlyIf (UnicodeTextWants code_units.now) result }
+        ensures out_of_memory { RunsOutOnlyIf
+            (RefusedWithin M.refused (length code_units.now)) result }
+    {
+        Self::read_text(memory, code_units)
     }
 
     // Parses the extension. Its clauses say what is read and when memory runs out; the others follow from them.
-    fn read_text(alloc: Global, code_units: &[u8]) -> Result<Self, ParseError>
+    fn read_text<M: Memory>(memory: M, code_units: &[u8]) -> Result<Self, ParseError>
         ensures reads { UnicodeTextReads code_units.now result }
         ensures memory { RunsOutOnlyIf (UnicodeTextWants code_units.now) result }
+        ensures out_of_memory { RunsOutOnlyIf
+            (RefusedWithin M.refused (length code_units.now)) result }
     {
         let mut iter = SubtagIterator::new(code_units);
         if !takes_u(&mut iter) {
             return Err(ParseError::InvalidExtension);
         }
-        Self::try_from_iter(alloc, &mut iter)
+        Self::try_from_iter(memory, &mut iter)
     }
 
     /// Parses a `str`, as `try_from_utf8` parses bytes.
@@ -77,7 +96,20 @@ impl Unicode {
             → Refuses ⊤ f result }
         ensures memory { RunsOutOnlyIf (UnicodeTextWants s.now) result }
     {
-        Unicode::try_from_utf8(alloc, s.as_bytes())
+        Unicode::try_from_str_in(alloc, s)
+    }
+
+    /// Parses a `str`, as `try_from_utf8_in` parses bytes.
+    pub fn try_from_str_in<M: Memory>(memory: M, s: &str) -> Result<Self, ParseError>
+        ensures reads { UnicodeTextReads s.now result }
+        ensures accepted { (u : UnicodeParts) → UnicodeText s.now u
+            → Accepts value_of ⊤ u result }
+        ensures refused { (f : Fault) → UnicodeTextFault s.now f
+            → Refuses ⊤ f result }
+        ensures memory { RunsOutOnlyIf (UnicodeTextWants s.now) result }
+        ensures out_of_memory { RunsOutOnlyIf (RefusedWithin M.refused (length s.now)) result }
+    {
+        Unicode::try_from_utf8_in(memory, s.as_bytes())
     }
 
     /// Whether both parts are empty.

@@ -5,7 +5,7 @@ use Rattle.iloc_unicode.proofs.KeywordLemmas.{Filled}
 use Rattle.iloc_unicode.proofs.reader.fill_keywords.Given as goal
 
 abbrev pub invariant-keys : goal.invariant-keys
-invariant-keys l = Filled (left l.fn.iter) (left l.iter) l.keywords
+invariant-keys g l = Filled (left l.fn.iter) (left l.iter) l.keywords
 
 abbrev pub decreases-keys : goal.decreases-keys
-decreases-keys l = length (left l.iter)
+decreases-keys g l = length (left l.iter)

@@ -5,7 +5,7 @@ use Rattle.iloc_unicode.proofs.AttributeLemmas.{Gathered}
 use Rattle.iloc_unicode.proofs.reader.read_more_attributes.Given as goal
 
 abbrev pub invariant-words : goal.invariant-words
-invariant-words l = Gathered (l.fn.four ++ left l.fn.iter) (left l.iter) l.words
+invariant-words g l = Gathered (l.fn.four ++ left l.fn.iter) (left l.iter) l.words
 
 abbrev pub decreases-words : goal.decreases-words
-decreases-words l = length (left l.iter)
+decreases-words g l = length (left l.iter)

@@ -5,7 +5,7 @@ use Rattle.iloc_unicode.proofs.AttributeLemmas.{GatheredFew}
 use Rattle.iloc_unicode.proofs.attributes.Attributes.try_from_iter.Given as goal
 
 abbrev pub invariant-few : goal.invariant-few
-invariant-few l = GatheredFew (left l.fn.iter) (left l.iter) l.attributes
+invariant-few g l = GatheredFew (left l.fn.iter) (left l.iter) l.attributes
 
 abbrev pub decreases-few : goal.decreases-few
-decreases-few l = length (left l.iter)
+decreases-few g l = length (left l.iter)

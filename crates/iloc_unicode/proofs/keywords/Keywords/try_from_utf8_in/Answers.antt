@@ -1,10 +1,11 @@
 -- what is owed to each text follows from what is read
 use Rattle.iloc_unicode.proofs.OwedLemmas.{keywords_accepts, keywords_refuses}
-use Rattle.iloc_unicode.proofs.keywords.Keywords.try_from_utf8.Goals as goal
+use Rattle.iloc_unicode.proofs.keywords.Keywords.try_from_utf8_in.Goals as goal
 
 pub returns-clause-accepted : goal.returns-clause-accepted
-returns-clause-accepted c =
+returns-clause-accepted g c =
     keywords_accepts c.args.code_units.now c.read_text.result c.read_text.ensures.reads
 
 pub returns-clause-refused : goal.returns-clause-refused
-returns-clause-refused c = keywords_refuses c.args.code_units.now c.read_text.result c.read_text.ensures.reads
+returns-clause-refused g c =
+    keywords_refuses c.args.code_units.now c.read_text.result c.read_text.ensures.reads
