@@ -1,9 +1,11 @@
 -- Fields that are taken one at a time.
-use Rattle.std.proofs.Common.{◌≡◌, suc, ◌<◌, Bool, true, false, cond, ◌&&◌, List, [], ◌∷◌, ◌++◌, length}
+use Rattle.std.proofs.Common.{◌≡◌, suc, ◌+◌, ◌<◌, ◌≤◌, Bool, true, false, cond, ◌&&◌, List, [], ◌∷◌, ◌++◌, length}
 use Rattle.std.proofs.Common.{map, refl, sym, ap, ◌∙◌, arith, append_assoc, append-nil, Some}
 use Rattle.std.proofs.Common.{option_map, is_some, if◌then◌else◌, Err}
 use Rattle.std.specs.List.{AllByRecursion, list_all}
 use Rattle.std.specs.FinMap.{find, put}
+use Rattle.std.specs.FinMap.Entries.{by_order}
+use Rattle.std.specs.declared.cmp.Ordering.TheVariants.{Less, Equal, Greater}
 use Rattle.std.proofs.lemmas.List.{map-append}
 use Rattle.iloc_spec_grammar.specs.Syntax.{Text, TransformKey, Attribute, is_word, IsWord, lower, word_cmp}
 use Rattle.iloc_spec_grammar.specs.Syntax.{Fields}
@@ -23,6 +25,7 @@ use Rattle.iloc_subtags.specs.declared.parse_error.ParseError.TheVariants.{Dupli
 use Rattle.iloc_spec_parts.specs.Fronts.{attributes_front}
 use Rattle.iloc_transform.specs.ValueReading.{FieldValueReads}
 use Rattle.iloc_transform.specs.FieldsReading.{FieldsFills}
+use Rattle.iloc_transform.proofs.RoomLemmas.{values_short}
 use Rattle.iloc_spec_grammar.proofs.ReadBack.{all_append}
 use Rattle.iloc_spec_grammar.proofs.ReadingLaws.{length-past}
 use Rattle.iloc_spec_parts.proofs.TransformLaws.{no_key_empty}
@@ -37,6 +40,7 @@ pub record TakingFields (before now : List Text) (m : Fields) : Type 0 where
   pub front : fields_front before ≡ fields_pieces taken ++ fields_front now
   pub rest : after_fields before ≡ after_fields now
   pub means : m ≡ normal_fields taken
+  pub room : length m + length now ≤ length before
 
 -- after a key: its values, and the next fields
 
@@ -87,6 +91,33 @@ normal-last fs p vs =
     ∙ map_of_more word_cmp word_cmp_total same_words (map (λ f. (lower f.0, normal_values f.1)) fs) (lower p)
     (normal_values vs)
 
+pub shorter : (now qs more : List Text) (k : Text) → Some k ≡ option_map lower (take_first is_key now) →
+    qs ≡ skip_first is_key now → more ≡ past (is_word Attribute) qs → length more < length now
+shorter now qs more k e s r =
+    let t = took TransformKey now k e in
+    let n : length now ≡ suc (length qs) = ap length (t.3 ∙ ap (λ l. t.0 ∷ l) (sym s)) in
+    let l = length-past (is_word Attribute) qs in
+    let m : length more ≡ length (past (is_word Attribute) qs) = ap length r in
+    omega (arith, n, l, m)
+
+put_short : (k : Text) (v : List Text) (es : Fields) → length (put word_cmp k v es) ≤ length es + 1
+put_short k v [] = omega arith
+put_short k v (e ∷ es) =
+    let later = put_short k v es in
+    elim (word_cmp k e.0)
+    as (λ o. length (by_order o ((k, v) ∷ e ∷ es) ((e.0, v) ∷ es) (e ∷ put word_cmp k v es))
+    ≤ suc (length es) + 1) [
+      | Less ↦ omega arith
+      | Equal ↦ omega arith
+      | Greater ↦ omega (arith, later)
+    ]
+
+-- a field that may be there makes at most one more
+added_short : (there : Bool) (k : Text) (v : List Text) (es : Fields) →
+    length (cond there es (put word_cmp k v es)) ≤ length es + 1
+added_short true k v es = omega arith
+added_short false k v es = put_short k v es
+
 -- a key with its values
 pub takes_field : (before now : List Text) (m : Fields) (k : Text) (qs more v : List Text)
     (n : Fields) →
@@ -115,7 +146,29 @@ takes_field before now m k qs more v n h e s r i =
           ∙ (λ j. if is_some (find word_cmp (t.2 j) (h.means j)) then h.means j else put word_cmp (t.2 j)
           (r.1 j) (h.means j))
           ∙ sym (normal-last h.taken p vs);
+      room = omega (
+        arith,
+        ap length i,
+        added_short (is_some (find word_cmp k m)) k v m,
+        shorter now qs more k e s r.2,
+        h.room,
+      );
     }
+
+-- the fields so far and one more are at most as many as there are pieces
+pub field_room : (before now : List Text) (m : Fields) (k : Text) → TakingFields before now m →
+    Some k ≡ option_map lower (take_first is_key now) → length m + 1 ≤ length before
+field_room before now m k h e =
+    let t = took TransformKey now k e in omega (arith, ap length t.3, h.room)
+
+-- and so are the subtags of the next value
+pub value_room : (before now : List Text) (m : Fields) (k : Text) (qs : List Text) →
+    TakingFields before now m → Some k ≡ option_map lower (take_first is_key now) →
+    qs ≡ skip_first is_key now → length (normal_values (attributes_front qs)) ≤ length before
+value_room before now m k qs h e s =
+    let t = took TransformKey now k e in
+    let n : length now ≡ suc (length qs) = ap length (t.3 ∙ ap (λ l. t.0 ∷ l) (sym s)) in
+    omega (arith, n, values_short qs, h.room)
 
 -- the front, where a key stands
 front_at : (before now : List Text) (m : Fields) (k : Text) → TakingFields before now m →
@@ -218,12 +271,3 @@ refuses before now m k qs rest left OutOfMemory h e s r =
 refuses before now m k qs rest left InvalidLanguage h e s r = let other = r.0 in cc
 refuses before now m k qs rest left InvalidSubtag h e s r = let other = r.0 in cc
 refuses before now m k qs rest left DuplicatedExtension h e s r = let other = r.0 in cc
-
-pub shorter : (now qs more : List Text) (k : Text) → Some k ≡ option_map lower (take_first is_key now) →
-    qs ≡ skip_first is_key now → more ≡ past (is_word Attribute) qs → length more < length now
-shorter now qs more k e s r =
-    let t = took TransformKey now k e in
-    let n : length now ≡ suc (length qs) = ap length (t.3 ∙ ap (λ l. t.0 ∷ l) (sym s)) in
-    let l = length-past (is_word Attribute) qs in
-    let m : length more ≡ length (past (is_word Attribute) qs) = ap length r in
-    omega (arith, n, l, m)

@@ -1,3 +1,4 @@
+pub mod RoomLemmas
 pub mod ValueLemmas
 pub mod ValueOwed
 pub mod FieldsLemmas

@@ -1,12 +1,12 @@
 -- Subtags of a value that are taken one at a time.
-use Rattle.std.proofs.Common.{◌≡◌, ◌<◌, Bool, true, false, cond, List, [], ◌∷◌, ◌++◌}
-use Rattle.std.proofs.Common.{length, refl, sym, ap, ◌∙◌, subst, Some, None}
+use Rattle.std.proofs.Common.{◌≡◌, suc, ◌+◌, ◌<◌, ◌≤◌, Bool, true, false, not, cond, List, [], ◌∷◌, ◌++◌}
+use Rattle.std.proofs.Common.{length, refl, sym, ap, ◌∙◌, subst, arith, length-append, option_map, Some, None}
 use Rattle.std.proofs.Common.{Ok, Err}
 use Rattle.std.specs.List.{list_all}
 use Rattle.std.proofs.lemmas.Bool.{and_parts, false_from_ne_true}
-use Rattle.iloc_spec_grammar.specs.Syntax.{Text, pieces, Attribute, is_word}
+use Rattle.iloc_spec_grammar.specs.Syntax.{Text, pieces, Attribute, is_word, is_true, lower}
 use Rattle.iloc_spec_grammar.specs.Meaning.{normal_values}
-use Rattle.iloc_spec_grammar.specs.Reading.{passing, past}
+use Rattle.iloc_spec_grammar.specs.Reading.{passing, past, take_first, skip_first}
 use Rattle.iloc_spec_grammar.specs.Reading.{first_item}
 use Rattle.iloc_spec_grammar.proofs.PiecesLaws.{pieces_nonempty}
 use Rattle.iloc_subtags.specs.declared.parse_error.ParseError.{ParseError}
@@ -14,6 +14,7 @@ use Rattle.iloc_subtags.specs.declared.parse_error.ParseError.TheVariants.{Inval
 use Rattle.iloc_subtags.specs.declared.parse_error.ParseError.TheVariants.{InvalidExtension}
 use Rattle.iloc_subtags.specs.declared.parse_error.ParseError.TheVariants.{DuplicatedExtension, OutOfMemory}
 use Rattle.iloc_subtags.specs.Judging.{Answers, RunsOutOnlyIf}
+use Rattle.iloc_subtags.proofs.TakingLemmas.{took}
 use Rattle.iloc_subtags.proofs.Judged.{without_memory, runs_out}
 use Rattle.iloc_spec_parts.specs.PartValues.{transform_value}
 use Rattle.iloc_spec_parts.specs.Fronts.{attributes_front}
@@ -23,6 +24,27 @@ use Rattle.iloc_transform.specs.ValueReading.{FieldValueReads, FieldValueTextRea
 pub record TakingValues (before now v : List Text) : Type 0 where
   pub front : v ++ normal_values (attributes_front now) ≡ normal_values (attributes_front before)
   pub rest : past (is_word Attribute) now ≡ past (is_word Attribute) before
+
+-- the subtags so far and one more are among all
+pub one_more_fits : (before now v : List Text) (w : Text) → TakingValues before now v →
+    Some w ≡ option_map lower (take_first (is_word Attribute) now) → is_true w ≡ false →
+    length v + 1 ≤ length (normal_values (attributes_front before))
+one_more_fits before now v w h e other =
+    let t = took Attribute now w e in
+    let later : List Text = attributes_front (skip_first (is_word Attribute) now) in
+    let first : attributes_front now ≡ t.0 ∷ later =
+    ap attributes_front t.3 ∙ ap (λ b. cond b (t.0 ∷ later) []) t.1 in
+    let is : is_true (lower t.0) ≡ false = ap is_true (sym t.2) ∙ other in
+    let values : normal_values (attributes_front now) ≡ lower t.0 ∷ normal_values later =
+    ap normal_values first
+    ∙ ap (λ b. cond (not b) (lower t.0 ∷ normal_values later) (normal_values later)) is in
+    let all : length (v ++ (lower t.0 ∷ normal_values later))
+    ≡ length (normal_values (attributes_front before)) =
+    ap length (ap (λ l. v ++ l) (sym values) ∙ h.front) in
+    let parts : length (v ++ (lower t.0 ∷ normal_values later))
+    ≡ length v + suc (length (normal_values later)) =
+    length-append v (lower t.0 ∷ normal_values later) in
+    omega arith
 
 -- a whole text
 

@@ -2,6 +2,7 @@
 ghost use Rattle.std.specs.Prelude.{
   ◌≡◌,
   ◌==◌,
+  ◌+◌,
   ℕ,
   List,
   [],
@@ -31,12 +32,15 @@ ghost use Rattle.std.specs.Cmp.{partial_order_from_agreeing_total};
 ghost use Rattle.std.proofs.Common.{refl};
 ghost use Rattle.iloc_spec_parts.specs.Orders.{fields_cmp};
 ghost use Rattle.iloc_transform.specs.FieldsOrder.{fields_ties, fields_total};
+ghost use Rattle.iloc_memory.specs.Refusals.{RefusedWithin};
 ghost use Rattle.iloc_litemap.specs.Pairs.{HasAscendingKeys};
+ghost use Rattle.iloc_subtags.specs.Judging.{RunsOutOnlyIf};
 ghost use Rattle.iloc_subtags.specs.Left.{left};
 ghost use Rattle.iloc_transform.specs.FieldsReading.{IsFieldPair, FieldsFills};
 
 use crate::value::Value;
 use iloc_litemap::LiteMap;
+use iloc_memory::Memory;
 use iloc_subtags::{ParseError, SubtagIterator, TransformKey, TransformKeyKind, take_word};
 use iloc_writeable::{Pieces, Sink, Writeable};
 use std::alloc::{AllocError, Global};
@@ -79,8 +83,15 @@ impl Fields {
     pub fn new(alloc: Global) -> Self
         ensures { result ≡ [] }
     {
+        Fields::new_in(alloc)
+    }
+
+    /// As `new`, from any memory. It asks for no room.
+    pub fn new_in<M: Memory>(memory: M) -> Self
+        ensures { result ≡ [] }
+    {
         Fields {
-            map: LiteMap::new(alloc),
+            map: LiteMap::from_sorted_store_unchecked(memory.empty()),
         }
     }
 
@@ -144,36 +155,55 @@ impl Fields {
         ensures err { OnErr result (self.new ≡ self.old) }
         ensures known { is_some (find word_cmp key self.old) ≡ true → IsOk result }
     {
+        self.set_in(alloc, key, value)
+    }
+
+    /// As `set`, from any memory. Refusal: `AllocError`, only if room for at most all the fields was refused.
+    #[inline(always)]
+    pub fn set_in<M: Memory>(
+        &mut self,
+        memory: M,
+        key: Key,
+        value: Value,
+    ) -> Result<Option<Value>, AllocError>
+        ensures before { IfOk result (λ before. before ≡ find word_cmp key self.old) }
+        ensures ok { OnOk result (self.new ≡ put word_cmp key value self.old) }
+        ensures err { OnErr result (self.new ≡ self.old) }
+        ensures known { is_some (find word_cmp key self.old) ≡ true → IsOk result }
+        ensures out_of_memory { OnErr result (RefusedWithin M.refused (length self.old + 1)) }
+    {
         let _ = key.as_str();
         let _ = value.as_slice();
         if let Some(old) = self.map.get_mut(&key) {
             return Ok(Some(mem::replace(old, value)));
         }
-        self.insert(alloc, key, value)?;
+        self.insert(memory, key, value)?;
         Ok(None)
     }
 
     // Sets the value of a key. It stands apart, so that `set` pays nothing for it where the key is there.
     #[inline(never)]
-    fn insert(&mut self, alloc: Global, key: Key, value: Value) -> Result<(), AllocError>
+    fn insert<M: Memory>(&mut self, memory: M, key: Key, value: Value) -> Result<(), AllocError>
         ensures ok { OnOk result (self.new ≡ put word_cmp key value self.old) }
         ensures err { OnErr result (self.new ≡ self.old) }
+        ensures out_of_memory { OnErr result (RefusedWithin M.refused (length self.old + 1)) }
     {
         let _ = key.as_str();
         let _ = value.as_slice();
-        self.map.insert(alloc, key, value)?;
+        self.map.insert_in(memory, key, value)?;
         Ok(())
     }
 
     // Sets the value of a key that isn't there; else nothing changes.
-    fn add(&mut self, alloc: Global, key: Key, value: Value) -> Result<(), AllocError>
-        ensures { OnOk result (self.new
+    fn add<M: Memory>(&mut self, memory: M, key: Key, value: Value) -> Result<(), AllocError>
+        ensures ok { OnOk result (self.new
             ≡ (if is_some (find word_cmp key self.old) then self.old
             else put word_cmp key value self.old)) }
+        ensures out_of_memory { OnErr result (RefusedWithin M.refused (length self.old + 1)) }
     {
         let _ = key.as_str();
         let _ = value.as_slice();
-        self.map.try_insert(alloc, key, value)?;
+        self.map.try_insert_in(memory, key, value)?;
         Ok(())
     }
 
@@ -210,18 +240,20 @@ impl Fields {
 
 /// Parses keys with their values, as many as there are, into the empty map; of equal keys the first stays.
 /// After a refusal it holds the fields before the fault.
-pub fn fill_fields(
-    alloc: Global,
+pub fn fill_fields<M: Memory>(
+    memory: M,
     iter: &mut SubtagIterator<'_>,
     fields: &mut Fields,
 ) -> Result<(), ParseError>
     requires { fields.old ≡ [] }
-    ensures { FieldsFills (left iter.old) (left iter.new)
+    ensures reads { FieldsFills (left iter.old) (left iter.new)
         (result_and result (Ok fields.new)) }
+    ensures out_of_memory { RunsOutOnlyIf
+        (RefusedWithin M.refused (length (left iter.old))) result }
 {
     'keys: while let Some(key) = take_word::<TransformKeyKind, 2>(iter) {
-        let value = Value::read_front(alloc, iter)?;
-        fields.add(alloc, key, value)?;
+        let value = Value::read_front(memory, iter)?;
+        fields.add(memory, key, value)?;
     }
     Ok(())
 }

@@ -1,5 +1,5 @@
 //! The identifier of a transform: parsed, compared, put in lower case.
-ghost use Rattle.std.specs.Prelude.{◌≡◌, Ok, None, option_map, option_to_list};
+ghost use Rattle.std.specs.Prelude.{◌≡◌, Ok, None, length, option_map, option_to_list};
 ghost use Rattle.std.specs.List.{flat_map};
 ghost use Rattle.std.specs.Option.{option_cmp, option_copied};
 ghost use Rattle.std.specs.Result.{result_and};
@@ -7,23 +7,27 @@ ghost use Rattle.iloc_spec_grammar.specs.Syntax.{identifier_pieces, optional_pie
 ghost use Rattle.iloc_spec_grammar.specs.Values.{lower_identifier};
 ghost use Rattle.iloc_langid.specs.Reads.{value_of};
 ghost use Rattle.iloc_spec_parts.specs.Orders.{identifier_cmp};
+ghost use Rattle.iloc_memory.specs.Refusals.{RefusedWithin};
+ghost use Rattle.iloc_subtags.specs.Judging.{RunsOutOnlyIf};
 ghost use Rattle.iloc_subtags.specs.Left.{left};
 ghost use Rattle.iloc_transform.specs.LangReading.{LangFills};
 
 use iloc_langid::reader::fill_front;
 use iloc_langid::{LanguageIdentifier, Lowercase};
+use iloc_memory::Memory;
 use iloc_subtags::{Language, ParseError, SubtagIterator};
-use std::alloc::Global;
 use std::cmp::Ordering;
 
 /// Parses the longest front of an identifier's subtags, if the next piece is a language; else `None`.
-pub(crate) fn fill_lang(
-    alloc: Global,
+pub(crate) fn fill_lang<M: Memory>(
+    memory: M,
     iter: &mut SubtagIterator<'_>,
     lang: &mut Option<LanguageIdentifier>,
 ) -> Result<(), ParseError>
     requires { lang.old ≡ None }
-    ensures { LangFills (left iter.old) (left iter.new) (result_and result (Ok lang.new)) }
+    ensures reads { LangFills (left iter.old) (left iter.new) (result_and result (Ok lang.new)) }
+    ensures out_of_memory { RunsOutOnlyIf
+        (RefusedWithin M.refused (length (left iter.old))) result }
 {
     let Some(piece) = iter.peek() else {
         return Ok(());
@@ -31,7 +35,7 @@ pub(crate) fn fill_lang(
     match Language::try_from_utf8(piece) {
         Ok(_) => {
             let mut identifier = LanguageIdentifier::unknown();
-            fill_front(alloc, iter, &mut identifier)?;
+            fill_front(memory, iter, &mut identifier)?;
             *lang = Some(identifier);
             Ok(())
         }

@@ -4,8 +4,11 @@
 //! what the grammar of UTS #35, section 3, allows after `t`, by its definition in `iloc_spec_parts`, and print it as the
 //! normal text does, the identifier in lower case.
 //!
-//! It stands on the identifiers of `iloc_langid`, the maps of `iloc_litemap`, the lists of `iloc_shortvec` and the subtags
-//! of `iloc_subtags`.
+//! What may grow has a form for any memory, such as `try_from_utf8_in` of `try_from_utf8`. It runs out of memory only if
+//! that memory refused room for at most as many subtags or fields as the text has bytes.
+//!
+//! It stands on the identifiers of `iloc_langid`, the maps of `iloc_litemap`, the lists of `iloc_shortvec`, the subtags of
+//! `iloc_subtags`, and what is asked for room (`iloc_memory`).
 #![tactic(auto)]
 
 ghost use Rattle.std.specs.Prelude.{◌≡◌, ◌≤◌, ◌↔◌, IsTrue, List, [], length, IfSome};

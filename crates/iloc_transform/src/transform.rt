@@ -7,6 +7,7 @@ ghost use Rattle.iloc_spec_parts.specs.Parts.{TransformText, TransformTextFault}
 ghost use Rattle.iloc_spec_parts.specs.Orders.{transform_cmp};
 ghost use Rattle.iloc_subtags.specs.Judging.{Accepts, Refuses, RunsOutOnlyIf};
 ghost use Rattle.iloc_subtags.specs.Left.{left};
+ghost use Rattle.iloc_memory.specs.Refusals.{RefusedWithin};
 ghost use Rattle.iloc_transform.specs.TransformReading.{TransformReads, TransformFills, TransformWantsMemory, value_of, TransformTextReads, TransformTextWants};
 ghost use Rattle.iloc_spec_grammar.specs.Values.{transform_spelling, transform_text};
 ghost use Rattle.iloc_spec_grammar.specs.Syntax as written;
@@ -15,6 +16,7 @@ use crate::Fields;
 use crate::fields::fill_fields;
 use crate::lang::{cmp_langs, fill_lang, lowercase};
 use iloc_langid::LanguageIdentifier;
+use iloc_memory::Memory;
 use iloc_other::singleton::take_singleton;
 use iloc_subtags::{ParseError, SubtagIterator};
 use iloc_writeable::{Pieces, Sink, Writeable};
@@ -37,9 +39,17 @@ impl Transform {
         ensures lang { result.lang ≡ None }
         ensures fields { result.fields ≡ [] }
     {
+        Transform::new_in(alloc)
+    }
+
+    /// As `new`, from any memory. It asks for no room.
+    pub fn new_in<M: Memory>(memory: M) -> Self
+        ensures lang { result.lang ≡ None }
+        ensures fields { result.fields ≡ [] }
+    {
         Transform {
             lang: None,
-            fields: Fields::new(alloc),
+            fields: Fields::new_in(memory),
         }
     }
 
@@ -84,13 +94,30 @@ impl Transform {
             → Refuses ⊤ f result }
         ensures memory { RunsOutOnlyIf (TransformTextWants code_units.now) result }
     {
-        Self::read_text(alloc, code_units)
+        Self::try_from_utf8_in(alloc, code_units)
+    }
+
+    /// As `try_from_utf8`, from any memory. `OutOfMemory` comes only if room for at most as many subtags or fields as
+    /// the text has bytes was refused.
+    pub fn try_from_utf8_in<M: Memory>(memory: M, code_units: &[u8]) -> Result<Self, ParseError>
+        ensures reads { TransformTextReads code_units.now result }
+        ensures accepted { (m : written.Transform) → TransformText languages code_units.now m
+            → Accepts value_of ⊤ m result }
+        ensures refused { (f : Fault) → TransformTextFault languages code_units.now f
+            → Refuses ⊤ f result }
+        ensures memory { RunsOutOnlyIf (TransformTextWants code_units.now) result }
+        ensures out_of_memory { RunsOutOnlyIf
+            (RefusedWithin M.refused (length code_units.now)) result }
+    {
+        Self::read_text(memory, code_units)
     }
 
     // Parses the transform. Its clauses say what is read and when memory runs out; the others follow from them.
-    fn read_text(alloc: Global, code_units: &[u8]) -> Result<Self, ParseError>
+    fn read_text<M: Memory>(memory: M, code_units: &[u8]) -> Result<Self, ParseError>
         ensures reads { TransformTextReads code_units.now result }
         ensures memory { RunsOutOnlyIf (TransformTextWants code_units.now) result }
+        ensures out_of_memory { RunsOutOnlyIf
+            (RefusedWithin M.refused (length code_units.now)) result }
     {
         let mut iter = SubtagIterator::new(code_units);
         let Some(ext) = take_singleton(&mut iter) else {
@@ -99,7 +126,7 @@ impl Transform {
         if ext != b't' {
             return Err(ParseError::InvalidExtension);
         }
-        Transform::try_from_iter(alloc, &mut iter)
+        Transform::try_from_iter(memory, &mut iter)
     }
 
     /// Parses a `str`, as `try_from_utf8` parses bytes.
@@ -111,16 +138,35 @@ impl Transform {
             → Refuses ⊤ f result }
         ensures memory { RunsOutOnlyIf (TransformTextWants s.now) result }
     {
-        Self::try_from_utf8(alloc, s.as_bytes())
+        Self::try_from_str_in(alloc, s)
     }
 
-    /// Parses what follows `t`, and leaves what no transform takes.
-    pub fn try_from_iter(alloc: Global, iter: &mut SubtagIterator<'_>) -> Result<Self, ParseError>
+    /// Parses a `str`, as `try_from_utf8_in` parses bytes.
+    pub fn try_from_str_in<M: Memory>(memory: M, s: &str) -> Result<Self, ParseError>
+        ensures reads { TransformTextReads s.now result }
+        ensures accepted { (m : written.Transform) → TransformText languages s.now m
+            → Accepts value_of ⊤ m result }
+        ensures refused { (f : Fault) → TransformTextFault languages s.now f
+            → Refuses ⊤ f result }
+        ensures memory { RunsOutOnlyIf (TransformTextWants s.now) result }
+        ensures out_of_memory { RunsOutOnlyIf (RefusedWithin M.refused (length s.now)) result }
+    {
+        Self::try_from_utf8_in(memory, s.as_bytes())
+    }
+
+    /// Parses what follows `t`, and leaves what no transform takes. `OutOfMemory` comes only if room for at most as many
+    /// subtags or fields as there are pieces was refused.
+    pub fn try_from_iter<M: Memory>(
+        memory: M,
+        iter: &mut SubtagIterator<'_>,
+    ) -> Result<Self, ParseError>
         ensures reads { TransformReads (left iter.old) (left iter.new) result }
         ensures memory { RunsOutOnlyIf (TransformWantsMemory (left iter.old)) result }
+        ensures out_of_memory { RunsOutOnlyIf
+            (RefusedWithin M.refused (length (left iter.old))) result }
     {
-        let mut transform = Transform::new(alloc);
-        fill_transform(alloc, iter, &mut transform)?;
+        let mut transform = Transform::new_in(memory);
+        fill_transform(memory, iter, &mut transform)?;
         Ok(transform)
     }
 }
@@ -128,18 +174,20 @@ impl Transform {
 /// Parses what follows `t` into an empty extension, for parsers of whole locales. After a refusal it holds what was
 /// parsed
 /// before the fault.
-pub fn fill_transform(
-    alloc: Global,
+pub fn fill_transform<M: Memory>(
+    memory: M,
     iter: &mut SubtagIterator<'_>,
     transform: &mut Transform,
 ) -> Result<(), ParseError>
     requires lang { transform.old.lang ≡ None }
     requires fields { transform.old.fields ≡ [] }
-    ensures { TransformFills (left iter.old) (left iter.new)
+    ensures reads { TransformFills (left iter.old) (left iter.new)
         (result_and result (Ok transform.new)) }
+    ensures out_of_memory { RunsOutOnlyIf
+        (RefusedWithin M.refused (length (left iter.old))) result }
 {
-    fill_lang(alloc, iter, &mut transform.lang)?;
-    fill_fields(alloc, iter, &mut transform.fields)?;
+    fill_lang(memory, iter, &mut transform.lang)?;
+    fill_fields(memory, iter, &mut transform.fields)?;
     if transform.is_empty() {
         return Err(ParseError::InvalidExtension);
     }

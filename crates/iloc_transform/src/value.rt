@@ -1,14 +1,17 @@
 //! The value of a transform field.
-ghost use Rattle.std.specs.Prelude.{◌≡◌, ⊤, ◌<◌, ◌++◌, ◌∷◌, [], length, false, ℕ, List, Ok, Err, OnOk, IfErr, IsOk, Some, if◌then◌else◌};
+ghost use Rattle.std.specs.Prelude.{◌≡◌, ⊤, ◌<◌, ◌+◌, ◌++◌, ◌∷◌, [], length, false, ℕ, List, Ok, Err, OnOk, OnErr, IfErr, IsOk, Some, if◌then◌else◌};
 ghost use Rattle.std.specs.List.{AllByRecursion};
 ghost use Rattle.iloc_spec_grammar.specs.Syntax.{Text, pieces, Attribute as the_kind, is_true};
 ghost use Rattle.iloc_spec_grammar.specs.Values.{field_value_text, spelled_value};
 ghost use Rattle.iloc_subtags.specs.Left.{left};
-ghost use Rattle.iloc_spec_grammar.specs.Meaning.{Fault};
+ghost use Rattle.iloc_spec_grammar.specs.Meaning.{Fault, normal_values};
+ghost use Rattle.iloc_spec_parts.specs.Fronts.{attributes_front};
 ghost use Rattle.iloc_spec_parts.specs.PartValues.{transform_value};
 ghost use Rattle.iloc_subtags.specs.Judging.{Accepts, Refuses, RunsOutOnlyIf};
+ghost use Rattle.iloc_memory.specs.Refusals.{RefusedWithin};
 ghost use Rattle.iloc_transform.specs.ValueReading.{IsValueWord, FieldValueReads, FieldValueTextReads, FieldValueTextWants};
 
+use iloc_memory::Memory;
 use iloc_shortvec::ShortWords;
 use iloc_subtags::{Attribute, AttributeKind, ParseError, SubtagIterator, take_word};
 use iloc_word_list::spells_true;
@@ -66,16 +69,33 @@ impl Value {
             → Refuses ⊤ f result }
         ensures memory { RunsOutOnlyIf (FieldValueTextWants code_units.now) result }
     {
-        Self::read_text(alloc, code_units)
+        Self::try_from_utf8_in(alloc, code_units)
+    }
+
+    /// As `try_from_utf8`, from any memory. `OutOfMemory` comes only if room for at most as many subtags as the text
+    /// has bytes was refused.
+    pub fn try_from_utf8_in<M: Memory>(memory: M, code_units: &[u8]) -> Result<Self, ParseError>
+        ensures reads { FieldValueTextReads code_units.now result }
+        ensures accepted { (v : List Text) → transform_value code_units.now ≡ Ok v
+            → Accepts (λ v. v) ⊤ v result }
+        ensures refused { (f : Fault) → transform_value code_units.now ≡ Err f
+            → Refuses ⊤ f result }
+        ensures memory { RunsOutOnlyIf (FieldValueTextWants code_units.now) result }
+        ensures out_of_memory { RunsOutOnlyIf
+            (RefusedWithin M.refused (length code_units.now)) result }
+    {
+        Self::read_text(memory, code_units)
     }
 
     // Parses the value. Its clauses say what is read and when memory runs out; the others follow from them.
-    fn read_text(alloc: Global, code_units: &[u8]) -> Result<Self, ParseError>
+    fn read_text<M: Memory>(memory: M, code_units: &[u8]) -> Result<Self, ParseError>
         ensures reads { FieldValueTextReads code_units.now result }
         ensures memory { RunsOutOnlyIf (FieldValueTextWants code_units.now) result }
+        ensures out_of_memory { RunsOutOnlyIf
+            (RefusedWithin M.refused (length code_units.now)) result }
     {
         let mut iter = SubtagIterator::new(code_units);
-        let value = Value::read_front(alloc, &mut iter)?;
+        let value = Value::read_front(memory, &mut iter)?;
         match iter.peek() {
             Some(_) => Err(ParseError::InvalidExtension),
             None => Ok(value),
@@ -91,39 +111,55 @@ impl Value {
             → Refuses ⊤ f result }
         ensures memory { RunsOutOnlyIf (FieldValueTextWants s.now) result }
     {
-        Self::try_from_utf8(alloc, s.as_bytes())
+        Self::try_from_str_in(alloc, s)
+    }
+
+    /// Parses a `str`, as `try_from_utf8_in` parses bytes.
+    pub fn try_from_str_in<M: Memory>(memory: M, s: &str) -> Result<Self, ParseError>
+        ensures reads { FieldValueTextReads s.now result }
+        ensures accepted { (v : List Text) → transform_value s.now ≡ Ok v
+            → Accepts (λ v. v) ⊤ v result }
+        ensures refused { (f : Fault) → transform_value s.now ≡ Err f
+            → Refuses ⊤ f result }
+        ensures memory { RunsOutOnlyIf (FieldValueTextWants s.now) result }
+        ensures out_of_memory { RunsOutOnlyIf (RefusedWithin M.refused (length s.now)) result }
+    {
+        Self::try_from_utf8_in(memory, s.as_bytes())
     }
 
     // Parses the longest front of value pieces, one at least.
-    pub(crate) fn read_front(
-        alloc: Global,
+    pub(crate) fn read_front<M: Memory>(
+        memory: M,
         iter: &mut SubtagIterator<'_>,
     ) -> Result<Self, ParseError>
-        ensures { FieldValueReads (left iter.old) (left iter.new) result }
+        ensures reads { FieldValueReads (left iter.old) (left iter.new) result }
+        ensures out_of_memory { RunsOutOnlyIf (RefusedWithin M.refused
+            (length (normal_values (attributes_front (left iter.old))))) result }
     {
         let mut value = Value::new();
         let Some(first) = take_word::<AttributeKind, 8>(iter) else {
             return Err(ParseError::InvalidExtension);
         };
-        value.push(alloc, first)?;
+        value.push(memory, first)?;
         'words: while let Some(word) = take_word::<AttributeKind, 8>(iter) {
-            value.push(alloc, word)?;
+            value.push(memory, word)?;
         }
         Ok(value)
     }
 
     // Adds the subtag at the end, unless it is `true`. Up to four allocate nothing.
-    fn push(&mut self, alloc: Global, word: Attribute) -> Result<(), ParseError>
+    fn push<M: Memory>(&mut self, memory: M, word: Attribute) -> Result<(), ParseError>
         ensures ok { OnOk result (self.new
             ≡ (if is_true word then self.old else self.old ++ word ∷ [])) }
         ensures err { IfErr result (λ e. (e ≡ ParseError.OutOfMemory) × (is_true word ≡ false)) }
         ensures succeeds { length self.old < 4 → IsOk result }
+        ensures out_of_memory { OnErr result (RefusedWithin M.refused (length self.old + 1)) }
     {
         let _ = word.as_str();
         if spells_true(&word) {
             return Ok(());
         }
-        Ok(self.subtags.push(alloc, word)?)
+        Ok(self.subtags.push_in(memory, word)?)
     }
 }
 

@@ -5,7 +5,7 @@ use Rattle.iloc_transform.proofs.FieldsLemmas.{TakingFields}
 use Rattle.iloc_transform.proofs.fields.fill_fields.Given as goal
 
 abbrev pub invariant-keys : goal.invariant-keys
-invariant-keys l = TakingFields (left l.fn.iter) (left l.iter) l.fields
+invariant-keys g l = TakingFields (left l.fn.iter) (left l.iter) l.fields
 
 abbrev pub decreases-keys : goal.decreases-keys
-decreases-keys l = length (left l.iter)
+decreases-keys g l = length (left l.iter)

@@ -5,7 +5,7 @@ use Rattle.iloc_transform.proofs.ValueLemmas.{TakingValues}
 use Rattle.iloc_transform.proofs.value.Value.read_front.Given as goal
 
 abbrev pub invariant-words : goal.invariant-words
-invariant-words l = TakingValues (left l.fn.iter) (left l.iter) l.value
+invariant-words g l = TakingValues (left l.fn.iter) (left l.iter) l.value
 
 abbrev pub decreases-words : goal.decreases-words
-decreases-words l = length (left l.iter)
+decreases-words g l = length (left l.iter)
