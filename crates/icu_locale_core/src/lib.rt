@@ -53,7 +53,7 @@
 mod tests;
 mod together;
 
-/// What lists ask for room, and what is known if it is refused. Programs pass `alloc`, the heap.
+/// What lists and parsers ask for room, and what is known if it is refused. Programs pass `alloc`, the heap.
 pub mod memory {
     pub use iloc_memory::{Ample, Memory};
 }
@@ -77,7 +77,7 @@ pub mod shortvec {
 
 /// A sorted map over a list of pairs.
 pub mod litemap {
-    pub use iloc_litemap::{LiteMap, Probe, Store, place};
+    pub use iloc_litemap::{GrowingStore, LiteMap, Probe, Store, place};
 }
 
 /// The subtags of identifiers, and sets of variants.
@@ -173,7 +173,7 @@ pub mod locale {
     pub use iloc_locale::ordered::equality as ordered_equality;
     pub use iloc_locale::parent::fallback_chain;
     pub use iloc_locale::{
-        Locale, OrderedLocale, equality, every_locale_is_a_value, hashes, memory,
+        Locale, OrderedLocale, ample_memory, equality, every_locale_is_a_value, hashes, memory,
     };
 }
 

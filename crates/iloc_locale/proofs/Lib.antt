@@ -12,6 +12,7 @@ pub mod FaultNames
 pub mod PartLemmas
 pub mod AnswerLemmas
 pub mod PlaceLemmas
+pub mod RoomLemmas
 mod EqualityLemmas
 pub mod ReadLemmas
 pub mod AloneLemmas

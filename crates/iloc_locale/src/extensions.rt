@@ -8,6 +8,7 @@ ghost use Rattle.iloc_unicode.specs.UnicodeValue as unicode_value;
 
 use crate::copying::copied;
 use crate::extension_type::ExtensionType;
+use iloc_memory::Memory;
 use iloc_other::{Other, Private};
 use iloc_transform::Transform;
 use iloc_unicode::Unicode;
@@ -36,13 +37,34 @@ impl Clone for Extensions {
     }
 }
 
+// This unicode extension, and all else empty.
+#[inline(always)]
+fn only_unicode<M: Memory>(memory: M, unicode: Unicode) -> Extensions
+    ensures { value_of result ≡ just_unicode (unicode_value.value_of unicode) }
+{
+    Extensions {
+        unicode,
+        transform: Transform::new_in(memory),
+        private: Private::new(),
+        other: memory.empty(),
+    }
+}
+
 impl Extensions {
     /// No extension.
     #[inline(always)]
     pub fn new(alloc: Global) -> Self
         ensures { value_of result ≡ no_extensions }
     {
-        Extensions::from_unicode(alloc, Unicode::new())
+        Extensions::new_in(alloc)
+    }
+
+    /// As `new`, from any memory. It asks for no room.
+    #[inline(always)]
+    pub fn new_in<M: Memory>(memory: M) -> Self
+        ensures { value_of result ≡ no_extensions }
+    {
+        only_unicode(memory, Unicode::new())
     }
 
     /// This unicode extension, and all else empty.
@@ -50,12 +72,7 @@ impl Extensions {
     pub fn from_unicode(alloc: Global, unicode: Unicode) -> Self
         ensures { value_of result ≡ just_unicode (unicode_value.value_of unicode) }
     {
-        Extensions {
-            unicode,
-            transform: Transform::new(alloc),
-            private: Private::new(),
-            other: Vec::new(alloc),
-        }
+        only_unicode(alloc, unicode)
     }
 
     /// Whether all four parts are empty. An other extension counts as there, also without subtags.

@@ -7,6 +7,9 @@
 //! if the meanings are. No accepted text of a meaning is shorter than its normal text. At most eight rewriting steps
 //! lead there.
 //!
+//! It runs out of memory only if the memory that it was given refused a request: `try_from_utf8_in` parses with any
+//! `Memory`, and with one that refuses nothing (`ample_memory`) the theorem has no exception.
+//!
 //! `==`, `total_cmp` and hashes compare values, for every locale. Of well-formed locales this is equality of meaning,
 //! since only their texts parse back. `normalizing_eq` is `true` exactly if the text is accepted and means this
 //! value. So it is `false` for every text if no text means the locale.
@@ -28,11 +31,16 @@
 
 ghost use Rattle.std.specs.Prelude.{◌≡◌, ◌↔◌, IsTrue};
 ghost use Rattle.iloc_spec_grammar.specs.Syntax.{Text, pieces, Language, IsWord, languages, first_piece};
+ghost use Rattle.iloc_spec_grammar.specs.Meaning as meaning;
+ghost use Rattle.iloc_spec_grammar.specs.Meaning.{Means, Fault, HasFault};
 ghost use Rattle.iloc_spec_grammar.specs.Values.{IsValue};
 ghost use Rattle.iloc_spec_parts.specs.Inline.{IsInline};
 ghost use Rattle.iloc_spec_parts.specs.Hashes.{locale_fed};
+ghost use Rattle.iloc_subtags.specs.Judging.{Accepts, Refuses};
 ghost use Rattle.iloc_locale.specs.LocaleReading.{LocaleWantsMemory, IsTextOf, NormalizingWantsMemory, value_of};
 
+use iloc_memory::Ample;
+use iloc_subtags::ParseError;
 use std::hash::Hash;
 
 pub mod blocks;
@@ -78,6 +86,20 @@ pub fn memory()
     ensures normal { (t : Text) → IsInline languages t → IsTextOf t t
         → ¬ (NormalizingWantsMemory t) }
 {}
+
+/// Parses with memory that refuses nothing. So each text that means something is accepted with its meaning, and each
+/// other is refused with its fault, without an exception.
+///
+/// ```text
+/// ample_memory(memory, b"EN-us")?; // en-US
+/// ```
+pub fn ample_memory<M: Ample>(memory: M, code_units: &[u8]) -> Result<Locale, ParseError>
+    ensures accepted { (L : meaning.Locale) → Means languages code_units.now L
+        → Accepts value_of ⊥ L result }
+    ensures refused { (f : Fault) → HasFault languages code_units.now f → Refuses ⊥ f result }
+{
+    Locale::try_from_utf8_in(memory, code_units)
+}
 
 /// Every locale, parsed or built, is a value: sets and maps ascend strictly, and all subtags are in the normal
 /// case of their kinds. A proof calls this to know it of one; it looks at each part, and does nothing else.

@@ -1,16 +1,18 @@
 //! The type, and its parsers.
-ghost use Rattle.std.specs.Prelude.{◌≡◌, ⊤, ℕ, IfOk, Ok};
+ghost use Rattle.std.specs.Prelude.{◌≡◌, ⊤, ℕ, length, IfOk, Ok};
 ghost use Rattle.std.specs.Result.{result_and};
 ghost use Rattle.iloc_spec_grammar.specs.Syntax.{Text, languages, two_or_three};
 ghost use Rattle.iloc_spec_grammar.specs.Meaning as meaning;
 ghost use Rattle.iloc_spec_grammar.specs.Meaning.{Means, Fault, HasFault};
 ghost use Rattle.iloc_spec_grammar.specs.Values.{TextStep, Leads, IsWellFormed};
 ghost use Rattle.iloc_locale.specs.LocaleReading.{value_of, unknown_locale, LocaleTextAnswers};
+ghost use Rattle.iloc_memory.specs.Refusals.{RefusedWithin};
 
 use crate::copying::copied;
 use crate::{Extensions, read_blocks};
 use iloc_langid::LanguageIdentifier;
 use iloc_langid::reader::{fill_head, fill_short};
+use iloc_memory::Memory;
 use iloc_subtags::{ParseError, SubtagIterator};
 use std::alloc::{AllocError, Global};
 
@@ -57,9 +59,16 @@ impl Locale {
     pub fn unknown(alloc: Global) -> Self
         ensures { value_of result ≡ unknown_locale }
     {
+        Locale::unknown_in(alloc)
+    }
+
+    /// As `unknown`, from any memory. It asks for no room.
+    pub fn unknown_in<M: Memory>(memory: M) -> Self
+        ensures { value_of result ≡ unknown_locale }
+    {
         Locale {
             id: LanguageIdentifier::unknown(),
-            extensions: Extensions::new(alloc),
+            extensions: Extensions::new_in(memory),
         }
     }
 
@@ -84,16 +93,37 @@ impl Locale {
         ensures narrow { (M : meaning.Locale) → Means two_or_three code_units.now M
             → Accepts value_of ⊤ M result }
     {
+        Self::try_from_utf8_in(alloc, code_units)
+    }
+
+    /// As `try_from_utf8`, from any memory. `OutOfMemory` comes only if room for at most as many items as the text has
+    /// bytes was refused.
+    #[inline(always)]
+    pub fn try_from_utf8_in<M: Memory>(memory: M, code_units: &[u8]) -> Result<Self, ParseError>
+        ensures reads { LocaleTextReads code_units.now result }
+        ensures accepted { (L : meaning.Locale) → Means languages code_units.now L
+            → Accepts value_of ⊤ L result }
+        ensures refused { (f : Fault) → HasFault languages code_units.now f
+            → Refuses ⊤ f result }
+        ensures memory { RunsOutOnlyIf (LocaleWantsMemory code_units.now) result }
+        ensures well_formed { IfOk result (λ l. IsWellFormed (value_of l)) }
+        ensures steps { IfOk result (λ l. (n : ℕ) (u : Text)
+            → Leads (TextStep languages) n code_units.now u → Means languages u (value_of l)) }
+        ensures narrow { (L : meaning.Locale) → Means two_or_three code_units.now L
+            → Accepts value_of ⊤ L result }
+        ensures out_of_memory { RunsOutOnlyIf
+            (RefusedWithin M.refused (length code_units.now)) result }
+    {
         let mut id = LanguageIdentifier::unknown();
         // (a refusal comes before a locale is made)
         if fill_short(code_units, &mut id)? {
             return Ok(Locale {
                 id,
-                extensions: Extensions::new(alloc),
+                extensions: Extensions::new_in(memory),
             });
         }
-        let mut locale = Locale::unknown(alloc);
-        locale.fill(alloc, code_units)?;
+        let mut locale = Locale::unknown_in(memory);
+        locale.fill(memory, code_units)?;
         Ok(locale)
     }
 
@@ -107,13 +137,15 @@ impl Locale {
 
     // Parses all of the text in place of an identifier. It is a call, so that plain texts and refusals are inlined alone.
     #[inline(never)]
-    fn fill(&mut self, alloc: Global, code_units: &[u8]) -> Result<(), ParseError>
+    fn fill<M: Memory>(&mut self, memory: M, code_units: &[u8]) -> Result<(), ParseError>
         requires { extensions.value_of self.old.extensions ≡ no_extensions }
-        ensures { LocaleTextAnswers code_units.now (result_and result (Ok self.new)) }
+        ensures reads { LocaleTextAnswers code_units.now (result_and result (Ok self.new)) }
+        ensures out_of_memory { RunsOutOnlyIf
+            (RefusedWithin M.refused (length code_units.now)) result }
     {
         let mut iter = SubtagIterator::new(code_units);
-        fill_head(alloc, &mut iter, &mut self.id)?;
-        read_blocks(alloc, &mut iter, &mut self.extensions)
+        fill_head(memory, &mut iter, &mut self.id)?;
+        read_blocks(memory, &mut iter, &mut self.extensions)
     }
 
     /// Parses all of a `str`, as `try_from_utf8` parses bytes.
@@ -131,6 +163,25 @@ impl Locale {
         ensures narrow { (M : meaning.Locale) → Means two_or_three s.now M
             → Accepts value_of ⊤ M result }
     {
-        Self::try_from_utf8(alloc, s.as_bytes())
+        Self::try_from_str_in(alloc, s)
+    }
+
+    /// Parses all of a `str`, as `try_from_utf8_in` parses bytes.
+    #[inline(always)]
+    pub fn try_from_str_in<M: Memory>(memory: M, s: &str) -> Result<Self, ParseError>
+        ensures reads { LocaleTextReads s.now result }
+        ensures accepted { (L : meaning.Locale) → Means languages s.now L
+            → Accepts value_of ⊤ L result }
+        ensures refused { (f : Fault) → HasFault languages s.now f
+            → Refuses ⊤ f result }
+        ensures memory { RunsOutOnlyIf (LocaleWantsMemory s.now) result }
+        ensures well_formed { IfOk result (λ l. IsWellFormed (value_of l)) }
+        ensures steps { IfOk result (λ l. (n : ℕ) (u : Text)
+            → Leads (TextStep languages) n s.now u → Means languages u (value_of l)) }
+        ensures narrow { (L : meaning.Locale) → Means two_or_three s.now L
+            → Accepts value_of ⊤ L result }
+        ensures out_of_memory { RunsOutOnlyIf (RefusedWithin M.refused (length s.now)) result }
+    {
+        Self::try_from_utf8_in(memory, s.as_bytes())
     }
 }

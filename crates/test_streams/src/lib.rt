@@ -23,6 +23,8 @@ mod locales;
 #[cfg(test)]
 mod memory;
 #[cfg(test)]
+mod parsing_memory;
+#[cfg(test)]
 mod printing;
 #[cfg(test)]
 mod runs;

@@ -1,6 +1,8 @@
 //! Lists that ask other memory than the heap for room.
 ghost use Rattle.std.specs.Prelude.{⊤};
 
+use iloc_langid::LanguageIdentifier;
+use iloc_locale::Locale;
 use iloc_memory::Memory;
 use iloc_shortvec::{ShortBoxSlice, ShortWords};
 use iloc_subtags::{ParseError, Subtag, Variant};
@@ -10,9 +12,9 @@ use std::test::Fail;
 
 /// Memory that grants room for at most so many items.
 #[derive(Clone, Copy)]
-struct UpTo {
-    most: usize,
-    heap: Global,
+pub(crate) struct UpTo {
+    pub(crate) most: usize,
+    pub(crate) heap: Global,
 }
 
 impl Memory for UpTo {
@@ -35,6 +37,10 @@ impl Memory for UpTo {
         }
         self.heap.reserve(list, additional)
     }
+}
+
+pub(crate) fn up_to(most: usize, heap: Global) -> UpTo {
+    UpTo { most, heap }
 }
 
 // The length of the list of 1, 2 and 3: of boxes, and of words with two more.
@@ -115,5 +121,59 @@ fn sets_and_values_ask_for_room_for_their_subtags(rt: HostRuntime) -> Result<(),
         Err(ParseError::OutOfMemory)
     );
     assert_eq!(rt; read(five, "aaa-bbb-ccc-ddd-eee"), Ok(10));
+    Ok(())
+}
+
+// How many parts the identifier of a text has, read as bytes and as a `str`, and up to the first block.
+fn identifier(memory: UpTo, text: &str) -> Result<usize, ParseError> {
+    let bytes = LanguageIdentifier::try_from_utf8_in(memory, text.as_bytes())?;
+    let string = LanguageIdentifier::try_from_str_in(memory, text)?;
+    let head = LanguageIdentifier::try_from_locale_bytes_in(memory, text.as_bytes())?;
+    Ok(bytes.variants.len() + string.variants.len() + head.variants.len())
+}
+
+// How many variants, keywords, fields and other extensions a text has, read as bytes and as a `str`.
+fn locale(memory: UpTo, text: &str) -> Result<usize, ParseError> {
+    let bytes = Locale::try_from_utf8_in(memory, text.as_bytes())?;
+    let string = Locale::try_from_str_in(memory, text)?;
+    let parts = &string.extensions;
+    Ok(
+        bytes.id.variants.len()
+            + parts.unicode.keywords.as_slice().len()
+            + parts.transform.fields.as_slice().len()
+            + parts.other.len(),
+    )
+}
+
+#[test]
+fn identifiers_ask_for_room_for_their_variants(rt: HostRuntime) -> Result<(), Fail> {
+    let heap = rt.alloc();
+    let five = "en-aaaaa-bbbbb-ccccc-ddddd-eeeee";
+    assert_eq!(rt; identifier(up_to(0, heap), "en-Latn-US-aaaaa"), Ok(3));
+    assert_eq!(rt;
+        identifier(up_to(4, heap), five),
+        Err(ParseError::OutOfMemory)
+    );
+    assert_eq!(rt; identifier(up_to(5, heap), five), Ok(15));
+    Ok(())
+}
+
+#[test]
+fn locales_ask_for_room_for_their_parts(rt: HostRuntime) -> Result<(), Fail> {
+    let heap = rt.alloc();
+    assert_eq!(rt; locale(up_to(0, heap), "en-u-ca-buddhist"), Ok(1));
+    for (text, most, parts) in [
+        ("en-aaaaa-bbbbb-ccccc-ddddd-eeeee", 5, 5),
+        ("en-u-ca-buddhist-nu-latn", 2, 2),
+        ("en-t-a0-foo", 1, 1),
+        ("en-a-foo", 1, 1),
+        ("en-a-foo-b-bar-x-foo", 2, 2),
+    ] {
+        assert_eq!(rt;
+            locale(up_to(most - 1, heap), text),
+            Err(ParseError::OutOfMemory)
+        );
+        assert_eq!(rt; locale(up_to(most, heap), text), Ok(parts));
+    }
     Ok(())
 }

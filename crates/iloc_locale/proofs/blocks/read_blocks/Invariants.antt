@@ -1,5 +1,5 @@
--- The blocks so far were read, and the others are left.
-use Rattle.std.proofs.Common.{length}
+-- The blocks so far were read, and the others are left. Each other extension had a piece.
+use Rattle.std.proofs.Common.{◌+◌, ◌≤◌, length}
 use Rattle.iloc_spec_grammar.specs.Syntax.{languages}
 use Rattle.iloc_subtags.specs.Left.{left}
 use Rattle.iloc_locale.specs.ExtensionsValue.{value_of}
@@ -7,7 +7,10 @@ use Rattle.iloc_locale.specs.Blocks.{BlocksDone}
 use Rattle.iloc_locale.proofs.blocks.read_blocks.Given as goal
 
 abbrev pub decreases-blocks-2 : goal.decreases-blocks-2
-decreases-blocks-2 l = length (left l.iter)
+decreases-blocks-2 g l = length (left l.iter)
 
 abbrev pub invariant-blocks-2 : goal.invariant-blocks-2
-invariant-blocks-2 l = BlocksDone languages (left l.initial.iter) (left l.iter) (value_of l.extensions)
+invariant-blocks-2 g l = record {
+  done : BlocksDone languages (left l.initial.iter) (left l.iter) (value_of l.extensions);
+  room : length l.extensions.other.items + length (left l.iter) ≤ length (left l.initial.iter);
+}

@@ -3,9 +3,9 @@ use Rattle.iloc_locale.proofs.AnswerLemmas.{private_reads, private_shorter}
 use Rattle.iloc_locale.proofs.taking.take_private.Goals as goal
 
 pub returns-clause-reads : goal.returns-clause-reads
-returns-clause-reads c = λ start b M a e. private_reads a e (left c.fill_private.new.iter)
-    c.fill_private.new.private c.fill_private.result c.fill_private.ensures
+returns-clause-reads g c = λ start b M a e. private_reads a e (left c.fill_private.new.iter)
+    c.fill_private.new.private c.fill_private.result c.fill_private.ensures.reads
 
 pub returns-clause-shorter : goal.returns-clause-shorter
-returns-clause-shorter c = private_shorter (left c.args.iter.now) (left c.fill_private.new.iter)
-    c.fill_private.new.private c.fill_private.result c.fill_private.ensures
+returns-clause-shorter g c = private_shorter (left c.args.iter.now) (left c.fill_private.new.iter)
+    c.fill_private.new.private c.fill_private.result c.fill_private.ensures.reads

@@ -1,0 +1,185 @@
+//! Parts that ask other memory than the heap for room, and a locale that is never refused any.
+ghost use Rattle.std.specs.Prelude.{⊥};
+
+use crate::memory::{UpTo, up_to};
+use iloc_litemap::{GrowingStore, LiteMap};
+use iloc_locale::{Extensions, Locale, ample_memory};
+use iloc_memory::{Ample, Memory};
+use iloc_other::{Other, Private};
+use iloc_shortvec::ShortBoxSlice;
+use iloc_subtags::ParseError;
+use iloc_transform::{Fields, Key, Transform, Value};
+use iloc_unicode::{Attributes, Keywords, Unicode};
+use std::alloc::{AllocError, Global};
+use std::process::Abort;
+use std::test::Fail;
+
+// Each counts what is read of a text, as bytes and as a `str`.
+
+fn attributes(memory: UpTo, text: &str) -> Result<usize, ParseError> {
+    let bytes = Attributes::try_from_utf8_in(memory, text.as_bytes())?;
+    let string = Attributes::try_from_str_in(memory, text)?;
+    Ok(bytes.as_slice().len() + string.as_slice().len())
+}
+
+fn keywords(memory: UpTo, text: &str) -> Result<usize, ParseError> {
+    let bytes = Keywords::try_from_utf8_in(memory, text.as_bytes())?;
+    let string = Keywords::try_from_str_in(memory, text)?;
+    Ok(bytes.as_slice().len() + string.as_slice().len())
+}
+
+fn unicode(memory: UpTo, text: &str) -> Result<usize, ParseError> {
+    let bytes = Unicode::try_from_utf8_in(memory, text.as_bytes())?;
+    let string = Unicode::try_from_str_in(memory, text)?;
+    Ok(bytes.keywords.as_slice().len() + string.attributes.as_slice().len())
+}
+
+fn transform(memory: UpTo, text: &str) -> Result<usize, ParseError> {
+    let bytes = Transform::try_from_utf8_in(memory, text.as_bytes())?;
+    let string = Transform::try_from_str_in(memory, text)?;
+    Ok(bytes.fields.as_slice().len() + string.fields.as_slice().len())
+}
+
+fn value(memory: UpTo, text: &str) -> Result<usize, ParseError> {
+    let bytes = Value::try_from_utf8_in(memory, text.as_bytes())?;
+    let string = Value::try_from_str_in(memory, text)?;
+    Ok(bytes.as_slice().len() + string.as_slice().len())
+}
+
+fn other(memory: UpTo, text: &str) -> Result<usize, ParseError> {
+    let bytes = Other::try_from_utf8_in(memory, text.as_bytes())?;
+    let string = Other::try_from_str_in(memory, text)?;
+    Ok(bytes.as_slice().len() + string.as_slice().len())
+}
+
+fn private(memory: UpTo, text: &str) -> Result<usize, ParseError> {
+    let bytes = Private::try_from_utf8_in(memory, text.as_bytes())?;
+    let string = Private::try_from_str_in(memory, text)?;
+    Ok(bytes.len() + string.len())
+}
+
+// How many of three fields with two keys are set, in a part that begins empty.
+fn fields(memory: UpTo) -> Result<usize, ParseError> {
+    let mut fields = Fields::new_in(memory);
+    for key in ["a0", "b1", "a0"] {
+        let value = Value::try_from_str_in(memory, "foo")?;
+        fields.set_in(memory, Key::try_from_str(key)?, value)?;
+    }
+    let mut transform = Transform::new_in(memory);
+    transform.fields = fields;
+    Ok(transform.fields.as_slice().len())
+}
+
+// How many pairs a map of two keys has, and a list of two pairs.
+fn pairs(memory: UpTo) -> Result<usize, AllocError> {
+    let mut map: LiteMap<u8, u8, ShortBoxSlice<(u8, u8)>> = LiteMap::new(memory.heap);
+    map.insert_in(memory, 2, 0)?;
+    map.insert_in(memory, 1, 0)?;
+    map.try_insert_in(memory, 1, 1)?;
+    let mut list: Vec<(u8, u8)> = memory.empty();
+    list.lm_insert_in(memory, 0, 2, 0)?;
+    list.lm_insert_in(memory, 0, 1, 0)?;
+    Ok(map.len() + list.len())
+}
+
+#[test]
+fn parts_ask_for_room_for_what_they_keep(rt: HostRuntime) -> Result<(), Fail> {
+    let (heap, refused) = (rt.alloc(), Err(ParseError::OutOfMemory));
+    assert_eq!(rt; attributes(up_to(4, heap), "aaa-bbb-ccc-ddd-eee"), refused);
+    assert_eq!(rt; attributes(up_to(5, heap), "aaa-bbb-ccc-ddd-eee"), Ok(10));
+    assert_eq!(rt; keywords(up_to(1, heap), "ca-buddhist-nu-latn"), refused);
+    assert_eq!(rt; keywords(up_to(2, heap), "ca-buddhist-nu-latn"), Ok(4));
+    assert_eq!(rt;
+        unicode(up_to(1, heap), "u-aaa-ca-buddhist-nu-latn"),
+        refused
+    );
+    assert_eq!(rt; unicode(up_to(2, heap), "u-aaa-ca-buddhist-nu-latn"), Ok(3));
+    assert_eq!(rt; transform(up_to(0, heap), "t-en-a0-foo"), refused);
+    assert_eq!(rt; transform(up_to(1, heap), "t-en-a0-foo"), Ok(2));
+    Ok(())
+}
+
+#[test]
+fn words_ask_for_room_past_the_fourth(rt: HostRuntime) -> Result<(), Fail> {
+    let (heap, refused) = (rt.alloc(), Err(ParseError::OutOfMemory));
+    assert_eq!(rt; value(up_to(4, heap), "aaa-bbb-ccc-ddd-eee"), refused);
+    assert_eq!(rt; value(up_to(5, heap), "aaa-bbb-ccc-ddd-eee"), Ok(10));
+    assert_eq!(rt; other(up_to(4, heap), "a-aa-bb-cc-dd-ee"), refused);
+    assert_eq!(rt; other(up_to(5, heap), "a-aa-bb-cc-dd-ee"), Ok(10));
+    assert_eq!(rt; private(up_to(4, heap), "x-a-b-c-d-e"), refused);
+    assert_eq!(rt; private(up_to(5, heap), "x-a-b-c-d-e"), Ok(10));
+    Ok(())
+}
+
+#[test]
+fn maps_ask_for_room_for_their_pairs(rt: HostRuntime) -> Result<(), Fail> {
+    let heap = rt.alloc();
+    assert_eq!(rt; fields(up_to(1, heap)), Err(ParseError::OutOfMemory));
+    assert_eq!(rt; fields(up_to(2, heap)), Ok(2));
+    assert_eq!(rt; pairs(up_to(1, heap)), Err(AllocError));
+    assert_eq!(rt; pairs(up_to(2, heap)), Ok(4));
+    Ok(())
+}
+
+#[test]
+fn empty_values_ask_for_no_room(rt: HostRuntime) -> Result<(), Fail> {
+    let none = up_to(0, rt.alloc());
+    assert!(rt; Extensions::new_in(none).is_empty());
+    assert_eq!(rt; Locale::unknown_in(none), Locale::unknown(rt.alloc()));
+    Ok(())
+}
+
+/// Memory that refuses nothing: where the heap does, the program ends.
+struct Endless<'a, R: Abort> {
+    rt: &'a R,
+    heap: Global,
+}
+
+impl<'a, R: Abort> Clone for Endless<'a, R> {
+    fn clone(&self) -> Result<Self, AllocError> {
+        Ok(*self)
+    }
+}
+
+impl<'a, R: Abort> Copy for Endless<'a, R> {}
+
+impl<'a, R: Abort> Memory for Endless<'a, R> {
+    ghost refused = { λ _. ⊥ };
+
+    fn empty<T>(self) -> Vec<T> {
+        Vec::new(self.heap)
+    }
+
+    fn with_capacity<T>(self, capacity: usize) -> Result<Vec<T>, AllocError> {
+        match self.heap.with_capacity(capacity) {
+            Ok(list) => Ok(list),
+            Err(_) => panic!(self.rt; "memory was refused"),
+        }
+    }
+
+    fn reserve<T>(self, list: &mut Vec<T>, additional: usize) -> Result<(), AllocError> {
+        match self.heap.reserve(list, additional) {
+            Ok(()) => Ok(()),
+            Err(_) => panic!(self.rt; "memory was refused"),
+        }
+    }
+}
+
+impl<'a, R: Abort> Ample for Endless<'a, R> {
+    ghost never = { λ n never. never };
+}
+
+#[test]
+fn with_ample_memory_each_text_is_answered(rt: HostRuntime) -> Result<(), Fail> {
+    let memory = Endless {
+        rt: &rt,
+        heap: rt.alloc(),
+    };
+    let locale = ample_memory(memory, b"en-b-foo-a-bar-u-nu-latn-ca-buddhist")?;
+    assert_eq!(rt; locale.extensions.other.len(), 2);
+    assert_eq!(rt;
+        ample_memory(memory, b"en-foo").err(),
+        Some(ParseError::InvalidSubtag)
+    );
+    Ok(())
+}
