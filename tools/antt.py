@@ -67,11 +67,6 @@ class Module:
     declared: dict = field(default_factory=dict)  # name -> Definition
     definitions: list = field(default_factory=list)
 
-    def brought(self, word):
-        """Returns the path of the module and the name there that a word stands for by the `use` lines; no name for a module."""
-        first, _, rest = word.partition(".")
-        return (self.modules[first], rest.partition(".")[0]) if first in self.modules else self.items.get(first, ((), ""))
-
     @functools.lru_cache(maxsize=None)
     def operators(self):
         """Returns the operators that the file brings in, by each of their signs: `≡` is `◌≡◌`."""
@@ -112,30 +107,16 @@ def without_comments(text):
     return re.sub(r"(?m)(?:^|(?<=\s))--.*$", lambda it: " " * len(it[0]), text)
 
 
-class At(str):
-    """A text with its place in that of a file."""
-
-    def __new__(cls, text, at):
-        made = super().__new__(cls, text)
-        made.at = at
-        return made
-
-    def part(self, start, end=None):
-        return At(self[start:end], self.at + start)
-
-
 class Reader:
     """Reads a file's lines into its module."""
 
     def __init__(self, module):
-        self.module, self.lines, self.bare = module, module.text.split("\n"), without_comments(module.text)
-        self.starts = [0, *itertools.accumulate(len(it) + 1 for it in self.lines)]
+        self.module, self.lines, self.bare = module, module.text.split("\n"), without_comments(module.text).split("\n")
         self.block(0, len(self.lines), [])
 
     def text(self, first, end):
         """Returns lines without their comments."""
-        text = At(self.bare[self.starts[first] : self.starts[end] - 1].rstrip(), self.starts[first])
-        return text.part(len(text) - len(text.lstrip()))
+        return "\n".join(self.bare[first:end]).strip()
 
     def chunks(self, start, end):
         """Yields the first and last line of each declaration, with its comment's lines."""
@@ -164,7 +145,7 @@ class Reader:
             elif first == "module":
                 body = next(n for n in range(head, stop) if self.lines[n].rstrip().endswith("where"))
                 named = re.match(r"module _ (.*?)\s+where$", self.text(head, body + 1), re.S)
-                self.block(body + 1, stop, params + [text.part(*named.span(1))])
+                self.block(body + 1, stop, params + [named[1]])
             elif first == "unfolding" and current:
                 current.lines += self.lines[head:stop]
             elif re.match(r"(pub )?(data|record)\b", text):
@@ -187,7 +168,7 @@ class Reader:
 
     def signature(self, head, stop, comment, text, params):
         found = re.match(r"(?:(abbrev|unfoldable)\s+)?(?:pub\s+)?(?:(abbrev|unfoldable)\s+)?(\S+)\s*:?(.*)$", text, re.S)
-        name, kind, parts = found[3].strip("«»"), found[1] or found[2] or "abstract", [(text.part(found.start(4)), "type")]
+        name, kind, parts = found[3].strip("«»"), found[1] or found[2] or "abstract", [(found[4], "type")]
         return self.add(Definition(self.module, name, kind, head + 1, self.lines[head:stop], comment, parts), params)
 
     def shape(self, head, stop, comment, text, params):
@@ -195,13 +176,13 @@ class Reader:
         made = Definition(self.module, found[2], found[1], head + 1, self.lines[head:stop], comment)
         body = next((n for n in range(head, stop) if self.lines[n].rstrip().endswith(" where")), stop - 1)
         header = without_suffix(self.text(head, body + 1), "where")
-        made.parts = [(text.part(found.end(), len(header)), "params")]
+        made.parts = [(header[found.end() :], "params")]
         for at, end, _ in self.chunks(body + 1, stop):
             line = self.text(at, end)
             colon = re.search(r"\s:\s|$", line)
-            names = [line.part(*it.span()) for it in re.finditer(r"(?<!\S)(?!pub )\S+", line[: colon.start()])]
+            names = re.findall(r"(?<!\S)(?!pub )\S+", line[: colon.start()])
             made.members += names
-            made.parts.append((line.part(colon.end()), "field" if found[1] == "record" else "constructor", names))
+            made.parts.append((line[colon.end() :], "field" if found[1] == "record" else "constructor", names))
         self.add(made, params)
         if found[1] == "data":
             for it in made.members:
@@ -221,9 +202,8 @@ class Reader:
 
 def tree(text):
     """Returns the tokens as nested lists; a path `a.b` is one token, and `.f` after a bracket is left out."""
-    stack, start = [[]], getattr(text, "at", 0)
-    for found in NODE.finditer(text):
-        token = At(found[0], start + found.start())
+    stack = [[]]
+    for token in NODE.findall(text):
         if token in OPENING:
             stack.append([token])
         elif token in CLOSING:
@@ -231,7 +211,7 @@ def tree(text):
             stack[-1].append(closed)
         elif token == "." or token[0] not in '".':
             names = split_path(token) or [token]
-            stack[-1].append(At(names[0] if names[0] in WORDS else ".".join(names), token.at))
+            stack[-1].append(names[0] if names[0] in WORDS else ".".join(names))
     return stack[0]
 
 
@@ -252,12 +232,9 @@ class Names:
     def __init__(self, found, is_constructor, unknown):
         self.found, self.is_constructor, self.unknown = found, is_constructor, unknown
         self.cited = []
-        self.places = set()  # of the names that are bound, where they are and where they are named
 
     def name(self, path, bound):
         names = path.split(".")
-        if names[0] in bound:
-            self.places.add(path.at)
         if names[0] in bound or re.fullmatch(r"[0-9][0-9a-fA-F_xob]*", names[0]) or names[0].startswith("⟦"):
             return
         meant = self.found(names)
@@ -280,7 +257,6 @@ class Names:
                 continue
             else:
                 bound.add(it.split(".")[0])
-                self.places.add(it.at)
 
     def binder(self, group, bound):
         """Binds what a group as (x y : A) or {x : A} binds; returns whether it is one."""
@@ -300,7 +276,6 @@ class Names:
         for it in nodes[at:end]:
             if isinstance(it, str):
                 bound.add(it)
-                self.places.add(it.at)
             elif not self.binder(it, bound):
                 self.pattern([it], bound)
         return end + 1
@@ -331,7 +306,6 @@ class Names:
             return
         for run in parts_of(inner, ";,"):
             if kind == "{" and len(run) > 1 and run[1] == "=":
-                self.places.update(it.at for it in run[:1] if isinstance(it, str))
                 run = run[2:]  # the name of a field, or of an implicit argument
             self.walk(run, set(bound))
 
@@ -373,20 +347,3 @@ class Names:
                 self.walk(nodes, set(bound))
                 if how == "field":
                     bound |= set(names[0])
-                    self.places.update(it.at for it in names[0])
-
-
-def bound_in(text, names):
-    """Returns the places of the names that are bound in a clause, where these names are bound around it."""
-    reader = Names(lambda names: [], lambda names: False, lambda name: None)
-    reader.walk(tree(text), set(names))
-    return reader.places
-
-
-def bound_in_file(module, is_constructor):
-    """Returns the places of the names that the definitions of a file bind: a lambda, a parameter, a `let`, the left side of
-    an equation, or a field of a record. Such a name leads to no definition."""
-    reader = Names(lambda names: [], is_constructor, lambda name: None)
-    for it in module.definitions:
-        reader.definition(it.parts)
-    return reader.places

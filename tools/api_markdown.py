@@ -3,7 +3,6 @@ import os
 import re
 
 import api_words
-from api_definitions import slug
 from api_examples import examples, remark, tried
 from api_model import KEYS_BY_NAME, base_of, error_of, is_law, model, short, shown
 from api_source import CORE
@@ -25,7 +24,7 @@ Every public item that `{CORE}` passes on, one page for each module. Each call h
 - whether it may run out of memory;
 - an example: a line of a program or a test that the gate runs, or what stands there right of `=>`. A call that only the library needs is shown by the library's own line; one that is made only on a bare `self` has none. *Tried* is a table test: what is given, and what is returned.
 
-`tools/list_api` makes these pages of the sources, and `tools/list_api --check` says whether they are current. `tools/list_api --html DIR` writes them as web pages with search. There each contract is shown, and each name in it leads to its definition. docs/FROM_RUST.md has the name of each item in the Rust crate.
+`tools/list_api` makes these pages of the sources, and `tools/list_api --check` says whether they are current. `grep -rn WORD docs/api` searches them. A contract stands where its link leads; `tools/trusted CALL`, as `tools/trusted Locale::clear`, prints its clauses with each definition that they cite. docs/FROM_RUST.md has the name of each item in the Rust crate.
 
 - A call that may allocate has a parameter `alloc: Global`. It returns a `Result`, and running out of memory is one of its refusals.
 - *Inline* means that a text has few enough parts to need no heap: docs/DEFINITIONS.md, "Texts that are parsed without memory", says how many.
@@ -35,6 +34,11 @@ Every public item that `{CORE}` passes on, one page for each module. Each call h
 
 
 LAWS = "A law is a function that does nothing. Call it where a proof needs the fact that it states."
+
+
+def slug(heading):
+    """Returns the anchor of a heading."""
+    return re.sub(r"[^\w -]", "", heading.lower()).strip().replace(" ", "-")
 
 
 def page_of(module):

@@ -1,6 +1,11 @@
-/* A target for libFuzzer, built by tools/fuzz. The first byte of an input is the mode; what follows is two texts with a
- * newline between them. Of each answer it tests what the header says of it by the other calls, and stops where one says
- * otherwise. */
+/* A target for libFuzzer. The first byte of an input is the mode; what follows is two texts with a newline between them. Of
+ * each answer it tests what the header says of it by the other calls, and stops where one says otherwise. After
+ * bindings/build, for a minute:
+ *
+ *     mkdir -p out/fuzz
+ *     awk 'NR % 20 == 1 { a = $0 } NR % 20 == 2 { printf "%d%s\n%s", NR % 3, a, $0 > ("out/fuzz/" NR) }' vectors/texts.in
+ *     clang -g -O1 -fsanitize=fuzzer,address,undefined -Iinclude bindings/c/fuzz.c out/bindings/libicu_locale.a -o out/fuzz-texts
+ *     out/fuzz-texts -max_len=512 -keep_seed=1 -reduce_inputs=0 -max_total_time=60 out/fuzz */
 #include "icu_locale.h"
 
 #include <stdio.h>
