@@ -163,7 +163,8 @@ impl Locale {
         ensures narrow { (M : meaning.Locale) → Means two_or_three s.now M
             → Accepts value_of ⊤ M result }
     {
-        Self::try_from_str_in(alloc, s)
+        // (a call of `try_from_str_in` would copy the locale once more)
+        Self::try_from_utf8_in(alloc, s.as_bytes())
     }
 
     /// Parses all of a `str`, as `try_from_utf8_in` parses bytes.

@@ -1,0 +1,25 @@
+-- a text is read as its bytes are
+use Rattle.std.proofs.Common.{subst}
+use Rattle.iloc_locale.specs.LocaleReading.{LocaleTextReads, LocaleWantsMemory}
+use Rattle.iloc_subtags.specs.Judging.{RunsOutOnlyIf}
+use Rattle.iloc_locale.proofs.ReadLemmas.{reads_accepts, reads_refuses, reads_narrow}
+use Rattle.iloc_locale.proofs.locale.Locale.try_from_str.Goals as goal
+use Rattle.iloc_spec_grammar.specs.Syntax.{Text}
+
+pub returns-clause-reads : goal.returns-clause-reads
+returns-clause-reads c = subst (λ (t : Text). LocaleTextReads t c.try_from_utf8_in.result)
+    c.as_bytes.ensures.value c.try_from_utf8_in.ensures.reads
+
+pub returns-clause-memory : goal.returns-clause-memory
+returns-clause-memory c = subst
+    (λ (t : Text). RunsOutOnlyIf (LocaleWantsMemory t) c.try_from_utf8_in.result)
+    c.as_bytes.ensures.value c.try_from_utf8_in.ensures.memory
+
+pub returns-clause-accepted : goal.returns-clause-accepted
+returns-clause-accepted c = reads_accepts c.args.s.now c.try_from_utf8_in.result (returns-clause-reads c)
+
+pub returns-clause-refused : goal.returns-clause-refused
+returns-clause-refused c = reads_refuses c.args.s.now c.try_from_utf8_in.result (returns-clause-reads c)
+
+pub returns-clause-narrow : goal.returns-clause-narrow
+returns-clause-narrow c = reads_narrow c.args.s.now c.try_from_utf8_in.result (returns-clause-reads c)
