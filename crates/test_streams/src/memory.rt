@@ -124,25 +124,40 @@ fn sets_and_values_ask_for_room_for_their_subtags(rt: HostRuntime) -> Result<(),
     Ok(())
 }
 
-// How many parts the identifier of a text has, read as bytes and as a `str`, and up to the first block.
+// How many variants the identifier of a text has, in three ways to read it.
 fn identifier(memory: UpTo, text: &str) -> Result<usize, ParseError> {
-    let bytes = LanguageIdentifier::try_from_utf8_in(memory, text.as_bytes())?;
-    let string = LanguageIdentifier::try_from_str_in(memory, text)?;
+    let bytes = LanguageIdentifier::try_from_utf8_in(memory, text.as_bytes())?
+        .variants
+        .len();
+    let string = LanguageIdentifier::try_from_str_in(memory, text)?
+        .variants
+        .len();
     let head = LanguageIdentifier::try_from_locale_bytes_in(memory, text.as_bytes())?;
-    Ok(bytes.variants.len() + string.variants.len() + head.variants.len())
+    Ok(bytes + string + head.variants.len())
 }
 
-// How many variants, keywords, fields and other extensions a text has, read as bytes and as a `str`.
+// How many variants, keywords, fields and other extensions a locale has.
+fn parts(locale: &Locale) -> usize {
+    let extensions = &locale.extensions;
+    locale.id.variants.len()
+        + extensions.unicode.keywords.as_slice().len()
+        + extensions.transform.fields.as_slice().len()
+        + extensions.other.len()
+}
+
+fn locale_of_bytes(memory: UpTo, text: &str) -> Result<usize, ParseError> {
+    let locale = Locale::try_from_utf8_in(memory, text.as_bytes())?;
+    Ok(parts(&locale))
+}
+
+fn locale_of_str(memory: UpTo, text: &str) -> Result<usize, ParseError> {
+    let locale = Locale::try_from_str_in(memory, text)?;
+    Ok(parts(&locale))
+}
+
+// The sum of both.
 fn locale(memory: UpTo, text: &str) -> Result<usize, ParseError> {
-    let bytes = Locale::try_from_utf8_in(memory, text.as_bytes())?;
-    let string = Locale::try_from_str_in(memory, text)?;
-    let parts = &string.extensions;
-    Ok(
-        bytes.id.variants.len()
-            + parts.unicode.keywords.as_slice().len()
-            + parts.transform.fields.as_slice().len()
-            + parts.other.len(),
-    )
+    Ok(locale_of_bytes(memory, text)? + locale_of_str(memory, text)?)
 }
 
 #[test]
@@ -161,7 +176,7 @@ fn identifiers_ask_for_room_for_their_variants(rt: HostRuntime) -> Result<(), Fa
 #[test]
 fn locales_ask_for_room_for_their_parts(rt: HostRuntime) -> Result<(), Fail> {
     let heap = rt.alloc();
-    assert_eq!(rt; locale(up_to(0, heap), "en-u-ca-buddhist"), Ok(1));
+    assert_eq!(rt; locale(up_to(0, heap), "en-u-ca-buddhist"), Ok(2));
     for (text, most, parts) in [
         ("en-aaaaa-bbbbb-ccccc-ddddd-eeeee", 5, 5),
         ("en-u-ca-buddhist-nu-latn", 2, 2),
@@ -173,7 +188,7 @@ fn locales_ask_for_room_for_their_parts(rt: HostRuntime) -> Result<(), Fail> {
             locale(up_to(most - 1, heap), text),
             Err(ParseError::OutOfMemory)
         );
-        assert_eq!(rt; locale(up_to(most, heap), text), Ok(parts));
+        assert_eq!(rt; locale(up_to(most, heap), text), Ok(2 * parts));
     }
     Ok(())
 }

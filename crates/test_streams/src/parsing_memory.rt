@@ -17,45 +17,65 @@ use std::test::Fail;
 // Each counts what is read of a text, as bytes and as a `str`.
 
 fn attributes(memory: UpTo, text: &str) -> Result<usize, ParseError> {
-    let bytes = Attributes::try_from_utf8_in(memory, text.as_bytes())?;
-    let string = Attributes::try_from_str_in(memory, text)?;
-    Ok(bytes.as_slice().len() + string.as_slice().len())
+    let bytes = Attributes::try_from_utf8_in(memory, text.as_bytes())?
+        .as_slice()
+        .len();
+    let string = Attributes::try_from_str_in(memory, text)?.as_slice().len();
+    Ok(bytes + string)
 }
 
 fn keywords(memory: UpTo, text: &str) -> Result<usize, ParseError> {
-    let bytes = Keywords::try_from_utf8_in(memory, text.as_bytes())?;
-    let string = Keywords::try_from_str_in(memory, text)?;
-    Ok(bytes.as_slice().len() + string.as_slice().len())
+    let bytes = Keywords::try_from_utf8_in(memory, text.as_bytes())?
+        .as_slice()
+        .len();
+    let string = Keywords::try_from_str_in(memory, text)?.as_slice().len();
+    Ok(bytes + string)
 }
 
 fn unicode(memory: UpTo, text: &str) -> Result<usize, ParseError> {
-    let bytes = Unicode::try_from_utf8_in(memory, text.as_bytes())?;
-    let string = Unicode::try_from_str_in(memory, text)?;
-    Ok(bytes.keywords.as_slice().len() + string.attributes.as_slice().len())
+    let bytes = Unicode::try_from_utf8_in(memory, text.as_bytes())?
+        .keywords
+        .as_slice()
+        .len();
+    let string = Unicode::try_from_str_in(memory, text)?
+        .attributes
+        .as_slice()
+        .len();
+    Ok(bytes + string)
 }
 
 fn transform(memory: UpTo, text: &str) -> Result<usize, ParseError> {
-    let bytes = Transform::try_from_utf8_in(memory, text.as_bytes())?;
-    let string = Transform::try_from_str_in(memory, text)?;
-    Ok(bytes.fields.as_slice().len() + string.fields.as_slice().len())
+    let bytes = Transform::try_from_utf8_in(memory, text.as_bytes())?
+        .fields
+        .as_slice()
+        .len();
+    let string = Transform::try_from_str_in(memory, text)?
+        .fields
+        .as_slice()
+        .len();
+    Ok(bytes + string)
 }
 
 fn value(memory: UpTo, text: &str) -> Result<usize, ParseError> {
-    let bytes = Value::try_from_utf8_in(memory, text.as_bytes())?;
-    let string = Value::try_from_str_in(memory, text)?;
-    Ok(bytes.as_slice().len() + string.as_slice().len())
+    let bytes = Value::try_from_utf8_in(memory, text.as_bytes())?
+        .as_slice()
+        .len();
+    let string = Value::try_from_str_in(memory, text)?.as_slice().len();
+    Ok(bytes + string)
 }
 
 fn other(memory: UpTo, text: &str) -> Result<usize, ParseError> {
-    let bytes = Other::try_from_utf8_in(memory, text.as_bytes())?;
-    let string = Other::try_from_str_in(memory, text)?;
-    Ok(bytes.as_slice().len() + string.as_slice().len())
+    let bytes = Other::try_from_utf8_in(memory, text.as_bytes())?
+        .as_slice()
+        .len();
+    let string = Other::try_from_str_in(memory, text)?.as_slice().len();
+    Ok(bytes + string)
 }
 
 fn private(memory: UpTo, text: &str) -> Result<usize, ParseError> {
-    let bytes = Private::try_from_utf8_in(memory, text.as_bytes())?;
-    let string = Private::try_from_str_in(memory, text)?;
-    Ok(bytes.len() + string.len())
+    let bytes = Private::try_from_utf8_in(memory, text.as_bytes())?.len();
+    let string = Private::try_from_str_in(memory, text)?.len();
+    Ok(bytes + string)
 }
 
 // How many of three fields with two keys are set, in a part that begins empty.
