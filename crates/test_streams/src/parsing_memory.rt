@@ -1,5 +1,4 @@
 //! Parts that ask other memory than the heap for room, and a locale that is never refused any.
-ghost use Rattle.std.specs.Prelude.{⊥};
 
 use crate::memory::{UpTo, up_to};
 use iloc_litemap::{GrowingStore, LiteMap};
