@@ -139,10 +139,10 @@ fn identifier(memory: UpTo, text: &str) -> Result<usize, ParseError> {
 // How many variants, keywords, fields and other extensions a locale has.
 fn parts(locale: &Locale) -> usize {
     let extensions = &locale.extensions;
-    locale.id.variants.len()
-        + extensions.unicode.keywords.as_slice().len()
-        + extensions.transform.fields.as_slice().len()
-        + extensions.other.len()
+    let all = locale.id.variants.len();
+    let all = all.saturating_add(extensions.unicode.keywords.as_slice().len());
+    let all = all.saturating_add(extensions.transform.fields.as_slice().len());
+    all.saturating_add(extensions.other.len())
 }
 
 fn locale_of_bytes(memory: UpTo, text: &str) -> Result<usize, ParseError> {
@@ -157,7 +157,8 @@ fn locale_of_str(memory: UpTo, text: &str) -> Result<usize, ParseError> {
 
 // The sum of both.
 fn locale(memory: UpTo, text: &str) -> Result<usize, ParseError> {
-    Ok(locale_of_bytes(memory, text)? + locale_of_str(memory, text)?)
+    let bytes = locale_of_bytes(memory, text)?;
+    Ok(bytes.saturating_add(locale_of_str(memory, text)?))
 }
 
 #[test]
