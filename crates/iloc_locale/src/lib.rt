@@ -7,8 +7,8 @@
 //! if the meanings are. No accepted text of a meaning is shorter than its normal text. At most eight rewriting steps
 //! lead there.
 //!
-//! It runs out of memory only if the memory that it was given refused a request: `try_from_utf8_in` parses with any
-//! `Memory`, and with one that refuses nothing (`ample_memory`) the theorem has no exception.
+//! Parsing runs out of memory only if the memory that was given refused a request: `try_from_utf8_in` takes any `Memory`,
+//! and with one that refuses nothing (`ample_memory`) parsing has no exception.
 //!
 //! `==`, `total_cmp` and hashes compare values, for every locale. Of well-formed locales this is equality of meaning,
 //! since only their texts parse back. `normalizing_eq` is `true` exactly if the text is accepted and means this

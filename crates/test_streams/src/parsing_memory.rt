@@ -13,7 +13,7 @@ use std::alloc::{AllocError, Global};
 use std::process::Abort;
 use std::test::Fail;
 
-// Each counts what is read of a text, as bytes and as a `str`.
+// Each counts what a text is parsed as, from bytes and from a `str`.
 
 fn attributes(memory: UpTo, text: &str) -> Result<usize, ParseError> {
     let bytes = Attributes::try_from_utf8_in(memory, text.as_bytes())?
