@@ -2,7 +2,8 @@
 
 What it keeps of a crate it finds by a sum of the crate's text, of the toolchain, and of the libraries below as
 they were built. So these are taken all together, lowest first, in the place of what else stands in crates/*/out.
-They get the mark of a built library, which rt ci leaves out since they fit no others: so rt check takes them too."""
+They get the mark of a built library, which rt ci leaves out since they fit no others: so rt check takes them too.
+A toolchain whose rt ci keeps nothing has no class Kept; then nothing is found."""
 import hashlib
 import json
 import os
@@ -17,6 +18,8 @@ class KeptByCi:
 
     def __init__(self, crates):
         self.crates, self.keys, self.keeps = crates, {}, False
+        if not hasattr(rt, "Kept"):
+            return
         rt.Crate.allowed = rt.handles_of(ROOT)
         self.kept = rt.Kept(crates)
         if self.kept.at:

@@ -1,12 +1,15 @@
-"""Has the libraries be there that some crates stand on: as `rt ci` kept them.
+"""Has the libraries be there that some crates stand on: as `rt ci` kept them, or else proved.
 
-What is lacking is proved by `rt ci`, so that ./run, ./test and every other checkout take it too."""
+With a toolchain whose `rt ci` keeps what it proves, what is lacking is proved by `rt ci`, so that ./run, ./test and
+every other checkout take it too. With others it is proved here, for this checkout, side by side."""
+import copy
 import os
 import re
+import tempfile
 import time
 
 from kept_by_ci import KeptByCi
-from kit import lanes, read
+from kit import lanes, read, rt, rtlib
 from proof_room import Proof
 from sources import PROVED_PARTS, files_of, sum_of
 
@@ -69,8 +72,44 @@ def have(crates, say, until=None, is_there=is_fresh):
         kept = KeptByCi(needed)
     if not kept.lacking() and kept.take():
         return True, []
-    say("rt ci keeps nothing here, as where the disk has no room: `rt ci` says why")
-    return False, []
+    return prove_here([it for it in needed if not it.is_built()], say, until)
+
+
+def prove_here(crates, say, until=None):
+    """Proves the libraries in crates/*/out, as rt lib does, as many side by side as there are processors and memory.
+    Returns what `have` does. Meanwhile no other rt works on them."""
+    say(f"proving {len(crates)} libraries, for this checkout alone: {minutes_of(crates)}")
+    failed, names = [], {it.name for it in crates}
+
+    def prove(crate, given, jobs):
+        is_late = until and time.time() > until
+        if is_late or not all(given.get((it.name, "proof"), True) for it in crate.below()):
+            return False
+        crate = copy.copy(crate)
+        with tempfile.TemporaryFile("a+", errors="replace") as crate.out:
+            status = crate.build_rlib(["--jobs", str(jobs)], anew=False)
+            crate.out.seek(0)
+            said = crate.out.read()
+        failed.extend([crate.name] if status else [])
+        say(f"{crate.name} is NOT PROVED:\n{said[-3000:]}" if status else f"proved {crate.name}")
+        return not status
+
+    tasks = {}
+    for it in crates:
+        waits = [(dep.name, "proof") for dep in it.below() if dep.name in names]
+        tasks[it.name, "proof"] = waits, it.count(rb"\n"), rt.need(it), lambda given, jobs, it=it: prove(it, given, jobs)
+    rtlib.guarded()  # (in this thread first, which alone may say what a signal does)
+    held = rtlib.lock(crates)
+    try:
+        return all(rt.in_lanes(tasks).values()), failed
+    finally:
+        for it in held:
+            os.close(it)
+
+
+def minutes_of(crates):
+    """Returns in words how long these proofs take."""
+    return f"about {max(estimate(crates), 1):.0f} minutes on {lanes()} processors, once"
 
 
 def take(crates):
@@ -84,8 +123,7 @@ def take(crates):
 def prove_by_ci(crates, say, until=None):
     """Proves the libraries by rt ci, which keeps them. Returns whether the time was out, and the names of those that
     are not proved."""
-    minutes = f"about {max(estimate(crates), 1):.0f} minutes on {lanes()} processors, once"
-    say(f"proving {len(crates)} libraries by rt ci, which keeps them for all checkouts: {minutes}")
+    say(f"proving {len(crates)} libraries by rt ci, which keeps them for all checkouts: {minutes_of(crates)}")
     names = [it.name for it in crates]
     with Proof(names, say) as proof:
         while proof.is_running():
