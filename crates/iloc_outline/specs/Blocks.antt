@@ -10,7 +10,7 @@ use Rattle.iloc_spec_grammar.specs.Computing.{first_fault}
 use Rattle.iloc_subtags.specs.Judging.{error_of}
 use Rattle.iloc_pieces.specs.Cursor.{IsSpanned, pieces_left, whole_text}
 use Rattle.iloc_outline.specs.Parts.{Part, blocks_parts, printed_part}
-use Rattle.iloc_outline.specs.Reading.{IsBody, IsPrivateBody, IsTooMuch}
+use Rattle.iloc_outline.specs.Reading.{IsBody, IsPrivateBody, IsTooMuch, Reader}
 use Rattle.iloc_outline.specs.Spans.{Spell}
 use Rattle.iloc_outline.specs.declared.blocks.Blocks.{Blocks}
 use Rattle.iloc_outline.specs.declared.blocks.Blocks.TheVariants.{Good, Refused, Full}
@@ -34,9 +34,10 @@ HasSingletonBefore byte start l = (c : ℕ) × (to_ascii_lowercase c ≡ byte)
     × IsSpanned (whole_text l) start (l.at - 1) ((c ∷ []) ∷ [])
 
 -- the block was read so, whatever the case of the singleton, if its hyphen stands at start
-abbrev pub IsBlockReadAt : ℕ → ℕ → Cursor → Cursor → Spans → Spans → Bool → Bool → Found → Type 0
-IsBlockReadAt byte start l m old new o n r = (c : ℕ) → to_ascii_lowercase c ≡ byte
-    → IsSpanned (whole_text l) start (l.at - 1) ((c ∷ []) ∷ []) → IsBlockRead c l m old new o n r
+abbrev pub IsBlockReadAt : ℕ → ℕ → Reader → Reader → Found → Type 0
+IsBlockReadAt byte start from to r = (c : ℕ) → to_ascii_lowercase c ≡ byte
+    → IsSpanned (whole_text from.cursor) start (from.cursor.at - 1) ((c ∷ []) ∷ [])
+    → IsBlockRead c from.cursor to.cursor from.spans to.spans from.in_order to.in_order r
 
 -- spans of the text, none of which is a singleton
 abbrev pub AreBegun : Text → Spans → Type 0

@@ -154,10 +154,20 @@ IsBody c l m old new o n Repeated = (to_ascii_lowercase c ≡ code_t)
     × (repeats_variant languages (front (pieces_left l)) ≡ true)
 IsBody c l m old new o n Full = IsTooMuch old (1 + length (pieces_left l))
 
+-- what a reader has: its cursor, the spans that were put, and whether they are in order
+pub record Reader : Type 0 where
+  pub cursor : Cursor
+  pub spans : Spans
+  pub in_order : Bool
+
+abbrev pub reader_at : Cursor → Spans → Bool → Reader
+reader_at l spans o = record { cursor = l; spans = spans; in_order = o }
+
 -- so it was, whatever the case of the singleton, if its hyphen stands at start
-abbrev pub IsBodyAt : ℕ → ℕ → Cursor → Cursor → Spans → Spans → Bool → Bool → Found → Type 0
-IsBodyAt byte start l m old new o n r = (c : ℕ) → to_ascii_lowercase c ≡ byte
-    → IsSpanned (whole_text l) start (l.at - 1) ((c ∷ []) ∷ []) → IsBody c l m old new o n r
+abbrev pub IsBodyAt : ℕ → ℕ → Reader → Reader → Found → Type 0
+IsBodyAt byte start from to r = (c : ℕ) → to_ascii_lowercase c ≡ byte
+    → IsSpanned (whole_text from.cursor) start (from.cursor.at - 1) ((c ∷ []) ∷ [])
+    → IsBody c from.cursor to.cursor from.spans to.spans from.in_order to.in_order r
 
 -- the same of `x`, which takes all the rest
 abbrev pub IsPrivateBody : ℕ → Cursor → Spans → Spans → Bool → Bool → Found → Type 0

@@ -4,7 +4,7 @@ ghost use Rattle.std.specs.Char.{is_ascii_alphanumeric};
 ghost use Rattle.iloc_spec_grammar.specs.Syntax.{code_u, is_one_byte};
 ghost use Rattle.iloc_outline.specs.Blocks.{AreBegun, AreBlocksRead, HasSingletonBefore, IsBlockReadAt};
 ghost use Rattle.iloc_pieces.specs.Cursor.{IsLater, piece_left, whole_text};
-ghost use Rattle.iloc_outline.specs.Reading.{FollowsSingleton};
+ghost use Rattle.iloc_outline.specs.Reading.{FollowsSingleton, reader_at};
 ghost use Rattle.iloc_outline.specs.Parts.{rank};
 
 use crate::growth::Growth;
@@ -48,8 +48,8 @@ fn read_body<G: Growth>(
     requires follows { FollowsSingleton start cursor.old }
     requires singleton { HasSingletonBefore byte start cursor.old }
     requires letter { is_ascii_alphanumeric byte ≡ true }
-    ensures { IsBlockReadAt byte start cursor.old cursor.new spans.old spans.new in_order.old
-        in_order.new result }
+    ensures { IsBlockReadAt byte start (reader_at cursor.old spans.old in_order.old)
+        (reader_at cursor.new spans.new in_order.new) result }
 {
     if byte == b'u' {
         return read_unicode::<G>(start, cursor, spans, in_order);
@@ -71,8 +71,8 @@ fn read_another<G: Growth>(
     requires singleton { HasSingletonBefore byte start cursor.old }
     requires letter { is_ascii_alphanumeric byte ≡ true }
     requires another { byte ≢ code_u }
-    ensures { IsBlockReadAt byte start cursor.old cursor.new spans.old spans.new in_order.old
-        in_order.new result }
+    ensures { IsBlockReadAt byte start (reader_at cursor.old spans.old in_order.old)
+        (reader_at cursor.new spans.new in_order.new) result }
 {
     let mut next = *cursor;
     let found = read_apart::<G>(byte, start, &mut next, spans, in_order);
@@ -101,8 +101,8 @@ fn read_apart<G: Growth>(
     requires follows { FollowsSingleton start cursor.old }
     requires letter { is_ascii_alphanumeric byte ≡ true }
     requires another { byte ≢ code_u }
-    ensures { IsBlockReadAt byte start cursor.old cursor.new spans.old spans.new in_order.old
-        in_order.new result }
+    ensures { IsBlockReadAt byte start (reader_at cursor.old spans.old in_order.old)
+        (reader_at cursor.new spans.new in_order.new) result }
 {
     match byte {
         b't' => read_transform::<G>(start, cursor, spans, in_order),

@@ -3,7 +3,7 @@ ghost use Rattle.std.specs.Prelude.{◌≡◌, ◌-◌, ◌<◌, ℕ, Bool, [], 
 ghost use Rattle.std.specs.Char.{to_ascii_lowercase};
 ghost use Rattle.iloc_spec_grammar.specs.Syntax.{code_x, is_other_singleton};
 ghost use Rattle.iloc_pieces.specs.Cursor.{IsSpanned, whole_text};
-ghost use Rattle.iloc_outline.specs.Reading.{FollowsSingleton, IsBodyAt, IsPrivateBody, IsPutOther, block_span};
+ghost use Rattle.iloc_outline.specs.Reading.{FollowsSingleton, IsBodyAt, IsPrivateBody, IsPutOther, block_span, reader_at};
 
 use crate::growth::{Growth, put};
 use crate::reading::Found;
@@ -53,8 +53,8 @@ pub fn read_other<G: Growth>(
 ) -> Found
     requires follows { FollowsSingleton start cursor.old }
     requires other { is_other_singleton byte ≡ true }
-    ensures { IsBodyAt byte start cursor.old cursor.new spans.old spans.new in_order.old
-        in_order.new result }
+    ensures { IsBodyAt byte start (reader_at cursor.old spans.old in_order.old)
+        (reader_at cursor.new spans.new in_order.new) result }
 {
     let mut is_good = false;
     let mut edited = false;

@@ -2,7 +2,7 @@
 ghost use Rattle.std.specs.Prelude.{◌≡◌, ◌<◌, false};
 ghost use Rattle.iloc_spec_grammar.specs.Syntax.{Language, code_t, is_word, languages};
 ghost use Rattle.iloc_pieces.specs.Cursor.{piece_left};
-ghost use Rattle.iloc_outline.specs.Reading.{FollowsSingleton, IsBodyAt, block_span};
+ghost use Rattle.iloc_outline.specs.Reading.{FollowsSingleton, IsBodyAt, block_span, reader_at};
 
 use crate::fields::read_fields;
 use crate::growth::{Growth, put};
@@ -37,8 +37,8 @@ pub fn read_transform<G: Growth>(
     in_order: &mut bool,
 ) -> Found
     requires follows { FollowsSingleton start cursor.old }
-    ensures { IsBodyAt code_t start cursor.old cursor.new spans.old spans.new in_order.old
-        in_order.new result }
+    ensures { IsBodyAt code_t start (reader_at cursor.old spans.old in_order.old)
+        (reader_at cursor.new spans.new in_order.new) result }
 {
     if !is_language(*cursor) {
         return read_fields_alone::<G>(start, cursor, spans, in_order);
@@ -66,8 +66,8 @@ fn read_fields_alone<G: Growth>(
 ) -> Found
     requires follows { FollowsSingleton start cursor.old }
     requires alone { is_word (Language languages) (piece_left cursor.old) ≡ false }
-    ensures { IsBodyAt code_t start cursor.old cursor.new spans.old spans.new in_order.old
-        in_order.new result }
+    ensures { IsBodyAt code_t start (reader_at cursor.old spans.old in_order.old)
+        (reader_at cursor.new spans.new in_order.new) result }
 {
     if is_single(*cursor) {
         return Found::Bad;

@@ -1,6 +1,6 @@
 //! Reads what follows the singleton `u`.
 ghost use Rattle.iloc_spec_grammar.specs.Syntax.{code_u};
-ghost use Rattle.iloc_outline.specs.Reading.{FollowsSingleton, IsBodyAt};
+ghost use Rattle.iloc_outline.specs.Reading.{FollowsSingleton, IsBodyAt, reader_at};
 
 use crate::fields::read_fields;
 use crate::growth::{Growth, put};
@@ -19,8 +19,8 @@ pub fn read_unicode<G: Growth>(
     in_order: &mut bool,
 ) -> Found
     requires follows { FollowsSingleton start cursor.old }
-    ensures { IsBodyAt code_u start cursor.old cursor.new spans.old spans.new in_order.old
-        in_order.new result }
+    ensures { IsBodyAt code_u start (reader_at cursor.old spans.old in_order.old)
+        (reader_at cursor.new spans.new in_order.new) result }
 {
     if is_single(*cursor) {
         return Found::Bad;

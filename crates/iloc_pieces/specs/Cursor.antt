@@ -8,10 +8,11 @@ use Rattle.iloc_pieces.specs.declared.place.Cursor.{Cursor}
 abbrev pub bytes_left : Cursor → Text
 bytes_left l = take l.remaining (drop l.at l.window.now)
 
--- their pieces, and the first of them
+-- their pieces
 abbrev pub pieces_left : Cursor → List Text
 pieces_left l = pieces (bytes_left l)
 
+-- the first of them
 abbrev pub piece_left : Cursor → Text
 piece_left l = first_piece (pieces_left l)
 
