@@ -41,3 +41,14 @@ pub one_more : (o : ℕ × List Text) (old new : List (ℕ × List Text)) (r : R
 one_more o old new (Ok x) h =
     let all = ap length h in let one = put_one o.0 o.1 old in omega (arith, all, one)
 one_more o old new (Err e) h = tt
+
+-- Memory that refuses nothing never runs out.
+module _ (Refused : ℕ → Type 0) (never : (n : ℕ) → Refused n → ⊥) (limit : ℕ) where
+  pub never_out : {X : Type 0} (r : Result X ParseError) → RunsOutOnlyIf (RefusedWithin Refused limit) r →
+      RunsOutOnlyIf ⊥ r
+  never_out r given = runs_out_too (RefusedWithin Refused limit) ⊥ (λ h. never h.0 h.2) r given
+
+  pub always_made : {X E : Type 0} (P : X → Type 0) (r : Result X E) → IfOk r P →
+      OnErr r (RefusedWithin Refused limit) → IsOkAnd r P
+  always_made P (Ok x) is given = is
+  always_made P (Err e) is given = absurd (never given.0 given.2)

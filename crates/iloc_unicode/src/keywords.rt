@@ -135,7 +135,7 @@ impl Keywords {
             → Refuses ⊤ f result }
         ensures memory { RunsOutOnlyIf (KeywordsWantMemory (pieces s.now)) result }
     {
-        Keywords::try_from_str_in(alloc, s)
+        Keywords::try_from_utf8_in(alloc, s.as_bytes())
     }
 
     /// Parses a `str`, as `try_from_utf8_in` parses bytes.
