@@ -49,5 +49,5 @@ returns-in-Normal-clause-out_of_memory g c =
 
 pub returns-in-Refused-clause-out_of_memory : goal.returns-in-Refused-clause-out_of_memory
 returns-in-Refused-clause-out_of_memory g c =
-    refusal_is_no_want {Z = ⊤} (RefusedWithin g.M.Memory.refused (length c.args.input.now)) Langid c.args.input.now
+    refusal_is_no_want ⊤ (RefusedWithin g.M.Memory.refused (length c.args.input.now)) Langid c.args.input.now
     c.in-Refused.refusal c.in-Refused.ensures.answered
