@@ -1,14 +1,16 @@
-//! Parts that ask other memory than the heap for room, and a locale that is never refused any.
+//! Parts and texts that ask other memory than the heap for room, and locales and texts that are never refused any.
 
 use crate::memory::{UpTo, up_to};
+use iloc_langid::LanguageIdentifier;
 use iloc_litemap::{GrowingStore, LiteMap};
-use iloc_locale::{Extensions, Locale, ample_memory};
+use iloc_locale::{Extensions, Locale, ample_memory, ample_normalizing, ample_printing};
 use iloc_memory::{Ample, Memory};
 use iloc_other::{Other, Private};
 use iloc_shortvec::ShortBoxSlice;
 use iloc_subtags::ParseError;
 use iloc_transform::{Fields, Key, Transform, Value};
 use iloc_unicode::{Attributes, Keywords, Unicode};
+use iloc_writeable::{Writeable, to_string_or_borrow_in};
 use std::alloc::{AllocError, Global};
 use std::process::Abort;
 use std::test::Fail;
@@ -148,6 +150,51 @@ fn empty_values_ask_for_no_room(rt: HostRuntime) -> Result<(), Fail> {
     Ok(())
 }
 
+// How many bytes the normal text has, as an identifier and as a locale, from bytes and from a `str`.
+fn normalized(memory: UpTo, text: &str) -> Result<usize, ParseError> {
+    let bytes = text.as_bytes();
+    let id = LanguageIdentifier::normalize_utf8_in(memory, bytes)?.len()
+        + LanguageIdentifier::normalize_in(memory, text)?.len();
+    let locale = Locale::normalize_utf8_in(memory, bytes)?.len()
+        + Locale::normalize_in(memory, text)?.len();
+    Ok(id + locale)
+}
+
+// How many bytes the printed text has, of the identifier and of the locale, and beside the text itself.
+fn printed(memory: UpTo, text: &str) -> Result<usize, ParseError> {
+    let locale = Locale::try_from_str(memory.heap, text)?;
+    let id = locale.id.write_to_string_in(memory)?.len();
+    let whole = locale.write_to_string_in(memory)?.len();
+    let beside = to_string_or_borrow_in(memory, &locale, text.as_bytes())?.len();
+    Ok(id + whole + beside)
+}
+
+#[test]
+fn normal_texts_ask_for_room_for_their_bytes(rt: HostRuntime) -> Result<(), Fail> {
+    let (heap, refused) = (rt.alloc(), Err(ParseError::OutOfMemory));
+    assert_eq!(rt; normalized(up_to(0, heap), "en-US"), Ok(20));
+    assert_eq!(rt; normalized(up_to(4, heap), "EN-us"), refused);
+    assert_eq!(rt; normalized(up_to(5, heap), "EN-us"), Ok(20));
+    assert_eq!(rt; normalized(up_to(16, heap), "en-US-POSIX-aaaaa"), refused);
+    assert_eq!(rt; normalized(up_to(17, heap), "en-US-POSIX-aaaaa"), Ok(68));
+    let long = "EN-aaaaa-bbbbb-ccccc-ddddd-eeeee-fffff-ggggg-hhhhh-iiiii";
+    assert_eq!(rt; normalized(up_to(55, heap), long), refused);
+    assert_eq!(rt; normalized(up_to(56, heap), long), Ok(224));
+    Ok(())
+}
+
+#[test]
+fn printed_texts_ask_for_room_for_their_bytes(rt: HostRuntime) -> Result<(), Fail> {
+    let (heap, refused) = (rt.alloc(), Err(ParseError::OutOfMemory));
+    assert_eq!(rt; printed(up_to(0, heap), "en"), Ok(6));
+    assert_eq!(rt; printed(up_to(4, heap), "EN-us"), refused);
+    assert_eq!(rt; printed(up_to(5, heap), "EN-us"), Ok(15));
+    let long = "en-aaaaa-bbbbb-ccccc-ddddd-eeeee-fffff-ggggg-hhhhh-iiiii-jjjjj-kkkkk";
+    assert_eq!(rt; printed(up_to(67, heap), long), refused);
+    assert_eq!(rt; printed(up_to(68, heap), long), Ok(204));
+    Ok(())
+}
+
 /// Memory that refuses nothing: where the heap does, the program ends.
 struct Endless<'a, R: Abort> {
     rt: &'a R,
@@ -200,5 +247,7 @@ fn with_ample_memory_each_text_is_answered(rt: HostRuntime) -> Result<(), Fail> 
         ample_memory(memory, b"en-foo").err(),
         Some(ParseError::InvalidSubtag)
     );
+    assert_eq!(rt; ample_printing(memory, &locale)?.len(), 36);
+    assert_eq!(rt; ample_normalizing(memory, b"EN-us")?.len(), 5);
     Ok(())
 }
