@@ -1,15 +1,16 @@
 -- How much room a locale takes at most.
 use Rattle.std.proofs.Common.{◌≡◌, ℕ, suc, ◌+◌, ◌≤◌, List, [], ◌∷◌, length, refl, ap, arith, Result, Ok, Err, OnOk}
-use Rattle.std.proofs.Common.{OnErr}
+use Rattle.std.proofs.Common.{IfOk, IsOkAnd, OnErr}
 use Rattle.std.specs.FinMap.{put}
 use Rattle.std.specs.FinMap.Entries.{by_order}
 use Rattle.std.specs.Ordering.{nat_cmp}
 use Rattle.std.specs.declared.cmp.Ordering.TheVariants.{Less, Equal, Greater}
+use Rattle.iloc_memory.specs.Refusals.{RefusedWithin}
 use Rattle.iloc_spec_grammar.specs.Syntax.{Text, pieces}
 use Rattle.iloc_spec_grammar.specs.Reading.{rest_of, after_head}
 use Rattle.iloc_subtags.specs.declared.parse_error.ParseError.{ParseError}
 use Rattle.iloc_subtags.specs.Judging.{RunsOutOnlyIf}
-use Rattle.iloc_word_list.proofs.RoomLemmas.{allows, rest_fits}
+use Rattle.iloc_word_list.proofs.RoomLemmas.{allows, rest_fits, runs_out_too}
 use Rattle.iloc_locale.proofs.AnswerLemmas.{rest_short}
 
 -- the pieces after the head are at most as many as the text has bytes
