@@ -66,7 +66,8 @@ pub mod tinystr {
 /// Printing to a sink.
 pub mod writeable {
     pub use iloc_writeable::{
-        IoSink, LengthHint, Sink, Writeable, cmp_utf8, held_texts, to_string_or_borrow, write_to_io,
+        IoSink, LengthHint, Sink, Writeable, cmp_utf8, held_texts, to_string_or_borrow,
+        to_string_or_borrow_in, write_to_io,
     };
 }
 
@@ -173,7 +174,8 @@ pub mod locale {
     pub use iloc_locale::ordered::equality as ordered_equality;
     pub use iloc_locale::parent::fallback_chain;
     pub use iloc_locale::{
-        Locale, OrderedLocale, ample_memory, equality, every_locale_is_a_value, hashes, memory,
+        Locale, OrderedLocale, ample_memory, ample_normalizing, ample_printing, equality,
+        every_locale_is_a_value, hashes, memory,
     };
 }
 

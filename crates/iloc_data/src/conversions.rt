@@ -17,6 +17,7 @@ use iloc_keyword_types::KeywordKind;
 use iloc_keyword_types::subdivision_keyword::RegionalSubdivisionKind;
 use iloc_langid::LanguageIdentifier;
 use iloc_locale::{Extensions, Locale};
+use iloc_memory::Memory;
 use iloc_subtags::{Language, Region, Script};
 use iloc_unicode::{Attributes, Keywords, Unicode};
 use iloc_word_list::Variants;
@@ -47,7 +48,7 @@ impl DataLocale {
     }
 
     /// The locale of the identifier's parts and these keywords.
-    pub(crate) fn with_keywords(&self, alloc: Global, keywords: Keywords) -> Locale
+    pub(crate) fn with_keywords<M: Memory>(&self, memory: M, keywords: Keywords) -> Locale
         ensures { locale_value result ≡ locale_with_keywords (value_of self.now) keywords }
     {
         let variants = match self.variant {
@@ -65,7 +66,7 @@ impl DataLocale {
                 region: self.region,
                 variants,
             },
-            extensions: Extensions::from_unicode(alloc, unicode),
+            extensions: Extensions::from_unicode_in(memory, unicode),
         }
     }
 }

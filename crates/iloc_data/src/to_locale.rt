@@ -1,5 +1,6 @@
 //! The locale that preferences are turned into.
-ghost use Rattle.std.specs.Prelude.{◌≡◌, ◌≤◌, ◌++◌, true, length, IfOk, IsOk, codes};
+ghost use Rattle.std.specs.Prelude.{◌≡◌, ◌≤◌, ◌++◌, true, length, IfOk, IsOk, OnErr, codes};
+ghost use Rattle.iloc_memory.specs.Refusals.{RefusedWithin};
 ghost use Rattle.iloc_spec_grammar.specs.Values.{IsWellFormed};
 ghost use Rattle.iloc_locale.specs.LocaleReading.{value_of as locale_value};
 ghost use Rattle.iloc_spec_parts.specs.Preferences.{
@@ -18,6 +19,7 @@ use iloc_data_parts::region::is_whole;
 use iloc_keyword_types::subdivision_keyword::{RegionOverrideKind, RegionalSubdivisionKind};
 use iloc_keyword_types::{KeywordKind, RegionOverride, RegionalSubdivision};
 use iloc_locale::Locale;
+use iloc_memory::Memory;
 use iloc_unicode::Keywords;
 use iloc_word_list::Value;
 use std::alloc::{AllocError, Global};
@@ -40,22 +42,39 @@ impl LocalePreferences {
         ensures only { IfOk result
             (λ locale. preferences (locale_value locale) ≡ self → SpellsNoTrue self) }
     {
+        self.to_locale_in(alloc)
+    }
+
+    /// As `to_locale`, from any memory. Refusal: `AllocError`, only if room for at most two keywords was refused.
+    pub fn to_locale_in<M: Memory>(self, memory: M) -> Result<Locale, AllocError>
+        ensures value { IfOk result (λ locale. locale_value locale ≡ locale_of_preferences self) }
+        ensures succeeds { length (rg_entry self.region_override ++ sd_entry self.region) ≤ 1
+            → IsOk result }
+        ensures well_formed { IfOk result (λ locale. IsWellFormed (locale_value locale)) }
+        ensures back { SpellsNoTrue self
+            → IfOk result (λ locale. preferences (locale_value locale) ≡ self) }
+        ensures strict { SpellsNoTrue self
+            → IfOk result (λ locale. is_strict (locale_value locale) ≡ true) }
+        ensures only { IfOk result
+            (λ locale. preferences (locale_value locale) ≡ self → SpellsNoTrue self) }
+        ensures out_of_memory { OnErr result (RefusedWithin M.refused 2) }
+    {
         look_at_preferences(&self);
         let keywords = keywords_of(
-            alloc,
+            memory,
             override_value(self.region_override),
             subdivision_value(self.region),
         )?;
         Ok(
             self.to_data_locale_language_priority()
-                .with_keywords(alloc, keywords),
+                .with_keywords(memory, keywords),
         )
     }
 }
 
 // The keywords of an override and of a subdivision, if they are there.
-fn keywords_of(
-    alloc: Global,
+fn keywords_of<M: Memory>(
+    memory: M,
     region_override: Option<Value>,
     subdivision: Option<Value>,
 ) -> Result<Keywords, AllocError>
@@ -65,13 +84,14 @@ fn keywords_of(
     ensures succeeds { length
         (entry (codes "rg") region_override ++ entry (codes "sd") subdivision) ≤ 1
         → IsOk result }
+    ensures out_of_memory { OnErr result (RefusedWithin M.refused 2) }
 {
     let mut keywords = Keywords::new();
     if let Some(value) = region_override {
-        keywords.set(alloc, RegionOverrideKind::key(), value)?;
+        keywords.set_in(memory, RegionOverrideKind::key(), value)?;
     }
     if let Some(value) = subdivision {
-        keywords.set(alloc, RegionalSubdivisionKind::key(), value)?;
+        keywords.set_in(memory, RegionalSubdivisionKind::key(), value)?;
     }
     Ok(keywords)
 }

@@ -1,5 +1,5 @@
 -- The normal text of an identifier.
-use Rattle.std.proofs.Common.{◌≡◌, inr, false, true, length, sym, ap, ◌∙◌, subst, true≢false, arith}
+use Rattle.std.proofs.Common.{◌≡◌, ◌≤◌, inr, false, true, length, sym, ap, ◌∙◌, subst, true≢false, arith}
 use Rattle.iloc_spec_grammar.specs.Syntax.{Text, pieces, languages, Identifier}
 use Rattle.iloc_spec_grammar.specs.Meaning.{IdentifierMeans}
 use Rattle.iloc_spec_grammar.specs.Values.{identifier_text, IdentifierTextStep, Leads}
@@ -53,3 +53,11 @@ answered_text t u (i, m, e) = is_normalized t i u m e
 
 pub answered_other : (t : Text) → IsNotNormal Langid t → NormalizingIdentifierWantsMemory t
 answered_other t (u, (i, m, e), other) = inr (i, m, λ s. other (s ∙ sym e))
+
+-- no text that means something is shorter than its normal text
+pub meant_within : (t : Text) (i : Identifier) → IdentifierMeans languages (pieces t) i →
+    length (identifier_text i) ≤ length t
+meant_within t i m = omega (arith, length-identifier_means languages t i m)
+
+pub normal_within : (t u : Text) → IsNormalText languages Langid t u → length u ≤ length t
+normal_within t u (i, m, e) = omega (arith, meant_within t i m, ap length e)

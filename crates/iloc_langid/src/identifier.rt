@@ -162,7 +162,8 @@ impl LanguageIdentifier {
         ensures narrow { (i : Identifier) → IdentifierMeans two_or_three (pieces s.now) i
             → Accepts value_of ⊤ i result }
     {
-        Self::try_from_str_in(alloc, s)
+        // (a call of `try_from_str_in` would copy the identifier once more)
+        Self::try_from_utf8_in(alloc, s.as_bytes())
     }
 
     /// Parses all of a `str`, as `try_from_utf8_in` parses bytes.
@@ -299,9 +300,24 @@ impl LanguageIdentifier {
         ensures owned { IfOk result (λ t. IsLent t → IsIdentifierLanguageAlone self.now) }
         ensures memory { OnErr result (¬ (IsIdentifierLanguageAlone self.now)) }
     {
+        self.write_to_string_in(alloc)
+    }
+
+    /// As `write_to_string`, from any memory. `AllocError` comes only if room for at most as many bytes as the text has
+    /// was refused.
+    pub fn write_to_string_in<M: Memory>(&self, memory: M) -> Result<CowStr<'_, Global>, AllocError>
+        ensures text { IfOk result (λ t. cow_str_bytes t ≡ identifier_text (value_of self.now)) }
+        ensures back { IfOk result
+            (λ t. IdentifierMeansOnly (cow_str_bytes t) (value_of self.now)) }
+        ensures lent { IsIdentifierLanguageAlone self.now → IsOkAnd result IsLent }
+        ensures owned { IfOk result (λ t. IsLent t → IsIdentifierLanguageAlone self.now) }
+        ensures memory { OnErr result (¬ (IsIdentifierLanguageAlone self.now)) }
+        ensures out_of_memory { OnErr result
+            (RefusedWithin M.refused (length (identifier_text (value_of self.now)))) }
+    {
         // (it states that every identifier is a value, without which `back` would not be known)
         let _ = self.is_unknown();
-        Writeable::write_to_string(self, alloc)
+        Writeable::write_to_string_in(self, memory)
     }
 }
 

@@ -85,6 +85,10 @@ answered_text t u (M, m, e) = is_normalized t u M m e
 pub answered_other : (t : Text) → IsNotNormal Locale t → NormalizingWantsMemory t
 answered_other t (u, (M, m, e), other) = inr (M, m, λ s. other (s ∙ sym e))
 
+-- no text that means something is shorter than its normal text
+pub normal_within : (t u : Text) → IsNormalText languages Locale t u → length u ≤ length t
+normal_within t u (M, m, e) = subst (λ (s : Text). length s ≤ length t) (sym e) (shortest languages t M m)
+
 -- A text against a value.
 module _ (t : Text) (M : meaning.Locale) where
   -- the normal text of a text that means it is its own

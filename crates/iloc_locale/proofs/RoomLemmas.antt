@@ -1,15 +1,16 @@
 -- How much room a locale takes at most.
 use Rattle.std.proofs.Common.{◌≡◌, ℕ, suc, ◌+◌, ◌≤◌, List, [], ◌∷◌, length, refl, ap, arith, Result, Ok, Err, OnOk}
-use Rattle.std.proofs.Common.{OnErr}
+use Rattle.std.proofs.Common.{IfOk, IsOkAnd, OnErr}
 use Rattle.std.specs.FinMap.{put}
 use Rattle.std.specs.FinMap.Entries.{by_order}
 use Rattle.std.specs.Ordering.{nat_cmp}
 use Rattle.std.specs.declared.cmp.Ordering.TheVariants.{Less, Equal, Greater}
+use Rattle.iloc_memory.specs.Refusals.{RefusedWithin}
 use Rattle.iloc_spec_grammar.specs.Syntax.{Text, pieces}
 use Rattle.iloc_spec_grammar.specs.Reading.{rest_of, after_head}
 use Rattle.iloc_subtags.specs.declared.parse_error.ParseError.{ParseError}
 use Rattle.iloc_subtags.specs.Judging.{RunsOutOnlyIf}
-use Rattle.iloc_word_list.proofs.RoomLemmas.{allows, rest_fits}
+use Rattle.iloc_word_list.proofs.RoomLemmas.{allows, rest_fits, runs_out_too}
 use Rattle.iloc_locale.proofs.AnswerLemmas.{rest_short}
 
 -- the pieces after the head are at most as many as the text has bytes
@@ -41,3 +42,14 @@ pub one_more : (o : ℕ × List Text) (old new : List (ℕ × List Text)) (r : R
 one_more o old new (Ok x) h =
     let all = ap length h in let one = put_one o.0 o.1 old in omega (arith, all, one)
 one_more o old new (Err e) h = tt
+
+-- Memory that refuses nothing never runs out.
+module _ (Refused : ℕ → Type 0) (never : (n : ℕ) → Refused n → ⊥) (limit : ℕ) where
+  pub never_out : {X : Type 0} (r : Result X ParseError) → RunsOutOnlyIf (RefusedWithin Refused limit) r →
+      RunsOutOnlyIf ⊥ r
+  never_out r given = runs_out_too (RefusedWithin Refused limit) ⊥ (λ h. never h.0 h.2) r given
+
+  pub always_made : {X E : Type 0} (P : X → Type 0) (r : Result X E) → IfOk r P →
+      OnErr r (RefusedWithin Refused limit) → IsOkAnd r P
+  always_made P (Ok x) is given = is
+  always_made P (Err e) is given = absurd (never given.0 given.2)

@@ -75,6 +75,14 @@ impl Extensions {
         only_unicode(alloc, unicode)
     }
 
+    /// As `from_unicode`, from any memory. It asks for no room.
+    #[inline(always)]
+    pub fn from_unicode_in<M: Memory>(memory: M, unicode: Unicode) -> Self
+        ensures { value_of result ≡ just_unicode (unicode_value.value_of unicode) }
+    {
+        only_unicode(memory, unicode)
+    }
+
     /// Whether all four parts are empty. An other extension counts as there, also without subtags.
     pub fn is_empty(&self) -> bool
         ensures { IsTrue result ↔ (value_of self.now ≡ no_extensions) }

@@ -7,8 +7,9 @@
 //! if the meanings are. No accepted text of a meaning is shorter than its normal text. At most eight rewriting steps
 //! lead there.
 //!
-//! Parsing runs out of memory only if the memory that was given refused a request: `try_from_utf8_in` takes any `Memory`,
-//! and with one that refuses nothing (`ample_memory`) parsing has no exception.
+//! Parsing, normalizing and printing run out of memory only if the memory that was given refused a request:
+//! `try_from_utf8_in`, `normalize_utf8_in` and `write_to_string_in` take any `Memory`. With one that refuses nothing they have
+//! no exception (`ample_memory`, `ample_normalizing`, `ample_printing`).
 //!
 //! `==`, `total_cmp` and hashes compare values, for every locale. Of well-formed locales this is equality of meaning,
 //! since only their texts parse back. `normalizing_eq` is `true` exactly if the text is accepted and means this
@@ -29,11 +30,12 @@
 //! (`iloc_unicode`, `iloc_transform`, `iloc_other`), and on the laws of the grammar (`iloc_spec_grammar`).
 #![tactic(auto)]
 
-ghost use Rattle.std.specs.Prelude.{◌≡◌, ◌↔◌, IsTrue};
+ghost use Rattle.std.specs.Prelude.{◌≡◌, ◌↔◌, IsTrue, IsOkAnd};
+ghost use Rattle.std.specs.Cow.{cow_str_bytes};
 ghost use Rattle.iloc_spec_grammar.specs.Syntax.{Text, pieces, Language, IsWord, languages, first_piece};
 ghost use Rattle.iloc_spec_grammar.specs.Meaning as meaning;
 ghost use Rattle.iloc_spec_grammar.specs.Meaning.{Means, Fault, HasFault};
-ghost use Rattle.iloc_spec_grammar.specs.Values.{IsValue};
+ghost use Rattle.iloc_spec_grammar.specs.Values.{IsValue, text};
 ghost use Rattle.iloc_spec_parts.specs.Inline.{IsInline};
 ghost use Rattle.iloc_spec_parts.specs.Hashes.{locale_fed};
 ghost use Rattle.iloc_subtags.specs.Judging.{Accepts, Refuses};
@@ -41,6 +43,9 @@ ghost use Rattle.iloc_locale.specs.LocaleReading.{LocaleWantsMemory, IsTextOf, N
 
 use iloc_memory::Ample;
 use iloc_subtags::ParseError;
+use iloc_writeable::Writeable;
+use std::alloc::{AllocError, Global};
+use std::borrow::CowStr;
 use std::hash::Hash;
 
 pub mod blocks;
@@ -99,6 +104,37 @@ pub fn ample_memory<M: Ample>(memory: M, code_units: &[u8]) -> Result<Locale, Pa
     ensures refused { (f : Fault) → HasFault languages code_units.now f → Refuses ⊥ f result }
 {
     Locale::try_from_utf8_in(memory, code_units)
+}
+
+/// Normalizes with memory that refuses nothing. So each text that means something gives its normal text, and each other is
+/// refused with its fault, without an exception.
+///
+/// ```text
+/// ample_normalizing(memory, b"EN-us")?; // "en-US"
+/// ```
+pub fn ample_normalizing<M: Ample>(
+    memory: M,
+    code_units: &[u8],
+) -> Result<CowStr<'_, Global>, ParseError>
+    ensures accepted { (L : meaning.Locale) → Means languages code_units.now L
+        → Accepts cow_str_bytes ⊥ (text L) result }
+    ensures refused { (f : Fault) → HasFault languages code_units.now f → Refuses ⊥ f result }
+{
+    Locale::normalize_utf8_in(memory, code_units)
+}
+
+/// Prints with memory that refuses nothing. So each value prints, without an exception.
+///
+/// ```text
+/// ample_printing(memory, &locale)?; // "en-US"
+/// ```
+pub fn ample_printing<'a, M: Ample, W: Writeable>(
+    memory: M,
+    value: &'a W,
+) -> Result<CowStr<'a, Global>, AllocError>
+    ensures { IsOkAnd result (λ t. cow_str_bytes t ≡ W.text value.now) }
+{
+    value.write_to_string_in(memory)
 }
 
 /// Every locale, parsed or built, is a value: sets and maps ascend strictly, and all subtags are in the normal

@@ -1,9 +1,10 @@
 //! Normal texts of locales, and whether a locale has one.
-ghost use Rattle.std.specs.Prelude.{◌≡◌, ◌↔◌, ⊤, IsTrue, IfOk, IfErr};
+ghost use Rattle.std.specs.Prelude.{◌≡◌, ◌↔◌, ⊤, IsTrue, IfOk, IfErr, length};
 ghost use Rattle.std.specs.Cow.{cow_str_bytes};
 ghost use Rattle.iloc_spec_grammar.specs.Syntax.{languages};
 ghost use Rattle.iloc_spec_grammar.specs.Meaning.{Means, Fault, HasFault};
 ghost use Rattle.iloc_spec_grammar.specs.Values.{IsWellFormed, AreWellFormed, text};
+ghost use Rattle.iloc_memory.specs.Refusals.{RefusedWithin};
 ghost use Rattle.iloc_writeable.specs.Writing.{IsLent};
 ghost use Rattle.iloc_spec_parts.specs.Small.{SmallLocale, IsSmall, HasSmallFault, locale_of_small};
 ghost use Rattle.iloc_subtags.specs.Judging.{Refusal, Accepts, Refuses, RunsOutOnlyIf};
@@ -14,11 +15,12 @@ ghost use Rattle.iloc_spec_grammar.specs.Meaning as meaning;
 use crate::is_well_formed;
 use crate::locale::Locale;
 use iloc_langid::read_small_locale;
+use iloc_memory::Memory;
 use iloc_normalize::answered::ROOM;
 use iloc_normalize::window::{WINDOW, answer_text};
 use iloc_normalize::{Answered, Mode, normalize_short, text_of};
 use iloc_subtags::{Language, ParseError, Region, Script, Subtag, UnicodeKey, Variant};
-use iloc_writeable::to_string_or_borrow;
+use iloc_writeable::to_string_or_borrow_in;
 use std::alloc::Global;
 use std::borrow::CowStr;
 
@@ -38,39 +40,63 @@ impl Locale {
         ensures refused { (f : Fault) → HasFault languages input.now f → Refuses ⊤ f result }
         ensures memory { RunsOutOnlyIf (NormalizingWantsMemory input.now) result }
     {
-        match normalize_short(alloc, input) {
+        Self::normalize_utf8_in(alloc, input)
+    }
+
+    /// As `normalize_utf8`, from any memory. `OutOfMemory` comes only if room for at most as many items as the text has
+    /// bytes was refused.
+    #[inline(always)]
+    pub fn normalize_utf8_in<M: Memory>(
+        memory: M,
+        input: &[u8],
+    ) -> Result<CowStr<'_, Global>, ParseError>
+        ensures ok { IfOk result (λ text. IsNormalizedLocale input.now (cow_str_bytes text)
+            × (IsLent text ↔ (input.now ≡ cow_str_bytes text))) }
+        ensures err { IfErr result (Refusal (HasFault languages input.now) ⊤) }
+        ensures accepted { (L : meaning.Locale) → Means languages input.now L
+            → Accepts cow_str_bytes ⊤ (text L) result }
+        ensures refused { (f : Fault) → HasFault languages input.now f → Refuses ⊤ f result }
+        ensures memory { RunsOutOnlyIf (NormalizingWantsMemory input.now) result }
+        ensures out_of_memory { RunsOutOnlyIf (RefusedWithin M.refused (length input.now)) result }
+    {
+        match normalize_short(memory, input) {
             Some(normal) => normal,
-            None => Self::normalize_other(alloc, input),
+            None => Self::normalize_other(memory, input),
         }
     }
 
     // Normalizes a text that is not plain: from its bytes, and beyond the outline's limits by parsing it.
     #[inline(never)]
-    fn normalize_other(alloc: Global, input: &[u8]) -> Result<CowStr<'_, Global>, ParseError>
+    fn normalize_other<M: Memory>(memory: M, input: &[u8]) -> Result<CowStr<'_, Global>, ParseError>
         ensures ok { IfOk result (λ text. IsNormalizedLocale input.now (cow_str_bytes text)
             × (IsLent text ↔ (input.now ≡ cow_str_bytes text))) }
         ensures err { IfErr result (Refusal (HasFault languages input.now) ⊤) }
         ensures memory { RunsOutOnlyIf (NormalizingWantsMemory input.now) result }
+        ensures out_of_memory { RunsOutOnlyIf (RefusedWithin M.refused (length input.now)) result }
     {
         let mut window = [0u8; WINDOW];
         let mut room = [0u8; ROOM];
         match answer_text(Mode::Locale, input, &mut window, &mut room) {
-            Answered::Normal(normal) => text_of(alloc, input, normal),
+            Answered::Normal(normal) => text_of(memory, input, normal),
             Answered::Refused(refusal) => Err(refusal),
-            Answered::Nothing => Self::normalize_parsed(alloc, input),
+            Answered::Nothing => Self::normalize_parsed(memory, input),
         }
     }
 
     // Normalizes a text by parsing it.
     #[inline(never)]
-    fn normalize_parsed(alloc: Global, input: &[u8]) -> Result<CowStr<'_, Global>, ParseError>
+    fn normalize_parsed<M: Memory>(
+        memory: M,
+        input: &[u8],
+    ) -> Result<CowStr<'_, Global>, ParseError>
         ensures ok { IfOk result (λ text. IsNormalizedLocale input.now (cow_str_bytes text)
             × (IsLent text ↔ (input.now ≡ cow_str_bytes text))) }
         ensures err { IfErr result (Refusal (HasFault languages input.now) ⊤) }
         ensures memory { RunsOutOnlyIf (NormalizingWantsMemory input.now) result }
+        ensures out_of_memory { RunsOutOnlyIf (RefusedWithin M.refused (length input.now)) result }
     {
-        let locale = Self::try_from_utf8(alloc, input)?;
-        Ok(to_string_or_borrow(alloc, &locale, input)?)
+        let locale = Self::try_from_utf8_in(memory, input)?;
+        Ok(to_string_or_borrow_in(memory, &locale, input)?)
     }
 
     /// Returns the normalized text of a `str`, as `normalize_utf8` does for bytes.
@@ -84,7 +110,22 @@ impl Locale {
         ensures refused { (f : Fault) → HasFault languages input.now f → Refuses ⊤ f result }
         ensures memory { RunsOutOnlyIf (NormalizingWantsMemory input.now) result }
     {
-        Self::normalize_utf8(alloc, input.as_bytes())
+        Self::normalize_in(alloc, input)
+    }
+
+    /// As `normalize_utf8_in`, of a `str`.
+    #[inline(always)]
+    pub fn normalize_in<M: Memory>(memory: M, input: &str) -> Result<CowStr<'_, Global>, ParseError>
+        ensures ok { IfOk result (λ text. IsNormalizedLocale input.now (cow_str_bytes text)
+            × (IsLent text ↔ (input.now ≡ cow_str_bytes text))) }
+        ensures err { IfErr result (Refusal (HasFault languages input.now) ⊤) }
+        ensures accepted { (L : meaning.Locale) → Means languages input.now L
+            → Accepts cow_str_bytes ⊤ (text L) result }
+        ensures refused { (f : Fault) → HasFault languages input.now f → Refuses ⊤ f result }
+        ensures memory { RunsOutOnlyIf (NormalizingWantsMemory input.now) result }
+        ensures out_of_memory { RunsOutOnlyIf (RefusedWithin M.refused (length input.now)) result }
+    {
+        Self::normalize_utf8_in(memory, input.as_bytes())
     }
 
     /// Whether the text of this locale parses back as it: the others ascend by singletons of their own, each

@@ -1,12 +1,14 @@
 //! Prints locales.
-ghost use Rattle.std.specs.Prelude.{◌≡◌, IfOk, IsOkAnd, OnErr, ◌++◌, Some};
+ghost use Rattle.std.specs.Prelude.{◌≡◌, IfOk, IsOkAnd, OnErr, ◌++◌, Some, length};
 ghost use Rattle.std.specs.Cow.{cow_str_bytes};
 ghost use Rattle.iloc_spec_grammar.specs.Values.{IsWellFormed, text, extensions_spelling};
+ghost use Rattle.iloc_memory.specs.Refusals.{RefusedWithin};
 ghost use Rattle.iloc_writeable.specs.Writing.{IsLent};
 ghost use Rattle.iloc_locale.specs.LocaleReading.{value_of, IsLanguageAlone, MeansOnly};
 ghost use Rattle.iloc_spec_grammar.specs.Syntax.{identifier_pieces};
 
 use crate::locale::Locale;
+use iloc_memory::Memory;
 use iloc_writeable::{Pieces, Sink, Writeable};
 use std::alloc::{AllocError, Global};
 use std::borrow::CowStr;
@@ -25,7 +27,22 @@ impl Locale {
         ensures owned { IfOk result (λ t. IsLent t → IsLanguageAlone self.now) }
         ensures memory { OnErr result (¬ (IsLanguageAlone self.now)) }
     {
-        Writeable::write_to_string(self, alloc)
+        self.write_to_string_in(alloc)
+    }
+
+    /// As `write_to_string`, from any memory. `AllocError` comes only if room for at most as many bytes as the text has
+    /// was refused.
+    pub fn write_to_string_in<M: Memory>(&self, memory: M) -> Result<CowStr<'_, Global>, AllocError>
+        ensures text { IfOk result (λ t. cow_str_bytes t ≡ text (value_of self.now)) }
+        ensures back { IsWellFormed (value_of self.now)
+            → IfOk result (λ t. MeansOnly (cow_str_bytes t) (value_of self.now)) }
+        ensures lent { IsLanguageAlone self.now → IsOkAnd result IsLent }
+        ensures owned { IfOk result (λ t. IsLent t → IsLanguageAlone self.now) }
+        ensures memory { OnErr result (¬ (IsLanguageAlone self.now)) }
+        ensures out_of_memory { OnErr result
+            (RefusedWithin M.refused (length (text (value_of self.now)))) }
+    {
+        Writeable::write_to_string_in(self, memory)
     }
 }
 

@@ -16,6 +16,7 @@
 
 ghost use Rattle.std.specs.Prelude.{◌≡◌, ◌+◌, ◌≤◌, ◌++◌, ◌∷◌, [], ℕ, ⊤, length, insert, OnOk, OnErr, IfOk};
 ghost use Rattle.std.specs.Vec.{vec_len, vec_capacity};
+ghost use Rattle.std.specs.String.{string_bytes, string_len, string_capacity};
 ghost use Rattle.iloc_memory.specs.Refusals.{RefusedWithin};
 
 use std::alloc::{AllocError, Global};
@@ -122,4 +123,29 @@ pub fn extend_from_slice<M: Memory, T: Copy>(
         unreachable!();
     };
     Ok(())
+}
+
+/// A copy of a text. Refusal: `AllocError`.
+#[inline(always)]
+pub fn string_of<M: Memory>(memory: M, text: &str) -> Result<String, AllocError>
+    ensures text { IfOk result (λ string. string_bytes string ≡ text.now) }
+    ensures out_of_memory { OnErr result (RefusedWithin M.refused (length text.now)) }
+{
+    let mut bytes = memory.with_capacity(text.len())?;
+    let Ok(()) = bytes.extend_from_slice(text.as_bytes()) else {
+        unreachable!();
+    };
+    Ok(unsafe { String::from_utf8_unchecked(bytes) })
+}
+
+/// An empty text with room for so many bytes. Refusal: `AllocError`.
+#[inline(always)]
+pub fn string_with_capacity<M: Memory>(memory: M, capacity: usize) -> Result<String, AllocError>
+    ensures text { IfOk result (λ string. string_bytes string ≡ []) }
+    ensures len { IfOk result (λ string. string_len string ≡ 0) }
+    ensures room { IfOk result (λ string. capacity ≤ string_capacity string) }
+    ensures out_of_memory { OnErr result (RefusedWithin M.refused capacity) }
+{
+    let bytes = memory.with_capacity(capacity)?;
+    Ok(unsafe { String::from_utf8_unchecked(bytes) })
 }

@@ -51,3 +51,12 @@ refusal Z mode t InvalidSubtag h = h
 refusal Z mode t InvalidExtension h = h
 refusal Z mode t DuplicatedExtension h = h
 refusal Z mode t OutOfMemory h = absurd h
+
+-- and is none of memory, whatever that would need
+pub refusal_is_no_want : (Z Wants : Type 0) (mode : Mode) (t : Text) (e : ParseError) → HasRefusal mode t e →
+    RunsOutOnlyIf {X = CowStr Z} Wants (Err e)
+refusal_is_no_want Z Wants mode t InvalidLanguage h = tt
+refusal_is_no_want Z Wants mode t InvalidSubtag h = tt
+refusal_is_no_want Z Wants mode t InvalidExtension h = tt
+refusal_is_no_want Z Wants mode t DuplicatedExtension h = tt
+refusal_is_no_want Z Wants mode t OutOfMemory h = absurd h

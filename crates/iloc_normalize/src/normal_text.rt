@@ -1,12 +1,15 @@
 //! Normal texts without values.
-ghost use Rattle.std.specs.Prelude.{◌≡◌, ◌≢◌, ◌↔◌, ◌≤◌, ◌<◌, IfOk, IfSome, IsTrue, length, take};
+ghost use Rattle.std.specs.Prelude.{◌≡◌, ◌≢◌, ◌↔◌, ◌≤◌, ◌<◌, IfOk, OnErr, IfSome, IsTrue, length, take};
 ghost use Rattle.std.specs.Str.{IsUtf8};
 ghost use Rattle.std.specs.String.{string_bytes};
 ghost use Rattle.iloc_spec_grammar.specs.Syntax.{Text, languages};
 ghost use Rattle.iloc_normalize.specs.Modes.{IsNormalText};
 ghost use Rattle.iloc_normalize.specs.NormalTexts.{IsNormalizedAs};
+ghost use Rattle.iloc_memory.specs.Refusals.{RefusedWithin};
+ghost use Rattle.iloc_subtags.specs.Judging.{RunsOutOnlyIf};
 
 use crate::Mode;
+use iloc_memory::{Memory, string_of};
 use iloc_pieces::load::load;
 use iloc_pieces::{are_same, lanes_begin_with_language, normal_plain};
 use iloc_subtags::ParseError;
@@ -17,13 +20,15 @@ use std::simd::prelude::*;
 
 /// The normal text of a plain identifier, borrowed exactly if the text is that already; or the refusal of a text of at most
 /// sixteen bytes that begins with no language. Both are the same in each mode. `None` says nothing of the text. Out of
-/// memory comes only if the text is not normal.
+/// memory comes only if the text is not normal, and room for at most as many bytes was refused.
 #[inline(always)]
-pub fn normalize_short(
-    alloc: Global,
+pub fn normalize_short<M: Memory>(
+    memory: M,
     input: &[u8],
 ) -> Option<Result<CowStr<'_, Global>, ParseError>>
-    ensures { (mode : Mode) → IfSome result (IsNormalizedAs mode input.now) }
+    ensures normal { (mode : Mode) → IfSome result (IsNormalizedAs mode input.now) }
+    ensures out_of_memory { IfSome result
+        (RunsOutOnlyIf (RefusedWithin M.refused (length input.now))) }
 {
     if input.len() > 16 {
         return None;
@@ -35,7 +40,7 @@ pub fn normalize_short(
     if text.is_normal {
         return Some(Ok(CowStr::Borrowed(unsafe { str::from_utf8_unchecked(input) })));
     }
-    match own_front(alloc, text.plain.bytes, text.plain.len) {
+    match own_front(memory, text.plain.bytes, text.plain.len) {
         Ok(text) => Some(Ok(CowStr::Owned(text))),
         Err(AllocError) => Some(Err(ParseError::OutOfMemory)),
     }
@@ -45,7 +50,8 @@ pub fn normalize_short(
 #[inline(always)]
 fn refuse_short<'a>(v: u8x16, len: usize) -> Option<Result<CowStr<'a, Global>, ParseError>>
     requires { len ≤ 16 }
-    ensures { (mode : Mode) → IfSome result (IsNormalizedAs mode (take len v)) }
+    ensures normal { (mode : Mode) → IfSome result (IsNormalizedAs mode (take len v)) }
+    ensures never { IfSome result (RunsOutOnlyIf ⊥) }
 {
     if lanes_begin_with_language(v, len) {
         return None;
@@ -55,13 +61,14 @@ fn refuse_short<'a>(v: u8x16, len: usize) -> Option<Result<CowStr<'a, Global>, P
 
 // The first bytes as a text of its own.
 #[inline(never)]
-fn own_front(alloc: Global, bytes: u8x16, len: usize) -> Result<String, AllocError>
+fn own_front<M: Memory>(memory: M, bytes: u8x16, len: usize) -> Result<String, AllocError>
     requires within { len ≤ 16 }
     requires utf8 { IsUtf8 (take len bytes) }
-    ensures { IfOk result (λ text. string_bytes text ≡ take len bytes) }
+    ensures text { IfOk result (λ text. string_bytes text ≡ take len bytes) }
+    ensures out_of_memory { OnErr result (RefusedWithin M.refused len) }
 {
     let front = &bytes.as_array()[..len];
-    String::from_str(alloc, unsafe { str::from_utf8_unchecked(front) })
+    string_of(memory, unsafe { str::from_utf8_unchecked(front) })
 }
 
 // Whether pieces of one length are the same.
@@ -122,31 +129,36 @@ fn are_same_texts(text: &[u8], other: &[u8]) -> bool
     }
 }
 
-/// The normal text of an input, borrowed exactly if it is the input. Out of memory comes only if it is not.
+/// The normal text of an input, borrowed exactly if it is the input. Out of memory comes only if it is not, and room for at
+/// most as many bytes as the normal text has was refused.
 #[inline(always)]
-pub fn text_of<'a>(
-    alloc: Global,
+pub fn text_of<'a, M: Memory>(
+    memory: M,
     input: &'a [u8],
     normal: &[u8],
 ) -> Result<CowStr<'a, Global>, ParseError>
     requires { IsUtf8 normal.now }
-    ensures { (mode : Mode) → IsNormalText languages mode input.now normal.now
+    ensures normal { (mode : Mode) → IsNormalText languages mode input.now normal.now
         → IsNormalizedAs mode input.now result }
+    ensures out_of_memory { RunsOutOnlyIf
+        (RefusedWithin M.refused (length normal.now)) result }
 {
     if are_same_texts(input, normal) {
         return Ok(CowStr::Borrowed(unsafe { str::from_utf8_unchecked(input) }));
     }
-    own_text(alloc, normal)
+    own_text(memory, normal)
 }
 
 // The normal text of an input that is not normal, in memory of its own. It is a call, so that others pay nothing for it.
 #[inline(never)]
-fn own_text<'a>(alloc: Global, normal: &[u8]) -> Result<CowStr<'a, Global>, ParseError>
+fn own_text<'a, M: Memory>(memory: M, normal: &[u8]) -> Result<CowStr<'a, Global>, ParseError>
     requires { IsUtf8 normal.now }
-    ensures { (mode : Mode) (t : Text) → IsNormalText languages mode t normal.now
+    ensures out_of_memory { RunsOutOnlyIf
+        (RefusedWithin M.refused (length normal.now)) result }
+    ensures normal { (mode : Mode) (t : Text) → IsNormalText languages mode t normal.now
         → t ≢ normal.now → IsNormalizedAs mode t result }
 {
-    match String::from_str(alloc, unsafe { str::from_utf8_unchecked(normal) }) {
+    match string_of(memory, unsafe { str::from_utf8_unchecked(normal) }) {
         Ok(text) => Ok(CowStr::Owned(text)),
         Err(AllocError) => Err(ParseError::OutOfMemory),
     }

@@ -152,7 +152,7 @@ impl Other {
             → Refuses ⊤ f result }
         ensures memory { RunsOutOnlyIf (OtherTextWants s.now) result }
     {
-        Self::try_from_str_in(alloc, s)
+        Self::try_from_utf8_in(alloc, s.as_bytes())
     }
 
     /// Parses a `str`, as `try_from_utf8_in` parses bytes.

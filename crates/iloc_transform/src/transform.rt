@@ -138,7 +138,7 @@ impl Transform {
             → Refuses ⊤ f result }
         ensures memory { RunsOutOnlyIf (TransformTextWants s.now) result }
     {
-        Self::try_from_str_in(alloc, s)
+        Self::try_from_utf8_in(alloc, s.as_bytes())
     }
 
     /// Parses a `str`, as `try_from_utf8_in` parses bytes.

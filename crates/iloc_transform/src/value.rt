@@ -111,7 +111,7 @@ impl Value {
             → Refuses ⊤ f result }
         ensures memory { RunsOutOnlyIf (FieldValueTextWants s.now) result }
     {
-        Self::try_from_str_in(alloc, s)
+        Self::try_from_utf8_in(alloc, s.as_bytes())
     }
 
     /// Parses a `str`, as `try_from_utf8_in` parses bytes.

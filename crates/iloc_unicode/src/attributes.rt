@@ -96,7 +96,7 @@ impl Attributes {
             → Accepts (λ a. a) ⊤ ws result }
         ensures memory { RunsOutOnlyIf (AttributesWantMemory (pieces s.now)) result }
     {
-        Attributes::try_from_str_in(alloc, s)
+        Attributes::try_from_utf8_in(alloc, s.as_bytes())
     }
 
     /// Parses a `str`, as `try_from_utf8_in` parses bytes.

@@ -135,7 +135,7 @@ impl Keywords {
             → Refuses ⊤ f result }
         ensures memory { RunsOutOnlyIf (KeywordsWantMemory (pieces s.now)) result }
     {
-        Keywords::try_from_str_in(alloc, s)
+        Keywords::try_from_utf8_in(alloc, s.as_bytes())
     }
 
     /// Parses a `str`, as `try_from_utf8_in` parses bytes.
@@ -220,19 +220,37 @@ impl Keywords {
         ensures succeeds { length self.old < 1 → IsOk result }
         ensures known { is_some (find word_cmp key self.old) ≡ true → IsOk result }
     {
+        self.set_in(alloc, key, value)
+    }
+
+    /// As `set`, from any memory. Refusal: `AllocError`, only if room for at most all the keywords was refused.
+    #[inline(always)]
+    pub fn set_in<M: Memory>(
+        &mut self,
+        memory: M,
+        key: Key,
+        value: Value,
+    ) -> Result<Option<Value>, AllocError>
+        ensures before { IfOk result (λ before. before ≡ find word_cmp key self.old) }
+        ensures ok { OnOk result (self.new ≡ put word_cmp key value self.old) }
+        ensures err { OnErr result (self.new ≡ self.old) }
+        ensures succeeds { length self.old < 1 → IsOk result }
+        ensures known { is_some (find word_cmp key self.old) ≡ true → IsOk result }
+        ensures out_of_memory { OnErr result (RefusedWithin M.refused (length self.old + 1)) }
+    {
         // A first pair needs no place.
         if self.is_empty() {
             self.put_first(key, value);
             return Ok(None);
         }
         if self.is_new(&key) {
-            self.put_new(alloc, key, value)?;
+            self.put_new(memory, key, value)?;
             return Ok(None);
         }
         if let Some(old) = self.get_mut(&key) {
             return Ok(Some(mem::replace(old, value)));
         }
-        self.put_new(alloc, key, value)?;
+        self.put_new(memory, key, value)?;
         Ok(None)
     }
 
@@ -250,11 +268,12 @@ impl Keywords {
 
     // Sets the value of a key. It stands apart, so that a key that is there pays nothing for a new one.
     #[inline(never)]
-    fn put_new(&mut self, alloc: Global, key: Key, value: Value) -> Result<(), AllocError>
+    fn put_new<M: Memory>(&mut self, memory: M, key: Key, value: Value) -> Result<(), AllocError>
         ensures ok { OnOk result (self.new ≡ put word_cmp key value self.old) }
         ensures err { OnErr result (self.new ≡ self.old) }
+        ensures out_of_memory { OnErr result (RefusedWithin M.refused (length self.old + 1)) }
     {
-        self.map.insert(alloc, key, value)?;
+        self.map.insert_in(memory, key, value)?;
         Ok(())
     }
 

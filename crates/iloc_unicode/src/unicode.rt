@@ -96,7 +96,7 @@ impl Unicode {
             → Refuses ⊤ f result }
         ensures memory { RunsOutOnlyIf (UnicodeTextWants s.now) result }
     {
-        Unicode::try_from_str_in(alloc, s)
+        Unicode::try_from_utf8_in(alloc, s.as_bytes())
     }
 
     /// Parses a `str`, as `try_from_utf8_in` parses bytes.

@@ -1,10 +1,12 @@
 //! Prints values.
-ghost use Rattle.std.specs.Prelude.{◌≡◌, ◌≢◌, ◌↔◌, ◌++◌, length, IsTrue, IfOk, IfSome, IsNone, Some};
+ghost use Rattle.std.specs.Prelude.{◌≡◌, ◌≢◌, ◌↔◌, ◌++◌, length, IsTrue, IfOk, OnErr, IfSome, IsNone, Some};
 ghost use Rattle.std.specs.Cow.{cow_str_bytes};
+ghost use Rattle.iloc_memory.specs.Refusals.{RefusedWithin};
 ghost use Rattle.iloc_writeable.specs.Writing.{IsLent};
 ghost use Rattle.iloc_spec_grammar.specs.Syntax.{Text, join, dashes};
 
 use crate::value::Value;
+use iloc_memory::Memory;
 use iloc_subtags::Subtag;
 use iloc_tinystr::ShortPiece;
 use iloc_writeable::pieces::Pieces;
@@ -45,10 +47,10 @@ impl Writeable for Value {
         }
     }
 
-    fn write_to_string(&self, alloc: Global) -> Result<CowStr<'_, Global>, AllocError> {
+    fn write_to_string_in<M: Memory>(&self, memory: M) -> Result<CowStr<'_, Global>, AllocError> {
         match self.writeable_borrow() {
             Some(text) => Ok(CowStr::Borrowed(text)),
-            None => text_of(self, alloc),
+            None => text_of(self, memory),
         }
     }
 }
@@ -71,11 +73,12 @@ impl<'a> Writeable for Owning<'a> {
 
 // The text in a string of its own. It stands apart, so that the text of one subtag does not wait for it.
 #[inline(never)]
-fn text_of(value: &Value, alloc: Global) -> Result<CowStr<'_, Global>, AllocError>
+fn text_of<M: Memory>(value: &Value, memory: M) -> Result<CowStr<'_, Global>, AllocError>
     ensures text { IfOk result (λ t. cow_str_bytes t ≡ join value.now) }
     ensures owned { IfOk result (λ t. IsLent t → ⊥) }
+    ensures out_of_memory { OnErr result (RefusedWithin M.refused (length (join value.now))) }
 {
-    match Owning(value).write_to_string(alloc)? {
+    match Owning(value).write_to_string_in(memory)? {
         CowStr::Owned(text) => Ok(CowStr::Owned(text)),
         CowStr::Borrowed(_) => unreachable!(),
     }

@@ -74,7 +74,7 @@ impl Value {
             → Refuses ⊤ f result }
         ensures memory { RunsOutOnlyIf (ValueTextWants s.now) result }
     {
-        Value::try_from_str_in(alloc, s)
+        Value::try_from_utf8_in(alloc, s.as_bytes())
     }
 
     /// Parses a `str`, as `try_from_utf8_in` parses bytes.

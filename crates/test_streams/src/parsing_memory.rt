@@ -1,14 +1,19 @@
-//! Parts that ask other memory than the heap for room, and a locale that is never refused any.
+//! Parts and texts that ask other memory than the heap for room, and locales and texts that are never refused any.
 
 use crate::memory::{UpTo, up_to};
+use iloc_data::LocalePreferences;
+use iloc_json::{JsonError, JsonText};
+use iloc_langid::LanguageIdentifier;
 use iloc_litemap::{GrowingStore, LiteMap};
-use iloc_locale::{Extensions, Locale, ample_memory};
+use iloc_locale::{Extensions, Locale, ample_memory, ample_normalizing, ample_printing};
 use iloc_memory::{Ample, Memory};
 use iloc_other::{Other, Private};
 use iloc_shortvec::ShortBoxSlice;
-use iloc_subtags::ParseError;
+use iloc_subtags::{ParseError, UnicodeKey};
 use iloc_transform::{Fields, Key, Transform, Value};
 use iloc_unicode::{Attributes, Keywords, Unicode};
+use iloc_word_list::Value as Subtags;
+use iloc_writeable::{Writeable, to_string_or_borrow_in};
 use std::alloc::{AllocError, Global};
 use std::process::Abort;
 use std::test::Fail;
@@ -89,6 +94,33 @@ fn fields(memory: UpTo) -> Result<usize, ParseError> {
     Ok(transform.fields.as_slice().len())
 }
 
+// How many of three keywords with two keys are set, in an extension that begins empty.
+fn set_keywords(memory: UpTo) -> Result<usize, ParseError> {
+    let mut unicode = Unicode::new();
+    for key in ["ca", "nu", "ca"] {
+        let value = Subtags::try_from_str_in(memory, "foo")?;
+        let key = UnicodeKey::try_from_str(key)?;
+        unicode.keywords.set_in(memory, key, value)?;
+    }
+    let extensions = Extensions::from_unicode_in(memory, unicode);
+    Ok(extensions.unicode.keywords.as_slice().len())
+}
+
+// Whether the locale of the preferences is that which the text means.
+fn preferred(memory: UpTo, text: &str) -> Result<bool, ParseError> {
+    let locale = Locale::try_from_str(memory.heap, text)?;
+    let preferred = LocalePreferences::from(&locale).to_locale_in(memory)?;
+    Ok(preferred == locale)
+}
+
+// Whether the JSON string of what the text means is read as that.
+fn stored(written: UpTo, read: UpTo, text: &str) -> Result<bool, JsonError> {
+    let locale = Locale::try_from_str(written.heap, text)?;
+    let json = locale.to_json_in(written)?;
+    let again = Locale::from_json_in(read, &json)?;
+    Ok(again == locale)
+}
+
 // How many pairs a map of two keys has, and a list of two pairs.
 fn pairs(memory: UpTo) -> Result<usize, AllocError> {
     let mut map: LiteMap<u8, u8, ShortBoxSlice<(u8, u8)>> = LiteMap::new(memory.heap);
@@ -135,6 +167,14 @@ fn maps_ask_for_room_for_their_pairs(rt: HostRuntime) -> Result<(), Fail> {
     let heap = rt.alloc();
     assert_eq!(rt; fields(up_to(1, heap)), Err(ParseError::OutOfMemory));
     assert_eq!(rt; fields(up_to(2, heap)), Ok(2));
+    assert_eq!(rt; set_keywords(up_to(1, heap)), Err(ParseError::OutOfMemory));
+    assert_eq!(rt; set_keywords(up_to(2, heap)), Ok(2));
+    let text = "en-US-u-rg-gbzzzz-sd-ustx";
+    assert_eq!(rt;
+        preferred(up_to(1, heap), text),
+        Err(ParseError::OutOfMemory)
+    );
+    assert_eq!(rt; preferred(up_to(2, heap), text), Ok(true));
     assert_eq!(rt; pairs(up_to(1, heap)), Err(AllocError));
     assert_eq!(rt; pairs(up_to(2, heap)), Ok(4));
     Ok(())
@@ -145,6 +185,61 @@ fn empty_values_ask_for_no_room(rt: HostRuntime) -> Result<(), Fail> {
     let none = up_to(0, rt.alloc());
     assert!(rt; Extensions::new_in(none).is_empty());
     assert_eq!(rt; Locale::unknown_in(none), Locale::unknown(rt.alloc()));
+    Ok(())
+}
+
+// How many bytes the normal text has, as an identifier and as a locale, from bytes and from a `str`.
+fn normalized(memory: UpTo, text: &str) -> Result<usize, ParseError> {
+    let bytes = text.as_bytes();
+    let id = LanguageIdentifier::normalize_utf8_in(memory, bytes)?.len()
+        + LanguageIdentifier::normalize_in(memory, text)?.len();
+    let locale = Locale::normalize_utf8_in(memory, bytes)?.len()
+        + Locale::normalize_in(memory, text)?.len();
+    Ok(id + locale)
+}
+
+// How many bytes the printed text has, of the identifier and of the locale, and beside the text itself.
+fn printed(memory: UpTo, text: &str) -> Result<usize, ParseError> {
+    let locale = Locale::try_from_str(memory.heap, text)?;
+    let id = locale.id.write_to_string_in(memory)?.len();
+    let whole = locale.write_to_string_in(memory)?.len();
+    let beside = to_string_or_borrow_in(memory, &locale, text.as_bytes())?.len();
+    Ok(id + whole + beside)
+}
+
+#[test]
+fn normal_texts_ask_for_room_for_their_bytes(rt: HostRuntime) -> Result<(), Fail> {
+    let (heap, refused) = (rt.alloc(), Err(ParseError::OutOfMemory));
+    assert_eq!(rt; normalized(up_to(0, heap), "en-US"), Ok(20));
+    assert_eq!(rt; normalized(up_to(4, heap), "EN-us"), refused);
+    assert_eq!(rt; normalized(up_to(5, heap), "EN-us"), Ok(20));
+    assert_eq!(rt; normalized(up_to(16, heap), "en-US-POSIX-aaaaa"), refused);
+    assert_eq!(rt; normalized(up_to(17, heap), "en-US-POSIX-aaaaa"), Ok(68));
+    let long = "EN-aaaaa-bbbbb-ccccc-ddddd-eeeee-fffff-ggggg-hhhhh-iiiii";
+    assert_eq!(rt; normalized(up_to(55, heap), long), refused);
+    assert_eq!(rt; normalized(up_to(56, heap), long), Ok(224));
+    Ok(())
+}
+
+#[test]
+fn printed_texts_ask_for_room_for_their_bytes(rt: HostRuntime) -> Result<(), Fail> {
+    let (heap, refused) = (rt.alloc(), Err(ParseError::OutOfMemory));
+    assert_eq!(rt; printed(up_to(0, heap), "en"), Ok(6));
+    assert_eq!(rt; printed(up_to(4, heap), "EN-us"), refused);
+    assert_eq!(rt; printed(up_to(5, heap), "EN-us"), Ok(15));
+    let long = "en-aaaaa-bbbbb-ccccc-ddddd-eeeee-fffff-ggggg-hhhhh-iiiii-jjjjj-kkkkk";
+    assert_eq!(rt; printed(up_to(67, heap), long), refused);
+    assert_eq!(rt; printed(up_to(68, heap), long), Ok(204));
+    Ok(())
+}
+
+#[test]
+fn json_asks_for_room_for_its_text_and_its_parts(rt: HostRuntime) -> Result<(), Fail> {
+    let (heap, text) = (rt.alloc(), "en-US-x-a-b-c-d-e");
+    let (all, refused) = (up_to(17, heap), Err(JsonError::OutOfMemory));
+    assert_eq!(rt; stored(up_to(16, heap), all, text), refused);
+    assert_eq!(rt; stored(all, up_to(4, heap), text), refused);
+    assert_eq!(rt; stored(all, up_to(5, heap), text), Ok(true));
     Ok(())
 }
 
@@ -200,5 +295,7 @@ fn with_ample_memory_each_text_is_answered(rt: HostRuntime) -> Result<(), Fail> 
         ample_memory(memory, b"en-foo").err(),
         Some(ParseError::InvalidSubtag)
     );
+    assert_eq!(rt; ample_printing(memory, &locale)?.len(), 36);
+    assert_eq!(rt; ample_normalizing(memory, b"EN-us")?.len(), 5);
     Ok(())
 }

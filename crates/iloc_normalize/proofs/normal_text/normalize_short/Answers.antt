@@ -10,18 +10,18 @@ use Rattle.iloc_normalize.proofs.PlainAnswers.{plain_normal}
 use Rattle.iloc_normalize.proofs.normal_text.normalize_short.Goals as goal
 
 pub from_utf8_unchecked-requires : goal.from_utf8_unchecked-requires
-from_utf8_unchecked-requires c =
+from_utf8_unchecked-requires g c =
     let h = subst (λ (t : Text). IsPlainText t c.in-Some.text) c.load-lanes.ensures c.in-Some.ensures in
     subst IsUtf8 (sym (h.exactly.0 c.if-text.true))
     (identifier_utf8 (value_of c.in-Some.text.plain) h.plain.value)
 
 pub own_front-requires-clause-utf8 : goal.own_front-requires-clause-utf8
-own_front-requires-clause-utf8 c =
+own_front-requires-clause-utf8 g c =
     let h = c.in-Some.ensures in
     subst IsUtf8 (sym h.plain.words.normal) (identifier_utf8 (value_of c.in-Some.text.plain) h.plain.value)
 
-pub returns-then-text : goal.returns-then-text
-returns-then-text c =
+pub returns-then-text-clause-normal : goal.returns-then-text-clause-normal
+returns-then-text-clause-normal g c =
     let h = subst (λ (t : Text). IsPlainText t c.in-Some.text) c.load-lanes.ensures c.in-Some.ensures in
     let same = c.from_utf8_unchecked.ensures ∙ h.exactly.0 c.if-text.true in
     λ mode. (
@@ -30,18 +30,18 @@ returns-then-text c =
       (λ _. sym c.from_utf8_unchecked.ensures, λ _. tt),
     )
 
-pub returns-in-Ok : goal.returns-in-Ok
-returns-in-Ok c =
+pub returns-in-Ok-clause-normal : goal.returns-in-Ok-clause-normal
+returns-in-Ok-clause-normal g c =
     let h = subst (λ (t : Text). IsPlainText t c.in-Some.text) c.load-lanes.ensures c.in-Some.ensures in
-    let owned = c.in-Ok.ensures ∙ h.plain.words.normal in
+    let owned = c.in-Ok.ensures.text ∙ h.plain.words.normal in
     λ mode. (
       subst (IsNormalText languages mode c.args.input.now) (sym owned)
           (plain_normal mode c.args.input.now c.in-Some.text.plain h.plain),
       (λ l. absurd l, λ e. absurd (true≢false (sym (h.exactly.1 (e ∙ owned)) ∙ c.if-text.false))),
     )
 
-pub returns-in-Err : goal.returns-in-Err
-returns-in-Err c =
+pub returns-in-Err-clause-normal : goal.returns-in-Err-clause-normal
+returns-in-Err-clause-normal g c =
     let h = subst (λ (t : Text). IsPlainText t c.in-Some.text) c.load-lanes.ensures c.in-Some.ensures in
     λ mode. (
       _,
@@ -49,7 +49,7 @@ returns-in-Err c =
       λ e. absurd (true≢false (sym (h.exactly.1 e) ∙ c.if-text.false)),
     )
 
-pub returns-in_default : goal.returns-in_default
-returns-in_default c =
+pub returns-in_default-clause-normal : goal.returns-in_default-clause-normal
+returns-in_default-clause-normal g c =
     λ mode. subst (λ (t : Text). IfSome c.refuse_short.result (IsNormalizedAs mode t)) c.load-lanes.ensures
-    (c.refuse_short.ensures mode)
+    (c.refuse_short.ensures.normal mode)

@@ -1,0 +1,21 @@
+-- what is owed to each text follows from what is read
+use Rattle.std.proofs.Common.{subst}
+use Rattle.iloc_other.specs.Reading.{PrivateTextReads, PrivateTextWants}
+use Rattle.iloc_subtags.specs.Judging.{RunsOutOnlyIf}
+use Rattle.iloc_other.proofs.OwedLemmas.{private_accepts, private_refuses}
+use Rattle.iloc_other.proofs.private.Private.try_from_str.Goals as goal
+use Rattle.iloc_spec_grammar.specs.Syntax.{Text}
+
+pub returns-clause-reads : goal.returns-clause-reads
+returns-clause-reads c = subst (λ (t : Text). PrivateTextReads t c.try_from_utf8_in.result)
+    c.as_bytes.ensures.value c.try_from_utf8_in.ensures.reads
+
+pub returns-clause-memory : goal.returns-clause-memory
+returns-clause-memory c = subst (λ (t : Text). RunsOutOnlyIf (PrivateTextWants t) c.try_from_utf8_in.result)
+    c.as_bytes.ensures.value c.try_from_utf8_in.ensures.memory
+
+pub returns-clause-accepted : goal.returns-clause-accepted
+returns-clause-accepted c = private_accepts c.args.s.now c.try_from_utf8_in.result (returns-clause-reads c)
+
+pub returns-clause-refused : goal.returns-clause-refused
+returns-clause-refused c = private_refuses c.args.s.now c.try_from_utf8_in.result (returns-clause-reads c)
