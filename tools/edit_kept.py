@@ -1,4 +1,4 @@
-"""Which mutants are to be tried, and the verdicts of this checkout.
+"""Which mutants are to be tried: the list of the named ones, and the verdicts of this checkout.
 
 A verdict holds for one text: of the mutant, of its crate, and of the code and definitions below. It stands in
 out/edits.tsv, and goes with the checkout. The repository keeps one line, tools/edits.tried: the commit on whose text all
@@ -14,7 +14,7 @@ from common import ROOT, read, rows_of, write
 from kit import LOGIC
 from sources import PROVED_PARTS, files_of
 
-KEPT, TRIED = f"{ROOT}/out/edits.tsv", "tools/edits.tried"
+KEPT, TRIED, NAMED = f"{ROOT}/out/edits.tsv", "tools/edits.tried", "tools/named_mutants.txt"
 EDIT_NAME = re.compile(r"[A-Za-z0-9_-][A-Za-z0-9_.-]*\.edit")
 
 
@@ -85,3 +85,18 @@ def newest_first(crates):
     """Returns the crates in the order of their last commits."""
     when = {it.name: git("log", "-1", "--format=%ct", "--", f"crates/{it.name}") or "0" for it in crates}
     return sorted(crates, key=lambda it: -int(when[it.name].strip() or 0))
+
+
+def listed():
+    """Returns the functions that must be refused, by CRATE/MUTANT, and what is wrong with the list."""
+    rows, wrong = {}, []
+    for line in rows_of(NAMED):
+        name, functions, *_ = [it.strip() for it in line.split("|")] + [""]
+        crates = {it.partition("::")[0] for it in functions.split()}
+        key = f"{min(crates, default='')}/{name}"
+        path = f"{ROOT}/crates/{os.path.dirname(key)}/edits/{name}.edit"
+        if len(crates) != 1 or key in rows or not os.path.isfile(path):
+            wrong.append(f"{name}: NOT TRIED: there is no {os.path.relpath(path, ROOT)}, or it is listed twice")
+        else:
+            rows[key] = tuple(functions.split())
+    return rows, wrong or ([] if rows else [f"{NAMED} names no mutant"])

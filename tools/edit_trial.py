@@ -1,33 +1,40 @@
 """How the edits of one crate are tried: many in one check where it can say which of them fail, else alone.
 
-An edit that stands in the body of one function is tried in a batch, which has one edit of each
-function: no other function's proof may use a body. After the check of a batch an edit is refused
-where its function, a closure in it, or its impl is not proved for a reason of its own. It waits
-for a later batch where its function only calls one that is not proved, and is tried alone where
-its function is still proved. A batch in which anything else is not proved for a reason of its own,
-or whose text cannot be read, says nothing, and is split. Every other edit (of a contract, a type, a
-constant, a definition, a proof, two places) is tried alone. What is tried alone is judged by rt's
-own must_fail, as in the gate.
+A check with `--only FUNCTION` reads the crate, and proves that function and what it calls. What such a check does not
+prove, no check of the crate would: a refusal here is a refusal of the crate. The right body of each function is known to be
+proved, of the library that was built of the present text, or of a check of the crate before any edit.
 
-Each check runs over a copy, by hard links, of what a check of the crate itself keeps in its
-out/incremental, so no check reads what an edit made."""
-import contextlib
+An edit that stands in the body of one function is tried in a batch, which has one edit of each function: no other function's
+proof may use a body. After the check of a batch an edit is refused where its function, a closure in it, or its impl is not
+proved for a reason of its own. It waits for a later batch where its function only calls one that is not proved, and is tried
+alone where its function is still proved. A batch in which anything else is not proved for a reason of its own, or whose text
+cannot be read, says nothing, and is split. Every other edit (of a contract, a type, a constant, a definition, a proof, two
+places), and one that is not refused so, is tried by a check of the whole crate, judged by rt's own must_fail. Of a named
+mutant only the functions of its row are checked, and each must be refused.
+
+The checks of a crate share a folder of what was checked, which begins as that of `rt check`. An edit that is tried alone, and
+not refused over it, or only by a limit, is tried again over none, and that verdict counts."""
 import os
 import re
 import resource
 import shutil
 import tempfile
 import time
+import types
 
 from common import reached
 from edit_places import placed
 from kit import AT_LIMIT, REFUSALS, read, rt, rtlib
+from libraries import is_fresh
 
 REFUSED, WAITS, ALONE = "refused", "waits", "alone"
 MOST = 24  # edits in a batch
+ENDS = "only="  # how the last line of a check of functions begins
 # By what an edit is refused. Only the first says that a contract rules its body out. A batch refuses
 # for that reason alone: what cannot be kept apart is tried alone, and judged by rt's words.
 GOAL, LIMIT, NAME = "goal", "limit", "name"
+WEAKEST = [None, LIMIT, NAME, GOAL]
+SEARCHED = "`search` did not prove"
 ONLY_NAMES = "only because a proof file names"
 # Errors of a proof file that names what is gone, or cites what is not proved: not yet a reason of
 # the function's own.
@@ -125,67 +132,94 @@ def own_reason(said, name, status):
     return (own or [f"{name}: {status}"])[0][:300] if own or not here else None
 
 
-class Trial:
-    """The checks of one crate with its edits made."""
+def names_proved(crate):
+    """Returns what a check calls the functions of the crate, by its library, or none if it has no library of
+    the present text."""
+    listed = read(f"{crate.rlib}/toolchain/checked.json") if crate.makes_rlib() and is_fresh(crate) else b""
+    found = re.findall(rf'"(?:part/)?Rattle-{crate.name}-proofs\.TheLinks\.([^"]+)"', listed.decode(errors="replace"))
+    return {it.replace("-", "::") for it in found}
 
-    # how the last line of a check begins
-    ends = "logic="
+
+def state_of(said, function):
+    """Returns by what the prover refused the function, or None, and what to say of it."""
+    mine = lambda kind, name: edits_at([types.SimpleNamespace(function=function)], kind, name)
+    statuses = [(name, status) for kind, name, status in STATUS.findall("\n".join(said)) if mine(kind, name)]
+    # (a function may have an open goal of its own and call another that is not proved)
+    is_own = lambda name, status: not RESTS.search(status) or SEARCHED in status or goals_of(said, name)
+    own = [it for it in statuses if is_own(*it)]
+    for name, status in own:
+        reason = own_reason(said, name, status) if status.startswith("no") else None
+        if reason:
+            return GOAL, reason
+    if any(status.startswith("no") for _, status in own):
+        return NAME, f"{function}: a proof file names what the mutant took away"
+    if own:
+        return LIMIT, f"{own[0][0]}: {own[0][1]}"[:300]
+    return None, f"{function}: " + (statuses[0][1][:300] if statuses else "still proved")
+
+
+class Trial:
+    """The checks of one crate with its edits made; of `named` mutants, the functions that must be refused for each."""
 
     flags = ["--jobs", "1"]
+    is_alone = False  # whether a check takes nothing of what is kept
 
-    def __init__(self, crate, options):
-        self.crate, self.options, self.calls = crate, options, {}
-        self.longest, self.spent = 0.0, 0.0
+    def __init__(self, crate, options, named=None):
+        self.crate, self.options, self.named, self.calls = crate, options, named, {}
+        self.longest, self.spent, self.kept = 0.0, 0.0, f"{crate.folder}/out/incremental"
 
     def is_over(self):
         return time.time() + self.longest > self.options.until
 
-    @contextlib.contextmanager
-    def kept(self, what):
-        """Gives a copy of what is kept, or that itself for a check of the crate itself."""
-        own = f"{self.crate.folder}/out/incremental"
-        with tempfile.TemporaryDirectory(prefix="edits-", dir=f"{self.crate.folder}/out") as room:
-            if what:
-                shutil.copytree(own, f"{room}/kept", copy_function=os.link)
-            yield f"{room}/kept" if what else own
-
-    def timed(self, what, call):
+    def timed(self, call):
         """Has call check over what is kept for it, and adds up the time."""
         used = lambda: sum(resource.getrusage(resource.RUSAGE_CHILDREN)[:2])
         began, before = time.time(), used()
-        with self.kept(what) as kept:
-            given = call(kept)
+        given = call(None if self.is_alone else self.kept)
         self.longest = max(self.longest, time.time() - began)
         self.spent += used() - before
         return given
 
-    def prepare(self):
-        """Checks the crate itself, and returns where its functions stand, or None where it is not
-        proved."""
-        ran = self.timed("", lambda kept: rt.checked(self.crate, {}, self.flags, kept))
-        is_proved = not ran.returncode and not rtlib.STALE.search(ran.stdout)
-        return self.place({*re.findall(r"^fn (\S+): ", ran.stdout, re.M)}) if is_proved else None
+    def checked(self, texts, functions=()):
+        """Checks the crate with these texts: all of it, or these functions."""
+        flags = [*self.flags, *(it for name in functions for it in ("--only", name))]
+        return self.timed(lambda kept: rt.checked(self.crate, texts, flags, kept))
 
-    def place(self, names):
-        """Returns where the functions stand to which a check gives these names, and notes what calls what."""
+    def prepare(self):
+        """Returns where the crate's functions stand, or None where it, or what is named of it, is not proved as it stands."""
+        names, is_named = names_proved(self.crate), self.named is not None
+        if not (is_fresh(self.crate) if is_named else names):
+            functions = {name for every in self.named.values() for name in every} if is_named else ()
+            ran = self.checked({}, sorted(functions))
+            if ran.returncode or rtlib.STALE.search(ran.stdout):
+                return None
+            names = names or {*re.findall(r"^fn (\S+): ", ran.stdout, re.M)}
+        self.keep_apart()
         blanked = rtlib.blanked(self.crate.folder)
         there = placed(self.crate, blanked, names)
         self.calls = calls_in({os.path.relpath(it, self.crate.folder): text.encode() for it, text in blanked.items()}, there)
         return there
 
-    def edit(self, path, there):
-        return Edit(self.crate, path, there)
+    def keep_apart(self):
+        """Has the checks of edits begin with a copy, by hard links, of what a check of the crate itself keeps."""
+        own, self.room = self.kept, tempfile.TemporaryDirectory(prefix="edits-", dir=f"{self.crate.folder}/out")
+        self.kept = f"{self.room.name}/kept"
+        shutil.copytree(own, self.kept, copy_function=os.link) if os.path.isdir(own) else os.mkdir(self.kept)
 
-    def flags_for(self, functions):
-        """Returns the flags of a check of edits in these functions."""
-        return self.flags
+    def edit(self, path, there):
+        made = Edit(self.crate, path, there)
+        if self.named is not None:
+            made.functions = self.named[made.name]
+            # (one that stands in two files, or is refused in two functions, is tried alone)
+            is_simple = hasattr(made, "file") and len(made.functions) == 1
+            made.function = made.functions[0] if is_simple else None
+        return made
 
     def batch(self, edits):
         """Checks these edits at once, and returns the verdict on each, or None where that check
         says nothing."""
-        texts, flags = together(self.crate, edits), self.flags_for([it.function for it in edits])
-        check = lambda kept: rt.checked(self.crate, texts, flags, kept)
-        ran = self.timed(f"a batch of {len(edits)}", check)
+        texts = together(self.crate, edits)
+        ran = self.checked(texts, [it.function for it in edits])
         verdicts, stray = self.judged(edits, texts, ran)
         if rtlib.STALE.search(ran.stdout):
             stray.append("the kept work of a library cannot be used")
@@ -199,7 +233,7 @@ class Trial:
         and what else was not proved for a reason of its own."""
         said = ran.stdout.rstrip("\n").split("\n")
         stray = [it for it in said if rt.unread(it, texts)]
-        if ran.returncode not in (0, 1) or not said[-1].startswith(self.ends):
+        if ran.returncode not in (0, 1) or not said[-1].startswith(ENDS):
             stray.append(said[0])
         verdicts = dict.fromkeys(edits, (ALONE, ""))
         for kind, name, status in STATUS.findall(ran.stdout):
@@ -269,6 +303,30 @@ class Trial:
 
     def alone(self, edit):
         """Returns by what an edit is refused that is tried alone, or None, and what to say."""
-        check = lambda kept: rt.must_fail(self.crate, edit.path, self.flags, kept)
-        verdict, text = self.timed(edit.name, check)
+        kind, text = self.twice(edit) if edit.functions else (None, "")
+        if kind or self.named is not None:
+            return kind, text
+        verdict, text = self.timed(lambda kept: rt.must_fail(self.crate, edit.path, self.flags, kept))
         return kind_of(verdict, text), text.partition(": ")[2]
+
+    def twice(self, edit):
+        """Returns by what the edit is refused in its functions, over what is kept or else over nothing."""
+        kind, text = self.once(edit)
+        if kind in (GOAL, NAME):
+            return kind, text
+        self.is_alone = True
+        try:
+            return self.once(edit)
+        finally:
+            self.is_alone = False
+
+    def once(self, edit):
+        """Returns by what the edit is refused in one check, the weakest of its functions, and what to say."""
+        ran = self.checked(edit.texts, edit.functions)
+        said = ran.stdout.rstrip("\n").split("\n")
+        bad = next((it for it in said if rt.unread(it, edit.texts)), "")
+        if bad or rtlib.STALE.search(ran.stdout) or not said[-1].startswith(ENDS):
+            return None, f"BAD EDIT: the prover cannot read it, or was not reached: {(bad or said[0])[:200]}"
+        states = [state_of(said, it) for it in edit.functions]
+        kind, text = min(states, key=lambda it: WEAKEST.index(it[0]))
+        return kind, f"refused: {text}" if kind == GOAL else f"NOT REFUSED by a goal: {text}"

@@ -1,7 +1,7 @@
 """The toolchain's command rt, loaded as a module: `rt` itself and `rtlib`, on which it stands.
 
 What the tools use of them: rt.read_edit, rt.checked, rt.unread, rt.must_fail, rt.in_lanes, rt.need,
-rt.processors, rt.KIT, rt.Crate, rt.handles_of, rt.ci, rt.share_work and rt.Kept if they are there, and rtlib's Crate,
+rt.processors, rt.KIT, rt.Crate, rt.handles_of; rt.Kept, rt.share_work, rt.REFUSED and rt.AT_LIMIT if they are there; rtlib's Crate,
 blanked, crates_below, kit_sources, guarded, lock, STALE. A new toolchain may change them.
 
 A crate's stamp, by which rt sees whether its library is that of the present text, is asked for once
