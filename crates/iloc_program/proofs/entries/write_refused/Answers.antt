@@ -31,8 +31,8 @@ returns g c =
     let place = subst (λ (m : Mode). IsFaultPlace m (text_in c.args.line) f.start f.end) c.mode-mode.ensures
     c.in-Some.ensures.refused in
     on_ok_weaker c.write_placed.result
-    (λ e. placed g.A.InMode.mode c.args.listing c.args.number (text_in c.args.line) (held c.args.replies.now) f
-    (held c.write_number.new.replies) (held c.write_placed.new.replies)
+    (λ e. placed g.A.InMode.mode c.args.listing c.args.number (text_in c.args.line)
+    (held c.args.replies.now) f (held c.write_number.new.replies) (held c.write_placed.new.replies)
     (record { refusal = c.requires; place = place })
     (not_false c.args.listing.places c.if-not-listing.false) c.in_ok-write_number.ensures e)
     c.write_placed.ensures
