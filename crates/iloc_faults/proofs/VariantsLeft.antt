@@ -1,10 +1,10 @@
 -- The variants that are left, and their numbers.
 use Rattle.std.proofs.Common.{◌≡◌, ℕ, zero, suc, ◌+◌, ◌<◌, Bool, true, false, List, [], ◌∷◌, ◌++◌}
 use Rattle.std.proofs.Common.{length, map, refl, sym, ap, ◌∙◌, subst}
-use Rattle.std.proofs.Common.{if◌then◌else◌, ◌||◌, get_or, drop}
+use Rattle.std.proofs.Common.{if◌then◌else◌, ◌||◌, ◌≤◌, get_or, drop, arith}
 use Rattle.std.specs.List.{AllByRecursion, list_any}
 use Rattle.std.specs.Ordering.{is_eq}
-use Rattle.std.proofs.lemmas.List.{map-append}
+use Rattle.std.proofs.lemmas.List.{length-map, map-append}
 use Rattle.iloc_spec_grammar.specs.Syntax.{Text, first_piece, Variant, IsWord, is_word, lower}
 use Rattle.iloc_spec_grammar.proofs.PiecesLaws.{at_pieces}
 use Rattle.iloc_spec_grammar.proofs.ReadBack.{all_append}
@@ -141,6 +141,19 @@ pub one_alone : (l : Cursor) → l.piece_length ≡ l.remaining → is_word Vari
     length (variants_left l) ≡ 1
 one_alone l e h =
     ap length (one_and_more l [] (last_piece l e (short_variant (piece_left l) h)).one h)
+
+-- one alone is new
+one_new : (ws : List Text) → length ws ≤ 1 → AreNew are_same [] ws (length ws)
+one_new [] few = tt
+one_new (w ∷ []) few = (refl, tt)
+one_new (w ∷ (v ∷ ws)) few = absurd (omega (arith, few))
+
+pub few_new : (l : Left) (n : ℕ) → n ≡ length (variants_left l) → n ≤ 1 →
+    AreNew are_same [] (map lower (variants_left l)) n
+few_new l n e few =
+    let long : length (map lower (variants_left l)) ≡ n = length-map (variants_left l) lower ∙ sym e in
+    subst (AreNew are_same [] (map lower (variants_left l))) long
+    (one_new (map lower (variants_left l)) (omega (arith, long, few)))
 
 -- ---- by places
 

@@ -168,13 +168,16 @@ fn count_by<const N: usize>(first: Cursor<'_>, all: usize) -> usize
 
 /// How many of the variants from the piece on come before one that repeats an earlier one, or before the end of them.
 ///
-/// It takes time in proportion to their number and its logarithm. More than 16,384 of them are kept in the room.
+/// It takes time in proportion to their number and its logarithm. More than 16,384 of them are kept in the room. Most
+/// variants stand alone, and are not sorted.
 #[inline(never)]
 pub fn count_new<R: Room>(room: R, first: Cursor<'_>) -> usize
     ensures { AreNew are_same [] (map lower (variants_left first.entry)) result }
 {
     let all = count_variants(first);
-    if all <= FEW {
+    if all <= 1 {
+        all
+    } else if all <= FEW {
         count_by::<FEW>(first, all)
     } else if all <= MANY {
         count_by::<SOME>(first, all)

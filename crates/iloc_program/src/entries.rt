@@ -13,7 +13,6 @@ use crate::quoting::{escaped_in, short_range, write_decimal, write_range, write_
 use crate::replies::{reason_of, write_refusal};
 use crate::{InMode, ReplyBlock};
 use iloc_faults::{Fault, InMemory, place_in};
-use iloc_normalize::Mode;
 use iloc_pieces::{Window, before_marked};
 use iloc_spans::spans::Spans;
 use iloc_subtags::ParseError;
@@ -54,7 +53,15 @@ impl<A: InMode> Lists for Listed<A> {
         let before = replies.len();
         match answer_in(mode, line, &mut self.spans, replies)? {
             Some(refusal) => {
-                write_refused(self.alloc, mode, listing, number, line, refusal, replies)
+                write_refused(
+                    self.alloc,
+                    &self.answers,
+                    listing,
+                    number,
+                    line,
+                    refusal,
+                    replies,
+                )
             }
             None if listing.only_refused => {
                 replies.truncate(before);
@@ -65,25 +72,26 @@ impl<A: InMode> Lists for Listed<A> {
     }
 }
 
-// Adds what is written for a line that is refused so.
+// Adds what is written for a line that is refused so. It is generic, so that each mode has its own walk to the place.
 #[inline(never)]
-fn write_refused(
+fn write_refused<A: InMode>(
     alloc: Global,
-    mode: Mode,
+    answers: &A,
     listing: Listing,
     number: u64,
     line: Window<'_>,
     refusal: ParseError,
     replies: &mut ReplyBlock,
 ) -> Result<(), AllocError>
-    requires { HasRefusal mode (text_in line) refusal }
-    ensures { OnOk result (AddsText (IsEntry mode listing number (text_in line.entry))
+    requires { HasRefusal A.mode (text_in line) refusal }
+    ensures { OnOk result (AddsText (IsEntry A.mode listing number (text_in line.entry))
         (held replies.old) (held replies.new)) }
 {
     write_number(listing, number, replies)?;
     if !listing.places {
         return write_refusal(refusal, replies);
     }
+    let mode = answers.mode();
     match place_in(InMemory(alloc), mode, line) {
         Some((start, end)) => {
             let fault = Fault {

@@ -1,6 +1,7 @@
 use Rattle.std.proofs.Common.{◌≡◌, ℕ, take, length, refl, ap, ◌∙◌, subst, Option, Some, None}
 use Rattle.iloc_subtags.specs.declared.parse_error.ParseError.{ParseError}
 use Rattle.iloc_normalize.specs.declared.Mode.{Mode}
+use Rattle.iloc_normalize.specs.Answered.{HasRefusal}
 use Rattle.iloc_pieces.specs.Window.{text_in}
 use Rattle.iloc_program.specs.Listing.{IsEntry}
 use Rattle.iloc_program.specs.Numbered.{AddsText}
@@ -8,6 +9,16 @@ use Rattle.iloc_program.specs.Replies.{AnswersLine}
 use Rattle.iloc_program.specs.ReplyBlock.{held}
 use Rattle.iloc_program.proofs.EntryLemmas.{entry_of, left_out}
 use Rattle.iloc_program.proofs.entries.ListedLists.list.Goals as goal
+
+pub write_refused-requires : goal.write_refused-requires
+write_refused-requires g c =
+    let line = text_in c.args.line in
+    let before = held c.args.replies.now in
+    let after = held c.answer_in.new.replies in
+    let is : AnswersLine c.mode-mode.result line before after (Some c.in-Some.refusal) =
+    subst (λ (o : Option ParseError). AnswersLine c.mode-mode.result line before after o) c.in-Some.is
+    c.in_ok-refusal.ensures in
+    subst (λ (m : Mode). HasRefusal m line c.in-Some.refusal) c.mode-mode.ensures is.0
 
 pub returns-in-Some : goal.returns-in-Some
 returns-in-Some g c =
@@ -17,8 +28,8 @@ returns-in-Some g c =
     let is : AnswersLine c.mode-mode.result line before after (Some c.in-Some.refusal) =
     subst (λ (o : Option ParseError). AnswersLine c.mode-mode.result line before after o) c.in-Some.is
     c.in_ok-refusal.ensures in
-    entry_of c.write_refused.result c.mode-mode.result g.A.InMode.mode c.args.listing c.args.number
-    line line after before (held c.write_refused.new.replies) c.mode-mode.ensures refl is.1
+    entry_of c.write_refused.result g.A.InMode.mode g.A.InMode.mode c.args.listing c.args.number
+    line line after before (held c.write_refused.new.replies) refl refl is.1
     c.write_refused.ensures
 
 pub returns-in-None : goal.returns-in-None
