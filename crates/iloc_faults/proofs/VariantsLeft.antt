@@ -148,7 +148,7 @@ one_new [] few = tt
 one_new (w ∷ []) few = (refl, tt)
 one_new (w ∷ (v ∷ ws)) few = absurd (omega (arith, few))
 
-pub few_new : (l : Left) (n : ℕ) → n ≡ length (variants_left l) → n ≤ 1 →
+pub few_new : (l : Cursor) (n : ℕ) → n ≡ length (variants_left l) → n ≤ 1 →
     AreNew are_same [] (map lower (variants_left l)) n
 few_new l n e few =
     let long : length (map lower (variants_left l)) ≡ n = length-map (variants_left l) lower ∙ sym e in
