@@ -1,4 +1,5 @@
-"""The table tools/calls.txt: its rows, what a call takes in each language, and what is wrong, by file and line."""
+"""The table tools/calls.txt: its rows, what a call takes in each language, and what is wrong with the form of a row, by file
+and line. What a row says wrongly the compilers and the prover find in what is written from it."""
 import re
 
 from written import faults_of
@@ -102,31 +103,8 @@ def wrong_in_row(row):
             yield f"the parameter `{it}` is not known. Write one of: {' '.join(sorted(PARAMETERS))}"
     if row.gives not in RESULTS:
         yield f"the result `{row.gives}` is not known. Write one of: {' '.join(RESULTS)}"
-    if not row.is_by_hand:
-        yield from wrong_in_export(row)
-
-
-def wrong_in_export(row):
-    """Yields what is wrong with the fields of a row from which an export is written."""
-    handle = "changes" if row.kind in ("change", "by") else "reads"
-    if row.kind not in KINDS:
-        yield f"the kind `{row.kind}` is not known. Write one of: {' '.join(KINDS)}"
-    elif row.takes[:1] != [handle]:
-        yield f"a call of the kind `{row.kind}` begins with the parameter `{handle}`. Write it first"
-    elif (row.kind == "tell") != (row.takes[-1] == "out"):
-        yield "`tell` alone hands out a text. Write `out` last there, and nowhere else"
-    elif (row.kind == "by") != ("from" in row.takes):
-        yield "`by` alone has another handle. Write `from` there, and nowhere else"
-    elif (row.kind == "ask") == (row.gives == "status"):
-        yield "`ask` alone gives no status. Write its result behind `->`, and none elsewhere"
-    if not row.module:
-        yield "the row stands in no module. Write a line such as `[variants] Calls on variants.` before it"
-    if not (row.thing and row.clause and row.says):
-        yield "a field is empty: the thing, what it gives, or the comment of the export"
-    if not re.fullmatch(r"(-|[a-z_]+|mode::[a-z_]+|[a-z]+ = .+)?", row.cpp):
-        yield f"the field for C++ is `{row.cpp}`. Write `-`, a name, a mode or a default, or leave it out"
-    if row.kind != "by" and row.cpp != "-" and {*row.asked} - {*TEXTS, "index"}:
-        yield "the member for C++ would take more than texts, so it is written by hand. Write `-` into the sixth field"
+    if not row.is_by_hand and (row.kind not in KINDS or not row.module):
+        yield f"the kind `{row.kind}` is none of {' '.join(KINDS)}, or no line such as `[variants] Calls on variants.` is above"
 
 
 def table_of(text):

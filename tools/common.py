@@ -63,7 +63,7 @@ def say(text):
     print(f"{os.path.basename(sys.argv[0])}: {text}", file=sys.stderr, flush=True)
 
 
-def start(main, stopped="stopped: what is proved is kept, and the same command goes on from there"):
+def start(main, stopped="stopped: the same command goes on from what is kept"):
     """Runs a script, and ends with its status; or after Ctrl-C with these words, which are those of one that may prove."""
     try:
         sys.exit(main())

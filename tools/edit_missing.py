@@ -1,7 +1,7 @@
 """The public functions and implementations without a mutant: tools/edits --missing.
 
 It looks at the crates on which the public crate, the library for C, the module for browsers and the program stand, and
-at these. There each `pub fn`, each default method of a trait, and each `impl` of a trait for a public type or a parameter
+at these. There each `pub fn`, each call of C, each default method of a trait, and each `impl` of a trait for a public type or a parameter
 needs a mutant: a file of edits/ that changes a text of its body. None is asked for an empty body, nor for a law, which
 takes and returns nothing; a derived implementation has no text.
 
@@ -61,7 +61,7 @@ def wanted(source, types):
     module = read_text(source.decode("latin-1"))[()]  # (in which each byte is a sign)
     every = [it for it in functions([module]) if blanked(it.body).strip("{} \n") and not LAW.match(it.text)]
     for it in every:
-        if it.is_public or it.owner and it.owner.kind == "trait":
+        if it.is_public or it.name.startswith("icu_locale_") or it.owner and it.owner.kind == "trait":
             yield f"{in_one_line(it.owner)}::{it.name}" if it.owner else it.name, [it.inside]
     for impl in [it for it in module.items if it.kind == "impl"]:
         inner = [it.inside for it in every if it.owner is impl]

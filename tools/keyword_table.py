@@ -1,4 +1,5 @@
-"""The table tools/keywords.txt: its rows, and what is wrong with them, by file and line."""
+"""The table tools/keywords.txt: its rows, and what is wrong with their form, by file and line. What a row says wrongly the
+compiler and the prover find in what is written from it."""
 import re
 
 from written import faults_of
@@ -6,8 +7,6 @@ from written import faults_of
 TABLE = "tools/keywords.txt"
 FIELDS = "key | type | what the type says | what its key names | default | texts and variants"
 NAME = re.compile(r"[A-Z][A-Za-z0-9]*")
-# Two-letter words of the language: a key is also the name of a function.
-TAKEN = {"as", "do", "fn", "if", "in"}
 
 
 class Keyword:
@@ -34,8 +33,6 @@ def wrong_in_row(row):
         return
     if not re.fullmatch("[a-z]{2}", row.key):
         yield f"the key `{row.key}` is not two lower-case letters. Write it as UTS #35 does"
-    if row.key in TAKEN:
-        yield f"the key `{row.key}` is a word of the language, so no function can have its name"
     if not NAME.fullmatch(row.name):
         yield f"the type `{row.name}` is no name of a type. Begin with a capital, and go on with letters and digits"
     if not row.key_says or not (row.says or row.by_hand):
@@ -43,14 +40,6 @@ def wrong_in_row(row):
     for pair in () if row.by_hand else row.pairs:
         if len(pair) != 2 or not NAME.fullmatch(pair[1]) or pair[1] == "Self":
             yield f"`{' '.join(pair)}` is not a text and its variant. Write: noignore NonIgnorable, shifted Shifted"
-    for it in row.texts:
-        if not re.fullmatch("[a-z0-9]{3,8}", it):
-            yield f"the text `{it}` is not 3 to 8 lower-case letters or digits. No value is read as it"
-    for what, every in (("text", row.texts), ("variant", row.variants)):
-        for it in sorted({it for it in every if every.count(it) > 1}):
-            yield f"the {what} `{it}` comes twice in this row. Leave one out"
-    if row.default and row.default not in row.variants:
-        yield f"the default `{row.default}` is no variant of this row. Name one of them, or leave the field empty"
 
 
 def rows_of(text):

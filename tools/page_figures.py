@@ -63,7 +63,6 @@ def listed():
     yield "wrong edits of the web package", files("bindings/web/edits/*.edit"), "# wrong edits of the scripts", ("docs/BINDINGS.md",)
     yield "minutes of other mutants", standing("test", r"EDITS_MINUTES:-(\d+)"), (
         r"for # minutes \(`?(?:or )?EDITS_MINUTES|`tools/edits --minutes #`|# minutes by the clock"), ("docs/GATE.md", "test")
-    yield "minutes of tools/attack", standing("tools/attack", r'"--minutes",[^)]*default=(\d+)'), "`tools/attack`, # minutes", ("docs/BINDINGS.md",)
     yield ("crates of the program", len(below("locale_normal", crates_of(f"{ROOT}/crates.txt"))), r"\(# crates,", ("docs/GATE.md",))
     yield "columns of definitions", WIDTH, "over # columns|`rt fmt`: at most # columns", ("CONTRIBUTING.md", "docs/GATE.md")
     yield ("vectors", lines("vectors/texts.in"), r"`texts\.in` \| # lines|`vectors/texts\.in` holds # texts|over the # texts|one text of all #",

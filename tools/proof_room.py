@@ -1,8 +1,8 @@
 """Proves crates by `rt ci` in a folder of its own, beside which all else goes on, and builds a program.
 
-The room has these crates and those below them, without their mutants. What `rt ci`
-proves there it keeps at once beside the toolchain, crate by crate, and takes from there in any checkout. So a run which is
-cut off loses only the proofs under way."""
+The room has these crates and those below them, without their mutants. Most toolchains' `rt ci` keeps what it proves at once
+beside the toolchain, crate by crate, and takes it from there in any checkout: a run that is cut off loses only the proofs under
+way. With one that keeps nothing, it loses all."""
 import os
 import re
 import shutil
@@ -20,6 +20,12 @@ PROVED = re.compile(r"rt: (\w+) proved$")
 # (said of what an earlier run proved)
 KEPT = re.compile(r"rt: (\w+) is kept: ")
 FAILED = re.compile(r"rt: (\w+)(: its tests are)? NOT PROVED")
+
+
+def keeps():
+    """Returns whether the toolchain's `rt ci` keeps what it proves: if so, it says of a crate that it is kept."""
+    with open(shutil.which("rt"), encoding="utf-8", errors="replace") as it:
+        return " is kept: " in it.read()
 
 
 def sweep():
@@ -87,6 +93,12 @@ class Proof(Ending):
             if proved:
                 far = f"{len(self.done)} of {len(self.names)} crates proved, {(time.time() - self.began) / 60:.0f} min"
                 self.say(f"{far} ({proved[1]})")
+
+    def stopped(self):
+        """Returns what to say of a run that was cut off."""
+        if not keeps():
+            return "stopped: this toolchain keeps nothing of a proof that is cut off"
+        return f"stopped: {len(self.done)} of {len(self.names)} crates are proved and kept; the same command goes on from there"
 
     def is_running(self):
         return self.process.poll() is None

@@ -3,7 +3,8 @@
  * objects objects       all parts of the locale that the line means, or "! " and the words of the refusal
  * objects two-objects   of each two lines the order of both locales, whether they are equal and are hashed alike, the byte
  *                       order of the first against the second line, and whether that line means it
- * objects script        what each step on one of four locales gives, and the text of the locale after it
+ * objects script        what each step on one of four locales gives, and the text of the locale after it; all its parts are
+ *                       read, with too little room too, and are those of that text
  *
  * Fields stand between tabs. tools/object_model.py says what is wanted. */
 #include "icu_locale.h"
@@ -370,6 +371,71 @@ static void take_two(icu_locale_t *at, const struct text *words)
     icu_locale_free(&twin);
 }
 
+/* Reads a part into the reply. Less room than it needs is left as it was, and so is what stands behind enough. */
+static void read_part(icu_locale_t *locale, reading call)
+{
+    static uint8_t room[LINE + 1];
+    size_t needed = 77;
+    icu_locale_status status = call(locale, REPLY);
+    if (status == ICU_LOCALE_NOT_FOUND ? replied != 0 : status != ICU_LOCALE_DONE)
+        stop("a part is not there");
+    if (replied == 0) {
+        if (call(locale, NULL, 0, &needed) != status || needed != 0)
+            stop("an empty part needs room");
+        return;
+    }
+    memset(room, '#', replied + 1);
+    if (call(locale, room, replied - 1, &needed) != ICU_LOCALE_BUFFER_TOO_SMALL || needed != replied
+        || room[0] != '#' || memcmp(room, room + 1, replied) != 0)
+        stop("too little room was written to");
+    if (call(locale, room, replied, &needed) != ICU_LOCALE_DONE || needed != replied
+        || memcmp(room, reply, replied) != 0 || room[replied] != '#')
+        stop("a part is written otherwise, or too far");
+}
+
+/* Stops unless a call on a text, which ended so, gave what stands in the reply. */
+static void is_reply(icu_locale_status status, const uint8_t *part, const size_t *length)
+{
+    if (status != ICU_LOCALE_DONE || *length != replied || memcmp(part, reply, replied) != 0)
+        stop("the text has another part");
+}
+
+/* Reads each part of the locale: the call on its text gives the same. (Of one that is not well-formed the text means
+ * something else.) Behind the last of its parts there is none. */
+static void see_parts(icu_locale_t *locale)
+{
+    static const struct {
+        reading of_handle;
+        icu_locale_status (*of_text)(icu_locale_mode, const uint8_t *, size_t, uint8_t *, size_t, size_t *);
+    } calls[] = {{icu_locale_to_string, icu_locale_normalize}, {icu_locale_get_base_name, icu_locale_base_name_of},
+        {icu_locale_get_language, icu_locale_language_of}, {icu_locale_get_script, icu_locale_script_of},
+        {icu_locale_get_region, icu_locale_region_of}};
+    static uint8_t text[LINE], part[LINE];
+    size_t length, needed;
+    int is_und = icu_locale_is_und(locale);
+    if (icu_locale_to_string(locale, text, sizeof text, &length) != ICU_LOCALE_DONE || icu_locale_cmp_bytes(locale, text, length) != 0)
+        stop("a locale is not its own text");
+    if (is_und != (length == 3 && memcmp(text, "und", 3) == 0) || is_und != (locale->at == NULL))
+        stop("und is held, or another locale is not");
+    if (icu_locale_get_variant(locale, icu_locale_variant_count(locale), REPLY) != ICU_LOCALE_NOT_FOUND
+        || icu_locale_get_attribute(locale, icu_locale_attribute_count(locale), REPLY) != ICU_LOCALE_NOT_FOUND
+        || icu_locale_get_keyword_key(locale, icu_locale_keyword_count(locale), REPLY) != ICU_LOCALE_NOT_FOUND)
+        stop("a part stands behind the last");
+    for (size_t i = 0; i < COUNT(calls); i++) {
+        read_part(locale, calls[i].of_handle);
+        if (icu_locale_is_well_formed(locale))
+            is_reply(calls[i].of_text(ICU_LOCALE_LOCALE, text, length, part, sizeof part, &needed), part, &needed);
+    }
+    for (size_t i = 0; i < icu_locale_keyword_count(locale); i++) {
+        uint8_t key[2];
+        if (icu_locale_get_keyword_key(locale, i, key, sizeof key, &needed) != ICU_LOCALE_DONE || needed != sizeof key
+            || icu_locale_get_keyword_value(locale, i, REPLY) != ICU_LOCALE_DONE)
+            stop("a keyword is not there");
+        if (icu_locale_is_well_formed(locale))
+            is_reply(icu_locale_keyword_of(ICU_LOCALE_LOCALE, text, length, key, sizeof key, part, sizeof part, &needed), part, &needed);
+    }
+}
+
 /* Cuts the first line at its tabs. */
 static void split(struct text *words)
 {
@@ -393,6 +459,7 @@ static void answer_script(void)
         icu_locale_t *at = slot(&words[1]);
         if (!take_change(at, words) && !take_question(at, words))
             take_two(at, words);
+        see_parts(at);
         putchar('\t');
         write_part(icu_locale_to_string(at, REPLY));
         putchar('\n');

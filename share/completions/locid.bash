@@ -1,4 +1,4 @@
-# Completion of locid for bash. tools/write_options writes this from tools/locid_options.txt.
+# Completion of locid for bash. tools/write_options --check compares this with tools/locid_options.txt.
 _locid() {
     local current=${COMP_WORDS[COMP_CWORD]} before=${COMP_WORDS[COMP_CWORD - 1]} words
     COMPREPLY=()

@@ -1,4 +1,4 @@
-# Completion of locid for fish. tools/write_options writes this from tools/locid_options.txt.
+# Completion of locid for fish. tools/write_options --check compares this with tools/locid_options.txt.
 complete -c locid -n 'not __fish_seen_subcommand_from normalize check parts' -f -a normalize -d 'Writes the normal form of each line, or `! ` and why the line is refused.'
 complete -c locid -n 'not __fish_seen_subcommand_from normalize check parts' -f -a check -d 'Writes where and why lines are refused, as FILE:LINE:COLUMN: REASON: SUBTAG: ADVICE.'
 complete -c locid -n 'not __fish_seen_subcommand_from normalize check parts' -f -a parts -d 'Writes the parts of each line, in columns or as JSON.'

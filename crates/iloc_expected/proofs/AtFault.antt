@@ -11,7 +11,7 @@ use Rattle.iloc_spec_grammar.specs.Syntax as grammar
 use Rattle.iloc_spec_grammar.proofs.PartTexts.{join-dashes}
 use Rattle.iloc_spec_grammar.proofs.PiecesLaws.{pieces-join, pieces_hyphen_free}
 use Rattle.iloc_spec_grammar.proofs.ReadBack.{all_append}
-use Rattle.iloc_pieces.proofs.LeftLemmas.{dashed}
+use Rattle.iloc_pieces.proofs.CursorLemmas.{dashed}
 use Rattle.iloc_normalize.specs.declared.Mode.{Mode}
 use Rattle.iloc_faults.specs.Places.{GoOn, StandsAtPiece, IsFaultPlace}
 use Rattle.iloc_faults.proofs.OnePlace.{fewer}

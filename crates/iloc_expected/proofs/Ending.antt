@@ -6,9 +6,9 @@ use Rattle.std.proofs.Common.{inl, inr}
 use Rattle.std.proofs.lemmas.Bool.{cases_Bool}
 use Rattle.iloc_spec_grammar.specs.Syntax.{Text, Variant, pieces, join, lower, is_word}
 use Rattle.iloc_spec_grammar.proofs.PiecesLaws.{pieces-join, pieces_nonempty}
-use Rattle.iloc_pieces.specs.Left.{IsShortPiece, piece_left, pieces_left, bytes_left}
-use Rattle.iloc_pieces.specs.declared.cursor.Left.{Left}
-use Rattle.iloc_pieces.proofs.LeftLemmas.{last_piece, length_piece}
+use Rattle.iloc_pieces.specs.Cursor.{IsShortPiece, piece_left, pieces_left, bytes_left}
+use Rattle.iloc_pieces.specs.declared.place.Cursor.{Cursor}
+use Rattle.iloc_pieces.proofs.CursorLemmas.{last_piece, length_piece}
 use Rattle.iloc_normalize.specs.declared.Mode.{Mode}
 use Rattle.iloc_faults.specs.Next.{started, next}
 use Rattle.iloc_faults.specs.States.{AreVariantsRead, AreNew, are_same, first_variants}
@@ -25,14 +25,14 @@ use Rattle.iloc_expected.proofs.Walk.{piece_free, ran_one, reading_is, without_e
 -- ---- the last piece with a hyphen behind it
 
 -- its bytes
-pub again_bytes : (at again : Left) (slice all : Text) → IsShortPiece (piece_left at) →
-    slice ≡ piece_left at → bytes_left again ≡ take (at.n + 1) all →
+pub again_bytes : (at again : Cursor) (slice all : Text) → IsShortPiece (piece_left at) →
+    slice ≡ piece_left at → bytes_left again ≡ take (at.piece_length + 1) all →
     take (length slice + 1) all ≡ slice ++ 45 ∷ [] → bytes_left again ≡ piece_left at ++ 45 ∷ []
 again_bytes at again slice all short cut e f =
     e ∙ ap (λ k. take (k + 1) all) (length_piece at short ∙ ap length (sym cut)) ∙ f
     ∙ ap (λ q. q ++ 45 ∷ []) cut
 
-module _ (at again : Left) (short : IsShortPiece (piece_left at)) (end : at.n ≡ at.len)
+module _ (at again : Cursor) (short : IsShortPiece (piece_left at)) (end : at.piece_length ≡ at.remaining)
     (bytes : bytes_left again ≡ piece_left at ++ 45 ∷ []) where
   -- it is followed by an empty piece
   pub two_left : pieces_left again ≡ piece_left at ∷ [] ∷ []
@@ -85,7 +85,8 @@ module _ (at again : Left) (short : IsShortPiece (piece_left at)) (end : at.n �
         by (d ∷ f ∷ []) e stops = cc
         by (d ∷ f ∷ g ∷ done) e stops = cc
 
-    pub some_again : (r : Reading) (last : Left) → IsReadOn mode ps again last r → last.n ≡ last.len →
+    pub some_again : (r : Reading) (last : Cursor) → IsReadOn mode ps again last r
+        → last.piece_length ≡ last.remaining →
         IsReading mode (ps ++ (piece_left at ∷ [])) r
     some_again r last h n = by h.done (sym two_left ∙ h.cut) h.up_to
       where
@@ -106,7 +107,7 @@ module _ (at again : Left) (short : IsShortPiece (piece_left at)) (end : at.n �
 
 -- ---- whether the piece was read
 
-module _ (mode : Mode) (keyed : Bool) (part : Part) (vs : List Text) (seen : List ℕ) (at : Left) where
+module _ (mode : Mode) (keyed : Bool) (part : Part) (vs : List Text) (seen : List ℕ) (at : Cursor) where
   pub piece_none : (o : Option Reading) (b : Bool) → is_some o ≡ not b → b ≡ true →
       IsPieceTaken mode keyed part vs seen at o → next mode (reached part vs seen) (piece_left at) ≡ None
   piece_none None b e t h = h
@@ -119,10 +120,10 @@ module _ (mode : Mode) (keyed : Bool) (part : Part) (vs : List Text) (seen : Lis
 
 -- ---- all pieces
 
-module _ (mode : Mode) (t : Text) (from last : Left) (r : Reading) (all : pieces_left from ≡ pieces t)
+module _ (mode : Mode) (t : Text) (from last : Cursor) (r : Reading) (all : pieces_left from ≡ pieces t)
     (h : IsReadOn mode [] from last r) where
   -- the last piece is empty
-  pub empty_is : last.len ≡ 0 → IsReading mode (without_empty (pieces t)) r
+  pub empty_is : last.remaining ≡ 0 → IsReading mode (without_empty (pieces t)) r
   unfolding pieces
   empty_is e =
       let none : bytes_left last ≡ [] = ap (λ n. take n (drop last.at last.window.now)) e in
@@ -131,12 +132,12 @@ module _ (mode : Mode) (t : Text) (from last : Left) (r : Reading) (all : pieces
       subst (λ (qs : List Text). IsReading mode qs r) (sym (ap without_empty cut ∙ without_end h.done))
       (reading_is h.up_to)
 
-  some_last : last.n ≡ last.len → last.len ≢ 0 → piece_left last ≢ []
+  some_last : last.piece_length ≡ last.remaining → last.remaining ≢ 0 → piece_left last ≢ []
   some_last n m e =
       let short : IsShortPiece (piece_left last) = omega (arith, ap length e) in
       let l = length_piece last short in m (omega (arith, ap length e))
 
-  pub refused_is : last.n ≡ last.len → last.len ≢ 0 →
+  pub refused_is : last.piece_length ≡ last.remaining → last.remaining ≢ 0 →
       next mode (reached r.state.part h.up_to.variants h.up_to.seen) (piece_left last) ≡ None →
       ¬ (GoOn mode (without_empty (pieces t)))
   refused_is n m e =
@@ -146,7 +147,8 @@ module _ (mode : Mode) (t : Text) (from last : Left) (r : Reading) (all : pieces
       ∙ with_piece h.done (piece_left last) rest.0 (some_last n m))
       (ran_one h.up_to (piece_left last) None e)
 
-  pub all_is : last.n ≡ last.len → last.len ≢ 0 → IsShortPiece (piece_left last) → (o : Option Reading) →
+  pub all_is : last.piece_length ≡ last.remaining → last.remaining ≢ 0 → IsShortPiece (piece_left last)
+      → (o : Option Reading) →
       AreRead mode (h.done ++ (piece_left last ∷ [])) o → AreRead mode (without_empty (pieces t)) o
   all_is n m short o =
       let one = (last_piece last n short).one in

@@ -10,9 +10,9 @@ use Rattle.iloc_spec_grammar.specs.Syntax.{IsHyphenFree}
 use Rattle.iloc_spec_grammar.specs.Syntax.{TransformKey}
 use Rattle.iloc_spec_grammar.specs.Syntax as grammar
 use Rattle.iloc_spec_grammar.proofs.PiecesLaws.{pieces_hyphen_free, join-pieces, at_pieces}
-use Rattle.iloc_pieces.proofs.LeftLemmas.{dashed, length_piece, length_rest}
-use Rattle.iloc_pieces.specs.Left.{IsNextPiece, IsShortPiece, piece_left, pieces_left, bytes_left}
-use Rattle.iloc_pieces.specs.declared.cursor.Left.{Left}
+use Rattle.iloc_pieces.proofs.CursorLemmas.{dashed, length_piece, length_rest}
+use Rattle.iloc_pieces.specs.Cursor.{IsNextPiece, IsShortPiece, piece_left, pieces_left, bytes_left}
+use Rattle.iloc_pieces.specs.declared.place.Cursor.{Cursor}
 use Rattle.iloc_normalize.specs.declared.Mode.{Mode}
 use Rattle.iloc_normalize.specs.declared.Mode.TheVariants.{Langid, Locale, Data}
 use Rattle.iloc_faults.specs.declared.state.Part.{Part}
@@ -123,11 +123,11 @@ next_more mode part vs seen p r e = elim (cases_Bool (begins_block part p)) [
 -- ---- the walk
 
 -- a piece has no hyphens
-pub piece_free : (at : Left) → IsHyphenFree (piece_left at)
+pub piece_free : (at : Cursor) → IsHyphenFree (piece_left at)
 piece_free at = let rest = some_left at in
     (subst (AllByRecursion IsHyphenFree) rest.1 (pieces_hyphen_free (bytes_left at))).0
 
-pub read_starts : (mode : Mode) (at : Left) →
+pub read_starts : (mode : Mode) (at : Cursor) →
     IsReadUpTo mode [] at
     (record { state = record { part = Start; variants = None; seen = 0 }; keyed = false })
 read_starts mode at = record {
@@ -140,7 +140,7 @@ read_starts mode at = record {
   place = (refl, refl);
 }
 
-module _ {mode : Mode} {ps : List Text} {at : Left} {r : Reading} (h : IsReadUpTo mode ps at r) where
+module _ {mode : Mode} {ps : List Text} {at : Cursor} {r : Reading} (h : IsReadUpTo mode ps at r) where
   abbrev now : Reached
   now = reached r.state.part h.variants h.seen
 
@@ -150,7 +150,7 @@ module _ {mode : Mode} {ps : List Text} {at : Left} {r : Reading} (h : IsReadUpT
       ∙ ap (λ q. run mode q []) e
 
   -- one piece more
-  pub read_more : {m : Left} (q : Reading) →
+  pub read_more : {m : Cursor} (q : Reading) →
       IsPieceTaken mode r.keyed r.state.part h.variants h.seen at (Some q) → IsNextPiece at m →
       IsReadUpTo mode (ps ++ (piece_left at ∷ [])) m q
   read_more {m = m} q (x, k) n = record {
@@ -175,35 +175,36 @@ nothing : join ([] ∷ []) ≡ []
 unfolding join
 nothing = refl
 
-module _ {mode : Mode} {ps : List Text} {from at : Left} {r : Reading} (h : IsReadOn mode ps from at r) where
-  pub loop_on : {m : Left} (q : Reading) →
-      IsPieceTaken mode r.keyed r.state.part h.up_to.variants h.up_to.seen at (Some q) → IsNextPiece at m →
-      IsReadOn mode ps from m q
-  loop_on {m = m} q x n = record {
-    done = h.done ++ (piece_left at ∷ []);
-    cut = h.cut ∙ ap (λ qs. h.done ++ qs) n.pieces
-        ∙ sym (append_assoc h.done (piece_left at ∷ []) (pieces_left m));
-    up_to = subst (λ (qs : List Text). IsReadUpTo mode qs m q) (append_assoc ps h.done (piece_left at ∷ []))
-        (read_more h.up_to q x n);
-  }
+module _ {mode : Mode} {ps : List Text} {from at : Cursor} {r : Reading} (h : IsReadOn mode ps from at r)
+  where
+    pub loop_on : {m : Cursor} (q : Reading) →
+        IsPieceTaken mode r.keyed r.state.part h.up_to.variants h.up_to.seen at (Some q) → IsNextPiece at m →
+        IsReadOn mode ps from m q
+    loop_on {m = m} q x n = record {
+      done = h.done ++ (piece_left at ∷ []);
+      cut = h.cut ∙ ap (λ qs. h.done ++ qs) n.pieces
+          ∙ sym (append_assoc h.done (piece_left at ∷ []) (pieces_left m));
+      up_to = subst (λ (qs : List Text). IsReadUpTo mode qs m q) (append_assoc ps h.done (piece_left at ∷ []))
+          (read_more h.up_to q x n);
+    }
 
-  pub loop_stops : at.n ≢ at.len →
-      next mode (reached r.state.part h.up_to.variants h.up_to.seen) (piece_left at) ≡ None →
-      IsStopped mode ps from
-  loop_stops n e = let rest = some_left at in record {
-    done = h.done;
-    piece = piece_left at;
-    rest = rest.0;
-    cut = h.cut ∙ ap (λ qs. h.done ++ qs) rest.1;
-    counts = λ z f. let none : bytes_left at ≡ [] = sym (join-pieces (bytes_left at))
-        ∙ ap join (rest.1 ∙ ap (λ qs. piece_left at ∷ qs) f ∙ ap (λ q. q ∷ []) z) ∙ nothing in
-        let short : IsShortPiece (piece_left at) = omega (arith, ap length z) in
-        let l = length_piece at short in
-        n (omega (arith, l, ap length z, length_rest at, ap length none));
-    stops = ran_one h.up_to (piece_left at) None e;
-  }
+    pub loop_stops : at.piece_length ≢ at.remaining →
+        next mode (reached r.state.part h.up_to.variants h.up_to.seen) (piece_left at) ≡ None →
+        IsStopped mode ps from
+    loop_stops n e = let rest = some_left at in record {
+      done = h.done;
+      piece = piece_left at;
+      rest = rest.0;
+      cut = h.cut ∙ ap (λ qs. h.done ++ qs) rest.1;
+      counts = λ z f. let none : bytes_left at ≡ [] = sym (join-pieces (bytes_left at))
+          ∙ ap join (rest.1 ∙ ap (λ qs. piece_left at ∷ qs) f ∙ ap (λ q. q ∷ []) z) ∙ nothing in
+          let short : IsShortPiece (piece_left at) = omega (arith, ap length z) in
+          let l = length_piece at short in
+          n (omega (arith, l, ap length z, length_rest at, ap length none));
+      stops = ran_one h.up_to (piece_left at) None e;
+    }
 
-pub loop_starts : (mode : Mode) (ps : List Text) (from : Left) (r : Reading) → IsReadUpTo mode ps from r →
+pub loop_starts : (mode : Mode) (ps : List Text) (from : Cursor) (r : Reading) → IsReadUpTo mode ps from r →
     IsReadOn mode ps from from r
 loop_starts mode ps from r h = record {
   done = [];
@@ -217,11 +218,11 @@ pub front_free : (xs ys : List Text) → AllByRecursion IsHyphenFree (xs ++ ys) 
 front_free [] ys h = tt
 front_free (x ∷ xs) ys h = (h.0, front_free xs ys h.1)
 
-none_are : (o : Option ℕ) (at : Left) (vs : List Text) → AreVariantsRead o at vs → (o ≡ None) ↔ (vs ≡ [])
+none_are : (o : Option ℕ) (at : Cursor) (vs : List Text) → AreVariantsRead o at vs → (o ≡ None) ↔ (vs ≡ [])
 none_are None at vs h = ((λ e. h), (λ e. refl))
 none_are (Some n) at vs h = ((λ e. cc), (λ e. absurd (h.0 e)))
 
-pub reading_is : {mode : Mode} {ps : List Text} {at : Left} {r : Reading} → IsReadUpTo mode ps at r →
+pub reading_is : {mode : Mode} {ps : List Text} {at : Cursor} {r : Reading} → IsReadUpTo mode ps at r →
     IsReading mode ps r
 reading_is {at = at} {r = r} h = record {
   variants = h.variants;
@@ -271,7 +272,7 @@ with_counts ps [] [] n = absurd (n refl refl)
 with_counts ps [] (q ∷ rest) n = with_more ps [] q rest
 with_counts ps (c ∷ p) rest n = with_piece ps (c ∷ p) rest (λ e. cc)
 
-pub stopped_is : (mode : Mode) (t : Text) (from : Left) → pieces_left from ≡ pieces t →
+pub stopped_is : (mode : Mode) (t : Text) (from : Cursor) → pieces_left from ≡ pieces t →
     IsStopped mode [] from → ¬ (GoOn mode (without_empty (pieces t)))
 stopped_is mode t from all h = no_more mode h.done h.piece (without_empty h.rest) _
     (ap without_empty (sym all ∙ h.cut) ∙ with_counts h.done h.piece h.rest h.counts) h.stops

@@ -4,8 +4,8 @@ use Rattle.std.specs.Prelude.{Option, Some, None, ◌+◌, ◌≢◌, not}
 use Rattle.std.specs.List.{AllByRecursion, list_any}
 use Rattle.iloc_spec_grammar.specs.Syntax.{Text, code_t, code_u, code_x, is_word, is_other_singleton}
 use Rattle.iloc_spec_grammar.specs.Syntax.{TransformKey, UnicodeKey, IsHyphenFree}
-use Rattle.iloc_pieces.specs.Left.{piece_left, pieces_left}
-use Rattle.iloc_pieces.specs.declared.cursor.Left.{Left}
+use Rattle.iloc_pieces.specs.Cursor.{piece_left, pieces_left}
+use Rattle.iloc_pieces.specs.declared.place.Cursor.{Cursor}
 use Rattle.iloc_normalize.specs.declared.Mode.{Mode}
 use Rattle.iloc_normalize.specs.declared.Mode.TheVariants.{Langid, Locale, Data}
 use Rattle.iloc_faults.specs.Places.{GoOn}
@@ -73,14 +73,14 @@ keyed_after keyed Keyword p = keyed || is_word UnicodeKey p
 keyed_after keyed _ p = false
 
 -- what is read with the piece is so, and behind the piece the state tells it
-abbrev pub IsPieceTaken : Mode → Bool → Part → List Text → List ℕ → Left → Option Reading → Type 0
+abbrev pub IsPieceTaken : Mode → Bool → Part → List Text → List ℕ → Cursor → Option Reading → Type 0
 IsPieceTaken mode keyed part vs seen at None = next mode (reached part vs seen) (piece_left at) ≡ None
 IsPieceTaken mode keyed part vs seen at (Some r) = IsStatePieceRead at
     (next mode (reached part vs seen) (piece_left at)) (Some r.state)
     × (r.keyed ≡ keyed_after keyed r.state.part (piece_left at))
 
 -- up to the piece these were read
-pub record IsReadUpTo (mode : Mode) (ps : List Text) (at : Left) (r : Reading) : Type 0 where
+pub record IsReadUpTo (mode : Mode) (ps : List Text) (at : Cursor) (r : Reading) : Type 0 where
   pub variants : List Text
   pub seen : List ℕ
   pub free : AllByRecursion IsHyphenFree ps
@@ -90,7 +90,7 @@ pub record IsReadUpTo (mode : Mode) (ps : List Text) (at : Left) (r : Reading) :
   pub place : IsReadAt r.state.part r.keyed (place_after ps)
 
 -- after the pieces, one of those from the piece on may not come, and it is no empty piece at the end
-pub record IsStopped (mode : Mode) (ps : List Text) (from : Left) : Type 0 where
+pub record IsStopped (mode : Mode) (ps : List Text) (from : Cursor) : Type 0 where
   pub done : List Text
   pub piece : Text
   pub rest : List Text
@@ -99,14 +99,14 @@ pub record IsStopped (mode : Mode) (ps : List Text) (from : Left) : Type 0 where
   pub stops : run mode (Some started) ((ps ++ done) ++ (piece ∷ [])) ≡ None
 
 -- after the pieces, those from the piece on were read, up to the last
-pub record IsReadOn (mode : Mode) (ps : List Text) (from last : Left) (r : Reading) : Type 0 where
+pub record IsReadOn (mode : Mode) (ps : List Text) (from last : Cursor) (r : Reading) : Type 0 where
   pub done : List Text
   pub cut : pieces_left from ≡ done ++ pieces_left last
   pub up_to : IsReadUpTo mode (ps ++ done) last r
 
-abbrev pub IsAllRead : Mode → List Text → Left → Option (Reading × Left) → Type 0
+abbrev pub IsAllRead : Mode → List Text → Cursor → Option (Reading × Cursor) → Type 0
 IsAllRead mode ps from None = IsStopped mode ps from
-IsAllRead mode ps from (Some (r, last)) = IsReadOn mode ps from last r × (last.n ≡ last.len)
+IsAllRead mode ps from (Some (r, last)) = IsReadOn mode ps from last r × (last.piece_length ≡ last.remaining)
 
 -- whether an extension may begin after the part; `left`, whether a singleton is left
 abbrev pub may_begin_block : Mode → Part → Bool → Bool

@@ -1,7 +1,7 @@
 //! Reads the pieces before a place.
 ghost use Rattle.std.specs.Prelude.{◌≡◌, ℕ, ◌+◌, ◌≤◌, List, [], ◌∷◌, ◌++◌, length, take};
 ghost use Rattle.iloc_spec_grammar.specs.Syntax.{Text, pieces};
-ghost use Rattle.iloc_pieces.specs.Left.{piece_left};
+ghost use Rattle.iloc_pieces.specs.Cursor.{piece_left};
 ghost use Rattle.iloc_faults.specs.States.{IsRead as IsStateRead};
 ghost use Rattle.iloc_expected.specs.Standing.{without_empty};
 ghost use Rattle.iloc_expected.specs.Readings.{IsAllRead, IsPieceTaken, AreRead, IsReadUpTo, keyed_after};
@@ -10,7 +10,7 @@ use iloc_faults::Room;
 use iloc_faults::state::{Part, State};
 use iloc_faults::step::step;
 use iloc_normalize::Mode;
-use iloc_pieces::left::{Left, is_key, is_last, left_in, next};
+use iloc_pieces::cursor::{Cursor, cursor_in, is_key, is_last, next};
 
 /// The reader's state after the pieces before a place.
 #[derive(Clone, Copy)]
@@ -22,7 +22,7 @@ pub struct Reading {
 }
 
 // Whether a key was read in the extension `u` that is read, with the piece too. The part is that with the piece.
-fn is_keyed(keyed: bool, part: Part, at: Left<'_>) -> bool
+fn is_keyed(keyed: bool, part: Part, at: Cursor<'_>) -> bool
     ensures { result ≡ keyed_after keyed part (piece_left at.entry) }
 {
     match part {
@@ -32,7 +32,7 @@ fn is_keyed(keyed: bool, part: Part, at: Left<'_>) -> bool
 }
 
 // What was read with the piece too; `None` if it may not come next.
-fn read_piece<R: Room>(room: R, mode: Mode, reading: Reading, at: Left<'_>) -> Option<Reading>
+fn read_piece<R: Room>(room: R, mode: Mode, reading: Reading, at: Cursor<'_>) -> Option<Reading>
     requires { (vs : List Text) × (seen : List ℕ) × IsStateRead reading.state at vs seen }
     ensures { (vs : List Text) (seen : List ℕ) → IsStateRead reading.state at.entry vs seen
         → IsPieceTaken mode reading.keyed reading.state.part vs seen at.entry result }
@@ -49,8 +49,8 @@ fn read_pieces<'a, R: Room>(
     room: R,
     mode: Mode,
     first: Reading,
-    from: Left<'a>,
-) -> Option<(Reading, Left<'a>)>
+    from: Cursor<'a>,
+) -> Option<(Reading, Cursor<'a>)>
     requires { (ps : List Text) × IsReadUpTo mode ps from first }
     ensures { (ps : List Text) → IsReadUpTo mode ps from.entry first
         → IsAllRead mode ps from.entry result }
@@ -78,15 +78,15 @@ fn with_hyphen(piece: &[u8]) -> [u8; 9]
 }
 
 // What was read with the last piece too. It is read again with a hyphen behind it: the state tells what comes behind one.
-fn read_last<R: Room>(room: R, mode: Mode, reading: Reading, at: Left<'_>) -> Option<Reading>
+fn read_last<R: Room>(room: R, mode: Mode, reading: Reading, at: Cursor<'_>) -> Option<Reading>
     requires short { length (piece_left at) ≤ 8 }
-    requires last { at.n ≡ at.len }
+    requires last { at.piece_length ≡ at.remaining }
     requires read { (ps : List Text) × IsReadUpTo mode ps at reading }
     ensures { (ps : List Text) → IsReadUpTo mode ps at.entry reading
         → AreRead mode (ps ++ (piece_left at.entry ∷ [])) result }
 {
-    let bytes = with_hyphen(&at.window[at.at..at.at + at.n]);
-    match read_pieces(room, mode, reading, left_in(&bytes, at.n + 1)) {
+    let bytes = with_hyphen(&at.window[at.at..at.at + at.piece_length]);
+    match read_pieces(room, mode, reading, cursor_in(&bytes, at.piece_length + 1)) {
         Some((all, _)) => Some(all),
         None => None,
     }
@@ -104,10 +104,10 @@ pub fn read<R: Room>(room: R, mode: Mode, text: &[u8]) -> Option<Reading>
         },
         keyed: false,
     };
-    let Some((reading, last)) = read_pieces(room, mode, first, left_in(text, text.len())) else {
+    let Some((reading, last)) = read_pieces(room, mode, first, cursor_in(text, text.len())) else {
         return None;
     };
-    if last.len == 0 {
+    if last.remaining == 0 {
         return Some(reading);
     }
     if read_piece(room, mode, reading, last).is_none() {

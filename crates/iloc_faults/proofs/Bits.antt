@@ -1,10 +1,8 @@
 -- The bits of singletons, and what else the reader knows of bytes.
-use Rattle.std.proofs.Common.{◌≡◌, ◌≢◌, inl, inr, ℕ, ◌+◌, ◌*◌, ◌-◌, ◌<◌, ◌≤◌, ◌^◌, Bool, true, false, ◌==◌}
-use Rattle.std.proofs.Common.{◌||◌, ◌&&◌, List, [], ◌∷◌, length, get_or, take, drop, Option}
-use Rattle.std.proofs.Common.{IfSome, codes, max, refl, sym, ap, ap₂, ◌∙◌, arith, true≢false}
-use Rattle.std.proofs.Common.{is_some, ⊎_elim}
-use Rattle.std.proofs.Math.Logic.{∥∥₁_elim}
-use Rattle.std.specs.Coded.{Coded-set, coded_ℕ}
+use Rattle.std.proofs.Common.{◌≡◌, ◌≢◌, inl, inr, ℕ, ◌+◌, ◌*◌, ◌-◌, ◌<◌, ◌≤◌, ◌^◌, Bool, true, false}
+use Rattle.std.proofs.Common.{◌||◌, List, [], ◌∷◌, length, take, drop, Option}
+use Rattle.std.proofs.Common.{IfSome, codes, max, refl, sym, ap, ◌∙◌, arith, true≢false}
+use Rattle.std.proofs.Common.{is_some}
 use Rattle.std.specs.Char.{is_ascii_alphanumeric, to_ascii_lowercase}
 use Rattle.std.specs.Ordering.{nat_cmp, eq_by_cmp}
 use Rattle.std.specs.Int.{bit_at}
@@ -20,11 +18,11 @@ use Rattle.iloc_spec_parts.specs.DataLocales.{named_subdivision}
 use Rattle.iloc_spec_grammar.proofs.MapLaws.{same_is}
 use Rattle.iloc_spec_grammar.proofs.WordsLaws.{length-lower}
 use Rattle.iloc_spec_grammar.proofs.Singletons.{untied, self_tied}
-use Rattle.iloc_pieces.specs.Left.{IsShortPiece, piece_left}
-use Rattle.iloc_pieces.specs.declared.cursor.Left.{Left}
-use Rattle.iloc_pieces.proofs.LeftLemmas.{short_language, short_key, short_field_key, short_attribute}
-use Rattle.iloc_pieces.proofs.LeftLemmas.{short_private, between_short, piece_inside, piece_byte, short_bytes}
-use Rattle.iloc_pieces.proofs.LeftLemmas.{length_piece}
+use Rattle.iloc_pieces.specs.Cursor.{IsShortPiece, piece_left}
+use Rattle.iloc_pieces.specs.declared.place.Cursor.{Cursor}
+use Rattle.iloc_pieces.proofs.CursorLemmas.{short_language, short_key, short_field_key, short_attribute}
+use Rattle.iloc_pieces.proofs.CursorLemmas.{short_private, between_short, piece_inside, short_bytes}
+use Rattle.iloc_pieces.proofs.CursorLemmas.{length_piece}
 use Rattle.iloc_faults.specs.declared.state.Part.{Part}
 use Rattle.iloc_faults.specs.declared.state.Part.TheVariants.{Start, Head, Transform, Source, FieldKey}
 use Rattle.iloc_faults.specs.declared.state.Part.TheVariants.{FieldValue, Unicode, Keyword, Other, OtherWord}
@@ -32,7 +30,6 @@ use Rattle.iloc_faults.specs.declared.state.Part.TheVariants.{Private, PrivateWo
 use Rattle.iloc_faults.specs.declared.state.Part.TheVariants.{SubdivisionKey, SubdivisionValue}
 use Rattle.iloc_faults.specs.Next.{is_seen, when, piece_next, subdivision_next}
 use Rattle.iloc_faults.specs.States.{AreSingletonsSeen, bit_place}
-use Rattle.iloc_normalize.proofs.Names.{sd_of}
 
 -- ---- bits
 
@@ -147,43 +144,14 @@ piece_short (Head stage) p = tt
 piece_short Transform p = tt
 piece_short (Source stage) p = tt
 
--- ---- the key `sd`
-
--- a piece of fewer than sixteen bytes is as long as it says
-pub few_long : (l : Left) → l.n < 16 → l.n ≡ length (piece_left l)
-few_long l few = ∥∥₁_elim l.piece (Coded-set coded_ℕ _ _) (⊎_elim
-    (λ s. s.long)
-    (λ k. absurd (let m = k.most in omega arith)))
-
-pub two_long : (l : Left) → l.n ≡ 2 → length (piece_left l) ≡ 2
-two_long l e = sym (few_long l (omega arith)) ∙ e
-
-pub not_two : (l : Left) → l.n ≢ 2 → is_same (lower (piece_left l)) (codes "sd") ≡ false
-not_two l n = false_from_ne_true _ (λ e.
-    let two : length (piece_left l) ≡ 2 =
-    sym (length-lower (piece_left l)) ∙ ap length (same_is (lower (piece_left l)) (codes "sd") e) in
-    n (length_piece l (omega arith) ∙ two))
-
--- the piece by its bytes in the window
-pub sd_is : (l : Left) → l.n ≡ 2 →
-    is_same (lower (piece_left l)) (codes "sd")
-    ≡ ((to_ascii_lowercase (get_or l.window.now l.at 0) == 115)
-    && (to_ascii_lowercase (get_or l.window.now (l.at + 1) 0) == 100))
-sd_is l e =
-    let two = two_long l e in
-    sd_of (piece_left l) two
-    ∙ ap₂ (λ u v. (to_ascii_lowercase u == 115) && (to_ascii_lowercase v == 100))
-    (piece_byte l 0 (omega arith) ∙ ap (λ i. get_or l.window.now i 0) (omega arith))
-    (piece_byte l 1 (omega arith))
-
 -- ---- the value of `sd`
 
 -- the bytes of the piece, as they are cut from the window
-pub cut_bytes : (l : Left) → IsShortPiece (piece_left l) →
-    take (l.at + l.n - l.at) (drop l.at l.window.now) ≡ piece_left l
+pub cut_bytes : (l : Cursor) → IsShortPiece (piece_left l) →
+    take (l.at + l.piece_length - l.at) (drop l.at l.window.now) ≡ piece_left l
 cut_bytes l short = ap (λ k. take k (drop l.at l.window.now)) (omega arith) ∙ short_bytes l short
 
-pub cut_inside : (l : Left) → IsShortPiece (piece_left l) → l.at + l.n ≤ length l.window.now
+pub cut_inside : (l : Cursor) → IsShortPiece (piece_left l) → l.at + l.piece_length ≤ length l.window.now
 cut_inside l short = let e = length_piece l short in let i = piece_inside l in omega arith
 
 -- if these bytes name a subdivision, it may come next

@@ -1,6 +1,6 @@
 -- What follows a singleton, one piece more: what the rules of the grammar ask of the rest.
 use Rattle.std.proofs.Common.{◌≡◌, inl, inr, ℕ, suc, ◌+◌, Bool, true, false, cond, ◌&&◌, ◌||◌, List, [], ◌∷◌}
-use Rattle.std.proofs.Common.{length, map, Some, None, nat_lt, codes, refl, sym, ap, ap₂, ◌∙◌, arith}
+use Rattle.std.proofs.Common.{length, map, nat_lt, refl, sym, ap, ap₂, ◌∙◌, arith}
 use Rattle.std.proofs.Common.{true≢false}
 use Rattle.std.specs.List.{list_all}
 use Rattle.std.specs.Int.{is_in_range}
@@ -13,9 +13,8 @@ use Rattle.iloc_spec_grammar.specs.Reading.{identifier_of, front_of, unicode_of,
 use Rattle.iloc_spec_grammar.specs.Computing.{holds_if_some, all_different, is_identifier, is_keyword}
 use Rattle.iloc_spec_grammar.specs.Computing.{is_unicode, is_field, is_transform, is_other, repeats_variant}
 use Rattle.iloc_spec_grammar.proofs.WordsLaws.{length-attribute, length-unicode_key, length-transform_key}
-use Rattle.iloc_spec_grammar.proofs.WordsLaws.{length-script, length-variant}
 use Rattle.iloc_faults.proofs.Words.{good, repeats}
-use Rattle.iloc_spec_grammar.proofs.Readings.{language_no_key, identifier_no_key}
+use Rattle.iloc_spec_grammar.proofs.Readings.{language_no_key}
 use Rattle.iloc_faults.specs.declared.state.Stage.{Stage}
 use Rattle.iloc_faults.specs.declared.state.Stage.TheVariants as stages
 use Rattle.iloc_pieces.proofs.RunWords.{and-true}
@@ -146,29 +145,9 @@ identifier_is p ps =
 abbrev pub after_word : Stage → List Text → List Text → Bool
 after_word stage vs ps = good stage vs (values ps) && list_all is_field (fields ps)
 
--- a key is no word of an identifier
+-- a key is no language
 pub key_no_language : (p : Text) → IsWord TransformKey p → is_word (Language languages) p ≡ false
 key_no_language p h = false_from_ne_true _ (λ e. true≢false (sym h ∙ language_no_key languages p e))
-
-pub key_no_script : (p : Text) → IsWord TransformKey p → is_word Script p ≡ false
-key_no_script p h = false_from_ne_true _
-    (λ e. let k = length-script p e in let n = length-transform_key p h in absurd (omega arith))
-
-en_is : IsWord (Language languages) (codes "en")
-unfolding is_word languages
-en_is = refl
-
-region_no_key : (p : Text) → IsWord Region p → is_word TransformKey p ≡ false
-region_no_key p h = (identifier_no_key {T = languages}
-    (record { language = codes "en"; script = None; region = Some p; variants = [] })
-    (record { language = en_is; script = tt; region = h; variants = tt })).1.0
-
-pub key_no_region : (p : Text) → IsWord TransformKey p → is_word Region p ≡ false
-key_no_region p h = false_from_ne_true _ (λ e. true≢false (sym h ∙ region_no_key p e))
-
-pub key_no_variant : (p : Text) → IsWord TransformKey p → is_word Variant p ≡ false
-key_no_variant p h = false_from_ne_true _
-    (λ e. let k = length-variant p e in let n = length-transform_key p h in absurd (omega arith))
 
 pub repeats_none : repeats_variant languages [] ≡ false
 unfolding is_word languages

@@ -11,7 +11,7 @@ use Rattle.std.proofs.lemmas.Nat.{div-add-mod', le-div}
 use Rattle.iloc_pieces.proofs.WordOrder.{is_less, is_greater}
 use Rattle.std.specs.List.{IsDistinct}
 use Rattle.std.specs.List.Sorted.{IsPermutation}
-use Rattle.iloc_pieces.specs.declared.cursor.Left.{Left}
+use Rattle.iloc_pieces.specs.declared.place.Cursor.{Cursor}
 use Rattle.iloc_faults.specs.States.{AreNew}
 use Rattle.iloc_faults.specs.Numbers.{same, AreNumbersAt, AreDistinct, AreOthers, ComeBefore}
 use Rattle.iloc_faults.proofs.NewNumbers.{Cut, cut_at, longer, rest_distinct, both_distinct, others_both}
@@ -20,7 +20,7 @@ use Rattle.iloc_faults.proofs.NewNumbers.{laws, repeats_part, begins_moved}
 
 -- those before the place differ, and so many after it are none of them; the next repeats one, if there is a
 -- next
-pub record IsCompared (all : List ℕ) (at : Left) (done fresh : ℕ) : Type 0 where
+pub record IsCompared (all : List ℕ) (at : Cursor) (done fresh : ℕ) : Type 0 where
   pub before : List ℕ
   pub new : List ℕ
   pub later : List ℕ
@@ -68,7 +68,7 @@ least m a b e = let k = min_is a b in record {
   some = λ x y. elim k.2 [ inl f ↦ omega (arith, e, f, x) | inr f ↦ omega (arith, e, f, y) ];
 }
 
-pub compare_starts : (all : List ℕ) (at : Left) → AreNumbersAt at all → IsCompared all at 0 (length all)
+pub compare_starts : (all : List ℕ) (at : Cursor) → AreNumbersAt at all → IsCompared all at 0 (length all)
 unfolding IsDistinct
 compare_starts all at h = record {
   before = [];
@@ -87,7 +87,7 @@ compare_starts all at h = record {
     none_of [] = tt
     none_of (n ∷ ns) = (refl, none_of ns)
 
-module _ {all : List ℕ} {at : Left} {done fresh : ℕ} (w : IsCompared all at done fresh) where
+module _ {all : List ℕ} {at : Cursor} {done fresh : ℕ} (w : IsCompared all at done fresh) where
   pub compare_ends : fresh ≤ done → AreNew same [] all fresh
   compare_ends most = by w.new w.cut w.reach w.ends
     where
@@ -151,7 +151,7 @@ module _ {all : List ℕ} {at : Left} {done fresh : ℕ} (w : IsCompared all at 
                 (arith, chunk.long, c.long, some, ap length e, length-append c.first (r ∷ (q ∷ ls))))
 
     -- none comes twice in it
-    pub compare_more : (m : Left) (ms : List ℕ) (most found : ℕ) → AreDistinct chunk.first →
+    pub compare_more : (m : Cursor) (ms : List ℕ) (most found : ℕ) → AreDistinct chunk.first →
         IsPermutation chunk.first ms → most ≡ fresh - done - count →
         AreNumbersAt m (chunk.later ++ w.later) → ComeBefore ms most (chunk.later ++ w.later) found →
         IsCompared all m (done + count) (done + count + found)
@@ -200,8 +200,8 @@ few_distinct (n ∷ []) h = absurd (h (tt, tt))
 few_distinct (n ∷ (m ∷ ns)) h = omega arith
 
 -- a chunk was filled and sorted
-module _ {all : List ℕ} {at : Left} {done fresh : ℕ} (w : IsCompared all at done fresh) (count : ℕ)
-    (few : count ≤ fresh - done) (words sorted : List ℕ) (m : Left) (long : length words ≡ count)
+module _ {all : List ℕ} {at : Cursor} {done fresh : ℕ} (w : IsCompared all at done fresh) (count : ℕ)
+    (few : count ≤ fresh - done) (words sorted : List ℕ) (m : Cursor) (long : length words ≡ count)
     (filled : (ns ks : List ℕ) → AreNumbersAt at (ns ++ ks) → length ns ≡ length words →
     (words ≡ ns) × AreNumbersAt m ks) (moves : IsPermutation words sorted) where
   both : (words ≡ (chunk w count few).first) × AreNumbersAt m ((chunk w count few).later ++ w.later)

@@ -15,7 +15,7 @@ use Rattle.iloc_faults.specs.Places.{IsAccepted, IsFaultPlace, IsFault}
 use Rattle.iloc_faults.specs.States.{IsFaultFound}
 use Rattle.iloc_faults.proofs.DataSteps.{fine}
 use Rattle.iloc_faults.proofs.Answers.{accepted_is, faulty_is}
-use Rattle.iloc_pieces.proofs.LeftLemmas.{dashed}
+use Rattle.iloc_pieces.proofs.CursorLemmas.{dashed}
 
 -- the error names the fault
 refused : (Has : grammar.Fault → Type 0) (f : grammar.Fault) (e : ParseError) → e ≡ error_of f → Has f →

@@ -22,11 +22,12 @@ use Rattle.iloc_faults.specs.Next.{plain, started, word_next, outcome}
 use Rattle.iloc_faults.proofs.Words.{good, repeats, good_after, repeats_after, good_end, no_next, word_step}
 use Rattle.iloc_faults.proofs.Bodies.{one_is_some, of_unicode, has_length, other_is, values, fields}
 use Rattle.iloc_faults.proofs.Bodies.{after_value, after_key, after_value_is, after_key_is, after_word}
-use Rattle.iloc_faults.proofs.Bodies.{field_is, key_no_language, key_no_script, key_no_region, key_no_variant}
+use Rattle.iloc_faults.proofs.Bodies.{field_is, key_no_language}
 use Rattle.iloc_faults.proofs.Bodies.{transform_is, repeats_is, identifier_is}
 use Rattle.iloc_faults.proofs.Claims.{Claims, block_answer, transform_answer, head_answer, in_words, Differ}
 use Rattle.iloc_faults.proofs.Claims.{at_end, begins}
 use Rattle.iloc_pieces.proofs.RunWords.{and-true}
+use Rattle.iloc_pieces.proofs.Tests.{key_no_script, key_no_region, key_no_variant}
 
 many : (vs : List Text) (v : Text) →
     Rattle.iloc_faults.specs.Next.is_new Locale vs v ≡ not (list_any (eq_by_cmp word_cmp v) vs)

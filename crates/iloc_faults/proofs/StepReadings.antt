@@ -11,10 +11,10 @@ use Rattle.iloc_spec_grammar.specs.Syntax.{is_one_byte}
 use Rattle.iloc_spec_grammar.specs.Syntax as kinds
 use Rattle.iloc_normalize.specs.declared.Mode.{Mode}
 use Rattle.iloc_normalize.specs.declared.Mode.TheVariants.{Langid, Locale, Data}
-use Rattle.iloc_pieces.specs.Left.{IsNextPiece, IsShortPiece, piece_left, pieces_left}
-use Rattle.iloc_pieces.specs.declared.cursor.Left.{Left}
-use Rattle.iloc_pieces.proofs.LeftLemmas.{short_variant, short_region, short_script, short_field_key}
-use Rattle.iloc_pieces.proofs.LeftLemmas.{single_short}
+use Rattle.iloc_pieces.specs.Cursor.{IsNextPiece, IsShortPiece, piece_left, pieces_left}
+use Rattle.iloc_pieces.specs.declared.place.Cursor.{Cursor}
+use Rattle.iloc_pieces.proofs.CursorLemmas.{short_variant, short_region, short_script, short_field_key}
+use Rattle.iloc_pieces.proofs.CursorLemmas.{single_short}
 use Rattle.iloc_faults.specs.declared.state.Part.{Part}
 use Rattle.iloc_faults.specs.declared.state.Part.TheVariants.{Start, Head, Transform, Source, FieldKey}
 use Rattle.iloc_faults.specs.declared.state.Part.TheVariants.{FieldValue, Unicode, Keyword, Other, OtherWord}
@@ -66,12 +66,12 @@ none_new vs ws v (suc k) h =
     let some : suc k ≢ 0 = λ e. omega (arith, e) in h.0 ∙ sym (ne_eqb (suc k) 0 some)
 
 -- the words that are left begin with the piece, a variant
-words_left : (at : Left) → is_word Variant (piece_left at) ≡ true →
+words_left : (at : Cursor) → is_word Variant (piece_left at) ≡ true →
     map lower (variants_left at)
     ≡ lower (piece_left at) ∷ map lower (first_variants (some_left at).0)
 words_left at e = ap (map lower) (one_and_more at (some_left at).0 (some_left at).1 e)
 
-pub new_some : (mode : Mode) (vs : List Text) (at : Left) (n : ℕ) → mode ≢ Data →
+pub new_some : (mode : Mode) (vs : List Text) (at : Cursor) (n : ℕ) → mode ≢ Data →
     is_word Variant (piece_left at) ≡ true → AreNew are_same vs (map lower (variants_left at)) n →
     not (n == 0) ≡ is_new mode vs (lower (piece_left at))
 new_some mode vs at n other e h =
@@ -80,7 +80,7 @@ new_some mode vs at n other e h =
     ∙ ap not (none_new vs _ (lower (piece_left at)) n known))
 
 -- there is one at least
-pub new_at_least : (mode : Mode) (vs : List Text) (at : Left) (n : ℕ) →
+pub new_at_least : (mode : Mode) (vs : List Text) (at : Cursor) (n : ℕ) →
     is_word Variant (piece_left at) ≡ true → is_new mode vs (lower (piece_left at)) ≡ true →
     AreNew are_same vs (map lower (variants_left at)) n → 1 ≤ n
 new_at_least mode vs at n e new h =
@@ -90,7 +90,7 @@ new_at_least mode vs at n e new h =
 
 -- ---- words of an identifier
 
-module _ (mode : Mode) (vs : List Text) (at : Left) where
+module _ (mode : Mode) (vs : List Text) (at : Cursor) where
   both : is_word Variant (piece_left at) ≡ true → is_new mode vs (lower (piece_left at)) ≡ true →
       after_region_next mode vs (piece_left at) ≡ Some (Region, vs ++ (lower (piece_left at) ∷ []))
   both e n = rw (e, n) refl
@@ -110,7 +110,7 @@ module _ (mode : Mode) (vs : List Text) (at : Left) where
       some [] e = cc
       some (x ∷ xs) e = cc
 
-      more : (m : Left) → IsNextPiece at m →
+      more : (m : Cursor) → IsNextPiece at m →
           AreNew are_same (vs ++ (lower (piece_left at) ∷ [])) (map lower (variants_left m)) (n - 1)
       more m next =
           let words = ap (map lower) (one_and_more at (pieces_left m) next.pieces e) in
@@ -121,17 +121,17 @@ module _ (mode : Mode) (vs : List Text) (at : Left) where
           AreNew are_same (vs ++ (lower (piece_left at) ∷ [])) (map lower (variants_left m)) k)
           rest less.2
 
-pub region_read : (mode : Mode) (at : Left) → is_word kinds.Region (piece_left at) ≡ true →
+pub region_read : (mode : Mode) (at : Cursor) → is_word kinds.Region (piece_left at) ≡ true →
     IsWordRead at (after_script_next mode [] (piece_left at)) (Some (Region, None))
 region_read mode at e = ([], rw e refl, short_region (piece_left at) e, tt, λ m next. refl)
 
 -- no variant comes before a script or a region
-pub none_yet : (at : Left) (first : Option ℕ) (vs : List Text) → first ≡ None →
+pub none_yet : (at : Cursor) (first : Option ℕ) (vs : List Text) → first ≡ None →
     AreVariantsRead first at vs → vs ≡ []
 none_yet at None vs e h = h
 none_yet at (Some first) vs e h = cc
 
-pub script_read : (mode : Mode) (at : Left) (vs : List Text) → vs ≡ [] →
+pub script_read : (mode : Mode) (at : Cursor) (vs : List Text) → vs ≡ [] →
     is_word kinds.Script (piece_left at) ≡ true →
     IsWordRead at (word_next mode Language vs (piece_left at)) (Some (Script, None))
 script_read mode at vs z e = (vs, rw e refl, short_script (piece_left at) e, refl, λ m next. z)
@@ -147,7 +147,7 @@ none_early (Source Script) = refl
 none_early (Source Region) = tt
 none_early _ = tt
 
-pub plain_read : (at : Left) (bits : ℕ) (seen : List ℕ) → AreSingletonsSeen bits seen → (o : Option Part) →
+pub plain_read : (at : Cursor) (bits : ℕ) (seen : List ℕ) → AreSingletonsSeen bits seen → (o : Option Part) →
     IfSome o (λ _. IsShortPiece (piece_left at)) →
     IsPieceRead at (option_map (plain seen) o) (option_map (bare bits) o)
 plain_read at bits seen h None short = refl
@@ -155,7 +155,7 @@ plain_read at bits seen h (Some p) short =
     ([], seen, refl, short, λ m next. record { seen_are = h; variants_are = refl; early = none_early p })
 
 -- the same, as the reader makes it
-pub plain_is : (at : Left) (bits : ℕ) (seen : List ℕ) → AreSingletonsSeen bits seen → (o : Option Part) →
+pub plain_is : (at : Cursor) (bits : ℕ) (seen : List ℕ) → AreSingletonsSeen bits seen → (o : Option Part) →
     IfSome o (λ _. IsShortPiece (piece_left at)) → (s : Option State) → s ≡ option_map (bare bits) o →
     (r : Option Reached) → r ≡ option_map (plain seen) o → IsPieceRead at r s
 plain_is at bits seen h o short s e r f = subst (λ x. IsPieceRead at x s) (sym f)
@@ -166,7 +166,7 @@ plain_is at bits seen h o short s e r f = subst (λ x. IsPieceRead at x s) (sym 
 -- a word of the head, and one after `t`
 pub word_read : (of : Stage → Part) →
     ((stage : Stage) (first : Option ℕ) → IsEarly stage first → HasNone (of stage) first) →
-    (at : Left) (bits : ℕ) (seen : List ℕ) → AreSingletonsSeen bits seen → (o : Option (Stage × List Text))
+    (at : Cursor) (bits : ℕ) (seen : List ℕ) → AreSingletonsSeen bits seen → (o : Option (Stage × List Text))
     → (w : Stage × Option ℕ) → IsWordRead at o (Some w)
     → IsPieceRead at (option_map (λ (x : Stage × List Text). reached (of x.0) x.1 seen) o)
     (Some (record { part = of w.0; variants = w.1; seen = bits }))
@@ -181,7 +181,7 @@ word_read of none at bits seen h o w (ws, e, short, early, more) = (
 -- ---- singletons
 
 -- its singleton was seen
-pub block_seen : (at : Left) (part : Part) (seen : List ℕ) →
+pub block_seen : (at : Cursor) (part : Part) (seen : List ℕ) →
     is_seen seen (slice_index (piece_left at) 0) ≡ true →
     IsPieceRead at (block_next Locale part seen (slice_index (piece_left at) 0)) None
 block_seen at part seen e = rw (e, and_false) refl
@@ -191,7 +191,7 @@ block_seen at part seen e = rw (e, and_false) refl
     and_false false = refl
 
 -- it begins
-pub block_read : (at : Left) (part : Part) (bits : ℕ) (seen : List ℕ) → is_one_byte (piece_left at) ≡ true →
+pub block_read : (at : Cursor) (part : Part) (bits : ℕ) (seen : List ℕ) → is_one_byte (piece_left at) ≡ true →
     may_begin part (slice_index (piece_left at) 0) ≡ true →
     is_seen seen (slice_index (piece_left at) 0) ≡ false
     → AreSingletonsSeen bits (to_ascii_lowercase (slice_index (piece_left at) 0) ∷ seen) → (p : Part) →
@@ -207,7 +207,7 @@ block_read at part bits seen one begins new h p e = (
 )
 
 -- that of a data locale, and none of it
-pub data_read : (at : Left) (part : Part) (stage : Stage) (bits : ℕ) (seen : List ℕ) →
+pub data_read : (at : Cursor) (part : Part) (stage : Stage) (bits : ℕ) (seen : List ℕ) →
     AreSingletonsSeen bits seen → is_one_byte (piece_left at) ≡ true → part ≡ Head stage →
     to_ascii_lowercase (slice_index (piece_left at) 0) ≡ code_u
     → (s : Option State) → s ≡ option_map (bare bits) (Some Subdivision) →
@@ -222,7 +222,7 @@ data_read at part stage bits seen h one e u s f = rw (e, f) (rw u (
 
 -- ---- pieces inside
 
-module _ (mode : Mode) (at : Left) (part : Part) (vs : List Text) (seen : List ℕ) (bits : ℕ)
+module _ (mode : Mode) (at : Cursor) (part : Part) (vs : List Text) (seen : List ℕ) (bits : ℕ)
     (h : AreSingletonsSeen bits seen) where
   pub start_read : part ≡ Start → (s : Option State) →
       s ≡ option_map (bare bits) (when (is_word (kinds.Language languages) (piece_left at)) (Head Language)) →
@@ -292,7 +292,7 @@ inside_is mode Subdivision vs seen p e = refl
 inside_is mode SubdivisionKey vs seen p e = refl
 inside_is mode SubdivisionValue vs seen p e = refl
 
-pub other_read : (mode : Mode) (at : Left) (part : Part) (vs : List Text) (seen : List ℕ) (bits : ℕ) →
+pub other_read : (mode : Mode) (at : Cursor) (part : Part) (vs : List Text) (seen : List ℕ) (bits : ℕ) →
     AreSingletonsSeen bits seen → part ≢ Start → ((stage : Stage) → part ≢ Head stage) → part ≢ Transform →
     ((stage : Stage) → part ≢ Source stage)
     → (s : Option State) → s ≡ option_map (bare bits) (piece_next part (piece_left at)) →
@@ -310,13 +310,13 @@ other_read mode at part vs seen bits h a b c d s f = plain_is at bits seen h (pi
 
 -- ---- a piece
 
-pub begins_read : (mode : Mode) (at : Left) (part : Part) (vs : List Text) (seen : List ℕ) →
+pub begins_read : (mode : Mode) (at : Cursor) (part : Part) (vs : List Text) (seen : List ℕ) →
     begins_block part (piece_left at) ≡ true → (s : Option State) →
     IsPieceRead at (block_next mode part seen (slice_index (piece_left at) 0)) s →
     IsPieceRead at (next mode (reached part vs seen) (piece_left at)) s
 begins_read mode at part vs seen e s h = rw e h
 
-pub inside_read : (mode : Mode) (at : Left) (part : Part) (vs : List Text) (seen : List ℕ) →
+pub inside_read : (mode : Mode) (at : Cursor) (part : Part) (vs : List Text) (seen : List ℕ) →
     begins_block part (piece_left at) ≡ false → (s : Option State) →
     IsPieceRead at (inside_next mode part vs seen (piece_left at)) s →
     IsPieceRead at (next mode (reached part vs seen) (piece_left at)) s

@@ -9,9 +9,9 @@ use Rattle.iloc_spec_grammar.specs.Syntax.{Text, first_piece, Variant, IsWord, i
 use Rattle.iloc_spec_grammar.proofs.PiecesLaws.{at_pieces}
 use Rattle.iloc_spec_grammar.proofs.ReadBack.{all_append}
 use Rattle.iloc_pieces.specs.Words.{word_number}
-use Rattle.iloc_pieces.specs.Left.{IsNextPiece, bytes_left, piece_left, pieces_left}
-use Rattle.iloc_pieces.specs.declared.cursor.Left.{Left}
-use Rattle.iloc_pieces.proofs.LeftLemmas.{last_piece, short_variant}
+use Rattle.iloc_pieces.specs.Cursor.{IsNextPiece, bytes_left, piece_left, pieces_left}
+use Rattle.iloc_pieces.specs.declared.place.Cursor.{Cursor}
+use Rattle.iloc_pieces.proofs.CursorLemmas.{last_piece, short_variant}
 use Rattle.iloc_pieces.proofs.WordOrder.{variant_fits, word_order}
 use Rattle.iloc_faults.specs.States.{AreNew, are_same, first_variants, variants_left}
 use Rattle.iloc_faults.specs.Numbers.{same, AreNumbersAt}
@@ -45,7 +45,7 @@ new_words ps (q ∷ qs) (suc n) h k a = (
 
 -- ---- numbers at a place
 
-first_number : (l : Left) (ps rest : List Text) (n : ℕ) (ns : List ℕ) → pieces_left l ≡ ps ++ rest →
+first_number : (l : Cursor) (ps rest : List Text) (n : ℕ) (ns : List ℕ) → pieces_left l ≡ ps ++ rest →
     AllByRecursion (IsWord Variant) ps → n ∷ ns ≡ map word_number ps →
     IsWord Variant (piece_left l) × (word_number (piece_left l) ≡ n)
 first_number l [] rest n ns cut h e = cc
@@ -54,11 +54,11 @@ first_number l (p ∷ ps) rest n ns cut h e =
     let number : word_number p ≡ n = cc in
     (subst (IsWord Variant) (sym first) h.0, ap word_number first ∙ number)
 
-pub number_here : {l : Left} {n : ℕ} {ns : List ℕ} → AreNumbersAt l (n ∷ ns) →
+pub number_here : {l : Cursor} {n : ℕ} {ns : List ℕ} → AreNumbersAt l (n ∷ ns) →
     IsWord Variant (piece_left l) × (word_number (piece_left l) ≡ n)
 number_here {l} {n} {ns} a = first_number l a.words a.rest n ns a.cut a.variants a.numbers
 
-later_numbers : (l m : Left) (ps rest : List Text) (n : ℕ) (ns : List ℕ) → pieces_left l ≡ ps ++ rest →
+later_numbers : (l m : Cursor) (ps rest : List Text) (n : ℕ) (ns : List ℕ) → pieces_left l ≡ ps ++ rest →
     AllByRecursion (IsWord Variant) ps → n ∷ ns ≡ map word_number ps →
     pieces_left l ≡ piece_left l ∷ pieces_left m → AreNumbersAt m ns
 later_numbers l m [] rest n ns cut h e next = cc
@@ -70,15 +70,15 @@ later_numbers l m (p ∷ ps) rest n ns cut h e next = record {
   numbers = cc;
 }
 
-pub numbers_next : {l m : Left} {n : ℕ} {ns : List ℕ} → IsNextPiece l m → AreNumbersAt l (n ∷ ns) →
+pub numbers_next : {l m : Cursor} {n : ℕ} {ns : List ℕ} → IsNextPiece l m → AreNumbersAt l (n ∷ ns) →
     AreNumbersAt m ns
 numbers_next {l} {m} {n} {ns} next a =
     later_numbers l m a.words a.rest n ns a.cut a.variants a.numbers next.pieces
 
-no_numbers : (l : Left) → AreNumbersAt l []
+no_numbers : (l : Cursor) → AreNumbersAt l []
 no_numbers l = record { words = []; rest = pieces_left l; cut = refl; variants = tt; numbers = refl }
 
-last_numbers : (l : Left) (ps rest : List Text) (n : ℕ) (ns : List ℕ) → pieces_left l ≡ ps ++ rest →
+last_numbers : (l : Cursor) (ps rest : List Text) (n : ℕ) (ns : List ℕ) → pieces_left l ≡ ps ++ rest →
     n ∷ ns ≡ map word_number ps → pieces_left l ≡ piece_left l ∷ [] → AreNumbersAt l ns
 last_numbers l [] rest n ns cut e one = cc
 last_numbers l (p ∷ []) rest n ns cut e one =
@@ -86,7 +86,8 @@ last_numbers l (p ∷ []) rest n ns cut e one =
 last_numbers l (p ∷ (q ∷ ps)) rest n ns cut e one =
     let both : piece_left l ∷ [] ≡ p ∷ (q ∷ (ps ++ rest)) = sym one ∙ cut in cc
 
-pub numbers_last : {l : Left} {n : ℕ} {ns : List ℕ} → l.n ≡ l.len → IsWord Variant (piece_left l) →
+pub numbers_last : {l : Cursor} {n : ℕ} {ns : List ℕ} → l.piece_length ≡ l.remaining
+    → IsWord Variant (piece_left l) →
     AreNumbersAt l (n ∷ ns) → AreNumbersAt l ns
 numbers_last {l} {n} {ns} e h a =
     last_numbers l a.words a.rest n ns a.cut a.numbers
@@ -112,10 +113,10 @@ first_variants_begin (p ∷ ps) = by (is_word Variant p) refl (first_variants_be
     by true e r = rw e (r.0, ap (λ qs. p ∷ qs) r.1)
     by false e r = rw e (p ∷ ps, refl)
 
-pub variants_are : (l : Left) → AllByRecursion (IsWord Variant) (variants_left l)
+pub variants_are : (l : Cursor) → AllByRecursion (IsWord Variant) (variants_left l)
 variants_are l = first_variants_are (pieces_left l)
 
-pub variant_numbers : (l : Left) → AreNumbersAt l (map word_number (variants_left l))
+pub variant_numbers : (l : Cursor) → AreNumbersAt l (map word_number (variants_left l))
 variant_numbers l = let r = first_variants_begin (pieces_left l) in record {
   words = variants_left l;
   rest = r.0;
@@ -127,22 +128,22 @@ variant_numbers l = let r = first_variants_begin (pieces_left l) in record {
 -- ---- how many they are
 
 -- the pieces that are left begin with the first
-pub some_left : (l : Left) → (rest : List Text) × (pieces_left l ≡ piece_left l ∷ rest)
+pub some_left : (l : Cursor) → (rest : List Text) × (pieces_left l ≡ piece_left l ∷ rest)
 some_left l =
     at_pieces (λ ps. (rest : List Text) × (ps ≡ first_piece ps ∷ rest)) (λ p ps. (ps, refl)) (bytes_left l)
 
 -- the variant and those behind it
-pub one_and_more : (l : Left) (ps : List Text) → pieces_left l ≡ piece_left l ∷ ps →
+pub one_and_more : (l : Cursor) (ps : List Text) → pieces_left l ≡ piece_left l ∷ ps →
     is_word Variant (piece_left l) ≡ true → variants_left l ≡ piece_left l ∷ first_variants ps
 one_and_more l ps e h = ap first_variants e ∙ rw h refl
 
-pub one_alone : (l : Left) → l.n ≡ l.len → is_word Variant (piece_left l) ≡ true →
+pub one_alone : (l : Cursor) → l.piece_length ≡ l.remaining → is_word Variant (piece_left l) ≡ true →
     length (variants_left l) ≡ 1
 one_alone l e h =
     ap length (one_and_more l [] (last_piece l e (short_variant (piece_left l) h)).one h)
 
 -- ---- by places
 
-pub variant_at : (l : Left) (ns : List ℕ) (k : ℕ) → k < length ns → AreNumbersAt l (drop k ns) →
+pub variant_at : (l : Cursor) (ns : List ℕ) (k : ℕ) → k < length ns → AreNumbersAt l (drop k ns) →
     AreNumbersAt l (get_or ns k 0 ∷ drop (k + 1) ns)
 variant_at l ns k less a = subst (AreNumbersAt l) (drop_one ns k less) a

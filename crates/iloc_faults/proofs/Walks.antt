@@ -9,9 +9,9 @@ use Rattle.std.proofs.lemmas.List.Concat.{flat_map-append}
 use Rattle.iloc_spec_grammar.specs.Syntax.{Text, pieces, dashes, first_piece}
 use Rattle.iloc_spec_grammar.specs.Meaning.{InvalidExtension}
 use Rattle.iloc_subtags.specs.Judging.{error_of}
-use Rattle.iloc_pieces.specs.Left.{IsNextPiece, piece_left, pieces_left, bytes_left}
-use Rattle.iloc_pieces.specs.declared.cursor.Left.{Left}
-use Rattle.iloc_pieces.proofs.LeftLemmas.{length_rest, next_at, last_piece}
+use Rattle.iloc_pieces.specs.Cursor.{IsNextPiece, piece_left, pieces_left, bytes_left}
+use Rattle.iloc_pieces.specs.declared.place.Cursor.{Cursor}
+use Rattle.iloc_pieces.proofs.CursorLemmas.{length_rest, next_at, last_piece}
 use Rattle.iloc_normalize.specs.declared.Mode.{Mode}
 use Rattle.iloc_faults.specs.declared.Fault.{Fault}
 use Rattle.iloc_faults.specs.declared.state.Part.TheVariants.{Start}
@@ -37,16 +37,17 @@ first_long (c ∷ t) (suc n) l none ends =
     rw e (first_onto c (slice_split (λ b. b == 45) t) ∙ ap suc h)
 
 -- from the piece on, no hyphen comes before the end
-pub record IsScanned (l : Left) (end : ℕ) : Type 0 where
+pub record IsScanned (l : Cursor) (end : ℕ) : Type 0 where
   pub from : l.at ≤ end
-  pub to : end ≤ l.at + l.len
+  pub to : end ≤ l.at + l.remaining
   pub none : (k : ℕ) → k < end - l.at → get_or l.window.now (l.at + k) 0 ≢ 45
 
-module _ (l : Left) where
-  byte_is : (k : ℕ) → k < l.len → get_or (bytes_left l) k 0 ≡ get_or l.window.now (l.at + k) 0
-  byte_is k less = get_or-take l.len (drop l.at l.window.now) k 0 less ∙ get_or-drop l.at l.window.now k 0
+module _ (l : Cursor) where
+  byte_is : (k : ℕ) → k < l.remaining → get_or (bytes_left l) k 0 ≡ get_or l.window.now (l.at + k) 0
+  byte_is k less = get_or-take l.remaining (drop l.at l.window.now) k 0 less
+      ∙ get_or-drop l.at l.window.now k 0
 
-  pub scan_ends : (end : ℕ) → IsScanned l end → (end < l.at + l.len → get_or l.window.now end 0 ≡ 45) →
+  pub scan_ends : (end : ℕ) → IsScanned l end → (end < l.at + l.remaining → get_or l.window.now end 0 ≡ 45) →
       end ≡ l.at + length (piece_left l)
   scan_ends end s ends =
       let f = s.from in
@@ -61,7 +62,7 @@ module _ (l : Left) where
 -- ---- the walk
 
 -- so far each piece came, and the state says what was read
-pub record IsWalked (mode : Mode) (t : Text) (at : Left) (s : State) : Type 0 where
+pub record IsWalked (mode : Mode) (t : Text) (at : Cursor) (s : State) : Type 0 where
   pub done : List Text
   pub variants : List Text
   pub seen : Text
@@ -76,7 +77,7 @@ pub record IsAll (mode : Mode) (t : Text) (s : State) : Type 0 where
   pub seen : Text
   pub ran : run mode (Some started) (pieces t) ≡ Some (reached s.part variants seen)
 
-pub walk_starts : (mode : Mode) (t : Text) (at : Left) → at.at ≡ 0 → bytes_left at ≡ t →
+pub walk_starts : (mode : Mode) (t : Text) (at : Cursor) → at.at ≡ 0 → bytes_left at ≡ t →
     IsWalked mode t at (record { part = Start; variants = None; seen = 0 })
 walk_starts mode t at e b = record {
   done = [];
@@ -89,12 +90,12 @@ walk_starts mode t at e b = record {
 }
 
 -- nothing was read, and so the piece may not come next
-pub none_else : (at : Left) (o : Option Reached) (r : Option State) → ((s : State) → r ≢ Some s) →
+pub none_else : (at : Cursor) (o : Option Reached) (r : Option State) → ((s : State) → r ≢ Some s) →
     IsPieceRead at o r → o ≡ None
 none_else at o None n h = h
 none_else at o (Some s) n h = absurd (n s refl)
 
-module _ {mode : Mode} {t : Text} {at : Left} {s : State} (w : IsWalked mode t at s) where
+module _ {mode : Mode} {t : Text} {at : Cursor} {s : State} (w : IsWalked mode t at s) where
   -- what was read
   abbrev now : Reached
   now = reached s.part w.variants w.seen
@@ -135,7 +136,7 @@ module _ {mode : Mode} {t : Text} {at : Left} {s : State} (w : IsWalked mode t a
       stops rest = rw e refl
 
   -- it may, and another follows
-  pub walk_on : {m : Left} (q : State) → IsPieceRead at (next mode now (piece_left at)) (Some q) →
+  pub walk_on : {m : Cursor} (q : State) → IsPieceRead at (next mode now (piece_left at)) (Some q) →
       IsNextPiece at m → IsWalked mode t m q
   walk_on {m = m} q r n = record {
     done = w.done ++ (piece_left at ∷ []);
@@ -156,7 +157,8 @@ module _ {mode : Mode} {t : Text} {at : Left} {s : State} (w : IsWalked mode t a
   }
 
   -- it may, and is the last one
-  pub walk_all : (q : State) → IsPieceRead at (next mode now (piece_left at)) (Some q) → at.n ≡ at.len →
+  pub walk_all : (q : State) → IsPieceRead at (next mode now (piece_left at)) (Some q)
+      → at.piece_length ≡ at.remaining →
       IsAll mode t q
   walk_all q r e =
       let end = last_piece at e r.3 in

@@ -3,16 +3,16 @@ use Rattle.std.specs.Prelude.{◌≡◌, ◌⊎◌, ℕ, ◌≤◌, Bool, true, 
 use Rattle.std.specs.List.{AllByRecursion, IsDistinct, list_any}
 use Rattle.std.specs.Ordering.{nat_cmp, eq_by_cmp}
 use Rattle.iloc_spec_grammar.specs.Syntax.{Text, Variant, IsWord}
-use Rattle.iloc_pieces.specs.Left.{pieces_left}
+use Rattle.iloc_pieces.specs.Cursor.{pieces_left}
 use Rattle.iloc_pieces.specs.Words.{word_number}
-use Rattle.iloc_pieces.specs.declared.cursor.Left.{Left}
+use Rattle.iloc_pieces.specs.declared.place.Cursor.{Cursor}
 
 -- whether two numbers are the same
 abbrev pub same : ℕ → ℕ → Bool
 same = eq_by_cmp nat_cmp
 
 -- the first pieces that are left are variants with these numbers
-pub record AreNumbersAt (at : Left) (ns : List ℕ) : Type 0 where
+pub record AreNumbersAt (at : Cursor) (ns : List ℕ) : Type 0 where
   pub words : List Text
   pub rest : List Text
   pub cut : pieces_left at ≡ words ++ rest

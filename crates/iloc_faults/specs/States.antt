@@ -8,8 +8,8 @@ use Rattle.std.specs.Int.{bit_at}
 use Rattle.iloc_spec_grammar.specs.Syntax.{Text, pieces, Variant, is_word, lower, word_cmp}
 use Rattle.iloc_spec_grammar.specs.Meaning as grammar
 use Rattle.iloc_subtags.specs.Judging.{error_of}
-use Rattle.iloc_pieces.specs.Left.{IsNextPiece, IsShortPiece, piece_left, pieces_left}
-use Rattle.iloc_pieces.specs.declared.cursor.Left.{Left}
+use Rattle.iloc_pieces.specs.Cursor.{IsNextPiece, IsShortPiece, piece_left, pieces_left}
+use Rattle.iloc_pieces.specs.declared.place.Cursor.{Cursor}
 use Rattle.iloc_normalize.specs.declared.Mode.{Mode}
 use Rattle.iloc_faults.specs.declared.Fault.{Fault}
 use Rattle.iloc_faults.specs.declared.state.Part.{Part}
@@ -39,7 +39,7 @@ first_variants [] = []
 first_variants (p ∷ ps) = if is_word Variant p then p ∷ first_variants ps else []
 
 -- the variants from the piece on
-abbrev pub variants_left : Left → List Text
+abbrev pub variants_left : Cursor → List Text
 variants_left l = first_variants (pieces_left l)
 
 -- after xs, so many of ys are new, each none of those before it; the next of ys, if there is one, is not
@@ -49,7 +49,7 @@ AreNew same xs (y ∷ ys) zero = list_any (same y) xs ≡ true
 AreNew same xs (y ∷ ys) (suc n) = (list_any (same y) xs ≡ false) × AreNew same (xs ++ (y ∷ [])) ys n
 
 -- the variants before the piece, in lower case; if there are some, so many of those that follow are new
-abbrev pub AreVariantsRead : Option ℕ → Left → List Text → Type 0
+abbrev pub AreVariantsRead : Option ℕ → Cursor → List Text → Type 0
 AreVariantsRead None at vs = vs ≡ []
 AreVariantsRead (Some n) at vs = (vs ≢ []) × AreNew are_same vs (map lower (variants_left at)) n
 
@@ -65,7 +65,7 @@ HasNone (Source stage) first = IsEarly stage first
 HasNone part first = ⊤
 
 -- before the piece, the state tells these variants and singletons
-pub record IsRead (s : State) (at : Left) (vs : List Text) (seen : List ℕ) : Type 0 where
+pub record IsRead (s : State) (at : Cursor) (vs : List Text) (seen : List ℕ) : Type 0 where
   pub seen_are : AreSingletonsSeen s.seen seen
   pub variants_are : AreVariantsRead s.variants at vs
   pub early : HasNone s.part s.variants
@@ -75,16 +75,16 @@ abbrev pub reached : Part → List Text → List ℕ → Reached
 reached part vs seen = record { part = part; variants = vs; seen = seen }
 
 -- what is read with the piece is o, and behind the piece the state tells it
-abbrev pub IsPieceRead : Left → Option Reached → Option State → Type 0
+abbrev pub IsPieceRead : Cursor → Option Reached → Option State → Type 0
 IsPieceRead at o None = o ≡ None
 IsPieceRead at o (Some s) = (vs : List Text) × (seen : List ℕ) × (o ≡ Some (reached s.part vs seen))
-    × IsShortPiece (piece_left at) × ((m : Left) → IsNextPiece at m → IsRead s m vs seen)
+    × IsShortPiece (piece_left at) × ((m : Cursor) → IsNextPiece at m → IsRead s m vs seen)
 
 -- the same of a word of an identifier
-abbrev pub IsWordRead : Left → Option (Stage × List Text) → Option (Stage × Option ℕ) → Type 0
+abbrev pub IsWordRead : Cursor → Option (Stage × List Text) → Option (Stage × Option ℕ) → Type 0
 IsWordRead at o None = o ≡ None
 IsWordRead at o (Some w) = (ws : List Text) × (o ≡ Some (w.0, ws)) × IsShortPiece (piece_left at)
-    × IsEarly w.0 w.1 × ((m : Left) → IsNextPiece at m → AreVariantsRead w.1 m ws)
+    × IsEarly w.0 w.1 × ((m : Cursor) → IsNextPiece at m → AreVariantsRead w.1 m ws)
 
 -- a state without variants
 abbrev pub bare : ℕ → Part → State

@@ -1,18 +1,18 @@
 //! The words of an identifier: which may come next.
 ghost use Rattle.std.specs.Prelude.{◌≡◌, List, [], map};
 ghost use Rattle.iloc_spec_grammar.specs.Syntax.{Text, IsWord, Variant, lower};
-ghost use Rattle.iloc_pieces.specs.Left.{piece_left};
+ghost use Rattle.iloc_pieces.specs.Cursor.{piece_left};
 ghost use Rattle.iloc_faults.specs.Next.{after_region_next, after_script_next, is_new, word_next};
 ghost use Rattle.iloc_faults.specs.States.{AreNew, AreVariantsRead, IsEarly, IsWordRead, are_same, variants_left};
 
 use crate::repeats::{Room, count_new};
 use crate::state::Stage;
 use iloc_normalize::Mode;
-use iloc_pieces::left::{Left, is_region, is_script, is_variant};
+use iloc_pieces::cursor::{Cursor, is_region, is_script, is_variant};
 
 // Whether the piece, a variant, may follow the variants before it: it is none of them, and a data locale has one at most.
 #[inline(always)]
-fn is_new(mode: Mode, variants: Option<usize>, at: Left<'_>) -> bool
+fn is_new(mode: Mode, variants: Option<usize>, at: Cursor<'_>) -> bool
     requires word { IsWord Variant (piece_left at) }
     requires before { (vs : List Text) × AreVariantsRead variants at vs }
     ensures { (vs : List Text) → AreVariantsRead variants at.entry vs
@@ -29,7 +29,7 @@ fn is_new(mode: Mode, variants: Option<usize>, at: Left<'_>) -> bool
 
 // How many variants from the piece on are new.
 #[inline(always)]
-fn count_left<R: Room>(room: R, variants: Option<usize>, at: Left<'_>) -> usize
+fn count_left<R: Room>(room: R, variants: Option<usize>, at: Cursor<'_>) -> usize
     ensures { (vs : List Text) → AreVariantsRead variants at.entry vs
         → AreNew are_same vs (map lower (variants_left at.entry)) result }
 {
@@ -45,7 +45,7 @@ fn read_variant<R: Room>(
     room: R,
     mode: Mode,
     variants: Option<usize>,
-    at: Left<'_>,
+    at: Cursor<'_>,
 ) -> Option<(Stage, Option<usize>)>
     requires { (vs : List Text) × AreVariantsRead variants at vs }
     ensures { (vs : List Text) → AreVariantsRead variants at.entry vs
@@ -62,7 +62,7 @@ fn read_variant<R: Room>(
 
 // What was read once the piece is read too, after a script.
 #[inline(always)]
-fn read_region<R: Room>(room: R, mode: Mode, at: Left<'_>) -> Option<(Stage, Option<usize>)>
+fn read_region<R: Room>(room: R, mode: Mode, at: Cursor<'_>) -> Option<(Stage, Option<usize>)>
     ensures { IsWordRead at.entry (after_script_next mode [] (piece_left at.entry)) result }
 {
     if is_region(at) {
@@ -79,7 +79,7 @@ pub fn read_word<R: Room>(
     mode: Mode,
     stage: Stage,
     variants: Option<usize>,
-    at: Left<'_>,
+    at: Cursor<'_>,
 ) -> Option<(Stage, Option<usize>)>
     requires before { (vs : List Text) × AreVariantsRead variants at vs }
     requires early { IsEarly stage variants }

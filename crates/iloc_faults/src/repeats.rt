@@ -5,12 +5,12 @@
 ghost use Rattle.std.specs.Prelude.{◌≡◌, ℕ, ◌≤◌, ◌<◌, true, false, List, [], ◌∷◌, ◌++◌, length, map};
 ghost use Rattle.std.specs.List.Sorted.{IsNonDecreasing};
 ghost use Rattle.iloc_spec_grammar.specs.Syntax.{IsWord, Variant, lower};
-ghost use Rattle.iloc_pieces.specs.Left.{piece_left};
+ghost use Rattle.iloc_pieces.specs.Cursor.{piece_left};
 ghost use Rattle.iloc_pieces.specs.Words.{word_number as number_of};
 ghost use Rattle.iloc_faults.specs.States.{AreNew, are_same, variants_left};
 ghost use Rattle.iloc_faults.specs.Numbers.{AreNumbersAt, AreDistinct, ComeBefore, same};
 
-use iloc_pieces::left::{Left, is_last, is_variant, next, word_number};
+use iloc_pieces::cursor::{Cursor, is_last, is_variant, next, word_number};
 use std::alloc::Global;
 use std::cmp::min;
 
@@ -27,7 +27,7 @@ const MANY: usize = 16_384;
 /// Where the numbers of a long run of variants are kept.
 pub trait Room: Copy {
     /// The same as `count_new`, of so many variants.
-    fn count_many(self, first: Left<'_>, all: usize) -> usize
+    fn count_many(self, first: Cursor<'_>, all: usize) -> usize
         requires some { 1 ≤ all }
         requires all { all ≡ length (variants_left first) }
         ensures { AreNew are_same [] (map lower (variants_left first.entry)) result };
@@ -38,7 +38,7 @@ pub trait Room: Copy {
 pub struct OnStack;
 
 impl Room for OnStack {
-    fn count_many(self, first: Left<'_>, all: usize) -> usize {
+    fn count_many(self, first: Cursor<'_>, all: usize) -> usize {
         count_by::<MANY>(first, all)
     }
 }
@@ -48,7 +48,7 @@ impl Room for OnStack {
 pub struct InMemory(pub Global);
 
 impl Room for InMemory {
-    fn count_many(self, first: Left<'_>, all: usize) -> usize {
+    fn count_many(self, first: Cursor<'_>, all: usize) -> usize {
         match vec![in self.0; 0u64; all] {
             Ok(mut words) => count_in(words.as_mut_slice(), first, all),
             Err(_) => count_by::<MANY>(first, all),
@@ -58,7 +58,7 @@ impl Room for InMemory {
 
 // The piece after a variant; the variant itself, if it is the last piece.
 #[inline(always)]
-fn after(at: Left<'_>) -> Left<'_>
+fn after(at: Cursor<'_>) -> Cursor<'_>
     requires { IsWord Variant (piece_left at) }
     ensures { (n : ℕ) (ns : List ℕ) → AreNumbersAt at.entry (n ∷ ns) → AreNumbersAt result ns }
 {
@@ -66,7 +66,7 @@ fn after(at: Left<'_>) -> Left<'_>
 }
 
 // How many variants come one after the other.
-fn count_variants(first: Left<'_>) -> usize
+fn count_variants(first: Cursor<'_>) -> usize
     ensures { result ≡ length (variants_left first.entry) }
 {
     let mut at = first;
@@ -82,7 +82,7 @@ fn count_variants(first: Left<'_>) -> usize
 }
 
 // Writes the numbers of the next variants, and returns what follows them.
-fn fill<'a>(words: &mut [u64], first: Left<'a>) -> Left<'a>
+fn fill<'a>(words: &mut [u64], first: Cursor<'a>) -> Cursor<'a>
     requires { (ns : List ℕ) × AreNumbersAt first ns × (length words.old ≤ length ns) }
     ensures { (ns ks : List ℕ) → AreNumbersAt first.entry (ns ++ ks) → length ns ≡ length words.new
         → (words.new ≡ ns) × AreNumbersAt result ks }
@@ -110,7 +110,7 @@ fn has_twice(sorted: &[u64]) -> bool
 }
 
 // How many of so many variants come before one whose number is given.
-fn count_others(sorted: &[u64], first: Left<'_>, most: usize) -> usize
+fn count_others(sorted: &[u64], first: Cursor<'_>, most: usize) -> usize
     requires sorted { IsNonDecreasing sorted.now }
     requires words { (ns : List ℕ) × AreNumbersAt first ns × (most ≤ length ns) }
     ensures { (ns : List ℕ) → AreNumbersAt first.entry ns → most ≤ length ns
@@ -127,7 +127,7 @@ fn count_others(sorted: &[u64], first: Left<'_>, most: usize) -> usize
 }
 
 // The same as `count_new`, by chunks of as many variants as there is room for.
-fn count_in(words: &mut [u64], first: Left<'_>, all: usize) -> usize
+fn count_in(words: &mut [u64], first: Cursor<'_>, all: usize) -> usize
     requires some { 1 ≤ length words.old }
     requires all { all ≡ length (variants_left first) }
     ensures { AreNew are_same [] (map lower (variants_left first.entry)) result }
@@ -156,7 +156,7 @@ fn count_in(words: &mut [u64], first: Left<'_>, all: usize) -> usize
 // The same by chunks of N variants, on the stack. It stands for itself, so that what calls it has no room for N numbers
 // among its own locals.
 #[inline(never)]
-fn count_by<const N: usize>(first: Left<'_>, all: usize) -> usize
+fn count_by<const N: usize>(first: Cursor<'_>, all: usize) -> usize
     requires some { 1 ≤ N }
     requires few { N ≤ 65536 }
     requires all { all ≡ length (variants_left first) }
@@ -170,7 +170,7 @@ fn count_by<const N: usize>(first: Left<'_>, all: usize) -> usize
 ///
 /// It takes time in proportion to their number and its logarithm. More than 16,384 of them are kept in the room.
 #[inline(never)]
-pub fn count_new<R: Room>(room: R, first: Left<'_>) -> usize
+pub fn count_new<R: Room>(room: R, first: Cursor<'_>) -> usize
     ensures { AreNew are_same [] (map lower (variants_left first.entry)) result }
 {
     let all = count_variants(first);

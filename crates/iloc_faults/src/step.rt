@@ -1,9 +1,9 @@
 //! What may come next, and why another piece is refused.
-ghost use Rattle.std.specs.Prelude.{◌≡◌, ℕ, ◌^◌, List, Some, true, codes, option_map, slice_index};
+ghost use Rattle.std.specs.Prelude.{◌≡◌, ℕ, ◌^◌, List, Some, true, option_map, slice_index};
 ghost use Rattle.std.specs.Char.{is_ascii_alphanumeric, to_ascii_lowercase};
-ghost use Rattle.iloc_spec_grammar.specs.Syntax.{Text, is_one_byte, is_same, lower};
+ghost use Rattle.iloc_spec_grammar.specs.Syntax.{Text, is_one_byte};
 ghost use Rattle.iloc_subtags.specs.Judging.{error_of};
-ghost use Rattle.iloc_pieces.specs.Left.{piece_left};
+ghost use Rattle.iloc_pieces.specs.Cursor.{piece_left};
 ghost use Rattle.iloc_normalize.specs.declared.Mode.TheVariants as modes;
 ghost use Rattle.iloc_faults.specs.Next as steps;
 ghost use Rattle.iloc_faults.specs.Next.{begins_block, block_next, inside_next, may_begin, part_of, piece_next, subdivision_next, when};
@@ -12,16 +12,16 @@ ghost use Rattle.iloc_faults.specs.States.{IsRead, IsPieceRead, bare, bit_place,
 use crate::identifier::read_word;
 use crate::repeats::Room;
 use crate::state::{Part, Stage, State, may_end, takes_any};
-use iloc_normalize::{Mode, names_subdivision};
-use iloc_pieces::left::{
-    Left, is_alphanumeric, is_attribute, is_between, is_field_key, is_key, is_language, is_private,
-    is_single, is_subtag, is_true, is_variant, singleton,
+use iloc_normalize::{Mode, is_sd, names_subdivision};
+use iloc_pieces::cursor::{
+    Cursor, is_alphanumeric, is_attribute, is_between, is_field_key, is_key, is_language,
+    is_private, is_single, is_subtag, is_true, is_variant, singleton,
 };
 use iloc_subtags::ParseError;
 
 // The subdivision of a data locale, or a `true` that it leaves out.
-#[tactic(auto, using(iloc_pieces::proofs::LeftLemmas::short_attribute))]
-fn read_subdivision(at: Left<'_>) -> Option<Part>
+#[tactic(auto, using(iloc_pieces::proofs::CursorLemmas::short_attribute))]
+fn read_subdivision(at: Cursor<'_>) -> Option<Part>
     ensures { result ≡ subdivision_next (piece_left at.entry) }
 {
     if !is_attribute(at) {
@@ -30,22 +30,8 @@ fn read_subdivision(at: Left<'_>) -> Option<Part>
     if is_true(at) {
         return Some(Part::SubdivisionKey);
     }
-    let word = &at.window[at.at..at.at + at.n];
+    let word = &at.window[at.at..at.at + at.piece_length];
     when(names_subdivision(word), Part::SubdivisionValue)
-}
-
-// Whether the piece is `sd`, in whatever case.
-#[inline(always)]
-fn is_sd(at: Left<'_>) -> bool
-    ensures { result ≡ is_same (lower (piece_left at.entry)) (codes "sd") }
-{
-    if at.n != 2 {
-        return false;
-    }
-    if at.window[at.at].to_ascii_lowercase() != b's' {
-        return false;
-    }
-    at.window[at.at + 1].to_ascii_lowercase() == b'd'
 }
 
 // The part, if this holds.
@@ -58,7 +44,7 @@ fn when(holds: bool, part: Part) -> Option<Part>
 
 // What was read once a piece of a block is read too.
 #[inline(always)]
-fn read_piece(part: Part, at: Left<'_>) -> Option<Part>
+fn read_piece(part: Part, at: Cursor<'_>) -> Option<Part>
     ensures { result ≡ piece_next part (piece_left at.entry) }
 {
     match part {
@@ -103,7 +89,7 @@ fn plain(seen: u64, part: Option<Part>) -> Option<State>
 
 // What was read once a piece is read that begins no block.
 #[inline(always)]
-fn read_inside<R: Room>(room: R, mode: Mode, state: State, at: Left<'_>) -> Option<State>
+fn read_inside<R: Room>(room: R, mode: Mode, state: State, at: Cursor<'_>) -> Option<State>
     requires { (vs : List Text) × (seen : List ℕ) × IsRead state at vs seen }
     ensures { (vs : List Text) (seen : List ℕ) → IsRead state at.entry vs seen
         → IsPieceRead at.entry
@@ -172,7 +158,7 @@ fn part_of(byte: u8) -> Part
 
 // Whether a block may begin with the piece after the part: it is a letter or digit.
 #[inline(always)]
-fn may_begin(part: Part, at: Left<'_>) -> bool
+fn may_begin(part: Part, at: Cursor<'_>) -> bool
     requires { is_one_byte (piece_left at) ≡ true }
     ensures { result ≡ may_begin part (slice_index (piece_left at.entry) 0) }
 {
@@ -181,7 +167,7 @@ fn may_begin(part: Part, at: Left<'_>) -> bool
 
 // What was read with the singleton of a locale too, if a block may begin with it.
 #[inline(always)]
-fn read_block(state: State, at: Left<'_>) -> Option<State>
+fn read_block(state: State, at: Cursor<'_>) -> Option<State>
     requires { is_one_byte (piece_left at) ≡ true }
     ensures { (vs : List Text) (seen : List ℕ) → IsRead state at.entry vs seen
         → IsPieceRead at.entry (block_next modes.Locale state.part seen
@@ -204,7 +190,7 @@ fn read_block(state: State, at: Left<'_>) -> Option<State>
 
 // What was read with the singleton of a data locale too: `u` alone, after the identifier.
 #[inline(always)]
-fn read_data_block(state: State, at: Left<'_>) -> Option<State>
+fn read_data_block(state: State, at: Cursor<'_>) -> Option<State>
     requires { is_one_byte (piece_left at) ≡ true }
     ensures { (vs : List Text) (seen : List ℕ) → IsRead state at.entry vs seen
         → IsPieceRead at.entry (block_next modes.Data state.part seen
@@ -218,7 +204,7 @@ fn read_data_block(state: State, at: Left<'_>) -> Option<State>
 
 // What was read with the singleton too, in the mode.
 #[inline(always)]
-fn read_singleton(mode: Mode, state: State, at: Left<'_>) -> Option<State>
+fn read_singleton(mode: Mode, state: State, at: Cursor<'_>) -> Option<State>
     requires { is_one_byte (piece_left at) ≡ true }
     ensures { (vs : List Text) (seen : List ℕ) → IsRead state at.entry vs seen
         → IsPieceRead at.entry (block_next mode state.part seen
@@ -233,7 +219,7 @@ fn read_singleton(mode: Mode, state: State, at: Left<'_>) -> Option<State>
 
 // Whether the piece begins a block after the part.
 #[inline(always)]
-fn begins_block(part: Part, at: Left<'_>) -> bool
+fn begins_block(part: Part, at: Cursor<'_>) -> bool
     ensures { result ≡ begins_block part (piece_left at.entry) }
 {
     is_single(at) && !takes_any(part)
@@ -241,7 +227,7 @@ fn begins_block(part: Part, at: Left<'_>) -> bool
 
 /// What was read with the piece too; `None` if the piece may not come next.
 #[inline(always)]
-pub fn step<R: Room>(room: R, mode: Mode, state: State, at: Left<'_>) -> Option<State>
+pub fn step<R: Room>(room: R, mode: Mode, state: State, at: Cursor<'_>) -> Option<State>
     requires { (vs : List Text) × (seen : List ℕ) × IsRead state at vs seen }
     ensures { (vs : List Text) (seen : List ℕ) → IsRead state at.entry vs seen
         → IsPieceRead at.entry
@@ -255,7 +241,7 @@ pub fn step<R: Room>(room: R, mode: Mode, state: State, at: Left<'_>) -> Option<
 
 /// Why the piece, which may not come next, is refused.
 #[inline(always)]
-pub fn refusal(mode: Mode, part: Part, at: Left<'_>) -> ParseError
+pub fn refusal(mode: Mode, part: Part, at: Cursor<'_>) -> ParseError
     ensures { result ≡ error_of (steps.piece_fault mode part (piece_left at.entry)) }
 {
     match mode {

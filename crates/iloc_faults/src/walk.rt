@@ -1,7 +1,7 @@
 //! Walks over the pieces of a text until one may not come next.
 ghost use Rattle.std.specs.Prelude.{◌≡◌, ◌↔◌, ◌+◌, ◌≤◌, None, IfSome, length, take};
 ghost use Rattle.iloc_spec_grammar.specs.Syntax.{pieces};
-ghost use Rattle.iloc_pieces.specs.Left.{piece_left};
+ghost use Rattle.iloc_pieces.specs.Cursor.{piece_left};
 ghost use Rattle.iloc_normalize.specs.declared.Mode.TheVariants as modes;
 ghost use Rattle.iloc_faults.specs.Next.{started, outcome};
 ghost use Rattle.iloc_faults.specs.Places.{IsAccepted, IsFault};
@@ -12,19 +12,19 @@ use crate::repeats::Room;
 use crate::state::{Part, State, may_end};
 use crate::step::{refusal, step};
 use iloc_normalize::{Mode, data_refusal};
-use iloc_pieces::left::{Left, is_last, left_in, next};
+use iloc_pieces::cursor::{Cursor, cursor_in, is_last, next};
 use iloc_subtags::ParseError;
 
 // Where the piece ends.
 #[inline(always)]
-fn end_of(at: Left<'_>) -> usize
+fn end_of(at: Cursor<'_>) -> usize
     ensures { result ≡ at.entry.at + length (piece_left at.entry) }
 {
-    if at.n < 16 {
-        return at.at + at.n;
+    if at.piece_length < 16 {
+        return at.at + at.piece_length;
     }
     let mut end = at.at;
-    let stop = at.at + at.len;
+    let stop = at.at + at.remaining;
     while end < stop && at.window[end] != b'-' {
         end += 1;
     }
@@ -40,7 +40,7 @@ pub fn walk<R: Room>(room: R, mode: Mode, window: &[u8], len: usize) -> Option<F
         → outcome mode started (pieces (take len window.now)) ≡ None }
     ensures bad { IfSome result (IsFaultFound mode (take len window.now)) }
 {
-    let mut at = left_in(window, len);
+    let mut at = cursor_in(window, len);
     let mut state = State {
         part: Part::Start,
         variants: None,

@@ -18,7 +18,7 @@ ghost use Rattle.iloc_langid.specs.PlainReads.{IsPlainFront};
 use crate::identifier::LanguageIdentifier;
 use crate::plain::{PlainParts, plain_parts, take_plain};
 use iloc_memory::Memory;
-use iloc_pieces::begins_with_language;
+use iloc_pieces::lanes_begin_with_language;
 use iloc_pieces::load::load;
 use iloc_subtags::{
     ParseError, SubtagIterator, VariantKind, WordKind, WordOf, is_at_block, next_has_length,
@@ -230,7 +230,7 @@ pub(crate) fn short_parts(text: &[u8]) -> Result<Option<PlainParts>, ParseError>
     if let Some(plain) = plain_parts(lanes, text.len()) {
         return Ok(Some(plain));
     }
-    if !begins_with_language(lanes, text.len()) {
+    if !lanes_begin_with_language(lanes, text.len()) {
         return Err(ParseError::InvalidLanguage);
     }
     Ok(None)

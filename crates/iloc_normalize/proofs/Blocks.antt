@@ -11,15 +11,15 @@ use Rattle.iloc_spec_grammar.proofs.PiecesLaws.{at_pieces}
 use Rattle.iloc_spec_parts.specs.Small.{SmallIdentifier}
 use Rattle.iloc_spec_parts.specs.SmallComputing.{block_fault, blocks_result, is_u, keyword_read}
 use Rattle.iloc_spec_parts.specs.DataComputing.{data_of_result}
-use Rattle.iloc_pieces.specs.Left.{IsNextPiece, bytes_left, piece_left, pieces_left}
-use Rattle.iloc_pieces.specs.declared.cursor.Left.{Left}
-use Rattle.iloc_pieces.proofs.LeftLemmas.{next_at}
+use Rattle.iloc_pieces.specs.Cursor.{IsNextPiece, bytes_left, piece_left, pieces_left}
+use Rattle.iloc_pieces.specs.declared.place.Cursor.{Cursor}
+use Rattle.iloc_pieces.proofs.CursorLemmas.{next_at}
 use Rattle.iloc_normalize.specs.Data.{IsDataBehind}
 use Rattle.iloc_normalize.specs.Subdivisions.{IsKeywordRead, IsNamed, data_behind}
 use Rattle.iloc_normalize.specs.declared.data.Data.TheVariants as datas
-use Rattle.iloc_normalize.specs.declared.data.Head.{Head}
+use Rattle.iloc_normalize.specs.declared.data.DataHead.{DataHead}
 use Rattle.iloc_normalize.specs.declared.subdivisions.Keyword.TheVariants as keywords
-use Rattle.iloc_normalize.specs.declared.subdivisions.Value.{Value}
+use Rattle.iloc_normalize.specs.declared.subdivisions.SubdivisionValue.{SubdivisionValue}
 use Rattle.iloc_normalize.proofs.Behind.{no_key_behind, no_attribute, no_word_key}
 use Rattle.iloc_normalize.proofs.FrontAnswers.{first_block, no_u, other_fault}
 use Rattle.iloc_normalize.proofs.BlockFaults.{no_letter_no_u, unlettered_fault}
@@ -46,7 +46,7 @@ other_block r c ps f other fault =
           Some (keyword_read qs);
     }) else Err (fault qs j)))
 
-module _ (h : Head) (l : Left) (single : is_one_byte (piece_left l) ≡ true) where
+module _ (h : DataHead) (l : Cursor) (single : is_one_byte (piece_left l) ≡ true) where
   abbrev c : ℕ
   c = slice_index (piece_left l) 0
 
@@ -76,7 +76,7 @@ module _ (h : Head) (l : Left) (single : is_one_byte (piece_left l) ≡ true) wh
         ap (data_behind r) (there ∙ ap (λ ps. (c ∷ []) ∷ rest_of ps) last)
         ∙ no_key_behind c u r [] no_attribute no_word_key
 
-    module _ (m : Left) (n : IsNextPiece l m) where
+    module _ (m : Cursor) (n : IsNextPiece l m) where
       before : pieces_left l ≡ (c ∷ []) ∷ pieces_left m
       before = there ∙ ap (λ ps. (c ∷ []) ∷ rest_of ps) n.pieces
 
@@ -88,7 +88,8 @@ module _ (h : Head) (l : Left) (single : is_one_byte (piece_left l) ≡ true) wh
           → data_behind r (pieces_left l) ≡ Err InvalidExtension
       unnamed_read k r = ap (data_behind r) before ∙ k c u r
 
-      pub named_read : (v : Value) → IsKeywordRead m (keywords.Named v) → IsDataBehind h l (datas.Named h v)
+      pub named_read : (v : SubdivisionValue) → IsKeywordRead m (keywords.Named v)
+          → IsDataBehind h l (datas.Named h v)
       named_read v k =
           let s = k.0 in
           let p = k.1 in

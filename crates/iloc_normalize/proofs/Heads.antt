@@ -25,7 +25,7 @@ use Rattle.iloc_outline.proofs.OutlineLemmas.{lower-dashes}
 use Rattle.iloc_outline.proofs.TransformLemmas.{front_of_body, words_front, long_language}
 use Rattle.iloc_normalize.specs.Data.{IsHead}
 use Rattle.iloc_normalize.specs.Subdivisions.{bytes_at, data_behind}
-use Rattle.iloc_normalize.specs.declared.data.Head.{Head}
+use Rattle.iloc_normalize.specs.declared.data.DataHead.{DataHead}
 use Rattle.iloc_normalize.proofs.FrontAnswers.{BeginsWell, blocks_left}
 use Rattle.iloc_normalize.proofs.BlockFaults.{head_region, large_head, small_head}
 use Rattle.iloc_outline.proofs.BodyLemmas.{front_none, front_past, front_first}
@@ -172,7 +172,7 @@ module _ (t : Text) (begins : BeginsWell t) (vs rest : List Text) (cut : after_r
 
 -- ---- how it is printed
 
-pub head_printed : (w : Text) (h : Head) (i : SpelledIdentifier) → HasWords languages i →
+pub head_printed : (w : Text) (h : DataHead) (i : SpelledIdentifier) → HasWords languages i →
     length i.variants ≤ 1
     → h.front.end ≤ h.end → h.end ≤ length w → take h.front.end w ≡ join (front_pieces i)
     → front_text h.front.script h.front.region (take h.front.end w) ≡ join (front_pieces

@@ -6,15 +6,15 @@ use Rattle.iloc_spec_grammar.specs.Syntax.{UnicodeKey, IsWord, lower}
 use Rattle.iloc_spec_grammar.specs.Reading.{first_item}
 use Rattle.iloc_spec_grammar.proofs.WordsLaws.{length-unicode_key}
 use Rattle.iloc_spec_parts.specs.DataLocales.{named_subdivision}
-use Rattle.iloc_pieces.specs.Left.{bytes_left, piece_left, pieces_left}
-use Rattle.iloc_pieces.specs.declared.cursor.Left.{Left}
-use Rattle.iloc_pieces.proofs.LeftLemmas.{first_within, length_rest, piece_bytes}
+use Rattle.iloc_pieces.specs.Cursor.{bytes_left, piece_left, pieces_left}
+use Rattle.iloc_pieces.specs.declared.place.Cursor.{Cursor}
+use Rattle.iloc_pieces.proofs.CursorLemmas.{first_within, length_rest, piece_bytes}
 use Rattle.iloc_normalize.specs.Subdivisions.{IsKeywordRead, IsNamed, IsNamedBy, IsOnly, bytes_at}
 use Rattle.iloc_normalize.specs.declared.subdivisions.Keyword.{Keyword}
 use Rattle.iloc_normalize.specs.declared.subdivisions.Keyword.TheVariants as keywords
 use Rattle.iloc_normalize.proofs.Behind.{named_pieces, unnamed_pieces}
 
-pub keyword_named : (key m : Left) → IsWord UnicodeKey (piece_left key) → IsOnly key m → (k : Keyword)
+pub keyword_named : (key m : Cursor) → IsWord UnicodeKey (piece_left key) → IsOnly key m → (k : Keyword)
     → IsNamedBy key m k
     → IsKeywordRead key k
 keyword_named key m w h keywords.Misfit n = absurd n

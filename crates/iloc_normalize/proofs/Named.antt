@@ -11,8 +11,8 @@ use Rattle.iloc_outline.specs.Identifier.{front_text}
 use Rattle.iloc_outline.specs.Parts.{front_pieces}
 use Rattle.iloc_normalize.specs.Data.{HasValue, IsRegionStart}
 use Rattle.iloc_normalize.specs.Subdivisions.{bytes_at}
-use Rattle.iloc_normalize.specs.declared.data.Head.{Head}
-use Rattle.iloc_normalize.specs.declared.subdivisions.Value.{Value}
+use Rattle.iloc_normalize.specs.declared.data.DataHead.{DataHead}
+use Rattle.iloc_normalize.specs.declared.subdivisions.SubdivisionValue.{SubdivisionValue}
 use Rattle.iloc_normalize.proofs.Texts as texts
 
 -- a region that is nowhere is none
@@ -34,7 +34,8 @@ some_region : (w : Text) (end : ℕ) (o : Option Text) → IfSome o (IsWord Regi
 some_region w end None h at e s = absurd (e s)
 some_region w end (Some r) h at e s = record { region = r; is = refl; word = h; bytes = s.1 }
 
-module _ (w : Text) (len : ℕ) (h : Head) (v : Value) (d : DataLocale) (x : HasValue w len h v d) where
+module _ (w : Text) (len : ℕ) (h : DataHead) (v : SubdivisionValue) (d : DataLocale)
+    (x : HasValue w len h v d) where
   abbrev i : SpelledIdentifier
   i = x.written
 

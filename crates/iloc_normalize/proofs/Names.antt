@@ -6,32 +6,32 @@ use Rattle.std.proofs.Common.{true≢false, not, is_some}
 use Rattle.std.specs.Prelude.{if◌then◌else◌, ok_or}
 use Rattle.std.specs.Char.{is_ascii_alphabetic, is_ascii_alphanumeric, to_ascii_lowercase}
 use Rattle.std.specs.Result.{result_ok}
-use Rattle.std.proofs.lemmas.Bool.{and_from, and_parts, eq-eqb, eqb-true, ne_eqb}
+use Rattle.std.proofs.lemmas.Bool.{and_from, and_parts, eq-eqb, eqb-true, false_from_ne_true, ne_eqb}
 use Rattle.std.proofs.lemmas.List.{drop-drop, drop-take, take-take}
-use Rattle.iloc_spec_grammar.specs.Syntax.{Text, Attribute, Region, Subtag, SubdivisionSuffix, UnicodeKey}
+use Rattle.iloc_spec_grammar.specs.Syntax.{Text, Attribute, Region, Subtag, SubdivisionSuffix}
 use Rattle.iloc_spec_grammar.specs.Syntax.{IsWord, is_same, is_true, is_word, letters_or_digits, lower}
 use Rattle.iloc_spec_grammar.specs.Syntax.{normal, upper}
 use Rattle.iloc_spec_grammar.specs.Meaning as faults
 use Rattle.iloc_spec_grammar.proofs.MapLaws.{same_is, same_itself}
 use Rattle.iloc_spec_grammar.proofs.WordsLaws.{is_word-lower, is_word-normal, length-attribute}
-use Rattle.iloc_spec_grammar.proofs.WordsLaws.{alphabetic-lower}
-use Rattle.iloc_spec_grammar.proofs.WordsLaws.{length-unicode_key, lower-lower, lower-upper, normal-normal}
+use Rattle.iloc_spec_grammar.proofs.WordsLaws.{alphabetic-lower, length-lower}
+use Rattle.iloc_spec_grammar.proofs.WordsLaws.{lower-lower, lower-upper, normal-normal}
 use Rattle.iloc_spec_grammar.proofs.WordsLaws.{word_letters_or_digits}
 use Rattle.iloc_spec_parts.specs.DataLocales.{named_subdivision}
 use Rattle.iloc_spec_parts.specs.Subdivisions.{Subdivision, both_words, region_length, subdivision}
 use Rattle.iloc_spec_parts.specs.Subdivisions.{subdivision_text}
 use Rattle.iloc_spec_parts.proofs.SubdivisionLaws.{subdivision_back}
-use Rattle.iloc_pieces.specs.Left.{IsShortPiece, piece_left}
+use Rattle.iloc_pieces.specs.Cursor.{IsShortPiece, piece_left}
 use Rattle.iloc_pieces.specs.Shape.{bits, shape_of}
-use Rattle.iloc_pieces.specs.declared.cursor.Left.{Left}
-use Rattle.iloc_pieces.proofs.LeftLemmas.{length_piece, piece_byte, short_attribute, short_bytes}
-use Rattle.iloc_pieces.proofs.ByShape.{shape_left}
+use Rattle.iloc_pieces.specs.declared.place.Cursor.{Cursor}
+use Rattle.iloc_pieces.proofs.CursorLemmas.{few_long, length_piece, piece_byte, short_attribute, short_bytes}
+use Rattle.iloc_pieces.proofs.ByShape.{cursor_shape}
 use Rattle.iloc_normalize.specs.Subdivisions.{EndsRegion, IsNamed, bytes_at}
 use Rattle.iloc_pieces.proofs.RunWords.{and-false}
 use Rattle.iloc_pieces.proofs.Shapes.{shape_of_one}
 use Rattle.iloc_outline.proofs.OutlineLemmas.{lower-append}
 
--- ---- the key
+-- ---- the key `sd`
 
 pub one_test : (x y : Bool) → (x ≡ true → y ≡ true) → (y ≡ true → x ≡ true) → x ≡ y
 one_test true true f g = refl
@@ -55,17 +55,26 @@ sd_of [] e = absurd (omega arith)
 sd_of (a ∷ []) e = absurd (omega arith)
 sd_of (a ∷ b ∷ c ∷ p) e = absurd (omega arith)
 
--- a key is `sd` if its two bytes are
-pub sd_is : (l : Left) → IsWord UnicodeKey (piece_left l)
-    → is_same (lower (piece_left l)) (codes "sd")
+pub two_long : (l : Cursor) → l.piece_length ≡ 2 → length (piece_left l) ≡ 2
+two_long l e = sym (few_long l (omega arith)) ∙ e
+
+pub not_two : (l : Cursor) → l.piece_length ≢ 2 → is_same (lower (piece_left l)) (codes "sd") ≡ false
+not_two l n = false_from_ne_true _ (λ e.
+    let two : length (piece_left l) ≡ 2 =
+    sym (length-lower (piece_left l)) ∙ ap length (same_is (lower (piece_left l)) (codes "sd") e) in
+    n (length_piece l (omega arith) ∙ two))
+
+-- the piece by its bytes in the window
+pub sd_is : (l : Cursor) → l.piece_length ≡ 2 →
+    is_same (lower (piece_left l)) (codes "sd")
     ≡ ((to_ascii_lowercase (get_or l.window.now l.at 0) == 115)
     && (to_ascii_lowercase (get_or l.window.now (l.at + 1) 0) == 100))
-sd_is l k =
-    let two = length-unicode_key (piece_left l) k in
+sd_is l e =
+    let two = two_long l e in
     sd_of (piece_left l) two
     ∙ ap₂ (λ u v. (to_ascii_lowercase u == 115) && (to_ascii_lowercase v == 100))
-    (piece_byte l 0 (omega arith)
-    ∙ ap (λ i. get_or l.window.now i 0) (omega arith)) (piece_byte l 1 (omega arith))
+    (piece_byte l 0 (omega arith) ∙ ap (λ i. get_or l.window.now i 0) (omega arith))
+    (piece_byte l 1 (omega arith))
 
 -- ---- a region and a suffix
 
@@ -278,13 +287,13 @@ two_or_three (c ∷ t) = elim (is_ascii_alphabetic c) as (λ (b : Bool). (2 ≤ 
       | false ↦ (omega arith, omega arith)
     ]
 
-module _ (m : Left) (word : IsWord Attribute (piece_left m)) where
+module _ (m : Cursor) (word : IsWord Attribute (piece_left m)) where
   short : IsShortPiece (piece_left m)
   short = short_attribute (piece_left m) word
 
   -- its shape
   pub shape_there : shape_of (piece_left m) ≡ m.shape
-  shape_there = sym (shape_left m short)
+  shape_there = sym (cursor_shape m short)
 
   pub all_there : letters_or_digits (piece_left m) ≡ true
   all_there = word_letters_or_digits Attribute (piece_left m) word
@@ -294,7 +303,7 @@ module _ (m : Left) (word : IsWord Attribute (piece_left m)) where
 
   -- so many bytes of it are the region
   pub named_there : is_true (lower (piece_left m)) ≡ false → (k : ℕ) → k ≢ 0 → EndsRegion (piece_left m) k
-      → (s : Subdivision) × IsNamed m.window.now (record { at = m.at; len = m.n; region = k }) s
+      → (s : Subdivision) × IsNamed m.window.now (record { at = m.at; len = m.piece_length; region = k }) s
   named_there other zero some h = absurd (some refl)
   named_there other (suc k) some h =
       let p = piece_left m in
@@ -304,14 +313,15 @@ module _ (m : Left) (word : IsWord Attribute (piece_left m)) where
       let few = two_or_three (lower p) in
       let size : (2 ≤ n) × (n ≤ 3) = (omega (arith, few.0, h.0), omega (arith, few.1, h.0)) in
       let l = long_there in
-      let bytes : bytes_at w m.at m.n ≡ p = short_bytes m short in
-      let within : n ≤ m.n = omega (arith, size.1, l, long) in
+      let bytes : bytes_at w m.at m.piece_length ≡ p = short_bytes m short in
+      let within : n ≤ m.piece_length = omega (arith, size.1, l, long) in
       let region : bytes_at w m.at n ≡ take n p =
-      sym (take-take n m.n (drop m.at w) within) ∙ ap (take n) bytes in
-      let parts : m.n ≡ n + (m.n - n) = omega (arith, within) in
-      let suffix : bytes_at w (m.at + n) (m.n - n) ≡ drop n p =
-      sym (ap (λ (i : ℕ). drop n (take i (drop m.at w))) parts ∙ drop-take n (m.n - n) (drop m.at w)
-      ∙ ap (take (m.n - n)) (drop-drop n m.at w)) ∙ ap (drop n) bytes in (
+      sym (take-take n m.piece_length (drop m.at w) within) ∙ ap (take n) bytes in
+      let parts : m.piece_length ≡ n + (m.piece_length - n) = omega (arith, within) in
+      let suffix : bytes_at w (m.at + n) (m.piece_length - n) ≡ drop n p =
+      sym (ap (λ (i : ℕ). drop n (take i (drop m.at w))) parts
+      ∙ drop-take n (m.piece_length - n) (drop m.at w)
+      ∙ ap (take (m.piece_length - n)) (drop-drop n m.at w)) ∙ ap (drop n) bytes in (
         record { region = upper (take n p); suffix = lower (drop n p) },
         record {
           few = within;

@@ -14,9 +14,9 @@ use Rattle.iloc_spec_parts.specs.SmallComputing.{blocks_result, small_identifier
 use Rattle.iloc_spec_parts.specs.DataComputing.{data_result}
 use Rattle.iloc_spec_parts.specs.DataLocales.{HasDataFault, made_of, whole_region}
 use Rattle.iloc_subtags.specs.Judging.{error_of}
-use Rattle.iloc_pieces.specs.Left.{IsPast, bytes_left, piece_left, pieces_left, whole_text}
-use Rattle.iloc_pieces.specs.declared.cursor.Left.{Left}
-use Rattle.iloc_pieces.proofs.LeftLemmas.{begins, first_within, length_piece, length_rest, short_variant}
+use Rattle.iloc_pieces.specs.Cursor.{IsPast, bytes_left, piece_left, pieces_left, whole_text}
+use Rattle.iloc_pieces.specs.declared.place.Cursor.{Cursor}
+use Rattle.iloc_pieces.proofs.CursorLemmas.{begins, first_within, length_piece, length_rest, short_variant}
 use Rattle.iloc_outline.specs.Identifier.{IsAfterFront, IsFrontRead, front_text}
 use Rattle.iloc_outline.specs.Outlines.{BeginsWithLanguage}
 use Rattle.iloc_outline.specs.Parts.{front_pieces}
@@ -31,7 +31,7 @@ use Rattle.iloc_normalize.specs.Answered.{HasRefusal}
 use Rattle.iloc_normalize.specs.declared.Mode.TheVariants as modes
 use Rattle.iloc_normalize.specs.declared.data.Data.{Data}
 use Rattle.iloc_normalize.specs.declared.data.Data.TheVariants as datas
-use Rattle.iloc_normalize.specs.declared.data.Head.{Head}
+use Rattle.iloc_normalize.specs.declared.data.DataHead.{DataHead}
 use Rattle.iloc_normalize.proofs.FrontAnswers.{data_fault}
 use Rattle.iloc_normalize.proofs.Heads.{AreVariants, head_printed, head_with, meant, misfit, words_with}
 use Rattle.iloc_outline.proofs.HeadLemmas.{single_starts}
@@ -49,7 +49,7 @@ refusal t f e = refused (HasDataFault languages t) f (error_of f) refl (data_fau
 
 module _ (w : Text) (len : ℕ) (language : BeginsWithLanguage (take len w)) (vs : List Text)
     (variants : AreVariants vs)
-    (few : length vs ≤ 1) (h : Head) (head : IsHead w h (head_with (pieces (take len w)) vs)) where
+    (few : length vs ≤ 1) (h : DataHead) (head : IsHead w h (head_with (pieces (take len w)) vs)) where
   abbrev t : Text
   t = take len w
 
@@ -65,8 +65,8 @@ module _ (w : Text) (len : ℕ) (language : BeginsWithLanguage (take len w)) (vs
     inside,
   )
 
-  module _ (k : Left) (cut : after_region (pieces t) ≡ vs ++ pieces_left k) (window : k.window.now ≡ w)
-      (at : k.at ≡ h.end + 1) (end : k.at + k.len ≡ len)
+  module _ (k : Cursor) (cut : after_region (pieces t) ≡ vs ++ pieces_left k) (window : k.window.now ≡ w)
+      (at : k.at ≡ h.end + 1) (end : k.at + k.remaining ≡ len)
       (odd : ((vs ≡ []) × (is_word Variant (piece_left k) ≡ false)) ⊎ (length vs ≡ 1)) where
     by_block : is_one_byte (piece_left k) ≡ true
         → data_result languages t ≡ data_behind (small_identifier i) (pieces_left k)
@@ -80,7 +80,7 @@ module _ (w : Text) (len : ℕ) (language : BeginsWithLanguage (take len w)) (vs
         let p = r.2.1 in
         let behind = p.behind in
         let inside = p.inside in
-        subst (λ (g : Head). IsDataRead w len (datas.Named g v)) (sym r.0) (
+        subst (λ (g : DataHead). IsDataRead w len (datas.Named g v)) (sym r.0) (
           data_with (small_identifier i) s,
           by_block r.1 ∙ r.2.2 (small_identifier i),
           record {
@@ -105,9 +105,9 @@ module _ (w : Text) (len : ℕ) (language : BeginsWithLanguage (take len w)) (vs
 -- ---- the head
 
 module _ (w : Text) (len : ℕ) (inside : len ≤ length w) (language : BeginsWithLanguage (take len w))
-    (l : Left)
-    (rest : bytes_left l ≡ take len w) (first : l.at ≡ 0) (size : l.len ≡ len)
-    (window : l.window.now ≡ w) (m : Left) (f : Front) (read : IsFrontRead l m f) where
+    (l : Cursor)
+    (rest : bytes_left l ≡ take len w) (first : l.at ≡ 0) (size : l.remaining ≡ len)
+    (window : l.window.now ≡ w) (m : Cursor) (f : Front) (read : IsFrontRead l m f) where
   abbrev u : Text
   u = take len w
 
@@ -178,7 +178,7 @@ module _ (w : Text) (len : ℕ) (inside : len ≤ length w) (language : BeginsWi
         let e = length-append (join (front_pieces (front_of (pieces_left l)))) (45 ∷ bytes_left m) in
         omega (arith, a, b, c, d, e, long, join_is, first)
 
-    pub end_there : m.at + m.len ≡ len
+    pub end_there : m.at + m.remaining ≡ len
     end_there = let a = past.end in omega (arith, a, first, size)
 
     pub window_there : m.window.now ≡ w
@@ -196,23 +196,24 @@ module _ (w : Text) (len : ℕ) (inside : len ≤ length w) (language : BeginsWi
       abbrev pub v : Text
       v = piece_left m
 
-      abbrev pub varied : Head
-      varied = record { front = f; end = m.at + m.n }
+      abbrev pub varied : DataHead
+      varied = record { front = f; end = m.at + m.piece_length }
 
-      size_there : m.n ≡ length v
+      size_there : m.piece_length ≡ length v
       size_there = length_piece m (short_variant v word)
 
-      pub within_there : m.at + m.n ≤ len
+      pub within_there : m.at + m.piece_length ≤ len
       within_there =
           let a = first_within (bytes_left m) in
           let b = length_rest m in
           omega (arith, a, b, end_there, size_there)
 
-      cut_there : take (m.at + m.n) w ≡ take f.end w ++ (45 ∷ v) ++ []
+      cut_there : take (m.at + m.piece_length) w ≡ take f.end w ++ (45 ∷ v) ++ []
       cut_there =
-          let reach : m.at + m.n ≡ length (join fs) + suc (length v) =
+          let reach : m.at + m.piece_length ≡ length (join fs) + suc (length v) =
           omega (arith, at_front, long, size_there) in
-          sym (take-take (m.at + m.n) len w within_there) ∙ ap (take (m.at + m.n)) text_there
+          sym (take-take (m.at + m.piece_length) len w within_there)
+          ∙ ap (take (m.at + m.piece_length)) text_there
           ∙ ap (λ (n : ℕ). take n (join fs ++ 45 ∷ bytes_left m)) reach
           ∙ take-append-add (join fs) (45 ∷ bytes_left m) (suc (length v))
           ∙ (λ j. sym front_bytes j ++ 45 ∷ begins (bytes_left m) j)

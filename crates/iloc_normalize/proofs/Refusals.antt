@@ -17,8 +17,8 @@ use Rattle.iloc_normalize.specs.Data.{IsDataRead}
 use Rattle.iloc_normalize.specs.declared.Mode.TheVariants as modes
 use Rattle.iloc_normalize.specs.declared.data.Data.{Data}
 use Rattle.iloc_normalize.specs.declared.data.Data.TheVariants as datas
-use Rattle.iloc_normalize.specs.declared.data.Head.{Head}
-use Rattle.iloc_normalize.specs.declared.subdivisions.Value.{Value}
+use Rattle.iloc_normalize.specs.declared.data.DataHead.{DataHead}
+use Rattle.iloc_normalize.specs.declared.subdivisions.SubdivisionValue.{SubdivisionValue}
 use Rattle.iloc_normalize.proofs.FrontAnswers.{data_meant, unbegun_refused}
 
 -- a data locale is meant
@@ -54,7 +54,8 @@ read_meant t d e =
     ((λ n. (d, m), λ x. refl), tt)
 
 pub read_accepted : (t : Text) (r : Data) → IsDataRead t (length t) r →
-    ((h : Head) × (r ≡ datas.Head h)) ⊎ ((h : Head) × (v : Value) × (r ≡ datas.Named h v)) →
+    ((h : DataHead) × (r ≡ datas.Head h)) ⊎ ((h : DataHead) × (v : SubdivisionValue)
+    × (r ≡ datas.Named h v)) →
     IsRefusedBy t None
 read_accepted t r is (inl x) = let n = subst (IsDataRead t (length t)) x.1 is in read_meant t n.0 n.1
 read_accepted t r is (inr x) = let n = subst (IsDataRead t (length t)) x.2 is in read_meant t n.0 n.1

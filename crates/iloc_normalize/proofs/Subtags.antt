@@ -8,10 +8,10 @@ use Rattle.iloc_spec_grammar.specs.Syntax.{first_piece}
 use Rattle.iloc_spec_grammar.specs.Meaning.{normal_values}
 use Rattle.iloc_spec_grammar.specs.Reading.{rest_of}
 use Rattle.iloc_spec_grammar.proofs.PiecesLaws.{at_pieces}
-use Rattle.iloc_pieces.specs.Left.{IsNextPiece, IsShortPiece, piece_left, pieces_left}
-use Rattle.iloc_pieces.specs.Left.{bytes_left}
-use Rattle.iloc_pieces.specs.declared.cursor.Left.{Left}
-use Rattle.iloc_pieces.proofs.LeftLemmas.{next_at, short_attribute}
+use Rattle.iloc_pieces.specs.Cursor.{IsNextPiece, IsShortPiece, piece_left, pieces_left}
+use Rattle.iloc_pieces.specs.Cursor.{bytes_left}
+use Rattle.iloc_pieces.specs.declared.place.Cursor.{Cursor}
+use Rattle.iloc_pieces.proofs.CursorLemmas.{next_at, short_attribute}
 use Rattle.iloc_normalize.specs.Subdivisions.{IsOnly, are_trues, has_small_value}
 use Rattle.iloc_pieces.proofs.FrontLemmas.{values_true}
 
@@ -119,10 +119,10 @@ module _ (t : Text) (word : IsWord Attribute (first_piece (pieces t))) where
 -- ---- pieces that are passed
 
 -- what comes behind a piece
-pub behind : {l m : Left} → IsNextPiece l m → rest_of (pieces_left l) ≡ pieces_left m
+pub behind : {l m : Cursor} → IsNextPiece l m → rest_of (pieces_left l) ≡ pieces_left m
 behind n = ap rest_of n.pieces
 
-module _ (word at m : Left) (same : are_trues (rest_of (pieces_left word)) ≡ are_trues (rest_of
+module _ (word at m : Cursor) (same : are_trues (rest_of (pieces_left word)) ≡ are_trues (rest_of
     (pieces_left at)))
     (n : IsNextPiece at m) where
   abbrev both : Bool → Bool → Bool
@@ -147,15 +147,15 @@ module _ (word at m : Left) (same : are_trues (rest_of (pieces_left word)) ≡ a
     goes_on e = from_here ∙ (λ j. both (attribute j) (e j))
 
 -- from the key on only `true` was passed
-pub record Reaches (key at : Left) : Type 0 where
+pub record Reaches (key at : Cursor) : Type 0 where
   pub short : IsShortPiece (piece_left at)
   pub window : at.window.now ≡ key.window.now
-  pub end : at.at + at.len ≡ key.at + key.len
+  pub end : at.at + at.remaining ≡ key.at + key.remaining
   pub from : key.at + length (piece_left key) ≤ at.at + length (piece_left at)
   pub small : has_small_value (rest_of (pieces_left key)) ≡ has_small_value (rest_of (pieces_left at))
   pub values : normal_values (rest_of (pieces_left key)) ≡ normal_values (rest_of (pieces_left at))
 
-pub reaches_key : (key : Left) → IsShortPiece (piece_left key) → Reaches key key
+pub reaches_key : (key : Cursor) → IsShortPiece (piece_left key) → Reaches key key
 reaches_key key short = record {
   short = short;
   window = refl;
@@ -165,7 +165,7 @@ reaches_key key short = record {
   values = refl;
 }
 
-module _ (key at : Left) (h : Reaches key at) where
+module _ (key at : Cursor) (h : Reaches key at) where
   -- nothing follows
   pub only_trues : pieces_left at ≡ piece_left at ∷ []
       → (has_small_value (rest_of (pieces_left key)) ≡ true)
@@ -173,7 +173,7 @@ module _ (key at : Left) (h : Reaches key at) where
   only_trues e =
       (h.small ∙ ap has_small_value (ap rest_of e), h.values ∙ ap normal_values (ap rest_of e))
 
-  module _ (m : Left) (n : IsNextPiece at m) where
+  module _ (m : Cursor) (n : IsNextPiece at m) where
     small_behind : has_small_value (rest_of (pieces_left key)) ≡ has_small_value (pieces_left m)
     small_behind = h.small ∙ ap has_small_value (behind n)
 

@@ -11,19 +11,19 @@ use Rattle.iloc_spec_parts.specs.DataLocales.{DataLocale, made_of, whole_region}
 use Rattle.iloc_spec_parts.specs.Subdivisions.{Subdivision}
 use Rattle.iloc_outline.specs.Identifier.{front_text}
 use Rattle.iloc_outline.specs.Parts.{front_pieces}
-use Rattle.iloc_pieces.specs.Left.{piece_left, pieces_left}
-use Rattle.iloc_pieces.specs.declared.cursor.Left.{Left}
+use Rattle.iloc_pieces.specs.Cursor.{piece_left, pieces_left}
+use Rattle.iloc_pieces.specs.declared.place.Cursor.{Cursor}
 use Rattle.iloc_subtags.specs.Judging.{error_of}
 use Rattle.iloc_normalize.specs.Subdivisions.{IsNamed, NamesPast, bytes_at, data_behind, data_with}
 use Rattle.iloc_normalize.specs.Answered.{HasRefusal}
 use Rattle.iloc_normalize.specs.declared.Mode.TheVariants as modes
 use Rattle.iloc_normalize.specs.declared.data.Data.{Data}
 use Rattle.iloc_normalize.specs.declared.data.Data.TheVariants as datas
-use Rattle.iloc_normalize.specs.declared.data.Head.{Head}
-use Rattle.iloc_normalize.specs.declared.subdivisions.Value.{Value}
+use Rattle.iloc_normalize.specs.declared.data.DataHead.{DataHead}
+use Rattle.iloc_normalize.specs.declared.subdivisions.SubdivisionValue.{SubdivisionValue}
 
 -- the window begins with this identifier, which has one variant at most
-pub record IsHead (w : Text) (h : Head) (i : SpelledIdentifier) : Type 0 where
+pub record IsHead (w : Text) (h : DataHead) (i : SpelledIdentifier) : Type 0 where
   pub words : HasWords languages i
   pub few : length i.variants ≤ 1
   pub ascends : h.front.end ≤ h.end
@@ -42,13 +42,13 @@ data_alone i = let r = small_identifier i in
     made_of r.language r.script (option_map whole_region r.region) r.variant
 
 -- it is the head alone
-pub record IsAlone (w : Text) (h : Head) (d : DataLocale) : Type 0 where
+pub record IsAlone (w : Text) (h : DataHead) (d : DataLocale) : Type 0 where
   pub written : SpelledIdentifier
   pub head : IsHead w h written
   pub is : d ≡ data_alone written
 
 -- it is the head and the subdivision that the value names
-pub record HasValue (w : Text) (len : ℕ) (h : Head) (v : Value) (d : DataLocale) : Type 0 where
+pub record HasValue (w : Text) (len : ℕ) (h : DataHead) (v : SubdivisionValue) (d : DataLocale) : Type 0 where
   pub written : SpelledIdentifier
   pub head : IsHead w h written
   pub named : Subdivision
@@ -71,7 +71,7 @@ IsRegionStart w end None at = at ≡ end
 IsRegionStart w end (Some r) at = (at + length r ≡ end) × (bytes_at w at (end - at) ≡ r)
 
 -- what comes behind a head makes it this, where no variant but those of the head comes before
-abbrev pub IsDataBehind : Head → Left → Data → Type 0
+abbrev pub IsDataBehind : DataHead → Cursor → Data → Type 0
 IsDataBehind h l (datas.Head j) = ⊥
 IsDataBehind h l (datas.Named j v) = (j ≡ h) × (is_one_byte (piece_left l) ≡ true)
     × ((s : Subdivision) × NamesPast l 5 v s

@@ -7,17 +7,17 @@ ghost use Rattle.iloc_normalize.specs.Answered.{HasRefusal};
 ghost use Rattle.iloc_normalize.specs.Data.{IsDataBehind, IsDataRead};
 ghost use Rattle.iloc_normalize.specs.declared.Mode.TheVariants as modes;
 
-use crate::subdivisions::{Keyword, Value, read_keyword};
+use crate::subdivisions::{Keyword, SubdivisionValue, read_keyword};
 use iloc_outline::identifier::{Front, read_front};
 use iloc_outline::outline::begins_with_language;
-use iloc_pieces::left::{
-    Left, advance, is_alphanumeric, is_last, is_single, is_variant, left_in, next, singleton,
+use iloc_pieces::cursor::{
+    Cursor, advance, cursor_in, is_alphanumeric, is_last, is_single, is_variant, next, singleton,
 };
 use iloc_subtags::ParseError;
 
 /// The identifier at the beginning of a data locale.
 #[derive(Clone, Copy)]
-pub(crate) struct Head {
+pub(crate) struct DataHead {
     /// Its language, script and region.
     pub(crate) front: Front,
     /// Where it ends, perhaps with a variant.
@@ -28,31 +28,31 @@ pub(crate) struct Head {
 #[derive(Drop)]
 pub(crate) enum Data {
     /// An identifier with one variant at most.
-    Head(Head),
+    Head(DataHead),
     /// Such an identifier, and a subdivision.
-    Named(Head, Value),
+    Named(DataHead, SubdivisionValue),
     /// It is refused.
     Refused(ParseError),
 }
 
 // Reads the block that follows the head.
 #[inline(always)]
-fn read_block(head: Head, left: Left<'_>) -> Data
-    ensures { IsDataBehind head left.entry result }
+fn read_block(head: DataHead, cursor: Cursor<'_>) -> Data
+    ensures { IsDataBehind head cursor.entry result }
 {
-    if !is_single(left) {
+    if !is_single(cursor) {
         return Data::Refused(ParseError::InvalidSubtag);
     }
-    if !is_alphanumeric(left) {
+    if !is_alphanumeric(cursor) {
         return Data::Refused(ParseError::InvalidExtension);
     }
-    if singleton(left) != b'u' {
+    if singleton(cursor) != b'u' {
         return Data::Refused(ParseError::InvalidSubtag);
     }
-    if is_last(left) {
+    if is_last(cursor) {
         return Data::Refused(ParseError::InvalidExtension);
     }
-    match read_keyword(next(left)) {
+    match read_keyword(next(cursor)) {
         Keyword::Misfit => Data::Refused(ParseError::InvalidSubtag),
         Keyword::Unnamed => Data::Refused(ParseError::InvalidExtension),
         Keyword::Named(value) => Data::Named(head, value),
@@ -66,23 +66,23 @@ pub(crate) fn read_data(window: &[u8], len: usize) -> Data
     requires begins { BeginsWithLanguage (take len window.now) }
     ensures { IsDataRead window.now len result }
 {
-    let mut left = left_in(window, len);
-    let front = read_front(&mut left);
-    let mut head = Head {
+    let mut cursor = cursor_in(window, len);
+    let front = read_front(&mut cursor);
+    let mut head = DataHead {
         front,
         end: front.end,
     };
     if front.is_all {
         return Data::Head(head);
     }
-    if is_variant(left) {
-        head.end = left.at + left.n;
-        if is_last(left) {
+    if is_variant(cursor) {
+        head.end = cursor.at + cursor.piece_length;
+        if is_last(cursor) {
             return Data::Head(head);
         }
-        advance(&mut left);
+        advance(&mut cursor);
     }
-    read_block(head, left)
+    read_block(head, cursor)
 }
 
 /// Why a text is refused as a data locale; `None` if it is accepted. No text is too long, and it allocates nothing.

@@ -12,8 +12,8 @@ ghost use Rattle.iloc_normalize.specs.Answered.{IsNormalWritten};
 ghost use Rattle.iloc_normalize.specs.declared.Mode.TheVariants as Mode;
 
 use crate::copying::copy_lower;
-use crate::data::{Data, Head, read_data};
-use crate::subdivisions::Value;
+use crate::data::{Data, DataHead, read_data};
+use crate::subdivisions::SubdivisionValue;
 use crate::writing::Written;
 use iloc_outline::identifier::Front;
 use iloc_outline::outline::Outline;
@@ -45,7 +45,7 @@ fn region_start(window: &[u8], end: usize) -> usize
 
 // The region of a subdivision, in upper case.
 #[inline(always)]
-fn region_of(window: &[u8], value: &Value) -> ShortPiece
+fn region_of(window: &[u8], value: &SubdivisionValue) -> ShortPiece
     requires inside { value.now.at + value.now.region ≤ length window.now }
     requires few { value.now.region ≤ 3 }
     ensures { result ≡ upper (bytes_at window.now value.now.at value.now.region) }
@@ -58,7 +58,7 @@ fn region_of(window: &[u8], value: &Value) -> ShortPiece
 
 // Whether it is all of its region.
 #[inline(always)]
-fn is_whole(window: &[u8], value: &Value) -> bool
+fn is_whole(window: &[u8], value: &SubdivisionValue) -> bool
     requires few { value.now.region ≤ value.now.len }
     requires inside { value.now.at + value.now.len ≤ length window.now }
     ensures { result ≡ is_same (lower (bytes_at window.now (value.now.at + value.now.region)
@@ -89,7 +89,7 @@ fn put_front(window: &[u8], front: &Front, end: usize, to: &mut [u8])
 
 // Writes the head, and behind its front the region of the value. Where they end.
 #[inline(never)]
-fn put_with_region(window: &[u8], head: &Head, value: &Value, to: &mut [u8]) -> usize
+fn put_with_region(window: &[u8], head: &DataHead, value: &SubdivisionValue, to: &mut [u8]) -> usize
     requires ascends { head.now.front.end ≤ head.now.end }
     requires inside { head.now.end + 16 ≤ length window.now }
     requires room { head.now.end + 16 ≤ length to.old }
@@ -116,7 +116,7 @@ fn put_with_region(window: &[u8], head: &Head, value: &Value, to: &mut [u8]) -> 
 
 // Writes the keyword from `start` on. Where it ends.
 #[inline(always)]
-fn put_keyword(window: &[u8], value: &Value, to: &mut [u8], start: usize) -> usize
+fn put_keyword(window: &[u8], value: &SubdivisionValue, to: &mut [u8], start: usize) -> usize
     requires inside { value.now.at + value.now.len + 16 ≤ length window.now }
     requires room { start + 6 + value.now.len ≤ length to.old }
     ensures end { result ≡ start + 6 + value.now.len }
@@ -132,7 +132,7 @@ fn put_keyword(window: &[u8], value: &Value, to: &mut [u8], start: usize) -> usi
 
 // Writes a head and a subdivision. Where they end.
 #[inline(always)]
-fn write_named(text: Window<'_>, head: &Head, value: &Value, to: &mut [u8]) -> usize
+fn write_named(text: Window<'_>, head: &DataHead, value: &SubdivisionValue, to: &mut [u8]) -> usize
     requires room { length text.bytes.now ≤ length to.old }
     requires value { (d : DataLocale)
         × HasValue text.bytes.now (length text.bytes.now - 16) head.now value.now d }

@@ -6,7 +6,7 @@
 //! read piece by piece (`data`, `subdivisions`, `data_writing`). Three kinds of callers stand on it: the lines of the program
 //! (`iloc_program`), the calls for C and for the web (`iloc_calls`, `locale_web`), and `normalize` of identifiers and of
 //! locales (`normalize_short`, `answer_text`, `text_of`). `iloc_faults` asks of data locales alone why one is refused
-//! (`data_refusal`), and what names a subdivision (`names_subdivision`).
+//! (`data_refusal`), what its key is (`is_sd`), and what names a subdivision (`names_subdivision`).
 //!
 //! It promises in the words of the grammar (`IsNormalWritten`, `IsAnswered`) that what is written is the normal text of what
 //! the text means, or that the text has the fault. A normal text is at most four bytes longer than the text, and only
@@ -31,7 +31,7 @@ pub use answered::{Answered, answer};
 pub use data::data_refusal;
 pub use leads::{Lead, read_found, read_lead};
 pub use normal_text::{normalize_short, text_of};
-pub use subdivisions::names_subdivision;
+pub use subdivisions::{is_sd, names_subdivision};
 pub use writing::{Written, write_normal};
 
 /// What a text is read as.

@@ -8,7 +8,7 @@ ghost use Rattle.iloc_normalize.specs.NormalTexts.{IsNormalizedAs};
 
 use crate::Mode;
 use iloc_pieces::load::load;
-use iloc_pieces::{are_same, begins_with_language, normal_plain};
+use iloc_pieces::{are_same, lanes_begin_with_language, normal_plain};
 use iloc_subtags::ParseError;
 use iloc_tinystr::number_of;
 use std::alloc::{AllocError, Global};
@@ -47,7 +47,7 @@ fn refuse_short<'a>(v: u8x16, len: usize) -> Option<Result<CowStr<'a, Global>, P
     requires { len ≤ 16 }
     ensures { (mode : Mode) → IfSome result (IsNormalizedAs mode (take len v)) }
 {
-    if begins_with_language(v, len) {
+    if lanes_begin_with_language(v, len) {
         return None;
     }
     Some(Err(ParseError::InvalidLanguage))

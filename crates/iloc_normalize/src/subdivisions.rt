@@ -3,16 +3,16 @@ ghost use Rattle.std.specs.Prelude.{◌≡◌, ◌≤◌, true, false, is_some, 
 ghost use Rattle.iloc_spec_grammar.specs.Syntax.{Attribute, IsWord, Text, UnicodeKey, is_same, is_true, letters_or_digits, lower};
 ghost use Rattle.iloc_spec_grammar.specs.Reading.{rest_of};
 ghost use Rattle.iloc_spec_parts.specs.DataLocales.{named_subdivision};
-ghost use Rattle.iloc_pieces.specs.Left.{IsShortPiece, piece_left, pieces_left};
+ghost use Rattle.iloc_pieces.specs.Cursor.{IsShortPiece, piece_left, pieces_left};
 ghost use Rattle.iloc_pieces.specs.Shape.{shape_of};
 ghost use Rattle.iloc_normalize.specs.Subdivisions.{AreSubtagsRead, EndsRegion, IsKeywordRead, IsNamedBy, are_trues};
 
-use iloc_pieces::left::{Left, is_attribute, is_key, is_last, is_true, left_in, next};
+use iloc_pieces::cursor::{Cursor, cursor_in, is_attribute, is_key, is_last, is_true, next};
 use iloc_pieces::shape::{is_region, is_suffix};
 
 /// A value of `sd` that names a subdivision.
 #[derive(Clone, Copy)]
-pub(crate) struct Value {
+pub(crate) struct SubdivisionValue {
     /// Where it begins.
     pub(crate) at: usize,
     /// How many bytes it has.
@@ -29,7 +29,7 @@ pub(crate) enum Keyword {
     /// No key, or a keyword that names no subdivision.
     Unnamed,
     /// `sd` and a value that names a subdivision.
-    Named(Value),
+    Named(SubdivisionValue),
 }
 
 // The subtags of a value.
@@ -40,12 +40,12 @@ enum Subtags<'a> {
     // All are `true`.
     Trues,
     // One is not `true`.
-    One(Left<'a>),
+    One(Cursor<'a>),
 }
 
 // Whether nothing but `true` follows the piece.
 #[inline(always)]
-fn ends_in_trues(word: Left<'_>) -> bool
+fn ends_in_trues(word: Cursor<'_>) -> bool
     requires { IsShortPiece (piece_left word) }
     ensures { result ≡ are_trues (rest_of (pieces_left word.entry)) }
 {
@@ -64,7 +64,7 @@ fn ends_in_trues(word: Left<'_>) -> bool
 
 // Reads the subtags that follow the key, up to the end of the text.
 #[inline(always)]
-fn read_subtags<'a>(key: Left<'a>) -> Subtags<'a>
+fn read_subtags<'a>(key: Cursor<'a>) -> Subtags<'a>
     requires { IsShortPiece (piece_left key) }
     ensures { AreSubtagsRead key.entry result }
 {
@@ -87,16 +87,18 @@ fn read_subtags<'a>(key: Left<'a>) -> Subtags<'a>
     Subtags::Misfit
 }
 
-// Whether the key is `sd`, in whatever case.
+/// Whether the piece is `sd`, in whatever case.
 #[inline(always)]
-fn is_sd(key: Left<'_>) -> bool
-    requires { IsWord UnicodeKey (piece_left key) }
-    ensures { result ≡ is_same (lower (piece_left key.entry)) (codes "sd") }
+pub fn is_sd(at: Cursor<'_>) -> bool
+    ensures { result ≡ is_same (lower (piece_left at.entry)) (codes "sd") }
 {
-    if key.window[key.at].to_ascii_lowercase() != b's' {
+    if at.piece_length != 2 {
         return false;
     }
-    key.window[key.at + 1].to_ascii_lowercase() == b'd'
+    if at.window[at.at].to_ascii_lowercase() != b's' {
+        return false;
+    }
+    at.window[at.at + 1].to_ascii_lowercase() == b'd'
 }
 
 // How many bytes of a subtag of this shape are the region of a subdivision: two letters or three digits. 0 if it names
@@ -123,12 +125,12 @@ pub fn names_subdivision(word: &[u8]) -> bool
     requires { IsWord Attribute word.now }
     ensures { result ≡ is_some (named_subdivision (lower word.now)) }
 {
-    region_len(left_in(word, word.len()).shape) != 0
+    region_len(cursor_in(word, word.len()).shape) != 0
 }
 
 // What the subtag names as a value of the key.
 #[inline(always)]
-fn named(key: Left<'_>, word: Left<'_>) -> Keyword
+fn named(key: Cursor<'_>, word: Cursor<'_>) -> Keyword
     requires key { IsWord UnicodeKey (piece_left key) }
     requires word { IsWord Attribute (piece_left word) }
     requires other { is_true (lower (piece_left word)) ≡ false }
@@ -141,16 +143,16 @@ fn named(key: Left<'_>, word: Left<'_>) -> Keyword
     if region == 0 {
         return Keyword::Unnamed;
     }
-    Keyword::Named(Value {
+    Keyword::Named(SubdivisionValue {
         at: word.at,
-        len: word.n,
+        len: word.piece_length,
         region,
     })
 }
 
 /// Reads what follows the singleton, from the piece behind it up to the end of the text.
 #[inline(always)]
-pub(crate) fn read_keyword(key: Left<'_>) -> Keyword
+pub(crate) fn read_keyword(key: Cursor<'_>) -> Keyword
     ensures { IsKeywordRead key.entry result }
 {
     if is_attribute(key) {

@@ -42,14 +42,14 @@ use Rattle.iloc_spec_grammar.proofs.Readings.{optional_no_key, pieces-transform_
 use Rattle.iloc_spec_grammar.proofs.RuleTests.{tests_denied, tests_different, tests_not}
 use Rattle.iloc_outline.specs.Blocks.{AreBegun, IsBlockRead, ReadsBlocks, body_of}
 use Rattle.iloc_outline.specs.Groups.{AreGroups, IsGroup, parts_in}
-use Rattle.iloc_pieces.specs.Left.{IsLater, piece_left, pieces_left, whole_text}
+use Rattle.iloc_pieces.specs.Cursor.{IsLater, piece_left, pieces_left, whole_text}
 use Rattle.iloc_outline.specs.Parts.{Part, block_parts, blocks_parts, field_part, in_order, optional_front}
 use Rattle.iloc_outline.specs.Parts.{optional_variants, printed_part, rank, ranked, singleton_part}
 use Rattle.iloc_outline.specs.Parts.{transform_parts, unicode_parts, variant_parts, word_part}
 use Rattle.iloc_outline.specs.Reading.{IsBody, IsPrivateBody, IsTooMuch, Puts}
 use Rattle.iloc_outline.specs.Spans.{Spell}
 use Rattle.iloc_spans.specs.Spans.{held_spans}
-use Rattle.iloc_pieces.specs.declared.cursor.Left.{Left}
+use Rattle.iloc_pieces.specs.declared.place.Cursor.{Cursor}
 use Rattle.iloc_outline.specs.declared.reading.Found.{Found}
 use Rattle.iloc_outline.specs.declared.reading.Found.TheVariants.{End, Next, Bad, Repeated, Full}
 use Rattle.iloc_spans.specs.declared.span.Role.{Role}
@@ -75,7 +75,7 @@ abbrev pub groups_of : List Block → List (ℕ × List Part)
 groups_of bs = map_of nat_cmp (map ranked bs)
 
 -- the blocks before the pieces rest of the text are good and were put; last is the greatest rank
-pub record IsDone (l : Left) (old : Spans) (o : Bool) (rest : List Text) (last : ℕ) (now : Spans)
+pub record IsDone (l : Cursor) (old : Spans) (o : Bool) (rest : List Text) (last : ℕ) (now : Spans)
     (n : Bool) : Type 0 where
   pub done : List Block
   pub seen : Text
@@ -94,12 +94,12 @@ pub record IsDone (l : Left) (old : Spans) (o : Bool) (rest : List Text) (last :
       ≡ map lower (flat_map block_pieces done))
 
 -- and the next singleton is reached
-pub record IsAt (l : Left) (old : Spans) (o : Bool) (at : Left) (last : ℕ) (now : Spans)
+pub record IsAt (l : Cursor) (old : Spans) (o : Bool) (at : Cursor) (last : ℕ) (now : Spans)
     (n : Bool) : Type 0 where
   pub later : IsLater at
   pub single : is_one_byte (piece_left at) ≡ true
   pub text : whole_text at ≡ whole_text l
-  pub end : at.at + at.len ≡ l.at + l.len
+  pub end : at.at + at.remaining ≡ l.at + l.remaining
   pub before : IsDone l old o (pieces_left at) last now n
 
 -- ---- pieces and blocks
@@ -184,11 +184,11 @@ pub record IsRead (c : ℕ) (t : Text) (ps rest : List Text) (old new : Spans) (
   pub puts : Puts t (block_parts (c, body)) ((c ∷ []) ∷ body) old new o n
 
 -- what a reading says, where the test for `x` answers b
-abbrev pub IsReadAt : Bool → ℕ → Left → Left → Spans → Spans → Bool → Bool → Found → Type 0
+abbrev pub IsReadAt : Bool → ℕ → Cursor → Cursor → Spans → Spans → Bool → Bool → Found → Type 0
 IsReadAt b c l m old new o n r = MatchBool b (IsPrivateBody c l old new o n r) (IsBody c l m old new o n r)
 
 -- the block is the last one
-pub read_end : (c : ℕ) (l k : Left) (old new : Spans) (o n : Bool) → IsBlockRead c l k old new o n End
+pub read_end : (c : ℕ) (l k : Cursor) (old new : Spans) (o n : Bool) → IsBlockRead c l k old new o n End
     → IsRead c (whole_text l) (pieces_left l) [] old new o n
 read_end c l k old new o n h = at (to_ascii_lowercase c == code_x) refl h
   where
@@ -215,13 +215,13 @@ read_end c l k old new o n h = at (to_ascii_lowercase c == code_x) refl h
     }
 
 -- another block follows
-pub record IsReadTo (c : ℕ) (l k : Left) (old new : Spans) (o n : Bool) : Type 0 where
+pub record IsReadTo (c : ℕ) (l k : Cursor) (old new : Spans) (o n : Bool) : Type 0 where
   pub read : IsRead c (whole_text l) (pieces_left l) (pieces_left k) old new o n
   pub later : IsLater k
   pub single : is_one_byte (piece_left k) ≡ true
-  pub less : k.len ≤ l.len
+  pub less : k.remaining ≤ l.remaining
   pub window : k.window.now ≡ l.window.now
-  pub end : k.at + k.len ≡ l.at + l.len
+  pub end : k.at + k.remaining ≡ l.at + l.remaining
   pub text : whole_text k ≡ whole_text l
 
 starts_at : (ps : List Text) → is_one_byte (first_piece ps) ≡ true → starts_block ps ≡ true
@@ -229,7 +229,7 @@ starts_at [] h = refl
 starts_at (p ∷ ps) h = h
 
 -- it was read, and the other singleton is reached
-pub read_next : (c : ℕ) (l k : Left) (old new : Spans) (o n : Bool) → IsBlockRead c l k old new o n Next
+pub read_next : (c : ℕ) (l k : Cursor) (old new : Spans) (o n : Bool) → IsBlockRead c l k old new o n Next
     → IsReadTo c l k old new o n
 read_next c l k old new o n h = at (to_ascii_lowercase c == code_x) refl h
   where
@@ -258,7 +258,7 @@ read_next c l k old new o n h = at (to_ascii_lowercase c == code_x) refl h
         }
 
 -- it is bad, and no variant is repeated
-pub read_bad : (c : ℕ) (l k : Left) (old new : Spans) (o n : Bool) → IsBlockRead c l k old new o n Bad
+pub read_bad : (c : ℕ) (l k : Cursor) (old new : Spans) (o n : Bool) → IsBlockRead c l k old new o n Bad
     → (is_block languages (c, body_of c (pieces_left l)) ≡ false)
     × (((to_ascii_lowercase c == code_t) && repeats_variant languages (body_of c (pieces_left l))) ≡ false)
 read_bad c l k old new o n h = at (to_ascii_lowercase c == code_x) refl h
@@ -279,7 +279,7 @@ read_bad c l k old new o n h = at (to_ascii_lowercase c == code_x) refl h
     )
 
 -- a variant is repeated after `t`
-pub read_repeated : (c : ℕ) (l k : Left) (old new : Spans) (o n : Bool) →
+pub read_repeated : (c : ℕ) (l k : Cursor) (old new : Spans) (o n : Bool) →
     IsBlockRead c l k old new o n Repeated
     → (is_block languages (c, body_of c (pieces_left l)) ≡ false)
     × (((to_ascii_lowercase c == code_t) && repeats_variant languages (body_of c (pieces_left l))) ≡ true)
@@ -293,7 +293,7 @@ read_repeated c l k old new o n h = at (to_ascii_lowercase c == code_x) h
     at false h = (repeated_bad c (front (pieces_left l)) h.0 h.1, and_from _ _ (eq-eqb _ _ h.0) h.1)
 
 -- there is no room for what the pieces may need
-pub read_full : (c : ℕ) (l k : Left) (old new : Spans) (o n : Bool) → IsBlockRead c l k old new o n Full
+pub read_full : (c : ℕ) (l k : Cursor) (old new : Spans) (o n : Bool) → IsBlockRead c l k old new o n Full
     → IsTooMuch old (1 + length (pieces_left l))
 read_full c l k old new o n h = at (to_ascii_lowercase c == code_x) h
   where
@@ -398,7 +398,7 @@ groups_last bs r ps h =
 
 -- ---- faults of a block
 
-module _ (c : ℕ) (ps : List Text) (l : Left) (old : Spans) (o : Bool) (last : ℕ) (now : Spans) (n : Bool)
+module _ (c : ℕ) (ps : List Text) (l : Cursor) (old : Spans) (o : Bool) (last : ℕ) (now : Spans) (n : Bool)
     (d : IsDone l old o ((c ∷ []) ∷ ps) last now n) where
   -- the fault of the text, as the tests of the block tell
   abbrev Outcome : Bool → Bool → Bool → Bool → Type 0
@@ -478,7 +478,7 @@ greatest c last ks a there new h = elim (cases_lt last (rank (to_ascii_lowercase
     at (inl z) e = let some = rank_some c a in absurd (omega arith)
     at (inr x) e = true≢false (sym x ∙ ap (λ q. list_any (eq_by_cmp nat_cmp q) ks) e ∙ new)
 
-module _ (c : ℕ) (ps rest : List Text) (l : Left) (old : Spans) (o : Bool) (last : ℕ) (now mid : Spans)
+module _ (c : ℕ) (ps rest : List Text) (l : Cursor) (old : Spans) (o : Bool) (last : ℕ) (now mid : Spans)
     (n m k : Bool)
     (d : IsDone l old o ((c ∷ []) ∷ ps) last now n) (letter : is_ascii_alphanumeric c ≡ true)
     (new : list_any (eq_by_cmp nat_cmp (rank (to_ascii_lowercase c))) (ranks d.done) ≡ false)
@@ -618,7 +618,7 @@ module _ (c : ℕ) (ps rest : List Text) (l : Left) (old : Spans) (o : Bool) (la
 -- ---- at the beginning and at the end
 
 -- no block was read
-pub at_start : (l : Left) (old : Spans) (o : Bool) → IsDone l old o (pieces_left l) 0 old o
+pub at_start : (l : Cursor) (old : Spans) (o : Bool) → IsDone l old o (pieces_left l) 0 old o
 at_start l old o = record {
   done = [];
   seen = [];
@@ -635,7 +635,7 @@ at_start l old o = record {
 }
 
 -- nothing is left
-pub all_done : (l : Left) (old : Spans) (o : Bool) (last : ℕ) (now : Spans) (n : Bool)
+pub all_done : (l : Cursor) (old : Spans) (o : Bool) (last : ℕ) (now : Spans) (n : Bool)
     → IsDone l old o [] last now n → ReadsBlocks l old now o n
 all_done l old o last now n d =
     let all : blocks (pieces_left l) ≡ d.done = d.split ∙ append-nil d.done in
@@ -651,7 +651,7 @@ all_done l old o last now n d =
     }
 
 -- whether there is a block of the rank
-pub told : (l : Left) (old : Spans) (o : Bool) (rest : List Text) (last : ℕ) (now : Spans) (n : Bool)
+pub told : (l : Cursor) (old : Spans) (o : Bool) (rest : List Text) (last : ℕ) (now : Spans) (n : Bool)
     (d : IsDone l old o rest last now n) → AreBegun (whole_text l) old
     → (r : ℕ) (b : Bool) → ((t : Text) (before : List Part) (groups : List (ℕ × List Part))
     → AreGroups before groups → Spell t now (before ++ parts_in groups) → IsTrue b

@@ -13,11 +13,11 @@ use Rattle.iloc_spec_grammar.specs.Reading.{starts_block}
 use Rattle.iloc_spec_grammar.proofs.PiecesLaws.{at_pieces}
 use Rattle.iloc_spec_grammar.proofs.Readings.{IsLong}
 use Rattle.iloc_outline.specs.Parts.{Part, printed_part, rank, singleton_part}
-use Rattle.iloc_pieces.specs.Left.{IsSpanned, piece_left, pieces_left, bytes_left}
+use Rattle.iloc_pieces.specs.Cursor.{IsSpanned, piece_left, pieces_left, bytes_left}
 use Rattle.iloc_outline.specs.Spans.{AreShort, IsSpan, Spell}
 use Rattle.iloc_spans.specs.Spans.{held_spans}
 use Rattle.iloc_outline.specs.Reading.{Puts, block_span}
-use Rattle.iloc_pieces.specs.declared.cursor.Left.{Left}
+use Rattle.iloc_pieces.specs.declared.place.Cursor.{Cursor}
 use Rattle.iloc_spans.specs.declared.span.Span.{Span}
 use Rattle.iloc_spans.specs.declared.spans.Spans.{Spans}
 use Rattle.iloc_outline.proofs.SpansLemmas.{adds_then, not_edited, spell_put}
@@ -117,7 +117,7 @@ front_single [] h = refl
 front_single (p ∷ ps) h = rw h
 
 -- where a block begins, the body ends
-pub front_ends : (l k : Left) (qs : List Text) → pieces_left l ≡ qs ++ pieces_left k →
+pub front_ends : (l k : Cursor) (qs : List Text) → pieces_left l ≡ qs ++ pieces_left k →
     AllByRecursion IsLong qs
     → is_one_byte (piece_left k) ≡ true → front (pieces_left l) ≡ qs
 front_ends l k qs cut h one =
@@ -125,7 +125,7 @@ front_ends l k qs cut h one =
     ∙ append-nil qs
 
 -- ... and a longer piece goes on
-pub front_goes_on : (l k : Left) (qs : List Text) → pieces_left l ≡ qs ++ pieces_left k →
+pub front_goes_on : (l k : Cursor) (qs : List Text) → pieces_left l ≡ qs ++ pieces_left k →
     AllByRecursion IsLong qs
     → is_one_byte (piece_left k) ≡ false
     → (more : List Text) × (front (pieces_left l) ≡ qs ++ (piece_left k ∷ more))
@@ -140,7 +140,7 @@ front_goes_on l k qs cut h longer = (
         (bytes_left k)
 
 -- no piece is passed where the next one is of another length
-pub some_passed : (l k : Left) (qs : List Text) → pieces_left l ≡ qs ++ pieces_left k
+pub some_passed : (l k : Cursor) (qs : List Text) → pieces_left l ≡ qs ++ pieces_left k
     → is_one_byte (piece_left l) ≡ false → is_one_byte (piece_left k) ≡ true → qs ≢ []
 some_passed l k qs cut longer one e =
     let same : pieces_left l ≡ pieces_left k = cut ∙ ap (λ ps. ps ++ pieces_left k) e in

@@ -11,15 +11,15 @@ use Rattle.iloc_spec_grammar.proofs.ReadBack.{all_append}
 use Rattle.iloc_outline.specs.Fields.{IsAfterValues, PrintsAsItIs, IsValueRead}
 use Rattle.iloc_outline.specs.Gathering.{Gathers, Takes, pieces_in}
 use Rattle.iloc_spans.specs.Inserting.{IsPutFrom}
-use Rattle.iloc_pieces.specs.Left.{IsLater, IsPast, IsSpanned, piece_left, pieces_left}
-use Rattle.iloc_pieces.specs.Left.{bytes_left, whole_text}
+use Rattle.iloc_pieces.specs.Cursor.{IsLater, IsPast, IsSpanned, piece_left, pieces_left}
+use Rattle.iloc_pieces.specs.Cursor.{bytes_left, whole_text}
 use Rattle.iloc_pieces.specs.Words.{IsUpToEight, word_number}
 use Rattle.iloc_outline.specs.Parts.{Part, field_part}
 use Rattle.iloc_outline.specs.Reading.{EndsInKey, IsFieldOfRole, IsTooMuch, ReadsFields, role_key, unless_end}
 use Rattle.iloc_outline.specs.Spans.{IsSpan}
 use Rattle.iloc_spans.specs.Spans.{held_spans}
-use Rattle.iloc_outline.specs.declared.fields.Value.{Value}
-use Rattle.iloc_pieces.specs.declared.cursor.Left.{Left}
+use Rattle.iloc_outline.specs.declared.fields.FieldValue.{FieldValue}
+use Rattle.iloc_pieces.specs.declared.place.Cursor.{Cursor}
 use Rattle.iloc_spans.specs.declared.inserting.Inserted.{Inserted}
 use Rattle.iloc_spans.specs.declared.inserting.Inserted.TheVariants.{Put, There, Full}
 use Rattle.iloc_spans.specs.declared.span.Role.{Role}
@@ -28,7 +28,7 @@ use Rattle.iloc_spans.specs.declared.span.Span.{Span}
 use Rattle.iloc_spans.specs.declared.spans.Spans.{Spans}
 use Rattle.iloc_outline.proofs.GatherLemmas.{gathers_few, gathers_none, gathers_put, gathers_puts}
 use Rattle.iloc_outline.proofs.GatherLemmas.{gathers_there}
-use Rattle.iloc_pieces.proofs.LeftLemmas.{length_rest, past_none, past_past, spanned_none}
+use Rattle.iloc_pieces.proofs.CursorLemmas.{length_rest, past_none, past_past, spanned_none}
 use Rattle.iloc_outline.proofs.SpansLemmas.{field_short}
 use Rattle.iloc_spans.proofs.HeldLemmas.{length-held}
 use Rattle.iloc_outline.proofs.WordLemmas.{length-pieces_of}
@@ -76,7 +76,7 @@ pieces_fields r (f ∷ fs) = ap (λ ps. (f.0 ∷ f.1) ++ ps) (pieces_fields r fs
 -- ---- the fields that come first
 
 -- none
-pub takes_none : (r : Role) (l : Left) → IsLater l → (s : List Span) (o : Bool)
+pub takes_none : (r : Role) (l : Cursor) → IsLater l → (s : List Span) (o : Bool)
     → Takes r l l s s 0 o o
 takes_none r l later s o = record {
   fields = [];
@@ -87,7 +87,7 @@ takes_none r l later s o = record {
 }
 
 -- fields that were put in order are read
-taken : (r : Role) (l : Left) (fs : Fields) (old new : Spans) (last : ℕ) (o n : Bool)
+taken : (r : Role) (l : Cursor) (fs : Fields) (old new : Spans) (last : ℕ) (o n : Bool)
     → AllByRecursion (IsFieldOfRole r) fs
     → Gathers (whole_text l) (map (field_part r) fs) (held_spans old) (held_spans new) last o n
     → ReadsFields r l fs old new o n
@@ -99,7 +99,7 @@ taken r l fs old new last o n each g =
       puts = gathers_puts _ _ _ _ _ _ _ g old new refl refl (fields_pieces fs) (pieces_fields r fs) few;
     }
 
-module _ (r : Role) (l at : Left) (old : Spans) (mid : List Span) (last : ℕ) (o n : Bool)
+module _ (r : Role) (l at : Cursor) (old : Spans) (mid : List Span) (last : ℕ) (o n : Bool)
     (w : Takes r l at (held_spans old) mid last o n) where
   -- where no key comes next
   pub takes_past : (new : Spans) → mid ≡ held_spans new → ReadsFields r l w.fields old new o n
@@ -122,15 +122,15 @@ module _ (r : Role) (l at : Left) (old : Spans) (mid : List Span) (last : ℕ) (
         length-fields_pieces w.fields,
       )
 
-  module _ (to : Left) (v : Value) (h : IsValueRead at to v) where
+  module _ (to : Cursor) (v : FieldValue) (h : IsValueRead at to v) where
     spanned : IsSpanned (whole_text at) (at.at - 1) v.end (piece_left at ∷ h.values)
     spanned = h.end (at.at - 1) [] (spanned_none at w.past.later)
 
-    after : (next : Option Left) → unless_end v.is_end to ≡ next → IsAfterValues at h.values next
+    after : (next : Option Cursor) → unless_end v.is_end to ≡ next → IsAfterValues at h.values next
     after next e = subst (IsAfterValues at h.values) e h.next
 
     -- what follows is shorter
-    pub field_less : (next : Left) → unless_end v.is_end to ≡ Some next → next.len < at.len
+    pub field_less : (next : Cursor) → unless_end v.is_end to ≡ Some next → next.remaining < at.remaining
     field_less next e =
         let k = after (Some next) e in
         omega (
@@ -163,7 +163,7 @@ module _ (r : Role) (l at : Left) (old : Spans) (mid : List Span) (last : ℕ) (
           none = none;
         }
 
-        cut : (next : Option Left) → IsAfterValues at h.values next → EndsInKey (pieces_left l)
+        cut : (next : Option Cursor) → IsAfterValues at h.values next → EndsInKey (pieces_left l)
         cut None k = ends [] (k ∙ ap (λ vs. piece_left at ∷ vs) (sym (append-nil h.values))) refl
         cut (Some m) k = ends (pieces_left m) k.0.pieces k.1
 
@@ -226,7 +226,7 @@ module _ (r : Role) (l at : Left) (old : Spans) (mid : List Span) (last : ℕ) (
             (sym (map-append (field_part r) w.fields (field ∷ []))) (put i is room)
 
         -- one field more
-        pub takes_more : (next : Left) → unless_end v.is_end to ≡ Some next
+        pub takes_more : (next : Cursor) → unless_end v.is_end to ≡ Some next
             → Takes r l next (held_spans old) new now o k
         takes_more next t =
             let a = after (Some next) t in

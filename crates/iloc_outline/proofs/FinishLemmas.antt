@@ -8,11 +8,11 @@ use Rattle.iloc_spec_grammar.specs.Meaning.{normal_identifier, not_a_language, n
 use Rattle.iloc_spec_grammar.specs.Meaning as faults
 use Rattle.iloc_spec_grammar.proofs.PiecesLaws.{pieces_nonempty}
 use Rattle.iloc_outline.specs.Blocks.{ReadsBlocks}
-use Rattle.iloc_pieces.specs.Left.{pieces_left, bytes_left}
+use Rattle.iloc_pieces.specs.Cursor.{pieces_left, bytes_left}
 use Rattle.iloc_outline.specs.Outlines.{AreHeadRead, BeginsWithLanguage, IsFinished, IsIdentifierOutlined}
 use Rattle.iloc_outline.specs.Outlines.{IsLocaleOutlined, ReadsHead}
 use Rattle.iloc_spans.specs.Spans.{held_spans}
-use Rattle.iloc_pieces.specs.declared.cursor.Left.{Left}
+use Rattle.iloc_pieces.specs.declared.place.Cursor.{Cursor}
 use Rattle.iloc_outline.specs.declared.outline.Head.TheVariants as heads
 use Rattle.iloc_outline.specs.declared.outline.Outline.{Outline}
 use Rattle.iloc_outline.specs.declared.outline.Outlined.TheVariants.{Normal}
@@ -51,7 +51,7 @@ module _ (t : Text) (o : Outline) (spans : Spans) (n : Bool) (h : ReadsHead t (p
 -- ---- blocks follow
 
 -- they are good
-pub finished_locale : (t : Text) (o : Outline) (before : Spans) (m : Bool) (l : Left) (spans : Spans)
+pub finished_locale : (t : Text) (o : Outline) (before : Spans) (m : Bool) (l : Cursor) (spans : Spans)
     (n : Bool) → AreHeadRead t l before m (heads.Block o) → ReadsBlocks l before spans m n
     → (end : ℕ) (new : Spans) (r : Outline) → end ≡ length t → IsFinished o end n spans new r
     → IsLocaleOutlined t new (Normal r)
@@ -68,7 +68,8 @@ head_all ps s = (all_head ps (normal_identifier s.0)
     (record { written = s.0; grammatical = s.1; spelled = s.2; means = refl })).0
 
 -- an identifier has no block
-pub refuses_block : (t : Text) (l : Left) → BeginsWithLanguage t → pieces t ≡ head (pieces t) ++ pieces_left l
+pub refuses_block : (t : Text) (l : Cursor) → BeginsWithLanguage t
+    → pieces t ≡ head (pieces t) ++ pieces_left l
     → HasIdentifierFault languages (pieces t) faults.InvalidSubtag
 refuses_block t l word cut = not_an_identifier word (λ s. pieces_nonempty (bytes_left l)
     (sym (append_cancel_left (pieces t) [] (pieces_left l)

@@ -21,58 +21,59 @@ use Rattle.iloc_spec_grammar.proofs.RawLaws.{languages_table}
 use Rattle.iloc_spec_grammar.proofs.WordsLaws.{length-language, length-lower, length-normal, length-region}
 use Rattle.iloc_spec_grammar.proofs.WordsLaws.{length-script, upper-lower}
 use Rattle.iloc_outline.specs.Identifier.{IsFrontRead, IsAfterFront, IsOnePast, front_text, raised}
-use Rattle.iloc_pieces.specs.Left as left
-use Rattle.iloc_pieces.specs.Left.{IsLater, IsNextPiece, IsPast, IsSpanned}
-use Rattle.iloc_pieces.specs.Left.{piece_left, pieces_left, whole_text}
+use Rattle.iloc_pieces.specs.Cursor as cursor
+use Rattle.iloc_pieces.specs.Cursor.{IsLater, IsNextPiece, IsPast, IsSpanned}
+use Rattle.iloc_pieces.specs.Cursor.{piece_left, pieces_left, whole_text}
 use Rattle.iloc_outline.specs.Parts.{front_pieces}
 use Rattle.iloc_outline.specs.Reading.{unless_end}
-use Rattle.iloc_pieces.specs.declared.cursor.Left.{Left}
-use Rattle.iloc_pieces.proofs.LeftLemmas.{length_piece, length_rest, length_text, next_at, past_first}
-use Rattle.iloc_pieces.proofs.LeftLemmas.{past_next, short_language, short_word, spanned_all, spanned_both}
+use Rattle.iloc_pieces.specs.declared.place.Cursor.{Cursor}
+use Rattle.iloc_pieces.proofs.CursorLemmas.{length_piece, length_rest, length_text, next_at, past_first}
+use Rattle.iloc_pieces.proofs.CursorLemmas.{past_next, short_language, short_word, spanned_all, spanned_both}
 
 -- ---- pieces that are passed, to another one or to the end
 
-abbrev pub IsAfter : Left → Option Left → List Text → Type 0
+abbrev pub IsAfter : Cursor → Option Cursor → List Text → Type 0
 IsAfter l None ps = pieces_left l ≡ ps
 IsAfter l (Some m) ps = IsPast l m ps
 
 -- what is left
-abbrev pub pieces_of_next : Option Left → List Text
+abbrev pub pieces_of_next : Option Cursor → List Text
 pieces_of_next None = []
 pieces_of_next (Some m) = pieces_left m
 
 -- where they end
-abbrev pub end_of : Left → Option Left → ℕ
-end_of l None = l.at + l.len
+abbrev pub end_of : Cursor → Option Cursor → ℕ
+end_of l None = l.at + l.remaining
 end_of l (Some m) = m.at - 1
 
-after_end : (l : Left) (ps : List Text) (o : Option Left) → IsAfter l o ps →
+after_end : (l : Cursor) (ps : List Text) (o : Option Cursor) → IsAfter l o ps →
     (start : ℕ) (qs : List Text) → IsLater l
     → IsSpanned (whole_text l) start (l.at - 1) qs → IsSpanned (whole_text l) start (end_of l o) (qs ++ ps)
 after_end l ps None a start qs later s =
-    subst (λ (rs : List Text). IsSpanned (whole_text l) start (l.at + l.len) (qs ++ rs)) a
+    subst (λ (rs : List Text). IsSpanned (whole_text l) start (l.at + l.remaining) (qs ++ rs)) a
     (spanned_both s (spanned_all l later))
 after_end l ps (Some m) a start qs later s = a.spanned later start qs s
 
-after_inside : (l : Left) (ps : List Text) (o : Option Left) → IsAfter l o ps → end_of l o ≤ l.at + l.len
+after_inside : (l : Cursor) (ps : List Text) (o : Option Cursor) → IsAfter l o ps
+    → end_of l o ≤ l.at + l.remaining
 after_inside l ps None a = omega arith
 after_inside l ps (Some m) a = omega (arith, a.end)
 
 -- at the beginning of the text
-pub begins_text : (l : Left) → l.at ≡ 0 → whole_text l ≡ left.bytes_left l
+pub begins_text : (l : Cursor) → l.at ≡ 0 → whole_text l ≡ cursor.bytes_left l
 begins_text l first =
-    let none : 0 + l.len ≡ l.len = omega arith in
-    (λ j. take (first j + l.len) l.window.now) ∙ ap (λ n. take n l.window.now) none
-    ∙ (λ j. take l.len (drop (sym first j) l.window.now))
+    let none : 0 + l.remaining ≡ l.remaining = omega arith in
+    (λ j. take (first j + l.remaining) l.window.now) ∙ ap (λ n. take n l.window.now) none
+    ∙ (λ j. take l.remaining (drop (sym first j) l.window.now))
 
-after_text : (l : Left) (ps : List Text) (o : Option Left) → IsAfter l o ps → ps ≢ [] →
+after_text : (l : Cursor) (ps : List Text) (o : Option Cursor) → IsAfter l o ps → ps ≢ [] →
     l.at ≡ 0
     → take (end_of l o) (whole_text l) ≡ join ps
 after_text l ps None a some first =
-    take_all (l.at + l.len) (whole_text l) (omega (arith, length_text l)) ∙ begins_text l first
-    ∙ sym (join-pieces (left.bytes_left l)) ∙ ap join a
+    take_all (l.at + l.remaining) (whole_text l) (omega (arith, length_text l)) ∙ begins_text l first
+    ∙ sym (join-pieces (cursor.bytes_left l)) ∙ ap join a
 after_text l ps (Some m) a some first =
-    let cut : whole_text l ≡ join ps ++ 45 ∷ left.bytes_left m = begins_text l first ∙ a.rest some in
+    let cut : whole_text l ≡ join ps ++ 45 ∷ cursor.bytes_left m = begins_text l first ∙ a.rest some in
     let long : m.at - 1 ≡ length (join ps) =
     omega (
       arith,
@@ -80,9 +81,9 @@ after_text l ps (Some m) a some first =
       length_text l,
       length_rest m,
       ap length cut,
-      length-append (join ps) (45 ∷ left.bytes_left m),
+      length-append (join ps) (45 ∷ cursor.bytes_left m),
     ) in
-    (λ j. take (long j) (cut j)) ∙ take-append_seam (join ps) (45 ∷ left.bytes_left m)
+    (λ j. take (long j) (cut j)) ∙ take-append_seam (join ps) (45 ∷ cursor.bytes_left m)
 
 -- ---- one piece, if it is a word of the kind
 
@@ -106,31 +107,31 @@ skipped_none k t = at_pieces (λ ps. is_word k (first_piece ps) ≡ false → sk
     (λ p ps e. ap (λ (b : Bool). cond b ps (p ∷ ps)) e) t
 
 -- it is passed, and what is left is said
-pub record Steps (k : Kind) (l m : Left) (o : Option Left) (ps : List Text) : Type 0 where
+pub record Steps (k : Kind) (l m : Cursor) (o : Option Cursor) (ps : List Text) : Type 0 where
   pub passed : IsAfter l o (ps ++ option_to_list (take_first (is_word k) (pieces_left m)))
   pub rest : skip_first (is_word k) (pieces_left m) ≡ pieces_of_next o
 
-pub step : (k : Kind) → Bounds 8 k → {l m : Left} {ps : List Text} → IsPast l m ps → (b : Bool) →
+pub step : (k : Kind) → Bounds 8 k → {l m : Cursor} {ps : List Text} → IsPast l m ps → (b : Bool) →
     b ≡ is_word k (piece_left m)
-    → (o : Option Left) → IsOnePast b m o → Steps k l m o ps
+    → (o : Option Cursor) → IsOnePast b m o → Steps k l m o ps
 step k ends {l} {m} {ps} p true e None a = record {
   passed = p.pieces ∙ ap (λ qs. ps ++ qs) a
-      ∙ sym (ap (λ w. ps ++ option_to_list w) (took k (left.bytes_left m) (sym e)));
+      ∙ sym (ap (λ w. ps ++ option_to_list w) (took k (cursor.bytes_left m) (sym e)));
   rest = ap (skip_first (is_word k)) a ∙ skipped k (piece_left m) [] (sym e);
 }
 step k ends {l} {m} {ps} p true e (Some n) a = record {
   passed = subst (λ (w : Option Text). IsPast l n (ps ++ option_to_list w))
-      (sym (took k (left.bytes_left m) (sym e)))
+      (sym (took k (cursor.bytes_left m) (sym e)))
       (past_next p (short_word k ends (piece_left m) (sym e)) a);
   rest = ap (skip_first (is_word k)) a.pieces ∙ skipped k (piece_left m) (pieces_left n) (sym e);
 }
 step k ends p false e None a = absurd (a tt)
 step k ends {l} {m} {ps} p false e (Some n) a = record {
   passed = subst (λ (w : Option Text). IsPast l n (ps ++ option_to_list w))
-      (sym (took_none k (left.bytes_left m) (sym e)))
+      (sym (took_none k (cursor.bytes_left m) (sym e)))
       (subst (λ (qs : List Text). IsPast l n qs) (sym (append-nil ps))
-      (subst (λ (i : Left). IsPast l i ps) (sym a) p));
-  rest = skipped_none k (left.bytes_left m) (sym e) ∙ ap (λ i. pieces_left i) (sym a);
+      (subst (λ (i : Cursor). IsPast l i ps) (sym a) p));
+  rest = skipped_none k (cursor.bytes_left m) (sym e) ∙ ap (λ i. pieces_left i) (sym a);
 }
 
 -- ---- how it is printed
@@ -311,20 +312,20 @@ front_text-append s r t u a b =
 -- ---- what is read
 
 -- the front is passed, and its words are where they are said to be
-pub record ReadsFront (l : Left) (o : Option Left) (s r : ℕ) : Type 0 where
+pub record ReadsFront (l : Cursor) (o : Option Cursor) (s r : ℕ) : Type 0 where
   pub passed : IsAfter l o (front_pieces (front_of (pieces_left l)))
   pub rest : after_region (pieces_left l) ≡ pieces_of_next o
   pub script : l.at ≡ 0 → s ≡ script_at (piece_left l) (front_of (pieces_left l)).script
   pub region : l.at ≡ 0 →
       r ≡ region_at (piece_left l) (front_of (pieces_left l)).script (front_of (pieces_left l)).region
 
-next_is : (l : Left) (o : Option Left) → IsAfter l o (front_pieces (front_of (pieces_left l))) →
+next_is : (l : Cursor) (o : Option Cursor) → IsAfter l o (front_pieces (front_of (pieces_left l))) →
     after_region (pieces_left l) ≡ pieces_of_next o
     → IsAfterFront l o
 next_is l None a e = a
 next_is l (Some m) a e = (a, sym e)
 
-pub front_read : (l m : Left) (all : Bool) (s r : ℕ) →
+pub front_read : (l m : Cursor) (all : Bool) (s r : ℕ) →
     IsWord (Language languages) (piece_left l)
     → ReadsFront l (unless_end all m) s r
     → IsFrontRead l m (record { is_all = all; end = end_of l (unless_end all m); script = s; region = r })
@@ -359,7 +360,7 @@ front_read l m all s r language f =
     }
 
 -- a language alone
-pub front_alone : (l : Left) → pieces_left l ≡ piece_left l ∷ [] → ReadsFront l None 0 0
+pub front_alone : (l : Cursor) → pieces_left l ≡ piece_left l ∷ [] → ReadsFront l None 0 0
 unfolding front_of
 front_alone l one = record {
   passed = one ∙ sym (ap (λ ps. front_pieces (front_of ps)) one);
@@ -369,26 +370,26 @@ front_alone l one = record {
 }
 
 -- where a piece begins, if others were passed from the beginning on
-past_at : {l m : Left} {ps : List Text} → IsPast l m ps → ps ≢ [] → l.at ≡ 0 →
+past_at : {l m : Cursor} {ps : List Text} → IsPast l m ps → ps ≢ [] → l.at ≡ 0 →
     m.at ≡ suc (length (join ps))
 past_at {l} {m} {ps} p some first =
-    let cut : left.bytes_left l ≡ join ps ++ 45 ∷ left.bytes_left m = p.rest some in
+    let cut : cursor.bytes_left l ≡ join ps ++ 45 ∷ cursor.bytes_left m = p.rest some in
     omega (
       arith,
       p.end,
       length_rest l,
       length_rest m,
       ap length cut,
-      length-append (join ps) (45 ∷ left.bytes_left m),
+      length-append (join ps) (45 ∷ cursor.bytes_left m),
     )
 
-module _ {l m : Left} (language : IsWord (Language languages) (piece_left l))
+module _ {l m : Cursor} (language : IsWord (Language languages) (piece_left l))
     (next : IsNextPiece l m)
     (b : Bool) (is : b ≡ is_word Script (piece_left m)) (s : ℕ) (at : s ≡ cond b m.at 0) where
   abbrev script : Option Text
   script = take_first (is_word Script) (pieces_left m)
 
-  abbrev region : Option Left → Option Text
+  abbrev region : Option Cursor → Option Text
   region third = take_first (is_word Region) (pieces_of_next third)
 
   begun : IsPast l m (piece_left l ∷ [])
@@ -404,10 +405,10 @@ module _ {l m : Left} (language : IsWord (Language languages) (piece_left l))
       by : (b : Bool) → b ≡ is_word Script (piece_left m) → s ≡ cond b m.at 0 →
           s ≡ script_at (piece_left l) script
       by true e p = p ∙ omega (arith, next_at l m next)
-          ∙ ap (script_at (piece_left l)) (sym (took Script (left.bytes_left m) (sym e)))
-      by false e p = p ∙ ap (script_at (piece_left l)) (sym (took_none Script (left.bytes_left m) (sym e)))
+          ∙ ap (script_at (piece_left l)) (sym (took Script (cursor.bytes_left m) (sym e)))
+      by false e p = p ∙ ap (script_at (piece_left l)) (sym (took_none Script (cursor.bytes_left m) (sym e)))
 
-  module _ (third : Option Left) (st : Steps Script l m third (piece_left l ∷ [])) where
+  module _ (third : Option Cursor) (st : Steps Script l m third (piece_left l ∷ [])) where
     region_is : (front_of (pieces_left l)).region ≡ region third
     unfolding front_of
     region_is = ap (λ ps. take_first (is_word Region) (skip_first (is_word Script) (rest_of ps))) next.pieces
@@ -435,12 +436,12 @@ module _ {l m : Left} (language : IsWord (Language languages) (piece_left l))
             λ _. ap (region_at (piece_left l) (front_of (pieces_left l)).script) (sym (region_is None st));
       }
 
-  module _ (n : Left) (one : IsOnePast b m (Some n)) where
+  module _ (n : Cursor) (one : IsOnePast b m (Some n)) where
     first_step : Steps Script l m (Some n) (piece_left l ∷ [])
     first_step = step Script tt begun b is (Some n) one
 
     module _ (c : Bool) (fits : c ≡ is_word Region (piece_left n)) where
-      region_place : (r : ℕ) → r ≡ cond (c && (n.n == 2)) n.at 0 → l.at ≡ 0
+      region_place : (r : ℕ) → r ≡ cond (c && (n.piece_length == 2)) n.at 0 → l.at ≡ 0
           → r ≡ region_at (piece_left l) (front_of (pieces_left l)).script (front_of (pieces_left l)).region
       region_place r place first = by c fits place
           ∙ (λ j. region_at (piece_left l) (sym script_is j) (sym (region_is (Some n) first_step) j))
@@ -448,18 +449,18 @@ module _ {l m : Left} (language : IsWord (Language languages) (piece_left l))
           there : n.at ≡ suc (length (join (piece_left l ∷ option_to_list script)))
           there = past_at first_step.passed (λ e. cc) first
 
-          by : (c : Bool) → c ≡ is_word Region (piece_left n) → r ≡ cond (c && (n.n == 2)) n.at 0 →
+          by : (c : Bool) → c ≡ is_word Region (piece_left n) → r ≡ cond (c && (n.piece_length == 2)) n.at 0 →
               r ≡ region_at (piece_left l) script (region (Some n))
           by true e p =
-              let long : n.n ≡ length (piece_left n) =
+              let long : n.piece_length ≡ length (piece_left n) =
               length_piece n (short_word Region tt (piece_left n) (sym e)) in
               p ∙ (λ j. cond (long j == 2) (there j) 0)
-              ∙ ap (region_at (piece_left l) script) (sym (took Region (left.bytes_left n) (sym e)))
+              ∙ ap (region_at (piece_left l) script) (sym (took Region (cursor.bytes_left n) (sym e)))
           by false e p =
-              p ∙ ap (region_at (piece_left l) script) (sym (took_none Region (left.bytes_left n) (sym e)))
+              p ∙ ap (region_at (piece_left l) script) (sym (took_none Region (cursor.bytes_left n) (sym e)))
 
       -- a region is passed, if there is one
-      pub front_to_region : (r : ℕ) → r ≡ cond (c && (n.n == 2)) n.at 0 → (o : Option Left) →
+      pub front_to_region : (r : ℕ) → r ≡ cond (c && (n.piece_length == 2)) n.at 0 → (o : Option Cursor) →
           IsOnePast c n o → ReadsFront l o s r
       front_to_region r place o last =
           let st = step Region tt first_step.passed c fits o last in

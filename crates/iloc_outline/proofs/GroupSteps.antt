@@ -9,7 +9,7 @@ use Rattle.iloc_spans.specs.declared.inserting.Inserted.{Inserted}
 use Rattle.iloc_spans.specs.declared.inserting.Inserted.TheVariants.{Put, There, Full}
 use Rattle.iloc_spans.specs.declared.span.Role.{Role}
 use Rattle.iloc_spans.specs.declared.span.Span.{Span}
-use Rattle.iloc_pieces.specs.declared.cursor.Left.{Left}
+use Rattle.iloc_pieces.specs.declared.place.Cursor.{Cursor}
 use Rattle.iloc_spans.proofs.Arranging.{arranged_twice}
 
 -- spans behind as many others
@@ -47,7 +47,7 @@ grouped_put_from from s F old new last r l n h =
     inr (omega arith, omega arith, refl, grouped_inserted from s F old new r l n h)
 
 -- the spans of a group go into a tree
-module _ (r : Role) (first at : Left) (before mid : List Span) (last : ℕ) (o n : Bool)
+module _ (r : Role) (first at : Cursor) (before mid : List Span) (last : ℕ) (o n : Bool)
     (w : Walks r first at before mid last o n) where
   pub walks_out : (F group : List Span) → F ≡ take (length before) mid
       → group ≡ spans_in_order (drop (length before) mid)

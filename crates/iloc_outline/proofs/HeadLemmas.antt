@@ -16,14 +16,14 @@ use Rattle.iloc_spec_grammar.proofs.ReadingLaws.{from_block_starts, front-from_b
 use Rattle.iloc_spec_grammar.proofs.ReadingLaws.{refuses_repeat, starts_ends}
 use Rattle.iloc_spec_grammar.proofs.Readings.{after_language}
 use Rattle.iloc_outline.specs.Identifier.{IsAfterFront, IsFrontRead, front_text}
-use Rattle.iloc_pieces.specs.Left.{IsPast, piece_left, pieces_left, bytes_left, whole_text}
+use Rattle.iloc_pieces.specs.Cursor.{IsPast, piece_left, pieces_left, bytes_left, whole_text}
 use Rattle.iloc_outline.specs.Outlines.{AreHeadRead, ReadsHead, parts_text}
 use Rattle.iloc_outline.specs.Parts.{front_pieces, printed_part, variant_parts}
 use Rattle.iloc_outline.specs.Reading.{AreWordsRead, ReadsWords}
 use Rattle.iloc_outline.specs.Spans.{IsSpan, Spell}
 use Rattle.iloc_spans.specs.Spans.{held_spans}
 use Rattle.iloc_outline.specs.declared.identifier.Front.{Front}
-use Rattle.iloc_pieces.specs.declared.cursor.Left.{Left}
+use Rattle.iloc_pieces.specs.declared.place.Cursor.{Cursor}
 use Rattle.iloc_outline.specs.declared.outline.Head.TheVariants as heads
 use Rattle.iloc_outline.specs.declared.outline.Outline.{Outline}
 use Rattle.iloc_outline.specs.declared.reading.Found.{Found}
@@ -34,7 +34,7 @@ use Rattle.iloc_subtags.specs.declared.parse_error.ParseError.TheVariants.{Inval
 use Rattle.iloc_outline.proofs.BlocksLemmas.{plain_variants}
 use Rattle.iloc_outline.proofs.BodyLemmas.{front_all}
 use Rattle.iloc_outline.proofs.Fronts.{begins_text, front_text-append}
-use Rattle.iloc_pieces.proofs.LeftLemmas.{length_text, past_past}
+use Rattle.iloc_pieces.proofs.CursorLemmas.{length_text, past_past}
 use Rattle.iloc_outline.proofs.Meanings.{parts_dashes}
 use Rattle.iloc_outline.proofs.OutlineLemmas.{lower-append, lower-dashes}
 use Rattle.iloc_outline.proofs.SpansLemmas.{spell_length}
@@ -101,8 +101,8 @@ no_items (x ∷ xs) ys h = cc
 abbrev pub outline_of : Front → Outline
 outline_of f = record { front = f.end; script = f.script; region = f.region }
 
-module _ (l : Left) (f : Front) (first : l.at ≡ 0)
-    (word : IsWord (Language languages) (piece_left l)) (m : Left) (read : IsFrontRead l m f) where
+module _ (l : Cursor) (f : Front) (first : l.at ≡ 0)
+    (word : IsWord (Language languages) (piece_left l)) (m : Cursor) (read : IsFrontRead l m f) where
   abbrev i : SpelledIdentifier
   i = front_of (pieces_left l)
 
@@ -224,13 +224,13 @@ module _ (l : Left) (f : Front) (first : l.at ≡ 0)
           (h.puts.order e).1)
 
     -- variants are the rest of the text
-    pub head_variants : (k : Left) (new : Spans) (n : Bool) →
+    pub head_variants : (k : Cursor) (new : Spans) (n : Bool) →
         AreWordsRead roles.Variant m k old new true n End
         → AreHeadRead (bytes_left l) k new n (heads.All (outline_of f))
     head_variants k new n h = read_up_to (pieces_left m) new n h (pieces_left l)
         (after.0.pieces ∙ ap (λ ws. front_pieces i ++ ws) (same_words (pieces_left m) new n h) ∙ sym pieces_i)
 
-    module _ (k : Left) (new : Spans) (n : Bool)
+    module _ (k : Cursor) (new : Spans) (n : Bool)
         (h : AreWordsRead roles.Variant m k old new true n Next) where
       before : IsPast l k (identifier_pieces i)
       before = subst (IsPast l k) (ap (λ ws. front_pieces i ++ ws) (same_words h.0 new n h.3) ∙ sym pieces_i)
@@ -265,7 +265,7 @@ module _ (l : Left) (f : Front) (first : l.at ≡ 0)
               (pieces_front_of (pieces_left l) word ∙ before.pieces)
 
     -- a variant comes twice
-    head_repeated : (k : Left) (new : Spans) (n : Bool)
+    head_repeated : (k : Cursor) (new : Spans) (n : Bool)
         → AreWordsRead roles.Variant m k old new true n Repeated
         → AreHeadRead (bytes_left l) k new n (heads.Refused InvalidSubtag)
     head_repeated k new n h = not_an_identifier begins
@@ -273,7 +273,7 @@ module _ (l : Left) (f : Front) (first : l.at ≡ 0)
         (variants_of (pieces_left l) (pieces_left m) after.1) h.1))
 
     -- neither of these
-    pub head_other : (k : Left) (new : Spans) (n : Bool) (r : Found)
+    pub head_other : (k : Cursor) (new : Spans) (n : Bool) (r : Found)
         → AreWordsRead roles.Variant m k old new true n r → (r ≡ Bad) ⊎ (r ≡ Repeated)
         → AreHeadRead (bytes_left l) k new n (heads.Refused InvalidSubtag)
     head_other k new n r h (inl e) = absurd (subst (AreWordsRead roles.Variant m k old new true n) e h tt)

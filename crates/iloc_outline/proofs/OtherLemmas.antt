@@ -20,16 +20,16 @@ use Rattle.iloc_spec_grammar.proofs.ReadBack.{all_append}
 use Rattle.iloc_spec_grammar.proofs.RuleTests.{tests_all, tests_block, tests_fails, tests_word}
 use Rattle.iloc_spec_grammar.proofs.Singletons.{no_t, no_u, no_x}
 use Rattle.iloc_spec_grammar.proofs.ValuesLaws.{all_weaker, filter_all}
-use Rattle.iloc_pieces.specs.Left.{IsEnd, IsLater, IsNextPiece, IsPast, IsSpanned, piece_left, pieces_left}
-use Rattle.iloc_pieces.specs.Left.{bytes_left, whole_text}
+use Rattle.iloc_pieces.specs.Cursor.{IsEnd, IsLater, IsNextPiece, IsPast, IsSpanned, piece_left, pieces_left}
+use Rattle.iloc_pieces.specs.Cursor.{bytes_left, whole_text}
 use Rattle.iloc_outline.specs.Parts.{block_parts, printed_part, rank, singleton_part}
 use Rattle.iloc_outline.specs.Reading.{IsBody, IsPrivateBody, IsPutOther, Puts, ReadsBlock, block_span}
 use Rattle.iloc_spans.specs.Spans.{held_spans}
-use Rattle.iloc_pieces.specs.declared.cursor.Left.{Left}
+use Rattle.iloc_pieces.specs.declared.place.Cursor.{Cursor}
 use Rattle.iloc_outline.specs.declared.reading.Found.{Found}
 use Rattle.iloc_outline.specs.declared.reading.Found.TheVariants.{End, Next, Bad}
 use Rattle.iloc_spans.specs.declared.spans.Spans.{Spans}
-use Rattle.iloc_pieces.proofs.LeftLemmas.{between_short, past_next, pieces_end, short_private, spanned_end}
+use Rattle.iloc_pieces.proofs.CursorLemmas.{between_short, past_next, pieces_end, short_private, spanned_end}
 use Rattle.iloc_outline.proofs.SpansLemmas.{other_short}
 use Rattle.iloc_outline.proofs.BodyLemmas.{front_each, front_ends, front_goes_on, front_whole, puts_one}
 use Rattle.iloc_outline.proofs.BodyLemmas.{puts_singleton, singleton_span}
@@ -78,12 +78,13 @@ parts_alone c ps t u = rw (t, u)
 -- ---- private subtags
 
 -- from l to m all pieces are private subtags
-pub record PassesPrivate (l m : Left) : Type 0 where
+pub record PassesPrivate (l m : Cursor) : Type 0 where
   pub words : List Text
   pub past : IsPast l m words
   pub each : AllByRecursion (IsWord PrivateSubtag) words
 
-pub private_next : (l m k : Left) → PassesPrivate l m → IsWord PrivateSubtag (piece_left m) → IsNextPiece m k
+pub private_next : (l m k : Cursor) → PassesPrivate l m → IsWord PrivateSubtag (piece_left m)
+    → IsNextPiece m k
     → PassesPrivate l k
 private_next l m k h word next = record {
   words = h.words ++ (piece_left m ∷ []);
@@ -91,10 +92,10 @@ private_next l m k h word next = record {
   each = all_append (IsWord PrivateSubtag) h.words (piece_left m ∷ []) h.each (word, tt);
 }
 
-pub private_end : (c start : ℕ) (l m : Left) (old new : Spans) (o : Bool) → to_ascii_lowercase c ≡ code_x
+pub private_end : (c start : ℕ) (l m : Cursor) (old new : Spans) (o : Bool) → to_ascii_lowercase c ≡ code_x
     → IsLater l → IsSpanned (whole_text l) start (l.at - 1) ((c ∷ []) ∷ [])
     → PassesPrivate l m → IsWord PrivateSubtag (piece_left m) → IsEnd m
-    → held_spans new ≡ held_spans old ++ block_span 255 start (m.at + m.n) false ∷ [] →
+    → held_spans new ≡ held_spans old ++ block_span 255 start (m.at + m.piece_length) false ∷ [] →
     IsPrivateBody c l old new o o End
 private_end c start l m old new o e later spanned h word end put =
     let all : pieces_left l ≡ h.words ++ (piece_left m ∷ []) = pieces_end h.past end in
@@ -103,20 +104,22 @@ private_end c start l m old new o e later spanned h word end put =
     (all_append (IsWord PrivateSubtag) h.words (piece_left m ∷ []) h.each (word, tt)) in
     let some : 0 < length (pieces_left l) =
     omega (arith, ap length all, length-append h.words (piece_left m ∷ [])) in
-    let whole : IsSpanned (whole_text l) start (m.at + m.n) ((c ∷ []) ∷ pieces_left l) =
-    subst (λ ps. IsSpanned (whole_text l) start (m.at + m.n) ((c ∷ []) ∷ ps)) (sym all)
+    let whole : IsSpanned (whole_text l) start (m.at + m.piece_length) ((c ∷ []) ∷ pieces_left l) =
+    subst (λ ps. IsSpanned (whole_text l) start (m.at + m.piece_length) ((c ∷ []) ∷ ps)) (sym all)
     (spanned_end h.past end later spanned) in
     let known : is_other_singleton (to_ascii_lowercase c) ≡ false = ap is_other_singleton e in
     let place =
-    subst (λ (w : ℕ). held_spans new ≡ held_spans old ++ block_span w start (m.at + m.n) false ∷ [])
+    subst (λ (w : ℕ). held_spans new ≡ held_spans old ++ block_span w start (m.at + m.piece_length) false
+    ∷ [])
     (sym (ap rank e)) put in (
       private_good c (pieces_left l) e (record { words = each; nonempty = some }),
       subst (λ parts. Puts (whole_text l) parts ((c ∷ []) ∷ pieces_left l) old new o o)
           (sym (parts_alone c (pieces_left l) (ap (λ d. d == code_t) e) (ap (λ d. d == code_u) e)))
-          (puts_singleton (whole_text l) c start (m.at + m.n) (pieces_left l) old new o whole known place),
+          (puts_singleton (whole_text l) c start (m.at + m.piece_length) (pieces_left l) old new o whole known
+          place),
     )
 
-pub private_odd : (c : ℕ) (l m : Left) (old new : Spans) (o : Bool) → to_ascii_lowercase c ≡ code_x
+pub private_odd : (c : ℕ) (l m : Cursor) (old new : Spans) (o : Bool) → to_ascii_lowercase c ≡ code_x
     → PassesPrivate l m → is_word PrivateSubtag (piece_left m) ≡ false → IsPrivateBody c l old new o o Bad
 private_odd c l m old new o e h odd =
     private_bad c (pieces_left l) e
@@ -141,13 +144,13 @@ pub record ArePieces (ps : List Text) (g d : Bool) : Type 0 where
   pub edited : d ≡ not (list_all (is_word Subtag) ps)
 
 -- from l to m there are such pieces
-pub record PassesOther (l m : Left) (g d : Bool) : Type 0 where
+pub record PassesOther (l m : Cursor) (g d : Bool) : Type 0 where
   pub words : List Text
   pub past : IsPast l m words
   pub are : ArePieces words g d
 
 -- ... and m is one of them
-pub record PassesOneMore (l m : Left) (g d : Bool) : Type 0 where
+pub record PassesOneMore (l m : Cursor) (g d : Bool) : Type 0 where
   pub words : List Text
   pub past : IsPast l m words
   pub are : ArePieces (words ++ (piece_left m ∷ [])) g d
@@ -169,7 +172,7 @@ one_more ps p g d h b = record {
 }
 
 -- m is a subtag, or none
-pub more_subtag : (l m : Left) (g d : Bool) → PassesOther l m g d → IsBetween (piece_left m)
+pub more_subtag : (l m : Cursor) (g d : Bool) → PassesOther l m g d → IsBetween (piece_left m)
     → is_word Subtag (piece_left m) ≡ true → PassesOneMore l m true d
 more_subtag l m g d h b e = record {
   words = h.words;
@@ -179,7 +182,7 @@ more_subtag l m g d h b e = record {
       (ap (λ x. d || not x) e ∙ or-false d) (one_more h.words (piece_left m) g d h.are b));
 }
 
-pub more_odd : (l m : Left) (g d : Bool) → PassesOther l m g d → IsBetween (piece_left m)
+pub more_odd : (l m : Cursor) (g d : Bool) → PassesOther l m g d → IsBetween (piece_left m)
     → is_word Subtag (piece_left m) ≡ false → PassesOneMore l m g true
 more_odd l m g d h b e = record {
   words = h.words;
@@ -189,7 +192,7 @@ more_odd l m g d h b e = record {
       (ap (λ x. d || not x) e ∙ or-true d) (one_more h.words (piece_left m) g d h.are b));
 }
 
-pub other_next : (l m k : Left) (g d : Bool) → PassesOneMore l m g d → IsBetween (piece_left m) →
+pub other_next : (l m k : Cursor) (g d : Bool) → PassesOneMore l m g d → IsBetween (piece_left m) →
     IsNextPiece m k
     → PassesOther l k g d
 other_next l m k g d h b next =
@@ -240,11 +243,11 @@ put_at c b start end d old mid new o m n good r e f g h =
     (subst (λ (s : Spans). IsPutOther (block_span b start end d) s new o n good r) f
     (subst (λ (x : Bool). IsPutOther (block_span b start end d) mid new x n good r) g h))
 
-module _ (c : ℕ) (l : Left) (other : is_other_singleton (to_ascii_lowercase c) ≡ true) where
+module _ (c : ℕ) (l : Cursor) (other : is_other_singleton (to_ascii_lowercase c) ≡ true) where
   no_t_of_other : (P : Type 0) → ¬ ((to_ascii_lowercase c ≡ code_t) × P)
   no_t_of_other P h = no_t (to_ascii_lowercase c) h.0 other
 
-  bad_other : (k : Left) (old new : Spans) (o n : Bool) → ¬ (IsOther (front (pieces_left l)))
+  bad_other : (k : Cursor) (old new : Spans) (o n : Bool) → ¬ (IsOther (front (pieces_left l)))
       → IsBody c l k old new o n Bad
   bad_other k old new o n bad = (other_bad c (front (pieces_left l)) other bad, no_t_of_other _)
 
@@ -298,7 +301,7 @@ module _ (c : ℕ) (l : Left) (other : is_other_singleton (to_ascii_lowercase c)
       both_ways false h = absurd (true≢false h)
 
   -- the last piece is reached
-  module _ (m : Left) (g d : Bool) (h : PassesOneMore l m g d) (end : IsEnd m) where
+  module _ (m : Cursor) (g d : Bool) (h : PassesOneMore l m g d) (end : IsEnd m) where
     all_pieces : pieces_left l ≡ h.words ++ (piece_left m ∷ [])
     all_pieces = pieces_end h.past end
 
@@ -313,22 +316,23 @@ module _ (c : ℕ) (l : Left) (other : is_other_singleton (to_ascii_lowercase c)
 
     pub end_put : (start : ℕ) (old new : Spans) (o n : Bool) (r : Found) → g ≡ true → IsLater l
         → IsSpanned (whole_text l) start (l.at - 1) ((c ∷ []) ∷ [])
-        → IsPutOther (block_span (to_ascii_lowercase c) start (m.at + m.n) d) old new o n End r
+        → IsPutOther (block_span (to_ascii_lowercase c) start (m.at + m.piece_length) d) old new o n End r
         → IsBody c l m old new o n r
     end_put start old new o n r e later spanned (inl full) =
         subst (IsBody c l m old new o n) (sym full.0) (omega (arith, full.1))
     end_put start old new o n r e later spanned (inr put) =
-        let spans : IsSpanned (whole_text l) start (m.at + m.n) ((c ∷ []) ∷ pieces_left l) =
-        subst (λ ps. IsSpanned (whole_text l) start (m.at + m.n) ((c ∷ []) ∷ ps)) (sym all_pieces)
+        let spans : IsSpanned (whole_text l) start (m.at + m.piece_length) ((c ∷ []) ∷ pieces_left l) =
+        subst (λ ps. IsSpanned (whole_text l) start (m.at + m.piece_length) ((c ∷ []) ∷ ps)) (sym all_pieces)
         (spanned_end h.past end later spanned) in
         let are : ArePieces (pieces_left l) true d =
         subst (λ ps. ArePieces ps true d) (sym all_pieces)
         (subst (λ x. ArePieces (h.words ++ (piece_left m ∷ [])) x d) e h.are) in
         subst (IsBody c l m old new o n) (sym put.0)
-        (good_other start (m.at + m.n) (pieces_left l) d old new o n are spans whole_body put.1 put.2)
+        (good_other start (m.at + m.piece_length) (pieces_left l) d old new o n are spans whole_body put.1
+        put.2)
 
   -- a piece of another length is reached
-  module _ (m : Left) (g d : Bool) (h : PassesOther l m g d) where
+  module _ (m : Cursor) (g d : Bool) (h : PassesOther l m g d) where
     next_none : (old new : Spans) (o n : Bool) → is_one_byte (piece_left m) ≡ true → g ≡ false
         → IsBody c l m old new o n Bad
     next_none old new o n one e =

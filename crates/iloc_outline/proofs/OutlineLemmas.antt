@@ -18,14 +18,14 @@ use Rattle.iloc_spec_grammar.proofs.Readings.{after_language, long_after_languag
 use Rattle.iloc_subtags.specs.declared.parse_error.ParseError.{ParseError}
 use Rattle.iloc_outline.specs.Blocks.{AreBlocksRead, ReadsBlocks}
 use Rattle.iloc_outline.specs.Identifier.{front_text}
-use Rattle.iloc_pieces.specs.Left.{pieces_left, whole_text}
+use Rattle.iloc_pieces.specs.Cursor.{pieces_left, whole_text}
 use Rattle.iloc_outline.specs.Outlines.{Gives, IsIdentifierOutlined, IsLimit, IsLocaleOutlined, ReadsHead}
 use Rattle.iloc_outline.specs.Outlines.{parts_text}
 use Rattle.iloc_outline.specs.Parts.{Part, blocks_parts, front_pieces, variant_parts}
 use Rattle.iloc_outline.specs.Spans.{IsSpan, Spell}
 use Rattle.iloc_spans.specs.Spans.{held_spans}
 use Rattle.iloc_outline.specs.declared.blocks.Blocks.TheVariants.{Refused, Full}
-use Rattle.iloc_pieces.specs.declared.cursor.Left.{Left}
+use Rattle.iloc_pieces.specs.declared.place.Cursor.{Cursor}
 use Rattle.iloc_outline.specs.declared.outline.Outline.{Outline}
 use Rattle.iloc_outline.specs.declared.outline.Outlined.TheVariants as outlined
 use Rattle.iloc_spans.specs.declared.spans.Spans.{Spans}
@@ -169,7 +169,7 @@ module _ (t : Text) (o : Outline) (spans : Spans) (n : Bool) (h : ReadsHead t (p
 
 -- ---- locales with blocks
 
-module _ (t : Text) (o : Outline) (before : Spans) (m : Bool) (l : Left)
+module _ (t : Text) (o : Outline) (before : Spans) (m : Bool) (l : Cursor)
     (h : ReadsHead t (head (pieces t)) o before m)
     (same : whole_text l ≡ t) (cut : pieces t ≡ head (pieces t) ++ pieces_left l)
     (after : after_head (pieces t) ≡ pieces_left l)

@@ -17,8 +17,8 @@ use Rattle.iloc_spec_grammar.specs.Values.{spelled_value}
 use Rattle.iloc_spec_grammar.proofs.PiecesLaws.{at_pieces, pieces-join}
 use Rattle.iloc_spec_grammar.proofs.PartTexts.{join-dashes}
 use Rattle.iloc_spec_grammar.proofs.WordsLaws.{length-lower}
-use Rattle.iloc_pieces.specs.Left.{IsEnd, IsNextPiece, IsShortPiece, piece_left, pieces_left}
-use Rattle.iloc_pieces.specs.Left.{bytes_left}
+use Rattle.iloc_pieces.specs.Cursor.{IsEnd, IsNextPiece, IsShortPiece, piece_left, pieces_left}
+use Rattle.iloc_pieces.specs.Cursor.{bytes_left}
 use Rattle.iloc_outline.specs.Printing.{bytes_from, edited_text, is_kept, kept_pieces, printed_role}
 use Rattle.iloc_outline.specs.Printing.{span_text}
 use Rattle.iloc_spec_grammar.specs.Reading.{rest_of}
@@ -33,29 +33,30 @@ use Rattle.iloc_spans.specs.declared.span.Role.{Role}
 use Rattle.iloc_spans.specs.declared.span.Role.TheVariants as roles
 use Rattle.iloc_spans.specs.contracts.span.Role.{the_type}
 use denote.Enum.Bare.{sameb}
-use Rattle.iloc_pieces.specs.declared.cursor.Left.{Left}
-use Rattle.iloc_pieces.proofs.LeftLemmas.{begins, first_within, length_piece, length_rest}
+use Rattle.iloc_pieces.specs.declared.place.Cursor.{Cursor}
+use Rattle.iloc_pieces.proofs.CursorLemmas.{begins, first_within, length_piece, length_rest}
 use Rattle.iloc_outline.proofs.Fronts.{length-raised}
 
 -- a short piece lies within the window, and its bytes are those from its place on
-module _ (l : Left) (short : IsShortPiece (piece_left l)) where
-  pub piece_within : l.n ≤ l.len
+module _ (l : Cursor) (short : IsShortPiece (piece_left l)) where
+  pub piece_within : l.piece_length ≤ l.remaining
   piece_within = omega (arith, length_piece l short, first_within (bytes_left l), length_rest l)
 
-  pub piece_inside : l.at + l.n ≤ length l.window.now
+  pub piece_inside : l.at + l.piece_length ≤ length l.window.now
   piece_inside = omega (arith, piece_within, l.inside)
 
-  pub piece_bytes : take l.n (drop l.at l.window.now) ≡ piece_left l
+  pub piece_bytes : take l.piece_length (drop l.at l.window.now) ≡ piece_left l
   piece_bytes =
-      sym (take-take l.n l.len (drop l.at l.window.now) piece_within)
+      sym (take-take l.piece_length l.remaining (drop l.at l.window.now) piece_within)
       ∙ ap (λ n. take n (bytes_left l)) (length_piece l short) ∙ begins (bytes_left l)
 
-  pub piece_first : l.n ≢ 0 → slice_index (piece_left l) 0 ≡ slice_index l.window.now l.at
+  pub piece_first : l.piece_length ≢ 0 → slice_index (piece_left l) 0 ≡ slice_index l.window.now l.at
   piece_first some =
-      ap (λ p. slice_index p 0) (sym piece_bytes) ∙ get_or-take l.n (drop l.at l.window.now) 0 0 (omega arith)
+      ap (λ p. slice_index p 0) (sym piece_bytes)
+      ∙ get_or-take l.piece_length (drop l.at l.window.now) 0 0 (omega arith)
       ∙ get_or-drop l.at l.window.now 0 0 ∙ ap (slice_index l.window.now) (add-zero l.at)
 
-  pub piece_none : l.n ≡ 0 → slice_index (piece_left l) 0 ≡ 0
+  pub piece_none : l.piece_length ≡ 0 → slice_index (piece_left l) 0 ≡ 0
   piece_none none = ap (λ p. slice_index p 0) (sym piece_bytes
       ∙ ap (λ n. take n (drop l.at l.window.now)) none)
 
@@ -76,7 +77,7 @@ pub first_short : (t : Text) → AllByRecursion IsShortPiece (pieces t) → IsSh
 first_short t =
     at_pieces (λ ps. AllByRecursion IsShortPiece ps → IsShortPiece (first_piece ps)) (λ p ps h. h.0) t
 
-pub next_short : (l m : Left) → IsNextPiece l m → AllByRecursion IsShortPiece (pieces_left l)
+pub next_short : (l m : Cursor) → IsNextPiece l m → AllByRecursion IsShortPiece (pieces_left l)
     → AllByRecursion IsShortPiece (pieces_left m)
 next_short l m next h = (subst (AllByRecursion IsShortPiece) next.pieces h).1
 
@@ -86,7 +87,7 @@ kept_more : (r : Role) (p : Text) (ps : List Text) → is_kept r p ≡ true → 
 kept_more r p ps e = ap (λ b. dashes (map lower (cond b (p ∷ filter (is_kept r) ps) (filter (is_kept r) ps))))
     e
 
-module _ (r : Role) (l m : Left) (next : IsNextPiece l m) (kept : is_kept r (piece_left m) ≡ true) where
+module _ (r : Role) (l m : Cursor) (next : IsNextPiece l m) (kept : is_kept r (piece_left m) ≡ true) where
   pub kept_next : dashes (kept_pieces r (rest_of (pieces_left l)))
       ≡ (45 ∷ lower (piece_left m)) ++ dashes (kept_pieces r (rest_of (pieces_left m)))
   kept_next =
@@ -120,7 +121,7 @@ module _ (r : Role) (l m : Left) (next : IsNextPiece l m) (kept : is_kept r (pie
         ∙ ap (λ t. take end to ++ t) (sym kept_next) ∙ all
 
 -- nothing is left behind the last piece
-module _ (r : Role) (l : Left) (end : IsEnd l) (F T to : Text) (n : ℕ)
+module _ (r : Role) (l : Cursor) (end : IsEnd l) (F T to : Text) (n : ℕ)
     (all : take n to ++ dashes (kept_pieces r (rest_of (pieces_left l))) ≡ F ++ T) where
   pub kept_all : take n to ≡ F ++ T
   kept_all = sym (append-nil (take n to))

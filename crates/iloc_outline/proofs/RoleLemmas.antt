@@ -1,7 +1,7 @@
 -- Words of a role are short.
 use Rattle.iloc_spec_grammar.specs.Syntax.{Text, IsWord}
-use Rattle.iloc_pieces.specs.Left.{IsShortPiece}
-use Rattle.iloc_pieces.proofs.LeftLemmas.{short_attribute, short_field_key, short_key, short_variant}
+use Rattle.iloc_pieces.specs.Cursor.{IsShortPiece}
+use Rattle.iloc_pieces.proofs.CursorLemmas.{short_attribute, short_field_key, short_key, short_variant}
 use Rattle.iloc_outline.specs.Reading.{role_kind, role_key}
 use Rattle.iloc_spans.specs.declared.span.Role.{Role}
 use Rattle.iloc_spans.specs.declared.span.Role.TheVariants as roles

@@ -23,12 +23,12 @@ use Rattle.iloc_subtags.specs.declared.parse_error.ParseError.TheVariants.{Dupli
 use Rattle.iloc_subtags.specs.Judging.{error_of}
 use Rattle.iloc_outline.specs.Blocks.{AreBegun, IsBlockRead, body_of}
 use Rattle.iloc_outline.specs.Groups.{AreGroups, parts_in}
-use Rattle.iloc_pieces.specs.Left.{IsEnd, IsLater, IsNextPiece, IsSpanned, piece_left}
-use Rattle.iloc_pieces.specs.Left.{pieces_left, whole_text}
+use Rattle.iloc_pieces.specs.Cursor.{IsEnd, IsLater, IsNextPiece, IsSpanned, piece_left}
+use Rattle.iloc_pieces.specs.Cursor.{pieces_left, whole_text}
 use Rattle.iloc_outline.specs.Parts.{Part, block_parts, rank}
 use Rattle.iloc_outline.specs.Reading.{IsTooMuch}
 use Rattle.iloc_outline.specs.Spans.{Spell}
-use Rattle.iloc_pieces.specs.declared.cursor.Left.{Left}
+use Rattle.iloc_pieces.specs.declared.place.Cursor.{Cursor}
 use Rattle.iloc_outline.specs.declared.reading.Found.TheVariants.{End, Next, Bad, Repeated, Full}
 use Rattle.iloc_spans.specs.declared.spans.Spans.{Spans}
 use Rattle.iloc_outline.proofs.BlocksLemmas.{IsAt, IsDone, IsRead, at_start, groups_of, is_bad, is_placed}
@@ -36,7 +36,7 @@ use Rattle.iloc_outline.proofs.BlocksLemmas.{is_second, no_letter, ranks, read_b
 use Rattle.iloc_outline.proofs.BlocksLemmas.{read_next, read_repeated, repeats, stays, told}
 use Rattle.iloc_outline.proofs.SpansLemmas.{spell_length}
 use Rattle.iloc_spans.proofs.HeldLemmas.{length-held}
-use Rattle.iloc_pieces.proofs.LeftLemmas.{past_first, single_short, spanned_next, spanned_none}
+use Rattle.iloc_pieces.proofs.CursorLemmas.{past_first, single_short, spanned_next, spanned_none}
 use Rattle.iloc_pieces.proofs.RunWords.{and-false}
 use Rattle.iloc_outline.proofs.TransformLemmas.{no_language}
 
@@ -88,10 +88,10 @@ nothing_bad c = subst (λ ps. (is_block languages (c, ps) ≡ false)
 -- ---- what the reader answers
 
 -- the first bad block has the fault that the error names
-abbrev pub IsRefused : Left → ParseError → Type 0
+abbrev pub IsRefused : Cursor → ParseError → Type 0
 IsRefused l e = (f : Fault) × (first_fault languages [] (blocks (pieces_left l)) ≡ Some f) × (e ≡ error_of f)
 
-module _ {l : Left} {old : Spans} {o : Bool} {at : Left} {last : ℕ} {now : Spans} {n : Bool}
+module _ {l : Cursor} {old : Spans} {o : Bool} {at : Cursor} {last : ℕ} {now : Spans} {n : Bool}
     (h : IsAt l old o at last now n) where
   -- the byte of the singleton, its rank, and the pieces behind it
   abbrev pub byte_at : ℕ
@@ -112,7 +112,7 @@ module _ {l : Left} {old : Spans} {o : Bool} {at : Left} {last : ℕ} {now : Spa
   refuses_letter a = (faults.InvalidExtension, no_letter byte_at behind l old o last now n at_block a, refl)
 
   -- the next piece
-  module _ {m : Left} (next : IsNextPiece at m) where
+  module _ {m : Cursor} (next : IsNextPiece at m) where
     same_behind : behind ≡ pieces_left m
     same_behind = ap rest_of next.pieces
 
@@ -183,14 +183,14 @@ module _ {l : Left} {old : Spans} {o : Bool} {at : Left} {last : ℕ} {now : Spa
     )
 
   -- it is a letter or digit, its rank is new, and what follows was read from m on
-  pub record Passed (m : Left) (mid : Spans) (p k : Bool) : Type 0 where
+  pub record Passed (m : Cursor) (mid : Spans) (p k : Bool) : Type 0 where
     pub letter : is_ascii_alphanumeric byte_at ≡ true
     pub fresh : IsFresh letter p
     pub next : IsNextPiece at m
 
-  module _ {m : Left} {mid : Spans} {p k : Bool} (x : Passed m mid p k) where
+  module _ {m : Cursor} {mid : Spans} {p k : Bool} (x : Passed m mid p k) where
     -- what follows is bad
-    pub refuses_bad : (j : Left) → IsBlockRead byte_at m j now mid p k Bad → IsRefused l InvalidExtension
+    pub refuses_bad : (j : Cursor) → IsBlockRead byte_at m j now mid p k Bad → IsRefused l InvalidExtension
     refuses_bad j r = (
       faults.InvalidExtension,
       is_bad byte_at behind l old o last now n at_block x.letter x.fresh.new
@@ -201,7 +201,7 @@ module _ {l : Left} {old : Spans} {o : Bool} {at : Left} {last : ℕ} {now : Spa
     )
 
     -- a variant is repeated
-    pub refuses_repeated : (j : Left) → IsBlockRead byte_at m j now mid p k Repeated →
+    pub refuses_repeated : (j : Cursor) → IsBlockRead byte_at m j now mid p k Repeated →
         IsRefused l InvalidSubtag
     refuses_repeated j r = (
       faults.InvalidSubtag,
@@ -213,7 +213,7 @@ module _ {l : Left} {old : Spans} {o : Bool} {at : Left} {last : ℕ} {now : Spa
     )
 
     -- there is no room
-    pub too_many : (j : Left) → IsBlockRead byte_at m j now mid p k Full
+    pub too_many : (j : Cursor) → IsBlockRead byte_at m j now mid p k Full
         → IsTooMuch old (length (pieces_left l))
     too_many j r = omega (arith, read_full byte_at m j now mid p k r, h.before.few, ap length x.next.pieces)
 
@@ -250,12 +250,12 @@ module _ {l : Left} {old : Spans} {o : Bool} {at : Left} {last : ℕ} {now : Spa
         (subst (λ t. IsRead byte_at t (pieces_left m) rest now mid p k) (same_text x.next) r)
 
     -- the block is the last one
-    pub ends_here : (j : Left) → IsBlockRead byte_at m j now mid p k End
+    pub ends_here : (j : Cursor) → IsBlockRead byte_at m j now mid p k End
         → IsRead byte_at (whole_text l) behind [] now mid p k
     ends_here j r = read_here [] (read_end byte_at m j now mid p k r)
 
     -- another one follows
-    pub goes_on : (j : Left) → IsBlockRead byte_at m j now mid p k Next
+    pub goes_on : (j : Cursor) → IsBlockRead byte_at m j now mid p k Next
         → IsRead byte_at (whole_text l) behind (pieces_left j) now mid p k
     goes_on j r = read_here (pieces_left j) (read_next byte_at m j now mid p k r).read
 
@@ -276,7 +276,7 @@ module _ {l : Left} {old : Spans} {o : Bool} {at : Left} {last : ℕ} {now : Spa
         )
 
     -- its singleton is reached
-    pub next_at : (j : Left) → IsBlockRead byte_at m j now mid p k Next → (top : ℕ) (placed : Spans)
+    pub next_at : (j : Cursor) → IsBlockRead byte_at m j now mid p k Next → (top : ℕ) (placed : Spans)
         → IsDone l old o (pieces_left j) top placed k → IsAt l old o j top placed k
     next_at j r top placed d =
         let to = read_next byte_at m j now mid p k r in
@@ -289,11 +289,11 @@ module _ {l : Left} {old : Spans} {o : Bool} {at : Left} {last : ℕ} {now : Spa
         }
 
     -- less is left
-    pub less_at : (j : Left) → IsBlockRead byte_at m j now mid p k Next → j.len < at.len
+    pub less_at : (j : Cursor) → IsBlockRead byte_at m j now mid p k Next → j.remaining < at.remaining
     less_at j r = omega (arith, (read_next byte_at m j now mid p k r).less, x.next.less)
 
 -- at the first singleton
-pub starts_at : (l : Left) (old : Spans) (o : Bool) → IsLater l →
+pub starts_at : (l : Cursor) (old : Spans) (o : Bool) → IsLater l →
     is_one_byte (piece_left l) ≡ true
     → IsAt l old o l 0 old o
 starts_at l old o later single = record {

@@ -16,11 +16,11 @@ use Rattle.iloc_spec_grammar.specs.Syntax.{Bounds, IsHyphenFree}
 use Rattle.iloc_spec_grammar.specs.Meaning.{map_of}
 use Rattle.iloc_spec_grammar.proofs.ReadBack.{word_hyphen_free}
 use Rattle.std.proofs.lemmas.Bool.Decides.{nat_tests}
-use Rattle.iloc_pieces.specs.Left.{IsShortPiece}
+use Rattle.iloc_pieces.specs.Cursor.{IsShortPiece}
 use Rattle.iloc_outline.specs.Reading.{IsFieldOfRole}
 use Rattle.iloc_spans.specs.declared.span.Role.{Role}
 use Rattle.iloc_spans.specs.declared.span.Role.TheVariants as roles
-use Rattle.iloc_pieces.proofs.LeftLemmas.{between_short, short_word}
+use Rattle.iloc_pieces.proofs.CursorLemmas.{between_short, short_word}
 use Rattle.iloc_outline.specs.Parts.{Part}
 use Rattle.iloc_outline.specs.Spans.{AddsParts, AreShort, IsSpan, Spell}
 use Rattle.iloc_spans.specs.Spans.{held_spans}

@@ -2,12 +2,11 @@
 use Rattle.std.proofs.Common.{◌≡◌, ◌≢◌, ◌⊎◌, inl, inr, ℕ, ◌<◌, Bool, true, false, cond, ◌||◌, List, [], ◌∷◌}
 use Rattle.std.proofs.Common.{◌++◌, length, map, refl, sym, ap, ◌∙◌, subst, arith, Option, Some, None, IfSome}
 use Rattle.std.proofs.Common.{option_to_list, append_assoc, true≢false}
-use Rattle.std.specs.Prelude.{nat_eq}
 use Rattle.std.specs.List.{AllByRecursion}
 use Rattle.std.specs.Char.{to_ascii_lowercase}
-use Rattle.std.proofs.lemmas.Bool.{and_parts, and_from, false_from_ne_true, eqb-true, ne_eqb}
+use Rattle.std.proofs.lemmas.Bool.{and_parts, and_from, ne_eqb}
 use Rattle.std.proofs.lemmas.List.{append_cancel_left}
-use Rattle.iloc_spec_grammar.specs.Syntax.{Text, code_t, Language, Script, Region, Variant, TransformKey}
+use Rattle.iloc_spec_grammar.specs.Syntax.{Text, code_t, Language, Variant, TransformKey}
 use Rattle.iloc_spec_grammar.specs.Syntax.{Attribute, is_word, IsWord, IsField, Fields, SpelledIdentifier}
 use Rattle.iloc_spec_grammar.specs.Syntax.{SpelledTransform, HasWords, IsIdentifier, AllDifferent}
 use Rattle.iloc_spec_grammar.specs.Syntax.{fields_pieces, identifier_pieces, optional_pieces}
@@ -26,12 +25,10 @@ use Rattle.iloc_spec_grammar.proofs.ReadBack.{fields_each, plain_fields}
 use Rattle.iloc_spec_grammar.proofs.RuleTests.{tests_block, tests_fails, tests_different, tests_denied}
 use Rattle.iloc_spec_grammar.proofs.RawLaws.{languages_table}
 use Rattle.iloc_spec_grammar.proofs.Singletons.{no_t}
-use Rattle.iloc_spec_grammar.proofs.WordsLaws.{length-language, length-transform_key, length-script}
-use Rattle.iloc_spec_grammar.proofs.WordsLaws.{length-variant}
+use Rattle.iloc_spec_grammar.proofs.WordsLaws.{length-language}
 use Rattle.iloc_outline.specs.Reading.{EndsInKey}
-use Rattle.iloc_pieces.specs.Shape.{shape_of}
 use Rattle.iloc_outline.proofs.BodyLemmas.{front_past, front_first}
-use Rattle.iloc_pieces.proofs.Tests.{region_is, field_key_is}
+use Rattle.iloc_pieces.proofs.Tests.{key_no_script, key_no_region, key_no_variant}
 
 -- ---- good blocks
 
@@ -82,19 +79,6 @@ alone ps m none h cut = by m.id m.fields h.id h.fields h.nonempty cut
     by (Some j) fs i f n cut =
         absurd (true≢false (sym i.words.language
         ∙ ap (λ l. is_word (Language languages) (first_piece l)) (sym cut) ∙ none))
-
--- no key is a word of an identifier
-key_no_script : (p : Text) → IsWord TransformKey p → is_word Script p ≡ false
-key_no_script p h = false_from_ne_true _
-    (λ s. let a = length-script p s in let b = length-transform_key p h in absurd (omega arith))
-
-key_no_variant : (p : Text) → IsWord TransformKey p → is_word Variant p ≡ false
-key_no_variant p h = false_from_ne_true _
-    (λ s. let a = length-variant p s in let b = length-transform_key p h in absurd (omega arith))
-
-key_no_region : (p : Text) → IsWord TransformKey p → is_word Region p ≡ false
-key_no_region p h = region_is p
-    ∙ ap (λ s. nat_eq s 4 || nat_eq s 15) (eqb-true (shape_of p) 6 (sym (field_key_is p) ∙ h))
 
 fields_end : (fs : Fields) → AllByRecursion IsField fs → EndsWords (fields_pieces fs)
 fields_end [] h = record { script = tt; region = tt; variant = tt }

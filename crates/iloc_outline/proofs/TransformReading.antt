@@ -16,18 +16,18 @@ use Rattle.iloc_spec_grammar.proofs.PiecesLaws.{pieces_nonempty}
 use Rattle.iloc_spec_grammar.proofs.Readings.{IsLong, long_attribute}
 use Rattle.iloc_spec_grammar.proofs.ReadBack.{all_append, fields_each, plain_fields}
 use Rattle.iloc_spec_grammar.proofs.WordsLaws.{length-transform_key}
-use Rattle.iloc_pieces.specs.Left.{IsPast, IsSpanned, piece_left, pieces_left, bytes_left, whole_text}
+use Rattle.iloc_pieces.specs.Cursor.{IsPast, IsSpanned, piece_left, pieces_left, bytes_left, whole_text}
 use Rattle.iloc_outline.specs.Parts.{block_parts, field_part, front_pieces, in_order, optional_front}
 use Rattle.iloc_outline.specs.Parts.{optional_variants, rank, singleton_part, transform_parts, variant_parts}
 use Rattle.iloc_outline.specs.Reading.{AreFieldsRead, AreWordsRead, EndsAtBlock, EndsInKey, IsBody}
 use Rattle.iloc_outline.specs.Reading.{Puts, ReadsBlock, ReadsFields, ReadsWords, block_span}
 use Rattle.iloc_spans.specs.Spans.{held_spans}
-use Rattle.iloc_pieces.specs.declared.cursor.Left.{Left}
+use Rattle.iloc_pieces.specs.declared.place.Cursor.{Cursor}
 use Rattle.iloc_outline.specs.declared.reading.Found.{Found}
 use Rattle.iloc_outline.specs.declared.reading.Found.TheVariants.{End, Next, Bad, Repeated, Full}
 use Rattle.iloc_spans.specs.declared.span.Role.TheVariants as roles
 use Rattle.iloc_spans.specs.declared.spans.Spans.{Spans}
-use Rattle.iloc_pieces.proofs.LeftLemmas.{past_past}
+use Rattle.iloc_pieces.proofs.CursorLemmas.{past_past}
 use Rattle.iloc_outline.proofs.BodyLemmas.{front_ends, front_first, front_goes_on, front_past, front_single}
 use Rattle.iloc_outline.proofs.BodyLemmas.{front_whole, puts_none, puts_singleton, puts_then, some_passed}
 use Rattle.iloc_outline.proofs.TransformLemmas.{AreFields, after_front_body, alone_bad, first_body, front_bad}
@@ -52,7 +52,7 @@ parts_of_t : (c : ℕ) (ps : List Text) (m : SpelledTransform) → to_ascii_lowe
 parts_of_t c ps m e h = rw (e, h)
 
 -- the singleton with the front of an identifier, variants and fields were put
-good_block : (c start end : ℕ) (l : Left) (id : Option SpelledIdentifier) (fs : Fields)
+good_block : (c start end : ℕ) (l : Cursor) (id : Option SpelledIdentifier) (fs : Fields)
     (old mid mid' new : Spans)
     (o o' n : Bool) → to_ascii_lowercase c ≡ code_t
     → IsSpanned (whole_text l) start end ((c ∷ []) ∷ optional_front id)
@@ -119,7 +119,7 @@ body_ends_in_key ps k = record {
 
 -- ---- fields without an identifier
 
-module _ (c start : ℕ) (l : Left) (e : to_ascii_lowercase c ≡ code_t)
+module _ (c start : ℕ) (l : Cursor) (e : to_ascii_lowercase c ≡ code_t)
     (none : is_word (Language languages) (piece_left l) ≡ false) where
   body_none : is_word (Language languages) (first_piece (front (pieces_left l))) ≡ false
   unfolding is_word languages
@@ -132,14 +132,14 @@ module _ (c start : ℕ) (l : Left) (e : to_ascii_lowercase c ≡ code_t)
           (λ b. is_word (Language languages) (first_piece (cond b [] (p ∷ front ps))) ≡ false)
           [ true ↦ refl | false ↦ h ]
 
-  bad_alone : (m : Left) (old new : Spans) (o n : Bool)
+  bad_alone : (m : Cursor) (old new : Spans) (o n : Bool)
       → (front (pieces_left l) ≢ [] → ¬ (AreFields (front (pieces_left l)))) → IsBody c l m old new o n Bad
   bad_alone m old new o n bad = (
     alone_bad c (front (pieces_left l)) e body_none bad,
     λ h. none_repeats (front (pieces_left l)) body_none h.1,
   )
 
-  pub transform_single : (m : Left) (old new : Spans) (o n : Bool) → is_one_byte (piece_left l) ≡ true
+  pub transform_single : (m : Cursor) (old new : Spans) (o n : Bool) → is_one_byte (piece_left l) ≡ true
       → IsBody c l m old new o n Bad
   transform_single m old new o n single =
       bad_alone m old new o n (λ some. absurd (some (front_single (pieces_left l) single)))
@@ -159,14 +159,14 @@ module _ (c start : ℕ) (l : Left) (e : to_ascii_lowercase c ≡ code_t)
         nonempty [] some = absurd (some refl)
         nonempty (f ∷ fs) some = omega arith
 
-    alone_end : (k : Left) (new : Spans) (n : Bool) → AreFieldsRead roles.Field l k mid new o n End
+    alone_end : (k : Cursor) (new : Spans) (n : Bool) → AreFieldsRead roles.Field l k mid new o n End
         → IsBody c l k old new o n End
     alone_end k new n (fs, cut, h) =
         subst (λ ps. ReadsBlock c l ps old new o n) (sym cut)
         (good_alone new n fs h.each (λ empty. pieces_nonempty (bytes_left l) (cut ∙ ap fields_pieces empty))
         h.puts (ap front cut ∙ front_whole (fields_pieces fs) (long_fields fs h.each)))
 
-    alone_next : (k : Left) (new : Spans) (n : Bool) → AreFieldsRead roles.Field l k mid new o n Next
+    alone_next : (k : Cursor) (new : Spans) (n : Bool) → AreFieldsRead roles.Field l k mid new o n Next
         → is_one_byte (piece_left k) ≡ true → IsBody c l k old new o n Next
     alone_next k new n (fs, past, no_key, either, h) one = (
       fields_pieces fs,
@@ -177,7 +177,7 @@ module _ (c start : ℕ) (l : Left) (e : to_ascii_lowercase c ≡ code_t)
           (front_ends l k (fields_pieces fs) past.pieces (long_fields fs h.each) one),
     )
 
-    alone_stranger : (k : Left) (new : Spans) (n : Bool) → AreFieldsRead roles.Field l k mid new o n Next
+    alone_stranger : (k : Cursor) (new : Spans) (n : Bool) → AreFieldsRead roles.Field l k mid new o n Next
         → is_one_byte (piece_left k) ≡ false → IsBody c l k old new o n Bad
     alone_stranger k new n (fs, past, no_key, either, h) longer =
         let body = front_goes_on l k (fields_pieces fs) past.pieces (long_fields fs h.each) longer in
@@ -193,7 +193,7 @@ module _ (c start : ℕ) (l : Left) (e : to_ascii_lowercase c ≡ code_t)
             (subst AreFields (ap (λ gs. fields_pieces gs ++ (piece_left k ∷ more)) empty) f)
         no_fields (inr odd) f = no_fields_later (fields_pieces fs) (piece_left k) more no_key odd f
 
-    pub alone_read : (k : Left) (new : Spans) (n : Bool) (r s : Found)
+    pub alone_read : (k : Cursor) (new : Spans) (n : Bool) (r s : Found)
         → AreFieldsRead roles.Field l k mid new o n r → EndsAtBlock k r s → IsBody c l k old new o n s
     alone_read k new n End s h ends = subst (IsBody c l k old new o n) ends (alone_end k new n h)
     alone_read k new n Next Next h ends = alone_next k new n h ends
@@ -215,7 +215,7 @@ module _ (c start : ℕ) (l : Left) (e : to_ascii_lowercase c ≡ code_t)
 
 -- ---- an identifier, and fields
 
-module _ (c start end : ℕ) (l : Left) (e : to_ascii_lowercase c ≡ code_t)
+module _ (c start end : ℕ) (l : Cursor) (e : to_ascii_lowercase c ≡ code_t)
     (word : IsWord (Language languages) (piece_left l))
     (spanned : IsSpanned (whole_text l) start end ((c ∷ []) ∷ front_pieces (front_of (pieces_left l))))
     (old mid : Spans) (o : Bool)
@@ -223,7 +223,7 @@ module _ (c start end : ℕ) (l : Left) (e : to_ascii_lowercase c ≡ code_t)
   one_more : length (held_spans mid) ≡ length (held_spans old) + 1
   one_more = ap length put ∙ length-append (held_spans old) _
 
-  bad_after : (k : Left) (new : Spans) (n : Bool)
+  bad_after : (k : Cursor) (new : Spans) (n : Bool)
       → AllDifferent word_cmp (map lower (front_of (pieces_left l)).variants)
       → ¬ (AreFields (front (after_front (pieces_left l)))) → IsBody c l k old new o n Bad
   bad_after k new n different bad = (
@@ -251,7 +251,7 @@ module _ (c start end : ℕ) (l : Left) (e : to_ascii_lowercase c ≡ code_t)
       }) body
 
   -- language, script and region alone
-  pub front_alone : (k : Left) → pieces_left l ≡ front_pieces (front_of (pieces_left l))
+  pub front_alone : (k : Cursor) → pieces_left l ≡ front_pieces (front_of (pieces_left l))
       → IsBody c l k old mid o o End
   front_alone k cut =
       let i = front_of (pieces_left l) in
@@ -277,7 +277,7 @@ module _ (c start end : ℕ) (l : Left) (e : to_ascii_lowercase c ≡ code_t)
       no_items (x ∷ xs) ys h = cc
 
   -- variants were put
-  module _ (m : Left) (first : IsPast l m (front_pieces (front_of (pieces_left l))))
+  module _ (m : Cursor) (first : IsPast l m (front_pieces (front_of (pieces_left l))))
       (after : pieces_left m ≡ after_region (pieces_left l)) where
     variants_all : (vs : List Text) (mid' : Spans) (o' : Bool) → ReadsWords roles.Variant m vs mid mid' o o'
         → vs ≡ (front_of (pieces_left l)).variants
@@ -317,7 +317,7 @@ module _ (c start end : ℕ) (l : Left) (e : to_ascii_lowercase c ≡ code_t)
         (variants_put (pieces_left m) new n h)
         (puts_none (whole_text l) new n) body)
 
-    variants_repeated : (k : Left) (new : Spans) (n : Bool)
+    variants_repeated : (k : Cursor) (new : Spans) (n : Bool)
         → ¬ (AllDifferent word_cmp (map lower (passing (is_word Variant) (pieces_left m))))
         → IsBody c l k old new o n Repeated
     variants_repeated k new n h = (
@@ -328,7 +328,8 @@ module _ (c start end : ℕ) (l : Left) (e : to_ascii_lowercase c ≡ code_t)
     )
 
     -- ... and then fields
-    module _ (k : Left) (vs : List Text) (past : IsPast m k vs) (odd : is_word Variant (piece_left k) ≡ false)
+    module _ (k : Cursor) (vs : List Text) (past : IsPast m k vs)
+        (odd : is_word Variant (piece_left k) ≡ false)
         (mid' : Spans) (o' : Bool) (words : ReadsWords roles.Variant m vs mid mid' o o') where
       before : IsPast l k (identifier_pieces (front_of (pieces_left l)))
       before = subst (IsPast l k) (identifier_all vs mid' o' words) (past_past first past)
@@ -356,7 +357,7 @@ module _ (c start end : ℕ) (l : Left) (e : to_ascii_lowercase c ≡ code_t)
       long_all fs h = all_append IsLong (identifier_pieces (front_of (pieces_left l))) (fields_pieces fs)
           (long_front (pieces_left l) word) (long_fields fs h)
 
-      fields_end : (j : Left) (new : Spans) (n : Bool) → AreFieldsRead roles.Field k j mid' new o' n End
+      fields_end : (j : Cursor) (new : Spans) (n : Bool) → AreFieldsRead roles.Field k j mid' new o' n End
           → IsBody c l j old new o n End
       fields_end j new n (fs, cut, h) =
           let ids = identifier_pieces (front_of (pieces_left l)) in
@@ -365,7 +366,7 @@ module _ (c start end : ℕ) (l : Left) (e : to_ascii_lowercase c ≡ code_t)
           (good_fields new n fs h
           (ap front all ∙ front_whole (ids ++ fields_pieces fs) (long_all fs h.each)))
 
-      fields_next : (j : Left) (new : Spans) (n : Bool) → AreFieldsRead roles.Field k j mid' new o' n Next
+      fields_next : (j : Cursor) (new : Spans) (n : Bool) → AreFieldsRead roles.Field k j mid' new o' n Next
           → is_one_byte (piece_left j) ≡ true → IsBody c l j old new o n Next
       fields_next j new n (fs, later, no_key, either, h) one =
           let both = past_past before later in (
@@ -375,7 +376,7 @@ module _ (c start end : ℕ) (l : Left) (e : to_ascii_lowercase c ≡ code_t)
             good_fields new n fs h (front_ends l j _ both.pieces (long_all fs h.each) one),
           )
 
-      fields_stranger : (j : Left) (new : Spans) (n : Bool)
+      fields_stranger : (j : Cursor) (new : Spans) (n : Bool)
           → AreFieldsRead roles.Field k j mid' new o' n Next → is_one_byte (piece_left j) ≡ false
           → IsBody c l j old new o n Bad
       fields_stranger j new n (fs, later, no_key, either, h) longer =
@@ -392,7 +393,7 @@ module _ (c start end : ℕ) (l : Left) (e : to_ascii_lowercase c ≡ code_t)
               (subst AreFields (ap (λ gs. fields_pieces gs ++ (piece_left j ∷ body.0)) empty) f)
           no_fields (inr odd) f = no_fields_later (fields_pieces fs) (piece_left j) body.0 no_key odd f
 
-      fields_read : (j : Left) (new : Spans) (n : Bool) (r s : Found)
+      fields_read : (j : Cursor) (new : Spans) (n : Bool) (r s : Found)
           → AreFieldsRead roles.Field k j mid' new o' n r → EndsAtBlock j r s → IsBody c l j old new o n s
       fields_read j new n End s h ends = subst (IsBody c l j old new o n) ends (fields_end j new n h)
       fields_read j new n Next Next h ends = fields_next j new n h ends
@@ -417,13 +418,13 @@ module _ (c start end : ℕ) (l : Left) (e : to_ascii_lowercase c ≡ code_t)
             length-append vs (pieces_left k),
           ))
 
-    pub variants_read : (k j : Left) (mid' new : Spans) (o' n : Bool) (r s : Found)
+    pub variants_read : (k j : Cursor) (mid' new : Spans) (o' n : Bool) (r s : Found)
         → AreWordsRead roles.Variant m k mid mid' o o' Next → AreFieldsRead roles.Field k j mid' new o' n r
         → EndsAtBlock j r s → IsBody c l j old new o n s
     variants_read k j mid' new o' n r s (vs, past, odd, words) =
         fields_read k vs past odd mid' o' words j new n r s
 
-    pub variants_alone : (k : Left) (new : Spans) (n : Bool) (r : Found)
+    pub variants_alone : (k : Cursor) (new : Spans) (n : Bool) (r : Found)
         → AreWordsRead roles.Variant m k mid new o n r → r ≢ Next → IsBody c l k old new o n r
     variants_alone k new n End h ends = variants_end new n h
     variants_alone k new n Next h ends = absurd (ends refl)

@@ -19,18 +19,18 @@ use Rattle.iloc_spec_grammar.proofs.RuleTests.{tests_block, tests_fails}
 use Rattle.iloc_spec_grammar.proofs.Singletons.{no_u}
 use Rattle.iloc_spec_grammar.proofs.ValuesLaws.{all_weaker}
 use Rattle.iloc_spec_grammar.proofs.WordsLaws.{length-unicode_key}
-use Rattle.iloc_pieces.specs.Left.{IsPast, IsSpanned, piece_left, pieces_left, bytes_left, whole_text}
+use Rattle.iloc_pieces.specs.Cursor.{IsPast, IsSpanned, piece_left, pieces_left, bytes_left, whole_text}
 use Rattle.iloc_outline.specs.Parts.{block_parts, field_part, in_order, rank, singleton_part, unicode_parts}
 use Rattle.iloc_outline.specs.Parts.{word_part}
 use Rattle.iloc_outline.specs.Reading.{AreFieldsRead, AreWordsRead, EndsAtBlock, IsBody, Puts, ReadsBlock}
 use Rattle.iloc_outline.specs.Reading.{ReadsFields, ReadsWords, block_span}
 use Rattle.iloc_spans.specs.Spans.{held_spans}
-use Rattle.iloc_pieces.specs.declared.cursor.Left.{Left}
+use Rattle.iloc_pieces.specs.declared.place.Cursor.{Cursor}
 use Rattle.iloc_outline.specs.declared.reading.Found.{Found}
 use Rattle.iloc_outline.specs.declared.reading.Found.TheVariants.{End, Next, Bad, Repeated, Full}
 use Rattle.iloc_spans.specs.declared.span.Role.TheVariants as roles
 use Rattle.iloc_spans.specs.declared.spans.Spans.{Spans}
-use Rattle.iloc_pieces.proofs.LeftLemmas.{past_past}
+use Rattle.iloc_pieces.proofs.CursorLemmas.{past_past}
 use Rattle.iloc_outline.proofs.BodyLemmas.{front_ends, front_goes_on, front_single, front_whole}
 use Rattle.iloc_outline.proofs.BodyLemmas.{puts_singleton, puts_then, some_passed}
 
@@ -109,7 +109,7 @@ no_t_of_u : (c : ℕ) (P : Type 0) → to_ascii_lowercase c ≡ code_u → ¬ ((
 no_t_of_u c P e h = omega (arith, e, h.0)
 
 -- a singleton follows
-pub unicode_single : (c : ℕ) (l m : Left) (old new : Spans) (o n : Bool) → to_ascii_lowercase c ≡ code_u
+pub unicode_single : (c : ℕ) (l m : Cursor) (old new : Spans) (o n : Bool) → to_ascii_lowercase c ≡ code_u
     → is_one_byte (piece_left l) ≡ true → IsBody c l m old new o n Bad
 unicode_single c l m old new o n e single = (
   ap (λ ps. is_block languages (c, ps)) (front_single (pieces_left l) single) ∙ single_empty c e,
@@ -124,7 +124,7 @@ parts_of_u c ps u e h = rw (e, h)
 abbrev unicode_pair : List Text → Fields → SpelledUnicode
 unicode_pair ws fs = record { attributes = ws; keywords = fs }
 
-module _ (c start : ℕ) (l : Left) (e : to_ascii_lowercase c ≡ code_u)
+module _ (c start : ℕ) (l : Cursor) (e : to_ascii_lowercase c ≡ code_u)
     (spanned : IsSpanned (whole_text l) start (l.at - 1) ((c ∷ []) ∷ []))
     (long : is_one_byte (piece_left l) ≡ false) (old mid : Spans) (o : Bool)
     (put : held_spans mid ≡ held_spans old ++ block_span code_u start (l.at - 1) false ∷ []) where
@@ -178,7 +178,7 @@ module _ (c start : ℕ) (l : Left) (e : to_ascii_lowercase c ≡ code_u)
       puts)
 
   -- attributes were put, and then keywords
-  module _ (m : Left) (ws : List Text) (past : IsPast l m ws)
+  module _ (m : Cursor) (ws : List Text) (past : IsPast l m ws)
       (none : is_word Attribute (piece_left m) ≡ false)
       (mid' : Spans) (o' : Bool) (words : ReadsWords roles.Attribute l ws mid mid' o o') where
     all_attributes : AllByRecursion (IsWord Attribute) ws
@@ -193,7 +193,7 @@ module _ (c start : ℕ) (l : Left) (e : to_ascii_lowercase c ≡ code_u)
         (subst (λ t. Puts t (in_order (map (field_part roles.Keyword) fs)) (fields_pieces fs) mid' new o' n)
         past.text h.puts)
 
-    keywords_end : (k : Left) (new : Spans) (n : Bool) → AreFieldsRead roles.Keyword m k mid' new o' n End
+    keywords_end : (k : Cursor) (new : Spans) (n : Bool) → AreFieldsRead roles.Keyword m k mid' new o' n End
         → IsBody c l k old new o n End
     keywords_end k new n (fs, cut, h) =
         let all : pieces_left l ≡ ws ++ fields_pieces fs = past.pieces ∙ ap (λ ps. ws ++ ps) cut in
@@ -202,7 +202,7 @@ module _ (c start : ℕ) (l : Left) (e : to_ascii_lowercase c ≡ code_u)
         (good_block new n ws fs all_attributes h.each (λ empty. pieces_nonempty (bytes_left l) (all ∙ empty))
         (ap front all ∙ front_whole (ws ++ fields_pieces fs) long) (both_put new n fs h))
 
-    keywords_next : (k : Left) (new : Spans) (n : Bool) → AreFieldsRead roles.Keyword m k mid' new o' n Next
+    keywords_next : (k : Cursor) (new : Spans) (n : Bool) → AreFieldsRead roles.Keyword m k mid' new o' n Next
         → is_one_byte (piece_left k) ≡ true → IsBody c l k old new o n Next
     keywords_next k new n (fs, later, no_key, either, h) one =
         let both = past_past past later in
@@ -214,7 +214,7 @@ module _ (c start : ℕ) (l : Left) (e : to_ascii_lowercase c ≡ code_u)
               (front_ends l k (ws ++ fields_pieces fs) both.pieces each one) (both_put new n fs h),
         )
 
-    keywords_bad : (k : Left) (new : Spans) (n : Bool) → AreFieldsRead roles.Keyword m k mid' new o' n Next
+    keywords_bad : (k : Cursor) (new : Spans) (n : Bool) → AreFieldsRead roles.Keyword m k mid' new o' n Next
         → is_one_byte (piece_left k) ≡ false → IsBody c l k old new o n Bad
     keywords_bad k new n (fs, later, no_key, either, h) long =
         let both = past_past past later in
@@ -233,12 +233,12 @@ module _ (c start : ℕ) (l : Left) (e : to_ascii_lowercase c ≡ code_u)
             (sym (later.pieces ∙ ap (λ gs. fields_pieces gs ++ pieces_left k) no_fields)) ∙ none
         no_attribute (inr odd) = odd
 
-    keywords_full : (k : Left) (new : Spans) (n : Bool) → AreFieldsRead roles.Keyword m k mid' new o' n Full
+    keywords_full : (k : Cursor) (new : Spans) (n : Bool) → AreFieldsRead roles.Keyword m k mid' new o' n Full
         → IsBody c l k old new o n Full
     keywords_full k new n h =
         omega (arith, one_more, words.puts.few, h, ap length past.pieces, length-append ws (pieces_left m))
 
-    keywords_read : (k : Left) (new : Spans) (n : Bool) (r s : Found)
+    keywords_read : (k : Cursor) (new : Spans) (n : Bool) (r s : Found)
         → AreFieldsRead roles.Keyword m k mid' new o' n r → EndsAtBlock k r s → IsBody c l k old new o n s
     keywords_read k new n End s h ends = subst (IsBody c l k old new o n) ends (keywords_end k new n h)
     keywords_read k new n Next Next h ends = keywords_next k new n h ends
@@ -249,13 +249,13 @@ module _ (c start : ℕ) (l : Left) (e : to_ascii_lowercase c ≡ code_u)
     keywords_read k new n Full s h ends = subst (IsBody c l k old new o n) ends (keywords_full k new n h)
 
   -- the same where no attribute is left out
-  pub words_read : (m k : Left) (mid' new : Spans) (o' n : Bool) (r s : Found)
+  pub words_read : (m k : Cursor) (mid' new : Spans) (o' n : Bool) (r s : Found)
       → AreWordsRead roles.Attribute l m mid mid' o o' Next → AreFieldsRead roles.Keyword m k mid' new o' n r
       → EndsAtBlock k r s → IsBody c l k old new o n s
   words_read m k mid' new o' n r s (ws, past, none, words) =
       keywords_read m ws past none mid' o' words k new n r s
 
-  pub words_alone : (m : Left) (new : Spans) (n : Bool) (r s : Found)
+  pub words_alone : (m : Cursor) (new : Spans) (n : Bool) (r s : Found)
       → AreWordsRead roles.Attribute l m mid new o n r → r ≢ Next → EndsAtBlock m r s →
       IsBody c l m old new o n s
   words_alone m new n End s h ends k = subst (IsBody c l m old new o n) k (attributes_alone new n h)

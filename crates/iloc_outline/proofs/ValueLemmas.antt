@@ -10,14 +10,14 @@ use Rattle.iloc_spec_grammar.specs.Values.{spelled_value}
 use Rattle.iloc_spec_grammar.proofs.MapLaws.{same_is}
 use Rattle.iloc_spec_grammar.proofs.ReadBack.{all_append}
 use Rattle.iloc_outline.specs.Fields.{PrintsAsItIs, IsValueRead}
-use Rattle.iloc_pieces.specs.Left.{IsLater, IsNextPiece, IsPast, IsShortPiece, IsSpanned}
-use Rattle.iloc_pieces.specs.Left.{piece_left, whole_text}
+use Rattle.iloc_pieces.specs.Cursor.{IsLater, IsNextPiece, IsPast, IsShortPiece, IsSpanned}
+use Rattle.iloc_pieces.specs.Cursor.{piece_left, whole_text}
 use Rattle.iloc_outline.specs.Reading.{IsOfField}
-use Rattle.iloc_pieces.specs.declared.cursor.Left.{Left}
+use Rattle.iloc_pieces.specs.declared.place.Cursor.{Cursor}
 use Rattle.iloc_spans.specs.declared.span.Role.{Role}
 use Rattle.iloc_spans.specs.declared.span.Role.TheVariants as roles
-use Rattle.iloc_pieces.proofs.LeftLemmas.{last_piece, past_next, past_none, pieces_end, short_attribute}
-use Rattle.iloc_pieces.proofs.LeftLemmas.{spanned_end}
+use Rattle.iloc_pieces.proofs.CursorLemmas.{last_piece, past_next, past_none, pieces_end, short_attribute}
+use Rattle.iloc_pieces.proofs.CursorLemmas.{spanned_end}
 
 -- ---- printing
 
@@ -74,7 +74,7 @@ plain_one roles.Attribute h other n t l e f is long any = absurd (h tt)
 -- ---- passing
 
 -- from a key on these values were passed, and the last piece is reached
-pub record Reaches (key at : Left) (n : ℕ) (t : Bool) : Type 0 where
+pub record Reaches (key at : Cursor) (n : ℕ) (t : Bool) : Type 0 where
   pub before : List Text
   pub past : IsPast key at before
   pub values : List Text
@@ -83,10 +83,10 @@ pub record Reaches (key at : Left) (n : ℕ) (t : Bool) : Type 0 where
   pub each : AllByRecursion (IsWord Attribute) values
   pub count : n ≡ length values
   pub any : t ≡ list_any says_true values
-  pub room : n + at.len ≤ key.len
+  pub room : n + at.remaining ≤ key.remaining
 
 -- none
-pub reaches_key : (key : Left) → IsLater key → IsShortPiece (piece_left key) →
+pub reaches_key : (key : Cursor) → IsLater key → IsShortPiece (piece_left key) →
     Reaches key key 0 false
 reaches_key key later short = record {
   before = [];
@@ -105,10 +105,10 @@ any_more : (vs : List Text) (v : Text)
 any_more vs v =
     list_any-append says_true vs (v ∷ []) ∙ ap (λ b. list_any says_true vs || b) (or_none (says_true v))
 
-module _ (key at : Left) (n : ℕ) (t : Bool) (h : Reaches key at n t) (later : IsLater key) where
+module _ (key at : Cursor) (n : ℕ) (t : Bool) (h : Reaches key at n t) (later : IsLater key) where
   -- nothing follows
-  pub value_last : at.n ≡ at.len
-      → IsValueRead key at (record { is_end = true; end = at.at + at.n; count = n; has_true = t })
+  pub value_last : at.piece_length ≡ at.remaining
+      → IsValueRead key at (record { is_end = true; end = at.at + at.piece_length; count = n; has_true = t })
   value_last last =
       let end = last_piece at last h.short in
       record {
@@ -118,11 +118,11 @@ module _ (key at : Left) (n : ℕ) (t : Bool) (h : Reaches key at n t) (later : 
         count = h.count;
         trues = h.any;
         end = λ start qs s.
-            subst (λ ps. IsSpanned (whole_text key) start (at.at + at.n) (qs ++ ps)) h.pieces
+            subst (λ ps. IsSpanned (whole_text key) start (at.at + at.piece_length) (qs ++ ps)) h.pieces
             (spanned_end h.past end later s);
       }
 
-  module _ (next : Left) (k : IsNextPiece at next) where
+  module _ (next : Cursor) (k : IsNextPiece at next) where
     -- what follows is no value
     pub value_before : is_word Attribute (piece_left next) ≡ false
         → IsValueRead key next (record { is_end = false; end = next.at - 1; count = n; has_true = t })

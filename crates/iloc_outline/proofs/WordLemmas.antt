@@ -5,17 +5,17 @@ use Rattle.std.specs.List.{AllByRecursion}
 use Rattle.iloc_spec_grammar.specs.Syntax.{Text, Kind, IsWord, is_word, lower, first_piece}
 use Rattle.iloc_spec_grammar.specs.Reading.{passing, EndsBefore}
 use Rattle.iloc_spec_grammar.proofs.PiecesLaws.{at_pieces}
-use Rattle.iloc_pieces.specs.Left.{IsLater, IsPast, IsShortPiece, IsSpanned, piece_left}
-use Rattle.iloc_pieces.specs.Left.{pieces_left, bytes_left, whole_text}
+use Rattle.iloc_pieces.specs.Cursor.{IsLater, IsPast, IsShortPiece, IsSpanned, piece_left}
+use Rattle.iloc_pieces.specs.Cursor.{pieces_left, bytes_left, whole_text}
 use Rattle.iloc_pieces.specs.Words.{IsUpToEight, word_number}
 use Rattle.iloc_outline.specs.Parts.{word_part, printed_part}
 use Rattle.iloc_outline.specs.Reading.{IsOfWord, role_kind}
 use Rattle.iloc_outline.specs.Spans.{IsSpan}
-use Rattle.iloc_pieces.specs.declared.cursor.Left.{Left}
+use Rattle.iloc_pieces.specs.declared.place.Cursor.{Cursor}
 use Rattle.iloc_spans.specs.declared.span.Role.{Role}
 use Rattle.iloc_spans.specs.declared.span.Role.TheVariants as roles
 use Rattle.iloc_spans.specs.declared.span.Span.{Span}
-use Rattle.iloc_pieces.proofs.LeftLemmas.{length_piece, length_text, spanned_piece}
+use Rattle.iloc_pieces.proofs.CursorLemmas.{length_piece, length_text, spanned_piece}
 use Rattle.iloc_outline.proofs.RoleLemmas.{short_kind}
 use Rattle.iloc_pieces.proofs.WordOrder.{attribute_fits, variant_fits}
 use Rattle.iloc_outline.proofs.SpansLemmas.{not_edited}
@@ -58,17 +58,17 @@ passing_cut test ps rest h e = passing_more test ps rest h ∙ ap (λ qs. ps ++ 
 -- ---- pieces
 
 -- some pieces are left
-pub length-pieces_of : (l : Left) → 0 < length (pieces_left l)
+pub length-pieces_of : (l : Cursor) → 0 < length (pieces_left l)
 length-pieces_of l = at_pieces (λ ps. 0 < length ps) (λ p ps. omega arith) (bytes_left l)
 
-pub ends_before : (k : Kind) (l : Left) → is_word k (piece_left l) ≡ false
+pub ends_before : (k : Kind) (l : Cursor) → is_word k (piece_left l) ≡ false
     → EndsBefore (is_word k) (pieces_left l)
 ends_before k l =
     at_pieces (λ ps. is_word k (first_piece ps) ≡ false → EndsBefore (is_word k) ps) (λ p ps e. e)
     (bytes_left l)
 
 -- a word that comes first
-pub word_next : (k : Kind) (l : Left) → is_word k (piece_left l) ≡ true
+pub word_next : (k : Kind) (l : Cursor) → is_word k (piece_left l) ≡ true
     → (rest : List Text) × (passing (is_word k) (pieces_left l) ≡ piece_left l ∷ rest)
 word_next k l =
     at_pieces
@@ -77,25 +77,25 @@ word_next k l =
     (λ p ps e. (passing (is_word k) ps, ap (λ b. cond b (p ∷ passing (is_word k) ps) []) e)) (bytes_left l)
 
 -- a short piece after its hyphen
-pub short_piece : (l : Left) → IsLater l → IsShortPiece (piece_left l)
-    → IsSpanned (whole_text l) (l.at - 1) (l.at + l.n) (piece_left l ∷ [])
+pub short_piece : (l : Cursor) → IsLater l → IsShortPiece (piece_left l)
+    → IsSpanned (whole_text l) (l.at - 1) (l.at + l.piece_length) (piece_left l ∷ [])
 short_piece l later short =
-    let long : l.at + length (piece_left l) ≡ l.at + l.n = omega (arith, length_piece l short) in
+    let long : l.at + length (piece_left l) ≡ l.at + l.piece_length = omega (arith, length_piece l short) in
     subst (λ (n : ℕ). IsSpanned (whole_text l) (l.at - 1) n (piece_left l ∷ [])) long
     (spanned_piece l later)
 
 -- it ends within the text
-pub end_within : (l at : Left) (ps : List Text) → IsPast l at ps → IsShortPiece (piece_left at)
-    → at.at + at.n ≤ l.at + l.len
+pub end_within : (l at : Cursor) (ps : List Text) → IsPast l at ps → IsShortPiece (piece_left at)
+    → at.at + at.piece_length ≤ l.at + l.remaining
 end_within l at ps past short =
     omega (arith, (short_piece at past.later short).inside, length_text at, past.end)
 
 -- the span of a word
-abbrev pub span_of : Role → ℕ → Left → Span
-span_of r n l = record { word = n; start = l.at - 1; end = l.at + l.n; role = r; edited = false }
+abbrev pub span_of : Role → ℕ → Cursor → Span
+span_of r n l = record { word = n; start = l.at - 1; end = l.at + l.piece_length; role = r; edited = false }
 
 -- it is that part of the text
-pub word_span : (r : Role) → IsOfWord r → (l : Left) → IsLater l →
+pub word_span : (r : Role) → IsOfWord r → (l : Cursor) → IsLater l →
     IsWord (role_kind r) (piece_left l)
     → (n : ℕ) → n ≡ word_number (piece_left l) →
     IsSpan (whole_text l) (span_of r n l) (word_part r (piece_left l))

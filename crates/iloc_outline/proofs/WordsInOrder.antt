@@ -17,14 +17,14 @@ use Rattle.iloc_spec_grammar.proofs.ReadingLaws.{keep_all, keep_while_passes}
 use Rattle.iloc_spec_grammar.proofs.ValuesLaws.{all_weaker}
 use Rattle.iloc_outline.specs.Gathering.{Gathers, Walks, pieces_in}
 use Rattle.iloc_spans.specs.Inserting.{IsPutFrom}
-use Rattle.iloc_pieces.specs.Left.{IsLater, IsNextPiece, piece_left, pieces_left}
-use Rattle.iloc_pieces.specs.Left.{whole_text}
+use Rattle.iloc_pieces.specs.Cursor.{IsLater, IsNextPiece, piece_left, pieces_left}
+use Rattle.iloc_pieces.specs.Cursor.{whole_text}
 use Rattle.iloc_pieces.specs.Words.{IsUpToEight, word_number}
 use Rattle.iloc_outline.specs.Parts.{Part, word_part}
 use Rattle.iloc_outline.specs.Reading.{IsOfWord, IsTooMuch, MayBe, ReadsWords, role_kind, words_of}
 use Rattle.iloc_outline.specs.Spans.{IsSpan}
 use Rattle.iloc_spans.specs.Spans.{held_spans}
-use Rattle.iloc_pieces.specs.declared.cursor.Left.{Left}
+use Rattle.iloc_pieces.specs.declared.place.Cursor.{Cursor}
 use Rattle.iloc_spans.specs.declared.inserting.Inserted.{Inserted}
 use Rattle.iloc_spans.specs.declared.inserting.Inserted.TheVariants.{Put, There}
 use Rattle.iloc_spans.specs.declared.span.Role.{Role}
@@ -33,7 +33,7 @@ use Rattle.iloc_spans.specs.declared.span.Span.{Span}
 use Rattle.iloc_spans.specs.declared.spans.Spans.{Spans}
 use Rattle.iloc_outline.proofs.GatherLemmas.{gathers_few, gathers_none, gathers_put, gathers_puts}
 use Rattle.iloc_outline.proofs.GatherLemmas.{gathers_there}
-use Rattle.iloc_pieces.proofs.LeftLemmas.{last_piece, past_next, past_none, pieces_end}
+use Rattle.iloc_pieces.proofs.CursorLemmas.{last_piece, past_next, past_none, pieces_end}
 use Rattle.iloc_outline.proofs.RoleLemmas.{short_kind}
 use Rattle.iloc_spans.proofs.HeldLemmas.{length-held}
 use Rattle.iloc_outline.proofs.WordLemmas.{ends_before, length-pieces_of, passing_cut, passing_more, span_of}
@@ -109,7 +109,7 @@ pieces_words r (p ∷ ps) = ap (λ l. p ∷ l) (pieces_words r ps)
 numbers_words : (r : Role) (ps : List Text) → map (λ p. p.word) (map (word_part r) ps) ≡ map word_number ps
 numbers_words r ps = map-map (λ p. p.word) (word_part r) ps
 
-pub walks_none : (r : Role) (l : Left) → IsLater l → (s : List Span) (o : Bool) →
+pub walks_none : (r : Role) (l : Cursor) → IsLater l → (s : List Span) (o : Bool) →
     Walks r l l s s 0 o o
 walks_none r l k s o = record {
   words = [];
@@ -120,7 +120,7 @@ walks_none r l k s o = record {
 }
 
 -- words that were put in order are read
-walked : (r : Role) (l : Left) (ps : List Text) (old new : Spans) (last : ℕ) (o n : Bool)
+walked : (r : Role) (l : Cursor) (ps : List Text) (old new : Spans) (last : ℕ) (o n : Bool)
     → ps ≡ words_of r (pieces_left l) → AllByRecursion (IsWord (role_kind r)) ps
     → Gathers (whole_text l) (map (word_part r) ps) (held_spans old) (held_spans new) last o n
     → (r ≡ roles.Variant → AllDifferent nat_cmp (map word_number ps)) → ReadsWords r l ps old new o n
@@ -135,7 +135,7 @@ walked r l ps old new last o n e each g d = record {
 abbrev pub IsKept : Role → Inserted → Type 0
 IsKept r i = (i ≡ Put) ⊎ (i ≡ There) × (r ≡ roles.Variant → ⊥)
 
-module _ (r : Role) (l at : Left) (old : Spans) (mid : List Span) (last : ℕ) (o n : Bool)
+module _ (r : Role) (l at : Cursor) (old : Spans) (mid : List Span) (last : ℕ) (o n : Bool)
     (w : Walks r l at (held_spans old) mid last o n) where
   -- where no word comes next
   pub walks_past : (new : Spans) → mid ≡ held_spans new → is_word (role_kind r) (piece_left at) ≡ false
@@ -235,7 +235,7 @@ module _ (r : Role) (l at : Left) (old : Spans) (mid : List Span) (last : ℕ) (
       ]
 
       -- one word more
-      pub walks_more : (next : Left) → IsNextPiece at next → Walks r l next (held_spans old) new now o k
+      pub walks_more : (next : Cursor) → IsNextPiece at next → Walks r l next (held_spans old) new now o k
       walks_more next k = record {
         words = more;
         past = past_next w.past (short_kind r (piece_left at) word) k;
@@ -245,7 +245,7 @@ module _ (r : Role) (l at : Left) (old : Spans) (mid : List Span) (last : ℕ) (
       }
 
       -- the last one
-      pub walks_end : (then : Spans) → new ≡ held_spans then → at.n ≡ at.len
+      pub walks_end : (then : Spans) → new ≡ held_spans then → at.piece_length ≡ at.remaining
           → ReadsWords r l (pieces_left l) old then o k
       walks_end then s end =
           let all : pieces_left l ≡ more =

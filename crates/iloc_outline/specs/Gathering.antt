@@ -4,9 +4,9 @@ use Rattle.std.specs.List.{AllByRecursion, AllZip}
 use Rattle.std.specs.Ordering.{nat_cmp}
 use Rattle.iloc_spec_grammar.specs.Syntax.{Text, Fields, Attribute, AllDifferent, IsWord, is_word, lower}
 use Rattle.iloc_spec_grammar.specs.Syntax.{fields_pieces}
-use Rattle.iloc_pieces.specs.Left.{IsPast, piece_left, whole_text}
+use Rattle.iloc_pieces.specs.Cursor.{IsPast, piece_left, whole_text}
 use Rattle.iloc_pieces.specs.Words.{word_number}
-use Rattle.iloc_pieces.specs.declared.cursor.Left.{Left}
+use Rattle.iloc_pieces.specs.declared.place.Cursor.{Cursor}
 use Rattle.iloc_spans.specs.Inserting.{spans_in_order}
 use Rattle.iloc_outline.specs.Parts.{Part, field_part, in_order, printed_part, word_part}
 use Rattle.iloc_outline.specs.Reading.{IsFieldOfRole, role_kind}
@@ -28,7 +28,7 @@ pub record Gathers (t : Text) (ps : List Part) (old new : List Span) (last : ℕ
   pub order : n ≡ true → (o ≡ true) × (flat_map printed_part (in_order ps) ≡ map lower (pieces_in ps))
 
 -- from l on these words were passed and put in order
-pub record Walks (r : Role) (l at : Left) (old new : List Span) (last : ℕ) (o n : Bool) : Type 0 where
+pub record Walks (r : Role) (l at : Cursor) (old new : List Span) (last : ℕ) (o n : Bool) : Type 0 where
   pub words : List Text
   pub past : IsPast l at words
   pub each : AllByRecursion (IsWord (role_kind r)) words
@@ -36,7 +36,7 @@ pub record Walks (r : Role) (l at : Left) (old new : List Span) (last : ℕ) (o 
   pub differ : r ≡ roles.Variant → AllDifferent nat_cmp (map word_number words)
 
 -- from l on these fields were passed and put in order
-pub record Takes (r : Role) (l at : Left) (old new : List Span) (last : ℕ) (o n : Bool) : Type 0 where
+pub record Takes (r : Role) (l at : Cursor) (old new : List Span) (last : ℕ) (o n : Bool) : Type 0 where
   pub fields : Fields
   pub past : IsPast l at (fields_pieces fields)
   pub each : AllByRecursion (IsFieldOfRole r) fields

@@ -4,15 +4,15 @@ use Rattle.std.specs.Prelude.{take, drop, Option, Some, None}
 use Rattle.iloc_spec_grammar.specs.Syntax.{Text, join, lower, upper}
 use Rattle.iloc_spec_grammar.specs.Meaning.{normal_identifier}
 use Rattle.iloc_spec_grammar.specs.Reading.{front_of, after_region}
-use Rattle.iloc_pieces.specs.Left.{IsLater, IsNextPiece, IsPast, IsSpanned, piece_left, pieces_left}
-use Rattle.iloc_pieces.specs.Left.{whole_text}
+use Rattle.iloc_pieces.specs.Cursor.{IsLater, IsNextPiece, IsPast, IsSpanned, piece_left, pieces_left}
+use Rattle.iloc_pieces.specs.Cursor.{whole_text}
 use Rattle.iloc_outline.specs.Parts.{front_pieces}
 use Rattle.iloc_outline.specs.Reading.{unless_end}
 use Rattle.iloc_outline.specs.declared.identifier.Front.{Front}
-use Rattle.iloc_pieces.specs.declared.cursor.Left.{Left}
+use Rattle.iloc_pieces.specs.declared.place.Cursor.{Cursor}
 
 -- one piece was passed if it fits, and else none
-abbrev pub IsOnePast : Bool → Left → Option Left → Type 0
+abbrev pub IsOnePast : Bool → Cursor → Option Cursor → Type 0
 IsOnePast true l None = pieces_left l ≡ piece_left l ∷ []
 IsOnePast true l (Some m) = IsNextPiece l m
 IsOnePast false l None = ¬ (Unit {0})
@@ -28,18 +28,18 @@ abbrev pub front_text : ℕ → ℕ → Text → Text
 front_text script region t = raised 2 region (raised 1 script (lower t))
 
 -- the words of the front of the identifier are passed, and what its variants are is left
-abbrev pub IsAfterFront : Left → Option Left → Type 0
+abbrev pub IsAfterFront : Cursor → Option Cursor → Type 0
 IsAfterFront l None = pieces_left l ≡ front_pieces (front_of (pieces_left l))
 IsAfterFront l (Some m) = IsPast l m (front_pieces (front_of (pieces_left l)))
     × (pieces_left m ≡ after_region (pieces_left l))
 
 -- it was read from l on, up to m where a piece is left
-pub record IsFrontRead (l m : Left) (f : Front) : Type 0 where
+pub record IsFrontRead (l m : Cursor) (f : Front) : Type 0 where
   pub next : IsAfterFront l (unless_end f.is_all m)
   pub end : (start : ℕ) (qs : List Text) → IsLater l → IsSpanned (whole_text l) start (l.at - 1) qs
       → IsSpanned (whole_text l) start f.end (qs ++ front_pieces (front_of (pieces_left l)))
   -- at the beginning of a text: its bytes up to there are printed so
-  pub inside : f.end ≤ l.at + l.len
+  pub inside : f.end ≤ l.at + l.remaining
   pub text : l.at ≡ 0 → take f.end (whole_text l) ≡ join (front_pieces (front_of (pieces_left l)))
   pub printed : l.at ≡ 0 → front_text f.script f.region (take f.end (whole_text l))
       ≡ join (front_pieces (normal_identifier (front_of (pieces_left l))))

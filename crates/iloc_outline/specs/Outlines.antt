@@ -9,11 +9,11 @@ use Rattle.iloc_spec_grammar.specs.Reading.{after_head}
 use Rattle.iloc_subtags.specs.Judging.{Refusal}
 use Rattle.iloc_outline.specs.Blocks.{AreBegun}
 use Rattle.iloc_outline.specs.Identifier.{front_text}
-use Rattle.iloc_pieces.specs.Left.{IsLater, piece_left, pieces_left, whole_text}
+use Rattle.iloc_pieces.specs.Cursor.{IsLater, piece_left, pieces_left, whole_text}
 use Rattle.iloc_outline.specs.Parts.{Part, printed_part, front_pieces, variant_parts}
 use Rattle.iloc_outline.specs.Spans.{Spell}
 use Rattle.iloc_spans.specs.Spans.{held_spans}
-use Rattle.iloc_pieces.specs.declared.cursor.Left.{Left}
+use Rattle.iloc_pieces.specs.declared.place.Cursor.{Cursor}
 use Rattle.iloc_outline.specs.declared.outline.Head.{Head}
 use Rattle.iloc_outline.specs.declared.outline.Head.TheVariants as heads
 use Rattle.iloc_outline.specs.declared.outline.Outline.{Outline}
@@ -77,7 +77,7 @@ pub record ReadsHead (t : Text) (ps : List Text) (o : Outline) (spans : Spans) (
       ++ (parts_text (variant_parts written.variants) ++ lower rest)
 
 -- the head of a text was read, up to l where a block follows
-abbrev pub AreHeadRead : Text → Left → Spans → Bool → Head → Type 0
+abbrev pub AreHeadRead : Text → Cursor → Spans → Bool → Head → Type 0
 AreHeadRead t l spans n (heads.All o) = ReadsHead t (pieces t) o spans n
 AreHeadRead t l spans n (heads.Block o) = IsLater l × (whole_text l ≡ t)
     × (is_one_byte (piece_left l) ≡ true) × (pieces t ≡ head (pieces t) ++ pieces_left l)

@@ -10,12 +10,12 @@ use Rattle.iloc_spec_grammar.specs.Syntax.{IsKeyword, IsField, is_one_byte, lowe
 use Rattle.iloc_spec_grammar.specs.Syntax.{AllDifferent}
 use Rattle.iloc_spec_grammar.specs.Reading.{passing}
 use Rattle.iloc_spec_grammar.specs.Computing.{is_block, repeats_variant}
-use Rattle.iloc_pieces.specs.Left.{IsLater, IsPast, IsSpanned, piece_left, pieces_left, whole_text}
+use Rattle.iloc_pieces.specs.Cursor.{IsLater, IsPast, IsSpanned, piece_left, pieces_left, whole_text}
 use Rattle.iloc_pieces.specs.Words.{word_number}
 use Rattle.iloc_outline.specs.Parts.{Part, printed_part, word_part, field_part, in_order, block_parts}
 use Rattle.iloc_outline.specs.Spans.{AddsParts}
 use Rattle.iloc_spans.specs.Spans.{held_spans}
-use Rattle.iloc_pieces.specs.declared.cursor.Left.{Left}
+use Rattle.iloc_pieces.specs.declared.place.Cursor.{Cursor}
 use Rattle.iloc_outline.specs.declared.reading.Found.{Found}
 use Rattle.iloc_outline.specs.declared.reading.Found.TheVariants.{End, Next, Bad, Repeated, Full}
 use Rattle.iloc_spans.specs.declared.span.Role.{Role}
@@ -24,7 +24,7 @@ use Rattle.iloc_spans.specs.declared.span.Span.{Span}
 use Rattle.iloc_spans.specs.declared.spans.Spans.{Spans}
 
 -- a hyphen comes before l, and before that a singleton, whose hyphen stands at start
-pub record FollowsSingleton (start : ℕ) (l : Left) : Type 0 where
+pub record FollowsSingleton (start : ℕ) (l : Cursor) : Type 0 where
   pub later : IsLater l
   pub before : start < l.at
 
@@ -55,11 +55,11 @@ abbrev pub words_of : Role → List Text → List Text
 words_of r ps = passing (is_word (role_kind r)) ps
 
 -- the span of a word
-abbrev pub word_span : Role → Left → Span
+abbrev pub word_span : Role → Cursor → Span
 word_span r l = record {
   word = word_number (piece_left l);
   start = l.at - 1;
-  end = l.at + l.n;
+  end = l.at + l.piece_length;
   role = r;
   edited = false;
 }
@@ -70,13 +70,13 @@ MayBe roles.Variant ps = AllDifferent word_cmp (map lower ps)
 MayBe _ ps = ⊤
 
 -- the words that come first were put in order
-pub record ReadsWords (r : Role) (l : Left) (ps : List Text) (old new : Spans) (o n : Bool) : Type 0 where
+pub record ReadsWords (r : Role) (l : Cursor) (ps : List Text) (old new : Spans) (o n : Bool) : Type 0 where
   pub words : ps ≡ words_of r (pieces_left l)
   pub may_be : MayBe r ps
   pub puts : Puts (whole_text l) (in_order (map (word_part r) ps)) ps old new o n
 
 -- from l on they were read, up to m where a piece is left
-abbrev pub AreWordsRead : Role → Left → Left → Spans → Spans → Bool → Bool → Found → Type 0
+abbrev pub AreWordsRead : Role → Cursor → Cursor → Spans → Spans → Bool → Bool → Found → Type 0
 AreWordsRead r l m old new o n End = ReadsWords r l (pieces_left l) old new o n
 AreWordsRead r l m old new o n Next = (ps : List Text) × IsPast l m ps
     × (is_word (role_kind r) (piece_left m) ≡ false) × ReadsWords r l ps old new o n
@@ -105,7 +105,7 @@ IsFieldOfRole roles.Field f = IsField f
 IsFieldOfRole _ f = IsKeyword f
 
 -- fields that come first were put in order
-pub record ReadsFields (r : Role) (l : Left) (fs : Fields) (old new : Spans) (o n : Bool) : Type 0 where
+pub record ReadsFields (r : Role) (l : Cursor) (fs : Fields) (old new : Spans) (o n : Bool) : Type 0 where
   pub each : AllByRecursion (IsFieldOfRole r) fs
   pub puts : Puts (whole_text l) (in_order (map (field_part r) fs)) (fields_pieces fs) old new o n
 
@@ -120,7 +120,7 @@ pub record EndsInKey (ps : List Text) : Type 0 where
   pub none : is_word Attribute (first_piece rest) ≡ false
 
 -- from l on fields were read, up to m where a piece is left
-abbrev pub AreFieldsRead : Role → Left → Left → Spans → Spans → Bool → Bool → Found → Type 0
+abbrev pub AreFieldsRead : Role → Cursor → Cursor → Spans → Spans → Bool → Bool → Found → Type 0
 AreFieldsRead r l m old new o n End =
     (fs : Fields) × (pieces_left l ≡ fields_pieces fs) × ReadsFields r l fs old new o n
 AreFieldsRead r l m old new o n Next = (fs : Fields) × IsPast l m (fields_pieces fs)
@@ -138,13 +138,13 @@ block_span word start end edited =
     record { word = word; start = start; end = end; role = roles.Singleton; edited = edited }
 
 -- the block of the singleton and these pieces is good, and was put
-pub record ReadsBlock (c : ℕ) (l : Left) (ps : List Text) (old new : Spans) (o n : Bool) : Type 0 where
+pub record ReadsBlock (c : ℕ) (l : Cursor) (ps : List Text) (old new : Spans) (o n : Bool) : Type 0 where
   pub body : front (pieces_left l) ≡ ps
   pub good : is_block languages (c, ps) ≡ true
   pub puts : Puts (whole_text l) (block_parts (c, ps)) ((c ∷ []) ∷ ps) old new o n
 
 -- what follows it from l on was read, up to m where another block follows
-abbrev pub IsBody : ℕ → Left → Left → Spans → Spans → Bool → Bool → Found → Type 0
+abbrev pub IsBody : ℕ → Cursor → Cursor → Spans → Spans → Bool → Bool → Found → Type 0
 IsBody c l m old new o n End = ReadsBlock c l (pieces_left l) old new o n
 IsBody c l m old new o n Next = (ps : List Text) × IsPast l m ps × (is_one_byte (piece_left m) ≡ true)
     × ReadsBlock c l ps old new o n
@@ -154,13 +154,23 @@ IsBody c l m old new o n Repeated = (to_ascii_lowercase c ≡ code_t)
     × (repeats_variant languages (front (pieces_left l)) ≡ true)
 IsBody c l m old new o n Full = IsTooMuch old (1 + length (pieces_left l))
 
+-- what a reader has: its cursor, the spans that were put, and whether they are in order
+pub record Reader : Type 0 where
+  pub cursor : Cursor
+  pub spans : Spans
+  pub in_order : Bool
+
+abbrev pub reader_at : Cursor → Spans → Bool → Reader
+reader_at l spans o = record { cursor = l; spans = spans; in_order = o }
+
 -- so it was, whatever the case of the singleton, if its hyphen stands at start
-abbrev pub IsBodyAt : ℕ → ℕ → Left → Left → Spans → Spans → Bool → Bool → Found → Type 0
-IsBodyAt byte start l m old new o n r = (c : ℕ) → to_ascii_lowercase c ≡ byte
-    → IsSpanned (whole_text l) start (l.at - 1) ((c ∷ []) ∷ []) → IsBody c l m old new o n r
+abbrev pub IsBodyAt : ℕ → ℕ → Reader → Reader → Found → Type 0
+IsBodyAt byte start from to r = (c : ℕ) → to_ascii_lowercase c ≡ byte
+    → IsSpanned (whole_text from.cursor) start (from.cursor.at - 1) ((c ∷ []) ∷ [])
+    → IsBody c from.cursor to.cursor from.spans to.spans from.in_order to.in_order r
 
 -- the same of `x`, which takes all the rest
-abbrev pub IsPrivateBody : ℕ → Left → Spans → Spans → Bool → Bool → Found → Type 0
+abbrev pub IsPrivateBody : ℕ → Cursor → Spans → Spans → Bool → Bool → Found → Type 0
 IsPrivateBody c l old new o n End = (is_block languages (c, pieces_left l) ≡ true)
     × Puts (whole_text l) (block_parts (c, pieces_left l)) ((c ∷ []) ∷ pieces_left l) old new o n
 IsPrivateBody c l old new o n Next = ¬ ⊤
@@ -175,12 +185,12 @@ IsPutOther span old new o n good r = (r ≡ Full) × IsTooMuch old 1
     × (n ≡ true → (o ≡ true) × (span.edited ≡ false))
 
 -- m, unless the text ends before it
-abbrev pub unless_end : Bool → Left → Option Left
+abbrev pub unless_end : Bool → Cursor → Option Cursor
 unless_end true m = None
 unless_end false m = Some m
 
 -- if what is left is longer than a singleton, it is bad instead
-abbrev pub EndsAtBlock : Left → Found → Found → Type 0
+abbrev pub EndsAtBlock : Cursor → Found → Found → Type 0
 EndsAtBlock m Next Next = is_one_byte (piece_left m) ≡ true
 EndsAtBlock m Next Bad = is_one_byte (piece_left m) ≡ false
 EndsAtBlock m Next _ = ¬ ⊤

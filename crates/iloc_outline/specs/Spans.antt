@@ -2,7 +2,7 @@
 use Rattle.std.specs.Prelude.{◌≡◌, ◌≢◌, List, [], ◌++◌, false, true, map}
 use Rattle.std.specs.List.{AllByRecursion, AllZip}
 use Rattle.iloc_spec_grammar.specs.Syntax.{Text, IsHyphenFree, lower}
-use Rattle.iloc_pieces.specs.Left.{IsShortPiece, IsSpanned}
+use Rattle.iloc_pieces.specs.Cursor.{IsShortPiece, IsSpanned}
 use Rattle.iloc_spans.specs.Spans.{held_spans}
 use Rattle.iloc_outline.specs.Parts.{Part, printed_part}
 use Rattle.iloc_spans.specs.declared.span.Span.{Span}

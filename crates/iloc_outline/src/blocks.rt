@@ -3,8 +3,8 @@ ghost use Rattle.std.specs.Prelude.{◌≡◌, ◌≢◌, true};
 ghost use Rattle.std.specs.Char.{is_ascii_alphanumeric};
 ghost use Rattle.iloc_spec_grammar.specs.Syntax.{code_u, is_one_byte};
 ghost use Rattle.iloc_outline.specs.Blocks.{AreBegun, AreBlocksRead, HasSingletonBefore, IsBlockReadAt};
-ghost use Rattle.iloc_pieces.specs.Left.{IsLater, piece_left, whole_text};
-ghost use Rattle.iloc_outline.specs.Reading.{FollowsSingleton};
+ghost use Rattle.iloc_pieces.specs.Cursor.{IsLater, piece_left, whole_text};
+ghost use Rattle.iloc_outline.specs.Reading.{FollowsSingleton, reader_at};
 ghost use Rattle.iloc_outline.specs.Parts.{rank};
 
 use crate::growth::Growth;
@@ -13,7 +13,7 @@ use crate::reading::Found;
 use crate::sorting::{has_block, place_block};
 use crate::transform::read_transform;
 use crate::unicode::read_unicode;
-use iloc_pieces::left::{Left, advance, is_alphanumeric, is_last, singleton};
+use iloc_pieces::cursor::{Cursor, advance, is_alphanumeric, is_last, singleton};
 use iloc_spans::spans::Spans;
 use iloc_subtags::ParseError;
 
@@ -41,20 +41,20 @@ fn rank_of(byte: u8) -> u64
 fn read_body<G: Growth>(
     byte: u8,
     start: usize,
-    left: &mut Left<'_>,
+    cursor: &mut Cursor<'_>,
     spans: &mut Spans,
     in_order: &mut bool,
 ) -> Found
-    requires follows { FollowsSingleton start left.old }
-    requires singleton { HasSingletonBefore byte start left.old }
+    requires follows { FollowsSingleton start cursor.old }
+    requires singleton { HasSingletonBefore byte start cursor.old }
     requires letter { is_ascii_alphanumeric byte ≡ true }
-    ensures { IsBlockReadAt byte start left.old left.new spans.old spans.new in_order.old
-        in_order.new result }
+    ensures { IsBlockReadAt byte start (reader_at cursor.old spans.old in_order.old)
+        (reader_at cursor.new spans.new in_order.new) result }
 {
     if byte == b'u' {
-        return read_unicode::<G>(start, left, spans, in_order);
+        return read_unicode::<G>(start, cursor, spans, in_order);
     }
-    read_another::<G>(byte, start, left, spans, in_order)
+    read_another::<G>(byte, start, cursor, spans, in_order)
 }
 
 // What follows another singleton than `u`. The reader of it works on a copy, so that the cursor need not be stored. Where
@@ -63,25 +63,25 @@ fn read_body<G: Growth>(
 fn read_another<G: Growth>(
     byte: u8,
     start: usize,
-    left: &mut Left<'_>,
+    cursor: &mut Cursor<'_>,
     spans: &mut Spans,
     in_order: &mut bool,
 ) -> Found
-    requires follows { FollowsSingleton start left.old }
-    requires singleton { HasSingletonBefore byte start left.old }
+    requires follows { FollowsSingleton start cursor.old }
+    requires singleton { HasSingletonBefore byte start cursor.old }
     requires letter { is_ascii_alphanumeric byte ≡ true }
     requires another { byte ≢ code_u }
-    ensures { IsBlockReadAt byte start left.old left.new spans.old spans.new in_order.old
-        in_order.new result }
+    ensures { IsBlockReadAt byte start (reader_at cursor.old spans.old in_order.old)
+        (reader_at cursor.new spans.new in_order.new) result }
 {
-    let mut next = *left;
+    let mut next = *cursor;
     let found = read_apart::<G>(byte, start, &mut next, spans, in_order);
     if let Found::Next = found {
-        *left = Left {
-            window: left.window,
+        *cursor = Cursor {
+            window: cursor.window,
             at: next.at,
-            len: next.len,
-            n: next.n,
+            remaining: next.remaining,
+            piece_length: next.piece_length,
             shape: next.shape,
             marks: next.marks,
         };
@@ -94,37 +94,41 @@ fn read_another<G: Growth>(
 fn read_apart<G: Growth>(
     byte: u8,
     start: usize,
-    left: &mut Left<'_>,
+    cursor: &mut Cursor<'_>,
     spans: &mut Spans,
     in_order: &mut bool,
 ) -> Found
-    requires follows { FollowsSingleton start left.old }
+    requires follows { FollowsSingleton start cursor.old }
     requires letter { is_ascii_alphanumeric byte ≡ true }
     requires another { byte ≢ code_u }
-    ensures { IsBlockReadAt byte start left.old left.new spans.old spans.new in_order.old
-        in_order.new result }
+    ensures { IsBlockReadAt byte start (reader_at cursor.old spans.old in_order.old)
+        (reader_at cursor.new spans.new in_order.new) result }
 {
     match byte {
-        b't' => read_transform::<G>(start, left, spans, in_order),
-        b'x' => read_private::<G>(start, left, spans),
-        _ => read_other::<G>(byte, start, left, spans, in_order),
+        b't' => read_transform::<G>(start, cursor, spans, in_order),
+        b'x' => read_private::<G>(start, cursor, spans),
+        _ => read_other::<G>(byte, start, cursor, spans, in_order),
     }
 }
 
 /// Reads the blocks from a singleton on, and puts them in the order of their singletons.
 #[inline(always)]
-pub fn read_blocks<G: Growth>(left: &mut Left<'_>, spans: &mut Spans, in_order: &mut bool) -> Blocks
-    requires later { IsLater left.old }
-    requires single { is_one_byte (piece_left left.old) ≡ true }
-    requires begun { AreBegun (whole_text left.old) spans.old }
-    ensures { AreBlocksRead left.old spans.old spans.new in_order.old in_order.new result }
+pub fn read_blocks<G: Growth>(
+    cursor: &mut Cursor<'_>,
+    spans: &mut Spans,
+    in_order: &mut bool,
+) -> Blocks
+    requires later { IsLater cursor.old }
+    requires single { is_one_byte (piece_left cursor.old) ≡ true }
+    requires begun { AreBegun (whole_text cursor.old) spans.old }
+    ensures { AreBlocksRead cursor.old spans.old spans.new in_order.old in_order.new result }
 {
     let mut last = 0;
     'singletons: loop {
-        if !is_alphanumeric(*left) {
+        if !is_alphanumeric(*cursor) {
             return Blocks::Refused(ParseError::InvalidExtension);
         }
-        let byte = singleton(*left);
+        let byte = singleton(*cursor);
         let rank = rank_of(byte);
         if rank <= last {
             if has_block(spans, rank) {
@@ -132,13 +136,13 @@ pub fn read_blocks<G: Growth>(left: &mut Left<'_>, spans: &mut Spans, in_order: 
             }
             *in_order = false;
         }
-        if is_last(*left) {
+        if is_last(*cursor) {
             return Blocks::Refused(ParseError::InvalidExtension);
         }
         let from = spans.count;
-        let start = left.at - 1;
-        advance(left);
-        let found = read_body::<G>(byte, start, left, spans, in_order);
+        let start = cursor.at - 1;
+        advance(cursor);
+        let found = read_body::<G>(byte, start, cursor, spans, in_order);
         match found {
             Found::Bad => return Blocks::Refused(ParseError::InvalidExtension),
             Found::Repeated => return Blocks::Refused(ParseError::InvalidSubtag),

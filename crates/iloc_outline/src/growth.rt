@@ -1,7 +1,7 @@
 //! What becomes of spans for which there is no room in place.
 ghost use Rattle.std.specs.Prelude.{◌≡◌, ◌≤◌, ◌∷◌, ◌++◌, ℕ, Bool, [], length, true, false};
-ghost use Rattle.iloc_pieces.specs.Left.{IsLater};
-ghost use Rattle.iloc_pieces.specs.declared.cursor.Left.{Left};
+ghost use Rattle.iloc_pieces.specs.Cursor.{IsLater};
+ghost use Rattle.iloc_pieces.specs.declared.place.Cursor.{Cursor};
 ghost use Rattle.iloc_outline.specs.Gathering.{Walks};
 ghost use Rattle.iloc_spans.specs.Inserting.{IsInserted};
 ghost use Rattle.iloc_outline.specs.Reading.{AreWordsRead, IsOfWord};
@@ -10,7 +10,7 @@ ghost use Rattle.iloc_spans.specs.declared.spans.Spans.{Spans};
 
 use crate::reading::Found;
 use crate::words::read_more_words;
-use iloc_pieces::left::Left;
+use iloc_pieces::cursor::Cursor;
 use iloc_spans::inserting::{Inserted, insert_more};
 use iloc_spans::span::{Role, Span};
 use iloc_spans::spans::{MOST, Spans};
@@ -32,18 +32,18 @@ pub trait Growth {
     /// Reads the rest of the words of this role, of which those from `from` on were put in order.
     fn read_words(
         role: Role,
-        left: &mut Left<'_>,
+        cursor: &mut Cursor<'_>,
         spans: &mut Spans,
         from: usize,
         in_order: &mut bool,
     ) -> Found
         requires role { IsOfWord role }
-        requires later { IsLater left.old }
+        requires later { IsLater cursor.old }
         requires from { from ≤ spans.old.count }
         requires many { 64 ≤ length (held_spans spans.old) }
-        ensures { (first : Left) (old : Spans) (last : ℕ) (o n : Bool) → old.count ≡ from
-            → Walks role first left.old (held_spans old) (held_spans spans.old) last o n
-            → AreWordsRead role first left.new old spans.new o in_order.new result };
+        ensures { (first : Cursor) (old : Spans) (last : ℕ) (o n : Bool) → old.count ≡ from
+            → Walks role first cursor.old (held_spans old) (held_spans spans.old) last o n
+            → AreWordsRead role first cursor.new old spans.new o in_order.new result };
 }
 
 /// Puts a span behind the others. `false` if there is no room for it: in place there is room for 64, and room that grows
@@ -78,7 +78,7 @@ impl Growth for InPlace {
     #[inline(always)]
     fn read_words(
         _role: Role,
-        _left: &mut Left<'_>,
+        _cursor: &mut Cursor<'_>,
         _spans: &mut Spans,
         _from: usize,
         _in_order: &mut bool,
@@ -104,11 +104,11 @@ impl Growth for Growing {
     #[inline(always)]
     fn read_words(
         role: Role,
-        left: &mut Left<'_>,
+        cursor: &mut Cursor<'_>,
         spans: &mut Spans,
         from: usize,
         in_order: &mut bool,
     ) -> Found {
-        read_more_words(role, left, spans, from, in_order)
+        read_more_words(role, cursor, spans, from, in_order)
     }
 }

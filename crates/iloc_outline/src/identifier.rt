@@ -3,9 +3,9 @@ ghost use Rattle.std.specs.Prelude.{◌≡◌, true, if◌then◌else◌};
 ghost use Rattle.iloc_spec_grammar.specs.Syntax.{IsWord, Language, languages};
 ghost use Rattle.iloc_outline.specs.Identifier.{IsFrontRead, IsOnePast};
 ghost use Rattle.iloc_outline.specs.Reading.{unless_end};
-ghost use Rattle.iloc_pieces.specs.Left.{IsShortPiece, piece_left};
+ghost use Rattle.iloc_pieces.specs.Cursor.{IsShortPiece, piece_left};
 
-use iloc_pieces::left::{Left, advance, is_last, is_region, is_script};
+use iloc_pieces::cursor::{Cursor, advance, is_last, is_region, is_script};
 
 /// A language, and perhaps a script and a region.
 #[derive(Clone, Copy)]
@@ -22,55 +22,55 @@ pub struct Front {
 
 // Passes the piece, if it fits. Whether the text ends with it.
 #[inline(always)]
-fn ends_at(fits: bool, left: &mut Left<'_>) -> bool
-    requires { fits ≡ true → IsShortPiece (piece_left left.old) }
-    ensures { IsOnePast fits left.old (unless_end result left.new) }
+fn ends_at(fits: bool, cursor: &mut Cursor<'_>) -> bool
+    requires { fits ≡ true → IsShortPiece (piece_left cursor.old) }
+    ensures { IsOnePast fits cursor.old (unless_end result cursor.new) }
 {
     if !fits {
         return false;
     }
-    if is_last(*left) {
+    if is_last(*cursor) {
         return true;
     }
-    advance(left);
+    advance(cursor);
     false
 }
 
 // Where the piece begins, if that is asked; 0 if not.
 #[inline(always)]
-fn place(asked: bool, left: Left<'_>) -> usize
-    ensures { result ≡ (if asked then left.entry.at else 0) }
+fn place(asked: bool, cursor: Cursor<'_>) -> usize
+    ensures { result ≡ (if asked then cursor.entry.at else 0) }
 {
-    if asked { left.at } else { 0 }
+    if asked { cursor.at } else { 0 }
 }
 
 /// Reads a language, and perhaps a script and a region.
 #[inline(always)]
-pub fn read_front(left: &mut Left<'_>) -> Front
-    requires { IsWord (Language languages) (piece_left left.old) }
-    ensures { IsFrontRead left.old left.new result }
+pub fn read_front(cursor: &mut Cursor<'_>) -> Front
+    requires { IsWord (Language languages) (piece_left cursor.old) }
+    ensures { IsFrontRead cursor.old cursor.new result }
 {
-    let whole = left.at + left.len;
+    let whole = cursor.at + cursor.remaining;
     let mut front = Front {
         is_all: true,
         end: whole,
         script: 0,
         region: 0,
     };
-    if ends_at(true, left) {
+    if ends_at(true, cursor) {
         return front;
     }
-    let has_script = is_script(*left);
-    front.script = place(has_script, *left);
-    if ends_at(has_script, left) {
+    let has_script = is_script(*cursor);
+    front.script = place(has_script, *cursor);
+    if ends_at(has_script, cursor) {
         return front;
     }
-    let has_region = is_region(*left);
-    front.region = place(has_region && left.n == 2, *left);
-    if ends_at(has_region, left) {
+    let has_region = is_region(*cursor);
+    front.region = place(has_region && cursor.piece_length == 2, *cursor);
+    if ends_at(has_region, cursor) {
         return front;
     }
     front.is_all = false;
-    front.end = left.at - 1;
+    front.end = cursor.at - 1;
     front
 }

@@ -2,12 +2,12 @@
 ghost use Rattle.std.specs.Prelude.{◌≡◌, ◌-◌, ◌<◌, ℕ, Bool, [], ◌∷◌, true};
 ghost use Rattle.std.specs.Char.{to_ascii_lowercase};
 ghost use Rattle.iloc_spec_grammar.specs.Syntax.{code_x, is_other_singleton};
-ghost use Rattle.iloc_pieces.specs.Left.{IsSpanned, whole_text};
-ghost use Rattle.iloc_outline.specs.Reading.{FollowsSingleton, IsBodyAt, IsPrivateBody, IsPutOther, block_span};
+ghost use Rattle.iloc_pieces.specs.Cursor.{IsSpanned, whole_text};
+ghost use Rattle.iloc_outline.specs.Reading.{FollowsSingleton, IsBodyAt, IsPrivateBody, IsPutOther, block_span, reader_at};
 
 use crate::growth::{Growth, put};
 use crate::reading::Found;
-use iloc_pieces::left::{Left, advance, is_between, is_last, is_private, is_single, is_subtag};
+use iloc_pieces::cursor::{Cursor, advance, is_between, is_last, is_private, is_single, is_subtag};
 use iloc_spans::span::{Role, Span};
 use iloc_spans::spans::Spans;
 
@@ -16,18 +16,18 @@ const LAST: u64 = 255;
 
 /// Reads private subtags up to the end of the text, one at least. The singleton begins at the hyphen at `start`.
 #[inline(always)]
-pub fn read_private<G: Growth>(start: usize, left: &mut Left<'_>, spans: &mut Spans) -> Found
-    requires follows { FollowsSingleton start left.old }
+pub fn read_private<G: Growth>(start: usize, cursor: &mut Cursor<'_>, spans: &mut Spans) -> Found
+    requires follows { FollowsSingleton start cursor.old }
     ensures { (c : ℕ) → to_ascii_lowercase c ≡ code_x
-        → IsSpanned (whole_text left.old) start (left.old.at - 1) ((c ∷ []) ∷ [])
-        → (o : Bool) → IsPrivateBody c left.old spans.old spans.new o o result }
+        → IsSpanned (whole_text cursor.old) start (cursor.old.at - 1) ((c ∷ []) ∷ [])
+        → (o : Bool) → IsPrivateBody c cursor.old spans.old spans.new o o result }
 {
-    'words: while is_private(*left) {
-        if is_last(*left) {
+    'words: while is_private(*cursor) {
+        if is_last(*cursor) {
             let span = Span {
                 word: LAST,
                 start,
-                end: left.at + left.n,
+                end: cursor.at + cursor.piece_length,
                 role: Role::Singleton,
                 edited: false,
             };
@@ -36,7 +36,7 @@ pub fn read_private<G: Growth>(start: usize, left: &mut Left<'_>, spans: &mut Sp
             }
             return Found::End;
         }
-        advance(left);
+        advance(cursor);
     }
     Found::Bad
 }
@@ -47,36 +47,36 @@ pub fn read_private<G: Growth>(start: usize, left: &mut Left<'_>, spans: &mut Sp
 pub fn read_other<G: Growth>(
     byte: u8,
     start: usize,
-    left: &mut Left<'_>,
+    cursor: &mut Cursor<'_>,
     spans: &mut Spans,
     in_order: &mut bool,
 ) -> Found
-    requires follows { FollowsSingleton start left.old }
+    requires follows { FollowsSingleton start cursor.old }
     requires other { is_other_singleton byte ≡ true }
-    ensures { IsBodyAt byte start left.old left.new spans.old spans.new in_order.old in_order.new
-        result }
+    ensures { IsBodyAt byte start (reader_at cursor.old spans.old in_order.old)
+        (reader_at cursor.new spans.new in_order.new) result }
 {
     let mut is_good = false;
     let mut edited = false;
-    'pieces: while is_between(*left) {
-        if is_subtag(*left) {
+    'pieces: while is_between(*cursor) {
+        if is_subtag(*cursor) {
             is_good = true;
         } else {
             edited = true;
         }
-        if is_last(*left) {
+        if is_last(*cursor) {
             if !is_good {
                 return Found::Bad;
             }
-            let end = left.at + left.n;
+            let end = cursor.at + cursor.piece_length;
             return put_other::<G>(byte, start, end, edited, spans, in_order, Found::End);
         }
-        advance(left);
+        advance(cursor);
     }
-    if !is_good || !is_single(*left) {
+    if !is_good || !is_single(*cursor) {
         return Found::Bad;
     }
-    let end = left.at - 1;
+    let end = cursor.at - 1;
     put_other::<G>(byte, start, end, edited, spans, in_order, Found::Next)
 }
 

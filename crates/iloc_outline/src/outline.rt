@@ -1,6 +1,6 @@
 //! The outline of a text, as an identifier or as a locale.
 ghost use Rattle.std.specs.Prelude.{◌≡◌, ◌↔◌, ◌≤◌, ◌<◌, IsTrue, length, take};
-ghost use Rattle.iloc_pieces.specs.Left.{bytes_left};
+ghost use Rattle.iloc_pieces.specs.Cursor.{bytes_left};
 ghost use Rattle.iloc_outline.specs.Outlines.{AreHeadRead, BeginsWithLanguage, IsFinished, IsIdentifierOutlined, IsLocaleOutlined};
 
 use crate::blocks::{Blocks, read_blocks};
@@ -8,8 +8,8 @@ use crate::growth::Growth;
 use crate::identifier::read_front;
 use crate::reading::Found;
 use crate::words::read_words;
+use iloc_pieces::cursor::{self, Cursor, cursor_in, is_single};
 use iloc_pieces::front::first_len;
-use iloc_pieces::left::{self, Left, is_single, left_in};
 use iloc_pieces::words::is_language;
 use iloc_spans::span::Role;
 use iloc_spans::spans::Spans;
@@ -68,19 +68,19 @@ fn begins_few(window: &[u8], len: usize) -> bool
     requires { len ≤ length window.now }
     ensures { IsTrue result ↔ BeginsWithLanguage (take len window.now) }
 {
-    left::is_language(left_in(window, len))
+    cursor::is_language(cursor_in(window, len))
 }
 
 /// Reads the identifier at the beginning of a text. In `in_order` it says whether its variants are in order.
 #[inline(always)]
-pub fn read_head<G: Growth>(left: &mut Left<'_>, spans: &mut Spans, in_order: &mut bool) -> Head
-    requires first { left.old.at ≡ 0 }
-    requires begins { BeginsWithLanguage (bytes_left left.old) }
-    ensures { AreHeadRead (bytes_left left.old) left.new spans.new in_order.new result }
+pub fn read_head<G: Growth>(cursor: &mut Cursor<'_>, spans: &mut Spans, in_order: &mut bool) -> Head
+    requires first { cursor.old.at ≡ 0 }
+    requires begins { BeginsWithLanguage (bytes_left cursor.old) }
+    ensures { AreHeadRead (bytes_left cursor.old) cursor.new spans.new in_order.new result }
 {
     spans.clear();
     *in_order = true;
-    let front = read_front(left);
+    let front = read_front(cursor);
     let outline = Outline {
         front: front.end,
         script: front.script,
@@ -89,10 +89,10 @@ pub fn read_head<G: Growth>(left: &mut Left<'_>, spans: &mut Spans, in_order: &m
     if front.is_all {
         return Head::All(outline);
     }
-    match read_words::<G>(Role::Variant, left, spans, in_order) {
+    match read_words::<G>(Role::Variant, cursor, spans, in_order) {
         Found::End => Head::All(outline),
         Found::Next => {
-            if !is_single(*left) {
+            if !is_single(*cursor) {
                 return Head::Refused(ParseError::InvalidSubtag);
             }
             Head::Block(outline)
@@ -126,9 +126,9 @@ pub fn outline_identifier<G: Growth>(window: &[u8], len: usize, spans: &mut Span
     requires begins { BeginsWithLanguage (take len window.now) }
     ensures { IsIdentifierOutlined (take len window.now) spans.new result }
 {
-    let mut left = left_in(window, len);
+    let mut cursor = cursor_in(window, len);
     let mut in_order = true;
-    match read_head::<G>(&mut left, spans, &mut in_order) {
+    match read_head::<G>(&mut cursor, spans, &mut in_order) {
         Head::All(outline) => Outlined::Normal(finished(outline, len, spans, in_order)),
         Head::Block(_) => Outlined::Refused(ParseError::InvalidSubtag),
         Head::Refused(error) => Outlined::Refused(error),
@@ -143,15 +143,15 @@ pub fn outline_locale<G: Growth>(window: &[u8], len: usize, spans: &mut Spans) -
     requires begins { BeginsWithLanguage (take len window.now) }
     ensures { IsLocaleOutlined (take len window.now) spans.new result }
 {
-    let mut left = left_in(window, len);
+    let mut cursor = cursor_in(window, len);
     let mut in_order = true;
-    let outline = match read_head::<G>(&mut left, spans, &mut in_order) {
+    let outline = match read_head::<G>(&mut cursor, spans, &mut in_order) {
         Head::All(outline) => return Outlined::Normal(finished(outline, len, spans, in_order)),
         Head::Block(outline) => outline,
         Head::Refused(error) => return Outlined::Refused(error),
         Head::Full => return Outlined::Full,
     };
-    match read_blocks::<G>(&mut left, spans, &mut in_order) {
+    match read_blocks::<G>(&mut cursor, spans, &mut in_order) {
         Blocks::Good => Outlined::Normal(finished(outline, len, spans, in_order)),
         Blocks::Refused(error) => Outlined::Refused(error),
         Blocks::Full => Outlined::Full,

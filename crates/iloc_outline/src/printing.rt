@@ -4,7 +4,7 @@ ghost use Rattle.std.specs.Char.{to_ascii_lowercase};
 ghost use Rattle.std.specs.List.{AllByRecursion};
 ghost use Rattle.iloc_spec_grammar.specs.Syntax.{Text, dashes, lower, is_other_singleton, pieces};
 ghost use Rattle.iloc_outline.specs.Identifier.{front_text, raised};
-ghost use Rattle.iloc_pieces.specs.Left.{IsShortPiece, piece_left, pieces_left};
+ghost use Rattle.iloc_pieces.specs.Cursor.{IsShortPiece, piece_left, pieces_left};
 ghost use Rattle.iloc_outline.specs.Outlines.{Gives, parts_text};
 ghost use Rattle.iloc_outline.specs.Parts.{Part};
 ghost use Rattle.iloc_outline.specs.Printing.{GivesShort, HasRoomForParts, behind_hyphen, edited_text, is_kept, kept_pieces, printed_role, span_text};
@@ -12,8 +12,8 @@ ghost use Rattle.iloc_spec_grammar.specs.Reading.{rest_of};
 ghost use Rattle.iloc_outline.specs.Spans.{Spell};
 
 use crate::outline::Outline;
+use iloc_pieces::cursor::{Cursor, cursor_in, is_last, is_subtag, is_true, next};
 use iloc_pieces::first_in_lower_case;
-use iloc_pieces::left::{Left, is_last, is_subtag, is_true, left_in, next};
 use iloc_spans::span::{Role, Span};
 use iloc_spans::spans::Spans;
 
@@ -79,15 +79,16 @@ fn raise_two(to: &mut [u8], end: usize, at: usize)
 
 // Writes a hyphen and the piece in lower case from `start` on. Where they end.
 #[inline(always)]
-fn copy_piece(left: Left<'_>, to: &mut [u8], start: usize) -> usize
-    requires short { IsShortPiece (piece_left left) }
-    requires room { start + length (piece_left left) + 17 ≤ length to.old }
-    ensures end { result ≡ start + length (piece_left left.entry) + 1 }
-    ensures copied { take result to.new ≡ take start to.old ++ 45 ∷ lower (piece_left left.entry) }
+fn copy_piece(cursor: Cursor<'_>, to: &mut [u8], start: usize) -> usize
+    requires short { IsShortPiece (piece_left cursor) }
+    requires room { start + length (piece_left cursor) + 17 ≤ length to.old }
+    ensures end { result ≡ start + length (piece_left cursor.entry) + 1 }
+    ensures copied { take result to.new
+        ≡ take start to.old ++ 45 ∷ lower (piece_left cursor.entry) }
 {
     to[start] = b'-';
-    copy_lower(left.window, left.at, left.n, to, start + 1);
-    start + 1 + left.n
+    copy_lower(cursor.window, cursor.at, cursor.piece_length, to, start + 1);
+    start + 1 + cursor.piece_length
 }
 
 // Whether a byte in lower case is the singleton of another extension.
@@ -100,33 +101,33 @@ fn is_other_byte(byte: u8) -> bool
 
 // Whether the piece begins as the singleton of another extension does.
 #[inline(always)]
-fn is_other(left: Left<'_>) -> bool
-    requires { IsShortPiece (piece_left left) }
+fn is_other(cursor: Cursor<'_>) -> bool
+    requires { IsShortPiece (piece_left cursor) }
     ensures { result
-        ≡ is_other_singleton (to_ascii_lowercase (slice_index (piece_left left.entry) 0)) }
+        ≡ is_other_singleton (to_ascii_lowercase (slice_index (piece_left cursor.entry) 0)) }
 {
-    if left.n == 0 {
+    if cursor.piece_length == 0 {
         return false;
     }
-    is_other_byte(left.window[left.at].to_ascii_lowercase())
+    is_other_byte(cursor.window[cursor.at].to_ascii_lowercase())
 }
 
 // Whether a piece behind the first of an edited part is printed.
 #[inline(always)]
-pub(crate) fn is_kept(role: Role, left: Left<'_>) -> bool
-    requires { IsShortPiece (piece_left left) }
-    ensures { result ≡ is_kept role (piece_left left.entry) }
+pub(crate) fn is_kept(role: Role, cursor: Cursor<'_>) -> bool
+    requires { IsShortPiece (piece_left cursor) }
+    ensures { result ≡ is_kept role (piece_left cursor.entry) }
 {
     match role {
-        Role::Keyword | Role::Field => !is_true(left),
-        Role::Singleton => is_subtag(left),
+        Role::Keyword | Role::Field => !is_true(cursor),
+        Role::Singleton => is_subtag(cursor),
         _ => true,
     }
 }
 
 // Writes the pieces behind this one that are kept, each behind a hyphen, from `start` on. Where they end.
 #[inline(always)]
-fn copy_kept(role: Role, first: Left<'_>, to: &mut [u8], start: usize) -> usize
+fn copy_kept(role: Role, first: Cursor<'_>, to: &mut [u8], start: usize) -> usize
     requires short { AllByRecursion IsShortPiece (pieces_left first) }
     requires room { start + length (dashes (kept_pieces role (rest_of (pieces_left first)))) + 16
         ≤ length to.old }
@@ -160,7 +161,7 @@ fn put_true(to: &mut [u8], start: usize) -> usize
 
 // Of which role a part is as it is printed: a singleton of another extension only is one.
 #[inline(always)]
-pub(crate) fn printed_role(role: Role, first: Left<'_>) -> Role
+pub(crate) fn printed_role(role: Role, first: Cursor<'_>) -> Role
     requires { IsShortPiece (piece_left first) }
     ensures { result ≡ printed_role role (piece_left first.entry) }
 {
@@ -183,7 +184,7 @@ fn copy_edited(window: &[u8], span: &Span, to: &mut [u8], start: usize) -> usize
         ++ edited_text span.now.role (behind_hyphen window.now span.now) }
 {
     let from = span.start + 1;
-    let first = left_in(&window[from..], span.end - from);
+    let first = cursor_in(&window[from..], span.end - from);
     let role = printed_role(span.role, first);
     let begun = copy_piece(first, to, start);
     let end = copy_kept(role, first, to, begun);

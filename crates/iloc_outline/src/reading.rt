@@ -1,7 +1,7 @@
 //! What some pieces are.
 ghost use Rattle.iloc_outline.specs.Reading.{EndsAtBlock};
 
-use iloc_pieces::left::{Left, is_single};
+use iloc_pieces::cursor::{Cursor, is_single};
 
 /// What the pieces from one on are.
 #[derive(Clone, Copy)]
@@ -21,7 +21,7 @@ pub enum Found {
 impl Found {
     /// What the pieces of a block are: a piece of one byte comes next, or the block is bad.
     #[inline(always)]
-    pub fn at_block(self, next: &Left<'_>) -> Found
+    pub fn at_block(self, next: &Cursor<'_>) -> Found
         ensures { EndsAtBlock next.now self result }
     {
         match self {

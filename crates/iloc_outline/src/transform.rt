@@ -1,15 +1,15 @@
 //! Reads what follows the singleton `t`.
 ghost use Rattle.std.specs.Prelude.{◌≡◌, ◌<◌, false};
 ghost use Rattle.iloc_spec_grammar.specs.Syntax.{Language, code_t, is_word, languages};
-ghost use Rattle.iloc_pieces.specs.Left.{piece_left};
-ghost use Rattle.iloc_outline.specs.Reading.{FollowsSingleton, IsBodyAt, block_span};
+ghost use Rattle.iloc_pieces.specs.Cursor.{piece_left};
+ghost use Rattle.iloc_outline.specs.Reading.{FollowsSingleton, IsBodyAt, block_span, reader_at};
 
 use crate::fields::read_fields;
 use crate::growth::{Growth, put};
 use crate::identifier::read_front;
 use crate::reading::Found;
 use crate::words::read_words;
-use iloc_pieces::left::{Left, is_language, is_single};
+use iloc_pieces::cursor::{Cursor, is_language, is_single};
 use iloc_spans::span::{Role, Span};
 use iloc_spans::spans::Spans;
 
@@ -32,26 +32,26 @@ fn singleton(start: usize, end: usize) -> Span
 #[inline(always)]
 pub fn read_transform<G: Growth>(
     start: usize,
-    left: &mut Left<'_>,
+    cursor: &mut Cursor<'_>,
     spans: &mut Spans,
     in_order: &mut bool,
 ) -> Found
-    requires follows { FollowsSingleton start left.old }
-    ensures { IsBodyAt code_t start left.old left.new spans.old spans.new in_order.old in_order.new
-        result }
+    requires follows { FollowsSingleton start cursor.old }
+    ensures { IsBodyAt code_t start (reader_at cursor.old spans.old in_order.old)
+        (reader_at cursor.new spans.new in_order.new) result }
 {
-    if !is_language(*left) {
-        return read_fields_alone::<G>(start, left, spans, in_order);
+    if !is_language(*cursor) {
+        return read_fields_alone::<G>(start, cursor, spans, in_order);
     }
-    let front = read_front(left);
+    let front = read_front(cursor);
     if !put::<G>(spans, singleton(start, front.end)) {
         return Found::Full;
     }
     if front.is_all {
         return Found::End;
     }
-    match read_words::<G>(Role::Variant, left, spans, in_order) {
-        Found::Next => read_fields::<G>(Role::Field, left, spans, in_order).at_block(left),
+    match read_words::<G>(Role::Variant, cursor, spans, in_order) {
+        Found::Next => read_fields::<G>(Role::Field, cursor, spans, in_order).at_block(cursor),
         found => found,
     }
 }
@@ -60,20 +60,20 @@ pub fn read_transform<G: Growth>(
 #[inline(always)]
 fn read_fields_alone<G: Growth>(
     start: usize,
-    left: &mut Left<'_>,
+    cursor: &mut Cursor<'_>,
     spans: &mut Spans,
     in_order: &mut bool,
 ) -> Found
-    requires follows { FollowsSingleton start left.old }
-    requires alone { is_word (Language languages) (piece_left left.old) ≡ false }
-    ensures { IsBodyAt code_t start left.old left.new spans.old spans.new in_order.old in_order.new
-        result }
+    requires follows { FollowsSingleton start cursor.old }
+    requires alone { is_word (Language languages) (piece_left cursor.old) ≡ false }
+    ensures { IsBodyAt code_t start (reader_at cursor.old spans.old in_order.old)
+        (reader_at cursor.new spans.new in_order.new) result }
 {
-    if is_single(*left) {
+    if is_single(*cursor) {
         return Found::Bad;
     }
-    if !put::<G>(spans, singleton(start, left.at - 1)) {
+    if !put::<G>(spans, singleton(start, cursor.at - 1)) {
         return Found::Full;
     }
-    read_fields::<G>(Role::Field, left, spans, in_order).at_block(left)
+    read_fields::<G>(Role::Field, cursor, spans, in_order).at_block(cursor)
 }

@@ -1,12 +1,12 @@
 //! Reads what follows the singleton `u`.
 ghost use Rattle.iloc_spec_grammar.specs.Syntax.{code_u};
-ghost use Rattle.iloc_outline.specs.Reading.{FollowsSingleton, IsBodyAt};
+ghost use Rattle.iloc_outline.specs.Reading.{FollowsSingleton, IsBodyAt, reader_at};
 
 use crate::fields::read_fields;
 use crate::growth::{Growth, put};
 use crate::reading::Found;
 use crate::words::read_words;
-use iloc_pieces::left::{Left, is_single};
+use iloc_pieces::cursor::{Cursor, is_single};
 use iloc_spans::span::{Role, Span};
 use iloc_spans::spans::Spans;
 
@@ -14,30 +14,30 @@ use iloc_spans::spans::Spans;
 #[inline(always)]
 pub fn read_unicode<G: Growth>(
     start: usize,
-    left: &mut Left<'_>,
+    cursor: &mut Cursor<'_>,
     spans: &mut Spans,
     in_order: &mut bool,
 ) -> Found
-    requires follows { FollowsSingleton start left.old }
-    ensures { IsBodyAt code_u start left.old left.new spans.old spans.new in_order.old in_order.new
-        result }
+    requires follows { FollowsSingleton start cursor.old }
+    ensures { IsBodyAt code_u start (reader_at cursor.old spans.old in_order.old)
+        (reader_at cursor.new spans.new in_order.new) result }
 {
-    if is_single(*left) {
+    if is_single(*cursor) {
         return Found::Bad;
     }
     let singleton = Span {
         word: b'u' as u64,
         start,
-        end: left.at - 1,
+        end: cursor.at - 1,
         role: Role::Singleton,
         edited: false,
     };
     if !put::<G>(spans, singleton) {
         return Found::Full;
     }
-    let found = match read_words::<G>(Role::Attribute, left, spans, in_order) {
-        Found::Next => read_fields::<G>(Role::Keyword, left, spans, in_order),
+    let found = match read_words::<G>(Role::Attribute, cursor, spans, in_order) {
+        Found::Next => read_fields::<G>(Role::Keyword, cursor, spans, in_order),
         found => found,
     };
-    found.at_block(left)
+    found.at_block(cursor)
 }

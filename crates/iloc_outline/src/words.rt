@@ -1,18 +1,18 @@
 //! Reads variants and attributes.
 ghost use Rattle.std.specs.Prelude.{◌≡◌, ◌⊎◌, ◌≤◌, ◌++◌, ℕ, Bool, length};
 ghost use Rattle.iloc_spec_grammar.specs.Syntax.{IsWord, is_word};
-ghost use Rattle.iloc_pieces.specs.Left.{IsLater, piece_left};
+ghost use Rattle.iloc_pieces.specs.Cursor.{IsLater, piece_left};
 ghost use Rattle.iloc_outline.specs.Gathering.{Walks};
 ghost use Rattle.iloc_spans.specs.Group.{group_spans};
 ghost use Rattle.iloc_outline.specs.Reading.{AreWordsRead, IsOfWord, role_kind, word_span};
 ghost use Rattle.iloc_spans.specs.Spans.{held_spans};
 ghost use Rattle.iloc_spans.specs.declared.spans.Spans.{Spans};
-ghost use Rattle.iloc_pieces.specs.declared.cursor.Left.{Left};
+ghost use Rattle.iloc_pieces.specs.declared.place.Cursor.{Cursor};
 
 use crate::growth::Growth;
 use crate::reading::Found;
 use crate::sorting::put_from;
-use iloc_pieces::left::{Left, advance, is_attribute, is_last, is_variant, word_number};
+use iloc_pieces::cursor::{Cursor, advance, is_attribute, is_last, is_variant, word_number};
 use iloc_spans::group::Group;
 use iloc_spans::inserting::Inserted;
 use iloc_spans::span::{Role, Span};
@@ -20,26 +20,26 @@ use iloc_spans::spans::Spans;
 
 // Whether the piece is a word of this role.
 #[inline(always)]
-fn fits(role: Role, left: Left<'_>) -> bool
-    ensures { result ≡ is_word (role_kind role) (piece_left left.entry) }
+fn fits(role: Role, cursor: Cursor<'_>) -> bool
+    ensures { result ≡ is_word (role_kind role) (piece_left cursor.entry) }
 {
     match role {
-        Role::Variant => is_variant(left),
-        _ => is_attribute(left),
+        Role::Variant => is_variant(cursor),
+        _ => is_attribute(cursor),
     }
 }
 
 // The span of the word.
 #[inline(always)]
-fn span_of(role: Role, left: Left<'_>) -> Span
-    requires later { IsLater left }
-    requires word { IsWord (role_kind role) (piece_left left) }
-    ensures { result ≡ word_span role left.entry }
+fn span_of(role: Role, cursor: Cursor<'_>) -> Span
+    requires later { IsLater cursor }
+    requires word { IsWord (role_kind role) (piece_left cursor) }
+    ensures { result ≡ word_span role cursor.entry }
 {
     Span {
-        word: word_number(left),
-        start: left.at - 1,
-        end: left.at + left.n,
+        word: word_number(cursor),
+        start: cursor.at - 1,
+        end: cursor.at + cursor.piece_length,
         role,
         edited: false,
     }
@@ -50,19 +50,19 @@ fn span_of(role: Role, left: Left<'_>) -> Span
 #[inline(always)]
 pub fn read_words<G: Growth>(
     role: Role,
-    left: &mut Left<'_>,
+    cursor: &mut Cursor<'_>,
     spans: &mut Spans,
     in_order: &mut bool,
 ) -> Found
     requires role { IsOfWord role }
-    requires later { IsLater left.old }
-    ensures { AreWordsRead role left.old left.new spans.old spans.new in_order.old in_order.new
+    requires later { IsLater cursor.old }
+    ensures { AreWordsRead role cursor.old cursor.new spans.old spans.new in_order.old in_order.new
         result }
 {
     let from = spans.count;
     let mut last = 0;
-    'words: while fits(role, *left) {
-        let span = span_of(role, *left);
+    'words: while fits(role, *cursor) {
+        let span = span_of(role, *cursor);
         match put_from::<G>(spans, from, &mut last, span, in_order) {
             Inserted::Put => (),
             Inserted::There => {
@@ -70,12 +70,12 @@ pub fn read_words<G: Growth>(
                     return Found::Repeated;
                 }
             }
-            Inserted::Full => return G::read_words(role, left, spans, from, in_order),
+            Inserted::Full => return G::read_words(role, cursor, spans, from, in_order),
         }
-        if is_last(*left) {
+        if is_last(*cursor) {
             return Found::End;
         }
-        advance(left);
+        advance(cursor);
     }
     Found::Next
 }
@@ -85,25 +85,25 @@ pub fn read_words<G: Growth>(
 #[inline(never)]
 pub fn read_more_words(
     role: Role,
-    left: &mut Left<'_>,
+    cursor: &mut Cursor<'_>,
     spans: &mut Spans,
     from: usize,
     in_order: &mut bool,
 ) -> Found
     requires role { IsOfWord role }
-    requires later { IsLater left.old }
+    requires later { IsLater cursor.old }
     requires from { from ≤ spans.old.count }
     requires many { 64 ≤ length (held_spans spans.old) }
-    ensures { (first : Left) (old : Spans) (last : ℕ) (o n : Bool) → old.count ≡ from
-        → Walks role first left.old (held_spans old) (held_spans spans.old) last o n
-        → AreWordsRead role first left.new old spans.new o in_order.new result }
+    ensures { (first : Cursor) (old : Spans) (last : ℕ) (o n : Bool) → old.count ≡ from
+        → Walks role first cursor.old (held_spans old) (held_spans spans.old) last o n
+        → AreWordsRead role first cursor.new old spans.new o in_order.new result }
 {
     *in_order = false;
     let Some(mut group) = spans.take_from(from) else {
         return Found::Full;
     };
-    'words: while fits(role, *left) {
-        match group.put(span_of(role, *left)) {
+    'words: while fits(role, *cursor) {
+        match group.put(span_of(role, *cursor)) {
             Inserted::Put => (),
             Inserted::There => {
                 if role == Role::Variant {
@@ -112,10 +112,10 @@ pub fn read_more_words(
             }
             Inserted::Full => return Found::Full,
         }
-        if is_last(*left) {
+        if is_last(*cursor) {
             return put_group(&group, spans, Found::End);
         }
-        advance(left);
+        advance(cursor);
     }
     put_group(&group, spans, Found::Next)
 }

@@ -10,10 +10,10 @@ use Rattle.iloc_spec_grammar.specs.Syntax.{lower, Bounds}
 use Rattle.iloc_spec_grammar.proofs.MapLaws.{same_itself}
 use Rattle.iloc_spec_grammar.proofs.WordsLaws.{word_letters_or_digits, letter_is, length-script}
 use Rattle.iloc_spec_grammar.proofs.WordsLaws.{is_word-lower}
-use Rattle.iloc_pieces.specs.Left.{IsShortPiece, piece_left}
+use Rattle.iloc_pieces.specs.Cursor.{IsShortPiece, piece_left}
 use Rattle.iloc_pieces.specs.Shape.{bits, shape_of}
-use Rattle.iloc_pieces.specs.declared.cursor.Left.{Left}
-use Rattle.iloc_pieces.proofs.LeftLemmas.{short_word}
+use Rattle.iloc_pieces.specs.declared.place.Cursor.{Cursor}
+use Rattle.iloc_pieces.proofs.CursorLemmas.{short_word}
 use Rattle.iloc_pieces.proofs.WordBytes.{low_bit}
 use Rattle.std.proofs.lemmas.Nat.{or_block}
 use Rattle.std.proofs.Math.Logic.{∥∥₁_elim}
@@ -28,10 +28,10 @@ hyphen_no_word : (k : Kind) → is_word k (45 ∷ []) ≡ false
 hyphen_no_word k = false_from_ne_true _ (λ h. let all = word_letters_or_digits k (45 ∷ []) h in absurd (cc))
 
 -- a test of shapes that tells words tells whether the piece is one
-pub left_by_shape : (k : Kind) → Bounds 8 k → (l : Left) (r : Bool)
+pub cursor_by_shape : (k : Kind) → Bounds 8 k → (l : Cursor) (r : Bool)
     → ((p : Text) → shape_of p ≡ l.shape → r ≡ is_word k p)
     → r ≡ is_word k (piece_left l)
-left_by_shape k ends l r tells = ∥∥₁_elim l.piece (Coded-set coded_bool _ _) (⊎_elim
+cursor_by_shape k ends l r tells = ∥∥₁_elim l.piece (Coded-set coded_bool _ _) (⊎_elim
     (λ s. tells (piece_left l) (sym s.shape))
     (λ long.
     let none : is_word k (piece_left l) ≡ false =
@@ -39,8 +39,8 @@ left_by_shape k ends l r tells = ∥∥₁_elim l.piece (Coded-set coded_bool _ 
     tells (45 ∷ []) (hyphen_shape ∙ sym long.shape) ∙ hyphen_no_word k ∙ sym none))
 
 -- the shape of a short piece
-pub shape_left : (l : Left) → IsShortPiece (piece_left l) → l.shape ≡ shape_of (piece_left l)
-shape_left l short = ∥∥₁_elim l.piece (Coded-set coded_ℕ _ _) (⊎_elim
+pub cursor_shape : (l : Cursor) → IsShortPiece (piece_left l) → l.shape ≡ shape_of (piece_left l)
+cursor_shape l short = ∥∥₁_elim l.piece (Coded-set coded_ℕ _ _) (⊎_elim
     (λ s. s.shape)
     (λ long. absurd (omega (arith, long.long))))
 

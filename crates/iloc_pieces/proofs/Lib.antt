@@ -14,7 +14,7 @@ pub mod WordLemmas
 pub mod SameLemmas
 pub mod Shapes
 pub mod Tests
-pub mod LeftLemmas
+pub mod CursorLemmas
 pub mod WordNumbers
 pub mod Masks
 pub mod Ends

@@ -8,16 +8,16 @@ use Rattle.std.proofs.Math.Logic.{∥∥₁_map}
 use lib.Count.{count_trailing_zeros}
 use Rattle.iloc_spec_grammar.specs.Syntax.{Text, pieces, first_piece}
 use Rattle.iloc_spec_grammar.proofs.PartTexts.{join-dashes}
-use Rattle.iloc_pieces.specs.Left.{IsNextPiece, IsShortPiece, piece_left}
-use Rattle.iloc_pieces.specs.Left.{pieces_left, bytes_left}
+use Rattle.iloc_pieces.specs.Cursor.{IsNextPiece, IsShortPiece, piece_left}
+use Rattle.iloc_pieces.specs.Cursor.{pieces_left, bytes_left}
 use Rattle.iloc_pieces.specs.Piece.{HasShape, IsLong}
 use Rattle.iloc_pieces.specs.Marks.{AreMarks, AreKnown, AreMarksSeen, closed}
 use Rattle.iloc_pieces.specs.Run.{is_hyphen}
 use Rattle.iloc_pieces.specs.Shape.{shape_of}
-use Rattle.iloc_pieces.specs.declared.cursor.Left.{Left}
+use Rattle.iloc_pieces.specs.declared.place.Cursor.{Cursor}
 use Rattle.iloc_pieces.specs.declared.marks.Marks.{Marks}
 use Rattle.iloc_pieces.proofs.Ends.{before, first_marked, first_unmarked, some_marked}
-use Rattle.iloc_pieces.proofs.LeftLemmas.{first_within, first_cut, cut_after, length_piece, length_rest}
+use Rattle.iloc_pieces.proofs.CursorLemmas.{first_within, first_cut, cut_after, length_piece, length_rest}
 
 -- what is known is seen
 pub seen_known : {rest : Text} {m : Marks} → AreKnown rest m → AreMarksSeen rest m
@@ -81,24 +81,24 @@ seam (b ∷ p) q = seam p q
 
 -- ---- the next piece
 
-module _ (l : Left) (short : IsShortPiece (piece_left l)) (more : l.n ≢ l.len) where
+module _ (l : Cursor) (short : IsShortPiece (piece_left l)) (more : l.piece_length ≢ l.remaining) where
   abbrev past : ℕ
-  past = l.n + 1
+  past = l.piece_length + 1
 
   -- what is left behind the piece and its hyphen
   abbrev after : Text
-  after = take (l.len - past) (drop (l.at + past) l.window.now)
+  after = take (l.remaining - past) (drop (l.at + past) l.window.now)
 
   -- the text goes on behind the piece and its hyphen
-  pub not_last : past ≤ l.len
+  pub not_last : past ≤ l.remaining
   not_last = omega (arith, length_piece l short, length_rest l, first_within (bytes_left l))
 
   after_is : drop past (bytes_left l) ≡ after
   after_is =
-      let parts : l.len ≡ past + (l.len - past) = omega (arith, not_last) in
+      let parts : l.remaining ≡ past + (l.remaining - past) = omega (arith, not_last) in
       ap (λ n. drop past (take n (drop l.at l.window.now))) parts
-      ∙ drop-take past (l.len - past) (drop l.at l.window.now)
-      ∙ ap (take (l.len - past)) (drop-drop past l.at l.window.now)
+      ∙ drop-take past (l.remaining - past) (drop l.at l.window.now)
+      ∙ ap (take (l.remaining - past)) (drop-drop past l.at l.window.now)
 
   cut : pieces_left l ≡ piece_left l ∷ pieces after
   cut =
@@ -131,17 +131,18 @@ module _ (l : Left) (short : IsShortPiece (piece_left l)) (more : l.n ≢ l.len)
       (λ long. absurd (omega (arith, long.long))))
 
   -- what begins there is the next piece
-  pub next_piece : (m : Left) → m.at ≡ l.at + past → m.len ≡ l.len - past
+  pub next_piece : (m : Cursor) → m.at ≡ l.at + past → m.remaining ≡ l.remaining - past
       → m.window.now ≡ l.window.now → IsNextPiece l m
   next_piece m at len window =
       let rest : bytes_left m ≡ after = λ j. take (len j) (drop (at j) (window j)) in
-      let before : m.at - 1 ≡ l.at + l.n = omega arith in
-      let early : l.n < l.len = omega (arith, not_last) in
+      let before : m.at - 1 ≡ l.at + l.piece_length = omega arith in
+      let early : l.piece_length < l.remaining = omega (arith, not_last) in
       record {
         later = record {
           after = omega arith;
-          hyphen = (λ j. get_or (window j) (before j) 0) ∙ sym (get_or-drop l.at l.window.now l.n 0)
-              ∙ sym (get_or-take l.len (drop l.at l.window.now) l.n 0 early)
+          hyphen = (λ j. get_or (window j) (before j) 0)
+              ∙ sym (get_or-drop l.at l.window.now l.piece_length 0)
+              ∙ sym (get_or-take l.remaining (drop l.at l.window.now) l.piece_length 0 early)
               ∙ (λ j. get_or (text j) (length_piece l short j) 0) ∙ seam (piece_left l) after;
         };
         less = omega (arith, not_last);

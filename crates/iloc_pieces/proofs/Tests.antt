@@ -1,12 +1,14 @@
 -- The tests of shapes, one for each kind of words: each is a table of 512, and a bound.
 use Rattle.std.proofs.Common.{◌≡◌, ℕ, ◌≤◌, nat_le, cond, false, ◌&&◌, ◌||◌, refl, bit_or, bit_and}
-use Rattle.std.proofs.Common.{arith}
+use Rattle.std.proofs.Common.{arith, ap, sym, ◌∙◌}
 use Rattle.std.specs.Prelude.{nat_eq, nat_lt}
+use Rattle.std.proofs.lemmas.Bool.{eqb-true, false_from_ne_true}
 use Rattle.std.proofs.lemmas.Bool.Decides.{nat_tests}
 use Rattle.std.proofs.lemmas.Nat.{le_or_l}
 use Rattle.iloc_spec_grammar.specs.Syntax.{Text, Language, Script, Region, Variant, Subtag, UnicodeKey}
 use Rattle.iloc_spec_grammar.specs.Syntax.{TransformKey, Attribute, PrivateSubtag, SubdivisionSuffix}
-use Rattle.iloc_spec_grammar.specs.Syntax.{CurrencyType, is_word, languages}
+use Rattle.iloc_spec_grammar.specs.Syntax.{CurrencyType, IsWord, is_word, languages}
+use Rattle.iloc_spec_grammar.proofs.WordsLaws.{length-script, length-transform_key, length-variant}
 use Rattle.iloc_pieces.specs.Shape.{shape_of}
 use Rattle.iloc_pieces.proofs.Shapes.{by_shape, spell}
 
@@ -100,3 +102,18 @@ currency_many s more = grind (arith, nat_tests)
 pub currency_is : (p : Text) → is_word CurrencyType p ≡ (nat_eq (shape_of p) 8)
 unfolding is_word spell
 currency_is p = by_shape CurrencyType (λ s. nat_eq s 8) tt refl currency_many p
+
+-- ---- keys of `t`
+
+-- no key is a script, a region or a variant
+pub key_no_script : (p : Text) → IsWord TransformKey p → is_word Script p ≡ false
+key_no_script p h = false_from_ne_true _
+    (λ e. let k = length-script p e in let n = length-transform_key p h in absurd (omega arith))
+
+pub key_no_variant : (p : Text) → IsWord TransformKey p → is_word Variant p ≡ false
+key_no_variant p h = false_from_ne_true _
+    (λ e. let k = length-variant p e in let n = length-transform_key p h in absurd (omega arith))
+
+pub key_no_region : (p : Text) → IsWord TransformKey p → is_word Region p ≡ false
+key_no_region p h = region_is p
+    ∙ ap (λ s. nat_eq s 4 || nat_eq s 15) (eqb-true (shape_of p) 6 (sym (field_key_is p) ∙ h))

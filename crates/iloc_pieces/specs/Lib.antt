@@ -10,4 +10,4 @@ pub mod Normal
 pub mod Marks
 pub mod Shape
 pub mod Piece
-pub mod Left
+pub mod Cursor

@@ -30,7 +30,7 @@ pub fn may_begin(text: Window<'_>) -> bool
 
 /// Whether the first `len` bytes begin with a language. If not, no language comes first.
 #[inline(always)]
-pub fn begins_with_language(v: u8x16, len: usize) -> bool
+pub fn lanes_begin_with_language(v: u8x16, len: usize) -> bool
     requires { len ≤ 16 }
     ensures { result ≡ false → HasNoLanguage (take len v) }
 {

@@ -9,16 +9,16 @@
 //! which letters are turned to upper case. docs/ARCHITECTURE.md says how to add a shape.
 //!
 //! **Beginnings** (`front`). `may_begin` says by the length of the first piece that a line begins with no
-//! language (`HasNoLanguage`), and `begins_with_language` says it of a short text with no room behind it. `find_block`
+//! language (`HasNoLanguage`), and `lanes_begin_with_language` says it of a short text with no room behind it. `find_block`
 //! finds the first piece of one byte, whatever comes before it (`IsFound`). Sixteen bytes from
 //! a piece on show its length and whether it is a word (`run`, `words`).
 //!
 //! Of both, `None` says nothing: the caller reads the text as it would without them. So each caller keeps its own contract,
 //! and a form that is not known here costs time and nothing else.
 //!
-//! **Pieces** (`marks`, `shape`, `left`). Masks of sixteen bytes say where a piece ends, which of its bytes are no letters,
+//! **Pieces** (`marks`, `shape`, `cursor`). Masks of sixteen bytes say where a piece ends, which of its bytes are no letters,
 //! and which are in no word. They give a piece its *shape*: a bit for each byte, set for a digit, and a last one above. By
-//! its shape a piece is tested for each kind of word. `left` holds what is left of a text, from a piece on: `left_in`
+//! its shape a piece is tested for each kind of word. A `Cursor` is what is left of a text, from a piece on: `cursor_in`
 //! begins, `next` gives the next piece, `advance` goes on to it, and `word_number` gives the number by which words are
 //! ordered. The tests are those of the grammar (`is_word`), and what is left after a piece is what its hyphen leaves
 //! (`IsNextPiece`).
@@ -29,14 +29,14 @@
 //! It allocates nothing. It stands on the grammar (`iloc_spec_grammar`) and on pieces as numbers (`iloc_tinystr`).
 #![tactic(auto)]
 
-mod cursor;
+pub mod cursor;
 pub mod front;
 mod lanes;
-pub mod left;
 pub mod load;
 mod marked;
 pub mod marks;
 pub mod normal;
+mod place;
 pub mod plain;
 mod read;
 mod run;
@@ -45,7 +45,7 @@ mod tail;
 pub mod window;
 pub mod words;
 
-pub use front::{begins_with_language, find_block, may_begin};
+pub use front::{find_block, lanes_begin_with_language, may_begin};
 pub use load::first_in_lower_case;
 pub use marked::{before_marked, is_language_length};
 pub use normal::{PlainText, are_same, normal_plain};

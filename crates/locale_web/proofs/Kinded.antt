@@ -32,8 +32,8 @@ use Rattle.iloc_spec_grammar.proofs.ValuesLaws.{all_weaker, all_both, spelled_ru
 use Rattle.iloc_spec_grammar.proofs.WordsLaws.{length-language, length-script, length-region, length-variant}
 use Rattle.iloc_spec_grammar.proofs.WordsLaws.{length-attribute, length-unicode_key, length-transform_key}
 use Rattle.iloc_spec_grammar.proofs.WordsLaws.{region_no_script, variant_no_script, variant_no_region}
-use Rattle.iloc_pieces.specs.Left.{IsShortPiece}
-use Rattle.iloc_pieces.proofs.LeftLemmas.{short_word}
+use Rattle.iloc_pieces.specs.Cursor.{IsShortPiece}
+use Rattle.iloc_pieces.proofs.CursorLemmas.{short_word}
 use Rattle.locale_web.specs.Kinds.{KindedPiece, of_kind, parts_of_identifier, parts_of_optional}
 use Rattle.locale_web.specs.Kinds.{parts_of_fields, parts_of_block, parts_of_transform, parts_of_unicode}
 use Rattle.locale_web.specs.Kinds.{parts_of_others, parts_of_private, parts_of_extensions, parts_of, IsOfKind}

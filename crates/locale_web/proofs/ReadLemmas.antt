@@ -15,19 +15,19 @@ use Rattle.iloc_outline.specs.declared.outline.Outline.{Outline}
 use Rattle.iloc_spans.specs.declared.spans.Spans.{Spans}
 use Rattle.iloc_normalize.specs.declared.Mode.TheVariants.{Langid, Locale, Data}
 use Rattle.locale_web.specs.Reading.{IsReadInto, IsNormalWithin}
-use Rattle.locale_web.specs.declared.reading.Found.TheVariants as founds
+use Rattle.locale_web.specs.declared.reading.ReadText.TheVariants as read_texts
 
 -- an identifier's outline gives its normal text, which is as long
 pub identifier_outlined : (t : Text) (spans : Spans) (o : Outline) (i : Identifier) →
     IdentifierMeans languages (pieces t) i
-    → Gives t o spans (identifier_text i) → IsReadInto Langid t spans (founds.Outlined o)
+    → Gives t o spans (identifier_text i) → IsReadInto Langid t spans (read_texts.Outlined o)
 identifier_outlined t spans o i m g =
     let long : length (identifier_text i) ≡ length t = length-identifier_means languages t i m in
     (identifier_text i, record { meant = (i, m, refl); few = omega (arith, long) }, g)
 
 -- a locale's outline gives its normal text, which is no longer
 pub locale_outlined : (t : Text) (spans : Spans) (o : Outline) (M : grammar.Locale) → Means languages t M
-    → Gives t o spans (text M) → IsReadInto Locale t spans (founds.Outlined o)
+    → Gives t o spans (text M) → IsReadInto Locale t spans (read_texts.Outlined o)
 locale_outlined t spans o M m g =
     let long : length (text M) ≤ length t = shortest languages t M m in
     (text M, record { meant = (M, m, refl); few = omega (arith, long) }, g)

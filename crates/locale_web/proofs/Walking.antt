@@ -6,10 +6,10 @@ use Rattle.std.proofs.lemmas.List.{take_at, drop_at, drop-drop}
 use Rattle.iloc_spec_grammar.specs.Syntax.{Text, pieces, first_piece}
 use Rattle.iloc_spec_grammar.specs.Meaning.{Locale}
 use Rattle.iloc_spec_grammar.proofs.PiecesLaws.{at_pieces}
-use Rattle.iloc_pieces.specs.Left.{IsNextPiece, IsShortPiece, bytes_left, piece_left}
-use Rattle.iloc_pieces.specs.Left.{pieces_left}
-use Rattle.iloc_pieces.specs.declared.cursor.Left.{Left}
-use Rattle.iloc_pieces.proofs.LeftLemmas.{first_within, last_piece, length_piece, length_rest, next_at}
+use Rattle.iloc_pieces.specs.Cursor.{IsNextPiece, IsShortPiece, bytes_left, piece_left}
+use Rattle.iloc_pieces.specs.Cursor.{pieces_left}
+use Rattle.iloc_pieces.specs.declared.place.Cursor.{Cursor}
+use Rattle.iloc_pieces.proofs.CursorLemmas.{first_within, last_piece, length_piece, length_rest, next_at}
 use Rattle.locale_web.specs.Kinds.{KindedPiece, IsNormalTextOf, kind_number, parts_of, rows_from, rows_of}
 use Rattle.locale_web.specs.Steps.{AreShortPieces, step, kinded}
 use Rattle.locale_web.specs.declared.state.State.{State}
@@ -19,24 +19,24 @@ use Rattle.locale_web.proofs.Kinded.{text_kinded}
 -- ---- a piece that is left
 
 -- the first of short pieces is short
-pub first_short : (l : Left) → AreShortPieces (pieces_left l) → IsShortPiece (piece_left l)
+pub first_short : (l : Cursor) → AreShortPieces (pieces_left l) → IsShortPiece (piece_left l)
 first_short l h = at_pieces (λ ps. AreShortPieces ps → IsShortPiece (first_piece ps)) (λ p ps h. h.0)
     (bytes_left l) h
 
-whole : (t : Text) (l : Left) → bytes_left l ≡ take (length t) t → pieces_left l ≡ pieces t
+whole : (t : Text) (l : Cursor) → bytes_left l ≡ take (length t) t → pieces_left l ≡ pieces t
 whole t l e = ap pieces (e ∙ take_all (length t) t (omega arith))
 
 -- ---- counting
 
 -- so many pieces were counted, up to this one
-pub record IsCounted (t : Text) (at : Left) (count : ℕ) : Type 0 where
+pub record IsCounted (t : Text) (at : Cursor) (count : ℕ) : Type 0 where
   pub short : AreShortPieces (pieces_left at)
   pub sum : count + length (pieces_left at) ≡ length (pieces t) + 1
   pub few : count ≤ at.at + 1
-  pub end : at.at + at.len ≡ length t
+  pub end : at.at + at.remaining ≡ length t
 
-pub count_begins : (t : Text) (at : Left) → AreShortPieces (pieces t) → at.at ≡ 0
-    → at.len ≡ length t → bytes_left at ≡ take (length t) t → IsCounted t at 1
+pub count_begins : (t : Text) (at : Cursor) → AreShortPieces (pieces t) → at.at ≡ 0
+    → at.remaining ≡ length t → bytes_left at ≡ take (length t) t → IsCounted t at 1
 count_begins t at h a n e =
     let w = whole t at e in
     record {
@@ -47,7 +47,7 @@ count_begins t at h a n e =
       end = omega arith;
     }
 
-pub count_ends : {t : Text} {at : Left} {count : ℕ} → IsCounted t at count → at.n ≡ at.len
+pub count_ends : {t : Text} {at : Cursor} {count : ℕ} → IsCounted t at count → at.piece_length ≡ at.remaining
     → count ≡ length (pieces t)
 count_ends {t} {at} {count} c e =
     let one = last_piece at e (first_short at c.short) in
@@ -73,18 +73,18 @@ unfolding rows_of
 length_rows_of ps = length_rows 0 ps
 
 -- the rows up to this piece stand in the table, and what was behind them still does
-pub record IsWritten (t : Text) (at : Left) (s : State) (from : ℕ) (before table : Text) : Type 0 where
+pub record IsWritten (t : Text) (at : Cursor) (s : State) (from : ℕ) (before table : Text) : Type 0 where
   pub short : AreShortPieces (pieces_left at)
   pub done : Text
   pub long : length done ≡ from
   pub rows : rows_from 0 (kinded Start (pieces t)) ≡ done ++ rows_from at.at (kinded s (pieces_left at))
   pub stands : table ≡ done ++ drop from before
   pub fits : from + 3 * length (pieces_left at) ≤ length before
-  pub end : at.at + at.len ≡ length t
+  pub end : at.at + at.remaining ≡ length t
 
-pub write_begins : (M : Locale) (t : Text) (at : Left) (before : Text) → IsNormalTextOf M t
+pub write_begins : (M : Locale) (t : Text) (at : Cursor) (before : Text) → IsNormalTextOf M t
     → length (rows_of (parts_of M)) ≤ length before
-    → at.at ≡ 0 → at.len ≡ length t → bytes_left at ≡ take (length t) t
+    → at.at ≡ 0 → at.remaining ≡ length t → bytes_left at ≡ take (length t) t
     → IsWritten t at Start 0 before before
 unfolding rows_of
 write_begins M t at before h room a n e =
@@ -99,13 +99,13 @@ write_begins M t at before h room a n e =
       end = omega arith;
     }
 
-module _ {t : Text} {at : Left} {s : State} {from : ℕ} {before table : Text}
+module _ {t : Text} {at : Cursor} {s : State} {from : ℕ} {before table : Text}
     (h : IsWritten t at s from before table) where
   -- the three numbers of this piece
   abbrev row : Text → Text
-  row rest = at.at ∷ (at.at + at.n) ∷ kind_number (step s (piece_left at)).0 ∷ rest
+  row rest = at.at ∷ (at.at + at.piece_length) ∷ kind_number (step s (piece_left at)).0 ∷ rest
 
-  long_is : at.n ≡ length (piece_left at)
+  long_is : at.piece_length ≡ length (piece_left at)
   long_is = length_piece at (first_short at h.short)
 
   -- the table with them
@@ -141,10 +141,10 @@ module _ {t : Text} {at : Left} {s : State} {from : ℕ} {before table : Text}
       )) (bytes_left at) h.fits
 
   -- the piece ends within the text
-  pub ends_within : at.at + at.n ≤ length t
+  pub ends_within : at.at + at.piece_length ≤ length t
   ends_within = omega (arith, h.end, long_is, length_rest at, first_within (bytes_left at))
 
-  pub write_on : {m : Left} (after : Text) → after ≡ take from table ++ row (drop (from + 3) table)
+  pub write_on : {m : Cursor} (after : Text) → after ≡ take from table ++ row (drop (from + 3) table)
       → IsNextPiece at m
       → IsWritten t m (step s (piece_left at)).1 (from + 3) before after
   write_on {m} after e n =
@@ -162,7 +162,8 @@ module _ {t : Text} {at : Left} {s : State} {from : ℕ} {before table : Text}
       }
 
   -- all rows
-  pub write_ends : (after : Text) → after ≡ take from table ++ row (drop (from + 3) table) → at.n ≡ at.len
+  pub write_ends : (after : Text) → after ≡ take from table ++ row (drop (from + 3) table)
+      → at.piece_length ≡ at.remaining
       → (M : Locale) → IsNormalTextOf M t
       → after ≡ rows_of (parts_of M) ++ drop (length (rows_of (parts_of M))) before
   unfolding rows_of

@@ -9,8 +9,8 @@ use Rattle.iloc_normalize.specs.declared.Mode.TheVariants.{Data}
 use Rattle.iloc_data_parts.specs.PartsReading as parts
 use Rattle.iloc_outline.specs.Outlines.{Gives}
 use Rattle.iloc_spans.specs.declared.spans.Spans.{Spans}
-use Rattle.locale_web.specs.declared.reading.Found.{Found}
-use Rattle.locale_web.specs.declared.reading.Found.TheVariants as founds
+use Rattle.locale_web.specs.declared.reading.ReadText.{ReadText}
+use Rattle.locale_web.specs.declared.reading.ReadText.TheVariants as read_texts
 use Rattle.locale_web.specs.declared.normalizing.Placed.{Placed}
 use Rattle.locale_web.specs.declared.normalizing.Placed.TheVariants as placed
 
@@ -30,12 +30,12 @@ pub record IsNormalWithin (mode : Mode) (t : Text) (more : ℕ) (normal : Text) 
 
 -- the outline and the spans give the normal text, or the parts are printed as it; or the text is
 -- refused, or past the limits
-abbrev pub IsReadInto : Mode → Text → Spans → Found → Type 0
-IsReadInto mode t spans (founds.Outlined o) =
+abbrev pub IsReadInto : Mode → Text → Spans → ReadText → Type 0
+IsReadInto mode t spans (read_texts.Outlined o) =
     (normal : Text) × IsNormalWithin mode t 0 normal × Gives t o spans normal
-IsReadInto mode t spans (founds.Parts p) = IsNormalWithin mode t 4 (data_text (parts.value_of p))
-IsReadInto mode t spans (founds.Refused e) = HasRefusal mode t e
-IsReadInto mode t spans founds.Beyond = IsPastLimits mode t
+IsReadInto mode t spans (read_texts.Parts p) = IsNormalWithin mode t 4 (data_text (parts.value_of p))
+IsReadInto mode t spans (read_texts.Refused e) = HasRefusal mode t e
+IsReadInto mode t spans read_texts.Beyond = IsPastLimits mode t
 
 -- the first bytes are the normal text; or the text is refused, or beyond what so much room is for
 abbrev pub IsPut : Mode → Text → ℕ → Text → Placed → Type 0

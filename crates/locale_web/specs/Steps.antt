@@ -5,7 +5,7 @@ use Rattle.std.specs.List.{AllByRecursion}
 use Rattle.iloc_spec_grammar.specs.Syntax.{Text, code_t, code_u, code_x, is_one_byte, is_word, TransformKey}
 use Rattle.iloc_spec_grammar.specs.Syntax.{UnicodeKey}
 use Rattle.iloc_spec_grammar.specs.Syntax as words
-use Rattle.iloc_pieces.specs.Left.{IsShortPiece}
+use Rattle.iloc_pieces.specs.Cursor.{IsShortPiece}
 use Rattle.locale_web.specs.Kinds.{KindedPiece}
 use Rattle.locale_web.specs.declared.kind.Kind.{Kind}
 use Rattle.locale_web.specs.declared.kind.Kind.TheVariants as kinds

@@ -6,7 +6,7 @@ ghost use Rattle.locale_web.specs.Answers.{NormalIsWritten, NothingIsWritten};
 ghost use Rattle.locale_web.specs.Reading.{IsPut};
 
 use crate::data::DataText;
-use crate::reading::{Found, read, text_end};
+use crate::reading::{ReadText, read, text_end};
 use iloc_calls::{Status, hand_out, hand_out_bytes};
 use iloc_data_parts::DataParts;
 use iloc_normalize::Mode;
@@ -68,12 +68,12 @@ fn put_with(mode: Mode, window: &[u8], len: usize, spans: &mut Spans, to: &mut [
     ensures { IsPut mode (take len window.now) (length to.old) to.new result }
 {
     match read(mode, window, len, spans) {
-        Found::Outlined(outline) => {
+        ReadText::Outlined(outline) => {
             Placed::Normal(copy_outline(window, len, &outline, spans, to))
         }
-        Found::Parts(parts) => Placed::Normal(put_parts(parts, to)),
-        Found::Refused(error) => Placed::Refused(error),
-        Found::Beyond => Placed::Beyond,
+        ReadText::Parts(parts) => Placed::Normal(put_parts(parts, to)),
+        ReadText::Refused(error) => Placed::Refused(error),
+        ReadText::Beyond => Placed::Beyond,
     }
 }
 

@@ -21,7 +21,7 @@ const MOST: usize = 65535;
 
 /// What a text is read as.
 #[derive(Drop)]
-pub(crate) enum Found {
+pub(crate) enum ReadText {
     /// An outline and spans give its normal text.
     Outlined(Outline),
     /// Its normal text is the text of these parts of a data locale.
@@ -42,54 +42,54 @@ pub(crate) fn text_end(window: &[u8], len: usize) -> usize
 }
 
 // Reads the first bytes as an identifier.
-fn read_identifier(window: &[u8], len: usize, spans: &mut Spans) -> Found
+fn read_identifier(window: &[u8], len: usize, spans: &mut Spans) -> ReadText
     requires { len ≤ length window.now }
     ensures { IsReadInto modes.Langid (take len window.now) spans.new result }
 {
     if len > MOST {
-        return Found::Beyond;
+        return ReadText::Beyond;
     }
     if !begins_with_language(window, len) {
-        return Found::Refused(ParseError::InvalidLanguage);
+        return ReadText::Refused(ParseError::InvalidLanguage);
     }
     match outline_identifier::<InPlace>(window, len, spans) {
-        Outlined::Normal(outline) => Found::Outlined(outline),
-        Outlined::Refused(error) => Found::Refused(error),
-        Outlined::Full => Found::Beyond,
+        Outlined::Normal(outline) => ReadText::Outlined(outline),
+        Outlined::Refused(error) => ReadText::Refused(error),
+        Outlined::Full => ReadText::Beyond,
     }
 }
 
 // Reads the first bytes as a locale.
-fn read_locale(window: &[u8], len: usize, spans: &mut Spans) -> Found
+fn read_locale(window: &[u8], len: usize, spans: &mut Spans) -> ReadText
     requires { len ≤ length window.now }
     ensures { IsReadInto modes.Locale (take len window.now) spans.new result }
 {
     if len > MOST {
-        return Found::Beyond;
+        return ReadText::Beyond;
     }
     if !begins_with_language(window, len) {
-        return Found::Refused(ParseError::InvalidLanguage);
+        return ReadText::Refused(ParseError::InvalidLanguage);
     }
     match outline_locale::<InPlace>(window, len, spans) {
-        Outlined::Normal(outline) => Found::Outlined(outline),
-        Outlined::Refused(error) => Found::Refused(error),
-        Outlined::Full => Found::Beyond,
+        Outlined::Normal(outline) => ReadText::Outlined(outline),
+        Outlined::Refused(error) => ReadText::Refused(error),
+        Outlined::Full => ReadText::Beyond,
     }
 }
 
 // Parses all of the text as a data locale.
 #[tactic(auto, using(crate::proofs::ReadLemmas::parts_within))]
-fn read_data(text: &[u8]) -> Found
+fn read_data(text: &[u8]) -> ReadText
     ensures { (spans : Spans) → IsReadInto modes.Data text.now spans result }
 {
     match DataParts::try_from_utf8(text) {
-        Ok(parts) => Found::Parts(parts),
-        Err(error) => Found::Refused(error),
+        Ok(parts) => ReadText::Parts(parts),
+        Err(error) => ReadText::Refused(error),
     }
 }
 
 /// Reads the first bytes in the mode. The spans are those of its outline, if it has one.
-pub(crate) fn read(mode: Mode, window: &[u8], len: usize, spans: &mut Spans) -> Found
+pub(crate) fn read(mode: Mode, window: &[u8], len: usize, spans: &mut Spans) -> ReadText
     requires { len ≤ length window.now }
     ensures { IsReadInto mode (take len window.now) spans.new result }
 {
@@ -119,8 +119,8 @@ fn judge_with(mode: Mode, window: &[u8], len: usize, spans: &mut Spans) -> Optio
         (IsJudged mode (take len window.now)) }
 {
     match read(mode, window, len, spans) {
-        Found::Outlined(_) | Found::Parts(_) => Some(Status::Done),
-        Found::Refused(error) => Some(Status::from(error)),
-        Found::Beyond => None,
+        ReadText::Outlined(_) | ReadText::Parts(_) => Some(Status::Done),
+        ReadText::Refused(error) => Some(Status::from(error)),
+        ReadText::Beyond => None,
     }
 }

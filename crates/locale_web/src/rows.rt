@@ -4,14 +4,14 @@ ghost use Rattle.iloc_spec_grammar.specs.Meaning.{Locale};
 ghost use Rattle.locale_web.specs.Kinds.{IsNormalTextOf, parts_of, rows_of};
 
 use crate::state::{State, step};
-use iloc_pieces::left::{is_last, left_in, next};
+use iloc_pieces::cursor::{cursor_in, is_last, next};
 
 /// How many pieces a normal text has.
 pub fn count_pieces(normal: &[u8]) -> usize
     requires { (M : Locale) × IsNormalTextOf M normal.now }
     ensures { (M : Locale) → IsNormalTextOf M normal.now → result ≡ length (parts_of M) }
 {
-    let mut at = left_in(normal, normal.len());
+    let mut at = cursor_in(normal, normal.len());
     let mut count = 1;
     'pieces: while !is_last(at) {
         at = next(at);
@@ -37,12 +37,12 @@ pub fn write_rows(normal: &[u8], table: &mut [usize])
     ensures { (M : Locale) → IsNormalTextOf M normal.now
         → table.new ≡ rows_of (parts_of M) ++ drop (length (rows_of (parts_of M))) table.old }
 {
-    let mut at = left_in(normal, normal.len());
+    let mut at = cursor_in(normal, normal.len());
     let mut state = State::Start;
     let mut from = 0;
     'pieces: loop {
         let (kind, then) = step(state, at);
-        write_row(table, from, at.at, at.at + at.n, kind.number());
+        write_row(table, from, at.at, at.at + at.piece_length, kind.number());
         if is_last(at) {
             break;
         }

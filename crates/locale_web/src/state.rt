@@ -1,10 +1,12 @@
 //! What a piece is after those before it.
 ghost use Rattle.std.specs.Prelude.{◌≡◌};
-ghost use Rattle.iloc_pieces.specs.Left.{piece_left};
+ghost use Rattle.iloc_pieces.specs.Cursor.{piece_left};
 ghost use Rattle.locale_web.specs.Steps.{is_singleton_piece, begun, inside, step, word_kind};
 
 use crate::kind::Kind;
-use iloc_pieces::left::{Left, is_field_key, is_key, is_region, is_script, is_single, singleton};
+use iloc_pieces::cursor::{
+    Cursor, is_field_key, is_key, is_region, is_script, is_single, singleton,
+};
 
 /// Which part the next piece is in, if it begins no other.
 #[derive(Clone, Copy, PartialEq, Eq)]
@@ -30,7 +32,7 @@ pub enum State {
 }
 
 // What a word after a language is.
-fn word_kind(at: Left<'_>) -> Kind
+fn word_kind(at: Cursor<'_>) -> Kind
     ensures { result ≡ word_kind (piece_left at.entry) }
 {
     if is_script(at) {
@@ -55,7 +57,7 @@ fn begun(byte: u8) -> State
 }
 
 // Whether the piece begins a part: it has one byte, and is not private.
-fn is_singleton_piece(state: State, at: Left<'_>) -> bool
+fn is_singleton_piece(state: State, at: Cursor<'_>) -> bool
     ensures { result ≡ is_singleton_piece state (piece_left at.entry) }
 {
     match state {
@@ -65,7 +67,7 @@ fn is_singleton_piece(state: State, at: Left<'_>) -> bool
 }
 
 // What a piece is that begins no part, and what comes after it.
-fn inside(state: State, at: Left<'_>) -> (Kind, State)
+fn inside(state: State, at: Cursor<'_>) -> (Kind, State)
     ensures { result ≡ inside state (piece_left at.entry) }
 {
     match state {
@@ -107,7 +109,7 @@ fn inside(state: State, at: Left<'_>) -> (Kind, State)
 }
 
 /// What the piece is, and what comes after it.
-pub fn step(state: State, at: Left<'_>) -> (Kind, State)
+pub fn step(state: State, at: Cursor<'_>) -> (Kind, State)
     ensures { result ≡ step state (piece_left at.entry) }
 {
     if is_singleton_piece(state, at) {

@@ -13,9 +13,9 @@ use iloc_outline::outline::{
     Outline, Outlined, begins_with_language, outline_identifier, outline_locale,
 };
 use iloc_outline::printing::copy_outline;
-use iloc_pieces::left::{
-    is_attribute, is_field_key, is_key, is_language, is_private, is_region, is_script, is_subtag,
-    is_variant, left_in,
+use iloc_pieces::cursor::{
+    cursor_in, is_attribute, is_field_key, is_key, is_language, is_private, is_region, is_script,
+    is_subtag, is_variant,
 };
 use iloc_spans::spans::Spans;
 use iloc_subtags::ParseError;
@@ -91,7 +91,7 @@ fn said_if(is_so: bool, word: &str, out: &mut String) {
 
 // Says which words the first piece may be.
 fn kinds(text: &[u8], out: &mut String) {
-    let first = left_in(text, text.len());
+    let first = cursor_in(text, text.len());
     said_if(is_language(first), "language", out);
     said_if(is_script(first), "script", out);
     said_if(is_region(first), "region", out);

@@ -8,4 +8,4 @@ invariant-pieces g l = (ps : List Text) → IsReadUpTo l.mode ps l.fn.from l.fn.
     IsReadOn l.mode ps l.fn.from l.at l.reading
 
 abbrev pub decreases-pieces : goal.decreases-pieces
-decreases-pieces g l = l.at.len
+decreases-pieces g l = l.at.remaining

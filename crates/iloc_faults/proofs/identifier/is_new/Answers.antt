@@ -1,6 +1,6 @@
 use Rattle.std.proofs.Common.{◌≡◌, false, ℕ, Option, sym, subst}
 use Rattle.iloc_spec_grammar.specs.Syntax.{lower}
-use Rattle.iloc_pieces.specs.Left.{piece_left}
+use Rattle.iloc_pieces.specs.Cursor.{piece_left}
 use Rattle.iloc_normalize.specs.declared.Mode.{Mode}
 use Rattle.iloc_faults.specs.Next.{is_new}
 use Rattle.iloc_faults.specs.States.{AreVariantsRead}

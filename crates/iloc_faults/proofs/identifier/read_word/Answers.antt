@@ -1,5 +1,5 @@
 use Rattle.std.proofs.Common.{Some, None, sym, ◌∙◌, subst}
-use Rattle.iloc_pieces.specs.Left.{piece_left}
+use Rattle.iloc_pieces.specs.Cursor.{piece_left}
 use Rattle.iloc_faults.specs.declared.state.Stage.{Stage}
 use Rattle.iloc_faults.specs.declared.state.Stage.TheVariants.{Script}
 use Rattle.iloc_faults.specs.Next.{word_next}

@@ -1,4 +1,4 @@
-use Rattle.iloc_pieces.proofs.LeftLemmas.{short_variant}
+use Rattle.iloc_pieces.proofs.CursorLemmas.{short_variant}
 use Rattle.iloc_faults.proofs.VariantsLeft.{numbers_last, numbers_next}
 use Rattle.iloc_faults.proofs.repeats.after.Goals as goal
 

@@ -1,5 +1,5 @@
 use Rattle.std.proofs.Common.{sym, ◌∙◌, arith}
-use Rattle.iloc_pieces.proofs.LeftLemmas.{short_variant}
+use Rattle.iloc_pieces.proofs.CursorLemmas.{short_variant}
 use Rattle.iloc_faults.proofs.VariantsLeft.{one_alone}
 use Rattle.iloc_faults.proofs.repeats.count_variants.Goals as goal
 

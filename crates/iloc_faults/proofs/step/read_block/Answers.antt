@@ -2,7 +2,7 @@ use Rattle.std.proofs.Common.{◌^◌, ℕ, ◌∷◌, slice_index, sym, ap, ◌
 use Rattle.std.specs.Char.{is_ascii_alphanumeric, to_ascii_lowercase}
 use Rattle.std.proofs.lemmas.Bool.{and_parts}
 use lib.Bits.{bit_and, bit_or}
-use Rattle.iloc_pieces.specs.Left.{piece_left}
+use Rattle.iloc_pieces.specs.Cursor.{piece_left}
 use Rattle.iloc_faults.specs.Next.{may_end, part_of}
 use Rattle.iloc_faults.specs.States.{AreSingletonsSeen, bit_place}
 use Rattle.iloc_faults.proofs.Bits.{seen_set, seen_not, seen_more}

@@ -1,5 +1,5 @@
 use Rattle.std.proofs.Common.{sym, ◌∙◌}
-use Rattle.iloc_pieces.proofs.LeftLemmas.{short_attribute}
+use Rattle.iloc_pieces.proofs.CursorLemmas.{short_attribute}
 use Rattle.iloc_faults.proofs.step.read_piece.Goals as goal
 
 pub is_true-requires : goal.is_true-requires

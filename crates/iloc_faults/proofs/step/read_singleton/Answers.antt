@@ -1,5 +1,5 @@
 use Rattle.std.proofs.Common.{sym, subst, slice_index}
-use Rattle.iloc_pieces.specs.Left.{piece_left}
+use Rattle.iloc_pieces.specs.Cursor.{piece_left}
 use Rattle.iloc_normalize.specs.declared.Mode.{Mode}
 use Rattle.iloc_faults.specs.Next.{block_next}
 use Rattle.iloc_faults.specs.States.{IsPieceRead}

@@ -1,7 +1,7 @@
 use Rattle.std.proofs.Common.{sym, ◌∙◌, subst}
 use Rattle.iloc_spec_grammar.specs.Syntax.{Attribute, IsWord}
-use Rattle.iloc_pieces.specs.Left.{piece_left}
-use Rattle.iloc_pieces.proofs.LeftLemmas.{short_attribute}
+use Rattle.iloc_pieces.specs.Cursor.{piece_left}
+use Rattle.iloc_pieces.proofs.CursorLemmas.{short_attribute}
 use Rattle.iloc_faults.proofs.Bits.{cut_bytes, cut_inside, named_next}
 use Rattle.iloc_faults.proofs.step.read_subdivision.Goals as goal
 

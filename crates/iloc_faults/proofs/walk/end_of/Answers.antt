@@ -1,5 +1,5 @@
 use Rattle.std.proofs.Common.{◌+◌, ℕ, ap, arith}
-use Rattle.iloc_faults.proofs.Bits.{few_long}
+use Rattle.iloc_pieces.proofs.CursorLemmas.{few_long}
 use Rattle.iloc_faults.proofs.Walks.{scan_ends}
 use Rattle.iloc_faults.proofs.walk.end_of.Goals as goal
 

@@ -5,8 +5,8 @@ use Rattle.iloc_faults.proofs.Walks.{none_else}
 use Rattle.iloc_faults.proofs.walk.walk.Goals as goal
 
 pub pieces-init : goal.pieces-init
-pieces-init g c = walk_starts c.args.mode (take c.args.len c.args.window.now) c.left_in-at.result
-    c.left_in-at.ensures.at c.left_in-at.ensures.rest
+pieces-init g c = walk_starts c.args.mode (take c.args.len c.args.window.now) c.cursor_in-at.result
+    c.cursor_in-at.ensures.at c.cursor_in-at.ensures.rest
 
 pub returns-in_default-clause-bad : goal.returns-in_default-clause-bad
 returns-in_default-clause-bad g c =

@@ -6,4 +6,4 @@ abbrev pub invariant-pieces : goal.invariant-pieces
 invariant-pieces g l = IsWalked l.mode (take l.len l.window) l.at l.state
 
 abbrev pub decreases-pieces : goal.decreases-pieces
-decreases-pieces g l = l.at.len
+decreases-pieces g l = l.at.remaining

@@ -1,12 +1,12 @@
 use Rattle.std.proofs.Common.{◌≡◌, ◌+◌, inl, inr, Bool, false, true, [], ◌∷◌, refl, sym, ◌∙◌, subst, arith}
-use Rattle.iloc_pieces.specs.Left.{piece_left, pieces_left}
-use Rattle.iloc_pieces.specs.declared.cursor.Left.{Left}
-use Rattle.iloc_pieces.proofs.LeftLemmas.{last_piece, length_piece, next_at, short_variant}
+use Rattle.iloc_pieces.specs.Cursor.{piece_left, pieces_left}
+use Rattle.iloc_pieces.specs.declared.place.Cursor.{Cursor}
+use Rattle.iloc_pieces.proofs.CursorLemmas.{last_piece, length_piece, next_at, short_variant}
 use Rattle.iloc_outline.specs.Identifier.{IsAfterFront, IsFrontRead}
 use Rattle.iloc_outline.specs.Reading.{unless_end}
 use Rattle.iloc_outline.specs.declared.identifier.Front.{Front}
 use Rattle.iloc_normalize.specs.Data.{IsDataBehind}
-use Rattle.iloc_normalize.specs.declared.data.Head.{Head}
+use Rattle.iloc_normalize.specs.declared.data.DataHead.{DataHead}
 use Rattle.iloc_normalize.proofs.Reading.{all_front, at_front, end_there, front_head}
 use Rattle.iloc_normalize.proofs.Reading.{pieces_there}
 use Rattle.iloc_normalize.proofs.Reading.{read_alone, read_on, varied_head, window_there, within_there}
@@ -14,7 +14,7 @@ use Rattle.iloc_normalize.proofs.data.read_data.Goals as goal
 use Rattle.iloc_normalize.proofs.data.read_data.Goals.{then-is_variant+else-is_last, else-is_variant}
 
 -- whether something follows the front
-follows : (l m : Left) (f : Front) (all : Bool) → IsFrontRead l m f → f.is_all ≡ all
+follows : (l m : Cursor) (f : Front) (all : Bool) → IsFrontRead l m f → f.is_all ≡ all
     → IsAfterFront l (unless_end all m)
 follows l m f all h e = subst (λ (b : Bool). IsAfterFront l (unless_end b m)) e h.next
 
@@ -22,30 +22,30 @@ pub returns-then-front : goal.returns-then-front
 returns-then-front c =
     let w = c.args.window.now in
     let len = c.args.len in
-    let l = c.left_in-left.result in
-    let e = c.left_in-left.ensures in
-    let m = c.read_front-front.new.left in
+    let l = c.cursor_in-cursor.result in
+    let e = c.cursor_in-cursor.ensures in
+    let m = c.read_front-front.new.cursor in
     let f = c.read_front-front.result in
     let read = c.read_front-front.ensures in
-    let cut = all_front w len c.requires.inside c.requires.begins l e.rest e.at e.len e.window m f
+    let cut = all_front w len c.requires.inside c.requires.begins l e.rest e.at e.remaining e.window m f
     read
     (follows l m f true read c.if-front.true) in
     read_alone w len c.requires.begins [] tt (omega arith) (record { front = f; end = f.end })
-    (front_head w len c.requires.inside c.requires.begins l e.rest e.at e.len e.window m f read []
+    (front_head w len c.requires.inside c.requires.begins l e.rest e.at e.remaining e.window m f read []
     cut) cut
-    (let a = read.inside in let b = e.at in let d = e.len in omega (arith, a, b, d))
+    (let a = read.inside in let b = e.at in let d = e.remaining in omega (arith, a, b, d))
 
 pub overflow_add-head : goal.overflow_add-head
 overflow_add-head c =
-    let l = c.left_in-left.result in
-    let e = c.left_in-left.ensures in
+    let l = c.cursor_in-cursor.result in
+    let e = c.cursor_in-cursor.ensures in
     let f = c.read_front-front.result in
     let read = c.read_front-front.ensures in
-    let m = c.read_front-front.new.left in
+    let m = c.read_front-front.new.cursor in
     let word = sym c.is_variant.ensures ∙ c.if-is_variant.true in
     omega (
       arith,
-      within_there c.args.window.now c.args.len c.requires.inside c.requires.begins l e.rest e.at e.len
+      within_there c.args.window.now c.args.len c.requires.inside c.requires.begins l e.rest e.at e.remaining
           e.window m
           f read
           (follows l m f false read c.if-front.false) word,
@@ -56,24 +56,24 @@ pub returns-then-is_last : goal.returns-then-is_last
 returns-then-is_last c =
     let w = c.args.window.now in
     let len = c.args.len in
-    let l = c.left_in-left.result in
-    let e = c.left_in-left.ensures in
-    let m = c.read_front-front.new.left in
+    let l = c.cursor_in-cursor.result in
+    let e = c.cursor_in-cursor.ensures in
+    let m = c.read_front-front.new.cursor in
     let f = c.read_front-front.result in
     let read = c.read_front-front.ensures in
     let after = follows l m f false read c.if-front.false in
     let word = sym c.is_variant.ensures ∙ c.if-is_variant.true in
     let last = last_piece m (c.is_last.ensures.0 c.if-is_last.true) (short_variant _ word) in
-    let cut = pieces_there w len c.requires.inside c.requires.begins l e.rest e.at e.len e.window m
+    let cut = pieces_there w len c.requires.inside c.requires.begins l e.rest e.at e.remaining e.window m
     f read after ∙ last.one in
     read_alone w len c.requires.begins (piece_left m ∷ []) (word, tt) (omega arith) (record {
       front =
           f;
-      end = m.at + m.n;
+      end = m.at + m.piece_length;
     })
-    (varied_head w len c.requires.inside c.requires.begins l e.rest e.at e.len e.window m f read
+    (varied_head w len c.requires.inside c.requires.begins l e.rest e.at e.remaining e.window m f read
     after word [] cut) cut
-    (within_there w len c.requires.inside c.requires.begins l e.rest e.at e.len e.window m f read
+    (within_there w len c.requires.inside c.requires.begins l e.rest e.at e.remaining e.window m f read
     after word)
 
 pub advance-requires-clause-short : goal.advance-requires-clause-short
@@ -83,24 +83,24 @@ pub returns : goal.returns
 returns c =
     let w = c.args.window.now in
     let len = c.args.len in
-    let l = c.left_in-left.result in
-    let e = c.left_in-left.ensures in
-    let m = c.read_front-front.new.left in
+    let l = c.cursor_in-cursor.result in
+    let e = c.cursor_in-cursor.ensures in
+    let m = c.read_front-front.new.cursor in
     let f = c.read_front-front.result in
     let read = c.read_front-front.ensures in
     let after = follows l m f false read c.if-front.false in
-    let there = pieces_there w len c.requires.inside c.requires.begins l e.rest e.at e.len e.window
+    let there = pieces_there w len c.requires.inside c.requires.begins l e.rest e.at e.remaining e.window
     m f read after in
-    let at = at_front w len c.requires.inside c.requires.begins l e.rest e.at e.len e.window m f
+    let at = at_front w len c.requires.inside c.requires.begins l e.rest e.at e.remaining e.window m f
     read after in
-    let end = end_there w len c.requires.inside c.requires.begins l e.rest e.at e.len e.window m f
+    let end = end_there w len c.requires.inside c.requires.begins l e.rest e.at e.remaining e.window m f
     read after in
-    let window = window_there w len c.requires.inside c.requires.begins l e.rest e.at e.len e.window
+    let window = window_there w len c.requires.inside c.requires.begins l e.rest e.at e.remaining e.window
     m f read after in
     elim c.if-is_variant.branch [
       | then-is_variant+else-is_last x ↦
           let word = sym c.is_variant.ensures ∙ x.if-is_variant.true in
-          let k = x.advance.new.left in
+          let k = x.advance.new.cursor in
           let n = x.advance.ensures in
           let cut = there ∙ n.pieces in
           let next = next_at m k n in
@@ -109,21 +109,21 @@ returns c =
           read_on w len c.requires.begins (piece_left m ∷ []) (word, tt) (omega arith) (record {
             front =
                 f;
-            end = m.at + m.n;
+            end = m.at + m.piece_length;
           })
-          (varied_head w len c.requires.inside c.requires.begins l e.rest e.at e.len e.window m f
+          (varied_head w len c.requires.inside c.requires.begins l e.rest e.at e.remaining e.window m f
           read after word (pieces_left k) cut)
           k cut (n.window ∙ window) (omega (arith, next, size)) (omega (arith, stop, end)) (inr refl)
-          c.read_block.result (subst (λ (g : Head). IsDataBehind g k c.read_block.result) x.head-is
-          (subst (λ (q : Left). IsDataBehind c.if-is_variant.head q c.read_block.result) x.left-is
+          c.read_block.result (subst (λ (g : DataHead). IsDataBehind g k c.read_block.result) x.head-is
+          (subst (λ (q : Cursor). IsDataBehind c.if-is_variant.head q c.read_block.result) x.cursor-is
           c.read_block.ensures))
       | else-is_variant x ↦
           let other = sym c.is_variant.ensures ∙ x.if-is_variant.false in
           read_on w len c.requires.begins [] tt (omega arith) (record { front = f; end = f.end })
-          (front_head w len c.requires.inside c.requires.begins l e.rest e.at e.len e.window m f
+          (front_head w len c.requires.inside c.requires.begins l e.rest e.at e.remaining e.window m f
           read (pieces_left m) there)
           m there window at end (inl (refl, other))
-          c.read_block.result (subst (λ (g : Head). IsDataBehind g m c.read_block.result) x.head-is
-          (subst (λ (k : Left). IsDataBehind c.if-is_variant.head k c.read_block.result) x.left-is
+          c.read_block.result (subst (λ (g : DataHead). IsDataBehind g m c.read_block.result) x.head-is
+          (subst (λ (k : Cursor). IsDataBehind c.if-is_variant.head k c.read_block.result) x.cursor-is
           c.read_block.ensures))
     ]

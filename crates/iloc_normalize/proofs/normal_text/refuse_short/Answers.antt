@@ -5,4 +5,4 @@ use Rattle.iloc_normalize.proofs.normal_text.refuse_short.Goals as goal
 pub returns : goal.returns
 returns c =
     λ mode. no_language_refused mode (take c.args.len c.args.v)
-    (c.begins_with_language.ensures c.if-begins_with_language.false)
+    (c.lanes_begin_with_language.ensures c.if-lanes_begin_with_language.false)

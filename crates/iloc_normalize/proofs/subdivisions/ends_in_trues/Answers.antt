@@ -1,6 +1,6 @@
 use Rattle.std.proofs.Common.{sym, ap, ◌∙◌}
 use Rattle.iloc_spec_grammar.specs.Reading.{rest_of}
-use Rattle.iloc_pieces.proofs.LeftLemmas.{last_piece, short_attribute}
+use Rattle.iloc_pieces.proofs.CursorLemmas.{last_piece, short_attribute}
 use Rattle.iloc_normalize.specs.Subdivisions.{are_trues}
 use Rattle.iloc_normalize.proofs.Subtags.{goes_on, no_true, no_word}
 use Rattle.iloc_normalize.proofs.subdivisions.ends_in_trues.Goals as goal

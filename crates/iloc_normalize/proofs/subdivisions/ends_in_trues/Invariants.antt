@@ -1,6 +1,6 @@
 use Rattle.std.proofs.Common.{◌≡◌}
 use Rattle.iloc_spec_grammar.specs.Reading.{rest_of}
-use Rattle.iloc_pieces.specs.Left.{IsShortPiece, piece_left, pieces_left}
+use Rattle.iloc_pieces.specs.Cursor.{IsShortPiece, piece_left, pieces_left}
 use Rattle.iloc_normalize.specs.Subdivisions.{are_trues}
 use Rattle.iloc_normalize.proofs.subdivisions.ends_in_trues.Given as goal
 
@@ -12,4 +12,4 @@ invariant-trues l = record {
 }
 
 abbrev pub decreases-trues : goal.decreases-trues
-decreases-trues l = l.at.len
+decreases-trues l = l.at.remaining

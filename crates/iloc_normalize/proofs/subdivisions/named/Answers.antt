@@ -1,6 +1,6 @@
 use Rattle.std.proofs.Common.{inr, refl, sym, ◌∙◌, subst}
-use Rattle.iloc_pieces.specs.Left.{piece_left}
-use Rattle.iloc_pieces.proofs.LeftLemmas.{length_piece, short_attribute}
+use Rattle.iloc_pieces.specs.Cursor.{piece_left}
+use Rattle.iloc_pieces.proofs.CursorLemmas.{length_piece, short_attribute}
 use Rattle.iloc_normalize.specs.Subdivisions.{EndsRegion}
 use Rattle.iloc_normalize.proofs.Names.{all_there, long_there, named_there, shape_there, unnamed}
 use Rattle.iloc_normalize.proofs.subdivisions.named.Goals as goal

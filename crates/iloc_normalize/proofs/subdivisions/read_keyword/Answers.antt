@@ -2,8 +2,8 @@ use Rattle.std.proofs.Common.{inr, sym, ap, ◌∙◌}
 use Rattle.std.specs.Prelude.{option_and_then}
 use Rattle.iloc_spec_grammar.specs.Reading.{first_item}
 use Rattle.iloc_spec_parts.specs.DataLocales.{named_subdivision}
-use Rattle.iloc_pieces.specs.Left.{piece_left, pieces_left}
-use Rattle.iloc_pieces.proofs.LeftLemmas.{short_key}
+use Rattle.iloc_pieces.specs.Cursor.{piece_left, pieces_left}
+use Rattle.iloc_pieces.proofs.CursorLemmas.{short_key}
 use Rattle.iloc_normalize.proofs.Behind.{attribute_behind, misfit_behind, no_key_behind, unnamed_pieces}
 use Rattle.iloc_normalize.proofs.Keywords.{keyword_named}
 use Rattle.iloc_normalize.proofs.subdivisions.read_keyword.Goals as goal

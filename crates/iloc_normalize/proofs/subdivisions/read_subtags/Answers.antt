@@ -1,5 +1,5 @@
 use Rattle.std.proofs.Common.{sym, ◌∙◌}
-use Rattle.iloc_pieces.proofs.LeftLemmas.{last_piece, short_attribute}
+use Rattle.iloc_pieces.proofs.CursorLemmas.{last_piece, short_attribute}
 use Rattle.iloc_normalize.proofs.Subtags.{misfit, not_only, only_one, only_trues, reaches_key, reaches_more}
 use Rattle.iloc_normalize.proofs.subdivisions.read_subtags.Goals as goal
 

@@ -6,4 +6,4 @@ abbrev pub invariant-trues : goal.invariant-trues
 invariant-trues l = Reaches l.fn.key l.at
 
 abbrev pub decreases-trues : goal.decreases-trues
-decreases-trues l = l.at.len
+decreases-trues l = l.at.remaining

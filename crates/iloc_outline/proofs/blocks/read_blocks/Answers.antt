@@ -2,13 +2,13 @@ use Rattle.std.proofs.Common.{◌≡◌, inl, inr, ℕ, List, [], true, sym, ap,
 use Rattle.std.specs.Char.{is_ascii_alphanumeric}
 use Rattle.iloc_spec_grammar.specs.Syntax.{Text}
 use Rattle.iloc_outline.specs.Blocks.{IsBlockRead}
-use Rattle.iloc_pieces.specs.Left.{piece_left, pieces_left, whole_text}
+use Rattle.iloc_pieces.specs.Cursor.{piece_left, pieces_left, whole_text}
 use Rattle.iloc_outline.specs.Parts.{rank}
 use Rattle.iloc_outline.specs.declared.reading.Found.{Found}
 use Rattle.iloc_outline.specs.declared.reading.Found.TheVariants.{Bad, End, Full, Next, Repeated}
 use Rattle.iloc_spans.specs.declared.spans.Spans.{Spans}
 use Rattle.iloc_outline.proofs.BlocksLemmas.{IsDone, IsRead, all_done}
-use Rattle.iloc_pieces.proofs.LeftLemmas.{last_piece, single_short}
+use Rattle.iloc_pieces.proofs.CursorLemmas.{last_piece, single_short}
 use Rattle.iloc_outline.proofs.SingletonSteps as at
 use Rattle.iloc_outline.proofs.blocks.read_blocks.Given.{Over}
 use Rattle.iloc_outline.proofs.blocks.read_blocks.Goals as goal
@@ -18,7 +18,7 @@ use Rattle.iloc_outline.proofs.blocks.read_blocks.Goals.{then-rank-last+else-has
 
 pub singletons-init : goal.singletons-init
 singletons-init g c =
-    at.starts_at c.args.left.now c.args.spans.now c.args.in_order.now
+    at.starts_at c.args.cursor.now c.args.spans.now c.args.in_order.now
     c.requires.later c.requires.single
 
 pub returns-then-not-is_alphanumeric : goal.returns-then-not-is_alphanumeric
@@ -50,8 +50,8 @@ returns-then-is_last g c =
           c.if-rank-last.in_order w.in_order-is
     ] in
     at.refuses_end h letter fresh.new
-    (last_piece c.singletons.left (c.is_last.ensures.0 c.if-is_last.true)
-    (single_short (piece_left c.singletons.left) h.single))
+    (last_piece c.singletons.cursor (c.is_last.ensures.0 c.if-is_last.true)
+    (single_short (piece_left c.singletons.cursor) h.single))
 
 pub read_body-found-requires-clause-singleton : goal.read_body-found-requires-clause-singleton
 read_body-found-requires-clause-singleton g c =
@@ -60,8 +60,8 @@ read_body-found-requires-clause-singleton g c =
 
 -- what was read behind the singleton, if it is r
 abbrev IsReadAs : (g : Over) → After-read_body-found g → Found → Type 0
-IsReadAs g c r = IsBlockRead (at.byte_at c.singletons.invariant) c.advance.new.left
-    c.read_body-found.new.left c.singletons.spans
+IsReadAs g c r = IsBlockRead (at.byte_at c.singletons.invariant) c.advance.new.cursor
+    c.read_body-found.new.cursor c.singletons.spans
     c.read_body-found.new.spans c.if-rank-last.in_order c.read_body-found.new.in_order r
 
 read_as : (g : Over) (c : After-read_body-found g) (r : Found) → c.read_body-found.result ≡ r → IsReadAs g c r
@@ -74,7 +74,7 @@ rank_is g c = c.rank_of-rank.ensures ∙ ap rank c.singleton-byte.ensures
 
 -- the singleton is passed
 passed : (g : Over) (c : After-read_body-found g)
-    → at.Passed c.singletons.invariant c.advance.new.left c.read_body-found.new.spans
+    → at.Passed c.singletons.invariant c.advance.new.cursor c.read_body-found.new.spans
     c.if-rank-last.in_order c.read_body-found.new.in_order
 passed g c =
     let h = c.singletons.invariant in
@@ -92,25 +92,26 @@ passed g c =
 pub returns-in-Bad : goal.returns-in-Bad
 returns-in-Bad g c =
     let p = (goal.at.returns-in-Bad g c).After-read_body-found in
-    at.refuses_bad c.singletons.invariant (passed g p) c.read_body-found.new.left
+    at.refuses_bad c.singletons.invariant (passed g p) c.read_body-found.new.cursor
     (read_as g p Bad c.in-Bad.is)
 
 pub returns-in-Repeated : goal.returns-in-Repeated
 returns-in-Repeated g c =
     let p = (goal.at.returns-in-Repeated g c).After-read_body-found in
-    at.refuses_repeated c.singletons.invariant (passed g p) c.read_body-found.new.left
+    at.refuses_repeated c.singletons.invariant (passed g p) c.read_body-found.new.cursor
     (read_as g p Repeated c.in-Repeated.is)
 
 pub returns-in-Full : goal.returns-in-Full
 returns-in-Full g c =
     let p = (goal.at.returns-in-Full g c).After-read_body-found in
-    at.too_many c.singletons.invariant (passed g p) c.read_body-found.new.left (read_as g p Full c.in-Full.is)
+    at.too_many c.singletons.invariant (passed g p) c.read_body-found.new.cursor
+    (read_as g p Full c.in-Full.is)
 
 pub place_block-requires : goal.place_block-requires
 place_block-requires g c =
     let p = (goal.at.place_block-requires g c).After-read_body-found in
     let h = c.singletons.invariant in
-    let next = c.read_body-found.new.left in
+    let next = c.read_body-found.new.cursor in
     elim c.in-End.is [
       | inl e ↦
           at.grows h (passed g p) c.requires.begun [] (at.ends_here h (passed g p) next (read_as g p End e))
@@ -121,13 +122,14 @@ place_block-requires g c =
 -- the block was put, and rest follows
 abbrev IsPut : (g : Over) → Joined-rank-last-2 g → List Text → ℕ → Spans → Type 0
 IsPut g c rest last spans =
-    IsDone c.args.left.now c.args.spans.now c.args.in_order.now rest last spans c.read_body-found.new.in_order
+    IsDone c.args.cursor.now c.args.spans.now c.args.in_order.now rest last spans
+    c.read_body-found.new.in_order
 
 put : (g : Over) (c : Joined-rank-last-2 g) →
-    at.Passed c.singletons.invariant c.advance.new.left c.read_body-found.new.spans
+    at.Passed c.singletons.invariant c.advance.new.cursor c.read_body-found.new.spans
     c.if-rank-last.in_order c.read_body-found.new.in_order
     → c.rank_of-rank.result ≡ at.rank_at c.singletons.invariant → (rest : List Text)
-    → IsRead (at.byte_at c.singletons.invariant) (whole_text c.args.left.now)
+    → IsRead (at.byte_at c.singletons.invariant) (whole_text c.args.cursor.now)
     (at.behind c.singletons.invariant) rest
     c.singletons.spans c.read_body-found.new.spans c.if-rank-last.in_order c.read_body-found.new.in_order
     → IsPut g c rest c.if-rank-last-2.last c.if-rank-last-2.spans
@@ -148,13 +150,13 @@ singletons-smaller g c =
     let p = (goal.at.singletons-smaller g c).After-read_body-found in
     let goes_on : c.read_body-found.result ≡ Next =
     elim c.in-End.is [ inl e ↦ absurd (c.in_default.not-End e) | inr e ↦ e ] in
-    at.less_at c.singletons.invariant (passed g p) c.read_body-found.new.left (read_as g p Next goes_on)
+    at.less_at c.singletons.invariant (passed g p) c.read_body-found.new.cursor (read_as g p Next goes_on)
 
 pub singletons-preserved : goal.singletons-preserved
 singletons-preserved g c =
     let p = (goal.at.singletons-preserved g c).After-read_body-found in
     let h = c.singletons.invariant in
-    let next = c.read_body-found.new.left in
+    let next = c.read_body-found.new.cursor in
     let goes_on : c.read_body-found.result ≡ Next =
     elim c.in-End.is [ inl e ↦ absurd (c.in_default.not-End e) | inr e ↦ e ] in
     let r = read_as g p Next goes_on in
@@ -165,8 +167,9 @@ singletons-preserved g c =
 pub returns-in-End-found : goal.returns-in-End-found
 returns-in-End-found g c =
     let p = (goal.at.returns-in-End-found g c).After-read_body-found in
-    all_done c.args.left.now c.args.spans.now c.args.in_order.now c.if-rank-last-2.last c.if-rank-last-2.spans
+    all_done c.args.cursor.now c.args.spans.now c.args.in_order.now c.if-rank-last-2.last
+    c.if-rank-last-2.spans
     c.read_body-found.new.in_order
     (put g (goal.at.returns-in-End-found g c).Joined-rank-last-2 (passed g p) (rank_is g p) []
-    (at.ends_here c.singletons.invariant (passed g p) c.read_body-found.new.left
+    (at.ends_here c.singletons.invariant (passed g p) c.read_body-found.new.cursor
     (read_as g p End c.in-End-found.is)))

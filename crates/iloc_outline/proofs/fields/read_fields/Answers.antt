@@ -6,8 +6,8 @@ use Rattle.iloc_spans.specs.declared.span.Role.TheVariants.{Field}
 use Rattle.iloc_outline.specs.Reading.{unless_end}
 use Rattle.iloc_spans.specs.Spans.{held_spans}
 use Rattle.iloc_spans.proofs.HeldLemmas.{length-held}
-use Rattle.iloc_outline.specs.declared.fields.Value.{Value}
-use Rattle.iloc_pieces.specs.declared.cursor.Left.{Left}
+use Rattle.iloc_outline.specs.declared.fields.FieldValue.{FieldValue}
+use Rattle.iloc_pieces.specs.declared.place.Cursor.{Cursor}
 use Rattle.iloc_outline.proofs.FieldLemmas.{ends_in_key, field_less, key_kind_fits, takes_end}
 use Rattle.iloc_outline.proofs.FieldLemmas.{takes_full, takes_more, takes_none, takes_past}
 use Rattle.iloc_outline.proofs.GatherLemmas.{gathers_from}
@@ -16,18 +16,18 @@ use Rattle.iloc_outline.proofs.fields.read_fields.Goals as goal
 use Rattle.iloc_outline.proofs.fields.read_fields.Goals.{else-eq-via-then-eq+else-value-eq0}
 use Rattle.iloc_outline.proofs.fields.read_fields.Goals.{else-eq-via-else-eq}
 
-abbrev behind : Left → Bool → Option Left
+abbrev behind : Cursor → Bool → Option Cursor
 behind m b = unless_end b m
 
-goes_on : (m : Left) (v : Value) → v.is_end ≡ false → unless_end v.is_end m ≡ Some m
+goes_on : (m : Cursor) (v : FieldValue) → v.is_end ≡ false → unless_end v.is_end m ≡ Some m
 goes_on m v = ap (behind m)
 
-ends : (m : Left) (v : Value) → v.is_end ≡ true → unless_end v.is_end m ≡ None
+ends : (m : Cursor) (v : FieldValue) → v.is_end ≡ true → unless_end v.is_end m ≡ None
 ends m v = ap (behind m)
 
 pub keys-init : goal.keys-init
 keys-init g c =
-    takes_none c.args.role c.args.left.now c.requires.later (held_spans c.args.spans.now)
+    takes_none c.args.role c.args.cursor.now c.requires.later (held_spans c.args.spans.now)
     c.args.in_order.now
 
 pub read_value-value-requires-clause-later : goal.read_value-value-requires-clause-later
@@ -42,7 +42,8 @@ returns-then-value-eq0 g c =
     let v = c.read_value-value in
     let field = same_true the_type (search rules) _ _ (sym c.if-eq.ensures) in (
       field,
-      ends_in_key c.args.role c.args.left.now c.keys.left c.args.spans.now _ _ _ _ c.keys.invariant v.new.left
+      ends_in_key c.args.role c.args.cursor.now c.keys.cursor c.args.spans.now _ _ _ _ c.keys.invariant
+          v.new.cursor
           v.result
           v.ensures
           field (sym c.is_key_of.ensures ∙ c.keys-test.true) c.if-value-eq0.true,
@@ -63,7 +64,7 @@ put_from-requires g c =
 
 pub returns-in-Full : goal.returns-in-Full
 returns-in-Full g c =
-    takes_full _ c.args.left.now c.keys.left c.args.spans.now _ _ _ _ c.keys.invariant
+    takes_full _ c.args.cursor.now c.keys.cursor c.args.spans.now _ _ _ _ c.keys.invariant
     (c.put_from.ensures.full c.in-Full.is)
 
 pub keys-preserved : goal.keys-preserved
@@ -74,10 +75,11 @@ keys-preserved g c =
       | else-eq-via-then-eq+else-value-eq0 b ↦ b.if-value-eq0.false
       | else-eq-via-else-eq b ↦ absurd (same_false the_type _ _ (sym b.if-eq.ensures) t)
     ] in
-    takes_more _ c.args.left.now c.keys.left c.args.spans.now _ _ _ _ c.keys.invariant v.new.left v.result
+    takes_more _ c.args.cursor.now c.keys.cursor c.args.spans.now _ _ _ _ c.keys.invariant v.new.cursor
+    v.result
     v.ensures key some
     (held_spans c.put_from.new.spans) _ _ _ _ c.word_number-word.ensures c.is_edited.ensures c.put_from.result
-    c.put_from.ensures.put c.in_default.not-Full v.new.left (goes_on v.new.left v.result c.if-value.false)
+    c.put_from.ensures.put c.in_default.not-Full v.new.cursor (goes_on v.new.cursor v.result c.if-value.false)
 
 pub returns-then-value : goal.returns-then-value
 returns-then-value g c =
@@ -87,19 +89,21 @@ returns-then-value g c =
       | else-eq-via-then-eq+else-value-eq0 b ↦ b.if-value-eq0.false
       | else-eq-via-else-eq b ↦ absurd (same_false the_type _ _ (sym b.if-eq.ensures) t)
     ] in
-    takes_end _ c.args.left.now c.keys.left c.args.spans.now _ _ _ _ c.keys.invariant v.new.left v.result
+    takes_end _ c.args.cursor.now c.keys.cursor c.args.spans.now _ _ _ _ c.keys.invariant v.new.cursor
+    v.result
     v.ensures key some
     (held_spans c.put_from.new.spans) _ _ _ _ c.word_number-word.ensures c.is_edited.ensures c.put_from.result
     c.put_from.ensures.put c.in_default.not-Full c.put_from.new.spans refl
-    (ends v.new.left v.result c.if-value.true)
+    (ends v.new.cursor v.result c.if-value.true)
 
 pub keys-smaller : goal.keys-smaller
 keys-smaller g c =
     let v = c.read_value-value in
-    field_less c.args.role c.args.left.now c.keys.left c.args.spans.now _ _ _ _ c.keys.invariant v.new.left
+    field_less c.args.role c.args.cursor.now c.keys.cursor c.args.spans.now _ _ _ _ c.keys.invariant
+    v.new.cursor
     v.result
     v.ensures
-    v.new.left (goes_on v.new.left v.result c.if-value.false)
+    v.new.cursor (goes_on v.new.cursor v.result c.if-value.false)
 
 pub returns : goal.returns
 returns g c =
@@ -108,5 +112,5 @@ returns g c =
       w.past,
       sym c.is_key_of.ensures ∙ c.keys-test.false,
       w.ends,
-      takes_past c.args.role c.args.left.now c.keys.left c.args.spans.now _ _ _ _ w c.keys.spans refl,
+      takes_past c.args.role c.args.cursor.now c.keys.cursor c.args.spans.now _ _ _ _ w c.keys.spans refl,
     )

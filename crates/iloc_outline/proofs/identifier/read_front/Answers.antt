@@ -1,84 +1,88 @@
 use Rattle.std.proofs.Common.{◌≡◌, ◌==◌, ◌&&◌, Bool, true, false, None, Some, cond, sym, ap, subst, ◌∙◌}
-use Rattle.iloc_pieces.specs.Left.{piece_left}
-use Rattle.iloc_pieces.specs.declared.cursor.Left.{Left}
+use Rattle.iloc_pieces.specs.Cursor.{piece_left}
+use Rattle.iloc_pieces.specs.declared.place.Cursor.{Cursor}
 use Rattle.iloc_outline.specs.Identifier.{IsOnePast}
 use Rattle.iloc_outline.specs.Reading.{unless_end}
 use Rattle.iloc_outline.proofs.Fronts.{front_read, front_alone, front_to_script, front_to_region}
-use Rattle.iloc_pieces.proofs.LeftLemmas.{short_language, short_script, short_region}
+use Rattle.iloc_pieces.proofs.CursorLemmas.{short_language, short_script, short_region}
 use Rattle.iloc_outline.proofs.identifier.read_front.Goals as goal
 use Rattle.iloc_outline.proofs.identifier.read_front.Goals.{then-has_region, else-has_region}
 
 -- the text ends with the piece, or goes on
-ends : (fits : Bool) (l m : Left) (r : Bool) → r ≡ true → IsOnePast fits l (unless_end r m) →
+ends : (fits : Bool) (l m : Cursor) (r : Bool) → r ≡ true → IsOnePast fits l (unless_end r m) →
     IsOnePast fits l None
 ends fits l m r = subst (λ (b : Bool). IsOnePast fits l (unless_end b m))
 
-goes_on : (fits : Bool) (l m : Left) (r : Bool) → r ≡ false → IsOnePast fits l (unless_end r m)
+goes_on : (fits : Bool) (l m : Cursor) (r : Bool) → r ≡ false → IsOnePast fits l (unless_end r m)
     → IsOnePast fits l (Some m)
 goes_on fits l m r = subst (λ (b : Bool). IsOnePast fits l (unless_end b m))
 
 pub ends_at-requires : goal.ends_at-requires
-ends_at-requires c = λ _. short_language (piece_left c.args.left.now) c.requires
+ends_at-requires c = λ _. short_language (piece_left c.args.cursor.now) c.requires
 
 pub returns-then-ends_at : goal.returns-then-ends_at
 returns-then-ends_at c =
-    let l = c.args.left.now in
-    front_read l c.ends_at.new.left true _ _ c.requires
-    (front_alone l (ends true l c.ends_at.new.left _ c.if-ends_at.true c.ends_at.ensures))
+    let l = c.args.cursor.now in
+    front_read l c.ends_at.new.cursor true _ _ c.requires
+    (front_alone l (ends true l c.ends_at.new.cursor _ c.if-ends_at.true c.ends_at.ensures))
 
 pub ends_at-requires-2 : goal.ends_at-requires-2
 ends_at-requires-2 c =
-    λ is. short_script (piece_left c.ends_at.new.left) (sym c.is_script-has_script.ensures ∙ is)
+    λ is. short_script (piece_left c.ends_at.new.cursor) (sym c.is_script-has_script.ensures ∙ is)
 
 pub returns-then-ends_at-2 : goal.returns-then-ends_at-2
 returns-then-ends_at-2 c =
-    let l = c.args.left.now in
-    let second = c.ends_at.new.left in
+    let l = c.args.cursor.now in
+    let second = c.ends_at.new.cursor in
     let has = c.is_script-has_script in
     let next = goes_on true l second _ c.if-ends_at.false c.ends_at.ensures in
-    front_read l c.ends_at-2.new.left true c.place.result _ c.requires
+    front_read l c.ends_at-2.new.cursor true c.place.result _ c.requires
     (front_to_script c.requires next has.result has.ensures
     c.place.result c.place.ensures
-    (ends has.result second c.ends_at-2.new.left _ c.if-ends_at-2.true c.ends_at-2.ensures))
+    (ends has.result second c.ends_at-2.new.cursor _ c.if-ends_at-2.true c.ends_at-2.ensures))
 
 pub ends_at-requires-3 : goal.ends_at-requires-3
 ends_at-requires-3 c =
-    λ is. short_region (piece_left c.ends_at-2.new.left) (sym c.is_region-has_region.ensures ∙ is)
+    λ is. short_region (piece_left c.ends_at-2.new.cursor) (sym c.is_region-has_region.ensures ∙ is)
 
 pub returns-then-ends_at-3 : goal.returns-then-ends_at-3
 returns-then-ends_at-3 c =
-    let l = c.args.left.now in
-    let second = c.ends_at.new.left in
-    let third = c.ends_at-2.new.left in
+    let l = c.args.cursor.now in
+    let second = c.ends_at.new.cursor in
+    let third = c.ends_at-2.new.cursor in
     let has = c.is_script-has_script in
     let fits = c.is_region-has_region in
     let next = goes_on true l second _ c.if-ends_at.false c.ends_at.ensures in
-    let two : c.if-has_region.place ≡ (fits.result && (third.n == 2)) = elim c.if-has_region.branch [
-      | then-has_region w ↦ w.place-is ∙ sym (ap (λ (b : Bool). b && (third.n == 2)) w.if-has_region.true)
+    let two : c.if-has_region.place ≡ (fits.result && (third.piece_length == 2)) =
+    elim c.if-has_region.branch [
+      | then-has_region w ↦ w.place-is ∙ sym (ap (λ (b : Bool). b && (third.piece_length == 2))
+          w.if-has_region.true)
       | else-has_region w ↦ w.place-is ∙ w.if-has_region.false
-          ∙ sym (ap (λ (b : Bool). b && (third.n == 2)) w.if-has_region.false)
+          ∙ sym (ap (λ (b : Bool). b && (third.piece_length == 2)) w.if-has_region.false)
     ] in
-    front_read l c.ends_at-3.new.left true c.place.result c.place-2.result c.requires
+    front_read l c.ends_at-3.new.cursor true c.place.result c.place-2.result c.requires
     (front_to_region c.requires next has.result has.ensures
     c.place.result c.place.ensures third
     (goes_on has.result second third _ c.if-ends_at-2.false c.ends_at-2.ensures)
     fits.result fits.ensures c.place-2.result
     (c.place-2.ensures ∙ ap (λ (b : Bool). cond b third.at 0) two) None
-    (ends fits.result third c.ends_at-3.new.left _ c.if-ends_at-3.true c.ends_at-3.ensures))
+    (ends fits.result third c.ends_at-3.new.cursor _ c.if-ends_at-3.true c.ends_at-3.ensures))
 
 pub returns : goal.returns
 returns c =
-    let l = c.args.left.now in
-    let second = c.ends_at.new.left in
-    let third = c.ends_at-2.new.left in
-    let last = c.ends_at-3.new.left in
+    let l = c.args.cursor.now in
+    let second = c.ends_at.new.cursor in
+    let third = c.ends_at-2.new.cursor in
+    let last = c.ends_at-3.new.cursor in
     let has = c.is_script-has_script in
     let fits = c.is_region-has_region in
     let next = goes_on true l second _ c.if-ends_at.false c.ends_at.ensures in
-    let two : c.if-has_region.place ≡ (fits.result && (third.n == 2)) = elim c.if-has_region.branch [
-      | then-has_region w ↦ w.place-is ∙ sym (ap (λ (b : Bool). b && (third.n == 2)) w.if-has_region.true)
+    let two : c.if-has_region.place ≡ (fits.result && (third.piece_length == 2)) =
+    elim c.if-has_region.branch [
+      | then-has_region w ↦ w.place-is ∙ sym (ap (λ (b : Bool). b && (third.piece_length == 2))
+          w.if-has_region.true)
       | else-has_region w ↦ w.place-is ∙ w.if-has_region.false
-          ∙ sym (ap (λ (b : Bool). b && (third.n == 2)) w.if-has_region.false)
+          ∙ sym (ap (λ (b : Bool). b && (third.piece_length == 2)) w.if-has_region.false)
     ] in
     front_read l last false c.place.result c.place-2.result c.requires
     (front_to_region c.requires next has.result has.ensures

@@ -1,9 +1,9 @@
 -- Pieces of two to eight bytes up to the next block, of which one is a subtag.
 use Rattle.std.proofs.Common.{◌≡◌, ◌+◌, ◌-◌, true, [], refl, sym, ap, ◌∙◌}
 use Rattle.iloc_spec_grammar.specs.Syntax.{is_other_singleton}
-use Rattle.iloc_pieces.specs.Left.{IsEnd, piece_left}
+use Rattle.iloc_pieces.specs.Cursor.{IsEnd, piece_left}
 use Rattle.iloc_outline.specs.declared.reading.Found.TheVariants.{End, Next}
-use Rattle.iloc_pieces.proofs.LeftLemmas.{between_short, last_piece, past_none}
+use Rattle.iloc_pieces.proofs.CursorLemmas.{between_short, last_piece, past_none}
 use Rattle.iloc_outline.proofs.OtherLemmas.{IsBetween, PassesOneMore, end_bad, end_put, more_odd, more_subtag}
 use Rattle.iloc_outline.proofs.OtherLemmas.{next_bad, next_odd, next_put, other_next, put_at}
 use Rattle.iloc_outline.proofs.other.read_other.Given.{Over}
@@ -16,20 +16,21 @@ use Rattle.iloc_outline.proofs.other.read_other.Goals.{
   After-is_last,
 }
 
-between : (g : Over) (c : After-is_last g) → IsBetween (piece_left c.pieces.left)
+between : (g : Over) (c : After-is_last g) → IsBetween (piece_left c.pieces.cursor)
 between g c = sym c.is_between.ensures ∙ c.pieces-test.true
 
 -- the piece is one more
 one_more : (g : Over) (c : After-is_last g)
-    → PassesOneMore c.args.left.now c.pieces.left c.if-is_subtag.is_good c.if-is_subtag.edited
+    → PassesOneMore c.args.cursor.now c.pieces.cursor c.if-is_subtag.is_good c.if-is_subtag.edited
 one_more g c = elim c.if-is_subtag.branch [
   | then-is_subtag w ↦
       rw (w.is_good-is, w.edited-is)
-      (more_subtag c.args.left.now c.pieces.left c.pieces.is_good c.pieces.edited c.pieces.invariant.passed
+      (more_subtag c.args.cursor.now c.pieces.cursor c.pieces.is_good c.pieces.edited
+      c.pieces.invariant.passed
       (between g c) (sym c.is_subtag.ensures ∙ w.if-is_subtag.true))
   | else-is_subtag w ↦
       rw (w.is_good-is, w.edited-is)
-      (more_odd c.args.left.now c.pieces.left c.pieces.is_good c.pieces.edited c.pieces.invariant.passed
+      (more_odd c.args.cursor.now c.pieces.cursor c.pieces.is_good c.pieces.edited c.pieces.invariant.passed
       (between g c)
       (sym c.is_subtag.ensures ∙ w.if-is_subtag.false))
 ]
@@ -39,7 +40,7 @@ pieces-init g c = record {
   passed = record {
     words =
         [];
-    past = past_none c.args.left.now c.requires.follows.later;
+    past = past_none c.args.cursor.now c.requires.follows.later;
     are =
         record { each = tt; good = refl; edited = refl };
   };
@@ -49,26 +50,27 @@ pieces-init g c = record {
 
 pub advance-requires-clause-short : goal.advance-requires-clause-short
 advance-requires-clause-short g c =
-    between_short (piece_left c.pieces.left) (sym c.is_between.ensures ∙ c.pieces-test.true)
+    between_short (piece_left c.pieces.cursor) (sym c.is_between.ensures ∙ c.pieces-test.true)
 
 pub pieces-preserved : goal.pieces-preserved
 pieces-preserved g c = record {
   passed =
-      other_next c.args.left.now c.pieces.left c.advance.new.left c.if-is_subtag.is_good c.if-is_subtag.edited
+      other_next c.args.cursor.now c.pieces.cursor c.advance.new.cursor c.if-is_subtag.is_good
+      c.if-is_subtag.edited
       (one_more g (goal.at.pieces-preserved g c).After-is_last)
       (between g (goal.at.pieces-preserved g c).After-is_last) c.advance.ensures;
   spans = c.pieces.invariant.spans;
   in_order = c.pieces.invariant.in_order;
 }
 
-ended : (g : Over) (c : After-is_last g) → c.is_last.result ≡ true → IsEnd c.pieces.left
-ended g c last = last_piece c.pieces.left (c.is_last.ensures.0 last)
-    (between_short (piece_left c.pieces.left) (between g c))
+ended : (g : Over) (c : After-is_last g) → c.is_last.result ≡ true → IsEnd c.pieces.cursor
+ended g c last = last_piece c.pieces.cursor (c.is_last.ensures.0 last)
+    (between_short (piece_left c.pieces.cursor) (between g c))
 
 pub returns-then-not-is_good : goal.returns-then-not-is_good
 returns-then-not-is_good g c = λ c' e spanned.
     let after = (goal.at.returns-then-not-is_good g c).After-is_last in
-    end_bad c' c.args.left.now (ap is_other_singleton e ∙ c.requires.other) c.pieces.left
+    end_bad c' c.args.cursor.now (ap is_other_singleton e ∙ c.requires.other) c.pieces.cursor
     c.if-is_subtag.is_good
     c.if-is_subtag.edited (one_more g after)
     (ended g after c.if-is_last.true) c.args.spans.now c.args.spans.now c.args.in_order.now
@@ -78,13 +80,14 @@ returns-then-not-is_good g c = λ c' e spanned.
 pub returns-then-is_last : goal.returns-then-is_last
 returns-then-is_last g c = λ c' e spanned.
     let after = (goal.at.returns-then-is_last g c).After-is_last in
-    end_put c' c.args.left.now (ap is_other_singleton e ∙ c.requires.other) c.pieces.left
+    end_put c' c.args.cursor.now (ap is_other_singleton e ∙ c.requires.other) c.pieces.cursor
     c.if-is_subtag.is_good
     c.if-is_subtag.edited (one_more g after)
     (ended g after c.if-is_last.true) c.args.start c.args.spans.now c.put_other.new.spans c.args.in_order.now
     c.put_other.new.in_order c.put_other.result
     c.if-not-is_good.false c.requires.follows.later spanned
-    (put_at c' c.args.byte c.args.start (c.pieces.left.at + c.pieces.left.n) c.if-is_subtag.edited
+    (put_at c' c.args.byte c.args.start (c.pieces.cursor.at + c.pieces.cursor.piece_length)
+    c.if-is_subtag.edited
     c.args.spans.now c.pieces.spans c.put_other.new.spans
     c.args.in_order.now c.pieces.in_order c.put_other.new.in_order End c.put_other.result e
     c.pieces.invariant.spans c.pieces.invariant.in_order c.put_other.ensures)
@@ -97,11 +100,11 @@ returns-then-not-is_good-2 g c = λ c' e spanned.
     let o = c.args.in_order.now in
     elim c.then-not-is_good-2.branch [
       | then-not-is_good-2-via-then-not-is_good-2 w ↦
-          next_bad c' c.args.left.now other c.pieces.left c.pieces.is_good c.pieces.edited
+          next_bad c' c.args.cursor.now other c.pieces.cursor c.pieces.is_good c.pieces.edited
           c.pieces.invariant.passed
           spans spans o o odd w.if-not-is_good-2.true
       | then-not-is_good-2-via-else-not-is_good-2+then-not-is_single w ↦
-          next_odd c' c.args.left.now other c.pieces.left c.pieces.is_good c.pieces.edited
+          next_odd c' c.args.cursor.now other c.pieces.cursor c.pieces.is_good c.pieces.edited
           c.pieces.invariant.passed
           spans spans o o odd
           (sym w.is_single.ensures ∙ w.if-not-is_single.true)
@@ -109,13 +112,15 @@ returns-then-not-is_good-2 g c = λ c' e spanned.
 
 pub returns : goal.returns
 returns g c = λ c' e spanned.
-    next_put c' c.args.left.now (ap is_other_singleton e ∙ c.requires.other) c.pieces.left c.pieces.is_good
+    next_put c' c.args.cursor.now (ap is_other_singleton e ∙ c.requires.other) c.pieces.cursor
+    c.pieces.is_good
     c.pieces.edited c.pieces.invariant.passed c.args.start
     c.args.spans.now c.put_other-2.new.spans c.args.in_order.now c.put_other-2.new.in_order
     c.put_other-2.result
     (sym c.is_single.ensures ∙ c.if-not-is_single.false) c.if-not-is_good-2.false
     c.requires.follows.later spanned
-    (put_at c' c.args.byte c.args.start (c.pieces.left.at - 1) c.pieces.edited c.args.spans.now c.pieces.spans
+    (put_at c' c.args.byte c.args.start (c.pieces.cursor.at - 1) c.pieces.edited c.args.spans.now
+    c.pieces.spans
     c.put_other-2.new.spans
     c.args.in_order.now c.pieces.in_order c.put_other-2.new.in_order Next c.put_other-2.result e
     c.pieces.invariant.spans

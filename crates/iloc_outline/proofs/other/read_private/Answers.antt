@@ -1,46 +1,47 @@
 -- Private subtags up to the end, one at least.
 use Rattle.std.proofs.Common.{◌+◌, false, [], ◌∷◌, ◌++◌, refl, sym, ap, ◌∙◌}
 use Rattle.iloc_spec_grammar.specs.Syntax.{PrivateSubtag, IsWord}
-use Rattle.iloc_pieces.specs.Left.{IsEnd, piece_left}
+use Rattle.iloc_pieces.specs.Cursor.{IsEnd, piece_left}
 use Rattle.iloc_outline.specs.Reading.{block_span}
 use Rattle.iloc_spans.specs.Spans.{held_spans}
 use Rattle.iloc_spans.specs.declared.span.Span.{Span}
-use Rattle.iloc_pieces.proofs.LeftLemmas.{last_piece, past_none, short_private}
+use Rattle.iloc_pieces.proofs.CursorLemmas.{last_piece, past_none, short_private}
 use Rattle.iloc_outline.proofs.OtherLemmas.{private_end, private_next, private_odd}
 use Rattle.iloc_outline.proofs.other.read_private.Goals as goal
 
 pub words-init : goal.words-init
 words-init g c = record {
-  passed = record { words = []; past = past_none c.args.left.now c.requires.follows.later; each = tt };
+  passed = record { words = []; past = past_none c.args.cursor.now c.requires.follows.later; each = tt };
   spans =
       refl;
 }
 
 pub returns-then-is_last : goal.returns-then-is_last
 returns-then-is_last g c = λ c' e spanned o.
-    let word : IsWord PrivateSubtag (piece_left c.words.left) =
+    let word : IsWord PrivateSubtag (piece_left c.words.cursor) =
     sym c.is_private.ensures ∙ c.words-test.true in
-    let end : IsEnd c.words.left =
-    last_piece c.words.left (c.is_last.ensures.0 c.if-is_last.true)
-    (short_private (piece_left c.words.left) word) in
-    let span : Span = block_span 255 c.args.start (c.words.left.at + c.words.left.n) false in
-    private_end c' c.args.start c.args.left.now c.words.left c.args.spans.now c.put.new.spans o e
+    let end : IsEnd c.words.cursor =
+    last_piece c.words.cursor (c.is_last.ensures.0 c.if-is_last.true)
+    (short_private (piece_left c.words.cursor) word) in
+    let span : Span = block_span 255 c.args.start (c.words.cursor.at + c.words.cursor.piece_length) false in
+    private_end c' c.args.start c.args.cursor.now c.words.cursor c.args.spans.now c.put.new.spans o e
     c.requires.follows.later
     spanned c.words.invariant.passed word end
     (c.put.ensures.put c.if-not-put.false ∙ ap (λ s. held_spans s ++ span ∷ []) c.words.invariant.spans)
 
 pub advance-requires-clause-short : goal.advance-requires-clause-short
 advance-requires-clause-short g c =
-    short_private (piece_left c.words.left) (sym c.is_private.ensures ∙ c.words-test.true)
+    short_private (piece_left c.words.cursor) (sym c.is_private.ensures ∙ c.words-test.true)
 
 pub words-preserved : goal.words-preserved
 words-preserved g c = record {
-  passed = private_next c.args.left.now c.words.left c.advance.new.left c.words.invariant.passed
+  passed = private_next c.args.cursor.now c.words.cursor c.advance.new.cursor c.words.invariant.passed
       (sym c.is_private.ensures ∙ c.words-test.true) c.advance.ensures;
   spans = c.words.invariant.spans;
 }
 
 pub returns : goal.returns
 returns g c = λ c' e spanned o.
-    private_odd c' c.args.left.now c.words.left c.args.spans.now c.args.spans.now o e c.words.invariant.passed
+    private_odd c' c.args.cursor.now c.words.cursor c.args.spans.now c.args.spans.now o e
+    c.words.invariant.passed
     (sym c.is_private.ensures ∙ c.words-test.false)

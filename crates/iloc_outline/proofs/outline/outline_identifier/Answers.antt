@@ -11,20 +11,20 @@ pub returns-in-All : goal.returns-in-All
 returns-in-All g c =
     let new = c.read_head.new in
     finished_identifier (take c.args.len c.args.window.now) c.in-All.outline new.spans new.in_order
-    (subst (λ t. AreHeadRead t new.left new.spans new.in_order (All c.in-All.outline))
-    c.left_in-left.ensures.rest c.in-All.ensures) c.args.len c.finished.new.spans c.finished.result
+    (subst (λ t. AreHeadRead t new.cursor new.spans new.in_order (All c.in-All.outline))
+    c.cursor_in-cursor.ensures.rest c.in-All.ensures) c.args.len c.finished.new.spans c.finished.result
     (sym (length-take-le c.args.len c.args.window.now c.requires.inside)) c.finished.ensures
 
 pub returns-in-Block : goal.returns-in-Block
 returns-in-Block g c =
     let new = c.read_head.new in
-    let h = subst (λ t. AreHeadRead t new.left new.spans new.in_order (Block c.in-Block.field-0))
-    c.left_in-left.ensures.rest c.in-Block.ensures in
-    refuses_block (take c.args.len c.args.window.now) new.left c.requires.begins h.3
+    let h = subst (λ t. AreHeadRead t new.cursor new.spans new.in_order (Block c.in-Block.field-0))
+    c.cursor_in-cursor.ensures.rest c.in-Block.ensures in
+    refuses_block (take c.args.len c.args.window.now) new.cursor c.requires.begins h.3
 
 pub returns-in-Refused : goal.returns-in-Refused
 returns-in-Refused g c =
     let new = c.read_head.new in
     refused_all (pieces (take c.args.len c.args.window.now)) c.in-Refused.error
-    (subst (λ t. AreHeadRead t new.left new.spans new.in_order (Refused c.in-Refused.error))
-    c.left_in-left.ensures.rest c.in-Refused.ensures)
+    (subst (λ t. AreHeadRead t new.cursor new.spans new.in_order (Refused c.in-Refused.error))
+    c.cursor_in-cursor.ensures.rest c.in-Refused.ensures)

@@ -1,6 +1,6 @@
 -- Variants up to the end or to a block, or what is wrong.
 use Rattle.std.proofs.Common.{◌≡◌, Bool, true, false, sym, ◌∙◌, subst}
-use Rattle.iloc_pieces.specs.declared.cursor.Left.{Left}
+use Rattle.iloc_pieces.specs.declared.place.Cursor.{Cursor}
 use Rattle.iloc_outline.specs.Identifier.{IsAfterFront, IsFrontRead}
 use Rattle.iloc_outline.specs.Reading.{AreWordsRead, unless_end}
 use Rattle.iloc_outline.specs.declared.identifier.Front.{Front}
@@ -9,59 +9,59 @@ use Rattle.iloc_outline.proofs.HeadLemmas.{head_block, head_front, head_other, h
 use Rattle.iloc_outline.proofs.outline.read_head.Goals as goal
 
 -- something follows the front
-goes_on : (l m : Left) (f : Front) → IsFrontRead l m f → f.is_all ≡ false →
+goes_on : (l m : Cursor) (f : Front) → IsFrontRead l m f → f.is_all ≡ false →
     IsAfterFront l (unless_end false m)
 goes_on l m f h e = subst (λ (b : Bool). IsAfterFront l (unless_end b m)) e h.next
 
 pub returns-then-front : goal.returns-then-front
 returns-then-front g c =
-    let l = c.args.left.now in
+    let l = c.args.cursor.now in
     let front = c.read_front-front in
-    head_front l front.result c.requires.first c.requires.begins front.new.left front.ensures
+    head_front l front.result c.requires.first c.requires.begins front.new.cursor front.ensures
     c.clear.new.self c.clear.ensures
-    (subst (λ (b : Bool). IsAfterFront l (unless_end b front.new.left)) c.if-front.true front.ensures.next)
+    (subst (λ (b : Bool). IsAfterFront l (unless_end b front.new.cursor)) c.if-front.true front.ensures.next)
 
 pub returns-in-End : goal.returns-in-End
 returns-in-End g c =
-    let l = c.args.left.now in
+    let l = c.args.cursor.now in
     let front = c.read_front-front in
     let words = c.read_words in
-    head_variants l front.result c.requires.first c.requires.begins front.new.left
-    front.ensures (goes_on l front.new.left front.result front.ensures c.if-front.false)
-    c.clear.new.self c.clear.ensures words.new.left words.new.spans words.new.in_order
-    (subst (AreWordsRead Variant front.new.left words.new.left c.clear.new.self words.new.spans true
+    head_variants l front.result c.requires.first c.requires.begins front.new.cursor
+    front.ensures (goes_on l front.new.cursor front.result front.ensures c.if-front.false)
+    c.clear.new.self c.clear.ensures words.new.cursor words.new.spans words.new.in_order
+    (subst (AreWordsRead Variant front.new.cursor words.new.cursor c.clear.new.self words.new.spans true
     words.new.in_order) c.in-End.is words.ensures)
 
 pub returns-else-not-is_single : goal.returns-else-not-is_single
 returns-else-not-is_single g c =
-    let l = c.args.left.now in
+    let l = c.args.cursor.now in
     let front = c.read_front-front in
     let words = c.read_words in
-    head_block l front.result c.requires.first c.requires.begins front.new.left
-    front.ensures (goes_on l front.new.left front.result front.ensures c.if-front.false)
-    c.clear.new.self c.clear.ensures words.new.left words.new.spans words.new.in_order
-    (subst (AreWordsRead Variant front.new.left words.new.left c.clear.new.self words.new.spans true
+    head_block l front.result c.requires.first c.requires.begins front.new.cursor
+    front.ensures (goes_on l front.new.cursor front.result front.ensures c.if-front.false)
+    c.clear.new.self c.clear.ensures words.new.cursor words.new.spans words.new.in_order
+    (subst (AreWordsRead Variant front.new.cursor words.new.cursor c.clear.new.self words.new.spans true
     words.new.in_order) c.in-Next.is words.ensures)
     (sym c.is_single.ensures ∙ c.if-not-is_single.false)
 
 pub returns-then-not-is_single : goal.returns-then-not-is_single
 returns-then-not-is_single g c =
-    let l = c.args.left.now in
+    let l = c.args.cursor.now in
     let front = c.read_front-front in
     let words = c.read_words in
-    head_stranger l front.result c.requires.first c.requires.begins front.new.left
-    front.ensures (goes_on l front.new.left front.result front.ensures c.if-front.false)
-    c.clear.new.self c.clear.ensures words.new.left words.new.spans words.new.in_order
-    (subst (AreWordsRead Variant front.new.left words.new.left c.clear.new.self words.new.spans true
+    head_stranger l front.result c.requires.first c.requires.begins front.new.cursor
+    front.ensures (goes_on l front.new.cursor front.result front.ensures c.if-front.false)
+    c.clear.new.self c.clear.ensures words.new.cursor words.new.spans words.new.in_order
+    (subst (AreWordsRead Variant front.new.cursor words.new.cursor c.clear.new.self words.new.spans true
     words.new.in_order) c.in-Next.is words.ensures)
     (sym c.is_single.ensures ∙ c.if-not-is_single.true)
 
 pub returns-in-Bad : goal.returns-in-Bad
 returns-in-Bad g c =
-    let l = c.args.left.now in
+    let l = c.args.cursor.now in
     let front = c.read_front-front in
     let words = c.read_words in
-    head_other l front.result c.requires.first c.requires.begins front.new.left
-    front.ensures (goes_on l front.new.left front.result front.ensures c.if-front.false)
-    c.clear.new.self c.clear.ensures words.new.left words.new.spans words.new.in_order words.result
+    head_other l front.result c.requires.first c.requires.begins front.new.cursor
+    front.ensures (goes_on l front.new.cursor front.result front.ensures c.if-front.false)
+    c.clear.new.self c.clear.ensures words.new.cursor words.new.spans words.new.in_order words.result
     words.ensures c.in-Bad.is

@@ -1,7 +1,7 @@
 use Rattle.std.proofs.Common.{◌+◌, ◌++◌, take, sym, ap, ◌∙◌, arith}
 use Rattle.std.specs.Prelude.{codes}
 use Rattle.iloc_spec_grammar.specs.Syntax.{dashes}
-use Rattle.iloc_pieces.specs.Left.{pieces_left, bytes_left}
+use Rattle.iloc_pieces.specs.Cursor.{pieces_left, bytes_left}
 use Rattle.iloc_outline.specs.Printing.{bytes_from, kept_pieces}
 use Rattle.iloc_spec_grammar.specs.Reading.{rest_of}
 use Rattle.iloc_outline.proofs.PrintingLemmas.{bytes_here, field_told, no_field_told, written_kept}
@@ -13,9 +13,9 @@ use Rattle.iloc_outline.proofs.printing.copy_edited.Goals.{else-eq-via-else-eq}
 pub copy_piece-begun-requires-clause-room : goal.copy_piece-begun-requires-clause-room
 copy_piece-begun-requires-clause-room c =
     let s = c.args.span.now in
-    let first = c.left_in-first.result in
+    let first = c.cursor_in-first.result in
     let is = bytes_here c.args.window.now (bytes_left first)
-    (s.start + 1) s.end c.requires.inside c.left_in-first.ensures.rest in
+    (s.start + 1) s.end c.requires.inside c.cursor_in-first.ensures.rest in
     omega (
       arith,
       c.requires.room,
@@ -27,9 +27,9 @@ copy_piece-begun-requires-clause-room c =
 pub copy_kept-end-requires-clause-room : goal.copy_kept-end-requires-clause-room
 copy_kept-end-requires-clause-room c =
     let s = c.args.span.now in
-    let first = c.left_in-first.result in
+    let first = c.cursor_in-first.result in
     let is = bytes_here c.args.window.now (bytes_left first)
-    (s.start + 1) s.end c.requires.inside c.left_in-first.ensures.rest in
+    (s.start + 1) s.end c.requires.inside c.cursor_in-first.ensures.rest in
     omega (
       arith,
       c.requires.room,
@@ -43,10 +43,10 @@ copy_kept-end-requires-clause-room c =
 pub returns-then-end-begun-clause-copied : goal.returns-then-end-begun-clause-copied
 returns-then-end-begun-clause-copied c =
     let s = c.args.span.now in
-    let first = c.left_in-first.result in
+    let first = c.cursor_in-first.result in
     let F = take c.args.start c.args.to.now in
     let is = bytes_here c.args.window.now (bytes_left first)
-    (s.start + 1) s.end c.requires.inside c.left_in-first.ensures.rest in
+    (s.start + 1) s.end c.requires.inside c.cursor_in-first.ensures.rest in
     c.put_true.ensures.put ∙ ap (λ t. t ++ codes "-true") (c.copy_kept-end.ensures.copied
     ∙ ap (λ t. t ++ dashes (kept_pieces c.printed_role-role.result (rest_of (pieces_left first))))
     c.copy_piece-begun.ensures.copied)
@@ -58,10 +58,10 @@ returns-then-end-begun-clause-copied c =
 pub returns-clause-copied : goal.returns-clause-copied
 returns-clause-copied c =
     let s = c.args.span.now in
-    let first = c.left_in-first.result in
+    let first = c.cursor_in-first.result in
     let F = take c.args.start c.args.to.now in
     let is = bytes_here c.args.window.now (bytes_left first)
-    (s.start + 1) s.end c.requires.inside c.left_in-first.ensures.rest in
+    (s.start + 1) s.end c.requires.inside c.cursor_in-first.ensures.rest in
     c.copy_kept-end.ensures.copied
     ∙ ap (λ t. t ++ dashes (kept_pieces c.printed_role-role.result (rest_of (pieces_left first))))
     c.copy_piece-begun.ensures.copied

@@ -1,10 +1,10 @@
 use Rattle.std.proofs.Common.{length, take, sym, ap, ◌∙◌, arith}
 use Rattle.std.proofs.lemmas.List.{length-append, length-take-le}
 use Rattle.iloc_spec_grammar.specs.Syntax.{dashes}
-use Rattle.iloc_pieces.specs.Left.{pieces_left, bytes_left}
+use Rattle.iloc_pieces.specs.Cursor.{pieces_left, bytes_left}
 use Rattle.iloc_outline.specs.Printing.{kept_pieces}
 use Rattle.iloc_spec_grammar.specs.Reading.{rest_of}
-use Rattle.iloc_pieces.proofs.LeftLemmas.{last_piece}
+use Rattle.iloc_pieces.proofs.CursorLemmas.{last_piece}
 use Rattle.iloc_outline.proofs.PrintingLemmas.{first_short, next_short, kept_all, kept_put, kept_room}
 use Rattle.iloc_outline.proofs.printing.copy_kept.Goals as goal
 

@@ -1,7 +1,7 @@
 use Rattle.std.proofs.Common.{◌≡◌, ◌≤◌, ◌++◌, length, take}
 use Rattle.std.specs.List.{AllByRecursion}
 use Rattle.iloc_spec_grammar.specs.Syntax.{dashes}
-use Rattle.iloc_pieces.specs.Left.{IsShortPiece, pieces_left}
+use Rattle.iloc_pieces.specs.Cursor.{IsShortPiece, pieces_left}
 use Rattle.iloc_outline.specs.Printing.{kept_pieces}
 use Rattle.iloc_spec_grammar.specs.Reading.{rest_of}
 use Rattle.iloc_outline.proofs.printing.copy_kept.Given as goal
@@ -16,4 +16,4 @@ invariant-pieces l = record {
 }
 
 abbrev pub decreases-pieces : goal.decreases-pieces
-decreases-pieces l = l.at.len
+decreases-pieces l = l.at.remaining

@@ -9,22 +9,22 @@ use Rattle.iloc_outline.proofs.transform.read_transform.Goals as goal
 
 pub returns-then-front : goal.returns-then-front
 returns-then-front g c = λ c' e spanned.
-    let l = c.args.left.now in
+    let l = c.args.cursor.now in
     let front = c.read_front-front in
     front_alone c' c.args.start front.result.end l e
     (sym c.is_language.ensures ∙ c.if-not-is_language.false)
     (front.ensures.end c.args.start ((c' ∷ []) ∷ []) c.requires.follows.later spanned) c.args.spans.now
     c.put.new.spans c.args.in_order.now
     (subst (λ s. held_spans c.put.new.spans ≡ held_spans c.args.spans.now ++ s ∷ []) c.singleton.ensures
-    (c.put.ensures.put c.if-not-put.false)) front.new.left
-    (subst (λ (b : Bool). IsAfterFront l (unless_end b front.new.left)) c.if-front.true front.ensures.next)
+    (c.put.ensures.put c.if-not-put.false)) front.new.cursor
+    (subst (λ (b : Bool). IsAfterFront l (unless_end b front.new.cursor)) c.if-front.true front.ensures.next)
 
 pub returns-in-Next : goal.returns-in-Next
 returns-in-Next g c = λ c' e spanned.
-    let l = c.args.left.now in
+    let l = c.args.cursor.now in
     let front = c.read_front-front in
     let words = c.read_words in
-    let next = subst (λ (b : Bool). IsAfterFront l (unless_end b front.new.left)) c.if-front.false
+    let next = subst (λ (b : Bool). IsAfterFront l (unless_end b front.new.cursor)) c.if-front.false
     front.ensures.next in
     variants_read c' c.args.start front.result.end l e
     (sym c.is_language.ensures ∙ c.if-not-is_language.false)
@@ -32,19 +32,19 @@ returns-in-Next g c = λ c' e spanned.
     c.put.new.spans c.args.in_order.now
     (subst (λ s. held_spans c.put.new.spans ≡ held_spans c.args.spans.now ++ s ∷ []) c.singleton.ensures
     (c.put.ensures.put c.if-not-put.false))
-    front.new.left next.0 next.1 words.new.left c.read_fields.new.left words.new.spans
+    front.new.cursor next.0 next.1 words.new.cursor c.read_fields.new.cursor words.new.spans
     c.read_fields.new.spans words.new.in_order c.read_fields.new.in_order
     c.read_fields.result c.at_block.result
-    (subst (AreWordsRead Variant front.new.left words.new.left c.put.new.spans words.new.spans
+    (subst (AreWordsRead Variant front.new.cursor words.new.cursor c.put.new.spans words.new.spans
     c.args.in_order.now words.new.in_order) c.in-Next.is words.ensures)
     c.read_fields.ensures c.at_block.ensures
 
 pub returns-in_default : goal.returns-in_default
 returns-in_default g c = λ c' e spanned.
-    let l = c.args.left.now in
+    let l = c.args.cursor.now in
     let front = c.read_front-front in
     let words = c.read_words in
-    let next = subst (λ (b : Bool). IsAfterFront l (unless_end b front.new.left)) c.if-front.false
+    let next = subst (λ (b : Bool). IsAfterFront l (unless_end b front.new.cursor)) c.if-front.false
     front.ensures.next in
     variants_alone c' c.args.start front.result.end l e
     (sym c.is_language.ensures ∙ c.if-not-is_language.false)
@@ -52,5 +52,5 @@ returns-in_default g c = λ c' e spanned.
     c.put.new.spans c.args.in_order.now
     (subst (λ s. held_spans c.put.new.spans ≡ held_spans c.args.spans.now ++ s ∷ []) c.singleton.ensures
     (c.put.ensures.put c.if-not-put.false))
-    front.new.left next.0 next.1 words.new.left words.new.spans words.new.in_order words.result
+    front.new.cursor next.0 next.1 words.new.cursor words.new.spans words.new.in_order words.result
     words.ensures c.in_default.not-Next

@@ -1,7 +1,7 @@
 -- Attributes and keywords up to the next block, or what is wrong.
 use Rattle.std.proofs.Common.{◌≡◌, false, sym, ◌∙◌, subst}
 use Rattle.iloc_spec_grammar.specs.Syntax.{is_one_byte}
-use Rattle.iloc_pieces.specs.Left.{piece_left}
+use Rattle.iloc_pieces.specs.Cursor.{piece_left}
 use Rattle.iloc_outline.specs.Reading.{AreWordsRead}
 use Rattle.iloc_spans.specs.declared.span.Role.TheVariants.{Attribute}
 use Rattle.iloc_outline.proofs.UnicodeLemmas.{unicode_single, words_alone, words_read}
@@ -10,30 +10,32 @@ use Rattle.iloc_outline.proofs.unicode.read_unicode.Goals.{in-Next, in_default}
 
 pub returns-then-is_single : goal.returns-then-is_single
 returns-then-is_single g c = λ c' e spanned.
-    unicode_single c' c.args.left.now c.args.left.now c.args.spans.now c.args.spans.now c.args.in_order.now
+    unicode_single c' c.args.cursor.now c.args.cursor.now c.args.spans.now c.args.spans.now
+    c.args.in_order.now
     c.args.in_order.now e
     (sym c.is_single.ensures ∙ c.if-is_single.true)
 
 pub returns : goal.returns
 returns g c = λ c' e spanned.
-    let long : is_one_byte (piece_left c.args.left.now) ≡ false =
+    let long : is_one_byte (piece_left c.args.cursor.now) ≡ false =
     sym c.is_single.ensures ∙ c.if-is_single.false in
     let put = c.put.ensures.put c.if-not-put.false in
     elim c.match-read_words.branch [
       | in-Next w ↦
-          rw (w.spans-is, w.in_order-is, w.left-is)
-          (words_read c' c.args.start c.args.left.now e spanned long c.args.spans.now c.put.new.spans
-          c.args.in_order.now put c.read_words.new.left w.read_fields-found.new.left
+          rw (w.spans-is, w.in_order-is, w.cursor-is)
+          (words_read c' c.args.start c.args.cursor.now e spanned long c.args.spans.now c.put.new.spans
+          c.args.in_order.now put c.read_words.new.cursor w.read_fields-found.new.cursor
           c.read_words.new.spans w.read_fields-found.new.spans c.read_words.new.in_order
           w.read_fields-found.new.in_order w.read_fields-found.result c.at_block.result
-          (subst (AreWordsRead Attribute c.args.left.now c.read_words.new.left c.put.new.spans
+          (subst (AreWordsRead Attribute c.args.cursor.now c.read_words.new.cursor c.put.new.spans
           c.read_words.new.spans c.args.in_order.now c.read_words.new.in_order) w.in-Next.is
           c.read_words.ensures)
-          w.read_fields-found.ensures (rw (sym w.left-is, sym w.found-is) c.at_block.ensures))
+          w.read_fields-found.ensures (rw (sym w.cursor-is, sym w.found-is) c.at_block.ensures))
       | in_default w ↦
-          rw (w.spans-is, w.in_order-is, w.left-is)
-          (words_alone c' c.args.start c.args.left.now e spanned long c.args.spans.now c.put.new.spans
-          c.args.in_order.now put c.read_words.new.left
+          rw (w.spans-is, w.in_order-is, w.cursor-is)
+          (words_alone c' c.args.start c.args.cursor.now e spanned long c.args.spans.now c.put.new.spans
+          c.args.in_order.now put c.read_words.new.cursor
           c.read_words.new.spans c.read_words.new.in_order c.read_words.result c.at_block.result
-          c.read_words.ensures w.in_default.not-Next (rw (sym w.left-is, sym w.found-is) c.at_block.ensures))
+          c.read_words.ensures w.in_default.not-Next
+          (rw (sym w.cursor-is, sym w.found-is) c.at_block.ensures))
     ]

@@ -84,10 +84,11 @@ returns-then-is_last c = λ first old last o n is w.
     h.1.0 c.put.result (ap length h.0 ∙ length-held old) (not_full c.args.role c.put.result may)
     c.put.ensures) in
     elim c.put_group.ensures [
-      | inl f ↦ subst (AreWordsRead c.args.role first c.words.left old c.put_group.new.spans o false) (sym f)
+      | inl f ↦ subst (AreWordsRead c.args.role first c.words.cursor old c.put_group.new.spans o false)
+          (sym f)
           (walks_full _ _ _ old _ _ _ _ w c.requires.many)
       | inr b ↦
-          subst (AreWordsRead c.args.role first c.words.left old c.put_group.new.spans o false) (sym b.0)
+          subst (AreWordsRead c.args.role first c.words.cursor old c.put_group.new.spans o false) (sym b.0)
           (walks_end _ _ _ old _ _ _ _ h.1.1 c.requires.role word (F ++ group_spans c.put.new.self) _ _ _ refl
           c.put.result put may c.put_group.new.spans (sym b.1) (c.is_last.ensures.0 c.if-is_last.true))
     ]
@@ -115,7 +116,7 @@ words-preserved c = (
         (
           _,
           walks_more _ _ _ old _ _ _ _ h.1.1 c.requires.role word (F ++ group_spans c.put.new.self) _ _ _ refl
-              c.put.result put may c.advance.new.left c.advance.ensures,
+              c.put.result put may c.advance.new.cursor c.advance.ensures,
         ),
       ),
 )
@@ -126,10 +127,11 @@ returns c = λ first old last o n is w.
     let none = sym c.fits.ensures ∙ c.words-test.false in
     elim c.put_group-2.ensures [
       | inl f ↦
-          subst (AreWordsRead c.args.role first c.words.left old c.put_group-2.new.spans o false) (sym f)
+          subst (AreWordsRead c.args.role first c.words.cursor old c.put_group-2.new.spans o false) (sym f)
           (walks_full _ _ _ old _ _ _ _ w c.requires.many)
       | inr b ↦
-          subst (AreWordsRead c.args.role first c.words.left old c.put_group-2.new.spans o false) (sym b.0) (
+          subst (AreWordsRead c.args.role first c.words.cursor old c.put_group-2.new.spans o false)
+          (sym b.0) (
             h.1.1.words,
             h.1.1.past,
             none,

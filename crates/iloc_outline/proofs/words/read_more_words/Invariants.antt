@@ -1,6 +1,6 @@
 use Rattle.std.proofs.Common.{◌≡◌, ℕ, Bool, false, ◌++◌}
-use Rattle.iloc_pieces.specs.Left.{IsLater}
-use Rattle.iloc_pieces.specs.declared.cursor.Left.{Left}
+use Rattle.iloc_pieces.specs.Cursor.{IsLater}
+use Rattle.iloc_pieces.specs.declared.place.Cursor.{Cursor}
 use Rattle.iloc_outline.specs.Gathering.{Walks}
 use Rattle.iloc_spans.specs.Group.{group_spans}
 use Rattle.iloc_spans.specs.Spans.{held_spans}
@@ -10,12 +10,12 @@ use Rattle.iloc_outline.proofs.words.read_more_words.Given as goal
 -- the words up to here were passed, and put in order in the group
 abbrev pub invariant-words : goal.invariant-words
 invariant-words l =
-    IsLater l.left × ((first : Left) (old : Spans) (last : ℕ) (o n : Bool) → old.count ≡ l.fn.from
-    → Walks l.fn.role first l.fn.left (held_spans old) (held_spans l.fn.spans) last o n
+    IsLater l.cursor × ((first : Cursor) (old : Spans) (last : ℕ) (o n : Bool) → old.count ≡ l.fn.from
+    → Walks l.fn.role first l.fn.cursor (held_spans old) (held_spans l.fn.spans) last o n
     → (held_spans l.spans ≡ held_spans old)
     × ((now : ℕ)
-    × Walks l.fn.role first l.left (held_spans old) (held_spans l.spans ++ group_spans l.group) now o
+    × Walks l.fn.role first l.cursor (held_spans old) (held_spans l.spans ++ group_spans l.group) now o
     false))
 
 abbrev pub decreases-words : goal.decreases-words
-decreases-words l = l.left.len
+decreases-words l = l.cursor.remaining

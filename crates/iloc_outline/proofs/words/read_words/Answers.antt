@@ -15,7 +15,7 @@ use Rattle.iloc_outline.proofs.words.read_words.Goals.{in-Put, in-There+else-eq}
 
 pub words-init : goal.words-init
 words-init g c =
-    walks_none c.args.role c.args.left.now c.requires.later (held_spans c.args.spans.now)
+    walks_none c.args.role c.args.cursor.now c.requires.later (held_spans c.args.spans.now)
     c.args.in_order.now
 
 pub span_of-span-requires-clause-later : goal.span_of-span-requires-clause-later
@@ -23,9 +23,10 @@ span_of-span-requires-clause-later g c = c.words.invariant.past.later
 
 pub returns-in-Full : goal.returns-in-Full
 returns-in-Full g c =
-    c.read_words.ensures c.args.left.now c.args.spans.now c.words.last c.args.in_order.now
+    c.read_words.ensures c.args.cursor.now c.args.spans.now c.words.last c.args.in_order.now
     c.words.in_order refl
-    (subst (λ ss. Walks c.args.role c.args.left.now c.words.left (held_spans c.args.spans.now) ss c.words.last
+    (subst (λ ss. Walks c.args.role c.args.cursor.now c.words.cursor (held_spans c.args.spans.now) ss
+    c.words.last
     c.args.in_order.now c.words.in_order)
     (sym (put_full _ _ _ _ _ _ _ _ c.put_from.result c.in-Full.is c.put_from.ensures.put)) c.words.invariant)
 
@@ -79,7 +80,7 @@ words-preserved g c =
     ] in
     walks_more _ _ _ c.args.spans.now _ _ _ _ c.words.invariant c.requires.role word
     (held_spans c.put_from.new.spans) _ _ _
-    refl c.put_from.result put may c.advance.new.left c.advance.ensures
+    refl c.put_from.result put may c.advance.new.cursor c.advance.ensures
 
 pub returns : goal.returns
 returns g c =

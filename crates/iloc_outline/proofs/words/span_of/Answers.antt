@@ -1,5 +1,5 @@
 use Rattle.std.proofs.Common.{arith}
-use Rattle.iloc_pieces.proofs.LeftLemmas.{length_text}
+use Rattle.iloc_pieces.proofs.CursorLemmas.{length_text}
 use Rattle.iloc_outline.proofs.RoleLemmas.{short_kind}
 use Rattle.iloc_outline.proofs.WordLemmas.{short_piece, word_fits}
 use Rattle.iloc_outline.proofs.words.span_of.Goals as goal
@@ -9,6 +9,6 @@ word_number-requires c = word_fits c.args.role _ c.requires.word
 
 pub overflow_add-result : goal.overflow_add-result
 overflow_add-result c =
-    let l = c.args.left in
+    let l = c.args.cursor in
     let short = short_kind c.args.role _ c.requires.word in
     omega (arith, (short_piece l c.requires.later short).inside, length_text l)

@@ -7,9 +7,9 @@ use Rattle.locale_web.proofs.rows.count_pieces.Goals as goal
 pub pieces-init : goal.pieces-init
 pieces-init c =
     let h = c.requires in
-    let l = c.left_in-at.ensures in
-    count_begins c.args.normal.now c.left_in-at.result (text_kinded h.0 c.args.normal.now h.1).short l.at
-    l.len l.rest
+    let l = c.cursor_in-at.ensures in
+    count_begins c.args.normal.now c.cursor_in-at.result (text_kinded h.0 c.args.normal.now h.1).short l.at
+    l.remaining l.rest
 
 pub returns : goal.returns
 returns c M h = count_ends c.pieces.invariant (c.is_last.ensures.0 c.pieces-test.false)

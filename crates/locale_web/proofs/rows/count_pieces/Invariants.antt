@@ -5,4 +5,4 @@ abbrev pub invariant-pieces : goal.invariant-pieces
 invariant-pieces l = IsCounted l.normal l.at l.count
 
 abbrev pub decreases-pieces : goal.decreases-pieces
-decreases-pieces l = l.at.len
+decreases-pieces l = l.at.remaining

@@ -8,9 +8,9 @@ use Rattle.locale_web.proofs.rows.write_rows.Goals as goal
 pub pieces-init : goal.pieces-init
 pieces-init c =
     let h = c.requires.normal in
-    let l = c.left_in-at.ensures in
-    write_begins h.0 c.args.normal.now c.left_in-at.result c.args.table.now h.1
-    (c.requires.room h.0 h.1) l.at l.len l.rest
+    let l = c.cursor_in-at.ensures in
+    write_begins h.0 c.args.normal.now c.cursor_in-at.result c.args.table.now h.1
+    (c.requires.room h.0 h.1) l.at l.remaining l.rest
 
 pub overflow_add-at : goal.overflow_add-at
 overflow_add-at c = let e = ends_within c.pieces.invariant in omega arith
@@ -26,7 +26,8 @@ pieces-preserved c =
     (sym (ap (λ w. w.1) c.step-kind.ensures))
     (write_on c.pieces.invariant c.write_row.new.table
     (c.write_row.ensures ∙ ap (λ (k : ℕ). take c.pieces.from c.pieces.table ++
-    (c.pieces.at.at ∷ (c.pieces.at.at + c.pieces.at.n) ∷ k ∷ drop (c.pieces.from + 3) c.pieces.table))
+    (c.pieces.at.at ∷ (c.pieces.at.at + c.pieces.at.piece_length) ∷ k
+    ∷ drop (c.pieces.from + 3) c.pieces.table))
     kind)
     c.next-at.ensures)
 
@@ -35,6 +36,7 @@ returns c M h =
     let kind = c.number.ensures ∙ ap (λ w. kind_number w.0) c.step-kind.ensures in
     write_ends c.pieces.invariant c.write_row.new.table
     (c.write_row.ensures ∙ ap (λ (k : ℕ). take c.pieces.from c.pieces.table ++
-    (c.pieces.at.at ∷ (c.pieces.at.at + c.pieces.at.n) ∷ k ∷ drop (c.pieces.from + 3) c.pieces.table))
+    (c.pieces.at.at ∷ (c.pieces.at.at + c.pieces.at.piece_length) ∷ k
+    ∷ drop (c.pieces.from + 3) c.pieces.table))
     kind)
     (c.is_last.ensures.0 c.if-is_last.true) M h

@@ -5,4 +5,4 @@ abbrev pub invariant-pieces : goal.invariant-pieces
 invariant-pieces l = IsWritten l.normal l.at l.state l.from l.fn.table l.table
 
 abbrev pub decreases-pieces : goal.decreases-pieces
-decreases-pieces l = l.at.len
+decreases-pieces l = l.at.remaining
