@@ -1,12 +1,13 @@
 //! The inputs, one after the other, and what becomes of their lines.
 
 use crate::checking::Report;
-use crate::lines::{Task, answer};
-use crate::messages::{complain_of_stream, say};
+use crate::lines::{Reading, Task, answer};
 use crate::streams::{Source, Target};
-use crate::table::{COUNT, Command, EXIT_STATUS, LINE_NUMBER, QUIET, SHOW};
-use crate::words::{Settings, TROUBLE, WORD, Words};
-use iloc_program::RunError;
+use iloc_program::{Listing, RunError};
+use locid_options::messages::{complain_of_stream, say};
+use locid_options::table;
+use locid_options::table::{COUNT, Command, EXIT_STATUS, LINE_NUMBER, QUIET, SHOW};
+use locid_options::words::{Settings, TROUBLE, WORD, Words};
 use std::alloc::Global;
 use std::fs::Files;
 use std::io::{ErrorKind, Input, Read, Write};
@@ -61,7 +62,7 @@ impl<W: Write + Drop> Inputs<W> {
             are_many: words.files.len() > 1,
             target: Target {
                 to,
-                by_zero: settings.reading().by_zero && answers,
+                by_zero: settings.has(table::NULL) && answers,
                 looks: settings.has(EXIT_STATUS),
                 is_refused: false,
                 error: None,
@@ -125,7 +126,7 @@ impl<W: Write + Drop> Inputs<W> {
     ) -> Option<u8> {
         let mut source = Source {
             from,
-            by_zero: self.settings.reading().by_zero,
+            by_zero: self.settings.has(table::NULL),
             error: None,
         };
         match self.answer_lines(rt.alloc(), name, &mut source) {
@@ -160,7 +161,7 @@ impl<W: Write + Drop> Inputs<W> {
     ) -> Result<(), RunError> {
         let before = self.tally;
         let task = self.task(name);
-        let reading = self.settings.reading();
+        let reading = reading_of(self.settings);
         answer(
             alloc,
             reading,
@@ -182,7 +183,10 @@ impl<W: Write + Drop> Inputs<W> {
         match self.command {
             Command::Normalize if writes => {
                 let is_named = self.are_many && settings.has(LINE_NUMBER);
-                Task::List(settings.listing(), if is_named { Some(name) } else { None })
+                Task::List(
+                    listing_of(settings),
+                    if is_named { Some(name) } else { None },
+                )
             }
             Command::Parts => Task::Part(settings.is_json),
             _ => Task::Check(Report {
@@ -214,6 +218,27 @@ pub fn complain_of_output(rt: &(impl Eprint + AllocGlobal), error: Option<io::Er
         return CLOSED_PIPE;
     }
     complain_of_stream(rt, "write error", error)
+}
+
+// How lines are read.
+fn reading_of(settings: Settings) -> Reading {
+    Reading {
+        mode: settings.mode,
+        cleans: settings.has(table::CLEAN),
+        by_zero: settings.has(table::NULL),
+    }
+}
+
+// How lines are listed, if any of it is asked for.
+fn listing_of(settings: Settings) -> Option<Listing> {
+    if !settings.has(table::WHERE | table::LINE_NUMBER | table::ONLY_REFUSED) {
+        return None;
+    }
+    Some(Listing {
+        places: settings.has(table::WHERE),
+        numbers: settings.has(table::LINE_NUMBER),
+        only_refused: settings.has(table::ONLY_REFUSED),
+    })
 }
 
 // Writes how many lines were counted since.

@@ -5,17 +5,14 @@ mod checking;
 mod inputs;
 mod json;
 mod lines;
-mod messages;
 mod naming;
 mod parting;
 mod parts;
 mod preparing;
 mod streams;
-mod table;
-mod words;
 
 use crate::inputs::{Inputs, complain_of_output};
-use crate::words::{Asked, TROUBLE, Words};
+use locid_options::words::{Asked, TROUBLE, Words};
 use std::io;
 use std::io::Write;
 use std::process::ExitCode;

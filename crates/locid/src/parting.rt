@@ -69,20 +69,12 @@ impl Parting<'_> {
 
 // Adds the columns. A refusal has no hyphens, so it stands in the first one.
 fn write_columns(parts: &Parts<'_>, to: &mut ReplyBlock) -> Result<(), AllocError> {
-    write_column(parts.language, to)?;
-    write_column(parts.script, to)?;
-    write_column(parts.region, to)?;
-    to.extend_from_slice(parts.variants.0)?;
-    to.push(b'\t')?;
-    write_keywords(parts.keywords.0, to)?;
-    to.push(b'\t')?;
-    to.extend_from_slice(parts.extensions.0)
-}
-
-// Adds a part, and a tab.
-fn write_column(part: Option<&str>, to: &mut ReplyBlock) -> Result<(), AllocError> {
-    to.extend_from_slice(part.unwrap_or("").as_bytes())?;
-    to.push(b'\t')
+    let tab: &[u8] = b"\t";
+    for part in [parts.language, parts.script, parts.region, parts.variants] {
+        write_all(&[part, tab], to)?;
+    }
+    write_keywords(parts.keywords, to)?;
+    write_all(&[tab, parts.extensions], to)
 }
 
 // Adds the keywords, as `ca=buddhist;kn`.
@@ -90,15 +82,18 @@ fn write_keywords(keywords: &[u8], to: &mut ReplyBlock) -> Result<(), AllocError
     let mut rest = keywords;
     for _ in 0..keywords.len() {
         let (key, value, later) = cut_member(rest, 2);
-        to.extend_from_slice(key)?;
-        if !value.is_empty() {
-            to.push(b'=')?;
-            to.extend_from_slice(value)?;
-        }
-        if !later.is_empty() {
-            to.push(b';')?;
-        }
+        let equals: &[u8] = if value.is_empty() { &[] } else { b"=" };
+        let end: &[u8] = if later.is_empty() { &[] } else { b";" };
+        write_all(&[key, equals, value, end], to)?;
         rest = later;
+    }
+    Ok(())
+}
+
+// Adds these texts.
+fn write_all(texts: &[&[u8]], to: &mut ReplyBlock) -> Result<(), AllocError> {
+    for text in texts {
+        to.extend_from_slice(text)?;
     }
     Ok(())
 }

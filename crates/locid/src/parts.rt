@@ -2,28 +2,20 @@
 
 ghost use Rattle.std.specs.Prelude.{◌≤◌, length};
 
-use serde::Serialize;
 use std::str;
 
-/// The parts of a locale, each as its normal text has it.
-#[derive(Clone, Copy, Serialize)]
+/// The parts of a locale, each as its normal text has it. What there is not is empty.
+#[derive(Clone, Copy)]
 pub struct Parts<'a> {
-    pub language: Option<&'a str>,
-    pub script: Option<&'a str>,
-    pub region: Option<&'a str>,
-    pub variants: Variants<'a>,
-    pub keywords: Members<'a>,
+    pub language: &'a [u8],
+    pub script: &'a [u8],
+    pub region: &'a [u8],
+    /// Variants, with hyphens between them.
+    pub variants: &'a [u8],
+    pub keywords: &'a [u8],
     /// All extensions, from the first singleton on.
-    pub extensions: Members<'a>,
+    pub extensions: &'a [u8],
 }
-
-/// Variants, with hyphens between them.
-#[derive(Clone, Copy)]
-pub struct Variants<'a>(pub &'a [u8]);
-
-/// Keywords or extensions, and how many bytes their keys have.
-#[derive(Clone, Copy)]
-pub struct Members<'a>(pub &'a [u8], pub usize);
 
 /// A part as text: it is ASCII.
 pub fn text_of(part: &[u8]) -> &str {
@@ -34,36 +26,38 @@ pub fn text_of(part: &[u8]) -> &str {
 pub fn cut_piece(text: &[u8]) -> (&[u8], &[u8])
     ensures { length result.0.now ≤ length text.now }
 {
-    match text.iter().position(|byte| *byte == b'-') {
-        Some(at) => (&text[..at], &text[at + 1..]),
-        None => (text, &[]),
+    for at in 0..text.len() {
+        if text[at] == b'-' {
+            return (&text[..at], &text[at + 1..]);
+        }
     }
+    (text, &[])
 }
 
 /// The parts of a normal text. A script has four bytes and begins with a capital, a region has two letters or three digits;
 /// up to the first singleton all else are variants (UTS #35, part 1, section 3.1).
 pub fn cut(text: &[u8]) -> Parts<'_> {
     let (language, mut rest) = cut_piece(text);
-    let mut script = None;
-    let mut region = None;
+    let mut script: &[u8] = &[];
+    let mut region: &[u8] = &[];
     let (piece, later) = cut_piece(rest);
     if matches!(piece, [b'A'..=b'Z', _, _, _]) {
-        script = Some(text_of(piece));
+        script = piece;
         rest = later;
     }
     let (piece, later) = cut_piece(rest);
     if matches!(piece.len(), 2 | 3) {
-        region = Some(text_of(piece));
+        region = piece;
         rest = later;
     }
     let (variants, extensions) = cut_before(rest, 1);
     Parts {
-        language: Some(text_of(language)),
+        language,
         script,
         region,
-        variants: Variants(variants),
-        keywords: Members(keywords_in(extensions), 2),
-        extensions: Members(extensions, 1),
+        variants,
+        keywords: keywords_in(extensions),
+        extensions,
     }
 }
 

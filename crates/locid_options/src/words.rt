@@ -1,10 +1,9 @@
 //! What the arguments ask for, word by word.
 
-use crate::lines::Reading;
 use crate::messages::{complain, say};
 use crate::table;
 use crate::table::{Command, Flag};
-use iloc_program::{Listing, Mode};
+use iloc_normalize::Mode;
 use std::alloc::Global;
 use std::env::FillError;
 use std::rt::Env;
@@ -20,7 +19,7 @@ pub const TROUBLE: u8 = 2;
 #[derive(Clone, Copy)]
 pub struct Settings {
     met: Flag,
-    mode: Mode,
+    pub mode: Mode,
     /// Whether parts are written as JSON.
     pub is_json: bool,
 }
@@ -29,27 +28,6 @@ impl Settings {
     /// Whether one of these options was met.
     pub fn has(&self, flags: Flag) -> bool {
         self.met & flags != 0
-    }
-
-    /// How lines are read.
-    pub fn reading(&self) -> Reading {
-        Reading {
-            mode: self.mode,
-            cleans: self.has(table::CLEAN),
-            by_zero: self.has(table::NULL),
-        }
-    }
-
-    /// How lines are listed, if any of it is asked for.
-    pub fn listing(&self) -> Option<Listing> {
-        if !self.has(table::WHERE | table::LINE_NUMBER | table::ONLY_REFUSED) {
-            return None;
-        }
-        Some(Listing {
-            places: self.has(table::WHERE),
-            numbers: self.has(table::LINE_NUMBER),
-            only_refused: self.has(table::ONLY_REFUSED),
-        })
     }
 }
 
@@ -78,6 +56,7 @@ enum Stop<'a> {
 #[derive(Drop)]
 pub struct Words {
     command: Option<Command>,
+    /// What is done with lines.
     pub settings: Settings,
     /// Where the files stand among the arguments.
     pub files: Vec<usize>,
@@ -88,6 +67,7 @@ pub struct Words {
 }
 
 impl Words {
+    /// Those before the first one.
     pub fn new(alloc: Global) -> Words {
         Words {
             command: None,
