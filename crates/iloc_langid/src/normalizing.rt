@@ -66,10 +66,7 @@ impl LanguageIdentifier {
 
     // Normalizes a text that is not plain: from its bytes, and beyond the outline's limits by parsing it.
     #[inline(never)]
-    fn normalize_other<M: Memory>(
-        memory: M,
-        input: &[u8],
-    ) -> Result<CowStr<'_, Global>, ParseError>
+    fn normalize_other<M: Memory>(memory: M, input: &[u8]) -> Result<CowStr<'_, Global>, ParseError>
         ensures ok { IfOk result (λ text. IsNormalizedIdentifier input.now (cow_str_bytes text)
             × (IsLent text ↔ (input.now ≡ cow_str_bytes text))) }
         ensures err { IfErr result (Refusal (HasIdentifierFault languages (pieces input.now)) ⊤) }
@@ -118,10 +115,7 @@ impl LanguageIdentifier {
 
     /// As `normalize_utf8_in`, of a `str`.
     #[inline(always)]
-    pub fn normalize_in<M: Memory>(
-        memory: M,
-        input: &str,
-    ) -> Result<CowStr<'_, Global>, ParseError>
+    pub fn normalize_in<M: Memory>(memory: M, input: &str) -> Result<CowStr<'_, Global>, ParseError>
         ensures ok { IfOk result (λ text. IsNormalizedIdentifier input.now (cow_str_bytes text)
             × (IsLent text ↔ (input.now ≡ cow_str_bytes text))) }
         ensures err { IfErr result (Refusal (HasIdentifierFault languages (pieces input.now)) ⊤) }

@@ -5,7 +5,8 @@ use Rattle.iloc_langid.specs.Reads.{value_of}
 use Rattle.iloc_langid.proofs.NormalizingLemmas.{is_normalized, meant_within, refuses_memory}
 use Rattle.iloc_langid.proofs.identifier.LanguageIdentifier.normalize_parsed.Goals as goal
 
-pub returns-in_err-to_string_or_borrow_in-clause-memory : goal.returns-in_err-to_string_or_borrow_in-clause-memory
+pub returns-in_err-to_string_or_borrow_in-clause-memory :
+    goal.returns-in_err-to_string_or_borrow_in-clause-memory
 returns-in_err-to_string_or_borrow_in-clause-memory g c =
     let p = err_from_is_err_and c.from_residual-in_err-to_string_or_borrow_in.result
     c.from_residual-in_err-to_string_or_borrow_in.ensures.1 in

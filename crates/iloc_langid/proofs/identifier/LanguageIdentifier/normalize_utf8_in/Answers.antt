@@ -16,7 +16,8 @@ returns-in-Some-clause-ok g c =
     (c.in-Some.ensures.normal Langid)
 
 pub returns-in-Some-clause-err : goal.returns-in-Some-clause-err
-returns-in-Some-clause-err g c = refused Langid c.args.input.now c.in-Some.normal (c.in-Some.ensures.normal Langid)
+returns-in-Some-clause-err g c =
+    refused Langid c.args.input.now c.in-Some.normal (c.in-Some.ensures.normal Langid)
 
 pub returns-in-Some-clause-memory : goal.returns-in-Some-clause-memory
 returns-in-Some-clause-memory g c =

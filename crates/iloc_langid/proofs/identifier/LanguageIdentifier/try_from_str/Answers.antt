@@ -15,7 +15,8 @@ returns-clause-accepted c =
     reads_accepts (pieces c.args.s.now) c.try_from_utf8_in.result (returns-clause-reads c)
 
 pub returns-clause-refused : goal.returns-clause-refused
-returns-clause-refused c = reads_refuses (pieces c.args.s.now) c.try_from_utf8_in.result (returns-clause-reads c)
+returns-clause-refused c =
+    reads_refuses (pieces c.args.s.now) c.try_from_utf8_in.result (returns-clause-reads c)
 
 pub returns-clause-narrow : goal.returns-clause-narrow
 returns-clause-narrow c = reads_narrow c.args.s.now c.try_from_utf8_in.result (returns-clause-reads c)

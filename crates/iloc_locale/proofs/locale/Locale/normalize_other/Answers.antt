@@ -24,7 +24,8 @@ returns-in-Normal-clause-ok g c =
 
 pub returns-in-Normal-clause-err : goal.returns-in-Normal-clause-err
 returns-in-Normal-clause-err g c =
-    refused Locale c.args.input.now c.text_of.result (c.text_of.ensures.normal Locale c.in-Normal.ensures.answered)
+    refused Locale c.args.input.now c.text_of.result
+    (c.text_of.ensures.normal Locale c.in-Normal.ensures.answered)
 
 pub returns-in-Normal-clause-memory : goal.returns-in-Normal-clause-memory
 returns-in-Normal-clause-memory g c =

@@ -7,7 +7,8 @@ use Rattle.iloc_locale.specs.LocaleReading.{value_of}
 use Rattle.iloc_locale.proofs.NormalLemmas.{is_normalized, refuses_memory}
 use Rattle.iloc_locale.proofs.locale.Locale.normalize_parsed.Goals as goal
 
-pub returns-in_err-to_string_or_borrow_in-clause-memory : goal.returns-in_err-to_string_or_borrow_in-clause-memory
+pub returns-in_err-to_string_or_borrow_in-clause-memory :
+    goal.returns-in_err-to_string_or_borrow_in-clause-memory
 returns-in_err-to_string_or_borrow_in-clause-memory g c =
     let p = err_from_is_err_and c.from_residual-in_err-to_string_or_borrow_in.result
     c.from_residual-in_err-to_string_or_borrow_in.ensures.1 in

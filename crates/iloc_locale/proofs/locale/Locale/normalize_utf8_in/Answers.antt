@@ -11,10 +11,12 @@ use Rattle.iloc_locale.proofs.locale.Locale.normalize_utf8_in.Goals as goal
 pub returns-in-Some-clause-ok : goal.returns-in-Some-clause-ok
 returns-in-Some-clause-ok g c =
     let t = c.args.input.now in
-    normal_text Locale t (IsNormalizedLocale t) (answered_text t) c.in-Some.normal (c.in-Some.ensures.normal Locale)
+    normal_text Locale t (IsNormalizedLocale t) (answered_text t) c.in-Some.normal
+    (c.in-Some.ensures.normal Locale)
 
 pub returns-in-Some-clause-err : goal.returns-in-Some-clause-err
-returns-in-Some-clause-err g c = refused Locale c.args.input.now c.in-Some.normal (c.in-Some.ensures.normal Locale)
+returns-in-Some-clause-err g c =
+    refused Locale c.args.input.now c.in-Some.normal (c.in-Some.ensures.normal Locale)
 
 pub returns-in-Some-clause-memory : goal.returns-in-Some-clause-memory
 returns-in-Some-clause-memory g c =

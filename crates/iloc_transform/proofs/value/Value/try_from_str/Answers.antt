@@ -11,7 +11,8 @@ returns-clause-reads c = subst (λ (t : Text). FieldValueTextReads t c.try_from_
     c.as_bytes.ensures.value c.try_from_utf8_in.ensures.reads
 
 pub returns-clause-memory : goal.returns-clause-memory
-returns-clause-memory c = subst (λ (t : Text). RunsOutOnlyIf (FieldValueTextWants t) c.try_from_utf8_in.result)
+returns-clause-memory c = subst
+    (λ (t : Text). RunsOutOnlyIf (FieldValueTextWants t) c.try_from_utf8_in.result)
     c.as_bytes.ensures.value c.try_from_utf8_in.ensures.memory
 
 pub returns-clause-accepted : goal.returns-clause-accepted
