@@ -1,9 +1,9 @@
 -- Texts of words, identifiers and well-formed locales are read as these, and so are their JSON strings.
 use Rattle.std.proofs.Common.{◌≡◌, Option, Some, Result, Ok, Err, if◌then◌else◌, refl, sym, ap, ◌∙◌}
-use Rattle.std.proofs.Common.{subst}
+use Rattle.std.proofs.Common.{subst, true, false}
 use Rattle.serde_json.specs.Data.{Data, string}
 use Rattle.serde_json.specs.Find.{as_str}
-use Rattle.iloc_spec_grammar.specs.Syntax.{Text, Kind, read, normal, languages, pieces}
+use Rattle.iloc_spec_grammar.specs.Syntax.{Text, Kind, read, normal, is_word, languages, pieces}
 use Rattle.iloc_spec_grammar.specs.Values.{IsNormal, IsIdentifierValue, IsWellFormed, identifier_text, text}
 use Rattle.iloc_spec_grammar.specs.Meaning as faults
 use Rattle.iloc_spec_grammar.proofs.IdentifierTexts.{identifier_text_means, identifier_apart}
@@ -15,6 +15,7 @@ use Rattle.iloc_subtags.specs.declared.parse_error.ParseError.{ParseError}
 use Rattle.iloc_subtags.specs.declared.parse_error.ParseError.TheVariants.{InvalidLanguage, InvalidSubtag}
 use Rattle.iloc_subtags.specs.declared.parse_error.ParseError.TheVariants.{InvalidExtension}
 use Rattle.iloc_subtags.specs.declared.parse_error.ParseError.TheVariants.{DuplicatedExtension, OutOfMemory}
+use Rattle.iloc_subtags.specs.Judging.{NamesFault, RunsOutOnlyIf}
 use Rattle.iloc_langid.specs.declared.identifier.LanguageIdentifier.{LanguageIdentifier}
 use Rattle.iloc_langid.specs.Reads.{value_of as identifier_of}
 use Rattle.iloc_locale.specs.declared.locale.Locale.{Locale}
@@ -33,6 +34,21 @@ pub word_back : (k : Kind) (e : ParseError) (w : Text) → IsNormal k w → (r :
 word_back k e w h r is =
     subst (λ (x : Result Text ParseError). SucceedsOr OutOfMemory (λ other. other ≡ w) x)
     (sym (is ∙ normal_read k e w h)) refl
+
+-- a subtag is never refused for want of memory
+no_want : (Wants : Type 0) (e : ParseError) → NamesFault e → RunsOutOnlyIf {X = Text} Wants (Err e)
+no_want Wants InvalidLanguage h = tt
+no_want Wants InvalidSubtag h = tt
+no_want Wants InvalidExtension h = tt
+no_want Wants DuplicatedExtension h = tt
+no_want Wants OutOfMemory h = absurd h
+
+pub word_no_want : (Wants : Type 0) (k : Kind) (e : ParseError) → NamesFault e → (w : Text)
+    (r : Result Text ParseError) → r ≡ read k e w → RunsOutOnlyIf Wants r
+word_no_want Wants k e h w r is =
+    subst (RunsOutOnlyIf Wants) (sym is)
+    (elim (is_word k w) as (λ b. RunsOutOnlyIf Wants (if b then Ok (normal k w) else Err e))
+    [ true ↦ tt | false ↦ no_want Wants e h ])
 
 pub identifier_back : (i : LanguageIdentifier) → IsIdentifierValue languages (identifier_of i) →
     (r : Result LanguageIdentifier ParseError) → IsIdentifierAnswer (identifier_text (identifier_of i)) r →

@@ -27,6 +27,11 @@ abbrev pub RunsOutOnlyIf : {X : Type 0} → Type 0 → Result X ParseError → T
 RunsOutOnlyIf Wants (Err OutOfMemory) = Wants
 RunsOutOnlyIf Wants _ = ⊤
 
+-- the refusal is another than that memory ran out
+abbrev pub NamesFault : ParseError → Type 0
+NamesFault OutOfMemory = ⊥
+NamesFault _ = ⊤
+
 -- the fault g alone can come, and it is there if P holds
 abbrev pub Only : Fault → Type 0 → Fault → Type 0
 Only g P f = (f ≡ g) × P

@@ -22,6 +22,8 @@ impl WordKind<2> for UnicodeKeyKind {
 
     ghost fits = { unicode_key_fits };
 
+    ghost faulty = { tt };
+
     ghost size = { refl };
 
     #[tactic(auto, unfolding(iloc_spec_grammar::specs::Syntax::is_word))]
@@ -66,6 +68,8 @@ impl WordKind<2> for TransformKeyKind {
 
     ghost fits = { transform_key_fits };
 
+    ghost faulty = { tt };
+
     ghost size = { refl };
 
     #[tactic(auto, unfolding(iloc_spec_grammar::specs::Syntax::is_word))]
@@ -107,6 +111,8 @@ impl WordKind<8> for AttributeKind {
     ghost refusal = { InvalidExtension };
 
     ghost fits = { attribute_fits };
+
+    ghost faulty = { tt };
 
     ghost size = { refl };
 
@@ -150,6 +156,8 @@ impl WordKind<8> for PrivateSubtagKind {
 
     ghost fits = { private_subtag_fits };
 
+    ghost faulty = { tt };
+
     ghost size = { refl };
 
     #[tactic(auto, unfolding(iloc_spec_grammar::specs::Syntax::is_word))]
@@ -192,6 +200,8 @@ impl WordKind<4> for SubdivisionSuffixKind {
 
     ghost fits = { subdivision_suffix_fits };
 
+    ghost faulty = { tt };
+
     ghost size = { refl };
 
     #[tactic(auto, unfolding(iloc_spec_grammar::specs::Syntax::is_word))]
@@ -233,6 +243,8 @@ impl WordKind<3> for CurrencyTypeKind {
     ghost refusal = { InvalidExtension };
 
     ghost fits = { currency_fits };
+
+    ghost faulty = { tt };
 
     ghost size = { refl };
 

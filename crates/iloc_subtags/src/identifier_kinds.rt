@@ -26,6 +26,8 @@ impl WordKind<8> for LanguageKind {
 
     ghost fits = { language_fits };
 
+    ghost faulty = { tt };
+
     ghost size = { refl };
 
     #[tactic(auto, unfolding(iloc_spec_grammar::specs::Syntax::is_word, iloc_spec_grammar::specs::Syntax::languages))]
@@ -95,6 +97,8 @@ impl WordKind<4> for ScriptKind {
 
     ghost fits = { script_fits };
 
+    ghost faulty = { tt };
+
     ghost size = { refl };
 
     #[tactic(auto, unfolding(iloc_spec_grammar::specs::Syntax::is_word))]
@@ -136,6 +140,8 @@ impl WordKind<3> for RegionKind {
     ghost refusal = { InvalidSubtag };
 
     ghost fits = { region_fits };
+
+    ghost faulty = { tt };
 
     ghost size = { refl };
 
@@ -194,6 +200,8 @@ impl WordKind<8> for VariantKind {
 
     ghost fits = { variant_fits };
 
+    ghost faulty = { tt };
+
     ghost size = { refl };
 
     #[tactic(auto, unfolding(iloc_spec_grammar::specs::Syntax::is_word))]
@@ -237,6 +245,8 @@ impl WordKind<8> for SubtagKind {
     ghost refusal = { InvalidSubtag };
 
     ghost fits = { subtag_fits };
+
+    ghost faulty = { tt };
 
     ghost size = { refl };
 

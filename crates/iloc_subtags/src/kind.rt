@@ -4,6 +4,7 @@ ghost use Rattle.iloc_spec_grammar.specs.Syntax.{Text, Kind, is_word, IsWord, no
 ghost use Rattle.iloc_tinystr.specs.TinyText.{is_tiny_text};
 ghost use Rattle.iloc_subtags.specs.Lengths.{has_length};
 ghost use Rattle.iloc_subtags.specs.declared.parse_error.ParseError.{ParseError};
+ghost use Rattle.iloc_subtags.specs.Judging.{NamesFault};
 
 use crate::parse_error::ParseError;
 use iloc_tinystr::ShortPiece;
@@ -37,6 +38,9 @@ pub trait WordKind<const N: usize> {
 
     /// Each subtag of the kind is a short text of at most `N` bytes.
     ghost fits: { (text : Text) → IsWord kind text → is_tiny_text N text ≡ true };
+
+    /// The refusal names a fault.
+    ghost faulty: { NamesFault refusal };
 
     /// `N` is the greatest length of the kind.
     ghost size: { greatest 8 kind ≡ N };

@@ -198,13 +198,14 @@ fn normalized(memory: UpTo, text: &str) -> Result<usize, ParseError> {
     Ok(id + locale)
 }
 
-// How many bytes the printed text has, of the identifier and of the locale, and beside the text itself.
+// How many bytes printed texts have: of the language, the identifier and the locale, and that beside the text itself.
 fn printed(memory: UpTo, text: &str) -> Result<usize, ParseError> {
     let locale = Locale::try_from_str(memory.heap, text)?;
+    let language = Writeable::write_to_string_in(&locale.id.language, memory)?.len();
     let id = locale.id.write_to_string_in(memory)?.len();
     let whole = locale.write_to_string_in(memory)?.len();
     let beside = to_string_or_borrow_in(memory, &locale, text.as_bytes())?.len();
-    Ok(id + whole + beside)
+    Ok(language + id + whole + beside)
 }
 
 #[test]
@@ -224,12 +225,12 @@ fn normal_texts_ask_for_room_for_their_bytes(rt: HostRuntime) -> Result<(), Fail
 #[test]
 fn printed_texts_ask_for_room_for_their_bytes(rt: HostRuntime) -> Result<(), Fail> {
     let (heap, refused) = (rt.alloc(), Err(ParseError::OutOfMemory));
-    assert_eq!(rt; printed(up_to(0, heap), "en"), Ok(6));
+    assert_eq!(rt; printed(up_to(0, heap), "en"), Ok(8));
     assert_eq!(rt; printed(up_to(4, heap), "EN-us"), refused);
-    assert_eq!(rt; printed(up_to(5, heap), "EN-us"), Ok(15));
+    assert_eq!(rt; printed(up_to(5, heap), "EN-us"), Ok(17));
     let long = "en-aaaaa-bbbbb-ccccc-ddddd-eeeee-fffff-ggggg-hhhhh-iiiii-jjjjj-kkkkk";
     assert_eq!(rt; printed(up_to(67, heap), long), refused);
-    assert_eq!(rt; printed(up_to(68, heap), long), Ok(204));
+    assert_eq!(rt; printed(up_to(68, heap), long), Ok(206));
     Ok(())
 }
 
