@@ -191,11 +191,13 @@ fn empty_values_ask_for_no_room(rt: HostRuntime) -> Result<(), Fail> {
 // How many bytes the normal text has, as an identifier and as a locale, from bytes and from a `str`.
 fn normalized(memory: UpTo, text: &str) -> Result<usize, ParseError> {
     let bytes = text.as_bytes();
-    let id = LanguageIdentifier::normalize_utf8_in(memory, bytes)?.len()
-        + LanguageIdentifier::normalize_in(memory, text)?.len();
-    let locale = Locale::normalize_utf8_in(memory, bytes)?.len()
-        + Locale::normalize_in(memory, text)?.len();
-    Ok(id + locale)
+    let id = LanguageIdentifier::normalize_utf8_in(memory, bytes)?
+        .len()
+        .saturating_add(LanguageIdentifier::normalize_in(memory, text)?.len());
+    let locale = Locale::normalize_utf8_in(memory, bytes)?
+        .len()
+        .saturating_add(Locale::normalize_in(memory, text)?.len());
+    Ok(id.saturating_add(locale))
 }
 
 // How many bytes printed texts have: of the language, the identifier and the locale, and that beside the text itself.
@@ -205,7 +207,8 @@ fn printed(memory: UpTo, text: &str) -> Result<usize, ParseError> {
     let id = locale.id.write_to_string_in(memory)?.len();
     let whole = locale.write_to_string_in(memory)?.len();
     let beside = to_string_or_borrow_in(memory, &locale, text.as_bytes())?.len();
-    Ok(language + id + whole + beside)
+    let parts = language.saturating_add(id);
+    Ok(parts.saturating_add(whole).saturating_add(beside))
 }
 
 #[test]
