@@ -220,7 +220,7 @@ OWN = {
     "litemap::Store": "litemap::store::Store (and its kin)",
     "json::JsonText": "serde::Serialize, serde::Deserialize",
     "bench::CarryError": "",
-    "bench::carry_v1": "",
+    **dict.fromkeys(("bench::carry_v1", "bench::carry_v1_in"), ""),
 }
 OWN_MODULES = ("laws", "program", "subtags::kinds")
 

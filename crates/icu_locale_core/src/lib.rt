@@ -236,7 +236,7 @@ pub mod json {
 /// Preferences of formatters, as users define them, and old raw forms of languages, moved to the new ones.
 pub mod bench {
     pub use iloc_data::{FormatPreferences, TimePreferences};
-    pub use iloc_json::{CarryError, carry_v1};
+    pub use iloc_json::{CarryError, carry_v1, carry_v1_in};
 }
 
 /// Laws of the definitions: their orders are total, and what is fed to a hasher tells values apart.

@@ -70,8 +70,9 @@ begins_then row rest ws w more b long normal is more_is = (
 pub one_more : (row rest out : Text) (count : ℕ) (w more new : Text) → SoFar row rest out count →
     3 ≤ length rest → IsNormal (Language two_or_three) w →
     narrow_raw (Language two_or_three) w ≡ first_three rest → more ≡ drop 3 rest →
-    new ≡ out ++ wide_raw (Language languages) w → SoFar row more new (count + 1)
-one_more row rest out count w more new s long normal is more_is new_is = record {
+    new ≡ out ++ wide_raw (Language languages) w → length (wide_raw (Language languages) w) ≡ 8 →
+    SoFar row more new (count + 1)
+one_more row rest out count w more new s long normal is more_is new_is eight = record {
   words = s.words ++ w ∷ [];
   begins = begins_then row rest s.words w more s.begins long normal is more_is;
   new = new_is ∙ ap (λ o. o ++ wide_raw (Language languages) w) s.new
@@ -79,8 +80,10 @@ one_more row rest out count w more new s long normal is more_is new_is = record 
   counted = length-append s.words (w ∷ []) ∙ ap (λ n. n + 1) s.counted;
   whole = let l = length-three rest long in
       let m = s.whole in let e : length more ≡ length (drop 3 rest) = ap length more_is in omega arith;
-  room = let l = length-three rest long in
-      let e : length more ≡ length (drop 3 rest) = ap length more_is in let r = s.room in omega arith;
+  passed = let l = length-three rest long in
+      let e : length more ≡ length (drop 3 rest) = ap length more_is in let r = s.passed in omega arith;
+  sized = let l = ap length new_is ∙ length-append out (wide_raw (Language languages) w) in
+      let so = s.sized in omega (arith, l, so, eight);
 }
 
 -- words that the row begins with, one of them at least, leave a first one

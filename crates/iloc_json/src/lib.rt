@@ -15,7 +15,7 @@ pub mod errors;
 pub mod json_text;
 pub mod text_value;
 
-pub use carry::carry_v1;
+pub use carry::{carry_v1, carry_v1_in};
 pub use carry_error::CarryError;
 pub use errors::JsonError;
 pub use json_text::JsonText;

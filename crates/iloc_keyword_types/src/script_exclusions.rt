@@ -1,11 +1,13 @@
 //! A keyword whose value is a list of scripts.
-ghost use Rattle.std.specs.Prelude.{◌≡◌, Some, IfOk, codes};
+ghost use Rattle.std.specs.Prelude.{◌≡◌, Some, IfOk, OnErr, codes, length};
 ghost use Rattle.iloc_spec_grammar.specs.Syntax.{word, Script as the_kind};
+ghost use Rattle.iloc_memory.specs.Refusals.{RefusedWithin};
 ghost use Rattle.iloc_spec_parts.specs.Keywords.{scripts_give};
 ghost use Rattle.iloc_keyword_types.specs.Reads.{ReadsUnder};
-ghost use Rattle.iloc_keyword_types.specs.Scripts.{ReadsScripts};
+ghost use Rattle.iloc_keyword_types.specs.Scripts.{ReadsScripts, ScriptsRunOut};
 
 use crate::{PreferenceKey, PreferencesParseError, key_of};
+use iloc_memory::Memory;
 use iloc_subtags::{Script, ScriptKind, Subtag, UnicodeKey};
 use iloc_word_list::{Value, WordList};
 use std::alloc::{AllocError, Global};
@@ -40,13 +42,25 @@ impl DictionaryBreakScriptExclusions {
     pub fn try_from_value(alloc: Global, value: &Value) -> Result<Self, PreferencesParseError>
         ensures { ReadsScripts value.now result }
     {
+        Self::try_from_value_in(alloc, value)
+    }
+
+    /// As `try_from_value`, from any memory. `OutOfMemory` comes only if room for at most as many scripts as the value
+    /// has subtags was refused.
+    pub fn try_from_value_in<M: Memory>(
+        memory: M,
+        value: &Value,
+    ) -> Result<Self, PreferencesParseError>
+        ensures reads { ReadsScripts value.now result }
+        ensures out_of_memory { ScriptsRunOut M.refused value.now result }
+    {
         let subtags = value.as_subtags_slice();
         let mut scripts = WordList::new();
         for subtag in subtags {
             let Some(script) = script_of(subtag) else {
                 return Err(PreferencesParseError::InvalidKeywordValue);
             };
-            scripts.push(alloc, script)?;
+            scripts.push_in(memory, script)?;
         }
         Ok(DictionaryBreakScriptExclusions { scripts })
     }
@@ -55,8 +69,16 @@ impl DictionaryBreakScriptExclusions {
     pub fn to_value(&self, alloc: Global) -> Result<Value, AllocError>
         ensures { IfOk result (λ value. value ≡ scripts_give self.now) }
     {
+        self.to_value_in(alloc)
+    }
+
+    /// As `to_value`, from any memory. Refusal: `AllocError`, only if room for at most all the scripts was refused.
+    pub fn to_value_in<M: Memory>(&self, memory: M) -> Result<Value, AllocError>
+        ensures value { IfOk result (λ value. value ≡ scripts_give self.now) }
+        ensures out_of_memory { OnErr result (RefusedWithin M.refused (length self.now)) }
+    {
         let scripts = self.as_inner();
-        let mut subtags = Vec::with_capacity(alloc, scripts.len())?;
+        let mut subtags = memory.with_capacity(scripts.len())?;
         for script in scripts {
             subtags.push_reserved(Subtag::from(*script));
         }

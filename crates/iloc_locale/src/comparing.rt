@@ -5,11 +5,13 @@ ghost use Rattle.std.specs.Cmp.Lexicographic.{slice_cmp};
 ghost use Rattle.iloc_spec_grammar.specs.Syntax.{languages};
 ghost use Rattle.iloc_spec_grammar.specs.Meaning.{Means, no_extensions};
 ghost use Rattle.iloc_spec_grammar.specs.Values.{text};
+ghost use Rattle.iloc_memory.specs.Refusals.{RefusedWithin};
 ghost use Rattle.iloc_spec_parts.specs.Orders.{locale_cmp};
 ghost use Rattle.iloc_locale.specs.LocaleReading.{value_of, LocaleWantsMemory};
 
 use crate::locale::Locale;
 use iloc_langid::beginning::begins_with;
+use iloc_memory::Memory;
 use iloc_normalize::answered::ROOM;
 use iloc_normalize::{Answered, Mode, answer};
 use iloc_pieces::Window;
@@ -47,6 +49,18 @@ impl Locale {
         ensures memory { OnErr result (LocaleWantsMemory other.now
             × ((value_of self.now).extensions ≢ no_extensions)) }
     {
+        self.normalizing_eq_in(alloc, other)
+    }
+
+    /// As `normalizing_eq`, from any memory. `AllocError` comes only if room for at most as many items as the text has
+    /// bytes was refused.
+    pub fn normalizing_eq_in<M: Memory>(&self, memory: M, other: &str) -> Result<bool, AllocError>
+        ensures same { IfOk result
+            (λ same. IsTrue same ↔ Means languages other.now (value_of self.now)) }
+        ensures memory { OnErr result (LocaleWantsMemory other.now
+            × ((value_of self.now).extensions ≢ no_extensions)) }
+        ensures out_of_memory { OnErr result (RefusedWithin M.refused (length other.now)) }
+    {
         if self.extensions.is_empty() {
             return Ok(self.id.normalizing_eq(other));
         }
@@ -55,7 +69,7 @@ impl Locale {
         }
         match self.compare_outlined(other.as_bytes()) {
             Some(same) => Ok(same),
-            None => self.compare_parsed(alloc, other),
+            None => self.compare_parsed(memory, other),
         }
     }
 
@@ -98,12 +112,13 @@ impl Locale {
 
     // Whether the text means this locale, by parsing it.
     #[inline(never)]
-    fn compare_parsed(&self, alloc: Global, other: &str) -> Result<bool, AllocError>
+    fn compare_parsed<M: Memory>(&self, memory: M, other: &str) -> Result<bool, AllocError>
         ensures same { IfOk result
             (λ same. IsTrue same ↔ Means languages other.now (value_of self.now)) }
         ensures memory { OnErr result (LocaleWantsMemory other.now) }
+        ensures out_of_memory { OnErr result (RefusedWithin M.refused (length other.now)) }
     {
-        match Locale::try_from_str(alloc, other) {
+        match Locale::try_from_str_in(memory, other) {
             Ok(locale) => Ok(self.total_cmp(&locale).is_eq()),
             Err(refusal) => differs(refusal),
         }

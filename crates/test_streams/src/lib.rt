@@ -1,6 +1,6 @@
 //! Tests of what no table test can say: sinks, readers and writers that fail in mid-stream, or give and take one byte a
-//! call; parts of many types that print as one text; lists and maps whose items own memory; the room that a text takes;
-//! values that are read in place of others; the places of faults.
+//! call; parts of many types that print as one text; lists and maps whose items own memory; values that are
+//! read in place of others; the places of faults.
 //!
 //! `FailingSink` gives its text and counts its failures. The crate stands on the crates whose calls it makes, up to
 //! `iloc_program`.
@@ -20,10 +20,6 @@ mod listings;
 mod lists;
 #[cfg(test)]
 mod locales;
-#[cfg(test)]
-mod memory;
-#[cfg(test)]
-mod parsing_memory;
 #[cfg(test)]
 mod printing;
 #[cfg(test)]

@@ -1,10 +1,10 @@
 use Rattle.iloc_langid.specs.Reads as langid
 use Rattle.iloc_locale.specs.ExtensionsValue as extensions
 use Rattle.iloc_locale.proofs.AloneLemmas.{means_alone}
-use Rattle.iloc_locale.proofs.locale.Locale.normalizing_eq.Goals as goal
+use Rattle.iloc_locale.proofs.locale.Locale.normalizing_eq_in.Goals as goal
 
 pub returns-then-is_empty-clause-same : goal.returns-then-is_empty-clause-same
-returns-then-is_empty-clause-same c =
+returns-then-is_empty-clause-same g c =
     let locale = c.args.self.now in
     let none = c.is_empty.ensures.0 c.if-is_empty.true in
     let alone = means_alone c.args.other.now (langid.value_of locale.id)
