@@ -10,7 +10,8 @@ words-preserved g c = one_more c.args.row.now c.words.rest.now c.words.carried.i
     ∙ ap (λ (x : Text). c.words.carried.items ++ x) c.into_raw.ensures)
 
 pub returns-in_default-clause-err : goal.returns-in_default-clause-err
-returns-in_default-clause-err g c = refused c.args.row.now c.words.rest.now c.words.carried.items c.words.count
+returns-in_default-clause-err g c =
+    refused c.args.row.now c.words.rest.now c.words.carried.items c.words.count
     c.words.invariant (omega arith) c.words-test.true c.in_default.ensures.1
 
 pub returns-in_default-extend_from_slice-clause-err : goal.returns-in_default-extend_from_slice-clause-err
