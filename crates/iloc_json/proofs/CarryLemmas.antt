@@ -1,9 +1,10 @@
 -- One word more, a bad one, or no memory for it.
 use Rattle.std.proofs.Common.{◌≡◌, ◌≢◌, ℕ, ◌+◌, ◌%◌, ◌≤◌, List, [], ◌∷◌, ◌++◌, length, take, ◌-◌, drop}
-use Rattle.std.proofs.Common.{get_or, refl, sym, ap, ◌∙◌, arith, append_assoc, append-nil, length-append}
+use Rattle.std.proofs.Common.{get_or, refl, sym, ap, ◌∙◌, arith, append_assoc, append-nil, length-append, replicate}
 use Rattle.std.specs.List.{flat_map, AllByRecursion}
 use Rattle.iloc_spec_grammar.specs.Syntax.{Text, Language, languages, two_or_three, narrow_raw, wide_raw}
 use Rattle.iloc_spec_grammar.specs.Values.{IsNormal}
+use Rattle.iloc_spec_grammar.proofs.RawLaws.{wide-narrow_raw}
 use Rattle.iloc_json.specs.declared.carry_error.CarryError.TheVariants.{Word, OutOfMemory}
 use Rattle.iloc_json.specs.Carrying.{BeginsWith, CannotCarry, SoFar}
 use Rattle.std.proofs.Math.Seq.{take-length}
@@ -67,12 +68,16 @@ begins_then row rest ws w more b long normal is more_is = (
       ∙ sym (append_assoc b.0 (first_three rest) more),
 )
 
+-- a new raw form has eight bytes
+new_form : (w rest : Text) → IsNormal (Language two_or_three) w →
+    narrow_raw (Language two_or_three) w ≡ first_three rest → length (wide_raw (Language languages) w) ≡ 8
+new_form w rest normal is = ap length (wide-narrow_raw w normal.0 ∙ ap (λ l. l ++ replicate 5 0) is)
+
 pub one_more : (row rest out : Text) (count : ℕ) (w more new : Text) → SoFar row rest out count →
     3 ≤ length rest → IsNormal (Language two_or_three) w →
     narrow_raw (Language two_or_three) w ≡ first_three rest → more ≡ drop 3 rest →
-    new ≡ out ++ wide_raw (Language languages) w → length (wide_raw (Language languages) w) ≡ 8 →
-    SoFar row more new (count + 1)
-one_more row rest out count w more new s long normal is more_is new_is eight = record {
+    new ≡ out ++ wide_raw (Language languages) w → SoFar row more new (count + 1)
+one_more row rest out count w more new s long normal is more_is new_is = record {
   words = s.words ++ w ∷ [];
   begins = begins_then row rest s.words w more s.begins long normal is more_is;
   new = new_is ∙ ap (λ o. o ++ wide_raw (Language languages) w) s.new
@@ -83,7 +88,7 @@ one_more row rest out count w more new s long normal is more_is new_is eight = r
   passed = let l = length-three rest long in
       let e : length more ≡ length (drop 3 rest) = ap length more_is in let r = s.passed in omega arith;
   sized = let l = ap length new_is ∙ length-append out (wide_raw (Language languages) w) in
-      let so = s.sized in omega (arith, l, so, eight);
+      let so = s.sized in let eight = new_form w rest normal is in omega (arith, l, so, eight);
 }
 
 -- words that the row begins with, one of them at least, leave a first one

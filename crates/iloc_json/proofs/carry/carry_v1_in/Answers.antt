@@ -6,7 +6,7 @@ use Rattle.iloc_spec_grammar.specs.Syntax.{Text}
 pub words-preserved : goal.words-preserved
 words-preserved g c = one_more c.args.row.now c.words.rest.now c.words.carried.items c.words.count
     c.in-Ok.language _ _ c.words.invariant c.words-test.true c.in-Ok.ensures.0 c.in-Ok.ensures.1
-    (dropped c.words.rest.now c.words-test.true) (c.in-Ok-extend_from_slice.ensures.items
+    (dropped c.words.rest.now c.words-test.true) (c.in-Ok-extend_from_slice.ensures.ok
     ∙ ap (λ (x : Text). c.words.carried.items ++ x) c.into_raw.ensures)
 
 pub returns-in_default-clause-err : goal.returns-in_default-clause-err
