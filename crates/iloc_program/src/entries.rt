@@ -12,7 +12,7 @@ use crate::numbered::{Listing, Lists};
 use crate::quoting::{escaped_in, short_range, write_decimal, write_range, write_shown};
 use crate::replies::{reason_of, write_refusal};
 use crate::{InMode, ReplyBlock};
-use iloc_faults::{Fault, InMemory, place_in};
+use iloc_faults::{Fault, InMemory, place_of};
 use iloc_pieces::{Window, before_marked};
 use iloc_spans::spans::Spans;
 use iloc_subtags::ParseError;
@@ -53,15 +53,11 @@ impl<A: InMode> Lists for Listed<A> {
         let before = replies.len();
         match answer_in(mode, line, &mut self.spans, replies)? {
             Some(refusal) => {
-                write_refused(
-                    self.alloc,
-                    &self.answers,
-                    listing,
-                    number,
-                    line,
-                    refusal,
-                    replies,
-                )
+                write_number(listing, number, replies)?;
+                if !listing.places {
+                    return write_refusal(refusal, replies);
+                }
+                write_refused(self.alloc, &self.answers, line, refusal, replies)
             }
             None if listing.only_refused => {
                 replies.truncate(before);
@@ -77,32 +73,20 @@ impl<A: InMode> Lists for Listed<A> {
 fn write_refused<A: InMode>(
     alloc: Global,
     answers: &A,
-    listing: Listing,
-    number: u64,
     line: Window<'_>,
     refusal: ParseError,
     replies: &mut ReplyBlock,
 ) -> Result<(), AllocError>
     requires { HasRefusal A.mode (text_in line) refusal }
-    ensures { OnOk result (AddsText (IsEntry A.mode listing number (text_in line.entry))
-        (held replies.old) (held replies.new)) }
 {
-    write_number(listing, number, replies)?;
-    if !listing.places {
-        return write_refusal(refusal, replies);
-    }
     let mode = answers.mode();
-    match place_in(InMemory(alloc), mode, line) {
-        Some((start, end)) => {
-            let fault = Fault {
-                refusal,
-                start,
-                end,
-            };
-            write_placed(line, &fault, replies)
-        }
-        None => unreachable!(),
-    }
+    let (start, end) = place_of(InMemory(alloc), mode, line, &refusal);
+    let fault = Fault {
+        refusal,
+        start,
+        end,
+    };
+    write_placed(line, &fault, replies)
 }
 
 // Adds the number of the line and a tab, if numbers are asked for.
@@ -114,6 +98,12 @@ fn write_number(listing: Listing, number: u64, replies: &mut ReplyBlock) -> Resu
     if !listing.numbers {
         return Ok(());
     }
+    write_column(number, replies)
+}
+
+#[inline(never)]
+fn write_column(number: u64, replies: &mut ReplyBlock) -> Result<(), AllocError>
+{
     write_decimal(number, replies)?;
     replies.push(b'\t')
 }
