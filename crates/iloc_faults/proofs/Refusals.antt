@@ -42,7 +42,7 @@ same_fault Langid t f g x y = one_identifier_fault _ x y
 same_fault Locale t f g x y = one_fault t x y
 same_fault Data t f g x y = one_data_fault t x y
 
-one_refusal : (mode : Mode) (t : Text) (d e : ParseError) → HasRefusal mode t d → HasRefusal mode t e →
+pub one_refusal : (mode : Mode) (t : Text) (d e : ParseError) → HasRefusal mode t d → HasRefusal mode t e →
     d ≡ e
 one_refusal mode t d e x y =
     let f = fault_of_refusal mode t d x in

@@ -53,11 +53,15 @@ impl<A: InMode> Lists for Listed<A> {
         let before = replies.len();
         match answer_in(mode, line, &mut self.spans, replies)? {
             Some(refusal) => {
-                write_number(listing, number, replies)?;
-                if !listing.places {
-                    return write_refusal(refusal, replies);
-                }
-                write_refused(self.alloc, &self.answers, line, refusal, replies)
+                write_refused(
+                    self.alloc,
+                    &self.answers,
+                    listing,
+                    number,
+                    line,
+                    refusal,
+                    replies,
+                )
             }
             None if listing.only_refused => {
                 replies.truncate(before);
@@ -73,14 +77,21 @@ impl<A: InMode> Lists for Listed<A> {
 fn write_refused<A: InMode>(
     alloc: Global,
     answers: &A,
+    listing: Listing,
+    number: u64,
     line: Window<'_>,
     refusal: ParseError,
     replies: &mut ReplyBlock,
 ) -> Result<(), AllocError>
     requires { HasRefusal A.mode (text_in line) refusal }
+    ensures { OnOk result (AddsText (IsEntry A.mode listing number (text_in line.entry))
+        (held replies.old) (held replies.new)) }
 {
-    let mode = answers.mode();
-    let (start, end) = place_of(InMemory(alloc), mode, line, &refusal);
+    write_number(listing, number, replies)?;
+    if !listing.places {
+        return write_refusal(refusal, replies);
+    }
+    let (start, end) = place_of(InMemory(alloc), answers.mode(), line, &refusal);
     let fault = Fault {
         refusal,
         start,
@@ -98,12 +109,6 @@ fn write_number(listing: Listing, number: u64, replies: &mut ReplyBlock) -> Resu
     if !listing.numbers {
         return Ok(());
     }
-    write_column(number, replies)
-}
-
-#[inline(never)]
-fn write_column(number: u64, replies: &mut ReplyBlock) -> Result<(), AllocError>
-{
     write_decimal(number, replies)?;
     replies.push(b'\t')
 }
