@@ -10,12 +10,12 @@ use Rattle.iloc_pieces.specs.Cursor.{IsShortPiece, piece_left, pieces_left, byte
 use Rattle.iloc_pieces.specs.declared.place.Cursor.{Cursor}
 use Rattle.iloc_pieces.proofs.CursorLemmas.{last_piece, length_piece}
 use Rattle.iloc_normalize.specs.declared.Mode.{Mode}
-use Rattle.iloc_faults.specs.Next.{started, next}
+use Rattle.iloc_faults.specs.Next.{started, next, run}
 use Rattle.iloc_faults.specs.States.{AreVariantsRead, AreNew, are_same, first_variants}
 use Rattle.iloc_faults.specs.States.{variants_left, reached}
 use Rattle.iloc_faults.specs.declared.state.Part.{Part}
 use Rattle.iloc_faults.specs.Places.{GoOn}
-use Rattle.iloc_faults.proofs.Going.{run, goes_no_longer}
+use Rattle.iloc_faults.proofs.Going.{goes_no_longer}
 use Rattle.iloc_faults.proofs.VariantsLeft.{some_left}
 use Rattle.iloc_expected.specs.declared.reading.Reading.{Reading}
 use Rattle.iloc_expected.specs.Standing.{without_empty}

@@ -13,13 +13,13 @@ use Rattle.iloc_normalize.specs.declared.Mode.{Mode}
 use Rattle.iloc_faults.specs.declared.state.Part.{Part}
 use Rattle.iloc_faults.specs.declared.state.Part.TheVariants.{Start, Head, Transform, Source, Keyword}
 use Rattle.iloc_faults.specs.declared.state.Stage.TheVariants.{Language, Script, Region}
-use Rattle.iloc_faults.specs.Next.{Reached, started, may_end, next, outcome}
+use Rattle.iloc_faults.specs.Next.{Reached, started, may_end, next, outcome, run}
 use Rattle.iloc_faults.specs.States.{reached}
 use Rattle.iloc_faults.specs.Places.{GoOn}
 use Rattle.iloc_faults.proofs.Answers.{accepted_is}
 use Rattle.iloc_faults.proofs.DataSteps.{fine}
 use Rattle.iloc_faults.proofs.OnePlace.{fewer}
-use Rattle.iloc_faults.proofs.Going.{run, run_append, verdict_run, goes_on, goes_no_longer}
+use Rattle.iloc_faults.proofs.Going.{run_append, verdict_run, goes_on, goes_no_longer}
 use Rattle.iloc_expected.specs.declared.kinds.Expected.{Expected}
 use Rattle.iloc_expected.specs.declared.kinds.PieceKind.{PieceKind}
 use Rattle.iloc_expected.specs.declared.kinds.PieceKind.TheVariants as kinds

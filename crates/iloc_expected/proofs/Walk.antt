@@ -19,11 +19,11 @@ use Rattle.iloc_faults.specs.declared.state.Part.{Part}
 use Rattle.iloc_faults.specs.declared.state.Part.TheVariants.{Start, Head, Transform, Source, FieldKey}
 use Rattle.iloc_faults.specs.declared.state.Stage.{Stage}
 use Rattle.iloc_faults.specs.declared.state.Stage.TheVariants.{Language, Script, Region}
-use Rattle.iloc_faults.specs.Next.{Reached, started, plain, is_new, begins_block, block_next, inside_next}
+use Rattle.iloc_faults.specs.Next.{Reached, started, plain, is_new, begins_block, block_next, inside_next, run}
 use Rattle.iloc_faults.specs.Next.{word_next, after_script_next, after_region_next, next}
 use Rattle.iloc_faults.specs.States.{AreVariantsRead, reached}
 use Rattle.iloc_faults.specs.Places.{GoOn}
-use Rattle.iloc_faults.proofs.Going.{run, run_append, goes_no_longer}
+use Rattle.iloc_faults.proofs.Going.{run_append, goes_no_longer}
 use Rattle.iloc_faults.proofs.Bits.{none_seen}
 use Rattle.iloc_faults.proofs.VariantsLeft.{some_left}
 use Rattle.iloc_spec_grammar.proofs.ReadBack.{all_append}

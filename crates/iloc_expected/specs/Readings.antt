@@ -9,10 +9,9 @@ use Rattle.iloc_pieces.specs.declared.place.Cursor.{Cursor}
 use Rattle.iloc_normalize.specs.declared.Mode.{Mode}
 use Rattle.iloc_normalize.specs.declared.Mode.TheVariants.{Langid, Locale, Data}
 use Rattle.iloc_faults.specs.Places.{GoOn}
-use Rattle.iloc_faults.specs.Next.{started, next, may_end, takes_any}
+use Rattle.iloc_faults.specs.Next.{started, next, may_end, takes_any, run}
 use Rattle.iloc_faults.specs.States.{AreSingletonsSeen, reached}
 use Rattle.iloc_faults.specs.States.{IsPieceRead as IsStatePieceRead, IsRead as IsStateRead}
-use Rattle.iloc_faults.proofs.Going.{run}
 use Rattle.iloc_faults.specs.declared.state.Part.{Part}
 use Rattle.iloc_faults.specs.declared.state.Part.TheVariants.{Start, Head, Transform, Source, FieldKey}
 use Rattle.iloc_faults.specs.declared.state.Part.TheVariants.{FieldValue, Unicode, Keyword, Other, OtherWord}

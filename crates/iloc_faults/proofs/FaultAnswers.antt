@@ -49,7 +49,7 @@ bad_is mode t n (Some f) bad = record {
 
 -- ---- the place lies within the text
 
-place_inside : (mode : Mode) (t : Text) (a b : ℕ) → IsFaultPlace mode t a b → (a ≤ b) × (b ≤ length t)
+pub place_inside : (mode : Mode) (t : Text) (a b : ℕ) → IsFaultPlace mode t a b → (a ≤ b) × (b ≤ length t)
 place_inside mode t a b (inr p) = let x = p.from in let y = p.to in (omega arith, omega arith)
 place_inside mode t a b (inl p) =
     let x = p.from in

@@ -12,18 +12,12 @@ use Rattle.iloc_faults.specs.declared.state.Part.TheVariants.{Start, Head, Trans
 use Rattle.iloc_faults.specs.declared.state.Part.TheVariants.{FieldValue, Unicode, Keyword, Other, OtherWord}
 use Rattle.iloc_faults.specs.declared.state.Part.TheVariants.{Private, PrivateWord, Subdivision}
 use Rattle.iloc_faults.specs.declared.state.Part.TheVariants.{SubdivisionKey, SubdivisionValue}
-use Rattle.iloc_faults.specs.Next.{Reached, started, next, outcome}
+use Rattle.iloc_faults.specs.Next.{Reached, started, next, outcome, run}
 use Rattle.iloc_faults.specs.Places.{GoOn}
 use Rattle.iloc_faults.proofs.DataSteps.{fine}
 use Rattle.iloc_faults.proofs.Answers.{accepted_is}
 
 -- ---- runs
-
--- what was read with more pieces
-abbrev pub run : Mode → Option Reached → List Text → Option Reached
-run mode None ps = None
-run mode (Some r) [] = Some r
-run mode (Some r) (p ∷ ps) = run mode (next mode r p) ps
 
 pub run_append : (mode : Mode) (o : Option Reached) (xs ys : List Text) →
     run mode o (xs ++ ys) ≡ run mode (run mode o xs) ys

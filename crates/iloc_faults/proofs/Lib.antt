@@ -8,6 +8,7 @@ pub mod Identifiers
 pub mod DataSteps
 pub mod Answers
 pub mod Going
+pub mod Refusals
 pub mod NewNumbers
 pub mod Chunks
 pub mod VariantsLeft

@@ -27,7 +27,7 @@ use Rattle.iloc_faults.specs.Next.{Reached, plain, is_new, is_seen, when, may_be
 use Rattle.iloc_faults.specs.Next.{after_region_next, after_script_next, word_next, piece_next, block_next}
 use Rattle.iloc_faults.specs.Next.{inside_next, next}
 use Rattle.iloc_faults.specs.States.{AreSingletonsSeen, AreVariantsRead, IsEarly, HasNone, IsPieceRead}
-use Rattle.iloc_faults.specs.States.{IsWordRead, AreNew, are_same, bare, first_variants, reached}
+use Rattle.iloc_faults.specs.States.{IsWordRead, AreNew, AreNewFrom, are_same, bare, first_variants, reached}
 use Rattle.iloc_faults.specs.States.{variants_left}
 use Rattle.iloc_faults.proofs.VariantsLeft.{one_and_more, some_left}
 use Rattle.iloc_faults.proofs.Bits.{language_short, piece_short}
@@ -82,11 +82,19 @@ new_some mode vs at n other e h =
 -- there is one at least
 pub new_at_least : (mode : Mode) (vs : List Text) (at : Cursor) (n : ℕ) →
     is_word Variant (piece_left at) ≡ true → is_new mode vs (lower (piece_left at)) ≡ true →
-    AreNew are_same vs (map lower (variants_left at)) n → 1 ≤ n
-new_at_least mode vs at n e new h =
-    let known = subst (λ (ws : List Text). AreNew are_same vs ws n) (words_left at e) h in
-    let less = one_less vs _ (lower (piece_left at)) n known (new_differs mode vs _ new) in
-    omega (arith, less.1)
+    AreNewFrom mode vs at n → (mode ≡ Data → n ≡ 1) → 1 ≤ n
+new_at_least mode vs at n e new h one = by mode refl
+  where
+    counted : mode ≢ Data → 1 ≤ n
+    counted other =
+        let known = subst (λ (ws : List Text). AreNew are_same vs ws n) (words_left at e) (h other) in
+        let less = one_less vs _ (lower (piece_left at)) n known (new_differs mode vs _ new) in
+        omega (arith, less.1)
+
+    by : (m : Mode) → mode ≡ m → 1 ≤ n
+    by Data is = let only = one is in omega (arith, only)
+    by Langid is = counted (λ other. cc)
+    by Locale is = counted (λ other. cc)
 
 -- ---- words of an identifier
 
@@ -96,8 +104,8 @@ module _ (mode : Mode) (vs : List Text) (at : Cursor) where
   both e n = rw (e, n) refl
 
   pub variant_read : (n : ℕ) → is_word Variant (piece_left at) ≡ true →
-      is_new mode vs (lower (piece_left at)) ≡ true → AreNew are_same vs (map lower (variants_left at)) n →
-      IsWordRead at (after_region_next mode vs (piece_left at)) (Some (Region, Some (n - 1)))
+      is_new mode vs (lower (piece_left at)) ≡ true → AreNewFrom mode vs at n →
+      IsWordRead mode at (after_region_next mode vs (piece_left at)) (Some (Region, Some (n - 1)))
   variant_read n e new h = (
     vs ++ (lower (piece_left at) ∷ []),
     both e new,
@@ -110,11 +118,10 @@ module _ (mode : Mode) (vs : List Text) (at : Cursor) where
       some [] e = cc
       some (x ∷ xs) e = cc
 
-      more : (m : Cursor) → IsNextPiece at m →
-          AreNew are_same (vs ++ (lower (piece_left at) ∷ [])) (map lower (variants_left m)) (n - 1)
-      more m next =
+      more : (m : Cursor) → IsNextPiece at m → AreNewFrom mode (vs ++ (lower (piece_left at) ∷ [])) m (n - 1)
+      more m next other =
           let words = ap (map lower) (one_and_more at (pieces_left m) next.pieces e) in
-          let known = subst (λ (ws : List Text). AreNew are_same vs ws n) words h in
+          let known = subst (λ (ws : List Text). AreNew are_same vs ws n) words (h other) in
           let less = one_less vs _ (lower (piece_left at)) n known (new_differs mode vs _ new) in
           let rest : less.0 ≡ n - 1 = omega (arith, less.1) in
           subst (λ (k : ℕ).
@@ -122,18 +129,18 @@ module _ (mode : Mode) (vs : List Text) (at : Cursor) where
           rest less.2
 
 pub region_read : (mode : Mode) (at : Cursor) → is_word kinds.Region (piece_left at) ≡ true →
-    IsWordRead at (after_script_next mode [] (piece_left at)) (Some (Region, None))
+    IsWordRead mode at (after_script_next mode [] (piece_left at)) (Some (Region, None))
 region_read mode at e = ([], rw e refl, short_region (piece_left at) e, tt, λ m next. refl)
 
 -- no variant comes before a script or a region
-pub none_yet : (at : Cursor) (first : Option ℕ) (vs : List Text) → first ≡ None →
-    AreVariantsRead first at vs → vs ≡ []
-none_yet at None vs e h = h
-none_yet at (Some first) vs e h = cc
+pub none_yet : (mode : Mode) (at : Cursor) (first : Option ℕ) (vs : List Text) → first ≡ None →
+    AreVariantsRead mode first at vs → vs ≡ []
+none_yet mode at None vs e h = h
+none_yet mode at (Some first) vs e h = cc
 
 pub script_read : (mode : Mode) (at : Cursor) (vs : List Text) → vs ≡ [] →
     is_word kinds.Script (piece_left at) ≡ true →
-    IsWordRead at (word_next mode Language vs (piece_left at)) (Some (Script, None))
+    IsWordRead mode at (word_next mode Language vs (piece_left at)) (Some (Script, None))
 script_read mode at vs z e = (vs, rw e refl, short_script (piece_left at) e, refl, λ m next. z)
 
 -- ---- parts without variants
@@ -147,30 +154,30 @@ none_early (Source Script) = refl
 none_early (Source Region) = tt
 none_early _ = tt
 
-pub plain_read : (at : Cursor) (bits : ℕ) (seen : List ℕ) → AreSingletonsSeen bits seen → (o : Option Part) →
+pub plain_read : (mode : Mode) (at : Cursor) (bits : ℕ) (seen : List ℕ) → AreSingletonsSeen bits seen → (o : Option Part) →
     IfSome o (λ _. IsShortPiece (piece_left at)) →
-    IsPieceRead at (option_map (plain seen) o) (option_map (bare bits) o)
-plain_read at bits seen h None short = refl
-plain_read at bits seen h (Some p) short =
+    IsPieceRead mode at (option_map (plain seen) o) (option_map (bare bits) o)
+plain_read mode at bits seen h None short = refl
+plain_read mode at bits seen h (Some p) short =
     ([], seen, refl, short, λ m next. record { seen_are = h; variants_are = refl; early = none_early p })
 
 -- the same, as the reader makes it
-pub plain_is : (at : Cursor) (bits : ℕ) (seen : List ℕ) → AreSingletonsSeen bits seen → (o : Option Part) →
+pub plain_is : (mode : Mode) (at : Cursor) (bits : ℕ) (seen : List ℕ) → AreSingletonsSeen bits seen → (o : Option Part) →
     IfSome o (λ _. IsShortPiece (piece_left at)) → (s : Option State) → s ≡ option_map (bare bits) o →
-    (r : Option Reached) → r ≡ option_map (plain seen) o → IsPieceRead at r s
-plain_is at bits seen h o short s e r f = subst (λ x. IsPieceRead at x s) (sym f)
-    (subst (IsPieceRead at (option_map (plain seen) o)) (sym e) (plain_read at bits seen h o short))
+    (r : Option Reached) → r ≡ option_map (plain seen) o → IsPieceRead mode at r s
+plain_is mode at bits seen h o short s e r f = subst (λ x. IsPieceRead mode at x s) (sym f)
+    (subst (IsPieceRead mode at (option_map (plain seen) o)) (sym e) (plain_read mode at bits seen h o short))
 
 -- ---- words in their places
 
 -- a word of the head, and one after `t`
-pub word_read : (of : Stage → Part) →
+pub word_read : (mode : Mode) (of : Stage → Part) →
     ((stage : Stage) (first : Option ℕ) → IsEarly stage first → HasNone (of stage) first) →
     (at : Cursor) (bits : ℕ) (seen : List ℕ) → AreSingletonsSeen bits seen → (o : Option (Stage × List Text))
-    → (w : Stage × Option ℕ) → IsWordRead at o (Some w)
-    → IsPieceRead at (option_map (λ (x : Stage × List Text). reached (of x.0) x.1 seen) o)
+    → (w : Stage × Option ℕ) → IsWordRead mode at o (Some w)
+    → IsPieceRead mode at (option_map (λ (x : Stage × List Text). reached (of x.0) x.1 seen) o)
     (Some (record { part = of w.0; variants = w.1; seen = bits }))
-word_read of none at bits seen h o w (ws, e, short, early, more) = (
+word_read mode of none at bits seen h o w (ws, e, short, early, more) = (
   ws,
   seen,
   ap (option_map (λ (x : Stage × List Text). reached (of x.0) x.1 seen)) e,
@@ -183,7 +190,7 @@ word_read of none at bits seen h o w (ws, e, short, early, more) = (
 -- its singleton was seen
 pub block_seen : (at : Cursor) (part : Part) (seen : List ℕ) →
     is_seen seen (slice_index (piece_left at) 0) ≡ true →
-    IsPieceRead at (block_next Locale part seen (slice_index (piece_left at) 0)) None
+    IsPieceRead Locale at (block_next Locale part seen (slice_index (piece_left at) 0)) None
 block_seen at part seen e = rw (e, and_false) refl
   where
     and_false : (b : Bool) → (b && false) ≡ false
@@ -196,7 +203,7 @@ pub block_read : (at : Cursor) (part : Part) (bits : ℕ) (seen : List ℕ) → 
     is_seen seen (slice_index (piece_left at) 0) ≡ false
     → AreSingletonsSeen bits (to_ascii_lowercase (slice_index (piece_left at) 0) ∷ seen) → (p : Part) →
     p ≡ part_of (to_ascii_lowercase (slice_index (piece_left at) 0)) →
-    IsPieceRead at (block_next Locale part seen (slice_index (piece_left at) 0)) (Some (bare bits p))
+    IsPieceRead Locale at (block_next Locale part seen (slice_index (piece_left at) 0)) (Some (bare bits p))
 block_read at part bits seen one begins new h p e = (
   [],
   to_ascii_lowercase (slice_index (piece_left at) 0) ∷ seen,
@@ -211,7 +218,7 @@ pub data_read : (at : Cursor) (part : Part) (stage : Stage) (bits : ℕ) (seen :
     AreSingletonsSeen bits seen → is_one_byte (piece_left at) ≡ true → part ≡ Head stage →
     to_ascii_lowercase (slice_index (piece_left at) 0) ≡ code_u
     → (s : Option State) → s ≡ option_map (bare bits) (Some Subdivision) →
-    IsPieceRead at (block_next Data part seen (slice_index (piece_left at) 0)) s
+    IsPieceRead Data at (block_next Data part seen (slice_index (piece_left at) 0)) s
 data_read at part stage bits seen h one e u s f = rw (e, f) (rw u (
   [],
   seen,
@@ -226,45 +233,45 @@ module _ (mode : Mode) (at : Cursor) (part : Part) (vs : List Text) (seen : List
     (h : AreSingletonsSeen bits seen) where
   pub start_read : part ≡ Start → (s : Option State) →
       s ≡ option_map (bare bits) (when (is_word (kinds.Language languages) (piece_left at)) (Head Language)) →
-      IsPieceRead at (inside_next mode part vs seen (piece_left at)) s
+      IsPieceRead mode at (inside_next mode part vs seen (piece_left at)) s
   start_read e s f =
-      rw e (plain_is at bits seen h _ (language_short (piece_left at) (Head Language)) s f _ refl)
+      rw e (plain_is mode at bits seen h _ (language_short (piece_left at) (Head Language)) s f _ refl)
 
   pub key_read : part ≡ Transform → is_word kinds.TransformKey (piece_left at) ≡ true → (s : Option State) →
       s ≡ option_map (bare bits) (Some FieldKey) →
-      IsPieceRead at (inside_next mode part vs seen (piece_left at)) s
+      IsPieceRead mode at (inside_next mode part vs seen (piece_left at)) s
   key_read e k s f =
-      rw (e, k) (plain_is at bits seen h (Some FieldKey) (short_field_key (piece_left at) k) s f _ refl)
+      rw (e, k) (plain_is mode at bits seen h (Some FieldKey) (short_field_key (piece_left at) k) s f _ refl)
 
   pub key_read_after : (stage : Stage) → part ≡ Source stage →
       is_word kinds.TransformKey (piece_left at) ≡ true → (s : Option State) →
       s ≡ option_map (bare bits) (Some FieldKey) →
-      IsPieceRead at (inside_next mode part vs seen (piece_left at)) s
+      IsPieceRead mode at (inside_next mode part vs seen (piece_left at)) s
   key_read_after stage e k s f =
-      rw (e, k) (plain_is at bits seen h (Some FieldKey) (short_field_key (piece_left at) k) s f _ refl)
+      rw (e, k) (plain_is mode at bits seen h (Some FieldKey) (short_field_key (piece_left at) k) s f _ refl)
 
   pub language_read : part ≡ Transform → is_word kinds.TransformKey (piece_left at) ≡ false →
       (s : Option State) →
       s
       ≡ option_map (bare bits) (when (is_word (kinds.Language languages) (piece_left at)) (Source Language)) →
-      IsPieceRead at (inside_next mode part vs seen (piece_left at)) s
+      IsPieceRead mode at (inside_next mode part vs seen (piece_left at)) s
   language_read e k s f =
-      rw (e, k) (plain_is at bits seen h _ (language_short (piece_left at) (Source Language)) s f _ refl)
+      rw (e, k) (plain_is mode at bits seen h _ (language_short (piece_left at) (Source Language)) s f _ refl)
 
   pub head_read : (stage : Stage) → part ≡ Head stage → (w : Stage × Option ℕ) →
-      IsWordRead at (word_next mode stage vs (piece_left at)) (Some w) →
-      IsPieceRead at (inside_next mode part vs seen (piece_left at))
+      IsWordRead mode at (word_next mode stage vs (piece_left at)) (Some w) →
+      IsPieceRead mode at (inside_next mode part vs seen (piece_left at))
       (Some (record { part = Head w.0; variants = w.1; seen = bits }))
   head_read stage e w r =
-      rw e (word_read Head (λ s f x. x) at bits seen h (word_next mode stage vs (piece_left at)) w r)
+      rw e (word_read mode Head (λ s f x. x) at bits seen h (word_next mode stage vs (piece_left at)) w r)
 
   pub source_read : (stage : Stage) → part ≡ Source stage →
       is_word kinds.TransformKey (piece_left at) ≡ false → (w : Stage × Option ℕ) →
-      IsWordRead at (word_next mode stage vs (piece_left at)) (Some w) →
-      IsPieceRead at (inside_next mode part vs seen (piece_left at))
+      IsWordRead mode at (word_next mode stage vs (piece_left at)) (Some w) →
+      IsPieceRead mode at (inside_next mode part vs seen (piece_left at))
       (Some (record { part = Source w.0; variants = w.1; seen = bits }))
   source_read stage e k w r =
-      rw (e, k) (word_read Source (λ s f x. x) at bits seen h (word_next mode stage vs (piece_left at)) w r)
+      rw (e, k) (word_read mode Source (λ s f x. x) at bits seen h (word_next mode stage vs (piece_left at)) w r)
 
 -- the part is inside another block
 abbrev is_inside : Part → Bool
@@ -296,8 +303,8 @@ pub other_read : (mode : Mode) (at : Cursor) (part : Part) (vs : List Text) (see
     AreSingletonsSeen bits seen → part ≢ Start → ((stage : Stage) → part ≢ Head stage) → part ≢ Transform →
     ((stage : Stage) → part ≢ Source stage)
     → (s : Option State) → s ≡ option_map (bare bits) (piece_next part (piece_left at)) →
-    IsPieceRead at (inside_next mode part vs seen (piece_left at)) s
-other_read mode at part vs seen bits h a b c d s f = plain_is at bits seen h (piece_next part (piece_left at))
+    IsPieceRead mode at (inside_next mode part vs seen (piece_left at)) s
+other_read mode at part vs seen bits h a b c d s f = plain_is mode at bits seen h (piece_next part (piece_left at))
     (piece_short part (piece_left at)) s f _ (inside_is mode part vs seen (piece_left at) (by part a b c d))
   where
     by : (part : Part) → part ≢ Start → ((stage : Stage) → part ≢ Head stage) → part ≢ Transform →
@@ -312,12 +319,12 @@ other_read mode at part vs seen bits h a b c d s f = plain_is at bits seen h (pi
 
 pub begins_read : (mode : Mode) (at : Cursor) (part : Part) (vs : List Text) (seen : List ℕ) →
     begins_block part (piece_left at) ≡ true → (s : Option State) →
-    IsPieceRead at (block_next mode part seen (slice_index (piece_left at) 0)) s →
-    IsPieceRead at (next mode (reached part vs seen) (piece_left at)) s
+    IsPieceRead mode at (block_next mode part seen (slice_index (piece_left at) 0)) s →
+    IsPieceRead mode at (next mode (reached part vs seen) (piece_left at)) s
 begins_read mode at part vs seen e s h = rw e h
 
 pub inside_read : (mode : Mode) (at : Cursor) (part : Part) (vs : List Text) (seen : List ℕ) →
     begins_block part (piece_left at) ≡ false → (s : Option State) →
-    IsPieceRead at (inside_next mode part vs seen (piece_left at)) s →
-    IsPieceRead at (next mode (reached part vs seen) (piece_left at)) s
+    IsPieceRead mode at (inside_next mode part vs seen (piece_left at)) s →
+    IsPieceRead mode at (next mode (reached part vs seen) (piece_left at)) s
 inside_read mode at part vs seen e s h = rw e h

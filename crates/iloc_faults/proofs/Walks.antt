@@ -3,10 +3,10 @@ use Rattle.std.proofs.Common.{◌≡◌, ◌≢◌, inl, inr, ℕ, zero, suc, �
 use Rattle.std.proofs.Common.{[], ◌∷◌, ◌++◌, length, get_or, drop, Option, Some, None, refl, sym, ap}
 use Rattle.std.proofs.Common.{◌∙◌, arith, append_assoc, append-nil, length-append}
 use Rattle.std.specs.List.{slice_split}
-use Rattle.std.proofs.lemmas.Bool.{eq-eqb, ne_eqb}
+use Rattle.std.proofs.lemmas.Bool.{cases_Bool, eq-eqb, ne_eqb}
 use Rattle.std.proofs.lemmas.List.{get_or-take, get_or-drop}
 use Rattle.std.proofs.lemmas.List.Concat.{flat_map-append}
-use Rattle.iloc_spec_grammar.specs.Syntax.{Text, pieces, dashes, first_piece}
+use Rattle.iloc_spec_grammar.specs.Syntax.{Text, Language, languages, is_word, is_one_byte, pieces, dashes, first_piece}
 use Rattle.iloc_spec_grammar.specs.Meaning.{InvalidExtension}
 use Rattle.iloc_subtags.specs.Judging.{error_of}
 use Rattle.iloc_pieces.specs.Cursor.{IsNextPiece, piece_left, pieces_left, bytes_left}
@@ -14,12 +14,14 @@ use Rattle.iloc_pieces.specs.declared.place.Cursor.{Cursor}
 use Rattle.iloc_pieces.proofs.CursorLemmas.{length_rest, next_at, last_piece}
 use Rattle.iloc_normalize.specs.declared.Mode.{Mode}
 use Rattle.iloc_faults.specs.declared.Fault.{Fault}
-use Rattle.iloc_faults.specs.declared.state.Part.TheVariants.{Start}
+use Rattle.iloc_faults.specs.declared.state.Part.TheVariants.{Start, Head}
+use Rattle.iloc_faults.specs.declared.state.Stage.TheVariants as stages
 use Rattle.iloc_faults.specs.declared.state.State.{State}
-use Rattle.iloc_faults.specs.Next.{Reached, started, may_end, next, piece_fault, outcome}
-use Rattle.iloc_faults.specs.States.{IsRead, IsPieceRead, IsFaultFound, reached}
-use Rattle.iloc_faults.proofs.Going.{run, run_append, verdict_run, goes_on, goes_no_longer}
+use Rattle.iloc_faults.specs.Next.{Reached, started, may_end, next, piece_fault, begins_block, outcome, run}
+use Rattle.iloc_faults.specs.States.{IsPieceRead, IsWalked, IsFaultFound, bare, reached}
+use Rattle.iloc_faults.proofs.Going.{run_append, verdict_run, goes_on, goes_no_longer}
 use Rattle.iloc_faults.proofs.Bits.{none_seen}
+use Rattle.iloc_faults.proofs.StepReadings.{inside_read, start_read}
 use Rattle.iloc_faults.proofs.VariantsLeft.{some_left}
 use Rattle.iloc_pieces.proofs.FrontLemmas.{first_onto}
 
@@ -61,16 +63,6 @@ module _ (l : Cursor) where
 
 -- ---- the walk
 
--- so far each piece came, and the state says what was read
-pub record IsWalked (mode : Mode) (t : Text) (at : Cursor) (s : State) : Type 0 where
-  pub done : List Text
-  pub variants : List Text
-  pub seen : Text
-  pub start : at.at ≡ length (dashes done)
-  pub cut : pieces t ≡ done ++ pieces_left at
-  pub ran : run mode (Some started) done ≡ Some (reached s.part variants seen)
-  pub read : IsRead s at variants seen
-
 -- all of them came
 pub record IsAll (mode : Mode) (t : Text) (s : State) : Type 0 where
   pub variants : List Text
@@ -90,10 +82,10 @@ walk_starts mode t at e b = record {
 }
 
 -- nothing was read, and so the piece may not come next
-pub none_else : (at : Cursor) (o : Option Reached) (r : Option State) → ((s : State) → r ≢ Some s) →
-    IsPieceRead at o r → o ≡ None
-none_else at o None n h = h
-none_else at o (Some s) n h = absurd (n s refl)
+pub none_else : (mode : Mode) (at : Cursor) (o : Option Reached) (r : Option State) → ((s : State) → r ≢ Some s) →
+    IsPieceRead mode at o r → o ≡ None
+none_else mode at o None n h = h
+none_else mode at o (Some s) n h = absurd (n s refl)
 
 module _ {mode : Mode} {t : Text} {at : Cursor} {s : State} (w : IsWalked mode t at s) where
   -- what was read
@@ -136,7 +128,7 @@ module _ {mode : Mode} {t : Text} {at : Cursor} {s : State} (w : IsWalked mode t
       stops rest = rw e refl
 
   -- it may, and another follows
-  pub walk_on : {m : Cursor} (q : State) → IsPieceRead at (next mode now (piece_left at)) (Some q) →
+  pub walk_on : {m : Cursor} (q : State) → IsPieceRead mode at (next mode now (piece_left at)) (Some q) →
       IsNextPiece at m → IsWalked mode t m q
   walk_on {m = m} q r n = record {
     done = w.done ++ (piece_left at ∷ []);
@@ -157,7 +149,7 @@ module _ {mode : Mode} {t : Text} {at : Cursor} {s : State} (w : IsWalked mode t
   }
 
   -- it may, and is the last one
-  pub walk_all : (q : State) → IsPieceRead at (next mode now (piece_left at)) (Some q)
+  pub walk_all : (q : State) → IsPieceRead mode at (next mode now (piece_left at)) (Some q)
       → at.piece_length ≡ at.remaining →
       IsAll mode t q
   walk_all q r e =
@@ -190,3 +182,32 @@ module _ {mode : Mode} {t : Text} {s : State} (w : IsAll mode t s) where
       to = b;
     });
   }
+
+-- ---- the first piece, a language
+
+module _ (mode : Mode) (t : Text) (at : Cursor) (zero : at.at ≡ 0) (whole : bytes_left at ≡ t)
+    (begins : is_word (Language languages) (first_piece (pieces t)) ≡ true) where
+  language : is_word (Language languages) (piece_left at) ≡ true
+  language = ap (λ (u : Text). is_word (Language languages) (first_piece (pieces u))) whole ∙ begins
+
+  no_block : begins_block Start (piece_left at) ≡ false
+  no_block = elim (cases_Bool (is_one_byte (piece_left at))) [ inl o ↦ rw o refl | inr o ↦ rw o refl ]
+
+  -- it may come
+  pub language_came :
+      IsPieceRead mode at (next mode started (piece_left at)) (Some (bare 0 (Head stages.Language)))
+  language_came = inside_read mode at Start [] [] no_block (Some (bare 0 (Head stages.Language)))
+      (start_read mode at Start [] [] 0 none_seen refl (Some (bare 0 (Head stages.Language)))
+      (rw language refl))
+
+  -- and the text may end
+  pub alone_good : at.piece_length ≡ at.remaining → outcome mode started (pieces t) ≡ None
+  unfolding walk_starts
+  alone_good all = all_good
+      (walk_all (walk_starts mode t at zero whole) (bare 0 (Head stages.Language)) language_came all) refl
+
+  -- or another follows
+  pub walked_behind : (m : Cursor) → IsNextPiece at m → IsWalked mode t m (bare 0 (Head stages.Language))
+  unfolding walk_starts
+  walked_behind m follows =
+      walk_on (walk_starts mode t at zero whole) (bare 0 (Head stages.Language)) language_came follows

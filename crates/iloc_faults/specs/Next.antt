@@ -189,3 +189,9 @@ abbrev pub outcome : Mode → Reached → List Text → Option Fault
 outcome mode r [] = if may_end r.part then None else Some InvalidExtension
 outcome mode r (p ∷ ps) =
     on_next (piece_fault mode r.part p) (λ s. outcome mode s ps) (next mode r p)
+
+-- what was read with more pieces
+abbrev pub run : Mode → Option Reached → List Text → Option Reached
+run mode None ps = None
+run mode (Some r) [] = Some r
+run mode (Some r) (p ∷ ps) = run mode (next mode r p) ps

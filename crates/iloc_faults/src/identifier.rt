@@ -1,9 +1,10 @@
 //! The words of an identifier: which may come next.
-ghost use Rattle.std.specs.Prelude.{◌≡◌, List, [], map};
+ghost use Rattle.std.specs.Prelude.{◌≡◌, List, []};
 ghost use Rattle.iloc_spec_grammar.specs.Syntax.{Text, IsWord, Variant, lower};
+ghost use Rattle.iloc_normalize.specs.declared.Mode.TheVariants.{Data};
 ghost use Rattle.iloc_pieces.specs.Cursor.{piece_left};
 ghost use Rattle.iloc_faults.specs.Next.{after_region_next, after_script_next, is_new, word_next};
-ghost use Rattle.iloc_faults.specs.States.{AreNew, AreVariantsRead, IsEarly, IsWordRead, are_same, variants_left};
+ghost use Rattle.iloc_faults.specs.States.{AreNewFrom, AreVariantsRead, IsEarly, IsWordRead};
 
 use crate::repeats::{Room, count_new};
 use crate::state::Stage;
@@ -14,8 +15,8 @@ use iloc_pieces::cursor::{Cursor, is_region, is_script, is_variant};
 #[inline(always)]
 fn is_new(mode: Mode, variants: Option<usize>, at: Cursor<'_>) -> bool
     requires word { IsWord Variant (piece_left at) }
-    requires before { (vs : List Text) × AreVariantsRead variants at vs }
-    ensures { (vs : List Text) → AreVariantsRead variants at.entry vs
+    requires before { (vs : List Text) × AreVariantsRead mode variants at vs }
+    ensures { (vs : List Text) → AreVariantsRead mode variants at.entry vs
         → result ≡ is_new mode vs (lower (piece_left at.entry)) }
 {
     match variants {
@@ -27,15 +28,19 @@ fn is_new(mode: Mode, variants: Option<usize>, at: Cursor<'_>) -> bool
     }
 }
 
-// How many variants from the piece on are new.
+// How many variants from the piece on are new. In a data locale none follows, so they are not counted.
 #[inline(always)]
-fn count_left<R: Room>(room: R, variants: Option<usize>, at: Cursor<'_>) -> usize
-    ensures { (vs : List Text) → AreVariantsRead variants at.entry vs
-        → AreNew are_same vs (map lower (variants_left at.entry)) result }
+fn count_left<R: Room>(room: R, mode: Mode, variants: Option<usize>, at: Cursor<'_>) -> usize
+    ensures new { (vs : List Text) → AreVariantsRead mode variants at.entry vs
+        → AreNewFrom mode vs at.entry result }
+    ensures data { mode ≡ Data → result ≡ 1 }
 {
-    match variants {
-        None => count_new(room, at),
-        Some(fresh) => fresh,
+    match mode {
+        Mode::Data => 1,
+        _ => match variants {
+            None => count_new(room, at),
+            Some(fresh) => fresh,
+        },
     }
 }
 
@@ -47,9 +52,9 @@ fn read_variant<R: Room>(
     variants: Option<usize>,
     at: Cursor<'_>,
 ) -> Option<(Stage, Option<usize>)>
-    requires { (vs : List Text) × AreVariantsRead variants at vs }
-    ensures { (vs : List Text) → AreVariantsRead variants at.entry vs
-        → IsWordRead at.entry (after_region_next mode vs (piece_left at.entry)) result }
+    requires { (vs : List Text) × AreVariantsRead mode variants at vs }
+    ensures { (vs : List Text) → AreVariantsRead mode variants at.entry vs
+        → IsWordRead mode at.entry (after_region_next mode vs (piece_left at.entry)) result }
 {
     if !is_variant(at) {
         return None;
@@ -57,13 +62,16 @@ fn read_variant<R: Room>(
     if !is_new(mode, variants, at) {
         return None;
     }
-    Some((Stage::Region, Some(count_left(room, variants, at) - 1)))
+    Some((
+        Stage::Region,
+        Some(count_left(room, mode, variants, at) - 1),
+    ))
 }
 
 // What was read once the piece is read too, after a script.
 #[inline(always)]
 fn read_region<R: Room>(room: R, mode: Mode, at: Cursor<'_>) -> Option<(Stage, Option<usize>)>
-    ensures { IsWordRead at.entry (after_script_next mode [] (piece_left at.entry)) result }
+    ensures { IsWordRead mode at.entry (after_script_next mode [] (piece_left at.entry)) result }
 {
     if is_region(at) {
         return Some((Stage::Region, None));
@@ -81,10 +89,10 @@ pub fn read_word<R: Room>(
     variants: Option<usize>,
     at: Cursor<'_>,
 ) -> Option<(Stage, Option<usize>)>
-    requires before { (vs : List Text) × AreVariantsRead variants at vs }
+    requires before { (vs : List Text) × AreVariantsRead mode variants at vs }
     requires early { IsEarly stage variants }
-    ensures { (vs : List Text) → AreVariantsRead variants at.entry vs
-        → IsWordRead at.entry (word_next mode stage vs (piece_left at.entry)) result }
+    ensures { (vs : List Text) → AreVariantsRead mode variants at.entry vs
+        → IsWordRead mode at.entry (word_next mode stage vs (piece_left at.entry)) result }
 {
     match stage {
         Stage::Language => {

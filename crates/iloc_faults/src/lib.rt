@@ -16,6 +16,7 @@
 
 ghost use Rattle.std.specs.Prelude.{◌≡◌, ◌↔◌, ◌≤◌, None, IfSome, length};
 ghost use Rattle.iloc_pieces.specs.Window.{text_in};
+ghost use Rattle.iloc_normalize.specs.Answered.{HasRefusal};
 ghost use Rattle.iloc_faults.specs.Places.{IsAccepted, IsFault, IsFaultPlace};
 
 mod identifier;
@@ -100,5 +101,32 @@ pub fn place_in<R: Room>(room: R, mode: Mode, text: Window<'_>) -> Option<(usize
     match walk::walk(room, mode, text.bytes, text.len()) {
         Some(found) => Some((found.start, found.end)),
         None => None,
+    }
+}
+
+/// Where the fault of a text stands that has this refusal, and of which sixteen bytes more can be loaded: the same place, found
+/// sooner. Only a text that begins with no language is refused for its language, so then its first piece is the place, and
+/// else the first piece is not read again. It takes time and memory as `fault_in`.
+///
+/// ```text
+/// place_of(InMemory(alloc), Mode::Locale, window, &ParseError::InvalidSubtag) // (3, 6), if its text is `en-foo`
+/// ```
+#[inline(always)]
+pub fn place_of<R: Room>(
+    room: R,
+    mode: Mode,
+    text: Window<'_>,
+    refusal: &ParseError,
+) -> (usize, usize)
+    requires { HasRefusal mode (text_in text) refusal.now }
+    ensures place { IsFaultPlace mode (text_in text.entry) result.0 result.1 }
+    ensures inside { (result.0 ≤ result.1) × (result.1 ≤ length (text_in text.entry)) }
+{
+    match refusal {
+        ParseError::InvalidLanguage => (0, walk::first_end(text.bytes, text.len())),
+        _ => match walk::walk_behind(room, mode, text.bytes, text.len()) {
+            Some(found) => (found.start, found.end),
+            None => unreachable!(),
+        },
     }
 }

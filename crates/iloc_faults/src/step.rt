@@ -90,9 +90,9 @@ fn plain(seen: u64, part: Option<Part>) -> Option<State>
 // What was read once a piece is read that begins no block.
 #[inline(always)]
 fn read_inside<R: Room>(room: R, mode: Mode, state: State, at: Cursor<'_>) -> Option<State>
-    requires { (vs : List Text) × (seen : List ℕ) × IsRead state at vs seen }
-    ensures { (vs : List Text) (seen : List ℕ) → IsRead state at.entry vs seen
-        → IsPieceRead at.entry
+    requires { (vs : List Text) × (seen : List ℕ) × IsRead mode state at vs seen }
+    ensures { (vs : List Text) (seen : List ℕ) → IsRead mode state at.entry vs seen
+        → IsPieceRead mode at.entry
         (inside_next mode state.part vs seen (piece_left at.entry)) result }
 {
     let seen = state.seen;
@@ -169,8 +169,8 @@ fn may_begin(part: Part, at: Cursor<'_>) -> bool
 #[inline(always)]
 fn read_block(state: State, at: Cursor<'_>) -> Option<State>
     requires { is_one_byte (piece_left at) ≡ true }
-    ensures { (vs : List Text) (seen : List ℕ) → IsRead state at.entry vs seen
-        → IsPieceRead at.entry (block_next modes.Locale state.part seen
+    ensures { (vs : List Text) (seen : List ℕ) → IsRead modes.Locale state at.entry vs seen
+        → IsPieceRead modes.Locale at.entry (block_next modes.Locale state.part seen
         (slice_index (piece_left at.entry) 0)) result }
 {
     if !may_begin(state.part, at) {
@@ -192,8 +192,8 @@ fn read_block(state: State, at: Cursor<'_>) -> Option<State>
 #[inline(always)]
 fn read_data_block(state: State, at: Cursor<'_>) -> Option<State>
     requires { is_one_byte (piece_left at) ≡ true }
-    ensures { (vs : List Text) (seen : List ℕ) → IsRead state at.entry vs seen
-        → IsPieceRead at.entry (block_next modes.Data state.part seen
+    ensures { (vs : List Text) (seen : List ℕ) → IsRead modes.Data state at.entry vs seen
+        → IsPieceRead modes.Data at.entry (block_next modes.Data state.part seen
         (slice_index (piece_left at.entry) 0)) result }
 {
     match state.part {
@@ -206,8 +206,8 @@ fn read_data_block(state: State, at: Cursor<'_>) -> Option<State>
 #[inline(always)]
 fn read_singleton(mode: Mode, state: State, at: Cursor<'_>) -> Option<State>
     requires { is_one_byte (piece_left at) ≡ true }
-    ensures { (vs : List Text) (seen : List ℕ) → IsRead state at.entry vs seen
-        → IsPieceRead at.entry (block_next mode state.part seen
+    ensures { (vs : List Text) (seen : List ℕ) → IsRead mode state at.entry vs seen
+        → IsPieceRead mode at.entry (block_next mode state.part seen
         (slice_index (piece_left at.entry) 0)) result }
 {
     match mode {
@@ -228,9 +228,9 @@ fn begins_block(part: Part, at: Cursor<'_>) -> bool
 /// What was read with the piece too; `None` if the piece may not come next.
 #[inline(always)]
 pub fn step<R: Room>(room: R, mode: Mode, state: State, at: Cursor<'_>) -> Option<State>
-    requires { (vs : List Text) × (seen : List ℕ) × IsRead state at vs seen }
-    ensures { (vs : List Text) (seen : List ℕ) → IsRead state at.entry vs seen
-        → IsPieceRead at.entry
+    requires { (vs : List Text) × (seen : List ℕ) × IsRead mode state at vs seen }
+    ensures { (vs : List Text) (seen : List ℕ) → IsRead mode state at.entry vs seen
+        → IsPieceRead mode at.entry
         (steps.next mode (reached state.part vs seen) (piece_left at.entry)) result }
 {
     if begins_block(state.part, at) {

@@ -1,15 +1,15 @@
 //! Walks over the pieces of a text until one may not come next.
 ghost use Rattle.std.specs.Prelude.{◌≡◌, ◌↔◌, ◌+◌, ◌≤◌, None, IfSome, length, take};
-ghost use Rattle.iloc_spec_grammar.specs.Syntax.{pieces};
+ghost use Rattle.iloc_spec_grammar.specs.Syntax.{IsWord, Language, first_piece, languages, pieces};
 ghost use Rattle.iloc_pieces.specs.Cursor.{piece_left};
 ghost use Rattle.iloc_normalize.specs.declared.Mode.TheVariants as modes;
 ghost use Rattle.iloc_faults.specs.Next.{started, outcome};
 ghost use Rattle.iloc_faults.specs.Places.{IsAccepted, IsFault};
-ghost use Rattle.iloc_faults.specs.States.{IsFaultFound};
+ghost use Rattle.iloc_faults.specs.States.{IsFaultFound, IsWalked, bare};
 
 use crate::Fault;
 use crate::repeats::Room;
-use crate::state::{Part, State, may_end};
+use crate::state::{Part, Stage, State, may_end};
 use crate::step::{refusal, step};
 use iloc_normalize::{Mode, data_refusal};
 use iloc_pieces::cursor::{Cursor, cursor_in, is_last, next};
@@ -31,21 +31,24 @@ fn end_of(at: Cursor<'_>) -> usize
     end
 }
 
-/// Why the first bytes of the window are refused as an identifier or a locale, and the place of their fault; `None` if they
-/// are accepted. Of a data locale the place alone counts.
+// Why the first bytes of the window are refused, which were read so up to the piece, and the place of their fault; `None` if
+// they are accepted. Of a data locale the place alone counts.
 #[inline(always)]
-pub fn walk<R: Room>(room: R, mode: Mode, window: &[u8], len: usize) -> Option<Fault>
-    requires { len ≤ length window.now }
+fn walk_from<R: Room>(
+    room: R,
+    mode: Mode,
+    first: Cursor<'_>,
+    before: State,
+    len: usize,
+) -> Option<Fault>
+    requires inside { len ≤ length first.window.now }
+    requires walked { IsWalked mode (take len first.window.now) first before }
     ensures good { result ≡ None
-        → outcome mode started (pieces (take len window.now)) ≡ None }
-    ensures bad { IfSome result (IsFaultFound mode (take len window.now)) }
+        → outcome mode started (pieces (take len first.entry.window.now)) ≡ None }
+    ensures bad { IfSome result (IsFaultFound mode (take len first.entry.window.now)) }
 {
-    let mut at = cursor_in(window, len);
-    let mut state = State {
-        part: Part::Start,
-        variants: None,
-        seen: 0,
-    };
+    let mut at = first;
+    let mut state = before;
     'pieces: loop {
         let Some(then) = step(room, mode, state, at) else {
             return Some(Fault {
@@ -68,6 +71,63 @@ pub fn walk<R: Room>(room: R, mode: Mode, window: &[u8], len: usize) -> Option<F
         start: len,
         end: len,
     })
+}
+
+// Nothing was read but this.
+#[inline(always)]
+fn read_only(part: Part) -> State
+    ensures { result ≡ bare 0 part }
+{
+    State {
+        part,
+        variants: None,
+        seen: 0,
+    }
+}
+
+/// Why the first bytes of the window are refused as an identifier or a locale, and the place of their fault; `None` if they
+/// are accepted. Of a data locale the place alone counts.
+#[inline(always)]
+pub fn walk<R: Room>(room: R, mode: Mode, window: &[u8], len: usize) -> Option<Fault>
+    requires { len ≤ length window.now }
+    ensures good { result ≡ None
+        → outcome mode started (pieces (take len window.now)) ≡ None }
+    ensures bad { IfSome result (IsFaultFound mode (take len window.now)) }
+{
+    let first = cursor_in(window, len);
+    walk_from(room, mode, first, read_only(Part::Start), len)
+}
+
+/// The same of bytes that begin with a language. It is not tested again.
+#[inline(always)]
+pub fn walk_behind<R: Room>(room: R, mode: Mode, window: &[u8], len: usize) -> Option<Fault>
+    requires inside { len ≤ length window.now }
+    requires begins { IsWord (Language languages) (first_piece (pieces (take len window.now))) }
+    ensures good { result ≡ None
+        → outcome mode started (pieces (take len window.now)) ≡ None }
+    ensures bad { IfSome result (IsFaultFound mode (take len window.now)) }
+{
+    let first = cursor_in(window, len);
+    if is_last(first) {
+        return None;
+    }
+    let second = next(first);
+    walk_from(
+        room,
+        mode,
+        second,
+        read_only(Part::Head(Stage::Language)),
+        len,
+    )
+}
+
+/// Where the first piece of the first bytes of the window ends.
+#[inline(always)]
+pub fn first_end(window: &[u8], len: usize) -> usize
+    requires { len ≤ length window.now }
+    ensures { result ≡ length (first_piece (pieces (take len window.now))) }
+{
+    end_of(cursor_in(window, len))
 }
 
 /// The same of a whole text.

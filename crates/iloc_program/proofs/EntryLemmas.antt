@@ -8,7 +8,6 @@ use Rattle.iloc_subtags.specs.declared.parse_error.ParseError.{ParseError}
 use Rattle.iloc_normalize.specs.Answered.{HasRefusal}
 use Rattle.iloc_program.specs.Answers.{refusal_text}
 use Rattle.iloc_program.specs.Replies.{AnswersLine}
-use Rattle.iloc_program.proofs.OneListing.{apart, fault_of_refusal}
 use Rattle.iloc_program.proofs.Placed.{fault_there}
 use Rattle.iloc_spec_grammar.specs.Syntax.{Text, languages}
 use Rattle.iloc_spec_grammar.specs.Values.{identifier_text, text}
@@ -21,19 +20,6 @@ use Rattle.iloc_faults.specs.declared.Fault.{Fault}
 use Rattle.iloc_program.specs.declared.numbered.Listing.{Listing}
 use Rattle.iloc_program.specs.Numbered.{AddsText}
 use Rattle.iloc_program.specs.Listing.{IsEntry, accepted_entry, refused_entry, number_column, place_columns}
-
--- what means something has a normal text
-normal_of : (mode : Mode) (t : Text) → IsAccepted mode t →
-    (normal : Text) × IsNormalText languages mode t normal
-normal_of Langid t (i, m) = (identifier_text i, (i, m, refl))
-normal_of Locale t (M, m) = (text M, (M, m, refl))
-normal_of Data t (d, m) = (data_text d, (d, m, refl))
-
--- what is refused means nothing
-pub not_accepted : (mode : Mode) (t : Text) (e : ParseError) → HasRefusal mode t e → IsAccepted mode t → ⊥
-not_accepted mode t e h m =
-    let normal = normal_of mode t m in
-    let fault = fault_of_refusal mode t e h in apart mode t normal.0 fault.0 normal.1 fault.1
 
 module _ (mode : Mode) (l : Listing) (n : ℕ) (line old : Text) where
   pub left_out : (new mid : Text) → AnswersLine mode line old mid None → l.only_refused ≡ true →

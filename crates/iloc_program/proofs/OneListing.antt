@@ -19,6 +19,7 @@ use Rattle.iloc_normalize.specs.declared.Mode.TheVariants.{Langid, Locale, Data}
 use Rattle.iloc_faults.specs.Places.{IsFault}
 use Rattle.iloc_faults.specs.declared.Fault.{Fault}
 use Rattle.iloc_faults.proofs.OnePlace.{one_place}
+use Rattle.iloc_faults.proofs.Refusals.{fault_of_refusal, one_refusal}
 use Rattle.iloc_program.specs.Lines.{lines_of}
 use Rattle.iloc_program.specs.Answers.{IsOutput, reply}
 use Rattle.iloc_program.proofs.OutputLaws.{is_output, only_answer}
@@ -48,33 +49,11 @@ plain_listing mode n input t is =
 
 -- one entry
 
--- a refusal names a fault of the text
-pub fault_of_refusal : (mode : Mode) (t : Text) (e : ParseError) → HasRefusal mode t e →
-    (f : faults.Fault) × IsFaulty languages mode t f × (e ≡ error_of f)
-fault_of_refusal mode t InvalidLanguage h = (faults.InvalidLanguage, h, refl)
-fault_of_refusal mode t InvalidSubtag h = (faults.InvalidSubtag, h, refl)
-fault_of_refusal mode t InvalidExtension h = (faults.InvalidExtension, h, refl)
-fault_of_refusal mode t DuplicatedExtension h = (faults.DuplicatedExtension, h, refl)
-fault_of_refusal mode t OutOfMemory h = absurd h
-
-same_fault : (mode : Mode) (t : Text) (f g : faults.Fault) → IsFaulty languages mode t f →
-    IsFaulty languages mode t g → f ≡ g
-same_fault Langid t f g x y = one_identifier_fault _ x y
-same_fault Locale t f g x y = one_fault t x y
-same_fault Data t f g x y = one_data_fault t x y
-
 pub apart : (mode : Mode) (t normal : Text) (f : faults.Fault) → IsNormalText languages mode t normal →
     IsFaulty languages mode t f → ⊥
 apart Langid t normal f x y = identifier_apart _ _ _ x.1 y
 apart Locale t normal f x y = accepted_no_fault languages_table t _ _ x.1 y
 apart Data t normal f x y = data_apart languages_table t _ _ x.1 y
-
-one_refusal : (mode : Mode) (t : Text) (d e : ParseError) → HasRefusal mode t d → HasRefusal mode t e →
-    d ≡ e
-one_refusal mode t d e x y =
-    let f = fault_of_refusal mode t d x in
-    let g = fault_of_refusal mode t e y in
-    f.2 ∙ ap error_of (same_fault mode t f.0 g.0 f.1 g.1) ∙ sym g.2
 
 one_whole_fault : (mode : Mode) (t : Text) (f g : Fault) → IsFault mode t f → IsFault mode t g → f ≡ g
 one_whole_fault mode t f g x y =

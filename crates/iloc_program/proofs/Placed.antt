@@ -6,9 +6,9 @@ use Rattle.iloc_spec_grammar.specs.Syntax.{Text, pieces, dashes}
 use Rattle.iloc_normalize.specs.declared.Mode.{Mode}
 use Rattle.iloc_normalize.specs.Answered.{HasRefusal}
 use Rattle.iloc_subtags.specs.declared.parse_error.ParseError.{ParseError}
-use Rattle.iloc_faults.specs.Next.{Reached, started, next}
+use Rattle.iloc_faults.specs.Next.{Reached, started, next, run}
 use Rattle.iloc_faults.specs.Places.{GoOn, IsFault, IsFaultPlace}
-use Rattle.iloc_faults.proofs.Going.{run, run_append, goes_on, goes_no_longer}
+use Rattle.iloc_faults.proofs.Going.{run_append, goes_on, goes_no_longer}
 
 abbrev SomePlace : Mode → Text → Type 0
 SomePlace mode t = (start : ℕ) × (end : ℕ) × IsFaultPlace mode t start end

@@ -12,7 +12,7 @@ use crate::numbered::{Listing, Lists};
 use crate::quoting::{escaped_in, short_range, write_decimal, write_range, write_shown};
 use crate::replies::{reason_of, write_refusal};
 use crate::{InMode, ReplyBlock};
-use iloc_faults::{Fault, InMemory, place_in};
+use iloc_faults::{Fault, InMemory, place_of};
 use iloc_pieces::{Window, before_marked};
 use iloc_spans::spans::Spans;
 use iloc_subtags::ParseError;
@@ -91,18 +91,13 @@ fn write_refused<A: InMode>(
     if !listing.places {
         return write_refusal(refusal, replies);
     }
-    let mode = answers.mode();
-    match place_in(InMemory(alloc), mode, line) {
-        Some((start, end)) => {
-            let fault = Fault {
-                refusal,
-                start,
-                end,
-            };
-            write_placed(line, &fault, replies)
-        }
-        None => unreachable!(),
-    }
+    let (start, end) = place_of(InMemory(alloc), answers.mode(), line, &refusal);
+    let fault = Fault {
+        refusal,
+        start,
+        end,
+    };
+    write_placed(line, &fault, replies)
 }
 
 // Adds the number of the line and a tab, if numbers are asked for.

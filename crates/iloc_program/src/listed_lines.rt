@@ -10,6 +10,7 @@ use crate::lines::line_end;
 use crate::numbered::{Listing, Lists};
 use crate::{ReplyBlock, RunError};
 use iloc_pieces::Window;
+use std::alloc::AllocError;
 
 // Adds what is written for the line, and returns the number of the next one. It gives up at a number that has no next.
 #[inline(always)]
@@ -19,16 +20,11 @@ fn list_line<L: Lists>(
     number: u64,
     line: Window<'_>,
     replies: &mut ReplyBlock,
-) -> Result<u64, RunError>
-    ensures next { IfOk result (λ next. next ≡ number + 1) }
+) -> Result<(), AllocError>
     ensures replies { OnOk result (AddsText (L.is_entry listing number (text_in line.entry))
         (held replies.old) (held replies.new)) }
 {
-    let Some(next) = number.checked_add(1) else {
-        return Err(RunError::Read);
-    };
-    lists.list(listing, number, line, replies)?;
-    Ok(next)
+    lists.list(listing, number, line, replies)
 }
 
 // Adds what is written for the line that is pending and ends so, and returns the number of the next one. Sixteen bytes
@@ -41,8 +37,7 @@ fn end_line<L: Lists>(
     pending: &mut Vec<u8>,
     end: &[u8],
     replies: &mut ReplyBlock,
-) -> Result<u64, RunError>
-    ensures next { IfOk result (λ next. next ≡ number + 1) }
+) -> Result<(), AllocError>
     ensures pending { OnOk result (pending.new.items ≡ []) }
     ensures replies { OnOk result (AddsText
         (L.is_entry listing number (pending.old.items ++ end.now))
@@ -53,9 +48,9 @@ fn end_line<L: Lists>(
     let line = Window {
         bytes: pending.as_slice(),
     };
-    let next = list_line(lists, listing, number, line, replies)?;
+    list_line(lists, listing, number, line, replies)?;
     pending.clear();
-    Ok(next)
+    Ok(())
 }
 
 // Adds what is written for the line that is pending and ends with this one, which begins these bytes. Returns the number
@@ -69,10 +64,9 @@ fn list_next<L: Lists>(
     line: &[u8],
     bytes: &[u8],
     replies: &mut ReplyBlock,
-) -> Result<u64, RunError>
+) -> Result<(), AllocError>
     requires within { length line.now ≤ length bytes.now }
     requires front { line.now ≡ take (length line.now) bytes.now }
-    ensures next { IfOk result (λ next. next ≡ number + 1) }
     ensures pending { OnOk result (pending.new.items ≡ []) }
     ensures replies { OnOk result (AddsText
         (L.is_entry listing number (pending.old.items ++ line.now))
@@ -109,7 +103,11 @@ pub(crate) fn feed<L: Lists>(
         if later.is_empty() {
             break 'lines;
         }
-        next = list_next(lists, listing, next, pending, line, rest, replies)?;
+        let Some(after) = next.checked_add(1) else {
+            return Err(RunError::Read);
+        };
+        list_next(lists, listing, next, pending, line, rest, replies)?;
+        next = after;
         rest = &later[1..];
     }
     pending.extend_from_slice(rest)?;
@@ -131,5 +129,9 @@ pub(crate) fn finish<L: Lists>(
     if pending.is_empty() {
         return Ok(number);
     }
-    end_line(lists, listing, number, pending, &[], replies)
+    let Some(after) = number.checked_add(1) else {
+        return Err(RunError::Read);
+    };
+    end_line(lists, listing, number, pending, &[], replies)?;
+    Ok(after)
 }

@@ -1,42 +1,13 @@
-use Rattle.std.proofs.Common.{refl, sym, ◌∙◌, take}
-use Rattle.std.proofs.lemmas.List.{length-take-le}
-use Rattle.iloc_faults.proofs.Walks.{walk_starts, walk_stops, walk_on, walk_all, all_good, all_short}
-use Rattle.iloc_faults.proofs.Walks.{none_else}
+use Rattle.std.proofs.Common.{sym, ap, ◌∙◌, subst, take}
+use Rattle.iloc_faults.specs.declared.state.State.{State}
+use Rattle.iloc_faults.specs.States.{IsWalked}
+use Rattle.iloc_faults.proofs.Walks.{walk_starts}
 use Rattle.iloc_faults.proofs.walk.walk.Goals as goal
 
-pub pieces-init : goal.pieces-init
-pieces-init g c = walk_starts c.args.mode (take c.args.len c.args.window.now) c.cursor_in-at.result
-    c.cursor_in-at.ensures.at c.cursor_in-at.ensures.rest
-
-pub returns-in_default-clause-bad : goal.returns-in_default-clause-bad
-returns-in_default-clause-bad g c =
-    let w = c.pieces.invariant in
-    walk_stops w
-    (none_else c.pieces.at _ c.step.result (λ s. c.in_default.not-Some s)
-    (c.step.ensures w.variants w.seen w.read)) _ c.refusal.ensures refl c.end_of.ensures
-
-pub next-at-requires-clause-short : goal.next-at-requires-clause-short
-next-at-requires-clause-short g c =
-    let w = c.pieces.invariant in
-    (c.in-Some.ensures w.variants w.seen w.read).3
-
-pub pieces-preserved : goal.pieces-preserved
-pieces-preserved g c = let w = c.pieces.invariant in
-    walk_on w c.in-Some.then (c.in-Some.ensures w.variants w.seen w.read) c.next-at.ensures
-
-pub returns-then-may_end-clause-good : goal.returns-then-may_end-clause-good
-returns-then-may_end-clause-good g c _ =
-    let w = c.pieces.invariant in
-    all_good
-    (walk_all w c.in-Some.then (c.in-Some.ensures w.variants w.seen w.read)
-    (c.is_last.ensures.0 c.if-is_last.true)) (sym c.may_end.ensures ∙ c.if-may_end.true)
-
-pub returns-clause-bad : goal.returns-clause-bad
-returns-clause-bad g c =
-    let w = c.pieces.invariant in
-    all_short
-    (walk_all w c.in-Some.then (c.in-Some.ensures w.variants w.seen w.read)
-    (c.is_last.ensures.0 c.if-is_last.true))
-    (sym c.may_end.ensures ∙ c.if-may_end.false) _ refl
-    (sym (length-take-le c.args.len c.args.window.now c.requires))
-    (sym (length-take-le c.args.len c.args.window.now c.requires))
+pub walk_from-requires-clause-walked : goal.walk_from-requires-clause-walked
+walk_from-requires-clause-walked g c =
+    let first = c.cursor_in-first.result in
+    subst (λ (s : State). IsWalked c.args.mode (take c.args.len first.window.now) first s)
+    (sym c.read_only.ensures)
+    (walk_starts c.args.mode (take c.args.len first.window.now) first c.cursor_in-first.ensures.at
+    (c.cursor_in-first.ensures.rest ∙ ap (take c.args.len) (sym c.cursor_in-first.ensures.window)))

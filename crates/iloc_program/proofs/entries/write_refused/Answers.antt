@@ -1,11 +1,12 @@
-use Rattle.std.proofs.Common.{refl, subst}
+use Rattle.std.proofs.Common.{sym, subst}
 use Rattle.std.proofs.lemmas.Result.{on_ok_weaker}
 use Rattle.iloc_pieces.specs.Window.{text_in}
+use Rattle.iloc_normalize.specs.Answered.{HasRefusal}
 use Rattle.iloc_normalize.specs.declared.Mode.{Mode}
-use Rattle.iloc_faults.specs.Places.{IsAccepted, IsFaultPlace}
+use Rattle.iloc_faults.specs.Places.{IsFaultPlace}
 use Rattle.iloc_faults.specs.declared.Fault.{Fault}
 use Rattle.iloc_program.specs.ReplyBlock.{held}
-use Rattle.iloc_program.proofs.EntryLemmas.{not_accepted, not_false, not_true, placed, refused}
+use Rattle.iloc_program.proofs.EntryLemmas.{not_false, not_true, placed, refused}
 use Rattle.iloc_program.proofs.entries.write_refused.Goals as goal
 
 pub returns-then-not-listing : goal.returns-then-not-listing
@@ -16,20 +17,16 @@ returns-then-not-listing g c =
     (not_true c.args.listing.places c.if-not-listing.true) c.in_ok-write_number.ensures e)
     c.write_refusal.ensures.text
 
-pub unreachable-requires : goal.unreachable-requires
-unreachable-requires g c =
-    not_accepted g.A.InMode.mode (text_in c.args.line) c.args.refusal c.requires
-    (subst (λ (m : Mode). IsAccepted m (text_in c.args.line)) c.mode-mode.ensures
-    (c.in-None.ensures.accepted.0 refl))
-
-pub write_placed-requires : goal.write_placed-requires
-write_placed-requires g c = c.in-Some.ensures.inside
+pub place_of-requires : goal.place_of-requires
+place_of-requires g c =
+    subst (λ (m : Mode). HasRefusal m (text_in c.args.line) c.args.refusal) (sym c.mode.ensures) c.requires
 
 pub returns : goal.returns
 returns g c =
-    let f : Fault = record { refusal = c.args.refusal; start = c.in-Some.start; end = c.in-Some.end } in
-    let place = subst (λ (m : Mode). IsFaultPlace m (text_in c.args.line) f.start f.end) c.mode-mode.ensures
-    c.in-Some.ensures.refused in
+    let at = c.place_of.result in
+    let f : Fault = record { refusal = c.args.refusal; start = at.0; end = at.1 } in
+    let place = subst (λ (m : Mode). IsFaultPlace m (text_in c.args.line) f.start f.end) c.mode.ensures
+    c.place_of.ensures.place in
     on_ok_weaker c.write_placed.result
     (λ e. placed g.A.InMode.mode c.args.listing c.args.number (text_in c.args.line)
     (held c.args.replies.now) f (held c.write_number.new.replies) (held c.write_placed.new.replies)
