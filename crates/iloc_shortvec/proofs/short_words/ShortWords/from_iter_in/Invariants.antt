@@ -1,5 +1,5 @@
 use Rattle.std.proofs.Common.{◌≡◌}
-use Rattle.iloc_shortvec.proofs.short_box_slice.ShortBoxSlice.from_iter.Given as goal
+use Rattle.iloc_shortvec.proofs.short_words.ShortWords.from_iter_in.Given as goal
 
 -- the list is what has come
 abbrev pub invariant-loop-item : goal.invariant-loop-item
