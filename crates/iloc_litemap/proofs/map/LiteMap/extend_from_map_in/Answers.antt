@@ -4,12 +4,12 @@ use Rattle.iloc_spec_grammar.specs.Meaning.{map_of}
 use Rattle.iloc_spec_grammar.proofs.MapLaws.{map_of_sorted}
 use Rattle.iloc_litemap.specs.Pairs.{HasAscendingKeys}
 use Rattle.iloc_litemap.proofs.Maps.{put_all, put_all_over, put_next, put_last}
-use Rattle.iloc_litemap.proofs.map.LiteMap.extend_from_map.Goals as goal
+use Rattle.iloc_litemap.proofs.map.LiteMap.extend_from_map_in.Goals as goal
 
 pub returns-then-is_empty-clause-ok : goal.returns-then-is_empty-clause-ok
 returns-then-is_empty-clause-ok g c =
     let none : length c.args.other ≡ 0 = search rules in
-    sym (map_of_sorted g.K.Ord.cmp c.args.self.now c.room_for.ensures.ascending)
+    sym (map_of_sorted g.K.Ord.cmp c.args.self.now c.as_slice.ensures.ascending)
     ∙ ap (λ xs. map_of g.K.Ord.cmp (reverse xs ++ c.args.self.now)) (sym (nil_from_length _ none))
 
 pub loop-key-init : goal.loop-key-init
@@ -20,12 +20,9 @@ loop-key-init g c =
       finite = search rules;
       ascending = search rules;
       pairs = ap₂ (put_all g.K.Ord.cmp) c.in_ok-all.ensures.pairs left
-          ∙ put_all_over g.K.Ord.cmp c.args.self.now c.args.other c.room_for.ensures.ascending;
+          ∙ put_all_over g.K.Ord.cmp c.args.self.now c.args.other c.as_slice.ensures.ascending;
       room = search rules;
     }
-
-pub take_with_room-requires : goal.take_with_room-requires
-take_with_room-requires g c = omega (arith, c.in_ok-room.ensures.room)
 
 pub put_within-requires-clause-room : goal.put_within-requires-clause-room
 put_within-requires-clause-room g c =
