@@ -1,11 +1,12 @@
 -- Entries put in one by one make the map of them, where the last of equal keys stays; added one by one, where
 -- the first does.
 use Rattle.std.proofs.Common.{◌≡◌, Bool, true, false, true≢false, cond, List, [], ◌∷◌, ◌++◌, reverse}
-use Rattle.std.proofs.Common.{Option, Some, None, is_some, refl, sym, ap, ap₂, ◌∙◌, append_assoc, append-nil}
+use Rattle.std.proofs.Common.{suc, ◌+◌, ◌≤◌, length, arith, Option, Some, None, is_some, refl, sym, ap, ap₂, ◌∙◌, append_assoc, append-nil}
 use Rattle.std.specs.declared.cmp.Ordering.{Ordering}
+use Rattle.std.specs.declared.cmp.Ordering.TheVariants.{Less, Equal, Greater}
 use Rattle.std.specs.Cmp.{IsTotalOrder, Equal-is}
 use Rattle.std.specs.FinMap.{put, find, IsAntisymmetric}
-use Rattle.std.specs.FinMap.Entries.{below_all}
+use Rattle.std.specs.FinMap.Entries.{below_all, by_order}
 use Rattle.std.specs.FinMap.Entries as entries
 use Rattle.std.specs.Option.{option_or}
 use Rattle.std.specs.Ordering.{is_eq, eq_by_cmp}
@@ -20,6 +21,19 @@ use Rattle.iloc_litemap.specs.Pairs.{HasAscendingKeys}
 pub tied : {K : Type 0} (R : K → K → Ordering) → IsAntisymmetric R → (q k : K) → eq_by_cmp R q k ≡ true →
     q ≡ k
 tied R same q k h = same q k ((Equal-is (R q k)).0 h)
+
+-- a pair that is put in makes at most one more
+pub put_one : {K X : Type 0} (R : K → K → Ordering) (k : K) (v : X) (es : List (K × X)) →
+    length (put R k v es) ≤ length es + 1
+put_one R k v [] = omega arith
+put_one R k v (e ∷ es) =
+    let later = put_one R k v es in
+    elim (R k e.0) as (λ r. length (by_order r ((k, v) ∷ e ∷ es) ((e.0, v) ∷ es) (e ∷ put R k v es))
+    ≤ suc (length es) + 1) [
+      | Less ↦ omega arith
+      | Equal ↦ omega arith
+      | Greater ↦ omega (arith, later)
+    ]
 
 -- the pairs xs put in one by one, so that the last of equal keys stays
 abbrev pub put_all : {K X : Type 0} → (K → K → Ordering) → List (K × X) → List (K × X) → List (K × X)

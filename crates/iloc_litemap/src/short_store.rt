@@ -3,7 +3,8 @@ ghost use Rattle.std.specs.Prelude.{◌≡◌};
 ghost use Rattle.iloc_litemap.specs.Calls.{CalledAtKeyValue};
 ghost use Rattle.iloc_litemap.specs.Pairs.{set_value_at};
 
-use crate::store::{GrowingStore, Store};
+use crate::store::{CopyingStore, GrowingStore, Store};
+use iloc_copying::{Copied, Copying};
 use iloc_memory::Memory;
 use iloc_shortvec::{ShortBoxSlice, ShortBoxSliceIntoIter};
 use std::alloc::{AllocError, Global};
@@ -100,5 +101,11 @@ impl<K: Drop, V: Drop> GrowingStore<K, V> for ShortBoxSlice<(K, V)> {
         value: V,
     ) -> Result<(), AllocError> {
         self.insert_in(memory, index, (key, value))
+    }
+}
+
+impl<K: Copy, V: Copied> CopyingStore<K, V> for ShortBoxSlice<(K, V)> {
+    fn lm_copied<C: Copying>(&self, copying: C) -> Result<Self, AllocError> {
+        self.copied(copying)
     }
 }

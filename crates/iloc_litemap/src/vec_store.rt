@@ -3,7 +3,8 @@ ghost use Rattle.std.specs.Prelude.{◌≡◌};
 ghost use Rattle.std.specs.Vec.Iter.{into_iter_items};
 ghost use Rattle.iloc_litemap.specs.Calls.{CalledAtKeyValue};
 
-use crate::store::{GrowingStore, Store};
+use crate::store::{CopyingStore, GrowingStore, Store};
+use iloc_copying::{Copied, Copying, clones_of, copies_of};
 use iloc_memory::{Memory, push};
 use std::alloc::{AllocError, Global};
 use std::vec;
@@ -81,7 +82,7 @@ impl<K: Drop, V: Drop> Store<K, V> for Vec<(K, V)> {
         K: Clone,
         V: Clone,
     {
-        self.clone()
+        clones_of(self)
     }
 
     ghost takes_first = { λ s r t h. vec_takes_first s r t h };
@@ -102,5 +103,11 @@ impl<K: Drop, V: Drop> GrowingStore<K, V> for Vec<(K, V)> {
         push(memory, self, (key, value))?;
         self.slice_mut(index..).rotate_right(1);
         Ok(())
+    }
+}
+
+impl<K: Copy, V: Copied> CopyingStore<K, V> for Vec<(K, V)> {
+    fn lm_copied<C: Copying>(&self, copying: C) -> Result<Self, AllocError> {
+        copies_of(copying, self)
     }
 }

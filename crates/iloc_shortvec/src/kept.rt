@@ -167,18 +167,24 @@ impl<T: Copy> Kept<T> {
     }
 
     /// Adds copies of the items at the end, to five or more in all.
-    pub(crate) fn extend_long(&mut self, alloc: Global, items: &[T]) -> Result<(), AllocError>
+    pub(crate) fn extend_long<M: Memory>(
+        &mut self,
+        memory: M,
+        items: &[T],
+    ) -> Result<(), AllocError>
         requires kept { IsKept self.old }
         requires long { 4 < length (items_of self.old) + length items.now }
         ensures ok { OnOk result (items_of self.new ≡ items_of self.old ++ items.now) }
         ensures err { OnErr result (items_of self.new ≡ items_of self.old) }
         ensures kept { IsKept self.new }
+        ensures out_of_memory { OnErr result
+            (RefusedWithin M.refused (length (items_of self.old) + length items.now)) }
     {
         if let Kept::Heap(all) = self {
-            return extend_from_slice(alloc, all, items);
+            return extend_from_slice(memory, all, items);
         }
-        let mut all = copies(alloc, self.as_slice(), items.len())?;
-        extend_from_slice(alloc, &mut all, items)?;
+        let mut all = copies(memory, self.as_slice(), items.len())?;
+        extend_from_slice(memory, &mut all, items)?;
         *self = Kept::Heap(all);
         Ok(())
     }

@@ -6,7 +6,7 @@ ghost use Rattle.std.specs.List.Retain.{IsFiltered};
 ghost use Rattle.std.specs.Fn.{CalledAt};
 ghost use Rattle.std.specs.Hash as fed;
 ghost use Rattle.std.specs.Fmt.{debug_list};
-ghost use Rattle.std.specs.Iterator.{IsFinite, Drains, YieldsFirst, item_count};
+ghost use Rattle.std.specs.Iterator.{IsFiniteIterable, Drains, YieldsFirst, item_count};
 ghost use Rattle.std.specs.Iterator.Adapters.{IterYieldsInOrder};
 ghost use Rattle.std.specs.Slice.Iter.{iter_rest};
 ghost use Rattle.std.specs.Ordering.{as_partial_cmp};
@@ -16,10 +16,12 @@ ghost use Rattle.iloc_shortvec.specs.ShortList.{only_of};
 ghost use Rattle.iloc_spec_grammar.specs.ShortLists.{short_cmp};
 ghost use Rattle.iloc_shortvec.specs.ShortOrder.{short_total, short_ties};
 ghost use Rattle.iloc_memory.specs.Refusals.{RefusedWithin};
+ghost use Rattle.iloc_copying.specs.Room.{RefusedAmong};
 
 use crate::few::{Count, Few};
 use crate::items::{Nothing, compare};
 use crate::kept::{Kept, Left, kept_of};
+use iloc_copying::{Copied, Copying, FromMemory, FromOwn, copy_of};
 use iloc_memory::Memory;
 use std::alloc::{AllocError, Global};
 use std::cmp::Ordering;
@@ -67,9 +69,18 @@ impl<T: Copy> ShortWords<T> {
     }
 
     /// The list of these two items, which allocates nothing.
-    pub fn new_double(_alloc: Global, first: T, second: T) -> Result<Self, AllocError>
+    pub fn new_double(alloc: Global, first: T, second: T) -> Result<Self, AllocError>
         ensures value { IfOk result (λ list. list ≡ first ∷ second ∷ []) }
         ensures succeeds { IsOk result }
+    {
+        Self::new_double_in(alloc, first, second)
+    }
+
+    /// As `new_double`, from any memory. It asks for no room.
+    pub fn new_double_in<M: Memory>(_memory: M, first: T, second: T) -> Result<Self, AllocError>
+        ensures value { IfOk result (λ list. list ≡ first ∷ second ∷ []) }
+        ensures succeeds { IsOk result }
+        ensures out_of_memory { OnErr result (RefusedWithin M.refused 2) }
     {
         let kept = Kept::Inline(Count::of(2), Few::two(first, second));
         Ok(ShortWords { kept })
@@ -197,12 +208,27 @@ impl<T: Copy> ShortWords<T> {
         ensures err { OnErr result (self.new ≡ self.old) }
         ensures succeeds { length self.old + length items.now ≤ 4 → IsOk result }
     {
+        self.extend_from_slice_in(alloc, items)
+    }
+
+    /// As `extend_from_slice`, from any memory. Refusal: `AllocError`, only if room for at most all the items was refused.
+    pub fn extend_from_slice_in<M: Memory>(
+        &mut self,
+        memory: M,
+        items: &[T],
+    ) -> Result<(), AllocError>
+        ensures ok { OnOk result (self.new ≡ self.old ++ items.now) }
+        ensures err { OnErr result (self.new ≡ self.old) }
+        ensures succeeds { length self.old + length items.now ≤ 4 → IsOk result }
+        ensures out_of_memory { OnErr result
+            (RefusedWithin M.refused (length self.old + length items.now)) }
+    {
         let len = self.len();
         if len <= 4 && items.len() <= 4 - len {
             self.kept.extend_short(items);
             return Ok(());
         }
-        self.kept.extend_long(alloc, items)
+        self.kept.extend_long(memory, items)
     }
 
     /// Takes the item at a place out. A list that falls to four items keeps them in the value.
@@ -253,15 +279,31 @@ impl<T: Copy> ShortWords<T> {
 
     /// The list of what the iterator gives, in its order. Refusal: `AllocError`.
     pub fn from_iter<I: IntoIterator<Item = T>>(alloc: Global, iter: I) -> Result<Self, AllocError>
-        requires ends { (it : I.IntoIter) → I.into_iter_gives iter it
-            → I.IntoIter.can_next it × IsFinite (I.IntoIter.remaining it) }
+        requires ends { IsFiniteIterable I.into_iter_gives I.IntoIter.can_next
+            I.IntoIter.remaining iter }
         ensures { IfOk result
             (λ list. (it : I.IntoIter) × I.into_iter_gives iter it
             × Drains I.IntoIter.next_gives it list) }
     {
+        Self::from_iter_in(alloc, iter)
+    }
+
+    /// As `from_iter`, from any memory. Refusal: `AllocError`, only if room for at most the items so far was refused.
+    pub fn from_iter_in<M: Memory, I: IntoIterator<Item = T>>(
+        memory: M,
+        iter: I,
+    ) -> Result<Self, AllocError>
+        requires ends { IsFiniteIterable I.into_iter_gives I.IntoIter.can_next
+            I.IntoIter.remaining iter }
+        ensures value { IfOk result
+            (λ list. (it : I.IntoIter) × I.into_iter_gives iter it
+            × Drains I.IntoIter.next_gives it list) }
+        ensures out_of_memory { OnErr result
+            (RefusedAmong I.into_iter_gives I.IntoIter.next_gives M.refused iter 0) }
+    {
         let mut list = ShortWords::new();
         for item in iter {
-            list.push(alloc, item)?;
+            list.push_in(memory, item)?;
         }
         Ok(list)
     }
@@ -271,18 +313,35 @@ impl<T: Copy> ShortWords<T> {
         ensures value { IfOk result (λ copy. copy ≡ self.now) }
         ensures succeeds { length self.now ≤ 4 → IsOk result }
     {
-        match &self.kept {
+        self.copied(FromOwn)
+    }
+
+    /// As `clone`, from any memory. Refusal: `AllocError`, only if room for at most all the items was refused.
+    pub fn clone_in<M: Memory>(&self, memory: M) -> Result<Self, AllocError>
+        ensures value { IfOk result (λ copy. copy ≡ self.now) }
+        ensures succeeds { length self.now ≤ 4 → IsOk result }
+        ensures out_of_memory { OnErr result (RefusedWithin M.refused (length self.now)) }
+    {
+        self.copied(FromMemory(memory))
+    }
+}
+
+impl<T: Copy> Copied for ShortWords<T> {
+    ghost size = { length };
+
+    fn copied<C: Copying>(&self, copying: C) -> Result<Self, AllocError>
+        ensures value { IfOk result (λ copy. copy ≡ self.now) }
+        ensures succeeds { length self.now ≤ 4 → IsOk result }
+        ensures out_of_memory { OnErr result (RefusedWithin C.Room.refused (length self.now)) }
+    {
+        let kept = match &self.kept {
             Kept::Heap(items) => {
-                let all = Vec::from_slice(*items.allocator(), items.as_slice())?;
-                Ok(ShortWords {
-                    kept: Kept::Heap(all),
-                })
+                Kept::Heap(copy_of(copying.memory_for(items), items.as_slice())?)
             }
-            Kept::Inline(count, few) => Ok(ShortWords {
-                kept: Kept::Inline(*count, few.copied()),
-            }),
-            Kept::Empty(_) => Ok(ShortWords::new()),
-        }
+            Kept::Inline(count, few) => Kept::Inline(*count, few.copied()),
+            Kept::Empty(_) => Kept::Empty(Nothing::new()),
+        };
+        Ok(ShortWords { kept })
     }
 }
 

@@ -7,10 +7,6 @@ use Rattle.std.proofs.lemmas.List.{take-append-drop}
 use Rattle.std.specs.List.{IsSplitAt}
 use Rattle.std.specs.Cmp.Lexicographic.{pointwise}
 use Rattle.iloc_word_list.specs.EqualityLaws.{word_exact}
-use Rattle.std.specs.Ordering.{nat_cmp, is_eq}
-use Rattle.std.specs.Cmp.{Equal-is, eq_by_cmp_equiv}
-use Rattle.std.specs.Cmp.Lexicographic.{slice_cmp}
-use Rattle.iloc_spec_grammar.proofs.MapLaws.{same_words, word_cmp_total}
 use Rattle.iloc_spec_grammar.specs.Syntax.{Text, join, dashes}
 use Rattle.iloc_spec_grammar.proofs.PartTexts.{join-dashes}
 

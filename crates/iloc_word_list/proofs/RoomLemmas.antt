@@ -1,7 +1,6 @@
 -- How much room is asked for at most, and what a refused request for it makes of an answer.
-use Rattle.std.proofs.Common.{◌≡◌, suc, ◌+◌, ◌*◌, ◌≤◌, Bool, true, false, cond, not, List, [], ◌∷◌, ◌++◌}
-use Rattle.std.proofs.Common.{length, refl, sym, ap, ◌∙◌, arith, Option, Some, ℕ, Result, Ok, Err}
-use Rattle.std.specs.Iterator.{Yields}
+use Rattle.std.proofs.Common.{◌≡◌, suc, ◌+◌, ◌*◌, ◌≤◌, Bool, true, false, cond, not, List, [], ◌∷◌}
+use Rattle.std.proofs.Common.{length, refl, sym, ap, ◌∙◌, arith, ℕ, Result, Ok, Err}
 use Rattle.iloc_spec_grammar.specs.Syntax.{Text, pieces, join, lower, Subtag, is_word, is_true}
 use Rattle.iloc_spec_grammar.specs.Meaning.{normal_values}
 use Rattle.iloc_spec_grammar.specs.Reading.{passing, rest_of}
@@ -101,10 +100,3 @@ pub values_fit : (t : Text) → length (normal_values (passing (is_word Subtag) 
 values_fit t =
     let words = words_fit (is_word Subtag) no_empty_word t in
     let few = values_shorter (passing (is_word Subtag) (pieces t)) in omega (arith, words, few)
-
--- the items so far and one more
-pub one_more_yielded : {S A : Type 0} (steps : S → Option A → S → Type 0) (s : S) (xs : List A) (t : S)
-    (x : A) (u : S) → Yields steps s xs t → steps t (Some x) u → Yields steps s (xs ++ x ∷ []) u
-one_more_yielded steps s [] t x u e h = (u, rw e h, refl)
-one_more_yielded steps s (y ∷ ys) t x u (j, first, later) h =
-    (j, first, one_more_yielded steps j ys t x u later h)

@@ -5,5 +5,4 @@ pub mod Equality
 pub mod EqualityLaws
 pub mod Reads
 pub mod Refusals
-pub mod Room
 pub mod Values

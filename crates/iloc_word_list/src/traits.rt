@@ -4,6 +4,7 @@ ghost use Rattle.iloc_spec_grammar.specs.Syntax.{join};
 ghost use Rattle.std.specs.Fmt.{debug_list, debug_str};
 
 use crate::word_set::WordSet;
+use iloc_copying::{Copied, FromOwn};
 use iloc_subtags::WordKind;
 use iloc_writeable::pieces::Pieces;
 use iloc_writeable::{Sink, Writeable};
@@ -24,7 +25,7 @@ impl<K: WordKind<N>, const N: usize> Clone for WordSet<K, N> {
     ghost is_clone = { λ s t. t ≡ s };
 
     fn clone(&self) -> Result<Self, AllocError> {
-        self.copied()
+        self.copied(FromOwn)
     }
 }
 

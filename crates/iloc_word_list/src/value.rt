@@ -11,10 +11,11 @@ ghost use Rattle.iloc_memory.specs.Refusals.{RefusedWithin};
 ghost use Rattle.iloc_shortvec.specs.ShortList.{only_of};
 ghost use Rattle.iloc_word_list.specs.Equality.{words_eq};
 ghost use Rattle.iloc_word_list.specs.EqualityLaws.{words_exact, alike};
-ghost use Rattle.iloc_word_list.specs.Room.{RefusedAmong};
+ghost use Rattle.iloc_copying.specs.Room.{RefusedAmong};
 ghost use Rattle.iloc_word_list.specs.Values.{without_true, with_subtag};
 
 use crate::word_list::WordList;
+use iloc_copying::{Copied, Copying, FromMemory, FromOwn};
 use iloc_memory::Memory;
 use iloc_shortvec::ShortWordsIntoIter;
 use iloc_subtags::{Subtag, SubtagKind, WordKind, WordOf};
@@ -140,9 +141,21 @@ impl Value {
     pub fn from_two_subtags(alloc: Global, f: Subtag, s: Subtag) -> Result<Self, AllocError>
         ensures { result ≡ Ok (f ∷ s ∷ []) }
     {
+        Self::from_two_subtags_in(alloc, f, s)
+    }
+
+    /// As `from_two_subtags`, from any memory. It asks for no room.
+    pub fn from_two_subtags_in<M: Memory>(
+        memory: M,
+        f: Subtag,
+        s: Subtag,
+    ) -> Result<Self, AllocError>
+        ensures value { result ≡ Ok (f ∷ s ∷ []) }
+        ensures out_of_memory { OnErr result (RefusedWithin M.refused 2) }
+    {
         let mut subtags = WordList::new();
-        subtags.push(alloc, f)?;
-        subtags.push(alloc, s)?;
+        subtags.push_in(memory, f)?;
+        subtags.push_in(memory, s)?;
         Ok(Value { subtags })
     }
 
@@ -236,6 +249,14 @@ impl Value {
         Ok(())
     }
 
+    /// A copy, from any memory. Refusal: `AllocError`, only if room for at most all the subtags was refused.
+    pub fn clone_in<M: Memory>(&self, memory: M) -> Result<Self, AllocError>
+        ensures value { IfOk result (λ copy. copy ≡ self.now) }
+        ensures out_of_memory { OnErr result (RefusedWithin M.refused (length self.now)) }
+    {
+        self.copied(FromMemory(memory))
+    }
+
     // Keeps the first subtags.
     fn cut(&mut self, count: usize)
         requires { count ≤ length self.old }
@@ -279,8 +300,16 @@ impl Clone for Value {
     ghost is_clone = { λ a b. b ≡ a };
 
     fn clone(&self) -> Result<Self, AllocError> {
+        self.copied(FromOwn)
+    }
+}
+
+impl Copied for Value {
+    ghost size = { length };
+
+    fn copied<C: Copying>(&self, copying: C) -> Result<Self, AllocError> {
         Ok(Value {
-            subtags: self.subtags.clone()?,
+            subtags: self.subtags.copied(copying)?,
         })
     }
 }

@@ -7,6 +7,7 @@ ghost use Rattle.iloc_memory.specs.Refusals.{RefusedWithin};
 ghost use Rattle.iloc_shortvec.specs.ShortList.{only_of};
 ghost use Rattle.std.specs.Fmt.{debug_list, debug_str};
 
+use iloc_copying::{Copied, Copying, FromMemory, FromOwn};
 use iloc_memory::Memory;
 use iloc_shortvec::{ShortWords, ShortWordsIntoIter};
 use iloc_subtags::{WordKind, WordOf, are_normal, is_normal};
@@ -152,8 +153,29 @@ impl<K: WordKind<N>, const N: usize> WordList<K, N> {
         ensures value { IfOk result (λ copy. copy ≡ self.now) }
         ensures succeeds { length self.now ≤ 4 → IsOk result }
     {
+        self.copied(FromOwn)
+    }
+
+    /// As `clone`, from any memory. Refusal: `AllocError`, only if room for at most all the subtags was refused.
+    pub fn clone_in<M: Memory>(&self, memory: M) -> Result<Self, AllocError>
+        ensures value { IfOk result (λ copy. copy ≡ self.now) }
+        ensures succeeds { length self.now ≤ 4 → IsOk result }
+        ensures out_of_memory { OnErr result (RefusedWithin M.refused (length self.now)) }
+    {
+        self.copied(FromMemory(memory))
+    }
+}
+
+impl<K: WordKind<N>, const N: usize> Copied for WordList<K, N> {
+    ghost size = { length };
+
+    fn copied<C: Copying>(&self, copying: C) -> Result<Self, AllocError>
+        ensures value { IfOk result (λ copy. copy ≡ self.now) }
+        ensures succeeds { length self.now ≤ 4 → IsOk result }
+        ensures out_of_memory { OnErr result (RefusedWithin C.Room.refused (length self.now)) }
+    {
         Ok(WordList {
-            words: self.words.clone()?,
+            words: self.words.copied(copying)?,
         })
     }
 }

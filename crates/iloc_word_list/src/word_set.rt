@@ -10,6 +10,7 @@ ghost use Rattle.iloc_spec_grammar.specs.Meaning.{set_of};
 ghost use Rattle.iloc_spec_grammar.specs.Values.{IsNormal, StrictlyAscends};
 
 use crate::WordList;
+use iloc_copying::{Copied, Copying, FromMemory};
 use iloc_memory::Memory;
 use iloc_subtags::{Variant, VariantKind, WordKind, WordOf};
 use std::alloc::{AllocError, Global};
@@ -182,24 +183,25 @@ impl<K: WordKind<N>, const N: usize> WordSet<K, N> {
         replace(self, WordSet::new())
     }
 
-    /// A set of the same subtags. It allocates only if there are more than four.
-    pub(crate) fn copied(&self) -> Result<Self, AllocError>
-        ensures value { IfOk result (λ s. s ≡ self.now) }
+    /// A copy, from any memory. Refusal: `AllocError`, only if room for at most all the subtags was refused.
+    pub fn clone_in<M: Memory>(&self, memory: M) -> Result<Self, AllocError>
+        ensures value { IfOk result (λ copy. copy ≡ self.now) }
         ensures succeeds { length self.now ≤ 4 → IsOk result }
+        ensures out_of_memory { OnErr result (RefusedWithin M.refused (length self.now)) }
     {
-        Ok(WordSet {
-            words: self.words.clone()?,
-        })
+        self.copied(FromMemory(memory))
     }
 
     /// Adds each subtag of the other set.
-    fn add_all(&mut self, alloc: Global, other: &Self) -> Result<(), AllocError>
+    fn add_all<M: Memory>(&mut self, memory: M, other: &Self) -> Result<(), AllocError>
         ensures ok { OnOk result (self.new ≡ set_of (self.old ++ other.now)) }
         ensures succeeds { length self.old + length other.now ≤ 4 → IsOk result }
+        ensures out_of_memory { OnErr result
+            (RefusedWithin M.refused (length self.old + length other.now)) }
     {
         let _ = &self.words;
         for word in other.as_slice() {
-            self.push(alloc, word.clone()?)?;
+            self.push_in(memory, word.clone()?)?;
         }
         Ok(())
     }
@@ -209,8 +211,18 @@ impl<K: WordKind<N>, const N: usize> WordSet<K, N> {
         ensures words { IfOk result (λ s. s ≡ set_of (self.now ++ other.now)) }
         ensures succeeds { length self.now + length other.now ≤ 4 → IsOk result }
     {
-        let mut all = self.copied()?;
-        all.add_all(alloc, other)?;
+        self.union_in(alloc, other)
+    }
+
+    /// As `union`, from any memory. Refusal: `AllocError`, only if room for at most the subtags of both was refused.
+    pub fn union_in<M: Memory>(&self, memory: M, other: &Self) -> Result<Self, AllocError>
+        ensures words { IfOk result (λ s. s ≡ set_of (self.now ++ other.now)) }
+        ensures succeeds { length self.now + length other.now ≤ 4 → IsOk result }
+        ensures out_of_memory { OnErr result
+            (RefusedWithin M.refused (length self.now + length other.now)) }
+    {
+        let mut all = self.clone_in(memory)?;
+        all.add_all(memory, other)?;
         Ok(all)
     }
 
@@ -221,12 +233,38 @@ impl<K: WordKind<N>, const N: usize> WordSet<K, N> {
         ensures err { OnErr result (self.new ≡ self.old) }
         ensures succeeds { length self.old + length other.now ≤ 4 → IsOk result }
     {
+        self.extend_in(alloc, other)
+    }
+
+    /// As `extend`, from any memory. Refusal: `AllocError`, only if room for at most the subtags of both was refused.
+    pub fn extend_in<M: Memory>(&mut self, memory: M, other: &Self) -> Result<(), AllocError>
+        ensures ok { OnOk result (self.new ≡ set_of (self.old ++ other.now)) }
+        ensures err { OnErr result (self.new ≡ self.old) }
+        ensures succeeds { length self.old + length other.now ≤ 4 → IsOk result }
+        ensures out_of_memory { OnErr result
+            (RefusedWithin M.refused (length self.old + length other.now)) }
+    {
         if self.len() <= 4 {
             if other.len() <= 4 - self.len() {
-                return self.add_all(alloc, other);
+                return self.add_all(memory, other);
             }
         }
-        *self = self.union(alloc, other)?;
+        *self = self.union_in(memory, other)?;
         Ok(())
+    }
+}
+
+/// It asks for room only if there are more than four subtags.
+impl<K: WordKind<N>, const N: usize> Copied for WordSet<K, N> {
+    ghost size = { length };
+
+    fn copied<C: Copying>(&self, copying: C) -> Result<Self, AllocError>
+        ensures value { IfOk result (λ copy. copy ≡ self.now) }
+        ensures succeeds { length self.now ≤ 4 → IsOk result }
+        ensures out_of_memory { OnErr result (RefusedWithin C.Room.refused (length self.now)) }
+    {
+        Ok(WordSet {
+            words: self.words.copied(copying)?,
+        })
     }
 }

@@ -11,7 +11,7 @@ use Rattle.iloc_litemap.proofs.map.LiteMap.extend_from_vec.Goals as goal
 pub returns-then-is_empty-clause-ok : goal.returns-then-is_empty-clause-ok
 returns-then-is_empty-clause-ok g c =
     let none : length c.args.more.items ≡ 0 = search rules in
-    sym (map_of_sorted g.K.Ord.cmp c.args.self.now c.room_for.ensures.ascending)
+    sym (map_of_sorted g.K.Ord.cmp c.args.self.now c.as_slice.ensures.ascending)
     ∙ ap (λ xs. map_of g.K.Ord.cmp (reverse xs ++ c.args.self.now)) (sym (nil_from_length _ none))
 
 pub loop-key-init : goal.loop-key-init
@@ -22,12 +22,9 @@ loop-key-init g c =
       finite = search rules;
       ascending = search rules;
       pairs = ap₂ (put_all g.K.Ord.cmp) c.in_ok-all.ensures.pairs left
-          ∙ put_all_over g.K.Ord.cmp c.args.self.now c.args.more.items c.room_for.ensures.ascending;
+          ∙ put_all_over g.K.Ord.cmp c.args.self.now c.args.more.items c.as_slice.ensures.ascending;
       room = search rules;
     }
-
-pub take_with_room-requires : goal.take_with_room-requires
-take_with_room-requires g c = omega (arith, c.in_ok-room.ensures.room)
 
 pub put_within-requires-clause-room : goal.put_within-requires-clause-room
 put_within-requires-clause-room g c =

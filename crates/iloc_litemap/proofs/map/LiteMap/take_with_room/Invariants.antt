@@ -6,6 +6,5 @@ invariant-loop-pair g l = record {
   can : (goal.iterator-loop-pair g).can_next l.pair-iterator;
   finite : (goal.iterator-loop-pair g).is_finite l.pair-iterator;
   pairs : l.all.items ++ g.S.Store.left l.pair-iterator ≡ l.fn.self;
-  enough : length l.fn.self ≤ l.fn.room;
-  room : l.fn.room ≤ vec_capacity l.all;
+  room : length l.fn.self ≤ vec_capacity l.all;
 }

@@ -4,7 +4,7 @@ use Rattle.std.proofs.Common.{append_assoc, append-nil, length-append}
 use Rattle.std.specs.Result.{is_err}
 use Rattle.std.proofs.Math.Seq.{take-append_seam}
 use Rattle.iloc_memory.proofs.Within.{within_more}
-use Rattle.iloc_word_list.proofs.RoomLemmas.{one_more_yielded}
+use Rattle.iloc_copying.proofs.Yielded.{one_more_yielded}
 use Rattle.iloc_word_list.proofs.value.Value.extend_in.Goals as goal
 
 -- what is said of each result, of one that is known

@@ -10,11 +10,12 @@ use Rattle.iloc_word_list.proofs.word_set.WordSet.add_all.Goals as goal
 pub loop-word-preserved : goal.loop-word-preserved
 loop-word-preserved g c =
     let same = c.in_ok-clone.ensures.cases in
-    let is : c.push.new.self ≡ set_of (c.word-item.result ∷ c.loop-word.self) =
-    c.in_ok-push.ensures.ok ∙ ap (λ w. set_of (w ∷ c.loop-word.self)) (sym same.3 ∙ same.4.0 ∙ same.2) in
+    let is : c.push_in.new.self ≡ set_of (c.word-item.result ∷ c.loop-word.self) =
+    c.in_ok-push_in.ensures.ok ∙ ap (λ w. set_of (w ∷ c.loop-word.self)) (sym same.3 ∙ same.4.0 ∙ same.2) in
     record {
-      set = union_next c.word-item.result c.loop-word.self c.as_slice-word-items.result.now c.push.new.self _
-          c.loop-word.word-index c.loop-word-test.true c.word-item.is is c.loop-word.invariant.set;
+      set = union_next c.word-item.result c.loop-word.self c.as_slice-word-items.result.now
+          c.push_in.new.self _ c.loop-word.word-index c.loop-word-test.true c.word-item.is is
+          c.loop-word.invariant.set;
       ascending = subst (StrictlyAscends word_cmp) (sym is)
           (set_of-ascending (c.word-item.result ∷ c.loop-word.self));
       short = rw is
