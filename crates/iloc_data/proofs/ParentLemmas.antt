@@ -13,7 +13,6 @@ use Rattle.iloc_spec_parts.specs.Subdivisions.{Subdivision, subdivision}
 use Rattle.iloc_spec_parts.specs.DataLocales.{DataLocale, DataKey, IsDataLocale, data_key, data_pieces}
 use Rattle.iloc_spec_parts.specs.DataLocales.{is_whole, whole, whole_region, named_subdivision}
 use Rattle.iloc_spec_parts.specs.DataLocales.{region_part, subdivision_keyword, subdivision_pieces}
-use Rattle.iloc_spec_parts.specs.DataLocales.{subdivision_value}
 use Rattle.iloc_spec_parts.proofs.SubdivisionLaws.{read_is_subdivision}
 use Rattle.iloc_langid.specs.Parents.{is_unknown_language, after_steps}
 use Rattle.iloc_data.specs.DataValue.{unknown_data}
@@ -365,16 +364,11 @@ none : {X : Type 0} (o : Option X) → false ≡ is_some o → o ≡ None
 none None h = refl
 none (Some x) h = absurd (true≢false (sym h))
 
-no_word : (o : Option Text) → false ≡ is_some (option_map subdivision_value o) → o ≡ None
-no_word None h = refl
-no_word (Some w) h = absurd (true≢false (sym h))
-
-pub language_left : (d e w : DataLocale) (k : Option (List Text)) →
-    k ≡ option_map subdivision_value (subdivision_keyword d)
+pub language_left : (d e w : DataLocale) (k : Option Text) → k ≡ subdivision_keyword d
     → false ≡ is_some k → false ≡ is_some d.variant → w ≡ with_whole_region d → false ≡ is_some w.region →
     false ≡ is_some d.script
     → (d.language ≡ codes "und" → false ≡ true) → e ≡ unknown_data → Some e ≡ data_parent d
 language_left d e w k is h v whole r s known end =
-    let part : subdivision_keyword d ≡ None = no_word (subdivision_keyword d) (h ∙ ap is_some is) in
+    let part : subdivision_keyword d ≡ None = none (subdivision_keyword d) (h ∙ ap is_some is) in
     let region : region_of d ≡ None = none (region_of d) (r ∙ ap (λ x. is_some x.region) whole) in
     rw (part, none d.variant v, region, none d.script s, known_language d.language known) (ap Some end)

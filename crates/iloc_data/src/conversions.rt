@@ -20,7 +20,7 @@ use iloc_locale::{Extensions, Locale};
 use iloc_memory::Memory;
 use iloc_subtags::{Language, Region, Script};
 use iloc_unicode::{Attributes, Keywords, Unicode};
-use iloc_word_list::Variants;
+use iloc_word_list::{Value, Variants};
 use std::alloc::Global;
 
 impl DataLocale {
@@ -37,11 +37,16 @@ impl DataLocale {
     }
 
     // The locale of the same parts.
+    #[tactic(auto, using(iloc_data_parts::proofs::RegionLemmas::printed_value))]
     fn as_locale(&self, alloc: Global) -> Locale
         ensures { locale_value result ≡ locale_of_data (value_of self.now) }
     {
-        let keywords = match self.subdivision_value() {
-            Some(value) => Keywords::new_single(RegionalSubdivisionKind::key(), value),
+        let keywords = match self.printed_subdivision() {
+            Some(word) => {
+                let _ = word.as_str();
+                let value = Value::from_subtag(Some(word));
+                Keywords::new_single(RegionalSubdivisionKind::key(), value)
+            }
             None => Keywords::new(),
         };
         self.with_keywords(alloc, keywords)
