@@ -9,9 +9,10 @@ ghost use Rattle.iloc_spec_parts.specs.Preferences.{language_priority, preferenc
 ghost use Rattle.iloc_langid.specs.Reads.{value_of as identifier_of};
 ghost use Rattle.iloc_spec_grammar.specs.Meaning as meaning;
 
-use crate::data_locale::DataLocale;
+use crate::data_locale::{DataLocale, made_of};
 use crate::locale_preferences::LocalePreferences;
 use crate::values::look_at_data_locale;
+use iloc_data_parts::DataParts;
 use iloc_data_parts::region::whole_region;
 use iloc_keyword_types::KeywordKind;
 use iloc_keyword_types::subdivision_keyword::RegionalSubdivisionKind;
@@ -127,6 +128,11 @@ impl From<(Language, Option<Script>, Option<Region>)> for DataLocale {
 
     fn from(lsr: (Language, Option<Script>, Option<Region>)) -> Self {
         let (language, script, region) = lsr;
-        DataLocale::made_of(language, script, region.map(whole_region), None)
+        made_of(DataParts {
+            language,
+            script,
+            part: region.map(whole_region),
+            variant: None,
+        })
     }
 }

@@ -26,6 +26,7 @@ pub struct DataParts {
 
 impl DataParts {
     /// Parses all of the text, which need not be UTF-8, in whatever case. It allocates nothing.
+    #[inline(always)]
     pub fn try_from_utf8(code_units: &[u8]) -> Result<Self, ParseError>
         ensures { PartsTextReads code_units.now result }
     {
