@@ -48,7 +48,6 @@ impl DataParts {
     }
 
     // The subdivision if it is printed: it is not a whole region.
-    #[tactic(auto, using(crate::proofs::PartLemmas::whole_keyword, crate::proofs::PartLemmas::part_keyword))]
     fn printed_subdivision(&self) -> Option<Subtag>
         ensures { result ≡ subdivision_keyword (value_of self.now) }
     {

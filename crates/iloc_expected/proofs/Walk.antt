@@ -34,7 +34,7 @@ use Rattle.iloc_expected.specs.Standing.{without_empty}
 use Rattle.iloc_expected.specs.Readings.{IsReadAt, IsReading, IsPieceTaken, IsReadUpTo, IsReadOn}
 use Rattle.iloc_expected.specs.Readings.{IsStopped, keyed_after}
 use Rattle.iloc_expected.proofs.Places.{place_of_more}
-use Rattle.iloc_expected.proofs.Following.{of_if, next_made}
+use Rattle.iloc_expected.proofs.Following.{of_if, by_test, next_made}
 
 -- ---- a piece adds one variant at most
 
@@ -52,25 +52,19 @@ none_more vs ws e = omega (arith, ap length e)
 
 module _ (mode : Mode) (vs : List Text) (p : Text) (x : Stage × List Text) where
   variant_more : after_region_next mode vs p ≡ Some x → MoreBy vs x.1
-  variant_more e = elim (cases_Bool (is_word Variant p && is_new mode vs (lower p))) [
-    | inl b ↦ let f : Some (Region, vs ++ (lower p ∷ [])) ≡ Some x = rw b at e in
-        let g : vs ++ (lower p ∷ []) ≡ x.1 = cc in omega (arith, ap length g, length-append vs (lower p ∷ []))
-    | inr b ↦ let f : None ≡ Some x = rw b at e in cc
-  ]
+  variant_more e = by_test _ e
+      (λ b f. let g : vs ++ (lower p ∷ []) ≡ x.1 = cc in
+      omega (arith, ap length g, length-append vs (lower p ∷ [])))
+      (λ b f. cc)
+
+  no_more_words : (stage : Stage) → Some (stage, vs) ≡ Some x → MoreBy vs x.1
+  no_more_words stage f = let g : vs ≡ x.1 = cc in omega (arith, ap length g)
 
   region_more : after_script_next mode vs p ≡ Some x → MoreBy vs x.1
-  region_more e = elim (cases_Bool (is_word grammar.Region p)) [
-    | inl b ↦ let f : Some (Region, vs) ≡ Some x = rw b at e in
-        let g : vs ≡ x.1 = cc in omega (arith, ap length g)
-    | inr b ↦ variant_more (rw b at e)
-  ]
+  region_more e = by_test _ e (λ b f. no_more_words Region f) (λ b f. variant_more f)
 
   word_more : (stage : Stage) → word_next mode stage vs p ≡ Some x → MoreBy vs x.1
-  word_more Language e = elim (cases_Bool (is_word grammar.Script p)) [
-    | inl b ↦ let f : Some (Script, vs) ≡ Some x = rw b at e in
-        let g : vs ≡ x.1 = cc in omega (arith, ap length g)
-    | inr b ↦ region_more (rw b at e)
-  ]
+  word_more Language e = by_test _ e (λ b f. no_more_words Script f) (λ b f. region_more f)
   word_more Script e = region_more e
   word_more Region e = variant_more e
 
@@ -99,26 +93,18 @@ block_more Data _ vs seen c r e = cc
 inside_more : (mode : Mode) (part : Part) (vs : List Text) (seen : List ℕ) (p : Text) (r : Reached) →
     inside_next mode part vs seen p ≡ Some r → MoreBy vs r.variants
 inside_more mode (Head stage) vs seen p r e = more_words Head mode stage vs p seen r e
-inside_more mode (Source stage) vs seen p r e = elim (cases_Bool (is_word TransformKey p)) [
-  | inl k ↦ let f : Some (plain seen FieldKey) ≡ Some r = rw k at e in
-      let same : plain seen FieldKey ≡ r = cc in
-      none_more vs r.variants (ap (λ (x : Reached). x.variants) (sym same))
-  | inr k ↦ more_words Source mode stage vs p seen r (rw k at e)
-]
-inside_more mode Transform vs seen p r e = elim (cases_Bool (is_word TransformKey p)) [
-  | inl k ↦ let f : Some (plain seen FieldKey) ≡ Some r = rw k at e in
-      let same : plain seen FieldKey ≡ r = cc in
-      none_more vs r.variants (ap (λ (x : Reached). x.variants) (sym same))
-  | inr k ↦ none_more vs r.variants (of_bare _ seen r (rw k at e))
-]
+inside_more mode (Source stage) vs seen p r e = by_test _ e
+    (λ k f. none_more vs r.variants (of_bare (Some FieldKey) seen r f))
+    (λ k f. more_words Source mode stage vs p seen r f)
+inside_more mode Transform vs seen p r e = by_test _ e
+    (λ k f. none_more vs r.variants (of_bare (Some FieldKey) seen r f))
+    (λ k f. none_more vs r.variants (of_bare _ seen r f))
 inside_more mode _ vs seen p r e = none_more vs r.variants (of_bare _ seen r e)
 
 next_more : (mode : Mode) (part : Part) (vs : List Text) (seen : List ℕ) (p : Text) (r : Reached) →
     next mode (reached part vs seen) p ≡ Some r → MoreBy vs r.variants
-next_more mode part vs seen p r e = elim (cases_Bool (begins_block part p)) [
-  | inl b ↦ block_more mode part vs seen _ r (rw b at e)
-  | inr b ↦ inside_more mode part vs seen p r (rw b at e)
-]
+next_more mode part vs seen p r e =
+    by_test _ e (λ b f. block_more mode part vs seen _ r f) (λ b f. inside_more mode part vs seen p r f)
 
 -- ---- the walk
 
