@@ -2,7 +2,6 @@
 use Rattle.std.proofs.Common.{◌≡◌, ◌≢◌, inl, inr, ℕ, suc, ◌+◌, List, [], ◌∷◌, ◌++◌, length, take}
 use Rattle.std.proofs.Common.{refl, sym, ap, ◌∙◌, subst, append_assoc, append-nil, arith, take_all, ◌==◌}
 use Rattle.std.specs.List.{AllByRecursion, list_any}
-use Rattle.std.proofs.lemmas.Bool.{cases_Bool}
 use Rattle.std.proofs.lemmas.List.Concat.{flat_map-append}
 use Rattle.std.proofs.Math.Seq.{take-append-add}
 use Rattle.iloc_spec_grammar.specs.Syntax.{Text, pieces, join, dashes, IsHyphenFree, is_word, is_one_byte}
@@ -83,22 +82,24 @@ before_end mode t start s g =
 
 -- a piece is not the end
 word_no_end : (p : Text) → identifier_kind p ≢ kinds.End
-word_no_end p e = by_test _ e (λ a f. cc) (λ a f. by_test _ f (λ b g. cc) (λ b g. cc))
+word_no_end p e = by_test (is_word grammar.Script p) e (λ a f. cc)
+    (λ a f. by_test (is_word grammar.Region p) f (λ b g. cc) (λ b g. cc))
 
 transform_no_end : (qs : List Text) (p : Text) → transform_kind qs p ≢ kinds.End
-transform_no_end [] p e = by_test _ e (λ a f. cc) (λ a f. cc)
-transform_no_end (q ∷ qs) p e =
-    by_test _ e (λ a f. cc) (λ a f. by_test _ f (λ b g. cc) (λ b g. word_no_end p g))
+transform_no_end [] p e = by_test (is_word TransformKey p) e (λ a f. cc) (λ a f. cc)
+transform_no_end (q ∷ qs) p e = by_test (is_word TransformKey p) e (λ a f. cc)
+    (λ a f. by_test (list_any (is_word TransformKey) (q ∷ qs)) f (λ b g. cc) (λ b g. word_no_end p g))
 
 unicode_no_end : (qs : List Text) (p : Text) → unicode_kind qs p ≢ kinds.End
-unicode_no_end qs p e = by_test _ e (λ a f. cc) (λ a f. by_test _ f (λ b g. cc) (λ b g. cc))
+unicode_no_end qs p e = by_test (is_word UnicodeKey p) e (λ a f. cc)
+    (λ a f. by_test (list_any (is_word UnicodeKey) qs) f (λ b g. cc) (λ b g. cc))
 
 no_end : (w : Place) (p : Text) → kind_at w p ≢ kinds.End
 no_end AtBeginning p e = cc
-no_end InIdentifier p e = by_test _ e (λ a f. cc) (λ a f. word_no_end p f)
-no_end (InExtension c qs) p e =
-    by_test _ e (λ x f. cc) (λ x f. by_test _ f (λ a g. cc) (λ a g. by_test _ g
-    (λ t h. transform_no_end qs p h) (λ t h. by_test _ h (λ u k. unicode_no_end qs p k) (λ u k. cc))))
+no_end InIdentifier p e = by_test (is_one_byte p) e (λ a f. cc) (λ a f. word_no_end p f)
+no_end (InExtension c qs) p e = by_test (c == code_x) e (λ x f. cc) (λ x f.
+    by_test (is_one_byte p) f (λ a g. cc) (λ a g. by_test (c == code_t) g (λ t h. transform_no_end qs p h)
+    (λ t h. by_test (c == code_u) h (λ u k. unicode_no_end qs p k) (λ u k. cc))))
 
 pub some_kind : (mode : Mode) (ps : List Text) → GoOn mode ps → (kind : PieceKind) × MayStand mode ps kind
 some_kind mode ps g = by g.rest g.begins

@@ -1,6 +1,6 @@
 -- A piece that comes next is of a kind that may come.
 use Rattle.std.proofs.Common.{◌≡◌, ◌≢◌, ℕ, Bool, true, false, ◌&&◌, List, [], ◌∷◌, length}
-use Rattle.std.proofs.Common.{slice_index, Some, None, refl, sym, ◌∙◌}
+use Rattle.std.proofs.Common.{slice_index, Some, refl, sym, ◌∙◌}
 use Rattle.std.proofs.Common.{true≢false, inl, inr, arith}
 use Rattle.std.specs.Char.{is_ascii_alphanumeric}
 use Rattle.std.proofs.lemmas.Bool.{cases_Bool, and_parts, not-true, false_from_ne_true}
@@ -83,19 +83,21 @@ pub data IsOneOf (mode : Mode) (vs : List Text) (stage : Stage) (p : Text) : Typ
 module _ (mode : Mode) (vs : List Text) (p : Text) where
   variant_one : (stage : Stage) (x : Stage × List Text) → after_region_next mode vs p ≡ Some x →
       IsOneOf mode vs stage p
-  variant_one stage x e = by_test _ e
+  variant_one stage x e = by_test (is_word Variant p && is_new mode vs (lower p)) e
       (λ b f. let h = and_parts _ _ b in
       a_variant h.1 (rw (variant_no_script p h.0, variant_no_region p h.0) refl))
       (λ b f. cc)
 
   region_one : (stage : Stage) (x : Stage × List Text) → stage ≢ Region →
       after_script_next mode vs p ≡ Some x → IsOneOf mode vs stage p
-  region_one stage x n e = by_test _ e (λ b f. a_region n (rw (region_no_script p b, b) refl))
+  region_one stage x n e =
+      by_test (is_word grammar.Region p) e (λ b f. a_region n (rw (region_no_script p b, b) refl))
       (λ b f. variant_one stage x f)
 
   word_one : (stage : Stage) (x : Stage × List Text) → word_next mode stage vs p ≡ Some x →
       IsOneOf mode vs stage p
-  word_one Language x e = by_test _ e (λ b f. a_script refl (rw b refl))
+  word_one Language x e =
+      by_test (is_word grammar.Script p) e (λ b f. a_script refl (rw b refl))
       (λ b f. region_one Language x (λ g. cc) f)
   word_one Script x e = region_one Script x (λ f. cc) e
   word_one Region x e = variant_one Region x e
@@ -162,7 +164,7 @@ module _ (mode : Mode) (keyed none left : Bool) (w : Place) (p : Text) where
   piece_may Subdivision q at b e =
       let m = of_when _ SubdivisionKey q e in rw (at.0, no_true _ b, sd_key p m.0) refl
   piece_may SubdivisionKey q at b e =
-      by_test _ e (λ a f. rw (at.1, no_true _ b, no_unicode_key p a, at.2) refl) (λ a f. cc)
+      by_test (is_word Attribute p) e (λ a f. rw (at.1, no_true _ b, no_unicode_key p a, at.2) refl) (λ a f. cc)
   piece_may SubdivisionValue q at b e =
       let m = of_when _ SubdivisionValue q e in
       rw (at.1, no_true _ b, no_unicode_key p (and_parts _ _ m.0).0, at.2) refl

@@ -25,7 +25,7 @@ use Rattle.iloc_faults.specs.declared.state.Stage.TheVariants.{Language}
 use Rattle.iloc_faults.specs.Next.{Reached, plain, when, takes_any, part_of, begins_block}
 use Rattle.iloc_faults.specs.Next.{block_next, inside_next, piece_next, word_next, next}
 use Rattle.iloc_faults.specs.States.{reached}
-use Rattle.iloc_expected.specs.Kinds.{Place, InExtension}
+use Rattle.iloc_expected.specs.Kinds.{Place, InExtension, InIdentifier}
 use Rattle.iloc_expected.specs.Readings.{IsReadAt, keyed_after}
 use Rattle.iloc_expected.proofs.Places.{place_more, any_more}
 
@@ -167,8 +167,8 @@ last_true f qs p e = any_more f qs p ∙ or_right (list_any f qs) (f p) e
 -- by what a test chose
 pub by_test : {X P : Type 0} {x y z : X} (b : Bool) → (if b then x else y) ≡ z → (b ≡ true → x ≡ z → P) →
     (b ≡ false → y ≡ z → P) → P
-by_test true e yes no = yes refl e
-by_test false e yes no = no refl e
+by_test true e f g = f refl e
+by_test false e f g = g refl e
 
 module _ (keyed : Bool) (w : Place) (p : Text) where
   abbrev Made : Part → Type 0
@@ -177,8 +177,8 @@ module _ (keyed : Bool) (w : Place) (p : Text) where
   is_made : {r q : Part} → Some r ≡ Some q → Made r → Made q
   is_made {r} {q} e = let s : r ≡ q = cc in subst Made s
 
-  made_when : (b : Bool) {r q : Part} → when b r ≡ Some q → Made r → Made q
-  made_when b {r} {q} e = subst Made (of_when b r q e).1
+  made_when : (b : Bool) (r : Part) {q : Part} → when b r ≡ Some q → Made r → Made q
+  made_when b r {q} e = subst Made (of_when b r q e).1
 
   -- the block with the piece
 
@@ -210,21 +210,22 @@ module _ (keyed : Bool) (w : Place) (p : Text) where
 
   piece_made : (part q : Part) → IsReadAt part keyed w → begins_block part p ≡ false →
       piece_next part p ≡ Some q → Made q
-  piece_made FieldKey q at b e = made_when _ e (field_on at (no_true _ b))
+  piece_made FieldKey q at b e = made_when _ FieldValue e (field_on at (no_true _ b))
   piece_made FieldValue q at b e =
-      let on = field_on at (no_true _ b) in by_test _ e (λ k f. is_made f on) (λ k f. made_when _ f on)
+      let on = field_on at (no_true _ b) in by_test (is_word TransformKey p) e (λ k f. is_made f on) (λ k f. made_when _ FieldValue f on)
   piece_made Unicode q at b e =
-      made_when _ e (p ∷ [], inside_more code_u [] w p at.0 refl (no_true _ b), first_keyed at.1)
-  piece_made Keyword q at b e = made_when _ e (
+      made_when _ Keyword e (p ∷ [], inside_more code_u [] w p at.0 refl (no_true _ b), first_keyed at.1)
+  piece_made Keyword q at b e = made_when _ Keyword e (
     at.0 ++ (p ∷ []),
     inside_more code_u at.0 w p at.1 refl (no_true _ b),
     any_more (is_word UnicodeKey) at.0 p ∙ ap (λ k. k || is_word UnicodeKey p) at.2,
   )
-  piece_made Other q at b e = made_when _ e (other_on at (no_true _ b) (is_word Subtag p))
-  piece_made OtherWord q at b e = made_when _ e (other_on at (no_true _ b) true)
-  piece_made Private q at b e = made_when _ e (private_on at)
-  piece_made PrivateWord q at b e = made_when _ e (private_on at)
-  piece_made Subdivision q at b e = made_when _ e (
+  piece_made Other q at b e = made_when _ (if is_word Subtag p then OtherWord else Other) e
+      (other_on at (no_true _ b) (is_word Subtag p))
+  piece_made OtherWord q at b e = made_when _ OtherWord e (other_on at (no_true _ b) true)
+  piece_made Private q at b e = made_when _ PrivateWord e (private_on at)
+  piece_made PrivateWord q at b e = made_when _ PrivateWord e (private_on at)
+  piece_made Subdivision q at b e = made_when _ SubdivisionKey e (
     p ∷ [],
     inside_more code_u [] w p at.0 refl (no_true _ b),
     or_left (is_word UnicodeKey p) false (sd_key p (of_when _ SubdivisionKey q e).0),
@@ -232,28 +233,30 @@ module _ (keyed : Bool) (w : Place) (p : Text) where
   )
   piece_made SubdivisionKey q at b e =
       let on = subdivision_on at (no_true _ b) in
-      by_test _ e (λ a f. by_test _ f (λ t g. is_made g on) (λ t g. made_when _ g on)) (λ a f. cc)
-  piece_made SubdivisionValue q at b e = made_when _ e (subdivision_on at (no_true _ b))
+      by_test (is_word Attribute p) e
+      (λ a f. by_test (is_true (lower p)) f (λ t g. is_made g on) (λ t g. made_when _ SubdivisionValue g on))
+      (λ a f. cc)
+  piece_made SubdivisionValue q at b e = made_when _ SubdivisionValue e (subdivision_on at (no_true _ b))
   piece_made _ q at b e = cc
 
   -- the part of a piece that begins no block
   inside_made : (mode : Mode) (part : Part) (vs : List Text) (seen : List ℕ) (r : Reached) →
       IsReadAt part keyed w → begins_block part p ≡ false → inside_next mode part vs seen p ≡ Some r →
       Made r.part
-  inside_made mode Start vs seen r at b e = made_when _ (of_plain _ seen r e) (rw at.0 refl, refl)
+  inside_made mode Start vs seen r at b e = made_when _ (Head Language) (of_plain _ seen r e) (rw at.0 refl, refl)
   inside_made mode (Head stage) vs seen r at b e =
       let m = of_words Head (word_next mode stage vs p) seen r e in
       let one = no_true _ b in
       subst Made (sym m.2) (rw (at.0, one) refl, refl)
   inside_made mode Transform vs seen r at b e =
       let more = inside_more code_t [] w p at.0 refl (no_true _ b) in
-      by_test _ e
+      by_test (is_word TransformKey p) e
       (λ k f. is_made (of_plain (Some FieldKey) seen r f)
       (p, [], more, or_left (is_word TransformKey p) false k, refl))
-      (λ k f. made_when _ (of_plain _ seen r f) (p, [], more, rw k refl, refl))
+      (λ k f. made_when _ (Source Language) (of_plain _ seen r f) (p, [], more, rw k refl, refl))
   inside_made mode (Source stage) vs seen r at b e =
       let more = inside_more code_t (at.0 ∷ at.1) w p at.2 refl (no_true _ b) in
-      by_test _ e
+      by_test (is_word TransformKey p) e
       (λ k f. is_made (of_plain (Some FieldKey) seen r f)
       (at.0, at.1 ++ (p ∷ []), more, last_true (is_word TransformKey) (at.0 ∷ at.1) p k, refl))
       (λ k f. subst Made (sym (of_words Source (word_next mode stage vs p) seen r f).2)

@@ -4,7 +4,7 @@ use Rattle.std.proofs.Common.{◌&&◌, ◌++◌, length, min, take_all, take, O
 use Rattle.std.proofs.Common.{refl, sym, ap, ◌∙◌, subst}
 use Rattle.std.proofs.Common.{append-nil, append_assoc, length-append, arith, inl, inr}
 use Rattle.std.specs.List.{AllByRecursion}
-use Rattle.std.proofs.lemmas.Bool.{cases_Bool, cases_lt}
+use Rattle.std.proofs.lemmas.Bool.{cases_lt}
 use Rattle.iloc_spec_grammar.specs.Syntax.{Text, Variant, pieces, join, dashes, lower, is_word}
 use Rattle.iloc_spec_grammar.specs.Syntax.{IsHyphenFree}
 use Rattle.iloc_spec_grammar.specs.Syntax.{TransformKey}
@@ -52,7 +52,7 @@ none_more vs ws e = omega (arith, ap length e)
 
 module _ (mode : Mode) (vs : List Text) (p : Text) (x : Stage × List Text) where
   variant_more : after_region_next mode vs p ≡ Some x → MoreBy vs x.1
-  variant_more e = by_test _ e
+  variant_more e = by_test (is_word Variant p && is_new mode vs (lower p)) e
       (λ b f. let g : vs ++ (lower p ∷ []) ≡ x.1 = cc in
       omega (arith, ap length g, length-append vs (lower p ∷ [])))
       (λ b f. cc)
@@ -61,10 +61,11 @@ module _ (mode : Mode) (vs : List Text) (p : Text) (x : Stage × List Text) wher
   no_more_words stage f = let g : vs ≡ x.1 = cc in omega (arith, ap length g)
 
   region_more : after_script_next mode vs p ≡ Some x → MoreBy vs x.1
-  region_more e = by_test _ e (λ b f. no_more_words Region f) (λ b f. variant_more f)
+  region_more e = by_test (is_word grammar.Region p) e (λ b f. no_more_words Region f) (λ b f. variant_more f)
 
   word_more : (stage : Stage) → word_next mode stage vs p ≡ Some x → MoreBy vs x.1
-  word_more Language e = by_test _ e (λ b f. no_more_words Script f) (λ b f. region_more f)
+  word_more Language e =
+      by_test (is_word grammar.Script p) e (λ b f. no_more_words Script f) (λ b f. region_more f)
   word_more Script e = region_more e
   word_more Region e = variant_more e
 
@@ -93,10 +94,10 @@ block_more Data _ vs seen c r e = cc
 inside_more : (mode : Mode) (part : Part) (vs : List Text) (seen : List ℕ) (p : Text) (r : Reached) →
     inside_next mode part vs seen p ≡ Some r → MoreBy vs r.variants
 inside_more mode (Head stage) vs seen p r e = more_words Head mode stage vs p seen r e
-inside_more mode (Source stage) vs seen p r e = by_test _ e
+inside_more mode (Source stage) vs seen p r e = by_test (is_word TransformKey p) e
     (λ k f. none_more vs r.variants (of_bare (Some FieldKey) seen r f))
     (λ k f. more_words Source mode stage vs p seen r f)
-inside_more mode Transform vs seen p r e = by_test _ e
+inside_more mode Transform vs seen p r e = by_test (is_word TransformKey p) e
     (λ k f. none_more vs r.variants (of_bare (Some FieldKey) seen r f))
     (λ k f. none_more vs r.variants (of_bare _ seen r f))
 inside_more mode _ vs seen p r e = none_more vs r.variants (of_bare _ seen r e)
@@ -104,7 +105,8 @@ inside_more mode _ vs seen p r e = none_more vs r.variants (of_bare _ seen r e)
 next_more : (mode : Mode) (part : Part) (vs : List Text) (seen : List ℕ) (p : Text) (r : Reached) →
     next mode (reached part vs seen) p ≡ Some r → MoreBy vs r.variants
 next_more mode part vs seen p r e =
-    by_test _ e (λ b f. block_more mode part vs seen _ r f) (λ b f. inside_more mode part vs seen p r f)
+    by_test (begins_block part p) e (λ b f. block_more mode part vs seen _ r f)
+    (λ b f. inside_more mode part vs seen p r f)
 
 -- ---- the walk
 
