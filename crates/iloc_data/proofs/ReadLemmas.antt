@@ -10,16 +10,27 @@ use Rattle.iloc_spec_parts.specs.Small.{locale_of_small}
 use Rattle.iloc_spec_parts.proofs.SmallLaws.{small_means}
 use Rattle.iloc_spec_parts.specs.Subdivisions.{Subdivision}
 use Rattle.iloc_spec_parts.specs.DataLocales as parts
-use Rattle.iloc_spec_parts.specs.DataLocales.{DataMeans, HasDataFault, not_small, no_subdivision}
-use Rattle.iloc_spec_parts.specs.DataLocales.{made_of, small_part, data_text}
+use Rattle.iloc_spec_parts.specs.DataLocales.{
+  DataMeans,
+  HasDataFault,
+  not_small,
+  no_subdivision,
+  made_of,
+  small_part,
+  data_text,
+}
 use Rattle.iloc_spec_parts.proofs.DataLaws.{data_apart, one_data, one_data_fault, read_back}
 use Rattle.iloc_spec_parts.proofs.WiderData.{data_wider}
 use Rattle.iloc_spec_parts.specs.Preferences.{language_priority, preferences}
 use Rattle.iloc_spec_parts.proofs.ConversionLaws.{agrees}
 use Rattle.iloc_subtags.specs.declared.parse_error.ParseError.{ParseError}
-use Rattle.iloc_subtags.specs.declared.parse_error.ParseError.TheVariants.{InvalidLanguage, InvalidSubtag}
-use Rattle.iloc_subtags.specs.declared.parse_error.ParseError.TheVariants.{InvalidExtension}
-use Rattle.iloc_subtags.specs.declared.parse_error.ParseError.TheVariants.{DuplicatedExtension, OutOfMemory}
+use Rattle.iloc_subtags.specs.declared.parse_error.ParseError.TheVariants.{
+  InvalidLanguage,
+  InvalidSubtag,
+  InvalidExtension,
+  DuplicatedExtension,
+  OutOfMemory,
+}
 use Rattle.iloc_data.specs.declared.data_locale.DataLocale.{DataLocale}
 use Rattle.iloc_subtags.specs.Judging.{Accepts, Refuses, RunsOutOnlyIf}
 use Rattle.iloc_subtags.proofs.Judged.{Judges, accepts, refuses}

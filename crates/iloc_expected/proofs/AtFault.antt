@@ -4,8 +4,20 @@ use Rattle.std.proofs.Common.{refl, sym, ap, ◌∙◌, subst, append_assoc, app
 use Rattle.std.specs.List.{AllByRecursion, list_any}
 use Rattle.std.proofs.lemmas.List.Concat.{flat_map-append}
 use Rattle.std.proofs.Math.Seq.{take-append-add}
-use Rattle.iloc_spec_grammar.specs.Syntax.{Text, pieces, join, dashes, IsHyphenFree, is_word, is_one_byte}
-use Rattle.iloc_spec_grammar.specs.Syntax.{TransformKey, UnicodeKey, code_t, code_u, code_x}
+use Rattle.iloc_spec_grammar.specs.Syntax.{
+  Text,
+  pieces,
+  join,
+  dashes,
+  IsHyphenFree,
+  is_word,
+  is_one_byte,
+  TransformKey,
+  UnicodeKey,
+  code_t,
+  code_u,
+  code_x,
+}
 use Rattle.iloc_spec_grammar.specs.Syntax as grammar
 use Rattle.iloc_spec_grammar.proofs.PartTexts.{join-dashes}
 use Rattle.iloc_spec_grammar.proofs.PiecesLaws.{pieces-join, pieces_hyphen_free}
@@ -16,8 +28,17 @@ use Rattle.iloc_faults.specs.Places.{GoOn, StandsAtPiece, IsFaultPlace}
 use Rattle.iloc_faults.proofs.OnePlace.{fewer}
 use Rattle.iloc_expected.specs.declared.kinds.PieceKind.{PieceKind}
 use Rattle.iloc_expected.specs.declared.kinds.PieceKind.TheVariants as kinds
-use Rattle.iloc_expected.specs.Kinds.{Place, AtBeginning, InIdentifier, InExtension, place_after, kind_at}
-use Rattle.iloc_expected.specs.Kinds.{identifier_kind, transform_kind, unicode_kind}
+use Rattle.iloc_expected.specs.Kinds.{
+  Place,
+  AtBeginning,
+  InIdentifier,
+  InExtension,
+  place_after,
+  kind_at,
+  identifier_kind,
+  transform_kind,
+  unicode_kind,
+}
 use Rattle.iloc_expected.specs.Standing.{without_empty, pieces_before, MayStand}
 use Rattle.iloc_expected.proofs.Following.{by_test}
 use Rattle.iloc_expected.proofs.Walk.{front_free, without_end}

@@ -6,24 +6,59 @@ use Rattle.std.proofs.lemmas.Bool.Decides.{nat_tests}
 use Rattle.std.specs.List.{list_any}
 use Rattle.std.specs.Char.{is_ascii_alphanumeric, to_ascii_lowercase}
 use Rattle.std.proofs.lemmas.Bool.{cases_Bool, and_parts, or_parts, not-true, or_left, or_right, eqb-true}
-use Rattle.iloc_spec_grammar.specs.Syntax.{Text, code_t, code_u, code_x, is_word, is_one_byte}
-use Rattle.iloc_spec_grammar.specs.Syntax.{is_other_singleton, lower, is_same, is_true, UnicodeKey}
-use Rattle.iloc_spec_grammar.specs.Syntax.{TransformKey}
-use Rattle.iloc_spec_grammar.specs.Syntax.{Attribute, Subtag}
+use Rattle.iloc_spec_grammar.specs.Syntax.{
+  Text,
+  code_t,
+  code_u,
+  code_x,
+  is_word,
+  is_one_byte,
+  is_other_singleton,
+  lower,
+  is_same,
+  is_true,
+  UnicodeKey,
+  TransformKey,
+  Attribute,
+  Subtag,
+}
 use Rattle.iloc_spec_grammar.proofs.MapLaws.{same_is}
 use Rattle.iloc_spec_grammar.proofs.Singletons.{IsKind, of_u, of_t, of_x, another, kind_of, lower_letter}
 use Rattle.iloc_normalize.specs.declared.Mode.{Mode}
 use Rattle.iloc_normalize.specs.declared.Mode.TheVariants.{Langid, Locale, Data}
 use Rattle.iloc_faults.specs.declared.state.Part.{Part}
-use Rattle.iloc_faults.specs.declared.state.Part.TheVariants.{Start, Head, Transform, Source, FieldKey}
-use Rattle.iloc_faults.specs.declared.state.Part.TheVariants.{FieldValue, Unicode, Keyword, Other}
-use Rattle.iloc_faults.specs.declared.state.Part.TheVariants.{OtherWord}
-use Rattle.iloc_faults.specs.declared.state.Part.TheVariants.{Private, PrivateWord, Subdivision}
-use Rattle.iloc_faults.specs.declared.state.Part.TheVariants.{SubdivisionKey, SubdivisionValue}
+use Rattle.iloc_faults.specs.declared.state.Part.TheVariants.{
+  Start,
+  Head,
+  Transform,
+  Source,
+  FieldKey,
+  FieldValue,
+  Unicode,
+  Keyword,
+  Other,
+  OtherWord,
+  Private,
+  PrivateWord,
+  Subdivision,
+  SubdivisionKey,
+  SubdivisionValue,
+}
 use Rattle.iloc_faults.specs.declared.state.Stage.{Stage}
 use Rattle.iloc_faults.specs.declared.state.Stage.TheVariants.{Language}
-use Rattle.iloc_faults.specs.Next.{Reached, plain, when, takes_any, part_of, begins_block}
-use Rattle.iloc_faults.specs.Next.{block_next, inside_next, piece_next, word_next, next}
+use Rattle.iloc_faults.specs.Next.{
+  Reached,
+  plain,
+  when,
+  takes_any,
+  part_of,
+  begins_block,
+  block_next,
+  inside_next,
+  piece_next,
+  word_next,
+  next,
+}
 use Rattle.iloc_faults.specs.States.{reached}
 use Rattle.iloc_expected.specs.Kinds.{Place, InExtension, InIdentifier}
 use Rattle.iloc_expected.specs.Readings.{IsReadAt, keyed_after}

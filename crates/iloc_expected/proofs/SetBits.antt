@@ -1,6 +1,5 @@
 -- The bits of a set of kinds, and the kinds in it from a number on.
-use Rattle.std.proofs.Common.{◌≡◌, inl, inr, ℕ, ◌+◌, ◌*◌, ◌%◌, ◌<◌, ◌^◌, Bool, true, false, ◌&&◌, ◌||◌}
-use Rattle.std.proofs.Common.{◌==◌}
+use Rattle.std.proofs.Common.{◌≡◌, inl, inr, ℕ, ◌+◌, ◌*◌, ◌%◌, ◌<◌, ◌^◌, Bool, true, false, ◌&&◌, ◌||◌, ◌==◌}
 use Rattle.std.proofs.Common.{◌∷◌, drop, filter, refl, sym, ap, ap₂, ◌∙◌, subst, arith, ◌++◌}
 use Rattle.std.specs.Int.{bit_at}
 use lib.Bits.{bit_or}
@@ -10,9 +9,15 @@ use Rattle.iloc_expected.specs.declared.kinds.Expected.{Expected}
 use Rattle.iloc_expected.specs.declared.kinds.PieceKind.{PieceKind}
 use Rattle.iloc_expected.specs.declared.kinds.PieceKind.TheVariants as kinds
 use Rattle.iloc_expected.specs.Kinds.{has, kind_bit}
-use Rattle.iloc_expected.specs.Words.{piece_kinds, named_from, before_next, after_first, kind_words}
-use Rattle.iloc_expected.specs.Words.{words_of}
-use Rattle.iloc_expected.specs.Words.{words_of_kinds}
+use Rattle.iloc_expected.specs.Words.{
+  piece_kinds,
+  named_from,
+  before_next,
+  after_first,
+  kind_words,
+  words_of,
+  words_of_kinds,
+}
 use Rattle.iloc_spec_grammar.specs.Syntax.{Text}
 
 -- with the bit of n it is set too

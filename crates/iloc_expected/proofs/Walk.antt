@@ -1,13 +1,20 @@
 -- What the reader of the pieces before a place says.
-use Rattle.std.proofs.Common.{◌≡◌, ◌≢◌, ◌↔◌, ℕ, suc, ◌+◌, ◌≤◌, Bool, false, List, [], ◌∷◌}
-use Rattle.std.proofs.Common.{◌&&◌, ◌++◌, length, min, take_all, take, Option, Some, None, option_map}
-use Rattle.std.proofs.Common.{refl, sym, ap, ◌∙◌, subst}
+use Rattle.std.proofs.Common.{◌≡◌, ◌≢◌, ◌↔◌, ℕ, suc, ◌+◌, ◌≤◌, Bool, false, List, [], ◌∷◌, ◌&&◌, ◌++◌, length}
+use Rattle.std.proofs.Common.{min, take_all, take, Option, Some, None, option_map, refl, sym, ap, ◌∙◌, subst}
 use Rattle.std.proofs.Common.{append-nil, append_assoc, length-append, arith, inl, inr}
 use Rattle.std.specs.List.{AllByRecursion}
 use Rattle.std.proofs.lemmas.Bool.{cases_lt}
-use Rattle.iloc_spec_grammar.specs.Syntax.{Text, Variant, pieces, join, dashes, lower, is_word}
-use Rattle.iloc_spec_grammar.specs.Syntax.{IsHyphenFree}
-use Rattle.iloc_spec_grammar.specs.Syntax.{TransformKey}
+use Rattle.iloc_spec_grammar.specs.Syntax.{
+  Text,
+  Variant,
+  pieces,
+  join,
+  dashes,
+  lower,
+  is_word,
+  IsHyphenFree,
+  TransformKey,
+}
 use Rattle.iloc_spec_grammar.specs.Syntax as grammar
 use Rattle.iloc_spec_grammar.proofs.PiecesLaws.{pieces_hyphen_free, join-pieces, at_pieces}
 use Rattle.iloc_pieces.proofs.CursorLemmas.{dashed, length_piece, length_rest}
@@ -19,8 +26,19 @@ use Rattle.iloc_faults.specs.declared.state.Part.{Part}
 use Rattle.iloc_faults.specs.declared.state.Part.TheVariants.{Start, Head, Transform, Source, FieldKey}
 use Rattle.iloc_faults.specs.declared.state.Stage.{Stage}
 use Rattle.iloc_faults.specs.declared.state.Stage.TheVariants.{Language, Script, Region}
-use Rattle.iloc_faults.specs.Next.{Reached, started, plain, is_new, begins_block, block_next, inside_next}
-use Rattle.iloc_faults.specs.Next.{word_next, after_script_next, after_region_next, next}
+use Rattle.iloc_faults.specs.Next.{
+  Reached,
+  started,
+  plain,
+  is_new,
+  begins_block,
+  block_next,
+  inside_next,
+  word_next,
+  after_script_next,
+  after_region_next,
+  next,
+}
 use Rattle.iloc_faults.specs.States.{AreVariantsRead, reached}
 use Rattle.iloc_faults.specs.Places.{GoOn}
 use Rattle.iloc_faults.proofs.Going.{run, run_append, goes_no_longer}
@@ -31,8 +49,15 @@ use Rattle.iloc_faults.proofs.OnePlace.{fewer}
 use Rattle.iloc_expected.specs.declared.reading.Reading.{Reading}
 use Rattle.iloc_expected.specs.Kinds.{Place, place_after}
 use Rattle.iloc_expected.specs.Standing.{without_empty}
-use Rattle.iloc_expected.specs.Readings.{IsReadAt, IsReading, IsPieceTaken, IsReadUpTo, IsReadOn}
-use Rattle.iloc_expected.specs.Readings.{IsStopped, keyed_after}
+use Rattle.iloc_expected.specs.Readings.{
+  IsReadAt,
+  IsReading,
+  IsPieceTaken,
+  IsReadUpTo,
+  IsReadOn,
+  IsStopped,
+  keyed_after,
+}
 use Rattle.iloc_expected.proofs.Places.{place_of_more}
 use Rattle.iloc_expected.proofs.Following.{of_if, by_test, next_made}
 
