@@ -1,8 +1,7 @@
 -- From what the readers answer to what a caller finds.
-use Rattle.std.specs.Prelude.{ℤ}
+use Rattle.std.specs.Prelude.{ℤ, MatchResult, ⊤}
 use Rattle.std.proofs.Common.{◌≡◌, ℕ, Bool, true, false, IsTrue, ◌↔◌, ◌⊎◌, List, Result, Ok, Err, inl}
 use Rattle.std.proofs.Common.{inr, refl, sym, ap, ◌∙◌, subst, true≢false}
-use Rattle.std.specs.Prelude.{MatchResult, ⊤}
 use Rattle.std.specs.Int.{from_bool}
 use Rattle.std.specs.Ordering.{is_eq, nat_cmp}
 use Rattle.std.specs.Cmp.Lexicographic.{slice_cmp}
@@ -10,7 +9,7 @@ use Rattle.std.specs.declared.cmp.Ordering.{Ordering}
 use Rattle.std.specs.declared.cmp.Ordering.TheVariants.{Equal}
 use Rattle.iloc_spec_grammar.specs.Syntax.{Text, pieces, languages, Identifier}
 use Rattle.iloc_spec_grammar.specs.Meaning as meaning
-use Rattle.iloc_spec_grammar.specs.Meaning.{IdentifierMeans, Means}
+use Rattle.iloc_spec_grammar.specs.Meaning.{IdentifierMeans, Means, Fault}
 use Rattle.iloc_spec_grammar.specs.Values.{identifier_text, text}
 use Rattle.iloc_spec_grammar.proofs.RawLaws.{languages_table}
 use Rattle.iloc_spec_grammar.proofs.SameFaults.{accepted_no_fault}
@@ -27,7 +26,7 @@ use Rattle.iloc_langid.specs.Reads as langid
 use Rattle.iloc_langid.specs.declared.identifier.LanguageIdentifier.{LanguageIdentifier}
 use Rattle.iloc_locale.specs.LocaleReading as locale
 use Rattle.iloc_locale.specs.LocaleReading.{LocaleTextReads, LocaleWantsMemory}
-use Rattle.iloc_subtags.specs.Judging.{Answers, RunsOutOnlyIf}
+use Rattle.iloc_subtags.specs.Judging.{Answers, Refusal, RunsOutOnlyIf}
 use Rattle.iloc_locale.specs.declared.locale.Locale as types
 use Rattle.iloc_data_parts.specs.PartsReading as parts
 use Rattle.iloc_data_parts.specs.declared.parts.DataParts.{DataParts}
@@ -36,14 +35,30 @@ use Rattle.iloc_data.specs.Reads.{DataTextReads}
 use Rattle.iloc_data.specs.declared.data_locale.DataLocale as data_types
 use Rattle.iloc_normalize.specs.declared.Mode.{Mode}
 use Rattle.iloc_normalize.specs.declared.Mode.TheVariants.{Langid, Locale, Data}
-use Rattle.iloc_calls.specs.Answers.{CallWantsMemory, JudgedAs, ComparesTo, WritesOrder, OrdersTo, MeanSame}
-use Rattle.iloc_calls.specs.Answers.{RefusedAnswers, SaysSame, order_number}
+use Rattle.iloc_calls.specs.Answers.{
+  CallWantsMemory,
+  JudgedAs,
+  ComparesTo,
+  WritesOrder,
+  OrdersTo,
+  MeanSame,
+  RefusedAnswers,
+  SaysSame,
+  order_number,
+}
 use Rattle.iloc_calls.specs.Numbers.{status_of}
 use Rattle.iloc_calls.specs.declared.status.Status.{Status}
-use Rattle.iloc_calls.specs.declared.status.Status.TheVariants.{Done, InvalidLanguage, InvalidSubtag}
-use Rattle.iloc_calls.specs.declared.status.Status.TheVariants.{InvalidExtension, DuplicatedExtension}
-use Rattle.iloc_calls.specs.declared.status.Status.TheVariants.{OutOfMemory, BufferTooSmall, UnknownNumber}
-use Rattle.iloc_calls.specs.declared.status.Status.TheVariants.{NotFound}
+use Rattle.iloc_calls.specs.declared.status.Status.TheVariants.{
+  Done,
+  InvalidLanguage,
+  InvalidSubtag,
+  InvalidExtension,
+  DuplicatedExtension,
+  OutOfMemory,
+  BufferTooSmall,
+  UnknownNumber,
+  NotFound,
+}
 use Rattle.iloc_normalize.specs.Modes.{IsNormalText, IsFaulty}
 use Rattle.std.specs.Cmp.{Equal-is}
 
@@ -70,11 +85,8 @@ by_grammar : {X : Type 0} (mode : Mode) (t : Text) (text_of : X → Text) {IsMea
     → Answers IsMeant (IsFaulty languages mode t) ⊤ r → RunsOutOnlyIf (CallWantsMemory mode t) r
     → Reads mode t text_of r
 by_grammar mode t text_of normal (Ok x) h m = normal x h
-by_grammar mode t text_of normal (Err refusals.InvalidLanguage) h m = h
-by_grammar mode t text_of normal (Err refusals.InvalidSubtag) h m = h
-by_grammar mode t text_of normal (Err refusals.InvalidExtension) h m = h
-by_grammar mode t text_of normal (Err refusals.DuplicatedExtension) h m = h
 by_grammar mode t text_of normal (Err refusals.OutOfMemory) h m = m
+by_grammar mode t text_of normal (Err _) h m = h
 
 pub identifier_read : (t : Text) (r : Result LanguageIdentifier ParseError) →
     langid.IdentifierReads (pieces t) r
@@ -111,15 +123,9 @@ pub compared : {X : Type 0} (mode : Mode) (t other : Text) (before after : ℤ) 
     → ComparesTo mode t other before after s
 compared mode t other before after text_of (Ok x) s h e =
     subst (ComparesTo mode t other before after) (sym e.0) (text_of x, h, e.1)
-compared mode t other before after text_of (Err refusals.InvalidLanguage) s h e =
-    subst (ComparesTo mode t other before after) (sym e.0) (h, e.1)
-compared mode t other before after text_of (Err refusals.InvalidSubtag) s h e =
-    subst (ComparesTo mode t other before after) (sym e.0) (h, e.1)
-compared mode t other before after text_of (Err refusals.InvalidExtension) s h e =
-    subst (ComparesTo mode t other before after) (sym e.0) (h, e.1)
-compared mode t other before after text_of (Err refusals.DuplicatedExtension) s h e =
-    subst (ComparesTo mode t other before after) (sym e.0) (h, e.1)
 compared mode t other before after text_of (Err refusals.OutOfMemory) s h e =
+    subst (ComparesTo mode t other before after) (sym e.0) (h, e.1)
+compared mode t other before after text_of (Err _) s h e =
     subst (ComparesTo mode t other before after) (sym e.0) (h, e.1)
 
 -- two texts are ordered as both were read
@@ -136,29 +142,17 @@ module _ {X : Type 0} (mode : Mode) (t other : Text) (before after : ℤ) (text_
       → WritesOrder (text_of a) (text_of b) other before after k → OrdersTo mode t other before after k
   both_read a b h n Done e o = (text_of a, text_of b, h, n, o)
   both_read a b h n OutOfMemory e o = (inr (inr (text_of b, n, o.0)), o.1)
-  both_read a b h n InvalidLanguage e o = absurd o
-  both_read a b h n InvalidSubtag e o = absurd o
-  both_read a b h n InvalidExtension e o = absurd o
-  both_read a b h n DuplicatedExtension e o = absurd o
-  both_read a b h n BufferTooSmall e o = absurd o
-  both_read a b h n UnknownNumber e o = absurd o
-  both_read a b h n NotFound e o = absurd o
+  both_read a b h n _ e o = absurd o
 
   first_refused : (e : ParseError) → JudgedAs mode t (status_of e) → after ≡ before →
       OrdersTo mode t other before after (status_of e)
-  first_refused refusals.InvalidLanguage h u = (inl h, u)
-  first_refused refusals.InvalidSubtag h u = (inl h, u)
-  first_refused refusals.InvalidExtension h u = (inl h, u)
-  first_refused refusals.DuplicatedExtension h u = (inl h, u)
   first_refused refusals.OutOfMemory h u = (inl h, u)
+  first_refused _ h u = (inl h, u)
 
   second_refused : (a : X) → IsNormalText languages mode t (text_of a) → (e : ParseError) →
       JudgedAs mode other (status_of e) → after ≡ before → OrdersTo mode t other before after (status_of e)
-  second_refused a n refusals.InvalidLanguage h u = (inr (text_of a, n, h), u)
-  second_refused a n refusals.InvalidSubtag h u = (inr (text_of a, n, h), u)
-  second_refused a n refusals.InvalidExtension h u = (inr (text_of a, n, h), u)
-  second_refused a n refusals.DuplicatedExtension h u = (inr (text_of a, n, h), u)
   second_refused a n refusals.OutOfMemory h u = (inr (inl h), u)
+  second_refused a n _ h u = (inr (text_of a, n, h), u)
 
   pub ordered : (first second : Result X ParseError) → Reads mode t text_of first →
       Reads mode other text_of second → Ordered first second → OrdersTo mode t other before after s
@@ -186,54 +180,46 @@ told mode t other after same a e =
 equal_order : (o : Ordering) (same : Bool) → same ≡ is_eq o → IsTrue same ↔ (o ≡ Equal)
 equal_order o same e = (λ s. (Equal-is o).0 (sym e ∙ s), λ h. e ∙ (Equal-is o).1 h)
 
+same_values : {V : Type 0} (Means : Text → V → Type 0)
+    (one : (t : Text) (v w : V) → Means t v → Means t w → v ≡ w) (t other : Text) (v w : V) (o : Ordering)
+    (same : Bool) → Means t v → Means other w → o ≡ Equal ↔ v ≡ w → same ≡ is_eq o
+    → IsTrue same ↔ ((x : V) × Means t x × Means other x)
+same_values Means one t other v w o same m n exact e =
+    let q = equal_order o same e in (
+      (λ s. (v, m, subst (Means other) (sym (exact.0 (q.0 s))) n)),
+      (λ h. q.1 (exact.1 (one t v h.0 m h.1 ∙ one other h.0 w h.2 n))),
+    )
+
 pub same_identifiers_read : (t other : Text) (before after : ℕ) (i j : Identifier) (same : Bool)
     → IdentifierMeans languages (pieces t) i → IdentifierMeans languages (pieces other) j
     → same ≡ is_eq (identifier_cmp i j) → after ≡ from_bool same → SaysSame Langid t other before after Done
-same_identifiers_read t other before after i j same m n e a =
-    let q = equal_order (identifier_cmp i j) same e in (
-      (identifier_text i, (i, m, refl)),
-      told Langid t other after same a (
-        (λ s. (
-          i,
-          m,
-          subst (IdentifierMeans languages (pieces other)) (sym ((identifier_exact.exact i j).0 (q.0 s))) n,
-        )),
-        (λ h. q.1 ((identifier_exact.exact i j).1 (identifiers.one_meaning (pieces t) i h.0 m h.1
-            ∙ identifiers.one_meaning (pieces other) h.0 j h.2 n))),
-      ),
-    )
+same_identifiers_read t other before after i j same m n e a = (
+  (identifier_text i, (i, m, refl)),
+  told Langid t other after same a
+      (same_values (λ u k. IdentifierMeans languages (pieces u) k) (λ u. identifiers.one_meaning (pieces u))
+      t other i j (identifier_cmp i j) same m n (identifier_exact.exact i j) e),
+)
 
 pub same_locales_read : (t other : Text) (before after : ℕ) (M N : meaning.Locale) (same : Bool)
     → Means languages t M → Means languages other N
     → same ≡ is_eq (locale_cmp M N) → after ≡ from_bool same → SaysSame Locale t other before after Done
-same_locales_read t other before after M N same m n e a =
-    let q = equal_order (locale_cmp M N) same e in (
-      (text M, (M, m, refl)),
-      told Locale t other after same a (
-        (λ s. (M, m, subst (Means languages other) (sym ((locale_exact.exact M N).0 (q.0 s))) n)),
-        (λ h. q.1 ((locale_exact.exact M N).1 (locales.one_meaning languages_table t M h.0 m h.1
-            ∙ locales.one_meaning languages_table other h.0 N h.2 n))),
-      ),
-    )
+same_locales_read t other before after M N same m n e a = (
+  (text M, (M, m, refl)),
+  told Locale t other after same a
+      (same_values (Means languages) (locales.one_meaning languages_table) t other M N (locale_cmp M N) same m n
+      (locale_exact.exact M N) e),
+)
 
 pub same_data_read : (t other : Text) (before after : ℕ) (d e : DataLocale) (o : Ordering) (same : Bool)
     → DataMeans languages t d → DataMeans languages other e →
     o ≡ slice_cmp nat_cmp (data_text d) (data_text e)
     → same ≡ is_eq o → after ≡ from_bool same → SaysSame Data t other before after Done
 same_data_read t other before after d e o same m n is f a =
-    let q = equal_order o same f in (
+    let exact = word_exact.exact (data_text d) (data_text e) in (
       (data_text d, (d, m, refl)),
-      told Data t other after same a (
-        (λ s. (
-          d,
-          m,
-          subst (DataMeans languages other)
-              (sym (one_value ((word_exact.exact (data_text d) (data_text e)).0 (sym is ∙ q.0 s)))) n,
-        )),
-        (λ h. q.1 (is
-            ∙ (word_exact.exact (data_text d) (data_text e)).1 (ap data_text
-            (one_data languages_table t d h.0 m h.1 ∙ one_data languages_table other h.0 e h.2 n)))),
-      ),
+      told Data t other after same a
+          (same_values (DataMeans languages) (one_data languages_table) t other d e o same m n
+          (λ s. one_value (exact.0 (sym is ∙ s)), λ s. is ∙ exact.1 (ap data_text s)) f),
     )
   where
     one_value : data_text d ≡ data_text e → d ≡ e
@@ -242,13 +228,14 @@ same_data_read t other before after d e o same m n is f a =
 
 -- What is refused means nothing, unless memory was wanted.
 
-no_identifier : (ps : List Text) (e : ParseError) → langid.IdentifierReads ps (Err e) →
-    (e ≡ refusals.OutOfMemory → ⊥) → (i : Identifier) → IdentifierMeans languages ps i → ⊥
-no_identifier ps refusals.InvalidLanguage h n i m = identifier_apart ps i _ m h
-no_identifier ps refusals.InvalidSubtag h n i m = identifier_apart ps i _ m h
-no_identifier ps refusals.InvalidExtension h n i m = identifier_apart ps i _ m h
-no_identifier ps refusals.DuplicatedExtension h n i m = identifier_apart ps i _ m h
-no_identifier ps refusals.OutOfMemory h n i m = absurd (n refl)
+no_meaning : {V : Type 0} {Means : V → Type 0} {HasFault : Fault → Type 0}
+    → ((v : V) (f : Fault) → Means v → HasFault f → ⊥) → (e : ParseError) → (e ≡ refusals.OutOfMemory → ⊥)
+    → Refusal HasFault ⊤ e → (v : V) → Means v → ⊥
+no_meaning apart refusals.OutOfMemory n h v m = absurd (n refl)
+no_meaning apart refusals.InvalidLanguage n h v m = apart v _ m h
+no_meaning apart refusals.InvalidSubtag n h v m = apart v _ m h
+no_meaning apart refusals.InvalidExtension n h v m = apart v _ m h
+no_meaning apart refusals.DuplicatedExtension n h v m = apart v _ m h
 
 pub other_identifier : (t other : Text) (before after : ℕ) (i : Identifier) (e : ParseError) (s : Status) →
     IdentifierMeans languages (pieces t) i
@@ -264,15 +251,7 @@ other_identifier t other before after i e s m h w (inl r) =
     )
 other_identifier t other before after i e s m h w (inr r) =
     subst (SaysSame Langid t other before after) (sym r.1)
-    ((identifier_text i, (i, m, refl)), inr (r.2, λ k. no_identifier (pieces other) e h r.0 k.0 k.2))
-
-no_locale : (t : Text) (e : ParseError) → LocaleTextReads t (Err e) → (e ≡ refusals.OutOfMemory → ⊥) →
-    (M : meaning.Locale) → Means languages t M → ⊥
-no_locale t refusals.InvalidLanguage h n M m = accepted_no_fault languages_table t M _ m h
-no_locale t refusals.InvalidSubtag h n M m = accepted_no_fault languages_table t M _ m h
-no_locale t refusals.InvalidExtension h n M m = accepted_no_fault languages_table t M _ m h
-no_locale t refusals.DuplicatedExtension h n M m = accepted_no_fault languages_table t M _ m h
-no_locale t refusals.OutOfMemory h n M m = absurd (n refl)
+    ((identifier_text i, (i, m, refl)), inr (r.2, λ k. no_meaning (identifier_apart (pieces other)) e r.0 h k.0 k.2))
 
 pub other_locale : (t other : Text) (before after : ℕ) (M : meaning.Locale) (e : ParseError) (s : Status) →
     Means languages t M
@@ -283,22 +262,20 @@ other_locale t other before after M e s m h w (inl r) =
     (inr (subst (λ f. RunsOutOnlyIf {X = types.Locale} (LocaleWantsMemory other) (Err f)) r.0 w), r.2)
 other_locale t other before after M e s m h w (inr r) =
     subst (SaysSame Locale t other before after) (sym r.1)
-    ((text M, (M, m, refl)), inr (r.2, λ k. no_locale other e h r.0 k.0 k.2))
-
-no_data_locale : (t : Text) (e : ParseError) → DataTextReads t (Err e) →
-    RunsOutOnlyIf {X = data_types.DataLocale} ⊥ (Err e) → (d : DataLocale) → DataMeans languages t d → ⊥
-no_data_locale t refusals.InvalidLanguage h w d m = data_apart languages_table t d _ m h
-no_data_locale t refusals.InvalidSubtag h w d m = data_apart languages_table t d _ m h
-no_data_locale t refusals.InvalidExtension h w d m = data_apart languages_table t d _ m h
-no_data_locale t refusals.DuplicatedExtension h w d m = data_apart languages_table t d _ m h
-no_data_locale t refusals.OutOfMemory h w d m = absurd w
+    ((text M, (M, m, refl)), inr (r.2, λ k. no_meaning (accepted_no_fault languages_table other) e r.0 h k.0 k.2))
 
 pub other_data_locale : (t other : Text) (before after : ℕ) (d : DataLocale) (e : ParseError) →
     DataMeans languages t d
     → DataTextReads other (Err e) → RunsOutOnlyIf {X = data_types.DataLocale} ⊥ (Err e) → after ≡ 0 →
     SaysSame Data t other before after Done
-other_data_locale t other before after d e m h w a =
-    ((data_text d, (d, m, refl)), inr (a, λ s. no_data_locale other e h w s.0 s.2))
+other_data_locale t other before after d e m h w a = (
+  (data_text d, (d, m, refl)),
+  inr (
+    a,
+    λ s. no_meaning (data_apart languages_table other) e
+        (λ q. subst (λ f. RunsOutOnlyIf {X = data_types.DataLocale} ⊥ (Err f)) q w) h s.0 s.2,
+  ),
+)
 
 pub unprinted_data_locale : (t other : Text) (before : ℕ) (e : DataLocale) (s : Status) →
     DataMeans languages other e → s ≡ OutOfMemory

@@ -10,10 +10,17 @@ use Rattle.iloc_subtags.specs.declared.parse_error.ParseError.TheVariants as ref
 use Rattle.iloc_normalize.specs.declared.Mode.{Mode}
 use Rattle.iloc_calls.specs.Answers.{HandsOut, NormalizesTo}
 use Rattle.iloc_calls.specs.declared.status.Status.{Status}
-use Rattle.iloc_calls.specs.declared.status.Status.TheVariants.{Done, InvalidLanguage, InvalidSubtag}
-use Rattle.iloc_calls.specs.declared.status.Status.TheVariants.{InvalidExtension, DuplicatedExtension}
-use Rattle.iloc_calls.specs.declared.status.Status.TheVariants.{OutOfMemory, BufferTooSmall, UnknownNumber}
-use Rattle.iloc_calls.specs.declared.status.Status.TheVariants.{NotFound}
+use Rattle.iloc_calls.specs.declared.status.Status.TheVariants.{
+  Done,
+  InvalidLanguage,
+  InvalidSubtag,
+  InvalidExtension,
+  DuplicatedExtension,
+  OutOfMemory,
+  BufferTooSmall,
+  UnknownNumber,
+  NotFound,
+}
 use Rattle.iloc_normalize.specs.Modes.{IsNormalText}
 use Rattle.iloc_spec_grammar.specs.Syntax.{Text, languages}
 

@@ -1,13 +1,53 @@
 -- How long the text of a data locale is: at most by a region and its hyphen longer than a text that means it.
-use Rattle.std.proofs.Common.{◌≡◌, ℕ, ◌+◌, ◌≤◌, Bool, true, false, cond, List, [], ◌∷◌, ◌++◌, length, Option}
-use Rattle.std.proofs.Common.{Some, None, IfSome, Result, Ok, Err, option_map, option_and_then}
-use Rattle.std.proofs.Common.{option_to_list, codes, refl, sym, ap, ◌∙◌, subst, arith, append-nil}
-use Rattle.std.proofs.Common.{length-append}
+use Rattle.std.proofs.Common.{
+  ◌≡◌,
+  ℕ,
+  ◌+◌,
+  ◌≤◌,
+  Bool,
+  true,
+  false,
+  cond,
+  List,
+  [],
+  ◌∷◌,
+  ◌++◌,
+  length,
+  Option,
+  Some,
+  None,
+  IfSome,
+  Result,
+  Ok,
+  Err,
+  option_map,
+  option_and_then,
+  option_to_list,
+  codes,
+  refl,
+  sym,
+  ap,
+  ◌∙◌,
+  subst,
+  arith,
+  append-nil,
+  append_assoc,
+  length-append,
+}
 use Rattle.std.specs.Result.{result_ok}
 use Rattle.std.proofs.lemmas.Bool.{cond_both}
 use Rattle.std.proofs.lemmas.Bool.Decides.{nat_tests}
-use Rattle.iloc_spec_grammar.specs.Syntax.{Text, join, dashes, Region, languages, is_word, is_same, is_true}
-use Rattle.iloc_spec_grammar.specs.Syntax.{lower}
+use Rattle.iloc_spec_grammar.specs.Syntax.{
+  Text,
+  join,
+  dashes,
+  Region,
+  languages,
+  is_word,
+  is_same,
+  is_true,
+  lower,
+}
 use Rattle.iloc_spec_grammar.specs.Values.{IsNormal, text, extensions_spelling}
 use Rattle.iloc_spec_grammar.proofs.AnySteps.{shortest}
 use Rattle.iloc_spec_grammar.proofs.MapLaws.{same_is}
@@ -18,9 +58,19 @@ use Rattle.iloc_spec_parts.proofs.SmallLaws.{small_means}
 use Rattle.iloc_spec_parts.proofs.SmallBack.{read_is_small_value}
 use Rattle.iloc_spec_parts.specs.Subdivisions.{Subdivision, subdivision, subdivision_text}
 use Rattle.iloc_spec_parts.proofs.Keys.{sd}
-use Rattle.iloc_spec_parts.specs.DataLocales.{DataLocale, DataMeans, whole_region, is_whole}
-use Rattle.iloc_spec_parts.specs.DataLocales.{named_subdivision, made_of, agreed, small_part}
-use Rattle.iloc_spec_parts.specs.DataLocales.{subdivision_value, subdivision_pieces, data_text}
+use Rattle.iloc_spec_parts.specs.DataLocales.{
+  DataLocale,
+  DataMeans,
+  whole_region,
+  is_whole,
+  named_subdivision,
+  made_of,
+  agreed,
+  small_part,
+  subdivision_value,
+  subdivision_pieces,
+  data_text,
+}
 use Rattle.iloc_spec_parts.proofs.SubdivisionLaws.{subdivision_back, read_is_subdivision, text_of_read}
 use Rattle.iloc_spec_parts.proofs.DataLaws.{whole_region_is}
 
@@ -50,49 +100,31 @@ length_of_words l s r v rest =
     simp (join-dashes, dashes-append, length-append) in
     omega (arith, a, b, c, e)
 
--- the length of a small locale's text
+-- the pieces of a keyword after `u`
+abbrev keyword_pieces : Option (Text × Option Text) → List Text
+keyword_pieces None = []
+keyword_pieces (Some k) = codes "u" ∷ k.0 ∷ option_to_list k.1
+
+keyword_length : (k : Option (Text × Option Text)) → length (dashes (keyword_pieces k)) ≡ keyword_share k
+keyword_length None = refl
+keyword_length (Some k) =
+    omega (arith, length-append k.0 (dashes (option_to_list k.1)), dashes_share k.1)
+
+-- a small locale's text, and its length
+small_text : (i : SmallIdentifier) (k : Option (Text × Option Text))
+    → text (locale_of_small (record { id = i; keyword = k }))
+    ≡ join (i.language ∷ (option_to_list i.script ++ (option_to_list i.region
+    ++ (option_to_list i.variant ++ keyword_pieces k))))
+unfolding extensions_spelling
+small_text i None = simp (append_assoc, append-nil)
+small_text i (Some k) = simp (append_assoc, append-nil)
+
 length_of_small : (i : SmallIdentifier) (k : Option (Text × Option Text))
     → length (text (locale_of_small (record { id = i; keyword = k })))
     ≡ length i.language + share i.script + share i.region + share i.variant + keyword_share k
-unfolding extensions_spelling
-length_of_small i None =
-    let a = dashes_share i.script in let b = dashes_share i.region in let c = dashes_share i.variant in
-    let e : length (join
-    (i.language ∷ ((option_to_list i.script ++ (option_to_list i.region ++ option_to_list i.variant)) ++ [])))
-    ≡ length i.language
-    + (length (dashes (option_to_list i.script))
-    + (length (dashes (option_to_list i.region)) + length (dashes (option_to_list i.variant)))) =
-    simp (join-dashes, dashes-append, length-append, append-nil) in
-    let f : length (text (locale_of_small (record { id = i; keyword = None })))
-    ≡ length i.language
-    + (length (dashes (option_to_list i.script))
-    + (length (dashes (option_to_list i.region)) + length (dashes (option_to_list i.variant)))) = e in
-    omega (arith, a, b, c, f)
-length_of_small i (Some k) =
-    let a = dashes_share i.script in
-    let b = dashes_share i.region in let c = dashes_share i.variant in let d = dashes_share k.1 in
-    let w : List Text =
-    option_to_list i.script ++ (option_to_list i.region ++ option_to_list i.variant) in
-    let v : List Text = (option_to_list k.1 ++ []) ++ [] in
-    let e : length (join (i.language ∷ (w ++ (codes "u" ∷ k.0 ∷ v))))
-    ≡ length i.language + length (dashes (w ++ (codes "u" ∷ k.0 ∷ v))) =
-    ap length (join-dashes i.language (w ++ (codes "u" ∷ k.0 ∷ v)))
-    ∙ length-append i.language (dashes (w ++ (codes "u" ∷ k.0 ∷ v))) in
-    let g : length (dashes (w ++ (codes "u" ∷ k.0 ∷ v)))
-    ≡ length (dashes w) + length (dashes (codes "u" ∷ k.0 ∷ v)) =
-    ap length (dashes-append w (codes "u" ∷ k.0 ∷ v))
-    ∙ length-append (dashes w) (dashes (codes "u" ∷ k.0 ∷ v)) in
-    let h : length (dashes w)
-    ≡ length (dashes (option_to_list i.script))
-    + (length (dashes (option_to_list i.region)) + length (dashes (option_to_list i.variant))) =
-    simp (dashes-append, length-append) in
-    let m : length (k.0 ++ dashes v) ≡ length k.0 + length (dashes v) = length-append k.0 (dashes v) in
-    let n : length (dashes v) ≡ length (dashes (option_to_list k.1)) =
-    ap (λ x. length (dashes x)) (append-nil (option_to_list k.1 ++ []) ∙ append-nil (option_to_list k.1)) in
-    let q : length (dashes (codes "u" ∷ k.0 ∷ v)) ≡ 3 + length (k.0 ++ dashes v) = omega arith in
-    let f : length (text (locale_of_small (record { id = i; keyword = Some k })))
-    ≡ length i.language + length (dashes (w ++ (codes "u" ∷ k.0 ∷ v))) = e in
-    omega (arith, a, b, c, d, f, g, h, m, n, q)
+length_of_small i k = ap length (small_text i k)
+    ∙ length_of_words i.language i.script i.region i.variant (keyword_pieces k)
+    ∙ ap (λ n. length i.language + share i.script + share i.region + share i.variant + n) (keyword_length k)
 
 -- what a keyword's value takes when it is printed
 value_share : (w : Text) → length (dashes (codes "u" ∷ sd ∷ subdivision_value w)) ≤ 6 + length w

@@ -6,9 +6,9 @@ ghost use Rattle.iloc_calls.specs.Numbers.{EndsAs, mode_number, number_of, statu
 ghost use Rattle.iloc_normalize.specs.declared.Mode.{Mode};
 ghost use Rattle.iloc_normalize.specs.declared.Mode.TheVariants as modes;
 
+use crate::data::read_parts;
 use crate::filling::{hand_out_bytes, hand_out_fitting_plain, hand_out_within};
 use crate::status::Status;
-use iloc_data_parts::DataParts;
 use iloc_langid::LanguageIdentifier;
 use iloc_langid::reader::read_into as read_identifier;
 use iloc_locale::Locale;
@@ -83,7 +83,7 @@ fn judge_parsed(alloc: Global, mode: Mode, text: &[u8]) -> Status
 fn judge_data_locale(text: &[u8]) -> Status
     ensures { JudgedAs modes.Data text.now result }
 {
-    match DataParts::try_from_utf8(text) {
+    match read_parts(text) {
         Ok(_parts) => Status::Done,
         Err(refusal) => Status::of_refusal(&refusal),
     }
@@ -272,7 +272,7 @@ fn normalize_locale(alloc: Global, text: &[u8], buffer: &mut [u8], needed: &mut 
 fn normalize_data_locale(text: &[u8], buffer: &mut [u8], needed: &mut usize) -> Status
     ensures { NormalizesTo modes.Data text.now buffer.old buffer.new needed.new result }
 {
-    match DataParts::try_from_utf8(text) {
+    match read_parts(text) {
         Ok(parts) => hand_out_within(&parts, text.len() + 4, buffer, needed),
         Err(refusal) => refuse(Status::from(refusal), needed),
     }

@@ -10,15 +10,31 @@ use Rattle.iloc_spec_grammar.specs.Meaning.{Fault}
 use Rattle.iloc_spec_grammar.specs.Values.{IsNormal}
 use Rattle.iloc_spec_grammar.proofs.MapLaws.{same_is}
 use Rattle.iloc_spec_parts.specs.Subdivisions.{Subdivision, subdivision}
-use Rattle.iloc_spec_parts.specs.DataLocales.{DataLocale, DataKey, IsDataLocale, data_key, data_pieces}
-use Rattle.iloc_spec_parts.specs.DataLocales.{is_whole, whole, whole_region, named_subdivision}
-use Rattle.iloc_spec_parts.specs.DataLocales.{region_part, subdivision_keyword, subdivision_pieces}
-use Rattle.iloc_spec_parts.specs.DataLocales.{subdivision_value}
+use Rattle.iloc_spec_parts.specs.DataLocales.{
+  DataLocale,
+  DataKey,
+  IsDataLocale,
+  data_key,
+  data_pieces,
+  is_whole,
+  whole,
+  whole_region,
+  named_subdivision,
+  region_part,
+  subdivision_keyword,
+  subdivision_pieces,
+}
 use Rattle.iloc_spec_parts.proofs.SubdivisionLaws.{read_is_subdivision}
 use Rattle.iloc_langid.specs.Parents.{is_unknown_language, after_steps}
 use Rattle.iloc_data.specs.DataValue.{unknown_data}
-use Rattle.iloc_data.specs.DataParents.{region_of, with_whole_region, data_parent, data_part_count}
-use Rattle.iloc_data.specs.DataParents.{IsUnknownAfter, LacksLastDataPart}
+use Rattle.iloc_data.specs.DataParents.{
+  region_of,
+  with_whole_region,
+  data_parent,
+  data_part_count,
+  IsUnknownAfter,
+  LacksLastDataPart,
+}
 use Rattle.iloc_langid.proofs.ParentLemmas.{known_language, of_some}
 
 -- a region is the same as a whole
@@ -26,70 +42,65 @@ whole_of_region : (r : Option Text) → option_map (λ s. s.region) (option_map 
 whole_of_region None = refl
 whole_of_region (Some r) = refl
 
--- what holds of a parent in each case holds of all
-module _ (P : DataLocale → DataLocale → Type 0)
-    (part : (d : DataLocale) (w : Text) → subdivision_keyword d ≡ Some w → P d (with_whole_region d))
+-- by what is there and what chooses
+by_option : {X Q : Type 0} {x : X} {rest out : Option X} (o : Option Text) →
+    option_or (option_map (λ _. x) o) rest ≡ out → ((w : Text) → o ≡ Some w → Some x ≡ out → Q) →
+    (o ≡ None → rest ≡ out → Q) → Q
+by_option None e f g = g refl e
+by_option (Some w) e f g = f w refl e
+
+by_test : {X Q : Type 0} {x y z : X} (b : Bool) → (if b then x else y) ≡ z → (b ≡ true → x ≡ z → Q) →
+    (b ≡ false → y ≡ z → Q) → Q
+by_test true e f g = f refl e
+by_test false e f g = g refl e
+
+-- what holds in each case of what the parent is
+module _ (P : DataLocale → Option DataLocale → Type 0)
+    (part : (d : DataLocale) (w : Text) → subdivision_keyword d ≡ Some w → P d (Some (with_whole_region d)))
     (variant : (d : DataLocale) (v : Text) → subdivision_keyword d ≡ None → d.variant ≡ Some v
-    → P d (record (with_whole_region d) { variant = None }))
+    → P d (Some (record (with_whole_region d) { variant = None })))
     (region : (d : DataLocale) (r : Text) → subdivision_keyword d ≡ None → d.variant ≡ None →
     region_of d ≡ Some r
-    → P d (record (with_whole_region d) { region = None }))
+    → P d (Some (record (with_whole_region d) { region = None })))
     (script : (d : DataLocale) (s : Text) → subdivision_keyword d ≡ None → d.variant ≡ None →
     region_of d ≡ None
-    → d.script ≡ Some s → P d (record (with_whole_region d) { script = None }))
+    → d.script ≡ Some s → P d (Some (record (with_whole_region d) { script = None })))
     (language : (d : DataLocale) → subdivision_keyword d ≡ None → d.variant ≡ None → region_of d ≡ None →
     d.script ≡ None
-    → is_unknown_language d.language ≡ false → P d unknown_data)
-    (d p : DataLocale) where
-  at_language : (b : Bool) → subdivision_keyword d ≡ None → d.variant ≡ None → region_of d ≡ None →
-      d.script ≡ None
-      → is_unknown_language d.language ≡ b → (if b then None else Some unknown_data) ≡ Some p → P d p
-  at_language true k v r s h e = cc
-  at_language false k v r s h e = subst (P d) (of_some e) (language d k v r s h)
+    → is_unknown_language d.language ≡ false → P d (Some unknown_data))
+    (end : (d : DataLocale) → subdivision_keyword d ≡ None → d.variant ≡ None → region_of d ≡ None →
+    d.script ≡ None
+    → is_unknown_language d.language ≡ true → P d None)
+    (d : DataLocale) where
+  by_cases : P d (data_parent d)
+  by_cases =
+      let all : data_parent d ≡ data_parent d = refl in
+      by_option (subdivision_keyword d) all (λ w k e. subst (P d) e (part d w k)) (λ k e.
+      by_option d.variant e (λ w v f. subst (P d) f (variant d w k v)) (λ v f.
+      by_option (region_of d) f (λ w r g. subst (P d) g (region d w k v r)) (λ r g.
+      by_option d.script g (λ w s h. subst (P d) h (script d w k v r s)) (λ s h.
+      by_test (is_unknown_language d.language) h (λ u i. subst (P d) i (end d k v r s u))
+      (λ u i. subst (P d) i (language d k v r s u))))))
 
-  at_script : (o : Option Text) → subdivision_keyword d ≡ None → d.variant ≡ None → region_of d ≡ None →
-      d.script ≡ o
-      → option_or (option_map (λ _. record (with_whole_region d) { script = None }) o)
-      (if is_unknown_language d.language then None else Some unknown_data) ≡ Some p → P d p
-  at_script (Some s) k v r h e = subst (P d) (of_some e) (script d s k v r h)
-  at_script None k v r h e = at_language (is_unknown_language d.language) k v r h refl e
+-- the same of a parent that is there
+module _ (P : DataLocale → DataLocale → Type 0) where
+  abbrev IsSo : DataLocale → Option DataLocale → Type 0
+  IsSo d o = IfSome o (P d)
 
-  at_region : (o : Option Text) → subdivision_keyword d ≡ None → d.variant ≡ None → region_of d ≡ o
-      → option_or (option_map (λ _. record (with_whole_region d) { region = None }) o)
-      (option_or (option_map (λ _. record (with_whole_region d) { script = None }) d.script)
-      (if is_unknown_language d.language then None else Some unknown_data)) ≡ Some p → P d p
-  at_region (Some r) k v h e = subst (P d) (of_some e) (region d r k v h)
-  at_region None k v h e = at_script d.script k v h refl e
-
-  at_variant : (o : Option Text) → subdivision_keyword d ≡ None → d.variant ≡ o
-      → option_or (option_map (λ _. record (with_whole_region d) { variant = None }) o)
-      (option_or (option_map (λ _. record (with_whole_region d) { region = None }) (region_of d))
-      (option_or (option_map (λ _. record (with_whole_region d) { script = None }) d.script)
-      (if is_unknown_language d.language then None else Some unknown_data))) ≡ Some p → P d p
-  at_variant (Some v) k h e = subst (P d) (of_some e) (variant d v k h)
-  at_variant None k h e = at_region (region_of d) k h refl e
-
-  at_part : (o : Option Text) → subdivision_keyword d ≡ o
-      → option_or (option_map (λ _. with_whole_region d) o)
-      (option_or (option_map (λ _. record (with_whole_region d) { variant = None }) d.variant)
-      (option_or (option_map (λ _. record (with_whole_region d) { region = None }) (region_of d))
-      (option_or (option_map (λ _. record (with_whole_region d) { script = None }) d.script)
-      (if is_unknown_language d.language then None else Some unknown_data)))) ≡ Some p → P d p
-  at_part (Some w) h e = subst (P d) (of_some e) (part d w h)
-  at_part None h e = at_variant d.variant h refl e
-
-  by_parent : data_parent d ≡ Some p → P d p
-  by_parent e = at_part (subdivision_keyword d) refl e
+  by_parent : ((d : DataLocale) → IsSo d (data_parent d)) → (d p : DataLocale) → data_parent d ≡ Some p → P d p
+  by_parent h d p e = subst (IsSo d) e (h d)
 
 -- each parent has one part fewer
 
 pub one_fewer : (d p : DataLocale) → data_parent d ≡ Some p → data_part_count d ≡ data_part_count p + 1
-one_fewer = by_parent (λ d p. data_part_count d ≡ data_part_count p + 1)
+one_fewer = let Fewer = λ (d p : DataLocale). data_part_count d ≡ data_part_count p + 1 in
+    by_parent Fewer (by_cases (IsSo Fewer)
     (λ d w k. rw (k, whole_of_region (region_of d)) (omega arith))
     (λ d v k h. rw (k, h, whole_of_region (region_of d)) (omega arith))
     (λ d r k v h. rw (k, v, h) (omega arith))
     (λ d s k v r h. rw (k, v, r, h) (omega arith))
     (λ d k v r s h. rw (k, v, r, s, h) refl)
+    (λ d k v r s h. tt))
 
 -- the chain ends
 
@@ -100,54 +111,19 @@ no_part_left (Some s) e = cc
 abbrev IsEnd : DataLocale → Type 0
 IsEnd d = (data_part_count d ≡ 0) × (data_key d ≡ data_key unknown_data)
 
-module _ (d : DataLocale) where
-  end_at_language : (b : Bool) → subdivision_keyword d ≡ None → d.variant ≡ None → region_of d ≡ None →
-      d.script ≡ None
-      → is_unknown_language d.language ≡ b → (if b then None else Some unknown_data) ≡ None → IsEnd d
-  end_at_language false k v r s h e = cc
-  end_at_language true k v r s h e = (
-    rw (k, v, r, s, h) refl,
-    λ i. record {
-      language = same_is d.language (codes "und") h i;
-      script = s i;
-      region = no_part_left (region_part d) r i;
-      variant = v i;
-    },
-  )
-
-  end_at_script : (o : Option Text) → subdivision_keyword d ≡ None → d.variant ≡ None →
-      region_of d ≡ None → d.script ≡ o
-      → option_or (option_map (λ _. record (with_whole_region d) { script = None }) o)
-      (if is_unknown_language d.language then None else Some unknown_data) ≡ None → IsEnd d
-  end_at_script (Some s) k v r h e = cc
-  end_at_script None k v r h e = end_at_language (is_unknown_language d.language) k v r h refl e
-
-  end_at_region : (o : Option Text) → subdivision_keyword d ≡ None → d.variant ≡ None → region_of d ≡ o
-      → option_or (option_map (λ _. record (with_whole_region d) { region = None }) o)
-      (option_or (option_map (λ _. record (with_whole_region d) { script = None }) d.script)
-      (if is_unknown_language d.language then None else Some unknown_data)) ≡ None → IsEnd d
-  end_at_region (Some r) k v h e = cc
-  end_at_region None k v h e = end_at_script d.script k v h refl e
-
-  end_at_variant : (o : Option Text) → subdivision_keyword d ≡ None → d.variant ≡ o
-      → option_or (option_map (λ _. record (with_whole_region d) { variant = None }) o)
-      (option_or (option_map (λ _. record (with_whole_region d) { region = None }) (region_of d))
-      (option_or (option_map (λ _. record (with_whole_region d) { script = None }) d.script)
-      (if is_unknown_language d.language then None else Some unknown_data))) ≡ None → IsEnd d
-  end_at_variant (Some v) k h e = cc
-  end_at_variant None k h e = end_at_region (region_of d) k h refl e
-
-  end_at_part : (o : Option Text) → subdivision_keyword d ≡ o
-      → option_or (option_map (λ _. with_whole_region d) o)
-      (option_or (option_map (λ _. record (with_whole_region d) { variant = None }) d.variant)
-      (option_or (option_map (λ _. record (with_whole_region d) { region = None }) (region_of d))
-      (option_or (option_map (λ _. record (with_whole_region d) { script = None }) d.script)
-      (if is_unknown_language d.language then None else Some unknown_data)))) ≡ None → IsEnd d
-  end_at_part (Some w) h e = cc
-  end_at_part None h e = end_at_variant d.variant h refl e
-
-  is_end : data_parent d ≡ None → IsEnd d
-  is_end e = end_at_part (subdivision_keyword d) refl e
+is_end : (d : DataLocale) → data_parent d ≡ None → IsEnd d
+is_end = by_cases (λ d o. o ≡ None → IsEnd d) (λ d w k e. cc) (λ d w k v e. cc) (λ d w k v r e. cc)
+    (λ d w k v r s e. cc)
+    (λ d k v r s h e. cc)
+    (λ d k v r s h e. (
+      rw (k, v, r, s, h) refl,
+      λ i. record {
+        language = same_is d.language (codes "und") h i;
+        script = s i;
+        region = no_part_left (region_part d) r i;
+        variant = v i;
+      },
+    ))
 
 at_zero : (d : DataLocale) (o : Option DataLocale) → data_part_count d ≡ 0 → data_parent d ≡ o →
     IsUnknownAfter 0 d
@@ -204,7 +180,9 @@ cut_region : (l : Text) (s : Option Text) (r : Text) →
 cut_region l s r = simp append-nil
 
 pub lacks_last : (d p : DataLocale) → d.region ≡ region_of d → data_parent d ≡ Some p → LacksLastDataPart d p
-lacks_last d p same e = by_parent (λ d p. d.region ≡ region_of d → LacksLastDataPart d p)
+lacks_last d p same e =
+    let Lacks = λ (d p : DataLocale). d.region ≡ region_of d → LacksLastDataPart d p in
+    by_parent Lacks (by_cases (IsSo Lacks)
     (λ d w k g. inl (
       subdivision_pieces (Some w),
       omega arith,
@@ -229,7 +207,7 @@ lacks_last d p same e = by_parent (λ d p. d.region ≡ region_of d → LacksLas
           ∙ λ i. pieces_of d.language None (sym r i) (sym v i) None ++ s ∷ [],
     ))
     (λ d k v r s h g. inr (has_pieces d None None None None s (g ∙ r) v k, refl))
-    d p e same
+    (λ d k v r s h. tt)) d p e same
 
 -- a parent is a data locale
 
@@ -261,7 +239,9 @@ whole_is d h = record {
 
 pub parent_value : (d p : DataLocale) → IsDataLocale languages d → data_parent d ≡ Some p →
     IsDataLocale languages p
-parent_value d p v e = by_parent (λ d p. IsDataLocale languages d → IsDataLocale languages p)
+parent_value d p v e =
+    let Values = λ (d p : DataLocale). IsDataLocale languages d → IsDataLocale languages p in
+    by_parent Values (by_cases (IsSo Values)
     (λ d w k h. whole_is d h)
     (λ d v k e h. let w = whole_is d h in
     record { language = w.language; script = w.script; region = w.region; variant = tt; subdivision = tt })
@@ -270,7 +250,7 @@ parent_value d p v e = by_parent (λ d p. IsDataLocale languages d → IsDataLoc
     (λ d s k v r e h. let w = whole_is d h in
     record { language = w.language; script = tt; region = w.region; variant = w.variant; subdivision = tt })
     (λ d k v r s e h. unknown_is)
-    d p e v
+    (λ d k v r s h. tt)) d p e v
 
 -- equal data locales have equal parents
 
@@ -317,43 +297,17 @@ key_parent k =
     (option_or (option_map (λ _. record w { script = None }) k.script)
     (if is_unknown_language k.language then None else Some (data_key unknown_data)))))
 
-mapped : (o : Option Text) (d : DataLocale) (p : Option DataLocale) →
-    option_map data_key (option_or (option_map (λ _. d) o) p)
-    ≡ option_or (option_map (λ _. data_key d) o) (option_map data_key p)
-mapped None d p = refl
-mapped (Some w) d p = refl
-
-if_there : (o : Option Text) (k : DataKey) → option_map (λ _. k) o ≡ (if is_some o then Some k else None)
-if_there None k = refl
-if_there (Some w) k = refl
-
-last_mapped : (b : Bool) →
-    option_map data_key (if b then None else Some unknown_data)
-    ≡ (if b then None else Some (data_key unknown_data))
-last_mapped true = refl
-last_mapped false = refl
+part_is : (d : DataLocale) {o : Option Text} → subdivision_keyword d ≡ o → is_part (region_part d) ≡ is_some o
+part_is d e = sym (part_printed d.subdivision d.region) ∙ ap is_some e
 
 keyed : (d : DataLocale) → option_map data_key (data_parent d) ≡ key_parent (data_key d)
-keyed d =
-    let w = with_whole_region d in
-    let last : Option DataLocale = if is_unknown_language d.language then None else Some unknown_data in
-    let scripts : Option DataLocale =
-    option_or (option_map (λ _. record w { script = None }) d.script) last in
-    let regions : Option DataLocale =
-    option_or (option_map (λ _. record w { region = None }) (region_of d)) scripts in
-    let variants : Option DataLocale =
-    option_or (option_map (λ _. record w { variant = None }) d.variant) regions in
-    mapped (subdivision_keyword d) w variants
-    ∙ ap (λ p. option_or p (option_map data_key variants)) (if_there (subdivision_keyword d) (data_key w)
-    ∙ ap (λ b. if b then Some (data_key w) else None) (part_printed d.subdivision d.region))
-    ∙ ap (option_or (if is_part (region_part d) then Some (data_key w) else None))
-    (mapped d.variant (record w { variant = None }) regions
-    ∙ ap (option_or (option_map (λ _. data_key (record w { variant = None })) d.variant))
-    (mapped (region_of d) (record w { region = None }) scripts
-    ∙ ap (option_or (option_map (λ _. data_key (record w { region = None })) (region_of d)))
-    (mapped d.script (record w { script = None }) last
-    ∙ ap (option_or (option_map (λ _. data_key (record w { script = None })) d.script))
-    (last_mapped (is_unknown_language d.language)))))
+keyed = by_cases (λ d o. option_map data_key o ≡ key_parent (data_key d))
+    (λ d w k. rw (part_is d k) refl)
+    (λ d w k v. rw (part_is d k, v) refl)
+    (λ d w k v r. rw (part_is d k, v, r) refl)
+    (λ d w k v r s. rw (part_is d k, v, r, s) refl)
+    (λ d k v r s u. rw (part_is d k, v, r, s, u) refl)
+    (λ d k v r s u. rw (part_is d k, v, r, s, u) refl)
 
 pub alike : (d e : DataLocale) → data_key d ≡ data_key e →
     option_map data_key (data_parent d) ≡ option_map data_key (data_parent e)
@@ -365,16 +319,11 @@ none : {X : Type 0} (o : Option X) → false ≡ is_some o → o ≡ None
 none None h = refl
 none (Some x) h = absurd (true≢false (sym h))
 
-no_word : (o : Option Text) → false ≡ is_some (option_map subdivision_value o) → o ≡ None
-no_word None h = refl
-no_word (Some w) h = absurd (true≢false (sym h))
-
-pub language_left : (d e w : DataLocale) (k : Option (List Text)) →
-    k ≡ option_map subdivision_value (subdivision_keyword d)
+pub language_left : (d e w : DataLocale) (k : Option Text) → k ≡ subdivision_keyword d
     → false ≡ is_some k → false ≡ is_some d.variant → w ≡ with_whole_region d → false ≡ is_some w.region →
     false ≡ is_some d.script
     → (d.language ≡ codes "und" → false ≡ true) → e ≡ unknown_data → Some e ≡ data_parent d
 language_left d e w k is h v whole r s known end =
-    let part : subdivision_keyword d ≡ None = no_word (subdivision_keyword d) (h ∙ ap is_some is) in
+    let part : subdivision_keyword d ≡ None = none (subdivision_keyword d) (h ∙ ap is_some is) in
     let region : region_of d ≡ None = none (region_of d) (r ∙ ap (λ x. is_some x.region) whole) in
     rw (part, none d.variant v, region, none d.script s, known_language d.language known) (ap Some end)

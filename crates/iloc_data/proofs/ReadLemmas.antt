@@ -1,4 +1,4 @@
--- From the small locale that was read, or its refusal, to what the reader of data locales answers.
+-- What follows from what the reader of data locales answers.
 use Rattle.std.specs.Prelude.{⊤}
 use Rattle.std.proofs.Common.{◌≡◌, Option, Some, None, sym, ap, ◌∙◌, Result, Ok, Err, IfOk}
 use Rattle.iloc_spec_grammar.specs.Syntax.{Text, languages, two_or_three}
@@ -10,48 +10,33 @@ use Rattle.iloc_spec_parts.specs.Small.{locale_of_small}
 use Rattle.iloc_spec_parts.proofs.SmallLaws.{small_means}
 use Rattle.iloc_spec_parts.specs.Subdivisions.{Subdivision}
 use Rattle.iloc_spec_parts.specs.DataLocales as parts
-use Rattle.iloc_spec_parts.specs.DataLocales.{DataMeans, HasDataFault, not_small, no_subdivision}
-use Rattle.iloc_spec_parts.specs.DataLocales.{made_of, small_part, data_text}
+use Rattle.iloc_spec_parts.specs.DataLocales.{
+  DataMeans,
+  HasDataFault,
+  not_small,
+  no_subdivision,
+  made_of,
+  small_part,
+  data_text,
+}
 use Rattle.iloc_spec_parts.proofs.DataLaws.{data_apart, one_data, one_data_fault, read_back}
 use Rattle.iloc_spec_parts.proofs.WiderData.{data_wider}
 use Rattle.iloc_spec_parts.specs.Preferences.{language_priority, preferences}
 use Rattle.iloc_spec_parts.proofs.ConversionLaws.{agrees}
 use Rattle.iloc_subtags.specs.declared.parse_error.ParseError.{ParseError}
-use Rattle.iloc_subtags.specs.declared.parse_error.ParseError.TheVariants.{InvalidLanguage, InvalidSubtag}
-use Rattle.iloc_subtags.specs.declared.parse_error.ParseError.TheVariants.{InvalidExtension}
-use Rattle.iloc_subtags.specs.declared.parse_error.ParseError.TheVariants.{DuplicatedExtension, OutOfMemory}
+use Rattle.iloc_subtags.specs.declared.parse_error.ParseError.TheVariants.{
+  InvalidLanguage,
+  InvalidSubtag,
+  InvalidExtension,
+  DuplicatedExtension,
+  OutOfMemory,
+}
 use Rattle.iloc_data.specs.declared.data_locale.DataLocale.{DataLocale}
 use Rattle.iloc_subtags.specs.Judging.{Accepts, Refuses, RunsOutOnlyIf}
 use Rattle.iloc_subtags.proofs.Judged.{Judges, accepts, refuses}
 use Rattle.iloc_data.specs.DataValue.{value_of}
 use Rattle.iloc_data.specs.Reads.{DataTextReads}
 use Rattle.iloc_data_parts.proofs.ReadLemmas.{of_part}
-
-pub accepted : (t : Text) (p : LocaleParts) (part : Option Subdivision) (d : parts.DataLocale) →
-    SmallLocaleTextReads t (Ok p) → small_part p.2 p.4 ≡ Some part → d ≡ made_of p.0 p.1 part p.3 →
-    DataMeans languages t d
-accepted t p part d s h e =
-    record { small = small_locale_of p; is_small = s; means = ap (of_part p) h ∙ ap Some (sym e) }
-
-pub not_read : (t : Text) (e : ParseError) → SmallLocaleTextReads t (Err e) → DataTextReads t (Err e)
-not_read t InvalidLanguage h = not_small h
-not_read t InvalidSubtag h = not_small h
-not_read t InvalidExtension h = not_small h
-not_read t DuplicatedExtension h = not_small h
-not_read t OutOfMemory h = absurd h
-
--- memory never runs out
-pub not_without : (t : Text) (e : ParseError) → SmallLocaleTextReads t (Err e) →
-    RunsOutOnlyIf {X = DataLocale} ⊥ (Err e)
-not_without t InvalidLanguage h = tt
-not_without t InvalidSubtag h = tt
-not_without t InvalidExtension h = tt
-not_without t DuplicatedExtension h = tt
-not_without t OutOfMemory h = h
-
-pub no_part : (t : Text) (p : LocaleParts) → SmallLocaleTextReads t (Ok p) → small_part p.2 p.4 ≡ None →
-    DataTextReads t (Err InvalidExtension)
-no_part t p s h = no_subdivision s (ap (of_part p) h)
 
 -- what is owed to each text
 
@@ -91,11 +76,11 @@ is_meant t d h =
     let m : Means languages t M = small_means t h.small h.is_small in
     (M, m, is_converted t d h M m)
 
-pub meant_of : (t : Text) (r : Result DataLocale ParseError) → DataTextReads t r
-    → IfOk r
-    (λ d. (M : meaning.Locale) × Means languages t M × (value_of d ≡ language_priority (preferences M)))
-meant_of t (Ok d) h = is_meant t (value_of d) h
-meant_of t (Err e) h = tt
+pub if_read : (t : Text) {P : Text → parts.DataLocale → Type 0} →
+    ((u : Text) (d : parts.DataLocale) → DataMeans languages u d → P u d) → (r : Result DataLocale ParseError) →
+    DataTextReads t r → IfOk r (λ d. P t (value_of d))
+if_read t h (Ok d) m = h t (value_of d) m
+if_read t h (Err e) m = tt
 
 pub keeps_narrow : (t : Text) (r : Result DataLocale ParseError) → DataTextReads t r →
     (d : parts.DataLocale) → DataMeans two_or_three t d → Accepts value_of ⊤ d r

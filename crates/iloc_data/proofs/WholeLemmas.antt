@@ -5,9 +5,17 @@ use Rattle.std.specs.Prelude.{IfSome, if◌then◌else◌, option_and_then, ok_o
 use Rattle.std.specs.Result.{result_ok}
 use Rattle.std.specs.Char.{is_ascii_alphabetic}
 use Rattle.std.proofs.lemmas.Bool.Decides.{nat_tests}
-use Rattle.iloc_spec_grammar.specs.Syntax.{Text, Region, Subtag, SubdivisionSuffix, is_word, word, lower}
-use Rattle.iloc_spec_grammar.specs.Syntax.{upper}
-use Rattle.iloc_spec_grammar.specs.Syntax.{is_same}
+use Rattle.iloc_spec_grammar.specs.Syntax.{
+  Text,
+  Region,
+  Subtag,
+  SubdivisionSuffix,
+  is_word,
+  word,
+  lower,
+  upper,
+  is_same,
+}
 use Rattle.iloc_spec_grammar.specs.Meaning.{InvalidSubtag, InvalidExtension}
 use Rattle.iloc_spec_parts.specs.Subdivisions.{Subdivision, both_words}
 use Rattle.iloc_spec_parts.specs.DataLocales.{whole, is_whole, named_subdivision}

@@ -9,9 +9,10 @@ ghost use Rattle.iloc_spec_parts.specs.Preferences.{language_priority, preferenc
 ghost use Rattle.iloc_langid.specs.Reads.{value_of as identifier_of};
 ghost use Rattle.iloc_spec_grammar.specs.Meaning as meaning;
 
-use crate::data_locale::DataLocale;
+use crate::data_locale::{DataLocale, made_of};
 use crate::locale_preferences::LocalePreferences;
 use crate::values::look_at_data_locale;
+use iloc_data_parts::DataParts;
 use iloc_data_parts::region::whole_region;
 use iloc_keyword_types::KeywordKind;
 use iloc_keyword_types::subdivision_keyword::RegionalSubdivisionKind;
@@ -20,7 +21,7 @@ use iloc_locale::{Extensions, Locale};
 use iloc_memory::Memory;
 use iloc_subtags::{Language, Region, Script};
 use iloc_unicode::{Attributes, Keywords, Unicode};
-use iloc_word_list::Variants;
+use iloc_word_list::{Value, Variants};
 use std::alloc::Global;
 
 impl DataLocale {
@@ -37,11 +38,16 @@ impl DataLocale {
     }
 
     // The locale of the same parts.
+    #[tactic(auto, using(iloc_data_parts::proofs::RegionLemmas::printed_value))]
     fn as_locale(&self, alloc: Global) -> Locale
         ensures { locale_value result ≡ locale_of_data (value_of self.now) }
     {
-        let keywords = match self.subdivision_value() {
-            Some(value) => Keywords::new_single(RegionalSubdivisionKind::key(), value),
+        let keywords = match self.printed_subdivision() {
+            Some(word) => {
+                let _ = word.as_str();
+                let value = Value::from_subtag(Some(word));
+                Keywords::new_single(RegionalSubdivisionKind::key(), value)
+            }
             None => Keywords::new(),
         };
         self.with_keywords(alloc, keywords)
@@ -122,6 +128,11 @@ impl From<(Language, Option<Script>, Option<Region>)> for DataLocale {
 
     fn from(lsr: (Language, Option<Script>, Option<Region>)) -> Self {
         let (language, script, region) = lsr;
-        DataLocale::made_of(language, script, region.map(whole_region), None)
+        made_of(DataParts {
+            language,
+            script,
+            part: region.map(whole_region),
+            variant: None,
+        })
     }
 }

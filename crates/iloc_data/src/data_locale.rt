@@ -9,10 +9,9 @@ ghost use Rattle.iloc_data.specs.DataValue.{value_of, unknown_data};
 ghost use Rattle.iloc_data.specs.Reads.{DataTextReads, IsDataAnswer};
 ghost use Rattle.iloc_spec_grammar.specs.Meaning as meaning;
 ghost use Rattle.iloc_spec_parts.specs.DataLocales as parts;
+ghost use Rattle.iloc_data_parts.specs.PartsReading as reading;
 
-use iloc_data_parts::region::part_of;
-use iloc_keyword_types::SubdivisionId;
-use iloc_langid::read_small_locale;
+use iloc_data_parts::DataParts;
 use iloc_subtags::{Language, ParseError, Region, Script, Subtag, Variant};
 use std::str::FromStr;
 
@@ -80,9 +79,7 @@ impl DataLocale {
         ensures narrow { (d : parts.DataLocale) → DataMeans two_or_three code_units.now d
             → Accepts value_of ⊤ d result }
     {
-        let (language, script, region, variant, keyword) = read_small_locale(code_units)?;
-        let part = part_of(region, keyword)?;
-        Ok(DataLocale::made_of(language, script, part, variant))
+        read(code_units)
     }
 
     /// Parses all of a `str`, as `try_from_utf8` parses bytes.
@@ -115,27 +112,34 @@ impl DataLocale {
             && self.variant.is_none()
             && self.subdivision.is_none()
     }
+}
 
-    // The data locale made of that region part: its region, and its text as the subdivision.
-    pub(crate) fn made_of(
-        language: Language,
-        script: Option<Script>,
-        part: Option<SubdivisionId>,
-        variant: Option<Variant>,
-    ) -> Self
-        ensures { value_of result ≡ parts.made_of language script part variant }
-    {
-        let (region, subdivision) = match part {
-            Some(id) => (Some(id.region), Some(id.into_subtag())),
-            None => (None, None),
-        };
-        DataLocale {
-            language,
-            script,
-            region,
-            variant,
-            subdivision,
-        }
+/// The data locale that is made of the parts: its region, and the text of its region part as the subdivision.
+pub fn made_of(parts: DataParts) -> DataLocale
+    ensures { value_of result ≡ reading.value_of parts }
+{
+    let (region, subdivision) = match parts.part {
+        Some(id) => (Some(id.region), Some(id.into_subtag())),
+        None => (None, None),
+    };
+    DataLocale {
+        language: parts.language,
+        script: parts.script,
+        region,
+        variant: parts.variant,
+        subdivision,
+    }
+}
+
+// Parses all of the text.
+#[inline(always)]
+fn read(code_units: &[u8]) -> Result<DataLocale, ParseError>
+    ensures reads { DataTextReads code_units.now result }
+    ensures memory { RunsOutOnlyIf ⊥ result }
+{
+    match DataParts::try_from_utf8(code_units) {
+        Ok(parts) => Ok(made_of(parts)),
+        Err(refusal) => Err(refusal),
     }
 }
 

@@ -46,7 +46,7 @@ pub mod time_preferences;
 pub mod to_locale;
 mod values;
 
-pub use data_locale::DataLocale;
+pub use data_locale::{DataLocale, made_of};
 pub use format_preferences::FormatPreferences;
 pub use locale_preferences::LocalePreferences;
 pub use time_preferences::TimePreferences;

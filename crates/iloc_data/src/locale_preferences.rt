@@ -2,14 +2,16 @@
 ghost use Rattle.std.specs.Prelude.{◌≡◌, true, false, MatchResult};
 ghost use Rattle.iloc_locale.specs.LocaleReading.{value_of as locale_value};
 ghost use Rattle.iloc_spec_parts.specs.Preferences.{Preferences, preferences, default_preferences, is_strict, merge, merge_language, merge_region, language_priority, region_priority, identifier_preferences};
+ghost use Rattle.iloc_spec_parts.specs.DataLocales as parts;
 ghost use Rattle.iloc_data.specs.DataValue.{value_of as data_of};
 ghost use Rattle.iloc_langid.specs.Reads.{value_of as identifier_of};
 
-use crate::data_locale::DataLocale;
+use crate::data_locale::{DataLocale, made_of};
 use crate::region_keywords::{id_of, keyword};
+use iloc_data_parts::DataParts;
 use iloc_data_parts::region::{is_whole, preferred, whole_region};
 use iloc_keyword_types::subdivision_keyword::RegionalSubdivisionKind;
-use iloc_keyword_types::{RegionOverride, RegionalSubdivision, keyword_of};
+use iloc_keyword_types::{RegionOverride, RegionalSubdivision, SubdivisionId, keyword_of};
 use iloc_langid::LanguageIdentifier;
 use iloc_locale::Locale;
 use iloc_subtags::{Language, Region, Script, Variant};
@@ -95,7 +97,7 @@ impl LocalePreferences {
     pub fn to_data_locale_language_priority(self) -> DataLocale
         ensures { data_of result ≡ language_priority self }
     {
-        DataLocale::made_of(self.language, self.script, id_of(self.region), self.variant)
+        self.with_part(id_of(self.region))
     }
 
     /// The data locale made of the override if there is one, and else of the region.
@@ -106,7 +108,20 @@ impl LocalePreferences {
             Some(id) => Some(id),
             None => id_of(self.region),
         };
-        DataLocale::made_of(self.language, self.script, part, self.variant)
+        self.with_part(part)
+    }
+
+    // The data locale made of that region part.
+    fn with_part(&self, part: Option<SubdivisionId>) -> DataLocale
+        ensures { data_of result
+            ≡ parts.made_of self.now.language self.now.script part self.now.variant }
+    {
+        made_of(DataParts {
+            language: self.language,
+            script: self.script,
+            part,
+            variant: self.variant,
+        })
     }
 
     /// The language.

@@ -40,7 +40,7 @@ impl DataLocale {
         ensures { option_map value_of result ≡ data_parent (value_of self.now) }
     {
         let mut parent = self.with_whole_region();
-        if self.subdivision_value().is_some() {
+        if self.printed_subdivision().is_some() {
             return Some(parent);
         }
         if self.variant.is_some() {

@@ -4,6 +4,7 @@ ghost use Rattle.iloc_data.specs.DataValue.{value_of};
 ghost use Rattle.std.specs.Prelude.{◌≡◌, None, Some, ◌++◌, codes};
 
 use crate::data_locale::DataLocale;
+use iloc_data_parts::write_with_subdivision;
 use iloc_writeable::{Pieces, Sink, Writeable};
 use std::fmt;
 
@@ -16,19 +17,8 @@ impl Pieces for DataLocale {
     }
 
     fn write_pieces<S: Sink>(&self, sink: &mut S, first: bool) -> fmt::Result {
-        let Some(value) = self.subdivision_value() else {
-            return (&self.language, &self.script, &self.region, &self.variant).write_pieces(
-                sink, first,
-            );
-        };
-        (
-            &self.language,
-            &self.script,
-            &self.region,
-            &self.variant,
-            &("u", "sd", value),
-        )
-            .write_pieces(sink, first)
+        let parts = (&self.language, &self.script, &self.region, &self.variant);
+        write_with_subdivision(&parts, self.printed_subdivision(), sink, first)
     }
 }
 

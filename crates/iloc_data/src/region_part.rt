@@ -2,25 +2,19 @@
 ghost use Rattle.std.specs.Prelude.{
   ◌≡◌,
   true,
-  option_map,
   option_and_then,
   if◌then◌else◌,
   Some,
   None,
 };
 ghost use Rattle.iloc_spec_parts.specs.DataLocales as parts;
-ghost use Rattle.iloc_spec_parts.specs.DataLocales.{
-  named_subdivision,
-  subdivision_keyword,
-  subdivision_value,
-};
+ghost use Rattle.iloc_spec_parts.specs.DataLocales.{named_subdivision, subdivision_keyword};
 ghost use Rattle.iloc_data.specs.DataValue.{value_of};
 
 use crate::data_locale::DataLocale;
 use iloc_data_parts::region::{is_whole, named, whole_region};
 use iloc_keyword_types::SubdivisionId;
 use iloc_subtags::Subtag;
-use iloc_word_list::Value;
 
 // Whether the subtag ends as the whole of a region does, after as many bytes as a region has. Such a subtag names
 // nothing else.
@@ -56,11 +50,9 @@ impl DataLocale {
         named(&word).or(whole)
     }
 
-    /// The value of `sd` as it is printed: the subdivision if it is readable and not a whole region, and
-    /// nothing of one that spells `true`.
-    #[tactic(auto, using(iloc_data_parts::proofs::RegionLemmas::printed_value, iloc_data_parts::proofs::RegionLemmas::words_tie))]
-    pub(crate) fn subdivision_value(&self) -> Option<Value>
-        ensures { result ≡ option_map subdivision_value (subdivision_keyword (value_of self.now)) }
+    /// The subdivision if it is printed: it is readable and not a whole region.
+    pub(crate) fn printed_subdivision(&self) -> Option<Subtag>
+        ensures { result ≡ subdivision_keyword (value_of self.now) }
     {
         let word = self.subdivision?;
         if ends_as_whole(&word) {
@@ -69,7 +61,6 @@ impl DataLocale {
         if is_whole(&named(&word)?) {
             return None;
         }
-        let _ = word.as_str();
-        Some(Value::from_subtag(Some(word)))
+        Some(word)
     }
 }

@@ -1,3 +1,2 @@
 pub mod RegionLemmas
 pub mod ReadLemmas
-pub mod PartLemmas

@@ -8,6 +8,8 @@
 #![tactic(auto)]
 
 pub mod parts;
+pub mod printing;
 pub mod region;
 
 pub use parts::DataParts;
+pub use printing::write_with_subdivision;

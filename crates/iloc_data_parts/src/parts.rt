@@ -1,13 +1,13 @@
 //! The parts that a text names, their parser and their text.
-ghost use Rattle.std.specs.Prelude.{◌≡◌, option_map};
-ghost use Rattle.iloc_spec_parts.specs.DataLocales.{subdivision_keyword, subdivision_value, data_pieces, data_text};
+ghost use Rattle.std.specs.Prelude.{◌≡◌};
+ghost use Rattle.iloc_spec_parts.specs.DataLocales.{subdivision_keyword, data_pieces, data_text};
 ghost use Rattle.iloc_data_parts.specs.PartsReading.{value_of, PartsTextReads};
 
+use crate::printing::write_with_subdivision;
 use crate::region::{is_whole, part_of};
 use iloc_keyword_types::SubdivisionId;
 use iloc_langid::read_small_locale;
-use iloc_subtags::{Language, ParseError, Region, Script, Variant};
-use iloc_word_list::Value;
+use iloc_subtags::{Language, ParseError, Region, Script, Subtag, Variant};
 use iloc_writeable::{Pieces, Sink, Writeable};
 use std::fmt;
 
@@ -26,6 +26,7 @@ pub struct DataParts {
 
 impl DataParts {
     /// Parses all of the text, which need not be UTF-8, in whatever case. It allocates nothing.
+    #[inline(always)]
     pub fn try_from_utf8(code_units: &[u8]) -> Result<Self, ParseError>
         ensures { PartsTextReads code_units.now result }
     {
@@ -46,18 +47,16 @@ impl DataParts {
         Some(self.part?.region)
     }
 
-    // The value of `sd` as it is printed: the subdivision if it is not a whole region.
-    #[tactic(auto, using(crate::proofs::PartLemmas::whole_keyword, crate::proofs::PartLemmas::part_keyword))]
-    fn subdivision_value(&self) -> Option<Value>
-        ensures { result ≡ option_map subdivision_value (subdivision_keyword (value_of self.now)) }
+    // The subdivision if it is printed: it is not a whole region.
+    fn printed_subdivision(&self) -> Option<Subtag>
+        ensures { result ≡ subdivision_keyword (value_of self.now) }
     {
         let id = self.part?;
         let word = id.into_subtag();
         if is_whole(&id) {
             return None;
         }
-        let _ = word.as_str();
-        Some(Value::from_subtag(Some(word)))
+        Some(word)
     }
 }
 
@@ -71,17 +70,8 @@ impl Pieces for DataParts {
 
     fn write_pieces<S: Sink>(&self, sink: &mut S, first: bool) -> fmt::Result {
         let region = self.region();
-        let Some(value) = self.subdivision_value() else {
-            return (&self.language, &self.script, &region, &self.variant).write_pieces(sink, first);
-        };
-        (
-            &self.language,
-            &self.script,
-            &region,
-            &self.variant,
-            &("u", "sd", value),
-        )
-            .write_pieces(sink, first)
+        let parts = (&self.language, &self.script, &region, &self.variant);
+        write_with_subdivision(&parts, self.printed_subdivision(), sink, first)
     }
 }
 

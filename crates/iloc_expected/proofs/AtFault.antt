@@ -2,11 +2,22 @@
 use Rattle.std.proofs.Common.{◌≡◌, ◌≢◌, inl, inr, ℕ, suc, ◌+◌, List, [], ◌∷◌, ◌++◌, length, take}
 use Rattle.std.proofs.Common.{refl, sym, ap, ◌∙◌, subst, append_assoc, append-nil, arith, take_all, ◌==◌}
 use Rattle.std.specs.List.{AllByRecursion, list_any}
-use Rattle.std.proofs.lemmas.Bool.{cases_Bool}
 use Rattle.std.proofs.lemmas.List.Concat.{flat_map-append}
 use Rattle.std.proofs.Math.Seq.{take-append-add}
-use Rattle.iloc_spec_grammar.specs.Syntax.{Text, pieces, join, dashes, IsHyphenFree, is_word, is_one_byte}
-use Rattle.iloc_spec_grammar.specs.Syntax.{TransformKey, UnicodeKey, code_t, code_u, code_x}
+use Rattle.iloc_spec_grammar.specs.Syntax.{
+  Text,
+  pieces,
+  join,
+  dashes,
+  IsHyphenFree,
+  is_word,
+  is_one_byte,
+  TransformKey,
+  UnicodeKey,
+  code_t,
+  code_u,
+  code_x,
+}
 use Rattle.iloc_spec_grammar.specs.Syntax as grammar
 use Rattle.iloc_spec_grammar.proofs.PartTexts.{join-dashes}
 use Rattle.iloc_spec_grammar.proofs.PiecesLaws.{pieces-join, pieces_hyphen_free}
@@ -17,9 +28,19 @@ use Rattle.iloc_faults.specs.Places.{GoOn, StandsAtPiece, IsFaultPlace}
 use Rattle.iloc_faults.proofs.OnePlace.{fewer}
 use Rattle.iloc_expected.specs.declared.kinds.PieceKind.{PieceKind}
 use Rattle.iloc_expected.specs.declared.kinds.PieceKind.TheVariants as kinds
-use Rattle.iloc_expected.specs.Kinds.{Place, AtBeginning, InIdentifier, InExtension, place_after, kind_at}
-use Rattle.iloc_expected.specs.Kinds.{identifier_kind, transform_kind, unicode_kind}
+use Rattle.iloc_expected.specs.Kinds.{
+  Place,
+  AtBeginning,
+  InIdentifier,
+  InExtension,
+  place_after,
+  kind_at,
+  identifier_kind,
+  transform_kind,
+  unicode_kind,
+}
 use Rattle.iloc_expected.specs.Standing.{without_empty, pieces_before, MayStand}
+use Rattle.iloc_expected.proofs.Following.{by_test}
 use Rattle.iloc_expected.proofs.Walk.{front_free, without_end}
 
 -- ---- the pieces before a piece
@@ -82,43 +103,24 @@ before_end mode t start s g =
 
 -- a piece is not the end
 word_no_end : (p : Text) → identifier_kind p ≢ kinds.End
-word_no_end p e = elim (cases_Bool (is_word grammar.Script p)) [
-  | inl a ↦ let f = rw a at e in cc
-  | inr a ↦ elim (cases_Bool (is_word grammar.Region p))
-      [ inl b ↦ let f = rw (a, b) at e in cc | inr b ↦ let f = rw (a, b) at e in cc ]
-]
+word_no_end p e = by_test (is_word grammar.Script p) e (λ a f. cc)
+    (λ a f. by_test (is_word grammar.Region p) f (λ b g. cc) (λ b g. cc))
 
 transform_no_end : (qs : List Text) (p : Text) → transform_kind qs p ≢ kinds.End
-transform_no_end [] p e = elim (cases_Bool (is_word TransformKey p))
-    [ inl a ↦ let f = rw a at e in cc | inr a ↦ let f = rw a at e in cc ]
-transform_no_end (q ∷ qs) p e = elim (cases_Bool (is_word TransformKey p)) [
-  | inl a ↦ let f = rw a at e in cc
-  | inr a ↦ elim (cases_Bool (list_any (is_word TransformKey) (q ∷ qs)))
-      [ inl b ↦ let f = rw (a, b) at e in cc | inr b ↦ word_no_end p (rw (a, b) at e) ]
-]
+transform_no_end [] p e = by_test (is_word TransformKey p) e (λ a f. cc) (λ a f. cc)
+transform_no_end (q ∷ qs) p e = by_test (is_word TransformKey p) e (λ a f. cc)
+    (λ a f. by_test (list_any (is_word TransformKey) (q ∷ qs)) f (λ b g. cc) (λ b g. word_no_end p g))
 
 unicode_no_end : (qs : List Text) (p : Text) → unicode_kind qs p ≢ kinds.End
-unicode_no_end qs p e = elim (cases_Bool (is_word UnicodeKey p)) [
-  | inl a ↦ let f = rw a at e in cc
-  | inr a ↦ elim (cases_Bool (list_any (is_word UnicodeKey) qs))
-      [ inl b ↦ let f = rw (a, b) at e in cc | inr b ↦ let f = rw (a, b) at e in cc ]
-]
+unicode_no_end qs p e = by_test (is_word UnicodeKey p) e (λ a f. cc)
+    (λ a f. by_test (list_any (is_word UnicodeKey) qs) f (λ b g. cc) (λ b g. cc))
 
 no_end : (w : Place) (p : Text) → kind_at w p ≢ kinds.End
 no_end AtBeginning p e = cc
-no_end InIdentifier p e = elim (cases_Bool (is_one_byte p))
-    [ inl a ↦ let f = rw a at e in cc | inr a ↦ word_no_end p (rw a at e) ]
-no_end (InExtension c qs) p e = elim (cases_Bool (c == code_x)) [
-  | inl x ↦ let f = rw x at e in cc
-  | inr x ↦ elim (cases_Bool (is_one_byte p)) [
-    | inl a ↦ let f = rw (x, a) at e in cc
-    | inr a ↦ elim (cases_Bool (c == code_t)) [
-      | inl t ↦ transform_no_end qs p (rw (x, a, t) at e)
-      | inr t ↦ elim (cases_Bool (c == code_u))
-          [ inl u ↦ unicode_no_end qs p (rw (x, a, t, u) at e) | inr u ↦ let f = rw (x, a, t, u) at e in cc ]
-    ]
-  ]
-]
+no_end InIdentifier p e = by_test (is_one_byte p) e (λ a f. cc) (λ a f. word_no_end p f)
+no_end (InExtension c qs) p e = by_test (c == code_x) e (λ x f. cc) (λ x f.
+    by_test (is_one_byte p) f (λ a g. cc) (λ a g. by_test (c == code_t) g (λ t h. transform_no_end qs p h)
+    (λ t h. by_test (c == code_u) h (λ u k. unicode_no_end qs p k) (λ u k. cc))))
 
 pub some_kind : (mode : Mode) (ps : List Text) → GoOn mode ps → (kind : PieceKind) × MayStand mode ps kind
 some_kind mode ps g = by g.rest g.begins

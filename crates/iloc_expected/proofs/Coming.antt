@@ -1,55 +1,96 @@
 -- A piece that comes next is of a kind that may come.
-use Rattle.std.proofs.Common.{◌≡◌, ◌≢◌, ℕ, Bool, true, false, ◌&&◌, List, [], ◌∷◌, length}
-use Rattle.std.proofs.Common.{slice_index, Some, None, refl, sym, ◌∙◌}
-use Rattle.std.proofs.Common.{true≢false, inl, inr, arith}
+use Rattle.std.proofs.Common.{◌≡◌, ◌≢◌, ℕ, Bool, true, false, ◌&&◌, List, [], ◌∷◌, length, slice_index, Some}
+use Rattle.std.proofs.Common.{refl, sym, ◌∙◌, true≢false, inl, inr, arith}
 use Rattle.std.specs.Char.{is_ascii_alphanumeric}
 use Rattle.std.proofs.lemmas.Bool.{cases_Bool, and_parts, not-true, false_from_ne_true}
 use Rattle.std.proofs.lemmas.Bool.Decides.{nat_tests}
-use Rattle.iloc_spec_grammar.specs.Syntax.{Text, code_t, code_u, code_x, languages, is_word, IsWord}
-use Rattle.iloc_spec_grammar.specs.Syntax.{is_one_byte}
-use Rattle.iloc_spec_grammar.specs.Syntax.{is_other_singleton, lower, is_true, UnicodeKey, TransformKey}
-use Rattle.iloc_spec_grammar.specs.Syntax.{Attribute, Variant}
+use Rattle.iloc_spec_grammar.specs.Syntax.{
+  Text,
+  code_t,
+  code_u,
+  code_x,
+  languages,
+  is_word,
+  IsWord,
+  is_one_byte,
+  is_other_singleton,
+  lower,
+  is_true,
+  UnicodeKey,
+  TransformKey,
+  Attribute,
+  Variant,
+}
 use Rattle.iloc_spec_grammar.specs.Syntax as grammar
-use Rattle.iloc_spec_grammar.proofs.WordsLaws.{region_no_script, variant_no_script, variant_no_region}
-use Rattle.iloc_spec_grammar.proofs.WordsLaws.{length-unicode_key, length-transform_key}
+use Rattle.iloc_spec_grammar.proofs.WordsLaws.{
+  region_no_script,
+  variant_no_script,
+  variant_no_region,
+  length-unicode_key,
+  length-transform_key,
+}
 use Rattle.iloc_normalize.specs.declared.Mode.{Mode}
 use Rattle.iloc_normalize.specs.declared.Mode.TheVariants.{Langid, Locale, Data}
 use Rattle.iloc_faults.specs.declared.state.Part.{Part}
-use Rattle.iloc_faults.specs.declared.state.Part.TheVariants.{Start, Head, Transform, Source, FieldKey}
-use Rattle.iloc_faults.specs.declared.state.Part.TheVariants.{FieldValue, Unicode, Keyword, Other}
-use Rattle.iloc_faults.specs.declared.state.Part.TheVariants.{OtherWord}
-use Rattle.iloc_faults.specs.declared.state.Part.TheVariants.{Private, PrivateWord, Subdivision}
-use Rattle.iloc_faults.specs.declared.state.Part.TheVariants.{SubdivisionKey, SubdivisionValue}
+use Rattle.iloc_faults.specs.declared.state.Part.TheVariants.{
+  Start,
+  Head,
+  Transform,
+  Source,
+  FieldKey,
+  FieldValue,
+  Unicode,
+  Keyword,
+  Other,
+  OtherWord,
+  Private,
+  PrivateWord,
+  Subdivision,
+  SubdivisionKey,
+  SubdivisionValue,
+}
 use Rattle.iloc_faults.specs.declared.state.Stage.{Stage}
 use Rattle.iloc_faults.specs.declared.state.Stage.TheVariants.{Language, Script, Region}
-use Rattle.iloc_faults.specs.Next.{Reached, is_seen, is_new, may_end, takes_any, begins_block, block_next}
-use Rattle.iloc_faults.specs.Next.{after_script_next, after_region_next, word_next, inside_next, piece_next}
-use Rattle.iloc_faults.specs.Next.{next}
+use Rattle.iloc_faults.specs.Next.{
+  Reached,
+  is_seen,
+  is_new,
+  may_end,
+  takes_any,
+  begins_block,
+  block_next,
+  after_script_next,
+  after_region_next,
+  word_next,
+  inside_next,
+  piece_next,
+  next,
+}
 use Rattle.iloc_faults.specs.States.{reached}
 use Rattle.iloc_expected.specs.declared.kinds.PieceKind.TheVariants as kinds
 use Rattle.iloc_expected.specs.Kinds.{Place, kind_at, identifier_kind}
 use Rattle.iloc_expected.specs.Readings.{IsReadAt, may_begin_block, has_variant, may_come}
-use Rattle.iloc_expected.proofs.Following.{other_apart, no_true, of_when, of_plain, of_words, of_if, sd_key}
+use Rattle.iloc_expected.proofs.Following.{
+  other_apart,
+  no_true,
+  of_when,
+  of_plain,
+  of_words,
+  of_if,
+  sd_key,
+  by_test,
+  in_block,
+  in_head,
+  outside,
+  IsOutside,
+}
 
 -- ---- a singleton
 
-pub singleton_is : (part : Part) (keyed : Bool) (w : Place) (p : Text) → IsReadAt part keyed w →
-    is_one_byte p ≡ true → takes_any part ≡ false → kind_at w p ≡ kinds.Singleton
-singleton_is Start keyed w p at one t = absurd (true≢false t)
-singleton_is (Head stage) keyed w p at one t = rw (at.0, one) refl
-singleton_is Transform keyed w p at one t = rw (at.0, one) refl
-singleton_is (Source stage) keyed w p at one t = rw (at.2, one) refl
-singleton_is FieldKey keyed w p at one t = rw (at.2, one) refl
-singleton_is FieldValue keyed w p at one t = rw (at.2, one) refl
-singleton_is Unicode keyed w p at one t = rw (at.0, one) refl
-singleton_is Keyword keyed w p at one t = rw (at.1, one) refl
-singleton_is Other keyed w p at one t = rw (at.2, (other_apart at.0 at.3).2, one) refl
-singleton_is OtherWord keyed w p at one t = rw (at.2, (other_apart at.0 at.3).2, one) refl
-singleton_is Private keyed w p at one t = absurd (true≢false t)
-singleton_is PrivateWord keyed w p at one t = absurd (true≢false t)
-singleton_is Subdivision keyed w p at one t = rw (at.0, one) refl
-singleton_is SubdivisionKey keyed w p at one t = rw (at.1, one) refl
-singleton_is SubdivisionValue keyed w p at one t = rw (at.1, one) refl
+pub singleton_is : {w : Place} → IsOutside w → (p : Text) → is_one_byte p ≡ true →
+    kind_at w p ≡ kinds.Singleton
+singleton_is (in_head e) p one = rw (e, one) refl
+singleton_is (in_block c qs e x) p one = rw (e, x, one) refl
 
 -- no singleton is left only if all were seen
 abbrev pub IsLeft : List ℕ → Bool → Type 0
@@ -95,25 +136,22 @@ pub data IsOneOf (mode : Mode) (vs : List Text) (stage : Stage) (p : Text) : Typ
 module _ (mode : Mode) (vs : List Text) (p : Text) where
   variant_one : (stage : Stage) (x : Stage × List Text) → after_region_next mode vs p ≡ Some x →
       IsOneOf mode vs stage p
-  variant_one stage x e = elim (cases_Bool (is_word Variant p && is_new mode vs (lower p))) [
-    | inl b ↦ let h = and_parts _ _ b in
-        a_variant h.1 (rw (variant_no_script p h.0, variant_no_region p h.0) refl)
-    | inr b ↦ let f : None ≡ Some x = rw b at e in cc
-  ]
+  variant_one stage x e = by_test (is_word Variant p && is_new mode vs (lower p)) e
+      (λ b f. let h = and_parts _ _ b in
+      a_variant h.1 (rw (variant_no_script p h.0, variant_no_region p h.0) refl))
+      (λ b f. cc)
 
   region_one : (stage : Stage) (x : Stage × List Text) → stage ≢ Region →
       after_script_next mode vs p ≡ Some x → IsOneOf mode vs stage p
-  region_one stage x n e = elim (cases_Bool (is_word grammar.Region p)) [
-    | inl b ↦ a_region n (rw (region_no_script p b, b) refl)
-    | inr b ↦ variant_one stage x (rw b at e)
-  ]
+  region_one stage x n e =
+      by_test (is_word grammar.Region p) e (λ b f. a_region n (rw (region_no_script p b, b) refl))
+      (λ b f. variant_one stage x f)
 
   word_one : (stage : Stage) (x : Stage × List Text) → word_next mode stage vs p ≡ Some x →
       IsOneOf mode vs stage p
-  word_one Language x e = elim (cases_Bool (is_word grammar.Script p)) [
-    | inl b ↦ a_script refl (rw b refl)
-    | inr b ↦ region_one Language x (λ f. cc) (rw b at e)
-  ]
+  word_one Language x e =
+      by_test (is_word grammar.Script p) e (λ b f. a_script refl (rw b refl))
+      (λ b f. region_one Language x (λ g. cc) f)
   word_one Script x e = region_one Script x (λ f. cc) e
   word_one Region x e = variant_one Region x e
 
@@ -154,10 +192,6 @@ module _ (mode : Mode) (keyed none left : Bool) (w : Place) (p : Text) where
 
   piece_may : (part q : Part) → IsReadAt part keyed w → begins_block part p ≡ false →
       piece_next part p ≡ Some q → May part
-  piece_may Start q at b e = cc
-  piece_may (Head stage) q at b e = cc
-  piece_may Transform q at b e = cc
-  piece_may (Source stage) q at b e = cc
   piece_may FieldKey q at b e =
       let m = of_when _ FieldValue q e in rw (at.2, no_true _ b, no_transform_key p m.0, at.3) refl
   piece_may FieldValue q at b e = elim (cases_Bool (is_word TransformKey p)) [
@@ -182,13 +216,12 @@ module _ (mode : Mode) (keyed none left : Bool) (w : Place) (p : Text) where
   piece_may PrivateWord q at b e = rw at.1 refl
   piece_may Subdivision q at b e =
       let m = of_when _ SubdivisionKey q e in rw (at.0, no_true _ b, sd_key p m.0) refl
-  piece_may SubdivisionKey q at b e = elim (cases_Bool (is_word Attribute p)) [
-    | inl a ↦ rw (at.1, no_true _ b, no_unicode_key p a, at.2) refl
-    | inr a ↦ let f : None ≡ Some q = rw a at e in cc
-  ]
+  piece_may SubdivisionKey q at b e =
+      by_test (is_word Attribute p) e (λ a f. rw (at.1, no_true _ b, no_unicode_key p a, at.2) refl) (λ a f. cc)
   piece_may SubdivisionValue q at b e =
       let m = of_when _ SubdivisionValue q e in
       rw (at.1, no_true _ b, no_unicode_key p (and_parts _ _ m.0).0, at.2) refl
+  piece_may _ q at b e = cc
 
   inside_may : (part : Part) (vs : List Text) (seen : List ℕ) (r : Reached) → IsReadAt part keyed w →
       AreNone vs none → begins_block part p ≡ false → inside_next mode part vs seen p ≡ Some r → May part
@@ -210,25 +243,14 @@ module _ (mode : Mode) (keyed none left : Bool) (w : Place) (p : Text) where
       field_may Language = refl
       field_may Script = refl
       field_may Region = refl
-  inside_may FieldKey vs seen r at n b e = piece_may FieldKey r.part at b (of_plain _ seen r e)
-  inside_may FieldValue vs seen r at n b e = piece_may FieldValue r.part at b (of_plain _ seen r e)
-  inside_may Unicode vs seen r at n b e = piece_may Unicode r.part at b (of_plain _ seen r e)
-  inside_may Keyword vs seen r at n b e = piece_may Keyword r.part at b (of_plain _ seen r e)
-  inside_may Other vs seen r at n b e = piece_may Other r.part at b (of_plain _ seen r e)
-  inside_may OtherWord vs seen r at n b e = piece_may OtherWord r.part at b (of_plain _ seen r e)
-  inside_may Private vs seen r at n b e = piece_may Private r.part at b (of_plain _ seen r e)
-  inside_may PrivateWord vs seen r at n b e = piece_may PrivateWord r.part at b (of_plain _ seen r e)
-  inside_may Subdivision vs seen r at n b e = piece_may Subdivision r.part at b (of_plain _ seen r e)
-  inside_may SubdivisionKey vs seen r at n b e = piece_may SubdivisionKey r.part at b (of_plain _ seen r e)
-  inside_may SubdivisionValue vs seen r at n b e =
-      piece_may SubdivisionValue r.part at b (of_plain _ seen r e)
+  inside_may part vs seen r at n b e = piece_may part r.part at b (of_plain _ seen r e)
 
   pub next_may : (part : Part) (vs : List Text) (seen : List ℕ) (r : Reached) → IsReadAt part keyed w →
       AreNone vs none → IsLeft seen left → next mode (reached part vs seen) p ≡ Some r → May part
   next_may part vs seen r at n l e = elim (cases_Bool (begins_block part p)) [
     | inl b ↦
         let h = and_parts _ _ b in
-        rw (singleton_is part keyed w p at h.0 (not-true _ h.1))
+        rw (singleton_is (outside part keyed w at (not-true _ h.1)) p h.0)
         (block_may mode part seen (slice_index p 0) left r (not-true _ h.1) l (rw b at e))
     | inr b ↦ inside_may part vs seen r at n b (rw b at e)
   ]

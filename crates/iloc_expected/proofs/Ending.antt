@@ -1,8 +1,7 @@
 -- What was read once the last piece is read too.
-use Rattle.std.proofs.Common.{◌≡◌, ◌≢◌, ℕ, ◌+◌, Bool, not, is_some, true, false, true≢false, List, []}
-use Rattle.std.proofs.Common.{◌∷◌, ◌++◌, length, take, drop}
-use Rattle.std.proofs.Common.{map, Option, Some, None, refl, sym, ap, ◌∙◌, subst, append-nil, arith}
-use Rattle.std.proofs.Common.{inl, inr}
+use Rattle.std.proofs.Common.{◌≡◌, ◌≢◌, ℕ, ◌+◌, Bool, not, is_some, true, false, true≢false, List, [], ◌∷◌}
+use Rattle.std.proofs.Common.{◌++◌, length, take, drop, map, Option, Some, None, refl, sym, ap, ◌∙◌, subst}
+use Rattle.std.proofs.Common.{append-nil, arith, inl, inr}
 use Rattle.std.proofs.lemmas.Bool.{cases_Bool}
 use Rattle.iloc_spec_grammar.specs.Syntax.{Text, Variant, pieces, join, lower, is_word}
 use Rattle.iloc_spec_grammar.proofs.PiecesLaws.{pieces-join, pieces_nonempty}
@@ -11,8 +10,14 @@ use Rattle.iloc_pieces.specs.declared.place.Cursor.{Cursor}
 use Rattle.iloc_pieces.proofs.CursorLemmas.{last_piece, length_piece}
 use Rattle.iloc_normalize.specs.declared.Mode.{Mode}
 use Rattle.iloc_faults.specs.Next.{started, next, run}
-use Rattle.iloc_faults.specs.States.{AreVariantsRead, AreNew, are_same, first_variants}
-use Rattle.iloc_faults.specs.States.{variants_left, reached}
+use Rattle.iloc_faults.specs.States.{
+  AreVariantsRead,
+  AreNew,
+  are_same,
+  first_variants,
+  variants_left,
+  reached,
+}
 use Rattle.iloc_faults.specs.declared.state.Part.{Part}
 use Rattle.iloc_faults.specs.Places.{GoOn}
 use Rattle.iloc_faults.proofs.Going.{goes_no_longer}

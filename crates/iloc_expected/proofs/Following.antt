@@ -6,26 +6,61 @@ use Rattle.std.proofs.lemmas.Bool.Decides.{nat_tests}
 use Rattle.std.specs.List.{list_any}
 use Rattle.std.specs.Char.{is_ascii_alphanumeric, to_ascii_lowercase}
 use Rattle.std.proofs.lemmas.Bool.{cases_Bool, and_parts, or_parts, not-true, or_left, or_right, eqb-true}
-use Rattle.iloc_spec_grammar.specs.Syntax.{Text, code_t, code_u, code_x, is_word, is_one_byte}
-use Rattle.iloc_spec_grammar.specs.Syntax.{is_other_singleton, lower, is_same, is_true, UnicodeKey}
-use Rattle.iloc_spec_grammar.specs.Syntax.{TransformKey}
-use Rattle.iloc_spec_grammar.specs.Syntax.{Attribute, Subtag}
+use Rattle.iloc_spec_grammar.specs.Syntax.{
+  Text,
+  code_t,
+  code_u,
+  code_x,
+  is_word,
+  is_one_byte,
+  is_other_singleton,
+  lower,
+  is_same,
+  is_true,
+  UnicodeKey,
+  TransformKey,
+  Attribute,
+  Subtag,
+}
 use Rattle.iloc_spec_grammar.proofs.MapLaws.{same_is}
 use Rattle.iloc_spec_grammar.proofs.Singletons.{IsKind, of_u, of_t, of_x, another, kind_of, lower_letter}
 use Rattle.iloc_normalize.specs.declared.Mode.{Mode}
 use Rattle.iloc_normalize.specs.declared.Mode.TheVariants.{Langid, Locale, Data}
 use Rattle.iloc_faults.specs.declared.state.Part.{Part}
-use Rattle.iloc_faults.specs.declared.state.Part.TheVariants.{Start, Head, Transform, Source, FieldKey}
-use Rattle.iloc_faults.specs.declared.state.Part.TheVariants.{FieldValue, Unicode, Keyword, Other}
-use Rattle.iloc_faults.specs.declared.state.Part.TheVariants.{OtherWord}
-use Rattle.iloc_faults.specs.declared.state.Part.TheVariants.{Private, PrivateWord, Subdivision}
-use Rattle.iloc_faults.specs.declared.state.Part.TheVariants.{SubdivisionKey, SubdivisionValue}
+use Rattle.iloc_faults.specs.declared.state.Part.TheVariants.{
+  Start,
+  Head,
+  Transform,
+  Source,
+  FieldKey,
+  FieldValue,
+  Unicode,
+  Keyword,
+  Other,
+  OtherWord,
+  Private,
+  PrivateWord,
+  Subdivision,
+  SubdivisionKey,
+  SubdivisionValue,
+}
 use Rattle.iloc_faults.specs.declared.state.Stage.{Stage}
 use Rattle.iloc_faults.specs.declared.state.Stage.TheVariants.{Language}
-use Rattle.iloc_faults.specs.Next.{Reached, plain, when, takes_any, part_of, begins_block}
-use Rattle.iloc_faults.specs.Next.{block_next, inside_next, piece_next, word_next, next}
+use Rattle.iloc_faults.specs.Next.{
+  Reached,
+  plain,
+  when,
+  takes_any,
+  part_of,
+  begins_block,
+  block_next,
+  inside_next,
+  piece_next,
+  word_next,
+  next,
+}
 use Rattle.iloc_faults.specs.States.{reached}
-use Rattle.iloc_expected.specs.Kinds.{Place, InExtension}
+use Rattle.iloc_expected.specs.Kinds.{Place, InExtension, InIdentifier}
 use Rattle.iloc_expected.specs.Readings.{IsReadAt, keyed_after}
 use Rattle.iloc_expected.proofs.Places.{place_more, any_more}
 
@@ -66,23 +101,32 @@ other_apart c h =
     let m = or_parts (c == code_t) (c == code_u) n.0 in
     (m.0, m.1, n.1)
 
-begins : (part : Part) (keyed : Bool) (w : Place) (p : Text) → IsReadAt part keyed w →
-    is_one_byte p ≡ true → takes_any part ≡ false → Begins w p
-begins Start keyed w p at one t = absurd (true≢false t)
-begins (Head stage) keyed w p at one t = rw (at.0, one) refl
-begins Transform keyed w p at one t = rw (at.0, one) refl
-begins (Source stage) keyed w p at one t = rw (at.2, one) refl
-begins FieldKey keyed w p at one t = rw (at.2, one) refl
-begins FieldValue keyed w p at one t = rw (at.2, one) refl
-begins Unicode keyed w p at one t = rw (at.0, one) refl
-begins Keyword keyed w p at one t = rw (at.1, one) refl
-begins Other keyed w p at one t = rw (at.2, (other_apart at.0 at.3).2, one) refl
-begins OtherWord keyed w p at one t = rw (at.2, (other_apart at.0 at.3).2, one) refl
-begins Private keyed w p at one t = absurd (true≢false t)
-begins PrivateWord keyed w p at one t = absurd (true≢false t)
-begins Subdivision keyed w p at one t = rw (at.0, one) refl
-begins SubdivisionKey keyed w p at one t = rw (at.1, one) refl
-begins SubdivisionValue keyed w p at one t = rw (at.1, one) refl
+-- a place where a piece of one byte is a singleton
+pub data IsOutside (w : Place) : Type 0 where
+  in_head : w ≡ InIdentifier → IsOutside w
+  in_block : (c : ℕ) (qs : List Text) → w ≡ InExtension c qs → (c == code_x) ≡ false → IsOutside w
+
+pub outside : (part : Part) (keyed : Bool) (w : Place) → IsReadAt part keyed w → takes_any part ≡ false →
+    IsOutside w
+outside Start keyed w at t = absurd (true≢false t)
+outside (Head stage) keyed w at t = in_head at.0
+outside Transform keyed w at t = in_block code_t [] at.0 refl
+outside (Source stage) keyed w at t = in_block code_t (at.0 ∷ at.1) at.2 refl
+outside FieldKey keyed w at t = in_block code_t (at.0 ∷ at.1) at.2 refl
+outside FieldValue keyed w at t = in_block code_t (at.0 ∷ at.1) at.2 refl
+outside Unicode keyed w at t = in_block code_u [] at.0 refl
+outside Keyword keyed w at t = in_block code_u at.0 at.1 refl
+outside Other keyed w at t = in_block at.0 at.1 at.2 (other_apart at.0 at.3).2
+outside OtherWord keyed w at t = in_block at.0 at.1 at.2 (other_apart at.0 at.3).2
+outside Private keyed w at t = absurd (true≢false t)
+outside PrivateWord keyed w at t = absurd (true≢false t)
+outside Subdivision keyed w at t = in_block code_u [] at.0 refl
+outside SubdivisionKey keyed w at t = in_block code_u at.0 at.1 refl
+outside SubdivisionValue keyed w at t = in_block code_u at.0 at.1 refl
+
+begins : {w : Place} → IsOutside w → (p : Text) → is_one_byte p ≡ true → Begins w p
+begins (in_head e) p one = rw (e, one) refl
+begins (in_block c qs e x) p one = rw (e, x, one) refl
 
 -- the part of a singleton in lower case
 begun : (c : ℕ) → is_ascii_alphanumeric c ≡ true → (keyed : Bool) (p : Text) →
@@ -155,155 +199,104 @@ last_true : (f : Text → Bool) (qs : List Text) (p : Text) → f p ≡ true →
     list_any f (qs ++ (p ∷ [])) ≡ true
 last_true f qs p e = any_more f qs p ∙ or_right (list_any f qs) (f p) e
 
+-- by what a test chose
+pub by_test : {X P : Type 0} {x y z : X} (b : Bool) → (if b then x else y) ≡ z → (b ≡ true → x ≡ z → P) →
+    (b ≡ false → y ≡ z → P) → P
+by_test true e f g = f refl e
+by_test false e f g = g refl e
+
 module _ (keyed : Bool) (w : Place) (p : Text) where
   abbrev Made : Part → Type 0
   Made q = IsReadAt q (keyed_after keyed q p) (place_more w p)
 
+  is_made : {r q : Part} → Some r ≡ Some q → Made r → Made q
+  is_made {r} {q} e = let s : r ≡ q = cc in subst Made s
+
+  made_when : (b : Bool) (r : Part) {q : Part} → when b r ≡ Some q → Made r → Made q
+  made_when b r {q} e = subst Made (of_when b r q e).1
+
+  -- the block with the piece
+
+  field_on : IsReadAt FieldValue keyed w → is_one_byte p ≡ false → Made FieldValue
+  field_on at one = (
+    at.0,
+    at.1 ++ (p ∷ []),
+    inside_more code_t (at.0 ∷ at.1) w p at.2 refl one,
+    more_true (is_word TransformKey) (at.0 ∷ at.1) p at.3,
+    refl,
+  )
+
+  other_on : IsReadAt Other keyed w → is_one_byte p ≡ false → (b : Bool) → Made (if b then OtherWord else Other)
+  other_on at one b =
+      let more = inside_more at.0 at.1 w p at.2 (other_apart at.0 at.3).2 one in
+      elim b as (λ b. Made (if b then OtherWord else Other))
+      [ true ↦ (at.0, at.1 ++ (p ∷ []), more, at.3, refl) | false ↦ (at.0, at.1 ++ (p ∷ []), more, at.3, refl) ]
+
+  private_on : IsReadAt PrivateWord keyed w → Made PrivateWord
+  private_on at = (at.0 ++ (p ∷ []), rw at.1 refl, refl)
+
+  subdivision_on : IsReadAt SubdivisionValue keyed w → is_one_byte p ≡ false → Made SubdivisionValue
+  subdivision_on at one =
+      (at.0 ++ (p ∷ []), inside_more code_u at.0 w p at.1 refl one, more_true (is_word UnicodeKey) at.0 p at.2, refl)
+
+  -- the first piece after `u` is keyed if it is a key
+  first_keyed : keyed ≡ false → list_any (is_word UnicodeKey) (p ∷ []) ≡ (keyed || is_word UnicodeKey p)
+  first_keyed e = rw e (elim (cases_Bool (is_word UnicodeKey p)) [ inl k ↦ rw k refl | inr k ↦ rw k refl ])
+
   piece_made : (part q : Part) → IsReadAt part keyed w → begins_block part p ≡ false →
       piece_next part p ≡ Some q → Made q
-  piece_made Start q at b e = cc
-  piece_made (Head stage) q at b e = cc
-  piece_made Transform q at b e = cc
-  piece_made (Source stage) q at b e = cc
-  piece_made FieldKey q at b e =
-      let m = of_when _ FieldValue q e in
-      let one = no_true _ b in
-      subst Made m.1 (
-        at.0,
-        at.1 ++ (p ∷ []),
-        inside_more code_t (at.0 ∷ at.1) w p at.2 refl one,
-        more_true (is_word TransformKey) (at.0 ∷ at.1) p at.3,
-        refl,
-      )
+  piece_made FieldKey q at b e = made_when _ FieldValue e (field_on at (no_true _ b))
   piece_made FieldValue q at b e =
-      let one = no_true _ b in
-      let more : Made FieldValue = (
-        at.0,
-        at.1 ++ (p ∷ []),
-        inside_more code_t (at.0 ∷ at.1) w p at.2 refl one,
-        more_true (is_word TransformKey) (at.0 ∷ at.1) p at.3,
-        refl,
-      ) in
-      elim (cases_Bool (is_word TransformKey p)) [
-        | inl k ↦ let s : FieldKey ≡ q = (let f = rw k at e in cc) in subst Made s more
-        | inr k ↦ let m = of_when _ FieldValue q (rw k at e) in subst Made m.1 more
-      ]
+      let on = field_on at (no_true _ b) in by_test (is_word TransformKey p) e (λ k f. is_made f on) (λ k f. made_when _ FieldValue f on)
   piece_made Unicode q at b e =
-      let m = of_when _ Keyword q e in
-      let one = no_true _ b in
-      subst Made m.1 (p ∷ [], inside_more code_u [] w p at.0 refl one, first)
-    where
-      first : list_any (is_word UnicodeKey) (p ∷ []) ≡ (keyed || is_word UnicodeKey p)
-      first = rw at.1 (elim (cases_Bool (is_word UnicodeKey p)) [ inl k ↦ rw k refl | inr k ↦ rw k refl ])
-  piece_made Keyword q at b e =
-      let m = of_when _ Keyword q e in
-      let one = no_true _ b in
-      subst Made m.1 (
-        at.0 ++ (p ∷ []),
-        inside_more code_u at.0 w p at.1 refl one,
-        any_more (is_word UnicodeKey) at.0 p ∙ ap (λ k. k || is_word UnicodeKey p) at.2,
-      )
-  piece_made Other q at b e =
-      let m = of_when _ (if is_word Subtag p then OtherWord else Other) q e in
-      let one = no_true _ b in
-      let more = inside_more at.0 at.1 w p at.2 (other_apart at.0 at.3).2 one in
-      elim (cases_Bool (is_word Subtag p)) [
-        | inl k ↦ let s : OtherWord ≡ q = (let f = rw k at m.1 in f) in
-            subst Made s (at.0, at.1 ++ (p ∷ []), more, at.3, refl)
-        | inr k ↦ let s : Other ≡ q = (let f = rw k at m.1 in f) in
-            subst Made s (at.0, at.1 ++ (p ∷ []), more, at.3, refl)
-      ]
-  piece_made OtherWord q at b e =
-      let m = of_when _ OtherWord q e in
-      let one = no_true _ b in
-      subst Made m.1 (
-        at.0,
-        at.1 ++ (p ∷ []),
-        inside_more at.0 at.1 w p at.2 (other_apart at.0 at.3).2 one,
-        at.3,
-        refl,
-      )
-  piece_made Private q at b e =
-      let m = of_when _ PrivateWord q e in subst Made m.1 (at.0 ++ (p ∷ []), rw at.1 refl, refl)
-  piece_made PrivateWord q at b e =
-      let m = of_when _ PrivateWord q e in subst Made m.1 (at.0 ++ (p ∷ []), rw at.1 refl, refl)
-  piece_made Subdivision q at b e =
-      let m = of_when _ SubdivisionKey q e in
-      let one = no_true _ b in
-      subst Made m.1 (
-        p ∷ [],
-        inside_more code_u [] w p at.0 refl one,
-        or_left (is_word UnicodeKey p) false (sd_key p m.0),
-        refl,
-      )
+      made_when _ Keyword e (p ∷ [], inside_more code_u [] w p at.0 refl (no_true _ b), first_keyed at.1)
+  piece_made Keyword q at b e = made_when _ Keyword e (
+    at.0 ++ (p ∷ []),
+    inside_more code_u at.0 w p at.1 refl (no_true _ b),
+    any_more (is_word UnicodeKey) at.0 p ∙ ap (λ k. k || is_word UnicodeKey p) at.2,
+  )
+  piece_made Other q at b e = made_when _ (if is_word Subtag p then OtherWord else Other) e
+      (other_on at (no_true _ b) (is_word Subtag p))
+  piece_made OtherWord q at b e = made_when _ OtherWord e (other_on at (no_true _ b) true)
+  piece_made Private q at b e = made_when _ PrivateWord e (private_on at)
+  piece_made PrivateWord q at b e = made_when _ PrivateWord e (private_on at)
+  piece_made Subdivision q at b e = made_when _ SubdivisionKey e (
+    p ∷ [],
+    inside_more code_u [] w p at.0 refl (no_true _ b),
+    or_left (is_word UnicodeKey p) false (sd_key p (of_when _ SubdivisionKey q e).0),
+    refl,
+  )
   piece_made SubdivisionKey q at b e =
-      let one = no_true _ b in
-      let more = inside_more code_u at.0 w p at.1 refl one in
-      let some = more_true (is_word UnicodeKey) at.0 p at.2 in
-      elim (cases_Bool (is_word Attribute p)) [
-        | inl a ↦ elim (cases_Bool (is_true (lower p))) [
-          | inl t ↦ let s : SubdivisionKey ≡ q = (let f = rw (a, t) at e in cc) in
-              subst Made s (at.0 ++ (p ∷ []), more, some, refl)
-          | inr t ↦ let m = of_when _ SubdivisionValue q (rw (a, t) at e) in
-              subst Made m.1 (at.0 ++ (p ∷ []), more, some, refl)
-        ]
-        | inr a ↦ let f : None ≡ Some q = rw a at e in cc
-      ]
-  piece_made SubdivisionValue q at b e =
-      let m = of_when _ SubdivisionValue q e in
-      let one = no_true _ b in
-      subst Made m.1 (
-        at.0 ++ (p ∷ []),
-        inside_more code_u at.0 w p at.1 refl one,
-        more_true (is_word UnicodeKey) at.0 p at.2,
-        refl,
-      )
+      let on = subdivision_on at (no_true _ b) in
+      by_test (is_word Attribute p) e
+      (λ a f. by_test (is_true (lower p)) f (λ t g. is_made g on) (λ t g. made_when _ SubdivisionValue g on))
+      (λ a f. cc)
+  piece_made SubdivisionValue q at b e = made_when _ SubdivisionValue e (subdivision_on at (no_true _ b))
+  piece_made _ q at b e = cc
 
   -- the part of a piece that begins no block
   inside_made : (mode : Mode) (part : Part) (vs : List Text) (seen : List ℕ) (r : Reached) →
       IsReadAt part keyed w → begins_block part p ≡ false → inside_next mode part vs seen p ≡ Some r →
       Made r.part
-  inside_made mode Start vs seen r at b e =
-      let m = of_when _ (Head Language) r.part (of_plain _ seen r e) in
-      subst Made m.1 (rw at.0 refl, refl)
+  inside_made mode Start vs seen r at b e = made_when _ (Head Language) (of_plain _ seen r e) (rw at.0 refl, refl)
   inside_made mode (Head stage) vs seen r at b e =
       let m = of_words Head (word_next mode stage vs p) seen r e in
       let one = no_true _ b in
       subst Made (sym m.2) (rw (at.0, one) refl, refl)
   inside_made mode Transform vs seen r at b e =
-      let one = no_true _ b in
-      let more = inside_more code_t [] w p at.0 refl one in
-      elim (cases_Bool (is_word TransformKey p)) [
-        | inl k ↦ let s : plain seen FieldKey ≡ r = (let f = rw k at e in cc) in
-            subst Made (ap (λ (x : Reached). x.part) s)
-            (p, [], more, or_left (is_word TransformKey p) false k, refl)
-        | inr k ↦ let m = of_when _ (Source Language) r.part (of_plain _ seen r (rw k at e)) in
-            subst Made m.1 (p, [], more, rw k refl, refl)
-      ]
+      let more = inside_more code_t [] w p at.0 refl (no_true _ b) in
+      by_test (is_word TransformKey p) e
+      (λ k f. is_made (of_plain (Some FieldKey) seen r f)
+      (p, [], more, or_left (is_word TransformKey p) false k, refl))
+      (λ k f. made_when _ (Source Language) (of_plain _ seen r f) (p, [], more, rw k refl, refl))
   inside_made mode (Source stage) vs seen r at b e =
-      let one = no_true _ b in
-      let more = inside_more code_t (at.0 ∷ at.1) w p at.2 refl one in
-      elim (cases_Bool (is_word TransformKey p)) [
-        | inl k ↦ let s : plain seen FieldKey ≡ r = (let f = rw k at e in cc) in
-            subst Made (ap (λ (x : Reached). x.part) s)
-            (at.0, at.1 ++ (p ∷ []), more, last_true (is_word TransformKey) (at.0 ∷ at.1) p k, refl)
-        | inr k ↦ let m = of_words Source (word_next mode stage vs p) seen r (rw k at e) in
-            subst Made (sym m.2)
-            (at.0, at.1 ++ (p ∷ []), more, more_false (is_word TransformKey) (at.0 ∷ at.1) p at.3 k, refl)
-      ]
-  inside_made mode FieldKey vs seen r at b e = piece_made FieldKey r.part at b (of_plain _ seen r e)
-  inside_made mode FieldValue vs seen r at b e = piece_made FieldValue r.part at b (of_plain _ seen r e)
-  inside_made mode Unicode vs seen r at b e = piece_made Unicode r.part at b (of_plain _ seen r e)
-  inside_made mode Keyword vs seen r at b e = piece_made Keyword r.part at b (of_plain _ seen r e)
-  inside_made mode Other vs seen r at b e = piece_made Other r.part at b (of_plain _ seen r e)
-  inside_made mode OtherWord vs seen r at b e = piece_made OtherWord r.part at b (of_plain _ seen r e)
-  inside_made mode Private vs seen r at b e = piece_made Private r.part at b (of_plain _ seen r e)
-  inside_made mode PrivateWord vs seen r at b e = piece_made PrivateWord r.part at b (of_plain _ seen r e)
-  inside_made mode Subdivision vs seen r at b e = piece_made Subdivision r.part at b (of_plain _ seen r e)
-  inside_made mode SubdivisionKey vs seen r at b e =
-      piece_made SubdivisionKey r.part at b (of_plain _ seen r e)
-  inside_made mode SubdivisionValue vs seen r at b e =
-      piece_made SubdivisionValue r.part at b (of_plain _ seen r e)
+      let more = inside_more code_t (at.0 ∷ at.1) w p at.2 refl (no_true _ b) in
+      by_test (is_word TransformKey p) e
+      (λ k f. is_made (of_plain (Some FieldKey) seen r f)
+      (at.0, at.1 ++ (p ∷ []), more, last_true (is_word TransformKey) (at.0 ∷ at.1) p k, refl))
+      (λ k f. subst Made (sym (of_words Source (word_next mode stage vs p) seen r f).2)
+      (at.0, at.1 ++ (p ∷ []), more, more_false (is_word TransformKey) (at.0 ∷ at.1) p at.3 k, refl))
+  inside_made mode part vs seen r at b e = piece_made part r.part at b (of_plain _ seen r e)
 
   -- a piece more is read at its place
   pub next_made : (mode : Mode) (part : Part) (vs : List Text) (seen : List ℕ) (r : Reached) →
@@ -312,7 +305,7 @@ module _ (keyed : Bool) (w : Place) (p : Text) where
     | inl b ↦
         let h = and_parts _ _ b in
         subst (λ (x : Place). IsReadAt r.part (keyed_after keyed r.part p) x)
-        (sym (begins part keyed w p at h.0 (not-true _ h.1)))
+        (sym (begins (outside part keyed w at (not-true _ h.1)) p h.0))
         (block_made mode part seen (slice_index p 0) keyed p r (rw b at e))
     | inr b ↦ inside_made mode part vs seen r at b (rw b at e)
   ]

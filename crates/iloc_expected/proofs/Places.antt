@@ -6,8 +6,15 @@ use Rattle.std.specs.Char.{to_ascii_lowercase}
 use Rattle.std.proofs.lemmas.Bool.{cases_Bool}
 use Rattle.iloc_spec_grammar.specs.Syntax.{Text, Block, code_x, blocks, front, is_one_byte}
 use Rattle.iloc_spec_grammar.proofs.Singletons.{two_more}
-use Rattle.iloc_expected.specs.Kinds.{Place, AtBeginning, InIdentifier, InExtension, last_block, place_in}
-use Rattle.iloc_expected.specs.Kinds.{place_after}
+use Rattle.iloc_expected.specs.Kinds.{
+  Place,
+  AtBeginning,
+  InIdentifier,
+  InExtension,
+  last_block,
+  place_in,
+  place_after,
+}
 
 -- ---- the last block
 

@@ -1,24 +1,48 @@
 -- Each kind that may come has a piece that comes next.
-use Rattle.std.proofs.Common.{◌≡◌, ℕ, Bool, true, false, not, ◌&&◌, List, [], ◌∷◌}
-use Rattle.std.proofs.Common.{Option, Some, None, is_some, option_map, codes, refl, sym}
-use Rattle.std.proofs.Common.{◌∙◌, true≢false, arith}
+use Rattle.std.proofs.Common.{◌≡◌, ℕ, Bool, true, false, not, ◌&&◌, List, [], ◌∷◌, Option, Some, None}
+use Rattle.std.proofs.Common.{is_some, option_map, codes, refl, sym, ◌∙◌, true≢false, arith}
 use Rattle.std.specs.Char.{is_ascii_alphanumeric}
 use Rattle.std.proofs.lemmas.Bool.{and_parts, not-true, false_from_ne_true}
 use Rattle.std.proofs.lemmas.Bool.Decides.{nat_tests}
-use Rattle.iloc_spec_grammar.specs.Syntax.{Text, code_t, code_u, code_x, languages, is_word, IsWord}
-use Rattle.iloc_spec_grammar.specs.Syntax.{is_one_byte}
-use Rattle.iloc_spec_grammar.specs.Syntax.{lower, is_true, UnicodeKey, TransformKey, Variant}
-use Rattle.iloc_spec_grammar.specs.Syntax.{IsHyphenFree, word_cmp}
+use Rattle.iloc_spec_grammar.specs.Syntax.{
+  Text,
+  code_t,
+  code_u,
+  code_x,
+  languages,
+  is_word,
+  IsWord,
+  is_one_byte,
+  lower,
+  is_true,
+  UnicodeKey,
+  TransformKey,
+  Variant,
+  IsHyphenFree,
+  word_cmp,
+}
 use Rattle.iloc_spec_grammar.specs.Syntax as grammar
 use Rattle.iloc_spec_grammar.proofs.WordsLaws.{variant_no_script, variant_no_region, length-transform_key}
 use Rattle.iloc_normalize.specs.declared.Mode.{Mode}
 use Rattle.iloc_normalize.specs.declared.Mode.TheVariants.{Langid, Locale, Data}
 use Rattle.iloc_faults.specs.declared.state.Part.{Part}
-use Rattle.iloc_faults.specs.declared.state.Part.TheVariants.{Start, Head, Transform, Source, FieldKey}
-use Rattle.iloc_faults.specs.declared.state.Part.TheVariants.{FieldValue, Unicode, Keyword, Other}
-use Rattle.iloc_faults.specs.declared.state.Part.TheVariants.{OtherWord}
-use Rattle.iloc_faults.specs.declared.state.Part.TheVariants.{Private, PrivateWord, Subdivision}
-use Rattle.iloc_faults.specs.declared.state.Part.TheVariants.{SubdivisionKey, SubdivisionValue}
+use Rattle.iloc_faults.specs.declared.state.Part.TheVariants.{
+  Start,
+  Head,
+  Transform,
+  Source,
+  FieldKey,
+  FieldValue,
+  Unicode,
+  Keyword,
+  Other,
+  OtherWord,
+  Private,
+  PrivateWord,
+  Subdivision,
+  SubdivisionKey,
+  SubdivisionValue,
+}
 use Rattle.iloc_faults.specs.declared.state.Stage.{Stage}
 use Rattle.iloc_faults.specs.declared.state.Stage.TheVariants.{Language, Script, Region}
 use Rattle.iloc_faults.specs.Next.{is_seen, is_new, may_end, takes_any, next, word_next}
@@ -26,9 +50,8 @@ use Rattle.iloc_faults.specs.States.{reached}
 use Rattle.iloc_expected.specs.declared.kinds.PieceKind.{PieceKind}
 use Rattle.iloc_expected.specs.declared.kinds.PieceKind.TheVariants as kinds
 use Rattle.iloc_expected.specs.Kinds.{Place, kind_at, has}
-use Rattle.iloc_expected.specs.Readings.{IsReadAt, has_variant, may_have_variant, may_begin_block}
-use Rattle.iloc_expected.specs.Readings.{piece_bits}
-use Rattle.iloc_expected.proofs.Following.{other_apart}
+use Rattle.iloc_expected.specs.Readings.{IsReadAt, has_variant, may_have_variant, may_begin_block, piece_bits}
+use Rattle.iloc_expected.proofs.Following.{other_apart, in_head, outside}
 use Rattle.iloc_expected.proofs.Coming.{singleton_is}
 use Rattle.iloc_expected.proofs.NewVariants.{IsNewVariant}
 use Rattle.iloc_expected.proofs.SetBits.{none_has}
@@ -41,66 +64,47 @@ pub record HasPiece (mode : Mode) (part : Part) (vs : List Text) (seen : List �
   pub comes : is_some (next mode (reached part vs seen) piece) ≡ true
   pub is_kind : kind_at w piece ≡ kind
 
+sample : {mode : Mode} {part : Part} {vs : List Text} {seen : List ℕ} {w : Place} {kind : PieceKind} (p : Text) →
+    IsHyphenFree p → is_some (next mode (reached part vs seen) p) ≡ true → kind_at w p ≡ kind →
+    HasPiece mode part vs seen w kind
+sample p f c k = record { piece = p; free = f; comes = c; is_kind = k }
+
 -- ---- pieces of the other kinds
 
 pub plain_piece : (mode : Mode) (part : Part) (vs : List Text) (seen : List ℕ) (keyed : Bool) (w : Place)
     (kind : PieceKind) → IsReadAt part keyed w → has (record { bits = piece_bits part keyed }) kind ≡ true →
     HasPiece mode part vs seen w kind
 unfolding is_word languages is_true lower
-plain_piece mode Start vs seen keyed w kinds.Language at h =
-    record { piece = codes "abc"; free = refl; comes = refl; is_kind = rw at.0 refl }
-plain_piece mode (Head Language) vs seen keyed w kinds.Script at h =
-    record { piece = codes "abcd"; free = refl; comes = refl; is_kind = rw at.0 refl }
-plain_piece mode (Head Language) vs seen keyed w kinds.Region at h =
-    record { piece = codes "ab"; free = refl; comes = refl; is_kind = rw at.0 refl }
-plain_piece mode (Head Script) vs seen keyed w kinds.Region at h =
-    record { piece = codes "ab"; free = refl; comes = refl; is_kind = rw at.0 refl }
-plain_piece mode Transform vs seen keyed w kinds.Language at h =
-    record { piece = codes "abc"; free = refl; comes = refl; is_kind = rw at.0 refl }
-plain_piece mode Transform vs seen keyed w kinds.Field at h =
-    record { piece = codes "a0"; free = refl; comes = refl; is_kind = rw at.0 refl }
-plain_piece mode (Source Language) vs seen keyed w kinds.Script at h =
-    record { piece = codes "abcd"; free = refl; comes = refl; is_kind = rw (at.2, at.3) refl }
-plain_piece mode (Source Language) vs seen keyed w kinds.Region at h =
-    record { piece = codes "ab"; free = refl; comes = refl; is_kind = rw (at.2, at.3) refl }
-plain_piece mode (Source Script) vs seen keyed w kinds.Region at h =
-    record { piece = codes "ab"; free = refl; comes = refl; is_kind = rw (at.2, at.3) refl }
-plain_piece mode (Source stage) vs seen keyed w kinds.Field at h =
-    record { piece = codes "a0"; free = refl; comes = refl; is_kind = rw at.2 refl }
-plain_piece mode FieldKey vs seen keyed w kinds.FieldValue at h =
-    record { piece = codes "abc"; free = refl; comes = refl; is_kind = rw (at.2, at.3) refl }
-plain_piece mode FieldValue vs seen keyed w kinds.FieldValue at h =
-    record { piece = codes "abc"; free = refl; comes = refl; is_kind = rw (at.2, at.3) refl }
-plain_piece mode FieldValue vs seen keyed w kinds.Field at h =
-    record { piece = codes "a0"; free = refl; comes = refl; is_kind = rw at.2 refl }
-plain_piece mode Unicode vs seen keyed w kinds.Attribute at h =
-    record { piece = codes "abc"; free = refl; comes = refl; is_kind = rw at.0 refl }
-plain_piece mode Unicode vs seen keyed w kinds.Key at h =
-    record { piece = codes "ab"; free = refl; comes = refl; is_kind = rw at.0 refl }
-plain_piece mode Keyword vs seen true w kinds.Value at h =
-    record { piece = codes "abc"; free = refl; comes = refl; is_kind = rw (at.1, at.2) refl }
-plain_piece mode Keyword vs seen true w kinds.Key at h =
-    record { piece = codes "ab"; free = refl; comes = refl; is_kind = rw at.1 refl }
-plain_piece mode Keyword vs seen false w kinds.Attribute at h =
-    record { piece = codes "abc"; free = refl; comes = refl; is_kind = rw (at.1, at.2) refl }
-plain_piece mode Keyword vs seen false w kinds.Key at h =
-    record { piece = codes "ab"; free = refl; comes = refl; is_kind = rw at.1 refl }
+plain_piece mode Start vs seen keyed w kinds.Language at h = sample (codes "abc") refl refl (rw at.0 refl)
+plain_piece mode (Head Language) vs seen keyed w kinds.Script at h = sample (codes "abcd") refl refl (rw at.0 refl)
+plain_piece mode (Head Language) vs seen keyed w kinds.Region at h = sample (codes "ab") refl refl (rw at.0 refl)
+plain_piece mode (Head Script) vs seen keyed w kinds.Region at h = sample (codes "ab") refl refl (rw at.0 refl)
+plain_piece mode Transform vs seen keyed w kinds.Language at h = sample (codes "abc") refl refl (rw at.0 refl)
+plain_piece mode Transform vs seen keyed w kinds.Field at h = sample (codes "a0") refl refl (rw at.0 refl)
+plain_piece mode (Source Language) vs seen keyed w kinds.Script at h = sample (codes "abcd") refl refl (rw (at.2, at.3) refl)
+plain_piece mode (Source Language) vs seen keyed w kinds.Region at h = sample (codes "ab") refl refl (rw (at.2, at.3) refl)
+plain_piece mode (Source Script) vs seen keyed w kinds.Region at h = sample (codes "ab") refl refl (rw (at.2, at.3) refl)
+plain_piece mode (Source stage) vs seen keyed w kinds.Field at h = sample (codes "a0") refl refl (rw at.2 refl)
+plain_piece mode FieldKey vs seen keyed w kinds.FieldValue at h = sample (codes "abc") refl refl (rw (at.2, at.3) refl)
+plain_piece mode FieldValue vs seen keyed w kinds.FieldValue at h = sample (codes "abc") refl refl (rw (at.2, at.3) refl)
+plain_piece mode FieldValue vs seen keyed w kinds.Field at h = sample (codes "a0") refl refl (rw at.2 refl)
+plain_piece mode Unicode vs seen keyed w kinds.Attribute at h = sample (codes "abc") refl refl (rw at.0 refl)
+plain_piece mode Unicode vs seen keyed w kinds.Key at h = sample (codes "ab") refl refl (rw at.0 refl)
+plain_piece mode Keyword vs seen true w kinds.Value at h = sample (codes "abc") refl refl (rw (at.1, at.2) refl)
+plain_piece mode Keyword vs seen true w kinds.Key at h = sample (codes "ab") refl refl (rw at.1 refl)
+plain_piece mode Keyword vs seen false w kinds.Attribute at h = sample (codes "abc") refl refl (rw (at.1, at.2) refl)
+plain_piece mode Keyword vs seen false w kinds.Key at h = sample (codes "ab") refl refl (rw at.1 refl)
 plain_piece mode Other vs seen keyed w kinds.Other at h =
     let n = other_apart at.0 at.3 in
-    record { piece = codes "abc"; free = refl; comes = refl; is_kind = rw (at.2, n.2, n.0, n.1) refl }
+    sample (codes "abc") refl refl (rw (at.2, n.2, n.0, n.1) refl)
 plain_piece mode OtherWord vs seen keyed w kinds.Other at h =
     let n = other_apart at.0 at.3 in
-    record { piece = codes "abc"; free = refl; comes = refl; is_kind = rw (at.2, n.2, n.0, n.1) refl }
-plain_piece mode Private vs seen keyed w kinds.Private at h =
-    record { piece = codes "abc"; free = refl; comes = refl; is_kind = rw at.1 refl }
-plain_piece mode PrivateWord vs seen keyed w kinds.Private at h =
-    record { piece = codes "abc"; free = refl; comes = refl; is_kind = rw at.1 refl }
-plain_piece mode Subdivision vs seen keyed w kinds.Key at h =
-    record { piece = codes "sd"; free = refl; comes = refl; is_kind = rw at.0 refl }
-plain_piece mode SubdivisionKey vs seen keyed w kinds.Value at h =
-    record { piece = codes "abc"; free = refl; comes = refl; is_kind = rw (at.1, at.2) refl }
-plain_piece mode SubdivisionValue vs seen keyed w kinds.Value at h =
-    record { piece = codes "true"; free = refl; comes = refl; is_kind = rw (at.1, at.2) refl }
+    sample (codes "abc") refl refl (rw (at.2, n.2, n.0, n.1) refl)
+plain_piece mode Private vs seen keyed w kinds.Private at h = sample (codes "abc") refl refl (rw at.1 refl)
+plain_piece mode PrivateWord vs seen keyed w kinds.Private at h = sample (codes "abc") refl refl (rw at.1 refl)
+plain_piece mode Subdivision vs seen keyed w kinds.Key at h = sample (codes "sd") refl refl (rw at.0 refl)
+plain_piece mode SubdivisionKey vs seen keyed w kinds.Value at h = sample (codes "abc") refl refl (rw (at.1, at.2) refl)
+plain_piece mode SubdivisionValue vs seen keyed w kinds.Value at h = sample (codes "true") refl refl (rw (at.1, at.2) refl)
 plain_piece mode (Head Region) vs seen keyed w kind at h = absurd (true≢false (sym h ∙ none_has kind))
 plain_piece mode _ vs seen keyed w kind at h = absurd (true≢false (sym h))
 
@@ -200,12 +204,12 @@ singleton_piece Locale part vs seen keyed left w at l h =
       piece = c.0 ∷ [];
       free = no_hyphen c.0 c.1.letter;
       comes = begins_comes part vs seen c.0 none a.0 c.1.letter c.1.new;
-      is_kind = singleton_is part keyed w (c.0 ∷ []) at refl none;
+      is_kind = singleton_is (outside part keyed w at none) (c.0 ∷ []) refl;
     }
 singleton_piece Data (Head stage) vs seen keyed left w at l h = record {
   piece = codes "u";
   free = refl;
   comes = refl;
-  is_kind = singleton_is (Head stage) keyed w (codes "u") at refl refl;
+  is_kind = singleton_is (in_head at.0) (codes "u") refl;
 }
 singleton_piece Data _ vs seen keyed left w at l h = absurd (true≢false (sym h))

@@ -1,6 +1,5 @@
 -- The bits of a set of kinds, and the kinds in it from a number on.
-use Rattle.std.proofs.Common.{◌≡◌, inl, inr, ℕ, ◌+◌, ◌*◌, ◌%◌, ◌<◌, ◌^◌, Bool, true, false, ◌&&◌, ◌||◌}
-use Rattle.std.proofs.Common.{◌==◌}
+use Rattle.std.proofs.Common.{◌≡◌, inl, inr, ℕ, ◌+◌, ◌*◌, ◌%◌, ◌<◌, ◌^◌, Bool, true, false, ◌&&◌, ◌||◌, ◌==◌}
 use Rattle.std.proofs.Common.{◌∷◌, drop, filter, refl, sym, ap, ap₂, ◌∙◌, subst, arith, ◌++◌}
 use Rattle.std.specs.Int.{bit_at}
 use lib.Bits.{bit_or}
@@ -10,9 +9,15 @@ use Rattle.iloc_expected.specs.declared.kinds.Expected.{Expected}
 use Rattle.iloc_expected.specs.declared.kinds.PieceKind.{PieceKind}
 use Rattle.iloc_expected.specs.declared.kinds.PieceKind.TheVariants as kinds
 use Rattle.iloc_expected.specs.Kinds.{has, kind_bit}
-use Rattle.iloc_expected.specs.Words.{piece_kinds, named_from, before_next, after_first, kind_words}
-use Rattle.iloc_expected.specs.Words.{words_of}
-use Rattle.iloc_expected.specs.Words.{words_of_kinds}
+use Rattle.iloc_expected.specs.Words.{
+  piece_kinds,
+  named_from,
+  before_next,
+  after_first,
+  kind_words,
+  words_of,
+  words_of_kinds,
+}
 use Rattle.iloc_spec_grammar.specs.Syntax.{Text}
 
 -- with the bit of n it is set too
@@ -36,18 +41,7 @@ with_bit bits n m = elim (cases_eq n m) [
 -- the bit of a kind fits
 fits : (k : PieceKind) → 1 * 2 ^ kind_bit k % 65536 ≡ 2 ^ kind_bit k
 fits kinds.Language = refl
-fits kinds.Script = refl
-fits kinds.Region = refl
-fits kinds.Variant = refl
-fits kinds.Singleton = refl
-fits kinds.Attribute = refl
-fits kinds.Key = refl
-fits kinds.Value = refl
-fits kinds.Field = refl
-fits kinds.Other = refl
-fits kinds.Private = refl
-fits kinds.FieldValue = refl
-fits kinds.End = refl
+fits _ = refl
 
 pub with_kind : (bits : ℕ) (k other : PieceKind) (n : ℕ) (holds : Bool) → n ≡ kind_bit k → holds ≡ true →
     has (record { bits = bit_or bits (1 * 2 ^ n % 65536) }) other
@@ -63,19 +57,8 @@ with_kind bits k other n holds e h =
 -- the kinds from that of a piece on
 drop_kind : (k : PieceKind) → kind_bit k < 12 →
     drop (kind_bit k) piece_kinds ≡ k ∷ drop (kind_bit k + 1) piece_kinds
-drop_kind kinds.Language h = refl
-drop_kind kinds.Script h = refl
-drop_kind kinds.Region h = refl
-drop_kind kinds.Variant h = refl
-drop_kind kinds.Singleton h = refl
-drop_kind kinds.Attribute h = refl
-drop_kind kinds.Key h = refl
-drop_kind kinds.Value h = refl
-drop_kind kinds.Field h = refl
-drop_kind kinds.Other h = refl
-drop_kind kinds.Private h = refl
-drop_kind kinds.FieldValue h = refl
 drop_kind kinds.End h = absurd (omega arith)
+drop_kind _ h = refl
 
 pub named_in : (set : Expected) (k : PieceKind) (n : ℕ) → kind_bit k ≡ n → n < 12 → has set k ≡ true →
     named_from set n ≡ k ∷ named_from set (n + 1)

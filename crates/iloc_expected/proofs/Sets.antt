@@ -1,9 +1,7 @@
 -- The kinds that may come after what was read are those that may stand there.
-use Rattle.std.proofs.Common.{◌≡◌, ◌≢◌, ◌↔◌, ℕ, ◌<◌, ◌^◌, Bool, true, false, not, ◌&&◌, ◌||◌, ◌==◌, List}
-use Rattle.std.proofs.Common.{[]}
+use Rattle.std.proofs.Common.{◌≡◌, ◌≢◌, ◌↔◌, ℕ, ◌<◌, ◌^◌, Bool, true, false, not, ◌&&◌, ◌||◌, ◌==◌, List, []}
 use Rattle.std.proofs.Common.{◌∷◌, ◌++◌, length, Option, Some, None, is_some, is_none, refl, sym, ap, ap₂}
-use Rattle.std.proofs.Common.{◌∙◌, subst}
-use Rattle.std.proofs.Common.{true≢false, append-nil, arith}
+use Rattle.std.proofs.Common.{◌∙◌, subst, true≢false, append-nil, arith}
 use Rattle.std.specs.List.{AllByRecursion}
 use Rattle.std.specs.Int.{bit_at}
 use Rattle.iloc_spec_grammar.specs.Syntax.{Text, pieces, join, IsHyphenFree}
@@ -11,8 +9,8 @@ use Rattle.iloc_spec_grammar.proofs.PiecesLaws.{pieces-join}
 use Rattle.iloc_spec_grammar.proofs.ReadBack.{all_append}
 use Rattle.iloc_normalize.specs.declared.Mode.{Mode}
 use Rattle.iloc_faults.specs.declared.state.Part.{Part}
-use Rattle.iloc_faults.specs.declared.state.Part.TheVariants.{Start, Head, Transform, Source, Keyword}
-use Rattle.iloc_faults.specs.declared.state.Stage.TheVariants.{Language, Script, Region}
+use Rattle.iloc_faults.specs.declared.state.Part.TheVariants.{Head, Source, Keyword}
+use Rattle.iloc_faults.specs.declared.state.Stage.TheVariants.{Language}
 use Rattle.iloc_faults.specs.Next.{Reached, started, may_end, next, outcome, run}
 use Rattle.iloc_faults.specs.States.{reached}
 use Rattle.iloc_faults.specs.Places.{GoOn}
@@ -30,29 +28,31 @@ use Rattle.iloc_expected.specs.Readings.{IsReading, may_begin_block, may_have_va
 use Rattle.iloc_expected.proofs.Coming.{IsLeft, AreNone, next_may}
 use Rattle.iloc_expected.proofs.NewVariants.{new_variant}
 use Rattle.iloc_expected.proofs.Singles.{has_left, is_left}
-use Rattle.iloc_expected.proofs.Samples.{HasPiece, AreSome, HasLeft, plain_piece, variant_piece}
-use Rattle.iloc_expected.proofs.Samples.{singleton_piece}
+use Rattle.iloc_expected.proofs.Samples.{
+  HasPiece,
+  AreSome,
+  HasLeft,
+  plain_piece,
+  variant_piece,
+  singleton_piece,
+}
 
 -- ---- the bits of a set
 
 -- the bits of pieces have none of these kinds
-record HasOthers (part : Part) (keyed : Bool) : Type 0 where
-  variant : has (record { bits = piece_bits part keyed }) kinds.Variant ≡ false
-  singleton : has (record { bits = piece_bits part keyed }) kinds.Singleton ≡ false
-  end : has (record { bits = piece_bits part keyed }) kinds.End ≡ false
+abbrev HasOthers : Part → Bool → Type 0
+HasOthers part keyed = (has (record { bits = piece_bits part keyed }) kinds.Variant ≡ false)
+    × (has (record { bits = piece_bits part keyed }) kinds.Singleton ≡ false)
+    × (has (record { bits = piece_bits part keyed }) kinds.End ≡ false)
 
 others : (part : Part) (keyed : Bool) → HasOthers part keyed
-others Start keyed = record { variant = refl; singleton = refl; end = refl }
-others (Head Language) keyed = record { variant = refl; singleton = refl; end = refl }
-others (Head Script) keyed = record { variant = refl; singleton = refl; end = refl }
-others (Head Region) keyed = record { variant = refl; singleton = refl; end = refl }
-others Transform keyed = record { variant = refl; singleton = refl; end = refl }
-others (Source Language) keyed = record { variant = refl; singleton = refl; end = refl }
-others (Source Script) keyed = record { variant = refl; singleton = refl; end = refl }
-others (Source Region) keyed = record { variant = refl; singleton = refl; end = refl }
-others Keyword true = record { variant = refl; singleton = refl; end = refl }
-others Keyword false = record { variant = refl; singleton = refl; end = refl }
-others _ keyed = record { variant = refl; singleton = refl; end = refl }
+others (Head Language) keyed = (refl, refl, refl)
+others (Head _) keyed = (refl, refl, refl)
+others (Source Language) keyed = (refl, refl, refl)
+others (Source _) keyed = (refl, refl, refl)
+others Keyword true = (refl, refl, refl)
+others Keyword false = (refl, refl, refl)
+others _ keyed = (refl, refl, refl)
 
 or_none : (a b : Bool) → b ≡ false → (a || b) ≡ a
 or_none true b e = refl
@@ -68,11 +68,11 @@ pub with_all : (part : Part) (keyed : Bool) (mode : Mode) (none left : Bool) (wo
     ((k : PieceKind) → has set k ≡ (((kind_bit kinds.End == kind_bit k) && may_end part) || has all k))
     → (k : PieceKind) → has set k ≡ may_come mode part keyed none left k
 with_all part keyed mode none left words all set f g h kinds.Variant = h kinds.Variant ∙ g kinds.Variant
-    ∙ f kinds.Variant ∙ or_none _ _ (HasOthers.variant (others part keyed))
+    ∙ f kinds.Variant ∙ or_none _ _ ((others part keyed).0)
 with_all part keyed mode none left words all set f g h kinds.Singleton = h kinds.Singleton ∙ g kinds.Singleton
-    ∙ or_none _ _ (f kinds.Singleton ∙ HasOthers.singleton (others part keyed))
+    ∙ or_none _ _ (f kinds.Singleton ∙ (others part keyed).1)
 with_all part keyed mode none left words all set f g h kinds.End = h kinds.End
-    ∙ or_none _ _ (g kinds.End ∙ f kinds.End ∙ HasOthers.end (others part keyed))
+    ∙ or_none _ _ (g kinds.End ∙ f kinds.End ∙ (others part keyed).2)
 with_all part keyed mode none left words all set f g h k = h k ∙ g k ∙ f k
 
 -- the same by what the functions gave

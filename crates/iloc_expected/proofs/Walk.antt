@@ -1,13 +1,20 @@
 -- What the reader of the pieces before a place says.
-use Rattle.std.proofs.Common.{◌≡◌, ◌≢◌, ◌↔◌, ℕ, suc, ◌+◌, ◌≤◌, Bool, false, List, [], ◌∷◌}
-use Rattle.std.proofs.Common.{◌&&◌, ◌++◌, length, min, take_all, take, Option, Some, None, option_map}
-use Rattle.std.proofs.Common.{refl, sym, ap, ◌∙◌, subst}
+use Rattle.std.proofs.Common.{◌≡◌, ◌≢◌, ◌↔◌, ℕ, suc, ◌+◌, ◌≤◌, Bool, false, List, [], ◌∷◌, ◌&&◌, ◌++◌, length}
+use Rattle.std.proofs.Common.{min, take_all, take, Option, Some, None, option_map, refl, sym, ap, ◌∙◌, subst}
 use Rattle.std.proofs.Common.{append-nil, append_assoc, length-append, arith, inl, inr}
 use Rattle.std.specs.List.{AllByRecursion}
-use Rattle.std.proofs.lemmas.Bool.{cases_Bool, cases_lt}
-use Rattle.iloc_spec_grammar.specs.Syntax.{Text, Variant, pieces, join, dashes, lower, is_word}
-use Rattle.iloc_spec_grammar.specs.Syntax.{IsHyphenFree}
-use Rattle.iloc_spec_grammar.specs.Syntax.{TransformKey}
+use Rattle.std.proofs.lemmas.Bool.{cases_lt}
+use Rattle.iloc_spec_grammar.specs.Syntax.{
+  Text,
+  Variant,
+  pieces,
+  join,
+  dashes,
+  lower,
+  is_word,
+  IsHyphenFree,
+  TransformKey,
+}
 use Rattle.iloc_spec_grammar.specs.Syntax as grammar
 use Rattle.iloc_spec_grammar.proofs.PiecesLaws.{pieces_hyphen_free, join-pieces, at_pieces}
 use Rattle.iloc_pieces.proofs.CursorLemmas.{dashed, length_piece, length_rest}
@@ -19,8 +26,20 @@ use Rattle.iloc_faults.specs.declared.state.Part.{Part}
 use Rattle.iloc_faults.specs.declared.state.Part.TheVariants.{Start, Head, Transform, Source, FieldKey}
 use Rattle.iloc_faults.specs.declared.state.Stage.{Stage}
 use Rattle.iloc_faults.specs.declared.state.Stage.TheVariants.{Language, Script, Region}
-use Rattle.iloc_faults.specs.Next.{Reached, started, plain, is_new, begins_block, block_next, inside_next, run}
-use Rattle.iloc_faults.specs.Next.{word_next, after_script_next, after_region_next, next}
+use Rattle.iloc_faults.specs.Next.{
+  Reached,
+  started,
+  plain,
+  is_new,
+  begins_block,
+  block_next,
+  inside_next,
+  word_next,
+  after_script_next,
+  after_region_next,
+  next,
+  run,
+}
 use Rattle.iloc_faults.specs.States.{AreVariantsRead, reached}
 use Rattle.iloc_faults.specs.Places.{GoOn}
 use Rattle.iloc_faults.proofs.Going.{run_append, goes_no_longer}
@@ -31,10 +50,17 @@ use Rattle.iloc_faults.proofs.OnePlace.{fewer}
 use Rattle.iloc_expected.specs.declared.reading.Reading.{Reading}
 use Rattle.iloc_expected.specs.Kinds.{Place, place_after}
 use Rattle.iloc_expected.specs.Standing.{without_empty}
-use Rattle.iloc_expected.specs.Readings.{IsReadAt, IsReading, IsPieceTaken, IsReadUpTo, IsReadOn}
-use Rattle.iloc_expected.specs.Readings.{IsStopped, keyed_after}
+use Rattle.iloc_expected.specs.Readings.{
+  IsReadAt,
+  IsReading,
+  IsPieceTaken,
+  IsReadUpTo,
+  IsReadOn,
+  IsStopped,
+  keyed_after,
+}
 use Rattle.iloc_expected.proofs.Places.{place_of_more}
-use Rattle.iloc_expected.proofs.Following.{of_if, next_made}
+use Rattle.iloc_expected.proofs.Following.{of_if, by_test, next_made}
 
 -- ---- a piece adds one variant at most
 
@@ -52,25 +78,20 @@ none_more vs ws e = omega (arith, ap length e)
 
 module _ (mode : Mode) (vs : List Text) (p : Text) (x : Stage × List Text) where
   variant_more : after_region_next mode vs p ≡ Some x → MoreBy vs x.1
-  variant_more e = elim (cases_Bool (is_word Variant p && is_new mode vs (lower p))) [
-    | inl b ↦ let f : Some (Region, vs ++ (lower p ∷ [])) ≡ Some x = rw b at e in
-        let g : vs ++ (lower p ∷ []) ≡ x.1 = cc in omega (arith, ap length g, length-append vs (lower p ∷ []))
-    | inr b ↦ let f : None ≡ Some x = rw b at e in cc
-  ]
+  variant_more e = by_test (is_word Variant p && is_new mode vs (lower p)) e
+      (λ b f. let g : vs ++ (lower p ∷ []) ≡ x.1 = cc in
+      omega (arith, ap length g, length-append vs (lower p ∷ [])))
+      (λ b f. cc)
+
+  no_more_words : (stage : Stage) → Some (stage, vs) ≡ Some x → MoreBy vs x.1
+  no_more_words stage f = let g : vs ≡ x.1 = cc in omega (arith, ap length g)
 
   region_more : after_script_next mode vs p ≡ Some x → MoreBy vs x.1
-  region_more e = elim (cases_Bool (is_word grammar.Region p)) [
-    | inl b ↦ let f : Some (Region, vs) ≡ Some x = rw b at e in
-        let g : vs ≡ x.1 = cc in omega (arith, ap length g)
-    | inr b ↦ variant_more (rw b at e)
-  ]
+  region_more e = by_test (is_word grammar.Region p) e (λ b f. no_more_words Region f) (λ b f. variant_more f)
 
   word_more : (stage : Stage) → word_next mode stage vs p ≡ Some x → MoreBy vs x.1
-  word_more Language e = elim (cases_Bool (is_word grammar.Script p)) [
-    | inl b ↦ let f : Some (Script, vs) ≡ Some x = rw b at e in
-        let g : vs ≡ x.1 = cc in omega (arith, ap length g)
-    | inr b ↦ region_more (rw b at e)
-  ]
+  word_more Language e =
+      by_test (is_word grammar.Script p) e (λ b f. no_more_words Script f) (λ b f. region_more f)
   word_more Script e = region_more e
   word_more Region e = variant_more e
 
@@ -99,26 +120,19 @@ block_more Data _ vs seen c r e = cc
 inside_more : (mode : Mode) (part : Part) (vs : List Text) (seen : List ℕ) (p : Text) (r : Reached) →
     inside_next mode part vs seen p ≡ Some r → MoreBy vs r.variants
 inside_more mode (Head stage) vs seen p r e = more_words Head mode stage vs p seen r e
-inside_more mode (Source stage) vs seen p r e = elim (cases_Bool (is_word TransformKey p)) [
-  | inl k ↦ let f : Some (plain seen FieldKey) ≡ Some r = rw k at e in
-      let same : plain seen FieldKey ≡ r = cc in
-      none_more vs r.variants (ap (λ (x : Reached). x.variants) (sym same))
-  | inr k ↦ more_words Source mode stage vs p seen r (rw k at e)
-]
-inside_more mode Transform vs seen p r e = elim (cases_Bool (is_word TransformKey p)) [
-  | inl k ↦ let f : Some (plain seen FieldKey) ≡ Some r = rw k at e in
-      let same : plain seen FieldKey ≡ r = cc in
-      none_more vs r.variants (ap (λ (x : Reached). x.variants) (sym same))
-  | inr k ↦ none_more vs r.variants (of_bare _ seen r (rw k at e))
-]
+inside_more mode (Source stage) vs seen p r e = by_test (is_word TransformKey p) e
+    (λ k f. none_more vs r.variants (of_bare (Some FieldKey) seen r f))
+    (λ k f. more_words Source mode stage vs p seen r f)
+inside_more mode Transform vs seen p r e = by_test (is_word TransformKey p) e
+    (λ k f. none_more vs r.variants (of_bare (Some FieldKey) seen r f))
+    (λ k f. none_more vs r.variants (of_bare _ seen r f))
 inside_more mode _ vs seen p r e = none_more vs r.variants (of_bare _ seen r e)
 
 next_more : (mode : Mode) (part : Part) (vs : List Text) (seen : List ℕ) (p : Text) (r : Reached) →
     next mode (reached part vs seen) p ≡ Some r → MoreBy vs r.variants
-next_more mode part vs seen p r e = elim (cases_Bool (begins_block part p)) [
-  | inl b ↦ block_more mode part vs seen _ r (rw b at e)
-  | inr b ↦ inside_more mode part vs seen p r (rw b at e)
-]
+next_more mode part vs seen p r e =
+    by_test (begins_block part p) e (λ b f. block_more mode part vs seen _ r f)
+    (λ b f. inside_more mode part vs seen p r f)
 
 -- ---- the walk
 

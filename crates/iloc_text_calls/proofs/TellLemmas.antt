@@ -1,5 +1,5 @@
 -- What is handed out of a normal text is a part of what the text means.
-use Rattle.std.proofs.Common.{◌≡◌, ℕ, refl, sym, ◌∙◌, Option, Some, None, inl, inr}
+use Rattle.std.proofs.Common.{◌≡◌, ℕ, refl, sym, ◌∙◌, Option, Some, None, inl, inr, take, subst}
 use Rattle.iloc_spec_grammar.specs.Syntax.{Text, Identifier, languages, pieces}
 use Rattle.iloc_spec_grammar.specs.Meaning as meaning
 use Rattle.iloc_spec_grammar.specs.Meaning.{IdentifierMeans, Means, without_extensions}
@@ -9,28 +9,36 @@ use Rattle.iloc_spec_grammar.proofs.IdentifierTexts.{identifier_means_value}
 use Rattle.iloc_spec_grammar.proofs.RawLaws.{languages_table}
 use Rattle.iloc_spec_grammar.proofs.SameText.{well_formed_is}
 use Rattle.iloc_spec_parts.specs.DataLocales.{locale_of_data}
-use Rattle.iloc_spec_parts.proofs.DataLaws.{locale_of_data_is_value, locale_of_data_is_well_formed}
-use Rattle.iloc_spec_parts.proofs.DataLaws.{read_is_data_locale, text_of_data}
-use Rattle.iloc_normalize.specs.Modes.{IsNormalText}
+use Rattle.iloc_spec_parts.proofs.DataLaws.{
+  locale_of_data_is_value,
+  locale_of_data_is_well_formed,
+  read_is_data_locale,
+  text_of_data,
+}
+use Rattle.iloc_normalize.specs.Modes.{IsNormalText, IsFaulty}
 use Rattle.iloc_normalize.specs.declared.Mode.{Mode}
 use Rattle.iloc_normalize.specs.declared.Mode.TheVariants.{Langid, Locale, Data}
-use Rattle.iloc_normalize.proofs.PlainAnswers.{text_alone}
+use Rattle.iloc_normalize.proofs.PlainAnswers.{text_alone, plain_normal}
 use Rattle.iloc_calls.specs.Answers.{MeansLocale, Tells}
 use Rattle.iloc_calls.specs.declared.status.Status.{Status}
-use Rattle.iloc_calls.specs.declared.status.Status.TheVariants.{Done, BufferTooSmall, NotFound, OutOfMemory}
-use Rattle.iloc_calls.specs.declared.status.Status.TheVariants.{InvalidLanguage, InvalidSubtag}
-use Rattle.iloc_calls.specs.declared.status.Status.TheVariants.{InvalidExtension, DuplicatedExtension}
-use Rattle.iloc_calls.specs.declared.status.Status.TheVariants.{UnknownNumber}
+use Rattle.iloc_calls.specs.declared.status.Status.TheVariants.{
+  Done,
+  BufferTooSmall,
+  NotFound,
+  OutOfMemory,
+  InvalidLanguage,
+  InvalidSubtag,
+  InvalidExtension,
+  DuplicatedExtension,
+  UnknownNumber,
+}
 use Rattle.iloc_text_parts.specs.declared.Part.{Part}
 use Rattle.iloc_text_parts.specs.Parts.{IsPart}
 use Rattle.std.specs.Prelude.{⊤, Err}
-use Rattle.std.proofs.Common.{take, subst}
 use Rattle.iloc_subtags.specs.Judging.{Refusal, RunsOutOnlyIf}
 use Rattle.iloc_locale.specs.LocaleReading.{NormalizingWantsMemory}
 use Rattle.iloc_subtags.specs.declared.parse_error.ParseError.{ParseError}
 use Rattle.iloc_subtags.specs.declared.parse_error.ParseError.TheVariants as refusals
-use Rattle.iloc_normalize.specs.Modes.{IsFaulty}
-use Rattle.iloc_normalize.proofs.PlainAnswers.{plain_normal}
 use Rattle.iloc_pieces.specs.Plain.{IsPlain}
 use Rattle.iloc_pieces.specs.declared.plain.Plain.{Plain}
 use Rattle.iloc_calls.specs.Numbers.{status_of}

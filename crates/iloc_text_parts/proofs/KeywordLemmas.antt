@@ -8,33 +8,87 @@ use Rattle.std.specs.Str.{bytes_eq}
 use Rattle.std.proofs.lemmas.Bool.{false_from_ne_true}
 use Rattle.std.proofs.lemmas.Bool.Decides.{nat_tests}
 use Rattle.std.proofs.lemmas.Slice.Eq.{bytes_eq-Decides}
-use Rattle.iloc_spec_grammar.specs.Syntax.{Text, Block, Fields, Field, Identifier, Transform, Attribute, IsWord}
-use Rattle.iloc_spec_grammar.specs.Syntax.{Subtag, TransformKey, UnicodeKey, Variant}
-use Rattle.iloc_spec_grammar.specs.Syntax.{dashes, fields_pieces, identifier_pieces, is_other_singleton, is_same}
-use Rattle.iloc_spec_grammar.specs.Syntax.{is_word, join, languages, lower, normal, optional_pieces, read}
-use Rattle.iloc_spec_grammar.specs.Syntax.{unicode_pieces, word, word_cmp, is_true, IsHyphenFree}
+use Rattle.iloc_spec_grammar.specs.Syntax.{
+  Text,
+  Block,
+  Fields,
+  Field,
+  Identifier,
+  Transform,
+  Attribute,
+  IsWord,
+  Subtag,
+  TransformKey,
+  UnicodeKey,
+  Variant,
+  dashes,
+  fields_pieces,
+  identifier_pieces,
+  is_other_singleton,
+  is_same,
+  is_word,
+  join,
+  languages,
+  lower,
+  normal,
+  optional_pieces,
+  read,
+  unicode_pieces,
+  word,
+  word_cmp,
+  is_true,
+  IsHyphenFree,
+}
 use Rattle.std.specs.Char.{to_ascii_lowercase}
 use Rattle.std.specs.Prelude.{nat_le}
 use Rattle.iloc_spec_grammar.specs.Meaning.{Locale}
 use Rattle.iloc_spec_grammar.specs.Reading.{passing}
 use Rattle.iloc_spec_grammar.specs.Tree.{before_t, after_t}
-use Rattle.iloc_spec_grammar.specs.Values.{IsIdentifierValue, IsNormal, IsTransformValue, IsWellFormed}
-use Rattle.iloc_spec_grammar.specs.Values.{extensions_spelling, other_spelling, printed_pieces, private_spelling}
-use Rattle.iloc_spec_grammar.specs.Values.{spelled_fields, spelled_value, transform_spelling, unicode_spelling}
+use Rattle.iloc_spec_grammar.specs.Values.{
+  IsIdentifierValue,
+  IsNormal,
+  IsTransformValue,
+  IsWellFormed,
+  extensions_spelling,
+  other_spelling,
+  printed_pieces,
+  private_spelling,
+  spelled_fields,
+  spelled_value,
+  transform_spelling,
+  unicode_spelling,
+}
 use Rattle.iloc_spec_grammar.proofs.General.{all_mapped}
 use Rattle.iloc_spec_grammar.proofs.MapLaws.{same_is, same_itself}
 use Rattle.iloc_spec_grammar.proofs.PartTexts.{spelling_of_parts, join-dashes}
 use Rattle.iloc_spec_grammar.proofs.RawLaws.{languages_table}
 use Rattle.iloc_spec_grammar.proofs.ReadBack.{all_append}
 use Rattle.iloc_spec_grammar.proofs.ValuesLaws.{all_both, all_weaker, spelled_rule}
-use Rattle.iloc_spec_grammar.proofs.WordsLaws.{length-attribute, length-language, length-lower, length-region}
-use Rattle.iloc_spec_grammar.proofs.WordsLaws.{length-script, length-transform_key, length-unicode_key}
-use Rattle.iloc_spec_grammar.proofs.WordsLaws.{length-variant, length-normal}
+use Rattle.iloc_spec_grammar.proofs.WordsLaws.{
+  length-attribute,
+  length-language,
+  length-lower,
+  length-region,
+  length-script,
+  length-transform_key,
+  length-unicode_key,
+  length-variant,
+  length-normal,
+}
 use Rattle.iloc_text_parts.specs.Cuts.{after_key, after_u}
 use Rattle.iloc_text_parts.specs.Parts.{keyword_text}
 use Rattle.iloc_text_parts.specs.Tails.{is_longer, tail_pieces}
-use Rattle.iloc_text_parts.proofs.CutLemmas.{Begins, Stops, begins_behind, hyphen_free, is_longer_than, is_tested}
-use Rattle.iloc_text_parts.proofs.CutLemmas.{is_value, not_longer, split_passing}
+use Rattle.iloc_text_parts.proofs.CutLemmas.{
+  Begins,
+  Stops,
+  begins_behind,
+  hyphen_free,
+  is_longer_than,
+  is_tested,
+  is_value,
+  not_longer,
+  split_passing,
+}
 use Rattle.iloc_text_parts.proofs.TailLemmas.{tail_pieces-dashes}
 
 -- pieces that are passed over on the way to `u`
@@ -69,18 +123,22 @@ printed_passed : (c : ℕ) (ps : List Text) → IsPassed (c ∷ []) → AllByRec
 printed_passed c [] h g = tt
 printed_passed c (p ∷ ps) h g = (h, g)
 
+abbrev IsTested : Block → Type 0
+IsTested (c, _) = (is_other_singleton c ≡ true) × (to_ascii_lowercase c ≡ c)
+
+abbrev AreSubtags : Block → Type 0
+AreSubtags (_, ws) = AllByRecursion (IsNormal Subtag) ws
+
 -- words of two bytes and more
 
-long_subtag : (p : Text) → IsWord Subtag p → IsLong p
+pub long_subtag : (p : Text) → IsWord Subtag p → 2 ≤ length p
 unfolding is_word
 long_subtag p h = grind (arith, nat_tests)
 
 normal_long : (ws : List Text) → AllByRecursion (IsNormal Subtag) ws → AllByRecursion IsLong ws
 normal_long = all_weaker (IsNormal Subtag) IsLong (λ p h. long_subtag p h.0)
 
-others_passed : (os : List Block)
-    → AllByRecursion (λ (c, _). (is_other_singleton c ≡ true) × (to_ascii_lowercase c ≡ c)) os
-    → AllByRecursion (λ (_, ws). AllByRecursion (IsNormal Subtag) ws) os
+others_passed : (os : List Block) → AllByRecursion IsTested os → AllByRecursion AreSubtags os
     → AllByRecursion IsPassed (flat_map other_spelling os)
 unfolding other_spelling
 others_passed [] h g = tt
@@ -90,23 +148,19 @@ others_passed (o ∷ os) h g =
     (all_weaker IsLong IsPassed long_passed o.1 (normal_long o.1 g.0)))
     (others_passed os h.1 g.1)
 
-long_option : (o : Option Text) → IfSome o IsLong → AllByRecursion IsLong (option_to_list o)
-long_option None h = tt
-long_option (Some p) h = (h, tt)
-
-some_long : {P : Text → Type 0} → ((p : Text) → P p → IsLong p) → (o : Option Text) → IfSome o P
-    → IfSome o IsLong
-some_long f None h = tt
-some_long f (Some p) h = f p h
+pub each_option : {P Q : Text → Type 0} → ((p : Text) → P p → Q p) → (o : Option Text) → IfSome o P
+    → AllByRecursion Q (option_to_list o)
+each_option f None h = tt
+each_option f (Some p) h = (f p h, tt)
 
 long_identifier : (i : Identifier) → IsIdentifierValue languages i
     → AllByRecursion IsLong (identifier_pieces i)
 long_identifier i v = (
   languages_table.least (length i.language) (length-language languages i.language v.language.0),
   all_append IsLong (option_to_list i.script) _
-      (long_option i.script (some_long (λ p h. let n = length-script p h.0 in omega arith) i.script v.script))
+      (each_option (λ p h. let n = length-script p h.0 in omega arith) i.script v.script)
       (all_append IsLong (option_to_list i.region) _
-      (long_option i.region (some_long (λ p h. (length-region p h.0).0) i.region v.region))
+      (each_option (λ p h. (length-region p h.0).0) i.region v.region)
       (all_weaker (IsNormal Variant) IsLong (λ p h. let n = length-variant p h.0 in omega arith) i.variants
       v.variants)),
 )
@@ -154,13 +208,13 @@ transform_passed m v =
     (long_optional m.id v.id) (long_fields (spelled_fields m.fields) (spelled_long m.fields v.fields))))
 
 -- what holds of all holds of those before `t`, and of those after
-all_before : (P : Block → Type 0) (os : List Block) → AllByRecursion P os → AllByRecursion P (before_t os)
+pub all_before : (P : Block → Type 0) (os : List Block) → AllByRecursion P os → AllByRecursion P (before_t os)
 all_before P [] h = tt
 all_before P (o ∷ os) h =
     elim (nat_le o.0 116) as (λ b. AllByRecursion P (cond b (o ∷ before_t os) []))
     [ true ↦ (h.0, all_before P os h.1) | false ↦ tt ]
 
-all_after : (P : Block → Type 0) (os : List Block) → AllByRecursion P os → AllByRecursion P (after_t os)
+pub all_after : (P : Block → Type 0) (os : List Block) → AllByRecursion P os → AllByRecursion P (after_t os)
 all_after P [] h = tt
 all_after P (o ∷ os) h =
     elim (nat_le o.0 116) as (λ b. AllByRecursion P (cond b (after_t os) (o ∷ os)))
@@ -178,23 +232,18 @@ at_x [] = refl
 at_x (w ∷ ws) = refl
 
 module _ (M : Locale) (w : IsWellFormed M) where
-  singles : AllByRecursion (λ (c, _). (is_other_singleton c ≡ true) × (to_ascii_lowercase c ≡ c))
-      M.extensions.others
-  singles = (is_tested M w).singletons
-
-  subtags : AllByRecursion (λ (_, ws). AllByRecursion (IsNormal Subtag) ws) M.extensions.others
-  subtags = (is_value M w).extensions.others
+  passed : (cut : List Block → List Block)
+      → ((P : Block → Type 0) (os : List Block) → AllByRecursion P os → AllByRecursion P (cut os)) →
+      (ys : List Text) → after_u (flat_map other_spelling (cut M.extensions.others) ++ ys) ≡ after_u ys
+  passed cut all ys = let os = M.extensions.others in passes (flat_map other_spelling (cut os)) ys
+      (others_passed (cut os) (all IsTested os (is_tested M w).singletons)
+      (all AreSubtags os (is_value M w).extensions.others))
 
   none_behind : after_u (flat_map other_spelling (after_t M.extensions.others)
       ++ private_spelling M.extensions.private)
       ≡ []
   unfolding private_spelling
-  none_behind = passes (flat_map other_spelling (after_t M.extensions.others)) _
-      (others_passed (after_t M.extensions.others)
-      (all_after (λ (c, _). (is_other_singleton c ≡ true) × (to_ascii_lowercase c ≡ c)) M.extensions.others
-      singles)
-      (all_after (λ (_, ws). AllByRecursion (IsNormal Subtag) ws) M.extensions.others subtags))
-      ∙ at_x M.extensions.private
+  none_behind = passed after_t all_after _ ∙ at_x M.extensions.private
 
   in_unicode : (l : List Text) × Begins l
       × (after_u (extensions_spelling M.extensions) ≡ unicode_pieces M.extensions.unicode ++ l)
@@ -204,12 +253,7 @@ module _ (M : Locale) (w : IsWellFormed M) where
       let u = at_u (unicode_pieces e.unicode) _ (begins_behind (after_t e.others) e.private) none_behind in (
         u.0,
         u.1,
-        ap after_u (spelling_of_parts e)
-            ∙ passes (flat_map other_spelling (before_t e.others)) _
-            (others_passed (before_t e.others)
-            (all_before (λ (c, _). (is_other_singleton c ≡ true) × (to_ascii_lowercase c ≡ c)) e.others
-            singles)
-            (all_before (λ (_, ws). AllByRecursion (IsNormal Subtag) ws) e.others subtags))
+        ap after_u (spelling_of_parts e) ∙ passed before_t all_before _
             ∙ passes (transform_spelling e.transform) _
             (transform_passed e.transform (is_value M w).extensions.transform)
             ∙ u.2,

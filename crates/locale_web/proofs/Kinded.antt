@@ -6,38 +6,104 @@ use Rattle.std.specs.Char.{to_ascii_lowercase, is_ascii_alphanumeric}
 use Rattle.std.specs.List.{AllByRecursion}
 use Rattle.std.proofs.lemmas.Bool.{false_from_ne_true, and_parts}
 use Rattle.std.proofs.lemmas.Bool.Decides.{nat_tests}
-use Rattle.iloc_spec_grammar.specs.Syntax.{code_x, code_u, code_t, Text, Block, Language, Script, Region}
-use Rattle.iloc_spec_grammar.specs.Syntax.{Variant, Subtag, UnicodeKey}
-use Rattle.iloc_spec_grammar.specs.Syntax.{TransformKey, Attribute, PrivateSubtag, Bounds, languages, is_word}
-use Rattle.iloc_spec_grammar.specs.Syntax.{IsWord, is_other_singleton, SpelledIdentifier}
-use Rattle.iloc_spec_grammar.specs.Syntax.{Unicode, Transform, Fields, identifier_pieces, is_true}
-use Rattle.iloc_spec_grammar.specs.Syntax.{optional_pieces, fields_pieces, unicode_pieces, HasWords}
-use Rattle.iloc_spec_grammar.specs.Syntax.{IsHyphenFree, pieces}
+use Rattle.iloc_spec_grammar.specs.Syntax.{
+  code_x,
+  code_u,
+  code_t,
+  Text,
+  Block,
+  Language,
+  Script,
+  Region,
+  Variant,
+  Subtag,
+  UnicodeKey,
+  TransformKey,
+  Attribute,
+  PrivateSubtag,
+  Bounds,
+  languages,
+  is_word,
+  IsWord,
+  is_other_singleton,
+  SpelledIdentifier,
+  Unicode,
+  Transform,
+  Fields,
+  identifier_pieces,
+  is_true,
+  optional_pieces,
+  fields_pieces,
+  unicode_pieces,
+  HasWords,
+  IsHyphenFree,
+  pieces,
+}
 use Rattle.iloc_spec_grammar.specs.Syntax as words
 use Rattle.iloc_spec_grammar.specs.Meaning.{Locale, Extensions}
 use Rattle.iloc_spec_grammar.specs.Tree.{before_t, after_t, spelled_identifier}
-use Rattle.iloc_spec_grammar.specs.Values.{IsNormal, AreWellFormed, IsExtensionsValue, IsIdentifierValue}
-use Rattle.iloc_spec_grammar.specs.Values.{lower_identifier, spelled_value, spelled_fields, printed_pieces}
-use Rattle.iloc_spec_grammar.specs.Values.{unicode_spelling, transform_spelling, other_spelling}
-use Rattle.iloc_spec_grammar.specs.Values.{private_spelling, extensions_spelling}
+use Rattle.iloc_spec_grammar.specs.Values.{
+  IsNormal,
+  AreWellFormed,
+  IsExtensionsValue,
+  IsIdentifierValue,
+  lower_identifier,
+  spelled_value,
+  spelled_fields,
+  printed_pieces,
+  unicode_spelling,
+  transform_spelling,
+  other_spelling,
+  private_spelling,
+  extensions_spelling,
+}
 use Rattle.iloc_spec_grammar.proofs.General.{some_mapped, all_mapped}
 use Rattle.iloc_spec_grammar.proofs.PartTexts.{spelling_of_parts, id_pieces-low}
 use Rattle.iloc_spec_grammar.proofs.PiecesLaws.{pieces-join}
 use Rattle.iloc_spec_grammar.proofs.RawLaws.{languages_table}
 use Rattle.iloc_spec_grammar.proofs.ReadBack.{word_hyphen_free, all_append}
 use Rattle.iloc_spec_grammar.proofs.Readings.{language_no_key, identifier_no_key, long}
-use Rattle.iloc_spec_grammar.proofs.ValuesLaws.{value_words, value_identifier, lower_is_identifier}
-use Rattle.iloc_spec_grammar.proofs.ValuesLaws.{attribute_from}
-use Rattle.iloc_spec_grammar.proofs.ValuesLaws.{all_weaker, all_both, spelled_rule}
-use Rattle.iloc_spec_grammar.proofs.WordsLaws.{length-language, length-script, length-region, length-variant}
-use Rattle.iloc_spec_grammar.proofs.WordsLaws.{length-attribute, length-unicode_key, length-transform_key}
-use Rattle.iloc_spec_grammar.proofs.WordsLaws.{region_no_script, variant_no_script, variant_no_region}
+use Rattle.iloc_spec_grammar.proofs.ValuesLaws.{
+  value_words,
+  value_identifier,
+  lower_is_identifier,
+  attribute_from,
+  all_weaker,
+  all_both,
+  spelled_rule,
+}
+use Rattle.iloc_spec_grammar.proofs.WordsLaws.{
+  length-language,
+  length-script,
+  length-region,
+  length-variant,
+  length-attribute,
+  length-unicode_key,
+  length-transform_key,
+  region_no_script,
+  variant_no_script,
+  variant_no_region,
+}
 use Rattle.iloc_pieces.specs.Cursor.{IsShortPiece}
 use Rattle.iloc_pieces.proofs.CursorLemmas.{short_word}
-use Rattle.locale_web.specs.Kinds.{KindedPiece, of_kind, parts_of_identifier, parts_of_optional}
-use Rattle.locale_web.specs.Kinds.{parts_of_fields, parts_of_block, parts_of_transform, parts_of_unicode}
-use Rattle.locale_web.specs.Kinds.{parts_of_others, parts_of_private, parts_of_extensions, parts_of, IsOfKind}
-use Rattle.locale_web.specs.Kinds.{IsNormalTextOf}
+use Rattle.iloc_expected.proofs.Following.{other_apart}
+use Rattle.iloc_text_parts.proofs.KeywordLemmas.{all_after, all_before, each_option, long_subtag}
+use Rattle.locale_web.specs.Kinds.{
+  KindedPiece,
+  of_kind,
+  parts_of_identifier,
+  parts_of_optional,
+  parts_of_fields,
+  parts_of_block,
+  parts_of_transform,
+  parts_of_unicode,
+  parts_of_others,
+  parts_of_private,
+  parts_of_extensions,
+  parts_of,
+  IsOfKind,
+  IsNormalTextOf,
+}
 use Rattle.locale_web.specs.Steps.{AreShortPieces, begun, inside, step, kinded, word_kind}
 use Rattle.locale_web.specs.declared.kind.Kind.{Kind}
 use Rattle.locale_web.specs.declared.kind.Kind.TheVariants as kinds
@@ -72,10 +138,6 @@ in_part : (s : State) (p : Text) → 2 ≤ length p → step s p ≡ inside s p
 in_part states.Private p h = refl
 in_part s p h = let e = long (length p) h in rw e refl
 
-long_subtag : (p : Text) → IsWord Subtag p → 2 ≤ length p
-unfolding is_word
-long_subtag p h = grind (arith, nat_tests)
-
 long_language : (p : Text) → IsWord (Language languages) p → 2 ≤ length p
 long_language p h = languages_table.least (length p) (length-language languages p h)
 
@@ -96,16 +158,6 @@ record TakesWords (s : State) : Type 0 where
   region : (p : Text) → IsWord Region p → step s p ≡ (kinds.Region, s)
   variant : (p : Text) → IsWord Variant p → step s p ≡ (kinds.Variant, s)
 
-head_takes : TakesWords states.Head
-head_takes = record {
-  script = λ p h. in_part states.Head p (let n = length-script p h in omega arith)
-      ∙ ap (λ k. (k, states.Head)) (script_is p h);
-  region = λ p h. in_part states.Head p (let n = length-region p h in omega arith)
-      ∙ ap (λ k. (k, states.Head)) (region_is p h);
-  variant = λ p h. in_part states.Head p (let n = length-variant p h in omega arith)
-      ∙ ap (λ k. (k, states.Head)) (variant_is p h);
-}
-
 no_key : (p : Text) → length p ≢ 2 → is_word TransformKey p ≡ false
 no_key p h = false_from_ne_true _ (λ k. h (length-transform_key p k))
 
@@ -120,69 +172,42 @@ region_no_key p h =
     let words : HasWords languages i = record { language = en_is; script = tt; region = h; variants = tt } in
     (identifier_no_key {T = languages} i words).1.0
 
-in_source : (p : Text) → 2 ≤ length p → is_word TransformKey p ≡ false
-    → step states.Source p ≡ (word_kind p, states.Source)
-in_source p h n = in_part states.Source p h ∙ rw n refl
+takes_words : (s : State) → ((p : Text) → 2 ≤ length p → is_word TransformKey p ≡ false
+    → step s p ≡ (word_kind p, s)) → TakesWords s
+takes_words s takes = record {
+  script = λ p h. let n = length-script p h in takes p (omega arith) (no_key p (omega arith))
+      ∙ ap (λ k. (k, s)) (script_is p h);
+  region = λ p h. let n = length-region p h in takes p (omega arith) (region_no_key p h)
+      ∙ ap (λ k. (k, s)) (region_is p h);
+  variant = λ p h. let n = length-variant p h in takes p (omega arith) (no_key p (omega arith))
+      ∙ ap (λ k. (k, s)) (variant_is p h);
+}
+
+head_takes : TakesWords states.Head
+head_takes = takes_words states.Head (λ p h n. in_part states.Head p h)
 
 source_takes : TakesWords states.Source
-source_takes = record {
-  script = λ p h. let n = length-script p h in in_source p (omega arith) (no_key p (omega arith))
-      ∙ ap (λ k. (k, states.Source)) (script_is p h);
-  region = λ p h. let n = length-region p h in in_source p (omega arith) (region_no_key p h)
-      ∙ ap (λ k. (k, states.Source)) (region_is p h);
-  variant = λ p h. let n = length-variant p h in in_source p (omega arith) (no_key p (omega arith))
-      ∙ ap (λ k. (k, states.Source)) (variant_is p h);
-}
+source_takes = takes_words states.Source (λ p h n. in_part states.Source p h ∙ rw n refl)
 
 -- keys, and what follows them
 
--- a key of `t`, and one of `u`, in each state in which it may come
-abbrev IsFieldIn : State → Type 0
-IsFieldIn s = (p : Text) → IsWord TransformKey p → step s p ≡ (kinds.Field, states.Fields)
+-- a key of `t`, and one of `u`, in a state in which it may come
+field_in : (s : State) → ((p : Text) → IsWord TransformKey p → inside s p ≡ (kinds.Field, states.Fields))
+    → (p : Text) → IsWord TransformKey p → step s p ≡ (kinds.Field, states.Fields)
+field_in s f p h = let n = length-transform_key p h in in_part s p (omega arith) ∙ f p h
 
-abbrev IsKeyIn : State → Type 0
-IsKeyIn s = (p : Text) → IsWord UnicodeKey p → step s p ≡ (kinds.Key, states.Keywords)
-
-two_in : (s : State) (p : Text) → length p ≡ 2 → step s p ≡ inside s p
-two_in s p h = in_part s p (omega arith)
-
-field_in_transform : IsFieldIn states.Transform
-field_in_transform p h = two_in states.Transform p (length-transform_key p h) ∙ rw h refl
-
-field_in_source : IsFieldIn states.Source
-field_in_source p h = two_in states.Source p (length-transform_key p h) ∙ rw h refl
-
-field_in_fields : IsFieldIn states.Fields
-field_in_fields p h = two_in states.Fields p (length-transform_key p h) ∙ rw h refl
-
-key_in_attributes : IsKeyIn states.Attributes
-key_in_attributes p h = two_in states.Attributes p (length-unicode_key p h) ∙ rw h refl
-
-key_in_keywords : IsKeyIn states.Keywords
-key_in_keywords p h = two_in states.Keywords p (length-unicode_key p h) ∙ rw h refl
+key_in : (s : State) → ((p : Text) → IsWord UnicodeKey p → inside s p ≡ (kinds.Key, states.Keywords))
+    → (p : Text) → IsWord UnicodeKey p → step s p ≡ (kinds.Key, states.Keywords)
+key_in s f p h = let n = length-unicode_key p h in in_part s p (omega arith) ∙ f p h
 
 -- attributes and values
-no_unicode_key : (p : Text) → length p ≢ 2 → is_word UnicodeKey p ≡ false
-no_unicode_key p h = false_from_ne_true _ (λ k. h (length-unicode_key p k))
-
-value_in_fields : (p : Text) → IsWord Attribute p → step states.Fields p ≡ (kinds.Value, states.Fields)
-value_in_fields p h =
+attribute_in : (s : State) (k : Kind) → ((p : Text) → is_word TransformKey p ≡ false
+    → is_word UnicodeKey p ≡ false → inside s p ≡ (k, s))
+    → (p : Text) → IsWord Attribute p → step s p ≡ (k, s)
+attribute_in s k f p h =
     let n = length-attribute p h in
-    let k = no_key p (omega arith) in
-    in_part states.Fields p (omega arith) ∙ rw k refl
-
-value_in_keywords : (p : Text) → IsWord Attribute p → step states.Keywords p ≡ (kinds.Value, states.Keywords)
-value_in_keywords p h =
-    let n = length-attribute p h in
-    let k = no_unicode_key p (omega arith) in
-    in_part states.Keywords p (omega arith) ∙ rw k refl
-
-attribute_in : (p : Text) → IsWord Attribute p
-    → step states.Attributes p ≡ (kinds.Attribute, states.Attributes)
-attribute_in p h =
-    let n = length-attribute p h in
-    let k = no_unicode_key p (omega arith) in
-    in_part states.Attributes p (omega arith) ∙ rw k refl
+    in_part s p (omega arith)
+    ∙ f p (no_key p (omega arith)) (false_from_ne_true _ (λ k. let m = length-unicode_key p k in omega arith))
 
 -- a language, first or after `t`
 language_in_start : (p : Text) → IsWord (Language languages) p
@@ -236,14 +261,6 @@ each_kinded s k K b is [] h rest = rest
 each_kinded s k K b is (w ∷ ws) h rest =
     one_kinded w (is w h.0) (b w h.0) (each_kinded s k K b is ws h.1 rest)
 
-optional_kinded : (s : State) (k : Kind) (K : words.Kind) → ((p : Text) → IsWord K p → IsOfKind (k, p))
-    → ((p : Text) → IsWord K p → step s p ≡ (k, s))
-    → (o : Option Text) → IfSome o (IsWord K)
-    → {ps : List Text} {parts : List KindedPiece} → AreKinded s ps parts
-    → AreKinded s (option_to_list o ++ ps) (of_kind k (option_to_list o) ++ parts)
-optional_kinded s k K b is None h rest = rest
-optional_kinded s k K b is (Some w) h rest = one_kinded w (is w h) (b w h) rest
-
 -- the same of equal lists
 kinded_as : {s : State} {ps qs : List Text} {xs ys : List KindedPiece} → ps ≡ qs → xs ≡ ys → AreKinded s ps xs
     → AreKinded s qs ys
@@ -251,7 +268,7 @@ kinded_as {s} {ps} {qs} {xs} {ys} e f h = subst (λ (l : List Text). AreKinded s
     (subst (λ (l : List KindedPiece). AreKinded s ps l) f h)
 
 three : {X : Type 0} (a b c d : List X) → a ++ (b ++ (c ++ d)) ≡ (a ++ (b ++ c)) ++ d
-three a b c d = sym (append_assoc a (b ++ c) d ∙ ap (λ l. a ++ l) (append_assoc b c d))
+three a b c d = simp append_assoc
 
 -- words after a language
 after_language_kinded : {s : State} → TakesWords s → (i : SpelledIdentifier) → HasWords languages i
@@ -263,8 +280,8 @@ after_language_kinded {s} takes i h {ps} {parts} rest =
     kinded_as (three (option_to_list i.script) (option_to_list i.region) i.variants ps)
     (three (of_kind kinds.Script (option_to_list i.script)) (of_kind kinds.Region (option_to_list i.region))
     (of_kind kinds.Variant i.variants) parts)
-    (optional_kinded s kinds.Script Script (λ p h. h) takes.script i.script h.script
-    (optional_kinded s kinds.Region Region (λ p h. h) takes.region i.region h.region
+    (each_kinded s kinds.Script Script (λ p h. h) takes.script _ (each_option (λ p h. h) i.script h.script)
+    (each_kinded s kinds.Region Region (λ p h. h) takes.region _ (each_option (λ p h. h) i.region h.region)
     (each_kinded s kinds.Variant Variant (λ p h. h) takes.variant i.variants h.variants rest)))
 
 -- an identifier, in front or after `t`
@@ -298,22 +315,35 @@ unicode_kinded : (u : Unicode) → AllByRecursion (IsWord Attribute) u.attribute
     → AreKinded states.Attributes (unicode_pieces u) (of_kind kinds.Attribute u.attributes
     ++ parts_of_fields kinds.Key u.keywords)
 unicode_kinded u h f =
-    each_kinded states.Attributes kinds.Attribute Attribute (λ p h. h) attribute_in u.attributes h
-    (fields_kinded states.Keywords kinds.Key UnicodeKey (λ p h. h) refl key_in_keywords value_in_keywords
-    states.Attributes refl key_in_attributes u.keywords f)
+    each_kinded states.Attributes kinds.Attribute Attribute (λ p h. h)
+    (attribute_in states.Attributes kinds.Attribute (λ p t k. rw k refl)) u.attributes h
+    (fields_kinded states.Keywords kinds.Key UnicodeKey (λ p h. h) refl
+    (key_in states.Keywords (λ p k. rw k refl))
+    (attribute_in states.Keywords kinds.Value (λ p t k. rw k refl))
+    states.Attributes refl (key_in states.Attributes (λ p k. rw k refl)) u.keywords f)
 
 -- what follows `t`
 transform_kinded : (o : Option SpelledIdentifier) (fs : Fields) → IfSome o (HasWords languages)
     → AreFields TransformKey fs
     → AreKinded states.Transform (optional_pieces o ++ fields_pieces fs)
     (parts_of_optional o ++ parts_of_fields kinds.Field fs)
-transform_kinded None fs h f =
-    fields_kinded states.Fields kinds.Field TransformKey (λ p h. h) refl field_in_fields value_in_fields
-    states.Transform refl field_in_transform fs f
-transform_kinded (Some i) fs h f =
-    identifier_kinded language_in_transform source_takes i h
-    (fields_kinded states.Fields kinds.Field TransformKey (λ p h. h) refl field_in_fields value_in_fields
-    states.Source refl field_in_source fs f)
+transform_kinded o fs h f = by o h
+  where
+    from : (first : State) → is_open first ≡ true
+        → ((p : Text) → IsWord TransformKey p → inside first p ≡ (kinds.Field, states.Fields))
+        → AreKinded first (fields_pieces fs) (parts_of_fields kinds.Field fs)
+    from first i is =
+        fields_kinded states.Fields kinds.Field TransformKey (λ p h. h) refl
+        (field_in states.Fields (λ p k. rw k refl))
+        (attribute_in states.Fields kinds.Value (λ p k u. rw k refl)) first i (field_in first is) fs f
+
+    by : (o : Option SpelledIdentifier) → IfSome o (HasWords languages)
+        → AreKinded states.Transform (optional_pieces o ++ fields_pieces fs)
+        (parts_of_optional o ++ parts_of_fields kinds.Field fs)
+    by None h = from states.Transform refl (λ p k. rw k refl)
+    by (Some i) h =
+        identifier_kinded language_in_transform source_takes i h
+        (from states.Source refl (λ p k. rw k refl))
 
 -- ---- the parts that follow the identifier
 
@@ -401,11 +431,7 @@ IsOtherPart (c, ws) =
     ((is_other_singleton c ≡ true) × (to_ascii_lowercase c ≡ c)) × AllByRecursion (IsWord Subtag) ws
 
 others_begun : (c : ℕ) → is_other_singleton c ≡ true → begun c ≡ states.Other
-others_begun c h = let e = apart c h in rw (e.0, e.1, e.2) refl
-  where
-    apart : (c : ℕ) → is_other_singleton c ≡ true
-        → ((c == code_t) ≡ false) × ((c == code_u) ≡ false) × ((c == code_x) ≡ false)
-    apart c h = (grind (arith, nat_tests), grind (arith, nat_tests), grind (arith, nat_tests))
+others_begun c h = let e = other_apart c h in rw (e.0, e.1, e.2) refl
 
 others_rest : (os : List Block) → AllByRecursion IsOtherPart os
     → {es : List Text} {q : List KindedPiece} → AreRest es q
@@ -423,19 +449,6 @@ others_rest (o ∷ os) h {es} {q} r =
     (sym (append_assoc (printed_pieces o) (flat_map other_spelling os) es))
     (subst (λ (l : List KindedPiece). AreRest (printed_pieces o ++ (flat_map other_spelling os ++ es)) l)
     (sym (append_assoc (parts_of_block o.0 (of_kind kinds.Other o.1)) (parts_of_others os) q)) n)
-
--- what holds of all holds of those before `t`, and of those after
-before_all : (P : Block → Type 0) (os : List Block) → AllByRecursion P os → AllByRecursion P (before_t os)
-before_all P [] h = tt
-before_all P (o ∷ os) h =
-    elim (nat_le o.0 code_t) as (λ b. AllByRecursion P (cond b (o ∷ before_t os) []))
-    [ true ↦ (h.0, before_all P os h.1) | false ↦ tt ]
-
-after_all : (P : Block → Type 0) (os : List Block) → AllByRecursion P os → AllByRecursion P (after_t os)
-after_all P [] h = tt
-after_all P (o ∷ os) h =
-    elim (nat_le o.0 code_t) as (λ b. AllByRecursion P (cond b (after_t os) (o ∷ os)))
-    [ true ↦ after_all P os h.1 | false ↦ h ]
 
 -- ---- the whole text
 
@@ -482,10 +495,10 @@ module _ (e : Extensions) (v : IsExtensionsValue languages e) (w : AreWellFormed
   extensions_rest : AreRest (extensions_spelling e) (parts_of_extensions e)
   extensions_rest =
       subst (λ (l : List Text). AreRest l (parts_of_extensions e)) (sym (spelling_of_parts e))
-      (others_rest (before_t e.others) (before_all IsOtherPart e.others others_are)
+      (others_rest (before_t e.others) (all_before IsOtherPart e.others others_are)
       (transform_rest e.transform source_is fields_are
       (unicode_rest e.unicode attributes_are keywords_are
-      (others_rest (after_t e.others) (after_all IsOtherPart e.others others_are)
+      (others_rest (after_t e.others) (all_after IsOtherPart e.others others_are)
       (private_rest e.private private_are)))))
 
 -- the pieces of parts are those that are kinded

@@ -2,7 +2,6 @@ pub mod Placing
 pub mod Kinded
 pub mod Walking
 pub mod LocaleLemmas
-pub mod PartLemmas
 pub mod ReadLemmas
 pub mod SameLemmas
 pub mod TextLemmas

@@ -7,8 +7,15 @@ use Rattle.iloc_spec_grammar.specs.Meaning.{Locale}
 use Rattle.iloc_spec_grammar.specs.Syntax.{Text, join, pieces}
 use Rattle.iloc_spec_grammar.proofs.PartTexts.{join-dashes}
 use Rattle.iloc_spec_grammar.proofs.PiecesLaws.{join-pieces}
-use Rattle.locale_web.specs.Kinds.{ArePlaced, IsOfKind, IsNormalTextOf, KindedPiece, parts_of, rows_from}
-use Rattle.locale_web.specs.Kinds.{rows_of}
+use Rattle.locale_web.specs.Kinds.{
+  ArePlaced,
+  IsOfKind,
+  IsNormalTextOf,
+  KindedPiece,
+  parts_of,
+  rows_from,
+  rows_of,
+}
 use Rattle.locale_web.specs.declared.state.State.TheVariants.{Start}
 use Rattle.locale_web.proofs.Kinded.{text_kinded, kinded_pieces}
 

@@ -1,9 +1,8 @@
 -- From outlines and parts to what a text is read as.
 use Rattle.std.proofs.Common.{◌≡◌, ◌≤◌, length, refl, arith}
-use Rattle.iloc_spec_grammar.specs.Syntax.{Text, pieces, languages}
+use Rattle.iloc_spec_grammar.specs.Syntax.{Text, pieces, languages, Identifier}
 use Rattle.iloc_spec_grammar.specs.Meaning as grammar
 use Rattle.iloc_spec_grammar.specs.Meaning.{Means, IdentifierMeans}
-use Rattle.iloc_spec_grammar.specs.Syntax.{Identifier}
 use Rattle.iloc_spec_grammar.specs.Values.{identifier_text, text}
 use Rattle.iloc_spec_grammar.proofs.AnySteps.{shortest, length-identifier_means}
 use Rattle.iloc_spec_parts.specs.DataLocales.{DataMeans, data_text}

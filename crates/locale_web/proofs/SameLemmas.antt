@@ -1,6 +1,5 @@
 -- Two texts have one normal text exactly if they mean the same.
-use Rattle.std.proofs.Common.{◌≡◌, ℕ, Bool, IsTrue, ◌↔◌, ◌⊎◌, sym, ap, ◌∙◌}
-use Rattle.std.proofs.Common.{subst}
+use Rattle.std.proofs.Common.{◌≡◌, ℕ, Bool, IsTrue, ◌↔◌, ◌⊎◌, sym, ap, ◌∙◌, subst}
 use Rattle.std.specs.Int.{from_bool}
 use Rattle.iloc_spec_grammar.specs.Syntax.{Text, pieces, languages}
 use Rattle.iloc_spec_grammar.specs.Meaning as meaning

@@ -1,13 +1,35 @@
 -- What the walks over the pieces of a normal text keep.
-use Rattle.std.proofs.Common.{◌≡◌, ℕ, suc, ◌+◌, ◌*◌, ◌≤◌, List, [], ◌∷◌, ◌++◌, length, take, drop, refl, sym}
-use Rattle.std.proofs.Common.{ap, ◌∙◌, subst, arith, append_assoc, append-nil, length-append, length-drop}
-use Rattle.std.proofs.Common.{take_all}
+use Rattle.std.proofs.Common.{
+  ◌≡◌,
+  ℕ,
+  suc,
+  ◌+◌,
+  ◌*◌,
+  ◌≤◌,
+  List,
+  [],
+  ◌∷◌,
+  ◌++◌,
+  length,
+  take,
+  drop,
+  refl,
+  sym,
+  ap,
+  ◌∙◌,
+  subst,
+  arith,
+  append_assoc,
+  append-nil,
+  length-append,
+  length-drop,
+  take_all,
+}
 use Rattle.std.proofs.lemmas.List.{take_at, drop_at, drop-drop}
 use Rattle.iloc_spec_grammar.specs.Syntax.{Text, pieces, first_piece}
 use Rattle.iloc_spec_grammar.specs.Meaning.{Locale}
 use Rattle.iloc_spec_grammar.proofs.PiecesLaws.{at_pieces}
-use Rattle.iloc_pieces.specs.Cursor.{IsNextPiece, IsShortPiece, bytes_left, piece_left}
-use Rattle.iloc_pieces.specs.Cursor.{pieces_left}
+use Rattle.iloc_pieces.specs.Cursor.{IsNextPiece, IsShortPiece, bytes_left, piece_left, pieces_left}
 use Rattle.iloc_pieces.specs.declared.place.Cursor.{Cursor}
 use Rattle.iloc_pieces.proofs.CursorLemmas.{first_within, last_piece, length_piece, length_rest, next_at}
 use Rattle.locale_web.specs.Kinds.{KindedPiece, IsNormalTextOf, kind_number, parts_of, rows_from, rows_of}

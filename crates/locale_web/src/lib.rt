@@ -45,7 +45,6 @@ ghost use Rattle.locale_web.specs.Texts.{MatchIsWritten};
 
 mod cleaning;
 mod comparing;
-mod data;
 pub mod kind;
 pub mod laws;
 mod matching;

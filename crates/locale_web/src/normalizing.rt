@@ -5,7 +5,6 @@ ghost use Rattle.iloc_spec_parts.specs.DataLocales.{data_text};
 ghost use Rattle.locale_web.specs.Answers.{NormalIsWritten, NothingIsWritten};
 ghost use Rattle.locale_web.specs.Reading.{IsPut};
 
-use crate::data::DataText;
 use crate::reading::{ReadText, read, text_end};
 use iloc_calls::{Status, hand_out, hand_out_bytes};
 use iloc_data_parts::DataParts;
@@ -36,7 +35,7 @@ fn put_parts(parts: DataParts, to: &mut [u8]) -> usize
     ensures text { take result to.new ≡ data_text (value_of parts) }
 {
     let mut needed = 0;
-    match hand_out(&DataText { parts }, to, &mut needed) {
+    match hand_out(&parts, to, &mut needed) {
         Status::Done => needed,
         _ => unreachable!(),
     }

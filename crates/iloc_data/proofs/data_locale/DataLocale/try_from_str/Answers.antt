@@ -1,7 +1,7 @@
 -- a text is read as its bytes are
 use Rattle.std.proofs.Common.{subst}
 use Rattle.iloc_data.specs.Reads.{DataTextReads}
-use Rattle.iloc_data.proofs.ReadLemmas.{data_accepts, data_refuses, meant_of, keeps_narrow}
+use Rattle.iloc_data.proofs.ReadLemmas.{data_accepts, data_refuses, if_read, is_meant, keeps_narrow}
 use Rattle.iloc_data.proofs.data_locale.DataLocale.try_from_str.Goals as goal
 use Rattle.iloc_spec_grammar.specs.Syntax.{Text}
 
@@ -22,4 +22,4 @@ pub returns-clause-narrow : goal.returns-clause-narrow
 returns-clause-narrow c = keeps_narrow c.args.s.now c.try_from_utf8.result (returns-clause-reads c)
 
 pub returns-clause-meant : goal.returns-clause-meant
-returns-clause-meant c = meant_of c.args.s.now c.try_from_utf8.result (returns-clause-reads c)
+returns-clause-meant c = if_read c.args.s.now is_meant c.try_from_utf8.result (returns-clause-reads c)
