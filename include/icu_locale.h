@@ -9,8 +9,8 @@
  * Every function of the library is proved to meet its contract, if its caller keeps what this page asks. The proofs
  * cover no caller. docs/DEFINITIONS.md says what a text means, and why another is refused. The library is for Linux on
  * any x86-64 processor. It is linked as libicu_locale.a or libicu_locale.so: `bindings/build` makes both, and
- * docs/BINDINGS.md shows more of a program. This header is C99, and C++98 or later. Between two lines that say so it is
- * written by tools/write_calls from the table tools/calls.txt: change that and not this file.
+ * docs/BINDINGS.md shows more of a program. This header is C99, and C++98 or later. Its declarations are written by
+ * tools/write_calls from the table tools/calls.txt: change that and not these.
  *
  * A text is a pointer to bytes and their number. The bytes need no encoding and no closing zero. If the number is 0,
  * the pointer may be null: the text is empty. The same holds of a buffer and its room. This is tested at each call, by
@@ -156,8 +156,6 @@ enum {
  * For some of these a call needs no memory all the same. icu_locale_normalizing_eq and icu_locale_compare can also
  * allocate for the other text: they say when. icu_locale_normalize_lines, icu_locale_matches and icu_locale_clean can
  * for any text. Only a call that allocates can end with OUT_OF_MEMORY. */
-
-/* From here on, tools/write_calls writes what tools/calls.txt says. */
 
 /* Writes the normal form of the text to the front of the buffer, and its length to *needed.
  *
@@ -648,8 +646,6 @@ icu_locale_status icu_locale_get_numbering_system(const icu_locale_t *locale, ui
 
 /* ICU_LOCALE_VERSION of the header that the library was made for. */
 extern uint32_t icu_locale_version(void) ICU_LOCALE_NOEXCEPT;
-
-/* To here, tools/write_calls writes it. */
 
 #if defined(__GNUC__)
 /* The two calls that change one handle by another, where both may be one. The library has the first alone, so it wants

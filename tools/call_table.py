@@ -63,11 +63,11 @@ class Row:
 
 
 class Table:
-    """The rows, the lines of the header with each row in its place, the modules of exports, the comments for C++ by the
-    rows that they stand before, and the imports of definitions."""
+    """The rows, the modules of exports, the comments for C++ by the rows that they stand before, and the imports of
+    definitions."""
 
     def __init__(self, text):
-        self.rows, self.lines, self.modules, self.comments, self.imports = [], [], {}, {}, []
+        self.rows, self.modules, self.comments, self.imports = [], {}, {}, []
         module, comment = "", []
         for number, line in enumerate(text.splitlines(), 1):
             head = re.fullmatch(r"\[(\w+)\] (.+)", line)
@@ -78,13 +78,10 @@ class Table:
                 self.imports.append(line)
             elif line.startswith("// "):
                 comment.append(line[3:])
-            elif " | " in line and not line.startswith(("#", " *", "/*")):
+            elif line.strip() and line[0] != "#":
                 row = Row(line, number, module)
                 self.comments[row.name], comment = comment, []
                 self.rows.append(row)
-                self.lines.append(row)
-            elif not line.startswith("# ") and line != "#":
-                self.lines.append(line)
 
     def rows_of(self, module):
         """Returns the rows whose exports the module has."""

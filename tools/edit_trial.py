@@ -16,7 +16,6 @@ The checks of a crate share a folder of what was checked, which begins as that o
 not refused over it, or only by a limit, is tried again over none, and that verdict counts."""
 import os
 import re
-import resource
 import shutil
 import tempfile
 import time
@@ -166,18 +165,16 @@ class Trial:
 
     def __init__(self, crate, options, named=None):
         self.crate, self.options, self.named, self.calls = crate, options, named, {}
-        self.longest, self.spent, self.kept = 0.0, 0.0, f"{crate.folder}/out/incremental"
+        self.longest, self.kept = 0.0, f"{crate.folder}/out/incremental"
 
     def is_over(self):
         return time.time() + self.longest > self.options.until
 
     def timed(self, call):
-        """Has call check over what is kept for it, and adds up the time."""
-        used = lambda: sum(resource.getrusage(resource.RUSAGE_CHILDREN)[:2])
-        began, before = time.time(), used()
+        """Has call check over what is kept for it, and notes the longest time."""
+        began = time.time()
         given = call(None if self.is_alone else self.kept)
         self.longest = max(self.longest, time.time() - began)
-        self.spent += used() - before
         return given
 
     def checked(self, texts, functions=()):

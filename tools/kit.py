@@ -1,11 +1,6 @@
-"""The toolchain's command rt, loaded as a module: `rt` itself and `rtlib`, on which it stands.
+"""The toolchain's command rt, loaded as a module: `rt` itself and `rtlib`, on which it stands. A new toolchain may change them.
 
-What the tools use of them: rt.read_edit, rt.checked, rt.unread, rt.must_fail, rt.in_lanes, rt.need,
-rt.processors, rt.KIT, rt.Crate, rt.handles_of; rt.Kept, rt.share_work, rt.REFUSED and rt.AT_LIMIT if they are there; rtlib's Crate,
-blanked, crates_below, kit_sources, guarded, lock, STALE. A new toolchain may change them.
-
-A crate's stamp, by which rt sees whether its library is that of the present text, is asked for once
-in each run of a tool."""
+A crate's stamp, by which rt sees whether its library is that of the present text, is asked for once in each run of a tool."""
 import functools
 import os
 import pathlib
@@ -32,10 +27,9 @@ def lanes():
     return int(number) if number.isdigit() and int(number) else rt.processors()
 
 
-# What rt.must_fail answers of an edit that is refused: a name of rt's own, or only true in a toolchain
-# that has no such names.
-REFUSALS = {getattr(rt, name, True) for name in ("REFUSED", "AT_LIMIT")}
-AT_LIMIT = getattr(rt, "AT_LIMIT", None)
+# What rt.must_fail answers of an edit that is refused; an older one only says that it is.
+AT_LIMIT = getattr(rt, "AT_LIMIT", "limit")
+REFUSALS = (True, getattr(rt, "REFUSED", True), AT_LIMIT)
 TOOLCHAIN = read(f"{rt.KIT}/KIT-ID").decode().strip()
 # The logic alone, without the kit's own name. Kits of one logic may still differ in what their tactics
 # find and in what their library promises (docs/GATE.md says what that means for edits).

@@ -1,21 +1,25 @@
-"""Has the libraries be there that some crates stand on: as `rt ci` kept them, or else proved.
+"""Has the libraries be there that some crates stand on, in crates/*/out: as `rt ci` kept them, or else proved by it, so that
+./run, ./test and every other checkout take them too.
 
-With a toolchain whose `rt ci` keeps what it proves, what is lacking is proved by `rt ci`, so that ./run, ./test and
-every other checkout take it too. With others it is proved here, for this checkout, side by side."""
-import copy
+What rt ci keeps of a crate it finds by a sum of the crate's text, of the toolchain, and of the libraries below as they were
+built. So these are taken all together, lowest first, in the place of what else stands in crates/*/out. They get the mark of a
+built library, by which rt check takes them too. An older toolchain, or one without room, keeps nothing: there rt lib proves
+what is lacking, for this checkout."""
+import hashlib
+import json
 import os
 import re
-import tempfile
+import shutil
+import subprocess
+import sys
 import time
 
-from kept_by_ci import KeptByCi
-from kit import lanes, read, rt, rtlib
+from common import ROOT, write
+from kit import read, rt, rtlib
 from proof_room import Proof
 from sources import PROVED_PARTS, files_of, sum_of
 
-# About what the proof of a library from nothing takes, in processor seconds: for reading what it
-# stands on, and for each line of its source. (The 25 of the program took 43 to 52 processor minutes.)
-EACH, A_LINE = 10, 0.13
+AN_HOUR = "up to an hour of CPU time, once"
 
 
 def texts_of(crate):
@@ -43,13 +47,67 @@ def is_usable(crate):
     return crate.is_built() and fits(crate)
 
 
-def estimate(crates):
-    """Returns about how many minutes the proofs take on these processors."""
-    seconds, chain = {it.name: EACH + A_LINE * it.count(rb"\n") for it in crates}, {}
-    for it in crates:
-        below = [chain[dep.name] for dep in it.below() if dep.name in seconds]
-        chain[it.name] = seconds[it.name] + max(below, default=0)
-    return max(sum(seconds.values()) / lanes(), *chain.values()) / 60
+class KeptByCi:
+    """What `rt ci` kept of these libraries, which come lowest first, each after those below it."""
+
+    def __init__(self, crates):
+        self.crates, self.keys, self.kept = crates, {}, None
+        if hasattr(rt, "Kept"):
+            rt.Crate.allowed = rt.handles_of(ROOT)
+            self.kept = rt.Kept(crates)
+        for it in crates if self.kept and self.kept.at else ():
+            if all(dep.name in self.keys for dep in it.below()):
+                key = self.kept.key(it)
+                made = made_of(self.kept.place(it, False, key))
+                if made is not None:
+                    self.keys[it.name] = key
+                    # (as Kept.is_built has it of the library's files)
+                    self.kept.rlibs[it.name] = hashlib.sha256(repr(made).encode()).hexdigest()
+
+    def lacking(self):
+        """Returns the libraries that are not kept."""
+        return [it for it in self.crates if it.name not in self.keys]
+
+    def take(self):
+        """Puts the libraries that are kept into crates/*/out. Returns whether each could be."""
+        held = rtlib.lock(self.crates)
+        try:
+            return all([self.give(it) for it in self.crates if it.name in self.keys])
+        finally:
+            for it in held:
+                os.close(it)
+
+    def give(self, crate):
+        """Gives the crate its library, unless it was given it before, and the mark by which rt check knows it."""
+        stamp = crate.stamp()
+        if self.is_given(crate):
+            # (the folder's time says when it came: is_fresh)
+            os.utime(crate.rlib)
+        else:
+            # (what is given is refused, and no longer kept, if another file stands there)
+            shutil.rmtree(f"{crate.folder}/out/rlib", ignore_errors=True)
+            if not self.kept.give(crate, False, self.keys[crate.name]):
+                return False
+        write(f"{crate.folder}/out/rlib/stamp", stamp)
+        return True
+
+    def is_given(self, crate):
+        """Returns whether the files in the crate's out/ are those that are kept, by another name."""
+        place, out = self.kept.place(crate, False, self.keys[crate.name]), f"{crate.folder}/out"
+        files = [it for it, _ in made_of(place) or ()]
+        try:
+            pairs = [(f"{place}/{number}", f"{out}/{it}") for number, it in enumerate(files)]
+            return files == self.kept.made(crate, False) and all(os.path.samefile(*it) for it in pairs)
+        except OSError:
+            return False
+
+
+def made_of(place):
+    """Returns the files of what is kept there, with their sums, or None if nothing is."""
+    try:
+        return [tuple(row) for row in json.loads(read(f"{place}/made.json"))["files"]]
+    except (OSError, ValueError, KeyError, TypeError):
+        return None
 
 
 def with_below(crates):
@@ -65,51 +123,16 @@ def have(crates, say, until=None, is_there=is_fresh):
     if all(map(is_there, needed)):
         return True, []
     kept = KeptByCi(needed)
-    if kept.keeps and kept.lacking():
+    if kept.lacking() and kept.kept and kept.kept.has_room():
         is_over, failed = prove_by_ci(kept.lacking(), say, until)
         if is_over or failed:
             return False, failed
         kept = KeptByCi(needed)
     if not kept.lacking() and kept.take():
         return True, []
-    return prove_here([it for it in needed if not it.is_built()], say, until)
-
-
-def prove_here(crates, say, until=None):
-    """Proves the libraries in crates/*/out, as rt lib does, as many side by side as there are processors and memory.
-    Returns what `have` does. Meanwhile no other rt works on them."""
-    say(f"proving {len(crates)} libraries, for this checkout alone: {minutes_of(crates)}")
-    failed, names = [], {it.name for it in crates}
-
-    def prove(crate, given, jobs):
-        is_late = until and time.time() > until
-        if is_late or not all(given.get((it.name, "proof"), True) for it in crate.below()):
-            return False
-        crate = copy.copy(crate)
-        with tempfile.TemporaryFile("a+", errors="replace") as crate.out:
-            status = crate.build_rlib(["--jobs", str(jobs)], anew=False)
-            crate.out.seek(0)
-            said = crate.out.read()
-        failed.extend([crate.name] if status else [])
-        say(f"{crate.name} is NOT PROVED:\n{said[-3000:]}" if status else f"proved {crate.name}")
-        return not status
-
-    tasks = {}
-    for it in crates:
-        waits = [(dep.name, "proof") for dep in it.below() if dep.name in names]
-        tasks[it.name, "proof"] = waits, it.count(rb"\n"), rt.need(it), lambda given, jobs, it=it: prove(it, given, jobs)
-    rtlib.guarded()  # (in this thread first, which alone may say what a signal does)
-    held = rtlib.lock(crates)
-    try:
-        return all(rt.in_lanes(tasks).values()), failed
-    finally:
-        for it in held:
-            os.close(it)
-
-
-def minutes_of(crates):
-    """Returns in words how long these proofs take."""
-    return f"about {max(estimate(crates), 1):.0f} minutes on {lanes()} processors, once"
+    say(f"proving {len(needed)} libraries by rt lib, for this checkout alone: {AN_HOUR}")
+    failed = [it.name for it in needed if subprocess.run(["rt", "lib"], cwd=it.folder, stdout=sys.stderr).returncode]
+    return not failed, failed
 
 
 def take(crates):
@@ -120,10 +143,10 @@ def take(crates):
         kept.take()
 
 
-def prove_by_ci(crates, say, until=None):
+def prove_by_ci(crates, say, until):
     """Proves the libraries by rt ci, which keeps them. Returns whether the time was out, and the names of those that
     are not proved."""
-    say(f"proving {len(crates)} libraries by rt ci, which keeps them for all checkouts: {minutes_of(crates)}")
+    say(f"proving {len(crates)} libraries by rt ci, which keeps them for all checkouts: {AN_HOUR}")
     names = [it.name for it in crates]
     with Proof(names, say) as proof:
         while proof.is_running():

@@ -48,7 +48,7 @@ def listed():
            r"pieces,? (?:or|and)(?: of more than)? # bytes|text of more than # bytes|locales\) or # bytes|\(# < length t\)",
            ("docs/PROMISES.md", "bindings/web/README.md", *LIMITS))
     yield ("bytes of a window", constant("crates/iloc_normalize/src/window.rt", "MOST"),
-           "of at most # bytes: `answer`, in|text of at most # bytes is copied to a window", ("docs/ARCHITECTURE.md", "docs/SPEED.md"))
+           "of at most # bytes: `answer`, in", ("docs/ARCHITECTURE.md",))
     yield ("bytes of its answer", constant("crates/iloc_normalize/src/answered.rt", "ROOM"), "in a room of # bytes", ("docs/ARCHITECTURE.md",))
     yield ("bytes of a text that is compared by its answer", constant("crates/iloc_locale/src/comparing.rt", "MOST"),
            r"of at most # bytes: `answer` \|", ("docs/ARCHITECTURE.md",))

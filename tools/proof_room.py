@@ -1,8 +1,7 @@
 """Proves crates by `rt ci` in a folder of its own, beside which all else goes on, and builds a program.
 
-The room has these crates and those below them, without their mutants. Most toolchains' `rt ci` keeps what it proves at once
-beside the toolchain, crate by crate, and takes it from there in any checkout: a run that is cut off loses only the proofs under
-way. With one that keeps nothing, it loses all."""
+The room has these crates and those below them, without their mutants. `rt ci` keeps what it proves at once beside the
+toolchain, crate by crate, and takes it from there in any checkout: a run that is cut off loses only the proofs under way."""
 import os
 import re
 import shutil
@@ -22,12 +21,6 @@ KEPT = re.compile(r"rt: (\w+) is kept: ")
 FAILED = re.compile(r"rt: (\w+)(: its tests are)? NOT PROVED")
 
 
-def keeps():
-    """Returns whether the toolchain's `rt ci` keeps what it proves: if so, it says of a crate that it is kept."""
-    with open(shutil.which("rt"), encoding="utf-8", errors="replace") as it:
-        return " is kept: " in it.read()
-
-
 def sweep():
     """Removes the rooms of runs that were killed."""
     at = tempfile.gettempdir()
@@ -40,13 +33,11 @@ def sweep():
 def furnish(room, names, lines):
     """Copies the crates into the room, which is the top of a repository of its own and can be written."""
     for name in names:
-        copy = f"{room}/crates/{name}"
-        shutil.copytree(f"{ROOT}/crates/{name}", copy, ignore=LEFT_OUT, copy_function=shutil.copyfile)
+        copy = shutil.copytree(f"{ROOT}/crates/{name}", f"{room}/crates/{name}", ignore=LEFT_OUT, copy_function=shutil.copyfile)
         for at, _, _ in os.walk(copy):
             os.chmod(at, 0o755)
     write(f"{room}/crates.txt", "".join(f"{lines[name]}\n" for name in names))
-    if os.path.isfile(f"{ROOT}/HANDLES"):
-        shutil.copyfile(f"{ROOT}/HANDLES", f"{room}/HANDLES")
+    shutil.copyfile(f"{ROOT}/HANDLES", f"{room}/HANDLES")
     os.mkdir(f"{room}/.git")
 
 
@@ -60,21 +51,17 @@ class Proof(Ending):
         sweep()
         self.top = tempfile.mkdtemp(prefix=f"{PREFIX}{os.getpid()}-")
         self.room, beside = f"{self.top}/room", f"{self.top}/temporary"
-        try:
-            for it in (self.room, beside):
-                os.mkdir(it)
-            # (where rt runs as root, it runs the program as nobody, who comes through here)
-            os.chmod(self.top, 0o711)
-            furnish(self.room, self.names, lines)
-            # (what is ended leaves its temporary files, some 100 MB for each crate)
-            self.process = subprocess.Popen(
-                ["rt", "ci"], cwd=self.room, stdin=subprocess.DEVNULL, stdout=subprocess.PIPE,
-                stderr=subprocess.STDOUT, text=True, errors="replace", start_new_session=True,
-                preexec_fn=lambda: os.nice(5), env={**os.environ, "TMPDIR": beside},
-            )
-        except BaseException:
-            shutil.rmtree(self.top, ignore_errors=True)
-            raise
+        os.mkdir(self.room)
+        os.mkdir(beside)
+        # (where rt runs as root, it runs the program as nobody, who comes through here)
+        os.chmod(self.top, 0o711)
+        furnish(self.room, self.names, lines)
+        # (what is ended leaves its temporary files, some 100 MB for each crate)
+        self.process = subprocess.Popen(
+            ["rt", "ci"], cwd=self.room, stdin=subprocess.DEVNULL, stdout=subprocess.PIPE,
+            stderr=subprocess.STDOUT, text=True, errors="replace", start_new_session=True,
+            preexec_fn=lambda: os.nice(5), env={**os.environ, "TMPDIR": beside},
+        )
         self.began = time.time()
         self.reader = threading.Thread(target=self.read, daemon=True)
         self.reader.start()
@@ -96,9 +83,7 @@ class Proof(Ending):
 
     def stopped(self):
         """Returns what to say of a run that was cut off."""
-        if not keeps():
-            return "stopped: this toolchain keeps nothing of a proof that is cut off"
-        return f"stopped: {len(self.done)} of {len(self.names)} crates are proved and kept; the same command goes on from there"
+        return f"stopped: {len(self.done)} of {len(self.names)} crates are proved; the same command goes on from what rt ci kept"
 
     def is_running(self):
         return self.process.poll() is None

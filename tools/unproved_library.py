@@ -9,8 +9,7 @@ import re
 import shutil
 import subprocess
 
-import surface_build as built
-from kit import rt
+from surface_build import FLAGS, compiled
 from unproved import crates
 
 NAME = "icu_locale_c"
@@ -73,17 +72,8 @@ def archive(room):
     main = pathlib.Path(room, "src", "main.rt")
     os.rename(f"{room}/src/lib.rt", main)
     main.write_text(main.read_text(encoding="utf-8") + MAIN.format(calls=calls(f"{room}/src")), encoding="utf-8")
-    _, folders = built.library_words(top)
-    hints = {crate: built.hints_of(folder) for crate, folder in {**folders, "unproved_c": room}.items()}
-    pathlib.Path(room, "kept.bc").write_bytes(built.kept_module("unproved_c", str(main), top, []))
-    clang = f"{rt.KIT}/toolchain/bin/clang"
-    as_text = ["-S", "-emit-llvm", "-x", "ir", f"{room}/kept.bc", "-O0", "-o", f"{room}/kept.ll"]
-    subprocess.run([clang, *as_text], check=True, stderr=subprocess.DEVNULL)
-    with open(f"{room}/kept.ll", encoding="utf-8") as old, open(f"{room}/module.ll", "w", encoding="utf-8") as new:
-        new.writelines(exported(built.as_proved(line, hints)) for line in old)
-    flags = ["-fPIC" if it == "-fPIE" else it for it in built.FLAGS]
-    compiled = [*flags, f"--sysroot={rt.KIT}/toolchain", f"{room}/module.ll", "-o", f"{room}/module.o"]
-    subprocess.run([clang, *compiled], check=True)
+    flags = ["-fPIC" if it == "-fPIE" else it for it in FLAGS]
+    compiled("unproved_c", str(main), top, lambda lines: map(exported, lines), (), flags)
     subprocess.run(["ar", "rcs", f"{room}/lib{NAME}.a", f"{room}/module.o"], check=True)
     return f"{room}/lib{NAME}.a"
 
