@@ -1,5 +1,4 @@
 mod ExtensionsEquality
-mod KeptLemmas
 mod OrderLemmas
 mod SplitLemmas
 mod WellFormedLemmas

@@ -8,6 +8,7 @@ ghost use Rattle.iloc_unicode.specs.UnicodeValue as unicode_value;
 
 use crate::copying::copied;
 use crate::extension_type::ExtensionType;
+use crate::retaining::{keep_private, keep_transform, keep_unicode};
 use iloc_memory::Memory;
 use iloc_other::{Other, Private};
 use iloc_transform::Transform;
@@ -126,15 +127,12 @@ impl Extensions {
         requires { F.IsAlwaysCallable predicate }
         ensures { RetainsByType F.step predicate (value_of self.old) (value_of self.new) }
     {
-        if !predicate(ExtensionType::Unicode) {
-            self.unicode.clear();
-        }
-        if !predicate(ExtensionType::Transform) {
-            self.transform.clear();
-        }
-        if !predicate(ExtensionType::Private) {
-            self.private.clear();
-        }
+        let keeps_unicode = predicate(ExtensionType::Unicode);
+        keep_unicode(&mut self.unicode, keeps_unicode);
+        let keeps_transform = predicate(ExtensionType::Transform);
+        keep_transform(&mut self.transform, keeps_transform);
+        let keeps_private = predicate(ExtensionType::Private);
+        keep_private(&mut self.private, keeps_private);
         self.other.retain(
             move |other: &Other| -> bool
                 requires { F.IsAlwaysCallable predicate }

@@ -63,6 +63,7 @@ pub mod ordered;
 mod others;
 pub mod parent;
 pub mod printing;
+mod retaining;
 mod taking;
 pub mod turning;
 pub mod well_formed;
