@@ -68,9 +68,3 @@ Ends-line IsEntry n (c ∷ pending) old new next one some (entry, is, added) e =
       adds = added;
       counts = e ∙ ap (λ (ls : List Text). n + length ls) (sym cut);
     }
-
--- two facts of a result
-pub if_ok_both : {T E : Type 0} (r : Result T E) (P : T → Type 0) (Q : Type 0) (R : T → Type 0) → IfOk r P →
-    OnOk r Q → ((x : T) → P x → Q → R x) → IfOk r R
-if_ok_both (Ok x) P Q R p q f = f x p q
-if_ok_both (Err e) P Q R p q f = tt

@@ -120,16 +120,10 @@ impl ReplyBlock {
             ++ (take range_len range ++ (take piece_len piece ++ 10 ∷ [])))) }
     {
         self.make_room(73)?;
-        let start = self.len;
-        let room = &mut self.room.as_mut_slice()[start..start + 73];
-        room[..48].copy_from_slice(words);
-        let mut at = words_len;
-        room[at..at + 8].copy_from_slice(&range);
-        at += range_len;
-        room[at..at + 16].copy_from_slice(&piece);
-        at += piece_len;
-        room[at] = b'\n';
-        self.len = start + at + 1;
+        self.put(words, words_len);
+        self.put(&range, range_len);
+        self.put(&piece, piece_len);
+        self.put(b"\n", 1);
         Ok(())
     }
 

@@ -17,16 +17,16 @@ returns-then-not-listing g c =
     (not_true c.args.listing.places c.if-not-listing.true) c.in_ok-write_number.ensures e)
     c.write_refusal.ensures.text
 
-pub place_of-requires : goal.place_of-requires
-place_of-requires g c =
+pub place_of-start-requires : goal.place_of-start-requires
+place_of-start-requires g c =
     subst (λ (m : Mode). HasRefusal m (text_in c.args.line) c.args.refusal) (sym c.mode.ensures) c.requires
 
 pub returns : goal.returns
 returns g c =
-    let at = c.place_of.result in
+    let at = c.place_of-start.result in
     let f : Fault = record { refusal = c.args.refusal; start = at.0; end = at.1 } in
     let place = subst (λ (m : Mode). IsFaultPlace m (text_in c.args.line) f.start f.end) c.mode.ensures
-    c.place_of.ensures.place in
+    c.place_of-start.ensures.place in
     on_ok_weaker c.write_placed.result
     (λ e. placed g.A.InMode.mode c.args.listing c.args.number (text_in c.args.line)
     (held c.args.replies.now) f (held c.write_number.new.replies) (held c.write_placed.new.replies)

@@ -1,5 +1,5 @@
 use Rattle.std.proofs.Common.{◌≡◌, ◌+◌, ◌-◌, ◌<◌, [], ◌∷◌, ◌++◌, length, take, drop, ap, ◌∙◌, sym, subst}
-use Rattle.std.proofs.Common.{arith}
+use Rattle.std.proofs.Common.{arith, rules}
 use Rattle.std.proofs.lemmas.Bool.Decides.{nat_tests}
 use Rattle.std.proofs.lemmas.List.{drop-drop, length-drop, take_all}
 use Rattle.iloc_spec_grammar.specs.Syntax.{Text}
@@ -25,11 +25,12 @@ lines-preserved g c =
     ends.newline less ∙ ap (λ (t : Text). t ++ 10 ∷ drop (end + 1) rest) (sym front) in
     let next_is : take (length later - 1) (drop 1 later) ≡ drop (end + 1) rest =
     take_all _ (drop 1 later) (omega (arith, length-drop 1 later))
-    ∙ ap (drop 1) c.split_at.ensures.back ∙ drop-drop 1 end rest in (
+    ∙ ap (drop 1) c.split_at.ensures.back ∙ drop-drop 1 end rest in
+    let one_more : c.in-Some.after ≡ c.lines.next + 1 = search rules in (
       taken ++ (line ++ 10 ∷ []),
       taken_with _ taken rest line (drop (end + 1) rest) _ c.lines.invariant.1 newline next_is,
       Feeds-line _ _ _ _ taken line (held c.lines.replies) _ c.lines.pending.items _ c.lines.next _
           c.lines.invariant.2
-          (subst IsOneLine (sym front) ends.before) c.in_ok-next.ensures.replies c.in_ok-next.ensures.next
-          c.in_ok-next.ensures.pending,
+          (subst IsOneLine (sym front) ends.before) c.in_ok-list_next.ensures.replies one_more
+          c.in_ok-list_next.ensures.pending,
     )

@@ -1,10 +1,10 @@
-use Rattle.std.proofs.Common.{◌<◌, length, rules}
-use Rattle.iloc_program.proofs.FeedLemmas.{Ends-line, if_ok_both}
+use Rattle.std.proofs.Common.{◌≡◌, ◌+◌, ◌<◌, length, rules}
+use Rattle.iloc_program.proofs.FeedLemmas.{Ends-line}
 use Rattle.iloc_program.proofs.listed_lines.finish.Goals as goal
 
 pub returns : goal.returns
 returns g c =
     let pending = c.args.pending.now.items in
     let some : 0 < length pending = search rules in
-    if_ok_both c.end_line.result _ _ _ c.end_line.ensures.next c.end_line.ensures.replies
-    (λ next e added. Ends-line _ _ pending _ _ next c.requires some added e)
+    let one_more : c.in-Some.after ≡ c.args.number + 1 = search rules in
+    Ends-line _ _ pending _ _ _ c.requires some c.in_ok-end_line.ensures.replies one_more
