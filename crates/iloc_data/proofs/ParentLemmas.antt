@@ -35,7 +35,7 @@ use Rattle.iloc_data.specs.DataParents.{
   IsUnknownAfter,
   LacksLastDataPart,
 }
-use Rattle.iloc_langid.proofs.ParentLemmas.{known_language, of_some}
+use Rattle.iloc_langid.proofs.ParentLemmas.{known_language}
 
 -- a region is the same as a whole
 whole_of_region : (r : Option Text) → option_map (λ s. s.region) (option_map whole_region r) ≡ r

@@ -1,14 +1,12 @@
 -- What follows from what the reader of data locales answers.
 use Rattle.std.specs.Prelude.{⊤}
-use Rattle.std.proofs.Common.{◌≡◌, Option, Some, None, sym, ap, ◌∙◌, Result, Ok, Err, IfOk}
+use Rattle.std.proofs.Common.{◌≡◌, Result, Ok, Err, IfOk}
 use Rattle.iloc_spec_grammar.specs.Syntax.{Text, languages, two_or_three}
 use Rattle.iloc_spec_grammar.specs.Meaning as meaning
 use Rattle.iloc_spec_grammar.specs.Meaning.{Means, Fault}
 use Rattle.iloc_spec_grammar.proofs.RawLaws.{languages_table, narrow_in_wide}
-use Rattle.iloc_langid.specs.SmallLocaleReads.{LocaleParts, small_locale_of, SmallLocaleTextReads}
 use Rattle.iloc_spec_parts.specs.Small.{locale_of_small}
 use Rattle.iloc_spec_parts.proofs.SmallLaws.{small_means}
-use Rattle.iloc_spec_parts.specs.Subdivisions.{Subdivision}
 use Rattle.iloc_spec_parts.specs.DataLocales as parts
 use Rattle.iloc_spec_parts.specs.DataLocales.{
   DataMeans,
@@ -24,19 +22,11 @@ use Rattle.iloc_spec_parts.proofs.WiderData.{data_wider}
 use Rattle.iloc_spec_parts.specs.Preferences.{language_priority, preferences}
 use Rattle.iloc_spec_parts.proofs.ConversionLaws.{agrees}
 use Rattle.iloc_subtags.specs.declared.parse_error.ParseError.{ParseError}
-use Rattle.iloc_subtags.specs.declared.parse_error.ParseError.TheVariants.{
-  InvalidLanguage,
-  InvalidSubtag,
-  InvalidExtension,
-  DuplicatedExtension,
-  OutOfMemory,
-}
 use Rattle.iloc_data.specs.declared.data_locale.DataLocale.{DataLocale}
-use Rattle.iloc_subtags.specs.Judging.{Accepts, Refuses, RunsOutOnlyIf}
+use Rattle.iloc_subtags.specs.Judging.{Accepts, Refuses}
 use Rattle.iloc_subtags.proofs.Judged.{Judges, accepts, refuses}
 use Rattle.iloc_data.specs.DataValue.{value_of}
 use Rattle.iloc_data.specs.Reads.{DataTextReads}
-use Rattle.iloc_data_parts.proofs.ReadLemmas.{of_part}
 
 -- what is owed to each text
 
