@@ -37,7 +37,6 @@ LAWS = "A law is a function that does nothing. Call it where a proof needs the f
 
 
 def slug(heading):
-    """Returns the anchor of a heading."""
     return re.sub(r"[^\w -]", "", heading.lower()).strip().replace(" ", "-")
 
 
@@ -125,7 +124,6 @@ def trait_homes():
 
 
 def module_page(module):
-    """Returns the page of a module."""
     rows = [f"# `{module.path}`", "", module.comment, "", "[All modules](../API.md)", ""]
     for entry in module.entries:
         rows += ["## Laws", "", LAWS, ""] if entry.is_law and "## Laws" not in rows else []
@@ -146,7 +144,6 @@ def index():
 
 
 def pages():
-    """Returns the text of each page by its file."""
     made = {page_of(it.path): module_page(it) for it in model()}
     made["docs/API.md"] = index()
     return made

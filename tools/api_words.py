@@ -80,7 +80,6 @@ UNICODE_MEMORY = "there are more than four attributes, a second key, or a keywor
 
 
 def begins(letter, faults):
-    """Returns the faults of a text that has to begin with its singleton."""
     name, when = faults[-1]
     return faults[:-1] + [(name, f"the text does not begin with {letter}; or {when}")]
 

@@ -49,7 +49,6 @@ def head_with(head, parameters, tail, width):
 
 
 def clauses(row):
-    """Yields the clauses of an export."""
     gives, answered = row.clause, "IsTrue result ↔" if row.gives == "bool" else "result ≡"
     if row.kind == "tell":
         answered, gives = "EndsAs", f"(Tells ({gives}) buffer.old buffer.new needed.new) result"
@@ -87,7 +86,6 @@ CALLS = {
 
 
 def export(row):
-    """Returns the function of a row."""
     given = ["alloc: Global", *parameters(row, "Rattle")]
     line = head_with(f'pub extern "C" fn {row.symbol}(', given, f") -> {RESULTS[row.gives][0]}", WIDTH)
     kept = "\n".join(fill(kept_together(it), WIDTH, "    ", " " * 8) for it in clauses(row))
@@ -155,7 +153,6 @@ def declaration(row):
 
 
 def rust_declaration(row):
-    """Returns the declaration of a call in Rust."""
     gives = f" -> {RESULTS[row.gives][0]};" if row.gives != "nothing" else ";"
     return head_with(f"    pub fn {row.symbol}(", [*parameters(row, "Rust")], f"){gives}", WIDE)
 

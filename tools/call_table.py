@@ -89,7 +89,6 @@ class Table:
 
 
 def wrong_in_row(row):
-    """Yields what is wrong with a row by itself."""
     if row.count not in (2, 5, 6):
         yield f"a row has two fields, five or six, and this one has {row.count}. The top of the table says which"
         return

@@ -193,7 +193,6 @@ def reached(first, leads_to):
 
 
 def first_sentence(text):
-    """Returns the first sentence of a text, or all of it."""
     found = re.match(r"(.+?[.!])(?= [A-Z`]|$)", text)
     return (found[1] if found else text).strip()
 

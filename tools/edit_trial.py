@@ -96,7 +96,6 @@ def calls_in(texts, there):
 
 
 def together(crate, edits):
-    """Returns the texts of the files with all these edits made."""
     texts = {}
     for it in sorted(edits, key=lambda it: (it.file, -it.start)):
         text = texts.get(it.file) or read(f"{crate.folder}/{it.file}")
@@ -178,7 +177,6 @@ class Trial:
         return given
 
     def checked(self, texts, functions=()):
-        """Checks the crate with these texts: all of it, or these functions."""
         flags = [*self.flags, *(it for name in functions for it in ("--only", name))]
         return self.timed(lambda kept: rt.checked(self.crate, texts, flags, kept))
 

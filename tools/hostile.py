@@ -39,14 +39,20 @@ class Ends(Counts):
         super().see(name, is_right, f"status {status}, {error!r}, {len(written)} bytes written: {written[:200]!r}")
 
 
-def program_to_try(name, doc, built):
-    """Returns the program that the script of this name is given, or the one that rt ci left."""
-    takes = parser(name, doc)
-    takes.add_argument("program", nargs="?", metavar="PROGRAM", help="the program to try")
-    program = pathlib.Path(takes.parse_args().program or TOP / "crates" / built / "out" / built)
+def built(script, name):
+    """Returns the program that rt ci left."""
+    program = TOP / "crates" / name / "out" / name
     if not program.exists():
-        stop(name, f"there is no program {program}", "Run `rt ci`, which builds it.")
-    return program.resolve()
+        stop(script, f"there is no program {program}", "Run `rt ci`, which builds it.")
+    return program
+
+
+def program_to_try(script, doc, name):
+    """Returns the program that the script is given, or the one that rt ci left."""
+    takes = parser(script, doc)
+    takes.add_argument("program", nargs="?", metavar="PROGRAM", help="the program to try")
+    given = takes.parse_args().program
+    return pathlib.Path(given).resolve() if given else built(script, name)
 
 
 def answers(ends, words, text, ends_so=DONE):
@@ -62,7 +68,6 @@ def fill_output():
 
 
 def close_output():
-    """Closes standard output."""
     os.close(1)
 
 

@@ -27,7 +27,6 @@ class Keyword:
 
 
 def wrong_in_row(row):
-    """Yields what is wrong with a row by itself."""
     if row.count != 6:
         yield f"a row has six fields, and this one has {row.count}. Write: {FIELDS}"
         return

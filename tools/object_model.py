@@ -116,7 +116,6 @@ class Model:
         return all(len(it) != 2 for value in self.keywords.values() for it in value.split("-"))
 
     def order(self):
-        """What locales are ordered by."""
         transform = [order_of_identifier(*identifier_of(self.transform.split("-")))] if self.transform else []
         keywords = [(key, short([it for it in value.split("-") if it])) for key, value in sorted(self.keywords.items())]
         fields, others = ([(key, short(words)) for key, words in sorted(it.items())] for it in (self.fields, self.others))
@@ -199,7 +198,6 @@ def neighbours(mode):
 
 
 def pairs_wanted():
-    """Pairs of texts, and what is wanted of them."""
     every = [*neighbours("locale")]
     wanted = [pair_wanted(normal.decode(), means.decode(), other) for _, normal, other, means in every]
     return [(text, other) for text, _, other, _ in every], wanted
@@ -428,7 +426,6 @@ class Script:
 
 
 def script_wanted(seed, steps, known, keeps_well_formed=False, normals=None):
-    """Steps, and what is wanted of each."""
     made = Script(seed, known, keeps_well_formed, normals)
     for _ in range(steps):
         made.any_step()

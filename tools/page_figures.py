@@ -85,7 +85,6 @@ def figures():
 
 
 def number(text):
-    """Returns the number that a text says, or the text."""
     plain = text.replace(",", "")
     return int(plain) if plain.isdigit() else SAID.index(text) + 2 if text in SAID else text
 

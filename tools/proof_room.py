@@ -1,4 +1,4 @@
-"""Proves crates by `rt ci` in a folder of its own, beside which all else goes on, and builds a program.
+"""Proves crates by `rt ci` in a folder of its own, beside which all else goes on.
 
 The room has these crates and those below them, without their mutants. `rt ci` keeps what it proves at once beside the
 toolchain, crate by crate, and takes it from there in any checkout: a run that is cut off loses only the proofs under way."""
@@ -112,16 +112,3 @@ class Proof(Ending):
                 self.process.wait()
         self.reader.join(5)
         shutil.rmtree(self.top, ignore_errors=True)
-
-
-def build_program(name, to, say):
-    """Has a proved program be there, as rt ci kept it or else makes it. Returns why it is not, or nothing."""
-    with Proof([name], say) as proof:
-        made = proof.program(name)
-        if not made:
-            return proof.why()
-        os.makedirs(os.path.dirname(to), exist_ok=True)
-        if os.path.lexists(to):
-            os.remove(to)
-        shutil.copy(made, to)
-        return ""

@@ -109,7 +109,6 @@ class Item:
 
     @property
     def derives(self):
-        """The traits that it derives."""
         given = [it.partition("derive")[2].partition(";")[0] for it in self.attributes]
         return tuple(it for text in given for it in re.findall(NAME, text) if it[0].isupper())
 

@@ -60,7 +60,6 @@ class Table:
                 self.calls.append(self.call(*filled))
 
     def call(self, head, row):
-        """Returns the call of a row, below this head."""
         module, texts, setting = fields(head, 3)
         given, _, body = row.partition(" => ")
         name, more, others, own = fields(given, 4)

@@ -115,7 +115,6 @@ fn call_{at}({alloc}call: &str, rounds: u32, t: &Texts<'_>) -> Result<usize, Par
 
 
 def program(calls, is_rattle):
-    """Returns the source of a program of these calls."""
     text = in_language(read("tools/surface_frame.txt"), is_rattle)
     groups = [calls[at : at + GROUP] for at in range(0, len(calls), GROUP)]
     parts = parsers(calls, is_rattle) + [function(it, is_rattle) for it in calls]

@@ -329,7 +329,6 @@ class Sources:
 
     @functools.lru_cache(maxsize=None)
     def under(self, crate):
-        """Returns the crates that a crate stands on."""
         return {*below(crate, self.lines)} - {crate}
 
     # Where names stand.
@@ -445,7 +444,6 @@ def is_definition(item):
 
 
 def reach(sources, roots, leads_on):
-    """Returns all that the roots lead to, by way of what leads on."""
     return reached(roots, lambda it: sources.cites(it) if leads_on(it) else ())
 
 

@@ -41,7 +41,6 @@ fn main(rt: HostRuntime) {{
 
 
 def arguments(types):
-    """Returns what is given for arguments of these types."""
     left = {it: [*given] for it, given in GIVEN.items()}
     return ", ".join(left[it].pop(0) for it in types)
 

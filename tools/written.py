@@ -18,7 +18,6 @@ def fill(units, width=WIDTH, first="", indent=""):
 
 
 def table(head, rows):
-    """Returns a table of a page."""
     first, *lines = [f"| {' | '.join(map(str, it))} |" for it in (head, *rows)]
     return "\n".join([first, "|---" * len(head) + "|", *lines])
 
