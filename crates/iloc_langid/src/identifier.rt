@@ -14,6 +14,7 @@ ghost use Rattle.std.specs.Cow.{cow_str_bytes};
 ghost use Rattle.iloc_writeable.specs.Writing.{IsLent};
 
 use crate::reader::{fill_text, read_head, short_parts};
+use iloc_copying::{Copied, Copying, FromMemory, FromOwn};
 use iloc_memory::Memory;
 use iloc_subtags::{Language, ParseError, Region, Script, SubtagIterator, WordKind, WordOf};
 use iloc_word_list::Variants;
@@ -47,6 +48,15 @@ impl Clone for LanguageIdentifier {
 
     #[inline(always)]
     fn clone(&self) -> Result<Self, AllocError> {
+        self.copied(FromOwn)
+    }
+}
+
+impl Copied for LanguageIdentifier {
+    ghost size = { λ i. length i.variants };
+
+    #[inline(always)]
+    fn copied<C: Copying>(&self, copying: C) -> Result<Self, AllocError> {
         let mut copy = LanguageIdentifier {
             language: self.language,
             script: self.script,
@@ -54,13 +64,23 @@ impl Clone for LanguageIdentifier {
             variants: Variants::new(),
         };
         if !self.variants.is_empty() {
-            copy.variants = self.variants.clone()?;
+            copy.variants = self.variants.copied(copying)?;
         }
         Ok(copy)
     }
 }
 
 impl LanguageIdentifier {
+    /// A copy, from any memory. Refusal: `AllocError`, only if room for at most all the variants was refused.
+    #[inline(always)]
+    pub fn clone_in<M: Memory>(&self, memory: M) -> Result<Self, AllocError>
+        ensures value { IfOk result (λ copy. copy ≡ self.now) }
+        ensures out_of_memory { OnErr result
+            (RefusedWithin M.refused (length self.now.variants)) }
+    {
+        self.copied(FromMemory(memory))
+    }
+
     /// The unknown identifier, `und`.
     pub fn unknown() -> Self
         ensures { value_of result ≡ unknown_identifier }

@@ -1,5 +1,5 @@
 //! The extensions that are neither unicode, transform nor private.
-ghost use Rattle.std.specs.Prelude.{◌≡◌, ⊤, ℕ, List, ◌<◌, ◌+◌, ◌++◌, ◌∷◌, [], length, true, OnOk, OnErr, IfErr, IsOk, Some, if◌then◌else◌};
+ghost use Rattle.std.specs.Prelude.{◌≡◌, ⊤, ℕ, List, ◌<◌, ◌+◌, ◌++◌, ◌∷◌, [], length, true, IfOk, OnOk, OnErr, IfErr, IsOk, Some, if◌then◌else◌};
 ghost use Rattle.std.specs.Char.{is_ascii_alphanumeric};
 ghost use Rattle.std.specs.List.{AllByRecursion};
 ghost use Rattle.std.specs.Option.{option_copied};
@@ -15,6 +15,7 @@ ghost use Rattle.iloc_memory.specs.Refusals.{RefusedWithin};
 ghost use Rattle.iloc_other.specs.Reading.{OtherReads, OtherWantsMemory, OtherTextReads, OtherTextWants};
 
 use crate::singleton::take_singleton;
+use iloc_copying::{Copied, Copying, FromMemory, FromOwn};
 use iloc_memory::Memory;
 use iloc_subtags::{ParseError, Subtag, SubtagIterator, SubtagKind, next_has_length};
 use iloc_word_list::WordList;
@@ -210,15 +211,31 @@ impl Other {
             Err(_) => Ok(()),
         }
     }
+
+    /// A copy, from any memory. Refusal: `AllocError`, only if room for at most all the subtags was refused.
+    pub fn clone_in<M: Memory>(&self, memory: M) -> Result<Self, AllocError>
+        ensures value { IfOk result (λ copy. copy ≡ self.now) }
+        ensures out_of_memory { OnErr result (RefusedWithin M.refused (length self.now.1)) }
+    {
+        self.copied(FromMemory(memory))
+    }
 }
 
 impl Clone for Other {
     ghost is_clone = { λ o q. q ≡ o };
 
     fn clone(&self) -> Result<Self, AllocError> {
+        self.copied(FromOwn)
+    }
+}
+
+impl Copied for Other {
+    ghost size = { λ o. length o.1 };
+
+    fn copied<C: Copying>(&self, copying: C) -> Result<Self, AllocError> {
         Ok(Other {
             ext: self.ext,
-            keys: self.keys.clone()?,
+            keys: self.keys.copied(copying)?,
         })
     }
 }

@@ -1,5 +1,5 @@
 //! The private extension: a list of private subtags.
-ghost use Rattle.std.specs.Prelude.{◌≡◌, ⊤, ℕ, List, ◌∷◌, [], ◌↔◌, IsTrue, length, slice_get, Some, Ok};
+ghost use Rattle.std.specs.Prelude.{◌≡◌, ⊤, ℕ, List, ◌∷◌, [], ◌↔◌, IsTrue, IfOk, OnErr, length, slice_get, Some, Ok};
 ghost use Rattle.std.specs.List.{AllByRecursion};
 ghost use Rattle.std.specs.Option.{option_copied};
 ghost use Rattle.std.specs.Result.{result_and};
@@ -14,6 +14,7 @@ ghost use Rattle.iloc_memory.specs.Refusals.{RefusedWithin};
 ghost use Rattle.iloc_other.specs.Reading.{PrivateReads, PrivateFills, PrivateWantsMemory, PrivateTextReads, PrivateTextWants};
 
 use crate::singleton::take_singleton;
+use iloc_copying::{Copied, Copying, FromMemory, FromOwn};
 use iloc_memory::Memory;
 use iloc_subtags::{ParseError, PrivateSubtag, PrivateSubtagKind, SubtagIterator};
 use iloc_word_list::WordList;
@@ -47,6 +48,14 @@ impl Private {
         Private {
             words: WordList::new(),
         }
+    }
+
+    /// A copy, from any memory. Refusal: `AllocError`, only if room for at most all the subtags was refused.
+    pub fn clone_in<M: Memory>(&self, memory: M) -> Result<Self, AllocError>
+        ensures value { IfOk result (λ copy. copy ≡ self.now) }
+        ensures out_of_memory { OnErr result (RefusedWithin M.refused (length self.now)) }
+    {
+        self.copied(FromMemory(memory))
     }
 
     /// The list of this one subtag.
@@ -241,8 +250,16 @@ impl Clone for Private {
     ghost is_clone = { λ p q. q ≡ p };
 
     fn clone(&self) -> Result<Self, AllocError> {
+        self.copied(FromOwn)
+    }
+}
+
+impl Copied for Private {
+    ghost size = { length };
+
+    fn copied<C: Copying>(&self, copying: C) -> Result<Self, AllocError> {
         Ok(Private {
-            words: self.words.clone()?,
+            words: self.words.copied(copying)?,
         })
     }
 }

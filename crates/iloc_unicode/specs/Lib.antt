@@ -3,6 +3,7 @@ pub mod EqualityLaws
 pub mod KeywordsOrder
 pub mod Lends
 pub mod Reads
+pub mod Sizes
 pub mod UnicodeReads
 pub mod UnicodeValue
 pub mod UnicodeValueLaws

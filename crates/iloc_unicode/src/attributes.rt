@@ -17,6 +17,7 @@ ghost use Rattle.iloc_word_list.specs.Equality.{words_eq};
 ghost use Rattle.iloc_word_list.specs.EqualityLaws.{words_exact};
 ghost use Rattle.iloc_word_list.specs.Ascending.{ascends};
 
+use iloc_copying::{Copied, Copying, FromMemory, FromOwn};
 use iloc_memory::Memory;
 use iloc_subtags::{Attribute, AttributeKind, ParseError, SubtagIterator};
 use iloc_word_list::WordSet;
@@ -141,7 +142,31 @@ impl Attributes {
         ensures err { OnErr result (self.new ≡ self.old) }
         ensures succeeds { length self.old + length other ≤ 4 → IsOk result }
     {
-        self.words.extend(alloc, &other.words)
+        self.extend_from_attributes_in(alloc, other)
+    }
+
+    /// As `extend_from_attributes`, from any memory. Refusal: `AllocError`, only if room for at most the attributes of
+    /// both was refused.
+    pub fn extend_from_attributes_in<M: Memory>(
+        &mut self,
+        memory: M,
+        other: Attributes,
+    ) -> Result<(), AllocError>
+        ensures ok { OnOk result (self.new ≡ set_of (self.old ++ other)) }
+        ensures err { OnErr result (self.new ≡ self.old) }
+        ensures succeeds { length self.old + length other ≤ 4 → IsOk result }
+        ensures out_of_memory { OnErr result
+            (RefusedWithin M.refused (length self.old + length other)) }
+    {
+        self.words.extend_in(memory, &other.words)
+    }
+
+    /// A copy, from any memory. Refusal: `AllocError`, only if room for at most all the attributes was refused.
+    pub fn clone_in<M: Memory>(&self, memory: M) -> Result<Self, AllocError>
+        ensures value { IfOk result (λ copy. copy ≡ self.now) }
+        ensures out_of_memory { OnErr result (RefusedWithin M.refused (length self.now)) }
+    {
+        self.copied(FromMemory(memory))
     }
 
     /// Whether there is none.
@@ -196,11 +221,17 @@ impl Attributes {
     }
 
     // The attributes of both sets.
-    pub(crate) fn union(&self, alloc: Global, other: &Attributes) -> Result<Attributes, AllocError>
-        ensures { IfOk result (λ a. a ≡ set_of (self.now ++ other.now)) }
+    pub(crate) fn union_in<M: Memory>(
+        &self,
+        memory: M,
+        other: &Attributes,
+    ) -> Result<Attributes, AllocError>
+        ensures value { IfOk result (λ a. a ≡ set_of (self.now ++ other.now)) }
+        ensures out_of_memory { OnErr result
+            (RefusedWithin M.refused (length self.now + length other.now)) }
     {
         Ok(Attributes {
-            words: self.words.union(alloc, &other.words)?,
+            words: self.words.union_in(memory, &other.words)?,
         })
     }
 }
@@ -228,8 +259,16 @@ impl Clone for Attributes {
     ghost is_clone = { λ a b. b ≡ a };
 
     fn clone(&self) -> Result<Self, AllocError> {
+        self.copied(FromOwn)
+    }
+}
+
+impl Copied for Attributes {
+    ghost size = { length };
+
+    fn copied<C: Copying>(&self, copying: C) -> Result<Self, AllocError> {
         Ok(Attributes {
-            words: self.words.clone()?,
+            words: self.words.copied(copying)?,
         })
     }
 }

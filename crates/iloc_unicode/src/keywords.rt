@@ -17,6 +17,7 @@ ghost use Rattle.std.specs.Cmp.{
 ghost use Rattle.std.specs.Hash.{same_Alike};
 ghost use Rattle.std.proofs.Common.{refl};
 ghost use Rattle.iloc_memory.specs.Refusals.{RefusedWithin};
+ghost use Rattle.iloc_copying.specs.Room.{RefusedAmong};
 ghost use Rattle.iloc_spec_grammar.specs.Syntax.{word_cmp, pieces, Fields};
 ghost use Rattle.iloc_spec_grammar.specs.Meaning.{map_of, Fault};
 ghost use Rattle.iloc_unicode.specs.Equality.{fields_eq};
@@ -24,8 +25,9 @@ ghost use Rattle.iloc_unicode.specs.EqualityLaws.{fields_exact};
 ghost use Rattle.iloc_spec_parts.specs.Parts.{KeywordsText, KeywordsTextFault};
 ghost use Rattle.iloc_subtags.specs.Judging.{Accepts, Refuses, RunsOutOnlyIf};
 ghost use Rattle.iloc_unicode.specs.Reads.{KeywordsTextReads, KeywordsWantMemory};
-ghost use Rattle.iloc_litemap.specs.Pairs.{HasAscendingKeys};
+ghost use Rattle.iloc_litemap.specs.Pairs.{HasAscendingKeys, pairs_items};
 
+use iloc_copying::{Copied, Copying, FromMemory, FromOwn};
 use iloc_litemap::LiteMap;
 use iloc_memory::Memory;
 use iloc_shortvec::ShortBoxSlice;
@@ -286,26 +288,30 @@ impl Keywords {
 
     // A copy of at most one pair. It stands apart, so that a key with one subtag pays nothing for it.
     #[inline(never)]
-    fn few_copied(&self) -> Result<Self, AllocError>
+    fn few_copied<C: Copying>(&self, copying: C) -> Result<Self, AllocError>
         requires { length self.now < 2 }
-        ensures { IfOk result (λ copy. copy ≡ self.now) }
+        ensures value { IfOk result (λ copy. copy ≡ self.now) }
+        ensures out_of_memory { OnErr result
+            (RefusedWithin C.Room.refused (pairs_items length self.now)) }
     {
         let [(key, value)] = self.as_slice() else {
             return Ok(Keywords::new());
         };
-        Ok(Keywords::new_single(*key, value.clone()?))
+        Ok(Keywords::new_single(*key, value.copied(copying)?))
     }
 
     // A copy of two pairs or more.
     #[inline(never)]
-    fn many_copied(&self) -> Result<Self, AllocError>
+    fn many_copied<C: Copying>(&self, copying: C) -> Result<Self, AllocError>
         requires { 1 < length self.now }
-        ensures { IfOk result (λ copy. copy ≡ self.now) }
+        ensures value { IfOk result (λ copy. copy ≡ self.now) }
+        ensures out_of_memory { OnErr result
+            (RefusedWithin C.Room.refused (pairs_items length self.now)) }
     {
         match self.as_slice() {
             [] | [_] => unreachable!(),
             _ => Ok(Keywords {
-                map: self.map.clone()?,
+                map: self.map.copied(copying)?,
             }),
         }
     }
@@ -375,18 +381,36 @@ impl Keywords {
         ensures err { OnErr result (self.new ≡ self.old) }
         ensures succeeds { length other ≡ 0 → IsOk result }
     {
+        self.extend_from_keywords_in(alloc, other)
+    }
+
+    /// As `extend_from_keywords`, from any memory. Refusal: `AllocError`, only if room for at most the keywords of both was
+    /// refused.
+    pub fn extend_from_keywords_in<M: Memory>(
+        &mut self,
+        memory: M,
+        other: Keywords,
+    ) -> Result<(), AllocError>
+        ensures ok { OnOk result (self.new ≡ map_of word_cmp (other ++ self.old)) }
+        ensures err { OnErr result (self.new ≡ self.old) }
+        ensures succeeds { length other ≡ 0 → IsOk result }
+        ensures out_of_memory { OnErr result
+            (RefusedWithin M.refused (length self.old + length other)) }
+    {
         if let [_] = other.as_slice() {
-            return self.set_only(alloc, other);
+            return self.set_only(memory, other);
         }
-        self.set_all(alloc, other)
+        self.set_all(memory, other)
     }
 
     // Sets each pair of the other.
     #[inline(never)]
-    fn set_all(&mut self, alloc: Global, other: Keywords) -> Result<(), AllocError>
+    fn set_all<M: Memory>(&mut self, memory: M, other: Keywords) -> Result<(), AllocError>
         ensures ok { OnOk result (self.new ≡ map_of word_cmp (other ++ self.old)) }
         ensures err { OnErr result (self.new ≡ self.old) }
         ensures succeeds { length other ≡ 0 → IsOk result }
+        ensures out_of_memory { OnErr result
+            (RefusedWithin M.refused (length self.old + length other)) }
     {
         let _ = other.as_slice();
         if self.is_among(&other) {
@@ -394,7 +418,7 @@ impl Keywords {
             return Ok(());
         }
         let Keywords { map } = other;
-        self.map.extend_from_map(alloc, map)
+        self.map.extend_from_map_in(memory, map)
     }
 
     // Whether there is at most one key, and the other has it.
@@ -412,15 +436,16 @@ impl Keywords {
 
     // Sets the pair of a map that has no other.
     #[inline(never)]
-    fn set_only(&mut self, alloc: Global, only: Keywords) -> Result<(), AllocError>
+    fn set_only<M: Memory>(&mut self, memory: M, only: Keywords) -> Result<(), AllocError>
         requires { length only ≡ 1 }
         ensures ok { OnOk result (self.new ≡ map_of word_cmp (only ++ self.old)) }
         ensures err { OnErr result (self.new ≡ self.old) }
+        ensures out_of_memory { OnErr result (RefusedWithin M.refused (length self.old + 1)) }
     {
         let _ = self.as_slice();
         let Keywords { map } = only;
         match map.into_iter().next() {
-            Some((key, value)) => self.put_new(alloc, key, value),
+            Some((key, value)) => self.put_new(memory, key, value),
             None => unreachable!(),
         }
     }
@@ -437,8 +462,34 @@ impl Keywords {
             × I.into_iter_gives pairs it × Drains I.IntoIter.next_gives it xs
             × (m ≡ map_of word_cmp (reverse xs))) }
     {
-        let map = LiteMap::from_pairs(alloc, pairs)?;
+        Self::from_pairs_in(alloc, pairs)
+    }
+
+    /// As `from_pairs`, from any memory. Refusal: `AllocError`, only if room for at most the pairs so far was refused.
+    pub fn from_pairs_in<M: Memory, I: IntoIterator<Item = (Key, Value)>>(
+        memory: M,
+        pairs: I,
+    ) -> Result<Self, AllocError>
+        requires { IsFiniteIterable I.into_iter_gives I.IntoIter.can_next
+            I.IntoIter.remaining pairs }
+        ensures value { IfOk result
+            (λ m. (it : I.IntoIter) × (xs : List (List ℕ × List (List ℕ)))
+            × I.into_iter_gives pairs it × Drains I.IntoIter.next_gives it xs
+            × (m ≡ map_of word_cmp (reverse xs))) }
+        ensures out_of_memory { OnErr result
+            (RefusedAmong I.into_iter_gives I.IntoIter.next_gives M.refused pairs 0) }
+    {
+        let map = LiteMap::from_pairs_in(memory, pairs)?;
         Ok(Keywords { map })
+    }
+
+    /// A copy, from any memory. Refusal: `AllocError`, only if room for at most as many items as there are in all was
+    /// refused.
+    pub fn clone_in<M: Memory>(&self, memory: M) -> Result<Self, AllocError>
+        ensures value { IfOk result (λ copy. copy ≡ self.now) }
+        ensures out_of_memory { OnErr result (RefusedWithin M.refused (pairs_items length self.now)) }
+    {
+        self.copied(FromMemory(memory))
     }
 }
 
@@ -523,16 +574,24 @@ impl Clone for Keywords {
     ghost is_clone = { λ a b. b ≡ a };
 
     fn clone(&self) -> Result<Self, AllocError> {
+        self.copied(FromOwn)
+    }
+}
+
+impl Copied for Keywords {
+    ghost size = { pairs_items length };
+
+    fn copied<C: Copying>(&self, copying: C) -> Result<Self, AllocError> {
         let pairs = self.as_slice();
         if pairs.len() > 1 {
-            return self.many_copied();
+            return self.many_copied(copying);
         }
         if let [(key, value)] = pairs {
             if let Some(value) = copy_of_single(value) {
                 return Ok(Keywords::new_single(*key, value));
             }
         }
-        self.few_copied()
+        self.few_copied(copying)
     }
 }
 

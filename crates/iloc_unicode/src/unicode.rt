@@ -1,5 +1,5 @@
 //! The unicode extension.
-ghost use Rattle.std.specs.Prelude.{◌≡◌, ⊤, ◌↔◌, ◌&&◌, ◌==◌, ◌++◌, [], length, IsTrue, OnOk, OnErr, Some};
+ghost use Rattle.std.specs.Prelude.{◌≡◌, ⊤, ◌↔◌, ◌&&◌, ◌==◌, ◌+◌, ◌++◌, [], length, IsTrue, IfOk, OnOk, OnErr, Some};
 ghost use Rattle.std.specs.Cmp.{decided, partial_equiv_from_equiv};
 ghost use Rattle.std.specs.Hash.{same_Alike};
 ghost use Rattle.iloc_memory.specs.Refusals.{RefusedWithin};
@@ -14,6 +14,7 @@ ghost use Rattle.iloc_spec_parts.specs.Orders.{unicode_cmp};
 use crate::attributes::Attributes;
 use crate::keywords::Keywords;
 use crate::reader::takes_u;
+use iloc_copying::{Copied, Copying, FromMemory, FromOwn};
 use iloc_memory::Memory;
 use iloc_subtags::{ParseError, SubtagIterator};
 use iloc_writeable::pieces::Pieces;
@@ -23,7 +24,7 @@ use std::cmp::Ordering;
 use std::fmt;
 
 /// The unicode extension of a locale: attributes and keywords.
-#[derive(Drop, Debug, Clone, Eq, Hash, Default)]
+#[derive(Drop, Debug, Eq, Hash, Default)]
 pub struct Unicode {
     pub keywords: Keywords,
     pub attributes: Attributes,
@@ -32,6 +33,7 @@ pub struct Unicode {
 impl Unicode {
     ghost use Rattle.iloc_unicode.specs.UnicodeReads.{UnicodeTextReads, UnicodeTextWants};
     ghost use Rattle.iloc_unicode.specs.UnicodeValue.{value_of};
+    ghost use Rattle.iloc_unicode.specs.Sizes.{unicode_items};
 
     /// The empty extension.
     pub fn new() -> Self
@@ -147,22 +149,37 @@ impl Unicode {
         ensures associative { (u v w : UnicodeParts)
             → extend (extend u v) w ≡ extend u (extend v w) }
     {
+        self.extend_in(alloc, other)
+    }
+
+    /// As `extend`, from any memory. Refusal: `AllocError`, only if room for at most the attributes or the keywords of both
+    /// was refused.
+    #[tactic(auto, using(iloc_spec_parts::proofs::ExtendingLaws::extend_associative))]
+    pub fn extend_in<M: Memory>(&mut self, memory: M, other: Unicode) -> Result<(), AllocError>
+        ensures ok { OnOk result (value_of self.new ≡ extend (value_of self.old) (value_of other)) }
+        ensures err { OnErr result (self.new ≡ self.old) }
+        ensures associative { (u v w : UnicodeParts)
+            → extend (extend u v) w ≡ extend u (extend v w) }
+        ensures out_of_memory { OnErr result (RefusedWithin M.refused
+            (length self.old.attributes + length other.attributes
+            + (length self.old.keywords + length other.keywords))) }
+    {
         let _ = self.attributes.as_slice();
         let Unicode {
             keywords,
             attributes,
         } = other;
         if attributes.is_empty() {
-            return self.keywords.extend_from_keywords(alloc, keywords);
+            return self.keywords.extend_from_keywords_in(memory, keywords);
         }
-        self.extend_both(alloc, &attributes, keywords)
+        self.extend_both(memory, &attributes, keywords)
     }
 
     // Extends both parts. It stands apart, so that an extension without attributes pays nothing for it.
     #[inline(never)]
-    fn extend_both(
+    fn extend_both<M: Memory>(
         &mut self,
-        alloc: Global,
+        memory: M,
         attributes: &Attributes,
         keywords: Keywords,
     ) -> Result<(), AllocError>
@@ -171,11 +188,44 @@ impl Unicode {
         ensures keywords { OnOk result (self.new.keywords
             ≡ map_of word_cmp (keywords ++ self.old.keywords)) }
         ensures err { OnErr result (self.new ≡ self.old) }
+        ensures out_of_memory { OnErr result (RefusedWithin M.refused
+            (length self.old.attributes + length attributes.now
+            + (length self.old.keywords + length keywords))) }
     {
-        let union = self.attributes.union(alloc, attributes)?;
-        self.keywords.extend_from_keywords(alloc, keywords)?;
+        let union = self.attributes.union_in(memory, attributes)?;
+        self.keywords.extend_from_keywords_in(memory, keywords)?;
         self.attributes = union;
         Ok(())
+    }
+
+    /// A copy, from any memory. Refusal: `AllocError`, only if room for at most as many items as there are in all was
+    /// refused.
+    pub fn clone_in<M: Memory>(&self, memory: M) -> Result<Self, AllocError>
+        ensures value { IfOk result (λ copy. copy ≡ self.now) }
+        ensures out_of_memory { OnErr result (RefusedWithin M.refused (unicode_items self.now)) }
+    {
+        self.copied(FromMemory(memory))
+    }
+}
+
+impl Clone for Unicode {
+    ghost is_clone = { λ u v. v ≡ u };
+
+    fn clone(&self) -> Result<Self, AllocError> {
+        self.copied(FromOwn)
+    }
+}
+
+impl Copied for Unicode {
+    ghost use Rattle.iloc_unicode.specs.Sizes.{unicode_items};
+
+    ghost size = { unicode_items };
+
+    fn copied<C: Copying>(&self, copying: C) -> Result<Self, AllocError> {
+        Ok(Unicode {
+            keywords: self.keywords.copied(copying)?,
+            attributes: self.attributes.copied(copying)?,
+        })
     }
 }
 
