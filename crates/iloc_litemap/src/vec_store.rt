@@ -35,6 +35,8 @@ impl<K: Drop, V: Drop> Store<K, V> for Vec<(K, V)> {
         &mut pair.1
     }
 
+    // It is a call, as `lm_remove` is, so that keys are looked for in registers.
+    #[inline(never)]
     fn lm_insert(
         &mut self,
         alloc: Global,
@@ -45,6 +47,7 @@ impl<K: Drop, V: Drop> Store<K, V> for Vec<(K, V)> {
         self.lm_insert_in(alloc, index, key, value)
     }
 
+    #[inline(never)]
     fn lm_remove(&mut self, index: usize) -> (K, V) {
         if index + 1 == self.len() {
             return self.take_last();

@@ -1,7 +1,7 @@
 use Rattle.std.proofs.Common.{subst}
 use Rattle.iloc_litemap.specs.Pairs.{IsPlace}
 use Rattle.iloc_litemap.proofs.Places.{only_place, place_in_range}
-use Rattle.iloc_litemap.proofs.search.place_among.Goals as goal
+use Rattle.iloc_litemap.proofs.search.place_in.Goals as goal
 
 pub returns-clause-place : goal.returns-clause-place
 returns-clause-place g c = only_place g.met.K.Ord.total c.args.key.now c.args.pairs.now c.requires _
