@@ -280,8 +280,10 @@ after_language_kinded {s} takes i h {ps} {parts} rest =
     kinded_as (three (option_to_list i.script) (option_to_list i.region) i.variants ps)
     (three (of_kind kinds.Script (option_to_list i.script)) (of_kind kinds.Region (option_to_list i.region))
     (of_kind kinds.Variant i.variants) parts)
-    (each_kinded s kinds.Script Script (λ p h. h) takes.script _ (each_option (λ p h. h) i.script h.script)
-    (each_kinded s kinds.Region Region (λ p h. h) takes.region _ (each_option (λ p h. h) i.region h.region)
+    (each_kinded s kinds.Script Script (λ p h. h) takes.script _
+    (each_option {P = IsWord Script} (λ p h. h) i.script h.script)
+    (each_kinded s kinds.Region Region (λ p h. h) takes.region _
+    (each_option {P = IsWord Region} (λ p h. h) i.region h.region)
     (each_kinded s kinds.Variant Variant (λ p h. h) takes.variant i.variants h.variants rest)))
 
 -- an identifier, in front or after `t`
