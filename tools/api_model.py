@@ -4,7 +4,7 @@ import dataclasses
 import functools
 import itertools
 import re
-from typing import NamedTuple
+from collections import namedtuple
 
 import api_words
 from api_source import ALIAS, CORE, crate, libraries, modules, sources
@@ -28,33 +28,16 @@ GIVERS = {
 }
 
 
-@dataclasses.dataclass
-class Call:
+class Call(namedtuple("Call", "owner name item crate signature sentence details needs refuses memory rust key")):
     """A call: what it says, and the words of its contract."""
-
-    owner: str
-    name: str
-    item: object
-    crate: str
-    signature: str
-    sentence: str
-    details: list
-    needs: list
-    refuses: list
-    memory: str
-    rust: str
-    key: tuple
 
     @property
     def title(self):
         return f"{self.owner}::{self.name}" if self.owner else self.name
 
 
-class Given(NamedTuple):
-    """A trait that a type has: its name, and what is special for the type."""
-
-    trait: str
-    said: str
+# A trait that a type has: its name, and what is special for the type.
+Given = namedtuple("Given", "trait said")
 
 
 @dataclasses.dataclass
@@ -352,7 +335,7 @@ def entry_of(module, home, made, shown, seen):
     if kind == "fn":
         call, entry.rust = call_of(item, "", home, rust, made), "" if entry.is_law else rust
         signature = re.sub(rf"\bfn {call.name}\b", f"fn {shown}", call.signature)
-        entry.calls = [dataclasses.replace(call, name=shown, signature=signature, rust=entry.rust)]
+        entry.calls = [call._replace(name=shown, signature=signature, rust=entry.rust)]
     elif kind == "trait":
         inner = [at for at in item.inner if "fn " in at.signature]
         entry.calls = [call_of(at, shown, home, rust, made) for at in inner]

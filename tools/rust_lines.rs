@@ -144,7 +144,6 @@ fn answer<T: Writeable>(parsed: Result<T, ParseError>, replies: &mut Replies) {
 }
 
 /// A bit for each newline among these bytes.
-#[cfg(target_arch = "x86_64")]
 #[inline(always)]
 fn line_ends(lanes: &[u8; LANES]) -> u64 {
     use std::arch::x86_64::{_mm_cmpeq_epi8, _mm_loadu_si128, _mm_movemask_epi8, _mm_set1_epi8};
@@ -157,13 +156,6 @@ fn line_ends(lanes: &[u8; LANES]) -> u64 {
         u64::from(found as u32) << at
     };
     ends(0) | ends(16) | ends(32) | ends(48)
-}
-
-/// A bit for each newline among these bytes.
-#[cfg(not(target_arch = "x86_64"))]
-fn line_ends(lanes: &[u8; LANES]) -> u64 {
-    let bits = lanes.iter().enumerate();
-    bits.fold(0, |ends, (at, byte)| ends | u64::from(*byte == b'\n') << at)
 }
 
 /// Answers the line that began in the block before, and returns where the next begins.

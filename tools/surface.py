@@ -9,7 +9,7 @@ import re
 import resource
 import statistics
 import subprocess
-from typing import NamedTuple
+from collections import namedtuple
 
 from surface_programs import parts_of_calls, program, questions
 from written import table
@@ -23,13 +23,8 @@ LONG, TURNS = 60_000_000, 9
 FAR = 1.5
 
 
-class Row(NamedTuple):
+class Row(namedtuple("Row", "call ours crate times")):
     """A call, and its instructions and nanoseconds in this library and in the Rust crate."""
-
-    call: object
-    ours: float
-    crate: float
-    times: tuple
 
     def ratio(self):
         return self.ours / max(self.crate, 0.5)

@@ -1,21 +1,12 @@
 """The table of calls of tools/benchmark --surface, as tools/surface_calls.txt has it, whose head says how it is written."""
 import re
-from typing import NamedTuple
+from collections import namedtuple
 
 from common import read
 
 
-class Call(NamedTuple):
-    """A call, and what it is given."""
-
-    name: str
-    module: str
-    texts: list
-    others: list
-    before: str
-    body: str
-
-
+# A call, and what it is given.
+Call = namedtuple("Call", "name module texts others before body")
 # Texts that a keyword type refuses.
 UNKNOWN = {"foo", "bar"}
 
