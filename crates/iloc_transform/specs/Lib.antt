@@ -3,3 +3,4 @@ pub mod FieldsReading
 pub mod FieldsOrder
 pub mod LangReading
 pub mod TransformReading
+pub mod Sizes

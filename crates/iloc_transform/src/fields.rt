@@ -33,12 +33,14 @@ ghost use Rattle.std.proofs.Common.{refl};
 ghost use Rattle.iloc_spec_parts.specs.Orders.{fields_cmp};
 ghost use Rattle.iloc_transform.specs.FieldsOrder.{fields_ties, fields_total};
 ghost use Rattle.iloc_memory.specs.Refusals.{RefusedWithin};
-ghost use Rattle.iloc_litemap.specs.Pairs.{HasAscendingKeys};
+ghost use Rattle.iloc_copying.specs.Room.{RefusedAmong};
+ghost use Rattle.iloc_litemap.specs.Pairs.{HasAscendingKeys, pairs_items};
 ghost use Rattle.iloc_subtags.specs.Judging.{RunsOutOnlyIf};
 ghost use Rattle.iloc_subtags.specs.Left.{left};
 ghost use Rattle.iloc_transform.specs.FieldsReading.{IsFieldPair, FieldsFills};
 
 use crate::value::Value;
+use iloc_copying::{Copied, Copying, FromMemory, FromOwn};
 use iloc_litemap::LiteMap;
 use iloc_memory::Memory;
 use iloc_subtags::{ParseError, SubtagIterator, TransformKey, TransformKeyKind, take_word};
@@ -233,8 +235,35 @@ impl Fields {
             × I.into_iter_gives pairs it × Drains I.IntoIter.next_gives it xs
             × (m ≡ map_of word_cmp (reverse xs))) }
     {
-        let map = LiteMap::from_pairs(alloc, pairs)?;
+        Self::from_pairs_in(alloc, pairs)
+    }
+
+    /// As `from_pairs`, from any memory. Refusal: `AllocError`, only if room for at most the pairs so far was refused.
+    pub fn from_pairs_in<M: Memory, I: IntoIterator<Item = (Key, Value)>>(
+        memory: M,
+        pairs: I,
+    ) -> Result<Self, AllocError>
+        requires { IsFiniteIterable I.into_iter_gives I.IntoIter.can_next
+            I.IntoIter.remaining pairs }
+        ensures value { IfOk result
+            (λ m. (it : I.IntoIter) × (xs : List (List ℕ × List (List ℕ)))
+            × I.into_iter_gives pairs it × Drains I.IntoIter.next_gives it xs
+            × (m ≡ map_of word_cmp (reverse xs))) }
+        ensures out_of_memory { OnErr result
+            (RefusedAmong I.into_iter_gives I.IntoIter.next_gives M.refused pairs 0) }
+    {
+        let map = LiteMap::from_pairs_in(memory, pairs)?;
         Ok(Fields::from(map))
+    }
+
+    /// A copy, from any memory. Refusal: `AllocError`, only if room for at most as many items as there are in all was
+    /// refused.
+    pub fn clone_in<M: Memory>(&self, memory: M) -> Result<Self, AllocError>
+        ensures value { IfOk result (λ copy. copy ≡ self.now) }
+        ensures out_of_memory { OnErr result
+            (RefusedWithin M.refused (pairs_items length self.now)) }
+    {
+        self.copied(FromMemory(memory))
     }
 }
 
@@ -271,8 +300,16 @@ impl Clone for Fields {
     ghost is_clone = { λ f g. g ≡ f };
 
     fn clone(&self) -> Result<Self, AllocError> {
+        self.copied(FromOwn)
+    }
+}
+
+impl Copied for Fields {
+    ghost size = { pairs_items length };
+
+    fn copied<C: Copying>(&self, copying: C) -> Result<Self, AllocError> {
         Ok(Fields {
-            map: self.map.clone()?,
+            map: self.map.copied(copying)?,
         })
     }
 }

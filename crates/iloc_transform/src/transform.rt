@@ -1,5 +1,5 @@
 //! The transform extension.
-ghost use Rattle.std.specs.Prelude.{◌≡◌, ⊤, ◌==◌, ◌&&◌, [], None, Some, Ok, not, length, is_some};
+ghost use Rattle.std.specs.Prelude.{◌≡◌, ⊤, ◌==◌, ◌&&◌, [], None, Some, Ok, IfOk, OnErr, not, length, is_some};
 ghost use Rattle.std.specs.Result.{result_and};
 ghost use Rattle.iloc_spec_grammar.specs.Syntax.{languages};
 ghost use Rattle.iloc_spec_grammar.specs.Meaning.{Fault};
@@ -8,6 +8,7 @@ ghost use Rattle.iloc_spec_parts.specs.Orders.{transform_cmp};
 ghost use Rattle.iloc_subtags.specs.Judging.{Accepts, Refuses, RunsOutOnlyIf};
 ghost use Rattle.iloc_subtags.specs.Left.{left};
 ghost use Rattle.iloc_memory.specs.Refusals.{RefusedWithin};
+ghost use Rattle.iloc_transform.specs.Sizes.{transform_items};
 ghost use Rattle.iloc_transform.specs.TransformReading.{TransformReads, TransformFills, TransformWantsMemory, value_of, TransformTextReads, TransformTextWants};
 ghost use Rattle.iloc_spec_grammar.specs.Values.{transform_spelling, transform_text};
 ghost use Rattle.iloc_spec_grammar.specs.Syntax as written;
@@ -15,22 +16,44 @@ ghost use Rattle.iloc_spec_grammar.specs.Syntax as written;
 use crate::Fields;
 use crate::fields::fill_fields;
 use crate::lang::{cmp_langs, fill_lang, lowercase};
+use iloc_copying::{Copied, Copying, FromMemory, FromOwn};
 use iloc_langid::LanguageIdentifier;
 use iloc_memory::Memory;
 use iloc_other::singleton::take_singleton;
 use iloc_subtags::{ParseError, SubtagIterator};
 use iloc_writeable::{Pieces, Sink, Writeable};
-use std::alloc::Global;
+use std::alloc::{AllocError, Global};
 use std::cmp::Ordering;
 use std::fmt;
 
 /// The transform extension: how the content was transformed, and from what.
-#[derive(Clone, Drop, Debug, PartialEq, Eq, Hash)]
+#[derive(Drop, Debug, PartialEq, Eq, Hash)]
 pub struct Transform {
     /// The language that was transformed.
     pub lang: Option<LanguageIdentifier>,
     /// How it was transformed.
     pub fields: Fields,
+}
+
+impl Clone for Transform {
+    ghost is_clone = { λ t u. u ≡ t };
+
+    fn clone(&self) -> Result<Self, AllocError> {
+        self.copied(FromOwn)
+    }
+}
+
+impl Copied for Transform {
+    ghost size = { transform_items };
+
+    fn copied<C: Copying>(&self, copying: C) -> Result<Self, AllocError> {
+        let fields = self.fields.copied(copying)?;
+        let Some(lang) = &self.lang else {
+            return Ok(Transform { lang: None, fields });
+        };
+        let lang = Some(lang.copied(copying)?);
+        Ok(Transform { lang, fields })
+    }
 }
 
 impl Transform {
@@ -51,6 +74,15 @@ impl Transform {
             lang: None,
             fields: Fields::new_in(memory),
         }
+    }
+
+    /// A copy, from any memory. Refusal: `AllocError`, only if room for at most as many items as there are in all was
+    /// refused.
+    pub fn clone_in<M: Memory>(&self, memory: M) -> Result<Self, AllocError>
+        ensures value { IfOk result (λ copy. copy ≡ self.now) }
+        ensures out_of_memory { OnErr result (RefusedWithin M.refused (transform_items self.now)) }
+    {
+        self.copied(FromMemory(memory))
     }
 
     /// Whether there is neither identifier nor field.

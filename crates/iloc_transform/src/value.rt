@@ -1,5 +1,5 @@
 //! The value of a transform field.
-ghost use Rattle.std.specs.Prelude.{◌≡◌, ⊤, ◌<◌, ◌+◌, ◌++◌, ◌∷◌, [], length, false, ℕ, List, Ok, Err, OnOk, OnErr, IfErr, IsOk, Some, if◌then◌else◌};
+ghost use Rattle.std.specs.Prelude.{◌≡◌, ⊤, ◌<◌, ◌+◌, ◌++◌, ◌∷◌, [], length, false, ℕ, List, Ok, Err, OnOk, OnErr, IfOk, IfErr, IsOk, Some, if◌then◌else◌};
 ghost use Rattle.std.specs.List.{AllByRecursion};
 ghost use Rattle.iloc_spec_grammar.specs.Syntax.{Text, pieces, Attribute as the_kind, is_true};
 ghost use Rattle.iloc_spec_grammar.specs.Values.{field_value_text, spelled_value};
@@ -11,6 +11,7 @@ ghost use Rattle.iloc_subtags.specs.Judging.{Accepts, Refuses, RunsOutOnlyIf};
 ghost use Rattle.iloc_memory.specs.Refusals.{RefusedWithin};
 ghost use Rattle.iloc_transform.specs.ValueReading.{IsValueWord, FieldValueReads, FieldValueTextReads, FieldValueTextWants};
 
+use iloc_copying::{Copied, Copying, FromMemory, FromOwn};
 use iloc_memory::Memory;
 use iloc_shortvec::ShortWords;
 use iloc_subtags::{Attribute, AttributeKind, ParseError, SubtagIterator, take_word};
@@ -47,6 +48,14 @@ impl Value {
         Value {
             subtags: ShortWords::new(),
         }
+    }
+
+    /// A copy, from any memory. Refusal: `AllocError`, only if room for at most all the subtags was refused.
+    pub fn clone_in<M: Memory>(&self, memory: M) -> Result<Self, AllocError>
+        ensures value { IfOk result (λ copy. copy ≡ self.now) }
+        ensures out_of_memory { OnErr result (RefusedWithin M.refused (length self.now)) }
+    {
+        self.copied(FromMemory(memory))
     }
 
     /// The subtags in order.
@@ -175,8 +184,16 @@ impl Clone for Value {
     ghost is_clone = { λ v w. w ≡ v };
 
     fn clone(&self) -> Result<Self, AllocError> {
+        self.copied(FromOwn)
+    }
+}
+
+impl Copied for Value {
+    ghost size = { length };
+
+    fn copied<C: Copying>(&self, copying: C) -> Result<Self, AllocError> {
         Ok(Value {
-            subtags: self.subtags.clone()?,
+            subtags: self.subtags.copied(copying)?,
         })
     }
 }
