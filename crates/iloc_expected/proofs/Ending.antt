@@ -52,21 +52,24 @@ module _ (at again : Cursor) (short : IsShortPiece (piece_left at)) (end : at.pi
   variants_same = ap first_variants (last_piece at end short).one ∙ same_variants (piece_left at)
       ∙ ap first_variants (sym two_left)
 
-  are_read : (o : Option ℕ) (vs : List Text) → AreVariantsRead o at vs → AreVariantsRead o again vs
-  are_read None vs h = h
-  are_read (Some n) vs h =
-      (h.0, subst (λ (ws : List Text). AreNew are_same vs (map lower ws) n) variants_same h.1)
+  are_read : (mode : Mode) (o : Option ℕ) (vs : List Text) → AreVariantsRead mode o at vs →
+      AreVariantsRead mode o again vs
+  are_read mode None vs h = h
+  are_read mode (Some n) vs h = (
+    h.0,
+    λ other. subst (λ (ws : List Text). AreNew are_same vs (map lower ws) n) variants_same (h.1 other),
+  )
 
   pub read_again : {mode : Mode} {ps : List Text} {r : Reading} → IsReadUpTo mode ps at r →
       IsReadUpTo mode ps again r
-  read_again {r = r} h = record {
+  read_again {mode = mode} {r = r} h = record {
     variants = h.variants;
     seen = h.seen;
     free = h.free;
     ran = h.ran;
     read = record {
       seen_are = h.read.seen_are;
-      variants_are = are_read r.state.variants h.variants h.read.variants_are;
+      variants_are = are_read mode r.state.variants h.variants h.read.variants_are;
       early = h.read.early;
     };
     few = h.few;

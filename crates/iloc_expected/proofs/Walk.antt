@@ -232,19 +232,20 @@ pub front_free : (xs ys : List Text) → AllByRecursion IsHyphenFree (xs ++ ys) 
 front_free [] ys h = tt
 front_free (x ∷ xs) ys h = (h.0, front_free xs ys h.1)
 
-none_are : (o : Option ℕ) (at : Cursor) (vs : List Text) → AreVariantsRead o at vs → (o ≡ None) ↔ (vs ≡ [])
-none_are None at vs h = ((λ e. h), (λ e. refl))
-none_are (Some n) at vs h = ((λ e. cc), (λ e. absurd (h.0 e)))
+none_are : (mode : Mode) (o : Option ℕ) (at : Cursor) (vs : List Text) → AreVariantsRead mode o at vs →
+    (o ≡ None) ↔ (vs ≡ [])
+none_are mode None at vs h = ((λ e. h), (λ e. refl))
+none_are mode (Some n) at vs h = ((λ e. cc), (λ e. absurd (h.0 e)))
 
 pub reading_is : {mode : Mode} {ps : List Text} {at : Cursor} {r : Reading} → IsReadUpTo mode ps at r →
     IsReading mode ps r
-reading_is {at = at} {r = r} h = record {
+reading_is {mode = mode} {at = at} {r = r} h = record {
   variants = h.variants;
   seen = h.seen;
   free = h.free;
   ran = h.ran;
   seen_are = h.read.seen_are;
-  none_are = none_are r.state.variants at h.variants h.read.variants_are;
+  none_are = none_are mode r.state.variants at h.variants h.read.variants_are;
   few = h.few;
   place = h.place;
 }

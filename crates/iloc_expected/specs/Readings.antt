@@ -74,7 +74,7 @@ keyed_after keyed _ p = false
 -- what is read with the piece is so, and behind the piece the state tells it
 abbrev pub IsPieceTaken : Mode → Bool → Part → List Text → List ℕ → Cursor → Option Reading → Type 0
 IsPieceTaken mode keyed part vs seen at None = next mode (reached part vs seen) (piece_left at) ≡ None
-IsPieceTaken mode keyed part vs seen at (Some r) = IsStatePieceRead at
+IsPieceTaken mode keyed part vs seen at (Some r) = IsStatePieceRead mode at
     (next mode (reached part vs seen) (piece_left at)) (Some r.state)
     × (r.keyed ≡ keyed_after keyed r.state.part (piece_left at))
 
@@ -84,7 +84,7 @@ pub record IsReadUpTo (mode : Mode) (ps : List Text) (at : Cursor) (r : Reading)
   pub seen : List ℕ
   pub free : AllByRecursion IsHyphenFree ps
   pub ran : run mode (Some started) ps ≡ Some (reached r.state.part variants seen)
-  pub read : IsStateRead r.state at variants seen
+  pub read : IsStateRead mode r.state at variants seen
   pub few : length variants ≤ length ps
   pub place : IsReadAt r.state.part r.keyed (place_after ps)
 

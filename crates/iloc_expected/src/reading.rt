@@ -33,8 +33,8 @@ fn is_keyed(keyed: bool, part: Part, at: Cursor<'_>) -> bool
 
 // What was read with the piece too; `None` if it may not come next.
 fn read_piece<R: Room>(room: R, mode: Mode, reading: Reading, at: Cursor<'_>) -> Option<Reading>
-    requires { (vs : List Text) × (seen : List ℕ) × IsStateRead reading.state at vs seen }
-    ensures { (vs : List Text) (seen : List ℕ) → IsStateRead reading.state at.entry vs seen
+    requires { (vs : List Text) × (seen : List ℕ) × IsStateRead mode reading.state at vs seen }
+    ensures { (vs : List Text) (seen : List ℕ) → IsStateRead mode reading.state at.entry vs seen
         → IsPieceTaken mode reading.keyed reading.state.part vs seen at.entry result }
 {
     let Some(state) = step(room, mode, reading.state, at) else {
