@@ -1,6 +1,6 @@
 -- From what the readers answer to what a caller finds.
 use Rattle.std.specs.Prelude.{ℤ, MatchResult, ⊤}
-use Rattle.std.proofs.Common.{◌≡◌, ℕ, Bool, true, false, IsTrue, ◌↔◌, ◌⊎◌, List, Result, Ok, Err, inl}
+use Rattle.std.proofs.Common.{◌≡◌, ℕ, Bool, true, false, IsTrue, ◌↔◌, ◌⊎◌, Result, Ok, Err, inl}
 use Rattle.std.proofs.Common.{inr, refl, sym, ap, ◌∙◌, subst, true≢false}
 use Rattle.std.specs.Int.{from_bool}
 use Rattle.std.specs.Ordering.{is_eq, nat_cmp}
@@ -48,17 +48,7 @@ use Rattle.iloc_calls.specs.Answers.{
 }
 use Rattle.iloc_calls.specs.Numbers.{status_of}
 use Rattle.iloc_calls.specs.declared.status.Status.{Status}
-use Rattle.iloc_calls.specs.declared.status.Status.TheVariants.{
-  Done,
-  InvalidLanguage,
-  InvalidSubtag,
-  InvalidExtension,
-  DuplicatedExtension,
-  OutOfMemory,
-  BufferTooSmall,
-  UnknownNumber,
-  NotFound,
-}
+use Rattle.iloc_calls.specs.declared.status.Status.TheVariants.{Done, OutOfMemory}
 use Rattle.iloc_normalize.specs.Modes.{IsNormalText, IsFaulty}
 use Rattle.std.specs.Cmp.{Equal-is}
 

@@ -6,7 +6,6 @@ use Rattle.iloc_writeable.specs.Hints.{saturated}
 use Rattle.iloc_pieces.specs.Plain.{AreWords, IsPlain, value_of}
 use Rattle.iloc_pieces.specs.declared.plain.Plain.{Plain}
 use Rattle.iloc_normalize.proofs.PlainAnswers.{plain_normal}
-use Rattle.iloc_subtags.specs.declared.parse_error.ParseError.TheVariants as refusals
 use Rattle.iloc_normalize.specs.declared.Mode.{Mode}
 use Rattle.iloc_calls.specs.Answers.{HandsOut, NormalizesTo}
 use Rattle.iloc_calls.specs.declared.status.Status.{Status}

@@ -100,18 +100,8 @@ part_told mode t n part o before after needed status h p told =
     by Done o q told = let l = locale_of_normal mode t n h in (l.locale, l.meant, (o, q, told))
     by BufferTooSmall o q told = let l = locale_of_normal mode t n h in (l.locale, l.meant, (o, q, told))
     by NotFound o q told = let l = locale_of_normal mode t n h in (l.locale, l.meant, (o, q, told))
-    by OutOfMemory None q told = absurd told
-    by OutOfMemory (Some x) q told = absurd told
-    by InvalidLanguage None q told = absurd told
-    by InvalidLanguage (Some x) q told = absurd told
-    by InvalidSubtag None q told = absurd told
-    by InvalidSubtag (Some x) q told = absurd told
-    by InvalidExtension None q told = absurd told
-    by InvalidExtension (Some x) q told = absurd told
-    by DuplicatedExtension None q told = absurd told
-    by DuplicatedExtension (Some x) q told = absurd told
-    by UnknownNumber None q told = absurd told
-    by UnknownNumber (Some x) q told = absurd told
+    by _ None q told = absurd told
+    by _ (Some x) q told = absurd told
 
 -- a plain text begins with its normal text
 pub plain_front : (mode : Mode) (t : Text) (p : Plain) → IsPlain t p
@@ -132,11 +122,8 @@ text_refused t range before e s r m is =
   where
     by : (e : ParseError) → Refusal (IsFaulty languages Locale t) ⊤ e → RunsOut t e
         → MatchesTo t range before before (status_of e)
-    by refusals.InvalidLanguage h m = (inl h, refl)
-    by refusals.InvalidSubtag h m = (inl h, refl)
-    by refusals.InvalidExtension h m = (inl h, refl)
-    by refusals.DuplicatedExtension h m = (inl h, refl)
     by refusals.OutOfMemory h m = (inl m, refl)
+    by _ h m = (inl h, refl)
 
 -- a range that is refused, after a text that is not
 pub range_refused : (t range a : Text) (before : ℕ) (e : ParseError) (s : Status)
@@ -147,8 +134,5 @@ range_refused t range a before e s n r m is =
   where
     by : (e : ParseError) → Refusal (IsFaulty languages Locale range) ⊤ e → RunsOut range e
         → MatchesTo t range before before (status_of e)
-    by refusals.InvalidLanguage h m = (inr (a, n, h), refl)
-    by refusals.InvalidSubtag h m = (inr (a, n, h), refl)
-    by refusals.InvalidExtension h m = (inr (a, n, h), refl)
-    by refusals.DuplicatedExtension h m = (inr (a, n, h), refl)
     by refusals.OutOfMemory h m = (inr m, refl)
+    by _ h m = (inr (a, n, h), refl)

@@ -73,9 +73,5 @@ bytes_same mode t u a b before after same h k is e =
 -- and a text that means something means nothing that is refused
 pub refused_apart : (mode : Mode) (t u : Text) (e : ParseError) → HasRefusal mode u e → MeanSame mode t u →
     ⊥
-refused_apart mode t u refusals.InvalidLanguage h m = faulty_apart mode t u meaning.InvalidLanguage h m
-refused_apart mode t u refusals.InvalidSubtag h m = faulty_apart mode t u meaning.InvalidSubtag h m
-refused_apart mode t u refusals.InvalidExtension h m = faulty_apart mode t u meaning.InvalidExtension h m
-refused_apart mode t u refusals.DuplicatedExtension h m =
-    faulty_apart mode t u meaning.DuplicatedExtension h m
 refused_apart mode t u refusals.OutOfMemory h m = h
+refused_apart mode t u _ h m = faulty_apart mode t u _ h m

@@ -59,11 +59,8 @@ part_refused mode t part before e s r is =
     subst (PartIsTold mode t part before before 0) (sym is) (by e r)
   where
     by : (e : ParseError) → HasRefusal mode t e → PartIsTold mode t part before before 0 (status_of e)
-    by refusals.InvalidLanguage h = ((h, refl, refl), λ d. cc)
-    by refusals.InvalidSubtag h = ((h, refl, refl), λ d. cc)
-    by refusals.InvalidExtension h = ((h, refl, refl), λ d. cc)
-    by refusals.DuplicatedExtension h = ((h, refl, refl), λ d. cc)
     by refusals.OutOfMemory h = absurd h
+    by _ h = ((h, refl, refl), λ d. cc)
 
 -- the words of a hint that is there
 pub hint_told : (mode : Mode) (t : Text) (hint : Hint) (before after : Text) (needed : ℕ) (status : Status)
@@ -71,13 +68,7 @@ pub hint_told : (mode : Mode) (t : Text) (hint : Hint) (before after : Text) (ne
     → HintIsTold mode t before after needed status
 hint_told mode t hint before after needed Done h o = (hint, h, o)
 hint_told mode t hint before after needed BufferTooSmall h o = (hint, h, o)
-hint_told mode t hint before after needed NotFound h o = absurd o
-hint_told mode t hint before after needed OutOfMemory h o = absurd o
-hint_told mode t hint before after needed InvalidLanguage h o = absurd o
-hint_told mode t hint before after needed InvalidSubtag h o = absurd o
-hint_told mode t hint before after needed InvalidExtension h o = absurd o
-hint_told mode t hint before after needed DuplicatedExtension h o = absurd o
-hint_told mode t hint before after needed UnknownNumber h o = absurd o
+hint_told mode t hint before after needed _ h o = absurd o
 
 -- whether the normal texts match
 pub match_told : (t range a b : Text) (before after : ℕ) (same : Bool) → IsNormalText languages Locale t a
@@ -104,8 +95,5 @@ range_refused t range a before e s n r is =
     subst (MatchIsWritten t range before before) (sym is) (by e r)
   where
     by : (e : ParseError) → HasRefusal Locale range e → MatchIsWritten t range before before (status_of e)
-    by refusals.InvalidLanguage h = ((inr (a, n, h), refl), λ d. cc)
-    by refusals.InvalidSubtag h = ((inr (a, n, h), refl), λ d. cc)
-    by refusals.InvalidExtension h = ((inr (a, n, h), refl), λ d. cc)
-    by refusals.DuplicatedExtension h = ((inr (a, n, h), refl), λ d. cc)
     by refusals.OutOfMemory h = absurd h
+    by _ h = ((inr (a, n, h), refl), λ d. cc)
