@@ -83,12 +83,6 @@ def ends_well(script, *words):
     return child.returncode == 0
 
 
-def make_library(name):
-    """Has bindings/build make the C library, or ends the script of this name."""
-    if not ends_well("bindings/build"):
-        stop(name, "the library was not made", "The lines above say why.")
-
-
 def toolchain(name):
     """Ends the script with what to install, unless the toolchain's command rt can be found."""
     if not shutil.which("rt"):
@@ -99,13 +93,6 @@ def toolchain(name):
 def read(path, errors="strict"):
     """Returns the text of a file, by its path in the repository or its whole path."""
     return pathlib.Path(ROOT, path).read_text(encoding="utf-8", errors=errors)
-
-
-def read_edit(path):
-    """Returns the file that an edit of bindings/ changes, and the text that goes and the one that comes."""
-    lines = path.read_text(encoding="utf-8").split("\n")[:-1]
-    named, old, new = ([it[len(word) + 2 :] for it in lines if it.startswith(f"{word}:")] for word in ("file", "old", "new"))
-    return named[0], "\n".join(old), "\n".join(new)
 
 
 def rows_of(path):

@@ -7,7 +7,7 @@ import pathlib
 import shutil
 import sys
 
-from common import ROOT, loaded, toolchain
+from common import loaded, toolchain
 
 
 toolchain(os.path.basename(sys.argv[0]))

@@ -14,21 +14,8 @@ ASKED = "CASE WHEN {valid} THEN {normal} ELSE '! ' || {reason} END"
 class Tried(Counts):
     """The cases so far, and the names of what was not tried."""
 
-    def __init__(self, is_brief):
-        self.is_brief = is_brief
+    def __init__(self):
         self.not_tried = []
-
-    def see(self, name, is_right, why=""):
-        """Counts a case, and says before what is wrong with it."""
-        if not is_right:
-            print(f"{name}: {why}" if why else name, flush=True)
-        self.add(bool(is_right), not is_right)
-
-    def add(self, passed, failed):
-        """Counts so many cases, and ends at the first that fails, if it was asked to be brief."""
-        super().add(passed, failed)
-        if failed and self.is_brief:
-            sys.exit(self.end())
 
     def skip(self, name, why):
         """Names what is not tried."""
