@@ -167,7 +167,7 @@ def allocator_kind(call):
     """Returns in which column of the table a call stands, if in any."""
     if re.search(r"\b_?alloc: Global", call.signature):
         return "may" if "Result<" in call.signature else "keeps"
-    if re.search(r"\bmemory: M\b", call.signature) or call.item.crate == "iloc_memory":
+    if re.search(r"\b_?memory: M\b|\bcopying: C\b", call.signature) or call.item.crate == "iloc_memory":
         return ""
     return "own" if error_of(call.item) == "AllocError" else ""
 

@@ -208,7 +208,7 @@ def memory(item, wants):
     name = "AllocError" if error == "AllocError" else "OutOfMemory"
     if "M: Ample" in item.signature:
         return "Its memory refuses nothing, so it never runs out of it."
-    takes = re.search(r"\b_?alloc: Global|\bmemory: M\b", item.signature) or item.crate == "iloc_memory"
+    takes = re.search(r"\b_?alloc: Global|\b_?memory: M\b|\bcopying: C\b", item.signature) or item.crate == "iloc_memory"
     whens = enough(item)
     if takes and not may_fail:
         return "Keeps the allocator, and allocates nothing."

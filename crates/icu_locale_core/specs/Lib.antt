@@ -31,7 +31,11 @@ pub use Rattle.iloc_langid.specs.Normalizing as IdentifierNormalizing
 pub use Rattle.iloc_langid.specs.SmallLocaleReads
 pub use Rattle.iloc_word_list.specs.Values as UnicodeValues
 pub use Rattle.iloc_word_list.specs.Reads as UnicodeValueReads
-pub use Rattle.iloc_word_list.specs.Room as UnicodeValueRoom
+pub use Rattle.iloc_copying.specs.Room
+pub use Rattle.iloc_copying.specs.Sizes
+pub use Rattle.iloc_unicode.specs.Sizes as UnicodeSizes
+pub use Rattle.iloc_transform.specs.Sizes as TransformSizes
+pub use Rattle.iloc_locale.specs.Sizes as LocaleSizes
 pub use Rattle.iloc_unicode.specs.Reads as UnicodePartReads
 pub use Rattle.iloc_other.specs.Reading as OtherReading
 pub use Rattle.iloc_keyword_types.specs.Reads as KeywordReads

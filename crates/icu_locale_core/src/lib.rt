@@ -53,8 +53,9 @@
 mod tests;
 mod together;
 
-/// What lists and parsers ask for room, and what is known if it is refused. Programs pass `alloc`, the heap.
+/// What lists, copies and parsers ask for room, and what is known if it is refused. Programs pass `alloc`, the heap.
 pub mod memory {
+    pub use iloc_copying::{Copied, Copying, FromMemory, FromOwn};
     pub use iloc_memory::{Ample, Memory};
 }
 
@@ -78,7 +79,7 @@ pub mod shortvec {
 
 /// A sorted map over a list of pairs.
 pub mod litemap {
-    pub use iloc_litemap::{GrowingStore, LiteMap, Probe, Store, place};
+    pub use iloc_litemap::{CopyingStore, GrowingStore, LiteMap, Probe, Store, place};
 }
 
 /// The subtags of identifiers, and sets of variants.

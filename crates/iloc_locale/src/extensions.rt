@@ -1,14 +1,17 @@
 //! All extensions of a locale.
-ghost use Rattle.std.specs.Prelude.{◌≡◌, ◌↔◌, IsTrue};
+ghost use Rattle.std.specs.Prelude.{◌≡◌, ◌↔◌, IsTrue, IfOk, OnErr};
 ghost use Rattle.iloc_spec_parts.specs.Orders.{extensions_cmp};
 ghost use Rattle.iloc_locale.specs.Retaining.{RetainsByType};
 ghost use Rattle.iloc_locale.specs.ExtensionsValue.{value_of};
+ghost use Rattle.iloc_locale.specs.Sizes.{extensions_items};
+ghost use Rattle.iloc_memory.specs.Refusals.{RefusedWithin};
 ghost use Rattle.iloc_spec_grammar.specs.Meaning.{just_unicode, no_extensions};
 ghost use Rattle.iloc_unicode.specs.UnicodeValue as unicode_value;
 
 use crate::copying::copied;
 use crate::extension_type::ExtensionType;
 use crate::retaining::{keep_private, keep_transform, keep_unicode};
+use iloc_copying::{FromMemory, FromOwn};
 use iloc_memory::Memory;
 use iloc_other::{Other, Private};
 use iloc_transform::Transform;
@@ -34,7 +37,7 @@ impl Clone for Extensions {
     ghost is_clone = { λ d e. value_of e ≡ value_of d };
 
     fn clone(&self) -> Result<Self, AllocError> {
-        copied(self)
+        copied(FromOwn, self)
     }
 }
 
@@ -52,6 +55,16 @@ fn only_unicode<M: Memory>(memory: M, unicode: Unicode) -> Extensions
 }
 
 impl Extensions {
+    /// A copy, from any memory. Refusal: `AllocError`, only if room for at most as many items as there are in all was
+    /// refused.
+    pub fn clone_in<M: Memory>(&self, memory: M) -> Result<Self, AllocError>
+        ensures value { IfOk result (λ copy. value_of copy ≡ value_of self.now) }
+        ensures out_of_memory { OnErr result
+            (RefusedWithin M.refused (extensions_items self.now)) }
+    {
+        copied(FromMemory(memory), self)
+    }
+
     /// No extension.
     #[inline(always)]
     pub fn new(alloc: Global) -> Self

@@ -1,5 +1,5 @@
 //! The type, and its parsers.
-ghost use Rattle.std.specs.Prelude.{◌≡◌, ⊤, ℕ, length, IfOk, Ok};
+ghost use Rattle.std.specs.Prelude.{◌≡◌, ⊤, ℕ, length, IfOk, OnErr, Ok};
 ghost use Rattle.std.specs.Result.{result_and};
 ghost use Rattle.iloc_spec_grammar.specs.Syntax.{Text, languages, two_or_three};
 ghost use Rattle.iloc_spec_grammar.specs.Meaning as meaning;
@@ -7,9 +7,11 @@ ghost use Rattle.iloc_spec_grammar.specs.Meaning.{Means, Fault, HasFault};
 ghost use Rattle.iloc_spec_grammar.specs.Values.{TextStep, Leads, IsWellFormed};
 ghost use Rattle.iloc_locale.specs.LocaleReading.{value_of, unknown_locale, LocaleTextAnswers};
 ghost use Rattle.iloc_memory.specs.Refusals.{RefusedWithin};
+ghost use Rattle.iloc_locale.specs.Sizes.{locale_items};
 
 use crate::copying::copied;
 use crate::{Extensions, read_blocks};
+use iloc_copying::{Copied, Copying, FromMemory, FromOwn};
 use iloc_langid::LanguageIdentifier;
 use iloc_langid::reader::{fill_head, fill_short};
 use iloc_memory::Memory;
@@ -42,10 +44,7 @@ impl Clone for Locale {
 
     #[inline(always)]
     fn clone(&self) -> Result<Self, AllocError> {
-        Ok(Locale {
-            id: self.id.clone()?,
-            extensions: copied(&self.extensions)?,
-        })
+        self.copied(FromOwn)
     }
 }
 
@@ -54,6 +53,28 @@ impl Locale {
     ghost use Rattle.iloc_spec_grammar.specs.Meaning.{no_extensions};
     ghost use Rattle.iloc_locale.specs.LocaleReading.{LocaleTextReads, LocaleWantsMemory};
     ghost use Rattle.iloc_subtags.specs.Judging.{Accepts, Refuses, RunsOutOnlyIf};
+
+    /// A copy, from any memory. Refusal: `AllocError`, only if room for at most as many items as there are in all was
+    /// refused.
+    #[inline(always)]
+    pub fn clone_in<M: Memory>(&self, memory: M) -> Result<Self, AllocError>
+        ensures value { IfOk result (λ copy. value_of copy ≡ value_of self.now) }
+        ensures out_of_memory { OnErr result (RefusedWithin M.refused (locale_items self.now)) }
+    {
+        self.copied(FromMemory(memory))
+    }
+
+    #[inline(always)]
+    fn copied<C: Copying>(&self, copying: C) -> Result<Self, AllocError>
+        ensures value { IfOk result (λ copy. value_of copy ≡ value_of self.now) }
+        ensures out_of_memory { OnErr result
+            (RefusedWithin C.Room.refused (locale_items self.now)) }
+    {
+        Ok(Locale {
+            id: self.id.copied(copying)?,
+            extensions: copied(copying, &self.extensions)?,
+        })
+    }
 
     /// The unknown locale, `und`.
     pub fn unknown(alloc: Global) -> Self

@@ -7,6 +7,10 @@
 #[cfg(test)]
 mod comparing;
 #[cfg(test)]
+mod copied_lists;
+#[cfg(test)]
+mod copied_parts;
+#[cfg(test)]
 mod memory;
 #[cfg(test)]
 mod parsing_memory;
