@@ -73,7 +73,7 @@ impl<A: InMode> Lists for Listed<A> {
 }
 
 // Adds what is written for a line that is refused so. It is generic, so that each mode has its own walk to the place.
-#[inline(never)]
+#[inline(always)]
 fn write_refused<A: InMode>(
     alloc: Global,
     answers: &A,
