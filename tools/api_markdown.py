@@ -41,7 +41,6 @@ def slug(heading):
 
 
 def page_of(module):
-    """Returns the file of a module's page."""
     return f"{HOME}/{(short(module) or CORE).replace('::', '.')}.md"
 
 

@@ -161,7 +161,6 @@ def kinds():
 
 
 def by_refusal():
-    """Returns each refusal of subtags with the kinds that have it."""
     found = {}
     for alias, refusal in kinds().items():
         found.setdefault(refusal, []).append(f"`{alias}`")

@@ -106,7 +106,6 @@ def ghost_uses(imports, texts):
 
 
 def module(says, rows, imports, made):
-    """Returns the source of a module of exports."""
     uses = ghost_uses(imports, " ".join(it for row in rows for it in clauses(row)))
     names = {"Handle" if at == "changes" else "Lent" for it in rows for at in it.takes if at in HANDLES}
     names |= {CALLS[it.kind][0] for it in rows}
@@ -140,7 +139,6 @@ def attributes(row):
 
 
 def declaration(row):
-    """Returns the declaration of a call in C."""
     given, head = [*parameters(row, "C")] or ["void"], attributes(row)
     own = [f'ICU_LOCALE_BOTH("{row.symbol}_or_itself")'] if "_BOTH" in head else []
     units = [*[f"{it}," for it in given[:-1]], f"{given[-1]})", *own, "ICU_LOCALE_NOEXCEPT;"]

@@ -84,7 +84,6 @@ class Table:
                 self.rows.append(row)
 
     def rows_of(self, module):
-        """Returns the rows whose exports the module has."""
         return [it for it in self.rows if it.module == module and not it.is_by_hand]
 
 

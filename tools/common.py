@@ -145,7 +145,6 @@ class Counts:
         self.passed += not faults
 
     def add(self, passed, failed):
-        """Counts so many cases."""
         self.passed, self.failed = self.passed + passed, self.failed + failed
 
     def end(self):

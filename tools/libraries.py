@@ -23,7 +23,6 @@ AN_HOUR = "up to an hour of CPU time, once"
 
 
 def texts_of(crate):
-    """Returns the paths of the texts of the crate, and of all below it."""
     return [path for it in [crate, *crate.below()] for path in files_of(it.name, PROVED_PARTS)]
 
 
@@ -65,7 +64,6 @@ class KeptByCi:
                     self.kept.rlibs[it.name] = hashlib.sha256(repr(made).encode()).hexdigest()
 
     def lacking(self):
-        """Returns the libraries that are not kept."""
         return [it for it in self.crates if it.name not in self.keys]
 
     def take(self):

@@ -123,7 +123,6 @@ class Item:
         return [" ".join(it.split()) for it in re.split(r"\n ?\n", text) if it.strip()]
 
     def sentence(self):
-        """Returns the first sentence of the comment."""
         return first_sentence((self.paragraphs() or [""])[0])
 
     def details(self):
@@ -347,7 +346,6 @@ def read_text(text):
 
 
 def read_crate(root, name):
-    """Returns the modules of a crate by their paths."""
     made, top = {}, os.path.abspath(f"{root}/crates/{name}/src")
     read_file(made, name, (), top, "lib.rt")
     if not made:

@@ -64,7 +64,6 @@ def crates_in(name):
 
 
 def toolchain_line():
-    """Returns the line by which the toolchain names itself."""
     return subprocess.run(["rt", "version"], check=True, stdout=subprocess.PIPE, universal_newlines=True).stdout.strip()
 
 
@@ -97,7 +96,6 @@ def licence(name):
 
 
 def part(name, version, declared, **more):
-    """Returns one part of the SPDX list."""
     return {
         "SPDXID": f"SPDXRef-{re.sub('[^A-Za-z0-9.]', '-', name)}", "name": name, "versionInfo": version,
         "downloadLocation": "NOASSERTION", "filesAnalyzed": False, "licenseConcluded": declared, "licenseDeclared": declared,

@@ -68,7 +68,6 @@ class Table:
         return self.of_many[max(ends, key=len)]
 
     def before(self, code, more):
-        """Returns the code before a call: that of its head, and more."""
         more = more.replace("OTHER", code.replace("let v", "let o").replace(", a)", ", b)"))
         if more.startswith("mut"):
             code, more = code.replace("let v", "let mut v"), more[len("mut") :]

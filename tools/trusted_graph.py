@@ -67,7 +67,6 @@ class Sources:
     # Names of antt.
 
     def full(self, module, path):
-        """Returns the whole path of a module that a path names in this module."""
         if path[0] == "package":
             return path[1:]
         if path[0] in module.children and path[0] != "Rattle":
@@ -159,7 +158,6 @@ class Sources:
         return self.rust_path(head, tuple(path[1:])) if head in self.rust else None
 
     def types_in(self, source, text, without=()):
-        """Returns the types that a text of Rust names."""
         found = []
         for it in re.findall(rf"(?<![\w.'])(?:{rt.NAME}::)*[A-Z]\w*", rt.blanked(text)):
             path = tuple(it.split("::"))

@@ -57,7 +57,6 @@ def lines_of(items):
 
 
 def counted(closure):
-    """Returns in words how much a closure holds."""
     files = lambda every: len({it.module.path for it in every})
     size = lambda every: f"{len(every)} definitions, {lines_of(every)} lines, {files(every)} files"
     silent = sum(not it.sentence() for it in closure.definitions)
@@ -269,7 +268,6 @@ def dedented(text):
 
 
 def texts_of(sources):
-    """Returns the texts of the pages by their paths."""
     return {path: common.read(os.path.join(sources.root, path)) for path in PAGES}
 
 
