@@ -1,4 +1,4 @@
--- What a refusal says of the first piece: only a text that begins with no language is refused for its language.
+-- What a refusal says of the first piece: for its language a text is refused only if it begins with none.
 use Rattle.std.proofs.Common.{◌≡◌, ◌≢◌, ℕ, Bool, true, false, List, [], ◌∷◌, length, None, inl, inr, refl, sym, ap}
 use Rattle.std.proofs.Common.{◌∙◌, subst, arith}
 use Rattle.std.proofs.lemmas.Bool.{cases_Bool}

@@ -154,15 +154,16 @@ none_early (Source Script) = refl
 none_early (Source Region) = tt
 none_early _ = tt
 
-pub plain_read : (mode : Mode) (at : Cursor) (bits : ℕ) (seen : List ℕ) → AreSingletonsSeen bits seen → (o : Option Part) →
-    IfSome o (λ _. IsShortPiece (piece_left at)) →
+pub plain_read : (mode : Mode) (at : Cursor) (bits : ℕ) (seen : List ℕ) → AreSingletonsSeen bits seen →
+    (o : Option Part) → IfSome o (λ _. IsShortPiece (piece_left at)) →
     IsPieceRead mode at (option_map (plain seen) o) (option_map (bare bits) o)
 plain_read mode at bits seen h None short = refl
 plain_read mode at bits seen h (Some p) short =
     ([], seen, refl, short, λ m next. record { seen_are = h; variants_are = refl; early = none_early p })
 
 -- the same, as the reader makes it
-pub plain_is : (mode : Mode) (at : Cursor) (bits : ℕ) (seen : List ℕ) → AreSingletonsSeen bits seen → (o : Option Part) →
+pub plain_is : (mode : Mode) (at : Cursor) (bits : ℕ) (seen : List ℕ) → AreSingletonsSeen bits seen →
+    (o : Option Part) →
     IfSome o (λ _. IsShortPiece (piece_left at)) → (s : Option State) → s ≡ option_map (bare bits) o →
     (r : Option Reached) → r ≡ option_map (plain seen) o → IsPieceRead mode at r s
 plain_is mode at bits seen h o short s e r f = subst (λ x. IsPieceRead mode at x s) (sym f)
@@ -271,7 +272,8 @@ module _ (mode : Mode) (at : Cursor) (part : Part) (vs : List Text) (seen : List
       IsPieceRead mode at (inside_next mode part vs seen (piece_left at))
       (Some (record { part = Source w.0; variants = w.1; seen = bits }))
   source_read stage e k w r =
-      rw (e, k) (word_read mode Source (λ s f x. x) at bits seen h (word_next mode stage vs (piece_left at)) w r)
+      rw (e, k)
+      (word_read mode Source (λ s f x. x) at bits seen h (word_next mode stage vs (piece_left at)) w r)
 
 -- the part is inside another block
 abbrev is_inside : Part → Bool
@@ -304,8 +306,10 @@ pub other_read : (mode : Mode) (at : Cursor) (part : Part) (vs : List Text) (see
     ((stage : Stage) → part ≢ Source stage)
     → (s : Option State) → s ≡ option_map (bare bits) (piece_next part (piece_left at)) →
     IsPieceRead mode at (inside_next mode part vs seen (piece_left at)) s
-other_read mode at part vs seen bits h a b c d s f = plain_is mode at bits seen h (piece_next part (piece_left at))
-    (piece_short part (piece_left at)) s f _ (inside_is mode part vs seen (piece_left at) (by part a b c d))
+other_read mode at part vs seen bits h a b c d s f =
+    let none = inside_is mode part vs seen (piece_left at) (by part a b c d) in
+    let short = piece_short part (piece_left at) in
+    plain_is mode at bits seen h (piece_next part (piece_left at)) short s f _ none
   where
     by : (part : Part) → part ≢ Start → ((stage : Stage) → part ≢ Head stage) → part ≢ Transform →
         ((stage : Stage) → part ≢ Source stage) → is_inside part ≡ true

@@ -82,7 +82,8 @@ walk_starts mode t at e b = record {
 }
 
 -- nothing was read, and so the piece may not come next
-pub none_else : (mode : Mode) (at : Cursor) (o : Option Reached) (r : Option State) → ((s : State) → r ≢ Some s) →
+pub none_else : (mode : Mode) (at : Cursor) (o : Option Reached) (r : Option State) →
+    ((s : State) → r ≢ Some s) →
     IsPieceRead mode at o r → o ≡ None
 none_else mode at o None n h = h
 none_else mode at o (Some s) n h = absurd (n s refl)

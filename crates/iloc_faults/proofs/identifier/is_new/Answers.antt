@@ -16,4 +16,5 @@ returns-in-Data c vs h =
 pub returns-in_default : goal.returns-in_default
 returns-in_default c vs h =
     let k = subst (λ (o : Option ℕ). AreVariantsRead c.args.mode o c.args.at vs) c.in-Some.is h in
-    new_some c.args.mode vs c.args.at c.in-Some.fresh c.in_default.not-Data c.requires.word (k.1 c.in_default.not-Data)
+    new_some c.args.mode vs c.args.at c.in-Some.fresh c.in_default.not-Data c.requires.word
+    (k.1 c.in_default.not-Data)

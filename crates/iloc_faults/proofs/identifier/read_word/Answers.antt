@@ -11,7 +11,8 @@ pub returns-then-is_script : goal.returns-then-is_script
 returns-then-is_script g c vs h =
     let none = subst (λ (s : Stage). IsEarly s c.args.variants) c.in-Language.is c.requires.early in
     subst (λ (s : Stage).
-    IsWordRead c.args.mode c.args.at (word_next c.args.mode s vs (piece_left c.args.at)) (Some (Script, None)))
+    IsWordRead c.args.mode c.args.at
+    (word_next c.args.mode s vs (piece_left c.args.at)) (Some (Script, None)))
     (sym c.in-Language.is)
     (script_read c.args.mode c.args.at vs (none_yet c.args.mode c.args.at c.args.variants vs none h)
     (sym c.is_script.ensures ∙ c.if-is_script.true))
@@ -19,6 +20,7 @@ returns-then-is_script g c vs h =
 pub returns-in-Region : goal.returns-in-Region
 returns-in-Region g c vs h =
     subst (λ (s : Stage).
-    IsWordRead c.args.mode c.args.at (word_next c.args.mode s vs (piece_left c.args.at)) c.read_variant.result)
+    IsWordRead c.args.mode c.args.at
+    (word_next c.args.mode s vs (piece_left c.args.at)) c.read_variant.result)
     (sym c.in-Region.is)
     (c.read_variant.ensures vs h)
