@@ -487,7 +487,8 @@ impl Keywords {
     /// refused.
     pub fn clone_in<M: Memory>(&self, memory: M) -> Result<Self, AllocError>
         ensures value { IfOk result (λ copy. copy ≡ self.now) }
-        ensures out_of_memory { OnErr result (RefusedWithin M.refused (pairs_items length self.now)) }
+        ensures out_of_memory { OnErr result
+            (RefusedWithin M.refused (pairs_items length self.now)) }
     {
         self.copied(FromMemory(memory))
     }
