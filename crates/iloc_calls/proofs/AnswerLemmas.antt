@@ -196,8 +196,8 @@ pub same_locales_read : (t other : Text) (before after : ℕ) (M N : meaning.Loc
 same_locales_read t other before after M N same m n e a = (
   (text M, (M, m, refl)),
   told Locale t other after same a
-      (same_values (Means languages) (locales.one_meaning languages_table) t other M N (locale_cmp M N) same m n
-      (locale_exact.exact M N) e),
+      (same_values (Means languages) (locales.one_meaning languages_table) t other M N (locale_cmp M N) same
+      m n (locale_exact.exact M N) e),
 )
 
 pub same_data_read : (t other : Text) (before after : ℕ) (d e : DataLocale) (o : Ordering) (same : Bool)
@@ -240,8 +240,10 @@ other_identifier t other before after i e s m h w (inl r) =
       r.2,
     )
 other_identifier t other before after i e s m h w (inr r) =
-    subst (SaysSame Langid t other before after) (sym r.1)
-    ((identifier_text i, (i, m, refl)), inr (r.2, λ k. no_meaning (identifier_apart (pieces other)) e r.0 h k.0 k.2))
+    subst (SaysSame Langid t other before after) (sym r.1) (
+      (identifier_text i, (i, m, refl)),
+      inr (r.2, λ k. no_meaning (identifier_apart (pieces other)) e r.0 h k.0 k.2),
+    )
 
 pub other_locale : (t other : Text) (before after : ℕ) (M : meaning.Locale) (e : ParseError) (s : Status) →
     Means languages t M
@@ -251,8 +253,10 @@ other_locale t other before after M e s m h w (inl r) =
     subst (SaysSame Locale t other before after) (sym r.1)
     (inr (subst (λ f. RunsOutOnlyIf {X = types.Locale} (LocaleWantsMemory other) (Err f)) r.0 w), r.2)
 other_locale t other before after M e s m h w (inr r) =
-    subst (SaysSame Locale t other before after) (sym r.1)
-    ((text M, (M, m, refl)), inr (r.2, λ k. no_meaning (accepted_no_fault languages_table other) e r.0 h k.0 k.2))
+    subst (SaysSame Locale t other before after) (sym r.1) (
+      (text M, (M, m, refl)),
+      inr (r.2, λ k. no_meaning (accepted_no_fault languages_table other) e r.0 h k.0 k.2),
+    )
 
 pub other_data_locale : (t other : Text) (before after : ℕ) (d : DataLocale) (e : ParseError) →
     DataMeans languages t d

@@ -118,7 +118,8 @@ small_text : (i : SmallIdentifier) (k : Option (Text × Option Text))
 unfolding extensions_spelling
 small_text i None = simp (append_assoc, append-nil)
 small_text i (Some k) =
-    let e : join (i.language ∷ ((option_to_list i.script ++ (option_to_list i.region ++ option_to_list i.variant))
+    let e : join (i.language ∷ ((option_to_list i.script
+    ++ (option_to_list i.region ++ option_to_list i.variant))
     ++ (codes "u" ∷ k.0 ∷ ((option_to_list k.1 ++ []) ++ []))))
     ≡ join (i.language ∷ (option_to_list i.script ++ (option_to_list i.region
     ++ (option_to_list i.variant ++ keyword_pieces (Some k))))) = simp (append_assoc, append-nil) in e

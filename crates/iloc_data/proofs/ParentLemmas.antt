@@ -87,7 +87,8 @@ module _ (P : DataLocale → DataLocale → Type 0) where
   abbrev IsSo : DataLocale → Option DataLocale → Type 0
   IsSo d o = IfSome o (P d)
 
-  by_parent : ((d : DataLocale) → IsSo d (data_parent d)) → (d p : DataLocale) → data_parent d ≡ Some p → P d p
+  by_parent : ((d : DataLocale) → IsSo d (data_parent d)) → (d p : DataLocale) → data_parent d ≡ Some p →
+      P d p
   by_parent h d p e = subst (IsSo d) e (h d)
 
 -- each parent has one part fewer

@@ -67,7 +67,8 @@ is_meant t d h =
     (M, m, is_converted t d h M m)
 
 pub if_read : (t : Text) {P : Text → parts.DataLocale → Type 0} →
-    ((u : Text) (d : parts.DataLocale) → DataMeans languages u d → P u d) → (r : Result DataLocale ParseError) →
+    ((u : Text) (d : parts.DataLocale) → DataMeans languages u d → P u d) →
+    (r : Result DataLocale ParseError) →
     DataTextReads t r → IfOk r (λ d. P t (value_of d))
 if_read t h (Ok d) m = h t (value_of d) m
 if_read t h (Err e) m = tt

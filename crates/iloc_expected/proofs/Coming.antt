@@ -217,7 +217,8 @@ module _ (mode : Mode) (keyed none left : Bool) (w : Place) (p : Text) where
   piece_may Subdivision q at b e =
       let m = of_when _ SubdivisionKey q e in rw (at.0, no_true _ b, sd_key p m.0) refl
   piece_may SubdivisionKey q at b e =
-      by_test (is_word Attribute p) e (λ a f. rw (at.1, no_true _ b, no_unicode_key p a, at.2) refl) (λ a f. cc)
+      by_test (is_word Attribute p) e (λ a f. rw (at.1, no_true _ b, no_unicode_key p a, at.2) refl)
+      (λ a f. cc)
   piece_may SubdivisionValue q at b e =
       let m = of_when _ SubdivisionValue q e in
       rw (at.1, no_true _ b, no_unicode_key p (and_parts _ _ m.0).0, at.2) refl

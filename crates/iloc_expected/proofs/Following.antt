@@ -226,18 +226,25 @@ module _ (keyed : Bool) (w : Place) (p : Text) where
     refl,
   )
 
-  other_on : IsReadAt Other keyed w → is_one_byte p ≡ false → (b : Bool) → Made (if b then OtherWord else Other)
+  other_on : IsReadAt Other keyed w → is_one_byte p ≡ false → (b : Bool) →
+      Made (if b then OtherWord else Other)
   other_on at one b =
       let more = inside_more at.0 at.1 w p at.2 (other_apart at.0 at.3).2 one in
-      elim b as (λ b. Made (if b then OtherWord else Other))
-      [ true ↦ (at.0, at.1 ++ (p ∷ []), more, at.3, refl) | false ↦ (at.0, at.1 ++ (p ∷ []), more, at.3, refl) ]
+      elim b as (λ b. Made (if b then OtherWord else Other)) [
+        | true ↦ (at.0, at.1 ++ (p ∷ []), more, at.3, refl)
+        | false ↦ (at.0, at.1 ++ (p ∷ []), more, at.3, refl)
+      ]
 
   private_on : IsReadAt PrivateWord keyed w → Made PrivateWord
   private_on at = (at.0 ++ (p ∷ []), rw at.1 refl, refl)
 
   subdivision_on : IsReadAt SubdivisionValue keyed w → is_one_byte p ≡ false → Made SubdivisionValue
-  subdivision_on at one =
-      (at.0 ++ (p ∷ []), inside_more code_u at.0 w p at.1 refl one, more_true (is_word UnicodeKey) at.0 p at.2, refl)
+  subdivision_on at one = (
+    at.0 ++ (p ∷ []),
+    inside_more code_u at.0 w p at.1 refl one,
+    more_true (is_word UnicodeKey) at.0 p at.2,
+    refl,
+  )
 
   -- the first piece after `u` is keyed if it is a key
   first_keyed : keyed ≡ false → list_any (is_word UnicodeKey) (p ∷ []) ≡ (keyed || is_word UnicodeKey p)
@@ -247,7 +254,8 @@ module _ (keyed : Bool) (w : Place) (p : Text) where
       piece_next part p ≡ Some q → Made q
   piece_made FieldKey q at b e = made_when _ FieldValue e (field_on at (no_true _ b))
   piece_made FieldValue q at b e =
-      let on = field_on at (no_true _ b) in by_test (is_word TransformKey p) e (λ k f. is_made f on) (λ k f. made_when _ FieldValue f on)
+      let on = field_on at (no_true _ b) in
+      by_test (is_word TransformKey p) e (λ k f. is_made f on) (λ k f. made_when _ FieldValue f on)
   piece_made Unicode q at b e =
       made_when _ Keyword e (p ∷ [], inside_more code_u [] w p at.0 refl (no_true _ b), first_keyed at.1)
   piece_made Keyword q at b e = made_when _ Keyword e (
@@ -278,7 +286,8 @@ module _ (keyed : Bool) (w : Place) (p : Text) where
   inside_made : (mode : Mode) (part : Part) (vs : List Text) (seen : List ℕ) (r : Reached) →
       IsReadAt part keyed w → begins_block part p ≡ false → inside_next mode part vs seen p ≡ Some r →
       Made r.part
-  inside_made mode Start vs seen r at b e = made_when _ (Head Language) (of_plain _ seen r e) (rw at.0 refl, refl)
+  inside_made mode Start vs seen r at b e =
+      made_when _ (Head Language) (of_plain _ seen r e) (rw at.0 refl, refl)
   inside_made mode (Head stage) vs seen r at b e =
       let m = of_words Head (word_next mode stage vs p) seen r e in
       let one = no_true _ b in

@@ -64,7 +64,8 @@ pub record HasPiece (mode : Mode) (part : Part) (vs : List Text) (seen : List �
   pub comes : is_some (next mode (reached part vs seen) piece) ≡ true
   pub is_kind : kind_at w piece ≡ kind
 
-sample : {mode : Mode} {part : Part} {vs : List Text} {seen : List ℕ} {w : Place} {kind : PieceKind} (p : Text) →
+sample : {mode : Mode} {part : Part} {vs : List Text} {seen : List ℕ} {w : Place} {kind : PieceKind}
+    (p : Text) →
     IsHyphenFree p → is_some (next mode (reached part vs seen) p) ≡ true → kind_at w p ≡ kind →
     HasPiece mode part vs seen w kind
 sample p f c k = record { piece = p; free = f; comes = c; is_kind = k }
@@ -76,23 +77,34 @@ pub plain_piece : (mode : Mode) (part : Part) (vs : List Text) (seen : List ℕ)
     HasPiece mode part vs seen w kind
 unfolding is_word languages is_true lower
 plain_piece mode Start vs seen keyed w kinds.Language at h = sample (codes "abc") refl refl (rw at.0 refl)
-plain_piece mode (Head Language) vs seen keyed w kinds.Script at h = sample (codes "abcd") refl refl (rw at.0 refl)
-plain_piece mode (Head Language) vs seen keyed w kinds.Region at h = sample (codes "ab") refl refl (rw at.0 refl)
-plain_piece mode (Head Script) vs seen keyed w kinds.Region at h = sample (codes "ab") refl refl (rw at.0 refl)
+plain_piece mode (Head Language) vs seen keyed w kinds.Script at h =
+    sample (codes "abcd") refl refl (rw at.0 refl)
+plain_piece mode (Head Language) vs seen keyed w kinds.Region at h =
+    sample (codes "ab") refl refl (rw at.0 refl)
+plain_piece mode (Head Script) vs seen keyed w kinds.Region at h =
+    sample (codes "ab") refl refl (rw at.0 refl)
 plain_piece mode Transform vs seen keyed w kinds.Language at h = sample (codes "abc") refl refl (rw at.0 refl)
 plain_piece mode Transform vs seen keyed w kinds.Field at h = sample (codes "a0") refl refl (rw at.0 refl)
-plain_piece mode (Source Language) vs seen keyed w kinds.Script at h = sample (codes "abcd") refl refl (rw (at.2, at.3) refl)
-plain_piece mode (Source Language) vs seen keyed w kinds.Region at h = sample (codes "ab") refl refl (rw (at.2, at.3) refl)
-plain_piece mode (Source Script) vs seen keyed w kinds.Region at h = sample (codes "ab") refl refl (rw (at.2, at.3) refl)
-plain_piece mode (Source stage) vs seen keyed w kinds.Field at h = sample (codes "a0") refl refl (rw at.2 refl)
-plain_piece mode FieldKey vs seen keyed w kinds.FieldValue at h = sample (codes "abc") refl refl (rw (at.2, at.3) refl)
-plain_piece mode FieldValue vs seen keyed w kinds.FieldValue at h = sample (codes "abc") refl refl (rw (at.2, at.3) refl)
+plain_piece mode (Source Language) vs seen keyed w kinds.Script at h =
+    sample (codes "abcd") refl refl (rw (at.2, at.3) refl)
+plain_piece mode (Source Language) vs seen keyed w kinds.Region at h =
+    sample (codes "ab") refl refl (rw (at.2, at.3) refl)
+plain_piece mode (Source Script) vs seen keyed w kinds.Region at h =
+    sample (codes "ab") refl refl (rw (at.2, at.3) refl)
+plain_piece mode (Source stage) vs seen keyed w kinds.Field at h =
+    sample (codes "a0") refl refl (rw at.2 refl)
+plain_piece mode FieldKey vs seen keyed w kinds.FieldValue at h =
+    sample (codes "abc") refl refl (rw (at.2, at.3) refl)
+plain_piece mode FieldValue vs seen keyed w kinds.FieldValue at h =
+    sample (codes "abc") refl refl (rw (at.2, at.3) refl)
 plain_piece mode FieldValue vs seen keyed w kinds.Field at h = sample (codes "a0") refl refl (rw at.2 refl)
 plain_piece mode Unicode vs seen keyed w kinds.Attribute at h = sample (codes "abc") refl refl (rw at.0 refl)
 plain_piece mode Unicode vs seen keyed w kinds.Key at h = sample (codes "ab") refl refl (rw at.0 refl)
-plain_piece mode Keyword vs seen true w kinds.Value at h = sample (codes "abc") refl refl (rw (at.1, at.2) refl)
+plain_piece mode Keyword vs seen true w kinds.Value at h =
+    sample (codes "abc") refl refl (rw (at.1, at.2) refl)
 plain_piece mode Keyword vs seen true w kinds.Key at h = sample (codes "ab") refl refl (rw at.1 refl)
-plain_piece mode Keyword vs seen false w kinds.Attribute at h = sample (codes "abc") refl refl (rw (at.1, at.2) refl)
+plain_piece mode Keyword vs seen false w kinds.Attribute at h =
+    sample (codes "abc") refl refl (rw (at.1, at.2) refl)
 plain_piece mode Keyword vs seen false w kinds.Key at h = sample (codes "ab") refl refl (rw at.1 refl)
 plain_piece mode Other vs seen keyed w kinds.Other at h =
     let n = other_apart at.0 at.3 in
@@ -101,10 +113,13 @@ plain_piece mode OtherWord vs seen keyed w kinds.Other at h =
     let n = other_apart at.0 at.3 in
     sample (codes "abc") refl refl (rw (at.2, n.2, n.0, n.1) refl)
 plain_piece mode Private vs seen keyed w kinds.Private at h = sample (codes "abc") refl refl (rw at.1 refl)
-plain_piece mode PrivateWord vs seen keyed w kinds.Private at h = sample (codes "abc") refl refl (rw at.1 refl)
+plain_piece mode PrivateWord vs seen keyed w kinds.Private at h =
+    sample (codes "abc") refl refl (rw at.1 refl)
 plain_piece mode Subdivision vs seen keyed w kinds.Key at h = sample (codes "sd") refl refl (rw at.0 refl)
-plain_piece mode SubdivisionKey vs seen keyed w kinds.Value at h = sample (codes "abc") refl refl (rw (at.1, at.2) refl)
-plain_piece mode SubdivisionValue vs seen keyed w kinds.Value at h = sample (codes "true") refl refl (rw (at.1, at.2) refl)
+plain_piece mode SubdivisionKey vs seen keyed w kinds.Value at h =
+    sample (codes "abc") refl refl (rw (at.1, at.2) refl)
+plain_piece mode SubdivisionValue vs seen keyed w kinds.Value at h =
+    sample (codes "true") refl refl (rw (at.1, at.2) refl)
 plain_piece mode (Head Region) vs seen keyed w kind at h = absurd (true≢false (sym h ∙ none_has kind))
 plain_piece mode _ vs seen keyed w kind at h = absurd (true≢false (sym h))
 

@@ -160,7 +160,8 @@ long_identifier : (i : Identifier) → IsIdentifierValue languages i
 long_identifier i v = (
   languages_table.least (length i.language) (length-language languages i.language v.language.0),
   all_append IsLong (option_to_list i.script) _
-      (each_option {P = IsNormal Script} (λ p h. let n = length-script p h.0 in omega arith) i.script v.script)
+      (each_option {P = IsNormal Script} (λ p h. let n = length-script p h.0 in omega arith) i.script
+      v.script)
       (all_append IsLong (option_to_list i.region) _
       (each_option {P = IsNormal Region} (λ p h. (length-region p h.0).0) i.region v.region)
       (all_weaker (IsNormal Variant) IsLong (λ p h. let n = length-variant p h.0 in omega arith) i.variants

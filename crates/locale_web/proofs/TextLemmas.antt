@@ -18,17 +18,7 @@ use Rattle.iloc_hints.specs.declared.hints.Hint.{Hint}
 use Rattle.iloc_calls.specs.Answers.{HandsOut, Tells}
 use Rattle.iloc_calls.specs.Numbers.{status_of}
 use Rattle.iloc_calls.specs.declared.status.Status.{Status}
-use Rattle.iloc_calls.specs.declared.status.Status.TheVariants.{
-  Done,
-  BufferTooSmall,
-  NotFound,
-  OutOfMemory,
-  InvalidLanguage,
-  InvalidSubtag,
-  InvalidExtension,
-  DuplicatedExtension,
-  UnknownNumber,
-}
+use Rattle.iloc_calls.specs.declared.status.Status.TheVariants.{Done, BufferTooSmall, OutOfMemory}
 use Rattle.iloc_calls.proofs.AnswerLemmas.{number_of_same}
 use Rattle.iloc_text_calls.proofs.TellLemmas as lemmas
 use Rattle.locale_web.specs.Refused.{HintIsTold}
