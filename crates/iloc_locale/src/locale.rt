@@ -11,7 +11,7 @@ ghost use Rattle.iloc_locale.specs.Sizes.{locale_items};
 
 use crate::copying::copied;
 use crate::{Extensions, read_blocks};
-use iloc_copying::{Copied, Copying, FromMemory, FromOwn};
+use iloc_copying::{FromMemory, FromOwn};
 use iloc_langid::LanguageIdentifier;
 use iloc_langid::reader::{fill_head, fill_short};
 use iloc_memory::Memory;
@@ -44,7 +44,10 @@ impl Clone for Locale {
 
     #[inline(always)]
     fn clone(&self) -> Result<Self, AllocError> {
-        self.copied(FromOwn)
+        Ok(Locale {
+            id: self.id.clone()?,
+            extensions: copied(FromOwn, &self.extensions)?,
+        })
     }
 }
 
@@ -61,18 +64,9 @@ impl Locale {
         ensures value { IfOk result (λ copy. value_of copy ≡ value_of self.now) }
         ensures out_of_memory { OnErr result (RefusedWithin M.refused (locale_items self.now)) }
     {
-        self.copied(FromMemory(memory))
-    }
-
-    #[inline(always)]
-    fn copied<C: Copying>(&self, copying: C) -> Result<Self, AllocError>
-        ensures value { IfOk result (λ copy. value_of copy ≡ value_of self.now) }
-        ensures out_of_memory { OnErr result
-            (RefusedWithin C.Room.refused (locale_items self.now)) }
-    {
         Ok(Locale {
-            id: self.id.copied(copying)?,
-            extensions: copied(copying, &self.extensions)?,
+            id: self.id.clone_in(memory)?,
+            extensions: copied(FromMemory(memory), &self.extensions)?,
         })
     }
 

@@ -14,7 +14,7 @@ returns-in_err-copies-clause-out_of_memory g c =
 pub returns-in_err-copied-clause-out_of_memory : goal.returns-in_err-copied-clause-out_of_memory
 returns-in_err-copied-clause-out_of_memory g c =
     let fits : g.T.Copied.size c.item-item.result
-        ≤ items_in g.T.Copied.size c.as_slice-item-items.result.now =
+    ≤ items_in g.T.Copied.size c.as_slice-item-items.result.now =
     subst (λ x. g.T.Copied.size x ≤ items_in g.T.Copied.size c.as_slice-item-items.result.now)
     (sym c.item-item.is)
     (item_fits g.T.Copied.size c.as_slice-item-items.result.now c.loop-item.item-index c.item-item.result
