@@ -12,7 +12,8 @@
 #include <unistd.h>
 
 /* By these names glibc has its own calls. */
-extern void *__libc_malloc(size_t), *__libc_calloc(size_t, size_t), *__libc_realloc(void *, size_t), *__libc_memalign(size_t, size_t);
+extern void *__libc_malloc(size_t), *__libc_calloc(size_t, size_t);
+extern void *__libc_realloc(void *, size_t), *__libc_memalign(size_t, size_t);
 
 static unsigned long requests, refused, refused_from;
 static int was_refused;
