@@ -1,9 +1,5 @@
-use Rattle.std.proofs.Common.{sym, subst}
 use Rattle.std.proofs.lemmas.Result.{on_ok_weaker}
 use Rattle.iloc_pieces.specs.Window.{text_in}
-use Rattle.iloc_normalize.specs.Answered.{HasRefusal}
-use Rattle.iloc_normalize.specs.declared.Mode.{Mode}
-use Rattle.iloc_faults.specs.Places.{IsFaultPlace}
 use Rattle.iloc_faults.specs.declared.Fault.{Fault}
 use Rattle.iloc_program.specs.ReplyBlock.{held}
 use Rattle.iloc_program.proofs.EntryLemmas.{not_false, not_true, placed, refused}
@@ -17,19 +13,13 @@ returns-then-not-listing g c =
     (not_true c.args.listing.places c.if-not-listing.true) c.in_ok-write_number.ensures e)
     c.write_refusal.ensures.text
 
-pub place_of-start-requires : goal.place_of-start-requires
-place_of-start-requires g c =
-    subst (λ (m : Mode). HasRefusal m (text_in c.args.line) c.args.refusal) (sym c.mode.ensures) c.requires
-
 pub returns : goal.returns
 returns g c =
-    let at = c.place_of-start.result in
+    let at = c.place_in_line-start.result in
     let f : Fault = record { refusal = c.args.refusal; start = at.0; end = at.1 } in
-    let place = subst (λ (m : Mode). IsFaultPlace m (text_in c.args.line) f.start f.end) c.mode.ensures
-    c.place_of-start.ensures.place in
     on_ok_weaker c.write_placed.result
     (λ e. placed g.A.InMode.mode c.args.listing c.args.number (text_in c.args.line)
     (held c.args.replies.now) f (held c.write_number.new.replies) (held c.write_placed.new.replies)
-    (record { refusal = c.requires; place = place })
+    (record { refusal = c.requires; place = c.place_in_line-start.ensures.place })
     (not_false c.args.listing.places c.if-not-listing.false) c.in_ok-write_number.ensures e)
     c.write_placed.ensures
