@@ -7,7 +7,8 @@ use Rattle.iloc_program.proofs.entries.place_in_line.Goals as goal
 
 pub place_of-requires : goal.place_of-requires
 place_of-requires g c =
-    subst (λ (m : Mode). HasRefusal m (text_in c.args.line) c.args.refusal.now) (sym c.mode.ensures) c.requires
+    subst (λ (m : Mode). HasRefusal m (text_in c.args.line) c.args.refusal.now) (sym c.mode.ensures)
+    c.requires
 
 pub returns-clause-place : goal.returns-clause-place
 returns-clause-place g c =
