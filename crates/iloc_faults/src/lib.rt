@@ -21,11 +21,13 @@ ghost use Rattle.iloc_faults.specs.Places.{IsAccepted, IsFault, IsFaultPlace};
 
 mod identifier;
 pub mod laws;
+pub mod modes;
 mod repeats;
 pub mod state;
 pub mod step;
 mod walk;
 
+use crate::modes::InMode;
 pub use crate::repeats::{InMemory, OnStack, Room};
 use iloc_normalize::Mode;
 use iloc_pieces::Window;
@@ -106,25 +108,25 @@ pub fn place_in<R: Room>(room: R, mode: Mode, text: Window<'_>) -> Option<(usize
 
 /// Where the fault of a text stands that has this refusal, and of which sixteen bytes more can be loaded: the same place, found
 /// sooner. Only a text that begins with no language is refused for its language, so then its first piece is the place, and
-/// else the first piece is not read again. It takes time and memory as `fault_in`.
+/// else the first piece is not read again. Each mode has a walk of its own. It takes time and memory as `fault_in`.
 ///
 /// ```text
-/// place_of(InMemory(alloc), Mode::Locale, window, &ParseError::InvalidSubtag) // (3, 6), if its text is `en-foo`
+/// place_of(InMemory(alloc), &Locales, window, &ParseError::InvalidSubtag) // (3, 6), if its text is `en-foo`
 /// ```
-#[inline(always)]
-pub fn place_of<R: Room>(
+#[inline(never)]
+pub fn place_of<R: Room, A: InMode>(
     room: R,
-    mode: Mode,
+    answers: &A,
     text: Window<'_>,
     refusal: &ParseError,
 ) -> (usize, usize)
-    requires { HasRefusal mode (text_in text) refusal.now }
-    ensures place { IsFaultPlace mode (text_in text.entry) result.0 result.1 }
+    requires { HasRefusal A.mode (text_in text) refusal.now }
+    ensures place { IsFaultPlace A.mode (text_in text.entry) result.0 result.1 }
     ensures inside { (result.0 ≤ result.1) × (result.1 ≤ length (text_in text.entry)) }
 {
     match refusal {
         ParseError::InvalidLanguage => (0, walk::first_end(text.bytes, text.len())),
-        _ => match walk::walk_behind(room, mode, text.bytes, text.len()) {
+        _ => match walk::walk_behind(room, answers.mode(), text.bytes, text.len()) {
             Some(found) => (found.start, found.end),
             None => unreachable!(),
         },

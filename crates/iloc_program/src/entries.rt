@@ -1,6 +1,5 @@
 //! What is written for one line.
-ghost use Rattle.std.specs.Prelude.{◌≡◌, ◌≤◌, ◌++◌, OnOk, if◌then◌else◌, [], ◌∷◌, length};
-ghost use Rattle.iloc_faults.specs.Places.{IsFaultPlace};
+ghost use Rattle.std.specs.Prelude.{◌≡◌, ◌++◌, OnOk, if◌then◌else◌, [], ◌∷◌};
 ghost use Rattle.iloc_normalize.specs.Answered.{HasRefusal};
 ghost use Rattle.iloc_pieces.specs.Window.{text_in};
 ghost use Rattle.iloc_program.specs.Answers.{refusal_text};
@@ -92,28 +91,13 @@ fn write_refused<A: InMode>(
     if !listing.places {
         return write_refusal(refusal, replies);
     }
-    let (start, end) = place_in_line(alloc, answers, line, &refusal);
+    let (start, end) = place_of(InMemory(alloc), answers, line, &refusal);
     let fault = Fault {
         refusal,
         start,
         end,
     };
     write_placed(line, &fault, replies)
-}
-
-// Where the fault of a line stands that is refused so. It is a call for each mode, so that each has a walk of its own.
-#[inline(never)]
-fn place_in_line<A: InMode>(
-    alloc: Global,
-    answers: &A,
-    line: Window<'_>,
-    refusal: &ParseError,
-) -> (usize, usize)
-    requires { HasRefusal A.mode (text_in line) refusal.now }
-    ensures place { IsFaultPlace A.mode (text_in line.entry) result.0 result.1 }
-    ensures inside { (result.0 ≤ result.1) × (result.1 ≤ length (text_in line.entry)) }
-{
-    place_of(InMemory(alloc), answers.mode(), line, refusal)
 }
 
 // Adds the number of the line and a tab, if numbers are asked for.

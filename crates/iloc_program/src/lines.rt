@@ -13,10 +13,9 @@ ghost use Rattle.iloc_spec_grammar.specs.Syntax.{Text, languages};
 ghost use Rattle.iloc_program.specs.Answers.{reply, output};
 ghost use Rattle.memchr.specs.Find.{Nowhere, Passes, is_byte};
 
-use crate::RunError;
-use crate::modes::InMode;
 use crate::replies::write_refusal;
 use crate::reply_block::ReplyBlock;
+use crate::{InMode, RunError};
 use iloc_normalize::{Lead, Mode, Written, read_found, read_lead};
 use iloc_pieces::{Plain, Window, may_begin, read_plain};
 use iloc_spans::spans::Spans;

@@ -15,11 +15,11 @@ returns-then-not-listing g c =
 
 pub returns : goal.returns
 returns g c =
-    let at = c.place_in_line-start.result in
+    let at = c.place_of-start.result in
     let f : Fault = record { refusal = c.args.refusal; start = at.0; end = at.1 } in
     on_ok_weaker c.write_placed.result
     (λ e. placed g.A.InMode.mode c.args.listing c.args.number (text_in c.args.line)
     (held c.args.replies.now) f (held c.write_number.new.replies) (held c.write_placed.new.replies)
-    (record { refusal = c.requires; place = c.place_in_line-start.ensures.place })
+    (record { refusal = c.requires; place = c.place_of-start.ensures.place })
     (not_false c.args.listing.places c.if-not-listing.false) c.in_ok-write_number.ensures e)
     c.write_placed.ensures
