@@ -1,7 +1,6 @@
 /* Preloaded into a program, refuses one of its requests for memory, and counts them.
  *
  * REFUSE_REQUEST=N: the Nth request is refused (from 1 on; without it none is).
- * REFUSE_FROM=N: the Nth request is refused, and each after it.
  * COUNT_REQUESTS=1: as the program ends, the number of its requests is written to standard error, as its last line.
  *
  * A program that looks for refuse_request among its own names may also say itself which request is refused next.
@@ -15,7 +14,7 @@
 extern void *__libc_malloc(size_t), *__libc_calloc(size_t, size_t);
 extern void *__libc_realloc(void *, size_t), *__libc_memalign(size_t, size_t);
 
-static unsigned long requests, refused, refused_from;
+static unsigned long requests, refused;
 static int was_refused;
 
 static unsigned long number_in(const char *variable)
@@ -27,14 +26,13 @@ static unsigned long number_in(const char *variable)
 __attribute__((constructor)) static void look_up(void)
 {
     refused = number_in("REFUSE_REQUEST");
-    refused_from = number_in("REFUSE_FROM");
 }
 
 /* Counts a request, and returns whether it is refused. */
 static int is_refused(void)
 {
     unsigned long now = __atomic_add_fetch(&requests, 1, __ATOMIC_SEQ_CST);
-    int is_it = now == refused || (refused_from && now >= refused_from);
+    int is_it = now == refused;
     was_refused |= is_it;
     return is_it;
 }
