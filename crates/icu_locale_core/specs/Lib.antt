@@ -35,14 +35,15 @@ pub use Rattle.iloc_copying.specs.Room
 pub use Rattle.iloc_copying.specs.Sizes
 pub use Rattle.iloc_unicode.specs.Sizes as UnicodeSizes
 pub use Rattle.iloc_transform.specs.Sizes as TransformSizes
+pub use Rattle.iloc_extensions.specs.Sizes as ExtensionsSizes
 pub use Rattle.iloc_locale.specs.Sizes as LocaleSizes
 pub use Rattle.iloc_unicode.specs.Reads as UnicodePartReads
 pub use Rattle.iloc_other.specs.Reading as OtherReading
 pub use Rattle.iloc_keyword_types.specs.Reads as KeywordReads
 pub use Rattle.iloc_unicode.specs.UnicodeValue
 pub use Rattle.iloc_transform.specs.TransformReading
-pub use Rattle.iloc_locale.specs.ExtensionsValue
-pub use Rattle.iloc_locale.specs.Retaining
+pub use Rattle.iloc_extensions.specs.ExtensionsValue
+pub use Rattle.iloc_extensions.specs.Retaining
 pub use Rattle.iloc_locale.specs.LocaleReading
 pub use Rattle.iloc_data.specs.Reads as DataReads
 pub use Rattle.iloc_data.specs.DataValue
@@ -76,7 +77,7 @@ pub use Rattle.iloc_spec_parts.specs.SingleValues
 pub use Rattle.iloc_word_list.specs.Refusals as PreferenceRefusals
 pub use Rattle.iloc_unicode.specs.UnicodeReads
 pub use Rattle.iloc_unicode.specs.Lends as KeywordLends
-pub use Rattle.iloc_locale.specs.Kinds as ExtensionKinds
+pub use Rattle.iloc_extensions.specs.Kinds as ExtensionKinds
 pub use Rattle.iloc_locale.specs.Order as OrderedLocales
 pub use Rattle.iloc_keyword_types.specs.Subdivisions as SubdivisionReads
 pub use Rattle.iloc_keyword_types.specs.Scripts as ScriptReads
@@ -113,7 +114,7 @@ pub use Rattle.iloc_transform.specs.LangReading
 pub use Rattle.iloc_unicode.specs.Equality as UnicodePartEquality
 pub use Rattle.iloc_word_list.specs.Equality as UnicodeValueEquality
 pub use Rattle.iloc_writeable.specs.Pieces as PiecePrinting
-pub use Rattle.iloc_locale.specs.Blocks as ExtensionBlocks
+pub use Rattle.iloc_extensions.specs.Blocks as ExtensionBlocks
 pub use Rattle.iloc_program.specs.Numbered as ProgramListings
 pub use Rattle.iloc_program.specs.Listing as ProgramEntries
 pub use Rattle.iloc_program.specs.declared.numbered.Listing as ListingOptions

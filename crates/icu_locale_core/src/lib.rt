@@ -125,8 +125,8 @@ pub mod langid {
 /// All extensions of a locale.
 pub mod extensions {
     pub use crate::together::all_extensions as together;
-    pub use iloc_locale::extension_laws::{equality, hashes, orders};
-    pub use iloc_locale::{ExtensionType, Extensions};
+    pub use iloc_extensions::extension_laws::{equality, hashes, orders};
+    pub use iloc_extensions::{ExtensionType, Extensions};
 
     /// The unicode extension: attributes and keywords.
     pub mod unicode {
@@ -258,7 +258,7 @@ pub mod laws {
 
     /// Other ways to say the same: by trees, block by block, and by plain programs.
     pub mod models {
-        pub use iloc_locale::turning::in_turn;
+        pub use iloc_extensions::turning::in_turn;
         pub use iloc_spec_grammar::models::{
             by_blocks, computed, same_faults, same_meaning, same_text, whole_readings,
         };

@@ -5,14 +5,15 @@ ghost use Rattle.iloc_spec_parts.specs.DataOrders.{data_locale_cmp};
 ghost use Rattle.iloc_langid.specs.Reads as langid;
 ghost use Rattle.iloc_unicode.specs.UnicodeValue as unicode;
 ghost use Rattle.iloc_transform.specs.TransformReading as transform;
-ghost use Rattle.iloc_locale.specs.ExtensionsValue as extensions;
+ghost use Rattle.iloc_extensions.specs.ExtensionsValue as extensions;
 ghost use Rattle.iloc_locale.specs.LocaleReading as locale;
 ghost use Rattle.iloc_data.specs.DataValue as data_locale;
 ghost use Rattle.icu_locale_core.specs.Together.{CompareTogether};
 
 use iloc_data::DataLocale;
+use iloc_extensions::{Extensions, extension_laws};
 use iloc_langid::LanguageIdentifier;
-use iloc_locale::{Extensions, Locale};
+use iloc_locale::Locale;
 use iloc_transform::Transform;
 use iloc_unicode::Unicode;
 use std::hash::Hash;
@@ -49,8 +50,8 @@ pub fn all_extensions()
     ensures { CompareTogether ⟦<Extensions as PartialEq>⟧.eq
         (on extensions.value_of extensions_cmp) ⟦<Extensions as Hash>⟧.hash_input }
 {
-    iloc_locale::extension_laws::equality();
-    iloc_locale::extension_laws::hashes();
+    extension_laws::equality();
+    extension_laws::hashes();
 }
 
 /// Locales that are `==` tie in `total_cmp`, no others do, and they hash alike.

@@ -4,8 +4,8 @@ use Rattle.std.specs.Bool.{Decides}
 use Rattle.std.proofs.lemmas.Bool.Decides.{Decides-and, Decides-like}
 use Rattle.iloc_langid.specs.Reads as langid
 use Rattle.iloc_langid.specs.declared.identifier.LanguageIdentifier.{LanguageIdentifier}
-use Rattle.iloc_locale.specs.ExtensionsValue as extensions
-use Rattle.iloc_locale.specs.declared.extensions.Extensions.{Extensions}
+use Rattle.iloc_extensions.specs.ExtensionsValue as extensions
+use Rattle.iloc_extensions.specs.declared.extensions.Extensions.{Extensions}
 use Rattle.iloc_locale.specs.LocaleReading.{value_of}
 use Rattle.iloc_locale.specs.declared.locale.Locale.{Locale}
 

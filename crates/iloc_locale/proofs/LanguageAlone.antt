@@ -9,7 +9,7 @@ use Rattle.iloc_spec_grammar.specs.Values.{spelled_fields, identifier_text}
 use Rattle.iloc_spec_grammar.proofs.PartTexts.{join-dashes}
 use Rattle.iloc_spec_parts.proofs.SmallShapes.{none_mapped, none_of_both}
 use Rattle.iloc_langid.specs.Reads as langid
-use Rattle.iloc_locale.specs.ExtensionsValue as extensions
+use Rattle.iloc_extensions.specs.ExtensionsValue as extensions
 use Rattle.iloc_locale.specs.LocaleReading.{IsLanguageAlone}
 use Rattle.iloc_locale.specs.declared.locale.Locale.{Locale}
 use Rattle.iloc_locale.proofs.AloneLemmas.{text_alone}

@@ -26,13 +26,13 @@ use Rattle.iloc_subtags.specs.declared.parse_error.ParseError.TheVariants.{Dupli
 use Rattle.iloc_langid.specs.declared.identifier.LanguageIdentifier.{LanguageIdentifier}
 use Rattle.iloc_langid.specs.Reads as langid
 use Rattle.iloc_langid.specs.Reads.{IdentifierReads}
-use Rattle.iloc_locale.specs.ExtensionsValue as extensions
-use Rattle.iloc_locale.specs.Whole.{BlocksReads}
+use Rattle.iloc_extensions.specs.ExtensionsValue as extensions
+use Rattle.iloc_extensions.specs.Whole.{BlocksReads}
 use Rattle.iloc_pieces.specs.Front.{HasNoLanguage}
 use Rattle.iloc_normalize.specs.declared.Mode.TheVariants as modes
 use Rattle.iloc_normalize.proofs.FrontAnswers.{no_language_refused}
 use Rattle.iloc_normalize.proofs.PlainAnswers.{means_alone}
-use Rattle.iloc_locale.proofs.RoundLaws.{blocks-from_block}
+use Rattle.iloc_extensions.proofs.RoundLaws.{blocks-from_block}
 use Rattle.iloc_locale.specs.declared.locale.Locale.{Locale}
 use Rattle.iloc_locale.specs.LocaleReading.{value_of, unknown_locale, LocaleWantsMemory, LocaleTextReads}
 use Rattle.iloc_locale.specs.LocaleReading.{LocaleTextAnswers}

@@ -3,7 +3,7 @@ use Rattle.std.specs.Prelude.{◌≡◌, ◌⊎◌, ⊤, Result, []}
 use Rattle.iloc_spec_grammar.specs.Meaning as meaning
 use Rattle.iloc_langid.specs.Reads as langid
 use Rattle.iloc_langid.specs.Unknown.{unknown_identifier}
-use Rattle.iloc_locale.specs.ExtensionsValue as extensions
+use Rattle.iloc_extensions.specs.ExtensionsValue as extensions
 use Rattle.iloc_locale.specs.declared.locale.Locale.{Locale}
 use Rattle.iloc_spec_grammar.specs.Syntax.{Text, pieces, languages, head, tail_blocks}
 use Rattle.iloc_spec_grammar.specs.Meaning.{Means, HasFault, SpellsIdentifier}

@@ -4,8 +4,8 @@ ghost use Rattle.iloc_spec_grammar.specs.Meaning.{without_extensions};
 ghost use Rattle.iloc_langid.specs.Reads.{value_of as identifier_of};
 ghost use Rattle.iloc_locale.specs.LocaleReading.{value_of};
 
-use crate::Extensions;
 use crate::locale::Locale;
+use iloc_extensions::Extensions;
 use iloc_langid::LanguageIdentifier;
 use iloc_subtags::{Language, Region, Script};
 use std::alloc::Global;

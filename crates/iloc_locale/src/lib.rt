@@ -15,19 +15,10 @@
 //! since only their texts parse back. `normalizing_eq` is `true` exactly if the text is accepted and means this
 //! value. So it is `false` for every text if no text means the locale.
 //!
-//! Emptiness, order and printed text of extensions are those of the definitions, for every value, also for one that
-//! no text means. `retain_by_type` asks each part in turn, and clears those that are not to be kept. `is_well_formed`
-//! is exactly the definition, and says whether the text parses back. The other extensions then ascend strictly by
-//! singletons of their own, each with a word. No value of a keyword holds `true` or a subtag of two characters. The
-//! identifier of a locale plays no part in it.
+//! `is_well_formed` says whether the text of a locale parses back. The identifier plays no part in it.
 //!
-//! `read_blocks` parses what follows a locale's head, from one singleton to the next. What is parsed is what the
-//! blocks mean together. A text is refused with the fault of its first bad block. Short blocks allocate nothing: of
-//! `u` with few words, of `t` with few variants and no field, of `x` with few words. `read_blocks` calls the parsers
-//! of the parts, each of which leaves exactly what follows its block. Its proof uses their public contracts alone.
-//!
-//! It stands on the public contracts of the identifiers (`iloc_langid`) and of the parts of extensions
-//! (`iloc_unicode`, `iloc_transform`, `iloc_other`), and on the laws of the grammar (`iloc_spec_grammar`).
+//! It stands on the public contracts of the identifiers (`iloc_langid`) and of the extensions (`iloc_extensions`), and on
+//! the laws of the grammar (`iloc_spec_grammar`).
 #![tactic(auto)]
 
 ghost use Rattle.std.specs.Prelude.{◌≡◌, ◌↔◌, IsTrue, IsOkAnd};
@@ -41,6 +32,7 @@ ghost use Rattle.iloc_spec_parts.specs.Hashes.{locale_fed};
 ghost use Rattle.iloc_subtags.specs.Judging.{Accepts, Refuses};
 ghost use Rattle.iloc_locale.specs.LocaleReading.{LocaleWantsMemory, IsTextOf, NormalizingWantsMemory, value_of};
 
+use iloc_extensions::{extension_laws, kept};
 use iloc_memory::Ample;
 use iloc_subtags::ParseError;
 use iloc_writeable::Writeable;
@@ -48,32 +40,16 @@ use std::alloc::{AllocError, Global};
 use std::borrow::CowStr;
 use std::hash::Hash;
 
-pub mod blocks;
 pub mod comparing;
 pub mod conversions;
-mod copying;
-pub mod extension_laws;
-pub mod extension_type;
-pub mod extensions;
-pub mod extensions_text;
-mod kept;
 pub mod locale;
 pub mod normalizing;
 pub mod ordered;
-mod others;
 pub mod parent;
 pub mod printing;
-mod retaining;
-mod taking;
-pub mod turning;
-pub mod well_formed;
 
-pub use blocks::read_blocks;
-pub use extension_type::ExtensionType;
-pub use extensions::Extensions;
 pub use locale::Locale;
 pub use ordered::OrderedLocale;
-pub use well_formed::is_well_formed;
 
 /// `==` tells whether two locales stand for the same.
 pub fn equality()

@@ -9,9 +9,9 @@ ghost use Rattle.iloc_locale.specs.LocaleReading.{value_of, unknown_locale, Loca
 ghost use Rattle.iloc_memory.specs.Refusals.{RefusedWithin};
 ghost use Rattle.iloc_locale.specs.Sizes.{locale_items};
 
-use crate::copying::copied;
-use crate::{Extensions, read_blocks};
 use iloc_copying::{FromMemory, FromOwn};
+use iloc_extensions::copying::copied;
+use iloc_extensions::{Extensions, read_blocks};
 use iloc_langid::LanguageIdentifier;
 use iloc_langid::reader::{fill_head, fill_short};
 use iloc_memory::Memory;
@@ -52,7 +52,7 @@ impl Clone for Locale {
 }
 
 impl Locale {
-    ghost use Rattle.iloc_locale.specs.ExtensionsValue as extensions;
+    ghost use Rattle.iloc_extensions.specs.ExtensionsValue as extensions;
     ghost use Rattle.iloc_spec_grammar.specs.Meaning.{no_extensions};
     ghost use Rattle.iloc_locale.specs.LocaleReading.{LocaleTextReads, LocaleWantsMemory};
     ghost use Rattle.iloc_subtags.specs.Judging.{Accepts, Refuses, RunsOutOnlyIf};

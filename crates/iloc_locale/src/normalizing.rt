@@ -12,8 +12,8 @@ ghost use Rattle.iloc_langid.specs.SmallLocaleReads.{SmallLocaleTextReads, small
 ghost use Rattle.iloc_locale.specs.LocaleReading.{value_of, IsNormalizedLocale, NormalizingWantsMemory};
 ghost use Rattle.iloc_spec_grammar.specs.Meaning as meaning;
 
-use crate::is_well_formed;
 use crate::locale::Locale;
+use iloc_extensions::is_well_formed;
 use iloc_langid::read_small_locale;
 use iloc_memory::Memory;
 use iloc_normalize::answered::ROOM;

@@ -1,9 +1,10 @@
 //! Values that are made from parts, and not read. The second argument says what is asked of each.
 use crate::Rows;
 use iloc_data::DataLocale;
+use iloc_extensions::Extensions;
 use iloc_keyword_types::SubdivisionId;
 use iloc_langid::LanguageIdentifier;
-use iloc_locale::{Extensions, Locale};
+use iloc_locale::Locale;
 use iloc_subtags::{Language, ParseError, Region, Script, SubdivisionSuffix};
 use iloc_unicode::Unicode;
 use std::alloc::Global;

@@ -1,7 +1,8 @@
 //! What steps put into identifiers, locales and extensions. Some build what no text means.
 use crate::Rows;
 use iloc_data::DataLocale;
-use iloc_locale::{ExtensionType, Extensions, Locale};
+use iloc_extensions::{ExtensionType, Extensions};
+use iloc_locale::Locale;
 use iloc_other::Other;
 use iloc_subtags::{ParseError, SubtagKind, UnicodeKey, VariantKind};
 use iloc_unicode::Keywords;

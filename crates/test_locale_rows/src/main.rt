@@ -28,9 +28,10 @@ mod refusals;
 mod texts;
 
 use iloc_data::DataLocale;
+use iloc_extensions::Extensions;
 use iloc_keyword_types::SubdivisionId;
 use iloc_langid::LanguageIdentifier;
-use iloc_locale::{Extensions, Locale};
+use iloc_locale::Locale;
 use std::io;
 use test_page::answering::{answer, answer_parsed};
 use test_page::{Ask, Asking, Call, Judged, page, say};

@@ -2,10 +2,11 @@
 
 use crate::memory::{UpTo, up_to};
 use iloc_data::LocalePreferences;
+use iloc_extensions::Extensions;
 use iloc_json::{JsonError, JsonText};
 use iloc_langid::LanguageIdentifier;
 use iloc_litemap::{GrowingStore, LiteMap};
-use iloc_locale::{Extensions, Locale, ample_memory, ample_normalizing, ample_printing};
+use iloc_locale::{Locale, ample_memory, ample_normalizing, ample_printing};
 use iloc_memory::{Ample, Memory};
 use iloc_other::{Other, Private};
 use iloc_shortvec::ShortBoxSlice;

@@ -2,7 +2,7 @@
 use Rattle.std.proofs.Common.{◌≡◌, length}
 use Rattle.iloc_subtags.proofs.Judged.{with_memory}
 use Rattle.iloc_locale.specs.LocaleReading.{value_of}
-use Rattle.iloc_locale.proofs.RoomLemmas.{never_out}
+use Rattle.iloc_extensions.proofs.RoomLemmas.{never_out}
 use Rattle.iloc_locale.proofs.ample_memory.Goals as goal
 
 pub returns-clause-accepted : goal.returns-clause-accepted

@@ -3,7 +3,7 @@ use Rattle.std.proofs.Common.{◌≡◌, length}
 use Rattle.iloc_subtags.proofs.Judged.{with_memory}
 use Rattle.std.specs.Cow.{cow_str_bytes}
 use Rattle.iloc_spec_grammar.specs.Values.{text}
-use Rattle.iloc_locale.proofs.RoomLemmas.{never_out}
+use Rattle.iloc_extensions.proofs.RoomLemmas.{never_out}
 use Rattle.iloc_locale.proofs.ample_normalizing.Goals as goal
 
 pub returns-clause-accepted : goal.returns-clause-accepted

@@ -1,7 +1,7 @@
 -- memory that refuses nothing prints each value
 use Rattle.std.proofs.Common.{◌≡◌, length}
 use Rattle.std.specs.Cow.{cow_str_bytes}
-use Rattle.iloc_locale.proofs.RoomLemmas.{always_made}
+use Rattle.iloc_extensions.proofs.RoomLemmas.{always_made}
 use Rattle.iloc_locale.proofs.ample_printing.Goals as goal
 
 pub returns : goal.returns

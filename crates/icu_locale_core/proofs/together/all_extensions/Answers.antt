@@ -1,7 +1,7 @@
 use Rattle.iloc_spec_parts.specs.Orders.{extensions_cmp}
 use Rattle.iloc_spec_parts.specs.Hashes.{extensions_fed}
 use Rattle.iloc_spec_parts.proofs.OrderLaws.{extensions_exact}
-use Rattle.iloc_locale.specs.ExtensionsValue as extensions
+use Rattle.iloc_extensions.specs.ExtensionsValue as extensions
 use Rattle.icu_locale_core.proofs.TogetherLemmas.{by_value}
 use Rattle.icu_locale_core.proofs.together.all_extensions.Goals as goal
 

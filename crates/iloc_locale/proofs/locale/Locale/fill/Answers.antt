@@ -5,12 +5,12 @@ use Rattle.iloc_spec_grammar.specs.Reading.{starts_block, after_head}
 use Rattle.iloc_subtags.specs.Left.{left}
 use Rattle.iloc_subtags.specs.Judging.{RunsOutOnlyIf}
 use Rattle.iloc_langid.specs.Reads.{IdentifierReads, IdentifierWantsMemory}
-use Rattle.iloc_locale.specs.ExtensionsValue.{value_of}
-use Rattle.iloc_locale.specs.Whole.{BlocksReads}
+use Rattle.iloc_extensions.specs.ExtensionsValue.{value_of}
+use Rattle.iloc_extensions.specs.Whole.{BlocksReads}
 use Rattle.iloc_locale.proofs.ReadLemmas.{after_head_starts, head_refused, blocks_read}
 use Rattle.iloc_word_list.proofs.RoomLemmas.{pieces_fit, runs_out_more}
 use Rattle.iloc_transform.proofs.RoomLemmas.{passed_on}
-use Rattle.iloc_locale.proofs.RoomLemmas.{after_head_fits}
+use Rattle.iloc_extensions.proofs.RoomLemmas.{after_head_fits}
 use Rattle.iloc_locale.proofs.locale.Locale.fill.Goals as goal
 
 pub returns-in_err-fill_head-clause-reads : goal.returns-in_err-fill_head-clause-reads

@@ -1,5 +1,5 @@
 use Rattle.iloc_langid.specs.Reads as langid
-use Rattle.iloc_locale.specs.ExtensionsValue as extensions
+use Rattle.iloc_extensions.specs.ExtensionsValue as extensions
 use Rattle.iloc_locale.proofs.AloneLemmas.{means_alone}
 use Rattle.iloc_locale.proofs.locale.Locale.normalizing_eq_in.Goals as goal
 

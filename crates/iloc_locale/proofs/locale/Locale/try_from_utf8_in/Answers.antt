@@ -2,7 +2,7 @@ use Rattle.std.proofs.Common.{Ok, Result, length, arith}
 use Rattle.std.proofs.lemmas.Result.{err_from_is_err_and}
 use Rattle.iloc_subtags.specs.declared.parse_error.ParseError.{ParseError}
 use Rattle.iloc_langid.specs.declared.identifier.LanguageIdentifier.{LanguageIdentifier}
-use Rattle.iloc_locale.specs.declared.extensions.Extensions.{Extensions}
+use Rattle.iloc_extensions.specs.declared.extensions.Extensions.{Extensions}
 use Rattle.iloc_locale.specs.declared.locale.Locale.{Locale}
 use Rattle.iloc_locale.proofs.ReadLemmas.{no_language_read, reads_apart, reads_memory, reads_well_formed}
 use Rattle.iloc_locale.proofs.ReadLemmas.{reads_steps, reads_accepts, reads_refuses, reads_narrow}

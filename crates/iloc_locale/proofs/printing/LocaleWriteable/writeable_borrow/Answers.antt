@@ -1,6 +1,6 @@
 use Rattle.std.proofs.Common.{◌≡◌, IfSome, sym, ◌∙◌, subst, true≢false}
 use Rattle.iloc_langid.specs.Reads as langid
-use Rattle.iloc_locale.specs.ExtensionsValue as extensions
+use Rattle.iloc_extensions.specs.ExtensionsValue as extensions
 use Rattle.iloc_locale.proofs.AloneLemmas.{text_alone}
 use Rattle.iloc_locale.proofs.LanguageAlone.{language_alone}
 use Rattle.iloc_locale.proofs.printing.LocaleWriteable.writeable_borrow.Goals as goal

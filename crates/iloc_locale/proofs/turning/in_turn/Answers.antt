@@ -1,5 +1,0 @@
-use Rattle.iloc_locale.proofs.DoneLaws.{turned_means}
-use Rattle.iloc_locale.proofs.turning.in_turn.Goals as goal
-
-pub returns : goal.returns
-returns c = λ T bs e. turned_means bs e
