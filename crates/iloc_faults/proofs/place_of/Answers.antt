@@ -7,10 +7,10 @@ use Rattle.iloc_faults.proofs.place_of.Goals as goal
 
 pub place_behind-requires : goal.place_behind-requires
 place_behind-requires g c = record {
-    refused = refused_not g.A.InMode.mode (text_in c.args.text) c.args.refusal.now c.requires;
-    begins = language_first g.A.InMode.mode (text_in c.args.text) c.args.refusal.now c.requires
-        c.in_default.not-InvalidLanguage;
-  }
+  refused = refused_not g.A.InMode.mode (text_in c.args.text) c.args.refusal.now c.requires;
+  begins = language_first g.A.InMode.mode (text_in c.args.text) c.args.refusal.now c.requires
+      c.in_default.not-InvalidLanguage;
+}
 
 pub returns-in-InvalidLanguage-clause-place : goal.returns-in-InvalidLanguage-clause-place
 returns-in-InvalidLanguage-clause-place g c =
