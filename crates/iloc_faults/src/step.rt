@@ -1,5 +1,5 @@
 //! What may come next, and why another piece is refused.
-ghost use Rattle.std.specs.Prelude.{◌≡◌, ◌≢◌, ℕ, ◌^◌, List, Some, true, option_map, slice_index};
+ghost use Rattle.std.specs.Prelude.{◌≡◌, ℕ, ◌^◌, List, Some, true, option_map, slice_index};
 ghost use Rattle.std.specs.Char.{is_ascii_alphanumeric, to_ascii_lowercase};
 ghost use Rattle.iloc_spec_grammar.specs.Syntax.{Text, is_one_byte};
 ghost use Rattle.iloc_subtags.specs.Judging.{error_of};
@@ -87,11 +87,10 @@ fn plain(seen: u64, part: Option<Part>) -> Option<State>
     }
 }
 
-// What was read once a piece is read that begins no block, after a block began.
+// What was read once a piece is read that begins no block.
 #[inline(always)]
 fn read_inside<R: Room>(room: R, mode: Mode, state: State, at: Cursor<'_>) -> Option<State>
-    requires block { (stage : Stage) → state.part ≢ Part.Head stage }
-    requires before { (vs : List Text) × (seen : List ℕ) × IsRead mode state at vs seen }
+    requires { (vs : List Text) × (seen : List ℕ) × IsRead mode state at vs seen }
     ensures { (vs : List Text) (seen : List ℕ) → IsRead mode state at.entry vs seen
         → IsPieceRead mode at.entry
         (inside_next mode state.part vs seen (piece_left at.entry)) result }
@@ -99,7 +98,14 @@ fn read_inside<R: Room>(room: R, mode: Mode, state: State, at: Cursor<'_>) -> Op
     let seen = state.seen;
     match state.part {
         Part::Start => plain(seen, when(is_language(at), Part::Head(Stage::Language))),
-        Part::Head(_) => unreachable!(),
+        Part::Head(stage) => match read_word(room, mode, stage, state.variants, at) {
+            Some((stage, variants)) => Some(State {
+                part: Part::Head(stage),
+                variants,
+                seen,
+            }),
+            None => None,
+        },
         Part::Transform => {
             if is_field_key(at) {
                 return plain(seen, Some(Part::FieldKey));
@@ -219,36 +225,7 @@ fn begins_block(part: Part, at: Cursor<'_>) -> bool
     is_single(at) && !takes_any(part)
 }
 
-// What was read once a piece is read after words of the identifier at the beginning.
-#[inline(always)]
-fn read_behind<R: Room>(
-    room: R,
-    mode: Mode,
-    stage: Stage,
-    state: State,
-    at: Cursor<'_>,
-) -> Option<State>
-    requires stage { state.part ≡ Part.Head stage }
-    requires before { (vs : List Text) × (seen : List ℕ) × IsRead mode state at vs seen }
-    ensures { (vs : List Text) (seen : List ℕ) → IsRead mode state at.entry vs seen
-        → IsPieceRead mode at.entry
-        (steps.next mode (reached state.part vs seen) (piece_left at.entry)) result }
-{
-    if is_single(at) {
-        return read_singleton(mode, state, at);
-    }
-    match read_word(room, mode, stage, state.variants, at) {
-        Some((stage, variants)) => Some(State {
-            part: Part::Head(stage),
-            variants,
-            seen: state.seen,
-        }),
-        None => None,
-    }
-}
-
-/// What was read with the piece too; `None` if the piece may not come next. Most pieces are words of the identifier at the
-/// beginning, so these are tried first.
+/// What was read with the piece too; `None` if the piece may not come next.
 #[inline(always)]
 pub fn step<R: Room>(room: R, mode: Mode, state: State, at: Cursor<'_>) -> Option<State>
     requires { (vs : List Text) × (seen : List ℕ) × IsRead mode state at vs seen }
@@ -256,9 +233,6 @@ pub fn step<R: Room>(room: R, mode: Mode, state: State, at: Cursor<'_>) -> Optio
         → IsPieceRead mode at.entry
         (steps.next mode (reached state.part vs seen) (piece_left at.entry)) result }
 {
-    if let Part::Head(stage) = state.part {
-        return read_behind(room, mode, stage, state, at);
-    }
     if begins_block(state.part, at) {
         return read_singleton(mode, state, at);
     }

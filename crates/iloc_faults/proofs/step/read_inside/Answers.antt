@@ -3,7 +3,7 @@ use Rattle.iloc_faults.specs.declared.state.Part.TheVariants.{Head, Source}
 use Rattle.iloc_faults.specs.declared.state.Stage.TheVariants.{Language}
 use Rattle.iloc_faults.specs.Next.{when}
 use Rattle.iloc_faults.specs.States.{bare}
-use Rattle.iloc_faults.proofs.StepReadings.{key_read, key_read_after, start_read, language_read}
+use Rattle.iloc_faults.proofs.StepReadings.{key_read, key_read_after, start_read, language_read, head_read}
 use Rattle.iloc_faults.proofs.StepReadings.{source_read, other_read}
 use Rattle.iloc_faults.proofs.step.read_inside.Goals as goal
 
@@ -28,6 +28,12 @@ returns-in-Start g c vs seen h =
     ∙ ap (option_map (bare c.args.state.seen))
     (c.when.ensures ∙ ap (λ b. when b (Head Language)) c.is_language.ensures))
 
+pub returns-in-Some : goal.returns-in-Some
+returns-in-Some g c vs seen h =
+    head_read c.args.mode c.args.at c.args.state.part vs seen c.args.state.seen h.seen_are c.in-Head.stage
+    c.in-Head.is (c.in-Some.stage, c.in-Some.variants)
+    (c.in-Some.ensures vs h.variants_are)
+
 pub returns-else-is_field_key : goal.returns-else-is_field_key
 returns-else-is_field_key g c vs seen h =
     language_read c.args.mode c.args.at c.args.state.part vs seen c.args.state.seen h.seen_are
@@ -36,11 +42,11 @@ returns-else-is_field_key g c vs seen h =
     ∙ ap (option_map (bare c.args.state.seen))
     (c.when-in-Transform.ensures ∙ ap (λ b. when b (Source Language)) c.is_language-in-Transform.ensures))
 
-pub returns-in-Some : goal.returns-in-Some
-returns-in-Some g c vs seen h =
+pub returns-in-Some-read_word : goal.returns-in-Some-read_word
+returns-in-Some-read_word g c vs seen h =
     source_read c.args.mode c.args.at c.args.state.part vs seen c.args.state.seen h.seen_are c.in-Source.stage
     c.in-Source.is (sym c.is_field_key-in-Source.ensures ∙ c.if-is_field_key-2.false)
-    (c.in-Some.stage, c.in-Some.variants) (c.in-Some.ensures vs h.variants_are)
+    (c.in-Some-read_word.stage, c.in-Some-read_word.variants) (c.in-Some-read_word.ensures vs h.variants_are)
 
 pub returns-in_default : goal.returns-in_default
 returns-in_default g c vs seen h =
@@ -48,6 +54,3 @@ returns-in_default g c vs seen h =
     c.in_default.not-Start c.in_default.not-Head c.in_default.not-Transform c.in_default.not-Source
     c.plain-in_default.result
     (c.plain-in_default.ensures ∙ ap (option_map (bare c.args.state.seen)) c.read_piece.ensures)
-
-pub unreachable-requires : goal.unreachable-requires
-unreachable-requires g c = c.requires.block _ c.in-Head.is
