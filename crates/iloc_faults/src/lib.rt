@@ -15,6 +15,7 @@
 #![tactic(auto)]
 
 ghost use Rattle.std.specs.Prelude.{◌≡◌, ◌↔◌, ◌≤◌, None, IfSome, length};
+ghost use Rattle.iloc_spec_grammar.specs.Syntax.{IsWord, Language, first_piece, languages, pieces};
 ghost use Rattle.iloc_pieces.specs.Window.{text_in};
 ghost use Rattle.iloc_normalize.specs.Answered.{HasRefusal};
 ghost use Rattle.iloc_faults.specs.Places.{IsAccepted, IsFault, IsFaultPlace};
@@ -108,12 +109,12 @@ pub fn place_in<R: Room>(room: R, mode: Mode, text: Window<'_>) -> Option<(usize
 
 /// Where the fault of a text stands that has this refusal, and of which sixteen bytes more can be loaded: the same place, found
 /// sooner. Only a text that begins with no language is refused for its language, so then its first piece is the place, and
-/// else the first piece is not read again. Each mode has a walk of its own. It takes time and memory as `fault_in`.
+/// else the first piece is not read again. It takes time and memory as `fault_in`.
 ///
 /// ```text
 /// place_of(InMemory(alloc), &Locales, window, &ParseError::InvalidSubtag) // (3, 6), if its text is `en-foo`
 /// ```
-#[inline(never)]
+#[inline(always)]
 pub fn place_of<R: Room, A: InMode>(
     room: R,
     answers: &A,
@@ -126,9 +127,21 @@ pub fn place_of<R: Room, A: InMode>(
 {
     match refusal {
         ParseError::InvalidLanguage => (0, walk::first_end(text.bytes, text.len())),
-        _ => match walk::walk_behind(room, answers.mode(), text.bytes, text.len()) {
-            Some(found) => (found.start, found.end),
-            None => unreachable!(),
-        },
+        _ => place_behind(room, answers, text),
+    }
+}
+
+// Where the fault of a refused text stands that begins with a language. Each mode has a walk of its own, too large to be
+// inlined.
+#[inline(never)]
+fn place_behind<R: Room, A: InMode>(room: R, answers: &A, text: Window<'_>) -> (usize, usize)
+    requires refused { ¬ (IsAccepted A.mode (text_in text)) }
+    requires begins { IsWord (Language languages) (first_piece (pieces (text_in text))) }
+    ensures place { IsFaultPlace A.mode (text_in text.entry) result.0 result.1 }
+    ensures inside { (result.0 ≤ result.1) × (result.1 ≤ length (text_in text.entry)) }
+{
+    match walk::walk_behind(room, answers.mode(), text.bytes, text.len()) {
+        Some(found) => (found.start, found.end),
+        None => unreachable!(),
     }
 }

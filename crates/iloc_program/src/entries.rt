@@ -1,5 +1,5 @@
 //! What is written for one line.
-ghost use Rattle.std.specs.Prelude.{◌≡◌, ◌++◌, OnOk, if◌then◌else◌, [], ◌∷◌};
+ghost use Rattle.std.specs.Prelude.{◌≡◌, ◌≢◌, ◌++◌, OnOk, if◌then◌else◌, [], ◌∷◌};
 ghost use Rattle.iloc_normalize.specs.Answered.{HasRefusal};
 ghost use Rattle.iloc_pieces.specs.Window.{text_in};
 ghost use Rattle.iloc_program.specs.Answers.{refusal_text};
@@ -116,21 +116,27 @@ fn write_number(listing: Listing, number: u64, replies: &mut ReplyBlock) -> Resu
 // Adds the refusal and the place of a fault, and a newline. Most are few plain bytes, and are stored at once.
 #[inline(always)]
 fn write_placed(line: Window<'_>, fault: &Fault, replies: &mut ReplyBlock) -> Result<(), AllocError>
-    requires { StandsWithin (text_in line) fault.now }
+    requires known { fault.now.refusal ≢ ParseError.OutOfMemory }
+    requires within { StandsWithin (text_in line) fault.now }
     ensures { OnOk result (held replies.new
         ≡ held replies.old ++ (refusal_text fault.now.refusal
         ++ (place_columns (text_in line.entry) fault.now ++ 10 ∷ []))) }
 {
-    let Some((words, count)) = reason_of(&fault.refusal) else {
-        return Err(AllocError);
-    };
+    let (words, count) = reason_of(&fault.refusal);
     let lanes = u8x16::from_slice(&line.bytes[fault.start..]);
     let len = fault.end - fault.start;
     if fault.end >= 100 || len > before_marked(escaped_in(lanes)) {
         return write_long(&words[..count], line, fault, replies);
     }
     let (range, width) = short_range(fault.start as u64, fault.end as u64);
-    replies.push_columns(words, count, range, width, *lanes.as_array(), len)
+    replies.push_columns(
+        words,
+        count,
+        range.to_le_bytes(),
+        width,
+        *lanes.as_array(),
+        len,
+    )
 }
 
 // The same behind these words, one after the other.

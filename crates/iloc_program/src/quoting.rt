@@ -1,6 +1,7 @@
 //! Numbers, and texts as they are shown.
 ghost use Rattle.std.specs.Prelude.{◌≡◌, ◌+◌, ◌-◌, ◌<◌, ◌≤◌, [], ◌∷◌, ◌++◌, true, false, length, take, map, OnOk};
 ghost use Rattle.std.specs.Fmt.{decimal, digit_glyph};
+ghost use Rattle.std.specs.Int.{w64, to_le_bytes};
 ghost use Rattle.std.specs.Simd.Lanes.{mask_l};
 ghost use Rattle.iloc_program.specs.ReplyBlock.{held};
 ghost use Rattle.iloc_program.specs.Listing.{is_escaped, range_column, shown, shown_byte};
@@ -45,23 +46,26 @@ fn unit(number: u64) -> u8
     b'0' + number as u8
 }
 
-/// A tab, a range within the first hundred bytes as `3..6`, and a tab; and how many bytes these are.
+/// A tab, a range within the first hundred bytes as `3..6`, and a tab, as one number; and how many bytes these are.
 #[inline(always)]
-pub(crate) fn short_range(from: u64, to: u64) -> ([u8; 8], usize)
+pub(crate) fn short_range(from: u64, to: u64) -> (u64, usize)
     requires ordered { from ≤ to }
     requires short { to < 100 }
     ensures within { result.1 ≤ 8 }
-    ensures text { take result.1 result.0 ≡ range_column from to }
+    ensures text { take result.1 (to_le_bytes w64 result.0) ≡ range_column from to }
 {
     if to < 10 {
-        return ([b'\t', unit(from), b'.', b'.', unit(to), b'\t', 0, 0], 6);
+        let column = [b'\t', unit(from), b'.', b'.', unit(to), b'\t', 0, 0];
+        return (u64::from_le_bytes(column), 6);
     }
     let (tens, units) = (unit(to / 10), unit(to % 10));
     if from < 10 {
-        return ([b'\t', unit(from), b'.', b'.', tens, units, b'\t', 0], 7);
+        let column = [b'\t', unit(from), b'.', b'.', tens, units, b'\t', 0];
+        return (u64::from_le_bytes(column), 7);
     }
     let (first, second) = (unit(from / 10), unit(from % 10));
-    ([b'\t', first, second, b'.', b'.', tens, units, b'\t'], 8)
+    let column = [b'\t', first, second, b'.', b'.', tens, units, b'\t'];
+    (u64::from_le_bytes(column), 8)
 }
 
 /// Adds a tab, any range, and a tab.

@@ -23,20 +23,31 @@ pub(crate) fn write_refusal(error: ParseError, replies: &mut ReplyBlock) -> Resu
     }
 }
 
-// The words that say why a line has no answer, and how many of their bytes count. That an allocation fails is no answer.
+// The words that say why a line has no answer, and how many of their bytes count.
 #[inline(always)]
-pub(crate) fn reason_of(error: &ParseError) -> Option<(&'static [u8; 48], usize)>
-    ensures within { IfSome result (λ r. r.1 ≤ 48) }
-    ensures text { IfSome result (λ r. take r.1 r.0.now ≡ refusal_text error.now) }
+pub(crate) fn reason_of(error: &ParseError) -> (&'static [u8; 48], usize)
+    requires { error.now ≢ ParseError.OutOfMemory }
+    ensures within { result.1 ≤ 48 }
+    ensures text { take result.1 result.0.now ≡ refusal_text error.now }
 {
-    match error {
-        ParseError::InvalidLanguage => Some((INVALID_LANGUAGE, 38)),
-        ParseError::InvalidSubtag => Some((INVALID_SUBTAG, 16)),
-        ParseError::InvalidExtension => Some((INVALID_EXTENSION, 19)),
-        ParseError::DuplicatedExtension => Some((DUPLICATED_EXTENSION, 22)),
-        ParseError::OutOfMemory => None,
-    }
+    let row = match error {
+        ParseError::InvalidLanguage => 0,
+        ParseError::InvalidSubtag => 1,
+        ParseError::InvalidExtension => 2,
+        ParseError::DuplicatedExtension => 3,
+        ParseError::OutOfMemory => unreachable!(),
+    };
+    (&REASONS[row], REASON_LENGTHS[row])
 }
+
+const REASONS: &[[u8; 48]; 4] = &[
+    *b"! The given language subtag is invalid\n         ",
+    *b"! Invalid subtag\n                               ",
+    *b"! Invalid extension\n                            ",
+    *b"! Duplicated extension\n                         ",
+];
+
+const REASON_LENGTHS: &[usize; 4] = &[38, 16, 19, 22];
 
 // The words of each refusal and a newline, in 48 bytes, so that they are stored at once.
 const INVALID_LANGUAGE: &[u8; 48] = b"! The given language subtag is invalid\n         ";

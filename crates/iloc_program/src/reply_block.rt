@@ -120,10 +120,13 @@ impl ReplyBlock {
             ++ (take range_len range ++ (take piece_len piece ++ 10 ∷ [])))) }
     {
         self.make_room(73)?;
-        self.put(words, words_len);
-        self.put(&range, range_len);
-        self.put(&piece, piece_len);
-        self.put(b"\n", 1);
+        let start = self.len;
+        let to = &mut self.room.as_mut_slice()[start..];
+        let first = store(to, 0, words, words_len);
+        let second = store(to, first, &range, range_len);
+        let third = store(to, second, &piece, piece_len);
+        let end = store(to, third, b"\n", 1);
+        self.len = start + end;
         Ok(())
     }
 
@@ -215,4 +218,17 @@ impl ReplyBlock {
         self.room.as_mut_slice()[start..end].copy_from_slice(bytes);
         self.len = start + count;
     }
+}
+
+// Stores these bytes in the room behind the first of it, and returns where the first of them end.
+#[inline(always)]
+fn store(to: &mut [u8], at: usize, bytes: &[u8], count: usize) -> usize
+    requires room { at + length bytes.now ≤ length to.old }
+    requires within { count ≤ length bytes.now }
+    ensures stored { take result to.new ≡ take at to.old ++ take count bytes.now }
+    ensures end { result ≡ at + count }
+    ensures room { length to.new ≡ length to.old }
+{
+    to[at..at + bytes.len()].copy_from_slice(bytes);
+    at + count
 }
