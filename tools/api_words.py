@@ -137,7 +137,10 @@ READERS = {
 
 # Refusals of calls whose contract leaves them to each type.
 BY_CALL = {
-    "PreferenceKey::try_from_key_value": (KEYWORD_VALUE, "the type is `DictionaryBreakScriptExclusions` and the value has more than four scripts"),
+    **dict.fromkeys(
+        ("PreferenceKey::try_from_key_value", "PreferenceKey::try_from_key_value_in"),
+        (KEYWORD_VALUE, "the type is `DictionaryBreakScriptExclusions` and the value has more than four scripts"),
+    ),
     "JsonText::to_json": ([], "May allocate: `OutOfMemory` if that fails."),
     "TextValue::read_text": ([("ParseError", "the parser of the type refuses the text")], "`OutOfMemory` only if the parser of the type runs out of memory."),
     "write_to_io": ([("io::Error", "the writer fails, or takes no byte (`WriteZero`); it then took a beginning of the text")], None),

@@ -42,7 +42,13 @@ impl LocalePreferences {
         ensures only { IfOk result
             (λ locale. preferences (locale_value locale) ≡ self → SpellsNoTrue self) }
     {
-        self.to_locale_in(alloc)
+        // (a call of `to_locale_in` would copy the locale once more)
+        look_at_preferences(&self);
+        let keywords = self.written_keywords(alloc)?;
+        Ok(
+            self.to_data_locale_language_priority()
+                .with_keywords(alloc, keywords),
+        )
     }
 
     /// As `to_locale`, from any memory. Refusal: `AllocError`, only if room for at most two keywords was refused.
@@ -60,14 +66,26 @@ impl LocalePreferences {
         ensures out_of_memory { OnErr result (RefusedWithin M.refused 2) }
     {
         look_at_preferences(&self);
-        let keywords = keywords_of(
-            memory,
-            override_value(self.region_override),
-            subdivision_value(self.region),
-        )?;
+        let keywords = self.written_keywords(memory)?;
         Ok(
             self.to_data_locale_language_priority()
                 .with_keywords(memory, keywords),
+        )
+    }
+
+    // The keywords `rg` and `sd`, as far as they are written.
+    #[inline(always)]
+    fn written_keywords<M: Memory>(&self, memory: M) -> Result<Keywords, AllocError>
+        ensures value { IfOk result
+            (λ keywords. keywords ≡ rg_entry self.now.region_override ++ sd_entry self.now.region) }
+        ensures succeeds { length
+            (rg_entry self.now.region_override ++ sd_entry self.now.region) ≤ 1 → IsOk result }
+        ensures out_of_memory { OnErr result (RefusedWithin M.refused 2) }
+    {
+        keywords_of(
+            memory,
+            override_value(self.region_override),
+            subdivision_value(self.region),
         )
     }
 }

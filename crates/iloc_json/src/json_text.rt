@@ -72,6 +72,13 @@ impl<T: TextValue> JsonText for T {
 
     #[inline(always)]
     fn from_json(alloc: Global, value: &Value) -> Result<Self, JsonError> {
-        Self::from_json_in(alloc, value)
+        // (a call of `from_json_in` would copy the value once more)
+        let Some(string) = value.as_str() else {
+            return Err(JsonError::NotText);
+        };
+        match Self::read_text(alloc, string) {
+            Ok(read) => Ok(read),
+            Err(error) => Err(JsonError::from(error)),
+        }
     }
 }

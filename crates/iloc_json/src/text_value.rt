@@ -105,7 +105,8 @@ impl TextValue for Locale {
 
     #[inline(always)]
     fn read_text<M: Memory>(memory: M, text: &str) -> Result<Self, ParseError> {
-        Locale::try_from_str_in(memory, text)
+        // (a call of `try_from_str_in` would copy the locale once more)
+        Locale::try_from_utf8_in(memory, text.as_bytes())
     }
 
     #[tactic(auto, using(crate::proofs::ReadBack::locale_back))]

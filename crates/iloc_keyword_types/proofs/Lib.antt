@@ -6,3 +6,4 @@ mod ScriptLemmas
 mod TextLemmas
 mod OwedLemmas
 mod SubdivisionOrder
+pub mod ReadingLemmas

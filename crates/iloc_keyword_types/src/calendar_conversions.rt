@@ -14,6 +14,7 @@ use crate::calendar_algorithm::CalendarAlgorithm;
 use crate::enum_keyword::known_subtag;
 use crate::hijri::HijriCalendarAlgorithm;
 use crate::{PreferenceKey, find_word, known_keys};
+use iloc_memory::Memory;
 use iloc_subtags::UnicodeKey;
 use iloc_word_list::{PreferencesParseError, Value};
 use std::alloc::{AllocError, Global};
@@ -89,9 +90,22 @@ impl CalendarAlgorithm {
         ensures back { IfOk result
             (λ value. enum_reads the_keyword value ≡ Some (value_of self.now)) }
     {
+        self.value_in(alloc)
+    }
+
+    // As `to_value`, from any memory, which is not asked for room.
+    fn value_in<M: Memory>(&self, memory: M) -> Result<Value, AllocError>
+        ensures value { GivesValue (enum_gives the_keyword (value_of self.now)) result }
+        ensures back { IfOk result
+            (λ value. enum_reads the_keyword value ≡ Some (value_of self.now)) }
+    {
         let word = known_subtag(self.word_number());
         match self.kind() {
-            Some(kind) => Value::from_two_subtags(alloc, word, known_subtag(kind.word_number())),
+            Some(kind) => Value::from_two_subtags_in(
+                memory,
+                word,
+                known_subtag(kind.word_number()),
+            ),
             None => Ok(Value::from_subtag(Some(word))),
         }
     }
@@ -114,6 +128,17 @@ impl PreferenceKey for CalendarAlgorithm {
         ensures { ReadsUnder (key_of_keyword the_keyword)
             (Reads value_of (enum_reads the_keyword value.now)) key.now result }
     {
+        Self::try_from_key_value_in(alloc, key, value)
+    }
+
+    fn try_from_key_value_in<M: Memory>(
+        memory: M,
+        key: &UnicodeKey,
+        value: &Value,
+    ) -> Result<Option<Self>, PreferencesParseError>
+        ensures { ReadsUnder (key_of_keyword the_keyword)
+            (Reads value_of (enum_reads the_keyword value.now)) key.now result }
+    {
         if *key != known_keys::ca() {
             return Ok(None);
         }
@@ -129,6 +154,12 @@ impl PreferenceKey for CalendarAlgorithm {
     fn unicode_extension_value(&self, alloc: Global) -> Result<Option<Value>, AllocError>
         ensures { GivesKeyed (enum_gives the_keyword (value_of self.now)) result }
     {
-        Ok(Some(self.to_value(alloc)?))
+        self.unicode_extension_value_in(alloc)
+    }
+
+    fn unicode_extension_value_in<M: Memory>(&self, memory: M) -> Result<Option<Value>, AllocError>
+        ensures { GivesKeyed (enum_gives the_keyword (value_of self.now)) result }
+    {
+        Ok(Some(self.value_in(memory)?))
     }
 }

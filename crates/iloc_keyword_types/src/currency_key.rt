@@ -5,6 +5,7 @@ ghost use Rattle.iloc_keyword_types.specs.Reads.{Reads, ReadsUnder, GivesKeyed};
 
 use crate::known_keys;
 use crate::preference_key::PreferenceKey;
+use iloc_memory::Memory;
 use iloc_subtags::{CurrencyType, UnicodeKey};
 use iloc_word_list::{PreferencesParseError, Value};
 use std::alloc::{AllocError, Global};
@@ -26,6 +27,17 @@ impl PreferenceKey for CurrencyType {
         ensures { ReadsUnder (codes "cu")
             (Reads (λ code. code) (currency_reads value.now)) key.now result }
     {
+        Self::try_from_key_value_in(alloc, key, value)
+    }
+
+    fn try_from_key_value_in<M: Memory>(
+        memory: M,
+        key: &UnicodeKey,
+        value: &Value,
+    ) -> Result<Option<Self>, PreferencesParseError>
+        ensures { ReadsUnder (codes "cu")
+            (Reads (λ code. code) (currency_reads value.now)) key.now result }
+    {
         if *key != known_keys::cu() {
             return Ok(None);
         }
@@ -39,6 +51,12 @@ impl PreferenceKey for CurrencyType {
     }
 
     fn unicode_extension_value(&self, alloc: Global) -> Result<Option<Value>, AllocError>
+        ensures { GivesKeyed (Some (currency_gives self.now)) result }
+    {
+        self.unicode_extension_value_in(alloc)
+    }
+
+    fn unicode_extension_value_in<M: Memory>(&self, memory: M) -> Result<Option<Value>, AllocError>
         ensures { GivesKeyed (Some (currency_gives self.now)) result }
     {
         Ok(Some(Value::from(self)))

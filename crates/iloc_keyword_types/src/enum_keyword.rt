@@ -15,6 +15,7 @@ ghost use Rattle.iloc_keyword_types.specs.WordTables.{word_at};
 
 use crate::preference_key::PreferenceKey;
 use crate::word_enum::WordEnum;
+use iloc_memory::Memory;
 use iloc_subtags::{Subtag, UnicodeKey, subtag_of_normal};
 use iloc_tinystr::ShortPiece;
 use iloc_word_list::{PreferencesParseError, Value};
@@ -109,6 +110,17 @@ impl<E: EnumKeyword> PreferenceKey for E {
         ensures { ReadsUnder (key_of_keyword E.keyword)
             (ReadsVariant E.keyword E.place value.now) key.now result }
     {
+        Self::try_from_key_value_in(alloc, key, value)
+    }
+
+    fn try_from_key_value_in<M: Memory>(
+        memory: M,
+        key: &UnicodeKey,
+        value: &Value,
+    ) -> Result<Option<Self>, PreferencesParseError>
+        ensures { ReadsUnder (key_of_keyword E.keyword)
+            (ReadsVariant E.keyword E.place value.now) key.now result }
+    {
         if *key != E::key() {
             return Ok(None);
         }
@@ -122,6 +134,12 @@ impl<E: EnumKeyword> PreferenceKey for E {
     }
 
     fn unicode_extension_value(&self, alloc: Global) -> Result<Option<Value>, AllocError>
+        ensures { GivesKeyed (enum_gives E.keyword (E.place self.now, None)) result }
+    {
+        self.unicode_extension_value_in(alloc)
+    }
+
+    fn unicode_extension_value_in<M: Memory>(&self, memory: M) -> Result<Option<Value>, AllocError>
         ensures { GivesKeyed (enum_gives E.keyword (E.place self.now, None)) result }
     {
         Ok(Some(give_keyword(*self)))

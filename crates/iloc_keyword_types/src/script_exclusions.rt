@@ -3,7 +3,7 @@ ghost use Rattle.std.specs.Prelude.{◌≡◌, Some, IfOk, OnErr, codes, length}
 ghost use Rattle.iloc_spec_grammar.specs.Syntax.{word, Script as the_kind};
 ghost use Rattle.iloc_memory.specs.Refusals.{RefusedWithin};
 ghost use Rattle.iloc_spec_parts.specs.Keywords.{scripts_give};
-ghost use Rattle.iloc_keyword_types.specs.Reads.{ReadsUnder};
+ghost use Rattle.iloc_keyword_types.specs.Reads.{ReadingRunsOut, ReadsUnder};
 ghost use Rattle.iloc_keyword_types.specs.Scripts.{ReadsScripts, ScriptsRunOut};
 
 use crate::{PreferenceKey, PreferencesParseError, key_of};
@@ -111,6 +111,8 @@ impl PreferenceKey for DictionaryBreakScriptExclusions {
 
     ghost gives = { λ scripts result. IfOk result (λ o. o ≡ Some (scripts_give scripts)) };
 
+    ghost room = { λ scripts. length scripts };
+
     fn try_from_key_value(
         alloc: Global,
         key: &UnicodeKey,
@@ -118,10 +120,21 @@ impl PreferenceKey for DictionaryBreakScriptExclusions {
     ) -> Result<Option<Self>, PreferencesParseError>
         ensures { ReadsUnder (codes "dx") (ReadsScripts value.now) key.now result }
     {
+        Self::try_from_key_value_in(alloc, key, value)
+    }
+
+    fn try_from_key_value_in<M: Memory>(
+        memory: M,
+        key: &UnicodeKey,
+        value: &Value,
+    ) -> Result<Option<Self>, PreferencesParseError>
+        ensures reads { ReadsUnder (codes "dx") (ReadsScripts value.now) key.now result }
+        ensures out_of_memory { ReadingRunsOut M.refused (length value.now) result }
+    {
         if *key != exclusions_key() {
             return Ok(None);
         }
-        Ok(Some(DictionaryBreakScriptExclusions::try_from_value(alloc, value)?))
+        Ok(Some(DictionaryBreakScriptExclusions::try_from_value_in(memory, value)?))
     }
 
     fn unicode_extension_key() -> Option<UnicodeKey>
@@ -133,7 +146,14 @@ impl PreferenceKey for DictionaryBreakScriptExclusions {
     fn unicode_extension_value(&self, alloc: Global) -> Result<Option<Value>, AllocError>
         ensures { IfOk result (λ o. o ≡ Some (scripts_give self.now)) }
     {
-        Ok(Some(self.to_value(alloc)?))
+        self.unicode_extension_value_in(alloc)
+    }
+
+    fn unicode_extension_value_in<M: Memory>(&self, memory: M) -> Result<Option<Value>, AllocError>
+        ensures gives { IfOk result (λ o. o ≡ Some (scripts_give self.now)) }
+        ensures out_of_memory { OnErr result (RefusedWithin M.refused (length self.now)) }
+    {
+        Ok(Some(self.to_value_in(memory)?))
     }
 }
 

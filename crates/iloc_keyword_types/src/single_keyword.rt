@@ -4,6 +4,7 @@ ghost use Rattle.iloc_spec_grammar.specs.Syntax.{Text};
 ghost use Rattle.iloc_keyword_types.specs.Reads.{Reads, ReadsUnder, GivesKeyed};
 
 use crate::{PreferenceKey, PreferencesParseError};
+use iloc_memory::Memory;
 use iloc_subtags::UnicodeKey;
 use iloc_word_list::Value;
 use std::alloc::{AllocError, Global};
@@ -138,6 +139,16 @@ impl<K: KeywordKind, T: SubtagContent> PreferenceKey for SingleKeyword<K, T> {
     ) -> Result<Option<Self>, PreferencesParseError>
         ensures { ReadsUnder K.key_text (Reads (λ w. w) (T.reads value.now)) key.now result }
     {
+        Self::try_from_key_value_in(alloc, key, value)
+    }
+
+    fn try_from_key_value_in<M: Memory>(
+        memory: M,
+        key: &UnicodeKey,
+        value: &Value,
+    ) -> Result<Option<Self>, PreferencesParseError>
+        ensures { ReadsUnder K.key_text (Reads (λ w. w) (T.reads value.now)) key.now result }
+    {
         if *key != K::key() {
             return Ok(None);
         }
@@ -151,6 +162,12 @@ impl<K: KeywordKind, T: SubtagContent> PreferenceKey for SingleKeyword<K, T> {
     }
 
     fn unicode_extension_value(&self, alloc: Global) -> Result<Option<Value>, AllocError>
+        ensures { GivesKeyed (Some (T.gives self.now)) result }
+    {
+        self.unicode_extension_value_in(alloc)
+    }
+
+    fn unicode_extension_value_in<M: Memory>(&self, memory: M) -> Result<Option<Value>, AllocError>
         ensures { GivesKeyed (Some (T.gives self.now)) result }
     {
         Ok(Some(Value::from(self)))

@@ -137,6 +137,17 @@ impl Locale {
                 extensions: Extensions::new_in(memory),
             });
         }
+        Self::filled(memory, code_units)
+    }
+
+    // Parses all of the text. It stands apart, since room for a locale is cleared where its function begins, and a plain
+    // text or an early refusal needs none.
+    #[inline(always)]
+    fn filled<M: Memory>(memory: M, code_units: &[u8]) -> Result<Self, ParseError>
+        ensures reads { LocaleTextAnswers code_units.now result }
+        ensures out_of_memory { RunsOutOnlyIf
+            (RefusedWithin M.refused (length code_units.now)) result }
+    {
         let mut locale = Locale::unknown_in(memory);
         locale.fill(memory, code_units)?;
         Ok(locale)

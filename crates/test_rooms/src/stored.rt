@@ -2,7 +2,10 @@
 
 use crate::memory::{UpTo, up_to};
 use iloc_json::{CarryError, carry_v1_in};
-use iloc_keyword_types::{DictionaryBreakScriptExclusions, PreferencesParseError};
+use iloc_keyword_types::{
+    CalendarAlgorithm, DictionaryBreakScriptExclusions, PreferenceKey, PreferencesParseError,
+    known_keys,
+};
 use iloc_word_list::Value;
 use std::test::Fail;
 
@@ -43,5 +46,56 @@ fn scripts_ask_for_room_past_the_fourth(rt: HostRuntime) -> Result<(), Fail> {
     assert_eq!(rt; scripts(four, five, text), refused);
     assert_eq!(rt; scripts(five, four, text), refused);
     assert_eq!(rt; scripts(five, five, text), Ok((5, 5)));
+    Ok(())
+}
+
+// How many subtags the value of a keyword has that is read under its key, in the room `read`, and given in the room `given`.
+fn keyed<P: PreferenceKey + Drop>(
+    read: UpTo,
+    given: UpTo,
+    text: &str,
+) -> Result<Option<usize>, PreferencesParseError> {
+    let Some(key) = P::unicode_extension_key() else {
+        return Ok(None);
+    };
+    let Ok(value) = Value::try_from_str(read.heap, text) else {
+        return Err(PreferencesParseError::InvalidKeywordValue);
+    };
+    let Some(keyword) = P::try_from_key_value_in(read, &key, &value)? else {
+        return Ok(None);
+    };
+    let Some(again) = keyword.unicode_extension_value_in(given)? else {
+        return Ok(None);
+    };
+    Ok(Some(again.subtag_count()))
+}
+
+#[test]
+fn scripts_under_their_key_ask_for_room_past_the_fourth(rt: HostRuntime) -> Result<(), Fail> {
+    let (heap, refused) = (rt.alloc(), Err(PreferencesParseError::OutOfMemory));
+    let (four, five) = (up_to(4, heap), up_to(5, heap));
+    let text = "hani-hira-kana-latn-cyrl";
+    type Scripts = DictionaryBreakScriptExclusions;
+    assert_eq!(rt; keyed::<Scripts>(four, five, text), refused);
+    assert_eq!(rt; keyed::<Scripts>(five, four, text), refused);
+    assert_eq!(rt; keyed::<Scripts>(five, five, text), Ok(Some(5)));
+    Ok(())
+}
+
+#[test]
+fn a_calendar_under_its_key_asks_for_no_room(rt: HostRuntime) -> Result<(), Fail> {
+    let none = up_to(0, rt.alloc());
+    assert_eq!(rt;
+        keyed::<CalendarAlgorithm>(none, none, "islamic-civil"),
+        Ok(Some(2))
+    );
+    assert_eq!(rt;
+        DictionaryBreakScriptExclusions::try_from_key_value_in(
+            none,
+            &known_keys::ca(),
+            &Value::new_empty(),
+        ),
+        Ok(None)
+    );
     Ok(())
 }

@@ -1,4 +1,4 @@
-use Rattle.std.proofs.Common.{Ok, Result, length, arith}
+use Rattle.std.proofs.Common.{Ok, Result}
 use Rattle.std.proofs.lemmas.Result.{err_from_is_err_and}
 use Rattle.iloc_subtags.specs.declared.parse_error.ParseError.{ParseError}
 use Rattle.iloc_langid.specs.declared.identifier.LanguageIdentifier.{LanguageIdentifier}
@@ -6,12 +6,8 @@ use Rattle.iloc_extensions.specs.declared.extensions.Extensions.{Extensions}
 use Rattle.iloc_locale.specs.declared.locale.Locale.{Locale}
 use Rattle.iloc_locale.proofs.ReadLemmas.{no_language_read, reads_apart, reads_memory, reads_well_formed}
 use Rattle.iloc_locale.proofs.ReadLemmas.{reads_steps, reads_accepts, reads_refuses, reads_narrow}
-use Rattle.iloc_locale.proofs.ReadLemmas.{none_after_unknown, plain_means}
-use Rattle.iloc_transform.proofs.RoomLemmas.{passed_on}
+use Rattle.iloc_locale.proofs.ReadLemmas.{plain_means}
 use Rattle.iloc_locale.proofs.locale.Locale.try_from_utf8_in.Goals as goal
-
-pub fill-requires : goal.fill-requires
-fill-requires g c = none_after_unknown c.unknown_in-locale.result c.unknown_in-locale.ensures
 
 -- each way out reads the text as the grammar says; the other clauses follow from that
 
@@ -31,40 +27,6 @@ returns-in_err-fill_short-clause-refused g c =
 pub returns-in_err-fill_short-clause-narrow : goal.returns-in_err-fill_short-clause-narrow
 returns-in_err-fill_short-clause-narrow g c =
     reads_narrow c.args.code_units.now c.from_residual.result (returns-in_err-fill_short-clause-reads g c)
-
-pub returns-in_err-fill-clause-reads : goal.returns-in_err-fill-clause-reads
-returns-in_err-fill-clause-reads g c =
-    let p = err_from_is_err_and c.from_residual-in_err-fill.result c.from_residual-in_err-fill.ensures.1 in
-    reads_apart c.args.code_units.now c.from_residual-in_err-fill.result
-    (rw (p.1, p.2) c.in_err-fill.ensures.reads)
-
-pub returns-in_err-fill-clause-memory : goal.returns-in_err-fill-clause-memory
-returns-in_err-fill-clause-memory g c =
-    let p = err_from_is_err_and c.from_residual-in_err-fill.result c.from_residual-in_err-fill.ensures.1 in
-    reads_memory c.args.code_units.now c.from_residual-in_err-fill.result
-    (rw (p.1, p.2) c.in_err-fill.ensures.reads)
-
-pub returns-in_err-fill-clause-out_of_memory : goal.returns-in_err-fill-clause-out_of_memory
-returns-in_err-fill-clause-out_of_memory g c =
-    let p = err_from_is_err_and c.from_residual-in_err-fill.result c.from_residual-in_err-fill.ensures.1 in
-    let room = length c.args.code_units.now in
-    rw (p.1, p.2) (passed_on (Unit {0}) Locale g.M.Memory.refused room room (omega arith)
-    c.in_err-fill.field-0.0 c.in_err-fill.ensures.out_of_memory)
-
-pub returns-in_err-fill-clause-accepted : goal.returns-in_err-fill-clause-accepted
-returns-in_err-fill-clause-accepted g c =
-    reads_accepts c.args.code_units.now c.from_residual-in_err-fill.result
-    (returns-in_err-fill-clause-reads g c)
-
-pub returns-in_err-fill-clause-refused : goal.returns-in_err-fill-clause-refused
-returns-in_err-fill-clause-refused g c =
-    reads_refuses c.args.code_units.now c.from_residual-in_err-fill.result
-    (returns-in_err-fill-clause-reads g c)
-
-pub returns-in_err-fill-clause-narrow : goal.returns-in_err-fill-clause-narrow
-returns-in_err-fill-clause-narrow g c =
-    reads_narrow c.args.code_units.now c.from_residual-in_err-fill.result
-    (returns-in_err-fill-clause-reads g c)
 
 abbrev made : LanguageIdentifier → Extensions → Result Locale ParseError
 made i e = Ok (record { id = i; extensions = e })
@@ -96,22 +58,27 @@ returns-then-branch-clause-narrow g c = reads_narrow c.args.code_units.now
     (made c.fill_short.new.identifier c.new_in.result) (returns-then-branch-clause-reads g c)
 
 pub returns-clause-reads : goal.returns-clause-reads
-returns-clause-reads g c = c.in_ok-fill.ensures.reads
+returns-clause-reads g c = reads_apart c.args.code_units.now c.filled.result c.filled.ensures.reads
+
+pub returns-clause-memory : goal.returns-clause-memory
+returns-clause-memory g c = reads_memory c.args.code_units.now c.filled.result c.filled.ensures.reads
 
 pub returns-clause-well_formed : goal.returns-clause-well_formed
 returns-clause-well_formed g c =
-    reads_well_formed c.args.code_units.now (Ok c.fill.new.self) (returns-clause-reads g c)
+    reads_well_formed c.args.code_units.now c.filled.result (returns-clause-reads g c)
 
 pub returns-clause-steps : goal.returns-clause-steps
-returns-clause-steps g c = reads_steps c.args.code_units.now (Ok c.fill.new.self) (returns-clause-reads g c)
+returns-clause-steps g c =
+    reads_steps c.args.code_units.now c.filled.result (returns-clause-reads g c)
 
 pub returns-clause-narrow : goal.returns-clause-narrow
-returns-clause-narrow g c = reads_narrow c.args.code_units.now (Ok c.fill.new.self) (returns-clause-reads g c)
+returns-clause-narrow g c =
+    reads_narrow c.args.code_units.now c.filled.result (returns-clause-reads g c)
 
 pub returns-clause-accepted : goal.returns-clause-accepted
 returns-clause-accepted g c =
-    reads_accepts c.args.code_units.now (Ok c.fill.new.self) (returns-clause-reads g c)
+    reads_accepts c.args.code_units.now c.filled.result (returns-clause-reads g c)
 
 pub returns-clause-refused : goal.returns-clause-refused
 returns-clause-refused g c =
-    reads_refuses c.args.code_units.now (Ok c.fill.new.self) (returns-clause-reads g c)
+    reads_refuses c.args.code_units.now c.filled.result (returns-clause-reads g c)

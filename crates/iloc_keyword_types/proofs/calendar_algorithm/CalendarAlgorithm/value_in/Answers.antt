@@ -12,7 +12,7 @@ use Rattle.iloc_keyword_types.specs.CalendarLaws.{placed_at}
 use Rattle.iloc_keyword_types.specs.Hijri.{kind_place}
 use Rattle.iloc_keyword_types.proofs.GivenLemmas.{reads_back, kind_normal, given_kind, given_plain}
 use Rattle.iloc_keyword_types.proofs.GivenLemmas.{hijri_place}
-use Rattle.iloc_keyword_types.proofs.calendar_algorithm.CalendarAlgorithm.to_value.Goals as goal
+use Rattle.iloc_keyword_types.proofs.calendar_algorithm.CalendarAlgorithm.value_in.Goals as goal
 
 -- the word of a calendar is a subtag
 calendar_normal : (calendar : CalendarAlgorithm)
@@ -22,13 +22,13 @@ calendar_normal calendar =
     (placed_at calendar)
 
 pub known_subtag-word-requires : goal.known_subtag-word-requires
-known_subtag-word-requires c = (_, calendar_normal c.args.self.now, c.word_number.ensures)
+known_subtag-word-requires g c = (_, calendar_normal c.args.self.now, c.word_number.ensures)
 
 pub known_subtag-requires : goal.known_subtag-requires
-known_subtag-requires c = (_, kind_normal c.in-Some.kind, c.word_number-in-Some.ensures)
+known_subtag-requires g c = (_, kind_normal c.in-Some.kind, c.word_number-in-Some.ensures)
 
 pub returns-in-None-clause-value : goal.returns-in-None-clause-value
-returns-in-None-clause-value c = (
+returns-in-None-clause-value g c = (
   c.from_subtag.result,
   given_plain c.args.self.now (sym c.in-None.ensures)
       ∙ ap Some (sym (c.from_subtag.ensures
@@ -39,14 +39,14 @@ returns-in-None-clause-value c = (
 
 pub returns-in-None-clause-back : goal.returns-in-None-clause-back
 unfolding returns-in-None-clause-value
-returns-in-None-clause-back c =
-    reads_back c.args.self.now c.from_subtag.result (returns-in-None-clause-value c).1
+returns-in-None-clause-back g c =
+    reads_back c.args.self.now c.from_subtag.result (returns-in-None-clause-value g c).1
 
 pub returns-in-Some-clause-value : goal.returns-in-Some-clause-value
-returns-in-Some-clause-value c = (
+returns-in-Some-clause-value g c = (
   _,
   given_kind c.args.self.now c.in-Some.kind c.in-Some.ensures ∙ sym (λ i. Some (first i ∷ second i ∷ [])),
-  c.from_two_subtags.ensures,
+  c.from_two_subtags_in.ensures.value,
 )
   where
     first : c.known_subtag-word.result ≡ word_at (variants keywords.CalendarAlgorithm) 9
@@ -58,5 +58,5 @@ returns-in-Some-clause-value c = (
     second = c.known_subtag.ensures _ (kind_normal c.in-Some.kind) c.word_number-in-Some.ensures
 
 pub returns-in-Some-clause-back : goal.returns-in-Some-clause-back
-returns-in-Some-clause-back c =
-    let given = returns-in-Some-clause-value c in rw given.2 (reads_back c.args.self.now given.0 given.1)
+returns-in-Some-clause-back g c =
+    let given = returns-in-Some-clause-value g c in rw given.2 (reads_back c.args.self.now given.0 given.1)
