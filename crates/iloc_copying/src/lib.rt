@@ -94,8 +94,9 @@ pub fn copies_of<C: Copying, T: Copied>(copying: C, list: &Vec<T>) -> Result<Vec
     ensures out_of_memory { OnErr result
         (RefusedWithin C.Room.refused (items_in T.size list.now.items)) }
 {
-    let mut copies = copying.memory_for(list).with_capacity(list.len())?;
-    for item in list.as_slice() {
+    let items = list.as_slice();
+    let mut copies = copying.memory_for(list).with_capacity(items.len())?;
+    for item in items {
         copies.push_reserved(item.copied(copying)?);
     }
     Ok(copies)
@@ -107,8 +108,9 @@ pub fn clones_of<T: Clone>(list: &Vec<T>) -> Result<Vec<T>, AllocError>
     requires { (x y : T) → T.is_clone x y → y ≡ x }
     ensures { IfOk result (λ copy. copy.items ≡ list.now.items) }
 {
-    let mut clones = FromOwn.memory_for(list).with_capacity(list.len())?;
-    for item in list.as_slice() {
+    let items = list.as_slice();
+    let mut clones = FromOwn.memory_for(list).with_capacity(items.len())?;
+    for item in items {
         clones.push_reserved(item.clone()?);
     }
     Ok(clones)

@@ -15,22 +15,46 @@ use iloc_transform::Transform;
 use iloc_unicode::Attributes;
 use std::alloc::AllocError;
 
-/// A copy, in which empty parts are not copied. Most have keywords alone. Refusal: `AllocError`, only if room for at most as
-/// many items as there are in all was refused.
+/// A copy, in which empty parts are not copied. Most have keywords alone.
 #[inline(always)]
-pub fn copied<C: Copying>(copying: C, from: &Extensions) -> Result<Extensions, AllocError>
+pub(crate) fn copied<C: Copying>(copying: C, from: &Extensions) -> Result<Extensions, AllocError>
     ensures value { IfOk result (λ copy. value_of copy ≡ value_of from.now) }
     ensures out_of_memory { OnErr result
         (RefusedWithin C.Room.refused (extensions_items from.now)) }
 {
-    let mut copy = none(copying.memory_for(&from.other));
+    let mut copy = none_for(copying, from);
+    fill(copying, &mut copy, from)?;
+    Ok(copy)
+}
+
+/// No extension, in which a copy of these is made.
+#[inline(always)]
+pub fn none_for<C: Copying>(copying: C, from: &Extensions) -> Extensions
+    ensures { value_of result ≡ no_extensions }
+{
+    none(copying.memory_for(&from.other))
+}
+
+/// Copies each part that is there over an empty one. Returned by value they would be moved twice more. Refusal: `AllocError`,
+/// only if room for at most as many items as there are in all was refused.
+#[inline(always)]
+pub fn fill<C: Copying>(
+    copying: C,
+    to: &mut Extensions,
+    from: &Extensions,
+) -> Result<(), AllocError>
+    requires { value_of to.old ≡ no_extensions }
+    ensures value { OnOk result (value_of to.new ≡ value_of from.now) }
+    ensures out_of_memory { OnErr result
+        (RefusedWithin C.Room.refused (extensions_items from.now)) }
+{
     if !from.unicode.keywords.is_empty() {
-        copy.unicode.keywords = from.unicode.keywords.copied(copying)?;
+        to.unicode.keywords = from.unicode.keywords.copied(copying)?;
     }
     if !has_keywords_alone(from) {
-        fill_rest(copying, &mut copy, from)?;
+        fill_rest(copying, to, from)?;
     }
-    Ok(copy)
+    Ok(())
 }
 
 // No extension. LLVM shortens this call, and then puts it where it is called: in this order it takes

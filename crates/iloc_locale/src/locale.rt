@@ -10,7 +10,7 @@ ghost use Rattle.iloc_memory.specs.Refusals.{RefusedWithin};
 ghost use Rattle.iloc_locale.specs.Sizes.{locale_items};
 
 use iloc_copying::{FromMemory, FromOwn};
-use iloc_extensions::copying::copied;
+use iloc_extensions::copying::{fill, none_for};
 use iloc_extensions::{Extensions, read_blocks};
 use iloc_langid::LanguageIdentifier;
 use iloc_langid::reader::{fill_head, fill_short};
@@ -44,9 +44,11 @@ impl Clone for Locale {
 
     #[inline(always)]
     fn clone(&self) -> Result<Self, AllocError> {
+        let mut extensions = none_for(FromOwn, &self.extensions);
+        fill(FromOwn, &mut extensions, &self.extensions)?;
         Ok(Locale {
             id: self.id.clone()?,
-            extensions: copied(FromOwn, &self.extensions)?,
+            extensions,
         })
     }
 }
@@ -64,9 +66,11 @@ impl Locale {
         ensures value { IfOk result (λ copy. value_of copy ≡ value_of self.now) }
         ensures out_of_memory { OnErr result (RefusedWithin M.refused (locale_items self.now)) }
     {
+        let mut extensions = none_for(FromMemory(memory), &self.extensions);
+        fill(FromMemory(memory), &mut extensions, &self.extensions)?;
         Ok(Locale {
             id: self.id.clone_in(memory)?,
-            extensions: copied(FromMemory(memory), &self.extensions)?,
+            extensions,
         })
     }
 

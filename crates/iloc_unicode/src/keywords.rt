@@ -286,34 +286,28 @@ impl Keywords {
         *self = Keywords::new_single(key, value);
     }
 
-    // A copy of at most one pair. It stands apart, so that a key with one subtag pays nothing for it.
+    // Copies the pairs over an empty map. It stands apart, so that a key with one subtag pays nothing for it. Each case
+    // writes the copy itself: joined first it would be moved once more.
     #[inline(never)]
-    fn few_copied<C: Copying>(&self, copying: C) -> Result<Self, AllocError>
-        requires { length self.now < 2 }
-        ensures value { IfOk result (λ copy. copy ≡ self.now) }
-        ensures out_of_memory { OnErr result
-            (RefusedWithin C.Room.refused (pairs_items length self.now)) }
-    {
-        let [(key, value)] = self.as_slice() else {
-            return Ok(Keywords::new());
-        };
-        Ok(Keywords::new_single(*key, value.copied(copying)?))
-    }
-
-    // A copy of two pairs or more.
-    #[inline(never)]
-    fn many_copied<C: Copying>(&self, copying: C) -> Result<Self, AllocError>
-        requires { 1 < length self.now }
-        ensures value { IfOk result (λ copy. copy ≡ self.now) }
+    fn copy_onto<C: Copying>(&self, copying: C, to: &mut Keywords) -> Result<(), AllocError>
+        requires { to.old ≡ [] }
+        ensures value { OnOk result (to.new ≡ self.now) }
         ensures out_of_memory { OnErr result
             (RefusedWithin C.Room.refused (pairs_items length self.now)) }
     {
         match self.as_slice() {
-            [] | [_] => unreachable!(),
-            _ => Ok(Keywords {
-                map: self.map.copied(copying)?,
-            }),
+            [] => {}
+            [(key, value)] => *to = Keywords::new_single(*key, value.copied(copying)?),
+            _ => {
+                let map = self.map.copied(copying)?;
+                // (so nothing is dropped)
+                if !to.is_empty() {
+                    unreachable!();
+                }
+                *to = Keywords { map };
+            }
         }
+        Ok(())
     }
 
     // Sets the value of a key that isn't there; else nothing changes.
@@ -574,6 +568,7 @@ impl Default for Keywords {
 impl Clone for Keywords {
     ghost is_clone = { λ a b. b ≡ a };
 
+    #[inline(always)]
     fn clone(&self) -> Result<Self, AllocError> {
         self.copied(FromOwn)
     }
@@ -582,17 +577,16 @@ impl Clone for Keywords {
 impl Copied for Keywords {
     ghost size = { pairs_items length };
 
+    #[inline(always)]
     fn copied<C: Copying>(&self, copying: C) -> Result<Self, AllocError> {
-        let pairs = self.as_slice();
-        if pairs.len() > 1 {
-            return self.many_copied(copying);
-        }
-        if let [(key, value)] = pairs {
+        if let [(key, value)] = self.as_slice() {
             if let Some(value) = copy_of_single(value) {
                 return Ok(Keywords::new_single(*key, value));
             }
         }
-        self.few_copied(copying)
+        let mut copy = Keywords::new();
+        self.copy_onto(copying, &mut copy)?;
+        Ok(copy)
     }
 }
 

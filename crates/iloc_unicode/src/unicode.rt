@@ -221,6 +221,7 @@ impl Copied for Unicode {
 
     ghost size = { unicode_items };
 
+    #[inline(always)]
     fn copied<C: Copying>(&self, copying: C) -> Result<Self, AllocError> {
         Ok(Unicode {
             keywords: self.keywords.copied(copying)?,

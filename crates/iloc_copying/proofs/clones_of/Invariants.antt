@@ -4,7 +4,7 @@ use Rattle.iloc_copying.proofs.clones_of.Given as goal
 -- what is done is the front of the list
 abbrev pub invariant-loop-item : goal.invariant-loop-item
 invariant-loop-item g l = record {
-  front : l.clones.items ≡ take l.item-index l.item-items;
+  front : l.clones.items ≡ take l.item-index l.items;
   count : vec_len l.clones ≡ l.item-index;
-  room : length l.item-items ≤ vec_capacity l.clones;
+  room : length l.items ≤ vec_capacity l.clones;
 }
