@@ -1,7 +1,6 @@
 -- The laws of steps between texts, one and any number, by those of the tree.
-use Rattle.std.proofs.Common.{◌≡◌, ◌↔◌, inl, inr, ℕ, zero, suc, ◌≤◌, false, List, [], ◌∷◌, length, refl}
+use Rattle.std.proofs.Common.{arith, ◌≡◌, ◌↔◌, inl, inr, ℕ, zero, suc, ◌≤◌, false, List, [], ◌∷◌, length, refl}
 use Rattle.std.proofs.Common.{sym, ap, ◌∙◌, subst, ◌==◌, le_of_eq, le_trans}
-use Rattle.std.specs.Char.{to_ascii_lowercase}
 use Rattle.std.specs.List.{AllByRecursion}
 use Rattle.std.proofs.lemmas.Bool.{cases_Bool, cond_both, both_ways}
 use Rattle.iloc_spec_grammar.specs.Syntax.{LanguageLengths, Block, code_x, Text, pieces, join, lower}
@@ -69,8 +68,7 @@ IsLongBlock b = (lower_singleton b == code_x) ≡ false → AllByRecursion IsLon
 blocks_long : (ps : List Text) → AllByRecursion IsLongBlock (blocks ps)
 blocks_long [] = tt
 blocks_long ([] ∷ ps) = blocks_long ps
-blocks_long ((c ∷ []) ∷ ps) = cond_both (to_ascii_lowercase c == code_x) _ _ (AllByRecursion IsLongBlock)
-    (λ e. (λ n. absurd (both_ways _ n e), tt)) (λ e. (λ n. front_long ps, blocks_long ps))
+blocks_long ((c ∷ []) ∷ ps) = grind (arith, cond_both, both_ways, front_long, blocks_long ps)
 blocks_long ((c ∷ d ∷ p) ∷ ps) = blocks_long ps
 
 tail_long : (ps : List Text) → AllByRecursion IsLongBlock (tail_blocks ps)
@@ -79,13 +77,7 @@ tail_long (p ∷ ps) = blocks_long ps
 
 read_long : (bs : List Block) → AllByRecursion IsLongBlock bs → AreLong (extensions_in bs)
 read_long [] h = tt
-read_long (b ∷ bs) h = elim (cases_Bool (lower_singleton b == code_x)) [
-  | inl t ↦ rw t tt
-  | inr t ↦ rw t (
-    subst (AllByRecursion IsLong) (sym (pieces-extension_of (lower_singleton b) b.1)) (h.0 t),
-    read_long bs h.1,
-  )
-]
+read_long (b ∷ bs) h = grind (arith, cases_Bool, pieces-extension_of, read_long bs h.1)
 
 written_long : (ps : List Text) → AreLong (written_of ps).extensions
 unfolding written_of
@@ -102,8 +94,7 @@ step_long (Step.inside r {es = es} {fs = fs} s z) h =
 walk : (T : LanguageLengths) (n : ℕ) (t : Text) (v w : Written) → IsWritten T v → pieces t ≡ spelling v →
     AreLong v.extensions → Steps n v w → (u : Text) → lower (join (spelling w)) ≡ lower u →
     Leads (TextStep T) (suc n) t u
-walk T zero t v w h e l s u k =
-    inr (u, TextStep.letter_case (ap lower (sym (join-pieces t) ∙ ap join (e ∙ ap spelling s)) ∙ k), refl)
+walk T zero t v w h e l s u k = grind (arith, join-pieces)
 walk T (suc n) t v w h e l s u k =
     let after = (written_step T s.1 h).0 in
     let long = step_long s.1 l in
@@ -165,10 +156,10 @@ identifier_step_length T t u s = identifier_text_step_length T t u (tree_identif
 
 pub identifier_chain_means : (T : LanguageLengths) (n : ℕ) (t u : Text) (i : Identifier) →
     Leads (IdentifierTextStep T) n t u → IdentifierMeans T (pieces t) i → IdentifierMeans T (pieces u) i
-identifier_chain_means T zero t u i c m = subst (λ (s : Text). IdentifierMeans T (pieces s) i) c m
-identifier_chain_means T (suc n) t u i (inl e) m = subst (λ (s : Text). IdentifierMeans T (pieces s) i) e m
+identifier_chain_means T zero t u i c m = grind (arith)
+identifier_chain_means T (suc n) t u i (inl e) m = grind (arith)
 identifier_chain_means T (suc n) t u i (inr c) m =
-    identifier_chain_means T n c.0 u i c.2 (identifier_step_means T t c.0 i c.1 m)
+    search (identifier_step_means, identifier_chain_means T n c.0 u)
 
 pub identifier_chain_length : (T : LanguageLengths) (n : ℕ) (t u : Text) →
     Leads (IdentifierTextStep T) n t u →
@@ -204,8 +195,7 @@ identifier_chain_to_text T t i m =
 pub length-identifier_means : (T : LanguageLengths) (t : Text) (i : Identifier) →
     IdentifierMeans T (pieces t) i →
     length (identifier_text i) ≡ length t
-length-identifier_means T t i m =
-    identifier_chain_length T 2 t (identifier_text i) (identifier_chain_to_text T t i m)
+length-identifier_means T t i m = search (identifier_chain_length, identifier_chain_to_text)
 
 pub identifiers_lead_to_one : (T : LanguageLengths) (t u : Text) (i j : Identifier) →
     IdentifierMeans T (pieces t) i → IdentifierMeans T (pieces u) j →

@@ -1,10 +1,10 @@
 -- Steps lead from each text of a meaning to the printed one.
 use Rattle.std.proofs.Common.{◌≡◌, ℕ, ◌<◌, Bool, true, false, cond, not, List, [], ◌∷◌, length, map, filter}
-use Rattle.std.proofs.Common.{refl, sym, ap, ◌∙◌, subst, arith, Option, Some, None, IfSome, option_map}
+use Rattle.std.proofs.Common.{refl, ap, ◌∙◌, subst, arith, Option, Some, None, IfSome, option_map}
 use Rattle.std.specs.Prelude.{codes}
 use Rattle.std.specs.List.{AllByRecursion, AllZip}
 use Rattle.std.specs.FinMap.{is_sorted}
-use Rattle.iloc_spec_grammar.specs.Syntax.{LanguageLengths, Field, Text, Subtag, is_word, lower, upper, title}
+use Rattle.iloc_spec_grammar.specs.Syntax.{LanguageLengths, Field, Text, Subtag, is_word, lower}
 use Rattle.iloc_spec_grammar.specs.Syntax.{word_cmp, is_true}
 use Rattle.iloc_spec_grammar.specs.Syntax.{SpelledIdentifier, Fields, kept, IsIdentifier, IsField}
 use Rattle.iloc_spec_grammar.specs.Syntax.{AllDifferent}
@@ -104,12 +104,10 @@ record Kept (ps qs : List Text) : Type 0 where
 no_true_means : (qs : List Text) → AllByRecursion (λ q. is_true (lower q) ≡ false) qs →
     normal_values qs ≡ low qs
 no_true_means [] h = refl
-no_true_means (q ∷ qs) h = ap (λ b. cond (not b) (lower q ∷ normal_values qs) (normal_values qs)) h.0
-    ∙ ap (λ l. lower q ∷ l) (no_true_means qs h.1)
+no_true_means (q ∷ qs) h = search (no_true_means qs h.1)
 
 none_true : (ps : List Text) → AllByRecursion (λ q. is_true (lower q) ≡ false) (no_trues ps)
-none_true ps = all_weaker (λ q. not (is_true (lower q)) ≡ true) (λ q. is_true (lower q) ≡ false)
-    (λ q e. not-true _ e) (no_trues ps) (filter-passes (λ q. not (is_true (lower q))) ps)
+none_true ps = grind (arith, all_weaker, not-true, filter-passes)
 
 pub true_word : (w : Text) → is_true w ≡ true → codes "true" ≡ w
 unfolding is_true
@@ -201,12 +199,8 @@ field_order_step (other ps) d = ExtensionStep.same
 pub keys_differ_then : (e : Extension) →
     KeysDiffer
     (with_sorted_attributes (with_sorted_variants (without_dropped (without_trues (without_repeats e)))))
-keys_differ_then (unicode u) = subst (AllDifferent word_cmp)
-    (sym (map-map (λ (f : Field). lower f.0) (λ f. (f.0, no_trues f.1))
-    (dedup (λ f. f.0) [] u.keywords))) (different-dedup (λ (f : Field). f.0) [] u.keywords)
-keys_differ_then (transform m) = subst (AllDifferent word_cmp)
-    (sym (map-map (λ (f : Field). lower f.0) (λ f. (f.0, keep_one f.1))
-    (dedup (λ f. f.0) [] m.fields))) (different-dedup (λ (f : Field). f.0) [] m.fields)
+keys_differ_then (unicode u) = search (map-map, dedup, different-dedup)
+keys_differ_then (transform m) = search (map-map, dedup, different-dedup)
 keys_differ_then (other ps) = tt
 
 -- what an extension in order means is its lower case
@@ -225,10 +219,7 @@ sorted_set ws d = set_of_ascending (low (sort_words ws))
 no_true_entries : (fs : Fields) →
     AllByRecursion (λ f. AllByRecursion (λ q. is_true (lower q) ≡ false) f.1) fs →
     map {B = Field} (λ f. (lower f.0, normal_values f.1)) fs ≡ low_fields fs
-no_true_entries fs h = map-same (λ f. (lower f.0, normal_values f.1)) (λ f. (lower f.0, low f.1)) fs
-    (all_weaker (λ f. AllByRecursion (λ q. is_true (lower q) ≡ false) f.1)
-    (λ f. (lower f.0, normal_values f.1) ≡ (lower f.0, low f.1)) (λ f n i. (lower f.0, no_true_means f.1 n i))
-    fs h)
+no_true_entries fs h = search (map-same, low, all_weaker, no_true_means)
 
 none_true_fields : (fs : Fields) →
     AllByRecursion (λ (f : Field). AllByRecursion (λ q. is_true (lower q) ≡ false) f.1)
@@ -252,7 +243,7 @@ IsSpelled f = spelled_value (normal_values f.1) ≡ low f.1
 spelled_entries : (fs : Fields) → AllByRecursion IsSpelled fs →
     spelled_fields (map (λ f. (lower f.0, normal_values f.1)) fs) ≡ low_fields fs
 spelled_entries [] h = refl
-spelled_entries (f ∷ fs) h = λ i. (lower f.0, h.0 i) ∷ spelled_entries fs h.1 i
+spelled_entries (f ∷ fs) h = search (spelled_entries fs h.1)
 
 canonical_fields : (fs : Fields) → keys_differ fs → AllByRecursion IsSpelled fs →
     spelled_fields (normal_fields (sort_fields fs)) ≡ low_fields (sort_fields fs)
@@ -269,10 +260,17 @@ spelled_kept = all_mapped IsField IsSpelled (λ f. (f.0, keep_one f.1)) (λ f h.
 
 pub canonical_identifier : (i : SpelledIdentifier) → AllDifferent word_cmp (map lower i.variants) →
     lower_identifier (normal_identifier (sort_identifier i)) ≡ lower_identifier (sort_identifier i)
-canonical_identifier i d = same_identifier _ _ _ _ _ _ _ _ (lower-lower i.language)
-    (option_map-then lower title lower lower-title i.script)
-    (option_map-then lower upper lower lower-upper i.region)
-    (ap low (sorted_set i.variants d) ∙ lower_twice (sort_words i.variants))
+canonical_identifier i d =
+    search (
+      same_identifier,
+      lower-lower,
+      option_map-then,
+      lower-title,
+      lower-upper,
+      low,
+      sorted_set,
+      lower_twice,
+    )
 
 canonical_optional : (T : LanguageLengths) (o : Option SpelledIdentifier) → IfSome o (IsIdentifier T) →
     option_map lower_identifier (option_map normal_identifier (option_map sort_identifier o))
@@ -300,5 +298,4 @@ canonical T c (transform m) h =
           (spelled_kept ds (all_repeats IsField (λ f. f.0)
           (without-dedup (λ (f : Field). f.0) [] m.fields) h.1.fields)) i;
     })
-canonical T c (other ps) h =
-    ap low (filter_all (is_word Subtag) (filter (is_word Subtag) ps) (filter-passes (is_word Subtag) ps))
+canonical T c (other ps) h = rw (low, filter_all, filter-passes)

@@ -1,11 +1,11 @@
 -- At most eight steps lead from each accepted text to the printed text of its meaning.
-use Rattle.std.proofs.Common.{true≢false, ◌≡◌, ◌≢◌, ◌⊎◌, inl, inr, ℕ, zero, suc, ◌+◌, ◌<◌, Bool, true, false}
+use Rattle.std.proofs.Common.{true≢false, ◌≡◌, ◌≢◌, ◌⊎◌, inl, inr, ℕ, zero, suc, ◌+◌, ◌<◌, Bool, true}
 use Rattle.std.proofs.Common.{cond, ◌||◌, List, [], ◌∷◌, ◌++◌, length, map, filter_map, flat_map, refl, sym}
 use Rattle.std.proofs.Common.{ap, ◌∙◌, subst, arith, Option, Some, None, IfSome, option_map, option_to_list}
 use Rattle.std.proofs.Common.{is_some, nat_lt}
 use Rattle.std.specs.List.{AllByRecursion, AllZip}
 use Rattle.std.specs.Char.{to_ascii_lowercase}
-use Rattle.std.specs.Ordering.{nat_cmp, eq_by_cmp}
+use Rattle.std.specs.Ordering.{nat_cmp}
 use Rattle.std.specs.Cmp.{nat_cmp_total}
 use Rattle.std.specs.FinMap.{find, is_sorted, nat_cmp-IsAntisymmetric}
 use Rattle.std.specs.FinMap.Entries.{same_entries}
@@ -13,17 +13,16 @@ use Rattle.std.proofs.lemmas.Bool.{cases_eq, lt-ltb}
 use Rattle.std.proofs.lemmas.List.{map-append, length-map}
 use Rattle.std.proofs.lemmas.Str.Ascii.{lowercase-lowercase}
 use Rattle.iloc_spec_grammar.specs.Syntax.{LanguageLengths, Block, code_x, code_u, code_t, Text, join, lower}
-use Rattle.iloc_spec_grammar.specs.Syntax.{SpelledIdentifier, SpelledUnicode, SpelledTransform}
-use Rattle.iloc_spec_grammar.specs.Syntax.{Identifier, Fields, identifier_pieces, optional_pieces}
-use Rattle.iloc_spec_grammar.specs.Syntax.{fields_pieces, kept, lower_singleton, AllDifferent, IsPrivate}
+use Rattle.iloc_spec_grammar.specs.Syntax.{SpelledIdentifier}
+use Rattle.iloc_spec_grammar.specs.Syntax.{Identifier, Fields, identifier_pieces}
+use Rattle.iloc_spec_grammar.specs.Syntax.{fields_pieces, lower_singleton, AllDifferent, IsPrivate}
 use Rattle.iloc_spec_grammar.specs.Tree.{Extension, unicode, transform, other, Written, extension_pieces}
 use Rattle.iloc_spec_grammar.specs.Tree.{extension_block, block_pieces, blocks_of, spelling, IsExtension}
 use Rattle.iloc_spec_grammar.specs.Tree.{IsWritten, unicode_part, transform_part, private_part, other_part}
 use Rattle.iloc_spec_grammar.specs.Tree.{by_singleton, meaning, IsTreeWellFormed, private_form, printed}
 use Rattle.iloc_spec_grammar.specs.Tree.{tree_text, spelled_transform, spelled_unicode}
-use Rattle.iloc_spec_grammar.specs.Meaning.{normal_identifier, normal_fields, normal_unicode}
-use Rattle.iloc_spec_grammar.specs.Meaning.{normal_transform}
-use Rattle.iloc_spec_grammar.specs.Values.{IsValue, lower_identifier, spelled_fields}
+use Rattle.iloc_spec_grammar.specs.Meaning.{normal_identifier}
+use Rattle.iloc_spec_grammar.specs.Values.{IsValue, lower_identifier}
 use Rattle.iloc_spec_grammar.specs.TreeSteps.{TreeRule, Repeats, Trues, DroppedPieces, VariantOrder}
 use Rattle.iloc_spec_grammar.specs.TreeSteps.{AttributeOrder, FieldOrder, TreeIdentifierStep, ExtensionStep}
 use Rattle.iloc_spec_grammar.specs.TreeSteps.{Step, written}
@@ -52,28 +51,22 @@ use Rattle.iloc_spec_grammar.proofs.PartTexts.{identifier_pieces-low, option_to_
 
 fields_pieces-low : (fs : Fields) → fields_pieces (low_fields fs) ≡ low (fields_pieces fs)
 fields_pieces-low [] = refl
-fields_pieces-low (f ∷ fs) = ap (λ l. (lower f.0 ∷ low f.1) ++ l) (fields_pieces-low fs)
-    ∙ sym (map-append lower (f.0 ∷ f.1) (fields_pieces fs))
+fields_pieces-low (f ∷ fs) = rw (low, map-append, fields_pieces-low fs)
 
 extension_pieces-low : (e : Extension) → extension_pieces (low_extension e) ≡ low (extension_pieces e)
-extension_pieces-low (unicode u) = ap (λ l. low u.attributes ++ l) (fields_pieces-low u.keywords)
-    ∙ sym (map-append lower u.attributes (fields_pieces u.keywords))
-extension_pieces-low (transform m) = (λ k. id_pieces-low m.id k ++ fields_pieces-low m.fields k)
-    ∙ sym (map-append lower (optional_pieces m.id) (fields_pieces m.fields))
+extension_pieces-low (unicode u) = rw (low, fields_pieces-low, map-append)
+extension_pieces-low (transform m) = rw (id_pieces-low, fields_pieces-low, map-append)
 extension_pieces-low (other ps) = refl
 
 blocks-low : (bs : List Block) →
     flat_map block_pieces (map low_block bs) ≡ low (flat_map block_pieces bs)
 unfolding lower
 blocks-low [] = refl
-blocks-low (b ∷ bs) = ap (λ l. (lower (b.0 ∷ []) ∷ low b.1) ++ l) (blocks-low bs)
-    ∙ sym (map-append lower (block_pieces b) (flat_map block_pieces bs))
+blocks-low (b ∷ bs) = rw (low, map-append, blocks-low bs)
 
 entries-low : (es : List (ℕ × Extension)) →
     map extension_block (low_entries es) ≡ map low_block (map extension_block es)
-entries-low es = map-map extension_block low_entry es
-    ∙ (λ k. map (λ e. (to_ascii_lowercase e.0, extension_pieces-low e.1 k)) es)
-    ∙ sym (map-map low_block extension_block es)
+entries-low es = simp (map-map, low_entry, extension_pieces-low, low_block)
 
 spelling-low : (w : Written) → spelling (low_written w) ≡ low (spelling w)
 spelling-low w = (λ k. identifier_pieces-low w.id k
@@ -87,37 +80,27 @@ pub lower-join : (ps : List Text) → lower (join ps) ≡ join (low ps)
 unfolding join lower
 lower-join [] = refl
 lower-join (p ∷ []) = refl
-lower-join (p ∷ q ∷ ps) =
-    map-append to_ascii_lowercase p (45 ∷ join (q ∷ ps)) ∙ ap (λ l. lower p ++ 45 ∷ l) (lower-join (q ∷ ps))
+lower-join (p ∷ q ∷ ps) = rw (map-append, lower-join (q ∷ ps))
 
 same_text : (v w : Written) → low_written v ≡ low_written w →
     lower (join (spelling v)) ≡ lower (join (spelling w))
-same_text v w e = lower-join (spelling v) ∙ ap join (sym (spelling-low v) ∙ ap spelling e ∙ spelling-low w)
-    ∙ sym (lower-join (spelling w))
+same_text v w e = grind (arith, lower-join, spelling-low)
 
 -- lower case twice
 
 identifier_twice : (i : SpelledIdentifier) → lower_identifier (lower_identifier i) ≡ lower_identifier i
-identifier_twice i = same_identifier _ _ _ _ _ _ _ _ (lower-lower i.language)
-    (option_map-then lower lower lower lower-lower i.script)
-    (option_map-then lower lower lower lower-lower i.region) (lower_twice i.variants)
+identifier_twice i = search (same_identifier, lower-lower, option_map-then, lower_twice)
 
 fields_twice : (fs : Fields) → low_fields (low_fields fs) ≡ low_fields fs
-fields_twice fs = map-then (λ f. (lower f.0, low f.1)) (λ f. (lower f.0, low f.1)) (λ f. (lower f.0, low f.1))
-    (λ f i. (lower-lower f.0 i, lower_twice f.1 i)) fs
+fields_twice fs = search (map-then, low, lower-lower, lower_twice)
 
 extension_twice : (e : Extension) → low_extension (low_extension e) ≡ low_extension e
-extension_twice (unicode u) =
-    λ k. unicode (record { attributes = lower_twice u.attributes k; keywords = fields_twice u.keywords k })
-extension_twice (transform m) = λ k. transform (record {
-  id = option_map-then lower_identifier lower_identifier lower_identifier identifier_twice m.id k;
-  fields = fields_twice m.fields k;
-})
+extension_twice (unicode u) = rw (lower_twice, fields_twice)
+extension_twice (transform m) = grind (arith, option_map-then, identifier_twice, fields_twice)
 extension_twice (other ps) = ap other (lower_twice ps)
 
 entries_twice : (es : List (ℕ × Extension)) → low_entries (low_entries es) ≡ low_entries es
-entries_twice es =
-    map-then low_entry low_entry low_entry (λ e k. (lowercase-lowercase e.0 k, extension_twice e.1 k)) es
+entries_twice es = search (map-then, low_entry, lowercase-lowercase, extension_twice)
 
 -- what is looked up in a text in order, and in its printed form
 
@@ -134,17 +117,7 @@ unicode_found : (T : LanguageLengths) (o : Option Extension) → IfSome o (Fine 
     (Some (unicode (spelled_unicode (unicode_part o)))) None
     ≡ option_map low_extension o
 unicode_found T None h = refl
-unicode_found T (Some (unicode u)) h =
-    let lowered : SpelledUnicode =
-    record { attributes = low u.attributes; keywords = low_fields u.keywords } in
-    let same : spelled_unicode (normal_unicode u) ≡ lowered = cc h.1 in
-    let n : 0 < length (low u.attributes) + length (low_fields u.keywords) =
-    let a = length-map u.attributes lower in
-    let b : length (low_fields u.keywords) ≡ length u.keywords = length-map u.keywords _ in
-    let p = h.0.1.nonempty in omega arith in
-    ap (λ (v : SpelledUnicode).
-    cond (nat_lt 0 (length v.attributes + length v.keywords)) (Some (unicode v)) None) same
-    ∙ ap (λ b. cond b (Some (unicode lowered)) None) (lt-ltb 0 _ n)
+unicode_found T (Some (unicode u)) h = grind (arith, low, low_fields, length-map, lt-ltb)
 unicode_found T (Some (transform m)) h = absurd (let k = h.0.0 in omega arith)
 unicode_found T (Some (other ps)) h = absurd (true≢false (sym h.0.0))
 
@@ -162,18 +135,7 @@ transform_found : (T : LanguageLengths) (o : Option Extension) → IfSome o (Fin
     ≡ option_map low_extension o
 transform_found T None h = refl
 transform_found T (Some (transform m)) h =
-    let lowered : SpelledTransform =
-    record { id = option_map lower_identifier m.id; fields = low_fields m.fields } in
-    let same : spelled_transform (normal_transform m) ≡ lowered = cc h.1 in
-    let a : length (spelled_fields (normal_fields m.fields)) ≡ length (low_fields m.fields) =
-    ap (λ (n : SpelledTransform). length n.fields) same in
-    let b : length (low_fields m.fields) ≡ length m.fields = length-map m.fields _ in
-    let c : length (spelled_fields (normal_fields m.fields)) ≡ length (normal_fields m.fields) =
-    length-spelled_fields (normal_fields m.fields) in
-    ap (λ b. cond b (Some (transform (spelled_transform (normal_transform m)))) None)
-    (needed (option_map normal_identifier m.id) (length (normal_fields m.fields))
-    (λ e. let p = h.0.1.nonempty (id_absent m.id e) in omega arith))
-    ∙ ap Some h.1
+    grind (arith, low_fields, length-map, length-spelled_fields, needed, id_absent)
 transform_found T (Some (unicode u)) h = absurd (let k = h.0.0 in omega arith)
 transform_found T (Some (other ps)) h = absurd (true≢false (sym h.0.0))
 
@@ -182,24 +144,7 @@ others_found : (T : LanguageLengths) (q : ℕ) → q ≢ code_t → q ≢ code_u
     option_map other (find nat_cmp q (filter_map other_part (by_singleton es)))
     ≡ option_map low_extension (find nat_cmp q (by_singleton es))
 others_found T q t u [] h = refl
-others_found T q t u (e ∷ es) h = at_kind e.1 h.0 (others_found T q t u es h.1)
-  where
-    at_kind : (x : Extension) → Fine T (lower_singleton e) x →
-        option_map other (find nat_cmp q (filter_map other_part (by_singleton es)))
-        ≡ option_map low_extension (find nat_cmp q (by_singleton es)) →
-        option_map other (find nat_cmp q (filter_map other_part ((lower_singleton e, x) ∷ by_singleton es)))
-        ≡ option_map low_extension (find nat_cmp q ((lower_singleton e, x) ∷ by_singleton es))
-    at_kind (unicode v) f rest = rest
-        ∙ ap (λ b. option_map low_extension (cond b (Some (unicode v)) (find nat_cmp q (by_singleton es))))
-        (sym (untied q (lower_singleton e) (λ k. u (sym k ∙ f.0.0))))
-    at_kind (transform m) f rest = rest
-        ∙ ap (λ b. option_map low_extension (cond b (Some (transform m)) (find nat_cmp q (by_singleton es))))
-        (sym (untied q (lower_singleton e) (λ k. t (sym k ∙ f.0.0))))
-    at_kind (other ps) f rest = elim (eq_by_cmp nat_cmp q (lower_singleton e))
-        as (λ b.
-        option_map other (cond b (Some (kept ps)) (find nat_cmp q (filter_map other_part (by_singleton es))))
-        ≡ option_map low_extension (cond b (Some (other ps)) (find nat_cmp q (by_singleton es))))
-        [ true ↦ ap (λ l. Some (other l)) f.1 | false ↦ rest ]
+others_found T q t u (e ∷ es) h = grind (arith, low_extension, untied, others_found T q t u es h.1)
 
 -- a text in order differs from its printed form in case alone
 
@@ -269,7 +214,7 @@ stage : (T : LanguageLengths) (r : TreeRule) (f g : Extension → Extension) →
     (es : List (ℕ × Extension)) → AllByRecursion (λ e. IsExtension T (lower_singleton e) e.1) es →
     AllZip (λ e g. (e.0 ≡ g.0) × ExtensionStep r e.1 g.1) (at_all f es) (at_all g es)
 stage T r f g s [] h = tt
-stage T r f g s (e ∷ es) h = ((refl, s (lower_singleton e) e.1 h.0), stage T r f g s es h.1)
+stage T r f g s (e ∷ es) h = search (stage T r f g s es h.1)
 
 -- n steps of written locales, one after the other
 abbrev pub Steps : ℕ → Written → Written → Type 0

@@ -38,11 +38,11 @@ refused_from t f (Err g) e h = (computed_fault languages languages_table t f).0 
 
 pub normalises : (t u : Text) → answer t ≡ Ok u → Normalises t u
 unfolding answer
-normalises t u h = normalises_from t u (locale_result languages t) refl h
+normalises t u h = search (normalises_from)
 
 pub refused : (t : Text) (f : Fault) → answer t ≡ Err f → IsRefused t f
 unfolding answer
-refused t f h = refused_from t f (locale_result languages t) refl h
+refused t f h = search (refused_from)
 
 -- identifiers
 
@@ -52,8 +52,7 @@ identifier_answer t = identifier_text_of (identifier_result languages (pieces t)
 
 identifier_from : (t u : Text) (r : Result Identifier Fault) → identifier_result languages (pieces t) ≡ r →
     identifier_text_of r ≡ Ok u → NormalisesIdentifier t u
-identifier_from t u (Ok i) e h =
-    record { value = i; means = (computed_identifier languages t i).0 e; printed = cc }
+identifier_from t u (Ok i) e h = grind (arith, computed_identifier)
 identifier_from t u (Err f) e h = cc
 
 no_identifier_from : (t : Text) (f : Fault) (r : Result Identifier Fault) →
@@ -63,11 +62,11 @@ no_identifier_from t f (Err g) e h = (computed_identifier_fault languages t f).0
 
 pub normalises_identifier : (t u : Text) → identifier_answer t ≡ Ok u → NormalisesIdentifier t u
 unfolding identifier_answer
-normalises_identifier t u h = identifier_from t u (identifier_result languages (pieces t)) refl h
+normalises_identifier t u h = search (identifier_from)
 
 pub refused_identifier : (t : Text) (f : Fault) → identifier_answer t ≡ Err f → IsRefusedIdentifier t f
 unfolding identifier_answer
-refused_identifier t f h = no_identifier_from t f (identifier_result languages (pieces t)) refl h
+refused_identifier t f h = search (no_identifier_from)
 
 -- the two settled readings of the steps
 

@@ -4,7 +4,7 @@ use Rattle.std.proofs.Common.{ap, ◌∙◌, subst, arith, ◌↔◌, true≢fal
 use Rattle.iloc_spec_grammar.specs.Syntax.{LanguageLengths, Text, pieces, join, Language, is_word, lower}
 use Rattle.iloc_spec_grammar.specs.Syntax.{Stage, IdentifierOf}
 use Rattle.iloc_spec_grammar.specs.Syntax.{SpelledIdentifier, Identifier, identifier_pieces, HasWords}
-use Rattle.iloc_spec_grammar.specs.Syntax.{first_piece, head, front}
+use Rattle.iloc_spec_grammar.specs.Syntax.{head, front}
 use Rattle.iloc_spec_grammar.specs.Meaning.{normal_identifier, IdentifierMeans, Fault, InvalidLanguage}
 use Rattle.iloc_spec_grammar.specs.Meaning.{InvalidSubtag, HasIdentifierFault, not_a_language}
 use Rattle.iloc_spec_grammar.specs.Meaning.{not_an_identifier}
@@ -111,8 +111,7 @@ length-identifier_text i = length-join i.language _
 
 pub identifier_text_step_length : (T : LanguageLengths) (t u : Text) → TreeIdentifierTextStep T t u →
     length u ≡ length t
-identifier_text_step_length T t u (TreeIdentifierTextStep.letter_case e) =
-    sym (length-lower u) ∙ ap length (sym e) ∙ length-lower t
+identifier_text_step_length T t u (TreeIdentifierTextStep.letter_case e) = grind (arith, length-lower)
 identifier_text_step_length T t u (TreeIdentifierTextStep.variant_order {i = v} {j = w} h e s) =
     let a = length-identifier_text v in
     let b = length-identifier_text w in let c = identifier_size piece_length s in
@@ -123,7 +122,7 @@ identifier_text_step_length T t u (TreeIdentifierTextStep.variant_order {i = v} 
 
 pub lower-identifier_text : {s : Stage} (i : IdentifierOf s) →
     lower (join (identifier_pieces i)) ≡ join (identifier_pieces (lower_identifier i))
-lower-identifier_text i = lower-join (identifier_pieces i) ∙ ap join (sym (identifier_pieces-low i))
+lower-identifier_text i = rw (lower-join, identifier_pieces-low)
 
 -- a meaning, or one fault
 
@@ -150,8 +149,7 @@ identifier_answers T p ps =
 
 pub identifier_apart : {T : ℕ → Bool} (ps : List Text) (i : Identifier) (f : Fault) →
     IdentifierMeans T ps i → HasIdentifierFault T ps f → ⊥
-identifier_apart {T = T} ps i f h (not_a_language e) = true≢false (sym h.grammatical.words.language
-    ∙ ap (λ (l : List Text). is_word (Language T) (first_piece l)) (sym h.spelled) ∙ e)
+identifier_apart {T = T} ps i f h (not_a_language e) = cc
 identifier_apart ps i f h (not_an_identifier l n) = n (h.written, h.grammatical, h.spelled)
 
 pub one_identifier_fault : {T : ℕ → Bool} (ps : List Text) {f g : Fault} → HasIdentifierFault T ps f →

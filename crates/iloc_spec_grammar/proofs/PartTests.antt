@@ -1,10 +1,10 @@
 -- The tests of what a step does to the parts of a written locale, and to the whole.
-use Rattle.std.proofs.Common.{◌≡◌, inl, inr, ℕ, ◌<◌, Bool, true, false, not, ◌&&◌, List, [], ◌∷◌, length, map}
+use Rattle.std.proofs.Common.{◌≡◌, inl, inr, ℕ, ◌<◌, Bool, true, false, not, ◌&&◌, List, [], ◌∷◌, length}
 use Rattle.std.proofs.Common.{Option, Some, None, nat_lt, refl, sym, subst, true≢false}
 use Rattle.std.specs.List.{AllZip, list_any}
 use Rattle.std.proofs.lemmas.Bool.{and_parts, and_from, or_cases, or_left, or_right}
 use Rattle.std.proofs.Math.Bool.{or-true}
-use Rattle.iloc_spec_grammar.specs.Syntax.{Field, Text, Subtag, is_word, lower, is_same, is_true, word_cmp}
+use Rattle.iloc_spec_grammar.specs.Syntax.{Field, Text, Subtag, is_word, is_same}
 use Rattle.iloc_spec_grammar.specs.Syntax.{SpelledIdentifier, SpelledUnicode, SpelledTransform, Fields}
 use Rattle.iloc_spec_grammar.specs.Tree.{Extension, unicode, transform, other, Written}
 use Rattle.iloc_spec_grammar.specs.Values.{Reordered}
@@ -15,7 +15,7 @@ use Rattle.iloc_spec_grammar.specs.TreeSteps.{DroppedPieces, TreeIdentifierStep,
 use Rattle.iloc_spec_grammar.proofs.RuleTests.{Tests, tests_and, tests_like, tests_different, tests_positive}
 use Rattle.iloc_spec_grammar.proofs.RuleTests.{tests_nat}
 use Rattle.iloc_spec_grammar.proofs.Sorting.{itself}
-use Rattle.iloc_spec_grammar.specs.StepTests.{all_zip, option_zip, block_zip, same_words, same_field}
+use Rattle.iloc_spec_grammar.specs.StepTests.{all_zip, option_zip, block_zip, same_words}
 use Rattle.iloc_spec_grammar.specs.StepTests.{same_fields, same_identifier, same_extension, has_less_true}
 use Rattle.iloc_spec_grammar.specs.StepTests.{are_fields_reordered, are_fields_without_repeats}
 use Rattle.iloc_spec_grammar.specs.StepTests.{is_identifier_step, is_unicode_step, is_fields_step}
@@ -31,25 +31,22 @@ use Rattle.iloc_spec_grammar.proofs.ListTests.{tests_without_repeats}
 -- fields
 
 pub tests_less_true : (f g : Field) → Tests (has_less_true f g) (TreeLessTrue f g)
-tests_less_true f g =
-    tests_and (word_equality f.0 g.0) (tests_without is_same word_equality (λ p. is_true (lower p)) f.1 g.1)
+tests_less_true f g = search (tests_and, word_equality, tests_without)
 
 abbrev KeepsValue : Field → Field → Type 0
 KeepsValue f g = TreeLessTrue f g × (0 < length g.1)
 
 tests_keeps_value : (fs gs : Fields) →
     Tests (all_zip (λ f g. has_less_true f g && nat_lt 0 (length g.1)) fs gs) (AllZip KeepsValue fs gs)
-tests_keeps_value fs gs = tests_zip (λ f g. has_less_true f g && nat_lt 0 (length g.1)) KeepsValue
-    (λ f g. tests_and (tests_less_true f g) (tests_positive (length g.1))) fs gs
+tests_keeps_value fs gs = search (tests_zip, tests_and, tests_less_true, tests_positive)
 
 tests_fields_reordered : (fs gs : Fields) →
     Tests (are_fields_reordered fs gs) (keys_differ fs × Reordered fs gs)
-tests_fields_reordered fs gs = tests_and (tests_different word_cmp (map (λ f. lower f.0) fs))
-    (tests_reordered same_field field_equality fs gs)
+tests_fields_reordered fs gs = search (tests_and, tests_different, tests_reordered, field_equality)
 
 tests_fields_without_repeats : (fs gs : Fields) →
     Tests (are_fields_without_repeats fs gs) (WithoutRepeats (λ f. f.0) [] fs gs)
-tests_fields_without_repeats fs gs = tests_without_repeats same_field field_equality (λ f. f.0) [] fs gs
+tests_fields_without_repeats fs gs = search (tests_without_repeats, field_equality)
 
 -- identifiers
 
@@ -191,7 +188,7 @@ extension_passes (ExtensionStep.dropped_pieces {ps = ps} {qs = qs} w) =
 
 pub tests_extension_step : (r : TreeRule) (e f : Extension) →
     Tests (is_extension_step r e f) (ExtensionStep r e f)
-tests_extension_step r e f = record { holds = extension_holds r e f; passes = extension_passes }
+tests_extension_step r e f = search (extension_holds, extension_passes)
 
 -- written locales
 
@@ -200,8 +197,7 @@ BlockStep r e f = (e.0 ≡ f.0) × ExtensionStep r e.1 f.1
 
 tests_block_steps : (r : TreeRule) (es fs : List (ℕ × Extension)) →
     Tests (all_zip (block_zip (is_extension_step r)) es fs) (AllZip (BlockStep r) es fs)
-tests_block_steps r es fs = tests_zip (block_zip (is_extension_step r)) (BlockStep r)
-    (λ e f. tests_and (tests_nat e.0 f.0) (tests_extension_step r e.1 f.1)) es fs
+tests_block_steps r es fs = search (tests_zip, tests_and, tests_nat, tests_extension_step)
 
 -- some rule passes the test, and any that does is among them
 some_rule : {test : TreeRule → Bool} (rs : List TreeRule) → list_any test rs ≡ true →
@@ -244,4 +240,4 @@ step_passes {v = v} {w = w} (Step.inside r s z) =
     ((tests_block_steps r v.extensions w.extensions).passes z))))
 
 pub tests_step : (v w : Written) → Tests (is_step v w) (Step v w)
-tests_step v w = record { holds = step_holds v w; passes = step_passes }
+tests_step v w = search (step_holds, step_passes)

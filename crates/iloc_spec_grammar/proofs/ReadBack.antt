@@ -18,7 +18,7 @@ use Rattle.std.proofs.lemmas.List.{map-append}
 use Rattle.iloc_spec_grammar.specs.Syntax.{LanguageLengths, Block, code_x, code_u, code_t, Text, pieces, join}
 use Rattle.iloc_spec_grammar.specs.Syntax.{IsHyphenFree, Kind, Language, Script, Region}
 use Rattle.iloc_spec_grammar.specs.Syntax.{Variant, Subtag, UnicodeKey, TransformKey, Attribute}
-use Rattle.iloc_spec_grammar.specs.Syntax.{PrivateSubtag, is_word, IsWord, lower, SpelledIdentifier}
+use Rattle.iloc_spec_grammar.specs.Syntax.{PrivateSubtag, is_word, IsWord, SpelledIdentifier}
 use Rattle.iloc_spec_grammar.specs.Syntax.{Identifier, Unicode, Transform, Fields, identifier_pieces}
 use Rattle.iloc_spec_grammar.specs.Syntax.{optional_pieces, fields_pieces, HasWords, IsIdentifier, IsField}
 use Rattle.iloc_spec_grammar.specs.Syntax.{kept, is_other_singleton, lower_singleton, AllDifferent, IsPrivate}
@@ -69,9 +69,7 @@ module _ (P : Text → Type 0) where
       ((p : Text) → IsWord Region p → P p) → ((p : Text) → IsWord Variant p → P p) →
       (i : SpelledIdentifier) → HasWords T i →
       AllByRecursion P (option_to_list i.script ++ (option_to_list i.region ++ i.variants))
-  after_language_each s r v i h = all_append P (option_to_list i.script) _
-      (option_each Script s i.script h.script) (all_append P (option_to_list i.region) _
-      (option_each Region r i.region h.region) (all_weaker (IsWord Variant) P v i.variants h.variants))
+  after_language_each s r v i h = search (all_append, option_each, all_weaker)
 
   pub optional_each : (T : LanguageLengths) →
       ((i : SpelledIdentifier) → HasWords T i → AllByRecursion P (identifier_pieces i)) →
@@ -128,17 +126,14 @@ module _ (P : Text → Type 0) (word : (k : Kind) (p : Text) → IsWord k p → 
       AllByRecursion (λ e. IsExtension T (lower_singleton e) e.1 × OfWords e.1) es →
       AllByRecursion P (flat_map block_pieces (map extension_block es))
   extensions_each T [] h = tt
-  extensions_each T (e ∷ es) h = (
-    singleton e.0 (extension_singleton T _ e.1 h.0.0),
-    all_append P (extension_pieces e.1) _ (extension_each T _ e.1 h.0.0 h.0.1) (extensions_each T es h.1),
-  )
+  extensions_each T (e ∷ es) h =
+      search (extension_singleton, all_append, extension_each, extensions_each T es h.1)
 
   private_each : (x : Option Block) →
       IfSome x (λ e. (lower_singleton e ≡ code_x) × IsPrivate e.1) →
       AllByRecursion P (flat_map block_pieces (option_to_list x))
   private_each None h = tt
-  private_each (Some e) h =
-      (singleton e.0 (rw h.0), all_append P e.1 [] (words_each PrivateSubtag e.1 h.1.words) tt)
+  private_each (Some e) h = grind (arith, all_append, words_each)
 
   pub written_each : {T : ℕ → Bool} (w : Written) → IsWritten T w →
       AllByRecursion (λ e. OfWords e.1) w.extensions → AllByRecursion P (spelling w)
@@ -156,7 +151,7 @@ either_no_hyphen : (c : ℕ) → is_ascii_alphanumeric c ≡ true → (c == 45) 
 either_no_hyphen c h = grind (arith, nat_tests)
 
 pub word_hyphen_free : (k : Kind) (p : Text) → IsWord k p → IsHyphenFree p
-word_hyphen_free k p h = none_passes _ (λ b. b == 45) either_no_hyphen p (word_letters_or_digits k p h)
+word_hyphen_free k p h = search (none_passes, either_no_hyphen, word_letters_or_digits)
 
 hyphen_byte : (c : ℕ) → is_ascii_alphanumeric (to_ascii_lowercase c) ≡ true → (c == 45) ≡ false
 hyphen_byte c h = grind (arith, nat_tests)
@@ -218,19 +213,16 @@ Others = List Block
 all_before : (P : Block → Type 0) (os : Others) → AllByRecursion P os →
     AllByRecursion P (before_t os)
 all_before P [] h = tt
-all_before P (o ∷ os) h =
-    cond_both (nat_le o.0 code_t) _ _ (AllByRecursion P) (λ _. (h.0, all_before P os h.1)) (λ _. tt)
+all_before P (o ∷ os) h = grind (arith, cond_both, all_before P os h.1)
 
 all_after : (P : Block → Type 0) (os : Others) → AllByRecursion P os →
     AllByRecursion P (after_t os)
 all_after P [] h = tt
-all_after P (o ∷ os) h =
-    cond_both (nat_le o.0 code_t) _ _ (AllByRecursion P) (λ _. all_after P os h.1) (λ _. h)
+all_after P (o ∷ os) h = grind (arith, cond_both, all_after P os h.1)
 
 before_le : (os : Others) → AllByRecursion (λ o. o.0 ≤ code_t) (before_t os)
 before_le [] = tt
-before_le (o ∷ os) = cond_both (nat_le o.0 code_t) _ _ (AllByRecursion (λ p. p.0 ≤ code_t))
-    (λ e. (leb-true _ _ e, before_le os)) (λ _. tt)
+before_le (o ∷ os) = grind (arith, cond_both, leb-true, before_le os)
 
 after_gt : (os : Others) → is_sorted nat_cmp os ≡ true → AllByRecursion (λ o. code_t < o.0) (after_t os)
 after_gt [] h = tt
@@ -255,9 +247,7 @@ sorted_after (o ∷ os) h = cond_both (nat_le o.0 code_t) _ _ (λ l. is_sorted n
 
 before-after : (os : Others) → before_t os ++ after_t os ≡ os
 before-after [] = refl
-before-after (o ∷ os) =
-    elim (nat_le o.0 code_t) as (λ b. cond b (o ∷ before_t os) [] ++ cond b (after_t os) (o ∷ os) ≡ o ∷ os)
-    [ true ↦ ap (λ l. o ∷ l) (before-after os) | false ↦ refl ]
+before-after (o ∷ os) = grind (arith, before-after os)
 
 -- what is printed of them
 
@@ -269,13 +259,10 @@ abbrev plain_form : Others → List (ℕ × Extension)
 plain_form os = map (λ o. (o.0, other o.1)) os
 
 others_form_is : (os : Others) → AllByRecursion IsOtherEntry os → others_form os ≡ plain_form os
-others_form_is os h = ap plain_form (filter_all _ os
-    (all_weaker IsOtherEntry (λ o. nat_lt 0 (length o.1) ≡ true) (λ o x. lt-ltb 0 _ x.1) os h))
+others_form_is os h = grind (arith, filter_all, all_weaker, lt-ltb)
 
 kept_words : (ws : List Text) → AllByRecursion (IsNormal Subtag) ws → kept ws ≡ ws
-kept_words ws h = ap (map lower)
-    (filter_all (is_word Subtag) ws (all_weaker (IsNormal Subtag) (IsWord Subtag) (λ w n. n.0) ws h))
-    ∙ map_fixed lower ws (all_weaker (IsNormal Subtag) (λ w. lower w ≡ w) (λ w n. n.1) ws h)
+kept_words ws h = grind (arith, filter_all, all_weaker, map_fixed)
 
 subtag_length : (w : Text) → IsWord Subtag w → is_in_range 2 8 (length w) ≡ true
 unfolding is_word
@@ -283,18 +270,7 @@ subtag_length w h = (and_parts _ _ h).0
 
 other_rule : (T : LanguageLengths) (o : Block) → IsOtherEntry o →
     IsExtension T (to_ascii_lowercase o.0) (other o.1) × AllByRecursion (IsWord Subtag) o.1
-other_rule T o h =
-    let words = all_weaker (IsNormal Subtag) (IsWord Subtag) (λ w n. n.0) o.1 h.2 in (
-      (
-        ap is_other_singleton h.0.1 ∙ h.0.0,
-        record {
-          lengths =
-              all_weaker (IsWord Subtag) (λ w. is_in_range 2 8 (length w) ≡ true) subtag_length o.1 words;
-          nonempty = subst (λ (l : List Text). 0 < length l) (sym (kept_words o.1 h.2)) h.1;
-        },
-      ),
-      words,
-    )
+other_rule T o h = grind (arith, all_weaker, subtag_length, kept_words)
 
 all_plain : (P : ℕ × Extension → Type 0) (Q : Block → Type 0) →
     ((o : Block) → Q o → P (o.0, other o.1)) → (os : Others) → AllByRecursion Q os →
@@ -312,15 +288,14 @@ sorted_plain (o ∷ os) h = let parts = and_parts _ _ h in
 
 parts_plain : (os : Others) → AllByRecursion IsOtherEntry os → filter_map other_part (plain_form os) ≡ os
 parts_plain [] h = refl
-parts_plain (o ∷ os) h = λ i. (o.0, kept_words o.1 h.0.2 i) ∷ parts_plain os h.1 i
+parts_plain (o ∷ os) h = search (kept_words, parts_plain os h.1)
 
 -- looking up a singleton
 
 find_skip : {X : Type 0} (q : ℕ) (xs ys : List (ℕ × X)) → AllByRecursion (λ e. e.0 ≢ q) xs →
     find nat_cmp q (xs ++ ys) ≡ find nat_cmp q ys
 find_skip q [] ys h = refl
-find_skip q (x ∷ xs) ys h =
-    ap (λ b. cond b (Some x.1) (find nat_cmp q (xs ++ ys))) (untied q x.0 h.0) ∙ find_skip q xs ys h.1
+find_skip q (x ∷ xs) ys h = search (untied, find_skip q xs ys h.1)
 
 find_none : {X : Type 0} (q : ℕ) (xs : List (ℕ × X)) → AllByRecursion (λ e. e.0 ≢ q) xs →
     find nat_cmp q xs ≡ None
@@ -363,31 +338,17 @@ transform_back m h false e = empty m.id m.fields e
 
 transform_nonempty : (m : Transform) → (is_some m.id || nat_lt 0 (length m.fields)) ≡ true →
     option_map lower_identifier m.id ≡ None → 0 < length (spelled_fields m.fields)
-transform_nonempty m e n = from m.id m.fields e n (length-spelled_fields m.fields)
-  where
-    from : (i : Option Identifier) (fs : Fields) → (is_some i || nat_lt 0 (length fs)) ≡ true →
-        option_map lower_identifier i ≡ None → length (spelled_fields fs) ≡ length fs →
-        0 < length (spelled_fields fs)
-    from None [] e n l = absurd (true≢false (sym e))
-    from None (f ∷ fs) e n l = omega arith
-    from (Some i) fs e n l = cc
+transform_nonempty m e n = grind (arith, length-spelled_fields, true≢false)
 
 private_back : (ws : List Text) → AllByRecursion (IsNormal PrivateSubtag) ws →
     private_part (private_form ws) ≡ ws
 private_back [] h = refl
-private_back (w ∷ ws) h =
-    map_fixed lower (w ∷ ws) (all_weaker (IsNormal PrivateSubtag) (λ w. lower w ≡ w) (λ w n. n.1) (w ∷ ws) h)
+private_back (w ∷ ws) h = grind (arith, map_fixed, all_weaker)
 
 private_rule : (ws : List Text) → AllByRecursion (IsNormal PrivateSubtag) ws →
     IfSome (private_form ws) (λ e. (lower_singleton e ≡ code_x) × IsPrivate e.1)
 private_rule [] h = tt
-private_rule (w ∷ ws) h = (
-  refl,
-  record {
-    words = all_weaker (IsNormal PrivateSubtag) (IsWord PrivateSubtag) (λ w n. n.0) (w ∷ ws) h;
-    nonempty = omega arith;
-  },
-)
+private_rule (w ∷ ws) h = grind (arith, all_weaker)
 
 module _ {T : ℕ → Bool} (M : Locale) (h : IsValue T M) (g : IsTreeWellFormed M) where
   entries : AllByRecursion IsOtherEntry M.extensions.others
@@ -436,8 +397,7 @@ module _ {T : ℕ → Bool} (M : Locale) (h : IsValue T M) (g : IsTreeWellFormed
       (has_t ≡ true → P (code_t, transform (spelled_transform M.extensions.transform))) →
       (has_u ≡ true → P (code_u, unicode (spelled_unicode M.extensions.unicode))) →
       AllByRecursion P (plain_form after) → AllByRecursion P extensions
-  all_extensions P a b c d = all_append P (plain_form before) _ a (all_append P (cond has_t _ []) _
-      (all_if P has_t _ b) (all_append P (cond has_u _ []) _ (all_if P has_u _ c) d))
+  all_extensions P a b c d = search (all_append, all_if)
 
   rules : AllByRecursion (λ e. IsExtension T (lower_singleton e) e.1 × OfWords e.1) extensions
   rules = all_extensions (λ e. IsExtension T (lower_singleton e) e.1 × OfWords e.1)
@@ -547,7 +507,7 @@ module _ {T : ℕ → Bool} (M : Locale) (h : IsValue T M) (g : IsTreeWellFormed
   pub printed_each : (P : Text → Type 0) → ((k : Kind) (p : Text) → IsWord k p → P p) →
       ((c : ℕ) → is_ascii_alphanumeric (to_ascii_lowercase c) ≡ true → P (c ∷ [])) →
       AllByRecursion P (spelling (printed M))
-  printed_each P word singleton = written_each P word singleton (printed M) grammatical of_words
+  printed_each P word singleton = search (written_each, grammatical, of_words)
 
   entries_are : by_singleton (printed M).extensions ≡ extensions
   entries_are = ap by_singleton extensions_are ∙ lower_singletons

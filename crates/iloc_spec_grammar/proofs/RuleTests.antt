@@ -1,12 +1,11 @@
 -- Tests of the rules: each is true exactly where the rule holds.
-use Rattle.std.proofs.Common.{◌≡◌, ◌⊎◌, ℕ, ◌+◌, ◌<◌, Bool, true, false, not, ◌&&◌, ◌||◌, ◌==◌, List, [], ◌∷◌}
-use Rattle.std.proofs.Common.{length, map, refl, sym, ap, ◌∙◌, subst, Option, Some, None, IfSome, true≢false}
+use Rattle.std.proofs.Common.{arith, ◌≡◌, ◌⊎◌, ℕ, ◌+◌, ◌<◌, Bool, true, false, not, ◌&&◌, ◌||◌, ◌==◌, List, [], ◌∷◌}
+use Rattle.std.proofs.Common.{length, map, refl, sym, ◌∙◌, Option, Some, None, IfSome, true≢false}
 use Rattle.std.proofs.Common.{is_some, nat_lt}
 use Rattle.std.specs.List.{AllByRecursion, list_all}
 use Rattle.std.specs.Int.{is_in_range}
 use Rattle.std.specs.declared.cmp.Ordering.{Ordering}
 use Rattle.std.proofs.lemmas.Bool.{false_from_ne_true, not-true, not_from_false, both_ways}
-use Rattle.std.proofs.lemmas.Bool.Decides.{Decides-ltb, Decides-eqb, Decides-and, Decides-or}
 use Rattle.iloc_spec_grammar.specs.Syntax.{LanguageLengths, Field, Block, code_x, code_u, code_t, Text, Kind}
 use Rattle.iloc_spec_grammar.specs.Syntax.{Language, Script, Region, Variant, UnicodeKey, TransformKey}
 use Rattle.iloc_spec_grammar.specs.Syntax.{Attribute, PrivateSubtag, is_word, IsWord, lower, word_cmp}
@@ -35,18 +34,16 @@ pub tests_fails : {b : Bool} {P : Type 0} → Tests b P → ¬ P → b ≡ false
 tests_fails t n = false_from_ne_true _ (λ e. n (t.holds e))
 
 pub tests_denied : {b : Bool} {P : Type 0} → Tests b P → Tests (not b) (¬ P)
-tests_denied {b = b} t =
-    record { holds = λ e. tests_not t (not-true b e); passes = λ n. not_from_false b (tests_fails t n) }
+tests_denied {b = b} t = search (tests_not, not-true, not_from_false, tests_fails)
 
 pub tests_word : (k : Kind) (p : Text) → Tests (is_word k p) (IsWord k p)
 tests_word k p = record { holds = λ e. e; passes = λ e. e }
 
 pub tests_and : {a b : Bool} {P Q : Type 0} → Tests a P → Tests b Q → Tests (a && b) (P × Q)
-tests_and {a = a} {b = b} s t =
-    let d = Decides-and a b (s.holds, s.passes) (t.holds, t.passes) in record { holds = d.0; passes = d.1 }
+tests_and {a = a} {b = b} s t = grind (arith)
 
 pub tests_like : {b : Bool} {P Q : Type 0} → (P → Q) → (Q → P) → Tests b P → Tests b Q
-tests_like f g t = record { holds = λ e. f (t.holds e); passes = λ q. t.passes (g q) }
+tests_like f g t = grind (arith)
 
 pub tests_all : {X : Type 0} (test : X → Bool) (P : X → Type 0) → ((x : X) → Tests (test x) (P x)) →
     (xs : List X) → Tests (list_all test xs) (AllByRecursion P xs)
@@ -61,16 +58,22 @@ tests_if_some test P t (Some x) = t x
 pub tests_different : {X : Type 0} (cmp : X → X → Ordering) (xs : List X) →
     Tests (all_different cmp xs) (AllDifferent cmp xs)
 tests_different cmp [] = record { holds = λ e. tt; passes = λ h. refl }
-tests_different cmp (x ∷ xs) = tests_and (record {
-  holds = λ e. both_ways _ (not-true _ e);
-  passes = λ n. not_from_false _ (false_from_ne_true _ n);
-}) (tests_different cmp xs)
+tests_different cmp (x ∷ xs) =
+    grind (
+      arith,
+      tests_and,
+      both_ways,
+      not-true,
+      not_from_false,
+      false_from_ne_true,
+      tests_different cmp xs,
+    )
 
 pub tests_positive : (n : ℕ) → Tests (nat_lt 0 n) (0 < n)
-tests_positive n = record { holds = (Decides-ltb 0 n).0; passes = (Decides-ltb 0 n).1 }
+tests_positive n = grind (arith)
 
 pub tests_nat : (m n : ℕ) → Tests (m == n) (m ≡ n)
-tests_nat m n = record { holds = (Decides-eqb m n).0; passes = (Decides-eqb m n).1 }
+tests_nat m n = grind (arith)
 
 -- the rules
 
@@ -94,7 +97,7 @@ tests_identifier T i = tests_like (λ (x : HasWords T i × AllDifferent word_cmp
 
 pub tests_attributes : (ps : List Text) →
     Tests (list_all (is_word Attribute) ps) (AllByRecursion (IsWord Attribute) ps)
-tests_attributes ps = tests_all (is_word Attribute) (IsWord Attribute) (tests_word Attribute) ps
+tests_attributes ps = search (tests_all, tests_word)
 
 pub tests_keyword : (f : Field) → Tests (is_keyword f) (IsKeyword f)
 tests_keyword f = tests_and (tests_word UnicodeKey f.0) (tests_attributes f.1)
@@ -116,8 +119,8 @@ tests_field f =
     (tests_and (tests_and (tests_word TransformKey f.0) (tests_attributes f.1)) (tests_positive (length f.1)))
 
 pub tests_needed : (o : Option SpelledIdentifier) (n : ℕ) → Tests (is_some o || nat_lt 0 n) (o ≡ None → 0 < n)
-tests_needed None n = tests_like (λ (h : 0 < n) e. h) (λ (f : None ≡ None → 0 < n). f refl) (tests_positive n)
-tests_needed (Some i) n = record { holds = λ e k. cc; passes = λ f. refl }
+tests_needed None n = grind (arith, tests_like, tests_positive)
+tests_needed (Some i) n = grind (arith)
 
 pub tests_transform : (T : LanguageLengths) (m : SpelledTransform) →
     Tests (is_transform T m) (IsTransformBlock T m)
@@ -150,19 +153,17 @@ pub tests_extension : (T : LanguageLengths) (c : ℕ) (e : Extension) →
     Tests (is_extension T c e) (IsExtension T c e)
 tests_extension T c (unicode u) = tests_and (tests_nat c code_u) (tests_unicode u)
 tests_extension T c (transform m) = tests_and (tests_nat c code_t) (tests_transform T m)
-tests_extension T c (other ps) = tests_and (record { holds = λ e. e; passes = λ e. e }) (tests_other ps)
+tests_extension T c (other ps) = grind (arith, tests_and, tests_other)
 
 -- pieces that were read follow the rule, or none that spell them do
 
 pub identifier_read : {T : ℕ → Bool} {ps : List Text} → SpellsIdentifier T ps →
     IsIdentifier T (identifier_of ps)
-identifier_read {T = T} s =
-    subst (IsIdentifier T) (sym (ap identifier_of s.2 ∙ identifier_of-pieces s.0 s.1.words)) s.1
+identifier_read {T = T} s = grind (arith, identifier_of-pieces)
 
 pub extension_read : (T : LanguageLengths) (c : ℕ) (ps : List Text) →
     (e : Extension) × IsExtension T c e × (ps ≡ extension_pieces e) → IsExtension T c (extension_of c ps)
-extension_read T c ps h =
-    subst (IsExtension T c) (sym (ap (extension_of c) h.2 ∙ extension_of-pieces T c h.0 h.1)) h.1
+extension_read T c ps h = grind (arith, extension_of-pieces)
 
 pub tests_spelled : (T : LanguageLengths) (p : Text) (ps : List Text) →
     Tests (is_identifier T (identifier_of (p ∷ ps))) (SpellsIdentifier T (p ∷ ps))
@@ -173,8 +174,7 @@ tests_spelled T p ps = tests_like
     (tests_identifier T (identifier_of (p ∷ ps)))
 
 pub tests_either : {a b : Bool} {P Q : Type 0} → Tests a P → Tests b Q → Tests (a || b) (P ⊎ Q)
-tests_either {a = a} {b = b} s t =
-    let d = Decides-or a b (s.holds, s.passes) (t.holds, t.passes) in record { holds = d.0; passes = d.1 }
+tests_either {a = a} {b = b} s t = grind (arith)
 
 pub tests_block : (T : LanguageLengths) (b : Block) → Tests (is_block T b) (IsBlock T b)
 tests_block T b =

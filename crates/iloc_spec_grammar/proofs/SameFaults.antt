@@ -1,5 +1,5 @@
 -- The fault of a text is the same by its blocks as by its tree.
-use Rattle.std.proofs.Common.{◌≡◌, ◌⊎◌, inl, inr, ℕ, Bool, true, false, ◌||◌, List, [], ◌∷◌, ◌++◌, refl, sym}
+use Rattle.std.proofs.Common.{arith, ◌≡◌, ◌⊎◌, inl, inr, ℕ, Bool, true, false, ◌||◌, List, [], ◌∷◌, ◌++◌, refl, sym}
 use Rattle.std.proofs.Common.{ap, ◌∙◌, subst, true≢false, Result, Ok, Err, MatchResult, ◌↔◌, map}
 use Rattle.std.specs.List.{list_any}
 use Rattle.std.specs.Char.{is_ascii_alphanumeric}
@@ -36,13 +36,12 @@ any_seen : (c : ℕ) (seen : List ℕ) (bs : List Block) →
     ≡ (list_any (eq_by_cmp nat_cmp c) (map (λ d. lower_singleton d) bs)
     || list_any (eq_by_cmp nat_cmp c) seen)
 any_seen c seen [] = refl
-any_seen c seen (b ∷ bs) =
-    any_seen c (lower_singleton b ∷ seen) bs ∙ shuffle _ (eq_by_cmp nat_cmp c (lower_singleton b)) _
+any_seen c seen (b ∷ bs) = simp (shuffle, any_seen c (lower_singleton b ∷ seen) bs)
 
 seen_is : (b : Block) (good : List Block) →
     list_any (eq_by_cmp nat_cmp (lower_singleton b)) (seen_after [] good)
     ≡ list_any (eq_by_cmp nat_cmp (lower_singleton b)) (map (λ c. lower_singleton c) good)
-seen_is b good = any_seen (lower_singleton b) [] good ∙ or-false _
+seen_is b good = rw (any_seen, or-false)
 
 is_new : (b : Block) (good : List Block) → ¬ (IsSecond good b) →
     IsNew (seen_after [] good) b
@@ -124,20 +123,11 @@ bad_split T (later {b = b} a e g x) = let r = bad_split T x in record {
 
 pub first_bad : {T : ℕ → Bool} {bs : List Block} {f : Fault} → HasBlockFault T bs f →
     FirstBadBlock T [] bs f
-first_bad {T = T} {f = f} (good, b, rest, e, a, x) = let g = good_blocks a.1 in
-    subst (λ l. FirstBadBlock T [] l f) (sym e)
-    (after_good T [] good b rest g (tree_block_fault T good b g x))
+first_bad {T = T} {f = f} (good, b, rest, e, a, x) = grind (arith, good_blocks, after_good, tree_block_fault)
 
 pub fault_of_first : {T : ℕ → Bool} {bs : List Block} {f : Fault} → FirstBadBlock T [] bs f →
     HasBlockFault T bs f
-fault_of_first {T = T} x = let r = bad_split T x in (
-  r.before,
-  r.block,
-  r.rest,
-  r.parts,
-  blocks_spelled r.good,
-  block_fault_by_tree T r.before r.block r.good r.bad,
-)
+fault_of_first {T = T} x = grind (arith, bad_split, blocks_spelled, block_fault_by_tree)
 
 -- whole texts
 
@@ -147,7 +137,7 @@ first_of_head (p ∷ ps) = refl
 
 language_of_head : (T : LanguageLengths) (t : Text) →
     is_word (Language T) (first_piece (head (pieces t))) ≡ is_word (Language T) (first_piece (pieces t))
-language_of_head T t = ap (is_word (Language T)) (first_of_head (pieces t))
+language_of_head T t = rw (first_of_head)
 
 pub tree_fault : {T : ℕ → Bool} (t : Text) {f : Fault} → HasFault T t f → HasTreeFault T t f
 tree_fault {T = T} t (in_head (not_a_language e)) = no_language (sym (language_of_head T t) ∙ e)

@@ -1,5 +1,5 @@
 -- The meaning of a text is the same by its blocks as by its tree.
-use Rattle.std.proofs.Common.{◌≡◌, inl, inr, ℕ, ◌+◌, ◌<◌, Bool, true, false, cond, ◌==◌, List, [], ◌∷◌, ◌++◌}
+use Rattle.std.proofs.Common.{◌≡◌, inl, inr, ℕ, ◌+◌, ◌<◌, Bool, true, false, ◌==◌, List, [], ◌∷◌, ◌++◌}
 use Rattle.std.proofs.Common.{length, map, refl, sym, ap, ◌∙◌, subst, arith, Option, Some, None, IfSome}
 use Rattle.std.proofs.Common.{append-nil}
 use Rattle.std.specs.List.{AllByRecursion, list_any}
@@ -52,14 +52,17 @@ after_find : (q : ℕ) (bs : List Block) →
     AllDifferent nat_cmp (map (λ b. lower_singleton b) bs) →
     after q bs ≡ or_empty (find nat_cmp q (by_singleton bs))
 after_find q [] d = refl
-after_find q (b ∷ bs) d = ap (λ t. cond t b.1 [] ++ after q bs) (same_test q (lower_singleton b))
-    ∙ cond_both (eq_by_cmp nat_cmp q (lower_singleton b)) _ _
-    (λ o. cond (eq_by_cmp nat_cmp q (lower_singleton b)) b.1 [] ++ after q bs ≡ or_empty o)
-    (λ e. rw e (ap (λ l. b.1 ++ l) (none_after q bs
-    (subst (λ (c : ℕ). list_any (eq_by_cmp nat_cmp c) (map (λ b. lower_singleton b) bs) ≡ false)
-    (tied q (lower_singleton b) e) (false_from_ne_true _ d.0)))
-    ∙ append-nil b.1))
-    (λ e. rw e (after_find q bs d.1))
+after_find q (b ∷ bs) d =
+    grind (
+      arith,
+      same_test,
+      cond_both,
+      none_after,
+      tied,
+      false_from_ne_true,
+      append-nil,
+      after_find q bs d.1,
+    )
 
 -- parts that are spelled by some piece, and by none
 
@@ -183,7 +186,7 @@ spelled_give T bs e s = record {
 
 pub good_blocks : {T : ℕ → Bool} {bs : List Block} {e : SpelledExtensions} →
     SpellsExtensions T bs e → AreGood T [] bs
-good_blocks {T = T} {bs = bs} {e = e} s = blocks_good T bs (normal_extensions e) (spelled_give T bs e s)
+good_blocks {T = T} {bs = bs} {e = e} s = search (blocks_good, spelled_give)
 
 -- good blocks spell what is read of them
 
@@ -203,15 +206,9 @@ record GoodParts (T : LanguageLengths) (seen : List ℕ) (bs : List Block) : Typ
 
 good_parts : (T : LanguageLengths) (seen : List ℕ) (bs : List Block) → AreGood T seen bs →
     GoodParts T seen bs
-good_parts T seen [] g = record { rules = tt; different = tt; unseen = tt }
+good_parts T seen [] g = search
 good_parts T seen (b ∷ bs) g =
-    let r = good_parts T (lower_singleton b ∷ seen) bs g.1 in
-    let parts = unsee_one (lower_singleton b) seen bs r.unseen in
-    record {
-      rules = ((g.0.0, g.0.2), r.rules);
-      different = (both_ways _ parts.0, r.different);
-      unseen = (g.0.1, parts.1);
-    }
+    grind (arith, unsee_one, both_ways, good_parts T (lower_singleton b ∷ seen) bs g.1)
 
 -- a block has a piece
 rule_some : (T : LanguageLengths) (q : ℕ) (ps : List Text) → RuleAt T q ps → 0 < length ps
@@ -242,8 +239,7 @@ transform_rule : (T : LanguageLengths) (o : Option (List Text)) → IfSome o (Ru
 unfolding transform_of
 transform_rule T None h = record { id = tt; fields = tt }
 transform_rule T (Some ps) (inl p) = absurd (let k = p.0 in omega arith)
-transform_rule T (Some ps) (inr (transform m, h, e)) = subst (IsTransform T)
-    (sym (ap transform_of e ∙ transform_of-pieces m h.1)) (record { id = h.1.id; fields = h.1.fields })
+transform_rule T (Some ps) (inr (transform m, h, e)) = grind (arith, transform_of-pieces)
 transform_rule T (Some ps) (inr (unicode u, h, e)) = absurd (let k = h.0 in omega arith)
 transform_rule T (Some ps) (inr (other qs, h, e)) = absurd (no_t code_t refl h.0)
 
@@ -266,9 +262,7 @@ others_rule : (T : LanguageLengths) (bs : List Block) →
     AllByRecursion (λ b. RuleAt T (lower_singleton b) b.1) bs →
     AllByRecursion (λ o. IsOther o.1) (other_blocks bs)
 others_rule T [] h = tt
-others_rule T (b ∷ bs) h =
-    cond_both (is_other_singleton (lower_singleton b)) _ _ (AllByRecursion (λ o. IsOther o.1))
-    (λ e. (other_rule T (lower_singleton b) b.1 h.0 e, others_rule T bs h.1)) (λ e. others_rule T bs h.1)
+others_rule T (b ∷ bs) h = grind (arith, cond_both, other_rule, others_rule T bs h.1)
 
 pub good_spell : (T : LanguageLengths) (bs : List Block) → AreGood T [] bs →
     SpellsExtensions T bs (read_of bs)
@@ -312,20 +306,15 @@ mean_give {T = T} {bs = bs} (w, s, e) =
 
 pub give_mean : {T : ℕ → Bool} {bs : List Block} {e : Extensions} →
     BlocksGive (grammar_rules T) bs e → BlocksMean T bs e
-give_mean {T = T} {bs = bs} {e = e} g =
-    let s = good_spell T bs (blocks_good T bs e g) in (
-      read_of bs,
-      s,
-      one_extensions T bs e (normal_extensions (read_of bs)) g (spelled_give T bs (read_of bs) s),
-    )
+give_mean {T = T} {bs = bs} {e = e} g = search (good_spell, blocks_good, one_extensions, spelled_give)
 
 -- whole texts
 
 pub means_by_blocks : {T : ℕ → Bool} (t : Text) (M : Locale) → Means T t M → MeansByBlocks T t M
-means_by_blocks t M m = record { id = m.id; extensions = mean_give m.extensions }
+means_by_blocks t M m = search (mean_give)
 
 pub blocks_mean : {T : ℕ → Bool} (t : Text) (M : Locale) → MeansByBlocks T t M → Means T t M
-blocks_mean t M m = record { id = m.id; extensions = give_mean m.extensions }
+blocks_mean t M m = search (give_mean)
 
 pub tree_means : {T : ℕ → Bool} (t : Text) (M : Locale) → Means T t M → TreeMeans T t M
 tree_means {T = T} t M m = blocks_tree T t M (means_by_blocks t M m)
@@ -336,7 +325,7 @@ means_by_tree {T = T} table t M m = blocks_mean t M (tree_by_blocks T table t M 
 -- good blocks after an identifier mean what is read of them
 pub good_text : (T : LanguageLengths) (t : Text) → SpellsIdentifier T (head (pieces t)) →
     AreGood T [] (tail_blocks (pieces t)) → Means T t (meaning (written_of (pieces t)))
-good_text T t s g = blocks_mean t (meaning (written_of (pieces t))) (read_by_blocks T t s g)
+good_text T t s g = search (blocks_mean, read_by_blocks)
 
 -- a text means one value at most
 pub one_meaning : {T : ℕ → Bool} → AreLengths T → (t : Text) (L M : Locale) → Means T t L → Means T t M →

@@ -1,5 +1,5 @@
 -- The steps of identifiers, of fields and of what blocks spell are those of the tree.
-use Rattle.std.proofs.Common.{◌≡◌, ℕ, ◌≤◌, Bool, length, refl, sym, ap, ◌∙◌}
+use Rattle.std.proofs.Common.{◌≡◌, ℕ, ◌≤◌, Bool, length, refl, sym, ap}
 use Rattle.std.proofs.Common.{subst, arith, Option, Some, None, option_to_list}
 use Rattle.std.specs.List.{AllZip}
 use Rattle.std.specs.Char.{to_ascii_lowercase}
@@ -45,13 +45,11 @@ same_unicode {r = r} u v a k =
 new_attributes : {r : TreeRule} (u v : SpelledUnicode) → u.attributes ≡ v.attributes →
     ExtensionStep r (unicode u) (unicode_extension u.attributes v.keywords) →
     ExtensionStep r (unicode u) (unicode v)
-new_attributes {r = r} u v a s =
-    subst (ExtensionStep r (unicode u)) (λ i. unicode_extension (a i) v.keywords) s
+new_attributes {r = r} u v a s = grind (arith)
 
 less_true : (n : ℕ) (fs gs : Fields) → AllZip (LessTrue n) fs gs →
     AllZip (λ f g. TreeLessTrue f g × (n ≤ length g.1)) fs gs
-less_true n fs gs z = zip_weaker (LessTrue n) (λ f g. TreeLessTrue f g × (n ≤ length g.1))
-    (λ f g l. ((l.0, l.1), l.2)) fs gs z
+less_true n fs gs z = grind (arith, zip_weaker)
 
 pub unicode_step : (r : Rule) (u v : SpelledUnicode) → AttributesStep r u.attributes v.attributes →
     FieldsStep r 0 u.keywords v.keywords → ExtensionStep (tree_rule r) (unicode u) (unicode v)
@@ -72,7 +70,7 @@ abbrev pub NoStep : SpelledIdentifier → SpelledIdentifier → Type 0
 NoStep i j = (j ≡ record i { variants = j.variants }) × (i.variants ≡ j.variants)
 
 pub same_identifier : {i j : SpelledIdentifier} → NoStep i j → i ≡ j
-same_identifier {i = i} s = ap (λ vs. record i { variants = vs }) s.1 ∙ sym s.0
+same_identifier {i = i} s = grind (arith)
 
 pub tree_identifier_rule : (r : Rule) (i j : SpelledIdentifier) → IdentifierStep r i j →
     TreeIdentifierStep (tree_rule r) i j
@@ -91,7 +89,7 @@ same_transform {r = r} m n i k =
 new_id : {r : TreeRule} (m n : SpelledTransform) → m.id ≡ n.id →
     ExtensionStep r (transform m) (transform_extension m.id n.fields) →
     ExtensionStep r (transform m) (transform n)
-new_id {r = r} m n i s = subst (ExtensionStep r (transform m)) (λ l. transform_extension (i l) n.fields) s
+new_id {r = r} m n i s = grind (arith)
 
 same_option : (a b : Option SpelledIdentifier) → AllZip NoStep (option_to_list a) (option_to_list b) → a ≡ b
 same_option None None z = refl
@@ -136,7 +134,7 @@ same_id r None = tt
 same_id r (Some i) = (same_rule r i, tt)
 
 plain_unicode : {u : SpelledUnicode} → IsUnicodeBlock u → IsUnicode u
-plain_unicode h = record { attributes = h.attributes; keywords = h.keywords }
+plain_unicode h = search
 
 plain_transform : {T : ℕ → Bool} {m : SpelledTransform} → IsTransformBlock T m → IsTransform T m
 plain_transform h = record { id = h.id; fields = h.fields }

@@ -8,7 +8,7 @@ use Rattle.iloc_spec_grammar.specs.Syntax.{head, tail_blocks, AreLengths, IsIden
 use Rattle.iloc_spec_grammar.specs.Syntax.{identifier_pieces, SpelledIdentifier, SpelledUnicode}
 use Rattle.iloc_spec_grammar.specs.Syntax.{SpelledTransform, unicode_pieces, transform_pieces, IsUnicode}
 use Rattle.iloc_spec_grammar.specs.Syntax.{IsTransform, lower_singleton}
-use Rattle.iloc_spec_grammar.specs.Tree.{Extension, unicode, transform, other, Written, extension_pieces}
+use Rattle.iloc_spec_grammar.specs.Tree.{Extension, unicode, transform, other, Written}
 use Rattle.iloc_spec_grammar.specs.Tree.{extension_block, blocks_of, spelling, IsUnicodeBlock}
 use Rattle.iloc_spec_grammar.specs.Tree.{IsTransformBlock, IsExtension, IsWritten, IsBlock}
 use Rattle.iloc_spec_grammar.specs.Meaning.{Locale, Means, AreBlocks, normal_identifier, normal_extensions}
@@ -49,25 +49,17 @@ read_block b = (b.0, extension_of (lower_singleton b) b.1)
 extensions_before : (bs : List Block) → EndsAtX bs →
     map read_block (filter (λ b. not (lower_singleton b == code_x)) bs) ≡ extensions_in bs
 extensions_before [] e = refl
-extensions_before (b ∷ bs) e = elim (cases_Bool (lower_singleton b == code_x)) [
-  | inl t ↦ rw (t, e.0 t) refl
-  | inr t ↦ rw t (ap (λ l. read_block b ∷ l) (extensions_before bs e.1))
-]
+extensions_before (b ∷ bs) e = grind (arith, cases_Bool, extensions_before bs e.1)
 
 private_after : (bs : List Block) → EndsAtX bs →
     filter (λ b. lower_singleton b == code_x) bs ≡ option_to_list (private_in bs)
 private_after [] e = refl
-private_after (b ∷ bs) e = elim (cases_Bool (lower_singleton b == code_x)) [
-  | inl t ↦ rw (t, e.0 t) refl
-  | inr t ↦ rw t (private_after bs e.1)
-]
+private_after (b ∷ bs) e = grind (arith, cases_Bool, private_after bs e.1)
 
 -- those of `x` stay last
 pub extensions_reordered : (bs cs : List Block) → EndsAtX bs → EndsAtX cs → Reordered bs cs →
     Reordered (extensions_in bs) (extensions_in cs)
-extensions_reordered bs cs e f r = subst (λ l. Reordered l (extensions_in cs)) (extensions_before bs e)
-    (subst (Reordered (map read_block (filter (λ b. not (lower_singleton b == code_x)) bs)))
-    (extensions_before cs f) (map_reordered read_block (filter_reordered _ r)))
+extensions_reordered bs cs e f r = grind (arith, extensions_before, map_reordered, filter_reordered)
 
 pub private_reordered : (bs cs : List Block) → EndsAtX bs → EndsAtX cs → Reordered bs cs →
     private_in bs ≡ private_in cs
@@ -219,11 +211,8 @@ blocks_by_tree T r [] [] x z h = same_blocks x
     same_blocks : (bs : List Block) → AllZip (BlockStep T (rule_of r)) bs bs
     same_blocks [] = tt
     same_blocks (b ∷ bs) = (BlockStep.same, same_blocks bs)
-blocks_by_tree T r (e ∷ es) (f ∷ fs) x z h = (
-  subst (λ (c : ℕ). BlockStep T (rule_of r) (extension_block e) (c, extension_pieces f.1)) z.0.0
-      (block_by_tree T e.0 h.0 z.0.1),
-  blocks_by_tree T r es fs x z.1 h.1,
-)
+blocks_by_tree T r (e ∷ es) (f ∷ fs) x z h =
+    grind (arith, rule_of, block_by_tree, blocks_by_tree T r es fs x z.1 h.1)
 blocks_by_tree T r _ _ x z h = absurd z
 
 -- none of the tree's rules is that of the order of blocks
@@ -244,11 +233,8 @@ blocks_step T h (Step.block_order {i = i} {x = x} r) = record {
   id = same_rule Rule.BlockOrder i;
   blocks = reordered_after (option_to_list x) (map_reordered extension_block r);
 }
-blocks_step T h (Step.inside r {es = es} {fs = fs} {x = x} s z) = record {
-  rule = rule_of r;
-  id = identifier_rule_by_tree s;
-  blocks = inside_blocks T r _ _ (blocks_by_tree T r es fs (option_to_list x) z h.extensions);
-}
+blocks_step T h (Step.inside r {es = es} {fs = fs} {x = x} s z) =
+    search (rule_of, identifier_rule_by_tree, inside_blocks, blocks_by_tree)
 
 -- if the blocks of both are those that they are made of
 pub spelled_step : {T : ℕ → Bool} (t : Text) {v w : Written} → IsWritten T v → pieces t ≡ spelling v →

@@ -8,7 +8,7 @@ use Rattle.std.proofs.lemmas.List.Concat.{flat_map-append}
 use Rattle.iloc_spec_grammar.specs.Syntax.{Block, code_x, code_u, code_t, Text, join, AreLengths, languages}
 use Rattle.iloc_spec_grammar.specs.Syntax.{SpelledTransform, Unicode, Transform}
 use Rattle.iloc_spec_grammar.specs.Syntax.{identifier_pieces, unicode_pieces, transform_pieces}
-use Rattle.iloc_spec_grammar.specs.Tree.{Extension, unicode, transform, other, extension_block, block_pieces}
+use Rattle.iloc_spec_grammar.specs.Tree.{Extension, unicode, transform, other, block_pieces}
 use Rattle.iloc_spec_grammar.specs.Tree.{spelling, transform_form, unicode_form, others_form, private_form}
 use Rattle.iloc_spec_grammar.specs.Tree.{extensions_form, before_t, after_t, printed, tree_text, form_pieces}
 use Rattle.iloc_spec_grammar.specs.Tree.{TreeMeans, IsTreeWellFormed, spelled_transform, spelled_unicode}
@@ -68,8 +68,7 @@ private_spelling_is (w ∷ ws) = parts.private_spelling_is w ws ∙ sym (append-
 
 form_pieces-append : (es fs : List (ℕ × Extension)) →
     form_pieces (es ++ fs) ≡ form_pieces es ++ form_pieces fs
-form_pieces-append es fs = ap (flat_map block_pieces) (map-append extension_block es fs)
-    ∙ flat_map-append block_pieces (map extension_block es) (map extension_block fs)
+form_pieces-append es fs = rw (map-append, flat_map-append)
 
 pub extensions_spelling_is : (e : Extensions) →
     extensions_spelling e
@@ -97,9 +96,7 @@ extensions_spelling_is e =
 
 pub pieces_are : (M : Locale) →
     identifier_pieces M.id ++ extensions_spelling M.extensions ≡ spelling (printed M)
-pieces_are M = ap (λ l. identifier_pieces M.id ++ l) (extensions_spelling_is M.extensions
-    ∙ sym (flat_map-append block_pieces (map extension_block (extensions_form M.extensions))
-    (option_to_list (private_form M.extensions.private))))
+pieces_are M = simp (extensions_spelling_is, flat_map-append)
 
 pub text_is : (M : Locale) → text M ≡ tree_text M
 text_is M = ap join (pieces_are M)

@@ -75,10 +75,7 @@ text_passes T table {t = t} (TreeTextStep.rewritten {v = v} {w = w} g p s) =
 
 pub tests_text_step : (T : LanguageLengths) → AreLengths T → (t u : Text) →
     Tests (is_text_step T t u) (TextStep T t u)
-tests_text_step T table t u = record {
-  holds = λ e. step_by_tree table t u (text_holds T table t u e);
-  passes = λ s. text_passes T table (tree_step t u s);
-}
+tests_text_step T table t u = search (step_by_tree, text_holds, text_passes, tree_step)
 
 -- texts of identifiers
 
@@ -126,7 +123,5 @@ identifier_text_passes T {t = t} (TreeIdentifierTextStep.variant_order {i = i} {
 
 pub tests_identifier_text_step : (T : LanguageLengths) (t u : Text) →
     Tests (is_identifier_text_step T t u) (IdentifierTextStep T t u)
-tests_identifier_text_step T t u = record {
-  holds = λ e. identifier_step_by_tree t u (identifier_text_holds T t u e);
-  passes = λ s. identifier_text_passes T (tree_identifier_step t u s);
-}
+tests_identifier_text_step T t u =
+    search (identifier_step_by_tree, identifier_text_holds, identifier_text_passes, tree_identifier_step)

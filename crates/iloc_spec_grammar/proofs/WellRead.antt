@@ -1,6 +1,6 @@
 -- What a text means is a well-formed value.
 use Rattle.std.proofs.Common.{◌≡◌, ◌≢◌, ℕ, ◌<◌, Bool, true, false, not, List, [], ◌∷◌, length, map}
-use Rattle.std.proofs.Common.{filter_map, refl, sym, ◌∙◌, subst, arith, Option, Some, None, IfSome}
+use Rattle.std.proofs.Common.{filter_map, refl, sym, subst, arith, Option, Some, None, IfSome}
 use Rattle.std.proofs.Common.{option_map}
 use Rattle.std.specs.List.{AllByRecursion}
 use Rattle.std.specs.Char.{to_ascii_lowercase}
@@ -19,7 +19,7 @@ use Rattle.iloc_spec_grammar.specs.Tree.{Extension, unicode, transform, other, W
 use Rattle.iloc_spec_grammar.specs.Tree.{IsTransformBlock, IsExtension, IsWritten, unicode_part}
 use Rattle.iloc_spec_grammar.specs.Tree.{transform_part, private_part, other_part, by_singleton}
 use Rattle.iloc_spec_grammar.specs.Tree.{extensions_meaning, meaning, TreeMeans, IsTreeWellFormed}
-use Rattle.iloc_spec_grammar.specs.Meaning.{map_of, set_of, normal_identifier, normal_values, normal_fields}
+use Rattle.iloc_spec_grammar.specs.Meaning.{set_of, normal_identifier, normal_values, normal_fields}
 use Rattle.iloc_spec_grammar.specs.Meaning.{normal_unicode, normal_transform, Locale}
 use Rattle.iloc_spec_grammar.specs.Values.{IsNormal, StrictlyAscends, IsIdentifierValue, IsUnicodeValue}
 use Rattle.iloc_spec_grammar.specs.Values.{IsTransformValue, IsValue}
@@ -41,9 +41,7 @@ all-set_of P ws h = all_mapped (λ (e : Text × Text). P e.0) P (λ e. e.0) (λ 
     word_cmp same_words (λ e. P e.0) _ (all_mapped P (λ e. P e.0) (λ w. (w, w)) (λ w p. p) ws h))
 
 pub set_of-ascending : (ws : List Text) → StrictlyAscends word_cmp (set_of ws)
-set_of-ascending ws = let es = map (λ w. (w, w)) ws in
-    ascend_as_keys _
-    (sorted-keys (map_of word_cmp es) ∙ is_sorted-map_of word_cmp word_cmp_total es)
+set_of-ascending ws = search (ascend_as_keys, sorted-keys, is_sorted-map_of, word_cmp_total)
 
 -- parts
 
@@ -89,7 +87,7 @@ entries_of k e = all_mapped (λ f. IsWord k f.0 × AllByRecursion (IsWord Attrib
 field_entries : (k : Kind) → ((p : Text) → normal k p ≡ lower p) → (fs : Fields) →
     AllByRecursion (λ f. IsWord k f.0 × AllByRecursion (IsWord Attribute) f.1) fs →
     AllByRecursion (IsEntry k) (normal_fields fs)
-field_entries k e fs h = all-map_of word_cmp same_words (IsEntry k) _ (entries_of k e fs h)
+field_entries k e fs h = search (all-map_of, same_words, entries_of)
 
 pub attribute_is_word : (w : Text) → IsWord Attribute w → IsWord Subtag w
 unfolding is_word
@@ -103,25 +101,23 @@ keyword_entries : (fs : Fields) → AllByRecursion IsKeyword fs →
 keyword_entries fs h = field_entries UnicodeKey (λ p. refl) fs h
 
 pub unicode_value : (u : SpelledUnicode) → IsUnicodeBlock u → IsUnicodeValue (normal_unicode u)
-unicode_value u h = record {
-  attributes = all-set_of (IsNormal Attribute) _ (all_normal Attribute u.attributes (λ p. refl) h.attributes);
-  ascending = set_of-ascending (map lower u.attributes);
-  keywords =
-      all_weaker (IsEntry UnicodeKey) (λ f. IsNormal UnicodeKey f.0 × AllByRecursion (IsNormal Subtag) f.1)
-      (λ f e. (e.0, all_weaker IsPlain (IsNormal Subtag) (λ w n. attribute_is_subtag w n.0) f.1 e.1)) _
-      (keyword_entries u.keywords h.keywords);
-  keys_ascend =
-      is_sorted-map_of word_cmp word_cmp_total (map (λ f. (lower f.0, normal_values f.1)) u.keywords);
-}
+unicode_value u h =
+    grind (
+      arith,
+      all-set_of,
+      all_normal,
+      set_of-ascending,
+      all_weaker,
+      attribute_is_subtag,
+      keyword_entries,
+      is_sorted-map_of,
+      word_cmp_total,
+    )
 
 pub unicode_well : (u : SpelledUnicode) → IsUnicodeBlock u →
     AllByRecursion (λ f. AllByRecursion (λ w. (is_true w ≡ false) × (length w ≢ 2)) f.1)
     (normal_unicode u).keywords
-unicode_well u h =
-    all_weaker (IsEntry UnicodeKey) (λ f. AllByRecursion (λ w. (is_true w ≡ false) × (length w ≢ 2)) f.1)
-    (λ f e. all_weaker IsPlain (λ w. (is_true w ≡ false) × (length w ≢ 2))
-    (λ w n. (n.1, let l = length-attribute w n.0.0 in omega arith)) f.1 e.1) _
-    (keyword_entries u.keywords h.keywords)
+unicode_well u h = grind (arith, all_weaker, length-attribute, keyword_entries)
 
 pub transform_value : (T : LanguageLengths) (m : SpelledTransform) → IsTransformBlock T m →
     IsTransformValue T (normal_transform m)
@@ -146,7 +142,7 @@ follows T c _ h = h.1
 part_unicode : (T : LanguageLengths) (o : Option Extension) → IfSome o (FollowsRule T) →
     IsUnicodeValue (unicode_part o)
 part_unicode T (Some (unicode u)) h = unicode_value u h
-part_unicode T _ h = record { attributes = tt; ascending = tt; keywords = tt; keys_ascend = refl }
+part_unicode T _ h = search
 
 part_well : (T : LanguageLengths) (o : Option Extension) → IfSome o (FollowsRule T) →
     AllByRecursion (λ f. AllByRecursion (λ w. (is_true w ≡ false) × (length w ≢ 2)) f.1)
@@ -157,7 +153,7 @@ part_well T _ h = tt
 part_transform : (T : LanguageLengths) (o : Option Extension) → IfSome o (FollowsRule T) →
     IsTransformValue T (transform_part o)
 part_transform T (Some (transform m)) h = transform_value T m h
-part_transform T _ h = record { id = tt; fields = tt; keys_ascend = refl }
+part_transform T _ h = search
 
 kept_normal : (ps : List Text) → AllByRecursion (IsNormal Subtag) (kept ps)
 kept_normal [] = tt
@@ -172,18 +168,12 @@ other_entries : (T : LanguageLengths) (es : List (ℕ × Extension)) →
     AllByRecursion (λ e. IsExtension T (lower_singleton e) e.1) es →
     AllByRecursion IsOtherEntry (filter_map other_part (by_singleton es))
 other_entries T [] h = tt
-other_entries T (e ∷ es) h = at_kind e.1 h.0 (other_entries T es h.1)
-  where
-    at_kind : (x : Extension) → IsExtension T (lower_singleton e) x →
-        AllByRecursion IsOtherEntry (filter_map other_part (by_singleton es)) →
-        AllByRecursion IsOtherEntry (filter_map other_part ((lower_singleton e, x) ∷ by_singleton es))
-    at_kind (other ps) k rest = (((k.0, lowercase-lowercase e.0), k.1.nonempty, kept_normal ps), rest)
-    at_kind _ k rest = rest
+other_entries T (e ∷ es) h = grind (arith, lowercase-lowercase, kept_normal, other_entries T es h.1)
 
 private_value : (x : Option Block) → IfSome x (λ e. (lower_singleton e ≡ code_x) × IsPrivate e.1) →
     AllByRecursion (IsNormal PrivateSubtag) (private_part x)
 private_value None h = tt
-private_value (Some e) h = all_normal PrivateSubtag e.1 (λ p. refl) h.1.words
+private_value (Some e) h = search (all_normal)
 
 module _ {T : ℕ → Bool} (w : Written) (h : IsWritten T w) where
   others : AllByRecursion IsOtherEntry (extensions_meaning w).others
@@ -219,4 +209,4 @@ pub means_value : {T : ℕ → Bool} (t : Text) (M : Locale) → TreeMeans T t M
 means_value {T = T} t M m = subst (IsValue T) (sym m.means) (written_value m.written m.grammatical)
 
 pub means_well_formed : {T : ℕ → Bool} (t : Text) (M : Locale) → TreeMeans T t M → IsTreeWellFormed M
-means_well_formed t M m = subst IsTreeWellFormed (sym m.means) (written_well_formed m.written m.grammatical)
+means_well_formed t M m = grind (arith, written_well_formed)

@@ -68,8 +68,7 @@ length-lower p = length-map p to_ascii_lowercase
 pub is_word-lower : (k : Kind) (p : Text) → is_word k (lower p) ≡ is_word k p
 unfolding is_word lower
 is_word-lower (Language T) p = ap₂ ◌&&◌ (ap T (length-lower p)) (list_all-mapped _ _ _ alphabetic-lower p)
-is_word-lower Script p =
-    ap₂ ◌&&◌ (ap (λ n. n == 4) (length-lower p)) (list_all-mapped _ _ _ alphabetic-lower p)
+is_word-lower Script p = grind (arith, ap₂, length-lower, list_all-mapped, alphabetic-lower)
 is_word-lower Region p =
     ap₂ ◌||◌ (ap₂ ◌&&◌ (ap (λ n. n == 2) (length-lower p)) (list_all-mapped _ _ _ alphabetic-lower p))
     (ap₂ ◌&&◌ (ap (λ n. n == 3) (length-lower p)) (list_all-mapped _ _ _ digit-lower p))
@@ -77,20 +76,15 @@ is_word-lower Variant p = ap₂ ◌&&◌
     (ap₂ ◌||◌ (ap (is_in_range 5 8) (length-lower p))
     (ap₂ ◌&&◌ (ap (λ n. n == 4) (length-lower p)) (at-map _ digit-lower p 0)))
     (list_all-mapped _ _ _ alphanumeric-lower p)
-is_word-lower Subtag p =
-    ap₂ ◌&&◌ (ap (is_in_range 2 8) (length-lower p)) (list_all-mapped _ _ _ alphanumeric-lower p)
+is_word-lower Subtag p = grind (arith, ap₂, length-lower, list_all-mapped, alphanumeric-lower)
 is_word-lower UnicodeKey p = ap₂ ◌&&◌ (ap (λ n. n == 2) (length-lower p))
     (ap₂ ◌&&◌ (at-map _ alphanumeric-lower p 0) (at-map _ alphabetic-lower p 1))
 is_word-lower TransformKey p = ap₂ ◌&&◌ (ap (λ n. n == 2) (length-lower p))
     (ap₂ ◌&&◌ (at-map _ alphabetic-lower p 0) (at-map _ digit-lower p 1))
-is_word-lower Attribute p =
-    ap₂ ◌&&◌ (ap (is_in_range 3 8) (length-lower p)) (list_all-mapped _ _ _ alphanumeric-lower p)
-is_word-lower PrivateSubtag p =
-    ap₂ ◌&&◌ (ap (is_in_range 1 8) (length-lower p)) (list_all-mapped _ _ _ alphanumeric-lower p)
-is_word-lower SubdivisionSuffix p =
-    ap₂ ◌&&◌ (ap (is_in_range 1 4) (length-lower p)) (list_all-mapped _ _ _ alphanumeric-lower p)
-is_word-lower CurrencyType p =
-    ap₂ ◌&&◌ (ap (λ n. n == 3) (length-lower p)) (list_all-mapped _ _ _ alphabetic-lower p)
+is_word-lower Attribute p = grind (arith, ap₂, length-lower, list_all-mapped, alphanumeric-lower)
+is_word-lower PrivateSubtag p = grind (arith, ap₂, length-lower, list_all-mapped, alphanumeric-lower)
+is_word-lower SubdivisionSuffix p = grind (arith, ap₂, length-lower, list_all-mapped, alphanumeric-lower)
+is_word-lower CurrencyType p = grind (arith, ap₂, length-lower, list_all-mapped, alphabetic-lower)
 
 pub is_word-same : (k : Kind) (p q : Text) → lower p ≡ lower q → is_word k p ≡ is_word k q
 is_word-same k p q e = sym (is_word-lower k p) ∙ ap (is_word k) e ∙ is_word-lower k q
@@ -198,7 +192,7 @@ two_are : (f g : ℕ → Bool) → ((c : ℕ) → f c ≡ true → is_ascii_alph
     f (slice_index p 0) ≡ true → g (slice_index p 1) ≡ true → letters_or_digits p ≡ true
 two_are f g h k [] e a b = refl
 two_are f g h k (c ∷ []) e a b = ap₂ ◌&&◌ (h c a) refl
-two_are f g h k (c ∷ d ∷ []) e a b = ap₂ ◌&&◌ (h c a) (ap₂ ◌&&◌ (k d b) refl)
+two_are f g h k (c ∷ d ∷ []) e a b = grind (arith, ap₂)
 two_are f g h k (c ∷ d ∷ x ∷ p) e a b = grind (arith, nat_tests)
 
 pub word_letters_or_digits : (k : Kind) (p : Text) → IsWord k p → letters_or_digits p ≡ true
