@@ -127,7 +127,8 @@ front_no_repeat : (T : LanguageLengths) (ps : List Text) → RepeatsVariant T ps
 unfolding identifier_of front_of
 front_no_repeat T ps r d = grind (arith, repeats_longer, front_longest, some_repeat, map-append)
 
-pub tests_repeats : (T : LanguageLengths) (ps : List Text) → Tests (repeats_variant T ps) (RepeatsVariant T ps)
+pub tests_repeats : (T : LanguageLengths) (ps : List Text) →
+    Tests (repeats_variant T ps) (RepeatsVariant T ps)
 tests_repeats T ps = tests_like (repeats_found T ps) (λ (r : RepeatsVariant T ps).
     (ap (λ l. is_word (Language T) (first_piece l)) r.3 ∙ r.2.language, front_no_repeat T ps r))
     (tests_and (tests_word (Language T) (first_piece ps))
