@@ -101,7 +101,7 @@ others_by : (T : LanguageLengths) (es : List (ℕ × Extension)) (x : Option Blo
     (filter_map other_part (by_singleton es)
     ≡ map kept_of (other_blocks (map extension_block es ++ option_to_list x)))
     × AllByRecursion KeepsWords (other_blocks (map extension_block es ++ option_to_list x))
-others_by T [] x h k = search (no_others_private)
+others_by T [] x h k = search no_others_private
 others_by T (e ∷ es) x h k = grind (arith, others_by T es x h.1 k)
 
 pub blocks_give : (T : LanguageLengths) (w : Written) → IsWritten T w →

@@ -199,8 +199,8 @@ field_order_step (other ps) d = ExtensionStep.same
 pub keys_differ_then : (e : Extension) →
     KeysDiffer
     (with_sorted_attributes (with_sorted_variants (without_dropped (without_trues (without_repeats e)))))
-keys_differ_then (unicode u) = search (map-map, dedup, different-dedup)
-keys_differ_then (transform m) = search (map-map, dedup, different-dedup)
+keys_differ_then (unicode u) = search (map-map, different-dedup)
+keys_differ_then (transform m) = search (map-map, different-dedup)
 keys_differ_then (other ps) = tt
 
 -- what an extension in order means is its lower case
@@ -219,7 +219,7 @@ sorted_set ws d = set_of_ascending (low (sort_words ws))
 no_true_entries : (fs : Fields) →
     AllByRecursion (λ f. AllByRecursion (λ q. is_true (lower q) ≡ false) f.1) fs →
     map {B = Field} (λ f. (lower f.0, normal_values f.1)) fs ≡ low_fields fs
-no_true_entries fs h = search (map-same, low, all_weaker, no_true_means)
+no_true_entries fs h = search (map-same, all_weaker, no_true_means)
 
 none_true_fields : (fs : Fields) →
     AllByRecursion (λ (f : Field). AllByRecursion (λ q. is_true (lower q) ≡ false) f.1)
@@ -261,16 +261,7 @@ spelled_kept = all_mapped IsField IsSpelled (λ f. (f.0, keep_one f.1)) (λ f h.
 pub canonical_identifier : (i : SpelledIdentifier) → AllDifferent word_cmp (map lower i.variants) →
     lower_identifier (normal_identifier (sort_identifier i)) ≡ lower_identifier (sort_identifier i)
 canonical_identifier i d =
-    search (
-      same_identifier,
-      lower-lower,
-      option_map-then,
-      lower-title,
-      lower-upper,
-      low,
-      sorted_set,
-      lower_twice,
-    )
+    search (same_identifier, lower-lower, option_map-then, lower-title, lower-upper, sorted_set, lower_twice)
 
 canonical_optional : (T : LanguageLengths) (o : Option SpelledIdentifier) → IfSome o (IsIdentifier T) →
     option_map lower_identifier (option_map normal_identifier (option_map sort_identifier o))

@@ -35,7 +35,6 @@ use Rattle.iloc_spec_grammar.specs.Reading.{fields_from, is_two, unicode_of, tra
 use Rattle.iloc_spec_grammar.specs.Reading.{extension_of, extensions_in, private_in, written_of}
 use Rattle.iloc_spec_grammar.proofs.Readings.{written_of-spelling}
 use Rattle.iloc_spec_grammar.proofs.Readings.{one_meaning}
-use Rattle.iloc_spec_grammar.proofs.StepLaws.{same_parts}
 use Rattle.iloc_spec_grammar.proofs.StepSizes.{step_means, step_length}
 pub use Rattle.iloc_spec_grammar.proofs.FaultLaws.{spelling-written_of}
 use Rattle.iloc_spec_grammar.proofs.FaultLaws.{pieces-written_of}
@@ -193,16 +192,16 @@ option-low test f e (Some x) = e x
 
 pub is_identifier-low : (T : LanguageLengths) (i : SpelledIdentifier) →
     is_identifier T (lower_identifier i) ≡ is_identifier T i
-is_identifier-low T i = simp (ap₂, is_word-lower, option-low, words-low, lower_twice)
+is_identifier-low T i = simp (is_word-lower, option-low, words-low, lower_twice)
 
 abbrev low_field : Field → Field
 low_field f = (lower f.0, low f.1)
 
 is_keyword-low : (f : Field) → is_keyword (low_field f) ≡ is_keyword f
-is_keyword-low f = simp (ap₂, is_word-lower, words-low)
+is_keyword-low f = simp (is_word-lower, words-low)
 
 is_field-low : (f : Field) → is_field (low_field f) ≡ is_field f
-is_field-low f = simp (ap₂, is_word-lower, words-low, length-map)
+is_field-low f = simp (is_word-lower, words-low, length-map)
 
 is_some-low : (o : Option SpelledIdentifier) → is_some (option_map lower_identifier o) ≡ is_some o
 is_some-low None = refl
@@ -311,7 +310,6 @@ private_part-low (Some e) = lower_twice e.1
 meaning-low : (w : Written) → meaning (low_written w) ≡ meaning w
 meaning-low w =
     simp (
-      same_parts,
       normal-lower_identifier,
       find-low,
       unicode_part-low,

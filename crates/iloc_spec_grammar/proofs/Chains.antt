@@ -92,7 +92,7 @@ identifier_twice : (i : SpelledIdentifier) → lower_identifier (lower_identifie
 identifier_twice i = search (same_identifier, lower-lower, option_map-then, lower_twice)
 
 fields_twice : (fs : Fields) → low_fields (low_fields fs) ≡ low_fields fs
-fields_twice fs = search (map-then, low, lower-lower, lower_twice)
+fields_twice fs = search (map-then, lower-lower, lower_twice)
 
 extension_twice : (e : Extension) → low_extension (low_extension e) ≡ low_extension e
 extension_twice (unicode u) = rw (lower_twice, fields_twice)
@@ -100,7 +100,7 @@ extension_twice (transform m) = grind (arith, option_map-then, identifier_twice,
 extension_twice (other ps) = ap other (lower_twice ps)
 
 entries_twice : (es : List (ℕ × Extension)) → low_entries (low_entries es) ≡ low_entries es
-entries_twice es = search (map-then, low_entry, lowercase-lowercase, extension_twice)
+entries_twice es = search (map-then, lowercase-lowercase, extension_twice)
 
 -- what is looked up in a text in order, and in its printed form
 

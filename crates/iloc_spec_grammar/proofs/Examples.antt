@@ -38,11 +38,11 @@ refused_from t f (Err g) e h = (computed_fault languages languages_table t f).0 
 
 pub normalises : (t u : Text) → answer t ≡ Ok u → Normalises t u
 unfolding answer
-normalises t u h = search (normalises_from)
+normalises t u h = search normalises_from
 
 pub refused : (t : Text) (f : Fault) → answer t ≡ Err f → IsRefused t f
 unfolding answer
-refused t f h = search (refused_from)
+refused t f h = search refused_from
 
 -- identifiers
 
@@ -62,11 +62,11 @@ no_identifier_from t f (Err g) e h = (computed_identifier_fault languages t f).0
 
 pub normalises_identifier : (t u : Text) → identifier_answer t ≡ Ok u → NormalisesIdentifier t u
 unfolding identifier_answer
-normalises_identifier t u h = search (identifier_from)
+normalises_identifier t u h = search identifier_from
 
 pub refused_identifier : (t : Text) (f : Fault) → identifier_answer t ≡ Err f → IsRefusedIdentifier t f
 unfolding identifier_answer
-refused_identifier t f h = search (no_identifier_from)
+refused_identifier t f h = search no_identifier_from
 
 -- the two settled readings of the steps
 

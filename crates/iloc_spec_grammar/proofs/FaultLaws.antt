@@ -94,7 +94,7 @@ repeats_longer i rest h d = from i.language i.script i.region i.variants h.scrip
         (identifier_of ((l ∷ (option_to_list s ++ (option_to_list r ++ vs))) ++ rest)).variants ≡ vs ++ rest
     from l s r [] hs hr hv d = absurd (d tt)
     from l s r (v ∷ vs) hs hr hv d =
-        ap (λ (j : SpelledIdentifier). j.variants) (read_longer l s r v vs rest hs hr hv.0)
+        search read_longer
 
 pub language_of : (p : Text) (ps : List Text) → (identifier_of (p ∷ ps)).language ≡ p
 unfolding identifier_of
@@ -106,7 +106,7 @@ script_of p ps = take_first_passes (is_word Script) ps
 
 pub region_of : (p : Text) (ps : List Text) → IfSome (identifier_of (p ∷ ps)).region (IsWord Region)
 unfolding identifier_of
-region_of p ps = search (take_first_passes)
+region_of p ps = search take_first_passes
 
 pub spell_cut : (i : SpelledIdentifier) →
     identifier_pieces (cut_identifier i) ++ after_variants i.variants ≡ identifier_pieces i
@@ -122,15 +122,19 @@ repeats_found T [] x = absurd (x.1 tt)
 repeats_found T (p ∷ ps) x =
     (front_of (p ∷ ps), after_front (p ∷ ps), front_words (p ∷ ps) x.0, sym (pieces-front_of p ps), x.1)
 
-front_no_repeat : (T : LanguageLengths) (ps : List Text) → RepeatsVariant T ps →
-    ¬ (AllDifferent word_cmp (map lower (front_of ps).variants))
-unfolding identifier_of front_of
-front_no_repeat T ps r d = grind (arith, repeats_longer, front_longest, some_repeat, map-append)
-
 pub tests_repeats : (T : LanguageLengths) (ps : List Text) →
     Tests (repeats_variant T ps) (RepeatsVariant T ps)
-tests_repeats T ps = tests_like (repeats_found T ps) (λ (r : RepeatsVariant T ps).
-    (ap (λ l. is_word (Language T) (first_piece l)) r.3 ∙ r.2.language, front_no_repeat T ps r))
+unfolding front_of identifier_of
+tests_repeats T ps = tests_like (repeats_found T ps) (λ (r : RepeatsVariant T ps). (
+  ap (λ l. is_word (Language T) (first_piece l)) r.3 ∙ r.2.language,
+  grind (
+    arith,
+    repeats_longer,
+    front_longest,
+    some_repeat,
+    map-append,
+  ),
+))
     (tests_and (tests_word (Language T) (first_piece ps))
     (tests_denied (tests_different word_cmp (map lower (front_of ps).variants))))
 
@@ -152,11 +156,7 @@ good_no_repeat T m h r = at_id m.id h.id (sym (before_key_read (is_word Transfor
         optional_pieces o ≡ identifier_pieces r.0 ++ before_key (is_word TransformKey) r.1 → ⊥
     at_id None g e = cc
     at_id (Some j) g e =
-        let same : j.variants ≡ r.0.variants ++ before_key (is_word TransformKey) r.1 =
-        ap (λ (i : SpelledIdentifier). i.variants) (sym (identifier_of-pieces j g.words))
-        ∙ ap (λ l. (identifier_of l).variants) e ∙ repeats_longer r.0 _ r.2 r.4 in
-        r.4 (some_repeat word_cmp (map lower r.0.variants) _
-        (subst (AllDifferent word_cmp) (ap (map lower) same ∙ map-append lower r.0.variants _) g.different))
+        grind (arith, identifier_of-pieces, repeats_longer, some_repeat, map-append)
 
 pub block_no_repeat : (T : LanguageLengths) (b : Block) → lower_singleton b ≡ code_t → IsBlock T b →
     ¬ (RepeatsVariant T b.1)
@@ -265,10 +265,6 @@ block_rules T (e ∷ es) x h k = (
   block_rules T es x h.1 k,
 )
 
-rule_no_x : (T : LanguageLengths) (c : ℕ) (e : Extension) → IsExtension T c e →
-    eq_by_cmp nat_cmp c code_x ≡ false
-rule_no_x T c e h = grind (arith, untied, eqb-false, is_no_x)
-
 any_by : (T : LanguageLengths) (c : ℕ) (es : List (ℕ × Extension)) (x : Option Block) →
     eq_by_cmp nat_cmp c code_x ≡ false →
     list_any (eq_by_cmp nat_cmp c) (map (λ e. lower_singleton e) es) ≡ false →
@@ -286,8 +282,16 @@ pub different_by : (T : LanguageLengths) (es : List (ℕ × Extension)) (x : Opt
     AllDifferent nat_cmp (map (λ b. lower_singleton b) (map extension_block es ++ option_to_list x))
 different_by T [] None h d k = tt
 different_by T [] (Some b) h d k = (both_ways _ refl, tt)
-different_by T (e ∷ es) x h d k =
-    grind (arith, both_ways, any_by, rule_no_x, false_from_ne_true, different_by T es x h.1 d.1 k)
+different_by T (e ∷ es) x h d k = grind (
+  arith,
+  both_ways,
+  any_by,
+  false_from_ne_true,
+  untied,
+  eqb-false,
+  is_no_x,
+  different_by T es x h.1 d.1 k,
+)
 
 pub written_good : {T : ℕ → Bool} (w : Written) → IsWritten T w → AreGood T [] (blocks_of w)
 written_good {T = T} w h =
@@ -330,8 +334,7 @@ extensions_kept (b ∷ bs) e = grind (arith, cases_Bool, pieces-extension_of, ex
 
 pub spelling-written_of : (p : Text) (ps : List Text) → spelling (written_of (p ∷ ps)) ≡ p ∷ ps
 unfolding written_of
-spelling-written_of p ps = (λ i. pieces-identifier_of p (front ps) i
-    ++ flat_map block_pieces (extensions_kept (blocks ps) (ends_at_x ps) i))
+spelling-written_of p ps = (grind (arith, pieces-identifier_of, extensions_kept, ends_at_x))
     ∙ head-and-blocks p ps
 
 pub pieces-written_of : (t : Text) → pieces t ≡ spelling (written_of (pieces t))
@@ -357,12 +360,7 @@ are_read T seen (b ∷ bs) g = at_block g.0.2 (are_read T (lower_singleton b ∷
         rw t (record { rules = tt; different = tt; unseen = tt; private = p })
     at_block (inr q) r =
         let parts = unsee_one (lower_singleton b) seen (extensions_in bs) r.unseen in
-        rw (is_no_x T (lower_singleton b) q.0 q.1) (record {
-          rules = (extension_read T (lower_singleton b) b.1 q, r.rules);
-          different = (both_ways _ parts.0, r.different);
-          unseen = (g.0.1, parts.1);
-          private = r.private;
-        })
+        rw (is_no_x T (lower_singleton b) q.0 q.1) (search (extension_read, both_ways))
 
 -- good blocks make a locale
 
@@ -370,7 +368,7 @@ pub good_written : (T : LanguageLengths) (t : Text) → SpellsIdentifier T (head
     AreGood T [] (tail_blocks (pieces t)) → IsWritten T (written_of (pieces t))
 unfolding written_of
 good_written T t s g = let r = are_read T [] (tail_blocks (pieces t)) g in
-    record { id = identifier_read s; extensions = r.rules; different = r.different; private = r.private }
+    search identifier_read
 
 pub good_means : (T : LanguageLengths) (t : Text) → SpellsIdentifier T (head (pieces t)) →
     AreGood T [] (tail_blocks (pieces t)) → TreeMeans T t (meaning (written_of (pieces t)))
@@ -431,8 +429,7 @@ means_answered {T = T} table t M m =
       (tests_head T t).passes (w.id, h.id, ap head m.spelled ∙ head-spelling w h),
       good_first T [] (tail_blocks (pieces t)) (subst (AreGood T [])
           (sym (ap tail_blocks m.spelled ∙ blocks-spelling table w h)) (written_good w h)),
-    ) (ap Ok
-    (ap (λ ps. meaning (written_of ps)) m.spelled ∙ ap meaning (written_of-spelling table w h) ∙ sym m.means))
+    ) (grind (arith, written_of-spelling))
 
 pub fault_answered : (T : LanguageLengths) (t : Text) {f : Fault} → HasTreeFault T t f →
     locale_result T t ≡ Err f
@@ -441,7 +438,7 @@ fault_answered T t (no_language e) = rw e
 fault_answered T t (no_identifier l n) = rw (l, tests_fails (tests_head T t) n)
 fault_answered T t (bad_block s b) = rw (
   at_pieces (λ ps. SpellsIdentifier T (head ps) → IsWord (Language T) (first_piece ps))
-      (λ p ps s. ap (λ l. is_word (Language T) (first_piece l)) s.2 ∙ s.1.words.language) t s,
+      (grind (arith)) t s,
   (tests_head T t).passes s,
   fault_first T b,
 )

@@ -17,7 +17,7 @@ all_pieces test (p ∷ ps) = grind (arith)
 pub pieces-identifier_of : (p : Text) (ps : List Text) →
     identifier_pieces (identifier_of (p ∷ ps)) ≡ p ∷ ps
 unfolding identifier_of
-pieces-identifier_of p ps = simp (all_pieces)
+pieces-identifier_of p ps = simp all_pieces
 
 pub read_words : (l : Text) (s r : Option Text) (vs : List Text) → IfSome s (IsWord Script) →
     IfSome r (IsWord Region) → AllByRecursion (IsWord Variant) vs →
@@ -34,7 +34,7 @@ read_words l (Some s) (Some r) vs hs hr hv = rw (hs, hr)
 -- what is spelled is read
 pub identifier_of-pieces : {T : ℕ → Bool} (i : SpelledIdentifier) → HasWords T i →
     identifier_of (identifier_pieces i) ≡ i
-identifier_of-pieces i h = search (read_words)
+identifier_of-pieces i h = search read_words
 
 pub one_identifier : {T : ℕ → Bool} (i j : SpelledIdentifier) → HasWords T i → HasWords T j →
     identifier_pieces i ≡ identifier_pieces j → i ≡ j

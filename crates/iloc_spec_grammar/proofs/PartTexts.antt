@@ -46,7 +46,7 @@ pub ruleset join_laws = (join-nothing, join-dashes, dashes-append, join-append)
 -- a locale gives the text of its identifier, and each other piece after a hyphen
 pub text_of_parts : (M : Locale) → text M ≡ identifier_text M.id ++ dashes (extensions_spelling M.extensions)
 unfolding identifier_text
-text_of_parts M = rw (join-append)
+text_of_parts M = rw join-append
 
 -- the pieces of an identifier in lower case
 
@@ -67,7 +67,7 @@ id_pieces-low (Some i) = identifier_pieces-low i
 -- each part, where it is empty and where it isn't
 
 there : (n : ℕ) (ps : List Text) → 0 < n → ps ≡ cond (nat_lt 0 n) ps []
-there n ps l = rw (lt-ltb)
+there n ps l = rw lt-ltb
 
 pub unicode_spelling_is : (u : Unicode) →
     unicode_spelling u

@@ -39,7 +39,7 @@ pub long : (n : ℕ) → 2 ≤ n → (n == 1) ≡ false
 long n h = ne_eqb _ _ (λ e. absurd (omega arith))
 
 pub long_script : (p : Text) → IsWord Script p → IsLong p
-long_script p h = simp (long, length-script)
+long_script p h = simp length-script
 
 pub long_region : (p : Text) → IsWord Region p → IsLong p
 long_region p h = long _ (length-region p h).0
@@ -185,7 +185,7 @@ unfolding unicode_of
 unicode_read u h = search (all_weaker, not_two, keywords_pass, fields_past, fields_read, before_key_read)
 
 pub unicode_of-pieces : (u : SpelledUnicode) → IsUnicodeBlock u → unicode_of (unicode_pieces u) ≡ u
-unicode_of-pieces u h = search (unicode_read)
+unicode_of-pieces u h = search unicode_read
 
 pub pieces-unicode_of : (ps : List Text) → unicode_pieces (unicode_of ps) ≡ ps
 unfolding unicode_of

@@ -137,7 +137,7 @@ first_of_head (p ∷ ps) = refl
 
 language_of_head : (T : LanguageLengths) (t : Text) →
     is_word (Language T) (first_piece (head (pieces t))) ≡ is_word (Language T) (first_piece (pieces t))
-language_of_head T t = rw (first_of_head)
+language_of_head T t = rw first_of_head
 
 pub tree_fault : {T : ℕ → Bool} (t : Text) {f : Fault} → HasFault T t f → HasTreeFault T t f
 tree_fault {T = T} t (in_head (not_a_language e)) = no_language (sym (language_of_head T t) ∙ e)

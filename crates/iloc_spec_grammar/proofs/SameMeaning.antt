@@ -311,10 +311,10 @@ give_mean {T = T} {bs = bs} {e = e} g = search (good_spell, blocks_good, one_ext
 -- whole texts
 
 pub means_by_blocks : {T : ℕ → Bool} (t : Text) (M : Locale) → Means T t M → MeansByBlocks T t M
-means_by_blocks t M m = search (mean_give)
+means_by_blocks t M m = search mean_give
 
 pub blocks_mean : {T : ℕ → Bool} (t : Text) (M : Locale) → MeansByBlocks T t M → Means T t M
-blocks_mean t M m = search (give_mean)
+blocks_mean t M m = search give_mean
 
 pub tree_means : {T : ℕ → Bool} (t : Text) (M : Locale) → Means T t M → TreeMeans T t M
 tree_means {T = T} t M m = blocks_tree T t M (means_by_blocks t M m)

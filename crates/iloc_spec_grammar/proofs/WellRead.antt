@@ -173,7 +173,7 @@ other_entries T (e ∷ es) h = grind (arith, lowercase-lowercase, kept_normal, o
 private_value : (x : Option Block) → IfSome x (λ e. (lower_singleton e ≡ code_x) × IsPrivate e.1) →
     AllByRecursion (IsNormal PrivateSubtag) (private_part x)
 private_value None h = tt
-private_value (Some e) h = search (all_normal)
+private_value (Some e) h = search all_normal
 
 module _ {T : ℕ → Bool} (w : Written) (h : IsWritten T w) where
   others : AllByRecursion IsOtherEntry (extensions_meaning w).others

@@ -14,21 +14,21 @@ module _ {T U : ℕ → Bool} (wider : (n : ℕ) → T n ≡ true → U n ≡ tr
   language p h = grind (arith, and_parts, and_from)
 
   pub identifier : (i : SpelledIdentifier) → IsIdentifier T i → IsIdentifier U i
-  identifier i h = search (language)
+  identifier i h = search language
 
   pub extension : (c : ℕ) (e : Extension) → IsExtension T c e → IsExtension U c e
   extension c (transform m) h = grind (arith, identifier)
   extension c _ h = h
 
   pub identifier_value : (i : Identifier) → IsIdentifierValue T i → IsIdentifierValue U i
-  identifier_value i h = search (language)
+  identifier_value i h = search language
 
   pub value_wider : (M : Locale) → IsValue T M → IsValue U M
   value_wider M h = grind (arith, identifier_value)
 
   pub identifier_means_wider : (ps : List Text) (i : Identifier) → IdentifierMeans T ps i →
       IdentifierMeans U ps i
-  identifier_means_wider ps i m = search (identifier)
+  identifier_means_wider ps i m = search identifier
 
   pub means_wider : (t : Text) (M : Locale) → Means T t M → Means U t M
   means_wider t M m = grind (arith, identifier_means_wider, identifier)
