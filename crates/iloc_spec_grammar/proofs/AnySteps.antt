@@ -1,17 +1,17 @@
 -- The laws of steps between texts, one and any number, by those of the tree.
 use Rattle.std.proofs.Common.{arith, ◌≡◌, ◌↔◌, inl, inr, ℕ, zero, suc, ◌≤◌, false, List, [], ◌∷◌, length, refl}
-use Rattle.std.proofs.Common.{sym, ap, ◌∙◌, subst, ◌==◌, le_of_eq, le_trans}
+use Rattle.std.proofs.Common.{sym, ap, ◌∙◌, ◌==◌, le_of_eq, le_trans}
 use Rattle.std.specs.List.{AllByRecursion}
 use Rattle.std.proofs.lemmas.Bool.{cases_Bool, cond_both, both_ways}
 use Rattle.iloc_spec_grammar.specs.Syntax.{LanguageLengths, Block, code_x, Text, pieces, join, lower}
-use Rattle.iloc_spec_grammar.specs.Syntax.{AreLengths, SpelledIdentifier, Identifier}
+use Rattle.iloc_spec_grammar.specs.Syntax.{AreLengths, Identifier}
 use Rattle.iloc_spec_grammar.specs.Syntax.{identifier_pieces, lower_singleton, is_one_byte, blocks}
 use Rattle.iloc_spec_grammar.specs.Syntax.{head, tail_blocks}
 use Rattle.iloc_spec_grammar.specs.Meaning.{Locale, Means, IdentifierMeans, SpellsIdentifier}
 use Rattle.iloc_spec_grammar.specs.Meaning.{normal_identifier}
 use Rattle.iloc_spec_grammar.specs.Tree.{Extension, Written, extension_pieces, spelling, IsWritten, meaning}
 use Rattle.iloc_spec_grammar.specs.Tree.{tree_text}
-use Rattle.iloc_spec_grammar.specs.Values.{text, lower_identifier, identifier_text, TextStep}
+use Rattle.iloc_spec_grammar.specs.Values.{text, identifier_text, TextStep}
 use Rattle.iloc_spec_grammar.specs.Values.{IdentifierTextStep, Leads, LeadToOne}
 use Rattle.iloc_spec_grammar.specs.TreeSteps.{Step, TreeIdentifierTextStep}
 use Rattle.iloc_spec_grammar.specs.Reading.{written_of, extensions_in}
@@ -50,8 +50,8 @@ text_step_length T t u s = tree.text_step_length T t u (tree_step t u s)
 
 pub chain_means : (T : LanguageLengths) → AreLengths T → (n : ℕ) (t u : Text) (M : Locale) →
     Leads (TextStep T) n t u → Means T t M → Means T u M
-chain_means T table zero t u M c m = subst (λ (s : Text). Means T s M) c m
-chain_means T table (suc n) t u M (inl e) m = subst (λ (s : Text). Means T s M) e m
+chain_means T table zero t u M c m = rw c at m
+chain_means T table (suc n) t u M (inl e) m = rw e at m
 chain_means T table (suc n) t u M (inr c) m =
     chain_means T table n c.0 u M c.2 (text_step_means T table t c.0 M c.1 m)
 
@@ -79,10 +79,6 @@ read_long : (bs : List Block) → AllByRecursion IsLongBlock bs → AreLong (ext
 read_long [] h = tt
 read_long (b ∷ bs) h = grind (arith, cases_Bool, pieces-extension_of, read_long bs h.1)
 
-written_long : (ps : List Text) → AreLong (written_of ps).extensions
-unfolding written_of
-written_long ps = read_long (tail_blocks ps) (tail_long ps)
-
 step_long : {v w : Written} → Step v w → AreLong v.extensions → AreLong w.extensions
 step_long (Step.block_order r) h = all_reordered _ r h
 step_long (Step.inside r {es = es} {fs = fs} s z) h =
@@ -100,13 +96,14 @@ walk T (suc n) t v w h e l s u k =
     let long = step_long s.1 l in
     inr (
       join (spelling s.0),
-      spelled_step t h e (blocks-spelling-long v h l) (blocks-spelling-long s.0 after long) s.1,
+      search (spelled_step, blocks-spelling-long),
       walk T n (join (spelling s.0)) s.0 w after (step_pieces t e s.1) long s.2 u k,
     )
 
 -- at most eight steps lead from each accepted text to the printed text of its meaning
 pub chain_to_text : (T : LanguageLengths) (t : Text) (M : Locale) → Means T t M →
     Leads (TextStep T) 8 t (text M)
+unfolding written_of
 chain_to_text T t M m =
     let w = written_of (pieces t) in
     let id : SpellsIdentifier T (head (pieces t)) = (m.id.written, m.id.grammatical, m.id.spelled) in
@@ -115,7 +112,7 @@ chain_to_text T t M m =
     let s = seven_steps T w h in
     let same : meaning w ≡ M =
     one_by_blocks T t (meaning w) M (read_by_blocks T t id good) (means_by_blocks t M m) in
-    walk T 7 t w s.end h (pieces-written_of t) (written_long (pieces t)) s.steps (text M)
+    walk T 7 t w s.end h (pieces-written_of t) (search (read_long, tail_long)) s.steps (text M)
     (s.same ∙ ap (λ N. lower (tree_text N)) same ∙ ap lower (sym (text_is M)))
 
 -- no text of a meaning is shorter than the printed one
@@ -130,7 +127,7 @@ texts_lead_to_one T table t u L M a b = (
   λ e. record {
     end = text L;
     first = chain_to_text T t L a;
-    second = subst (λ (N : Locale). Leads (TextStep T) 8 u (text N)) (sym e) (chain_to_text T u M b);
+    second = rw e (chain_to_text T u M b);
   },
   λ l. one_meaning table l.end L M (chain_means T table 8 t l.end L l.first a)
       (chain_means T table 8 u l.end M l.second b),
@@ -156,8 +153,8 @@ identifier_step_length T t u s = identifier_text_step_length T t u (tree_identif
 
 pub identifier_chain_means : (T : LanguageLengths) (n : ℕ) (t u : Text) (i : Identifier) →
     Leads (IdentifierTextStep T) n t u → IdentifierMeans T (pieces t) i → IdentifierMeans T (pieces u) i
-identifier_chain_means T zero t u i c m = grind (arith)
-identifier_chain_means T (suc n) t u i (inl e) m = grind (arith)
+identifier_chain_means T zero t u i c m = grind arith
+identifier_chain_means T (suc n) t u i (inl e) m = grind arith
 identifier_chain_means T (suc n) t u i (inr c) m =
     search (identifier_step_means, identifier_chain_means T n c.0 u)
 
@@ -180,10 +177,12 @@ identifier_chain_to_text T t i m =
     let sorted : normal_identifier w ≡ i =
     (identifier_step (identifier_order_step v) m.grammatical).1 ∙ sym m.means in
     let case : lower (join (identifier_pieces w)) ≡ lower (identifier_text i) =
-    lower-identifier_text w
-    ∙ ap (λ (j : SpelledIdentifier). join (identifier_pieces j))
-    (sym (canonical_identifier v m.grammatical.different) ∙ ap lower_identifier sorted)
-    ∙ sym (lower-identifier_text i) in
+    cc (
+      lower-identifier_text w,
+      canonical_identifier v m.grammatical.different,
+      sorted,
+      lower-identifier_text i,
+    ) in
     inr (
       join (identifier_pieces w),
       identifier_step_by_tree t (join (identifier_pieces w))
@@ -204,8 +203,7 @@ identifiers_lead_to_one T t u i j m n = (
   λ e. record {
     end = identifier_text i;
     first = identifier_chain_to_text T t i m;
-    second = subst (λ (k : Identifier). Leads (IdentifierTextStep T) 2 u (identifier_text k)) (sym e)
-        (identifier_chain_to_text T u j n);
+    second = rw e (identifier_chain_to_text T u j n);
   },
   λ l. laws.one_meaning (pieces l.end) i j (identifier_chain_means T 2 t l.end i l.first m)
       (identifier_chain_means T 2 u l.end j l.second n),

@@ -1,5 +1,5 @@
 -- A text means a value block by block as its tree does.
-use Rattle.std.proofs.Common.{◌≡◌, ◌≢◌, ◌⊎◌, inl, inr, ℕ, Bool, true, false, cond, List, [], ◌∷◌, ◌++◌, map}
+use Rattle.std.proofs.Common.{◌≡◌, ◌≢◌, ◌⊎◌, inr, ℕ, Bool, true, false, cond, List, [], ◌∷◌, ◌++◌, map}
 use Rattle.std.proofs.Common.{filter_map, refl, sym, ap, ◌∙◌, subst, arith, Option, Some, None, IfSome}
 use Rattle.std.proofs.Common.{option_map, option_to_list, true≢false}
 use Rattle.std.specs.List.{AllByRecursion, list_any}
@@ -56,19 +56,19 @@ unicode_by : (T : LanguageLengths) (o : Option Extension) → IfSome o (IsExtens
     (p : Option (List Text)) → p ≡ None →
     PartIs UnicodeMeans no_unicode (or_else (option_map extension_pieces o) p) (unicode_part o)
 unfolding or_else
-unicode_by T None h p e = grind (arith)
+unicode_by T None h p e = grind arith
 unicode_by T (Some (unicode u)) h p e = search
 unicode_by T (Some (transform m)) h p e = absurd (let k = h.0 in omega arith)
-unicode_by T (Some (other ps)) h p e = absurd (true≢false (sym h.0))
+unicode_by T (Some (other ps)) h p e = cc
 
 transform_by : (T : LanguageLengths) (o : Option Extension) → IfSome o (IsExtension T code_t) →
     (p : Option (List Text)) → p ≡ None →
     PartIs (TransformMeans T) no_transform (or_else (option_map extension_pieces o) p) (transform_part o)
 unfolding or_else
-transform_by T None h p e = grind (arith)
+transform_by T None h p e = grind arith
 transform_by T (Some (transform m)) h p e = search
 transform_by T (Some (unicode u)) h p e = absurd (let k = h.0 in omega arith)
-transform_by T (Some (other ps)) h p e = absurd (true≢false (sym h.0))
+transform_by T (Some (other ps)) h p e = cc
 
 private_by : (T : LanguageLengths) (o : Option Extension) → IfSome o (IsExtension T code_x) →
     (x : Option Block) → IfSome x (λ e. (lower_singleton e ≡ code_x) × IsPrivate e.1) →
@@ -77,8 +77,8 @@ private_by : (T : LanguageLengths) (o : Option Extension) → IfSome o (IsExtens
     (private_part x)
 unfolding or_else
 private_by T None h None k = refl
-private_by T None h (Some b) k = grind (arith)
-private_by T (Some (other ps)) h x k = absurd (true≢false (sym h.0))
+private_by T None h (Some b) k = grind arith
+private_by T (Some (other ps)) h x k = cc
 private_by T _ h x k = absurd (let k = h.0 in omega arith)
 
 -- the others
@@ -111,18 +111,15 @@ blocks_give T w h =
       letters = all_weaker (λ b. HasSingleton b × IsBlock T b) (λ b. HasSingleton b) (λ b k. k.0) _
           (block_rules T w.extensions w.private h.extensions h.private);
       different = different_by T w.extensions w.private h.extensions h.different h.private;
-      unicode = subst (λ o. PartIs UnicodeMeans no_unicode o (extensions_meaning w).unicode)
-          (sym (find_block code_u w.extensions w.private))
+      unicode = rw (find_block code_u w.extensions w.private)
           (unicode_by T (find nat_cmp code_u (by_singleton w.extensions))
           (find_holds (IsExtension T) code_u w.extensions h.extensions) _
           (no_private code_u (λ e. absurd (omega arith)) w.private h.private));
-      transform = subst (λ o. PartIs (TransformMeans T) no_transform o (extensions_meaning w).transform)
-          (sym (find_block code_t w.extensions w.private))
+      transform = rw (find_block code_t w.extensions w.private)
           (transform_by T (find nat_cmp code_t (by_singleton w.extensions))
           (find_holds (IsExtension T) code_t w.extensions h.extensions) _
           (no_private code_t (λ e. absurd (omega arith)) w.private h.private));
-      private = subst (λ o. PartIs PrivateMeans [] o (extensions_meaning w).private)
-          (sym (find_block code_x w.extensions w.private))
+      private = rw (find_block code_x w.extensions w.private)
           (private_by T (find nat_cmp code_x (by_singleton w.extensions))
           (find_holds (IsExtension T) code_x w.extensions h.extensions) w.private h.private);
       each_other = o.1;
@@ -132,15 +129,9 @@ blocks_give T w h =
 pub tree_by_blocks : (T : LanguageLengths) → AreLengths T → (t : Text) (M : Locale) → TreeMeans T t M →
     MeansByBlocks T t M
 tree_by_blocks T table t M m = subst (MeansByBlocks T t) (sym m.means) (record {
-  id = record {
-    written = m.written.id;
-    grammatical = m.grammatical.id;
-    spelled = ap head m.spelled ∙ head-spelling m.written m.grammatical;
-    means = refl;
-  };
-  extensions = subst (λ bs. BlocksGive (grammar_rules T) bs (extensions_meaning m.written))
-      (sym (ap tail_blocks m.spelled ∙ blocks-spelling table m.written m.grammatical))
-      (blocks_give T m.written m.grammatical);
+  id = grind (arith, head-spelling);
+  extensions = rw (sym (ap tail_blocks m.spelled ∙ blocks-spelling table m.written m.grammatical))
+      at (blocks_give T m.written m.grammatical);
 })
 
 -- and back: each block follows its rule
@@ -158,8 +149,7 @@ find_later P q b bs d h =
     IfSome (find nat_cmp q (by_singleton bs)) P) [
       | true ↦ λ t h. subst (λ (o : Option (List Text)). IfSome o P)
           (sym (none_found bs
-          (subst (λ (c : ℕ). list_any (eq_by_cmp nat_cmp c) (map (λ b. lower_singleton b) bs) ≡ false)
-          (tied q (lower_singleton b) t) d))) tt
+          (grind (arith, tied)))) tt
       | false ↦ λ t h. h
     ]) refl h
   where
@@ -196,7 +186,7 @@ part_rule T q R f empty (Some ps) v h = f ps v h
 
 known : (T : LanguageLengths) (q : ℕ) (f : ℕ → Option (List Text)) → IfSome (f code_u) (RuleAt T code_u) →
     IfSome (f code_t) (RuleAt T code_t) → IfSome (f code_x) (RuleAt T code_x) → IfSome (f q) (KnownAt T q)
-known T q f u t x = grind (arith)
+known T q f u t x = grind arith
 
 others_each : (bs : List Block) → AllByRecursion KeepsWords (other_blocks bs) →
     AllByRecursion (λ b. is_other_singleton (lower_singleton b) ≡ true → IsOther b.1) bs
@@ -227,11 +217,11 @@ blocks_good T bs e m =
     (part_rule T code_t (TransformMeans T)
     (λ ps v h. inr (transform h.written, (refl, h.grammatical), h.spelled)) no_transform _ e.transform
     m.transform)
-    (part_rule T code_x PrivateMeans (λ ps v h. inl (refl, h.0)) [] _ e.private m.private)) in
+    (grind (arith, part_rule))) in
     let rules = all_both _ _ bs m.letters (all_both _ _ bs known_each (others_each bs m.each_other)) in
     good_from T [] bs
     (all_weaker _ (λ b. HasSingleton b × IsBlock T b)
-    (λ b k. (k.0, rule_of T b k.1.0 k.1.1 (kind_of (lower_singleton b) (lower_letter b.0 k.0)))) bs rules)
+    (λ b k. search (rule_of, kind_of, lower_letter)) bs rules)
     m.different (all_of _ (λ b. refl) bs)
 
 -- one value
@@ -277,18 +267,12 @@ pub read_by_blocks : (T : LanguageLengths) (t : Text) → SpellsIdentifier T (he
     AreGood T [] (tail_blocks (pieces t)) → MeansByBlocks T t (meaning (written_of (pieces t)))
 read_by_blocks T t s g =
     let w = written_of (pieces t) in let h = good_written T t s g in record {
-      id = record {
-        written = w.id;
-        grammatical = h.id;
-        spelled = ap head (pieces-written_of t) ∙ head-spelling w h;
-        means = refl;
-      };
-      extensions = subst (λ bs. BlocksGive (grammar_rules T) bs (extensions_meaning w))
-          (blocks_read (pieces t)) (blocks_give T w h);
+      id = grind (arith, pieces-written_of, head-spelling);
+      extensions = rw (blocks_read (pieces t)) at (blocks_give T w h);
     }
 
 pub blocks_tree : (T : LanguageLengths) (t : Text) (M : Locale) → MeansByBlocks T t M → TreeMeans T t M
 blocks_tree T t M m =
     let s : SpellsIdentifier T (head (pieces t)) = (m.id.written, m.id.grammatical, m.id.spelled) in
     let g = blocks_good T (tail_blocks (pieces t)) M.extensions m.extensions in
-    subst (TreeMeans T t) (one_by_blocks T t _ M (read_by_blocks T t s g) m) (good_means T t s g)
+    rw (one_by_blocks T t _ M (read_by_blocks T t s g) m) at (good_means T t s g)

@@ -1,9 +1,8 @@
 -- Steps lead from each text of a meaning to the printed one.
 use Rattle.std.proofs.Common.{◌≡◌, ℕ, ◌<◌, Bool, true, false, cond, not, List, [], ◌∷◌, length, map, filter}
-use Rattle.std.proofs.Common.{refl, ap, ◌∙◌, subst, arith, Option, Some, None, IfSome, option_map}
+use Rattle.std.proofs.Common.{refl, ap, ◌∙◌, arith, Option, Some, None, IfSome, option_map}
 use Rattle.std.specs.Prelude.{codes}
 use Rattle.std.specs.List.{AllByRecursion, AllZip}
-use Rattle.std.specs.FinMap.{is_sorted}
 use Rattle.iloc_spec_grammar.specs.Syntax.{LanguageLengths, Field, Text, Subtag, is_word, lower}
 use Rattle.iloc_spec_grammar.specs.Syntax.{word_cmp, is_true}
 use Rattle.iloc_spec_grammar.specs.Syntax.{SpelledIdentifier, Fields, kept, IsIdentifier, IsField}
@@ -119,8 +118,7 @@ kept_one p ps = at_rest (no_trues (p ∷ ps)) refl (none_true (p ∷ ps))
     at_rest : (qs : List Text) → no_trues (p ∷ ps) ≡ qs →
         AllByRecursion (λ q. is_true (lower q) ≡ false) qs → Kept (p ∷ ps) (or_first qs (p ∷ ps))
     at_rest (q ∷ qs) e n = record {
-      less = subst (Without (λ p. is_true (lower p)) (p ∷ ps)) e
-          (without-filter (λ p. is_true (lower p)) (p ∷ ps));
+      less = rw e at (without-filter (λ p. is_true (lower p)) (p ∷ ps));
       positive = omega arith;
       value = ap spelled_value (no_true_means (q ∷ qs) n);
     }
@@ -128,11 +126,9 @@ kept_one p ps = at_rest (no_trues (p ∷ ps)) refl (none_true (p ∷ ps))
         is_true (lower p) ≡ b → cond (not b) (p ∷ no_trues ps) (no_trues ps) ≡ [] → Kept (p ∷ ps) (p ∷ [])) [
           | true ↦ λ t e. record {
             less = Without.stays
-                (subst (Without (λ p. is_true (lower p)) ps) e
-                (without-filter (λ p. is_true (lower p)) ps));
+                (rw e at (without-filter (λ p. is_true (lower p)) ps));
             positive = omega arith;
-            value = ap (λ b. spelled_value (cond (not b) (lower p ∷ []) [])) t
-                ∙ ap (λ w. w ∷ []) (true_word (lower p) t);
+            value = grind (arith, true_word);
           }
           | false ↦ λ t e. cc
         ]) refl e
@@ -145,15 +141,10 @@ trues_unicode : (fs : Fields) → AllZip TreeLessTrue fs (map (λ f. (f.0, no_tr
 trues_unicode fs = zip_map TreeLessTrue (λ f. Unit {0}) (λ f. (f.0, no_trues f.1))
     (λ f _. (refl, without-filter (λ p. is_true (lower p)) f.1)) fs (all_of _ (λ f. tt) fs)
 
-trues_transform : (fs : Fields) → AllByRecursion IsField fs →
-    AllZip (λ f g. TreeLessTrue f g × (0 < length g.1)) fs (map (λ f. (f.0, keep_one f.1)) fs)
-trues_transform = zip_map (λ f g. TreeLessTrue f g × (0 < length g.1)) IsField (λ f. (f.0, keep_one f.1))
-    (λ f h. let k = kept_some f.1 h.2 in ((refl, k.less), k.positive))
-
 pub trues_step : (T : LanguageLengths) (c : ℕ) (e : Extension) → IsExtension T c e →
     ExtensionStep Trues e (without_trues e)
 trues_step T c (unicode u) h = ExtensionStep.unicode_trues (trues_unicode u.keywords)
-trues_step T c (transform m) h = ExtensionStep.transform_trues (trues_transform m.fields h.1.fields)
+trues_step T c (transform m) h = ExtensionStep.transform_trues (grind (arith, zip_map, kept_some))
 trues_step T c (other ps) h = ExtensionStep.same
 
 without_others : (keep : Text → Bool) (ps : List Text) →
@@ -199,9 +190,8 @@ field_order_step (other ps) d = ExtensionStep.same
 pub keys_differ_then : (e : Extension) →
     KeysDiffer
     (with_sorted_attributes (with_sorted_variants (without_dropped (without_trues (without_repeats e)))))
-keys_differ_then (unicode u) = search (map-map, different-dedup)
-keys_differ_then (transform m) = search (map-map, different-dedup)
 keys_differ_then (other ps) = tt
+keys_differ_then _ = search (map-map, different-dedup)
 
 -- what an extension in order means is its lower case
 
@@ -213,26 +203,19 @@ IsCanonical (other ps) = kept ps ≡ low ps
 sorted_set : (ws : List Text) → AllDifferent word_cmp (map lower ws) →
     set_of (low (sort_words ws)) ≡ low (sort_words ws)
 sorted_set ws d = set_of_ascending (low (sort_words ws))
-    (ascend_as_keys _ (ap (is_sorted word_cmp) (map-map {B = Text} (λ w. (w, w)) lower (sort_words ws))
-    ∙ sorted-sort word_cmp lower word_cmp_total lower ws d))
+    (ascend_as_keys _ (simp (map-map, sorted-sort, word_cmp_total)))
 
 no_true_entries : (fs : Fields) →
     AllByRecursion (λ f. AllByRecursion (λ q. is_true (lower q) ≡ false) f.1) fs →
     map {B = Field} (λ f. (lower f.0, normal_values f.1)) fs ≡ low_fields fs
 no_true_entries fs h = search (map-same, all_weaker, no_true_means)
 
-none_true_fields : (fs : Fields) →
-    AllByRecursion (λ (f : Field). AllByRecursion (λ q. is_true (lower q) ≡ false) f.1)
-    (map (λ f. (f.0, no_trues f.1)) fs)
-none_true_fields fs = all_mapped (λ f. Unit {0}) (λ f. AllByRecursion (λ q. is_true (lower q) ≡ false) f.1)
-    (λ f. (f.0, no_trues f.1)) (λ f _. none_true f.1) fs (all_of _ (λ f. tt) fs)
-
 canonical_keywords : (fs : Fields) → keys_differ fs →
     AllByRecursion (λ f. AllByRecursion (λ q. is_true (lower q) ≡ false) f.1) fs →
     normal_fields (sort_fields fs) ≡ low_fields (sort_fields fs)
 canonical_keywords fs d n =
-    map_of_sorted word_cmp (map (λ f. (lower f.0, normal_values f.1)) (sort_fields fs)) (sorted-sort word_cmp
-    (λ (f : Field). lower f.0) word_cmp_total (λ f. normal_values f.1) fs d)
+    map_of_sorted word_cmp (map (λ f. (lower f.0, normal_values f.1)) (sort_fields fs))
+    (simp (sorted-sort, word_cmp_total))
     ∙ no_true_entries (sort_fields fs)
     (all_reordered (λ f. AllByRecursion (λ q. is_true (lower q) ≡ false) f.1)
     (reordered-sort word_cmp (λ (f : Field). lower f.0) fs) n)
@@ -249,8 +232,7 @@ canonical_fields : (fs : Fields) → keys_differ fs → AllByRecursion IsSpelled
     spelled_fields (normal_fields (sort_fields fs)) ≡ low_fields (sort_fields fs)
 canonical_fields fs d n =
     ap spelled_fields
-    (map_of_sorted word_cmp (map (λ f. (lower f.0, normal_values f.1)) (sort_fields fs)) (sorted-sort word_cmp
-    (λ (f : Field). lower f.0) word_cmp_total (λ f. normal_values f.1) fs d))
+    (simp (map_of_sorted, sorted-sort, word_cmp_total))
     ∙ spelled_entries (sort_fields fs)
     (all_reordered IsSpelled (reordered-sort word_cmp (λ (f : Field). lower f.0) fs) n)
 
@@ -278,7 +260,9 @@ canonical T c (unicode u) h =
     λ i. unicode (record {
       attributes = sorted_set ds (different-dedup (λ (a : Text). a) [] u.attributes) i;
       keywords = canonical_keywords ks (keys_differ_then (unicode u))
-          (none_true_fields (dedup (λ f. f.0) [] u.keywords)) i;
+          (all_mapped (λ f. Unit {0}) (λ f. AllByRecursion (λ q. is_true (lower q) ≡ false) f.1)
+          (λ f. (f.0, no_trues f.1)) (λ f _. none_true f.1) (dedup (λ f. f.0) [] u.keywords)
+          (all_of _ (λ f. tt) (dedup (λ f. f.0) [] u.keywords))) i;
     })
 canonical T c (transform m) h =
     let ds : Fields = dedup (λ f. f.0) [] m.fields in

@@ -1,8 +1,14 @@
 -- Reading doesn't see the case of letters.
-use Rattle.std.proofs.Common.{◌≡◌, ℕ, ◌&&◌, is_some, nat_lt, ◌≤◌, Bool, ◌==◌}
+use Rattle.iloc_spec_grammar.specs.Syntax.{AllDifferent}
+use Rattle.iloc_spec_grammar.specs.Syntax.{IsIdentifier}
+use Rattle.iloc_spec_grammar.specs.Syntax.{IsPrivate}
+use Rattle.iloc_spec_grammar.specs.Tree.{IsExtension}
+use Rattle.std.proofs.Common.{IfSome}
+use Rattle.std.specs.List.{AllByRecursion}
+use Rattle.std.proofs.Common.{◌≡◌, ℕ, ◌&&◌, is_some, ◌≤◌, Bool, ◌==◌}
 use Rattle.std.proofs.Common.{List, [], ◌∷◌, length, map, filter_map, refl, sym, ap, ap₂, ◌∙◌, subst}
-use Rattle.std.proofs.Common.{arith, Option, Some, None, IfSome, option_map}
-use Rattle.std.specs.List.{AllByRecursion, slice_split, onto_first, list_all}
+use Rattle.std.proofs.Common.{arith, Option, Some, None, option_map}
+use Rattle.std.specs.List.{slice_split, onto_first, list_all}
 use Rattle.std.specs.Char.{to_ascii_lowercase}
 use Rattle.std.specs.Ordering.{nat_cmp}
 use Rattle.std.specs.FinMap.{find}
@@ -10,12 +16,12 @@ use Rattle.std.proofs.lemmas.Bool.Decides.{nat_tests}
 use Rattle.std.proofs.lemmas.Str.Ascii.{lowercase-lowercase}
 use Rattle.iloc_spec_grammar.specs.Syntax.{LanguageLengths, Field, Block, code_x, Text}
 use Rattle.iloc_spec_grammar.specs.Syntax.{pieces, join, Kind}
-use Rattle.iloc_spec_grammar.specs.Syntax.{PrivateSubtag, is_word}
+use Rattle.iloc_spec_grammar.specs.Syntax.{is_word}
 use Rattle.iloc_spec_grammar.specs.Syntax.{AreLengths, lower, word_cmp, SpelledIdentifier, Fields}
-use Rattle.iloc_spec_grammar.specs.Syntax.{IsIdentifier, kept, lower_singleton}
-use Rattle.iloc_spec_grammar.specs.Syntax.{AllDifferent, is_one_byte, front, blocks, head, tail_blocks}
-use Rattle.iloc_spec_grammar.specs.Syntax.{first_piece, IsPrivate}
-use Rattle.iloc_spec_grammar.specs.Tree.{Extension, unicode, transform, other, Written, spelling, IsExtension}
+use Rattle.iloc_spec_grammar.specs.Syntax.{kept, lower_singleton}
+use Rattle.iloc_spec_grammar.specs.Syntax.{front, blocks, head, tail_blocks}
+use Rattle.iloc_spec_grammar.specs.Syntax.{first_piece}
+use Rattle.iloc_spec_grammar.specs.Tree.{Extension, unicode, transform, other, Written, spelling}
 use Rattle.iloc_spec_grammar.specs.Tree.{IsWritten, unicode_part, transform_part, private_part, other_part}
 use Rattle.iloc_spec_grammar.specs.Tree.{by_singleton, meaning, TreeMeans}
 use Rattle.iloc_spec_grammar.specs.Meaning.{map_of, normal_identifier, normal_values, Locale}
@@ -23,7 +29,7 @@ use Rattle.iloc_spec_grammar.specs.Values.{lower_identifier}
 use Rattle.iloc_spec_grammar.specs.TreeSteps.{TreeTextStep}
 use Rattle.std.proofs.lemmas.List.{length-map}
 use Rattle.iloc_spec_grammar.specs.Computing.{holds_if_some, all_different, is_identifier, is_keyword}
-use Rattle.iloc_spec_grammar.specs.Computing.{is_field, is_private, is_extension}
+use Rattle.iloc_spec_grammar.specs.Computing.{is_private, is_extension}
 use Rattle.iloc_spec_grammar.proofs.RuleTests.{Tests, tests_and, tests_like, tests_all, tests_if_some}
 use Rattle.iloc_spec_grammar.proofs.RuleTests.{tests_different, tests_nat, tests_identifier, tests_private}
 use Rattle.iloc_spec_grammar.proofs.RuleTests.{tests_extension}
@@ -31,7 +37,7 @@ use Rattle.iloc_spec_grammar.proofs.General.{cond-map, map-then, option_map-then
 use Rattle.iloc_spec_grammar.proofs.WordsLaws.{lower-lower, length-lower, is_word-lower}
 use Rattle.iloc_spec_grammar.proofs.ValuesLaws.{lower_twice, normal-lower_identifier}
 use Rattle.iloc_spec_grammar.specs.Reading.{take_first, skip_first, rest_of, identifier_of, before_key}
-use Rattle.iloc_spec_grammar.specs.Reading.{fields_from, is_two, unicode_of, transform_of, optional_of}
+use Rattle.iloc_spec_grammar.specs.Reading.{fields_from, unicode_of, transform_of, optional_of}
 use Rattle.iloc_spec_grammar.specs.Reading.{extension_of, extensions_in, private_in, written_of}
 use Rattle.iloc_spec_grammar.proofs.Readings.{written_of-spelling}
 use Rattle.iloc_spec_grammar.proofs.Readings.{one_meaning}
@@ -44,12 +50,9 @@ low ps = map lower ps
 
 -- cutting
 
-same_one : (p : Text) → is_one_byte (lower p) ≡ is_one_byte p
-same_one p = ap (λ n. n == 1) (length-lower p)
-
 front-low : (ps : List Text) → front (low ps) ≡ low (front ps)
 front-low [] = refl
-front-low (p ∷ ps) = grind (arith, cond-map, same_one, front-low ps)
+front-low (p ∷ ps) = grind (arith, cond-map, length-lower, front-low ps)
 
 abbrev pub low_block : Block → Block
 low_block b = (to_ascii_lowercase b.0, low b.1)
@@ -106,9 +109,6 @@ low_extension (transform m) =
     transform (record { id = option_map lower_identifier m.id; fields = low_fields m.fields })
 low_extension (other ps) = other (low ps)
 
-same_two : (p : Text) → is_two (lower p) ≡ is_two p
-same_two p = ap (λ n. n == 2) (length-lower p)
-
 optional_of-low : (ps : List Text) → optional_of (low ps) ≡ option_map lower_identifier (optional_of ps)
 optional_of-low [] = refl
 optional_of-low (p ∷ ps) = ap Some (identifier_of-low (p ∷ ps))
@@ -116,15 +116,18 @@ optional_of-low (p ∷ ps) = ap Some (identifier_of-low (p ∷ ps))
 unicode_of-low : (ps : List Text) →
     unicode (unicode_of (low ps)) ≡ low_extension (unicode (unicode_of ps))
 unfolding unicode_of
-unicode_of-low ps = simp (before_key-low, same_two, fields_from-low)
-
-transform_of-low : (ps : List Text) →
-    transform (transform_of (low ps)) ≡ low_extension (transform (transform_of ps))
-unfolding transform_of
-transform_of-low ps = simp (before_key-low, is_word-lower, optional_of-low, fields_from-low)
+unicode_of-low ps = simp (before_key-low, fields_from-low, length-lower)
 
 extension_of-low : (c : ℕ) (ps : List Text) → extension_of c (low ps) ≡ low_extension (extension_of c ps)
-extension_of-low c ps = grind (arith, transform_of-low, unicode_of-low)
+unfolding transform_of
+extension_of-low c ps = grind (
+  arith,
+  unicode_of-low,
+  before_key-low,
+  is_word-lower,
+  optional_of-low,
+  fields_from-low,
+)
 
 abbrev pub low_entries : List (ℕ × Extension) → List (ℕ × Extension)
 low_entries es = map (λ e. (to_ascii_lowercase e.0, low_extension e.1)) es
@@ -161,9 +164,6 @@ written_of-low ps = rw (head-low, identifier_of-low, tail_blocks-low, extensions
 
 -- pieces
 
-hyphen_stays : (c : ℕ) → (to_ascii_lowercase c == 45) ≡ (c == 45)
-hyphen_stays c = grind (arith, nat_tests)
-
 onto-low : (c : ℕ) (ps : List Text) →
     onto_first (to_ascii_lowercase c) (map (map to_ascii_lowercase) ps)
     ≡ map (map to_ascii_lowercase) (onto_first c ps)
@@ -174,7 +174,7 @@ split-low : (t : Text) →
     slice_split (λ b. b == 45) (map to_ascii_lowercase t)
     ≡ map (map to_ascii_lowercase) (slice_split (λ b. b == 45) t)
 split-low [] = refl
-split-low (c ∷ t) = grind (arith, cond-map, hyphen_stays, onto-low, split-low t)
+split-low (c ∷ t) = grind (arith, cond-map, onto-low, nat_tests, split-low t)
 
 pub pieces-lower : (t : Text) → pieces (lower t) ≡ low (pieces t)
 unfolding pieces lower
@@ -200,9 +200,6 @@ low_field f = (lower f.0, low f.1)
 is_keyword-low : (f : Field) → is_keyword (low_field f) ≡ is_keyword f
 is_keyword-low f = simp (is_word-lower, words-low)
 
-is_field-low : (f : Field) → is_field (low_field f) ≡ is_field f
-is_field-low f = simp (is_word-lower, words-low, length-map)
-
 is_some-low : (o : Option SpelledIdentifier) → is_some (option_map lower_identifier o) ≡ is_some o
 is_some-low None = refl
 is_some-low (Some i) = refl
@@ -214,17 +211,17 @@ kept-low (p ∷ ps) = grind (arith, cond-map, is_word-lower, ap₂, lower-lower,
 is_extension-low : (T : LanguageLengths) (c : ℕ) (e : Extension) →
     is_extension T c (low_extension e) ≡ is_extension T c e
 is_extension-low T c (unicode u) = grind (arith, ap₂, words-low, list_all-mapped, is_keyword-low, length-map)
-is_extension-low T c (transform m) =
-    grind (
-      arith,
-      ap₂,
-      option-low,
-      is_identifier-low,
-      list_all-mapped,
-      is_field-low,
-      is_some-low,
-      length-map,
-    )
+is_extension-low T c (transform m) = grind (
+  arith,
+  ap₂,
+  option-low,
+  is_identifier-low,
+  list_all-mapped,
+  is_some-low,
+  is_word-lower,
+  words-low,
+  length-map,
+)
 is_extension-low T c (other ps) = grind (arith, ap₂, list_all-mapped, length-lower, kept-low)
 
 -- the rules of a whole text as one test
@@ -260,15 +257,17 @@ low_entry e = (to_ascii_lowercase e.0, low_extension e.1)
 is_written-low : (T : LanguageLengths) (w : Written) → is_written T (low_written w) ≡ is_written T w
 is_written-low T w =
     let entries = list_all-mapped (is_entry T) low_entry (is_entry T)
-    (λ e. ap (λ c. is_extension T c (low_extension e.1)) (lowercase-lowercase e.0)
-    ∙ is_extension-low T (lower_singleton e) e.1) w.extensions in
+    (search (lowercase-lowercase, is_extension-low)) w.extensions in
     let singletons = map-then (λ (e : ℕ × Extension). lower_singleton e) low_entry (λ e. lower_singleton e)
     (λ e. lowercase-lowercase e.0) w.extensions in
     let private =
-    option-low is_private_block low_block (λ e. ap₂ ◌&&◌ (ap (λ c. c == code_x) (lowercase-lowercase e.0))
-    (ap₂ ◌&&◌ (words-low PrivateSubtag e.1) (ap (nat_lt 0) (length-map e.1 lower)))) w.private in
-    ap₂ ◌&&◌ (ap₂ ◌&&◌ (is_identifier-low T w.id) entries)
-    (ap₂ ◌&&◌ (ap (all_different nat_cmp) singletons) private)
+    option-low is_private_block low_block (search (
+      ap₂,
+      lowercase-lowercase,
+      words-low,
+      length-map,
+    )) w.private in
+    grind (arith, ap₂, is_identifier-low)
 
 -- meanings
 
@@ -326,12 +325,22 @@ case_means T table t u M e m =
     let w = written_of (pieces u) in
     let v_is : written_of (pieces t) ≡ v =
     ap written_of m.spelled ∙ written_of-spelling table v m.grammatical in
-    let same : low_written v ≡ low_written w = ap low_written (sym v_is) ∙ sym (written_of-low (pieces t))
-    ∙ ap written_of (sym (pieces-lower t) ∙ ap pieces e ∙ pieces-lower u) ∙ written_of-low (pieces u) in
+    let same : low_written v ≡ low_written w = cc (
+      v_is,
+      written_of-low (pieces t),
+      pieces-lower t,
+      e,
+      pieces-lower u,
+      written_of-low (pieces u),
+    ) in
     record {
       written = w;
-      grammatical = (tests_written T w).holds (sym (is_written-low T w) ∙ ap (is_written T) (sym same)
-          ∙ is_written-low T v ∙ (tests_written T v).passes m.grammatical);
+      grammatical = (tests_written T w).holds (cc (
+        is_written-low T w,
+        same,
+        is_written-low T v,
+        (tests_written T v).passes m.grammatical,
+      ));
       spelled = pieces-written_of u;
       means = m.means ∙ sym (meaning-low v) ∙ ap meaning same ∙ meaning-low w;
     }
@@ -342,7 +351,7 @@ pub text_step_means : (T : LanguageLengths) → AreLengths T → (t u : Text) (M
 text_step_means T table t u M (TreeTextStep.letter_case e) m = case_means T table t u M e m
 text_step_means T table t u M (TreeTextStep.rewritten {v = v} {w = w} h e s) m =
     subst (TreeMeans T (join (spelling w)))
-    (one_meaning table t (meaning v) M (record { written = v; grammatical = h; spelled = e; means = refl }) m)
+    (search one_meaning)
     (step_means T t h e s)
 
 -- and doesn't lengthen it

@@ -1,7 +1,8 @@
 -- At most eight steps lead from each accepted text to the printed text of its meaning.
-use Rattle.std.proofs.Common.{true≢false, ◌≡◌, ◌≢◌, ◌⊎◌, inl, inr, ℕ, zero, suc, ◌+◌, ◌<◌, Bool, true}
+use Rattle.std.proofs.Common.{option_to_list}
+use Rattle.std.proofs.Common.{◌≡◌, ◌≢◌, ◌⊎◌, inl, inr, ℕ, zero, suc, ◌+◌, ◌<◌, Bool, true}
 use Rattle.std.proofs.Common.{cond, ◌||◌, List, [], ◌∷◌, ◌++◌, length, map, filter_map, flat_map, refl, sym}
-use Rattle.std.proofs.Common.{ap, ◌∙◌, subst, arith, Option, Some, None, IfSome, option_map, option_to_list}
+use Rattle.std.proofs.Common.{ap, ◌∙◌, subst, arith, Option, Some, None, IfSome, option_map}
 use Rattle.std.proofs.Common.{is_some, nat_lt}
 use Rattle.std.specs.List.{AllByRecursion, AllZip}
 use Rattle.std.specs.Char.{to_ascii_lowercase}
@@ -15,7 +16,7 @@ use Rattle.std.proofs.lemmas.Str.Ascii.{lowercase-lowercase}
 use Rattle.iloc_spec_grammar.specs.Syntax.{LanguageLengths, Block, code_x, code_u, code_t, Text, join, lower}
 use Rattle.iloc_spec_grammar.specs.Syntax.{SpelledIdentifier}
 use Rattle.iloc_spec_grammar.specs.Syntax.{Identifier, Fields, identifier_pieces}
-use Rattle.iloc_spec_grammar.specs.Syntax.{fields_pieces, lower_singleton, AllDifferent, IsPrivate}
+use Rattle.iloc_spec_grammar.specs.Syntax.{fields_pieces, lower_singleton, IsPrivate}
 use Rattle.iloc_spec_grammar.specs.Tree.{Extension, unicode, transform, other, Written, extension_pieces}
 use Rattle.iloc_spec_grammar.specs.Tree.{extension_block, block_pieces, blocks_of, spelling, IsExtension}
 use Rattle.iloc_spec_grammar.specs.Tree.{IsWritten, unicode_part, transform_part, private_part, other_part}
@@ -88,15 +89,19 @@ same_text v w e = grind (arith, lower-join, spelling-low)
 
 -- lower case twice
 
-identifier_twice : (i : SpelledIdentifier) → lower_identifier (lower_identifier i) ≡ lower_identifier i
-identifier_twice i = search (same_identifier, lower-lower, option_map-then, lower_twice)
-
 fields_twice : (fs : Fields) → low_fields (low_fields fs) ≡ low_fields fs
 fields_twice fs = search (map-then, lower-lower, lower_twice)
 
 extension_twice : (e : Extension) → low_extension (low_extension e) ≡ low_extension e
 extension_twice (unicode u) = rw (lower_twice, fields_twice)
-extension_twice (transform m) = grind (arith, option_map-then, identifier_twice, fields_twice)
+extension_twice (transform m) = grind (
+  arith,
+  fields_twice,
+  same_identifier,
+  lower-lower,
+  option_map-then,
+  lower_twice,
+)
 extension_twice (other ps) = ap other (lower_twice ps)
 
 entries_twice : (es : List (ℕ × Extension)) → low_entries (low_entries es) ≡ low_entries es
@@ -119,7 +124,7 @@ unicode_found : (T : LanguageLengths) (o : Option Extension) → IfSome o (Fine 
 unicode_found T None h = refl
 unicode_found T (Some (unicode u)) h = grind (arith, low, low_fields, length-map, lt-ltb)
 unicode_found T (Some (transform m)) h = absurd (let k = h.0.0 in omega arith)
-unicode_found T (Some (other ps)) h = absurd (true≢false (sym h.0.0))
+unicode_found T (Some (other ps)) h = cc
 
 needed : (o : Option Identifier) (n : ℕ) → (o ≡ None → 0 < n) → (is_some o || nat_lt 0 n) ≡ true
 needed None n f = lt-ltb 0 n (f refl)
@@ -137,7 +142,7 @@ transform_found T None h = refl
 transform_found T (Some (transform m)) h =
     grind (arith, low_fields, length-map, length-spelled_fields, needed, id_absent)
 transform_found T (Some (unicode u)) h = absurd (let k = h.0.0 in omega arith)
-transform_found T (Some (other ps)) h = absurd (true≢false (sym h.0.0))
+transform_found T (Some (other ps)) h = cc
 
 others_found : (T : LanguageLengths) (q : ℕ) → q ≢ code_t → q ≢ code_u → (es : List (ℕ × Extension)) →
     AllByRecursion (λ e. Fine T (lower_singleton e) e.1) es →
@@ -171,8 +176,7 @@ ending T w h c s i = λ k. record {
 }
   where
     fine : AllByRecursion (λ e. Fine T (lower_singleton e) e.1) w.extensions
-    fine = all_both (λ e. IsExtension T (lower_singleton e) e.1) (λ e. IsCanonical e.1) w.extensions
-        h.extensions c
+    fine = grind (arith, all_both)
 
     v : IsValue T (meaning w)
     v = written_value w h
@@ -182,22 +186,20 @@ ending T w h c s i = λ k. record {
 
     at : (q : ℕ) → (q ≡ code_t) ⊎ (q ≡ code_t → ⊥) → (q ≡ code_u) ⊎ (q ≡ code_u → ⊥) →
         find nat_cmp q (low_entries w.extensions) ≡ find nat_cmp q (printed (meaning w)).extensions
-    at q (inl e) u = subst (λ (q : ℕ).
-        find nat_cmp q (low_entries w.extensions) ≡ find nat_cmp q (printed (meaning w)).extensions)
-        (sym e) (find_entries code_t w.extensions
+    at q (inl e) u = rw e (find_entries code_t w.extensions
         ∙ sym (transform_found T (find nat_cmp code_t (by_singleton w.extensions))
         (find_holds (Fine T) code_t w.extensions fine))
         ∙ sym (back.printed_t (meaning w) v g))
-    at q (inr t) (inl e) = subst (λ (q : ℕ).
-        find nat_cmp q (low_entries w.extensions) ≡ find nat_cmp q (printed (meaning w)).extensions)
-        (sym e) (find_entries code_u w.extensions
+    at q (inr t) (inl e) = rw e (find_entries code_u w.extensions
         ∙ sym (unicode_found T (find nat_cmp code_u (by_singleton w.extensions))
         (find_holds (Fine T) code_u w.extensions fine))
         ∙ sym (back.printed_u (meaning w) v g))
-    at q (inr t) (inr u) = find_entries q w.extensions ∙ sym (others_found T q t u w.extensions fine)
-        ∙ ap (option_map other)
-        (sym (find-map_of nat_cmp nat_cmp_total q (filter_map other_part (by_singleton w.extensions))))
-        ∙ sym (back.printed_other (meaning w) v g q t u)
+    at q (inr t) (inr u) = cc (
+      find_entries q w.extensions,
+      others_found T q t u w.extensions fine,
+      find-map_of nat_cmp nat_cmp_total q (filter_map other_part (by_singleton w.extensions)),
+      back.printed_other (meaning w) v g q t u,
+    )
 
     same : low_entries w.extensions ≡ (printed (meaning w)).extensions
     same = same_entries nat_cmp nat_cmp_total nat_cmp-IsAntisymmetric _ _ (to_T _ s)
@@ -250,8 +252,7 @@ seven_steps T w h =
     let end = written i (sort nat_cmp key (at_all f6 es)) x in
     let steps : Steps 7 w end = (
       written w.id (at_all without_repeats es) x,
-      Step.inside Repeats TreeIdentifierStep.same (zip_map _ (λ e. IsExtension T (lower_singleton e) e.1)
-          (λ e. (e.0, without_repeats e.1)) (λ e _. (refl, repeats_step e.1)) es h.extensions),
+      Step.inside Repeats TreeIdentifierStep.same (search (zip_map, without_repeats, repeats_step)),
       (
         written w.id (at_all f2 es) x,
         Step.inside Trues TreeIdentifierStep.same (stage T Trues without_repeats f2
@@ -287,12 +288,12 @@ seven_steps T w h =
     let after = steps_keep T 7 w end h steps in
     let canonicals = all_mapped (λ e. IsExtension T (lower_singleton e) e.1) (λ e. IsCanonical e.1)
     (λ e. (e.0, f6 e.1)) (λ e k. canonical T (lower_singleton e) e.1 k) es h.extensions in
-    let different = subst (AllDifferent nat_cmp) (sym (map-map key (λ e. (e.0, f6 e.1)) es)) h.different in
+    let different = rw (← (map-map key (λ e. (e.0, f6 e.1)) es)) at h.different in
     let same = ending T end after.0 (all_reordered (λ (e : ℕ × Extension). IsCanonical e.1) sorted canonicals)
     (sorted-sort nat_cmp key nat_cmp_total (λ e. low_extension e.1) (at_all f6 es) different)
     (canonical_identifier w.id h.id.different) in
     record {
       end = end;
       steps = steps;
-      same = same_text end (printed (meaning end)) same ∙ ap (λ N. lower (tree_text N)) after.1;
+      same = cc (same_text end (printed (meaning end)) same, after.1);
     }

@@ -1,6 +1,6 @@
 -- A text is a locale or has exactly one fault.
 use Rattle.std.proofs.Common.{◌≡◌, ◌⊎◌, inl, inr, ℕ, Bool, true, false, cond, not, ◌&&◌, ◌==◌, List, [], ◌∷◌}
-use Rattle.std.proofs.Common.{◌++◌, map, flat_map, refl, sym, ap, ◌∙◌, subst, arith, Option, Some}
+use Rattle.std.proofs.Common.{◌++◌, map, flat_map, refl, sym, ap, ◌∙◌, arith, Option, Some}
 use Rattle.std.proofs.Common.{None, IfSome, MatchOption, Result, Ok, Err, MatchResult, option_to_list}
 use Rattle.std.proofs.Common.{append_assoc, append-nil}
 use Rattle.std.specs.List.{AllByRecursion, list_any}
@@ -125,18 +125,9 @@ repeats_found T (p ∷ ps) x =
 pub tests_repeats : (T : LanguageLengths) (ps : List Text) →
     Tests (repeats_variant T ps) (RepeatsVariant T ps)
 unfolding front_of identifier_of
-tests_repeats T ps = tests_like (repeats_found T ps) (λ (r : RepeatsVariant T ps). (
-  ap (λ l. is_word (Language T) (first_piece l)) r.3 ∙ r.2.language,
-  grind (
-    arith,
-    repeats_longer,
-    front_longest,
-    some_repeat,
-    map-append,
-  ),
-))
-    (tests_and (tests_word (Language T) (first_piece ps))
-    (tests_denied (tests_different word_cmp (map lower (front_of ps).variants))))
+tests_repeats T ps = tests_like (repeats_found T ps) (grind
+    (arith, repeats_longer, front_longest, some_repeat, map-append))
+    (search (tests_and, tests_word, tests_denied, tests_different))
 
 -- a transform whose identifier is good repeats no variant
 
@@ -147,8 +138,7 @@ before_no_key (x ∷ xs) ys h = search (before_no_key xs ys h.1)
 
 good_no_repeat : (T : LanguageLengths) (m : SpelledTransform) → IsTransformBlock T m →
     ¬ (RepeatsVariant T (transform_pieces m))
-good_no_repeat T m h r = at_id m.id h.id (sym (before_key_read (is_word TransformKey) (optional_pieces m.id)
-    m.fields (optional_no_key T m.id h.id) (fields_pass m.fields h.fields))
+good_no_repeat T m h r = at_id m.id h.id (sym (search (before_key_read, optional_no_key, fields_pass))
     ∙ ap (before_key (is_word TransformKey)) r.3
     ∙ before_no_key (identifier_pieces r.0) r.1 (identifier_no_key r.0 r.2))
   where
@@ -356,8 +346,7 @@ are_read T seen (b ∷ bs) g = at_block g.0.2 (are_read T (lower_singleton b ∷
   where
     at_block : IsBlock T b → AreRead T (lower_singleton b ∷ seen) (extensions_in bs) (private_in bs) →
         AreRead T seen (extensions_in (b ∷ bs)) (private_in (b ∷ bs))
-    at_block (inl p) r = let t : (lower_singleton b == code_x) ≡ true = rw p.0 in
-        rw t (record { rules = tt; different = tt; unseen = tt; private = p })
+    at_block (inl p) r = grind (arith)
     at_block (inr q) r =
         let parts = unsee_one (lower_singleton b) seen (extensions_in bs) r.unseen in
         rw (is_no_x T (lower_singleton b) q.0 q.1) (search (extension_read, both_ways))
@@ -427,8 +416,7 @@ means_answered {T = T} table t M m =
     rw (
       ap (λ ps. is_word (Language T) (first_piece ps)) m.spelled ∙ h.id.words.language,
       (tests_head T t).passes (w.id, h.id, ap head m.spelled ∙ head-spelling w h),
-      good_first T [] (tail_blocks (pieces t)) (subst (AreGood T [])
-          (sym (ap tail_blocks m.spelled ∙ blocks-spelling table w h)) (written_good w h)),
+      good_first T [] (tail_blocks (pieces t)) (grind (arith, blocks-spelling, written_good)),
     ) (grind (arith, written_of-spelling))
 
 pub fault_answered : (T : LanguageLengths) (t : Text) {f : Fault} → HasTreeFault T t f →
@@ -438,7 +426,7 @@ fault_answered T t (no_language e) = rw e
 fault_answered T t (no_identifier l n) = rw (l, tests_fails (tests_head T t) n)
 fault_answered T t (bad_block s b) = rw (
   at_pieces (λ ps. SpellsIdentifier T (head ps) → IsWord (Language T) (first_piece ps))
-      (grind (arith)) t s,
+      (grind arith) t s,
   (tests_head T t).passes s,
   fault_first T b,
 )

@@ -9,7 +9,7 @@ use Rattle.std.proofs.lemmas.Bool.{and_parts, or_from}
 -- a function goes into both branches of a test
 pub cond-map : {A B : Type 0} (f : A → B) {b c : Bool} (x y : A) {u v : B} → b ≡ c → u ≡ f x → v ≡ f y →
     cond b u v ≡ f (cond c x y)
-cond-map f {c = c} x y e p q = grind (arith)
+cond-map f {c = c} x y e p q = grind arith
 
 -- two maps, one after the other
 pub map-then : {X Y Z : Type 0} (g : Y → Z) (f : X → Y) (h : X → Z) → ((x : X) → g (f x) ≡ h x) →

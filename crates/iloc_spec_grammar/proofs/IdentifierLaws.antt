@@ -11,7 +11,7 @@ use Rattle.iloc_spec_grammar.proofs.WordsLaws.{region_no_script, variant_no_scri
 pub all_pieces : (test : Text → Bool) (ps : List Text) →
     option_to_list (take_first test ps) ++ skip_first test ps ≡ ps
 all_pieces test [] = refl
-all_pieces test (p ∷ ps) = grind (arith)
+all_pieces test (p ∷ ps) = grind arith
 
 -- reading loses nothing
 pub pieces-identifier_of : (p : Text) (ps : List Text) →

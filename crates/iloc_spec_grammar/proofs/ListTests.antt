@@ -57,7 +57,7 @@ module _ {X : Type 0} (same : X → X → Bool) (q : Equality same) where
       ]) h
 
   at_itself : (x : X) → at_one x x ≡ 1
-  at_itself x = grind (arith)
+  at_itself x = grind arith
 
   -- where each item occurs as often in both lists, they have the same items
   reordered_from_occurrences : (xs ys : List X) → ((z : X) → occurrences z ys ≡ occurrences z xs) →

@@ -56,10 +56,9 @@ first_last x [] = itself (x ∷ [])
 first_last x (y ∷ xs) = Reordered.in_turn Reordered.first_two (Reordered.front_kept (first_last x xs))
 
 pub length_reordered : {X : Type 0} {xs ys : List X} → Reordered xs ys → length xs ≡ length ys
-length_reordered Reordered.none = refl
 length_reordered (Reordered.front_kept r) = ap suc (length_reordered r)
-length_reordered Reordered.first_two = refl
 length_reordered (Reordered.in_turn r s) = length_reordered r ∙ length_reordered s
+length_reordered _ = refl
 
 pub filter_reordered : {X : Type 0} (test : X → Bool) {xs ys : List X} → Reordered xs ys →
     Reordered (filter test xs) (filter test ys)
@@ -87,8 +86,7 @@ filter_reordered test (Reordered.in_turn r s) =
 
 pub or_swap : (a b c : Bool) → (a || (b || c)) ≡ (b || (a || c))
 or_swap true true c = refl
-or_swap true false c = refl
-or_swap false b c = refl
+or_swap _ _ c = refl
 
 pub any_reordered : {X : Type 0} (test : X → Bool) {xs ys : List X} → Reordered xs ys →
     list_any test xs ≡ list_any test ys
@@ -110,13 +108,12 @@ different_reordered R o (Reordered.in_turn r s) h = different_reordered R o s (d
 -- a test that holds of one of two that differ fails at the other
 apart : {K : Type 0} (R : K → K → Ordering) → IsTotalOrder R → (q x y : K) → eq_by_cmp R x y ≡ false →
     eq_by_cmp R q x ≡ true → eq_by_cmp R q y ≡ false
-apart R o q x y d t = grind (arith)
+apart R o q x y d t = grind arith
 
 swap_conds : {A : Type 0} (a b : Bool) (x y z : A) → (a ≡ true → b ≡ false) →
     cond a x (cond b y z) ≡ cond b y (cond a x z)
 swap_conds true true x y z h = absurd (true≢false (h refl))
-swap_conds true false x y z h = refl
-swap_conds false b x y z h = refl
+swap_conds _ _ x y z h = refl
 
 pub find_reordered : {K X : Type 0} (R : K → K → Ordering) → IsTotalOrder R → (q : K) →
     {es fs : List (K × X)} → Reordered es fs → AllDifferent R (map (λ e. e.0) es) → find R q es ≡ find R q fs
@@ -133,10 +130,6 @@ set_of_reordered r = same_set _ _ (λ q. any_reordered (is_same q) r)
 
 -- the later of equal keys are never found
 
-not_tied : {K : Type 0} (R : K → K → Ordering) → IsTotalOrder R → (q x : K) (seen : List K) →
-    list_any (eq_by_cmp R x) seen ≡ true → list_any (eq_by_cmp R q) seen ≡ false → eq_by_cmp R q x ≡ false
-not_tied R o q x seen h n = grind (arith, false_from_ne_true, both_ways, list_any_congr)
-
 pub find_repeats : {X Y : Type 0} (key : X → Text) (value : X → Y) (q : Text) {seen : List Text}
     {xs ys : List X} →
     WithoutRepeats key seen xs ys → list_any (eq_by_cmp word_cmp q) seen ≡ false →
@@ -145,8 +138,8 @@ pub find_repeats : {X Y : Type 0} (key : X → Text) (value : X → Y) (q : Text
 find_repeats key value q WithoutRepeats.none n = refl
 find_repeats {X = X} {Y = Y} key value q (WithoutRepeats.stays {seen = seen} {x = x} {xs = xs} {ys = ys} r)
     n = grind (arith, or_from, find_repeats key value q r)
-find_repeats key value q (WithoutRepeats.left_out {seen = seen} {x = x} {xs = xs} h r) n =
-    grind (arith, not_tied, word_cmp_total, find_repeats key value q r n)
+find_repeats key value q (WithoutRepeats.left_out {seen = seen} {x = x} {xs = xs} h r) n = grind
+    (arith, word_cmp_total, false_from_ne_true, both_ways, list_any_congr, find_repeats key value q r n)
 
 pub map_repeats : {X Y : Type 0} (key : X → Text) (value : X → Y) {xs ys : List X} →
     WithoutRepeats key [] xs ys →

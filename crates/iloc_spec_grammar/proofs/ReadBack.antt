@@ -289,7 +289,7 @@ find_skip q (x ∷ xs) ys h = search (untied, find_skip q xs ys h.1)
 
 find_if : {X : Type 0} (q : ℕ) (b : Bool) (x : X) (ys : List (ℕ × X)) → eq_by_cmp nat_cmp q q ≡ true →
     AllByRecursion (λ e. e.0 ≢ q) ys → find nat_cmp q (cond b ((q, x) ∷ []) [] ++ ys) ≡ cond b (Some x) None
-find_if q true x ys t h = ap (λ b. cond b (Some x) (find nat_cmp q ys)) t
+find_if q true x ys t h = cc
 find_if q false x ys t h = ap (find nat_cmp q) (sym (append-nil ys)) ∙ find_skip q ys [] h
 
 no_parts : (b : Bool) (c : ℕ) (e : Extension) → other_part (c, e) ≡ None →
@@ -376,12 +376,10 @@ module _ {T : ℕ → Bool} (M : Locale) (h : IsValue T M) (g : IsTreeWellFormed
 
   rules : AllByRecursion (λ e. IsExtension T (lower_singleton e) e.1 × OfWords e.1) extensions
   rules = all_extensions (λ e. IsExtension T (lower_singleton e) e.1 × OfWords e.1)
-      (all_plain (λ e. IsExtension T (lower_singleton e) e.1 × OfWords e.1) IsOtherEntry (other_rule T) before
-      entries_before)
+      (search (all_plain, other_rule, entries_before))
       (search (value_transform, transform_nonempty))
-      (λ e. ((refl, value_unicode M.extensions.unicode h.extensions.unicode g.values (ltb-true 0 _ e)), tt))
-      (all_plain (λ e. IsExtension T (lower_singleton e) e.1 × OfWords e.1) IsOtherEntry (other_rule T) after
-      entries_after)
+      (search (value_unicode, ltb-true))
+      (search (all_plain, other_rule, entries_after))
 
   lower_singletons : by_singleton extensions ≡ extensions
   lower_singletons =
@@ -393,7 +391,7 @@ module _ {T : ℕ → Bool} (M : Locale) (h : IsValue T M) (g : IsTreeWellFormed
 
   below_t : AllByRecursion (λ e. e.0 < code_t) (plain_form before)
   below_t = all_plain (λ e. e.0 < code_t) (λ o. IsOtherEntry o × (o.0 ≤ code_t))
-      (λ o x. let n : o.0 ≢ code_t = λ e. no_t o.0 e x.0.0.0 in let l = x.1 in omega arith)
+      (grind (arith, no_t))
       (before_t M.extensions.others) (search (all_both, all_before, entries, before_le))
 
   above_u : AllByRecursion (λ e. 118 ≤ e.0) (plain_form after)
@@ -406,20 +404,19 @@ module _ {T : ℕ → Bool} (M : Locale) (h : IsValue T M) (g : IsTreeWellFormed
   in_order =
       let u : is_sorted nat_cmp (u_part ++ plain_form after) ≡ true = sorted_append 118 u_part
       (plain_form after) (sorted_if has_u _) (all_if (λ e. e.0 < 118) has_u _ (λ _. omega arith))
-      (sorted_plain (after_t M.extensions.others) (sorted_after M.extensions.others g.ascending)) above_u in
+      (search (sorted_plain, sorted_after)) above_u in
       let t : is_sorted nat_cmp (t_part ++ (u_part ++ plain_form after)) ≡ true =
       sorted_append code_u t_part _ (sorted_if has_t _)
       (all_if (λ e. e.0 < code_u) has_t _ (λ _. omega arith)) u
-      (all_append (λ e. code_u ≤ e.0) u_part _ (all_if (λ e. code_u ≤ e.0) has_u _ (λ _. omega arith))
-      (all_weaker (λ e. 118 ≤ e.0) (λ e. code_u ≤ e.0) (λ e l. omega arith) _ above_u)) in
+      (grind (arith, all_append, all_if, all_weaker, above_u)) in
       sorted_append code_t (plain_form before) _
-      (sorted_plain (before_t M.extensions.others) (sorted_before M.extensions.others g.ascending)) below_t t
+      (search (sorted_plain, sorted_before)) below_t t
       (grind (arith, all_append, all_if, all_weaker, above_u))
 
   find_t : find nat_cmp code_t extensions
       ≡ cond has_t (Some (transform (spelled_transform M.extensions.transform))) None
   find_t = find_skip code_t (plain_form before) _
-      (all_weaker (λ e. e.0 < code_t) (λ e. e.0 ≢ code_t) (λ e l. omega arith) _ below_t)
+      (grind (arith, all_weaker, below_t))
       ∙ find_if code_t has_t _ _ refl
       (grind (arith, all_append, all_if, all_weaker, above_u))
 
@@ -429,19 +426,19 @@ module _ {T : ℕ → Bool} (M : Locale) (h : IsValue T M) (g : IsTreeWellFormed
       (grind (arith, all_weaker, below_t))
       ∙ find_skip code_u t_part _ (all_if (λ e. e.0 ≢ code_u) has_t _ (λ _. omega arith))
       ∙ find_if code_u has_u _ _ refl
-      (all_weaker (λ e. 118 ≤ e.0) (λ e. e.0 ≢ code_u) (λ e l. omega arith) _ above_u)
+      (grind (arith, all_weaker, above_u))
 
   others_back : filter_map other_part extensions ≡ M.extensions.others
   others_back = filter_map-append other_part (plain_form before) _
-      ∙ ap₂ ◌++◌ (parts_plain before entries_before) (simp (filter_map-append, no_parts, parts_plain, entries_after))
+      ∙ ap₂ ◌++◌ (parts_plain before entries_before)
+      (simp (filter_map-append, no_parts, parts_plain, entries_after))
       ∙ before-after M.extensions.others
 
   grammatical : IsWritten T (printed M)
   grammatical = record {
     id = value_identifier M.id h.id;
     extensions = grind (arith, extensions_are, all_weaker, rules);
-    different = subst (λ es. AllDifferent nat_cmp (map (λ (e : ℕ × Extension). lower_singleton e) es))
-        (sym extensions_are) (subst (AllDifferent nat_cmp) (keys_lower extensions lower_singletons)
+    different = rw extensions_are (subst (AllDifferent nat_cmp) (keys_lower extensions lower_singletons)
         (sorted_different nat_cmp extensions in_order));
     private = private_rule M.extensions.private h.extensions.private;
   }
@@ -456,8 +453,7 @@ module _ {T : ℕ → Bool} (M : Locale) (h : IsValue T M) (g : IsTreeWellFormed
       keys_lower es e = ap (map (λ e. e.0)) (sym e) ∙ keys_twice es
 
   of_words : AllByRecursion (λ e. OfWords e.1) (printed M).extensions
-  of_words = subst (AllByRecursion (λ e. OfWords e.1)) (sym extensions_are)
-      (grind (arith, all_weaker, rules))
+  of_words = rw extensions_are (grind (arith, all_weaker, rules))
 
   spelled : pieces (tree_text M) ≡ spelling (printed M)
   spelled = pieces_spelled (printed M) grammatical of_words

@@ -37,8 +37,8 @@ normal_of_same k w p h = grind (arith, word_of_word, is_word-same, normal-lower,
 -- what reading a word tells
 pub accepted_from_read : {E : Type 0} (k : Kind) (e : E) (p w : Text) → Ok w ≡ read k e p →
     IsWord k p × (w ≡ normal k p)
-accepted_from_read {E = E} k e p w h = grind (arith)
+accepted_from_read {E = E} k e p w h = grind arith
 
 pub refused_from_read : {E : Type 0} (k : Kind) (e f : E) (p : Text) → Err f ≡ read k e p →
     (is_word k p ≡ false) × (f ≡ e)
-refused_from_read {E = E} k e f p h = grind (arith)
+refused_from_read {E = E} k e f p h = grind arith

@@ -1,7 +1,7 @@
 -- The reading from the left takes what is spelled, and nothing else.
 use Rattle.std.proofs.Common.{◌≡◌, ◌≢◌, ℕ, ◌≤◌, Bool, true, false, List, [], ◌∷◌, ◌++◌, length, map}
-use Rattle.std.proofs.Common.{refl, sym, ap, ◌∙◌, subst, arith, Option, Some, None, IfSome, option_to_list}
-use Rattle.std.proofs.Common.{append_assoc, append-nil, length-append, true≢false}
+use Rattle.std.proofs.Common.{refl, sym, ap, ◌∙◌, arith, Option, Some, None, IfSome, option_to_list}
+use Rattle.std.proofs.Common.{append_assoc, append-nil, length-append}
 use Rattle.std.specs.List.{AllByRecursion}
 use Rattle.std.proofs.lemmas.List.{append_cancel_left, append_cancel_right}
 use Rattle.std.proofs.lemmas.Bool.{false_from_ne_true, cond_both}
@@ -63,14 +63,12 @@ unfolding front_of identifier_of
 front_of-pieces i h =
     ap (λ (j : SpelledIdentifier). record j { variants = passing (is_word Variant) j.variants })
     (identifier_of-pieces i h)
-    ∙ (λ k. record i { variants = keep_all (is_word Variant) i.variants h.variants k })
+    ∙ (search keep_all)
 
 pub after_front-pieces : {T : ℕ → Bool} (i : SpelledIdentifier) → HasWords T i →
     after_front (identifier_pieces i) ≡ []
 after_front-pieces i h = append_cancel_left (identifier_pieces i) _ []
-    (ap (λ j. identifier_pieces j ++ after_front (identifier_pieces i)) (sym (front_of-pieces i h))
-    ∙ pieces-front_of i.language (option_to_list i.script ++ (option_to_list i.region ++ i.variants))
-    ∙ sym (append-nil _))
+    (grind (arith, front_of-pieces, pieces-front_of, append-nil))
 
 -- what follows does not change the reading, where it begins with no such word
 
@@ -124,12 +122,16 @@ block_no_script p h = grind (arith, false_from_ne_true, length-script, one_byte)
 block_no_region : (p : Text) → is_one_byte p ≡ true → is_word Region p ≡ false
 block_no_region p h = grind (arith, false_from_ne_true, length-region, one_byte)
 
-block_no_variant : (p : Text) → is_one_byte p ≡ true → is_word Variant p ≡ false
-block_no_variant p h = grind (arith, false_from_ne_true, length-variant, one_byte)
-
 pub starts_ends : (rest : List Text) → starts_block rest ≡ true → EndsWords rest
 starts_ends [] h = search
-starts_ends (p ∷ rest) h = search (block_no_script, block_no_region, block_no_variant)
+starts_ends (p ∷ rest) h = grind (
+  arith,
+  block_no_script,
+  block_no_region,
+  false_from_ne_true,
+  length-variant,
+  one_byte,
+)
 
 pub front-from_block : (ps : List Text) → front ps ++ from_block ps ≡ ps
 front-from_block [] = refl
@@ -164,7 +166,7 @@ after_long p ps h = search (skip_while_keeps, skip_first_keeps)
 pub starts_empty : (xs rest : List Text) → AllByRecursion IsLong xs → starts_block (xs ++ rest) ≡ true →
     xs ≡ []
 starts_empty [] rest h s = refl
-starts_empty (x ∷ xs) rest h s = absurd (true≢false (sym s ∙ h.0))
+starts_empty (x ∷ xs) rest h s = cc
 
 -- What the reading from the left says of a front, the pieces before where it should end.
 
@@ -179,17 +181,7 @@ module _ (T : LanguageLengths) (p : Text) (ps rest : List Text) (ends : EndsWord
       IdentifierMeans T (p ∷ ps) (normal_identifier (front_of (p ∷ (ps ++ rest))))
   front_means w d e =
       let same = front_of-append p ps rest ends in
-      record {
-        written = front_of (p ∷ ps);
-        grammatical = record {
-          words = front_words (p ∷ ps) w;
-          different = subst (λ i. AllDifferent word_cmp (map lower i.variants)) same d;
-        };
-        spelled =
-            sym (sym (ap (λ l. identifier_pieces (front_of (p ∷ ps)) ++ l) (nothing_left e) ∙ append-nil _)
-            ∙ pieces-front_of p ps);
-        means = ap normal_identifier same;
-      }
+      grind (arith, front_words, nothing_left, append-nil, pieces-front_of)
 
   spelled_front : (s : SpellsIdentifier T (p ∷ ps)) → front_of (p ∷ ps) ≡ s.0
   spelled_front s = grind (arith, front_of-pieces)
@@ -199,8 +191,7 @@ module _ (T : LanguageLengths) (p : Text) (ps rest : List Text) (ends : EndsWord
 
   pub refuses_repeat : ¬ (AllDifferent word_cmp (map lower (front_of (p ∷ (ps ++ rest))).variants)) →
       ¬ (SpellsIdentifier T (p ∷ ps))
-  refuses_repeat n s = n (subst (λ i. AllDifferent word_cmp (map lower i.variants))
-      (sym (front_of-append p ps rest ends ∙ spelled_front s)) s.1.different)
+  refuses_repeat n s = n (rw (sym (front_of-append p ps rest ends ∙ spelled_front s)) at s.1.different)
 
 -- The reading takes as much as can be taken.
 
@@ -229,14 +220,10 @@ after_words (Some s) None [] more hs hr hv = rw hs (omega (arith, length-past, s
 after_words (Some s) None (v ∷ vs) more hs hr hv = grind (arith, variant_no_region, skip_taken)
 after_words (Some s) (Some r) vs more hs hr hv = grind (arith, skip_taken)
 
-after_spelled : {T : ℕ → Bool} (j : SpelledIdentifier) (more : List Text) → HasWords T j →
-    length (after_front (identifier_pieces j ++ more)) ≤ length more
-unfolding after_front
-after_spelled j more h = search (append_assoc, after_words)
-
 longer : (xs ys zs ws : List Text) → xs ++ ys ≡ zs ++ ws → length ys ≤ length ws → length zs ≤ length xs
 longer xs ys zs ws e h = omega (arith, length-append xs ys, length-append zs ws, ap length e)
 
 pub front_is_front : {T : ℕ → Bool} (p : Text) (ps : List Text) → IsWord (Language T) p →
     IdentifierFront T (p ∷ ps) (front_of (p ∷ ps)) (after_front (p ∷ ps))
-front_is_front p ps h = grind (arith, front_words, pieces-front_of, longer, after_spelled)
+unfolding after_front
+front_is_front p ps h = grind (arith, front_words, pieces-front_of, longer, append_assoc, after_words)

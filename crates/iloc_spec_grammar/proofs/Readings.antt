@@ -1,7 +1,7 @@
 -- Each spelling has one reading: blocks end at pieces of one byte, and fields at keys.
 use Rattle.std.proofs.Common.{◌≡◌, ◌≢◌, ℕ, ◌≤◌, Bool, true, false, ◌==◌, List, [], ◌∷◌}
 use Rattle.std.proofs.Common.{◌++◌, length, map, flat_map, refl, ap, ◌∙◌, arith, Option, Some, None}
-use Rattle.std.proofs.Common.{IfSome, option_to_list, true≢false, slice_index, append-nil}
+use Rattle.std.proofs.Common.{IfSome, option_to_list, slice_index, append-nil}
 use Rattle.std.specs.List.{AllByRecursion, list_all}
 use Rattle.std.specs.Char.{is_ascii_alphabetic, is_ascii_digit}
 use Rattle.std.proofs.lemmas.Bool.{and_parts, false_from_ne_true, or_cases, ne_eqb, eqb-true}
@@ -63,7 +63,7 @@ long_identifier : (T : LanguageLengths) → AreLengths T → (i : SpelledIdentif
 long_identifier T t i h = grind (arith, long, length-language, long_after_language)
 
 long_key : (p : Text) → length p ≡ 2 → IsLong p
-long_key p h = long _ (omega arith)
+long_key p h = cc
 
 pub long_between : (p : Text) → is_in_range 2 8 (length p) ≡ true → IsLong p
 long_between p h = grind (arith, nat_tests)
@@ -71,7 +71,7 @@ long_between p h = grind (arith, nat_tests)
 pub long_extension : (T : LanguageLengths) → AreLengths T → (c : ℕ) (e : Extension) → IsExtension T c e →
     AllByRecursion IsLong (extension_pieces e)
 long_extension T t c (unicode u) h = all_append IsLong u.attributes _
-    (all_weaker (IsWord Attribute) IsLong long_attribute u.attributes h.1.attributes) (fields_each IsLong
+    (search (all_weaker, long_attribute)) (fields_each IsLong
     UnicodeKey (λ p k. long_key p (length-unicode_key p k)) long_attribute u.keywords h.1.keywords)
 long_extension T t c (transform m) h = all_append IsLong (optional_pieces m.id) _
     (optional_each IsLong T (long_identifier T t) m.id h.1.id) (fields_each IsLong TransformKey
@@ -88,7 +88,7 @@ front_before (x ∷ xs) bs h = search (front_before xs bs h.1)
 
 pub blocks_skip : (p : Text) (ps : List Text) → IsLong p → blocks (p ∷ ps) ≡ blocks ps
 blocks_skip [] ps h = refl
-blocks_skip (c ∷ []) ps h = absurd (true≢false h)
+blocks_skip (c ∷ []) ps h = cc
 blocks_skip (c ∷ d ∷ p) ps h = refl
 
 pub blocks_past : (xs ys : List Text) → AllByRecursion IsLong xs → blocks (xs ++ ys) ≡ blocks ys
@@ -116,10 +116,6 @@ is_120 (Some b) h = rw h.0
 abbrev pub AreLong : List (ℕ × Extension) → Type 0
 AreLong es = AllByRecursion (λ e. AllByRecursion IsLong (extension_pieces e.1)) es
 
-pub long_extensions : {T : ℕ → Bool} → AreLengths T → (es : List (ℕ × Extension)) →
-    AllByRecursion (λ e. IsExtension T (lower_singleton e) e.1) es → AreLong es
-long_extensions {T = T} t = search (all_weaker, long_extension)
-
 extension_blocks : (T : LanguageLengths) (es : List (ℕ × Extension)) →
     AllByRecursion (λ e. IsExtension T (lower_singleton e) e.1) es → AreLong es →
     AllByRecursion (λ b. ((lower_singleton b == code_x) ≡ false) × AllByRecursion IsLong b.1)
@@ -139,7 +135,7 @@ blocks-spelling-long {T = T} w h l = blocks_past (after_language w.id) _ (long_a
 
 pub blocks-spelling : {T : ℕ → Bool} → AreLengths T → (w : Written) → IsWritten T w →
     tail_blocks (spelling w) ≡ blocks_of w
-blocks-spelling t w h = search (blocks-spelling-long, long_extensions)
+blocks-spelling t w h = search (blocks-spelling-long, all_weaker, long_extension)
 
 -- fields
 
@@ -178,7 +174,7 @@ two p h = rw (length-unicode_key p h)
 
 pub keywords_pass : (fs : Fields) → AllByRecursion IsKeyword fs → KeysPass is_two fs
 keywords_pass = all_weaker IsKeyword (λ f. (is_two f.0 ≡ true) × AllByRecursion (λ p. is_two p ≡ false) f.1)
-    (λ f h. (two f.0 h.0, all_weaker (IsWord Attribute) (λ p. is_two p ≡ false) not_two f.1 h.1))
+    (grind (arith, two, all_weaker, not_two))
 
 pub unicode_read : (u : SpelledUnicode) → IsUnicode u → unicode_of (unicode_pieces u) ≡ u
 unfolding unicode_of
@@ -199,21 +195,24 @@ IsNoKey p = is_word TransformKey p ≡ false
 no_key_by_length : (p : Text) → length p ≢ 2 → IsNoKey p
 no_key_by_length p h = false_from_ne_true _ (λ k. h (length-transform_key p k))
 
-second_digit : (p : Text) → IsWord TransformKey p → is_ascii_digit (slice_index p 1) ≡ true
-unfolding is_word
-second_digit p h = (and_parts _ _ (and_parts _ _ h).1).1
-
 digit_no_letter : (c : ℕ) → is_ascii_digit c ≡ true → is_ascii_alphabetic c ≡ true → ⊥
 digit_no_letter c h k = grind (arith, nat_tests)
 
 second_letter : (p : Text) → list_all is_ascii_alphabetic p ≡ true → length p ≡ 2 →
     is_ascii_alphabetic (slice_index p 1) ≡ true
 second_letter (c ∷ d ∷ p) h e = (and_parts _ _ (and_parts _ _ h).1).0
-second_letter _ h e = absurd (omega arith)
+second_letter _ h e = cc
 
 letters_no_key : (p : Text) → list_all is_ascii_alphabetic p ≡ true → IsNoKey p
-letters_no_key p h = false_from_ne_true _
-    (λ k. digit_no_letter (slice_index p 1) (second_digit p k) (second_letter p h (length-transform_key p k)))
+unfolding is_word
+letters_no_key p h = grind (
+  arith,
+  false_from_ne_true,
+  digit_no_letter,
+  second_letter,
+  length-transform_key,
+  and_parts,
+)
 
 pub language_no_key : (T : LanguageLengths) (p : Text) → IsWord (Language T) p → IsNoKey p
 unfolding is_word
@@ -245,7 +244,7 @@ optional_no_key T = optional_each IsNoKey T identifier_no_key
 
 pub fields_pass : (fs : Fields) → AllByRecursion IsField fs → KeysPass (is_word TransformKey) fs
 fields_pass = all_weaker IsField (λ f. (is_word TransformKey f.0 ≡ true) × AllByRecursion IsNoKey f.1)
-    (λ f h. (h.0, all_weaker (IsWord Attribute) IsNoKey attribute_no_key f.1 h.1))
+    (grind (arith, all_weaker, attribute_no_key))
 
 optional_read : (T : LanguageLengths) (o : Option SpelledIdentifier) → IfSome o (IsIdentifier T) →
     optional_of (optional_pieces o) ≡ o
@@ -298,13 +297,9 @@ pub written_of-spelling : {T : ℕ → Bool} → AreLengths T → (w : Written) 
 unfolding written_of
 written_of-spelling {T = T} t w h =
     let id : identifier_of (head (spelling w)) ≡ w.id =
-    ap identifier_of (head-spelling w h) ∙ identifier_of-pieces w.id h.id.words in
+    grind (arith, head-spelling, identifier_of-pieces) in
     let parts = parts_read T w.extensions w.private h.extensions (is_120 w.private h.private) in
-    let extensions : extensions_in (tail_blocks (spelling w)) ≡ w.extensions =
-    ap extensions_in (blocks-spelling t w h) ∙ parts.0 in
-    let private : private_in (tail_blocks (spelling w)) ≡ w.private =
-    ap private_in (blocks-spelling t w h) ∙ parts.1 in
-    λ i. record { id = id i; extensions = extensions i; private = private i }
+    grind (arith, blocks-spelling)
 
 -- a text means one value at most
 pub one_meaning : {T : ℕ → Bool} → AreLengths T → (t : Text) (L M : Locale) → TreeMeans T t L →

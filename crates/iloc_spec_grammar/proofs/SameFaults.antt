@@ -1,6 +1,6 @@
 -- The fault of a text is the same by its blocks as by its tree.
 use Rattle.std.proofs.Common.{arith, ◌≡◌, ◌⊎◌, inl, inr, ℕ, Bool, true, false, ◌||◌, List, [], ◌∷◌, ◌++◌, refl, sym}
-use Rattle.std.proofs.Common.{ap, ◌∙◌, subst, true≢false, Result, Ok, Err, MatchResult, ◌↔◌, map}
+use Rattle.std.proofs.Common.{ap, ◌∙◌, true≢false, Result, Ok, Err, MatchResult, ◌↔◌, map}
 use Rattle.std.specs.List.{list_any}
 use Rattle.std.specs.Char.{is_ascii_alphanumeric}
 use Rattle.std.specs.Ordering.{nat_cmp, eq_by_cmp}
@@ -53,11 +53,10 @@ no_second b good e s = true≢false (sym s ∙ sym (seen_is b good) ∙ e)
 
 second_letter : (T : LanguageLengths) (seen : List ℕ) (b : Block) (good : List Block) →
     AreGood T seen good → IsSecond good b → HasSingleton b
-second_letter T seen b [] g s = absurd (true≢false (sym s))
+second_letter T seen b [] g s = cc
 second_letter T seen b (c ∷ cs) g s =
     elim (or_cases (eq_by_cmp nat_cmp (lower_singleton b) (lower_singleton c)) _ s) [
-      | inl e ↦ letter b.0 (subst (λ (n : ℕ). is_ascii_alphanumeric n ≡ true)
-          (tied (lower_singleton b) (lower_singleton c) e) (lower_letter c.0 g.0.0))
+      | inl e ↦ grind (arith, letter, tied, lower_letter)
       | inr e ↦ second_letter T (lower_singleton c ∷ seen) b cs g.1 e
     ]
 
@@ -121,10 +120,6 @@ bad_split T (later {b = b} a e g x) = let r = bad_split T x in record {
   bad = r.bad;
 }
 
-pub first_bad : {T : ℕ → Bool} {bs : List Block} {f : Fault} → HasBlockFault T bs f →
-    FirstBadBlock T [] bs f
-first_bad {T = T} {f = f} (good, b, rest, e, a, x) = grind (arith, good_blocks, after_good, tree_block_fault)
-
 pub fault_of_first : {T : ℕ → Bool} {bs : List Block} {f : Fault} → FirstBadBlock T [] bs f →
     HasBlockFault T bs f
 fault_of_first {T = T} x = grind (arith, bad_split, blocks_spelled, block_fault_by_tree)
@@ -142,7 +137,7 @@ language_of_head T t = rw first_of_head
 pub tree_fault : {T : ℕ → Bool} (t : Text) {f : Fault} → HasFault T t f → HasTreeFault T t f
 tree_fault {T = T} t (in_head (not_a_language e)) = no_language (sym (language_of_head T t) ∙ e)
 tree_fault {T = T} t (in_head (not_an_identifier l n)) = no_identifier (sym (language_of_head T t) ∙ l) n
-tree_fault t (in_block s x) = bad_block s (first_bad x)
+tree_fault t (in_block s x) = bad_block s (grind (arith, good_blocks, after_good, tree_block_fault))
 
 pub fault_by_tree : {T : ℕ → Bool} (t : Text) {f : Fault} → HasTreeFault T t f → HasFault T t f
 fault_by_tree {T = T} t (no_language e) = in_head (not_a_language (language_of_head T t ∙ e))

@@ -1,7 +1,6 @@
 -- A step keeps the rules, the meaning and the sums over the pieces.
 use Rattle.std.proofs.Common.{◌≡◌, ℕ, ◌+◌, ◌<◌, Bool, true, false, cond, List, [], ◌∷◌, length, map}
 use Rattle.std.proofs.Common.{filter_map, refl, sym, ap, ◌∙◌, subst, arith, Option, Some, None}
-use Rattle.std.proofs.Common.{true≢false}
 use Rattle.std.specs.List.{AllByRecursion, list_any, AllZip, cons_option}
 use Rattle.std.specs.Char.{to_ascii_lowercase}
 use Rattle.std.specs.Ordering.{nat_cmp, eq_by_cmp}
@@ -9,7 +8,7 @@ use Rattle.std.specs.Cmp.{nat_cmp_total}
 use Rattle.std.specs.FinMap.{find, nat_cmp-IsAntisymmetric}
 use Rattle.std.proofs.lemmas.Bool.{or_parts, or_from, not-true, both_ways, false_from_ne_true}
 use Rattle.iloc_spec_grammar.specs.Syntax.{LanguageLengths, Field, Block, code_u, code_t, Text, Variant}
-use Rattle.iloc_spec_grammar.specs.Syntax.{UnicodeKey, TransformKey, Attribute}
+use Rattle.iloc_spec_grammar.specs.Syntax.{Attribute}
 use Rattle.iloc_spec_grammar.specs.Syntax.{IsWord, lower, word_cmp, is_true, SpelledIdentifier, Fields}
 use Rattle.iloc_spec_grammar.specs.Syntax.{IsIdentifier, IsKeyword, IsField, lower_singleton}
 use Rattle.iloc_spec_grammar.specs.Syntax.{AllDifferent}
@@ -74,21 +73,21 @@ entries_less = map-zip TreeLessTrue entry entry (λ f g z i. (lower (z.0 i), val
 keywords_less : (fs gs : Fields) → AllZip TreeLessTrue fs gs → AllByRecursion IsKeyword fs →
     AllByRecursion IsKeyword gs
 keywords_less = all_zip TreeLessTrue IsKeyword IsKeyword
-    (λ f g z h. (subst (IsWord UnicodeKey) z.0 h.0, all_without (IsWord Attribute) _ z.1 h.1))
+    (grind (arith, all_without))
 
 abbrev LessKept : Field → Field → Type 0
 LessKept f g = TreeLessTrue f g × (0 < length g.1)
 
 fields_less : (fs gs : Fields) → AllZip LessKept fs gs → AllByRecursion IsField fs → AllByRecursion IsField gs
 fields_less = all_zip LessKept IsField IsField
-    (λ f g z h. (subst (IsWord TransformKey) z.0.0 h.0, all_without (IsWord Attribute) _ z.0.1 h.1, z.1))
+    (grind (arith, all_without))
 
 -- leaving out repeats leaves something, where nothing was seen
 some_left : {X : Type 0} (key : X → Text) {xs ys : List X} → WithoutRepeats key [] xs ys → 0 < length xs →
     0 < length ys
 some_left key WithoutRepeats.none h = h
 some_left key (WithoutRepeats.stays r) h = omega arith
-some_left key (WithoutRepeats.left_out e r) h = absurd (true≢false (sym e))
+some_left key (WithoutRepeats.left_out e r) h = cc
 
 -- extensions
 
@@ -122,7 +121,7 @@ fields_step : (T : LanguageLengths) (c : ℕ) (i : Option SpelledIdentifier) (fs
     → IsExtension T c (transform_extension i fs) →
     IsExtension T c (transform_extension i gs)
     × SameParts (transform_extension i fs) (transform_extension i gs)
-fields_step T c i fs gs k n q h = grind (arith)
+fields_step T c i fs gs k n q h = grind arith
 
 pub extension_step : (T : LanguageLengths) {r : TreeRule} {e f : Extension} (c : ℕ) → ExtensionStep r e f →
     IsExtension T c e → IsExtension T c f × SameParts e f
@@ -168,10 +167,6 @@ rules_step : (T : LanguageLengths) (r : TreeRule) (es fs : List (ℕ × Extensio
     AllByRecursion (λ e. IsExtension T (lower_singleton e) e.1) fs
 rules_step T r = grind (arith, all_zip, extension_step)
 
-singletons_step : (r : TreeRule) (es fs : List (ℕ × Extension)) → Steps r es fs →
-    map (λ (e : ℕ × Extension). lower_singleton e) es ≡ map (λ f. lower_singleton f) fs
-singletons_step r = grind (arith, map-zip)
-
 -- a part that is looked up
 part_step : {A : Type 0} (T : LanguageLengths) (part : Option Extension → A) →
     ((e f : Extension) → SameParts e f → part (Some f) ≡ part (Some e)) →
@@ -207,8 +202,7 @@ find_blocks : {es fs : List (ℕ × Extension)} → Reordered es fs →
     AllDifferent nat_cmp (map (λ e. lower_singleton e) es) → (q : ℕ) →
     find nat_cmp q (by_singleton es) ≡ find nat_cmp q (by_singleton fs)
 find_blocks {es = es} r d q = find_reordered nat_cmp nat_cmp_total q
-    (map_reordered (λ (e : ℕ × Extension). (lower_singleton e, e.1)) r) (subst (AllDifferent nat_cmp)
-    (sym (map-map (λ (e : ℕ × Extension). e.0) (λ e. (lower_singleton e, e.1)) es)) d)
+    (map_reordered (λ (e : ℕ × Extension). (lower_singleton e, e.1)) r) (search map-map)
 
 filter_map_reordered : {X Y : Type 0} (h : X → Option Y) {xs ys : List X} → Reordered xs ys →
     Reordered (filter_map h xs) (filter_map h ys)
@@ -261,9 +255,8 @@ others_reordered : {es fs : List (ℕ × Extension)} → Reordered es fs →
 others_reordered {es = es} {fs = fs} r d = map_of_same nat_cmp nat_cmp_total nat_cmp-IsAntisymmetric
     (filter_map other_part (by_singleton es)) (filter_map other_part (by_singleton fs))
     (λ q. find_reordered nat_cmp nat_cmp_total q
-    (filter_map_reordered other_part (map_reordered (λ (e : ℕ × Extension). (lower_singleton e, e.1)) r))
-    (different_others (by_singleton es) (subst (AllDifferent nat_cmp)
-    (sym (map-map (λ (e : ℕ × Extension). e.0) (λ e. (lower_singleton e, e.1)) es)) d)))
+    (search (filter_map_reordered, map_reordered))
+    (search (different_others, map-map)))
 
 -- written locales of which each part means the same
 pub same_parts : (v w : Written) → normal_identifier v.id ≡ normal_identifier w.id →
@@ -299,7 +292,7 @@ written_step T (Step.inside r {i = i} {j = j} {es = es} {fs = fs} {x = x} s z) h
       record {
         id = p.0;
         extensions = rules_step T r es fs z h.extensions;
-        different = subst (AllDifferent nat_cmp) (singletons_step r es fs z) h.different;
+        different = subst (AllDifferent nat_cmp) (grind (arith, map-zip)) h.different;
         private = h.private;
       },
       same_parts (record { id = j; extensions = fs; private = x })

@@ -1,6 +1,6 @@
 -- A step lengthens no text, and makes no hyphen.
 use Rattle.std.proofs.Common.{◌≡◌, ℕ, false, ◌+◌, ◌<◌, ◌≤◌, Bool, cond, ◌==◌, List, [], ◌∷◌, length, map}
-use Rattle.std.proofs.Common.{flat_map, refl, sym, ap, ◌∙◌, arith, option_to_list, le_refl, length-append}
+use Rattle.std.proofs.Common.{flat_map, refl, arith, option_to_list, le_refl, length-append}
 use Rattle.std.specs.List.{AllByRecursion, list_any}
 use Rattle.std.proofs.lemmas.List.Concat.{flat_map-append}
 use Rattle.iloc_spec_grammar.specs.Syntax.{LanguageLengths, Field, Text, pieces, join}
@@ -83,10 +83,7 @@ module _ (f : Text → ℕ) where
   step_size (Step.inside r {i = i} {j = j} {es = es} {fs = fs} {x = x} s z) =
       let a = spelling_size (record { id = i; extensions = es; private = x }) in
       let b = spelling_size (record { id = j; extensions = fs; private = x }) in
-      let c = identifier_size s in
-      let d =
-      total_zip block_size (λ e g. (e.0 ≡ g.0) × ExtensionStep r e.1 g.1) (block_step_size r) es fs z in
-      omega arith
+      grind (arith, identifier_size, total_zip, block_step_size)
 
 -- the length of a text is that of its pieces
 
@@ -127,7 +124,7 @@ pub step_pieces : (t : Text) {v w : Written} → pieces t ≡ spelling v → Ste
     pieces (join (spelling w)) ≡ spelling w
 step_pieces t {v = v} {w = w} e s =
     let a : total (counted has_hyphen) (spelling v) ≡ 0 =
-    ap (total (counted has_hyphen)) (sym e) ∙ none_counted has_hyphen (pieces t) (pieces_hyphen_free t) in
+    grind (arith, total, none_counted, pieces_hyphen_free) in
     let b = step_size (counted has_hyphen) s in
     pieces-join w.id.language _ (all_uncounted has_hyphen (spelling w) (omega arith))
 
@@ -137,11 +134,10 @@ step_length t {v = v} {w = w} e s =
     let a = step_size piece_length s in
     let b : length (join (spelling w)) + 1 ≡ total piece_length (spelling w) = length-join w.id.language _ in
     let c : length (join (spelling v)) + 1 ≡ total piece_length (spelling v) = length-join v.id.language _ in
-    let d : length t ≡ length (join (spelling v)) = ap length (sym (join-pieces t) ∙ ap join e) in
-    omega arith
+    grind (arith, join-pieces)
 
 -- the text after a step means the same
 pub step_means : (T : LanguageLengths) (t : Text) {v w : Written} → IsWritten T v → pieces t ≡ spelling v →
     Step v w → TreeMeans T (join (spelling w)) (meaning v)
 step_means T t {w = w} h e s = let p = written_step T s h in
-    record { written = w; grammatical = p.0; spelled = step_pieces t e s; means = sym p.1 }
+    grind (arith, step_pieces)

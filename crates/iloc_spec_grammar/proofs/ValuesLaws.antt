@@ -115,15 +115,12 @@ identifier_reads_back i h = record {
 word_lower : (k : Kind) (w : Text) → IsWord k w → IsWord k (lower w)
 word_lower k w h = is_word-lower k w ∙ h
 
-lower_words : {T : ℕ → Bool} (i : SpelledIdentifier) → HasWords T i → HasWords T (lower_identifier i)
-lower_words {T = T} i h = search (word_lower, some_mapped, all_mapped)
-
 pub lower_twice : (ws : List Text) → map lower (map lower ws) ≡ map lower ws
 lower_twice ws = map-then lower lower lower lower-lower ws
 
 pub lower_is_identifier : {T : ℕ → Bool} (i : SpelledIdentifier) → IsIdentifier T i →
     IsIdentifier T (lower_identifier i)
-lower_is_identifier i h = search (lower_words, lower_twice)
+lower_is_identifier i h = search (lower_twice, word_lower, some_mapped, all_mapped)
 
 pub normal-lower_identifier : (i : SpelledIdentifier) →
     normal_identifier (lower_identifier i) ≡ normal_identifier i
@@ -153,27 +150,17 @@ fields_fixed fs sorted h = grind (arith, map_fixed, all_weaker, map_of_sorted)
 abbrev pub AreKeywordValues : Fields → Type 0
 AreKeywordValues ks = AllByRecursion (λ f. AllByRecursion (λ w. (is_true w ≡ false) × (length w ≢ 2)) f.1) ks
 
-keyword_rule : (f : Field) → IsNormal UnicodeKey f.0 × AllByRecursion (IsNormal Subtag) f.1 →
-    AllByRecursion (λ w. (is_true w ≡ false) × (length w ≢ 2)) f.1 → IsKeyword f
-keyword_rule f h v = (
-  h.0.0,
-  all_weaker (λ w. IsNormal Subtag w × ((is_true w ≡ false) × (length w ≢ 2))) (IsWord Attribute)
-      (λ w n. attribute_from w n.0.0 n.1.1) f.1 (all_both _ _ f.1 h.1 v),
-)
-
-keyword_fixed : (f : Field) →
-    IsNormal UnicodeKey f.0 × AllByRecursion (IsNormal Subtag) f.1 →
-    AllByRecursion (λ w. (is_true w ≡ false) × (length w ≢ 2)) f.1 →
-    (lower f.0 ≡ f.0) × (normal_values f.1 ≡ f.1)
-keyword_fixed f h v = grind (arith, values_fixed, all_weaker)
-
 pub value_unicode : (u : Unicode) → IsUnicodeValue u → AreKeywordValues u.keywords →
     0 < length u.attributes + length u.keywords → IsUnicodeBlock (spelled_unicode u)
 value_unicode u h v n = record {
   attributes = all_weaker (IsNormal Attribute) (IsWord Attribute) (λ w n. n.0) u.attributes h.attributes;
   keywords = all_weaker (λ f. (IsNormal UnicodeKey f.0 × AllByRecursion (IsNormal Subtag) f.1)
       × AllByRecursion (λ w. (is_true w ≡ false) × (length w ≢ 2)) f.1) IsKeyword
-      (λ f b. keyword_rule f b.0 b.1) u.keywords (all_both _ _ u.keywords h.keywords v);
+      (λ f b. ((
+        b.0.0.0,
+        all_weaker (λ w. IsNormal Subtag w × ((is_true w ≡ false) × (length w ≢ 2)))
+            (IsWord Attribute) (λ w n. attribute_from w n.0.0 n.1.1) f.1 (all_both _ _ f.1 b.0.1 b.1),
+      ))) u.keywords (all_both _ _ u.keywords h.keywords v);
   nonempty = n;
 }
 
@@ -186,7 +173,8 @@ normal_value_unicode u h v =
     let keywords : normal_fields u.keywords ≡ u.keywords = fields_fixed u.keywords h.keys_ascend
     (all_weaker (λ f. (IsNormal UnicodeKey f.0 × AllByRecursion (IsNormal Subtag) f.1)
     × AllByRecursion (λ w. (is_true w ≡ false) × (length w ≢ 2)) f.1)
-    (λ f. (lower f.0 ≡ f.0) × (normal_values f.1 ≡ f.1)) (λ f b. keyword_fixed f b.0 b.1) u.keywords
+    (λ f. (lower f.0 ≡ f.0) × (normal_values f.1 ≡ f.1))
+    (λ f b. (grind (arith, values_fixed, all_weaker))) u.keywords
     (all_both _ _ u.keywords h.keywords v)) in
     λ i. record { attributes = attributes i; keywords = keywords i }
 

@@ -1,6 +1,6 @@
 -- What a text means is a well-formed value.
 use Rattle.std.proofs.Common.{◌≡◌, ◌≢◌, ℕ, ◌<◌, Bool, true, false, not, List, [], ◌∷◌, length, map}
-use Rattle.std.proofs.Common.{filter_map, refl, sym, subst, arith, Option, Some, None, IfSome}
+use Rattle.std.proofs.Common.{filter_map, refl, subst, arith, Option, Some, None, IfSome}
 use Rattle.std.proofs.Common.{option_map}
 use Rattle.std.specs.List.{AllByRecursion}
 use Rattle.std.specs.Char.{to_ascii_lowercase}
@@ -10,10 +10,10 @@ use Rattle.std.specs.FinMap.{find, nat_cmp-IsAntisymmetric}
 use Rattle.std.proofs.lemmas.Bool.Decides.{nat_tests}
 use Rattle.std.proofs.lemmas.Str.Ascii.{lowercase-lowercase}
 use Rattle.iloc_spec_grammar.specs.Syntax.{LanguageLengths, Field, Block, code_x, code_u, code_t, Text, Kind}
-use Rattle.iloc_spec_grammar.specs.Syntax.{Language, Script, Region, Variant, Subtag, UnicodeKey}
-use Rattle.iloc_spec_grammar.specs.Syntax.{TransformKey, Attribute, PrivateSubtag, is_word, IsWord, normal}
+use Rattle.iloc_spec_grammar.specs.Syntax.{Language, Script, Region, Subtag, UnicodeKey}
+use Rattle.iloc_spec_grammar.specs.Syntax.{Attribute, PrivateSubtag, is_word, IsWord, normal}
 use Rattle.iloc_spec_grammar.specs.Syntax.{lower, word_cmp, is_true, SpelledIdentifier, SpelledUnicode}
-use Rattle.iloc_spec_grammar.specs.Syntax.{SpelledTransform, Fields, HasWords, IsIdentifier, IsKeyword}
+use Rattle.iloc_spec_grammar.specs.Syntax.{SpelledTransform, Fields, HasWords, IsKeyword}
 use Rattle.iloc_spec_grammar.specs.Syntax.{IsOther, kept, is_other_singleton, lower_singleton, IsPrivate}
 use Rattle.iloc_spec_grammar.specs.Tree.{Extension, unicode, transform, other, Written, IsUnicodeBlock}
 use Rattle.iloc_spec_grammar.specs.Tree.{IsTransformBlock, IsExtension, IsWritten, unicode_part}
@@ -37,8 +37,8 @@ use Rattle.std.proofs.lemmas.Bool.{cond_both, not-true}
 
 pub all-set_of : (P : Text → Type 0) (ws : List Text) → AllByRecursion P ws →
     AllByRecursion P (set_of ws)
-all-set_of P ws h = all_mapped (λ (e : Text × Text). P e.0) P (λ e. e.0) (λ e p. p) _ (all-map_of
-    word_cmp same_words (λ e. P e.0) _ (all_mapped P (λ e. P e.0) (λ w. (w, w)) (λ w p. p) ws h))
+all-set_of P ws h = all_mapped (λ (e : Text × Text). P e.0) P (λ e. e.0) (λ e p. p) _
+    (search (all-map_of, same_words, all_mapped))
 
 pub set_of-ascending : (ws : List Text) → StrictlyAscends word_cmp (set_of ws)
 set_of-ascending ws = search (ascend_as_keys, sorted-keys, is_sorted-map_of, word_cmp_total)
@@ -60,7 +60,7 @@ identifier_value {T = T} i h = record {
   language = IsNormal-normal (Language T) i.language h.language;
   script = option_normal Script i.script h.script;
   region = option_normal Region i.region h.region;
-  variants = all-set_of (IsNormal Variant) _ (all_normal Variant i.variants (λ p. refl) h.variants);
+  variants = search (all-set_of, all_normal);
   ascending = set_of-ascending (map lower i.variants);
 }
 
@@ -89,12 +89,9 @@ field_entries : (k : Kind) → ((p : Text) → normal k p ≡ lower p) → (fs :
     AllByRecursion (IsEntry k) (normal_fields fs)
 field_entries k e fs h = search (all-map_of, same_words, entries_of)
 
-pub attribute_is_word : (w : Text) → IsWord Attribute w → IsWord Subtag w
-unfolding is_word
-attribute_is_word w h = grind (arith, nat_tests)
-
 pub attribute_is_subtag : (w : Text) → IsNormal Attribute w → IsNormal Subtag w
-attribute_is_subtag w h = (attribute_is_word w h.0, h.1)
+unfolding is_word
+attribute_is_subtag w h = grind (arith, nat_tests)
 
 keyword_entries : (fs : Fields) → AllByRecursion IsKeyword fs →
     AllByRecursion (IsEntry UnicodeKey) (normal_fields fs)
@@ -114,18 +111,12 @@ unicode_value u h =
       word_cmp_total,
     )
 
-pub unicode_well : (u : SpelledUnicode) → IsUnicodeBlock u →
-    AllByRecursion (λ f. AllByRecursion (λ w. (is_true w ≡ false) × (length w ≢ 2)) f.1)
-    (normal_unicode u).keywords
-unicode_well u h = grind (arith, all_weaker, length-attribute, keyword_entries)
-
 pub transform_value : (T : LanguageLengths) (m : SpelledTransform) → IsTransformBlock T m →
     IsTransformValue T (normal_transform m)
 transform_value T m h = record {
-  id = some_mapped (IsIdentifier T) (IsIdentifierValue T) normal_identifier
-      (λ i g. identifier_value i g.words) m.id h.id;
-  fields = field_entries TransformKey (λ p. refl) m.fields (plain_fields m.fields h.fields);
-  keys_ascend = is_sorted-map_of word_cmp word_cmp_total (map (λ f. (lower f.0, normal_values f.1)) m.fields);
+  id = grind (arith, some_mapped, identifier_value);
+  fields = grind (arith, field_entries, plain_fields);
+  keys_ascend = simp (is_sorted-map_of, word_cmp_total);
 }
 
 -- what a look-up finds
@@ -147,7 +138,7 @@ part_unicode T _ h = search
 part_well : (T : LanguageLengths) (o : Option Extension) → IfSome o (FollowsRule T) →
     AllByRecursion (λ f. AllByRecursion (λ w. (is_true w ≡ false) × (length w ≢ 2)) f.1)
     (unicode_part o).keywords
-part_well T (Some (unicode u)) h = unicode_well u h
+part_well T (Some (unicode u)) h = grind (arith, all_weaker, length-attribute, keyword_entries)
 part_well T _ h = tt
 
 part_transform : (T : LanguageLengths) (o : Option Extension) → IfSome o (FollowsRule T) →
@@ -182,8 +173,7 @@ module _ {T : ℕ → Bool} (w : Written) (h : IsWritten T w) where
 
   rules : (q : ℕ) → IfSome (find nat_cmp q (by_singleton w.extensions)) (FollowsRule T)
   rules q =
-      find_holds (λ c. FollowsRule T) q w.extensions (all_weaker (λ e. IsExtension T (lower_singleton e) e.1)
-      (λ e. FollowsRule T e.1) (λ e k. follows T (lower_singleton e) e.1 k) w.extensions h.extensions)
+      find_holds (λ c. FollowsRule T) q w.extensions (search (all_weaker, follows))
 
   pub written_value : IsValue T (meaning w)
   written_value = record {
@@ -192,21 +182,20 @@ module _ {T : ℕ → Bool} (w : Written) (h : IsWritten T w) where
       unicode = part_unicode T _ (rules code_u);
       transform = part_transform T _ (rules code_t);
       private = private_value w.private h.private;
-      others = all_weaker IsOtherEntry (λ o. AllByRecursion (IsNormal Subtag) o.1) (λ o x. x.2) _ others;
+      others = grind (arith, all_weaker, others);
     };
   }
 
   pub written_well_formed : IsTreeWellFormed (meaning w)
   written_well_formed = record {
     ascending = is_sorted-map_of nat_cmp nat_cmp_total (filter_map other_part (by_singleton w.extensions));
-    singletons = all_weaker IsOtherEntry
-        (λ o. (is_other_singleton o.0 ≡ true) × (to_ascii_lowercase o.0 ≡ o.0)) (λ o x. x.0) _ others;
+    singletons = grind (arith, all_weaker, others);
     nonempty = all_weaker IsOtherEntry (λ o. 0 < length o.1) (λ o x. x.1) _ others;
     values = part_well T _ (rules code_u);
   }
 
 pub means_value : {T : ℕ → Bool} (t : Text) (M : Locale) → TreeMeans T t M → IsValue T M
-means_value {T = T} t M m = subst (IsValue T) (sym m.means) (written_value m.written m.grammatical)
+means_value {T = T} t M m = rw m.means (written_value m.written m.grammatical)
 
 pub means_well_formed : {T : ℕ → Bool} (t : Text) (M : Locale) → TreeMeans T t M → IsTreeWellFormed M
 means_well_formed t M m = grind (arith, written_well_formed)
