@@ -115,14 +115,12 @@ words_printed r ws h =
 -- variants are printed as their set
 pub variants_printed : (ws : List Text) → AllByRecursion (IsWord Variant) ws
     → flat_map printed_part (variant_parts ws) ≡ set_of (map lower ws)
-variants_printed ws h = words_printed roles.Variant ws
-    (all_weaker (IsWord Variant) _ (λ w k. (variant_fits w k, refl)) ws h)
+variants_printed ws h = search (words_printed, all_weaker, variant_fits)
 
 -- so are attributes
 pub attributes_printed : (ws : List Text) → AllByRecursion (IsWord Attribute) ws
     → flat_map printed_part (in_order (map (word_part roles.Attribute) ws)) ≡ set_of (map lower ws)
-attributes_printed ws h = words_printed roles.Attribute ws
-    (all_weaker (IsWord Attribute) _ (λ w k. (attribute_fits w k, refl)) ws h)
+attributes_printed ws h = search (words_printed, all_weaker, attribute_fits)
 
 -- keywords are printed as their map
 pub keywords_printed : (fs : Fields) → AllByRecursion IsKeyword fs

@@ -1,6 +1,6 @@
 -- The parts of good blocks, by the ranks of these, print what the blocks mean.
 use Rattle.std.proofs.Common.{◌≡◌, ◌≢◌, ℕ, ◌<◌, ◌==◌, ◌&&◌, Bool, true, false, not, cond, List, [], ◌∷◌, ◌++◌}
-use Rattle.std.proofs.Common.{map, flat_map, filter_map, refl, sym, ap, ◌∙◌, subst, arith, Option, Some, None}
+use Rattle.std.proofs.Common.{map, flat_map, filter_map, refl, sym, ap, ◌∙◌, arith, Option, Some, None}
 use Rattle.std.proofs.Common.{append_assoc, append-nil, nat_le}
 use Rattle.std.specs.List.{AllByRecursion, list_any}
 use Rattle.std.specs.Char.{is_ascii_alphanumeric, to_ascii_lowercase}
@@ -74,19 +74,11 @@ private_at (b ∷ bs) = cond (b.0 == code_x) (map lower b.1) (private_at bs)
 
 low_extensions : (bs : List Block) → by_singleton (extensions_in bs) ≡ extensions_at (by_singleton bs)
 low_extensions [] = refl
-low_extensions (b ∷ bs) = elim (lower_singleton b == code_x) as
-    (λ t. by_singleton (cond t [] ((b.0, extension_of (lower_singleton b) b.1) ∷ extensions_in bs))
-    ≡ cond t [] ((lower_singleton b, extension_of (lower_singleton b) b.1) ∷ extensions_at
-    (by_singleton bs))) [
-      | true ↦ refl
-      | false ↦ ap (λ l. (lower_singleton b, extension_of (lower_singleton b) b.1) ∷ l) (low_extensions bs)
-    ]
+low_extensions (b ∷ bs) = grind (arith, low_extensions bs)
 
 low_private : (bs : List Block) → private_part (private_in bs) ≡ private_at (by_singleton bs)
 low_private [] = refl
-low_private (b ∷ bs) = elim (lower_singleton b == code_x) as
-    (λ t. private_part (cond t (Some b) (private_in bs))
-    ≡ cond t (map lower b.1) (private_at (by_singleton bs))) [ true ↦ refl | false ↦ low_private bs ]
+low_private (b ∷ bs) = grind (arith, low_private bs)
 
 -- ---- what is printed of it, by ranks
 
@@ -113,13 +105,7 @@ shadowed false x y z = refl
 swapped : {A : Type 0} (q k l : ℕ) → k ≢ l → (x y z : A)
     → cond (eq_by_cmp nat_cmp q k) x (cond (eq_by_cmp nat_cmp q l) y z)
     ≡ cond (eq_by_cmp nat_cmp q l) y (cond (eq_by_cmp nat_cmp q k) x z)
-swapped q k l n x y z = at (eq_by_cmp nat_cmp q k) refl (eq_by_cmp nat_cmp q l) refl
-  where
-    at : (a : Bool) → eq_by_cmp nat_cmp q k ≡ a → (b : Bool) → eq_by_cmp nat_cmp q l ≡ b
-        → cond a x (cond b y z) ≡ cond b y (cond a x z)
-    at true e true f = absurd (n (tied q k e ∙ sym (tied q l f)))
-    at true e false f = refl
-    at false e b f = refl
+swapped q k l n x y z = grind (arith, tied)
 
 no_transform_shown : transform_spelling no_transform ≡ []
 unfolding transform_spelling
@@ -135,22 +121,13 @@ Agree bs q = find nat_cmp q (shown (extensions_at bs) (private_at bs))
     ≡ find nat_cmp q (shown_blocks bs ++ nothing)
 
 at_t : (ps : List Text) (bs : List Block) (q : ℕ) → Agree bs q → Agree ((code_t, ps) ∷ bs) q
-at_t ps bs q e = shadowed (eq_by_cmp nat_cmp q code_t) _ _ _
-    ∙ ap (cond (eq_by_cmp nat_cmp q code_t) (Some (spelled code_t ps))) e
+at_t ps bs q e = grind (arith, shadowed, spelled)
 
 at_u : (ps : List Text) (bs : List Block) (q : ℕ) → Agree bs q → Agree ((code_u, ps) ∷ bs) q
-at_u ps bs q e =
-    ap (cond (eq_by_cmp nat_cmp q code_t) _) (shadowed (eq_by_cmp nat_cmp q code_u) _ _ _)
-    ∙ swapped q code_t code_u (λ e. omega arith) _ _ _
-    ∙ ap (cond (eq_by_cmp nat_cmp q code_u) (Some (spelled code_u ps))) e
+at_u ps bs q e = grind (arith, shadowed, swapped, spelled)
 
 at_x : (ps : List Text) (q : ℕ) → Agree ((code_x, ps) ∷ []) q
-at_x ps q =
-    (λ j. cond (eq_by_cmp nat_cmp q code_t) (Some (no_transform_shown j))
-    (cond (eq_by_cmp nat_cmp q code_u) (Some (no_unicode_shown j))
-    (shadowed (eq_by_cmp nat_cmp q 255) (Some (spelled code_x ps)) (Some []) None j)))
-    ∙ ap (cond (eq_by_cmp nat_cmp q code_t) (Some [])) (swapped q code_u 255 (λ e. omega arith) _ _ _)
-    ∙ swapped q code_t 255 (λ e. omega arith) _ _ _
+at_x ps q = grind (arith, no_transform_shown, no_unicode_shown, shadowed, spelled, swapped)
 
 other_below : (c : ℕ) → is_other_singleton c ≡ true → c < 255
 other_below c o = grind (arith, nat_tests)
@@ -173,16 +150,20 @@ at_other c ps bs q o e =
 
 agree : (bs : List Block) → EndsAtX bs → AllByRecursion
     (λ b. (to_ascii_lowercase b.0 ≡ b.0) × (is_ascii_alphanumeric b.0 ≡ true)) bs → (q : ℕ) → Agree bs q
-agree [] x h q = (λ j. cond (eq_by_cmp nat_cmp q code_t) (Some (no_transform_shown j))
-    (cond (eq_by_cmp nat_cmp q code_u) (Some (no_unicode_shown j))
-    (cond (eq_by_cmp nat_cmp q 255) (Some (private_spelling_none j)) None)))
-agree (b ∷ bs) x h q = elim (kind_of b.0 h.0.1) [
-  | of_t k ↦ subst (λ c. Agree ((c, b.1) ∷ bs) q) (sym k) (at_t b.1 bs q (agree bs x.1 h.1 q))
-  | of_u k ↦ subst (λ c. Agree ((c, b.1) ∷ bs) q) (sym k) (at_u b.1 bs q (agree bs x.1 h.1 q))
-  | of_x k ↦ subst (λ l. Agree (b ∷ l) q) (sym (x.0 (ap (λ c. c == code_x) (h.0.0 ∙ k))))
-      (subst (λ c. Agree ((c, b.1) ∷ []) q) (sym k) (at_x b.1 q))
-  | another o ↦ at_other b.0 b.1 bs q o (agree bs x.1 h.1 q)
-]
+agree [] x h q = simp (no_transform_shown, no_unicode_shown, private_spelling_none)
+agree (b ∷ bs) x h q = grind (
+  arith,
+  kind_of,
+  of_t,
+  at_t,
+  of_u,
+  at_u,
+  of_x,
+  at_x,
+  another,
+  at_other,
+  agree bs x.1 h.1 q,
+)
 
 -- ---- its order is that of the text
 
@@ -192,11 +173,7 @@ IsOtherKey o = is_other_singleton o.0 ≡ true
 before_low : (os : List Block) → AllByRecursion IsOtherKey os →
     AllByRecursion (λ o. o.0 < code_t) (before_t os)
 before_low [] h = tt
-before_low (o ∷ os) h = cond_both (nat_le o.0 code_t) _ _ (AllByRecursion (λ o. o.0 < code_t))
-    (λ e. (less_t o.0 h.0 e, before_low os h.1)) (λ _. tt)
-  where
-    less_t : (c : ℕ) → is_other_singleton c ≡ true → nat_le c code_t ≡ true → c < code_t
-    less_t c o e = grind (arith, nat_tests)
+before_low (o ∷ os) h = grind (arith, cond_both, nat_tests, before_low os h.1)
 
 -- keys above `u` and below the rank of `x`
 abbrev IsBetween : Block → Type 0
@@ -228,12 +205,7 @@ after_high (o ∷ os) s h =
 
 before_after : (os : List Block) → before_t os ++ after_t os ≡ os
 before_after [] = refl
-before_after (o ∷ os) = elim (nat_le o.0 code_t) as
-    (λ b. cond b (o ∷ before_t os) [] ++ cond b (after_t os) (o ∷ os) ≡ o ∷ os) [
-      | true ↦
-          ap (λ l. o ∷ l) (before_after os)
-      | false ↦ refl
-    ]
+before_after (o ∷ os) = grind (arith, before_after os)
 
 -- the map of what is shown, by ranks
 shown_in_order : (es : List (ℕ × Extension)) (x : List Text)
@@ -299,26 +271,23 @@ shown_in_order es x h =
 others_at : (bs : List Block) → AllByRecursion (λ b. is_ascii_alphanumeric b.0 ≡ true) bs
     → AllByRecursion IsOtherKey (filter_map other_part (extensions_at bs))
 others_at [] h = tt
-others_at (b ∷ bs) h = elim (kind_of b.0 h.0) [
-  | of_t k ↦ subst (λ c. AllByRecursion IsOtherKey (filter_map other_part (extensions_at ((c, b.1) ∷ bs))))
-      (sym k) (others_at bs h.1)
-  | of_u k ↦ subst (λ c. AllByRecursion IsOtherKey (filter_map other_part (extensions_at ((c, b.1) ∷ bs))))
-      (sym k) (others_at bs h.1)
-  | of_x k ↦ subst (λ c. AllByRecursion IsOtherKey (filter_map other_part (extensions_at ((c, b.1) ∷ bs))))
-      (sym k) tt
-  | another o ↦
-      let t : (b.0 == code_t) ≡ false = ne_eqb _ _ (λ k. no_t b.0 k o) in
-      let u : (b.0 == code_u) ≡ false = ne_eqb _ _ (λ k. no_u b.0 k o) in
-      let x : (b.0 == code_x) ≡ false = ne_eqb _ _ (λ k. no_x b.0 k o) in
-      rw (x, t, u) (o, others_at bs h.1)
-]
+others_at (b ∷ bs) h = grind (
+  arith,
+  kind_of,
+  of_t,
+  of_u,
+  of_x,
+  another,
+  ne_eqb,
+  no_t,
+  no_u,
+  no_x,
+  others_at bs h.1,
+)
 
 ends_low : (bs : List Block) → EndsAtX bs → EndsAtX (by_singleton bs)
 ends_low [] e = tt
-ends_low (b ∷ bs) e = (
-  (λ k. ap by_singleton (e.0 (sym (ap (λ c. c == code_x) (lowercase-lowercase b.0)) ∙ k))),
-  ends_low bs e.1,
-)
+ends_low (b ∷ bs) e = grind (arith, lowercase-lowercase, ends_low bs e.1)
 
 -- an entry of which all parts are printed
 abbrev printed_entry : ℕ × List Part → ℕ × List Text
@@ -326,8 +295,7 @@ printed_entry e = (e.0, flat_map printed_part e.1)
 
 flat-printed : (es : List (ℕ × List Part)) → flat (map printed_entry es) ≡ flat_map printed_part (flat es)
 flat-printed [] = refl
-flat-printed (e ∷ es) = ap (λ l. flat_map printed_part e.1 ++ l) (flat-printed es)
-    ∙ sym (flat_map-append printed_part e.1 (flat es))
+flat-printed (e ∷ es) = simp (flat_map-append, flat, flat-printed es)
 
 -- the parts of good blocks print what the blocks show
 blocks_printed : (T : LanguageLengths) (bs : List Block) → AllByRecursion (IsGood T) bs

@@ -1,6 +1,6 @@
 -- Which pieces may follow `t`: an identifier and fields, one of both at least.
-use Rattle.std.proofs.Common.{◌≡◌, ◌≢◌, ◌⊎◌, inl, inr, ℕ, ◌<◌, Bool, true, false, cond, ◌||◌, List, [], ◌∷◌}
-use Rattle.std.proofs.Common.{◌++◌, length, map, refl, sym, ap, ◌∙◌, subst, arith, Option, Some, None, IfSome}
+use Rattle.std.proofs.Common.{◌≡◌, ◌≢◌, ◌⊎◌, inl, inr, ℕ, ◌<◌, Bool, true, false, cond, List, [], ◌∷◌}
+use Rattle.std.proofs.Common.{◌++◌, length, map, refl, sym, ap, ◌∙◌, arith, Option, Some, None, IfSome}
 use Rattle.std.proofs.Common.{option_to_list, append_assoc, true≢false}
 use Rattle.std.specs.List.{AllByRecursion}
 use Rattle.std.specs.Char.{to_ascii_lowercase}
@@ -11,8 +11,8 @@ use Rattle.iloc_spec_grammar.specs.Syntax.{Attribute, is_word, IsWord, IsField, 
 use Rattle.iloc_spec_grammar.specs.Syntax.{SpelledTransform, HasWords, IsIdentifier, AllDifferent}
 use Rattle.iloc_spec_grammar.specs.Syntax.{fields_pieces, identifier_pieces, optional_pieces}
 use Rattle.iloc_spec_grammar.specs.Syntax.{transform_pieces, languages, first_piece, front, lower, word_cmp}
-use Rattle.iloc_spec_grammar.specs.Tree.{Extension, unicode, transform, other, IsBlock, IsExtension}
-use Rattle.iloc_spec_grammar.specs.Tree.{IsTransformBlock, extension_pieces}
+use Rattle.iloc_spec_grammar.specs.Tree.{transform, IsBlock}
+use Rattle.iloc_spec_grammar.specs.Tree.{IsTransformBlock}
 use Rattle.iloc_spec_grammar.specs.Reading.{transform_of, front_of, after_front, after_region, from_block}
 use Rattle.iloc_spec_grammar.specs.Reading.{before_key, fields_from, passing}
 use Rattle.iloc_spec_grammar.specs.Computing.{is_block, repeats_variant}
@@ -51,13 +51,7 @@ AreFields ps = (fs : Fields) × AllByRecursion IsField fs × (ps ≡ fields_piec
 block_of_t : (c : ℕ) (ps : List Text) → to_ascii_lowercase c ≡ code_t → IsBlock languages (c, ps)
     → (m : SpelledTransform) × IsTransformBlock languages m × (ps ≡ transform_pieces m)
 block_of_t c ps e (inl h) = absurd (omega (arith, e, h.0))
-block_of_t c ps e (inr (x, h, cut)) = by x h cut
-  where
-    by : (x : Extension) → IsExtension languages (to_ascii_lowercase c) x → ps ≡ extension_pieces x
-        → (m : SpelledTransform) × IsTransformBlock languages m × (ps ≡ transform_pieces m)
-    by (unicode u) h cut = absurd (omega (arith, e, h.0))
-    by (transform m) h cut = (m, h.1, cut)
-    by (other qs) h cut = absurd (no_t (to_ascii_lowercase c) e h.0)
+block_of_t c ps e (inr (x, h, cut)) = grind (arith, no_t)
 
 pub no_language : is_word (Language languages) [] ≡ false
 unfolding is_word languages
@@ -82,13 +76,7 @@ alone ps m none h cut = by m.id m.fields h.id h.fields h.nonempty cut
 
 fields_end : (fs : Fields) → AllByRecursion IsField fs → EndsWords (fields_pieces fs)
 fields_end [] h = record { script = tt; region = tt; variant = tt }
-fields_end (f ∷ fs) h =
-    record {
-      script = key_no_script f.0 h.0.0;
-      region =
-          key_no_region f.0 h.0.0;
-      variant = key_no_variant f.0 h.0.0;
-    }
+fields_end (f ∷ fs) h = search (key_no_script, key_no_region, key_no_variant)
 
 -- what stands after the front of an identifier in it is fields
 after_words : (ps : List Text) (m : SpelledTransform) → IsWord (Language languages) (first_piece ps)
@@ -104,7 +92,7 @@ after_words ps m word h cut = by m.id m.fields h.id h.fields cut
         AllByRecursion IsField fs
         → ps ≡ optional_pieces o ++ fields_pieces fs → AreFields (after_front ps)
     by None fs i f cut = absurd
-        (key_first fs f (subst (λ l. IsWord (Language languages) (first_piece l)) cut word))
+        (key_first fs f (rw cut at word))
     by (Some j) fs i f cut = (
       fs,
       f,
@@ -155,7 +143,7 @@ no_fields_first q qs none (fs, h, cut) = by fs h cut
 pub no_fields_later : (ps : List Text) (q : Text) (qs : List Text) → IsNoKey q → is_word Attribute q ≡ false
     → ¬ (AreFields (ps ++ (q ∷ qs)))
 no_fields_later ps q qs none odd (fs, h, cut) =
-    by (last_of IsFieldWord ps q qs (subst (AllByRecursion IsFieldWord) (sym cut) (field_words fs h)))
+    by (last_of IsFieldWord ps q qs (rw cut (field_words fs h)))
   where
     by : IsFieldWord q → ⊥
     by (inl k) = true≢false (sym k ∙ none)
@@ -163,7 +151,7 @@ no_fields_later ps q qs none odd (fs, h, cut) =
 
 -- a key without a value comes after fields
 pub no_fields_key : (ps : List Text) → EndsInKey ps → ¬ (AreFields ps)
-no_fields_key ps k (gs, h, cut) = bad_value (last_field k.fields (subst (AllByRecursion IsField) same h))
+no_fields_key ps k (gs, h, cut) = bad_value (last_field k.fields (rw same at h))
   where
     test : Text → Bool
     test = is_word TransformKey
@@ -234,7 +222,7 @@ body_first p ps h = front_first p ps (long_language p h)
 
 pub first_body : AtLanguage (λ ps. IsWord (Language languages) (first_piece (front ps)))
 first_body = at_language _
-    (λ p ps h. subst (λ l. IsWord (Language languages) (first_piece l)) (sym (body_first p ps h)) h)
+    (λ p ps h. rw (body_first p ps h) h)
 
 -- reading loses nothing
 pub pieces_front_of : AtLanguage (λ ps. identifier_pieces (front_of ps) ++ after_front ps ≡ ps)
@@ -274,13 +262,13 @@ pub repeats : AtLanguage
     → repeats_variant languages (front ps) ≡ true)
 repeats ps h n = and_from _ _ (first_body ps h)
     ((tests_denied (tests_different word_cmp _)).passes
-    (subst (λ i. ¬ (AllDifferent word_cmp (map lower i.variants))) (sym (front_of_body ps h)) n))
+    (rw (← (front_of_body ps h)) at n))
 
 pub no_repeat : AtLanguage
     (λ ps. AllDifferent word_cmp (map lower (front_of ps).variants)
     → ¬ (repeats_variant languages (front ps) ≡ true))
 no_repeat ps h d e = (tests_denied (tests_different word_cmp _)).holds (and_parts _ _ e).1
-    (subst (λ i. AllDifferent word_cmp (map lower i.variants)) (sym (front_of_body ps h)) d)
+    (rw (← (front_of_body ps h)) at d)
 
 -- the variants come after the region
 pub variants_of : (ps qs : List Text) → qs ≡ after_region ps

@@ -73,8 +73,7 @@ unicode_bad c ps e bad = tests_fails (tests_block languages (c, ps)) none
   where
     words : (u : SpelledUnicode) → IsUnicodeBlock u → ps ≡ unicode_pieces u → ⊥
     words u h cut = bad (λ none. nonempty u.attributes u.keywords h.nonempty (sym cut ∙ none))
-        (subst (AllByRecursion IsUnicodeWord) (sym cut)
-        (all_words u.attributes u.keywords h.attributes h.keywords))
+        (rw cut (all_words u.attributes u.keywords h.attributes h.keywords))
       where
         nonempty : (ws : List Text) (fs : Fields) → 0 < length ws + length fs → ws ++ fields_pieces fs ≢ []
         nonempty [] [] l none = omega arith
@@ -93,11 +92,7 @@ unicode_bad c ps e bad = tests_fails (tests_block languages (c, ps)) none
 -- a piece that is neither, after some
 pub no_word_after : (ps qs : List Text) (q : Text) → is_word Attribute q ≡ false
     → is_word UnicodeKey q ≡ false → ¬ (AllByRecursion IsUnicodeWord (ps ++ (q ∷ qs)))
-no_word_after [] qs q a k h = first h.0
-  where
-    first : IsUnicodeWord q → ⊥
-    first (inl w) = true≢false (sym w ∙ a)
-    first (inr w) = true≢false (sym w ∙ k)
+no_word_after [] qs q a k h = grind (arith, true≢false)
 no_word_after (p ∷ ps) qs q a k h = no_word_after ps qs q a k h.1
 
 -- ---- what the reader says
@@ -111,10 +106,7 @@ no_t_of_u c P e h = omega (arith, e, h.0)
 -- a singleton follows
 pub unicode_single : (c : ℕ) (l m : Cursor) (old new : Spans) (o n : Bool) → to_ascii_lowercase c ≡ code_u
     → is_one_byte (piece_left l) ≡ true → IsBody c l m old new o n Bad
-unicode_single c l m old new o n e single = (
-  ap (λ ps. is_block languages (c, ps)) (front_single (pieces_left l) single) ∙ single_empty c e,
-  no_t_of_u c _ e,
-)
+unicode_single c l m old new o n e single = search (front_single, single_empty, no_t_of_u)
 
 -- the parts of the block
 parts_of_u : (c : ℕ) (ps : List Text) (u : SpelledUnicode) → to_ascii_lowercase c ≡ code_u → unicode_of ps ≡ u
@@ -141,8 +133,7 @@ module _ (c start : ℕ) (l : Cursor) (e : to_ascii_lowercase c ≡ code_u)
       let u = unicode_pair ws fs in
       let known : is_other_singleton (to_ascii_lowercase c) ≡ false = ap is_other_singleton e in
       let place =
-      subst (λ (w : ℕ). held_spans mid ≡ held_spans old ++ block_span w start (l.at - 1) false ∷ [])
-      (sym (ap rank e)) put in
+      rw (← (ap rank e)) at put in
       let both = puts_then (whole_text l) (singleton_part c [] ∷ []) (unicode_parts u) ((c ∷ []) ∷ [])
       (ws ++ fields_pieces fs) old mid new o o n
       (puts_singleton (whole_text l) c start (l.at - 1) [] old mid o spanned known place) puts in
@@ -150,14 +141,12 @@ module _ (c start : ℕ) (l : Cursor) (e : to_ascii_lowercase c ≡ code_u)
       record {
         body = body;
         good = good.0;
-        puts = subst (λ qs. Puts (whole_text l) qs ((c ∷ []) ∷ (ws ++ fields_pieces fs)) old new o n)
-            (sym (parts_of_u c (ws ++ fields_pieces fs) u e good.1)) both;
+        puts = rw (parts_of_u c (ws ++ fields_pieces fs) u e good.1) both;
       }
 
   long_words : (ws : List Text) (fs : Fields) → AllByRecursion (IsWord Attribute) ws
       → AllByRecursion IsKeyword fs → AllByRecursion IsLong (ws ++ fields_pieces fs)
-  long_words ws fs h k =
-      all_weaker IsUnicodeWord IsLong long_unicode (ws ++ fields_pieces fs) (all_words ws fs h k)
+  long_words ws fs h k = grind (arith, all_weaker, long_unicode, all_words)
 
   -- all pieces are attributes
   attributes_alone : (new : Spans) (n : Bool) → ReadsWords roles.Attribute l (pieces_left l) mid new o n
@@ -165,15 +154,14 @@ module _ (c start : ℕ) (l : Cursor) (e : to_ascii_lowercase c ≡ code_u)
   attributes_alone new n h =
       let ws = pieces_left l in
       let all : AllByRecursion (IsWord Attribute) ws =
-      subst (AllByRecursion (IsWord Attribute)) (sym h.words) (keep_while_passes (is_word Attribute) ws)
+      rw h.words (keep_while_passes (is_word Attribute) ws)
       in
       let same : ws ≡ ws ++ [] = sym (append-nil ws) in
       let parts = in_order (map (word_part roles.Attribute) ws) in
       let puts : Puts (whole_text l) (parts ++ []) (ws ++ []) mid new o n =
-      subst (λ qs. Puts (whole_text l) qs (ws ++ []) mid new o n) (sym (append-nil parts))
-      (subst (λ qs. Puts (whole_text l) parts qs mid new o n) same h.puts) in
-      subst (λ qs. ReadsBlock c l qs old new o n) (append-nil ws)
-      (good_block new n ws [] all tt (λ none. pieces_nonempty (bytes_left l) (same ∙ none))
+      rw (append-nil parts) (subst (λ qs. Puts (whole_text l) parts qs mid new o n) same h.puts) in
+      rw (append-nil ws) at (good_block new n ws [] all tt
+      (λ none. pieces_nonempty (bytes_left l) (same ∙ none))
       (front_whole ws (subst (AllByRecursion IsLong) (append-nil ws) (long_words ws [] all tt)) ∙ same)
       puts)
 
@@ -182,24 +170,22 @@ module _ (c start : ℕ) (l : Cursor) (e : to_ascii_lowercase c ≡ code_u)
       (none : is_word Attribute (piece_left m) ≡ false)
       (mid' : Spans) (o' : Bool) (words : ReadsWords roles.Attribute l ws mid mid' o o') where
     all_attributes : AllByRecursion (IsWord Attribute) ws
-    all_attributes = subst (AllByRecursion (IsWord Attribute)) (sym words.words)
-        (keep_while_passes (is_word Attribute) (pieces_left l))
+    all_attributes = rw words.words (keep_while_passes (is_word Attribute) (pieces_left l))
 
     both_put : (new : Spans) (n : Bool) (fs : Fields) → ReadsFields roles.Keyword m fs mid' new o' n
         → Puts (whole_text l) (unicode_parts (unicode_pair ws fs)) (ws ++ fields_pieces fs) mid new o n
     both_put new n fs h =
         puts_then (whole_text l) (in_order (map (word_part roles.Attribute) ws))
         (in_order (map (field_part roles.Keyword) fs)) ws (fields_pieces fs) mid mid' new o o' n words.puts
-        (subst (λ t. Puts t (in_order (map (field_part roles.Keyword) fs)) (fields_pieces fs) mid' new o' n)
-        past.text h.puts)
+        (rw past.text at h.puts)
 
     keywords_end : (k : Cursor) (new : Spans) (n : Bool) → AreFieldsRead roles.Keyword m k mid' new o' n End
         → IsBody c l k old new o n End
     keywords_end k new n (fs, cut, h) =
         let all : pieces_left l ≡ ws ++ fields_pieces fs = past.pieces ∙ ap (λ ps. ws ++ ps) cut in
         let long = long_words ws fs all_attributes h.each in
-        subst (λ qs. ReadsBlock c l qs old new o n) (sym all)
-        (good_block new n ws fs all_attributes h.each (λ empty. pieces_nonempty (bytes_left l) (all ∙ empty))
+        rw all (good_block new n ws fs all_attributes h.each
+        (λ empty. pieces_nonempty (bytes_left l) (all ∙ empty))
         (ap front all ∙ front_whole (ws ++ fields_pieces fs) long) (both_put new n fs h))
 
     keywords_next : (k : Cursor) (new : Spans) (n : Bool) → AreFieldsRead roles.Keyword m k mid' new o' n Next
@@ -235,31 +221,29 @@ module _ (c start : ℕ) (l : Cursor) (e : to_ascii_lowercase c ≡ code_u)
 
     keywords_full : (k : Cursor) (new : Spans) (n : Bool) → AreFieldsRead roles.Keyword m k mid' new o' n Full
         → IsBody c l k old new o n Full
-    keywords_full k new n h =
-        omega (arith, one_more, words.puts.few, h, ap length past.pieces, length-append ws (pieces_left m))
+    keywords_full k new n h = grind (arith, one_more, length-append)
 
     keywords_read : (k : Cursor) (new : Spans) (n : Bool) (r s : Found)
         → AreFieldsRead roles.Keyword m k mid' new o' n r → EndsAtBlock k r s → IsBody c l k old new o n s
-    keywords_read k new n End s h ends = subst (IsBody c l k old new o n) ends (keywords_end k new n h)
+    keywords_read k new n End s h ends = rw (← ends) (keywords_end k new n h)
     keywords_read k new n Next Next h ends = keywords_next k new n h ends
     keywords_read k new n Next Bad h ends = keywords_bad k new n h ends
     keywords_read k new n Next _ h ends = absurd (ends tt)
     keywords_read k new n Bad s h ends = cc h.0
     keywords_read k new n Repeated s h ends = absurd (h tt)
-    keywords_read k new n Full s h ends = subst (IsBody c l k old new o n) ends (keywords_full k new n h)
+    keywords_read k new n Full s h ends = rw (← ends) (keywords_full k new n h)
 
   -- the same where no attribute is left out
   pub words_read : (m k : Cursor) (mid' new : Spans) (o' n : Bool) (r s : Found)
       → AreWordsRead roles.Attribute l m mid mid' o o' Next → AreFieldsRead roles.Keyword m k mid' new o' n r
       → EndsAtBlock k r s → IsBody c l k old new o n s
-  words_read m k mid' new o' n r s (ws, past, none, words) =
-      keywords_read m ws past none mid' o' words k new n r s
+  words_read m k mid' new o' n r s (ws, past, none, words) = grind (arith, keywords_read)
 
   pub words_alone : (m : Cursor) (new : Spans) (n : Bool) (r s : Found)
       → AreWordsRead roles.Attribute l m mid new o n r → r ≢ Next → EndsAtBlock m r s →
       IsBody c l m old new o n s
-  words_alone m new n End s h ends k = subst (IsBody c l m old new o n) k (attributes_alone new n h)
+  words_alone m new n End s h ends k = rw (← k) (attributes_alone new n h)
   words_alone m new n Next s h ends k = absurd (ends refl)
   words_alone m new n Bad s h ends k = absurd (h tt)
   words_alone m new n Repeated s h ends k = cc h.0
-  words_alone m new n Full s h ends k = subst (IsBody c l m old new o n) k (omega (arith, one_more, h))
+  words_alone m new n Full s h ends k = grind (arith, one_more)

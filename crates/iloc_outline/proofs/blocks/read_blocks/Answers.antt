@@ -1,3 +1,4 @@
+use Rattle.std.proofs.Common.{arith}
 use Rattle.std.proofs.Common.{◌≡◌, inl, inr, ℕ, List, [], true, sym, ap, ◌∙◌, subst}
 use Rattle.std.specs.Char.{is_ascii_alphanumeric}
 use Rattle.iloc_spec_grammar.specs.Syntax.{Text}
@@ -65,12 +66,12 @@ IsReadAs g c r = IsBlockRead (at.byte_at c.singletons.invariant) c.advance.new.c
     c.read_body-found.new.spans c.if-rank-last.in_order c.read_body-found.new.in_order r
 
 read_as : (g : Over) (c : After-read_body-found g) (r : Found) → c.read_body-found.result ≡ r → IsReadAs g c r
-read_as g c r e = subst (IsReadAs g c) e
-    (c.read_body-found.ensures (at.byte_at c.singletons.invariant) (sym c.singleton-byte.ensures)
+read_as g c r e = rw e at (c.read_body-found.ensures (at.byte_at c.singletons.invariant)
+    (sym c.singleton-byte.ensures)
     (at.spanned_at c.singletons.invariant c.advance.ensures))
 
 rank_is : (g : Over) (c : After-read_body-found g) → c.rank_of-rank.result ≡ at.rank_at c.singletons.invariant
-rank_is g c = c.rank_of-rank.ensures ∙ ap rank c.singleton-byte.ensures
+rank_is g c = grind arith
 
 -- the singleton is passed
 passed : (g : Over) (c : After-read_body-found g)
@@ -135,13 +136,11 @@ put : (g : Over) (c : Joined-rank-last-2 g) →
     → IsPut g c rest c.if-rank-last-2.last c.if-rank-last-2.spans
 put g c x e rest r = elim c.if-rank-last-2.branch [
   | then-rank-last-2 w ↦
-      subst (λ top. IsPut g c rest top c.if-rank-last-2.spans) (sym w.last-is)
-      (subst (IsPut g c rest c.singletons.last) (sym w.spans-is)
+      rw w.last-is (subst (IsPut g c rest c.singletons.last) (sym w.spans-is)
       (at.comes_before c.singletons.invariant x rest r c.rank_of-rank.result e w.if-rank-last-2.true
       w.place_block.new.spans w.place_block.ensures.same w.place_block.ensures.placed))
   | else-rank-last-2 w ↦
-      subst (λ top. IsPut g c rest top c.if-rank-last-2.spans) (sym w.last-is)
-      (subst (IsPut g c rest c.rank_of-rank.result) (sym w.spans-is)
+      rw w.last-is (subst (IsPut g c rest c.rank_of-rank.result) (sym w.spans-is)
       (at.stays_last c.singletons.invariant x rest r c.rank_of-rank.result e w.if-rank-last-2.false))
 ]
 
