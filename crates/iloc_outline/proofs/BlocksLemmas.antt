@@ -120,7 +120,8 @@ IsBadBlock c repeated body = (is_block languages (c, body) ≡ false)
 -- the block whose variant is repeated is bad
 repeated_bad : (c : ℕ) (ps : List Text) → to_ascii_lowercase c ≡ code_t → repeats_variant languages ps ≡ true
     → is_block languages (c, ps) ≡ false
-repeated_bad c ps e r = grind (arith, tests_fails, tests_block, block_no_repeat, tests_repeats)
+repeated_bad c ps e r = tests_fails (tests_block languages (c, ps))
+    (λ g. block_no_repeat languages (c, ps) e g ((tests_repeats languages ps).holds r))
 
 -- ---- what was read behind a singleton
 
