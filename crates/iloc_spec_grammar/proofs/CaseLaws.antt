@@ -1,46 +1,123 @@
 -- Reading doesn't see the case of letters.
-use Rattle.iloc_spec_grammar.specs.Syntax.{AllDifferent}
-use Rattle.iloc_spec_grammar.specs.Syntax.{IsIdentifier}
-use Rattle.iloc_spec_grammar.specs.Syntax.{IsPrivate}
-use Rattle.iloc_spec_grammar.specs.Tree.{IsExtension}
-use Rattle.std.proofs.Common.{IfSome}
-use Rattle.std.specs.List.{AllByRecursion}
-use Rattle.std.proofs.Common.{◌≡◌, ℕ, ◌&&◌, is_some, ◌≤◌, Bool, ◌==◌}
-use Rattle.std.proofs.Common.{List, [], ◌∷◌, length, map, filter_map, refl, sym, ap, ap₂, ◌∙◌, subst}
-use Rattle.std.proofs.Common.{arith, Option, Some, None, option_map}
-use Rattle.std.specs.List.{slice_split, onto_first, list_all}
+use Rattle.iloc_spec_grammar.specs.Syntax.{
+  AllDifferent,
+  IsIdentifier,
+  IsPrivate,
+  LanguageLengths,
+  Field,
+  Block,
+  code_x,
+  Text,
+  pieces,
+  join,
+  Kind,
+  is_word,
+  AreLengths,
+  lower,
+  word_cmp,
+  SpelledIdentifier,
+  Fields,
+  kept,
+  lower_singleton,
+  front,
+  blocks,
+  head,
+  tail_blocks,
+  first_piece,
+}
+use Rattle.iloc_spec_grammar.specs.Tree.{
+  IsExtension,
+  Extension,
+  unicode,
+  transform,
+  other,
+  Written,
+  spelling,
+  IsWritten,
+  unicode_part,
+  transform_part,
+  private_part,
+  other_part,
+  by_singleton,
+  meaning,
+  TreeMeans,
+}
+use Rattle.std.proofs.Common.{
+  IfSome,
+  ◌≡◌,
+  ℕ,
+  ◌&&◌,
+  is_some,
+  ◌≤◌,
+  Bool,
+  ◌==◌,
+  List,
+  [],
+  ◌∷◌,
+  length,
+  map,
+  filter_map,
+  refl,
+  sym,
+  ap,
+  ap₂,
+  ◌∙◌,
+  subst,
+  arith,
+  Option,
+  Some,
+  None,
+  option_map,
+}
+use Rattle.std.specs.List.{AllByRecursion, slice_split, onto_first, list_all}
 use Rattle.std.specs.Char.{to_ascii_lowercase}
 use Rattle.std.specs.Ordering.{nat_cmp}
 use Rattle.std.specs.FinMap.{find}
 use Rattle.std.proofs.lemmas.Bool.Decides.{nat_tests}
 use Rattle.std.proofs.lemmas.Str.Ascii.{lowercase-lowercase}
-use Rattle.iloc_spec_grammar.specs.Syntax.{LanguageLengths, Field, Block, code_x, Text}
-use Rattle.iloc_spec_grammar.specs.Syntax.{pieces, join, Kind}
-use Rattle.iloc_spec_grammar.specs.Syntax.{is_word}
-use Rattle.iloc_spec_grammar.specs.Syntax.{AreLengths, lower, word_cmp, SpelledIdentifier, Fields}
-use Rattle.iloc_spec_grammar.specs.Syntax.{kept, lower_singleton}
-use Rattle.iloc_spec_grammar.specs.Syntax.{front, blocks, head, tail_blocks}
-use Rattle.iloc_spec_grammar.specs.Syntax.{first_piece}
-use Rattle.iloc_spec_grammar.specs.Tree.{Extension, unicode, transform, other, Written, spelling}
-use Rattle.iloc_spec_grammar.specs.Tree.{IsWritten, unicode_part, transform_part, private_part, other_part}
-use Rattle.iloc_spec_grammar.specs.Tree.{by_singleton, meaning, TreeMeans}
 use Rattle.iloc_spec_grammar.specs.Meaning.{map_of, normal_identifier, normal_values, Locale}
 use Rattle.iloc_spec_grammar.specs.Values.{lower_identifier}
 use Rattle.iloc_spec_grammar.specs.TreeSteps.{TreeTextStep}
 use Rattle.std.proofs.lemmas.List.{length-map}
-use Rattle.iloc_spec_grammar.specs.Computing.{holds_if_some, all_different, is_identifier, is_keyword}
-use Rattle.iloc_spec_grammar.specs.Computing.{is_private, is_extension}
-use Rattle.iloc_spec_grammar.proofs.RuleTests.{Tests, tests_and, tests_like, tests_all, tests_if_some}
-use Rattle.iloc_spec_grammar.proofs.RuleTests.{tests_different, tests_nat, tests_identifier, tests_private}
-use Rattle.iloc_spec_grammar.proofs.RuleTests.{tests_extension}
+use Rattle.iloc_spec_grammar.specs.Computing.{
+  holds_if_some,
+  all_different,
+  is_identifier,
+  is_keyword,
+  is_private,
+  is_extension,
+}
+use Rattle.iloc_spec_grammar.proofs.RuleTests.{
+  Tests,
+  tests_and,
+  tests_like,
+  tests_all,
+  tests_if_some,
+  tests_different,
+  tests_nat,
+  tests_identifier,
+  tests_private,
+  tests_extension,
+}
 use Rattle.iloc_spec_grammar.proofs.General.{cond-map, map-then, option_map-then, list_all-mapped}
 use Rattle.iloc_spec_grammar.proofs.WordsLaws.{lower-lower, length-lower, is_word-lower}
 use Rattle.iloc_spec_grammar.proofs.ValuesLaws.{lower_twice, normal-lower_identifier}
-use Rattle.iloc_spec_grammar.specs.Reading.{take_first, skip_first, rest_of, identifier_of, before_key}
-use Rattle.iloc_spec_grammar.specs.Reading.{fields_from, unicode_of, transform_of, optional_of}
-use Rattle.iloc_spec_grammar.specs.Reading.{extension_of, extensions_in, private_in, written_of}
-use Rattle.iloc_spec_grammar.proofs.Readings.{written_of-spelling}
-use Rattle.iloc_spec_grammar.proofs.Readings.{one_meaning}
+use Rattle.iloc_spec_grammar.specs.Reading.{
+  take_first,
+  skip_first,
+  rest_of,
+  identifier_of,
+  before_key,
+  fields_from,
+  unicode_of,
+  transform_of,
+  optional_of,
+  extension_of,
+  extensions_in,
+  private_in,
+  written_of,
+}
+use Rattle.iloc_spec_grammar.proofs.Readings.{written_of-spelling, one_meaning}
 use Rattle.iloc_spec_grammar.proofs.StepSizes.{step_means, step_length}
 pub use Rattle.iloc_spec_grammar.proofs.FaultLaws.{spelling-written_of}
 use Rattle.iloc_spec_grammar.proofs.FaultLaws.{pieces-written_of}

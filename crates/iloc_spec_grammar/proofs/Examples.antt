@@ -1,23 +1,47 @@
 -- Worked examples, computed by the plain program.
 use Rattle.std.proofs.lemmas.Bool.{both_ways}
 use Rattle.std.proofs.Common.{◌≡◌, [], ◌∷◌, refl, codes, Result, Ok, Err, arith, None}
-use Rattle.iloc_spec_grammar.specs.Syntax.{code_t, Text, pieces, join, is_word, lower, upper, title, is_true}
-use Rattle.iloc_spec_grammar.specs.Syntax.{languages}
-use Rattle.iloc_spec_grammar.specs.Syntax.{SpelledIdentifier, Identifier}
+use Rattle.iloc_spec_grammar.specs.Syntax.{
+  code_t,
+  Text,
+  pieces,
+  join,
+  is_word,
+  lower,
+  upper,
+  title,
+  is_true,
+  languages,
+  SpelledIdentifier,
+  Identifier,
+}
 use Rattle.iloc_spec_grammar.specs.Tree.{transform}
 use Rattle.iloc_spec_grammar.specs.Meaning.{Locale, Fault}
-use Rattle.iloc_spec_grammar.specs.Values.{TextStep, extensions_spelling, identifier_text}
-use Rattle.iloc_spec_grammar.specs.Values.{Without}
-use Rattle.iloc_spec_grammar.specs.TreeSteps.{keys_differ, Trues, TreeIdentifierStep}
-use Rattle.iloc_spec_grammar.specs.TreeSteps.{ExtensionStep, Step, TreeTextStep}
+use Rattle.iloc_spec_grammar.specs.Values.{TextStep, extensions_spelling, identifier_text, Without}
+use Rattle.iloc_spec_grammar.specs.TreeSteps.{
+  keys_differ,
+  Trues,
+  TreeIdentifierStep,
+  ExtensionStep,
+  Step,
+  TreeTextStep,
+}
 use Rattle.iloc_spec_grammar.specs.Reading.{identifier_of, front_of, unicode_of, transform_of, written_of}
-use Rattle.iloc_spec_grammar.specs.Computing.{locale_result, computed_text, identifier_result}
-use Rattle.iloc_spec_grammar.specs.Computing.{identifier_text_of}
+use Rattle.iloc_spec_grammar.specs.Computing.{
+  locale_result,
+  computed_text,
+  identifier_result,
+  identifier_text_of,
+}
 use Rattle.iloc_spec_grammar.specs.Examples.{Normalises, IsRefused, NormalisesIdentifier, IsRefusedIdentifier}
 use Rattle.iloc_spec_grammar.proofs.RawLaws.{languages_table}
 use Rattle.iloc_spec_grammar.proofs.SameSteps.{step_by_tree}
-use Rattle.iloc_spec_grammar.proofs.ComputingLaws.{computed_means, computed_fault, computed_identifier}
-use Rattle.iloc_spec_grammar.proofs.ComputingLaws.{computed_identifier_fault}
+use Rattle.iloc_spec_grammar.proofs.ComputingLaws.{
+  computed_means,
+  computed_fault,
+  computed_identifier,
+  computed_identifier_fault,
+}
 
 -- what the program answers, as a text
 unfoldable pub answer : Text → Result Text Fault

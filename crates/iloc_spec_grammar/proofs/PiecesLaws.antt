@@ -1,6 +1,5 @@
 -- A text has exactly one list of pieces.
-use Rattle.std.proofs.Common.{All, arith, ◌≡◌, ◌≢◌, ℕ, Bool, false, ◌==◌, List, [], ◌∷◌, ◌++◌}
-use Rattle.std.proofs.Common.{refl}
+use Rattle.std.proofs.Common.{All, arith, ◌≡◌, ◌≢◌, ℕ, Bool, false, ◌==◌, List, [], ◌∷◌, ◌++◌, refl}
 use Rattle.std.specs.List.{slice_split, onto_first, list_any, AllByRecursion}
 use Rattle.std.proofs.lemmas.List.Splits.{join_with_byte-slice_split}
 use Rattle.std.proofs.lemmas.Bool.{or_parts, or_from, false_from_ne_true, cond_both}

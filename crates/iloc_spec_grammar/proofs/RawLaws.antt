@@ -6,9 +6,23 @@ use Rattle.std.specs.Char.{is_ascii_alphanumeric}
 use Rattle.std.proofs.lemmas.Bool.{and_parts, or_parts}
 use Rattle.std.proofs.lemmas.Bool.Decides.{nat_tests}
 use Rattle.std.proofs.lemmas.List.{length-replicate, replicate-append-replicate}
-use Rattle.iloc_spec_grammar.specs.Syntax.{Text, Kind, Language, AreLengths, two_or_three, languages, is_word}
-use Rattle.iloc_spec_grammar.specs.Syntax.{IsWord, EndsAt, greatest, Bounds, raw, wide_raw, narrow_raw}
-use Rattle.iloc_spec_grammar.specs.Syntax.{before_zero}
+use Rattle.iloc_spec_grammar.specs.Syntax.{
+  Text,
+  Kind,
+  Language,
+  AreLengths,
+  two_or_three,
+  languages,
+  is_word,
+  IsWord,
+  EndsAt,
+  greatest,
+  Bounds,
+  raw,
+  wide_raw,
+  narrow_raw,
+  before_zero,
+}
 use Rattle.iloc_spec_grammar.proofs.WordsLaws.{word_letters_or_digits}
 use Rattle.iloc_spec_grammar.proofs.General.{none_passes}
 

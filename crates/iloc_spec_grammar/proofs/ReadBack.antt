@@ -1,42 +1,150 @@
 -- The printed text of a well-formed value means the value.
 use Rattle.std.proofs.lemmas.Grind.{common_steps}
-use Rattle.std.proofs.Common.{◌≡◌, ◌≢◌, ℕ, ◌+◌, ◌<◌, ◌≤◌, Bool, true, false, cond, ◌||◌, List, [], ◌∷◌}
-use Rattle.std.proofs.Common.{◌++◌, length, map, filter_map, flat_map, refl, sym, ap, ap₂, ◌∙◌, subst, arith}
-use Rattle.std.proofs.Common.{Option, Some, None, IfSome, option_map, option_to_list, true≢false, is_some}
-use Rattle.std.proofs.Common.{nat_le, nat_lt, append-nil}
+use Rattle.std.proofs.Common.{
+  ◌≡◌,
+  ◌≢◌,
+  ℕ,
+  ◌+◌,
+  ◌<◌,
+  ◌≤◌,
+  Bool,
+  true,
+  false,
+  cond,
+  ◌||◌,
+  List,
+  [],
+  ◌∷◌,
+  ◌++◌,
+  length,
+  map,
+  filter_map,
+  flat_map,
+  refl,
+  sym,
+  ap,
+  ap₂,
+  ◌∙◌,
+  subst,
+  arith,
+  Option,
+  Some,
+  None,
+  IfSome,
+  option_map,
+  option_to_list,
+  true≢false,
+  is_some,
+  nat_le,
+  nat_lt,
+  append-nil,
+}
 use Rattle.std.specs.List.{AllByRecursion}
 use Rattle.std.specs.Char.{is_ascii_alphanumeric, to_ascii_lowercase}
 use Rattle.std.specs.Ordering.{nat_cmp, eq_by_cmp, is_lt}
 use Rattle.std.specs.FinMap.{is_sorted, find}
 use Rattle.std.specs.FinMap.Entries.{below_all}
-use Rattle.std.proofs.lemmas.Bool.{and_parts, and_from, or_from, leb-true, leb-false, lt-ltb, ltb-true}
-use Rattle.std.proofs.lemmas.Bool.{cond_both}
+use Rattle.std.proofs.lemmas.Bool.{
+  and_parts,
+  and_from,
+  or_from,
+  leb-true,
+  leb-false,
+  lt-ltb,
+  ltb-true,
+  cond_both,
+}
 use Rattle.std.proofs.lemmas.Bool.Decides.{nat_tests}
 use Rattle.std.proofs.lemmas.List.Elements.{filter_map-append}
 use Rattle.std.proofs.lemmas.List.Concat.{flat_map-append}
 use Rattle.std.proofs.lemmas.List.{map-append}
-use Rattle.iloc_spec_grammar.specs.Syntax.{LanguageLengths, Block, code_x, code_u, code_t, Text, pieces, join}
-use Rattle.iloc_spec_grammar.specs.Syntax.{IsHyphenFree, Kind, Language, Script, Region}
-use Rattle.iloc_spec_grammar.specs.Syntax.{Variant, Subtag, UnicodeKey, TransformKey, Attribute}
-use Rattle.iloc_spec_grammar.specs.Syntax.{PrivateSubtag, is_word, IsWord, SpelledIdentifier}
-use Rattle.iloc_spec_grammar.specs.Syntax.{Unicode, Transform, Fields, identifier_pieces}
-use Rattle.iloc_spec_grammar.specs.Syntax.{optional_pieces, fields_pieces, HasWords, IsIdentifier, IsField}
-use Rattle.iloc_spec_grammar.specs.Syntax.{kept, is_other_singleton, lower_singleton, AllDifferent, IsPrivate}
-use Rattle.iloc_spec_grammar.specs.Tree.{Extension, unicode, transform, other, Written, extension_pieces}
-use Rattle.iloc_spec_grammar.specs.Tree.{block_pieces, extension_block, spelling, IsExtension, IsWritten}
-use Rattle.iloc_spec_grammar.specs.Tree.{unicode_part, transform_part, private_part, other_part, by_singleton}
-use Rattle.iloc_spec_grammar.specs.Tree.{meaning, TreeMeans, IsTreeWellFormed, transform_form, unicode_form}
-use Rattle.iloc_spec_grammar.specs.Tree.{others_form, private_form, before_t, after_t, printed, tree_text}
-use Rattle.iloc_spec_grammar.specs.Tree.{spelled_transform, spelled_unicode}
+use Rattle.iloc_spec_grammar.specs.Syntax.{
+  LanguageLengths,
+  Block,
+  code_x,
+  code_u,
+  code_t,
+  Text,
+  pieces,
+  join,
+  IsHyphenFree,
+  Kind,
+  Language,
+  Script,
+  Region,
+  Variant,
+  Subtag,
+  UnicodeKey,
+  TransformKey,
+  Attribute,
+  PrivateSubtag,
+  is_word,
+  IsWord,
+  SpelledIdentifier,
+  Unicode,
+  Transform,
+  Fields,
+  identifier_pieces,
+  optional_pieces,
+  fields_pieces,
+  HasWords,
+  IsIdentifier,
+  IsField,
+  kept,
+  is_other_singleton,
+  lower_singleton,
+  AllDifferent,
+  IsPrivate,
+}
+use Rattle.iloc_spec_grammar.specs.Tree.{
+  Extension,
+  unicode,
+  transform,
+  other,
+  Written,
+  extension_pieces,
+  block_pieces,
+  extension_block,
+  spelling,
+  IsExtension,
+  IsWritten,
+  unicode_part,
+  transform_part,
+  private_part,
+  other_part,
+  by_singleton,
+  meaning,
+  TreeMeans,
+  IsTreeWellFormed,
+  transform_form,
+  unicode_form,
+  others_form,
+  private_form,
+  before_t,
+  after_t,
+  printed,
+  tree_text,
+  spelled_transform,
+  spelled_unicode,
+}
 use Rattle.iloc_spec_grammar.specs.Meaning.{map_of, Locale, normal_unicode, normal_transform}
 use Rattle.iloc_spec_grammar.specs.Values.{IsNormal, IsValue, lower_identifier, spelled_fields}
 use Rattle.iloc_spec_grammar.proofs.WordsLaws.{word_letters_or_digits}
 use Rattle.iloc_spec_grammar.proofs.PiecesLaws.{pieces-join}
 use Rattle.iloc_spec_grammar.proofs.MapLaws.{map_of_sorted, sorted_different}
-use Rattle.iloc_spec_grammar.proofs.ValuesLaws.{all_weaker, all_both, map_fixed, filter_all, value_identifier}
-use Rattle.iloc_spec_grammar.proofs.ValuesLaws.{normal_value, value_unicode, normal_value_unicode}
-use Rattle.iloc_spec_grammar.proofs.ValuesLaws.{value_transform, normal_value_transform}
-use Rattle.iloc_spec_grammar.proofs.ValuesLaws.{length-spelled_fields}
+use Rattle.iloc_spec_grammar.proofs.ValuesLaws.{
+  all_weaker,
+  all_both,
+  map_fixed,
+  filter_all,
+  value_identifier,
+  normal_value,
+  value_unicode,
+  normal_value_unicode,
+  value_transform,
+  normal_value_transform,
+  length-spelled_fields,
+}
 use Rattle.iloc_spec_grammar.proofs.Singletons.{untied, no_t, no_u}
 use Rattle.iloc_spec_grammar.proofs.General.{cond-map, none_passes}
 

@@ -13,8 +13,14 @@ use Rattle.std.proofs.lemmas.List.{length-map}
 use Rattle.std.proofs.lemmas.List.Folds.{list_any-append}
 use Rattle.iloc_spec_grammar.specs.Syntax.{Text, word_cmp, is_same, AllDifferent}
 use Rattle.iloc_spec_grammar.specs.Meaning.{map_of, set_of}
-use Rattle.iloc_spec_grammar.proofs.MapLaws.{word_cmp_total, same_words, find-map_of, sorted-map_of}
-use Rattle.iloc_spec_grammar.proofs.MapLaws.{map_of_same, same_is}
+use Rattle.iloc_spec_grammar.proofs.MapLaws.{
+  word_cmp_total,
+  same_words,
+  find-map_of,
+  sorted-map_of,
+  map_of_same,
+  same_is,
+}
 use Rattle.iloc_spec_grammar.proofs.ValuesLaws.{unmarked}
 use Rattle.std.proofs.lemmas.Bool.{cond_both, false_from_ne_true}
 

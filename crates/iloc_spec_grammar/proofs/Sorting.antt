@@ -8,11 +8,20 @@ use Rattle.std.specs.declared.cmp.Ordering.{Ordering}
 use Rattle.std.specs.declared.cmp.Ordering.TheVariants.{Less, Equal, Greater}
 use Rattle.std.specs.FinMap.{is_sorted}
 use Rattle.std.specs.FinMap.Entries.{below_all}
-use Rattle.std.proofs.lemmas.Bool.{and_parts, and_from, or_parts, or_from, or_left, or_right}
-use Rattle.std.proofs.lemmas.Bool.{false_from_ne_true, both_ways, cond_both, not-false}
+use Rattle.std.proofs.lemmas.Bool.{
+  and_parts,
+  and_from,
+  or_parts,
+  or_from,
+  or_left,
+  or_right,
+  false_from_ne_true,
+  both_ways,
+  cond_both,
+  not-false,
+}
 use Rattle.iloc_spec_grammar.specs.Syntax.{Text, lower, word_cmp, is_same, AllDifferent}
-use Rattle.iloc_spec_grammar.specs.Values.{Reordered}
-use Rattle.iloc_spec_grammar.specs.Values.{Without, WithoutRepeats}
+use Rattle.iloc_spec_grammar.specs.Values.{Reordered, Without, WithoutRepeats}
 use Rattle.iloc_spec_grammar.proofs.MapLaws.{word_cmp_total, less}
 pub use Rattle.iloc_spec_grammar.proofs.Orders.{itself}
 use Rattle.iloc_spec_grammar.proofs.Orders.{or_swap}

@@ -1,7 +1,28 @@
 -- What a text means is a well-formed value.
-use Rattle.std.proofs.Common.{◌≡◌, ◌≢◌, ℕ, ◌<◌, Bool, true, false, not, List, [], ◌∷◌, length, map}
-use Rattle.std.proofs.Common.{filter_map, refl, subst, arith, Option, Some, None, IfSome}
-use Rattle.std.proofs.Common.{option_map}
+use Rattle.std.proofs.Common.{
+  ◌≡◌,
+  ◌≢◌,
+  ℕ,
+  ◌<◌,
+  Bool,
+  true,
+  false,
+  not,
+  List,
+  [],
+  ◌∷◌,
+  length,
+  map,
+  filter_map,
+  refl,
+  subst,
+  arith,
+  Option,
+  Some,
+  None,
+  IfSome,
+  option_map,
+}
 use Rattle.std.specs.List.{AllByRecursion}
 use Rattle.std.specs.Char.{to_ascii_lowercase}
 use Rattle.std.specs.Ordering.{nat_cmp}
@@ -9,20 +30,77 @@ use Rattle.std.specs.Cmp.{nat_cmp_total}
 use Rattle.std.specs.FinMap.{find, nat_cmp-IsAntisymmetric}
 use Rattle.std.proofs.lemmas.Bool.Decides.{nat_tests}
 use Rattle.std.proofs.lemmas.Str.Ascii.{lowercase-lowercase}
-use Rattle.iloc_spec_grammar.specs.Syntax.{LanguageLengths, Field, Block, code_x, code_u, code_t, Text, Kind}
-use Rattle.iloc_spec_grammar.specs.Syntax.{Language, Script, Region, Subtag, UnicodeKey}
-use Rattle.iloc_spec_grammar.specs.Syntax.{Attribute, PrivateSubtag, is_word, IsWord, normal}
-use Rattle.iloc_spec_grammar.specs.Syntax.{lower, word_cmp, is_true, SpelledIdentifier, SpelledUnicode}
-use Rattle.iloc_spec_grammar.specs.Syntax.{SpelledTransform, Fields, HasWords, IsKeyword}
-use Rattle.iloc_spec_grammar.specs.Syntax.{IsOther, kept, is_other_singleton, lower_singleton, IsPrivate}
-use Rattle.iloc_spec_grammar.specs.Tree.{Extension, unicode, transform, other, Written, IsUnicodeBlock}
-use Rattle.iloc_spec_grammar.specs.Tree.{IsTransformBlock, IsExtension, IsWritten, unicode_part}
-use Rattle.iloc_spec_grammar.specs.Tree.{transform_part, private_part, other_part, by_singleton}
-use Rattle.iloc_spec_grammar.specs.Tree.{extensions_meaning, meaning, TreeMeans, IsTreeWellFormed}
-use Rattle.iloc_spec_grammar.specs.Meaning.{set_of, normal_identifier, normal_values, normal_fields}
-use Rattle.iloc_spec_grammar.specs.Meaning.{normal_unicode, normal_transform, Locale}
-use Rattle.iloc_spec_grammar.specs.Values.{IsNormal, StrictlyAscends, IsIdentifierValue, IsUnicodeValue}
-use Rattle.iloc_spec_grammar.specs.Values.{IsTransformValue, IsValue}
+use Rattle.iloc_spec_grammar.specs.Syntax.{
+  LanguageLengths,
+  Field,
+  Block,
+  code_x,
+  code_u,
+  code_t,
+  Text,
+  Kind,
+  Language,
+  Script,
+  Region,
+  Subtag,
+  UnicodeKey,
+  Attribute,
+  PrivateSubtag,
+  is_word,
+  IsWord,
+  normal,
+  lower,
+  word_cmp,
+  is_true,
+  SpelledIdentifier,
+  SpelledUnicode,
+  SpelledTransform,
+  Fields,
+  HasWords,
+  IsKeyword,
+  IsOther,
+  kept,
+  is_other_singleton,
+  lower_singleton,
+  IsPrivate,
+}
+use Rattle.iloc_spec_grammar.specs.Tree.{
+  Extension,
+  unicode,
+  transform,
+  other,
+  Written,
+  IsUnicodeBlock,
+  IsTransformBlock,
+  IsExtension,
+  IsWritten,
+  unicode_part,
+  transform_part,
+  private_part,
+  other_part,
+  by_singleton,
+  extensions_meaning,
+  meaning,
+  TreeMeans,
+  IsTreeWellFormed,
+}
+use Rattle.iloc_spec_grammar.specs.Meaning.{
+  set_of,
+  normal_identifier,
+  normal_values,
+  normal_fields,
+  normal_unicode,
+  normal_transform,
+  Locale,
+}
+use Rattle.iloc_spec_grammar.specs.Values.{
+  IsNormal,
+  StrictlyAscends,
+  IsIdentifierValue,
+  IsUnicodeValue,
+  IsTransformValue,
+  IsValue,
+}
 use Rattle.iloc_spec_grammar.proofs.WordsLaws.{length-attribute}
 use Rattle.iloc_spec_grammar.proofs.MapLaws.{is_sorted-map_of, all-map_of, word_cmp_total, same_words}
 use Rattle.iloc_spec_grammar.proofs.ValuesLaws.{all_weaker, ascend_as_keys}
